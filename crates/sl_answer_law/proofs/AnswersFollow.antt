@@ -82,7 +82,7 @@ module _ (number : ℕ) (c : OpenCall) (a : Answer) (h : HostState) (x : Step) (
   pub call : IsCallOf (Told number a) (heard_answer number a h) (with_input (Told number a) x) place.0 (member_hearing h c a m) theirs.0 c
   call = record { at = record { stands = stands; there = place.1 }; inside = theirs.1; kept = theirs.2 }
 
-  idle : is_delta_purpose c.purpose ≡ true → (member_hearing h c a m).known.busy ≡ false
+  pub idle : is_delta_purpose c.purpose ≡ true → (member_hearing h c a m).known.busy ≡ false
   idle delta = ap (λ n. still_busy n h m) numbered ∙ answers_set_free.idle number c a h x k m to delta
 
   pub idle_job : (j : ℕ) → is_kept_of j c ≡ true → running_in (heard_answer number a h) j ≡ true → is_idle_job (heard_answer number a h) j ≡ true

@@ -4,4 +4,8 @@ pub mod LeasesAreCarried
 pub mod AnswersSetFree
 pub mod AnswersFollow
 pub mod RequestsFollow
+pub mod JoinDecisions
+pub mod JoiningsFollow
+pub mod LeaseAnswersFollow
 pub mod GrantsAreTaken
+pub mod SurveysFollow

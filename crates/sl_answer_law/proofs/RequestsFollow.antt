@@ -114,12 +114,12 @@ module _ (number : ℕ) (c : OpenCall) (a : Answer) (h : HostState) (x : Step) (
   after = stands number c a h x k m to not_refused
 
   -- Where this is what is done of the purpose, that is what follows.
-  follows : (p : Purpose) → c.purpose ≡ p → (new : HostState) → Stands (Told number a) new (after_answer_of m.who (theirs number c a h x k m to not_refused).0 p a (with_input (Told number a) x)) → Follows number a h x new
+  pub follows : (p : Purpose) → c.purpose ≡ p → (new : HostState) → Stands (Told number a) new (after_answer_of m.who (theirs number c a h x k m to not_refused).0 p a (with_input (Told number a) x)) → Follows number a h x new
   follows p is new done =
       subst (λ (y : Step). Stands (Told number a) new y)
       (sym ((theirs number c a h x k m to not_refused).3 ∙ ap (λ (q : Purpose). after_answer_of m.who (theirs number c a h x k m to not_refused).0 q a (with_input (Told number a) x)) is)) done
 
-  may : (j : ℕ) (r : Reply) → is_before_input r ≡ false → running_in (heard_answer number a h) j ≡ true → MayReply (Told number a) (heard_answer number a h) (with_input (Told number a) x) j r
+  pub may : (j : ℕ) (r : Reply) → is_before_input r ≡ false → running_in (heard_answer number a h) j ≡ true → MayReply (Told number a) (heard_answer number a h) (with_input (Told number a) x) j r
   may j r late goes = record { runs = goes; heed = inl late; line = tt }
 
   said : (j : ℕ) (r : Reply) → is_before_input r ≡ false → running_in (heard_answer number a h) j ≡ true → Stands (Told number a) (with_reply j r (heard_answer number a h)) (add_reply j r (with_input (Told number a) x))

@@ -3,9 +3,12 @@
 ghost use Rattle.sl_answer_law.specs.Answering.{AnswersFollow, AnswersSetFree};
 ghost use Rattle.sl_answer_law.specs.Carrying.{DecisionsAreCarried};
 ghost use Rattle.sl_answer_law.specs.Grants.{GrantsAreTaken};
+ghost use Rattle.sl_answer_law.specs.Joinings.{JoiningsFollow};
+ghost use Rattle.sl_answer_law.specs.LeaseAnswers.{LeaseAnswersFollow};
 ghost use Rattle.sl_answer_law.specs.Leasing.{LeasesAreCarried};
 ghost use Rattle.sl_answer_law.specs.Refusing.{RefusalsFollow};
 ghost use Rattle.sl_answer_law.specs.Requests.{RequestsFollow};
+ghost use Rattle.sl_answer_law.specs.Surveys.{SurveysFollow};
 
 /// A refused joining goes with its connection, and an overdue job is refused.
 pub fn refusals_follow()
@@ -37,7 +40,22 @@ pub fn requests_follow()
     ensures { RequestsFollow }
 {}
 
+/// The whole of an answer to a joining's call is followed.
+pub fn joinings_follow()
+    ensures { JoiningsFollow }
+{}
+
+/// The whole of an answer to a lease's call is followed.
+pub fn lease_answers_follow()
+    ensures { LeaseAnswersFollow }
+{}
+
 /// Lines that give or take a holding at once are taken.
 pub fn grants_are_taken()
     ensures { GrantsAreTaken }
+{}
+
+/// The whole of an answer to a read of all ids is followed.
+pub fn surveys_follow()
+    ensures { SurveysFollow }
 {}
