@@ -9,3 +9,4 @@ pub mod JoiningsFollow
 pub mod LeaseAnswersFollow
 pub mod GrantsAreTaken
 pub mod SurveysFollow
+pub mod WakingsFollow

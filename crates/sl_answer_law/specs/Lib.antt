@@ -7,3 +7,4 @@ pub mod Joinings
 pub mod LeaseAnswers
 pub mod Grants
 pub mod Surveys
+pub mod Wakings

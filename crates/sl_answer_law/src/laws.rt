@@ -9,6 +9,7 @@ ghost use Rattle.sl_answer_law.specs.Leasing.{LeasesAreCarried};
 ghost use Rattle.sl_answer_law.specs.Refusing.{RefusalsFollow};
 ghost use Rattle.sl_answer_law.specs.Requests.{RequestsFollow};
 ghost use Rattle.sl_answer_law.specs.Surveys.{SurveysFollow};
+ghost use Rattle.sl_answer_law.specs.Wakings.{WakingsFollow};
 
 /// A refused joining goes with its connection, and an overdue job is refused.
 pub fn refusals_follow()
@@ -58,4 +59,9 @@ pub fn grants_are_taken()
 /// The whole of an answer to a read of all ids is followed.
 pub fn surveys_follow()
     ensures { SurveysFollow }
+{}
+
+/// What a wake makes due by time is followed.
+pub fn wakings_follow()
+    ensures { WakingsFollow }
 {}
