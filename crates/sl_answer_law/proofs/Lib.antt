@@ -12,3 +12,4 @@ pub mod SurveysFollow
 pub mod LeasesSetFree
 pub mod PhaseTwoFollows
 pub mod LeasesGoOn
+pub mod WakingsFollow

@@ -10,3 +10,4 @@ pub mod Surveys
 pub mod LeasesSetFree
 pub mod PhaseTwo
 pub mod LeasesGoOn
+pub mod Wakings

@@ -12,6 +12,7 @@ ghost use Rattle.sl_answer_law.specs.PhaseTwo.{PhaseTwoFollows};
 ghost use Rattle.sl_answer_law.specs.Refusing.{RefusalsFollow};
 ghost use Rattle.sl_answer_law.specs.Requests.{RequestsFollow};
 ghost use Rattle.sl_answer_law.specs.Surveys.{SurveysFollow};
+ghost use Rattle.sl_answer_law.specs.Wakings.{WakingsFollow};
 
 /// A refused joining goes with its connection, and an overdue job is refused.
 pub fn refusals_follow()
@@ -76,4 +77,9 @@ pub fn phase_two_follows()
 /// The whole of an answer to a lease's call, by what is kept.
 pub fn leases_go_on()
     ensures { LeasesGoOn }
+{}
+
+/// What a wake makes due by time is followed.
+pub fn wakings_follow()
+    ensures { WakingsFollow }
 {}

@@ -6,3 +6,6 @@ pub mod EndsAreTaken
 pub mod RecoveriesAreTaken
 pub mod GoneDoNothing
 pub mod LinesAreTaken
+pub mod SpawnsAreTaken
+pub mod ExpectedIsOpen
+pub mod RoomsAreFree

@@ -5,3 +5,6 @@ pub mod Wakes
 pub mod Ends
 pub mod Recoveries
 pub mod Lines
+pub mod Spawns
+pub mod Expected
+pub mod Rooms

@@ -2,10 +2,13 @@
 
 ghost use Rattle.sl_part_law.specs.Ends.{EndsAreTaken};
 ghost use Rattle.sl_part_law.specs.Exits.{ExitsAreTaken};
+ghost use Rattle.sl_part_law.specs.Expected.{ExpectedIsOpen};
 ghost use Rattle.sl_part_law.specs.Lines.{LinesAreTaken};
 ghost use Rattle.sl_part_law.specs.Recoveries.{GoneDoNothing, RecoveriesAreTaken};
 ghost use Rattle.sl_part_law.specs.Refusals.{RefusalsAreTaken};
+ghost use Rattle.sl_part_law.specs.Rooms.{RoomsAreFree};
 ghost use Rattle.sl_part_law.specs.Signals.{SignalsAreTaken};
+ghost use Rattle.sl_part_law.specs.Spawns.{SpawnsAreTaken};
 ghost use Rattle.sl_part_law.specs.Wakes.{MembersWake};
 
 /// A process is told to stop, or sent a signal, and so is each holder of a member.
@@ -46,4 +49,19 @@ pub fn gone_do_nothing()
 /// A command line is taken as a whole.
 pub fn lines_are_taken()
     ensures { LinesAreTaken }
+{}
+
+/// The answer of a child's start is taken as a whole.
+pub fn spawns_are_taken()
+    ensures { SpawnsAreTaken }
+{}
+
+/// An answer that may come is one of an open call.
+pub fn expected_is_open()
+    ensures { ExpectedIsOpen }
+{}
+
+/// A host stands whatever its rooms are.
+pub fn rooms_are_free()
+    ensures { RoomsAreFree }
 {}
