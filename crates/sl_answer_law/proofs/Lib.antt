@@ -13,3 +13,4 @@ pub mod LeasesSetFree
 pub mod PhaseTwoFollows
 pub mod LeasesGoOn
 pub mod WakingsFollow
+pub mod SettlingsMay

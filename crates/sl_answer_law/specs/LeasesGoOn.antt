@@ -9,26 +9,34 @@ use Rattle.sl_due.specs.Steps.{Step, with_input}
 use Rattle.sl_host_state.specs.Hears.{heard_answer, member_hearing}
 use Rattle.sl_host_state.specs.Kept.{HostState, MemberState}
 use Rattle.sl_host_state.specs.declared.kept.OpenCall.{OpenCall}
-use Rattle.sl_leases.specs.LeaseWork.{lease_next}
+use Rattle.sl_leases.specs.LeaseWork.{lease_next, settle_next}
 use Rattle.sl_leases.specs.declared.lease.Aim.{Aim}
 use Rattle.sl_leases.specs.declared.lease.LeaseNext.TheVariants.{BecomeExclusive, BecomeShared}
 use Rattle.sl_leases.specs.declared.lease.LeaseNext.{LeaseNext}
+use Rattle.sl_part_law.specs.Wakes.{is_free_at}
 use Rattle.sl_question_law.specs.Answers.{known_in, place_in}
 use Rattle.sl_question_law.specs.Jobs.{aim_in, goes_on_in}
+use Rattle.sl_question_law.specs.Members.{IsMemberAt}
 use Rattle.sl_trace.specs.declared.effects.LeaseStep.{LeaseStep}
 use Rattle.sl_trace.specs.declared.effects.Purpose.TheVariants.{Lease}
+use Rattle.sl_trace.specs.declared.effects.Spot.{Spot}
+use Rattle.sl_trace.specs.declared.effects.Work.TheVariants.{Settling}
 use Rattle.sl_trace.specs.declared.effects.Work.{Work}
 use Rattle.sl_trace.specs.declared.input.Answer.{Answer}
 use Rattle.sl_trace.specs.declared.input.Input.TheVariants.{Answer as Told}
 use Rattle.sl_trace.specs.declared.input.Input.{Input}
 use Rattle.std.specs.Prelude.{Some, false, true, ℕ, ◌%◌, ◌-◌, ◌<◌, ◌≡◌}
 
--- Leader and blocks of the call's area are on it.
-pub record IsPlaced (h : HostState) (m : MemberState) (c : OpenCall) : Type 0 where
+-- Leader and blocks of an area are on it.
+pub record IsPlacedAt (h : HostState) (m : MemberState) (at : Spot) : Type 0 where
   pub room : 0 < h.config.layout.area
-  pub reads : (step : LeaseStep) → read_from h (area_of h c) step - read_from h (area_of h c) step % h.config.layout.area ≡ (area_of h c).base
-  pub block : block_offset h.config.layout (area_of h c).base m.who.id - block_offset h.config.layout (area_of h c).base m.who.id % h.config.layout.area ≡ (area_of h c).base
-  pub leader : leader_offset (area_of h c).base - leader_offset (area_of h c).base % h.config.layout.area ≡ (area_of h c).base
+  pub reads : (step : LeaseStep) → read_from h at step - read_from h at step % h.config.layout.area ≡ at.base
+  pub block : block_offset h.config.layout at.base m.who.id - block_offset h.config.layout at.base m.who.id % h.config.layout.area ≡ at.base
+  pub leader : leader_offset at.base - leader_offset at.base % h.config.layout.area ≡ at.base
+
+-- So are those of the call's.
+abbrev pub IsPlaced : HostState → MemberState → OpenCall → Type 0
+IsPlaced h m c = IsPlacedAt h m (area_of h c)
 
 -- A conversion that is done is asked the same as before.
 abbrev pub IfConverted : Input → HostState → Step → MemberState → OpenCall → Work → LeaseNext → Type 0
@@ -46,3 +54,9 @@ LeasesGoOn =
     → IsPlaced (heard_answer number a h) (member_hearing h c a m) c
     → IfConverted (Told number a) (heard_answer number a h) (with_input (Told number a) x) (member_hearing h c a m) c work next
     → Follows number a h x (carrying_lease (member_hearing h c a m) (area_of (heard_answer number a h) c) work next (heard_answer number a h))
+
+-- A settling on a free area may do what is owed.
+abbrev pub SettlingsMay : Type 0
+SettlingsMay =
+    (i : Input) (h : HostState) (x : Step) (k : ℕ) (m : MemberState) (at : Spot) (next : LeaseNext) → IsMemberAt i h x k m → next ≡ settle_next (place_in h m) (known_in h m x at) → IsPlacedAt h m at
+    → is_free_at h at ≡ true → MayCarryLease i h x m at Settling next

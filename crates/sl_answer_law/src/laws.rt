@@ -5,7 +5,7 @@ ghost use Rattle.sl_answer_law.specs.Carrying.{DecisionsAreCarried};
 ghost use Rattle.sl_answer_law.specs.Grants.{GrantsAreTaken};
 ghost use Rattle.sl_answer_law.specs.Joinings.{JoiningsFollow};
 ghost use Rattle.sl_answer_law.specs.LeaseAnswers.{LeaseAnswersFollow};
-ghost use Rattle.sl_answer_law.specs.LeasesGoOn.{LeasesGoOn};
+ghost use Rattle.sl_answer_law.specs.LeasesGoOn.{LeasesGoOn, SettlingsMay};
 ghost use Rattle.sl_answer_law.specs.LeasesSetFree.{LeasesSetFree};
 ghost use Rattle.sl_answer_law.specs.Leasing.{LeasesAreCarried};
 ghost use Rattle.sl_answer_law.specs.PhaseTwo.{PhaseTwoFollows};
@@ -82,4 +82,9 @@ pub fn leases_go_on()
 /// What a wake makes due by time is followed.
 pub fn wakings_follow()
     ensures { WakingsFollow }
+{}
+
+/// A settling on a free area may do what is owed.
+pub fn settlings_may()
+    ensures { SettlingsMay }
 {}
