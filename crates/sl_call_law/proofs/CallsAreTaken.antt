@@ -3,8 +3,9 @@ use Rattle.sl_area.specs.Layouts.{Layout}
 use Rattle.sl_call_law.proofs.Calls.KeepsMore.{is_alone, keeps_more}
 use Rattle.sl_call_law.proofs.Calls.MemberMore.{MemberFits, called, more, newest, own_stands, stays_by_calls, others_stay}
 use Rattle.sl_call_law.proofs.Calls.PresentMore.{present_stay, sessions_stay}
-use Rattle.sl_call_law.specs.Calls.{CallFits, CallsAreTaken, fits_job, fits_lease, fits_value, is_known_job}
+use Rattle.sl_call_law.specs.Calls.{CallFits, CallsAreTaken, fits_job, fits_lease, fits_value, is_idle_job, is_leaving_alone}
 use Rattle.sl_due.specs.Steps.{Step, seen}
+use Rattle.sl_host_plain.proofs.IdleJobs.{idle_is_alone}
 use Rattle.sl_host_plain.proofs.KeptJobs.{kept_numbered, leaving_numbered}
 use Rattle.sl_host_plain.proofs.MembersAreSessions.{members_are_sessions, numbers_are_apart}
 use Rattle.sl_host_plain.proofs.PlainLists.{at_mapped, one_there}
@@ -13,7 +14,7 @@ use Rattle.sl_host_state.specs.Kept.{Config, HostState, MemberState}
 use Rattle.sl_host_state.specs.Makes.{calling, job_calling, member_calling, next_submitted}
 use Rattle.sl_host_state.specs.Stands.{IsQuiet, Keeps, MemberStands, Stands, is_kept_of, job_moments, kept_waiting, member_moments}
 use Rattle.sl_host_state.specs.declared.kept.JobState.{JobState}
-use Rattle.sl_plain.proofs.Lists.{contains_none, contains_cases, in_map}
+use Rattle.sl_plain.proofs.Lists.{any_found, any_of, contains_cases, contains_none, in_map}
 use Rattle.sl_plain.proofs.Numbers.{equal_is_most, trans_le}
 use Rattle.sl_trace.specs.Traces.{Submitted, is_of_job, job_numbered, job_of, new_call, next_call}
 use Rattle.sl_trace.specs.declared.effects.Call.{Call}
@@ -21,13 +22,14 @@ use Rattle.sl_trace.specs.declared.effects.Effects.{Effects}
 use Rattle.sl_trace.specs.declared.effects.Op.{Op}
 use Rattle.sl_trace.specs.declared.effects.Purpose.{Purpose}
 use Rattle.sl_trace.specs.declared.input.Input.{Input}
+use Rattle.sl_words.proofs.CaseLaws.{false_is_true, none_some, some_value}
 use Rattle.sl_words.proofs.WordLaws.{and_true, or_true}
 use Rattle.sl_words.specs.Words.{some_is}
 use Rattle.std.proofs.Common.{ap, arith, inl, inr, refl, subst, suc, sym, ◌∙◌}
 use Rattle.std.proofs.lemmas.Bool.Decides.{Decides-eqb}
 use Rattle.std.specs.List.{list_any}
 use Rattle.std.specs.Option.{option_map_or}
-use Rattle.std.specs.Prelude.{Bool, Contains, List, None, Option, Some, cond, false, is_some, length, map, not, slice_get, true, [], ℕ, ◌&&◌, ◌++◌, ◌+◌, ◌-◌, ◌==◌, ◌∷◌, ◌≡◌, ◌≤◌}
+use Rattle.std.specs.Prelude.{Bool, Contains, List, None, Option, Some, cond, false, is_some, length, map, not, slice_get, true, [], ℕ, ◌&&◌, ◌++◌, ◌+◌, ◌-◌, ◌==◌, ◌∷◌, ◌≡◌, ◌≤◌, is_none, ◌||◌}
 
 -- ---- nothing is due sooner
 
@@ -91,21 +93,39 @@ layout_is h x k = ap (λ (c : Config). c.layout) k.config
 
 -- ---- its job
 
-known_by_test : (h : HostState) (x : Step) (s : MemberState) (c : Submitted) → Keeps h x.setting (seen x) → MemberStands x.setting (seen x) s → fits_job h s c ≡ true
-    → ((j : ℕ) → job_of c.call.purpose ≡ Some j → is_some (job_numbered x.setting (seen x) j) ≡ true) × (is_alone h.unanswered (job_of c.call.purpose) ≡ true)
-known_by_test h x s c k m fits = (known, by (job_of c.call.purpose) fits) where
-  by : (o : Option ℕ) → option_map_or (λ j. is_known_job h s j && not (list_any (is_kept_of j) h.unanswered)) o true ≡ true → is_alone h.unanswered o ≡ true
-  by None is = refl
-  by (Some j) is = (and_true (is_known_job h s j) (not (list_any (is_kept_of j) h.unanswered)) is).1
+-- What a call's job must be: one of the trace's, with no other call open.
+pub record JobFits (h : HostState) (x : Step) (job : Option ℕ) : Type 0 where
+  pub known : (j : ℕ) → job ≡ Some j → is_some (job_numbered x.setting (seen x) j) ≡ true
+  pub alone : is_alone h.unanswered job ≡ true
 
-  known : (j : ℕ) → job_of c.call.purpose ≡ Some j → is_some (job_numbered x.setting (seen x) j) ≡ true
-  known j its =
-      let both : (is_known_job h s j && not (list_any (is_kept_of j) h.unanswered)) ≡ true =
-      sym (ap (λ o. option_map_or (λ z. is_known_job h s z && not (list_any (is_kept_of z) h.unanswered)) o true) its) ∙ fits
-      in
-      elim (or_true (list_any (λ (z : JobState). z.number == j) h.jobs) (some_is (λ z. z == j) s.known.leaving) (and_true (is_known_job h s j) (not (list_any (is_kept_of j) h.unanswered)) both).0) [
-        | inl runs ↦ kept_numbered h x.setting (seen x) j k runs
-        | inr leaves ↦ leaving_numbered x.setting (seen x) s j m leaves
+one_fits : (h : HostState) (x : Step) (n : ℕ) → is_some (job_numbered x.setting (seen x) n) ≡ true → list_any (is_kept_of n) h.unanswered ≡ false → JobFits h x (Some n)
+one_fits h x n known alone = record { known = λ j is. subst (λ m. is_some (job_numbered x.setting (seen x) m) ≡ true) (some_value n j is) known; alone = ap not alone }
+
+pub runs_too : (js : List JobState) (n : ℕ) → list_any (λ j. j.number == n && is_none j.waits) js ≡ true → list_any (λ j. j.number == n) js ≡ true
+runs_too js n is =
+    let f = any_found (λ (j : JobState). j.number == n && is_none j.waits) js is in
+    any_of (λ (j : JobState). j.number == n) js f.0 (and_true (f.0.number == n) (is_none f.0.waits) f.2).0 f.1
+
+-- A job that waits for none fits.
+pub idle_fits : (h : HostState) (x : Step) (n : ℕ) → Keeps h x.setting (seen x) → is_idle_job h n ≡ true → JobFits h x (Some n)
+idle_fits h x n k is = one_fits h x n (kept_numbered h x.setting (seen x) n k (runs_too h.jobs n is)) (idle_is_alone h x.setting (seen x) n k is)
+
+leaving_fits : (h : HostState) (x : Step) (s : MemberState) (n : ℕ) → MemberStands x.setting (seen x) s → is_leaving_alone h s n ≡ true → JobFits h x (Some n)
+leaving_fits h x s n m is =
+    let both = and_true (some_is (λ j. j == n) s.known.leaving) (not (list_any (is_kept_of n) h.unanswered)) is in
+    one_fits h x n (leaving_numbered x.setting (seen x) s n m both.0) (not_is (list_any (is_kept_of n) h.unanswered) both.1) where
+      not_is : (b : Bool) → not b ≡ true → b ≡ false
+      not_is false it = refl
+      not_is true it = absurd (false_is_true it)
+
+job_fits : (h : HostState) (x : Step) (s : MemberState) (c : Submitted) → Keeps h x.setting (seen x) → MemberStands x.setting (seen x) s → fits_job h s c ≡ true → JobFits h x (job_of c.call.purpose)
+job_fits h x s c k m fits = by (job_of c.call.purpose) fits where
+  by : (o : Option ℕ) → option_map_or (λ j. is_idle_job h j || is_leaving_alone h s j) o true ≡ true → JobFits h x o
+  by None is = record { known = λ j at. absurd (none_some j at); alone = refl }
+  by (Some j) is =
+      elim (or_true (is_idle_job h j) (is_leaving_alone h s j) is) [
+        | inl idle ↦ idle_fits h x j k idle
+        | inr leaves ↦ leaving_fits h x s j m leaves
       ]
 
 -- ---- the members
@@ -155,7 +175,7 @@ called_stands : (i : Input) (h : HostState) (x : Step) (k : ℕ) (s : MemberStat
     → call.number ≡ next_call x.setting (seen x) → CallFits h s (newest x call) → Stands i (calling (newest x call) h) (more call x)
 called_stands i h x k s call stands there its next fits =
     let keeps : Keeps h x.setting (seen x) = stands.keeps in
-    let job = known_by_test h x s (newest x call) keeps (keeps.members k s there) fits.job in
+    let job = job_fits h x s (newest x call) keeps (keeps.members k s there) fits.job in
     let session = members_are_sessions h x.setting (seen x) k s keeps there in
     record {
       input = stands.input;
@@ -164,7 +184,7 @@ called_stands i h x k s call stands there its next fits =
       before = stands.before;
       made = ap (λ (f : Effects). record f { calls = f.calls ++ call ∷ [] }) stands.made;
       keeps =
-          keeps_more h x call h.born (map (member_calling h.config.layout (newest x call)) h.members) keeps next job.0 job.1
+          keeps_more h x call h.born (map (member_calling h.config.layout (newest x call)) h.members) keeps next job.known job.alone
           (ap (λ ss. length ss) (sessions_stay x call fits.later) ∙ keeps.born)
           (present_stay x call s.who fits.later its session.0 session.1 ∙ (keeps.present ∙ whos_stay h.config.layout (newest x call) h.members))
           (members_more h x k s call keeps there its fits);

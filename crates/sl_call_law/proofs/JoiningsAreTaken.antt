@@ -1,14 +1,14 @@
 -- The first read of a joining is taken: its session begins with it.
 use Rattle.sl_area.specs.Layouts.{Layout}
-use Rattle.sl_call_law.proofs.Calls.KeepsMore.{is_alone, keeps_more}
+use Rattle.sl_call_law.proofs.Calls.KeepsMore.{keeps_more}
 use Rattle.sl_call_law.proofs.Calls.MemberMore.{MemberFits, called, more, newest, others_stay, own_stands, stays_by_calls}
 use Rattle.sl_call_law.proofs.Calls.PresentMore.{others_present}
-use Rattle.sl_call_law.proofs.CallsAreTaken.{is_next, layout_is, made, quiet_more, whos_stay}
+use Rattle.sl_call_law.proofs.CallsAreTaken.{idle_fits, is_next, layout_is, made, quiet_more, runs_too, whos_stay}
 use Rattle.sl_call_law.proofs.Joinings.CallsBelow.{owned_so_far}
 use Rattle.sl_call_law.proofs.Joinings.NewSession.{IsToCome, new_stands, not_joined_yet, not_refused_yet}
 use Rattle.sl_call_law.specs.Joinings.{JoiningFits, JoiningsAreTaken}
 use Rattle.sl_due.specs.Steps.{Step, seen}
-use Rattle.sl_host_plain.proofs.KeptJobs.{kept_numbered, running_there}
+use Rattle.sl_host_plain.proofs.KeptJobs.{running_there}
 use Rattle.sl_host_plain.proofs.MembersAreSessions.{member_inside}
 use Rattle.sl_host_plain.proofs.PlainLists.{at_mapped, at_some, filter_where}
 use Rattle.sl_host_plain.proofs.PlainOrders.{put_inside, put_mapped}
@@ -17,14 +17,14 @@ use Rattle.sl_host_plain.proofs.SessionNumbers.{below_count}
 use Rattle.sl_host_state.specs.Kept.{Config, HostState, MemberState}
 use Rattle.sl_host_state.specs.Makes.{calling, member_calling, with_member}
 use Rattle.sl_host_state.specs.New.{new_member}
-use Rattle.sl_host_state.specs.Stands.{IsQuiet, Keeps, MemberStands, Stands, is_kept_of, member_moments}
+use Rattle.sl_host_state.specs.Stands.{IsQuiet, Keeps, MemberStands, Stands, member_moments}
 use Rattle.sl_plain.proofs.Lists.{contains_none, got_inside}
 use Rattle.sl_plain.proofs.Numbers.{number_itself}
 use Rattle.sl_plain.proofs.Options.{none_is}
 use Rattle.sl_sessions.specs.Sessions.{added, added_by, has_open_write, is_join_call, is_present, joined_after, joining_session, present_sessions, refused_after, removed_after, sessions}
 use Rattle.sl_sessions.specs.declared.session.Session.{Session}
 use Rattle.sl_trace.proofs.TraceFacts.{fold-push}
-use Rattle.sl_trace.specs.Traces.{Setting, job_numbered, next_job, numbers_taken, reply_to, takes_number}
+use Rattle.sl_trace.specs.Traces.{Setting, next_job, numbers_taken, reply_to, takes_number}
 use Rattle.sl_trace.specs.declared.command.Command.TheVariants.{AddLockspace}
 use Rattle.sl_trace.specs.declared.command.Command.{Command}
 use Rattle.sl_trace.specs.declared.command.LockspaceArg.{LockspaceArg}
@@ -34,14 +34,14 @@ use Rattle.sl_trace.specs.declared.effects.JoinStep.TheVariants.{FirstRead}
 use Rattle.sl_trace.specs.declared.effects.Op.TheVariants.{ReadSectors}
 use Rattle.sl_trace.specs.declared.effects.Purpose.TheVariants.{Joining}
 use Rattle.sl_trace.specs.declared.input.Input.TheVariants.{Line}
-use Rattle.sl_words.proofs.CaseLaws.{is_false, some_value}
+use Rattle.sl_words.proofs.CaseLaws.{is_false}
 use Rattle.sl_words.specs.Orders.{in_order, is_text_before, put_in}
 use Rattle.std.proofs.Common.{ap, arith, inl, inr, refl, subst, sym, ◌∙◌}
 use Rattle.std.proofs.lemmas.Bool.Decides.{Decides-eqb}
 use Rattle.std.proofs.lemmas.List.{append-nil, length_push}
 use Rattle.std.proofs.lemmas.List.Elements.{filter-append}
 use Rattle.std.specs.List.{list_any}
-use Rattle.std.specs.Prelude.{Bool, Contains, List, None, Ok, Option, Result, Some, cond, false, filter, is_none, is_some, length, map, not, slice_get, true, [], ℕ, ◌&&◌, ◌++◌, ◌+◌, ◌<◌, ◌==◌, ◌||◌, ◌∷◌, ◌≡◌, ◌≤◌, ◌⊎◌}
+use Rattle.std.specs.Prelude.{Bool, Contains, List, None, Ok, Option, Result, Some, cond, false, filter, is_none, length, map, slice_get, true, [], ℕ, ◌&&◌, ◌++◌, ◌+◌, ◌<◌, ◌==◌, ◌||◌, ◌∷◌, ◌≡◌, ◌≤◌, ◌⊎◌}
 
 -- ---- the session
 
@@ -96,7 +96,7 @@ sessions_begun h x job text a offset sectors fits s =
 -- Before it nothing is to tell of the session.
 to_come : (h : HostState) (x : Step) (job : ℕ) (text : List ℕ) (a : LockspaceArg) → JoiningFits h job text a → Stands (Line text) h x → IsToCome x.setting (seen x) (begun h job a) job
 to_come h x job text a fits s =
-    let r = running_there h x.setting (seen x) job s.keeps fits.runs in
+    let r = running_there h x.setting (seen x) job s.keeps (runs_too h.jobs job fits.runs) in
     record {
       job = refl;
       owned = owned_so_far x s.past (bare_step h x text s fits.bare);
@@ -196,13 +196,11 @@ begun_count h x job text a offset sectors fits s =
     ∙ length_push (sessions x.setting (seen x)) (begun h job a)
     ∙ ap (λ n. n + 1) s.keeps.born
 
-alone_by : (h : HostState) (job : ℕ) → list_any (is_kept_of job) h.unanswered ≡ false → is_alone h.unanswered (Some job) ≡ true
-alone_by h job none = ap not none
-
 begun_stands : (h : HostState) (x : Step) (job : ℕ) (text : List ℕ) (a : LockspaceArg) (offset sectors : ℕ) → JoiningFits h job text a → Stands (Line text) h x
     → Stands (Line text) (calling (newest x (first_read x h job a offset sectors)) (with_begun h job a)) (more (first_read x h job a offset sectors) x)
 begun_stands h x job text a offset sectors fits s =
     let call : Call = first_read x h job a offset sectors in
+    let job_fit = idle_fits h x job s.keeps fits.runs in
     record {
       input = s.input;
       past = s.past;
@@ -211,8 +209,7 @@ begun_stands h x job text a offset sectors fits s =
       made = ap (λ (f : Effects). record f { calls = f.calls ++ call ∷ [] }) s.made;
       keeps =
           keeps_more h x call (h.born + 1) (map (member_calling h.config.layout (newest x call)) (with_member (new_member (begun h job a)) h.members)) s.keeps refl
-          (λ j is. subst (λ n. is_some (job_numbered x.setting (seen x) n) ≡ true) (some_value job j is) (kept_numbered h x.setting (seen x) job s.keeps fits.runs))
-          (alone_by h job fits.alone)
+          job_fit.known job_fit.alone
           (begun_count h x job text a offset sectors fits s)
           (present_begun h x job text a offset sectors fits s ∙ whos_stay h.config.layout (newest x call) (with_member (new_member (begun h job a)) h.members))
           (members_begun h x job text a offset sectors fits s);

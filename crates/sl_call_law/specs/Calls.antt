@@ -15,13 +15,17 @@ use Rattle.std.specs.List.{list_any}
 use Rattle.std.specs.Option.{option_map_or}
 use Rattle.std.specs.Prelude.{Bool, IsTrue, List, Some, false, find, is_none, nat_lt, not, slice_get, true, ℕ, ◌&&◌, ◌==◌, ◌||◌, ◌≡◌}
 
--- Whether the job is known: it runs, or is that of the member's leaving.
-abbrev pub is_known_job : HostState → MemberState → ℕ → Bool
-is_known_job h s job = list_any (λ j. j.number == job) h.jobs || some_is (λ j. j == job) s.known.leaving
+-- Whether the job runs, and waits for no call.
+abbrev pub is_idle_job : HostState → ℕ → Bool
+is_idle_job h job = list_any (λ j. j.number == job && is_none j.waits) h.jobs
 
--- A call for a job that is known and has no other call open.
+-- Whether the job is that of the member's leaving, and has no call open.
+abbrev pub is_leaving_alone : HostState → MemberState → ℕ → Bool
+is_leaving_alone h s job = some_is (λ j. j == job) s.known.leaving && not (list_any (is_kept_of job) h.unanswered)
+
+-- A call is for a job that waits for none.
 abbrev pub fits_job : HostState → MemberState → Submitted → Bool
-fits_job h s c = option_map_or (λ j. is_known_job h s j && not (list_any (is_kept_of j) h.unanswered)) (job_of c.call.purpose) true
+fits_job h s c = option_map_or (λ j. is_idle_job h j || is_leaving_alone h s j) (job_of c.call.purpose) true
 
 -- A call on the id's sector comes after the answer of the last one.
 abbrev pub fits_turn : MemberState → Submitted → Bool

@@ -5,3 +5,4 @@ pub mod MembersAreSessions
 pub mod Quiet
 pub mod KeptJobs
 pub mod NewNumbers
+pub mod IdleJobs

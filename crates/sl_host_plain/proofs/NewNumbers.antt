@@ -76,7 +76,7 @@ no_reply_in e past n is = none_both (reply_to past n) (reply_in n past e) is
 pub no_reply_found : (e : Entry) (past : Trace) (n : ℕ) → reply_to (e ∷ past) n ≡ None → find (λ a. a.job == n) e.effects.replies ≡ None
 no_reply_found e past n is = unmapped (λ (a : JobReply). record { at = length past; reply = a.reply }) (find (λ (a : JobReply). a.job == n) e.effects.replies) (no_reply_in e past n is)
 
-found_nowhere : {A : Type 0} (p : A → Bool) (xs : List A) → find p xs ≡ None → list_any p xs ≡ false
+pub found_nowhere : {A : Type 0} (p : A → Bool) (xs : List A) → find p xs ≡ None → list_any p xs ≡ false
 found_nowhere p [] none = refl
 found_nowhere {A} p (x ∷ xs) none = by (p x) none (λ rest. found_nowhere p xs rest) where
   by : (b : Bool) → cond b (Some x) (find p xs) ≡ None → (find p xs ≡ None → list_any p xs ≡ false) → (b || list_any p xs) ≡ false

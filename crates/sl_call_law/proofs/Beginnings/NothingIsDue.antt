@@ -35,7 +35,7 @@ unless b f x is = ap (λ c. when c f x) is
 -- ---- no recovery begins now
 
 -- A recovery began in an entry that the trace has.
-began_before : (st : Setting) (es : Trace) (s : Session) (b : Begun) → (renewing st es s).recovery ≡ Some b → b.at < length es
+pub began_before : (st : Setting) (es : Trace) (s : Session) (b : Begun) → (renewing st es s).recovery ≡ Some b → b.at < length es
 began_before st [] s b is = absurd (none_some b is)
 began_before st (e ∷ es) s b is = by (λ old. began_before st es s b old) (renewing st es s).recovery refl is where
   less : b.at < length es → b.at < suc (length es)
@@ -69,7 +69,7 @@ began_before st (e ∷ es) s b is = by (λ old. began_before st es s b old) (ren
     first false true it = new (length es + 1) it
     first false false it = absurd (none_some b (sym was ∙ it))
 
-not_now : (n at : ℕ) → at < n → (at + 1 == suc n) ≡ false
+pub not_now : (n at : ℕ) → at < n → (at + 1 == suc n) ≡ false
 not_now n at less = grind (arith, less)
 
 module _ (h : HostState) (st : Setting) (es : Trace) (now : ℕ) (later : h.reading ≤ now) (below : now < h.quiet_until) (stands : HostStands h st es) where

@@ -1,0 +1,16 @@
+pub mod RefusalsFollow
+pub mod DecisionsAreCarried
+pub mod LeasesAreCarried
+pub mod AnswersSetFree
+pub mod AnswersFollow
+pub mod RequestsFollow
+pub mod JoinDecisions
+pub mod JoiningsFollow
+pub mod LeaseAnswersFollow
+pub mod GrantsAreTaken
+pub mod SurveysFollow
+pub mod LeasesSetFree
+pub mod PhaseTwoFollows
+pub mod LeasesGoOn
+pub mod WakingsFollow
+pub mod SettlingsMay

@@ -1,0 +1,13 @@
+pub mod Refusing
+pub mod Carrying
+pub mod Leasing
+pub mod Answering
+pub mod Requests
+pub mod Joinings
+pub mod LeaseAnswers
+pub mod Grants
+pub mod Surveys
+pub mod LeasesSetFree
+pub mod PhaseTwo
+pub mod LeasesGoOn
+pub mod Wakings

@@ -1,0 +1,4 @@
+pub mod PlainSums
+pub mod QuestionsByKept
+pub mod CommandsAreDecided
+pub mod FallingIsEnough

@@ -1,0 +1,11 @@
+pub mod SignalsAreTaken
+pub mod RefusalsAreTaken
+pub mod ExitsAreTaken
+pub mod MembersWake
+pub mod EndsAreTaken
+pub mod RecoveriesAreTaken
+pub mod GoneDoNothing
+pub mod LinesAreTaken
+pub mod SpawnsAreTaken
+pub mod ExpectedIsOpen
+pub mod RoomsAreFree

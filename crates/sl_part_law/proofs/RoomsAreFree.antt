@@ -1,0 +1,58 @@
+-- Nothing that is asked of a host asks for its rooms.
+use Rattle.sl_due.specs.Steps.{seen}
+use Rattle.sl_host_state.specs.Kept.{HostState}
+use Rattle.sl_host_state.specs.Stands.{IsQuiet, Keeps}
+use Rattle.sl_host_state.specs.declared.kept.Rooms.{Rooms}
+use Rattle.sl_part_law.specs.Rooms.{RoomsAreFree, with_rooms}
+use Rattle.sl_trace.specs.Traces.{Setting, Trace}
+use Rattle.std.proofs.Common.{arith}
+use Rattle.std.specs.Prelude.{Option, ℕ, ◌≤◌}
+
+module _ (h : HostState) (room : Rooms) (spare : Option Rooms) (until : ℕ) where
+  keeps : (st : Setting) (es : Trace) → Keeps h st es → Keeps (with_rooms room spare until h) st es
+  keeps st es k =
+      record {
+        config = k.config;
+        entries = k.entries;
+        calls = k.calls;
+        lines = k.lines;
+        replied = k.replied;
+        started = k.started;
+        born = k.born;
+        numbered = k.numbered;
+        counted = k.counted;
+        present = k.present;
+        members = k.members;
+        connected = k.connected;
+        unanswered = k.unanswered;
+        single = k.single;
+        owned = k.owned;
+        jobs = k.jobs;
+        holdings = k.holdings;
+        children = k.children;
+        programs = k.programs;
+      }
+
+  quiet : until ≤ h.quiet_until → IsQuiet h → IsQuiet (with_rooms room spare until h)
+  quiet earlier was k now there = let q : h.quiet_until ≤ now = was k now there in omega (arith, earlier, q)
+
+pub rooms_are_free : RoomsAreFree
+rooms_are_free =
+    record {
+      in_step = λ i h x room spare until earlier s. record {
+        input = s.input;
+        past = s.past;
+        reading = s.reading;
+        before = s.before;
+        made = s.made;
+        keeps = keeps h room spare until x.setting (seen x) s.keeps;
+        quiet = quiet h room spare until earlier s.quiet;
+      };
+      between = λ h st es room spare until earlier s. record {
+        past = s.past;
+        reading = s.reading;
+        made = s.made;
+        keeps = keeps h room spare until st es s.keeps;
+        quiet = quiet h room spare until earlier s.quiet;
+      };
+    }

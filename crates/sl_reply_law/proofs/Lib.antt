@@ -1,0 +1,13 @@
+pub mod PlainFilters
+pub mod PlainNumbers
+pub mod PlainOrderKept
+pub mod PlainTextOrder
+pub mod NotJoinedNotBegun
+pub mod OpenCallsAreKept
+pub mod JobsRun
+pub mod MembersKeepCalls
+pub mod PresentInOrder
+pub mod MomentsAreLater
+pub mod Answers
+pub mod Replies
+pub mod MovesAreTaken
