@@ -1,0 +1,4 @@
+pub mod RecordRules
+pub mod WatchLaws
+pub mod StandsLaws
+pub mod EnoughLaws
