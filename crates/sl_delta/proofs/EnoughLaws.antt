@@ -1,14 +1,11 @@
 -- What is kept decides as the calls do.
-use Rattle.sl_area.specs.Layouts.{record_in}
 use Rattle.sl_delta.specs.Decides.{after_deciding, after_join, after_join_read, after_join_write, after_verify, after_watch, on_wake, time_next, verified}
 use Rattle.sl_delta.specs.Laws.{HostsKeepTheSame, KeptIsEnough}
 use Rattle.sl_delta.specs.Own.{OwnState, OwnStands, after_answer, after_call, call_made, call_of, lease_of}
-use Rattle.sl_host_state.specs.Kept.{JoinCall, JoinState}
+use Rattle.sl_host_state.specs.Kept.{JoinCall}
 use Rattle.sl_host_state.specs.Makes.{joining_calling}
-use Rattle.sl_host_state.specs.Stands.{JoinStands, newest_of}
-use Rattle.sl_sector.specs.Spelling.{delta_in}
-use Rattle.sl_sector.specs.declared.sector.DeltaRec.{DeltaRec}
-use Rattle.sl_sessions.specs.Deltas.{DeltaLease, claim_of, first_answered, first_bytes, join_step_of, next_after_deciding, next_after_join_read, next_after_join_write, next_after_verify, next_after_watch, next_by_time, next_in_joining, next_on_wake}
+use Rattle.sl_host_state.specs.Stands.{JoinStands}
+use Rattle.sl_sessions.specs.Deltas.{DeltaLease, join_step_of, next_after_deciding, next_after_join_read, next_after_join_write, next_after_verify, next_after_watch, next_by_time, next_in_joining, next_on_wake}
 use Rattle.sl_sessions.specs.Sessions.{delta_written, generation_in, is_join_call}
 use Rattle.sl_sessions.specs.declared.delta.DeltaNext.TheVariants.{Nothing}
 use Rattle.sl_sessions.specs.declared.delta.DeltaNext.{DeltaNext}

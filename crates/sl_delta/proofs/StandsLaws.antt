@@ -1,9 +1,8 @@
 -- An answer changes of what is asked of a session's calls what it changes of what is kept.
-use Rattle.sl_delta.specs.Own.{AllAnswered, IsBusy, IsTold, OwnState, OwnStands, after_answer, joining_told}
+use Rattle.sl_delta.specs.Own.{IsBusy, IsTold, OwnState, OwnStands, after_answer}
 use Rattle.sl_host_state.specs.Hears.{answered_at}
-use Rattle.sl_host_state.specs.Kept.{JoinCall, JoinState}
-use Rattle.sl_host_state.specs.Stands.{JoinStands, newest_of}
-use Rattle.sl_sessions.specs.Deltas.{claim_of, first_answered, first_bytes, join_step_of}
+use Rattle.sl_host_state.specs.Kept.{JoinCall}
+use Rattle.sl_sessions.specs.Deltas.{join_step_of}
 use Rattle.sl_sessions.specs.Sessions.{delta_written, is_delta_purpose, is_free_purpose, is_join_call, is_renewal}
 use Rattle.sl_sessions.specs.declared.session.Session.{Session}
 use Rattle.sl_trace.specs.Traces.{Answered, Submitted, bytes_given, gave}
@@ -12,7 +11,7 @@ use Rattle.sl_trace.specs.declared.effects.JoinStep.{JoinStep}
 use Rattle.sl_trace.specs.declared.effects.Purpose.{Purpose}
 use Rattle.sl_trace.specs.declared.input.Answer.{Answer}
 use Rattle.std.specs.Option.{option_map_or}
-use Rattle.std.proofs.Common.{Bool, IsTrue, List, None, Option, Some, ap, cond, false, find, is_some, not, option_and_then, option_map, refl, subst, sym, true, ℕ, ◌&&◌, ◌||◌, ◌∙◌, ◌∷◌, ◌≡◌}
+use Rattle.std.proofs.Common.{Bool, IsTrue, List, None, Option, Some, ap, cond, false, find, is_some, not, option_and_then, option_map, refl, subst, sym, true, ℕ, ◌&&◌, ◌∙◌, ◌∷◌, ◌≡◌}
 
 -- A call with this answer.
 abbrev pub told : Submitted → Answered → Submitted

@@ -1,7 +1,6 @@
 -- What comes next on the own sector, by what is kept of it: the definitions' decisions, asked of the kept answers in place of the calls.
 use Rattle.sl_area.specs.Layouts.{record_in, sector_with}
 use Rattle.sl_delta.specs.Own.{IsOwnRecord, OwnState, lease_of}
-use Rattle.sl_host_state.specs.Kept.{JoinState}
 use Rattle.sl_sector.specs.Bitmaps.{no_bits}
 use Rattle.sl_sector.specs.Spelling.{delta_in}
 use Rattle.sl_sector.specs.declared.sector.DeltaRec.{DeltaRec}

@@ -64,10 +64,10 @@ impl OwnSector {
     }
 
     /// The free that a leaving writes once nothing is held and no call is unanswered. A seq is left for it.
-    pub fn free(&self, now: u64, recovering: bool, leaving: Option<u64>) -> DeltaNext
+    pub fn free(&self, now: u64, leaving: Option<u64>) -> DeltaNext
         requires moment { now < moments }
         requires left { Fits (self.now.seq + 1) }
-        ensures exact { result ≡ next_free (lease_of self.now) now (known_with self.now recovering leaving) }
+        ensures exact { (recovering : Bool) → result ≡ next_free (lease_of self.now) now (known_with self.now recovering leaving) }
         ensures fit { 1 ≤ self.now.generation → IsFitNext result }
     {
         match leaving {
