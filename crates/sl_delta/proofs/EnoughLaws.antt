@@ -1,8 +1,8 @@
 -- What is kept decides as the calls do.
 use Rattle.sl_delta.specs.Decides.{after_deciding, after_join, after_join_read, after_join_write, after_verify, after_watch, on_wake, time_next, verified}
 use Rattle.sl_delta.specs.Laws.{HostsKeepTheSame, KeptIsEnough}
-use Rattle.sl_delta.specs.Own.{OwnState, OwnStands, after_answer, after_call, call_made, call_of, lease_of}
-use Rattle.sl_host_state.specs.Kept.{JoinCall}
+use Rattle.sl_delta.specs.Own.{OwnState, OwnStands, after_answer, after_call, call_made, lease_of}
+use Rattle.sl_host_state.specs.declared.kept.JoinCall.{JoinCall}
 use Rattle.sl_host_state.specs.Makes.{joining_calling}
 use Rattle.sl_host_state.specs.Stands.{JoinStands}
 use Rattle.sl_sessions.specs.Deltas.{DeltaLease, join_step_of, next_after_deciding, next_after_join_read, next_after_join_write, next_after_verify, next_after_watch, next_by_time, next_in_joining, next_on_wake}
@@ -118,7 +118,7 @@ kept_is_enough = record {
 -- ---- a host's state
 
 newest_is : (step : Option JoinStep) (made : ℕ) (answer : Option Answered) → answer ≡ None
-    → option_map (λ step. record { step = step; made = made; answered = option_map (λ a. a.reading) answer }) step ≡ option_map call_of (option_map (call_made made) step)
+    → option_map (λ step. record { step = step; made = made; answered = option_map (λ a. a.reading) answer }) step ≡ option_map (call_made made) step
 newest_is None made answer none = refl
 newest_is (Some step) made answer none = ap (λ a. Some (record { step = step; made = made; answered = option_map (λ a. a.reading) a })) none
 

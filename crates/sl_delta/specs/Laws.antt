@@ -3,7 +3,8 @@ use Rattle.sl_area.specs.Layouts.{Sizes}
 use Rattle.sl_delta.specs.Decides.{after_join, on_wake}
 use Rattle.sl_delta.specs.Own.{OwnState, OwnStands, after_answer, after_call, joining_told, known_with, lease_of, without_calls}
 use Rattle.sl_host_state.specs.Hears.{joining_hearing}
-use Rattle.sl_host_state.specs.Kept.{HostState, JoinState, OpenCall}
+use Rattle.sl_host_state.specs.Kept.{HostState, JoinState}
+use Rattle.sl_host_state.specs.declared.kept.OpenCall.{OpenCall}
 use Rattle.sl_host_state.specs.Makes.{joining_calling, known_calling}
 use Rattle.sl_sessions.specs.Deltas.{next_in_joining, next_on_wake}
 use Rattle.sl_sessions.specs.Sessions.{delta_written, generation_in, given_number}

@@ -2,9 +2,9 @@
 use Rattle.sl_area.specs.Layouts.{Sizes, layout_of}
 use Rattle.sl_delta.specs.declared.answer.SectorAnswer.TheVariants.{Failed as FailedSector, Read as ReadSector, Written as WrittenSector}
 use Rattle.sl_delta.specs.declared.answer.SectorAnswer.{SectorAnswer}
-use Rattle.sl_delta.specs.declared.own.NewestCall.{NewestCall}
 use Rattle.sl_host_state.specs.Hears.{answered_at}
-use Rattle.sl_host_state.specs.Kept.{JoinCall, JoinState}
+use Rattle.sl_host_state.specs.Kept.{JoinState}
+use Rattle.sl_host_state.specs.declared.kept.JoinCall.{JoinCall}
 use Rattle.sl_host_state.specs.New.{new_joining}
 use Rattle.sl_host_state.specs.Stands.{JoinStands}
 use Rattle.sl_sector.specs.Records.{Fits, IsDelta}
@@ -24,7 +24,7 @@ use Rattle.sl_trace.specs.declared.input.Answer.{Answer}
 use Rattle.sl_words.specs.Bounds.{moments}
 use Rattle.std.specs.Arc.{arc_value}
 use Rattle.std.specs.List.{AllByRecursion}
-use Rattle.std.specs.Option.{option_map_or, option_or}
+use Rattle.std.specs.Option.{option_map_or}
 use Rattle.std.specs.Prelude.{Bool, IfSome, IsTrue, List, None, Option, Some, cond, false, is_some, not, option_map, true, [], ℕ, ◌&&◌, ◌<◌, ◌||◌, ◌∷◌, ◌≡◌, ◌≤◌}
 
 -- What is kept.
@@ -87,12 +87,12 @@ pub record IsOwnRecord (d : DeltaRec) : Type 0 where
   pub claimed : 1 ≤ d.generation
 
 -- The readings of a call are moments.
-pub record HasMoments (n : NewestCall) : Type 0 where
+pub record HasMoments (n : JoinCall) : Type 0 where
   pub submission : n.made < moments
   pub answer : IfSome n.answered (λ t. t < moments)
 
 -- What is kept is within bounds: what was claimed is a record, numbers fit records, readings are moments.
-pub record IsWithin (z : Sizes) (host lockspace : List ℕ) (id : ℕ) (claim : Option DeltaRec) (since : Option ℕ) (newest : Option NewestCall) (generation seq renewed : ℕ) : Type 0 where
+pub record IsWithin (z : Sizes) (host lockspace : List ℕ) (id : ℕ) (claim : Option DeltaRec) (since : Option ℕ) (newest : Option JoinCall) (generation seq renewed : ℕ) : Type 0 where
   pub place : (1 ≤ id) × (id ≤ z.hosts)
   pub named : IsTrue (is_name host) × IsTrue (is_name lockspace)
   pub claims : IfSome claim IsOwnRecord
@@ -103,25 +103,13 @@ pub record IsWithin (z : Sizes) (host lockspace : List ℕ) (id : ℕ) (claim : 
 
 -- ---- a call and an answer
 
--- A call as the joining keeps it.
-abbrev pub call_of : NewestCall → JoinCall
-call_of n = record { step = n.step; made = n.made; answered = n.answered }
-
 -- A call that is submitted at this reading.
-abbrev pub call_made : ℕ → JoinStep → NewestCall
+abbrev pub call_made : ℕ → JoinStep → JoinCall
 call_made now step = record { step = step; made = now; answered = None }
 
--- A call with its answer at this reading, if it had none.
-abbrev pub call_told : ℕ → NewestCall → NewestCall
-call_told now n = record n { answered = option_or n.answered (Some now) }
-
 -- The newest call of a joining, where one for this purpose is one of its steps.
-abbrev pub newest_made : Purpose → ℕ → Option NewestCall
+abbrev pub newest_made : Purpose → ℕ → Option JoinCall
 newest_made p now = option_map (call_made now) (join_step_of p)
-
--- The same with its answer at this reading, if it had none.
-abbrev pub newest_told : ℕ → Option NewestCall → Option NewestCall
-newest_told now newest = option_map (call_told now) newest
 
 -- What a joining keeps after a call for this purpose, which writes this record, if any, and is submitted at this reading.
 abbrev pub joining_after : Purpose → Option DeltaRec → ℕ → JoinState → JoinState
@@ -130,7 +118,7 @@ joining_after p d now j =
       watched = cond (is_join_call FirstRead p) None j.watched;
       since = cond (is_join_call FirstRead p) None j.since;
       claim = cond (is_join_call ClaimWrite p) d j.claim;
-      newest = option_map call_of (newest_made p now);
+      newest = newest_made p now;
     }
 
 -- One more call of the session.

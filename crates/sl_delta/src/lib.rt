@@ -43,5 +43,5 @@ mod reads;
 mod renewing;
 
 pub use answer::SectorAnswer;
-pub use own::{NewestCall, OwnSector};
+pub use own::OwnSector;
 pub use renewing::{after_free, after_renewal};

@@ -1,6 +1,7 @@
 //! What a session keeps of its calls on its id's sector.
 
-ghost use Rattle.sl_delta.specs.Own.{HasMoments, IsMade, IsOwnRecord, IsTold, OwnStands, after_answer, after_call, answer_in, heard, newest_made, newest_told, without_calls};
+ghost use Rattle.sl_delta.specs.Own.{HasMoments, IsMade, IsOwnRecord, IsTold, OwnStands, after_answer, after_call, answer_in, heard, newest_made, without_calls};
+ghost use Rattle.sl_host_state.specs.Hears.{answered_at};
 ghost use Rattle.sl_sector.specs.Records.{Fits};
 ghost use Rattle.sl_sessions.specs.Sessions.{given_number, is_join_call};
 ghost use Rattle.sl_sessions.specs.declared.session.Session.{Session};
@@ -18,21 +19,14 @@ ghost use Rattle.std.specs.Prelude.{ℕ, cond, option_map, IfSome, IsTrue, List,
 use crate::answer::SectorAnswer;
 use crate::purposes::{is_claim, is_delta, is_first_read, is_free, is_renewal, join_step_of};
 use sl_area::Geometry;
+use sl_host_state::JoinCall;
 use sl_sector::DeltaRec;
 use sl_sectors::Image;
 use sl_text::Name;
 use sl_time::Timing;
-use sl_trace::{JoinStep, Purpose};
+use sl_trace::Purpose;
 use std::marker::Model;
 use std::sync::Arc;
-
-/// The newest call of a joining: its step, and the readings of its submission and of its answer.
-#[derive(Clone, Copy)]
-pub struct NewestCall {
-    pub step: JoinStep,
-    pub made: u64,
-    pub answered: Option<u64>,
-}
 
 /// What a session keeps of its calls on its id's sector.
 #[derive(Drop)]
@@ -45,7 +39,7 @@ pub struct OwnSector {
     pub(crate) watched: Option<Arc<Image>>,
     pub(crate) since: Option<u64>,
     pub(crate) claim: Option<DeltaRec>,
-    pub(crate) newest: Option<NewestCall>,
+    pub(crate) newest: Option<JoinCall>,
     pub(crate) generation: u64,
     pub(crate) seq: u64,
     pub(crate) renewed: u64,
@@ -70,7 +64,7 @@ impl Model for OwnSector {
         watched = option_map (λ w. arc_value w) o.watched;
         since = o.since;
         claim = o.claim;
-        newest = option_map (λ n. record { step = n.step; made = n.made; answered = n.answered }) o.newest;
+        newest = o.newest;
       };
       generation = o.generation;
       seq = o.seq;
@@ -259,12 +253,12 @@ fn renewed_after(renews: bool, now: u64, before: u64) -> u64
 }
 
 /// The newest call of a joining, where it is one of its steps.
-fn newest_of(now: u64, purpose: &Purpose) -> Option<NewestCall>
+fn newest_of(now: u64, purpose: &Purpose) -> Option<JoinCall>
     ensures exact { result ≡ newest_made purpose.now now }
     ensures bounds { now < moments → IfSome result HasMoments }
 {
     match join_step_of(purpose) {
-        Some(step) => Some(NewestCall {
+        Some(step) => Some(JoinCall {
             step,
             made: now,
             answered: None,
@@ -274,12 +268,12 @@ fn newest_of(now: u64, purpose: &Purpose) -> Option<NewestCall>
 }
 
 /// The same with its answer at this reading, if it had none.
-fn answered_at(now: u64, newest: Option<NewestCall>) -> Option<NewestCall>
-    ensures exact { result ≡ newest_told now newest }
+fn answered_at(now: u64, newest: Option<JoinCall>) -> Option<JoinCall>
+    ensures exact { result ≡ option_map (answered_at now) newest }
     ensures bounds { now < moments → IfSome newest HasMoments → IfSome result HasMoments }
 {
     match newest {
-        Some(call) => Some(NewestCall {
+        Some(call) => Some(JoinCall {
             step: call.step,
             made: call.made,
             answered: call.answered.or(Some(now)),
