@@ -1,0 +1,3 @@
+pub mod TopLaws
+pub mod TopRules
+pub mod ToldLaws

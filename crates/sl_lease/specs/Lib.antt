@@ -1,0 +1,5 @@
+pub mod Bounds
+pub mod Steps
+pub mod Side
+pub mod Changes
+pub mod Asked

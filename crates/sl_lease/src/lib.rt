@@ -1,0 +1,12 @@
+//! A session's work on one resource's lease.
+#![tactic(auto)]
+
+mod answers;
+mod changes;
+mod evidence;
+mod lease;
+mod side;
+
+pub use evidence::{Evidence, Held};
+pub use lease::Lease;
+pub use side::Side;
