@@ -5,6 +5,7 @@ mod answers;
 mod changes;
 mod evidence;
 mod lease;
+mod owed;
 mod side;
 
 pub use evidence::{Evidence, Held};
