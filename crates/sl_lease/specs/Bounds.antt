@@ -5,7 +5,7 @@ use Rattle.sl_sector.specs.declared.sector.Block.{Block}
 use Rattle.sl_sector.specs.declared.sector.Leader.{Leader}
 use Rattle.sl_sector.specs.declared.sector.Owner.{Owner}
 use Rattle.sl_words.specs.Bounds.{most_hosts}
-use Rattle.std.specs.Prelude.{IfSome, IsTrue, Option, is_some, ℕ, ◌≤◌}
+use Rattle.std.specs.Prelude.{All, IfSome, IsTrue, List, Option, is_some, length, ℕ, ◌<◌, ◌^◌, ◌≤◌}
 
 -- A session of one of the run's hosts.
 pub record IsSession (z : Sizes) (o : Owner) : Type 0 where
@@ -34,3 +34,9 @@ pub record IsWithinBounds (own : Option Block) (freed : ℕ) (ballot won : Optio
   pub frees : Fits freed
   pub opened : IfSome ballot (λ n. (1 ≤ n) × IsTrue (is_some own))
   pub wins : IfSome won IsInstance
+
+-- A session's read of blocks: each that is whole is a record.
+pub record IsRead (z : Sizes) (o : Owner) (read : List (Option Block)) : Type 0 where
+  pub session : IsSession z o
+  pub blocks : All (λ b. IfSome b IsBlock) read
+  pub few : length read < 2 ^ 32

@@ -2,6 +2,7 @@
 #![tactic(auto)]
 
 mod answers;
+mod ballots;
 mod changes;
 mod evidence;
 mod lease;
