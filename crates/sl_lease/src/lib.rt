@@ -2,13 +2,16 @@
 #![tactic(auto)]
 
 mod answers;
+mod area;
 mod ballots;
 mod changes;
 mod evidence;
 mod lease;
+mod next;
 mod owed;
 mod side;
 
 pub use evidence::{Evidence, Held};
 pub use lease::Lease;
+pub use next::after_failure;
 pub use side::Side;
