@@ -3,3 +3,4 @@ pub mod TopRules
 pub mod ToldLaws
 pub mod RecordFacts
 pub mod NextLaws
+pub mod KnownLaws

@@ -1,5 +1,6 @@
 -- What a lease is asked, by what is kept of it, what its session knows beside it, and what a read has shown.
-use Rattle.sl_area.specs.Places.{leader_of}
+use Rattle.sl_area.specs.Layouts.{Layout}
+use Rattle.sl_area.specs.Places.{area_blocks, blocks_in, leader_of}
 use Rattle.sl_host_state.specs.Kept.{LeaseState}
 use Rattle.sl_host_state.specs.Stands.{top_mbal}
 use Rattle.sl_host_state.specs.declared.kept.TopNumber.{TopNumber}
@@ -8,13 +9,14 @@ use Rattle.sl_lease.specs.declared.evidence.Held.{Held}
 use Rattle.sl_lease.specs.declared.side.Side.{Side}
 use Rattle.sl_leases.specs.Ballots.{ballot_blocks, moded_block, phase1_block, phase2_block, stop_of}
 use Rattle.sl_leases.specs.LeaseWork.{LeasePlace, after_phase1, after_phase2, begin_next, leader_for, named_area_next, phase1_next}
-use Rattle.sl_leases.specs.Leases.{LeaseKnown, is_leader_of, owed_free}
+use Rattle.sl_leases.specs.Leases.{LeaseKnown, is_leader_of, last_blocks, owed_free}
 use Rattle.sl_leases.specs.declared.lease.Aim.{Aim}
 use Rattle.sl_leases.specs.declared.lease.LeaseNext.TheVariants.{AnswerJob, BecomeExclusive, BecomeShared, Nothing, WriteBlock, WriteLeader}
 use Rattle.sl_leases.specs.declared.lease.LeaseNext.{LeaseNext}
 use Rattle.sl_sector.specs.declared.sector.Block.{Block}
 use Rattle.sl_sector.specs.declared.sector.Leader.{Leader}
 use Rattle.sl_sector.specs.declared.sector.Owner.{Owner}
+use Rattle.sl_trace.specs.Traces.{Submitted}
 use Rattle.sl_trace.specs.declared.effects.LeaseStep.TheVariants.{ClearMode, FreeLeader, Phase1Read, Phase1Write, Phase2Read, Phase2Write, ReadArea, ReadBeforeFree, SetMode, TakeLeader}
 use Rattle.sl_trace.specs.declared.effects.LeaseStep.{LeaseStep}
 use Rattle.sl_trace.specs.declared.reply.Reply.TheVariants.{Held as HeldBy, TornLeader, WrongArea}
@@ -114,3 +116,35 @@ read_asked p k aim l read TakeLeader = Nothing
 read_asked p k aim l read SetMode = Nothing
 read_asked p k aim l read FreeLeader = Nothing
 read_asked p k aim l read ClearMode = Nothing
+
+-- The leader that a read for this step gives in these bytes, if it reads one.
+abbrev pub leader_given : Layout → LeaseStep → List ℕ → Option Leader
+leader_given g (ReadArea name) bytes = leader_of g bytes
+leader_given g ReadBeforeFree bytes = leader_of g bytes
+leader_given g Phase1Write bytes = None
+leader_given g Phase1Read bytes = None
+leader_given g Phase2Write bytes = None
+leader_given g Phase2Read bytes = None
+leader_given g TakeLeader bytes = None
+leader_given g SetMode bytes = None
+leader_given g FreeLeader bytes = None
+leader_given g ClearMode bytes = None
+
+-- The blocks that it gives.
+abbrev pub read_given : Layout → LeaseStep → List ℕ → List (Option Block)
+read_given g (ReadArea name) bytes = area_blocks g bytes
+read_given g ReadBeforeFree bytes = area_blocks g bytes
+read_given g Phase1Write bytes = blocks_in g bytes
+read_given g Phase1Read bytes = blocks_in g bytes
+read_given g Phase2Write bytes = blocks_in g bytes
+read_given g Phase2Read bytes = blocks_in g bytes
+read_given g TakeLeader bytes = blocks_in g bytes
+read_given g SetMode bytes = blocks_in g bytes
+read_given g FreeLeader bytes = blocks_in g bytes
+read_given g ClearMode bytes = blocks_in g bytes
+
+-- Leader and blocks are what the read at this step gave in these bytes, which was the last of these calls that read blocks.
+pub record IsLastRead (g : Layout) (step : LeaseStep) (bytes : List ℕ) (leader : Option Leader) (read : List (Option Block)) (ms : List Submitted) : Type 0 where
+  pub leads : leader ≡ leader_given g step bytes
+  pub shows : read ≡ read_given g step bytes
+  pub newest : read ≡ last_blocks g ms

@@ -8,16 +8,17 @@
 //! acquire while its mode stands, and clears the mode once it is done. So what is held covers the process at each moment of either.
 ghost use Rattle.sl_host_state.specs.Kept.{LeaseState};
 ghost use Rattle.sl_host_state.specs.Stands.{LeaseStands};
-ghost use Rattle.sl_lease.specs.Asked.{TopStands, exclusive_with, free_with, mode_with, phase1_ended, phase2_ended, read_asked, shared_with};
+ghost use Rattle.sl_lease.specs.Asked.{IsLastRead, TopStands, exclusive_with, free_with, mode_with, phase1_ended, phase2_ended, read_asked, shared_with};
 ghost use Rattle.sl_lease.specs.Bounds.{IsBegun, IsInstance, IsRead, IsSession};
 ghost use Rattle.sl_lease.specs.Side.{is_named, known_with, layout_in, place_of};
 ghost use Rattle.sl_lease.specs.Steps.{IsFitNext, is_first_step, makes_call};
 ghost use Rattle.sl_lease.specs.declared.evidence.Held.{Held};
-ghost use Rattle.sl_leases.specs.LeaseWork.{after_clearing, after_freeing, after_moding, after_take, after_write, convert_next, refuses, release_next, settle_next};
+ghost use Rattle.sl_leases.specs.LeaseWork.{after_clearing, after_freeing, after_moding, after_take, after_write, convert_next, lease_next, refuses, release_next, settle_next};
 ghost use Rattle.sl_leases.specs.Leases.{known_of};
 ghost use Rattle.sl_sector.specs.Records.{IsLeader};
 ghost use Rattle.sl_sector.specs.declared.sector.Block.{Block};
 ghost use Rattle.sl_trace.specs.Traces.{Submitted};
+ghost use Rattle.sl_trace.specs.declared.input.Answer.TheVariants.{Read, Written};
 ghost use Rattle.sl_trace.specs.declared.reply.Reply.TheVariants.{IoFault};
 ghost use Rattle.std.specs.Prelude.{Bool, IfSome, IsTrue, List, Option, ℕ, ◌||◌, ◌≡◌};
 
@@ -94,6 +95,30 @@ impl Lease {
     /// What comes next after a read at this step, which gave this leader, if it reads one, and these blocks, those of hosts 1, 2 .. in order,
     /// none where one is torn. The answer was told by `read_answered` before.
     pub fn after_read<E: Evidence>(
+        &self,
+        side: &Side,
+        held: Held,
+        evidence: &E,
+        aim: Aim,
+        step: LeaseStep,
+        leader: &Option<Leader>,
+        read: &[Option<Block>],
+    ) -> LeaseNext
+        requires leader { IfSome leader.now IsLeader }
+        requires read { IsRead side.now.geometry side.now.me read.now }
+        ensures exact { IsTrue (is_first_step step || is_named self.now) → TopStands self.now read.now
+            → result ≡ read_asked (place_of side.now) (known_with side.now self.now held (E.over evidence.now) read.now) aim leader.now read.now step }
+        ensures decides { (call n : ℕ) (bytes : List ℕ) (ms : List Submitted) → IsTrue (is_first_step step || is_named self.now)
+            → LeaseStands (layout_in side.now) side.now.lockspace side.now.me self.now ms → IsLastRead (layout_in side.now) step bytes leader.now read.now ms
+            → result ≡ lease_next (place_of side.now) (known_of (layout_in side.now) side.now.lockspace side.now.me held.shared held.exclusive (E.over evidence.now) ms)
+            aim call n step (Read bytes) }
+        ensures fit { IsFitNext result }
+    {
+        self.read_next(side, held, evidence, aim, step, leader, read)
+    }
+
+    /// The same, by what is kept of the lease.
+    fn read_next<E: Evidence>(
         &self,
         side: &Side,
         held: Held,
@@ -241,6 +266,27 @@ impl Lease {
     /// What comes next after a write at this step that is done, of a block or leader of instance `n`. The answer was told by
     /// `write_answered` before.
     pub fn after_write(
+        &self,
+        side: &Side,
+        held: Held,
+        aim: Aim,
+        n: u64,
+        step: LeaseStep,
+    ) -> LeaseNext
+        requires { IsSession side.now.geometry side.now.me }
+        ensures exact { IsTrue (is_first_step step || is_named self.now) → (over : ℕ → ℕ → Bool) (read : List (Option Block)) → TopStands self.now read
+            → result ≡ after_write (place_of side.now) (known_with side.now self.now held over read) aim n step }
+        ensures decides { (call : ℕ) (over : ℕ → ℕ → Bool) (ms : List Submitted) → IsTrue (is_first_step step || is_named self.now)
+            → LeaseStands (layout_in side.now) side.now.lockspace side.now.me self.now ms
+            → result ≡ lease_next (place_of side.now) (known_of (layout_in side.now) side.now.lockspace side.now.me held.shared held.exclusive over ms)
+            aim call n step Written }
+        ensures fit { IsInstance n → IsFitNext result }
+    {
+        self.write_next(side, held, aim, n, step)
+    }
+
+    /// The same, by what is kept of the lease.
+    fn write_next(
         &self,
         side: &Side,
         held: Held,
