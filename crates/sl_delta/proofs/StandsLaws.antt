@@ -1,5 +1,5 @@
 -- An answer changes of what is asked of a session's calls what it changes of what is kept.
-use Rattle.sl_delta.specs.Own.{IsBusy, IsTold, OwnState, OwnStands, after_answer}
+use Rattle.sl_delta.specs.Own.{IsBusy, IsTold, OwnState, OwnStands, after_answer, newest_told}
 use Rattle.sl_host_state.specs.Hears.{answered_at}
 use Rattle.sl_host_state.specs.declared.kept.JoinCall.{JoinCall}
 use Rattle.sl_sessions.specs.Deltas.{join_step_of}
@@ -37,19 +37,17 @@ same_busy true true m a ms is k = (refl, k.1)
 same_busy true false m a ms is k = (refl, k.1)
 same_busy false busy m a ms is k = absurd cc
 
--- The newest call of a joining with its answer at this reading.
+-- The newest call of a joining, if it is one of its steps, with its answer.
+call_with : Option JoinStep → ℕ → Option ℕ → Option JoinCall
+call_with step made answer = option_map (λ s. record { step = s; made = made; answered = answer }) step
+
 newest_with : (step : Option JoinStep) (made : ℕ) (before after : Option ℕ) (now : ℕ) (kept : Option JoinCall) → before ≡ None → after ≡ Some now
     → option_map (λ s. record { step = s; made = made; answered = before }) step ≡ kept
-    → option_map (λ s. record { step = s; made = made; answered = after }) step ≡ option_map (answered_at now) kept
-newest_with step made before after now kept none some e =
-    let f : Option JoinCall → Option JoinCall = λ k. option_map (answered_at now) k in ap (λ x. told_of step x) some ∙ at step ∙ ap (λ x. f (told_of step x)) (sym none) ∙ ap f e
-  where
-    told_of : Option JoinStep → Option ℕ → Option JoinCall
-    told_of step x = option_map (λ s. record { step = s; made = made; answered = x }) step
-
-    at : (step : Option JoinStep) → told_of step (Some now) ≡ option_map (answered_at now) (told_of step None)
-    at None = refl
-    at (Some s) = refl
+    → option_map (λ s. record { step = s; made = made; answered = after }) step ≡ newest_told (is_some step) now kept
+unfolding call_with
+newest_with None made before after now kept none some e = e
+newest_with (Some s) made before after now kept none some e =
+    ap (call_with (Some s) made) some ∙ ap (λ x. option_map (answered_at now) (call_with (Some s) made x)) (sym none) ∙ ap (option_map (answered_at now)) e
 
 free_alike : (b : Bool) (x y : Submitted) (r : Option Submitted) → is_some (cond b (Some x) r) ≡ is_some (cond b (Some y) r)
 free_alike true x y r = refl

@@ -133,13 +133,17 @@ after_call p d now o =
       freed = is_free_purpose p || o.freed;
     }
 
+-- The newest call after an answer at this reading, to a step of the joining or to another call.
+abbrev pub newest_told : Bool → ℕ → Option JoinCall → Option JoinCall
+newest_told joins now newest = cond joins (option_map (answered_at now) newest) newest
+
 -- What a joining keeps after an answer at this reading to a call for this purpose.
 abbrev pub joining_told : Purpose → Answer → ℕ → JoinState → JoinState
 joining_told p a now j =
     record j {
       watched = cond (is_join_call FirstRead p) (bytes_given a) j.watched;
       since = cond (is_join_call FirstRead p) (Some now) j.since;
-      newest = option_map (answered_at now) j.newest;
+      newest = newest_told (is_some (join_step_of p)) now j.newest;
     }
 
 -- An answer to a call of the session; of its calls on delta sectors one is unanswered at a time.
@@ -147,10 +151,10 @@ abbrev pub after_answer : Purpose → Answer → ℕ → OwnState → OwnState
 after_answer p a now o = record o { joining = joining_told p a now o.joining; busy = not (is_delta_purpose p) && o.busy }
 
 -- What each answer changes.
-abbrev pub heard : ℕ → Bool → OwnState → OwnState
-heard now on_delta o =
+abbrev pub heard : ℕ → Bool → Bool → OwnState → OwnState
+heard now on_delta joins o =
     let j : JoinState = o.joining in
-    record o { joining = record j { newest = option_map (answered_at now) j.newest }; busy = not on_delta && o.busy }
+    record o { joining = record j { newest = newest_told joins now j.newest }; busy = not on_delta && o.busy }
 
 -- The definitions' answer.
 abbrev pub answer_in : SectorAnswer → Answer

@@ -1,6 +1,6 @@
 //! What a session keeps of its calls on its id's sector.
 
-ghost use Rattle.sl_delta.specs.Own.{HasMoments, IsMade, IsOwnRecord, IsTold, OwnStands, after_answer, after_call, answer_in, heard, newest_made, without_calls};
+ghost use Rattle.sl_delta.specs.Own.{HasMoments, IsMade, IsOwnRecord, IsTold, OwnStands, after_answer, after_call, answer_in, heard, newest_made, newest_told, without_calls};
 ghost use Rattle.sl_host_state.specs.Hears.{answered_at};
 ghost use Rattle.sl_sector.specs.Records.{Fits};
 ghost use Rattle.sl_sessions.specs.Sessions.{given_number, is_join_call};
@@ -192,7 +192,7 @@ impl OwnSector {
     {
         self.watched = sector_in(answer);
         self.since = Some(now);
-        self.heard(now, true);
+        self.heard(now, true, true);
     }
 
     /// Another call of the session than a joining's first read was answered.
@@ -212,15 +212,15 @@ impl OwnSector {
         requires later { is_join_call FirstRead purpose.now ≡ false }
         ensures { (a : Answer) → self.new ≡ after_answer purpose.now a now self.old }
     {
-        self.heard(now, is_delta(purpose));
+        self.heard(now, is_delta(purpose), join_step_of(purpose).is_some());
     }
 
     /// What each answer changes.
-    fn heard(&mut self, now: u64, on_delta: bool)
+    fn heard(&mut self, now: u64, on_delta: bool, joins: bool)
         requires { now < moments }
-        ensures { self.new ≡ heard now on_delta self.old }
+        ensures { self.new ≡ heard now on_delta joins self.old }
     {
-        self.newest = answered_at(now, self.newest);
+        self.newest = newest_told(joins, now, self.newest);
         self.busy = !on_delta && self.busy;
     }
 }
@@ -279,6 +279,18 @@ fn answered_at(now: u64, newest: Option<JoinCall>) -> Option<JoinCall>
             answered: call.answered.or(Some(now)),
         }),
         None => None,
+    }
+}
+
+/// The newest call after an answer, to a step of the joining or to another call.
+fn newest_told(joins: bool, now: u64, newest: Option<JoinCall>) -> Option<JoinCall>
+    ensures exact { result ≡ newest_told joins now newest }
+    ensures bounds { now < moments → IfSome newest HasMoments → IfSome result HasMoments }
+{
+    if joins {
+        answered_at(now, newest)
+    } else {
+        newest
     }
 }
 
