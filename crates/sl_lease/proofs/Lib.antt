@@ -4,3 +4,4 @@ pub mod ToldLaws
 pub mod RecordFacts
 pub mod NextLaws
 pub mod KnownLaws
+pub mod SameLaws

@@ -3,3 +3,4 @@ pub mod Steps
 pub mod Side
 pub mod Changes
 pub mod Asked
+pub mod Laws

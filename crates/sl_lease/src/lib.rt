@@ -6,6 +6,7 @@ mod area;
 mod ballots;
 mod changes;
 mod evidence;
+pub mod laws;
 mod lease;
 mod next;
 mod owed;
