@@ -5,3 +5,4 @@ pub mod RecordFacts
 pub mod NextLaws
 pub mod KnownLaws
 pub mod SameLaws
+pub mod ReadLaws

@@ -16,7 +16,7 @@ use Rattle.sl_leases.specs.declared.lease.LeaseNext.{LeaseNext}
 use Rattle.sl_sector.specs.declared.sector.Block.{Block}
 use Rattle.sl_sector.specs.declared.sector.Owner.{Owner}
 use Rattle.sl_words.specs.Words.{greatest, present}
-use Rattle.std.proofs.Common.{Bool, List, None, Option, Some, [], ap, arith, cond, eq-eqb, false, filter, if◌then◌else◌, map, max, refl, sym, true, ℕ, ◌==◌, ◌∙◌, ◌∷◌, ◌≡◌}
+use Rattle.std.proofs.Common.{Bool, List, None, Option, Some, [], ap, arith, cond, eq-eqb, false, if◌then◌else◌, map, max, refl, sym, true, ℕ, ◌==◌, ◌∙◌, ◌∷◌, ◌≡◌}
 
 -- The block of phase 1 is of its instance.
 pub lver-phase1_block : (self : Owner) (hosts n : ℕ) (shared : Bool) (mode_gen : ℕ) (own : Block) (seen : List Block) → (phase1_block self hosts n shared mode_gen own seen).lver ≡ n
@@ -59,16 +59,16 @@ begun_alike : (self : Owner) (hosts n : ℕ) (shared : Bool) (g : ℕ) (own : Bl
 unfolding phase1_block numbers
 begun_alike self hosts n shared g own seen t e =
     let made : ℕ → Block = λ top.
-        record {
-          host = self.id;
-          shared = shared;
-          lver = n;
-          mbal = number_above hosts self.id top;
-          bal = if own.lver == n then own.bal else 0;
-          inp_gen = if own.lver == n then own.inp_gen else 0;
-          mode_gen = g;
-          inp = if own.lver == n then own.inp else 0;
-        } in
+    record {
+      host = self.id;
+      shared = shared;
+      lver = n;
+      mbal = number_above hosts self.id top;
+      bal = if own.lver == n then own.bal else 0;
+      inp_gen = if own.lver == n then own.inp_gen else 0;
+      mode_gen = g;
+      inp = if own.lver == n then own.inp else 0;
+    } in
     ap made (numbers_in n own seen t e)
 
 same_top : (t u : TopNumber) → Some t ≡ Some u → t ≡ u

@@ -26,7 +26,7 @@ use Rattle.sl_trace.specs.declared.effects.Purpose.TheVariants.{Lease}
 use Rattle.sl_trace.specs.declared.effects.Work.{Work}
 use Rattle.sl_trace.specs.declared.input.Answer.TheVariants.{Failed, Read, Written}
 use Rattle.sl_words.specs.Words.{choose, some_is}
-use Rattle.std.proofs.Common.{Bool, List, None, Option, Some, ap, ap₂, arith, cond, false, max, not, option_and_then, option_map, refl, sym, true, unwrap_or, ℕ, ◌&&◌, ◌==◌, ◌∙◌, ◌≡◌}
+use Rattle.std.proofs.Common.{Bool, List, None, Option, Some, ap, ap₂, arith, cond, false, max, not, option_and_then, option_map, refl, true, unwrap_or, ℕ, ◌&&◌, ◌==◌, ◌∙◌, ◌≡◌}
 
 -- ---- calls
 
@@ -42,6 +42,7 @@ writes_block m work step b l = ap (λ f. with_freed m work step b l f) (none_fre
   where
     with_freed : Submitted → Work → LeaseStep → Block → LeaseState → ℕ → LeaseState
     with_freed m work step b l f = let x : LeaseState = lease_calling (at_step m work step (WriteRecord (BlockIs b))) l in record x { freed = f }
+
     by : (m : Submitted) (work : Work) (step : LeaseStep) (b : Block) (l : LeaseState) → with_freed m work step b l l.freed ≡ after_block m.call.number work step b l
     by m work (ReadArea name) b l = refl
     by m work ReadBeforeFree b l = refl
@@ -172,7 +173,6 @@ failed z heeded c w l =
     ∙ ap (λ x. quiet_with l l.name l.ballot x won) (and_true l.shown)
     ∙ ap (λ x. quiet_with l l.name l.ballot l.shown x)
     (won_quiet heeded z.me w.step l.own stop (λ n. settles_at (layout_in z) z.me w.step w.frees n Failed) l.won (no_stop l.own) ∙ won_kept (layout_in z) z.me w.step w.frees l.won)
-
 
 -- A read at a step that reads nothing changes nothing.
 aside : (z : Side) (heeded : Bool) (step : LeaseStep) (l : LeaseState)

@@ -18,7 +18,7 @@ pub read_told_is : (z : Side) (heeded : Bool) (step : LeaseStep) (d : Option Lea
     → record l { top = top; name = name; ballot = ballot; won = won; waiting = None } ≡ read_told z heeded step d read l
 read_told_is z heeded step d read l stop top name ballot won es et en eb ew =
     let made : Option TopNumber → List ℕ → Option ℕ → Option ℕ → LeaseState =
-        λ t n b w. record l { top = t; name = n; ballot = b; won = w; waiting = None } in
+    λ t n b w. record l { top = t; name = n; ballot = b; won = w; waiting = None } in
     let told : Option (Option Stop) = stop_told l.own step read in
     ap (λ t. made t name ballot won) et ∙ ap (λ n. made (top_told step l.own read l.top) n ballot won) en
     ∙ ap (λ b. made (top_told step l.own read l.top) (name_told z step d l.name) b won) (eb ∙ ap (λ s. cond (heeded && concludes_at step s) None l.ballot) es)

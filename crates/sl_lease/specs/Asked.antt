@@ -4,7 +4,6 @@ use Rattle.sl_area.specs.Places.{area_blocks, blocks_in, leader_of}
 use Rattle.sl_host_state.specs.Kept.{LeaseState}
 use Rattle.sl_host_state.specs.Stands.{top_mbal}
 use Rattle.sl_host_state.specs.declared.kept.TopNumber.{TopNumber}
-use Rattle.sl_lease.specs.Side.{place_of}
 use Rattle.sl_lease.specs.declared.evidence.Held.{Held}
 use Rattle.sl_lease.specs.declared.side.Side.{Side}
 use Rattle.sl_leases.specs.Ballots.{ballot_blocks, moded_block, phase1_block, phase2_block, stop_of}

@@ -1,18 +1,16 @@
 -- What is kept of a lease is what a host keeps of it.
-use Rattle.sl_area.specs.Layouts.{Layout}
 use Rattle.sl_host_state.specs.Hears.{lease_hearing}
 use Rattle.sl_host_state.specs.Kept.{LeaseState}
-use Rattle.sl_host_state.specs.Makes.{lease_calling, value_calling}
+use Rattle.sl_host_state.specs.Makes.{lease_calling}
 use Rattle.sl_host_state.specs.declared.kept.LeaseCall.{LeaseCall}
 use Rattle.sl_host_state.specs.declared.kept.OpenCall.{OpenCall}
 use Rattle.sl_lease.specs.Asked.{leader_given, read_given}
 use Rattle.sl_lease.specs.Changes.{after_block, after_failure, after_leader, after_reading, read_told, write_told}
 use Rattle.sl_lease.specs.Side.{layout_in}
-use Rattle.sl_lease.specs.Steps.{is_block_step}
 use Rattle.sl_lease.specs.declared.side.Side.{Side}
 use Rattle.sl_sector.specs.declared.sector.Block.{Block}
 use Rattle.sl_sector.specs.declared.sector.Leader.{Leader}
-use Rattle.sl_sector.specs.declared.sector.Rec.TheVariants.{BlockIs, LeaderIs, ValueIs}
+use Rattle.sl_sector.specs.declared.sector.Rec.TheVariants.{BlockIs, LeaderIs}
 use Rattle.sl_trace.specs.Traces.{Submitted}
 use Rattle.sl_trace.specs.declared.effects.Call.{Call}
 use Rattle.sl_trace.specs.declared.effects.LeaseStep.{LeaseStep}
@@ -21,7 +19,7 @@ use Rattle.sl_trace.specs.declared.effects.Op.{Op}
 use Rattle.sl_trace.specs.declared.effects.Purpose.TheVariants.{Lease}
 use Rattle.sl_trace.specs.declared.effects.Work.{Work}
 use Rattle.sl_trace.specs.declared.input.Answer.TheVariants.{Failed, Read, Written}
-use Rattle.std.specs.Prelude.{Bool, List, None, Option, false, true, ℕ, ◌≡◌}
+use Rattle.std.specs.Prelude.{Bool, List, None, false, ℕ, ◌≡◌}
 
 -- This call, at a step of a lease's work, that does this.
 abbrev pub at_step : Submitted → Work → LeaseStep → Op → Submitted

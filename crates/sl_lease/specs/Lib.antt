@@ -4,3 +4,4 @@ pub mod Side
 pub mod Changes
 pub mod Asked
 pub mod Laws
+pub mod Reads

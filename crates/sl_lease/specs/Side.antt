@@ -1,7 +1,6 @@
 -- For whom a lease is kept, and what is known of it beside what it keeps.
 use Rattle.sl_area.specs.Layouts.{Layout, layout_of}
 use Rattle.sl_host_state.specs.Kept.{LeaseState}
-use Rattle.sl_lease.specs.Bounds.{IsSession}
 use Rattle.sl_lease.specs.declared.evidence.Held.{Held}
 use Rattle.sl_lease.specs.declared.side.Side.{Side}
 use Rattle.sl_leases.specs.LeaseWork.{LeasePlace}

@@ -44,14 +44,7 @@ impl Lease {
         self.top = top_told(step, &self.own, blocks, self.top);
         self.name = name_told(side, step, leader, self.name);
         self.won = won_told(
-            side.me,
-            heeded,
-            step,
-            &self.own,
-            &stop,
-            leader,
-            blocks,
-            self.won,
+            side.me, heeded, step, &self.own, &stop, leader, blocks, self.won,
         );
         self.ballot = ballot_told(heeded, step, &stop, self.ballot);
         self.waiting = None;

@@ -60,11 +60,7 @@ fn is_shared_by_other<E: Evidence>(id: u32, evidence: &E, block: &Block) -> bool
 }
 
 /// The first block read that shows another's shared mode.
-fn shared_elsewhere<E: Evidence>(
-    id: u32,
-    evidence: &E,
-    read: &[Option<Block>],
-) -> Option<Block>
+fn shared_elsewhere<E: Evidence>(id: u32, evidence: &E, read: &[Option<Block>]) -> Option<Block>
     ensures { result ≡ find (is_shared_beside id (E.over evidence.now)) (present read.now) }
 {
     read.iter()
@@ -105,13 +101,7 @@ fn phase2(side: &Side, held: Held, own: &Block, read: &[Option<Block>]) -> Lease
 
 impl Lease {
     /// The leader is written, once the resource's name is known.
-    pub(crate) fn write_leader(
-        &self,
-        side: &Side,
-        step: LeaseStep,
-        held: bool,
-        n: u64,
-    ) -> LeaseNext
+    pub(crate) fn write_leader(&self, side: &Side, step: LeaseStep, held: bool, n: u64) -> LeaseNext
         requires { IsSession side.now.geometry side.now.me }
         ensures exact { IsTrue (is_named self.now) → result ≡ WriteLeader step (leader_named side.now self.now.name held n) }
         ensures fit { IsInstance n → IsTrue (is_leader_step step) → IsFitNext result }

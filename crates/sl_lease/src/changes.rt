@@ -365,13 +365,7 @@ pub(crate) fn won_written(frees: Option<u64>, before: Option<u64>) -> Option<u64
     ensures bounds { IfSome before IsInstance → IfSome result IsInstance }
 {
     match (before, frees) {
-        (Some(n), Some(freed)) => {
-            if freed == n {
-                None
-            } else {
-                Some(n)
-            }
-        }
+        (Some(n), Some(freed)) => { if freed == n { None } else { Some(n) } }
         (Some(n), None) => Some(n),
         (None, _) => None,
     }

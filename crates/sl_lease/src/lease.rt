@@ -1,5 +1,18 @@
 //! What a session keeps of its work on one resource's lease.
-
+//!
+//! Everything that is asked of a lease is a function of the calls that worked on it and of their answers. A lease keeps what these
+//! questions come to in place of the calls. It stands for each list of calls that led to it (`LeaseStands`), each part being the answer to
+//! one question:
+//!
+//! - own: the block submitted last, answered or not, since a call that failed may still have been done.
+//! - top: the greatest number that the blocks read last showed in the own block's instance. A ballot that is run again must go above it.
+//! - name: the resource's name, once a leader has shown it. Before, a lease could write over the area of another resource.
+//! - freed: the greatest instance of which a free was submitted. The session never holds again under one of these.
+//! - ballot: the instance of the open ballot: its phase 2 was submitted and nothing has concluded it. Another host may end it.
+//! - shown: whether the shared mode may stand in the own block. It counts as gone only once its clearing is answered.
+//! - won: the instance won last whose free isn't known to be done. Unless it is held, it keeps everybody away.
+//! - waiting: the newest call, while it has no answer; no other has none. Two writes of the own block could land in the other order.
+//! - value: version and seq of the value submitted last on the area.
 ghost use Rattle.sl_host_state.specs.Kept.{LeaseState};
 ghost use Rattle.sl_host_state.specs.Makes.{new_lease};
 ghost use Rattle.sl_lease.specs.Bounds.{IsBegun};
@@ -123,11 +136,7 @@ impl Lease {
             number,
             work,
             step,
-            frees: if leader.held {
-                None
-            } else {
-                Some(leader.lver)
-            },
+            frees: if leader.held { None } else { Some(leader.lver) },
             clears: false,
         });
     }

@@ -286,14 +286,7 @@ impl Lease {
     }
 
     /// The same, by what is kept of the lease.
-    fn write_next(
-        &self,
-        side: &Side,
-        held: Held,
-        aim: Aim,
-        n: u64,
-        step: LeaseStep,
-    ) -> LeaseNext
+    fn write_next(&self, side: &Side, held: Held, aim: Aim, n: u64, step: LeaseStep) -> LeaseNext
         requires { IsSession side.now.geometry side.now.me }
         ensures exact { IsTrue (is_first_step step || is_named self.now) → (over : ℕ → ℕ → Bool) (read : List (Option Block)) → TopStands self.now read
             → result ≡ after_write (place_of side.now) (known_with side.now self.now held over read) aim n step }

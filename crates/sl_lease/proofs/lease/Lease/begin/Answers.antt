@@ -15,7 +15,7 @@ returns-in-Some-clause-exact c = λ over.
     (c.phase1_next.ensures.exact _ (lver-phase1_block _ _ _ _ _ _ _) (search rules))
 
 pub returns-in-Some-clause-fit : goal.returns-in-Some-clause-fit
-returns-in-Some-clause-fit c = λ one. 
+returns-in-Some-clause-fit c = λ one.
     c.phase1_next.ensures.fit _ (lver-phase1_block _ _ _ _ _ _ _) c.phase1_after_read.ensures
     (λ fits.
     let block : c.phase1_after_read.result

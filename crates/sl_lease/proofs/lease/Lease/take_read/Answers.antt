@@ -1,4 +1,3 @@
-use Rattle.sl_host_state.specs.Kept.{LeaseState}
 use Rattle.sl_host_state.specs.Stands.{no_pair}
 use Rattle.sl_lease.proofs.ToldLaws.{read_told_is}
 use Rattle.sl_lease.proofs.lease.Lease.take_read.Goals as goal
