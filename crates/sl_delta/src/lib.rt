@@ -36,12 +36,16 @@
 mod answer;
 mod joining;
 pub mod laws;
+mod lease;
 mod numbers;
 mod own;
 mod purposes;
 mod reads;
 mod renewing;
+mod steps;
 
 pub use answer::SectorAnswer;
+pub use lease::{DeltaLease, OpenDelta, Standing};
 pub use own::OwnSector;
 pub use renewing::{after_free, after_renewal};
+pub use steps::{DeltaCall, DeltaIn, DeltaOut, Outcome};

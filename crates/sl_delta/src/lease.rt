@@ -1,0 +1,341 @@
+//! A delta lease by itself: it makes its calls, and is told what comes.
+//!
+//! A joining that has made no call reads its sector at the next wake; then it goes the way of its stages. Recovery begins by time at the
+//! head of a step, or by a read of all ids that shows another in the session's place; from then on nothing is written and the connection
+//! stands still. What else ends a session, what is held and which jobs wait, its daemon knows and the lease doesn't.
+
+ghost use Rattle.sl_delta.specs.Decides.{IsFitNext};
+ghost use Rattle.sl_delta.specs.Own.{IsOwnRecord, without_calls};
+ghost use Rattle.sl_delta.specs.Steps.{HasMoment, call_in, called_with, carried, given_by, joined_lease, last_after, last_told, move_in, new_lease, outcome_in, purpose_of, record_in_call, registered_after, standing_after};
+ghost use Rattle.sl_delta.specs.declared.lease.Standing.TheVariants.{Holds};
+ghost use Rattle.sl_text.specs.Names.{is_name};
+ghost use Rattle.sl_trace.specs.declared.effects.Move.TheVariants.{Unregister};
+ghost use Rattle.sl_words.specs.Words.{choose};
+ghost use Rattle.sl_words.specs.Bounds.{moments};
+ghost use Rattle.std.specs.Prelude.{IfSome, IsTrue, ◌<◌, ◌≡◌, ◌≤◌};
+
+use crate::own::OwnSector;
+use crate::steps::{DeltaCall, DeltaIn, DeltaOut, Outcome};
+use sl_area::Geometry;
+use sl_sector::DeltaRec;
+use sl_sessions::{DeltaNext, Stage};
+use sl_text::Name;
+use sl_time::Timing;
+use sl_trace::{JoinStep, Move, Purpose};
+use std::marker::Model;
+
+/// How a session stands.
+#[derive(Clone, Copy, Debug, PartialEq, Eq)]
+pub enum Standing {
+    /// It joins.
+    Joins,
+    /// It is joined.
+    Holds,
+    /// Its joining was refused.
+    Declined,
+    /// It has left.
+    Gone,
+}
+
+/// A call without an answer: its purpose, and the reading of its submission.
+#[derive(Clone, Copy)]
+pub struct OpenDelta {
+    pub purpose: Purpose,
+    pub made: u64,
+}
+
+/// A session's lease on an id.
+#[derive(Drop)]
+pub struct DeltaLease {
+    own: OwnSector,
+    standing: Standing,
+    last: u64,
+    recovering: bool,
+    registered: bool,
+    waits: Option<OpenDelta>,
+}
+
+impl Model for DeltaLease {
+    ghost use Rattle.sl_delta.specs.Steps.{LeaseState};
+    ghost use Rattle.sl_delta.specs.Steps.{IsWithinStep};
+
+    ghost Value = { LeaseState };
+
+    ghost view = { λ l. record {
+      own = l.own;
+      standing = l.standing;
+      last = l.last;
+      recovering = l.recovering;
+      registered = l.registered;
+      waits = l.waits;
+    } };
+
+    ghost invariant = { λ l. IsWithinStep l.own l.standing l.last l.waits };
+}
+
+/// The call's purpose.
+fn purpose_of(call: &DeltaCall) -> Purpose
+    ensures { result ≡ purpose_of call.now }
+{
+    match call {
+        DeltaCall::ReadOwn(step) => Purpose::Joining { job: 0, step: *step },
+        DeltaCall::WriteOwn { step, record: _ } => Purpose::Joining { job: 0, step: *step },
+        DeltaCall::RenewOwn(_) => Purpose::Renewal,
+        DeltaCall::ReadAll => Purpose::Survey,
+        DeltaCall::FreeOwn(_) => Purpose::Leaving { job: 0 },
+    }
+}
+
+/// The record that it writes.
+fn record_in(call: &DeltaCall) -> Option<DeltaRec>
+    ensures { result ≡ record_in_call call.now }
+{
+    match call {
+        DeltaCall::ReadOwn(_) => None,
+        DeltaCall::WriteOwn { step: _, record } => Some(*record),
+        DeltaCall::RenewOwn(record) => Some(*record),
+        DeltaCall::ReadAll => None,
+        DeltaCall::FreeOwn(record) => Some(*record),
+    }
+}
+
+/// The call that a decision makes.
+fn call_in(next: &DeltaNext) -> Option<DeltaCall>
+    ensures exact { result ≡ call_in next.now }
+    ensures fit { IsFitNext next.now → IfSome result (λ c. IfSome (record_in_call c) IsOwnRecord) }
+{
+    match next {
+        DeltaNext::Nothing => None,
+        DeltaNext::RefuseJoin(_) => None,
+        DeltaNext::ReadOwn(step) => Some(DeltaCall::ReadOwn(*step)),
+        DeltaNext::RegisterAndRead(step) => Some(DeltaCall::ReadOwn(*step)),
+        DeltaNext::WriteClaim(record) => Some(DeltaCall::WriteOwn {
+            step: JoinStep::ClaimWrite,
+            record: *record,
+        }),
+        DeltaNext::Disconnect => None,
+        DeltaNext::WriteFirst(record) => Some(DeltaCall::WriteOwn {
+            step: JoinStep::FirstRenewal,
+            record: *record,
+        }),
+        DeltaNext::Join {
+            generation: _,
+            renewed: _,
+        } => Some(DeltaCall::ReadAll),
+        DeltaNext::MoveConnection { renewed: _ } => Some(DeltaCall::ReadAll),
+        DeltaNext::WriteRenewal(record) => Some(DeltaCall::RenewOwn(*record)),
+        DeltaNext::WriteFree { job: _, record } => Some(DeltaCall::FreeOwn(*record)),
+        DeltaNext::EndLeaving { job: _, reply: _ } => None,
+    }
+}
+
+/// What a decision comes to.
+fn outcome_in(next: DeltaNext) -> Option<Outcome>
+    ensures { result ≡ outcome_in next }
+{
+    match next {
+        DeltaNext::RefuseJoin(reply) => Some(Outcome::NotJoined(reply)),
+        DeltaNext::Join {
+            generation,
+            renewed: _,
+        } => Some(Outcome::Joined { generation }),
+        DeltaNext::EndLeaving { job: _, reply } => Some(Outcome::Left(reply)),
+        _ => None,
+    }
+}
+
+/// How a session, whose last record has this generation, stands after a decision.
+fn standing_after(generation: u64, next: &DeltaNext, before: Standing) -> Standing
+    ensures exact { result ≡ standing_after generation next.now before }
+    ensures named { (before ≡ Holds → 1 ≤ generation) → result ≡ Holds → 1 ≤ generation }
+{
+    match next {
+        DeltaNext::RefuseJoin(_) => Standing::Declined,
+        DeltaNext::Join {
+            generation: _,
+            renewed: _,
+        } => {
+            if 0 < generation {
+                Standing::Holds
+            } else {
+                before
+            }
+        }
+        DeltaNext::EndLeaving { job: _, reply: _ } => Standing::Gone,
+        _ => before,
+    }
+}
+
+/// The last renewal after a decision.
+fn last_after(next: &DeltaNext, before: u64) -> u64
+    ensures exact { result ≡ last_after next.now before }
+    ensures bounds { before < moments → HasMoment next.now → result < moments }
+{
+    match next {
+        DeltaNext::Join {
+            generation: _,
+            renewed,
+        } => *renewed,
+        DeltaNext::MoveConnection { renewed } => *renewed,
+        _ => before,
+    }
+}
+
+/// Whether the connection stands after a decision.
+fn registered_after(next: &DeltaNext, before: bool) -> bool
+    ensures { result ≡ registered_after next.now before }
+{
+    match next {
+        DeltaNext::RefuseJoin(_) => false,
+        DeltaNext::RegisterAndRead(_) => true,
+        DeltaNext::Disconnect => false,
+        DeltaNext::Join {
+            generation: _,
+            renewed: _,
+        } => true,
+        DeltaNext::EndLeaving { job: _, reply: _ } => false,
+        _ => before,
+    }
+}
+
+impl DeltaLease {
+    /// The lease of a session that joins: on this id, 1 to the run's number of hosts, of this lockspace, for the daemon of this name.
+    pub fn start(
+        timing: &Timing,
+        geometry: &Geometry,
+        lockspace: Name,
+        id: u32,
+        host: Name,
+    ) -> DeltaLease
+        requires id { (1 ≤ id) × (id ≤ geometry.now.hosts) }
+        requires named { IsTrue (is_name host) × IsTrue (is_name lockspace) }
+        ensures { result ≡ new_lease (without_calls timing.now geometry.now host lockspace id 0 0) }
+    {
+        DeltaLease {
+            own: OwnSector::new(timing, geometry, host, lockspace, id),
+            standing: Standing::Joins,
+            last: 0,
+            recovering: false,
+            registered: false,
+            waits: None,
+        }
+    }
+
+    /// The lease of a session that its daemon begins with: joined under generation 1, by a renewal submitted at the reading `renewed`.
+    pub fn joined(
+        timing: &Timing,
+        geometry: &Geometry,
+        lockspace: Name,
+        id: u32,
+        host: Name,
+        renewed: u64,
+    ) -> DeltaLease
+        requires id { (1 ≤ id) × (id ≤ geometry.now.hosts) }
+        requires named { IsTrue (is_name host) × IsTrue (is_name lockspace) }
+        requires moment { renewed < moments }
+        ensures { result ≡ joined_lease (without_calls timing.now geometry.now host lockspace id 1 renewed) renewed }
+    {
+        DeltaLease {
+            own: OwnSector::given(timing, geometry, host, lockspace, id, renewed),
+            standing: Standing::Holds,
+            last: renewed,
+            recovering: false,
+            registered: true,
+            waits: None,
+        }
+    }
+
+    /// The submission reading of the last renewal that was answered ok outside recovery; None exactly before it is joined, and after its
+    /// end.
+    pub fn last_renewal(&self) -> Option<u64>
+        ensures { result ≡ last_told self.now }
+    {
+        match self.standing {
+            Standing::Joins => None,
+            Standing::Holds => Some(self.last),
+            Standing::Declined => None,
+            Standing::Gone => None,
+        }
+    }
+
+    /// The move of its connection by a decision.
+    fn move_in(&self, now: u64, next: &DeltaNext) -> Option<Move>
+        requires moment { now < moments }
+        requires renewed { HasMoment next.now }
+        ensures { result ≡ move_in now self.now next.now }
+    {
+        match next {
+            DeltaNext::RefuseJoin(_) => self.unregistering(),
+            DeltaNext::RegisterAndRead(_) => Some(Move::Register {
+                lockspace: self.own.lockspace,
+                expiry: now + self.own.timing.fail(),
+            }),
+            DeltaNext::Disconnect => Some(Move::Unregister {
+                lockspace: self.own.lockspace,
+            }),
+            DeltaNext::Join {
+                generation: _,
+                renewed,
+            } => Some(Move::Renew {
+                lockspace: self.own.lockspace,
+                expiry: *renewed + self.own.timing.fail(),
+            }),
+            DeltaNext::MoveConnection { renewed } => Some(Move::Renew {
+                lockspace: self.own.lockspace,
+                expiry: *renewed + self.own.timing.fail(),
+            }),
+            DeltaNext::EndLeaving { job: _, reply: _ } => Some(Move::Unregister {
+                lockspace: self.own.lockspace,
+            }),
+            _ => None,
+        }
+    }
+
+    /// The removal of its connection, if that stands.
+    fn unregistering(&self) -> Option<Move>
+        ensures { result ≡ choose self.now.registered (Unregister self.now.own.lockspace) }
+    {
+        if self.registered {
+            Some(Move::Unregister {
+                lockspace: self.own.lockspace,
+            })
+        } else {
+            None
+        }
+    }
+
+    /// A call is submitted.
+    fn call(&mut self, now: u64, call: &Option<DeltaCall>)
+        requires moment { now < moments }
+        requires fit { IfSome call.now (λ c. IfSome (record_in_call c) IsOwnRecord) }
+        ensures { self.new ≡ called_with now call.now self.old }
+    {
+        if let Some(call) = call {
+            let purpose = purpose_of(call);
+            self.own.called(now, &purpose, &record_in(call));
+            self.waits = Some(OpenDelta { purpose, made: now });
+        }
+    }
+
+    /// A decision is done: this is what it gives.
+    fn carry(&mut self, now: u64, next: DeltaNext) -> DeltaOut
+        requires moment { now < moments }
+        requires renewed { HasMoment next }
+        requires fit { IsFitNext next }
+        ensures state { self.new ≡ carried now next self.old }
+        ensures out { result ≡ given_by now next self.old }
+    {
+        let moved = self.move_in(now, &next);
+        let call = call_in(&next);
+        self.standing = standing_after(self.own.generation, &next, self.standing);
+        self.last = last_after(&next, self.last);
+        self.registered = registered_after(&next, self.registered);
+        self.call(now, &call);
+        DeltaOut {
+            recovers: false,
+            moved,
+            call,
+            outcome: outcome_in(next),
+        }
+    }
+}
