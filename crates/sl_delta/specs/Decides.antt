@@ -8,7 +8,7 @@ use Rattle.sl_sector.specs.declared.sector.DeltaState.TheVariants.{Live}
 use Rattle.sl_sector.specs.declared.sector.Rec.TheVariants.{DeltaIs}
 use Rattle.sl_sessions.specs.Deltas.{claim_on, delta_record, id_lost, next_after_first, where_watched}
 use Rattle.sl_sessions.specs.Watching.{is_free_state}
-use Rattle.sl_sessions.specs.declared.delta.DeltaNext.TheVariants.{Disconnect, Join, Nothing, ReadOwn, RefuseJoin, RegisterAndRead, WriteClaim, WriteFirst, WriteFree, WriteRenewal}
+use Rattle.sl_sessions.specs.declared.delta.DeltaNext.TheVariants.{Disconnect, Join, MoveConnection, Nothing, ReadOwn, RefuseJoin, RegisterAndRead, WriteClaim, WriteFirst, WriteFree, WriteRenewal}
 use Rattle.sl_sessions.specs.declared.delta.DeltaNext.{DeltaNext}
 use Rattle.sl_time.specs.Times.{TimingNumbers, dead, join_max, renew, take_over}
 use Rattle.sl_trace.specs.declared.effects.JoinStep.TheVariants.{ClaimWrite, DecidingRead, FirstRead, FirstRenewal, VerifyRead, WatchRead}
@@ -17,9 +17,9 @@ use Rattle.sl_trace.specs.declared.input.Answer.TheVariants.{Failed, Read, Writt
 use Rattle.sl_trace.specs.declared.input.Answer.{Answer}
 use Rattle.sl_trace.specs.declared.reply.Limited.TheVariants.{Seq as SeqLimit}
 use Rattle.sl_trace.specs.declared.reply.Reply.TheVariants.{IdLate, IoFault, Limit as LimitReached, WrongDelta}
-use Rattle.sl_words.specs.Bounds.{is_number}
+use Rattle.sl_words.specs.Bounds.{is_number, moments}
 use Rattle.sl_words.specs.Words.{some_is}
-use Rattle.std.specs.Prelude.{Bool, List, None, Option, Some, bytes_eq, false, nat_le, nat_lt, true, unwrap_or, [], ℕ, ◌&&◌, ◌+◌, ◌==◌}
+use Rattle.std.specs.Prelude.{Bool, List, None, Option, Some, bytes_eq, false, nat_le, nat_lt, true, unwrap_or, [], ℕ, ◌&&◌, ◌+◌, ◌<◌, ◌==◌}
 
 -- After the first read, where it spells this record.
 abbrev pub first_spelled : List ℕ → ℕ → DeltaRec → DeltaNext
@@ -122,10 +122,12 @@ abbrev pub on_wake : OwnState → ℕ → DeltaNext
 on_wake o now =
     elim o.joining.newest [ None ↦ Nothing | Some n ↦ elim n.answered [ None ↦ Nothing | Some at ↦ time_next o.timing now n.made at n.step ] ]
 
--- What is written is a record.
+-- What is written is a record, and a renewal that counts was submitted at a moment.
 abbrev pub IsFitNext : DeltaNext → Type 0
 IsFitNext (WriteClaim d) = IsOwnRecord d
 IsFitNext (WriteFirst d) = IsOwnRecord d
 IsFitNext (WriteRenewal d) = IsOwnRecord d
 IsFitNext (WriteFree j d) = IsOwnRecord d
+IsFitNext (Join generation renewed) = renewed < moments
+IsFitNext (MoveConnection renewed) = renewed < moments
 IsFitNext n = Unit {0}

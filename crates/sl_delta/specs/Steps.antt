@@ -128,12 +128,6 @@ waits_with now (Some c) before = Some (record { purpose = purpose_of c; made = n
 abbrev pub called_with : ℕ → Option DeltaCall → LeaseState → LeaseState
 called_with now c l = record l { own = own_with now c l.own; waits = waits_with now c l.waits }
 
--- The reading that a decision carries is a moment.
-abbrev pub HasMoment : DeltaNext → Type 0
-HasMoment (Join generation renewed) = renewed < moments
-HasMoment (MoveConnection renewed) = renewed < moments
-HasMoment n = Unit {0}
-
 -- What is kept is within bounds; a joined session has a generation.
 pub record IsWithinStep (own : OwnState) (standing : Standing) (last : ℕ) (waits : Option OpenDelta) : Type 0 where
   pub named : standing ≡ Holds → 1 ≤ own.generation
@@ -166,18 +160,26 @@ is_late now l = elim l.standing [ Holds ↦ not l.recovering && nat_le (l.last +
 abbrev pub begun : ℕ → LeaseState → LeaseState
 begun now l = record l { recovering = is_late now l || l.recovering }
 
+-- Of a joining.
+abbrev pub joining_wake : ℕ → OwnState → DeltaNext
+joining_wake now o = elim o.joining.newest [ None ↦ ReadOwn FirstRead | Some n ↦ on_wake o now ]
+
 -- What a wake makes due: the first read of all, what a joining's time has come for, or a renewal with these bits.
 abbrev pub wake_next : ℕ → List ℕ → LeaseState → DeltaNext
 wake_next now bits l =
     elim l.standing [
-      | Joins ↦ elim l.own.joining.newest [ None ↦ ReadOwn FirstRead | Some n ↦ on_wake l.own now ]
+      | Joins ↦ joining_wake now l.own
       | Holds ↦ next_renewal (lease_of l.own) now (known_with l.own l.recovering None) bits
       | _ ↦ Nothing
     ]
 
+-- What an answer at this step of a joining makes due.
+abbrev pub join_next : ℕ → ℕ → JoinStep → ℕ → Answer → LeaseState → DeltaNext
+join_next now call step made a l = elim l.standing [ Joins ↦ after_join l.own now call made step a | _ ↦ Nothing ]
+
 -- What an answer makes due, to the call of this number, for this purpose, submitted at this reading.
 abbrev pub answer_next : ℕ → ℕ → Purpose → ℕ → Answer → LeaseState → DeltaNext
-answer_next now call (Joining j step) made a l = elim l.standing [ Joins ↦ after_join l.own now call made step a | _ ↦ Nothing ]
+answer_next now call (Joining j step) made a l = join_next now call step made a l
 answer_next now call Renewal made a l = next_after_renewal l.recovering made a
 answer_next now call (Leaving j) made a l = next_after_free 0 call a
 answer_next now call p made a l = Nothing
@@ -313,12 +315,16 @@ last_told l = elim l.standing [ Holds ↦ Some l.last | _ ↦ None ]
 abbrev pub stage_joining : OwnState → Stage
 stage_joining o = elim o.joining.newest [ None ↦ Looking | Some n ↦ stage_after n.step (is_some n.answered) ]
 
+-- That of a joined session.
+abbrev pub stage_holding : OwnState → Stage
+stage_holding o = elim o.freed [ true ↦ Freeing | false ↦ Stands ]
+
 -- The stage.
 abbrev pub stage_told : LeaseState → Stage
 stage_told l =
     elim l.standing [
       | Joins ↦ stage_joining l.own
-      | Holds ↦ elim l.own.freed [ true ↦ Freeing | false ↦ Stands ]
+      | Holds ↦ stage_holding l.own
       | Declined ↦ RefusedStage
       | Gone ↦ EndedStage
     ]

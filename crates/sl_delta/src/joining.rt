@@ -261,6 +261,7 @@ impl OwnSector {
 
     /// After a write at this step, submitted at the reading `made`.
     fn after_join_write(&self, made: u64, step: JoinStep) -> DeltaNext
+        requires { made < moments }
         ensures exact { result ≡ after_join_write self.now made step }
         ensures fit { IsFitNext result }
     {
@@ -287,7 +288,7 @@ impl OwnSector {
         step: JoinStep,
         answer: &SectorAnswer,
     ) -> DeltaNext
-        requires { now < moments }
+        requires { (now < moments) × (made < moments) }
         ensures exact { result ≡ after_join self.now now call made step (answer_in answer.now) }
         ensures fit { IsFitNext result }
     {

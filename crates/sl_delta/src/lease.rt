@@ -5,18 +5,25 @@
 //! stands still. What else ends a session, what is held and which jobs wait, its daemon knows and the lease doesn't.
 
 ghost use Rattle.sl_delta.specs.Decides.{IsFitNext};
-ghost use Rattle.sl_delta.specs.Own.{IsOwnRecord, without_calls};
-ghost use Rattle.sl_delta.specs.Steps.{HasMoment, call_in, called_with, carried, given_by, joined_lease, last_after, last_told, move_in, new_lease, outcome_in, purpose_of, record_in_call, registered_after, standing_after};
+ghost use Rattle.sl_delta.specs.Own.{IsOwnRecord, answer_in, without_calls};
+ghost use Rattle.sl_delta.specs.Steps.{answer_next, begun, call_in, called_with, carried, given_by, given_from, has_open_write, is_late, join_next, joined_lease, last_after, last_told, move_in, new_lease, outcome_in, purpose_of, record_in_call, refused_move, registered_after, stage_told, standing_after, step_from, wake_next};
 ghost use Rattle.sl_delta.specs.declared.lease.Standing.TheVariants.{Holds};
+ghost use Rattle.sl_delta.specs.declared.steps.DeltaIn.TheVariants.{Leave, Refused, Wake};
+ghost use Rattle.sl_sector.specs.Records.{Fits};
 ghost use Rattle.sl_text.specs.Names.{is_name};
 ghost use Rattle.sl_trace.specs.declared.effects.Move.TheVariants.{Unregister};
 ghost use Rattle.sl_words.specs.Words.{choose};
 ghost use Rattle.sl_words.specs.Bounds.{moments};
-ghost use Rattle.std.specs.Prelude.{IfSome, IsTrue, ◌<◌, ◌≡◌, ◌≤◌};
+ghost use Rattle.std.specs.Prelude.{IfSome, IsTrue, ℕ, ◌+◌, ◌<◌, ◌≡◌, ◌≤◌};
 
+use crate::answer::SectorAnswer;
+use crate::numbers::has_passed;
 use crate::own::OwnSector;
+use crate::purposes::writes_own;
+use crate::renewing::{after_free, after_renewal};
 use crate::steps::{DeltaCall, DeltaIn, DeltaOut, Outcome};
 use sl_area::Geometry;
+use sl_request::Bitmap;
 use sl_sector::DeltaRec;
 use sl_sessions::{DeltaNext, Stage};
 use sl_text::Name;
@@ -169,7 +176,7 @@ fn standing_after(generation: u64, next: &DeltaNext, before: Standing) -> Standi
 /// The last renewal after a decision.
 fn last_after(next: &DeltaNext, before: u64) -> u64
     ensures exact { result ≡ last_after next.now before }
-    ensures bounds { before < moments → HasMoment next.now → result < moments }
+    ensures bounds { before < moments → IsFitNext next.now → result < moments }
 {
     match next {
         DeltaNext::Join {
@@ -261,7 +268,7 @@ impl DeltaLease {
     /// The move of its connection by a decision.
     fn move_in(&self, now: u64, next: &DeltaNext) -> Option<Move>
         requires moment { now < moments }
-        requires renewed { HasMoment next.now }
+        requires renewed { IsFitNext next.now }
         ensures { result ≡ move_in now self.now next.now }
     {
         match next {
@@ -320,7 +327,6 @@ impl DeltaLease {
     /// A decision is done: this is what it gives.
     fn carry(&mut self, now: u64, next: DeltaNext) -> DeltaOut
         requires moment { now < moments }
-        requires renewed { HasMoment next }
         requires fit { IsFitNext next }
         ensures state { self.new ≡ carried now next self.old }
         ensures out { result ≡ given_by now next self.old }
@@ -336,6 +342,166 @@ impl DeltaLease {
             moved,
             call,
             outcome: outcome_in(next),
+        }
+    }
+
+    /// The stage: while it joins by its newest call, then joined, freeing, refused or gone.
+    pub fn state(&self) -> Stage
+        ensures { result ≡ stage_told self.now }
+    {
+        match self.standing {
+            Standing::Joins => self.own.stage(),
+            Standing::Holds => self.own.standing(),
+            Standing::Declined => Stage::Refused,
+            Standing::Gone => Stage::Ended,
+        }
+    }
+
+    /// Recovery begins by time, where it does.
+    fn begin(&mut self, now: u64) -> bool
+        ensures late { result ≡ is_late now self.old }
+        ensures state { self.new ≡ begun now self.old }
+    {
+        let late = self.is_late(now);
+        self.recovering = late || self.recovering;
+        late
+    }
+
+    /// Whether it does.
+    fn is_late(&self, now: u64) -> bool
+        ensures { result ≡ is_late now self.now }
+    {
+        match self.standing {
+            Standing::Holds => !self.recovering && has_passed(self.last, self.own.timing.fail(), now),
+            Standing::Joins => false,
+            Standing::Declined => false,
+            Standing::Gone => false,
+        }
+    }
+
+    /// What a wake makes due.
+    fn wake_next(&self, now: u64, bits: &Bitmap) -> DeltaNext
+        requires { now < moments }
+        ensures exact { result ≡ wake_next now bits.now self.now }
+        ensures fit { IsFitNext result }
+    {
+        match self.standing {
+            Standing::Joins => self.own.first_or_on_wake(now),
+            Standing::Holds => self.own.renewal(now, self.recovering, None, bits),
+            Standing::Declined => DeltaNext::Nothing,
+            Standing::Gone => DeltaNext::Nothing,
+        }
+    }
+
+    /// Time has passed.
+    fn wake(&mut self, now: u64, bits: &Bitmap) -> DeltaOut
+        requires { now < moments }
+        ensures state { self.new ≡ step_from now (Wake bits.now) self.old }
+        ensures out { result ≡ given_from now (Wake bits.now) self.old }
+    {
+        let next = self.wake_next(now, bits);
+        self.carry(now, next)
+    }
+
+    /// The joining's job was refused.
+    fn refuse(&mut self) -> DeltaOut
+        ensures state { (now : ℕ) → self.new ≡ step_from now Refused self.old }
+        ensures out { (now : ℕ) → result ≡ given_from now Refused self.old }
+    {
+        let moved = self.refused_move();
+        if matches!(self.standing, Standing::Joins) {
+            self.registered = self.registered && self.has_open_write();
+            self.standing = Standing::Declined;
+        }
+        DeltaOut {
+            recovers: false,
+            moved,
+            call: None,
+            outcome: None,
+        }
+    }
+
+    /// Whether a write is unanswered.
+    fn has_open_write(&self) -> bool
+        ensures { result ≡ has_open_write self.now }
+    {
+        match &self.waits {
+            Some(open) => writes_own(&open.purpose),
+            None => false,
+        }
+    }
+
+    /// The move of a joining that is refused.
+    fn refused_move(&self) -> Option<Move>
+        ensures { result ≡ refused_move self.now }
+    {
+        match self.standing {
+            Standing::Joins => {
+                if self.registered && !self.has_open_write() {
+                    Some(Move::Unregister {
+                        lockspace: self.own.lockspace,
+                    })
+                } else {
+                    None
+                }
+            }
+            Standing::Holds => None,
+            Standing::Declined => None,
+            Standing::Gone => None,
+        }
+    }
+
+    /// The free is written.
+    fn leave(&mut self, now: u64) -> DeltaOut
+        requires moment { now < moments }
+        requires left { Fits (self.old.own.seq + 1) }
+        requires named { 1 ≤ self.old.own.generation }
+        ensures state { self.new ≡ step_from now Leave self.old }
+        ensures out { result ≡ given_from now Leave self.old }
+    {
+        let next = self.own.free(now, Some(0));
+        self.carry(now, next)
+    }
+
+    /// What an answer makes due, to the call of this number, for this purpose, submitted at the reading `made`.
+    fn answer_next(
+        &self,
+        now: u64,
+        call: u64,
+        purpose: &Purpose,
+        made: u64,
+        answer: &SectorAnswer,
+    ) -> DeltaNext
+        requires { (now < moments) × (made < moments) }
+        ensures exact { result ≡ answer_next now call purpose.now made (answer_in answer.now) self.now }
+        ensures fit { IsFitNext result }
+    {
+        match purpose {
+            Purpose::Joining { job: _, step } => self.join_next(now, call, made, *step, answer),
+            Purpose::Renewal => after_renewal(self.recovering, made, answer),
+            Purpose::Leaving { job: _ } => after_free(0, call, answer),
+            _ => DeltaNext::Nothing,
+        }
+    }
+
+    /// The same at a step of the joining.
+    fn join_next(
+        &self,
+        now: u64,
+        call: u64,
+        made: u64,
+        step: JoinStep,
+        answer: &SectorAnswer,
+    ) -> DeltaNext
+        requires { (now < moments) × (made < moments) }
+        ensures exact { result ≡ join_next now call step made (answer_in answer.now) self.now }
+        ensures fit { IsFitNext result }
+    {
+        match self.standing {
+            Standing::Joins => self.own.after_join(now, call, made, step, answer),
+            Standing::Holds => DeltaNext::Nothing,
+            Standing::Declined => DeltaNext::Nothing,
+            Standing::Gone => DeltaNext::Nothing,
         }
     }
 }

@@ -42,6 +42,7 @@ mod own;
 mod purposes;
 mod reads;
 mod renewing;
+mod stages;
 mod steps;
 
 pub use answer::SectorAnswer;

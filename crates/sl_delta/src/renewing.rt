@@ -94,6 +94,7 @@ impl OwnSector {
 
 /// After the answer of a renewal submitted at the reading `made`: in recovery neither the connection moves nor are ids read.
 pub fn after_renewal(recovering: bool, made: u64, answer: &SectorAnswer) -> DeltaNext
+    requires { made < moments }
     ensures exact { result ≡ next_after_renewal recovering made (answer_in answer.now) }
     ensures fit { IsFitNext result }
 {
