@@ -13,9 +13,10 @@ use Rattle.sl_delta.specs.declared.steps.DeltaOut.{DeltaOut}
 use Rattle.sl_delta.specs.declared.steps.Outcome.TheVariants.{Joined, Left, NotJoined}
 use Rattle.sl_delta.specs.declared.steps.Outcome.{Outcome}
 use Rattle.sl_sector.specs.Records.{Fits}
+use Rattle.sl_sector.specs.Spelling.{IsSectorSize}
 use Rattle.sl_sector.specs.declared.sector.DeltaRec.{DeltaRec}
 use Rattle.sl_sessions.specs.Deltas.{next_after_free, next_after_renewal, next_free, next_renewal}
-use Rattle.sl_sessions.specs.Sessions.{stage_after}
+use Rattle.sl_sessions.specs.Sessions.{is_survey_purpose, stage_after}
 use Rattle.sl_sessions.specs.declared.stage.Stage.TheVariants.{Ended as EndedStage, Freeing, Looking, Refused as RefusedStage, Standing as Stands}
 use Rattle.sl_sessions.specs.declared.stage.Stage.{Stage}
 use Rattle.sl_sessions.specs.declared.delta.DeltaNext.TheVariants.{Disconnect, EndLeaving, Join, MoveConnection, Nothing, ReadOwn, RefuseJoin, RegisterAndRead, WriteClaim, WriteFirst, WriteFree, WriteRenewal}
@@ -184,16 +185,42 @@ answer_next now call Renewal made a l = next_after_renewal l.recovering made a
 answer_next now call (Leaving j) made a l = next_after_free 0 call a
 answer_next now call p made a l = Nothing
 
+-- Whether a record of the own id is of another session.
+abbrev pub is_other : OwnState → DeltaRec → Bool
+is_other o d = d.id == o.id && not (d.generation == o.generation && some_is (λ n. bytes_eq n o.host) d.host)
+
+-- A read of all ids gives as many bytes as it asks.
+abbrev pub IsWholeRead : OwnState → Answer → Type 0
+IsWholeRead o (Read bytes) = length bytes ≡ o.sizes.hosts * o.sizes.sector
+IsWholeRead o Written = Unit {0}
+IsWholeRead o Failed = Unit {0}
+
+-- A read of the own sector gives as many bytes as it asks.
+abbrev pub IsOwnRead : OwnState → Answer → Type 0
+IsOwnRead o (Read bytes) = length bytes ≡ o.sizes.sector
+IsOwnRead o Written = Unit {0}
+IsOwnRead o Failed = Unit {0}
+
+-- A read of one sector gives as many bytes as a sector may have.
+abbrev pub IsSized : Answer → Type 0
+IsSized (Read bytes) = IsSectorSize (length bytes)
+IsSized Written = Unit {0}
+IsSized Failed = Unit {0}
+
 -- Whether a read of all ids shows another in the session's place.
 abbrev pub shows_other : OwnState → Answer → Bool
 shows_other o (Read bytes) =
-    some_is (λ d. d.id == o.id && not (d.generation == o.generation && some_is (λ n. bytes_eq n o.host) d.host)) (delta_of (lease_of o).layout bytes o.id)
-shows_other o a = false
+    some_is (is_other o) (delta_of (lease_of o).layout bytes o.id)
+shows_other o Written = false
+shows_other o Failed = false
+
+-- A read of all ids begins recovery.
+abbrev pub survey_shows : Answer → LeaseState → Bool
+survey_shows a l = elim l.standing [ Holds ↦ not l.recovering && shows_other l.own a | _ ↦ false ]
 
 -- Recovery begins by a read.
 abbrev pub shows_by : Purpose → Answer → LeaseState → Bool
-shows_by Survey a l = elim l.standing [ Holds ↦ not l.recovering && shows_other l.own a | _ ↦ false ]
-shows_by p a l = false
+shows_by p a l = elim (is_survey_purpose p) [ false ↦ false | true ↦ survey_shows a l ]
 
 -- The lease that has heard the answer.
 abbrev pub heard : ℕ → Purpose → Answer → LeaseState → LeaseState
@@ -251,15 +278,20 @@ parting l = record { recovers = false; moved = choose l.registered (Unregister l
 
 -- ---- a step
 
+-- What follows an answer, for a session that has ended or not.
+abbrev pub followed : ℕ → Bool → DeltaNext → LeaseState → LeaseState
+followed now over n l = elim over [ true ↦ parted l | false ↦ carried now n l ]
+
+abbrev pub given_following : ℕ → Bool → DeltaNext → LeaseState → DeltaOut
+given_following now over n l = elim over [ true ↦ parting l | false ↦ given_by now n l ]
+
 -- An answer is heard and decided.
 abbrev pub after_told : ℕ → ℕ → Purpose → ℕ → Answer → LeaseState → LeaseState
-after_told now call p made a l =
-    let told : LeaseState = heard now p a l in elim (is_over l.standing) [ true ↦ parted told | false ↦ carried now (answer_next now call p made a told) told ]
+after_told now call p made a l = followed now (is_over l.standing) (answer_next now call p made a (heard now p a l)) (heard now p a l)
 
 abbrev pub given_told : ℕ → ℕ → Purpose → ℕ → Answer → LeaseState → DeltaOut
 given_told now call p made a l =
-    let told : LeaseState = heard now p a l in
-    let out : DeltaOut = elim (is_over l.standing) [ true ↦ parting told | false ↦ given_by now (answer_next now call p made a told) told ] in
+    let out : DeltaOut = given_following now (is_over l.standing) (answer_next now call p made a (heard now p a l)) (heard now p a l) in
     record out { recovers = shows_by p a l }
 
 -- What the step makes of a lease that has begun it.
@@ -285,20 +317,16 @@ out_of_step now i l = let out : DeltaOut = given_from now i (begun now l) in rec
 
 -- ---- conditions and questions
 
--- Whether the answer fits the call that waits, if one does: a read by as many bytes as it asks.
-abbrev pub fits_purpose : LeaseState → Answer → Purpose → Bool
-fits_purpose l (Read bytes) (Joining j step) = length bytes == l.own.sizes.sector && not (writes_step step)
-fits_purpose l (Read bytes) Survey = length bytes == l.own.sizes.hosts * l.own.sizes.sector
-fits_purpose l (Read bytes) p = false
-fits_purpose l Written p = writes_own p
-fits_purpose l Failed p = true
+-- The condition on an answer to a call for this purpose: a read gives as many bytes as it asks.
+abbrev pub IsFitAnswer : OwnState → Answer → Purpose → Type 0
+IsFitAnswer o a p = elim (is_survey_purpose p) as (λ _. Type 0) [ true ↦ IsWholeRead o a | false ↦ IsOwnRead o a ]
 
--- The condition on what comes: an answer fits the call that waits; a lease that frees is joined, outside recovery, without a call of its own, and has a seq left.
-abbrev pub IsFitInput : ℕ → LeaseState → DeltaIn → Type 0
-IsFitInput now l (Wake bits) = Unit {0}
-IsFitInput now l (Told call a) = IfSome l.waits (λ w. IsTrue (fits_purpose l a w.purpose))
-IsFitInput now l Refused = Unit {0}
-IsFitInput now l Leave = Fits (l.own.seq + 1)
+-- The condition on what comes: an answer fits the call that waits; a lease that frees is joined and has a seq left.
+abbrev pub IsFitInput : LeaseState → DeltaIn → Type 0
+IsFitInput l (Wake bits) = Unit {0}
+IsFitInput l (Told call a) = IfSome l.waits (λ w. IsFitAnswer l.own a w.purpose)
+IsFitInput l Refused = Unit {0}
+IsFitInput l Leave = Fits (l.own.seq + 1) × (1 ≤ l.own.generation)
 
 -- Before the first call of a joining, and of a session that its daemon begins with.
 abbrev pub new_lease : OwnState → LeaseState

@@ -6,15 +6,16 @@
 
 ghost use Rattle.sl_delta.specs.Decides.{IsFitNext};
 ghost use Rattle.sl_delta.specs.Own.{IsOwnRecord, answer_in, without_calls};
-ghost use Rattle.sl_delta.specs.Steps.{answer_next, begun, call_in, called_with, carried, given_by, given_from, has_open_write, is_late, join_next, joined_lease, last_after, last_told, move_in, new_lease, outcome_in, purpose_of, record_in_call, refused_move, registered_after, stage_told, standing_after, step_from, wake_next};
+ghost use Rattle.sl_delta.specs.Steps.{after_told, answer_next, begun, call_in, called_with, carried, followed, given_by, given_following, given_from, given_told, has_open_write, is_late, is_over, join_next, joined_lease, last_after, last_told, move_in, new_lease, outcome_in, purpose_of, record_in_call, refused_move, registered_after, stage_told, standing_after, step_from, wake_next};
 ghost use Rattle.sl_delta.specs.declared.lease.Standing.TheVariants.{Holds};
 ghost use Rattle.sl_delta.specs.declared.steps.DeltaIn.TheVariants.{Leave, Refused, Wake};
 ghost use Rattle.sl_sector.specs.Records.{Fits};
+ghost use Rattle.sl_sessions.specs.Sessions.{is_survey_purpose};
 ghost use Rattle.sl_text.specs.Names.{is_name};
 ghost use Rattle.sl_trace.specs.declared.effects.Move.TheVariants.{Unregister};
 ghost use Rattle.sl_words.specs.Words.{choose};
 ghost use Rattle.sl_words.specs.Bounds.{moments};
-ghost use Rattle.std.specs.Prelude.{IfSome, IsTrue, ℕ, ◌+◌, ◌<◌, ◌≡◌, ◌≤◌};
+ghost use Rattle.std.specs.Prelude.{IfSome, IsTrue, false, ℕ, ◌+◌, ◌<◌, ◌≡◌, ◌≤◌};
 
 use crate::answer::SectorAnswer;
 use crate::numbers::has_passed;
@@ -503,5 +504,51 @@ impl DeltaLease {
             Standing::Declined => DeltaNext::Nothing,
             Standing::Gone => DeltaNext::Nothing,
         }
+    }
+
+    /// Whether it has ended.
+    fn is_over(&self) -> bool
+        ensures { result ≡ is_over self.now.standing }
+    {
+        match self.standing {
+            Standing::Joins => false,
+            Standing::Holds => false,
+            Standing::Declined => true,
+            Standing::Gone => true,
+        }
+    }
+
+    /// What follows an answer: a decision is done, or a session that has ended parts with its connection.
+    fn follow(&mut self, now: u64, over: bool, next: DeltaNext) -> DeltaOut
+        requires moment { now < moments }
+        requires fit { IsFitNext next }
+        ensures state { self.new ≡ followed now over next self.old }
+        ensures out { result ≡ given_following now over next self.old }
+    {
+        if !over {
+            return self.carry(now, next);
+        }
+        let moved = self.unregistering();
+        self.registered = false;
+        DeltaOut {
+            recovers: false,
+            moved,
+            call: None,
+            outcome: None,
+        }
+    }
+
+    /// The call that waited, on the own sector, is answered.
+    fn hear(&mut self, now: u64, call: u64, open: &OpenDelta, answer: SectorAnswer) -> DeltaOut
+        requires moments { (now < moments) × (open.now.made < moments) }
+        requires own { is_survey_purpose open.now.purpose ≡ false }
+        ensures state { self.new ≡ after_told now call open.now.purpose open.now.made (answer_in answer) self.old }
+        ensures out { result ≡ given_told now call open.now.purpose open.now.made (answer_in answer) self.old }
+    {
+        let over = self.is_over();
+        let next = self.answer_next(now, call, &open.purpose, open.made, &answer);
+        self.own.told(now, &open.purpose, answer);
+        self.waits = None;
+        self.follow(now, over, next)
     }
 }

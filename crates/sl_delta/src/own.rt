@@ -215,6 +215,18 @@ impl OwnSector {
         self.heard(now, is_delta(purpose), join_step_of(purpose).is_some());
     }
 
+    /// Any of its calls was answered so.
+    pub(crate) fn told(&mut self, now: u64, purpose: &Purpose, answer: SectorAnswer)
+        requires { now < moments }
+        ensures { self.new ≡ after_answer purpose.now (answer_in answer) now self.old }
+    {
+        if is_first_read(purpose) {
+            self.take_first(now, answer);
+        } else {
+            self.take_answer(now, purpose);
+        }
+    }
+
     /// What each answer changes.
     fn heard(&mut self, now: u64, on_delta: bool, joins: bool)
         requires { now < moments }

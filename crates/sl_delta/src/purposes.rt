@@ -2,7 +2,7 @@
 
 ghost use Rattle.sl_delta.specs.Steps.{writes_own, writes_step};
 ghost use Rattle.sl_sessions.specs.Deltas.{join_step_of};
-ghost use Rattle.sl_sessions.specs.Sessions.{is_delta_purpose, is_free_purpose, is_join_call, is_renewal};
+ghost use Rattle.sl_sessions.specs.Sessions.{is_delta_purpose, is_free_purpose, is_join_call, is_renewal, is_survey_purpose};
 ghost use Rattle.sl_trace.specs.declared.effects.JoinStep.TheVariants.{ClaimWrite, FirstRead};
 ghost use Rattle.std.specs.Prelude.{◌≡◌};
 
@@ -110,4 +110,11 @@ pub(crate) fn writes_own(purpose: &Purpose) -> bool
         Purpose::Leaving { job: _ } => true,
         _ => false,
     }
+}
+
+/// Whether the call reads all delta sectors.
+pub(crate) fn is_survey(purpose: &Purpose) -> bool
+    ensures { result ≡ is_survey_purpose purpose.now }
+{
+    matches!(purpose, Purpose::Survey)
 }
