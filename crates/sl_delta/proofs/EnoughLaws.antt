@@ -56,7 +56,7 @@ joining_is s o now m ms step (Read bytes) k = read_is o now m ms bytes step k.jo
 joining_is s o now m ms step Written k = write_is o (generation_in s ms) m step k.generation
 joining_is s o now m ms step Failed k = refl
 
-told_is : (o : OwnState) (now call made : ℕ) (j : ℕ) (step : JoinStep) (answer : Answer)
+pub told_is : (o : OwnState) (now call made : ℕ) (j : ℕ) (step : JoinStep) (answer : Answer)
     → after_join (after_answer (Joining j step) answer now o) now call made step answer ≡ after_join o now call made step answer
 told_is o now call made j FirstRead (Read bytes) = refl
 told_is o now call made j WatchRead (Read bytes) = refl

@@ -258,6 +258,9 @@ refused_now l =
 abbrev pub refused_move : LeaseState → Option Move
 refused_move l = elim l.standing [ Joins ↦ choose (l.registered && not (has_open_write l)) (Unregister l.own.lockspace) | _ ↦ None ]
 
+abbrev pub refusing : LeaseState → DeltaOut
+refusing l = record { recovers = false; moved = refused_move l; call = None; outcome = None }
+
 -- Nothing is given, but recovery may begin.
 abbrev pub nothing_given : DeltaOut
 nothing_given = record { recovers = false; moved = None; call = None; outcome = None }
@@ -294,6 +297,10 @@ given_told now call p made a l =
     let out : DeltaOut = given_following now (is_over l.standing) (answer_next now call p made a (heard now p a l)) (heard now p a l) in
     record out { recovers = shows_by p a l }
 
+-- What is given where recovery has begun by time, or not.
+abbrev pub with_recovery : Bool → DeltaOut → DeltaOut
+with_recovery late out = record out { recovers = late || out.recovers }
+
 -- What the step makes of a lease that has begun it.
 abbrev pub step_from : ℕ → DeltaIn → LeaseState → LeaseState
 step_from now (Wake bits) l = carried now (wake_next now bits l) l
@@ -305,7 +312,7 @@ step_from now Leave l = carried now (next_free (lease_of l.own) now (known_with 
 abbrev pub given_from : ℕ → DeltaIn → LeaseState → DeltaOut
 given_from now (Wake bits) l = given_by now (wake_next now bits l) l
 given_from now (Told call a) l = elim l.waits [ None ↦ nothing_given | Some w ↦ given_told now call w.purpose w.made a l ]
-given_from now Refused l = record { recovers = false; moved = refused_move l; call = None; outcome = None }
+given_from now Refused l = refusing l
 given_from now Leave l = given_by now (next_free (lease_of l.own) now (known_with l.own l.recovering (Some 0))) l
 
 -- The lease after a step, and what the step gives: recovery by time begins first.
@@ -313,7 +320,7 @@ abbrev pub after_step : ℕ → DeltaIn → LeaseState → LeaseState
 after_step now i l = step_from now i (begun now l)
 
 abbrev pub out_of_step : ℕ → DeltaIn → LeaseState → DeltaOut
-out_of_step now i l = let out : DeltaOut = given_from now i (begun now l) in record out { recovers = is_late now l || out.recovers }
+out_of_step now i l = with_recovery (is_late now l) (given_from now i (begun now l))
 
 -- ---- conditions and questions
 

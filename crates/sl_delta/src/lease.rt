@@ -6,21 +6,22 @@
 
 ghost use Rattle.sl_delta.specs.Decides.{IsFitNext};
 ghost use Rattle.sl_delta.specs.Own.{IsOwnRecord, answer_in, without_calls};
-ghost use Rattle.sl_delta.specs.Steps.{after_told, answer_next, begun, call_in, called_with, carried, followed, given_by, given_following, given_from, given_told, has_open_write, is_late, is_over, join_next, joined_lease, last_after, last_told, move_in, new_lease, outcome_in, purpose_of, record_in_call, refused_move, registered_after, stage_told, standing_after, step_from, wake_next};
+ghost use Rattle.sl_delta.specs.Steps.{IsFitAnswer, IsFitInput, IsWholeRead, after_step, after_told, answer_next, begun, call_in, called_with, carried, followed, given_by, given_following, given_from, given_told, has_open_write, is_late, is_over, join_next, joined_lease, last_after, last_told, move_in, new_lease, nothing_given, out_of_step, outcome_in, purpose_of, record_in_call, refused_move, refused_now, refusing, registered_after, stage_told, standing_after, step_from, survey_shows, wake_next, with_recovery};
 ghost use Rattle.sl_delta.specs.declared.lease.Standing.TheVariants.{Holds};
-ghost use Rattle.sl_delta.specs.declared.steps.DeltaIn.TheVariants.{Leave, Refused, Wake};
+ghost use Rattle.sl_delta.specs.declared.steps.DeltaIn.TheVariants.{Answered as Told, Leave, Wake};
 ghost use Rattle.sl_sector.specs.Records.{Fits};
 ghost use Rattle.sl_sessions.specs.Sessions.{is_survey_purpose};
 ghost use Rattle.sl_text.specs.Names.{is_name};
 ghost use Rattle.sl_trace.specs.declared.effects.Move.TheVariants.{Unregister};
+ghost use Rattle.sl_trace.specs.declared.effects.Purpose.TheVariants.{Survey};
 ghost use Rattle.sl_words.specs.Words.{choose};
 ghost use Rattle.sl_words.specs.Bounds.{moments};
-ghost use Rattle.std.specs.Prelude.{IfSome, IsTrue, false, ℕ, ◌+◌, ◌<◌, ◌≡◌, ◌≤◌};
+ghost use Rattle.std.specs.Prelude.{IfOk, IfSome, IsTrue, OnErr, OnOk, ℕ, false, ◌+◌, ◌<◌, ◌≡◌, ◌≤◌};
 
-use crate::answer::SectorAnswer;
+use crate::answer::{SectorAnswer, sector_answer};
 use crate::numbers::has_passed;
 use crate::own::OwnSector;
-use crate::purposes::writes_own;
+use crate::purposes::{is_survey, writes_own};
 use crate::renewing::{after_free, after_renewal};
 use crate::steps::{DeltaCall, DeltaIn, DeltaOut, Outcome};
 use sl_area::Geometry;
@@ -29,7 +30,8 @@ use sl_sector::DeltaRec;
 use sl_sessions::{DeltaNext, Stage};
 use sl_text::Name;
 use sl_time::Timing;
-use sl_trace::{JoinStep, Move, Purpose};
+use sl_trace::{Answer, JoinStep, Move, Purpose};
+use std::alloc::{AllocError, Global};
 use std::marker::Model;
 
 /// How a session stands.
@@ -203,6 +205,18 @@ fn registered_after(next: &DeltaNext, before: bool) -> bool
         } => true,
         DeltaNext::EndLeaving { job: _, reply: _ } => false,
         _ => before,
+    }
+}
+
+/// What is given where recovery has begun by time, or not.
+fn with_recovery(late: bool, out: DeltaOut) -> DeltaOut
+    ensures { result ≡ with_recovery late out }
+{
+    DeltaOut {
+        recovers: late || out.recovers,
+        moved: out.moved,
+        call: out.call,
+        outcome: out.outcome,
     }
 }
 
@@ -406,8 +420,8 @@ impl DeltaLease {
 
     /// The joining's job was refused.
     fn refuse(&mut self) -> DeltaOut
-        ensures state { (now : ℕ) → self.new ≡ step_from now Refused self.old }
-        ensures out { (now : ℕ) → result ≡ given_from now Refused self.old }
+        ensures state { self.new ≡ refused_now self.old }
+        ensures out { result ≡ refusing self.old }
     {
         let moved = self.refused_move();
         if matches!(self.standing, Standing::Joins) {
@@ -550,5 +564,127 @@ impl DeltaLease {
         self.own.told(now, &open.purpose, answer);
         self.waits = None;
         self.follow(now, over, next)
+    }
+
+    /// Whether a read of all ids begins recovery.
+    fn survey_shows(&self, answer: &Answer) -> bool
+        requires { IsWholeRead self.now.own answer.now }
+        ensures { result ≡ survey_shows answer.now self.now }
+    {
+        match self.standing {
+            Standing::Holds => !self.recovering && self.own.shows_other(answer),
+            Standing::Joins => false,
+            Standing::Declined => false,
+            Standing::Gone => false,
+        }
+    }
+
+    /// The read of all ids is answered.
+    fn hear_survey(&mut self, now: u64, answer: &Answer) -> DeltaOut
+        requires moment { now < moments }
+        requires whole { IsWholeRead self.old.own answer.now }
+        ensures state { (call made : ℕ) → self.new ≡ after_told now call Survey made answer.now self.old }
+        ensures out { (call made : ℕ) → result ≡ given_told now call Survey made answer.now self.old }
+    {
+        let over = self.is_over();
+        let shows = self.survey_shows(answer);
+        self.own.surveyed(now);
+        self.waits = None;
+        self.recovering = shows || self.recovering;
+        let mut out = self.follow(now, over, DeltaNext::Nothing);
+        out.recovers = shows;
+        out
+    }
+
+    /// The call that waited is answered: an own sector's answer has its sector read.
+    fn answer(
+        &mut self,
+        alloc: Global,
+        now: u64,
+        call: u64,
+        open: &OpenDelta,
+        answer: Answer,
+    ) -> Result<DeltaOut, AllocError>
+        requires moments { (now < moments) × (open.now.made < moments) }
+        requires fit { IsFitAnswer self.old.own answer open.now.purpose }
+        ensures state { OnOk result (self.new ≡ after_told now call open.now.purpose open.now.made answer (begun now self.old)) }
+        ensures out { IfOk result (λ out. out ≡ with_recovery (is_late now self.old) (given_told now call open.now.purpose open.now.made answer (begun now self.old))) }
+        ensures err { OnErr result (self.new ≡ self.old) }
+    {
+        let _sizes = self.own.geometry.sector();
+        if is_survey(&open.purpose) {
+            let late = self.begin(now);
+            return Ok(with_recovery(late, self.hear_survey(now, &answer)));
+        }
+        let answer = sector_answer(alloc, answer)?;
+        let late = self.begin(now);
+        Ok(with_recovery(late, self.hear(now, call, open, answer)))
+    }
+
+    /// The answer of this number came.
+    fn hear_answer(
+        &mut self,
+        alloc: Global,
+        now: u64,
+        call: u64,
+        answer: Answer,
+    ) -> Result<DeltaOut, AllocError>
+        requires moment { now < moments }
+        requires fit { IfSome self.old.waits (λ w. IsFitAnswer self.old.own answer w.purpose) }
+        ensures state { OnOk result (self.new ≡ after_step now (Told call answer) self.old) }
+        ensures out { IfOk result (λ out. out ≡ out_of_step now (Told call answer) self.old) }
+        ensures err { OnErr result (self.new ≡ self.old) }
+    {
+        match self.waits {
+            Some(open) => self.answer(alloc, now, call, &open, answer),
+            None => {
+                let late = self.begin(now);
+                Ok(with_recovery(late, nothing_given()))
+            }
+        }
+    }
+
+    /// One step, at the reading `now`, of what comes: it gives exactly what is due. The answer that comes is that of the call without an
+    /// answer, a read's as long as it asks; a lease that frees is joined, outside recovery and without a call of its own, and its seq is
+    /// below 2^63 - 1. An `Err` is want of memory for the sector of an answer, and changes nothing.
+    pub fn step(
+        &mut self,
+        alloc: Global,
+        now: u64,
+        input: DeltaIn,
+    ) -> Result<DeltaOut, AllocError>
+        requires moment { now < moments }
+        requires fit { IsFitInput self.old input }
+        ensures state { OnOk result (self.new ≡ after_step now input self.old) }
+        ensures out { IfOk result (λ out. out ≡ out_of_step now input self.old) }
+        ensures err { OnErr result (self.new ≡ self.old) }
+    {
+        match input {
+            DeltaIn::Answered { call, answer } => self.hear_answer(alloc, now, call, answer),
+            DeltaIn::Wake(bits) => {
+                let late = self.begin(now);
+                Ok(with_recovery(late, self.wake(now, &bits)))
+            }
+            DeltaIn::Refused => {
+                let late = self.begin(now);
+                Ok(with_recovery(late, self.refuse()))
+            }
+            DeltaIn::Leave => {
+                let late = self.begin(now);
+                Ok(with_recovery(late, self.leave(now)))
+            }
+        }
+    }
+}
+
+/// Nothing is given.
+fn nothing_given() -> DeltaOut
+    ensures { result ≡ nothing_given }
+{
+    DeltaOut {
+        recovers: false,
+        moved: None,
+        call: None,
+        outcome: None,
     }
 }

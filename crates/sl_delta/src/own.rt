@@ -14,7 +14,7 @@ ghost use Rattle.std.specs.Arc.{arc_value};
 ghost use Rattle.std.specs.Option.{option_map_or};
 ghost use Rattle.sl_trace.specs.Traces.{bytes_given};
 ghost use Rattle.sl_trace.specs.declared.effects.Purpose.TheVariants.{Joining};
-ghost use Rattle.std.specs.Prelude.{ℕ, cond, option_map, IfSome, IsTrue, List, None, Some, false, is_none, [], ◌<◌, ◌∷◌, ◌≡◌, ◌≤◌};
+ghost use Rattle.std.specs.Prelude.{ℕ, cond, option_map, IfSome, IsTrue, List, None, Some, false, true, is_none, [], ◌<◌, ◌∷◌, ◌≡◌, ◌≤◌};
 
 use crate::answer::SectorAnswer;
 use crate::purposes::{is_claim, is_delta, is_first_read, is_free, is_renewal, join_step_of};
@@ -225,6 +225,14 @@ impl OwnSector {
         } else {
             self.take_answer(now, purpose);
         }
+    }
+
+    /// The read of all delta sectors was answered.
+    pub(crate) fn surveyed(&mut self, now: u64)
+        requires { now < moments }
+        ensures { self.new ≡ heard now true false self.old }
+    {
+        self.heard(now, true, false);
     }
 
     /// What each answer changes.
