@@ -3,12 +3,11 @@ use Rattle.sl_area.specs.Layouts.{IsGeometry, Sizes}
 use Rattle.sl_delta.proofs.EnoughLaws.{told_is}
 use Rattle.sl_delta.specs.Decides.{after_join}
 use Rattle.sl_delta.specs.Own.{OwnState, after_answer}
-use Rattle.sl_delta.specs.Steps.{IsFitAnswer, IsOwnRead, IsSized, IsWholeRead, LeaseState, after_told, answer_next, followed, given_following, given_told, heard, is_over, join_next, shows_by, survey_shows}
+use Rattle.sl_delta.specs.Steps.{FitsRead, IsFitAnswer, IsOwnRead, IsSized, LeaseState, after_told, answer_next, followed, given_following, given_told, heard, is_over, shows_by, survey_shows}
 use Rattle.sl_delta.specs.declared.lease.Standing.TheVariants.{Declined, Gone, Holds, Joins}
 use Rattle.sl_delta.specs.declared.lease.Standing.{Standing}
 use Rattle.sl_delta.specs.declared.steps.DeltaOut.{DeltaOut}
 use Rattle.sl_sector.specs.Spelling.{IsSectorSize}
-use Rattle.sl_sessions.specs.Deltas.{next_after_renewal}
 use Rattle.sl_sessions.specs.Sessions.{is_join_call, is_survey_purpose}
 use Rattle.sl_sessions.specs.declared.delta.DeltaNext.TheVariants.{Nothing}
 use Rattle.sl_sessions.specs.declared.delta.DeltaNext.{DeltaNext}
@@ -111,16 +110,9 @@ own_sized o (Read bytes) g is = subst IsSectorSize (sym is) (sector_fits o.sizes
 own_sized o Written g is = tt
 own_sized o Failed g is = tt
 
-fits_as : (o : OwnState) (a : Answer) (b : Bool) → b ≡ false → (elim b as (λ _. Type 0) [ true ↦ IsWholeRead o a | false ↦ IsOwnRead o a ]) → IsOwnRead o a
+fits_as : (o : OwnState) (a : Answer) (b : Bool) → b ≡ false → FitsRead b o a → IsOwnRead o a
 fits_as o a false e h = h
 fits_as o a true e h = absurd cc
-
-fits_whole : (o : OwnState) (a : Answer) (b : Bool) → b ≡ true → (elim b as (λ _. Type 0) [ true ↦ IsWholeRead o a | false ↦ IsOwnRead o a ]) → IsWholeRead o a
-fits_whole o a true e h = h
-fits_whole o a false e h = absurd cc
-
-pub whole_read : (o : OwnState) (a : Answer) (p : Purpose) → is_survey_purpose p ≡ true → IsFitAnswer o a p → IsWholeRead o a
-whole_read o a p e fits = fits_whole o a (is_survey_purpose p) e fits
 
 pub sized_is : (o : OwnState) (a : Answer) (p : Purpose) → IsGeometry o.sizes → is_survey_purpose p ≡ false → IsFitAnswer o a p → IsSized a
 sized_is o a p g e fits = own_sized o a g (fits_as o a (is_survey_purpose p) e fits)

@@ -32,7 +32,7 @@ use Rattle.sl_trace.specs.declared.input.Answer.TheVariants.{Failed, Read, Writt
 use Rattle.sl_trace.specs.declared.input.Answer.{Answer}
 use Rattle.sl_words.specs.Bounds.{moments}
 use Rattle.sl_words.specs.Words.{choose, some_is}
-use Rattle.std.specs.Prelude.{Bool, IfSome, IsTrue, List, None, Option, Some, bytes_eq, false, is_some, length, nat_le, nat_lt, not, true, ℕ, ◌&&◌, ◌*◌, ◌+◌, ◌<◌, ◌==◌, ◌||◌, ◌≡◌, ◌≤◌}
+use Rattle.std.specs.Prelude.{Bool, IfSome, List, None, Option, Some, bytes_eq, false, is_some, length, nat_le, nat_lt, not, true, ℕ, ◌&&◌, ◌*◌, ◌+◌, ◌<◌, ◌==◌, ◌||◌, ◌≡◌, ◌≤◌}
 
 -- A delta lease.
 pub record LeaseState : Type 0 where
@@ -325,8 +325,12 @@ out_of_step now i l = with_recovery (is_late now l) (given_from now i (begun now
 -- ---- conditions and questions
 
 -- The condition on an answer to a call for this purpose: a read gives as many bytes as it asks.
+abbrev pub FitsRead : Bool → OwnState → Answer → Type 0
+FitsRead true o a = IsWholeRead o a
+FitsRead false o a = IsOwnRead o a
+
 abbrev pub IsFitAnswer : OwnState → Answer → Purpose → Type 0
-IsFitAnswer o a p = elim (is_survey_purpose p) as (λ _. Type 0) [ true ↦ IsWholeRead o a | false ↦ IsOwnRead o a ]
+IsFitAnswer o a p = FitsRead (is_survey_purpose p) o a
 
 -- The condition on what comes: an answer fits the call that waits; a lease that frees is joined and has a seq left.
 abbrev pub IsFitInput : LeaseState → DeltaIn → Type 0

@@ -19,7 +19,7 @@ ghost use Rattle.sl_words.specs.Bounds.{moments};
 ghost use Rattle.std.specs.Prelude.{IfOk, IfSome, IsTrue, OnErr, OnOk, ℕ, false, ◌+◌, ◌<◌, ◌≡◌, ◌≤◌};
 
 use crate::answer::{SectorAnswer, sector_answer};
-use crate::numbers::has_passed;
+use crate::numbers::{has_next, has_passed};
 use crate::own::OwnSector;
 use crate::purposes::{is_survey, writes_own};
 use crate::renewing::{after_free, after_renewal};
@@ -57,12 +57,12 @@ pub struct OpenDelta {
 /// A session's lease on an id.
 #[derive(Drop)]
 pub struct DeltaLease {
-    own: OwnSector,
-    standing: Standing,
-    last: u64,
-    recovering: bool,
-    registered: bool,
-    waits: Option<OpenDelta>,
+    pub(crate) own: OwnSector,
+    pub(crate) standing: Standing,
+    pub(crate) last: u64,
+    pub(crate) recovering: bool,
+    pub(crate) registered: bool,
+    pub(crate) waits: Option<OpenDelta>,
 }
 
 impl Model for DeltaLease {
@@ -81,131 +81,6 @@ impl Model for DeltaLease {
     } };
 
     ghost invariant = { λ l. IsWithinStep l.own l.standing l.last l.waits };
-}
-
-/// The call's purpose.
-fn purpose_of(call: &DeltaCall) -> Purpose
-    ensures { result ≡ purpose_of call.now }
-{
-    match call {
-        DeltaCall::ReadOwn(step) => Purpose::Joining { job: 0, step: *step },
-        DeltaCall::WriteOwn { step, record: _ } => Purpose::Joining { job: 0, step: *step },
-        DeltaCall::RenewOwn(_) => Purpose::Renewal,
-        DeltaCall::ReadAll => Purpose::Survey,
-        DeltaCall::FreeOwn(_) => Purpose::Leaving { job: 0 },
-    }
-}
-
-/// The record that it writes.
-fn record_in(call: &DeltaCall) -> Option<DeltaRec>
-    ensures { result ≡ record_in_call call.now }
-{
-    match call {
-        DeltaCall::ReadOwn(_) => None,
-        DeltaCall::WriteOwn { step: _, record } => Some(*record),
-        DeltaCall::RenewOwn(record) => Some(*record),
-        DeltaCall::ReadAll => None,
-        DeltaCall::FreeOwn(record) => Some(*record),
-    }
-}
-
-/// The call that a decision makes.
-fn call_in(next: &DeltaNext) -> Option<DeltaCall>
-    ensures exact { result ≡ call_in next.now }
-    ensures fit { IsFitNext next.now → IfSome result (λ c. IfSome (record_in_call c) IsOwnRecord) }
-{
-    match next {
-        DeltaNext::Nothing => None,
-        DeltaNext::RefuseJoin(_) => None,
-        DeltaNext::ReadOwn(step) => Some(DeltaCall::ReadOwn(*step)),
-        DeltaNext::RegisterAndRead(step) => Some(DeltaCall::ReadOwn(*step)),
-        DeltaNext::WriteClaim(record) => Some(DeltaCall::WriteOwn {
-            step: JoinStep::ClaimWrite,
-            record: *record,
-        }),
-        DeltaNext::Disconnect => None,
-        DeltaNext::WriteFirst(record) => Some(DeltaCall::WriteOwn {
-            step: JoinStep::FirstRenewal,
-            record: *record,
-        }),
-        DeltaNext::Join {
-            generation: _,
-            renewed: _,
-        } => Some(DeltaCall::ReadAll),
-        DeltaNext::MoveConnection { renewed: _ } => Some(DeltaCall::ReadAll),
-        DeltaNext::WriteRenewal(record) => Some(DeltaCall::RenewOwn(*record)),
-        DeltaNext::WriteFree { job: _, record } => Some(DeltaCall::FreeOwn(*record)),
-        DeltaNext::EndLeaving { job: _, reply: _ } => None,
-    }
-}
-
-/// What a decision comes to.
-fn outcome_in(next: DeltaNext) -> Option<Outcome>
-    ensures { result ≡ outcome_in next }
-{
-    match next {
-        DeltaNext::RefuseJoin(reply) => Some(Outcome::NotJoined(reply)),
-        DeltaNext::Join {
-            generation,
-            renewed: _,
-        } => Some(Outcome::Joined { generation }),
-        DeltaNext::EndLeaving { job: _, reply } => Some(Outcome::Left(reply)),
-        _ => None,
-    }
-}
-
-/// How a session, whose last record has this generation, stands after a decision.
-fn standing_after(generation: u64, next: &DeltaNext, before: Standing) -> Standing
-    ensures exact { result ≡ standing_after generation next.now before }
-    ensures named { (before ≡ Holds → 1 ≤ generation) → result ≡ Holds → 1 ≤ generation }
-{
-    match next {
-        DeltaNext::RefuseJoin(_) => Standing::Declined,
-        DeltaNext::Join {
-            generation: _,
-            renewed: _,
-        } => {
-            if 0 < generation {
-                Standing::Holds
-            } else {
-                before
-            }
-        }
-        DeltaNext::EndLeaving { job: _, reply: _ } => Standing::Gone,
-        _ => before,
-    }
-}
-
-/// The last renewal after a decision.
-fn last_after(next: &DeltaNext, before: u64) -> u64
-    ensures exact { result ≡ last_after next.now before }
-    ensures bounds { before < moments → IsFitNext next.now → result < moments }
-{
-    match next {
-        DeltaNext::Join {
-            generation: _,
-            renewed,
-        } => *renewed,
-        DeltaNext::MoveConnection { renewed } => *renewed,
-        _ => before,
-    }
-}
-
-/// Whether the connection stands after a decision.
-fn registered_after(next: &DeltaNext, before: bool) -> bool
-    ensures { result ≡ registered_after next.now before }
-{
-    match next {
-        DeltaNext::RefuseJoin(_) => false,
-        DeltaNext::RegisterAndRead(_) => true,
-        DeltaNext::Disconnect => false,
-        DeltaNext::Join {
-            generation: _,
-            renewed: _,
-        } => true,
-        DeltaNext::EndLeaving { job: _, reply: _ } => false,
-        _ => before,
-    }
 }
 
 /// What is given where recovery has begun by time, or not.
@@ -280,86 +155,6 @@ impl DeltaLease {
         }
     }
 
-    /// The move of its connection by a decision.
-    fn move_in(&self, now: u64, next: &DeltaNext) -> Option<Move>
-        requires moment { now < moments }
-        requires renewed { IsFitNext next.now }
-        ensures { result ≡ move_in now self.now next.now }
-    {
-        match next {
-            DeltaNext::RefuseJoin(_) => self.unregistering(),
-            DeltaNext::RegisterAndRead(_) => Some(Move::Register {
-                lockspace: self.own.lockspace,
-                expiry: now + self.own.timing.fail(),
-            }),
-            DeltaNext::Disconnect => Some(Move::Unregister {
-                lockspace: self.own.lockspace,
-            }),
-            DeltaNext::Join {
-                generation: _,
-                renewed,
-            } => Some(Move::Renew {
-                lockspace: self.own.lockspace,
-                expiry: *renewed + self.own.timing.fail(),
-            }),
-            DeltaNext::MoveConnection { renewed } => Some(Move::Renew {
-                lockspace: self.own.lockspace,
-                expiry: *renewed + self.own.timing.fail(),
-            }),
-            DeltaNext::EndLeaving { job: _, reply: _ } => Some(Move::Unregister {
-                lockspace: self.own.lockspace,
-            }),
-            _ => None,
-        }
-    }
-
-    /// The removal of its connection, if that stands.
-    fn unregistering(&self) -> Option<Move>
-        ensures { result ≡ choose self.now.registered (Unregister self.now.own.lockspace) }
-    {
-        if self.registered {
-            Some(Move::Unregister {
-                lockspace: self.own.lockspace,
-            })
-        } else {
-            None
-        }
-    }
-
-    /// A call is submitted.
-    fn call(&mut self, now: u64, call: &Option<DeltaCall>)
-        requires moment { now < moments }
-        requires fit { IfSome call.now (λ c. IfSome (record_in_call c) IsOwnRecord) }
-        ensures { self.new ≡ called_with now call.now self.old }
-    {
-        if let Some(call) = call {
-            let purpose = purpose_of(call);
-            self.own.called(now, &purpose, &record_in(call));
-            self.waits = Some(OpenDelta { purpose, made: now });
-        }
-    }
-
-    /// A decision is done: this is what it gives.
-    fn carry(&mut self, now: u64, next: DeltaNext) -> DeltaOut
-        requires moment { now < moments }
-        requires fit { IsFitNext next }
-        ensures state { self.new ≡ carried now next self.old }
-        ensures out { result ≡ given_by now next self.old }
-    {
-        let moved = self.move_in(now, &next);
-        let call = call_in(&next);
-        self.standing = standing_after(self.own.generation, &next, self.standing);
-        self.last = last_after(&next, self.last);
-        self.registered = registered_after(&next, self.registered);
-        self.call(now, &call);
-        DeltaOut {
-            recovers: false,
-            moved,
-            call,
-            outcome: outcome_in(next),
-        }
-    }
-
     /// The stage: while it joins by its newest call, then joined, freeing, refused or gone.
     pub fn state(&self) -> Stage
         ensures { result ≡ stage_told self.now }
@@ -387,7 +182,8 @@ impl DeltaLease {
         ensures { result ≡ is_late now self.now }
     {
         match self.standing {
-            Standing::Holds => !self.recovering && has_passed(self.last, self.own.timing.fail(), now),
+            Standing::Holds => !self.recovering
+                && has_passed(self.last, self.own.timing.fail(), now),
             Standing::Joins => false,
             Standing::Declined => false,
             Standing::Gone => false,
@@ -478,124 +274,6 @@ impl DeltaLease {
         self.carry(now, next)
     }
 
-    /// What an answer makes due, to the call of this number, for this purpose, submitted at the reading `made`.
-    fn answer_next(
-        &self,
-        now: u64,
-        call: u64,
-        purpose: &Purpose,
-        made: u64,
-        answer: &SectorAnswer,
-    ) -> DeltaNext
-        requires { (now < moments) × (made < moments) }
-        ensures exact { result ≡ answer_next now call purpose.now made (answer_in answer.now) self.now }
-        ensures fit { IsFitNext result }
-    {
-        match purpose {
-            Purpose::Joining { job: _, step } => self.join_next(now, call, made, *step, answer),
-            Purpose::Renewal => after_renewal(self.recovering, made, answer),
-            Purpose::Leaving { job: _ } => after_free(0, call, answer),
-            _ => DeltaNext::Nothing,
-        }
-    }
-
-    /// The same at a step of the joining.
-    fn join_next(
-        &self,
-        now: u64,
-        call: u64,
-        made: u64,
-        step: JoinStep,
-        answer: &SectorAnswer,
-    ) -> DeltaNext
-        requires { (now < moments) × (made < moments) }
-        ensures exact { result ≡ join_next now call step made (answer_in answer.now) self.now }
-        ensures fit { IsFitNext result }
-    {
-        match self.standing {
-            Standing::Joins => self.own.after_join(now, call, made, step, answer),
-            Standing::Holds => DeltaNext::Nothing,
-            Standing::Declined => DeltaNext::Nothing,
-            Standing::Gone => DeltaNext::Nothing,
-        }
-    }
-
-    /// Whether it has ended.
-    fn is_over(&self) -> bool
-        ensures { result ≡ is_over self.now.standing }
-    {
-        match self.standing {
-            Standing::Joins => false,
-            Standing::Holds => false,
-            Standing::Declined => true,
-            Standing::Gone => true,
-        }
-    }
-
-    /// What follows an answer: a decision is done, or a session that has ended parts with its connection.
-    fn follow(&mut self, now: u64, over: bool, next: DeltaNext) -> DeltaOut
-        requires moment { now < moments }
-        requires fit { IsFitNext next }
-        ensures state { self.new ≡ followed now over next self.old }
-        ensures out { result ≡ given_following now over next self.old }
-    {
-        if !over {
-            return self.carry(now, next);
-        }
-        let moved = self.unregistering();
-        self.registered = false;
-        DeltaOut {
-            recovers: false,
-            moved,
-            call: None,
-            outcome: None,
-        }
-    }
-
-    /// The call that waited, on the own sector, is answered.
-    fn hear(&mut self, now: u64, call: u64, open: &OpenDelta, answer: SectorAnswer) -> DeltaOut
-        requires moments { (now < moments) × (open.now.made < moments) }
-        requires own { is_survey_purpose open.now.purpose ≡ false }
-        ensures state { self.new ≡ after_told now call open.now.purpose open.now.made (answer_in answer) self.old }
-        ensures out { result ≡ given_told now call open.now.purpose open.now.made (answer_in answer) self.old }
-    {
-        let over = self.is_over();
-        let next = self.answer_next(now, call, &open.purpose, open.made, &answer);
-        self.own.told(now, &open.purpose, answer);
-        self.waits = None;
-        self.follow(now, over, next)
-    }
-
-    /// Whether a read of all ids begins recovery.
-    fn survey_shows(&self, answer: &Answer) -> bool
-        requires { IsWholeRead self.now.own answer.now }
-        ensures { result ≡ survey_shows answer.now self.now }
-    {
-        match self.standing {
-            Standing::Holds => !self.recovering && self.own.shows_other(answer),
-            Standing::Joins => false,
-            Standing::Declined => false,
-            Standing::Gone => false,
-        }
-    }
-
-    /// The read of all ids is answered.
-    fn hear_survey(&mut self, now: u64, answer: &Answer) -> DeltaOut
-        requires moment { now < moments }
-        requires whole { IsWholeRead self.old.own answer.now }
-        ensures state { (call made : ℕ) → self.new ≡ after_told now call Survey made answer.now self.old }
-        ensures out { (call made : ℕ) → result ≡ given_told now call Survey made answer.now self.old }
-    {
-        let over = self.is_over();
-        let shows = self.survey_shows(answer);
-        self.own.surveyed(now);
-        self.waits = None;
-        self.recovering = shows || self.recovering;
-        let mut out = self.follow(now, over, DeltaNext::Nothing);
-        out.recovers = shows;
-        out
-    }
-
     /// The call that waited is answered: an own sector's answer has its sector read.
     fn answer(
         &mut self,
@@ -647,12 +325,7 @@ impl DeltaLease {
     /// One step, at the reading `now`, of what comes: it gives exactly what is due. The answer that comes is that of the call without an
     /// answer, a read's as long as it asks; a lease that frees is joined, outside recovery and without a call of its own, and its seq is
     /// below 2^63 - 1. An `Err` is want of memory for the sector of an answer, and changes nothing.
-    pub fn step(
-        &mut self,
-        alloc: Global,
-        now: u64,
-        input: DeltaIn,
-    ) -> Result<DeltaOut, AllocError>
+    pub fn step(&mut self, alloc: Global, now: u64, input: DeltaIn) -> Result<DeltaOut, AllocError>
         requires moment { now < moments }
         requires fit { IsFitInput self.old input }
         ensures state { OnOk result (self.new ≡ after_step now input self.old) }
@@ -673,6 +346,28 @@ impl DeltaLease {
                 let late = self.begin(now);
                 Ok(with_recovery(late, self.leave(now)))
             }
+        }
+    }
+
+    /// Whether this may come: an answer fits the call that waits, if one does; a lease that frees is joined and has a seq left.
+    pub fn fits(&self, input: &DeltaIn) -> bool
+        ensures { IsTrue result → IsFitInput self.now input.now }
+    {
+        match input {
+            DeltaIn::Wake(_) => true,
+            DeltaIn::Answered { call: _, answer } => self.fits_answer(answer),
+            DeltaIn::Refused => true,
+            DeltaIn::Leave => has_next(self.own.seq) && 1 <= self.own.generation,
+        }
+    }
+
+    /// Whether an answer fits the call that waits, if one does.
+    fn fits_answer(&self, answer: &Answer) -> bool
+        ensures { IsTrue result → IfSome self.now.waits (λ w. IsFitAnswer self.now.own answer.now w.purpose) }
+    {
+        match &self.waits {
+            Some(open) => self.own.fits_answer(is_survey(&open.purpose), answer),
+            None => true,
         }
     }
 }

@@ -34,6 +34,8 @@
 #![tactic(auto)]
 
 mod answer;
+mod carrying;
+mod hearing;
 mod joining;
 pub mod laws;
 mod lease;

@@ -4,7 +4,7 @@ ghost use Rattle.sl_area.specs.Layouts.{Sizes, layout_of, program_digest};
 ghost use Rattle.sl_delta.specs.Own.{IsOwnRecord, lease_of};
 ghost use Rattle.sl_area.specs.Places.{delta_of as delta_at};
 ghost use Rattle.sl_delta.specs.Decides.{watched_in};
-ghost use Rattle.sl_delta.specs.Steps.{IsWholeRead, is_other, shows_other};
+ghost use Rattle.sl_delta.specs.Steps.{FitsRead, IsWholeRead, is_other, shows_other};
 ghost use Rattle.sl_words.specs.Words.{some_is};
 ghost use Rattle.sl_sector.specs.Bitmaps.{no_bits};
 ghost use Rattle.sl_sector.specs.Records.{Fits};
@@ -13,7 +13,7 @@ ghost use Rattle.sl_sessions.specs.Deltas.{delta_record, host_of_delta, version_
 ghost use Rattle.sl_sessions.specs.Watching.{is_free_state};
 ghost use Rattle.sl_words.specs.Bounds.{moments};
 ghost use Rattle.std.specs.Arc.{arc_value};
-ghost use Rattle.std.specs.Prelude.{bytes_eq, codes, length, option_map, unwrap_or, [], ◌*◌, ◌<◌, ◌≡◌, ◌≤◌};
+ghost use Rattle.std.specs.Prelude.{IsTrue, bytes_eq, codes, length, option_map, unwrap_or, [], ◌*◌, ◌<◌, ◌≡◌, ◌≤◌};
 
 use crate::own::OwnSector;
 use sl_request::Bitmap;
@@ -164,6 +164,25 @@ impl OwnSector {
             },
             Answer::Written => false,
             Answer::Failed => false,
+        }
+    }
+
+    /// Whether the answer of a read of all delta sectors, or of the own one, has as many bytes as it asks.
+    pub(crate) fn fits_answer(&self, of_all: bool, answer: &Answer) -> bool
+        ensures { IsTrue result → FitsRead of_all self.now answer.now }
+    {
+        match answer {
+            Answer::Read(bytes) => {
+                let size = self.geometry.sector() as usize;
+                let count = if of_all {
+                    self.geometry.hosts() as usize
+                } else {
+                    1
+                };
+                bytes.len() == count * size
+            }
+            Answer::Written => true,
+            Answer::Failed => true,
         }
     }
 

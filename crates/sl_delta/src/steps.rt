@@ -10,10 +10,7 @@ pub enum DeltaIn {
     /// Time has passed; a renewal that is due carries these bits.
     Wake(Bitmap),
     /// The call without an answer, of this number, is answered.
-    Answered {
-        call: u64,
-        answer: Answer,
-    },
+    Answered { call: u64, answer: Answer },
     /// The daemon has refused the job that joins.
     Refused,
     /// The free is written: nothing is held, and no call is unanswered.
@@ -26,10 +23,7 @@ pub enum DeltaCall {
     /// The own sector is read, at this step of the joining.
     ReadOwn(JoinStep),
     /// It is written, at this step of the joining.
-    WriteOwn {
-        step: JoinStep,
-        record: DeltaRec,
-    },
+    WriteOwn { step: JoinStep, record: DeltaRec },
     /// It is renewed.
     RenewOwn(DeltaRec),
     /// The sectors of all ids are read.
@@ -42,9 +36,7 @@ pub enum DeltaCall {
 #[derive(Drop)]
 pub enum Outcome {
     /// The session is joined under this generation.
-    Joined {
-        generation: u64,
-    },
+    Joined { generation: u64 },
     /// Its joining is refused.
     NotJoined(Reply),
     /// Its leaving is over.

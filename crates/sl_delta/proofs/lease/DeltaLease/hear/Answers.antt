@@ -11,14 +11,14 @@ returns c =
     let p : Purpose = c.args.open.now.purpose in
     let a : Answer = answer_in c.args.answer in
     let told : OwnState → LeaseState = λ o.
-        record {
-          own = o;
-          standing = c.self.inside.standing;
-          last = c.self.inside.last;
-          recovering = c.self.inside.recovering;
-          registered = c.self.inside.registered;
-          waits = None;
-        } in
+    record {
+      own = o;
+      standing = c.self.inside.standing;
+      last = c.self.inside.last;
+      recovering = c.self.inside.recovering;
+      registered = c.self.inside.registered;
+      waits = None;
+    } in
     record {
       state = told_follows c.args.now c.args.call p c.args.open.now.made a c.args.self.now c.is_over-over.result c.answer_next-next.result c.follow.new.self c.requires.own
           c.is_over-over.ensures c.answer_next-next.ensures.exact
