@@ -84,7 +84,7 @@ impl Pair {
 }
 
 /// The sector that a word `NAME=..` of the text tells.
-fn sector_named(text: &str, name: &str) -> [u8; 512] {
+pub fn sector_named(text: &str, name: &str) -> [u8; 512] {
     for word in text.split(' ') {
         if part(word, '=', 0) == name {
             return sector_of(part(word, '=', 1));
