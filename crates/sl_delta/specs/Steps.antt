@@ -32,7 +32,7 @@ use Rattle.sl_trace.specs.declared.input.Answer.TheVariants.{Failed, Read, Writt
 use Rattle.sl_trace.specs.declared.input.Answer.{Answer}
 use Rattle.sl_words.specs.Bounds.{moments}
 use Rattle.sl_words.specs.Words.{choose, some_is}
-use Rattle.std.specs.Prelude.{Bool, IfSome, List, None, Option, Some, bytes_eq, false, is_some, length, nat_le, nat_lt, not, true, ℕ, ◌&&◌, ◌*◌, ◌+◌, ◌<◌, ◌==◌, ◌||◌, ◌≡◌, ◌≤◌}
+use Rattle.std.specs.Prelude.{Bool, IfSome, IsTrue, List, None, Option, Some, bytes_eq, false, is_some, length, nat_le, nat_lt, not, true, ℕ, ◌&&◌, ◌*◌, ◌+◌, ◌<◌, ◌==◌, ◌||◌, ◌≡◌, ◌≤◌}
 
 -- A delta lease.
 pub record LeaseState : Type 0 where
@@ -332,12 +332,16 @@ FitsRead false o a = IsOwnRead o a
 abbrev pub IsFitAnswer : OwnState → Answer → Purpose → Type 0
 IsFitAnswer o a p = FitsRead (is_survey_purpose p) o a
 
--- The condition on what comes: an answer fits the call that waits; a lease that frees is joined and has a seq left.
+-- Whether the session is joined and has no call unanswered, so that its free is in flight with no other write.
+abbrev pub may_leave : LeaseState → Bool
+may_leave l = elim l.standing [ Holds ↦ not (is_some l.waits) | _ ↦ false ]
+
+-- The condition on what comes: an answer fits the call that waits; a lease that frees may leave and has a seq left.
 abbrev pub IsFitInput : LeaseState → DeltaIn → Type 0
 IsFitInput l (Wake bits) = Unit {0}
 IsFitInput l (Told call a) = IfSome l.waits (λ w. IsFitAnswer l.own a w.purpose)
 IsFitInput l Refused = Unit {0}
-IsFitInput l Leave = Fits (l.own.seq + 1) × (1 ≤ l.own.generation)
+IsFitInput l Leave = IsTrue (may_leave l) × (Fits (l.own.seq + 1) × (1 ≤ l.own.generation))
 
 -- Before the first call of a joining, and of a session that its daemon begins with.
 abbrev pub new_lease : OwnState → LeaseState

@@ -31,6 +31,10 @@
 //! - freed: a free was submitted, which is never tried again.
 //!
 //! `laws` says that this is enough for each decision, and that a host keeps the same.
+//!
+//! A `DeltaLease` is an `OwnSector` that makes its calls: the call without an answer, how the session stands, its last renewal that counts,
+//! its connection and whether it recovers are kept beside it. What comes (a wake, an answer, a refused job, a leave) is one `step`, which
+//! gives the call, the connection's move and the outcome that are due (`after_step`, `out_of_step`).
 #![tactic(auto)]
 
 mod answer;
