@@ -113,17 +113,17 @@ impl DeltaLease {
         &mut self,
         now: u64,
         call: u64,
-        open: &OpenDelta,
+        waiting: &OpenDelta,
         answer: SectorAnswer,
     ) -> DeltaOut
-        requires moments { (now < moments) × (open.now.made < moments) }
-        requires own { is_survey_purpose open.now.purpose ≡ false }
-        ensures state { self.new ≡ after_told now call open.now.purpose open.now.made (answer_in answer) self.old }
-        ensures out { result ≡ given_told now call open.now.purpose open.now.made (answer_in answer) self.old }
+        requires moments { (now < moments) × (waiting.now.made < moments) }
+        requires own { is_survey_purpose waiting.now.purpose ≡ false }
+        ensures state { self.new ≡ after_told now call waiting.now.purpose waiting.now.made (answer_in answer) self.old }
+        ensures out { result ≡ given_told now call waiting.now.purpose waiting.now.made (answer_in answer) self.old }
     {
         let over = self.is_over();
-        let next = self.answer_next(now, call, &open.purpose, open.made, &answer);
-        self.own.told(now, &open.purpose, answer);
+        let next = self.answer_next(now, call, &waiting.purpose, waiting.made, &answer);
+        self.own.told(now, &waiting.purpose, answer);
         self.waits = None;
         self.follow(now, over, next)
     }

@@ -237,7 +237,7 @@ impl DeltaLease {
         ensures { result ≡ has_open_write self.now }
     {
         match &self.waits {
-            Some(open) => writes_own(&open.purpose),
+            Some(waiting) => writes_own(&waiting.purpose),
             None => false,
         }
     }
@@ -292,23 +292,23 @@ impl DeltaLease {
         alloc: Global,
         now: u64,
         call: u64,
-        open: &OpenDelta,
+        waiting: &OpenDelta,
         answer: Answer,
     ) -> Result<DeltaOut, AllocError>
-        requires moments { (now < moments) × (open.now.made < moments) }
-        requires fit { IsFitAnswer self.old.own answer open.now.purpose }
-        ensures state { OnOk result (self.new ≡ after_told now call open.now.purpose open.now.made answer (begun now self.old)) }
-        ensures out { IfOk result (λ out. out ≡ with_recovery (is_late now self.old) (given_told now call open.now.purpose open.now.made answer (begun now self.old))) }
+        requires moments { (now < moments) × (waiting.now.made < moments) }
+        requires fit { IsFitAnswer self.old.own answer waiting.now.purpose }
+        ensures state { OnOk result (self.new ≡ after_told now call waiting.now.purpose waiting.now.made answer (begun now self.old)) }
+        ensures out { IfOk result (λ out. out ≡ with_recovery (is_late now self.old) (given_told now call waiting.now.purpose waiting.now.made answer (begun now self.old))) }
         ensures err { OnErr result (self.new ≡ self.old) }
     {
         let _sizes = self.own.geometry.sector();
-        if is_survey(&open.purpose) {
+        if is_survey(&waiting.purpose) {
             let late = self.begin(now);
             return Ok(with_recovery(late, self.hear_survey(now, &answer)));
         }
         let answer = sector_answer(alloc, answer)?;
         let late = self.begin(now);
-        Ok(with_recovery(late, self.hear(now, call, open, answer)))
+        Ok(with_recovery(late, self.hear(now, call, waiting, answer)))
     }
 
     /// The answer of this number came.
@@ -326,7 +326,7 @@ impl DeltaLease {
         ensures err { OnErr result (self.new ≡ self.old) }
     {
         match self.waits {
-            Some(open) => self.answer(alloc, now, call, &open, answer),
+            Some(waiting) => self.answer(alloc, now, call, &waiting, answer),
             None => {
                 let late = self.begin(now);
                 Ok(with_recovery(late, nothing_given()))
@@ -380,7 +380,7 @@ impl DeltaLease {
         ensures { IsTrue result → IfSome self.now.waits (λ w. IsFitAnswer self.now.own answer.now w.purpose) }
     {
         match &self.waits {
-            Some(open) => self.own.fits_answer(is_survey(&open.purpose), answer),
+            Some(waiting) => self.own.fits_answer(is_survey(&waiting.purpose), answer),
             None => true,
         }
     }

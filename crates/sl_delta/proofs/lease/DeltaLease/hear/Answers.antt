@@ -8,7 +8,7 @@ use Rattle.std.proofs.Common.{None, ap, ◌∙◌}
 
 pub returns : goal.returns
 returns c =
-    let p : Purpose = c.args.open.now.purpose in
+    let p : Purpose = c.args.waiting.now.purpose in
     let a : Answer = answer_in c.args.answer in
     let told : OwnState → LeaseState = λ o.
     record {
@@ -20,11 +20,11 @@ returns c =
       waits = None;
     } in
     record {
-      state = told_follows c.args.now c.args.call p c.args.open.now.made a c.args.self.now c.is_over-over.result c.answer_next-next.result c.follow.new.self c.requires.own
+      state = told_follows c.args.now c.args.call p c.args.waiting.now.made a c.args.self.now c.is_over-over.result c.answer_next-next.result c.follow.new.self c.requires.own
           c.is_over-over.ensures c.answer_next-next.ensures.exact
           (c.follow.ensures.state ∙ ap (λ o. followed c.args.now c.is_over-over.result c.answer_next-next.result (told o)) c.told.ensures
           ∙ ap (λ l. followed c.args.now c.is_over-over.result c.answer_next-next.result (record l { own = after_answer p a c.args.now l.own; waits = None })) c.self.view_is);
-      out = told_gives c.args.now c.args.call p c.args.open.now.made a c.args.self.now c.is_over-over.result c.answer_next-next.result c.follow.result c.requires.own
+      out = told_gives c.args.now c.args.call p c.args.waiting.now.made a c.args.self.now c.is_over-over.result c.answer_next-next.result c.follow.result c.requires.own
           c.is_over-over.ensures c.answer_next-next.ensures.exact
           (c.follow.ensures.out ∙ ap (λ o. given_following c.args.now c.is_over-over.result c.answer_next-next.result (told o)) c.told.ensures
           ∙ ap (λ l. given_following c.args.now c.is_over-over.result c.answer_next-next.result (record l { own = after_answer p a c.args.now l.own; waits = None })) c.self.view_is);
