@@ -30,7 +30,7 @@ use Rattle.sl_trace.specs.declared.effects.Purpose.TheVariants.{Joining, Leaving
 use Rattle.sl_trace.specs.declared.effects.Purpose.{Purpose}
 use Rattle.sl_trace.specs.declared.input.Answer.TheVariants.{Failed, Read, Written}
 use Rattle.sl_trace.specs.declared.input.Answer.{Answer}
-use Rattle.sl_words.specs.Bounds.{moments}
+use Rattle.sl_words.specs.Bounds.{is_number, moments}
 use Rattle.sl_words.specs.Words.{choose, some_is}
 use Rattle.std.specs.Prelude.{Bool, IfSome, IsTrue, List, None, Option, Some, bytes_eq, false, is_some, length, nat_le, nat_lt, not, true, ℕ, ◌&&◌, ◌*◌, ◌+◌, ◌<◌, ◌==◌, ◌||◌, ◌≡◌, ◌≤◌}
 
@@ -301,19 +301,30 @@ given_told now call p made a l =
 abbrev pub with_recovery : Bool → DeltaOut → DeltaOut
 with_recovery late out = record out { recovers = late || out.recovers }
 
+-- The free of a leaving.
+abbrev pub free_next : ℕ → LeaseState → DeltaNext
+free_next now l = next_free (lease_of l.own) now (known_with l.own l.recovering (Some 0))
+
+-- In recovery the session ends, and nothing is written.
+abbrev pub ended : LeaseState → LeaseState
+ended l = record l { standing = Gone; registered = false }
+
+abbrev pub ending : LeaseState → DeltaOut
+ending l = record { recovers = false; moved = Some (Unregister l.own.lockspace); call = None; outcome = None }
+
 -- What the step makes of a lease that has begun it.
 abbrev pub step_from : ℕ → DeltaIn → LeaseState → LeaseState
 step_from now (Wake bits) l = carried now (wake_next now bits l) l
 step_from now (Told call a) l = elim l.waits [ None ↦ l | Some w ↦ after_told now call w.purpose w.made a l ]
 step_from now Refused l = refused_now l
-step_from now Leave l = carried now (next_free (lease_of l.own) now (known_with l.own l.recovering (Some 0))) l
+step_from now Leave l = elim l.recovering [ true ↦ ended l | false ↦ carried now (free_next now l) l ]
 
 -- What it gives.
 abbrev pub given_from : ℕ → DeltaIn → LeaseState → DeltaOut
 given_from now (Wake bits) l = given_by now (wake_next now bits l) l
 given_from now (Told call a) l = elim l.waits [ None ↦ nothing_given | Some w ↦ given_told now call w.purpose w.made a l ]
 given_from now Refused l = refusing l
-given_from now Leave l = given_by now (next_free (lease_of l.own) now (known_with l.own l.recovering (Some 0))) l
+given_from now Leave l = elim l.recovering [ true ↦ ending l | false ↦ given_by now (free_next now l) l ]
 
 -- The lease after a step, and what the step gives: recovery by time begins first.
 abbrev pub after_step : ℕ → DeltaIn → LeaseState → LeaseState
@@ -332,16 +343,24 @@ FitsRead false o a = IsOwnRead o a
 abbrev pub IsFitAnswer : OwnState → Answer → Purpose → Type 0
 IsFitAnswer o a p = FitsRead (is_survey_purpose p) o a
 
--- Whether the session is joined and has no call unanswered, so that its free is in flight with no other write.
-abbrev pub may_leave : LeaseState → Bool
-may_leave l = elim l.standing [ Holds ↦ not (is_some l.waits) | _ ↦ false ]
+-- Whether no call is unanswered, and the free's record has its numbers.
+abbrev pub may_free : LeaseState → Bool
+may_free l = not (is_some l.waits) && is_number (l.own.seq + 1) && nat_le 1 l.own.generation
 
--- The condition on what comes: an answer fits the call that waits; a lease that frees may leave and has a seq left.
+-- Whether a joined session may leave: in recovery no write is unanswered, else it may free.
+abbrev pub may_leave : LeaseState → Bool
+may_leave l =
+    elim l.standing [
+      | Holds ↦ elim l.recovering [ true ↦ not (has_open_write l) | false ↦ may_free l ]
+      | _ ↦ false
+    ]
+
+-- The condition on what comes: an answer fits the call that waits, and a lease that leaves may.
 abbrev pub IsFitInput : LeaseState → DeltaIn → Type 0
 IsFitInput l (Wake bits) = Unit {0}
 IsFitInput l (Told call a) = IfSome l.waits (λ w. IsFitAnswer l.own a w.purpose)
 IsFitInput l Refused = Unit {0}
-IsFitInput l Leave = IsTrue (may_leave l) × (Fits (l.own.seq + 1) × (1 ≤ l.own.generation))
+IsFitInput l Leave = IsTrue (may_leave l)
 
 -- Before the first call of a joining, and of a session that its daemon begins with.
 abbrev pub new_lease : OwnState → LeaseState

@@ -6,7 +6,7 @@
 
 ghost use Rattle.sl_delta.specs.Decides.{IsFitNext};
 ghost use Rattle.sl_delta.specs.Own.{IsOwnRecord, answer_in, without_calls};
-ghost use Rattle.sl_delta.specs.Steps.{IsFitAnswer, IsFitInput, IsWholeRead, after_step, after_told, answer_next, begun, call_in, called_with, carried, followed, given_by, given_following, given_from, given_told, has_open_write, is_late, is_over, join_next, joined_lease, last_after, last_told, may_leave, move_in, new_lease, nothing_given, out_of_step, outcome_in, purpose_of, record_in_call, refused_move, refused_now, refusing, registered_after, stage_told, standing_after, step_from, survey_shows, wake_next, with_recovery};
+ghost use Rattle.sl_delta.specs.Steps.{IsFitAnswer, IsFitInput, IsWholeRead, after_step, after_told, answer_next, begun, call_in, called_with, carried, ended, ending, followed, given_by, given_following, given_from, given_told, has_open_write, is_late, is_over, join_next, joined_lease, last_after, last_told, may_leave, move_in, new_lease, nothing_given, out_of_step, outcome_in, purpose_of, record_in_call, refused_move, refused_now, refusing, registered_after, stage_told, standing_after, step_from, survey_shows, wake_next, with_recovery};
 ghost use Rattle.sl_delta.specs.declared.lease.Standing.TheVariants.{Holds};
 ghost use Rattle.sl_delta.specs.declared.steps.DeltaIn.TheVariants.{Answered as Told, Leave, Wake};
 ghost use Rattle.sl_sector.specs.Records.{Fits};
@@ -262,26 +262,51 @@ impl DeltaLease {
         }
     }
 
-    /// Whether the free may be written.
+    /// Whether it may end, or free its sector.
     fn may_leave(&self) -> bool
         ensures { result ≡ may_leave self.now }
     {
         match self.standing {
-            Standing::Holds => self.waits.is_none(),
+            Standing::Holds => {
+                if self.recovering {
+                    !self.has_open_write()
+                } else {
+                    self.waits.is_none() && has_next(self.own.seq) && 1 <= self.own.generation
+                }
+            }
             Standing::Joins => false,
             Standing::Declined => false,
             Standing::Gone => false,
         }
     }
 
-    /// The free is written.
+    /// It ends in recovery, and its connection goes.
+    fn end(&mut self) -> DeltaOut
+        ensures state { self.new ≡ ended self.old }
+        ensures out { result ≡ ending self.old }
+    {
+        self.standing = Standing::Gone;
+        self.registered = false;
+        DeltaOut {
+            recovers: false,
+            moved: Some(Move::Unregister {
+                lockspace: self.own.lockspace,
+            }),
+            call: None,
+            outcome: None,
+        }
+    }
+
+    /// The free is written, or it ends.
     fn leave(&mut self, now: u64) -> DeltaOut
         requires moment { now < moments }
-        requires left { Fits (self.old.own.seq + 1) }
-        requires named { 1 ≤ self.old.own.generation }
+        requires left { (self.old.recovering ≡ false) → (Fits (self.old.own.seq + 1) × (1 ≤ self.old.own.generation)) }
         ensures state { self.new ≡ step_from now Leave self.old }
         ensures out { result ≡ given_from now Leave self.old }
     {
+        if self.recovering {
+            return self.end();
+        }
         let next = self.own.free(now, Some(0));
         self.carry(now, next)
     }
@@ -369,9 +394,7 @@ impl DeltaLease {
             DeltaIn::Wake(_) => true,
             DeltaIn::Answered { call: _, answer } => self.fits_answer(answer),
             DeltaIn::Refused => true,
-            DeltaIn::Leave => {
-                self.may_leave() && has_next(self.own.seq) && 1 <= self.own.generation
-            }
+            DeltaIn::Leave => self.may_leave(),
         }
     }
 

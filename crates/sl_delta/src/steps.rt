@@ -13,7 +13,7 @@ pub enum DeltaIn {
     Answered { call: u64, answer: Answer },
     /// The daemon has refused the job that joins.
     Refused,
-    /// The free is written: nothing is held. The lease is joined and has no call unanswered.
+    /// The joined session leaves, holding nothing: its free is written, or in recovery it ends.
     Leave,
 }
 
