@@ -3,3 +3,4 @@ pub mod WatchLaws
 pub mod StandsLaws
 pub mod EnoughLaws
 pub mod StepLaws
+pub mod SafeLaws

@@ -12,7 +12,6 @@ use Rattle.sl_delta.specs.declared.steps.DeltaIn.{DeltaIn}
 use Rattle.sl_delta.specs.declared.steps.DeltaOut.{DeltaOut}
 use Rattle.sl_delta.specs.declared.steps.Outcome.TheVariants.{Joined, Left, NotJoined}
 use Rattle.sl_delta.specs.declared.steps.Outcome.{Outcome}
-use Rattle.sl_sector.specs.Records.{Fits}
 use Rattle.sl_sector.specs.Spelling.{IsSectorSize}
 use Rattle.sl_sector.specs.declared.sector.DeltaRec.{DeltaRec}
 use Rattle.sl_sessions.specs.Deltas.{next_after_free, next_after_renewal, next_free, next_renewal}
