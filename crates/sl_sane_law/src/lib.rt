@@ -1,0 +1,3 @@
+//! What is known of a world stays known: each event that may happen, with the effects of a daemon that numbers its calls and children
+//! and whose calls are sound, leaves a sane world sane.
+#![tactic(auto)]
