@@ -5,3 +5,5 @@ pub mod SaneSectors
 pub mod NextTraces
 pub mod SaneSteps
 pub mod SaneWorlds
+pub mod SaneEvents
+pub mod ComingInputs

@@ -1,13 +1,12 @@
 -- Plain facts of lists: what is changed element by element, and what is told apart by a number.
 use Rattle.sl_plain.proofs.Lists.{filter_both, got_index, got_inside, there_is}
-use Rattle.sl_plain.proofs.Options.{mapped_value}
 use Rattle.sl_words.proofs.CaseLaws.{some_value}
 use Rattle.std.proofs.Common.{ap, ap₂, arith, refl, subst, suc, sym, zero, ◌∙◌}
 use Rattle.std.proofs.lemmas.List.{length-map}
 use Rattle.std.proofs.lemmas.List.Kept.{AllPairs-cons}
 use Rattle.std.proofs.lemmas.Option.{slice_get-map}
 use Rattle.std.specs.List.{range_with_len}
-use Rattle.std.specs.Prelude.{All, AllPairs, Bool, Contains, List, Option, Some, cond, false, filter, length, map, not, option_map, slice_get, slice_index_or, true, [], ℕ, ◌&&◌, ◌++◌, ◌+◌, ◌<◌, ◌∷◌, ◌≡◌, ◌≢◌}
+use Rattle.std.specs.Prelude.{All, AllPairs, Bool, Contains, List, Some, cond, false, filter, length, map, not, option_map, slice_get, slice_index_or, true, [], ℕ, ◌&&◌, ◌++◌, ◌+◌, ◌<◌, ◌∷◌, ◌≡◌, ◌≢◌}
 
 -- Where an element stands.
 pub place_of_one : {A : Type 0} (xs : List A) (x : A) → Contains xs x → (i : ℕ) × (i < length xs) × (slice_get xs i ≡ Some x)

@@ -3,14 +3,13 @@ use Rattle.sl_daemon.specs.Daemons.{IsSoundCall}
 use Rattle.sl_kept.specs.Sane.{IsSaneMachine}
 use Rattle.sl_plain.proofs.Lists.{in_map, kept, kept_inside}
 use Rattle.sl_run.specs.Events.{change_call, fated, sectors_of}
-use Rattle.sl_run.specs.Worlds.{Course, Daemon, Dropped, Fate, Landed, Machine, Stamp, Torn, World, daemons_on, flights, is_in_flight, is_of_running, is_open, is_write_course, may_land, next_numbers, sector_size}
+use Rattle.sl_run.specs.Worlds.{Course, Daemon, Fate, Machine, Stamp, World, daemons_on, flights, is_in_flight, is_of_running, is_open, is_write_course, may_land, next_numbers, sector_size}
 use Rattle.sl_sane_law.proofs.PlainLists.{kept_twice, same_apart, same_kept}
 use Rattle.sl_trace.specs.declared.effects.Call.{Call}
 use Rattle.sl_words.proofs.CaseLaws.{false_is_true}
-use Rattle.sl_words.proofs.WordLaws.{and_true}
 use Rattle.sl_words.specs.Words.{some_is}
 use Rattle.std.proofs.Common.{ap, ap₂, refl, subst, sym, ◌∙◌}
-use Rattle.std.specs.Prelude.{Bool, Contains, List, Option, false, filter, is_none, length, map, true, [], ℕ, ◌&&◌, ◌*◌, ◌<◌, ◌==◌, ◌∷◌, ◌≡◌, ◌≤◌, ◌||◌}
+use Rattle.std.specs.Prelude.{Bool, Contains, List, false, filter, is_none, length, map, true, [], ℕ, ◌&&◌, ◌*◌, ◌<◌, ◌==◌, ◌∷◌, ◌≡◌, ◌≤◌, ◌||◌}
 
 -- What a call has read is whole.
 abbrev pub ReadsWhole : World → Course → Type 0

@@ -4,18 +4,17 @@ use Rattle.sl_kept.specs.Sane.{IsSaneMachine}
 use Rattle.sl_plain.proofs.Lists.{contains_cases, contains_first, contains_more, kept, kept_inside}
 use Rattle.sl_plain.proofs.Numbers.{zero_least}
 use Rattle.sl_run.specs.Events.{after_crash, after_reset, after_restart, after_start, after_test, growth_of, next_step, passed}
-use Rattle.sl_run.specs.Worlds.{Course, Daemon, Machine, Stamp, World, daemons_on, flights, is_of_running, is_open, may_land, new_daemon, next_numbers, reading_now, resets_after, sector_size, setting_of, stamp_now}
+use Rattle.sl_run.specs.Worlds.{Course, Daemon, Machine, Stamp, World, daemons_on, flights, is_of_running, is_open, may_land, new_daemon, next_numbers, reading_now, sector_size, setting_of, stamp_now}
 use Rattle.sl_time.specs.Times.{reading_of}
 use Rattle.sl_trace.specs.Connections.{test_holds}
 use Rattle.sl_trace.specs.Traces.{children, first_child, last_reading, outstanding}
 use Rattle.sl_words.proofs.CaseLaws.{none_some, some_value, true_is_false}
-use Rattle.sl_words.proofs.WordLaws.{and_true}
 use Rattle.sl_words.specs.Bounds.{moments}
 use Rattle.sl_words.specs.Words.{some_is}
-use Rattle.std.proofs.Common.{ap, ap₂, arith, inl, inr, refl, subst, sym, ◌∙◌}
+use Rattle.std.proofs.Common.{ap, arith, inl, inr, refl, subst, sym, ◌∙◌}
 use Rattle.std.proofs.lemmas.Bool.Decides.{nat_tests}
 use Rattle.std.specs.List.{range_with_len}
-use Rattle.std.specs.Prelude.{Bool, Contains, List, None, Option, Some, cond, false, filter, if◌then◌else◌, is_none, length, map, suc, true, [], ℕ, ◌&&◌, ◌*◌, ◌+◌, ◌/◌, ◌<◌, ◌==◌, ◌∷◌, ◌≡◌, ◌≤◌, ◌||◌}
+use Rattle.std.specs.Prelude.{Bool, Contains, List, None, Option, Some, cond, false, filter, if◌then◌else◌, is_none, length, map, suc, true, [], ℕ, ◌&&◌, ◌*◌, ◌+◌, ◌<◌, ◌==◌, ◌∷◌, ◌≡◌, ◌≤◌, ◌||◌}
 
 -- ---- later
 
@@ -182,7 +181,7 @@ nothing_kept p (x ∷ xs) none =
     ap (λ b. cond b (x ∷ filter p xs) (filter p xs)) (none x (contains_first x xs)) ∙ nothing_kept p xs (λ y there. none y (contains_more x xs y there))
 
 -- The daemons that were there are those that have ended.
-ended_all : (a : Machine) → a.daemon ≡ None → daemons_on a ≡ a.ended
+pub ended_all : (a : Machine) → a.daemon ≡ None → daemons_on a ≡ a.ended
 ended_all a none = ap (λ (o : Option Daemon). elim o as (λ x. List Daemon) [ None ↦ a.ended | Some d ↦ d ∷ a.ended ]) none
 
 plus_none : (n : ℕ) → n + 0 ≡ n

@@ -3,8 +3,8 @@ use Rattle.sl_area.specs.Layouts.{Layout, program_digest, sector_with}
 use Rattle.sl_daemon.specs.Daemons.{IsSoundOp}
 use Rattle.sl_kept.specs.Sane.{IsSane, IsSaneMachine}
 use Rattle.sl_kept_law.proofs.FlightEvents.{the_flight}
-use Rattle.sl_run.specs.Events.{rest_sampled, sample_at, sampled_more, sectors_left, sectors_of, torn_bytes, write_bytes}
-use Rattle.sl_run.specs.Worlds.{Course, Landing, Machine, World, content, flight_of, is_open, sector_size}
+use Rattle.sl_run.specs.Events.{sample_at, sampled_more, sectors_left, sectors_of, torn_bytes, write_bytes}
+use Rattle.sl_run.specs.Worlds.{Course, Machine, World, content, flight_of, sector_size}
 use Rattle.sl_run.specs.declared.header.Header.{Header}
 use Rattle.sl_run_law.proofs.Landing.Initial.{is_size}
 use Rattle.sl_run_law.proofs.Landing.Sizing.{IsLaid, content_size}
@@ -25,7 +25,7 @@ use Rattle.std.proofs.lemmas.List.FromFn.{length-map-range_with_len}
 use Rattle.std.proofs.lemmas.List.{length-append, length-drop, length-take-le}
 use Rattle.std.specs.List.{range_with_len}
 use Rattle.std.specs.Option.{option_map_or}
-use Rattle.std.specs.Prelude.{AllPairs, Bool, Contains, List, Some, drop, flat_map, length, map, take, true, [], ℕ, ◌*◌, ◌++◌, ◌+◌, ◌-◌, ◌==◌, ◌≡◌, ◌≢◌, ◌≤◌}
+use Rattle.std.specs.Prelude.{List, Some, drop, flat_map, length, map, take, true, [], ℕ, ◌*◌, ◌++◌, ◌+◌, ◌-◌, ◌≡◌, ◌≤◌}
 
 pub laid_out : {commands : Header → List (Form Command)} → (w : World) → IsSane commands w → IsLaid w
 laid_out w is = record { digest = program_digest; is_digest = sha256_is_digest; layout = is.layout; header = is.header }
@@ -89,9 +89,10 @@ sum_of_parts size f i (suc k) each =
 -- A read with some sectors more has whole ones.
 pub sampled_size : {commands : Header → List (Form Command)} → (w : World) → IsSane commands w → (k : ℕ) (x : Course) → k ≤ sectors_left x → ReadsWhole w x
     → ReadsWhole w (sampled_more w k x)
-sampled_size w is k x few old =
-    (length-append x.sampled more ∙ ap₂ (λ a b. a + b) old.0 size ∙ both (length x.samples) k (sector_size w) ∙ sym (ap (λ n. n * sector_size w) count),
-    subst (λ n. n ≤ sectors_of x.call.op) (sym count) (let most = old.1 in omega (arith, most, few)))
+sampled_size w is k x few old = (
+  length-append x.sampled more ∙ ap₂ (λ a b. a + b) old.0 size ∙ both (length x.samples) k (sector_size w) ∙ sym (ap (λ n. n * sector_size w) count),
+  subst (λ n. n ≤ sectors_of x.call.op) (sym count) (let most = old.1 in omega (arith, most, few)),
+)
   where
     more : List ℕ
     more = flat_map (λ i. content w x.call.path (x.call.offset + i * sector_size w)) (range_with_len (length x.samples) k)

@@ -8,11 +8,11 @@ use Rattle.sl_plain.proofs.Lists.{contains_cases, contains_first, contains_more,
 use Rattle.sl_plain.proofs.Numbers.{number_itself, refl_le}
 use Rattle.sl_run.specs.Events.{after_effects, after_step, daemon_number, new_course, next_step, number_of_step, sectors_of, with_entry}
 use Rattle.sl_run.specs.Locks.{locks_after}
-use Rattle.sl_run.specs.Worlds.{Course, Daemon, Machine, Stamp, World, daemons_on, flights, is_in_flight, is_of_running, is_open, is_write_course, next_numbers, reading_now, sector_size, stamp_now}
+use Rattle.sl_run.specs.Worlds.{Course, Daemon, Machine, Stamp, World, daemons_on, flights, is_in_flight, is_of_running, is_open, is_write_course, reading_now, sector_size, stamp_now}
 use Rattle.sl_sane_law.proofs.NextTraces.{answers, numbered_next, open_next}
-use Rattle.sl_sane_law.proofs.PlainLists.{all_stay, let_go, one_more_apart, place_of_one, same_apart}
+use Rattle.sl_sane_law.proofs.PlainLists.{let_go, one_more_apart, place_of_one, same_apart}
 use Rattle.sl_sane_law.proofs.SaneCalls.{own_open}
-use Rattle.sl_trace.specs.Traces.{Trace, children, first_child, is_ok_answer, last_reading, next_call, outstanding}
+use Rattle.sl_trace.specs.Traces.{children, first_child, is_ok_answer, last_reading, next_call, outstanding}
 use Rattle.sl_trace.specs.declared.effects.Call.{Call}
 use Rattle.sl_trace.specs.declared.effects.Effects.{Effects}
 use Rattle.sl_trace.specs.declared.effects.Entry.{Entry}
@@ -233,9 +233,13 @@ stepped_sane v a d i fx cs is closes numbered sound =
         ((x : Call) × Contains fx.calls x × (new_course now d.number x ≡ c)) ⊎ ((x : Course) × Contains (flights (on a d)) x × (record c { answered = x.answered; done = x.done } ≡ x))) [
           | inl new ↦ inl new
           | inr old ↦ let w = closes.was c old in
-              inr (w.before, kept (is_open (on a d)) a.calls w.before
-              (subst (λ (x : Course). is_open (on a d) (record x { answered = w.before.answered; done = w.before.done }) ≡ true) w.same
-              (opened (is_none c.answered) (is_none w.before.answered) (d.number == c.daemon) (is_write_course c) (is_in_flight c.fate) found.1 w.unanswered)) w.there, w.same)
+              inr (
+                w.before,
+                kept (is_open (on a d)) a.calls w.before
+                    (subst (λ (x : Course). is_open (on a d) (record x { answered = w.before.answered; done = w.before.done }) ≡ true) w.same
+                    (opened (is_none c.answered) (is_none w.before.answered) (d.number == c.daemon) (is_write_course c) (is_in_flight c.fate) found.1 w.unanswered)) w.there,
+                w.same,
+              )
         ]
 
 with_daemon : (v : World) (a : Machine) (d : Daemon) (i : Input) (fx : Effects) → IsSaneMachine v (on a d) → IsNumbered d.setting d.trace fx
@@ -278,3 +282,37 @@ own_sane v a now fx none is =
   where
     with_calls : List Course → Machine
     with_calls cs = record a { connections = (after_effects now fx a).connections; calls = cs; holdings = (after_effects now fx a).holdings }
+
+-- ---- the daemons of a machine
+
+pub daemons_now : (a : Machine) (d : Daemon) → a.daemon ≡ Some d → daemons_on a ≡ d ∷ a.ended
+daemons_now a d runs = ap (λ (o : Option Daemon). elim o as (λ x. List Daemon) [ None ↦ a.ended | Some x ↦ x ∷ a.ended ]) runs
+
+pub runs_inside : (a : Machine) (d : Daemon) → a.daemon ≡ Some d → Contains (daemons_on a) d
+runs_inside a d runs = subst (λ (ds : List Daemon). Contains ds d) (sym (daemons_now a d runs)) (contains_first d a.ended)
+
+-- The one that runs has one entry more.
+abbrev pub stepped_daemon : Stamp → Input → Effects → Machine → Daemon → Daemon
+stepped_daemon now i fx a d = with_entry (record { reading = reading_now a; input = i; effects = fx }) now d
+
+pub runs_still : (now : Stamp) (i : Input) (fx : Effects) (a : Machine) (d : Daemon) → a.daemon ≡ Some d → (after_step now i fx a).daemon ≡ Some (stepped_daemon now i fx a d)
+runs_still now (Told n answer) fx a d runs = ap (option_map (with_entry (entry_at a (Told n answer) fx) now)) runs
+runs_still now (Line text) fx a d runs = ap (option_map (with_entry (entry_at a (Line text) fx) now)) runs
+runs_still now (Number text) fx a d runs = ap (option_map (with_entry (entry_at a (Number text) fx) now)) runs
+runs_still now Wake fx a d runs = ap (option_map (with_entry (entry_at a Wake fx) now)) runs
+runs_still now (Exit p) fx a d runs = ap (option_map (with_entry (entry_at a (Exit p) fx) now)) runs
+runs_still now (Spawned p ok) fx a d runs = ap (option_map (with_entry (entry_at a (Spawned p ok) fx) now)) runs
+
+ended_still : (now : Stamp) (i : Input) (fx : Effects) (a : Machine) → (after_step now i fx a).ended ≡ a.ended
+ended_still now (Told n answer) fx a = refl
+ended_still now (Line text) fx a = refl
+ended_still now (Number text) fx a = refl
+ended_still now Wake fx a = refl
+ended_still now (Exit p) fx a = refl
+ended_still now (Spawned p ok) fx a = refl
+
+pub daemons_then : (now : Stamp) (i : Input) (fx : Effects) (a : Machine) (d : Daemon) → a.daemon ≡ Some d
+    → daemons_on (after_step now i fx a) ≡ stepped_daemon now i fx a d ∷ a.ended
+daemons_then now i fx a d runs =
+    daemons_now (after_step now i fx a) (stepped_daemon now i fx a d) (runs_still now i fx a d runs)
+    ∙ ap (λ ds. stepped_daemon now i fx a d ∷ ds) (ended_still now i fx a)

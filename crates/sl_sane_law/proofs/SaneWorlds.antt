@@ -1,5 +1,4 @@
 -- A world stays sane where one machine of it changes, where a write lands, and where a step is counted.
-use Rattle.sl_daemon.specs.Daemons.{program_of}
 use Rattle.sl_kept.specs.Sane.{IsSane, IsSaneMachine}
 use Rattle.sl_kept_law.proofs.Lookups.{machine_place}
 use Rattle.sl_plain.proofs.Lists.{contains_cases, set_length}
@@ -13,8 +12,8 @@ use Rattle.sl_trace.specs.Commands.{command_in}
 use Rattle.sl_trace.specs.Traces.{Setting}
 use Rattle.sl_trace.specs.declared.command.Command.{Command}
 use Rattle.sl_trace.specs.declared.effects.Call.{Call}
-use Rattle.std.proofs.Common.{ap, arith, inl, inr, refl, subst, sym, ◌∙◌}
-use Rattle.std.specs.Prelude.{Bool, Contains, List, None, Option, Some, length, slice_get, slice_set, true, ℕ, ◌+◌, ◌-◌, ◌∷◌, ◌≡◌, ◌≤◌}
+use Rattle.std.proofs.Common.{arith, inl, inr, refl, subst, sym, ◌∙◌}
+use Rattle.std.specs.Prelude.{Bool, Contains, List, None, Option, Some, length, slice_set, ℕ, ◌+◌, ◌-◌, ◌≡◌, ◌≤◌}
 
 -- A daemon's setting is of its world.
 pub record IsOf (commands : Header → List (Form Command)) (w : World) (st : Setting) : Type 0 where
