@@ -8,12 +8,12 @@ use Rattle.sl_run.specs.Headers.{IsHeader}
 use Rattle.sl_run.specs.Worlds.{Course, Daemon, Landing, Machine, Stamp, World, daemons_on, flights, is_of_running, next_numbers, reading_now, sector_size}
 use Rattle.sl_run.specs.declared.header.Header.{Header}
 use Rattle.sl_text.specs.Forms.{Form}
-use Rattle.sl_trace.specs.Commands.{command_in}
+use Rattle.sl_trace.specs.Commands.{IsCommand, command_in}
 use Rattle.sl_trace.specs.Traces.{Setting, Trace, children, first_child, last_reading, outstanding}
 use Rattle.sl_trace.specs.declared.command.Command.{Command}
 use Rattle.sl_words.specs.Bounds.{moments}
 use Rattle.std.specs.List.{range_with_len}
-use Rattle.std.specs.Prelude.{AllPairs, Contains, List, None, Option, Some, filter, length, map, slice_get, true, ℕ, ◌*◌, ◌+◌, ◌<◌, ◌≡◌, ◌≢◌, ◌≤◌}
+use Rattle.std.specs.Prelude.{AllPairs, Contains, List, None, Ok, Option, Some, filter, length, map, slice_get, true, ℕ, ◌*◌, ◌+◌, ◌<◌, ◌≡◌, ◌≢◌, ◌≤◌}
 
 -- A machine.
 pub record IsSaneMachine (w : World) (a : Machine) : Type 0 where
@@ -62,10 +62,15 @@ pub record IsSane (commands : Header → List (Form Command)) (w : World) : Type
   -- what lands is a sector's bytes
   pub landings : (l : Landing) → Contains w.landings l → length l.bytes ≡ sector_size w
 
+-- What the commands of a header read are commands of its layout.
+abbrev pub ReadsCommands : (Header → List (Form Command)) → Header → Type 0
+ReadsCommands commands h = (text : List ℕ) (c : Command) → command_in (commands h) text ≡ Ok c → IsCommand (layout_of h.geometry) c
+
 -- What is kept, and the daemons that run, stand for a world.
 pub record WorldStands {D : Type 0} (commands : Header → List (Form Command)) (stands : D → Setting → Trace → Type 0) (k : KeptState) (hosts : List (Option D)) (w : World) : Type 0 where
   pub tells : Tells k w
   pub sane : IsSane commands w
+  pub reads : ReadsCommands commands w.header
   pub counted : length hosts ≡ length w.machines
   pub runs : (i : ℕ) (a : Machine) (o : Option D) → slice_get w.machines i ≡ Some a → slice_get hosts i ≡ Some o → RunsOn stands o a.daemon
   -- a daemon of this kind stood for each trace
