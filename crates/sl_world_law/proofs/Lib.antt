@@ -1,0 +1,4 @@
+pub mod Hosted
+pub mod EventsHost
+pub mod EventsStand
+pub mod OwnEvents

@@ -1,0 +1,4 @@
+//! What is kept and the daemons that run stand for a world: at first, and after each event.
+#![tactic(auto)]
+
+pub mod standing;
