@@ -110,7 +110,7 @@ taken commands stands k hosts w t e none i gives_kept left =
       run = r;
       kept = kept;
       host = host.0;
-      seated = o.1 ∙ ap Some host.1;
+      seated = o.1 ∙ ap Some {y = Some host.0} host.1;
       stood = host.2;
       comes = inputs_may_come commands w t.sane e may i gives r.before r.daemon r.was r.ran
           (subst HasNumbers (shown_numbers w.header r.before) (left (shown w.header r.before) kept));
