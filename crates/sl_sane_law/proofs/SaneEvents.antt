@@ -32,14 +32,14 @@ use Rattle.sl_trace.specs.declared.command.Command.{Command}
 use Rattle.sl_trace.specs.declared.effects.Call.{Call}
 use Rattle.sl_trace.specs.declared.effects.Effects.{Effects}
 use Rattle.sl_trace.specs.declared.input.Input.{Input}
-use Rattle.sl_words.proofs.CaseLaws.{is_false, none_some, one_value, some_value, true_is_false}
+use Rattle.sl_words.proofs.CaseLaws.{is_false, one_value, true_is_false}
 use Rattle.sl_words.specs.Bounds.{moments}
-use Rattle.std.proofs.Common.{ap, ap₂, arith, inl, inr, refl, subst, suc, sym, zero, ◌∙◌}
+use Rattle.std.proofs.Common.{ap, ap₂, arith, inl, inr, refl, subst, sym, ◌∙◌}
 use Rattle.std.proofs.lemmas.Bool.Decides.{nat_tests}
 use Rattle.std.proofs.lemmas.Option.{slice_get_within}
-use Rattle.std.specs.List.{enumerate_from, list_any, range_with_len}
+use Rattle.std.specs.List.{list_any, range_with_len}
 use Rattle.std.specs.Option.{option_map_or}
-use Rattle.std.specs.Prelude.{Bool, Contains, IsSome, List, None, Option, Some, bytes_eq, false, if◌then◌else◌, is_none, length, map, nat_le, nat_lt, not, slice_get, take, true, [], ℕ, ◌+◌, ◌-◌, ◌<◌, ◌==◌, ◌∷◌, ◌≡◌, ◌≤◌, ◌||◌}
+use Rattle.std.specs.Prelude.{Bool, Contains, IsSome, List, None, Option, Some, bytes_eq, false, if◌then◌else◌, is_none, length, nat_le, nat_lt, not, slice_get, take, true, [], ℕ, ◌+◌, ◌-◌, ◌<◌, ◌==◌, ◌∷◌, ◌≡◌, ◌≤◌, ◌||◌}
 
 -- ---- time passes
 

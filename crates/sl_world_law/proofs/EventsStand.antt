@@ -1,21 +1,20 @@
 -- What is kept and the daemons that run stand for the world after each event.
-use Rattle.sl_area.specs.Layouts.{Layout}
 use Rattle.sl_daemon.specs.Daemons.{MayCome, Stood, entry_of}
-use Rattle.sl_kept.specs.Inputs.{input_in, own_in}
+use Rattle.sl_kept.specs.Inputs.{input_in}
 use Rattle.sl_kept.specs.Kept.{KeptState, MachineState, machine_in}
 use Rattle.sl_kept.specs.Refusing.{refusal_in}
 use Rattle.sl_kept.specs.Sane.{ReadsCommands, RunsOn, WorldStands}
 use Rattle.sl_kept.specs.Showing.{shown}
 use Rattle.sl_kept.specs.Steps.{stepped_kept}
-use Rattle.sl_kept_law.proofs.GivenInputs.{inputs_are_kept, own_effects_are_kept}
+use Rattle.sl_kept_law.proofs.GivenInputs.{inputs_are_kept}
 use Rattle.sl_kept_law.proofs.Lookups.{machine_place, machine_shown}
 use Rattle.sl_kept_law.proofs.RefusalCases.{refusals_are_kept}
 use Rattle.sl_kept_law.proofs.WholeEvents.{RunsThen, events_are_kept, runs_then}
 use Rattle.sl_plain.proofs.Lists.{contains_cases, contains_more, there_is}
 use Rattle.sl_plain.proofs.Options.{then_value}
-use Rattle.sl_run.specs.Events.{after_step, first_change, happens, input_of, machine_of, may_happen, next_input, next_step, refusal_of, take_step}
+use Rattle.sl_run.specs.Events.{after_step, first_change, happens, input_of, machine_of, may_happen, next_input, next_step, take_step}
 use Rattle.sl_run.specs.Runs.{HasSteps, own_effects_of}
-use Rattle.sl_run.specs.Worlds.{Daemon, Machine, World, change_machine, daemons_on, machine_at, next_numbers, reading_now, stamp_now}
+use Rattle.sl_run.specs.Worlds.{Daemon, Machine, World, daemons_on, machine_at, next_numbers, reading_now, stamp_now}
 use Rattle.sl_run.specs.declared.event.Event.TheVariants.{Crash, Reset, StartDaemon}
 use Rattle.sl_run.specs.declared.event.Event.{Event}
 use Rattle.sl_run.specs.declared.header.Header.{Header}
@@ -24,20 +23,20 @@ use Rattle.sl_sane_law.proofs.ComingInputs.{inputs_may_come}
 use Rattle.sl_sane_law.proofs.SaneEvents.{sanity_stays}
 use Rattle.sl_sane_law.proofs.SaneSteps.{daemons_now, daemons_then, runs_inside, runs_still, stepped_daemon}
 use Rattle.sl_sane_law.specs.Inputs.{HasNumbers}
-use Rattle.sl_sane_law.specs.Sanity.{HasSoundStep, IsSoundStep}
+use Rattle.sl_sane_law.specs.Sanity.{IsSoundStep}
 use Rattle.sl_text.specs.Forms.{Form}
 use Rattle.sl_time.specs.Times.{reading_of}
-use Rattle.sl_trace.specs.Traces.{FollowsTrace, Setting, Trace}
+use Rattle.sl_trace.specs.Traces.{Setting, Trace}
 use Rattle.sl_trace.specs.declared.command.Command.{Command}
 use Rattle.sl_trace.specs.declared.effects.Effects.{Effects}
 use Rattle.sl_trace.specs.declared.input.Input.{Input}
 use Rattle.sl_words.proofs.CaseLaws.{none_some, one_value, some_value}
 use Rattle.sl_world_law.proofs.EventsHost.{first_hosted}
 use Rattle.sl_world_law.proofs.Hosted.{Hosted, changed_hosted, hosted, next_hosted, standing}
-use Rattle.sl_world_law.specs.Standing.{Comes, HasStepped, IsReady, LeavesNumbers, OwnStands, RefusalsStand, StepsAreReady, StepsStand, begins_or_ends, seat_of}
+use Rattle.sl_world_law.specs.Standing.{HasStepped, LeavesNumbers, RefusalsStand, StepsAreReady, StepsStand, begins_or_ends, seat_of}
 use Rattle.std.proofs.Common.{ap, arith, inl, inr, refl, subst, suc, sym, zero, ◌∙◌}
 use Rattle.std.proofs.lemmas.Option.{slice_get_within}
-use Rattle.std.specs.Prelude.{Bool, Contains, IsSome, List, None, Option, Some, false, is_none, length, option_and_then, option_map, slice_get, slice_set, take, true, [], ℕ, ◌-◌, ◌<◌, ◌∷◌, ◌≡◌, ◌≤◌}
+use Rattle.std.specs.Prelude.{Contains, IsSome, List, None, Option, Some, false, is_none, length, option_map, slice_get, slice_set, take, true, [], ℕ, ◌-◌, ◌<◌, ◌∷◌, ◌≡◌, ◌≤◌}
 
 -- ---- refusals
 
@@ -82,6 +81,9 @@ runs_there : {D : Type 0} (stands : D → Setting → Trace → Type 0) (o : Opt
 runs_there stands None d r = absurd r
 runs_there stands (Some host) d r = (host, refl, r)
 
+seat_is : {D : Type 0} (hosts : List (Option D)) (n : ℕ) (o : Option D) (host : D) → slice_get hosts n ≡ Some o → o ≡ Some host → slice_get hosts n ≡ Some (Some host)
+seat_is hosts n o host at is = at ∙ ap Some is
+
 -- The daemon that takes it, in the world and among those that run.
 pub record Taken {D : Type 0} (stands : D → Setting → Trace → Type 0) (k : KeptState) (hosts : List (Option D)) (w : World) (e : Event) (i : Input) : Type 0 where
   pub may : may_happen w e ≡ true
@@ -110,7 +112,7 @@ taken commands stands k hosts w t e none i gives_kept left =
       run = r;
       kept = kept;
       host = host.0;
-      seated = o.1 ∙ ap Some {y = Some host.0} host.1;
+      seated = seat_is hosts (seat_of e) o.0 host.0 o.1 host.1;
       stood = host.2;
       comes = inputs_may_come commands w t.sane e may i gives r.before r.daemon r.was r.ran
           (subst HasNumbers (shown_numbers w.header r.before) (left (shown w.header r.before) kept));
@@ -124,8 +126,12 @@ steps_are_ready commands stands k hosts w t e none i gives left =
       there = x.kept;
       host = x.host;
       runs = x.seated;
-      may = (x.run.daemon.setting, x.run.daemon.trace, x.stood,
-      subst (λ n. MayCome x.run.daemon.setting x.run.daemon.trace n i) (sym (shown_reading w.header x.run.before)) x.comes);
+      may = (
+        x.run.daemon.setting,
+        x.run.daemon.trace,
+        x.stood,
+        subst (λ n. MayCome x.run.daemon.setting x.run.daemon.trace n i) (sym (shown_reading w.header x.run.before)) x.comes,
+      );
     }
 
 -- ---- its step

@@ -2,9 +2,8 @@
 use Rattle.sl_area.specs.Layouts.{Layout, layout_of}
 use Rattle.sl_area.specs.Places.{is_base}
 use Rattle.sl_daemon.specs.Daemons.{begun_with}
-use Rattle.sl_kept.specs.FirstKept.{given_to, session_of}
-use Rattle.sl_kept.specs.Sane.{ReadsCommands}
-use Rattle.sl_law.specs.Lawful.{IsGiven, IsSetting}
+use Rattle.sl_kept.specs.FirstKept.{given_to}
+use Rattle.sl_law.specs.Lawful.{IsGiven}
 use Rattle.sl_plain.proofs.Lists.{find_inside}
 use Rattle.sl_plain.proofs.Options.{mapped_value}
 use Rattle.sl_run.specs.Headers.{GoTogether, IsArea, IsHeader}
@@ -14,10 +13,8 @@ use Rattle.sl_run.specs.declared.header.Header.{Header}
 use Rattle.sl_run.specs.declared.header.LockspaceLine.{LockspaceLine}
 use Rattle.sl_run.specs.declared.header.SessionLine.{SessionLine}
 use Rattle.sl_sector.proofs.WrittenBytes.{sha256_is_digest}
-use Rattle.sl_text.specs.Forms.{Form}
 use Rattle.sl_text.specs.Names.{is_name}
 use Rattle.sl_trace.specs.Traces.{Setting}
-use Rattle.sl_trace.specs.declared.command.Command.{Command}
 use Rattle.sl_trace.specs.declared.input.Given.{Given}
 use Rattle.sl_words.proofs.CaseLaws.{is_false, none_some}
 use Rattle.sl_words.specs.Bounds.{moments}
@@ -29,7 +26,7 @@ use Rattle.std.proofs.lemmas.Bool.{and_from, eq-eqb, lt-ltb}
 use Rattle.std.proofs.lemmas.List.Elements.{Contains-get_or, recursion_from_All}
 use Rattle.std.proofs.lemmas.Slice.Eq.{bytes_eq-Decides}
 use Rattle.std.specs.Option.{option_map_or}
-use Rattle.std.specs.Prelude.{AllPairs, Bool, Contains, IsFalse, IsTrue, List, None, Option, Some, bytes_eq, false, filter_map, find, option_map, true, ℕ, ◌%◌, ◌*◌, ◌+◌, ◌<◌, ◌==◌, ◌^◌, ◌≡◌, ◌≤◌}
+use Rattle.std.specs.Prelude.{Bool, Contains, IsFalse, IsTrue, List, None, Option, Some, bytes_eq, false, find, option_map, true, ℕ, ◌%◌, ◌*◌, ◌+◌, ◌<◌, ◌==◌, ◌^◌, ◌≡◌, ◌≤◌}
 
 -- ---- readings and places
 

@@ -1,8 +1,8 @@
 -- What is kept of a header's world at moment 0, and the daemons that its session lines begin, stand for that world.
-use Rattle.sl_area.specs.Layouts.{layout_of, layout_with}
+use Rattle.sl_area.specs.Layouts.{layout_of}
 use Rattle.sl_daemon.specs.Daemons.{Stood, begun_with, program_of}
-use Rattle.sl_kept.specs.FirstKept.{first_machine, first_names, first_sectors, first_state, given_to, session_of}
-use Rattle.sl_kept.specs.Sane.{ReadsCommands, RunsOn, WorldStands}
+use Rattle.sl_kept.specs.FirstKept.{first_machine, first_state, given_to, session_of}
+use Rattle.sl_kept.specs.Sane.{ReadsCommands, RunsOn}
 use Rattle.sl_kept.specs.Showing.{Tells, disks_of, shown, starting_of}
 use Rattle.sl_kept_law.proofs.Changing.{names_on}
 use Rattle.sl_kept_law.proofs.FirstMachines.{first_worlds_are_sane}
@@ -11,7 +11,7 @@ use Rattle.sl_plain.proofs.Lists.{contains_cases, contains_none, there_is}
 use Rattle.sl_plain.proofs.Options.{mapped_value}
 use Rattle.sl_run.specs.Headers.{IsHeader}
 use Rattle.sl_run.specs.Locks.{fresh_locks}
-use Rattle.sl_run.specs.Worlds.{Daemon, Machine, World, clock_reading, daemons_on, first_numbers, first_stamp, machine_of_header, new_daemon, next_numbers, setting_of, world_with}
+use Rattle.sl_run.specs.Worlds.{Daemon, Machine, clock_reading, daemons_on, first_numbers, first_stamp, machine_of_header, new_daemon, next_numbers, world_with}
 use Rattle.sl_run.specs.declared.header.Header.{Header}
 use Rattle.sl_run.specs.declared.header.SessionLine.{SessionLine}
 use Rattle.sl_run_law.proofs.Front.Having.{contains_flat}
@@ -23,12 +23,12 @@ use Rattle.sl_trace.specs.declared.command.Command.{Command}
 use Rattle.sl_words.proofs.CaseLaws.{some_value}
 use Rattle.sl_world_law.proofs.FirstDaemons.{first_settings}
 use Rattle.sl_world_law.proofs.Hosted.{Hosted, standing}
-use Rattle.sl_world_law.specs.Standing.{EachStood, FirstWorldsStand, HasBegun, HaveBegun, first_site}
+use Rattle.sl_world_law.specs.Standing.{EachStood, FirstWorldsStand, HasBegun, HaveBegun, PureDaemon, PureWorldsStand, first_site, is_trace_of, pure_hosts}
 use Rattle.std.proofs.Common.{ap, ap₂, arith, inl, inr, refl, subst, sym, ◌∙◌}
 use Rattle.std.proofs.lemmas.List.FromFn.{length-map-range_with_len, length-range_with_len}
 use Rattle.std.proofs.lemmas.Option.{slice_get-map, slice_get_within}
 use Rattle.std.specs.List.{cons_option, list_any, range_with_len}
-use Rattle.std.specs.Prelude.{Bool, Contains, List, None, Option, Some, bytes_eq, filter_map, find, flat_map, is_some, length, map, option_map, slice_get, true, [], ℕ, ◌*◌, ◌++◌, ◌+◌, ◌<◌, ◌==◌, ◌∷◌, ◌≡◌}
+use Rattle.std.specs.Prelude.{Contains, List, None, Option, Some, bytes_eq, filter_map, flat_map, is_some, map, option_map, slice_get, true, [], ℕ, ◌*◌, ◌++◌, ◌+◌, ◌<◌, ◌∷◌, ◌≡◌}
 
 -- ---- what is kept
 
@@ -103,17 +103,16 @@ first_tells commands h =
 
 -- ---- the daemons
 
--- The machine at a place.
-begun_at : (commands : Header → List (Form Command)) (h : Header) (i : ℕ) (a : Machine) → slice_get (map (begun commands h) (range_with_len 1 h.machines)) i ≡ Some a
-    → (i < h.machines) × (begun commands h (i + 1) ≡ a)
-begun_at commands h i a at =
-    let v = mapped_value (begun commands h) (slice_get (range_with_len 1 h.machines) i) a (sym (slice_get-map (begun commands h) (range_with_len 1 h.machines) i) ∙ at) in
-    let inside : i < h.machines = subst (λ n. i < n) (length-range_with_len 1 h.machines) (slice_get_within (range_with_len 1 h.machines) i v.0 v.1) in
-    let number : i + 1 ≡ v.0 = turned i ∙ some_value (1 + i) v.0 (sym (range_at 1 h.machines i inside) ∙ v.1) in
-    (inside, ap (begun commands h) number ∙ v.2)
+-- What is made of each number stands at its place.
+made_at : {A : Type 0} (f : ℕ → A) (n i : ℕ) (a : A) → slice_get (map f (range_with_len 1 n)) i ≡ Some a → (i < n) × (f (i + 1) ≡ a)
+made_at f n i a at =
+    let v = mapped_value f (slice_get (range_with_len 1 n) i) a (sym (slice_get-map f (range_with_len 1 n) i) ∙ at) in
+    let inside : i < n = subst (λ k. i < k) (length-range_with_len 1 n) (slice_get_within (range_with_len 1 n) i v.0 v.1) in
+    let number : i + 1 ≡ v.0 = turned i ∙ some_value (1 + i) v.0 (sym (range_at 1 n i inside) ∙ v.1) in
+    (inside, ap f number ∙ v.2)
   where
-    turned : (n : ℕ) → n + 1 ≡ 1 + n
-    turned n = omega arith
+    turned : (k : ℕ) → k + 1 ≡ 1 + k
+    turned k = omega arith
 
 runs_first : {D : Type 0} (commands : Header → List (Form Command)) (stands : D → Setting → Trace → Type 0) (h : Header) (m : ℕ) (q : Option SessionLine) (o : Option D)
     → HasBegun commands stands h m q o → RunsOn stands o (option_map (born commands h m) q)
@@ -140,9 +139,9 @@ unfolding machine_of_header
 first_hosted commands stands h is reads hosts b =
     record {
       counted = b.counted ∙ sym (length-map-range_with_len (begun commands h) 1 h.machines);
-      runs = λ i a o at host. let p = begun_at commands h i a at in
+      runs = λ i a o at host. let p = made_at (begun commands h) h.machines i a at in
           subst (λ (x : Machine). RunsOn stands o x.daemon) p.1 (runs_first commands stands h (i + 1) (session_of h (i + 1)) o (b.each i o host));
-      stood = λ i a d at inside. let p = begun_at commands h i a at in
+      stood = λ i a d at inside. let p = made_at (begun commands h) h.machines i a at in
           let o = there_is hosts i (subst (λ n. i < n) (sym b.counted) p.0) in
           stood_first commands stands h is reads (i + 1) (session_of h (i + 1)) o.0 refl (b.each i o.0 o.1) d (subst (λ (x : Machine). Contains (daemons_on x) d) (sym p.1) inside);
     }
@@ -151,6 +150,24 @@ pub first_worlds_stand : {D : Type 0} (commands : Header → List (Form Command)
 first_worlds_stand commands stands h is reads hosts b =
     standing commands stands (first_state h) hosts (world_with (program_of commands) h) (first_tells commands h) (first_worlds_are_sane commands h is) reads
     (first_hosted commands stands h is reads hosts b)
+
+-- ---- daemons that are their traces
+
+pure_begun : (commands : Header → List (Form Command)) (h : Header) (m : ℕ) (q : Option SessionLine)
+    → HasBegun commands is_trace_of h m q (option_map (λ s. record { setting = begun_with commands h (first_site h m s); trace = [] }) q)
+pure_begun commands h m None = tt
+pure_begun commands h m (Some s) = (refl, refl)
+
+pub pure_worlds_stand : PureWorldsStand
+pure_worlds_stand commands h is reads =
+    first_worlds_stand commands is_trace_of h is reads (pure_hosts commands h) (record {
+      counted = length-map-range_with_len here 1 h.machines;
+      each = λ i o at. subst (HasBegun commands is_trace_of h (i + 1) (session_of h (i + 1))) (made_at here h.machines i o at).1
+          (pure_begun commands h (i + 1) (session_of h (i + 1)));
+    })
+  where
+    here : ℕ → Option PureDaemon
+    here m = option_map (λ s. record { setting = begun_with commands h (first_site h m s); trace = [] }) (session_of h m)
 
 -- ---- each daemon
 

@@ -14,7 +14,7 @@ use Rattle.sl_text.specs.Forms.{Form}
 use Rattle.sl_trace.specs.Traces.{Setting, Trace}
 use Rattle.sl_trace.specs.declared.command.Command.{Command}
 use Rattle.std.proofs.Common.{ap, inl, inr, refl, subst, sym, ◌∙◌}
-use Rattle.std.specs.Prelude.{Contains, List, None, Option, Some, length, slice_get, slice_set, true, ℕ, ◌+◌, ◌-◌, ◌∷◌, ◌≡◌, ◌⊎◌}
+use Rattle.std.specs.Prelude.{Contains, List, None, Option, Some, length, slice_get, slice_set, ℕ, ◌-◌, ◌∷◌, ◌≡◌, ◌⊎◌}
 
 pub record Hosted {D : Type 0} (stands : D → Setting → Trace → Type 0) (hosts : List (Option D)) (w : World) : Type 0 where
   pub counted : length hosts ≡ length w.machines

@@ -5,3 +5,5 @@ pub mod OwnEvents
 pub mod PlainGivens
 pub mod FirstDaemons
 pub mod FirstStanding
+pub mod Conflicting
+pub mod Told

@@ -1,10 +1,9 @@
 -- Events that no daemon takes: what is kept and the daemons that run stand for the world after them.
-use Rattle.sl_area.specs.Layouts.{Layout, layout_of, program_digest}
+use Rattle.sl_area.specs.Layouts.{layout_of}
 use Rattle.sl_daemon.specs.Daemons.{Stood, begun_with, program_of}
-use Rattle.sl_kept.specs.Inputs.{input_in, own_in}
-use Rattle.sl_kept.specs.Kept.{KeptState, MachineState, machine_in}
-use Rattle.sl_kept.specs.Refusing.{refusal_in}
-use Rattle.sl_kept.specs.Sane.{IsSane, ReadsCommands, WorldStands}
+use Rattle.sl_kept.specs.Inputs.{own_in}
+use Rattle.sl_kept.specs.Kept.{KeptState, MachineState}
+use Rattle.sl_kept.specs.Sane.{ReadsCommands, WorldStands}
 use Rattle.sl_kept.specs.Showing.{shown}
 use Rattle.sl_kept.specs.Steps.{stepped_kept}
 use Rattle.sl_kept_law.proofs.Allowed.{allowed, machine_found}
@@ -15,8 +14,8 @@ use Rattle.sl_law.specs.Lawful.{IsSetting}
 use Rattle.sl_plain.proofs.Options.{mapped_value}
 use Rattle.sl_run.specs.Events.{event_tests, first_change, happens, input_of, machine_of, may_happen, needs_daemon, next_step, take_step}
 use Rattle.sl_run.specs.Headers.{IsHeader}
-use Rattle.sl_run.specs.Runs.{HasSteps, own_effects_of}
-use Rattle.sl_run.specs.Worlds.{Machine, Program, World, machine_at, next_numbers, setting_of}
+use Rattle.sl_run.specs.Runs.{HasSteps}
+use Rattle.sl_run.specs.Worlds.{Machine, World, machine_at, next_numbers, setting_of}
 use Rattle.sl_run.specs.declared.event.Event.TheVariants.{Crash, Reset, StartDaemon}
 use Rattle.sl_run.specs.declared.event.Event.{Event}
 use Rattle.sl_run.specs.declared.event.Refusal.TheVariants.{MissingUp}
@@ -27,16 +26,15 @@ use Rattle.sl_text.specs.Forms.{Form}
 use Rattle.sl_text.specs.Names.{is_name}
 use Rattle.sl_trace.specs.Traces.{Setting, Trace}
 use Rattle.sl_trace.specs.declared.command.Command.{Command}
-use Rattle.sl_trace.specs.declared.effects.Effects.{Effects}
 use Rattle.sl_trace.specs.declared.input.Input.{Input}
 use Rattle.sl_trace.specs.declared.input.Numbers.{Numbers}
 use Rattle.sl_words.proofs.CaseLaws.{none_some}
 use Rattle.sl_world_law.proofs.EventsHost.{crashed_hosted, first_hosted, new_setting, own_hosted, reset_hosted, started_hosted}
 use Rattle.sl_world_law.proofs.EventsStand.{may_be, reads_still, steps_own}
 use Rattle.sl_world_law.proofs.Hosted.{Hosted, hosted, standing}
-use Rattle.sl_world_law.specs.Standing.{BeginningsAreSettings, BeginningsStand, Comes, EndsStand, OwnStands, begins_or_ends, new_site, seat_of}
-use Rattle.std.proofs.Common.{ap, ap₂, arith, refl, subst, sym, ◌∙◌}
-use Rattle.std.specs.Prelude.{Bool, IsTrue, List, None, Option, Some, false, length, not, option_and_then, option_map, slice_set, true, [], ℕ, ◌-◌, ◌<◌, ◌∷◌, ◌≡◌}
+use Rattle.sl_world_law.specs.Standing.{BeginningsAreSettings, BeginningsStand, Comes, EndsStand, OwnStands, new_site}
+use Rattle.std.proofs.Common.{ap, arith, refl, subst, sym, ◌∙◌}
+use Rattle.std.specs.Prelude.{IsTrue, List, None, Option, Some, not, option_and_then, slice_set, true, [], ℕ, ◌-◌, ◌∷◌, ◌≡◌}
 
 -- Whatever the first change makes of the daemons.
 own_comes : {D : Type 0} (commands : Header → List (Form Command)) (stands : D → Setting → Trace → Type 0) (k : KeptState) (hosts after : List (Option D)) (w : World)
@@ -121,7 +119,7 @@ beginnings_stand commands stands k hosts w t m name named none s there host begu
     let free = may_start w m name may a.0 a.1 (t.sane.sane (m - 1) a.0 (machine_place w m a.0 a.1)) in
     let first : s.next ≡ next_numbers a.0 = ap (λ (x : MachineState). x.next) (sym a.2) ∙ shown_numbers w.header a.0 in
     let setting : begun_with commands k.header (new_site m name s) ≡ new_setting w m name a.0 = λ j.
-        setting_of (sym t.sane.program j) (sym t.tells.layout j) (sym t.tells.header j) m name (first j) [] in
+    setting_of (sym t.sane.program j) (sym t.tells.layout j) (sym t.tells.header j) m name (first j) [] in
     let stood : Stood stands (begun_with commands k.header (new_site m name s)) [] =
     record { setting = (beginnings_are_settings commands stands k hosts w t m name named s).1; trace = tt; daemon = host; stood = begun } in
     own_comes commands stands k hosts (slice_set hosts (m - 1) (Some host)) w t (StartDaemon m name) may (none_given (machine_at w m))

@@ -25,8 +25,8 @@ use Rattle.sl_trace.specs.Traces.{Setting, Trace}
 use Rattle.sl_trace.specs.declared.command.Command.{Command}
 use Rattle.sl_trace.specs.declared.effects.Effects.{Effects}
 use Rattle.sl_trace.specs.declared.input.Input.{Input}
-use Rattle.std.specs.List.{slice_set}
-use Rattle.std.specs.Prelude.{Bool, IsTrue, List, None, Option, Some, false, length, slice_get, true, [], ℕ, ◌+◌, ◌-◌, ◌<◌, ◌∷◌, ◌≡◌}
+use Rattle.std.specs.List.{range_with_len, slice_set}
+use Rattle.std.specs.Prelude.{Bool, IsTrue, List, None, Option, Some, false, length, map, option_map, slice_get, true, [], ℕ, ◌+◌, ◌-◌, ◌∷◌, ◌≡◌}
 
 -- Where the daemon of an event's machine stands among the daemons.
 abbrev pub seat_of : Event → ℕ
@@ -125,7 +125,7 @@ BeginningsStand {D} commands stands =
     → WorldStands commands stands k hosts w → (m : ℕ) (name : List ℕ) → IsTrue (is_name name) → refusal_in commands k (StartDaemon m name) ≡ None
     → (s : MachineState) → machine_in k m ≡ Some s → (host : D) → stands host (begun_with commands k.header (new_site m name s)) []
     → Comes commands stands w (StartDaemon m name) (own_in k (StartDaemon m name)) (stepped_kept (StartDaemon m name) (own_in k (StartDaemon m name)) k)
-        (slice_set hosts (m - 1) (Some host))
+    (slice_set hosts (m - 1) (Some host))
 
 -- ---- first worlds
 
@@ -155,6 +155,27 @@ abbrev pub FirstWorldsStand : {D : Type 0} → (Header → List (Form Command)) 
 FirstWorldsStand {D} commands stands =
     (h : Header) → IsHeader h → ReadsCommands commands h
     → (hosts : List (Option D)) → HaveBegun commands stands h hosts → WorldStands commands stands (first_state h) hosts (world_with (program_of commands) h)
+
+-- ---- a daemon that is its trace
+
+pub record PureDaemon : Type 0 where
+  pub setting : Setting
+  pub trace : Trace
+
+-- It stands for its own trace alone.
+abbrev pub is_trace_of : PureDaemon → Setting → Trace → Type 0
+is_trace_of d st es = (d.setting ≡ st) × (d.trace ≡ es)
+
+-- Those of a header's session lines.
+abbrev pub pure_hosts : (Header → List (Form Command)) → Header → List (Option PureDaemon)
+pure_hosts commands h =
+    map (λ m. option_map (λ s. record { setting = begun_with commands h (first_site h m s); trace = [] }) (session_of h m)) (range_with_len 1 h.machines)
+
+-- So of each good header there is a world that is stood for.
+abbrev pub PureWorldsStand : Type 0
+PureWorldsStand =
+    (commands : Header → List (Form Command)) (h : Header) → IsHeader h → ReadsCommands commands h
+    → WorldStands commands is_trace_of (first_state h) (pure_hosts commands h) (world_with (program_of commands) h)
 
 -- ---- each daemon
 

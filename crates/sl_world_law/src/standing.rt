@@ -1,6 +1,6 @@
 //! For which world what is kept stands, event by event, whichever daemons run.
 
-ghost use Rattle.sl_world_law.specs.Standing.{BeginningsAreSettings, BeginningsStand, EachStood, EndsStand, FirstSettings, FirstWorldsStand, OwnStands, RefusalsStand, StepsAreReady, StepsStand};
+ghost use Rattle.sl_world_law.specs.Standing.{BeginningsAreSettings, BeginningsStand, EachStood, EndsStand, FirstSettings, FirstWorldsStand, OwnStands, PureWorldsStand, RefusalsStand, StepsAreReady, StepsStand};
 
 use sl_daemon::Daemon;
 
@@ -52,4 +52,9 @@ pub fn each_stood<D: Daemon>()
 /// Session lines make settings of daemons.
 pub fn first_settings()
     ensures { FirstSettings }
+{}
+
+/// Of each good header there is a world that is stood for.
+pub fn pure_worlds_stand()
+    ensures { PureWorldsStand }
 {}
