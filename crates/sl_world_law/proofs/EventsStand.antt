@@ -1,5 +1,7 @@
 -- What is kept and the daemons that run stand for the world after each event.
-use Rattle.sl_daemon.specs.Daemons.{MayCome, Stood, entry_of}
+use Rattle.sl_area.specs.Layouts.{Layout}
+use Rattle.sl_daemon.specs.Daemons.{IsSoundCall, MayCome, Stood, entry_of}
+use Rattle.sl_daemon.specs.declared.daemon.Most.{Most}
 use Rattle.sl_kept.specs.Inputs.{input_in}
 use Rattle.sl_kept.specs.Kept.{KeptState, MachineState, machine_in}
 use Rattle.sl_kept.specs.Refusing.{refusal_in}
@@ -19,7 +21,7 @@ use Rattle.sl_run.specs.declared.event.Event.TheVariants.{Crash, Reset, StartDae
 use Rattle.sl_run.specs.declared.event.Event.{Event}
 use Rattle.sl_run.specs.declared.header.Header.{Header}
 use Rattle.sl_run_law.proofs.Landing.Passing.{event_goes_on}
-use Rattle.sl_sane_law.proofs.ComingInputs.{inputs_may_come}
+use Rattle.sl_sane_law.proofs.ComingInputs.{inputs_may_come, numbers_of}
 use Rattle.sl_sane_law.proofs.SaneEvents.{sanity_stays}
 use Rattle.sl_sane_law.proofs.SaneSteps.{daemons_now, daemons_then, runs_inside, runs_still, stepped_daemon}
 use Rattle.sl_sane_law.specs.Inputs.{HasNumbers}
@@ -28,15 +30,18 @@ use Rattle.sl_text.specs.Forms.{Form}
 use Rattle.sl_time.specs.Times.{reading_of}
 use Rattle.sl_trace.specs.Traces.{Setting, Trace}
 use Rattle.sl_trace.specs.declared.command.Command.{Command}
+use Rattle.sl_trace.specs.declared.effects.Call.{Call}
 use Rattle.sl_trace.specs.declared.effects.Effects.{Effects}
 use Rattle.sl_trace.specs.declared.input.Input.{Input}
+use Rattle.sl_trace.specs.declared.input.Numbers.{Numbers}
 use Rattle.sl_words.proofs.CaseLaws.{none_some, one_value, some_value}
 use Rattle.sl_world_law.proofs.EventsHost.{first_hosted}
 use Rattle.sl_world_law.proofs.Hosted.{Hosted, changed_hosted, hosted, next_hosted, standing}
-use Rattle.sl_world_law.specs.Standing.{HasStepped, LeavesNumbers, RefusalsStand, StepsAreReady, StepsStand, begins_or_ends, seat_of}
+use Rattle.sl_world_law.specs.Standing.{HasStepped, LeavesNumbers, RefusalsStand, StepsAreReady, StepsFit, StepsStand, begins_or_ends, seat_of}
 use Rattle.std.proofs.Common.{ap, arith, inl, inr, refl, subst, suc, sym, zero, ◌∙◌}
 use Rattle.std.proofs.lemmas.Option.{slice_get_within}
-use Rattle.std.specs.Prelude.{Contains, IsSome, List, None, Option, Some, false, is_none, length, option_map, slice_get, slice_set, take, true, [], ℕ, ◌-◌, ◌<◌, ◌∷◌, ◌≡◌, ◌≤◌}
+use Rattle.std.specs.List.{range_with_len}
+use Rattle.std.specs.Prelude.{Contains, IsSome, List, None, Option, Some, false, is_none, length, map, option_map, slice_get, slice_set, take, true, [], ℕ, ◌-◌, ◌<◌, ◌∷◌, ◌≡◌, ◌≤◌}
 
 -- ---- refusals
 
@@ -126,15 +131,28 @@ steps_are_ready commands stands k hosts w t e none i gives left =
       there = x.kept;
       host = x.host;
       runs = x.seated;
-      may = (
-        x.run.daemon.setting,
-        x.run.daemon.trace,
-        x.stood,
-        subst (λ n. MayCome x.run.daemon.setting x.run.daemon.trace n i) (sym (shown_reading w.header x.run.before)) x.comes,
-      );
+      setting = x.run.daemon.setting;
+      trace = x.run.daemon.trace;
+      stood = x.stood;
+      comes = subst (λ n. MayCome x.run.daemon.setting x.run.daemon.trace n i) (sym (shown_reading w.header x.run.before)) x.comes;
+      next = sym (ap (λ (n : Numbers). n.call) (shown_numbers w.header x.run.before ∙ numbers_of x.run.before x.run.daemon x.run.ran));
+      layout = t.sane.layouts (seat_of e) x.run.before x.run.daemon (machine_place w (machine_of e) x.run.before x.run.was) (runs_inside x.run.before x.run.daemon x.run.ran)
+          ∙ t.tells.layout;
     }
 
 -- ---- its step
+
+pub steps_fit : {D : Type 0} (commands : Header → List (Form Command)) (stands : D → Setting → Trace → Type 0) → StepsFit commands stands
+steps_fit commands stands k hosts e i r next most fx s =
+    let goes = s.stays r.setting r.trace r.stood r.comes in
+    let step = s.sound r.setting r.trace r.stood r.comes in
+    record {
+      setting = r.setting;
+      layout = r.layout;
+      step = step;
+      numbered = subst (λ n. map (λ (c : Call). c.number) fx.calls ≡ range_with_len n (length fx.calls)) r.next goes.1.calls;
+      sound = λ c inside. subst (λ (g : Layout). IsSoundCall g.sector c) r.layout (step.calls c inside);
+    }
 
 -- An event that gives an input begins and ends no daemon.
 stays_seated : (k : KeptState) (e : Event) (i : Input) → input_in k e ≡ Some i → begins_or_ends e ≡ false
@@ -149,9 +167,9 @@ record Steps {D : Type 0} (stands : D → Setting → Trace → Type 0) (next : 
   pub stands_now : stands next d.setting (entry_of now i fx ∷ d.trace)
   pub stood : Stood stands d.setting (entry_of now i fx ∷ d.trace)
 
-steps_on : {D : Type 0} (stands : D → Setting → Trace → Type 0) (host next : D) (d : Daemon) (now : ℕ) (i : Input) (fx : Effects) → HasStepped stands host next now i fx
+steps_on : {D : Type 0} (stands : D → Setting → Trace → Type 0) (most : Most) (host next : D) (d : Daemon) (now : ℕ) (i : Input) (fx : Effects) → HasStepped stands most host next now i fx
     → stands host d.setting d.trace → MayCome d.setting d.trace now i → Stood stands d.setting d.trace → Steps stands next d now i fx
-steps_on stands host next d now i fx s was comes stood =
+steps_on stands most host next d now i fx s was comes stood =
     let goes = s.stays d.setting d.trace was comes in
     record {
       sound = record { numbered = goes.1; sound = (s.sound d.setting d.trace was comes).calls };
@@ -183,14 +201,14 @@ pub reads_still : (commands : Header → List (Form Command)) (w : World) (e : E
 reads_still commands w e fx reads = subst (ReadsCommands commands) (sym (event_goes_on w e fx).header) reads
 
 pub steps_stand : {D : Type 0} (commands : Header → List (Form Command)) (stands : D → Setting → Trace → Type 0) → StepsStand commands stands
-steps_stand {D} commands stands k hosts w t e none i gives_kept left s s_there host next seated fx stepped =
+steps_stand {D} commands stands k hosts w t e none i gives_kept left s s_there host next seated most fx stepped =
     let x = taken commands stands k hosts w t e none i gives_kept left in
     let r : RunsThen w e = x.run in
     let steps = steps_given w e i fx x.gives in
     let reads : reading_of s.clock ≡ reading_now r.before =
     ap (λ (y : MachineState). reading_of y.clock) (one_value s (shown w.header r.before) (machine_in k (machine_of e)) s_there x.kept) ∙ shown_reading w.header r.before in
     let same_host : x.host ≡ host = some_value x.host host (some_value (Some x.host) (Some host) (sym x.seated ∙ seated)) in
-    let goes = steps_on stands host next r.daemon (reading_now r.before) i fx (subst (λ n. HasStepped stands host next n i fx) reads stepped)
+    let goes = steps_on stands most host next r.daemon (reading_now r.before) i fx (subst (λ n. HasStepped stands most host next n i fx) reads stepped)
     (subst (λ (y : D). stands y r.daemon.setting r.daemon.trace) same_host x.stood) x.comes
     (t.stood (seat_of e) r.before r.daemon (machine_place w (machine_of e) r.before r.was) (runs_inside r.before r.daemon r.ran)) in
     record {

@@ -1,5 +1,6 @@
 -- What each event makes of what is kept and of the daemons that run, and for which world that stands then.
-use Rattle.sl_daemon.specs.Daemons.{IsNumbered, IsStep, MayCome, Stood, begun_with, entry_of, program_of}
+use Rattle.sl_area.specs.Layouts.{layout_of}
+use Rattle.sl_daemon.specs.Daemons.{IsNumbered, IsSoundCall, IsStep, MayCome, Stood, begun_with, entry_of, program_of}
 use Rattle.sl_daemon.specs.declared.daemon.Most.{Most}
 use Rattle.sl_daemon.specs.declared.daemon.Site.{Site}
 use Rattle.sl_kept.specs.FirstKept.{first_state, given_to, session_of}
@@ -21,12 +22,13 @@ use Rattle.sl_sane_law.specs.Inputs.{HasNumbers}
 use Rattle.sl_text.specs.Forms.{Form}
 use Rattle.sl_text.specs.Names.{is_name}
 use Rattle.sl_time.specs.Times.{reading_of}
-use Rattle.sl_trace.specs.Traces.{Setting, Trace}
+use Rattle.sl_trace.specs.Traces.{Setting, Trace, next_call}
 use Rattle.sl_trace.specs.declared.command.Command.{Command}
+use Rattle.sl_trace.specs.declared.effects.Call.{Call}
 use Rattle.sl_trace.specs.declared.effects.Effects.{Effects}
 use Rattle.sl_trace.specs.declared.input.Input.{Input}
 use Rattle.std.specs.List.{range_with_len, slice_set}
-use Rattle.std.specs.Prelude.{Bool, IsTrue, List, None, Option, Some, false, length, map, option_map, slice_get, true, [], ℕ, ◌+◌, ◌-◌, ◌∷◌, ◌≡◌}
+use Rattle.std.specs.Prelude.{Bool, Contains, IsTrue, List, None, Option, Some, false, length, map, option_map, slice_get, true, [], ℕ, ◌+◌, ◌-◌, ◌∷◌, ◌≡◌}
 
 -- Where the daemon of an event's machine stands among the daemons.
 abbrev pub seat_of : Event → ℕ
@@ -54,7 +56,12 @@ pub record IsReady {D : Type 0} (stands : D → Setting → Trace → Type 0) (k
   pub there : machine_in k (machine_of e) ≡ Some machine
   pub host : D
   pub runs : slice_get hosts (seat_of e) ≡ Some (Some host)
-  pub may : (st : Setting) × (es : Trace) × stands host st es × MayCome st es (reading_of machine.clock) i
+  pub setting : Setting
+  pub trace : Trace
+  pub stood : stands host setting trace
+  pub comes : MayCome setting trace (reading_of machine.clock) i
+  pub next : next_call setting trace ≡ machine.next.call
+  pub layout : setting.layout ≡ layout_of k.header.geometry
 
 -- Numbers are left on the event's machine.
 abbrev pub LeavesNumbers : KeptState → Event → Type 0
@@ -67,17 +74,29 @@ StepsAreReady {D} commands stands =
     → IsReady stands k hosts e i
 
 -- What a step makes of a daemon: it stands for each trace that it stood for, with one entry more.
-pub record HasStepped {D : Type 0} (stands : D → Setting → Trace → Type 0) (host next : D) (now : ℕ) (i : Input) (fx : Effects) : Type 0 where
+pub record HasStepped {D : Type 0} (stands : D → Setting → Trace → Type 0) (most : Most) (host next : D) (now : ℕ) (i : Input) (fx : Effects) : Type 0 where
   pub stays : (st : Setting) (es : Trace) → stands host st es → MayCome st es now i → stands next st (entry_of now i fx ∷ es) × IsNumbered st es fx
-  pub most : Most
   pub sound : (st : Setting) (es : Trace) → stands host st es → MayCome st es now i → IsStep st most fx
+
+-- What what is kept needs to know of a step: its calls have the machine's next numbers and are sound, and there is no more of it than was said.
+pub record FitsKept (k : KeptState) (s : MachineState) (most : Most) (fx : Effects) : Type 0 where
+  pub setting : Setting
+  pub layout : setting.layout ≡ layout_of k.header.geometry
+  pub step : IsStep setting most fx
+  pub numbered : map (λ c. c.number) fx.calls ≡ range_with_len s.next.call (length fx.calls)
+  pub sound : (c : Call) → Contains fx.calls c → IsSoundCall k.header.geometry.sector c
+
+abbrev pub StepsFit : {D : Type 0} → (Header → List (Form Command)) → (D → Setting → Trace → Type 0) → Type 0
+StepsFit {D} commands stands =
+    (k : KeptState) (hosts : List (Option D)) (e : Event) (i : Input) (r : IsReady stands k hosts e i) (next : D) (most : Most) (fx : Effects)
+    → HasStepped stands most r.host next (reading_of r.machine.clock) i fx → FitsKept k r.machine most fx
 
 abbrev pub StepsStand : {D : Type 0} → (Header → List (Form Command)) → (D → Setting → Trace → Type 0) → Type 0
 StepsStand {D} commands stands =
     (k : KeptState) (hosts : List (Option D)) (w : World)
     → WorldStands commands stands k hosts w → (e : Event) → refusal_in commands k e ≡ None → (i : Input) → input_in k e ≡ Some i → LeavesNumbers k e
     → (s : MachineState) → machine_in k (machine_of e) ≡ Some s → (host next : D) → slice_get hosts (seat_of e) ≡ Some (Some host)
-    → (fx : Effects) → HasStepped stands host next (reading_of s.clock) i fx
+    → (most : Most) (fx : Effects) → HasStepped stands most host next (reading_of s.clock) i fx
     → Comes commands stands w e fx (stepped_kept e fx k) (slice_set hosts (seat_of e) (Some next))
 
 -- ---- events that no daemon takes

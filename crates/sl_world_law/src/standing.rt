@@ -1,6 +1,6 @@
 //! For which world what is kept stands, event by event, whichever daemons run.
 
-ghost use Rattle.sl_world_law.specs.Standing.{BeginningsAreSettings, BeginningsStand, EachStood, EndsStand, FirstSettings, FirstWorldsStand, OwnStands, PureWorldsStand, RefusalsStand, StepsAreReady, StepsStand};
+ghost use Rattle.sl_world_law.specs.Standing.{BeginningsAreSettings, BeginningsStand, EachStood, EndsStand, FirstSettings, FirstWorldsStand, OwnStands, PureWorldsStand, RefusalsStand, StepsAreReady, StepsFit, StepsStand};
 
 use sl_daemon::Daemon;
 
@@ -12,6 +12,11 @@ pub fn refusals_stand<D: Daemon>()
 /// Where an event gives an input, a daemon runs to which it may come, while numbers are left.
 pub fn steps_are_ready<D: Daemon>()
     ensures { StepsAreReady D.commands D.stands }
+{}
+
+/// Its step is one that what is kept can take up.
+pub fn steps_fit<D: Daemon>()
+    ensures { StepsFit D.commands D.stands }
 {}
 
 /// That daemon's step leaves what stands for the world after the event.
