@@ -1,0 +1,3 @@
+pub mod PlainFronts
+pub mod FlightLaws
+pub mod FlightChanges

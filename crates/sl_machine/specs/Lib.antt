@@ -1,0 +1,2 @@
+pub mod OneFlight
+pub mod Flights
