@@ -3,7 +3,7 @@ use Rattle.sl_kept.specs.Changes.{cut_flight, disowned, stays_open}
 use Rattle.sl_kept.specs.Kept.{FlightState}
 use Rattle.sl_kept.specs.Refusing.{lands}
 use Rattle.sl_machine.proofs.FlightLaws.{Falls, fallen, falling, falls_at}
-use Rattle.sl_machine.specs.Flights.{AreFlights, StandsAt, closed_at, ended_flight, falls, flight_numbered, flights_with, flights_without, late_after, late_cut, late_of, least_with}
+use Rattle.sl_machine.specs.Flights.{AreFlights, StandsAt, closed_at, ended_flight, falls, flight_numbered, flights_with, flights_without, grown_flight, late_after, late_cut, late_of, least_with}
 use Rattle.sl_machine.specs.declared.flight.Outcome.TheVariants.{Dropped, Landed, Torn}
 use Rattle.sl_machine.specs.declared.flight.Outcome.{Outcome}
 use Rattle.sl_plain.proofs.Lists.{set_here}
@@ -274,3 +274,6 @@ closing i fs items f h there opened closed = by (stays_open h) refl
     by : (o : Bool) → stays_open h ≡ o → items ≡ closed_at i h fs
     by true o = rw (closed_at, o) (opened h (set_here fs i h f there) o)
     by false o = rw (closed_at, o) (closed h (set_here fs i h f there) o ∙ remove_set fs i h)
+
+pub grown_keeps : (bytes : List ℕ) (n : ℕ) (f : FlightState) → ((grown_flight bytes n f).number ≡ f.number) × (late_cut f ≡ None → late_cut (grown_flight bytes n f) ≡ None)
+grown_keeps bytes n f = (refl, λ h. h)

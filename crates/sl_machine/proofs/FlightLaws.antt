@@ -137,3 +137,6 @@ found_at bound (suc i) number (x ∷ xs) f fall at is =
 pub found_there : (bound i number : ℕ) (fs : List FlightState) (x : FlightState) → falls bound fs ≡ true → StandsAt fs number i → x ≡ get_or fs i x → flight_numbered fs number ≡ Some x
 found_there bound i number fs x fall at read =
     found_at bound i number fs at.flight (fallen bound fs fall) at.there at.named ∙ ap Some (sym (get_or_from_slice_get fs i at.flight x at.there) ∙ sym read)
+
+pub found_of : (bound i number : ℕ) (fs : List FlightState) → falls bound fs ≡ true → StandsAt fs number i → (f : FlightState) → slice_get fs i ≡ Some f → flight_numbered fs number ≡ Some f
+found_of bound i number fs fall at f there = found_at bound i number fs at.flight (fallen bound fs fall) at.there at.named ∙ sym at.there ∙ there

@@ -2,10 +2,10 @@
 use Rattle.sl_sector.specs.Records.{IsRecord}
 use Rattle.sl_sector.specs.Spelling.{IsSectorSize}
 use Rattle.sl_sector.specs.declared.sector.Rec.{Rec}
-use Rattle.std.specs.Prelude.{IfSome, Option, ℕ, ◌≡◌}
+use Rattle.std.specs.Prelude.{Bool, IfSome, Option, true, ℕ, ◌≡◌}
 
 -- Its sectors are of one size, and what it writes is a record.
-pub record IsFlight (size : ℕ) (write : Option Rec) (sampled : ℕ) : Type 0 where
+pub record IsFlight (size : ℕ) (write : Option Rec) (sized_all : Bool) : Type 0 where
   pub sized : IsSectorSize size
-  pub same : sampled ≡ size
+  pub same : sized_all ≡ true
   pub lawful : IfSome write IsRecord

@@ -8,12 +8,13 @@ ghost use Rattle.sl_kept.specs.Kept.{FlightState};
 ghost use Rattle.sl_kept.specs.Refusing.{lands, left_in};
 ghost use Rattle.sl_kept.specs.Showing.{write_in};
 ghost use Rattle.sl_kept.specs.Steps.{new_flight};
-ghost use Rattle.sl_machine.specs.Flights.{ended_flight, late_cut};
+ghost use Rattle.sl_machine.specs.Flights.{ended_flight, grown_flight, late_cut};
 ghost use Rattle.sl_run.specs.Headers.{IsHeader};
 ghost use Rattle.sl_sector.specs.Records.{IsRecord};
 ghost use Rattle.sl_trace.specs.Traces as traces;
 ghost use Rattle.std.specs.Arc.{arc_value};
-ghost use Rattle.std.specs.Prelude.{IfOk, IfSome, is_some, option_map, ◌≡◌};
+ghost use Rattle.std.specs.Prelude.{IfOk, IfSome, OnErr, OnOk, flat_map, is_some, length, option_map, ◌++◌, ◌==◌, ◌≡◌, ◌≤◌};
+ghost use Rattle.std.specs.List.{list_all};
 
 use sl_disks::{Place, place_of, sectors_of};
 use sl_run::Header;
@@ -43,7 +44,7 @@ pub struct Flight {
     /// What it writes; none for a read.
     write: Option<Rec>,
     /// What it has sampled, and how many sectors that are.
-    sampled: Images,
+    sampled: Vec<Arc<Image>>,
     samples: u64,
     flying: bool,
     landed: bool,
@@ -57,15 +58,17 @@ impl Model for Flight {
     ghost use Rattle.sl_kept.specs.Kept.{FlightState};
     ghost use Rattle.sl_machine.specs.OneFlight.{IsFlight};
     ghost use Rattle.sl_sector.specs.Spelling.{spelling};
-    ghost use Rattle.std.specs.Prelude.{option_map};
+    ghost use Rattle.std.specs.Arc.{arc_value};
+    ghost use Rattle.std.specs.Prelude.{flat_map, length, option_map, ◌==◌};
+    ghost use Rattle.std.specs.List.{list_all};
 
     ghost Value = { FlightState };
 
     ghost view = { λ f. record {
-        number = f.number; place = f.place; sectors = f.sectors; write = option_map (spelling sha256 f.size) f.write; sampled = f.sampled.bytes; samples = f.samples;
+        number = f.number; place = f.place; sectors = f.sectors; write = option_map (spelling sha256 f.size) f.write; sampled = flat_map (λ m. arc_value m) f.sampled.items; samples = f.samples;
         flying = f.flying; landed = f.landed; torn = f.torn; own = f.own; cut = f.cut } };
 
-    ghost invariant = { λ f. IsFlight f.size f.write f.sampled.size };
+    ghost invariant = { λ f. IsFlight f.size f.write (list_all (λ m. length (arc_value m) == f.size) f.sampled.items) };
 }
 
 /// What a call writes.
@@ -78,6 +81,34 @@ fn record_of(op: &Op) -> Option<Rec>
         Op::ReadSectors { sectors: _ } => None,
         Op::WriteRecord { record } => Some(*record),
     }
+}
+
+/// Whether the sector has this size.
+fn is_sized(image: &Arc<Image>, size: u32) -> bool
+    ensures { result ≡ (length (arc_value image.now) == size) }
+{
+    image.size() == size
+}
+
+/// Whether all have this size.
+fn are_sized(images: &[Arc<Image>], size: u32) -> bool
+    ensures { result ≡ list_all (λ m. length (arc_value m) == size) images.now }
+{
+    images.iter().all(|image| is_sized(image, size))
+}
+
+/// Adds sectors. An `Err` is want of memory, or of sectors of another size.
+fn push_all(images: &mut Images, size: u32, more: &[Arc<Image>]) -> Result<(), AllocError>
+    requires { images.old.size ≡ size }
+    ensures { OnOk result ((images.new.bytes ≡ images.old.bytes ++ flat_map (λ m. arc_value m) more.now) × (images.new.size ≡ size)) }
+{
+    for image in more {
+        if !is_sized(image, size) {
+            return Err(AllocError);
+        }
+        images.push(image)?;
+    }
+    Ok(())
 }
 
 impl Flight {
@@ -95,7 +126,7 @@ impl Flight {
             sectors: sectors_of(&call.op),
             size,
             write: record_of(&call.op),
-            sampled: Images::new(alloc, size),
+            sampled: Vec::new(alloc),
             samples: 0,
             flying: true,
             landed: false,
@@ -199,11 +230,29 @@ impl Flight {
         }
     }
 
-    /// What it has sampled.
-    pub fn sampled(&self) -> &Images
-        ensures { result.now.bytes ≡ self.now.sampled }
+    /// What it has sampled, and these sectors behind it. An `Err` is want of memory, or of sectors of another size.
+    pub fn images(&self, alloc: Global, more: &[Arc<Image>]) -> Result<Images, AllocError>
+        ensures { IfOk result (λ s. s.bytes ≡ self.now.sampled ++ flat_map (λ m. arc_value m) more.now) }
     {
-        &self.sampled
+        let mut images = Images::new(alloc, self.size);
+        push_all(&mut images, self.size, &self.sampled)?;
+        push_all(&mut images, self.size, more)?;
+        Ok(images)
+    }
+
+    /// It samples these sectors, so many. An `Err` is want of memory, or of sectors of another size, and changes nothing.
+    pub fn sample(&mut self, more: Vec<Arc<Image>>, sectors: u64) -> Result<(), AllocError>
+        requires { sectors ≤ left_in self.old }
+        ensures ok { OnOk result (self.new ≡ grown_flight (flat_map (λ m. arc_value m) more.items) sectors self.old) }
+        ensures err { OnErr result (self.new ≡ self.old) }
+    {
+        let mut more = more;
+        if !are_sized(&more, self.size) {
+            return Err(AllocError);
+        }
+        self.sampled.append(&mut more)?;
+        self.samples += sectors;
+        Ok(())
     }
 
     /// Its way ends so.

@@ -5,17 +5,20 @@
 //! worked out anew where a write from before a reset lands, is torn or goes, and at a reset.
 
 ghost use Rattle.sl_kept.specs.Changes.{cut_flight, disowned, stays_open};
-ghost use Rattle.sl_kept.specs.Refusing.{lands};
+ghost use Rattle.sl_kept.specs.Refusing.{lands, left_in};
 ghost use Rattle.sl_kept.specs.Kept.{FlightState};
-ghost use Rattle.sl_machine.specs.Flights.{AreFlights, StandsAt, closed_at, ended_flight, flight_numbered, flights_cut, flights_disowned, flights_with, flights_without, late_after, late_cut, late_of, least_with};
+ghost use Rattle.sl_machine.specs.Flights.{AreFlights, StandsAt, closed_at, ended_flight, flight_numbered, flights_cut, flights_disowned, flights_with, flights_without, grown_flight, late_after, late_cut, late_of, least_with};
+ghost use Rattle.std.specs.Arc.{arc_value};
 ghost use Rattle.std.specs.List.{list_all, remove};
 ghost use Rattle.std.specs.Option.{option_copied};
-ghost use Rattle.std.specs.Prelude.{IfSome, None, OnErr, OnOk, Some, [], false, filter, map, slice_get, true, ◌+◌, ◌<◌, ◌^◌, ◌∷◌, ◌≡◌, ◌≤◌};
+ghost use Rattle.std.specs.Prelude.{IfOk, IfSome, None, OnErr, OnOk, Some, [], false, filter, flat_map, map, slice_get, true, ◌+◌, ◌<◌, ◌^◌, ◌∷◌, ◌≡◌, ◌≤◌};
 ghost use Rattle.std.specs.VecDeque.{deque_capacity, deque_len};
 
 use crate::flight::{Flight, Outcome};
+use sl_sectors::Image;
 use std::alloc::{AllocError, Global};
 use std::collections::VecDeque;
+use std::sync::Arc;
 
 /// The calls in flight of a machine.
 #[derive(Drop)]
@@ -89,6 +92,29 @@ fn end_at(
     items[index].end(outcome);
     close(items, index);
     late_after(items, cut, late)
+}
+
+/// The read at a place samples these sectors, so many. The answer is the bound on landings from then on; an `Err` is want of memory, and
+/// changes nothing.
+fn sample_at(
+    items: &mut VecDeque<Flight>,
+    late: Option<u64>,
+    index: usize,
+    more: Vec<Arc<Image>>,
+    sectors: u64,
+) -> Result<Option<u64>, AllocError>
+    requires within { index < deque_len items.old }
+    requires left { (f : FlightState) → slice_get items.old.items index ≡ Some f → sectors ≤ left_in f }
+    ensures items { (f : FlightState) → slice_get items.old.items index ≡ Some f
+        → OnOk result (items.new.items ≡ closed_at index (grown_flight (flat_map (λ m. arc_value m) more.items) sectors f) items.old.items) }
+    ensures late { (f : FlightState) → slice_get items.old.items index ≡ Some f → IfOk result (λ now. now ≡ late_after (late_cut f) late items.new.items) }
+    ensures err { OnErr result (items.new.items ≡ items.old.items) }
+    ensures room { deque_capacity items.new ≡ deque_capacity items.old }
+{
+    let cut = items[index].late_cut();
+    items[index].sample(more, sectors)?;
+    close(items, index);
+    Ok(late_after(items, cut, late))
 }
 
 /// The call at a place is gone. The answer is the bound on landings from then on.
@@ -205,6 +231,24 @@ impl Flights {
         if let Some(index) = self.index_of(number) {
             self.late = end_at(&mut self.items, self.late, index, outcome);
         }
+    }
+
+    /// The read of this number samples these sectors, so many. An `Err` is want of memory, and changes nothing.
+    pub fn sample(
+        &mut self,
+        number: u64,
+        more: Vec<Arc<Image>>,
+        sectors: u64,
+    ) -> Result<(), AllocError>
+        requires { (f : FlightState) → flight_numbered self.old.items.items number ≡ Some f → sectors ≤ left_in f }
+        ensures items { OnOk result (self.new.items.items ≡ flights_with number (grown_flight (flat_map (λ m. arc_value m) more.items) sectors) self.old.items.items) }
+        ensures err { OnErr result (self.new.items.items ≡ self.old.items.items) }
+        ensures next { self.new.next ≡ self.old.next }
+    {
+        if let Some(index) = self.index_of(number) {
+            self.late = sample_at(&mut self.items, self.late, index, more, sectors)?;
+        }
+        Ok(())
     }
 
     /// The call of this number is gone.
