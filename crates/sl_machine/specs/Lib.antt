@@ -1,2 +1,3 @@
 pub mod OneFlight
 pub mod Flights
+pub mod Hearing

@@ -1,8 +1,15 @@
 //! What is kept of a world's machines, and what each event makes of it.
 #![tactic(auto)]
 
+mod children;
+mod connections;
 mod flight;
 mod flights;
+mod heard;
+mod held;
+mod room;
 
+pub use connections::Connection;
 pub use flight::{Flight, Outcome};
 pub use flights::Flights;
+pub use heard::{Heard, hear, hear_read};
