@@ -1,3 +1,4 @@
 pub mod OneFlight
 pub mod Flights
 pub mod Hearing
+pub mod Machines
