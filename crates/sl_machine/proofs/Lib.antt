@@ -1,3 +1,4 @@
 pub mod PlainFronts
 pub mod FlightLaws
 pub mod FlightChanges
+pub mod FlightPushes

@@ -9,13 +9,20 @@ ghost use Rattle.sl_kept.specs.Refusing.{lands, left_in};
 ghost use Rattle.sl_kept.specs.Kept.{FlightState};
 ghost use Rattle.sl_machine.specs.Flights.{AreFlights, StandsAt, closed_at, ended_flight, flight_numbered, flights_cut, flights_disowned, flights_with, flights_without, grown_flight, late_after, late_cut, late_of, least_with};
 ghost use Rattle.std.specs.Arc.{arc_value};
-ghost use Rattle.std.specs.List.{list_all, remove};
+ghost use Rattle.sl_daemon.specs.Daemons.{IsSoundOp};
+ghost use Rattle.sl_kept.specs.Steps.{new_flight};
+ghost use Rattle.sl_run.specs.Headers.{IsHeader};
+ghost use Rattle.sl_trace.specs.declared.effects.Call.{Call as CallOf};
+ghost use Rattle.sl_words.specs.Words.{some_is};
+ghost use Rattle.std.specs.List.{list_all, range_with_len, remove};
 ghost use Rattle.std.specs.Option.{option_copied};
-ghost use Rattle.std.specs.Prelude.{IfOk, IfSome, None, OnErr, OnOk, Some, [], false, filter, flat_map, map, slice_get, true, ◌+◌, ◌<◌, ◌^◌, ◌∷◌, ◌≡◌, ◌≤◌};
+ghost use Rattle.std.specs.Prelude.{Contains, IfOk, IfSome, None, OnErr, OnOk, Some, [], false, filter, flat_map, fold, length, map, not, slice_get, true, ◌+◌, ◌==◌, ◌<◌, ◌^◌, ◌∷◌, ◌≡◌, ◌≤◌};
 ghost use Rattle.std.specs.VecDeque.{deque_capacity, deque_len};
 
 use crate::flight::{Flight, Outcome};
+use sl_run::Header;
 use sl_sectors::Image;
+use sl_trace::Call;
 use std::alloc::{AllocError, Global};
 use std::collections::VecDeque;
 use std::sync::Arc;
@@ -123,6 +130,7 @@ fn remove_at(items: &mut VecDeque<Flight>, late: Option<u64>, index: usize) -> O
     ensures items { items.new.items ≡ remove items.old.items index }
     ensures late { (f : FlightState) → slice_get items.old.items index ≡ Some f → result ≡ late_after (late_cut f) late items.new.items }
     ensures room { deque_capacity items.new ≡ deque_capacity items.old }
+    ensures len { deque_len items.new ≤ deque_len items.old }
 {
     let cut = items[index].late_cut();
     let _gone = items.remove(index);
@@ -256,6 +264,7 @@ impl Flights {
         ensures items { self.new.items.items ≡ flights_without number self.old.items.items }
         ensures next { self.new.next ≡ self.old.next }
         ensures room { deque_capacity self.new.items ≡ deque_capacity self.old.items }
+        ensures len { deque_len self.new.items ≤ deque_len self.old.items }
     {
         if let Some(index) = self.index_of(number) {
             self.late = remove_at(&mut self.items, self.late, index);
@@ -276,6 +285,33 @@ impl Flights {
     {
         self.items.push_front_reserved(flight);
         self.next += 1;
+    }
+
+    /// The call of this number is gone, if one is named.
+    pub fn answer(&mut self, number: Option<u64>)
+        ensures items { self.new.items.items ≡ filter (λ f. not (some_is (λ n. f.number == n) number)) self.old.items.items }
+        ensures next { self.new.next ≡ self.old.next }
+        ensures room { deque_capacity self.new.items ≡ deque_capacity self.old.items }
+        ensures len { deque_len self.new.items ≤ deque_len self.old.items }
+    {
+        if let Some(number) = number {
+            self.remove(number);
+        }
+    }
+
+    /// New calls, one after another. They take no memory.
+    pub fn push_calls(&mut self, alloc: Global, header: &Header, calls: &[Call])
+        requires lawful { IsHeader header.now }
+        requires room { deque_len self.old.items + length calls.now ≤ deque_capacity self.old.items }
+        requires numbered { map (λ c. c.number) calls.now ≡ range_with_len self.old.next (length calls.now) }
+        requires numbers { self.old.next + length calls.now < 2 ^ 64 }
+        requires sound { (c : CallOf) → Contains calls.now c → IsSoundOp c.op }
+        ensures items { self.new.items.items ≡ fold (λ fs c. new_flight header.now c ∷ fs) self.old.items.items calls.now }
+        ensures next { self.new.next ≡ self.old.next + length calls.now }
+    {
+        for call in calls {
+            self.push(Flight::made(alloc, header, call));
+        }
     }
 
     /// The daemon has ended: its reads go, its writes stay.

@@ -3,17 +3,23 @@
 ghost use Rattle.sl_daemon.specs.Daemons.{IsSoundOp};
 ghost use Rattle.sl_daemon.specs.declared.daemon.Most.{Most as MostOf};
 ghost use Rattle.sl_kept.specs.Changes.{crashed_machine, reset_machine, restarted_machine, started_machine, tested_machine};
-ghost use Rattle.sl_machine.specs.Machines.{HasRoom, machine_state};
+ghost use Rattle.sl_kept.specs.Steps.{owned_machine};
+ghost use Rattle.sl_machine.specs.Hearing.{lock_input};
+ghost use Rattle.sl_machine.specs.Machines.{HasRoom, TakesStep, machine_state, stepped_by};
+ghost use Rattle.std.specs.Vec.{vec_capacity, vec_len};
 ghost use Rattle.sl_run.specs.Headers.{IsHeader};
 ghost use Rattle.sl_time.specs.Times.{reading_of};
-ghost use Rattle.std.specs.Prelude.{OnOk, ◌≡◌};
+ghost use Rattle.std.specs.Prelude.{OnOk, length, ◌+◌, ◌≡◌, ◌≤◌};
 
-use crate::connections::{Connection, test_holds};
+use crate::children::{add_starts, hear_start};
+use crate::connections::{Connection, make_moves, test_holds};
 use crate::flights::Flights;
+use crate::heard::Heard;
+use crate::held::take_effects;
 use crate::locks::{LockInput, LockTable};
 use sl_daemon::Most;
 use sl_run::Header;
-use sl_trace::Grant;
+use sl_trace::{Effects, Grant};
 use std::alloc::{AllocError, Global};
 
 /// A machine: what its next event asks for.
@@ -112,5 +118,42 @@ impl<L: LockTable> Machine<L> {
         self.up = true;
         self.kept = moment;
         self.used = false;
+    }
+
+    /// The daemon that runs has taken a step. It takes no memory.
+    #[tactic(auto, unfolding(crate::specs::Machines::machine_state))]
+    pub fn step(
+        &mut self,
+        alloc: Global,
+        header: &Header,
+        heard: Heard,
+        input: LockInput,
+        effects: &Effects,
+    )
+        requires lawful { IsHeader header.now }
+        requires room { TakesStep L.has_room self.old effects.now }
+        ensures { machine_state L.locks self.new ≡ stepped_by header.now heard (lock_input input) effects.now (machine_state L.locks self.old) }
+    {
+        make_moves(&mut self.connections, effects.moves.as_slice());
+        self.locks.turn(self.job, input, effects);
+        if heard.numbered {
+            self.job += 1;
+        }
+        hear_start(&mut self.starting, heard.spawned);
+        add_starts(&mut self.starting, effects.starts.as_slice());
+        self.flights.answer(heard.answered);
+        self.flights.push_calls(alloc, header, effects.calls.as_slice());
+        take_effects(&mut self.held, effects);
+    }
+
+    /// What the machine does without a daemon. It takes no memory.
+    #[tactic(auto, unfolding(crate::specs::Machines::machine_state))]
+    pub fn own(&mut self, effects: &Effects)
+        requires moves { vec_len self.old.connections + length effects.now.moves ≤ vec_capacity self.old.connections }
+        requires grants { vec_len self.old.held + length effects.now.grants ≤ vec_capacity self.old.held }
+        ensures { machine_state L.locks self.new ≡ owned_machine effects.now (machine_state L.locks self.old) }
+    {
+        make_moves(&mut self.connections, effects.moves.as_slice());
+        take_effects(&mut self.held, effects);
     }
 }
