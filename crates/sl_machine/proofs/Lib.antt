@@ -1,0 +1,4 @@
+pub mod PlainFronts
+pub mod FlightLaws
+pub mod FlightChanges
+pub mod FlightPushes

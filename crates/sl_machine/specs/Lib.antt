@@ -1,0 +1,4 @@
+pub mod OneFlight
+pub mod Flights
+pub mod Hearing
+pub mod Machines

@@ -1,0 +1,19 @@
+//! What is kept of a world's machines, and what each event makes of it.
+#![tactic(auto)]
+
+mod children;
+mod connections;
+mod flight;
+mod flights;
+mod heard;
+mod held;
+mod locks;
+mod machine;
+mod room;
+
+pub use connections::Connection;
+pub use flight::{Flight, Outcome};
+pub use flights::Flights;
+pub use locks::{LockInput, LockTable};
+pub use machine::Machine;
+pub use heard::{Heard, hear, hear_read};
