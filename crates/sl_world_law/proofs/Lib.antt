@@ -7,3 +7,4 @@ pub mod FirstDaemons
 pub mod FirstStanding
 pub mod Conflicting
 pub mod Told
+pub mod Drawn

@@ -1,5 +1,6 @@
 //! What is kept and the daemons that run stand for a world: at first, and after each event.
 #![tactic(auto)]
 
+pub mod drawing;
 pub mod standing;
 pub mod telling;
