@@ -2,3 +2,4 @@ pub mod PlainFronts
 pub mod FlightLaws
 pub mod FlightChanges
 pub mod FlightPushes
+pub mod Refusals

@@ -2,3 +2,4 @@ pub mod OneFlight
 pub mod Flights
 pub mod Hearing
 pub mod Machines
+pub mod Testing

@@ -9,6 +9,7 @@ mod heard;
 mod held;
 mod locks;
 mod machine;
+mod refusing;
 mod room;
 
 pub use connections::Connection;
