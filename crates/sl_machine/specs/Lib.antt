@@ -3,3 +3,4 @@ pub mod Flights
 pub mod Hearing
 pub mod Machines
 pub mod Testing
+pub mod Keeping
