@@ -2,3 +2,5 @@ pub mod OneFlight
 pub mod Flights
 pub mod Hearing
 pub mod Machines
+pub mod Testing
+pub mod Keeping

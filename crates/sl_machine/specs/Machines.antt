@@ -43,6 +43,11 @@ pub record HasRoom {L : Type 0} (has_room : L → Bool) (m : Most) (a : Machine 
   pub calls : deque_len a.flights.items + m.calls ≤ deque_capacity a.flights.items
   pub locks : has_room a.locks ≡ true
 
+-- It has room for what it does itself.
+pub record HasOwnRoom {L : Type 0} (a : Machine L) (fx : Effects) : Type 0 where
+  pub moves : vec_len a.connections + length fx.moves ≤ vec_capacity a.connections
+  pub grants : vec_len a.held + length fx.grants ≤ vec_capacity a.held
+
 -- A step that it has room for: calls are numbered on and write records, and numbers are left.
 pub record TakesStep {L : Type 0} (has_room : L → Bool) (a : Machine L) (fx : Effects) : Type 0 where
   pub most : Most

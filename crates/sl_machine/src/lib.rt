@@ -7,13 +7,17 @@ mod flight;
 mod flights;
 mod heard;
 mod held;
+mod kept;
 mod locks;
 mod machine;
+mod names;
+mod refusing;
 mod room;
 
 pub use connections::Connection;
 pub use flight::{Flight, Outcome};
 pub use flights::Flights;
+pub use kept::Kept;
 pub use locks::{LockInput, LockTable};
 pub use machine::Machine;
 pub use heard::{Heard, hear, hear_read};

@@ -2,25 +2,32 @@
 
 ghost use Rattle.sl_daemon.specs.Daemons.{IsSoundOp};
 ghost use Rattle.sl_daemon.specs.declared.daemon.Most.{Most as MostOf};
-ghost use Rattle.sl_kept.specs.Changes.{crashed_machine, reset_machine, restarted_machine, started_machine, tested_machine};
+ghost use Rattle.sl_kept.specs.Changes.{change_flight, crashed_machine, reset_machine, restarted_machine, started_machine, tested_machine};
 ghost use Rattle.sl_kept.specs.Steps.{owned_machine};
+ghost use Rattle.sl_kept.specs.Kept.{FlightState, flight_in};
+ghost use Rattle.sl_kept.specs.Refusing.{left_in};
+ghost use Rattle.sl_machine.specs.Flights.{ended_flight, grown_flight};
 ghost use Rattle.sl_machine.specs.Hearing.{lock_input};
 ghost use Rattle.sl_machine.specs.Machines.{HasRoom, TakesStep, machine_state, stepped_by};
+ghost use Rattle.std.specs.Arc.{arc_value};
 ghost use Rattle.std.specs.Vec.{vec_capacity, vec_len};
 ghost use Rattle.sl_run.specs.Headers.{IsHeader};
 ghost use Rattle.sl_time.specs.Times.{reading_of};
-ghost use Rattle.std.specs.Prelude.{OnOk, length, ◌+◌, ◌≡◌, ◌≤◌};
+ghost use Rattle.std.specs.Prelude.{OnErr, OnOk, Some, flat_map, length, ◌+◌, ◌≡◌, ◌≤◌};
 
 use crate::children::{add_starts, hear_start};
 use crate::connections::{Connection, make_moves, test_holds};
+use crate::flight::Outcome;
 use crate::flights::Flights;
 use crate::heard::Heard;
 use crate::held::take_effects;
 use crate::locks::{LockInput, LockTable};
 use sl_daemon::Most;
 use sl_run::Header;
+use sl_sectors::Image;
 use sl_trace::{Effects, Grant};
 use std::alloc::{AllocError, Global};
+use std::sync::Arc;
 
 /// A machine: what its next event asks for.
 #[derive(Drop)]
@@ -118,6 +125,29 @@ impl<L: LockTable> Machine<L> {
         self.up = true;
         self.kept = moment;
         self.used = false;
+    }
+
+    /// The way of a write ends so.
+    #[tactic(auto, unfolding(crate::specs::Machines::machine_state))]
+    pub fn end_call(&mut self, call: u64, outcome: Outcome)
+        ensures { machine_state L.locks self.new ≡ change_flight call (ended_flight outcome) (machine_state L.locks self.old) }
+    {
+        self.flights.end(call, outcome);
+    }
+
+    /// A read samples these sectors, so many. An `Err` is want of memory, and changes nothing that is seen.
+    #[tactic(auto, unfolding(crate::specs::Machines::machine_state))]
+    pub fn sample(
+        &mut self,
+        call: u64,
+        more: Vec<Arc<Image>>,
+        sectors: u64,
+    ) -> Result<(), AllocError>
+        requires { (f : FlightState) → flight_in (machine_state L.locks self.old) call ≡ Some f → sectors ≤ left_in f }
+        ensures ok { OnOk result (machine_state L.locks self.new ≡ change_flight call (grown_flight (flat_map (λ m. arc_value m) more.items) sectors) (machine_state L.locks self.old)) }
+        ensures err { OnErr result (machine_state L.locks self.new ≡ machine_state L.locks self.old) }
+    {
+        self.flights.sample(call, more, sectors)
     }
 
     /// The daemon that runs has taken a step. It takes no memory.

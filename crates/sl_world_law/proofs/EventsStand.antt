@@ -143,7 +143,7 @@ steps_are_ready commands stands k hosts w t e none i gives left =
 -- ---- its step
 
 pub steps_fit : {D : Type 0} (commands : Header → List (Form Command)) (stands : D → Setting → Trace → Type 0) → StepsFit commands stands
-steps_fit commands stands k hosts e i r next most fx s =
+steps_fit commands stands k hosts m i r next most fx s =
     let goes = s.stays r.setting r.trace r.stood r.comes in
     let step = s.sound r.setting r.trace r.stood r.comes in
     record {

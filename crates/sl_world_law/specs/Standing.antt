@@ -50,12 +50,12 @@ RefusalsStand {D} commands stands =
 
 -- ---- steps
 
--- A daemon runs on the event's machine, and its input may come to it.
-pub record IsReady {D : Type 0} (stands : D → Setting → Trace → Type 0) (k : KeptState) (hosts : List (Option D)) (e : Event) (i : Input) : Type 0 where
+-- A daemon runs on machine m, and this may come to it.
+pub record IsReady {D : Type 0} (stands : D → Setting → Trace → Type 0) (k : KeptState) (hosts : List (Option D)) (m : ℕ) (i : Input) : Type 0 where
   pub machine : MachineState
-  pub there : machine_in k (machine_of e) ≡ Some machine
+  pub there : machine_in k m ≡ Some machine
   pub host : D
-  pub runs : slice_get hosts (seat_of e) ≡ Some (Some host)
+  pub runs : slice_get hosts (m - 1) ≡ Some (Some host)
   pub setting : Setting
   pub trace : Trace
   pub stood : stands host setting trace
@@ -71,7 +71,7 @@ abbrev pub StepsAreReady : {D : Type 0} → (Header → List (Form Command)) →
 StepsAreReady {D} commands stands =
     (k : KeptState) (hosts : List (Option D)) (w : World)
     → WorldStands commands stands k hosts w → (e : Event) → refusal_in commands k e ≡ None → (i : Input) → input_in k e ≡ Some i → LeavesNumbers k e
-    → IsReady stands k hosts e i
+    → IsReady stands k hosts (machine_of e) i
 
 -- What a step makes of a daemon: it stands for each trace that it stood for, with one entry more.
 pub record HasStepped {D : Type 0} (stands : D → Setting → Trace → Type 0) (most : Most) (host next : D) (now : ℕ) (i : Input) (fx : Effects) : Type 0 where
@@ -88,7 +88,7 @@ pub record FitsKept (k : KeptState) (s : MachineState) (most : Most) (fx : Effec
 
 abbrev pub StepsFit : {D : Type 0} → (Header → List (Form Command)) → (D → Setting → Trace → Type 0) → Type 0
 StepsFit {D} commands stands =
-    (k : KeptState) (hosts : List (Option D)) (e : Event) (i : Input) (r : IsReady stands k hosts e i) (next : D) (most : Most) (fx : Effects)
+    (k : KeptState) (hosts : List (Option D)) (m : ℕ) (i : Input) (r : IsReady stands k hosts m i) (next : D) (most : Most) (fx : Effects)
     → HasStepped stands most r.host next (reading_of r.machine.clock) i fx → FitsKept k r.machine most fx
 
 abbrev pub StepsStand : {D : Type 0} → (Header → List (Form Command)) → (D → Setting → Trace → Type 0) → Type 0

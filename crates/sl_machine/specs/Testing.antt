@@ -1,0 +1,52 @@
+-- What an event asks of its machine. (What it asks of the disks and of all names is not told here: a tear's bytes, and a start's name.)
+use Rattle.sl_kept.specs.Kept.{FlightState, MachineState}
+use Rattle.sl_kept.specs.Refusing.{left_in, needs_running, on_flight_in, reads_in, writes_in}
+use Rattle.sl_run.specs.declared.event.Event.TheVariants.{AnswerCall, Crash, Do, DropWrite, ExitOf, GiveAsk, GiveCommand, GiveLvm, Land, Pass, Reset, Restart, Sample, SpawnedOf, StartDaemon, Tear, Test, WakeUp}
+use Rattle.sl_run.specs.declared.event.Event.{Event}
+use Rattle.sl_run.specs.declared.event.Refusal.TheVariants.{MissingCall, MissingDaemon, MissingDown, MissingFlight, MissingLanding, MissingLvm, MissingPlace, MissingReset, MissingSample, MissingSpawn, MissingUp}
+use Rattle.sl_run.specs.declared.event.Refusal.{Refusal}
+use Rattle.std.specs.List.{list_any}
+use Rattle.std.specs.Prelude.{Bool, List, false, true, is_none, is_some, nat_lt, not, [], ℕ, ◌&&◌, ◌==◌, ◌||◌, ◌∷◌}
+
+-- ---- calls
+
+abbrev pub sample_tests : ℕ → FlightState → List (Bool × Refusal)
+sample_tests n f = (is_none f.place, MissingPlace) ∷ (nat_lt (left_in f) n, MissingSample) ∷ []
+
+abbrev pub land_tests : FlightState → List (Bool × Refusal)
+land_tests f = (is_none f.place, MissingPlace) ∷ (not f.flying, MissingFlight) ∷ []
+
+abbrev pub answer_tests : Bool → FlightState → List (Bool × Refusal)
+answer_tests ok f = (ok && reads_in f && nat_lt 0 (left_in f), MissingSample) ∷ (ok && writes_in f && not f.landed, MissingLanding) ∷ []
+
+abbrev pub do_tests : FlightState → List (Bool × Refusal)
+do_tests f = (is_none f.place, MissingPlace) ∷ (f.torn, MissingLanding) ∷ []
+
+abbrev pub drop_tests : FlightState → List (Bool × Refusal)
+drop_tests f = (f.own || not f.flying, MissingFlight) ∷ []
+
+-- ---- machines: `locks` tells whether the text of a command is for lvmlockd's process
+
+abbrev pub machine_tests : Bool → Event → MachineState → List (Bool × Refusal)
+machine_tests locks (Pass d growths) s = []
+machine_tests locks (WakeUp m) s = needs_running s ∷ []
+machine_tests locks (GiveCommand m text) s = needs_running s ∷ (locks || is_some s.locks.due, MissingLvm) ∷ []
+machine_tests locks (GiveLvm m line) s = needs_running s ∷ (is_some s.locks.line, MissingLvm) ∷ []
+machine_tests locks (GiveAsk m) s = needs_running s ∷ (is_none s.locks.due, MissingLvm) ∷ []
+machine_tests locks (Sample m c n) s = needs_running s ∷ on_flight_in s c reads_in (sample_tests n)
+machine_tests locks (Land m c) s = on_flight_in s c writes_in land_tests
+machine_tests locks (Tear m c n bytes) s = on_flight_in s c writes_in land_tests
+machine_tests locks (AnswerCall m c ok) s = needs_running s ∷ on_flight_in s c (λ f. f.own) (answer_tests ok)
+machine_tests locks (Do m c) s = needs_running s ∷ on_flight_in s c (λ f. f.own) do_tests
+machine_tests locks (DropWrite m c) s = on_flight_in s c writes_in drop_tests
+machine_tests locks (Test m) s = (not s.up, MissingUp) ∷ []
+machine_tests locks (ExitOf m p) s = (not s.up, MissingUp) ∷ []
+machine_tests locks (SpawnedOf m p ok) s = needs_running s ∷ (not (list_any (λ q. q == p) s.starting), MissingSpawn) ∷ []
+machine_tests locks (StartDaemon m name) s = (not s.up, MissingUp) ∷ (s.used, MissingReset) ∷ []
+machine_tests locks (Crash m) s = needs_running s ∷ []
+machine_tests locks (Reset m) s = (not s.up, MissingUp) ∷ []
+machine_tests locks (Restart m) s = (s.up, MissingDown) ∷ []
+
+-- A call must be of the right kind.
+abbrev pub of_kind : (FlightState → Bool) → (FlightState → List (Bool × Refusal)) → FlightState → List (Bool × Refusal)
+of_kind p f x = elim (p x) [ false ↦ (true, MissingCall) ∷ [] | true ↦ f x ]

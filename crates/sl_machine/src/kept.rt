@@ -1,0 +1,122 @@
+//! What is kept of a world, but for its daemons.
+
+ghost use Rattle.sl_kept.specs.Changes.{change_flight, crashed_machine, reset_machine, restarted_machine, tested_machine};
+ghost use Rattle.sl_kept.specs.Kept.{change_machine_in, machine_in};
+ghost use Rattle.sl_machine.specs.Keeping.{kept_state, place_in};
+ghost use Rattle.sl_kept.specs.Steps.{owned_machine};
+ghost use Rattle.sl_machine.specs.Flights.{ended_flight};
+ghost use Rattle.sl_machine.specs.Machines.{HasOwnRoom, machine_state};
+ghost use Rattle.sl_machine.specs.declared.machine.Machine.{Machine as MachineOf};
+ghost use Rattle.sl_run.specs.Headers.{IsHeader};
+ghost use Rattle.std.specs.Option.{option_copied};
+ghost use Rattle.std.specs.Prelude.{IfSome, Some, option_map, slice_get, ℕ, ◌<◌, ◌≡◌};
+
+use crate::flight::Outcome;
+use crate::locks::LockTable;
+use crate::machine::Machine;
+use crate::names::DaemonName;
+use indexmap::IndexSet;
+use sl_disks::Disks;
+use sl_run::Header;
+use sl_trace::Effects;
+
+/// The moment, the machines, the disks and all names that daemons had.
+#[derive(Drop)]
+pub struct Kept<L: LockTable> {
+    pub disks: Disks,
+    pub moment: u64,
+    /// Machine m stands at place m - 1.
+    pub machines: Vec<Machine<L>>,
+    pub names: IndexSet<DaemonName>,
+}
+
+/// The place of a machine among so many.
+pub fn place_of(count: usize, machine: u32) -> Option<usize>
+    ensures exact { result ≡ place_in count machine }
+    ensures within { IfSome result (λ i. i < count) }
+{
+    if machine == 0 {
+        return None;
+    }
+    let index = machine as usize - 1;
+    if index < count { Some(index) } else { None }
+}
+
+impl<L: LockTable> Kept<L> {
+    /// The header of the world.
+    #[tactic(auto, unfolding(crate::specs::Keeping::kept_state))]
+    pub fn header(&self) -> &Header
+        ensures exact { result.now ≡ (kept_state L.locks self.now).header }
+        ensures lawful { IsHeader result.now }
+    {
+        self.disks.header()
+    }
+
+    /// A machine, if there is one.
+    pub fn machine(&self, machine: u32) -> Option<&Machine<L>>
+        ensures { option_map (machine_state L.locks) (option_copied result) ≡ machine_in (kept_state L.locks self.now) machine }
+    {
+        match place_of(self.machines.len(), machine) {
+            None => None,
+            Some(index) => Some(&self.machines[index]),
+        }
+    }
+
+    /// The watchdog daemon's test is made on a machine.
+    pub fn test(&mut self, machine: u32)
+        ensures { kept_state L.locks self.new ≡ change_machine_in machine (tested_machine (kept_state L.locks self.old).moment) (kept_state L.locks self.old) }
+    {
+        let moment = self.moment;
+        if let Some(index) = place_of(self.machines.len(), machine) {
+            self.machines[index].test(moment);
+        }
+    }
+
+    /// The daemon of a machine ends.
+    pub fn crash(&mut self, machine: u32)
+        ensures { kept_state L.locks self.new ≡ change_machine_in machine (crashed_machine) (kept_state L.locks self.old) }
+    {
+        if let Some(index) = place_of(self.machines.len(), machine) {
+            self.machines[index].crash();
+        }
+    }
+
+    /// A machine goes down.
+    pub fn reset(&mut self, machine: u32)
+        ensures { kept_state L.locks self.new ≡ change_machine_in machine (reset_machine (kept_state L.locks self.old).moment) (kept_state L.locks self.old) }
+    {
+        let moment = self.moment;
+        if let Some(index) = place_of(self.machines.len(), machine) {
+            self.machines[index].reset(moment);
+        }
+    }
+
+    /// A machine comes up.
+    pub fn restart(&mut self, machine: u32)
+        ensures { kept_state L.locks self.new ≡ change_machine_in machine (restarted_machine (kept_state L.locks self.old).moment) (kept_state L.locks self.old) }
+    {
+        let moment = self.moment;
+        if let Some(index) = place_of(self.machines.len(), machine) {
+            self.machines[index].restart(moment);
+        }
+    }
+
+    /// The way of a write ends so.
+    pub fn end_call(&mut self, machine: u32, call: u64, outcome: Outcome)
+        ensures { kept_state L.locks self.new ≡ change_machine_in machine (change_flight call (ended_flight outcome)) (kept_state L.locks self.old) }
+    {
+        if let Some(index) = place_of(self.machines.len(), machine) {
+            self.machines[index].end_call(call, outcome);
+        }
+    }
+
+    /// What a machine does without a daemon. It takes no memory.
+    pub fn own(&mut self, machine: u32, effects: &Effects)
+        requires { (i : ℕ) → (a : MachineOf L) → slice_get self.old.machines.items i ≡ Some a → HasOwnRoom a effects.now }
+        ensures { kept_state L.locks self.new ≡ change_machine_in machine (owned_machine effects.now) (kept_state L.locks self.old) }
+    {
+        if let Some(index) = place_of(self.machines.len(), machine) {
+            self.machines[index].own(effects);
+        }
+    }
+}
