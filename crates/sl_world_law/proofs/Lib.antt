@@ -8,3 +8,4 @@ pub mod FirstStanding
 pub mod Conflicting
 pub mod Told
 pub mod Drawn
+pub mod DirectChanges
