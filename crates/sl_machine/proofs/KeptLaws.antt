@@ -6,6 +6,8 @@ use Rattle.sl_words.proofs.CaseLaws.{none_some, some_value}
 use Rattle.std.proofs.Common.{ap, arith, get_or, refl, subst, sym, ◌∙◌}
 use Rattle.std.proofs.lemmas.Bool.Decides.{nat_tests}
 use Rattle.std.proofs.lemmas.List.{map-set}
+use Rattle.std.proofs.Math.Seq.{map-set_same}
+use Rattle.sl_plain.proofs.Lists.{set_here, there_is}
 use Rattle.std.proofs.lemmas.Option.{slice_get-map, slice_get_past, slice_get_read}
 use Rattle.std.specs.List.{slice_set}
 use Rattle.std.specs.Prelude.{Bool, List, None, Option, Some, false, if◌then◌else◌, length, map, nat_lt, option_map, slice_get, suc, true, [], ℕ, ◌-◌, ◌<◌, ◌==◌, ◌∷◌, ◌≡◌, ◌≤◌}
@@ -73,3 +75,15 @@ pub unchanged : {A : Type 0} (f : A → MachineState) (h : Header) (moment : ℕ
     → record { header = h; moment = moment; machines = map f ms; disks = disks; names = names }
     ≡ change_machine_in m g (record { header = h; moment = moment; machines = map f ms; disks = disks; names = names })
 unchanged f h moment disks names ms count m g same none = rw (change_machine_in, nowhere_mapped f ms count m same none) refl
+
+pub same_set : {A B : Type 0} (f : A → B) (ms : List A) (i : ℕ) (a b : A) → a ≡ get_or ms i a → f b ≡ f a → map f (slice_set ms i b) ≡ map f ms
+same_set f ms i a b read is = map-set_same f ms i b a (is ∙ ap f read)
+
+-- What holds of the machine at a place, once it has changed.
+pub at_set : {A : Type 0} (P : A → Type 0) (ms : List A) (count m i : ℕ) (a b : A) → count ≡ length ms → place_in count m ≡ Some i → P b
+    → (j : ℕ) (x : A) → place_in count m ≡ Some j → slice_get (slice_set ms i b) j ≡ Some x → P x
+at_set P ms count m i a b same there holds j x at is =
+    let e : i ≡ j = some_value i j (sym there ∙ at) in
+    let p = placed count m i there in
+    let old = there_is ms i (subst (λ n. i < n) same p.within) in
+    subst P (some_value b x (sym (set_here ms i b old.0 old.1) ∙ ap (slice_get (slice_set ms i b)) e ∙ is)) holds

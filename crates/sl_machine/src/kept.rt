@@ -1,24 +1,30 @@
 //! What is kept of a world, but for its daemons.
 
-ghost use Rattle.sl_kept.specs.Changes.{change_flight, crashed_machine, reset_machine, restarted_machine, tested_machine};
+ghost use Rattle.sl_kept.specs.Changes.{change_flight, crashed_machine, named_in, reset_machine, restarted_machine, started_machine, tested_machine};
 ghost use Rattle.sl_kept.specs.Kept.{change_machine_in, machine_in};
-ghost use Rattle.sl_machine.specs.Keeping.{kept_state, place_in};
+ghost use Rattle.sl_machine.specs.Keeping.{AtMachine, kept_state, place_in};
 ghost use Rattle.sl_kept.specs.Steps.{owned_machine};
 ghost use Rattle.sl_machine.specs.Flights.{ended_flight};
-ghost use Rattle.sl_machine.specs.Machines.{HasOwnRoom, machine_state};
-ghost use Rattle.sl_machine.specs.declared.machine.Machine.{Machine as MachineOf};
+ghost use Rattle.sl_machine.specs.Hearing.{lock_input};
+ghost use Rattle.sl_machine.specs.Machines.{HasOwnRoom, HasRoom, TakesStep, machine_state, stepped_by};
+ghost use Rattle.indexmap.specs.IndexSet.{spare};
+ghost use Rattle.std.specs.List.{list_any};
 ghost use Rattle.sl_run.specs.Headers.{IsHeader};
 ghost use Rattle.std.specs.Option.{option_copied};
-ghost use Rattle.std.specs.Prelude.{IfSome, Some, option_map, slice_get, ℕ, ◌<◌, ◌≡◌};
+ghost use Rattle.std.specs.Prelude.{IfSome, OnOk, bytes_eq, false, option_map, reverse, ◌<◌, ◌≡◌};
 
 use crate::flight::Outcome;
-use crate::locks::LockTable;
+use crate::heard::Heard;
+use crate::locks::{LockInput, LockTable};
 use crate::machine::Machine;
-use crate::names::DaemonName;
+use crate::names::{DaemonName, add_name};
 use indexmap::IndexSet;
+use sl_daemon::Most;
 use sl_disks::Disks;
 use sl_run::Header;
+use sl_text::Name;
 use sl_trace::Effects;
+use std::alloc::AllocError;
 
 /// The moment, the machines, the disks and all names that daemons had.
 #[derive(Drop)]
@@ -112,11 +118,70 @@ impl<L: LockTable> Kept<L> {
 
     /// What a machine does without a daemon. It takes no memory.
     pub fn own(&mut self, machine: u32, effects: &Effects)
-        requires { (i : ℕ) → (a : MachineOf L) → slice_get self.old.machines.items i ≡ Some a → HasOwnRoom a effects.now }
+        requires { AtMachine (λ a. HasOwnRoom a effects.now) self.old machine }
         ensures { kept_state L.locks self.new ≡ change_machine_in machine (owned_machine effects.now) (kept_state L.locks self.old) }
     {
         if let Some(index) = place_of(self.machines.len(), machine) {
             self.machines[index].own(effects);
         }
+    }
+
+    /// Takes the memory that a step of a machine's daemon needs. An `Err` is want of it. Nothing that is seen changes.
+    pub fn reserve(
+        &mut self,
+        machine: u32,
+        most: &Most,
+        input: &LockInput,
+    ) -> Result<(), AllocError>
+        ensures room { OnOk result (AtMachine (HasRoom L.has_room most.now) self.new machine) }
+        ensures same { kept_state L.locks self.new ≡ kept_state L.locks self.old }
+    {
+        if let Some(index) = place_of(self.machines.len(), machine) {
+            self.machines[index].reserve(most, input)?;
+        }
+        Ok(())
+    }
+
+    /// The daemon of a machine has taken a step. It takes no memory.
+    pub fn step(&mut self, machine: u32, heard: Heard, input: LockInput, effects: &Effects)
+        requires { AtMachine (λ a. TakesStep L.has_room a effects.now) self.old machine }
+        ensures { kept_state L.locks self.new
+            ≡ change_machine_in machine (stepped_by self.old.disks.header heard (lock_input input) effects.now) (kept_state L.locks self.old) }
+    {
+        let alloc = *self.machines.allocator();
+        if let Some(index) = place_of(self.machines.len(), machine) {
+            self.machines[index].step(alloc, self.disks.header(), heard, input, effects);
+        }
+    }
+
+    /// A daemon begins on a machine.
+    fn begin(&mut self, machine: u32)
+        ensures exact { kept_state L.locks self.new ≡ change_machine_in machine (started_machine self.old.disks.header) (kept_state L.locks self.old) }
+        ensures names { self.new.names ≡ self.old.names }
+    {
+        let alloc = *self.machines.allocator();
+        if let Some(index) = place_of(self.machines.len(), machine) {
+            self.machines[index].start(alloc, self.disks.header());
+        }
+    }
+
+    /// A daemon has this name that none had. It takes no memory.
+    #[tactic(auto, unfolding(crate::specs::Keeping::kept_state))]
+    fn name(&mut self, name: Name)
+        requires room { 0 < spare self.old.names }
+        requires new { list_any (bytes_eq name) (reverse self.old.names.keys) ≡ false }
+        ensures { kept_state L.locks self.new ≡ named_in name (kept_state L.locks self.old) }
+    {
+        add_name(&mut self.names, name);
+    }
+
+    /// A daemon begins on a machine. Its name is added, which none had. It takes no memory.
+    pub fn start(&mut self, machine: u32, name: Name)
+        requires room { 0 < spare self.old.names }
+        requires new { list_any (bytes_eq name) (reverse self.old.names.keys) ≡ false }
+        ensures { kept_state L.locks self.new ≡ named_in name (change_machine_in machine (started_machine self.old.disks.header) (kept_state L.locks self.old)) }
+    {
+        self.begin(machine);
+        self.name(name);
     }
 }
