@@ -1,1 +1,3 @@
 pub mod PlainFilled
+pub mod LockInputs
+pub mod GivenSteps

@@ -2,7 +2,10 @@
 #![tactic(auto)]
 
 mod hosts;
+mod lines;
 mod sites;
+mod world;
 
 pub use hosts::Hosts;
+pub use world::World;
 pub use sites::{first_site, session_of};
