@@ -19,15 +19,17 @@ use Rattle.sl_trace.specs.declared.command.Command.{Command}
 use Rattle.sl_trace.specs.declared.effects.Effects.{Effects}
 use Rattle.sl_trace.specs.declared.input.Input.TheVariants.{Answer as Told, Exit, Line, Number, Spawned, Wake}
 use Rattle.sl_trace.specs.declared.input.Input.{Input}
+use Rattle.sl_whole_world.specs.Allowing.{LeavesAt}
 use Rattle.sl_whole_world.specs.Giving.{IsGiven}
 use Rattle.sl_whole_world.specs.Hosting.{HostStepped}
-use Rattle.sl_words.proofs.CaseLaws.{none_some, one_value, some_value}
+use Rattle.sl_words.proofs.CaseLaws.{none_some, one_value, some_value, true_is_false}
 use Rattle.sl_world_law.proofs.EventsStand.{steps_fit}
 use Rattle.sl_world_law.specs.Standing.{FitsKept, HasStepped, IsReady}
 use Rattle.std.proofs.Common.{ap, arith, refl, subst, sym, ◌∙◌}
+use Rattle.std.proofs.lemmas.Bool.Decides.{nat_tests}
 use Rattle.std.proofs.lemmas.Option.{slice_get-map}
 use Rattle.std.specs.List.{range_with_len}
-use Rattle.std.specs.Prelude.{Bool, List, None, Option, Some, if◌then◌else◌, length, map, option_map, slice_get, slice_set, ℕ, ◌-◌, ◌<◌, ◌==◌, ◌^◌, ◌≡◌}
+use Rattle.std.specs.Prelude.{Bool, Err, IfOk, List, None, Ok, Option, Result, Some, false, if◌then◌else◌, length, map, nat_lt, not, option_map, slice_get, slice_set, true, ℕ, ◌-◌, ◌<◌, ◌==◌, ◌^◌, ◌≡◌}
 use Rattle.std.specs.Vec.{vec_len}
 
 -- ---- machines by their places
@@ -121,11 +123,41 @@ taken_up locks k after m i l fx heard same hears is =
 
 pub is_given : {D : Type 0} (stands : D → Setting → Trace → Type 0) (makes : D → Most) (k after : KeptState) (hosts running : List (Option D)) (m now : ℕ) (i : Input) (fx : Effects)
     → ((s : MachineState) → machine_in k m ≡ Some s → now ≡ reading_of s.clock) → (x : HostStepped stands makes hosts (m - 1) now i running fx)
-    → after ≡ taken_kept m (Some i) fx k → IsGiven stands makes k hosts m i after running fx
-is_given stands makes k after hosts running m now i fx now_is x kept =
+    → after ≡ taken_kept m (Some i) fx k → LeavesAt k m → IsGiven stands makes k hosts m i after running fx
+is_given stands makes k after hosts running m now i fx now_is x kept left =
     record {
       kept = kept;
+      numbers = left;
       next = x.next;
       hosts_are = x.hosts_are;
       goes = λ h s runs there. subst (λ n. HasStepped stands (makes h) h x.next n i fx) (now_is s there) (x.goes h runs);
     }
+
+-- ---- numbers are left
+
+below_test : (n m : ℕ) → nat_lt n m ≡ true → n < m
+below_test n m h = grind (arith, nat_tests, h)
+
+pub numbers_there : {L : Type 0} (locks : L → Locks) (k : Kept L) (m : ℕ) (a : Machine L) → machine_in (kept_state locks k) m ≡ Some (machine_state locks a)
+    → a.flights.next < 9223372036854773760 → nat_lt a.job 9223372036854773760 ≡ true → LeavesAt (kept_state locks k) m
+numbers_there locks k m a at call job s there =
+    let one = one_value (machine_state locks a) s (machine_in (kept_state locks k) m) at there in
+    (subst (λ n. n < 9223372036854773760) (sym (next_kept locks a).0 ∙ ap (λ (z : MachineState). z.next.call) one) call,
+    subst (λ n. n < 9223372036854773760) (sym (next_kept locks a).1 ∙ ap (λ (z : MachineState). z.next.job) one) (below_test a.job 9223372036854773760 job))
+
+pub not_false : (b : Bool) → not b ≡ false → b ≡ true
+not_false true h = refl
+not_false false h = absurd (true_is_false h)
+
+-- What an answer ok says may be said in another way.
+pub if_ok_then : {A E : Type 0} (P Q : A → Type 0) (r : Result A E) → ((a : A) → P a → Q a) → IfOk r P → IfOk r Q
+if_ok_then P Q (Ok a) more p = more a p
+if_ok_then P Q (Err e) more p = tt
+
+-- ---- asks
+
+pub ask_there : {L : Type 0} (locks : L → Locks) (k : Kept L) (m : ℕ) (a : Machine L) (text : List ℕ) → machine_in (kept_state locks k) m ≡ Some (machine_state locks a)
+    → Some text ≡ (locks a.locks).due → (s : MachineState) → machine_in (kept_state locks k) m ≡ Some s → s.locks.due ≡ Some text
+unfolding machine_state
+ask_there locks k m a text at due s there =
+    ap (λ (z : MachineState). z.locks.due) (sym (one_value (machine_state locks a) s (machine_in (kept_state locks k) m) at there)) ∙ sym due

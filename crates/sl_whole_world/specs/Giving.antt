@@ -6,6 +6,7 @@ use Rattle.sl_time.specs.Times.{reading_of}
 use Rattle.sl_trace.specs.Traces.{Setting, Trace}
 use Rattle.sl_trace.specs.declared.effects.Effects.{Effects}
 use Rattle.sl_trace.specs.declared.input.Input.{Input}
+use Rattle.sl_whole_world.specs.Allowing.{LeavesAt}
 use Rattle.sl_world_law.specs.Standing.{HasStepped}
 use Rattle.std.specs.List.{slice_set}
 use Rattle.std.specs.Prelude.{List, Option, Some, slice_get, ℕ, ◌-◌, ◌≡◌}
@@ -16,6 +17,7 @@ pub record IsGiven {D : Type 0} (stands : D → Setting → Trace → Type 0) (m
   pub kept : after ≡ taken_kept m (Some i) fx k
   pub next : D
   pub hosts_are : running ≡ slice_set hosts (m - 1) (Some next)
+  pub numbers : LeavesAt k m
   pub goes : (h : D) (s : MachineState) → slice_get hosts (m - 1) ≡ Some (Some h) → machine_in k m ≡ Some s
       → HasStepped stands (makes h) h next (reading_of s.clock) i fx
 
