@@ -4,3 +4,4 @@ pub mod Hearing
 pub mod Machines
 pub mod Testing
 pub mod Keeping
+pub mod Passing

@@ -11,6 +11,7 @@ mod kept;
 mod locks;
 mod machine;
 mod names;
+mod passing;
 mod refusing;
 mod room;
 
