@@ -177,7 +177,7 @@ expected w all (Do m c) may a d at runs is layout i gives =
     subst (λ z. is_expected d.setting d.trace z ≡ true) x.2 (done_comes w all a d is runs layout x.0 (flight_inside a c x.0 x.1) (done_call w m c may a at x.0 x.1))
 expected w all e may a d at runs is layout i gives = absurd (none_some i gives)
 
-numbers_of : (a : Machine) (d : Daemon) → a.daemon ≡ Some d → next_numbers a ≡ record { call = next_call d.setting d.trace; job = next_job d.setting d.trace }
+pub numbers_of : (a : Machine) (d : Daemon) → a.daemon ≡ Some d → next_numbers a ≡ record { call = next_call d.setting d.trace; job = next_job d.setting d.trace }
 numbers_of a d runs = ap (λ (o : Option Daemon). next_numbers (record a { daemon = o })) runs
 
 pub inputs_may_come : InputsMayCome

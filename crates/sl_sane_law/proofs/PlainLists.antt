@@ -1,11 +1,11 @@
 -- Plain facts of lists: what is changed element by element, and what is told apart by a number.
 use Rattle.sl_plain.proofs.Lists.{filter_both, got_index, got_inside, there_is}
-use Rattle.sl_words.proofs.CaseLaws.{some_value}
+use Rattle.sl_words.proofs.CaseLaws.{none_some, some_value}
 use Rattle.std.proofs.Common.{ap, ap₂, arith, refl, subst, suc, sym, zero, ◌∙◌}
 use Rattle.std.proofs.lemmas.List.{length-map}
 use Rattle.std.proofs.lemmas.List.Kept.{AllPairs-cons}
 use Rattle.std.proofs.lemmas.Option.{slice_get-map}
-use Rattle.std.specs.List.{range_with_len}
+use Rattle.std.specs.List.{enumerate_from, range_with_len}
 use Rattle.std.specs.Prelude.{All, AllPairs, Bool, Contains, List, Some, cond, false, filter, length, map, not, option_map, slice_get, slice_index_or, true, [], ℕ, ◌&&◌, ◌++◌, ◌+◌, ◌<◌, ◌∷◌, ◌≡◌, ◌≢◌}
 
 -- Where an element stands.
@@ -112,3 +112,23 @@ range_append i (suc n) k =
 
     one_longer : (a b : ℕ) → suc (a + b) ≡ suc a + b
     one_longer a b = omega arith
+
+-- ---- numbered changes
+
+-- A numbered change, at a place.
+pub numbered_at : {A : Type 0} (g : ℕ → A → A) (i : ℕ) (xs : List A) (j : ℕ) (b : A) → slice_get (map (λ p. g p.0 p.1) (enumerate_from i xs)) j ≡ Some b
+    → (a : A) × (slice_get xs j ≡ Some a) × (g (i + j) a ≡ b)
+numbered_at g i [] j b at = absurd (none_some b at)
+numbered_at g i (x ∷ xs) zero b at = (x, refl, ap (λ n. g n x) (none_more i) ∙ some_value (g i x) b at)
+  where
+    none_more : (n : ℕ) → n + 0 ≡ n
+    none_more n = omega arith
+numbered_at g i (x ∷ xs) (suc j) b at =
+    let r = numbered_at g (i + 1) xs j b at in (r.0, r.1, ap (λ n. g n r.0) (one_further i j) ∙ r.2)
+  where
+    one_further : (n k : ℕ) → n + suc k ≡ n + 1 + k
+    one_further n k = omega arith
+
+pub enumerated : {A : Type 0} (g : ℕ → A → A) (i : ℕ) (xs : List A) → length (map (λ p. g p.0 p.1) (enumerate_from i xs)) ≡ length xs
+enumerated g i [] = refl
+enumerated g i (x ∷ xs) = ap suc (enumerated g (i + 1) xs)

@@ -18,6 +18,7 @@ use Rattle.sl_run.specs.declared.event.Event.TheVariants.{AnswerCall, Crash, Do,
 use Rattle.sl_run.specs.declared.event.Event.{Event}
 use Rattle.sl_run.specs.declared.event.Refusal.TheVariants.{MissingDaemon, MissingDown, MissingFlight, MissingPlace, MissingReset, MissingSample, MissingUp, PremiseName, PremiseTorn, Syntax}
 use Rattle.sl_run.specs.declared.header.Header.{Header}
+use Rattle.sl_sane_law.proofs.PlainLists.{enumerated, numbered_at}
 use Rattle.sl_sane_law.proofs.SaneCalls.{changed_sane, fate_keeps}
 use Rattle.sl_sane_law.proofs.SaneMachines.{crashed_sane, ended_all, passed_sane, reset_sane, restarted_sane, started_sane, still_sane, tested_sane}
 use Rattle.sl_sane_law.proofs.SaneSectors.{sample_keeps, torn_size, whole_size}
@@ -31,14 +32,14 @@ use Rattle.sl_trace.specs.declared.command.Command.{Command}
 use Rattle.sl_trace.specs.declared.effects.Call.{Call}
 use Rattle.sl_trace.specs.declared.effects.Effects.{Effects}
 use Rattle.sl_trace.specs.declared.input.Input.{Input}
-use Rattle.sl_words.proofs.CaseLaws.{is_false, none_some, one_value, some_value, true_is_false}
+use Rattle.sl_words.proofs.CaseLaws.{is_false, one_value, true_is_false}
 use Rattle.sl_words.specs.Bounds.{moments}
-use Rattle.std.proofs.Common.{ap, ap₂, arith, inl, inr, refl, subst, suc, sym, zero, ◌∙◌}
+use Rattle.std.proofs.Common.{ap, ap₂, arith, inl, inr, refl, subst, sym, ◌∙◌}
 use Rattle.std.proofs.lemmas.Bool.Decides.{nat_tests}
 use Rattle.std.proofs.lemmas.Option.{slice_get_within}
-use Rattle.std.specs.List.{enumerate_from, list_any, range_with_len}
+use Rattle.std.specs.List.{list_any, range_with_len}
 use Rattle.std.specs.Option.{option_map_or}
-use Rattle.std.specs.Prelude.{Bool, Contains, IsSome, List, None, Option, Some, bytes_eq, false, if◌then◌else◌, is_none, length, map, nat_le, nat_lt, not, slice_get, take, true, [], ℕ, ◌+◌, ◌-◌, ◌<◌, ◌==◌, ◌∷◌, ◌≡◌, ◌≤◌, ◌||◌}
+use Rattle.std.specs.Prelude.{Bool, Contains, IsSome, List, None, Option, Some, bytes_eq, false, if◌then◌else◌, is_none, length, nat_le, nat_lt, not, slice_get, take, true, [], ℕ, ◌+◌, ◌-◌, ◌<◌, ◌==◌, ◌∷◌, ◌≡◌, ◌≤◌, ◌||◌}
 
 -- ---- time passes
 
@@ -47,20 +48,6 @@ one_later w = omega arith
 
 same_most : (n : ℕ) → n ≤ n
 same_most n = omega arith
-
--- A numbered change, at a place.
-numbered_at : {A : Type 0} (g : ℕ → A → A) (i : ℕ) (xs : List A) (j : ℕ) (b : A) → slice_get (map (λ p. g p.0 p.1) (enumerate_from i xs)) j ≡ Some b
-    → (a : A) × (slice_get xs j ≡ Some a) × (g (i + j) a ≡ b)
-numbered_at g i [] j b at = absurd (none_some b at)
-numbered_at g i (x ∷ xs) zero b at = (x, refl, ap (λ n. g n x) (none_more i) ∙ some_value (g i x) b at)
-  where
-    none_more : (n : ℕ) → n + 0 ≡ n
-    none_more n = omega arith
-numbered_at g i (x ∷ xs) (suc j) b at =
-    let r = numbered_at g (i + 1) xs j b at in (r.0, r.1, ap (λ n. g n r.0) (one_further i j) ∙ r.2)
-  where
-    one_further : (n k : ℕ) → n + suc k ≡ n + 1 + k
-    one_further n k = omega arith
 
 none_of : {A : Type 0} (p : A → Bool) (xs : List A) → list_any p xs ≡ false → (x : A) → Contains xs x → p x ≡ false
 none_of p xs none x inside = is_false (p x) (λ h. true_is_false (sym (any_of p xs x h inside) ∙ none))
@@ -105,10 +92,6 @@ machine_here w i = ap₂ (λ b n. if b then None else slice_get w.machines n) (n
 
 moment_later : (n d : ℕ) → n ≤ n + d
 moment_later n d = omega arith
-
-enumerated : {A : Type 0} (g : ℕ → A → A) (i : ℕ) (xs : List A) → length (map (λ p. g p.0 p.1) (enumerate_from i xs)) ≡ length xs
-enumerated g i [] = refl
-enumerated g i (x ∷ xs) = ap suc (enumerated g (i + 1) xs)
 
 pass_sane : (commands : Header → List (Form Command)) (w : World) → IsSane commands w → (d : ℕ) (gs : Option (List ℕ)) → may_happen w (Pass d gs) ≡ true
     → IsSane commands (after_pass d gs w)
@@ -263,7 +246,7 @@ not_false : (b : Bool) → not b ≡ false → b ≡ true
 not_false true h = refl
 not_false false h = absurd (true_is_false h)
 
-may_start : (w : World) (m : ℕ) (name : List ℕ) → may_happen w (StartDaemon m name) ≡ true → (a : Machine) → machine_at w m ≡ Some a → IsSaneMachine w a
+pub may_start : (w : World) (m : ℕ) (name : List ℕ) → may_happen w (StartDaemon m name) ≡ true → (a : Machine) → machine_at w m ≡ Some a → IsSaneMachine w a
     → (a.daemon ≡ None) × (a.up ≡ true)
 unfolding event_tests
 may_start w m name may a at s =
