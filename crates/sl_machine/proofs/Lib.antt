@@ -7,3 +7,5 @@ pub mod KeptLaws
 pub mod NameLaws
 pub mod PassLaws
 pub mod PlainNumbered
+pub mod PlainRanges
+pub mod PlainOptions

@@ -5,3 +5,4 @@ pub mod Machines
 pub mod Testing
 pub mod Keeping
 pub mod Passing
+pub mod Calling
