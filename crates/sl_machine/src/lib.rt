@@ -16,6 +16,7 @@ mod passing;
 mod reads;
 mod refusing;
 mod room;
+mod tears;
 
 pub use calls::Landing;
 pub use connections::Connection;

@@ -22,7 +22,7 @@ use std::sync::Arc;
 
 /// Where a call lies; nowhere where it is not in flight.
 fn place_of_flight(flight: Option<&Flight>) -> Option<Place>
-    ensures { result ≡ at_first (option_copied flight) }
+    ensures { result ≡ at_first (option_copied flight.entry) }
 {
     match flight {
         None => None,
@@ -32,7 +32,7 @@ fn place_of_flight(flight: Option<&Flight>) -> Option<Place>
 
 /// How many sectors it has sampled; none where it is not in flight.
 fn samples_of(flight: Option<&Flight>) -> u64
-    ensures { result ≡ samples_of (option_copied flight) }
+    ensures { result ≡ samples_of (option_copied flight.entry) }
 {
     match flight {
         None => 0,
@@ -48,15 +48,16 @@ impl<L: LockTable> Kept<L> {
         call: u64,
         sectors: u64,
     ) -> Result<Vec<Arc<Image>>, AllocError>
-        ensures bytes { (f : FlightState) → flight_of_machine (kept_state L.locks self.old) machine call ≡ Some f
-            → IfOk result (λ more. f.sampled ++ flat_map (λ m. arc_value m) more.items ≡ rest_in (kept_state L.locks self.old) f sectors) }
+        ensures bytes { IfOk result (λ more. (f : FlightState) → flight_of_machine (kept_state L.locks self.old) machine call ≡ Some f
+            → f.sampled ++ flat_map (λ m. arc_value m) more.items ≡ rest_in (kept_state L.locks self.old) f sectors) }
         ensures same { kept_state L.locks self.new ≡ kept_state L.locks self.old }
         ensures machines { self.new.machines ≡ self.old.machines }
     {
         let alloc = *self.machines.allocator();
         let place = place_of_flight(self.flight(machine, call));
         let first = samples_of(self.flight(machine, call));
-        gather(alloc, &mut self.disks, place, first, sectors)
+        let more = gather(alloc, &mut self.disks, place, first, sectors)?;
+        Ok(more)
     }
 
     /// A read samples these sectors, so many: what an event makes of the call that it names. An `Err` is want of memory, and changes
@@ -74,10 +75,13 @@ impl<L: LockTable> Kept<L> {
             → kept_state L.locks self.new ≡ change_machine_in machine (change_flight call g) (kept_state L.locks self.old)) }
         ensures err { OnErr result (kept_state L.locks self.new ≡ kept_state L.locks self.old) }
     {
-        if let Some(index) = place_of(self.machines.len(), machine) {
-            self.machines[index].sample(call, more, sectors)?;
+        match place_of(self.machines.len(), machine) {
+            None => Ok(()),
+            Some(index) => match self.machines[index].sample(call, more, sectors) {
+                Ok(()) => Ok(()),
+                Err(_) => Err(AllocError),
+            },
         }
-        Ok(())
     }
 
     /// A read samples its next sectors, so many. An `Err` is want of memory, and changes nothing that is seen.
