@@ -277,3 +277,49 @@ closing i fs items f h there opened closed = by (stays_open h) refl
 
 pub grown_keeps : (bytes : List ℕ) (n : ℕ) (f : FlightState) → ((grown_flight bytes n f).number ≡ f.number) × (late_cut f ≡ None → late_cut (grown_flight bytes n f) ≡ None)
 grown_keeps bytes n f = (refl, λ h. h)
+
+-- ---- two changes that are one on the call
+
+map_none : (c : ℕ) (g h : FlightState → FlightState) (fs : List FlightState) → flight_numbered fs c ≡ None → map (changed c g) fs ≡ map (changed c h) fs
+map_none c g h [] none = refl
+map_none c g h (f ∷ fs) none = map_none_by c g h f fs (f.number == c) refl none (map_none c g h fs)
+  where
+    map_none_by : (c : ℕ) (g h : FlightState → FlightState) (f : FlightState) (fs : List FlightState) (b : Bool) → (f.number == c) ≡ b
+        → (if b then Some f else flight_numbered fs c) ≡ None → (flight_numbered fs c ≡ None → map (changed c g) fs ≡ map (changed c h) fs)
+        → map (changed c g) (f ∷ fs) ≡ map (changed c h) (f ∷ fs)
+    map_none_by c g h f fs true is none rest = absurd (none_some f (sym none))
+    map_none_by c g h f fs false is none rest = rw (changed, is) (ap (λ ys. f ∷ ys) (rest none))
+
+map_same_by : (n c : ℕ) (g h : FlightState → FlightState) (f : FlightState) (fs : List FlightState) (b : Bool) → (f.number == c) ≡ b → Falls n (f ∷ fs)
+    → ((x : FlightState) → (if b then Some f else flight_numbered fs c) ≡ Some x → g x ≡ h x)
+    → (((x : FlightState) → flight_numbered fs c ≡ Some x → g x ≡ h x) → map (changed c g) fs ≡ map (changed c h) fs)
+    → map (changed c g) (f ∷ fs) ≡ map (changed c h) (f ∷ fs)
+map_same_by n c g h f fs true is fall same rest =
+    let le : f.number ≤ c = grind (arith, nat_tests, is) in
+    rw (changed, is) (ap₂ (λ y ys. y ∷ ys) (same f refl) (map_none c g h fs (below_none f.number c fs fall.1 le)))
+map_same_by n c g h f fs false is fall same rest = rw (changed, is) (ap (λ ys. f ∷ ys) (rest same))
+
+map_same : (n c : ℕ) (g h : FlightState → FlightState) (fs : List FlightState) → Falls n fs → ((x : FlightState) → flight_numbered fs c ≡ Some x → g x ≡ h x)
+    → map (changed c g) fs ≡ map (changed c h) fs
+map_same n c g h [] fall same = refl
+map_same n c g h (f ∷ fs) fall same = map_same_by n c g h f fs (f.number == c) refl fall same (map_same f.number c g h fs fall.1)
+
+pub same_with : (n c : ℕ) (late : Option ℕ) (g h : FlightState → FlightState) (fs : List FlightState) → AreFlights n late fs
+    → ((x : FlightState) → flight_numbered fs c ≡ Some x → g x ≡ h x) → flights_with c g fs ≡ flights_with c h fs
+same_with n c late g h fs are same = ap (filter stays_open) (map_same n c g h fs (fallen n fs are.fall) same)
+
+-- ---- a call that has changed, and is then answered
+
+without_by : (c : ℕ) (g : FlightState → FlightState) (f : FlightState) (fs : List FlightState) (b : Bool) → (f.number == c) ≡ b → ((x : FlightState) → (g x).number ≡ x.number)
+    → stays_open f ≡ true → flights_without c (flights_with c g fs) ≡ flights_without c fs → (o : Bool) → stays_open (g f) ≡ o
+    → flights_without c (flights_with c g (f ∷ fs)) ≡ flights_without c (f ∷ fs)
+without_by c g f fs false is same open_ rest o opens = rw (changed, is, open_, is) (ap (λ ys. f ∷ ys) rest)
+without_by c g f fs true is same open_ rest true opens = rw (changed, is, opens, same f, is) rest
+without_by c g f fs true is same open_ rest false opens = rw (changed, is, opens) rest
+
+pub answered_after : (c : ℕ) (g : FlightState → FlightState) (fs : List FlightState) → ((x : FlightState) → (g x).number ≡ x.number) → list_all stays_open fs ≡ true
+    → flights_without c (flights_with c g fs) ≡ flights_without c fs
+answered_after c g [] same open_ = refl
+answered_after c g (f ∷ fs) same open_ =
+    let both = and_true (stays_open f) (list_all stays_open fs) open_ in
+    without_by c g f fs (f.number == c) refl same both.0 (answered_after c g fs same both.1) (stays_open (g f)) refl

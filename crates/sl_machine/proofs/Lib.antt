@@ -5,3 +5,7 @@ pub mod FlightPushes
 pub mod Refusals
 pub mod KeptLaws
 pub mod NameLaws
+pub mod PassLaws
+pub mod PlainNumbered
+pub mod PlainRanges
+pub mod PlainOptions

@@ -4,3 +4,5 @@ pub mod Hearing
 pub mod Machines
 pub mod Testing
 pub mod Keeping
+pub mod Passing
+pub mod Calling

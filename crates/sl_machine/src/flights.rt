@@ -241,7 +241,7 @@ impl Flights {
         }
     }
 
-    /// The read of this number samples these sectors, so many. An `Err` is want of memory, and changes nothing.
+    /// The read of this number samples these sectors, so many: what an event makes of it. An `Err` is want of memory, and changes nothing.
     pub fn sample(
         &mut self,
         number: u64,
@@ -249,7 +249,9 @@ impl Flights {
         sectors: u64,
     ) -> Result<(), AllocError>
         requires { (f : FlightState) → flight_numbered self.old.items.items number ≡ Some f → sectors ≤ left_in f }
-        ensures items { OnOk result (self.new.items.items ≡ flights_with number (grown_flight (flat_map (λ m. arc_value m) more.items) sectors) self.old.items.items) }
+        ensures items { OnOk result ((g : FlightState → FlightState)
+            → ((f : FlightState) → flight_numbered self.old.items.items number ≡ Some f → g f ≡ grown_flight (flat_map (λ m. arc_value m) more.items) sectors f)
+            → self.new.items.items ≡ flights_with number g self.old.items.items) }
         ensures err { OnErr result (self.new.items.items ≡ self.old.items.items) }
         ensures next { self.new.next ≡ self.old.next }
     {

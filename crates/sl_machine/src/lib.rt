@@ -1,6 +1,7 @@
 //! What is kept of a world's machines, and what each event makes of it.
 #![tactic(auto)]
 
+mod calls;
 mod children;
 mod connections;
 mod flight;
@@ -11,9 +12,13 @@ mod kept;
 mod locks;
 mod machine;
 mod names;
+mod passing;
+mod reads;
 mod refusing;
 mod room;
+mod tears;
 
+pub use calls::Landing;
 pub use connections::Connection;
 pub use flight::{Flight, Outcome};
 pub use flights::Flights;

@@ -135,7 +135,7 @@ impl<L: LockTable> Machine<L> {
         self.flights.end(call, outcome);
     }
 
-    /// A read samples these sectors, so many. An `Err` is want of memory, and changes nothing that is seen.
+    /// A read samples these sectors, so many: what an event makes of the call that it names. An `Err` is want of memory, and changes nothing that is seen.
     #[tactic(auto, unfolding(crate::specs::Machines::machine_state))]
     pub fn sample(
         &mut self,
@@ -144,7 +144,9 @@ impl<L: LockTable> Machine<L> {
         sectors: u64,
     ) -> Result<(), AllocError>
         requires { (f : FlightState) → flight_in (machine_state L.locks self.old) call ≡ Some f → sectors ≤ left_in f }
-        ensures ok { OnOk result (machine_state L.locks self.new ≡ change_flight call (grown_flight (flat_map (λ m. arc_value m) more.items) sectors) (machine_state L.locks self.old)) }
+        ensures ok { OnOk result ((g : FlightState → FlightState)
+            → ((f : FlightState) → flight_in (machine_state L.locks self.old) call ≡ Some f → g f ≡ grown_flight (flat_map (λ m. arc_value m) more.items) sectors f)
+            → machine_state L.locks self.new ≡ change_flight call g (machine_state L.locks self.old)) }
         ensures err { OnErr result (machine_state L.locks self.new ≡ machine_state L.locks self.old) }
     {
         self.flights.sample(call, more, sectors)
