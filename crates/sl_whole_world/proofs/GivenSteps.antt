@@ -29,7 +29,7 @@ use Rattle.std.proofs.Common.{ap, arith, refl, subst, sym, ◌∙◌}
 use Rattle.std.proofs.lemmas.Bool.Decides.{nat_tests}
 use Rattle.std.proofs.lemmas.Option.{slice_get-map}
 use Rattle.std.specs.List.{range_with_len}
-use Rattle.std.specs.Prelude.{Bool, Err, IfOk, List, None, Ok, Option, Result, Some, false, if◌then◌else◌, length, map, nat_lt, not, option_map, slice_get, slice_set, true, ℕ, ◌-◌, ◌<◌, ◌==◌, ◌^◌, ◌≡◌}
+use Rattle.std.specs.Prelude.{Bool, Err, IfOk, List, None, Ok, OnOk, Option, Result, Some, false, if◌then◌else◌, length, map, nat_lt, not, option_map, slice_get, slice_set, true, ℕ, ◌-◌, ◌<◌, ◌==◌, ◌^◌, ◌≡◌}
 use Rattle.std.specs.Vec.{vec_len}
 
 -- ---- machines by their places
@@ -161,3 +161,7 @@ pub ask_there : {L : Type 0} (locks : L → Locks) (k : Kept L) (m : ℕ) (a : M
 unfolding machine_state
 ask_there locks k m a text at due s there =
     ap (λ (z : MachineState). z.locks.due) (sym (one_value (machine_state locks a) s (machine_in (kept_state locks k) m) at there)) ∙ sym due
+
+pub on_ok_then : {A E : Type 0} (P Q : Type 0) (r : Result A E) → (P → Q) → OnOk r P → OnOk r Q
+on_ok_then P Q (Ok a) more p = more p
+on_ok_then P Q (Err e) more p = tt

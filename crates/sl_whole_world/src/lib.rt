@@ -4,6 +4,7 @@
 mod given;
 mod hosts;
 mod lines;
+mod own;
 mod sites;
 mod world;
 
