@@ -96,7 +96,7 @@ pub up_from : (bound number low high found : ℕ) (xs fs : List FlightState) (f 
 up_from bound number low high found xs fs f same fall is lt read at less =
     let w = is.within in
     let there : slice_get fs (middle low high) ≡ Some f =
-        slice_get_read fs (length fs) (middle low high) f refl (omega (arith, lt, w)) (read ∙ ap (λ (ys : List FlightState). get_or ys (middle low high) f) same) in
+    slice_get_read fs (length fs) (middle low high) f refl (omega (arith, lt, w)) (read ∙ ap (λ (ys : List FlightState). get_or ys (middle low high) f) same) in
     narrow_up bound number low high (middle low high) fs f is (subst (Falls bound) same (fallen bound xs fall)) (omega arith) (omega (arith, lt)) there (omega (arith, at, less))
 
 pub down_to : (bound number low high found : ℕ) (xs fs : List FlightState) (f : FlightState) → xs ≡ fs → falls bound xs ≡ true → Narrowed fs number low high → low < high
@@ -104,7 +104,7 @@ pub down_to : (bound number low high found : ℕ) (xs fs : List FlightState) (f 
 down_to bound number low high found xs fs f same fall is lt read at most other =
     let w = is.within in
     let there : slice_get fs (middle low high) ≡ Some f =
-        slice_get_read fs (length fs) (middle low high) f refl (omega (arith, lt, w)) (read ∙ ap (λ (ys : List FlightState). get_or ys (middle low high) f) same) in
+    slice_get_read fs (length fs) (middle low high) f refl (omega (arith, lt, w)) (read ∙ ap (λ (ys : List FlightState). get_or ys (middle low high) f) same) in
     let less : found < number = grind (arith, nat_tests, most, other) in
     narrow_down bound number low high (middle low high) fs f is (subst (Falls bound) same (fallen bound xs fall)) (omega arith) (omega (arith, lt)) there (omega (arith, at, less))
 

@@ -93,9 +93,9 @@ pub may_pass : (k : KeptState) (d : ℕ) (gs : Option (List ℕ)) → first_that
     → (k.moment + d < moments) × (list_any (reads_past d gs) (enumerate_from 1 k.machines) ≡ false)
 unfolding pass_tests_in
 may_pass k d gs none =
-    let b = neither (nat_le moments (k.moment + d)) (list_any (reads_past d gs) (enumerate_from 1 k.machines)) 
-        (first_is_false (nat_le moments (k.moment + d) || list_any (reads_past d gs) (enumerate_from 1 k.machines)) (list_any (drifts_off k.header.timing.rho d gs) (enumerate_from 1 k.machines))
-        (list_any (starves k.header.timing.fire (k.moment + d)) k.machines) (list_any (λ s. list_any (is_overdue k.header.timing.land (k.moment + d)) s.flights) k.machines) none) in
+    let b = neither (nat_le moments (k.moment + d)) (list_any (reads_past d gs) (enumerate_from 1 k.machines))
+    (first_is_false (nat_le moments (k.moment + d) || list_any (reads_past d gs) (enumerate_from 1 k.machines)) (list_any (drifts_off k.header.timing.rho d gs) (enumerate_from 1 k.machines))
+    (list_any (starves k.header.timing.fire (k.moment + d)) k.machines) (list_any (λ s. list_any (is_overdue k.header.timing.land (k.moment + d)) s.flights) k.machines) none) in
     (below moments (k.moment + d) b.0, b.1)
   where
     below : (m n : ℕ) → nat_le m n ≡ false → n < m

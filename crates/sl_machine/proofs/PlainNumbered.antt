@@ -64,7 +64,7 @@ pub goes_one : {A : Type 0} (h : ℕ × A → A) (xs items : List A) (n : ℕ) (
     → new ≡ h (n, get_or items n r) → slice_set items n new ≡ front_changed h (n + 1) 0 xs
 goes_one h xs items n r new is lt new_is =
     let value : new ≡ h (0 + n, get_or xs n r) =
-        new_is ∙ ap (λ ys. h (n, get_or ys n r)) is ∙ ap (λ x. h (n, x)) (same_behind h n 0 xs r) ∙ ap (λ j. h (j, get_or xs n r)) (sym (starts n)) in
+    new_is ∙ ap (λ ys. h (n, get_or ys n r)) is ∙ ap (λ x. h (n, x)) (same_behind h n 0 xs r) ∙ ap (λ j. h (j, get_or xs n r)) (sym (starts n)) in
     ap₂ (λ ys y. slice_set ys n y) is value ∙ one_more h n 0 xs r lt ∙ ap (λ m. front_changed h m 0 xs) (suc-eq-add-one n)
 
 pub gone_all : {A : Type 0} (h : ℕ × A → A) (xs items : List A) (n : ℕ) → items ≡ front_changed h n 0 xs → n ≡ length xs → items ≡ map h (enumerate_from 0 xs)

@@ -13,7 +13,7 @@ use Rattle.sl_words.specs.Words.{some_is}
 use Rattle.std.specs.List.{range_with_len}
 use Rattle.sl_daemon.specs.declared.daemon.Most.{Most}
 use Rattle.sl_machine.specs.declared.machine.Machine.{Machine}
-use Rattle.sl_run.specs.Locks.{Locks, locks_after}
+use Rattle.sl_run.specs.Locks.{Locks, Told, locks_after}
 use Rattle.std.specs.Prelude.{Bool, Contains, filter, fold, if◌then◌else◌, length, map, not, true, ℕ, ◌++◌, ◌+◌, ◌<◌, ◌==◌, ◌^◌, ◌∷◌, ◌≡◌, ◌≤◌}
 use Rattle.std.specs.Vec.{vec_capacity, vec_len}
 use Rattle.std.specs.VecDeque.{deque_capacity, deque_len}
@@ -71,3 +71,7 @@ stepped_by h d i fx s =
       held = held_after fx s.held;
       locks = (locks_after s.next.job i fx s.locks).0;
     }
+
+-- The reply to lvmlockd's line, if it has come.
+abbrev pub told_by : Input → Effects → MachineState → Told
+told_by i fx s = (locks_after s.next.job i fx s.locks).1

@@ -1,12 +1,12 @@
 -- What an event asks of its machine. (What it asks of the disks and of all names is not told here: a tear's bytes, and a start's name.)
-use Rattle.sl_kept.specs.Kept.{FlightState, MachineState}
-use Rattle.sl_kept.specs.Refusing.{left_in, needs_running, on_flight_in, reads_in, writes_in}
+use Rattle.sl_kept.specs.Kept.{FlightState, KeptState, MachineState}
+use Rattle.sl_kept.specs.Refusing.{left_in, needs_running, on_flight_in, on_kept, reads_in, spells_in, torn_in, writes_in}
 use Rattle.sl_run.specs.declared.event.Event.TheVariants.{AnswerCall, Crash, Do, DropWrite, ExitOf, GiveAsk, GiveCommand, GiveLvm, Land, Pass, Reset, Restart, Sample, SpawnedOf, StartDaemon, Tear, Test, WakeUp}
 use Rattle.sl_run.specs.declared.event.Event.{Event}
-use Rattle.sl_run.specs.declared.event.Refusal.TheVariants.{MissingCall, MissingDaemon, MissingDown, MissingFlight, MissingLanding, MissingLvm, MissingPlace, MissingReset, MissingSample, MissingSpawn, MissingUp}
+use Rattle.sl_run.specs.declared.event.Refusal.TheVariants.{MissingCall, MissingDaemon, MissingDown, MissingFlight, MissingLanding, MissingLvm, MissingPlace, MissingReset, MissingSample, MissingSpawn, MissingUp, PremiseName, PremiseTorn}
 use Rattle.sl_run.specs.declared.event.Refusal.{Refusal}
 use Rattle.std.specs.List.{list_any}
-use Rattle.std.specs.Prelude.{Bool, List, false, true, is_none, is_some, nat_lt, not, [], ℕ, ◌&&◌, ◌==◌, ◌||◌, ◌∷◌}
+use Rattle.std.specs.Prelude.{Bool, List, bytes_eq, false, true, is_none, is_some, nat_lt, not, [], ℕ, ◌&&◌, ◌==◌, ◌||◌, ◌∷◌}
 
 -- ---- calls
 
@@ -50,3 +50,16 @@ machine_tests locks (Restart m) s = (s.up, MissingDown) ∷ []
 -- A call must be of the right kind.
 abbrev pub of_kind : (FlightState → Bool) → (FlightState → List (Bool × Refusal)) → FlightState → List (Bool × Refusal)
 of_kind p f x = elim (p x) [ false ↦ (true, MissingCall) ∷ [] | true ↦ f x ]
+
+-- ---- tears: what a write leaves may spell nothing
+
+abbrev pub torn_tests : Bool → FlightState → List (Bool × Refusal)
+torn_tests spells f = (is_none f.place, MissingPlace) ∷ (not f.flying, MissingFlight) ∷ (spells, PremiseTorn) ∷ []
+
+abbrev pub tear_tests : KeptState → ℕ → ℕ → ℕ → List ℕ → List (Bool × Refusal)
+tear_tests k m c n given = on_kept k m (λ s. on_flight_in s c writes_in (λ f. torn_tests (spells_in k.header (torn_in k f n given)) f))
+
+-- ---- starts: a name is given once
+
+abbrev pub start_tests : KeptState → List ℕ → MachineState → List (Bool × Refusal)
+start_tests k name s = (not s.up, MissingUp) ∷ (s.used, MissingReset) ∷ (list_any (bytes_eq name) k.names, PremiseName) ∷ []

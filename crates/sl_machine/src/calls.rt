@@ -10,7 +10,7 @@ ghost use Rattle.sl_machine.specs.Flights.{ended_flight};
 ghost use Rattle.sl_machine.specs.Keeping.{kept_state};
 ghost use Rattle.std.specs.Arc.{arc_value};
 ghost use Rattle.std.specs.List.{range_with_len};
-ghost use Rattle.std.specs.Prelude.{IfOk, IfSome, None, OnErr, OnOk, [], flat_map, option_map, unwrap_or, ◌++◌, ◌+◌, is_none, length, true, ◌≡◌};
+ghost use Rattle.std.specs.Prelude.{IfOk, IfSome, None, OnErr, OnOk, Some, [], flat_map, option_map, unwrap_or, ◌++◌, ◌+◌, is_none, length, true, ◌≡◌};
 ghost use Rattle.std.specs.Option.{option_copied};
 
 use crate::flight::{Flight, Outcome};
@@ -39,7 +39,7 @@ fn number_of(first: u64, index: u64) -> Result<u64, AllocError>
 }
 
 /// A sector of a call, if it lies there. An `Err` is want of memory. Nothing that is seen changes.
-fn sector_at(
+pub fn sector_at(
     disks: &mut Disks,
     place: Option<Place>,
     index: u64,
@@ -85,7 +85,7 @@ pub fn gather(
 /// What the call leaves, with sectors of this size. An `Err` is want of memory, or of a call that leaves no such sector.
 fn landing_of(alloc: Global, sector: u32, flight: &Flight) -> Result<Landing, AllocError>
     ensures place { IfOk result (λ l. l.place ≡ flight.now.place) }
-    ensures bytes { IfOk result (λ l. unwrap_or flight.now.write [] ≡ arc_value l.image) }
+    ensures bytes { IfOk result (λ l. flight.now.write ≡ Some (arc_value l.image)) }
     ensures sized { IfOk result (λ l. length (arc_value l.image) ≡ sector) }
 {
     match flight.sector(alloc)? {
@@ -116,7 +116,7 @@ impl<L: LockTable> Kept<L> {
 
     /// Bytes of a sector.
     #[tactic(auto, unfolding(crate::specs::Keeping::kept_state))]
-    fn sector(&self) -> u32
+    pub fn sector(&self) -> u32
         ensures { result ≡ (kept_state L.locks self.now).header.geometry.sector }
     {
         self.disks.header().geometry.sector()

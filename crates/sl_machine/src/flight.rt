@@ -65,8 +65,18 @@ impl Model for Flight {
     ghost Value = { FlightState };
 
     ghost view = { λ f. record {
-        number = f.number; place = f.place; sectors = f.sectors; write = option_map (spelling sha256 f.size) f.write; sampled = flat_map (λ m. arc_value m) f.sampled.items; samples = f.samples;
-        flying = f.flying; landed = f.landed; torn = f.torn; own = f.own; cut = f.cut } };
+      number = f.number;
+      place = f.place;
+      sectors = f.sectors;
+      write = option_map (spelling sha256 f.size) f.write;
+      sampled = flat_map (λ m. arc_value m) f.sampled.items;
+      samples = f.samples;
+      flying = f.flying;
+      landed = f.landed;
+      torn = f.torn;
+      own = f.own;
+      cut = f.cut;
+    } };
 
     ghost invariant = { λ f. IsFlight f.size f.write (list_all (λ m. length (arc_value m) == f.size) f.sampled.items) };
 }

@@ -6,12 +6,12 @@ ghost use Rattle.sl_machine.specs.Keeping.{AtMachine, kept_state, place_in};
 ghost use Rattle.sl_kept.specs.Steps.{owned_machine};
 ghost use Rattle.sl_machine.specs.Flights.{ended_flight};
 ghost use Rattle.sl_machine.specs.Hearing.{lock_input};
-ghost use Rattle.sl_machine.specs.Machines.{HasOwnRoom, HasRoom, TakesStep, machine_state, stepped_by};
+ghost use Rattle.sl_machine.specs.Machines.{HasOwnRoom, HasRoom, TakesStep, machine_state, stepped_by, told_by};
 ghost use Rattle.indexmap.specs.IndexSet.{spare};
 ghost use Rattle.std.specs.List.{list_any};
 ghost use Rattle.sl_run.specs.Headers.{IsHeader};
 ghost use Rattle.std.specs.Option.{option_copied};
-ghost use Rattle.std.specs.Prelude.{IfSome, OnOk, bytes_eq, false, option_map, reverse, ◌<◌, ◌≡◌};
+ghost use Rattle.std.specs.Prelude.{IfSome, OnOk, bytes_eq, false, option_and_then, option_map, reverse, ◌<◌, ◌≡◌};
 
 use crate::flight::Outcome;
 use crate::heard::Heard;
@@ -22,7 +22,7 @@ use indexmap::IndexSet;
 use sl_daemon::Most;
 use sl_disks::Disks;
 use sl_run::Header;
-use sl_text::Name;
+use sl_text::{Bytes, Name};
 use sl_trace::Effects;
 use std::alloc::AllocError;
 
@@ -142,15 +142,25 @@ impl<L: LockTable> Kept<L> {
         Ok(())
     }
 
-    /// The daemon of a machine has taken a step. It takes no memory.
-    pub fn step(&mut self, machine: u32, heard: Heard, input: LockInput, effects: &Effects)
+    /// The daemon of a machine has taken a step; the answer is the reply to lvmlockd's line, if it has come. It takes no memory.
+    pub fn step(
+        &mut self,
+        machine: u32,
+        heard: Heard,
+        input: LockInput,
+        effects: &Effects,
+    ) -> Option<(u64, Bytes)>
         requires { AtMachine (λ a. TakesStep L.has_room a effects.now) self.old machine }
-        ensures { kept_state L.locks self.new
+        ensures stays { kept_state L.locks self.new
             ≡ change_machine_in machine (stepped_by self.old.disks.header heard (lock_input input) effects.now) (kept_state L.locks self.old) }
+        ensures told { result ≡ option_and_then (told_by (lock_input input) effects.now) (machine_in (kept_state L.locks self.old) machine) }
     {
         let alloc = *self.machines.allocator();
-        if let Some(index) = place_of(self.machines.len(), machine) {
-            self.machines[index].step(alloc, self.disks.header(), heard, input, effects);
+        match place_of(self.machines.len(), machine) {
+            None => None,
+            Some(index) => {
+                self.machines[index].step(alloc, self.disks.header(), heard, input, effects)
+            }
         }
     }
 

@@ -1,6 +1,7 @@
 //! What is kept of a world's machines, and what each event makes of it.
 #![tactic(auto)]
 
+mod asking;
 mod calls;
 mod children;
 mod connections;
@@ -18,11 +19,12 @@ mod refusing;
 mod room;
 mod tears;
 
+pub use asking::{is_shaped, machine_of};
 pub use calls::Landing;
 pub use connections::Connection;
 pub use flight::{Flight, Outcome};
 pub use flights::Flights;
+pub use heard::{Heard, hear, hear_read};
 pub use kept::Kept;
 pub use locks::{LockInput, LockTable};
 pub use machine::Machine;
-pub use heard::{Heard, hear, hear_read};

@@ -48,8 +48,14 @@ pub trait LockTable: Drop {
         ensures room { OnOk result (has_room self.new ≡ true) }
         ensures same { locks self.new ≡ locks self.old };
 
-    /// The step with this number, input and effects. It takes no memory.
-    fn turn(&mut self, number: u64, input: LockInput, effects: &Effects)
+    /// The number of the ask that has no reply yet.
+    fn asked(&self) -> Option<u64>
+        ensures { result ≡ (locks self.now).asked };
+
+    /// The step with this number, input and effects; the answer is the reply to the line that runs, if it has come, with the line's
+    /// number. It takes no memory.
+    fn turn(&mut self, number: u64, input: LockInput, effects: &Effects) -> Option<(u64, Bytes)>
         requires { has_room self.old ≡ true }
-        ensures { locks self.new ≡ (locks_after number (lock_input input) effects.now (locks self.old)).0 };
+        ensures stays { locks self.new ≡ (locks_after number (lock_input input) effects.now (locks self.old)).0 }
+        ensures told { result ≡ (locks_after number (lock_input input) effects.now (locks self.old)).1 };
 }

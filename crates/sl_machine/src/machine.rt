@@ -8,7 +8,7 @@ ghost use Rattle.sl_kept.specs.Kept.{FlightState, flight_in};
 ghost use Rattle.sl_kept.specs.Refusing.{left_in};
 ghost use Rattle.sl_machine.specs.Flights.{ended_flight, grown_flight};
 ghost use Rattle.sl_machine.specs.Hearing.{lock_input};
-ghost use Rattle.sl_machine.specs.Machines.{HasRoom, TakesStep, machine_state, stepped_by};
+ghost use Rattle.sl_machine.specs.Machines.{HasRoom, TakesStep, machine_state, stepped_by, told_by};
 ghost use Rattle.std.specs.Arc.{arc_value};
 ghost use Rattle.std.specs.Vec.{vec_capacity, vec_len};
 ghost use Rattle.sl_run.specs.Headers.{IsHeader};
@@ -25,6 +25,7 @@ use crate::locks::{LockInput, LockTable};
 use sl_daemon::Most;
 use sl_run::Header;
 use sl_sectors::Image;
+use sl_text::Bytes;
 use sl_trace::{Effects, Grant};
 use std::alloc::{AllocError, Global};
 use std::sync::Arc;
@@ -152,7 +153,7 @@ impl<L: LockTable> Machine<L> {
         self.flights.sample(call, more, sectors)
     }
 
-    /// The daemon that runs has taken a step. It takes no memory.
+    /// The daemon that runs has taken a step; the answer is the reply to lvmlockd's line, if it has come. It takes no memory.
     #[tactic(auto, unfolding(crate::specs::Machines::machine_state))]
     pub fn step(
         &mut self,
@@ -161,21 +162,24 @@ impl<L: LockTable> Machine<L> {
         heard: Heard,
         input: LockInput,
         effects: &Effects,
-    )
+    ) -> Option<(u64, Bytes)>
         requires lawful { IsHeader header.now }
         requires room { TakesStep L.has_room self.old effects.now }
-        ensures { machine_state L.locks self.new ≡ stepped_by header.now heard (lock_input input) effects.now (machine_state L.locks self.old) }
+        ensures stays { machine_state L.locks self.new ≡ stepped_by header.now heard (lock_input input) effects.now (machine_state L.locks self.old) }
+        ensures told { result ≡ told_by (lock_input input) effects.now (machine_state L.locks self.old) }
     {
         make_moves(&mut self.connections, effects.moves.as_slice());
-        self.locks.turn(self.job, input, effects);
+        let told = self.locks.turn(self.job, input, effects);
         if heard.numbered {
             self.job += 1;
         }
         hear_start(&mut self.starting, heard.spawned);
         add_starts(&mut self.starting, effects.starts.as_slice());
         self.flights.answer(heard.answered);
-        self.flights.push_calls(alloc, header, effects.calls.as_slice());
+        self.flights
+            .push_calls(alloc, header, effects.calls.as_slice());
         take_effects(&mut self.held, effects);
+        told
     }
 
     /// What the machine does without a daemon. It takes no memory.

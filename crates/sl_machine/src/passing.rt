@@ -117,10 +117,7 @@ fn some_reads_past<L: LockTable>(
 ) -> bool
     ensures { result ≡ list_any (λ p. refusing.reads_past time growths.now (p.0 + 1, machine_state L.locks p.1)) (enumerate_from 0 machines.now) }
 {
-    machines
-        .iter()
-        .enumerate()
-        .any(|(index, machine)| machine.reads_past(time, growths, index))
+    machines.iter().enumerate().any(|(index, machine)| machine.reads_past(time, growths, index))
 }
 
 /// Whether some clock would go wrong.
@@ -215,7 +212,11 @@ impl<L: LockTable> Kept<L> {
         ensures { result ≡ list_any (refusing.starves (kept_state L.locks self.now).header.timing.fire ((kept_state L.locks self.now).moment + time)) (kept_state L.locks self.now).machines }
     {
         let fire = self.disks.header().timing.fire();
-        some_starves(&self.machines, fire, u128::from(self.moment) + u128::from(time))
+        some_starves(
+            &self.machines,
+            fire,
+            u128::from(self.moment) + u128::from(time),
+        )
     }
 
     /// Whether some write could land too late.
@@ -224,7 +225,11 @@ impl<L: LockTable> Kept<L> {
             (kept_state L.locks self.now).machines }
     {
         let land = self.disks.header().timing.land();
-        some_is_overdue(&self.machines, land, u128::from(self.moment) + u128::from(time))
+        some_is_overdue(
+            &self.machines,
+            land,
+            u128::from(self.moment) + u128::from(time),
+        )
     }
 
     /// Why so much time may not pass: the first reason that holds.

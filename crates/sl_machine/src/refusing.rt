@@ -229,17 +229,20 @@ impl<L: LockTable> Machine<L> {
         ensures { result ≡ first_that (machine_tests locks event.now (machine_state L.locks self.now)) }
     {
         match event {
-            Event::Pass { time: _, growths: _ } => None,
+            Event::Pass {
+                time: _,
+                growths: _,
+            } => None,
             Event::WakeUp { machine: _ } => self.idle_refusal(),
-            Event::GiveCommand { machine: _, text: _ } => {
-                self.command_refusal(locks)
-            }
-            Event::GiveLvm { machine: _, line: _ } => {
-                self.line_refusal()
-            }
-            Event::GiveAsk { machine: _ } => {
-                self.ask_refusal()
-            }
+            Event::GiveCommand {
+                machine: _,
+                text: _,
+            } => { self.command_refusal(locks) }
+            Event::GiveLvm {
+                machine: _,
+                line: _,
+            } => { self.line_refusal() }
+            Event::GiveAsk { machine: _ } => { self.ask_refusal() }
             Event::Sample {
                 machine: _,
                 call,

@@ -6,9 +6,12 @@ use Rattle.std.proofs.Common.{arith}
 pub loop-index-preserved : goal.loop-index-preserved
 loop-index-preserved c =
     let l = c.args.connections.now.ok in
-    let i = c.loop-index.invariant in
-    (mapped_one (renewed_connection c.args.name c.args.expiry) c.args.connections.now.items c.loop-index.connections.items c.loop-index.index _ c.renew.new.self i.0
-    (omega (arith, l)) c.index_mut.ensures.value c.renew.ensures, i.1, i.2)
+    let i = c.loop-index.invariant in (
+      mapped_one (renewed_connection c.args.name c.args.expiry) c.args.connections.now.items c.loop-index.connections.items c.loop-index.index _ c.renew.new.self i.0
+          (omega (arith, l)) c.index_mut.ensures.value c.renew.ensures,
+      i.1,
+      i.2,
+    )
 
 pub returns-clause-items : goal.returns-clause-items
 returns-clause-items c =

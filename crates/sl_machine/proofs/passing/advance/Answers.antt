@@ -15,10 +15,11 @@ go_on-requires g c =
 
 pub loop-index-preserved : goal.loop-index-preserved
 loop-index-preserved g c =
-    let l = c.args.machines.now.ok in
-    (goes_one (clock_later c.args.time c.args.growths.now) c.args.machines.now.items c.loop-index.machines.items c.loop-index.index c.index_mut.result.now c.go_on.new.self
-    c.loop-index.invariant.0 (omega (arith, l)) (c.go_on.ensures ∙ ap (λ a. clock_later c.args.time c.args.growths.now (c.loop-index.index, a)) c.index_mut.ensures.value),
-    c.loop-index.invariant.1)
+    let l = c.args.machines.now.ok in (
+      goes_one (clock_later c.args.time c.args.growths.now) c.args.machines.now.items c.loop-index.machines.items c.loop-index.index c.index_mut.result.now c.go_on.new.self
+          c.loop-index.invariant.0 (omega (arith, l)) (c.go_on.ensures ∙ ap (λ a. clock_later c.args.time c.args.growths.now (c.loop-index.index, a)) c.index_mut.ensures.value),
+      c.loop-index.invariant.1,
+    )
 
 pub returns : goal.returns
 returns g c =

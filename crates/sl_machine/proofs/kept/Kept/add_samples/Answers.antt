@@ -12,7 +12,7 @@ unfolding kept_state
 sample-requires g c =
     let st = machine_state g.L.LockTable.locks in
     let found = somewhere st c.args.self.now.machines.items c.len.result c.args.machine c.in-Some.index c.index_mut.result.now (c.len.ensures ∙ c.args.self.now.machines.ok.0)
-        (sym c.place_of.ensures.exact ∙ c.in-Some.is) c.index_mut.ensures.value in
+    (sym c.place_of.ensures.exact ∙ c.in-Some.is) c.index_mut.ensures.value in
     λ f there. c.requires f (ap (option_and_then (λ s. flight_in s c.args.call)) found ∙ there)
 
 pub returns-in-Ok-clause-ok : goal.returns-in-Ok-clause-ok
@@ -20,7 +20,7 @@ unfolding kept_state
 returns-in-Ok-clause-ok g c =
     let st = machine_state g.L.LockTable.locks in
     let found = somewhere st c.args.self.now.machines.items c.len.result c.args.machine c.in-Some.index c.index_mut.result.now (c.len.ensures ∙ c.args.self.now.machines.ok.0)
-        (sym c.place_of.ensures.exact ∙ c.in-Some.is) c.index_mut.ensures.value in
+    (sym c.place_of.ensures.exact ∙ c.in-Some.is) c.index_mut.ensures.value in
     λ h same.
     changed st _ _ _ _ c.args.self.now.machines.items c.len.result c.args.machine c.in-Some.index _ c.sample.new.self (change_flight c.args.call h)
     (c.len.ensures ∙ c.args.self.now.machines.ok.0) (sym c.place_of.ensures.exact ∙ c.in-Some.is) c.index_mut.ensures.value

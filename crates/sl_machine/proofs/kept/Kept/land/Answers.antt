@@ -8,5 +8,5 @@ pub put-requires : goal.put-requires
 unfolding kept_state
 put-requires g c =
     let whole = some_holds (λ x. LeavesWhole (kept_state g.L.LockTable.locks c.args.self.now) c.args.machine c.args.call x.place (arc_value x.image)) c.in_ok-landing.field-0
-        c.in-Some.landing c.in-Some.is c.in_ok-landing.ensures.some in
+    c.in-Some.landing c.in-Some.is c.in_ok-landing.ensures.some in
     whole.sized
