@@ -9,3 +9,4 @@ pub mod PassLaws
 pub mod PlainNumbered
 pub mod PlainRanges
 pub mod PlainOptions
+pub mod AllRefusals
