@@ -10,3 +10,4 @@ pub mod PlainNumbered
 pub mod PlainRanges
 pub mod PlainOptions
 pub mod AllRefusals
+pub mod PartsHeard

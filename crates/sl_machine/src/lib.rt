@@ -28,6 +28,6 @@ pub use flight::{Flight, Outcome};
 pub use flights::Flights;
 pub use heard::{Heard, hear, hear_read};
 pub use kept::Kept;
-pub use locks::{LockInput, LockTable};
+pub use locks::{LockInput, LockTable, lock_input_of};
 pub use machine::Machine;
 pub use own::no_effects;
