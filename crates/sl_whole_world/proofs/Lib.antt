@@ -1,1 +1,4 @@
 pub mod PlainFilled
+pub mod LockInputs
+pub mod GivenSteps
+pub mod AllowedEvents

@@ -1,8 +1,13 @@
 //! The executed world of many machines, whichever daemons run in it.
 #![tactic(auto)]
 
+mod given;
 mod hosts;
+mod lines;
+mod own;
 mod sites;
+mod world;
 
 pub use hosts::Hosts;
+pub use world::World;
 pub use sites::{first_site, session_of};

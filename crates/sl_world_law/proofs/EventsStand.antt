@@ -136,6 +136,7 @@ steps_are_ready commands stands k hosts w t e none i gives left =
       stood = x.stood;
       comes = subst (λ n. MayCome x.run.daemon.setting x.run.daemon.trace n i) (sym (shown_reading w.header x.run.before)) x.comes;
       next = sym (ap (λ (n : Numbers). n.call) (shown_numbers w.header x.run.before ∙ numbers_of x.run.before x.run.daemon x.run.ran));
+      job = sym (ap (λ (n : Numbers). n.job) (shown_numbers w.header x.run.before ∙ numbers_of x.run.before x.run.daemon x.run.ran));
       layout = t.sane.layouts (seat_of e) x.run.before x.run.daemon (machine_place w (machine_of e) x.run.before x.run.was) (runs_inside x.run.before x.run.daemon x.run.ran)
           ∙ t.tells.layout;
     }

@@ -22,7 +22,7 @@ use Rattle.sl_sane_law.specs.Inputs.{HasNumbers}
 use Rattle.sl_text.specs.Forms.{Form}
 use Rattle.sl_text.specs.Names.{is_name}
 use Rattle.sl_time.specs.Times.{reading_of}
-use Rattle.sl_trace.specs.Traces.{Setting, Trace, next_call}
+use Rattle.sl_trace.specs.Traces.{Setting, Trace, next_call, next_job}
 use Rattle.sl_trace.specs.declared.command.Command.{Command}
 use Rattle.sl_trace.specs.declared.effects.Call.{Call}
 use Rattle.sl_trace.specs.declared.effects.Effects.{Effects}
@@ -61,6 +61,7 @@ pub record IsReady {D : Type 0} (stands : D → Setting → Trace → Type 0) (k
   pub stood : stands host setting trace
   pub comes : MayCome setting trace (reading_of machine.clock) i
   pub next : next_call setting trace ≡ machine.next.call
+  pub job : next_job setting trace ≡ machine.next.job
   pub layout : setting.layout ≡ layout_of k.header.geometry
 
 -- Numbers are left on the event's machine.
