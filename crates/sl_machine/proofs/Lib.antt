@@ -11,3 +11,4 @@ pub mod PlainRanges
 pub mod PlainOptions
 pub mod AllRefusals
 pub mod PartsHeard
+pub mod PlainFilled

@@ -5,6 +5,7 @@ mod asking;
 mod calls;
 mod children;
 mod connections;
+mod first;
 mod flight;
 mod flights;
 mod heard;
