@@ -100,6 +100,10 @@ clock_by : (h : Header) (m : ℕ) (o : Option FirstReading) → clock_of h m ≡
 clock_by h m None is ok = a_moment
 clock_by h m (Some c) is ok = below c.reading (ok.clocks c (find_some (λ c. c.machine == m) h.clocks c is).0).2
 
+-- Each first reading is a stamp.
+pub clock_is_small : (h : Header) (m : ℕ) → IsHeader h → clock_reading h m < 10 ^ 15
+clock_is_small h m ok = clock_by h m (clock_of h m) refl ok
+
 up_to : (a b : ℕ) → a ≤ b → b ≤ 2000 → a ≤ 2000
 up_to a b h k = omega (arith, h, k)
 

@@ -9,3 +9,6 @@ pub mod PassLaws
 pub mod PlainNumbered
 pub mod PlainRanges
 pub mod PlainOptions
+pub mod AllRefusals
+pub mod PartsHeard
+pub mod PlainFilled

@@ -22,3 +22,9 @@ flat_more f a n =
     ∙ ap (flat_map f) (range_more a n)
     ∙ flat_map-append f (range_with_len a n) ((a + n) ∷ [])
     ∙ ap (λ xs. flat_map f (range_with_len a n) ++ xs) (append-nil (f (a + n)))
+
+pub range_next : (n : ℕ) → range_with_len 1 (n + 1) ≡ range_with_len 1 n ++ (n + 1) ∷ []
+range_next n = ap (range_with_len 1) (one_suc n) ∙ range_more 1 n ∙ ap (λ m. range_with_len 1 n ++ m ∷ []) (turned n)
+  where
+    turned : (n : ℕ) → 1 + n ≡ n + 1
+    turned n = omega arith

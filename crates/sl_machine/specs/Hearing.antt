@@ -23,6 +23,15 @@ lock_input (LockNumber text) = Number text
 lock_input (LockExit p) = Exit p
 lock_input Nothing = Wake
 
--- What the locks take of an input.
-abbrev pub IsLockInput : LockInput → Input → Type 0
-IsLockInput l i = (number : ℕ) (fx : Effects) (k : Locks) → locks_after number i fx k ≡ locks_after number (lock_input l) fx k
+-- The part of an input that the locks take: its step is theirs with this input.
+abbrev pub heard_by_locks : Input → Input
+heard_by_locks (Line text) = Line []
+heard_by_locks (Number text) = Number text
+heard_by_locks (Exit p) = Exit p
+heard_by_locks (Told n a) = Wake
+heard_by_locks Wake = Wake
+heard_by_locks (Spawned p ok) = Wake
+
+-- The locks after a step are those after the part that they take.
+abbrev pub LocksHearTheirPart : Type 0
+LocksHearTheirPart = (number : ℕ) (i : Input) (fx : Effects) (k : Locks) → locks_after number (heard_by_locks i) fx k ≡ locks_after number i fx k

@@ -6,3 +6,4 @@ pub mod Testing
 pub mod Keeping
 pub mod Passing
 pub mod Calling
+pub mod Stepping

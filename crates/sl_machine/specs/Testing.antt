@@ -1,12 +1,17 @@
 -- What an event asks of its machine. (What it asks of the disks and of all names is not told here: a tear's bytes, and a start's name.)
 use Rattle.sl_kept.specs.Kept.{FlightState, KeptState, MachineState}
-use Rattle.sl_kept.specs.Refusing.{left_in, needs_running, on_flight_in, on_kept, reads_in, spells_in, torn_in, writes_in}
+use Rattle.sl_kept.specs.Refusing.{left_in, needs_running, on_flight_in, is_shaped_in, on_kept, pass_tests_in, reads_in, refusal_in, spells_in, text_for_locks, torn_in, writes_in}
+use Rattle.sl_run.specs.Events.{machine_of}
+use Rattle.sl_run.specs.Worlds.{first_that}
+use Rattle.sl_run.specs.declared.header.Header.{Header}
+use Rattle.sl_text.specs.Forms.{Form}
+use Rattle.sl_trace.specs.declared.command.Command.{Command}
 use Rattle.sl_run.specs.declared.event.Event.TheVariants.{AnswerCall, Crash, Do, DropWrite, ExitOf, GiveAsk, GiveCommand, GiveLvm, Land, Pass, Reset, Restart, Sample, SpawnedOf, StartDaemon, Tear, Test, WakeUp}
 use Rattle.sl_run.specs.declared.event.Event.{Event}
-use Rattle.sl_run.specs.declared.event.Refusal.TheVariants.{MissingCall, MissingDaemon, MissingDown, MissingFlight, MissingLanding, MissingLvm, MissingPlace, MissingReset, MissingSample, MissingSpawn, MissingUp, PremiseName, PremiseTorn}
+use Rattle.sl_run.specs.declared.event.Refusal.TheVariants.{MissingCall, MissingDaemon, MissingDown, MissingFlight, MissingLanding, MissingLvm, MissingPlace, MissingReset, MissingSample, MissingSpawn, MissingUp, PremiseName, PremiseTorn, Syntax}
 use Rattle.sl_run.specs.declared.event.Refusal.{Refusal}
 use Rattle.std.specs.List.{list_any}
-use Rattle.std.specs.Prelude.{Bool, List, bytes_eq, false, true, is_none, is_some, nat_lt, not, [], ℕ, ◌&&◌, ◌==◌, ◌||◌, ◌∷◌}
+use Rattle.std.specs.Prelude.{Bool, List, Option, bytes_eq, false, true, is_none, is_some, nat_lt, not, [], ℕ, ◌&&◌, ◌==◌, ◌||◌, ◌∷◌, ◌≡◌}
 
 -- ---- calls
 
@@ -63,3 +68,26 @@ tear_tests k m c n given = on_kept k m (λ s. on_flight_in s c writes_in (λ f. 
 
 abbrev pub start_tests : KeptState → List ℕ → MachineState → List (Bool × Refusal)
 start_tests k name s = (not s.up, MissingUp) ∷ (s.used, MissingReset) ∷ (list_any (bytes_eq name) k.names, PremiseName) ∷ []
+
+-- ---- all events
+
+-- The refusals that apply to an event; `locks` tells whether a command's text is for lvmlockd's process.
+abbrev pub tests_with : Bool → KeptState → Event → List (Bool × Refusal)
+tests_with locks k (Pass d growths) = pass_tests_in k d growths
+tests_with locks k (Tear m c n given) = tear_tests k m c n given
+tests_with locks k (StartDaemon m name) = on_kept k m (start_tests k name)
+tests_with locks k e = on_kept k (machine_of e) (machine_tests locks e)
+
+-- The first that fits.
+abbrev pub refusal_with : Bool → KeptState → Event → Option Refusal
+refusal_with locks k e = first_that ((not (is_shaped_in k.header e), Syntax) ∷ tests_with locks k e)
+
+-- Whether the text of a command is for lvmlockd's process.
+abbrev pub bars_locks : (Header → List (Form Command)) → KeptState → Event → Bool
+bars_locks commands k (GiveCommand m text) = text_for_locks commands k.header text
+bars_locks commands k e = false
+
+-- The refusal of an event by what is kept.
+abbrev pub RefusalsAreThose : Type 0
+RefusalsAreThose =
+    (commands : Header → List (Form Command)) (k : KeptState) (e : Event) (locks : Bool) → bars_locks commands k e ≡ locks → refusal_with locks k e ≡ refusal_in commands k e

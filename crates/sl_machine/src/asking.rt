@@ -1,19 +1,21 @@
 //! Why an event may not happen, by all that is kept.
 
+ghost use Rattle.sl_kept.specs.Changes.{torn_by};
 ghost use Rattle.sl_kept.specs.Kept.{machine_in};
 ghost use Rattle.sl_kept.specs.Refusing.{is_shaped_in, on_flight_in, on_kept, writes_in};
 ghost use Rattle.sl_machine.specs.Calling.{LeavesTorn};
 ghost use Rattle.sl_machine.specs.Keeping.{kept_state};
 ghost use Rattle.sl_machine.specs.Machines.{machine_state};
-ghost use Rattle.sl_machine.specs.Testing.{land_tests, machine_tests, start_tests, tear_tests};
+ghost use Rattle.sl_machine.specs.Testing.{land_tests, machine_tests, refusal_with, start_tests, tear_tests, tests_with};
 ghost use Rattle.sl_run.specs.Events as events;
 ghost use Rattle.sl_run.specs.Worlds.{first_that};
 ghost use Rattle.sl_run.specs.declared.event.Refusal.TheVariants.{MissingReset, MissingUp, PremiseName};
 ghost use Rattle.std.specs.Arc.{arc_value};
 ghost use Rattle.std.specs.Int.{is_in_range};
-ghost use Rattle.std.specs.Prelude.{IfErr, IfOk, None, Some, [], length, nat_le, not, true, ◌+◌, ◌==◌, ◌∷◌, ◌≡◌};
+ghost use Rattle.std.specs.Prelude.{IfErr, IfOk, None, OnErr, OnOk, Some, [], length, nat_le, not, true, ◌+◌, ◌==◌, ◌∷◌, ◌≡◌};
 
 use crate::calls::Landing;
+use crate::flight::Outcome;
 use crate::kept::Kept;
 use crate::locks::LockTable;
 use crate::names::has_name;
@@ -231,6 +233,71 @@ impl<L: LockTable> Kept<L> {
                     return Ok(Err(Refusal::PremiseTorn));
                 }
                 Ok(Ok(landing))
+            }
+        }
+    }
+
+    /// Why an event may not happen, once it is one that a line may spell.
+    fn reason(&mut self, event: &Event, locks: bool) -> Result<Option<Refusal>, AllocError>
+        ensures exact { IfOk result (λ r. r ≡ first_that (tests_with locks (kept_state L.locks self.old) event.now)) }
+        ensures same { kept_state L.locks self.new ≡ kept_state L.locks self.old }
+        ensures disks { self.new.disks ≡ self.old.disks }
+    {
+        match event {
+            Event::Pass { time, growths } => Ok(self.pass_refusal(*time, growths)),
+            Event::Tear {
+                machine,
+                call,
+                kept,
+                bytes,
+            } => match self.tearing(*machine, *call, *kept, bytes)? {
+                Err(why) => Ok(Some(why)),
+                Ok(_) => Ok(None),
+            },
+            Event::StartDaemon { machine, name } => Ok(self.start_refusal(*machine, *name)),
+            _ => Ok(self.machine_refusal(event, locks)),
+        }
+    }
+
+    /// Why an event may not happen. For a command `locks` tells whether it is for lvmlockd's process. An `Err` is want of memory, at a tear
+    /// alone: whether its bytes spell something is told by the bytes. Nothing that is seen changes.
+    pub fn refusal(&mut self, event: &Event, locks: bool) -> Result<Option<Refusal>, AllocError>
+        ensures exact { IfOk result (λ r. r ≡ refusal_with locks (kept_state L.locks self.old) event.now) }
+        ensures same { kept_state L.locks self.new ≡ kept_state L.locks self.old }
+    {
+        if !self.has_shape(event) {
+            return Ok(Some(Refusal::Syntax));
+        }
+        self.reason(event, locks)
+    }
+
+    /// Whether the event is one that a line of this world may spell.
+    #[tactic(auto, unfolding(crate::specs::Keeping::kept_state))]
+    fn has_shape(&self, event: &Event) -> bool
+        ensures { result ≡ is_shaped_in (kept_state L.locks self.now).header event.now }
+    {
+        is_shaped(self.disks.header(), event)
+    }
+
+    /// A write takes effect in part, or why it may not. An `Err` is want of memory. Only where it takes effect something changes.
+    pub fn tear(
+        &mut self,
+        machine: u32,
+        call: u64,
+        kept: u32,
+        given: &Bytes,
+    ) -> Result<Result<(), Refusal>, AllocError>
+        ensures refused { IfOk result (λ x. IfErr x (λ r. first_that (tear_tests (kept_state L.locks self.old) machine call kept given.now) ≡ Some r)) }
+        ensures allowed { IfOk result (λ x. OnOk x (first_that (tear_tests (kept_state L.locks self.old) machine call kept given.now) ≡ None)) }
+        ensures torn { IfOk result (λ x. OnOk x (kept_state L.locks self.new ≡ torn_by machine call kept given.now (kept_state L.locks self.old))) }
+        ensures same { IfOk result (λ x. OnErr x (kept_state L.locks self.new ≡ kept_state L.locks self.old)) }
+        ensures err { OnErr result (kept_state L.locks self.new ≡ kept_state L.locks self.old) }
+    {
+        match self.tearing(machine, call, kept, given)? {
+            Err(why) => Ok(Err(why)),
+            Ok(landing) => {
+                self.put(machine, call, landing, Outcome::Torn);
+                Ok(Ok(()))
             }
         }
     }

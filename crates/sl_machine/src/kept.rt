@@ -142,6 +142,27 @@ impl<L: LockTable> Kept<L> {
         Ok(())
     }
 
+    /// Takes the memory that a name more needs. An `Err` is want of it. Nothing that is seen changes.
+    #[tactic(auto, unfolding(crate::specs::Keeping::kept_state))]
+    pub fn reserve_name(&mut self) -> Result<(), AllocError>
+        ensures room { OnOk result (0 < spare self.new.names) }
+        ensures keys { self.new.names.keys ≡ self.old.names.keys }
+        ensures same { kept_state L.locks self.new ≡ kept_state L.locks self.old }
+    {
+        self.names.reserve(1)
+    }
+
+    /// Takes the memory that a machine needs for what it does itself. An `Err` is want of it. Nothing that is seen changes.
+    pub fn reserve_own(&mut self, machine: u32, effects: &Effects) -> Result<(), AllocError>
+        ensures room { OnOk result (AtMachine (λ a. HasOwnRoom a effects.now) self.new machine) }
+        ensures same { kept_state L.locks self.new ≡ kept_state L.locks self.old }
+    {
+        if let Some(index) = place_of(self.machines.len(), machine) {
+            self.machines[index].reserve_own(effects)?;
+        }
+        Ok(())
+    }
+
     /// The daemon of a machine has taken a step; the answer is the reply to lvmlockd's line, if it has come. It takes no memory.
     pub fn step(
         &mut self,

@@ -1,12 +1,12 @@
 //! What a machine asks of the locks that lvmlockd has there.
 
-ghost use Rattle.sl_machine.specs.Hearing.{lock_input};
+ghost use Rattle.sl_machine.specs.Hearing.{heard_by_locks, lock_input};
 ghost use Rattle.sl_run.specs.Locks.{Locks, fresh_locks, locks_after};
 ghost use Rattle.std.specs.Prelude.{Bool, IfOk, OnOk, is_some, true, ◌≡◌};
 
 use sl_run::Header;
 use sl_text::Bytes;
-use sl_trace::Effects;
+use sl_trace::{Effects, Input};
 use std::alloc::{AllocError, Global};
 
 /// What lvmlockd's locks take of the input that the daemon is given: that it is a line for the host, a line for lvmlockd, or the exit of a
@@ -58,4 +58,18 @@ pub trait LockTable: Drop {
         requires { has_room self.old ≡ true }
         ensures stays { locks self.new ≡ (locks_after number (lock_input input) effects.now (locks self.old)).0 }
         ensures told { result ≡ (locks_after number (lock_input input) effects.now (locks self.old)).1 };
+}
+
+/// What lvmlockd's locks take of an input. An `Err` is want of memory.
+pub fn lock_input_of(alloc: Global, input: &Input) -> Result<LockInput, AllocError>
+    ensures { IfOk result (λ l. lock_input l ≡ heard_by_locks input.now) }
+{
+    match input {
+        Input::Line(_) => Ok(LockInput::Line),
+        Input::Number(text) => Ok(LockInput::Number(Bytes::from_slice(alloc, text.as_slice())?)),
+        Input::Exit { process } => Ok(LockInput::Exit(*process)),
+        Input::Answer { call: _, answer: _ } => Ok(LockInput::Nothing),
+        Input::Wake => Ok(LockInput::Nothing),
+        Input::Spawned { process: _, ok: _ } => Ok(LockInput::Nothing),
+    }
 }

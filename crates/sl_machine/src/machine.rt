@@ -8,7 +8,7 @@ ghost use Rattle.sl_kept.specs.Kept.{FlightState, flight_in};
 ghost use Rattle.sl_kept.specs.Refusing.{left_in};
 ghost use Rattle.sl_machine.specs.Flights.{ended_flight, grown_flight};
 ghost use Rattle.sl_machine.specs.Hearing.{lock_input};
-ghost use Rattle.sl_machine.specs.Machines.{HasRoom, TakesStep, machine_state, stepped_by, told_by};
+ghost use Rattle.sl_machine.specs.Machines.{HasOwnRoom, HasRoom, TakesStep, machine_state, stepped_by, told_by};
 ghost use Rattle.std.specs.Arc.{arc_value};
 ghost use Rattle.std.specs.Vec.{vec_capacity, vec_len};
 ghost use Rattle.sl_run.specs.Headers.{IsHeader};
@@ -72,6 +72,16 @@ impl<L: LockTable> Machine<L> {
         self.starting.reserve(most.starts)?;
         self.flights.reserve(most.calls)?;
         self.locks.reserve(input)
+    }
+
+    /// Takes the memory for what the machine does itself. An `Err` is want of it. Nothing that is seen changes.
+    #[tactic(auto, unfolding(crate::specs::Machines::machine_state))]
+    pub fn reserve_own(&mut self, effects: &Effects) -> Result<(), AllocError>
+        ensures room { OnOk result (HasOwnRoom self.new effects.now) }
+        ensures same { machine_state L.locks self.new ≡ machine_state L.locks self.old }
+    {
+        self.connections.reserve(effects.moves.len())?;
+        self.held.reserve(effects.grants.len())
     }
 
     /// The watchdog daemon's test is made: one that holds moves the keepalive.
