@@ -47,7 +47,7 @@ next_kept : {L : Type 0} (locks : L → Locks) (a : Machine L) → ((machine_sta
 unfolding machine_state
 next_kept locks a = (refl, refl)
 
-header_kept : {L : Type 0} (locks : L → Locks) (k : Kept L) → (kept_state locks k).header ≡ k.disks.header
+pub header_kept : {L : Type 0} (locks : L → Locks) (k : Kept L) → (kept_state locks k).header ≡ k.disks.header
 unfolding kept_state
 header_kept locks k = refl
 

@@ -3,3 +3,4 @@ pub mod LockInputs
 pub mod GivenSteps
 pub mod AllowedEvents
 pub mod DoneCalls
+pub mod StartedDaemons

@@ -7,6 +7,7 @@ mod hosts;
 mod lines;
 mod own;
 mod sites;
+mod start;
 mod world;
 
 pub use hosts::Hosts;

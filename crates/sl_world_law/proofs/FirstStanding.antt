@@ -2,7 +2,8 @@
 use Rattle.sl_area.specs.Layouts.{layout_of}
 use Rattle.sl_daemon.specs.Daemons.{Stood, begun_with, program_of}
 use Rattle.sl_kept.specs.FirstKept.{first_machine, first_state, given_to, session_of}
-use Rattle.sl_kept.specs.Sane.{ReadsCommands, RunsOn}
+use Rattle.sl_kept.specs.Kept.{KeptState}
+use Rattle.sl_kept.specs.Sane.{ReadsCommands, RunsOn, WorldStands}
 use Rattle.sl_kept.specs.Showing.{Tells, disks_of, shown, starting_of}
 use Rattle.sl_kept_law.proofs.Changing.{names_on}
 use Rattle.sl_kept_law.proofs.FirstMachines.{first_worlds_are_sane}
@@ -11,7 +12,7 @@ use Rattle.sl_plain.proofs.Lists.{contains_cases, contains_none, there_is}
 use Rattle.sl_plain.proofs.Options.{mapped_value}
 use Rattle.sl_run.specs.Headers.{IsHeader}
 use Rattle.sl_run.specs.Locks.{fresh_locks}
-use Rattle.sl_run.specs.Worlds.{Daemon, Machine, clock_reading, daemons_on, first_numbers, first_stamp, machine_of_header, new_daemon, next_numbers, world_with}
+use Rattle.sl_run.specs.Worlds.{Daemon, Machine, World, clock_reading, daemons_on, first_numbers, first_stamp, machine_of_header, new_daemon, next_numbers, world_with}
 use Rattle.sl_run.specs.declared.header.Header.{Header}
 use Rattle.sl_run.specs.declared.header.SessionLine.{SessionLine}
 use Rattle.sl_run_law.proofs.Front.Having.{contains_flat}
@@ -176,3 +177,25 @@ each_stood commands stands k hosts w t d inside =
     let a = contains_flat daemons_on w.machines d inside in
     let at = place_of_one w.machines a.0 a.1 in
     t.stood at.0 a.0 d at.2 a.2
+
+-- ---- names in another order
+
+pub other_names : {D : Type 0} (commands : Header → List (Form Command)) (stands : D → Setting → Trace → Type 0) (k : KeptState) (hosts : List (Option D)) (w : World)
+    → WorldStands commands stands k hosts w → (ns : List (List ℕ)) → ((name : List ℕ) → list_any (bytes_eq name) k.names ≡ list_any (bytes_eq name) ns)
+    → WorldStands commands stands (record k { names = ns }) hosts w
+other_names commands stands k hosts w t ns same =
+    record {
+      tells = record {
+        header = t.tells.header;
+        layout = t.tells.layout;
+        moment = t.tells.moment;
+        machines = t.tells.machines;
+        disks = t.tells.disks;
+        names = λ name. t.tells.names name ∙ same name;
+      };
+      sane = t.sane;
+      reads = t.reads;
+      counted = t.counted;
+      runs = t.runs;
+      stood = t.stood;
+    }
