@@ -6,7 +6,7 @@ use Rattle.sl_run.specs.Locks.{Locks, locks_after}
 use Rattle.sl_trace.specs.declared.effects.Effects.{Effects}
 use Rattle.sl_trace.specs.declared.input.Input.TheVariants.{Answer as Told, Exit, Line, Number, Spawned, Wake}
 use Rattle.sl_trace.specs.declared.input.Input.{Input}
-use Rattle.std.specs.Prelude.{None, Option, Some, false, true, [], ℕ, ◌≡◌}
+use Rattle.std.specs.Prelude.{None, Some, false, true, [], ℕ, ◌≡◌}
 
 abbrev pub heard_of : Input → Heard
 heard_of (Told n a) = record { answered = Some n; spawned = None; numbered = false }
