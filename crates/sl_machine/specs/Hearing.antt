@@ -23,6 +23,10 @@ lock_input (LockNumber text) = Number text
 lock_input (LockExit p) = Exit p
 lock_input Nothing = Wake
 
+-- The locks take this of an input.
+abbrev pub IsLockInput : LockInput → Input → Type 0
+IsLockInput l i = (number : ℕ) (fx : Effects) (k : Locks) → locks_after number i fx k ≡ locks_after number (lock_input l) fx k
+
 -- The part of an input that the locks take: its step is theirs with this input.
 abbrev pub heard_by_locks : Input → Input
 heard_by_locks (Line text) = Line []
