@@ -41,13 +41,13 @@ use Rattle.std.specs.Prelude.{Bool, List, None, Option, Some, false, if◌then�
 
 -- ---- no test holds
 
-unrefused : (commands : Header → List (Form Command)) (k : KeptState) (e : Event) → refusal_in commands k e ≡ None → first_that (tests_in commands k e) ≡ None
+pub unrefused : (commands : Header → List (Form Command)) (k : KeptState) (e : Event) → refusal_in commands k e ≡ None → first_that (tests_in commands k e) ≡ None
 unrefused commands k e none = (open_test (not (is_shaped_in k.header e)) Syntax (tests_in commands k e) none).1
 
 abbrev some_reason : Refusal → Option Refusal
 some_reason r = Some r
 
-machine_there : (k : KeptState) (m : ℕ) (f : MachineState → Tests) → first_that (on_kept k m f) ≡ None → (s : MachineState) × (machine_in k m ≡ Some s) × (first_that (f s) ≡ None)
+pub machine_there : (k : KeptState) (m : ℕ) (f : MachineState → Tests) → first_that (on_kept k m f) ≡ None → (s : MachineState) × (machine_in k m ≡ Some s) × (first_that (f s) ≡ None)
 machine_there k m f h = go (machine_in k m) refl h
   where
     go : (o : Option MachineState) → machine_in k m ≡ o → first_that (elim o as (λ x. Tests) [ None ↦ (true, MissingMachine) ∷ [] | Some s ↦ f s ]) ≡ None

@@ -2,3 +2,4 @@ pub mod PlainFilled
 pub mod LockInputs
 pub mod GivenSteps
 pub mod AllowedEvents
+pub mod EndedEvents

@@ -1,11 +1,14 @@
 //! The executed world of many machines, whichever daemons run in it.
 #![tactic(auto)]
 
+mod begin;
+mod ends;
 mod given;
 mod hosts;
 mod lines;
 mod own;
 mod sites;
+mod tearing;
 mod world;
 
 pub use hosts::Hosts;
