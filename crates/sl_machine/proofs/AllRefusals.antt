@@ -1,6 +1,6 @@
 -- The tests of an event are those of what is kept.
 use Rattle.sl_kept.specs.Kept.{KeptState}
-use Rattle.sl_kept.specs.Refusing.{is_shaped_in, on_kept, refusal_in, tests_in, text_for_locks}
+use Rattle.sl_kept.specs.Refusing.{is_shaped_in, on_kept, tests_in}
 use Rattle.sl_machine.specs.Testing.{RefusalsAreThose, bars_locks, machine_tests, refusal_with, tests_with}
 use Rattle.sl_run.specs.Events.{machine_of}
 use Rattle.sl_run.specs.Worlds.{first_that}

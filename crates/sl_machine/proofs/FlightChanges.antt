@@ -3,17 +3,17 @@ use Rattle.sl_kept.specs.Changes.{cut_flight, disowned, stays_open}
 use Rattle.sl_kept.specs.Kept.{FlightState}
 use Rattle.sl_kept.specs.Refusing.{lands}
 use Rattle.sl_machine.proofs.FlightLaws.{Falls, fallen, falling, falls_at}
-use Rattle.sl_machine.specs.Flights.{AreFlights, StandsAt, closed_at, ended_flight, falls, flight_numbered, flights_with, flights_without, grown_flight, late_after, late_cut, late_of, least_with}
+use Rattle.sl_machine.specs.Flights.{AreFlights, StandsAt, closed_at, ended_flight, falls, flight_numbered, flights_with, flights_without, grown_flight, late_after, late_cut, late_of}
 use Rattle.sl_machine.specs.declared.flight.Outcome.TheVariants.{Dropped, Landed, Torn}
 use Rattle.sl_machine.specs.declared.flight.Outcome.{Outcome}
 use Rattle.sl_plain.proofs.Lists.{set_here}
-use Rattle.sl_words.proofs.CaseLaws.{none_some, some_value, true_is_false}
+use Rattle.sl_words.proofs.CaseLaws.{none_some, some_value}
 use Rattle.sl_words.proofs.WordLaws.{and_true}
 use Rattle.sl_words.specs.Words.{least}
-use Rattle.std.proofs.Common.{ap, ap₂, arith, drop, get_or, refl, subst, sym, ◌∙◌}
+use Rattle.std.proofs.Common.{ap, ap₂, arith, refl, subst, sym, ◌∙◌}
 use Rattle.std.proofs.lemmas.Bool.Decides.{nat_tests}
 use Rattle.std.specs.List.{cons_option, list_all, remove, slice_set}
-use Rattle.std.specs.Prelude.{Bool, List, None, Option, Some, false, filter, filter_map, find, if◌then◌else◌, is_some, length, map, min, nat_lt, not, slice_get, suc, true, zero, [], ℕ, ◌&&◌, ◌+◌, ◌-◌, ◌<◌, ◌==◌, ◌∷◌, ◌≡◌, ◌≤◌, ◌||◌}
+use Rattle.std.specs.Prelude.{Bool, List, None, Option, Some, false, filter, filter_map, if◌then◌else◌, is_some, map, slice_get, suc, true, zero, [], ℕ, ◌&&◌, ◌<◌, ◌==◌, ◌∷◌, ◌≡◌, ◌≤◌}
 
 -- ---- the call of a number changes, and no other
 

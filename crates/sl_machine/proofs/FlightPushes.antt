@@ -1,15 +1,14 @@
 -- New calls, numbered on.
-use Rattle.sl_kept.specs.Changes.{stays_open}
 use Rattle.sl_kept.specs.Steps.{new_flight}
 use Rattle.sl_machine.specs.Flights.{late_cut}
 use Rattle.sl_plain.proofs.Lists.{tail_is}
 use Rattle.sl_plain.proofs.Numbers.{one_further, plus_zero}
 use Rattle.sl_run.specs.declared.header.Header.{Header}
 use Rattle.sl_trace.specs.declared.effects.Call.{Call}
-use Rattle.sl_words.proofs.CaseLaws.{none_some, some_value}
-use Rattle.std.proofs.Common.{ap, arith, get_or, refl, sym, ◌∙◌}
+use Rattle.sl_words.proofs.CaseLaws.{some_value}
+use Rattle.std.proofs.Common.{ap, arith, get_or, refl, ◌∙◌}
 use Rattle.std.specs.List.{range_with_len}
-use Rattle.std.specs.Prelude.{Bool, List, None, Option, Some, false, filter, length, map, slice_get, suc, true, zero, [], ℕ, ◌&&◌, ◌+◌, ◌<◌, ◌∷◌, ◌≡◌}
+use Rattle.std.specs.Prelude.{Bool, List, None, Option, false, filter, length, map, slice_get, suc, true, zero, [], ℕ, ◌+◌, ◌<◌, ◌∷◌, ◌≡◌}
 
 uncut_by : (b : Bool) → elim b as (λ x. Option ℕ) [ false ↦ None | true ↦ None ] ≡ None
 uncut_by true = refl

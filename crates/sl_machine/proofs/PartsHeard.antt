@@ -1,6 +1,6 @@
 -- What a machine takes of an input is all that its step asks of it.
 use Rattle.sl_kept.specs.Kept.{MachineState}
-use Rattle.sl_machine.specs.Hearing.{LocksHearTheirPart, heard_by_locks}
+use Rattle.sl_machine.specs.Hearing.{LocksHearTheirPart}
 use Rattle.sl_machine.specs.Stepping.{StepsHearTheirPart}
 use Rattle.sl_run.specs.Locks.{Locks, Told as LineTold, locks_after}
 use Rattle.sl_run.specs.declared.header.Header.{Header}
@@ -9,7 +9,6 @@ use Rattle.sl_trace.specs.declared.effects.Effects.{Effects}
 use Rattle.sl_trace.specs.declared.input.Input.TheVariants.{Answer as Told, Exit, Line, Number, Spawned, Wake}
 use Rattle.sl_trace.specs.declared.input.Input.{Input}
 use Rattle.std.proofs.Common.{ap, refl}
-use Rattle.std.specs.Prelude.{ℕ, ◌≡◌}
 
 pub locks_hear_their_part : LocksHearTheirPart
 unfolding locks_after

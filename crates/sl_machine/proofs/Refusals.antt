@@ -1,14 +1,9 @@
 -- What an event asks, test by test.
-use Rattle.sl_kept.specs.Kept.{FlightState, KeptState, MachineState, Place, flight_in, flight_of_machine, machine_in, sector_of_call}
-use Rattle.sl_kept.specs.Refusing.{on_flight_in, on_kept, spells_in, torn_in, writes_in}
+use Rattle.sl_kept.specs.Kept.{KeptState, Place, sector_of_call}
 use Rattle.sl_machine.specs.Calling.{LeavesTorn, LeavesWhole}
-use Rattle.sl_machine.specs.Testing.{land_tests, tear_tests, torn_tests}
-use Rattle.sl_run.specs.Worlds.{first_that}
-use Rattle.sl_run.specs.declared.event.Refusal.TheVariants.{MissingCall, MissingFlight, MissingMachine, MissingPlace, PremiseTorn}
-use Rattle.sl_run.specs.declared.event.Refusal.{Refusal}
 use Rattle.sl_words.proofs.CaseLaws.{none_some, some_value}
-use Rattle.std.proofs.Common.{ap, ap₂, refl, subst, sym, ◌∙◌}
-use Rattle.std.specs.Prelude.{Bool, List, None, Option, Some, drop, false, if◌then◌else◌, is_none, is_some, length, not, option_and_then, take, true, [], ℕ, ◌++◌, ◌+◌, ◌∷◌, ◌≡◌}
+use Rattle.std.proofs.Common.{ap₂, refl, sym, ◌∙◌}
+use Rattle.std.specs.Prelude.{List, None, Option, Some, drop, is_none, is_some, length, not, take, [], ℕ, ◌++◌, ◌+◌, ◌≡◌}
 
 pub none_is_not_some : {A : Type 0} (o : Option A) → not (is_some o) ≡ is_none o
 none_is_not_some None = refl

@@ -6,7 +6,7 @@ use Rattle.sl_run.specs.Locks.{Locks, locks_after}
 use Rattle.sl_trace.specs.declared.effects.Effects.{Effects}
 use Rattle.sl_trace.specs.declared.input.Input.TheVariants.{Answer as Told, Exit, Line, Number, Spawned, Wake}
 use Rattle.sl_trace.specs.declared.input.Input.{Input}
-use Rattle.std.specs.Prelude.{None, Option, Some, false, true, [], ℕ, ◌≡◌}
+use Rattle.std.specs.Prelude.{None, Some, false, true, [], ℕ, ◌≡◌}
 
 abbrev pub heard_of : Input → Heard
 heard_of (Told n a) = record { answered = Some n; spawned = None; numbered = false }
@@ -22,6 +22,10 @@ lock_input LockLine = Line []
 lock_input (LockNumber text) = Number text
 lock_input (LockExit p) = Exit p
 lock_input Nothing = Wake
+
+-- The locks take this of an input.
+abbrev pub IsLockInput : LockInput → Input → Type 0
+IsLockInput l i = (number : ℕ) (fx : Effects) (k : Locks) → locks_after number i fx k ≡ locks_after number (lock_input l) fx k
 
 -- The part of an input that the locks take: its step is theirs with this input.
 abbrev pub heard_by_locks : Input → Input

@@ -1,11 +1,11 @@
 -- What is kept of a world, by the parts that keep it.
-use Rattle.sl_kept.specs.Kept.{KeptState, MachineState}
+use Rattle.sl_kept.specs.Kept.{KeptState}
 use Rattle.sl_machine.specs.Machines.{machine_state}
 use Rattle.sl_machine.specs.declared.kept.Kept.{Kept}
 use Rattle.sl_machine.specs.declared.machine.Machine.{Machine}
 use Rattle.std.specs.Vec.{vec_len}
 use Rattle.sl_run.specs.Locks.{Locks}
-use Rattle.std.specs.Prelude.{List, None, Option, Some, if◌then◌else◌, map, nat_lt, reverse, slice_get, ℕ, ◌-◌, ◌==◌, ◌≡◌}
+use Rattle.std.specs.Prelude.{None, Option, Some, if◌then◌else◌, map, nat_lt, reverse, slice_get, ℕ, ◌-◌, ◌==◌, ◌≡◌}
 
 unfoldable pub kept_state : {L : Type 0} → (L → Locks) → Kept L → KeptState
 kept_state locks k =

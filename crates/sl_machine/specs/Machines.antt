@@ -14,7 +14,7 @@ use Rattle.std.specs.List.{range_with_len}
 use Rattle.sl_daemon.specs.declared.daemon.Most.{Most}
 use Rattle.sl_machine.specs.declared.machine.Machine.{Machine}
 use Rattle.sl_run.specs.Locks.{Locks, Told, locks_after}
-use Rattle.std.specs.Prelude.{Bool, Contains, filter, fold, if◌then◌else◌, length, map, not, true, ℕ, ◌++◌, ◌+◌, ◌<◌, ◌==◌, ◌^◌, ◌∷◌, ◌≡◌, ◌≤◌}
+use Rattle.std.specs.Prelude.{Bool, Contains, filter, fold, if◌then◌else◌, length, map, not, true, ◌++◌, ◌+◌, ◌<◌, ◌==◌, ◌^◌, ◌∷◌, ◌≡◌, ◌≤◌}
 use Rattle.std.specs.Vec.{vec_capacity, vec_len}
 use Rattle.std.specs.VecDeque.{deque_capacity, deque_len}
 

@@ -8,7 +8,7 @@ use Rattle.sl_text.specs.Forms.{Form}
 use Rattle.sl_trace.specs.declared.command.Command.{Command}
 use Rattle.sl_run.specs.declared.event.Event.TheVariants.{AnswerCall, Crash, Do, DropWrite, ExitOf, GiveAsk, GiveCommand, GiveLvm, Land, Pass, Reset, Restart, Sample, SpawnedOf, StartDaemon, Tear, Test, WakeUp}
 use Rattle.sl_run.specs.declared.event.Event.{Event}
-use Rattle.sl_run.specs.declared.event.Refusal.TheVariants.{MissingCall, MissingDaemon, MissingDown, MissingFlight, MissingLanding, MissingLvm, MissingPlace, MissingReset, MissingSample, MissingSpawn, MissingUp, PremiseName, PremiseTorn, Syntax}
+use Rattle.sl_run.specs.declared.event.Refusal.TheVariants.{MissingCall, MissingDown, MissingFlight, MissingLanding, MissingLvm, MissingPlace, MissingReset, MissingSample, MissingSpawn, MissingUp, PremiseName, PremiseTorn, Syntax}
 use Rattle.sl_run.specs.declared.event.Refusal.{Refusal}
 use Rattle.std.specs.List.{list_any}
 use Rattle.std.specs.Prelude.{Bool, List, Option, bytes_eq, false, true, is_none, is_some, nat_lt, not, [], ℕ, ◌&&◌, ◌==◌, ◌||◌, ◌∷◌, ◌≡◌}

@@ -4,3 +4,4 @@ pub mod GivenSteps
 pub mod AllowedEvents
 pub mod DoneCalls
 pub mod StartedDaemons
+pub mod EndedEvents

@@ -2,14 +2,17 @@
 #![tactic(auto)]
 
 mod answers;
+mod begin;
+mod ends;
 mod given;
 mod hosts;
 mod lines;
 mod own;
 mod sites;
 mod start;
+mod tearing;
 mod world;
 
 pub use hosts::Hosts;
-pub use world::World;
 pub use sites::{first_site, session_of};
+pub use world::World;

@@ -2,7 +2,7 @@ use Rattle.sl_kept.specs.Kept.{FlightState}
 use Rattle.sl_machine.proofs.FlightChanges.{closing}
 use Rattle.sl_machine.proofs.flights.end_at.Goals as goal
 use Rattle.sl_machine.specs.Flights.{closed_at, ended_flight, late_after, late_cut}
-use Rattle.std.proofs.Common.{ap, sym, ◌∙◌}
+use Rattle.std.proofs.Common.{ap, ◌∙◌}
 use Rattle.std.proofs.lemmas.Option.{get_or_from_slice_get}
 
 pub returns-clause-items : goal.returns-clause-items

@@ -1,6 +1,6 @@
 use Rattle.sl_machine.proofs.own.all_ends.Given as goal
 use Rattle.sl_trace.specs.Traces as traces
-use Rattle.std.proofs.Common.{filter, map, take, ◌==◌, ◌≡◌}
+use Rattle.std.proofs.Common.{map, take, ◌≡◌}
 
 -- those before this one are there
 abbrev pub invariant-loop-grant : goal.invariant-loop-grant

@@ -3,7 +3,7 @@ use Rattle.sl_machine.proofs.PlainNumbered.{goes_one, gone_all, may_go}
 use Rattle.sl_machine.proofs.passing.advance.Goals as goal
 use Rattle.sl_machine.specs.Machines.{machine_state}
 use Rattle.sl_machine.specs.Passing.{clock_later}
-use Rattle.std.proofs.Common.{ap, arith, get_or, ◌+◌, ◌∙◌}
+use Rattle.std.proofs.Common.{ap, arith, ◌+◌, ◌∙◌}
 
 pub go_on-requires : goal.go_on-requires
 go_on-requires g c =

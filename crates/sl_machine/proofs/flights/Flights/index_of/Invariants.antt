@@ -1,6 +1,6 @@
 use Rattle.sl_machine.proofs.FlightLaws.{Narrowed}
 use Rattle.sl_machine.proofs.flights.Flights.index_of.Given as goal
-use Rattle.std.proofs.Common.{ℕ, ◌-◌}
+use Rattle.std.proofs.Common.{◌-◌}
 
 -- the calls before `low` have greater numbers, those from `high` on lesser ones
 abbrev pub invariant-loop-low : goal.invariant-loop-low

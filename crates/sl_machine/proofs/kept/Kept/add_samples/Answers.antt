@@ -4,7 +4,7 @@ use Rattle.sl_machine.proofs.KeptLaws.{changed, same_set, somewhere, unchanged}
 use Rattle.sl_machine.proofs.kept.Kept.add_samples.Goals as goal
 use Rattle.sl_machine.specs.Keeping.{kept_state}
 use Rattle.sl_machine.specs.Machines.{machine_state}
-use Rattle.std.proofs.Common.{List, Option, ap, reverse, sym, ◌∙◌}
+use Rattle.std.proofs.Common.{List, ap, reverse, sym, ◌∙◌}
 use Rattle.std.specs.Prelude.{option_and_then}
 
 pub sample-requires : goal.sample-requires

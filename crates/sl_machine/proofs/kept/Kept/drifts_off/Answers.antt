@@ -1,5 +1,5 @@
 use Rattle.sl_kept.specs.Refusing as refusing
-use Rattle.sl_machine.proofs.PassLaws.{any_mapped, any_numbered}
+use Rattle.sl_machine.proofs.PassLaws.{any_numbered}
 use Rattle.sl_machine.proofs.kept.Kept.drifts_off.Goals as goal
 use Rattle.sl_machine.specs.Keeping.{kept_state}
 use Rattle.sl_machine.specs.Machines.{machine_state}

@@ -1,5 +1,5 @@
 use Rattle.sl_kept.specs.Changes.{machine_later}
-use Rattle.sl_kept.specs.Kept.{KeptState, MachineState}
+use Rattle.sl_kept.specs.Kept.{MachineState}
 use Rattle.sl_kept.specs.Refusing.{reads_past}
 use Rattle.sl_machine.proofs.PassLaws.{any_numbered, map_numbered, may_pass}
 use Rattle.sl_machine.proofs.kept.Kept.pass.Goals as goal

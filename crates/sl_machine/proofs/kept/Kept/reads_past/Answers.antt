@@ -1,10 +1,10 @@
 use Rattle.sl_kept.specs.Refusing as refusing
-use Rattle.sl_machine.proofs.PassLaws.{any_mapped, any_numbered}
+use Rattle.sl_machine.proofs.PassLaws.{any_numbered}
 use Rattle.sl_machine.proofs.kept.Kept.reads_past.Goals as goal
 use Rattle.sl_machine.specs.Keeping.{kept_state}
 use Rattle.sl_machine.specs.Machines.{machine_state}
 use Rattle.sl_machine.specs.declared.machine.Machine.{Machine}
-use Rattle.std.proofs.Common.{List, ap, ap₂, sym, ℕ, ◌+◌, ◌∙◌}
+use Rattle.std.proofs.Common.{List, ap, sym, ◌+◌, ◌∙◌}
 use Rattle.std.specs.List.{enumerate_from, list_any}
 
 pub returns : goal.returns

@@ -1,4 +1,4 @@
-use Rattle.sl_kept.specs.Kept.{KeptState, MachineState}
+use Rattle.sl_kept.specs.Kept.{MachineState}
 use Rattle.sl_machine.proofs.KeptLaws.{at_set, same_set}
 use Rattle.sl_machine.proofs.kept.Kept.reserve.Goals as goal
 use Rattle.sl_machine.specs.Keeping.{kept_state, place_in}

@@ -1,11 +1,11 @@
 use Rattle.sl_kept.specs.Refusing as refusing
-use Rattle.sl_machine.proofs.PassLaws.{any_mapped, any_numbered}
+use Rattle.sl_machine.proofs.PassLaws.{any_mapped}
 use Rattle.sl_machine.proofs.kept.Kept.starves.Goals as goal
 use Rattle.sl_machine.specs.Keeping.{kept_state}
 use Rattle.sl_machine.specs.Machines.{machine_state}
 use Rattle.sl_machine.specs.declared.machine.Machine.{Machine}
 use Rattle.std.proofs.Common.{List, ap, ap₂, sym, ℕ, ◌+◌, ◌∙◌}
-use Rattle.std.specs.List.{enumerate_from, list_any}
+use Rattle.std.specs.List.{list_any}
 
 pub returns : goal.returns
 unfolding kept_state
