@@ -43,7 +43,7 @@ machine_kept locks k m i a there at =
     ∙ ap (slice_get (map (machine_state locks) k.machines.items)) p.there
     ∙ slice_get-map (machine_state locks) k.machines.items i ∙ ap (option_map (machine_state locks)) at
 
-next_kept : {L : Type 0} (locks : L → Locks) (a : Machine L) → ((machine_state locks a).next.call ≡ a.flights.next) × ((machine_state locks a).next.job ≡ a.job)
+pub next_kept : {L : Type 0} (locks : L → Locks) (a : Machine L) → ((machine_state locks a).next.call ≡ a.flights.next) × ((machine_state locks a).next.job ≡ a.job)
 unfolding machine_state
 next_kept locks a = (refl, refl)
 

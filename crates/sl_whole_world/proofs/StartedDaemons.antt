@@ -9,7 +9,9 @@ use Rattle.sl_kept.specs.Steps.{stepped_kept}
 use Rattle.sl_kept_law.proofs.Allowed.{open_test}
 use Rattle.sl_law.specs.Lawful.{IsSetting}
 use Rattle.sl_machine.specs.Keeping.{kept_state}
+use Rattle.sl_machine.specs.Machines.{machine_state}
 use Rattle.sl_machine.specs.declared.kept.Kept.{Kept}
+use Rattle.sl_machine.specs.declared.machine.Machine.{Machine}
 use Rattle.sl_run.specs.Headers.{IsHeader}
 use Rattle.sl_run.specs.Locks.{Locks}
 use Rattle.sl_run.specs.declared.event.Event.TheVariants.{StartDaemon}
@@ -19,16 +21,18 @@ use Rattle.sl_text.specs.Forms.{Form}
 use Rattle.sl_text.specs.Names.{is_name}
 use Rattle.sl_trace.specs.Traces.{Setting, Trace, no_effects}
 use Rattle.sl_trace.specs.declared.command.Command.{Command}
+use Rattle.sl_trace.specs.declared.input.Given.{Given}
 use Rattle.sl_whole_world.proofs.AllowedEvents.{machine_there, no_input, no_own, unrefused}
-use Rattle.sl_whole_world.proofs.GivenSteps.{header_kept}
+use Rattle.sl_whole_world.proofs.GivenSteps.{header_kept, next_kept}
 use Rattle.sl_whole_world.specs.Allowing.{AllCome, IsAllowed}
 use Rattle.sl_whole_world.specs.Hosting.{HostBegun}
+use Rattle.sl_words.proofs.CaseLaws.{one_value}
 use Rattle.sl_world_law.proofs.DirectChanges.{quiet_events}
 use Rattle.sl_world_law.proofs.OwnEvents.{beginnings_are_settings, beginnings_stand}
 use Rattle.sl_world_law.specs.Standing.{Comes, new_site}
-use Rattle.std.proofs.Common.{ap, refl, subst, sym, ◌∙◌}
+use Rattle.std.proofs.Common.{ap, ap₂, refl, subst, sym, ◌∙◌}
 use Rattle.std.specs.List.{list_any}
-use Rattle.std.specs.Prelude.{Bool, IsTrue, List, None, Option, Some, bytes_eq, false, not, slice_set, [], ℕ, ◌-◌, ◌∷◌, ◌≡◌}
+use Rattle.std.specs.Prelude.{Bool, IsTrue, List, None, Option, Some, bytes_eq, false, not, reverse, slice_set, [], ℕ, ◌-◌, ◌∷◌, ◌≡◌}
 
 -- Where one may begin.
 pub start_there : (commands : Header → List (Form Command)) (k : KeptState) (m : ℕ) (name : List ℕ) → refusal_in commands k (StartDaemon m name) ≡ None
@@ -75,3 +79,26 @@ pub started_kept : {L : Type 0} (locks : L → Locks) (k after : Kept L) (m : �
 started_kept locks k after m name same =
     ap (λ h. named_in name (change_machine_in m (started_machine h) (kept_state locks after))) (sym (header_kept locks after))
     ∙ ap (λ z. named_in name (change_machine_in m (started_machine z.header) z)) same
+
+abbrev pub site_with : ℕ → List ℕ → ℕ → ℕ → List Given → Site
+site_with m name call job given = record { machine = m; name = name; first = record { call = call; job = job }; given = given }
+
+-- With what it begins.
+pub site_is : {L : Type 0} (locks : L → Locks) (k : Kept L) (m : ℕ) (name : List ℕ) (a : Machine L) (call : ℕ) (given : List Given)
+    → machine_in (kept_state locks k) m ≡ Some (machine_state locks a) → call ≡ a.flights.next → given ≡ []
+    → (s : MachineState) → machine_in (kept_state locks k) m ≡ Some s → site_with m name call a.job given ≡ new_site m name s
+site_is locks k m name a call given at calls none s there =
+    let one = one_value (machine_state locks a) s (machine_in (kept_state locks k) m) at there in
+    ap₂ (λ n gs. site_with m name n a.job gs) calls none
+    ∙ ap₂ (λ n j. site_with m name n j []) (sym (next_kept locks a).0 ∙ ap (λ (z : MachineState). z.next.call) one)
+    (sym (next_kept locks a).1 ∙ ap (λ (z : MachineState). z.next.job) one)
+
+-- The names that are kept.
+names_kept : {L : Type 0} (locks : L → Locks) (k : Kept L) → (kept_state locks k).names ≡ reverse k.names.keys
+unfolding kept_state
+names_kept locks k = refl
+
+pub new_name : {L : Type 0} (locks : L → Locks) (k after : Kept L) (name : List ℕ) → kept_state locks after ≡ kept_state locks k
+    → list_any (bytes_eq name) (kept_state locks k).names ≡ false → list_any (bytes_eq name) (reverse after.names.keys) ≡ false
+new_name locks k after name same none =
+    ap (list_any (bytes_eq name)) (sym (names_kept locks after) ∙ ap (λ (z : KeptState). z.names) same) ∙ none
