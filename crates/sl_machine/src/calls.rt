@@ -137,7 +137,7 @@ impl<L: LockTable> Kept<L> {
 
     /// A sector is written, if there is one there. It takes no memory.
     #[tactic(auto, unfolding(crate::specs::Keeping::kept_state))]
-    fn write(&mut self, place: Option<Place>, image: Arc<Image>)
+    pub fn write(&mut self, place: Option<Place>, image: Arc<Image>)
         requires { length (arc_value image) ≡ self.old.disks.header.geometry.sector }
         ensures { kept_state L.locks self.new ≡ write_at place (arc_value image) (kept_state L.locks self.old) }
     {

@@ -1,30 +1,33 @@
 -- What an event gives that nothing refuses, and what comes of it.
 use Rattle.sl_daemon.specs.declared.daemon.Most.{Most}
 use Rattle.sl_kept.specs.Changes.{change_flight, crashed_machine, dropped_flight, first_kept, landed_in, passed_in, restarted_machine, sampled_flight, tested_machine}
-use Rattle.sl_kept.specs.Inputs.{input_for, input_in, own_in}
+use Rattle.sl_kept.specs.Inputs.{done_in, input_for, input_in, ok_in, own_in, rest_in}
 use Rattle.sl_kept.specs.Kept.{FlightState, KeptState, MachineState, change_machine_in, flight_in, flight_of_machine, machine_in}
-use Rattle.sl_kept.specs.Refusing.{is_shaped_in, left_in, needs_running, on_flight_in, on_kept, pass_tests_in, reads_in, refusal_in, tests_in, text_for_locks}
+use Rattle.sl_kept.specs.Refusing.{is_shaped_in, left_in, writes_in, needs_running, on_flight_in, on_kept, pass_tests_in, reads_in, refusal_in, tests_in, text_for_locks}
 use Rattle.sl_kept.specs.Sane.{WorldStands}
 use Rattle.sl_kept.specs.Showing.{shown}
 use Rattle.sl_kept.specs.Steps.{stepped_kept, taken_kept}
 use Rattle.sl_kept_law.proofs.Allowed.{open_test}
 use Rattle.sl_kept_law.proofs.Tests.{Tests}
+use Rattle.sl_plain.proofs.Lists.{find_inside}
+use Rattle.sl_plain.proofs.Options.{some_there}
 use Rattle.sl_run.specs.Events.{machine_of}
 use Rattle.sl_run.specs.Worlds.{World, first_that}
-use Rattle.sl_run.specs.declared.event.Event.TheVariants.{Crash, DropWrite, GiveAsk, GiveCommand, GiveLvm, Land, Pass, Reset, Restart, Sample, SpawnedOf, StartDaemon, Test, WakeUp}
+use Rattle.sl_run.specs.declared.event.Event.TheVariants.{AnswerCall, Crash, Do, DropWrite, GiveAsk, GiveCommand, GiveLvm, Land, Pass, Reset, Restart, Sample, SpawnedOf, StartDaemon, Test, WakeUp}
 use Rattle.sl_run.specs.declared.event.Event.{Event}
-use Rattle.sl_run.specs.declared.event.Refusal.TheVariants.{MissingCall, MissingDaemon, MissingLvm, MissingMachine, MissingPlace, MissingSample, MissingSpawn, Syntax}
+use Rattle.sl_run.specs.declared.event.Refusal.TheVariants.{MissingCall, MissingDaemon, MissingLanding, MissingLvm, MissingMachine, MissingPlace, MissingSample, MissingSpawn, Syntax}
 use Rattle.sl_run.specs.declared.event.Refusal.{Refusal}
 use Rattle.sl_run.specs.declared.header.Header.{Header}
 use Rattle.sl_text.specs.Forms.{Form}
 use Rattle.sl_trace.specs.Traces.{Setting, Trace, no_effects}
 use Rattle.sl_trace.specs.declared.command.Command.{Command}
 use Rattle.sl_trace.specs.declared.effects.Effects.{Effects}
-use Rattle.sl_trace.specs.declared.input.Input.TheVariants.{Line, Number, Spawned, Wake}
+use Rattle.sl_trace.specs.declared.input.Answer.TheVariants.{Failed, Read, Written}
+use Rattle.sl_trace.specs.declared.input.Input.TheVariants.{Answer as Told, Line, Number, Spawned, Wake}
 use Rattle.sl_trace.specs.declared.input.Input.{Input}
 use Rattle.sl_whole_world.proofs.GivenSteps.{not_false}
 use Rattle.sl_whole_world.specs.Allowing.{AllCome, IsAllowed, MayGive}
-use Rattle.sl_whole_world.specs.Giving.{IsGiven}
+use Rattle.sl_whole_world.specs.Giving.{HasSampled, IsGiven}
 use Rattle.sl_words.proofs.CaseLaws.{none_some}
 use Rattle.sl_words.specs.Words.{choose}
 use Rattle.sl_world_law.proofs.DirectChanges.{quiet_events}
@@ -32,12 +35,12 @@ use Rattle.sl_world_law.proofs.EventsStand.{steps_are_ready, steps_stand}
 use Rattle.sl_world_law.proofs.OwnEvents.{ends_stand, own_stands}
 use Rattle.sl_world_law.specs.Standing.{Comes, IsReady, begins_or_ends, seat_of}
 use Rattle.std.proofs.Common.{ap, ap₂, arith, refl, subst, sym, ◌∙◌}
-use Rattle.std.proofs.lemmas.Bool.Decides.{nat_tests}
+use Rattle.std.proofs.lemmas.Bool.Decides.{Decides-eqb, nat_tests}
 use Rattle.std.proofs.lemmas.List.{length-map}
 use Rattle.std.proofs.lemmas.Option.{slice_get_within}
 use Rattle.std.specs.List.{list_any}
 use Rattle.std.specs.Option.{option_map_or}
-use Rattle.std.specs.Prelude.{Bool, List, None, Option, Some, false, if◌then◌else◌, is_none, is_some, length, nat_lt, not, option_and_then, slice_get, slice_set, true, [], ℕ, ◌-◌, ◌<◌, ◌==◌, ◌∷◌, ◌≡◌, ◌≤◌, ◌||◌}
+use Rattle.std.specs.Prelude.{Bool, List, None, Option, Some, false, if◌then◌else◌, is_none, is_some, length, nat_lt, not, option_and_then, option_map, slice_get, slice_set, true, [], ℕ, ◌&&◌, ◌-◌, ◌<◌, ◌==◌, ◌∷◌, ◌≡◌, ◌≤◌, ◌||◌}
 
 -- ---- no test holds
 
@@ -74,6 +77,15 @@ call_there s c p f x none at = kind (p x) (sym (ap (λ o. first_that (tests_by o
     kind : (b : Bool) → first_that (elim b as (λ z. Tests) [ false ↦ (true, MissingCall) ∷ [] | true ↦ f x ]) ≡ None → (b ≡ true) × (first_that (f x) ≡ None)
     kind true h = (refl, h)
     kind false h = absurd (none_some MissingCall (sym h))
+
+some_call : (s : MachineState) (c : ℕ) (p : FlightState → Bool) (f : FlightState → Tests) → first_that (on_flight_in s c p f) ≡ None → (x : FlightState) × (flight_in s c ≡ Some x)
+some_call s c p f none = go (flight_in s c) refl none
+  where
+    go : (o : Option FlightState) → flight_in s c ≡ o
+        → first_that (elim o as (λ x. Tests) [ None ↦ (true, MissingCall) ∷ [] | Some y ↦ elim (p y) as (λ z. Tests) [ false ↦ (true, MissingCall) ∷ [] | true ↦ f y ] ]) ≡ None
+        → (x : FlightState) × (flight_in s c ≡ Some x)
+    go None at h = absurd (none_some MissingCall (sym h))
+    go (Some y) at h = (y, at)
 
 -- ---- inputs
 
@@ -262,3 +274,81 @@ seat_there commands stands k hosts m s w t at =
 pub crash_there : (commands : Header → List (Form Command)) (k : KeptState) (m : ℕ) → refusal_in commands k (Crash m) ≡ None → (s : MachineState) × (machine_in k m ≡ Some s)
 unfolding tests_in
 crash_there commands k m none = let s = runs_there k m (λ x. []) (unrefused commands k (Crash m) none) in (s.0, s.1)
+
+-- ---- answers
+
+-- The call that is answered, or done: it is the running daemon's.
+pub record Called (k : KeptState) (m c : ℕ) (e : Event) : Type 0 where
+  pub flight : FlightState
+  pub found : flight_of_machine k m c ≡ Some flight
+  pub number : flight.number ≡ c
+  pub gives : input_in k e ≡ option_and_then (λ s. input_for k e s) (machine_in k m)
+  pub machine : MachineState
+  pub there : machine_in k m ≡ Some machine
+  pub here : flight_in machine c ≡ Some flight
+
+called : (k : KeptState) (m c : ℕ) (e : Event) → machine_of e ≡ m → (p : FlightState → Bool) (f : FlightState → Tests)
+    → first_that (on_kept k m (λ s. needs_running s ∷ on_flight_in s c p f)) ≡ None → Called k m c e
+called k m c e same p f h =
+    let s = runs_there k m (λ x. on_flight_in x c p f) h in
+    let x = some_call s.0 c p f s.3 in
+    record {
+      flight = x.0;
+      found = ap (option_and_then (λ (y : MachineState). flight_in y c)) s.1 ∙ x.1;
+      number = (Decides-eqb x.0.number c).0 (find_inside (λ (y : FlightState). y.number == c) s.0.flights x.0 x.1).1;
+      gives = ap (λ n. option_and_then (input_for k e) (machine_in k n)) same;
+      machine = s.0;
+      there = s.1;
+      here = x.1;
+    }
+
+pub answer_called : (commands : Header → List (Form Command)) (k : KeptState) (m c : ℕ) (ok : Bool) → refusal_in commands k (AnswerCall m c ok) ≡ None → Called k m c (AnswerCall m c ok)
+unfolding tests_in
+answer_called commands k m c ok none =
+    called k m c (AnswerCall m c ok) refl (λ f. f.own)
+    (λ f. (ok && reads_in f && nat_lt 0 (left_in f), MissingSample) ∷ (ok && writes_in f && not f.landed, MissingLanding) ∷ []) (unrefused commands k (AnswerCall m c ok) none)
+
+pub do_called : (commands : Header → List (Form Command)) (k : KeptState) (m c : ℕ) → refusal_in commands k (Do m c) ≡ None → Called k m c (Do m c)
+unfolding tests_in
+do_called commands k m c none =
+    called k m c (Do m c) refl (λ f. f.own) (λ f. (is_none f.place, MissingPlace) ∷ (f.torn, MissingLanding) ∷ []) (unrefused commands k (Do m c) none)
+
+pub fail_given : (commands : Header → List (Form Command)) (k : KeptState) (m c : ℕ) → refusal_in commands k (AnswerCall m c false) ≡ None
+    → input_in k (AnswerCall m c false) ≡ Some (Told c Failed)
+fail_given commands k m c none =
+    let x = answer_called commands k m c false none in
+    ap (option_and_then (input_for k (AnswerCall m c false))) x.there ∙ ap (option_map (λ (f : FlightState). Told c Failed)) x.here
+
+-- What is told of a call, by what is gathered of it.
+abbrev pub told_by : ℕ → Option (List ℕ) → Input
+told_by n None = Told n Written
+told_by n (Some bytes) = Told n (Read bytes)
+
+told_is : (f : FlightState) (c : ℕ) (bytes : List ℕ) (given : Option (List ℕ)) → f.number ≡ c → HasSampled f bytes given
+    → elim f.write as (λ x. Input) [ None ↦ Told f.number (Read bytes) | Some whole ↦ Told f.number Written ] ≡ told_by c given
+told_is f c bytes None number writes =
+    let w = some_there f.write writes in
+    ap (λ (o : Option (List ℕ)). elim o as (λ x. Input) [ None ↦ Told f.number (Read bytes) | Some whole ↦ Told f.number Written ]) w.1 ∙ ap (λ n. Told n Written) number
+told_is f c bytes (Some b) number has =
+    ap (λ (o : Option (List ℕ)). elim o as (λ x. Input) [ None ↦ Told f.number (Read bytes) | Some whole ↦ Told f.number Written ]) has.0
+    ∙ ap₂ (λ n y. Told n (Read y)) number (sym has.1)
+
+pub answer_given : (commands : Header → List (Form Command)) (k : KeptState) (m c : ℕ) (given : Option (List ℕ))
+    → ((f : FlightState) → flight_of_machine k m c ≡ Some f → HasSampled f f.sampled given) → refusal_in commands k (AnswerCall m c true) ≡ None
+    → input_in k (AnswerCall m c true) ≡ Some (told_by c given)
+answer_given commands k m c given has none =
+    let x = answer_called commands k m c true none in
+    ap (option_and_then (input_for k (AnswerCall m c true))) x.there ∙ ap (option_map ok_in) x.here
+    ∙ ap Some (told_is x.flight c x.flight.sampled given x.number (has x.flight x.found))
+
+pub do_given : (commands : Header → List (Form Command)) (k : KeptState) (m c : ℕ) (given : Option (List ℕ))
+    → ((f : FlightState) → flight_of_machine k m c ≡ Some f → HasSampled f (rest_in k f (left_in f)) given) → refusal_in commands k (Do m c) ≡ None
+    → input_in k (Do m c) ≡ Some (told_by c given)
+do_given commands k m c given has none =
+    let x = do_called commands k m c none in
+    ap (option_and_then (input_for k (Do m c))) x.there ∙ ap (option_map (done_in k)) x.here
+    ∙ ap Some (told_is x.flight c (rest_in k x.flight (left_in x.flight)) given x.number (has x.flight x.found))
+
+pub first_answer : (k : KeptState) (m c : ℕ) (ok : Bool) → first_kept (AnswerCall m c ok) k ≡ k
+unfolding first_kept
+first_answer k m c ok = refl

@@ -3,3 +3,4 @@ pub mod LockInputs
 pub mod GivenSteps
 pub mod AllowedEvents
 pub mod EndedEvents
+pub mod DoneCalls

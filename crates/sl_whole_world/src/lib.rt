@@ -1,6 +1,7 @@
 //! The executed world of many machines, whichever daemons run in it.
 #![tactic(auto)]
 
+mod answers;
 mod begin;
 mod ends;
 mod given;

@@ -22,7 +22,7 @@ pub struct World<D: Daemon, L: LockTable> {
 }
 
 /// What a machine's clock shows; 0 where there is none.
-fn reading<L: LockTable>(kept: &Kept<L>, machine: u32) -> u64
+pub(crate) fn reading<L: LockTable>(kept: &Kept<L>, machine: u32) -> u64
     ensures { (s : MachineState) → machine_in (kept_state L.locks kept.now) machine ≡ Some s → result ≡ reading_of s.clock }
 {
     match kept.machine(machine) {
@@ -35,7 +35,7 @@ fn reading<L: LockTable>(kept: &Kept<L>, machine: u32) -> u64
 const LEFT: u64 = (1 << 63) - 2048;
 
 /// Whether numbers are left for a step on a machine.
-fn has_numbers<L: LockTable>(kept: &Kept<L>, machine: u32) -> bool
+pub(crate) fn has_numbers<L: LockTable>(kept: &Kept<L>, machine: u32) -> bool
     ensures { result ≡ true → LeavesAt (kept_state L.locks kept.now) machine }
 {
     match kept.machine(machine) {
@@ -62,7 +62,7 @@ impl<D: Daemon, L: LockTable> World<D, L> {
         let locks = lock_input(&input)?;
         self.kept.reserve(machine, &most, &locks)?;
         let effects = self.hosts.step(index, now, input)?;
-        self.kept.step(machine, heard, locks, &effects);
+        let _told = self.kept.step(machine, heard, locks, &effects);
         Ok(effects)
     }
 }
