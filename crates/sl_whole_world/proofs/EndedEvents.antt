@@ -6,7 +6,6 @@ use Rattle.sl_kept.specs.Inputs.{input_for, input_in, own_in}
 use Rattle.sl_kept.specs.Kept.{KeptState, MachineState, change_machine_in, machine_in}
 use Rattle.sl_kept.specs.Refusing.{is_shaped_in, refusal_in, tests_in}
 use Rattle.sl_kept.specs.Sane.{ReadsCommands, WorldStands}
-use Rattle.sl_kept.specs.Showing.{Tells}
 use Rattle.sl_kept.specs.Steps.{stepped_kept, taken_kept}
 use Rattle.sl_run.specs.Headers.{IsHeader}
 use Rattle.sl_run.specs.Worlds.{World, first_that, world_with}
@@ -20,7 +19,6 @@ use Rattle.sl_trace.specs.Traces.{Setting, Trace, no_effects}
 use Rattle.sl_trace.specs.declared.command.Command.{Command}
 use Rattle.sl_trace.specs.declared.effects.Effects.{Effects}
 use Rattle.sl_trace.specs.declared.input.Input.TheVariants.{Exit}
-use Rattle.sl_trace.specs.declared.input.Input.{Input}
 use Rattle.sl_whole_world.proofs.AllowedEvents.{machine_there, no_input, no_own, quietly_comes, unrefused}
 use Rattle.sl_whole_world.specs.Allowing.{AllCome, IsAllowed, StandsForSome}
 use Rattle.sl_words.specs.Words.{choose}

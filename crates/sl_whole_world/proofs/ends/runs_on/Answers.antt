@@ -1,5 +1,4 @@
-use Rattle.sl_kept.specs.Kept.{MachineState, machine_in}
-use Rattle.sl_machine.specs.Keeping.{kept_state}
+use Rattle.sl_kept.specs.Kept.{MachineState}
 use Rattle.sl_machine.specs.Machines.{machine_state}
 use Rattle.sl_whole_world.proofs.ends.runs_on.Goals as goal
 use Rattle.sl_words.proofs.CaseLaws.{none_some, some_value}

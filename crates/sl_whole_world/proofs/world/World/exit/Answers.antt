@@ -10,7 +10,7 @@ use Rattle.sl_whole_world.proofs.world.World.exit.Goals as goal
 use Rattle.sl_whole_world.specs.Allowing.{AllCome}
 use Rattle.sl_whole_world.specs.Giving.{IsGiven}
 use Rattle.std.proofs.Common.{sym, ◌∙◌}
-use Rattle.std.specs.Prelude.{None, false, true, ◌≡◌}
+use Rattle.std.specs.Prelude.{None, true, ◌≡◌}
 
 pub give-requires : goal.give-requires
 give-requires g c =
