@@ -13,7 +13,7 @@ use Rattle.sl_plain.proofs.Lists.{find_inside}
 use Rattle.sl_plain.proofs.Options.{some_there}
 use Rattle.sl_run.specs.Events.{machine_of}
 use Rattle.sl_run.specs.Worlds.{World, first_that}
-use Rattle.sl_run.specs.declared.event.Event.TheVariants.{AnswerCall, Crash, Do, DropWrite, GiveAsk, GiveCommand, GiveLvm, Land, Pass, Reset, Restart, Sample, SpawnedOf, StartDaemon, Test, WakeUp}
+use Rattle.sl_run.specs.declared.event.Event.TheVariants.{AnswerCall, Crash, Do, DropWrite, GiveAsk, GiveCommand, GiveLvm, Land, Pass, Restart, Sample, SpawnedOf, Test, WakeUp}
 use Rattle.sl_run.specs.declared.event.Event.{Event}
 use Rattle.sl_run.specs.declared.event.Refusal.TheVariants.{MissingCall, MissingDaemon, MissingLanding, MissingLvm, MissingMachine, MissingPlace, MissingSample, MissingSpawn, Syntax}
 use Rattle.sl_run.specs.declared.event.Refusal.{Refusal}
@@ -33,7 +33,7 @@ use Rattle.sl_words.specs.Words.{choose}
 use Rattle.sl_world_law.proofs.DirectChanges.{quiet_events}
 use Rattle.sl_world_law.proofs.EventsStand.{steps_are_ready, steps_stand}
 use Rattle.sl_world_law.proofs.OwnEvents.{ends_stand, own_stands}
-use Rattle.sl_world_law.specs.Standing.{Comes, IsReady, begins_or_ends, seat_of}
+use Rattle.sl_world_law.specs.Standing.{Comes, IsReady, begins_or_ends}
 use Rattle.std.proofs.Common.{ap, ap₂, arith, refl, subst, sym, ◌∙◌}
 use Rattle.std.proofs.lemmas.Bool.Decides.{Decides-eqb, nat_tests}
 use Rattle.std.proofs.lemmas.List.{length-map}

@@ -6,7 +6,6 @@ use Rattle.sl_kept.specs.Inputs.{input_for, input_in, own_in}
 use Rattle.sl_kept.specs.Kept.{KeptState, MachineState, change_machine_in, machine_in}
 use Rattle.sl_kept.specs.Refusing.{is_shaped_in, refusal_in, tests_in}
 use Rattle.sl_kept.specs.Sane.{ReadsCommands, WorldStands}
-use Rattle.sl_kept.specs.Showing.{Tells}
 use Rattle.sl_kept.specs.Steps.{stepped_kept, taken_kept}
 use Rattle.sl_run.specs.Headers.{IsHeader}
 use Rattle.sl_run.specs.Worlds.{World, first_that, world_with}
@@ -20,7 +19,6 @@ use Rattle.sl_trace.specs.Traces.{Setting, Trace, no_effects}
 use Rattle.sl_trace.specs.declared.command.Command.{Command}
 use Rattle.sl_trace.specs.declared.effects.Effects.{Effects}
 use Rattle.sl_trace.specs.declared.input.Input.TheVariants.{Exit}
-use Rattle.sl_trace.specs.declared.input.Input.{Input}
 use Rattle.sl_whole_world.proofs.AllowedEvents.{machine_there, no_input, no_own, quietly_comes, unrefused}
 use Rattle.sl_whole_world.specs.Allowing.{AllCome, IsAllowed, StandsForSome}
 use Rattle.sl_words.specs.Words.{choose}
@@ -30,7 +28,7 @@ use Rattle.sl_world_law.proofs.OwnEvents.{ends_stand, own_stands}
 use Rattle.sl_world_law.specs.Standing.{Comes, HaveBegun}
 use Rattle.std.proofs.Common.{ap, ap₂, refl, subst, sym, ◌∙◌}
 use Rattle.std.specs.List.{list_any, slice_set}
-use Rattle.std.specs.Prelude.{Bool, List, None, Option, Some, bytes_eq, false, not, option_and_then, true, [], ℕ, ◌-◌, ◌∷◌, ◌≡◌}
+use Rattle.std.specs.Prelude.{Bool, Err, IfErr, IfOk, List, None, Ok, OnOk, Option, Result, Some, bytes_eq, false, not, option_and_then, true, [], ℕ, ◌-◌, ◌∷◌, ◌≡◌}
 
 -- ---- beginnings
 
@@ -60,6 +58,21 @@ pub first_stands : {D : Type 0} (commands : Header → List (Form Command)) (sta
 first_stands commands stands h k hosts ns ok reads begun is same =
     subst (λ x. WorldStands commands stands x hosts (world_with (program_of commands) h)) (sym is)
     (named_otherwise commands stands (first_state h) hosts (world_with (program_of commands) h) ns (first_worlds_stand commands stands h ok reads hosts begun) same)
+
+-- ---- answers of calls
+
+-- Two things that an answer ok says may be said as one.
+pub if_ok_both : {A E : Type 0} (P Q R : A → Type 0) (r : Result A E) → ((a : A) → P a → Q a → R a) → IfOk r P → IfOk r Q → IfOk r R
+if_ok_both P Q R (Ok a) more p q = more a p q
+if_ok_both P Q R (Err e) more p q = tt
+
+pub if_err_then : {A E : Type 0} (P Q : E → Type 0) (r : Result A E) → ((e : E) → P e → Q e) → IfErr r P → IfErr r Q
+if_err_then P Q (Ok a) more p = tt
+if_err_then P Q (Err e) more p = more e p
+
+pub on_ok_both : {A E : Type 0} (P Q R : Type 0) (r : Result A E) → (P → Q → R) → OnOk r P → OnOk r Q → OnOk r R
+on_ok_both P Q R (Ok a) more p q = more p q
+on_ok_both P Q R (Err e) more p q = tt
 
 -- ---- exits
 

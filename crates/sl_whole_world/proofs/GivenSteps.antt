@@ -10,7 +10,7 @@ use Rattle.sl_machine.specs.declared.heard.Heard.{Heard}
 use Rattle.sl_machine.specs.declared.kept.Kept.{Kept}
 use Rattle.sl_machine.specs.declared.locks.LockInput.{LockInput}
 use Rattle.sl_machine.specs.declared.machine.Machine.{Machine}
-use Rattle.sl_run.specs.Locks.{Locks, locks_after}
+use Rattle.sl_run.specs.Locks.{Locks}
 use Rattle.sl_run.specs.declared.header.Header.{Header}
 use Rattle.sl_text.specs.Forms.{Form}
 use Rattle.sl_time.specs.Times.{reading_of}
@@ -22,14 +22,14 @@ use Rattle.sl_trace.specs.declared.input.Input.{Input}
 use Rattle.sl_whole_world.specs.Allowing.{LeavesAt}
 use Rattle.sl_whole_world.specs.Giving.{IsGiven}
 use Rattle.sl_whole_world.specs.Hosting.{HostStepped}
-use Rattle.sl_words.proofs.CaseLaws.{none_some, one_value, some_value, true_is_false}
+use Rattle.sl_words.proofs.CaseLaws.{one_value, true_is_false}
 use Rattle.sl_world_law.proofs.EventsStand.{steps_fit}
 use Rattle.sl_world_law.specs.Standing.{FitsKept, HasStepped, IsReady}
 use Rattle.std.proofs.Common.{ap, arith, refl, subst, sym, ◌∙◌}
 use Rattle.std.proofs.lemmas.Bool.Decides.{nat_tests}
 use Rattle.std.proofs.lemmas.Option.{slice_get-map}
 use Rattle.std.specs.List.{range_with_len}
-use Rattle.std.specs.Prelude.{Bool, Err, IfOk, List, None, Ok, OnOk, Option, Result, Some, false, if◌then◌else◌, length, map, nat_lt, not, option_map, slice_get, slice_set, true, ℕ, ◌-◌, ◌<◌, ◌==◌, ◌^◌, ◌≡◌}
+use Rattle.std.specs.Prelude.{Bool, Err, IfOk, List, None, Ok, OnOk, Option, Result, Some, false, if◌then◌else◌, length, map, nat_lt, not, option_map, slice_get, slice_set, true, ℕ, ◌-◌, ◌<◌, ◌^◌, ◌≡◌}
 use Rattle.std.specs.Vec.{vec_len}
 
 -- ---- machines by their places
@@ -141,9 +141,10 @@ below_test n m h = grind (arith, nat_tests, h)
 pub numbers_there : {L : Type 0} (locks : L → Locks) (k : Kept L) (m : ℕ) (a : Machine L) → machine_in (kept_state locks k) m ≡ Some (machine_state locks a)
     → a.flights.next < 9223372036854773760 → nat_lt a.job 9223372036854773760 ≡ true → LeavesAt (kept_state locks k) m
 numbers_there locks k m a at call job s there =
-    let one = one_value (machine_state locks a) s (machine_in (kept_state locks k) m) at there in
-    (subst (λ n. n < 9223372036854773760) (sym (next_kept locks a).0 ∙ ap (λ (z : MachineState). z.next.call) one) call,
-    subst (λ n. n < 9223372036854773760) (sym (next_kept locks a).1 ∙ ap (λ (z : MachineState). z.next.job) one) (below_test a.job 9223372036854773760 job))
+    let one = one_value (machine_state locks a) s (machine_in (kept_state locks k) m) at there in (
+      subst (λ n. n < 9223372036854773760) (sym (next_kept locks a).0 ∙ ap (λ (z : MachineState). z.next.call) one) call,
+      subst (λ n. n < 9223372036854773760) (sym (next_kept locks a).1 ∙ ap (λ (z : MachineState). z.next.job) one) (below_test a.job 9223372036854773760 job),
+    )
 
 pub not_false : (b : Bool) → not b ≡ false → b ≡ true
 not_false true h = refl

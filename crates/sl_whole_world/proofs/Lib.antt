@@ -5,3 +5,4 @@ pub mod AllowedEvents
 pub mod DoneCalls
 pub mod StartedDaemons
 pub mod EndedEvents
+pub mod Refused

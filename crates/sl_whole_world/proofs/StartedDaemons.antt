@@ -32,7 +32,7 @@ use Rattle.sl_world_law.proofs.OwnEvents.{beginnings_are_settings, beginnings_st
 use Rattle.sl_world_law.specs.Standing.{Comes, new_site}
 use Rattle.std.proofs.Common.{ap, ap₂, refl, subst, sym, ◌∙◌}
 use Rattle.std.specs.List.{list_any}
-use Rattle.std.specs.Prelude.{Bool, IsTrue, List, None, Option, Some, bytes_eq, false, not, reverse, slice_set, [], ℕ, ◌-◌, ◌∷◌, ◌≡◌}
+use Rattle.std.specs.Prelude.{IsTrue, List, None, Option, Some, bytes_eq, false, not, reverse, slice_set, [], ℕ, ◌-◌, ◌∷◌, ◌≡◌}
 
 -- Where one may begin.
 pub start_there : (commands : Header → List (Form Command)) (k : KeptState) (m : ℕ) (name : List ℕ) → refusal_in commands k (StartDaemon m name) ≡ None

@@ -21,7 +21,11 @@ use sl_trace::{Answer, Effects, Input};
 use std::alloc::AllocError;
 
 /// What a call has sampled, if it reads. An `Err` is want of memory.
-fn sampled<L: LockTable>(kept: &Kept<L>, machine: u32, call: u64) -> Result<Option<Images>, AllocError>
+fn sampled<L: LockTable>(
+    kept: &Kept<L>,
+    machine: u32,
+    call: u64,
+) -> Result<Option<Images>, AllocError>
     ensures { IfOk result (λ o. (f : FlightState) → flight_of_machine (kept_state L.locks kept.now) machine call ≡ Some f → HasSampled f f.sampled (option_map (λ s. s.bytes) o)) }
 {
     let alloc = *kept.machines.allocator();
@@ -54,7 +58,11 @@ fn left_of(flight: Option<&Flight>) -> Option<u64>
 }
 
 /// What a read has once the rest of it is sampled, if it reads. An `Err` is want of memory. Nothing that is seen changes.
-fn gathered<L: LockTable>(kept: &mut Kept<L>, machine: u32, call: u64) -> Result<Option<Images>, AllocError>
+fn gathered<L: LockTable>(
+    kept: &mut Kept<L>,
+    machine: u32,
+    call: u64,
+) -> Result<Option<Images>, AllocError>
     ensures bytes { IfOk result (λ o. (f : FlightState) → flight_of_machine (kept_state L.locks kept.old) machine call ≡ Some f
         → HasSampled f (rest_in (kept_state L.locks kept.old) f (left_in f)) (option_map (λ s. s.bytes) o)) }
     ensures same { kept_state L.locks kept.new ≡ kept_state L.locks kept.old }
@@ -74,7 +82,11 @@ fn gathered<L: LockTable>(kept: &mut Kept<L>, machine: u32, call: u64) -> Result
 }
 
 /// What a write leaves, if it hasn't taken effect. An `Err` is want of memory.
-fn unlanded<L: LockTable>(kept: &Kept<L>, machine: u32, call: u64) -> Result<Option<Landing>, AllocError>
+fn unlanded<L: LockTable>(
+    kept: &Kept<L>,
+    machine: u32,
+    call: u64,
+) -> Result<Option<Landing>, AllocError>
     ensures none { IfOk result (λ o. (f : FlightState) → flight_of_machine (kept_state L.locks kept.now) machine call ≡ Some f → is_none o ≡ true → f.flying ≡ false) }
     ensures some { IfOk result (λ o. IfSome o (λ l. LeavesWhole (kept_state L.locks kept.now) machine call l.place (arc_value l.image))) }
     ensures flies { IfOk result (λ o. (f : FlightState) → flight_of_machine (kept_state L.locks kept.now) machine call ≡ Some f → is_none o ≡ false → f.flying ≡ true) }

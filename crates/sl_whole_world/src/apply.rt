@@ -52,7 +52,13 @@ impl<D: Reader, L: LockTable> World<D, L> {
     }
 
     /// A write takes effect in part, which nothing refuses. An `Err` is want of memory.
-    fn tear_allowed(&mut self, machine: u32, call: u64, kept: u32, bytes: &Bytes) -> Result<(), AllocError>
+    fn tear_allowed(
+        &mut self,
+        machine: u32,
+        call: u64,
+        kept: u32,
+        bytes: &Bytes,
+    ) -> Result<(), AllocError>
         requires { IsAllowed D.Daemon.commands D.Daemon.stands (kept_state L.locks self.old.kept) self.old.hosts (Tear machine call kept bytes.now) }
         ensures ok { OnOk result (AllCome D.Daemon.commands D.Daemon.stands (kept_state L.locks self.old.kept) self.old.hosts (Tear machine call kept bytes.now) (kept_state L.locks self.new.kept) self.new.hosts no_effects) }
         ensures err { OnErr result (IsSame (kept_state L.locks self.old.kept) self.old.hosts (kept_state L.locks self.new.kept) self.new.hosts) }

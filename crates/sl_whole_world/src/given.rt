@@ -66,7 +66,12 @@ impl<D: Daemon, L: LockTable> World<D, L> {
     }
 
     /// The start of a child is answered.
-    pub(crate) fn spawned(&mut self, machine: u32, process: u32, ok: bool) -> Result<Effects, AllocError>
+    pub(crate) fn spawned(
+        &mut self,
+        machine: u32,
+        process: u32,
+        ok: bool,
+    ) -> Result<Effects, AllocError>
         requires { IsAllowed D.commands D.stands (kept_state L.locks self.old.kept) self.old.hosts (SpawnedOf machine process ok) }
         ensures ok { IfOk result (AllCome D.commands D.stands (kept_state L.locks self.old.kept) self.old.hosts (SpawnedOf machine process ok) (kept_state L.locks self.new.kept) self.new.hosts) }
         ensures err { OnErr result (IsSame (kept_state L.locks self.old.kept) self.old.hosts (kept_state L.locks self.new.kept) self.new.hosts) }

@@ -31,9 +31,7 @@ impl<D: Daemon, L: LockTable> World<D, L> {
         ensures same { IfOk result (λ x. OnErr x (IsSame (kept_state L.locks self.old.kept) self.old.hosts (kept_state L.locks self.new.kept) self.new.hosts)) }
         ensures err { OnErr result (IsSame (kept_state L.locks self.old.kept) self.old.hosts (kept_state L.locks self.new.kept) self.new.hosts) }
     {
-        match self.kept.tear(machine, call, kept, bytes)? {
-            Err(why) => Ok(Err(why)),
-            Ok(()) => Ok(Ok(())),
-        }
+        let told = self.kept.tear(machine, call, kept, bytes)?;
+        Ok(told)
     }
 }

@@ -38,4 +38,3 @@ returns-in-None-clause-ok g c =
     (λ fx given. simply_comes g.D.Daemon.commands g.D.Daemon.stands g.D.Daemon.makes (kept_state g.L.LockTable.locks c.args.self.now.kept) c.args.self.now.hosts (AnswerCall c.args.machine c.args.call true) (Told c.args.call Written) fx
     (kept_state g.L.LockTable.locks c.give.new.self.kept) c.give.new.self.hosts c.requires (answer_given g.D.Daemon.commands (kept_state g.L.LockTable.locks c.args.self.now.kept) c.args.machine c.args.call None (λ f there. subst (λ o. HasSampled f f.sampled (option_map (λ s. s.bytes) o)) c.in-None.is (c.in_ok-sectors.ensures f there))) (first_answer (kept_state g.L.LockTable.locks c.args.self.now.kept) c.args.machine c.args.call true) given)
     c.give.ensures.ok
-

@@ -1,7 +1,7 @@
 use Rattle.sl_machine.specs.Keeping.{kept_state}
 use Rattle.sl_whole_world.proofs.GivenSteps.{is_given, taken_up, takes_step}
 use Rattle.sl_whole_world.proofs.world.World.give.Goals as goal
-use Rattle.std.proofs.Common.{sym, ◌∙◌}
+use Rattle.std.proofs.Common.{◌∙◌}
 
 pub step-told-requires : goal.step-told-requires
 step-told-requires g c =

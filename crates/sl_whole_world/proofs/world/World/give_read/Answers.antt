@@ -4,7 +4,7 @@ use Rattle.sl_machine.specs.declared.locks.LockInput.TheVariants.{Nothing}
 use Rattle.sl_whole_world.proofs.GivenSteps.{is_given, taken_up, takes_step}
 use Rattle.sl_whole_world.proofs.LockInputs.{answer_is}
 use Rattle.sl_whole_world.proofs.world.World.give_read.Goals as goal
-use Rattle.std.proofs.Common.{refl, sym, ◌∙◌}
+use Rattle.std.proofs.Common.{refl, ◌∙◌}
 
 pub step-told-requires : goal.step-told-requires
 step-told-requires g c =
