@@ -34,7 +34,7 @@ both I J K a b =
       warns = λ x s m bytes g signal p1 p2 p3 p4 p5 h. (a.warns x s m bytes g signal p1 p2 p3 p4 p5 h, b.warns x s m bytes g signal p1 p2 p3 p4 p5 h);
       joins_in_time = λ x s j p1 p2 p3 p4 h. (a.joins_in_time x s j p1 p2 p3 p4 h, b.joins_in_time x s j p1 p2 p3 p4 h);
       renews = λ x s p1 p2 p3 h. (a.renews x s p1 p2 p3 h, b.renews x s p1 p2 p3 h);
-      settles = λ x s at p1 p2 p3 p4 h. (a.settles x s at p1 p2 p3 p4 h, b.settles x s at p1 p2 p3 p4 h);
+      settles = λ x s at p1 p2 p3 p4 p5 h. (a.settles x s at p1 p2 p3 p4 p5 h, b.settles x s at p1 p2 p3 p4 p5 h);
       parts = λ x s p1 p2 p3 p4 p5 h. (a.parts x s p1 p2 p3 p4 p5 h, b.parts x s p1 p2 p3 p4 p5 h);
       frees = λ x s p1 p2 p3 p4 p5 h. (a.frees x s p1 p2 p3 p4 p5 h, b.frees x s p1 p2 p3 p4 p5 h);
     }
@@ -71,7 +71,7 @@ from_more I H J f a =
       warns = λ x s m bytes g signal p1 p2 p3 p4 p5 h. a.warns x s m bytes g signal p1 p2 p3 p4 p5 (f x h);
       joins_in_time = λ x s j p1 p2 p3 p4 h. a.joins_in_time x s j p1 p2 p3 p4 (f x h);
       renews = λ x s p1 p2 p3 h. a.renews x s p1 p2 p3 (f x h);
-      settles = λ x s at p1 p2 p3 p4 h. a.settles x s at p1 p2 p3 p4 (f x h);
+      settles = λ x s at p1 p2 p3 p4 p5 h. a.settles x s at p1 p2 p3 p4 p5 (f x h);
       parts = λ x s p1 p2 p3 p4 p5 h. a.parts x s p1 p2 p3 p4 p5 (f x h);
       frees = λ x s p1 p2 p3 p4 p5 h. a.frees x s p1 p2 p3 p4 p5 (f x h);
     }

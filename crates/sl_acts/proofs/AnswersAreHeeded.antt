@@ -3,6 +3,7 @@ use Rattle.sl_acts.proofs.Additions.{not_is}
 use Rattle.sl_acts.proofs.InputsKeep.{has_heard, stop_stays}
 use Rattle.sl_acts.proofs.LoopsKeep.{for_each_keeps, when_keeps, with_some_keeps}
 use Rattle.sl_acts.proofs.SessionsStay.{Stays, call_stays, itself}
+use Rattle.sl_acts.proofs.HeadsKeep.{IsUnused}
 use Rattle.sl_acts.proofs.StepsKeep.{arrives_as_expected, at_input, bare_at_input, expected_there, step_by}
 use Rattle.sl_acts.specs.Acts.{AnswerActs, Expects, Hears, IsIdle, OtherActs, lone_job}
 use Rattle.sl_area.specs.Places.{request_offset}
@@ -32,7 +33,7 @@ use Rattle.sl_trace.specs.declared.input.Input.TheVariants.{Answer as Told, Wake
 use Rattle.sl_trace.specs.declared.input.Input.{Input}
 use Rattle.sl_trace.specs.declared.reply.Reply.TheVariants.{Done, IoFault}
 use Rattle.std.proofs.Common.{ap, inl, inr, refl, subst, sym, ◌∙◌}
-use Rattle.std.specs.Prelude.{Bool, IsSome, IsTrue, List, None, Option, Some, false, not, true, [], ℕ, ◌≡◌}
+use Rattle.std.specs.Prelude.{Bool, IsSome, IsTrue, List, None, Option, Some, false, not, true, ℕ, ◌≡◌}
 
 -- ---- either something is due, or nothing
 
@@ -159,7 +160,7 @@ by_purpose H J k x s m (ValueRead j) answer hears is h =
 
 -- ---- the answer
 
-answer_heeded : (H J : Step → Type 0) → AnswerActs H J → (x : Step) (number : ℕ) (answer : Answer) → x.input ≡ Wake → x.effects.calls ≡ [] → H (with_input (Told number answer) x)
+answer_heeded : (H J : Step → Type 0) → AnswerActs H J → (x : Step) (number : ℕ) (answer : Answer) → x.input ≡ Wake → IsUnused x → H (with_input (Told number answer) x)
     → J (take_input (Told number answer) x)
 unfolding take_input after_answer
 answer_heeded H J k y number answer wake bare h =
@@ -171,16 +172,16 @@ answer_heeded H J k y number answer wake bare h =
     (λ s session f. where_true H J (is_present (seen y) s) (after_answer_of s m m.call.purpose answer) x
     (λ gone e. k.comes_late x number answer m s refl call session (was y (Told number answer) wake s false gone) e)
     (λ there e. by_purpose H J k x s m m.call.purpose answer
-    (record { number = number; heard = refl; call = call; session = session; present = was y (Told number answer) wake s true there; bare = bare }) refl e) f) g) h where
+    (record { number = number; heard = refl; call = call; session = session; present = was y (Told number answer) wake s true there; bare = bare.0; ungranted = bare.1; unended = bare.2 }) refl e) f) g) h where
       was : (y : Step) (i : Input) → y.input ≡ Wake → (s : Session) (b : Bool) → is_present (seen y) s ≡ b → is_present (seen (with_input Wake (with_input i y))) s ≡ b
       was y i wake s b is = subst (λ z. is_present (seen (with_input z y)) s ≡ b) wake is
 
 -- ---- a step, and a trace
 
-heeds_as_expected : (H J : Step → Type 0) → AnswerActs H J → (y : Step) (i : Input) → y.input ≡ Wake → y.effects.calls ≡ [] → Expects y i → (number : ℕ) (answer : Answer) → i ≡ Told number answer
+heeds_as_expected : (H J : Step → Type 0) → AnswerActs H J → (y : Step) (i : Input) → y.input ≡ Wake → IsUnused y → Expects y i → (number : ℕ) (answer : Answer) → i ≡ Told number answer
     → J y → J (take_input i y)
 heeds_as_expected H J k y i wake bare expected number answer is h =
-    subst (λ z. J (take_input z y)) (sym is) (answer_heeded H J k y number answer wake bare (k.hears y number answer wake bare (subst (λ z. Expects y z) is expected) h))
+    subst (λ z. J (take_input z y)) (sym is) (answer_heeded H J k y number answer wake bare (k.hears y number answer wake bare.0 (subst (λ z. Expects y z) is expected) h))
 
 -- A step at an input that is expected comes back to what held before it, where each act does, and an answer's by way of its being heard.
 pub step_heeds : (H J : Step → Type 0) → OtherActs J → AnswerActs H J → (st : Setting) (past : Trace) (now : ℕ) (i : Input) → IsTrue (is_expected st past i)
@@ -189,4 +190,4 @@ step_heeds H J others answers st past now i expected h =
     let bare = bare_at_input st past now in
     let there : Expects (at_input st past now) i = expected_there st past now i expected in
     step_by J others st past now i (heeds_as_expected H J answers (at_input st past now) i bare.0 bare.1 there)
-    (arrives_as_expected J others (at_input st past now) i bare.0 bare.1 there) h
+    (arrives_as_expected J others (at_input st past now) i bare.0 bare.1.0 there) h

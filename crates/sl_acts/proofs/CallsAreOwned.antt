@@ -117,7 +117,7 @@ starts_owned : (st : Setting) (past : Trace) (e : Entry) → FollowsTrace st pas
 starts_owned st past e follows h =
     let d : Step = begin_recoveries (begin_step st past e.reading) in
     let f : Fixed st past e.reading d = fixed_first st past e.reading in (
-      (λ c there. absurd (contains_none c (subst (λ cs. Contains cs c) (begun_bare st past e.reading).1 there))),
+      (λ c there. absurd (contains_none c (subst (λ cs. Contains cs c) (begun_bare st past e.reading).1.0 there))),
       subst (λ z. AllOwned z d.past) (sym f.setting) (subst (λ es. AllOwned st es) (sym f.before) h),
     )
 

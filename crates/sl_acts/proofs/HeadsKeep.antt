@@ -23,17 +23,21 @@ use Rattle.std.proofs.Common.{ap, append-nil, arith, inl, inr, refl, subst, sym,
 use Rattle.std.proofs.lemmas.List.{append-nil}
 use Rattle.std.specs.Prelude.{Bool, Contains, List, None, Option, Some, cond, false, filter, is_none, is_some, length, not, option_map, true, [], ℕ, ◌&&◌, ◌++◌, ◌+◌, ◌==◌, ◌∷◌, ◌≡◌, ◌≤◌}
 
--- Before the input: a wake, and no call yet.
+-- Nothing has been called, granted or ended.
+abbrev pub IsUnused : Step → Type 0
+IsUnused z = (z.effects.calls ≡ []) × (z.effects.grants ≡ []) × (z.effects.ends ≡ [])
+
+-- Before the input: a wake, and nothing of what only comes after it.
 pub record AtHead (I : Step → Type 0) (x y : Step) : Type 0 where
   pub kept : I y
   pub stays : Stays x y
-  pub bare : y.effects.calls ≡ []
+  pub bare : IsUnused y
 
 -- ---- kills
 
 record Quiet (x y : Step) : Type 0 where
   stays : Stays x y
-  bare : y.effects.calls ≡ []
+  bare : IsUnused y
 
 kill_one : (I : Step → Type 0) → OtherActs I → (x : Step) (s : Session) → Has x s → (y : Step) → AtHead I x y → AtHead I x (kill_holders s y)
 unfolding kill_holders
@@ -44,7 +48,7 @@ kill_one I k x s has y h =
     (record { stays = f.stays; bare = f.bare }) in
     record { kept = k.kills y s (f.stays.sessions s has) is f.kept; stays = more.stays; bare = more.bare })) h
 
-pub kills_keep : (I : Step → Type 0) → OtherActs I → (x : Step) → x.effects.calls ≡ [] → I x → AtHead I x (kills x)
+pub kills_keep : (I : Step → Type 0) → OtherActs I → (x : Step) → IsUnused x → I x → AtHead I x (kills x)
 unfolding kills
 kills_keep I k x bare h =
     for_each_keeps (AtHead I x) (present_sessions x.setting (seen x)) kill_holders x (λ s there. kill_one I k x s (present_has x s there)) (record { kept = h; stays = itself x; bare = bare })
@@ -75,13 +79,13 @@ others_run y j n r other =
     (ap (λ o. is_none (elim (reply_to y.past n) as (λ z. Option Replied) [ Some q ↦ Some q | None ↦ option_map (λ (a : JobReply). record { at = length y.past; reply = a.reply }) o ]))
     (found_more y.effects.replies (record { job = j; reply = r }) n other))
 
-refuse_bare : (y : Step) (j : ℕ) (r : Reply) → y.effects.calls ≡ [] → (refuse j r y).effects.calls ≡ []
+refuse_bare : (y : Step) (j : ℕ) (r : Reply) → IsUnused y → IsUnused (refuse j r y)
 unfolding refuse
 refuse_bare y j r bare =
-    with_some_keeps (λ z. z.effects.calls ≡ []) (session_of_job y.setting (seen y) j) remove_of_refused (add_reply j r y)
-    (λ s is h. when_keeps (λ z. z.effects.calls ≡ []) (is_some (refused_after (seen (add_reply j r y)) s) && not (has_open_write (seen (add_reply j r y)) s))
+    with_some_keeps IsUnused (session_of_job y.setting (seen y) j) remove_of_refused (add_reply j r y)
+    (λ s is h. when_keeps IsUnused (is_some (refused_after (seen (add_reply j r y)) s) && not (has_open_write (seen (add_reply j r y)) s))
     (remove_connection s.lockspace) (add_reply j r y)
-    (λ gone g. when_keeps (λ z. z.effects.calls ≡ []) (is_registered y.setting (seen (add_reply j r y)) s.lockspace) (add_move (Unregister s.lockspace)) (add_reply j r y) (λ up f. f) g) h) bare
+    (λ gone g. when_keeps IsUnused (is_registered y.setting (seen (add_reply j r y)) s.lockspace) (add_move (Unregister s.lockspace)) (add_reply j r y) (λ up f. f) g) h) bare
 
 refused_left : (I : Step → Type 0) → OtherActs I → (x : Step) → x.input ≡ Wake → (j : Job) (rest : List Job) (y : Step) → Left I x (j ∷ rest) y → (m : Submitted) → waiting_call (seen y) j.number ≡ Some m
     → is_overdue y.setting y.reading m ≡ true → Left I x rest (refuse j.number (IoTimeout m.call.number m.reading y.reading) y)
@@ -89,7 +93,7 @@ refused_left I k x wake j rest y h m waits late =
     let r : Reply = IoTimeout m.call.number m.reading y.reading in
     record {
       head = record {
-        kept = k.times_out y j.number m (h.head.stays.input ∙ wake) h.head.bare (h.running j (contains_first j rest)) waits late h.head.kept;
+        kept = k.times_out y j.number m (h.head.stays.input ∙ wake) h.head.bare.0 (h.running j (contains_first j rest)) waits late h.head.kept;
         stays = refused_stays x y j.number r h.head.stays;
         bare = refuse_bare y j.number r h.head.bare;
       };

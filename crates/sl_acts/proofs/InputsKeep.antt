@@ -1,5 +1,6 @@
 -- An input keeps what the acts keep.
 use Rattle.sl_acts.proofs.Additions.{not_is}
+use Rattle.sl_acts.proofs.HeadsKeep.{IsUnused}
 use Rattle.sl_acts.proofs.LoopsKeep.{for_each_keeps, when_keeps, with_some_keeps}
 use Rattle.sl_acts.proofs.SessionsStay.{Stays, call_stays, itself, reply_stays}
 use Rattle.sl_acts.specs.Acts.{Has, Hears, IsKept, OtherActs, lone_job}
@@ -173,14 +174,14 @@ answer_of_keeps I k x s m (ValueRead j) answer hears is h =
     job_keeps I k x s m j answer hears (ap (λ p. lone_job p) is) (λ bytes. after_value_read j bytes) (λ y. y)
     (λ bytes heard runs g. k.tells x s m j bytes heard is runs g) (λ heard runs g. g) h
 
-pub told_keeps : (I : Step → Type 0) → IsKept I → (x : Step) (was : Session → Bool) (number : ℕ) (answer : Answer) → x.input ≡ Told number answer → x.effects.calls ≡ []
+pub told_keeps : (I : Step → Type 0) → IsKept I → (x : Step) (was : Session → Bool) (number : ℕ) (answer : Answer) → x.input ≡ Told number answer → IsUnused x
     → ((s : Session) → was s ≡ true → is_present (seen (with_input Wake x)) s ≡ true) → I x → I (after_answer was number answer x)
 unfolding after_answer
 told_keeps I k x was number answer heard bare before h =
     with_some_keeps I (call_numbered (seen x) number) (λ m. with_some (session_numbered x.setting (seen x) m.call.session) (λ s. when (was s) (after_answer_of s m m.call.purpose answer))) x
     (λ m call g. with_some_keeps I (session_numbered x.setting (seen x) m.call.session) (λ s. when (was s) (after_answer_of s m m.call.purpose answer)) x
     (λ s session f. when_keeps I (was s) (after_answer_of s m m.call.purpose answer) x
-    (λ there e. answer_of_keeps I k x s m m.call.purpose answer (record { number = number; heard = heard; call = call; session = session; present = before s there; bare = bare }) refl e) f) g) h
+    (λ there e. answer_of_keeps I k x s m m.call.purpose answer (record { number = number; heard = heard; call = call; session = session; present = before s there; bare = bare.0; ungranted = bare.1; unended = bare.2 }) refl e) f) g) h
 
 -- ---- exits and starts
 
@@ -226,7 +227,7 @@ others_keep I k x (Exit p) wake bare answers arrives h = exit_by I k x p wake ba
 others_keep I k x (Spawned p ok) wake bare answers arrives h = started_keeps I k (with_input (Spawned p ok) x) p ok refl arrives
 others_keep I k x Wake wake bare answers arrives h = h
 
-pub answer_keeps : (I : Step → Type 0) → IsKept I → (x : Step) (number : ℕ) (answer : Answer) → x.input ≡ Wake → x.effects.calls ≡ [] → I (with_input (Told number answer) x)
+pub answer_keeps : (I : Step → Type 0) → IsKept I → (x : Step) (number : ℕ) (answer : Answer) → x.input ≡ Wake → IsUnused x → I (with_input (Told number answer) x)
     → I (take_input (Told number answer) x)
 unfolding take_input
 answer_keeps I k x number answer wake bare heard = told_keeps I k (with_input (Told number answer) x) (is_present (seen x)) number answer refl bare (was_there x (Told number answer) wake) heard

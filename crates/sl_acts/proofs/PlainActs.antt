@@ -142,7 +142,7 @@ plain_acts K q =
       warns = λ x s m bytes g signal hears is held own says h. sent K p x g.process signal h;
       joins_in_time = λ x s j has wake is runs h. delta K p x s has _ h;
       renews = λ x s has wake joined h. delta K p x s has _ h;
-      settles = λ x s at has wake active none h. lease K p x s has at _ _ h;
+      settles = λ x s at has wake active begins none h. lease K p x s has at _ _ h;
       parts = λ x s has joined recovers free quiet h. removal K p x s.lockspace h;
       frees = λ x s has joined well free quiet h. delta K p x s has _ h;
     }

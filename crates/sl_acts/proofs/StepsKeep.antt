@@ -1,6 +1,6 @@
 -- A step keeps whatever each of its acts keeps; and so what it is made of stays: its setting, the entries before it, its reading.
 use Rattle.sl_acts.proofs.EffectsKeep.{stopped}
-use Rattle.sl_acts.proofs.HeadsKeep.{AtHead, kills_keep, time_outs_keep}
+use Rattle.sl_acts.proofs.HeadsKeep.{AtHead, IsUnused, kills_keep, time_outs_keep}
 use Rattle.sl_acts.proofs.InputsKeep.{Arrives, answer_keeps, other_acts, others_keep}
 use Rattle.sl_acts.proofs.LoopsKeep.{for_each_keeps, when_keeps}
 use Rattle.sl_acts.proofs.PlainActs.{anything_is_kept, plain_acts}
@@ -30,7 +30,7 @@ use Rattle.std.specs.Prelude.{Bool, IsTrue, List, None, Option, Some, filter, no
 -- ---- before the input
 
 abbrev IsBare : Step → Type 0
-IsBare z = (z.input ≡ Wake) × (z.effects.calls ≡ [])
+IsBare z = (z.input ≡ Wake) × IsUnused z
 
 abbrev not_kept : Option ℕ → Job → Bool
 not_kept kept j = not (some_is (λ n. n == j.number) kept)
@@ -50,11 +50,11 @@ recovery_bare s y h =
     (λ j. add_reply j.number (Recovering (last_renewal z.setting (seen z) s))) z (λ j there w g. g)
     (for_each_keeps IsBare (holders_of (seen y) s) (λ p. send p Term) y (λ p there w g. told_bare w p (stopper_of w.setting (seen w) p) g) f)) h
 
--- Once the recoveries have begun there is still no input and no call.
+-- Once the recoveries have begun there is still no input, and nothing is called, granted or ended.
 pub begun_bare : (st : Setting) (past : Trace) (now : ℕ) → IsBare (begin_recoveries (begin_step st past now))
 unfolding begin_recoveries
 begun_bare st past now =
-    for_each_keeps IsBare (present_sessions st (seen (begin_step st past now))) begin_recovery (begin_step st past now) (λ s there y h. recovery_bare s y h) (refl, refl)
+    for_each_keeps IsBare (present_sessions st (seen (begin_step st past now))) begin_recovery (begin_step st past now) (λ s there y h. recovery_bare s y h) (refl, (refl, refl, refl))
 
 -- The step as the input finds it.
 abbrev pub at_input : Setting → Trace → ℕ → Step
@@ -92,7 +92,7 @@ unfolding due_step before_input
 step_by I k st past now i answers arrives h =
     let kept : I (at_input st past now) = (head_keeps I k st past now h).kept in
     let bare = bare_at_input st past now in
-    after_keeps I k (at_input st past now) i bare.0 bare.1 (λ number answer is. answers number answer is kept) (arrives kept) kept
+    after_keeps I k (at_input st past now) i bare.0 bare.1.0 (λ number answer is. answers number answer is kept) (arrives kept) kept
 
 -- ---- what each effect keeps
 
@@ -104,17 +104,17 @@ plainly_arrives K p y (Number text) wake bare h = tt
 plainly_arrives K p y (Exit n) wake bare h = tt
 plainly_arrives K p y Wake wake bare h = tt
 
-plainly_answers : (K : Step → Type 0) → Plainly K → (y : Step) (i : Input) → y.input ≡ Wake → y.effects.calls ≡ [] → (number : ℕ) (answer : Answer) → i ≡ Told number answer → K y
+plainly_answers : (K : Step → Type 0) → Plainly K → (y : Step) (i : Input) → y.input ≡ Wake → IsUnused y → (number : ℕ) (answer : Answer) → i ≡ Told number answer → K y
     → K (take_input i y)
 plainly_answers K p y i wake bare number answer is h =
-    subst (λ z. K (take_input z y)) (sym is) (answer_keeps K (plain_acts K p) y number answer wake bare (p.inputs y (Told number answer) wake bare h))
+    subst (λ z. K (take_input z y)) (sym is) (answer_keeps K (plain_acts K p) y number answer wake bare (p.inputs y (Told number answer) wake bare.0 h))
 
 -- What each single effect keeps is kept by a step, expected or not.
 pub plain_step_keeps : (K : Step → Type 0) → Plainly K → (st : Setting) (past : Trace) (now : ℕ) (i : Input) → K (begin_recoveries (begin_step st past now)) → K (due_step st past now i)
 plain_step_keeps K p st past now i h =
     let bare = bare_at_input st past now in
     step_by K (other_acts K (plain_acts K p)) st past now i (plainly_answers K p (at_input st past now) i bare.0 bare.1)
-    (plainly_arrives K p (at_input st past now) i bare.0 bare.1) h
+    (plainly_arrives K p (at_input st past now) i bare.0 bare.1.0) h
 
 -- ---- what a step is made of stays
 
@@ -173,10 +173,10 @@ arrives_as_expected I k y (Number text) wake bare expected h = tt
 arrives_as_expected I k y (Exit p) wake bare expected h = tt
 arrives_as_expected I k y Wake wake bare expected h = tt
 
-heard_as_expected : (I : Step → Type 0) → IsKept I → (y : Step) (i : Input) → y.input ≡ Wake → y.effects.calls ≡ [] → Expects y i → (number : ℕ) (answer : Answer) → i ≡ Told number answer → I y
+heard_as_expected : (I : Step → Type 0) → IsKept I → (y : Step) (i : Input) → y.input ≡ Wake → IsUnused y → Expects y i → (number : ℕ) (answer : Answer) → i ≡ Told number answer → I y
     → I (take_input i y)
 heard_as_expected I k y i wake bare expected number answer is h =
-    subst (λ z. I (take_input z y)) (sym is) (answer_keeps I k y number answer wake bare (k.hears y number answer wake bare (subst (λ z. Expects y z) is expected) h))
+    subst (λ z. I (take_input z y)) (sym is) (answer_keeps I k y number answer wake bare (k.hears y number answer wake bare.0 (subst (λ z. Expects y z) is expected) h))
 
 -- A step at an input that is expected keeps whatever each of its acts keeps.
 pub step_keeps : (I : Step → Type 0) → IsKept I → (st : Setting) (past : Trace) (now : ℕ) (i : Input) → IsTrue (is_expected st past i) → I (begin_recoveries (begin_step st past now))
@@ -185,4 +185,4 @@ step_keeps I k st past now i expected h =
     let bare = bare_at_input st past now in
     let there : Expects (at_input st past now) i = expected_there st past now i expected in
     step_by I (other_acts I k) st past now i (heard_as_expected I k (at_input st past now) i bare.0 bare.1 there)
-    (arrives_as_expected I (other_acts I k) (at_input st past now) i bare.0 bare.1 there) h
+    (arrives_as_expected I (other_acts I k) (at_input st past now) i bare.0 bare.1.0 there) h

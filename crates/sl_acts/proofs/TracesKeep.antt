@@ -1,4 +1,5 @@
 -- A step has its input at its end, so it is then the trace with the entry that is due; and what steps keep is true of each trace of them.
+use Rattle.sl_acts.proofs.HeadsKeep.{IsUnused}
 use Rattle.sl_acts.proofs.AnswersAreHeeded.{step_heeds}
 use Rattle.sl_acts.proofs.DecisionsAreTheirs.{Of}
 use Rattle.sl_acts.proofs.InputsKeep.{other_acts, started_keeps, told_keeps, was_there}
@@ -83,9 +84,9 @@ exit_by x p =
     when_keeps (λ z. z.input ≡ Exit p) (not (p == no_process)) (λ y. refuse_jobs_of p (leave_holdings p y)) (with_input (Exit p) x)
     (λ one h. exited (λ z. z.input ≡ Exit p) (input_effects (Exit p)) (leave_holdings p (with_input (Exit p) x)) p (left (λ z. z.input ≡ Exit p) (input_effects (Exit p)) (with_input (Exit p) x) p h)) refl
 
-taken : (x : Step) (i : Input) → x.input ≡ Wake → x.effects.calls ≡ [] → (take_input i x).input ≡ i
+taken : (x : Step) (i : Input) → x.input ≡ Wake → IsUnused x → (take_input i x).input ≡ i
 unfolding take_input on_line
-taken x (Line text) wake bare = read_by x text bare (x.setting.read text)
+taken x (Line text) wake bare = read_by x text bare.0 (x.setting.read text)
 taken x (Number text) wake bare = refl
 taken x (Told n a) wake bare =
     told_keeps (λ z. z.input ≡ Told n a) (plain_acts (λ z. z.input ≡ Told n a) (input_plainly (Told n a) told_no_wake)) (with_input (Told n a) x) (is_present (seen x)) n a refl bare
@@ -95,7 +96,7 @@ taken x (Spawned p ok) wake bare =
     started_keeps (λ z. z.input ≡ Spawned p ok) (other_acts (λ z. z.input ≡ Spawned p ok) (plain_acts (λ z. z.input ≡ Spawned p ok) (input_plainly (Spawned p ok) started_no_wake))) (with_input (Spawned p ok) x) p ok refl refl
 taken x Wake wake bare = wake
 
-after : (x : Step) (i : Input) → x.input ≡ Wake → x.effects.calls ≡ [] → (after_input i (take_input i x)).input ≡ i
+after : (x : Step) (i : Input) → x.input ≡ Wake → IsUnused x → (after_input i (take_input i x)).input ≡ i
 unfolding after_input take_input
 after x Wake wake bare = last_input (λ z. Unit {0}) (other_acts (λ z. Unit {0}) anything_is_kept) (on_wake x) tt ∙ wake_input (λ z. Unit {0}) (other_acts (λ z. Unit {0}) anything_is_kept) x wake tt
 after x (Line text) wake bare = last_input (λ z. Unit {0}) (other_acts (λ z. Unit {0}) anything_is_kept) (take_input (Line text) x) tt ∙ taken x (Line text) wake bare

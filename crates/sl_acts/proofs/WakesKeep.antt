@@ -10,14 +10,15 @@ use Rattle.sl_due.specs.DueRequests.{bits_due}
 use Rattle.sl_due.specs.DueWake.{end_if_done, finish, finish_session, for_sessions, free_if_done, join_on_wake, on_wake, renew_on_wake, settle_on_wake, settlings}
 use Rattle.sl_due.specs.Steps.{Step, for_each, seen, when}
 use Rattle.sl_leases.specs.LeaseWork.{lease_place, settle_next}
-use Rattle.sl_leases.specs.Leases.{known, lease_spots, open_on}
+use Rattle.sl_leases.specs.Leases.{is_lease_call, is_spot_before, known, lease_spots, open_on, spot_of_call, spots_in, with_spot}
 use Rattle.sl_leases.specs.declared.lease.LeaseNext.TheVariants.{AnswerJob, BecomeExclusive, BecomeShared, GrantJob, Nothing, ReadFor, WriteBlock, WriteLeader}
 use Rattle.sl_leases.specs.declared.lease.LeaseNext.{LeaseNext}
 use Rattle.sl_plain.proofs.Lists.{contains_cases, contains_first, contains_more, contains_none, kept_inside}
 use Rattle.sl_sessions.specs.Deltas.{delta_known, delta_of_session, next_free, next_on_wake, next_renewal}
 use Rattle.sl_sessions.specs.Sessions.{calls_of, has_open_write, holdings_of, is_active, is_joined, is_present, open_calls_of, present_sessions, recovery_of, session_numbered, sessions}
 use Rattle.sl_sessions.specs.declared.session.Session.{Session}
-use Rattle.sl_trace.specs.Traces.{is_running}
+use Rattle.sl_area.specs.Layouts.{Layout}
+use Rattle.sl_trace.specs.Traces.{Setting, Submitted, is_running, same_spot}
 use Rattle.sl_trace.specs.declared.effects.LeaseStep.TheVariants.{ReadArea, ReadBeforeFree}
 use Rattle.sl_trace.specs.declared.effects.Spot.{Spot}
 use Rattle.sl_trace.specs.declared.effects.Work.TheVariants.{Settling}
@@ -27,8 +28,11 @@ use Rattle.sl_words.proofs.CaseLaws.{false_is_true}
 use Rattle.sl_words.proofs.WordLaws.{and_true}
 use Rattle.sl_words.specs.Orders.{in_order, is_text_before, put_in}
 use Rattle.sl_words.specs.Words.{is_empty}
-use Rattle.std.proofs.Common.{ap, inl, inr, refl, subst, ◌∙◌}
-use Rattle.std.specs.Prelude.{Bool, Contains, List, false, filter, fold, if◌then◌else◌, is_some, not, true, [], ◌&&◌, ◌∷◌, ◌≡◌, ◌⊎◌}
+use Rattle.std.proofs.Common.{ap, arith, inl, inr, refl, subst, sym, ◌∙◌}
+use Rattle.std.proofs.Math.Nat.{mul-mod_left}
+use Rattle.std.proofs.lemmas.Nat.{div-add-mod'}
+use Rattle.std.specs.List.{list_any}
+use Rattle.std.specs.Prelude.{Bool, Contains, List, false, filter, fold, if◌then◌else◌, is_some, not, true, [], ℕ, ◌%◌, ◌&&◌, ◌*◌, ◌+◌, ◌-◌, ◌/◌, ◌∷◌, ◌≡◌, ◌⊎◌}
 
 -- A step that has come on from another, with what is kept.
 abbrev Since : (Step → Type 0) → Step → Step → Type 0
@@ -58,9 +62,9 @@ renews_then I k x s has wake y h =
       delta_stays x y s (next_renewal (delta_of_session y.setting s) y.reading (delta_known y.setting (seen y) s) (bits_due y.setting (calls_of (seen y) s) y.reading)) f.1,
     )) h
 
--- A settling changes nothing of the session's state.
-abbrev Active : (Step → Type 0) → Step → Session → Step → Type 0
-Active I x s y = Since I x y × (is_active y.setting (seen y) s ≡ true)
+-- A settling changes nothing of the session's state, and nothing of the setting.
+abbrev Active : (Step → Type 0) → Setting → Step → Session → Step → Type 0
+Active I st x s y = Since I x y × (is_active y.setting (seen y) s ≡ true) × (y.setting ≡ st)
 
 still_active : (s : Session) (at : Spot) (n : LeaseNext) (z : Step) → is_active z.setting (seen z) s ≡ true → is_active (carry_lease s at Settling n z).setting (seen (carry_lease s at Settling n z)) s ≡ true
 unfolding carry_lease
@@ -75,23 +79,69 @@ still_active s at (GrantJob mode lver) z h = h
 still_active s at (BecomeShared lver l) z h = h
 still_active s at (BecomeExclusive lver b) z h = h
 
-settles_one : (I : Step → Type 0) → OtherActs I → (x : Step) (s : Session) → Has x s → x.input ≡ Wake → (at : Spot) (z : Step) → Active I x s z → Active I x s (settle_on_wake s at z)
+same_setting : (s : Session) (at : Spot) (n : LeaseNext) (z : Step) → (carry_lease s at Settling n z).setting ≡ z.setting
+unfolding carry_lease
+same_setting s at Nothing z = refl
+same_setting s at (ReadFor (ReadArea name)) z = refl
+same_setting s at (ReadFor ReadBeforeFree) z = refl
+same_setting s at (ReadFor step) z = refl
+same_setting s at (WriteBlock step b) z = refl
+same_setting s at (WriteLeader step l) z = refl
+same_setting s at (AnswerJob r) z = refl
+same_setting s at (GrantJob mode lver) z = refl
+same_setting s at (BecomeShared lver l) z = refl
+same_setting s at (BecomeExclusive lver b) z = refl
+
+from_put : {A : Type 0} (before : A → A → Bool) (x : A) (ys : List A) (d : A) → Contains (put_in before x ys) d → (x ≡ d) ⊎ Contains ys d
+from_put before x [] d there = contains_cases x [] d there
+from_put {A} before x (y ∷ ys) d there = by (before x y) there (λ deeper. from_put before x ys d deeper) where
+  under : (Contains (put_in before x ys) d → (x ≡ d) ⊎ Contains ys d) → (y ≡ d) ⊎ Contains (put_in before x ys) d → (x ≡ d) ⊎ Contains (y ∷ ys) d
+  under rest (inl is) = inr (subst (λ z. Contains (y ∷ ys) z) is (contains_first y ys))
+  under rest (inr deeper) = elim (rest deeper) [ inl is ↦ inl is | inr old ↦ inr (contains_more y ys d old) ]
+
+  by : (b : Bool) → Contains (if b then x ∷ y ∷ ys else y ∷ put_in before x ys) d → (Contains (put_in before x ys) d → (x ≡ d) ⊎ Contains ys d) → (x ≡ d) ⊎ Contains (y ∷ ys) d
+  by true there rest = contains_cases x (y ∷ ys) d there
+  by false there rest = under rest (contains_cases y (put_in before x ys) d there)
+
+from_spot : (at : Spot) (spots : List Spot) (d : Spot) → Contains (with_spot at spots) d → (at ≡ d) ⊎ Contains spots d
+from_spot at spots d there = by (list_any (same_spot at) spots) there where
+  by : (b : Bool) → Contains (if b then spots else put_in is_spot_before at spots) d → (at ≡ d) ⊎ Contains spots d
+  by true there = inr there
+  by false there = from_put is_spot_before at spots d there
+
+-- The areas of leases begin where areas begin.
+begins_at : (n d : ℕ) → (n - n % d) % d ≡ 0
+begins_at n d = let whole : n - n % d ≡ n / d * d = left (n / d * d) (n % d) n (div-add-mod' n d) in ap (λ k. k % d) whole ∙ mul-mod_left (n / d) d where
+  left : (a b c : ℕ) → a + b ≡ c → c - b ≡ a
+  left a b c is = omega (arith, is)
+
+all_begin : (g : Layout) (ms : List Submitted) (at : Spot) → Contains (spots_in g ms) at → at.base % g.area ≡ 0
+all_begin g [] at there = absurd (contains_none at there)
+all_begin g (m ∷ ms) at there = by (is_lease_call m) there (λ deeper. all_begin g ms at deeper) where
+  by : (b : Bool) → Contains (elim b as (λ z. List Spot) [ false ↦ spots_in g ms | true ↦ with_spot (spot_of_call g m) (spots_in g ms) ]) at → (Contains (spots_in g ms) at → at.base % g.area ≡ 0)
+      → at.base % g.area ≡ 0
+  by false there rest = rest there
+  by true there rest = elim (from_spot (spot_of_call g m) (spots_in g ms) at there) [ inl is ↦ subst (λ z. z.base % g.area ≡ 0) is (begins_at m.call.offset g.area) | inr old ↦ rest old ]
+
+settles_one : (I : Step → Type 0) → OtherActs I → (st : Setting) (x : Step) (s : Session) → Has x s → x.input ≡ Wake → (at : Spot) → at.base % st.layout.area ≡ 0 → (z : Step) → Active I st x s z → Active I st x s (settle_on_wake s at z)
 unfolding settle_on_wake settle
-settles_one I k x s has wake at z g =
-    when_keeps (Active I x s) (is_empty (open_on z.setting (seen z) at)) (λ w. carry_lease s at Settling (settle_next (lease_place w.setting s) (known w.setting (seen w) s at)) w) z
+settles_one I k st x s has wake at begins z g =
+    when_keeps (Active I st x s) (is_empty (open_on z.setting (seen z) at)) (λ w. carry_lease s at Settling (settle_next (lease_place w.setting s) (known w.setting (seen w) s at)) w) z
     (λ none f. (
       (
-        k.settles z s at (f.0.1.sessions s has) (f.0.1.input ∙ wake) f.1 (empty_is (open_on z.setting (seen z) at) none) f.0.0,
+        k.settles z s at (f.0.1.sessions s has) (f.0.1.input ∙ wake) f.1 (subst (λ w. at.base % w.layout.area ≡ 0) (sym f.2) begins) (empty_is (open_on z.setting (seen z) at) none) f.0.0,
         lease_stays x z s at Settling (settle_next (lease_place z.setting s) (known z.setting (seen z) s at)) f.0.1,
       ),
       still_active s at (settle_next (lease_place z.setting s) (known z.setting (seen z) s at)) z f.1,
+      same_setting s at (settle_next (lease_place z.setting s) (known z.setting (seen z) s at)) z ∙ f.2,
     )) g
 
 settles_then : (I : Step → Type 0) → OtherActs I → (x : Step) (s : Session) → Has x s → x.input ≡ Wake → (y : Step) → Since I x y → Since I x (settlings s y)
 unfolding settlings settle_on_wake settle
 settles_then I k x s has wake y h =
     when_keeps (Since I x) (is_active y.setting (seen y) s) (for_each (lease_spots y.setting (seen y) s) (settle_on_wake s)) y
-    (λ active f. (for_each_keeps (Active I x s) (lease_spots y.setting (seen y) s) (settle_on_wake s) y (λ at there z g. settles_one I k x s has wake at z g) (f, active)).0) h
+    (λ active f. (for_each_keeps (Active I y.setting x s) (lease_spots y.setting (seen y) s) (settle_on_wake s) y
+    (λ at there z g. settles_one I k y.setting x s has wake at (all_begin y.setting.layout (calls_of (seen y) s) at there) z g) (f, active, refl)).0) h
 
 by_recovery : (I : Step → Type 0) → OtherActs I → (x : Step) (s : Session) → Has x s → (y : Step) → is_joined (seen y) s ≡ true → (b : Bool) → is_some (recovery_of y.setting (seen y) s) ≡ b → Since I x y
     → Since I x (elim b as (λ z. Step) [ true ↦ end_if_done s y | false ↦ free_if_done s y ])
@@ -116,17 +166,6 @@ parts_then I k x s has y h =
     (λ joined f. by_recovery I k x s has y joined (is_some (recovery_of y.setting (seen y) s)) refl f) h
 
 -- ---- the passes
-
-from_put : {A : Type 0} (before : A → A → Bool) (x : A) (ys : List A) (d : A) → Contains (put_in before x ys) d → (x ≡ d) ⊎ Contains ys d
-from_put before x [] d there = contains_cases x [] d there
-from_put {A} before x (y ∷ ys) d there = by (before x y) there (λ deeper. from_put before x ys d deeper) where
-  under : (Contains (put_in before x ys) d → (x ≡ d) ⊎ Contains ys d) → (y ≡ d) ⊎ Contains (put_in before x ys) d → (x ≡ d) ⊎ Contains (y ∷ ys) d
-  under rest (inl is) = inr (subst (λ z. Contains (y ∷ ys) z) is (contains_first y ys))
-  under rest (inr deeper) = elim (rest deeper) [ inl is ↦ inl is | inr old ↦ inr (contains_more y ys d old) ]
-
-  by : (b : Bool) → Contains (if b then x ∷ y ∷ ys else y ∷ put_in before x ys) d → (Contains (put_in before x ys) d → (x ≡ d) ⊎ Contains ys d) → (x ≡ d) ⊎ Contains (y ∷ ys) d
-  by true there rest = contains_cases x (y ∷ ys) d there
-  by false there rest = under rest (contains_cases y (put_in before x ys) d there)
 
 from_order : {A : Type 0} (before : A → A → Bool) (xs sorted : List A) (d : A) → Contains (fold (λ ys x. put_in before x ys) sorted xs) d → Contains xs d ⊎ Contains sorted d
 from_order before [] sorted d there = inr there

@@ -34,7 +34,7 @@ use Rattle.sl_trace.specs.declared.input.Input.TheVariants.{Answer as Told, Exit
 use Rattle.sl_trace.specs.declared.input.Input.{Input}
 use Rattle.sl_trace.specs.declared.reply.Reply.TheVariants.{BadCommand as Misread, Done, IoFault, IoTimeout, SpawnFault}
 use Rattle.sl_trace.specs.declared.reply.Reply.{Reply}
-use Rattle.std.specs.Prelude.{Bool, Err, IsSome, IsTrue, List, None, Ok, Option, Some, false, is_some, true, [], ℕ, ◌==◌, ◌≡◌, ◌⊎◌}
+use Rattle.std.specs.Prelude.{Bool, Err, IsSome, IsTrue, List, None, Ok, Option, Some, false, is_some, true, [], ℕ, ◌%◌, ◌==◌, ◌≡◌, ◌⊎◌}
 
 -- The session is one of the trace so far.
 abbrev pub Has : Step → Session → Type 0
@@ -44,8 +44,8 @@ Has x s = session_numbered x.setting (seen x) s.number ≡ Some s
 abbrev pub Expects : Step → Input → Type 0
 Expects x i = IsTrue (is_expected x.setting x.past i)
 
--- The step's input answers this call of the session, as the trace so far has it; the session was present before it, and no call has been
--- made yet.
+-- The step's input answers this call of the session, as the trace so far has it; the session was present before it, and nothing has been
+-- called, granted or ended yet: so a call is answered by one act.
 pub record Hears (x : Step) (s : Session) (m : Submitted) (answer : Answer) : Type 0 where
   pub number : ℕ
   pub heard : x.input ≡ Told number answer
@@ -53,6 +53,8 @@ pub record Hears (x : Step) (s : Session) (m : Submitted) (answer : Answer) : Ty
   pub session : session_numbered x.setting (seen x) m.call.session ≡ Some s
   pub present : is_present (seen (with_input Wake x)) s ≡ true
   pub bare : x.effects.calls ≡ []
+  pub ungranted : x.effects.grants ≡ []
+  pub unended : x.effects.ends ≡ []
 
 -- The job of a call that is a job's only one at its area.
 abbrev pub lone_job : Purpose → Option ℕ
@@ -121,7 +123,7 @@ pub record Acts (I J : Step → Type 0) : Type 0 where
   pub renews : (x : Step) (s : Session) → Has x s → x.input ≡ Wake → is_joined (seen x) s ≡ true → I x →
       J (carry_delta s
       (next_renewal (delta_of_session x.setting s) x.reading (delta_known x.setting (seen x) s) (bits_due x.setting (calls_of (seen x) s) x.reading)) x)
-  pub settles : (x : Step) (s : Session) (at : Spot) → Has x s → x.input ≡ Wake → is_active x.setting (seen x) s ≡ true → open_on x.setting (seen x) at ≡ [] → I x →
+  pub settles : (x : Step) (s : Session) (at : Spot) → Has x s → x.input ≡ Wake → is_active x.setting (seen x) s ≡ true → at.base % x.setting.layout.area ≡ 0 → open_on x.setting (seen x) at ≡ [] → I x →
       J (carry_lease s at Settling (settle_next (lease_place x.setting s) (known x.setting (seen x) s at)) x)
   -- ---- last
   pub parts : (x : Step) (s : Session) → Has x s → is_joined (seen x) s ≡ true → is_some (recovery_of x.setting (seen x) s) ≡ true → holdings_of (seen x) s ≡ [] →
@@ -152,7 +154,7 @@ pub record OtherActs (J : Step → Type 0) : Type 0 where
   pub renews : (x : Step) (s : Session) → Has x s → x.input ≡ Wake → is_joined (seen x) s ≡ true → J x →
       J (carry_delta s
       (next_renewal (delta_of_session x.setting s) x.reading (delta_known x.setting (seen x) s) (bits_due x.setting (calls_of (seen x) s) x.reading)) x)
-  pub settles : (x : Step) (s : Session) (at : Spot) → Has x s → x.input ≡ Wake → is_active x.setting (seen x) s ≡ true → open_on x.setting (seen x) at ≡ [] → J x →
+  pub settles : (x : Step) (s : Session) (at : Spot) → Has x s → x.input ≡ Wake → is_active x.setting (seen x) s ≡ true → at.base % x.setting.layout.area ≡ 0 → open_on x.setting (seen x) at ≡ [] → J x →
       J (carry_lease s at Settling (settle_next (lease_place x.setting s) (known x.setting (seen x) s at)) x)
   pub parts : (x : Step) (s : Session) → Has x s → is_joined (seen x) s ≡ true → is_some (recovery_of x.setting (seen x) s) ≡ true → holdings_of (seen x) s ≡ [] →
       has_open_write (seen x) s ≡ false → J x → J (remove_connection s.lockspace x)

@@ -57,10 +57,12 @@ new_member_stands st s =
       joining = λ still. new_joining_stands;
       renewing = refl;
       leaving = refl;
-      bits = λ now. refl;
+      asked = λ now owner. refl;
+      turn = tt;
       seen = λ id. refl;
       spots = refl;
       leases = λ k l there. absurd (none_some l there);
+      valued = tt;
       values = λ k l there. absurd (none_some l there);
     }
 
@@ -78,6 +80,7 @@ new_host_keeps st room spare =
       entries = refl;
       calls = refl;
       lines = (let n : ℕ = st.first.job in omega arith);
+      replied = λ n above. refl;
       started = refl;
       born = how_many 0 st.given;
       numbered = refl;
@@ -86,6 +89,7 @@ new_host_keeps st room spare =
       members = members_stand st (given_sessions st);
       connected = names st.timing st.given;
       unanswered = refl;
+      single = tt;
       owned = tt;
       jobs = refl;
       holdings = refl;

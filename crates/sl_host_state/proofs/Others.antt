@@ -1,19 +1,19 @@
 -- Ends, signals and grants of a step change nothing that is asked of its calls, sessions and jobs. All questions but those on calls are
 -- the same by computation, and those on calls look at an entry's reading and replies alone.
-use Rattle.sl_due.specs.DueRequests.{bits_due}
+use Rattle.sl_due.specs.DueRequests.{is_asked}
 use Rattle.sl_due.specs.Steps.{Step, add_end, add_grant, add_signal, seen, with_effects}
 use Rattle.sl_host_state.specs.Effects.{EffectsAreTaken}
 use Rattle.sl_host_state.specs.Kept.{HostState, MemberState}
 use Rattle.sl_host_state.specs.Makes.{with_end, with_grant, with_signal}
-use Rattle.sl_host_state.specs.Stands.{JoinStands, Keeps, LeaseStands, MemberStands, Stands, Takes, kept_call, kept_waiting, newest_value}
+use Rattle.sl_host_state.specs.Stands.{AreInTurn, JoinStands, Keeps, LeaseStands, MemberStands, Stands, Takes, kept_call, kept_waiting, newest_value}
 use Rattle.sl_leases.specs.Counts.{values_on}
 use Rattle.sl_leases.specs.Jobs.{child_of_job, command_of}
-use Rattle.sl_leases.specs.Leases.{is_lease_call, is_on, spots_in}
+use Rattle.sl_leases.specs.Leases.{is_lease_call, is_on, spots_in, value_written}
 use Rattle.sl_sessions.specs.Sessions.{calls_of, ended_after, free_write, generation_in, is_call_of, is_delta_purpose, joined_after, leaving_job, recovery_of, renewal_in, seq_in, sessions}
 use Rattle.sl_sessions.specs.Watching.{sightings}
 use Rattle.sl_sessions.specs.declared.delta.DeltaKnown.{DeltaKnown}
 use Rattle.sl_sessions.specs.declared.session.Session.{Session}
-use Rattle.sl_trace.specs.Traces.{Submitted, Trace, holdings, is_ended_by, is_of_job, is_write, mark, new_call, running_jobs, same_place, submitted, unanswered}
+use Rattle.sl_trace.specs.Traces.{Submitted, Trace, children, holdings, is_ended_by, is_of_job, is_write, job_numbered, job_of, mark, new_call, running_jobs, same_place, submitted, unanswered}
 use Rattle.sl_trace.specs.declared.effects.Call.{Call}
 use Rattle.sl_trace.specs.declared.effects.Effects.{Effects}
 use Rattle.sl_trace.specs.declared.effects.End.{End}
@@ -25,8 +25,8 @@ use Rattle.sl_trace.specs.declared.input.Input.{Input}
 use Rattle.sl_words.specs.Orders.{in_order, is_text_before}
 use Rattle.std.proofs.Common.{ap, refl, subst, sym, ◌∙◌}
 use Rattle.std.proofs.lemmas.List.{append-nil, append_assoc}
-use Rattle.std.specs.List.{list_any, range_with_len}
-use Rattle.std.specs.Prelude.{Bool, List, cond, false, filter, find, fold, is_none, is_some, length, map, not, option_map, reverse, true, [], ℕ, ◌&&◌, ◌++◌, ◌+◌, ◌==◌, ◌||◌, ◌∷◌, ◌≡◌}
+use Rattle.std.specs.List.{AllByRecursion, list_any, range_with_len}
+use Rattle.std.specs.Prelude.{Bool, IsTrue, List, cond, false, filter, filter_map, find, fold, is_none, is_some, length, map, not, option_map, reverse, true, [], ℕ, ◌&&◌, ◌++◌, ◌+◌, ◌==◌, ◌||◌, ◌∷◌, ◌≡◌}
 
 -- A step with other ends, signals and grants.
 abbrev other : List End → List Sent → List Grant → Effects → Effects
@@ -77,13 +77,16 @@ module _ (es : List End) (ss : List Sent) (gs : List Grant) where
         joining = λ still. subst (λ ms. JoinStands m.joining ms) (sym own) (s.joining still);
         renewing = s.renewing;
         leaving = s.leaving;
-        bits = λ now. ap (λ ms. bits_due x.setting ms now) own ∙ s.bits now;
+        asked = λ now owner. ap (λ ms. is_asked x.setting ms now owner) own ∙ s.asked now owner;
+        turn = subst (λ ms. AreInTurn (filter (λ c. is_delta_purpose c.call.purpose) ms)) (sym own) s.turn;
         seen = λ id. ap (λ ms. sightings x.setting.layout id ms) own ∙ s.seen id;
         spots = ap (spots_in x.setting.layout) own ∙ s.spots;
         leases = λ k l there.
             subst
             (λ ms. LeaseStands x.setting.layout m.who.lockspace (record { id = m.who.id; generation = generation_in m.who ms }) l
             (filter (λ c. is_lease_call c && is_on x.setting.layout l.spot c.call) ms)) (sym own) (s.leases k l there);
+        valued = subst
+            (λ ms. AllByRecursion (λ d. IsTrue (is_none (value_written d) || list_any (λ l. is_on x.setting.layout l.spot d.call) m.leases)) ms) (sym own) s.valued;
         values = λ k l there. ap (λ ms. newest_value (values_on x.setting.layout l.spot ms)) own ∙ s.values k l there;
       }
 
@@ -95,6 +98,7 @@ module _ (es : List End) (ss : List Sent) (gs : List Grant) where
         entries = k.entries;
         calls = ap (λ ms. x.setting.first.call + length ms) (same_calls x) ∙ k.calls ∙ ap (λ n. h.first_call + n) many;
         lines = k.lines;
+        replied = k.replied;
         started = k.started;
         born = k.born;
         numbered = ap (λ (ms : List Submitted). map (λ m. m.call.number) ms) (same_calls x) ∙ k.numbered
@@ -108,7 +112,10 @@ module _ (es : List End) (ss : List Sent) (gs : List Grant) where
         members = λ n m there. member_otherwise x m (k.members n m there);
         connected = k.connected;
         unanswered = ap (λ ms. map kept_call (unanswered ms)) (same_calls x) ∙ k.unanswered;
-        owned = k.owned;
+        single = k.single;
+        owned = subst
+            (λ ms. AllByRecursion (λ j. IsTrue (is_some (job_numbered x.setting (seen x) j))) (filter_map (λ m. job_of m.call.purpose) ms ++ filter_map (λ c. c.job) (children (seen x))))
+            (sym (same_calls x)) k.owned;
         jobs = ap
             (λ ms. map
             (λ j. record { number = j.number; command = command_of j; child = child_of_job (seen x) j.number; waits = option_map kept_waiting (find (is_of_job j.number) (unanswered ms)) })

@@ -3,13 +3,14 @@
 use Rattle.sl_area.specs.Layouts.{Layout}
 use Rattle.sl_area.specs.Places.{area_blocks, blocks_in, leader_of, sector_of}
 use Rattle.sl_host_state.specs.Kept.{AskedAt, HostState, JobState, JoinCall, JoinState, LeaseState, MemberState, OpenCall, Rooms, TopNumber}
-use Rattle.sl_host_state.specs.Makes.{lowered}
+use Rattle.sl_host_state.specs.Makes.{has_write_open, lowered}
 use Rattle.sl_host_state.specs.Stands.{is_there, top_mbal}
 use Rattle.sl_leases.specs.Ballots.{is_ahead, same_owner, stop_of, value_of}
 use Rattle.sl_leases.specs.Leases.{is_leader_of, name_sought, shows_settled}
 use Rattle.sl_leases.specs.declared.lease.Stop.{Stop}
 use Rattle.sl_sector.specs.declared.sector.Block.{Block}
 use Rattle.sl_sector.specs.declared.sector.Owner.{Owner}
+use Rattle.sl_sessions.specs.Deltas.{join_step_of}
 use Rattle.sl_sessions.specs.Sessions.{is_delta_purpose, is_join_call, is_renewal, is_session_arg, is_survey_purpose, shows_other_in}
 use Rattle.sl_sessions.specs.declared.delta.DeltaKnown.{DeltaKnown}
 use Rattle.sl_sessions.specs.declared.session.Renewing.{Renewing}
@@ -32,7 +33,7 @@ use Rattle.sl_trace.specs.declared.reply.Reply.{Reply}
 use Rattle.sl_words.specs.Words.{choose, some_is}
 use Rattle.std.specs.List.{list_any}
 use Rattle.std.specs.Option.{option_map_or, option_or}
-use Rattle.std.specs.Prelude.{Bool, List, None, Option, Result, Some, cond, false, filter, find, is_some, length, map, nat_le, not, option_and_then, option_map, true, unwrap_or, [], ℕ, ◌&&◌, ◌++◌, ◌+◌, ◌-◌, ◌==◌, ◌∷◌}
+use Rattle.std.specs.Prelude.{Bool, List, None, Option, Result, Some, cond, false, filter, find, is_some, length, map, min, nat_le, not, option_and_then, option_map, true, unwrap_or, [], ℕ, ◌&&◌, ◌++◌, ◌+◌, ◌-◌, ◌==◌, ◌∷◌}
 
 -- ---- a step begins and ends
 
@@ -129,13 +130,21 @@ heard_number h = record h { next_job = h.next_job + 1 }
 abbrev pub children_after : Input → List Child → List Child
 children_after i ks = filter is_there (map (child_after i) ks)
 
+-- Whether a child of this number was to be started in this step: then no input of the step is about it.
+abbrev pub is_started_now : HostState → ℕ → Bool
+is_started_now h p = let fx : Effects = h.made in list_any (λ s. s.process == p) fx.starts
+
 -- A process has exited: a child of this number has, and its kill program goes.
 abbrev pub heard_exit : ℕ → HostState → HostState
-heard_exit p h = record h { children = children_after (Exit p) h.children; programs = without_program (Some p) h.programs }
+heard_exit p h =
+    record h {
+      children = cond (is_started_now h p) h.children (children_after (Exit p) h.children);
+      programs = without_program (Some p) h.programs;
+    }
 
 -- A start is answered.
 abbrev pub heard_start : ℕ → Bool → HostState → HostState
-heard_start p ok h = record h { children = children_after (Spawned p ok) h.children }
+heard_start p ok h = record h { children = cond (is_started_now h p) h.children (children_after (Spawned p ok) h.children) }
 
 -- ---- an answer, heard by its session
 
@@ -200,7 +209,7 @@ joining_hearing h c a j =
     record j {
       watched = cond (is_join_call FirstRead c.purpose) (bytes_given a) j.watched;
       since = cond (is_join_call FirstRead c.purpose) (Some h.reading) j.since;
-      newest = option_map (answered_at h.reading) j.newest;
+      newest = cond (is_some (join_step_of c.purpose)) (option_map (answered_at h.reading) j.newest) j.newest;
     }
 
 -- ---- an answer, heard by its lease
@@ -316,14 +325,29 @@ member_hearing h c a m =
 abbrev pub job_hearing : ℕ → JobState → JobState
 job_hearing number j = elim j.waits [ None ↦ j | Some w ↦ cond (w.number == number) (record j { waits = None }) j ]
 
+-- Whether a refused joining is over: no write of it but this is unanswered.
+abbrev pub is_over_with : ℕ → HostState → MemberState → Bool
+is_over_with number h m = m.refused && not (has_write_open (record h { unanswered = others number h }) m.who.number)
+
+-- The members after an answer.
+abbrev pub members_hearing : OpenCall → Answer → HostState → List MemberState
+members_hearing c a h =
+    filter (λ m. not (is_over_with c.number h m)) (map (λ m. cond (c.session == m.who.number) (member_hearing h c a m) m) h.members)
+
+-- Below which reading nothing is due after it: a recovery that begins has its kills, a renewal that counts a moment of its own.
+abbrev pub quiet_hearing : OpenCall → Answer → HostState → ℕ
+quiet_hearing c a h =
+    min (lowered (list_any (shows_other_by h c a) h.members) (h.reading + h.config.grace) h)
+    (lowered (is_renewal c.purpose) (c.reading + fail h.config.timing) h)
+
 -- The host that hears the answer to this call.
 abbrev pub hearing : OpenCall → Answer → HostState → HostState
 hearing c a h =
     record h {
       unanswered = others c.number h;
       jobs = map (job_hearing c.number) h.jobs;
-      members = map (λ m. cond (c.session == m.who.number) (member_hearing h c a m) m) h.members;
-      quiet_until = lowered (list_any (shows_other_by h c a) h.members) (h.reading + h.config.grace) h;
+      members = members_hearing c a h;
+      quiet_until = quiet_hearing c a h;
     }
 
 -- The answer to the call of this number.

@@ -9,6 +9,15 @@
 -- It is a member from the line's own step on, up to `gone`. What is still asked of a session that is gone is asked of other lists: of
 -- open calls (they keep its number, which no member has, so an answer does nothing) and of connections (they keep names, since a
 -- refused joining's connection is removed after it has gone).
+pub use Rattle.sl_host_state.specs.declared.kept.AskedAt.{AskedAt}
+pub use Rattle.sl_host_state.specs.declared.kept.JoinCall.{JoinCall}
+pub use Rattle.sl_host_state.specs.declared.kept.JobState.{JobState}
+pub use Rattle.sl_host_state.specs.declared.kept.LeaseCall.{LeaseCall}
+pub use Rattle.sl_host_state.specs.declared.kept.OpenCall.{OpenCall}
+pub use Rattle.sl_host_state.specs.declared.kept.Rooms.{Rooms}
+pub use Rattle.sl_host_state.specs.declared.kept.TopNumber.{TopNumber}
+pub use Rattle.sl_host_state.specs.declared.kept.ValuePair.{ValuePair}
+pub use Rattle.sl_host_state.specs.declared.kept.WaitingCall.{WaitingCall}
 use Rattle.sl_area.specs.Layouts.{Layout}
 use Rattle.sl_sector.specs.declared.sector.Block.{Block}
 use Rattle.sl_sector.specs.declared.sector.DeltaRec.{DeltaRec}
@@ -22,11 +31,7 @@ use Rattle.sl_trace.specs.Traces.{Child, KillProgram}
 use Rattle.sl_trace.specs.declared.command.Command.{Command}
 use Rattle.sl_trace.specs.declared.effects.Effects.{Effects}
 use Rattle.sl_trace.specs.declared.effects.Grant.{Grant}
-use Rattle.sl_trace.specs.declared.effects.JoinStep.{JoinStep}
-use Rattle.sl_trace.specs.declared.effects.LeaseStep.{LeaseStep}
-use Rattle.sl_trace.specs.declared.effects.Purpose.{Purpose}
 use Rattle.sl_trace.specs.declared.effects.Spot.{Spot}
-use Rattle.sl_trace.specs.declared.effects.Work.{Work}
 use Rattle.std.specs.Prelude.{Bool, List, Option, Result, ℕ}
 
 -- What a host is made of; it never changes.
@@ -39,58 +44,7 @@ pub record Config : Type 0 where
   -- what a command line says: for lvmlockd's lines too, which are commands of one process
   pub read : List ℕ → Result Command ℕ
 
--- ---- calls and jobs
-
--- Version and seq of a value.
-pub record ValuePair : Type 0 where
-  pub lver : ℕ
-  pub seq : ℕ
-
--- A call without an answer: what its answer needs. The record that it writes is nowhere asked again, but for these numbers of it.
-pub record OpenCall : Type 0 where
-  pub number : ℕ
-  pub session : ℕ
-  pub purpose : Purpose
-  pub path : List ℕ
-  pub offset : ℕ
-  -- the sectors that it reads; a write has none
-  pub sectors : Option ℕ
-  -- the instance of the leader or block that it writes, and 0
-  pub lver : ℕ
-  -- those of the value that it writes: the reply tells them
-  pub value : Option ValuePair
-  -- of its submission
-  pub reading : ℕ
-
--- The call for whose answer a job waits.
-pub record WaitingCall : Type 0 where
-  pub number : ℕ
-  pub reading : ℕ
-
--- A job without a reply.
-pub record JobState : Type 0 where
-  pub number : ℕ
-  pub command : Option Command
-  -- its child, once it has its grant
-  pub child : Option ℕ
-  pub waits : Option WaitingCall
-
 -- ---- a lease
-
--- The newest call of a lease, while it has no answer.
-pub record LeaseCall : Type 0 where
-  pub number : ℕ
-  pub work : Work
-  pub step : LeaseStep
-  -- the instance of the free that it writes, if it does
-  pub frees : Option ℕ
-  -- whether it writes a block without the shared mode
-  pub clears : Bool
-
--- The greatest number of an instance.
-pub record TopNumber : Type 0 where
-  pub instance : ℕ
-  pub mbal : ℕ
 
 -- What is kept of the own pair where a block is kept in two sectors: the turn that was shown last, and the bytes of the first of two
 -- reads. Where a block has one sector nothing is.
@@ -122,12 +76,6 @@ pub record LeaseState : Type 0 where
 
 -- ---- a session
 
--- The newest call of a joining: its step, the reading of its submission, and that of its answer.
-pub record JoinCall : Type 0 where
-  pub step : JoinStep
-  pub made : ℕ
-  pub answered : Option ℕ
-
 -- What a joining has read and claimed.
 pub record JoinState : Type 0 where
   -- what its first read gave, and the reading of that answer
@@ -135,11 +83,6 @@ pub record JoinState : Type 0 where
   pub since : Option ℕ
   pub claim : Option DeltaRec
   pub newest : Option JoinCall
-
--- An owner of a lease, and the reading of the answer to a request to him.
-pub record AskedAt : Type 0 where
-  pub owner : ℕ
-  pub reading : ℕ
 
 -- A session whose lockspace is in use.
 pub record MemberState : Type 0 where
@@ -160,22 +103,6 @@ pub record MemberState : Type 0 where
   pub leases : List LeaseState
 
 -- ---- the whole
-
--- For how many more elements of each list there is memory.
-pub record Rooms : Type 0 where
-  pub ends : ℕ
-  pub signals : ℕ
-  pub moves : ℕ
-  pub grants : ℕ
-  pub starts : ℕ
-  pub replies : ℕ
-  pub calls : ℕ
-  -- of what is kept
-  pub unanswered : ℕ
-  pub jobs : ℕ
-  pub holdings : ℕ
-  pub children : ℕ
-  pub programs : ℕ
 
 -- A host, in a step or between two.
 pub record HostState : Type 0 where

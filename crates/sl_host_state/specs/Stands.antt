@@ -4,39 +4,41 @@
 --
 -- - config: what the daemon is made of is kept as it is.
 -- - entries, calls, lines, started, born: the next number of each kind is the one kept.
+-- - replied: no reply is to a line that has not come.
 -- - numbered, counted: calls, and children, have the numbers in order, so a number names one.
 -- - present: the members are the sessions whose lockspaces are in use, by name; members: what is asked of each is what it keeps.
 -- - connected: the connections are those of the names kept.
--- - unanswered: the calls without an answer are those kept; owned: the job of each, and of each child, was a line.
+-- - unanswered: the calls without an answer are those kept; single: of each job there is at most one; owned: the job of each call, and
+--   of each child, was a line.
 -- - jobs: the running jobs are those kept, each with its child and the call for which it waits.
 -- - holdings, children, programs: so are these.
 -- - quiet: nothing that is due by time before an input is due below `quiet_until`.
 use Rattle.sl_area.specs.Layouts.{Layout}
 use Rattle.sl_due.specs.Due.{IsHostTrace}
-use Rattle.sl_due.specs.DueRequests.{bits_due}
+use Rattle.sl_due.specs.DueRequests.{is_asked}
 use Rattle.sl_due.specs.Steps.{Step, seen}
 use Rattle.sl_host_state.specs.Kept.{AskedAt, Config, HostState, JobState, JoinCall, JoinState, LeaseCall, LeaseState, MemberState, OpenCall, PairState, TopNumber, ValuePair, WaitingCall}
 use Rattle.sl_leases.specs.Ballots.{in_instance}
 use Rattle.sl_leases.specs.Counts.{values_on}
 use Rattle.sl_leases.specs.Jobs.{child_of_job, command_of}
-use Rattle.sl_leases.specs.Leases.{block_submitted, block_written, free_left, freed, last_blocks, leader_written, lease_calls, lease_spots, lease_step, lver_written, may_show_shared, open_ballot, value_written, verified_name}
+use Rattle.sl_leases.specs.Leases.{block_submitted, block_written, free_left, freed, is_on, last_blocks, leader_written, lease_calls, lease_spots, lease_step, lver_written, may_show_shared, open_ballot, value_written, verified_name}
 use Rattle.sl_sector.specs.Bitmaps.{bitmap_of}
 use Rattle.sl_sector.specs.declared.sector.Block.{Block}
 use Rattle.sl_sector.specs.declared.sector.Owner.{Owner}
 use Rattle.sl_sector.specs.declared.sector.ValueRec.{ValueRec}
 use Rattle.sl_sessions.specs.Deltas.{claim_of, delta_known, first_answered, first_bytes, join_step_of}
-use Rattle.sl_sessions.specs.Sessions.{calls_of, is_joined, leaving_of, me, present_sessions, refused_after, renewing, sessions}
+use Rattle.sl_sessions.specs.Sessions.{calls_of, is_delta_purpose, is_joined, leaving_of, me, present_sessions, refused_after, renewing, sessions}
 use Rattle.sl_sessions.specs.Watching.{sightings}
 use Rattle.sl_sessions.specs.declared.session.Begun.{Begun}
 use Rattle.sl_time.specs.Times.{fail}
 use Rattle.sl_trace.specs.Connections.{connections}
-use Rattle.sl_trace.specs.Traces.{Child, Job, Setting, Submitted, Trace, children, first_child, holdings, job_numbered, job_of, kill_programs, last_reading, next_call, next_job, no_effects, outstanding, running_jobs, submitted, waiting_call}
+use Rattle.sl_trace.specs.Traces.{Child, Job, Setting, Submitted, Trace, children, first_child, holdings, job_numbered, job_of, kill_programs, last_reading, next_call, next_job, no_effects, outstanding, reply_to, running_jobs, submitted, waiting_call}
 use Rattle.sl_trace.specs.declared.effects.Op.TheVariants.{ReadSectors, WriteRecord}
 use Rattle.sl_trace.specs.declared.effects.Op.{Op}
 use Rattle.sl_trace.specs.declared.input.Input.{Input}
 use Rattle.sl_words.specs.Words.{choose, greatest, present, some_is}
 use Rattle.std.specs.List.{AllByRecursion, list_any, range_with_len}
-use Rattle.std.specs.Prelude.{Bool, IsTrue, List, None, Option, Some, cond, filter, filter_map, flat_map, is_none, is_some, length, map, nat_le, nat_lt, not, option_and_then, option_map, reverse, slice_get, true, [], ℕ, ◌&&◌, ◌++◌, ◌+◌, ◌==◌, ◌||◌, ◌∷◌, ◌≡◌, ◌≤◌}
+use Rattle.std.specs.Prelude.{Bool, IsTrue, List, None, Option, Some, cond, false, filter, filter_map, flat_map, is_none, is_some, length, map, nat_le, nat_lt, not, option_and_then, option_map, reverse, slice_get, true, [], ℕ, ◌&&◌, ◌++◌, ◌+◌, ◌==◌, ◌||◌, ◌∷◌, ◌≡◌, ◌≤◌}
 
 -- ---- what is kept of what a trace has
 
@@ -141,6 +143,11 @@ pub record JoinStands (j : JoinState) (ms : List Submitted) : Type 0 where
 abbrev pub is_joining : MemberState → Bool
 is_joining m = not m.joined && not m.refused
 
+-- Of these, the newest first, at most the newest has no answer.
+abbrev pub AreInTurn : List Submitted → Type 0
+AreInTurn [] = Unit {0}
+AreInTurn (m ∷ ms) = AllByRecursion (λ m. IsTrue (is_some m.answer)) ms
+
 -- Whether a request to this owner was answered less than `fail` ago.
 abbrev pub is_asked_in : Setting → List AskedAt → ℕ → ℕ → Bool
 is_asked_in st asked now owner = list_any (λ a. a.owner == owner && nat_lt now (a.reading + fail st.timing)) asked
@@ -161,18 +168,31 @@ pub record MemberStands (st : Setting) (es : Trace) (m : MemberState) : Type 0 w
   pub joining : is_joining m ≡ true → JoinStands m.joining (calls_of es m.who)
   pub renewing : renewing st es m.who ≡ m.renewing
   pub leaving : leaving_of st es m.who ≡ m.leaving
-  pub bits : (now : ℕ) → bits_due st (calls_of es m.who) now ≡ bits_of st m.asked now
+  pub asked : (now owner : ℕ) → is_asked st (calls_of es m.who) now owner ≡ is_asked_in st m.asked now owner
+  -- its calls on delta sectors come one after another
+  pub turn : AreInTurn (filter (λ c. is_delta_purpose c.call.purpose) (calls_of es m.who))
   pub seen : (id : ℕ) → sightings st.layout id (calls_of es m.who) ≡ m.seen id
   pub spots : lease_spots st es m.who ≡ map (λ l. l.spot) m.leases
   pub leases : (k : ℕ) (l : LeaseState) → slice_get m.leases k ≡ Some l → LeaseStands st.layout m.who.lockspace (me es m.who) l (lease_calls st es m.who l.spot)
+  -- each value that it submitted is on the area of a lease of it
+  pub valued : AllByRecursion (λ d. IsTrue (is_none (value_written d) || list_any (λ l. is_on st.layout l.spot d.call) m.leases)) (calls_of es m.who)
   -- values are set under the version held, and versions rise, so of all values the last one is enough
   pub values : (k : ℕ) (l : LeaseState) → slice_get m.leases k ≡ Some l → newest_value (values_on st.layout l.spot (calls_of es m.who)) ≡ l.value
 
 -- ---- the whole
 
--- The jobs of open calls and of children.
-abbrev pub jobs_told : HostState → List ℕ
-jobs_told h = filter_map (λ c. job_of c.purpose) h.unanswered ++ filter_map (λ k. k.job) h.children
+-- The jobs of calls and of children.
+abbrev pub jobs_told : Trace → List ℕ
+jobs_told es = filter_map (λ m. job_of m.call.purpose) (submitted es) ++ filter_map (λ k. k.job) (children es)
+
+-- Whether the call is the job's.
+abbrev pub is_kept_of : ℕ → OpenCall → Bool
+is_kept_of job c = some_is (λ j. j == job) (job_of c.purpose)
+
+-- Of each job at most one of these calls is there.
+abbrev pub AreSingle : List OpenCall → Type 0
+AreSingle [] = Unit {0}
+AreSingle (c ∷ cs) = (some_is (λ job. list_any (is_kept_of job) cs) (job_of c.purpose) ≡ false) × AreSingle cs
 
 -- The questions to a trace.
 pub record Keeps (h : HostState) (st : Setting) (es : Trace) : Type 0 where
@@ -180,6 +200,7 @@ pub record Keeps (h : HostState) (st : Setting) (es : Trace) : Type 0 where
   pub entries : length es ≡ h.entries
   pub calls : next_call st es ≡ h.first_call + length h.made.calls
   pub lines : next_job st es ≡ h.next_job
+  pub replied : (n : ℕ) → h.next_job ≤ n → reply_to es n ≡ None
   pub started : length (children es) ≡ h.started
   pub born : length (sessions st es) ≡ h.born
   pub numbered : map (λ m. m.call.number) (submitted es) ≡ reverse (range_with_len st.first.call (length (submitted es)))
@@ -188,7 +209,8 @@ pub record Keeps (h : HostState) (st : Setting) (es : Trace) : Type 0 where
   pub members : (k : ℕ) (m : MemberState) → slice_get h.members k ≡ Some m → MemberStands st es m
   pub connected : map (λ c. c.name) (connections st es) ≡ h.connected
   pub unanswered : map kept_call (outstanding es) ≡ reverse h.unanswered
-  pub owned : AllByRecursion (λ j. IsTrue (is_some (job_numbered st es j))) (jobs_told h)
+  pub single : AreSingle h.unanswered
+  pub owned : AllByRecursion (λ j. IsTrue (is_some (job_numbered st es j))) (jobs_told es)
   pub jobs : map (kept_job es) (running_jobs st es) ≡ h.jobs
   pub holdings : holdings es ≡ h.holdings
   pub children : filter is_there (children es) ≡ h.children

@@ -2,4 +2,9 @@
 //! meet. A law says of a change of the kept state that it follows a function of `sl_due`; a method says that it makes that change.
 #![tactic(auto)]
 
+pub mod kept;
 pub mod laws;
+
+pub use kept::{
+    AskedAt, JobState, JoinCall, LeaseCall, OpenCall, Rooms, TopNumber, ValuePair, WaitingCall,
+};

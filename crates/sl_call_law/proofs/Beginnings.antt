@@ -1,0 +1,4 @@
+pub mod IdleEntry
+pub mod MemberBegun
+pub mod QuietBegun
+pub mod NothingIsDue

@@ -1,0 +1,2 @@
+pub mod CallsBelow
+pub mod NewSession
