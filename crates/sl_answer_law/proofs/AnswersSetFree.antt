@@ -29,7 +29,7 @@ in_again : {A : Type 0} (xs : List A) (d : A) → Contains (reverse xs) d → Co
 in_again xs d there = subst (λ ys. Contains ys d) (reverse-reverse xs) (in_reversed (reverse xs) d there)
 
 -- An open call that is kept is an open call of the trace.
-of_trace : (h : HostState) (st : Setting) (es : Trace) (c : OpenCall) → Keeps h st es → Contains h.unanswered c → (d : Submitted) × Contains (outstanding es) d × (kept_call d ≡ c)
+pub of_trace : (h : HostState) (st : Setting) (es : Trace) (c : OpenCall) → Keeps h st es → Contains h.unanswered c → (d : Submitted) × Contains (outstanding es) d × (kept_call d ≡ c)
 of_trace h st es c k there = in_map kept_call (outstanding es) c (subst (λ cs. Contains cs c) (sym k.unanswered) (in_reversed h.unanswered c there))
 
 -- Of calls in turn one is open.

@@ -10,3 +10,6 @@ pub mod LeaseAnswersFollow
 pub mod GrantsAreTaken
 pub mod SurveysFollow
 pub mod WakingsFollow
+pub mod LeasesSetFree
+pub mod PhaseTwoFollows
+pub mod LeasesGoOn

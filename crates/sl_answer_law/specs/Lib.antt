@@ -8,3 +8,6 @@ pub mod LeaseAnswers
 pub mod Grants
 pub mod Surveys
 pub mod Wakings
+pub mod LeasesSetFree
+pub mod PhaseTwo
+pub mod LeasesGoOn

@@ -5,7 +5,10 @@ ghost use Rattle.sl_answer_law.specs.Carrying.{DecisionsAreCarried};
 ghost use Rattle.sl_answer_law.specs.Grants.{GrantsAreTaken};
 ghost use Rattle.sl_answer_law.specs.Joinings.{JoiningsFollow};
 ghost use Rattle.sl_answer_law.specs.LeaseAnswers.{LeaseAnswersFollow};
+ghost use Rattle.sl_answer_law.specs.LeasesGoOn.{LeasesGoOn};
+ghost use Rattle.sl_answer_law.specs.LeasesSetFree.{LeasesSetFree};
 ghost use Rattle.sl_answer_law.specs.Leasing.{LeasesAreCarried};
+ghost use Rattle.sl_answer_law.specs.PhaseTwo.{PhaseTwoFollows};
 ghost use Rattle.sl_answer_law.specs.Refusing.{RefusalsFollow};
 ghost use Rattle.sl_answer_law.specs.Requests.{RequestsFollow};
 ghost use Rattle.sl_answer_law.specs.Surveys.{SurveysFollow};
@@ -64,4 +67,19 @@ pub fn surveys_follow()
 /// What a wake makes due by time is followed.
 pub fn wakings_follow()
     ensures { WakingsFollow }
+{}
+
+/// An answered lease waits for nothing, so its work may go on.
+pub fn leases_set_free()
+    ensures { LeasesSetFree }
+{}
+
+/// The second phase of a ballot follows the read of the first.
+pub fn phase_two_follows()
+    ensures { PhaseTwoFollows }
+{}
+
+/// The whole of an answer to a lease's call, by what is kept.
+pub fn leases_go_on()
+    ensures { LeasesGoOn }
 {}

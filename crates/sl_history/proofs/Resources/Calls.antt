@@ -72,7 +72,7 @@ numbered_in {A} k (x ∷ xs) p there = by (λ old. numbered_in (k + 1) xs p old)
   by rest (inl here) = let same : k ≡ k + 0 = omega arith in (zero, ap (λ (q : ℕ × A). q.0) (sym here) ∙ same, ap (λ (q : ℕ × A). Some q.1) here)
   by rest (inr old) = let r = rest old in let same : (k + 1) + r.0 ≡ k + suc r.0 = omega arith in (suc r.0, r.1 ∙ same, r.2)
 
-numbered_at : {A : Type 0} (k : ℕ) (xs : List A) (i : ℕ) (a : A) → slice_get xs i ≡ Some a → Contains (enumerate_from k xs) (k + i, a)
+pub numbered_at : {A : Type 0} (k : ℕ) (xs : List A) (i : ℕ) (a : A) → slice_get xs i ≡ Some a → Contains (enumerate_from k xs) (k + i, a)
 numbered_at k [] i a at = absurd (none_some a at)
 numbered_at {A} k (x ∷ xs) zero a at =
     let same : k ≡ k + 0 = omega arith in

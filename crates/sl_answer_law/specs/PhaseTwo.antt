@@ -1,0 +1,27 @@
+-- The second phase of a ballot follows the read of the first: a lease decides on it by no other answer, and in the own block's instance.
+use Rattle.sl_leases.specs.LeaseWork.{LeasePlace, lease_next}
+use Rattle.sl_leases.specs.Leases.{LeaseKnown}
+use Rattle.sl_leases.specs.declared.lease.Aim.{Aim}
+use Rattle.sl_leases.specs.declared.lease.LeaseNext.TheVariants.{AnswerJob, WriteBlock}
+use Rattle.sl_sector.specs.declared.sector.Block.{Block}
+use Rattle.sl_trace.specs.Traces.{is_before_input}
+use Rattle.sl_trace.specs.declared.effects.LeaseStep.TheVariants.{Phase1Read, Phase2Write}
+use Rattle.sl_trace.specs.declared.effects.LeaseStep.{LeaseStep}
+use Rattle.sl_trace.specs.declared.input.Answer.TheVariants.{Read}
+use Rattle.sl_trace.specs.declared.input.Answer.{Answer}
+use Rattle.sl_trace.specs.declared.reply.Reply.{Reply}
+use Rattle.std.specs.Prelude.{List, Some, false, ℕ, ◌≡◌}
+
+-- By the read of the first phase, in the instance of the own block.
+pub record IsAfterRead (k : LeaseKnown) (step : LeaseStep) (a : Answer) (b : Block) : Type 0 where
+  pub own : Block
+  pub submitted : k.own ≡ Some own
+  pub instance : own.lver ≡ b.lver
+  pub at : step ≡ Phase1Read
+  pub bytes : List ℕ
+  pub read : a ≡ Read bytes
+
+pub record PhaseTwoFollows : Type 0 where
+  pub second : (p : LeasePlace) (k : LeaseKnown) (aim : Aim) (call n : ℕ) (step : LeaseStep) (a : Answer) (b : Block) → lease_next p k aim call n step a ≡ WriteBlock Phase2Write b → IsAfterRead k step a b
+  -- and none of its replies is one of before an input
+  pub late : (p : LeasePlace) (k : LeaseKnown) (aim : Aim) (call n : ℕ) (step : LeaseStep) (a : Answer) (r : Reply) → lease_next p k aim call n step a ≡ AnswerJob r → is_before_input r ≡ false

@@ -1,0 +1,4 @@
+pub mod Holding
+pub mod Counting
+pub mod Soundness
+pub mod Owing

@@ -1,0 +1,33 @@
+-- A made run of daemons that do what is due is sound, field by field.
+use Rattle.sl_daemon.specs.Daemons.{Stood}
+use Rattle.sl_due.specs.Due.{IsHostTrace}
+use Rattle.sl_run.specs.Runs.{EachDaemon}
+use Rattle.sl_run.specs.Safety.{SafeRun, world_at}
+use Rattle.sl_safety.proofs.Whole.{lawful_runs_are_safe}
+use Rattle.sl_sound.proofs.Counting.{safe_runs_count_none}
+use Rattle.sl_sound.specs.Promises.{MadeRunsAreSound}
+use Rattle.sl_trace.specs.Traces.{Setting, Trace}
+use Rattle.std.proofs.Common.{sym}
+use Rattle.std.proofs.lemmas.List.{append-nil}
+use Rattle.std.specs.Prelude.{[]}
+
+pub made_runs_are_sound : {D : Type 0} (stands : D → Setting → Trace → Type 0) → MadeRunsAreSound stands
+made_runs_are_sound {D} stands does lawful p h xs header digest made =
+    let last : EachDaemon (Stood stands) (world_at p h xs) = made.stood xs [] (sym (append-nil xs)) in
+    let due : (st : Setting) (es : Trace) → Stood stands st es → IsHostTrace st es = λ st es s. does s.daemon st es s.stood in
+    let safe : SafeRun p h xs =
+    lawful_runs_are_safe p h xs (record {
+      header = header;
+      digest = digest;
+      is_run = made.is_run;
+      lawful = λ d has. let s = last d has in (lawful d.setting d.trace s.setting (due d.setting d.trace s)).0.orderly;
+    }) in
+    record {
+      is_run = made.is_run;
+      is_due = λ d has. due d.setting d.trace (last d has);
+      lawful = λ d has. let s = last d has in (lawful d.setting d.trace s.setting (due d.setting d.trace s)).0;
+      caused = λ d has. let s = last d has in (lawful d.setting d.trace s.setting (due d.setting d.trace s)).1;
+      busy = λ now rest is d has. let s = made.stood now rest is d has in (lawful d.setting d.trace s.setting (due d.setting d.trace s)).2;
+      safe = safe;
+      no_conflict = safe_runs_count_none p h xs made.is_run safe;
+    }

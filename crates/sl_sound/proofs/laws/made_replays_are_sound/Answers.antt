@@ -1,0 +1,5 @@
+use Rattle.sl_sound.proofs.Owing.{made_replays_are_sound}
+use Rattle.sl_sound.proofs.laws.made_replays_are_sound.Goals as goal
+
+pub returns : goal.returns
+returns g c = made_replays_are_sound g.D.Daemon.stands

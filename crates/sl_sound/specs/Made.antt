@@ -1,0 +1,14 @@
+-- Runs made of daemons of one kind.
+use Rattle.sl_daemon.specs.Daemons.{Stood}
+use Rattle.sl_run.specs.Runs.{AfterEachFront, EachDaemon, Happening, IsRun}
+use Rattle.sl_run.specs.Safety.{world_at}
+use Rattle.sl_run.specs.Worlds.{Program, world_with}
+use Rattle.sl_run.specs.declared.header.Header.{Header}
+use Rattle.sl_trace.specs.Traces.{Setting, Trace}
+use Rattle.std.specs.Prelude.{List}
+
+-- A run, in which at each moment a daemon of this kind stood for the trace of each daemon that had run till then. Nothing is said of what it
+-- does.
+pub record MadeRun {D : Type 0} (stands : D → Setting → Trace → Type 0) (p : Program) (h : Header) (xs : List Happening) : Type 0 where
+  pub is_run : IsRun (world_with p h) xs
+  pub stood : AfterEachFront xs (λ now. EachDaemon (Stood stands) (world_at p h now))

@@ -1,0 +1,20 @@
+//! What is promised of made runs.
+
+ghost use Rattle.sl_sound.specs.Promises.{MadeReplaysAreSound, MadeRunsAreSound, SafeRunsCountNone};
+
+use sl_daemon::Daemon;
+
+/// No conflict is counted in a run in which none stands after an event.
+pub fn safe_runs_count_none()
+    ensures { SafeRunsCountNone }
+{}
+
+/// Where daemons of this kind do what is due, and what is due is lawful, a run made of them is sound.
+pub fn made_runs_are_sound<D: Daemon>()
+    ensures { MadeRunsAreSound D.stands }
+{}
+
+/// What is owed of made runs is then owed of sound ones.
+pub fn made_replays_are_sound<D: Daemon>()
+    ensures { MadeReplaysAreSound D.stands }
+{}

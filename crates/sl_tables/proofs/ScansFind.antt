@@ -1,0 +1,107 @@
+-- A scan of slots from the front finds what a search of what stands in them finds.
+use Rattle.sl_tables.proofs.SlotsStand.{above_here, number_at}
+use Rattle.sl_plain.proofs.Lists.{there_is}
+use Rattle.sl_tables.specs.Rising.{AreRising, found_in, items_of}
+use Rattle.sl_words.specs.Words.{choose}
+use Rattle.sl_words.proofs.CaseLaws.{none_some, some_value}
+use Rattle.std.proofs.Common.{ap, arith, refl, subst, sym, true≢false, ◌∙◌}
+use Rattle.std.proofs.lemmas.Bool.{le-ltb}
+use Rattle.std.specs.Map.{keys_of}
+use Rattle.std.specs.Prelude.{Bool, List, None, Option, Some, [], cond, false, find, length, nat_eq, nat_lt, option_map, position, slice_get, suc, take, true, zero, ℕ, ◌&&◌, ◌+◌, ◌<◌, ◌∷◌, ◌≡◌, ◌≤◌}
+
+next_is : (i : ℕ) → suc i ≡ i + 1
+next_is i = omega arith
+
+not_below : (n k : ℕ) → k ≤ n → nat_lt n k ≡ false
+not_below n k le = le-ltb n k le
+
+take_all : {A : Type 0} (xs : List A) (i : ℕ) → length xs ≤ i → take i xs ≡ xs
+take_all [] zero le = refl
+take_all [] (suc i) le = refl
+take_all (x ∷ xs) zero le = absurd (omega (arith, le))
+take_all (x ∷ xs) (suc i) le = ap (λ zs. x ∷ zs) (take_all xs i (omega (arith, le)))
+
+module _ {T : Type 0} (p : ℕ × T → Bool) where
+  miss_by : (q : ℕ × T) (rest : List (ℕ × T)) (b : Bool) → p q ≡ b → find p (q ∷ rest) ≡ None → (p q ≡ false) × (find p rest ≡ None)
+  miss_by q rest true is none = absurd (none_some q (sym (sym (ap (λ c. cond c (Some q) (find p rest)) is) ∙ none)))
+  miss_by q rest false is none = (is, sym (ap (λ c. cond c (Some q) (find p rest)) is) ∙ none)
+
+  missed : (q : ℕ × T) (rest : List (ℕ × T)) → find p (q ∷ rest) ≡ None → (p q ≡ false) × (find p rest ≡ None)
+  missed q rest none = miss_by q rest (p q) refl none
+
+  past : (q : ℕ × T) (rest : List (ℕ × T)) (r : Option (ℕ × T)) → p q ≡ false → find p rest ≡ r → find p (q ∷ rest) ≡ r
+  past q rest r is at = ap (λ c. cond c (Some q) (find p rest)) is ∙ at
+
+  on_first : (k : ℕ) (o : Option T) → ((x : T) → o ≡ Some x → p (k, x) ≡ false) → find p (items_of ((k, o) ∷ [])) ≡ None
+  on_first k None miss = refl
+  on_first k (Some x) miss = past (k, x) [] None (miss x refl) refl
+
+  more_by : (es : List (ℕ × Option T)) (i k : ℕ) (o : Option T) → slice_get es i ≡ Some (k, o) → ((x : T) → o ≡ Some x → p (k, x) ≡ false) → find p (items_of (take i es)) ≡ None
+      → find p (items_of (take (suc i) es)) ≡ None
+  more_by [] i k o at miss none = absurd (none_some (k, o) at)
+  more_by (e ∷ es) zero k o at miss none = subst (λ q. find p (items_of (q ∷ [])) ≡ None) (sym (some_value e (k, o) at)) (on_first k o miss)
+  more_by ((n, None) ∷ es) (suc i) k o at miss none = more_by es i k o at miss none
+  more_by ((n, Some y) ∷ es) (suc i) k o at miss none =
+      let parts = missed (n, y) (items_of (take i es)) none in past (n, y) (items_of (take (suc i) es)) None parts.0 (more_by es i k o at miss parts.1)
+
+  -- One slot more, in which nothing is found.
+  pub scan_more : (es : List (ℕ × Option T)) (i k : ℕ) (o : Option T) → slice_get es i ≡ Some (k, o) → ((x : T) → o ≡ Some x → p (k, x) ≡ false)
+      → find p (items_of (take i es)) ≡ None → find p (items_of (take (i + 1) es)) ≡ None
+  scan_more es i k o at miss none = subst (λ n. find p (items_of (take n es)) ≡ None) (next_is i) (more_by es i k o at miss none)
+
+  pub scan_hit : (es : List (ℕ × Option T)) (i k : ℕ) (x : T) → slice_get es i ≡ Some (k, Some x) → p (k, x) ≡ true → find p (items_of (take i es)) ≡ None
+      → find p (items_of es) ≡ Some (k, x)
+  scan_hit [] i k x at hit none = absurd (none_some (k, Some x) at)
+  scan_hit (e ∷ es) zero k x at hit none =
+      subst (λ q. find p (items_of (q ∷ es)) ≡ Some (k, x)) (sym (some_value e (k, Some x) at)) (ap (λ c. cond c (Some (k, x)) (find p (items_of es))) hit)
+  scan_hit ((n, None) ∷ es) (suc i) k x at hit none = scan_hit es i k x at hit none
+  scan_hit ((n, Some y) ∷ es) (suc i) k x at hit none =
+      let parts = missed (n, y) (items_of (take i es)) none in past (n, y) (items_of es) (Some (k, x)) parts.0 (scan_hit es i k x at hit parts.1)
+
+  pub scan_all : (es : List (ℕ × Option T)) (i : ℕ) → length es ≤ i → find p (items_of (take i es)) ≡ None → find p (items_of es) ≡ None
+  scan_all es i le none = subst (λ zs. find p (items_of zs) ≡ None) (take_all es i le) none
+
+  choose_none : (b : Bool) (n : ℕ) → choose b n ≡ None → b ≡ false
+  choose_none true n h = absurd (none_some n (sym h))
+  choose_none false n h = refl
+
+  none_by : (es : List (ℕ × Option T)) (i : ℕ) (s : ℕ × Option T) → slice_get es i ≡ Some s → found_in p (Some s) ≡ None → find p (items_of (take i es)) ≡ None
+      → find p (items_of (take (i + 1) es)) ≡ None
+  none_by es i (k, None) at miss none = scan_more es i k None at (λ x is. absurd (none_some x is)) none
+  none_by es i (k, Some x) at miss none =
+      scan_more es i k (Some x) at (λ y is. subst (λ z. p (k, z) ≡ false) (some_value x y is) (choose_none (p (k, x)) k miss)) none
+
+  pub scan_none : (es : List (ℕ × Option T)) (i : ℕ) → i < length es → found_in p (slice_get es i) ≡ None → find p (items_of (take i es)) ≡ None
+      → find p (items_of (take (i + 1) es)) ≡ None
+  scan_none es i lt miss none = let it = there_is es i lt in none_by es i it.0 it.1 (sym (ap (found_in p) it.1) ∙ miss) none
+
+  choose_some : (b : Bool) (n m : ℕ) → choose b n ≡ Some m → (b ≡ true) × (n ≡ m)
+  choose_some true n m h = (refl, some_value n m h)
+  choose_some false n m h = absurd (none_some m h)
+
+  some_by : (es : List (ℕ × Option T)) (i n : ℕ) (o : Option (ℕ × Option T)) → slice_get es i ≡ o → found_in p o ≡ Some n → find p (items_of (take i es)) ≡ None
+      → option_map (λ q. q.0) (find p (items_of es)) ≡ Some n
+  some_by es i n None at hit none = absurd (none_some n hit)
+  some_by es i n (Some (k, None)) at hit none = absurd (none_some n hit)
+  some_by es i n (Some (k, Some x)) at hit none =
+      let h = choose_some (p (k, x)) k n hit in ap (λ r. option_map (λ q. q.0) r) (scan_hit es i k x at h.0 none) ∙ ap (λ m. Some m) h.1
+
+  pub scan_some : (es : List (ℕ × Option T)) (i n : ℕ) → found_in p (slice_get es i) ≡ Some n → find p (items_of (take i es)) ≡ None
+      → option_map (λ q. q.0) (find p (items_of es)) ≡ Some n
+  scan_some es i n hit none = some_by es i n (slice_get es i) refl hit none
+
+module _ {T : Type 0} (q : ℕ × T → Bool) where
+  -- Nothing up to the slot of a number is above it.
+  start_by : (n : ℕ) (es : List (ℕ × Option T)) (i : ℕ) (o : Option T) → AreRising es → slice_get es i ≡ Some (n, o) → find (λ r. nat_lt n r.0 && q r) (items_of (take (suc i) es)) ≡ None
+  start_by n [] i o rising at = absurd (none_some (n, o) at)
+  start_by n (e ∷ es) zero o rising at =
+      subst (λ z. find (λ r. nat_lt n r.0 && q r) (items_of (z ∷ [])) ≡ None) (sym (some_value e (n, o) at)) (on_first (λ r. nat_lt n r.0 && q r) n o (λ x is. ap (λ b. b && q (n, x)) (not_below n n (omega arith))))
+  start_by n ((k, None) ∷ es) (suc i) o rising at = start_by n es i o rising.1 at
+  start_by n ((k, Some y) ∷ es) (suc i) o rising at =
+      past (λ r. nat_lt n r.0 && q r) (k, y) (items_of (take (suc i) es)) None
+      (ap (λ b. b && q (k, y)) (not_below n k (let lt = above_here k n es rising.0 i o at in omega (arith, lt)))) (start_by n es i o rising.1 at)
+
+  pub scan_start : (n : ℕ) (es : List (ℕ × Option T)) (i : ℕ) → AreRising es → position (nat_eq n) (keys_of es) ≡ Some i → find (λ r. nat_lt n r.0 && q r) (items_of (take (i + 1) es)) ≡ None
+  scan_start n es i rising at =
+      let there = number_at n es i at in
+      subst (λ m. find (λ r. nat_lt n r.0 && q r) (items_of (take m es)) ≡ None) (next_is i) (start_by n es i there.0 rising there.1)

@@ -1,0 +1,33 @@
+-- Calls without an answer.
+use Rattle.sl_host_state.specs.declared.kept.OpenCall.{OpenCall}
+use Rattle.sl_trace.specs.Traces.{same_spot}
+use Rattle.sl_trace.specs.declared.effects.Spot.{Spot}
+use Rattle.std.specs.List.{AllByRecursion}
+use Rattle.std.specs.Prelude.{Bool, List, Option, find, nat_lt, option_map, ℕ, ◌%◌, ◌&&◌, ◌-◌, ◌≡◌}
+
+-- The calls, the oldest first; above which number the next is; for how many more there is memory; the bytes of an area.
+pub record OpenState : Type 0 where
+  pub calls : List OpenCall
+  pub next : ℕ
+  pub room : ℕ
+  pub area : ℕ
+
+-- The area on which a call is.
+abbrev pub area_of : ℕ → OpenCall → Spot
+area_of area c = record { path = c.path; base = c.offset - c.offset % area }
+
+-- Whether the call is on this area.
+abbrev pub is_on_area : ℕ → Spot → OpenCall → Bool
+is_on_area area at c = same_spot at (area_of area c)
+
+-- The number of the first call on an area.
+abbrev pub first_on : ℕ → Spot → List OpenCall → Option ℕ
+first_on area at cs = option_map (λ c. c.number) (find (is_on_area area at) cs)
+
+-- Each call stands at its own number.
+abbrev pub AreNumbered : List (ℕ × OpenCall) → Type 0
+AreNumbered items = AllByRecursion (λ p. p.1.number ≡ p.0) items
+
+-- The number of the first call above this one on an area.
+abbrev pub next_on : ℕ → Spot → ℕ → List (ℕ × OpenCall) → Option ℕ
+next_on area at n items = option_map (λ p. p.0) (find (λ p. nat_lt n p.0 && is_on_area area at p.1) items)

@@ -1,0 +1,15 @@
+//! Tables of what a host keeps: its open calls, its running jobs, its holdings, its children.
+//!
+//! A table is seen as the list that the definitions ask of, the oldest element first, and its indexes as nothing at all. What a step may put in
+//! has its room taken before, so that no `put` can fail; what is taken out leaves a gap that costs nothing, and gaps are closed where room is
+//! taken, once they are more than what stands between them. So each call finds its element by number or by place, and costs the same whatever
+//! a run has left in the table.
+#![tactic(auto)]
+
+mod area;
+mod jobs;
+mod opens;
+mod rising;
+
+pub use opens::OpenCalls;
+pub use rising::Rising;
