@@ -6,13 +6,14 @@
 //! - `commands`: commands, replies and default names.
 //! - `lines`: lines of schedules, and what is refused of them.
 //! - `ballots`: ballots, with blocks as `host/lver/mbal/bal/inp`, a list's parts set apart by commas, and `-` where a block is torn.
-//! - `machines`: a clock, times, a watchdog daemon, a recovery, a watch.
+//! - `machines`: a clock, times, a watchdog daemon, a recovery, a watch, a delta lease.
 //!
 //! In a text of several words single spaces keep them apart; a word that is left out is read as the empty word or as 0.
 #![tactic(auto)]
 
 mod ballots;
 mod commands;
+mod deltas;
 mod lines;
 mod machines;
 mod records;
@@ -83,6 +84,7 @@ fn machines_of(alloc: Global, kind: &str, text: &str) -> Result<Option<String>, 
         "wdmd" => machines::wdmd(alloc, text)?,
         "recovery" => machines::recovery(alloc, text)?,
         "watch" => watching::watch(alloc, text)?,
+        "delta" => deltas::delta(alloc, text)?,
         "ballot" => ballots::ballot(alloc, text)?,
         "begin" => ballots::begin(alloc, text)?,
         "mbal" => ballots::mbal(alloc, text)?,

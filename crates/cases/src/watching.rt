@@ -5,6 +5,8 @@ ghost use Rattle.std.specs.Prelude.{◌≡◌};
 use crate::records::sector_of;
 use crate::word::{number_of, part, short_of};
 use sl_area::Geometry;
+use sl_sectors::Image;
+use sl_text::Bytes;
 use sl_time::Timing;
 use sl_trace::{Evidence, HostState};
 use sl_watch::Watch;
@@ -18,7 +20,7 @@ struct Pair {
 }
 
 impl Model for Pair {
-    ghost use Rattle.sl_watch.specs.Seen.{Watched};
+    ghost use Rattle.sl_watch.specs.Watches.{Watched};
     ghost use Rattle.std.specs.Prelude.{◌≡◌};
 
     ghost Value = { Watched };
@@ -33,20 +35,22 @@ impl Pair {
     fn new(alloc: Global) -> Option<Pair> {
         let timing = Timing::new(100, 600, 100, 0).ok()?;
         let geometry = Geometry::new(512, 1_048_576, 2).ok()?;
-        let watch = Watch::new(alloc, &timing, &geometry);
+        let watch = Watch::new(alloc, &timing, &geometry).ok()?;
         Some(Pair { watch })
     }
 
     /// Takes a look at an id's sector.
     fn saw(
         &mut self,
+        alloc: Global,
         before: u64,
         after: u64,
         id: u32,
         sector: &[u8; 512],
     ) -> Result<(), AllocError> {
+        let image = Image::of_bytes(Bytes::from_slice(alloc, sector)?);
         if 1 <= id && id <= 2 {
-            return self.watch.saw(before, after, id, sector);
+            self.watch.saw(before, after, id, &image);
         }
         Ok(())
     }
@@ -80,7 +84,7 @@ impl Pair {
 }
 
 /// The sector that a word `NAME=..` of the text tells.
-fn sector_named(text: &str, name: &str) -> [u8; 512] {
+pub fn sector_named(text: &str, name: &str) -> [u8; 512] {
     for word in text.split(' ') {
         if part(word, '=', 0) == name {
             return sector_of(part(word, '=', 1));
@@ -117,6 +121,7 @@ fn told(alloc: Global, pair: &mut Pair, text: &str, word: &str) -> Result<String
         "saw" => {
             let sector = sector_named(text, part(word, ':', 4));
             pair.saw(
+                alloc,
                 number_of(first),
                 number_of(second),
                 short_of(part(word, ':', 3)),

@@ -1,4 +1,5 @@
 pub mod Kept
+pub mod FirstKept
 pub mod Showing
 pub mod Sane
 pub mod Refusing

@@ -24,7 +24,7 @@ by_parts false true i o = refl
 by_parts w false i o = refl
 
 -- A call is in flight where it has no answer, and what is kept of it stays.
-open_is : (h : Header) (a : Machine) (x : Course) → is_open a x ≡ (is_none x.answered && stays_open (flight_of_course h a x))
+pub open_is : (h : Header) (a : Machine) (x : Course) → is_open a x ≡ (is_none x.answered && stays_open (flight_of_course h a x))
 open_is h a x =
     by_parts (is_write_course x) (is_none x.answered) (is_in_flight x.fate) (is_of_running a x)
     ∙ ap (λ b. is_none x.answered && (is_of_running a x || (b && is_in_flight x.fate))) (sym (is_written h x.call.op))

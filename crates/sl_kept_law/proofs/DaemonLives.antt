@@ -147,7 +147,7 @@ plus_none : (n : ℕ) → n + 0 ≡ n
 plus_none n = omega arith
 
 -- None ran.
-none_ran : (w : World) (a : Machine) → IsSaneMachine w a → a.used ≡ false → a.daemon ≡ None
+pub none_ran : (w : World) (a : Machine) → IsSaneMachine w a → a.used ≡ false → a.daemon ≡ None
 none_ran w a is unused = go a.daemon refl
   where
     go : (o : Option Daemon) → a.daemon ≡ o → a.daemon ≡ None

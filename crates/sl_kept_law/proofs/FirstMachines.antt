@@ -12,8 +12,7 @@ use Rattle.sl_run.specs.declared.header.Header.{Header}
 use Rattle.sl_run.specs.declared.header.LockspaceLine.{LockspaceLine}
 use Rattle.sl_run.specs.declared.header.SessionLine.{SessionLine}
 use Rattle.sl_time.specs.Times.{reading_of}
-use Rattle.sl_trace.specs.Commands.{command_in}
-use Rattle.sl_trace.specs.Traces.{children, last_reading, outstanding}
+use Rattle.sl_trace.specs.Traces.{children, first_child, last_reading, outstanding}
 use Rattle.sl_trace.specs.declared.input.Given.{Given}
 use Rattle.sl_words.proofs.CaseLaws.{none_some}
 use Rattle.sl_words.specs.Bounds.{moments}
@@ -23,7 +22,7 @@ use Rattle.std.proofs.lemmas.List.FromFn.{length-map-range_with_len}
 use Rattle.std.proofs.lemmas.Option.{slice_get-map}
 use Rattle.std.specs.List.{cons_option, range_with_len}
 use Rattle.std.specs.Option.{option_map_or}
-use Rattle.std.specs.Prelude.{AllPairs, Bool, Contains, List, None, Option, Some, bytes_eq, false, filter_map, find, is_some, length, map, max, option_map, slice_get, true, [], ℕ, ◌*◌, ◌+◌, ◌<◌, ◌==◌, ◌^◌, ◌∷◌, ◌≡◌, ◌≢◌, ◌≤◌}
+use Rattle.std.specs.Prelude.{Bool, Contains, List, None, Option, Some, bytes_eq, false, filter_map, find, is_some, length, map, max, option_map, slice_get, true, [], ℕ, ◌*◌, ◌+◌, ◌<◌, ◌==◌, ◌^◌, ◌∷◌, ◌≡◌, ◌≤◌}
 
 -- ---- readings
 
@@ -82,8 +81,9 @@ first_machine p g h is m =
       daemons = λ c there. absurd (contains_none c there);
       newest = λ d runs. newest d runs (one_born d runs);
       used = λ d runs. ap is_some runs;
+      up = λ d runs. refl;
       open_calls = λ d runs. no_calls d (one_born d runs);
-      children_apart = λ d runs. no_children d (one_born d runs);
+      children_numbered = λ d runs. no_children d (one_born d runs);
       time = λ d runs. in_order d (one_born d runs);
       calls = λ c there. absurd (contains_none c there);
       reads = λ c there. absurd (contains_none c there);
@@ -103,8 +103,8 @@ first_machine p g h is m =
     no_calls : (d : Daemon) → (s : SessionLine) × (born p g h m s ≡ d) → map (λ x. x.call) (outstanding d.trace) ≡ []
     no_calls d (s, is_d) = ap (λ (x : Daemon). map (λ y. y.call) (outstanding x.trace)) (sym is_d)
 
-    no_children : (d : Daemon) → (s : SessionLine) × (born p g h m s ≡ d) → AllPairs (λ k l. k.process ≢ l.process) (children d.trace)
-    no_children d (s, is_d) = subst (λ (x : Daemon). AllPairs (λ k l. k.process ≢ l.process) (children x.trace)) is_d (λ i j k less inside. absurd (omega (arith, inside)))
+    no_children : (d : Daemon) → (s : SessionLine) × (born p g h m s ≡ d) → map (λ k. k.process) (children d.trace) ≡ range_with_len first_child (length (children d.trace))
+    no_children d (s, is_d) = subst (λ (x : Daemon). map (λ k. k.process) (children x.trace) ≡ range_with_len first_child (length (children x.trace))) is_d refl
 
     in_order : (d : Daemon) → (s : SessionLine) × (born p g h m s ≡ d) → last_reading d.setting d.trace ≤ reading_of (1000 * clock_reading h m)
     in_order d (s, is_d) =
@@ -117,15 +117,15 @@ first_machine p g h is m =
         let same = whole_reading (clock_reading h m) in
         omega (arith, first, same)
 
--- A daemon of the first world reads its header's commands.
-reads_commands : (p : Program) (g : Layout) (h : Header) (m : ℕ) (d : Daemon) → Contains (daemons_on (machine_of_header p g h m)) d → d.setting.read ≡ command_in (p.commands h)
+-- A daemon of the first world is one of its session lines.
+line_of : (p : Program) (g : Layout) (h : Header) (m : ℕ) (d : Daemon) → Contains (daemons_on (machine_of_header p g h m)) d → (s : SessionLine) × (born p g h m s ≡ d)
 unfolding machine_of_header
-reads_commands p g h m d inside = go (find (λ (s : SessionLine). s.machine == m) h.sessions) inside
+line_of p g h m d inside = go (find (λ (s : SessionLine). s.machine == m) h.sessions) inside
   where
-    go : (o : Option SessionLine) → Contains (elim (option_map (born p g h m) o) as (λ z. List Daemon) [ None ↦ [] | Some x ↦ x ∷ [] ]) d → d.setting.read ≡ command_in (p.commands h)
+    go : (o : Option SessionLine) → Contains (elim (option_map (born p g h m) o) as (λ z. List Daemon) [ None ↦ [] | Some x ↦ x ∷ [] ]) d → (s : SessionLine) × (born p g h m s ≡ d)
     go None there = absurd (contains_none d there)
     go (Some s) there = elim (contains_cases (born p g h m s) [] d there) [
-      | inl same ↦ ap (λ (x : Daemon). x.setting.read) (sym same)
+      | inl same ↦ (s, same)
       | inr more ↦ absurd (contains_none d more)
     ]
 
@@ -137,7 +137,10 @@ first_worlds_are_sane commands h is =
       counted = length-map-range_with_len (machine_of_header p g h) 1 h.machines;
       below = omega arith;
       sane = λ i a at. let v = at_place i a at in subst (IsSaneMachine (world_with p h)) v.1 (first_machine p g h is v.0);
-      forms = λ i a d at inside. let v = at_place i a at in reads_commands p g h v.0 d (subst (λ (x : Machine). Contains (daemons_on x) d) (sym v.1) inside);
+      layout = refl;
+      forms = λ i a d at inside. ap (λ (x : Daemon). x.setting.read) (sym (line_at i a d at inside).2);
+      layouts = λ i a d at inside. ap (λ (x : Daemon). x.setting.layout) (sym (line_at i a d at inside).2);
+      landings = λ l there. absurd (contains_none l there);
     }
   where
     p : Program
@@ -150,3 +153,10 @@ first_worlds_are_sane commands h is =
     at_place i a at =
         let v = mapped_value (machine_of_header p g h) (slice_get (range_with_len 1 h.machines) i) a (sym (slice_get-map (machine_of_header p g h) (range_with_len 1 h.machines) i) ∙ at) in
         (v.0, v.2)
+
+    line_at : (i : ℕ) (a : Machine) (d : Daemon) → slice_get (map (machine_of_header p g h) (range_with_len 1 h.machines)) i ≡ Some a → Contains (daemons_on a) d
+        → (m : ℕ) × (s : SessionLine) × (born p g h m s ≡ d)
+    line_at i a d at inside =
+        let v = at_place i a at in
+        let l = line_of p g h v.0 d (subst (λ (x : Machine). Contains (daemons_on x) d) (sym v.1) inside) in
+        (v.0, l.0, l.1)

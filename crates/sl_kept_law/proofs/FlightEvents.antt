@@ -45,7 +45,7 @@ element_at xs x inside =
     let at = there_is xs inside.0 inside.1 in (inside.0, at.1 ∙ ap Some (sym (got_index xs inside.0 at.0 x at.1) ∙ inside.2))
 
 -- A call that is in flight is the one of its number.
-the_flight : (a : Machine) (c : ℕ) (x : Course) → AllPairs (λ y z. y.call.number ≢ z.call.number) a.calls → Contains a.calls x → (x.call.number == c) ≡ true
+pub the_flight : (a : Machine) (c : ℕ) (x : Course) → AllPairs (λ y z. y.call.number ≢ z.call.number) a.calls → Contains a.calls x → (x.call.number == c) ≡ true
     → is_open a x ≡ true → flight_of a c ≡ Some x
 the_flight a c x apart inside num still = go (flight_of a c) refl
   where

@@ -7,7 +7,7 @@ use Rattle.sl_kept.specs.Showing.{Tells, flight_of_course, is_placed_in, place_i
 use Rattle.sl_kept_law.proofs.Lookups.{flight_inside, machine_place}
 use Rattle.sl_kept_law.proofs.Numbered.{any_kept, any_least, any_map, any_numbered}
 use Rattle.sl_kept_law.proofs.Sectors.{place_known, placed_is, sector_there}
-use Rattle.sl_kept_law.proofs.Starts.{waits_is}
+use Rattle.sl_kept_law.proofs.Starts.{numbered_apart, waits_is}
 use Rattle.sl_kept_law.proofs.Tests.{Agree, front_test, last_test, same_flight, same_machine, same_tests}
 use Rattle.sl_kept_law.specs.Refusals.{RefusalsAreKept}
 use Rattle.sl_plain.proofs.Lists.{contains_first}
@@ -21,7 +21,7 @@ use Rattle.sl_run.specs.declared.header.Header.{Header}
 use Rattle.sl_sector.specs.declared.sector.Rec.{Rec}
 use Rattle.sl_text.specs.Forms.{Form}
 use Rattle.sl_time.specs.Times.{reading_of}
-use Rattle.sl_trace.specs.Traces.{children, is_starting, is_write}
+use Rattle.sl_trace.specs.Traces.{children, first_child, is_starting, is_write}
 use Rattle.sl_trace.specs.declared.command.Command.{Command}
 use Rattle.sl_trace.specs.declared.effects.Op.TheVariants.{ReadSectors, WriteRecord}
 use Rattle.sl_trace.specs.declared.effects.Op.{Op}
@@ -68,7 +68,7 @@ unfolding shown
 starts_here commands w is m a at p runs =
     let d = not_none a.daemon runs in
     ap (λ (o : Option Daemon). some_is (λ x. is_starting x.trace p) o) d.1
-    ∙ waits_is p (children d.0.trace) ((is.sane (m - 1) a (machine_place w m a at)).children_apart d.0 d.1)
+    ∙ waits_is p (children d.0.trace) (numbered_apart first_child (children d.0.trace) ((is.sane (m - 1) a (machine_place w m a at)).children_numbered d.0 d.1))
     ∙ sym (ap (λ (o : Option Daemon). list_any (λ q. q == p) (starting_of o)) d.1)
 
 -- ---- what is tested of a call

@@ -1,11 +1,14 @@
 -- Which children wait for the answer of their start.
+use Rattle.sl_kept_law.proofs.Sectors.{range_at}
+use Rattle.sl_plain.proofs.Lists.{got_index, there_is}
 use Rattle.sl_trace.specs.Traces.{Child}
-use Rattle.sl_words.proofs.CaseLaws.{is_false}
+use Rattle.sl_words.proofs.CaseLaws.{is_false, some_value}
 use Rattle.sl_words.specs.Words.{some_is}
 use Rattle.std.proofs.Common.{ap, arith, refl, suc, sym, ◌∙◌}
 use Rattle.std.proofs.lemmas.Bool.Decides.{Decides-eqb}
-use Rattle.std.specs.List.{list_any}
-use Rattle.std.specs.Prelude.{AllPairs, Bool, List, Some, cond, false, filter, find, is_none, length, map, slice_index_or, true, [], ℕ, ◌<◌, ◌==◌, ◌||◌, ◌∷◌, ◌≡◌, ◌≢◌}
+use Rattle.std.proofs.lemmas.Option.{slice_get-map}
+use Rattle.std.specs.List.{list_any, range_with_len}
+use Rattle.std.specs.Prelude.{AllPairs, Bool, List, Some, cond, false, filter, find, is_none, length, map, option_map, slice_get, slice_index_or, true, [], ℕ, ◌+◌, ◌<◌, ◌==◌, ◌||◌, ◌∷◌, ◌≡◌, ◌≢◌}
 
 abbrev Apart : List Child → Type 0
 Apart ks = AllPairs (λ k l. k.process ≢ l.process) ks
@@ -16,6 +19,22 @@ apart_tail x ks apart i j d lt inside = apart (suc i) (suc j) d (omega (arith, l
 -- No later child has the process of the first.
 apart_head : (x : Child) (ks : List Child) (j : ℕ) (d : Child) → Apart (x ∷ ks) → j < length ks → x.process ≢ (slice_index_or ks j d).process
 apart_head x ks j d apart inside = apart 0 (suc j) d (omega arith) (omega (arith, inside))
+
+-- The number of a child, where they are numbered in order.
+number_at : (n : ℕ) (ks : List Child) → map (λ (k : Child). k.process) ks ≡ range_with_len n (length ks) → (i : ℕ) (d : Child) → i < length ks
+    → (slice_index_or ks i d).process ≡ n + i
+number_at n ks numbered i d inside =
+    let x = there_is ks i inside in
+    ap (λ (k : Child). k.process) (got_index ks i x.0 d x.1)
+    ∙ some_value x.0.process (n + i) (sym (slice_get-map (λ (k : Child). k.process) ks i ∙ ap (option_map (λ (k : Child). k.process)) x.1)
+    ∙ ap (λ ns. slice_get ns i) numbered ∙ range_at n (length ks) i inside)
+
+-- Children that are numbered in order have numbers of their own.
+pub numbered_apart : (n : ℕ) (ks : List Child) → map (λ (k : Child). k.process) ks ≡ range_with_len n (length ks) → AllPairs (λ k l. k.process ≢ l.process) ks
+numbered_apart n ks numbered i j d less inside same =
+    let first = number_at n ks numbered i d (omega (arith, less, inside)) in
+    let second = number_at n ks numbered j d inside in
+    omega (arith, first, second, same, less)
 
 -- Whether a child of this process waits.
 abbrev waits_at : ℕ → List Child → Bool

@@ -67,7 +67,7 @@ own_calls w (ExitOf m p) a = refl
 own_calls w (Reset m) a = refl
 own_calls w e a = refl
 
-no_calls : (w : World) (e : Event) (o : Option Machine) → (option_map_or (own_effects w e) o no_effects).calls ≡ []
+pub no_calls : (w : World) (e : Event) (o : Option Machine) → (option_map_or (own_effects w e) o no_effects).calls ≡ []
 no_calls w e None = refl
 no_calls w e (Some a) = own_calls w e a
 
@@ -78,26 +78,28 @@ record StillRuns (w v : World) (m : ℕ) (a : Machine) : Type 0 where
   pub machine : Machine
   pub there : machine_at v m ≡ Some machine
   pub daemon : machine.daemon ≡ a.daemon
+  pub clock : machine.clock ≡ a.clock
   pub resets : machine.resets ≡ a.resets
   pub step : v.step ≡ w.step
 
 stays_here : (w : World) (m : ℕ) (a : Machine) → machine_at w m ≡ Some a → StillRuns w w m a
-stays_here w m a at = record { machine = a; there = at; daemon = refl; resets = refl; step = refl }
+stays_here w m a at = record { machine = a; there = at; daemon = refl; clock = refl; resets = refl; step = refl }
 
 not_first : (b : Bool) (o : Option Machine) (a : Machine) → (if b then None else o) ≡ Some a → b ≡ false
 not_first true o a h = absurd cc
 not_first false o a h = refl
 
 -- It is changed, but for its daemon and its resets.
-changed_here : (w v : World) (m : ℕ) (a : Machine) (f : Machine → Machine) → machine_at v m ≡ Some a → (f a).daemon ≡ a.daemon → (f a).resets ≡ a.resets → v.step ≡ w.step
+changed_here : (w v : World) (m : ℕ) (a : Machine) (f : Machine → Machine) → machine_at v m ≡ Some a → (f a).daemon ≡ a.daemon → (f a).clock ≡ a.clock → (f a).resets ≡ a.resets → v.step ≡ w.step
     → StillRuns w (change_machine m f v) m a
-changed_here w v m a f at daemon resets step =
+changed_here w v m a f at daemon clock resets step =
     subst (λ u. StillRuns w u m a) (sym (ap (λ (o : Option Machine). elim o as (λ z. World) [ None ↦ v | Some b ↦ record v { machines = slice_set v.machines (m - 1) (f b) } ]) at))
     (record {
       machine = f a;
       there = ap (λ z. if z then None else slice_get (slice_set v.machines (m - 1) (f a)) (m - 1)) (not_first (m == 0) (slice_get v.machines (m - 1)) a at)
           ∙ set_here v.machines (m - 1) (f a) a (machine_place v m a at);
       daemon = daemon;
+      clock = clock;
       resets = resets;
       step = step;
     })
@@ -107,7 +109,7 @@ landed_here w m c a at = go (flight_at w m c)
   where
     go : (o : Option Course) → StillRuns w (option_map_or (λ (f : Course). change_machine m (change_call c (fated Landed)) (add_landing m f.call true (write_bytes w f.call) w)) o w) m a
     go None = stays_here w m a at
-    go (Some f) = changed_here w (add_landing m f.call true (write_bytes w f.call) w) m a (change_call c (fated Landed)) at refl refl refl
+    go (Some f) = changed_here w (add_landing m f.call true (write_bytes w f.call) w) m a (change_call c (fated Landed)) at refl refl refl refl
 
 done_here : (w : World) (m c : ℕ) (a : Machine) → machine_at w m ≡ Some a → StillRuns w (complete m c w) m a
 done_here w m c a at = go (flight_at w m c)
@@ -120,7 +122,7 @@ done_here w m c a at = go (flight_at w m c)
       | false ↦ change_machine m (change_call c (sampled_more w (sectors_left f))) w
       | true ↦ elim (is_in_flight f.fate) as (λ z. World) [ true ↦ land_whole m c w | false ↦ w ]
     ]) m a
-    writes f false = changed_here w w m a (change_call c (sampled_more w (sectors_left f))) at refl refl refl
+    writes f false = changed_here w w m a (change_call c (sampled_more w (sectors_left f))) at refl refl refl refl
     writes f true = flies (is_in_flight f.fate)
 
     go : (o : Option Course) → StillRuns w (elim o as (λ z. World) [
@@ -133,12 +135,16 @@ done_here w m c a at = go (flight_at w m c)
     go None = stays_here w m a at
     go (Some f) = writes f (is_write_course f)
 
--- Where the event's daemon runs once its first change is made.
-record RunsThen (w : World) (e : Event) : Type 0 where
+-- Where the event's daemon runs once its first change is made, and where it ran before.
+pub record RunsThen (w : World) (e : Event) : Type 0 where
   pub machine : Machine
   pub there : machine_at (next_step (first_change e w)) (machine_of e) ≡ Some machine
   pub daemon : Daemon
   pub runs : machine.daemon ≡ Some daemon
+  pub before : Machine
+  pub was : machine_at w (machine_of e) ≡ Some before
+  pub ran : before.daemon ≡ Some daemon
+  pub clock : machine.clock ≡ before.clock
   pub old : (r : Stamp) → Contains machine.resets r → r.step < (next_step (first_change e w)).step
 
 -- .. on a machine on which it ran before.
@@ -150,6 +156,10 @@ from_before commands w is e a at d runs s =
       there = s.there;
       daemon = d;
       runs = s.daemon ∙ runs;
+      before = a;
+      was = at;
+      ran = runs;
+      clock = s.clock;
       old = λ r inside.
           let before = ((is.sane (machine_of e - 1) a (machine_place w (machine_of e) a at)).resets r (subst (λ rs. Contains rs r) s.resets inside)).0 in
           let same = s.step in
@@ -160,7 +170,7 @@ from_before commands w is e a at d runs s =
 where_it_runs : (a : Machine) (i j : Input) → choose (is_some a.daemon) i ≡ Some j → (d : Daemon) × (a.daemon ≡ Some d)
 where_it_runs a i j h = some_there a.daemon (choose_some (is_some a.daemon) i j h).0
 
-runs_then : (commands : Header → List (Form Command)) (w : World) → IsSane commands w → (e : Event) → may_happen w e ≡ true → (i : Input) → input_of w e ≡ Some i → RunsThen w e
+pub runs_then : (commands : Header → List (Form Command)) (w : World) → IsSane commands w → (e : Event) → may_happen w e ≡ true → (i : Input) → input_of w e ≡ Some i → RunsThen w e
 unfolding first_change event_tests
 runs_then commands w is (WakeUp m) may i gives =
     let a = then_value (input_at w (WakeUp m)) (machine_at w m) i gives in

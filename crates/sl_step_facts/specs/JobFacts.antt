@@ -40,7 +40,8 @@ FitsCommand st s m c p = Unit {0}
 pub record JobFacts (st : Setting) (t : Trace) (heard : Option ℕ) : Type 0 where
   -- the line's own job has no reply and no call before it is seen
   pub replied : (j : ℕ) → is_running t j ≡ false → IsSome (job_numbered st t j)
-  pub called : (m : Submitted) (j : ℕ) → Contains (submitted t) m → job_of m.call.purpose ≡ Some j → IsSome (job_numbered st t j)
+  -- the command of a call's job was read
+  pub called : (m : Submitted) (j : ℕ) → Contains (submitted t) m → job_of m.call.purpose ≡ Some j → IsSome (command_numbered st t j)
   pub joins : (s : Session) (j : ℕ) → Contains (sessions st t) s → s.job ≡ Some j →
       (a : LockspaceArg) × (command_numbered st t j ≡ Some (AddLockspace a)) × (s ≡ joining_session s.number j a)
   pub starts : (k : Child) (j : ℕ) → Contains (children t) k → k.job ≡ Some j →

@@ -3,4 +3,10 @@ pub mod CallFacts
 pub mod JobFacts
 pub mod SessionFacts
 pub mod LeaseFacts
+pub mod WayFacts
+pub mod HoldingFacts
+pub mod WorkFacts
+pub mod GrantGrounds
+pub mod ValueFacts
 pub mod Whole
+pub mod Concluding

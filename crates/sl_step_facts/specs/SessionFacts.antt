@@ -5,12 +5,13 @@ use Rattle.sl_law.specs.LawfulWatchdog.{is_covered}
 use Rattle.sl_leases.specs.Jobs.{jobs_of_session}
 use Rattle.sl_sessions.specs.Sessions.{calls_of, free_write, generation_of, holdings_of, is_joined, is_recovering, joined_after, last_renewal, last_seq, leaving_job, present_sessions, recovery_of, sessions}
 use Rattle.sl_sessions.specs.declared.session.Session.{Session}
+use Rattle.sl_step_facts.specs.Heard.{IsOpen}
 use Rattle.sl_time.specs.Times.{fail}
 use Rattle.sl_trace.specs.Connections.{Connection, connection_named, connections, is_registered, last_registering}
-use Rattle.sl_trace.specs.Traces.{Answered, Job, Setting, Submitted, Trace, is_ok_answer, is_running, unanswered}
+use Rattle.sl_trace.specs.Traces.{Answered, Job, Setting, Submitted, Trace, is_ok_answer, is_running, is_write, submitted, unanswered}
 use Rattle.sl_words.specs.Bounds.{is_number}
 use Rattle.sl_words.specs.Words.{is_empty}
-use Rattle.std.specs.Prelude.{Contains, IsSome, IsTrue, List, None, Option, Some, bytes_eq, false, filter, is_some, length, true, [], ℕ, ◌&&◌, ◌+◌, ◌∷◌, ◌≡◌, ◌≤◌}
+use Rattle.std.specs.Prelude.{Contains, IsSome, IsTrue, List, None, Option, Some, bytes_eq, false, filter, is_some, length, true, [], ℕ, ◌&&◌, ◌+◌, ◌∷◌, ◌≡◌, ◌≤◌, ◌⊎◌}
 
 -- No job goes on under a session in recovery or leaving.
 pub record QuietFacts (st : Setting) (t : Trace) (heard : Option ℕ) : Type 0 where
@@ -42,11 +43,17 @@ pub record ConnectionFacts (st : Setting) (t : Trace) (heard : Option ℕ) : Typ
       connection_named (connections st t) s.lockspace ≡ Some c → c.expiry ≡ last_renewal st t s + fail st.timing
   pub joining : (s : Session) (c : Connection) → Contains (present_sessions st t) s → joined_after t s ≡ None →
       connection_named (connections st t) s.lockspace ≡ Some c → c.expiry ≡ last_registering t s.lockspace + fail st.timing
+  -- a refused joining whose last write has been answered is not present any more when its connection is removed
+  pub writers : (s x : Session) (m : Submitted) → Contains (sessions st t) s → joined_after t s ≡ None → Contains (submitted t) m → m.call.session ≡ s.number →
+      is_write m.call.op ≡ true → IsOpen t heard m → Contains (sessions st t) x → is_joined t x ≡ true → x.lockspace ≡ s.lockspace → ⊥
 
 pub record DeltaFacts (st : Setting) (t : Trace) : Type 0 where
   -- a free is written in a leaving, by a session that holds nothing and has no other call open
   pub frees : (s : Session) (m : Submitted) → Contains (sessions st t) s → free_write (calls_of t s) ≡ Some m →
       IsSome (leaving_job st t s) × (holdings_of t s ≡ []) × ((ms : List Submitted) × (calls_of t s ≡ m ∷ ms) × (unanswered ms ≡ []))
+  -- each of them was answered by then
+  pub before : (s : Session) (m n : Submitted) → Contains (sessions st t) s → free_write (calls_of t s) ≡ Some m → Contains (calls_of t s) n →
+      (n ≡ m) ⊎ ((a : Answered) × (n.answer ≡ Some a) × (a.at ≤ m.at))
   -- what is written next is a record
   pub numbers : (s : Session) → Contains (sessions st t) s → is_joined t s ≡ true →
       (1 ≤ generation_of t s) × IsTrue (is_number (generation_of t s)) × IsTrue (is_number (last_seq t s))

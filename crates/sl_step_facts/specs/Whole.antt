@@ -5,7 +5,12 @@ use Rattle.sl_law.specs.Lawful.{IsSetting, Lawful}
 use Rattle.sl_step_facts.specs.CallFacts.{CallFacts}
 use Rattle.sl_step_facts.specs.Heard.{heard_by}
 use Rattle.sl_step_facts.specs.JobFacts.{BusyFacts, JobFacts}
-use Rattle.sl_step_facts.specs.LeaseFacts.{HoldingFacts, NumberFacts, TurnFacts, ValueFacts}
+use Rattle.sl_step_facts.specs.GrantGrounds.{GrantGrounds}
+use Rattle.sl_step_facts.specs.HoldingFacts.{HoldingFacts}
+use Rattle.sl_step_facts.specs.LeaseFacts.{NumberFacts, TurnFacts}
+use Rattle.sl_step_facts.specs.ValueFacts.{ValueFacts}
+use Rattle.sl_step_facts.specs.WayFacts.{WayFacts}
+use Rattle.sl_step_facts.specs.WorkFacts.{WorkFacts}
 use Rattle.sl_step_facts.specs.SessionFacts.{ConnectionFacts, DeltaFacts, NameFacts, QuietFacts}
 use Rattle.sl_trace.specs.Traces.{Setting, Trace}
 use Rattle.std.specs.Prelude.{None, Option, ℕ}
@@ -20,7 +25,10 @@ pub record Facts (st : Setting) (t : Trace) (heard : Option ℕ) : Type 0 where
   pub connections : ConnectionFacts st t heard
   pub delta : DeltaFacts st t
   pub turns : TurnFacts st t heard
-  pub holdings : HoldingFacts st t
+  pub ways : WayFacts st t
+  pub holdings : HoldingFacts st t heard
+  pub works : WorkFacts st t heard
+  pub grounds : GrantGrounds st t heard
   pub numbers : NumberFacts st t
   pub values : ValueFacts st t heard
 

@@ -4,3 +4,4 @@ pub mod NumbersName
 pub mod OpensStand
 pub mod TotalsGo
 pub mod JobsChange
+pub mod ChildrenStand

@@ -2,12 +2,12 @@
 use Rattle.sl_tables.proofs.SlotsStand.{apart, replaced}
 use Rattle.sl_tables.specs.Rising.{AreRising}
 use Rattle.sl_words.proofs.CaseLaws.{none_some, some_value}
-use Rattle.std.proofs.Common.{ap, refl, subst, sym, true≢false, ◌∙◌}
+use Rattle.std.proofs.Common.{ap, refl, subst, sym, ◌∙◌}
 use Rattle.std.proofs.lemmas.Bool.Decides.{Decides-eqb}
 use Rattle.std.specs.Cmp.{nat_eq_equiv}
 use Rattle.std.specs.List.{AllByRecursion}
 use Rattle.std.specs.Map.{lookup, values_of}
-use Rattle.std.specs.Prelude.{Bool, List, None, Option, Some, [], cond, false, filter, find, map, nat_eq, not, slice_get, suc, true, zero, ℕ, ◌++◌, ◌<◌, ◌==◌, ◌∷◌, ◌≡◌}
+use Rattle.std.specs.Prelude.{Bool, List, None, Some, [], cond, false, filter, find, map, nat_eq, not, slice_get, suc, true, zero, ℕ, ◌++◌, ◌<◌, ◌==◌, ◌∷◌, ◌≡◌}
 
 module _ {X : Type 0} (number : X → ℕ) where
   -- Each stands at its own number.
@@ -53,7 +53,7 @@ module _ {X : Type 0} (number : X → ℕ) where
       ap (λ xs. q.1 ∷ xs) (own_none n f items h.1 above.1)
       ∙ sym (ap (λ b. cond b (f q.1) q.1 ∷ changed_by n f (values_of items)) (ap (λ k. k == n) h.0 ∙ (nat_eq_equiv.symm q.0 n ∙ apart n q.0 above.0)))
 
-  none_above : (n : ℕ) (item : X) (items : List (ℕ × X)) → AllByRecursion (λ q. n < q.0) items → values_of (replaced n item items) ≡ values_of items
+  pub none_above : (n : ℕ) (item : X) (items : List (ℕ × X)) → AllByRecursion (λ q. n < q.0) items → values_of (replaced n item items) ≡ values_of items
   none_above n item [] h = refl
   none_above n item (q ∷ items) h = ap (λ b. (cond b (q.0, item) q).1 ∷ values_of (replaced n item items)) (apart n q.0 h.0) ∙ ap (λ xs. q.1 ∷ xs) (none_above n item items h.1)
 

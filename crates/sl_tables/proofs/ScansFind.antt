@@ -4,7 +4,7 @@ use Rattle.sl_plain.proofs.Lists.{there_is}
 use Rattle.sl_tables.specs.Rising.{AreRising, found_in, items_of}
 use Rattle.sl_words.specs.Words.{choose}
 use Rattle.sl_words.proofs.CaseLaws.{none_some, some_value}
-use Rattle.std.proofs.Common.{ap, arith, refl, subst, sym, true≢false, ◌∙◌}
+use Rattle.std.proofs.Common.{ap, arith, refl, subst, sym, ◌∙◌}
 use Rattle.std.proofs.lemmas.Bool.{le-ltb}
 use Rattle.std.specs.Map.{keys_of}
 use Rattle.std.specs.Prelude.{Bool, List, None, Option, Some, [], cond, false, find, length, nat_eq, nat_lt, option_map, position, slice_get, suc, take, true, zero, ℕ, ◌&&◌, ◌+◌, ◌<◌, ◌∷◌, ◌≡◌, ◌≤◌}

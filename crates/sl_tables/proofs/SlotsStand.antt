@@ -6,7 +6,6 @@ use Rattle.sl_plain.proofs.Numbers.{number_itself}
 use Rattle.std.proofs.Common.{ap, arith, inl, inr, refl, subst, sym, true≢false, ◌∙◌}
 use Rattle.std.proofs.lemmas.Bool.Decides.{eqb_tells}
 use Rattle.std.proofs.lemmas.Bool.{ne_eqb}
-use Rattle.std.proofs.lemmas.List.Elements.{filter_map-append}
 use Rattle.std.specs.List.{AllByRecursion}
 use Rattle.indexmap.proofs.MapLemmas.{Found-position}
 use Rattle.std.proofs.lemmas.Map.Made.{lookup_key_passes}

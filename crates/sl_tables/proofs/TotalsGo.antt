@@ -8,7 +8,7 @@ use Rattle.std.proofs.lemmas.Bool.Decides.{Decides-eqb}
 use Rattle.std.specs.List.{AllByRecursion}
 use Rattle.std.proofs.lemmas.List.Sums.{sum_by-cons}
 use Rattle.std.specs.Map.{lookup, values_of}
-use Rattle.std.specs.Prelude.{Bool, List, None, Some, [], cond, count_by, false, filter, length, map, nat_eq, not, true, ℕ, ◌++◌, ◌+◌, ◌<◌, ◌∷◌, ◌≡◌, ◌≤◌}
+use Rattle.std.specs.Prelude.{Bool, List, Some, [], cond, count_by, false, filter, length, nat_eq, not, true, ℕ, ◌++◌, ◌+◌, ◌<◌, ◌∷◌, ◌≡◌, ◌≤◌}
 
 module _ {X : Type 0} (w : X → ℕ) where
   pub total_push : (items : List (ℕ × X)) (n : ℕ) (x : X) → total w (items ++ (n, x) ∷ []) ≡ total w items + w x

@@ -1,6 +1,5 @@
 -- Running jobs.
 use Rattle.sl_host_state.specs.declared.kept.JobState.{JobState}
-use Rattle.sl_leases.specs.Jobs.{is_asking_lease, is_program}
 use Rattle.sl_trace.specs.declared.command.Command.{Command}
 use Rattle.sl_words.specs.Words.{some_is}
 use Rattle.std.specs.List.{AllByRecursion}

@@ -7,9 +7,11 @@
 #![tactic(auto)]
 
 mod area;
+mod children;
 mod jobs;
 mod opens;
 mod rising;
 
+pub use children::{ChildState, Children};
 pub use opens::OpenCalls;
 pub use rising::Rising;

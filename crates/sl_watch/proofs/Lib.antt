@@ -1,3 +1,4 @@
-mod ReasonLaws
-mod SightingLaws
+pub mod SightingLaws
 pub mod SummaryLaws
+pub mod ReasonLaws
+pub mod WatchLaws

@@ -1,5 +1,5 @@
 -- Evidence says what was seen.
-use Rattle.sl_area.specs.Layouts.{layout_of}
+use Rattle.sl_area.specs.Layouts.{Sizes, layout_of}
 use Rattle.sl_sector.specs.declared.sector.DeltaRec.{DeltaRec}
 use Rattle.sl_sector.specs.declared.sector.DeltaState.TheVariants.{Claimed, Free, Live}
 use Rattle.sl_sector.specs.declared.sector.DeltaState.{DeltaState}
@@ -9,7 +9,7 @@ use Rattle.sl_time.specs.Times.{TimingNumbers, dead}
 use Rattle.sl_trace.specs.declared.reply.Evidence.TheVariants.{Freed, Newer, Silent}
 use Rattle.sl_trace.specs.declared.reply.Evidence.{Evidence}
 use Rattle.sl_watch.specs.Reasons.{IsFirstReason, IsStill, SawFree, SawNewer, StoodStill, records_of, run_of}
-use Rattle.sl_watch.specs.Seen.{Watched, sightings_of}
+use Rattle.sl_sessions.specs.declared.sighting.Sighting.{Sighting}
 use Rattle.sl_words.proofs.CaseLaws.{false_is_true}
 use Rattle.sl_words.proofs.WordLaws.{or_true}
 use Rattle.sl_words.specs.Words.{choose}
@@ -166,25 +166,25 @@ pub newer_decides : (h : ℕ) (ds : List DeltaRec) → Decides (nat_lt h (newest
 newer_decides h ds = Decides-like _ (newer_is_some h ds) (some_is_newer h ds) (Decides-ltb h (newest_of ds))
 
 -- There is evidence exactly where one of the three was seen.
-pub evidence_if : (w : Watched) (id h : ℕ)
-    → IsSome (evidence w.timing (layout_of w.sizes) id h (sightings_of id w.seen)) ↔ (SawNewer w id h ⊎ SawFree w id h ⊎ StoodStill w id h)
-evidence_if w id h =
-    some_reason (newest_of (records_of w id)) h (nat_lt h (newest_of (records_of w id))) (is_free_among h (records_of w id)) (silence w.timing h (run_of w id))
-    (SawNewer w id h) (SawFree w id h) (StoodStill w id h)
-    (newer_decides h (records_of w id)) (free_among_decides h (records_of w id)) (silence_if w.timing h (run_of w id))
+pub evidence_if : (tm : TimingNumbers) (z : Sizes) (id h : ℕ) (ss : List Sighting)
+    → IsSome (evidence tm (layout_of z) id h ss) ↔ (SawNewer z id h ss ⊎ SawFree z id h ss ⊎ StoodStill tm z id h ss)
+evidence_if tm z id h ss =
+    let ds : List DeltaRec = records_of z id ss in
+    some_reason (newest_of ds) h (nat_lt h (newest_of ds)) (is_free_among h ds) (silence tm h (run_of z id ss))
+    (SawNewer z id h ss) (SawFree z id h ss) (StoodStill tm z id h ss)
+    (newer_decides h ds) (free_among_decides h ds) (silence_if tm h (run_of z id ss))
 
 -- .. and names the first.
-pub evidence_names : (w : Watched) (id h : ℕ)
-    → IfSome (evidence w.timing (layout_of w.sizes) id h (sightings_of id w.seen)) (IsFirstReason w id h)
-evidence_names w id h =
-    let ds : List DeltaRec = records_of w id in
-    let run : Option Run = run_of w id in
-    named_reason (newest_of ds) h (nat_lt h (newest_of ds)) (is_free_among h ds) (silence w.timing h run) (SawNewer w id h) (SawFree w id h) (IsFirstReason w id h)
+pub evidence_names : (tm : TimingNumbers) (z : Sizes) (id h : ℕ) (ss : List Sighting) → IfSome (evidence tm (layout_of z) id h ss) (IsFirstReason tm z id h ss)
+evidence_names tm z id h ss =
+    let ds : List DeltaRec = records_of z id ss in
+    let run : Option Run = run_of z id ss in
+    named_reason (newest_of ds) h (nat_lt h (newest_of ds)) (is_free_among h ds) (silence tm h run) (SawNewer z id h ss) (SawFree z id h ss) (IsFirstReason tm z id h ss)
     (newer_decides h ds) (free_among_decides h ds)
     (λ newer. (some_is_newer h ds newer, (greatest_is_one h ds (some_is_newer h ds newer), none_is_above ds)))
     (λ free none. (refl, free, none))
-    (λ no_free no_newer. silence_says w.timing h run (IsFirstReason w id h) (λ r is still.
-    (still_named w.timing h run r is still, no_free, no_newer))) where
+    (λ no_free no_newer. silence_says tm h run (IsFirstReason tm z id h ss) (λ r is still.
+    (still_named tm h run r is still, no_free, no_newer))) where
       still_named : (tm : TimingNumbers) (h : ℕ) (run : Option Run) (r : Run) → run ≡ Some r → IsStill tm h r
           → IsSomeAnd run (λ s. (r.since ≡ s.since) × (r.latest ≡ s.latest) × IsStill tm h s)
       still_named tm h run r is still =

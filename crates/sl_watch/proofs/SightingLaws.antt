@@ -16,7 +16,7 @@ use Rattle.sl_time.specs.Times.{TimingNumbers}
 use Rattle.sl_trace.specs.declared.reply.Evidence.TheVariants.{Freed, Newer, Silent}
 use Rattle.sl_trace.specs.declared.reply.Evidence.{Evidence}
 use Rattle.sl_watch.proofs.ReasonLaws.{IsFreeOf, any_here, any_later, free_among_decides, named_reason, newer_decides, silence_if, silence_says, some_reason}
-use Rattle.sl_watch.specs.Laws.{ClaimsAreNoEvidence, SightedIsSpelled}
+use Rattle.sl_watch.specs.Laws.{BytesAreReadTrue, ClaimsAreNoEvidence, SightedIsSpelled}
 use Rattle.sl_watch.specs.Reasons.{IsStill}
 use Rattle.sl_words.proofs.CaseLaws.{some_value}
 use Rattle.sl_words.proofs.WordLaws.{choose_some}
@@ -151,3 +151,10 @@ sighted_is_spelled sizes n id s d size bytes =
       (λ is. let found : (decoded program_digest s.bytes ≡ Ok (DeltaIs d)) × (d.id ≡ id) = read_for id (decoded program_digest s.bytes) d is in (exact.0 found.0, found.1)),
       (λ spells. ap (λ r. option_and_then (λ e. choose (e.id == id) e) (delta_in r)) (exact.1 spells.0) ∙ for_read id d spells.1),
     )
+
+-- ---- bytes
+
+pub bytes_are_read_true : BytesAreReadTrue
+bytes_are_read_true n bytes size are = record {
+  spelled = λ r read. let spells : Spells program_digest bytes r = (reading_is_exact program_digest sha256_is_digest n bytes r size are).0 read in spells.1;
+}

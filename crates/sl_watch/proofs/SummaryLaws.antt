@@ -1,22 +1,23 @@
 -- The summary of a list with one more sighting is the summary's step, and evidence is read off it.
-use Rattle.sl_area.specs.Layouts.{Layout, Sizes, layout_of}
+use Rattle.sl_area.specs.Layouts.{Layout, layout_of}
 use Rattle.sl_sector.specs.declared.sector.DeltaRec.{DeltaRec}
-use Rattle.sl_sessions.specs.Watching.{current_run, evidence, evidence_of, has_seen, is_free_among, is_free_state, newest_of, run_with, seen_records, sighted, silence}
+use Rattle.sl_sessions.specs.Watching.{current_run, evidence, evidence_of, has_seen, is_free_among, is_free_state, newest_of, run_with, seen_records, sighted, silence, span, state_of_run, unchanged, host_state}
 use Rattle.sl_sessions.specs.declared.sighting.Run.{Run}
 use Rattle.sl_sessions.specs.declared.sighting.Sighting.{Sighting}
 use Rattle.sl_time.specs.Times.{TimingNumbers}
 use Rattle.sl_trace.specs.declared.reply.Evidence.TheVariants.{Freed, Newer}
 use Rattle.sl_trace.specs.declared.reply.Evidence.{Evidence}
-use Rattle.sl_watch.specs.Seen.{Seen, sightings_of, spelled_for}
-use Rattle.sl_watch.specs.Summaries.{Summary, evidence_by, freed_with, summary_of, summary_seeing, summary_with}
-use Rattle.sl_words.specs.Words.{choose}
-use Rattle.std.proofs.Common.{ap, arith, eq-eqb, lt-ltb, get_or, inl, inr, reverse, subst, sym, take, ◌∙◌}
+use Rattle.sl_watch.specs.Summaries.{IsKept, RunStands, Summary, bare, bare_run, evidence_by, freed_with, state_by, summary_of, summary_with}
+use Rattle.sl_watch.specs.Watches.{WatchStands, Watched, kept_at}
+use Rattle.sl_watch.specs.declared.run.KeptRun.{KeptRun}
+use Rattle.sl_watch.specs.declared.summary.Summary.{Summary as Kept}
+use Rattle.std.specs.Option.{option_map_or}
+use Rattle.std.proofs.Common.{ap, arith, eq-eqb, lt-ltb, inl, inr, subst, sym, ◌∙◌}
 use Rattle.std.proofs.Math.Nat.{max-eq_left, max-eq_right}
 use Rattle.std.proofs.lemmas.Bool.Decides.{nat_tests}
-use Rattle.std.proofs.lemmas.Bool.{cases_lt, eqb-true}
-use Rattle.std.proofs.lemmas.List.{reverse-append, take_more}
+use Rattle.std.proofs.lemmas.Bool.{cases_lt}
 use Rattle.std.specs.List.{cons_option}
-use Rattle.std.specs.Prelude.{Bool, List, None, Option, Some, false, option_map, if◌then◌else◌, length, nat_lt, refl, true, ℕ, [], ◌&&◌, ◌+◌, ◌<◌, ◌==◌, ◌||◌, ◌∷◌, ◌≡◌, ◌≤◌}
+use Rattle.std.specs.Prelude.{Bool, List, None, Option, Some, false, option_map, if◌then◌else◌, nat_lt, refl, true, ℕ, [], ◌&&◌, ◌<◌, ◌==◌, ◌||◌, ◌∷◌, ◌≡◌, ◌≤◌}
 
 -- No generation above the greatest was seen free.
 free_is_seen : (h : ℕ) (ds : List DeltaRec) → newest_of ds < h → is_free_among h ds ≡ false
@@ -65,35 +66,6 @@ pub summary_more : (g : Layout) (id : ℕ) (ss : List Sighting) (s : Sighting)
     → summary_with (summary_of g id ss) s (sighted g id s) ≡ summary_of g id (s ∷ ss)
 summary_more g id ss s = summary_more_by (seen_records g id ss) (has_seen ss) (current_run g id ss) s (sighted g id s)
 
--- The summary after a look, by whether it was at the id.
-sees_by : (sizes : Sizes) (id : ℕ) (x : Seen) (ss : List Sighting) (here : Bool) → (here ≡ true → x.id ≡ id)
-    → elim here [ true ↦ summary_with (summary_of (layout_of sizes) id ss) x.sighting (spelled_for x.id x.sighting.bytes) | false ↦ summary_of (layout_of sizes) id ss ]
-    ≡ summary_of (layout_of sizes) id (cons_option (choose here x.sighting) ss)
-sees_by sizes id x ss true is =
-    ap (λ k. summary_with (summary_of (layout_of sizes) id ss) x.sighting (spelled_for k x.sighting.bytes)) (is refl)
-    ∙ summary_more (layout_of sizes) id ss x.sighting
-sees_by sizes id x ss false is = refl
-
--- The summary after a look is that of the looks with this one.
-summary_sees : (sizes : Sizes) (id : ℕ) (x : Seen) (seen : List Seen)
-    → summary_seeing id (summary_of (layout_of sizes) id (sightings_of id seen)) x ≡ summary_of (layout_of sizes) id (sightings_of id (x ∷ seen))
-summary_sees sizes id x seen = sees_by sizes id x (sightings_of id seen) (x.id == id) (eqb-true x.id id)
-
--- The looks before the next index, newest first.
-looks_more : (xs : List Seen) (i : ℕ) (x : Seen) → i < length xs → x ≡ get_or xs i x → reverse (take (i + 1) xs) ≡ x ∷ reverse (take i xs)
-looks_more xs i x inside is = ap reverse (take_more xs i x inside) ∙ reverse-append (take i xs) (get_or xs i x ∷ []) ∙ ap (λ y. y ∷ reverse (take i xs)) (sym is)
-
--- The summary before an index.
-abbrev pub summary_front : Sizes → ℕ → List Seen → ℕ → Summary
-summary_front sizes id xs i = summary_of (layout_of sizes) id (sightings_of id (reverse (take i xs)))
-
--- .. goes on with the look there.
-pub summary_goes_on : (sizes : Sizes) (id : ℕ) (xs : List Seen) (i : ℕ) (x : Seen) (m : Summary) → i < length xs → x ≡ get_or xs i x
-    → m ≡ summary_front sizes id xs i → summary_seeing id m x ≡ summary_front sizes id xs (i + 1)
-summary_goes_on sizes id xs i x m inside is so_far =
-    ap (λ n. summary_seeing id n x) so_far ∙ summary_sees sizes id x (reverse (take i xs))
-    ∙ sym (ap (λ seen. summary_of (layout_of sizes) id (sightings_of id seen)) (looks_more xs i x inside is))
-
 -- The greatest generation was seen free, or this one, whichever is asked, where none is above it.
 free_at_last : (h : ℕ) (ds : List DeltaRec) → newest_of ds ≤ h → (newest_of ds == h && is_free_among (newest_of ds) ds) ≡ is_free_among h ds
 free_at_last h ds most = elim (cases_lt (newest_of ds) h) [
@@ -117,8 +89,48 @@ evidence_is tm h ds run seen =
       | inr most ↦ ap (by (nat_lt h n)) (free_at_last h ds most)
     ]
 
--- What is read off the summary.
-pub evidence_read : (tm t : TimingNumbers) (g : Layout) (id h : ℕ) (ss : List Sighting) (m : Summary) (r : Option Evidence)
-    → t ≡ tm → m ≡ summary_of g id ss → r ≡ evidence_by t h m → r ≡ evidence tm g id h ss
-evidence_read tm t g id h ss m r times is read =
-    read ∙ ap (λ u. evidence_by u h m) times ∙ ap (evidence_by tm h) is ∙ evidence_is tm h (seen_records g id ss) (current_run g id ss) (has_seen ss)
+-- ---- what is kept
+
+same_silence : (tm : TimingNumbers) (h : ℕ) (size : ℕ) (k : Option KeptRun) (r : Option Run) → RunStands size k r → silence tm h (option_map bare_run k) ≡ silence tm h r
+same_silence tm h size None None is = refl
+same_silence tm h size (Some k) (Some r) is = ap (λ x. silence tm h (Some x)) is.same
+same_silence tm h size None (Some r) is = absurd is
+same_silence tm h size (Some k) None is = absurd is
+
+same_span : (size : ℕ) (k : Option KeptRun) (r : Option Run) → RunStands size k r → option_map_or span (option_map bare_run k) 0 ≡ option_map_or span r 0
+same_span size None None is = refl
+same_span size (Some k) (Some r) is = ap span is.same
+same_span size None (Some r) is = absurd is
+same_span size (Some k) None is = absurd is
+
+same_state : (tm : TimingNumbers) (now size : ℕ) (k : Option KeptRun) (r : Option Run) → RunStands size k r → state_by tm (option_map bare_run k) now ≡ state_by tm r now
+same_state tm now size None None is = refl
+same_state tm now size (Some k) (Some r) is = ap (λ x. state_of_run tm x now) is.same
+same_state tm now size None (Some r) is = absurd is
+same_state tm now size (Some k) None is = absurd is
+
+same_evidence : (tm : TimingNumbers) (h size : ℕ) (k : Kept) (m : Summary) → IsKept size k m → evidence_by tm h (bare k) ≡ evidence_by tm h m
+same_evidence tm h size k m is =
+    let reason : ℕ → Bool → Option Evidence → Option Evidence =
+    λ n freed silent. elim (nat_lt h n) [ true ↦ Some (Newer n) | false ↦ elim (n == h && freed) [ true ↦ Some (Freed h) | false ↦ silent ] ] in
+    ap (λ n. reason n k.freed (silence tm h (option_map bare_run k.run))) is.newest ∙ ap (λ f. reason m.newest f (silence tm h (option_map bare_run k.run))) is.freed
+    ∙ ap (reason m.newest m.freed) (same_silence tm h size k.run m.run is.run)
+
+-- ---- what a watch is asked
+
+pub evidence_read : (w : Watched) (seen : ℕ → List Sighting) (id h : ℕ) → WatchStands w seen → 1 ≤ id → id ≤ w.sizes.hosts
+    → evidence_by w.timing h (bare (kept_at w id)) ≡ evidence w.timing (layout_of w.sizes) id h (seen id)
+evidence_read w seen id h stands one most =
+    let ss : List Sighting = seen id in
+    let g : Layout = layout_of w.sizes in
+    same_evidence w.timing h w.sizes.sector (kept_at w id) (summary_of g id ss) (stands.each id one most)
+    ∙ evidence_is w.timing h (seen_records g id ss) (current_run g id ss) (has_seen ss)
+
+pub span_read : (w : Watched) (seen : ℕ → List Sighting) (id : ℕ) → WatchStands w seen → 1 ≤ id → id ≤ w.sizes.hosts
+    → option_map_or span (bare (kept_at w id)).run 0 ≡ unchanged (layout_of w.sizes) id (seen id)
+span_read w seen id stands one most = same_span w.sizes.sector (kept_at w id).run (current_run (layout_of w.sizes) id (seen id)) (stands.each id one most).run
+
+pub state_read : (w : Watched) (seen : ℕ → List Sighting) (id now : ℕ) → WatchStands w seen → 1 ≤ id → id ≤ w.sizes.hosts
+    → state_by w.timing (bare (kept_at w id)).run now ≡ host_state w.timing (layout_of w.sizes) id (seen id) now
+state_read w seen id now stands one most =
+    same_state w.timing now w.sizes.sector (kept_at w id).run (current_run (layout_of w.sizes) id (seen id)) (stands.each id one most).run

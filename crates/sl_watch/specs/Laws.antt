@@ -12,6 +12,7 @@ use Rattle.sl_time.specs.Times.{TimingNumbers}
 use Rattle.sl_trace.specs.declared.reply.Evidence.TheVariants.{Silent}
 use Rattle.sl_trace.specs.declared.reply.HostState.TheVariants.{Unknown}
 use Rattle.sl_watch.specs.Seen.{Seen, sightings_of}
+use Rattle.sl_watch.specs.Watches.{IsReadTrue}
 use Rattle.std.specs.List.{All}
 use Rattle.std.specs.Prelude.{List, None, Some, true, ℕ, ◌∷◌, ◌≡◌, ◌≤◌, ◌↔◌}
 
@@ -45,3 +46,7 @@ SightedIsSpelled =
 -- What was seen of one id says nothing of another.
 abbrev pub OthersSayNothing : Type 0
 OthersSayNothing = (id : ℕ) (x : Seen) (seen : List Seen) → (x.id ≡ id → ⊥) → sightings_of id (x ∷ seen) ≡ sightings_of id seen
+
+-- Each list of bytes that is as long as a sector is read true.
+abbrev pub BytesAreReadTrue : Type 0
+BytesAreReadTrue = (n : ℕ) (bytes : List ℕ) → IsSectorSize n → AreBytes n bytes → IsReadTrue bytes

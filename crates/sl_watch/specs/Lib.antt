@@ -2,3 +2,4 @@ pub mod Laws
 pub mod Reasons
 pub mod Seen
 pub mod Summaries
+pub mod Watches

@@ -20,3 +20,8 @@ pub fn sighted_is_spelled()
 pub fn others_say_nothing()
     ensures { laws.OthersSayNothing }
 {}
+
+/// The record that is read from a sector's bytes is spelled by them, so two sectors that spell one record have the same bytes.
+pub fn bytes_are_read_true()
+    ensures { laws.BytesAreReadTrue }
+{}

@@ -4,12 +4,11 @@
 //! it takes nothing that another host had. `watch` keeps what was seen and answers three questions about an id; `laws` says what
 //! sightings don't show.
 //!
-//! Within, `look` is one look at a sector, `run` the longest end of an id's sightings in which nothing changed, and `summary` what all
-//! sightings of an id come to.
+//! A watch has a fixed size: of each id it keeps what all its sightings come to. Within, `run` is the longest end of an id's sightings in
+//! which nothing changed, and `summary` what all of them come to.
 #![tactic(auto)]
 
 pub mod laws;
-mod look;
 mod run;
 mod summary;
 pub mod watch;

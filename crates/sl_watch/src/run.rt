@@ -4,42 +4,31 @@
 //! the answer of its first sighting to the submission of its last; that is its span, and no more is counted. Counted from the first
 //! submission, the time before a renewal that landed during that read would be held against its writer, and he would be taken for dead
 //! while he may act.
-ghost use Rattle.std.specs.Prelude.{◌≡◌};
-ghost use Rattle.sl_sessions.specs.Watching.{is_free_state, is_live_state, is_silent, new_run, run_with, silence, span, state_of_run};
+//!
+//! Two sectors of one size that each spell a record have the same bytes exactly where the records are the same. So the record is kept in
+//! place of the bytes, and nothing is hashed.
+ghost use Rattle.std.specs.Prelude.{IsTrue, Option, Some, ℕ, ◌≡◌, ◌⊎◌, ◌↔◌};
+ghost use Rattle.sl_sessions.specs.Watching.{is_free_state, is_live_state, is_silent, run_with, silence, span, state_of_run};
+ghost use Rattle.sl_sessions.specs.declared.sighting.Run.{Run};
+ghost use Rattle.sl_sessions.specs.declared.sighting.Sighting.{Sighting};
+ghost use Rattle.sl_watch.specs.Summaries.{IsKeptRun, IsSeen, RunStands, bare_run};
 
-use crate::look::Look;
-use sl_sector::{DeltaRec, DeltaState, Gen};
+use sl_sector::{DeltaRec, DeltaState, Gen, Rec, same_record};
 use sl_time::Timing;
 use sl_trace::{Evidence, HostState};
-use std::marker::Model;
 
-/// The record that stands, its bytes, the reading after the run's first sighting and the one before its last, and whether a sighting
-/// came before the run.
-#[derive(Drop)]
-pub struct CurrentRun<'a> {
-    spelled: DeltaRec,
-    bytes: &'a [u8],
-    since: u64,
-    latest: u64,
-    changed: bool,
-}
-
-impl<'a> Model for CurrentRun<'a> {
-    ghost use Rattle.sl_sessions.specs.declared.sighting.Run.{Run};
-
-    ghost Value = { Run };
-
-    ghost view = { λ r. record {
-      spelled = r.spelled;
-      bytes = r.bytes.now;
-      since = r.since;
-      latest = r.latest;
-      changed = r.changed;
-    } };
+/// The record that stands, the reading after the run's first sighting and the one before its last, and whether a sighting came before
+/// the run.
+#[derive(Clone, Copy)]
+pub(crate) struct KeptRun {
+    pub(crate) spelled: DeltaRec,
+    pub(crate) since: u64,
+    pub(crate) latest: u64,
+    pub(crate) changed: bool,
 }
 
 /// Whether the state is free.
-pub fn is_free(state: DeltaState) -> bool
+pub(crate) fn is_free(state: DeltaState) -> bool
     ensures { result ≡ is_free_state state }
 {
     matches!(state, DeltaState::Free)
@@ -52,53 +41,72 @@ fn is_live(state: DeltaState) -> bool
     matches!(state, DeltaState::Live)
 }
 
-impl<'a> CurrentRun<'a> {
-    /// The run of this sighting alone.
-    fn begin(look: &'a Look, spelled: DeltaRec, changed: bool) -> CurrentRun<'a>
-        ensures { result ≡ new_run look.now.sighting spelled changed }
+/// Whether two records are one.
+fn is_same(a: &DeltaRec, b: &DeltaRec) -> bool
+    ensures { IsTrue result ↔ (a.now ≡ b.now) }
+{
+    same_record(&Rec::DeltaIs(*a), &Rec::DeltaIs(*b))
+}
+
+impl KeptRun {
+    /// The run after a sighting between these readings that spells this record: the one before goes on where it has the same record, else
+    /// a new one begins. `changed` says whether there was a sighting before.
+    pub(crate) fn with(
+        run: &Option<KeptRun>,
+        before: u64,
+        after: u64,
+        spelled: &DeltaRec,
+        changed: bool,
+    ) -> KeptRun
+        ensures { (size : ℕ) (r : Option Run) (s : Sighting) → RunStands size run.now r → s.before ≡ before → s.after ≡ after → IsSeen size s.bytes (Some spelled.now)
+            → IsKeptRun size result (run_with r s spelled.now changed) }
     {
-        CurrentRun {
-            spelled,
-            bytes: look.sector(),
-            since: look.after(),
-            latest: look.before(),
+        match run {
+            Some(run) => run.going_on(before, after, spelled, changed),
+            None => KeptRun::begin(before, after, spelled, changed),
+        }
+    }
+
+    /// The run of a sighting alone.
+    fn begin(before: u64, after: u64, spelled: &DeltaRec, changed: bool) -> KeptRun
+        ensures { result ≡ record { spelled = spelled.now; since = after; latest = before; changed = changed } }
+    {
+        KeptRun {
+            spelled: *spelled,
+            since: after,
+            latest: before,
             changed,
         }
     }
 
-    /// The run after a sighting that spells this record: the one before goes on where the bytes are its own, else a new one begins.
-    /// `changed` says whether there was a sighting before.
-    pub fn with(
-        run: Option<CurrentRun<'a>>,
-        look: &'a Look,
-        spelled: DeltaRec,
-        changed: bool,
-    ) -> CurrentRun<'a>
-        ensures { result ≡ run_with run.entry look.now.sighting spelled changed }
+    /// This run after a sighting.
+    fn going_on(&self, before: u64, after: u64, spelled: &DeltaRec, changed: bool) -> KeptRun
+        ensures same { self.now.spelled ≡ spelled.now → result ≡ record self.now { latest = before } }
+        ensures other { (self.now.spelled ≡ spelled.now → ⊥) → result ≡ record { spelled = spelled.now; since = after; latest = before; changed = changed } }
+        ensures either { (self.now.spelled ≡ spelled.now) ⊎ (self.now.spelled ≡ spelled.now → ⊥) }
     {
-        match run {
-            Some(mut run) => {
-                if run.bytes == look.sector() {
-                    run.latest = look.before();
-                    run
-                } else {
-                    CurrentRun::begin(look, spelled, changed)
-                }
+        if is_same(&self.spelled, spelled) {
+            KeptRun {
+                spelled: self.spelled,
+                since: self.since,
+                latest: before,
+                changed: self.changed,
             }
-            None => CurrentRun::begin(look, spelled, changed),
+        } else {
+            KeptRun::begin(before, after, spelled, changed)
         }
     }
 
     /// How long nothing was written, in milliseconds: 0 where the last sighting was submitted before the first was answered.
-    pub fn span(&self) -> u64
-        ensures { result ≡ span self.now }
+    pub(crate) fn span(&self) -> u64
+        ensures { result ≡ span (bare_run self.now) }
     {
         self.latest.saturating_sub(self.since)
     }
 
     /// Whether a live record of this generation stood still for `dead`.
-    fn is_silent(&self, timing: Timing, generation: Gen) -> bool
-        ensures { result ≡ is_silent timing generation self.now }
+    fn is_silent(&self, timing: &Timing, generation: Gen) -> bool
+        ensures { result ≡ is_silent timing.now generation (bare_run self.now) }
     {
         self.span() >= timing.dead()
             && is_live(self.spelled.state)
@@ -106,8 +114,8 @@ impl<'a> CurrentRun<'a> {
     }
 
     /// The silence of this generation, if its live record stood still for `dead`.
-    pub fn silence(&self, timing: Timing, generation: Gen) -> Option<Evidence>
-        ensures { result ≡ silence timing generation (Some self.now) }
+    pub(crate) fn silence(&self, timing: &Timing, generation: Gen) -> Option<Evidence>
+        ensures { result ≡ silence timing.now generation (Some (bare_run self.now)) }
     {
         if self.is_silent(timing, generation) {
             Some(Evidence::Silent {
@@ -120,8 +128,8 @@ impl<'a> CurrentRun<'a> {
     }
 
     /// What the id looks like at a reading.
-    pub fn state(&self, timing: Timing, now: u64) -> HostState
-        ensures { result ≡ state_of_run timing self.now now }
+    pub(crate) fn state(&self, timing: &Timing, now: u64) -> HostState
+        ensures { result ≡ state_of_run timing.now (bare_run self.now) now }
     {
         if is_free(self.spelled.state) {
             HostState::Free

@@ -3,33 +3,23 @@
 //! Of the records that were seen, it has the greatest generation and whether that one was seen free. Of a smaller generation no more is
 //! asked, since a newer one was seen; of a greater one nothing was seen.
 ghost use Rattle.std.specs.Option.{option_map_or};
-ghost use Rattle.std.specs.Prelude.{◌≡◌};
+ghost use Rattle.std.specs.Prelude.{ℕ, ◌≡◌};
 ghost use Rattle.sl_sessions.specs.Watching.{span};
-ghost use Rattle.sl_watch.specs.Seen.{spelled_for};
-ghost use Rattle.sl_watch.specs.Summaries.{blank, evidence_by, freed_with, state_by, summary_seeing, summary_with};
+ghost use Rattle.sl_sessions.specs.declared.sighting.Sighting.{Sighting};
+ghost use Rattle.sl_watch.specs.Summaries.{IsKept, IsSeen, Summary as Contents, evidence_by, freed_with, nothing_seen, state_by, summary_with, bare};
 
-use crate::look::Look;
-use crate::run::{CurrentRun, is_free};
-use sl_sector::{DeltaRec, Gen, HostId};
+use crate::run::{KeptRun, is_free};
+use sl_sector::{DeltaRec, Gen};
 use sl_time::Timing;
 use sl_trace::{Evidence, HostState};
-use std::marker::Model;
 
 /// The greatest generation that was seen (0 where none was) and whether it was seen free, whether there was any sighting, and the run.
-#[derive(Drop)]
-pub struct Summary<'a> {
-    newest: Gen,
-    freed: bool,
-    any: bool,
-    run: Option<CurrentRun<'a>>,
-}
-
-impl<'a> Model for Summary<'a> {
-    ghost use Rattle.sl_watch.specs.Summaries.{Summary as Contents};
-
-    ghost Value = { Contents };
-
-    ghost view = { λ m. record { newest = m.newest; freed = m.freed; any = m.any; run = m.run } };
+#[derive(Clone, Copy)]
+pub(crate) struct Summary {
+    pub(crate) newest: Gen,
+    pub(crate) freed: bool,
+    pub(crate) any: bool,
+    pub(crate) run: Option<KeptRun>,
 }
 
 /// Whether the greatest generation was seen free, with one more record.
@@ -45,10 +35,10 @@ fn freed_with(newest: Gen, freed: bool, delta: &DeltaRec) -> bool
     }
 }
 
-impl<'a> Summary<'a> {
+impl Summary {
     /// No sighting.
-    pub fn blank() -> Summary<'a>
-        ensures { result ≡ blank }
+    pub(crate) fn blank() -> Summary
+        ensures { result ≡ nothing_seen }
     {
         Summary {
             newest: 0,
@@ -58,37 +48,21 @@ impl<'a> Summary<'a> {
         }
     }
 
-    /// The summary after a look, which is a sighting of the id where it was at its sector.
-    pub fn seeing(self, id: HostId, look: &'a Look) -> Summary<'a>
-        ensures { result ≡ summary_seeing id self.entry look.now }
+    /// The summary after a sighting between these readings, which spells this record of the id, if any.
+    pub(crate) fn with(&self, before: u64, after: u64, delta: &Option<DeltaRec>) -> Summary
+        ensures { (size : ℕ) (m : Contents) (s : Sighting) → IsKept size self.now m → s.before ≡ before → s.after ≡ after → IsSeen size s.bytes delta.now
+            → IsKept size result (summary_with m s delta.now) }
     {
-        if look.id() == id {
-            self.with(look)
-        } else {
-            self
-        }
-    }
-
-    /// The summary with one more sighting.
-    fn with(self, look: &'a Look) -> Summary<'a>
-        ensures { result ≡ summary_with self.entry look.now.sighting (spelled_for look.now.id look.now.sighting.bytes) }
-    {
-        let Summary {
-            newest,
-            freed,
-            any,
-            run,
-        } = self;
-        match look.delta() {
+        match delta {
             Some(delta) => Summary {
-                newest: delta.generation.max(newest),
-                freed: freed_with(newest, freed, &delta),
+                newest: delta.generation.max(self.newest),
+                freed: freed_with(self.newest, self.freed, delta),
                 any: true,
-                run: Some(CurrentRun::with(run, look, delta, any)),
+                run: Some(KeptRun::with(&self.run, before, after, delta, self.any)),
             },
             None => Summary {
-                newest,
-                freed,
+                newest: self.newest,
+                freed: self.freed,
                 any: true,
                 run: None,
             },
@@ -96,8 +70,8 @@ impl<'a> Summary<'a> {
     }
 
     /// Why this generation counts as over, the first reason that holds.
-    pub fn evidence(&self, timing: Timing, generation: Gen) -> Option<Evidence>
-        ensures { result ≡ evidence_by timing generation self.now }
+    pub(crate) fn evidence(&self, timing: &Timing, generation: Gen) -> Option<Evidence>
+        ensures { result ≡ evidence_by timing.now generation (bare self.now) }
     {
         if generation < self.newest {
             return Some(Evidence::Newer {
@@ -114,8 +88,8 @@ impl<'a> Summary<'a> {
     }
 
     /// How long the id is known to have stood still, in milliseconds.
-    pub fn unchanged(&self) -> u64
-        ensures { result ≡ option_map_or span self.now.run 0 }
+    pub(crate) fn unchanged(&self) -> u64
+        ensures { result ≡ option_map_or span (bare self.now).run 0 }
     {
         match &self.run {
             Some(run) => run.span(),
@@ -124,8 +98,8 @@ impl<'a> Summary<'a> {
     }
 
     /// What the id looks like at a reading.
-    pub fn state(&self, timing: Timing, now: u64) -> HostState
-        ensures { result ≡ state_by timing self.now.run now }
+    pub(crate) fn state(&self, timing: &Timing, now: u64) -> HostState
+        ensures { result ≡ state_by timing.now (bare self.now).run now }
     {
         match &self.run {
             Some(run) => run.state(timing, now),

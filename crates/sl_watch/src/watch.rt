@@ -4,7 +4,8 @@
 //! more, and long enough after the last renewal that he can no longer act (Chockler and Malkhi, *Light-weight leases for
 //! storage-centric coordination*; the states of an id are those that `host_status` of sanlock(8) tells).
 //!
-//! The looks are kept as they came, so an id's sightings stand in their order. What makes an answer evidence:
+//! Of each id a watch keeps what its sightings come to, and its last record while that stands still. It stands for all that was seen
+//! (`WatchStands`): each question is answered as the whole list of sightings answers it. What makes an answer evidence:
 //!
 //! - A newer generation, or this one's free, is evidence once it was seen, and stays so: an id is claimed anew only where the one before
 //!   is over, and a free is a session's last write.
@@ -12,118 +13,181 @@
 //! - Only equal bytes go on with a run. A sighting that spells no record of the id ends it, since somebody was writing; a look at another
 //!   id says nothing.
 //! - Time is counted from the answer of a run's first sighting to the submission of its last (`run` says why).
-ghost use Rattle.std.specs.Prelude.{IfSome, IsSome, OnErr, OnOk, length, [], ◌∷◌, ◌≡◌, ◌≤◌, ◌⊎◌, ◌↔◌};
-ghost use Rattle.sl_area.specs.Layouts.{layout_of};
-ghost use Rattle.sl_sessions.specs.Watching.{evidence, host_state, unchanged};
+ghost use Rattle.std.specs.Prelude.{IfOk, IfSome, IsSome, List, length, [], ◌∷◌, ◌≡◌, ◌≤◌, ◌⊎◌, ◌↔◌, ℕ, replicate, slice_set, ◌-◌};
+ghost use Rattle.std.specs.Option.{option_map_or};
+ghost use Rattle.sl_area.specs.Layouts.{layout_of, program_digest};
+ghost use Rattle.sl_sector.specs.Spelling.{decoded};
+ghost use Rattle.sl_sessions.specs.Watching.{evidence, host_state, span, unchanged};
+ghost use Rattle.sl_sessions.specs.declared.sighting.Sighting.{Sighting};
 ghost use Rattle.sl_watch.specs.Reasons.{IsFirstReason, SawFree, SawNewer, StoodStill};
-ghost use Rattle.sl_watch.specs.Seen.{seen_at, sightings_of};
-ghost use Rattle.sl_watch.specs.Summaries.{summary_of};
+ghost use Rattle.sl_watch.specs.Seen.{Seen, seen_at, seen_with, spelled_for};
+ghost use Rattle.sl_watch.specs.Summaries.{bare, evidence_by, nothing_seen, state_by};
+ghost use Rattle.sl_watch.specs.Watches.{IsReadTrue, StandsFor, WatchStands, kept_at};
 
-use crate::look::Look;
+use crate::run::KeptRun;
 use crate::summary::Summary;
 use sl_area::Geometry;
-use sl_sector::{Gen, HostId};
+use sl_sector::{Bad, DeltaRec, Gen, HostId, Rec, delta_in};
+use sl_sectors::Image;
+use sl_text::Name;
 use sl_time::Timing;
 use sl_trace::{Evidence, HostState};
 use std::alloc::{AllocError, Global};
 use std::marker::Model;
 
-/// What a session has seen of other ids: it stands for the times and sizes of its run and the list of all looks, the newest first.
+/// What a session has seen of other ids.
 #[derive(Drop)]
 pub struct Watch {
     timing: Timing,
     geometry: Geometry,
-    looks: Vec<Look>,
-    alloc: Global,
+    ids: Vec<Summary>,
 }
 
 impl Model for Watch {
-    ghost use Rattle.std.proofs.Common.{reverse};
-    ghost use Rattle.sl_watch.specs.Seen.{Watched};
+    ghost use Rattle.sl_watch.specs.Watches.{Watched};
+    ghost use Rattle.std.specs.Prelude.{length, ◌≡◌};
 
     ghost Value = { Watched };
 
-    ghost view = { λ w. record { timing = w.timing; sizes = w.geometry; seen = reverse w.looks.items } };
+    ghost view = { λ w. record { timing = w.timing; sizes = w.geometry; ids = w.ids.items } };
+
+    ghost invariant = { λ w. length w.ids.items ≡ w.geometry.hosts };
+}
+
+/// The delta record of the id that was read; None where the sector is torn, or spells another.
+fn delta_for(id: HostId, found: Result<Rec, Bad>) -> Option<DeltaRec>
+    ensures { (bytes : List ℕ) → found ≡ decoded program_digest bytes → result ≡ spelled_for id bytes }
+{
+    let delta = delta_in(found)?;
+    if delta.id == id { Some(delta) } else { None }
+}
+
+/// What is kept of so many ids of which nothing was seen.
+fn blanks(alloc: Global, hosts: u32) -> Result<Vec<Summary>, AllocError>
+    ensures { IfOk result (λ ids. ids.items ≡ replicate hosts nothing_seen) }
+{
+    let _run: Option<KeptRun> = None;
+    let _record: Option<DeltaRec> = None;
+    let _name: Option<Name> = None;
+    vec![in alloc; Summary::blank(); hosts as usize]
 }
 
 impl Watch {
-    /// A watch that has seen nothing.
-    pub fn new(alloc: Global, timing: &Timing, geometry: &Geometry) -> Watch
-        ensures { result ≡ record { timing = timing.now; sizes = geometry.now; seen = [] } }
+    /// A watch that has seen nothing. It takes all the memory that the watch will ever need; an `Err` is want of it.
+    pub fn new(alloc: Global, timing: &Timing, geometry: &Geometry) -> Result<Watch, AllocError>
+        ensures kept { IfOk result (λ w. w ≡ record { timing = timing.now; sizes = geometry.now; ids = replicate geometry.now.hosts nothing_seen }) }
+        ensures stands { IfOk result (λ w. WatchStands w (λ id. [])) }
     {
-        Watch {
+        Ok(Watch {
             timing: *timing,
             geometry: *geometry,
-            looks: Vec::new(alloc),
-            alloc,
-        }
+            ids: blanks(alloc, geometry.hosts())?,
+        })
     }
 
-    /// Takes one more look at the sector of an id, 1 to the number of hosts: its read was submitted at the reading `before` and answered
-    /// at `after`, in milliseconds, with these bytes, a whole sector. An `Err` is want of memory, and changes nothing.
-    pub fn saw(
-        &mut self,
-        before: u64,
-        after: u64,
-        id: HostId,
-        sector: &[u8],
-    ) -> Result<(), AllocError>
-        requires sector { length sector.now ≡ self.old.sizes.sector }
-        requires id { (1 ≤ id) × (id ≤ self.old.sizes.hosts) }
-        ensures ok { OnOk result (self.new ≡ record self.old { seen = seen_at id before after sector.now ∷ self.old.seen }) }
-        ensures err { OnErr result (self.new ≡ self.old) }
+    /// What is kept of an id.
+    fn kept(&self, id: HostId) -> &Summary
+        requires { (1 ≤ id) × (id ≤ self.now.sizes.hosts) }
+        ensures exact { result.now ≡ kept_at self.now id }
+        ensures count { length self.now.ids ≡ self.now.sizes.hosts }
     {
-        // a run's sectors have a size that can be read
-        let whole = sector.len() == self.geometry.sector() as usize;
-        prove!(whole);
-        let look = Look::new(self.alloc, id, before, after, sector)?;
-        self.looks.push(look)?;
-        Ok(())
+        &self.ids[id as usize - 1]
     }
 
     /// Why this generation of an id, 1 to the number of hosts, counts as over, the first reason that holds: `Newer` with the greatest
     /// generation that was seen, where that is above this one; `Freed` where this one was seen free; `Silent` from the answer of the run's
     /// first sighting to the submission of its last, where a live record of this generation stood still for `dead`. None where none of
-    /// these was seen. It takes no memory.
+    /// these was seen.
     pub fn over(&self, id: HostId, generation: Gen) -> Option<Evidence>
         requires { (1 ≤ id) × (id ≤ self.now.sizes.hosts) }
-        ensures exact { result ≡ evidence self.now.timing (layout_of self.now.sizes) id generation (sightings_of id self.now.seen) }
+        ensures kept { result ≡ evidence_by self.now.timing generation (bare (kept_at self.now id)) }
+        ensures exact { (seen : ℕ → List Sighting) → WatchStands self.now seen → result ≡ evidence self.now.timing (layout_of self.now.sizes) id generation (seen id) }
         // there is evidence exactly where one of the three was seen
-        ensures some { IsSome result ↔ (SawNewer self.now id generation ⊎ SawFree self.now id generation ⊎ StoodStill self.now id generation) }
+        ensures some { (seen : ℕ → List Sighting) → WatchStands self.now seen → IsSome result
+            ↔ (SawNewer self.now.sizes id generation (seen id) ⊎ SawFree self.now.sizes id generation (seen id) ⊎ StoodStill self.now.timing self.now.sizes id generation (seen id)) }
         // .. and the first of them is told
-        ensures first { IfSome result (IsFirstReason self.now id generation) }
+        ensures first { (seen : ℕ → List Sighting) → WatchStands self.now seen → IfSome result (IsFirstReason self.now.timing self.now.sizes id generation (seen id)) }
     {
-        self.summary(id).evidence(self.timing, generation)
+        self.evidence_kept(id, generation)
+    }
+
+    /// The same by what is kept.
+    fn evidence_kept(&self, id: HostId, generation: Gen) -> Option<Evidence>
+        requires { (1 ≤ id) × (id ≤ self.now.sizes.hosts) }
+        ensures { result ≡ evidence_by self.now.timing generation (bare (kept_at self.now id)) }
+    {
+        self.kept(id).evidence(&self.timing, generation)
     }
 
     /// How long an id, 1 to the number of hosts, is known to have stood still, in milliseconds: the span of its run, and 0 where there is
-    /// none. It takes no memory.
+    /// none.
     pub fn unchanged_for(&self, id: HostId) -> u64
         requires { (1 ≤ id) × (id ≤ self.now.sizes.hosts) }
-        ensures { result ≡ unchanged (layout_of self.now.sizes) id (sightings_of id self.now.seen) }
+        ensures kept { result ≡ option_map_or span (bare (kept_at self.now id)).run 0 }
+        ensures exact { (seen : ℕ → List Sighting) → WatchStands self.now seen → result ≡ unchanged (layout_of self.now.sizes) id (seen id) }
     {
-        self.summary(id).unchanged()
+        self.span_kept(id)
+    }
+
+    /// The same by what is kept.
+    fn span_kept(&self, id: HostId) -> u64
+        requires { (1 ≤ id) × (id ≤ self.now.sizes.hosts) }
+        ensures { result ≡ option_map_or span (bare (kept_at self.now id)).run 0 }
+    {
+        self.kept(id).unchanged()
     }
 
     /// What an id, 1 to the number of hosts, looks like at the reading `now`, in milliseconds: `Unknown` with no sighting or where the
     /// last one is torn; `Free` where its record is free; `Dead` where it stood still for `dead`; `Failing` where its run began `fail` ago;
-    /// `Live` where another sighting came before the run; else `Unknown`. It takes no memory.
+    /// `Live` where another sighting came before the run; else `Unknown`.
     pub fn status(&self, id: HostId, now: u64) -> HostState
         requires { (1 ≤ id) × (id ≤ self.now.sizes.hosts) }
-        ensures { result ≡ host_state self.now.timing (layout_of self.now.sizes) id (sightings_of id self.now.seen) now }
+        ensures kept { result ≡ state_by self.now.timing (bare (kept_at self.now id)).run now }
+        ensures exact { (seen : ℕ → List Sighting) → WatchStands self.now seen → result ≡ host_state self.now.timing (layout_of self.now.sizes) id (seen id) now }
     {
-        self.summary(id).state(self.timing, now)
+        self.state_kept(id, now)
     }
 
-    /// What the sightings of an id come to.
-    #[tactic(auto, using(crate::proofs::SummaryLaws::summary_goes_on))]
-    fn summary(&self, id: HostId) -> Summary<'_>
-        ensures { result ≡ summary_of (layout_of self.now.sizes) id (sightings_of id self.now.seen) }
+    /// The same by what is kept.
+    fn state_kept(&self, id: HostId, now: u64) -> HostState
+        requires { (1 ≤ id) × (id ≤ self.now.sizes.hosts) }
+        ensures { result ≡ state_by self.now.timing (bare (kept_at self.now id)).run now }
     {
-        let mut summary = Summary::blank();
-        for look in &self.looks {
-            summary = summary.seeing(id, look);
-        }
-        summary
+        self.kept(id).state(&self.timing, now)
+    }
+
+    /// Takes one more look at the sector of an id, 1 to the number of hosts: its read was submitted at the reading `before` and answered
+    /// at `after`, in milliseconds, and gave this sector. It takes no memory, and nothing is hashed.
+    pub fn saw(&mut self, before: u64, after: u64, id: HostId, sector: &Image)
+        requires sector { length sector.now ≡ self.old.sizes.sector }
+        requires id { (1 ≤ id) × (id ≤ self.old.sizes.hosts) }
+        ensures run { (self.new.timing ≡ self.old.timing) × (self.new.sizes ≡ self.old.sizes) }
+        ensures stands { (seen : ℕ → List Sighting) → WatchStands self.old seen → IsReadTrue sector.now
+            → WatchStands self.new (seen_with id (record { before = before; after = after; bytes = sector.now }) seen) }
+        ensures looks { (looks : List Seen) → StandsFor self.old looks → IsReadTrue sector.now
+            → StandsFor self.new (seen_at id before after sector.now ∷ looks) }
+    {
+        self.told(before, after, id, sector.record());
+    }
+
+    /// The same where it is known what the sector spells: what `decode` gives of its bytes.
+    pub fn told(&mut self, before: u64, after: u64, id: HostId, found: Result<Rec, Bad>)
+        requires { (1 ≤ id) × (id ≤ self.old.sizes.hosts) }
+        ensures run { (self.new.timing ≡ self.old.timing) × (self.new.sizes ≡ self.old.sizes) }
+        ensures stands { (seen : ℕ → List Sighting) (bytes : List ℕ) → WatchStands self.old seen → found ≡ decoded program_digest bytes
+            → length bytes ≡ self.old.sizes.sector → IsReadTrue bytes
+            → WatchStands self.new (seen_with id (record { before = before; after = after; bytes = bytes }) seen) }
+    {
+        let delta = delta_for(id, found);
+        let next = self.kept(id).with(before, after, &delta);
+        self.put(id, next);
+    }
+
+    /// This is kept of an id from here on.
+    fn put(&mut self, id: HostId, next: Summary)
+        requires { (1 ≤ id) × (id ≤ self.old.sizes.hosts) }
+        ensures { self.new ≡ record self.old { ids = slice_set self.old.ids (id - 1) next } }
+    {
+        self.ids[id as usize - 1] = next;
     }
 }

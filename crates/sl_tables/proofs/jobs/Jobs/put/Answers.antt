@@ -1,5 +1,5 @@
 use Rattle.sl_leases.specs.Jobs.{is_asking_lease, is_program}
-use Rattle.sl_tables.proofs.NumbersName.{own_push, values_push}
+use Rattle.sl_tables.proofs.NumbersName.{own_push}
 use Rattle.sl_tables.proofs.TotalsGo.{total_few, total_push, weight_few}
 use Rattle.sl_tables.proofs.jobs.Jobs.put.Goals as goal
 use Rattle.sl_tables.specs.Jobs.{AreJobs, is_ungranted, weight}

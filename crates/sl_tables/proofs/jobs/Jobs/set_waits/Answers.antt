@@ -1,8 +1,7 @@
 use Rattle.sl_host_state.specs.declared.kept.JobState.{JobState}
 use Rattle.sl_tables.proofs.JobsChange.{none_changed_there, state_is}
 use Rattle.sl_tables.proofs.jobs.Jobs.set_waits.Goals as goal
-use Rattle.std.proofs.Common.{Some, refl, sym, ◌∙◌}
-use Rattle.std.specs.Option.{option_or}
+use Rattle.std.proofs.Common.{refl, sym, ◌∙◌}
 
 pub exchange-requires-clause-there : goal.exchange-requires-clause-there
 exchange-requires-clause-there c = sym c.get.ensures ∙ sym c.in-Some.ensures

@@ -2,7 +2,7 @@ use Rattle.sl_leases.specs.Jobs.{is_asking_lease, is_program}
 use Rattle.sl_tables.proofs.NumbersName.{found_by_number, own_left, values_left}
 use Rattle.sl_tables.proofs.TotalsGo.{total_less}
 use Rattle.sl_tables.proofs.jobs.Jobs.take.Goals as goal
-use Rattle.sl_tables.specs.Jobs.{AreJobs, is_ungranted, weight}
+use Rattle.sl_tables.specs.Jobs.{AreJobs, weight}
 use Rattle.sl_tables.specs.Totals.{total}
 use Rattle.sl_tables.proofs.SlotsStand.{none_left_out}
 use Rattle.std.proofs.Common.{ap, arith, filter, find, nat_eq, not, subst, sym, ◌==◌, ◌∙◌}

@@ -6,8 +6,8 @@ use Rattle.sl_tables.proofs.opens.OpenCalls.answered.Goals as goal
 use Rattle.sl_tables.specs.Opens.{AreNumbered, area_of, first_on, next_on}
 use Rattle.sl_trace.specs.Traces.{same_spot}
 use Rattle.sl_words.specs.Words.{some_is}
-use Rattle.std.proofs.Common.{Some, ap, arith, cond, filter, find, nat_eq, not, refl, subst, sym, ◌&&◌, ◌==◌, ◌≤◌, ◌∙◌}
-use Rattle.std.specs.Map.{lookup, values_of}
+use Rattle.std.proofs.Common.{ap, arith, cond, filter, find, nat_eq, not, refl, subst, sym, ◌&&◌, ◌==◌, ◌∙◌}
+use Rattle.std.specs.Map.{values_of}
 
 pub invariant_of-self : goal.invariant_of-self
 invariant_of-self c =

@@ -1,10 +1,9 @@
-use Rattle.indexmap.specs.IndexMap.{get, spare}
+use Rattle.indexmap.specs.IndexMap.{get}
 use Rattle.sl_tables.proofs.NumbersName.{own_push, values_push}
 use Rattle.sl_tables.proofs.OpensStand.{first_push}
 use Rattle.sl_tables.proofs.opens.OpenCalls.put.Goals as goal
 use Rattle.sl_tables.specs.Opens.{AreNumbered, area_of, first_on}
 use Rattle.sl_trace.specs.Traces.{same_spot}
-use Rattle.sl_trace.specs.declared.effects.Spot.{Spot}
 use Rattle.std.proofs.Common.{Some, ap, arith, cond, subst, sym, unwrap_or, ◌∙◌}
 use Rattle.std.specs.Map.{values_of}
 

@@ -1,4 +1,4 @@
-use Rattle.indexmap.specs.IndexMap.{spare, with_value_at}
+use Rattle.indexmap.specs.IndexMap.{spare}
 use Rattle.sl_tables.proofs.SlotsStand.{below_set, not_set, not_there, replaced, rising_set, set_at}
 use Rattle.sl_tables.proofs.rising.Rising.set.Goals as goal
 use Rattle.sl_tables.specs.Rising.{AreBelow, AreRising, gaps_in, items_of}

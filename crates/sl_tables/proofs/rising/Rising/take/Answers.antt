@@ -1,11 +1,11 @@
-use Rattle.sl_tables.proofs.SlotsStand.{IsLeft, below_set, few_below, gap_left, found_none, gaps_few, none_left_out, not_there, rising_set}
+use Rattle.sl_tables.proofs.SlotsStand.{below_set, few_below, gap_left, gaps_few, none_left_out, not_there, rising_set}
 use Rattle.sl_tables.proofs.rising.Rising.take.Goals as goal
 use Rattle.sl_tables.specs.Rising.{AreBelow, AreRising, gaps_in, items_of}
 use Rattle.indexmap.specs.IndexMap.{set_value_at, spare}
 use Rattle.indexmap.specs.Layout.{length-set_value_at}
 use Rattle.std.specs.Map.{lookup}
 use Rattle.std.specs.Prelude.{filter, not}
-use Rattle.std.proofs.Common.{None, ap, arith, nat_eq, subst, sym, ◌∙◌, ◌≤◌, length, ◌+◌, ◌≡◌}
+use Rattle.std.proofs.Common.{None, ap, arith, nat_eq, subst, sym, ◌∙◌, ◌≤◌, ◌+◌, ◌≡◌}
 
 pub overflow_add-self : goal.overflow_add-self
 overflow_add-self g c =

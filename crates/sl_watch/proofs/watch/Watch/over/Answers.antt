@@ -1,21 +1,22 @@
-use Rattle.sl_area.specs.Layouts.{Layout, layout_of}
+use Rattle.sl_area.specs.Layouts.{layout_of}
 use Rattle.sl_sessions.specs.Watching.{evidence}
+use Rattle.sl_sessions.specs.declared.sighting.Sighting.{Sighting}
 use Rattle.sl_watch.proofs.ReasonLaws.{evidence_if, evidence_names}
 use Rattle.sl_watch.proofs.SummaryLaws.{evidence_read}
 use Rattle.sl_watch.proofs.watch.Watch.over.Goals as goal
-use Rattle.sl_watch.specs.Seen.{Watched, sightings_of}
-use Rattle.std.proofs.Common.{ap, ℕ, ◌≡◌}
+use Rattle.sl_watch.specs.Watches.{WatchStands, Watched}
+use Rattle.std.proofs.Common.{List, ℕ, ◌∙◌, ◌≡◌}
 
 pub returns : goal.returns
 returns c =
     let w : Watched = c.args.self.now in
     let id : ℕ = c.args.id in
     let h : ℕ = c.args.generation in
-    let g : Layout = layout_of w.sizes in
-    let exact : c.evidence.result ≡ evidence w.timing g id h (sightings_of id w.seen) =
-    evidence_read w.timing _ g id h (sightings_of id w.seen) _ _ (ap (λ v. v.timing) c.self.view_is) c.summary.ensures c.evidence.ensures in
+    let exact : (seen : ℕ → List Sighting) → WatchStands w seen → c.evidence_kept.result ≡ evidence w.timing (layout_of w.sizes) id h (seen id) =
+    λ seen stands. c.evidence_kept.ensures ∙ evidence_read w seen id h stands c.requires.0 c.requires.1 in
     record {
+      kept = c.evidence_kept.ensures;
       exact = exact;
-      some = rw exact (evidence_if w id h);
-      first = rw exact (evidence_names w id h);
+      some = λ seen stands. rw (exact seen stands) (evidence_if w.timing w.sizes id h (seen id));
+      first = λ seen stands. rw (exact seen stands) (evidence_names w.timing w.sizes id h (seen id));
     }

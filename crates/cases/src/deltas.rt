@@ -1,0 +1,204 @@
+//! A delta lease of id 1 of two, with io 100, fire 600, land 100 and rho 0.
+
+use crate::records::sector_of;
+use crate::watching::sector_named;
+use crate::word::{number_of, part};
+use sl_area::Geometry;
+use sl_delta::{DeltaCall, DeltaIn, DeltaLease, DeltaOut, Outcome};
+use sl_request::Bitmap;
+use sl_sector::{DeltaRec, DeltaState};
+use sl_sessions::Stage;
+use sl_text::{Bytes, Name};
+use sl_time::Timing;
+use sl_trace::{Answer, JoinStep, Move, Reply};
+use std::alloc::{AllocError, Global};
+
+/// What each reading is below.
+const MOMENTS: u64 = 1_000_000_000_000_000;
+
+/// A lease that joins, or one that is joined by a renewal at this reading.
+fn lease_of(word: &str) -> Option<DeltaLease> {
+    let timing = Timing::new(100, 600, 100, 0).ok()?;
+    let geometry = Geometry::new(512, 1_048_576, 2).ok()?;
+    let lockspace = Name::new(b"ls")?;
+    let host = Name::new(b"a")?;
+    let renewed = number_of(part(word, ':', 1));
+    if part(word, ':', 0) == "joined" && renewed < MOMENTS {
+        return Some(DeltaLease::joined(&timing, &geometry, lockspace, 1, host, renewed));
+    }
+    Some(DeltaLease::start(&timing, &geometry, lockspace, 1, host))
+}
+
+/// The bytes of the sectors that these parts of a word name.
+fn bytes_of(alloc: Global, text: &str, names: &str) -> Result<Bytes, AllocError> {
+    let mut bytes = Vec::new(alloc);
+    for name in names.split('+') {
+        bytes.extend_from_slice(&sector_named(text, name))?;
+    }
+    Ok(Bytes::new(bytes))
+}
+
+/// What a word brings.
+fn input_of(alloc: Global, text: &str, word: &str) -> Result<DeltaIn, AllocError> {
+    let answer = match part(word, ':', 0) {
+        "wake" => return Ok(DeltaIn::Wake(Bitmap::none())),
+        "refused" => return Ok(DeltaIn::Refused),
+        "leave" => return Ok(DeltaIn::Leave),
+        "read" => Answer::Read(bytes_of(alloc, text, part(word, ':', 2))?),
+        "written" => Answer::Written,
+        _ => Answer::Failed,
+    };
+    Ok(DeltaIn::Answered { call: 7, answer })
+}
+
+/// A step of a joining.
+fn step_text(step: JoinStep) -> &'static str {
+    match step {
+        JoinStep::FirstRead => "first",
+        JoinStep::WatchRead => "watch",
+        JoinStep::DecidingRead => "deciding",
+        JoinStep::ClaimWrite => "claim",
+        JoinStep::VerifyRead => "verify",
+        JoinStep::FirstRenewal => "renewal",
+    }
+}
+
+/// A record: its state, generation, seq and stamp.
+fn record_text(alloc: Global, record: &DeltaRec) -> Result<String, AllocError> {
+    let state = match record.state {
+        DeltaState::Free => "free",
+        DeltaState::Claimed => "claimed",
+        DeltaState::Live => "live",
+    };
+    format!(in alloc;
+        "{} {} {} {}",
+        state, record.generation, record.seq, record.stamp
+    )
+}
+
+/// A call.
+fn call_text(alloc: Global, call: &DeltaCall) -> Result<String, AllocError> {
+    match call {
+        DeltaCall::ReadOwn(step) => format!(in alloc; " read {}", step_text(*step)),
+        DeltaCall::WriteOwn { step: _, record } => format!(in alloc;
+            " write {}",
+            record_text(alloc, record)?
+        ),
+        DeltaCall::RenewOwn(record) => format!(in alloc; " renew {}", record_text(alloc, record)?),
+        DeltaCall::ReadAll => format!(in alloc; " read all"),
+        DeltaCall::FreeOwn(record) => format!(in alloc; " free {}", record_text(alloc, record)?),
+    }
+}
+
+/// A move of the connection.
+fn move_text(alloc: Global, moved: &Move) -> Result<String, AllocError> {
+    match moved {
+        Move::Register {
+            lockspace: _,
+            expiry,
+        } => format!(in alloc; " register {expiry}"),
+        Move::Renew {
+            lockspace: _,
+            expiry,
+        } => format!(in alloc; " move {expiry}"),
+        Move::Unregister { lockspace: _ } => format!(in alloc; " unregister"),
+    }
+}
+
+/// A refusal, by its name.
+fn reply_text(reply: &Reply) -> &'static str {
+    match reply {
+        Reply::Done => "done",
+        Reply::IdHeld { first: _, later: _ } => "IdHeld",
+        Reply::IdLost { own: _, found: _ } => "IdLost",
+        Reply::IdLate { claimed: _, now: _ } => "IdLate",
+        Reply::TornDelta => "TornDelta",
+        Reply::WrongDelta {
+            lockspace: _,
+            id: _,
+        } => "WrongDelta",
+        Reply::IoFault { call: _ } => "IoFault",
+        Reply::Limit { which: _ } => "Limit",
+        _ => "another",
+    }
+}
+
+/// An outcome.
+fn outcome_text(alloc: Global, outcome: &Outcome) -> Result<String, AllocError> {
+    match outcome {
+        Outcome::Joined { generation } => format!(in alloc; " joined {generation}"),
+        Outcome::NotJoined(reply) => format!(in alloc; " refused {}", reply_text(reply)),
+        Outcome::Left(reply) => format!(in alloc; " left {}", reply_text(reply)),
+    }
+}
+
+/// What a step gives.
+fn out_text(alloc: Global, out: &DeltaOut) -> Result<String, AllocError> {
+    let mut text = format!(in alloc; "{}", if out.recovers { " recovers" } else { "" })?;
+    if let Some(moved) = &out.moved {
+        text.push_str(move_text(alloc, moved)?.as_str())?;
+    }
+    if let Some(call) = &out.call {
+        text.push_str(call_text(alloc, call)?.as_str())?;
+    }
+    if let Some(outcome) = &out.outcome {
+        text.push_str(outcome_text(alloc, outcome)?.as_str())?;
+    }
+    Ok(text)
+}
+
+/// A stage.
+fn stage_text(stage: Stage) -> &'static str {
+    match stage {
+        Stage::Looking => "looking",
+        Stage::Deciding => "deciding",
+        Stage::Claiming => "claiming",
+        Stage::Waiting => "waiting",
+        Stage::Verifying => "verifying",
+        Stage::FirstRenewing => "first renewing",
+        Stage::Standing => "standing",
+        Stage::Freeing => "freeing",
+        Stage::Refused => "refused",
+        Stage::Ended => "ended",
+    }
+}
+
+/// What the lease tells at a word: `stage`, `last`, or an input `KIND:NOW..`.
+fn told(
+    alloc: Global,
+    lease: &mut DeltaLease,
+    text: &str,
+    word: &str,
+) -> Result<String, AllocError> {
+    if word == "stage" {
+        return format!(in alloc; " {}", stage_text(lease.state()));
+    }
+    if word == "last" {
+        return match lease.last_renewal() {
+            Some(renewed) => format!(in alloc; " {renewed}"),
+            None => format!(in alloc; " none"),
+        };
+    }
+    let now = number_of(part(word, ':', 1));
+    let input = input_of(alloc, text, word)?;
+    if !lease.fits(&input) || now >= MOMENTS {
+        return format!(in alloc; " unfit");
+    }
+    out_text(alloc, &lease.step(alloc, now, input)?)
+}
+
+/// What a delta lease gives at these words: the first is `start` or `joined:NOW`; a word `NAME=..` tells a sector, in which later words name
+/// what is read.
+pub fn delta(alloc: Global, text: &str) -> Result<String, AllocError> {
+    let Some(mut lease) = lease_of(part(text, ' ', 0)) else {
+        return format!(in alloc; "no run");
+    };
+    let mut all = String::new(alloc);
+    for word in text.split(' ').skip(1) {
+        if part(word, '=', 1).is_empty() {
+            all.push_str(told(alloc, &mut lease, text, word)?.as_str())?;
+            all.push_str(";")?;
+        }
+    }
+    Ok(all)
+}

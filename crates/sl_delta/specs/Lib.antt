@@ -1,0 +1,4 @@
+pub mod Own
+pub mod Decides
+pub mod Laws
+pub mod Steps

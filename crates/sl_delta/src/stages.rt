@@ -1,0 +1,64 @@
+//! The stage of a session by its own sector.
+
+ghost use Rattle.sl_delta.specs.Decides.{IsFitNext};
+ghost use Rattle.sl_delta.specs.Steps.{joining_wake, stage_holding, stage_joining};
+ghost use Rattle.sl_sessions.specs.Sessions.{stage_after};
+ghost use Rattle.std.specs.Prelude.{◌≡◌};
+
+use crate::own::OwnSector;
+use sl_sessions::{DeltaNext, Stage};
+use sl_trace::JoinStep;
+
+/// The stage of a joining after this step, its call answered or not.
+fn stage_after(step: JoinStep, done: bool) -> Stage
+    ensures { result ≡ stage_after step done }
+{
+    match step {
+        JoinStep::FirstRead => Stage::Looking,
+        JoinStep::WatchRead => Stage::Looking,
+        JoinStep::DecidingRead => Stage::Deciding,
+        JoinStep::ClaimWrite => {
+            if done {
+                Stage::Waiting
+            } else {
+                Stage::Claiming
+            }
+        }
+        JoinStep::VerifyRead => Stage::Verifying,
+        JoinStep::FirstRenewal => Stage::FirstRenewing,
+    }
+}
+
+impl OwnSector {
+    /// The stage of a joining, by its newest call.
+    pub(crate) fn stage(&self) -> Stage
+        ensures { result ≡ stage_joining self.now }
+    {
+        match &self.newest {
+            Some(call) => stage_after(call.step, call.answered.is_some()),
+            None => Stage::Looking,
+        }
+    }
+
+    /// That of a joined session.
+    pub(crate) fn standing(&self) -> Stage
+        ensures { result ≡ stage_holding self.now }
+    {
+        if self.freed {
+            Stage::Freeing
+        } else {
+            Stage::Standing
+        }
+    }
+
+    /// What a wake makes due of a joining: its first read, or what its time has come for.
+    pub(crate) fn first_or_on_wake(&self, now: u64) -> DeltaNext
+        ensures exact { result ≡ joining_wake now self.now }
+        ensures fit { IsFitNext result }
+    {
+        match &self.newest {
+            Some(_) => self.on_wake(now),
+            None => DeltaNext::ReadOwn(JoinStep::FirstRead),
+        }
+    }
+}

@@ -1,0 +1,234 @@
+-- Each record of moment 0 has a spelling, and so each place a sector's bytes.
+use Rattle.std.proofs.lemmas.List.{length-replicate}
+use Rattle.sl_sector.specs.declared.sector.DeltaRec.{DeltaRec}
+use Rattle.sha2.specs.Sha256.{sha256}
+use Rattle.sl_area.proofs.SizeLaws.{HasRoom, has_room}
+use Rattle.sl_area.specs.Layouts.{IsGeometry, Sizes, layout_of, sector_with}
+use Rattle.sl_area.specs.Places.{fresh_block, fresh_delta, fresh_leader, in_area, no_request, no_value}
+use Rattle.sl_run.specs.Headers.{IsHeader}
+use Rattle.sl_run.specs.Worlds.{clock_reading, initial_bytes, initial_delta, initial_of_lockspace, initial_of_resource, initial_record, member_delta}
+use Rattle.sl_run.specs.declared.header.FirstReading.{FirstReading}
+use Rattle.sl_run.specs.declared.header.Header.{Header}
+use Rattle.sl_run.specs.declared.header.LockspaceLine.{LockspaceLine}
+use Rattle.sl_run.specs.declared.header.ResourceLine.{ResourceLine}
+use Rattle.sl_run.specs.declared.header.SessionLine.{SessionLine}
+use Rattle.sl_sector.proofs.SpellingLaws.{length-spelling}
+use Rattle.sl_sector.proofs.WrittenBytes.{sha256_is_digest}
+use Rattle.sl_sector.specs.Records.{IsBlock, IsDelta, IsLeader, IsRecord, IsRequest, IsValue}
+use Rattle.sl_sector.specs.Spelling.{IsSectorSize}
+use Rattle.sl_sector.specs.declared.sector.Rec.TheVariants.{BlockIs, DeltaIs, LeaderIs, RequestIs, ValueIs}
+use Rattle.sl_sector.specs.declared.sector.Rec.{Rec}
+use Rattle.sl_text.specs.Names.{is_name}
+use Rattle.sl_words.proofs.CaseLaws.{none_some, some_value}
+use Rattle.sl_words.specs.Words.{choose}
+use Rattle.sl_disks.specs.Initial.{clock_of, line_at, resource_at, session_of}
+use Rattle.std.proofs.Common.{ap, arith, refl, subst, sym, ◌∙◌}
+use Rattle.std.proofs.lemmas.Bool.Decides.{nat_tests}
+use Rattle.std.specs.Option.{option_map_or}
+use Rattle.std.specs.Prelude.{Bool, Contains, IsTrue, List, None, Option, Some, bytes_eq, false, find, if◌then◌else◌, length, nat_lt, replicate, suc, true, [], ℕ, ◌&&◌, ◌*◌, ◌+◌, ◌-◌, ◌/◌, ◌<◌, ◌==◌, ◌^◌, ◌∷◌, ◌≡◌, ◌≤◌}
+
+-- ---- what is found is there
+
+pub first_place : (n : ℕ) → 0 < suc n
+first_place n = omega arith
+
+next_place : (k n : ℕ) → k < n → suc k < suc n
+next_place k n h = omega (arith, h)
+
+pub later : {X : Type 0} (y x : X) (ys : List X) → Contains ys x → Contains (y ∷ ys) x
+later y x ys c = (suc c.0, next_place c.0 (length ys) c.1, c.2)
+
+find_at : {X : Type 0} (p : X → Bool) (y : X) (ys : List X) (x : X) (b : Bool) → p y ≡ b → (if b then Some y else find p ys) ≡ Some x
+    → (find p ys ≡ Some x → Contains ys x × (p x ≡ true)) → Contains (y ∷ ys) x × (p x ≡ true)
+find_at p y ys x true is h rest =
+    let same : y ≡ x = some_value y x h in
+    ((0, first_place (length ys), same), ap p (sym same) ∙ is)
+find_at p y ys x false is h rest = let r = rest h in (later y x ys r.0, r.1)
+
+pub find_some : {X : Type 0} (p : X → Bool) (xs : List X) (x : X) → find p xs ≡ Some x → Contains xs x × (p x ≡ true)
+find_some p [] x h = absurd (none_some x h)
+find_some p (y ∷ ys) x h = find_at p y ys x (p y) refl h (find_some p ys x)
+
+-- ---- the records
+
+nothing_less : 0 < 0 → ⊥
+nothing_less h = omega (arith, h)
+
+one_is_none : (n : ℕ) → n ≡ 1 → n ≡ 0 → ⊥
+one_is_none n h k = omega (arith, h, k)
+
+small_number : 1 < 2 ^ 63
+small_number = omega arith
+
+no_number : 0 < 2 ^ 63
+no_number = omega arith
+
+a_moment : 0 < 10 ^ 15
+a_moment = omega arith
+
+pub fresh_delta_is : (name : List ℕ) (id : ℕ) → IsTrue (is_name name) → 1 ≤ id → id ≤ 2000 → IsDelta (fresh_delta name id)
+fresh_delta_is name id named low high =
+    record {
+      id = (low, high);
+      generation = no_number;
+      seq = no_number;
+      stamp = a_moment;
+      lockspace = named;
+      bitmap = (refl, refl);
+      unused = λ h. (refl, refl, refl, refl, refl);
+      used = λ h. absurd (nothing_less h);
+    }
+
+pub member_delta_is : (h : Header) (s : SessionLine) → IsTrue (is_name s.lockspace) → IsTrue (is_name s.name) → 1 ≤ s.id → s.id ≤ 2000
+    → clock_reading h s.machine < 10 ^ 15 → IsDelta (member_delta h s)
+member_delta_is h s space name low high now =
+    record {
+      id = (low, high);
+      generation = small_number;
+      seq = small_number;
+      stamp = now;
+      lockspace = space;
+      bitmap = (refl, refl);
+      unused = λ h. absurd (one_is_none 1 refl h);
+      used = λ h. name;
+    }
+
+below : (n : ℕ) → n < 10 ^ 12 → n < 10 ^ 15
+below n h = omega (arith, h)
+
+clock_by : (h : Header) (m : ℕ) (o : Option FirstReading) → clock_of h m ≡ o → IsHeader h → option_map_or (λ (c : FirstReading). c.reading) o 0 < 10 ^ 15
+clock_by h m None is ok = a_moment
+clock_by h m (Some c) is ok = below c.reading (ok.clocks c (find_some (λ c. c.machine == m) h.clocks c is).0).2
+
+-- Each first reading is a stamp.
+pub clock_is_small : (h : Header) (m : ℕ) → IsHeader h → clock_reading h m < 10 ^ 15
+clock_is_small h m ok = clock_by h m (clock_of h m) refl ok
+
+up_to : (a b : ℕ) → a ≤ b → b ≤ 2000 → a ≤ 2000
+up_to a b h k = omega (arith, h, k)
+
+above_one : (k : ℕ) → 1 ≤ k + 1
+above_one k = omega arith
+
+within : (k n : ℕ) → nat_lt k n ≡ true → n ≤ 2000 → k + 1 ≤ 2000
+within k n h most = grind (arith, nat_tests)
+
+initial_delta_by : (h : Header) (l : LockspaceLine) (id : ℕ) (o : Option SessionLine) → session_of h l.name id ≡ o → IsHeader h → IsTrue (is_name l.name) → 1 ≤ id → id ≤ 2000
+    → IsDelta (elim o as (λ x. DeltaRec) [ None ↦ fresh_delta l.name id | Some s ↦ member_delta h s ])
+initial_delta_by h l id None is ok named low high = fresh_delta_is l.name id named low high
+initial_delta_by h l id (Some s) is ok named low high =
+    let at = find_some (λ s. bytes_eq s.lockspace l.name && s.id == id) h.sessions s is in
+    let member = ok.members s at.0 in
+    let space = member.lockspace in
+    let space_named : IsTrue (is_name s.lockspace) = subst (λ n. IsTrue (is_name n)) space.2 (ok.lockspaces space.0 space.1).0 in
+    (member_delta_is h s space_named member.name member.id.0 (up_to s.id h.geometry.hosts member.id.1 (has_room h.geometry ok.geometry).hosts.1)
+    (clock_by h s.machine (clock_of h s.machine) refl ok))
+
+lockspace_by : (h : Header) (l : LockspaceLine) (k : ℕ) (b : Bool) (r : Rec) → nat_lt k h.geometry.hosts ≡ b → IsHeader h → IsTrue (is_name l.name)
+    → choose b (DeltaIs (initial_delta h l (k + 1))) ≡ Some r → IsRecord r
+lockspace_by h l k false r is ok named eq = absurd (none_some r eq)
+lockspace_by h l k true r is ok named eq =
+    subst IsRecord (some_value (DeltaIs (initial_delta h l (k + 1))) r eq)
+    (initial_delta_by h l (k + 1) (session_of h l.name (k + 1)) refl ok named (above_one k) (within k h.geometry.hosts is (has_room h.geometry ok.geometry).hosts.1))
+
+at_least_none : (n : ℕ) → 0 ≤ n
+at_least_none n = omega arith
+
+pub fresh_leader_is : (s : Sizes) (space name : List ℕ) → HasRoom s → IsTrue (is_name space) → IsTrue (is_name name) → IsLeader (fresh_leader (layout_of s) space name)
+fresh_leader_is s space name sizes a b =
+    record {
+      hosts = sizes.hosts;
+      lver = no_number;
+      generation = no_number;
+      owner = at_least_none s.hosts;
+      lockspace = a;
+      resource = b;
+      same = ((λ h. refl, λ h. refl), (λ h. refl, λ h. refl));
+      unused = λ h. refl;
+    }
+
+pub fresh_block_is : (host : ℕ) → 1 ≤ host → host ≤ 2000 → IsBlock (fresh_block host)
+fresh_block_is host low high =
+    record {
+      host = (low, high);
+      lver = no_number;
+      mbal = no_number;
+      bal = at_least_none 0;
+      generations = (no_number, no_number);
+      inp = at_least_none 2000;
+      value = ((λ h. refl, λ h. refl), (λ h. refl, λ h. refl));
+      mode = (λ h. refl, λ h. refl);
+      unused = λ h. (refl, refl);
+    }
+
+no_request_is : IsRequest no_request
+no_request_is = record { force = at_least_none 2; host = at_least_none 2000; lver = no_number; same = (λ h. refl, λ h. refl) }
+
+no_value_is : IsValue no_value
+no_value_is = record { host = at_least_none 2000; lver = no_number; seq = no_number; bytes = (at_least_none 256, refl) }
+
+block_low : (k : ℕ) → (k == 0) ≡ false → (k == 1) ≡ false → 1 ≤ k - 1
+block_low k h i = grind (arith, nat_tests)
+
+block_high : (k n : ℕ) → nat_lt k (n + 2) ≡ true → n ≤ 2000 → k - 1 ≤ 2000
+block_high k n h most = grind (arith, nat_tests)
+
+resource_by : (h : Header) (l : ResourceLine) (k : ℕ) (leader request block last : Bool) (r : Rec) → (k == 0) ≡ leader → (k == 1) ≡ request
+    → nat_lt k (h.geometry.hosts + 2) ≡ block → IsHeader h → IsTrue (is_name l.lockspace) → IsTrue (is_name l.name)
+    → (if leader then Some (LeaderIs (fresh_leader (layout_of h.geometry) l.lockspace l.name))
+    else (if request then Some (RequestIs no_request)
+    else (if block then Some (BlockIs (fresh_block (k - 1)))
+    else choose last (ValueIs no_value)))) ≡ Some r → IsRecord r
+resource_by h l k true request block last r a b c ok space name eq =
+    subst IsRecord (some_value _ r eq) (fresh_leader_is h.geometry l.lockspace l.name (has_room h.geometry ok.geometry) space name)
+resource_by h l k false true block last r a b c ok space name eq = subst IsRecord (some_value (RequestIs no_request) r eq) no_request_is
+resource_by h l k false false true last r a b c ok space name eq =
+    subst IsRecord (some_value (BlockIs (fresh_block (k - 1))) r eq)
+    (fresh_block_is (k - 1) (block_low k a b) (block_high k h.geometry.hosts c (has_room h.geometry ok.geometry).hosts.1))
+resource_by h l k false false false true r a b c ok space name eq = subst IsRecord (some_value (ValueIs no_value) r eq) no_value_is
+resource_by h l k false false false false r a b c ok space name eq = absurd (none_some r eq)
+
+initial_in_resource : (h : Header) (path : List ℕ) (offset : ℕ) (o : Option ResourceLine) (r : Rec) → resource_at h path offset ≡ o → IsHeader h
+    → elim o as (λ x. Option Rec) [ Some l ↦ initial_of_resource (layout_of h.geometry) l ((offset - l.offset) / h.geometry.sector) | None ↦ None ] ≡ Some r → IsRecord r
+initial_in_resource h path offset None r is ok eq = absurd (none_some r eq)
+initial_in_resource h path offset (Some l) r is ok eq =
+    let at = find_some (λ l. bytes_eq l.path path && in_area (layout_of h.geometry) l.offset offset) h.resources l is in
+    let line = ok.resources l at.0 in
+    let space = line.2 in
+    let k : ℕ = (offset - l.offset) / h.geometry.sector in
+    resource_by h l k (k == 0) (k == 1) (nat_lt k (h.geometry.hosts + 2)) ((k + 1) * h.geometry.sector == h.geometry.area) r refl refl refl ok
+    (subst (λ n. IsTrue (is_name n)) space.2 (ok.lockspaces space.0 space.1).0) line.0 eq
+
+initial_by : (h : Header) (path : List ℕ) (offset : ℕ) (o : Option LockspaceLine) (r : Rec) → line_at h path offset ≡ o → IsHeader h
+    → elim o as (λ x. Option Rec) [
+      | Some l ↦ initial_of_lockspace h l ((offset - l.offset) / h.geometry.sector)
+      | None ↦ elim (resource_at h path offset) as (λ x. Option Rec) [
+        | Some l ↦ initial_of_resource (layout_of h.geometry) l ((offset - l.offset) / h.geometry.sector)
+        | None ↦ None
+      ]
+    ] ≡ Some r → IsRecord r
+initial_by h path offset None r is ok eq = initial_in_resource h path offset (resource_at h path offset) r refl ok eq
+initial_by h path offset (Some l) r is ok eq =
+    let at = find_some (λ l. bytes_eq l.path path && in_area (layout_of h.geometry) l.offset offset) h.lockspaces l is in
+    let k : ℕ = (offset - l.offset) / h.geometry.sector in
+    lockspace_by h l k (nat_lt k h.geometry.hosts) r refl ok (ok.lockspaces l at.0).0 eq
+
+-- Each record of moment 0 has a spelling.
+pub initial_is_record : (h : Header) (path : List ℕ) (offset : ℕ) (r : Rec) → IsHeader h → initial_record (layout_of h.geometry) h path offset ≡ Some r → IsRecord r
+unfolding initial_record
+initial_is_record h path offset r ok eq = initial_by h path offset (line_at h path offset) r refl ok eq
+
+-- ---- lengths
+
+pub is_size : (s : Sizes) → IsGeometry s → IsSectorSize s.sector
+is_size s h = (has_room s h).sector
+
+initial_sized_by : (h : Header) (path : List ℕ) (offset : ℕ) (o : Option Rec) → initial_record (layout_of h.geometry) h path offset ≡ o → IsHeader h
+    → length (elim o as (λ x. List ℕ) [ None ↦ replicate h.geometry.sector 0 | Some r ↦ sector_with (layout_of h.geometry) r ]) ≡ h.geometry.sector
+initial_sized_by h path offset None is ok = length-replicate h.geometry.sector 0
+initial_sized_by h path offset (Some r) is ok =
+    length-spelling sha256 sha256_is_digest h.geometry.sector r (is_size h.geometry ok.geometry) (initial_is_record h path offset r ok is)
+
+-- Each place has a sector's bytes at moment 0.
+pub initial_sized : (h : Header) (path : List ℕ) (offset : ℕ) → IsHeader h → length (initial_bytes (layout_of h.geometry) h path offset) ≡ h.geometry.sector
+initial_sized h path offset ok = initial_sized_by h path offset (initial_record (layout_of h.geometry) h path offset) refl ok

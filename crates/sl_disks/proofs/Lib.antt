@@ -1,0 +1,3 @@
+pub mod InitialLaws
+pub mod TableLaws
+pub mod DiskLaws

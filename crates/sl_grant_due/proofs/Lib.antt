@@ -1,0 +1,13 @@
+pub mod WorksByEffects
+pub mod WorksByInputs
+pub mod WorksByLines
+pub mod WorksByGrants
+pub mod WorksByExits
+pub mod WorksByDeltas
+pub mod WorksByAnswers
+pub mod WorkFactsAreKept
+pub mod WorkFactsBegin
+pub mod EndsAreLawful
+pub mod ExitsAreLawful
+pub mod GrantsStand
+pub mod OrphansAreLawful

@@ -1,0 +1,50 @@
+//! What is kept of the work of jobs, and what is lawful of ends, exits and grants.
+
+ghost use Rattle.sl_grant_due.specs.GrantPromises.{EndsAreLawful, EndsBegin, ExitsAreLawful, ExitsBegin, GrantsAreLawful, GrantsStand, OrphansAreLawful, OrphansBegin, WorkFactsAreKept, WorkFactsBegin};
+
+/// Each act keeps what is known of a job's work.
+pub fn work_facts_are_kept()
+    ensures { WorkFactsAreKept }
+{}
+
+/// It holds once a step has begun.
+pub fn work_facts_begin()
+    ensures { WorkFactsBegin }
+{}
+
+/// Each act leaves only lawful ends: of what was held before, for its reason.
+pub fn ends_are_lawful()
+    ensures { EndsAreLawful }
+{}
+
+pub fn ends_begin()
+    ensures { EndsBegin }
+{}
+
+/// What an exit leaves is lawful at each act.
+pub fn exits_are_lawful()
+    ensures { ExitsAreLawful }
+{}
+
+pub fn exits_begin()
+    ensures { ExitsBegin }
+{}
+
+/// The facts of holdings give of each grant what is lawful of it, but that its session is active.
+pub fn grants_stand()
+    ensures { GrantsStand }
+{}
+
+/// The orphans that are granted are lawful at each act.
+pub fn orphans_are_lawful()
+    ensures { OrphansAreLawful }
+{}
+
+pub fn orphans_begin()
+    ensures { OrphansBegin }
+{}
+
+/// Where the sessions of granted processes are active the grants are lawful.
+pub fn grants_are_lawful()
+    ensures { GrantsAreLawful }
+{}

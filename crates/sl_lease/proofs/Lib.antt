@@ -1,0 +1,8 @@
+pub mod TopLaws
+pub mod TopRules
+pub mod ToldLaws
+pub mod RecordFacts
+pub mod NextLaws
+pub mod KnownLaws
+pub mod SameLaws
+pub mod ReadLaws

@@ -1,0 +1,24 @@
+-- The greatest of numbers, as it is found one by one.
+use Rattle.sl_host_state.specs.Stands.{top_mbal}
+use Rattle.sl_lease.specs.Asked.{tops_found}
+use Rattle.sl_lease.specs.Changes.{mbals_found}
+use Rattle.sl_leases.specs.Leases.{top_lver}
+use Rattle.sl_sector.specs.declared.sector.Block.{Block}
+use Rattle.sl_words.specs.Words.{greatest, present}
+use Rattle.std.proofs.Common.{List, Option, [], arith, filter, map, max, ◌==◌, ◌∷◌, ◌≡◌, ◌∙◌, ℕ}
+use Rattle.std.specs.List.{fold}
+
+-- From a number on.
+fold-max : (xs : List ℕ) (top : ℕ) → fold (λ a x. max a x) top xs ≡ max top (greatest xs)
+fold-max [] top = omega arith
+fold-max (x ∷ xs) top = omega (arith, fold-max xs (max top x))
+
+-- The greatest lver.
+pub tops_found-top : (own : Block) (read : List (Option Block)) → tops_found own read ≡ top_lver own read
+tops_found-top own read = fold-max _ own.lver
+
+-- The greatest number.
+pub mbals_found-top : (n : ℕ) (read : List (Option Block)) → mbals_found n read ≡ top_mbal n read
+mbals_found-top n read =
+    let found : List ℕ = map (λ b. b.mbal) (filter (λ b. b.lver == n) (present read)) in
+    let none : max 0 (greatest found) ≡ greatest found = omega arith in fold-max found 0 ∙ none

@@ -1,0 +1,5 @@
+use Rattle.sl_lease.proofs.SameLaws as lemmas
+use Rattle.sl_lease.proofs.laws.hosts_keep_the_same.Goals as goal
+
+pub returns : goal.returns
+returns c = lemmas.hosts_keep_the_same

@@ -1,0 +1,10 @@
+use Rattle.sl_lease.proofs.KnownLaws.{write_decides}
+use Rattle.sl_lease.proofs.lease.Lease.after_write.Goals as goal
+use Rattle.sl_lease.specs.Side.{layout_in}
+use Rattle.sl_leases.specs.Leases.{last_blocks}
+
+pub returns-clause-decides : goal.returns-clause-decides
+returns-clause-decides c =
+    λ call over ms named k.
+    write_decides c.args.side.now c.args.self.now c.args.held over c.args.aim call c.args.n c.args.step ms c.write_next.result k
+    (λ stands. c.write_next.ensures.exact named over (last_blocks (layout_in c.args.side.now) ms) stands)

@@ -1,0 +1,7 @@
+pub mod Bounds
+pub mod Steps
+pub mod Side
+pub mod Changes
+pub mod Asked
+pub mod Laws
+pub mod Reads

@@ -1,0 +1,13 @@
+pub mod NamesVerified
+pub mod CallsMade
+pub mod CallsCarried
+pub mod OthersKeep
+pub mod LawsStay
+pub mod DeltasStay
+pub mod LeaseCallsStay
+pub mod NextsStay
+pub mod TurnsStay
+pub mod LinesStay
+pub mod LawsAreKept
+pub mod RecoveriesBegin
+pub mod WorkIsActive

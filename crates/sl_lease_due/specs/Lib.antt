@@ -1,0 +1,3 @@
+pub mod LeaseLawful
+pub mod Made
+pub mod Promises

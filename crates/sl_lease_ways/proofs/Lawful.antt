@@ -1,0 +1,4 @@
+pub mod BallotLaws
+pub mod BallotsBegin
+pub mod ClearReads
+pub mod GrantsFollow

@@ -1,0 +1,11 @@
+pub mod NewestCall
+pub mod GreatestFrees
+pub mod InstancesBegin
+pub mod Decoding
+pub mod Places
+pub mod WayStages
+pub mod WayNumbers
+pub mod Lawful
+pub mod NumbersFollow
+pub mod NextsFit
+pub mod Kept

@@ -1,0 +1,4 @@
+pub mod Instances
+pub mod Nexts
+pub mod Kept
+pub mod Promises

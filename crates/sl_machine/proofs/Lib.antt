@@ -1,0 +1,14 @@
+pub mod PlainFronts
+pub mod FlightLaws
+pub mod FlightChanges
+pub mod FlightPushes
+pub mod Refusals
+pub mod KeptLaws
+pub mod NameLaws
+pub mod PassLaws
+pub mod PlainNumbered
+pub mod PlainRanges
+pub mod PlainOptions
+pub mod AllRefusals
+pub mod PartsHeard
+pub mod PlainFilled

@@ -1,0 +1,20 @@
+use Rattle.sl_kept.specs.Changes.{cut_flight}
+use Rattle.sl_machine.proofs.PlainFronts.{mapped_all, mapped_one}
+use Rattle.sl_machine.proofs.flights.cut_all.Goals as goal
+use Rattle.std.proofs.Common.{arith}
+
+pub index_mut-requires : goal.index_mut-requires
+index_mut-requires c = let l = c.loop-index.invariant.1 in omega (arith, l)
+
+pub loop-index-preserved : goal.loop-index-preserved
+loop-index-preserved c =
+    let l = c.args.items.now.ok in (
+      mapped_one (cut_flight c.args.moment) c.args.items.now.items c.loop-index.items.items c.loop-index.index _ c.cut.new.self c.loop-index.invariant.0 (omega (arith, l)) c.index_mut.ensures.value
+          c.cut.ensures,
+      c.loop-index.invariant.1,
+    )
+
+pub returns : goal.returns
+returns c =
+    let l = c.args.items.now.ok in
+    mapped_all (cut_flight c.args.moment) c.args.items.now.items c.loop-index.items.items c.loop-index.index c.loop-index.invariant.0 (omega (arith, l))

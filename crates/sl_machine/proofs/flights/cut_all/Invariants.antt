@@ -1,0 +1,8 @@
+use Rattle.sl_kept.specs.Changes.{cut_flight}
+use Rattle.sl_machine.proofs.PlainFronts.{front_mapped}
+use Rattle.sl_machine.proofs.flights.cut_all.Given as goal
+use Rattle.std.proofs.Common.{deque_len, ◌≡◌}
+
+-- the calls before this one are changed
+abbrev pub invariant-loop-index : goal.invariant-loop-index
+invariant-loop-index l = (l.items.items ≡ front_mapped (cut_flight l.moment) l.index l.fn.items.items) × (deque_len l.items ≡ deque_len l.fn.items)

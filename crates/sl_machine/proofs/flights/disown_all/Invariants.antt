@@ -1,0 +1,8 @@
+use Rattle.sl_kept.specs.Changes.{disowned}
+use Rattle.sl_machine.proofs.PlainFronts.{front_mapped}
+use Rattle.sl_machine.proofs.flights.disown_all.Given as goal
+use Rattle.std.proofs.Common.{deque_len, ◌≡◌}
+
+-- the calls before this one are changed
+abbrev pub invariant-loop-index : goal.invariant-loop-index
+invariant-loop-index l = (l.items.items ≡ front_mapped disowned l.index l.fn.items.items) × (deque_len l.items ≡ deque_len l.fn.items)

@@ -1,0 +1,75 @@
+//! What a machine asks of the locks that lvmlockd has there.
+
+ghost use Rattle.sl_machine.specs.Hearing.{heard_by_locks, lock_input};
+ghost use Rattle.sl_run.specs.Locks.{Locks, fresh_locks, locks_after};
+ghost use Rattle.std.specs.Prelude.{Bool, IfOk, OnOk, is_some, true, ◌≡◌};
+
+use sl_run::Header;
+use sl_text::Bytes;
+use sl_trace::{Effects, Input};
+use std::alloc::{AllocError, Global};
+
+/// What lvmlockd's locks take of the input that the daemon is given: that it is a line for the host, a line for lvmlockd, or the exit of a
+/// process.
+#[derive(Drop)]
+pub enum LockInput {
+    Line,
+    Number(Bytes),
+    Exit(u32),
+    Nothing,
+}
+
+/// lvmlockd's locks on a machine, with the line that runs.
+pub trait LockTable: Drop {
+    /// What they are.
+    ghost locks: { Self → Locks };
+
+    /// Whether they have room for one step more.
+    ghost has_room: { Self → Bool };
+
+    /// Those of a header's world before any line. They take no memory.
+    fn fresh(alloc: Global, header: &Header) -> Self
+        ensures { locks result ≡ fresh_locks header.now };
+
+    /// Whether a line runs.
+    fn has_line(&self) -> bool
+        ensures { result ≡ is_some (locks self.now).line };
+
+    /// Whether an ask is due.
+    fn has_ask(&self) -> bool
+        ensures { result ≡ is_some (locks self.now).due };
+
+    /// The ask that is due. An `Err` is want of memory.
+    fn ask(&self, alloc: Global) -> Result<Option<Bytes>, AllocError>
+        ensures { IfOk result (λ text. text ≡ (locks self.now).due) };
+
+    /// Takes the memory that one step more needs. An `Err` is want of it.
+    fn reserve(&mut self, input: &LockInput) -> Result<(), AllocError>
+        ensures room { OnOk result (has_room self.new ≡ true) }
+        ensures same { locks self.new ≡ locks self.old };
+
+    /// The number of the ask that has no reply yet.
+    fn asked(&self) -> Option<u64>
+        ensures { result ≡ (locks self.now).asked };
+
+    /// The step with this number, input and effects; the answer is the reply to the line that runs, if it has come, with the line's
+    /// number. It takes no memory.
+    fn turn(&mut self, number: u64, input: LockInput, effects: &Effects) -> Option<(u64, Bytes)>
+        requires { has_room self.old ≡ true }
+        ensures stays { locks self.new ≡ (locks_after number (lock_input input) effects.now (locks self.old)).0 }
+        ensures told { result ≡ (locks_after number (lock_input input) effects.now (locks self.old)).1 };
+}
+
+/// What lvmlockd's locks take of an input. An `Err` is want of memory.
+pub fn lock_input_of(alloc: Global, input: &Input) -> Result<LockInput, AllocError>
+    ensures { IfOk result (λ l. lock_input l ≡ heard_by_locks input.now) }
+{
+    match input {
+        Input::Line(_) => Ok(LockInput::Line),
+        Input::Number(text) => Ok(LockInput::Number(Bytes::from_slice(alloc, text.as_slice())?)),
+        Input::Exit { process } => Ok(LockInput::Exit(*process)),
+        Input::Answer { call: _, answer: _ } => Ok(LockInput::Nothing),
+        Input::Wake => Ok(LockInput::Nothing),
+        Input::Spawned { process: _, ok: _ } => Ok(LockInput::Nothing),
+    }
+}

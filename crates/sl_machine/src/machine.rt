@@ -1,0 +1,205 @@
+//! A machine.
+
+ghost use Rattle.sl_daemon.specs.Daemons.{IsSoundOp};
+ghost use Rattle.sl_daemon.specs.declared.daemon.Most.{Most as MostOf};
+ghost use Rattle.sl_kept.specs.Changes.{change_flight, crashed_machine, reset_machine, restarted_machine, started_machine, tested_machine};
+ghost use Rattle.sl_kept.specs.Steps.{owned_machine};
+ghost use Rattle.sl_kept.specs.Kept.{FlightState, flight_in};
+ghost use Rattle.sl_kept.specs.Refusing.{left_in};
+ghost use Rattle.sl_machine.specs.Flights.{ended_flight, grown_flight};
+ghost use Rattle.sl_machine.specs.Hearing.{lock_input};
+ghost use Rattle.sl_machine.specs.Machines.{HasOwnRoom, HasRoom, TakesStep, machine_state, stepped_by, told_by};
+ghost use Rattle.std.specs.Arc.{arc_value};
+ghost use Rattle.std.specs.Vec.{vec_capacity, vec_len};
+ghost use Rattle.sl_run.specs.Headers.{IsHeader};
+ghost use Rattle.sl_time.specs.Times.{reading_of};
+ghost use Rattle.std.specs.Prelude.{OnErr, OnOk, Some, flat_map, length, ◌+◌, ◌≡◌, ◌≤◌};
+
+use crate::children::{add_starts, hear_start};
+use crate::connections::{Connection, make_moves, test_holds};
+use crate::flight::Outcome;
+use crate::flights::Flights;
+use crate::heard::Heard;
+use crate::held::take_effects;
+use crate::locks::{LockInput, LockTable};
+use sl_daemon::Most;
+use sl_run::Header;
+use sl_sectors::Image;
+use sl_text::Bytes;
+use sl_trace::{Effects, Grant};
+use std::alloc::{AllocError, Global};
+use std::sync::Arc;
+
+/// A machine: what its next event asks for.
+#[derive(Drop)]
+pub struct Machine<L: LockTable> {
+    pub up: bool,
+    /// A daemon ran since the last restart.
+    pub used: bool,
+    /// One runs.
+    pub runs: bool,
+    /// In thousandths of a millisecond.
+    pub clock: u64,
+    /// The moment on which the last keepalive rests.
+    pub kept: u64,
+    pub connections: Vec<Connection>,
+    /// The number of the next job.
+    pub job: u64,
+    /// The children of the daemon that runs whose start has no answer.
+    pub starting: Vec<u32>,
+    pub flights: Flights,
+    pub held: Vec<Grant>,
+    pub locks: L,
+}
+
+impl<L: LockTable> Machine<L> {
+    /// What its clock shows.
+    #[tactic(auto, unfolding(crate::specs::Machines::machine_state))]
+    pub fn reading(&self) -> u64
+        ensures { result ≡ reading_of (machine_state L.locks self.now).clock }
+    {
+        self.clock / 1000
+    }
+
+    /// Takes the memory that a step needs. An `Err` is want of it. Nothing that is seen changes.
+    #[tactic(auto, unfolding(crate::specs::Machines::machine_state))]
+    pub fn reserve(&mut self, most: &Most, input: &LockInput) -> Result<(), AllocError>
+        ensures room { OnOk result (HasRoom L.has_room most.now self.new) }
+        ensures same { machine_state L.locks self.new ≡ machine_state L.locks self.old }
+    {
+        self.connections.reserve(most.moves)?;
+        self.held.reserve(most.grants)?;
+        self.starting.reserve(most.starts)?;
+        self.flights.reserve(most.calls)?;
+        self.locks.reserve(input)
+    }
+
+    /// Takes the memory for what the machine does itself. An `Err` is want of it. Nothing that is seen changes.
+    #[tactic(auto, unfolding(crate::specs::Machines::machine_state))]
+    pub fn reserve_own(&mut self, effects: &Effects) -> Result<(), AllocError>
+        ensures room { OnOk result (HasOwnRoom self.new effects.now) }
+        ensures same { machine_state L.locks self.new ≡ machine_state L.locks self.old }
+    {
+        self.connections.reserve(effects.moves.len())?;
+        self.held.reserve(effects.grants.len())
+    }
+
+    /// The watchdog daemon's test is made: one that holds moves the keepalive.
+    #[tactic(auto, unfolding(crate::specs::Machines::machine_state))]
+    pub fn test(&mut self, moment: u64)
+        ensures { machine_state L.locks self.new ≡ tested_machine moment (machine_state L.locks self.old) }
+    {
+        if test_holds(&self.connections, self.clock / 1000) {
+            self.kept = moment;
+        }
+    }
+
+    /// A daemon begins.
+    #[tactic(auto, unfolding(crate::specs::Machines::machine_state))]
+    pub fn start(&mut self, alloc: Global, header: &Header)
+        ensures { machine_state L.locks self.new ≡ started_machine header.now (machine_state L.locks self.old) }
+    {
+        self.runs = true;
+        self.used = true;
+        self.starting.clear();
+        self.locks = L::fresh(alloc, header);
+    }
+
+    /// The daemon ends: its writes stay in flight.
+    #[tactic(auto, unfolding(crate::specs::Machines::machine_state))]
+    pub fn crash(&mut self)
+        ensures { machine_state L.locks self.new ≡ crashed_machine (machine_state L.locks self.old) }
+    {
+        self.runs = false;
+        self.starting.clear();
+        self.flights.disown();
+    }
+
+    /// The machine goes down.
+    #[tactic(auto, unfolding(crate::specs::Machines::machine_state))]
+    pub fn reset(&mut self, moment: u64)
+        ensures { machine_state L.locks self.new ≡ reset_machine moment (machine_state L.locks self.old) }
+    {
+        self.up = false;
+        self.connections.clear();
+        self.runs = false;
+        self.starting.clear();
+        self.held.clear();
+        self.flights.cut(moment);
+    }
+
+    /// The machine comes up; the last keepalive rests on now.
+    #[tactic(auto, unfolding(crate::specs::Machines::machine_state))]
+    pub fn restart(&mut self, moment: u64)
+        ensures { machine_state L.locks self.new ≡ restarted_machine moment (machine_state L.locks self.old) }
+    {
+        self.up = true;
+        self.kept = moment;
+        self.used = false;
+    }
+
+    /// The way of a write ends so.
+    #[tactic(auto, unfolding(crate::specs::Machines::machine_state))]
+    pub fn end_call(&mut self, call: u64, outcome: Outcome)
+        ensures { machine_state L.locks self.new ≡ change_flight call (ended_flight outcome) (machine_state L.locks self.old) }
+    {
+        self.flights.end(call, outcome);
+    }
+
+    /// A read samples these sectors, so many: what an event makes of the call that it names. An `Err` is want of memory, and changes nothing that is seen.
+    #[tactic(auto, unfolding(crate::specs::Machines::machine_state))]
+    pub fn sample(
+        &mut self,
+        call: u64,
+        more: Vec<Arc<Image>>,
+        sectors: u64,
+    ) -> Result<(), AllocError>
+        requires { (f : FlightState) → flight_in (machine_state L.locks self.old) call ≡ Some f → sectors ≤ left_in f }
+        ensures ok { OnOk result ((g : FlightState → FlightState)
+            → ((f : FlightState) → flight_in (machine_state L.locks self.old) call ≡ Some f → g f ≡ grown_flight (flat_map (λ m. arc_value m) more.items) sectors f)
+            → machine_state L.locks self.new ≡ change_flight call g (machine_state L.locks self.old)) }
+        ensures err { OnErr result (machine_state L.locks self.new ≡ machine_state L.locks self.old) }
+    {
+        self.flights.sample(call, more, sectors)
+    }
+
+    /// The daemon that runs has taken a step; the answer is the reply to lvmlockd's line, if it has come. It takes no memory.
+    #[tactic(auto, unfolding(crate::specs::Machines::machine_state))]
+    pub fn step(
+        &mut self,
+        alloc: Global,
+        header: &Header,
+        heard: Heard,
+        input: LockInput,
+        effects: &Effects,
+    ) -> Option<(u64, Bytes)>
+        requires lawful { IsHeader header.now }
+        requires room { TakesStep L.has_room self.old effects.now }
+        ensures stays { machine_state L.locks self.new ≡ stepped_by header.now heard (lock_input input) effects.now (machine_state L.locks self.old) }
+        ensures told { result ≡ told_by (lock_input input) effects.now (machine_state L.locks self.old) }
+    {
+        make_moves(&mut self.connections, effects.moves.as_slice());
+        let told = self.locks.turn(self.job, input, effects);
+        if heard.numbered {
+            self.job += 1;
+        }
+        hear_start(&mut self.starting, heard.spawned);
+        add_starts(&mut self.starting, effects.starts.as_slice());
+        self.flights.answer(heard.answered);
+        self.flights
+            .push_calls(alloc, header, effects.calls.as_slice());
+        take_effects(&mut self.held, effects);
+        told
+    }
+
+    /// What the machine does without a daemon. It takes no memory.
+    #[tactic(auto, unfolding(crate::specs::Machines::machine_state))]
+    pub fn own(&mut self, effects: &Effects)
+        requires moves { vec_len self.old.connections + length effects.now.moves ≤ vec_capacity self.old.connections }
+        requires grants { vec_len self.old.held + length effects.now.grants ≤ vec_capacity self.old.held }
+        ensures { machine_state L.locks self.new ≡ owned_machine effects.now (machine_state L.locks self.old) }
+    {
+        make_moves(&mut self.connections, effects.moves.as_slice());
+        take_effects(&mut self.held, effects);
+    }
+}

@@ -1,0 +1,2 @@
+pub mod Sanity
+pub mod Inputs

@@ -1,0 +1,31 @@
+use Rattle.sl_daemon.specs.Daemons.{read_of}
+use Rattle.sl_kept.specs.Inputs.{rest_in}
+use Rattle.sl_kept.specs.Refusing.{left_in}
+use Rattle.sl_machine.specs.Keeping.{kept_state}
+use Rattle.sl_run.specs.declared.event.Event.TheVariants.{Do}
+use Rattle.sl_whole_world.proofs.AllowedEvents.{do_given, may_give}
+use Rattle.sl_whole_world.proofs.DoneCalls.{read_comes}
+use Rattle.sl_whole_world.proofs.GivenSteps.{if_ok_then}
+use Rattle.sl_whole_world.proofs.world.World.do_call.Goals as goal
+use Rattle.sl_whole_world.specs.Allowing.{AllCome, MayGive}
+use Rattle.sl_whole_world.specs.Giving.{HasSampled, IsGiven}
+use Rattle.std.proofs.Common.{subst, sym}
+use Rattle.std.specs.Prelude.{Some, option_map}
+
+pub give_read-requires : goal.give_read-requires
+give_read-requires g c =
+    subst (λ k. MayGive g.D.Daemon.stands k c.args.self.now.hosts c.args.machine (read_of c.args.call c.in-Some.sectors)) (sym c.gathered.ensures.same)
+    (may_give g.D.Daemon.commands g.D.Daemon.stands (kept_state g.L.LockTable.locks c.args.self.now.kept) c.args.self.now.hosts (Do c.args.machine c.args.call) (read_of c.args.call c.in-Some.sectors) c.requires
+    (do_given g.D.Daemon.commands (kept_state g.L.LockTable.locks c.args.self.now.kept) c.args.machine c.args.call (Some c.in-Some.sectors.bytes) (λ f there. subst (λ o. HasSampled f (rest_in (kept_state g.L.LockTable.locks c.args.self.now.kept) f (left_in f)) (option_map (λ s. s.bytes) o)) c.in-Some.is (c.in_ok-sectors.ensures.bytes f there))))
+
+pub returns-in-Some-clause-ok : goal.returns-in-Some-clause-ok
+returns-in-Some-clause-ok g c =
+    if_ok_then (IsGiven g.D.Daemon.stands g.D.Daemon.makes (kept_state g.L.LockTable.locks c.gathered.new.kept) c.args.self.now.hosts c.args.machine (read_of c.args.call c.in-Some.sectors)
+    (kept_state g.L.LockTable.locks c.give_read.new.self.kept) c.give_read.new.self.hosts)
+    (AllCome g.D.Daemon.commands g.D.Daemon.stands (kept_state g.L.LockTable.locks c.args.self.now.kept) c.args.self.now.hosts (Do c.args.machine c.args.call) (kept_state g.L.LockTable.locks c.give_read.new.self.kept) c.give_read.new.self.hosts)
+    c.give_read.result
+    (λ fx given. read_comes g.D.Daemon.commands g.D.Daemon.stands g.D.Daemon.makes (kept_state g.L.LockTable.locks c.args.self.now.kept) c.args.self.now.hosts c.args.machine c.args.call c.in-Some.sectors.bytes fx
+    (kept_state g.L.LockTable.locks c.give_read.new.self.kept) c.give_read.new.self.hosts c.requires (λ f there. subst (λ o. HasSampled f (rest_in (kept_state g.L.LockTable.locks c.args.self.now.kept) f (left_in f)) (option_map (λ s. s.bytes) o)) c.in-Some.is (c.in_ok-sectors.ensures.bytes f there))
+    (subst (λ k. IsGiven g.D.Daemon.stands g.D.Daemon.makes k c.args.self.now.hosts c.args.machine (read_of c.args.call c.in-Some.sectors)
+    (kept_state g.L.LockTable.locks c.give_read.new.self.kept) c.give_read.new.self.hosts fx) c.gathered.ensures.same given))
+    c.give_read.ensures.ok

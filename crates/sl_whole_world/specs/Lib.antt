@@ -1,0 +1,3 @@
+pub mod Hosting
+pub mod Allowing
+pub mod Giving

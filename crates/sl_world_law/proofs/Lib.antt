@@ -1,0 +1,11 @@
+pub mod Hosted
+pub mod EventsHost
+pub mod EventsStand
+pub mod OwnEvents
+pub mod PlainGivens
+pub mod FirstDaemons
+pub mod FirstStanding
+pub mod Conflicting
+pub mod Told
+pub mod Drawn
+pub mod DirectChanges
