@@ -1,8 +1,7 @@
 -- What is promised of made runs, once daemons do what is due, and what is due is lawful.
-use Rattle.sl_due.specs.Due.{IsHostTrace, NoIdleJob}
-use Rattle.sl_law.specs.Caused.{IsCaused}
-use Rattle.sl_law.specs.Lawful.{IsSetting, Lawful}
+use Rattle.sl_due.specs.Due.{IsHostTrace}
 use Rattle.sl_report.specs.Headline.{HeadersAreGood, ReplayOwed, SoundRun}
+use Rattle.sl_report.specs.Host.{DueIsLawful}
 use Rattle.sl_report.specs.Languages.{Language}
 use Rattle.sl_report.specs.Reports.{no_counts, run_counts}
 use Rattle.sl_run.specs.Headers.{IsHeader}
@@ -23,15 +22,11 @@ abbrev pub SafeRunsCountNone : Type 0
 SafeRunsCountNone =
     (p : Program) (h : Header) (xs : List Happening) → IsRun (world_with p h) xs → SafeRun p h xs → (run_counts (world_with p h) no_counts xs).conflicts ≡ 0
 
--- ---- soundness
+-- ---- soundness: where what is due is lawful, caused, and leaves no job idle
 
 -- Each trace that such a daemon stands for is one of a host that does what is due.
 abbrev pub DoesWhatIsDue : {D : Type 0} → (D → Setting → Trace → Type 0) → Type 0
 DoesWhatIsDue {D} stands = (d : D) (st : Setting) (es : Trace) → stands d st es → IsHostTrace st es
-
--- Such traces keep the laws, refuse nothing without cause, and leave no job idle.
-abbrev pub DueIsLawful : Type 0
-DueIsLawful = (st : Setting) (es : Trace) → IsSetting st → IsHostTrace st es → Lawful st es × IsCaused st es × NoIdleJob st es
 
 abbrev pub MadeRunsAreSound : {D : Type 0} → (D → Setting → Trace → Type 0) → Type 0
 MadeRunsAreSound stands =
