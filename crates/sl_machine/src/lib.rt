@@ -1,4 +1,20 @@
 //! What is kept of a world's machines, and what each event makes of it.
+//!
+//! An event goes one of three ways:
+//!
+//! ```text
+//! event --> refusal --> (refused, by the first test that fails: machine, daemon, call, premise)
+//!              |
+//!              +--> its machine's own: pass, test, crash, reset, restart, drop, sample, land, tear, exit without a daemon
+//!              |
+//!              +--> an input of its daemon: what it is given (`hear`, `images`), room (`reserve`), the daemon's step, then `step`
+//! ```
+//!
+//! `Kept` keeps of the world's past only what its next event asks for: of a machine its clock, last keepalive, connections, holdings, children
+//! whose start has no answer, lvmlockd's locks, and the calls in flight; of the disks what stands there; the names that were given. Its value is the
+//! record of `sl_kept`, so each clause here is an equation between two such records, and no world occurs in any. Room is taken before the
+//! daemon steps, since a step that was made can't be taken back: what comes behind it can't fail. Calls are found by number, disks by place,
+//! names by hash.
 #![tactic(auto)]
 
 mod asking;

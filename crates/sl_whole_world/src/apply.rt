@@ -1,4 +1,7 @@
 //! Events: each is refused, or comes to pass.
+//!
+//! `apply` asks first why the event may not happen, and then matches it: one method an event, each of which is shown to make the world that the
+//! definitions make of it, with the effects that it answers. A refusal or want of memory leaves the world for which it stood.
 
 ghost use Rattle.sl_kept.specs.Refusing.{refusal_in};
 ghost use Rattle.sl_kept.specs.Sane.{WorldStands};

@@ -1,4 +1,8 @@
-//! The executed world.
+//! The executed world, and how it gives a daemon an input.
+//!
+//! An input is given in three moves: room is taken for as much as the daemon says that its step makes at most, the daemon steps, and its
+//! effects are put away. The first and the second may want memory and then change nothing; the third can't fail. So an event either comes to pass whole, or
+//! nothing that is seen has changed.
 
 ghost use Rattle.sl_kept.specs.Kept.{MachineState, machine_in};
 ghost use Rattle.sl_machine.specs.Keeping.{kept_state};
