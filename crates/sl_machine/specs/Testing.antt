@@ -13,6 +13,11 @@ use Rattle.sl_run.specs.declared.event.Refusal.{Refusal}
 use Rattle.std.specs.List.{list_any}
 use Rattle.std.specs.Prelude.{Bool, List, Option, bytes_eq, false, true, is_none, is_some, nat_lt, not, [], ℕ, ◌&&◌, ◌==◌, ◌||◌, ◌∷◌, ◌≡◌}
 
+-- Whether the event is a tear: its bytes are looked at, which may want memory.
+abbrev pub is_tear : Event → Bool
+is_tear (Tear m c k bytes) = true
+is_tear e = false
+
 -- ---- calls
 
 abbrev pub sample_tests : ℕ → FlightState → List (Bool × Refusal)

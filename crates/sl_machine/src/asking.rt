@@ -6,7 +6,7 @@ ghost use Rattle.sl_kept.specs.Refusing.{is_shaped_in, on_flight_in, on_kept, wr
 ghost use Rattle.sl_machine.specs.Calling.{LeavesTorn};
 ghost use Rattle.sl_machine.specs.Keeping.{kept_state};
 ghost use Rattle.sl_machine.specs.Machines.{machine_state};
-ghost use Rattle.sl_machine.specs.Testing.{land_tests, machine_tests, refusal_with, start_tests, tear_tests, tests_with};
+ghost use Rattle.sl_machine.specs.Testing.{is_tear, land_tests, machine_tests, refusal_with, start_tests, tear_tests, tests_with};
 ghost use Rattle.sl_run.specs.Events as events;
 ghost use Rattle.sl_run.specs.Worlds.{first_that};
 ghost use Rattle.sl_run.specs.declared.event.Refusal.TheVariants.{MissingReset, MissingUp, PremiseName};
@@ -240,6 +240,7 @@ impl<L: LockTable> Kept<L> {
     /// Why an event may not happen, once it is one that a line may spell.
     fn reason(&mut self, event: &Event, locks: bool) -> Result<Option<Refusal>, AllocError>
         ensures exact { IfOk result (λ r. r ≡ first_that (tests_with locks (kept_state L.locks self.old) event.now)) }
+        ensures total { OnErr result (is_tear event.now ≡ true) }
         ensures same { kept_state L.locks self.new ≡ kept_state L.locks self.old }
         ensures disks { self.new.disks ≡ self.old.disks }
     {
@@ -263,6 +264,7 @@ impl<L: LockTable> Kept<L> {
     /// alone: whether its bytes spell something is told by the bytes. Nothing that is seen changes.
     pub fn refusal(&mut self, event: &Event, locks: bool) -> Result<Option<Refusal>, AllocError>
         ensures exact { IfOk result (λ r. r ≡ refusal_with locks (kept_state L.locks self.old) event.now) }
+        ensures total { OnErr result (is_tear event.now ≡ true) }
         ensures same { kept_state L.locks self.new ≡ kept_state L.locks self.old }
     {
         if !self.has_shape(event) {

@@ -6,7 +6,7 @@
 ghost use Rattle.sl_kept.specs.Refusing.{refusal_in};
 ghost use Rattle.sl_kept.specs.Sane.{WorldStands};
 ghost use Rattle.sl_machine.specs.Keeping.{kept_state};
-ghost use Rattle.sl_machine.specs.Testing.{bars_locks};
+ghost use Rattle.sl_machine.specs.Testing.{bars_locks, is_tear};
 ghost use Rattle.sl_whole_world.specs.Allowing.{AllCome, IsAllowed, StandsForSome};
 ghost use Rattle.sl_whole_world.specs.Giving.{IsSame};
 ghost use Rattle.sl_run.specs.Events as events;
@@ -14,7 +14,7 @@ ghost use Rattle.sl_run.specs.Worlds as worlds;
 ghost use Rattle.sl_run.specs.declared.event.Event.TheVariants.{Tear};
 ghost use Rattle.sl_trace.specs.Traces.{no_effects};
 ghost use Rattle.sl_run.specs.declared.event.Refusal.{Refusal as RefusalOf};
-ghost use Rattle.std.specs.Prelude.{Err, IfOk, OnErr, OnOk, Some, ◌≡◌, ◌⊎◌};
+ghost use Rattle.std.specs.Prelude.{Err, IfOk, OnErr, OnOk, Some, true, ◌≡◌, ◌⊎◌};
 
 use crate::reader::Reader;
 use crate::world::World;
@@ -48,6 +48,7 @@ impl<D: Reader, L: LockTable> World<D, L> {
     /// Nothing that is seen changes.
     pub fn refusal(&mut self, event: &Event) -> Result<Option<Refusal>, AllocError>
         ensures exact { IfOk result (λ r. r ≡ refusal_in D.Daemon.commands (kept_state L.locks self.old.kept) event.now) }
+        ensures total { OnErr result (is_tear event.now ≡ true) }
         ensures same { IsSame (kept_state L.locks self.old.kept) self.old.hosts (kept_state L.locks self.new.kept) self.new.hosts }
     {
         let locks = self.is_for_locks(event);
@@ -152,7 +153,7 @@ impl<D: Reader, L: LockTable> World<D, L> {
     pub fn apply(&mut self, event: Event) -> Result<Effects, ApplyError>
         requires { StandsForSome D.Daemon.commands D.Daemon.stands (kept_state L.locks self.old.kept) self.old.hosts }
         ensures refused { (w : worlds.World) → WorldStands D.Daemon.commands D.Daemon.stands (kept_state L.locks self.old.kept) self.old.hosts w → (r : RefusalOf)
-            → events.refusal_of w event ≡ Some r → (result ≡ Err (ApplyError.Refused r)) ⊎ (result ≡ Err ApplyError.OutOfMemory) }
+            → events.refusal_of w event ≡ Some r → (result ≡ Err (ApplyError.Refused r)) ⊎ ((is_tear event ≡ true) × (result ≡ Err ApplyError.OutOfMemory)) }
         ensures only { (w : worlds.World) → WorldStands D.Daemon.commands D.Daemon.stands (kept_state L.locks self.old.kept) self.old.hosts w → (r : RefusalOf)
             → result ≡ Err (ApplyError.Refused r) → events.refusal_of w event ≡ Some r }
         ensures ok { IfOk result (AllCome D.Daemon.commands D.Daemon.stands (kept_state L.locks self.old.kept) self.old.hosts event (kept_state L.locks self.new.kept) self.new.hosts) }

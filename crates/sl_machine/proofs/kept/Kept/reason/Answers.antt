@@ -10,6 +10,7 @@ returns-in_default g c =
       exact = c.machine_refusal.ensures
           ∙ ap first_that
           (plain_tests c.args.locks (kept_state g.L.LockTable.locks c.args.self.now) c.args.event.now c.in_default.not-Pass c.in_default.not-Tear c.in_default.not-StartDaemon);
+      total = tt;
       same = refl;
       disks = refl;
     }
