@@ -25,18 +25,18 @@ SafeRunsCountNone =
 -- ---- soundness: where what is due is lawful, caused, and leaves no job idle
 
 -- Each trace that such a daemon stands for is one of a host that does what is due.
-abbrev pub DoesWhatIsDue : {D : Type 0} → (D → Setting → Trace → Type 0) → Type 0
-DoesWhatIsDue {D} stands = (d : D) (st : Setting) (es : Trace) → stands d st es → IsHostTrace st es
+abbrev pub DaemonsDoWhatIsDue : {D : Type 0} → (D → Setting → Trace → Type 0) → Type 0
+DaemonsDoWhatIsDue {D} stands = (d : D) (st : Setting) (es : Trace) → stands d st es → IsHostTrace st es
 
 abbrev pub MadeRunsAreSound : {D : Type 0} → (D → Setting → Trace → Type 0) → Type 0
 MadeRunsAreSound stands =
-    DoesWhatIsDue stands → DueIsLawful → (p : Program) (h : Header) (xs : List Happening) → IsHeader h → IsDigest p.digest → MadeRun stands p h xs → SoundRun p h xs
+    DaemonsDoWhatIsDue stands → DueIsLawful → (p : Program) (h : Header) (xs : List Happening) → IsHeader h → IsDigest p.digest → MadeRun stands p h xs → SoundRun p h xs
 
 -- ---- what is owed
 
 -- So what is owed for bytes read and written of which a made run is promised, is owed of a sound one.
 abbrev pub MadeReplaysAreSound : {D : Type 0} → (D → Setting → Trace → Type 0) → Type 0
 MadeReplaysAreSound stands =
-    DoesWhatIsDue stands → DueIsLawful → (lang : Language) → HeadersAreGood lang → IsDigest lang.program.digest
+    DaemonsDoWhatIsDue stands → DueIsLawful → (lang : Language) → HeadersAreGood lang → IsDigest lang.program.digest
     → (ended : Bool) (read written : List ℕ) (status : ℕ) → ReplayOwed (λ p h xs. MadeRun stands p h xs) lang ended read written status
     → ReplayOwed SoundRun lang ended read written status
