@@ -3,12 +3,13 @@ use Rattle.sl_area.specs.Layouts.{layout_of, program_digest}
 use Rattle.sl_daemon.specs.declared.daemon.Most.{Most}
 use Rattle.sl_daemon.specs.declared.daemon.Site.{Site}
 use Rattle.sl_law.specs.Lawful.{IsSetting}
-use Rattle.sl_run.specs.Events.{sectors_of}
+use Rattle.sl_run.specs.Events.{is_for_locks, sectors_of}
 use Rattle.sl_run.specs.Worlds.{Program, setting_of}
 use Rattle.sl_run.specs.declared.header.Header.{Header}
 use Rattle.sl_sector.specs.Records.{IsRecord}
 use Rattle.sl_sectors.specs.Images.{Run}
 use Rattle.sl_text.specs.Forms.{Form}
+use Rattle.sl_trace.specs.Commands.{command_in}
 use Rattle.sl_trace.specs.Traces.{IsTrace, Setting, Trace, is_expected, last_reading, next_call, next_child, next_job}
 use Rattle.sl_trace.specs.declared.command.Command.{Command}
 use Rattle.sl_trace.specs.declared.effects.Call.{Call}
@@ -21,7 +22,7 @@ use Rattle.sl_trace.specs.declared.input.Input.TheVariants.{Answer as Told}
 use Rattle.sl_trace.specs.declared.input.Input.{Input}
 use Rattle.sl_words.specs.Bounds.{moments}
 use Rattle.std.specs.List.{range_with_len}
-use Rattle.std.specs.Prelude.{Contains, IsTrue, List, length, map, ℕ, ◌%◌, ◌-◌, ◌<◌, ◌^◌, ◌≡◌, ◌≤◌}
+use Rattle.std.specs.Prelude.{Bool, Contains, IsTrue, List, length, map, ℕ, ◌%◌, ◌-◌, ◌<◌, ◌^◌, ◌≡◌, ◌≤◌}
 
 -- ---- what a daemon is made of
 
@@ -32,6 +33,10 @@ program_of commands = record { digest = program_digest; commands = commands }
 -- What a daemon of these commands is begun with.
 abbrev pub begun_with : (Header → List (Form Command)) → Header → Site → Setting
 begun_with commands h s = setting_of (program_of commands) (layout_of h.geometry) h s.machine s.name s.first s.given
+
+-- Whether a text is a command for lvmlockd's process, which acts by lines alone.
+abbrev pub text_for_locks : (Header → List (Form Command)) → Header → List ℕ → Bool
+text_for_locks commands h text = is_for_locks (command_in (commands h) text)
 
 -- ---- a step
 

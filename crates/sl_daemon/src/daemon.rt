@@ -1,6 +1,6 @@
 //! The trait of a daemon, and what one is begun with.
 
-ghost use Rattle.sl_daemon.specs.Daemons.{IsNumbered, IsStep, MayCome, begun_with, entry_of, read_of};
+ghost use Rattle.sl_daemon.specs.Daemons.{IsNumbered, IsStep, MayCome, begun_with, entry_of, read_of, text_for_locks};
 ghost use Rattle.sl_law.specs.Lawful.{IsSetting};
 ghost use Rattle.sl_run.specs.Headers.{IsHeader};
 ghost use Rattle.sl_run.specs.declared.header.Header.{Header as HeaderOf};
@@ -49,6 +49,11 @@ pub trait Daemon: Drop {
 
     /// How much its next step makes at most.
     ghost makes: { Self → Most };
+
+    /// Whether a command line is for lvmlockd's process, which acts by lines of its own alone: such a line may not come to a daemon.
+    fn is_for_locks(header: &Header, text: &[u8]) -> bool
+        requires { IsHeader header.now }
+        ensures { result ≡ text_for_locks commands header.now text.now };
 
     /// A daemon begins. An `Err` is want of memory.
     fn begin(alloc: Global, header: &Header, site: Site) -> Result<Self, AllocError>

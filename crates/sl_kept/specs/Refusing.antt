@@ -1,7 +1,8 @@
 -- Why an event may not happen, by what is kept: the tests of the definitions, in their order.
 use Rattle.sl_area.specs.Layouts.{layout_of, record_in}
+use Rattle.sl_daemon.specs.Daemons.{text_for_locks}
 use Rattle.sl_kept.specs.Kept.{FlightState, KeptState, MachineState, flight_in, machine_in, sector_of_call}
-use Rattle.sl_run.specs.Events.{drifts, growth_of, is_for_locks}
+use Rattle.sl_run.specs.Events.{drifts, growth_of}
 use Rattle.sl_run.specs.Worlds.{first_that}
 use Rattle.sl_run.specs.declared.event.Event.TheVariants.{AnswerCall, Crash, Do, DropWrite, ExitOf, GiveAsk, GiveCommand, GiveLvm, Land, Pass, Reset, Restart, Sample, SpawnedOf, StartDaemon, Tear, Test, WakeUp}
 use Rattle.sl_run.specs.declared.event.Event.{Event}
@@ -10,7 +11,6 @@ use Rattle.sl_run.specs.declared.event.Refusal.{Refusal}
 use Rattle.sl_run.specs.declared.header.Header.{Header}
 use Rattle.sl_text.specs.Forms.{Form}
 use Rattle.sl_time.specs.Times.{reading_of}
-use Rattle.sl_trace.specs.Commands.{command_in}
 use Rattle.sl_trace.specs.declared.command.Command.{Command}
 use Rattle.sl_words.specs.Bounds.{moments}
 use Rattle.sl_words.specs.Words.{some_is}
@@ -86,10 +86,6 @@ torn_in k f n bytes =
 -- Whether the bytes spell a record.
 abbrev pub spells_in : Header → List ℕ → Bool
 spells_in h bytes = is_ok (record_in (layout_of h.geometry) bytes)
-
--- Whether a text is a command for lvmlockd's process, which acts by lines alone.
-abbrev pub text_for_locks : (Header → List (Form Command)) → Header → List ℕ → Bool
-text_for_locks commands h text = is_for_locks (command_in (commands h) text)
 
 -- ---- all tests
 

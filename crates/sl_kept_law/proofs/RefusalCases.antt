@@ -1,7 +1,8 @@
 -- What is refused in a world is refused by what is kept of it: event by event.
 use Rattle.sl_area.specs.Layouts.{Layout, layout_of, record_in, sector_with}
+use Rattle.sl_daemon.specs.Daemons.{text_for_locks}
 use Rattle.sl_kept.specs.Kept.{KeptState, MachineState, sector_of_call}
-use Rattle.sl_kept.specs.Refusing.{drifts_off, is_overdue, is_shaped_in, left_in, pass_tests_in, reads_in, reads_past, spells_in, starves, tests_in, text_for_locks, torn_in, writes_in}
+use Rattle.sl_kept.specs.Refusing.{drifts_off, is_overdue, is_shaped_in, left_in, pass_tests_in, reads_in, reads_past, spells_in, starves, tests_in, torn_in, writes_in}
 use Rattle.sl_kept.specs.Sane.{IsSane}
 use Rattle.sl_kept.specs.Showing.{Tells, flight_of_course, is_placed_in, place_in, shown, starting_of, write_in}
 use Rattle.sl_kept_law.proofs.Lookups.{flight_inside, machine_place}

@@ -1,6 +1,7 @@
 -- What an event asks of its machine. (What it asks of the disks and of all names is not told here: a tear's bytes, and a start's name.)
+use Rattle.sl_daemon.specs.Daemons.{text_for_locks}
 use Rattle.sl_kept.specs.Kept.{FlightState, KeptState, MachineState}
-use Rattle.sl_kept.specs.Refusing.{left_in, needs_running, on_flight_in, is_shaped_in, on_kept, pass_tests_in, reads_in, refusal_in, spells_in, text_for_locks, torn_in, writes_in}
+use Rattle.sl_kept.specs.Refusing.{left_in, needs_running, on_flight_in, is_shaped_in, on_kept, pass_tests_in, reads_in, refusal_in, spells_in, torn_in, writes_in}
 use Rattle.sl_run.specs.Events.{machine_of}
 use Rattle.sl_run.specs.Worlds.{first_that}
 use Rattle.sl_run.specs.declared.header.Header.{Header}

@@ -1,9 +1,10 @@
 -- What an event gives that nothing refuses, and what comes of it.
 use Rattle.sl_daemon.specs.declared.daemon.Most.{Most}
+use Rattle.sl_daemon.specs.Daemons.{text_for_locks}
 use Rattle.sl_kept.specs.Changes.{change_flight, crashed_machine, dropped_flight, first_kept, landed_in, passed_in, restarted_machine, sampled_flight, tested_machine}
 use Rattle.sl_kept.specs.Inputs.{done_in, input_for, input_in, ok_in, own_in, rest_in}
 use Rattle.sl_kept.specs.Kept.{FlightState, KeptState, MachineState, change_machine_in, flight_in, flight_of_machine, machine_in}
-use Rattle.sl_kept.specs.Refusing.{is_shaped_in, left_in, writes_in, needs_running, on_flight_in, on_kept, pass_tests_in, reads_in, refusal_in, tests_in, text_for_locks}
+use Rattle.sl_kept.specs.Refusing.{is_shaped_in, left_in, writes_in, needs_running, on_flight_in, on_kept, pass_tests_in, reads_in, refusal_in, tests_in}
 use Rattle.sl_kept.specs.Sane.{WorldStands}
 use Rattle.sl_kept.specs.Showing.{shown}
 use Rattle.sl_kept.specs.Steps.{stepped_kept, taken_kept}

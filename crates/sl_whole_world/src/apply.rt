@@ -16,8 +16,8 @@ ghost use Rattle.sl_trace.specs.Traces.{no_effects};
 ghost use Rattle.sl_run.specs.declared.event.Refusal.{Refusal as RefusalOf};
 ghost use Rattle.std.specs.Prelude.{Err, IfOk, OnErr, OnOk, Some, true, ◌≡◌, ◌⊎◌};
 
-use crate::reader::Reader;
 use crate::world::World;
+use sl_daemon::Daemon;
 use sl_machine::{LockTable, no_effects};
 use sl_run::{Event, Refusal};
 use sl_text::Bytes;
@@ -31,10 +31,10 @@ pub enum ApplyError {
     OutOfMemory,
 }
 
-impl<D: Reader, L: LockTable> World<D, L> {
+impl<D: Daemon, L: LockTable> World<D, L> {
     /// Whether the event is a command for lvmlockd's process.
     fn is_for_locks(&self, event: &Event) -> bool
-        ensures { result ≡ bars_locks D.Daemon.commands (kept_state L.locks self.now.kept) event.now }
+        ensures { result ≡ bars_locks D.commands (kept_state L.locks self.now.kept) event.now }
     {
         match event {
             Event::GiveCommand { machine: _, text } => {
@@ -47,7 +47,7 @@ impl<D: Reader, L: LockTable> World<D, L> {
     /// Why an event may not happen. An `Err` is want of memory, at a tear alone: whether its bytes spell something is told by the bytes.
     /// Nothing that is seen changes.
     pub fn refusal(&mut self, event: &Event) -> Result<Option<Refusal>, AllocError>
-        ensures exact { IfOk result (λ r. r ≡ refusal_in D.Daemon.commands (kept_state L.locks self.old.kept) event.now) }
+        ensures exact { IfOk result (λ r. r ≡ refusal_in D.commands (kept_state L.locks self.old.kept) event.now) }
         ensures total { OnErr result (is_tear event.now ≡ true) }
         ensures same { IsSame (kept_state L.locks self.old.kept) self.old.hosts (kept_state L.locks self.new.kept) self.new.hosts }
     {
@@ -63,8 +63,8 @@ impl<D: Reader, L: LockTable> World<D, L> {
         kept: u32,
         bytes: &Bytes,
     ) -> Result<(), AllocError>
-        requires { IsAllowed D.Daemon.commands D.Daemon.stands (kept_state L.locks self.old.kept) self.old.hosts (Tear machine call kept bytes.now) }
-        ensures ok { OnOk result (AllCome D.Daemon.commands D.Daemon.stands (kept_state L.locks self.old.kept) self.old.hosts (Tear machine call kept bytes.now) (kept_state L.locks self.new.kept) self.new.hosts no_effects) }
+        requires { IsAllowed D.commands D.stands (kept_state L.locks self.old.kept) self.old.hosts (Tear machine call kept bytes.now) }
+        ensures ok { OnOk result (AllCome D.commands D.stands (kept_state L.locks self.old.kept) self.old.hosts (Tear machine call kept bytes.now) (kept_state L.locks self.new.kept) self.new.hosts no_effects) }
         ensures err { OnErr result (IsSame (kept_state L.locks self.old.kept) self.old.hosts (kept_state L.locks self.new.kept) self.new.hosts) }
     {
         match self.tear(machine, call, kept, bytes)? {
@@ -75,8 +75,8 @@ impl<D: Reader, L: LockTable> World<D, L> {
 
     /// The event comes to pass; the answer is what its daemon did, or the machine itself. An `Err` is want of memory or of numbers.
     fn happen(&mut self, event: Event) -> Result<Effects, AllocError>
-        requires { IsAllowed D.Daemon.commands D.Daemon.stands (kept_state L.locks self.old.kept) self.old.hosts event }
-        ensures ok { IfOk result (AllCome D.Daemon.commands D.Daemon.stands (kept_state L.locks self.old.kept) self.old.hosts event (kept_state L.locks self.new.kept) self.new.hosts) }
+        requires { IsAllowed D.commands D.stands (kept_state L.locks self.old.kept) self.old.hosts event }
+        ensures ok { IfOk result (AllCome D.commands D.stands (kept_state L.locks self.old.kept) self.old.hosts event (kept_state L.locks self.new.kept) self.new.hosts) }
         ensures err { OnErr result (IsSame (kept_state L.locks self.old.kept) self.old.hosts (kept_state L.locks self.new.kept) self.new.hosts) }
     {
         let alloc = *self.kept.machines.allocator();
@@ -151,12 +151,12 @@ impl<D: Reader, L: LockTable> World<D, L> {
     /// An event comes to pass, unless something refuses it; the answer is what its daemon did, or the machine itself. After an `Err`
     /// nothing has changed that is seen.
     pub fn apply(&mut self, event: Event) -> Result<Effects, ApplyError>
-        requires { StandsForSome D.Daemon.commands D.Daemon.stands (kept_state L.locks self.old.kept) self.old.hosts }
-        ensures refused { (w : worlds.World) → WorldStands D.Daemon.commands D.Daemon.stands (kept_state L.locks self.old.kept) self.old.hosts w → (r : RefusalOf)
+        requires { StandsForSome D.commands D.stands (kept_state L.locks self.old.kept) self.old.hosts }
+        ensures refused { (w : worlds.World) → WorldStands D.commands D.stands (kept_state L.locks self.old.kept) self.old.hosts w → (r : RefusalOf)
             → events.refusal_of w event ≡ Some r → (result ≡ Err (ApplyError.Refused r)) ⊎ ((is_tear event ≡ true) × (result ≡ Err ApplyError.OutOfMemory)) }
-        ensures only { (w : worlds.World) → WorldStands D.Daemon.commands D.Daemon.stands (kept_state L.locks self.old.kept) self.old.hosts w → (r : RefusalOf)
+        ensures only { (w : worlds.World) → WorldStands D.commands D.stands (kept_state L.locks self.old.kept) self.old.hosts w → (r : RefusalOf)
             → result ≡ Err (ApplyError.Refused r) → events.refusal_of w event ≡ Some r }
-        ensures ok { IfOk result (AllCome D.Daemon.commands D.Daemon.stands (kept_state L.locks self.old.kept) self.old.hosts event (kept_state L.locks self.new.kept) self.new.hosts) }
+        ensures ok { IfOk result (AllCome D.commands D.stands (kept_state L.locks self.old.kept) self.old.hosts event (kept_state L.locks self.new.kept) self.new.hosts) }
         ensures err { OnErr result (IsSame (kept_state L.locks self.old.kept) self.old.hosts (kept_state L.locks self.new.kept) self.new.hosts) }
     {
         match self.refusal(&event) {

@@ -14,7 +14,6 @@ mod given;
 mod hosts;
 mod lines;
 mod own;
-mod reader;
 mod sites;
 mod start;
 mod tearing;
@@ -22,6 +21,5 @@ mod world;
 
 pub use apply::ApplyError;
 pub use hosts::Hosts;
-pub use reader::Reader;
 pub use sites::{first_site, session_of};
 pub use world::World;
