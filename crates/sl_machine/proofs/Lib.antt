@@ -12,3 +12,4 @@ pub mod PlainOptions
 pub mod AllRefusals
 pub mod PartsHeard
 pub mod PlainFilled
+pub mod LeastCalls

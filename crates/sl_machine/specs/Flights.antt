@@ -6,7 +6,7 @@ use Rattle.sl_machine.specs.declared.flight.Outcome.TheVariants.{Dropped, Landed
 use Rattle.sl_machine.specs.declared.flight.Outcome.{Outcome}
 use Rattle.sl_words.specs.Words.{least}
 use Rattle.std.specs.List.{list_all, remove, slice_set}
-use Rattle.std.specs.Prelude.{Bool, List, None, Option, Some, false, filter, filter_map, find, map, min, nat_lt, not, slice_get, true, [], ℕ, ◌&&◌, ◌++◌, ◌+◌, ◌==◌, ◌∷◌, ◌≡◌}
+use Rattle.std.specs.Prelude.{Bool, List, None, Option, Some, false, filter, filter_map, find, map, min, nat_lt, not, slice_get, true, [], if◌then◌else◌, ℕ, ◌&&◌, ◌++◌, ◌+◌, ◌==◌, ◌∷◌, ◌≡◌}
 
 -- The numbers fall, from below a bound on.
 abbrev pub falls : ℕ → List FlightState → Bool
@@ -20,6 +20,13 @@ late_cut f = elim (lands f) [ false ↦ None | true ↦ f.cut ]
 -- The first reset of before which a write may still land.
 abbrev pub late_of : List FlightState → Option ℕ
 late_of fs = least (filter_map late_cut fs)
+
+-- The number of a call, and that of one of an ended daemon.
+abbrev pub numbered : FlightState → Option ℕ
+numbered f = Some f.number
+
+abbrev pub ended_number : FlightState → Option ℕ
+ended_number f = if f.own then None else Some f.number
 
 -- What is known of calls in flight: numbers fall, each is in flight still, and the bound on landings is that of these calls.
 pub record AreFlights (next : ℕ) (late : Option ℕ) (fs : List FlightState) : Type 0 where

@@ -1,7 +1,7 @@
 -- What a machine itself takes of the input that its daemon is given.
+use Rattle.sl_locks.specs.Steps.{lock_input}
+use Rattle.sl_locks.specs.declared.step.LockInput.{LockInput}
 use Rattle.sl_machine.specs.declared.heard.Heard.{Heard}
-use Rattle.sl_machine.specs.declared.locks.LockInput.TheVariants.{Exit as LockExit, Line as LockLine, Nothing, Number as LockNumber}
-use Rattle.sl_machine.specs.declared.locks.LockInput.{LockInput}
 use Rattle.sl_run.specs.Locks.{Locks, locks_after}
 use Rattle.sl_trace.specs.declared.effects.Effects.{Effects}
 use Rattle.sl_trace.specs.declared.input.Input.TheVariants.{Answer as Told, Exit, Line, Number, Spawned, Wake}
@@ -15,13 +15,6 @@ heard_of (Line text) = record { answered = None; spawned = None; numbered = true
 heard_of (Number text) = record { answered = None; spawned = None; numbered = true }
 heard_of Wake = record { answered = None; spawned = None; numbered = false }
 heard_of (Exit p) = record { answered = None; spawned = None; numbered = false }
-
--- The input that is no other to lvmlockd's locks.
-abbrev pub lock_input : LockInput → Input
-lock_input LockLine = Line []
-lock_input (LockNumber text) = Number text
-lock_input (LockExit p) = Exit p
-lock_input Nothing = Wake
 
 -- The locks take this of an input.
 abbrev pub IsLockInput : LockInput → Input → Type 0

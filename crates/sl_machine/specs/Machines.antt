@@ -13,7 +13,9 @@ use Rattle.sl_words.specs.Words.{some_is}
 use Rattle.std.specs.List.{range_with_len}
 use Rattle.sl_daemon.specs.declared.daemon.Most.{Most}
 use Rattle.sl_machine.specs.declared.machine.Machine.{Machine}
-use Rattle.sl_run.specs.Locks.{Locks, Told, locks_after}
+use Rattle.sl_locks.specs.Replies.{told_as}
+use Rattle.sl_locks.specs.declared.step.StepTold.{StepTold}
+use Rattle.sl_run.specs.Locks.{Locks, Told, locks_after, told_effects}
 use Rattle.std.specs.Prelude.{Bool, Contains, filter, fold, if◌then◌else◌, length, map, not, true, ◌++◌, ◌+◌, ◌<◌, ◌==◌, ◌^◌, ◌∷◌, ◌≡◌, ◌≤◌}
 use Rattle.std.specs.Vec.{vec_capacity, vec_len}
 use Rattle.std.specs.VecDeque.{deque_capacity, deque_len}
@@ -60,18 +62,26 @@ pub record TakesStep {L : Type 0} (has_room : L → Bool) (a : Machine L) (fx : 
   pub sound : (c : Call) → Contains fx.calls c → IsSoundOp c.op
   pub numbers : (a.flights.next < 2 ^ 63) × (a.job < 2 ^ 63)
 
--- The running daemon has taken a step, by what its machine takes of the input.
-abbrev pub stepped_by : Header → Heard → Input → Effects → MachineState → MachineState
-stepped_by h d i fx s =
+-- The running daemon has taken a step, by what its machine takes of the input, but for lvmlockd's locks.
+abbrev pub put_away_by : Header → Heard → Effects → MachineState → MachineState
+put_away_by h d fx s =
     record s {
       connections = fold after_move s.connections fx.moves;
       next = record { call = s.next.call + length fx.calls; job = (if d.numbered then s.next.job + 1 else s.next.job) };
       starting = filter (λ q. not (some_is (λ p. p == q) d.spawned)) s.starting ++ map (λ x. x.process) fx.starts;
       flights = fold (λ fs c. new_flight h c ∷ fs) (filter (λ f. not (some_is (λ n. f.number == n) d.answered)) s.flights) fx.calls;
       held = held_after fx s.held;
-      locks = (locks_after s.next.job i fx s.locks).0;
     }
+
+-- .. and its locks.
+abbrev pub stepped_by : Header → Heard → Input → Effects → MachineState → MachineState
+stepped_by h d i fx s = record (put_away_by h d fx s) { locks = (locks_after s.next.job i fx s.locks).0 }
 
 -- The reply to lvmlockd's line, if it has come.
 abbrev pub told_by : Input → Effects → MachineState → Told
 told_by i fx s = (locks_after s.next.job i fx s.locks).1
+
+-- What is told of a step: its effects without the reply to an ask, and that reply.
+pub record HasTold (told : StepTold) (i : Input) (fx : Effects) (s : MachineState) : Type 0 where
+  pub effects : told.effects ≡ told_effects s.next.job i fx s.locks
+  pub line : told_as told.line ≡ told_by i fx s

@@ -7,16 +7,16 @@
 ghost use Rattle.sl_kept.specs.Changes.{cut_flight, disowned, stays_open};
 ghost use Rattle.sl_kept.specs.Refusing.{lands, left_in};
 ghost use Rattle.sl_kept.specs.Kept.{FlightState};
-ghost use Rattle.sl_machine.specs.Flights.{AreFlights, StandsAt, closed_at, ended_flight, flight_numbered, flights_cut, flights_disowned, flights_with, flights_without, grown_flight, late_after, late_cut, late_of, least_with};
+ghost use Rattle.sl_machine.specs.Flights.{AreFlights, StandsAt, closed_at, ended_flight, ended_number, flight_numbered, flights_cut, flights_disowned, flights_with, flights_without, grown_flight, late_after, late_cut, late_of, least_with, numbered};
 ghost use Rattle.std.specs.Arc.{arc_value};
 ghost use Rattle.sl_daemon.specs.Daemons.{IsSoundOp};
 ghost use Rattle.sl_kept.specs.Steps.{new_flight};
 ghost use Rattle.sl_run.specs.Headers.{IsHeader};
 ghost use Rattle.sl_trace.specs.declared.effects.Call.{Call as CallOf};
-ghost use Rattle.sl_words.specs.Words.{some_is};
+ghost use Rattle.sl_words.specs.Words.{least, some_is};
 ghost use Rattle.std.specs.List.{list_all, range_with_len, remove};
 ghost use Rattle.std.specs.Option.{option_copied};
-ghost use Rattle.std.specs.Prelude.{Contains, IfOk, IfSome, None, OnErr, OnOk, Some, [], false, filter, flat_map, fold, length, map, not, slice_get, true, ◌+◌, ◌==◌, ◌<◌, ◌^◌, ◌∷◌, ◌≡◌, ◌≤◌};
+ghost use Rattle.std.specs.Prelude.{Contains, IfOk, IfSome, None, OnErr, OnOk, Some, [], false, filter, filter_map, flat_map, fold, length, map, not, slice_get, true, ◌+◌, ◌==◌, ◌<◌, ◌^◌, ◌∷◌, ◌≡◌, ◌≤◌};
 ghost use Rattle.std.specs.VecDeque.{deque_capacity, deque_len};
 
 use crate::flight::{Flight, Outcome};
@@ -59,6 +59,43 @@ fn first_late(items: &VecDeque<Flight>) -> Option<u64>
         late = least_with(items[index].late_cut(), late);
     }
     late
+}
+
+/// The least number of a call.
+fn least_number(items: &VecDeque<Flight>) -> Option<u64>
+    ensures { result ≡ least (filter_map numbered items.now.items) }
+{
+    let mut index = items.len();
+    let mut least = None;
+    while index > 0 {
+        index -= 1;
+        least = least_with(Some(items[index].number()), least);
+    }
+    least
+}
+
+/// The number of a call of an ended daemon.
+fn ended_number(flight: &Flight) -> Option<u64>
+    ensures { result ≡ ended_number flight.now }
+{
+    if flight.is_own() {
+        None
+    } else {
+        Some(flight.number())
+    }
+}
+
+/// The least number of a call of an ended daemon.
+fn least_ended(items: &VecDeque<Flight>) -> Option<u64>
+    ensures { result ≡ least (filter_map ended_number items.now.items) }
+{
+    let mut index = items.len();
+    let mut least = None;
+    while index > 0 {
+        index -= 1;
+        least = least_with(ended_number(&items[index]), least);
+    }
+    least
 }
 
 /// The same, once a call with such a cut has changed.
@@ -187,6 +224,22 @@ impl Flights {
         ensures { result ≡ late_of self.now.items.items }
     {
         self.late
+    }
+
+    /// The least number of a call in flight.
+    #[tactic(auto, using(crate::proofs::LeastCalls::numbers))]
+    pub fn least(&self) -> Option<u64>
+        ensures { result ≡ least (map (λ f. f.number) self.now.items.items) }
+    {
+        least_number(&self.items)
+    }
+
+    /// The least number of a call in flight of an ended daemon.
+    #[tactic(auto, using(crate::proofs::LeastCalls::numbers))]
+    pub fn least_ended(&self) -> Option<u64>
+        ensures { result ≡ least (map (λ f. f.number) (filter (λ f. not f.own) self.now.items.items)) }
+    {
+        least_ended(&self.items)
     }
 
     /// Where the call of this number stands, if it is in flight.

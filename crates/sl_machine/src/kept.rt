@@ -1,28 +1,29 @@
 //! What is kept of a world, but for its daemons.
 
 ghost use Rattle.sl_kept.specs.Changes.{change_flight, crashed_machine, named_in, reset_machine, restarted_machine, started_machine, tested_machine};
-ghost use Rattle.sl_kept.specs.Kept.{change_machine_in, machine_in};
+ghost use Rattle.sl_kept.specs.Kept.{MachineState, change_machine_in, machine_in};
 ghost use Rattle.sl_machine.specs.Keeping.{AtMachine, kept_state, place_in};
 ghost use Rattle.sl_kept.specs.Steps.{owned_machine};
 ghost use Rattle.sl_machine.specs.Flights.{ended_flight};
-ghost use Rattle.sl_machine.specs.Hearing.{lock_input};
-ghost use Rattle.sl_machine.specs.Machines.{HasOwnRoom, HasRoom, TakesStep, machine_state, stepped_by, told_by};
+ghost use Rattle.sl_locks.specs.Steps.{lock_input};
+ghost use Rattle.sl_machine.specs.Machines.{HasOwnRoom, HasRoom, HasTold, TakesStep, machine_state, stepped_by};
 ghost use Rattle.indexmap.specs.IndexSet.{spare};
 ghost use Rattle.std.specs.List.{list_any};
 ghost use Rattle.sl_run.specs.Headers.{IsHeader};
 ghost use Rattle.std.specs.Option.{option_copied};
-ghost use Rattle.std.specs.Prelude.{IfSome, OnOk, bytes_eq, false, option_and_then, option_map, reverse, ◌<◌, ◌≡◌};
+ghost use Rattle.std.specs.Prelude.{IfSome, OnOk, Some, bytes_eq, false, option_map, reverse, ◌<◌, ◌≡◌};
 
 use crate::flight::Outcome;
 use crate::heard::Heard;
-use crate::locks::{LockInput, LockTable};
+use crate::locks::LockTable;
 use crate::machine::Machine;
 use crate::names::{DaemonName, add_name};
 use indexmap::IndexSet;
 use sl_daemon::Most;
 use sl_disks::Disks;
+use sl_locks::{LockInput, StepTold};
 use sl_run::Header;
-use sl_text::{Bytes, Name};
+use sl_text::Name;
 use sl_trace::Effects;
 use std::alloc::AllocError;
 
@@ -127,17 +128,12 @@ impl<L: LockTable> Kept<L> {
     }
 
     /// Takes the memory that a step of a machine's daemon needs. An `Err` is want of it. Nothing that is seen changes.
-    pub fn reserve(
-        &mut self,
-        machine: u32,
-        most: &Most,
-        input: &LockInput,
-    ) -> Result<(), AllocError>
+    pub fn reserve(&mut self, machine: u32, most: &Most) -> Result<(), AllocError>
         ensures room { OnOk result (AtMachine (HasRoom L.has_room most.now) self.new machine) }
         ensures same { kept_state L.locks self.new ≡ kept_state L.locks self.old }
     {
         if let Some(index) = place_of(self.machines.len(), machine) {
-            self.machines[index].reserve(most, input)?;
+            self.machines[index].reserve(most)?;
         }
         Ok(())
     }
@@ -163,22 +159,26 @@ impl<L: LockTable> Kept<L> {
         Ok(())
     }
 
-    /// The daemon of a machine has taken a step; the answer is the reply to lvmlockd's line, if it has come. It takes no memory.
+    /// The daemon of a machine has taken a step; the answer is what is told of it: the effects without the reply to an ask, and the reply to
+    /// lvmlockd's line, if it has come. It takes no memory.
     pub fn step(
         &mut self,
         machine: u32,
         heard: Heard,
         input: LockInput,
-        effects: &Effects,
-    ) -> Option<(u64, Bytes)>
-        requires { AtMachine (λ a. TakesStep L.has_room a effects.now) self.old machine }
+        effects: Effects,
+    ) -> StepTold
+        requires { AtMachine (λ a. TakesStep L.has_room a effects) self.old machine }
         ensures stays { kept_state L.locks self.new
-            ≡ change_machine_in machine (stepped_by self.old.disks.header heard (lock_input input) effects.now) (kept_state L.locks self.old) }
-        ensures told { result ≡ option_and_then (told_by (lock_input input) effects.now) (machine_in (kept_state L.locks self.old) machine) }
+            ≡ change_machine_in machine (stepped_by self.old.disks.header heard (lock_input input) effects) (kept_state L.locks self.old) }
+        ensures told { (s : MachineState) → machine_in (kept_state L.locks self.old) machine ≡ Some s → HasTold result (lock_input input) effects s }
     {
         let alloc = *self.machines.allocator();
         match place_of(self.machines.len(), machine) {
-            None => None,
+            None => StepTold {
+                effects,
+                line: None,
+            },
             Some(index) => {
                 self.machines[index].step(alloc, self.disks.header(), heard, input, effects)
             }

@@ -1,23 +1,17 @@
 //! What a machine asks of the locks that lvmlockd has there.
 
-ghost use Rattle.sl_machine.specs.Hearing.{heard_by_locks, lock_input};
-ghost use Rattle.sl_run.specs.Locks.{Locks, fresh_locks, locks_after};
+ghost use Rattle.sl_locks.specs.Replies.{told_as};
+ghost use Rattle.sl_locks.specs.Steps.{lock_input};
+ghost use Rattle.sl_locks.specs.Tables.{has_room, locks_of};
+ghost use Rattle.sl_machine.specs.Hearing.{heard_by_locks};
+ghost use Rattle.sl_run.specs.Locks.{Locks, fresh_locks, locks_after, told_effects};
 ghost use Rattle.std.specs.Prelude.{Bool, IfOk, OnOk, is_some, true, ◌≡◌};
 
+use sl_locks::{LockInput, LvmLocks, StepTold};
 use sl_run::Header;
 use sl_text::Bytes;
 use sl_trace::{Effects, Input};
 use std::alloc::{AllocError, Global};
-
-/// What lvmlockd's locks take of the input that the daemon is given: that it is a line for the host, a line for lvmlockd, or the exit of a
-/// process.
-#[derive(Drop)]
-pub enum LockInput {
-    Line,
-    Number(Bytes),
-    Exit(u32),
-    Nothing,
-}
 
 /// lvmlockd's locks on a machine, with the line that runs.
 pub trait LockTable: Drop {
@@ -44,7 +38,7 @@ pub trait LockTable: Drop {
         ensures { IfOk result (λ text. text ≡ (locks self.now).due) };
 
     /// Takes the memory that one step more needs. An `Err` is want of it.
-    fn reserve(&mut self, input: &LockInput) -> Result<(), AllocError>
+    fn reserve(&mut self) -> Result<(), AllocError>
         ensures room { OnOk result (has_room self.new ≡ true) }
         ensures same { locks self.new ≡ locks self.old };
 
@@ -52,12 +46,47 @@ pub trait LockTable: Drop {
     fn asked(&self) -> Option<u64>
         ensures { result ≡ (locks self.now).asked };
 
-    /// The step with this number, input and effects; the answer is the reply to the line that runs, if it has come, with the line's
-    /// number. It takes no memory.
-    fn turn(&mut self, number: u64, input: LockInput, effects: &Effects) -> Option<(u64, Bytes)>
+    /// The step with this number, input and effects; the answer is what is told of it: the effects without the reply to an ask, which is
+    /// kept or told by the line, and the reply to the line that runs, if it has come, with the line's number. It takes no memory.
+    fn turn(&mut self, number: u64, input: LockInput, effects: Effects) -> StepTold
         requires { has_room self.old ≡ true }
-        ensures stays { locks self.new ≡ (locks_after number (lock_input input) effects.now (locks self.old)).0 }
-        ensures told { result ≡ (locks_after number (lock_input input) effects.now (locks self.old)).1 };
+        ensures stays { locks self.new ≡ (locks_after number (lock_input input) effects (locks self.old)).0 }
+        ensures line { told_as result.line ≡ (locks_after number (lock_input input) effects (locks self.old)).1 }
+        ensures effects { result.effects ≡ told_effects number (lock_input input) effects (locks self.old) };
+}
+
+impl LockTable for LvmLocks {
+    ghost locks = { locks_of };
+
+    ghost has_room = { has_room };
+
+    fn fresh(alloc: Global, header: &Header) -> LvmLocks {
+        LvmLocks::fresh(alloc, header)
+    }
+
+    fn has_line(&self) -> bool {
+        LvmLocks::has_line(self)
+    }
+
+    fn has_ask(&self) -> bool {
+        LvmLocks::has_ask(self)
+    }
+
+    fn ask(&self, alloc: Global) -> Result<Option<Bytes>, AllocError> {
+        self.ask_text(alloc)
+    }
+
+    fn reserve(&mut self) -> Result<(), AllocError> {
+        LvmLocks::reserve(self)
+    }
+
+    fn asked(&self) -> Option<u64> {
+        LvmLocks::asked(self)
+    }
+
+    fn turn(&mut self, number: u64, input: LockInput, effects: Effects) -> StepTold {
+        LvmLocks::turn(self, number, input, effects)
+    }
 }
 
 /// What lvmlockd's locks take of an input. An `Err` is want of memory.

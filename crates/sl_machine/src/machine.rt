@@ -7,13 +7,15 @@ ghost use Rattle.sl_kept.specs.Steps.{owned_machine};
 ghost use Rattle.sl_kept.specs.Kept.{FlightState, flight_in};
 ghost use Rattle.sl_kept.specs.Refusing.{left_in};
 ghost use Rattle.sl_machine.specs.Flights.{ended_flight, grown_flight};
-ghost use Rattle.sl_machine.specs.Hearing.{lock_input};
-ghost use Rattle.sl_machine.specs.Machines.{HasOwnRoom, HasRoom, TakesStep, machine_state, stepped_by, told_by};
+ghost use Rattle.sl_locks.specs.Replies.{told_as};
+ghost use Rattle.sl_locks.specs.Steps.{lock_input};
+ghost use Rattle.sl_machine.specs.Machines.{HasOwnRoom, HasRoom, HasTold, TakesStep, machine_state, put_away_by, stepped_by};
 ghost use Rattle.std.specs.Arc.{arc_value};
 ghost use Rattle.std.specs.Vec.{vec_capacity, vec_len};
 ghost use Rattle.sl_run.specs.Headers.{IsHeader};
+ghost use Rattle.sl_run.specs.Locks.{locks_after, told_effects};
 ghost use Rattle.sl_time.specs.Times.{reading_of};
-ghost use Rattle.std.specs.Prelude.{OnErr, OnOk, Some, flat_map, length, ◌+◌, ◌≡◌, ◌≤◌};
+ghost use Rattle.std.specs.Prelude.{OnErr, OnOk, Some, flat_map, length, true, ◌+◌, ◌≡◌, ◌≤◌};
 
 use crate::children::{add_starts, hear_start};
 use crate::connections::{Connection, make_moves, test_holds};
@@ -21,11 +23,11 @@ use crate::flight::Outcome;
 use crate::flights::Flights;
 use crate::heard::Heard;
 use crate::held::take_effects;
-use crate::locks::{LockInput, LockTable};
+use crate::locks::LockTable;
 use sl_daemon::Most;
+use sl_locks::{LockInput, StepTold};
 use sl_run::Header;
 use sl_sectors::Image;
-use sl_text::Bytes;
 use sl_trace::{Effects, Grant};
 use std::alloc::{AllocError, Global};
 use std::sync::Arc;
@@ -63,7 +65,7 @@ impl<L: LockTable> Machine<L> {
 
     /// Takes the memory that a step needs. An `Err` is want of it. Nothing that is seen changes.
     #[tactic(auto, unfolding(crate::specs::Machines::machine_state))]
-    pub fn reserve(&mut self, most: &Most, input: &LockInput) -> Result<(), AllocError>
+    pub fn reserve(&mut self, most: &Most) -> Result<(), AllocError>
         ensures room { OnOk result (HasRoom L.has_room most.now self.new) }
         ensures same { machine_state L.locks self.new ≡ machine_state L.locks self.old }
     {
@@ -71,7 +73,7 @@ impl<L: LockTable> Machine<L> {
         self.held.reserve(most.grants)?;
         self.starting.reserve(most.starts)?;
         self.flights.reserve(most.calls)?;
-        self.locks.reserve(input)
+        self.locks.reserve()
     }
 
     /// Takes the memory for what the machine does itself. An `Err` is want of it. Nothing that is seen changes.
@@ -163,23 +165,15 @@ impl<L: LockTable> Machine<L> {
         self.flights.sample(call, more, sectors)
     }
 
-    /// The daemon that runs has taken a step; the answer is the reply to lvmlockd's line, if it has come. It takes no memory.
+    /// What a step of the daemon changes, but for lvmlockd's locks. It takes no memory.
     #[tactic(auto, unfolding(crate::specs::Machines::machine_state))]
-    pub fn step(
-        &mut self,
-        alloc: Global,
-        header: &Header,
-        heard: Heard,
-        input: LockInput,
-        effects: &Effects,
-    ) -> Option<(u64, Bytes)>
+    fn put_away(&mut self, alloc: Global, header: &Header, heard: Heard, effects: &Effects)
         requires lawful { IsHeader header.now }
         requires room { TakesStep L.has_room self.old effects.now }
-        ensures stays { machine_state L.locks self.new ≡ stepped_by header.now heard (lock_input input) effects.now (machine_state L.locks self.old) }
-        ensures told { result ≡ told_by (lock_input input) effects.now (machine_state L.locks self.old) }
+        ensures stays { machine_state L.locks self.new ≡ put_away_by header.now heard effects.now (machine_state L.locks self.old) }
+        ensures locks { self.new.locks ≡ self.old.locks }
     {
         make_moves(&mut self.connections, effects.moves.as_slice());
-        let told = self.locks.turn(self.job, input, effects);
         if heard.numbered {
             self.job += 1;
         }
@@ -189,7 +183,38 @@ impl<L: LockTable> Machine<L> {
         self.flights
             .push_calls(alloc, header, effects.calls.as_slice());
         take_effects(&mut self.held, effects);
-        told
+    }
+
+    /// The step of lvmlockd's locks; the answer is what is told of it. It takes no memory.
+    #[tactic(auto, unfolding(crate::specs::Machines::machine_state))]
+    fn turn_locks(&mut self, number: u64, input: LockInput, effects: Effects) -> StepTold
+        requires { L.has_room self.old.locks ≡ true }
+        ensures stays { machine_state L.locks self.new
+            ≡ record (machine_state L.locks self.old) { locks = (locks_after number (lock_input input) effects (machine_state L.locks self.old).locks).0 } }
+        ensures effects { result.effects ≡ told_effects number (lock_input input) effects (machine_state L.locks self.old).locks }
+        ensures line { told_as result.line ≡ (locks_after number (lock_input input) effects (machine_state L.locks self.old).locks).1 }
+    {
+        self.locks.turn(number, input, effects)
+    }
+
+    /// The daemon that runs has taken a step; the answer is what is told of it: the effects without the reply to an ask, and the reply to
+    /// lvmlockd's line, if it has come. It takes no memory.
+    pub fn step(
+        &mut self,
+        alloc: Global,
+        header: &Header,
+        heard: Heard,
+        input: LockInput,
+        effects: Effects,
+    ) -> StepTold
+        requires lawful { IsHeader header.now }
+        requires room { TakesStep L.has_room self.old effects }
+        ensures stays { machine_state L.locks self.new ≡ stepped_by header.now heard (lock_input input) effects (machine_state L.locks self.old) }
+        ensures told { HasTold result (lock_input input) effects (machine_state L.locks self.old) }
+    {
+        let number = self.job;
+        self.put_away(alloc, header, heard, &effects);
+        self.turn_locks(number, input, effects)
     }
 
     /// What the machine does without a daemon. It takes no memory.

@@ -3,12 +3,13 @@ use Rattle.sl_daemon.specs.declared.daemon.Most.{Most}
 use Rattle.sl_kept.specs.Kept.{KeptState, MachineState, change_machine_in, machine_in}
 use Rattle.sl_kept.specs.Steps.{stepped_machine, taken_kept}
 use Rattle.sl_machine.proofs.KeptLaws.{placed}
-use Rattle.sl_machine.specs.Hearing.{IsLockInput, heard_of, lock_input}
+use Rattle.sl_locks.specs.Steps.{lock_input}
+use Rattle.sl_machine.specs.Hearing.{IsLockInput, heard_of}
 use Rattle.sl_machine.specs.Keeping.{AtMachine, kept_state, place_in}
 use Rattle.sl_machine.specs.Machines.{HasRoom, TakesStep, machine_state, stepped_by}
 use Rattle.sl_machine.specs.declared.heard.Heard.{Heard}
 use Rattle.sl_machine.specs.declared.kept.Kept.{Kept}
-use Rattle.sl_machine.specs.declared.locks.LockInput.{LockInput}
+use Rattle.sl_locks.specs.declared.step.LockInput.{LockInput}
 use Rattle.sl_machine.specs.declared.machine.Machine.{Machine}
 use Rattle.sl_run.specs.Locks.{Locks}
 use Rattle.sl_run.specs.declared.header.Header.{Header}

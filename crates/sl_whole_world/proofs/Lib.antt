@@ -1,7 +1,7 @@
 pub mod PlainFilled
-pub mod LockInputs
 pub mod GivenSteps
 pub mod AllowedEvents
+pub mod ToldSteps
 pub mod DoneCalls
 pub mod StartedDaemons
 pub mod EndedEvents

@@ -1,16 +1,16 @@
 -- An event that is refused: the answer says why.
 use Rattle.sl_run.specs.declared.event.Refusal.{Refusal}
-use Rattle.sl_trace.specs.declared.effects.Effects.{Effects}
+use Rattle.sl_locks.specs.declared.step.StepTold.{StepTold}
 use Rattle.sl_whole_world.specs.declared.apply.ApplyError.TheVariants.{OutOfMemory, Refused}
 use Rattle.sl_whole_world.specs.declared.apply.ApplyError.{ApplyError}
 use Rattle.sl_words.proofs.CaseLaws.{none_some, some_value}
 use Rattle.std.proofs.Common.{ap, inl, sym, ◌∙◌}
 use Rattle.std.specs.Prelude.{Err, None, Ok, Option, Result, Some, ◌≡◌, ◌⊎◌}
 
-abbrev pub refused_by : Refusal → Result Effects ApplyError
+abbrev pub refused_by : Refusal → Result StepTold ApplyError
 refused_by r = Err (Refused r)
 
-abbrev reason_in : Refusal → Result Effects ApplyError → Refusal
+abbrev reason_in : Refusal → Result StepTold ApplyError → Refusal
 reason_in d (Ok fx) = d
 reason_in d (Err OutOfMemory) = d
 reason_in d (Err (Refused r)) = r

@@ -1,3 +1,4 @@
 pub mod Hosting
 pub mod Allowing
 pub mod Giving
+pub mod Telling

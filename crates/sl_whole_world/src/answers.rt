@@ -9,15 +9,17 @@ ghost use Rattle.std.specs.Arc.{arc_value};
 ghost use Rattle.std.specs.Option.{option_copied};
 ghost use Rattle.sl_machine.specs.Keeping.{kept_state};
 ghost use Rattle.sl_run.specs.declared.event.Event.TheVariants.{AnswerCall, Do};
-ghost use Rattle.sl_whole_world.specs.Allowing.{AllCome, IsAllowed, MayGive};
-ghost use Rattle.sl_whole_world.specs.Giving.{HasSampled, IsGiven, IsLeft, IsSame, written_by};
+ghost use Rattle.sl_whole_world.specs.Allowing.{IsAllowed, MayGive};
+ghost use Rattle.sl_whole_world.specs.Giving.{HasSampled, IsLeft, IsSame, written_by};
+ghost use Rattle.sl_whole_world.specs.Telling.{ComesTold, GivesTold};
 ghost use Rattle.std.specs.Prelude.{IfOk, IfSome, OnErr, Some, false, is_none, is_some, length, option_map, true, ◌≡◌};
 
 use crate::world::{World, has_numbers, reading};
 use sl_daemon::Daemon;
-use sl_machine::{Flight, Kept, Landing, LockInput, LockTable, hear_read};
+use sl_locks::{LockInput, StepTold};
+use sl_machine::{Flight, Kept, Landing, LockTable, hear_read};
 use sl_sectors::Images;
-use sl_trace::{Answer, Effects, Input};
+use sl_trace::{Answer, Input};
 use std::alloc::AllocError;
 
 /// What a call has sampled, if it reads. An `Err` is want of memory.
@@ -121,9 +123,9 @@ impl<D: Daemon, L: LockTable> World<D, L> {
         machine: u32,
         call: u64,
         sectors: &Images,
-    ) -> Result<Effects, AllocError>
+    ) -> Result<StepTold, AllocError>
         requires { MayGive D.stands (kept_state L.locks self.old.kept) self.old.hosts machine (read_of call sectors.now) }
-        ensures ok { IfOk result (IsGiven D.stands D.makes (kept_state L.locks self.old.kept) self.old.hosts machine (read_of call sectors.now) (kept_state L.locks self.new.kept) self.new.hosts) }
+        ensures ok { IfOk result (GivesTold D.stands D.makes (kept_state L.locks self.old.kept) self.old.hosts machine (read_of call sectors.now) (kept_state L.locks self.new.kept) self.new.hosts) }
         ensures err { OnErr result (IsSame (kept_state L.locks self.old.kept) self.old.hosts (kept_state L.locks self.new.kept) self.new.hosts) }
     {
         let left = has_numbers(&self.kept, machine);
@@ -134,17 +136,16 @@ impl<D: Daemon, L: LockTable> World<D, L> {
         let now = reading(&self.kept, machine);
         let most = self.hosts.most(index);
         let heard = hear_read(call);
-        let locks = LockInput::Nothing;
-        self.kept.reserve(machine, &most, &locks)?;
+        self.kept.reserve(machine, &most)?;
         let effects = self.hosts.read(index, now, call, sectors)?;
-        let _told = self.kept.step(machine, heard, locks, &effects);
-        Ok(effects)
+        let told = self.kept.step(machine, heard, LockInput::Nothing, effects);
+        Ok(told)
     }
 
     /// A call is answered failed.
-    pub(crate) fn fail(&mut self, machine: u32, call: u64) -> Result<Effects, AllocError>
+    pub(crate) fn fail(&mut self, machine: u32, call: u64) -> Result<StepTold, AllocError>
         requires { IsAllowed D.commands D.stands (kept_state L.locks self.old.kept) self.old.hosts (AnswerCall machine call false) }
-        ensures ok { IfOk result (AllCome D.commands D.stands (kept_state L.locks self.old.kept) self.old.hosts (AnswerCall machine call false) (kept_state L.locks self.new.kept) self.new.hosts) }
+        ensures ok { IfOk result (ComesTold D.commands D.stands (kept_state L.locks self.old.kept) self.old.hosts (AnswerCall machine call false) (kept_state L.locks self.new.kept) self.new.hosts) }
         ensures err { OnErr result (IsSame (kept_state L.locks self.old.kept) self.old.hosts (kept_state L.locks self.new.kept) self.new.hosts) }
     {
         self.give(
@@ -157,9 +158,9 @@ impl<D: Daemon, L: LockTable> World<D, L> {
     }
 
     /// A call is answered ok as it stands.
-    pub(crate) fn answer(&mut self, machine: u32, call: u64) -> Result<Effects, AllocError>
+    pub(crate) fn answer(&mut self, machine: u32, call: u64) -> Result<StepTold, AllocError>
         requires { IsAllowed D.commands D.stands (kept_state L.locks self.old.kept) self.old.hosts (AnswerCall machine call true) }
-        ensures ok { IfOk result (AllCome D.commands D.stands (kept_state L.locks self.old.kept) self.old.hosts (AnswerCall machine call true) (kept_state L.locks self.new.kept) self.new.hosts) }
+        ensures ok { IfOk result (ComesTold D.commands D.stands (kept_state L.locks self.old.kept) self.old.hosts (AnswerCall machine call true) (kept_state L.locks self.new.kept) self.new.hosts) }
         ensures err { OnErr result (IsSame (kept_state L.locks self.old.kept) self.old.hosts (kept_state L.locks self.new.kept) self.new.hosts) }
     {
         let sectors = sampled(&self.kept, machine, call)?;
@@ -176,14 +177,14 @@ impl<D: Daemon, L: LockTable> World<D, L> {
     }
 
     /// A write is answered ok that may still have to take effect: it does so in the same event.
-    fn do_write(&mut self, machine: u32, call: u64) -> Result<Effects, AllocError>
+    fn do_write(&mut self, machine: u32, call: u64) -> Result<StepTold, AllocError>
         requires allowed { IsAllowed D.commands D.stands (kept_state L.locks self.old.kept) self.old.hosts (Do machine call) }
         requires writes { (f : FlightState) → flight_of_machine (kept_state L.locks self.old.kept) machine call ≡ Some f → is_some f.write ≡ true }
-        ensures ok { IfOk result (AllCome D.commands D.stands (kept_state L.locks self.old.kept) self.old.hosts (Do machine call) (kept_state L.locks self.new.kept) self.new.hosts) }
+        ensures ok { IfOk result (ComesTold D.commands D.stands (kept_state L.locks self.old.kept) self.old.hosts (Do machine call) (kept_state L.locks self.new.kept) self.new.hosts) }
         ensures err { OnErr result (IsSame (kept_state L.locks self.old.kept) self.old.hosts (kept_state L.locks self.new.kept) self.new.hosts) }
     {
         let landing = unlanded(&self.kept, machine, call)?;
-        let effects = self.give(
+        let told = self.give(
             machine,
             Input::Answer {
                 call,
@@ -191,13 +192,13 @@ impl<D: Daemon, L: LockTable> World<D, L> {
             },
         )?;
         put(&mut self.kept, landing);
-        Ok(effects)
+        Ok(told)
     }
 
     /// The rest of a call is sampled or landed, and it is answered ok.
-    pub(crate) fn do_call(&mut self, machine: u32, call: u64) -> Result<Effects, AllocError>
+    pub(crate) fn do_call(&mut self, machine: u32, call: u64) -> Result<StepTold, AllocError>
         requires { IsAllowed D.commands D.stands (kept_state L.locks self.old.kept) self.old.hosts (Do machine call) }
-        ensures ok { IfOk result (AllCome D.commands D.stands (kept_state L.locks self.old.kept) self.old.hosts (Do machine call) (kept_state L.locks self.new.kept) self.new.hosts) }
+        ensures ok { IfOk result (ComesTold D.commands D.stands (kept_state L.locks self.old.kept) self.old.hosts (Do machine call) (kept_state L.locks self.new.kept) self.new.hosts) }
         ensures err { OnErr result (IsSame (kept_state L.locks self.old.kept) self.old.hosts (kept_state L.locks self.new.kept) self.new.hosts) }
     {
         let sectors = gathered(&mut self.kept, machine, call)?;

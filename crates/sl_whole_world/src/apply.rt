@@ -9,6 +9,7 @@ ghost use Rattle.sl_machine.specs.Keeping.{kept_state};
 ghost use Rattle.sl_machine.specs.Testing.{bars_locks, is_tear};
 ghost use Rattle.sl_whole_world.specs.Allowing.{AllCome, IsAllowed, StandsForSome};
 ghost use Rattle.sl_whole_world.specs.Giving.{IsSame};
+ghost use Rattle.sl_whole_world.specs.Telling.{ComesTold};
 ghost use Rattle.sl_run.specs.Events as events;
 ghost use Rattle.sl_run.specs.Worlds as worlds;
 ghost use Rattle.sl_run.specs.declared.event.Event.TheVariants.{Tear};
@@ -16,12 +17,13 @@ ghost use Rattle.sl_trace.specs.Traces.{no_effects};
 ghost use Rattle.sl_run.specs.declared.event.Refusal.{Refusal as RefusalOf};
 ghost use Rattle.std.specs.Prelude.{Err, IfOk, OnErr, OnOk, Some, true, ◌≡◌, ◌⊎◌};
 
+use crate::ends::told_alone;
 use crate::world::World;
 use sl_daemon::Daemon;
+use sl_locks::StepTold;
 use sl_machine::{LockTable, no_effects};
 use sl_run::{Event, Refusal};
 use sl_text::Bytes;
-use sl_trace::Effects;
 use std::alloc::AllocError;
 
 /// Why an event isn't applied.
@@ -73,17 +75,17 @@ impl<D: Daemon, L: LockTable> World<D, L> {
         }
     }
 
-    /// The event comes to pass; the answer is what its daemon did, or the machine itself. An `Err` is want of memory or of numbers.
-    fn happen(&mut self, event: Event) -> Result<Effects, AllocError>
+    /// The event comes to pass; the answer is what is told of it. An `Err` is want of memory or of numbers.
+    fn happen(&mut self, event: Event) -> Result<StepTold, AllocError>
         requires { IsAllowed D.commands D.stands (kept_state L.locks self.old.kept) self.old.hosts event }
-        ensures ok { IfOk result (AllCome D.commands D.stands (kept_state L.locks self.old.kept) self.old.hosts event (kept_state L.locks self.new.kept) self.new.hosts) }
+        ensures ok { IfOk result (ComesTold D.commands D.stands (kept_state L.locks self.old.kept) self.old.hosts event (kept_state L.locks self.new.kept) self.new.hosts) }
         ensures err { OnErr result (IsSame (kept_state L.locks self.old.kept) self.old.hosts (kept_state L.locks self.new.kept) self.new.hosts) }
     {
         let alloc = *self.kept.machines.allocator();
         match event {
             Event::Pass { time, growths } => {
                 self.pass(time, &growths);
-                Ok(no_effects(alloc))
+                Ok(told_alone(no_effects(alloc)))
             }
             Event::WakeUp { machine } => self.wake(machine),
             Event::GiveCommand { machine, text } => self.command(machine, text),
@@ -95,11 +97,11 @@ impl<D: Daemon, L: LockTable> World<D, L> {
                 sectors,
             } => {
                 self.sample(machine, call, sectors)?;
-                Ok(no_effects(alloc))
+                Ok(told_alone(no_effects(alloc)))
             }
             Event::Land { machine, call } => {
                 self.land(machine, call)?;
-                Ok(no_effects(alloc))
+                Ok(told_alone(no_effects(alloc)))
             }
             Event::Tear {
                 machine,
@@ -108,7 +110,7 @@ impl<D: Daemon, L: LockTable> World<D, L> {
                 bytes,
             } => {
                 self.tear_allowed(machine, call, kept, &bytes)?;
-                Ok(no_effects(alloc))
+                Ok(told_alone(no_effects(alloc)))
             }
             Event::AnswerCall { machine, call, ok } => {
                 if ok {
@@ -120,11 +122,11 @@ impl<D: Daemon, L: LockTable> World<D, L> {
             Event::Do { machine, call } => self.do_call(machine, call),
             Event::DropWrite { machine, call } => {
                 self.drop_write(machine, call);
-                Ok(no_effects(alloc))
+                Ok(told_alone(no_effects(alloc)))
             }
             Event::Test { machine } => {
                 self.test(machine);
-                Ok(no_effects(alloc))
+                Ok(told_alone(no_effects(alloc)))
             }
             Event::ExitOf { machine, process } => self.exit(machine, process),
             Event::SpawnedOf {
@@ -134,36 +136,37 @@ impl<D: Daemon, L: LockTable> World<D, L> {
             } => self.spawned(machine, process, ok),
             Event::StartDaemon { machine, name } => {
                 self.start(machine, name)?;
-                Ok(no_effects(alloc))
+                Ok(told_alone(no_effects(alloc)))
             }
             Event::Crash { machine } => {
                 self.crash(machine);
-                Ok(no_effects(alloc))
+                Ok(told_alone(no_effects(alloc)))
             }
             Event::Reset { machine } => self.reset(machine),
             Event::Restart { machine } => {
                 self.restart(machine);
-                Ok(no_effects(alloc))
+                Ok(told_alone(no_effects(alloc)))
             }
         }
     }
 
-    /// An event comes to pass, unless something refuses it; the answer is what its daemon did, or the machine itself. After an `Err`
+    /// An event comes to pass, unless something refuses it; the answer is what is told of it: the effects of its daemon or of the
+    /// machine itself, without the reply to an ask, and the reply to lvmlockd's line, if it has come. After an `Err`
     /// nothing has changed that is seen.
-    pub fn apply(&mut self, event: Event) -> Result<Effects, ApplyError>
+    pub fn apply(&mut self, event: Event) -> Result<StepTold, ApplyError>
         requires { StandsForSome D.commands D.stands (kept_state L.locks self.old.kept) self.old.hosts }
         ensures refused { (w : worlds.World) → WorldStands D.commands D.stands (kept_state L.locks self.old.kept) self.old.hosts w → (r : RefusalOf)
             → events.refusal_of w event ≡ Some r → (result ≡ Err (ApplyError.Refused r)) ⊎ ((is_tear event ≡ true) × (result ≡ Err ApplyError.OutOfMemory)) }
         ensures only { (w : worlds.World) → WorldStands D.commands D.stands (kept_state L.locks self.old.kept) self.old.hosts w → (r : RefusalOf)
             → result ≡ Err (ApplyError.Refused r) → events.refusal_of w event ≡ Some r }
-        ensures ok { IfOk result (AllCome D.commands D.stands (kept_state L.locks self.old.kept) self.old.hosts event (kept_state L.locks self.new.kept) self.new.hosts) }
+        ensures ok { IfOk result (ComesTold D.commands D.stands (kept_state L.locks self.old.kept) self.old.hosts event (kept_state L.locks self.new.kept) self.new.hosts) }
         ensures err { OnErr result (IsSame (kept_state L.locks self.old.kept) self.old.hosts (kept_state L.locks self.new.kept) self.new.hosts) }
     {
         match self.refusal(&event) {
             Err(_) => Err(ApplyError::OutOfMemory),
             Ok(Some(why)) => Err(ApplyError::Refused(why)),
             Ok(None) => match self.happen(event) {
-                Ok(effects) => Ok(effects),
+                Ok(told) => Ok(told),
                 Err(_) => Err(ApplyError::OutOfMemory),
             },
         }

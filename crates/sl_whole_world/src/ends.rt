@@ -5,12 +5,14 @@ ghost use Rattle.sl_kept.specs.Kept.{MachineState, machine_in};
 ghost use Rattle.sl_kept.specs.Steps.{taken_kept};
 ghost use Rattle.sl_machine.specs.Keeping.{kept_state};
 ghost use Rattle.sl_run.specs.declared.event.Event.TheVariants.{ExitOf, Reset};
-ghost use Rattle.sl_whole_world.specs.Allowing.{AllCome, IsAllowed};
+ghost use Rattle.sl_whole_world.specs.Allowing.{IsAllowed};
 ghost use Rattle.sl_whole_world.specs.Giving.{IsSame};
+ghost use Rattle.sl_whole_world.specs.Telling.{ComesTold, told_view};
 ghost use Rattle.std.specs.Prelude.{IfOk, None, OnErr, Some, false, ◌≡◌};
 
 use crate::world::World;
 use sl_daemon::Daemon;
+use sl_locks::StepTold;
 use sl_machine::{Kept, LockTable};
 use sl_trace::{Effects, Input};
 use std::alloc::AllocError;
@@ -41,30 +43,41 @@ fn exit_alone<L: LockTable>(
     Ok(effects)
 }
 
+/// What is told of effects that no daemon made.
+pub(crate) fn told_alone(effects: Effects) -> StepTold
+    ensures { told_view result ≡ record { effects = effects; line = None } }
+{
+    StepTold {
+        effects,
+        line: None,
+    }
+}
+
 impl<D: Daemon, L: LockTable> World<D, L> {
     /// A process ends. An `Err` is want of memory or of numbers.
-    pub(crate) fn exit(&mut self, machine: u32, process: u32) -> Result<Effects, AllocError>
+    pub(crate) fn exit(&mut self, machine: u32, process: u32) -> Result<StepTold, AllocError>
         requires { IsAllowed D.commands D.stands (kept_state L.locks self.old.kept) self.old.hosts (ExitOf machine process) }
-        ensures ok { IfOk result (AllCome D.commands D.stands (kept_state L.locks self.old.kept) self.old.hosts (ExitOf machine process) (kept_state L.locks self.new.kept) self.new.hosts) }
+        ensures ok { IfOk result (ComesTold D.commands D.stands (kept_state L.locks self.old.kept) self.old.hosts (ExitOf machine process) (kept_state L.locks self.new.kept) self.new.hosts) }
         ensures err { OnErr result (IsSame (kept_state L.locks self.old.kept) self.old.hosts (kept_state L.locks self.new.kept) self.new.hosts) }
     {
         let runs = runs_on(&self.kept, machine);
         if runs {
             self.give(machine, Input::Exit { process })
         } else {
-            exit_alone(&mut self.kept, machine, process)
+            let effects = exit_alone(&mut self.kept, machine, process)?;
+            Ok(told_alone(effects))
         }
     }
 
     /// A machine goes down. An `Err` is want of memory.
-    pub(crate) fn reset(&mut self, machine: u32) -> Result<Effects, AllocError>
+    pub(crate) fn reset(&mut self, machine: u32) -> Result<StepTold, AllocError>
         requires { IsAllowed D.commands D.stands (kept_state L.locks self.old.kept) self.old.hosts (Reset machine) }
-        ensures ok { IfOk result (AllCome D.commands D.stands (kept_state L.locks self.old.kept) self.old.hosts (Reset machine) (kept_state L.locks self.new.kept) self.new.hosts) }
+        ensures ok { IfOk result (ComesTold D.commands D.stands (kept_state L.locks self.old.kept) self.old.hosts (Reset machine) (kept_state L.locks self.new.kept) self.new.hosts) }
         ensures err { OnErr result (IsSame (kept_state L.locks self.old.kept) self.old.hosts (kept_state L.locks self.new.kept) self.new.hosts) }
     {
         let effects = self.kept.reset_effects(machine)?;
         self.kept.reset(machine);
         self.hosts.end(machine as usize - 1);
-        Ok(effects)
+        Ok(told_alone(effects))
     }
 }

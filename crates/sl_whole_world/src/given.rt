@@ -2,16 +2,18 @@
 
 ghost use Rattle.sl_machine.specs.Keeping.{kept_state};
 ghost use Rattle.sl_run.specs.declared.event.Event.TheVariants.{GiveAsk, GiveCommand, GiveLvm, SpawnedOf, WakeUp};
-ghost use Rattle.sl_whole_world.specs.Allowing.{AllCome, IsAllowed};
+ghost use Rattle.sl_whole_world.specs.Allowing.{IsAllowed};
 ghost use Rattle.sl_whole_world.specs.Giving.{IsSame};
+ghost use Rattle.sl_whole_world.specs.Telling.{ComesTold};
 ghost use Rattle.sl_kept.specs.Kept.{MachineState, machine_in};
 ghost use Rattle.std.specs.Prelude.{IfOk, OnErr, Some, ◌≡◌};
 
 use crate::world::World;
 use sl_daemon::Daemon;
+use sl_locks::StepTold;
 use sl_machine::{Kept, LockTable};
 use sl_text::Bytes;
-use sl_trace::{Effects, Input};
+use sl_trace::Input;
 use std::alloc::AllocError;
 
 /// The ask that is due on a machine. An `Err` is want of memory, or there is none.
@@ -29,36 +31,36 @@ fn ask_of<L: LockTable>(kept: &Kept<L>, machine: u32) -> Result<Bytes, AllocErro
 
 impl<D: Daemon, L: LockTable> World<D, L> {
     /// The daemon is woken.
-    pub(crate) fn wake(&mut self, machine: u32) -> Result<Effects, AllocError>
+    pub(crate) fn wake(&mut self, machine: u32) -> Result<StepTold, AllocError>
         requires { IsAllowed D.commands D.stands (kept_state L.locks self.old.kept) self.old.hosts (WakeUp machine) }
-        ensures ok { IfOk result (AllCome D.commands D.stands (kept_state L.locks self.old.kept) self.old.hosts (WakeUp machine) (kept_state L.locks self.new.kept) self.new.hosts) }
+        ensures ok { IfOk result (ComesTold D.commands D.stands (kept_state L.locks self.old.kept) self.old.hosts (WakeUp machine) (kept_state L.locks self.new.kept) self.new.hosts) }
         ensures err { OnErr result (IsSame (kept_state L.locks self.old.kept) self.old.hosts (kept_state L.locks self.new.kept) self.new.hosts) }
     {
         self.give(machine, Input::Wake)
     }
 
     /// A command line is given.
-    pub(crate) fn command(&mut self, machine: u32, text: Bytes) -> Result<Effects, AllocError>
+    pub(crate) fn command(&mut self, machine: u32, text: Bytes) -> Result<StepTold, AllocError>
         requires { IsAllowed D.commands D.stands (kept_state L.locks self.old.kept) self.old.hosts (GiveCommand machine text) }
-        ensures ok { IfOk result (AllCome D.commands D.stands (kept_state L.locks self.old.kept) self.old.hosts (GiveCommand machine text) (kept_state L.locks self.new.kept) self.new.hosts) }
+        ensures ok { IfOk result (ComesTold D.commands D.stands (kept_state L.locks self.old.kept) self.old.hosts (GiveCommand machine text) (kept_state L.locks self.new.kept) self.new.hosts) }
         ensures err { OnErr result (IsSame (kept_state L.locks self.old.kept) self.old.hosts (kept_state L.locks self.new.kept) self.new.hosts) }
     {
         self.give(machine, Input::Line(text))
     }
 
     /// A line is given to lvmlockd.
-    pub(crate) fn lvm_line(&mut self, machine: u32, line: Bytes) -> Result<Effects, AllocError>
+    pub(crate) fn lvm_line(&mut self, machine: u32, line: Bytes) -> Result<StepTold, AllocError>
         requires { IsAllowed D.commands D.stands (kept_state L.locks self.old.kept) self.old.hosts (GiveLvm machine line) }
-        ensures ok { IfOk result (AllCome D.commands D.stands (kept_state L.locks self.old.kept) self.old.hosts (GiveLvm machine line) (kept_state L.locks self.new.kept) self.new.hosts) }
+        ensures ok { IfOk result (ComesTold D.commands D.stands (kept_state L.locks self.old.kept) self.old.hosts (GiveLvm machine line) (kept_state L.locks self.new.kept) self.new.hosts) }
         ensures err { OnErr result (IsSame (kept_state L.locks self.old.kept) self.old.hosts (kept_state L.locks self.new.kept) self.new.hosts) }
     {
         self.give(machine, Input::Number(line))
     }
 
     /// What lvmlockd's locks ask is given to the daemon.
-    pub(crate) fn ask(&mut self, machine: u32) -> Result<Effects, AllocError>
+    pub(crate) fn ask(&mut self, machine: u32) -> Result<StepTold, AllocError>
         requires { IsAllowed D.commands D.stands (kept_state L.locks self.old.kept) self.old.hosts (GiveAsk machine) }
-        ensures ok { IfOk result (AllCome D.commands D.stands (kept_state L.locks self.old.kept) self.old.hosts (GiveAsk machine) (kept_state L.locks self.new.kept) self.new.hosts) }
+        ensures ok { IfOk result (ComesTold D.commands D.stands (kept_state L.locks self.old.kept) self.old.hosts (GiveAsk machine) (kept_state L.locks self.new.kept) self.new.hosts) }
         ensures err { OnErr result (IsSame (kept_state L.locks self.old.kept) self.old.hosts (kept_state L.locks self.new.kept) self.new.hosts) }
     {
         let text = ask_of(&self.kept, machine)?;
@@ -71,9 +73,9 @@ impl<D: Daemon, L: LockTable> World<D, L> {
         machine: u32,
         process: u32,
         ok: bool,
-    ) -> Result<Effects, AllocError>
+    ) -> Result<StepTold, AllocError>
         requires { IsAllowed D.commands D.stands (kept_state L.locks self.old.kept) self.old.hosts (SpawnedOf machine process ok) }
-        ensures ok { IfOk result (AllCome D.commands D.stands (kept_state L.locks self.old.kept) self.old.hosts (SpawnedOf machine process ok) (kept_state L.locks self.new.kept) self.new.hosts) }
+        ensures ok { IfOk result (ComesTold D.commands D.stands (kept_state L.locks self.old.kept) self.old.hosts (SpawnedOf machine process ok) (kept_state L.locks self.new.kept) self.new.hosts) }
         ensures err { OnErr result (IsSame (kept_state L.locks self.old.kept) self.old.hosts (kept_state L.locks self.new.kept) self.new.hosts) }
     {
         self.give(machine, Input::Spawned { process, ok })

@@ -8,14 +8,15 @@ ghost use Rattle.sl_kept.specs.Kept.{MachineState, machine_in};
 ghost use Rattle.sl_machine.specs.Keeping.{kept_state};
 ghost use Rattle.sl_time.specs.Times.{reading_of};
 ghost use Rattle.sl_whole_world.specs.Allowing.{LeavesAt, MayGive};
-ghost use Rattle.sl_whole_world.specs.Giving.{IsGiven, IsSame};
+ghost use Rattle.sl_whole_world.specs.Giving.{IsSame};
+ghost use Rattle.sl_whole_world.specs.Telling.{GivesTold};
 ghost use Rattle.std.specs.Prelude.{IfOk, OnErr, Some, true, ◌≡◌};
 
 use crate::hosts::Hosts;
-use crate::lines::lock_input;
 use sl_daemon::Daemon;
-use sl_machine::{Kept, LockTable, hear};
-use sl_trace::{Effects, Input};
+use sl_locks::StepTold;
+use sl_machine::{Kept, LockTable, hear, lock_input_of};
+use sl_trace::Input;
 use std::alloc::{AllocError, Global};
 
 /// A world: what is kept, and the daemons that run.
@@ -50,9 +51,9 @@ pub(crate) fn has_numbers<L: LockTable>(kept: &Kept<L>, machine: u32) -> bool
 
 impl<D: Daemon, L: LockTable> World<D, L> {
     /// The daemon of a machine takes a step at this input. An `Err` is want of memory or of numbers, and changes nothing that is seen.
-    pub(crate) fn give(&mut self, machine: u32, input: Input) -> Result<Effects, AllocError>
+    pub(crate) fn give(&mut self, machine: u32, input: Input) -> Result<StepTold, AllocError>
         requires { MayGive D.stands (kept_state L.locks self.old.kept) self.old.hosts machine input }
-        ensures ok { IfOk result (IsGiven D.stands D.makes (kept_state L.locks self.old.kept) self.old.hosts machine input (kept_state L.locks self.new.kept) self.new.hosts) }
+        ensures ok { IfOk result (GivesTold D.stands D.makes (kept_state L.locks self.old.kept) self.old.hosts machine input (kept_state L.locks self.new.kept) self.new.hosts) }
         ensures err { OnErr result (IsSame (kept_state L.locks self.old.kept) self.old.hosts (kept_state L.locks self.new.kept) self.new.hosts) }
     {
         let left = has_numbers(&self.kept, machine);
@@ -63,10 +64,10 @@ impl<D: Daemon, L: LockTable> World<D, L> {
         let now = reading(&self.kept, machine);
         let most = self.hosts.most(index);
         let heard = hear(&input);
-        let locks = lock_input(&input)?;
-        self.kept.reserve(machine, &most, &locks)?;
+        let locks = lock_input_of(*self.kept.machines.allocator(), &input)?;
+        self.kept.reserve(machine, &most)?;
         let effects = self.hosts.step(index, now, input)?;
-        let _told = self.kept.step(machine, heard, locks, &effects);
-        Ok(effects)
+        let told = self.kept.step(machine, heard, locks, effects);
+        Ok(told)
     }
 }

@@ -1,8 +1,20 @@
-use Rattle.sl_daemon.specs.Daemons.{IsSoundOp}
+use Rattle.sl_kept.specs.Kept.{MachineState}
+use Rattle.sl_locks.specs.Steps.{lock_input}
 use Rattle.sl_machine.proofs.machine.Machine.step.Goals as goal
-use Rattle.sl_trace.specs.declared.effects.Call.{Call}
-use Rattle.std.proofs.Common.{List, subst, sym}
-use Rattle.std.specs.Prelude.{Contains}
+use Rattle.sl_machine.specs.Machines.{machine_state}
+use Rattle.sl_run.specs.Locks.{locks_after, told_effects}
+use Rattle.std.proofs.Common.{ap, ◌∙◌}
 
-pub push_calls-requires-clause-sound : goal.push_calls-requires-clause-sound
-push_calls-requires-clause-sound g c = subst (λ (xs : List Call). (x : Call) → Contains xs x → IsSoundOp x.op) (sym c.as_slice-3.ensures) c.requires.room.sound
+pub returns-clause-stays : goal.returns-clause-stays
+unfolding machine_state
+returns-clause-stays g c =
+    c.turn_locks.ensures.stays
+    ∙ ap (λ (s : MachineState). record s { locks = (locks_after c.args.self.now.job (lock_input c.args.input) c.args.effects s.locks).0 }) c.put_away.ensures.stays
+
+pub returns-clause-told : goal.returns-clause-told
+unfolding machine_state
+returns-clause-told g c =
+    record {
+      effects = c.turn_locks.ensures.effects ∙ ap (λ (s : MachineState). told_effects c.args.self.now.job (lock_input c.args.input) c.args.effects s.locks) c.put_away.ensures.stays;
+      line = c.turn_locks.ensures.line ∙ ap (λ (s : MachineState). (locks_after c.args.self.now.job (lock_input c.args.input) c.args.effects s.locks).1) c.put_away.ensures.stays;
+    }

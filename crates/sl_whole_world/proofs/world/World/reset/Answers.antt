@@ -1,5 +1,8 @@
+use Rattle.sl_kept.specs.Kept.{machine_in}
 use Rattle.sl_machine.specs.Keeping.{kept_state}
-use Rattle.sl_whole_world.proofs.AllowedEvents.{seat_there}
+use Rattle.sl_run.specs.declared.event.Event.TheVariants.{Reset}
+use Rattle.sl_whole_world.proofs.AllowedEvents.{no_input, seat_there}
+use Rattle.sl_whole_world.proofs.ToldSteps.{own_told}
 use Rattle.sl_whole_world.proofs.EndedEvents.{reset_comes, reset_there}
 use Rattle.sl_whole_world.proofs.world.World.reset.Goals as goal
 
@@ -17,5 +20,8 @@ end-requires g c =
 
 pub returns-clause-ok : goal.returns-clause-ok
 returns-clause-ok g c =
-    reset_comes g.D.Daemon.commands g.D.Daemon.stands (kept_state g.L.LockTable.locks c.args.self.now.kept) c.args.self.now.hosts c.end.new.self c.args.machine
-    (kept_state g.L.LockTable.locks c.reset.new.self) c.in_ok-effects.effects c.requires c.in_ok-effects.ensures c.reset.ensures c.end.ensures
+    let k = kept_state g.L.LockTable.locks c.args.self.now.kept in
+    own_told g.D.Daemon.commands g.D.Daemon.stands k c.args.self.now.hosts (Reset c.args.machine) c.in_ok-effects.effects (kept_state g.L.LockTable.locks c.reset.new.self) c.end.new.self c.told_alone.result
+    (reset_comes g.D.Daemon.commands g.D.Daemon.stands k c.args.self.now.hosts c.end.new.self c.args.machine
+    (kept_state g.L.LockTable.locks c.reset.new.self) c.in_ok-effects.effects c.requires c.in_ok-effects.ensures c.reset.ensures c.end.ensures)
+    (no_input (machine_in k c.args.machine)) c.told_alone.ensures

@@ -1,0 +1,74 @@
+-- The texts of asks, as they are written from left to right.
+use Rattle.sl_locks.specs.Asks.{ask_text, lock_word, process_text, space_word}
+use Rattle.sl_locks.specs.declared.ask.Ask.TheVariants.{Acquire as AskAcquire, Join, Leave, ReadValue, Release as AskRelease, WriteValue}
+use Rattle.sl_lvm.specs.LockNames.{Lock, group_lockspace, group_path}
+use Rattle.sl_lvm.specs.Lvm.{lock_process}
+use Rattle.sl_trace.specs.Traces.{is_shared}
+use Rattle.sl_trace.specs.declared.effects.Mode.TheVariants.{Shared}
+use Rattle.sl_trace.specs.declared.effects.Mode.{Mode}
+use Rattle.sl_text.specs.Numbers.{hex_text}
+use Rattle.std.proofs.Common.{List, [], ap, decimal, false, refl, sym, true, ℕ, ◌*◌, ◌++◌, ◌≡◌, ◌∙◌, ◌∷◌}
+use Rattle.std.proofs.lemmas.List.{append_assoc}
+use Rattle.std.specs.Prelude.{Err, Ok, OnOk, Result, codes}
+
+pub join_text : (area : ℕ) (group : List ℕ) (id : ℕ) → ask_text area (Join group id) ≡ codes "add_lockspace -s " ++ space_word group id
+join_text area group id = refl
+
+pub leave_text : (area : ℕ) (group : List ℕ) (id : ℕ) → ask_text area (Leave group id) ≡ codes "rem_lockspace -s " ++ space_word group id
+leave_text area group id = refl
+
+pub acquire_text : (area : ℕ) (l : Lock) (mode : Mode) → ask_text area (AskAcquire l mode) ≡ codes "acquire -r " ++ lock_word area l (is_shared mode) ++ process_text
+acquire_text area l mode = refl
+
+pub release_text : (area : ℕ) (l : Lock) → ask_text area (AskRelease l) ≡ codes "release -r " ++ lock_word area l false ++ process_text
+release_text area l = refl
+
+pub read_text : (area : ℕ) (l : Lock) → ask_text area (ReadValue l) ≡ codes "get_lvb -r " ++ lock_word area l false ++ process_text
+read_text area l = refl
+
+-- The one byte that a value is set to.
+one_byte : hex_text (1 ∷ []) ≡ codes "01"
+one_byte = refl
+
+write_words : (w p : List ℕ) → (w ++ 32 ∷ (codes "-p" ++ 32 ∷ (p ++ 32 ∷ (codes "-d" ++ 32 ∷ hex_text (1 ∷ []))))) ≡ w ++ ((codes " -p " ++ p) ++ codes " -d 01")
+write_words w p = ap (λ digits. w ++ 32 ∷ (codes "-p" ++ 32 ∷ (p ++ 32 ∷ (codes "-d" ++ 32 ∷ digits)))) one_byte
+
+pub write_text : (area : ℕ) (l : Lock) → ask_text area (WriteValue l) ≡ codes "set_lvb -r " ++ lock_word area l false ++ process_text ++ codes " -d 01"
+write_text area l =
+    ap (λ t. codes "set_lvb -r " ++ t) (write_words (lock_word area l false) (decimal lock_process)
+    ∙ sym (append_assoc (lock_word area l false) process_text (codes " -d 01")))
+
+-- ---- texts that are written one behind another
+
+pub two : (old a new x y : List ℕ) → a ≡ old ++ x → new ≡ a ++ y → new ≡ old ++ (x ++ y)
+two old a new x y first then = then ∙ ap (λ t. t ++ y) first ∙ append_assoc old x y
+
+pub three : (old a b new x y z : List ℕ) → a ≡ old ++ x → b ≡ a ++ y → new ≡ b ++ z → new ≡ old ++ (x ++ (y ++ z))
+three old a b new x y z first second then = two old b new (x ++ y) z (two old a b x y first second) then ∙ ap (λ t. old ++ t) (append_assoc x y z)
+
+-- A word in front of two colons.
+pub front_then : (g i rest : List ℕ) → (g ++ 58 ∷ (i ++ 58 ∷ [])) ++ rest ≡ g ++ 58 ∷ (i ++ 58 ∷ rest)
+front_then g i rest = append_assoc g (58 ∷ (i ++ 58 ∷ [])) rest ∙ ap (λ t. g ++ 58 ∷ t) (append_assoc i (58 ∷ []) rest)
+
+-- A lock's word, as it is written.
+pub lock_written : (g i path back : List ℕ) → (codes "lvm_" ++ (g ++ 58 ∷ (i ++ 58 ∷ []))) ++ (path ++ 58 ∷ back) ≡ codes "lvm_" ++ (g ++ 58 ∷ (i ++ 58 ∷ (path ++ 58 ∷ back)))
+lock_written g i path back = ap (λ t. codes "lvm_" ++ t) (front_then g i (path ++ 58 ∷ back))
+
+-- The mark of the shared mode behind a word of four parts.
+marked : (a b c d mark : List ℕ) → a ++ 58 ∷ (b ++ 58 ∷ (c ++ 58 ∷ (d ++ mark))) ≡ (a ++ 58 ∷ (b ++ 58 ∷ (c ++ 58 ∷ d))) ++ mark
+marked a b c d mark =
+    ap (λ t. a ++ 58 ∷ (b ++ 58 ∷ t)) (sym (append_assoc c (58 ∷ d) mark)) ∙ ap (λ t. a ++ 58 ∷ t) (sym (append_assoc b (58 ∷ (c ++ 58 ∷ d)) mark))
+    ∙ sym (append_assoc a (58 ∷ (b ++ 58 ∷ (c ++ 58 ∷ d))) mark)
+
+pub shared_word : (area : ℕ) (l : Lock) → lock_word area l true ≡ lock_word area l false ++ codes ":SH"
+shared_word area l = marked (group_lockspace l.group) l.name (group_path l.group) (decimal (l.number * area)) (codes ":SH")
+
+-- .. written behind it.
+pub marked_behind : {E : Type 0} (area : ℕ) (l : Lock) (mode : Mode) (old a new : List ℕ) (r : Result (Unit {0}) E) → a ≡ old ++ lock_word area l false → mode ≡ Shared
+    → OnOk r (new ≡ a ++ codes ":SH") → OnOk r (new ≡ old ++ lock_word area l (is_shared mode))
+marked_behind area l mode old a new (Err e) word shared then = tt
+marked_behind area l mode old a new (Ok done) word shared then =
+    two old a new (lock_word area l false) (codes ":SH") word then ∙ ap (λ t. old ++ t) (sym (shared_word area l))
+    ∙ ap (λ m. old ++ lock_word area l (is_shared m)) (sym shared)
+
+pub ruleset texts = (join_text, leave_text, acquire_text, release_text, read_text, write_text)

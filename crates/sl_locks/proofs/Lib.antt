@@ -1,0 +1,6 @@
+pub mod WayLaws
+pub mod LineLaws
+pub mod AskTexts
+pub mod ReplyTexts
+pub mod FirstReplies
+pub mod StepLaws

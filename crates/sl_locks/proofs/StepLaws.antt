@@ -1,0 +1,83 @@
+-- The parts of a step are those of the definition.
+use Rattle.sl_locks.specs.Steps.{ask_numbered, given_number, heard_by, is_asked, lock_input, turned_by}
+use Rattle.sl_locks.specs.Tables.{has_room, locks_of}
+use Rattle.sl_locks.specs.declared.ask.Ask.{Ask}
+use Rattle.sl_locks.specs.declared.step.LockInput.TheVariants.{Exit as LockExit, Line as LockLine, Nothing, Number as LockNumber}
+use Rattle.sl_locks.specs.declared.step.LockInput.{LockInput}
+use Rattle.sl_locks.specs.declared.table.LvmLocks.{LvmLocks}
+use Rattle.sl_run.specs.Locks.{Locks, Told, ended_locks, locks_after, numbered_locks, replied_locks, told_effects, turned_locks}
+use Rattle.sl_trace.specs.declared.effects.Effects.{Effects}
+use Rattle.sl_trace.specs.declared.effects.JobReply.{JobReply}
+use Rattle.std.proofs.Common.{List, None, Option, Some, [], ap, arith, cond, eqb, refl, sym, ℕ, ◌≡◌, ◌∙◌, ◌∷◌}
+use Rattle.std.proofs.lemmas.Bool.Decides.{nat_tests}
+use Rattle.std.specs.List.{find}
+use Rattle.std.specs.Prelude.{filter, is_some, not, option_and_then, option_map, ◌==◌}
+
+-- ---- numbers
+
+ask_number : (n : ℕ) (t : LvmLocks) (due : Option Ask) → t.due ≡ due → locks_of (ask_numbered n t) ≡ numbered_locks n (lock_input LockLine) (locks_of t)
+ask_number n t None is = rw is refl
+ask_number n t (Some a) is = rw is refl
+
+pub numbers_are : (n : ℕ) (i : LockInput) (t : LvmLocks) → locks_of (given_number n i t) ≡ numbered_locks n (lock_input i) (locks_of t)
+numbers_are n LockLine t = ask_number n t t.due refl
+numbers_are n (LockNumber text) t = refl
+numbers_are n (LockExit p) t = refl
+numbers_are n Nothing t = refl
+
+ask_room : (n : ℕ) (t : LvmLocks) (due : Option Ask) → t.due ≡ due → has_room (ask_numbered n t) ≡ has_room t
+ask_room n t None is = rw is refl
+ask_room n t (Some a) is = rw is refl
+
+pub room_stays : (n : ℕ) (i : LockInput) (t : LvmLocks) → has_room (given_number n i t) ≡ has_room t
+room_stays n LockLine t = ask_room n t t.due refl
+room_stays n (LockNumber text) t = refl
+room_stays n (LockExit p) t = refl
+room_stays n Nothing t = refl
+
+-- ---- the reply to the ask
+
+nothing_asked : (rs : List JobReply) → find (is_asked None) rs ≡ None
+nothing_asked [] = refl
+nothing_asked (r ∷ rs) = nothing_asked rs
+
+either_way : (n m : ℕ) → eqb n m ≡ eqb m n
+either_way n m = grind (arith, nat_tests)
+
+same_asked : (n : ℕ) (rs : List JobReply) → find (λ a. a.job == n) rs ≡ find (is_asked (Some n)) rs
+same_asked n [] = refl
+same_asked n (r ∷ rs) = ap (λ t. cond t (Some r) (find (λ a. a.job == n) rs)) (either_way r.job n) ∙ ap (λ o. cond (eqb n r.job) (Some r) o) (same_asked n rs)
+
+reply_is : (asked : Option ℕ) (rs : List JobReply) → option_and_then (λ n. find (λ a. a.job == n) rs) asked ≡ find (is_asked asked) rs
+reply_is None rs = sym (nothing_asked rs)
+reply_is (Some n) rs = same_asked n rs
+
+replied : (fx : Effects) (k : Locks) → replied_locks fx k ≡ heard_by (find (is_asked k.asked) fx.replies) k
+replied fx k = ap (λ o. heard_by o k) (reply_is k.asked fx.replies)
+
+pub turns_are : (i : LockInput) (fx : Effects) (k : Locks) → turned_locks (lock_input i) fx k ≡ turned_by i (find (is_asked k.asked) fx.replies) k
+turns_are LockLine fx k = replied fx k
+turns_are (LockNumber text) fx k = refl
+turns_are (LockExit p) fx k = replied fx k
+turns_are Nothing fx k = replied fx k
+
+-- ---- the whole step
+
+pub step_is : (n : ℕ) (i : LockInput) (fx : Effects) (t : LvmLocks) (k : Locks) (turned : Locks × Told) → k ≡ locks_of (given_number n i t)
+    → turned ≡ turned_by i (find (is_asked k.asked) fx.replies) k → ended_locks (lock_input i) turned ≡ locks_after n (lock_input i) fx (locks_of t)
+unfolding locks_after
+step_is n i fx t k turned numbered is =
+    ap (ended_locks (lock_input i)) (is ∙ sym (turns_are i fx k) ∙ ap (turned_locks (lock_input i) fx) (numbered ∙ numbers_are n i t))
+
+pub told_is : (n : ℕ) (i : LockInput) (fx : Effects) (t : LvmLocks) (asked : Option ℕ) → asked ≡ (locks_of (given_number n i t)).asked
+    → record fx { replies = filter (λ a. not (is_asked asked a)) fx.replies } ≡ told_effects n (lock_input i) fx (locks_of t)
+unfolding told_effects
+told_is n i fx t asked is =
+    ap (λ (o : Option ℕ). record fx { replies = filter (λ a. not (is_asked o a)) fx.replies }) (is ∙ ap (λ (k : Locks). k.asked) (numbers_are n i t))
+
+-- An ask is due where its text is.
+pub some_due : {A B : Type 0} (f : A → B) (o : Option A) → is_some o ≡ is_some (option_map f o)
+some_due f None = refl
+some_due f (Some a) = refl
+
+pub ruleset due = (some_due)

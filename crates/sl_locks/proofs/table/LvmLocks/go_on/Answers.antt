@@ -1,0 +1,17 @@
+use Rattle.sl_locks.proofs.table.LvmLocks.go_on.Goals as goal
+use Rattle.sl_locks.specs.Tables.{course_of, locks_of, lvm_of}
+use Rattle.sl_lvm.specs.Lvm.{goes_on_with}
+use Rattle.sl_run.specs.Locks.{after_turn}
+use Rattle.std.proofs.Common.{ap, sym, ◌∙◌}
+
+pub returns-in-Acquiring : goal.returns-in-Acquiring
+unfolding goes_on_with
+returns-in-Acquiring c =
+    c.after_acquiring.ensures
+    ∙ ap (λ s. after_turn (locks_of c.args.self.now) (goes_on_with (lvm_of c.args.self.now) c.args.reply (course_of c.args.self.now.refused s))) (sym c.in-Acquiring.is)
+
+pub returns-in-Writing : goal.returns-in-Writing
+unfolding goes_on_with
+returns-in-Writing c =
+    c.after_writing.ensures
+    ∙ ap (λ s. after_turn (locks_of c.args.self.now) (goes_on_with (lvm_of c.args.self.now) c.args.reply (course_of c.args.self.now.refused s))) (sym c.in-Writing.is)

@@ -1,0 +1,6 @@
+pub mod Lines
+pub mod Kinds
+pub mod Asks
+pub mod Replies
+pub mod Tables
+pub mod Steps

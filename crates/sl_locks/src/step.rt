@@ -1,0 +1,175 @@
+//! The place of the locks in a daemon's steps: which number a line or an ask takes, which reply is that to an ask, and what is told of a step.
+
+ghost use Rattle.sl_locks.specs.Replies.{told_as};
+ghost use Rattle.sl_locks.specs.Steps.{given_number, heard_by, is_asked, lock_input, turned_by};
+ghost use Rattle.sl_locks.specs.Tables.{has_room, left_by, locks_of};
+ghost use Rattle.sl_run.specs.Locks.{Told, ended_locks, is_lock_exit, locks_after, told_effects};
+ghost use Rattle.std.specs.List.{position};
+ghost use Rattle.std.specs.Prelude.{filter, find, not, true, ◌≡◌};
+
+use crate::ask::LOCK_PROCESS;
+use crate::reply::LineReply;
+use crate::table::{Answer, LvmLocks};
+use sl_text::{Bytes, Seq};
+use sl_trace::{Effects, JobReply};
+
+/// What the locks take of the input that the daemon is given: that it is a line for the host, a line for lvmlockd, or the exit of a process.
+#[derive(Drop)]
+pub enum LockInput {
+    Line,
+    Number(Bytes),
+    Exit(u32),
+    Nothing,
+}
+
+/// What is told of a step: its effects without the reply to an ask, and the reply to lvmlockd's line with the line's number, if it has come.
+#[derive(Drop)]
+pub struct StepTold {
+    pub effects: Effects,
+    pub line: Option<(u64, LineReply)>,
+}
+
+/// Whether lvmlockd itself ends by the input.
+fn is_lock_exit(input: &LockInput) -> bool
+    ensures { result ≡ is_lock_exit (lock_input input.now) }
+{
+    match input {
+        LockInput::Exit(process) => *process == LOCK_PROCESS,
+        LockInput::Line => false,
+        LockInput::Number(_) => false,
+        LockInput::Nothing => false,
+    }
+}
+
+/// Whether the reply is that to the ask.
+fn answers_ask(reply: &JobReply, asked: Option<u64>) -> bool
+    ensures { result ≡ is_asked asked reply.now }
+{
+    match asked {
+        Some(number) => number == reply.job,
+        None => false,
+    }
+}
+
+/// Where the first reply to the ask stands.
+fn place_of(replies: &[JobReply], asked: Option<u64>) -> Option<usize>
+    ensures { result ≡ position (is_asked asked) replies.now }
+{
+    replies.iter().position(|reply| answers_ask(reply, asked))
+}
+
+/// Takes the first reply to the ask out of those of a step, if one is there.
+fn first_reply(replies: &mut Vec<JobReply>, asked: Option<u64>) -> Option<JobReply>
+    ensures found { result ≡ find (is_asked asked) replies.old.items }
+    ensures rest { filter (λ a. not (is_asked asked a)) replies.new.items ≡ filter (λ a. not (is_asked asked a)) replies.old.items }
+{
+    match place_of(replies, asked) {
+        Some(index) => Some(replies.remove(index)),
+        None => None,
+    }
+}
+
+/// Drops all replies to the ask.
+fn without_replies(replies: &mut Vec<JobReply>, asked: Option<u64>)
+    ensures { replies.new.items ≡ filter (λ a. not (is_asked asked a)) replies.old.items }
+{
+    replies.retain(|reply| !answers_ask(reply, asked));
+}
+
+/// The effects without the replies to the ask, and the first of these.
+fn split_reply(effects: Effects, asked: Option<u64>) -> (Effects, Option<JobReply>)
+    ensures rest { result.0 ≡ record effects { replies = filter (λ a. not (is_asked asked a)) effects.replies } }
+    ensures found { result.1 ≡ find (is_asked asked) effects.replies }
+{
+    let Effects {
+        ends,
+        signals,
+        moves,
+        grants,
+        starts,
+        replies,
+        calls,
+    } = effects;
+    let mut others = replies.into_vec();
+    let found = first_reply(&mut others, asked);
+    without_replies(&mut others, asked);
+    let told = Effects {
+        ends,
+        signals,
+        moves,
+        grants,
+        starts,
+        replies: Seq::new(others),
+        calls,
+    };
+    (told, found)
+}
+
+impl LvmLocks {
+    /// The step that begins with this input takes this number, if it is the line's or an ask's.
+    fn take_number(&mut self, number: u64, input: &LockInput)
+        ensures { self.new ≡ given_number number input.now self.old }
+    {
+        match input {
+            LockInput::Number(_) => {
+                self.line = Some(number);
+            }
+            LockInput::Line => {
+                if self.due.is_some() {
+                    self.asked = Some(number);
+                    self.due = None;
+                }
+            }
+            LockInput::Exit(_) => {}
+            LockInput::Nothing => {}
+        }
+    }
+
+    /// The turn that a reply brings, if it came.
+    fn take_heard(&mut self, reply: Option<JobReply>) -> Answer
+        requires { has_room self.old ≡ true }
+        ensures { left_by self.new result ≡ heard_by reply (locks_of self.old) }
+    {
+        match reply {
+            Some(answer) => self.take_reply(answer.reply),
+            None => None,
+        }
+    }
+
+    /// The turn that a step brings: a line's, or that of the reply to an ask.
+    fn hear(&mut self, input: &LockInput, reply: Option<JobReply>) -> Answer
+        requires { has_room self.old ≡ true }
+        ensures { left_by self.new result ≡ turned_by input.now reply (locks_of self.old) }
+    {
+        match input {
+            LockInput::Number(text) => self.take_line(text.as_slice()),
+            LockInput::Line => self.take_heard(reply),
+            LockInput::Exit(_) => self.take_heard(reply),
+            LockInput::Nothing => self.take_heard(reply),
+        }
+    }
+
+    /// lvmlockd ends, where it does by this input.
+    fn end_by(&mut self, input: &LockInput)
+        ensures { (told : Told) → (locks_of self.new, told) ≡ ended_locks (lock_input input.now) (locks_of self.old, told) }
+    {
+        if is_lock_exit(input) {
+            self.end();
+        }
+    }
+
+    /// The step with this number, input and effects; the answer is what is told of it. It takes no memory.
+    pub fn turn(&mut self, number: u64, input: LockInput, effects: Effects) -> StepTold
+        requires { has_room self.old ≡ true }
+        ensures stays { locks_of self.new ≡ (locks_after number (lock_input input) effects (locks_of self.old)).0 }
+        ensures line { told_as result.line ≡ (locks_after number (lock_input input) effects (locks_of self.old)).1 }
+        ensures effects { result.effects ≡ told_effects number (lock_input input) effects (locks_of self.old) }
+    {
+        self.take_number(number, &input);
+        let asked = self.asked;
+        let (effects, reply) = split_reply(effects, asked);
+        let line = self.hear(&input, reply);
+        self.end_by(&input);
+        StepTold { effects, line }
+    }
+}
