@@ -4,7 +4,6 @@ use Rattle.sl_kept.specs.Changes.{first_kept}
 use Rattle.sl_kept.specs.Inputs.{input_for, input_in}
 use Rattle.sl_kept.specs.Kept.{KeptState, MachineState, machine_in}
 use Rattle.sl_kept.specs.Refusing.{refusal_in}
-use Rattle.sl_locks.specs.Replies.{told_as}
 use Rattle.sl_locks.specs.Steps.{lock_input}
 use Rattle.sl_locks.specs.declared.step.LockInput.{LockInput}
 use Rattle.sl_locks.specs.declared.step.StepTold.{StepTold}
