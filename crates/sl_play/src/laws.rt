@@ -1,0 +1,31 @@
+//! A report is proved from its end.
+
+ghost use Rattle.sl_play.specs.Finishing.{AsksLeadBack, EndsFinish, EventsLeadBack, LeadingIsChained};
+ghost use Rattle.sl_play.specs.Owing.{EachStood, PlayIsOwed};
+
+use sl_daemon::Daemon;
+
+/// What is left behind a line's event is left before it.
+pub fn events_lead_back<D: Daemon>()
+    ensures { EventsLeadBack (EachStood D.stands) }
+{}
+
+/// What is left behind an ask is left before it.
+pub fn asks_lead_back<D: Daemon>()
+    ensures { AsksLeadBack (EachStood D.stands) }
+{}
+
+/// .. and so behind one after another.
+pub fn leading_is_chained<D: Daemon>()
+    ensures { LeadingIsChained (EachStood D.stands) }
+{}
+
+/// A schedule ends at its end, or at a line that is refused, and may break off anywhere.
+pub fn ends_finish<D: Daemon>()
+    ensures { EndsFinish (EachStood D.stands) }
+{}
+
+/// What finishes from the header's world on is the report of a made run; what breaks off is a front of one's.
+pub fn play_is_owed<D: Daemon>()
+    ensures { PlayIsOwed D.stands }
+{}
