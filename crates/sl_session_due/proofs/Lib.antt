@@ -1,0 +1,4 @@
+pub mod ConnectionsNamed
+pub mod SessionParts
+pub mod ConnectionsChange
+pub mod ConnectionEffects
