@@ -14,10 +14,11 @@ use Rattle.sl_plain.proofs.Options.{not_some}
 use Rattle.sl_session_due.proofs.ConnectionsChange.{Alters, IsAlone, altered_away, same_connections}
 use Rattle.sl_session_due.proofs.ConnectionsNamed.{connected, register_other, remove_named, remove_other, renew_other}
 use Rattle.sl_session_due.proofs.SessionParts.{SameSession, same_itself, same_then}
+use Rattle.sl_session_due.specs.Promises.{HasConnectionFacts}
 use Rattle.sl_session_facts.proofs.NameEffects.{call_present, joined_of, move_present, refused_of, reply_joins_more, reply_present}
 use Rattle.sl_sessions.specs.Sessions.{calls_of, is_call_of, is_join_call, is_join_done, joined_after, refused_after, removed_after, sessions}
 use Rattle.sl_sessions.specs.declared.session.Session.{Session}
-use Rattle.sl_step_facts.specs.Heard.{IsOpen}
+use Rattle.sl_step_facts.specs.Heard.{IsOpen, heard_by}
 use Rattle.sl_step_facts.specs.SessionFacts.{ConnectionFacts}
 use Rattle.sl_trace.specs.Connections.{Connection, after_move, connection_named, connections, is_registered, last_registering, registers, unregisters}
 use Rattle.sl_trace.specs.Traces.{Replied, Setting, Submitted, Trace, is_write, new_call, next_call, reply_to}
@@ -208,15 +209,15 @@ pub removed_away : (y : Step) (name : List ℕ) → connected y.setting (seen (a
 removed_away y name = move_named y (Unregister name) name ∙ remove_named (connections y.setting (seen y)) name
 
 -- Whatever is altered, once the connection is removed, where it stands, and the session is covered no more.
-pub removal_connections : (t : Trace) (heard : Option ℕ) (s : Session) (y : Step) → Contains (sessions y.setting t) s → Alters y.setting t (seen y) heard s → IsAlone y.setting t s → is_covered (seen (add_move (Unregister s.lockspace) y)) s ≡ false
+pub removal_connections : (t : Trace) (s : Session) (y : Step) → Contains (sessions y.setting t) s → Alters y.setting t (seen y) (heard_by y.input) s → IsAlone y.setting t s → is_covered (seen (add_move (Unregister s.lockspace) y)) s ≡ false
     → is_covered (seen y) s ≡ false ⊎ (is_registered y.setting (seen y) s.lockspace ≡ true)
-    → ConnectionFacts y.setting t heard → ConnectionFacts (remove_connection s.lockspace y).setting (seen (remove_connection s.lockspace y)) heard
-removal_connections t heard s y mine a alone gone uncovered h = by (is_registered y.setting (seen y) s.lockspace) refl where
-  by : (b : Bool) → is_registered y.setting (seen y) s.lockspace ≡ b → ConnectionFacts (when b (add_move (Unregister s.lockspace)) y).setting (seen (when b (add_move (Unregister s.lockspace)) y)) heard
+    → ConnectionFacts y.setting t (heard_by y.input) → HasConnectionFacts (remove_connection s.lockspace y)
+removal_connections t s y mine a alone gone uncovered h = by (is_registered y.setting (seen y) s.lockspace) refl where
+  by : (b : Bool) → is_registered y.setting (seen y) s.lockspace ≡ b → HasConnectionFacts (when b (add_move (Unregister s.lockspace)) y)
   by true is =
-      altered_away y.setting t (seen (add_move (Unregister s.lockspace) y)) heard s mine (alters_move t heard s y (Unregister s.lockspace) (removes_own s.lockspace) a) alone (removed_away y s.lockspace) gone h
+      altered_away y.setting t (seen (add_move (Unregister s.lockspace) y)) (heard_by y.input) s mine (alters_move t (heard_by y.input) s y (Unregister s.lockspace) (removes_own s.lockspace) a) alone (removed_away y s.lockspace) gone h
   by false is =
-      altered_away y.setting t (seen y) heard s mine a alone (not_some (connected y.setting (seen y) s.lockspace) is) (either uncovered) h where
+      altered_away y.setting t (seen y) (heard_by y.input) s mine a alone (not_some (connected y.setting (seen y) s.lockspace) is) (either uncovered) h where
         either : is_covered (seen y) s ≡ false ⊎ (is_registered y.setting (seen y) s.lockspace ≡ true) → is_covered (seen y) s ≡ false
         either (inl none) = none
         either (inr there) = absurd (not_both (is_registered y.setting (seen y) s.lockspace) there is)

@@ -5,3 +5,5 @@ pub mod ConnectionEffects
 pub mod AllowedMore
 pub mod OtherJobs
 pub mod ConnectionWalk
+pub mod JoiningConnections
+pub mod JoiningSteps
