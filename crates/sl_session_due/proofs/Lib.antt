@@ -7,3 +7,5 @@ pub mod OtherJobs
 pub mod ConnectionWalk
 pub mod JoiningConnections
 pub mod JoiningSteps
+pub mod HeardCalls
+pub mod JoiningDecisions
