@@ -9,3 +9,4 @@ pub mod JoiningConnections
 pub mod JoiningSteps
 pub mod HeardCalls
 pub mod JoiningDecisions
+pub mod ConnectionInputs
