@@ -10,3 +10,4 @@ pub mod JoiningSteps
 pub mod HeardCalls
 pub mod JoiningDecisions
 pub mod ConnectionInputs
+pub mod ConnectionLines
