@@ -53,7 +53,7 @@ use Rattle.sl_run_law.proofs.Watchdog.Readings.{Counts, NextRenewal, Stays, next
 
 -- ---- inputs that answer no call
 
-last_woken : (x : Step) (z : Session) → x.input ≡ Wake → last_renewal x.setting (seen x) z ≡ last_renewal x.setting x.past z
+pub last_woken : (x : Step) (z : Session) → x.input ≡ Wake → last_renewal x.setting (seen x) z ≡ last_renewal x.setting x.past z
 last_woken x z wake = by (next_renewal x.setting x.past z (entry_of x)) where
   by : NextRenewal x.setting x.past z (entry_of x) → last_renewal x.setting (seen x) z ≡ last_renewal x.setting x.past z
   by (Stays none is) = is

@@ -107,7 +107,7 @@ unconnected x s alone uncovered quiet h = not_some (connected x.setting (seen x)
   by : (z : Session) × Contains (sessions x.setting (seen x)) z × (z.lockspace ≡ s.lockspace) × ((is_covered (seen x) z ≡ true) ⊎ IsHeardWriter (seen x) (heard_by x.input) z) → ⊥
   by n = either n.0 n.1 n.2 n.3
 
-any_last : {A : Type 0} (p : A → Bool) (xs : List A) (y : A) → p y ≡ true → list_any p (xs ++ y ∷ []) ≡ true
+pub any_last : {A : Type 0} (p : A → Bool) (xs : List A) (y : A) → p y ≡ true → list_any p (xs ++ y ∷ []) ≡ true
 any_last p [] y is = ap (λ b. b || false) is
 any_last p (x ∷ xs) y is = ap (λ b. p x || b) (any_last p xs y is) ∙ either (p x) where
   either : (b : Bool) → (b || true) ≡ true

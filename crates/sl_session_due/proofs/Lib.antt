@@ -11,3 +11,4 @@ pub mod HeardCalls
 pub mod JoiningDecisions
 pub mod ConnectionInputs
 pub mod ConnectionLines
+pub mod ConnectionFactsAreKept

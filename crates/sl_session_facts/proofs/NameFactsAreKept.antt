@@ -232,7 +232,7 @@ present_on_wake past now s =
     ∙ (ap (λ o. present_by (joined_after past s) o (refused_after (record { reading = now; input = Wake; effects = no_effects } ∷ past) s) (has_open_write past s)) (removed_on_wake past now s)
     ∙ ap (λ o. present_by (joined_after past s) (removed_after past s) o (has_open_write past s)) (refused_on_wake past now s))
 
-names_wake : (st : Setting) (past : Trace) (now : ℕ) → NameFacts st past None → HasNameFacts (begin_step st past now)
+pub names_wake : (st : Setting) (past : Trace) (now : ℕ) → NameFacts st past None → HasNameFacts (begin_step st past now)
 names_wake st past now h =
     record {
       apart = λ a b first second same. h.apart a b (before a first) (before b second) same;
