@@ -100,9 +100,11 @@ more_decision K L A B C D y j c (Joins n a) f g stops old h = absurd (old tt)
 more_decision K L A B C D y j c (Leaves s) f g stops old h = (tt, stops s refl)
 more_decision K L A B C D y j c (ReadsArea s r) f g stops old h = g _ _ _ _ h
 more_decision K L A B C D y j c (Shares s lver) f g stops old h = more_grants A B j lver c f h
-more_decision K L A B C D y j c (GivesUp s gr) f g stops old h =
-    (f Done h.0, more_lease A B C D (add_end (end_of gr) y) s (spot_of_grant gr) (ForJob j) (release_next (lease_place y.setting s) (known y.setting (seen (add_end (end_of gr) y)) s (spot_of_grant gr)) gr.mode gr.lver)
-    (λ i r is k. subst (λ n. B n r) (some_value j i is) (f r (subst (λ n. A n r) (sym (some_value j i is)) k))) g h.1)
+more_decision K L A B C D y j c (GivesUp s gr) f g stops old h = (
+  f Done h.0,
+  more_lease A B C D (add_end (end_of gr) y) s (spot_of_grant gr) (ForJob j) (release_next (lease_place y.setting s) (known y.setting (seen (add_end (end_of gr) y)) s (spot_of_grant gr)) gr.mode gr.lver)
+      (λ i r is k. subst (λ n. B n r) (some_value j i is) (f r (subst (λ n. A n r) (sym (some_value j i is)) k))) g h.1,
+)
 more_decision K L A B C D y j c (TakesOver s gr) f g stops old h = more_grants A B j gr.lver c f h
 more_decision K L A B C D y j c (ConvertsTo s r mode) f g stops old h =
     more_lease A B C D y s (spot_of r) (ForJob j) (convert_next (known y.setting (seen y) s (spot_of r)) mode r.name)

@@ -89,9 +89,9 @@ use Rattle.std.proofs.Common.{ap, ap₂, inl, inr, refl, subst, sym, ◌∙◌}
 use Rattle.std.proofs.lemmas.Bool.{eqb-true}
 use Rattle.std.specs.List.{list_any}
 use Rattle.std.specs.Prelude.{Bool, Contains, List, None, Option, Some, [], false, filter, is_none, is_some, length, not, true, ℕ, ◌&&◌, ◌++◌, ◌+◌, ◌==◌, ◌∷◌, ◌≡◌}
-use Rattle.sl_sessions.specs.Deltas.{delta_known, delta_of_session, delta_record, is_renewal_due, next_after_free, next_after_renewal, next_free, next_in_joining, next_on_wake, next_renewal, own_offset} --!
-use Rattle.sl_plain.proofs.Numbers.{equal_is_most} --!
-use Rattle.sl_job_facts.proofs.AnsweredCallsFit.{at, both_of} --!
+use Rattle.sl_sessions.specs.Deltas.{delta_known, delta_of_session, delta_record, is_renewal_due, next_after_free, next_after_renewal, next_free, next_in_joining, next_on_wake, next_renewal, own_offset}  --!
+use Rattle.sl_plain.proofs.Numbers.{equal_is_most}  --!
+use Rattle.sl_job_facts.proofs.AnsweredCallsFit.{at, both_of}  --!
 
 -- ---- what a delta lease decides of a joined session
 
@@ -278,7 +278,7 @@ replied_connections : (x : Step) (j : ℕ) (r : Reply) → is_special r ≡ fals
 replied_connections x j r after other h = reply_connections (heard_by x.input) x j r (late x r after) other h.facts.connections
 
 -- Who holds is joined.
-holder_is_joined : (x : Step) (s : Session) (spot : Spot) (g : Grant) → Whole x → Has x s → Contains (holdings_on (seen x) s spot) g → is_joined (seen x) s ≡ true
+pub holder_is_joined : (x : Step) (s : Session) (spot : Spot) (g : Grant) → Whole x → Has x s → Contains (holdings_on (seen x) s spot) g → is_joined (seen x) s ≡ true
 holder_is_joined x s spot g h has there =
     let under = kept_inside (λ (z : Grant). same_place z.path z.offset spot.path spot.base) (holdings_of (seen x) s) g there in
     let held = kept_inside (λ (z : Grant). z.session == s.number) (holdings (seen x)) g under.0 in
@@ -286,7 +286,7 @@ holder_is_joined x s spot g h has there =
     let one : its.0 ≡ s = one_value its.0 s (session_numbered x.setting (seen x) s.number) (subst (λ n. session_numbered x.setting (seen x) n ≡ Some its.0) (eqb-true g.session s.number held.1) its.1) has in
     subst (λ (z : Session). is_joined (seen x) z ≡ true) one its.2
 
-lone_other_job : (p : Purpose) (j : ℕ) → lone_job p ≡ Some j → (job_of p ≡ Some j) × (is_joining p ≡ false)
+pub lone_other_job : (p : Purpose) (j : ℕ) → lone_job p ≡ Some j → (job_of p ≡ Some j) × (is_joining p ≡ false)
 lone_other_job (RequestRead i) j is = (is, refl)
 lone_other_job (RequestWrite i owner) j is = (is, refl)
 lone_other_job (ValueWrite i) j is = (is, refl)

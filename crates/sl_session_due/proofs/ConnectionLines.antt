@@ -279,9 +279,10 @@ carried_connections x text c d h wake bare says is = by d has fits (decision_nam
 
   stops : (s : Session) → Has w s → is_joined (seen x) s ≡ true → StopsAllowed (During (with_input (Line text) x)) (PlainReply (with_input (Line text) x)) s
   stops s there joined z k i inside =
-      let mine : Contains (sessions x.setting (seen w)) s = got_inside (sessions x.setting (seen w)) s.number s there in
-      (late_on_line x text (Recovering (last_renewal z.setting (seen z) s)),
-      other_of_session w s i (input_sees x (Line text) wake bare refl (both_of x h)).1 (alone_of w s names mine (joined_present (seen w) s joined)) joined (job_during w z s i k inside))
+      let mine : Contains (sessions x.setting (seen w)) s = got_inside (sessions x.setting (seen w)) s.number s there in (
+        late_on_line x text (Recovering (last_renewal z.setting (seen z) s)),
+        other_of_session w s i (input_sees x (Line text) wake bare refl (both_of x h)).1 (alone_of w s names mine (joined_present (seen w) s joined)) joined (job_during w z s i k inside),
+      )
 
   own_stops : (z : Decision) → Of (Has (with_input (Line text) x)) z → DecisionFits x.setting (seen x) c z → (s : Session) → z ≡ Leaves s → StopsAllowed (During (with_input (Line text) x)) (PlainReply (with_input (Line text) x)) s
   own_stops z there f s leaving =

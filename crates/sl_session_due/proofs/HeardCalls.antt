@@ -69,7 +69,7 @@ heard_ok x s m answer h hears = by m.answer refl where
   by None is = absurd (heard_answered x s m answer hears is)
   by (Some a) is = ap (λ o. some_is (λ (b : Answered). is_ok_answer b.answer) o) is ∙ ap (λ b. is_ok_answer b) (heard_answer x s m answer a h hears is)
 
-session_then : (x : Step) (s : Session) (m : Submitted) (answer : Answer) → Hears x s m answer → session_numbered x.setting x.past s.number ≡ Some s
+pub session_then : (x : Step) (s : Session) (m : Submitted) (answer : Answer) → Hears x s m answer → session_numbered x.setting x.past s.number ≡ Some s
 session_then x s m answer hears = subst (λ ss. slice_get ss s.number ≡ Some s) (sessions_bare x hears.bare) (has_heard x s m answer hears)
 
 -- The calls of a session where one of them was heard.

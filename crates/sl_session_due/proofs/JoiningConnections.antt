@@ -82,7 +82,7 @@ writing_covered x s j w writes =
 
 -- ---- it is refused
 
-refused_by_reply : (y : Step) (s : Session) (j : ℕ) (r : Reply) → s.job ≡ Some j → is_running (seen y) j ≡ true → is_join_done r ≡ false → is_some (refused_after (seen (add_reply j r y)) s) ≡ true
+pub refused_by_reply : (y : Step) (s : Session) (j : ℕ) (r : Reply) → s.job ≡ Some j → is_running (seen y) j ≡ true → is_join_done r ≡ false → is_some (refused_after (seen (add_reply j r y)) s) ≡ true
 refused_by_reply y s j r its runs other =
     let told : reply_to (seen (add_reply j r y)) j ≡ Some (record { at = length y.past; reply = r }) = effects_are_told.replies (record { job = j; reply = r }) (entry_of y) y.past runs in
     ap (λ o. is_some o) (refused_of (seen (add_reply j r y)) s j its ∙ (ap (λ o. option_and_then (λ (a : Replied). choose (not (is_join_done a.reply)) (a.at + 1)) o) told

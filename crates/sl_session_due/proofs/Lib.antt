@@ -12,3 +12,4 @@ pub mod JoiningDecisions
 pub mod ConnectionInputs
 pub mod ConnectionLines
 pub mod ConnectionFactsAreKept
+pub mod ConnectionFactsConclude
