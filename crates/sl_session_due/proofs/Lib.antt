@@ -13,3 +13,4 @@ pub mod ConnectionInputs
 pub mod ConnectionLines
 pub mod ConnectionFactsAreKept
 pub mod ConnectionFactsConclude
+pub mod SteadyActs
