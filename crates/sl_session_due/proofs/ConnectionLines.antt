@@ -93,7 +93,7 @@ job_during x z s j h there =
 
 -- ---- a session begins
 
-writing_present : (t : Trace) (s : Session) → joined_after t s ≡ None → has_open_write t s ≡ true → is_present t s ≡ true
+pub writing_present : (t : Trace) (s : Session) → joined_after t s ≡ None → has_open_write t s ≡ true → is_present t s ≡ true
 writing_present t s none writes = by (joined_after t s) (removed_after t s) (refused_after t s) (calls_of t s) none writes where
   by : (joined removed refused : Option ℕ) (ms : List Submitted) → joined ≡ None → list_any (λ (m : Submitted). is_write m.call.op) (unanswered ms) ≡ true → present_of joined removed refused ms ≡ true
   by None removed None ms none writes = refl

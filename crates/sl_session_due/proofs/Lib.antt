@@ -14,3 +14,4 @@ pub mod ConnectionLines
 pub mod ConnectionFactsAreKept
 pub mod ConnectionFactsConclude
 pub mod SteadyActs
+pub mod MovesAltered

@@ -1,1 +1,2 @@
+pub mod MovedSoFar
 pub mod Promises
