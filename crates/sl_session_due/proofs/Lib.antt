@@ -15,3 +15,4 @@ pub mod ConnectionFactsAreKept
 pub mod ConnectionFactsConclude
 pub mod SteadyActs
 pub mod MovesAltered
+pub mod MovesAreKept
