@@ -15,4 +15,6 @@ pub mod ConnectionFactsAreKept
 pub mod ConnectionFactsConclude
 pub mod SteadyActs
 pub mod MovesAltered
+pub mod JoiningMoves
 pub mod MovesAreKept
+pub mod WatchdogIsLawful

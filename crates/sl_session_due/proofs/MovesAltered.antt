@@ -1,5 +1,5 @@
 -- What the moves of an entry so far say is kept by acts of one session, and by those that move nothing.
-use Rattle.sl_session_due.specs.MovedSoFar.{IsClosed, MovedSoFar} --!
+use Rattle.sl_session_due.specs.MovedSoFar.{IsClosed, MovedSoFar}  --!
 use Rattle.sl_acts.specs.SoFar.{SoFar, entry_of}
 use Rattle.sl_due.specs.Steps.{Step, seen, with_input}
 use Rattle.sl_job_facts.proofs.SessionsArePresent.{joined_present, present_inside, session_has}
@@ -54,7 +54,7 @@ closed_uncovered x s c is = by c.gone where
   by (inl absent_one) = not_both (is_present (seen x) s) (covered_present (seen x) s is) absent_one
   by (inr waits) = false_is_true (sym (covered_at_work (seen x) s waits.0 waits.1 ∙ ap (λ q. is_covered_stage q) waits.2) ∙ is)
 
-closed_same : (x y : Step) (s : Session) → y.input ≡ x.input → SameSession (seen x) (seen y) s → IsClosed x s → IsClosed y s
+pub closed_same : (x y : Step) (s : Session) → y.input ≡ x.input → SameSession (seen x) (seen y) s → IsClosed x s → IsClosed y s
 closed_same x y s input h c =
     record {
       unwritten = ap (λ ms. list_any (λ (m : Submitted). is_write m.call.op) (unanswered ms)) h.calls ∙ c.unwritten;

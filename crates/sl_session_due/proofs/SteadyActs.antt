@@ -79,8 +79,8 @@ use Rattle.sl_words.proofs.CaseLaws.{is_false, none_some, not_both}
 use Rattle.sl_words.specs.Words.{some_is}
 use Rattle.std.proofs.Common.{ap, inl, inr, refl, subst, sym, ◌∙◌}
 use Rattle.std.specs.Prelude.{Bool, Contains, List, None, Ok, Some, [], bytes_eq, false, filter, is_some, not, true, ℕ, ◌+◌, ◌==◌, ◌≡◌, ◌⊎◌}
-use Rattle.sl_sessions.specs.Deltas.{delta_known, delta_of_session, delta_record, is_renewal_due, next_after_free, next_after_renewal, next_free, next_in_joining, next_on_wake, next_renewal, own_offset} --!
-use Rattle.sl_job_facts.proofs.AnsweredCallsFit.{at, both_of} --!
+use Rattle.sl_sessions.specs.Deltas.{delta_known, delta_of_session, delta_record, is_renewal_due, next_after_free, next_after_renewal, next_free, next_in_joining, next_on_wake, next_renewal, own_offset}  --!
+use Rattle.sl_job_facts.proofs.AnsweredCallsFit.{at, both_of}  --!
 
 -- ---- what such an act leaves
 
@@ -169,7 +169,7 @@ pub record SpecialActs (H J : Step → Type 0) : Type 0 where
   pub parts : (x : Step) (s : Session) → Has x s → is_joined (seen x) s ≡ true → is_some (recovery_of x.setting (seen x) s) ≡ true → holdings_of (seen x) s ≡ [] → has_open_write (seen x) s ≡ false → H x
       → J (remove_connection s.lockspace x)
 
-job_steady : (x z : Step) (s : Session) (j : Job) → Steady x z → Contains (jobs_of_session z.setting (seen z) s) j → Contains (jobs_of_session x.setting (seen x) s) j
+pub job_steady : (x z : Step) (s : Session) (j : Job) → Steady x z → Contains (jobs_of_session z.setting (seen z) s) j → Contains (jobs_of_session x.setting (seen x) s) j
 job_steady x z s j h there =
     let p : Job → Bool = is_command_that (λ c. some_is (λ n. bytes_eq n s.lockspace) (lockspace_named c)) in
     let names = kept_inside p (running_jobs z.setting (seen z)) j there in
@@ -242,9 +242,10 @@ steady_carried x text c d h wake bare says is no_join = by d has fits (decision_
 
   stops : (s : Session) → Has w s → is_joined (seen x) s ≡ true → StopsAllowed (Steady (with_input (Line text) x)) (PlainReply (with_input (Line text) x)) s
   stops s there joined z k i inside =
-      let mine : Contains (sessions x.setting (seen w)) s = got_inside (sessions x.setting (seen w)) s.number s there in
-      (late_on_line x text (Recovering (last_renewal z.setting (seen z) s)),
-      other_of_session w s i (input_sees x (Line text) wake bare refl (both_of x h)).1 (alone_of w s names mine (joined_present (seen w) s joined)) joined (job_steady w z s i k inside))
+      let mine : Contains (sessions x.setting (seen w)) s = got_inside (sessions x.setting (seen w)) s.number s there in (
+        late_on_line x text (Recovering (last_renewal z.setting (seen z) s)),
+        other_of_session w s i (input_sees x (Line text) wake bare refl (both_of x h)).1 (alone_of w s names mine (joined_present (seen w) s joined)) joined (job_steady w z s i k inside),
+      )
 
   own_stops : (z : Decision) → Of (Has (with_input (Line text) x)) z → DecisionFits x.setting (seen x) c z → (s : Session) → z ≡ Leaves s → StopsAllowed (Steady (with_input (Line text) x)) (PlainReply (with_input (Line text) x)) s
   own_stops z there f s leaving =
@@ -309,8 +310,10 @@ all_acts H J p =
           let has : Has x s = has_heard x s m (Read bytes) hears in
           p.steady x (signal_and_refuse s None x)
           (stopped (Steady x) (Steady x) (PlainReply x) (PlainCall x) AnyStart NoMove (steady_allow x) tt x s None
-          (λ z k j there. (late_on_survey x s m (Read bytes) (Recovering (last_renewal z.setting (seen z) s)) w.facts.calls hears (ap (λ q. job_of q) is),
-          other_of_session x s j w.facts.jobs (alone_joined x s w.facts.names has joined) joined (job_steady x z s j k there))) (steady_itself x)) (p.here x h);
+          (λ z k j there. (
+            late_on_survey x s m (Read bytes) (Recovering (last_renewal z.setting (seen z) s)) w.facts.calls hears (ap (λ q. job_of q) is),
+            other_of_session x s j w.facts.jobs (alone_joined x s w.facts.names has joined) joined (job_steady x z s j k there),
+          )) (steady_itself x)) (p.here x h);
       sees = λ x s number bytes spot g has input held h.
           let found = find_inside (λ (z : Grant). not (is_shared z.mode)) (holdings_on (seen x) s spot) g held in
           let joined : is_joined (seen x) s ≡ true = holder_is_joined x s spot g (p.whole x h) has found.0 in
