@@ -18,3 +18,4 @@ pub mod MovesAltered
 pub mod JoiningMoves
 pub mod MovesAreKept
 pub mod WatchdogIsLawful
+pub mod DeltaCallsAreLawful

@@ -1,2 +1,3 @@
+pub mod DeltaCalls
 pub mod MovedSoFar
 pub mod Promises

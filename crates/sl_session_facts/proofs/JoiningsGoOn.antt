@@ -89,7 +89,7 @@ first_is_last SeeRequest q follows = absurd (false_is_true follows)
 first_is_last (ValueWrite i) q follows = absurd (false_is_true follows)
 first_is_last (ValueRead i) q follows = absurd (false_is_true follows)
 
-one_first : (ms : List Submitted) (a : Submitted) → is_ordered ms ≡ true → Contains ms a → is_join_call FirstRead a.call.purpose ≡ true → join_call ms FirstRead ≡ Some a
+pub one_first : (ms : List Submitted) (a : Submitted) → is_ordered ms ≡ true → Contains ms a → is_join_call FirstRead a.call.purpose ≡ true → join_call ms FirstRead ≡ Some a
 one_first [] a ordered there is = absurd (contains_none a there)
 one_first (m ∷ []) a ordered there is =
     let same : m ≡ a = contains_only m a there in
