@@ -75,7 +75,7 @@ standing_of t s joined unfreed =
     let both = and_true (is_some (joined_after t s)) (is_none (removed_after t s)) joined in
     standing_by (joined_after t s) (removed_after t s) (refused_after t s) (free_write (calls_of t s)) (stage_in (calls_of t s)) both.0 both.1 unfreed
 
-on_own : (st : Setting) (s : Session) → same_place s.path (own_offset st s) s.path (own_offset st s) ≡ true
+pub on_own : (st : Setting) (s : Session) → same_place s.path (own_offset st s) s.path (own_offset st s) ≡ true
 on_own st s = ap₂ (λ a b. a && b) (number_itself (own_offset st s)) (same_name s.path)
 
 alive_at : (t : Trace) (s : Session) (stage : Stage) → stage_of t s ≡ stage → may_submit stage ≡ true → may_submit (stage_of t s) ≡ true
@@ -188,7 +188,7 @@ all_answered x s m answer h hears none =
       by ms None is = absurd (heard_answered x s m answer hears is)
       by ms (Some a) is = ap (λ o. if is_none o then m ∷ unanswered ms else unanswered ms) is
 
-working_stage : (x : Step) (s : Session) (j : ℕ) (step : JoinStep) (m : Submitted) (ms : List Submitted) → Working x s j → calls_of (seen x) s ≡ m ∷ ms → m.call.purpose ≡ Joining j step → stage_of (seen x) s ≡ stage_after step (is_answered_ok m)
+pub working_stage : (x : Step) (s : Session) (j : ℕ) (step : JoinStep) (m : Submitted) (ms : List Submitted) → Working x s j → calls_of (seen x) s ≡ m ∷ ms → m.call.purpose ≡ Joining j step → stage_of (seen x) s ≡ stage_after step (is_answered_ok m)
 working_stage x s j step m ms w are is =
     open_stage (joined_after (seen x) s) (removed_after (seen x) s) (refused_after (seen x) s) (free_write (calls_of (seen x) s)) (stage_in (calls_of (seen x) s)) (working_unjoined x s j w) (working_unrefused x s j w)
     ∙ stage_newest x s j step m ms are is

@@ -19,3 +19,4 @@ pub mod JoiningMoves
 pub mod MovesAreKept
 pub mod WatchdogIsLawful
 pub mod DeltaCallsAreLawful
+pub mod DeltaReadsAreLawful

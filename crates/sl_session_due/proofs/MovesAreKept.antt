@@ -90,13 +90,13 @@ use Rattle.sl_sessions.specs.Deltas.{delta_known, delta_of_session, delta_record
 
 -- ---- a joining at work was there before
 
-unrefused_before : (x : Step) (s : Session) (j : ℕ) → Working x s j → refused_after x.past s ≡ None
+pub unrefused_before : (x : Step) (s : Session) (j : ℕ) → Working x s j → refused_after x.past s ≡ None
 unrefused_before x s j w = by (refused_after x.past s) refl where
   by : (o : Option ℕ) → refused_after x.past s ≡ o → refused_after x.past s ≡ None
   by None is = is
   by (Some k) is = absurd (none_some k (sym (working_unrefused x s j w) ∙ refused_more (entry_of x) x.past s k is))
 
-unjoined_before : (x : Step) (s : Session) (j : ℕ) → Working x s j → joined_after x.past s ≡ None
+pub unjoined_before : (x : Step) (s : Session) (j : ℕ) → Working x s j → joined_after x.past s ≡ None
 unjoined_before x s j w = joined_before (entry_of x) x.past s (joined_after x.past s) refl (working_unjoined x s j w)
 
 heard_uncovered : (x : Step) (s : Session) (j : ℕ) (step : JoinStep) (m : Submitted) (answer : Answer) → Whole x → Hears x s m answer → m.call.purpose ≡ Joining j step → is_running (seen x) j ≡ true → UncoveredBefore x s
@@ -166,7 +166,7 @@ answered_before x s m ms a wake are is = by (newest_by (is_call_of s) (length x.
   by (inr new) =
       let first : new_call (length x.past) x.reading new.0 ≡ m = head_is (new_call (length x.past) x.reading new.0) m new.1 ms (sym new.2 ∙ are) in absurd (none_some a (ap (λ (k : Submitted). k.answer) first ∙ is))
 
-woken_inside : (x : Step) (s : Session) → x.input ≡ Wake → Contains (sessions x.setting (seen x)) s → Contains (sessions x.setting x.past) s
+pub woken_inside : (x : Step) (s : Session) → x.input ≡ Wake → Contains (sessions x.setting (seen x)) s → Contains (sessions x.setting x.past) s
 woken_inside x s wake there = by (contains_either (sessions x.setting x.past) (begun_in x.setting x.past (length (sessions x.setting x.past)) (entry_of x)) s there) where
   none : (b : Bool) → (elim b as (λ z. List Session) [ false ↦ [] | true ↦ elim (added_by x.setting x.input) as (λ z. List Session) [ None ↦ [] | Some a ↦ joining_session (length (sessions x.setting x.past)) (next_job x.setting x.past) a ∷ [] ] ]) ≡ []
   none false = refl
