@@ -20,3 +20,4 @@ pub mod MovesAreKept
 pub mod WatchdogIsLawful
 pub mod DeltaCallsAreLawful
 pub mod DeltaReadsAreLawful
+pub mod WatchFactsAreKept
