@@ -165,7 +165,7 @@ heard_for x y n answer s z m told found session f g there w =
     }
 
 -- A heard call that is none of a joining: its session was joined before.
-joined_then_by : (x : Step) (s : Session) (m : Submitted) (answer : Answer) → Whole x → Hears x s m answer → is_joining m.call.purpose ≡ false → is_some (joined_after x.past s) ≡ true
+pub joined_then_by : (x : Step) (s : Session) (m : Submitted) (answer : Answer) → Whole x → Hears x s m answer → is_joining m.call.purpose ≡ false → is_some (joined_after x.past s) ≡ true
 joined_then_by x s m answer h hears other =
     let d = heard_before x s m answer h hears in
     let same = (same_answered x.past (entry_of x) hears.number answer d.0).call in

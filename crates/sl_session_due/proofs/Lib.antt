@@ -21,3 +21,4 @@ pub mod WatchdogIsLawful
 pub mod DeltaCallsAreLawful
 pub mod DeltaReadsAreLawful
 pub mod WatchFactsAreKept
+pub mod WatchFactsConclude
