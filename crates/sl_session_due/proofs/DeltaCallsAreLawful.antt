@@ -194,7 +194,7 @@ working_stage x s j step m ms w are is =
     ∙ stage_newest x s j step m ms are is
 
 -- What the heard read gave.
-heard_gave : (x : Step) (s : Session) (m : Submitted) (bytes : List ℕ) → Whole x → Hears x s m (Read bytes) → gave m ≡ Some bytes
+pub heard_gave : (x : Step) (s : Session) (m : Submitted) (bytes : List ℕ) → Whole x → Hears x s m (Read bytes) → gave m ≡ Some bytes
 heard_gave x s m bytes h hears = by m.answer refl where
   by : (o : Option Answered) → m.answer ≡ o → gave m ≡ Some bytes
   by None is = absurd (heard_answered x s m (Read bytes) hears is)

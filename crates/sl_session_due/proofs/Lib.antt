@@ -22,3 +22,4 @@ pub mod DeltaCallsAreLawful
 pub mod DeltaReadsAreLawful
 pub mod WatchFactsAreKept
 pub mod WatchFactsConclude
+pub mod LooksAreLawful

@@ -288,7 +288,7 @@ watch_on x s j VerifyRead m (Read b) bytes its same given runs = absurd (false_i
 watch_on x s j FirstRenewal m (Read b) bytes its same given runs = absurd (false_is_true same)
 
 -- A call is no first and further read at once.
-both_steps : (p : Purpose) → is_join_call FirstRead p ≡ true → is_join_call WatchRead p ≡ true → ⊥
+pub both_steps : (p : Purpose) → is_join_call FirstRead p ≡ true → is_join_call WatchRead p ≡ true → ⊥
 both_steps (Joining j FirstRead) first watches = false_is_true watches
 both_steps (Joining j WatchRead) first watches = false_is_true first
 both_steps (Joining j DecidingRead) first watches = false_is_true first
