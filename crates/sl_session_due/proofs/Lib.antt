@@ -23,3 +23,4 @@ pub mod DeltaReadsAreLawful
 pub mod WatchFactsAreKept
 pub mod WatchFactsConclude
 pub mod LooksAreLawful
+pub mod DeltaPromises

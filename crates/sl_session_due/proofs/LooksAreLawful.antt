@@ -71,10 +71,10 @@ use Rattle.std.proofs.lemmas.Option.{slice_get_within}
 use Rattle.std.proofs.lemmas.Slice.Eq.{bytes_eq-Decides}
 use Rattle.std.specs.List.{list_any}
 use Rattle.std.specs.Prelude.{Bool, Contains, List, None, Ok, Option, Some, [], bytes_eq, false, length, nat_le, option_and_then, option_map, true, unwrap_or, ℕ, ◌&&◌, ◌+◌, ◌<◌, ◌==◌, ◌∷◌, ◌≡◌}
-use Rattle.sl_session_due.specs.DeltaCalls.{DeltaLawful, next_made, own_read, own_write, survey_read} --!
-use Rattle.sl_session_due.specs.WatchFacts.{HasRead, HasWatchFacts, HasWatchesPlainly, WatchFacts} --!
-use Rattle.sl_sessions.specs.Deltas.{delta_of_session, first_answered, is_watched_out, next_after_first, next_after_watch, own_offset, id_held, watched} --!
-use Rattle.std.proofs.lemmas.Bool.{eqb-true, leb-true} --!
+use Rattle.sl_session_due.specs.DeltaCalls.{DeltaLawful, next_made, own_read, own_write, survey_read}  --!
+use Rattle.sl_session_due.specs.WatchFacts.{HasRead, HasWatchFacts, HasWatchesPlainly, WatchFacts}  --!
+use Rattle.sl_sessions.specs.Deltas.{delta_of_session, first_answered, is_watched_out, next_after_first, next_after_watch, own_offset, id_held, watched}  --!
+use Rattle.std.proofs.lemmas.Bool.{eqb-true, leb-true}  --!
 
 -- ---- a first read
 

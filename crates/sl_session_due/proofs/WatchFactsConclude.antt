@@ -85,9 +85,9 @@ use Rattle.std.proofs.Common.{ap, inl, inr, refl, subst, sym, ◌∙◌}
 use Rattle.std.proofs.lemmas.Bool.{eqb-true}
 use Rattle.std.proofs.lemmas.Slice.Eq.{bytes_eq-Decides}
 use Rattle.std.specs.Prelude.{Bool, Contains, List, None, Option, Some, [], bytes_eq, false, is_some, length, option_and_then, true, unwrap_or, ℕ, ◌&&◌, ◌+◌, ◌==◌, ◌∷◌, ◌≡◌, ◌⊎◌}
-use Rattle.sl_session_due.specs.WatchFacts.{HasRead, HasWatchFacts, HasWatchesPlainly, WatchFacts} --!
-use Rattle.sl_sessions.specs.Deltas.{delta_known, delta_of_session, delta_record, is_renewal_due, is_watched_out, next_after_first, next_after_free, next_after_renewal, next_after_watch, next_free, next_in_joining, next_on_wake, next_renewal, own_offset, id_held, watched} --!
-use Rattle.sl_job_facts.proofs.AnsweredCallsFit.{at, both_of} --!
+use Rattle.sl_session_due.specs.WatchFacts.{HasRead, HasWatchFacts, HasWatchesPlainly, WatchFacts}  --!
+use Rattle.sl_sessions.specs.Deltas.{delta_known, delta_of_session, delta_record, is_renewal_due, is_watched_out, next_after_first, next_after_free, next_after_renewal, next_after_watch, next_free, next_in_joining, next_on_wake, next_renewal, own_offset, id_held, watched}  --!
+use Rattle.sl_job_facts.proofs.AnsweredCallsFit.{at, both_of}  --!
 
 -- ---- what an act leaves of answered calls
 
