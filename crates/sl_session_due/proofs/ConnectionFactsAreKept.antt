@@ -7,7 +7,7 @@ use Rattle.sl_acts.specs.SoFar.{entry_of}
 use Rattle.sl_area.specs.Places.{request_offset}
 use Rattle.sl_due.specs.DueAnswers.{set_reply}
 use Rattle.sl_due.specs.DueDelta.{carry_delta, end_leaving, move_connection, survey, write_own_sector}
-use Rattle.sl_due.specs.DueFirst.{begin_recoveries, begin_recovery, begins_now, kills, remove_connection, signal_and_refuse}
+use Rattle.sl_due.specs.DueFirst.{begin_recoveries, begin_recovery, begins_now, remove_connection, signal_and_refuse}
 use Rattle.sl_due.specs.DueInputs.{end_holdings, leave_holdings, refuse_jobs_of, started_reply}
 use Rattle.sl_due.specs.DueLease.{carry_lease, next_of_lease}
 use Rattle.sl_due.specs.DueRequests.{after_value_read, bits_due, value_reply}
@@ -30,7 +30,6 @@ use Rattle.sl_leases.specs.declared.lease.LeaseNext.{LeaseNext}
 use Rattle.sl_parts_law.proofs.JoinedCallsKeepOrder.{joined_is_covered}
 use Rattle.sl_plain.proofs.Lists.{find_fails, find_inside, got_inside, kept_inside}
 use Rattle.sl_plain.proofs.Options.{not_some, some_of, some_there}
-use Rattle.sl_run_law.proofs.Guards.{starts}
 use Rattle.sl_sector.specs.Bitmaps.{no_bits}
 use Rattle.sl_sector.specs.declared.sector.DeltaRec.{DeltaRec}
 use Rattle.sl_sector.specs.declared.sector.DeltaState.TheVariants.{Free, Live}
@@ -81,7 +80,7 @@ use Rattle.sl_trace.specs.declared.input.Answer.{Answer}
 use Rattle.sl_trace.specs.declared.input.Input.TheVariants.{Exit, Number, Spawned, Wake}
 use Rattle.sl_trace.specs.declared.reply.Reply.TheVariants.{BadCommand as Misread, Done, IoFault, IoTimeout, NoProcess, Recovering, SpawnFault}
 use Rattle.sl_trace.specs.declared.reply.Reply.{Reply}
-use Rattle.sl_trace_law.proofs.Sessions.Naming.{named, same_name}
+use Rattle.sl_trace_law.proofs.Sessions.Naming.{same_name}
 use Rattle.sl_trace_law.proofs.Sessions.Staying.{joined_more}
 use Rattle.sl_words.proofs.CaseLaws.{false_is_true, none_some, not_both, one_value}
 use Rattle.sl_words.specs.Words.{choose}
@@ -89,9 +88,9 @@ use Rattle.std.proofs.Common.{ap, ap₂, inl, inr, refl, subst, sym, ◌∙◌}
 use Rattle.std.proofs.lemmas.Bool.{eqb-true}
 use Rattle.std.specs.List.{list_any}
 use Rattle.std.specs.Prelude.{Bool, Contains, List, None, Option, Some, [], false, filter, is_none, is_some, length, not, true, ℕ, ◌&&◌, ◌++◌, ◌+◌, ◌==◌, ◌∷◌, ◌≡◌}
-use Rattle.sl_sessions.specs.Deltas.{delta_known, delta_of_session, delta_record, is_renewal_due, next_after_free, next_after_renewal, next_free, next_in_joining, next_on_wake, next_renewal, own_offset}  --!
-use Rattle.sl_plain.proofs.Numbers.{equal_is_most}  --!
-use Rattle.sl_job_facts.proofs.AnsweredCallsFit.{at, both_of}  --!
+use Rattle.sl_sessions.specs.Deltas.{delta_known, delta_of_session, delta_record, is_renewal_due, next_after_free, next_after_renewal, next_free, next_in_joining, next_on_wake, next_renewal, own_offset}
+use Rattle.sl_plain.proofs.Numbers.{equal_is_most}
+use Rattle.sl_job_facts.proofs.AnsweredCallsFit.{at, both_of}
 
 -- ---- what a delta lease decides of a joined session
 

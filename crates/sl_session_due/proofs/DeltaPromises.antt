@@ -3,12 +3,12 @@ use Rattle.sl_due.specs.Steps.{seen}
 use Rattle.sl_job_facts.proofs.DecisionsFit.{DecisionFits, decisions_fit}
 use Rattle.sl_plain.proofs.Lists.{contains_none}
 use Rattle.std.proofs.Common.{subst}
-use Rattle.sl_session_due.specs.DeltaPromises.{ClaimsAreLawful, FirstRenewalsAreLawful, FreeIsDecided, FreesAreLawful, JoinedSurveysAreLawful, LooksAreLawful, NothingWasRead, RenewalsAreLawful, RenewedSurveysAreLawful, VerifiesAreLawful, WatchFactsAreKept, WatchFactsBegin, WatchFactsConclude, WatchedIsDecided, WatchesAreLawful}  --!
-use Rattle.sl_session_due.proofs.DeltaCallsAreLawful.{claims_are_lawful, first_renewals_are_lawful, frees_are_lawful, renewals_are_lawful}  --!
-use Rattle.sl_session_due.proofs.DeltaReadsAreLawful.{joined_surveys_are_lawful, renewed_surveys_are_lawful, verifies_are_lawful, watches_are_lawful}  --!
-use Rattle.sl_session_due.proofs.LooksAreLawful.{free_is_decided, looks_are_lawful, watched_is_decided}  --!
-use Rattle.sl_session_due.proofs.WatchFactsAreKept.{watch_facts_are_kept, watches_begin}  --!
-use Rattle.sl_session_due.proofs.WatchFactsConclude.{watch_facts_conclude}  --!
+use Rattle.sl_session_due.specs.DeltaPromises.{ClaimsAreLawful, FirstRenewalsAreLawful, FreeIsDecided, FreesAreLawful, JoinedSurveysAreLawful, LooksAreLawful, NothingWasRead, RenewalsAreLawful, RenewedSurveysAreLawful, VerifiesAreLawful, WatchFactsAreKept, WatchFactsBegin, WatchFactsConclude, WatchedIsDecided, WatchesAreLawful}
+use Rattle.sl_session_due.proofs.DeltaCallsAreLawful.{claims_are_lawful, first_renewals_are_lawful, frees_are_lawful, renewals_are_lawful}
+use Rattle.sl_session_due.proofs.DeltaReadsAreLawful.{joined_surveys_are_lawful, renewed_surveys_are_lawful, verifies_are_lawful, watches_are_lawful}
+use Rattle.sl_session_due.proofs.LooksAreLawful.{free_is_decided, looks_are_lawful, watched_is_decided}
+use Rattle.sl_session_due.proofs.WatchFactsAreKept.{watch_facts_are_kept, watches_begin}
+use Rattle.sl_session_due.proofs.WatchFactsConclude.{watch_facts_conclude}
 
 pub reads_are_kept : WatchFactsAreKept
 reads_are_kept = watch_facts_are_kept

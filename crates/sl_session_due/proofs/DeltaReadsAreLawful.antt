@@ -14,7 +14,6 @@ use Rattle.sl_law.specs.Saying.{cut_at}
 use Rattle.sl_plain.proofs.Lists.{any_found, contains_cases, contains_first, contains_none, got_inside, in_map, kept, kept_inside}
 use Rattle.sl_plain.proofs.Numbers.{number_itself}
 use Rattle.sl_plain.proofs.Options.{none_is}
-use Rattle.sl_run_law.proofs.Walking.{reads}
 use Rattle.sl_run_law.proofs.Watchdog.Finding.{open_delta}
 use Rattle.sl_session_due.proofs.ConnectionEffects.{move_same}
 use Rattle.sl_session_due.proofs.ConnectionFactsAreKept.{heard_is_joined}
@@ -62,10 +61,10 @@ use Rattle.std.proofs.Common.{ap, ap₂, inl, inr, refl, subst, sym, ◌∙◌}
 use Rattle.std.specs.List.{list_any}
 use Rattle.std.specs.Option.{option_or}
 use Rattle.std.specs.Prelude.{Bool, Contains, List, None, Option, Some, [], cond, false, filter, if◌then◌else◌, is_none, is_some, length, nat_le, nat_lt, slice_get, suc, true, ℕ, ◌&&◌, ◌+◌, ◌==◌, ◌∷◌, ◌≡◌, ◌⊎◌}
-use Rattle.std.proofs.lemmas.Bool.{eqb-true, leb-true, ltb-false}  --!
-use Rattle.sl_session_due.proofs.MovesAreKept.{answered_before, unjoined_before, unrefused_before, woken_inside}  --!
-use Rattle.sl_session_due.specs.DeltaCalls.{DeltaLawful, next_made, own_read, own_write, survey_read}  --!
-use Rattle.sl_sessions.specs.Deltas.{claim_of, claim_on, delta_known, delta_of_session, delta_record, is_renewal_due, next_after_claim, next_after_deciding, next_after_free, next_after_renewal, next_after_verify, next_by_time, next_free, next_in_joining, next_in_watch, next_on_wake, next_renewal, own_offset, has_seq_left, id_held, id_lost, watched, join_step_of}  --!
+use Rattle.std.proofs.lemmas.Bool.{eqb-true, leb-true, ltb-false}
+use Rattle.sl_session_due.proofs.MovesAreKept.{answered_before, unjoined_before, unrefused_before, woken_inside}
+use Rattle.sl_session_due.specs.DeltaCalls.{DeltaLawful, own_read, survey_read}
+use Rattle.sl_sessions.specs.Deltas.{delta_of_session, next_after_claim}
 
 -- ---- one call on a delta sector is open
 

@@ -8,7 +8,6 @@ use Rattle.sl_due.specs.declared.decision.Decision.TheVariants.{Joins}
 use Rattle.sl_job_facts.proofs.CallsHaveFacts.{input_kept, sessions_told}
 use Rattle.sl_job_facts.proofs.CallsOfJobsFit.{list_all_inside}
 use Rattle.sl_job_facts.proofs.DecisionsFit.{DecisionFits}
-use Rattle.sl_job_facts.proofs.EffectsAreAllowed.{delta}
 use Rattle.sl_job_facts.proofs.JobsAreNumbered.{finds_none, next_is_new}
 use Rattle.sl_job_facts.proofs.SessionsArePresent.{present_is}
 use Rattle.sl_job_facts.proofs.SessionsHaveJobs.{contains_only}
@@ -18,8 +17,6 @@ use Rattle.sl_law.specs.LawfulDelta.{Gave, WatchOver}
 use Rattle.sl_plain.proofs.Lists.{contains_cases, contains_none, find_inside, kept_inside}
 use Rattle.sl_plain.proofs.Numbers.{number_itself}
 use Rattle.sl_plain.proofs.Options.{some_of}
-use Rattle.sl_run_law.proofs.Course.Matched.{apart}
-use Rattle.sl_run_law.proofs.Walking.{reads}
 use Rattle.sl_sector.specs.Spelling.{delta_in}
 use Rattle.sl_sector.specs.declared.sector.DeltaRec.{DeltaRec}
 use Rattle.sl_sector.specs.declared.sector.DeltaState.TheVariants.{Claimed, Free, Live}
@@ -71,10 +68,10 @@ use Rattle.std.proofs.lemmas.Option.{slice_get_within}
 use Rattle.std.proofs.lemmas.Slice.Eq.{bytes_eq-Decides}
 use Rattle.std.specs.List.{list_any}
 use Rattle.std.specs.Prelude.{Bool, Contains, List, None, Ok, Option, Some, [], bytes_eq, false, length, nat_le, option_and_then, option_map, true, unwrap_or, ℕ, ◌&&◌, ◌+◌, ◌<◌, ◌==◌, ◌∷◌, ◌≡◌}
-use Rattle.sl_session_due.specs.DeltaCalls.{DeltaLawful, next_made, own_read, own_write, survey_read}  --!
-use Rattle.sl_session_due.specs.WatchFacts.{HasRead, HasWatchFacts, HasWatchesPlainly, WatchFacts}  --!
-use Rattle.sl_sessions.specs.Deltas.{delta_of_session, first_answered, is_watched_out, next_after_first, next_after_watch, own_offset, id_held, watched}  --!
-use Rattle.std.proofs.lemmas.Bool.{eqb-true, leb-true}  --!
+use Rattle.sl_session_due.specs.DeltaCalls.{DeltaLawful, own_read}
+use Rattle.sl_session_due.specs.WatchFacts.{HasRead, HasWatchFacts}
+use Rattle.sl_sessions.specs.Deltas.{delta_of_session, is_watched_out, next_after_first, next_after_watch, id_held, watched}
+use Rattle.std.proofs.lemmas.Bool.{eqb-true, leb-true}
 
 -- ---- a first read
 

@@ -23,7 +23,6 @@ use Rattle.sl_job_facts.proofs.SessionsHaveJobs.{contains_either}
 use Rattle.sl_job_facts.proofs.SessionsStand.{joined_then, leaving_joined, recovery_joined}
 use Rattle.sl_job_facts.specs.Promises.{BeginsWith}
 use Rattle.sl_law.specs.LawfulWatchdog.{is_covered}
-use Rattle.sl_leases.specs.Leases.{freed}
 use Rattle.sl_parts_law.proofs.CallsGrow.{any_more, others_stay}
 use Rattle.sl_parts_law.proofs.JoinedCallsKeepOrder.{joined_is_covered}
 use Rattle.sl_plain.proofs.Lists.{any_found, contains_first, contains_map, contains_none, find_fails, find_inside, got_inside, head_is, in_map, kept_inside}
@@ -56,9 +55,6 @@ use Rattle.sl_step_facts.specs.Whole.{Whole}
 use Rattle.sl_time.specs.Times.{fail}
 use Rattle.sl_trace.specs.Connections.{is_registered, registers, unregisters}
 use Rattle.sl_trace.specs.Traces.{Answered, Submitted, answered_in, is_answered_ok, is_running, is_write, mark, new_call, next_call, next_job, submitted}
-use Rattle.sl_trace.specs.contracts.effects.OpPartialEq.TheImpl.{ghosts as op}
-use Rattle.sl_trace.specs.contracts.effects.PurposePartialEq.TheImpl.{ghosts as purpose}
-use Rattle.sl_trace.specs.contracts.input.InputPartialEq.TheImpl.{ghosts as input}
 use Rattle.sl_trace.specs.declared.command.Command.{Command}
 use Rattle.sl_trace.specs.declared.command.LockspaceArg.{LockspaceArg}
 use Rattle.sl_trace.specs.declared.effects.Call.{Call}
@@ -83,10 +79,10 @@ use Rattle.std.proofs.lemmas.Option.{slice_get_within}
 use Rattle.std.proofs.lemmas.Slice.Eq.{bytes_eq-Decides}
 use Rattle.std.specs.List.{list_any}
 use Rattle.std.specs.Prelude.{Bool, Contains, List, None, Option, Some, [], bytes_eq, false, filter, fold, if◌then◌else◌, is_none, is_some, length, map, not, true, ℕ, ◌&&◌, ◌+◌, ◌<◌, ◌==◌, ◌∷◌, ◌≡◌, ◌≤◌, ◌⊎◌}
-use Rattle.sl_session_due.proofs.MovesAltered.{absent_closed, closed_same, closed_unjoined, moves_one, moves_seen, moves_steady, there_now}  --!
-use Rattle.sl_session_due.proofs.JoiningMoves.{UncoveredBefore, any_split, closed_refused, closed_removed, joining_moves, refuse_moves, same_text}  --!
-use Rattle.sl_session_due.specs.MovedSoFar.{IsClosed, MovedSoFar}  --!
-use Rattle.sl_sessions.specs.Deltas.{delta_known, delta_of_session, delta_record, is_renewal_due, next_after_free, next_after_renewal, next_free, next_in_joining, next_on_wake, next_renewal, own_offset}  --!
+use Rattle.sl_session_due.proofs.MovesAltered.{absent_closed, closed_same, closed_unjoined, moves_one, moves_seen, moves_steady, there_now}
+use Rattle.sl_session_due.proofs.JoiningMoves.{UncoveredBefore, any_split, closed_refused, closed_removed, joining_moves, refuse_moves, same_text}
+use Rattle.sl_session_due.specs.MovedSoFar.{IsClosed, MovedSoFar}
+use Rattle.sl_sessions.specs.Deltas.{delta_of_session, next_after_free, next_after_renewal, next_in_joining, next_on_wake}
 
 -- ---- a joining at work was there before
 

@@ -9,7 +9,7 @@ use Rattle.sl_area.specs.Places.{request_offset}
 use Rattle.sl_due.specs.DueAnswers.{set_reply}
 use Rattle.sl_due.specs.DueCommands.{carry_decision, decided}
 use Rattle.sl_due.specs.DueDelta.{carry_delta, see_request, write_own_sector}
-use Rattle.sl_due.specs.DueFirst.{kills, refuse, remove_connection, remove_of_refused, send, signal_and_refuse, signal_holders}
+use Rattle.sl_due.specs.DueFirst.{refuse, remove_connection, remove_of_refused, send, signal_and_refuse, signal_holders}
 use Rattle.sl_due.specs.DueInputs.{end_holdings, leave_holdings, refuse_jobs_of, started_reply, when_running}
 use Rattle.sl_due.specs.DueLease.{carry_lease, next_of_lease}
 use Rattle.sl_due.specs.DueRequests.{after_request_read, after_value_read, bits_due, value_reply}
@@ -28,14 +28,12 @@ use Rattle.sl_job_facts.proofs.SessionsArePresent.{joined_present}
 use Rattle.sl_job_facts.proofs.SessionsStand.{joined_then, running_before}
 use Rattle.sl_leases.specs.Jobs.{is_command_that, is_job_of_process, job_of_start, jobs_of_session, lockspace_named}
 use Rattle.sl_leases.specs.LeaseWork.{lease_place, settle_next}
-use Rattle.sl_leases.specs.Leases.{freed, holdings_on, known, lver_written, spot_of_call}
+use Rattle.sl_leases.specs.Leases.{holdings_on, known, lver_written, spot_of_call}
 use Rattle.sl_leases.specs.declared.lease.LeaseNext.TheVariants.{AnswerJob}
 use Rattle.sl_leases.specs.declared.lease.LeaseNext.{LeaseNext}
 use Rattle.sl_parts_law.proofs.CallsGrow.{others_stay, same_sessions}
 use Rattle.sl_parts_law.proofs.JoinedCallsKeepOrder.{one_number}
 use Rattle.sl_plain.proofs.Lists.{find_inside, got_inside, kept, kept_inside}
-use Rattle.sl_run_law.proofs.Guards.{starts}
-use Rattle.sl_run_law.proofs.Landing.Owning.{running}
 use Rattle.sl_sector.specs.Bitmaps.{no_bits}
 use Rattle.sl_sector.specs.declared.sector.DeltaRec.{DeltaRec}
 use Rattle.sl_sector.specs.declared.sector.DeltaState.TheVariants.{Free, Live}
@@ -56,7 +54,6 @@ use Rattle.sl_sessions.specs.declared.delta.DeltaNext.TheVariants.{Nothing, Writ
 use Rattle.sl_sessions.specs.declared.session.Session.{Session}
 use Rattle.sl_step_facts.specs.Whole.{Whole}
 use Rattle.sl_trace.specs.Traces.{Job, Submitted, is_before_input, is_running, is_shared, job_of, jobs, next_call, next_job, running_jobs, submitted, work_job}
-use Rattle.sl_trace.specs.contracts.effects.PurposePartialEq.TheImpl.{ghosts as purpose}
 use Rattle.sl_trace.specs.declared.command.Command.{Command}
 use Rattle.sl_trace.specs.declared.command.LockspaceArg.{LockspaceArg}
 use Rattle.sl_trace.specs.declared.effects.Grant.{Grant}
@@ -79,8 +76,8 @@ use Rattle.sl_words.proofs.CaseLaws.{is_false, none_some, not_both}
 use Rattle.sl_words.specs.Words.{some_is}
 use Rattle.std.proofs.Common.{ap, inl, inr, refl, subst, sym, ◌∙◌}
 use Rattle.std.specs.Prelude.{Bool, Contains, List, None, Ok, Some, [], bytes_eq, false, filter, is_some, not, true, ℕ, ◌+◌, ◌==◌, ◌≡◌, ◌⊎◌}
-use Rattle.sl_sessions.specs.Deltas.{delta_known, delta_of_session, delta_record, is_renewal_due, next_after_free, next_after_renewal, next_free, next_in_joining, next_on_wake, next_renewal, own_offset}  --!
-use Rattle.sl_job_facts.proofs.AnsweredCallsFit.{at, both_of}  --!
+use Rattle.sl_sessions.specs.Deltas.{delta_known, delta_of_session, delta_record, is_renewal_due, next_after_free, next_after_renewal, next_free, next_in_joining, next_on_wake, next_renewal, own_offset}
+use Rattle.sl_job_facts.proofs.AnsweredCallsFit.{at, both_of}
 
 -- ---- what such an act leaves
 

@@ -15,20 +15,18 @@ use Rattle.sl_job_facts.proofs.CallsOfJobsFit.{joining_of}
 use Rattle.sl_job_facts.proofs.CallsStay.{is_special, late}
 use Rattle.sl_job_facts.proofs.EffectsAreAllowed.{Allows, delta, lease, removal_of_refused, requested, sent, stopped}
 use Rattle.sl_job_facts.proofs.JobsAreAllowed.{heard_answered, late_on_survey}
-use Rattle.sl_job_facts.proofs.JobsAreNumbered.{finds_none}
 use Rattle.sl_job_facts.proofs.NearlyPlainActs.{AnyMove, AnyStart}
 use Rattle.sl_job_facts.proofs.RepliesComeAfter.{IsLateDelta, IsLateLease, joining_late, lease_late, on_bool, on_option, set_late, value_late}
 use Rattle.sl_job_facts.proofs.SessionsArePresent.{session_has}
 use Rattle.sl_job_facts.proofs.SessionsHaveJobs.{contains_only}
 use Rattle.sl_job_facts.specs.Promises.{HasCallFacts}
 use Rattle.sl_leases.specs.LeaseWork.{lease_place}
-use Rattle.sl_leases.specs.Leases.{freed, known, lver_written, spot_of_call}
+use Rattle.sl_leases.specs.Leases.{known, lver_written, spot_of_call}
 use Rattle.sl_leases.specs.declared.lease.LeaseNext.{LeaseNext}
 use Rattle.sl_parts_law.proofs.CallsGrow.{same_sessions}
 use Rattle.sl_plain.proofs.Lists.{contains_cases, find_inside, kept, kept_inside}
 use Rattle.sl_plain.proofs.Numbers.{number_itself}
 use Rattle.sl_plain.proofs.Options.{some_of, some_there}
-use Rattle.sl_run_law.proofs.Guards.{starts}
 use Rattle.sl_sector.specs.Bitmaps.{no_bits}
 use Rattle.sl_sector.specs.Spelling.{delta_in}
 use Rattle.sl_sector.specs.declared.sector.DeltaRec.{DeltaRec}
@@ -58,8 +56,6 @@ use Rattle.sl_step_facts.specs.Whole.{Whole}
 use Rattle.sl_trace.proofs.TraceFacts.{submitted-push}
 use Rattle.sl_trace.specs.Connections.{is_registered}
 use Rattle.sl_trace.specs.Traces.{Answered, Setting, Submitted, bytes_given, call_numbered, gave, is_running, job_of, new_call, next_call, submitted}
-use Rattle.sl_trace.specs.contracts.effects.CallPartialEq.TheImpl.{ghosts as call}
-use Rattle.sl_trace.specs.contracts.effects.PurposePartialEq.TheImpl.{ghosts as purpose}
 use Rattle.sl_trace.specs.declared.effects.Call.{Call}
 use Rattle.sl_trace.specs.declared.effects.JoinStep.TheVariants.{ClaimWrite, DecidingRead, FirstRead, FirstRenewal, VerifyRead, WatchRead}
 use Rattle.sl_trace.specs.declared.effects.JoinStep.{JoinStep}
@@ -85,9 +81,9 @@ use Rattle.std.proofs.Common.{ap, inl, inr, refl, subst, sym, ◌∙◌}
 use Rattle.std.proofs.lemmas.Bool.{eqb-true}
 use Rattle.std.proofs.lemmas.Slice.Eq.{bytes_eq-Decides}
 use Rattle.std.specs.Prelude.{Bool, Contains, List, None, Option, Some, [], bytes_eq, false, is_some, length, option_and_then, true, unwrap_or, ℕ, ◌&&◌, ◌+◌, ◌==◌, ◌∷◌, ◌≡◌, ◌⊎◌}
-use Rattle.sl_session_due.specs.WatchFacts.{HasRead, HasWatchFacts, HasWatchesPlainly, WatchFacts}  --!
-use Rattle.sl_sessions.specs.Deltas.{delta_known, delta_of_session, delta_record, is_renewal_due, is_watched_out, next_after_first, next_after_free, next_after_renewal, next_after_watch, next_free, next_in_joining, next_on_wake, next_renewal, own_offset, id_held, watched}  --!
-use Rattle.sl_job_facts.proofs.AnsweredCallsFit.{at, both_of}  --!
+use Rattle.sl_session_due.specs.WatchFacts.{HasRead, HasWatchFacts, HasWatchesPlainly}
+use Rattle.sl_sessions.specs.Deltas.{delta_known, delta_of_session, delta_record, is_watched_out, next_after_first, next_after_free, next_after_renewal, next_after_watch, next_free, next_in_joining, own_offset, id_held, watched}
+use Rattle.sl_job_facts.proofs.AnsweredCallsFit.{at, both_of}
 
 -- ---- what an act leaves of answered calls
 
