@@ -243,7 +243,7 @@ lease_connections : (x : Step) (s : Session) (spot : Spot) (work : Work) (n : Le
     → HasConnectionFacts (carry_lease s spot work n x)
 lease_connections x s spot work n has joined after other h =
     lease (During x) HasConnectionFacts (PlainReply x) (PlainCall x) AnyStart NoMove (connections_allow x h.facts.names) x s spot work n
-    (more_lease (NameReply x) (PlainReply x) (NameCall x) (PlainCall x) x s spot work n (λ j r its late_one. (late_one, other j its)) (λ path p o op k. (k.0, joined, k.2))
+    (more_lease (NameReply x) (PlainReply x) (NameCall x) (PlainCall x) x s spot work n (λ j r its late_one. (late_one, other j its)) (λ path p o op other k. (k.0, joined, other))
     (lease_named x x s spot work n has (joined_then (seen x) s joined) after)) (during x h)
 
 stop_connections : (x : Step) (s : Session) → Has x s → is_joined (seen x) s ≡ true → ((r : Reply) → IsLate x r) → Whole x → HasConnectionFacts (signal_and_refuse s None x)
@@ -343,7 +343,7 @@ connection_facts_are_kept =
           let has : Has x s = has_heard x s m (Read bytes) hears in
           let joined : is_joined (seen x) s ≡ true = heard_is_joined x s m (Read bytes) (RequestRead j) h hears is refl in
           requested (During x) HasConnectionFacts (PlainReply x) (PlainCall x) AnyStart NoMove (connections_allow x h.facts.names) x s j bytes c
-          (more_request (NameReply x) (PlainReply x) (NameCall x) (PlainCall x) x s j bytes c (λ r late_one. (late_one, other_heard x s m (Read bytes) j (RequestRead j) h hears is refl refl)) (λ path p o op k. (k.0, joined, k.2))
+          (more_request (NameReply x) (PlainReply x) (NameCall x) (PlainCall x) x s j bytes c (λ r late_one. (late_one, other_heard x s m (Read bytes) j (RequestRead j) h hears is refl refl)) (λ path p o op other k. (k.0, joined, other))
           (request_named x s j bytes c has (joined_then (seen x) s joined))) (during x h);
       tells = λ x s m j bytes hears is runs h. replied_connections x j (value_reply x.setting.layout bytes) (value_late x.setting.layout bytes) (other_heard x s m (Read bytes) j (ValueRead j) h hears is refl refl) h;
       warns = λ x s m bytes g signal hears is held own says h. (sent (During x) HasConnectionFacts (PlainReply x) (PlainCall x) AnyStart NoMove (connections_allow x h.facts.names) tt x g.process signal (during x h)).part;

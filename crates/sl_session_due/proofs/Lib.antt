@@ -24,3 +24,4 @@ pub mod WatchFactsAreKept
 pub mod WatchFactsConclude
 pub mod LooksAreLawful
 pub mod DeltaPromises
+pub mod JoinsAreLawful
