@@ -48,7 +48,6 @@ use Rattle.sl_step_facts.specs.Whole.{Whole}
 use Rattle.sl_time.specs.Times.{fail}
 use Rattle.sl_trace.specs.Connections.{Connection, is_registered, last_registering}
 use Rattle.sl_trace.specs.Traces.{Job, Setting, Submitted, Trace, is_running, is_write, job_numbered, jobs, new_call, next_call, next_job, running_jobs, submitted, unanswered}
-use Rattle.sl_trace.specs.contracts.effects.PurposePartialEq.TheImpl.{ghosts as purpose}
 use Rattle.sl_trace.specs.declared.command.Command.TheVariants.{AddLockspace}
 use Rattle.sl_trace.specs.declared.command.Command.{Command}
 use Rattle.sl_trace.specs.declared.command.LockspaceArg.{LockspaceArg}

@@ -11,12 +11,9 @@ use Rattle.sl_law.specs.LawfulWatchdog.{is_covered}
 use Rattle.sl_parts_law.proofs.JoinedCallsKeepOrder.{joined_is_covered}
 use Rattle.sl_plain.proofs.Lists.{got_inside}
 use Rattle.sl_plain.proofs.Options.{some_there}
-use Rattle.sl_run_law.proofs.Guards.{starts}
-use Rattle.sl_run_law.proofs.Landing.Owning.{running}
 use Rattle.sl_session_due.proofs.ConnectionEffects.{IsOtherJob, alters_call, alters_nothing, reply_connections}
 use Rattle.sl_session_due.proofs.ConnectionsChange.{IsAlone, altered_still}
 use Rattle.sl_session_due.specs.Promises.{HasConnectionFacts}
-use Rattle.sl_session_facts.proofs.DeltaFactsAreKept.{part}
 use Rattle.sl_session_facts.proofs.NameEffects.{reply_joins_more, reply_present}
 use Rattle.sl_session_facts.proofs.NamesAreAllowed.{is_joining, joined_unrefused}
 use Rattle.sl_sessions.specs.Sessions.{is_join_call, is_joined, is_present, joined_after, removed_after, sessions}
@@ -24,7 +21,6 @@ use Rattle.sl_sessions.specs.declared.session.Session.{Session}
 use Rattle.sl_step_facts.specs.Heard.{heard_by}
 use Rattle.sl_step_facts.specs.SessionFacts.{ConnectionFacts, NameFacts}
 use Rattle.sl_trace.specs.Traces.{Submitted, is_before_input, is_running, job_of, jobs, submitted}
-use Rattle.sl_trace.specs.contracts.input.InputPartialEq.TheImpl.{ghosts as input}
 use Rattle.sl_trace.specs.declared.effects.JoinStep.TheVariants.{FirstRead}
 use Rattle.sl_trace.specs.declared.effects.JoinStep.{JoinStep}
 use Rattle.sl_trace.specs.declared.effects.Move.{Move}

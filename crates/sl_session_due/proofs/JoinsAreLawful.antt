@@ -7,23 +7,25 @@ use Rattle.sl_acts.specs.SoFar.{entry_of}
 use Rattle.sl_area.specs.Places.{delta_offset}
 use Rattle.sl_due.specs.DueCommands.{carry_decision}
 use Rattle.sl_due.specs.DueDelta.{carry_delta, end_leaving, for_joining, move_connection, read_own_sector, register, survey, write_own_sector}
-use Rattle.sl_due.specs.DueFirst.{refuse, remove_connection, remove_of_refused}
-use Rattle.sl_due.specs.Steps.{Step, add_call_of, add_move, add_reply, seen, when, with_input, with_some}
+use Rattle.sl_due.specs.DueFirst.{begin_recoveries, refuse, remove_connection, remove_of_refused}
+use Rattle.sl_due.specs.Steps.{Step, add_call_of, add_move, add_reply, begin_step, seen, when, with_input, with_some}
 use Rattle.sl_due.specs.declared.decision.Decision.TheVariants.{Joins}
 use Rattle.sl_job_facts.proofs.CallsHaveFacts.{find_mapped, more_is_other, sessions_told}
 use Rattle.sl_job_facts.proofs.CallsStay.{IsLate, calls_stay, late, late_join}
 use Rattle.sl_job_facts.proofs.DecisionsFit.{DecisionFits}
 use Rattle.sl_job_facts.proofs.JobFactsAreKept.{begun_sessions}
+use Rattle.sl_job_facts.proofs.JobFactsBegin.{sessions_then}
 use Rattle.sl_job_facts.proofs.JobsAreAllowed.{heard_answered, late_on_wake}
 use Rattle.sl_job_facts.proofs.JobsAreNumbered.{next_is_new}
-use Rattle.sl_job_facts.proofs.QuietFactsBegin.{quiet_facts_begin as begins}
 use Rattle.sl_job_facts.proofs.RepliesComeAfter.{on_bool}
 use Rattle.sl_job_facts.proofs.SessionsHaveJobs.{one_session}
+use Rattle.sl_job_facts.specs.Promises.{BeginsWith}
+use Rattle.sl_law.specs.Lawful.{Orderly}
 use Rattle.sl_law.specs.LawfulDelta.{LawfulJoin}
-use Rattle.sl_leases.specs.Leases.{freed}
 use Rattle.sl_parts_law.proofs.CallsGrow.{mine_more, others_stay, same_sessions}
 use Rattle.sl_parts_law.proofs.EffectsAreTold.{effects_are_told}
 use Rattle.sl_parts_law.proofs.JoinedCallsKeepOrder.{one_number}
+use Rattle.sl_plain.proofs.Lists.{in_map}
 use Rattle.sl_plain.proofs.Numbers.{number_itself}
 use Rattle.sl_plain.proofs.Options.{some_of, some_there}
 use Rattle.sl_sector.specs.declared.sector.Rec.TheVariants.{DeltaIs}
@@ -33,24 +35,24 @@ use Rattle.sl_session_due.proofs.JoiningConnections.{Working, working_inside, wo
 use Rattle.sl_session_due.proofs.JoiningDecisions.{heard_decides, heard_working, woken_decides}
 use Rattle.sl_session_due.proofs.JoiningSteps.{JoinsConnection, special_join}
 use Rattle.sl_session_due.proofs.SteadyActs.{Steady, all_acts}
+use Rattle.sl_session_due.proofs.StepsBeginSteady.{begins_steady}
 use Rattle.sl_session_facts.proofs.DeltaConditions.{heard_at}
 use Rattle.sl_session_facts.proofs.DeltaGrow.{reply_joins_none}
 use Rattle.sl_session_facts.proofs.JoinedNumbers.{JoinsNot, joins_or_not, wake_not}
 use Rattle.sl_session_facts.proofs.NameEffects.{joined_of, reply_joins_more}
+use Rattle.sl_session_facts.proofs.NameFactsAreKept.{joined_on_wake}
 use Rattle.sl_session_facts.proofs.NameFactsConclude.{heard_answer}
 use Rattle.sl_session_facts.proofs.NamesAtEnd.{running_unjoined}
 use Rattle.sl_session_facts.proofs.NamesGrow.{calls_of_told}
 use Rattle.sl_sessions.specs.Deltas.{delta_of_session, next_after_free, next_after_renewal, next_in_joining, next_on_wake, own_offset}
-use Rattle.sl_sessions.specs.Sessions.{calls_of, generation_of, has_open_write, is_call_of, is_join_call, is_join_done, join_call, joined_after, joining_session, recovery_of, refused_after, same_join_step, session_of_job, sessions}
+use Rattle.sl_sessions.specs.Sessions.{calls_of, generation_of, given_session, has_open_write, is_call_of, is_join_call, is_join_done, join_call, joined_after, joining_session, recovery_of, refused_after, same_join_step, session_of_job, sessions}
 use Rattle.sl_sessions.specs.declared.delta.DeltaNext.TheVariants.{Disconnect, EndLeaving, Join, MoveConnection, Nothing, ReadOwn, RefuseJoin, RegisterAndRead, WriteClaim, WriteFirst, WriteFree, WriteRenewal}
 use Rattle.sl_sessions.specs.declared.delta.DeltaNext.{DeltaNext}
 use Rattle.sl_sessions.specs.declared.session.Session.{Session}
 use Rattle.sl_step_facts.specs.Whole.{Whole}
 use Rattle.sl_time.specs.Times.{fail}
 use Rattle.sl_trace.specs.Connections.{is_registered}
-use Rattle.sl_trace.specs.Traces.{Answered, Replied, Submitted, Trace, answer_of, answered_in, is_running, job_numbered, mark, new_call, next_call, next_job, reply_to}
-use Rattle.sl_trace.specs.contracts.effects.PurposePartialEq.TheImpl.{ghosts as purpose}
-use Rattle.sl_trace.specs.contracts.reply.ReplyPartialEq.TheImpl.{ghosts as reply}
+use Rattle.sl_trace.specs.Traces.{Answered, Replied, Setting, Submitted, Trace, answer_of, answered_in, is_running, job_numbered, mark, new_call, next_call, next_job, reply_to}
 use Rattle.sl_trace.specs.declared.command.Command.{Command}
 use Rattle.sl_trace.specs.declared.command.LockspaceArg.{LockspaceArg}
 use Rattle.sl_trace.specs.declared.effects.Call.{Call}
@@ -75,6 +77,7 @@ use Rattle.sl_words.proofs.CaseLaws.{false_is_true, none_some, not_both, some_va
 use Rattle.sl_words.specs.Words.{choose}
 use Rattle.std.proofs.Common.{ap, inl, inr, refl, subst, sym, ◌∙◌}
 use Rattle.std.proofs.lemmas.Option.{slice_get_within}
+use Rattle.std.specs.List.{enumerate_from}
 use Rattle.std.specs.Option.{option_or}
 use Rattle.std.specs.Prelude.{Bool, Contains, List, None, Ok, Option, Some, [], cond, false, filter, is_some, length, not, option_and_then, option_map, true, ℕ, ◌&&◌, ◌++◌, ◌+◌, ◌<◌, ◌==◌, ◌∷◌, ◌≡◌, ◌⊎◌}
 
@@ -379,3 +382,17 @@ joins_are_kept =
       joins_in_time = λ x s j has wake is runs h. woken_joins x s j has wake is runs h h.orderly.delta.0.joins;
       parts = λ x s has joined recovers_one free quiet h. joins_removed x s.lockspace h.orderly.delta.0.joins;
     })
+
+-- ---- once a step has begun
+
+joined_in_past : (st : Setting) (past : Trace) → Orderly st past → (s : Session) → Contains (sessions st past) s → (j k : ℕ) → s.job ≡ Some j → joined_after past s ≡ Some k → LawfulJoin past s k
+joined_in_past st [] h s there j k its is =
+    let given = in_map given_session (enumerate_from 0 st.given) s there in absurd (none_some j (ap (λ (q : Session). q.job) given.2 ∙ its))
+joined_in_past st (e ∷ past) h s there j k its is = h.delta.0.joins s there j k its is
+
+pub joins_begin : BeginsWith JoinedSo
+joins_begin st past e follows w =
+    let x : Step = begin_step st past e.reading in
+    joins_steady x (begin_recoveries x) (begins_steady st past e.reading w)
+    (λ s there j k its is.
+    joins_same past (seen x) s k refl (joined_in_past st past w.lawful.orderly s (subst (λ ss. Contains ss s) (sessions_then st past e.reading) there) j k its (sym (joined_on_wake past e.reading s) ∙ is)))

@@ -14,6 +14,7 @@ pub mod ConnectionLines
 pub mod ConnectionFactsAreKept
 pub mod ConnectionFactsConclude
 pub mod SteadyActs
+pub mod StepsBeginSteady
 pub mod MovesAltered
 pub mod JoiningMoves
 pub mod MovesAreKept

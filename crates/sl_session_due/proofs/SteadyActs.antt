@@ -50,7 +50,7 @@ use Rattle.sl_session_facts.proofs.NamesAreAllowed.{Holds, NameCall, NameReply, 
 use Rattle.sl_session_facts.proofs.NamesGrow.{input_names}
 use Rattle.sl_session_facts.specs.Promises.{HasNameFacts}
 use Rattle.sl_sessions.specs.Deltas.{DeltaLease}
-use Rattle.sl_sessions.specs.Sessions.{calls_of, generation_of, has_open_write, holdings_of, is_join_call, is_joined, join_call, joined_after, last_renewal, recovery_of, refused_after, removed_after, sessions}
+use Rattle.sl_sessions.specs.Sessions.{calls_of, generation_of, has_open_write, holdings_of, is_joined, join_call, joined_after, last_renewal, recovery_of, refused_after, removed_after, sessions}
 use Rattle.sl_sessions.specs.declared.delta.DeltaKnown.{DeltaKnown}
 use Rattle.sl_sessions.specs.declared.delta.DeltaNext.TheVariants.{Nothing, WriteFree, WriteRenewal}
 use Rattle.sl_sessions.specs.declared.session.Session.{Session}

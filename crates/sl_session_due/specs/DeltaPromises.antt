@@ -4,11 +4,14 @@ use Rattle.sl_due.specs.DueCommands.{decided}
 use Rattle.sl_due.specs.DueDelta.{move_connection, register}
 use Rattle.sl_due.specs.Steps.{Step, add_reply, seen, with_input}
 use Rattle.sl_due.specs.declared.decision.Decision.TheVariants.{Joins}
+use Rattle.sl_job_facts.specs.Promises.{BeginsWith}
+use Rattle.sl_law.specs.LawfulDelta.{LawfulJoin}
+use Rattle.sl_law.specs.Saying.{EachSession}
 use Rattle.sl_sector.specs.declared.sector.DeltaRec.{DeltaRec}
 use Rattle.sl_session_due.specs.DeltaCalls.{DeltaLawful, own_read, own_write, survey_read}
 use Rattle.sl_session_due.specs.WatchFacts.{HasWatchFacts, HasWatchesPlainly, WatchFacts}
 use Rattle.sl_sessions.specs.Deltas.{delta_known, delta_of_session, next_after_claim, next_after_deciding, next_after_first, next_after_verify, next_after_watch, next_free, next_renewal}
-use Rattle.sl_sessions.specs.Sessions.{calls_of, holdings_of, is_joined, joining_session, open_calls_of, recovery_of}
+use Rattle.sl_sessions.specs.Sessions.{calls_of, holdings_of, is_joined, joined_after, joining_session, open_calls_of, recovery_of}
 use Rattle.sl_sessions.specs.declared.delta.DeltaNext.TheVariants.{RegisterAndRead, WriteClaim, WriteFirst, WriteFree, WriteRenewal}
 use Rattle.sl_sessions.specs.declared.session.Session.{Session}
 use Rattle.sl_step_facts.specs.Concluding.{Concludes}
@@ -120,3 +123,15 @@ FirstRenewalsAreLawful =
     (x : Step) (s : Session) (j : ℕ) (m : Submitted) (bytes : List ℕ) (d : DeltaRec) → Whole x → Hears x s m (Read bytes) → m.call.purpose ≡ Joining j VerifyRead →
     is_running (seen x) j ≡ true → next_after_verify (delta_of_session x.setting s) (calls_of (seen x) s) x.reading bytes ≡ WriteFirst d →
     DeltaLawful x.setting (seen x) s (own_write x s (Joining j FirstRenewal) d)
+
+-- ---- who has joined
+
+-- Each session that a job began and that has joined did so by the answer ok of its first renewal: the last field of the law of delta sectors.
+abbrev pub JoinsSoFar : Step → Type 0
+JoinsSoFar x = EachSession x.setting (λ s. (j k : ℕ) → s.job ≡ Some j → joined_after (seen x) s ≡ Some k → LawfulJoin (seen x) s k) (seen x)
+
+abbrev pub JoinsAreLawful : Type 0
+JoinsAreLawful = Acts Whole JoinsSoFar
+
+abbrev pub JoinsBegin : Type 0
+JoinsBegin = BeginsWith JoinsSoFar

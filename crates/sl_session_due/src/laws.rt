@@ -1,6 +1,6 @@
 //! What is known of connections, and the laws of sessions, hold at each moment of a step.
 
-ghost use Rattle.sl_session_due.specs.DeltaPromises.{ClaimsAreLawful, FirstRenewalsAreLawful, FreeIsDecided, FreesAreLawful, JoinedSurveysAreLawful, LooksAreLawful, NothingWasRead, RenewalsAreLawful, RenewedSurveysAreLawful, VerifiesAreLawful, WatchFactsAreKept, WatchFactsBegin, WatchFactsConclude, WatchedIsDecided, WatchesAreLawful};
+ghost use Rattle.sl_session_due.specs.DeltaPromises.{ClaimsAreLawful, FirstRenewalsAreLawful, FreeIsDecided, FreesAreLawful, JoinedSurveysAreLawful, JoinsAreLawful, JoinsBegin, LooksAreLawful, NothingWasRead, RenewalsAreLawful, RenewedSurveysAreLawful, VerifiesAreLawful, WatchFactsAreKept, WatchFactsBegin, WatchFactsConclude, WatchedIsDecided, WatchesAreLawful};
 ghost use Rattle.sl_session_due.specs.Promises.{ConnectionFactsAreKept, ConnectionFactsBegin, ConnectionFactsConclude, MovesAreKept, MovesBegin, WatchdogIsLawful};
 
 /// After each act a name is registered just where a session of it is covered, and no connection outlasts what its session may do.
@@ -108,4 +108,14 @@ pub fn verifies_are_lawful()
 /// A first renewal is lawful: the claim was read back.
 pub fn first_renewals_are_lawful()
     ensures { FirstRenewalsAreLawful }
+{}
+
+/// After each act every session that a job began and that has joined did so by the answer of its first renewal.
+pub fn joins_are_lawful()
+    ensures { JoinsAreLawful }
+{}
+
+/// So it is once a step has begun.
+pub fn joins_begin()
+    ensures { JoinsBegin }
 {}
