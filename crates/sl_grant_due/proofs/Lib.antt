@@ -11,3 +11,5 @@ pub mod EndsAreLawful
 pub mod ExitsAreLawful
 pub mod GrantsStand
 pub mod OrphansAreLawful
+pub mod ActsOnto
+pub mod ActiveGrants
