@@ -13,3 +13,5 @@ pub mod GrantsStand
 pub mod OrphansAreLawful
 pub mod ActsOnto
 pub mod ActiveGrants
+pub mod DeltasKeep
+pub mod CallsFit
