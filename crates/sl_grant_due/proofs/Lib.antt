@@ -12,6 +12,8 @@ pub mod ExitsAreLawful
 pub mod GrantsStand
 pub mod OrphansAreLawful
 pub mod ActsOnto
-pub mod ActiveGrants
 pub mod DeltasKeep
+pub mod GrantlessLines
+pub mod ActiveGrants
 pub mod CallsFit
+pub mod SharedGrants
