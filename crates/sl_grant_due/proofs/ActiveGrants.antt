@@ -8,16 +8,18 @@ use Rattle.sl_acts.specs.SoFar.{entry_of}
 use Rattle.sl_area.specs.Places.{block_offset, leader_offset, request_offset}
 use Rattle.sl_due.specs.DueAnswers.{set_reply}
 use Rattle.sl_due.specs.DueCommands.{after_end, answer_line, carry_decision}
-use Rattle.sl_due.specs.DueDelta.{carry_delta, write_own_sector}
+use Rattle.sl_due.specs.DueDelta.{carry_delta}
 use Rattle.sl_due.specs.DueFirst.{begin_recoveries, begin_recovery, begins_now, refuse, remove_connection, remove_of_refused, send, signal_and_refuse}
 use Rattle.sl_due.specs.DueInputs.{end_holdings, leave_holdings, refuse_jobs_of, started_reply, when_running}
-use Rattle.sl_due.specs.DueLease.{carry_lease, convert_for, convert_holding, for_work, goes_on, grant_for, grant_of, next_of_lease, with_command, write_block}
+use Rattle.sl_due.specs.DueLease.{carry_lease, convert_for, convert_holding, for_work, goes_on, grant_for, grant_of, next_of_lease, with_command}
 use Rattle.sl_due.specs.DueRequests.{after_request_read, after_value_read, bits_due}
 use Rattle.sl_due.specs.Steps.{Step, add_call_at, add_end, add_move, add_reply, add_signal, begin_step, seen, when, with_input, with_some}
 use Rattle.sl_due.specs.declared.decision.Decision.{Decision}
 use Rattle.sl_due.specs.declared.decision.Decision.TheVariants.{ConvertsTo, GetsValue, GivesUp, Joins, Leaves, ReadsArea, Replies, Requests, SetsValue, Shares, TakesOver}
 use Rattle.sl_grant_due.proofs.ActsOnto.{onto}
+use Rattle.sl_grant_due.proofs.DeltasKeep.{free_keeps}
 use Rattle.sl_grant_due.proofs.EndsAreLawful.{last_or}
+use Rattle.sl_grant_due.proofs.GrantlessLines.{converting_grants, released_grants}
 use Rattle.sl_grant_due.proofs.GrantsStand.{grants_are_lawful}
 use Rattle.sl_grant_due.proofs.OrphansAreLawful.{asked_grants, left_orphans, orphans_are_lawful, orphans_begin, removed_grants, stopped_grants}
 use Rattle.sl_grant_due.specs.GrantPromises.{ActiveSoFar, ActivesAreKept, ActivesBegin, GrantingBegins, GrantingIsLawful, GrantingSoFar, OrphansSoFar}
@@ -39,24 +41,18 @@ use Rattle.sl_lease_due.proofs.TurnsStay.{replied_active, turned_by}
 use Rattle.sl_lease_due.proofs.WorkIsActive.{work_is_active}
 use Rattle.sl_lease_ways.proofs.Kept.EffectsLeave.{made_call, there_has}
 use Rattle.sl_lease_ways.proofs.Kept.HeardStands.{heard_has}
-use Rattle.sl_leases.specs.Ballots.{moded_block}
 use Rattle.sl_leases.specs.Jobs.{command_numbered, job_of_start}
-use Rattle.sl_leases.specs.LeaseWork.{convert_next, lease_place, release_next, settle_next}
-use Rattle.sl_leases.specs.Leases.{LeaseKnown, holdings_on, known, spot_of, spot_of_call}
+use Rattle.sl_leases.specs.LeaseWork.{lease_place, settle_next}
+use Rattle.sl_leases.specs.Leases.{known, spot_of, spot_of_call}
 use Rattle.sl_leases.specs.declared.lease.LeaseNext.{LeaseNext}
 use Rattle.sl_leases.specs.declared.lease.LeaseNext.TheVariants.{AnswerJob, BecomeExclusive, BecomeShared, GrantJob, Nothing, ReadFor, WriteBlock, WriteLeader}
 use Rattle.sl_parts_law.proofs.CallsGrow.{same_sessions}
 use Rattle.sl_parts_law.specs.Parts.{with_reply}
 use Rattle.sl_plain.proofs.Lists.{contains_none}
-use Rattle.sl_sector.specs.Bitmaps.{no_bits}
-use Rattle.sl_sector.specs.declared.sector.Block.{Block}
-use Rattle.sl_sector.specs.declared.sector.DeltaRec.{DeltaRec}
-use Rattle.sl_sector.specs.declared.sector.DeltaState.TheVariants.{Free}
 use Rattle.sl_sector.specs.declared.sector.Rec.TheVariants.{BlockIs, DeltaIs, LeaderIs}
-use Rattle.sl_sessions.specs.Deltas.{delta_known, delta_of_session, delta_record, next_after_free, next_after_renewal, next_free, next_in_joining, next_on_wake, next_renewal, own_offset}
-use Rattle.sl_sessions.specs.Sessions.{calls_of, free_write, generation_of, holders_of, is_active, is_join_call, is_joined, joined_after, last_seq, leaves, leaving_job, present_sessions, recovery_of, removed_after, session_numbered, sessions}
+use Rattle.sl_sessions.specs.Deltas.{delta_known, delta_of_session, next_after_free, next_after_renewal, next_in_joining, next_on_wake, next_renewal, own_offset}
+use Rattle.sl_sessions.specs.Sessions.{calls_of, generation_of, holders_of, is_active, is_join_call, is_joined, joined_after, leaves, leaving_job, present_sessions, recovery_of, removed_after, session_numbered, sessions}
 use Rattle.sl_sessions.specs.declared.delta.DeltaNext.{DeltaNext}
-use Rattle.sl_sessions.specs.declared.delta.DeltaNext.TheVariants.{Nothing as No_delta, WriteFree}
 use Rattle.sl_sessions.specs.declared.session.Session.{Session}
 use Rattle.sl_trace.specs.Connections.{is_registered, unregisters}
 use Rattle.sl_trace.specs.Traces.{Job, Setting, Submitted, Trace, end_of, holdings, is_orphan, job_of, leaves_orphan, next_child, next_job, orphan_of, spot_of_grant, work_job}
@@ -67,7 +63,7 @@ use Rattle.sl_trace.specs.declared.effects.Entry.{Entry}
 use Rattle.sl_trace.specs.declared.effects.Grant.{Grant}
 use Rattle.sl_trace.specs.declared.effects.JobReply.{JobReply}
 use Rattle.sl_trace.specs.declared.effects.JoinStep.TheVariants.{FirstRead}
-use Rattle.sl_trace.specs.declared.effects.LeaseStep.TheVariants.{ClearMode, FreeLeader, ReadArea, ReadBeforeFree, SetMode}
+use Rattle.sl_trace.specs.declared.effects.LeaseStep.TheVariants.{ClearMode, FreeLeader, ReadArea, ReadBeforeFree}
 use Rattle.sl_trace.specs.declared.effects.Mode.{Mode}
 use Rattle.sl_trace.specs.declared.effects.Mode.TheVariants.{Exclusive, Shared}
 use Rattle.sl_trace.specs.declared.effects.Move.TheVariants.{Unregister}
@@ -89,8 +85,7 @@ use Rattle.sl_words.specs.Words.{choose}
 use Rattle.std.proofs.Common.{ap, inl, inr, refl, subst, sym, ◌∙◌}
 use Rattle.std.proofs.lemmas.Slice.Eq.{bytes_eq-Decides}
 use Rattle.std.specs.List.{list_any}
-use Rattle.std.specs.Option.{option_map_or}
-use Rattle.std.specs.Prelude.{Bool, Contains, List, None, Ok, Option, Some, [], bytes_eq, false, is_none, is_some, length, not, option_map, slice_get, true, ℕ, ◌&&◌, ◌++◌, ◌+◌, ◌==◌, ◌∷◌, ◌≡◌, ◌⊎◌}
+use Rattle.std.specs.Prelude.{Bool, Contains, List, None, Ok, Option, Some, [], bytes_eq, false, is_none, is_some, length, not, slice_get, true, ℕ, ◌&&◌, ◌++◌, ◌==◌, ◌∷◌, ◌≡◌, ◌⊎◌}
 
 -- ---- none, or of one session
 
@@ -113,18 +108,6 @@ one_active w old g s none grants its active h z there is own = by (last_or old g
 call_active : (x : Step) (s : Session) (path : List ℕ) (p : Purpose) (o : ℕ) (op : Op) → is_join_call FirstRead p ≡ false → ActiveSoFar x → ActiveSoFar (add_call_at s path p o op x)
 call_active x s path p o op later h g z there is own =
     h g z there (ap (λ ss. slice_get ss g.session) (sym (same_sessions x.setting (entry_of x) x.past (made_call x s.number path p o op) later)) ∙ is) own
-
-free_active : (x : Step) (s : Session) → ((j : ℕ) (d : DeltaRec) → ActiveSoFar (write_own_sector s (Leaving j) d x)) → ActiveSoFar x
-    → ActiveSoFar (carry_delta s (next_free (delta_of_session x.setting s) x.reading (delta_known x.setting (seen x) s)) x)
-unfolding carry_delta
-free_active x s writes h = by (option_map (λ (j : Job). j.number) (leaving_job x.setting (seen x) s)) (is_some (free_write (calls_of (seen x) s))) where
-  d : DeltaRec
-  d = delta_record (delta_of_session x.setting s) Free (generation_of (seen x) s) (last_seq (seen x) s + 1) x.reading no_bits
-
-  by : (o : Option ℕ) (b : Bool) → ActiveSoFar (carry_delta s (elim o as (λ z. DeltaNext) [ None ↦ No_delta | Some j ↦ elim b as (λ z. DeltaNext) [ true ↦ No_delta | false ↦ WriteFree j d ] ]) x)
-  by None b = h
-  by (Some j) true = h
-  by (Some j) false = writes j d
 
 -- The removal of a session in recovery leaves the others active: names of present sessions are apart.
 removed_active : (x : Step) (s : Session) → Has x s → is_joined (seen x) s ≡ true → is_some (recovery_of x.setting (seen x) s) ≡ true → Known x → ActiveSoFar (remove_connection s.lockspace x)
@@ -204,33 +187,6 @@ led_active x s at (ForJob j) (BecomeExclusive lver b) has none active stays =
 
 -- ---- a line
 
-released_active : (z : Step) (j : ℕ) (s : Session) (g : Grant) → z.effects.grants ≡ [] → ActiveSoFar (after_end s (spot_of_grant g) j g z)
-unfolding after_end carry_lease
-released_active z j s g none = by (holdings_on (seen z) s (spot_of_grant g)) where
-  own : (o : Option Block) → ActiveSoFar (carry_lease s (spot_of_grant g) (ForJob j) (option_map_or (λ b. WriteBlock ClearMode (moded_block b false 0)) o Nothing) z)
-  own None = none_active z none
-  own (Some b) = none_active (write_block s (spot_of_grant g) (ForJob j) ClearMode (moded_block b false 0) z) none
-
-  of_mode : (m : Mode) → ActiveSoFar (carry_lease s (spot_of_grant g) (ForJob j) (release_next (lease_place z.setting s) (known z.setting (seen z) s (spot_of_grant g)) m g.lver) z)
-  of_mode Exclusive = none_active (carry_lease s (spot_of_grant g) (ForJob j) (release_next (lease_place z.setting s) (known z.setting (seen z) s (spot_of_grant g)) Exclusive g.lver) z) none
-  of_mode Shared = own (known z.setting (seen z) s (spot_of_grant g)).own
-
-  by : (hs : List Grant)
-      → ActiveSoFar (elim hs as (λ v. Step) [
-        | e ∷ es ↦ add_reply j Done z
-        | [] ↦ carry_lease s (spot_of_grant g) (ForJob j) (release_next (lease_place z.setting s) (known z.setting (seen z) s (spot_of_grant g)) g.mode g.lver) z
-      ])
-  by (e ∷ es) = none_active (add_reply j Done z) none
-  by [] = of_mode g.mode
-
-converting_active : (y : Step) (s : Session) (at : Spot) (j : ℕ) (k : LeaseKnown) (mode : Mode) (name : List ℕ) → y.effects.grants ≡ [] → ActiveSoFar (carry_lease s at (ForJob j) (convert_next k mode name) y)
-unfolding carry_lease
-converting_active y s at j k Exclusive name none = none_active (carry_lease s at (ForJob j) (ReadFor (ReadArea name)) y) none
-converting_active y s at j k Shared name none = by k.own where
-  by : (o : Option Block) → ActiveSoFar (carry_lease s at (ForJob j) (option_map_or (λ own. WriteBlock SetMode (moded_block own true k.self.generation)) o Nothing) y)
-  by None = none_active y none
-  by (Some b) = none_active (write_block s at (ForJob j) SetMode (moded_block b true k.self.generation) y) none
-
 abbrev with_i : Input → Entry → Entry
 with_i i e = record e { input = i }
 
@@ -282,11 +238,11 @@ lines_active x text c j d k wake bare says = by d where
   by (Shares s lver) grounds has =
       let a = stays_lined x text s wake (ap (λ q. leaves s q) says ∙ unleft s c grounds.resource grounds.acquires.asks) grounds.acquires.ready.active in
       granted_active y s j c Shared lver has none a.0 a.1
-  by (GivesUp s e) grounds has = released_active (add_end (end_of e) y) j s e none
+  by (GivesUp s e) grounds has = none_active (after_end s (spot_of_grant e) j e (add_end (end_of e) y)) (released_grants (add_end (end_of e) y) j s e ∙ none)
   by (TakesOver s e) grounds has =
       let a = stays_lined x text s wake (ap (λ q. leaves s q) says ∙ ap (λ q. leaves s (Ok q)) grounds.command) grounds.ready.active in
       granted_active (add_end (end_of e) y) s j c e.mode e.lver has none a.0 a.1
-  by (ConvertsTo s r mode) grounds has = converting_active y s (spot_of r) j (known x.setting (seen y) s (spot_of r)) mode r.name none
+  by (ConvertsTo s r mode) grounds has = none_active (carry_decision j c (ConvertsTo s r mode) y) (converting_grants y s (spot_of r) j (known x.setting (seen y) s (spot_of r)) mode r.name ∙ none)
   by (Requests s r) grounds has = none_active (carry_decision j c (Requests s r) y) none
   by (SetsValue s spot v) grounds has = none_active (carry_decision j c (SetsValue s spot v) y) none
   by (GetsValue s spot) grounds has = none_active (carry_decision j c (GetsValue s spot) y) none
@@ -356,7 +312,7 @@ actives_are_kept =
           none_active (carry_lease s at Settling n x) ((settling_ungranting x s at (known x.setting (seen x) s at) n (settling_fits (lease_place x.setting s) (known x.setting (seen x) s at))).grants ∙ (k.1.waking wake).1);
       parts = λ x s has joined recovers free quiet k. removed_active x s has joined recovers k;
       frees = λ x s has joined well free quiet k.
-          free_active x s (λ j d. call_active x s s.path (Leaving j) (own_offset x.setting s) (WriteRecord (DeltaIs d)) refl (so_far x k)) (so_far x k);
+          free_keeps ActiveSoFar x s (λ j d. call_active x s s.path (Leaving j) (own_offset x.setting s) (WriteRecord (DeltaIs d)) refl (so_far x k)) (so_far x k);
     }
 
 pub actives_begin : ActivesBegin

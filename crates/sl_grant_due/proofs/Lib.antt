@@ -17,3 +17,4 @@ pub mod GrantlessLines
 pub mod ActiveGrants
 pub mod CallsFit
 pub mod SharedGrants
+pub mod ModesAreLawful

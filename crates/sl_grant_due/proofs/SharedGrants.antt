@@ -30,7 +30,6 @@ use Rattle.sl_holding_due.proofs.PlainPlaces.{one_place}
 use Rattle.sl_holding_due.specs.DecisionGrounds.{HasGrounds}
 use Rattle.sl_holding_due.specs.Moments.{Known}
 use Rattle.sl_holding_due.specs.Promises.{Begins}
-use Rattle.sl_job_facts.proofs.EffectsAreAllowed.{lease}
 use Rattle.sl_law.specs.LawfulModes.{AllShared, HoldsSharedUnder, LawfulExclusiveGrant, LawfulSharedGrant, SharedByBallot, SharedByConversion}
 use Rattle.sl_law.specs.Saying.{IsAnsweredAt}
 use Rattle.sl_lease_due.proofs.NextsStay.{HeldThere, at_work, held_there, not_true}
@@ -38,7 +37,6 @@ use Rattle.sl_lease_due.proofs.TurnsStay.{turned_by}
 use Rattle.sl_lease_ways.proofs.Kept.CallsSame.{reply_leaves}
 use Rattle.sl_lease_ways.proofs.Kept.EffectsLeave.{made_call}
 use Rattle.sl_lease_ways.proofs.Kept.HeardStands.{heard_has, heard_number, spot_same}
-use Rattle.sl_lease_ways.proofs.NewestCall.{lver_is}
 use Rattle.sl_leases.specs.Jobs.{aim_of, aim_of_command, command_numbered, job_of_start, resource_named}
 use Rattle.sl_leases.specs.LeaseWork.{lease_place, settle_next}
 use Rattle.sl_leases.specs.Leases.{block_submitted, block_written, exclusive_on, holdings_on, is_lease_call, is_on, known, lease_calls, lease_step, lver_written, spot_of, spot_of_call}
@@ -92,7 +90,7 @@ use Rattle.sl_trace.specs.declared.input.Answer.TheVariants.{Written}
 use Rattle.sl_trace.specs.declared.input.Input.TheVariants.{Answer as Told, Exit, Line, Number, Spawned, Wake}
 use Rattle.sl_trace.specs.declared.reply.Reply.TheVariants.{BadCommand as Misread, Done, Granted, IoFault, IoTimeout, SpawnFault}
 use Rattle.sl_trace_law.proofs.Leases.NumberLaws.{number_is_place}
-use Rattle.sl_words.proofs.CaseLaws.{false_is_true, is_false, none_some, one_value, some_value, true_is_false}
+use Rattle.sl_words.proofs.CaseLaws.{false_is_true, none_some, one_value, some_value, true_is_false}
 use Rattle.sl_words.specs.Words.{same_truth}
 use Rattle.std.proofs.Common.{ap, arith, inl, inr, refl, subst, sym, ◌∙◌}
 use Rattle.std.proofs.lemmas.Bool.{eqb-true}

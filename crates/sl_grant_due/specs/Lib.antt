@@ -1,1 +1,2 @@
 pub mod GrantPromises
+pub mod ModePromises

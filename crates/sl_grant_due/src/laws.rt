@@ -1,6 +1,7 @@
 //! What is kept of the work of jobs, and what is lawful of ends, exits and grants.
 
 ghost use Rattle.sl_grant_due.specs.GrantPromises.{ActivesAreKept, ActivesBegin, EndsAreLawful, EndsBegin, ExitsAreLawful, ExitsBegin, GrantingBegins, GrantingIsLawful, GrantsAreLawful, GrantsStand, OrphansAreLawful, OrphansBegin, WorkFactsAreKept, WorkFactsBegin};
+ghost use Rattle.sl_grant_due.specs.ModePromises.{ModesAreLawful, ModesBegin};
 
 /// Each act keeps what is known of a job's work.
 pub fn work_facts_are_kept()
@@ -65,4 +66,13 @@ pub fn granting_is_lawful()
 
 pub fn granting_begins()
     ensures { GrantingBegins }
+{}
+
+/// Each act leaves only lawful modes: of what is granted, and of the blocks that are written.
+pub fn modes_are_lawful()
+    ensures { ModesAreLawful }
+{}
+
+pub fn modes_begin()
+    ensures { ModesBegin }
 {}
