@@ -18,3 +18,6 @@ pub mod ActiveGrants
 pub mod CallsFit
 pub mod SharedGrants
 pub mod ModesAreLawful
+pub mod OthersGoOn
+pub mod ReadsBack
+pub mod ReadsByInputs

@@ -1,2 +1,3 @@
 pub mod GrantPromises
 pub mod ModePromises
+pub mod ValuePromises
