@@ -22,7 +22,7 @@ use Rattle.sl_step_facts.specs.Heard.{IsOpen, heard_by}
 use Rattle.sl_step_facts.specs.JobFacts.{FitsCommand}
 use Rattle.sl_step_facts.specs.ValueFacts.{IsReading, ValueFacts}
 use Rattle.sl_trace.proofs.TraceFacts.{submitted-push}
-use Rattle.sl_trace.specs.Traces.{Child, Setting, Submitted, Trace, answer_of, answered_in, child_numbered, children, holdings, is_ended_by, is_write, job_of, mark, new_call, new_child, next_child, same_place, submitted}
+use Rattle.sl_trace.specs.Traces.{Child, Setting, Submitted, Trace, answer_of, answered_in, child_numbered, children, first_child, holdings, is_ended_by, is_write, job_of, mark, new_call, new_child, next_child, same_place, submitted}
 use Rattle.sl_trace.specs.declared.command.Command.{Command}
 use Rattle.sl_trace.specs.declared.command.Command.TheVariants.{GetLvb}
 use Rattle.sl_trace.specs.declared.command.ResourceArg.{ResourceArg}
@@ -49,7 +49,7 @@ use Rattle.std.proofs.lemmas.Bool.{eqb-true, lt-ltb}
 use Rattle.std.proofs.lemmas.List.Elements.{Contains-append_cases, Contains-append_left, Contains-append_right}
 use Rattle.std.specs.List.{list_any}
 use Rattle.std.specs.Option.{option_or}
-use Rattle.std.specs.Prelude.{Bool, Contains, List, None, Option, Some, [], cond, false, filter, find, fold, length, map, nat_le, nat_lt, not, slice_get, true, ℕ, ◌&&◌, ◌++◌, ◌<◌, ◌==◌, ◌||◌, ◌∷◌, ◌≡◌, ◌⊎◌}
+use Rattle.std.specs.Prelude.{Bool, Contains, List, None, Option, Some, [], cond, false, filter, find, fold, length, map, nat_le, nat_lt, not, slice_get, true, ℕ, ◌&&◌, ◌++◌, ◌<◌, ◌==◌, ◌||◌, ◌∷◌, ◌≡◌, ◌≤◌, ◌⊎◌}
 
 -- What stands on an area while a process of the session reads a value there, since that entry.
 pub record Guarded (st : Setting) (s : Session) (at : Spot) (since p : ℕ) (y : Step) : Type 0 where
@@ -232,6 +232,10 @@ guard_call st s at since p y n path q o op other h = record { before = h.before;
 abbrev pub IsRead : Step → Step → Submitted → ℕ → Session → Type 0
 IsRead x z m j s = IsReading x.setting (seen z) (heard_by z.input) m j s
 
+-- Children have numbers of their own.
+abbrev pub AllAbove : Trace → Type 0
+AllAbove t = (k : Child) → Contains (children t) k → first_child ≤ k.process
+
 -- Each reading of the later step was one, and what stood goes on.
 pub record ReadsBack (x z : Step) : Type 0 where
   pub setting : z.setting ≡ x.setting
@@ -239,43 +243,56 @@ pub record ReadsBack (x z : Step) : Type 0 where
   pub command : (m : Submitted) (j : ℕ) (s : Session) (c : Command) → IsRead x z m j s → command_numbered x.setting (seen z) j ≡ Some c → command_numbered x.setting (seen x) j ≡ Some c
   pub guard : (m : Submitted) (j : ℕ) (s : Session) (r : ResourceArg) (p : ℕ) → IsRead x z m j s → command_numbered x.setting (seen x) j ≡ Some (GetLvb r p) → Guarded x.setting s (spot_of_call x.setting.layout m) m.at p x
       → Guarded x.setting s (spot_of_call x.setting.layout m) m.at p z
+  pub above : AllAbove (seen x) → AllAbove (seen z)
 
 pub reads_itself : (x : Step) → ReadsBack x x
-reads_itself x = record { setting = refl; back = λ m j s k. k; command = λ m j s c k is. is; guard = λ m j s r p k is g. g }
+reads_itself x = record { setting = refl; back = λ m j s k. k; command = λ m j s c k is. is; guard = λ m j s r p k is g. g; above = λ a. a }
 
 -- Through one more step.
 pub through : (x y z : Step) → ReadsBack x y → z.setting ≡ y.setting → ((m : Submitted) (j : ℕ) (s : Session) → IsRead x z m j s → IsRead x y m j s)
     → ((m : Submitted) (j : ℕ) (s : Session) (c : Command) → IsRead x z m j s → command_numbered x.setting (seen z) j ≡ Some c → command_numbered x.setting (seen y) j ≡ Some c)
     → ((m : Submitted) (j : ℕ) (s : Session) (r : ResourceArg) (p : ℕ) → IsRead x z m j s → command_numbered x.setting (seen x) j ≡ Some (GetLvb r p) → Guarded x.setting s (spot_of_call x.setting.layout m) m.at p x
     → Guarded x.setting s (spot_of_call x.setting.layout m) m.at p y → Guarded x.setting s (spot_of_call x.setting.layout m) m.at p z)
-    → ReadsBack x z
-through x y z h setting back command guard =
+    → (AllAbove (seen y) → AllAbove (seen z)) → ReadsBack x z
+through x y z h setting back command guard above =
     record {
       setting = setting ∙ h.setting;
       back = λ m j s k. h.back m j s (back m j s k);
       command = λ m j s c k is. h.command m j s c (back m j s k) (command m j s c k is);
       guard = λ m j s r p k is w. guard m j s r p k is w (h.guard m j s r p (back m j s k) is w);
+      above = λ a. above (h.above a);
     }
 
 pub signal_reads : (x y : Step) (q : ℕ) (g : Signal) → ReadsBack x y → ReadsBack x (add_signal q g y)
 signal_reads x y q g h =
     through x y (add_signal q g y) h refl (λ m j s k. record { there = k.there; opens = k.opens; purpose = k.purpose; runs = k.runs; session = k.session }) (λ m j s c k is. is)
-    (λ m j s r p k is w u. guard_signal x.setting s (spot_of_call x.setting.layout m) m.at p y q g u)
+    (λ m j s r p k is w u. guard_signal x.setting s (spot_of_call x.setting.layout m) m.at p y q g u) (λ a. a)
 
 pub move_reads : (x y : Step) (move : Move) → ReadsBack x y → ReadsBack x (add_move move y)
 move_reads x y move h =
     through x y (add_move move y) h refl (λ m j s k. record { there = k.there; opens = k.opens; purpose = k.purpose; runs = k.runs; session = k.session }) (λ m j s c k is. is)
-    (λ m j s r p k is w u. guard_move x.setting s (spot_of_call x.setting.layout m) m.at p y move u)
+    (λ m j s r p k is w u. guard_move x.setting s (spot_of_call x.setting.layout m) m.at p y move u) (λ a. a)
 
 pub start_reads : (x y : Step) (program : List ℕ) (job stood : Option ℕ) → ReadsBack x y → ReadsBack x (add_start (next_start y program job stood) y)
 start_reads x y program job stood h =
     through x y (add_start (next_start y program job stood) y) h refl (λ m j s k. record { there = k.there; opens = k.opens; purpose = k.purpose; runs = k.runs; session = k.session }) (λ m j s c k is. is)
     (λ m j s r p k is w u. guard_start x.setting s (spot_of_call x.setting.layout m) m.at p y program job stood u)
+    (λ a k there. by a k (Contains-append_cases (children (seen y)) (new_child v ∷ []) k (subst (λ ks. Contains ks k) (effects_are_told.starts v (entry_of y) y.past) there)))
+  where
+    v : Start
+    v = next_start y program job stood
+
+    by : AllAbove (seen y) → (k : Child) → Contains (children (seen y)) k ⊎ Contains (new_child v ∷ []) k → first_child ≤ k.process
+    by a k (inl old) = a k old
+    by a k (inr new) = only (contains_cases (new_child v) [] k new) where
+      only : (new_child v ≡ k) ⊎ Contains [] k → first_child ≤ k.process
+      only (inl is) = subst (λ (c : Child). first_child ≤ c.process) is (omega arith)
+      only (inr none) = absurd (contains_none k none)
 
 pub grant_reads : (x y : Step) (g : Grant) → ReadsBack x y → ReadsBack x (add_grant g y)
 grant_reads x y g h =
     through x y (add_grant g y) h refl (λ m j s k. record { there = k.there; opens = k.opens; purpose = k.purpose; runs = k.runs; session = k.session }) (λ m j s c k is. is)
-    (λ m j s r p k is w u. guard_grant x.setting s (spot_of_call x.setting.layout m) m.at p y g u)
+    (λ m j s r p k is w u. guard_grant x.setting s (spot_of_call x.setting.layout m) m.at p y g u) (λ a. a)
 
 -- An end that spares what the readers hold.
 pub end_reads : (x y : Step) (e : End)
@@ -284,7 +301,7 @@ pub end_reads : (x y : Step) (e : End)
     → ReadsBack x y → ReadsBack x (add_end e y)
 end_reads x y e spares h =
     through x y (add_end e y) h refl (λ m j s k. was m j s k) (λ m j s c k is. is)
-    (λ m j s r p k is w u. guard_end x.setting s (spot_of_call x.setting.layout m) m.at p y e (λ g place its. spares m j s r p g (was m j s k) is w place its) u)
+    (λ m j s r p k is w u. guard_end x.setting s (spot_of_call x.setting.layout m) m.at p y e (λ g place its. spares m j s r p g (was m j s k) is w place its) u) (λ a. a)
   where
     was : (m : Submitted) (j : ℕ) (s : Session) → IsRead x (add_end e y) m j s → IsRead x y m j s
     was m j s k = record { there = k.there; opens = k.opens; purpose = k.purpose; runs = k.runs; session = k.session }
@@ -293,7 +310,21 @@ pub reply_reads : (x y : Step) (i : ℕ) (why : Reply) → SameCalls y.past (ent
 reply_reads x y i why same h =
     through x y (add_reply i why y) h refl
     (λ m j s k. record { there = subst (λ ms. Contains ms m) same k.there; opens = k.opens; purpose = k.purpose; runs = ran_before y.past (entry_of y) (record { job = i; reply = why }) j k.runs; session = k.session }) (λ m j s c k is. is)
-    (λ m j s r p k is w u. guard_reply x.setting s (spot_of_call x.setting.layout m) m.at p y i why u)
+    (λ m j s r p k is w u. guard_reply x.setting s (spot_of_call x.setting.layout m) m.at p y i why u) (λ a. a)
+
+-- A reading over one more call that isn't the call itself.
+pub old_read : (x y : Step) (n : ℕ) (path : List ℕ) (q : Purpose) (o : ℕ) (op : Op)
+    → ((k : ℕ) (s : Session) → (m : Submitted) → Contains (submitted (seen y)) m → m.call.session ≡ k → session_numbered x.setting (seen (add_call_of n path q o op y)) k ≡ Some s → session_numbered x.setting (seen y) k ≡ Some s)
+    → (m : Submitted) (j : ℕ) (s : Session) → IsRead x (add_call_of n path q o op y) m j s → Contains (submitted (seen y)) m → IsRead x y m j s
+old_read x y n path q o op sessions m j s k there = record { there = there; opens = inl (waits k.opens); purpose = k.purpose; runs = k.runs; session = sessions m.call.session s m there refl k.session } where
+  waits : IsOpen (seen (add_call_of n path q o op y)) (heard_by y.input) m → m.answer ≡ None
+  waits (inl none) = none
+  waits (inr w) = absurd (not_last y.effects.calls (call_added n path q o op y) w.1)
+
+pub call_or : (y : Step) (n : ℕ) (path : List ℕ) (q : Purpose) (o : ℕ) (op : Op) (m : Submitted) → Contains (submitted (seen (add_call_of n path q o op y))) m
+    → (new_call (length y.past) y.reading (call_added n path q o op y) ≡ m) ⊎ Contains (submitted (seen y)) m
+call_or y n path q o op m there =
+    contains_cases (new_call (length y.past) y.reading (call_added n path q o op y)) (submitted (seen y)) m (subst (λ ms. Contains ms m) (submitted-push y.past (entry_of y) (call_added n path q o op y)) there)
 
 -- One more call that reads no value and writes nothing where one is read.
 pub call_reads : (x y : Step) (n : ℕ) (path : List ℕ) (q : Purpose) (o : ℕ) (op : Op) → ((j : ℕ) → q ≡ ValueRead j → ⊥)
@@ -301,28 +332,12 @@ pub call_reads : (x y : Step) (n : ℕ) (path : List ℕ) (q : Purpose) (o : ℕ
     → ((m : Submitted) (j : ℕ) (s : Session) → IsRead x y m j s → (n == s.number) ≡ true → (is_area_work q && (is_write op && is_on x.setting.layout (spot_of_call x.setting.layout m) (call_added n path q o op y))) ≡ false)
     → ReadsBack x y → ReadsBack x (add_call_of n path q o op y)
 call_reads x y n path q o op no_read sessions spare h =
-    through x y z h refl (λ m j s k. old m j s k (which m k.there)) (λ m j s c k is. is)
-    (λ m j s r p k is w u. guard_call x.setting s (spot_of_call x.setting.layout m) m.at p y n path q o op (λ mine. spare m j s (old m j s k (which m k.there)) mine) u)
+    through x y (add_call_of n path q o op y) h refl (λ m j s k. old m j s k (call_or y n path q o op m k.there)) (λ m j s c k is. is)
+    (λ m j s r p k is w u. guard_call x.setting s (spot_of_call x.setting.layout m) m.at p y n path q o op (λ mine. spare m j s (old m j s k (call_or y n path q o op m k.there)) mine) u) (λ a. a)
   where
-    z : Step
-    z = add_call_of n path q o op y
-
-    c : Call
-    c = call_added n path q o op y
-
-    v : Submitted
-    v = new_call (length y.past) y.reading c
-
-    which : (m : Submitted) → Contains (submitted (seen z)) m → (v ≡ m) ⊎ Contains (submitted (seen y)) m
-    which m there = contains_cases v (submitted (seen y)) m (subst (λ ms. Contains ms m) (submitted-push y.past (entry_of y) c) there)
-
-    waits : (m : Submitted) → IsOpen (seen z) (heard_by y.input) m → m.answer ≡ None
-    waits m (inl none) = none
-    waits m (inr k) = absurd (not_last y.effects.calls c k.1)
-
-    old : (m : Submitted) (j : ℕ) (s : Session) → IsRead x z m j s → (v ≡ m) ⊎ Contains (submitted (seen y)) m → IsRead x y m j s
+    old : (m : Submitted) (j : ℕ) (s : Session) → IsRead x (add_call_of n path q o op y) m j s → (new_call (length y.past) y.reading (call_added n path q o op y) ≡ m) ⊎ Contains (submitted (seen y)) m → IsRead x y m j s
     old m j s k (inl is) = absurd (no_read j (ap (λ (d : Submitted). d.call.purpose) is ∙ k.purpose))
-    old m j s k (inr there) = record { there = there; opens = inl (waits m k.opens); purpose = k.purpose; runs = k.runs; session = sessions m.call.session s m there refl k.session }
+    old m j s k (inr there) = old_read x y n path q o op sessions m j s k there
 
 -- A call that begins no session.
 pub later_sessions : (x y : Step) (n : ℕ) (path : List ℕ) (q : Purpose) (o : ℕ) (op : Op) → is_join_call FirstRead q ≡ false → (k : ℕ) (s : Session)
@@ -366,13 +381,14 @@ guarded_held st s at since p y g = by (nat_le since (length y.past)) where
   by true = ap (λ c. c && held_since since y.past s at) now ∙ g.before
   by false = g.before
 
-pub facts_by : (st : Setting) (z : Step) → ((m : Submitted) (j : ℕ) (s : Session) → IsReading st (seen z) (heard_by z.input) m j s → Reader st z m j s) → ValueFacts st (seen z) (heard_by z.input)
-facts_by st z reader =
+pub facts_by : (st : Setting) (z : Step) → AllAbove (seen z) → ((m : Submitted) (j : ℕ) (s : Session) → IsReading st (seen z) (heard_by z.input) m j s → Reader st z m j s) → ValueFacts st (seen z) (heard_by z.input)
+facts_by st z above reader =
     record {
       held = λ m j s k. (let r = reader m j s k in guarded_held st s (spot_of_call st.layout m) m.at r.process z r.guard);
       calm = λ m j s k. (reader m j s k).guard.calm;
       holds = λ m j s r p k is. (let v = reader m j s k in (v.guard.holder.0, v.guard.holder.1, v.guard.holder.2 ∙ v.only r p is));
       started = λ m j s r p c k is its. (let v = reader m j s k in v.guard.started c (ap (λ n. child_numbered (seen z) n) (v.only r p is) ∙ its));
+      above = above;
     }
 
 -- As it stands.
@@ -422,4 +438,4 @@ back_read x z k h m j s i =
     }
 
 pub facts_back : (x z : Step) → Known x → ReadsBack x z → HasValueFacts z
-facts_back x z k h = subst (λ st. ValueFacts st (seen z) (heard_by z.input)) (sym h.setting) (facts_by x.setting z (λ m j s i. back_read x z k h m j s i))
+facts_back x z k h = subst (λ st. ValueFacts st (seen z) (heard_by z.input)) (sym h.setting) (facts_by x.setting z (h.above k.0.facts.values.above) (λ m j s i. back_read x z k h m j s i))

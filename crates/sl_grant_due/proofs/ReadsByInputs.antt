@@ -5,7 +5,7 @@ use Rattle.sl_acts.specs.SoFar.{entry_of}
 use Rattle.sl_due.specs.DueInputs.{end_holdings, leave_holdings, refuse_jobs_of, when_running}
 use Rattle.sl_due.specs.Steps.{Step, add_end, add_grant, add_reply, seen, with_input}
 use Rattle.sl_grant_due.proofs.OthersGoOn.{said_on}
-use Rattle.sl_grant_due.proofs.ReadsBack.{Guarded, IsRead, ReadNow, Reader, ReadsBack, end_reads, facts_by, guard_end, guard_grant, guard_reply, read_now, reads_go_on, reads_itself, same_reader, through, writes_are}
+use Rattle.sl_grant_due.proofs.ReadsBack.{AllAbove, Guarded, IsRead, ReadNow, Reader, ReadsBack, end_reads, facts_by, guard_end, guard_grant, guard_reply, read_now, reads_go_on, reads_itself, same_reader, through, writes_are}
 use Rattle.sl_grant_due.proofs.WorksByExits.{Leaving, left_so, refused_so, refused_there}
 use Rattle.sl_grant_due.proofs.WorksByInputs.{command_was, none_heard, unanswered}
 use Rattle.sl_grant_due.specs.ValuePromises.{HasValueFacts}
@@ -22,7 +22,7 @@ use Rattle.sl_sessions.specs.Sessions.{session_numbered}
 use Rattle.sl_sessions.specs.declared.session.Session.{Session}
 use Rattle.sl_step_facts.specs.Heard.{IsOpen, heard_by}
 use Rattle.sl_step_facts.specs.ValueFacts.{IsReading}
-use Rattle.sl_trace.specs.Traces.{Child, FollowsTrace, Setting, Submitted, Trace, answered_in, child_after, child_numbered, children, end_of, holdings, is_expected, is_running, is_starting, job_numbered, job_of, new_call, new_child, next_child, orphans_left, running_jobs, same_place, submitted}
+use Rattle.sl_trace.specs.Traces.{Child, FollowsTrace, Setting, Submitted, Trace, answered_in, child_after, child_numbered, children, end_of, first_child, holdings, is_expected, is_running, is_starting, job_numbered, job_of, new_call, new_child, next_child, orphans_left, running_jobs, same_place, submitted}
 use Rattle.sl_trace.specs.declared.command.Command.{Command}
 use Rattle.sl_trace.specs.declared.command.Command.TheVariants.{GetLvb}
 use Rattle.sl_trace.specs.declared.command.ResourceArg.{ResourceArg}
@@ -40,8 +40,9 @@ use Rattle.sl_words.proofs.CaseLaws.{false_is_true, is_false, no_value, none_som
 use Rattle.sl_words.proofs.WordLaws.{some_is_true}
 use Rattle.std.proofs.Common.{ap, arith, inl, inr, refl, subst, sym, ◌∙◌}
 use Rattle.std.proofs.lemmas.Bool.{eqb-true}
+use Rattle.std.proofs.lemmas.List.Elements.{Contains-append_cases, Contains-append_left, Contains-append_right}
 use Rattle.std.specs.Option.{option_or}
-use Rattle.std.specs.Prelude.{Bool, Contains, List, None, Option, Some, [], cond, false, filter, find, is_none, map, option_and_then, true, ℕ, ◌&&◌, ◌++◌, ◌<◌, ◌==◌, ◌∷◌, ◌≡◌, ◌≤◌}
+use Rattle.std.specs.Prelude.{Bool, Contains, List, None, Option, Some, [], cond, false, filter, find, is_none, map, option_and_then, true, ℕ, ◌&&◌, ◌++◌, ◌<◌, ◌==◌, ◌∷◌, ◌≡◌, ◌≤◌, ◌⊎◌}
 
 -- ---- children
 
@@ -102,6 +103,18 @@ started_then x i p wake h k is =
     (λ c found. h c (ap (λ j. find (has_number p) (map (child_after j) (children x.past) ++ map new_child x.effects.starts)) wake
     ∙ (ap (λ ks. find (has_number p) (ks ++ map new_child x.effects.starts)) (woken (children x.past)) ∙ found)))
 
+above_then : (x : Step) (i : Input) → x.input ≡ Wake → AllAbove (seen x) → AllAbove (seen (with_input i x))
+above_then x i wake h k there = by (Contains-append_cases (map (child_after i) (children x.past)) (map new_child x.effects.starts) k there) where
+  now : children (seen x) ≡ children x.past ++ map new_child x.effects.starts
+  now = ap (λ j. map (child_after j) (children x.past) ++ map new_child x.effects.starts) wake ∙ ap (λ ks. ks ++ map new_child x.effects.starts) (woken (children x.past))
+
+  by : Contains (map (child_after i) (children x.past)) k ⊎ Contains (map new_child x.effects.starts) k → first_child ≤ k.process
+  by (inl old) =
+      let v = in_map (child_after i) (children x.past) k old in
+      subst (λ n. first_child ≤ n) (sym (child_same i v.0) ∙ ap (λ (c : Child). c.process) v.2)
+      (h v.0 (subst (λ ks. Contains ks v.0) (sym now) (Contains-append_left (children x.past) (map new_child x.effects.starts) v.0 v.1)))
+  by (inr new) = h k (subst (λ ks. Contains ks k) (sym now) (Contains-append_right (children x.past) (map new_child x.effects.starts) k new))
+
 -- ---- inputs
 
 below_both : (p a b : ℕ) → p < a → a ≤ b → p < b
@@ -134,6 +147,7 @@ input_reads x i wake bare other k =
       };
       command = λ m j s c r is. command_was x i j c wake (k.0.facts.jobs.called m j (there m r.there) (ap (λ p. job_of p) r.purpose)) is;
       guard = λ m j s a p r is g. guard_input x.setting s (spot_of_call x.setting.layout m) m.at p x i wake g;
+      above = λ a. above_then x i wake a;
     }
   where
     there : (m : Submitted) → Contains (submitted (seen (with_input i x))) m → Contains (submitted (seen x)) m
@@ -142,7 +156,7 @@ input_reads x i wake bare other k =
 -- ---- an answer
 
 pub heard_values : (x : Step) (n : ℕ) (w : Answer) → x.input ≡ Wake → x.effects.calls ≡ [] → Expects x (Told n w) → Known x → HasValueFacts (with_input (Told n w) x)
-heard_values x n w wake bare expected k = facts_by x.setting z reader where
+heard_values x n w wake bare expected k = facts_by x.setting z (above_then x (Told n w) wake k.0.facts.values.above) reader where
   z : Step
   z = with_input (Told n w) x
 
@@ -215,6 +229,14 @@ guard_exit st s at since q y p other g = refused (leave_holdings p y) left where
       for_each_keeps (λ v. Guarded st s at since q v) (filter (is_job_of_process (seen z) p) (running_jobs z.setting (seen z))) (λ j. add_reply j.number (NoProcess p)) z
       (λ j there v u. guard_reply st s at since q v j.number (NoProcess p) u) w
 
+above_exit : (y : Step) (p : ℕ) → AllAbove (seen y) → AllAbove (seen (refuse_jobs_of p (leave_holdings p y)))
+unfolding leave_holdings
+above_exit y p a =
+    let z : Step = leave_holdings p y in
+    for_each_keeps (λ v. AllAbove (seen v)) (filter (is_job_of_process (seen z) p) (running_jobs z.setting (seen z))) (λ j. add_reply j.number (NoProcess p)) z (λ j there v u. u)
+    (for_each_keeps (λ v. AllAbove (seen v)) (orphans_left p (holdings (seen y))) add_grant (end_holdings p y) (λ e there v u. u)
+    (for_each_keeps (λ v. AllAbove (seen v)) (filter (λ (e : Grant). e.process == p) (holdings (seen y))) (λ e. add_end (end_of e)) y (λ e there v u. u) a))
+
 pub exit_reads : (x : Step) (p : ℕ) → x.input ≡ Wake → x.effects.calls ≡ [] → Known x → ReadsBack x (refuse_jobs_of p (leave_holdings p (with_input (Exit p) x)))
 exit_reads x p wake bare k =
     through x y u (input_reads x (Exit p) wake bare refl k) all.setting
@@ -225,7 +247,7 @@ exit_reads x p wake bare k =
       runs = all.ran j i.runs;
       session = sym (all.sessions m.call.session) ∙ i.session;
     }) (λ m j s c i is. sym (all.commands j) ∙ is)
-    (λ m j s r q i is w g. guard_exit x.setting s (spot_of_call x.setting.layout m) m.at q y p (another j r q i.runs is) g)
+    (λ m j s r q i is w g. guard_exit x.setting s (spot_of_call x.setting.layout m) m.at q y p (another j r q i.runs is) g) (λ a. above_exit y p a)
   where
     y : Step
     y = with_input (Exit p) x
