@@ -21,3 +21,5 @@ pub mod ModesAreLawful
 pub mod OthersGoOn
 pub mod ReadsBack
 pub mod ReadsByInputs
+pub mod ReadsByLeases
+pub mod ReadsByLines

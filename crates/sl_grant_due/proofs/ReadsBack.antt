@@ -419,7 +419,7 @@ read_now x k m j s i =
       };
     }
 
-get_process : (a b : ResourceArg) (p q : ℕ) → GetLvb a p ≡ GetLvb b q → p ≡ q
+pub get_process : (a b : ResourceArg) (p q : ℕ) → GetLvb a p ≡ GetLvb b q → p ≡ q
 get_process a b p q is = ap (λ c. process_of c) is where
   process_of : Command → ℕ
   process_of (GetLvb r n) = n
