@@ -23,3 +23,4 @@ pub mod ReadsBack
 pub mod ReadsByInputs
 pub mod ReadsByLeases
 pub mod ReadsByLines
+pub mod ValueFactsAreKept

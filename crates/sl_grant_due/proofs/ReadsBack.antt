@@ -428,14 +428,21 @@ get_process a b p q is = ap (λ c. process_of c) is where
 pub same_reader : (x z : Step) (j p : ℕ) (r : ResourceArg) → command_numbered x.setting (seen x) j ≡ Some (GetLvb r p) → (a : ResourceArg) (q : ℕ) → command_numbered x.setting (seen x) j ≡ Some (GetLvb a q) → p ≡ q
 same_reader x z j p r is a q at = get_process r a p q (some_value (GetLvb r p) (GetLvb a q) (sym is ∙ at))
 
-pub back_read : (x z : Step) → Known x → ReadsBack x z → (m : Submitted) (j : ℕ) (s : Session) → IsRead x z m j s → Reader x.setting z m j s
-back_read x z k h m j s i =
-    let v : ReadNow x m j s = read_now x k m j s (h.back m j s i) in
+-- From what was known at each reading.
+pub read_from_now : (x z : Step) → ReadsBack x z → (m : Submitted) (j : ℕ) (s : Session) → IsRead x z m j s → ReadNow x m j s → Reader x.setting z m j s
+read_from_now x z h m j s i v =
     record {
       process = v.process;
       guard = h.guard m j s v.resource v.process i v.command v.guard;
       only = λ r p is. same_reader x z j v.process v.resource v.command r p (h.command m j s (GetLvb r p) i is);
     }
 
+pub facts_from : (x z : Step) → ((m : Submitted) (j : ℕ) (s : Session) → IsRead x x m j s → ReadNow x m j s) → AllAbove (seen x) → ReadsBack x z → HasValueFacts z
+facts_from x z now above h =
+    subst (λ st. ValueFacts st (seen z) (heard_by z.input)) (sym h.setting) (facts_by x.setting z (h.above above) (λ m j s i. read_from_now x z h m j s i (now m j s (h.back m j s i))))
+
+pub back_read : (x z : Step) → Known x → ReadsBack x z → (m : Submitted) (j : ℕ) (s : Session) → IsRead x z m j s → Reader x.setting z m j s
+back_read x z k h m j s i = read_from_now x z h m j s i (read_now x k m j s (h.back m j s i))
+
 pub facts_back : (x z : Step) → Known x → ReadsBack x z → HasValueFacts z
-facts_back x z k h = subst (λ st. ValueFacts st (seen z) (heard_by z.input)) (sym h.setting) (facts_by x.setting z (h.above k.0.facts.values.above) (λ m j s i. back_read x z k h m j s i))
+facts_back x z k h = facts_from x z (read_now x k) k.0.facts.values.above h
