@@ -24,3 +24,4 @@ pub mod ReadsByInputs
 pub mod ReadsByLeases
 pub mod ReadsByLines
 pub mod ValueFactsAreKept
+pub mod DecisionsTellNothing
