@@ -27,30 +27,25 @@ use Rattle.sl_law.specs.LawfulArea.{is_area_work, is_delta_record}
 use Rattle.sl_law.specs.LawfulModes.{LawfulMode}
 use Rattle.sl_law.specs.LawfulValue.{LawfulValueRead, LawfulValueWrite}
 use Rattle.sl_law.specs.Saying.{EachCall, cut_at}
-use Rattle.sl_lease_due.proofs.DeltasStay.{ByDelta, IsSpared, delta_by, first_other, frees_stay, joining_spares, others_by_delta, parting_stays, renewals_stay, spared_by_delta}
+use Rattle.sl_lease_due.proofs.DeltasStay.{ByDelta, delta_by, first_other, others_by_delta}
 use Rattle.sl_lease_due.proofs.LawsAreKept.{laws_are_kept}
-use Rattle.sl_lease_due.proofs.LawsStay.{A_start, A_wake, IsPlainInput, all_ends_stay, calls_stay, kills_stay, replies_stay, said_stays, signals_stay}
-use Rattle.sl_lease_due.proofs.LeaseCallsStay.{LeaseMay, writes_clear}
-use Rattle.sl_lease_due.proofs.LinesStay.{lines_stay, requested}
-use Rattle.sl_lease_due.proofs.NextsStay.{HeldThere, at_work, bare_by, bare_lawful, led_stays, not_true, settled_stays, settles_no_turn, turns}
-use Rattle.sl_lease_due.proofs.OthersKeep.{Any, IsOther, LawfulSoFar, Others, by_others, lawful_by, laws_of, no_others, other_more, others_are_lawful}
-use Rattle.sl_lease_due.proofs.TurnsStay.{exclusive_turns, shared_turns, turned_by}
-use Rattle.sl_lease_due.proofs.WorkIsActive.{WorkIsActive, work_is_active}
-use Rattle.sl_lease_due.specs.LeaseLawful.{LeaseLaws}
-use Rattle.sl_lease_ways.proofs.Kept.ActsKeep.{stand}
+use Rattle.sl_lease_due.proofs.LawsStay.{A_start, A_wake, IsPlainInput}
+use Rattle.sl_lease_due.proofs.LeaseCallsStay.{writes_clear}
+use Rattle.sl_lease_due.proofs.NextsStay.{at_work, bare_by, not_true}
+use Rattle.sl_lease_due.proofs.OthersKeep.{Any, IsOther, LawfulSoFar, Others, by_others, lawful_by, no_others, other_more}
+use Rattle.sl_lease_due.proofs.TurnsStay.{turned_by}
 use Rattle.sl_lease_ways.proofs.Kept.CallsSame.{reply_leaves}
 use Rattle.sl_lease_ways.proofs.Kept.DecisionsAreClear.{DecidedOn, decisions_are_clear}
 use Rattle.sl_lease_ways.proofs.Kept.DeltasFit.{freed_fits, joining_fits, renewed_fits, wake_fits}
 use Rattle.sl_lease_ways.proofs.Kept.EffectsLeave.{made_call, there_has}
-use Rattle.sl_lease_ways.proofs.Kept.HeardStands.{heard_has, lease_heard, lease_ready, spot_same}
+use Rattle.sl_lease_ways.proofs.Kept.HeardStands.{heard_has, lease_ready, spot_same}
 use Rattle.sl_lease_ways.proofs.Kept.InputsLeave.{input_sessions, quiet_same}
-use Rattle.sl_lease_ways.proofs.Kept.LeaseNextsLeave.{IsLate, LeaseReady, moment_of}
+use Rattle.sl_lease_ways.proofs.Kept.LeaseNextsLeave.{IsLate, LeaseReady}
 use Rattle.sl_lease_ways.proofs.Kept.LinesKeep.{ended_ready, held_ended}
 use Rattle.sl_lease_ways.proofs.Kept.LinesReady.{line_ready, none_open}
 use Rattle.sl_lease_ways.proofs.Kept.PlacesStand.{id_in_range, place_is_on, placed_on, spot_is}
 use Rattle.sl_lease_ways.proofs.Kept.PlainWalks.{ByPlain, converted as converted_keeps, ended, exited, granted, granting, left, refusal, removal_of_refused, said, sent, stopped}
 use Rattle.sl_lease_ways.proofs.Kept.UnjoinedHaveNone.{its_joining, joins_still}
-use Rattle.sl_lease_ways.proofs.NextsFit.AnswersFit.{answers_fit}
 use Rattle.sl_lease_ways.proofs.WayStages.{is_at_in}
 use Rattle.sl_leases.specs.Ballots.{moded_block}
 use Rattle.sl_leases.specs.Counts.{values_on}
@@ -107,7 +102,7 @@ use Rattle.sl_trace.specs.declared.input.Input.{Input}
 use Rattle.sl_trace.specs.declared.input.Input.TheVariants.{Answer as Told, Exit, Line, Number, Spawned, Wake}
 use Rattle.sl_trace.specs.declared.reply.Reply.{Reply}
 use Rattle.sl_trace.specs.declared.reply.Reply.TheVariants.{BadCommand as Misread, Done, Granted, IoFault, IoTimeout, SpawnFault}
-use Rattle.sl_words.proofs.CaseLaws.{false_is_true, is_false, no_value, none_some, one_value, some_value, true_is_false}
+use Rattle.sl_words.proofs.CaseLaws.{false_is_true, no_value, none_some, one_value, some_value, true_is_false}
 use Rattle.sl_words.proofs.WordLaws.{and_true}
 use Rattle.sl_words.specs.Words.{same_truth}
 use Rattle.std.proofs.Common.{ap, arith, inl, refl, subst, sym, ◌∙◌}

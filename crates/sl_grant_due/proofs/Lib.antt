@@ -25,3 +25,4 @@ pub mod ReadsByLeases
 pub mod ReadsByLines
 pub mod ValueFactsAreKept
 pub mod DecisionsTellNothing
+pub mod ValuesAreTold

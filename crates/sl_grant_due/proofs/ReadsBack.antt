@@ -7,7 +7,6 @@ use Rattle.sl_grant_due.specs.ValuePromises.{HasValueFacts}
 use Rattle.sl_holding_due.proofs.HoldingsByCalls.{call_added, not_last}
 use Rattle.sl_holding_due.proofs.HoldingsByEffects.{SameCalls, next_less}
 use Rattle.sl_holding_due.specs.Moments.{Known}
-use Rattle.sl_job_facts.proofs.EffectsAreAllowed.{left}
 use Rattle.sl_law.specs.LawfulArea.{is_area_work}
 use Rattle.sl_law.specs.LawfulValue.{held_since, writes_since}
 use Rattle.sl_leases.specs.Jobs.{command_numbered}
@@ -204,28 +203,32 @@ guard_end st s at since p y e other h =
           (kept (λ (k : Grant). k.session == s.number) (holdings (seen (add_end e y))) g of.1 (end_spares y e g (other g on.1 h.holder.2) of.0))
 
 -- A call that isn't the session's work on the area.
+pub calm_call : (st : Setting) (s : Session) (at : Spot) (since : ℕ) (y : Step) (n : ℕ) (path : List ℕ) (q : Purpose) (o : ℕ) (op : Op)
+    → ((n == s.number) ≡ true → (is_area_work q && (is_write op && is_on st.layout at (call_added n path q o op y))) ≡ false) → writes_since st since (seen y) s at ≡ false
+    → writes_since st since (seen (add_call_of n path q o op y)) s at ≡ false
+calm_call st s at since y n path q o op other h =
+    ap (λ ms. writes_in st since s at ms) (submitted-push y.past (entry_of y) c)
+    ∙ (one_write st since s at v (submitted (seen y)) ∙ (ap (λ d. d || writes_in st since s at (submitted (seen y))) (by (n == s.number) refl) ∙ h))
+  where
+    c : Call
+    c = call_added n path q o op y
+
+    v : Submitted
+    v = new_call (length y.past) y.reading c
+
+    apart : (a b d : Bool) → (a && d) ≡ false → (a && (b && d)) ≡ false
+    apart true true d is = is
+    apart true false d is = refl
+    apart false b d is = refl
+
+    by : (b : Bool) → (n == s.number) ≡ b → (is_call_of s v && is_late_write st since at v) ≡ false
+    by true mine = ap (λ d. d && is_late_write st since at v) mine ∙ apart (is_area_work q) (nat_le since (length y.past)) (is_write op && is_on st.layout at c) (other mine)
+    by false mine = ap (λ d. d && is_late_write st since at v) mine
+
 pub guard_call : (st : Setting) (s : Session) (at : Spot) (since p : ℕ) (y : Step) (n : ℕ) (path : List ℕ) (q : Purpose) (o : ℕ) (op : Op)
     → ((n == s.number) ≡ true → (is_area_work q && (is_write op && is_on st.layout at (call_added n path q o op y))) ≡ false) → Guarded st s at since p y → Guarded st s at since p (add_call_of n path q o op y)
-guard_call st s at since p y n path q o op other h = record { before = h.before; calm = calm (n == s.number) refl; holder = h.holder; born = h.born; started = h.started } where
-  c : Call
-  c = call_added n path q o op y
-
-  v : Submitted
-  v = new_call (length y.past) y.reading c
-
-  apart : (a b d : Bool) → (a && d) ≡ false → (a && (b && d)) ≡ false
-  apart true true d is = is
-  apart true false d is = refl
-  apart false b d is = refl
-
-  calm : (b : Bool) → (n == s.number) ≡ b → writes_since st since (seen (add_call_of n path q o op y)) s at ≡ false
-  calm b is =
-      ap (λ ms. writes_in st since s at ms) (submitted-push y.past (entry_of y) c)
-      ∙ (one_write st since s at v (submitted (seen y)) ∙ (ap (λ d. d || writes_in st since s at (submitted (seen y))) (by b is) ∙ h.calm))
-    where
-      by : (b : Bool) → (n == s.number) ≡ b → (is_call_of s v && is_late_write st since at v) ≡ false
-      by true mine = ap (λ d. d && is_late_write st since at v) mine ∙ apart (is_area_work q) (nat_le since (length y.past)) (is_write op && is_on st.layout at c) (other mine)
-      by false mine = ap (λ d. d && is_late_write st since at v) mine
+guard_call st s at since p y n path q o op other h =
+    record { before = h.before; calm = calm_call st s at since y n path q o op other h.calm; holder = h.holder; born = h.born; started = h.started }
 
 -- ---- readings go on
 

@@ -11,7 +11,6 @@ use Rattle.sl_grant_due.proofs.WorksByInputs.{command_was, none_heard, unanswere
 use Rattle.sl_grant_due.specs.ValuePromises.{HasValueFacts}
 use Rattle.sl_holding_due.proofs.HoldingsByInputs.{answers_open, calls_stay, calls_told, children_seen, is_no_answer, sessions_seen_still}
 use Rattle.sl_holding_due.specs.Moments.{Known}
-use Rattle.sl_job_facts.proofs.EffectsAreAllowed.{ended, left}
 use Rattle.sl_job_facts.proofs.JobsAreNumbered.{numbered_seen}
 use Rattle.sl_leases.specs.Jobs.{command_numbered, command_of, is_job_of_process, job_of_start}
 use Rattle.sl_leases.specs.Leases.{spot_of_call}

@@ -15,7 +15,7 @@ use Rattle.sl_law.specs.Lawful.{IsSetting}
 use Rattle.sl_law.specs.LawfulArea.{is_area_work}
 use Rattle.sl_lease_due.proofs.TurnsStay.{turned_by}
 use Rattle.sl_lease_ways.proofs.Kept.HeardStands.{spot_same}
-use Rattle.sl_lease_ways.proofs.Kept.PlacesStand.{id_in_range, place_is_on, placed_on, spot_is}
+use Rattle.sl_lease_ways.proofs.Kept.PlacesStand.{place_is_on, placed_on, spot_is}
 use Rattle.sl_leases.specs.Jobs.{command_numbered}
 use Rattle.sl_leases.specs.Leases.{is_on, lease_step, spot_of_call}
 use Rattle.sl_leases.specs.declared.lease.LeaseNext.{LeaseNext}

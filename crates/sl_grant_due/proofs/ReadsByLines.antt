@@ -16,9 +16,7 @@ use Rattle.sl_grant_due.proofs.ReadsBack.{Guarded, IsRead, Reader, ReadsBack, ba
 use Rattle.sl_grant_due.proofs.ReadsByInputs.{guard_input, input_reads}
 use Rattle.sl_grant_due.proofs.ReadsByLeases.{IsElsewhere, end_there, lease_reads, read_there, write_there}
 use Rattle.sl_grant_due.proofs.WorksByEffects.{same_session}
-use Rattle.sl_grant_due.proofs.WorksByInputs.{command_was, none_heard, unanswered}
 use Rattle.sl_grant_due.specs.ValuePromises.{HasValueFacts}
-use Rattle.sl_holding_due.proofs.HoldingFactsBegin.{fresh}
 use Rattle.sl_holding_due.proofs.HoldingsByCalls.{call_added}
 use Rattle.sl_holding_due.proofs.HoldingsByEffects.{later_same}
 use Rattle.sl_holding_due.proofs.HoldingsByInputs.{calls_stay, sessions_seen_still}
@@ -27,8 +25,6 @@ use Rattle.sl_holding_due.proofs.PlainPlaces.{one_place}
 use Rattle.sl_holding_due.specs.DecisionGrounds.{GetGrounds, GiveUpGrounds, HasGrounds, IsReady, Releases as ReleasesIt}
 use Rattle.sl_holding_due.specs.Moments.{Known}
 use Rattle.sl_job_facts.proofs.CallsHaveFacts.{calls_before}
-use Rattle.sl_job_facts.proofs.EffectsAreAllowed.{ended}
-use Rattle.sl_job_facts.proofs.JobsAreNumbered.{below}
 use Rattle.sl_law.specs.LawfulArea.{is_area_work}
 use Rattle.sl_law.specs.LawfulValue.{held_since, writes_since}
 use Rattle.sl_lease_ways.proofs.Kept.EffectsLeave.{there_has}
@@ -53,7 +49,7 @@ use Rattle.sl_step_facts.specs.Heard.{IsOpen, heard_by}
 use Rattle.sl_step_facts.specs.ValueFacts.{IsReading}
 use Rattle.sl_trace.specs.Commands.{IsCommand, IsResourceArg}
 use Rattle.sl_trace.specs.Limits.{most_processes}
-use Rattle.sl_trace.specs.Traces.{Child, Submitted, Trace, answered_in, child_numbered, children, end_of, first_child, holdings, is_before_input, is_child, is_orphan, is_write, mark, new_call, next_child, next_job, same_place, spot_of_grant, submitted}
+use Rattle.sl_trace.specs.Traces.{Child, Submitted, Trace, answered_in, child_numbered, children, end_of, first_child, holdings, is_child, is_orphan, is_write, mark, new_call, next_child, next_job, same_place, spot_of_grant, submitted}
 use Rattle.sl_trace.specs.declared.command.Command.{Command}
 use Rattle.sl_trace.specs.declared.command.Command.TheVariants.{Acquire, AddLockspace, Convert, GetLvb, HostStatus, InqLockspace, Release, ReleaseOrphan, RemLockspace, Request, RunProgram, SetKillpath, SetLvb, Status, TakeOver}
 use Rattle.sl_trace.specs.declared.command.ResourceArg.{ResourceArg}
@@ -127,33 +123,24 @@ named_arg x text c r l named = by c (l.known.0.setting.reads text c l.says) name
 in_range_of : (x : Step) (text : List ℕ) (c : Command) (s : Session) → Lined x text c → Has (with_input (Line text) x) s → (1 ≤ s.id) × (s.id ≤ x.setting.layout.hosts)
 in_range_of x text c s l has = id_in_range x.setting l.known.0.setting (seen (with_input (Line text) x)) s (there_has x.setting (seen (with_input (Line text) x)) s.number s has)
 
-never_answers : (k : LeaseKnown) (mode : Mode) (name : List ℕ) (r : Reply) → convert_next k mode name ≡ AnswerJob r → is_before_input r ≡ false
-never_answers k Exclusive name r is = absurd (false_is_true (ap (λ n. answers_job n) is)) where
-  answers_job : LeaseNext → Bool
-  answers_job (AnswerJob r) = true
-  answers_job n = false
+abbrev answers_job : LeaseNext → Bool
+answers_job (AnswerJob r) = true
+answers_job n = false
+
+-- Neither a conversion's beginning nor a release answers its job.
+pub never_answers : (k : LeaseKnown) (mode : Mode) (name : List ℕ) (r : Reply) → convert_next k mode name ≡ AnswerJob r → ⊥
+never_answers k Exclusive name r is = false_is_true (ap (λ n. answers_job n) is)
 never_answers k Shared name r is = by k.own is where
-  answers_job : LeaseNext → Bool
-  answers_job (AnswerJob r) = true
-  answers_job n = false
+  by : (o : Option Block) → option_map_or (λ own. WriteBlock SetMode (moded_block own true k.self.generation)) o Nothing ≡ AnswerJob r → ⊥
+  by None at = false_is_true (ap (λ n. answers_job n) at)
+  by (Some b) at = false_is_true (ap (λ n. answers_job n) at)
 
-  by : (o : Option Block) → option_map_or (λ own. WriteBlock SetMode (moded_block own true k.self.generation)) o Nothing ≡ AnswerJob r → is_before_input r ≡ false
-  by None at = absurd (false_is_true (ap (λ n. answers_job n) at))
-  by (Some b) at = absurd (false_is_true (ap (λ n. answers_job n) at))
-
-release_silent : (p : LeasePlace) (k : LeaseKnown) (mode : Mode) (lver : ℕ) (r : Reply) → release_next p k mode lver ≡ AnswerJob r → is_before_input r ≡ false
-release_silent p k Exclusive lver r is = absurd (false_is_true (ap (λ n. answers_job n) is)) where
-  answers_job : LeaseNext → Bool
-  answers_job (AnswerJob r) = true
-  answers_job n = false
+pub release_silent : (p : LeasePlace) (k : LeaseKnown) (mode : Mode) (lver : ℕ) (r : Reply) → release_next p k mode lver ≡ AnswerJob r → ⊥
+release_silent p k Exclusive lver r is = false_is_true (ap (λ n. answers_job n) is)
 release_silent p k Shared lver r is = by k.own is where
-  answers_job : LeaseNext → Bool
-  answers_job (AnswerJob r) = true
-  answers_job n = false
-
-  by : (o : Option Block) → option_map_or (λ own. WriteBlock ClearMode (moded_block own false 0)) o Nothing ≡ AnswerJob r → is_before_input r ≡ false
-  by None at = absurd (false_is_true (ap (λ n. answers_job n) at))
-  by (Some b) at = absurd (false_is_true (ap (λ n. answers_job n) at))
+  by : (o : Option Block) → option_map_or (λ own. WriteBlock ClearMode (moded_block own false 0)) o Nothing ≡ AnswerJob r → ⊥
+  by None at = false_is_true (ap (λ n. answers_job n) at)
+  by (Some b) at = false_is_true (ap (λ n. answers_job n) at)
 
 gives_up_reads : (x : Step) (text : List ℕ) (c : Command) (s : Session) (g : Grant) → Lined x text c → Has (with_input (Line text) x) s → GiveUpGrounds x.setting (seen x) c s g
     → ReadsBack x (after_end s (spot_of_grant g) (next_job x.setting (seen x)) g (add_end (end_of g) (with_input (Line text) x)))
@@ -189,7 +176,7 @@ gives_up_reads x text c s g l has u = by (holdings_on (seen z) s (spot_of_grant 
   by (e ∷ es) = reply_reads x z j Done (later_same z.past (entry_of z) (record { job = j; reply = Done }) refl) ended
   by [] =
       lease_reads x z s (spot_of_grant g) (ForJob j) (release_next (lease_place z.setting s) (known z.setting (seen z) s (spot_of_grant g)) g.mode g.lver) there (in_range_of x text c s l has)
-      (λ r is. release_silent (lease_place z.setting s) (known z.setting (seen z) s (spot_of_grant g)) g.mode g.lver r is) ended
+      (λ r is. absurd (release_silent (lease_place z.setting s) (known z.setting (seen z) s (spot_of_grant g)) g.mode g.lver r is)) ended
 
 -- ---- a value that is read from here on
 
@@ -392,7 +379,7 @@ lines_values x text c d k wake bare says = by d where
   by (ConvertsTo s r mode) grounds has =
       facts_back x (carry_decision j c (ConvertsTo s r mode) y) k
       (lease_reads x y s (spot_of r) (ForJob j) (convert_next (known x.setting (seen y) s (spot_of r)) mode r.name) (calm_there x text c s r l (named_arg x text c r l (ap (λ z. resource_named z) grounds.command)) grounds.ready)
-      (in_range_of x text c s l has) (λ q is. never_answers (known x.setting (seen y) s (spot_of r)) mode r.name q is) back)
+      (in_range_of x text c s l has) (λ q is. absurd (never_answers (known x.setting (seen y) s (spot_of r)) mode r.name q is)) back)
   by (Requests s r) grounds has =
       facts_back x (carry_decision j c (Requests s r) y) k
       (call_reads x y s.number r.path (RequestRead j) r.offset (ReadSectors 2) (λ i is. true_is_false (sym (ap (λ p. reads_values p) is)))

@@ -31,7 +31,6 @@ use Rattle.sl_holding_due.proofs.LeaseCallers.{heard_call, heard_opens, spot_ali
 use Rattle.sl_holding_due.proofs.LeaseNexts.{IsFitNext, IsPlainNext, next_fits, settling_fits}
 use Rattle.sl_holding_due.specs.DecisionGrounds.{HasGrounds}
 use Rattle.sl_holding_due.specs.Moments.{Known}
-use Rattle.sl_holding_due.specs.Promises.{Begins}
 use Rattle.sl_job_facts.proofs.JobFactsBegin.{running_then}
 use Rattle.sl_job_facts.proofs.JobsAreNumbered.{numbered_before}
 use Rattle.sl_job_facts.proofs.RepliesComeAfter.{request_late, set_late, value_late}
@@ -42,7 +41,7 @@ use Rattle.sl_lease_ways.proofs.Kept.EffectsLeave.{there_has}
 use Rattle.sl_lease_ways.proofs.Kept.HeardStands.{heard_has}
 use Rattle.sl_lease_ways.proofs.Kept.LeaseNextsLeave.{IsLate}
 use Rattle.sl_lease_ways.proofs.Kept.LinesReady.{none_open}
-use Rattle.sl_lease_ways.proofs.Kept.PlacesStand.{id_in_range, place_is_on, placed_on, spot_is}
+use Rattle.sl_lease_ways.proofs.Kept.PlacesStand.{id_in_range, place_is_on, placed_on}
 use Rattle.sl_lease_ways.proofs.Kept.PlainWalks.{DeltaFits}
 use Rattle.sl_lease_ways.proofs.Kept.UnjoinedHaveNone.{its_joining, joins_still}
 use Rattle.sl_leases.specs.Jobs.{command_numbered, command_of, job_of_start}
@@ -79,12 +78,11 @@ use Rattle.sl_trace.specs.declared.input.Input.TheVariants.{Exit, Line, Number, 
 use Rattle.sl_trace.specs.declared.reply.Reply.{Reply}
 use Rattle.sl_trace.specs.declared.reply.Reply.TheVariants.{BadCommand as Misread, Done, IoFault, IoTimeout, SpawnFault}
 use Rattle.sl_trace_law.proofs.Sessions.Owning.{session_more}
-use Rattle.sl_words.proofs.CaseLaws.{is_false, no_value, none_some, one_value, true_is_false}
+use Rattle.sl_words.proofs.CaseLaws.{no_value, none_some, one_value, true_is_false}
 use Rattle.std.proofs.Common.{ap, inl, inr, refl, subst, sym, ◌∙◌}
 use Rattle.std.specs.Prelude.{Contains, IsSome, List, None, Option, Some, [], false, filter, find, if◌then◌else◌, is_some, length, option_and_then, true, ℕ, ◌%◌, ◌+◌, ◌<◌, ◌==◌, ◌≡◌, ◌≤◌}
 
 -- ---- what is not work on an area
-
 
 delta_values : (x : Step) (s : Session) (n : DeltaNext) → Known x → DeltaFits IsLate x s n → HasValueFacts (carry_delta s n x)
 delta_values x s n k fits =
