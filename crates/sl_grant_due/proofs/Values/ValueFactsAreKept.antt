@@ -14,13 +14,13 @@ use Rattle.sl_due.specs.DueInputs.{end_holdings, leave_holdings, refuse_jobs_of,
 use Rattle.sl_due.specs.DueLease.{carry_lease, next_of_lease}
 use Rattle.sl_due.specs.DueRequests.{after_request_read, after_value_read, bits_due, owner_read, request_refusal, value_reply, write_request}
 use Rattle.sl_due.specs.Steps.{Step, add_reply, add_signal, begin_step, seen, with_input}
-use Rattle.sl_grant_due.proofs.CallsFit.{reads_values}
+use Rattle.sl_grant_due.proofs.Modes.FitsHolding.{reads_values}
 use Rattle.sl_grant_due.proofs.DeltasKeep.{free_keeps, renewal_keeps}
-use Rattle.sl_grant_due.proofs.OthersGoOn.{delta_on, fits_begin, refusal_on, removal_of_refused_on, removal_on, sent_on, stopped_on}
-use Rattle.sl_grant_due.proofs.ReadsBack.{IsRead, ReadNow, ReadsBack, facts_back, facts_from, reads_go_on, reads_itself, reply_reads, signal_reads, writes_are}
-use Rattle.sl_grant_due.proofs.ReadsByInputs.{exit_reads, failed_reads, heard_values, input_reads}
-use Rattle.sl_grant_due.proofs.ReadsByLeases.{IsElsewhere, lease_reads, write_there}
-use Rattle.sl_grant_due.proofs.ReadsByLines.{lines_values}
+use Rattle.sl_grant_due.proofs.Values.OthersGoOn.{delta_on, fits_begin, refusal_on, removal_of_refused_on, removal_on, sent_on, stopped_on}
+use Rattle.sl_grant_due.proofs.Values.ReadsBack.{IsRead, ReadNow, ReadsBack, facts_back, facts_from, reads_go_on, reads_itself, reply_reads, signal_reads, writes_are}
+use Rattle.sl_grant_due.proofs.Values.ReadsByInputs.{exit_reads, failed_reads, heard_values, input_reads}
+use Rattle.sl_grant_due.proofs.Values.ReadsByLeases.{IsElsewhere, lease_reads, write_there}
+use Rattle.sl_grant_due.proofs.Values.ReadsByLines.{lines_values}
 use Rattle.sl_grant_due.specs.ValuePromises.{HasValueFacts, ValueFactsAreKept, ValueFactsBegin}
 use Rattle.sl_holding_due.proofs.DecisionsHaveGrounds.{decisions_have_grounds}
 use Rattle.sl_holding_due.proofs.HoldingFactsAreKept.{plainly_late, surveys_no_job}

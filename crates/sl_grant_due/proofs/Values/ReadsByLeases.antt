@@ -5,8 +5,8 @@ use Rattle.sl_area.specs.Places.{block_offset, in_area, leader_offset}
 use Rattle.sl_area.specs.Roles.{block, leader}
 use Rattle.sl_due.specs.DueLease.{carry_lease, convert_for, convert_holding, for_work, grant_for, read_area, read_for, with_command, write_block, write_leader}
 use Rattle.sl_due.specs.Steps.{Step, add_call_of, add_end, add_grant, add_reply, seen}
-use Rattle.sl_grant_due.proofs.OthersGoOn.{granted_on}
-use Rattle.sl_grant_due.proofs.ReadsBack.{IsRead, ReadsBack, call_reads, end_reads, grant_reads, later_sessions, reads_go_on, reply_reads}
+use Rattle.sl_grant_due.proofs.Values.OthersGoOn.{granted_on}
+use Rattle.sl_grant_due.proofs.Values.ReadsBack.{IsRead, ReadsBack, call_reads, end_reads, grant_reads, later_sessions, reads_go_on, reply_reads}
 use Rattle.sl_holding_due.proofs.HoldingsByCalls.{call_added}
 use Rattle.sl_holding_due.proofs.HoldingsByEffects.{later_same}
 use Rattle.sl_holding_due.proofs.LeaseCallers.{spot_aligned}

@@ -1,7 +1,7 @@
 -- What stands while a value is read, and what each effect leaves of it.
 use Rattle.sl_acts.specs.SoFar.{entry_of}
 use Rattle.sl_due.specs.Steps.{Step, add_call_of, add_end, add_grant, add_move, add_reply, add_signal, add_start, seen}
-use Rattle.sl_grant_due.proofs.OthersGoOn.{GoesOn, next_start}
+use Rattle.sl_grant_due.proofs.Values.OthersGoOn.{GoesOn, next_start}
 use Rattle.sl_grant_due.proofs.WorksByEffects.{ran_before}
 use Rattle.sl_grant_due.specs.ValuePromises.{HasValueFacts}
 use Rattle.sl_holding_due.proofs.HoldingsByCalls.{call_added, not_last}

@@ -10,11 +10,12 @@ use Rattle.sl_due.specs.DueLease.{carry_lease}
 use Rattle.sl_due.specs.Steps.{Step, add_call_of, add_end, add_reply, seen, with_input}
 use Rattle.sl_due.specs.declared.decision.Decision.{Decision}
 use Rattle.sl_due.specs.declared.decision.Decision.TheVariants.{ConvertsTo, GetsValue, GivesUp, Joins, Leaves, ReadsArea, Replies, Requests, SetsValue, Shares, TakesOver}
-use Rattle.sl_grant_due.proofs.CallsFit.{named_holder, reads_values}
-use Rattle.sl_grant_due.proofs.OthersGoOn.{GoesOn, granted_on, stopped_on}
-use Rattle.sl_grant_due.proofs.ReadsBack.{Guarded, IsRead, Reader, ReadsBack, back_read, call_or, call_reads, facts_back, facts_by, get_process, guard_call, later_sessions, old_read, reads_go_on, reply_reads, writes_are}
-use Rattle.sl_grant_due.proofs.ReadsByInputs.{guard_input, input_reads}
-use Rattle.sl_grant_due.proofs.ReadsByLeases.{IsElsewhere, end_there, lease_reads, read_there, write_there}
+use Rattle.sl_grant_due.proofs.Modes.CallsFit.{named_holder}
+use Rattle.sl_grant_due.proofs.Modes.FitsHolding.{reads_values}
+use Rattle.sl_grant_due.proofs.Values.OthersGoOn.{GoesOn, granted_on, stopped_on}
+use Rattle.sl_grant_due.proofs.Values.ReadsBack.{Guarded, IsRead, Reader, ReadsBack, back_read, call_or, call_reads, facts_back, facts_by, get_process, guard_call, later_sessions, old_read, reads_go_on, reply_reads, writes_are}
+use Rattle.sl_grant_due.proofs.Values.ReadsByInputs.{guard_input, input_reads}
+use Rattle.sl_grant_due.proofs.Values.ReadsByLeases.{IsElsewhere, end_there, lease_reads, read_there, write_there}
 use Rattle.sl_grant_due.proofs.WorksByEffects.{same_session}
 use Rattle.sl_grant_due.specs.ValuePromises.{HasValueFacts}
 use Rattle.sl_holding_due.proofs.HoldingsByCalls.{call_added}
