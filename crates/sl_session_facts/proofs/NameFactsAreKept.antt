@@ -205,7 +205,7 @@ joined_on_wake past now s = by s.job where
   by None = refl
   by (Some j) = ap (λ o. option_and_then (λ (r : Replied). choose (is_join_done r.reply) (r.at + 1)) o) (same j)
 
-refused_on_wake : (past : Trace) (now : ℕ) (s : Session) → refused_after (record { reading = now; input = Wake; effects = no_effects } ∷ past) s ≡ refused_after past s
+pub refused_on_wake : (past : Trace) (now : ℕ) (s : Session) → refused_after (record { reading = now; input = Wake; effects = no_effects } ∷ past) s ≡ refused_after past s
 refused_on_wake past now s = by s.job where
   same : (j : ℕ) → reply_to (record { reading = now; input = Wake; effects = no_effects } ∷ past) j ≡ reply_to past j
   same j = either (reply_to past j) where
