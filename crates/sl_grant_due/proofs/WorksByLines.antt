@@ -159,7 +159,7 @@ since_now past t n s at is none =
       off true b = refl
       off false b = refl
 
-own_held : (t : Trace) (s : Session) (at : Spot) (g : Grant) → Contains (holdings t) g → g.session ≡ s.number → same_place g.path g.offset at.path at.base ≡ true → Contains (holdings_on t s at) g
+pub own_held : (t : Trace) (s : Session) (at : Spot) (g : Grant) → Contains (holdings t) g → g.session ≡ s.number → same_place g.path g.offset at.path at.base ≡ true → Contains (holdings_on t s at) g
 own_held t s at g there mine same =
     kept (λ (k : Grant). same_place k.path k.offset at.path at.base) (holdings_of t s) g same
     (kept (λ (k : Grant). k.session == s.number) (holdings t) g (subst (λ n. (g.session == n) ≡ true) mine (number_itself g.session)) there)

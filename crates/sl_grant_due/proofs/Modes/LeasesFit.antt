@@ -1,4 +1,5 @@
 -- The blocks that a lease writes show the session's mode, or set it.
+use Rattle.sl_grant_due.proofs.WorksByLines.{none_shared_on, own_held}
 use Rattle.sl_acts.proofs.LoopsKeep.{with_some_keeps}
 use Rattle.sl_acts.specs.Acts.{Has}
 use Rattle.sl_area.specs.Places.{block_offset, in_area, leader_offset}
@@ -20,17 +21,17 @@ use Rattle.sl_lease_ways.proofs.Kept.PlainWalks.{converted as converted_keeps, g
 use Rattle.sl_lease_ways.proofs.WayStages.{is_at_in}
 use Rattle.sl_leases.specs.Ballots.{moded_block}
 use Rattle.sl_leases.specs.Jobs.{aim_of, aim_of_command, command_numbered, process_named}
-use Rattle.sl_leases.specs.Leases.{Mode_set, has_shared_on, holdings_on, is_at, known, shared_on, spot_of_call}
+use Rattle.sl_leases.specs.Leases.{Mode_set, has_shared_on, holdings_on, is_at, known, spot_of_call}
 use Rattle.sl_leases.specs.declared.lease.Aim.{Aim}
 use Rattle.sl_leases.specs.declared.lease.Aim.TheVariants.{Converts, Settles}
 use Rattle.sl_leases.specs.declared.lease.LeaseNext.{LeaseNext}
 use Rattle.sl_leases.specs.declared.lease.LeaseNext.TheVariants.{AnswerJob, BecomeExclusive, BecomeShared, GrantJob, Nothing, ReadFor, WriteBlock, WriteLeader}
-use Rattle.sl_plain.proofs.Lists.{find_fails, find_inside, kept_inside}
+use Rattle.sl_plain.proofs.Lists.{find_fails}
 use Rattle.sl_plain.proofs.Numbers.{number_itself}
 use Rattle.sl_sector.specs.declared.sector.Block.{Block}
 use Rattle.sl_sector.specs.declared.sector.Leader.{Leader}
 use Rattle.sl_sector.specs.declared.sector.Rec.TheVariants.{BlockIs, LeaderIs}
-use Rattle.sl_sessions.specs.Sessions.{generation_of, holdings_of}
+use Rattle.sl_sessions.specs.Sessions.{generation_of}
 use Rattle.sl_sessions.specs.declared.session.Session.{Session}
 use Rattle.sl_trace.specs.Traces.{Setting, Submitted, Trace, holdings, is_shared, new_call, same_place, work_job}
 use Rattle.sl_trace.specs.declared.command.Command.{Command}
@@ -49,8 +50,7 @@ use Rattle.sl_trace.specs.declared.input.Answer.{Answer}
 use Rattle.sl_words.proofs.CaseLaws.{none_some, some_value, true_is_false}
 use Rattle.sl_words.specs.Words.{same_truth}
 use Rattle.std.proofs.Common.{ap, refl, subst, sym, ◌∙◌}
-use Rattle.std.proofs.lemmas.Bool.{eqb-true}
-use Rattle.std.specs.Prelude.{Bool, Contains, None, Option, Some, [], false, is_some, length, not, option_and_then, true, ℕ, ◌&&◌, ◌+◌, ◌==◌, ◌||◌, ◌≡◌}
+use Rattle.std.specs.Prelude.{Bool, Contains, None, Option, Some, [], false, length, not, option_and_then, true, ℕ, ◌&&◌, ◌+◌, ◌==◌, ◌||◌, ◌≡◌}
 
 -- ---- a block
 
@@ -125,20 +125,10 @@ abbrev pub OfConversion : Step → Session → Spot → ℕ → Type 0
 OfConversion x s at j =
     (c : Command) → command_numbered x.setting (seen x) j ≡ Some c → (h : Grant) → Contains (holdings (seen x)) h → same_place h.path h.offset at.path at.base ≡ true → (process_named c ≡ Some h.process) × (is_shared h.mode ≡ true)
 
-no_shared : (t : Trace) (s : Session) (at : Spot) → ((h : Grant) → Contains (holdings t) h → (h.session ≡ s.number) → same_place h.path h.offset at.path at.base ≡ true → Contains (holdings_on t s at) h → is_shared h.mode ≡ true → ⊥) → has_shared_on t s at ≡ false
-no_shared t s at never = by (shared_on t s at) refl where
-  by : (o : Option Grant) → shared_on t s at ≡ o → is_some (shared_on t s at) ≡ false
-  by None is = ap (λ o. is_some o) is
-  by (Some h) is =
-      let f = find_inside (λ (k : Grant). is_shared k.mode) (holdings_on t s at) h is in
-      let on = kept_inside (λ (k : Grant). same_place k.path k.offset at.path at.base) (holdings_of t s) h f.0 in
-      let of = kept_inside (λ (k : Grant). k.session == s.number) (holdings t) h on.0 in
-      absurd (never h of.0 (eqb-true h.session s.number of.1) on.1 f.0 f.1)
-
 became_unshared : (x : Step) (s : Session) (at : Spot) (j lver : ℕ) (c : Command) (p : ℕ) (g : Grant) → x.effects.grants ≡ [] → OfConversion x s at j → command_numbered x.setting (seen x) j ≡ Some c → process_named c ≡ Some p
     → held_otherwise (seen x) s at p Exclusive ≡ Some g → has_shared_on (seen (convert_holding j Exclusive lver g x)) s at ≡ false
 became_unshared x s at j lver c p g bare beside command named found =
-    no_shared (seen (convert_holding j Exclusive lver g x)) s at (λ h there mine place on shared.
+    none_shared_on (seen (convert_holding j Exclusive lver g x)) s at (λ h there mine place shared.
     let same : converted g Exclusive lver ≡ h = only_converted x j g Exclusive lver h bare one there (spot_same h at place ∙ sym (spot_same g at w.2)) in
     true_is_false (sym shared ∙ ap (λ (k : Grant). is_shared k.mode) (sym same)))
   where
@@ -153,9 +143,9 @@ became_unshared x s at j lver c p g bare beside command named found =
 stays_unshared : (x : Step) (s : Session) (at : Spot) (j : ℕ) (c : Command) → OfConversion x s at j → command_numbered x.setting (seen x) j ≡ Some c
     → ((d : Command) (p : ℕ) (g : Grant) → command_numbered x.setting (seen x) j ≡ Some d → process_named d ≡ Some p → held_otherwise (seen x) s at p Exclusive ≡ Some g → ⊥) → has_shared_on (seen x) s at ≡ false
 stays_unshared x s at j c beside command none =
-    no_shared (seen x) s at (λ h there mine place on shared.
+    none_shared_on (seen x) s at (λ h there mine place shared.
     let b = beside c command h there place in
-    by h b.0 on shared (held_otherwise (seen x) s at h.process Exclusive) refl)
+    by h b.0 (own_held (seen x) s at h there mine place) shared (held_otherwise (seen x) s at h.process Exclusive) refl)
   where
     by : (h : Grant) → process_named c ≡ Some h.process → Contains (holdings_on (seen x) s at) h → is_shared h.mode ≡ true → (o : Option Grant) → held_otherwise (seen x) s at h.process Exclusive ≡ o → ⊥
     by h named on shared (Some k) found = none c h.process k command named found

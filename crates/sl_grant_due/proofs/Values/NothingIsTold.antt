@@ -1,4 +1,6 @@
 -- Before an answer to a value's call is heard nothing is told of values, and no other act tells anything of them.
+use Rattle.sl_trace_law.proofs.Leases.AnswerLaws.{answers_within}
+use Rattle.sl_trace_law.proofs.Leases.HavingLaws.{Has as Having, has_one_more}
 use Rattle.sl_acts.specs.Acts.{Hears}
 use Rattle.sl_acts.specs.SoFar.{entry_of}
 use Rattle.sl_due.specs.Steps.{Step, add_end, seen}
@@ -50,7 +52,7 @@ use Rattle.sl_words.proofs.CaseLaws.{no_value, none_some, not_both, one_value, s
 use Rattle.std.proofs.Common.{ap, arith, inl, inr, refl, subst, sym, ◌∙◌}
 use Rattle.std.proofs.lemmas.Bool.{eqb-true}
 use Rattle.std.specs.Option.{option_or}
-use Rattle.std.specs.Prelude.{Bool, Contains, List, None, Option, Some, [], false, find, fold, is_none, length, map, option_map, suc, true, ℕ, ◌<◌, ◌==◌, ◌∷◌, ◌≡◌, ◌⊎◌}
+use Rattle.std.specs.Prelude.{Bool, Contains, List, None, Option, Some, [], false, find, fold, is_none, length, map, option_map, true, ℕ, ◌<◌, ◌==◌, ◌∷◌, ◌≡◌, ◌⊎◌}
 
 -- What is lawful of the values that are told so far.
 pub record TellingSoFar (x : Step) : Type 0 where
@@ -205,35 +207,18 @@ marked past e n w m there = (let v = in_map (answered_in past e n w) (submitted 
             ∙ (ap (λ b. (elim b as (λ z. Submitted) [ false ↦ d | true ↦ record d { answer = option_or d.answer (Some (answer_of past e w d.call)) } ]).answer) at ∙ ap (λ o. option_or o (Some (answer_of past e w d.call))) was),
       )
 
--- Each answer stands in an entry so far.
-answered_before : (es : Trace) (m : Submitted) (a : Answered) → Contains (submitted es) m → m.answer ≡ Some a → a.at < length es
-answered_before [] m a there is = absurd (contains_none m there)
-answered_before (e ∷ es) m a there is = by (new_or_marked e.effects.calls (length es) e.reading (mark es e e.input (submitted es)) m there) (λ d inside was. answered_before es d a inside was) where
-  up : (i n : ℕ) → i < n → i < suc n
-  up i n less = omega (arith, less)
-
-  by_input : (i : Input) → Contains (mark es e i (submitted es)) m → ((d : Submitted) → Contains (submitted es) d → d.answer ≡ Some a → a.at < length es) → a.at < suc (length es)
-  by_input (Told n w) inside rest = at_answer (marked es e n w m inside) where
-    at_answer : Marked es e n w m → a.at < suc (length es)
-    at_answer k = same k k.same where
-      same : (k : Marked es e n w m) → (k.before.answer ≡ m.answer) ⊎ ((k.before.answer ≡ None) × (m.call.number ≡ n) × (m.answer ≡ Some (answer_of es e w k.before.call))) → a.at < suc (length es)
-      same k (inl was) = up a.at (length es) (rest k.before k.there (was ∙ is))
-      same k (inr new) = subst (λ (b : Answered). b.at < suc (length es)) (some_value (answer_of es e w k.before.call) a (sym new.2 ∙ is)) (omega arith)
-  by_input (Line text) inside rest = up a.at (length es) (rest m inside is)
-  by_input (Number text) inside rest = up a.at (length es) (rest m inside is)
-  by_input (Exit p) inside rest = up a.at (length es) (rest m inside is)
-  by_input (Spawned p ok) inside rest = up a.at (length es) (rest m inside is)
-  by_input Wake inside rest = up a.at (length es) (rest m inside is)
-
-  by : (m.answer ≡ None) ⊎ Contains (mark es e e.input (submitted es)) m → ((d : Submitted) → Contains (submitted es) d → d.answer ≡ Some a → a.at < length es) → a.at < suc (length es)
-  by (inl none) rest = absurd (no_value a m.answer is none)
-  by (inr inside) rest = by_input e.input inside rest
+having : {A : Type 0} (xs : List A) (x : A) → Contains xs x → Having xs x
+having [] x there = absurd (contains_none x there)
+having {A} (y ∷ ys) x there = by (contains_cases y ys x there) (λ inside. having ys x inside) where
+  by : (y ≡ x) ⊎ Contains ys x → (Contains ys x → Having ys x) → Having (y ∷ ys) x
+  by (inl is) rest = record { newer = []; older = ys; is = ap (λ z. z ∷ ys) is }
+  by (inr inside) rest = has_one_more y ys x (rest inside)
 
 -- So a call that was answered in this entry is that which the input answers.
 answered_now : (x : Step) (m : Submitted) (w : Answer) → Contains (submitted (seen x)) m → IsAnsweredAt (length x.past) m w → (n : ℕ) × (v : Answer) × (x.input ≡ Told n v) × (m.call.number ≡ n)
 answered_now x m w there told = by (new_or_marked x.effects.calls (length x.past) x.reading (mark x.past (entry_of x) x.input (submitted x.past)) m there) where
   never : (d : Submitted) → Contains (submitted x.past) d → d.answer ≡ m.answer → ⊥
-  never d inside was = same told.0.at (length x.past) (answered_before x.past d told.0 inside (was ∙ told.1)) told.2 where
+  never d inside was = same told.0.at (length x.past) (answers_within x.past d (having (submitted x.past) d inside) told.0 (was ∙ told.1)) told.2 where
     same : (i n : ℕ) → i < n → i ≡ n → ⊥
     same i n less is = omega (arith, less, is)
 
