@@ -3,6 +3,7 @@ pub mod WorksByInputs
 pub mod WorksByLines
 pub mod WorksByGrants
 pub mod WorksByExits
+pub mod OthersGoOn
 pub mod WorksByDeltas
 pub mod WorksByAnswers
 pub mod WorkFactsAreKept

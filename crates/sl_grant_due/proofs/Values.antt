@@ -1,5 +1,4 @@
 -- What stands while a value is read, and what is told of values.
-pub mod OthersGoOn
 pub mod ReadsBack
 pub mod ReadsByInputs
 pub mod ReadsByLeases

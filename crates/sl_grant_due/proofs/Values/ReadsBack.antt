@@ -1,7 +1,7 @@
 -- What stands while a value is read, and what each effect leaves of it.
 use Rattle.sl_acts.specs.SoFar.{entry_of}
 use Rattle.sl_due.specs.Steps.{Step, add_call_of, add_end, add_grant, add_move, add_reply, add_signal, add_start, seen}
-use Rattle.sl_grant_due.proofs.Values.OthersGoOn.{GoesOn, next_start}
+use Rattle.sl_grant_due.proofs.OthersGoOn.{CallsOn, GoesOn, next_start}
 use Rattle.sl_grant_due.proofs.WorksByEffects.{ran_before}
 use Rattle.sl_grant_due.specs.ValuePromises.{HasValueFacts}
 use Rattle.sl_holding_due.proofs.HoldingsByCalls.{call_added, not_last}
@@ -356,12 +356,13 @@ reads_go_on x =
       signals = λ y q g h. signal_reads x y q g h;
       moves = λ y m h. move_reads x y m h;
       starts = λ y program job stood h. start_reads x y program job stood h;
-      grants = λ y g h. grant_reads x y g h;
       replies = λ y j r same h. reply_reads x y j r same h;
-      calls = λ y s path q o op plain later h.
-          call_reads x y s.number path q o op (λ j is. reads_no_area q plain j is) (λ k t m there its is. later_sessions x y s.number path q o op later k t is)
-          (λ m j t k mine. ap (λ b. b && (is_write op && is_on x.setting.layout (spot_of_call x.setting.layout m) (call_added s.number path q o op y))) plain) h;
     }
+
+pub reads_calls : (x : Step) → CallsOn (ReadsBack x) (ReadsBack x)
+reads_calls x y s path q o op plain later h =
+    call_reads x y s.number path q o op (λ j is. reads_no_area q plain j is) (λ k t m there its is. later_sessions x y s.number path q o op later k t is)
+    (λ m j t k mine. ap (λ b. b && (is_write op && is_on x.setting.layout (spot_of_call x.setting.layout m) (call_added s.number path q o op y))) plain) h
 
 -- ---- what is known at each reading
 

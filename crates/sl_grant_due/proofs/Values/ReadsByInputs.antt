@@ -4,7 +4,7 @@ use Rattle.sl_acts.specs.Acts.{Expects}
 use Rattle.sl_acts.specs.SoFar.{entry_of}
 use Rattle.sl_due.specs.DueInputs.{end_holdings, leave_holdings, refuse_jobs_of, when_running}
 use Rattle.sl_due.specs.Steps.{Step, add_end, add_grant, add_reply, seen, with_input}
-use Rattle.sl_grant_due.proofs.Values.OthersGoOn.{said_on}
+use Rattle.sl_grant_due.proofs.OthersGoOn.{said_on}
 use Rattle.sl_grant_due.proofs.Values.ReadsBack.{AllAbove, Guarded, IsRead, ReadNow, Reader, ReadsBack, end_reads, facts_by, guard_end, guard_grant, guard_reply, read_now, reads_go_on, reads_itself, same_reader, through, writes_are}
 use Rattle.sl_grant_due.proofs.WorksByExits.{Leaving, left_so, refused_so, refused_there}
 use Rattle.sl_grant_due.proofs.WorksByInputs.{command_was, none_heard, unanswered}

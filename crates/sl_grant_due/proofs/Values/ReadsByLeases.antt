@@ -5,7 +5,7 @@ use Rattle.sl_area.specs.Places.{block_offset, in_area, leader_offset}
 use Rattle.sl_area.specs.Roles.{block, leader}
 use Rattle.sl_due.specs.DueLease.{carry_lease, convert_for, convert_holding, for_work, grant_for, read_area, read_for, with_command, write_block, write_leader}
 use Rattle.sl_due.specs.Steps.{Step, add_call_of, add_end, add_grant, add_reply, seen}
-use Rattle.sl_grant_due.proofs.Values.OthersGoOn.{granted_on}
+use Rattle.sl_grant_due.proofs.OthersGoOn.{granted_on}
 use Rattle.sl_grant_due.proofs.Values.ReadsBack.{IsRead, ReadsBack, call_reads, end_reads, grant_reads, later_sessions, reads_go_on, reply_reads}
 use Rattle.sl_holding_due.proofs.HoldingsByCalls.{call_added}
 use Rattle.sl_holding_due.proofs.HoldingsByEffects.{later_same}
@@ -153,7 +153,7 @@ lease_reads x z s at work (AnswerJob r) e range late h =
     with_some_keeps (λ y. ReadsBack x y) (work_job work) (λ j. add_reply j r) z (λ j is k. reply_reads x z j r (later_same z.past (entry_of z) (record { job = j; reply = r }) (late r refl)) k) h
 lease_reads x z s at work (GrantJob mode lver) e range late h =
     with_some_keeps (λ y. ReadsBack x y) (work_job work) (λ j. with_command j (λ c. grant_for s j c mode lver)) z
-    (λ j is k. with_some_keeps (λ y. ReadsBack x y) (command_numbered z.setting (seen z) j) (λ c. grant_for s j c mode lver) z (λ c found f. granted_on (ReadsBack x) (reads_go_on x) z s j c mode lver f) k) h
+    (λ j is k. with_some_keeps (λ y. ReadsBack x y) (command_numbered z.setting (seen z) j) (λ c. grant_for s j c mode lver) z (λ c found f. granted_on (ReadsBack x) (reads_go_on x) (grant_reads x) z s j c mode lver f) k) h
 lease_reads x z s at work (BecomeShared lver l) e range late h =
     converted_there (λ y. write_leader s at Settling FreeLeader l y) x z at s work Shared lver e (λ y k. leader_there x y at s Settling FreeLeader l e k) h
 lease_reads x z s at work (BecomeExclusive lver b) e range late h =

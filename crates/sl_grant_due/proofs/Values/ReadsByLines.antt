@@ -12,8 +12,8 @@ use Rattle.sl_due.specs.declared.decision.Decision.{Decision}
 use Rattle.sl_due.specs.declared.decision.Decision.TheVariants.{ConvertsTo, GetsValue, GivesUp, Joins, Leaves, ReadsArea, Replies, Requests, SetsValue, Shares, TakesOver}
 use Rattle.sl_grant_due.proofs.Modes.CallsFit.{named_holder}
 use Rattle.sl_grant_due.proofs.Modes.FitsHolding.{reads_values}
-use Rattle.sl_grant_due.proofs.Values.OthersGoOn.{GoesOn, granted_on, stopped_on}
-use Rattle.sl_grant_due.proofs.Values.ReadsBack.{Guarded, IsRead, Reader, ReadsBack, back_read, call_or, call_reads, facts_back, facts_by, get_process, guard_call, later_sessions, old_read, reads_go_on, reply_reads, writes_are}
+use Rattle.sl_grant_due.proofs.OthersGoOn.{GoesOn, granted_on, stopped_on}
+use Rattle.sl_grant_due.proofs.Values.ReadsBack.{Guarded, IsRead, Reader, ReadsBack, back_read, call_or, call_reads, facts_back, facts_by, get_process, guard_call, later_sessions, old_read, grant_reads, reads_go_on, reply_reads, writes_are}
 use Rattle.sl_grant_due.proofs.Values.ReadsByInputs.{guard_input, input_reads}
 use Rattle.sl_grant_due.proofs.Values.ReadsByLeases.{IsElsewhere, end_there, lease_reads, read_there, write_there}
 use Rattle.sl_grant_due.proofs.WorksByEffects.{same_session}
@@ -369,13 +369,13 @@ lines_values x text c d k wake bare says = by d where
   by (ReadsArea s r) grounds has =
       facts_back x (carry_decision j c (ReadsArea s r) y) k
       (read_there x y (spot_of r) s (ForJob j) r.name (calm_there x text c s r l (named_arg x text c r l (asked_resource x.setting c r (k.0.setting.reads text c says) grounds.acquires.asks).1) grounds.acquires.ready) back)
-  by (Shares s lver) grounds has = facts_back x (carry_decision j c (Shares s lver) y) k (granted_on (ReadsBack x) on y s j c Shared lver back)
+  by (Shares s lver) grounds has = facts_back x (carry_decision j c (Shares s lver) y) k (granted_on (ReadsBack x) on (grant_reads x) y s j c Shared lver back)
   by (GivesUp s g) grounds has = facts_back x (carry_decision j c (GivesUp s g) y) k (gives_up_reads x text c s g l has grounds)
   by (TakesOver s g) grounds has =
       let f = find_inside is_orphan (holdings_on (seen x) s (spot_of grounds.resource)) g grounds.orphan in
       let place : same_place g.path g.offset grounds.resource.path grounds.resource.offset ≡ true = (kept_inside (λ (e : Grant). same_place e.path e.offset grounds.resource.path grounds.resource.offset) (holdings_of (seen x) s) g f.0).1 in
       facts_back x (carry_decision j c (TakesOver s g) y) k
-      (granted_on (ReadsBack x) on (add_end (end_of g) y) s j c g.mode g.lver
+      (granted_on (ReadsBack x) on (grant_reads x) (add_end (end_of g) y) s j c g.mode g.lver
       (end_there x y (spot_of grounds.resource) g (calm_there x text c s grounds.resource l (named_arg x text c grounds.resource l (ap (λ z. resource_named z) grounds.command)) grounds.ready) place back))
   by (ConvertsTo s r mode) grounds has =
       facts_back x (carry_decision j c (ConvertsTo s r mode) y) k

@@ -16,8 +16,8 @@ use Rattle.sl_due.specs.DueRequests.{after_request_read, after_value_read, bits_
 use Rattle.sl_due.specs.Steps.{Step, add_reply, add_signal, begin_step, seen, with_input}
 use Rattle.sl_grant_due.proofs.Modes.FitsHolding.{reads_values}
 use Rattle.sl_grant_due.proofs.DeltasKeep.{free_keeps, renewal_keeps}
-use Rattle.sl_grant_due.proofs.Values.OthersGoOn.{delta_on, fits_begin, refusal_on, removal_of_refused_on, removal_on, sent_on, stopped_on}
-use Rattle.sl_grant_due.proofs.Values.ReadsBack.{IsRead, ReadNow, ReadsBack, facts_back, facts_from, reads_go_on, reads_itself, reply_reads, signal_reads, writes_are}
+use Rattle.sl_grant_due.proofs.OthersGoOn.{delta_on, fits_begin, refusal_on, removal_of_refused_on, removal_on, sent_on, stopped_on}
+use Rattle.sl_grant_due.proofs.Values.ReadsBack.{IsRead, ReadNow, ReadsBack, facts_back, facts_from, reads_calls, reads_go_on, reads_itself, reply_reads, signal_reads, writes_are}
 use Rattle.sl_grant_due.proofs.Values.ReadsByInputs.{exit_reads, failed_reads, heard_values, input_reads}
 use Rattle.sl_grant_due.proofs.Values.ReadsByLeases.{IsElsewhere, lease_reads, write_there}
 use Rattle.sl_grant_due.proofs.Values.ReadsByLines.{lines_values}
@@ -87,7 +87,7 @@ use Rattle.std.specs.Prelude.{Contains, IsSome, List, None, Option, Some, [], fa
 delta_values : (x : Step) (s : Session) (n : DeltaNext) → Known x → DeltaFits IsLate x s n → HasValueFacts (carry_delta s n x)
 delta_values x s n k fits =
     facts_back x (carry_delta s n x) k
-    (delta_on (ReadsBack x) (reads_go_on x) x s n (fits_begin IsLate x s n fits)
+    (delta_on (ReadsBack x) (ReadsBack x) (reads_go_on x) (reads_calls x) (λ z h. h) x s n (fits_begin IsLate x s n fits)
     (λ i r is. later_same x.past (entry_of x) (record { job = i; reply = r }) (subst (λ z. DeltaFits IsLate x s z) is fits)) (λ r i is. subst (λ z. DeltaFits IsLate x s z) is fits) (reads_itself x))
 
 told_values : (x : Step) (j : ℕ) (r : Reply) → Known x → is_before_input r ≡ false → HasValueFacts (add_reply j r x)
@@ -194,7 +194,7 @@ value_facts_are_kept =
       shown = λ x s m bytes hears is joined begins k.
           facts_back x (signal_and_refuse s None x) k (stopped_on (ReadsBack x) (reads_go_on x) x s None (surveys_no_job x s m (Read bytes) k hears is) (reads_itself x));
       sees = λ x s number bytes at g has input held k.
-          facts_back x (see_request s g x) k ((reads_go_on x).calls x s g.path SeeRequest (request_offset x.setting.layout g.offset) (ReadSectors 1) refl refl (reads_itself x));
+          facts_back x (see_request s g x) k (reads_calls x x s g.path SeeRequest (request_offset x.setting.layout g.offset) (ReadSectors 1) refl refl (reads_itself x));
       leads_on = λ x s work step m answer aim hears is on at k. led_values x s work step m answer aim hears is k;
       fails = λ x s m j hears lone runs k. told_values x j (IoFault m.call.number) k refl;
       has_asked = λ x s m j owner hears is runs k. told_values x j Done k refl;
@@ -208,12 +208,12 @@ value_facts_are_kept =
       renews = λ x s has wake joined k.
           facts_back x _ k
           (renewal_keeps (λ z. ReadsBack x z) x s (delta_of_session x.setting s) x.reading (delta_known x.setting (seen x) s) (bits_due x.setting (calls_of (seen x) s) x.reading)
-          (λ d. (reads_go_on x).calls x s s.path Renewal (own_offset x.setting s) (WriteRecord (DeltaIs d)) refl refl (reads_itself x)) (reads_itself x));
+          (λ d. reads_calls x x s s.path Renewal (own_offset x.setting s) (WriteRecord (DeltaIs d)) refl refl (reads_itself x)) (reads_itself x));
       settles = λ x s at has wake active aligned none k. settled_values x s at has wake aligned none k;
       parts = λ x s has joined recovers free quiet k. facts_back x (remove_connection s.lockspace x) k (removal_on (ReadsBack x) (reads_go_on x) x s.lockspace (reads_itself x));
       frees = λ x s has joined well free quiet k.
           facts_back x _ k
-          (free_keeps (λ z. ReadsBack x z) x s (λ j d. (reads_go_on x).calls x s s.path (Leaving j) (own_offset x.setting s) (WriteRecord (DeltaIs d)) refl refl (reads_itself x)) (reads_itself x));
+          (free_keeps (λ z. ReadsBack x z) x s (λ j d. reads_calls x x s s.path (Leaving j) (own_offset x.setting s) (WriteRecord (DeltaIs d)) refl refl (reads_itself x)) (reads_itself x));
     }
 
 -- ---- once a step has begun

@@ -1,4 +1,4 @@
--- What effects keep that end nothing, work on no area and begin no session is kept by removals, refusals, signals, grants and delta leases.
+-- What each effect keeps is kept by removals, refusals, signals, grants and delta leases.
 use Rattle.sl_acts.proofs.LoopsKeep.{for_each_keeps, when_keeps}
 use Rattle.sl_acts.specs.SoFar.{entry_of}
 use Rattle.sl_due.specs.DueDelta.{carry_delta, for_joining, move_connection, read_own_sector, register, survey, write_own_sector}
@@ -45,15 +45,17 @@ use Rattle.std.specs.Prelude.{Bool, List, None, Option, Some, false, filter, is_
 abbrev pub next_start : Step → List ℕ → Option ℕ → Option ℕ → Start
 next_start x program job stood = record { process = next_child (seen x); program = program; job = job; stands_for = stood }
 
--- What each effect keeps but an end: a reply that leaves the calls as they are, a child with the next number, and a call that is no work on
--- an area and begins no session.
+-- What each effect keeps that is neither an end, a grant nor a call: a reply leaves the calls as they are, a child has the next number.
 pub record GoesOn (K : Step → Type 0) : Type 0 where
   pub signals : (x : Step) (p : ℕ) (g : Signal) → K x → K (add_signal p g x)
   pub moves : (x : Step) (m : Move) → K x → K (add_move m x)
   pub starts : (x : Step) (program : List ℕ) (job stood : Option ℕ) → K x → K (add_start (next_start x program job stood) x)
-  pub grants : (x : Step) (g : Grant) → K x → K (add_grant g x)
   pub replies : (x : Step) (j : ℕ) (r : Reply) → SameCalls x.past (entry_of x) (record { job = j; reply = r }) → K x → K (add_reply j r x)
-  pub calls : (x : Step) (s : Session) (path : List ℕ) (p : Purpose) (o : ℕ) (op : Op) → is_area_work p ≡ false → is_join_call FirstRead p ≡ false → K x → K (add_call_of s.number path p o op x)
+
+-- What stands after a call that is no work on an area and begins no session.
+abbrev pub CallsOn : (Step → Type 0) → (Step → Type 0) → Type 0
+CallsOn K L =
+    (x : Step) (s : Session) (path : List ℕ) (p : Purpose) (o : ℕ) (op : Op) → is_area_work p ≡ false → is_join_call FirstRead p ≡ false → K x → L (add_call_of s.number path p o op x)
 
 -- ---- removals and refusals
 
@@ -88,6 +90,9 @@ pub sent_on : (K : Step → Type 0) → GoesOn K → (y : Step) (p : ℕ) (signa
 sent_on K g y p Term h = told_on K g y p (stopper_of y.setting (seen y) p) h
 sent_on K g y p Kill h = g.signals y p Kill h
 
+pub signalled_on : (K : Step → Type 0) → GoesOn K → (y : Step) (signal : Signal) (s : Session) → K y → K (signal_holders signal s y)
+signalled_on K g y signal s h = for_each_keeps K (holders_of (seen y) s) (λ p. send p signal) y (λ p there z k. sent_on K g z p signal k) h
+
 -- A stop of a session whose entry answers no job.
 pub stopped_on : (K : Step → Type 0) → GoesOn K → (y : Step) (s : Session) (kept : Option ℕ) → AnswersNoJob y.past y.input → K y → K (signal_and_refuse s kept y)
 unfolding signal_and_refuse
@@ -118,16 +123,17 @@ said_on K g x (Some j) r later h = when_keeps K (is_running (seen x) j) (add_rep
 
 -- ---- grants
 
-granted_reply : (K : Step → Type 0) → GoesOn K → (x : Step) (j lver : ℕ) (e : Grant) → K x → K (add_reply j (Granted lver) (add_grant e x))
-granted_reply K g x j lver e h =
+granted_reply : (K : Step → Type 0) → GoesOn K → ((x : Step) (e : Grant) → K x → K (add_grant e x)) → (x : Step) (j lver : ℕ) (e : Grant) → K x → K (add_reply j (Granted lver) (add_grant e x))
+granted_reply K g grants x j lver e h =
     let y : Step = add_grant e x in
-    g.replies y j (Granted lver) (later_same y.past (entry_of y) (record { job = j; reply = Granted lver }) refl) (g.grants x e h)
+    g.replies y j (Granted lver) (later_same y.past (entry_of y) (record { job = j; reply = Granted lver }) refl) (grants x e h)
 
-pub granted_on : (K : Step → Type 0) → GoesOn K → (x : Step) (s : Session) (j : ℕ) (c : Command) (mode : Mode) (lver : ℕ) → K x → K (grant_for s j c mode lver x)
-granted_on K g x s j (Acquire r shared p persistent) mode lver h = granted_reply K g x j lver (grant_of s r p mode lver persistent) h
-granted_on K g x s j (TakeOver r shared p persistent) mode lver h = granted_reply K g x j lver (grant_of s r p mode lver persistent) h
-granted_on K g x s j (RunProgram r shared path) mode lver h = g.starts (add_grant (grant_of s r (next_child (seen x)) mode lver false) x) path (Some j) None (g.grants x (grant_of s r (next_child (seen x)) mode lver false) h)
-granted_on K g x s j c mode lver h = h
+pub granted_on : (K : Step → Type 0) → GoesOn K → ((x : Step) (e : Grant) → K x → K (add_grant e x)) → (x : Step) (s : Session) (j : ℕ) (c : Command) (mode : Mode) (lver : ℕ) → K x → K (grant_for s j c mode lver x)
+granted_on K g grants x s j (Acquire r shared p persistent) mode lver h = granted_reply K g grants x j lver (grant_of s r p mode lver persistent) h
+granted_on K g grants x s j (TakeOver r shared p persistent) mode lver h = granted_reply K g grants x j lver (grant_of s r p mode lver persistent) h
+granted_on K g grants x s j (RunProgram r shared path) mode lver h =
+    g.starts (add_grant (grant_of s r (next_child (seen x)) mode lver false) x) path (Some j) None (grants x (grant_of s r (next_child (seen x)) mode lver false) h)
+granted_on K g grants x s j c mode lver h = h
 
 -- ---- delta leases
 
@@ -144,41 +150,41 @@ BeginsNone (RegisterAndRead step) = same_join_step FirstRead step ≡ false
 BeginsNone n = Unit {0}
 
 -- What is replied must leave the calls as they are.
-pub delta_on : (K : Step → Type 0) → GoesOn K → (x : Step) (s : Session) (n : DeltaNext) → BeginsNone n → ((j : ℕ) (r : Reply) → n ≡ RefuseJoin r → SameCalls x.past (entry_of x) (record { job = j; reply = r }))
-    → ((r : Reply) (j : ℕ) → n ≡ EndLeaving j r → is_before_input r ≡ false) → K x → K (carry_delta s n x)
+pub delta_on : (K L : Step → Type 0) → GoesOn K → CallsOn K L → ((z : Step) → K z → L z) → (x : Step) (s : Session) (n : DeltaNext) → BeginsNone n → ((j : ℕ) (r : Reply) → n ≡ RefuseJoin r → SameCalls x.past (entry_of x) (record { job = j; reply = r }))
+    → ((r : Reply) (j : ℕ) → n ≡ EndLeaving j r → is_before_input r ≡ false) → K x → L (carry_delta s n x)
 unfolding carry_delta
-delta_on K g x s Nothing none same late h = h
-delta_on K g x s (RefuseJoin r) none same late h = joining_on K x s (λ j. refuse j r) (λ j. refusal_on K g x j r (same j r refl) h) h
-delta_on K g x s (ReadOwn step) none same late h =
-    joining_on K x s (λ j. read_own_sector s (Joining j step)) (λ j. g.calls x s s.path (Joining j step) (own_offset x.setting s) (ReadSectors 1) refl none h) h
-delta_on K g x s (RegisterAndRead step) none same late h =
-    joining_on K x s (λ j z. read_own_sector s (Joining j step) (register s z))
-    (λ j. g.calls (register s x) s s.path (Joining j step) (own_offset x.setting s) (ReadSectors 1) refl none (g.moves x (Register s.lockspace (x.reading + fail x.setting.timing)) h)) h
-delta_on K g x s (WriteClaim d) none same late h =
-    joining_on K x s (λ j. write_own_sector s (Joining j ClaimWrite) d) (λ j. g.calls x s s.path (Joining j ClaimWrite) (own_offset x.setting s) (WriteRecord (DeltaIs d)) refl refl h) h
-delta_on K g x s Disconnect none same late h = removal_on K g x s.lockspace h
-delta_on K g x s (WriteFirst d) none same late h =
-    joining_on K x s (λ j. write_own_sector s (Joining j FirstRenewal) d) (λ j. g.calls x s s.path (Joining j FirstRenewal) (own_offset x.setting s) (WriteRecord (DeltaIs d)) refl refl h) h
-delta_on K g x s (Join generation renewed) none same late h =
-    joining_on K x s (λ j z. survey s (add_reply j (Generation generation) (move_connection s renewed z)))
+delta_on K L g calls within x s Nothing none same late h = within x h
+delta_on K L g calls within x s (RefuseJoin r) none same late h = joining_on L x s (λ j. refuse j r) (λ j. within (refuse j r x) (refusal_on K g x j r (same j r refl) h)) (within x h)
+delta_on K L g calls within x s (ReadOwn step) none same late h =
+    joining_on L x s (λ j. read_own_sector s (Joining j step)) (λ j. calls x s s.path (Joining j step) (own_offset x.setting s) (ReadSectors 1) refl none h) (within x h)
+delta_on K L g calls within x s (RegisterAndRead step) none same late h =
+    joining_on L x s (λ j z. read_own_sector s (Joining j step) (register s z))
+    (λ j. calls (register s x) s s.path (Joining j step) (own_offset x.setting s) (ReadSectors 1) refl none (g.moves x (Register s.lockspace (x.reading + fail x.setting.timing)) h)) (within x h)
+delta_on K L g calls within x s (WriteClaim d) none same late h =
+    joining_on L x s (λ j. write_own_sector s (Joining j ClaimWrite) d) (λ j. calls x s s.path (Joining j ClaimWrite) (own_offset x.setting s) (WriteRecord (DeltaIs d)) refl refl h) (within x h)
+delta_on K L g calls within x s Disconnect none same late h = within (remove_connection s.lockspace x) (removal_on K g x s.lockspace h)
+delta_on K L g calls within x s (WriteFirst d) none same late h =
+    joining_on L x s (λ j. write_own_sector s (Joining j FirstRenewal) d) (λ j. calls x s s.path (Joining j FirstRenewal) (own_offset x.setting s) (WriteRecord (DeltaIs d)) refl refl h) (within x h)
+delta_on K L g calls within x s (Join generation renewed) none same late h =
+    joining_on L x s (λ j z. survey s (add_reply j (Generation generation) (move_connection s renewed z)))
     (λ j.
     let y : Step = move_connection s renewed x in
-    g.calls (add_reply j (Generation generation) y) s s.path Survey s.offset (ReadSectors x.setting.layout.hosts) refl refl
-    (g.replies y j (Generation generation) (later_same y.past (entry_of y) (record { job = j; reply = Generation generation }) refl) (g.moves x (Renew s.lockspace (renewed + fail x.setting.timing)) h))) h
-delta_on K g x s (MoveConnection renewed) none same late h =
-    g.calls (move_connection s renewed x) s s.path Survey s.offset (ReadSectors x.setting.layout.hosts) refl refl (g.moves x (Renew s.lockspace (renewed + fail x.setting.timing)) h)
-delta_on K g x s (WriteRenewal d) none same late h = g.calls x s s.path Renewal (own_offset x.setting s) (WriteRecord (DeltaIs d)) refl refl h
-delta_on K g x s (WriteFree j d) none same late h = g.calls x s s.path (Leaving j) (own_offset x.setting s) (WriteRecord (DeltaIs d)) refl refl h
-delta_on K g x s (EndLeaving j r) none same late h = by (is_running (seen x) j) where
+    calls (add_reply j (Generation generation) y) s s.path Survey s.offset (ReadSectors x.setting.layout.hosts) refl refl
+    (g.replies y j (Generation generation) (later_same y.past (entry_of y) (record { job = j; reply = Generation generation }) refl) (g.moves x (Renew s.lockspace (renewed + fail x.setting.timing)) h))) (within x h)
+delta_on K L g calls within x s (MoveConnection renewed) none same late h =
+    calls (move_connection s renewed x) s s.path Survey s.offset (ReadSectors x.setting.layout.hosts) refl refl (g.moves x (Renew s.lockspace (renewed + fail x.setting.timing)) h)
+delta_on K L g calls within x s (WriteRenewal d) none same late h = calls x s s.path Renewal (own_offset x.setting s) (WriteRecord (DeltaIs d)) refl refl h
+delta_on K L g calls within x s (WriteFree j d) none same late h = calls x s s.path (Leaving j) (own_offset x.setting s) (WriteRecord (DeltaIs d)) refl refl h
+delta_on K L g calls within x s (EndLeaving j r) none same late h = by (is_running (seen x) j) where
   y : Step
   y = remove_connection s.lockspace x
 
   there : K y
   there = removal_on K g x s.lockspace h
 
-  by : (b : Bool) → K (when b (add_reply j r) y)
-  by true = g.replies y j r (later_same y.past (entry_of y) (record { job = j; reply = r }) (late r j refl)) there
-  by false = there
+  by : (b : Bool) → L (when b (add_reply j r) y)
+  by true = within (add_reply j r y) (g.replies y j r (later_same y.past (entry_of y) (record { job = j; reply = r }) (late r j refl)) there)
+  by false = within y there
 
 -- What fits begins no session.
 pub fits_begin : (A : Reply → Type 0) (y : Step) (s : Session) (n : DeltaNext) → DeltaFits A y s n → BeginsNone n
