@@ -1,19 +1,16 @@
 -- The session of each process that is granted a resource is active, so the grants are lawful.
 use Rattle.sl_acts.proofs.ActsTogether.{both}
 use Rattle.sl_acts.proofs.DecisionsAreTheirs.{Of}
-use Rattle.sl_acts.proofs.LoopsKeep.{for_each_keeps, when_keeps}
+use Rattle.sl_acts.proofs.LoopsKeep.{for_each_keeps}
 use Rattle.sl_acts.proofs.PlainActs.{line_has}
 use Rattle.sl_acts.specs.Acts.{Has, Hears}
 use Rattle.sl_acts.specs.SoFar.{entry_of}
 use Rattle.sl_area.specs.Places.{block_offset, leader_offset, request_offset}
-use Rattle.sl_due.specs.DueAnswers.{set_reply}
-use Rattle.sl_due.specs.DueCommands.{after_end, answer_line, carry_decision}
-use Rattle.sl_due.specs.DueDelta.{carry_delta}
-use Rattle.sl_due.specs.DueFirst.{begin_recoveries, begin_recovery, begins_now, refuse, remove_connection, remove_of_refused, send, signal_and_refuse}
-use Rattle.sl_due.specs.DueInputs.{end_holdings, leave_holdings, refuse_jobs_of, started_reply, when_running}
+use Rattle.sl_due.specs.DueCommands.{after_end, carry_decision}
+use Rattle.sl_due.specs.DueFirst.{begin_recoveries, remove_connection, send, signal_and_refuse}
+use Rattle.sl_due.specs.DueInputs.{leave_holdings, refuse_jobs_of}
 use Rattle.sl_due.specs.DueLease.{carry_lease, convert_for, convert_holding, for_work, goes_on, grant_for, grant_of, next_of_lease, with_command}
-use Rattle.sl_due.specs.DueRequests.{after_request_read, after_value_read, bits_due}
-use Rattle.sl_due.specs.Steps.{Step, add_call_at, add_end, add_move, add_reply, add_signal, begin_step, seen, when, with_input, with_some}
+use Rattle.sl_due.specs.Steps.{Step, add_call_at, add_end, add_move, add_reply, begin_step, seen, when, with_input, with_some}
 use Rattle.sl_due.specs.declared.decision.Decision.{Decision}
 use Rattle.sl_due.specs.declared.decision.Decision.TheVariants.{ConvertsTo, GetsValue, GivesUp, Joins, Leaves, ReadsArea, Replies, Requests, SetsValue, Shares, TakesOver}
 use Rattle.sl_grant_due.proofs.ActsOnto.{onto}
@@ -21,15 +18,15 @@ use Rattle.sl_grant_due.proofs.DeltasKeep.{free_keeps}
 use Rattle.sl_grant_due.proofs.EndsAreLawful.{last_or}
 use Rattle.sl_grant_due.proofs.GrantlessLines.{converting_grants, released_grants}
 use Rattle.sl_grant_due.proofs.GrantsStand.{grants_are_lawful}
-use Rattle.sl_grant_due.proofs.OrphansAreLawful.{asked_grants, left_orphans, orphans_are_lawful, orphans_begin, removed_grants, stopped_grants}
+use Rattle.sl_grant_due.proofs.NothingGranted.{GrantingActs, by_granting, none_begin, stopped_grants}
+use Rattle.sl_grant_due.proofs.OrphansAreLawful.{left_orphans, orphans_are_lawful, orphans_begin}
 use Rattle.sl_grant_due.specs.GrantPromises.{ActiveSoFar, ActivesAreKept, ActivesBegin, GrantingBegins, GrantingIsLawful, GrantingSoFar, OrphansSoFar}
 use Rattle.sl_holding_due.proofs.DecisionsHaveGrounds.{decisions_have_grounds}
 use Rattle.sl_holding_due.proofs.HoldingFactsAreKept.{holding_facts_are_kept}
 use Rattle.sl_holding_due.proofs.HoldingFactsBegin.{holding_facts_begin}
 use Rattle.sl_holding_due.proofs.HoldingsByLines.{active_joined}
 use Rattle.sl_holding_due.proofs.LeaseConversions.{converted, otherwise}
-use Rattle.sl_holding_due.proofs.LeaseNexts.{settling_fits}
-use Rattle.sl_holding_due.proofs.MomentsAreKept.{delta_ungranting, no_grants, refused_alike, said_grants, same, sent_alike, settling_ungranting}
+use Rattle.sl_holding_due.proofs.MomentsAreKept.{same}
 use Rattle.sl_holding_due.specs.DecisionGrounds.{AsksLease, HasGrounds}
 use Rattle.sl_holding_due.specs.Moments.{Known}
 use Rattle.sl_holding_due.specs.Promises.{HasHoldingFacts}
@@ -41,8 +38,7 @@ use Rattle.sl_lease_due.proofs.TurnsStay.{replied_active, turned_by}
 use Rattle.sl_lease_due.proofs.WorkIsActive.{work_is_active}
 use Rattle.sl_lease_ways.proofs.Kept.EffectsLeave.{made_call, there_has}
 use Rattle.sl_lease_ways.proofs.Kept.HeardStands.{heard_has}
-use Rattle.sl_leases.specs.Jobs.{command_numbered, job_of_start}
-use Rattle.sl_leases.specs.LeaseWork.{lease_place, settle_next}
+use Rattle.sl_leases.specs.Jobs.{command_numbered}
 use Rattle.sl_leases.specs.Leases.{known, spot_of, spot_of_call}
 use Rattle.sl_leases.specs.declared.lease.LeaseNext.{LeaseNext}
 use Rattle.sl_leases.specs.declared.lease.LeaseNext.TheVariants.{AnswerJob, BecomeExclusive, BecomeShared, GrantJob, Nothing, ReadFor, WriteBlock, WriteLeader}
@@ -50,9 +46,8 @@ use Rattle.sl_parts_law.proofs.CallsGrow.{same_sessions}
 use Rattle.sl_parts_law.specs.Parts.{with_reply}
 use Rattle.sl_plain.proofs.Lists.{contains_none}
 use Rattle.sl_sector.specs.declared.sector.Rec.TheVariants.{BlockIs, DeltaIs, LeaderIs}
-use Rattle.sl_sessions.specs.Deltas.{delta_known, delta_of_session, next_after_free, next_after_renewal, next_in_joining, next_on_wake, next_renewal, own_offset}
-use Rattle.sl_sessions.specs.Sessions.{calls_of, generation_of, holders_of, is_active, is_join_call, is_joined, joined_after, leaves, leaving_job, present_sessions, recovery_of, removed_after, session_numbered, sessions}
-use Rattle.sl_sessions.specs.declared.delta.DeltaNext.{DeltaNext}
+use Rattle.sl_sessions.specs.Deltas.{own_offset}
+use Rattle.sl_sessions.specs.Sessions.{holders_of, is_active, is_join_call, is_joined, joined_after, leaves, leaving_job, recovery_of, removed_after, session_numbered, sessions}
 use Rattle.sl_sessions.specs.declared.session.Session.{Session}
 use Rattle.sl_trace.specs.Connections.{is_registered, unregisters}
 use Rattle.sl_trace.specs.Traces.{Job, Setting, Submitted, Trace, end_of, holdings, is_orphan, job_of, leaves_orphan, next_child, next_job, orphan_of, spot_of_grant, work_job}
@@ -71,15 +66,15 @@ use Rattle.sl_trace.specs.declared.effects.Op.{Op}
 use Rattle.sl_trace.specs.declared.effects.Op.TheVariants.{ReadSectors, WriteRecord}
 use Rattle.sl_trace.specs.declared.effects.Purpose.{Purpose}
 use Rattle.sl_trace.specs.declared.effects.Purpose.TheVariants.{Lease, Leaving, SeeRequest}
-use Rattle.sl_trace.specs.declared.effects.Signal.TheVariants.{Kill, Term}
+use Rattle.sl_trace.specs.declared.effects.Signal.TheVariants.{Kill}
 use Rattle.sl_trace.specs.declared.effects.Spot.{Spot}
 use Rattle.sl_trace.specs.declared.effects.Work.{Work}
 use Rattle.sl_trace.specs.declared.effects.Work.TheVariants.{ForJob, Settling}
 use Rattle.sl_trace.specs.declared.input.Answer.{Answer}
 use Rattle.sl_trace.specs.declared.input.Input.{Input}
-use Rattle.sl_trace.specs.declared.input.Input.TheVariants.{Answer as Told, Exit, Line, Number, Spawned, Wake}
+use Rattle.sl_trace.specs.declared.input.Input.TheVariants.{Exit, Line, Wake}
 use Rattle.sl_trace.specs.declared.reply.Reply.{Reply}
-use Rattle.sl_trace.specs.declared.reply.Reply.TheVariants.{BadCommand as Misread, Done, Granted, IoFault, IoTimeout, SpawnFault}
+use Rattle.sl_trace.specs.declared.reply.Reply.TheVariants.{Granted}
 use Rattle.sl_words.proofs.CaseLaws.{is_false, one_value, true_is_false}
 use Rattle.sl_words.specs.Words.{choose}
 use Rattle.std.proofs.Common.{ap, inl, inr, refl, subst, sym, ◌∙◌}
@@ -263,65 +258,26 @@ pub told_active : (x : Step) (s : Session) (m : Submitted) (answer : Answer) →
 told_active x s m answer h active j r = replied_active x.setting (entry_of x) x.past (record { job = j; reply = r }) s h.number answer h.heard active
 
 pub actives_are_kept : ActivesAreKept
-unfolding after_value_read
-actives_are_kept =
-    record {
-      kills = λ x s has due k. for_each_keeps ActiveSoFar (holders_of (seen x) s) (λ p. send p Kill) x (λ p there z h. h) (so_far x k);
-      times_out = λ x j m wake bare runs waits late k.
-          none_active (refuse j (IoTimeout m.call.number m.reading x.reading) x) ((refused_alike x x j (IoTimeout m.call.number m.reading x.reading) (same x)).grants ∙ (k.1.waking wake).1);
-      hears = λ x number answer wake bare expected k. none_active (with_input (Told number answer) x) (k.1.waking wake).1;
-      counts = λ x text wake bare k. none_active (with_input (Number text) x) (k.1.waking wake).1;
-      exits = λ x p wake bare one k. exited_active (with_input (Exit p) x) p (k.1.waking wake).1;
-      exits_as_none = λ x p wake bare none k. none_active (with_input (Exit p) x) (k.1.waking wake).1;
-      starts = λ x p ok wake bare expected k. none_active (with_input (Spawned p ok) x) (k.1.waking wake).1;
-      fails_to_start = λ x p input k.
-          none_active (when_running (job_of_start (seen x) p) SpawnFault (end_holdings p x)) (said_grants x (end_holdings p x) (job_of_start (seen x) p) SpawnFault (no_grants x p) ∙ k.1.ungranted p false input);
-      signals_instead = λ x p q input stood k. none_active (add_signal q Term x) (k.1.ungranted p false input);
-      says_started = λ x p j input is runs k. none_active (add_reply j (started_reply (seen x) p) x) (k.1.ungranted p true input);
-      misreads = λ x text column wake bare says k. none_active (answer_line text (next_job x.setting (seen x)) (Misread column) x) (k.1.waking wake).1;
-      answers = λ x text c r wake bare says is k. none_active (answer_line text (next_job x.setting (seen x)) r x) (k.1.waking wake).1;
-      carries = λ x text c d wake bare says is more k.
-          lines_active x text c (next_job x.setting (seen x)) d k wake bare says (subst (λ z. HasGrounds x.setting (seen x) c z) is (decisions_have_grounds x.setting (seen x) x.reading c))
-          (subst (λ z. Of (Has (with_input (Line text) x)) z) is (line_has x text c bare));
-      joins_on = λ x s j step m answer hears is runs k.
-          let n : DeltaNext = next_in_joining (delta_of_session x.setting s) (generation_of (seen x) s) (calls_of (seen x) s) x.reading m step answer in
-          none_active (carry_delta s n x) ((delta_ungranting x s n).grants ∙ hears.ungranted);
-      ends_joining = λ x s j step m answer hears is stops k. none_active (remove_of_refused s x) (removed_grants x s ∙ hears.ungranted);
-      renewed = λ x s m answer hears is k.
-          let n : DeltaNext = next_after_renewal (is_some (recovery_of x.setting (seen x) s)) m.reading answer in
-          none_active (carry_delta s n x) ((delta_ungranting x s n).grants ∙ hears.ungranted);
-      freed = λ x s j m answer hears is k. none_active (carry_delta s (next_after_free j m.call.number answer) x) ((delta_ungranting x s (next_after_free j m.call.number answer)).grants ∙ hears.ungranted);
-      shown = λ x s m bytes hears is joined begins k. none_active (signal_and_refuse s None x) (stopped_grants x s None ∙ hears.ungranted);
-      sees = λ x s number bytes at g has input held k. call_active x s g.path SeeRequest (request_offset x.setting.layout g.offset) (ReadSectors 1) refl (so_far x k);
-      leads_on = λ x s work step m answer aim hears is on at k.
-          led_active x s (spot_of_call x.setting.layout m) work (next_of_lease x.setting (seen x) s (spot_of_call x.setting.layout m) aim m step answer) (heard_has x s m answer hears) hears.ungranted
-          (λ j job. (work_is_active x k.0).each s m answer j hears (ap (λ p. is_area_work p) is) (ap (λ p. job_of p) is ∙ ap (λ w. work_job w) job) (subst (λ w. goes_on x.setting (seen x) s w ≡ true) job on)) (told_active x s m answer hears);
-      fails = λ x s m j hears lone runs k. none_active (add_reply j (IoFault m.call.number) x) hears.ungranted;
-      has_asked = λ x s m j owner hears is runs k. none_active (add_reply j Done x) hears.ungranted;
-      has_set = λ x s m j hears is runs k. none_active (add_reply j (set_reply m) x) hears.ungranted;
-      asks = λ x s m j bytes c hears is runs at k. none_active (after_request_read s j bytes c x) (asked_grants x s j bytes c ∙ hears.ungranted);
-      tells = λ x s m j bytes hears is runs k. none_active (after_value_read j bytes x) hears.ungranted;
-      warns = λ x s m bytes g signal hears is held own says k. none_active (send g.process signal x) ((sent_alike x x g.process signal (same x)).grants ∙ hears.ungranted);
-      joins_in_time = λ x s j has wake is runs k.
-          let n : DeltaNext = next_on_wake (delta_of_session x.setting s) x.reading (calls_of (seen x) s) in
-          none_active (carry_delta s n x) ((delta_ungranting x s n).grants ∙ (k.1.waking wake).1);
-      renews = λ x s has wake joined k.
-          let n : DeltaNext = next_renewal (delta_of_session x.setting s) x.reading (delta_known x.setting (seen x) s) (bits_due x.setting (calls_of (seen x) s) x.reading) in
-          none_active (carry_delta s n x) ((delta_ungranting x s n).grants ∙ (k.1.waking wake).1);
-      settles = λ x s at has wake active aligned none k.
-          let n : LeaseNext = settle_next (lease_place x.setting s) (known x.setting (seen x) s at) in
-          none_active (carry_lease s at Settling n x) ((settling_ungranting x s at (known x.setting (seen x) s at) n (settling_fits (lease_place x.setting s) (known x.setting (seen x) s at))).grants ∙ (k.1.waking wake).1);
-      parts = λ x s has joined recovers free quiet k. removed_active x s has joined recovers k;
-      frees = λ x s has joined well free quiet k.
-          free_keeps ActiveSoFar x s (λ j d. call_active x s s.path (Leaving j) (own_offset x.setting s) (WriteRecord (DeltaIs d)) refl (so_far x k)) (so_far x k);
-    }
+actives_are_kept = by_granting ActiveSoFar none_active actives where
+  actives : GrantingActs ActiveSoFar
+  actives =
+      record {
+        kills = λ x s has due k. for_each_keeps ActiveSoFar (holders_of (seen x) s) (λ p. send p Kill) x (λ p there z h. h) (so_far x k);
+        exits = λ x p wake bare one k. exited_active (with_input (Exit p) x) p (k.1.waking wake).1;
+        carries = λ x text c d wake bare says is more k.
+            lines_active x text c (next_job x.setting (seen x)) d k wake bare says (subst (λ z. HasGrounds x.setting (seen x) c z) is (decisions_have_grounds x.setting (seen x) x.reading c))
+            (subst (λ z. Of (Has (with_input (Line text) x)) z) is (line_has x text c bare));
+        sees = λ x s number bytes at g has input held k. call_active x s g.path SeeRequest (request_offset x.setting.layout g.offset) (ReadSectors 1) refl (so_far x k);
+        leads_on = λ x s work step m answer aim hears is on at k.
+            led_active x s (spot_of_call x.setting.layout m) work (next_of_lease x.setting (seen x) s (spot_of_call x.setting.layout m) aim m step answer) (heard_has x s m answer hears) hears.ungranted
+            (λ j job. (work_is_active x k.0).each s m answer j hears (ap (λ p. is_area_work p) is) (ap (λ p. job_of p) is ∙ ap (λ w. work_job w) job) (subst (λ w. goes_on x.setting (seen x) s w ≡ true) job on)) (told_active x s m answer hears);
+        parts = λ x s has joined recovers free quiet k. removed_active x s has joined recovers k;
+        frees = λ x s has joined well free quiet k.
+            free_keeps ActiveSoFar x s (λ j d. call_active x s s.path (Leaving j) (own_offset x.setting s) (WriteRecord (DeltaIs d)) refl (so_far x k)) (so_far x k);
+      }
 
 pub actives_begin : ActivesBegin
-unfolding begin_recoveries begin_recovery
-actives_begin st past e follows whole =
-    none_active (begin_recoveries (begin_step st past e.reading))
-    (for_each_keeps (λ z. z.effects.grants ≡ []) (present_sessions st (seen (begin_step st past e.reading))) begin_recovery (begin_step st past e.reading)
-    (λ s there y h. when_keeps (λ z. z.effects.grants ≡ []) (begins_now (seen y) (recovery_of y.setting (seen y) s)) (signal_and_refuse s None) y (λ begins k. stopped_grants y s None ∙ k) h) refl)
+actives_begin = none_begin ActiveSoFar none_active
 
 -- ---- so the grants are lawful
 

@@ -11,6 +11,7 @@ pub mod WorkFactsBegin
 pub mod EndsAreLawful
 pub mod ExitsAreLawful
 pub mod GrantsStand
+pub mod NothingGranted
 pub mod OrphansAreLawful
 pub mod ActsOnto
 pub mod DeltasKeep

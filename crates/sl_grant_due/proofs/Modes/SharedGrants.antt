@@ -5,23 +5,18 @@ use Rattle.sl_acts.proofs.PlainActs.{line_has}
 use Rattle.sl_acts.specs.Acts.{Acts, Has, Hears}
 use Rattle.sl_acts.specs.SoFar.{entry_of}
 use Rattle.sl_area.specs.Places.{block_offset, leader_offset, request_offset}
-use Rattle.sl_due.specs.DueAnswers.{set_reply}
-use Rattle.sl_due.specs.DueCommands.{answer_line}
-use Rattle.sl_due.specs.DueDelta.{carry_delta}
-use Rattle.sl_due.specs.DueFirst.{begin_recoveries, begin_recovery, begins_now, refuse, remove_of_refused, send, signal_and_refuse}
-use Rattle.sl_due.specs.DueInputs.{end_holdings, started_reply, when_running}
+use Rattle.sl_due.specs.DueFirst.{send}
 use Rattle.sl_due.specs.DueLease.{carry_lease, convert_holding, goes_on, grant_for, held_otherwise, next_of_lease, write_block, write_leader}
-use Rattle.sl_due.specs.DueRequests.{after_request_read, after_value_read, bits_due}
-use Rattle.sl_due.specs.Steps.{Step, add_end, add_grant, add_move, add_reply, add_signal, begin_step, seen, with_input, with_some}
+use Rattle.sl_due.specs.Steps.{Step, add_end, add_grant, add_move, add_reply, seen, with_input, with_some}
 use Rattle.sl_grant_due.proofs.DeltasKeep.{free_keeps}
 use Rattle.sl_grant_due.proofs.Modes.SharedStands.{SharedSoFar, call_shared, exited_shared, granted_shared, kill_shared, lines_shared, move_shared, none_shared, one_shared, same_resource, shared_so_far}
-use Rattle.sl_grant_due.proofs.OrphansAreLawful.{asked_grants, removed_grants, stopped_grants}
+use Rattle.sl_grant_due.proofs.NothingGranted.{GrantingActs, by_granting, none_begin}
 use Rattle.sl_grant_due.proofs.WorksByLines.{held_before}
 use Rattle.sl_holding_due.proofs.DecisionsHaveGrounds.{decisions_have_grounds}
 use Rattle.sl_holding_due.proofs.LeaseCallers.{heard_answered, heard_call as call_heard, heard_opens}
 use Rattle.sl_holding_due.proofs.LeaseConversions.{OfOneProcess, converted, only_converted, otherwise}
-use Rattle.sl_holding_due.proofs.LeaseNexts.{IsFitNext, IsGrantOf, next_fits, settling_fits}
-use Rattle.sl_holding_due.proofs.MomentsAreKept.{delta_ungranting, no_grants, refused_alike, said_grants, same, sent_alike, settling_ungranting}
+use Rattle.sl_holding_due.proofs.LeaseNexts.{IsFitNext, IsGrantOf, next_fits}
+use Rattle.sl_holding_due.proofs.MomentsAreKept.{same}
 use Rattle.sl_holding_due.specs.DecisionGrounds.{HasGrounds}
 use Rattle.sl_holding_due.specs.Moments.{Known}
 use Rattle.sl_holding_due.specs.Promises.{Begins}
@@ -32,8 +27,8 @@ use Rattle.sl_lease_due.proofs.TurnsStay.{turned_by}
 use Rattle.sl_lease_ways.proofs.Kept.CallsSame.{reply_leaves}
 use Rattle.sl_lease_ways.proofs.Kept.EffectsLeave.{made_call}
 use Rattle.sl_lease_ways.proofs.Kept.HeardStands.{heard_has, heard_number, spot_same}
-use Rattle.sl_leases.specs.Jobs.{aim_of, aim_of_command, command_numbered, job_of_start, resource_named}
-use Rattle.sl_leases.specs.LeaseWork.{lease_place, settle_next}
+use Rattle.sl_leases.specs.Jobs.{aim_of, aim_of_command, command_numbered, resource_named}
+use Rattle.sl_leases.specs.LeaseWork.{lease_place}
 use Rattle.sl_leases.specs.Leases.{block_submitted, block_written, exclusive_on, holdings_on, is_lease_call, is_on, known, lease_calls, lease_step, lver_written, spot_of, spot_of_call}
 use Rattle.sl_leases.specs.declared.lease.Aim.{Aim}
 use Rattle.sl_leases.specs.declared.lease.Aim.TheVariants.{Acquires, Converts}
@@ -46,9 +41,8 @@ use Rattle.sl_plain.proofs.Options.{mapped_value}
 use Rattle.sl_sector.specs.declared.sector.Block.{Block}
 use Rattle.sl_sector.specs.declared.sector.Leader.{Leader}
 use Rattle.sl_sector.specs.declared.sector.Rec.TheVariants.{BlockIs, DeltaIs, LeaderIs}
-use Rattle.sl_sessions.specs.Deltas.{delta_known, delta_of_session, next_after_free, next_after_renewal, next_in_joining, next_on_wake, next_renewal, own_offset}
-use Rattle.sl_sessions.specs.Sessions.{calls_of, generation_in, generation_of, holders_of, holdings_of, is_call_of, present_sessions, recovery_of, session_numbered}
-use Rattle.sl_sessions.specs.declared.delta.DeltaNext.{DeltaNext}
+use Rattle.sl_sessions.specs.Deltas.{own_offset}
+use Rattle.sl_sessions.specs.Sessions.{calls_of, generation_in, generation_of, holders_of, holdings_of, is_call_of, session_numbered}
 use Rattle.sl_sessions.specs.declared.session.Session.{Session}
 use Rattle.sl_step_facts.specs.GrantGrounds.{FreedForJob, IsDoneWork, ModedForJob}
 use Rattle.sl_step_facts.specs.Heard.{heard_by}
@@ -67,14 +61,14 @@ use Rattle.sl_trace.specs.declared.effects.Mode.TheVariants.{Exclusive, Shared}
 use Rattle.sl_trace.specs.declared.effects.Move.TheVariants.{Unregister}
 use Rattle.sl_trace.specs.declared.effects.Op.TheVariants.{ReadSectors, WriteRecord}
 use Rattle.sl_trace.specs.declared.effects.Purpose.TheVariants.{Lease, Leaving, SeeRequest}
-use Rattle.sl_trace.specs.declared.effects.Signal.TheVariants.{Kill, Term}
+use Rattle.sl_trace.specs.declared.effects.Signal.TheVariants.{Kill}
 use Rattle.sl_trace.specs.declared.effects.Spot.{Spot}
 use Rattle.sl_trace.specs.declared.effects.Work.{Work}
 use Rattle.sl_trace.specs.declared.effects.Work.TheVariants.{ForJob, Settling}
 use Rattle.sl_trace.specs.declared.input.Answer.{Answer}
 use Rattle.sl_trace.specs.declared.input.Answer.TheVariants.{Written}
-use Rattle.sl_trace.specs.declared.input.Input.TheVariants.{Answer as Told, Exit, Line, Number, Spawned}
-use Rattle.sl_trace.specs.declared.reply.Reply.TheVariants.{BadCommand as Misread, Done, Granted, IoFault, IoTimeout, SpawnFault}
+use Rattle.sl_trace.specs.declared.input.Input.TheVariants.{Exit, Line}
+use Rattle.sl_trace.specs.declared.reply.Reply.TheVariants.{Granted}
 use Rattle.sl_words.proofs.CaseLaws.{false_is_true, none_some, one_value, true_is_false}
 use Rattle.sl_words.specs.Words.{same_truth}
 use Rattle.std.proofs.Common.{ap, arith, inl, inr, refl, subst, sym, ◌∙◌}
@@ -364,64 +358,25 @@ holds_none x s g none there mine =
     (Contains-append_right (filter (λ (k : Grant). not (is_ended_by x.effects.ends k)) (holdings x.past)) x.effects.grants g there)))
 
 pub shared_grants_are_lawful : Acts Known SharedSoFar
-unfolding after_value_read
-shared_grants_are_lawful =
-    record {
-      kills = λ x s has due k. for_each_keeps SharedSoFar (holders_of (seen x) s) (λ p. send p Kill) x (λ p there z h. kill_shared z p h) (shared_so_far x k);
-      times_out = λ x j m wake bare runs waits late k.
-          none_shared (refuse j (IoTimeout m.call.number m.reading x.reading) x) ((refused_alike x x j (IoTimeout m.call.number m.reading x.reading) (same x)).grants ∙ (k.1.waking wake).1);
-      hears = λ x number answer wake bare expected k. none_shared (with_input (Told number answer) x) (k.1.waking wake).1;
-      counts = λ x text wake bare k. none_shared (with_input (Number text) x) (k.1.waking wake).1;
-      exits = λ x p wake bare one k. exited_shared (with_input (Exit p) x) p (k.1.waking wake).0 (k.1.waking wake).1;
-      exits_as_none = λ x p wake bare none k. none_shared (with_input (Exit p) x) (k.1.waking wake).1;
-      starts = λ x p ok wake bare expected k. none_shared (with_input (Spawned p ok) x) (k.1.waking wake).1;
-      fails_to_start = λ x p input k.
-          none_shared (when_running (job_of_start (seen x) p) SpawnFault (end_holdings p x)) (said_grants x (end_holdings p x) (job_of_start (seen x) p) SpawnFault (no_grants x p) ∙ k.1.ungranted p false input);
-      signals_instead = λ x p q input stood k. none_shared (add_signal q Term x) (k.1.ungranted p false input);
-      says_started = λ x p j input is runs k. none_shared (add_reply j (started_reply (seen x) p) x) (k.1.ungranted p true input);
-      misreads = λ x text column wake bare says k. none_shared (answer_line text (next_job x.setting (seen x)) (Misread column) x) (k.1.waking wake).1;
-      answers = λ x text c r wake bare says is k. none_shared (answer_line text (next_job x.setting (seen x)) r x) (k.1.waking wake).1;
-      carries = λ x text c d wake bare says is more k.
-          lines_shared x text c (next_job x.setting (seen x)) d k wake says (subst (λ z. HasGrounds x.setting (seen x) c z) is (decisions_have_grounds x.setting (seen x) x.reading c))
-          (subst (λ z. Of (Has (with_input (Line text) x)) z) is (line_has x text c bare));
-      joins_on = λ x s j step m answer hears is runs k.
-          let n : DeltaNext = next_in_joining (delta_of_session x.setting s) (generation_of (seen x) s) (calls_of (seen x) s) x.reading m step answer in
-          none_shared (carry_delta s n x) ((delta_ungranting x s n).grants ∙ hears.ungranted);
-      ends_joining = λ x s j step m answer hears is stops k. none_shared (remove_of_refused s x) (removed_grants x s ∙ hears.ungranted);
-      renewed = λ x s m answer hears is k.
-          let n : DeltaNext = next_after_renewal (is_some (recovery_of x.setting (seen x) s)) m.reading answer in
-          none_shared (carry_delta s n x) ((delta_ungranting x s n).grants ∙ hears.ungranted);
-      freed = λ x s j m answer hears is k. none_shared (carry_delta s (next_after_free j m.call.number answer) x) ((delta_ungranting x s (next_after_free j m.call.number answer)).grants ∙ hears.ungranted);
-      shown = λ x s m bytes hears is joined begins k. none_shared (signal_and_refuse s None x) (stopped_grants x s None ∙ hears.ungranted);
-      sees = λ x s number bytes at g has input held k. call_shared x s g.path SeeRequest (request_offset x.setting.layout g.offset) (ReadSectors 1) refl refl (λ e there mine. refl) (shared_so_far x k);
-      leads_on = λ x s work step m answer aim hears is on at k.
-          led_shared x s m answer hears work step aim k is on at (next_of_lease x.setting (seen x) s (spot_of_call x.setting.layout m) aim m step answer)
-          (next_fits (lease_place x.setting s) (known x.setting (seen x) s (spot_of_call x.setting.layout m)) aim m.call.number (lver_written m) step answer);
-      fails = λ x s m j hears lone runs k. none_shared (add_reply j (IoFault m.call.number) x) hears.ungranted;
-      has_asked = λ x s m j owner hears is runs k. none_shared (add_reply j Done x) hears.ungranted;
-      has_set = λ x s m j hears is runs k. none_shared (add_reply j (set_reply m) x) hears.ungranted;
-      asks = λ x s m j bytes c hears is runs at k. none_shared (after_request_read s j bytes c x) (asked_grants x s j bytes c ∙ hears.ungranted);
-      tells = λ x s m j bytes hears is runs k. none_shared (after_value_read j bytes x) hears.ungranted;
-      warns = λ x s m bytes g signal hears is held own says k. none_shared (send g.process signal x) ((sent_alike x x g.process signal (same x)).grants ∙ hears.ungranted);
-      joins_in_time = λ x s j has wake is runs k.
-          let n : DeltaNext = next_on_wake (delta_of_session x.setting s) x.reading (calls_of (seen x) s) in
-          none_shared (carry_delta s n x) ((delta_ungranting x s n).grants ∙ (k.1.waking wake).1);
-      renews = λ x s has wake joined k.
-          let n : DeltaNext = next_renewal (delta_of_session x.setting s) x.reading (delta_known x.setting (seen x) s) (bits_due x.setting (calls_of (seen x) s) x.reading) in
-          none_shared (carry_delta s n x) ((delta_ungranting x s n).grants ∙ (k.1.waking wake).1);
-      settles = λ x s at has wake active aligned none k.
-          let n : LeaseNext = settle_next (lease_place x.setting s) (known x.setting (seen x) s at) in
-          none_shared (carry_lease s at Settling n x) ((settling_ungranting x s at (known x.setting (seen x) s at) n (settling_fits (lease_place x.setting s) (known x.setting (seen x) s at))).grants ∙ (k.1.waking wake).1);
-      parts = λ x s has joined recovers free quiet k.
-          when_keeps SharedSoFar (is_registered x.setting (seen x) s.lockspace) (add_move (Unregister s.lockspace)) x (λ is h. move_shared x (Unregister s.lockspace) h) (shared_so_far x k);
-      frees = λ x s has joined well free quiet k.
-          free_keeps SharedSoFar x s
-          (λ j d. call_shared x s s.path (Leaving j) (own_offset x.setting s) (WriteRecord (DeltaIs d)) refl refl (λ g there mine. absurd (holds_none x s g free there mine)) (shared_so_far x k)) (shared_so_far x k);
-    }
+shared_grants_are_lawful = by_granting SharedSoFar none_shared shared where
+  shared : GrantingActs SharedSoFar
+  shared =
+      record {
+        kills = λ x s has due k. for_each_keeps SharedSoFar (holders_of (seen x) s) (λ p. send p Kill) x (λ p there z h. kill_shared z p h) (shared_so_far x k);
+        exits = λ x p wake bare one k. exited_shared (with_input (Exit p) x) p (k.1.waking wake).0 (k.1.waking wake).1;
+        carries = λ x text c d wake bare says is more k.
+            lines_shared x text c (next_job x.setting (seen x)) d k wake says (subst (λ z. HasGrounds x.setting (seen x) c z) is (decisions_have_grounds x.setting (seen x) x.reading c))
+            (subst (λ z. Of (Has (with_input (Line text) x)) z) is (line_has x text c bare));
+        sees = λ x s number bytes at g has input held k. call_shared x s g.path SeeRequest (request_offset x.setting.layout g.offset) (ReadSectors 1) refl refl (λ e there mine. refl) (shared_so_far x k);
+        leads_on = λ x s work step m answer aim hears is on at k.
+            led_shared x s m answer hears work step aim k is on at (next_of_lease x.setting (seen x) s (spot_of_call x.setting.layout m) aim m step answer)
+            (next_fits (lease_place x.setting s) (known x.setting (seen x) s (spot_of_call x.setting.layout m)) aim m.call.number (lver_written m) step answer);
+        parts = λ x s has joined recovers free quiet k.
+            when_keeps SharedSoFar (is_registered x.setting (seen x) s.lockspace) (add_move (Unregister s.lockspace)) x (λ is h. move_shared x (Unregister s.lockspace) h) (shared_so_far x k);
+        frees = λ x s has joined well free quiet k.
+            free_keeps SharedSoFar x s
+            (λ j d. call_shared x s s.path (Leaving j) (own_offset x.setting s) (WriteRecord (DeltaIs d)) refl refl (λ g there mine. absurd (holds_none x s g free there mine)) (shared_so_far x k)) (shared_so_far x k);
+      }
 
 pub shared_grants_begin : Begins SharedSoFar
-unfolding begin_recoveries begin_recovery
-shared_grants_begin st past e follows whole =
-    none_shared (begin_recoveries (begin_step st past e.reading))
-    (for_each_keeps (λ z. z.effects.grants ≡ []) (present_sessions st (seen (begin_step st past e.reading))) begin_recovery (begin_step st past e.reading)
-    (λ s there y h. when_keeps (λ z. z.effects.grants ≡ []) (begins_now (seen y) (recovery_of y.setting (seen y) s)) (signal_and_refuse s None) y (λ begins k. stopped_grants y s None ∙ k) h) refl)
+shared_grants_begin = none_begin SharedSoFar none_shared

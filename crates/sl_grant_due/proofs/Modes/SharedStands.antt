@@ -11,7 +11,8 @@ use Rattle.sl_due.specs.declared.decision.Decision.{Decision}
 use Rattle.sl_due.specs.declared.decision.Decision.TheVariants.{ConvertsTo, GetsValue, GivesUp, Joins, Leaves, ReadsArea, Replies, Requests, SetsValue, Shares, TakesOver}
 use Rattle.sl_grant_due.proofs.EndsAreLawful.{last_or}
 use Rattle.sl_grant_due.proofs.GrantlessLines.{converting_grants, released_grants}
-use Rattle.sl_grant_due.proofs.OrphansAreLawful.{Orphaning, left_orphans, stopped_grants}
+use Rattle.sl_grant_due.proofs.NothingGranted.{stopped_grants}
+use Rattle.sl_grant_due.proofs.OrphansAreLawful.{Orphaning, left_orphans}
 use Rattle.sl_grant_due.proofs.WorksByLines.{held_before}
 use Rattle.sl_holding_due.proofs.HoldingsByLines.{asked_resource}
 use Rattle.sl_holding_due.proofs.MomentsAreKept.{same}
