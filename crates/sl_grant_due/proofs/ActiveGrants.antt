@@ -13,7 +13,7 @@ use Rattle.sl_due.specs.DueLease.{carry_lease, convert_for, convert_holding, for
 use Rattle.sl_due.specs.Steps.{Step, add_call_at, add_end, add_move, add_reply, begin_step, seen, when, with_input, with_some}
 use Rattle.sl_due.specs.declared.decision.Decision.{Decision}
 use Rattle.sl_due.specs.declared.decision.Decision.TheVariants.{ConvertsTo, GetsValue, GivesUp, Joins, Leaves, ReadsArea, Replies, Requests, SetsValue, Shares, TakesOver}
-use Rattle.sl_grant_due.proofs.ActsOnto.{onto}
+use Rattle.sl_job_facts.proofs.LessIsKept.{to_less}
 use Rattle.sl_grant_due.proofs.DeltasKeep.{free_keeps}
 use Rattle.sl_grant_due.proofs.EndsAreLawful.{last_or}
 use Rattle.sl_grant_due.proofs.GrantlessLines.{converting_grants, released_grants}
@@ -283,7 +283,7 @@ actives_begin = none_begin ActiveSoFar none_active
 
 pub granting_is_lawful : GrantingIsLawful
 granting_is_lawful =
-    onto Known (λ x. HasHoldingFacts x × (OrphansSoFar x × ActiveSoFar x)) GrantingSoFar (λ x h. grants_are_lawful x h.0 h.1.0 h.1.1)
+    to_less Known (λ x. HasHoldingFacts x × (OrphansSoFar x × ActiveSoFar x)) GrantingSoFar (λ x h. grants_are_lawful x h.0 h.1.0 h.1.1)
     (both Known HasHoldingFacts (λ x. OrphansSoFar x × ActiveSoFar x) holding_facts_are_kept (both Known OrphansSoFar ActiveSoFar orphans_are_lawful actives_are_kept))
 
 pub granting_begins : GrantingBegins

@@ -13,7 +13,6 @@ pub mod ExitsAreLawful
 pub mod GrantsStand
 pub mod NothingGranted
 pub mod OrphansAreLawful
-pub mod ActsOnto
 pub mod DeltasKeep
 pub mod GrantlessLines
 pub mod ActiveGrants

@@ -3,7 +3,7 @@ use Rattle.sl_acts.proofs.ActsTogether.{both}
 use Rattle.sl_acts.specs.SoFar.{entry_of}
 use Rattle.sl_due.specs.DueFirst.{begin_recoveries}
 use Rattle.sl_due.specs.Steps.{Step, begin_step, seen}
-use Rattle.sl_grant_due.proofs.ActsOnto.{onto}
+use Rattle.sl_job_facts.proofs.LessIsKept.{to_less}
 use Rattle.sl_grant_due.proofs.Modes.FitsHolding.{FittingSoFar}
 use Rattle.sl_grant_due.proofs.Modes.CallsFit.{calls_begin, calls_fit}
 use Rattle.sl_grant_due.proofs.GrantsStand.{grants_stand}
@@ -43,7 +43,7 @@ modes_of x held shared fits = record { grants = λ g s there its. by g s there i
 
 pub modes_are_lawful : ModesAreLawful
 modes_are_lawful =
-    onto Known (λ x. HasHoldingFacts x × (SharedSoFar x × FittingSoFar x)) ModesSoFar (λ x h. modes_of x h.0 h.1.0 h.1.1)
+    to_less Known (λ x. HasHoldingFacts x × (SharedSoFar x × FittingSoFar x)) ModesSoFar (λ x h. modes_of x h.0 h.1.0 h.1.1)
     (both Known HasHoldingFacts (λ x. SharedSoFar x × FittingSoFar x) holding_facts_are_kept (both Known SharedSoFar FittingSoFar shared_grants_are_lawful calls_fit))
 
 pub modes_begin : ModesBegin

@@ -15,7 +15,7 @@ use Rattle.sl_due.specs.DueRequests.{after_request_read, after_value_read, bits_
 use Rattle.sl_due.specs.Steps.{Step, add_call_of, add_move, add_reply, add_signal, begin_step, seen, when, with_input}
 use Rattle.sl_due.specs.declared.decision.Decision.TheVariants.{Joins, Replies}
 use Rattle.sl_grant_due.proofs.ActiveGrants.{parted_active, told_active}
-use Rattle.sl_grant_due.proofs.ActsOnto.{onto}
+use Rattle.sl_job_facts.proofs.LessIsKept.{to_less}
 use Rattle.sl_grant_due.proofs.DeltasKeep.{free_keeps, renewal_keeps}
 use Rattle.sl_grant_due.proofs.EndsAreLawful.{last_or}
 use Rattle.sl_grant_due.proofs.Modes.FitsHolding.{FittingSoFar}
@@ -384,7 +384,7 @@ values_of x fits told =
 
 pub values_are_lawful : ValuesAreLawful
 values_are_lawful =
-    onto Known (λ x. FittingSoFar x × TellingSoFar x) ValuesSoFar (λ x h. values_of x h.0 h.1) (both Known FittingSoFar TellingSoFar calls_fit values_are_told)
+    to_less Known (λ x. FittingSoFar x × TellingSoFar x) ValuesSoFar (λ x h. values_of x h.0 h.1) (both Known FittingSoFar TellingSoFar calls_fit values_are_told)
 
 pub values_begin : ValuesBegin
 values_begin st past e follows whole = values_of (begin_recoveries (begin_step st past e.reading)) (calls_begin st past e follows whole) (telling_begins st past e follows whole)
