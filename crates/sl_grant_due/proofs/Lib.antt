@@ -3,6 +3,7 @@ pub mod WorksByInputs
 pub mod WorksByLines
 pub mod WorksByGrants
 pub mod WorksByExits
+pub mod OthersGoOn
 pub mod WorksByDeltas
 pub mod WorksByAnswers
 pub mod WorkFactsAreKept
@@ -10,4 +11,10 @@ pub mod WorkFactsBegin
 pub mod EndsAreLawful
 pub mod ExitsAreLawful
 pub mod GrantsStand
+pub mod NothingGranted
 pub mod OrphansAreLawful
+pub mod DeltasKeep
+pub mod GrantlessLines
+pub mod ActiveGrants
+pub mod Modes
+pub mod Values

@@ -1,60 +1,56 @@
 -- The orphans among the grants are lawful: an exit alone makes some, each of a persistent holding where there is none yet, and no process
 -- that is granted a resource is none.
 use Rattle.sl_acts.proofs.EffectsKeep.{delta, removal, signalled}
-use Rattle.sl_acts.proofs.LoopsKeep.{for_each_keeps, when_keeps}
+use Rattle.sl_acts.proofs.LoopsKeep.{for_each_keeps}
 use Rattle.sl_acts.specs.SoFar.{entry_of}
-use Rattle.sl_due.specs.DueAnswers.{set_reply}
-use Rattle.sl_due.specs.DueCommands.{after_end, answer_line, carry_decision}
+use Rattle.sl_due.specs.DueCommands.{after_end, carry_decision}
 use Rattle.sl_due.specs.DueDelta.{carry_delta, see_request}
-use Rattle.sl_due.specs.DueFirst.{begin_recoveries, begin_recovery, begins_now, refuse, remove_connection, remove_of_refused, send, signal_and_refuse, signal_holders}
-use Rattle.sl_due.specs.DueInputs.{end_holdings, leave_holdings, refuse_jobs_of, started_reply, when_running}
+use Rattle.sl_due.specs.DueFirst.{remove_connection, signal_and_refuse, signal_holders}
+use Rattle.sl_due.specs.DueInputs.{end_holdings, leave_holdings, refuse_jobs_of}
 use Rattle.sl_due.specs.DueLease.{carry_lease, convert_for, convert_holding, for_work, grant_for, grant_of, held_otherwise, next_of_lease, with_command}
-use Rattle.sl_due.specs.DueRequests.{after_request_read, after_value_read, bits_due, owner_read, request_refusal, write_request}
-use Rattle.sl_due.specs.Steps.{Step, add_end, add_grant, add_reply, add_signal, begin_step, seen, when, with_input, with_some}
+use Rattle.sl_due.specs.Steps.{Step, add_end, add_grant, add_reply, seen, with_input, with_some}
 use Rattle.sl_due.specs.declared.decision.Decision.TheVariants.{ConvertsTo, GetsValue, GivesUp, Joins, Leaves, ReadsArea, Replies, Requests, SetsValue, Shares, TakesOver}
 use Rattle.sl_due.specs.declared.decision.Decision.{Decision}
+use Rattle.sl_grant_due.proofs.NothingGranted.{GrantingActs, by_granting, none_begin, stopped_grants}
 use Rattle.sl_grant_due.proofs.EndsAreLawful.{Going, StandsAt, last_or, stand_effects, stands}
 use Rattle.sl_grant_due.proofs.WorksByLines.{held_before}
 use Rattle.sl_grant_due.specs.GrantPromises.{OrphansAreLawful, OrphansBegin, OrphansSoFar}
 use Rattle.sl_holding_due.proofs.LeaseCallers.{commands_fit}
 use Rattle.sl_holding_due.proofs.LeaseConversions.{converted, otherwise}
-use Rattle.sl_holding_due.proofs.MomentsAreKept.{delta_ungranting, no_grants, refused_alike, removal_alike, said_grants, same, sent_alike, signalled_alike}
+use Rattle.sl_holding_due.proofs.MomentsAreKept.{delta_ungranting, removal_alike, same, signalled_alike}
 use Rattle.sl_holding_due.specs.Moments.{Known}
 use Rattle.sl_law.specs.Lawful.{IsSetting}
 use Rattle.sl_law.specs.LawfulGrant.{LawfulOrphan}
-use Rattle.sl_leases.specs.Jobs.{command_numbered, is_job_of_process, job_of_start, jobs_of_session, process_named}
-use Rattle.sl_leases.specs.LeaseWork.{convert_next, lease_place, release_next, settle_next}
+use Rattle.sl_leases.specs.Jobs.{command_numbered, is_job_of_process, process_named}
+use Rattle.sl_leases.specs.LeaseWork.{convert_next, lease_place, release_next}
 use Rattle.sl_leases.specs.Leases.{holdings_on, known, spot_of, spot_of_call}
 use Rattle.sl_leases.specs.declared.lease.LeaseNext.TheVariants.{AnswerJob, BecomeExclusive, BecomeShared, GrantJob, Nothing, ReadFor, WriteBlock, WriteLeader}
 use Rattle.sl_leases.specs.declared.lease.LeaseNext.{LeaseNext}
 use Rattle.sl_plain.proofs.Lists.{contains_none, in_map, kept_inside}
 use Rattle.sl_sector.proofs.RuleLaws.{in_range}
-use Rattle.sl_sessions.specs.Deltas.{delta_known, delta_of_session, next_after_free, next_after_renewal, next_free, next_in_joining, next_on_wake, next_renewal}
-use Rattle.sl_sessions.specs.Sessions.{calls_of, generation_of, has_open_write, last_renewal, present_sessions, recovery_of, refused_after}
+use Rattle.sl_sessions.specs.Deltas.{delta_known, delta_of_session, next_free}
 use Rattle.sl_sessions.specs.declared.delta.DeltaNext.{DeltaNext}
 use Rattle.sl_sessions.specs.declared.session.Session.{Session}
 use Rattle.sl_trace.specs.Commands.{IsCommand}
 use Rattle.sl_trace.specs.Limits.{most_children, most_processes}
-use Rattle.sl_trace.specs.Traces.{Job, children, end_of, first_child, has_orphan_of, holdings, is_orphan, leaves_orphan, next_child, next_job, no_process, orphan_of, orphans_left, running_jobs, spot_of_grant}
+use Rattle.sl_trace.specs.Traces.{children, end_of, first_child, has_orphan_of, holdings, is_orphan, leaves_orphan, next_child, next_job, no_process, orphan_of, orphans_left, running_jobs, spot_of_grant}
 use Rattle.sl_trace.specs.declared.command.Command.TheVariants.{Acquire, AddLockspace, Convert, GetLvb, HostStatus, InqLockspace, Release, ReleaseOrphan, RemLockspace, Request, RunProgram, SetKillpath, SetLvb, Status, TakeOver}
 use Rattle.sl_trace.specs.declared.command.Command.{Command}
 use Rattle.sl_trace.specs.declared.effects.Grant.{Grant}
 use Rattle.sl_trace.specs.declared.effects.LeaseStep.TheVariants.{ReadArea, ReadBeforeFree}
 use Rattle.sl_trace.specs.declared.effects.Mode.TheVariants.{Exclusive, Shared}
 use Rattle.sl_trace.specs.declared.effects.Mode.{Mode}
-use Rattle.sl_trace.specs.declared.effects.Signal.TheVariants.{Kill, Term}
+use Rattle.sl_trace.specs.declared.effects.Signal.TheVariants.{Kill}
 use Rattle.sl_trace.specs.declared.effects.Spot.{Spot}
 use Rattle.sl_trace.specs.declared.effects.Work.TheVariants.{ForJob, Settling}
 use Rattle.sl_trace.specs.declared.effects.Work.{Work}
-use Rattle.sl_trace.specs.declared.input.Input.TheVariants.{Answer as Told, Exit, Line, Number, Spawned}
-use Rattle.sl_trace.specs.declared.reply.Reply.TheVariants.{BadCommand as Misread, Done, IoFault, IoTimeout, NoProcess, Recovering, SpawnFault}
-use Rattle.sl_trace.specs.declared.reply.Reply.{Reply}
+use Rattle.sl_trace.specs.declared.input.Input.TheVariants.{Exit, Line}
+use Rattle.sl_trace.specs.declared.reply.Reply.TheVariants.{Done, NoProcess}
 use Rattle.sl_words.proofs.CaseLaws.{is_false, none_some, not_both, some_value, true_is_false}
 use Rattle.sl_words.proofs.WordLaws.{and_true}
-use Rattle.sl_words.specs.Words.{some_is}
 use Rattle.std.proofs.Common.{ap, arith, inl, inr, refl, subst, sym, ◌∙◌}
 use Rattle.std.proofs.lemmas.Bool.{eqb-true}
-use Rattle.std.specs.Prelude.{Bool, Contains, List, None, Ok, Option, Some, [], false, filter, is_some, length, not, true, ℕ, ◌&&◌, ◌+◌, ◌++◌, ◌==◌, ◌∷◌, ◌≡◌, ◌≤◌, ◌⊎◌}
+use Rattle.std.specs.Prelude.{Bool, Contains, List, None, Ok, Option, Some, [], false, filter, length, not, true, ℕ, ◌&&◌, ◌+◌, ◌++◌, ◌==◌, ◌∷◌, ◌≡◌, ◌≤◌, ◌⊎◌}
 
 -- ---- none, as before, or one of a process
 
@@ -84,11 +80,11 @@ own_granted w old g none grants own h there orphan = by (last_or old g h (subst 
 
 -- ---- the exit
 
-record Orphaning (x : Step) (p : ℕ) (z : Step) : Type 0 where
-  stand : StandsAt x z
-  grants : (g : Grant) → Contains z.effects.grants g → Contains x.effects.grants g ⊎ ((l : Grant) × Contains (holdings (seen x)) l × (leaves_orphan (holdings (seen x)) p l ≡ true) × (orphan_of l ≡ g))
+pub record Orphaning (x : Step) (p : ℕ) (z : Step) : Type 0 where
+  pub stand : StandsAt x z
+  pub grants : (g : Grant) → Contains z.effects.grants g → Contains x.effects.grants g ⊎ ((l : Grant) × Contains (holdings (seen x)) l × (leaves_orphan (holdings (seen x)) p l ≡ true) × (orphan_of l ≡ g))
 
-left_orphans : (x : Step) (p : ℕ) → Orphaning x p (refuse_jobs_of p (leave_holdings p x))
+pub left_orphans : (x : Step) (p : ℕ) → Orphaning x p (refuse_jobs_of p (leave_holdings p x))
 unfolding leave_holdings
 left_orphans x p = refused (leave_holdings p x) left where
   one : (z : Step) (g e : Grant) → Contains (orphans_left p (holdings (seen x))) g → Orphaning x p z → Contains z.effects.grants e ⊎ (g ≡ e)
@@ -228,45 +224,6 @@ led_orphans x s at (ForJob j) (BecomeExclusive lver b) is none =
     let z : Step = for_work (ForJob j) (λ k. with_command k (λ c. convert_for s at k c Exclusive lver)) x in
     going z (carry_lease s at (ForJob j) (BecomeExclusive lver b) x) (record { setting = refl; past = refl; input = refl; ends = refl; grants = refl }) (became_orphans x s at j Exclusive lver is none)
 
--- ---- what grants nothing
-
-stopped_grants : (y : Step) (s : Session) (kept : Option ℕ) → (signal_and_refuse s kept y).effects.grants ≡ y.effects.grants
-unfolding signal_and_refuse
-stopped_grants y s kept =
-    let z : Step = signal_holders Term s y in
-    for_each_keeps (λ w. w.effects.grants ≡ y.effects.grants) (filter (λ (j : Job). not (some_is (λ n. n == j.number) kept)) (jobs_of_session z.setting (seen z) s)) (λ j. add_reply j.number (Recovering (last_renewal z.setting (seen z) s))) z
-    (λ j there w k. k) (signalled_alike y Term s).grants
-
-asked_grants : (x : Step) (s : Session) (j : ℕ) (bytes : List ℕ) (c : Command) → (after_request_read s j bytes c x).effects.grants ≡ x.effects.grants
-unfolding after_request_read
-asked_grants x s j bytes (Request r number force) = by (request_refusal x.setting.layout s.lockspace r number force bytes) where
-  by : (o : Option Reply) → (let z : Step = elim o as (λ z. Step) [ Some why ↦ add_reply j why x | None ↦ write_request s j (owner_read x.setting.layout bytes) r number force x ] in z.effects.grants ≡ x.effects.grants)
-  by (Some why) = refl
-  by None = refl
-asked_grants x s j bytes (AddLockspace a) = refl
-asked_grants x s j bytes (RemLockspace a) = refl
-asked_grants x s j bytes (InqLockspace a) = refl
-asked_grants x s j bytes (HostStatus a) = refl
-asked_grants x s j bytes (Acquire r shared p persistent) = refl
-asked_grants x s j bytes (TakeOver r shared p persistent) = refl
-asked_grants x s j bytes (RunProgram r shared path) = refl
-asked_grants x s j bytes (Release r p) = refl
-asked_grants x s j bytes (ReleaseOrphan r) = refl
-asked_grants x s j bytes (Convert r shared p) = refl
-asked_grants x s j bytes (GetLvb r p) = refl
-asked_grants x s j bytes (SetLvb r p set) = refl
-asked_grants x s j bytes (SetKillpath p path) = refl
-asked_grants x s j bytes Status = refl
-
-removed_grants : (x : Step) (s : Session) → (remove_of_refused s x).effects.grants ≡ x.effects.grants
-removed_grants x s = by (is_some (refused_after (seen x) s) && not (has_open_write (seen x) s)) where
-  by : (b : Bool) → (when b (remove_connection s.lockspace) x).effects.grants ≡ x.effects.grants
-  by true = (removal_alike x x s.lockspace (same x)).grants
-  by false = refl
-
-delta_orphans : (x : Step) (s : Session) (n : DeltaNext) → x.effects.grants ≡ [] → OrphansSoFar (carry_delta s n x)
-delta_orphans x s n none = none_granted (carry_delta s n x) ((delta_ungranting x s n).grants ∙ none)
-
 -- ---- commands
 
 released_orphans : (z : Step) (j : ℕ) (s : Session) (g : Grant) → IsSetting z.setting → z.effects.grants ≡ [] → OrphansSoFar (after_end s (spot_of_grant g) j g z)
@@ -305,58 +262,26 @@ lines_orphan x text c j d is none says = by d where
 -- ---- the whole
 
 pub orphans_are_lawful : OrphansAreLawful
-unfolding after_value_read
-orphans_are_lawful =
-    record {
-      kills = λ x s has due k.
-          let a = signalled_alike x Kill s in
-          going x (signal_holders Kill s x) (stands x (signal_holders Kill s x) (signalled (λ z. StandsAt x z) (stand_effects x) x Kill s (refl, refl, refl)) a.ends a.grants) (so_far x k);
-      times_out = λ x j m wake bare runs waits late k.
-          none_granted (refuse j (IoTimeout m.call.number m.reading x.reading) x) ((refused_alike x x j (IoTimeout m.call.number m.reading x.reading) (same x)).grants ∙ (k.1.waking wake).1);
-      hears = λ x number answer wake bare expected k. none_granted (with_input (Told number answer) x) (k.1.waking wake).1;
-      counts = λ x text wake bare k. none_granted (with_input (Number text) x) (k.1.waking wake).1;
-      exits = λ x p wake bare one k. exit_orphans (with_input (Exit p) x) p refl (k.1.waking wake).0 (k.1.waking wake).1;
-      exits_as_none = λ x p wake bare none k. none_granted (with_input (Exit p) x) (k.1.waking wake).1;
-      starts = λ x p ok wake bare expected k. none_granted (with_input (Spawned p ok) x) (k.1.waking wake).1;
-      fails_to_start = λ x p input k.
-          none_granted (when_running (job_of_start (seen x) p) SpawnFault (end_holdings p x)) (said_grants x (end_holdings p x) (job_of_start (seen x) p) SpawnFault (no_grants x p) ∙ k.1.ungranted p false input);
-      signals_instead = λ x p q input stood k. going x (add_signal q Term x) (record { setting = refl; past = refl; input = refl; ends = refl; grants = refl }) (so_far x k);
-      says_started = λ x p j input is runs k. going x (add_reply j (started_reply (seen x) p) x) (record { setting = refl; past = refl; input = refl; ends = refl; grants = refl }) (so_far x k);
-      misreads = λ x text column wake bare says k. none_granted (answer_line text (next_job x.setting (seen x)) (Misread column) x) (k.1.waking wake).1;
-      answers = λ x text c r wake bare says is k. none_granted (answer_line text (next_job x.setting (seen x)) r x) (k.1.waking wake).1;
-      carries = λ x text c d wake bare says is more k. lines_orphan x text c (next_job x.setting (seen x)) d k.0.setting (k.1.waking wake).1 says;
-      joins_on = λ x s j step m answer hears is runs k.
-          delta_orphans x s (next_in_joining (delta_of_session x.setting s) (generation_of (seen x) s) (calls_of (seen x) s) x.reading m step answer) hears.ungranted;
-      ends_joining = λ x s j step m answer hears is stops k. none_granted (remove_of_refused s x) (removed_grants x s ∙ hears.ungranted);
-      renewed = λ x s m answer hears is k. delta_orphans x s (next_after_renewal (is_some (recovery_of x.setting (seen x) s)) m.reading answer) hears.ungranted;
-      freed = λ x s j m answer hears is k. delta_orphans x s (next_after_free j m.call.number answer) hears.ungranted;
-      shown = λ x s m bytes hears is joined begins k. none_granted (signal_and_refuse s None x) (stopped_grants x s None ∙ hears.ungranted);
-      sees = λ x s number bytes at g has input held k. going x (see_request s g x) (record { setting = refl; past = refl; input = refl; ends = refl; grants = refl }) (so_far x k);
-      leads_on = λ x s work step m answer aim hears is on at k.
-          led_orphans x s (spot_of_call x.setting.layout m) work (next_of_lease x.setting (seen x) s (spot_of_call x.setting.layout m) aim m step answer) k.0.setting hears.ungranted;
-      fails = λ x s m j hears lone runs k. none_granted (add_reply j (IoFault m.call.number) x) hears.ungranted;
-      has_asked = λ x s m j owner hears is runs k. none_granted (add_reply j Done x) hears.ungranted;
-      has_set = λ x s m j hears is runs k. none_granted (add_reply j (set_reply m) x) hears.ungranted;
-      asks = λ x s m j bytes c hears is runs at k. none_granted (after_request_read s j bytes c x) (asked_grants x s j bytes c ∙ hears.ungranted);
-      tells = λ x s m j bytes hears is runs k. none_granted (after_value_read j bytes x) hears.ungranted;
-      warns = λ x s m bytes g signal hears is held own says k. none_granted (send g.process signal x) ((sent_alike x x g.process signal (same x)).grants ∙ hears.ungranted);
-      joins_in_time = λ x s j has wake is runs k. delta_orphans x s (next_on_wake (delta_of_session x.setting s) x.reading (calls_of (seen x) s)) (k.1.waking wake).1;
-      renews = λ x s has wake joined k.
-          delta_orphans x s (next_renewal (delta_of_session x.setting s) x.reading (delta_known x.setting (seen x) s) (bits_due x.setting (calls_of (seen x) s) x.reading)) (k.1.waking wake).1;
-      settles = λ x s at has wake active aligned none k.
-          led_orphans x s at Settling (settle_next (lease_place x.setting s) (known x.setting (seen x) s at)) k.0.setting (k.1.waking wake).1;
-      parts = λ x s has joined recovers free quiet k.
-          let a = removal_alike x x s.lockspace (same x) in
-          going x (remove_connection s.lockspace x) (stands x (remove_connection s.lockspace x) (removal (λ z. StandsAt x z) (stand_effects x) x s.lockspace (refl, refl, refl)) a.ends a.grants) (so_far x k);
-      frees = λ x s has joined well free quiet k.
-          let n : DeltaNext = next_free (delta_of_session x.setting s) x.reading (delta_known x.setting (seen x) s) in
-          let a = delta_ungranting x s n in
-          going x (carry_delta s n x) (stands x (carry_delta s n x) (delta (λ z. StandsAt x z) (stand_effects x) x s has n (refl, refl, refl)) a.ends a.grants) (so_far x k);
-    }
+orphans_are_lawful = by_granting OrphansSoFar none_granted orphans where
+  orphans : GrantingActs OrphansSoFar
+  orphans =
+      record {
+        kills = λ x s has due k.
+            let a = signalled_alike x Kill s in
+            going x (signal_holders Kill s x) (stands x (signal_holders Kill s x) (signalled (λ z. StandsAt x z) (stand_effects x) x Kill s (refl, refl, refl)) a.ends a.grants) (so_far x k);
+        exits = λ x p wake bare one k. exit_orphans (with_input (Exit p) x) p refl (k.1.waking wake).0 (k.1.waking wake).1;
+        carries = λ x text c d wake bare says is more k. lines_orphan x text c (next_job x.setting (seen x)) d k.0.setting (k.1.waking wake).1 says;
+        sees = λ x s number bytes at g has input held k. going x (see_request s g x) (record { setting = refl; past = refl; input = refl; ends = refl; grants = refl }) (so_far x k);
+        leads_on = λ x s work step m answer aim hears is on at k.
+            led_orphans x s (spot_of_call x.setting.layout m) work (next_of_lease x.setting (seen x) s (spot_of_call x.setting.layout m) aim m step answer) k.0.setting hears.ungranted;
+        parts = λ x s has joined recovers free quiet k.
+            let a = removal_alike x x s.lockspace (same x) in
+            going x (remove_connection s.lockspace x) (stands x (remove_connection s.lockspace x) (removal (λ z. StandsAt x z) (stand_effects x) x s.lockspace (refl, refl, refl)) a.ends a.grants) (so_far x k);
+        frees = λ x s has joined well free quiet k.
+            let n : DeltaNext = next_free (delta_of_session x.setting s) x.reading (delta_known x.setting (seen x) s) in
+            let a = delta_ungranting x s n in
+            going x (carry_delta s n x) (stands x (carry_delta s n x) (delta (λ z. StandsAt x z) (stand_effects x) x s has n (refl, refl, refl)) a.ends a.grants) (so_far x k);
+      }
 
 pub orphans_begin : OrphansBegin
-unfolding begin_recoveries begin_recovery
-orphans_begin st past e follows whole =
-    none_granted (begin_recoveries (begin_step st past e.reading))
-    (for_each_keeps (λ z. z.effects.grants ≡ []) (present_sessions st (seen (begin_step st past e.reading))) begin_recovery (begin_step st past e.reading)
-    (λ s there y h. when_keeps (λ z. z.effects.grants ≡ []) (begins_now (seen y) (recovery_of y.setting (seen y) s)) (signal_and_refuse s None) y (λ begins k. stopped_grants y s None ∙ k) h) refl)
+orphans_begin = none_begin OrphansSoFar none_granted

@@ -2,58 +2,57 @@
 use Rattle.sl_acts.specs.SoFar.{entry_of}
 use Rattle.sl_area.specs.Places.{block_offset, leader_offset, request_offset}
 use Rattle.sl_due.specs.DueAnswers.{set_reply}
-use Rattle.sl_due.specs.DueDelta.{carry_delta, move_connection}
-use Rattle.sl_due.specs.DueFirst.{remove_connection}
+use Rattle.sl_due.specs.DueDelta.{carry_delta}
 use Rattle.sl_due.specs.DueInputs.{end_holdings, started_reply}
 use Rattle.sl_due.specs.DueLease.{carry_lease, lease_call, read_for}
 use Rattle.sl_due.specs.DueRequests.{after_request_read, after_value_read, bits_due, owner_read, request_refusal, value_reply, write_request}
-use Rattle.sl_due.specs.Steps.{Step, add_reply, seen, when, with_input}
+use Rattle.sl_due.specs.Steps.{Step, add_reply, seen, with_input}
 use Rattle.sl_grant_due.proofs.WorksByAnswers.{led_works, settling_no_job}
-use Rattle.sl_grant_due.proofs.WorksByDeltas.{delta_works, ended_works, other_call_works, refusal_works, removal_of_refused_works, removal_works, said_works, sent_works, signalled_works, stopped_works}
-use Rattle.sl_grant_due.proofs.WorksByEffects.{CallsOwned, WorksAt, call_works, move_works, not_work, reply_works, signal_works}
+use Rattle.sl_grant_due.proofs.DeltasKeep.{free_keeps, renewal_keeps}
+use Rattle.sl_grant_due.proofs.OthersGoOn.{fits_begin, refusal_on, removal_of_refused_on, removal_on, said_on, sent_on, signalled_on, stopped_on}
+use Rattle.sl_grant_due.proofs.WorksByDeltas.{delta_works, ended_works, other_call_works, plain_call_works, works_go_on}
+use Rattle.sl_lease_ways.proofs.Kept.DeltasFit.{freed_fits, joining_fits, renewed_fits, wake_fits}
+use Rattle.sl_lease_ways.proofs.Kept.HeardStands.{heard_has}
+use Rattle.sl_lease_ways.proofs.Kept.LeaseNextsLeave.{IsLate}
+use Rattle.sl_lease_ways.proofs.Kept.PlainWalks.{DeltaFits}
+use Rattle.sl_lease_ways.proofs.Kept.UnjoinedHaveNone.{its_joining, joins_still}
+use Rattle.sl_grant_due.proofs.WorksByEffects.{CallsOwned, WorksAt, call_works, not_work, reply_works, signal_works}
 use Rattle.sl_grant_due.proofs.WorksByExits.{exit_works}
 use Rattle.sl_grant_due.proofs.WorksByInputs.{answer_works, input_works}
 use Rattle.sl_grant_due.proofs.WorksByLines.{lines_work}
 use Rattle.sl_grant_due.specs.GrantPromises.{WorkFactsAreKept}
-use Rattle.sl_holding_due.proofs.HoldingFactsAreKept.{plainly_late, refuses_late, surveys_no_job}
+use Rattle.sl_holding_due.proofs.HoldingFactsAreKept.{plainly_late, surveys_no_job}
 use Rattle.sl_holding_due.proofs.HoldingsByCalls.{call_added}
 use Rattle.sl_holding_due.proofs.HoldingsByEffects.{later_same, unanswered_same, waking_same}
 use Rattle.sl_holding_due.specs.Moments.{Known}
-use Rattle.sl_job_facts.proofs.RepliesComeAfter.{IsLateDelta, joining_late, request_late, set_late, value_late, wake_late}
+use Rattle.sl_job_facts.proofs.RepliesComeAfter.{request_late, set_late, value_late}
 use Rattle.sl_leases.specs.Jobs.{job_of_start}
 use Rattle.sl_leases.specs.LeaseWork.{lease_place, settle_next}
 use Rattle.sl_leases.specs.Leases.{known}
 use Rattle.sl_leases.specs.declared.lease.LeaseNext.TheVariants.{AnswerJob, BecomeExclusive, BecomeShared, GrantJob, Nothing as NoLease, ReadFor, WriteBlock, WriteLeader}
 use Rattle.sl_leases.specs.declared.lease.LeaseNext.{LeaseNext}
-use Rattle.sl_sector.specs.Bitmaps.{no_bits}
-use Rattle.sl_sector.specs.declared.sector.DeltaRec.{DeltaRec}
-use Rattle.sl_sector.specs.declared.sector.DeltaState.TheVariants.{Free, Live}
 use Rattle.sl_sector.specs.declared.sector.Rec.TheVariants.{BlockIs, DeltaIs, LeaderIs, RequestIs}
-use Rattle.sl_sessions.specs.Deltas.{delta_known, delta_of_session, delta_record, is_renewal_due, next_after_free, next_after_renewal, next_free, next_in_joining, next_on_wake, next_renewal, own_offset}
-use Rattle.sl_sessions.specs.Sessions.{calls_of, free_write, generation_of, last_seq, leaving_job, recovery_of}
-use Rattle.sl_sessions.specs.declared.delta.DeltaNext.TheVariants.{EndLeaving, Nothing, WriteFree, WriteRenewal}
+use Rattle.sl_sessions.specs.Deltas.{delta_known, delta_of_session, next_after_free, next_after_renewal, next_in_joining, next_on_wake, own_offset}
+use Rattle.sl_sessions.specs.Sessions.{calls_of, generation_of, recovery_of}
 use Rattle.sl_sessions.specs.declared.delta.DeltaNext.{DeltaNext}
 use Rattle.sl_sessions.specs.declared.session.Session.{Session}
-use Rattle.sl_time.specs.Times.{fail}
-use Rattle.sl_trace.specs.Traces.{Job, is_before_input, is_running, next_job}
+use Rattle.sl_trace.specs.Traces.{is_before_input, next_job}
 use Rattle.sl_trace.specs.declared.command.Command.TheVariants.{Acquire, AddLockspace, Convert, GetLvb, HostStatus, InqLockspace, Release, ReleaseOrphan, RemLockspace, Request, RunProgram, SetKillpath, SetLvb, Status, TakeOver}
 use Rattle.sl_trace.specs.declared.command.Command.{Command}
 use Rattle.sl_trace.specs.declared.effects.LeaseStep.TheVariants.{ClearMode, FreeLeader, Phase1Read, Phase1Write, Phase2Read, Phase2Write, ReadArea, ReadBeforeFree, SetMode, TakeLeader}
 use Rattle.sl_trace.specs.declared.effects.LeaseStep.{LeaseStep}
-use Rattle.sl_trace.specs.declared.effects.Move.TheVariants.{Renew}
 use Rattle.sl_trace.specs.declared.effects.Op.TheVariants.{ReadSectors, WriteRecord}
 use Rattle.sl_trace.specs.declared.effects.Op.{Op}
-use Rattle.sl_trace.specs.declared.effects.Purpose.TheVariants.{Lease, Leaving, Renewal, RequestWrite, SeeRequest, Survey}
+use Rattle.sl_trace.specs.declared.effects.Purpose.TheVariants.{Lease, Leaving, Renewal, RequestWrite, SeeRequest}
 use Rattle.sl_trace.specs.declared.effects.Signal.TheVariants.{Kill, Term}
 use Rattle.sl_trace.specs.declared.effects.Spot.{Spot}
 use Rattle.sl_trace.specs.declared.effects.Work.TheVariants.{Settling}
-use Rattle.sl_trace.specs.declared.input.Answer.TheVariants.{Failed, Read, Written}
-use Rattle.sl_trace.specs.declared.input.Answer.{Answer}
+use Rattle.sl_trace.specs.declared.input.Answer.TheVariants.{Read}
 use Rattle.sl_trace.specs.declared.input.Input.TheVariants.{Exit, Line, Number, Spawned}
 use Rattle.sl_trace.specs.declared.reply.Reply.TheVariants.{BadCommand as Misread, Done, IoFault, IoTimeout, SpawnFault}
 use Rattle.sl_trace.specs.declared.reply.Reply.{Reply}
 use Rattle.std.proofs.Common.{refl, subst}
-use Rattle.std.specs.Prelude.{Bool, List, None, Option, Some, false, if◌then◌else◌, is_some, option_map, true, ℕ, ◌+◌, ◌==◌, ◌≡◌}
+use Rattle.std.specs.Prelude.{List, None, Option, Some, false, if◌then◌else◌, is_some, ℕ, ◌+◌, ◌==◌, ◌≡◌}
 
 all_owned : (x : Step) → Known x → CallsOwned x
 all_owned x k m there = k.0.facts.calls.owned m there
@@ -61,57 +60,12 @@ all_owned x k m there = k.0.facts.calls.owned m there
 told : (x : Step) (j : ℕ) (r : Reply) → Known x → is_before_input r ≡ false → WorksAt (add_reply j r x)
 told x j r k later = reply_works x j r (later_same x.past (entry_of x) (record { job = j; reply = r }) later) k.0.facts.works
 
-ends_late : (n : DeltaNext) (j : ℕ) (r : Reply) → IsLateDelta n → n ≡ EndLeaving j r → is_before_input r ≡ false
-ends_late n j r late is = absurd (subst (λ z. IsLateDelta z) is late)
-
 -- ---- delta leases
 
-renewed_works : (x : Step) (s : Session) (recovering : Bool) (made : ℕ) (answer : Answer) → CallsOwned x → WorksAt x → WorksAt (carry_delta s (next_after_renewal recovering made answer) x)
-unfolding carry_delta
-renewed_works x s recovering made (Read bytes) owned h = h
-renewed_works x s recovering made Failed owned h = h
-renewed_works x s true made Written owned h = h
-renewed_works x s false made Written owned h =
-    other_call_works (move_connection s made x) s.number s.path Survey s.offset (ReadSectors x.setting.layout.hosts) owned refl (move_works x (Renew s.lockspace (made + fail x.setting.timing)) h)
-
-freed_works : (x : Step) (s : Session) (j call : ℕ) (answer : Answer) → WorksAt x → WorksAt (carry_delta s (next_after_free j call answer) x)
-unfolding carry_delta
-freed_works x s j call answer h = by answer where
-  y : Step
-  y = remove_connection s.lockspace x
-
-  there : WorksAt y
-  there = removal_works x s.lockspace h
-
-  said : (r : Reply) (b : Bool) → is_before_input r ≡ false → WorksAt (when b (add_reply j r) y)
-  said r true later = reply_works y j r (later_same y.past (entry_of y) (record { job = j; reply = r }) later) there
-  said r false later = there
-
-  by : (a : Answer) → WorksAt (carry_delta s (next_after_free j call a) x)
-  by (Read bytes) = h
-  by Written = said Done (is_running (seen x) j) refl
-  by Failed = said (IoFault call) (is_running (seen x) j) refl
-
-renews_works : (x : Step) (s : Session) (bits : List ℕ) → CallsOwned x → WorksAt x → WorksAt (carry_delta s (next_renewal (delta_of_session x.setting s) x.reading (delta_known x.setting (seen x) s) bits) x)
-unfolding carry_delta next_renewal
-renews_works x s bits owned h = by (is_renewal_due (delta_of_session x.setting s) x.reading (delta_known x.setting (seen x) s)) where
-  d : DeltaRec
-  d = delta_record (delta_of_session x.setting s) Live (generation_of (seen x) s) (last_seq (seen x) s + 1) x.reading bits
-
-  by : (b : Bool) → WorksAt (carry_delta s (elim b as (λ z. DeltaNext) [ false ↦ Nothing | true ↦ WriteRenewal d ]) x)
-  by false = h
-  by true = other_call_works x s.number s.path Renewal (own_offset x.setting s) (WriteRecord (DeltaIs d)) owned refl h
-
-frees_works : (x : Step) (s : Session) → CallsOwned x → WorksAt x → WorksAt (carry_delta s (next_free (delta_of_session x.setting s) x.reading (delta_known x.setting (seen x) s)) x)
-unfolding carry_delta
-frees_works x s owned h = by (option_map (λ (j : Job). j.number) (leaving_job x.setting (seen x) s)) (is_some (free_write (calls_of (seen x) s))) where
-  d : DeltaRec
-  d = delta_record (delta_of_session x.setting s) Free (generation_of (seen x) s) (last_seq (seen x) s + 1) x.reading no_bits
-
-  by : (o : Option ℕ) (b : Bool) → WorksAt (carry_delta s (elim o as (λ z. DeltaNext) [ None ↦ Nothing | Some j ↦ elim b as (λ z. DeltaNext) [ true ↦ Nothing | false ↦ WriteFree j d ] ]) x)
-  by None b = h
-  by (Some j) true = h
-  by (Some j) false = other_call_works x s.number s.path (Leaving j) (own_offset x.setting s) (WriteRecord (DeltaIs d)) owned refl h
+fitting_works : (x : Step) (s : Session) (n : DeltaNext) → DeltaFits IsLate x s n → Known x → WorksAt (carry_delta s n x)
+fitting_works x s n fits k =
+    delta_works x s n (fits_begin IsLate x s n fits) (λ i r is. later_same x.past (entry_of x) (record { job = i; reply = r }) (subst (λ z. DeltaFits IsLate x s z) is fits))
+    (λ r i is. subst (λ z. DeltaFits IsLate x s z) is fits) (all_owned x k) k.0.facts.works
 
 -- ---- settling
 
@@ -179,15 +133,15 @@ pub work_facts_are_kept : WorkFactsAreKept
 unfolding after_value_read
 work_facts_are_kept =
     record {
-      kills = λ x s has due k. signalled_works x Kill s k.0.facts.works;
+      kills = λ x s has due k. signalled_on WorksAt works_go_on x Kill s k.0.facts.works;
       times_out = λ x j m wake bare runs waits late k.
-          refusal_works x j (IoTimeout m.call.number m.reading x.reading) (waking_same x.past (entry_of x) (record { job = j; reply = IoTimeout m.call.number m.reading x.reading }) wake) k.0.facts.works;
+          refusal_on WorksAt works_go_on x j (IoTimeout m.call.number m.reading x.reading) (waking_same x.past (entry_of x) (record { job = j; reply = IoTimeout m.call.number m.reading x.reading }) wake) k.0.facts.works;
       hears = λ x number answer wake bare expected k. answer_works x number answer wake bare k.0.facts.calls k.0.facts.jobs expected k.0.facts.works;
       counts = λ x text wake bare k. input_works x (Number text) wake bare refl k.0.facts.jobs k.0.facts.works;
       exits = λ x p wake bare one k. exit_works (with_input (Exit p) x) p k.0.setting refl (input_works x (Exit p) wake bare refl k.0.facts.jobs k.0.facts.works);
       exits_as_none = λ x p wake bare none k. input_works x (Exit p) wake bare refl k.0.facts.jobs k.0.facts.works;
       starts = λ x p ok wake bare expected k. input_works x (Spawned p ok) wake bare refl k.0.facts.jobs k.0.facts.works;
-      fails_to_start = λ x p input k. said_works (end_holdings p x) (job_of_start (seen x) p) SpawnFault refl (ended_works x p k.0.facts.works);
+      fails_to_start = λ x p input k. said_on WorksAt works_go_on (end_holdings p x) (job_of_start (seen x) p) SpawnFault refl (ended_works x p k.0.facts.works);
       signals_instead = λ x p q input stood k. signal_works x q Term k.0.facts.works;
       says_started = λ x p j input is runs k. told x j (started_reply (seen x) p) k refl;
       misreads = λ x text column wake bare says k.
@@ -200,13 +154,14 @@ work_facts_are_kept =
           (input_works x (Line text) wake bare refl k.0.facts.jobs k.0.facts.works);
       carries = λ x text c d wake bare says is more k. lines_work x text c d k wake bare says is;
       joins_on = λ x s j step m answer hears is runs k.
-          let n : DeltaNext = next_in_joining (delta_of_session x.setting s) (generation_of (seen x) s) (calls_of (seen x) s) x.reading m step answer in
-          let late : IsLateDelta n = joining_late (delta_of_session x.setting s) (generation_of (seen x) s) (calls_of (seen x) s) x.reading m step answer in
-          delta_works x s n (all_owned x k) (λ i r at. later_same x.past (entry_of x) (record { job = i; reply = r }) (refuses_late n r late at)) (λ i r at. ends_late n i r late at) k.0.facts.works;
-      ends_joining = λ x s j step m answer hears is stops k. removal_of_refused_works x s k.0.facts.works;
-      renewed = λ x s m answer hears is k. renewed_works x s (is_some (recovery_of x.setting (seen x) s)) m.reading answer (all_owned x k) k.0.facts.works;
-      freed = λ x s j m answer hears is k. freed_works x s j m.call.number answer k.0.facts.works;
-      shown = λ x s m bytes hears is joined begins k. stopped_works x s None (surveys_no_job x s m (Read bytes) k hears is) k.0.facts.works;
+          fitting_works x s (next_in_joining (delta_of_session x.setting s) (generation_of (seen x) s) (calls_of (seen x) s) x.reading m step answer)
+          (joining_fits IsLate x s (joins_still x s j k.0 (heard_has x s m answer hears) (its_joining x s j step m answer k.0 hears is) runs) (delta_of_session x.setting s) (generation_of (seen x) s) (calls_of (seen x) s) x.reading m step answer) k;
+      ends_joining = λ x s j step m answer hears is stops k. removal_of_refused_on WorksAt works_go_on x s k.0.facts.works;
+      renewed = λ x s m answer hears is k.
+          fitting_works x s (next_after_renewal (is_some (recovery_of x.setting (seen x) s)) m.reading answer)
+          (renewed_fits IsLate x s (is_some (recovery_of x.setting (seen x) s)) m.reading answer) k;
+      freed = λ x s j m answer hears is k. fitting_works x s (next_after_free j m.call.number answer) (freed_fits IsLate x s (λ r late. late) j m.call.number answer) k;
+      shown = λ x s m bytes hears is joined begins k. stopped_on WorksAt works_go_on x s None (surveys_no_job x s m (Read bytes) k hears is) k.0.facts.works;
       sees = λ x s number bytes at g has input held k. other_call_works x s.number g.path SeeRequest (request_offset x.setting.layout g.offset) (ReadSectors 1) (all_owned x k) refl k.0.facts.works;
       leads_on = λ x s work step m answer aim hears is on at k. led_works x s work step m answer aim (record { whole = k; hears = hears; purpose = is; on = on; aimed = at });
       fails = λ x s m j hears lone runs k. told x j (IoFault m.call.number) k refl;
@@ -214,13 +169,15 @@ work_facts_are_kept =
       has_set = λ x s m j hears is runs k. told x j (set_reply m) k (plainly_late (set_reply m) (set_late m));
       asks = λ x s m j bytes c hears is runs at k. asked x s j bytes c (all_owned x k) k.0.facts.works;
       tells = λ x s m j bytes hears is runs k. told x j (value_reply x.setting.layout bytes) k (plainly_late (value_reply x.setting.layout bytes) (value_late x.setting.layout bytes));
-      warns = λ x s m bytes g signal hears is held own says k. sent_works x g.process signal k.0.facts.works;
+      warns = λ x s m bytes g signal hears is held own says k. sent_on WorksAt works_go_on x g.process signal k.0.facts.works;
       joins_in_time = λ x s j has wake is runs k.
-          let n : DeltaNext = next_on_wake (delta_of_session x.setting s) x.reading (calls_of (seen x) s) in
-          delta_works x s n (all_owned x k) (λ i r at. waking_same x.past (entry_of x) (record { job = i; reply = r }) wake)
-          (λ i r at. ends_late n i r (wake_late (delta_of_session x.setting s) x.reading (calls_of (seen x) s)) at) k.0.facts.works;
-      renews = λ x s has wake joined k. renews_works x s (bits_due x.setting (calls_of (seen x) s) x.reading) (all_owned x k) k.0.facts.works;
+          fitting_works x s (next_on_wake (delta_of_session x.setting s) x.reading (calls_of (seen x) s))
+          (wake_fits IsLate x s (joins_still x s j k.0 has is runs) (delta_of_session x.setting s) x.reading (calls_of (seen x) s)) k;
+      renews = λ x s has wake joined k.
+          renewal_keeps WorksAt x s (delta_of_session x.setting s) x.reading (delta_known x.setting (seen x) s) (bits_due x.setting (calls_of (seen x) s) x.reading)
+          (λ d. plain_call_works x s s.path Renewal (own_offset x.setting s) (WriteRecord (DeltaIs d)) refl refl (k.0.facts.works, all_owned x k)) k.0.facts.works;
       settles = λ x s at has wake active aligned none k. settled_works x s at (settle_next (lease_place x.setting s) (known x.setting (seen x) s at)) (all_owned x k) k.0.facts.works;
-      parts = λ x s has joined recovers free quiet k. removal_works x s.lockspace k.0.facts.works;
-      frees = λ x s has joined well free quiet k. frees_works x s (all_owned x k) k.0.facts.works;
+      parts = λ x s has joined recovers free quiet k. removal_on WorksAt works_go_on x s.lockspace k.0.facts.works;
+      frees = λ x s has joined well free quiet k.
+          free_keeps WorksAt x s (λ j d. plain_call_works x s s.path (Leaving j) (own_offset x.setting s) (WriteRecord (DeltaIs d)) refl refl (k.0.facts.works, all_owned x k)) k.0.facts.works;
     }

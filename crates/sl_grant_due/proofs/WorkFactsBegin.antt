@@ -3,7 +3,8 @@ use Rattle.sl_acts.proofs.EffectsKeep.{stopped}
 use Rattle.sl_acts.proofs.LoopsKeep.{for_each_keeps, when_keeps}
 use Rattle.sl_due.specs.DueFirst.{begin_recoveries, begin_recovery, begins_now, signal_and_refuse}
 use Rattle.sl_due.specs.Steps.{begin_step, seen}
-use Rattle.sl_grant_due.proofs.WorksByDeltas.{stopped_works}
+use Rattle.sl_grant_due.proofs.OthersGoOn.{stopped_on}
+use Rattle.sl_grant_due.proofs.WorksByDeltas.{works_go_on}
 use Rattle.sl_grant_due.proofs.WorksByEffects.{WorksAt}
 use Rattle.sl_grant_due.proofs.WorksByLines.{none_shared_on}
 use Rattle.sl_grant_due.specs.GrantPromises.{WorkFactsBegin}
@@ -67,5 +68,5 @@ unfolding begin_recoveries begin_recovery
 work_facts_begin st past e follows whole =
     (for_each_keeps (λ z. WorksAt z × (z.input ≡ Wake)) (present_sessions st (seen (begin_step st past e.reading))) begin_recovery (begin_step st past e.reading)
     (λ s there y h. when_keeps (λ z. WorksAt z × (z.input ≡ Wake)) (begins_now (seen y) (recovery_of y.setting (seen y) s)) (signal_and_refuse s None) y
-    (λ begins k. (stopped_works y s None (waking_answers_none y.past y.input k.1) k.0, stopped (λ z. z.input ≡ Wake) wake_effects y s None k.1)) h)
+    (λ begins k. (stopped_on WorksAt works_go_on y s None (waking_answers_none y.past y.input k.1) k.0, stopped (λ z. z.input ≡ Wake) wake_effects y s None k.1)) h)
     (fresh_works st e.reading past whole.facts.calls whole.facts.works, refl)).0

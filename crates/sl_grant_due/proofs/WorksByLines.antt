@@ -10,7 +10,8 @@ use Rattle.sl_due.specs.Steps.{Step, add_call_of, add_end, add_reply, seen, with
 use Rattle.sl_due.specs.declared.decision.Decision.TheVariants.{ConvertsTo, GetsValue, GivesUp, Joins, Leaves, ReadsArea, Replies, Requests, SetsValue, Shares, TakesOver}
 use Rattle.sl_due.specs.declared.decision.Decision.{Decision}
 use Rattle.sl_grant_due.proofs.WorksByAnswers.{granted_works, new_spot, one_job}
-use Rattle.sl_grant_due.proofs.WorksByDeltas.{other_call_works, stopped_works}
+use Rattle.sl_grant_due.proofs.OthersGoOn.{stopped_on}
+use Rattle.sl_grant_due.proofs.WorksByDeltas.{other_call_works, works_go_on}
 use Rattle.sl_grant_due.proofs.WorksByEffects.{CallsOwned, IsNewWork, WorksAt, call_works, end_works, reply_works}
 use Rattle.sl_grant_due.proofs.WorksByGrants.{NobodyWorksAt}
 use Rattle.sl_grant_due.proofs.WorksByInputs.{input_works}
@@ -159,7 +160,7 @@ since_now past t n s at is none =
       off true b = refl
       off false b = refl
 
-own_held : (t : Trace) (s : Session) (at : Spot) (g : Grant) → Contains (holdings t) g → g.session ≡ s.number → same_place g.path g.offset at.path at.base ≡ true → Contains (holdings_on t s at) g
+pub own_held : (t : Trace) (s : Session) (at : Spot) (g : Grant) → Contains (holdings t) g → g.session ≡ s.number → same_place g.path g.offset at.path at.base ≡ true → Contains (holdings_on t s at) g
 own_held t s at g there mine same =
     kept (λ (k : Grant). same_place k.path k.offset at.path at.base) (holdings_of t s) g same
     (kept (λ (k : Grant). k.session == s.number) (holdings t) g (subst (λ n. (g.session == n) ≡ true) mine (number_itself g.session)) there)
@@ -493,7 +494,7 @@ lines_work x text c d k wake bare says at =
       by : (d : Decision) → HasGrounds x.setting (seen x) c d → Of (Has y) d → WorksAt (carry_decision j c d y)
       by (Replies r) g has = h
       by (Joins n a) g has = other_call_works y n a.path (Joining j FirstRead) (delta_offset x.setting.layout a.offset a.id) (ReadSectors 1) all_owned refl h
-      by (Leaves s) g has = stopped_works y s (Some j) (no_told x.past text) h
+      by (Leaves s) g has = stopped_on WorksAt works_go_on y s (Some j) (no_told x.past text) h
       by (ReadsArea s r) g has = reads_work x text c s r (lined s has) g
       by (Shares s lver) g has =
           granted_works y s j c Shared lver
