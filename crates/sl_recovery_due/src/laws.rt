@@ -1,0 +1,1 @@
+//! What is done of recovery, leaving and parting.
