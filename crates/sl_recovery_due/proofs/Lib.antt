@@ -5,3 +5,5 @@ pub mod RecoveriesStart
 pub mod MayStop
 pub mod StopsBegin
 pub mod StopsAreKept
+pub mod StopsConclude
+pub mod DenialsAreKept

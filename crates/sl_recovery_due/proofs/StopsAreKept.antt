@@ -49,7 +49,7 @@ use Rattle.sl_words.specs.Words.{some_is}
 use Rattle.std.proofs.Common.{ap, arith, inl, inr, refl, subst, sym, ◌∙◌}
 use Rattle.std.specs.Prelude.{Contains, List, None, Ok, Option, Some, [], bytes_eq, false, length, suc, true, ℕ, ◌&&◌, ◌+◌, ◌==◌, ◌∷◌, ◌≡◌, ◌⊎◌}
 
-abbrev HasStops : Step → Type 0
+abbrev pub HasStops : Step → Type 0
 HasStops x = Stops x (heard_by x.input)
 
 -- All that is known, with this.
