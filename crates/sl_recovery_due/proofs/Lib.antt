@@ -7,3 +7,4 @@ pub mod StopsBegin
 pub mod StopsAreKept
 pub mod StopsConclude
 pub mod DenialsAreKept
+pub mod PartingsAreKept

@@ -8,7 +8,6 @@ use Rattle.sl_due.specs.DueFirst.{signal_and_refuse}
 use Rattle.sl_due.specs.DueLease.{next_of_lease}
 use Rattle.sl_due.specs.DueRequests.{after_value_read, value_reply}
 use Rattle.sl_due.specs.Steps.{Step, seen, with_input}
-use Rattle.sl_job_facts.proofs.CallsHaveFacts.{IsTimely, calls_before, timely}
 use Rattle.sl_job_facts.proofs.EffectsAreAllowed.{delta, lease, removal, removal_of_refused, requested, sent, stopped}
 use Rattle.sl_job_facts.proofs.JobFactsGrow.{contains_left}
 use Rattle.sl_job_facts.proofs.NearlyPlainActs.{AnyMove, AnyStart, Anything, Nearly, NoLook, free_plain, freed_plain, joining_plain, lease_plain, renewed_plain, request_plain}
@@ -17,9 +16,8 @@ use Rattle.sl_job_facts.proofs.QuietFactsConclude.{ReadBy, read_by}
 use Rattle.sl_job_facts.proofs.RepliesComeAfter.{joining_late}
 use Rattle.sl_job_facts.proofs.SessionsArePresent.{joined_present, session_has}
 use Rattle.sl_law.specs.LawfulRecovery.{StopsSession}
-use Rattle.sl_law.specs.Saying.{IsAnsweredAt}
 use Rattle.sl_leases.specs.Leases.{spot_of_call}
-use Rattle.sl_plain.proofs.Lists.{find_inside, kept_inside}
+use Rattle.sl_plain.proofs.Lists.{find_inside}
 use Rattle.sl_plain.proofs.Numbers.{number_itself}
 use Rattle.sl_plain.proofs.Options.{some_of, some_there}
 use Rattle.sl_recovery_due.proofs.MayStop.{programs_when_told, stop_done}
@@ -29,7 +27,7 @@ use Rattle.sl_recovery_due.proofs.StopsBegin.{Says, stop_only_says, stopped_near
 use Rattle.sl_recovery_due.proofs.StopsGrow.{stops_effects}
 use Rattle.sl_recovery_due.specs.Stops.{Denies, FreeTold, JustHeard, Partings, Stops}
 use Rattle.sl_sessions.specs.Deltas.{delta_known, delta_of_session, next_after_free, next_after_renewal, next_free, next_in_joining}
-use Rattle.sl_sessions.specs.Sessions.{begun_in, calls_of, generation_of, is_call_of, is_free_purpose, is_joined, is_present, is_survey_purpose, leaving_job, recovers, recovery_of, renewed_by, renewing, renewing_after, session_numbered, sessions, shows_other}
+use Rattle.sl_sessions.specs.Sessions.{begun_in, calls_of, generation_of, is_joined, is_present, is_survey_purpose, leaving_job, recovers, recovery_of, renewed_by, renewing, renewing_after, session_numbered, sessions, shows_other}
 use Rattle.sl_sessions.specs.declared.session.Begun.{Begun}
 use Rattle.sl_sessions.specs.declared.session.Renewing.{Renewing}
 use Rattle.sl_sessions.specs.declared.session.Session.{Session}
@@ -52,7 +50,7 @@ use Rattle.sl_words.proofs.CaseLaws.{false_is_true, is_false, none_some, not_bot
 use Rattle.std.proofs.Common.{ap, arith, inl, inr, refl, subst, sym, ◌∙◌}
 use Rattle.std.proofs.lemmas.Bool.{eqb-true}
 use Rattle.std.specs.List.{list_any}
-use Rattle.std.specs.Prelude.{Bool, Contains, List, None, Option, Some, [], false, is_some, length, nat_le, suc, true, unwrap_or, ℕ, ◌&&◌, ◌+◌, ◌<◌, ◌==◌, ◌∷◌, ◌≡◌, ◌≤◌, ◌⊎◌}
+use Rattle.std.specs.Prelude.{Bool, Contains, List, None, Option, Some, false, is_some, length, nat_le, suc, true, unwrap_or, ℕ, ◌&&◌, ◌+◌, ◌<◌, ◌==◌, ◌∷◌, ◌≡◌, ◌≤◌, ◌⊎◌}
 
 -- ---- an answer has just been heard
 
@@ -102,16 +100,11 @@ wake_told st past now fx i s b is = by (renewing st past s) is where
     at None none g = by_time r (is_joined past s && nat_le (r.last + fail st.timing) now) none g
 
 -- No free was answered by a wake.
-unfreed_on_wake : (x : Step) (s : Session) → x.input ≡ Wake → x.effects.calls ≡ [] → FreeTold x s → ⊥
-unfreed_on_wake x s wake bare f =
-    let inside = find_inside (λ (m : Submitted). is_free_purpose m.call.purpose) (calls_of (seen x) s) f.call f.free in
-    let there : Contains (submitted x.past) f.call = subst (λ ms. Contains ms f.call) (calls_before x wake bare) (kept_inside (is_call_of s) (submitted (seen x)) f.call inside.0).0 in
-    by f.answered (timely x.past f.call there) where
-      by : IsAnsweredAt (length x.past) f.call f.answer → IsTimely (length x.past) f.call → ⊥
-      by a t = let less : a.0.at < length x.past = (t.1 a.0 a.1).1 in let at : a.0.at ≡ length x.past = a.2 in omega (arith, less, at)
+pub unfreed_on_wake : (x : Step) (s : Session) → x.input ≡ Wake → FreeTold x s → ⊥
+unfreed_on_wake x s wake f = true_is_false (ap (λ i. is_some (heard_by i)) (sym f.told ∙ wake))
 
-pub just_heard : (x : Step) (n : ℕ) (answer : Answer) → x.input ≡ Wake → x.effects.calls ≡ [] → Denies x → Partings x → JustHeard (with_input (Told n answer) x)
-just_heard x n answer wake bare denies partings = record { stands = stands; denies = denies wake } where
+pub just_heard : (x : Step) (n : ℕ) (answer : Answer) → x.input ≡ Wake → Denies x → Partings x → JustHeard (with_input (Told n answer) x)
+just_heard x n answer wake denies partings = record { stands = stands; denies = denies wake } where
   e : Entry
   e = entry_of (with_input (Told n answer) x)
 
@@ -125,7 +118,7 @@ just_heard x n answer wake bare denies partings = record { stands = stands; deni
     never : Starts x.setting x.past s (entry_of (with_input (Told n answer) x)) b → is_joined x.past s ≡ true → list_any (unregisters s.lockspace) x.effects.moves ≡ true → ⊥
     never new joined gone = on (partings s there joined gone) where
       on : (is_some (recovery_of x.setting (seen x) s) ≡ true) ⊎ FreeTold x s → ⊥
-      on (inr freed) = unfreed_on_wake x s wake bare freed
+      on (inr freed) = unfreed_on_wake x s wake freed
       on (inl some_one) =
           let c = some_there (recovery_of x.setting (seen x) s) some_one in
           let now : recovery_of x.setting (record { reading = x.reading; input = Wake; effects = x.effects } ∷ x.past) s ≡ Some c.0 = sym at_wake ∙ c.1 in

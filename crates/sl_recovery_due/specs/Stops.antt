@@ -3,18 +3,17 @@ use Rattle.sl_acts.specs.SoFar.{entry_of}
 use Rattle.sl_due.specs.DueDelta.{begins_by_read}
 use Rattle.sl_due.specs.Steps.{Step, seen}
 use Rattle.sl_law.specs.LawfulRecovery.{StopsSession}
-use Rattle.sl_law.specs.Saying.{IsAnsweredAt}
-use Rattle.sl_sessions.specs.Sessions.{calls_of, free_write, is_joined, leaving_job, recovery_of, sessions}
+use Rattle.sl_sessions.specs.Sessions.{is_call_of, is_free_purpose, is_joined, leaving_job, recovery_of, sessions}
 use Rattle.sl_sessions.specs.declared.session.Begun.{Begun}
 use Rattle.sl_sessions.specs.declared.session.Session.{Session}
 use Rattle.sl_trace.specs.Connections.{unregisters}
 use Rattle.sl_trace.specs.EffectTexts.{is_ok_reply}
-use Rattle.sl_trace.specs.Traces.{Job, Submitted}
+use Rattle.sl_trace.specs.Traces.{Job, Submitted, submitted}
 use Rattle.sl_trace.specs.declared.effects.JobReply.{JobReply}
 use Rattle.sl_trace.specs.declared.input.Answer.{Answer}
-use Rattle.sl_trace.specs.declared.input.Input.TheVariants.{Wake}
+use Rattle.sl_trace.specs.declared.input.Input.TheVariants.{Answer as Told, Wake}
 use Rattle.std.specs.List.{list_any}
-use Rattle.std.specs.Prelude.{Contains, IsFalse, None, Option, Some, false, is_some, length, suc, true, ℕ, ◌&&◌, ◌≡◌, ◌⊎◌}
+use Rattle.std.specs.Prelude.{Contains, IsFalse, None, Option, Some, false, find, is_some, length, suc, true, ℕ, ◌&&◌, ◌≡◌, ◌⊎◌}
 
 -- Each session whose recovery or leaving began in this step has been stopped, but where recovery begins by the read whose answer was heard.
 pub record Stops (x : Step) (heard : Option ℕ) : Type 0 where
@@ -34,12 +33,14 @@ pub record JustHeard (x : Step) : Type 0 where
       is_joined (seen x) s ≡ true
   pub denies : (a : JobReply) → Contains x.effects.replies a → IsFalse (is_ok_reply a.reply)
 
--- The answer to the session's free came in this step.
+-- The input answers the session's free, which an entry before has written.
 pub record FreeTold (x : Step) (s : Session) : Type 0 where
-  pub call : Submitted
+  pub number : ℕ
   pub answer : Answer
-  pub free : free_write (calls_of (seen x) s) ≡ Some call
-  pub answered : IsAnsweredAt (length x.past) call answer
+  pub told : x.input ≡ Told number answer
+  pub call : Submitted
+  pub free : find (λ m. is_call_of s m && is_free_purpose m.call.purpose) (submitted x.past) ≡ Some call
+  pub its : call.call.number ≡ number
 
 -- The connection of a joined session is removed in recovery or at its free's answer.
 abbrev pub Partings : Step → Type 0
