@@ -8,3 +8,4 @@ pub mod StopsAreKept
 pub mod StopsConclude
 pub mod DenialsAreKept
 pub mod PartingsAreKept
+pub mod PassesKeep
