@@ -9,3 +9,4 @@ pub mod StopsConclude
 pub mod DenialsAreKept
 pub mod PartingsAreKept
 pub mod PassesKeep
+pub mod FinishEnds
