@@ -91,7 +91,7 @@ finish_all K moves calls ss z h = for_each_keeps K ss finish_session z (λ s the
 -- ---- what it leaves of a session
 
 -- A joined session of before that isn't joined any more stays so.
-gone_stays : (s : Session) (y : Step) (m : Move) → is_joined (seen y) s ≡ false → is_joined (seen (add_move m y)) s ≡ false
+pub gone_stays : (s : Session) (y : Step) (m : Move) → is_joined (seen y) s ≡ false → is_joined (seen (add_move m y)) s ≡ false
 gone_stays s y m gone = is_false (is_joined (seen (add_move m y)) s) (λ is. not_both (is_joined (seen y) s) (move_joined y m s is) gone)
 
 -- A write that is open stays open.

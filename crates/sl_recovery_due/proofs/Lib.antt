@@ -10,3 +10,4 @@ pub mod DenialsAreKept
 pub mod PartingsAreKept
 pub mod PassesKeep
 pub mod FinishEnds
+pub mod FreesConclude

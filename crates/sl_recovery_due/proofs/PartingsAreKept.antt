@@ -104,7 +104,7 @@ pub record PartingSince (x z : Step) : Type 0 where
 since_itself : (x : Step) → Partings x → PartingSince x x
 since_itself x h = record { setting = refl; before = refl; input = refl; recovery = λ s. refl; partings = h }
 
-told_again : (y z : Step) (s : Session) → z.input ≡ y.input → z.past ≡ y.past → FreeTold y s → FreeTold z s
+pub told_again : (y z : Step) (s : Session) → z.input ≡ y.input → z.past ≡ y.past → FreeTold y s → FreeTold z s
 told_again y z s input before f =
     record {
       number = f.number;
@@ -317,7 +317,7 @@ free_is_told x s j m answer h hears is =
     same = (same_answered x.past (entry_of x) hears.number answer before.0).call
 
 -- A session whose free was heard is still joined.
-leaver_joined : (x : Step) (s : Session) (j : ℕ) (m : Submitted) (answer : Answer) → Whole x → Hears x s m answer → m.call.purpose ≡ Leaving j → is_joined (seen x) s ≡ true
+pub leaver_joined : (x : Step) (s : Session) (j : ℕ) (m : Submitted) (answer : Answer) → Whole x → Hears x s m answer → m.call.purpose ≡ Leaving j → is_joined (seen x) s ≡ true
 leaver_joined x s j m answer h hears is = by (joined_after (seen x) s) (removed_after (seen x) s) joined hears.present where
   inside : Contains (submitted (seen x)) m
   inside = (find_inside (λ (d : Submitted). d.call.number == hears.number) (submitted (seen x)) m hears.call).0

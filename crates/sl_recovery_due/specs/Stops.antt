@@ -47,3 +47,7 @@ abbrev pub Partings : Step → Type 0
 Partings x =
     (s : Session) → Contains (sessions x.setting x.past) s → is_joined x.past s ≡ true → list_any (unregisters s.lockspace) x.effects.moves ≡ true →
     (is_some (recovery_of x.setting (seen x) s) ≡ true) ⊎ FreeTold x s
+
+-- A joined session whose free's answer came in this step has ended.
+abbrev pub FreesEnd : Step → Type 0
+FreesEnd x = (s : Session) → Contains (sessions x.setting x.past) s → is_joined x.past s ≡ true → FreeTold x s → is_joined (seen x) s ≡ false
