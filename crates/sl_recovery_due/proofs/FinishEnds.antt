@@ -14,6 +14,7 @@ use Rattle.sl_job_facts.proofs.RepliesComeAfter.{on_bool, on_option}
 use Rattle.sl_job_facts.proofs.SessionsArePresent.{joined_present, present_inside}
 use Rattle.sl_job_facts.proofs.SessionsStand.{joined_then, move_joined, reply_joined}
 use Rattle.sl_parts_law.proofs.EffectsAreTold.{effects_are_told}
+use Rattle.sl_parts_law.proofs.JoinedCallsKeepOrder.{joined_is_covered}
 use Rattle.sl_plain.proofs.Lists.{contains_cases, contains_none, find_fails, find_inside, kept}
 use Rattle.sl_plain.proofs.Options.{some_there}
 use Rattle.sl_recovery_due.proofs.RecoveriesStart.{removed_is_not}
@@ -27,8 +28,9 @@ use Rattle.sl_sessions.specs.declared.delta.DeltaKnown.{DeltaKnown}
 use Rattle.sl_sessions.specs.declared.delta.DeltaNext.{DeltaNext}
 use Rattle.sl_sessions.specs.declared.delta.DeltaNext.TheVariants.{Disconnect, EndLeaving, Join, MoveConnection, Nothing, ReadOwn, RefuseJoin, RegisterAndRead, WriteClaim, WriteFirst, WriteFree, WriteRenewal}
 use Rattle.sl_sessions.specs.declared.session.Session.{Session}
+use Rattle.sl_step_facts.specs.SessionFacts.{ConnectionFacts}
 use Rattle.sl_trace.specs.Connections.{Connection, after_move, connection_named, connections, is_registered, renewed_connection, unregisters}
-use Rattle.sl_trace.specs.Traces.{Submitted, is_write, next_call, unanswered}
+use Rattle.sl_trace.specs.Traces.{Setting, Submitted, Trace, is_write, next_call, unanswered}
 use Rattle.sl_trace.specs.declared.effects.Call.{Call}
 use Rattle.sl_trace.specs.declared.effects.Move.{Move}
 use Rattle.sl_trace.specs.declared.effects.Move.TheVariants.{Register, Renew, Unregister}
@@ -89,6 +91,10 @@ finish_all : (K : Step → Type 0) → ((y : Step) (m : Move) → K y → K (add
 finish_all K moves calls ss z h = for_each_keeps K ss finish_session z (λ s there y k. finish_one K moves calls s y k) h
 
 -- ---- what it leaves of a session
+
+-- A joined session's name is registered.
+pub joined_registered : (st : Setting) (t : Trace) (heard : Option ℕ) (s : Session) → ConnectionFacts st t heard → Contains (sessions st t) s → is_joined t s ≡ true → is_registered st t s.lockspace ≡ true
+joined_registered st t heard s h there joined = h.covers s (present_inside st t s there (joined_present t s joined)) (joined_is_covered t s joined)
 
 -- A joined session of before that isn't joined any more stays so.
 pub gone_stays : (s : Session) (y : Step) (m : Move) → is_joined (seen y) s ≡ false → is_joined (seen (add_move m y)) s ≡ false

@@ -15,15 +15,14 @@ use Rattle.sl_job_facts.proofs.EffectsAreAllowed.{delta, lease, removal, removal
 use Rattle.sl_job_facts.proofs.JobsAreAllowed.{calls_heard}
 use Rattle.sl_job_facts.proofs.NearlyPlainActs.{AnyMove, AnyStart, Anything, Nearly, NoLook, free_plain, joining_plain, lease_plain, renewed_plain, request_plain}
 use Rattle.sl_job_facts.proofs.RepliesComeAfter.{joining_late}
-use Rattle.sl_job_facts.proofs.SessionsArePresent.{joined_present, present_inside, session_has}
+use Rattle.sl_job_facts.proofs.SessionsArePresent.{joined_present, session_has}
 use Rattle.sl_job_facts.proofs.SessionsStand.{joined_then, reply_joined}
 use Rattle.sl_law.specs.LawfulDelta.{LawfulDeltaCall, LawfulFree}
 use Rattle.sl_leases.specs.Leases.{spot_of_call}
 use Rattle.sl_leases.specs.declared.lease.LeaseNext.{LeaseNext}
-use Rattle.sl_parts_law.proofs.JoinedCallsKeepOrder.{joined_is_covered}
 use Rattle.sl_plain.proofs.Lists.{any_found, contains_map, find_inside, got_inside, kept_inside}
 use Rattle.sl_plain.proofs.Options.{some_of, then_value}
-use Rattle.sl_recovery_due.proofs.FinishEnds.{gone_stays}
+use Rattle.sl_recovery_due.proofs.FinishEnds.{gone_stays, joined_registered}
 use Rattle.sl_recovery_due.proofs.PartingsAreKept.{leaver_joined, told_again}
 use Rattle.sl_recovery_due.proofs.RecoveriesStart.{removed_is_not}
 use Rattle.sl_recovery_due.proofs.StopsConclude.{old_session}
@@ -222,7 +221,7 @@ frees_end x s j m answer h hears is = by answer refl where
   joined = leaver_joined x s j m answer h hears is
 
   registered : is_registered x.setting (seen x) s.lockspace ≡ true
-  registered = h.facts.connections.covers s (present_inside x.setting (seen x) s there (joined_present (seen x) s joined)) (joined_is_covered (seen x) s joined)
+  registered = joined_registered x.setting (seen x) (heard_by x.input) s h.facts.connections there joined
 
   at_end : (y : Step) (r : Reply) → y ≡ end_leaving s j r x → y.input ≡ x.input → y.past ≡ x.past → FreesEnd y
   at_end y r same input before z old was f =

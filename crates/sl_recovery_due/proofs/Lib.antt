@@ -11,3 +11,5 @@ pub mod PartingsAreKept
 pub mod PassesKeep
 pub mod FinishEnds
 pub mod FreesConclude
+pub mod RecoveryIsLawful
+pub mod PartingIsLawful

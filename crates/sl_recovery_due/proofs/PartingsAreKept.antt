@@ -247,7 +247,7 @@ freed_well x s j call (Read bytes) may = tt
 
 -- ---- a free's answer
 
-find_kept : {A : Type 0} (p q : A → Bool) (xs : List A) → find q (filter p xs) ≡ find (λ x. p x && q x) xs
+pub find_kept : {A : Type 0} (p q : A → Bool) (xs : List A) → find q (filter p xs) ≡ find (λ x. p x && q x) xs
 find_kept p q [] = refl
 find_kept {A} p q (x ∷ xs) = by (p x) (find_kept p q xs) where
   by : (b : Bool) → find q (filter p xs) ≡ find (λ y. p y && q y) xs → find q (cond b (x ∷ filter p xs) (filter p xs)) ≡ cond (b && q x) (Some x) (find (λ y. p y && q y) xs)

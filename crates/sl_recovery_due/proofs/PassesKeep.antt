@@ -12,7 +12,7 @@ use Rattle.sl_due.specs.Due.{after_input, before_input, due_step}
 use Rattle.sl_due.specs.DueCommands.{carry_decision}
 use Rattle.sl_due.specs.DueFirst.{begin_recoveries, kill_holders, kills, kills_holders, send, signal_holders}
 use Rattle.sl_due.specs.DueInputs.{end_holdings, on_spawned, take_input, when_running}
-use Rattle.sl_due.specs.DueWake.{finish, is_wake, on_wake}
+use Rattle.sl_due.specs.DueWake.{is_wake, on_wake}
 use Rattle.sl_due.specs.Steps.{Step, add_end, add_reply, add_signal, begin_step, for_each, seen, when, with_input, with_some}
 use Rattle.sl_job_facts.proofs.CallsHaveFacts.{find_mapped}
 use Rattle.sl_job_facts.proofs.EffectsAreAllowed.{exited}
@@ -40,10 +40,14 @@ use Rattle.std.specs.Prelude.{Bool, Contains, List, None, Option, Some, [], fals
 
 -- ---- from a part on to the end
 
+-- The step with its input, and what a wake makes due.
+abbrev pub before_last : Input → Step → Step
+before_last i y = when (is_wake i) on_wake (take_input i y)
+
 -- From the step as the input finds it.
-pub after_head : (I : Step → Type 0) → Plainly I → (y : Step) (i : Input) → y.input ≡ Wake → IsUnused y → I y → I (after_input i (take_input i y))
-unfolding after_input take_input
-after_head I p y i wake bare h = by i wake bare h taken where
+pub until_last : (I : Step → Type 0) → Plainly I → (y : Step) (i : Input) → y.input ≡ Wake → IsUnused y → I y → I (before_last i y)
+unfolding take_input
+until_last I p y i wake bare h = by i wake h taken where
   answers : (number : ℕ) (answer : Answer) → i ≡ Told number answer → I (take_input i y)
   answers number answer is = subst (λ z. I (take_input z y)) (sym is) (answer_keeps I (plain_acts I p) y number answer wake bare (p.inputs y (Told number answer) wake bare.0 h))
 
@@ -58,13 +62,17 @@ after_head I p y i wake bare h = by i wake bare h taken where
   taken : I (take_input i y)
   taken = others_keep I (other_acts I (plain_acts I p)) y i wake bare.0 answers (arrives i) h
 
-  by : (k : Input) → y.input ≡ Wake → IsUnused y → I y → I (take_input k y) → I (finish (when (is_wake k) on_wake (take_input k y)))
-  by Wake woken unused g seen_one = last_keeps I (other_acts I (plain_acts I p)) (on_wake y) (wake_keeps I (other_acts I (plain_acts I p)) y woken g)
-  by (Line text) woken unused g seen_one = last_keeps I (other_acts I (plain_acts I p)) (take_input (Line text) y) seen_one
-  by (Number text) woken unused g seen_one = last_keeps I (other_acts I (plain_acts I p)) (take_input (Number text) y) seen_one
-  by (Told n a) woken unused g seen_one = last_keeps I (other_acts I (plain_acts I p)) (take_input (Told n a) y) seen_one
-  by (Exit n) woken unused g seen_one = last_keeps I (other_acts I (plain_acts I p)) (take_input (Exit n) y) seen_one
-  by (Spawned n ok) woken unused g seen_one = last_keeps I (other_acts I (plain_acts I p)) (take_input (Spawned n ok) y) seen_one
+  by : (k : Input) → y.input ≡ Wake → I y → I (take_input k y) → I (when (is_wake k) on_wake (take_input k y))
+  by Wake woken g seen_one = wake_keeps I (other_acts I (plain_acts I p)) y woken g
+  by (Line text) woken g seen_one = seen_one
+  by (Number text) woken g seen_one = seen_one
+  by (Told n a) woken g seen_one = seen_one
+  by (Exit n) woken g seen_one = seen_one
+  by (Spawned n ok) woken g seen_one = seen_one
+
+pub after_head : (I : Step → Type 0) → Plainly I → (y : Step) (i : Input) → y.input ≡ Wake → IsUnused y → I y → I (after_input i (take_input i y))
+unfolding after_input
+after_head I p y i wake bare h = last_keeps I (other_acts I (plain_acts I p)) (before_last i y) (until_last I p y i wake bare h)
 
 -- From where kills are done.
 pub after_kills : (I : Step → Type 0) → Plainly I → (st : Setting) (past : Trace) (now : ℕ) (i : Input) → I (kills (begin_recoveries (begin_step st past now))) → I (due_step st past now i)
