@@ -6,7 +6,7 @@ use Rattle.sl_holding_due.proofs.PlainPlaces.{text_is}
 use Rattle.sl_plain.proofs.Lists.{contains_cases, contains_first, contains_more, contains_none, got_inside, kept}
 use Rattle.sl_plain.proofs.Numbers.{number_itself}
 use Rattle.sl_plain.proofs.Options.{none_is}
-use Rattle.sl_sessions.specs.Sessions.{ended_after, has_open_write, holdings_of, is_joined, is_present, joined_after, present_sessions, refused_after, removed_after, session_numbered, sessions}
+use Rattle.sl_sessions.specs.Sessions.{calls_of, ended_after, has_open_write, holdings_of, is_joined, is_present, joined_after, present_sessions, refused_after, removed_after, session_numbered, sessions}
 use Rattle.sl_sessions.specs.declared.session.Session.{Session}
 use Rattle.sl_step_facts.specs.Heard.{IsOpen, heard_by}
 use Rattle.sl_step_facts.specs.SessionFacts.{ConnectionFacts, NameFacts}
@@ -126,4 +126,7 @@ pub none_of_writer : (x : Step) (s : Session) (m : Submitted) → HoldsAt x → 
     → Contains (submitted (seen x)) m → m.call.session ≡ s.number → is_write m.call.op ≡ true → IsOpen (seen x) (heard_by x.input) m → NoneHeldOf x s.lockspace
 none_of_writer x s m h connections there unjoined inside its writes opens g held same =
     let o = h.owned g held in
-    connections.writers s o.0 m there unjoined inside its writes opens (got_inside (sessions x.setting (seen x)) g.session o.0 o.1) o.2 (sym o.3 ∙ same)
+    let mine : Contains (calls_of (seen x) s) m = kept (λ (k : Submitted). k.call.session == s.number) (submitted (seen x)) m (subst (λ n. (n == s.number) ≡ true) (sym its) (number_itself s.number)) inside in
+    let one : o.0 ≡ s =
+    connections.writers s o.0 m there unjoined mine writes opens (got_inside (sessions x.setting (seen x)) g.session o.0 o.1) (joined_present (seen x) o.0 o.2) (sym o.3 ∙ same) in
+    joined_some (seen x) s (subst (λ z. is_joined (seen x) z ≡ true) one o.2) unjoined

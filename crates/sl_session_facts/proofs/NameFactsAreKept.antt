@@ -205,7 +205,7 @@ joined_on_wake past now s = by s.job where
   by None = refl
   by (Some j) = ap (λ o. option_and_then (λ (r : Replied). choose (is_join_done r.reply) (r.at + 1)) o) (same j)
 
-refused_on_wake : (past : Trace) (now : ℕ) (s : Session) → refused_after (record { reading = now; input = Wake; effects = no_effects } ∷ past) s ≡ refused_after past s
+pub refused_on_wake : (past : Trace) (now : ℕ) (s : Session) → refused_after (record { reading = now; input = Wake; effects = no_effects } ∷ past) s ≡ refused_after past s
 refused_on_wake past now s = by s.job where
   same : (j : ℕ) → reply_to (record { reading = now; input = Wake; effects = no_effects } ∷ past) j ≡ reply_to past j
   same j = either (reply_to past j) where
@@ -232,7 +232,7 @@ present_on_wake past now s =
     ∙ (ap (λ o. present_by (joined_after past s) o (refused_after (record { reading = now; input = Wake; effects = no_effects } ∷ past) s) (has_open_write past s)) (removed_on_wake past now s)
     ∙ ap (λ o. present_by (joined_after past s) (removed_after past s) o (has_open_write past s)) (refused_on_wake past now s))
 
-names_wake : (st : Setting) (past : Trace) (now : ℕ) → NameFacts st past None → HasNameFacts (begin_step st past now)
+pub names_wake : (st : Setting) (past : Trace) (now : ℕ) → NameFacts st past None → HasNameFacts (begin_step st past now)
 names_wake st past now h =
     record {
       apart = λ a b first second same. h.apart a b (before a first) (before b second) same;

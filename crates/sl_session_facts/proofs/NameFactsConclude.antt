@@ -73,7 +73,7 @@ use Rattle.std.specs.Prelude.{Bool, Contains, IsTrue, List, None, Option, Some, 
 -- ---- a joining's answer
 
 -- The answer that was heard is the call's.
-heard_answer : (x : Step) (s : Session) (m : Submitted) (answer : Answer) (a : Answered) → Whole x → Hears x s m answer → m.answer ≡ Some a → a.answer ≡ answer
+pub heard_answer : (x : Step) (s : Session) (m : Submitted) (answer : Answer) (a : Answered) → Whole x → Hears x s m answer → m.answer ≡ Some a → a.answer ≡ answer
 heard_answer x s m answer a h hears is =
     let n : ℕ = hears.number in
     let expected : IsTrue (is_expected x.setting x.past (Told n answer)) = subst (λ i. IsTrue (is_expected x.setting x.past i)) hears.heard h.orderly.is_trace.0.expected in
@@ -98,7 +98,7 @@ heard_answer x s m answer a h hears is =
     by d true mine none same = ap (λ (z : Answered). z.answer) (sym (some_value (made d) a (sym (ap (λ o. option_or o (Some (made d))) none) ∙ same)))
 
 -- And fits it.
-fitting : (x : Step) (s : Session) (m : Submitted) (answer : Answer) → Whole x → Hears x s m answer → IsTrue (is_answer_for x.setting answer m.call.op)
+pub fitting : (x : Step) (s : Session) (m : Submitted) (answer : Answer) → Whole x → Hears x s m answer → IsTrue (is_answer_for x.setting answer m.call.op)
 fitting x s m answer h hears = by m.answer refl where
   there : Contains (submitted (seen x)) m
   there = (find_inside (λ (z : Submitted). z.call.number == hears.number) (submitted (seen x)) m hears.call).0

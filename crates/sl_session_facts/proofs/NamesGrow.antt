@@ -178,7 +178,7 @@ unheard_head es e (Told n a) (k ∷ ks) m ms are other =
     (ks, ap (λ q. q ∷ ks) (sym same ∙ first))
 unheard_head es e i ks m ms are other = (ms, are)
 
-write_then : (x : Step) (i : Input) (s : Session) → x.input ≡ Wake → x.effects.calls ≡ [] → has_open_write (seen (with_input i x)) s ≡ true → has_open_write (seen x) s ≡ true
+pub write_then : (x : Step) (i : Input) (s : Session) → x.input ≡ Wake → x.effects.calls ≡ [] → has_open_write (seen (with_input i x)) s ≡ true → has_open_write (seen x) s ≡ true
 write_then x i s wake bare is = by i (calls_of_told x i s wake bare) where
   by : (k : Input) → calls_of (seen (with_input i x)) s ≡ mark x.past (entry_of (with_input i x)) k (calls_of (seen x) s) → has_open_write (seen x) s ≡ true
   by (Told n a) are = write_before (calls_of (seen x) s) x.past (entry_of (with_input i x)) n a (subst (λ ms. list_any (λ (m : Submitted). is_write m.call.op) (unanswered ms) ≡ true) are is)

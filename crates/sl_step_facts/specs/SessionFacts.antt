@@ -3,7 +3,7 @@ use Rattle.sl_due.specs.Due.{is_waiting_step}
 use Rattle.sl_due.specs.DueDelta.{begins_by_read}
 use Rattle.sl_law.specs.LawfulWatchdog.{is_covered}
 use Rattle.sl_leases.specs.Jobs.{jobs_of_session}
-use Rattle.sl_sessions.specs.Sessions.{calls_of, free_write, generation_of, holdings_of, is_joined, is_recovering, joined_after, last_renewal, last_seq, leaving_job, present_sessions, recovery_of, sessions}
+use Rattle.sl_sessions.specs.Sessions.{calls_of, free_write, generation_of, holdings_of, is_joined, is_present, is_recovering, joined_after, last_renewal, last_seq, leaving_job, present_sessions, recovery_of, sessions}
 use Rattle.sl_sessions.specs.declared.session.Session.{Session}
 use Rattle.sl_step_facts.specs.Heard.{IsOpen}
 use Rattle.sl_time.specs.Times.{fail}
@@ -11,7 +11,7 @@ use Rattle.sl_trace.specs.Connections.{Connection, connection_named, connections
 use Rattle.sl_trace.specs.Traces.{Answered, Job, Setting, Submitted, Trace, is_ok_answer, is_running, is_write, submitted, unanswered}
 use Rattle.sl_words.specs.Bounds.{is_number}
 use Rattle.sl_words.specs.Words.{is_empty}
-use Rattle.std.specs.Prelude.{Contains, IsSome, IsTrue, List, None, Option, Some, bytes_eq, false, filter, is_some, length, true, [], ℕ, ◌&&◌, ◌+◌, ◌∷◌, ◌≡◌, ◌≤◌, ◌⊎◌}
+use Rattle.std.specs.Prelude.{Contains, IsSome, IsTrue, List, None, Option, Some, false, is_some, true, [], ℕ, ◌&&◌, ◌+◌, ◌∷◌, ◌≡◌, ◌≤◌, ◌⊎◌}
 
 -- No job goes on under a session in recovery or leaving.
 pub record QuietFacts (st : Setting) (t : Trace) (heard : Option ℕ) : Type 0 where
@@ -31,21 +31,25 @@ pub record NameFacts (st : Setting) (t : Trace) (heard : Option ℕ) : Type 0 wh
   pub waits : (s : Session) (j : ℕ) (m : Submitted) (ms : List Submitted) → Contains (sessions st t) s → s.job ≡ Some j → is_running t j ≡ true →
       calls_of t s ≡ m ∷ ms → is_some m.answer ≡ true → (heard ≡ Some m.call.number → ⊥) → IsTrue (is_waiting_step m.call.purpose)
 
--- A name is registered once, and just where a present session of it is covered.
+-- A session that isn't joined has written what the heard answer is of: its connection goes by what that makes due.
+abbrev pub IsHeardWriter : Trace → Option ℕ → Session → Type 0
+IsHeardWriter t heard s =
+    (joined_after t s ≡ None) × ((m : Submitted) × Contains (calls_of t s) m × (is_write m.call.op ≡ true) × (heard ≡ Some m.call.number))
+
+-- A name is registered just where a session of it is covered.
 pub record ConnectionFacts (st : Setting) (t : Trace) (heard : Option ℕ) : Type 0 where
-  pub once : (name : List ℕ) → length (filter (λ c. bytes_eq c.name name) (connections st t)) ≤ 1
-  pub covers : (s : Session) → Contains (present_sessions st t) s → is_covered t s ≡ true → is_registered st t s.lockspace ≡ true
-  -- the connection of a refused joining goes by what the answer of its write makes due
-  pub needed : (name : List ℕ) → heard ≡ None → is_registered st t name ≡ true →
-      (s : Session) × Contains (present_sessions st t) s × (s.lockspace ≡ name) × (is_covered t s ≡ true)
-  -- and that of a joined session moves by what its renewal's answer makes due
-  pub joined : (s : Session) (c : Connection) → Contains (present_sessions st t) s → is_joined t s ≡ true → heard ≡ None →
-      connection_named (connections st t) s.lockspace ≡ Some c → c.expiry ≡ last_renewal st t s + fail st.timing
-  pub joining : (s : Session) (c : Connection) → Contains (present_sessions st t) s → joined_after t s ≡ None →
+  pub covers : (s : Session) → Contains (sessions st t) s → is_covered t s ≡ true → is_registered st t s.lockspace ≡ true
+  -- but for a claim that was answered, and a refused joining whose write was
+  pub needed : (name : List ℕ) → is_registered st t name ≡ true →
+      (s : Session) × Contains (sessions st t) s × (s.lockspace ≡ name) × ((is_covered t s ≡ true) ⊎ IsHeardWriter t heard s)
+  -- no later than others wait; a renewal's answer counts before the connection moves
+  pub joined : (s : Session) (c : Connection) → Contains (sessions st t) s → is_joined t s ≡ true →
+      connection_named (connections st t) s.lockspace ≡ Some c → c.expiry ≤ last_renewal st t s + fail st.timing
+  pub joining : (s : Session) (c : Connection) → Contains (sessions st t) s → is_present t s ≡ true → joined_after t s ≡ None →
       connection_named (connections st t) s.lockspace ≡ Some c → c.expiry ≡ last_registering t s.lockspace + fail st.timing
-  -- a refused joining whose last write has been answered is not present any more when its connection is removed
-  pub writers : (s x : Session) (m : Submitted) → Contains (sessions st t) s → joined_after t s ≡ None → Contains (submitted t) m → m.call.session ≡ s.number →
-      is_write m.call.op ≡ true → IsOpen t heard m → Contains (sessions st t) x → is_joined t x ≡ true → x.lockspace ≡ s.lockspace → ⊥
+  -- from a joining's write until all is done that its answer makes due no other session of its name is present
+  pub writers : (s z : Session) (m : Submitted) → Contains (sessions st t) s → joined_after t s ≡ None → Contains (calls_of t s) m →
+      is_write m.call.op ≡ true → IsOpen t heard m → Contains (sessions st t) z → is_present t z ≡ true → z.lockspace ≡ s.lockspace → z ≡ s
 
 pub record DeltaFacts (st : Setting) (t : Trace) : Type 0 where
   -- a free is written in a leaving, by a session that holds nothing and has no other call open

@@ -4,7 +4,7 @@ use Rattle.sl_due.specs.Steps.{Step, seen}
 use Rattle.sl_law.specs.Lawful.{IsSetting, Lawful}
 use Rattle.sl_step_facts.specs.CallFacts.{CallFacts}
 use Rattle.sl_step_facts.specs.Heard.{heard_by}
-use Rattle.sl_step_facts.specs.JobFacts.{BusyFacts, JobFacts}
+use Rattle.sl_step_facts.specs.JobFacts.{JobFacts}
 use Rattle.sl_step_facts.specs.GrantGrounds.{GrantGrounds}
 use Rattle.sl_step_facts.specs.HoldingFacts.{HoldingFacts}
 use Rattle.sl_step_facts.specs.LeaseFacts.{NumberFacts, TurnFacts}
@@ -19,7 +19,6 @@ use Rattle.std.specs.Prelude.{None, Option, ℕ}
 pub record Facts (st : Setting) (t : Trace) (heard : Option ℕ) : Type 0 where
   pub calls : CallFacts st t
   pub jobs : JobFacts st t heard
-  pub busy : BusyFacts st t heard
   pub quiet : QuietFacts st t heard
   pub names : NameFacts st t heard
   pub connections : ConnectionFacts st t heard

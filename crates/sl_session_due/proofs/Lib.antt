@@ -1,0 +1,15 @@
+pub mod ConnectionsNamed
+pub mod SessionParts
+pub mod ConnectionsChange
+pub mod ConnectionEffects
+pub mod AllowedMore
+pub mod OtherJobs
+pub mod ConnectionWalk
+pub mod JoiningConnections
+pub mod JoiningSteps
+pub mod HeardCalls
+pub mod JoiningDecisions
+pub mod ConnectionInputs
+pub mod ConnectionLines
+pub mod ConnectionFactsAreKept
+pub mod ConnectionFactsConclude

@@ -1,0 +1,25 @@
+-- What is kept by each act of a step, and true once a step has begun: what is known of connections, and the laws of sessions.
+use Rattle.sl_acts.specs.Acts.{Acts}
+use Rattle.sl_due.specs.Steps.{Step, seen}
+use Rattle.sl_job_facts.specs.Promises.{BeginsWith}
+use Rattle.sl_step_facts.specs.Concluding.{Concludes}
+use Rattle.sl_step_facts.specs.Heard.{heard_by}
+use Rattle.sl_step_facts.specs.SessionFacts.{ConnectionFacts}
+use Rattle.sl_step_facts.specs.Whole.{Whole}
+use Rattle.std.specs.Prelude.{None}
+
+abbrev pub HasConnectionFacts : Step → Type 0
+HasConnectionFacts x = ConnectionFacts x.setting (seen x) (heard_by x.input)
+
+abbrev pub ConnectionFactsAreKept : Type 0
+ConnectionFactsAreKept = Acts Whole HasConnectionFacts
+
+abbrev pub ConnectionFactsBegin : Type 0
+ConnectionFactsBegin = BeginsWith HasConnectionFacts
+
+-- No connection waits for what an answer makes due.
+abbrev pub HasConnectionsPlainly : Step → Type 0
+HasConnectionsPlainly x = ConnectionFacts x.setting (seen x) None
+
+abbrev pub ConnectionFactsConclude : Type 0
+ConnectionFactsConclude = Concludes Whole (λ x. Whole x × HasConnectionsPlainly x) HasConnectionsPlainly
