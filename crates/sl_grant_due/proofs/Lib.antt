@@ -11,3 +11,13 @@ pub mod EndsAreLawful
 pub mod ExitsAreLawful
 pub mod GrantsStand
 pub mod OrphansAreLawful
+pub mod ActsOnto
+pub mod DeltasKeep
+pub mod GrantlessLines
+pub mod ActiveGrants
+pub mod CallsFit
+pub mod SharedGrants
+pub mod ModesAreLawful
+pub mod OthersGoOn
+pub mod ReadsBack
+pub mod ReadsByInputs

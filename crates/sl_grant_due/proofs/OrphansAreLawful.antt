@@ -84,11 +84,11 @@ own_granted w old g none grants own h there orphan = by (last_or old g h (subst 
 
 -- ---- the exit
 
-record Orphaning (x : Step) (p : ℕ) (z : Step) : Type 0 where
-  stand : StandsAt x z
-  grants : (g : Grant) → Contains z.effects.grants g → Contains x.effects.grants g ⊎ ((l : Grant) × Contains (holdings (seen x)) l × (leaves_orphan (holdings (seen x)) p l ≡ true) × (orphan_of l ≡ g))
+pub record Orphaning (x : Step) (p : ℕ) (z : Step) : Type 0 where
+  pub stand : StandsAt x z
+  pub grants : (g : Grant) → Contains z.effects.grants g → Contains x.effects.grants g ⊎ ((l : Grant) × Contains (holdings (seen x)) l × (leaves_orphan (holdings (seen x)) p l ≡ true) × (orphan_of l ≡ g))
 
-left_orphans : (x : Step) (p : ℕ) → Orphaning x p (refuse_jobs_of p (leave_holdings p x))
+pub left_orphans : (x : Step) (p : ℕ) → Orphaning x p (refuse_jobs_of p (leave_holdings p x))
 unfolding leave_holdings
 left_orphans x p = refused (leave_holdings p x) left where
   one : (z : Step) (g e : Grant) → Contains (orphans_left p (holdings (seen x))) g → Orphaning x p z → Contains z.effects.grants e ⊎ (g ≡ e)
@@ -230,14 +230,14 @@ led_orphans x s at (ForJob j) (BecomeExclusive lver b) is none =
 
 -- ---- what grants nothing
 
-stopped_grants : (y : Step) (s : Session) (kept : Option ℕ) → (signal_and_refuse s kept y).effects.grants ≡ y.effects.grants
+pub stopped_grants : (y : Step) (s : Session) (kept : Option ℕ) → (signal_and_refuse s kept y).effects.grants ≡ y.effects.grants
 unfolding signal_and_refuse
 stopped_grants y s kept =
     let z : Step = signal_holders Term s y in
     for_each_keeps (λ w. w.effects.grants ≡ y.effects.grants) (filter (λ (j : Job). not (some_is (λ n. n == j.number) kept)) (jobs_of_session z.setting (seen z) s)) (λ j. add_reply j.number (Recovering (last_renewal z.setting (seen z) s))) z
     (λ j there w k. k) (signalled_alike y Term s).grants
 
-asked_grants : (x : Step) (s : Session) (j : ℕ) (bytes : List ℕ) (c : Command) → (after_request_read s j bytes c x).effects.grants ≡ x.effects.grants
+pub asked_grants : (x : Step) (s : Session) (j : ℕ) (bytes : List ℕ) (c : Command) → (after_request_read s j bytes c x).effects.grants ≡ x.effects.grants
 unfolding after_request_read
 asked_grants x s j bytes (Request r number force) = by (request_refusal x.setting.layout s.lockspace r number force bytes) where
   by : (o : Option Reply) → (let z : Step = elim o as (λ z. Step) [ Some why ↦ add_reply j why x | None ↦ write_request s j (owner_read x.setting.layout bytes) r number force x ] in z.effects.grants ≡ x.effects.grants)
@@ -258,7 +258,7 @@ asked_grants x s j bytes (SetLvb r p set) = refl
 asked_grants x s j bytes (SetKillpath p path) = refl
 asked_grants x s j bytes Status = refl
 
-removed_grants : (x : Step) (s : Session) → (remove_of_refused s x).effects.grants ≡ x.effects.grants
+pub removed_grants : (x : Step) (s : Session) → (remove_of_refused s x).effects.grants ≡ x.effects.grants
 removed_grants x s = by (is_some (refused_after (seen x) s) && not (has_open_write (seen x) s)) where
   by : (b : Bool) → (when b (remove_connection s.lockspace) x).effects.grants ≡ x.effects.grants
   by true = (removal_alike x x s.lockspace (same x)).grants

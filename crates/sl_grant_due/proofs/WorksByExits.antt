@@ -82,7 +82,7 @@ replies_on y p j z k =
       unshared = k.unshared;
     }
 
-left_so : (y : Step) (p : ℕ) → y.input ≡ Exit p → Leaving y p (leave_holdings p y)
+pub left_so : (y : Step) (p : ℕ) → y.input ≡ Exit p → Leaving y p (leave_holdings p y)
 unfolding leave_holdings
 left_so y p input =
     for_each_keeps (λ z. Leaving y p z) (orphans_left p (holdings (seen y))) add_grant (end_holdings p y)
@@ -96,7 +96,7 @@ left_so y p input =
           let a = and_true (v.0.process == p && v.0.persistent) _ f.1 in
           inr (v.0, f.0, eqb-true v.0.process p (and_true (v.0.process == p) v.0.persistent a.0).0, v.2)
 
-refused_so : (y : Step) (p : ℕ) (z : Step) → Leaving y p z → Leaving y p (refuse_jobs_of p z)
+pub refused_so : (y : Step) (p : ℕ) (z : Step) → Leaving y p z → Leaving y p (refuse_jobs_of p z)
 refused_so y p z k =
     for_each_keeps (λ w. Leaving y p w) (filter (is_job_of_process (seen z) p) (running_jobs z.setting (seen z))) (λ j. add_reply j.number (NoProcess p)) z (λ j there w h. replies_on y p j.number w h) k
 
@@ -108,7 +108,7 @@ ran_on z p j =
     (λ i there w k runs. k (ran_before w.past (entry_of w) (record { job = i.number; reply = NoProcess p }) j runs)) (λ runs. runs)
 
 -- A job of the process runs no more.
-refused_there : (z : Step) (p j : ℕ) (c : Command) → is_running (seen (refuse_jobs_of p z)) j ≡ true → command_numbered z.setting (seen z) j ≡ Some c → process_named c ≡ Some p → ⊥
+pub refused_there : (z : Step) (p j : ℕ) (c : Command) → is_running (seen (refuse_jobs_of p z)) j ≡ true → command_numbered z.setting (seen z) j ≡ Some c → process_named c ≡ Some p → ⊥
 refused_there z p j c runs named process =
     let v = then_value command_of (job_numbered z.setting (seen z) j) c named in
     let i : Job = v.0 in

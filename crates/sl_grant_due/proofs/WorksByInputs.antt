@@ -30,7 +30,7 @@ use Rattle.std.specs.Prelude.{Bool, Contains, IsSome, None, Option, Some, [], fa
 -- ---- the command of a job whose call was made
 
 -- It is what it was.
-command_was : (x : Step) (i : Input) (j : ℕ) (c : Command) → x.input ≡ Wake → IsSome (command_numbered x.setting (seen x) j) → command_numbered x.setting (seen (with_input i x)) j ≡ Some c
+pub command_was : (x : Step) (i : Input) (j : ℕ) (c : Command) → x.input ≡ Wake → IsSome (command_numbered x.setting (seen x) j) → command_numbered x.setting (seen (with_input i x)) j ≡ Some c
     → command_numbered x.setting (seen x) j ≡ Some c
 command_was x i j c wake known is =
     let k = some_of (command_numbered x.setting (seen x) j) known in
@@ -38,7 +38,7 @@ command_was x i j c wake known is =
     let later : command_numbered x.setting (seen (with_input i x)) j ≡ Some k.0 = ap (λ o. option_and_then command_of o) (numbered_seen x i wake j v.0 v.1) ∙ v.2 in
     k.1 ∙ ap (λ z. Some z) (one_value k.0 c (command_numbered x.setting (seen (with_input i x)) j) later is)
 
-none_heard : (i : Input) → is_no_answer i ≡ true → heard_by i ≡ None
+pub none_heard : (i : Input) → is_no_answer i ≡ true → heard_by i ≡ None
 none_heard (Told n w) other = absurd (true_is_false (sym other))
 none_heard (Line text) other = refl
 none_heard (Number text) other = refl
@@ -76,7 +76,7 @@ input_works x i wake bare other jobs h =
       unshared = λ since s at none. none;
     }) h
 
-unanswered : (past : Trace) (e : Entry) (n : ℕ) (w : Answer) (m : Submitted) → (answered_in past e n w m).answer ≡ None → m.answer ≡ None
+pub unanswered : (past : Trace) (e : Entry) (n : ℕ) (w : Answer) (m : Submitted) → (answered_in past e n w m).answer ≡ None → m.answer ≡ None
 unanswered past e n w m none = by (m.call.number == n) m.answer refl none where
   by : (b : Bool) (o : Option Answered) → m.answer ≡ o
       → (elim b as (λ z. Submitted) [ false ↦ m | true ↦ record m { answer = option_or m.answer (Some (answer_of past e w m.call)) } ]).answer ≡ None → m.answer ≡ None

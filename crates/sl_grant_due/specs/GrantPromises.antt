@@ -90,3 +90,19 @@ ActiveSoFar x =
 -- With that the grants are lawful.
 abbrev pub GrantsAreLawful : Type 0
 GrantsAreLawful = (x : Step) → HoldingFacts x.setting (seen x) (heard_by x.input) → OrphansSoFar x → ActiveSoFar x → LawfulGrant x.setting x.past (entry_of x)
+
+abbrev pub ActivesAreKept : Type 0
+ActivesAreKept = Acts Known ActiveSoFar
+
+abbrev pub ActivesBegin : Type 0
+ActivesBegin = Begins ActiveSoFar
+
+-- What was granted so far is lawful.
+abbrev pub GrantingSoFar : Step → Type 0
+GrantingSoFar x = LawfulGrant x.setting x.past (entry_of x)
+
+abbrev pub GrantingIsLawful : Type 0
+GrantingIsLawful = Acts Known GrantingSoFar
+
+abbrev pub GrantingBegins : Type 0
+GrantingBegins = Begins GrantingSoFar

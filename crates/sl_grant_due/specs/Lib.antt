@@ -1,1 +1,3 @@
 pub mod GrantPromises
+pub mod ModePromises
+pub mod ValuePromises

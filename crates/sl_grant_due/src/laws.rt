@@ -1,6 +1,7 @@
 //! What is kept of the work of jobs, and what is lawful of ends, exits and grants.
 
-ghost use Rattle.sl_grant_due.specs.GrantPromises.{EndsAreLawful, EndsBegin, ExitsAreLawful, ExitsBegin, GrantsAreLawful, GrantsStand, OrphansAreLawful, OrphansBegin, WorkFactsAreKept, WorkFactsBegin};
+ghost use Rattle.sl_grant_due.specs.GrantPromises.{ActivesAreKept, ActivesBegin, EndsAreLawful, EndsBegin, ExitsAreLawful, ExitsBegin, GrantingBegins, GrantingIsLawful, GrantsAreLawful, GrantsStand, OrphansAreLawful, OrphansBegin, WorkFactsAreKept, WorkFactsBegin};
+ghost use Rattle.sl_grant_due.specs.ModePromises.{ModesAreLawful, ModesBegin};
 
 /// Each act keeps what is known of a job's work.
 pub fn work_facts_are_kept()
@@ -47,4 +48,31 @@ pub fn orphans_begin()
 /// Where the sessions of granted processes are active the grants are lawful.
 pub fn grants_are_lawful()
     ensures { GrantsAreLawful }
+{}
+
+/// Each act keeps the sessions of granted processes active.
+pub fn actives_are_kept()
+    ensures { ActivesAreKept }
+{}
+
+pub fn actives_begin()
+    ensures { ActivesBegin }
+{}
+
+/// So each act leaves only lawful grants.
+pub fn granting_is_lawful()
+    ensures { GrantingIsLawful }
+{}
+
+pub fn granting_begins()
+    ensures { GrantingBegins }
+{}
+
+/// Each act leaves only lawful modes: of what is granted, and of the blocks that are written.
+pub fn modes_are_lawful()
+    ensures { ModesAreLawful }
+{}
+
+pub fn modes_begin()
+    ensures { ModesBegin }
 {}

@@ -151,12 +151,12 @@ acquires st es c r program asks asking names =
     (λ h shared held. record { resource = r; acquires = g; shared = shared; beside = h; held = held; under = refl }))
 
 holds : (st : Setting) (es : Trace) (c : Command) (r : ResourceArg) (p : ℕ) (serves : Grant → Bool) (f : Session → Grant → Decision)
-    → ((s : Session) (g : Grant) → IsReady st es s r → holding_of es s (spot_of r) p serves ≡ Some g → HasGrounds st es c (f s g)) → HasGrounds st es c (decide_holder st es r p serves f)
+    → ((s : Session) (g : Grant) → IsReady st es s r → holding_of es s (spot_of r) p serves ≡ Some g → may_act es p ≡ true → HasGrounds st es c (f s g)) → HasGrounds st es c (decide_holder st es r p serves f)
 holds st es c r p serves f h =
     where_found (HasGrounds st es c) (λ w. tt) (session_named st es r.lockspace)
     (λ s. session_refusal st es s ∷ process_refusal es p ∷ choose (is_none (holding_of es s (spot_of r) p serves)) NotHeld ∷ pending_refusal st es (spot_of r) ∷ [])
     (λ s. option_map_or (f s) (holding_of es s (spot_of r) p serves) (Replies NotHeld))
-    (λ s is none. where_held (HasGrounds st es c) (λ w. tt) (holding_of es s (spot_of r) p serves) (f s) NotHeld (λ g held. h s g (ready st es s r is none.0 none.1.1.1.0) held))
+    (λ s is none. where_held (HasGrounds st es c) (λ w. tt) (holding_of es s (spot_of r) p serves) (f s) NotHeld (λ g held. h s g (ready st es s r is none.0 none.1.1.1.0) held (acts es p none.1.0)))
 
 -- Of refusals that stand before others.
 first_none : (rs ss : List (Option Reply)) → NoneOf (rs ++ ss) → NoneOf rs × NoneOf ss
@@ -243,7 +243,7 @@ decisions_have_grounds st es now (TakeOver r shared p persistent) =
 decisions_have_grounds st es now (RunProgram r shared path) = acquires st es (RunProgram r shared path) r true (inr (shared, path, refl)) None refl
 decisions_have_grounds st es now (Release r p) =
     holds st es (Release r p) r p (λ g. true) (λ s g. GivesUp s g)
-    (λ s g is held. let f = of_process es s (spot_of r) p (λ h. true) g held in record { resource = r; ready = is; releases = inl (p, refl, f.1); held = f.0 })
+    (λ s g is held may. let f = of_process es s (spot_of r) p (λ h. true) g held in record { resource = r; ready = is; releases = inl (p, refl, f.1); held = f.0 })
 decisions_have_grounds st es now (ReleaseOrphan r) =
     orphaned st es (ReleaseOrphan r) r None (λ g. true) [] (λ s g. GivesUp s g)
     (λ s g is held asking none.
@@ -254,10 +254,10 @@ decisions_have_grounds st es now (Request r lver how) =
     where_found (HasGrounds st es (Request r lver how)) (λ w. tt) (session_named st es r.lockspace) (λ s. session_refusal st es s ∷ pending_refusal st es (spot_of r) ∷ []) (λ s. Requests s r)
     (λ s is none. ready st es s r is none.0 none.1.0)
 decisions_have_grounds st es now (GetLvb r p) =
-    holds st es (GetLvb r p) r p (λ g. true) (λ s g. GetsValue s (spot_of r)) (λ s g is held. record { resource = r; process = p; command = refl; spot = refl; ready = is; holding = g; held = held })
+    holds st es (GetLvb r p) r p (λ g. true) (λ s g. GetsValue s (spot_of r)) (λ s g is held may. record { resource = r; process = p; command = refl; spot = refl; ready = is; acts = may; holding = g; held = held })
 decisions_have_grounds st es now (SetLvb r p bytes) =
     holds st es (SetLvb r p bytes) r p (λ g. not (is_shared g.mode)) (λ s g. setting_value s (spot_of r) g (next_value_seq st es s (spot_of r) g.lver) bytes)
-    (λ s g is held. chosen (HasGrounds st es (SetLvb r p bytes)) (is_number (next_value_seq st es s (spot_of r) g.lver)) (Replies (LimitReached SeqLimit))
+    (λ s g is held may. chosen (HasGrounds st es (SetLvb r p bytes)) (is_number (next_value_seq st es s (spot_of r) g.lver)) (Replies (LimitReached SeqLimit))
     (SetsValue s (spot_of r) (record { host = s.id; lver = g.lver; seq = next_value_seq st es s (spot_of r) g.lver; bytes = bytes })) (λ over. tt)
     (λ within. record { resource = r; process = p; bytes = bytes; command = refl; spot = refl; ready = is; holding = g; held = held; version = (refl, refl, refl) }))
 decisions_have_grounds st es now (SetKillpath p path) =

@@ -104,6 +104,7 @@ pub record GetGrounds (st : Setting) (es : Trace) (c : Command) (s : Session) (a
   pub command : c ≡ GetLvb resource process
   pub spot : at ≡ spot_of resource
   pub ready : IsReady st es s resource
+  pub acts : may_act es process ≡ true
   pub holding : Grant
   pub held : holding_of es s at process (λ g. true) ≡ Some holding
 

@@ -177,7 +177,7 @@ same_removed : (m : Move) (e : Entry) (past : Trace) (s : Session) → unregiste
 same_removed m e past s other =
     ap (λ b. elim (removed_after past s) as (λ z. Option ℕ) [ Some k ↦ Some k | None ↦ choose (is_some (joined_after past s) && b) (length past + 1) ]) (any_more (unregisters s.lockspace) e.effects.moves m other)
 
-moves_carry : (st : Setting) (e : Entry) (past : Trace) (m : Move) (s : Session) → unregisters s.lockspace m ≡ false → Carried st (e ∷ past) (with_move m e ∷ past) s
+pub moves_carry : (st : Setting) (e : Entry) (past : Trace) (m : Move) (s : Session) → unregisters s.lockspace m ≡ false → Carried st (e ∷ past) (with_move m e ∷ past) s
 moves_carry st e past m s other =
     record {
       calls = refl;

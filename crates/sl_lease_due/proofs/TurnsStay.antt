@@ -65,7 +65,7 @@ told_active st e past r s n a is =
     three (is_some (joined_after (told_entry n a e ∷ past) s)) (is_some (joined_after (with_reply r (told_entry n a e) ∷ past) s)) (is_none (removed_after (told_entry n a e ∷ past) s)) (is_none (recovery_of st (told_entry n a e ∷ past) s))
     (is_none (leaving_job st (told_entry n a e ∷ past) s)) (joined_more (told_entry n a e) past r s) is
 
-replied_active : (st : Setting) (e : Entry) (past : Trace) (r : JobReply) (s : Session) (n : ℕ) (a : Answer) → e.input ≡ Told n a → is_active st (e ∷ past) s ≡ true → is_active st (with_reply r e ∷ past) s ≡ true
+pub replied_active : (st : Setting) (e : Entry) (past : Trace) (r : JobReply) (s : Session) (n : ℕ) (a : Answer) → e.input ≡ Told n a → is_active st (e ∷ past) s ≡ true → is_active st (with_reply r e ∷ past) s ≡ true
 replied_active st e past r s n a told =
     subst (λ i. is_active st (record e { input = i } ∷ past) s ≡ true → is_active st (with_reply r (record e { input = i }) ∷ past) s ≡ true) (sym told) (told_active st e past r s n a)
 
@@ -95,7 +95,7 @@ turned_may x s at n a j mode lver g told stands h =
     }
 
 -- By whether something is converted.
-turned_by : (P : Step → Type 0) (x : Step) (s : Session) (at : Spot) (j : ℕ) (mode : Mode) (lver : ℕ)
+pub turned_by : (P : Step → Type 0) (x : Step) (s : Session) (at : Spot) (j : ℕ) (mode : Mode) (lver : ℕ)
     → ((c : Command) (p : ℕ) (g : Grant) → command_numbered x.setting (seen x) j ≡ Some c → process_named c ≡ Some p → held_otherwise (seen x) s at p mode ≡ Some g → P (convert_holding j mode lver g x))
     → ((((c : Command) (p : ℕ) (g : Grant) → command_numbered x.setting (seen x) j ≡ Some c → process_named c ≡ Some p → held_otherwise (seen x) s at p mode ≡ Some g → ⊥)) → P x)
     → P (for_work (ForJob j) (λ j. with_command j (λ c. convert_for s at j c mode lver)) x)

@@ -5,12 +5,12 @@ use Rattle.sl_leases.specs.Leases.{holdings_on, spot_of_call}
 use Rattle.sl_sessions.specs.Sessions.{session_numbered}
 use Rattle.sl_sessions.specs.declared.session.Session.{Session}
 use Rattle.sl_step_facts.specs.Heard.{IsOpen}
-use Rattle.sl_trace.specs.Traces.{Child, Setting, Submitted, Trace, child_numbered, is_running, submitted}
+use Rattle.sl_trace.specs.Traces.{Child, Setting, Submitted, Trace, child_numbered, children, first_child, is_running, submitted}
 use Rattle.sl_trace.specs.declared.command.Command.TheVariants.{GetLvb}
 use Rattle.sl_trace.specs.declared.command.ResourceArg.{ResourceArg}
 use Rattle.sl_trace.specs.declared.effects.Grant.{Grant}
 use Rattle.sl_trace.specs.declared.effects.Purpose.TheVariants.{ValueRead}
-use Rattle.std.specs.Prelude.{Bool, Contains, Option, Some, false, true, ℕ, ◌≡◌}
+use Rattle.std.specs.Prelude.{Bool, Contains, Option, Some, false, true, ℕ, ◌≡◌, ◌≤◌}
 
 -- A read of a value, of a session's job that runs, which waits for its answer or for what that makes due.
 pub record IsReading (st : Setting) (t : Trace) (heard : Option ℕ) (m : Submitted) (j : ℕ) (s : Session) : Type 0 where
@@ -30,3 +30,5 @@ pub record ValueFacts (st : Setting) (t : Trace) (heard : Option ℕ) : Type 0 w
   -- and it is no child of which it isn't told yet whether it was started
   pub started : (m : Submitted) (j : ℕ) (s : Session) (r : ResourceArg) (p : ℕ) (k : Child) → IsReading st t heard m j s → command_numbered st t j ≡ Some (GetLvb r p) →
       child_numbered t p ≡ Some k → k.answer ≡ Some true
+  -- children have numbers of their own
+  pub above : (k : Child) → Contains (children t) k → first_child ≤ k.process

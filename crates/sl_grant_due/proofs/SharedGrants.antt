@@ -1,0 +1,687 @@
+-- A shared grant is lawful: beside a shared holding, by the ballot of its job, or by conversion of what the session held exclusively.
+use Rattle.sl_acts.proofs.DecisionsAreTheirs.{Of}
+use Rattle.sl_acts.proofs.LoopsKeep.{for_each_keeps, when_keeps}
+use Rattle.sl_acts.proofs.PlainActs.{line_has}
+use Rattle.sl_acts.specs.Acts.{Acts, Has, Hears}
+use Rattle.sl_acts.specs.SoFar.{entry_of}
+use Rattle.sl_area.specs.Places.{block_offset, leader_offset, request_offset}
+use Rattle.sl_due.specs.DueAnswers.{set_reply}
+use Rattle.sl_due.specs.DueCommands.{after_end, answer_line, carry_decision}
+use Rattle.sl_due.specs.DueDelta.{carry_delta}
+use Rattle.sl_due.specs.DueFirst.{begin_recoveries, begin_recovery, begins_now, refuse, remove_of_refused, send, signal_and_refuse}
+use Rattle.sl_due.specs.DueInputs.{end_holdings, leave_holdings, refuse_jobs_of, started_reply, when_running}
+use Rattle.sl_due.specs.DueLease.{carry_lease, convert_holding, goes_on, grant_for, grant_of, held_otherwise, next_of_lease, write_block, write_leader}
+use Rattle.sl_due.specs.DueRequests.{after_request_read, after_value_read, bits_due}
+use Rattle.sl_due.specs.Steps.{Step, add_call_of, add_end, add_grant, add_move, add_reply, add_signal, add_start, begin_step, seen, with_input, with_some}
+use Rattle.sl_due.specs.declared.decision.Decision.{Decision}
+use Rattle.sl_due.specs.declared.decision.Decision.TheVariants.{ConvertsTo, GetsValue, GivesUp, Joins, Leaves, ReadsArea, Replies, Requests, SetsValue, Shares, TakesOver}
+use Rattle.sl_grant_due.proofs.DeltasKeep.{free_keeps}
+use Rattle.sl_grant_due.proofs.EndsAreLawful.{last_or}
+use Rattle.sl_grant_due.proofs.GrantlessLines.{converting_grants, released_grants}
+use Rattle.sl_grant_due.proofs.OrphansAreLawful.{Orphaning, asked_grants, left_orphans, removed_grants, stopped_grants}
+use Rattle.sl_grant_due.proofs.WorksByLines.{held_before}
+use Rattle.sl_holding_due.proofs.DecisionsHaveGrounds.{decisions_have_grounds}
+use Rattle.sl_holding_due.proofs.HoldingsByLines.{asked_resource}
+use Rattle.sl_holding_due.proofs.LeaseCallers.{heard_answered, heard_call as call_heard, heard_opens}
+use Rattle.sl_holding_due.proofs.LeaseConversions.{OfOneProcess, converted, only_converted, otherwise}
+use Rattle.sl_holding_due.proofs.LeaseNexts.{IsFitNext, IsGrantOf, next_fits, settling_fits}
+use Rattle.sl_holding_due.proofs.MomentsAreKept.{delta_ungranting, no_grants, refused_alike, said_grants, same, sent_alike, settling_ungranting}
+use Rattle.sl_holding_due.proofs.PlainPlaces.{one_place}
+use Rattle.sl_holding_due.specs.DecisionGrounds.{HasGrounds}
+use Rattle.sl_holding_due.specs.Moments.{Known}
+use Rattle.sl_holding_due.specs.Promises.{Begins}
+use Rattle.sl_law.specs.LawfulModes.{AllShared, HoldsSharedUnder, LawfulExclusiveGrant, LawfulSharedGrant, SharedByBallot, SharedByConversion}
+use Rattle.sl_law.specs.Saying.{IsAnsweredAt}
+use Rattle.sl_lease_due.proofs.NextsStay.{HeldThere, at_work, held_there, not_true}
+use Rattle.sl_lease_due.proofs.TurnsStay.{turned_by}
+use Rattle.sl_lease_ways.proofs.Kept.CallsSame.{reply_leaves}
+use Rattle.sl_lease_ways.proofs.Kept.EffectsLeave.{made_call}
+use Rattle.sl_lease_ways.proofs.Kept.HeardStands.{heard_has, heard_number, spot_same}
+use Rattle.sl_leases.specs.Jobs.{aim_of, aim_of_command, command_numbered, job_of_start, resource_named}
+use Rattle.sl_leases.specs.LeaseWork.{lease_place, settle_next}
+use Rattle.sl_leases.specs.Leases.{block_submitted, block_written, exclusive_on, holdings_on, is_lease_call, is_on, known, lease_calls, lease_step, lver_written, spot_of, spot_of_call}
+use Rattle.sl_leases.specs.declared.lease.Aim.{Aim}
+use Rattle.sl_leases.specs.declared.lease.Aim.TheVariants.{Acquires, Converts}
+use Rattle.sl_leases.specs.declared.lease.LeaseNext.{LeaseNext}
+use Rattle.sl_leases.specs.declared.lease.LeaseNext.TheVariants.{AnswerJob, BecomeExclusive, BecomeShared, GrantJob, Nothing, ReadFor, WriteBlock, WriteLeader}
+use Rattle.sl_parts_law.proofs.CallsGrow.{mine_more, others_stay, same_sessions}
+use Rattle.sl_plain.proofs.Lists.{contains_cases, contains_first, contains_more, contains_none, find_inside, kept, kept_inside}
+use Rattle.sl_plain.proofs.Numbers.{number_itself}
+use Rattle.sl_plain.proofs.Options.{mapped_value}
+use Rattle.sl_sector.specs.declared.sector.Block.{Block}
+use Rattle.sl_sector.specs.declared.sector.DeltaRec.{DeltaRec}
+use Rattle.sl_sector.specs.declared.sector.Leader.{Leader}
+use Rattle.sl_sector.specs.declared.sector.Owner.{Owner}
+use Rattle.sl_sector.specs.declared.sector.Rec.TheVariants.{BlockIs, DeltaIs, LeaderIs}
+use Rattle.sl_sessions.specs.Deltas.{delta_known, delta_of_session, next_after_free, next_after_renewal, next_in_joining, next_on_wake, next_renewal, own_offset}
+use Rattle.sl_sessions.specs.Sessions.{calls_of, delta_of_record, generation_in, generation_of, given_number, holders_of, holdings_of, is_call_of, is_join_call, last_delta, present_sessions, recovery_of, session_numbered}
+use Rattle.sl_sessions.specs.declared.delta.DeltaNext.{DeltaNext}
+use Rattle.sl_sessions.specs.declared.session.Session.{Session}
+use Rattle.sl_step_facts.specs.GrantGrounds.{FreedForJob, IsDoneWork, ModedForJob}
+use Rattle.sl_step_facts.specs.Heard.{heard_by}
+use Rattle.sl_step_facts.specs.HoldingFacts.{HoldingFacts, StandsExclusive}
+use Rattle.sl_step_facts.specs.JobFacts.{FitsCommand}
+use Rattle.sl_trace.specs.Connections.{is_registered}
+use Rattle.sl_trace.specs.Traces.{Setting, Submitted, Trace, end_of, holdings, is_ended_by, is_orphan, is_running, is_shared, job_of, leaves_orphan, new_call, next_child, next_job, orphan_of, record_of, same_place, spot_of_grant, submitted}
+use Rattle.sl_trace.specs.declared.command.Command.{Command}
+use Rattle.sl_trace.specs.declared.command.Command.TheVariants.{Acquire, AddLockspace, Convert, GetLvb, HostStatus, InqLockspace, Release, ReleaseOrphan, RemLockspace, Request, RunProgram, SetKillpath, SetLvb, Status, TakeOver}
+use Rattle.sl_trace.specs.declared.command.ResourceArg.{ResourceArg}
+use Rattle.sl_trace.specs.declared.effects.Call.{Call}
+use Rattle.sl_trace.specs.declared.effects.Entry.{Entry}
+use Rattle.sl_trace.specs.declared.effects.Grant.{Grant}
+use Rattle.sl_trace.specs.declared.effects.JoinStep.TheVariants.{FirstRead}
+use Rattle.sl_trace.specs.declared.effects.LeaseStep.{LeaseStep}
+use Rattle.sl_trace.specs.declared.effects.LeaseStep.TheVariants.{ClearMode, FreeLeader, ReadArea, ReadBeforeFree, SetMode}
+use Rattle.sl_trace.specs.declared.effects.Mode.{Mode}
+use Rattle.sl_trace.specs.declared.effects.Mode.TheVariants.{Exclusive, Shared}
+use Rattle.sl_trace.specs.declared.effects.Move.{Move}
+use Rattle.sl_trace.specs.declared.effects.Move.TheVariants.{Unregister}
+use Rattle.sl_trace.specs.declared.effects.Op.{Op}
+use Rattle.sl_trace.specs.declared.effects.Op.TheVariants.{ReadSectors, WriteRecord}
+use Rattle.sl_trace.specs.declared.effects.Purpose.{Purpose}
+use Rattle.sl_trace.specs.declared.effects.Purpose.TheVariants.{Lease, Leaving, SeeRequest}
+use Rattle.sl_trace.specs.declared.effects.Signal.TheVariants.{Kill, Term}
+use Rattle.sl_trace.specs.declared.effects.Spot.{Spot}
+use Rattle.sl_trace.specs.declared.effects.Start.{Start}
+use Rattle.sl_trace.specs.declared.effects.Work.{Work}
+use Rattle.sl_trace.specs.declared.effects.Work.TheVariants.{ForJob, Settling}
+use Rattle.sl_trace.specs.declared.input.Answer.{Answer}
+use Rattle.sl_trace.specs.declared.input.Answer.TheVariants.{Written}
+use Rattle.sl_trace.specs.declared.input.Input.TheVariants.{Answer as Told, Exit, Line, Number, Spawned, Wake}
+use Rattle.sl_trace.specs.declared.reply.Reply.TheVariants.{BadCommand as Misread, Done, Granted, IoFault, IoTimeout, SpawnFault}
+use Rattle.sl_trace_law.proofs.Leases.NumberLaws.{number_is_place}
+use Rattle.sl_words.proofs.CaseLaws.{false_is_true, none_some, one_value, some_value, true_is_false}
+use Rattle.sl_words.specs.Words.{same_truth}
+use Rattle.std.proofs.Common.{ap, arith, inl, inr, refl, subst, sym, ◌∙◌}
+use Rattle.std.proofs.lemmas.Bool.{eqb-true}
+use Rattle.std.proofs.lemmas.List.Elements.{Contains-append_right}
+use Rattle.std.specs.Option.{option_map_or}
+use Rattle.std.specs.Prelude.{Bool, Contains, List, MatchBool, None, Ok, Option, Some, [], cond, false, filter, find, is_some, length, not, option_and_then, slice_get, true, ℕ, ◌&&◌, ◌++◌, ◌==◌, ◌∷◌, ◌≡◌, ◌≤◌, ◌⊎◌}
+
+-- What is lawful of the shared grants so far.
+abbrev pub SharedSoFar : Step → Type 0
+SharedSoFar x =
+    (g : Grant) (s : Session) → Contains x.effects.grants g → session_numbered x.setting (seen x) g.session ≡ Some s → is_shared g.mode ≡ true → LawfulSharedGrant x.setting x.past (seen x) s (spot_of_grant g) g.lver
+
+so_far : (x : Step) → Known x → SharedSoFar x
+so_far x k g s there its shared =
+    subst (λ b. MatchBool b (LawfulSharedGrant x.setting x.past (seen x) s (spot_of_grant g) g.lver) (LawfulExclusiveGrant x.setting (seen x) s (spot_of_grant g) g.lver)) shared (k.0.orderly.modes.0.grants g s there its)
+
+none_shared : (z : Step) → z.effects.grants ≡ [] → SharedSoFar z
+none_shared z none g s there its shared = absurd (contains_none g (subst (λ gs. Contains gs g) none there))
+
+one_shared : (w : Step) (old : List Grant) (g : Grant) (s : Session) → old ≡ [] → w.effects.grants ≡ old ++ g ∷ [] → session_numbered w.setting (seen w) g.session ≡ Some s
+    → (is_shared g.mode ≡ true → LawfulSharedGrant w.setting w.past (seen w) s (spot_of_grant g) g.lver) → SharedSoFar w
+one_shared w old g s none grants its lawful h z there is shared = by (last_or old g h (subst (λ gs. Contains gs h) grants there)) where
+  by : Contains old h ⊎ (g ≡ h) → LawfulSharedGrant w.setting w.past (seen w) z (spot_of_grant h) h.lver
+  by (inl was) = absurd (contains_none h (subst (λ gs. Contains gs h) none was))
+  by (inr same) =
+      subst (λ k. LawfulSharedGrant w.setting w.past (seen w) k (spot_of_grant h) h.lver)
+      (one_value s z (session_numbered w.setting (seen w) g.session) its (subst (λ (k : Grant). session_numbered w.setting (seen w) k.session ≡ Some z) (sym same) is))
+      (subst (λ (k : Grant). LawfulSharedGrant w.setting w.past (seen w) s (spot_of_grant k) k.lver) same (lawful (subst (λ (k : Grant). is_shared k.mode ≡ true) (sym same) shared)))
+
+-- ---- what later effects leave
+
+abbrev owner_by : Session → ℕ → Owner
+owner_by s n = record { id = s.id; generation = n }
+
+-- The lease's calls and the session's generation are the same.
+pub record SameLease (st : Setting) (t u : Trace) (s : Session) (at : Spot) : Type 0 where
+  pub lease : lease_calls st u s at ≡ lease_calls st t s at
+  pub generation : generation_of u s ≡ generation_of t s
+
+kept_carried : (st : Setting) (t u : Trace) (s : Session) (at : Spot) (m : Submitted) → SameLease st t u s at → AllShared st t s at m → AllShared st u s at m
+kept_carried st t u s at m k h d b there after is = let r = h d b (subst (λ ms. Contains ms d) k.lease there) after is in (r.0, r.1 ∙ sym k.generation)
+
+ballot_carried : (st : Setting) (past : Trace) (e f : Entry) (s : Session) (at : Spot) (n : ℕ) → SameLease st (e ∷ past) (f ∷ past) s at → SharedByBallot st (e ∷ past) s at n → SharedByBallot st (f ∷ past) s at n
+ballot_carried st past e f s at n k b =
+    record {
+      since = b.since;
+      none_shared = b.none_shared;
+      read = b.read;
+      mode = b.mode;
+      free = b.free;
+      block = b.block;
+      read_answer = b.read_answer;
+      mode_answer = b.mode_answer;
+      free_answer = b.free_answer;
+      of_lease = (subst (λ ms. Contains ms b.mode) (sym k.lease) b.of_lease.0, subst (λ ms. Contains ms b.free) (sym k.lease) b.of_lease.1);
+      after = b.after;
+      before = b.before;
+      split = k.lease ∙ b.split;
+      won = (b.won.0, b.won.1 ∙ ap (λ i. let p : Option (ℕ × Owner) = Some (n, owner_by s i) in p) (sym k.generation));
+      moded = (b.moded.0, b.moded.1, b.moded.2, b.moded.3, b.moded.4 ∙ sym k.generation, b.moded.5, b.moded.6);
+      freed = b.freed;
+      first = λ d there free. b.first d (subst (λ ms. Contains ms d) k.lease there) free;
+      kept = kept_carried st (e ∷ past) (f ∷ past) s at b.mode k b.kept;
+    }
+
+conversion_carried : (st : Setting) (past : Trace) (e f : Entry) (s : Session) (at : Spot) (n : ℕ) → SameLease st (e ∷ past) (f ∷ past) s at → exclusive_on (f ∷ past) s at ≡ exclusive_on (e ∷ past) s at
+    → SharedByConversion st past (e ∷ past) s at n → SharedByConversion st past (f ∷ past) s at n
+conversion_carried st past e f s at n k exclusive b =
+    record {
+      held = b.held;
+      mode = b.mode;
+      block = b.block;
+      was_exclusive = b.was_exclusive;
+      ends = exclusive ∙ b.ends;
+      of_lease = subst (λ ms. Contains ms b.mode) (sym k.lease) b.of_lease;
+      moded = (b.moded.0, b.moded.1, b.moded.2 ∙ sym k.generation, b.moded.3);
+      done = b.done;
+      kept = kept_carried st (e ∷ past) (f ∷ past) s at b.mode k b.kept;
+    }
+
+shared_carried : (st : Setting) (past : Trace) (e f : Entry) (s : Session) (at : Spot) (n : ℕ) → SameLease st (e ∷ past) (f ∷ past) s at → exclusive_on (f ∷ past) s at ≡ exclusive_on (e ∷ past) s at
+    → LawfulSharedGrant st past (e ∷ past) s at n → LawfulSharedGrant st past (f ∷ past) s at n
+shared_carried st past e f s at n k exclusive (inl holds) = inl holds
+shared_carried st past e f s at n k exclusive (inr (inl ballot)) = inr (inl (ballot_carried st past e f s at n k ballot))
+shared_carried st past e f s at n k exclusive (inr (inr conversion)) = inr (inr (conversion_carried st past e f s at n k exclusive conversion))
+
+kill_shared : (x : Step) (q : ℕ) → SharedSoFar x → SharedSoFar (add_signal q Kill x)
+kill_shared x q h g s there its shared =
+    shared_carried x.setting x.past (entry_of x) (entry_of (add_signal q Kill x)) s (spot_of_grant g) g.lver (record { lease = refl; generation = refl }) refl (h g s there its shared)
+
+move_shared : (x : Step) (m : Move) → SharedSoFar x → SharedSoFar (add_move m x)
+move_shared x m h g s there its shared =
+    shared_carried x.setting x.past (entry_of x) (entry_of (add_move m x)) s (spot_of_grant g) g.lver (record { lease = refl; generation = refl }) refl (h g s there its shared)
+
+-- One more call that works on no lease; the session's own writes no delta record.
+lease_apart : (x : Step) (s : Session) (path : List ℕ) (p : Purpose) (o : ℕ) (op : Op) → is_some (lease_step p) ≡ false → (z : Session) → ((s.number == z.number) ≡ true → option_and_then delta_of_record (record_of op) ≡ None) → (at : Spot)
+    → SameLease x.setting (seen x) (seen (add_call_of s.number path p o op x)) z at
+lease_apart x s path p o op plain z keeps at = by (s.number == z.number) refl where
+  c : Call
+  c = made_call x s.number path p o op
+
+  new : Submitted
+  new = new_call (length x.past) x.reading c
+
+  on : Submitted → Bool
+  on m = is_lease_call m && is_on x.setting.layout at m.call
+
+  by : (b : Bool) → (s.number == z.number) ≡ b → SameLease x.setting (seen x) (seen (add_call_of s.number path p o op x)) z at
+  by false other =
+      let calls : calls_of (seen (add_call_of s.number path p o op x)) z ≡ calls_of (seen x) z = others_stay (entry_of x) x.past c z other in
+      record { lease = ap (λ ms. filter (λ (m : Submitted). is_lease_call m && is_on x.setting.layout at m.call) ms) calls; generation = ap (λ ms. generation_in z ms) calls }
+  by true mine =
+      let calls : calls_of (seen (add_call_of s.number path p o op x)) z ≡ new ∷ calls_of (seen x) z = mine_more (entry_of x) x.past c z mine in
+      record {
+        lease = ap (λ ms. filter (λ (m : Submitted). is_lease_call m && is_on x.setting.layout at m.call) ms) calls
+            ∙ ap (λ b. cond (b && is_on x.setting.layout at c) (new ∷ lease_calls x.setting (seen x) z at) (lease_calls x.setting (seen x) z at)) plain;
+        generation = ap (λ ms. generation_in z ms) calls
+            ∙ ap (λ d. option_map_or (λ (r : DeltaRec). r.generation) (elim d as (λ v. Option DeltaRec) [ Some r ↦ Some r | None ↦ last_delta (calls_of (seen x) z) ]) (given_number z)) (keeps mine);
+      }
+
+call_shared : (x : Step) (s : Session) (path : List ℕ) (p : Purpose) (o : ℕ) (op : Op) → is_join_call FirstRead p ≡ false → is_some (lease_step p) ≡ false
+    → ((g : Grant) → Contains x.effects.grants g → g.session ≡ s.number → option_and_then delta_of_record (record_of op) ≡ None) → SharedSoFar x → SharedSoFar (add_call_of s.number path p o op x)
+call_shared x s path p o op later plain keeps h g z there its shared =
+    let before : session_numbered x.setting (seen x) g.session ≡ Some z =
+    ap (λ ss. slice_get ss g.session) (sym (same_sessions x.setting (entry_of x) x.past (made_call x s.number path p o op) later)) ∙ its
+    in
+    shared_carried x.setting x.past (entry_of x) (entry_of (add_call_of s.number path p o op x)) z (spot_of_grant g) g.lver
+    (lease_apart x s path p o op plain z
+    (λ mine. keeps g there (sym (number_is_place x.setting (seen x) g.session z before) ∙ sym (eqb-true s.number z.number mine))) (spot_of_grant g)) refl (h g z there before shared)
+
+-- ---- an exit
+
+exited_shared : (y : Step) (p : ℕ) → y.effects.ends ≡ [] → y.effects.grants ≡ [] → SharedSoFar (refuse_jobs_of p (leave_holdings p y))
+exited_shared y p unended none g s there its shared = by ((left_orphans y p).grants g there) where
+  u : Step
+  u = refuse_jobs_of p (leave_holdings p y)
+
+  all : Orphaning y p u
+  all = left_orphans y p
+
+  by : Contains y.effects.grants g ⊎ ((l : Grant) × Contains (holdings (seen y)) l × (leaves_orphan (holdings (seen y)) p l ≡ true) × (orphan_of l ≡ g)) → LawfulSharedGrant u.setting u.past (seen u) s (spot_of_grant g) g.lver
+  by (inl was) = absurd (contains_none g (subst (λ gs. Contains gs g) none was))
+  by (inr f) =
+      let l : Grant = f.0 in
+      let held : Contains (holdings u.past) l = subst (λ t. Contains (holdings t) l) (sym all.stand.1) (subst (λ hs. Contains hs l) (held_before y unended none) f.1) in
+      let mine : (l.session == s.number) ≡ true =
+      subst (λ n. (n == s.number) ≡ true) (number_is_place u.setting (seen u) g.session s its ∙ ap (λ (k : Grant). k.session) (sym f.3)) (number_itself s.number)
+      in
+      let at : Spot = spot_of_grant g in
+      inl (
+        l,
+        kept (λ (k : Grant). same_place k.path k.offset at.path at.base) (holdings_of u.past s) l (subst (λ (k : Grant). same_place l.path l.offset k.path k.offset ≡ true) f.3 (one_place l.path l.offset))
+            (kept (λ (k : Grant). k.session == s.number) (holdings u.past) l mine held),
+        ap (λ (k : Grant). is_shared k.mode) f.3 ∙ shared,
+        ap (λ (k : Grant). k.lver) f.3,
+      )
+
+-- ---- what is granted to a job
+
+-- What stands behind a shared grant before it is made.
+abbrev StandsShared : Step → Session → Spot → ℕ → Type 0
+StandsShared x s at n = HoldsSharedUnder x.past s at n ⊎ SharedByBallot x.setting (seen x) s at n
+
+abbrev given_to : Grant → Step → Step
+given_to g x = add_grant g x
+
+replied_lease : (z : Step) (j : ℕ) (n : ℕ) (s : Session) (at : Spot) → SameLease z.setting (seen z) (seen (add_reply j (Granted n) z)) s at
+replied_lease z j n s at =
+    let calls : submitted (seen (add_reply j (Granted n) z)) ≡ submitted (seen z) = reply_leaves z j (Granted n) (inl refl) in
+    record {
+      lease = ap (λ ms. filter (λ (m : Submitted). is_lease_call m && is_on z.setting.layout at m.call) (filter (is_call_of s) ms)) calls;
+      generation = ap (λ ms. generation_in s (filter (is_call_of s) ms)) calls;
+    }
+
+-- Its answer leaves that.
+replied_stands : (x : Step) (g : Grant) (j : ℕ) (s : Session) (at : Spot) (n : ℕ) → StandsShared x s at n → LawfulSharedGrant x.setting x.past (seen (add_reply j (Granted n) (add_grant g x))) s at n
+replied_stands x g j s at n (inl holds) = inl holds
+replied_stands x g j s at n (inr ballot) =
+    let l : SameLease x.setting (seen (add_grant g x)) (seen (add_reply j (Granted n) (add_grant g x))) s at = replied_lease (add_grant g x) j n s at in
+    inr (inl (ballot_carried x.setting x.past (entry_of x) (entry_of (add_reply j (Granted n) (add_grant g x))) s at n (record { lease = l.lease; generation = l.generation }) ballot))
+
+started_stands : (x : Step) (g : Grant) (start : Start) (s : Session) (at : Spot) (n : ℕ) → StandsShared x s at n → LawfulSharedGrant x.setting x.past (seen (add_start start (add_grant g x))) s at n
+started_stands x g start s at n (inl holds) = inl holds
+started_stands x g start s at n (inr ballot) = inr (inl (ballot_carried x.setting x.past (entry_of x) (entry_of (add_start start (add_grant g x))) s at n (record { lease = refl; generation = refl }) ballot))
+
+granted_shared : (x : Step) (s : Session) (j : ℕ) (c : Command) (mode : Mode) (lver : ℕ) → Has x s → x.effects.grants ≡ [] → ((r : ResourceArg) → resource_named c ≡ Some r → is_shared mode ≡ true → StandsShared x s (spot_of r) lver)
+    → SharedSoFar (grant_for s j c mode lver x)
+granted_shared x s j (Acquire r shared p persistent) mode lver has none stands =
+    one_shared (grant_for s j (Acquire r shared p persistent) mode lver x) x.effects.grants (grant_of s r p mode lver persistent) s none refl has
+    (λ is. replied_stands x (grant_of s r p mode lver persistent) j s (spot_of r) lver (stands r refl is))
+granted_shared x s j (TakeOver r shared p persistent) mode lver has none stands =
+    one_shared (grant_for s j (TakeOver r shared p persistent) mode lver x) x.effects.grants (grant_of s r p mode lver persistent) s none refl has
+    (λ is. replied_stands x (grant_of s r p mode lver persistent) j s (spot_of r) lver (stands r refl is))
+granted_shared x s j (RunProgram r shared path) mode lver has none stands =
+    one_shared (grant_for s j (RunProgram r shared path) mode lver x) x.effects.grants (grant_of s r (next_child (seen x)) mode lver false) s none refl has
+    (λ is. started_stands x (grant_of s r (next_child (seen x)) mode lver false) (record { process = next_child (seen x); program = path; job = Some j; stands_for = None }) s (spot_of r) lver (stands r refl is))
+granted_shared x s j (AddLockspace a) mode lver has none stands = none_shared x none
+granted_shared x s j (RemLockspace a) mode lver has none stands = none_shared x none
+granted_shared x s j (InqLockspace a) mode lver has none stands = none_shared x none
+granted_shared x s j (HostStatus a) mode lver has none stands = none_shared x none
+granted_shared x s j (Release r p) mode lver has none stands = none_shared x none
+granted_shared x s j (ReleaseOrphan r) mode lver has none stands = none_shared x none
+granted_shared x s j (Convert r shared p) mode lver has none stands = none_shared x none
+granted_shared x s j (Request r v how) mode lver has none stands = none_shared x none
+granted_shared x s j (GetLvb r p) mode lver has none stands = none_shared x none
+granted_shared x s j (SetLvb r p bytes) mode lver has none stands = none_shared x none
+granted_shared x s j (SetKillpath p path) mode lver has none stands = none_shared x none
+granted_shared x s j Status mode lver has none stands = none_shared x none
+
+-- ---- a line
+
+same_resource : (c : Command) (a b : ResourceArg) → resource_named c ≡ Some a → resource_named c ≡ Some b → a ≡ b
+same_resource c a b first second = some_value a b (sym first ∙ second)
+
+held_shared : (x : Step) (s : Session) (at : Spot) (g : Grant) (n : ℕ) → x.effects.ends ≡ [] → x.effects.grants ≡ [] → Contains (holdings_on (seen x) s at) g → is_shared g.mode ≡ true → g.lver ≡ n → HoldsSharedUnder x.past s at n
+held_shared x s at g n unended ungranted there shared under =
+    (g, subst (λ hs. Contains (filter (λ (k : Grant). same_place k.path k.offset at.path at.base) (filter (λ (k : Grant). k.session == s.number) hs)) g) (held_before x unended ungranted) there, shared, under)
+
+lines_shared : (x : Step) (text : List ℕ) (c : Command) (j : ℕ) (d : Decision) → Known x → x.input ≡ Wake → x.setting.read text ≡ Ok c → HasGrounds x.setting (seen x) c d → Of (Has (with_input (Line text) x)) d
+    → SharedSoFar (carry_decision j c d (with_input (Line text) x))
+unfolding carry_decision
+lines_shared x text c j d k wake says = by d where
+  y : Step
+  y = with_input (Line text) x
+
+  none : (x.effects.ends ≡ []) × (x.effects.grants ≡ [])
+  none = k.1.waking wake
+
+  by : (d : Decision) → HasGrounds x.setting (seen x) c d → Of (Has y) d → SharedSoFar (carry_decision j c d y)
+  by (Replies r) grounds has = none_shared y none.1
+  by (Joins n a) grounds has = none_shared (carry_decision j c (Joins n a) y) none.1
+  by (Leaves s) grounds has = none_shared (signal_and_refuse s (Some j) y) (stopped_grants y s (Some j) ∙ none.1)
+  by (ReadsArea s r) grounds has = none_shared (carry_decision j c (ReadsArea s r) y) none.1
+  by (Shares s lver) grounds has =
+      let f = find_inside (λ (g : Grant). is_shared g.mode) (holdings_on (seen x) s (spot_of grounds.resource)) grounds.beside grounds.held in
+      granted_shared y s j c Shared lver has none.1 (λ r named is.
+      inl (subst (λ z. HoldsSharedUnder x.past s (spot_of z) lver)
+      (same_resource c grounds.resource r (asked_resource x.setting c grounds.resource (k.0.setting.reads text c says) grounds.acquires.asks).1 named)
+      (held_shared x s (spot_of grounds.resource) grounds.beside lver none.0 none.1 f.0 f.1 grounds.under)))
+  by (GivesUp s e) grounds has = none_shared (after_end s (spot_of_grant e) j e (add_end (end_of e) y)) (released_grants (add_end (end_of e) y) j s e ∙ none.1)
+  by (TakesOver s e) grounds has =
+      let f = find_inside is_orphan (holdings_on (seen x) s (spot_of grounds.resource)) e grounds.orphan in
+      granted_shared (add_end (end_of e) y) s j c e.mode e.lver has none.1 (λ r named is.
+      inl (subst (λ z. HoldsSharedUnder x.past s (spot_of z) e.lver) (same_resource c grounds.resource r (ap (λ z. resource_named z) grounds.command) named)
+      (held_shared x s (spot_of grounds.resource) e e.lver none.0 none.1 f.0 is refl)))
+  by (ConvertsTo s r mode) grounds has = none_shared (carry_decision j c (ConvertsTo s r mode) y) (converting_grants y s (spot_of r) j (known x.setting (seen y) s (spot_of r)) mode r.name ∙ none.1)
+  by (Requests s r) grounds has = none_shared (carry_decision j c (Requests s r) y) none.1
+  by (SetsValue s spot v) grounds has = none_shared (carry_decision j c (SetsValue s spot v) y) none.1
+  by (GetsValue s spot) grounds has = none_shared (carry_decision j c (GetsValue s spot) y) none.1
+
+-- ---- after an answer
+
+-- What is known of a lease's job whose write is done.
+done_work : (x : Step) (s : Session) (m : Submitted) (a : Answer) (h : Hears x s m a) (j : ℕ) (step : LeaseStep) (c : Command) → m.call.purpose ≡ Lease (ForJob j) step → is_running (seen x) j ≡ true → command_numbered x.setting (seen x) j ≡ Some c
+    → a ≡ Written → Known x → IsDoneWork x.setting (seen x) (heard_by x.input) s m j step c
+done_work x s m a h j step c is runs command written k =
+    let w = heard_answered x s m a k.0.facts.calls k.0.orderly h in
+    record {
+      work = at_work x s m a h j step is runs c command k.0;
+      session = h.session;
+      bare = h.bare;
+      heard_it = ap (λ i. heard_by i) h.heard ∙ ap (λ n. Some n) (sym (heard_number x s m a h));
+      answer = w.0;
+      done = (w.1, w.3 ∙ written);
+    }
+
+split_there : {A : Type 0} (xs before after : List A) (a : A) → xs ≡ after ++ a ∷ before → Contains xs a
+split_there xs before after a is = subst (λ ys. Contains ys a) (sym is) (Contains-append_right after (a ∷ before) a (contains_first a before))
+
+-- Its ballot stands behind a shared grant: since the ballot's read nothing was shared.
+ballot_behind : (x : Step) (s : Session) (m : Submitted) (j : ℕ) (c : Command) (mode : Mode) → IsDoneWork x.setting (seen x) (heard_by x.input) s m j FreeLeader c → aim_of_command c ≡ Some (Acquires mode) → Known x
+    → SharedByBallot x.setting (seen x) s (spot_of_call x.setting.layout m) (lver_written m)
+ballot_behind x s m j c mode d for k =
+    let at : Spot = spot_of_call x.setting.layout m in
+    let f : FreedForJob x.setting (seen x) s at (lver_written m) j = k.0.facts.grounds.shared s m j c mode d for in
+    let on = kept_inside (λ (n : Submitted). is_lease_call n && is_on x.setting.layout at n.call) (calls_of (seen x) s) f.read (split_there (lease_calls x.setting (seen x) s at) f.before f.after f.read f.split) in
+    let there = kept_inside (is_call_of s) (submitted (seen x)) f.read on.0 in
+    record {
+      since = f.read.at;
+      none_shared = k.0.facts.works.unshared m f.read j FreeLeader f.step c mode s d.work for d.session there.0 f.of_job;
+      read = f.read;
+      mode = f.mode;
+      free = f.free;
+      block = f.block;
+      read_answer = f.read_answer;
+      mode_answer = f.mode_answer;
+      free_answer = f.free_answer;
+      of_lease = f.of_lease;
+      after = f.after;
+      before = f.before;
+      split = f.split;
+      won = (omega arith, f.won);
+      moded = f.moded;
+      freed = f.freed;
+      first = f.first;
+      kept = f.kept;
+    }
+
+-- ---- a conversion to shared
+
+in_cond : {A : Type 0} (b : Bool) (y : A) (ys : List A) (d : A) → Contains (cond b (y ∷ ys) ys) d → (y ≡ d) ⊎ Contains ys d
+in_cond true y ys d there = contains_cases y ys d there
+in_cond false y ys d there = inr there
+
+to_cond : {A : Type 0} (b : Bool) (y : A) (ys : List A) (d : A) → Contains ys d → Contains (cond b (y ∷ ys) ys) d
+to_cond true y ys d there = contains_more y ys d there
+to_cond false y ys d there = there
+
+no_exclusive : (t : Trace) (s : Session) (at : Spot) → ((h : Grant) → Contains (holdings t) h → same_place h.path h.offset at.path at.base ≡ true → is_shared h.mode ≡ false → ⊥) → exclusive_on t s at ≡ None
+no_exclusive t s at never = by (exclusive_on t s at) refl where
+  by : (o : Option Grant) → exclusive_on t s at ≡ o → exclusive_on t s at ≡ None
+  by None is = is
+  by (Some h) is =
+      let f = find_inside (λ (k : Grant). not (is_shared k.mode)) (holdings_on t s at) h is in
+      let g : HeldThere t s at h = held_there t s at h f.0 (not_true (is_shared h.mode) f.1) in
+      absurd (never h g.there g.place g.exclusive)
+
+-- What is known where a conversion to shared is done.
+record Converting (x : Step) (s : Session) (m : Submitted) (j lver : ℕ) : Type 0 where
+  command : Command
+  numbered : command_numbered x.setting (seen x) j ≡ Some command
+  held : Grant
+  exclusive : exclusive_on (seen x) s (spot_of_call x.setting.layout m) ≡ Some held
+  under : held.lver ≡ lver
+  there : HeldThere (seen x) s (spot_of_call x.setting.layout m) held
+  moded : ModedForJob x.setting (seen x) s (spot_of_call x.setting.layout m) m
+  told : IsAnsweredAt (length x.past) m Written
+  of_lease : Contains (lease_calls x.setting (seen x) s (spot_of_call x.setting.layout m)) m
+  lver_is : moded.block.lver ≡ lver
+
+to_shared : (m : Mode) → is_shared m ≡ true → m ≡ Shared
+to_shared Shared is = refl
+to_shared Exclusive is = absurd (false_is_true is)
+
+converting : (x : Step) (s : Session) (m : Submitted) (a : Answer) (h : Hears x s m a) (j lver : ℕ) (mode : Mode) → Known x → m.call.purpose ≡ Lease (ForJob j) SetMode → is_running (seen x) j ≡ true
+    → aim_of x.setting (seen x) (ForJob j) ≡ Some (Converts mode) → a ≡ Written → (known x.setting (seen x) s (spot_of_call x.setting.layout m)).exclusive ≡ Some lver → Converting x s m j lver
+unfolding known
+converting x s m a h j lver mode k is runs aimed written excludes = by (command_numbered x.setting (seen x) j) refl aimed where
+  at : Spot
+  at = spot_of_call x.setting.layout m
+
+  e : (g : Grant) × (exclusive_on (seen x) s at ≡ Some g) × (g.lver ≡ lver)
+  e = mapped_value (λ (g : Grant). g.lver) (exclusive_on (seen x) s at) lver excludes
+
+  there : HeldThere (seen x) s at e.0
+  there = (let f = find_inside (λ (g : Grant). not (is_shared g.mode)) (holdings_on (seen x) s at) e.0 e.1 in held_there (seen x) s at e.0 f.0 (not_true (is_shared e.0.mode) f.1))
+
+  its : session_numbered x.setting (seen x) e.0.session ≡ Some s
+  its = ap (λ n. session_numbered x.setting (seen x) n) there.its ∙ heard_has x s m a h
+
+  stands : StandsExclusive x.setting (seen x) (heard_by x.input) s (spot_of_grant e.0) e.0.lver
+  stands = k.0.facts.holdings.stands e.0 s there.there its there.exclusive
+
+  newest : (ms : List Submitted) × (lease_calls x.setting (seen x) s at ≡ m ∷ ms)
+  newest = k.0.facts.turns.newest s m h.session (call_heard x s m a h).0 (heard_opens x s m a h) (ap (λ p. is_some (lease_step p)) is)
+
+  last : (b : Block) → block_written m ≡ Some b → block_submitted (lease_calls x.setting (seen x) s at) ≡ Some b
+  last b wrote = ap (λ ms. block_submitted ms) newest.1 ∙ ap (λ o. elim o as (λ z. Option Block) [ Some d ↦ Some d | None ↦ block_submitted newest.0 ]) wrote
+
+  under : (b : Block) → block_written m ≡ Some b → b.lver ≡ lver
+  under b wrote =
+      let own : block_submitted (lease_calls x.setting (seen x) s at) ≡ Some stands.own =
+      subst (λ v. block_submitted (lease_calls x.setting (seen x) s v) ≡ Some stands.own) (spot_same e.0 at there.place) stands.known
+      in
+      ap (λ (d : Block). d.lver) (one_value b stands.own (block_submitted (lease_calls x.setting (seen x) s at)) (last b wrote) own) ∙ (stands.under.0 ∙ e.2)
+
+  wants : (c : Command) → command_numbered x.setting (seen x) j ≡ Some c → aim_of_command c ≡ Some (Converts mode) → mode ≡ Shared
+  wants c command for =
+      to_shared mode
+      (other_mode (is_shared e.0.mode) (is_shared mode) there.exclusive (k.0.facts.works.beside m j SetMode c (Converts mode) e.0 (at_work x s m a h j SetMode is runs c command k.0) for there.there there.place).1)
+    where
+      other_mode : (b d : Bool) → b ≡ false → same_truth b d ≡ false → d ≡ true
+      other_mode false true is differ = refl
+      other_mode false false is differ = absurd (true_is_false differ)
+      other_mode true d is differ = absurd (true_is_false is)
+
+  of_command : (c : Command) → command_numbered x.setting (seen x) j ≡ Some c → aim_of_command c ≡ Some (Converts mode) → Converting x s m j lver
+  of_command c command for =
+      let moded : ModedForJob x.setting (seen x) s at m =
+      k.0.facts.grounds.moded s m j c (done_work x s m a h j SetMode c is runs command written k) (for ∙ ap (λ z. Some (Converts z)) (wants c command for))
+      in
+      record {
+        command = c;
+        numbered = command;
+        held = e.0;
+        exclusive = e.1;
+        under = e.2;
+        there = there;
+        moded = moded;
+        told = subst (λ z. IsAnsweredAt (length x.past) m z) written (heard_answered x s m a k.0.facts.calls k.0.orderly h);
+        of_lease = subst (λ ms. Contains ms m) (sym newest.1) (contains_first m newest.0);
+        lver_is = under moded.block moded.written.0;
+      }
+
+  by : (o : Option Command) → command_numbered x.setting (seen x) j ≡ o → option_and_then aim_of_command o ≡ Some (Converts mode) → Converting x s m j lver
+  by None command for = absurd (none_some (Converts mode) for)
+  by (Some c) command for = of_command c command for
+
+became_shared : (x : Step) (s : Session) (m : Submitted) (j lver : ℕ) (l : Leader) → Has x s → x.effects.ends ≡ [] → x.effects.grants ≡ [] → HoldingFacts x.setting (seen x) (heard_by x.input) → Converting x s m j lver
+    → SharedSoFar (carry_lease s (spot_of_call x.setting.layout m) (ForJob j) (BecomeShared lver l) x)
+unfolding carry_lease
+became_shared x s m j lver l has unended ungranted holds v =
+    turned_by (λ z. SharedSoFar (write_leader s at Settling FreeLeader l z)) x s at j Shared lver (λ c p g command process found. turned p g found)
+    (λ none. none_shared (write_leader s at Settling FreeLeader l x) ungranted) where
+      at : Spot
+      at = spot_of_call x.setting.layout m
+
+      turned : (p : ℕ) (g : Grant) → held_otherwise (seen x) s at p Shared ≡ Some g → SharedSoFar (write_leader s at Settling FreeLeader l (convert_holding j Shared lver g x))
+      turned p g found =
+          one_shared w x.effects.grants (converted g Shared lver) s ungranted refl its
+          (λ is. inr (inr (subst (λ k. SharedByConversion x.setting x.past (seen w) s k lver) (sym (spot_same g at o.2)) behind))) where
+            z : Step
+            z = convert_holding j Shared lver g x
+
+            c : Call
+            c = made_call z s.number at.path (Lease Settling FreeLeader) (leader_offset at.base) (WriteRecord (LeaderIs l))
+
+            new : Submitted
+            new = new_call (length z.past) z.reading c
+
+            w : Step
+            w = write_leader s at Settling FreeLeader l z
+
+            o : Contains (holdings (seen x)) g × (g.session ≡ s.number) × (same_place g.path g.offset at.path at.base ≡ true) × (g.process ≡ p) × (same_truth (is_shared g.mode) (is_shared Shared) ≡ false)
+            o = otherwise x s at p Shared g found
+
+            its : session_numbered w.setting (seen w) g.session ≡ Some s
+            its = ap (λ ss. slice_get ss g.session) (same_sessions x.setting (entry_of z) x.past c refl) ∙ (ap (λ n. session_numbered x.setting (seen x) n) o.1 ∙ has)
+
+            first : (b : Bool) → same_truth b true ≡ false → b ≡ false
+            first false is = refl
+            first true is = absurd (true_is_false is)
+
+            one : OfOneProcess x g
+            one h there same = ap (λ (k : Grant). k.process) (holds.alone g h o.0 there same (first (is_shared g.mode) o.4))
+
+            same_calls : submitted (seen z) ≡ submitted (seen x)
+            same_calls = reply_leaves (add_grant (converted g Shared lver) (add_end (end_of g) x)) j (Granted lver) (inl refl)
+
+            mine : calls_of (seen w) s ≡ new ∷ calls_of (seen x) s
+            mine = mine_more (entry_of z) x.past c s (number_itself s.number) ∙ ap (λ ms. new ∷ filter (is_call_of s) ms) same_calls
+
+            lease : lease_calls x.setting (seen w) s at ≡ cond (true && is_on x.setting.layout at c) (new ∷ lease_calls x.setting (seen x) s at) (lease_calls x.setting (seen x) s at)
+            lease = ap (λ ms. filter (λ (k : Submitted). is_lease_call k && is_on x.setting.layout at k.call) ms) mine
+
+            generation : generation_of (seen w) s ≡ generation_of (seen x) s
+            generation = ap (λ ms. generation_in s ms) mine
+
+            behind : SharedByConversion x.setting x.past (seen w) s at lver
+            behind =
+                record {
+                  held = v.held;
+                  mode = m;
+                  block = v.moded.block;
+                  was_exclusive = (
+                    ap (λ hs. find (λ (k : Grant). not (is_shared k.mode)) (filter (λ (k : Grant). same_place k.path k.offset at.path at.base) (filter (λ (k : Grant). k.session == s.number) hs))) (sym (held_before x unended ungranted))
+                        ∙ v.exclusive,
+                    v.under,
+                  );
+                  ends = no_exclusive (seen w) s at (λ h there place exclusive.
+                      true_is_false (ap (λ (k : Grant). is_shared k.mode) (only_converted x j g Shared lver h ungranted one there (spot_same h at place ∙ sym (spot_same g at o.2))) ∙ exclusive));
+                  of_lease = subst (λ ms. Contains ms m) (sym lease) (to_cond (true && is_on x.setting.layout at c) new (lease_calls x.setting (seen x) s at) m v.of_lease);
+                  moded = (v.moded.written.0, v.moded.written.1, v.moded.written.2 ∙ sym generation, v.lver_is);
+                  done = v.told;
+                  kept = λ d b there after is. kept_so d b after is (in_cond (true && is_on x.setting.layout at c) new (lease_calls x.setting (seen x) s at) d (subst (λ ms. Contains ms d) lease there));
+                }
+              where
+                kept_so : (d : Submitted) (b : Block) → m.call.number ≤ d.call.number → block_written d ≡ Some b → (new ≡ d) ⊎ Contains (lease_calls x.setting (seen x) s at) d → (b.shared ≡ true) × (b.mode_gen ≡ generation_of (seen w) s)
+                kept_so d b after is (inl is_new) = absurd (none_some b (ap (λ k. block_written k) is_new ∙ is))
+                kept_so d b after is (inr old) = let r = v.moded.kept d b old after is in (r.0, r.1 ∙ sym generation)
+
+-- ---- all that a lease may decide after an answer
+
+-- What its decision asks of a grant.
+led_shared : (x : Step) (s : Session) (m : Submitted) (a : Answer) (h : Hears x s m a) (work : Work) (step : LeaseStep) (aim : Aim) → Known x → m.call.purpose ≡ Lease work step → goes_on x.setting (seen x) s work ≡ true
+    → aim_of x.setting (seen x) work ≡ Some aim
+    → (n : LeaseNext) → IsFitNext (known x.setting (seen x) s (spot_of_call x.setting.layout m)) aim (lver_written m) step a n → SharedSoFar (carry_lease s (spot_of_call x.setting.layout m) work n x)
+unfolding carry_lease
+led_shared x s m a h work step aim k is on aimed Nothing fits = none_shared x h.ungranted
+led_shared x s m a h work step aim k is on aimed (ReadFor (ReadArea name)) fits = none_shared (carry_lease s (spot_of_call x.setting.layout m) work (ReadFor (ReadArea name)) x) h.ungranted
+led_shared x s m a h work step aim k is on aimed (ReadFor ReadBeforeFree) fits = none_shared (carry_lease s (spot_of_call x.setting.layout m) work (ReadFor ReadBeforeFree) x) h.ungranted
+led_shared x s m a h work step aim k is on aimed (ReadFor to) fits = none_shared (carry_lease s (spot_of_call x.setting.layout m) work (ReadFor to) x) h.ungranted
+led_shared x s m a h work step aim k is on aimed (WriteBlock to b) fits = none_shared (carry_lease s (spot_of_call x.setting.layout m) work (WriteBlock to b) x) h.ungranted
+led_shared x s m a h work step aim k is on aimed (WriteLeader to l) fits = none_shared (carry_lease s (spot_of_call x.setting.layout m) work (WriteLeader to l) x) h.ungranted
+led_shared x s m a h Settling step aim k is on aimed (AnswerJob r) fits = none_shared x h.ungranted
+led_shared x s m a h (ForJob j) step aim k is on aimed (AnswerJob r) fits = none_shared (add_reply j r x) h.ungranted
+led_shared x s m a h Settling step aim k is on aimed (GrantJob mode lver) fits = none_shared x h.ungranted
+led_shared x s m a h (ForJob j) step aim k is on aimed (GrantJob mode lver) fits = by (command_numbered x.setting (seen x) j) refl aimed where
+  at : Spot
+  at = spot_of_call x.setting.layout m
+
+  behind : (c : Command) → command_numbered x.setting (seen x) j ≡ Some c → aim_of_command c ≡ Some aim → is_shared mode ≡ true → IsGrantOf aim step mode → SharedByBallot x.setting (seen x) s at lver
+  behind c command for shared (inl taken) = absurd (true_is_false (sym shared ∙ ap (λ z. is_shared z) taken.1))
+  behind c command for shared (inr freed) =
+      subst (λ n. SharedByBallot x.setting (seen x) s at n) (sym fits.1)
+      (ballot_behind x s m j c freed.2.0 (done_work x s m a h j FreeLeader c (is ∙ ap (λ z. Lease (ForJob j) z) freed.0) on command fits.0 k) (for ∙ ap (λ z. Some z) freed.2.1) k)
+
+  its_place : (c : Command) → command_numbered x.setting (seen x) j ≡ Some c → (r : ResourceArg) → resource_named c ≡ Some r → at ≡ spot_of r
+  its_place c command r named =
+      let f = subst (λ p. FitsCommand x.setting s m c p) is (k.0.facts.jobs.fits m j s c (call_heard x s m a h).0 (ap (λ p. job_of p) is) h.session command) in
+      f.3.1 ∙ ap (λ z. spot_of z) (same_resource c f.0 r f.1 named)
+
+  by : (o : Option Command) → command_numbered x.setting (seen x) j ≡ o → option_and_then aim_of_command o ≡ Some aim → SharedSoFar (with_some o (λ c. grant_for s j c mode lver) x)
+  by None command for = none_shared x h.ungranted
+  by (Some c) command for =
+      granted_shared x s j c mode lver (heard_has x s m a h) h.ungranted (λ r named shared.
+      inr (subst (λ z. SharedByBallot x.setting (seen x) s z lver) (its_place c command r named) (behind c command for shared fits.2)))
+led_shared x s m a h Settling step aim k is on aimed (BecomeShared lver l) fits = none_shared (carry_lease s (spot_of_call x.setting.layout m) Settling (BecomeShared lver l) x) h.ungranted
+led_shared x s m a h (ForJob j) step aim k is on aimed (BecomeShared lver l) fits =
+    became_shared x s m j lver l (heard_has x s m a h) h.unended h.ungranted k.0.facts.holdings
+    (converting x s m a h j lver fits.2.0 k (is ∙ ap (λ z. Lease (ForJob j) z) fits.1) on (aimed ∙ ap (λ z. Some z) fits.2.1) fits.0 fits.3)
+led_shared x s m a h Settling step aim k is on aimed (BecomeExclusive lver b) fits = none_shared (carry_lease s (spot_of_call x.setting.layout m) Settling (BecomeExclusive lver b) x) h.ungranted
+led_shared x s m a h (ForJob j) step aim k is on aimed (BecomeExclusive lver b) fits =
+    let at : Spot = spot_of_call x.setting.layout m in
+    turned_by (λ z. SharedSoFar (write_block s at Settling ClearMode b z)) x s at j Exclusive lver (λ c p g command process found. exclusive_one at g (otherwise x s at p Exclusive g found).1)
+    (λ none. none_shared (write_block s at Settling ClearMode b x) h.ungranted)
+  where
+    exclusive_one : (at : Spot) (g : Grant) → g.session ≡ s.number → SharedSoFar (write_block s at Settling ClearMode b (convert_holding j Exclusive lver g x))
+    exclusive_one at g mine =
+        let z : Step = convert_holding j Exclusive lver g x in
+        one_shared (write_block s at Settling ClearMode b z) x.effects.grants (converted g Exclusive lver) s h.ungranted refl
+        (ap (λ ss. slice_get ss g.session) (same_sessions x.setting (entry_of z) x.past (made_call z s.number at.path (Lease Settling ClearMode) (block_offset x.setting.layout at.base s.id) (WriteRecord (BlockIs b))) refl)
+        ∙ (ap (λ n. session_numbered x.setting (seen x) n) mine ∙ heard_has x s m a h)) (λ is. absurd (false_is_true is))
+
+-- ---- the whole
+
+-- A session that holds nothing was granted nothing.
+holds_none : (x : Step) (s : Session) (g : Grant) → holdings_of (seen x) s ≡ [] → Contains x.effects.grants g → g.session ≡ s.number → ⊥
+holds_none x s g none there mine =
+    contains_none g (subst (λ gs. Contains gs g) none (kept (λ (k : Grant). k.session == s.number) (holdings (seen x)) g (subst (λ n. (g.session == n) ≡ true) mine (number_itself g.session))
+    (Contains-append_right (filter (λ (k : Grant). not (is_ended_by x.effects.ends k)) (holdings x.past)) x.effects.grants g there)))
+
+pub shared_grants_are_lawful : Acts Known SharedSoFar
+unfolding after_value_read
+shared_grants_are_lawful =
+    record {
+      kills = λ x s has due k. for_each_keeps SharedSoFar (holders_of (seen x) s) (λ p. send p Kill) x (λ p there z h. kill_shared z p h) (so_far x k);
+      times_out = λ x j m wake bare runs waits late k.
+          none_shared (refuse j (IoTimeout m.call.number m.reading x.reading) x) ((refused_alike x x j (IoTimeout m.call.number m.reading x.reading) (same x)).grants ∙ (k.1.waking wake).1);
+      hears = λ x number answer wake bare expected k. none_shared (with_input (Told number answer) x) (k.1.waking wake).1;
+      counts = λ x text wake bare k. none_shared (with_input (Number text) x) (k.1.waking wake).1;
+      exits = λ x p wake bare one k. exited_shared (with_input (Exit p) x) p (k.1.waking wake).0 (k.1.waking wake).1;
+      exits_as_none = λ x p wake bare none k. none_shared (with_input (Exit p) x) (k.1.waking wake).1;
+      starts = λ x p ok wake bare expected k. none_shared (with_input (Spawned p ok) x) (k.1.waking wake).1;
+      fails_to_start = λ x p input k.
+          none_shared (when_running (job_of_start (seen x) p) SpawnFault (end_holdings p x)) (said_grants x (end_holdings p x) (job_of_start (seen x) p) SpawnFault (no_grants x p) ∙ k.1.ungranted p false input);
+      signals_instead = λ x p q input stood k. none_shared (add_signal q Term x) (k.1.ungranted p false input);
+      says_started = λ x p j input is runs k. none_shared (add_reply j (started_reply (seen x) p) x) (k.1.ungranted p true input);
+      misreads = λ x text column wake bare says k. none_shared (answer_line text (next_job x.setting (seen x)) (Misread column) x) (k.1.waking wake).1;
+      answers = λ x text c r wake bare says is k. none_shared (answer_line text (next_job x.setting (seen x)) r x) (k.1.waking wake).1;
+      carries = λ x text c d wake bare says is more k.
+          lines_shared x text c (next_job x.setting (seen x)) d k wake says (subst (λ z. HasGrounds x.setting (seen x) c z) is (decisions_have_grounds x.setting (seen x) x.reading c))
+          (subst (λ z. Of (Has (with_input (Line text) x)) z) is (line_has x text c bare));
+      joins_on = λ x s j step m answer hears is runs k.
+          let n : DeltaNext = next_in_joining (delta_of_session x.setting s) (generation_of (seen x) s) (calls_of (seen x) s) x.reading m step answer in
+          none_shared (carry_delta s n x) ((delta_ungranting x s n).grants ∙ hears.ungranted);
+      ends_joining = λ x s j step m answer hears is stops k. none_shared (remove_of_refused s x) (removed_grants x s ∙ hears.ungranted);
+      renewed = λ x s m answer hears is k.
+          let n : DeltaNext = next_after_renewal (is_some (recovery_of x.setting (seen x) s)) m.reading answer in
+          none_shared (carry_delta s n x) ((delta_ungranting x s n).grants ∙ hears.ungranted);
+      freed = λ x s j m answer hears is k. none_shared (carry_delta s (next_after_free j m.call.number answer) x) ((delta_ungranting x s (next_after_free j m.call.number answer)).grants ∙ hears.ungranted);
+      shown = λ x s m bytes hears is joined begins k. none_shared (signal_and_refuse s None x) (stopped_grants x s None ∙ hears.ungranted);
+      sees = λ x s number bytes at g has input held k. call_shared x s g.path SeeRequest (request_offset x.setting.layout g.offset) (ReadSectors 1) refl refl (λ e there mine. refl) (so_far x k);
+      leads_on = λ x s work step m answer aim hears is on at k.
+          led_shared x s m answer hears work step aim k is on at (next_of_lease x.setting (seen x) s (spot_of_call x.setting.layout m) aim m step answer)
+          (next_fits (lease_place x.setting s) (known x.setting (seen x) s (spot_of_call x.setting.layout m)) aim m.call.number (lver_written m) step answer);
+      fails = λ x s m j hears lone runs k. none_shared (add_reply j (IoFault m.call.number) x) hears.ungranted;
+      has_asked = λ x s m j owner hears is runs k. none_shared (add_reply j Done x) hears.ungranted;
+      has_set = λ x s m j hears is runs k. none_shared (add_reply j (set_reply m) x) hears.ungranted;
+      asks = λ x s m j bytes c hears is runs at k. none_shared (after_request_read s j bytes c x) (asked_grants x s j bytes c ∙ hears.ungranted);
+      tells = λ x s m j bytes hears is runs k. none_shared (after_value_read j bytes x) hears.ungranted;
+      warns = λ x s m bytes g signal hears is held own says k. none_shared (send g.process signal x) ((sent_alike x x g.process signal (same x)).grants ∙ hears.ungranted);
+      joins_in_time = λ x s j has wake is runs k.
+          let n : DeltaNext = next_on_wake (delta_of_session x.setting s) x.reading (calls_of (seen x) s) in
+          none_shared (carry_delta s n x) ((delta_ungranting x s n).grants ∙ (k.1.waking wake).1);
+      renews = λ x s has wake joined k.
+          let n : DeltaNext = next_renewal (delta_of_session x.setting s) x.reading (delta_known x.setting (seen x) s) (bits_due x.setting (calls_of (seen x) s) x.reading) in
+          none_shared (carry_delta s n x) ((delta_ungranting x s n).grants ∙ (k.1.waking wake).1);
+      settles = λ x s at has wake active aligned none k.
+          let n : LeaseNext = settle_next (lease_place x.setting s) (known x.setting (seen x) s at) in
+          none_shared (carry_lease s at Settling n x) ((settling_ungranting x s at (known x.setting (seen x) s at) n (settling_fits (lease_place x.setting s) (known x.setting (seen x) s at))).grants ∙ (k.1.waking wake).1);
+      parts = λ x s has joined recovers free quiet k.
+          when_keeps SharedSoFar (is_registered x.setting (seen x) s.lockspace) (add_move (Unregister s.lockspace)) x (λ is h. move_shared x (Unregister s.lockspace) h) (so_far x k);
+      frees = λ x s has joined well free quiet k.
+          free_keeps SharedSoFar x s
+          (λ j d. call_shared x s s.path (Leaving j) (own_offset x.setting s) (WriteRecord (DeltaIs d)) refl refl (λ g there mine. absurd (holds_none x s g free there mine)) (so_far x k)) (so_far x k);
+    }
+
+pub shared_grants_begin : Begins SharedSoFar
+unfolding begin_recoveries begin_recovery
+shared_grants_begin st past e follows whole =
+    none_shared (begin_recoveries (begin_step st past e.reading))
+    (for_each_keeps (λ z. z.effects.grants ≡ []) (present_sessions st (seen (begin_step st past e.reading))) begin_recovery (begin_step st past e.reading)
+    (λ s there y h. when_keeps (λ z. z.effects.grants ≡ []) (begins_now (seen y) (recovery_of y.setting (seen y) s)) (signal_and_refuse s None) y (λ begins k. stopped_grants y s None ∙ k) h) refl)

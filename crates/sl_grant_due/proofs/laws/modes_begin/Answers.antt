@@ -1,0 +1,5 @@
+use Rattle.sl_grant_due.proofs.ModesAreLawful as its
+use Rattle.sl_grant_due.proofs.laws.modes_begin.Goals as goal
+
+pub returns : goal.returns
+returns c = its.modes_begin

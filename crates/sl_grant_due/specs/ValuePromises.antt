@@ -1,0 +1,16 @@
+-- What is kept of reads of values.
+use Rattle.sl_acts.specs.Acts.{Acts}
+use Rattle.sl_due.specs.Steps.{Step, seen}
+use Rattle.sl_holding_due.specs.Moments.{Known}
+use Rattle.sl_holding_due.specs.Promises.{Begins}
+use Rattle.sl_step_facts.specs.Heard.{heard_by}
+use Rattle.sl_step_facts.specs.ValueFacts.{ValueFacts}
+
+abbrev pub HasValueFacts : Step → Type 0
+HasValueFacts x = ValueFacts x.setting (seen x) (heard_by x.input)
+
+abbrev pub ValueFactsAreKept : Type 0
+ValueFactsAreKept = Acts Known HasValueFacts
+
+abbrev pub ValueFactsBegin : Type 0
+ValueFactsBegin = Begins HasValueFacts
