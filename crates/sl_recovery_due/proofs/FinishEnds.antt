@@ -94,7 +94,7 @@ finish_all K moves calls ss z h = for_each_keeps K ss finish_session z (λ s the
 
 -- A joined session's name is registered.
 pub joined_registered : (st : Setting) (t : Trace) (heard : Option ℕ) (s : Session) → ConnectionFacts st t heard → Contains (sessions st t) s → is_joined t s ≡ true → is_registered st t s.lockspace ≡ true
-joined_registered st t heard s h there joined = h.covers s (present_inside st t s there (joined_present t s joined)) (joined_is_covered t s joined)
+joined_registered st t heard s h there joined = h.covers s there (joined_is_covered t s joined)
 
 -- A joined session of before that isn't joined any more stays so.
 pub gone_stays : (s : Session) (y : Step) (m : Move) → is_joined (seen y) s ≡ false → is_joined (seen (add_move m y)) s ≡ false

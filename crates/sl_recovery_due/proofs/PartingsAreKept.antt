@@ -371,7 +371,10 @@ ends_well x s m answer h hears =
         let k = some_there (refused_after (seen x) s) refused in
         let unjoined : joined_after (seen x) s ≡ None = refused_apart (seen x) s k.0 k.1 in
         let w = writer_of x s m answer hears h.0.0.facts.calls h.0.0.orderly unjoined refused in
-        removes_of x s.lockspace h.1 (λ z old joined same. absurd (h.0.0.facts.connections.writers s z w.0 there unjoined w.1 w.2 w.3 w.4 (old_session x z old) joined (sym same)))
+        let mine : Contains (calls_of (seen x) s) w.0 = kept (is_call_of s) (submitted (seen x)) w.0 (ap (λ n. n == s.number) w.2 ∙ number_itself s.number) w.1 in
+        removes_of x s.lockspace h.1 (λ z old joined same.
+        let one : z ≡ s = h.0.0.facts.connections.writers s z w.0 there unjoined mine w.3 w.4 (old_session x z old) (joined_present (seen x) z joined) (sym same) in
+        absurd (joined_some (seen x) s (subst (λ (q : Session). is_joined (seen x) q ≡ true) one joined) unjoined))
 
 -- ---- inputs
 
