@@ -1,0 +1,3 @@
+pub mod AllIsKept
+pub mod ActsRest
+pub mod TracesHold
