@@ -1,3 +1,4 @@
 pub mod AllIsKept
 pub mod ActsRest
+pub mod FirstFacts
 pub mod TracesHold

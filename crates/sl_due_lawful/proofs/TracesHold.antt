@@ -8,6 +8,7 @@ use Rattle.sl_due.specs.DueFirst.{begin_recoveries}
 use Rattle.sl_due.specs.Steps.{Step, begin_step, seen}
 use Rattle.sl_due_lawful.proofs.ActsRest.{Heard, Rested, answer_acts_rest, other_acts_rest, rested}
 use Rattle.sl_due_lawful.proofs.AllIsKept.{all_begins}
+use Rattle.sl_due_lawful.proofs.FirstFacts.{facts_at_first, grounds_rest}
 use Rattle.sl_due_lawful.specs.Kept.{Holds, Kept, Rests}
 use Rattle.sl_due_lawful.specs.Promises.{ActsAsked, DueIsLawfulWith, DueIsWellWith, TracesHold}
 use Rattle.sl_job_facts.proofs.EffectsAreAllowed.{delta, ended}
@@ -19,7 +20,6 @@ use Rattle.sl_recovery_due.proofs.RecoveryIsLawful.{kill_facts_end, recovery_is_
 use Rattle.sl_recovery_due.proofs.StopsBegin.{begun_says}
 use Rattle.sl_recovery_due.specs.KillFacts.{KillFacts}
 use Rattle.sl_sessions.specs.declared.session.Session.{Session}
-use Rattle.sl_step_facts.specs.GrantGrounds.{GrantGrounds, IsDoneWork}
 use Rattle.sl_step_facts.specs.Heard.{IsOpen, heard_by}
 use Rattle.sl_step_facts.specs.HoldingFacts.{HoldingFacts, StandsExclusive}
 use Rattle.sl_step_facts.specs.JobFacts.{JobFacts}
@@ -31,7 +31,6 @@ use Rattle.sl_trace.specs.Traces.{FollowsTrace, Setting, Submitted, Trace, spot_
 use Rattle.sl_trace.specs.declared.command.Command.{Command}
 use Rattle.sl_trace.specs.declared.effects.Entry.{Entry}
 use Rattle.sl_trace.specs.declared.effects.LeaseStep.{LeaseStep}
-use Rattle.sl_trace.specs.declared.effects.LeaseStep.TheVariants.{FreeLeader, SetMode, TakeLeader}
 use Rattle.sl_trace.specs.declared.effects.Spot.{Spot}
 use Rattle.sl_words.proofs.CaseLaws.{none_some}
 use Rattle.std.proofs.Common.{ap, inl, inr, subst}
@@ -93,18 +92,6 @@ works_rest st t heard h =
       modes = λ m j step c w is. h.modes m j step c (work_then st t heard m j step c w) is;
       acts = λ m j step c p w is. h.acts m j step c p (work_then st t heard m j step c w) is;
       unshared = λ m d j step before c mode s w is its there at. h.unshared m d j step before c mode s (work_then st t heard m j step c w) is its there at;
-    }
-
-no_done_work : {P : Type 0} (st : Setting) (t : Trace) (s : Session) (m : Submitted) (j : ℕ) (step : LeaseStep) (c : Command) → IsDoneWork st t None s m j step c → P
-no_done_work st t s m j step c h = absurd (none_some m.call.number h.heard_it)
-
-grounds_rest : (st : Setting) (t : Trace) → GrantGrounds st t None
-grounds_rest st t =
-    record {
-      acquired = λ s m j c w is. no_done_work st t s m j TakeLeader c w;
-      converted = λ s m j c w is. no_done_work st t s m j TakeLeader c w;
-      shared = λ s m j c mode w is. no_done_work st t s m j FreeLeader c w;
-      moded = λ s m j c w is. no_done_work st t s m j SetMode c w;
     }
 
 reading_then : (st : Setting) (t : Trace) (heard : Option ℕ) (m : Submitted) (j : ℕ) (s : Session) → IsReading st t None m j s → IsReading st t heard m j s
@@ -199,17 +186,17 @@ first_kills : (st : Setting) → KillFacts st []
 first_kills st = record { recovery = λ s b there is. absurd (none_some b is); leaving = λ s b there is. absurd (none_some b is) }
 
 pub traces_hold : TracesHold
-traces_hold asked first st [] setting h = record { whole = record { setting = setting; lawful = first_lawful st; facts = first st setting }; kills = first_kills st }
-traces_hold asked first st (e ∷ past) setting h = step_holds asked st past e h.0.0 h.1.0 (traces_hold asked first st past setting (h.0.1, h.1.1))
+traces_hold asked st [] setting h = record { whole = record { setting = setting; lawful = first_lawful st; facts = facts_at_first st setting }; kills = first_kills st }
+traces_hold asked st (e ∷ past) setting h = step_holds asked st past e h.0.0 h.1.0 (traces_hold asked st past setting (h.0.1, h.1.1))
 
 pub due_is_lawful_with : DueIsLawfulWith
-due_is_lawful_with asked first st es setting h = (traces_hold asked first st es setting h).whole.lawful
+due_is_lawful_with asked st es setting h = (traces_hold asked st es setting h).whole.lawful
 
 -- With causes, and no idle job.
 pub due_is_well_with : DueIsWellWith
-due_is_well_with asked first caused idle st [] setting h = (first_lawful st, tt, tt)
-due_is_well_with asked first caused idle st (e ∷ past) setting h =
-    let before = due_is_well_with asked first caused idle st past setting (h.0.1, h.1.1) in
-    let held : Holds st past = traces_hold asked first st past setting (h.0.1, h.1.1) in
-    let now : Holds st (e ∷ past) = traces_hold asked first st (e ∷ past) setting h in
+due_is_well_with asked caused idle st [] setting h = (first_lawful st, tt, tt)
+due_is_well_with asked caused idle st (e ∷ past) setting h =
+    let before = due_is_well_with asked caused idle st past setting (h.0.1, h.1.1) in
+    let held : Holds st past = traces_hold asked st past setting (h.0.1, h.1.1) in
+    let now : Holds st (e ∷ past) = traces_hold asked st (e ∷ past) setting h in
     (now.whole.lawful, (caused st past e h.0.0 h.1.0 held now, before.1), idle st past e h.0.0 h.1.0 held before.2 now)

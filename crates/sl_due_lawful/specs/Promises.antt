@@ -57,13 +57,13 @@ EntriesLeaveNoneIdle = (st : Setting) (past : Trace) (e : Entry) → FollowsTrac
 
 -- With these each trace of steps that are due holds.
 abbrev pub TracesHold : Type 0
-TracesHold = ActsAsked → FactsAtFirst → (st : Setting) (es : Trace) → IsSetting st → IsHostTrace st es → Holds st es
+TracesHold = ActsAsked → (st : Setting) (es : Trace) → IsSetting st → IsHostTrace st es → Holds st es
 
 -- So what is due is lawful.
 abbrev pub DueIsLawfulWith : Type 0
-DueIsLawfulWith = ActsAsked → FactsAtFirst → (st : Setting) (es : Trace) → IsSetting st → IsHostTrace st es → Lawful st es
+DueIsLawfulWith = ActsAsked → (st : Setting) (es : Trace) → IsSetting st → IsHostTrace st es → Lawful st es
 
 -- And caused, with no job idle.
 abbrev pub DueIsWellWith : Type 0
 DueIsWellWith =
-    ActsAsked → FactsAtFirst → EntriesAreCaused → EntriesLeaveNoneIdle → (st : Setting) (es : Trace) → IsSetting st → IsHostTrace st es → Lawful st es × IsCaused st es × NoIdleJob st es
+    ActsAsked → EntriesAreCaused → EntriesLeaveNoneIdle → (st : Setting) (es : Trace) → IsSetting st → IsHostTrace st es → Lawful st es × IsCaused st es × NoIdleJob st es

@@ -1,6 +1,11 @@
 //! What is due is lawful.
 
-ghost use Rattle.sl_due_lawful.specs.Promises.{DueIsLawfulWith, DueIsWellWith, TracesHold};
+ghost use Rattle.sl_due_lawful.specs.Promises.{DueIsLawfulWith, DueIsWellWith, FactsAtFirst, TracesHold};
+
+/// Before the first entry all facts hold.
+pub fn facts_at_first()
+    ensures { FactsAtFirst }
+{}
 
 /// Each trace of steps that are due is whole, with its kills sent, where what is asked of the acts is so.
 pub fn traces_hold()
