@@ -2,3 +2,4 @@ pub mod AllIsKept
 pub mod ActsRest
 pub mod FirstFacts
 pub mod TracesHold
+pub mod WaitsStay

@@ -97,9 +97,9 @@ rising_there ns d there = order_there (once_each nat_eq ns) [] d (inl (once_ther
 
 from_rising : (ns : List ℕ) (d : ℕ) → Contains (rising ns) d → Contains ns d
 from_rising ns d there = elim (from_order (once_each nat_eq ns) [] d there) [
-    | inr none ↦ absurd (contains_none d none)
-    | inl inside ↦ elim (from_once ns [] d inside) [ inl is ↦ is | inr none ↦ absurd (contains_none d none) ]
-  ]
+  | inr none ↦ absurd (contains_none d none)
+  | inl inside ↦ elim (from_once ns [] d inside) [ inl is ↦ is | inr none ↦ absurd (contains_none d none) ]
+]
 
 -- ---- holders
 

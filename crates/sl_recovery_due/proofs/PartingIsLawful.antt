@@ -195,13 +195,12 @@ free_parts x s calls follows law there joined gone f = (k, f.answer, free, answe
       (calls.found (answered_in x.past (entry_of x) f.number f.answer d) (now d inside))
 
   opened : (d : Submitted) → (b : Bool) → (d.call.number == f.number) ≡ b → b ≡ true → d.answer ≡ None → IsAnsweredAt (length x.past) (answered_in x.past (entry_of x) f.number f.answer d) f.answer
-  opened d true same yes_it none =
-      (
-        answer_of x.past (entry_of x) f.answer d.call,
-        ap (λ b. (elim b as (λ z. Submitted) [ false ↦ d | true ↦ record d { answer = option_or d.answer (Some (answer_of x.past (entry_of x) f.answer d.call)) } ]).answer) same ∙ ap (λ o. option_or o (Some (answer_of x.past (entry_of x) f.answer d.call))) none,
-        refl,
-        refl,
-      )
+  opened d true same yes_it none = (
+    answer_of x.past (entry_of x) f.answer d.call,
+    ap (λ b. (elim b as (λ z. Submitted) [ false ↦ d | true ↦ record d { answer = option_or d.answer (Some (answer_of x.past (entry_of x) f.answer d.call)) } ]).answer) same ∙ ap (λ o. option_or o (Some (answer_of x.past (entry_of x) f.answer d.call))) none,
+    refl,
+    refl,
+  )
   opened d false same yes_it none = absurd (false_is_true yes_it)
 
   answered : IsAnsweredAt (length x.past) (answered_in x.past (entry_of x) f.number f.answer f.call) f.answer

@@ -15,7 +15,6 @@ use Rattle.sl_due.specs.DueInputs.{end_holdings, on_spawned, take_input, when_ru
 use Rattle.sl_due.specs.DueWake.{is_wake, on_wake}
 use Rattle.sl_due.specs.Steps.{Step, add_end, add_reply, add_signal, begin_step, for_each, seen, when, with_input, with_some}
 use Rattle.sl_job_facts.proofs.CallsHaveFacts.{find_mapped}
-use Rattle.sl_job_facts.proofs.EffectsAreAllowed.{exited}
 use Rattle.sl_job_facts.proofs.JobFactsGrow.{contains_left, contains_right}
 use Rattle.sl_job_facts.proofs.JobsAreNumbered.{found_before}
 use Rattle.sl_leases.specs.Jobs.{job_of_start}

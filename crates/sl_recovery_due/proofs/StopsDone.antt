@@ -161,11 +161,10 @@ stopped_session x s kept_one programs holders jobs = record { term = term; refus
   refused j other (inl runs) =
       let there : Contains (jobs_of_session (signal_holders Term s x).setting (seen (signal_holders Term s x)) s) j = subst (λ (w : Step). Contains (jobs_of_session w.setting (seen w) s) j) (sym sends.is) runs in
       (r, each_refused js r (signal_holders Term s x) j (kept (λ (k : Job). not (some_is (λ n. n == k.number) kept_one)) (jobs_of_session (signal_holders Term s x).setting (seen (signal_holders Term s x)) s) j (not_the_one j other kept_one refl) there), refl)
-  refused j other (inr was) =
-      (
-        was.0,
-        for_each_keeps (λ w. Contains w.effects.replies (record { job = j.number; reply = was.0 })) js (λ k. add_reply k.number r) (signal_holders Term s x)
+  refused j other (inr was) = (
+    was.0,
+    for_each_keeps (λ w. Contains w.effects.replies (record { job = j.number; reply = was.0 })) js (λ k. add_reply k.number r) (signal_holders Term s x)
         (λ k inside w h. contains_left w.effects.replies (record { job = k.number; reply = r } ∷ []) (record { job = j.number; reply = was.0 }) h)
         (subst (λ (w : Step). Contains w.effects.replies (record { job = j.number; reply = was.0 })) (sym sends.is) was.1),
-        was.2,
-      )
+    was.2,
+  )
