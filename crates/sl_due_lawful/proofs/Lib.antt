@@ -3,3 +3,5 @@ pub mod ActsRest
 pub mod FirstFacts
 pub mod TracesHold
 pub mod WaitsStay
+pub mod WaitsAtEnd
+pub mod BusyActs

@@ -1,18 +1,35 @@
 -- What a running job waits for stays as a step goes on, and at its end the job is busy.
+use Rattle.sl_acts.specs.SoFar.{entry_of}
+use Rattle.sl_due.specs.Steps.{Step, add_call_of, add_end, add_grant, add_move, add_reply, add_signal, add_start, seen}
 use Rattle.sl_due_lawful.specs.Busy.{For_call, For_child, For_leaving, For_session, Waits}
-use Rattle.sl_plain.proofs.Lists.{contains_first, contains_map, contains_none, got_inside, in_map}
-use Rattle.sl_sessions.specs.Sessions.{leaving_job, sessions}
+use Rattle.sl_job_facts.proofs.JobFactsGrow.{contains_left}
+use Rattle.sl_job_facts.proofs.NearlyPlainActs.{Nearly}
+use Rattle.sl_job_facts.proofs.SessionsHaveJobs.{left_in}
+use Rattle.sl_job_facts.proofs.SessionsStand.{reply_stops, running_before}
+use Rattle.sl_parts_law.proofs.CallsGrow.{any_more, same_sessions}
+use Rattle.sl_parts_law.proofs.EffectsAreTold.{effects_are_told}
+use Rattle.sl_plain.proofs.Lists.{contains_first, contains_map, contains_more, contains_none, got_inside, in_map}
+use Rattle.sl_sessions.specs.Sessions.{is_joined, leaves, leaving_in, leaving_job, sessions}
 use Rattle.sl_sessions.specs.declared.session.Session.{Session}
-use Rattle.sl_trace.specs.Traces.{Answered, Setting, Submitted, Trace, answer_of, answered_in, children, mark, new_call, submitted}
+use Rattle.sl_trace.proofs.TraceFacts.{submitted-push}
+use Rattle.sl_trace.specs.Traces.{Answered, Job, Setting, Submitted, Trace, answer_of, answered_in, children, is_running, jobs, line_in, mark, new_call, new_child, next_call, next_job, submitted}
 use Rattle.sl_trace.specs.declared.effects.Call.{Call}
 use Rattle.sl_trace.specs.declared.effects.Entry.{Entry}
+use Rattle.sl_trace.specs.declared.effects.JobReply.{JobReply}
+use Rattle.sl_trace.specs.declared.effects.Op.{Op}
+use Rattle.sl_trace.specs.declared.effects.Purpose.{Purpose}
+use Rattle.sl_trace.specs.declared.effects.Start.{Start}
 use Rattle.sl_trace.specs.declared.input.Input.{Input}
 use Rattle.sl_trace.specs.declared.input.Input.TheVariants.{Answer as Told, Exit, Line, Number, Spawned, Wake}
+use Rattle.sl_trace.specs.declared.reply.Reply.{Reply}
 use Rattle.sl_trace_law.proofs.Sessions.Making.{IsNewCall, old_or_new, old_stays}
-use Rattle.sl_words.proofs.CaseLaws.{none_some, some_value}
+use Rattle.sl_words.proofs.CaseLaws.{is_false, none_some, not_both, some_value}
+use Rattle.sl_words.specs.Words.{choose}
 use Rattle.std.proofs.Common.{ap, ap₂, inl, inr, refl, subst, sym, ◌∙◌}
+use Rattle.std.proofs.lemmas.Bool.{eqb-true}
+use Rattle.std.specs.List.{list_any}
 use Rattle.std.specs.Option.{option_or}
-use Rattle.std.specs.Prelude.{Bool, Contains, List, None, Option, Some, [], false, fold, length, map, slice_get, suc, true, zero, ℕ, ◌==◌, ◌∷◌, ◌≡◌, ◌⊎◌}
+use Rattle.std.specs.Prelude.{Bool, Contains, List, None, Option, Some, [], false, fold, length, map, not, slice_get, suc, true, zero, ℕ, ◌&&◌, ◌++◌, ◌==◌, ◌∷◌, ◌≡◌, ◌⊎◌}
 
 -- ---- the same in another trace
 
@@ -69,3 +86,71 @@ open_replied past e f m reading input calls there opens = subst (λ ms. Contains
         old_stays (length past) e.reading cs (new_call (length past) e.reading c ∷ ms) m
         (subst (λ z. Contains (new_call (length past) e.reading c ∷ ms) z) (rebuilt c (sym (some_value c m.call at))) (contains_first (new_call (length past) e.reading c) ms))
     new_stays (c ∷ cs) ms (suc i) at = new_stays cs (new_call (length past) e.reading c ∷ ms) i at
+
+-- ---- a leaving that no reply undoes
+
+leaving_replied : (y : Step) (i : ℕ) (r : Reply) (s : Session) (k : Job) → leaving_job y.setting (seen y) s ≡ Some k → (i ≡ k.number → ⊥) → leaving_job y.setting (seen (add_reply i r y)) s ≡ Some k
+leaving_replied y i r s k is other = by (leaving_job y.setting y.past s) is where
+  unmoved : leaving_in y.setting y.past s (entry_of y) ≡ Some k → list_any (λ (a : JobReply). a.job == next_job y.setting y.past) (y.effects.replies ++ record { job = i; reply = r } ∷ []) ≡ list_any (λ (a : JobReply). a.job == next_job y.setting y.past) y.effects.replies
+  unmoved h =
+      any_more (λ (a : JobReply). a.job == next_job y.setting y.past) y.effects.replies (record { job = i; reply = r })
+      (is_false (i == next_job y.setting y.past) (λ same. other (eqb-true i (next_job y.setting y.past) same ∙ ap (λ (z : Job). z.number) (left_in y.setting y.past s (entry_of y) k h).3)))
+
+  by : (o : Option Job) → (elim o as (λ z. Option Job) [ Some a ↦ Some a | None ↦ leaving_in y.setting y.past s (entry_of y) ]) ≡ Some k
+      → (elim o as (λ z. Option Job) [ Some a ↦ Some a | None ↦ leaving_in y.setting y.past s (entry_of (add_reply i r y)) ]) ≡ Some k
+  by (Some a) h = h
+  by None h =
+      ap (λ b. elim (line_in y.input) as (λ z. Option Job) [
+        | None ↦ None
+        | Some text ↦ elim (leaves s (y.setting.read text)) as (λ z. Option Job) [
+          | false ↦ None
+          | true ↦ choose (is_joined y.past s && not b) (record { number = next_job y.setting y.past; at = length y.past; reading = y.reading; command = y.setting.read text })
+        ]
+      ]) (unmoved h)
+      ∙ h
+
+-- ---- each effect
+
+waits_replied : (y : Step) (told : Option ℕ) (i : ℕ) (r : Reply) (j : ℕ) → (i ≡ j → ⊥) → Waits y.setting (seen y) None told j → Waits y.setting (seen (add_reply i r y)) None told j
+waits_replied y told i r j other (For_session s there its) = For_session s there its
+waits_replied y told i r j other (For_call m there (inl opens) of) = For_call m (open_replied y.past (entry_of y) (entry_of (add_reply i r y)) m refl refl refl there opens) (inl opens) of
+waits_replied y told i r j other (For_call m there (inr heard) of) = absurd (none_some m.call.number heard)
+waits_replied y told i r j other (For_child k there its opens) = For_child k there its opens
+waits_replied y told i r j other (For_leaving s k there is number) = For_leaving s k there (leaving_replied y i r s k is (λ same. other (same ∙ number))) number
+
+waits_called : (y : Step) (told : Option ℕ) (n : ℕ) (path : List ℕ) (p : Purpose) (o : ℕ) (op : Op) (j : ℕ) → ((s : Session) → Contains (sessions y.setting (seen y)) s → Contains (sessions y.setting (seen (add_call_of n path p o op y))) s)
+    → Waits y.setting (seen y) None told j → Waits y.setting (seen (add_call_of n path p o op y)) None told j
+waits_called y told n path p o op j grows (For_session s there its) = For_session s (grows s there) its
+waits_called y told n path p o op j grows (For_call m there opens of) =
+    let c : Call = record { number = next_call y.setting (seen y); session = n; purpose = p; path = path; offset = o; op = op } in
+    For_call m (subst (λ ms. Contains ms m) (sym (submitted-push y.past (entry_of y) c)) (contains_more (new_call (length y.past) y.reading c) (submitted (seen y)) m there)) opens of
+waits_called y told n path p o op j grows (For_child k there its opens) = For_child k there its opens
+waits_called y told n path p o op j grows (For_leaving s k there is number) = For_leaving s k (grows s there) is number
+
+waits_started : (y : Step) (told : Option ℕ) (k : Start) (j : ℕ) → Waits y.setting (seen y) None told j → Waits y.setting (seen (add_start k y)) None told j
+waits_started y told k j (For_session s there its) = For_session s there its
+waits_started y told k j (For_call m there opens of) = For_call m there opens of
+waits_started y told k j (For_child c there its opens) =
+    For_child c (subst (λ ks. Contains ks c) (sym (effects_are_told.starts k (entry_of y) y.past)) (contains_left (children (seen y)) (new_child k ∷ []) c there)) its opens
+waits_started y told k j (For_leaving s c there is number) = For_leaving s c there is number
+
+-- All jobs but one that need not wait yet.
+abbrev pub AllButWait : Option ℕ → Option ℕ → Step → Type 0
+AllButWait told new z = (j : Job) → Contains (jobs z.setting (seen z)) j → is_running (seen z) j.number ≡ true → (Some j.number ≡ new → ⊥) → Waits z.setting (seen z) None told j.number
+
+pub waits_effects : (told new : Option ℕ) → Nearly (AllButWait told new)
+waits_effects told new =
+    record {
+      ends = λ y e h j there runs other. waits_again y.setting (seen y) (seen (add_end e y)) None told j.number refl refl refl (λ s. refl) (h j there runs other);
+      signals = λ y q signal h j there runs other. waits_again y.setting (seen y) (seen (add_signal q signal y)) None told j.number refl refl refl (λ s. refl) (h j there runs other);
+      moves = λ y m may h j there runs other. waits_again y.setting (seen y) (seen (add_move m y)) None told j.number refl refl refl (λ s. refl) (h j there runs other);
+      grants = λ y g h j there runs other. waits_again y.setting (seen y) (seen (add_grant g y)) None told j.number refl refl refl (λ s. refl) (h j there runs other);
+      starts = λ y k may h j there runs other. waits_started y told k j.number (h j there runs other);
+      replies = λ y i r may h j there runs other.
+          waits_replied y told i r j.number (λ same. not_both (is_running (seen (add_reply i r y)) j.number) runs (subst (λ n. is_running (seen (add_reply i r y)) n ≡ false) same (reply_stops y i r)))
+          (h j there (running_before y i r j.number runs) other);
+      calls = λ y s path p o op no_look h j there runs other.
+          waits_called y told s.number path p o op j.number (λ z inside. subst (λ ss. Contains ss z) (sym (same_sessions y.setting (entry_of y) y.past (record { number = next_call y.setting (seen y); session = s.number; purpose = p; path = path; offset = o; op = op }) no_look)) inside)
+          (h j there runs other);
+      rest = λ y h. h;
+    }
