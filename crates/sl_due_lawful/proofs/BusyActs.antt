@@ -36,7 +36,7 @@ BusyHeard x = AllWait x.setting (seen x) (heard_by x.input) (told_by x.input)
 
 -- ---- all but one, and the one
 
-all_of : (y : Step) (told new : Option ℕ) → AllButWait told new y → ((j : ℕ) → new ≡ Some j → is_running (seen y) j ≡ true → Waits y.setting (seen y) None told j) → AllWait y.setting (seen y) None told
+pub all_of : (y : Step) (told new : Option ℕ) → AllButWait told new y → ((j : ℕ) → new ≡ Some j → is_running (seen y) j ≡ true → Waits y.setting (seen y) None told j) → AllWait y.setting (seen y) None told
 all_of y told new h one = λ j there runs. by j there runs new refl where
   by : (j : Job) → Contains (jobs y.setting (seen y)) j → is_running (seen y) j.number ≡ true → (o : Option ℕ) → new ≡ o → Waits y.setting (seen y) None told j.number
   by j there runs None is = h j there runs (λ same. none_some j.number (sym is ∙ sym same))
@@ -45,7 +45,7 @@ all_of y told new h one = λ j there runs. by j there runs new refl where
     number true same = one j.number (is ∙ ap (λ k. Some k) (eqb-true n j.number same)) runs
     number false other = h j there runs (λ same. not_both (n == j.number) (ap (λ k. k == j.number) (some_value n j.number (sym is ∙ sym same)) ∙ number_itself j.number) other)
 
-but_none : (y : Step) (told new : Option ℕ) → AllWait y.setting (seen y) None told → AllButWait told new y
+pub but_none : (y : Step) (told new : Option ℕ) → AllWait y.setting (seen y) None told → AllButWait told new y
 but_none y told new h = λ j there runs other. h j there runs
 
 -- ---- inputs but lines
@@ -133,7 +133,7 @@ waits_seen x i j bare (For_leaving s k there is number) =
 woken_busy : (x : Step) → x.input ≡ Wake → Busy x → AllWait x.setting (seen (with_input Wake x)) None None
 woken_busy x wake h = subst (λ i. AllWait x.setting (seen (with_input i x)) None (told_by i)) wake h
 
-seen_busy : (x : Step) (i : Input) → x.input ≡ Wake → x.effects.calls ≡ [] → is_command_line i ≡ false → Busy x → BusyHeard (with_input i x)
+pub seen_busy : (x : Step) (i : Input) → x.input ≡ Wake → x.effects.calls ≡ [] → is_command_line i ≡ false → Busy x → BusyHeard (with_input i x)
 seen_busy x i wake bare no_line h = by i no_line where
   q : AllWait x.setting (seen (with_input Wake x)) None None
   q = woken_busy x wake h
@@ -148,7 +148,7 @@ seen_busy x i wake bare no_line h = by i no_line where
 
 -- ---- lines
 
-lined_busy : (x : Step) (text : List ℕ) → x.input ≡ Wake → x.effects.calls ≡ [] → Busy x → AllButWait None (Some (next_job x.setting (seen x))) (with_input (Line text) x)
+pub lined_busy : (x : Step) (text : List ℕ) → x.input ≡ Wake → x.effects.calls ≡ [] → Busy x → AllButWait None (Some (next_job x.setting (seen x))) (with_input (Line text) x)
 lined_busy x text wake bare h = λ j there runs other. by j (contains_either (jobs x.setting x.past) (made ∷ []) j there) runs other where
   made : Job
   made = record { number = next_job x.setting x.past; at = length x.past; reading = x.reading; command = x.setting.read text }
@@ -163,7 +163,7 @@ lined_busy x text wake bare h = λ j there runs other. by j (contains_either (jo
       let is : made ≡ j = contains_only made j new in
       absurd (other (ap (λ (z : Job). Some z.number) (sym is) ∙ ap (λ n. Some n) (sym (next_before x wake))))
 
-answered_busy : (x : Step) (text : List ℕ) (r : Reply) → x.input ≡ Wake → x.effects.calls ≡ [] → Busy x → Busy (answer_line text (next_job x.setting (seen x)) r x)
+pub answered_busy : (x : Step) (text : List ℕ) (r : Reply) → x.input ≡ Wake → x.effects.calls ≡ [] → Busy x → Busy (answer_line text (next_job x.setting (seen x)) r x)
 answered_busy x text r wake bare h =
     let w : Step = with_input (Line text) x in
     let j : ℕ = next_job x.setting (seen x) in

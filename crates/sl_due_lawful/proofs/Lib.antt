@@ -5,3 +5,4 @@ pub mod TracesHold
 pub mod WaitsStay
 pub mod WaitsAtEnd
 pub mod BusyActs
+pub mod BusyRests
