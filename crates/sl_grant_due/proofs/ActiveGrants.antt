@@ -110,26 +110,27 @@ call_active x s path p o op later h g z there is own =
     h g z there (ap (λ ss. slice_get ss g.session) (sym (same_sessions x.setting (entry_of x) x.past (made_call x s.number path p o op) later)) ∙ is) own
 
 -- The removal of a session in recovery leaves the others active: names of present sessions are apart.
-removed_active : (x : Step) (s : Session) → Has x s → is_joined (seen x) s ≡ true → is_some (recovery_of x.setting (seen x) s) ≡ true → Known x → ActiveSoFar (remove_connection s.lockspace x)
-removed_active x s has joined recovers k = by (is_registered x.setting (seen x) s.lockspace) where
-  apart : (z : Session) → Contains (sessions x.setting (seen x)) z → is_active x.setting (seen x) z ≡ true → unregisters z.lockspace (Unregister s.lockspace) ≡ false
-  apart z there active = is_false (bytes_eq s.lockspace z.lockspace) (λ is.
+pub parted_active : (x : Step) (s : Session) → Has x s → is_joined (seen x) s ≡ true → is_some (recovery_of x.setting (seen x) s) ≡ true → Known x → (z : Session) → Contains (sessions x.setting (seen x)) z
+    → is_active x.setting (seen x) z ≡ true → is_active x.setting (seen (add_move (Unregister s.lockspace) x)) z ≡ true
+parted_active x s has joined recovers k z there active = (moves_carry x.setting (entry_of x) x.past (Unregister s.lockspace) z apart).active active where
+  apart : unregisters z.lockspace (Unregister s.lockspace) ≡ false
+  apart = is_false (bytes_eq s.lockspace z.lockspace) (λ is.
       let same : s ≡ z =
       k.0.facts.names.apart s z (present_inside x.setting (seen x) s (there_has x.setting (seen x) s.number s has) (joined_present (seen x) s joined))
       (present_inside x.setting (seen x) z there (joined_present (seen x) z (active_joined x.setting (seen x) z active))) ((bytes_eq-Decides s.lockspace z.lockspace).0 is)
       in
       true_is_false (sym recovers ∙ ap (λ o. is_some o) (subst (λ y. recovery_of x.setting (seen x) y ≡ None) (sym same) (active_parts x.setting (seen x) z active).0)))
 
+removed_active : (x : Step) (s : Session) → Has x s → is_joined (seen x) s ≡ true → is_some (recovery_of x.setting (seen x) s) ≡ true → Known x → ActiveSoFar (remove_connection s.lockspace x)
+removed_active x s has joined recovers k = by (is_registered x.setting (seen x) s.lockspace) where
   by : (b : Bool) → ActiveSoFar (when b (add_move (Unregister s.lockspace)) x)
   by false = so_far x k
-  by true = λ g z there is own.
-      let active : is_active x.setting (seen x) z ≡ true = so_far x k g z there is own in
-      (moves_carry x.setting (entry_of x) x.past (Unregister s.lockspace) z (apart z (there_has x.setting (seen x) g.session z is) active)).active active
+  by true = λ g z there is own. parted_active x s has joined recovers k z (there_has x.setting (seen x) g.session z is) (so_far x k g z there is own)
 
 -- ---- what is granted
 
 -- The session stays active as its job is answered.
-abbrev StaysActive : Step → Session → Type 0
+abbrev pub StaysActive : Step → Session → Type 0
 StaysActive x s = (j : ℕ) (r : Reply) → is_active x.setting (seen (add_reply j r x)) s ≡ true
 
 granted_active : (x : Step) (s : Session) (j : ℕ) (c : Command) (mode : Mode) (lver : ℕ) → Has x s → x.effects.grants ≡ [] → is_active x.setting (seen x) s ≡ true → StaysActive x s → ActiveSoFar (grant_for s j c mode lver x)
@@ -258,7 +259,7 @@ exited_active y p none g s there is own = by ((left_orphans y p).grants g there)
   by (inl was) = absurd (contains_none g (subst (λ gs. Contains gs g) none was))
   by (inr f) = absurd (true_is_false (ap (λ (k : Grant). is_orphan k) f.3 ∙ own))
 
-told_active : (x : Step) (s : Session) (m : Submitted) (answer : Answer) → (h : Hears x s m answer) → is_active x.setting (seen x) s ≡ true → StaysActive x s
+pub told_active : (x : Step) (s : Session) (m : Submitted) (answer : Answer) → (h : Hears x s m answer) → is_active x.setting (seen x) s ≡ true → StaysActive x s
 told_active x s m answer h active j r = replied_active x.setting (entry_of x) x.past (record { job = j; reply = r }) s h.number answer h.heard active
 
 pub actives_are_kept : ActivesAreKept

@@ -15,9 +15,5 @@ pub mod ActsOnto
 pub mod DeltasKeep
 pub mod GrantlessLines
 pub mod ActiveGrants
-pub mod CallsFit
-pub mod SharedGrants
-pub mod ModesAreLawful
-pub mod OthersGoOn
-pub mod ReadsBack
-pub mod ReadsByInputs
+pub mod Modes
+pub mod Values

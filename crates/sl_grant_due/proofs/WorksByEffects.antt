@@ -198,7 +198,7 @@ abbrev pub CallsOwned : Step → Type 0
 CallsOwned x = (m : Submitted) → Contains (submitted (seen x)) m → IsSome (session_numbered x.setting (seen x) m.call.session)
 
 -- A session that a call names before and after is one.
-same_session : (x : Step) (c : Call) (n : ℕ) (s : Session) → IsSome (session_numbered x.setting (seen x) n) → session_numbered x.setting (with_call c (entry_of x) ∷ x.past) n ≡ Some s → session_numbered x.setting (seen x) n ≡ Some s
+pub same_session : (x : Step) (c : Call) (n : ℕ) (s : Session) → IsSome (session_numbered x.setting (seen x) n) → session_numbered x.setting (with_call c (entry_of x) ∷ x.past) n ≡ Some s → session_numbered x.setting (seen x) n ≡ Some s
 same_session x c n s there its =
     let v = some_of (session_numbered x.setting (seen x) n) there in
     v.1 ∙ ap (λ k. Some k) (one_value v.0 s (session_numbered x.setting (with_call c (entry_of x) ∷ x.past) n) (numbered_more x.setting x.past (entry_of x) c n v.0 v.1) its)

@@ -2,6 +2,7 @@
 
 ghost use Rattle.sl_grant_due.specs.GrantPromises.{ActivesAreKept, ActivesBegin, EndsAreLawful, EndsBegin, ExitsAreLawful, ExitsBegin, GrantingBegins, GrantingIsLawful, GrantsAreLawful, GrantsStand, OrphansAreLawful, OrphansBegin, WorkFactsAreKept, WorkFactsBegin};
 ghost use Rattle.sl_grant_due.specs.ModePromises.{ModesAreLawful, ModesBegin};
+ghost use Rattle.sl_grant_due.specs.ValuePromises.{ValueFactsAreKept, ValueFactsBegin, ValuesAreLawful, ValuesBegin};
 
 /// Each act keeps what is known of a job's work.
 pub fn work_facts_are_kept()
@@ -75,4 +76,22 @@ pub fn modes_are_lawful()
 
 pub fn modes_begin()
     ensures { ModesBegin }
+{}
+
+/// Each act keeps what is known while a value is read.
+pub fn value_facts_are_kept()
+    ensures { ValueFactsAreKept }
+{}
+
+pub fn value_facts_begin()
+    ensures { ValueFactsBegin }
+{}
+
+/// Each act leaves only lawful values: what is written, read and told of them.
+pub fn values_are_lawful()
+    ensures { ValuesAreLawful }
+{}
+
+pub fn values_begin()
+    ensures { ValuesBegin }
 {}

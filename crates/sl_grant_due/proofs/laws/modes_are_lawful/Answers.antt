@@ -1,4 +1,4 @@
-use Rattle.sl_grant_due.proofs.ModesAreLawful as its
+use Rattle.sl_grant_due.proofs.Modes.ModesAreLawful as its
 use Rattle.sl_grant_due.proofs.laws.modes_are_lawful.Goals as goal
 
 pub returns : goal.returns

@@ -4,14 +4,13 @@ use Rattle.sl_acts.specs.Acts.{Expects}
 use Rattle.sl_acts.specs.SoFar.{entry_of}
 use Rattle.sl_due.specs.DueInputs.{end_holdings, leave_holdings, refuse_jobs_of, when_running}
 use Rattle.sl_due.specs.Steps.{Step, add_end, add_grant, add_reply, seen, with_input}
-use Rattle.sl_grant_due.proofs.OthersGoOn.{said_on}
-use Rattle.sl_grant_due.proofs.ReadsBack.{AllAbove, Guarded, IsRead, ReadNow, Reader, ReadsBack, end_reads, facts_by, guard_end, guard_grant, guard_reply, read_now, reads_go_on, reads_itself, same_reader, through, writes_are}
+use Rattle.sl_grant_due.proofs.Values.OthersGoOn.{said_on}
+use Rattle.sl_grant_due.proofs.Values.ReadsBack.{AllAbove, Guarded, IsRead, ReadNow, Reader, ReadsBack, end_reads, facts_by, guard_end, guard_grant, guard_reply, read_now, reads_go_on, reads_itself, same_reader, through, writes_are}
 use Rattle.sl_grant_due.proofs.WorksByExits.{Leaving, left_so, refused_so, refused_there}
 use Rattle.sl_grant_due.proofs.WorksByInputs.{command_was, none_heard, unanswered}
 use Rattle.sl_grant_due.specs.ValuePromises.{HasValueFacts}
 use Rattle.sl_holding_due.proofs.HoldingsByInputs.{answers_open, calls_stay, calls_told, children_seen, is_no_answer, sessions_seen_still}
 use Rattle.sl_holding_due.specs.Moments.{Known}
-use Rattle.sl_job_facts.proofs.EffectsAreAllowed.{ended, left}
 use Rattle.sl_job_facts.proofs.JobsAreNumbered.{numbered_seen}
 use Rattle.sl_leases.specs.Jobs.{command_numbered, command_of, is_job_of_process, job_of_start}
 use Rattle.sl_leases.specs.Leases.{spot_of_call}

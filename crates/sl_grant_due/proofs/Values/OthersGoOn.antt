@@ -10,7 +10,6 @@ use Rattle.sl_holding_due.proofs.HoldingsByEffects.{SameCalls, later_same}
 use Rattle.sl_holding_due.proofs.HoldingsByLoops.{AnswersNoJob, jobless_same}
 use Rattle.sl_law.specs.LawfulArea.{is_area_work}
 use Rattle.sl_lease_ways.proofs.Kept.PlainWalks.{DeltaFits}
-use Rattle.sl_lease_ways.proofs.Lawful.BallotLaws.{calls}
 use Rattle.sl_leases.specs.Counts.{stopper_of}
 use Rattle.sl_leases.specs.Jobs.{jobs_of_session}
 use Rattle.sl_sector.specs.declared.sector.Rec.TheVariants.{DeltaIs}

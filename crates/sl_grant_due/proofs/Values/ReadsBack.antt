@@ -1,13 +1,12 @@
 -- What stands while a value is read, and what each effect leaves of it.
 use Rattle.sl_acts.specs.SoFar.{entry_of}
 use Rattle.sl_due.specs.Steps.{Step, add_call_of, add_end, add_grant, add_move, add_reply, add_signal, add_start, seen}
-use Rattle.sl_grant_due.proofs.OthersGoOn.{GoesOn, next_start}
+use Rattle.sl_grant_due.proofs.Values.OthersGoOn.{GoesOn, next_start}
 use Rattle.sl_grant_due.proofs.WorksByEffects.{ran_before}
 use Rattle.sl_grant_due.specs.ValuePromises.{HasValueFacts}
 use Rattle.sl_holding_due.proofs.HoldingsByCalls.{call_added, not_last}
 use Rattle.sl_holding_due.proofs.HoldingsByEffects.{SameCalls, next_less}
 use Rattle.sl_holding_due.specs.Moments.{Known}
-use Rattle.sl_job_facts.proofs.EffectsAreAllowed.{left}
 use Rattle.sl_law.specs.LawfulArea.{is_area_work}
 use Rattle.sl_law.specs.LawfulValue.{held_since, writes_since}
 use Rattle.sl_leases.specs.Jobs.{command_numbered}
@@ -204,28 +203,32 @@ guard_end st s at since p y e other h =
           (kept (λ (k : Grant). k.session == s.number) (holdings (seen (add_end e y))) g of.1 (end_spares y e g (other g on.1 h.holder.2) of.0))
 
 -- A call that isn't the session's work on the area.
+pub calm_call : (st : Setting) (s : Session) (at : Spot) (since : ℕ) (y : Step) (n : ℕ) (path : List ℕ) (q : Purpose) (o : ℕ) (op : Op)
+    → ((n == s.number) ≡ true → (is_area_work q && (is_write op && is_on st.layout at (call_added n path q o op y))) ≡ false) → writes_since st since (seen y) s at ≡ false
+    → writes_since st since (seen (add_call_of n path q o op y)) s at ≡ false
+calm_call st s at since y n path q o op other h =
+    ap (λ ms. writes_in st since s at ms) (submitted-push y.past (entry_of y) c)
+    ∙ (one_write st since s at v (submitted (seen y)) ∙ (ap (λ d. d || writes_in st since s at (submitted (seen y))) (by (n == s.number) refl) ∙ h))
+  where
+    c : Call
+    c = call_added n path q o op y
+
+    v : Submitted
+    v = new_call (length y.past) y.reading c
+
+    apart : (a b d : Bool) → (a && d) ≡ false → (a && (b && d)) ≡ false
+    apart true true d is = is
+    apart true false d is = refl
+    apart false b d is = refl
+
+    by : (b : Bool) → (n == s.number) ≡ b → (is_call_of s v && is_late_write st since at v) ≡ false
+    by true mine = ap (λ d. d && is_late_write st since at v) mine ∙ apart (is_area_work q) (nat_le since (length y.past)) (is_write op && is_on st.layout at c) (other mine)
+    by false mine = ap (λ d. d && is_late_write st since at v) mine
+
 pub guard_call : (st : Setting) (s : Session) (at : Spot) (since p : ℕ) (y : Step) (n : ℕ) (path : List ℕ) (q : Purpose) (o : ℕ) (op : Op)
     → ((n == s.number) ≡ true → (is_area_work q && (is_write op && is_on st.layout at (call_added n path q o op y))) ≡ false) → Guarded st s at since p y → Guarded st s at since p (add_call_of n path q o op y)
-guard_call st s at since p y n path q o op other h = record { before = h.before; calm = calm (n == s.number) refl; holder = h.holder; born = h.born; started = h.started } where
-  c : Call
-  c = call_added n path q o op y
-
-  v : Submitted
-  v = new_call (length y.past) y.reading c
-
-  apart : (a b d : Bool) → (a && d) ≡ false → (a && (b && d)) ≡ false
-  apart true true d is = is
-  apart true false d is = refl
-  apart false b d is = refl
-
-  calm : (b : Bool) → (n == s.number) ≡ b → writes_since st since (seen (add_call_of n path q o op y)) s at ≡ false
-  calm b is =
-      ap (λ ms. writes_in st since s at ms) (submitted-push y.past (entry_of y) c)
-      ∙ (one_write st since s at v (submitted (seen y)) ∙ (ap (λ d. d || writes_in st since s at (submitted (seen y))) (by b is) ∙ h.calm))
-    where
-      by : (b : Bool) → (n == s.number) ≡ b → (is_call_of s v && is_late_write st since at v) ≡ false
-      by true mine = ap (λ d. d && is_late_write st since at v) mine ∙ apart (is_area_work q) (nat_le since (length y.past)) (is_write op && is_on st.layout at c) (other mine)
-      by false mine = ap (λ d. d && is_late_write st since at v) mine
+guard_call st s at since p y n path q o op other h =
+    record { before = h.before; calm = calm_call st s at since y n path q o op other h.calm; holder = h.holder; born = h.born; started = h.started }
 
 -- ---- readings go on
 
@@ -419,7 +422,7 @@ read_now x k m j s i =
       };
     }
 
-get_process : (a b : ResourceArg) (p q : ℕ) → GetLvb a p ≡ GetLvb b q → p ≡ q
+pub get_process : (a b : ResourceArg) (p q : ℕ) → GetLvb a p ≡ GetLvb b q → p ≡ q
 get_process a b p q is = ap (λ c. process_of c) is where
   process_of : Command → ℕ
   process_of (GetLvb r n) = n
@@ -428,14 +431,21 @@ get_process a b p q is = ap (λ c. process_of c) is where
 pub same_reader : (x z : Step) (j p : ℕ) (r : ResourceArg) → command_numbered x.setting (seen x) j ≡ Some (GetLvb r p) → (a : ResourceArg) (q : ℕ) → command_numbered x.setting (seen x) j ≡ Some (GetLvb a q) → p ≡ q
 same_reader x z j p r is a q at = get_process r a p q (some_value (GetLvb r p) (GetLvb a q) (sym is ∙ at))
 
-pub back_read : (x z : Step) → Known x → ReadsBack x z → (m : Submitted) (j : ℕ) (s : Session) → IsRead x z m j s → Reader x.setting z m j s
-back_read x z k h m j s i =
-    let v : ReadNow x m j s = read_now x k m j s (h.back m j s i) in
+-- From what was known at each reading.
+pub read_from_now : (x z : Step) → ReadsBack x z → (m : Submitted) (j : ℕ) (s : Session) → IsRead x z m j s → ReadNow x m j s → Reader x.setting z m j s
+read_from_now x z h m j s i v =
     record {
       process = v.process;
       guard = h.guard m j s v.resource v.process i v.command v.guard;
       only = λ r p is. same_reader x z j v.process v.resource v.command r p (h.command m j s (GetLvb r p) i is);
     }
 
+pub facts_from : (x z : Step) → ((m : Submitted) (j : ℕ) (s : Session) → IsRead x x m j s → ReadNow x m j s) → AllAbove (seen x) → ReadsBack x z → HasValueFacts z
+facts_from x z now above h =
+    subst (λ st. ValueFacts st (seen z) (heard_by z.input)) (sym h.setting) (facts_by x.setting z (h.above above) (λ m j s i. read_from_now x z h m j s i (now m j s (h.back m j s i))))
+
+pub back_read : (x z : Step) → Known x → ReadsBack x z → (m : Submitted) (j : ℕ) (s : Session) → IsRead x z m j s → Reader x.setting z m j s
+back_read x z k h m j s i = read_from_now x z h m j s i (read_now x k m j s (h.back m j s i))
+
 pub facts_back : (x z : Step) → Known x → ReadsBack x z → HasValueFacts z
-facts_back x z k h = subst (λ st. ValueFacts st (seen z) (heard_by z.input)) (sym h.setting) (facts_by x.setting z (h.above k.0.facts.values.above) (λ m j s i. back_read x z k h m j s i))
+facts_back x z k h = facts_from x z (read_now x k) k.0.facts.values.above h

@@ -4,9 +4,11 @@ use Rattle.sl_acts.specs.SoFar.{entry_of}
 use Rattle.sl_due.specs.DueFirst.{begin_recoveries}
 use Rattle.sl_due.specs.Steps.{Step, begin_step, seen}
 use Rattle.sl_grant_due.proofs.ActsOnto.{onto}
-use Rattle.sl_grant_due.proofs.CallsFit.{FittingSoFar, calls_begin, calls_fit}
+use Rattle.sl_grant_due.proofs.Modes.FitsHolding.{FittingSoFar}
+use Rattle.sl_grant_due.proofs.Modes.CallsFit.{calls_begin, calls_fit}
 use Rattle.sl_grant_due.proofs.GrantsStand.{grants_stand}
-use Rattle.sl_grant_due.proofs.SharedGrants.{SharedSoFar, shared_grants_are_lawful, shared_grants_begin}
+use Rattle.sl_grant_due.proofs.Modes.SharedStands.{SharedSoFar}
+use Rattle.sl_grant_due.proofs.Modes.SharedGrants.{shared_grants_are_lawful, shared_grants_begin}
 use Rattle.sl_grant_due.specs.ModePromises.{ModesAreLawful, ModesBegin, ModesSoFar}
 use Rattle.sl_holding_due.proofs.HoldingFactsAreKept.{holding_facts_are_kept}
 use Rattle.sl_holding_due.proofs.HoldingFactsBegin.{holding_facts_begin}
