@@ -92,10 +92,10 @@ input_connections x (Told n a) wake bare other h = absurd (true_is_false other)
 
 -- ---- an answer: whether a call is open, and whether it was answered ok
 
-other_marked : (es : Trace) (e : Entry) (n : ℕ) (a : Answer) (m : Submitted) → (m.call.number == n) ≡ false → answered_in es e n a m ≡ m
+pub other_marked : (es : Trace) (e : Entry) (n : ℕ) (a : Answer) (m : Submitted) → (m.call.number == n) ≡ false → answered_in es e n a m ≡ m
 other_marked es e n a m other = ap (λ b. elim b as (λ z. Submitted) [ false ↦ m | true ↦ record m { answer = option_or m.answer (Some (answer_of es e a m.call)) } ]) other
 
-ok_stays : (es : Trace) (e : Entry) (n : ℕ) (a : Answer) (m : Submitted) → is_answered_ok m ≡ true → is_answered_ok (answered_in es e n a m) ≡ true
+pub ok_stays : (es : Trace) (e : Entry) (n : ℕ) (a : Answer) (m : Submitted) → is_answered_ok m ≡ true → is_answered_ok (answered_in es e n a m) ≡ true
 ok_stays es e n a m ok = by (m.call.number == n) m.answer ok where
   by : (b : Bool) (o : Option Answered) → some_is (λ (c : Answered). is_ok_answer c.answer) o ≡ true
       → is_answered_ok (elim b as (λ z. Submitted) [ false ↦ record m { answer = o } | true ↦ record m { answer = option_or o (Some (answer_of es e a m.call)) } ]) ≡ true
@@ -103,10 +103,10 @@ ok_stays es e n a m ok = by (m.call.number == n) m.answer ok where
   by true (Some c) is = is
   by true None is = absurd (false_is_true is)
 
-abbrev stage_by_ok : Purpose → Bool → Stage
+abbrev pub stage_by_ok : Purpose → Bool → Stage
 stage_by_ok p done = elim p [ Joining j step ↦ stage_after step done | _ ↦ Looking ]
 
-claimed_or_same : (p : Purpose) (b c : Bool) → is_covered_stage (stage_by_ok p b) ≡ true → (is_covered_stage (stage_by_ok p c) ≡ true) ⊎ ((is_join_call ClaimWrite p ≡ true) × (b ≡ false) × (c ≡ true))
+pub claimed_or_same : (p : Purpose) (b c : Bool) → is_covered_stage (stage_by_ok p b) ≡ true → (is_covered_stage (stage_by_ok p c) ≡ true) ⊎ ((is_join_call ClaimWrite p ≡ true) × (b ≡ false) × (c ≡ true))
 claimed_or_same (Joining j ClaimWrite) true c h = absurd (false_is_true h)
 claimed_or_same (Joining j ClaimWrite) false false h = inl h
 claimed_or_same (Joining j ClaimWrite) false true h = inr (refl, refl, refl)
@@ -126,7 +126,7 @@ claimed_or_same (ValueWrite j) b c h = inl h
 claimed_or_same (ValueRead j) b c h = inl h
 
 -- The claim of a joining writes.
-claim_writes : (x : Step) (s : Session) (m : Submitted) → SoFar x → Has x s → joined_after (seen x) s ≡ None → Contains (calls_of (seen x) s) m → is_join_call ClaimWrite m.call.purpose ≡ true → is_write m.call.op ≡ true
+pub claim_writes : (x : Step) (s : Session) (m : Submitted) → SoFar x → Has x s → joined_after (seen x) s ≡ None → Contains (calls_of (seen x) s) m → is_join_call ClaimWrite m.call.purpose ≡ true → is_write m.call.op ≡ true
 claim_writes x s m orderly has none there claims = by m.call.purpose refl claims where
   inside : Contains (submitted (seen x)) m × (is_call_of s m ≡ true)
   inside = kept_inside (is_call_of s) (submitted (seen x)) m there

@@ -74,13 +74,13 @@ use Rattle.std.specs.Prelude.{Bool, Contains, List, None, Ok, Option, Some, [], 
 
 -- ---- the job of the line is no joining's
 
-pub other_next : (x : Step) (text : List ℕ) → x.effects.calls ≡ [] → IsOtherJob (with_input (Line text) x) (next_job x.setting (seen x))
-other_next x text bare z there its =
+pub other_than_next : (x : Step) (text : List ℕ) → x.effects.calls ≡ [] → IsOtherJob (with_input (Line text) x) (next_job x.setting (seen x))
+other_than_next x text bare z there its =
     let low : next_job x.setting (seen x) < next_job x.setting (seen x) = number_taken x.setting (seen x) z (next_job x.setting (seen x)) (subst (λ ss. Contains ss z) (sessions_told x (Line text) bare) there) its in omega (arith, low)
 
 pub line_connections : (x : Step) (text : List ℕ) (r : Reply) → x.input ≡ Wake → x.effects.calls ≡ [] → HasConnectionFacts x → HasConnectionFacts (add_reply (next_job x.setting (seen x)) r (with_input (Line text) x))
 line_connections x text r wake bare h =
-    reply_connections None (with_input (Line text) x) (next_job x.setting (seen x)) r (late_on_line x text r) (other_next x text bare) (input_connections x (Line text) wake bare refl h)
+    reply_connections None (with_input (Line text) x) (next_job x.setting (seen x)) r (late_on_line x text r) (other_than_next x text bare) (input_connections x (Line text) wake bare refl h)
 
 -- ---- jobs that name a session's lockspace
 
@@ -93,7 +93,7 @@ job_during x z s j h there =
 
 -- ---- a session begins
 
-writing_present : (t : Trace) (s : Session) → joined_after t s ≡ None → has_open_write t s ≡ true → is_present t s ≡ true
+pub writing_present : (t : Trace) (s : Session) → joined_after t s ≡ None → has_open_write t s ≡ true → is_present t s ≡ true
 writing_present t s none writes = by (joined_after t s) (removed_after t s) (refused_after t s) (calls_of t s) none writes where
   by : (joined removed refused : Option ℕ) (ms : List Submitted) → joined ≡ None → list_any (λ (m : Submitted). is_write m.call.op) (unanswered ms) ≡ true → present_of joined removed refused ms ≡ true
   by None removed None ms none writes = refl
@@ -232,7 +232,7 @@ begun_connections x text c n a wake bare says adds next unnamed f =
 pub active_is_joined : (st : Setting) (t : Trace) (s : Session) → is_active st t s ≡ true → is_joined t s ≡ true
 active_is_joined st t s is = (and_true (is_joined t s) (is_none (recovery_of st t s)) (and_true (is_joined t s && is_none (recovery_of st t s)) (is_none (leaving_job st t s)) is).0).0
 
-carried_calls : (x : Step) (text : List ℕ) (c : Command) (d : Decision) → DecisionFits x.setting (seen x) c d
+pub carried_calls : (x : Step) (text : List ℕ) (c : Command) (d : Decision) → DecisionFits x.setting (seen x) c d
     → Of (λ s. (path : List ℕ) (p : Purpose) (o : ℕ) (op : Op) → NameCall (with_input (Line text) x) s path p o op → PlainCall (with_input (Line text) x) s path p o op) d
 carried_calls x text c (Replies r) f = tt
 carried_calls x text c (Joins n a) f = tt
@@ -310,6 +310,6 @@ carried_connections x text c d h wake bare says is = by d has fits (decision_nam
   by z there f (inr may) (inr old) =
       decision (During (with_input (Line text) x)) HasConnectionFacts (PlainReply (with_input (Line text) x)) (PlainCall (with_input (Line text) x)) AnyStart NoMove (connections_allow (with_input (Line text) x) names) (with_input (Line text) x) (next_job x.setting (seen x)) c z
       (more_decision (Holds (with_input (Line text) x)) (During (with_input (Line text) x)) (NameReply (with_input (Line text) x)) (PlainReply (with_input (Line text) x)) (NameCall (with_input (Line text) x)) (PlainCall (with_input (Line text) x))
-      (with_input (Line text) x) (next_job x.setting (seen x)) c z (λ r late_one. (late_one, other_next x text bare)) (carried_calls x text c z f) (own_stops z there f) old may)
+      (with_input (Line text) x) (next_job x.setting (seen x)) c z (λ r late_one. (late_one, other_than_next x text bare)) (carried_calls x text c z f) (own_stops z there f) old may)
       (λ n a joins. begins n a (subst (λ q. DecisionFits x.setting (seen x) c q) joins f))
       (during_itself (with_input (Line text) x) (input_connections x (Line text) wake bare refl h.facts.connections))

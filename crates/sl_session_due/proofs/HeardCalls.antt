@@ -73,7 +73,7 @@ pub session_then : (x : Step) (s : Session) (m : Submitted) (answer : Answer) �
 session_then x s m answer hears = subst (λ ss. slice_get ss s.number ≡ Some s) (sessions_bare x hears.bare) (has_heard x s m answer hears)
 
 -- The calls of a session where one of them was heard.
-calls_then : (x : Step) (s : Session) (m : Submitted) (answer : Answer) → (h : Hears x s m answer) → calls_of (seen x) s ≡ map (answered_in x.past (entry_of x) h.number answer) (calls_of x.past s)
+pub calls_then : (x : Step) (s : Session) (m : Submitted) (answer : Answer) → (h : Hears x s m answer) → calls_of (seen x) s ≡ map (answered_in x.past (entry_of x) h.number answer) (calls_of x.past s)
 calls_then x s m answer hears =
     let n : ℕ = hears.number in
     let w : Step = with_input Wake x in

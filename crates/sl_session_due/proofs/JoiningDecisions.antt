@@ -5,6 +5,7 @@ use Rattle.sl_area.specs.Layouts.{record_in, sector_with}
 use Rattle.sl_due.specs.Steps.{Step, seen}
 use Rattle.sl_job_facts.proofs.AnsweredCallsFit.{both_of}
 use Rattle.sl_job_facts.proofs.CallsOfJobsFit.{joining_of}
+use Rattle.sl_job_facts.proofs.JobsAreAllowed.{is_told}
 use Rattle.sl_job_facts.proofs.RepliesComeAfter.{on_bool, on_option}
 use Rattle.sl_law.specs.LawfulWatchdog.{is_covered}
 use Rattle.sl_plain.proofs.Lists.{contains_first, find_inside, got_inside, kept_inside}
@@ -38,8 +39,8 @@ use Rattle.sl_trace.specs.declared.input.Answer.{Answer}
 use Rattle.sl_trace.specs.declared.input.Input.TheVariants.{Wake}
 use Rattle.sl_trace.specs.declared.reply.Limited.TheVariants.{Gen as GenLimit, Seq as SeqLimit}
 use Rattle.sl_trace.specs.declared.reply.Reply.TheVariants.{IdLate, Limit as LimitReached, TornDelta, WrongDelta}
-use Rattle.sl_trace_law.specs.Sessions.Promises.{all_done, fits, fits_as, is_in_turn}
-use Rattle.sl_words.proofs.CaseLaws.{false_is_true, none_some, not_both, one_value, some_value}
+use Rattle.sl_trace_law.specs.Sessions.Promises.{all_done, fits, fits_as, is_in_turn, leads_to}
+use Rattle.sl_words.proofs.CaseLaws.{false_is_true, none_some, not_both, one_value, some_value, true_is_false}
 use Rattle.sl_words.proofs.WordLaws.{and_true}
 use Rattle.sl_words.specs.Bounds.{is_number}
 use Rattle.sl_words.specs.Words.{some_is}
@@ -47,12 +48,15 @@ use Rattle.std.proofs.Common.{ap, refl, subst, sym, ◌∙◌}
 use Rattle.std.proofs.lemmas.Bool.{eqb-true}
 use Rattle.std.specs.Prelude.{Bool, Contains, List, None, Option, Some, [], bytes_eq, false, nat_le, nat_lt, not, true, ℕ, ◌&&◌, ◌+◌, ◌==◌, ◌∷◌, ◌≡◌}
 
-covered_newest : (x : Step) (s : Session) (j : ℕ) (step : JoinStep) (m : Submitted) (ms : List Submitted) → Working x s j → calls_of (seen x) s ≡ m ∷ ms → m.call.purpose ≡ Joining j step
+pub covered_newest : (x : Step) (s : Session) (j : ℕ) (step : JoinStep) (m : Submitted) (ms : List Submitted) → Working x s j → calls_of (seen x) s ≡ m ∷ ms → m.call.purpose ≡ Joining j step
     → is_covered (seen x) s ≡ is_covered_stage (stage_after step (is_answered_ok m))
 covered_newest x s j step m ms w are is =
     covered_at_work (seen x) s (working_unjoined x s j w) (working_unrefused x s j w)
     ∙ (ap (λ ks. is_covered_stage (stage_in ks)) are
     ∙ ap (λ p. is_covered_stage (elim p as (λ z. Stage) [ Joining i at ↦ stage_after at (is_answered_ok m) | _ ↦ Looking ])) is)
+
+pub stage_newest : (x : Step) (s : Session) (j : ℕ) (step : JoinStep) (m : Submitted) (ms : List Submitted) → calls_of (seen x) s ≡ m ∷ ms → m.call.purpose ≡ Joining j step → stage_in (calls_of (seen x) s) ≡ stage_after step (is_answered_ok m)
+stage_newest x s j step m ms are is = ap (λ ks. stage_in ks) are ∙ ap (λ p. elim p as (λ z. Stage) [ Joining i at ↦ stage_after at (is_answered_ok m) | _ ↦ Looking ]) is
 
 -- ---- after an answer
 
@@ -103,8 +107,8 @@ heard_decides x s j step m answer h hears is runs = by step answer is (heard_ok 
   last : answer ≡ Written → is_renewal m.call.purpose ≡ true → last_renewal x.setting (seen x) s ≡ m.reading
   last same renews = renewed_heard x s m (subst (λ a. Hears x s m a) same hears) renews (unjoined_well x s (working_unjoined x s j w))
 
-  registers_on : (at : JoinStep) → m.call.purpose ≡ Joining j at → not (is_write m.call.op) ≡ true → is_covered_stage (stage_after at (is_answered_ok m)) ≡ false → JoinsConnection x s (RegisterAndRead DecidingRead)
-  registers_on at its reads_one stage = (refl, refl, covered at its ∙ stage, read_alone x s m answer h hears (unwritten (is_write m.call.op) reads_one))
+  registers_on : (at : JoinStep) → m.call.purpose ≡ Joining j at → not (is_write m.call.op) ≡ true → stage_after at (is_answered_ok m) ≡ Looking → JoinsConnection x s (RegisterAndRead DecidingRead)
+  registers_on at its reads_one stage = (refl, refl, covered at its ∙ ap (λ q. is_covered_stage q) stage, read_alone x s m answer h hears (unwritten (is_write m.call.op) reads_one), λ waits. absurd (true_is_false (ap (λ q. leads_to q WatchRead) (sym (stage_newest x s j at m newest.0 newest.1 its ∙ stage) ∙ waits))))
 
   claims : (b : List ℕ) (d : DeltaRec) → is_covered (seen x) s ≡ true → JoinsConnection x s (claim_on (delta_of_session x.setting s) x.reading d)
   claims b d is_one =
@@ -140,7 +144,8 @@ heard_decides x s j step m answer h hears is runs = by step answer is (heard_ok 
       (on_bool (JoinsConnection x s) (is_number (claim.seq + 1)) (RefuseJoin (LimitReached SeqLimit)) (WriteFirst (delta_record (delta_of_session x.setting s) Live claim.generation (claim.seq + 1) x.reading no_bits)) refl (covered VerifyRead its)))
   by ClaimWrite (Read bytes) its ok renews = tt
   by FirstRenewal (Read bytes) its ok renews = tt
-  by ClaimWrite Written its ok renews = covered ClaimWrite its ∙ ap (λ b. is_covered_stage (stage_after ClaimWrite b)) ok
+  by ClaimWrite Written its ok renews =
+      (covered ClaimWrite its ∙ ap (λ b. is_covered_stage (stage_after ClaimWrite b)) ok, stage_newest x s j ClaimWrite m newest.0 newest.1 its ∙ ap (λ b. stage_after ClaimWrite b) ok, λ wake. true_is_false (ap (λ i. is_told i) (sym hears.heard ∙ wake)))
   by FirstRenewal Written its ok renews = (covered FirstRenewal its, renews refl (ap (λ p. is_renewal p) its))
   by FirstRead Written its ok renews = tt
   by WatchRead Written its ok renews = tt
@@ -169,7 +174,7 @@ woken_decides x s j h has wake its runs = by (calls_of (seen x) s) refl where
   no_writer z k = none_some k.1.0.call.number (sym quiet ∙ k.1.3)
 
   watches : (now answered : ℕ) → is_covered (seen x) s ≡ false → JoinsConnection x s (next_in_watch (delta_of_session x.setting s) now answered)
-  watches now answered uncovered = on_bool (JoinsConnection x s) (nat_le (answered + renew x.setting.timing) now) Nothing (ReadOwn WatchRead) tt (refl, uncovered, quiet)
+  watches now answered uncovered = on_bool (JoinsConnection x s) (nat_le (answered + renew x.setting.timing) now) Nothing (ReadOwn WatchRead) tt (refl, uncovered, wake)
 
   by_time : (m : Submitted) (ms : List Submitted) (a : Answered) (step : JoinStep) → calls_of (seen x) s ≡ m ∷ ms → m.answer ≡ Some a → m.call.purpose ≡ Joining j step → JoinsConnection x s (next_by_time (delta_of_session x.setting s) x.reading m.reading a.reading step)
   by_time m ms a FirstRead are is for = watches x.reading a.reading (covered_newest x s j FirstRead m ms w are for)
@@ -178,7 +183,7 @@ woken_decides x s j h has wake its runs = by (calls_of (seen x) s) refl where
       on_bool (JoinsConnection x s) (nat_le (a.reading + dead x.setting.timing) x.reading) Nothing
       (elim (nat_lt (m.reading + join_max x.setting.timing) x.reading) [ true ↦ RefuseJoin (IdLate m.reading x.reading) | false ↦ RegisterAndRead VerifyRead ]) tt
       (on_bool (JoinsConnection x s) (nat_lt (m.reading + join_max x.setting.timing) x.reading) (RegisterAndRead VerifyRead) (RefuseJoin (IdLate m.reading x.reading))
-      (refl, refl, covered_newest x s j ClaimWrite m ms w are for ∙ ap (λ b. is_covered_stage (stage_after ClaimWrite b)) ok, no_writer) refl)
+      (refl, refl, covered_newest x s j ClaimWrite m ms w are for ∙ ap (λ b. is_covered_stage (stage_after ClaimWrite b)) ok, no_writer, λ waits. wake) refl)
     where
       ok : is_answered_ok m ≡ true
       ok = ap (λ o. some_is (λ (b : Answered). is_ok_answer b.answer) o) is

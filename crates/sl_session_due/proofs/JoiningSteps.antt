@@ -20,10 +20,11 @@ use Rattle.sl_session_due.specs.Promises.{HasConnectionFacts}
 use Rattle.sl_session_facts.proofs.NameActs.{joined_by_reply}
 use Rattle.sl_session_facts.proofs.NamesAreAllowed.{joined_unrefused}
 use Rattle.sl_sessions.specs.Deltas.{own_offset}
-use Rattle.sl_sessions.specs.Sessions.{is_covered_stage, is_join_call, is_join_done, is_joined, joined_after, last_renewal, refused_after, removed_after, removed_in, same_join_step, sessions, stage_after, stage_in}
+use Rattle.sl_sessions.specs.Sessions.{calls_of, is_covered_stage, is_join_call, is_join_done, is_joined, joined_after, last_renewal, refused_after, removed_after, removed_in, same_join_step, sessions, stage_after, stage_in}
 use Rattle.sl_sessions.specs.declared.delta.DeltaNext.TheVariants.{Disconnect, EndLeaving, Join, MoveConnection, Nothing, ReadOwn, RefuseJoin, RegisterAndRead, WriteClaim, WriteFirst, WriteFree, WriteRenewal}
 use Rattle.sl_sessions.specs.declared.delta.DeltaNext.{DeltaNext}
 use Rattle.sl_sessions.specs.declared.session.Session.{Session}
+use Rattle.sl_sessions.specs.declared.stage.Stage.TheVariants.{Waiting}
 use Rattle.sl_step_facts.specs.Heard.{heard_by}
 use Rattle.sl_step_facts.specs.SessionFacts.{IsHeardWriter}
 use Rattle.sl_time.specs.Times.{fail}
@@ -37,6 +38,7 @@ use Rattle.sl_trace.specs.declared.effects.Move.TheVariants.{Register, Renew, Un
 use Rattle.sl_trace.specs.declared.effects.Op.TheVariants.{ReadSectors, WriteRecord}
 use Rattle.sl_trace.specs.declared.effects.Op.{Op}
 use Rattle.sl_trace.specs.declared.effects.Purpose.TheVariants.{Joining, Survey}
+use Rattle.sl_trace.specs.declared.input.Input.TheVariants.{Wake}
 use Rattle.sl_trace.specs.declared.reply.Reply.TheVariants.{Generation}
 use Rattle.sl_trace.specs.declared.reply.Reply.{Reply}
 use Rattle.sl_trace_law.proofs.Sessions.Naming.{same_name}
@@ -194,16 +196,20 @@ joins_connections x s j generation renewed w covered last h =
 abbrev pub JoinsConnection : Step → Session → DeltaNext → Type 0
 JoinsConnection x s Nothing = Unit {0}
 JoinsConnection x s (RefuseJoin r) = is_special r ≡ false
-JoinsConnection x s (ReadOwn step) = (step ≡ WatchRead) × (is_covered (seen x) s ≡ false) × (heard_by x.input ≡ None)
+JoinsConnection x s (ReadOwn step) = (step ≡ WatchRead) × (is_covered (seen x) s ≡ false) × (x.input ≡ Wake)
 JoinsConnection x s (RegisterAndRead step) =
-    (same_join_step FirstRead step ≡ false) × (is_covered_stage (stage_after step false) ≡ true) × (is_covered (seen x) s ≡ false) × NoHeardWriter x
+    (same_join_step FirstRead step ≡ false)
+    × (is_covered_stage (stage_after step false) ≡ true)
+    × (is_covered (seen x) s ≡ false)
+    × NoHeardWriter x
+    × (stage_in (calls_of (seen x) s) ≡ Waiting → x.input ≡ Wake)
 JoinsConnection x s (WriteClaim d) = is_covered (seen x) s ≡ true
-JoinsConnection x s Disconnect = is_covered (seen x) s ≡ false
+JoinsConnection x s Disconnect = (is_covered (seen x) s ≡ false) × (stage_in (calls_of (seen x) s) ≡ Waiting) × (x.input ≡ Wake → ⊥)
 JoinsConnection x s (WriteFirst d) = is_covered (seen x) s ≡ true
 JoinsConnection x s (Join generation renewed) = (is_covered (seen x) s ≡ true) × (last_renewal x.setting (seen x) s ≡ renewed)
 JoinsConnection x s n = ⊥
 
-special_join : (r : Reply) → is_special r ≡ false → is_join_done r ≡ false
+pub special_join : (r : Reply) → is_special r ≡ false → is_join_done r ≡ false
 special_join r h = by (is_before_input r) (is_join_done r) h where
   by : (a b : Bool) → (a || b) ≡ false → b ≡ false
   by true b h = absurd (true_is_false h)
@@ -220,7 +226,7 @@ joining_connections x s j (RefuseJoin r) w may h =
 joining_connections x s j (ReadOwn step) w may h =
     for_own x s j (λ i. read_own_sector s (Joining i step)) w.its
     (subst (λ q. HasConnectionFacts (read_own_sector s (Joining j q) x)) (sym may.0)
-    (called_connections x s j WatchRead s.path (own_offset x.setting s) (ReadSectors 1) w refl (sym may.1) (inr may.2) h))
+    (called_connections x s j WatchRead s.path (own_offset x.setting s) (ReadSectors 1) w refl (sym may.1) (inr (ap (λ i. heard_by i) may.2)) h))
 joining_connections x s j (RegisterAndRead step) w may h =
     for_own x s j (λ i y. read_own_sector s (Joining i step) (register s y)) w.its
     (registered_connections x s j step (own_offset x.setting s) (ReadSectors 1) w may.0 may.1 may.2 may.3 h)
@@ -230,7 +236,7 @@ joining_connections x s j (WriteClaim d) w may h =
 joining_connections x s j Disconnect w may h =
     removal_here x s (working_inside x s j w) (working_alone x s j w)
     (covered_at_work (seen (add_move (Unregister s.lockspace) x)) s (working_unjoined x s j w) (working_unrefused x s j w)
-    ∙ (sym (covered_at_work (seen x) s (working_unjoined x s j w) (working_unrefused x s j w)) ∙ may)) h
+    ∙ (sym (covered_at_work (seen x) s (working_unjoined x s j w) (working_unrefused x s j w)) ∙ may.0)) h
 joining_connections x s j (WriteFirst d) w may h =
     for_own x s j (λ i. write_own_sector s (Joining i FirstRenewal) d) w.its
     (called_connections x s j FirstRenewal s.path (own_offset x.setting s) (WriteRecord (DeltaIs d)) w refl (sym may) (inl refl) h)

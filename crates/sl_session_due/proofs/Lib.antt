@@ -13,3 +13,11 @@ pub mod ConnectionInputs
 pub mod ConnectionLines
 pub mod ConnectionFactsAreKept
 pub mod ConnectionFactsConclude
+pub mod SteadyActs
+pub mod MovesAltered
+pub mod JoiningMoves
+pub mod MovesAreKept
+pub mod WatchdogIsLawful
+pub mod DeltaCallsAreLawful
+pub mod DeltaReadsAreLawful
+pub mod WatchFactsAreKept

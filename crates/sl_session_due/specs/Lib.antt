@@ -1,1 +1,4 @@
+pub mod DeltaCalls
+pub mod MovedSoFar
 pub mod Promises
+pub mod WatchFacts

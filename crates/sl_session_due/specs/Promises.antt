@@ -1,9 +1,13 @@
 -- What is kept by each act of a step, and true once a step has begun: what is known of connections, and the laws of sessions.
 use Rattle.sl_acts.specs.Acts.{Acts}
+use Rattle.sl_acts.specs.SoFar.{entry_of}
 use Rattle.sl_due.specs.Steps.{Step, seen}
 use Rattle.sl_job_facts.specs.Promises.{BeginsWith}
+use Rattle.sl_law.specs.LawfulWatchdog.{LawfulWatchdog}
+use Rattle.sl_session_due.specs.MovedSoFar.{MovedSoFar}
 use Rattle.sl_step_facts.specs.Concluding.{Concludes}
 use Rattle.sl_step_facts.specs.Heard.{heard_by}
+use Rattle.sl_step_facts.specs.HoldingFacts.{HoldingFacts}
 use Rattle.sl_step_facts.specs.SessionFacts.{ConnectionFacts}
 use Rattle.sl_step_facts.specs.Whole.{Whole}
 use Rattle.std.specs.Prelude.{None}
@@ -23,3 +27,20 @@ HasConnectionsPlainly x = ConnectionFacts x.setting (seen x) None
 
 abbrev pub ConnectionFactsConclude : Type 0
 ConnectionFactsConclude = Concludes Whole (λ x. Whole x × HasConnectionsPlainly x) HasConnectionsPlainly
+
+-- ---- connections to the watchdog daemon
+
+-- What the moves of the entry say is kept.
+abbrev pub MovesAreKept : Type 0
+MovesAreKept = Acts (λ x. Whole x × MovedSoFar x) MovedSoFar
+
+abbrev pub MovesBegin : Type 0
+MovesBegin = BeginsWith MovedSoFar
+
+-- The law of the watchdog, of the entry so far.
+abbrev pub WatchdogSoFar : Step → Type 0
+WatchdogSoFar x = LawfulWatchdog x.setting x.past (entry_of x)
+
+-- It follows at each moment of a step.
+abbrev pub WatchdogIsLawful : Type 0
+WatchdogIsLawful = (x : Step) → HasConnectionFacts x → HoldingFacts x.setting (seen x) (heard_by x.input) → MovedSoFar x → WatchdogSoFar x

@@ -56,7 +56,7 @@ use Rattle.std.specs.Prelude.{Bool, Contains, IsTrue, List, None, Option, Some, 
 -- ---- what was read and claimed before
 
 -- The first read comes first.
-first_is_last : (p q : Purpose) → may_follow p q ≡ true → is_join_call FirstRead q ≡ false
+pub first_is_last : (p q : Purpose) → may_follow p q ≡ true → is_join_call FirstRead q ≡ false
 first_is_last (Joining i a) (Joining j FirstRead) follows = absurd (by a follows) where
   by : (s : JoinStep) → leads_to (stage_after s true) FirstRead ≡ true → ⊥
   by FirstRead h = false_is_true h
@@ -89,7 +89,7 @@ first_is_last SeeRequest q follows = absurd (false_is_true follows)
 first_is_last (ValueWrite i) q follows = absurd (false_is_true follows)
 first_is_last (ValueRead i) q follows = absurd (false_is_true follows)
 
-one_first : (ms : List Submitted) (a : Submitted) → is_ordered ms ≡ true → Contains ms a → is_join_call FirstRead a.call.purpose ≡ true → join_call ms FirstRead ≡ Some a
+pub one_first : (ms : List Submitted) (a : Submitted) → is_ordered ms ≡ true → Contains ms a → is_join_call FirstRead a.call.purpose ≡ true → join_call ms FirstRead ≡ Some a
 one_first [] a ordered there is = absurd (contains_none a there)
 one_first (m ∷ []) a ordered there is =
     let same : m ≡ a = contains_only m a there in
@@ -195,7 +195,7 @@ writes_first x s m j h =
 abbrev Stuck : Step → Session → Submitted → ℕ → DeltaNext → Type 0
 Stuck x s m j n = is_running (seen (carry_delta s n x)) j ≡ true → (ms : List Submitted) → calls_of (seen (carry_delta s n x)) s ≡ m ∷ ms → ⊥
 
-refused_stops : (x : Step) (j : ℕ) (r : Reply) → is_running (seen (refuse j r x)) j ≡ false
+pub refused_stops : (x : Step) (j : ℕ) (r : Reply) → is_running (seen (refuse j r x)) j ≡ false
 unfolding refuse
 refused_stops x j r =
     with_some_keeps (λ y. is_running (seen y) j ≡ false) (session_of_job x.setting (seen x) j) remove_of_refused (add_reply j r x)

@@ -131,7 +131,7 @@ write_before ms es e n a is =
     any_of (λ (m : Submitted). is_write m.call.op) (unanswered ms) was.before (ap (λ (c : Call). is_write c.op) (sym was.same.call) ∙ found.2)
     (kept (λ (m : Submitted). is_none m.answer) ms was.before (ap (λ o. is_none o) (was.unmet (none_is found.0.answer open_one.1))) was.inside)
 
-mark_filter : (es : Trace) (e : Entry) (i : Input) (s : Session) (ms : List Submitted) → filter (is_call_of s) (mark es e i ms) ≡ mark es e i (filter (is_call_of s) ms)
+pub mark_filter : (es : Trace) (e : Entry) (i : Input) (s : Session) (ms : List Submitted) → filter (is_call_of s) (mark es e i ms) ≡ mark es e i (filter (is_call_of s) ms)
 mark_filter es e (Told n a) s [] = refl
 mark_filter es e (Told n a) s (m ∷ ms) = by (is_call_of s m) refl (mark_filter es e (Told n a) s ms) where
   same : is_call_of s (answered_in es e n a m) ≡ is_call_of s m
@@ -163,7 +163,7 @@ unheard es e n a m other = by (m.call.number == n) refl where
   by false is = refl
   by true is = absurd (other (ap (λ k. Some k) (sym (eqb-true m.call.number n is) ∙ ap (λ (c : Call). c.number) (sym (same_answered es e n a m).call))))
 
-unheard_inside : (es : Trace) (e : Entry) (i : Input) (ms : List Submitted) (m : Submitted) → Contains (mark es e i ms) m → (heard_by i ≡ Some m.call.number → ⊥) → Contains ms m
+pub unheard_inside : (es : Trace) (e : Entry) (i : Input) (ms : List Submitted) (m : Submitted) → Contains (mark es e i ms) m → (heard_by i ≡ Some m.call.number → ⊥) → Contains ms m
 unheard_inside es e (Told n a) ms m there other =
     let was = in_map (answered_in es e n a) ms m there in
     let same : answered_in es e n a was.0 ≡ was.0 = unheard es e n a was.0 (λ is. other (is ∙ ap (λ (k : Submitted). Some k.call.number) was.2)) in
