@@ -7,16 +7,18 @@ use Rattle.sl_due.specs.DueCommands.{carry_decision}
 use Rattle.sl_due.specs.DueFirst.{begin_recoveries}
 use Rattle.sl_due.specs.Steps.{Step, begin_step}
 use Rattle.sl_due_lawful.specs.Kept.{Kept}
-use Rattle.sl_due_lawful.specs.Promises.{ActsAsked, CallsSoFar, DeltasSoFar, ValuesSoFar, WatchdogSoFar}
+use Rattle.sl_due_lawful.specs.Promises.{ActsAsked, CallsSoFar, DeltasSoFar}
 use Rattle.sl_grant_due.proofs.ActiveGrants.{granting_begins, granting_is_lawful}
 use Rattle.sl_grant_due.proofs.EndsAreLawful.{ends_are_lawful, ends_begin}
 use Rattle.sl_grant_due.proofs.ExitsAreLawful.{exits_are_lawful, exits_begin}
-use Rattle.sl_grant_due.proofs.ModesAreLawful.{modes_are_lawful, modes_begin}
+use Rattle.sl_grant_due.proofs.Modes.ModesAreLawful.{modes_are_lawful, modes_begin}
+use Rattle.sl_grant_due.proofs.Values.ValueFactsAreKept.{value_facts_are_kept, value_facts_begin}
+use Rattle.sl_grant_due.proofs.Values.ValuesAreTold.{values_are_lawful, values_begin}
 use Rattle.sl_grant_due.proofs.WorkFactsAreKept.{work_facts_are_kept}
 use Rattle.sl_grant_due.proofs.WorkFactsBegin.{work_facts_begin}
 use Rattle.sl_grant_due.specs.GrantPromises.{EndsSoFar, ExitsSoFar, GrantingSoFar, HasWorkFacts}
 use Rattle.sl_grant_due.specs.ModePromises.{ModesSoFar}
-use Rattle.sl_grant_due.specs.ValuePromises.{HasValueFacts}
+use Rattle.sl_grant_due.specs.ValuePromises.{HasValueFacts, ValuesSoFar}
 use Rattle.sl_holding_due.proofs.HoldingFactsAreKept.{holding_facts_are_kept}
 use Rattle.sl_holding_due.proofs.HoldingFactsBegin.{holding_facts_begin}
 use Rattle.sl_holding_due.proofs.MomentsAreKept.{moments_are_kept}
@@ -42,6 +44,9 @@ use Rattle.sl_recovery_due.proofs.StopsBegin.{begun_says, stops_begin}
 use Rattle.sl_recovery_due.specs.Promises.{StopsSoFar}
 use Rattle.sl_recovery_due.specs.Stops.{Denies, Partings}
 use Rattle.sl_session_due.proofs.ConnectionFactsAreKept.{connection_facts_are_kept, connection_facts_begin}
+use Rattle.sl_session_due.proofs.MovesAreKept.{moves_are_kept, moves_begin}
+use Rattle.sl_session_due.proofs.WatchdogIsLawful.{watchdog_is_lawful}
+use Rattle.sl_session_due.specs.MovedSoFar.{MovedSoFar}
 use Rattle.sl_session_due.specs.Promises.{HasConnectionFacts}
 use Rattle.sl_session_facts.proofs.DeltaFactsBegin.{delta_facts_begin}
 use Rattle.sl_session_facts.proofs.DeltaFactsHold.{delta_facts_are_kept}
@@ -99,7 +104,7 @@ pub record Parts (x : Step) : Type 0 where
   pub lawful_deltas : DeltasSoFar x
   pub lawful_leases : LeaseLaws x
   pub lawful_modes : ModesSoFar x
-  pub lawful_watchdog : WatchdogSoFar x
+  pub moved : MovedSoFar x
   pub lawful_granting : GrantingSoFar x
   pub lawful_ends : EndsSoFar x
   pub lawful_values : ValuesSoFar x
@@ -137,11 +142,11 @@ From_lawful_ends x = EndsSoFar x × From_lawful_values x
 abbrev From_lawful_granting : Step → Type 0
 From_lawful_granting x = GrantingSoFar x × From_lawful_ends x
 
-abbrev From_lawful_watchdog : Step → Type 0
-From_lawful_watchdog x = WatchdogSoFar x × From_lawful_granting x
+abbrev From_moved : Step → Type 0
+From_moved x = MovedSoFar x × From_lawful_granting x
 
 abbrev From_lawful_modes : Step → Type 0
-From_lawful_modes x = ModesSoFar x × From_lawful_watchdog x
+From_lawful_modes x = ModesSoFar x × From_moved x
 
 abbrev From_lawful_leases : Step → Type 0
 From_lawful_leases x = LeaseLaws x × From_lawful_modes x
@@ -213,7 +218,7 @@ from_moment : ActsAsked → Acts Kept From_moment
 from_moment a = both Kept Moment From_exits (from_more Moment Kept Moment (λ x k. k.known.1) moments_are_kept) (from_exits a)
 
 from_lawful_values : ActsAsked → Acts Kept From_lawful_values
-from_lawful_values a = both Kept ValuesSoFar From_moment (from_more Known Kept ValuesSoFar (λ x k. k.known) a.values) (from_moment a)
+from_lawful_values a = both Kept ValuesSoFar From_moment (from_more Known Kept ValuesSoFar (λ x k. k.known) values_are_lawful) (from_moment a)
 
 from_lawful_ends : ActsAsked → Acts Kept From_lawful_ends
 from_lawful_ends a = both Kept EndsSoFar From_lawful_values (from_more Known Kept EndsSoFar (λ x k. k.known) ends_are_lawful) (from_lawful_values a)
@@ -221,11 +226,11 @@ from_lawful_ends a = both Kept EndsSoFar From_lawful_values (from_more Known Kep
 from_lawful_granting : ActsAsked → Acts Kept From_lawful_granting
 from_lawful_granting a = both Kept GrantingSoFar From_lawful_ends (from_more Known Kept GrantingSoFar (λ x k. k.known) granting_is_lawful) (from_lawful_ends a)
 
-from_lawful_watchdog : ActsAsked → Acts Kept From_lawful_watchdog
-from_lawful_watchdog a = both Kept WatchdogSoFar From_lawful_granting (from_more Known Kept WatchdogSoFar (λ x k. k.known) a.watchdog) (from_lawful_granting a)
+from_moved : ActsAsked → Acts Kept From_moved
+from_moved a = both Kept MovedSoFar From_lawful_granting (from_more (λ x. Whole x × MovedSoFar x) Kept MovedSoFar (λ x k. (k.known.0, k.moved)) moves_are_kept) (from_lawful_granting a)
 
 from_lawful_modes : ActsAsked → Acts Kept From_lawful_modes
-from_lawful_modes a = both Kept ModesSoFar From_lawful_watchdog (from_more Known Kept ModesSoFar (λ x k. k.known) modes_are_lawful) (from_lawful_watchdog a)
+from_lawful_modes a = both Kept ModesSoFar From_moved (from_more Known Kept ModesSoFar (λ x k. k.known) modes_are_lawful) (from_moved a)
 
 from_lawful_leases : ActsAsked → Acts Kept From_lawful_leases
 from_lawful_leases a = both Kept LeaseLaws From_lawful_modes (from_more Whole Kept LeaseLaws (λ x k. k.known.0) laws_are_kept) (from_lawful_modes a)
@@ -237,7 +242,7 @@ from_lawful_calls : ActsAsked → Acts Kept From_lawful_calls
 from_lawful_calls a = both Kept CallsSoFar From_lawful_deltas (from_more Known Kept CallsSoFar (λ x k. k.known) a.calls) (from_lawful_deltas a)
 
 from_values : ActsAsked → Acts Kept From_values
-from_values a = both Kept HasValueFacts From_lawful_calls (from_more Known Kept HasValueFacts (λ x k. k.known) a.value_facts) (from_lawful_calls a)
+from_values a = both Kept HasValueFacts From_lawful_calls (from_more Known Kept HasValueFacts (λ x k. k.known) value_facts_are_kept) (from_lawful_calls a)
 
 from_numbers : ActsAsked → Acts Kept From_numbers
 from_numbers a = both Kept HasNumberFacts From_values (from_more Whole Kept HasNumberFacts (λ x k. k.known.0) number_facts_are_kept) (from_values a)
@@ -299,7 +304,7 @@ parts_of x h =
       lawful_deltas = h.1.1.1.1.1.1.1.1.1.1.1.1.1.1.1.0;
       lawful_leases = h.1.1.1.1.1.1.1.1.1.1.1.1.1.1.1.1.0;
       lawful_modes = h.1.1.1.1.1.1.1.1.1.1.1.1.1.1.1.1.1.0;
-      lawful_watchdog = h.1.1.1.1.1.1.1.1.1.1.1.1.1.1.1.1.1.1.0;
+      moved = h.1.1.1.1.1.1.1.1.1.1.1.1.1.1.1.1.1.1.0;
       lawful_granting = h.1.1.1.1.1.1.1.1.1.1.1.1.1.1.1.1.1.1.1.0;
       lawful_ends = h.1.1.1.1.1.1.1.1.1.1.1.1.1.1.1.1.1.1.1.1.0;
       lawful_values = h.1.1.1.1.1.1.1.1.1.1.1.1.1.1.1.1.1.1.1.1.1.0;
@@ -328,10 +333,10 @@ kept_of x h =
             block = (h.lawful_leases.block, h.old.1.orderly.block);
             leader = (h.lawful_leases.leader, h.old.1.orderly.leader);
             modes = (h.lawful_modes, h.old.1.orderly.modes);
-            watchdog = (h.lawful_watchdog, h.old.1.orderly.watchdog);
+            watchdog = (watchdog_is_lawful x h.connections h.holdings h.moved, h.old.1.orderly.watchdog);
             granting = (h.lawful_granting, h.old.1.orderly.granting);
             ends = (h.lawful_ends, h.old.1.orderly.ends);
-            parting = (parting_is_lawful x h.calls h.follows h.lawful_leases.area h.lawful_deltas h.lawful_watchdog h.partings, h.old.1.orderly.parting);
+            parting = (parting_is_lawful x h.calls h.follows h.lawful_leases.area h.lawful_deltas (watchdog_is_lawful x h.connections h.holdings h.moved) h.partings, h.old.1.orderly.parting);
             values = (h.lawful_values, h.old.1.orderly.values);
           };
           facts = record {
@@ -353,6 +358,7 @@ kept_of x h =
         h.moment,
       );
       exits = h.exits;
+      moved = h.moved;
       stops = h.stops;
       denies = h.denies;
       partings = h.partings;
@@ -391,15 +397,15 @@ all_begins a st past e follows w =
       works = work_facts_begin st past e follows w;
       grounds = grant_grounds_begin st past e follows w;
       numbers = number_facts_begin st past e follows w;
-      values = a.value_facts_begin st past e follows w;
+      values = value_facts_begin st past e follows w;
       lawful_calls = a.calls_begin st past e follows w;
       lawful_deltas = a.deltas_begin st past e follows w;
       lawful_leases = lease_laws_begin st past e follows w;
       lawful_modes = modes_begin st past e follows w;
-      lawful_watchdog = a.watchdog_begins st past e follows w;
+      moved = moves_begin st past e follows w;
       lawful_granting = granting_begins st past e follows w;
       lawful_ends = ends_begin st past e follows w;
-      lawful_values = a.values_begin st past e follows w;
+      lawful_values = values_begin st past e follows w;
       moment = moments_begin st past e follows w;
       exits = exits_begin st past e follows w;
       stops = stops_begin st past e follows w;

@@ -35,10 +35,10 @@ use Rattle.std.specs.Prelude.{Contains, List, None, Option, Some, false, if◌th
 
 -- ---- the walk, with the input
 
-abbrev Walks : Input → Option ℕ → Step → Type 0
+abbrev pub Walks : Input → Option ℕ → Step → Type 0
 Walks i new z = (z.input ≡ i) × AllButWait (told_by i) new z
 
-walk : (i : Input) (new : Option ℕ) → Nearly (Walks i new)
+pub walk : (i : Input) (new : Option ℕ) → Nearly (Walks i new)
 walk i new =
     let p : Nearly (AllButWait (told_by i) new) = waits_effects (told_by i) new in
     record {
@@ -53,22 +53,22 @@ walk i new =
     }
 
 -- The act's own job besides.
-walked : (y : Step) (i : Input) (new : Option ℕ) → Walks i new y → ((j : ℕ) → new ≡ Some j → is_running (seen y) j ≡ true → Waits y.setting (seen y) None (told_by i) j) → Busy y
+pub walked : (y : Step) (i : Input) (new : Option ℕ) → Walks i new y → ((j : ℕ) → new ≡ Some j → is_running (seen y) j ≡ true → Waits y.setting (seen y) None (told_by i) j) → Busy y
 walked y i new h one = subst (λ k. AllWait y.setting (seen y) None (told_by k)) (sym h.0) (all_of y (told_by i) new h.1 one)
 
 none_new : {P : Type 0} (j : ℕ) → None ≡ Some j → P
 none_new j is = absurd (none_some j is)
 
 -- From a step where all wait.
-from_busy : (x : Step) → Busy x → Walks x.input None x
+pub from_busy : (x : Step) → Busy x → Walks x.input None x
 from_busy x h = (refl, λ j there runs other. h j there runs)
 
-alone : (y : Step) (i : Input) → Walks i None y → Busy y
+pub alone : (y : Step) (i : Input) → Walks i None y → Busy y
 alone y i h = walked y i None h (λ j is runs. none_new j is)
 
 -- ---- an answer that was heard
 
-heard_alone : (x : Step) (s : Session) (m : Submitted) (answer : Answer) (o : Option ℕ) → Whole x → (hears : Hears x s m answer) → job_of m.call.purpose ≡ o → BusyHeard x → Walks (Told hears.number answer) o x
+pub heard_alone : (x : Step) (s : Session) (m : Submitted) (answer : Answer) (o : Option ℕ) → Whole x → (hears : Hears x s m answer) → job_of m.call.purpose ≡ o → BusyHeard x → Walks (Told hears.number answer) o x
 heard_alone x s m answer o h hears of busy = (hears.heard, λ j there runs other. by j (busy j there runs) other) where
   the_call : (d : Submitted) → Contains (submitted (seen x)) d → heard_by x.input ≡ Some d.call.number → d ≡ m
   the_call d there heard =
@@ -87,7 +87,7 @@ heard_alone x s m answer o h hears of busy = (hears.heard, λ j there runs other
   by j (For_leaving z k there is number) other = For_leaving z k there is number
 
 -- The same where the call isn't found, so that none is its job's.
-unfound_alone : (x : Step) (n : ℕ) (answer : Answer) → Whole x → x.input ≡ Told n answer → call_numbered (seen x) n ≡ None → BusyHeard x → Busy x
+pub unfound_alone : (x : Step) (n : ℕ) (answer : Answer) → Whole x → x.input ≡ Told n answer → call_numbered (seen x) n ≡ None → BusyHeard x → Busy x
 unfound_alone x n answer h told none busy = λ j there runs. by j (busy j there runs) where
   by : (j : Job) → Waits x.setting (seen x) (heard_by x.input) (told_by x.input) j.number → Waits x.setting (seen x) None (told_by x.input) j.number
   by j (For_session z there its) = For_session z there its
@@ -99,7 +99,7 @@ unfound_alone x n answer h told none busy = λ j there runs. by j (busy j there 
   by j (For_leaving z k there is number) = For_leaving z k there is number
 
 -- One whose session isn't present.
-late_alone : (x : Step) (n : ℕ) (answer : Answer) (m : Submitted) → Whole x → x.input ≡ Told n answer → call_numbered (seen x) n ≡ Some m → BusyHeard x
+pub late_alone : (x : Step) (n : ℕ) (answer : Answer) (m : Submitted) → Whole x → x.input ≡ Told n answer → call_numbered (seen x) n ≡ Some m → BusyHeard x
     → ((j : ℕ) → job_of m.call.purpose ≡ Some j → is_running (seen x) j ≡ true → Waits x.setting (seen x) None None j) → Busy x
 late_alone x n answer m h told found busy own = walked x (Told n answer) (job_of m.call.purpose) (told, λ j there runs other. by j (busy j there runs) other) own where
   untold_one : told_by x.input ≡ None
@@ -119,12 +119,12 @@ late_alone x n answer m h told found busy own = walked x (Told n answer) (job_of
 -- ---- the jobs of answers
 
 -- A job that is answered.
-replied_busy : (x : Step) (i : Input) (j : ℕ) (r : Reply) → Walks i (Some j) x → Busy (add_reply j r x)
+pub replied_busy : (x : Step) (i : Input) (j : ℕ) (r : Reply) → Walks i (Some j) x → Busy (add_reply j r x)
 replied_busy x i j r h =
     walked (add_reply j r x) i (Some j) ((walk i (Some j)).replies x j r tt h)
     (λ n is runs. absurd (not_both (is_running (seen (add_reply j r x)) n) runs (subst (λ k. is_running (seen (add_reply j r x)) k ≡ false) (some_value j n is) (reply_stops x j r))))
 
-lone_is : (p : Purpose) (j : ℕ) → lone_job p ≡ Some j → job_of p ≡ Some j
+pub lone_is : (p : Purpose) (j : ℕ) → lone_job p ≡ Some j → job_of p ≡ Some j
 lone_is (RequestRead k) j is = is
 lone_is (RequestWrite k owner) j is = is
 lone_is (ValueWrite k) j is = is
@@ -145,11 +145,11 @@ called_busy x i j s path p o op no_look of h =
     (subst (λ ms. Contains ms (new_call (length x.past) x.reading c)) (sym (submitted-push x.past (entry_of x) c)) (contains_first (new_call (length x.past) x.reading c) (submitted (seen x)))) (inl refl) (of ∙ is))
 
 -- A joining waits for its session.
-joined_busy : (x y : Step) (i : Input) (s : Session) (j : ℕ) → Walks i (Some j) y → Has y s → s.job ≡ Some j → Busy y
+pub joined_busy : (x y : Step) (i : Input) (s : Session) (j : ℕ) → Walks i (Some j) y → Has y s → s.job ≡ Some j → Busy y
 joined_busy x y i s j h has its = walked y i (Some j) h (λ n is runs. For_session s (got_inside (sessions y.setting (seen y)) s.number s has) (its ∙ is))
 
 -- A request.
-asked_busy : (x : Step) (i : Input) (s : Session) (j : ℕ) (bytes : List ℕ) (r : ResourceArg) (asked force : ℕ) → Walks i (Some j) x → Busy (after_request_read s j bytes (Request r asked force) x)
+pub asked_busy : (x : Step) (i : Input) (s : Session) (j : ℕ) (bytes : List ℕ) (r : ResourceArg) (asked force : ℕ) → Walks i (Some j) x → Busy (after_request_read s j bytes (Request r asked force) x)
 unfolding after_request_read
 asked_busy x i s j bytes r asked force h = by (request_refusal x.setting.layout s.lockspace r asked force bytes) where
   by : (o : Option Reply) → Busy (elim o as (λ z. Step) [ Some why ↦ add_reply j why x | None ↦ write_request s j (owner_read x.setting.layout bytes) r asked force x ])

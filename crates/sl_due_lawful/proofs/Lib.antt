@@ -6,3 +6,4 @@ pub mod WaitsStay
 pub mod WaitsAtEnd
 pub mod BusyActs
 pub mod BusyRests
+pub mod BusyKept

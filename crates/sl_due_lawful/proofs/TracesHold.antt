@@ -10,7 +10,7 @@ use Rattle.sl_due_lawful.proofs.ActsRest.{Heard, Rested, answer_acts_rest, other
 use Rattle.sl_due_lawful.proofs.AllIsKept.{all_begins}
 use Rattle.sl_due_lawful.proofs.FirstFacts.{facts_at_first, grounds_rest}
 use Rattle.sl_due_lawful.specs.Kept.{Holds, Kept, Rests}
-use Rattle.sl_due_lawful.specs.Promises.{ActsAsked, DueIsLawfulWith, DueIsWellWith, TracesHold}
+use Rattle.sl_due_lawful.specs.Promises.{ActsAsked, DueIsLawfulWith, TracesHold}
 use Rattle.sl_job_facts.proofs.EffectsAreAllowed.{delta, ended}
 use Rattle.sl_law.specs.Lawful.{Lawful, Orderly}
 use Rattle.sl_law.specs.LawfulExit.{LawfulExit}
@@ -191,12 +191,3 @@ traces_hold asked st (e ∷ past) setting h = step_holds asked st past e h.0.0 h
 
 pub due_is_lawful_with : DueIsLawfulWith
 due_is_lawful_with asked st es setting h = (traces_hold asked st es setting h).whole.lawful
-
--- With causes, and no idle job.
-pub due_is_well_with : DueIsWellWith
-due_is_well_with asked caused idle st [] setting h = (first_lawful st, tt, tt)
-due_is_well_with asked caused idle st (e ∷ past) setting h =
-    let before = due_is_well_with asked caused idle st past setting (h.0.1, h.1.1) in
-    let held : Holds st past = traces_hold asked st past setting (h.0.1, h.1.1) in
-    let now : Holds st (e ∷ past) = traces_hold asked st (e ∷ past) setting h in
-    (now.whole.lawful, (caused st past e h.0.0 h.1.0 held now, before.1), idle st past e h.0.0 h.1.0 held before.2 now)

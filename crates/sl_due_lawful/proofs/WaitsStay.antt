@@ -43,7 +43,7 @@ waits_again st t u heard told j ss ms ks leaving (For_leaving s k there is numbe
 -- ---- a reply
 
 -- A call without an answer has none after a reply.
-open_replied : (past : Trace) (e f : Entry) (m : Submitted) → e.reading ≡ f.reading → e.input ≡ f.input → e.effects.calls ≡ f.effects.calls → Contains (submitted (e ∷ past)) m → m.answer ≡ None → Contains (submitted (f ∷ past)) m
+pub open_replied : (past : Trace) (e f : Entry) (m : Submitted) → e.reading ≡ f.reading → e.input ≡ f.input → e.effects.calls ≡ f.effects.calls → Contains (submitted (e ∷ past)) m → m.answer ≡ None → Contains (submitted (f ∷ past)) m
 open_replied past e f m reading input calls there opens = subst (λ ms. Contains ms m) (same calls) (by (old_or_new (length past) e.reading e.effects.calls (mark past e e.input (submitted past)) m there)) where
   same : e.effects.calls ≡ f.effects.calls → fold (λ ms c. new_call (length past) e.reading c ∷ ms) (mark past f f.input (submitted past)) e.effects.calls ≡ submitted (f ∷ past)
   same is = ap₂ (λ r cs. fold (λ ms c. new_call (length past) r c ∷ ms) (mark past f f.input (submitted past)) cs) reading is
@@ -118,7 +118,7 @@ waits_replied y told i r j other (For_call m there (inr heard) of) = absurd (non
 waits_replied y told i r j other (For_child k there its opens) = For_child k there its opens
 waits_replied y told i r j other (For_leaving s k there is number) = For_leaving s k there (leaving_replied y i r s k is (λ same. other (same ∙ number))) number
 
-waits_called : (y : Step) (told : Option ℕ) (n : ℕ) (path : List ℕ) (p : Purpose) (o : ℕ) (op : Op) (j : ℕ) → ((s : Session) → Contains (sessions y.setting (seen y)) s → Contains (sessions y.setting (seen (add_call_of n path p o op y))) s)
+pub waits_called : (y : Step) (told : Option ℕ) (n : ℕ) (path : List ℕ) (p : Purpose) (o : ℕ) (op : Op) (j : ℕ) → ((s : Session) → Contains (sessions y.setting (seen y)) s → Contains (sessions y.setting (seen (add_call_of n path p o op y))) s)
     → Waits y.setting (seen y) None told j → Waits y.setting (seen (add_call_of n path p o op y)) None told j
 waits_called y told n path p o op j grows (For_session s there its) = For_session s (grows s there) its
 waits_called y told n path p o op j grows (For_call m there opens of) =

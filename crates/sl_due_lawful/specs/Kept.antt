@@ -7,6 +7,7 @@ use Rattle.sl_job_facts.specs.Promises.{IsQuiet}
 use Rattle.sl_recovery_due.specs.KillFacts.{KillFacts}
 use Rattle.sl_recovery_due.specs.Promises.{StopsSoFar}
 use Rattle.sl_recovery_due.specs.Stops.{Denies, FreesEnd, Partings, Stops}
+use Rattle.sl_session_due.specs.MovedSoFar.{MovedSoFar}
 use Rattle.sl_session_due.specs.Promises.{HasConnectionsPlainly}
 use Rattle.sl_session_facts.specs.Promises.{HasNamesPlainly}
 use Rattle.sl_step_facts.specs.Whole.{WholeTrace}
@@ -17,6 +18,7 @@ use Rattle.std.specs.Prelude.{None}
 pub record Kept (x : Step) : Type 0 where
   pub known : Known x
   pub exits : ExitsSoFar x
+  pub moved : MovedSoFar x
   pub stops : StopsSoFar x
   pub denies : Denies x
   pub partings : Partings x

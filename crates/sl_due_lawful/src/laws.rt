@@ -1,6 +1,6 @@
 //! What is due is lawful.
 
-ghost use Rattle.sl_due_lawful.specs.Promises.{DueIsLawfulWith, DueIsWellWith, FactsAtFirst, TracesHold};
+ghost use Rattle.sl_due_lawful.specs.Promises.{DueIsLawfulWith, DueIsWellWith, FactsAtFirst, NoneIsIdleWith, TracesHold};
 
 /// Before the first entry all facts hold.
 pub fn facts_at_first()
@@ -17,7 +17,12 @@ pub fn due_is_lawful_with()
     ensures { DueIsLawfulWith }
 {}
 
-/// Its replies have their causes and no job is idle where each entry keeps that.
+/// No job is idle at the end of an entry, where besides what is asked of jobs is so.
+pub fn none_is_idle_with()
+    ensures { NoneIsIdleWith }
+{}
+
+/// And its replies have their causes where each entry's do.
 pub fn due_is_well_with()
     ensures { DueIsWellWith }
 {}

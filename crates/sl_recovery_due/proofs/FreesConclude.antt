@@ -162,7 +162,7 @@ unread : (st : Setting) (answer : Answer) (op : Op) (r : Rec) → record_of op �
 unread st answer (ReadSectors n) r writes fits bytes is = none_some r writes
 unread st answer (WriteRecord w) r writes fits bytes is = false_is_true (subst (λ a. is_answer_for st a (WriteRecord w) ≡ true) is fits)
 
-free_written : (x : Step) (s : Session) (j : ℕ) (m : Submitted) (answer : Answer) → Whole x → Hears x s m answer → m.call.purpose ≡ Leaving j → (bytes : List ℕ) → answer ≡ Read bytes → ⊥
+pub free_written : (x : Step) (s : Session) (j : ℕ) (m : Submitted) (answer : Answer) → Whole x → Hears x s m answer → m.call.purpose ≡ Leaving j → (bytes : List ℕ) → answer ≡ Read bytes → ⊥
 free_written x s j m answer h hears is bytes reads_it = unread x.setting answer m.call.op record_one.0 record_one.1 fits bytes reads_it where
   n : ℕ
   n = hears.number

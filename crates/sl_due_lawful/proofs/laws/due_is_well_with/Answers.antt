@@ -1,4 +1,4 @@
-use Rattle.sl_due_lawful.proofs.TracesHold as its
+use Rattle.sl_due_lawful.proofs.BusyKept as its
 use Rattle.sl_due_lawful.proofs.laws.due_is_well_with.Goals as goal
 
 pub returns : goal.returns
