@@ -5,7 +5,6 @@ use Rattle.sl_due.specs.Steps.{Step, add_reply, seen, with_input}
 use Rattle.sl_due_lawful.proofs.WaitsStay.{AllButWait, waits_effects}
 use Rattle.sl_due_lawful.specs.Busy.{AllWait, For_call, For_child, For_leaving, For_session, Waits, told_by}
 use Rattle.sl_job_facts.proofs.CallsHaveFacts.{calls_before, sessions_told}
-use Rattle.sl_job_facts.proofs.EffectsAreAllowed.{exited}
 use Rattle.sl_job_facts.proofs.JobFactsGrow.{contains_left, contains_right}
 use Rattle.sl_job_facts.proofs.JobsAreAllowed.{calls_heard}
 use Rattle.sl_job_facts.proofs.JobsAreNumbered.{next_before}
@@ -103,13 +102,12 @@ calls_seen x (Told n a) m j bare there opens of = by (m.call.number == n) refl w
   by : (b : Bool) → (m.call.number == n) ≡ b
       → (c : Submitted) × Contains (submitted (seen (with_input (Told n a) x))) c × ((c.answer ≡ None) ⊎ (Some n ≡ Some c.call.number)) × (job_of c.call.purpose ≡ Some j)
   by true is = (d, inside, inr (ap (λ k. Some k) (sym (eqb-true m.call.number n is) ∙ ap (λ (c : Call). c.number) (sym same))), ap (λ (c : Call). job_of c.purpose) same ∙ of)
-  by false is =
-      (
-        d,
-        inside,
-        inl (ap (λ b. (elim b as (λ z. Submitted) [ false ↦ m | true ↦ record m { answer = option_or m.answer (Some (answer_of x.past (entry_of (with_input (Told n a) x)) a m.call)) } ]).answer) is ∙ opens),
-        ap (λ (c : Call). job_of c.purpose) same ∙ of,
-      )
+  by false is = (
+    d,
+    inside,
+    inl (ap (λ b. (elim b as (λ z. Submitted) [ false ↦ m | true ↦ record m { answer = option_or m.answer (Some (answer_of x.past (entry_of (with_input (Told n a) x)) a m.call)) } ]).answer) is ∙ opens),
+    ap (λ (c : Call). job_of c.purpose) same ∙ of,
+  )
 calls_seen x (Line text) m j bare there opens of = (m, there, inl opens, of)
 calls_seen x (Number text) m j bare there opens of = (m, there, inl opens, of)
 calls_seen x (Exit p) m j bare there opens of = (m, there, inl opens, of)

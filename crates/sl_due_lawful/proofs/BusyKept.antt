@@ -146,14 +146,14 @@ other_acts_wait asked jobs =
           let w : Step = with_input (Exit n) x in (
             r.exits x n wake bare one h.0,
             alone (refuse_jobs_of n (leave_holdings n w)) (Exit n) (exited (Walks (Exit n) None) (Walks (Exit n) None) Anything NoLook AnyStart AnyMove (walk (Exit n) None) (leave_holdings n w) n (λ j there. tt)
-            (left (Walks (Exit n) None) (Walks (Exit n) None) Anything NoLook AnyStart AnyMove (walk (Exit n) None) w n (from_busy w (seen_busy x (Exit n) wake bare refl h.1)))),
+                (left (Walks (Exit n) None) (Walks (Exit n) None) Anything NoLook AnyStart AnyMove (walk (Exit n) None) w n (from_busy w (seen_busy x (Exit n) wake bare refl h.1)))),
           );
       exits_as_none = λ x n wake bare none h. (r.exits_as_none x n wake bare none h.0, seen_busy x (Exit n) wake bare refl h.1);
       starts = λ x n ok wake bare expected h. (r.starts x n ok wake bare expected h.0, seen_busy x (Spawned n ok) wake bare refl h.1);
       fails_to_start = λ x n input h. (
         r.fails_to_start x n input h.0,
         alone (when_running (job_of_start (seen x) n) SpawnFault (end_holdings n x)) x.input (said (Walks x.input None) (Walks x.input None) Anything NoLook AnyStart AnyMove (walk x.input None) (end_holdings n x) (job_of_start (seen x) n) SpawnFault (λ j is. tt)
-        (ended (Walks x.input None) (Walks x.input None) Anything NoLook AnyStart AnyMove (walk x.input None) x n (from_busy x h.1))),
+            (ended (Walks x.input None) (Walks x.input None) Anything NoLook AnyStart AnyMove (walk x.input None) x n (from_busy x h.1))),
       );
       signals_instead = λ x n o input stood h. (r.signals_instead x n o input stood h.0, alone (add_signal o Term x) x.input ((walk x.input None).signals x o Term (from_busy x h.1)));
       says_started = λ x n j input is runs h.
@@ -163,20 +163,20 @@ other_acts_wait asked jobs =
       carries = λ x text c d wake bare says is more h. (
         r.carries x text c d wake bare says is more h.0,
         walked (carry_decision (next_job x.setting (seen x)) c d (with_input (Line text) x)) (Line text) (Some (next_job x.setting (seen x))) (carried_walk x text c d wake bare h.1)
-        (λ j its runs. line_rests jobs x text c d j h.0.0 wake bare says is more its runs),
+            (λ j its runs. line_rests jobs x text c d j h.0.0 wake bare says is more its runs),
       );
       joins_in_time = λ x s j has wake is runs h.
           let n : DeltaNext = next_on_wake (delta_of_session x.setting s) x.reading (calls_of (seen x) s) in (
             r.joins_in_time x s j has wake is runs h.0,
             alone (carry_delta s n x) x.input (delta (Walks x.input None) (Walks x.input None) Anything NoLook AnyStart AnyMove (walk x.input None) x s n
-            (joining_plain x s n (wake_late (delta_of_session x.setting s) x.reading (calls_of (seen x) s))) (from_busy x h.1)),
+                (joining_plain x s n (wake_late (delta_of_session x.setting s) x.reading (calls_of (seen x) s))) (from_busy x h.1)),
           );
       renews = λ x s has wake joined h.
           let bits : List ℕ = bits_due x.setting (calls_of (seen x) s) x.reading in
           let n : DeltaNext = next_renewal (delta_of_session x.setting s) x.reading (delta_known x.setting (seen x) s) bits in (
             r.renews x s has wake joined h.0,
             alone (carry_delta s n x) x.input (delta (Walks x.input None) (Walks x.input None) Anything NoLook AnyStart AnyMove (walk x.input None) x s n
-            (renewal_plain x s (delta_of_session x.setting s) x.reading (delta_known x.setting (seen x) s) bits) (from_busy x h.1)),
+                (renewal_plain x s (delta_of_session x.setting s) x.reading (delta_known x.setting (seen x) s) bits) (from_busy x h.1)),
           );
       settles = λ x s spot has wake active whole none h.
           let n : LeaseNext = settle_next (lease_place x.setting s) (known x.setting (seen x) s spot) in (
@@ -189,7 +189,7 @@ other_acts_wait asked jobs =
           let n : DeltaNext = next_free (delta_of_session x.setting s) x.reading (delta_known x.setting (seen x) s) in (
             r.frees x s p1 p2 p3 p4 p5 h.0,
             alone (carry_delta s n x) x.input (delta (Walks x.input None) (Walks x.input None) Anything NoLook AnyStart AnyMove (walk x.input None) x s n
-            (free_plain x s (delta_of_session x.setting s) x.reading (delta_known x.setting (seen x) s)) (from_busy x h.1)),
+                (free_plain x s (delta_of_session x.setting s) x.reading (delta_known x.setting (seen x) s)) (from_busy x h.1)),
           );
     } where
       line_rests : JobsAsked → (x : Step) (text : List ℕ) (c : Command) (d : Decision) (j : ℕ) → Kept x → x.input ≡ Wake → x.effects.calls ≡ [] → x.setting.read text ≡ Ok c → decided x.setting (seen x) x.reading c ≡ d → reply_at_once d ≡ None
@@ -240,8 +240,8 @@ answer_acts_wait asked jobs =
           let stays : Stays x (carry_delta s n x) = delta_stays x x s n (itself x) in (
             r.joins_on x s j step m answer hears is runs h.0,
             joined_busy x (carry_delta s n x) i s j (delta (Walks i (Some j)) (Walks i (Some j)) Anything NoLook AnyStart AnyMove (walk i (Some j)) x s n
-            (joining_plain x s n (joining_late (delta_of_session x.setting s) (generation_of (seen x) s) (calls_of (seen x) s) x.reading m step answer)) own) (stays.sessions s (has_heard x s m answer hears))
-            (joining_of x s m j step (both_of x h.0.0.known.0) (find_inside (λ (d : Submitted). d.call.number == hears.number) (submitted (seen x)) m hears.call).0 hears.session is),
+                (joining_plain x s n (joining_late (delta_of_session x.setting s) (generation_of (seen x) s) (calls_of (seen x) s) x.reading m step answer)) own) (stays.sessions s (has_heard x s m answer hears))
+                (joining_of x s m j step (both_of x h.0.0.known.0) (find_inside (λ (d : Submitted). d.call.number == hears.number) (submitted (seen x)) m hears.call).0 hears.session is),
           );
       ends_joining = λ x s j step m answer hears is stops h.
           let i : Input = Told hears.number answer in
@@ -249,29 +249,29 @@ answer_acts_wait asked jobs =
           let stays : Stays x (remove_of_refused s x) = refusal_stays x x s (itself x) in (
             r.ends_joining x s j step m answer hears is stops h.0,
             joined_busy x (remove_of_refused s x) i s j (removal_of_refused (Walks i (Some j)) (Walks i (Some j)) Anything NoLook AnyStart AnyMove (walk i (Some j)) x s tt own) (stays.sessions s (has_heard x s m answer hears))
-            (joining_of x s m j step (both_of x h.0.0.known.0) (find_inside (λ (d : Submitted). d.call.number == hears.number) (submitted (seen x)) m hears.call).0 hears.session is),
+                (joining_of x s m j step (both_of x h.0.0.known.0) (find_inside (λ (d : Submitted). d.call.number == hears.number) (submitted (seen x)) m hears.call).0 hears.session is),
           );
       renewed = λ x s m answer hears is h.
           let i : Input = Told hears.number answer in
           let n : DeltaNext = next_after_renewal (is_some (recovery_of x.setting (seen x) s)) m.reading answer in (
             r.renewed x s m answer hears is h.0,
             alone (carry_delta s n x) i (delta (Walks i None) (Walks i None) Anything NoLook AnyStart AnyMove (walk i None) x s n (renewed_plain x s (is_some (recovery_of x.setting (seen x) s)) m.reading answer)
-            (heard_alone x s m answer None h.0.0.known.0 hears (ap (λ p. job_of p) is) h.1)),
+                (heard_alone x s m answer None h.0.0.known.0 hears (ap (λ p. job_of p) is) h.1)),
           );
       freed = λ x s j m answer hears is h.
           let i : Input = Told hears.number answer in
           let n : DeltaNext = next_after_free j m.call.number answer in (
             r.freed x s j m answer hears is h.0,
             walked (carry_delta s n x) i (Some j) (delta (Walks i (Some j)) (Walks i (Some j)) Anything NoLook AnyStart AnyMove (walk i (Some j)) x s n (freed_plain x s j m.call.number answer)
-            (heard_alone x s m answer (Some j) h.0.0.known.0 hears (ap (λ p. job_of p) is) h.1))
-            (λ k its runs. absurd (not_both (is_running (seen (carry_delta s n x)) k) runs
-            (subst (λ q. is_running (seen (carry_delta s n x)) q ≡ false) (some_value j k its) (freed_stops x s j m.call.number answer (free_written x s j m answer h.0.0.known.0 hears is))))),
+                (heard_alone x s m answer (Some j) h.0.0.known.0 hears (ap (λ p. job_of p) is) h.1))
+                (λ k its runs. absurd (not_both (is_running (seen (carry_delta s n x)) k) runs
+                (subst (λ q. is_running (seen (carry_delta s n x)) q ≡ false) (some_value j k its) (freed_stops x s j m.call.number answer (free_written x s j m answer h.0.0.known.0 hears is))))),
           );
       shown = λ x s m bytes hears is joined begins h.
           let i : Input = Told hears.number (Read bytes) in (
             r.shown x s m bytes hears is joined begins h.0,
             alone (signal_and_refuse s None x) i (stopped (Walks i None) (Walks i None) Anything NoLook AnyStart AnyMove (walk i None) tt x s None (λ z k j there. tt)
-            (heard_alone x s m (Read bytes) None h.0.0.known.0 hears (ap (λ p. job_of p) is) h.1)),
+                (heard_alone x s m (Read bytes) None h.0.0.known.0 hears (ap (λ p. job_of p) is) h.1)),
           );
       sees = λ x s number bytes spot g has input held h. (
         r.sees x s number bytes spot g has input held h.0,
@@ -282,8 +282,8 @@ answer_acts_wait asked jobs =
           let n : LeaseNext = next_of_lease x.setting (seen x) s (spot_of_call x.setting.layout m) aim m step answer in (
             r.leads_on x s work step m answer aim hears is on aims h.0,
             walked (carry_lease s (spot_of_call x.setting.layout m) work n x) i (work_job work) (lease (Walks i (work_job work)) (Walks i (work_job work)) Anything NoLook AnyStart AnyMove (walk i (work_job work)) x s
-            (spot_of_call x.setting.layout m) work n (lease_plain x s (spot_of_call x.setting.layout m) work n) (heard_alone x s m answer (work_job work) h.0.0.known.0 hears (ap (λ p. job_of p) is) h.1))
-            (λ j its runs. jobs.leases x s work step m answer aim j h.0.0 h.0.1 hears is on aims its runs),
+                (spot_of_call x.setting.layout m) work n (lease_plain x s (spot_of_call x.setting.layout m) work n) (heard_alone x s m answer (work_job work) h.0.0.known.0 hears (ap (λ p. job_of p) is) h.1))
+                (λ j its runs. jobs.leases x s work step m answer aim j h.0.0 h.0.1 hears is on aims its runs),
           );
       fails = λ x s m j hears lone runs h.
           (r.fails x s m j hears lone runs h.0, replied_busy x (Told hears.number Failed) j (IoFault m.call.number) (heard_alone x s m Failed (Some j) h.0.0.known.0 hears (lone_is m.call.purpose j lone) h.1));

@@ -1,7 +1,5 @@
 -- Before the first entry all facts hold: there are the given sessions, with their connections, and nothing else.
 use Rattle.sl_due_lawful.specs.Promises.{FactsAtFirst}
-use Rattle.sl_holding_due.proofs.HoldersSpared.{joining}
-use Rattle.sl_job_facts.proofs.EffectsAreAllowed.{delta, left}
 use Rattle.sl_job_facts.proofs.SessionsArePresent.{present_is}
 use Rattle.sl_law.specs.Lawful.{IsSetting}
 use Rattle.sl_law.specs.LawfulWatchdog.{is_covered}

@@ -1,6 +1,5 @@
 -- All that is carried through a step and from entry to entry.
-use Rattle.sl_acts.specs.SoFar.{entry_of}
-use Rattle.sl_due.specs.Steps.{Step, seen}
+use Rattle.sl_due.specs.Steps.{Step}
 use Rattle.sl_grant_due.specs.GrantPromises.{ExitsSoFar}
 use Rattle.sl_holding_due.specs.Moments.{Known}
 use Rattle.sl_job_facts.specs.Promises.{IsQuiet}
