@@ -6,8 +6,9 @@ use Rattle.sl_acts.specs.Plainly.{ByEffects, Plainly}
 use Rattle.sl_due.specs.DueCommands.{carry_decision}
 use Rattle.sl_due.specs.DueFirst.{begin_recoveries}
 use Rattle.sl_due.specs.Steps.{Step, begin_step}
+use Rattle.sl_due_lawful.proofs.CallsAreLawful.{calls_are_lawful}
 use Rattle.sl_due_lawful.specs.Kept.{Kept}
-use Rattle.sl_due_lawful.specs.Promises.{ActsAsked, CallsSoFar, DeltasSoFar}
+use Rattle.sl_due_lawful.specs.Promises.{ActsAsked, DeltasSoFar, LonesSoFar, SpelledSoFar}
 use Rattle.sl_grant_due.proofs.ActiveGrants.{granting_begins, granting_is_lawful}
 use Rattle.sl_grant_due.proofs.EndsAreLawful.{ends_are_lawful, ends_begin}
 use Rattle.sl_grant_due.proofs.ExitsAreLawful.{exits_are_lawful, exits_begin}
@@ -99,7 +100,8 @@ pub record Parts (x : Step) : Type 0 where
   pub grounds : HasGrantGrounds x
   pub numbers : HasNumberFacts x
   pub values : HasValueFacts x
-  pub lawful_calls : CallsSoFar x
+  pub spelled : SpelledSoFar x
+  pub lones : LonesSoFar x
   pub lawful_deltas : DeltasSoFar x
   pub lawful_leases : LeaseLaws x
   pub lawful_modes : ModesSoFar x
@@ -153,11 +155,14 @@ From_lawful_leases x = LeaseLaws x × From_lawful_modes x
 abbrev From_lawful_deltas : Step → Type 0
 From_lawful_deltas x = DeltasSoFar x × From_lawful_leases x
 
-abbrev From_lawful_calls : Step → Type 0
-From_lawful_calls x = CallsSoFar x × From_lawful_deltas x
+abbrev From_lones : Step → Type 0
+From_lones x = LonesSoFar x × From_lawful_deltas x
+
+abbrev From_spelled : Step → Type 0
+From_spelled x = SpelledSoFar x × From_lones x
 
 abbrev From_values : Step → Type 0
-From_values x = HasValueFacts x × From_lawful_calls x
+From_values x = HasValueFacts x × From_spelled x
 
 abbrev From_numbers : Step → Type 0
 From_numbers x = HasNumberFacts x × From_values x
@@ -237,11 +242,14 @@ from_lawful_leases a = both Kept LeaseLaws From_lawful_modes (from_more Whole Ke
 from_lawful_deltas : ActsAsked → Acts Kept From_lawful_deltas
 from_lawful_deltas a = both Kept DeltasSoFar From_lawful_leases (from_more Known Kept DeltasSoFar (λ x k. k.known) a.deltas) (from_lawful_leases a)
 
-from_lawful_calls : ActsAsked → Acts Kept From_lawful_calls
-from_lawful_calls a = both Kept CallsSoFar From_lawful_deltas (from_more Known Kept CallsSoFar (λ x k. k.known) a.calls) (from_lawful_deltas a)
+from_lones : ActsAsked → Acts Kept From_lones
+from_lones a = both Kept LonesSoFar From_lawful_deltas (from_more Known Kept LonesSoFar (λ x k. k.known) a.lones) (from_lawful_deltas a)
+
+from_spelled : ActsAsked → Acts Kept From_spelled
+from_spelled a = both Kept SpelledSoFar From_lones (from_more Known Kept SpelledSoFar (λ x k. k.known) a.spelled) (from_lones a)
 
 from_values : ActsAsked → Acts Kept From_values
-from_values a = both Kept HasValueFacts From_lawful_calls (from_more Known Kept HasValueFacts (λ x k. k.known) value_facts_are_kept) (from_lawful_calls a)
+from_values a = both Kept HasValueFacts From_spelled (from_more Known Kept HasValueFacts (λ x k. k.known) value_facts_are_kept) (from_spelled a)
 
 from_numbers : ActsAsked → Acts Kept From_numbers
 from_numbers a = both Kept HasNumberFacts From_values (from_more Whole Kept HasNumberFacts (λ x k. k.known.0) number_facts_are_kept) (from_values a)
@@ -299,20 +307,21 @@ parts_of x h =
       grounds = h.1.1.1.1.1.1.1.1.1.1.1.0;
       numbers = h.1.1.1.1.1.1.1.1.1.1.1.1.0;
       values = h.1.1.1.1.1.1.1.1.1.1.1.1.1.0;
-      lawful_calls = h.1.1.1.1.1.1.1.1.1.1.1.1.1.1.0;
-      lawful_deltas = h.1.1.1.1.1.1.1.1.1.1.1.1.1.1.1.0;
-      lawful_leases = h.1.1.1.1.1.1.1.1.1.1.1.1.1.1.1.1.0;
-      lawful_modes = h.1.1.1.1.1.1.1.1.1.1.1.1.1.1.1.1.1.0;
-      moved = h.1.1.1.1.1.1.1.1.1.1.1.1.1.1.1.1.1.1.0;
-      lawful_granting = h.1.1.1.1.1.1.1.1.1.1.1.1.1.1.1.1.1.1.1.0;
-      lawful_ends = h.1.1.1.1.1.1.1.1.1.1.1.1.1.1.1.1.1.1.1.1.0;
-      lawful_values = h.1.1.1.1.1.1.1.1.1.1.1.1.1.1.1.1.1.1.1.1.1.0;
-      moment = h.1.1.1.1.1.1.1.1.1.1.1.1.1.1.1.1.1.1.1.1.1.1.0;
-      exits = h.1.1.1.1.1.1.1.1.1.1.1.1.1.1.1.1.1.1.1.1.1.1.1.0;
-      stops = h.1.1.1.1.1.1.1.1.1.1.1.1.1.1.1.1.1.1.1.1.1.1.1.1.0;
-      denies = h.1.1.1.1.1.1.1.1.1.1.1.1.1.1.1.1.1.1.1.1.1.1.1.1.1.0;
-      partings = h.1.1.1.1.1.1.1.1.1.1.1.1.1.1.1.1.1.1.1.1.1.1.1.1.1.1.0;
-      old = h.1.1.1.1.1.1.1.1.1.1.1.1.1.1.1.1.1.1.1.1.1.1.1.1.1.1.1;
+      spelled = h.1.1.1.1.1.1.1.1.1.1.1.1.1.1.0;
+      lones = h.1.1.1.1.1.1.1.1.1.1.1.1.1.1.1.0;
+      lawful_deltas = h.1.1.1.1.1.1.1.1.1.1.1.1.1.1.1.1.0;
+      lawful_leases = h.1.1.1.1.1.1.1.1.1.1.1.1.1.1.1.1.1.0;
+      lawful_modes = h.1.1.1.1.1.1.1.1.1.1.1.1.1.1.1.1.1.1.0;
+      moved = h.1.1.1.1.1.1.1.1.1.1.1.1.1.1.1.1.1.1.1.0;
+      lawful_granting = h.1.1.1.1.1.1.1.1.1.1.1.1.1.1.1.1.1.1.1.1.0;
+      lawful_ends = h.1.1.1.1.1.1.1.1.1.1.1.1.1.1.1.1.1.1.1.1.1.0;
+      lawful_values = h.1.1.1.1.1.1.1.1.1.1.1.1.1.1.1.1.1.1.1.1.1.1.0;
+      moment = h.1.1.1.1.1.1.1.1.1.1.1.1.1.1.1.1.1.1.1.1.1.1.1.0;
+      exits = h.1.1.1.1.1.1.1.1.1.1.1.1.1.1.1.1.1.1.1.1.1.1.1.1.0;
+      stops = h.1.1.1.1.1.1.1.1.1.1.1.1.1.1.1.1.1.1.1.1.1.1.1.1.1.0;
+      denies = h.1.1.1.1.1.1.1.1.1.1.1.1.1.1.1.1.1.1.1.1.1.1.1.1.1.1.0;
+      partings = h.1.1.1.1.1.1.1.1.1.1.1.1.1.1.1.1.1.1.1.1.1.1.1.1.1.1.1.0;
+      old = h.1.1.1.1.1.1.1.1.1.1.1.1.1.1.1.1.1.1.1.1.1.1.1.1.1.1.1.1;
     }
 
 -- ---- put together
@@ -326,7 +335,7 @@ kept_of x h =
           before = h.old.1;
           orderly = record {
             is_trace = (h.follows, h.old.1.orderly.is_trace);
-            calls = (h.lawful_calls, h.old.1.orderly.calls);
+            calls = (calls_are_lawful x h.calls h.delta h.lawful_leases.area h.lawful_deltas h.spelled h.lones, h.old.1.orderly.calls);
             delta = (h.lawful_deltas, h.old.1.orderly.delta);
             area = (h.lawful_leases.area, h.old.1.orderly.area);
             block = (h.lawful_leases.block, h.old.1.orderly.block);
@@ -380,6 +389,12 @@ lease_laws_begin st past e follows w =
       leader = record { writes = λ k c s at its. no_call k c at };
     })
 
+spelled_begins : (st : Setting) (past : Trace) (now : ℕ) → SpelledSoFar (begin_recoveries (begin_step st past now))
+spelled_begins st past now = subst (λ y. SpelledSoFar y) (sym (begun_says st past now).is) (λ c r there is. absurd (contains_none c there))
+
+lones_begin : (st : Setting) (past : Trace) (now : ℕ) → LonesSoFar (begin_recoveries (begin_step st past now))
+lones_begin st past now = subst (λ y. LonesSoFar y) (sym (begun_says st past now).is) (λ k c s at its. no_call k c at)
+
 pub all_begins : ActsAsked → Begins Kept
 all_begins a st past e follows w =
     kept_of (begin_recoveries (begin_step st past e.reading)) (record {
@@ -397,7 +412,8 @@ all_begins a st past e follows w =
       grounds = grant_grounds_begin st past e follows w;
       numbers = number_facts_begin st past e follows w;
       values = value_facts_begin st past e follows w;
-      lawful_calls = a.calls_begin st past e follows w;
+      spelled = spelled_begins st past e.reading;
+      lones = lones_begin st past e.reading;
       lawful_deltas = a.deltas_begin st past e follows w;
       lawful_leases = lease_laws_begin st past e follows w;
       lawful_modes = modes_begin st past e follows w;

@@ -1,4 +1,5 @@
 pub mod AllIsKept
+pub mod CallsAreLawful
 pub mod ActsRest
 pub mod FirstFacts
 pub mod TracesHold

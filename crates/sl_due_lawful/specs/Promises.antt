@@ -12,37 +12,55 @@ use Rattle.sl_holding_due.specs.Moments.{Known}
 use Rattle.sl_holding_due.specs.Promises.{Begins}
 use Rattle.sl_law.specs.Caused.{AnswersWell, IsCaused}
 use Rattle.sl_law.specs.Lawful.{IsSetting, Lawful}
-use Rattle.sl_law.specs.LawfulCalls.{LawfulCalls}
+use Rattle.sl_law.specs.LawfulCalls.{may_submit}
 use Rattle.sl_law.specs.LawfulDelta.{LawfulDelta}
+use Rattle.sl_law.specs.Saying.{EachCall}
 use Rattle.sl_leases.specs.Jobs.{aim_of}
 use Rattle.sl_leases.specs.Leases.{spot_of_call}
 use Rattle.sl_leases.specs.declared.lease.Aim.{Aim}
 use Rattle.sl_recovery_due.specs.Stops.{JustHeard}
-use Rattle.sl_sessions.specs.Sessions.{is_present, session_numbered}
+use Rattle.sl_sector.specs.Records.{IsRecord}
+use Rattle.sl_sector.specs.declared.sector.Rec.{Rec}
+use Rattle.sl_sessions.specs.Sessions.{is_present, session_numbered, stage_of}
 use Rattle.sl_sessions.specs.declared.session.Session.{Session}
 use Rattle.sl_step_facts.specs.Whole.{Facts}
-use Rattle.sl_trace.specs.Traces.{Child, FollowsTrace, Setting, Submitted, Trace, call_numbered, children, is_running, job_of, next_job, work_job}
+use Rattle.sl_trace.specs.Traces.{Child, FollowsTrace, Setting, Submitted, Trace, call_numbered, children, is_running, job_of, next_job, record_of, work_job}
 use Rattle.sl_trace.specs.declared.command.Command.{Command}
+use Rattle.sl_trace.specs.declared.effects.Call.{Call}
 use Rattle.sl_trace.specs.declared.effects.Entry.{Entry}
+use Rattle.sl_trace.specs.declared.effects.JoinStep.TheVariants.{FirstRead}
 use Rattle.sl_trace.specs.declared.effects.LeaseStep.{LeaseStep}
-use Rattle.sl_trace.specs.declared.effects.Purpose.TheVariants.{Lease}
+use Rattle.sl_trace.specs.declared.effects.Purpose.{Purpose}
+use Rattle.sl_trace.specs.declared.effects.Purpose.TheVariants.{Joining, Lease, SeeRequest}
 use Rattle.sl_trace.specs.declared.effects.Work.{Work}
 use Rattle.sl_trace.specs.declared.input.Answer.{Answer}
 use Rattle.sl_trace.specs.declared.input.Input.TheVariants.{Answer as Told, Line, Wake}
-use Rattle.std.specs.Prelude.{Contains, List, None, Ok, Some, [], false, true, ℕ, ◌∷◌, ◌≡◌}
-
-abbrev pub CallsSoFar : Step → Type 0
-CallsSoFar x = LawfulCalls x.setting x.past (entry_of x)
+use Rattle.std.specs.Prelude.{Bool, Contains, IsTrue, List, None, Ok, Some, [], false, true, ℕ, ◌∷◌, ◌≡◌}
 
 abbrev pub DeltasSoFar : Step → Type 0
 DeltasSoFar x = LawfulDelta x.setting x.past (entry_of x)
 
--- What is asked of the acts besides what is shown: the laws of whose a call is, and of delta sectors.
+-- What is written has a spelling.
+abbrev pub SpelledSoFar : Step → Type 0
+SpelledSoFar x = (c : Call) (r : Rec) → Contains x.effects.calls c → record_of c.op ≡ Some r → IsRecord r
+
+-- Whether no other law says that the call's session may call.
+abbrev pub is_lone_read : Purpose → Bool
+is_lone_read (Joining j FirstRead) = true
+is_lone_read SeeRequest = true
+is_lone_read p = false
+
+-- The session of a first read, or of a look at a request, may call.
+abbrev pub LonesSoFar : Step → Type 0
+LonesSoFar x = EachCall x.setting (λ es s c. IsTrue (is_lone_read c.call.purpose) → IsTrue (may_submit (stage_of es s))) x.past (entry_of x)
+
+-- What is asked of the acts besides what is shown: the law of delta sectors; that writes are spelled; and that sessions which read alone may
+-- call.
 pub record ActsAsked : Type 0 where
-  pub calls : Acts Known CallsSoFar
-  pub calls_begin : Begins CallsSoFar
   pub deltas : Acts Known DeltasSoFar
   pub deltas_begin : Begins DeltasSoFar
+  pub spelled : Acts Known SpelledSoFar
+  pub lones : Acts Known LonesSoFar
 
 -- The facts hold before the first entry.
 abbrev pub FactsAtFirst : Type 0
