@@ -7,7 +7,7 @@ use Rattle.sl_acts.specs.SoFar.{entry_of}
 use Rattle.sl_area.specs.Places.{request_offset}
 use Rattle.sl_due.specs.DueAnswers.{set_reply}
 use Rattle.sl_due.specs.DueDelta.{carry_delta, end_leaving, move_connection, survey, write_own_sector}
-use Rattle.sl_due.specs.DueFirst.{begin_recoveries, begin_recovery, begins_now, kills, remove_connection, signal_and_refuse}
+use Rattle.sl_due.specs.DueFirst.{begin_recoveries, begin_recovery, begins_now, remove_connection, signal_and_refuse}
 use Rattle.sl_due.specs.DueInputs.{end_holdings, leave_holdings, refuse_jobs_of, started_reply}
 use Rattle.sl_due.specs.DueLease.{carry_lease, next_of_lease}
 use Rattle.sl_due.specs.DueRequests.{after_value_read, bits_due, value_reply}
@@ -30,7 +30,6 @@ use Rattle.sl_leases.specs.declared.lease.LeaseNext.{LeaseNext}
 use Rattle.sl_parts_law.proofs.JoinedCallsKeepOrder.{joined_is_covered}
 use Rattle.sl_plain.proofs.Lists.{find_fails, find_inside, got_inside, kept_inside}
 use Rattle.sl_plain.proofs.Options.{not_some, some_of, some_there}
-use Rattle.sl_run_law.proofs.Guards.{starts}
 use Rattle.sl_sector.specs.Bitmaps.{no_bits}
 use Rattle.sl_sector.specs.declared.sector.DeltaRec.{DeltaRec}
 use Rattle.sl_sector.specs.declared.sector.DeltaState.TheVariants.{Free, Live}
@@ -81,7 +80,7 @@ use Rattle.sl_trace.specs.declared.input.Answer.{Answer}
 use Rattle.sl_trace.specs.declared.input.Input.TheVariants.{Exit, Number, Spawned, Wake}
 use Rattle.sl_trace.specs.declared.reply.Reply.TheVariants.{BadCommand as Misread, Done, IoFault, IoTimeout, NoProcess, Recovering, SpawnFault}
 use Rattle.sl_trace.specs.declared.reply.Reply.{Reply}
-use Rattle.sl_trace_law.proofs.Sessions.Naming.{named, same_name}
+use Rattle.sl_trace_law.proofs.Sessions.Naming.{same_name}
 use Rattle.sl_trace_law.proofs.Sessions.Staying.{joined_more}
 use Rattle.sl_words.proofs.CaseLaws.{false_is_true, none_some, not_both, one_value}
 use Rattle.sl_words.specs.Words.{choose}
@@ -89,9 +88,9 @@ use Rattle.std.proofs.Common.{ap, ap₂, inl, inr, refl, subst, sym, ◌∙◌}
 use Rattle.std.proofs.lemmas.Bool.{eqb-true}
 use Rattle.std.specs.List.{list_any}
 use Rattle.std.specs.Prelude.{Bool, Contains, List, None, Option, Some, [], false, filter, is_none, is_some, length, not, true, ℕ, ◌&&◌, ◌++◌, ◌+◌, ◌==◌, ◌∷◌, ◌≡◌}
-use Rattle.sl_sessions.specs.Deltas.{delta_known, delta_of_session, delta_record, is_renewal_due, next_after_free, next_after_renewal, next_free, next_in_joining, next_on_wake, next_renewal, own_offset}  --!
-use Rattle.sl_plain.proofs.Numbers.{equal_is_most}  --!
-use Rattle.sl_job_facts.proofs.AnsweredCallsFit.{at, both_of}  --!
+use Rattle.sl_sessions.specs.Deltas.{delta_known, delta_of_session, delta_record, is_renewal_due, next_after_free, next_after_renewal, next_free, next_in_joining, next_on_wake, next_renewal, own_offset}
+use Rattle.sl_plain.proofs.Numbers.{equal_is_most}
+use Rattle.sl_job_facts.proofs.AnsweredCallsFit.{at, both_of}
 
 -- ---- what a delta lease decides of a joined session
 
@@ -244,7 +243,7 @@ lease_connections : (x : Step) (s : Session) (spot : Spot) (work : Work) (n : Le
     → HasConnectionFacts (carry_lease s spot work n x)
 lease_connections x s spot work n has joined after other h =
     lease (During x) HasConnectionFacts (PlainReply x) (PlainCall x) AnyStart NoMove (connections_allow x h.facts.names) x s spot work n
-    (more_lease (NameReply x) (PlainReply x) (NameCall x) (PlainCall x) x s spot work n (λ j r its late_one. (late_one, other j its)) (λ path p o op k. (k.0, joined, k.2))
+    (more_lease (NameReply x) (PlainReply x) (NameCall x) (PlainCall x) x s spot work n (λ j r its late_one. (late_one, other j its)) (λ path p o op other k. (k.0, joined, other))
     (lease_named x x s spot work n has (joined_then (seen x) s joined) after)) (during x h)
 
 stop_connections : (x : Step) (s : Session) → Has x s → is_joined (seen x) s ≡ true → ((r : Reply) → IsLate x r) → Whole x → HasConnectionFacts (signal_and_refuse s None x)
@@ -344,7 +343,7 @@ connection_facts_are_kept =
           let has : Has x s = has_heard x s m (Read bytes) hears in
           let joined : is_joined (seen x) s ≡ true = heard_is_joined x s m (Read bytes) (RequestRead j) h hears is refl in
           requested (During x) HasConnectionFacts (PlainReply x) (PlainCall x) AnyStart NoMove (connections_allow x h.facts.names) x s j bytes c
-          (more_request (NameReply x) (PlainReply x) (NameCall x) (PlainCall x) x s j bytes c (λ r late_one. (late_one, other_heard x s m (Read bytes) j (RequestRead j) h hears is refl refl)) (λ path p o op k. (k.0, joined, k.2))
+          (more_request (NameReply x) (PlainReply x) (NameCall x) (PlainCall x) x s j bytes c (λ r late_one. (late_one, other_heard x s m (Read bytes) j (RequestRead j) h hears is refl refl)) (λ path p o op other k. (k.0, joined, other))
           (request_named x s j bytes c has (joined_then (seen x) s joined))) (during x h);
       tells = λ x s m j bytes hears is runs h. replied_connections x j (value_reply x.setting.layout bytes) (value_late x.setting.layout bytes) (other_heard x s m (Read bytes) j (ValueRead j) h hears is refl refl) h;
       warns = λ x s m bytes g signal hears is held own says h. (sent (During x) HasConnectionFacts (PlainReply x) (PlainCall x) AnyStart NoMove (connections_allow x h.facts.names) tt x g.process signal (during x h)).part;

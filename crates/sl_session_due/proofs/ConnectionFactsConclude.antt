@@ -14,7 +14,6 @@ use Rattle.sl_job_facts.proofs.CallsOfJobsFit.{joining_of}
 use Rattle.sl_job_facts.proofs.CallsStay.{IsLate, calls_stay, is_special, late}
 use Rattle.sl_job_facts.proofs.EffectsAreAllowed.{Allows, delta, lease, removal_of_refused, requested, sent, stopped}
 use Rattle.sl_job_facts.proofs.JobsAreAllowed.{heard_answered, late_on_survey}
-use Rattle.sl_job_facts.proofs.JobsAreNumbered.{finds_none}
 use Rattle.sl_job_facts.proofs.NearlyPlainActs.{AnyMove, AnyStart}
 use Rattle.sl_job_facts.proofs.RepliesComeAfter.{IsLateDelta, IsLateLease, joining_late, lease_late, on_bool, on_option, set_late, value_late}
 use Rattle.sl_job_facts.proofs.SessionsArePresent.{session_has}
@@ -23,12 +22,11 @@ use Rattle.sl_job_facts.proofs.SessionsStand.{recovery_joined}
 use Rattle.sl_job_facts.specs.Promises.{HasCallFacts}
 use Rattle.sl_law.specs.LawfulWatchdog.{is_covered}
 use Rattle.sl_leases.specs.LeaseWork.{lease_place}
-use Rattle.sl_leases.specs.Leases.{freed, holdings_on, known, lver_written, spot_of_call}
+use Rattle.sl_leases.specs.Leases.{holdings_on, known, lver_written, spot_of_call}
 use Rattle.sl_leases.specs.declared.lease.LeaseNext.{LeaseNext}
 use Rattle.sl_plain.proofs.Lists.{any_found, any_of, contains_map, contains_more, find_fails, find_inside, got_inside, kept, kept_inside}
 use Rattle.sl_plain.proofs.Numbers.{number_itself}
 use Rattle.sl_plain.proofs.Options.{some_of, some_there}
-use Rattle.sl_run_law.proofs.Guards.{starts}
 use Rattle.sl_sector.specs.Bitmaps.{no_bits}
 use Rattle.sl_sector.specs.declared.sector.DeltaRec.{DeltaRec}
 use Rattle.sl_sector.specs.declared.sector.DeltaState.TheVariants.{Free}
@@ -85,8 +83,8 @@ use Rattle.std.proofs.Common.{ap, ap₂, inl, inr, refl, subst, sym, ◌∙◌}
 use Rattle.std.proofs.lemmas.Bool.{eqb-true}
 use Rattle.std.specs.List.{list_any}
 use Rattle.std.specs.Prelude.{Bool, Contains, IsTrue, List, None, Option, Some, [], false, filter, fold, if◌then◌else◌, is_none, is_some, length, not, option_and_then, true, ℕ, ◌&&◌, ◌+◌, ◌<◌, ◌==◌, ◌||◌, ◌∷◌, ◌≡◌, ◌⊎◌}
-use Rattle.sl_sessions.specs.Deltas.{delta_known, delta_of_session, delta_record, is_renewal_due, next_after_free, next_after_renewal, next_free, next_in_joining, next_on_wake, next_renewal, own_offset}  --!
-use Rattle.sl_job_facts.proofs.AnsweredCallsFit.{at, both_of}  --!
+use Rattle.sl_sessions.specs.Deltas.{delta_known, delta_of_session, delta_record, next_after_free, next_after_renewal, next_free, next_in_joining, own_offset}
+use Rattle.sl_job_facts.proofs.AnsweredCallsFit.{at, both_of}
 
 -- ---- what an act leaves of calls and sessions
 
@@ -165,7 +163,7 @@ heard_for x y n answer s z m told found session f g there w =
     }
 
 -- A heard call that is none of a joining: its session was joined before.
-joined_then_by : (x : Step) (s : Session) (m : Submitted) (answer : Answer) → Whole x → Hears x s m answer → is_joining m.call.purpose ≡ false → is_some (joined_after x.past s) ≡ true
+pub joined_then_by : (x : Step) (s : Session) (m : Submitted) (answer : Answer) → Whole x → Hears x s m answer → is_joining m.call.purpose ≡ false → is_some (joined_after x.past s) ≡ true
 joined_then_by x s m answer h hears other =
     let d = heard_before x s m answer h hears in
     let same = (same_answered x.past (entry_of x) hears.number answer d.0).call in

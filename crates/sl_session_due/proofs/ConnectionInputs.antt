@@ -41,7 +41,6 @@ use Rattle.sl_trace.specs.declared.input.Answer.{Answer}
 use Rattle.sl_trace.specs.declared.input.Input.TheVariants.{Answer as Told, Exit, Line, Number, Spawned, Wake}
 use Rattle.sl_trace.specs.declared.input.Input.{Input}
 use Rattle.sl_trace_law.proofs.Sessions.Making.{SameCall, same_answered}
-use Rattle.sl_trace_law.proofs.Sessions.Naming.{named}
 use Rattle.sl_trace_law.specs.Sessions.Promises.{front_of, made_as}
 use Rattle.sl_words.proofs.CaseLaws.{false_is_true, none_some, not_both, some_value, true_is_false}
 use Rattle.sl_words.specs.Words.{some_is}
@@ -49,7 +48,7 @@ use Rattle.std.proofs.Common.{ap, arith, inl, inr, refl, subst, sym, ◌∙◌}
 use Rattle.std.proofs.lemmas.Bool.{eqb-true}
 use Rattle.std.specs.Option.{option_or}
 use Rattle.std.specs.Prelude.{Bool, Contains, List, None, Option, Some, [], false, find, is_none, is_some, map, slice_get, true, ℕ, ◌+◌, ◌==◌, ◌∷◌, ◌≡◌, ◌≤◌, ◌⊎◌}
-use Rattle.sl_run_law.proofs.Watchdog.Readings.{Counts, NextRenewal, Stays, next_renewal, told}  --!
+use Rattle.sl_run_law.proofs.Watchdog.Readings.{Counts, NextRenewal, Stays, next_renewal, told}
 
 -- ---- inputs that answer no call
 

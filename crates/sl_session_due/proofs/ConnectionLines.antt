@@ -36,7 +36,7 @@ use Rattle.sl_session_due.proofs.OtherJobs.{other_of_session}
 use Rattle.sl_session_due.proofs.SessionParts.{SameSession, covered_at_work, covered_present, present_of, same_covered, same_present, unjoined_not}
 use Rattle.sl_session_due.specs.Promises.{HasConnectionFacts}
 use Rattle.sl_session_facts.proofs.NameActs.{running_unrefused}
-use Rattle.sl_session_facts.proofs.NamesAreAllowed.{Holds, NameCall, NameReply, decision_named}
+use Rattle.sl_session_facts.proofs.NamesAreAllowed.{Holds, NameCall, NameReply, decision_named, is_joining}
 use Rattle.sl_session_facts.proofs.NamesAtEnd.{running_unjoined}
 use Rattle.sl_session_facts.proofs.NamesGrow.{input_names, input_present}
 use Rattle.sl_session_facts.specs.Promises.{HasNameFacts}
@@ -48,7 +48,6 @@ use Rattle.sl_step_facts.specs.Whole.{Whole}
 use Rattle.sl_time.specs.Times.{fail}
 use Rattle.sl_trace.specs.Connections.{Connection, is_registered, last_registering}
 use Rattle.sl_trace.specs.Traces.{Job, Setting, Submitted, Trace, is_running, is_write, job_numbered, jobs, new_call, next_call, next_job, running_jobs, submitted, unanswered}
-use Rattle.sl_trace.specs.contracts.effects.PurposePartialEq.TheImpl.{ghosts as purpose}
 use Rattle.sl_trace.specs.declared.command.Command.TheVariants.{AddLockspace}
 use Rattle.sl_trace.specs.declared.command.Command.{Command}
 use Rattle.sl_trace.specs.declared.command.LockspaceArg.{LockspaceArg}
@@ -233,18 +232,18 @@ pub active_is_joined : (st : Setting) (t : Trace) (s : Session) → is_active st
 active_is_joined st t s is = (and_true (is_joined t s) (is_none (recovery_of st t s)) (and_true (is_joined t s && is_none (recovery_of st t s)) (is_none (leaving_job st t s)) is).0).0
 
 pub carried_calls : (x : Step) (text : List ℕ) (c : Command) (d : Decision) → DecisionFits x.setting (seen x) c d
-    → Of (λ s. (path : List ℕ) (p : Purpose) (o : ℕ) (op : Op) → NameCall (with_input (Line text) x) s path p o op → PlainCall (with_input (Line text) x) s path p o op) d
+    → Of (λ s. (path : List ℕ) (p : Purpose) (o : ℕ) (op : Op) → is_joining p ≡ false → NameCall (with_input (Line text) x) s path p o op → PlainCall (with_input (Line text) x) s path p o op) d
 carried_calls x text c (Replies r) f = tt
 carried_calls x text c (Joins n a) f = tt
-carried_calls x text c (Leaves s) f = λ path p o op k. (k.0, active_is_joined x.setting (seen x) s f.0, k.2)
-carried_calls x text c (ReadsArea s r) f = λ path p o op k. (k.0, active_is_joined x.setting (seen x) s f.0, k.2)
-carried_calls x text c (Shares s lver) f = λ path p o op k. (k.0, active_is_joined x.setting (seen x) s f.0, k.2)
-carried_calls x text c (GivesUp s g) f = λ path p o op k. (k.0, active_is_joined x.setting (seen x) s f.0, k.2)
-carried_calls x text c (TakesOver s g) f = λ path p o op k. (k.0, active_is_joined x.setting (seen x) s f.0, k.2)
-carried_calls x text c (ConvertsTo s r mode) f = λ path p o op k. (k.0, active_is_joined x.setting (seen x) s f.0, k.2)
-carried_calls x text c (Requests s r) f = λ path p o op k. (k.0, active_is_joined x.setting (seen x) s f.0, k.2)
-carried_calls x text c (SetsValue s spot v) f = λ path p o op k. (k.0, active_is_joined x.setting (seen x) s f.0, k.2)
-carried_calls x text c (GetsValue s spot) f = λ path p o op k. (k.0, active_is_joined x.setting (seen x) s f.0, k.2)
+carried_calls x text c (Leaves s) f = λ path p o op other k. (k.0, active_is_joined x.setting (seen x) s f.0, other)
+carried_calls x text c (ReadsArea s r) f = λ path p o op other k. (k.0, active_is_joined x.setting (seen x) s f.0, other)
+carried_calls x text c (Shares s lver) f = λ path p o op other k. (k.0, active_is_joined x.setting (seen x) s f.0, other)
+carried_calls x text c (GivesUp s g) f = λ path p o op other k. (k.0, active_is_joined x.setting (seen x) s f.0, other)
+carried_calls x text c (TakesOver s g) f = λ path p o op other k. (k.0, active_is_joined x.setting (seen x) s f.0, other)
+carried_calls x text c (ConvertsTo s r mode) f = λ path p o op other k. (k.0, active_is_joined x.setting (seen x) s f.0, other)
+carried_calls x text c (Requests s r) f = λ path p o op other k. (k.0, active_is_joined x.setting (seen x) s f.0, other)
+carried_calls x text c (SetsValue s spot v) f = λ path p o op other k. (k.0, active_is_joined x.setting (seen x) s f.0, other)
+carried_calls x text c (GetsValue s spot) f = λ path p o op other k. (k.0, active_is_joined x.setting (seen x) s f.0, other)
 
 pub carried_connections : (x : Step) (text : List ℕ) (c : Command) (d : Decision) → Whole x → x.input ≡ Wake → x.effects.calls ≡ [] → x.setting.read text ≡ Ok c → decided x.setting (seen x) x.reading c ≡ d
     → HasConnectionFacts (carry_decision (next_job x.setting (seen x)) c d (with_input (Line text) x))

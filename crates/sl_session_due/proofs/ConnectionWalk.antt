@@ -11,25 +11,24 @@ use Rattle.sl_law.specs.LawfulWatchdog.{is_covered}
 use Rattle.sl_parts_law.proofs.JoinedCallsKeepOrder.{joined_is_covered}
 use Rattle.sl_plain.proofs.Lists.{got_inside}
 use Rattle.sl_plain.proofs.Options.{some_there}
-use Rattle.sl_run_law.proofs.Guards.{starts}
-use Rattle.sl_run_law.proofs.Landing.Owning.{running}
 use Rattle.sl_session_due.proofs.ConnectionEffects.{IsOtherJob, alters_call, alters_nothing, reply_connections}
 use Rattle.sl_session_due.proofs.ConnectionsChange.{IsAlone, altered_still}
 use Rattle.sl_session_due.specs.Promises.{HasConnectionFacts}
-use Rattle.sl_session_facts.proofs.DeltaFactsAreKept.{part}
 use Rattle.sl_session_facts.proofs.NameEffects.{reply_joins_more, reply_present}
-use Rattle.sl_session_facts.proofs.NamesAreAllowed.{joined_unrefused}
+use Rattle.sl_session_facts.proofs.NamesAreAllowed.{is_joining, joined_unrefused}
 use Rattle.sl_sessions.specs.Sessions.{is_join_call, is_joined, is_present, joined_after, removed_after, sessions}
 use Rattle.sl_sessions.specs.declared.session.Session.{Session}
 use Rattle.sl_step_facts.specs.Heard.{heard_by}
 use Rattle.sl_step_facts.specs.SessionFacts.{ConnectionFacts, NameFacts}
 use Rattle.sl_trace.specs.Traces.{Submitted, is_before_input, is_running, job_of, jobs, submitted}
-use Rattle.sl_trace.specs.contracts.input.InputPartialEq.TheImpl.{ghosts as input}
 use Rattle.sl_trace.specs.declared.effects.JoinStep.TheVariants.{FirstRead}
+use Rattle.sl_trace.specs.declared.effects.JoinStep.{JoinStep}
 use Rattle.sl_trace.specs.declared.effects.Move.{Move}
 use Rattle.sl_trace.specs.declared.effects.Op.{Op}
+use Rattle.sl_trace.specs.declared.effects.Purpose.TheVariants.{Joining, Lease, Leaving, Renewal, RequestRead, RequestWrite, SeeRequest, Survey, ValueRead, ValueWrite}
 use Rattle.sl_trace.specs.declared.effects.Purpose.{Purpose}
 use Rattle.sl_trace.specs.declared.reply.Reply.{Reply}
+use Rattle.sl_words.proofs.CaseLaws.{true_is_false}
 use Rattle.sl_words.proofs.WordLaws.{and_true}
 use Rattle.std.proofs.Common.{ap, ap₂, inl, inr, refl, subst, sym, ◌∙◌}
 use Rattle.std.specs.Prelude.{Contains, List, None, Option, Some, false, is_none, is_some, slice_get, true, ℕ, ◌&&◌, ◌==◌, ◌≡◌, ◌⊎◌}
@@ -53,7 +52,20 @@ abbrev pub PlainReply : Step → ℕ → Reply → Type 0
 PlainReply x j r = IsLate x r × IsOtherJob x j
 
 abbrev pub PlainCall : Step → Session → List ℕ → Purpose → ℕ → Op → Type 0
-PlainCall x s path p o op = Has x s × (is_joined (seen x) s ≡ true) × (is_join_call FirstRead p ≡ false)
+PlainCall x s path p o op = Has x s × (is_joined (seen x) s ≡ true) × (is_joining p ≡ false)
+
+-- It is no step of a joining.
+pub no_step : (p : Purpose) (step : JoinStep) → is_joining p ≡ false → is_join_call step p ≡ false
+no_step (Joining j at) step is = absurd (true_is_false is)
+no_step Renewal step is = refl
+no_step Survey step is = refl
+no_step (Leaving j) step is = refl
+no_step (Lease work at) step is = refl
+no_step (RequestRead j) step is = refl
+no_step (RequestWrite j owner) step is = refl
+no_step SeeRequest step is = refl
+no_step (ValueWrite j) step is = refl
+no_step (ValueRead j) step is = refl
 
 abbrev pub NoMove : Move → Type 0
 NoMove m = ⊥
@@ -110,6 +122,6 @@ connections_allow x names =
       calls = λ y s path p o op may h.
           let has : Has y s = subst (λ ss. slice_get ss s.number ≡ Some s) (sym h.all) may.0 in
           let mine : Contains (sessions x.setting (seen x)) s = got_inside (sessions x.setting (seen x)) s.number s may.0 in
-          joined_call (heard_by y.input) y s path p o op has (h.joined s may.1) may.2 (alone_during x y s h (alone_of x s names mine (joined_present (seen x) s may.1))) h.part;
+          joined_call (heard_by y.input) y s path p o op has (h.joined s may.1) (no_step p FirstRead may.2) (alone_during x y s h (alone_of x s names mine (joined_present (seen x) s may.1))) h.part;
       rest = λ y h. h.part;
     }

@@ -10,7 +10,6 @@ use Rattle.sl_step_facts.specs.SessionFacts.{ConnectionFacts, IsHeardWriter}
 use Rattle.sl_time.specs.Times.{fail}
 use Rattle.sl_trace.specs.Connections.{Connection, is_registered, last_registering}
 use Rattle.sl_trace.specs.Traces.{Setting, Submitted, Trace, is_write}
-use Rattle.sl_trace_law.proofs.Sessions.Naming.{named}
 use Rattle.sl_words.proofs.CaseLaws.{none_some, not_both}
 use Rattle.std.proofs.Common.{ap, inl, inr, refl, subst, sym, ◌∙◌}
 use Rattle.std.proofs.lemmas.Slice.Eq.{bytes_eq-Decides}

@@ -3,9 +3,8 @@ use Rattle.sl_acts.proofs.Additions.{not_is}
 use Rattle.sl_acts.proofs.InputsKeep.{has_heard}
 use Rattle.sl_acts.specs.Acts.{Has, Hears}
 use Rattle.sl_area.specs.Layouts.{record_in, sector_with}
-use Rattle.sl_due.specs.DueCommands.{decided}
 use Rattle.sl_due.specs.Steps.{Step, seen}
-use Rattle.sl_job_facts.proofs.EffectsAreAllowed.{DeltaAllowed, delta}
+use Rattle.sl_job_facts.proofs.EffectsAreAllowed.{DeltaAllowed}
 use Rattle.sl_job_facts.proofs.JobsAreAllowed.{heard_answered}
 use Rattle.sl_job_facts.proofs.NearlyPlainActs.{AnyMove}
 use Rattle.sl_law.specs.LawfulCalls.{may_submit}
@@ -59,8 +58,8 @@ use Rattle.std.proofs.Common.{ap, ap₂, refl, subst, sym, ◌∙◌}
 use Rattle.std.proofs.lemmas.Slice.Eq.{bytes_eq-Decides}
 use Rattle.std.specs.List.{list_any}
 use Rattle.std.specs.Prelude.{Bool, Contains, List, None, Option, Some, [], bytes_eq, false, if◌then◌else◌, is_none, is_some, nat_le, not, option_and_then, option_map, true, unwrap_or, ℕ, ◌&&◌, ◌+◌, ◌==◌, ◌∷◌, ◌≡◌}
-use Rattle.sl_session_due.specs.DeltaCalls.{DeltaLawful, next_made, own_read, own_write, survey_read} --!
-use Rattle.sl_sessions.specs.Deltas.{claim_of, claim_on, delta_known, delta_of_session, delta_record, is_renewal_due, next_after_deciding, next_after_free, next_after_renewal, next_after_verify, next_free, next_in_joining, next_in_watch, next_on_wake, next_renewal, own_offset, has_seq_left, id_held, id_lost, watched} --!
+use Rattle.sl_session_due.specs.DeltaCalls.{DeltaLawful, own_write}
+use Rattle.sl_sessions.specs.Deltas.{claim_of, claim_on, delta_known, delta_of_session, delta_record, is_renewal_due, next_after_deciding, next_after_verify, next_free, next_renewal, own_offset, has_seq_left, id_held, id_lost, watched}
 
 -- ---- what every write of the own sector keeps to
 
@@ -194,7 +193,7 @@ working_stage x s j step m ms w are is =
     ∙ stage_newest x s j step m ms are is
 
 -- What the heard read gave.
-heard_gave : (x : Step) (s : Session) (m : Submitted) (bytes : List ℕ) → Whole x → Hears x s m (Read bytes) → gave m ≡ Some bytes
+pub heard_gave : (x : Step) (s : Session) (m : Submitted) (bytes : List ℕ) → Whole x → Hears x s m (Read bytes) → gave m ≡ Some bytes
 heard_gave x s m bytes h hears = by m.answer refl where
   by : (o : Option Answered) → m.answer ≡ o → gave m ≡ Some bytes
   by None is = absurd (heard_answered x s m (Read bytes) hears is)

@@ -14,7 +14,6 @@ use Rattle.sl_law.specs.Saying.{cut_at}
 use Rattle.sl_plain.proofs.Lists.{any_found, contains_cases, contains_first, contains_none, got_inside, in_map, kept, kept_inside}
 use Rattle.sl_plain.proofs.Numbers.{number_itself}
 use Rattle.sl_plain.proofs.Options.{none_is}
-use Rattle.sl_run_law.proofs.Walking.{reads}
 use Rattle.sl_run_law.proofs.Watchdog.Finding.{open_delta}
 use Rattle.sl_session_due.proofs.ConnectionEffects.{move_same}
 use Rattle.sl_session_due.proofs.ConnectionFactsAreKept.{heard_is_joined}
@@ -62,10 +61,10 @@ use Rattle.std.proofs.Common.{ap, ap₂, inl, inr, refl, subst, sym, ◌∙◌}
 use Rattle.std.specs.List.{list_any}
 use Rattle.std.specs.Option.{option_or}
 use Rattle.std.specs.Prelude.{Bool, Contains, List, None, Option, Some, [], cond, false, filter, if◌then◌else◌, is_none, is_some, length, nat_le, nat_lt, slice_get, suc, true, ℕ, ◌&&◌, ◌+◌, ◌==◌, ◌∷◌, ◌≡◌, ◌⊎◌}
-use Rattle.std.proofs.lemmas.Bool.{eqb-true, leb-true, ltb-false} --!
-use Rattle.sl_session_due.proofs.MovesAreKept.{answered_before, unjoined_before, unrefused_before, woken_inside} --!
-use Rattle.sl_session_due.specs.DeltaCalls.{DeltaLawful, next_made, own_read, own_write, survey_read} --!
-use Rattle.sl_sessions.specs.Deltas.{claim_of, claim_on, delta_known, delta_of_session, delta_record, is_renewal_due, next_after_claim, next_after_deciding, next_after_free, next_after_renewal, next_after_verify, next_by_time, next_free, next_in_joining, next_in_watch, next_on_wake, next_renewal, own_offset, has_seq_left, id_held, id_lost, watched, join_step_of} --!
+use Rattle.std.proofs.lemmas.Bool.{eqb-true, leb-true, ltb-false}
+use Rattle.sl_session_due.proofs.MovesAreKept.{answered_before, unjoined_before, unrefused_before, woken_inside}
+use Rattle.sl_session_due.specs.DeltaCalls.{DeltaLawful, own_read, survey_read}
+use Rattle.sl_sessions.specs.Deltas.{delta_of_session, next_after_claim}
 
 -- ---- one call on a delta sector is open
 
@@ -156,9 +155,9 @@ heard_delta x s m answer h hears delta = is_false (has_open_delta (seen x) s) (�
           not_both (d.0.call.number == n) (ap (λ k. k == n) (number ∙ before.1.number) ∙ number_itself n) other
       opened true o its is none =
           none_kept o (sym (ap (λ b. (elim b as (λ z. Submitted) [ false ↦ d.0 | true ↦ record d.0 { answer = option_or d.0.answer (Some (answer_of x.past (entry_of x) answer d.0.call)) } ]).answer) its ∙ ap (λ q. option_or q (Some (answer_of x.past (entry_of x) answer d.0.call))) is) ∙ none) where
-        none_kept : (q : Option Answered) → option_or q (Some (answer_of x.past (entry_of x) answer d.0.call)) ≡ None → ⊥
-        none_kept None k = none_some (answer_of x.past (entry_of x) answer d.0.call) (sym k)
-        none_kept (Some a) k = none_some a (sym k)
+            none_kept : (q : Option Answered) → option_or q (Some (answer_of x.past (entry_of x) answer d.0.call)) ≡ None → ⊥
+            none_kept None k = none_some (answer_of x.past (entry_of x) answer d.0.call) (sym k)
+            none_kept (Some a) k = none_some a (sym k)
 
 -- ---- a read of all ids
 
@@ -211,8 +210,12 @@ rested_quiet x s j m ms a w are is =
 pub watches_are_lawful : (x : Step) (s : Session) (j : ℕ) (step : JoinStep) (m : Submitted) (ms : List Submitted) (a : Answered) → Working x s j → calls_of (seen x) s ≡ m ∷ ms → m.answer ≡ Some a → m.call.purpose ≡ Joining j step → (step ≡ FirstRead) ⊎ (step ≡ WatchRead)
     → DeltaLawful x.setting (seen x) s (own_read x s (Joining j WatchRead))
 watches_are_lawful x s j step m ms a w are is for which =
-    record { alive = ap (λ q. may_submit q) stage; delta = record { reads = refl; looking = stage }; placed = λ p. on_own x.setting s;
-    alone = λ p. ap (λ ks. list_any (λ (k : Submitted). is_delta_purpose k.call.purpose) ks) (rested_quiet x s j m ms a w are is) } where
+    record {
+      alive = ap (λ q. may_submit q) stage;
+      delta = record { reads = refl; looking = stage };
+      placed = λ p. on_own x.setting s;
+      alone = λ p. ap (λ ks. list_any (λ (k : Submitted). is_delta_purpose k.call.purpose) ks) (rested_quiet x s j m ms a w are is);
+    } where
       stage : stage_of (seen x) s ≡ Looking
       stage = working_stage x s j step m ms w are for ∙ by which where
         by : (step ≡ FirstRead) ⊎ (step ≡ WatchRead) → stage_after step (is_answered_ok m) ≡ Looking

@@ -1,18 +1,15 @@
 -- The call whose answer was heard: it was open before, it is the newest of a joining, and a renewal among them counts.
-use Rattle.sl_acts.proofs.EffectsKeep.{reading}
 use Rattle.sl_acts.proofs.InputsKeep.{has_heard}
 use Rattle.sl_acts.specs.Acts.{Hears}
 use Rattle.sl_acts.specs.SoFar.{entry_of}
 use Rattle.sl_due.specs.Steps.{Step, seen, with_input}
-use Rattle.sl_job_facts.proofs.AnsweredCallsFit.{at}
 use Rattle.sl_job_facts.proofs.CallsHaveFacts.{calls_before, find_mapped, sessions_bare}
 use Rattle.sl_job_facts.proofs.CallsOfJobsFit.{list_all_inside}
 use Rattle.sl_job_facts.proofs.JobsAreAllowed.{calls_heard, heard_answered}
 use Rattle.sl_job_facts.proofs.SessionsStand.{recovery_joined}
 use Rattle.sl_plain.proofs.Lists.{any_found, contains_cases, contains_map, contains_none, kept, kept_inside}
 use Rattle.sl_plain.proofs.Options.{mapped_value, none_is, some_there}
-use Rattle.sl_sector.proofs.Comparing.{last}
-use Rattle.sl_session_facts.proofs.NameFactsConclude.{fitting, heard_answer}
+use Rattle.sl_session_facts.proofs.NameFactsConclude.{heard_answer}
 use Rattle.sl_session_facts.proofs.NamesAreAllowed.{heard_mine}
 use Rattle.sl_session_facts.proofs.NamesGrow.{calls_of_told}
 use Rattle.sl_sessions.specs.Sessions.{calls_of, is_call_of, is_joined, is_renewal, joined_after, last_renewal, recovers, recovery_of, renewed_by, renewing, session_numbered, shows_other}

@@ -4,7 +4,6 @@ use Rattle.sl_acts.specs.Acts.{Has, Hears}
 use Rattle.sl_acts.specs.SoFar.{SoFar, entry_of}
 use Rattle.sl_due.specs.DueFirst.{refuse, remove_connection, remove_of_refused}
 use Rattle.sl_due.specs.Steps.{Step, add_move, add_reply, seen, when, with_input, with_some}
-use Rattle.sl_job_facts.proofs.AnsweredCallsFit.{at}
 use Rattle.sl_job_facts.proofs.CallsHaveFacts.{calls_before}
 use Rattle.sl_job_facts.proofs.CallsStay.{IsLate, calls_stay}
 use Rattle.sl_job_facts.proofs.JobsAreAllowed.{calls_heard}
@@ -29,7 +28,6 @@ use Rattle.sl_step_facts.specs.Heard.{IsOpen, heard_by}
 use Rattle.sl_step_facts.specs.SessionFacts.{NameFacts}
 use Rattle.sl_trace.specs.Connections.{is_registered}
 use Rattle.sl_trace.specs.Traces.{Replied, Submitted, answer_of, answered_in, is_running, is_write, reply_to, submitted, unanswered}
-use Rattle.sl_trace.specs.contracts.reply.ReplyPartialEq.TheImpl.{ghosts as reply}
 use Rattle.sl_trace.specs.declared.effects.Call.{Call}
 use Rattle.sl_trace.specs.declared.effects.Move.TheVariants.{Unregister}
 use Rattle.sl_trace.specs.declared.input.Answer.{Answer}

@@ -31,7 +31,7 @@ use Rattle.sl_sessions.specs.declared.session.Session.{Session}
 use Rattle.sl_sessions.specs.declared.stage.Stage.TheVariants.{Waiting}
 use Rattle.sl_step_facts.specs.Heard.{heard_by}
 use Rattle.sl_step_facts.specs.Whole.{Whole}
-use Rattle.sl_time.specs.Times.{fail, gone}
+use Rattle.sl_time.specs.Times.{fail}
 use Rattle.sl_trace.specs.Connections.{is_registered, registers, unregisters}
 use Rattle.sl_trace.specs.Traces.{Submitted, is_running, is_write, unanswered}
 use Rattle.sl_trace.specs.declared.effects.JoinStep.TheVariants.{ClaimWrite, FirstRead, FirstRenewal, WatchRead}
@@ -52,8 +52,8 @@ use Rattle.std.proofs.lemmas.Bool.{eqb-true}
 use Rattle.std.proofs.lemmas.Slice.Eq.{bytes_eq-Decides}
 use Rattle.std.specs.List.{list_any}
 use Rattle.std.specs.Prelude.{Bool, Contains, List, None, Option, Some, [], bytes_eq, false, filter, is_none, is_some, not, true, ℕ, ◌&&◌, ◌++◌, ◌+◌, ◌==◌, ◌||◌, ◌∷◌, ◌≡◌, ◌⊎◌}
-use Rattle.sl_session_due.specs.MovedSoFar.{IsClosed, MovedSoFar}  --!
-use Rattle.sl_sessions.specs.Deltas.{delta_known, delta_of_session, delta_record, is_renewal_due, next_after_free, next_after_renewal, next_free, next_in_joining, next_on_wake, next_renewal, own_offset}  --!
+use Rattle.sl_session_due.specs.MovedSoFar.{IsClosed, MovedSoFar}
+use Rattle.sl_sessions.specs.Deltas.{own_offset}
 
 -- ---- one move more
 

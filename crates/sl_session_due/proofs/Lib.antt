@@ -14,6 +14,7 @@ pub mod ConnectionLines
 pub mod ConnectionFactsAreKept
 pub mod ConnectionFactsConclude
 pub mod SteadyActs
+pub mod StepsBeginSteady
 pub mod MovesAltered
 pub mod JoiningMoves
 pub mod MovesAreKept
@@ -21,3 +22,7 @@ pub mod WatchdogIsLawful
 pub mod DeltaCallsAreLawful
 pub mod DeltaReadsAreLawful
 pub mod WatchFactsAreKept
+pub mod WatchFactsConclude
+pub mod LooksAreLawful
+pub mod DeltaPromises
+pub mod JoinsAreLawful

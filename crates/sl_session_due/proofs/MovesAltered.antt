@@ -1,5 +1,5 @@
 -- What the moves of an entry so far say is kept by acts of one session, and by those that move nothing.
-use Rattle.sl_session_due.specs.MovedSoFar.{IsClosed, MovedSoFar}  --!
+use Rattle.sl_session_due.specs.MovedSoFar.{IsClosed, MovedSoFar}
 use Rattle.sl_acts.specs.SoFar.{SoFar, entry_of}
 use Rattle.sl_due.specs.Steps.{Step, seen, with_input}
 use Rattle.sl_job_facts.proofs.SessionsArePresent.{joined_present, present_inside, session_has}
@@ -17,7 +17,6 @@ use Rattle.sl_sessions.specs.declared.session.Session.{Session}
 use Rattle.sl_sessions.specs.declared.stage.Stage.TheVariants.{Waiting}
 use Rattle.sl_step_facts.specs.Heard.{IsOpen, heard_by}
 use Rattle.sl_step_facts.specs.SessionFacts.{NameFacts}
-use Rattle.sl_time.specs.Times.{gone}
 use Rattle.sl_trace.specs.Connections.{registers, unregisters}
 use Rattle.sl_trace.specs.Traces.{Submitted, is_write, unanswered}
 use Rattle.sl_trace.specs.declared.input.Input.TheVariants.{Wake}

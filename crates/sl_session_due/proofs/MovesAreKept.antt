@@ -1,29 +1,24 @@
 -- What the moves of an entry so far say is kept by each act, and holds once a step has begun.
+use Rattle.sl_session_due.proofs.StepsBeginSteady.{begins_steady}
 use Rattle.sl_acts.proofs.Additions.{contains_at}
 use Rattle.sl_acts.proofs.InputsKeep.{has_heard}
-use Rattle.sl_acts.proofs.LoopsKeep.{for_each_keeps, when_keeps}
 use Rattle.sl_acts.specs.Acts.{Acts, Has, Hears}
 use Rattle.sl_acts.specs.SoFar.{SoFar, entry_of}
 use Rattle.sl_area.specs.Places.{delta_offset}
 use Rattle.sl_due.specs.DueCommands.{carry_decision}
 use Rattle.sl_due.specs.DueDelta.{carry_delta, end_leaving, move_connection, survey}
-use Rattle.sl_due.specs.DueFirst.{begin_recoveries, begin_recovery, begins_now, remove_connection, remove_of_refused, signal_and_refuse}
+use Rattle.sl_due.specs.DueFirst.{begin_recoveries, remove_connection, remove_of_refused}
 use Rattle.sl_due.specs.Steps.{Step, add_call_of, add_move, add_reply, begin_step, seen, when, with_input}
 use Rattle.sl_due.specs.declared.decision.Decision.TheVariants.{Joins}
 use Rattle.sl_job_facts.proofs.CallsHaveFacts.{more_is_other, sessions_bare, timely}
 use Rattle.sl_job_facts.proofs.CallsStay.{IsLate, late}
-use Rattle.sl_job_facts.proofs.EffectsAreAllowed.{stopped}
-use Rattle.sl_job_facts.proofs.JobFactsBegin.{both_wake}
-use Rattle.sl_job_facts.proofs.JobFactsGrow.{Both}
 use Rattle.sl_job_facts.proofs.JobsAreAllowed.{calls_heard, heard_answered, late_on_wake}
-use Rattle.sl_job_facts.proofs.NearlyPlainActs.{AnyStart}
 use Rattle.sl_job_facts.proofs.RepliesComeAfter.{on_bool}
-use Rattle.sl_job_facts.proofs.SessionsArePresent.{joined_present, present_is, session_has}
+use Rattle.sl_job_facts.proofs.SessionsArePresent.{joined_present}
 use Rattle.sl_job_facts.proofs.SessionsHaveJobs.{contains_either}
 use Rattle.sl_job_facts.proofs.SessionsStand.{joined_then, leaving_joined, recovery_joined}
 use Rattle.sl_job_facts.specs.Promises.{BeginsWith}
 use Rattle.sl_law.specs.LawfulWatchdog.{is_covered}
-use Rattle.sl_leases.specs.Leases.{freed}
 use Rattle.sl_parts_law.proofs.CallsGrow.{any_more, others_stay}
 use Rattle.sl_parts_law.proofs.JoinedCallsKeepOrder.{joined_is_covered}
 use Rattle.sl_plain.proofs.Lists.{any_found, contains_first, contains_map, contains_none, find_fails, find_inside, got_inside, head_is, in_map, kept_inside}
@@ -31,24 +26,20 @@ use Rattle.sl_plain.proofs.Options.{none_is, some_of, some_there}
 use Rattle.sl_session_due.proofs.ConnectionEffects.{IsOtherJob, alters_call, alters_move, alters_nothing, move_same, removes_own, renews_own}
 use Rattle.sl_session_due.proofs.ConnectionFactsAreKept.{alone_joined, heard_is_joined}
 use Rattle.sl_session_due.proofs.ConnectionInputs.{claim_writes, claimed_or_same, other_marked, stage_by_ok}
-use Rattle.sl_session_due.proofs.ConnectionWalk.{NoMove, PlainCall, PlainReply}
 use Rattle.sl_session_due.proofs.HeardCalls.{calls_then, session_then}
 use Rattle.sl_session_due.proofs.JoiningConnections.{HeardWrite, Working, working_inside, working_unjoined, working_unrefused, writer_of}
 use Rattle.sl_session_due.proofs.JoiningDecisions.{heard_decides, heard_working, woken_decides}
 use Rattle.sl_session_due.proofs.JoiningSteps.{JoinsConnection, NoHeardWriter}
-use Rattle.sl_session_due.proofs.OtherJobs.{other_heard, other_of_session}
-use Rattle.sl_session_due.proofs.SessionParts.{at_work_is_present, covered_at_work, present_joined}
-use Rattle.sl_session_due.proofs.SteadyActs.{Steady, all_acts, job_steady, steady_allow, steady_itself}
+use Rattle.sl_session_due.proofs.OtherJobs.{other_heard}
+use Rattle.sl_session_due.proofs.SessionParts.{at_work_is_present, covered_at_work}
+use Rattle.sl_session_due.proofs.SteadyActs.{all_acts, steady_allow, steady_itself}
 use Rattle.sl_session_facts.proofs.DeltaConditions.{heard_at}
 use Rattle.sl_session_facts.proofs.NameEffects.{move_present}
-use Rattle.sl_session_facts.proofs.NameFactsAreKept.{joined_on_wake, names_wake}
 use Rattle.sl_session_facts.proofs.NamesAreAllowed.{heard_mine, joined_unrefused}
-use Rattle.sl_session_facts.specs.Promises.{HasNameFacts}
 use Rattle.sl_sessions.specs.Deltas.{DeltaLease, join_step_of, next_by_time}
-use Rattle.sl_sessions.specs.Sessions.{added_by, begun_in, calls_of, free_write, generation_of, has_open_write, is_call_of, is_covered_stage, is_free_purpose, is_join_call, is_joined, is_present, joined_after, joining_session, last_renewal, leaving_job, open_calls_of, present_sessions, recovery_of, refused_after, sessions, stage_in}
+use Rattle.sl_sessions.specs.Sessions.{added_by, begun_in, calls_of, free_write, generation_of, has_open_write, is_call_of, is_covered_stage, is_free_purpose, is_join_call, is_joined, is_present, joined_after, joining_session, leaving_job, open_calls_of, recovery_of, refused_after, sessions, stage_in}
 use Rattle.sl_sessions.specs.declared.delta.DeltaNext.TheVariants.{MoveConnection, Nothing}
 use Rattle.sl_sessions.specs.declared.delta.DeltaNext.{DeltaNext}
-use Rattle.sl_sessions.specs.declared.session.Begun.{Begun}
 use Rattle.sl_sessions.specs.declared.session.Session.{Session}
 use Rattle.sl_sessions.specs.declared.stage.Stage.TheVariants.{Waiting}
 use Rattle.sl_step_facts.specs.Heard.{heard_by}
@@ -56,9 +47,6 @@ use Rattle.sl_step_facts.specs.Whole.{Whole}
 use Rattle.sl_time.specs.Times.{fail}
 use Rattle.sl_trace.specs.Connections.{is_registered, registers, unregisters}
 use Rattle.sl_trace.specs.Traces.{Answered, Submitted, answered_in, is_answered_ok, is_running, is_write, mark, new_call, next_call, next_job, submitted}
-use Rattle.sl_trace.specs.contracts.effects.OpPartialEq.TheImpl.{ghosts as op}
-use Rattle.sl_trace.specs.contracts.effects.PurposePartialEq.TheImpl.{ghosts as purpose}
-use Rattle.sl_trace.specs.contracts.input.InputPartialEq.TheImpl.{ghosts as input}
 use Rattle.sl_trace.specs.declared.command.Command.{Command}
 use Rattle.sl_trace.specs.declared.command.LockspaceArg.{LockspaceArg}
 use Rattle.sl_trace.specs.declared.effects.Call.{Call}
@@ -70,7 +58,7 @@ use Rattle.sl_trace.specs.declared.effects.Purpose.TheVariants.{Joining, Leaving
 use Rattle.sl_trace.specs.declared.input.Answer.TheVariants.{Failed, Read, Written}
 use Rattle.sl_trace.specs.declared.input.Answer.{Answer}
 use Rattle.sl_trace.specs.declared.input.Input.TheVariants.{Line, Wake}
-use Rattle.sl_trace.specs.declared.reply.Reply.TheVariants.{Done, IoFault, IoTimeout, Recovering}
+use Rattle.sl_trace.specs.declared.reply.Reply.TheVariants.{Done, IoFault, IoTimeout}
 use Rattle.sl_trace.specs.declared.reply.Reply.{Reply}
 use Rattle.sl_trace_law.proofs.Leases.NumberLaws.{number_is_place}
 use Rattle.sl_trace_law.proofs.Sessions.Joining.{joined_before}
@@ -83,10 +71,10 @@ use Rattle.std.proofs.lemmas.Option.{slice_get_within}
 use Rattle.std.proofs.lemmas.Slice.Eq.{bytes_eq-Decides}
 use Rattle.std.specs.List.{list_any}
 use Rattle.std.specs.Prelude.{Bool, Contains, List, None, Option, Some, [], bytes_eq, false, filter, fold, if◌then◌else◌, is_none, is_some, length, map, not, true, ℕ, ◌&&◌, ◌+◌, ◌<◌, ◌==◌, ◌∷◌, ◌≡◌, ◌≤◌, ◌⊎◌}
-use Rattle.sl_session_due.proofs.MovesAltered.{absent_closed, closed_same, closed_unjoined, moves_one, moves_seen, moves_steady, there_now}  --!
-use Rattle.sl_session_due.proofs.JoiningMoves.{UncoveredBefore, any_split, closed_refused, closed_removed, joining_moves, refuse_moves, same_text}  --!
-use Rattle.sl_session_due.specs.MovedSoFar.{IsClosed, MovedSoFar}  --!
-use Rattle.sl_sessions.specs.Deltas.{delta_known, delta_of_session, delta_record, is_renewal_due, next_after_free, next_after_renewal, next_free, next_in_joining, next_on_wake, next_renewal, own_offset}  --!
+use Rattle.sl_session_due.proofs.MovesAltered.{absent_closed, closed_same, closed_unjoined, moves_one, moves_seen, moves_steady, there_now}
+use Rattle.sl_session_due.proofs.JoiningMoves.{UncoveredBefore, any_split, closed_refused, closed_removed, joining_moves, refuse_moves, same_text}
+use Rattle.sl_session_due.specs.MovedSoFar.{IsClosed, MovedSoFar}
+use Rattle.sl_sessions.specs.Deltas.{delta_of_session, next_after_free, next_after_renewal, next_in_joining, next_on_wake}
 
 -- ---- a joining at work was there before
 
@@ -441,38 +429,10 @@ moves_are_kept =
 -- ---- once a step has begun
 
 pub moves_begin : BeginsWith MovedSoFar
-unfolding begin_recoveries begin_recovery
 moves_begin st past e follows w =
-    moves_steady x (begin_recoveries x)
-    (for_each_keeps (Steady x) (present_sessions st (seen x)) begin_recovery x
-    (λ s there y k. when_keeps (Steady x) (begins_now (seen y) (recovery_of y.setting (seen y) s)) (signal_and_refuse s None) y
-    (λ begins f.
-    stopped (Steady x) (Steady x) (PlainReply x) (PlainCall x) AnyStart NoMove (steady_allow x) tt y s None
-    (λ z g j inside. (late_on_wake x (Recovering (last_renewal z.setting (seen z) s)) refl, other_of_session x s j facts.1 (alone_joined x s names (has s there) (joined s there y f begins)) (joined s there y f begins) (job_steady x z s j g inside))) f) k)
-    (steady_itself x))
+    moves_steady (begin_step st past e.reading) (begin_recoveries (begin_step st past e.reading)) (begins_steady st past e.reading w)
     (record {
       before = w.facts.names;
       opened = λ s there is. absurd (false_is_true is);
       closed = λ s there present is. absurd (false_is_true is);
     })
-  where
-    x : Step
-    x = begin_step st past e.reading
-
-    names : HasNameFacts (begin_step st past e.reading)
-    names = names_wake st past e.reading w.facts.names
-
-    facts : Both (begin_step st past e.reading)
-    facts = both_wake st past e.reading w.facts.calls w.facts.jobs
-
-    has : (s : Session) → Contains (present_sessions st (seen (begin_step st past e.reading))) s → Has (begin_step st past e.reading) s
-    has s there = session_has st (seen (begin_step st past e.reading)) s (present_is st (seen (begin_step st past e.reading)) s there).0
-
-    joined : (s : Session) → Contains (present_sessions st (seen (begin_step st past e.reading))) s → (y : Step) → Steady (begin_step st past e.reading) y → begins_now (seen y) (recovery_of y.setting (seen y) s) ≡ true
-        → is_joined (seen (begin_step st past e.reading)) s ≡ true
-    joined s there y k begins = by (recovery_of y.setting (seen y) s) refl begins where
-      by : (o : Option Begun) → recovery_of y.setting (seen y) s ≡ o → begins_now (seen y) o ≡ true → is_joined (seen (begin_step st past e.reading)) s ≡ true
-      by None none now = absurd (false_is_true now)
-      by (Some b) is now =
-          let was : is_some (joined_after past s) ≡ true = subst (λ es. is_some (joined_after es s) ≡ true) k.before (recovery_joined y.setting (entry_of y) y.past s b is) in
-          present_joined (seen x) s (ap (λ o. is_some o) (joined_on_wake past e.reading s) ∙ was) (present_is st (seen x) s there).1

@@ -1,8 +1,6 @@
 -- Which jobs are no joining's: their commands join nothing.
-use Rattle.sl_acts.proofs.EffectsKeep.{reading}
 use Rattle.sl_acts.specs.Acts.{Hears}
 use Rattle.sl_due.specs.Steps.{Step, seen}
-use Rattle.sl_job_facts.proofs.AnsweredCallsFit.{at}
 use Rattle.sl_job_facts.proofs.JobsAreNumbered.{found_after, found_before, next_is_new}
 use Rattle.sl_job_facts.proofs.SessionsHaveJobs.{contains_either, contains_only}
 use Rattle.sl_job_facts.specs.Promises.{HasJobFacts}

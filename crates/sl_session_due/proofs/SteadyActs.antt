@@ -1,4 +1,6 @@
 -- Acts that move no connection, reply to no joining and call only for joined sessions; what they keep, and a few acts more, is kept by all.
+use Rattle.sl_trace.specs.declared.effects.Call.{Call}
+use Rattle.sl_trace.specs.declared.effects.Op.{Op}
 use Rattle.sl_acts.proofs.DecisionsAreTheirs.{Of}
 use Rattle.sl_acts.proofs.InputsKeep.{has_heard}
 use Rattle.sl_acts.proofs.LoopsKeep.{for_each_keeps}
@@ -9,11 +11,11 @@ use Rattle.sl_area.specs.Places.{request_offset}
 use Rattle.sl_due.specs.DueAnswers.{set_reply}
 use Rattle.sl_due.specs.DueCommands.{carry_decision, decided}
 use Rattle.sl_due.specs.DueDelta.{carry_delta, see_request, write_own_sector}
-use Rattle.sl_due.specs.DueFirst.{kills, refuse, remove_connection, remove_of_refused, send, signal_and_refuse, signal_holders}
+use Rattle.sl_due.specs.DueFirst.{refuse, remove_connection, remove_of_refused, send, signal_and_refuse, signal_holders}
 use Rattle.sl_due.specs.DueInputs.{end_holdings, leave_holdings, refuse_jobs_of, started_reply, when_running}
 use Rattle.sl_due.specs.DueLease.{carry_lease, next_of_lease}
 use Rattle.sl_due.specs.DueRequests.{after_request_read, after_value_read, bits_due, value_reply}
-use Rattle.sl_due.specs.Steps.{Step, add_reply, add_signal, seen, with_input}
+use Rattle.sl_due.specs.Steps.{Step, add_call_of, add_reply, add_signal, seen, with_input}
 use Rattle.sl_due.specs.declared.decision.Decision.TheVariants.{ConvertsTo, GetsValue, GivesUp, Joins, Leaves, ReadsArea, Replies, Requests, SetsValue, Shares, TakesOver}
 use Rattle.sl_due.specs.declared.decision.Decision.{Decision}
 use Rattle.sl_job_facts.proofs.CallsStay.{IsLate, late}
@@ -28,14 +30,12 @@ use Rattle.sl_job_facts.proofs.SessionsArePresent.{joined_present}
 use Rattle.sl_job_facts.proofs.SessionsStand.{joined_then, running_before}
 use Rattle.sl_leases.specs.Jobs.{is_command_that, is_job_of_process, job_of_start, jobs_of_session, lockspace_named}
 use Rattle.sl_leases.specs.LeaseWork.{lease_place, settle_next}
-use Rattle.sl_leases.specs.Leases.{freed, holdings_on, known, lver_written, spot_of_call}
+use Rattle.sl_leases.specs.Leases.{holdings_on, known, lver_written, spot_of_call}
 use Rattle.sl_leases.specs.declared.lease.LeaseNext.TheVariants.{AnswerJob}
 use Rattle.sl_leases.specs.declared.lease.LeaseNext.{LeaseNext}
-use Rattle.sl_parts_law.proofs.CallsGrow.{others_stay, same_sessions}
+use Rattle.sl_parts_law.proofs.CallsGrow.{mine_more, others_stay, same_sessions}
 use Rattle.sl_parts_law.proofs.JoinedCallsKeepOrder.{one_number}
 use Rattle.sl_plain.proofs.Lists.{find_inside, got_inside, kept, kept_inside}
-use Rattle.sl_run_law.proofs.Guards.{starts}
-use Rattle.sl_run_law.proofs.Landing.Owning.{running}
 use Rattle.sl_sector.specs.Bitmaps.{no_bits}
 use Rattle.sl_sector.specs.declared.sector.DeltaRec.{DeltaRec}
 use Rattle.sl_sector.specs.declared.sector.DeltaState.TheVariants.{Free, Live}
@@ -44,23 +44,22 @@ use Rattle.sl_session_due.proofs.AllowedMore.{StopsAllowed, more_decision, more_
 use Rattle.sl_session_due.proofs.ConnectionEffects.{IsOtherJob, reply_same}
 use Rattle.sl_session_due.proofs.ConnectionFactsAreKept.{alone_joined, heard_is_joined, holder_is_joined, lone_other_job}
 use Rattle.sl_session_due.proofs.ConnectionLines.{active_is_joined, carried_calls, other_than_next}
-use Rattle.sl_session_due.proofs.ConnectionWalk.{NoMove, PlainCall, PlainReply, alone_of}
+use Rattle.sl_session_due.proofs.ConnectionWalk.{NoMove, PlainCall, PlainReply, alone_of, no_step}
 use Rattle.sl_session_due.proofs.OtherJobs.{other_heard, other_of_process, other_of_session, other_starter}
-use Rattle.sl_session_facts.proofs.NamesAreAllowed.{Holds, NameCall, NameReply, decision_named, lease_named, request_named}
+use Rattle.sl_session_facts.proofs.NamesAreAllowed.{Holds, NameCall, NameReply, decision_named, is_joining, lease_named, request_named}
 use Rattle.sl_session_facts.proofs.NamesGrow.{input_names}
 use Rattle.sl_session_facts.specs.Promises.{HasNameFacts}
 use Rattle.sl_sessions.specs.Deltas.{DeltaLease}
-use Rattle.sl_sessions.specs.Sessions.{calls_of, generation_of, has_open_write, holdings_of, is_join_call, is_joined, joined_after, last_renewal, recovery_of, refused_after, removed_after, sessions}
+use Rattle.sl_sessions.specs.Sessions.{calls_of, generation_of, has_open_write, holdings_of, is_joined, join_call, joined_after, last_renewal, recovery_of, refused_after, removed_after, sessions}
 use Rattle.sl_sessions.specs.declared.delta.DeltaKnown.{DeltaKnown}
 use Rattle.sl_sessions.specs.declared.delta.DeltaNext.TheVariants.{Nothing, WriteFree, WriteRenewal}
 use Rattle.sl_sessions.specs.declared.session.Session.{Session}
 use Rattle.sl_step_facts.specs.Whole.{Whole}
-use Rattle.sl_trace.specs.Traces.{Job, Submitted, is_before_input, is_running, is_shared, job_of, jobs, next_call, next_job, running_jobs, submitted, work_job}
-use Rattle.sl_trace.specs.contracts.effects.PurposePartialEq.TheImpl.{ghosts as purpose}
+use Rattle.sl_trace.specs.Traces.{Job, Submitted, is_before_input, is_running, is_shared, job_of, jobs, new_call, next_call, next_job, running_jobs, submitted, work_job}
 use Rattle.sl_trace.specs.declared.command.Command.{Command}
 use Rattle.sl_trace.specs.declared.command.LockspaceArg.{LockspaceArg}
 use Rattle.sl_trace.specs.declared.effects.Grant.{Grant}
-use Rattle.sl_trace.specs.declared.effects.JoinStep.TheVariants.{FirstRead}
+use Rattle.sl_trace.specs.declared.effects.JoinStep.TheVariants.{FirstRead, FirstRenewal}
 use Rattle.sl_trace.specs.declared.effects.JoinStep.{JoinStep}
 use Rattle.sl_trace.specs.declared.effects.Op.TheVariants.{ReadSectors, WriteRecord}
 use Rattle.sl_trace.specs.declared.effects.Purpose.TheVariants.{Joining, Lease, Leaving, Renewal, RequestRead, RequestWrite, SeeRequest, ValueRead, ValueWrite}
@@ -78,9 +77,9 @@ use Rattle.sl_trace.specs.declared.reply.Reply.{Reply}
 use Rattle.sl_words.proofs.CaseLaws.{is_false, none_some, not_both}
 use Rattle.sl_words.specs.Words.{some_is}
 use Rattle.std.proofs.Common.{ap, inl, inr, refl, subst, sym, ◌∙◌}
-use Rattle.std.specs.Prelude.{Bool, Contains, List, None, Ok, Some, [], bytes_eq, false, filter, is_some, not, true, ℕ, ◌+◌, ◌==◌, ◌≡◌, ◌⊎◌}
-use Rattle.sl_sessions.specs.Deltas.{delta_known, delta_of_session, delta_record, is_renewal_due, next_after_free, next_after_renewal, next_free, next_in_joining, next_on_wake, next_renewal, own_offset}  --!
-use Rattle.sl_job_facts.proofs.AnsweredCallsFit.{at, both_of}  --!
+use Rattle.std.specs.Prelude.{Bool, Contains, List, None, Ok, Some, [], bytes_eq, cond, false, filter, is_some, length, not, true, ℕ, ◌+◌, ◌==◌, ◌≡◌, ◌⊎◌}
+use Rattle.sl_sessions.specs.Deltas.{delta_known, delta_of_session, delta_record, is_renewal_due, next_after_free, next_after_renewal, next_free, next_in_joining, next_on_wake, next_renewal, own_offset}
+use Rattle.sl_job_facts.proofs.AnsweredCallsFit.{at, both_of}
 
 -- ---- what such an act leaves
 
@@ -96,10 +95,11 @@ pub record Steady (x y : Step) : Type 0 where
   pub removed : (z : Session) → Contains (sessions x.setting (seen x)) z → removed_after (seen y) z ≡ removed_after (seen x) z
   pub refused : (z : Session) → Contains (sessions x.setting (seen x)) z → refused_after (seen y) z ≡ refused_after (seen x) z
   pub calls : (z : Session) → Contains (sessions x.setting (seen x)) z → is_joined (seen x) z ≡ false → calls_of (seen y) z ≡ calls_of (seen x) z
+  pub renewals : (z : Session) → Contains (sessions x.setting (seen x)) z → join_call (calls_of (seen y) z) FirstRenewal ≡ join_call (calls_of (seen x) z) FirstRenewal
 
 pub steady_itself : (x : Step) → Steady x x
 steady_itself x =
-    record { setting = refl; before = refl; input = refl; all = refl; jobs = refl; running = λ n is. is; moves = refl; joined = λ z there. refl; removed = λ z there. refl; refused = λ z there. refl; calls = λ z there away. refl }
+    record { setting = refl; before = refl; input = refl; all = refl; jobs = refl; running = λ n is. is; moves = refl; joined = λ z there. refl; removed = λ z there. refl; refused = λ z there. refl; calls = λ z there away. refl; renewals = λ z there. refl }
 
 steady_late : (x y : Step) (r : Reply) → Steady x y → IsLate x r → IsLate y r
 steady_late x y r h may n a is = by (may n a (sym h.input ∙ is)) where
@@ -108,14 +108,26 @@ steady_late x y r h may n a is = by (may n a (sym h.input ∙ is)) where
   by (inl after) = inl after
   by (inr none) = inr (λ m there its. none m (subst (λ es. Contains (submitted es) m) h.before there) its)
 
+renewal_more : (y : Step) (s : Session) (path : List ℕ) (p : Purpose) (o : ℕ) (op : Op) (z : Session) → is_joining p ≡ false
+    → join_call (calls_of (seen (add_call_of s.number path p o op y)) z) FirstRenewal ≡ join_call (calls_of (seen y) z) FirstRenewal
+renewal_more y s path p o op z other = by (s.number == z.number) refl where
+  made : Call
+  made = record { number = next_call y.setting (seen y); session = s.number; purpose = p; path = path; offset = o; op = op }
+
+  by : (b : Bool) → (s.number == z.number) ≡ b → join_call (calls_of (seen (add_call_of s.number path p o op y)) z) FirstRenewal ≡ join_call (calls_of (seen y) z) FirstRenewal
+  by false away = ap (λ ms. join_call ms FirstRenewal) (others_stay (entry_of y) y.past made z away)
+  by true mine =
+      ap (λ ms. join_call ms FirstRenewal) (mine_more (entry_of y) y.past made z mine)
+      ∙ ap (λ b. cond b (Some (new_call (length y.past) y.reading made)) (join_call (calls_of (seen y) z) FirstRenewal)) (no_step p FirstRenewal other)
+
 pub steady_allow : (x : Step) → Allows (Steady x) (Steady x) (PlainReply x) (PlainCall x) AnyStart NoMove
 steady_allow x =
     record {
-      ends = λ y e h. record { setting = h.setting; before = h.before; input = h.input; all = h.all; jobs = h.jobs; running = h.running; moves = h.moves; joined = h.joined; removed = h.removed; refused = h.refused; calls = h.calls };
-      signals = λ y q signal h. record { setting = h.setting; before = h.before; input = h.input; all = h.all; jobs = h.jobs; running = h.running; moves = h.moves; joined = h.joined; removed = h.removed; refused = h.refused; calls = h.calls };
+      ends = λ y e h. record { setting = h.setting; before = h.before; input = h.input; all = h.all; jobs = h.jobs; running = h.running; moves = h.moves; joined = h.joined; removed = h.removed; refused = h.refused; calls = h.calls; renewals = h.renewals };
+      signals = λ y q signal h. record { setting = h.setting; before = h.before; input = h.input; all = h.all; jobs = h.jobs; running = h.running; moves = h.moves; joined = h.joined; removed = h.removed; refused = h.refused; calls = h.calls; renewals = h.renewals };
       moves = λ y m may h. absurd may;
-      grants = λ y g h. record { setting = h.setting; before = h.before; input = h.input; all = h.all; jobs = h.jobs; running = h.running; moves = h.moves; joined = h.joined; removed = h.removed; refused = h.refused; calls = h.calls };
-      starts = λ y k may h. record { setting = h.setting; before = h.before; input = h.input; all = h.all; jobs = h.jobs; running = h.running; moves = h.moves; joined = h.joined; removed = h.removed; refused = h.refused; calls = h.calls };
+      grants = λ y g h. record { setting = h.setting; before = h.before; input = h.input; all = h.all; jobs = h.jobs; running = h.running; moves = h.moves; joined = h.joined; removed = h.removed; refused = h.refused; calls = h.calls; renewals = h.renewals };
+      starts = λ y k may h. record { setting = h.setting; before = h.before; input = h.input; all = h.all; jobs = h.jobs; running = h.running; moves = h.moves; joined = h.joined; removed = h.removed; refused = h.refused; calls = h.calls; renewals = h.renewals };
       replies = λ y j r may h. record {
         setting = h.setting;
         before = h.before;
@@ -128,12 +140,13 @@ steady_allow x =
         removed = h.removed;
         refused = λ z there. (reply_same y j r z (steady_late x y r h may.0) (may.1 z there)).refused ∙ h.refused z there;
         calls = λ z there away. (reply_same y j r z (steady_late x y r h may.0) (may.1 z there)).calls ∙ h.calls z there away;
+        renewals = λ z there. ap (λ ms. join_call ms FirstRenewal) (reply_same y j r z (steady_late x y r h may.0) (may.1 z there)).calls ∙ h.renewals z there;
       };
       calls = λ y s path p o op may h. record {
         setting = h.setting;
         before = h.before;
         input = h.input;
-        all = same_sessions y.setting (entry_of y) y.past (record { number = next_call y.setting (seen y); session = s.number; purpose = p; path = path; offset = o; op = op }) may.2 ∙ h.all;
+        all = same_sessions y.setting (entry_of y) y.past (record { number = next_call y.setting (seen y); session = s.number; purpose = p; path = path; offset = o; op = op }) (no_step p FirstRead may.2) ∙ h.all;
         jobs = h.jobs;
         running = h.running;
         moves = h.moves;
@@ -143,6 +156,7 @@ steady_allow x =
         calls = λ z there away.
             others_stay (entry_of y) y.past (record { number = next_call y.setting (seen y); session = s.number; purpose = p; path = path; offset = o; op = op }) z
             (is_false (s.number == z.number) (λ same. not_both (is_joined (seen x) s) may.1 (subst (λ q. is_joined (seen x) q ≡ false) (one_number x.setting (seen x) s.number s z may.0 there same) away))) ∙ h.calls z there away;
+        renewals = λ z there. renewal_more y s path p o op z may.2 ∙ h.renewals z there;
       };
       rest = λ y h. h;
     }
@@ -179,13 +193,13 @@ job_steady x z s j h there =
 steady_lease : (x : Step) (s : Session) (spot : Spot) (work : Work) (n : LeaseNext) → Has x s → is_joined (seen x) s ≡ true → ((r : Reply) → n ≡ AnswerJob r → IsLate x r) → ((j : ℕ) → work_job work ≡ Some j → IsOtherJob x j) → Steady x (carry_lease s spot work n x)
 steady_lease x s spot work n has joined after other =
     lease (Steady x) (Steady x) (PlainReply x) (PlainCall x) AnyStart NoMove (steady_allow x) x s spot work n
-    (more_lease (NameReply x) (PlainReply x) (NameCall x) (PlainCall x) x s spot work n (λ j r its late_one. (late_one, other j its)) (λ path p o op k. (k.0, joined, k.2))
+    (more_lease (NameReply x) (PlainReply x) (NameCall x) (PlainCall x) x s spot work n (λ j r its late_one. (late_one, other j its)) (λ path p o op other k. (k.0, joined, other))
     (lease_named x x s spot work n has (joined_then (seen x) s joined) after)) (steady_itself x)
 
 steady_reply : (x : Step) (j : ℕ) (r : Reply) → IsLate x r → IsOtherJob x j → Steady x (add_reply j r x)
 steady_reply x j r after other = (steady_allow x).replies x j r (after, other) (steady_itself x)
 
-steady_write : (x : Step) (s : Session) (p : Purpose) (d : DeltaRec) → Has x s → is_joined (seen x) s ≡ true → is_join_call FirstRead p ≡ false → Steady x (write_own_sector s p d x)
+steady_write : (x : Step) (s : Session) (p : Purpose) (d : DeltaRec) → Has x s → is_joined (seen x) s ≡ true → is_joining p ≡ false → Steady x (write_own_sector s p d x)
 steady_write x s p d has joined no_look = (steady_allow x).calls x s s.path p (own_offset x.setting s) (WriteRecord (DeltaIs d)) (has, joined, no_look) (steady_itself x)
 
 pub steady_renewal : (x : Step) (s : Session) (bits : List ℕ) → Has x s → is_joined (seen x) s ≡ true → Steady x (carry_delta s (next_renewal (delta_of_session x.setting s) x.reading (delta_known x.setting (seen x) s) bits) x)
@@ -335,7 +349,7 @@ all_acts H J p =
           let joined : is_joined (seen x) s ≡ true = heard_is_joined x s m (Read bytes) (RequestRead j) (p.whole x h) hears is refl in
           p.steady x (after_request_read s j bytes c x)
           (requested (Steady x) (Steady x) (PlainReply x) (PlainCall x) AnyStart NoMove (steady_allow x) x s j bytes c
-          (more_request (NameReply x) (PlainReply x) (NameCall x) (PlainCall x) x s j bytes c (λ r late_one. (late_one, other_heard x s m (Read bytes) j (RequestRead j) (p.whole x h) hears is refl refl)) (λ path q o op k. (k.0, joined, k.2))
+          (more_request (NameReply x) (PlainReply x) (NameCall x) (PlainCall x) x s j bytes c (λ r late_one. (late_one, other_heard x s m (Read bytes) j (RequestRead j) (p.whole x h) hears is refl refl)) (λ path q o op other k. (k.0, joined, other))
           (request_named x s j bytes c has (joined_then (seen x) s joined))) (steady_itself x)) (p.here x h);
       tells = λ x s m j bytes hears is runs h.
           p.steady x (add_reply j (value_reply x.setting.layout bytes) x)

@@ -22,8 +22,6 @@ use Rattle.sl_job_facts.specs.Promises.{HasCallFacts}
 use Rattle.sl_parts_law.proofs.CallsGrow.{same_sessions}
 use Rattle.sl_plain.proofs.Lists.{contains_cases, contains_first, contains_map, contains_more, in_map, kept, kept_inside}
 use Rattle.sl_plain.proofs.Options.{some_of}
-use Rattle.sl_run_law.proofs.Guards.{starts}
-use Rattle.sl_run_law.proofs.Landing.Owning.{running}
 use Rattle.sl_sector.specs.Spelling.{delta_in}
 use Rattle.sl_sector.specs.declared.sector.DeltaRec.{DeltaRec}
 use Rattle.sl_session_facts.proofs.NamesGrow.{calls_of_told, unheard_inside}
@@ -33,7 +31,6 @@ use Rattle.sl_step_facts.specs.Heard.{heard_by}
 use Rattle.sl_step_facts.specs.Whole.{Whole}
 use Rattle.sl_trace.proofs.TraceFacts.{submitted-push}
 use Rattle.sl_trace.specs.Traces.{Answered, Setting, Submitted, Trace, answer_of, answered_in, gave, is_running, mark, new_call, next_call, next_job, submitted}
-use Rattle.sl_trace.specs.contracts.effects.PurposePartialEq.TheImpl.{ghosts as purpose}
 use Rattle.sl_trace.specs.declared.command.Command.{Command}
 use Rattle.sl_trace.specs.declared.command.LockspaceArg.{LockspaceArg}
 use Rattle.sl_trace.specs.declared.effects.Call.{Call}
@@ -54,7 +51,7 @@ use Rattle.std.proofs.lemmas.Bool.{eqb-true}
 use Rattle.std.proofs.lemmas.Option.{slice_get_within}
 use Rattle.std.specs.Option.{option_or}
 use Rattle.std.specs.Prelude.{Bool, Contains, List, None, Ok, Option, Some, [], false, fold, length, true, ℕ, ◌++◌, ◌<◌, ◌==◌, ◌∷◌, ◌≡◌, ◌⊎◌}
-use Rattle.sl_session_due.specs.WatchFacts.{HasRead, HasWatchFacts, HasWatchesPlainly, WatchFacts} --!
+use Rattle.sl_session_due.specs.WatchFacts.{HasRead, HasWatchFacts, WatchFacts}
 
 -- ---- what an act leaves of sessions, jobs and answered calls
 

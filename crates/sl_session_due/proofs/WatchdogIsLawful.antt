@@ -1,5 +1,5 @@
 -- The law of the watchdog, of the entry so far: from what is known of connections, of holdings and of the entry's moves.
-use Rattle.sl_plain.proofs.Numbers.{equal_is_most}  --!
+use Rattle.sl_plain.proofs.Numbers.{equal_is_most}
 use Rattle.sl_acts.specs.SoFar.{entry_of}
 use Rattle.sl_due.specs.Steps.{Step, seen}
 use Rattle.sl_job_facts.proofs.SessionsArePresent.{session_has}
@@ -22,8 +22,8 @@ use Rattle.std.proofs.Common.{ap, refl, subst, sym}
 use Rattle.std.proofs.lemmas.Bool.{eqb-true}
 use Rattle.std.specs.List.{list_any}
 use Rattle.std.specs.Prelude.{Bool, Contains, List, None, Option, Some, [], false, is_some, true, ℕ, ◌+◌, ◌==◌, ◌||◌, ◌∷◌, ◌≡◌, ◌≤◌}
-use Rattle.sl_session_due.specs.MovedSoFar.{IsClosed, MovedSoFar}  --!
-use Rattle.sl_session_due.proofs.MovesAltered.{closed_uncovered, closed_unjoined, there_now}  --!
+use Rattle.sl_session_due.specs.MovedSoFar.{IsClosed, MovedSoFar}
+use Rattle.sl_session_due.proofs.MovesAltered.{closed_uncovered, closed_unjoined, there_now}
 
 -- A covered session's connection stands, and ends in time.
 stands : (x : Step) (s : Session) → HasConnectionFacts x → Contains (sessions x.setting (seen x)) s → is_covered (seen x) s ≡ true → CoveredBy x.setting (seen x) s

@@ -1,4 +1,5 @@
 pub mod DeltaCalls
+pub mod DeltaPromises
 pub mod MovedSoFar
 pub mod Promises
 pub mod WatchFacts

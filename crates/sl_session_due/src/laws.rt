@@ -1,5 +1,6 @@
 //! What is known of connections, and the laws of sessions, hold at each moment of a step.
 
+ghost use Rattle.sl_session_due.specs.DeltaPromises.{ClaimsAreLawful, FirstRenewalsAreLawful, FreeIsDecided, FreesAreLawful, JoinedSurveysAreLawful, JoinsAreLawful, JoinsBegin, LooksAreLawful, NothingWasRead, RenewalsAreLawful, RenewedSurveysAreLawful, VerifiesAreLawful, WatchFactsAreKept, WatchFactsBegin, WatchFactsConclude, WatchedIsDecided, WatchesAreLawful};
 ghost use Rattle.sl_session_due.specs.Promises.{ConnectionFactsAreKept, ConnectionFactsBegin, ConnectionFactsConclude, MovesAreKept, MovesBegin, WatchdogIsLawful};
 
 /// After each act a name is registered just where a session of it is covered, and no connection outlasts what its session may do.
@@ -32,4 +33,89 @@ pub fn moves_begin()
 /// nothing is held and no write is unanswered.
 pub fn watchdog_is_lawful()
     ensures { WatchdogIsLawful }
+{}
+
+/// After each act a joining that runs has read a record of its own id first, and the same ever since, but for what was just heard.
+pub fn watch_facts_are_kept()
+    ensures { WatchFactsAreKept }
+{}
+
+/// So it is once a step has begun.
+pub fn watch_facts_begin()
+    ensures { WatchFactsBegin }
+{}
+
+/// And before the first entry.
+pub fn nothing_was_read()
+    ensures { NothingWasRead }
+{}
+
+/// Where all that an answer makes due is done, that is true of what was heard too.
+pub fn watch_facts_conclude()
+    ensures { WatchFactsConclude }
+{}
+
+/// A renewal that is due is lawful where it is written.
+pub fn renewals_are_lawful()
+    ensures { RenewalsAreLawful }
+{}
+
+/// So is the free of a leaving.
+pub fn frees_are_lawful()
+    ensures { FreesAreLawful }
+{}
+
+/// So is the look at all ids after a renewal.
+pub fn renewed_surveys_are_lawful()
+    ensures { RenewedSurveysAreLawful }
+{}
+
+/// And that after a joining.
+pub fn joined_surveys_are_lawful()
+    ensures { JoinedSurveysAreLawful }
+{}
+
+/// A first read is lawful: nobody of the name is present.
+pub fn looks_are_lawful()
+    ensures { LooksAreLawful }
+{}
+
+/// So is a further read.
+pub fn watches_are_lawful()
+    ensures { WatchesAreLawful }
+{}
+
+/// A deciding read after a free record is lawful.
+pub fn free_is_decided()
+    ensures { FreeIsDecided }
+{}
+
+/// So is one after a record that was watched for long enough.
+pub fn watched_is_decided()
+    ensures { WatchedIsDecided }
+{}
+
+/// A claim is lawful: it is one above what was read twice.
+pub fn claims_are_lawful()
+    ensures { ClaimsAreLawful }
+{}
+
+/// A verify read is lawful: the claim was answered long enough ago, and not too long.
+pub fn verifies_are_lawful()
+    ensures { VerifiesAreLawful }
+{}
+
+/// A first renewal is lawful: the claim was read back.
+pub fn first_renewals_are_lawful()
+    ensures { FirstRenewalsAreLawful }
+{}
+
+/// After each act every session that a job began and that has joined did so by the answer of its first renewal.
+pub fn joins_are_lawful()
+    ensures { JoinsAreLawful }
+{}
+
+/// So it is once a step has begun.
+pub fn joins_begin()
+    ensures { JoinsBegin }
 {}
