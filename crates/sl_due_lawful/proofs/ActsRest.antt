@@ -30,7 +30,9 @@ use Rattle.sl_recovery_due.proofs.StopsGrow.{stops_effects}
 use Rattle.sl_recovery_due.specs.Promises.{StopsSoFar}
 use Rattle.sl_recovery_due.specs.Stops.{Denies, FreesEnd, JustHeard, Stops}
 use Rattle.sl_session_due.proofs.ConnectionFactsConclude.{connection_facts_conclude, signal_plainly}
+use Rattle.sl_session_due.proofs.WatchFactsConclude.{watch_facts_conclude}
 use Rattle.sl_session_due.specs.Promises.{HasConnectionsPlainly}
+use Rattle.sl_session_due.specs.WatchFacts.{HasRead, HasWatchFacts, HasWatchesPlainly, WatchFacts}
 use Rattle.sl_session_facts.proofs.NameFactsConclude.{name_facts_conclude}
 use Rattle.sl_session_facts.specs.Promises.{HasNamesPlainly}
 use Rattle.sl_sessions.specs.Deltas.{delta_known, delta_of_session, next_on_wake, next_renewal}
@@ -41,8 +43,10 @@ use Rattle.sl_step_facts.specs.Concluding.{Concludes}
 use Rattle.sl_step_facts.specs.Heard.{heard_by}
 use Rattle.sl_step_facts.specs.SessionFacts.{ConnectionFacts, NameFacts, QuietFacts}
 use Rattle.sl_step_facts.specs.Whole.{Whole}
-use Rattle.sl_trace.specs.Traces.{next_job}
+use Rattle.sl_trace.specs.Traces.{Submitted, next_job}
 use Rattle.sl_trace.specs.declared.command.Command.{Command}
+use Rattle.sl_trace.specs.declared.effects.JoinStep.{JoinStep}
+use Rattle.sl_trace.specs.declared.effects.JoinStep.TheVariants.{FirstRead, WatchRead}
 use Rattle.sl_trace.specs.declared.effects.Signal.{Signal}
 use Rattle.sl_trace.specs.declared.effects.Signal.TheVariants.{Kill, Term}
 use Rattle.sl_trace.specs.declared.effects.Work.TheVariants.{Settling}
@@ -111,26 +115,28 @@ abbrev pub Rested : Step → Type 0
 Rested x = Kept x × Rests x
 
 abbrev RestsAsPairs : Step → Type 0
-RestsAsPairs x = IsQuiet x × (HasNamesPlainly x × (HasConnectionsPlainly x × (Stops x None × FreesEnd x)))
+RestsAsPairs x = IsQuiet x × (HasNamesPlainly x × (HasConnectionsPlainly x × (HasWatchesPlainly x × (Stops x None × FreesEnd x))))
 
 rest_of : (x : Step) → RestsAsPairs x → Rests x
-rest_of x h = record { quiet = h.0; names = h.1.0; connections = h.1.1.0; stops = h.1.1.1.0; ends = h.1.1.1.1 }
+rest_of x h = record { quiet = h.0; names = h.1.0; connections = h.1.1.0; watches = h.1.1.1.0; stops = h.1.1.1.1.0; ends = h.1.1.1.1.1 }
 
 with_stops : (x : Step) → Kept x → Known x × StopsSoFar x × Denies x
 with_stops x k = (k.known, k.stops, k.denies)
 
 all_conclude : Concludes Heard Rested RestsAsPairs
 all_conclude =
-    both_conclude Heard Rested IsQuiet (λ x. HasNamesPlainly x × (HasConnectionsPlainly x × (Stops x None × FreesEnd x)))
+    both_conclude Heard Rested IsQuiet (λ x. HasNamesPlainly x × (HasConnectionsPlainly x × (HasWatchesPlainly x × (Stops x None × FreesEnd x))))
     (conclude_from Heard Whole (λ x. Whole x × IsQuiet x) Rested IsQuiet (λ x h. h.0.known.0) (λ x h. (h.0.known.0, h.1.quiet)) quiet_facts_conclude)
-    (both_conclude Heard Rested HasNamesPlainly (λ x. HasConnectionsPlainly x × (Stops x None × FreesEnd x))
+    (both_conclude Heard Rested HasNamesPlainly (λ x. HasConnectionsPlainly x × (HasWatchesPlainly x × (Stops x None × FreesEnd x)))
     (conclude_from Heard Whole (λ x. Whole x × HasNamesPlainly x) Rested HasNamesPlainly (λ x h. h.0.known.0) (λ x h. (h.0.known.0, h.1.names)) name_facts_conclude)
-    (both_conclude Heard Rested HasConnectionsPlainly (λ x. Stops x None × FreesEnd x)
+    (both_conclude Heard Rested HasConnectionsPlainly (λ x. HasWatchesPlainly x × (Stops x None × FreesEnd x))
     (conclude_from Heard Whole (λ x. Whole x × HasConnectionsPlainly x) Rested HasConnectionsPlainly (λ x h. h.0.known.0) (λ x h. (h.0.known.0, h.1.connections)) connection_facts_conclude)
+    (both_conclude Heard Rested HasWatchesPlainly (λ x. Stops x None × FreesEnd x)
+    (conclude_from Heard (λ x. Whole x × HasWatchFacts x) (λ x. Whole x × HasWatchesPlainly x) Rested HasWatchesPlainly (λ x h. (h.0.known.0, h.0.watches)) (λ x h. (h.0.known.0, h.1.watches)) watch_facts_conclude)
     (both_conclude Heard Rested (λ x. Stops x None) FreesEnd
     (conclude_from Heard (λ x. (Known x × StopsSoFar x × Denies x) × JustHeard x) (λ x. (Known x × StopsSoFar x × Denies x) × Stops x None) Rested (λ x. Stops x None) (λ x h. (with_stops x h.0, h.1))
     (λ x h. (with_stops x h.0, h.1.stops)) stops_conclude)
-    (conclude_from Heard Whole (λ x. Whole x × FreesEnd x) Rested FreesEnd (λ x h. h.0.known.0) (λ x h. (h.0.known.0, h.1.ends)) frees_conclude))))
+    (conclude_from Heard Whole (λ x. Whole x × FreesEnd x) Rested FreesEnd (λ x h. h.0.known.0) (λ x h. (h.0.known.0, h.1.ends)) frees_conclude)))))
 
 -- ---- where no answer was heard
 
@@ -140,9 +146,14 @@ rests_unheard x none k =
       quiet = subst (λ o. QuietFacts x.setting (seen x) o) none k.known.0.facts.quiet;
       names = subst (λ o. NameFacts x.setting (seen x) o) none k.known.0.facts.names;
       connections = subst (λ o. ConnectionFacts x.setting (seen x) o) none k.known.0.facts.connections;
+      watches = subst (λ o. WatchFacts x.setting (seen x) o) none k.watches;
       stops = subst (λ o. Stops x o) none k.stops;
       ends = none_ends x (untold x none);
     }
+
+read_signalled : (x : Step) (p : ℕ) (g : Signal) (s : Session) (step : JoinStep) (m : Submitted) (bytes : List ℕ)
+    → HasRead x.setting (seen (add_signal p g x)) None s step m bytes → HasRead x.setting (seen x) None s step m bytes
+read_signalled x p g s step m bytes r = record { job = r.job; session = r.session; its = r.its; runs = r.runs; inside = r.inside; for = r.for; given = r.given; done = r.done }
 
 -- Signals leave all of it.
 rests_signalled : (x : Step) (p : ℕ) (g : Signal) → Rests x → Rests (add_signal p g x)
@@ -151,6 +162,10 @@ rests_signalled x p g h =
       quiet = record { recovering = h.quiet.recovering; leaving = h.quiet.leaving };
       names = record { apart = h.names.apart; begun = h.names.begun; done = h.names.done; waits = h.names.waits };
       connections = signal_plainly x p g h.connections;
+      watches = record {
+        first = λ s m bytes r. h.watches.first s m bytes (read_signalled x p g s FirstRead m bytes r);
+        same = λ s f m first bytes r q. h.watches.same s f m first bytes (read_signalled x p g s FirstRead f first r) (read_signalled x p g s WatchRead m bytes q);
+      };
       stops = (stops_effects (λ i. None)).signals x p g h.stops;
       ends = signals_leave_ended x p g h.ends;
     }

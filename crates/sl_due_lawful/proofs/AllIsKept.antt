@@ -8,7 +8,7 @@ use Rattle.sl_due.specs.DueFirst.{begin_recoveries}
 use Rattle.sl_due.specs.Steps.{Step, begin_step}
 use Rattle.sl_due_lawful.proofs.CallsAreLawful.{calls_are_lawful}
 use Rattle.sl_due_lawful.specs.Kept.{Kept}
-use Rattle.sl_due_lawful.specs.Promises.{ActsAsked, DeltasSoFar, LonesSoFar, SpelledSoFar}
+use Rattle.sl_due_lawful.specs.Promises.{ActsAsked, DeltaCallsSoFar, DeltasSoFar, LonesSoFar, SpelledSoFar}
 use Rattle.sl_grant_due.proofs.ActiveGrants.{granting_begins, granting_is_lawful}
 use Rattle.sl_grant_due.proofs.EndsAreLawful.{ends_are_lawful, ends_begin}
 use Rattle.sl_grant_due.proofs.ExitsAreLawful.{exits_are_lawful, exits_begin}
@@ -26,6 +26,7 @@ use Rattle.sl_holding_due.proofs.MomentsAreKept.{moments_are_kept}
 use Rattle.sl_holding_due.proofs.MomentsBegin.{moments_begin}
 use Rattle.sl_holding_due.specs.Moments.{Known, Moment}
 use Rattle.sl_holding_due.specs.Promises.{Begins, HasHoldingFacts}
+use Rattle.sl_job_facts.proofs.EffectsAreAllowed.{delta}
 use Rattle.sl_job_facts.proofs.EntriesFollow.{entries_begin, entries_follow}
 use Rattle.sl_job_facts.proofs.JobPromises.{call_facts_are_kept, call_facts_begin, job_facts_are_kept, job_facts_begin, quiet_facts_are_kept, quiet_facts_begin}
 use Rattle.sl_job_facts.proofs.LessIsKept.{to_less}
@@ -44,19 +45,25 @@ use Rattle.sl_recovery_due.proofs.StopsBegin.{begun_says, stops_begin}
 use Rattle.sl_recovery_due.specs.Promises.{StopsSoFar}
 use Rattle.sl_recovery_due.specs.Stops.{Denies, Partings}
 use Rattle.sl_session_due.proofs.ConnectionFactsAreKept.{connection_facts_are_kept, connection_facts_begin}
+use Rattle.sl_session_due.proofs.DeltaPromises.{reads_begin}
+use Rattle.sl_session_due.proofs.JoinsAreLawful.{joins_are_kept, joins_begin}
 use Rattle.sl_session_due.proofs.MovesAreKept.{moves_are_kept, moves_begin}
+use Rattle.sl_session_due.proofs.WatchFactsAreKept.{watch_facts_are_kept}
 use Rattle.sl_session_due.proofs.WatchdogIsLawful.{watchdog_is_lawful}
+use Rattle.sl_session_due.specs.DeltaPromises.{JoinsSoFar}
 use Rattle.sl_session_due.specs.MovedSoFar.{MovedSoFar}
 use Rattle.sl_session_due.specs.Promises.{HasConnectionFacts}
+use Rattle.sl_session_due.specs.WatchFacts.{HasWatchFacts, WatchFacts}
 use Rattle.sl_session_facts.proofs.DeltaFactsBegin.{delta_facts_begin}
 use Rattle.sl_session_facts.proofs.DeltaFactsHold.{delta_facts_are_kept}
 use Rattle.sl_session_facts.proofs.NameFactsAreKept.{name_facts_are_kept, name_facts_begin}
 use Rattle.sl_session_facts.specs.Promises.{HasDeltaFacts, HasNameFacts}
 use Rattle.sl_step_facts.specs.Whole.{Whole, WholeTrace}
-use Rattle.sl_trace.specs.Traces.{Setting, Trace}
+use Rattle.sl_trace.specs.Traces.{FollowsTrace, Setting, Trace}
 use Rattle.sl_trace.specs.declared.effects.Call.{Call}
+use Rattle.sl_trace.specs.declared.effects.Entry.{Entry}
 use Rattle.std.proofs.Common.{subst, sym}
-use Rattle.std.specs.Prelude.{Some, [], slice_get, ℕ, ◌≡◌}
+use Rattle.std.specs.Prelude.{None, Some, [], slice_get, ℕ, ◌≡◌}
 
 -- ---- what came before the step stays
 
@@ -92,6 +99,7 @@ pub record Parts (x : Step) : Type 0 where
   pub quiet : HasQuietFacts x
   pub names : HasNameFacts x
   pub connections : HasConnectionFacts x
+  pub watches : HasWatchFacts x
   pub delta : HasDeltaFacts x
   pub turns : HasTurnFacts x
   pub ways : HasWayFacts x
@@ -102,7 +110,8 @@ pub record Parts (x : Step) : Type 0 where
   pub values : HasValueFacts x
   pub spelled : SpelledSoFar x
   pub lones : LonesSoFar x
-  pub lawful_deltas : DeltasSoFar x
+  pub delta_calls : DeltaCallsSoFar x
+  pub joins : JoinsSoFar x
   pub lawful_leases : LeaseLaws x
   pub lawful_modes : ModesSoFar x
   pub moved : MovedSoFar x
@@ -152,11 +161,14 @@ From_lawful_modes x = ModesSoFar x × From_moved x
 abbrev From_lawful_leases : Step → Type 0
 From_lawful_leases x = LeaseLaws x × From_lawful_modes x
 
-abbrev From_lawful_deltas : Step → Type 0
-From_lawful_deltas x = DeltasSoFar x × From_lawful_leases x
+abbrev From_joins : Step → Type 0
+From_joins x = JoinsSoFar x × From_lawful_leases x
+
+abbrev From_delta_calls : Step → Type 0
+From_delta_calls x = DeltaCallsSoFar x × From_joins x
 
 abbrev From_lones : Step → Type 0
-From_lones x = LonesSoFar x × From_lawful_deltas x
+From_lones x = LonesSoFar x × From_delta_calls x
 
 abbrev From_spelled : Step → Type 0
 From_spelled x = SpelledSoFar x × From_lones x
@@ -185,8 +197,11 @@ From_turns x = HasTurnFacts x × From_ways x
 abbrev From_delta : Step → Type 0
 From_delta x = HasDeltaFacts x × From_turns x
 
+abbrev From_watches : Step → Type 0
+From_watches x = HasWatchFacts x × From_delta x
+
 abbrev From_connections : Step → Type 0
-From_connections x = HasConnectionFacts x × From_delta x
+From_connections x = HasConnectionFacts x × From_watches x
 
 abbrev From_names : Step → Type 0
 From_names x = HasNameFacts x × From_connections x
@@ -239,14 +254,17 @@ from_lawful_modes a = both Kept ModesSoFar From_moved (from_more Known Kept Mode
 from_lawful_leases : ActsAsked → Acts Kept From_lawful_leases
 from_lawful_leases a = both Kept LeaseLaws From_lawful_modes (from_more Whole Kept LeaseLaws (λ x k. k.known.0) laws_are_kept) (from_lawful_modes a)
 
-from_lawful_deltas : ActsAsked → Acts Kept From_lawful_deltas
-from_lawful_deltas a = both Kept DeltasSoFar From_lawful_leases (from_more Known Kept DeltasSoFar (λ x k. k.known) a.deltas) (from_lawful_leases a)
+from_joins : ActsAsked → Acts Kept From_joins
+from_joins a = both Kept JoinsSoFar From_lawful_leases (from_more Whole Kept JoinsSoFar (λ x k. k.known.0) joins_are_kept) (from_lawful_leases a)
+
+from_delta_calls : ActsAsked → Acts Kept From_delta_calls
+from_delta_calls a = both Kept DeltaCallsSoFar From_joins (from_more Kept Kept DeltaCallsSoFar (λ x k. k) a.deltas) (from_joins a)
 
 from_lones : ActsAsked → Acts Kept From_lones
-from_lones a = both Kept LonesSoFar From_lawful_deltas (from_more Known Kept LonesSoFar (λ x k. k.known) a.lones) (from_lawful_deltas a)
+from_lones a = both Kept LonesSoFar From_delta_calls (from_more Kept Kept LonesSoFar (λ x k. k) a.lones) (from_delta_calls a)
 
 from_spelled : ActsAsked → Acts Kept From_spelled
-from_spelled a = both Kept SpelledSoFar From_lones (from_more Known Kept SpelledSoFar (λ x k. k.known) a.spelled) (from_lones a)
+from_spelled a = both Kept SpelledSoFar From_lones (from_more Kept Kept SpelledSoFar (λ x k. k) a.spelled) (from_lones a)
 
 from_values : ActsAsked → Acts Kept From_values
 from_values a = both Kept HasValueFacts From_spelled (from_more Known Kept HasValueFacts (λ x k. k.known) value_facts_are_kept) (from_spelled a)
@@ -272,8 +290,11 @@ from_turns a = both Kept HasTurnFacts From_ways (from_more Whole Kept HasTurnFac
 from_delta : ActsAsked → Acts Kept From_delta
 from_delta a = both Kept HasDeltaFacts From_turns (from_more Whole Kept HasDeltaFacts (λ x k. k.known.0) delta_facts_are_kept) (from_turns a)
 
+from_watches : ActsAsked → Acts Kept From_watches
+from_watches a = both Kept HasWatchFacts From_delta (from_more (λ x. Whole x × HasWatchFacts x) Kept HasWatchFacts (λ x k. (k.known.0, k.watches)) watch_facts_are_kept) (from_delta a)
+
 from_connections : ActsAsked → Acts Kept From_connections
-from_connections a = both Kept HasConnectionFacts From_delta (from_more Whole Kept HasConnectionFacts (λ x k. k.known.0) connection_facts_are_kept) (from_delta a)
+from_connections a = both Kept HasConnectionFacts From_watches (from_more Whole Kept HasConnectionFacts (λ x k. k.known.0) connection_facts_are_kept) (from_watches a)
 
 from_names : ActsAsked → Acts Kept From_names
 from_names a = both Kept HasNameFacts From_connections (from_more Whole Kept HasNameFacts (λ x k. k.known.0) name_facts_are_kept) (from_connections a)
@@ -299,32 +320,37 @@ parts_of x h =
       quiet = h.1.1.1.0;
       names = h.1.1.1.1.0;
       connections = h.1.1.1.1.1.0;
-      delta = h.1.1.1.1.1.1.0;
-      turns = h.1.1.1.1.1.1.1.0;
-      ways = h.1.1.1.1.1.1.1.1.0;
-      holdings = h.1.1.1.1.1.1.1.1.1.0;
-      works = h.1.1.1.1.1.1.1.1.1.1.0;
-      grounds = h.1.1.1.1.1.1.1.1.1.1.1.0;
-      numbers = h.1.1.1.1.1.1.1.1.1.1.1.1.0;
-      values = h.1.1.1.1.1.1.1.1.1.1.1.1.1.0;
-      spelled = h.1.1.1.1.1.1.1.1.1.1.1.1.1.1.0;
-      lones = h.1.1.1.1.1.1.1.1.1.1.1.1.1.1.1.0;
-      lawful_deltas = h.1.1.1.1.1.1.1.1.1.1.1.1.1.1.1.1.0;
-      lawful_leases = h.1.1.1.1.1.1.1.1.1.1.1.1.1.1.1.1.1.0;
-      lawful_modes = h.1.1.1.1.1.1.1.1.1.1.1.1.1.1.1.1.1.1.0;
-      moved = h.1.1.1.1.1.1.1.1.1.1.1.1.1.1.1.1.1.1.1.0;
-      lawful_granting = h.1.1.1.1.1.1.1.1.1.1.1.1.1.1.1.1.1.1.1.1.0;
-      lawful_ends = h.1.1.1.1.1.1.1.1.1.1.1.1.1.1.1.1.1.1.1.1.1.0;
-      lawful_values = h.1.1.1.1.1.1.1.1.1.1.1.1.1.1.1.1.1.1.1.1.1.1.0;
-      moment = h.1.1.1.1.1.1.1.1.1.1.1.1.1.1.1.1.1.1.1.1.1.1.1.0;
-      exits = h.1.1.1.1.1.1.1.1.1.1.1.1.1.1.1.1.1.1.1.1.1.1.1.1.0;
-      stops = h.1.1.1.1.1.1.1.1.1.1.1.1.1.1.1.1.1.1.1.1.1.1.1.1.1.0;
-      denies = h.1.1.1.1.1.1.1.1.1.1.1.1.1.1.1.1.1.1.1.1.1.1.1.1.1.1.0;
-      partings = h.1.1.1.1.1.1.1.1.1.1.1.1.1.1.1.1.1.1.1.1.1.1.1.1.1.1.1.0;
-      old = h.1.1.1.1.1.1.1.1.1.1.1.1.1.1.1.1.1.1.1.1.1.1.1.1.1.1.1.1;
+      watches = h.1.1.1.1.1.1.0;
+      delta = h.1.1.1.1.1.1.1.0;
+      turns = h.1.1.1.1.1.1.1.1.0;
+      ways = h.1.1.1.1.1.1.1.1.1.0;
+      holdings = h.1.1.1.1.1.1.1.1.1.1.0;
+      works = h.1.1.1.1.1.1.1.1.1.1.1.0;
+      grounds = h.1.1.1.1.1.1.1.1.1.1.1.1.0;
+      numbers = h.1.1.1.1.1.1.1.1.1.1.1.1.1.0;
+      values = h.1.1.1.1.1.1.1.1.1.1.1.1.1.1.0;
+      spelled = h.1.1.1.1.1.1.1.1.1.1.1.1.1.1.1.0;
+      lones = h.1.1.1.1.1.1.1.1.1.1.1.1.1.1.1.1.0;
+      delta_calls = h.1.1.1.1.1.1.1.1.1.1.1.1.1.1.1.1.1.0;
+      joins = h.1.1.1.1.1.1.1.1.1.1.1.1.1.1.1.1.1.1.0;
+      lawful_leases = h.1.1.1.1.1.1.1.1.1.1.1.1.1.1.1.1.1.1.1.0;
+      lawful_modes = h.1.1.1.1.1.1.1.1.1.1.1.1.1.1.1.1.1.1.1.1.0;
+      moved = h.1.1.1.1.1.1.1.1.1.1.1.1.1.1.1.1.1.1.1.1.1.0;
+      lawful_granting = h.1.1.1.1.1.1.1.1.1.1.1.1.1.1.1.1.1.1.1.1.1.1.0;
+      lawful_ends = h.1.1.1.1.1.1.1.1.1.1.1.1.1.1.1.1.1.1.1.1.1.1.1.0;
+      lawful_values = h.1.1.1.1.1.1.1.1.1.1.1.1.1.1.1.1.1.1.1.1.1.1.1.1.0;
+      moment = h.1.1.1.1.1.1.1.1.1.1.1.1.1.1.1.1.1.1.1.1.1.1.1.1.1.0;
+      exits = h.1.1.1.1.1.1.1.1.1.1.1.1.1.1.1.1.1.1.1.1.1.1.1.1.1.1.0;
+      stops = h.1.1.1.1.1.1.1.1.1.1.1.1.1.1.1.1.1.1.1.1.1.1.1.1.1.1.1.0;
+      denies = h.1.1.1.1.1.1.1.1.1.1.1.1.1.1.1.1.1.1.1.1.1.1.1.1.1.1.1.1.0;
+      partings = h.1.1.1.1.1.1.1.1.1.1.1.1.1.1.1.1.1.1.1.1.1.1.1.1.1.1.1.1.1.0;
+      old = h.1.1.1.1.1.1.1.1.1.1.1.1.1.1.1.1.1.1.1.1.1.1.1.1.1.1.1.1.1.1;
     }
 
 -- ---- put together
+
+lawful_deltas : (x : Step) → Parts x → DeltasSoFar x
+lawful_deltas x h = record { calls = h.delta_calls.calls; placed = h.delta_calls.placed; joins = h.joins; alone = h.delta_calls.alone }
 
 pub kept_of : (x : Step) → Parts x → Kept x
 kept_of x h =
@@ -335,8 +361,8 @@ kept_of x h =
           before = h.old.1;
           orderly = record {
             is_trace = (h.follows, h.old.1.orderly.is_trace);
-            calls = (calls_are_lawful x h.calls h.delta h.lawful_leases.area h.lawful_deltas h.spelled h.lones, h.old.1.orderly.calls);
-            delta = (h.lawful_deltas, h.old.1.orderly.delta);
+            calls = (calls_are_lawful x h.calls h.delta h.lawful_leases.area (lawful_deltas x h) h.spelled h.lones, h.old.1.orderly.calls);
+            delta = (lawful_deltas x h, h.old.1.orderly.delta);
             area = (h.lawful_leases.area, h.old.1.orderly.area);
             block = (h.lawful_leases.block, h.old.1.orderly.block);
             leader = (h.lawful_leases.leader, h.old.1.orderly.leader);
@@ -344,7 +370,7 @@ kept_of x h =
             watchdog = (watchdog_is_lawful x h.connections h.holdings h.moved, h.old.1.orderly.watchdog);
             granting = (h.lawful_granting, h.old.1.orderly.granting);
             ends = (h.lawful_ends, h.old.1.orderly.ends);
-            parting = (parting_is_lawful x h.calls h.follows h.lawful_leases.area h.lawful_deltas (watchdog_is_lawful x h.connections h.holdings h.moved) h.partings, h.old.1.orderly.parting);
+            parting = (parting_is_lawful x h.calls h.follows h.lawful_leases.area (lawful_deltas x h) (watchdog_is_lawful x h.connections h.holdings h.moved) h.partings, h.old.1.orderly.parting);
             values = (h.lawful_values, h.old.1.orderly.values);
           };
           facts = record {
@@ -365,6 +391,7 @@ kept_of x h =
         },
         h.moment,
       );
+      watches = h.watches;
       exits = h.exits;
       moved = h.moved;
       stops = h.stops;
@@ -395,8 +422,12 @@ spelled_begins st past now = subst (λ y. SpelledSoFar y) (sym (begun_says st pa
 lones_begin : (st : Setting) (past : Trace) (now : ℕ) → LonesSoFar (begin_recoveries (begin_step st past now))
 lones_begin st past now = subst (λ y. LonesSoFar y) (sym (begun_says st past now).is) (λ k c s at its. no_call k c at)
 
-pub all_begins : ActsAsked → Begins Kept
-all_begins a st past e follows w =
+delta_calls_begin : (st : Setting) (past : Trace) (now : ℕ) → DeltaCallsSoFar (begin_recoveries (begin_step st past now))
+delta_calls_begin st past now =
+    subst (λ y. DeltaCallsSoFar y) (sym (begun_says st past now).is) (record { calls = λ k c s at its. no_call k c at; placed = λ k c s at its. no_call k c at; alone = λ k c s at its. no_call k c at })
+
+pub all_begins : (st : Setting) (past : Trace) (e : Entry) → FollowsTrace st past e → WholeTrace st past → WatchFacts st past None → Kept (begin_recoveries (begin_step st past e.reading))
+all_begins st past e follows w watches =
     kept_of (begin_recoveries (begin_step st past e.reading)) (record {
       follows = entries_begin st past e follows w;
       calls = call_facts_begin st past e follows w;
@@ -404,6 +435,7 @@ all_begins a st past e follows w =
       quiet = quiet_facts_begin st past e follows w;
       names = name_facts_begin st past e follows w;
       connections = connection_facts_begin st past e follows w;
+      watches = reads_begin st past e.reading watches;
       delta = delta_facts_begin st past e follows w;
       turns = turn_facts_begin st past e follows w;
       ways = way_facts_begin st past e follows w;
@@ -414,7 +446,8 @@ all_begins a st past e follows w =
       values = value_facts_begin st past e follows w;
       spelled = spelled_begins st past e.reading;
       lones = lones_begin st past e.reading;
-      lawful_deltas = a.deltas_begin st past e follows w;
+      delta_calls = delta_calls_begin st past e.reading;
+      joins = joins_begin st past e follows w;
       lawful_leases = lease_laws_begin st past e follows w;
       lawful_modes = modes_begin st past e follows w;
       moved = moves_begin st past e follows w;

@@ -11,6 +11,7 @@ use Rattle.sl_due_lawful.proofs.AllIsKept.{all_begins}
 use Rattle.sl_due_lawful.proofs.FirstFacts.{facts_at_first, grounds_rest}
 use Rattle.sl_due_lawful.specs.Kept.{Holds, Kept, Rests}
 use Rattle.sl_due_lawful.specs.Promises.{ActsAsked, DueIsLawfulWith, TracesHold}
+use Rattle.sl_job_facts.proofs.EffectsAreAllowed.{delta, ended}
 use Rattle.sl_law.specs.Lawful.{Lawful, Orderly}
 use Rattle.sl_law.specs.LawfulExit.{LawfulExit}
 use Rattle.sl_lease_ways.proofs.Kept.StepsBegin.{turns_rest}
@@ -18,6 +19,8 @@ use Rattle.sl_plain.proofs.Lists.{head_is}
 use Rattle.sl_recovery_due.proofs.RecoveryIsLawful.{kill_facts_end, recovery_is_lawful}
 use Rattle.sl_recovery_due.proofs.StopsBegin.{begun_says}
 use Rattle.sl_recovery_due.specs.KillFacts.{KillFacts}
+use Rattle.sl_session_due.proofs.DeltaPromises.{nothing_was_read}
+use Rattle.sl_session_due.specs.WatchFacts.{WatchFacts}
 use Rattle.sl_sessions.specs.declared.session.Session.{Session}
 use Rattle.sl_step_facts.specs.Heard.{IsOpen, heard_by}
 use Rattle.sl_step_facts.specs.HoldingFacts.{HoldingFacts, StandsExclusive}
@@ -131,6 +134,7 @@ record AtEnd (st : Setting) (past : Trace) (e : Entry) : Type 0 where
   orderly : Orderly st (e ∷ past)
   exits : LawfulExit past e
   facts : Facts st (e ∷ past) None
+  watches : WatchFacts st (e ∷ past) None
 
 at_end : (st : Setting) (past : Trace) (e : Entry) (y : Step) → y.setting ≡ st → y.past ≡ past → entry_of y ≡ e → Kept y → Rests y → AtEnd st past e
 at_end st past e y setting before entry k r =
@@ -138,12 +142,13 @@ at_end st past e y setting before entry k r =
       orderly = k.known.0.orderly;
       exits = k.exits;
       facts = facts_rest y.setting (seen y) (heard_by y.input) k.known.0.facts r.quiet r.names r.connections;
+      watches = r.watches;
     })))
 
 pub step_holds : ActsAsked → (st : Setting) (past : Trace) (e : Entry) → FollowsTrace st past e → IsDue st past e → Holds st past → Holds st (e ∷ past)
 step_holds asked st past e follows due_one h = by (step_heeds Heard Rested (other_acts_rest asked) (answer_acts_rest asked) st past e.reading e.input follows.expected begun) where
   kept_first : Kept (begin_recoveries (begin_step st past e.reading))
-  kept_first = all_begins asked st past e follows h.whole
+  kept_first = all_begins st past e follows h.whole h.watches
 
   begun : Rested (begin_recoveries (begin_step st past e.reading))
   begun = rested (begin_recoveries (begin_step st past e.reading)) (ap (λ (y : Step). heard_by y.input) (begun_says st past e.reading).is) kept_first
@@ -168,6 +173,7 @@ step_holds asked st past e follows due_one h = by (step_heeds Heard Rested (othe
           };
           facts = done.facts;
         };
+        watches = done.watches;
         kills = kills;
       }
 
@@ -185,7 +191,7 @@ first_kills : (st : Setting) → KillFacts st []
 first_kills st = record { recovery = λ s b there is. absurd (none_some b is); leaving = λ s b there is. absurd (none_some b is) }
 
 pub traces_hold : TracesHold
-traces_hold asked st [] setting h = record { whole = record { setting = setting; lawful = first_lawful st; facts = facts_at_first st setting }; kills = first_kills st }
+traces_hold asked st [] setting h = record { whole = record { setting = setting; lawful = first_lawful st; facts = facts_at_first st setting }; watches = nothing_was_read st; kills = first_kills st }
 traces_hold asked st (e ∷ past) setting h = step_holds asked st past e h.0.0 h.1.0 (traces_hold asked st past setting (h.0.1, h.1.1))
 
 pub due_is_lawful_with : DueIsLawfulWith

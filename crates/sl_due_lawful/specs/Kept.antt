@@ -8,6 +8,7 @@ use Rattle.sl_recovery_due.specs.Promises.{StopsSoFar}
 use Rattle.sl_recovery_due.specs.Stops.{Denies, FreesEnd, Partings, Stops}
 use Rattle.sl_session_due.specs.MovedSoFar.{MovedSoFar}
 use Rattle.sl_session_due.specs.Promises.{HasConnectionsPlainly}
+use Rattle.sl_session_due.specs.WatchFacts.{HasWatchFacts, HasWatchesPlainly, WatchFacts}
 use Rattle.sl_session_facts.specs.Promises.{HasNamesPlainly}
 use Rattle.sl_step_facts.specs.Whole.{WholeTrace}
 use Rattle.sl_trace.specs.Traces.{Setting, Trace}
@@ -16,6 +17,7 @@ use Rattle.std.specs.Prelude.{None}
 -- What each act of a step keeps.
 pub record Kept (x : Step) : Type 0 where
   pub known : Known x
+  pub watches : HasWatchFacts x
   pub exits : ExitsSoFar x
   pub moved : MovedSoFar x
   pub stops : StopsSoFar x
@@ -27,10 +29,12 @@ pub record Rests (x : Step) : Type 0 where
   pub quiet : IsQuiet x
   pub names : HasNamesPlainly x
   pub connections : HasConnectionsPlainly x
+  pub watches : HasWatchesPlainly x
   pub stops : Stops x None
   pub ends : FreesEnd x
 
 -- What is so of a trace at the end of each entry.
 pub record Holds (st : Setting) (t : Trace) : Type 0 where
   pub whole : WholeTrace st t
+  pub watches : WatchFacts st t None
   pub kills : KillFacts st t

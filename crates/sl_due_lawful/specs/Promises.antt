@@ -8,12 +8,10 @@ use Rattle.sl_due.specs.Steps.{Step, seen, with_input}
 use Rattle.sl_due.specs.declared.decision.Decision.{Decision}
 use Rattle.sl_due_lawful.specs.Busy.{Waits, told_by}
 use Rattle.sl_due_lawful.specs.Kept.{Holds, Kept}
-use Rattle.sl_holding_due.specs.Moments.{Known}
-use Rattle.sl_holding_due.specs.Promises.{Begins}
 use Rattle.sl_law.specs.Caused.{AnswersWell, IsCaused}
 use Rattle.sl_law.specs.Lawful.{IsSetting, Lawful}
 use Rattle.sl_law.specs.LawfulCalls.{may_submit}
-use Rattle.sl_law.specs.LawfulDelta.{LawfulDelta}
+use Rattle.sl_law.specs.LawfulDelta.{LawfulDelta, LawfulDeltaCall, is_on_own_sector}
 use Rattle.sl_law.specs.Saying.{EachCall}
 use Rattle.sl_leases.specs.Jobs.{aim_of}
 use Rattle.sl_leases.specs.Leases.{spot_of_call}
@@ -21,7 +19,7 @@ use Rattle.sl_leases.specs.declared.lease.Aim.{Aim}
 use Rattle.sl_recovery_due.specs.Stops.{JustHeard}
 use Rattle.sl_sector.specs.Records.{IsRecord}
 use Rattle.sl_sector.specs.declared.sector.Rec.{Rec}
-use Rattle.sl_sessions.specs.Sessions.{is_present, session_numbered, stage_of}
+use Rattle.sl_sessions.specs.Sessions.{has_open_delta, is_delta_purpose, is_present, is_survey_purpose, session_numbered, stage_of}
 use Rattle.sl_sessions.specs.declared.session.Session.{Session}
 use Rattle.sl_step_facts.specs.Whole.{Facts}
 use Rattle.sl_trace.specs.Traces.{Child, FollowsTrace, Setting, Submitted, Trace, call_numbered, children, is_running, job_of, next_job, record_of, work_job}
@@ -35,10 +33,17 @@ use Rattle.sl_trace.specs.declared.effects.Purpose.TheVariants.{Joining, Lease, 
 use Rattle.sl_trace.specs.declared.effects.Work.{Work}
 use Rattle.sl_trace.specs.declared.input.Answer.{Answer}
 use Rattle.sl_trace.specs.declared.input.Input.TheVariants.{Answer as Told, Line, Wake}
-use Rattle.std.specs.Prelude.{Bool, Contains, IsTrue, List, None, Ok, Some, [], false, true, ℕ, ◌∷◌, ◌≡◌}
+use Rattle.std.specs.Prelude.{Bool, Contains, IsTrue, List, None, Ok, Some, [], false, not, true, ℕ, ◌&&◌, ◌∷◌, ◌≡◌}
 
 abbrev pub DeltasSoFar : Step → Type 0
 DeltasSoFar x = LawfulDelta x.setting x.past (entry_of x)
+
+-- What is asked of the calls on delta sectors.
+pub record DeltaCallsSoFar (x : Step) : Type 0 where
+  pub calls : EachCall x.setting (λ es s c. LawfulDeltaCall x.setting es s c c.call.purpose) x.past (entry_of x)
+  pub placed : EachCall x.setting
+      (λ es s c. IsTrue (is_delta_purpose c.call.purpose && not (is_survey_purpose c.call.purpose)) → IsTrue (is_on_own_sector x.setting s c)) x.past (entry_of x)
+  pub alone : EachCall x.setting (λ es s c. IsTrue (is_delta_purpose c.call.purpose) → has_open_delta es s ≡ false) x.past (entry_of x)
 
 -- What is written has a spelling.
 abbrev pub SpelledSoFar : Step → Type 0
@@ -54,13 +59,12 @@ is_lone_read p = false
 abbrev pub LonesSoFar : Step → Type 0
 LonesSoFar x = EachCall x.setting (λ es s c. IsTrue (is_lone_read c.call.purpose) → IsTrue (may_submit (stage_of es s))) x.past (entry_of x)
 
--- What is asked of the acts besides what is shown: the law of delta sectors; that writes are spelled; and that sessions which read alone may
--- call.
+-- What is asked of the acts besides what is shown: that each call on a delta sector is lawful; that writes are spelled; and that sessions
+-- which read alone may call.
 pub record ActsAsked : Type 0 where
-  pub deltas : Acts Known DeltasSoFar
-  pub deltas_begin : Begins DeltasSoFar
-  pub spelled : Acts Known SpelledSoFar
-  pub lones : Acts Known LonesSoFar
+  pub deltas : Acts Kept DeltaCallsSoFar
+  pub spelled : Acts Kept SpelledSoFar
+  pub lones : Acts Kept LonesSoFar
 
 -- The facts hold before the first entry.
 abbrev pub FactsAtFirst : Type 0
