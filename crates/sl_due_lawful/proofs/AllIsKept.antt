@@ -7,7 +7,7 @@ use Rattle.sl_due.specs.DueCommands.{carry_decision}
 use Rattle.sl_due.specs.DueFirst.{begin_recoveries}
 use Rattle.sl_due.specs.Steps.{Step, begin_step}
 use Rattle.sl_due_lawful.proofs.CallsAreLawful.{calls_are_lawful}
-use Rattle.sl_due_lawful.specs.Kept.{Kept}
+use Rattle.sl_due_lawful.specs.Kept.{Holds, Kept}
 use Rattle.sl_due_lawful.specs.Promises.{ActsAsked, DeltaCallsSoFar, DeltasSoFar, LonesSoFar, SpelledSoFar}
 use Rattle.sl_grant_due.proofs.ActiveGrants.{granting_begins, granting_is_lawful}
 use Rattle.sl_grant_due.proofs.EndsAreLawful.{ends_are_lawful, ends_begin}
@@ -31,7 +31,6 @@ use Rattle.sl_job_facts.proofs.EntriesFollow.{entries_begin, entries_follow}
 use Rattle.sl_job_facts.proofs.JobPromises.{call_facts_are_kept, call_facts_begin, job_facts_are_kept, job_facts_begin, quiet_facts_are_kept, quiet_facts_begin}
 use Rattle.sl_job_facts.proofs.LessIsKept.{to_less}
 use Rattle.sl_job_facts.specs.Promises.{FollowsSoFar, HasCallFacts, HasJobFacts, HasQuietFacts}
-use Rattle.sl_law.specs.Lawful.{IsSetting, Lawful}
 use Rattle.sl_lease_due.proofs.LawsAreKept.{laws_are_kept}
 use Rattle.sl_lease_due.specs.LeaseLawful.{LeaseLaws}
 use Rattle.sl_lease_ways.proofs.Kept.FactsAreKept.{grant_grounds_are_kept, grant_grounds_begin, number_facts_are_kept, number_facts_begin, turn_facts_are_kept, turn_facts_begin, way_facts_are_kept, way_facts_begin}
@@ -53,22 +52,22 @@ use Rattle.sl_session_due.proofs.WatchdogIsLawful.{watchdog_is_lawful}
 use Rattle.sl_session_due.specs.DeltaPromises.{JoinsSoFar}
 use Rattle.sl_session_due.specs.MovedSoFar.{MovedSoFar}
 use Rattle.sl_session_due.specs.Promises.{HasConnectionFacts}
-use Rattle.sl_session_due.specs.WatchFacts.{HasWatchFacts, WatchFacts}
+use Rattle.sl_session_due.specs.WatchFacts.{HasWatchFacts}
 use Rattle.sl_session_facts.proofs.DeltaFactsBegin.{delta_facts_begin}
 use Rattle.sl_session_facts.proofs.DeltaFactsHold.{delta_facts_are_kept}
 use Rattle.sl_session_facts.proofs.NameFactsAreKept.{name_facts_are_kept, name_facts_begin}
 use Rattle.sl_session_facts.specs.Promises.{HasDeltaFacts, HasNameFacts}
-use Rattle.sl_step_facts.specs.Whole.{Whole, WholeTrace}
+use Rattle.sl_step_facts.specs.Whole.{Whole}
 use Rattle.sl_trace.specs.Traces.{FollowsTrace, Setting, Trace}
 use Rattle.sl_trace.specs.declared.effects.Call.{Call}
 use Rattle.sl_trace.specs.declared.effects.Entry.{Entry}
 use Rattle.std.proofs.Common.{subst, sym}
-use Rattle.std.specs.Prelude.{None, Some, [], slice_get, ℕ, ◌≡◌}
+use Rattle.std.specs.Prelude.{Some, [], slice_get, ℕ, ◌≡◌}
 
 -- ---- what came before the step stays
 
 abbrev pub IsOld : Step → Type 0
-IsOld x = IsSetting x.setting × Lawful x.setting x.past
+IsOld x = Holds x.setting x.past
 
 old_effects : ByEffects IsOld
 old_effects =
@@ -219,7 +218,7 @@ abbrev From_follows : Step → Type 0
 From_follows x = FollowsSoFar x × From_calls x
 
 from_old : ActsAsked → Acts Kept From_old
-from_old a = from_more IsOld Kept IsOld (λ x k. (k.known.0.setting, k.known.0.before)) old_is_kept
+from_old a = from_more IsOld Kept IsOld (λ x k. k.before) old_is_kept
 
 from_partings : ActsAsked → Acts Kept From_partings
 from_partings a = both Kept Partings From_old (from_more (λ x. Known x × Partings x) Kept Partings (λ x k. (k.known, k.partings)) partings_are_kept) (from_old a)
@@ -357,21 +356,21 @@ kept_of x h =
     record {
       known = (
         record {
-          setting = h.old.0;
-          before = h.old.1;
+          setting = h.old.whole.setting;
+          before = h.old.whole.lawful;
           orderly = record {
-            is_trace = (h.follows, h.old.1.orderly.is_trace);
-            calls = (calls_are_lawful x h.calls h.delta h.lawful_leases.area (lawful_deltas x h) h.spelled h.lones, h.old.1.orderly.calls);
-            delta = (lawful_deltas x h, h.old.1.orderly.delta);
-            area = (h.lawful_leases.area, h.old.1.orderly.area);
-            block = (h.lawful_leases.block, h.old.1.orderly.block);
-            leader = (h.lawful_leases.leader, h.old.1.orderly.leader);
-            modes = (h.lawful_modes, h.old.1.orderly.modes);
-            watchdog = (watchdog_is_lawful x h.connections h.holdings h.moved, h.old.1.orderly.watchdog);
-            granting = (h.lawful_granting, h.old.1.orderly.granting);
-            ends = (h.lawful_ends, h.old.1.orderly.ends);
-            parting = (parting_is_lawful x h.calls h.follows h.lawful_leases.area (lawful_deltas x h) (watchdog_is_lawful x h.connections h.holdings h.moved) h.partings, h.old.1.orderly.parting);
-            values = (h.lawful_values, h.old.1.orderly.values);
+            is_trace = (h.follows, h.old.whole.lawful.orderly.is_trace);
+            calls = (calls_are_lawful x h.calls h.delta h.lawful_leases.area (lawful_deltas x h) h.spelled h.lones, h.old.whole.lawful.orderly.calls);
+            delta = (lawful_deltas x h, h.old.whole.lawful.orderly.delta);
+            area = (h.lawful_leases.area, h.old.whole.lawful.orderly.area);
+            block = (h.lawful_leases.block, h.old.whole.lawful.orderly.block);
+            leader = (h.lawful_leases.leader, h.old.whole.lawful.orderly.leader);
+            modes = (h.lawful_modes, h.old.whole.lawful.orderly.modes);
+            watchdog = (watchdog_is_lawful x h.connections h.holdings h.moved, h.old.whole.lawful.orderly.watchdog);
+            granting = (h.lawful_granting, h.old.whole.lawful.orderly.granting);
+            ends = (h.lawful_ends, h.old.whole.lawful.orderly.ends);
+            parting = (parting_is_lawful x h.calls h.follows h.lawful_leases.area (lawful_deltas x h) (watchdog_is_lawful x h.connections h.holdings h.moved) h.partings, h.old.whole.lawful.orderly.parting);
+            values = (h.lawful_values, h.old.whole.lawful.orderly.values);
           };
           facts = record {
             calls = h.calls;
@@ -397,6 +396,7 @@ kept_of x h =
       stops = h.stops;
       denies = h.denies;
       partings = h.partings;
+      before = h.old;
     }
 
 -- Each act keeps all of it.
@@ -426,40 +426,40 @@ delta_calls_begin : (st : Setting) (past : Trace) (now : ℕ) → DeltaCallsSoFa
 delta_calls_begin st past now =
     subst (λ y. DeltaCallsSoFar y) (sym (begun_says st past now).is) (record { calls = λ k c s at its. no_call k c at; placed = λ k c s at its. no_call k c at; alone = λ k c s at its. no_call k c at })
 
-pub all_begins : (st : Setting) (past : Trace) (e : Entry) → FollowsTrace st past e → WholeTrace st past → WatchFacts st past None → Kept (begin_recoveries (begin_step st past e.reading))
-all_begins st past e follows w watches =
+pub all_begins : (st : Setting) (past : Trace) (e : Entry) → FollowsTrace st past e → Holds st past → Kept (begin_recoveries (begin_step st past e.reading))
+all_begins st past e follows h =
     kept_of (begin_recoveries (begin_step st past e.reading)) (record {
-      follows = entries_begin st past e follows w;
-      calls = call_facts_begin st past e follows w;
-      jobs = job_facts_begin st past e follows w;
-      quiet = quiet_facts_begin st past e follows w;
-      names = name_facts_begin st past e follows w;
-      connections = connection_facts_begin st past e follows w;
-      watches = reads_begin st past e.reading watches;
-      delta = delta_facts_begin st past e follows w;
-      turns = turn_facts_begin st past e follows w;
-      ways = way_facts_begin st past e follows w;
-      holdings = holding_facts_begin st past e follows w;
-      works = work_facts_begin st past e follows w;
-      grounds = grant_grounds_begin st past e follows w;
-      numbers = number_facts_begin st past e follows w;
-      values = value_facts_begin st past e follows w;
+      follows = entries_begin st past e follows h.whole;
+      calls = call_facts_begin st past e follows h.whole;
+      jobs = job_facts_begin st past e follows h.whole;
+      quiet = quiet_facts_begin st past e follows h.whole;
+      names = name_facts_begin st past e follows h.whole;
+      connections = connection_facts_begin st past e follows h.whole;
+      watches = reads_begin st past e.reading h.watches;
+      delta = delta_facts_begin st past e follows h.whole;
+      turns = turn_facts_begin st past e follows h.whole;
+      ways = way_facts_begin st past e follows h.whole;
+      holdings = holding_facts_begin st past e follows h.whole;
+      works = work_facts_begin st past e follows h.whole;
+      grounds = grant_grounds_begin st past e follows h.whole;
+      numbers = number_facts_begin st past e follows h.whole;
+      values = value_facts_begin st past e follows h.whole;
       spelled = spelled_begins st past e.reading;
       lones = lones_begin st past e.reading;
       delta_calls = delta_calls_begin st past e.reading;
-      joins = joins_begin st past e follows w;
-      lawful_leases = lease_laws_begin st past e follows w;
-      lawful_modes = modes_begin st past e follows w;
-      moved = moves_begin st past e follows w;
-      lawful_granting = granting_begins st past e follows w;
-      lawful_ends = ends_begin st past e follows w;
-      lawful_values = values_begin st past e follows w;
-      moment = moments_begin st past e follows w;
-      exits = exits_begin st past e follows w;
-      stops = stops_begin st past e follows w;
-      denies = denials_begin st past e follows w;
-      partings = partings_begin st past e follows w;
-      old = old_begins st past e.reading w;
+      joins = joins_begin st past e follows h.whole;
+      lawful_leases = lease_laws_begin st past e follows h.whole;
+      lawful_modes = modes_begin st past e follows h.whole;
+      moved = moves_begin st past e follows h.whole;
+      lawful_granting = granting_begins st past e follows h.whole;
+      lawful_ends = ends_begin st past e follows h.whole;
+      lawful_values = values_begin st past e follows h.whole;
+      moment = moments_begin st past e follows h.whole;
+      exits = exits_begin st past e follows h.whole;
+      stops = stops_begin st past e follows h.whole;
+      denies = denials_begin st past e follows h.whole;
+      partings = partings_begin st past e follows h.whole;
+      old = old_begins st past e.reading h;
     }) where
-      old_begins : (st : Setting) (past : Trace) (now : ℕ) → WholeTrace st past → IsOld (begin_recoveries (begin_step st past now))
-      old_begins st past now w = subst (λ y. IsOld y) (sym (begun_says st past now).is) (w.setting, w.lawful)
+      old_begins : (st : Setting) (past : Trace) (now : ℕ) → Holds st past → IsOld (begin_recoveries (begin_step st past now))
+      old_begins st past now w = subst (λ y. IsOld y) (sym (begun_says st past now).is) w

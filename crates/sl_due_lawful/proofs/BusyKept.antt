@@ -358,7 +358,7 @@ step_waits asked jobs st past e follows due_one h = record { holds = held; waits
 
   begun : Waiting (begin_recoveries (begin_step st past e.reading))
   begun = (
-    rested (begin_recoveries (begin_step st past e.reading)) (ap (λ (y : Step). heard_by y.input) (begun_says st past e.reading).is) (all_begins st past e follows h.holds.whole h.holds.watches),
+    rested (begin_recoveries (begin_step st past e.reading)) (ap (λ (y : Step). heard_by y.input) (begun_says st past e.reading).is) (all_begins st past e follows h.holds),
     busy_begins st past e.reading h.waits,
   )
 

@@ -148,7 +148,7 @@ at_end st past e y setting before entry k r =
 pub step_holds : ActsAsked → (st : Setting) (past : Trace) (e : Entry) → FollowsTrace st past e → IsDue st past e → Holds st past → Holds st (e ∷ past)
 step_holds asked st past e follows due_one h = by (step_heeds Heard Rested (other_acts_rest asked) (answer_acts_rest asked) st past e.reading e.input follows.expected begun) where
   kept_first : Kept (begin_recoveries (begin_step st past e.reading))
-  kept_first = all_begins st past e follows h.whole h.watches
+  kept_first = all_begins st past e follows h
 
   begun : Rested (begin_recoveries (begin_step st past e.reading))
   begun = rested (begin_recoveries (begin_step st past e.reading)) (ap (λ (y : Step). heard_by y.input) (begun_says st past e.reading).is) kept_first

@@ -14,6 +14,12 @@ use Rattle.sl_step_facts.specs.Whole.{WholeTrace}
 use Rattle.sl_trace.specs.Traces.{Setting, Trace}
 use Rattle.std.specs.Prelude.{None}
 
+-- What is so of a trace at the end of each entry.
+pub record Holds (st : Setting) (t : Trace) : Type 0 where
+  pub whole : WholeTrace st t
+  pub watches : WatchFacts st t None
+  pub kills : KillFacts st t
+
 -- What each act of a step keeps.
 pub record Kept (x : Step) : Type 0 where
   pub known : Known x
@@ -23,6 +29,7 @@ pub record Kept (x : Step) : Type 0 where
   pub stops : StopsSoFar x
   pub denies : Denies x
   pub partings : Partings x
+  pub before : Holds x.setting x.past
 
 -- What is so besides where nothing is left of what an answer makes due.
 pub record Rests (x : Step) : Type 0 where
@@ -32,9 +39,3 @@ pub record Rests (x : Step) : Type 0 where
   pub watches : HasWatchesPlainly x
   pub stops : Stops x None
   pub ends : FreesEnd x
-
--- What is so of a trace at the end of each entry.
-pub record Holds (st : Setting) (t : Trace) : Type 0 where
-  pub whole : WholeTrace st t
-  pub watches : WatchFacts st t None
-  pub kills : KillFacts st t
