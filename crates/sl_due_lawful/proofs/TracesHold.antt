@@ -11,7 +11,6 @@ use Rattle.sl_due_lawful.proofs.AllIsKept.{all_begins}
 use Rattle.sl_due_lawful.proofs.FirstFacts.{facts_at_first, grounds_rest}
 use Rattle.sl_due_lawful.specs.Kept.{Holds, Kept, Rests}
 use Rattle.sl_due_lawful.specs.Promises.{ActsAsked, DueIsLawfulWith, TracesHold}
-use Rattle.sl_job_facts.proofs.EffectsAreAllowed.{delta, ended}
 use Rattle.sl_law.specs.Lawful.{Lawful, Orderly}
 use Rattle.sl_law.specs.LawfulExit.{LawfulExit}
 use Rattle.sl_lease_ways.proofs.Kept.StepsBegin.{turns_rest}
