@@ -7,8 +7,11 @@ use Rattle.sl_due.specs.DueCommands.{carry_decision}
 use Rattle.sl_due.specs.DueFirst.{begin_recoveries}
 use Rattle.sl_due.specs.Steps.{Step, begin_step}
 use Rattle.sl_due_lawful.proofs.CallsAreLawful.{calls_are_lawful}
+use Rattle.sl_due_lawful.proofs.LonesAreKept.{lones_are_kept}
+use Rattle.sl_due_lawful.proofs.LonesMay.{lones_may}
 use Rattle.sl_due_lawful.specs.Kept.{Holds, Kept}
-use Rattle.sl_due_lawful.specs.Promises.{ActsAsked, DeltaCallsSoFar, DeltasSoFar, LonesSoFar, SpelledSoFar}
+use Rattle.sl_due_lawful.specs.Lones.{Lones}
+use Rattle.sl_due_lawful.specs.Promises.{ActsAsked, DeltaCallsSoFar, DeltasSoFar, SpelledSoFar}
 use Rattle.sl_grant_due.proofs.ActiveGrants.{granting_begins, granting_is_lawful}
 use Rattle.sl_grant_due.proofs.EndsAreLawful.{ends_are_lawful, ends_begin}
 use Rattle.sl_grant_due.proofs.ExitsAreLawful.{exits_are_lawful, exits_begin}
@@ -26,6 +29,7 @@ use Rattle.sl_holding_due.proofs.MomentsAreKept.{moments_are_kept}
 use Rattle.sl_holding_due.proofs.MomentsBegin.{moments_begin}
 use Rattle.sl_holding_due.specs.Moments.{Known, Moment}
 use Rattle.sl_holding_due.specs.Promises.{Begins, HasHoldingFacts}
+use Rattle.sl_job_facts.proofs.EffectsAreAllowed.{delta}
 use Rattle.sl_job_facts.proofs.EntriesFollow.{entries_begin, entries_follow}
 use Rattle.sl_job_facts.proofs.JobPromises.{call_facts_are_kept, call_facts_begin, job_facts_are_kept, job_facts_begin, quiet_facts_are_kept, quiet_facts_begin}
 use Rattle.sl_job_facts.proofs.LessIsKept.{to_less}
@@ -107,7 +111,7 @@ pub record Parts (x : Step) : Type 0 where
   pub numbers : HasNumberFacts x
   pub values : HasValueFacts x
   pub spelled : SpelledSoFar x
-  pub lones : LonesSoFar x
+  pub lones : Lones x
   pub delta_calls : DeltaCallsSoFar x
   pub joins : JoinsSoFar x
   pub lawful_leases : LeaseLaws x
@@ -166,7 +170,7 @@ abbrev From_delta_calls : Step → Type 0
 From_delta_calls x = DeltaCallsSoFar x × From_joins x
 
 abbrev From_lones : Step → Type 0
-From_lones x = LonesSoFar x × From_delta_calls x
+From_lones x = Lones x × From_delta_calls x
 
 abbrev From_spelled : Step → Type 0
 From_spelled x = SpelledSoFar x × From_lones x
@@ -259,7 +263,7 @@ from_delta_calls : ActsAsked → Acts Kept From_delta_calls
 from_delta_calls a = both Kept DeltaCallsSoFar From_joins (from_more Kept Kept DeltaCallsSoFar (λ x k. k) a.deltas) (from_joins a)
 
 from_lones : ActsAsked → Acts Kept From_lones
-from_lones a = both Kept LonesSoFar From_delta_calls (from_more Kept Kept LonesSoFar (λ x k. k) a.lones) (from_delta_calls a)
+from_lones a = both Kept Lones From_delta_calls (from_more (λ x. Whole x × Lones x) Kept Lones (λ x k. (k.known.0, k.lones)) lones_are_kept) (from_delta_calls a)
 
 from_spelled : ActsAsked → Acts Kept From_spelled
 from_spelled a = both Kept SpelledSoFar From_lones (from_more Kept Kept SpelledSoFar (λ x k. k) a.spelled) (from_lones a)
@@ -359,7 +363,7 @@ kept_of x h =
           before = h.old.whole.lawful;
           orderly = record {
             is_trace = (h.follows, h.old.whole.lawful.orderly.is_trace);
-            calls = (calls_are_lawful x h.calls h.delta h.lawful_leases.area (lawful_deltas x h) h.spelled h.lones, h.old.whole.lawful.orderly.calls);
+            calls = (calls_are_lawful x h.calls h.delta h.lawful_leases.area (lawful_deltas x h) h.spelled (lones_may x h.jobs h.holdings h.delta h.lones), h.old.whole.lawful.orderly.calls);
             delta = (lawful_deltas x h, h.old.whole.lawful.orderly.delta);
             area = (h.lawful_leases.area, h.old.whole.lawful.orderly.area);
             block = (h.lawful_leases.block, h.old.whole.lawful.orderly.block);
@@ -396,6 +400,7 @@ kept_of x h =
       denies = h.denies;
       partings = h.partings;
       before = h.old;
+      lones = h.lones;
     }
 
 -- Each act keeps all of it.
@@ -418,8 +423,8 @@ lease_laws_begin st past e follows w =
 spelled_begins : (st : Setting) (past : Trace) (now : ℕ) → SpelledSoFar (begin_recoveries (begin_step st past now))
 spelled_begins st past now = subst (λ y. SpelledSoFar y) (sym (begun_says st past now).is) (λ c r there is. absurd (contains_none c there))
 
-lones_begin : (st : Setting) (past : Trace) (now : ℕ) → LonesSoFar (begin_recoveries (begin_step st past now))
-lones_begin st past now = subst (λ y. LonesSoFar y) (sym (begun_says st past now).is) (λ k c s at its. no_call k c at)
+lones_begin : (st : Setting) (past : Trace) (now : ℕ) → Lones (begin_recoveries (begin_step st past now))
+lones_begin st past now = subst (λ y. Lones y) (sym (begun_says st past now).is) (λ c there. absurd (contains_none c there))
 
 delta_calls_begin : (st : Setting) (past : Trace) (now : ℕ) → DeltaCallsSoFar (begin_recoveries (begin_step st past now))
 delta_calls_begin st past now =

@@ -38,7 +38,7 @@ front_inside at reading zero cs ms m there = old_stays at reading cs ms m there
 front_inside at reading (suc k) [] ms m there = there
 front_inside at reading (suc k) (c ∷ cs) ms m there = front_inside at reading k cs (new_call at reading c ∷ ms) m there
 
-new_inside : (at reading : ℕ) (cs : List Call) (ms : List Submitted) (c : Call) → Contains cs c → Contains (fold (λ ds d. new_call at reading d ∷ ds) ms cs) (new_call at reading c)
+pub new_inside : (at reading : ℕ) (cs : List Call) (ms : List Submitted) (c : Call) → Contains cs c → Contains (fold (λ ds d. new_call at reading d ∷ ds) ms cs) (new_call at reading c)
 new_inside at reading [] ms c there = absurd (contains_none c there)
 new_inside at reading (d ∷ cs) ms c there = by (contains_cases d cs c there) (λ old. new_inside at reading cs (new_call at reading d ∷ ms) c old) where
   by : (d ≡ c) ⊎ Contains cs c → (Contains cs c → Contains (fold (λ ds b. new_call at reading b ∷ ds) (new_call at reading d ∷ ms) cs) (new_call at reading c))
@@ -58,30 +58,38 @@ front_calls e past k m there = front_inside (length past) e.reading k e.effects.
 
 -- ---- a session that hasn't left
 
-unfreed : (x : Step) (k : ℕ) (s : Session) → DeltaFacts x.setting (seen x) → Contains (sessions x.setting (seen x)) s → leaving_job x.setting (cut_at k (entry_of x) ∷ x.past) s ≡ None
-    → free_write (calls_of (cut_at k (entry_of x) ∷ x.past) s) ≡ None
-unfreed x k s facts there stays = by (free_write (calls_of (cut_at k (entry_of x) ∷ x.past) s)) refl (free_write (calls_of (seen x) s)) refl where
-  by : (o : Option Submitted) → free_write (calls_of (cut_at k (entry_of x) ∷ x.past) s) ≡ o → (w : Option Submitted) → free_write (calls_of (seen x) s) ≡ w → free_write (calls_of (cut_at k (entry_of x) ∷ x.past) s) ≡ None
-  by None is w was = is
-  by (Some m) is (Some f) was = absurd (false_is_true (sym (ap (λ o. is_some o) stays) ∙ (facts.frees s f there was).0))
-  by (Some m) is None was =
+pub front_unfreed : (x : Step) (k : ℕ) (s : Session) → free_write (calls_of (seen x) s) ≡ None → free_write (calls_of (cut_at k (entry_of x) ∷ x.past) s) ≡ None
+front_unfreed x k s none = by (free_write (calls_of (cut_at k (entry_of x) ∷ x.past) s)) refl where
+  by : (o : Option Submitted) → free_write (calls_of (cut_at k (entry_of x) ∷ x.past) s) ≡ o → free_write (calls_of (cut_at k (entry_of x) ∷ x.past) s) ≡ None
+  by None is = is
+  by (Some m) is =
       let found = find_inside (λ (d : Submitted). is_free_purpose d.call.purpose) (calls_of (cut_at k (entry_of x) ∷ x.past) s) m is in
       let mine = kept_inside (is_call_of s) (submitted (cut_at k (entry_of x) ∷ x.past)) m found.0 in
       absurd (not_both (is_free_purpose m.call.purpose) found.1
-      (find_fails (λ (d : Submitted). is_free_purpose d.call.purpose) (calls_of (seen x) s) m was (kept (is_call_of s) (submitted (seen x)) m mine.1 (front_calls (entry_of x) x.past k m mine.0))))
+      (find_fails (λ (d : Submitted). is_free_purpose d.call.purpose) (calls_of (seen x) s) m none (kept (is_call_of s) (submitted (seen x)) m mine.1 (front_calls (entry_of x) x.past k m mine.0))))
+
+unfreed : (x : Step) (k : ℕ) (s : Session) → DeltaFacts x.setting (seen x) → Contains (sessions x.setting (seen x)) s → leaving_job x.setting (cut_at k (entry_of x) ∷ x.past) s ≡ None
+    → free_write (calls_of (cut_at k (entry_of x) ∷ x.past) s) ≡ None
+unfreed x k s facts there stays = by (free_write (calls_of (seen x) s)) refl where
+  by : (w : Option Submitted) → free_write (calls_of (seen x) s) ≡ w → free_write (calls_of (cut_at k (entry_of x) ∷ x.past) s) ≡ None
+  by None was = front_unfreed x k s was
+  by (Some f) was = absurd (false_is_true (sym (ap (λ o. is_some o) stays) ∙ (facts.frees s f there was).0))
+
+pub joined_may : (t : Trace) (s : Session) → is_joined t s ≡ true → free_write (calls_of t s) ≡ None → may_submit (stage_of t s) ≡ true
+joined_may t s joined none = by (joined_after t s) (removed_after t s) joined (free_write (calls_of t s)) none where
+  by : (o r : Option ℕ) → (is_some o && is_none r) ≡ true → (f : Option Submitted) → f ≡ None
+      → may_submit (elim o as (λ z. Stage) [
+        | Some k ↦ elim r as (λ z. Stage) [ Some i ↦ Ended | None ↦ elim f as (λ z. Stage) [ Some m ↦ Freeing | None ↦ Standing ] ]
+        | None ↦ elim (refused_after t s) as (λ z. Stage) [ Some k ↦ Refused | None ↦ stage_in (calls_of t s) ]
+      ]) ≡ true
+  by (Some k) None h None free = refl
+  by (Some k) None h (Some m) free = absurd (false_is_true (ap (λ o. is_none o) free))
+  by (Some k) (Some i) h f free = absurd (false_is_true h)
+  by None r h f free = absurd (false_is_true h)
 
 active_may : (st : Setting) (t : Trace) (s : Session) → is_active st t s ≡ true → free_write (calls_of t s) ≡ None → may_submit (stage_of t s) ≡ true
 active_may st t s active none =
-    by (joined_after t s) (removed_after t s) (and_true (is_joined t s) (is_none (recovery_of st t s)) (and_true (is_joined t s && is_none (recovery_of st t s)) (is_none (leaving_job st t s)) active).0).0 (free_write (calls_of t s)) none where
-      by : (o r : Option ℕ) → (is_some o && is_none r) ≡ true → (f : Option Submitted) → f ≡ None
-          → may_submit (elim o as (λ z. Stage) [
-            | Some k ↦ elim r as (λ z. Stage) [ Some i ↦ Ended | None ↦ elim f as (λ z. Stage) [ Some m ↦ Freeing | None ↦ Standing ] ]
-            | None ↦ elim (refused_after t s) as (λ z. Stage) [ Some k ↦ Refused | None ↦ stage_in (calls_of t s) ]
-          ]) ≡ true
-      by (Some k) None h None free = refl
-      by (Some k) None h (Some m) free = absurd (false_is_true (ap (λ o. is_none o) free))
-      by (Some k) (Some i) h f free = absurd (false_is_true h)
-      by None r h f free = absurd (false_is_true h)
+    joined_may t s (and_true (is_joined t s) (is_none (recovery_of st t s)) (and_true (is_joined t s && is_none (recovery_of st t s)) (is_none (leaving_job st t s)) active).0).0 none
 
 -- ---- by what a call is for
 

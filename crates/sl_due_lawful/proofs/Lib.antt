@@ -1,4 +1,6 @@
 pub mod AllIsKept
+pub mod LonesAreKept
+pub mod LonesMay
 pub mod CallsAreLawful
 pub mod ActsRest
 pub mod FirstFacts

@@ -1,5 +1,6 @@
 -- All that is carried through a step and from entry to entry.
 use Rattle.sl_due.specs.Steps.{Step}
+use Rattle.sl_due_lawful.specs.Lones.{Lones}
 use Rattle.sl_grant_due.specs.GrantPromises.{ExitsSoFar}
 use Rattle.sl_holding_due.specs.Moments.{Known}
 use Rattle.sl_job_facts.specs.Promises.{IsQuiet}
@@ -30,6 +31,7 @@ pub record Kept (x : Step) : Type 0 where
   pub denies : Denies x
   pub partings : Partings x
   pub before : Holds x.setting x.past
+  pub lones : Lones x
 
 -- What is so besides where nothing is left of what an answer makes due.
 pub record Rests (x : Step) : Type 0 where

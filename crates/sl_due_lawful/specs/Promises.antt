@@ -59,12 +59,10 @@ is_lone_read p = false
 abbrev pub LonesSoFar : Step → Type 0
 LonesSoFar x = EachCall x.setting (λ es s c. IsTrue (is_lone_read c.call.purpose) → IsTrue (may_submit (stage_of es s))) x.past (entry_of x)
 
--- What is asked of the acts besides what is shown: that each call on a delta sector is lawful; that writes are spelled; and that sessions
--- which read alone may call.
+-- What is asked of the acts besides what is shown: that each call on a delta sector is lawful, and that writes are spelled.
 pub record ActsAsked : Type 0 where
   pub deltas : Acts Kept DeltaCallsSoFar
   pub spelled : Acts Kept SpelledSoFar
-  pub lones : Acts Kept LonesSoFar
 
 -- The facts hold before the first entry.
 abbrev pub FactsAtFirst : Type 0
