@@ -26,3 +26,4 @@ pub mod WatchFactsConclude
 pub mod LooksAreLawful
 pub mod DeltaPromises
 pub mod JoinsAreLawful
+pub mod DeltasAreKept

@@ -3,3 +3,4 @@ pub mod DeltaPromises
 pub mod MovedSoFar
 pub mod Promises
 pub mod WatchFacts
+pub mod DeltasSoFar

@@ -1,6 +1,7 @@
 //! What is known of connections, and the laws of sessions, hold at each moment of a step.
 
 ghost use Rattle.sl_session_due.specs.DeltaPromises.{ClaimsAreLawful, FirstRenewalsAreLawful, FreeIsDecided, FreesAreLawful, JoinedSurveysAreLawful, JoinsAreLawful, JoinsBegin, LooksAreLawful, NothingWasRead, RenewalsAreLawful, RenewedSurveysAreLawful, VerifiesAreLawful, WatchFactsAreKept, WatchFactsBegin, WatchFactsConclude, WatchedIsDecided, WatchesAreLawful};
+ghost use Rattle.sl_session_due.specs.DeltasSoFar.{CallsAreKept, CallsBegin};
 ghost use Rattle.sl_session_due.specs.Promises.{ConnectionFactsAreKept, ConnectionFactsBegin, ConnectionFactsConclude, MovesAreKept, MovesBegin, WatchdogIsLawful};
 
 /// After each act a name is registered just where a session of it is covered, and no connection outlasts what its session may do.
@@ -118,4 +119,14 @@ pub fn joins_are_lawful()
 /// So it is once a step has begun.
 pub fn joins_begin()
     ensures { JoinsBegin }
+{}
+
+/// After each act each call of the entry so far keeps the law of delta sectors, as the trace stood where it was made.
+pub fn calls_are_kept()
+    ensures { CallsAreKept }
+{}
+
+/// So it is once a step has begun.
+pub fn calls_begin()
+    ensures { CallsBegin }
 {}
