@@ -11,7 +11,7 @@ use Rattle.sl_due_lawful.proofs.LonesAreKept.{lones_are_kept}
 use Rattle.sl_due_lawful.proofs.LonesMay.{lones_may}
 use Rattle.sl_due_lawful.specs.Kept.{Holds, Kept}
 use Rattle.sl_due_lawful.specs.Lones.{Lones}
-use Rattle.sl_due_lawful.specs.Promises.{ActsAsked, DeltaCallsSoFar, DeltasSoFar, SpelledSoFar}
+use Rattle.sl_due_lawful.specs.Promises.{ActsAsked, DeltasSoFar, SpelledSoFar}
 use Rattle.sl_grant_due.proofs.ActiveGrants.{granting_begins, granting_is_lawful}
 use Rattle.sl_grant_due.proofs.EndsAreLawful.{ends_are_lawful, ends_begin}
 use Rattle.sl_grant_due.proofs.ExitsAreLawful.{exits_are_lawful, exits_begin}
@@ -48,11 +48,13 @@ use Rattle.sl_recovery_due.specs.Promises.{StopsSoFar}
 use Rattle.sl_recovery_due.specs.Stops.{Denies, Partings}
 use Rattle.sl_session_due.proofs.ConnectionFactsAreKept.{connection_facts_are_kept, connection_facts_begin}
 use Rattle.sl_session_due.proofs.DeltaPromises.{reads_begin}
+use Rattle.sl_session_due.proofs.DeltasAreKept.{calls_are_kept}
 use Rattle.sl_session_due.proofs.JoinsAreLawful.{joins_are_kept, joins_begin}
 use Rattle.sl_session_due.proofs.MovesAreKept.{moves_are_kept, moves_begin}
 use Rattle.sl_session_due.proofs.WatchFactsAreKept.{watch_facts_are_kept}
 use Rattle.sl_session_due.proofs.WatchdogIsLawful.{watchdog_is_lawful}
 use Rattle.sl_session_due.specs.DeltaPromises.{JoinsSoFar}
+use Rattle.sl_session_due.specs.DeltasSoFar.{CallsKept, KnowsCalls}
 use Rattle.sl_session_due.specs.MovedSoFar.{MovedSoFar}
 use Rattle.sl_session_due.specs.Promises.{HasConnectionFacts}
 use Rattle.sl_session_due.specs.WatchFacts.{HasWatchFacts}
@@ -91,6 +93,11 @@ old_plainly = record { effects = old_effects; inputs = λ x i wake bare h. h; be
 old_is_kept : Acts IsOld IsOld
 old_is_kept = plain_acts IsOld old_plainly
 
+-- ---- what the calls on delta sectors rest on
+
+knows_calls : (x : Step) → Kept x → KnowsCalls x
+knows_calls x k = record { whole = k.known.0; reads = k.watches; past = record { names = k.before.whole.facts.names; connections = k.before.whole.facts.connections }; kept = k.delta_calls }
+
 -- ---- the parts
 
 -- Each part by itself.
@@ -112,7 +119,7 @@ pub record Parts (x : Step) : Type 0 where
   pub values : HasValueFacts x
   pub spelled : SpelledSoFar x
   pub lones : Lones x
-  pub delta_calls : DeltaCallsSoFar x
+  pub delta_calls : CallsKept x
   pub joins : JoinsSoFar x
   pub lawful_leases : LeaseLaws x
   pub lawful_modes : ModesSoFar x
@@ -167,7 +174,7 @@ abbrev From_joins : Step → Type 0
 From_joins x = JoinsSoFar x × From_lawful_leases x
 
 abbrev From_delta_calls : Step → Type 0
-From_delta_calls x = DeltaCallsSoFar x × From_joins x
+From_delta_calls x = CallsKept x × From_joins x
 
 abbrev From_lones : Step → Type 0
 From_lones x = Lones x × From_delta_calls x
@@ -260,7 +267,7 @@ from_joins : ActsAsked → Acts Kept From_joins
 from_joins a = both Kept JoinsSoFar From_lawful_leases (from_more Whole Kept JoinsSoFar (λ x k. k.known.0) joins_are_kept) (from_lawful_leases a)
 
 from_delta_calls : ActsAsked → Acts Kept From_delta_calls
-from_delta_calls a = both Kept DeltaCallsSoFar From_joins (from_more Kept Kept DeltaCallsSoFar (λ x k. k) a.deltas) (from_joins a)
+from_delta_calls a = both Kept CallsKept From_joins (from_more KnowsCalls Kept CallsKept (λ x k. knows_calls x k) calls_are_kept) (from_joins a)
 
 from_lones : ActsAsked → Acts Kept From_lones
 from_lones a = both Kept Lones From_delta_calls (from_more (λ x. Whole x × Lones x) Kept Lones (λ x k. (k.known.0, k.lones)) lones_are_kept) (from_delta_calls a)
@@ -352,7 +359,13 @@ parts_of x h =
 -- ---- put together
 
 lawful_deltas : (x : Step) → Parts x → DeltasSoFar x
-lawful_deltas x h = record { calls = h.delta_calls.calls; placed = h.delta_calls.placed; joins = h.joins; alone = h.delta_calls.alone }
+lawful_deltas x h =
+    record {
+      calls = λ k c s at its. (h.delta_calls k c s at its).delta;
+      placed = λ k c s at its. (h.delta_calls k c s at its).placed;
+      joins = h.joins;
+      alone = λ k c s at its. (h.delta_calls k c s at its).alone;
+    }
 
 pub kept_of : (x : Step) → Parts x → Kept x
 kept_of x h =
@@ -401,6 +414,7 @@ kept_of x h =
       partings = h.partings;
       before = h.old;
       lones = h.lones;
+      delta_calls = h.delta_calls;
     }
 
 -- Each act keeps all of it.
@@ -426,9 +440,8 @@ spelled_begins st past now = subst (λ y. SpelledSoFar y) (sym (begun_says st pa
 lones_begin : (st : Setting) (past : Trace) (now : ℕ) → Lones (begin_recoveries (begin_step st past now))
 lones_begin st past now = subst (λ y. Lones y) (sym (begun_says st past now).is) (λ c there. absurd (contains_none c there))
 
-delta_calls_begin : (st : Setting) (past : Trace) (now : ℕ) → DeltaCallsSoFar (begin_recoveries (begin_step st past now))
-delta_calls_begin st past now =
-    subst (λ y. DeltaCallsSoFar y) (sym (begun_says st past now).is) (record { calls = λ k c s at its. no_call k c at; placed = λ k c s at its. no_call k c at; alone = λ k c s at its. no_call k c at })
+delta_calls_begin : (st : Setting) (past : Trace) (now : ℕ) → CallsKept (begin_recoveries (begin_step st past now))
+delta_calls_begin st past now = subst (λ y. CallsKept y) (sym (begun_says st past now).is) (λ k c s at its. no_call k c at)
 
 pub all_begins : (st : Setting) (past : Trace) (e : Entry) → FollowsTrace st past e → Holds st past → Kept (begin_recoveries (begin_step st past e.reading))
 all_begins st past e follows h =

@@ -7,6 +7,7 @@ use Rattle.sl_job_facts.specs.Promises.{IsQuiet}
 use Rattle.sl_recovery_due.specs.KillFacts.{KillFacts}
 use Rattle.sl_recovery_due.specs.Promises.{StopsSoFar}
 use Rattle.sl_recovery_due.specs.Stops.{Denies, FreesEnd, Partings, Stops}
+use Rattle.sl_session_due.specs.DeltasSoFar.{CallsKept}
 use Rattle.sl_session_due.specs.MovedSoFar.{MovedSoFar}
 use Rattle.sl_session_due.specs.Promises.{HasConnectionsPlainly}
 use Rattle.sl_session_due.specs.WatchFacts.{HasWatchFacts, HasWatchesPlainly, WatchFacts}
@@ -32,6 +33,7 @@ pub record Kept (x : Step) : Type 0 where
   pub partings : Partings x
   pub before : Holds x.setting x.past
   pub lones : Lones x
+  pub delta_calls : CallsKept x
 
 -- What is so besides where nothing is left of what an answer makes due.
 pub record Rests (x : Step) : Type 0 where

@@ -38,13 +38,6 @@ use Rattle.std.specs.Prelude.{Bool, Contains, IsTrue, List, None, Ok, Some, [], 
 abbrev pub DeltasSoFar : Step → Type 0
 DeltasSoFar x = LawfulDelta x.setting x.past (entry_of x)
 
--- What is asked of the calls on delta sectors.
-pub record DeltaCallsSoFar (x : Step) : Type 0 where
-  pub calls : EachCall x.setting (λ es s c. LawfulDeltaCall x.setting es s c c.call.purpose) x.past (entry_of x)
-  pub placed : EachCall x.setting
-      (λ es s c. IsTrue (is_delta_purpose c.call.purpose && not (is_survey_purpose c.call.purpose)) → IsTrue (is_on_own_sector x.setting s c)) x.past (entry_of x)
-  pub alone : EachCall x.setting (λ es s c. IsTrue (is_delta_purpose c.call.purpose) → has_open_delta es s ≡ false) x.past (entry_of x)
-
 -- What is written has a spelling.
 abbrev pub SpelledSoFar : Step → Type 0
 SpelledSoFar x = (c : Call) (r : Rec) → Contains x.effects.calls c → record_of c.op ≡ Some r → IsRecord r
@@ -59,9 +52,8 @@ is_lone_read p = false
 abbrev pub LonesSoFar : Step → Type 0
 LonesSoFar x = EachCall x.setting (λ es s c. IsTrue (is_lone_read c.call.purpose) → IsTrue (may_submit (stage_of es s))) x.past (entry_of x)
 
--- What is asked of the acts besides what is shown: that each call on a delta sector is lawful, and that writes are spelled.
+-- What is asked of the acts besides what is shown: that writes are spelled.
 pub record ActsAsked : Type 0 where
-  pub deltas : Acts Kept DeltaCallsSoFar
   pub spelled : Acts Kept SpelledSoFar
 
 -- The facts hold before the first entry.
