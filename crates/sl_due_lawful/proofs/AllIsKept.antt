@@ -29,7 +29,6 @@ use Rattle.sl_holding_due.proofs.MomentsAreKept.{moments_are_kept}
 use Rattle.sl_holding_due.proofs.MomentsBegin.{moments_begin}
 use Rattle.sl_holding_due.specs.Moments.{Known, Moment}
 use Rattle.sl_holding_due.specs.Promises.{Begins, HasHoldingFacts}
-use Rattle.sl_job_facts.proofs.EffectsAreAllowed.{delta}
 use Rattle.sl_job_facts.proofs.EntriesFollow.{entries_begin, entries_follow}
 use Rattle.sl_job_facts.proofs.JobPromises.{call_facts_are_kept, call_facts_begin, job_facts_are_kept, job_facts_begin, quiet_facts_are_kept, quiet_facts_begin}
 use Rattle.sl_job_facts.proofs.LessIsKept.{to_less}

@@ -181,7 +181,6 @@ decision_plain K y j c (Requests s r) = inr (refl, (refl, refl))
 decision_plain K y j c (SetsValue s at v) = inr (refl, (refl, refl))
 decision_plain K y j c (GetsValue s at) = inr (refl, (refl, refl))
 
-
 -- ---- an entry without any
 
 abbrev AllPlain : Step → Type 0

@@ -11,7 +11,7 @@ use Rattle.sl_due_lawful.specs.Kept.{Holds, Kept}
 use Rattle.sl_law.specs.Caused.{AnswersWell, IsCaused}
 use Rattle.sl_law.specs.Lawful.{IsSetting, Lawful}
 use Rattle.sl_law.specs.LawfulCalls.{may_submit}
-use Rattle.sl_law.specs.LawfulDelta.{LawfulDelta, LawfulDeltaCall, is_on_own_sector}
+use Rattle.sl_law.specs.LawfulDelta.{LawfulDelta}
 use Rattle.sl_law.specs.Saying.{EachCall}
 use Rattle.sl_leases.specs.Jobs.{aim_of}
 use Rattle.sl_leases.specs.Leases.{spot_of_call}
@@ -19,7 +19,7 @@ use Rattle.sl_leases.specs.declared.lease.Aim.{Aim}
 use Rattle.sl_recovery_due.specs.Stops.{JustHeard}
 use Rattle.sl_sector.specs.Records.{IsRecord}
 use Rattle.sl_sector.specs.declared.sector.Rec.{Rec}
-use Rattle.sl_sessions.specs.Sessions.{has_open_delta, is_delta_purpose, is_present, is_survey_purpose, session_numbered, stage_of}
+use Rattle.sl_sessions.specs.Sessions.{is_present, session_numbered, stage_of}
 use Rattle.sl_sessions.specs.declared.session.Session.{Session}
 use Rattle.sl_step_facts.specs.Whole.{Facts}
 use Rattle.sl_trace.specs.Traces.{Child, FollowsTrace, Setting, Submitted, Trace, call_numbered, children, is_running, job_of, next_job, record_of, work_job}
@@ -33,7 +33,7 @@ use Rattle.sl_trace.specs.declared.effects.Purpose.TheVariants.{Joining, Lease, 
 use Rattle.sl_trace.specs.declared.effects.Work.{Work}
 use Rattle.sl_trace.specs.declared.input.Answer.{Answer}
 use Rattle.sl_trace.specs.declared.input.Input.TheVariants.{Answer as Told, Line, Wake}
-use Rattle.std.specs.Prelude.{Bool, Contains, IsTrue, List, None, Ok, Some, [], false, not, true, ℕ, ◌&&◌, ◌∷◌, ◌≡◌}
+use Rattle.std.specs.Prelude.{Bool, Contains, IsTrue, List, None, Ok, Some, [], false, true, ℕ, ◌∷◌, ◌≡◌}
 
 abbrev pub DeltasSoFar : Step → Type 0
 DeltasSoFar x = LawfulDelta x.setting x.past (entry_of x)
