@@ -97,7 +97,7 @@ joins_on x s j step m answer k hears is runs =
           subst (λ p. FitsCommand x.setting s m named.0 p) is f
 
 -- A refused joining's last write is answered.
-writer_of : (x : Step) (s : Session) (m : Submitted) (answer : Answer) → Hears x s m answer → CallFacts x.setting (seen x) → Orderly x.setting (seen x) → joined_after (seen x) s ≡ None → is_some (refused_after (seen x) s) ≡ true
+pub writer_of : (x : Step) (s : Session) (m : Submitted) (answer : Answer) → Hears x s m answer → CallFacts x.setting (seen x) → Orderly x.setting (seen x) → joined_after (seen x) s ≡ None → is_some (refused_after (seen x) s) ≡ true
     → (w : Submitted) × Contains (submitted (seen x)) w × (w.call.session ≡ s.number) × (is_write w.call.op ≡ true) × IsOpen (seen x) (heard_by x.input) w
 writer_of x s m answer hears facts order unjoined refused = by (any_found (λ (d : Submitted). is_write d.call.op) (open_calls_of (seen (with_input Wake x)) s) waits) where
   present : (o r : Option ℕ) (b : Bool) → o ≡ None → is_some r ≡ true → (is_none (elim o as (λ z. Option ℕ) [ Some i ↦ removed_after (seen x) s | None ↦ r ]) || (is_none o && b)) ≡ true → b ≡ true

@@ -1,0 +1,12 @@
+pub mod AllIsKept
+pub mod LonesAreKept
+pub mod LonesMay
+pub mod CallsAreLawful
+pub mod ActsRest
+pub mod FirstFacts
+pub mod TracesHold
+pub mod WaitsStay
+pub mod WaitsAtEnd
+pub mod BusyActs
+pub mod BusyRests
+pub mod BusyKept

@@ -1,0 +1,4 @@
+pub mod Kept
+pub mod Lones
+pub mod Busy
+pub mod Promises

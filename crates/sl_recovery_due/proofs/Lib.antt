@@ -1,0 +1,15 @@
+pub mod StopsGrow
+pub mod HoldersAre
+pub mod StopsDone
+pub mod RecoveriesStart
+pub mod MayStop
+pub mod StopsBegin
+pub mod StopsAreKept
+pub mod StopsConclude
+pub mod DenialsAreKept
+pub mod PartingsAreKept
+pub mod PassesKeep
+pub mod FinishEnds
+pub mod FreesConclude
+pub mod RecoveryIsLawful
+pub mod PartingIsLawful
