@@ -1,0 +1,3 @@
+pub mod LaterSteps
+pub mod AnsweredJobs
+pub mod PlainCauses

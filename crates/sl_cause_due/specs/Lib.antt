@@ -1,0 +1,2 @@
+pub mod CausedSoFar
+pub mod Promises

@@ -1,0 +1,26 @@
+-- What is kept by each act of a step, and true once a step has begun: whose the replies are, and that they have their causes.
+use Rattle.sl_acts.specs.Acts.{Acts}
+use Rattle.sl_cause_due.specs.CausedSoFar.{CausedSoFar, RepliedSoFar}
+use Rattle.sl_due.specs.Steps.{Step}
+use Rattle.sl_holding_due.specs.Moments.{Known}
+use Rattle.sl_holding_due.specs.Promises.{Begins}
+use Rattle.sl_step_facts.specs.Whole.{Whole}
+use Rattle.sl_trace.specs.declared.reply.Reply.{Reply}
+use Rattle.std.specs.Prelude.{Bool}
+
+-- ---- whose the replies are
+
+abbrev pub RepliesRun : Type 0
+RepliesRun = Acts (λ x. Whole x × RepliedSoFar x) RepliedSoFar
+
+abbrev pub RepliesRunBegin : Type 0
+RepliesRunBegin = Begins RepliedSoFar
+
+-- ---- their causes
+
+-- Of these replies.
+abbrev pub CausesAreKept : (Reply → Bool) → Type 0
+CausesAreKept these = Acts (λ x. Known x × CausedSoFar these x) (CausedSoFar these)
+
+abbrev pub CausesBegin : (Reply → Bool) → Type 0
+CausesBegin these = Begins (CausedSoFar these)

@@ -1,0 +1,1 @@
+//! Whose the replies are, and their causes.
