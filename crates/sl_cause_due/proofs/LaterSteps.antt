@@ -1,15 +1,31 @@
 -- What comes later in an entry, and whose the replies are that an act adds.
 use Rattle.sl_acts.proofs.Additions.{contains_last}
 use Rattle.sl_acts.specs.SoFar.{entry_of}
-use Rattle.sl_cause_due.specs.CausedSoFar.{CausedSoFar, IsAtOnce, IsCarried, IsLater, StaysCaused}
-use Rattle.sl_due.specs.Steps.{Step, add_call_of, add_end, add_grant, add_move, add_reply, add_signal, add_start, seen, with_input}
+use Rattle.sl_area.specs.Layouts.{Layout}
+use Rattle.sl_area.specs.Places.{sector_of}
+use Rattle.sl_job_facts.proofs.JobFactsGrow.{contains_right}
+use Rattle.sl_job_facts.proofs.SessionsStand.{running_before}
+use Rattle.sl_leases.specs.Leases.{is_on, lease_step}
+use Rattle.sl_parts_law.proofs.CallsGrow.{mine_more, others_stay}
+use Rattle.sl_sector.specs.declared.sector.DeltaRec.{DeltaRec}
+use Rattle.sl_sessions.specs.Sessions.{calls_of, delta_of_record, generation_in, generation_of, given_number, is_call_of, is_survey_purpose, last_delta, sessions}
+use Rattle.sl_sessions.specs.Watching.{evidence, evidence_in, look_of, sightings}
+use Rattle.sl_sessions.specs.declared.sighting.Sighting.{Sighting}
+use Rattle.sl_step_facts.specs.Heard.{heard_by}
+use Rattle.sl_step_facts.specs.Whole.{WholeTrace}
+use Rattle.sl_words.proofs.CaseLaws.{false_is_true, is_false, not_both, true_or_false}
+use Rattle.std.specs.List.{cons_option}
+use Rattle.std.specs.Option.{option_map_or}
+use Rattle.sl_cause_due.specs.CausedSoFar.{CausedSoFar, HasCause, IsAtOnce, IsCarried, IsConcluded, IsLater, KeepsLeases, StaysCaused, on_lease}
+use Rattle.sl_due.specs.Steps.{Step, with_effects, add_call_of, add_end, add_grant, add_move, add_reply, add_signal, add_start, seen, with_input}
 use Rattle.sl_job_facts.proofs.CallsStay.{IsLate, calls_stay}
 use Rattle.sl_job_facts.proofs.EffectsAreAllowed.{Allows}
 use Rattle.sl_plain.proofs.Lists.{contains_cases, contains_none}
 use Rattle.sl_sessions.specs.declared.session.Session.{Session}
 use Rattle.sl_trace.proofs.TraceFacts.{submitted-push}
-use Rattle.sl_trace.specs.Traces.{Submitted, job_of, new_call, next_call, submitted}
+use Rattle.sl_trace.specs.Traces.{Answered, Setting, Submitted, Trace, bytes_given, is_running, job_of, new_call, next_call, record_of, submitted}
 use Rattle.sl_trace.specs.declared.effects.Call.{Call}
+use Rattle.sl_trace.specs.declared.effects.Effects.{Effects}
 use Rattle.sl_trace.specs.declared.effects.End.{End}
 use Rattle.sl_trace.specs.declared.effects.Grant.{Grant}
 use Rattle.sl_trace.specs.declared.effects.JobReply.{JobReply}
@@ -24,30 +40,111 @@ use Rattle.sl_trace.specs.declared.input.Input.{Input}
 use Rattle.sl_trace.specs.declared.reply.Reply.{Reply}
 use Rattle.std.proofs.Common.{ap, append_assoc, inl, inr, refl, subst, sym, ◌∙◌}
 use Rattle.std.proofs.lemmas.List.Elements.{Contains-append_cases}
-use Rattle.std.specs.Prelude.{Bool, Contains, List, None, Option, Some, [], length, true, ℕ, ◌++◌, ◌∷◌, ◌≡◌, ◌⊎◌}
+use Rattle.std.specs.Prelude.{Bool, Contains, List, None, Option, Some, [], cond, false, filter, is_some, length, option_and_then, option_map, true, ℕ, ◌&&◌, ◌++◌, ◌-◌, ◌==◌, ◌∷◌, ◌≡◌, ◌⊎◌}
+
+-- ---- what a call leaves of a session's leases
+
+look_none : (g : Layout) (id : ℕ) (m : Submitted) → m.answer ≡ None → look_of g id m ≡ None
+look_none g id m none = by (is_survey_purpose m.call.purpose) where
+  by : (b : Bool) → (elim b as (λ z. Option Sighting) [
+    | false ↦ None
+    | true ↦ option_and_then (λ (a : Answered).
+        option_map (λ bytes. record { before = m.reading; after = a.reading; bytes = sector_of g bytes (id - 1) }) (bytes_given a.answer)) m.answer
+  ]) ≡ None
+  by false = refl
+  by true =
+      ap (λ o. option_and_then (λ (a : Answered). option_map (λ bytes. record { before = m.reading; after = a.reading; bytes = sector_of g bytes (id - 1) }) (bytes_given a.answer)) o) none
+
+same_evidence : (st : Setting) (m : Submitted) (ms : List Submitted) (id n : ℕ) → m.answer ≡ None → evidence_in st (m ∷ ms) id n ≡ evidence_in st ms id n
+same_evidence st m ms id n none =
+    ap (λ (o : Option Sighting). evidence st.timing st.layout id n (cons_option o (sightings st.layout id ms))) (look_none st.layout id m none)
+
+leases_same : (st : Setting) (s : Session) (ms ns : List Submitted) → ns ≡ ms → KeepsLeases st s ms ns
+leases_same st s ms ns same =
+    record { leases = λ at. ap (λ ks. on_lease st at ks) same; generation = ap (λ ks. generation_in s ks) same; shown = λ id n. ap (λ ks. evidence_in st ks id n) same }
+
+leases_then : (st : Setting) (s : Session) (ms ns ks : List Submitted) → KeepsLeases st s ms ns → KeepsLeases st s ns ks → KeepsLeases st s ms ks
+leases_then st s ms ns ks a b =
+    record { leases = λ at. b.leases at ∙ a.leases at; generation = b.generation ∙ a.generation; shown = λ id n. b.shown id n ∙ a.shown id n }
+
+-- The call is of no lease, and writes no other generation.
+abbrev pub IsQuietCall : Step → Session → Purpose → Op → Type 0
+IsQuietCall x s p op =
+    (lease_step p ≡ None)
+    × ((d : DeltaRec) → option_and_then delta_of_record (record_of op) ≡ Some d → (z : Session) → Contains (sessions x.setting x.past) z → (s.number == z.number) ≡ true → d.generation ≡ generation_of (seen x) z)
+
+quiet_call : (x y : Step) (s z : Session) (path : List ℕ) (p : Purpose) (o : ℕ) (op : Op) → IsQuietCall x s p op → Contains (sessions x.setting x.past) z
+    → KeepsLeases x.setting z (calls_of (seen x) z) (calls_of (seen y) z) → KeepsLeases x.setting z (calls_of (seen x) z) (calls_of (seen (add_call_of s.number path p o op y)) z)
+quiet_call x y s z path p o op may there k = by (true_or_false (s.number == z.number)) where
+  made : Call
+  made = record { number = next_call y.setting (seen y); session = s.number; purpose = p; path = path; offset = o; op = op }
+
+  new : Submitted
+  new = new_call (length y.past) y.reading made
+
+  ms : List Submitted
+  ms = calls_of (seen y) z
+
+  generation : (s.number == z.number) ≡ true → (d : Option DeltaRec) → option_and_then delta_of_record (record_of op) ≡ d
+      → option_map_or (λ (r : DeltaRec). r.generation) (elim d as (λ q. Option DeltaRec) [ Some r ↦ Some r | None ↦ last_delta ms ]) (given_number z) ≡ generation_of (seen x) z
+  generation mine None is = k.generation
+  generation mine (Some d) is = may.1 d is z there mine
+
+  by : ((s.number == z.number) ≡ true) ⊎ ((s.number == z.number) ≡ false) → KeepsLeases x.setting z (calls_of (seen x) z) (calls_of (seen (add_call_of s.number path p o op y)) z)
+  by (inr other) =
+      leases_then x.setting z (calls_of (seen x) z) ms (calls_of (seen (add_call_of s.number path p o op y)) z) k
+      (leases_same x.setting z ms (calls_of (seen (add_call_of s.number path p o op y)) z) (others_stay (entry_of y) y.past made z other))
+  by (inl mine) =
+      let grown : calls_of (seen (add_call_of s.number path p o op y)) z ≡ new ∷ ms = mine_more (entry_of y) y.past made z mine in
+      record {
+        leases = λ at.
+            ap (λ ks. on_lease x.setting at ks) grown
+            ∙ (ap (λ b. cond (is_some b && is_on x.setting.layout at made) (new ∷ on_lease x.setting at ms) (on_lease x.setting at ms)) may.0 ∙ k.leases at);
+        generation = ap (λ ks. generation_in z ks) grown ∙ generation mine (option_and_then delta_of_record (record_of op)) refl;
+        shown = λ id n. ap (λ ks. evidence_in x.setting ks id n) grown ∙ (same_evidence x.setting new ms id n refl ∙ k.shown id n);
+      }
 
 -- ---- later steps
 
 pub itself : (x : Step) → IsLater x x
-itself x = record { setting = refl; before = refl; reading = refl; carried = λ told. record { input = refl; more = []; calls = refl; fresh = λ m there. absurd (contains_none m there) } }
+itself x =
+    record {
+      setting = refl;
+      before = refl;
+      reading = refl;
+      carried = λ told. record { input = refl; more = []; calls = refl; answered = λ n over. over; quiet = λ done s there. leases_same x.setting s (calls_of (seen x) s) (calls_of (seen x) s) refl };
+    }
+
+-- What is concluded stays so.
+concluded_then : (x y : Step) → IsCarried x y → IsConcluded x → IsConcluded y
+concluded_then x y a d =
+    record {
+      call = d.call;
+      there = subst (λ ms. Contains ms d.call) (sym a.calls) (contains_right a.more (submitted (seen x)) d.call d.there);
+      heard = ap (λ i. heard_by i) a.input ∙ d.heard;
+      job = d.job;
+      step = d.step;
+      purpose = d.purpose;
+      over = a.answered d.job d.over;
+    }
 
 pub after_that : (x y z : Step) → IsLater x y → IsLater y z → IsLater x z
 after_that x y z f g = record { setting = g.setting ∙ f.setting; before = g.before ∙ f.before; reading = g.reading ∙ f.reading; carried = λ told. carry told (f.carried told) } where
-  carry : (x.input ≡ Wake → ⊥) → IsCarried x y → IsCarried x z
-  carry told a = on (g.carried (λ wake. told (sym a.input ∙ wake))) where
-    on : IsCarried y z → IsCarried x z
-    on b =
-        record {
-          input = b.input ∙ a.input;
-          more = b.more ++ a.more;
-          calls = b.calls ∙ (ap (λ ms. b.more ++ ms) a.calls ∙ sym (append_assoc b.more a.more (submitted (seen x))));
-          fresh = λ m there. elim (Contains-append_cases b.more a.more m there) [ inl new ↦ b.fresh m new | inr old ↦ a.fresh m old ];
-        }
+  on : IsCarried x y → IsCarried y z → IsCarried x z
+  on a b =
+      record {
+        input = b.input ∙ a.input;
+        more = b.more ++ a.more;
+        calls = b.calls ∙ (ap (λ ms. b.more ++ ms) a.calls ∙ sym (append_assoc b.more a.more (submitted (seen x))));
+        answered = λ n over. b.answered n (a.answered n over);
+        quiet = λ done s there.
+            leases_then x.setting s (calls_of (seen x) s) (calls_of (seen y) s) (calls_of (seen z) s) (a.quiet done s there)
+            (subst (λ st. KeepsLeases st s (calls_of (seen y) s) (calls_of (seen z) s)) f.setting
+            (b.quiet (concluded_then x y a done) s (subst (λ t. Contains (sessions y.setting t) s) (sym f.before) (subst (λ st. Contains (sessions st x.past) s) (sym f.setting) there))));
+      }
 
--- A step by an effect.
-effect : (y z : Step) → z.setting ≡ y.setting → z.past ≡ y.past → z.reading ≡ y.reading → z.input ≡ y.input → submitted (seen z) ≡ submitted (seen y) → IsLater y z
-effect y z setting past reading input calls =
-    record { setting = setting; before = past; reading = reading; carried = λ told. record { input = input; more = []; calls = calls; fresh = λ m there. absurd (contains_none m there) } }
+  carry : (x.input ≡ Wake → ⊥) → IsCarried x y → IsCarried x z
+  carry told a = on a (g.carried (λ wake. told (sym a.input ∙ wake)))
 
 -- ---- what an act allows, from where it began
 
@@ -60,8 +157,8 @@ pub record Going (these : Reply → Bool) (x y : Step) : Type 0 where
 abbrev pub MayAnswer : (Reply → Bool) → Step → ℕ → Reply → Type 0
 MayAnswer these x j r = IsLate x r × (these r ≡ true → StaysCaused x (record { job = j; reply = r }))
 
-abbrev pub AnyCall : Session → List ℕ → Purpose → ℕ → Op → Type 0
-AnyCall s path p o op = Unit {0}
+abbrev pub MayCall : Step → Session → List ℕ → Purpose → ℕ → Op → Type 0
+MayCall x s path p o op = IsConcluded x → IsQuietCall x s p op
 
 abbrev pub AnyStart : Option ℕ → Type 0
 AnyStart o = Unit {0}
@@ -72,59 +169,118 @@ AnyMove m = Unit {0}
 pub begins : (these : Reply → Bool) (x : Step) → Going these x x
 begins these x = record { later = itself x; input = refl; replies = λ a there shown. inl there }
 
-on_from : (these : Reply → Bool) (x y z : Step) → Going these x y → IsLater y z → z.input ≡ y.input → z.effects.replies ≡ y.effects.replies → Going these x z
-on_from these x y z k later input same =
-    record { later = after_that x y z k.later later; input = input ∙ k.input; replies = λ a there shown. k.replies a (subst (λ rs. Contains rs a) same there) shown }
+-- An effect that leaves calls and replies.
+plain : (these : Reply → Bool) (x y z : Step) → Going these x y → z.setting ≡ y.setting → z.past ≡ y.past → z.reading ≡ y.reading → z.input ≡ y.input → submitted (seen z) ≡ submitted (seen y)
+    → z.effects.replies ≡ y.effects.replies → ((n : ℕ) → is_running (seen z) n ≡ is_running (seen y) n) → Going these x z
+plain these x y z k setting past reading input calls same runs =
+    record {
+      later = record { setting = setting ∙ k.later.setting; before = past ∙ k.later.before; reading = reading ∙ k.later.reading; carried = λ told. on (k.later.carried told) };
+      input = input ∙ k.input;
+      replies = λ a there shown. k.replies a (subst (λ rs. Contains rs a) same there) shown;
+    } where
+      on : IsCarried x y → IsCarried x z
+      on a =
+          record {
+            input = input ∙ a.input;
+            more = a.more;
+            calls = calls ∙ a.calls;
+            answered = λ n over. runs n ∙ a.answered n over;
+            quiet = λ done s there.
+                leases_then x.setting s (calls_of (seen x) s) (calls_of (seen y) s) (calls_of (seen z) s) (a.quiet done s there)
+                (leases_same x.setting s (calls_of (seen y) s) (calls_of (seen z) s) (ap (λ ms. filter (is_call_of s) ms) calls));
+          }
 
 late_there : (these : Reply → Bool) (x y : Step) (r : Reply) → Going these x y → IsLate x r → IsLate y r
 late_there these x y r k may n a told =
     elim (may n a (sym k.input ∙ told)) [ inl after ↦ inl after | inr none ↦ inr (λ m there its. none m (subst (λ es. Contains (submitted es) m) k.later.before there) its) ]
 
-more_calls : (these : Reply → Bool) (x y : Step) (n : ℕ) (path : List ℕ) (p : Purpose) (o : ℕ) (op : Op) → Going these x y → Going these x (add_call_of n path p o op y)
-more_calls these x y n path p o op k =
-    on_from these x y (add_call_of n path p o op y) k (record { setting = refl; before = refl; reading = refl; carried = λ told. record { input = refl; more = new ∷ []; calls = submitted-push y.past (entry_of y) made; fresh = λ m there. only m (contains_cases new [] m there) } }) refl refl
-  where
-    made : Call
-    made = record { number = next_call y.setting (seen y); session = n; purpose = p; path = path; offset = o; op = op }
+more_calls : (these : Reply → Bool) (x y : Step) (s : Session) (path : List ℕ) (p : Purpose) (o : ℕ) (op : Op) → MayCall x s path p o op → Going these x y → Going these x (add_call_of s.number path p o op y)
+more_calls these x y s path p o op may k =
+    record {
+      later = record { setting = k.later.setting; before = k.later.before; reading = k.later.reading; carried = λ told. on (k.later.carried told) };
+      input = k.input;
+      replies = k.replies;
+    } where
+      made : Call
+      made = record { number = next_call y.setting (seen y); session = s.number; purpose = p; path = path; offset = o; op = op }
 
-    new : Submitted
-    new = new_call (length y.past) y.reading made
+      on : IsCarried x y → IsCarried x (add_call_of s.number path p o op y)
+      on a =
+          record {
+            input = a.input;
+            more = new_call (length y.past) y.reading made ∷ a.more;
+            calls = submitted-push y.past (entry_of y) made ∙ ap (λ ms. new_call (length y.past) y.reading made ∷ ms) a.calls;
+            answered = a.answered;
+            quiet = λ done z there. quiet_call x y s z path p o op (may done) there (a.quiet done z there);
+          }
 
-    only : (m : Submitted) → (new ≡ m) ⊎ Contains [] m → m.answer ≡ None
-    only m (inl is) = ap (λ (d : Submitted). d.answer) (sym is)
-    only m (inr none) = absurd (contains_none m none)
+still_over : (y : Step) (j : ℕ) (r : Reply) (n : ℕ) → is_running (seen y) n ≡ false → is_running (seen (add_reply j r y)) n ≡ false
+still_over y j r n over = is_false (is_running (seen (add_reply j r y)) n) (λ runs. not_both (is_running (seen y) n) (running_before y j r n runs) over)
 
 more_replies : (these : Reply → Bool) (x y : Step) (j : ℕ) (r : Reply) → MayAnswer these x j r → Going these x y → Going these x (add_reply j r y)
 more_replies these x y j r may k =
     record {
-      later = after_that x y (add_reply j r y) k.later (effect y (add_reply j r y) refl refl refl refl (calls_stay y j r (late_there these x y r k may.0)));
+      later = record { setting = k.later.setting; before = k.later.before; reading = k.later.reading; carried = λ told. on (k.later.carried told) };
       input = k.input;
       replies = λ a there shown. by a shown (contains_last y.effects.replies (record { job = j; reply = r }) a there);
     } where
+      calls : submitted (seen (add_reply j r y)) ≡ submitted (seen y)
+      calls = calls_stay y j r (late_there these x y r k may.0)
+
+      on : IsCarried x y → IsCarried x (add_reply j r y)
+      on a =
+          record {
+            input = a.input;
+            more = a.more;
+            calls = calls ∙ a.calls;
+            answered = λ n over. still_over y j r n (a.answered n over);
+            quiet = λ done s there.
+                leases_then x.setting s (calls_of (seen x) s) (calls_of (seen y) s) (calls_of (seen (add_reply j r y)) s) (a.quiet done s there)
+                (leases_same x.setting s (calls_of (seen y) s) (calls_of (seen (add_reply j r y)) s) (ap (λ ms. filter (is_call_of s) ms) calls));
+          }
+
       by : (a : JobReply) → these a.reply ≡ true → Contains y.effects.replies a ⊎ (record { job = j; reply = r } ≡ a) → Contains x.effects.replies a ⊎ StaysCaused x a
       by a shown (inl old) = k.replies a old shown
       by a shown (inr new) = inr (subst (λ b. StaysCaused x b) new (may.1 (subst (λ (b : JobReply). these b.reply ≡ true) (sym new) shown)))
 
-pub going : (these : Reply → Bool) (x : Step) → Allows (Going these x) (Going these x) (MayAnswer these x) AnyCall AnyStart AnyMove
+pub going : (these : Reply → Bool) (x : Step) → Allows (Going these x) (Going these x) (MayAnswer these x) (MayCall x) AnyStart AnyMove
 going these x =
     record {
-      ends = λ y e k. on_from these x y (add_end e y) k (effect y (add_end e y) refl refl refl refl refl) refl refl;
-      signals = λ y p signal k. on_from these x y (add_signal p signal y) k (effect y (add_signal p signal y) refl refl refl refl refl) refl refl;
-      moves = λ y m may k. on_from these x y (add_move m y) k (effect y (add_move m y) refl refl refl refl refl) refl refl;
-      grants = λ y g k. on_from these x y (add_grant g y) k (effect y (add_grant g y) refl refl refl refl refl) refl refl;
-      starts = λ y s may k. on_from these x y (add_start s y) k (effect y (add_start s y) refl refl refl refl refl) refl refl;
+      ends = λ y e k. plain these x y (add_end e y) k refl refl refl refl refl refl (λ n. refl);
+      signals = λ y p signal k. plain these x y (add_signal p signal y) k refl refl refl refl refl refl (λ n. refl);
+      moves = λ y m may k. plain these x y (add_move m y) k refl refl refl refl refl refl (λ n. refl);
+      grants = λ y g k. plain these x y (add_grant g y) k refl refl refl refl refl refl (λ n. refl);
+      starts = λ y s may k. plain these x y (add_start s y) k refl refl refl refl refl refl (λ n. refl);
       replies = λ y j r may k. more_replies these x y j r may k;
-      calls = λ y s path p o op may k. more_calls these x y s.number path p o op k;
+      calls = λ y s path p o op may k. more_calls these x y s path p o op may k;
       rest = λ y k. k;
     }
 
 -- ---- what is caused stays so
 
+before_later : (x z : Step) → IsLater x z → WholeTrace x.setting x.past → WholeTrace z.setting z.past
+before_later x z later w = subst (λ st. WholeTrace st z.past) (sym later.setting) (subst (λ t. WholeTrace x.setting t) (sym later.before) w)
+
 pub still_caused : (these : Reply → Bool) (x z : Step) → ((a : JobReply) → IsAtOnce x a → IsAtOnce z a) → Going these x z → CausedSoFar these x → CausedSoFar these z
-still_caused these x z once g h a there shown apart = by (g.replies a there shown) where
-  by : Contains x.effects.replies a ⊎ StaysCaused x a → StaysCaused z a
-  by (inl old) = λ w later. h a old shown (λ o. apart (once a o)) w (after_that x z w g.later later)
-  by (inr new) = λ w later. new w (after_that x z w g.later later)
+still_caused these x z once g h = record { before = before_later x z g.later h.before; causes = λ a there shown apart. by a shown apart (g.replies a there shown) } where
+  by : (a : JobReply) → these a.reply ≡ true → (IsAtOnce z a → ⊥) → Contains x.effects.replies a ⊎ StaysCaused x a → StaysCaused z a
+  by a shown apart (inl old) = λ w later. h.causes a old shown (λ o. apart (once a o)) w (after_that x z w g.later later)
+  by a shown apart (inr new) = λ w later. new w (after_that x z w g.later later)
+
+-- One more reply, with its cause from there on.
+pub answer_caused : (these : Reply → Bool) (x : Step) (j : ℕ) (r : Reply) → ((a : JobReply) → IsAtOnce x a → IsAtOnce (add_reply j r x) a) → IsLate x r
+    → (these r ≡ true → StaysCaused (add_reply j r x) (record { job = j; reply = r })) → CausedSoFar these x → CausedSoFar these (add_reply j r x)
+answer_caused these x j r once may cause h =
+    record { before = h.before; causes = λ a there shown apart. by a shown apart (contains_last x.effects.replies (record { job = j; reply = r }) a there) } where
+      none : Reply → Bool
+      none q = false
+
+      later : IsLater x (add_reply j r x)
+      later = ((going none x).replies x j r (may, λ never. absurd (false_is_true never)) (begins none x)).later
+
+      by : (a : JobReply) → these a.reply ≡ true → (IsAtOnce (add_reply j r x) a → ⊥) → Contains x.effects.replies a ⊎ (record { job = j; reply = r } ≡ a) → StaysCaused (add_reply j r x) a
+      by a shown apart (inl old) = λ w more. h.causes a old shown (λ o. apart (once a o)) w (after_that x (add_reply j r x) w later more)
+      by a shown apart (inr new) = subst (λ b. StaysCaused (add_reply j r x) b) new (cause (subst (λ (b : JobReply). these b.reply ≡ true) (sym new) shown))
 
 -- Where the input is no line nothing is answered at once.
 pub no_line : (x z : Step) → ((text : List ℕ) → x.input ≡ Line text → ⊥) → (a : JobReply) → IsAtOnce x a → IsAtOnce z a
@@ -138,6 +294,26 @@ told_no_line i n a text told line = cc
 
 -- What was caused before the input stays so as it is seen.
 pub seen_caused : (these : Reply → Bool) (x : Step) (i : Input) → x.input ≡ Wake → CausedSoFar these x → CausedSoFar these (with_input i x)
-seen_caused these x i wake h a there shown apart w later =
-    h a there shown (λ o. wake_no_line x.input o.text wake o.line) w
-    (after_that x (with_input i x) w (record { setting = refl; before = refl; reading = refl; carried = λ told. absurd (told wake) }) later)
+seen_caused these x i wake h =
+    record {
+      before = h.before;
+      causes = λ a there shown apart w later.
+          h.causes a there shown (λ o. wake_no_line x.input o.text wake o.line) w
+          (after_that x (with_input i x) w (record { setting = refl; before = refl; reading = refl; carried = λ told. absurd (told wake) }) later);
+    }
+
+-- ---- a later step is the same but for its effects
+
+-- So it is enough to look at steps that are.
+pub by_effects : (x : Step) (a : JobReply) → (x.input ≡ Wake → ⊥) → ((fx : Effects) → IsCarried x (with_effects x fx) → HasCause (with_effects x fx) a) → StaysCaused x a
+by_effects x a told cause z later = on (later.carried told) where
+  made : Setting → Trace → ℕ → Input → Step
+  made st past now i = record { setting = st; past = past; reading = now; input = i; effects = z.effects }
+
+  on : IsCarried x z → HasCause z a
+  on carried =
+      let same : with_effects x z.effects ≡ z =
+      sym (ap (λ st. made st z.past z.reading z.input) later.setting
+      ∙ (ap (λ t. made x.setting t z.reading z.input) later.before
+      ∙ (ap (λ n. made x.setting x.past n z.input) later.reading ∙ ap (λ i. made x.setting x.past x.reading i) carried.input))) in
+      subst (λ w. HasCause w a) same (cause z.effects (subst (λ w. IsCarried x w) (sym same) carried))

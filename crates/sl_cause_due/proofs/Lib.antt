@@ -1,3 +1,4 @@
 pub mod LaterSteps
 pub mod AnsweredJobs
 pub mod PlainCauses
+pub mod NamesBefore

@@ -3,7 +3,7 @@ use Rattle.sl_acts.specs.Acts.{Hears, lone_job}
 use Rattle.sl_area.specs.Layouts.{Layout, record_in}
 use Rattle.sl_area.specs.Places.{leader_of, read_at}
 use Rattle.sl_cause_due.proofs.AnsweredJobs.{AnswersHere, answers_here, its_command, with_command, with_spot}
-use Rattle.sl_cause_due.proofs.LaterSteps.{AnyCall, AnyMove, MayAnswer}
+use Rattle.sl_cause_due.proofs.LaterSteps.{AnyMove, MayAnswer, MayCall}
 use Rattle.sl_cause_due.specs.CausedSoFar.{IsLater, StaysCaused, answering}
 use Rattle.sl_due.specs.DueRequests.{request_refusal, value_reply}
 use Rattle.sl_due.specs.Steps.{Step, seen}
@@ -177,7 +177,7 @@ done_caused x s m n k hears purpose z later j is =
         (m, h.call, purpose ∙ ap (λ i. Leaving i) (sym h.number))
 
 pub freed_may : (these : Reply → Bool) (x : Step) (s : Session) (m : Submitted) (n : ℕ) (answer : Answer) → Known x → Hears x s m answer → m.call.purpose ≡ Leaving n
-    → DeltaAllowed (MayAnswer these x) AnyCall AnyMove x s (next_after_free n m.call.number answer)
+    → DeltaAllowed (MayAnswer these x) (MayCall x) AnyMove x s (next_after_free n m.call.number answer)
 freed_may these x s m n Written k hears purpose = (tt, (late x Done refl, λ shown. done_caused x s m n k hears purpose))
 freed_may these x s m n Failed k hears purpose = (tt, (late x (IoFault m.call.number) refl, λ shown. fault_caused x s m n k hears (ap (λ p. job_of p) purpose)))
 freed_may these x s m n (Read bytes) k hears purpose = tt
