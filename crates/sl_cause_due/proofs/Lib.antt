@@ -2,3 +2,4 @@ pub mod LaterSteps
 pub mod AnsweredJobs
 pub mod PlainCauses
 pub mod NamesBefore
+pub mod Leases

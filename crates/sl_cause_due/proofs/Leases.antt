@@ -1,0 +1,4 @@
+pub mod Hearing
+pub mod Limits
+pub mod AreaCauses
+pub mod PhaseCauses
