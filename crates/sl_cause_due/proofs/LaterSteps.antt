@@ -21,9 +21,10 @@ use Rattle.sl_due.specs.Steps.{Step, with_effects, add_call_of, add_end, add_gra
 use Rattle.sl_job_facts.proofs.CallsStay.{IsLate, calls_stay}
 use Rattle.sl_job_facts.proofs.EffectsAreAllowed.{Allows}
 use Rattle.sl_plain.proofs.Lists.{contains_cases, contains_none}
+use Rattle.sl_plain.proofs.Numbers.{number_itself}
 use Rattle.sl_sessions.specs.declared.session.Session.{Session}
 use Rattle.sl_trace.proofs.TraceFacts.{submitted-push}
-use Rattle.sl_trace.specs.Traces.{Answered, Setting, Submitted, Trace, bytes_given, is_running, job_of, new_call, next_call, record_of, submitted}
+use Rattle.sl_trace.specs.Traces.{Answered, Replied, Setting, Submitted, Trace, reply_to, bytes_given, is_running, job_of, new_call, next_call, record_of, submitted}
 use Rattle.sl_trace.specs.declared.effects.Call.{Call}
 use Rattle.sl_trace.specs.declared.effects.Effects.{Effects}
 use Rattle.sl_trace.specs.declared.effects.End.{End}
@@ -40,7 +41,7 @@ use Rattle.sl_trace.specs.declared.input.Input.{Input}
 use Rattle.sl_trace.specs.declared.reply.Reply.{Reply}
 use Rattle.std.proofs.Common.{ap, append_assoc, inl, inr, refl, subst, sym, ◌∙◌}
 use Rattle.std.proofs.lemmas.List.Elements.{Contains-append_cases}
-use Rattle.std.specs.Prelude.{Bool, Contains, List, None, Option, Some, [], cond, false, filter, is_some, length, option_and_then, option_map, true, ℕ, ◌&&◌, ◌++◌, ◌-◌, ◌==◌, ◌∷◌, ◌≡◌, ◌⊎◌}
+use Rattle.std.specs.Prelude.{Bool, Contains, List, None, Option, Some, [], cond, false, filter, find, is_none, is_some, length, option_and_then, option_map, true, ℕ, ◌&&◌, ◌++◌, ◌-◌, ◌==◌, ◌∷◌, ◌≡◌, ◌⊎◌}
 
 -- ---- what a call leaves of a session's leases
 
@@ -267,16 +268,36 @@ still_caused these x z once g h = record { before = before_later x z g.later h.b
   by a shown apart (inl old) = λ w later. h.causes a old shown (λ o. apart (once a o)) w (after_that x z w g.later later)
   by a shown apart (inr new) = λ w later. new w (after_that x z w g.later later)
 
+-- A step with one more reply is a later one.
+pub replied_later : (x : Step) (j : ℕ) (r : Reply) → IsLate x r → IsLater x (add_reply j r x)
+replied_later x j r may = ((going none x).replies x j r (may, λ never. absurd (false_is_true never)) (begins none x)).later where
+  none : Reply → Bool
+  none q = false
+
+-- The job that it answers is over.
+found_last : (rs : List JobReply) (j : ℕ) (r : Reply) → is_some (find (λ (a : JobReply). a.job == j) (rs ++ record { job = j; reply = r } ∷ [])) ≡ true
+found_last [] j r = ap (λ b. is_some {T = JobReply} (cond b (Some (record { job = j; reply = r })) None)) (number_itself j)
+found_last (a ∷ rs) j r = on (a.job == j) (found_last rs j r) where
+  on : (b : Bool) → is_some (find (λ (c : JobReply). c.job == j) (rs ++ record { job = j; reply = r } ∷ [])) ≡ true
+      → is_some (cond b (Some a) (find (λ (c : JobReply). c.job == j) (rs ++ record { job = j; reply = r } ∷ []))) ≡ true
+  on true rest = refl
+  on false rest = rest
+
+pub replied_over : (x : Step) (j : ℕ) (r : Reply) → is_running (seen (add_reply j r x)) j ≡ false
+replied_over x j r = by (reply_to x.past j) (find (λ (a : JobReply). a.job == j) (x.effects.replies ++ record { job = j; reply = r } ∷ [])) (found_last x.effects.replies j r) where
+  by : (o : Option Replied) (q : Option JobReply) → is_some q ≡ true
+      → is_none (elim o as (λ z. Option Replied) [ Some b ↦ Some b | None ↦ option_map (λ (a : JobReply). record { at = length x.past; reply = a.reply }) q ]) ≡ false
+  by (Some b) q h = refl
+  by None (Some a) h = refl
+  by None None h = absurd (false_is_true h)
+
 -- One more reply, with its cause from there on.
 pub answer_caused : (these : Reply → Bool) (x : Step) (j : ℕ) (r : Reply) → ((a : JobReply) → IsAtOnce x a → IsAtOnce (add_reply j r x) a) → IsLate x r
     → (these r ≡ true → StaysCaused (add_reply j r x) (record { job = j; reply = r })) → CausedSoFar these x → CausedSoFar these (add_reply j r x)
 answer_caused these x j r once may cause h =
     record { before = h.before; causes = λ a there shown apart. by a shown apart (contains_last x.effects.replies (record { job = j; reply = r }) a there) } where
-      none : Reply → Bool
-      none q = false
-
       later : IsLater x (add_reply j r x)
-      later = ((going none x).replies x j r (may, λ never. absurd (false_is_true never)) (begins none x)).later
+      later = replied_later x j r may
 
       by : (a : JobReply) → these a.reply ≡ true → (IsAtOnce (add_reply j r x) a → ⊥) → Contains x.effects.replies a ⊎ (record { job = j; reply = r } ≡ a) → StaysCaused (add_reply j r x) a
       by a shown apart (inl old) = λ w more. h.causes a old shown (λ o. apart (once a o)) w (after_that x (add_reply j r x) w later more)

@@ -2,3 +2,4 @@ pub mod Hearing
 pub mod Limits
 pub mod AreaCauses
 pub mod PhaseCauses
+pub mod LeaseAnswers

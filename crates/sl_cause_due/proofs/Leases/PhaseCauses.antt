@@ -120,7 +120,7 @@ looked_well these y s c bytes command aim h aims own known clear true looks =
     shared_well these y s c bytes command h (wants_none command aim aims looks) own known clear (shared_elsewhere (knows h) (blocks_in y.setting.layout bytes)) refl
 
 -- No job only settles.
-no_settling : (c : Command) → aim_of_command c ≡ Some Settles → ⊥
+pub no_settling : (c : Command) → aim_of_command c ≡ Some Settles → ⊥
 no_settling (Acquire r shared p persistent) is = cc
 no_settling (RunProgram r shared path) is = cc
 no_settling (Convert r shared p) is = cc
