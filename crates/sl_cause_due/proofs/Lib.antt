@@ -3,3 +3,4 @@ pub mod AnsweredJobs
 pub mod PlainCauses
 pub mod NamesBefore
 pub mod Leases
+pub mod JoinCauses
