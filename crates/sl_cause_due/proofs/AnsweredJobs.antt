@@ -13,7 +13,7 @@ use Rattle.sl_leases.specs.Leases.{spot_of}
 use Rattle.sl_plain.proofs.Lists.{find_inside}
 use Rattle.sl_plain.proofs.Numbers.{number_itself}
 use Rattle.sl_sessions.specs.declared.session.Session.{Session}
-use Rattle.sl_trace.specs.Traces.{Job, Setting, Submitted, Trace, is_of_job, job_numbered, job_of, jobs, no_effects, submitted}
+use Rattle.sl_trace.specs.Traces.{Job, Setting, Submitted, Trace, job_numbered, job_of, jobs, no_effects, submitted}
 use Rattle.sl_trace.specs.declared.command.Command.{Command}
 use Rattle.sl_trace.specs.declared.command.ResourceArg.{ResourceArg}
 use Rattle.sl_trace.specs.declared.effects.Spot.{Spot}
@@ -21,9 +21,9 @@ use Rattle.sl_trace.specs.declared.input.Answer.{Answer}
 use Rattle.sl_trace.specs.declared.input.Input.TheVariants.{Answer as Told, Wake}
 use Rattle.sl_trace.specs.declared.input.Input.{Input}
 use Rattle.sl_words.specs.Words.{some_is}
-use Rattle.std.proofs.Common.{ap, refl, subst, sym, ◌∙◌}
+use Rattle.std.proofs.Common.{ap, subst, sym, ◌∙◌}
 use Rattle.std.proofs.lemmas.Bool.{eqb-true}
-use Rattle.std.specs.Prelude.{Contains, Err, IsSomeAnd, List, Ok, Result, Some, find, length, option_and_then, true, ℕ, ◌++◌, ◌==◌, ◌∷◌, ◌≡◌}
+use Rattle.std.specs.Prelude.{Contains, Err, IsSomeAnd, List, Ok, Result, Some, find, length, option_and_then, ℕ, ◌==◌, ◌∷◌, ◌≡◌}
 
 -- ---- the job
 

@@ -7,10 +7,10 @@ use Rattle.sl_cause_due.proofs.AnsweredJobs.{AnswersHere, answers_here, told_not
 use Rattle.sl_cause_due.proofs.LaterSteps.{AnyMove, MayAnswer, MayCall, by_effects}
 use Rattle.sl_cause_due.proofs.Leases.Limits.{not_number}
 use Rattle.sl_cause_due.proofs.PlainCauses.{fault_caused}
-use Rattle.sl_cause_due.specs.CausedSoFar.{HasCause, IsCarried, IsConcluded, IsLater, StaysCaused, answering}
+use Rattle.sl_cause_due.specs.CausedSoFar.{IsCarried, IsConcluded, StaysCaused, answering}
 use Rattle.sl_due.specs.Steps.{Step, seen, with_effects}
 use Rattle.sl_holding_due.proofs.HoldingsByInputs.{filter_told}
-use Rattle.sl_holding_due.proofs.LeaseCallers.{heard_call, heard_session}
+use Rattle.sl_holding_due.proofs.LeaseCallers.{heard_call}
 use Rattle.sl_holding_due.specs.Moments.{Known}
 use Rattle.sl_job_facts.proofs.CallsHaveFacts.{find_mapped, sessions_bare}
 use Rattle.sl_job_facts.proofs.CallsOfJobsFit.{joining_of}
@@ -28,7 +28,7 @@ use Rattle.sl_sector.specs.Spelling.{delta_in}
 use Rattle.sl_sector.specs.declared.sector.DeltaRec.{DeltaRec}
 use Rattle.sl_sector.specs.declared.sector.Rec.TheVariants.{DeltaIs}
 use Rattle.sl_sessions.specs.Deltas.{claim_of, claim_on, delta_of_session, id_held, id_lost, is_watched_out, next_after_deciding, next_after_first, next_after_verify, next_after_watch, next_in_joining, watched, where_watched}
-use Rattle.sl_sessions.specs.Sessions.{calls_of, delta_of_record, delta_written, generation_in, generation_of, given_number, is_call_of, is_join_call, join_call, last_delta, same_join_step, session_of_job, sessions}
+use Rattle.sl_sessions.specs.Sessions.{calls_of, delta_of_record, delta_written, generation_in, generation_of, given_number, is_call_of, is_join_call, last_delta, same_join_step, session_of_job, sessions}
 use Rattle.sl_sessions.specs.Watching.{is_free_state}
 use Rattle.sl_sessions.specs.declared.delta.DeltaNext.TheVariants.{Disconnect, EndLeaving, Join, MoveConnection, Nothing, ReadOwn, RefuseJoin, RegisterAndRead, WriteClaim, WriteFirst, WriteFree, WriteRenewal}
 use Rattle.sl_sessions.specs.declared.delta.DeltaNext.{DeltaNext}
@@ -42,8 +42,7 @@ use Rattle.sl_trace.specs.declared.effects.Effects.{Effects}
 use Rattle.sl_trace.specs.declared.effects.Entry.{Entry}
 use Rattle.sl_trace.specs.declared.effects.JoinStep.TheVariants.{ClaimWrite, DecidingRead, FirstRead, FirstRenewal, VerifyRead, WatchRead}
 use Rattle.sl_trace.specs.declared.effects.JoinStep.{JoinStep}
-use Rattle.sl_trace.specs.declared.effects.Purpose.TheVariants.{Joining, Lease}
-use Rattle.sl_trace.specs.declared.effects.Purpose.{Purpose}
+use Rattle.sl_trace.specs.declared.effects.Purpose.TheVariants.{Joining}
 use Rattle.sl_trace.specs.declared.effects.Work.TheVariants.{ForJob}
 use Rattle.sl_trace.specs.declared.reply.DeltaVersion.{DeltaVersion}
 use Rattle.sl_trace_law.proofs.Sessions.Making.{same_answered}
@@ -52,7 +51,7 @@ use Rattle.sl_words.specs.Bounds.{is_number, record_numbers}
 use Rattle.sl_trace.specs.declared.input.Answer.TheVariants.{Failed, Read, Written}
 use Rattle.sl_trace.specs.declared.input.Answer.{Answer}
 use Rattle.sl_trace.specs.declared.reply.Limited.TheVariants.{Gen as GenLimit, Seq as SeqLimit}
-use Rattle.sl_trace.specs.declared.reply.Reply.TheVariants.{Generation, IdHeld, IoFault, Limit as LimitReached, TornDelta, WrongDelta}
+use Rattle.sl_trace.specs.declared.reply.Reply.TheVariants.{Generation, IdHeld, Limit as LimitReached, TornDelta, WrongDelta}
 use Rattle.sl_trace.specs.declared.reply.Reply.{Reply}
 use Rattle.sl_words.proofs.CaseLaws.{none_some, not_both, one_value, some_value}
 use Rattle.sl_words.proofs.WordLaws.{some_is_true}
@@ -60,7 +59,7 @@ use Rattle.sl_words.specs.Words.{some_is}
 use Rattle.std.specs.Option.{option_map_or}
 use Rattle.std.proofs.Common.{ap, inl, inr, refl, subst, sym, ◌∙◌}
 use Rattle.std.proofs.lemmas.Bool.{eqb-true}
-use Rattle.std.specs.Prelude.{Bool, Contains, IsFalse, IsTrue, List, None, Option, Some, [], bytes_eq, false, filter, find, map, option_and_then, option_map, true, ℕ, ◌&&◌, ◌+◌, ◌==◌, ◌∷◌, ◌≡◌, ◌≢◌, ◌≤◌}
+use Rattle.std.specs.Prelude.{Bool, Contains, IsFalse, List, None, Option, Some, [], bytes_eq, false, filter, find, map, option_and_then, option_map, true, ℕ, ◌&&◌, ◌+◌, ◌==◌, ◌∷◌, ◌≡◌, ◌≢◌, ◌≤◌}
 
 -- ---- what was known before the answer
 
@@ -122,7 +121,7 @@ session_before x s m answer j step h n is =
     ap (λ i. session_of_job x.setting x.past i) is
     ∙ session_of_its_job x.setting x.past s j (subst (λ ss. Contains ss s) (sessions_bare x h.hears.bare) (got_inside (sessions x.setting (seen x)) s.number s (has_heard x s m answer h.hears))) (its_job x s m answer j step h)
 
-same_step : (step : JoinStep) → same_join_step step step ≡ true
+pub same_step : (step : JoinStep) → same_join_step step step ≡ true
 same_step FirstRead = refl
 same_step WatchRead = refl
 same_step DecidingRead = refl

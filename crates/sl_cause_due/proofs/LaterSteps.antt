@@ -20,27 +20,21 @@ use Rattle.sl_cause_due.specs.CausedSoFar.{CausedSoFar, HasCause, IsAtOnce, IsCa
 use Rattle.sl_due.specs.Steps.{Step, with_effects, add_call_of, add_end, add_grant, add_move, add_reply, add_signal, add_start, seen, with_input}
 use Rattle.sl_job_facts.proofs.CallsStay.{IsLate, calls_stay}
 use Rattle.sl_job_facts.proofs.EffectsAreAllowed.{Allows}
-use Rattle.sl_plain.proofs.Lists.{contains_cases, contains_none}
 use Rattle.sl_plain.proofs.Numbers.{number_itself}
 use Rattle.sl_sessions.specs.declared.session.Session.{Session}
 use Rattle.sl_trace.proofs.TraceFacts.{submitted-push}
-use Rattle.sl_trace.specs.Traces.{Answered, Replied, Setting, Submitted, Trace, reply_to, bytes_given, is_running, job_of, new_call, next_call, record_of, submitted}
+use Rattle.sl_trace.specs.Traces.{Answered, Replied, Setting, Submitted, Trace, reply_to, bytes_given, is_running, new_call, next_call, record_of, submitted}
 use Rattle.sl_trace.specs.declared.effects.Call.{Call}
 use Rattle.sl_trace.specs.declared.effects.Effects.{Effects}
-use Rattle.sl_trace.specs.declared.effects.End.{End}
-use Rattle.sl_trace.specs.declared.effects.Grant.{Grant}
 use Rattle.sl_trace.specs.declared.effects.JobReply.{JobReply}
 use Rattle.sl_trace.specs.declared.effects.Move.{Move}
 use Rattle.sl_trace.specs.declared.effects.Op.{Op}
 use Rattle.sl_trace.specs.declared.effects.Purpose.{Purpose}
-use Rattle.sl_trace.specs.declared.effects.Signal.{Signal}
-use Rattle.sl_trace.specs.declared.effects.Start.{Start}
 use Rattle.sl_trace.specs.declared.input.Answer.{Answer}
 use Rattle.sl_trace.specs.declared.input.Input.TheVariants.{Answer as Told, Line, Wake}
 use Rattle.sl_trace.specs.declared.input.Input.{Input}
 use Rattle.sl_trace.specs.declared.reply.Reply.{Reply}
 use Rattle.std.proofs.Common.{ap, append_assoc, inl, inr, refl, subst, sym, ◌∙◌}
-use Rattle.std.proofs.lemmas.List.Elements.{Contains-append_cases}
 use Rattle.std.specs.Prelude.{Bool, Contains, List, None, Option, Some, [], cond, false, filter, find, is_none, is_some, length, option_and_then, option_map, true, ℕ, ◌&&◌, ◌++◌, ◌-◌, ◌==◌, ◌∷◌, ◌≡◌, ◌⊎◌}
 
 -- ---- what a call leaves of a session's leases
@@ -259,7 +253,7 @@ going these x =
 
 -- ---- what is caused stays so
 
-before_later : (x z : Step) → IsLater x z → WholeTrace x.setting x.past → WholeTrace z.setting z.past
+pub before_later : (x z : Step) → IsLater x z → WholeTrace x.setting x.past → WholeTrace z.setting z.past
 before_later x z later w = subst (λ st. WholeTrace st z.past) (sym later.setting) (subst (λ t. WholeTrace x.setting t) (sym later.before) w)
 
 pub still_caused : (these : Reply → Bool) (x z : Step) → ((a : JobReply) → IsAtOnce x a → IsAtOnce z a) → Going these x z → CausedSoFar these x → CausedSoFar these z

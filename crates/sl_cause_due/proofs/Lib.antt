@@ -4,3 +4,5 @@ pub mod PlainCauses
 pub mod NamesBefore
 pub mod Leases
 pub mod JoinCauses
+pub mod WakeCauses
+pub mod CausesAreKept

@@ -4,7 +4,7 @@ use Rattle.sl_job_facts.proofs.SessionsArePresent.{joined_present, present_insid
 use Rattle.sl_law.specs.Caused.{Answering, WithSession, before_entry, the_session}
 use Rattle.sl_leases.specs.Jobs.{lockspace_named}
 use Rattle.sl_plain.proofs.Lists.{find_fails, find_inside}
-use Rattle.sl_sessions.specs.Sessions.{ended_after, has_open_write, is_joined, is_present, joined_after, present_sessions, refused_after, removed_after, session_named, sessions}
+use Rattle.sl_sessions.specs.Sessions.{has_open_write, is_joined, is_present, joined_after, present_sessions, refused_after, removed_after, session_named, sessions}
 use Rattle.sl_sessions.specs.declared.session.Session.{Session}
 use Rattle.sl_step_facts.specs.Whole.{WholeTrace}
 use Rattle.sl_trace.specs.Traces.{Setting, Trace, is_before_input, no_effects}
@@ -14,13 +14,13 @@ use Rattle.sl_trace.specs.declared.effects.JobReply.{JobReply}
 use Rattle.sl_trace.specs.declared.effects.Start.{Start}
 use Rattle.sl_trace.specs.declared.input.Input.TheVariants.{Wake}
 use Rattle.sl_trace_law.proofs.Sessions.Naming.{same_name}
-use Rattle.sl_trace_law.proofs.Sessions.Staying.{joined_more, refused_apart, refused_more, removed_more}
+use Rattle.sl_trace_law.proofs.Sessions.Staying.{joined_more, refused_apart, refused_more}
 use Rattle.sl_words.proofs.CaseLaws.{false_is_true, none_some, not_both}
 use Rattle.sl_words.proofs.WordLaws.{and_true}
 use Rattle.sl_words.specs.Words.{choose}
 use Rattle.std.proofs.Common.{ap, ap₂, refl, subst, sym, ◌∙◌}
 use Rattle.std.proofs.lemmas.List.{append-nil}
-use Rattle.std.specs.Prelude.{Bool, Contains, Err, IsSomeAnd, List, None, Ok, Option, Result, Some, [], bytes_eq, false, filter, find, is_none, is_some, length, option_and_then, true, ℕ, ◌&&◌, ◌++◌, ◌+◌, ◌∷◌, ◌≡◌, ◌||◌}
+use Rattle.std.specs.Prelude.{Bool, Contains, Err, IsSomeAnd, List, None, Ok, Option, Result, Some, bytes_eq, false, filter, is_none, is_some, length, option_and_then, true, ℕ, ◌&&◌, ◌+◌, ◌∷◌, ◌≡◌, ◌||◌}
 
 -- An entry before its input: it has refused jobs and started programs.
 abbrev pub early_entry : ℕ → List Start → List JobReply → Entry

@@ -1,20 +1,21 @@
 -- The causes of what calls of requests, values and leavings are answered with, and of faults.
 use Rattle.sl_acts.specs.Acts.{Hears, lone_job}
-use Rattle.sl_area.specs.Layouts.{Layout, record_in}
+use Rattle.sl_area.specs.Layouts.{record_in}
 use Rattle.sl_area.specs.Places.{leader_of, read_at}
-use Rattle.sl_cause_due.proofs.AnsweredJobs.{AnswersHere, answers_here, its_command, with_command, with_spot}
-use Rattle.sl_cause_due.proofs.LaterSteps.{AnyMove, MayAnswer, MayCall}
-use Rattle.sl_cause_due.specs.CausedSoFar.{IsLater, StaysCaused, answering}
+use Rattle.sl_cause_due.proofs.AnsweredJobs.{AnswersHere, answers_here, number_is, its_command, with_command, with_spot}
+use Rattle.sl_cause_due.proofs.LaterSteps.{AnyMove, MayAnswer, MayCall, by_effects}
+use Rattle.sl_cause_due.specs.CausedSoFar.{StaysCaused, answering}
 use Rattle.sl_due.specs.DueRequests.{request_refusal, value_reply}
-use Rattle.sl_due.specs.Steps.{Step, seen}
+use Rattle.sl_due.specs.Steps.{Step, seen, with_effects}
 use Rattle.sl_holding_due.proofs.LeaseCallers.{heard_call}
 use Rattle.sl_holding_due.specs.Moments.{Known}
+use Rattle.sl_job_facts.proofs.CallsHaveFacts.{find_mapped}
 use Rattle.sl_job_facts.proofs.CallsStay.{late}
+use Rattle.sl_job_facts.proofs.JobsAreNumbered.{found_before}
 use Rattle.sl_job_facts.proofs.EffectsAreAllowed.{DeltaAllowed}
-use Rattle.sl_law.specs.Caused.{Answering, AnswersCall, AnswersRead, CausedBy, IsDoneFor}
-use Rattle.sl_leases.specs.Jobs.{command_numbered, resource_named}
-use Rattle.sl_leases.specs.Leases.{is_at, is_leader_of}
-use Rattle.sl_leases.specs.Leases.{Area_read}
+use Rattle.sl_law.specs.Caused.{Answering, AnswersRead, CausedBy, IsDoneFor}
+use Rattle.sl_leases.specs.Jobs.{command_numbered, job_of_start}
+use Rattle.sl_leases.specs.Leases.{is_leader_of}
 use Rattle.sl_request.specs.Requests.{check_request}
 use Rattle.sl_sector.specs.Spelling.{request_in, value_in}
 use Rattle.sl_sector.specs.declared.sector.Leader.{Leader}
@@ -22,25 +23,26 @@ use Rattle.sl_sector.specs.declared.sector.Request.{Request as RequestRec}
 use Rattle.sl_sector.specs.declared.sector.ValueRec.{ValueRec}
 use Rattle.sl_sessions.specs.Deltas.{next_after_free}
 use Rattle.sl_sessions.specs.declared.session.Session.{Session}
-use Rattle.sl_step_facts.specs.JobFacts.{FitsCommand, IsOfResource}
-use Rattle.sl_trace.specs.Traces.{Job, Submitted, job_numbered, job_of, submitted}
+use Rattle.sl_step_facts.specs.JobFacts.{FitsCommand}
+use Rattle.sl_trace.specs.Traces.{Child, Submitted, child_after, child_numbered, children, is_expected, is_starting, job_of, new_child, submitted}
 use Rattle.sl_trace.specs.declared.command.Command.TheVariants.{RemLockspace, Request}
 use Rattle.sl_trace.specs.declared.command.Command.{Command}
-use Rattle.sl_trace.specs.declared.command.LockspaceArg.{LockspaceArg}
 use Rattle.sl_trace.specs.declared.command.ResourceArg.{ResourceArg}
 use Rattle.sl_trace.specs.declared.effects.Purpose.TheVariants.{Leaving, RequestRead, RequestWrite, ValueRead, ValueWrite}
 use Rattle.sl_trace.specs.declared.effects.Purpose.{Purpose}
-use Rattle.sl_trace.specs.declared.effects.Spot.{Spot}
 use Rattle.sl_trace.specs.declared.input.Answer.TheVariants.{Failed, Read, Written}
 use Rattle.sl_trace.specs.declared.input.Answer.{Answer}
-use Rattle.sl_trace.specs.declared.reply.Reply.TheVariants.{Done, IoFault, RequestOld, TornLeader, Value, ValueTorn, WrongArea}
+use Rattle.sl_trace.specs.declared.input.Input.TheVariants.{Spawned, Wake}
+use Rattle.sl_trace.specs.declared.input.Input.{Input}
+use Rattle.sl_trace.specs.declared.reply.Reply.TheVariants.{Done, IoFault, RequestOld, SpawnFault, TornLeader, Value, ValueTorn, WrongArea}
 use Rattle.sl_trace.specs.declared.reply.Reply.{Reply}
 use Rattle.sl_words.proofs.CaseLaws.{none_some, not_both, some_value}
 use Rattle.sl_plain.proofs.Options.{some_of}
-use Rattle.sl_words.proofs.WordLaws.{choose_some}
+use Rattle.sl_words.proofs.WordLaws.{choose_some, some_is_true}
 use Rattle.sl_words.specs.Words.{choose}
 use Rattle.std.proofs.Common.{ap, inr, refl, subst, sym, ◌∙◌}
-use Rattle.std.specs.Prelude.{Bool, Contains, IsFalse, IsTrue, List, None, Ok, Option, Some, false, not, option_map, true, ℕ, ◌==◌, ◌≡◌, ◌≢◌, ◌⊎◌}
+use Rattle.std.specs.Option.{option_or}
+use Rattle.std.specs.Prelude.{Bool, Contains, IsFalse, IsTrue, List, None, Ok, Option, Some, false, find, is_none, map, not, option_and_then, option_map, true, ℕ, ◌++◌, ◌==◌, ◌≡◌, ◌≢◌}
 
 -- ---- faults
 
@@ -181,3 +183,40 @@ pub freed_may : (these : Reply → Bool) (x : Step) (s : Session) (m : Submitted
 freed_may these x s m n Written k hears purpose = (tt, (late x Done refl, λ shown. done_caused x s m n k hears purpose))
 freed_may these x s m n Failed k hears purpose = (tt, (late x (IoFault m.call.number) refl, λ shown. fault_caused x s m n k hears (ap (λ p. job_of p) purpose)))
 freed_may these x s m n (Read bytes) k hears purpose = tt
+
+-- ---- a start that failed
+
+child_same : (p : ℕ) (ok : Bool) (k : Child) → ((child_after (Spawned p ok) k).process ≡ k.process) × ((child_after (Spawned p ok) k).job ≡ k.job)
+child_same p ok k = by (p == k.process) where
+  after : Bool → Child
+  after b = elim b as (λ z. Child) [ false ↦ k | true ↦ record k { answer = option_or k.answer (Some ok) } ]
+
+  by : (b : Bool) → ((after b).process ≡ k.process) × ((after b).job ≡ k.job)
+  by false = (refl, refl)
+  by true = (refl, refl)
+
+-- The child of a start that is answered was there before.
+started_before : (x : Step) (p : ℕ) (ok : Bool) (j : ℕ) → Known x → x.input ≡ Spawned p ok → job_of_start (seen x) p ≡ Some j → job_of_start x.past p ≡ Some j
+started_before x p ok j k input is = by (some_is_true (λ (c : Child). is_none c.answer) (child_numbered x.past p) expected) where
+  expected : is_starting x.past p ≡ true
+  expected = subst (λ i. IsTrue (is_expected x.setting x.past i)) input k.0.orderly.is_trace.0.expected
+
+  named : Child → Bool
+  named c = c.process == p
+
+  by : (c : Child) × (child_numbered x.past p ≡ Some c) × (is_none c.answer ≡ true) → job_of_start x.past p ≡ Some j
+  by f =
+      let mapped : find named (map (child_after (Spawned p ok)) (children x.past)) ≡ Some (child_after (Spawned p ok) f.0) =
+      find_mapped named (child_after (Spawned p ok)) (children x.past) (λ c. ap (λ n. n == p) (child_same p ok c).0) ∙ ap (λ o. option_map (child_after (Spawned p ok)) o) f.1 in
+      let now : child_numbered (seen x) p ≡ Some (child_after (Spawned p ok) f.0) =
+      ap (λ i. find named (map (child_after i) (children x.past) ++ map new_child x.effects.starts)) input
+      ∙ found_before named (map (child_after (Spawned p ok)) (children x.past)) (map new_child x.effects.starts) (child_after (Spawned p ok) f.0) mapped in
+      ap (λ o. option_and_then (λ (c : Child). c.job) o) f.1
+      ∙ (sym (child_same p ok f.0).1 ∙ (sym (ap (λ o. option_and_then (λ (c : Child). c.job) o) now) ∙ is))
+
+pub spawn_caused : (x : Step) (p j : ℕ) → Known x → x.input ≡ Spawned p false → job_of_start (seen x) p ≡ Some j → StaysCaused x (record { job = j; reply = SpawnFault })
+spawn_caused x p j k input is =
+    by_effects x (record { job = j; reply = SpawnFault }) (λ wake. apart x.input input wake)
+    (λ fx carried job found. (p, input, started_before x p false j k input is ∙ ap (λ n. Some n) (sym (number_is x.setting (seen (with_effects x fx)) j job found)))) where
+      apart : (i : Input) → i ≡ Spawned p false → i ≡ Wake → ⊥
+      apart i spawned wake = cc

@@ -15,6 +15,7 @@ use Rattle.sl_trace.specs.declared.effects.Spot.{Spot}
 use Rattle.sl_trace.specs.declared.effects.Work.TheVariants.{ForJob}
 use Rattle.sl_trace.specs.declared.effects.JobReply.{JobReply}
 use Rattle.sl_trace.specs.declared.input.Input.TheVariants.{Line, Wake}
+use Rattle.sl_trace.specs.declared.reply.Reply.TheVariants.{Done, Granted, IdHeld, NoProcess, Recovering, Started, ValueSet}
 use Rattle.sl_trace.specs.declared.reply.Reply.{Reply}
 use Rattle.std.specs.Prelude.{AllPairs, Bool, Contains, List, None, Some, [], false, filter, true, ℕ, ◌&&◌, ◌++◌, ◌≡◌, ◌≢◌}
 
@@ -82,3 +83,14 @@ pub record IsAtOnce (x : Step) (a : JobReply) : Type 0 where
 pub record CausedSoFar (these : Reply → Bool) (x : Step) : Type 0 where
   pub before : WholeTrace x.setting x.past
   pub causes : (a : JobReply) → Contains x.effects.replies a → these a.reply ≡ true → (IsAtOnce x a → ⊥) → StaysCaused x a
+
+-- The replies of which that is shown: all refusals by calls, by time and by starts, but for a read that differs from a joining's first.
+abbrev pub is_explained : Reply → Bool
+is_explained (IdHeld version later) = false
+is_explained (Recovering t) = false
+is_explained (NoProcess p) = false
+is_explained Done = false
+is_explained (Granted lver) = false
+is_explained (Started lver process) = false
+is_explained (ValueSet lver seq) = false
+is_explained r = true

@@ -1,7 +1,6 @@
 -- What is kept by each act of a step, and true once a step has begun: whose the replies are, and that they have their causes.
 use Rattle.sl_acts.specs.Acts.{Acts}
 use Rattle.sl_cause_due.specs.CausedSoFar.{CausedSoFar, RepliedSoFar}
-use Rattle.sl_due.specs.Steps.{Step}
 use Rattle.sl_holding_due.specs.Moments.{Known}
 use Rattle.sl_holding_due.specs.Promises.{Begins}
 use Rattle.sl_step_facts.specs.Whole.{Whole}

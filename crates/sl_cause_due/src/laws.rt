@@ -1,1 +1,13 @@
 //! Whose the replies are, and their causes.
+
+ghost use Rattle.sl_cause_due.specs.CausedSoFar.{is_explained};
+ghost use Rattle.sl_cause_due.specs.Promises.{CausesAreKept, CausesBegin};
+
+/// Each act gives its replies with their causes, as far as they are explained, and leaves those before it.
+pub fn causes_are_kept()
+    ensures { CausesAreKept is_explained }
+{}
+
+pub fn causes_begin()
+    ensures { CausesBegin is_explained }
+{}

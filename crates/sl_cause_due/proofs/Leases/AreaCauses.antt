@@ -6,7 +6,7 @@ use Rattle.sl_cause_due.proofs.Leases.Limits.{begin_well}
 use Rattle.sl_law.specs.Caused.{Answering, AnswersRead, EndsWith, ShowsInstance, after_entry}
 use Rattle.sl_leases.specs.Jobs.{resource_named}
 use Rattle.sl_leases.specs.LeaseWork.{area_next, begin_or_refuse, lease_place, named_area_next, whole_area_next}
-use Rattle.sl_leases.specs.Leases.{Area_read, LeaseKnown, instance_for, is_at, is_leader_of, last_blocks, own_known}
+use Rattle.sl_leases.specs.Leases.{Area_read, instance_for, is_at, is_leader_of, last_blocks, own_known}
 use Rattle.sl_leases.specs.declared.lease.Aim.{Aim}
 use Rattle.sl_leases.specs.declared.lease.Instance.TheVariants.{Begins, HeldAlready}
 use Rattle.sl_leases.specs.declared.lease.Instance.{Instance}

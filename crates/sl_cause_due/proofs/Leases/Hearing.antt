@@ -3,15 +3,11 @@ use Rattle.sl_area.specs.Layouts.{Layout}
 use Rattle.sl_area.specs.Places.{area_blocks, blocks_in}
 use Rattle.sl_cause_due.proofs.NamesBefore.{with_session}
 use Rattle.sl_law.specs.Caused.{Answering, AnswersCall, AnswersRead, CausedBy, ReadsBlocks, after_entry, known_here, the_session}
-use Rattle.sl_leases.specs.Jobs.{aim_of_command}
-use Rattle.sl_leases.specs.LeaseWork.{LeasePlace, lease_place}
 use Rattle.sl_leases.specs.Leases.{Area_read, LeaseKnown, Phase1_read, Phase2_read, Read_before_free, StepKind, blocks_given, instance_for, is_at, is_phase_read, kind_of_step, known_of, lease_calls, lease_step, own_block, same_kind, shared_elsewhere, spot_of_call}
-use Rattle.sl_leases.specs.declared.lease.Aim.{Aim}
 use Rattle.sl_leases.specs.declared.lease.LeaseNext.TheVariants.{AnswerJob, BecomeExclusive, BecomeShared, GrantJob, Nothing, ReadFor, WriteBlock, WriteLeader}
 use Rattle.sl_leases.specs.declared.lease.LeaseNext.{LeaseNext}
 use Rattle.sl_sector.specs.declared.sector.Block.{Block}
 use Rattle.sl_sector.specs.declared.sector.Leader.{Leader}
-use Rattle.sl_sector.specs.declared.sector.Owner.{Owner}
 use Rattle.sl_sessions.specs.Watching.{counts_over}
 use Rattle.sl_sessions.specs.declared.session.Session.{Session}
 use Rattle.sl_trace.specs.Traces.{Submitted, bytes_given, gave}
@@ -25,8 +21,8 @@ use Rattle.sl_trace.specs.declared.input.Answer.TheVariants.{Read}
 use Rattle.sl_trace.specs.declared.input.Answer.{Answer}
 use Rattle.sl_trace.specs.declared.reply.Reply.{Reply}
 use Rattle.sl_words.specs.Words.{some_is}
-use Rattle.std.proofs.Common.{ap, refl, ◌∙◌}
-use Rattle.std.specs.Prelude.{Bool, IsFalse, IsTrue, List, None, Ok, Option, Some, [], false, true, ℕ, ◌++◌, ◌∷◌, ◌≡◌, ◌||◌}
+use Rattle.std.proofs.Common.{ap, ◌∙◌}
+use Rattle.std.specs.Prelude.{Bool, List, None, Ok, Option, Some, [], false, true, ℕ, ◌++◌, ◌∷◌, ◌≡◌, ◌||◌}
 
 -- The answer of the session's call at this step, for the job with this command; what was known of the lease by it.
 pub record LeaseHeard (y : Answering) (s : Session) (c : Submitted) (a : Answer) (step : LeaseStep) (command : Command) : Type 0 where

@@ -8,27 +8,25 @@ use Rattle.sl_cause_due.proofs.Leases.Hearing.{IsWell, LeaseHeard, knows}
 use Rattle.sl_cause_due.proofs.Leases.Limits.{refuses_well}
 use Rattle.sl_cause_due.proofs.Leases.PhaseCauses.{no_settling, phase1_well, phase2_well}
 use Rattle.sl_cause_due.proofs.NamesBefore.{session_then}
-use Rattle.sl_cause_due.specs.CausedSoFar.{CausedSoFar, HasCause, IsCarried, IsConcluded, IsLater, KeepsLeases, StaysCaused, answering, on_lease}
+use Rattle.sl_cause_due.specs.CausedSoFar.{HasCause, IsCarried, IsConcluded, IsLater, KeepsLeases, StaysCaused, answering}
 use Rattle.sl_due.specs.DueLease.{next_of_lease}
 use Rattle.sl_due.specs.Steps.{Step, add_reply, seen, with_effects}
 use Rattle.sl_holding_due.proofs.LeaseCallers.{caller_joined, heard_answered, heard_call, heard_opens, heard_session, in_turn_fits}
 use Rattle.sl_holding_due.specs.Moments.{Known}
-use Rattle.sl_job_facts.proofs.AnsweredCallsFit.{heard_works}
 use Rattle.sl_job_facts.proofs.CallsHaveFacts.{sessions_bare}
 use Rattle.sl_job_facts.proofs.CallsStay.{IsLate, calls_stay}
 use Rattle.sl_job_facts.proofs.JobsAreAllowed.{calls_heard}
 use Rattle.sl_job_facts.proofs.RepliesComeAfter.{mapped_or}
-use Rattle.sl_law.specs.Caused.{Answering, CausedBy, known_here}
+use Rattle.sl_law.specs.Caused.{Answering, CausedBy}
 use Rattle.sl_law.specs.Saying.{IsAnsweredAt}
 use Rattle.sl_leases.specs.Ballots.{instance_of}
 use Rattle.sl_leases.specs.Jobs.{aim_of, aim_of_command, command_numbered, lockspace_named, resource_named}
-use Rattle.sl_leases.specs.LeaseWork.{after_clearing, after_freeing, after_moding, after_take, after_write, lease_next, lease_place, leader_for}
-use Rattle.sl_leases.specs.Leases.{LeaseKnown, lease_step, exclusive_on, freed, has_shared_on, instance_for, is_lease_call, is_on, is_shared_by_other, known, known_of, lease_calls, lver_written, owed_free, shared_elsewhere, spot_of_call, top_lver}
+use Rattle.sl_leases.specs.LeaseWork.{after_take, lease_next, lease_place}
+use Rattle.sl_leases.specs.Leases.{LeaseKnown, lease_step, exclusive_on, freed, has_shared_on, known, known_of, lease_calls, lver_written, owed_free, spot_of_call, top_lver}
 use Rattle.sl_leases.specs.declared.lease.Aim.TheVariants.{Acquires, Converts, Releases, Settles}
 use Rattle.sl_leases.specs.declared.lease.Aim.{Aim}
 use Rattle.sl_leases.specs.declared.lease.Instance.{Instance}
-use Rattle.sl_leases.specs.declared.lease.LeaseNext.TheVariants.{AnswerJob, Nothing, WriteLeader}
-use Rattle.sl_leases.specs.declared.lease.LeaseNext.{LeaseNext}
+use Rattle.sl_leases.specs.declared.lease.LeaseNext.TheVariants.{AnswerJob, Nothing}
 use Rattle.sl_plain.proofs.Lists.{got_inside, in_map, kept}
 use Rattle.sl_plain.proofs.Numbers.{number_itself}
 use Rattle.sl_plain.proofs.Options.{then_value}
@@ -40,7 +38,7 @@ use Rattle.sl_sessions.specs.Watching.{counts_over, evidence_in}
 use Rattle.sl_sessions.specs.declared.session.Session.{Session}
 use Rattle.sl_step_facts.specs.JobFacts.{FitsCommand, SeeksResource}
 use Rattle.sl_step_facts.specs.Whole.{WholeTrace}
-use Rattle.sl_trace.specs.Traces.{Answered, Job, Setting, is_done, Submitted, Trace, answered_in, is_write, bytes_given, gave, is_running, job_numbered, job_of, submitted}
+use Rattle.sl_trace.specs.Traces.{Answered, Job, Setting, is_done, Submitted, Trace, answered_in, is_write, bytes_given, job_numbered, job_of, submitted}
 use Rattle.sl_trace.specs.declared.command.Command.TheVariants.{Acquire, AddLockspace, Convert, GetLvb, HostStatus, InqLockspace, Release, ReleaseOrphan, RemLockspace, Request, RunProgram, SetKillpath, SetLvb, Status, TakeOver}
 use Rattle.sl_trace.specs.declared.command.Command.{Command}
 use Rattle.sl_trace.specs.declared.command.ResourceArg.{ResourceArg}
@@ -48,7 +46,6 @@ use Rattle.sl_trace.specs.declared.effects.Effects.{Effects}
 use Rattle.sl_trace.specs.declared.effects.LeaseStep.TheVariants.{ClearMode, FreeLeader, Phase1Read, Phase1Write, Phase2Read, Phase2Write, ReadArea, ReadBeforeFree, SetMode, TakeLeader}
 use Rattle.sl_trace.specs.declared.effects.LeaseStep.{LeaseStep}
 use Rattle.sl_trace.specs.declared.effects.Mode.TheVariants.{Exclusive, Shared}
-use Rattle.sl_trace.specs.declared.effects.Mode.{Mode}
 use Rattle.sl_trace.specs.declared.effects.Purpose.TheVariants.{Lease}
 use Rattle.sl_trace.specs.declared.effects.Spot.{Spot}
 use Rattle.sl_trace.specs.declared.effects.Work.TheVariants.{ForJob}
@@ -65,15 +62,14 @@ use Rattle.sl_trace_law.proofs.Sessions.Staying.{joined_more}
 use Rattle.sl_trace_law.proofs.Sessions.Making.{same_answered}
 use Rattle.sl_trace_law.proofs.Sessions.Covering.{joinings_are_in_turn}
 use Rattle.sl_trace_law.specs.Sessions.Promises.{fits, fits_as}
-use Rattle.sl_words.proofs.CaseLaws.{false_is_true, none_some, not_both, some_value}
+use Rattle.sl_words.proofs.CaseLaws.{false_is_true, none_some, not_both}
 use Rattle.sl_words.proofs.WordLaws.{and_true}
 use Rattle.sl_words.specs.Words.{present}
 use Rattle.sl_acts.proofs.InputsKeep.{has_heard}
-use Rattle.std.proofs.Common.{ap, ap₂, inl, refl, subst, sym, ◌∙◌}
+use Rattle.std.proofs.Common.{ap, ap₂, refl, subst, sym, ◌∙◌}
 use Rattle.std.specs.Prelude.{Bool, Contains, List, None, Ok, Option, Some, [], cond, map, not, slice_get, false, filter, find, is_none, is_some, length, nat_lt, option_and_then, option_map, true, ℕ, ◌&&◌, ◌==◌, ◌∷◌, ◌≡◌}
 
 -- ---- what comes next after any answer
-
 
 taken_well : (these : Reply → Bool) (y : Answering) (k : LeaseKnown) (aim : Aim) (n : ℕ) → IsWell these y (after_take k aim n)
 taken_well these y k (Acquires Exclusive) n = tt

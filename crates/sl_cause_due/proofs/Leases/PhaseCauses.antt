@@ -6,7 +6,7 @@ use Rattle.sl_cause_due.proofs.Leases.Limits.{begin_well}
 use Rattle.sl_law.specs.Caused.{Answering, CausedBy, EndsWith, IsStopRead, ShowsInstance, after_entry, job_command, known_here}
 use Rattle.sl_leases.specs.Ballots.{same_owner, stop_of, value_of}
 use Rattle.sl_leases.specs.Jobs.{aim_of_command, wants_shared}
-use Rattle.sl_leases.specs.LeaseWork.{after_phase1, after_phase2, begin_next, lease_place, looks_for_shared, lost_next, phase2_next, settle_next, stop_reply, stopped_next, unstopped_next, won_next}
+use Rattle.sl_leases.specs.LeaseWork.{after_phase1, after_phase2, begin_next, lease_place, looks_for_shared, lost_next, phase2_next, stop_reply, stopped_next, won_next}
 use Rattle.sl_leases.specs.Leases.{Phase1_read, Phase2_read, block_submitted, blocks_given, is_at, is_phase_read, last_blocks, own_block, own_or_read, shared_elsewhere}
 use Rattle.sl_leases.specs.declared.lease.Aim.TheVariants.{Acquires, Converts, Releases, Settles}
 use Rattle.sl_leases.specs.declared.lease.Aim.{Aim}
@@ -29,7 +29,7 @@ use Rattle.sl_trace.specs.declared.input.Answer.TheVariants.{Read}
 use Rattle.sl_trace.specs.declared.reply.Reply.TheVariants.{Held as HeldBy, Shared as SharedBy}
 use Rattle.sl_trace.specs.declared.reply.Reply.{Reply}
 use Rattle.sl_words.proofs.CaseLaws.{false_is_true, none_some, some_value}
-use Rattle.std.proofs.Common.{ap, inl, inr, refl, sym, ◌∙◌}
+use Rattle.std.proofs.Common.{ap, inr, refl, sym, ◌∙◌}
 use Rattle.std.specs.Option.{option_map_or}
 use Rattle.std.specs.Prelude.{Bool, IsFalse, IsTrue, List, None, Option, Some, false, not, true, ℕ, ◌+◌, ◌∷◌, ◌≡◌, ◌⊎◌}
 
