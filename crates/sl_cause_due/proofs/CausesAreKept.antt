@@ -165,18 +165,18 @@ lease_may x y s at work (BecomeShared lver l) going none = ((λ j is. granted_ma
 lease_may x y s at work (BecomeExclusive lver b) going none = ((λ j is. granted_may x j lver), λ g c. absurd (going c))
 
 -- What answers nobody.
-abbrev AnswersNobody : LeaseNext → Type 0
+abbrev pub AnswersNobody : LeaseNext → Type 0
 AnswersNobody (AnswerJob r) = ⊥
 AnswersNobody n = Unit {0}
 
 nobody : (n : LeaseNext) (work : Work) → AnswersNobody n → (r : Reply) → n ≡ AnswerJob r → work_job work ≡ None
 nobody n work h r is = absurd (subst (λ k. AnswersNobody k) is h)
 
-release_nobody : (p : LeasePlace) (k : LeaseKnown) (mode : Mode) (n : ℕ) → AnswersNobody (release_next p k mode n)
+pub release_nobody : (p : LeasePlace) (k : LeaseKnown) (mode : Mode) (n : ℕ) → AnswersNobody (release_next p k mode n)
 release_nobody p k Exclusive n = tt
 release_nobody p k Shared n = mapped_or AnswersNobody _ k.own No_lease (λ b. tt) tt
 
-convert_nobody : (k : LeaseKnown) (mode : Mode) (name : List ℕ) → AnswersNobody (convert_next k mode name)
+pub convert_nobody : (k : LeaseKnown) (mode : Mode) (name : List ℕ) → AnswersNobody (convert_next k mode name)
 convert_nobody k Exclusive name = tt
 convert_nobody k Shared name = mapped_or AnswersNobody _ k.own No_lease (λ b. tt) tt
 

@@ -6,3 +6,4 @@ pub mod Leases
 pub mod JoinCauses
 pub mod WakeCauses
 pub mod CausesAreKept
+pub mod RepliesRun

@@ -3,14 +3,13 @@ use Rattle.sl_acts.specs.Acts.{Acts}
 use Rattle.sl_cause_due.specs.CausedSoFar.{CausedSoFar, RepliedSoFar}
 use Rattle.sl_holding_due.specs.Moments.{Known}
 use Rattle.sl_holding_due.specs.Promises.{Begins}
-use Rattle.sl_step_facts.specs.Whole.{Whole}
 use Rattle.sl_trace.specs.declared.reply.Reply.{Reply}
 use Rattle.std.specs.Prelude.{Bool}
 
 -- ---- whose the replies are
 
 abbrev pub RepliesRun : Type 0
-RepliesRun = Acts (λ x. Whole x × RepliedSoFar x) RepliedSoFar
+RepliesRun = Acts (λ x. Known x × RepliedSoFar x) RepliedSoFar
 
 abbrev pub RepliesRunBegin : Type 0
 RepliesRunBegin = Begins RepliedSoFar

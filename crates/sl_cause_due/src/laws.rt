@@ -1,7 +1,7 @@
 //! Whose the replies are, and their causes.
 
 ghost use Rattle.sl_cause_due.specs.CausedSoFar.{is_explained};
-ghost use Rattle.sl_cause_due.specs.Promises.{CausesAreKept, CausesBegin};
+ghost use Rattle.sl_cause_due.specs.Promises.{CausesAreKept, CausesBegin, RepliesRun, RepliesRunBegin};
 
 /// Each act gives its replies with their causes, as far as they are explained, and leaves those before it.
 pub fn causes_are_kept()
@@ -10,4 +10,13 @@ pub fn causes_are_kept()
 
 pub fn causes_begin()
     ensures { CausesBegin is_explained }
+{}
+
+/// Each reply is of a running job, no two of a step are of one job.
+pub fn replies_run()
+    ensures { RepliesRun }
+{}
+
+pub fn replies_run_begin()
+    ensures { RepliesRunBegin }
 {}
