@@ -5,5 +5,6 @@ pub mod NamesBefore
 pub mod Leases
 pub mod JoinCauses
 pub mod WakeCauses
+pub mod RecoveryCauses
 pub mod CausesAreKept
 pub mod RepliesRun
