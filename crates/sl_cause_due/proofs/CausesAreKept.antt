@@ -1,18 +1,21 @@
 -- Each act gives its replies with their causes, and leaves those of the replies before it.
 use Rattle.sl_acts.proofs.Additions.{contains_last}
 use Rattle.sl_acts.proofs.LoopsKeep.{for_each_keeps, when_keeps}
+use Rattle.sl_acts.proofs.InputsKeep.{has_heard}
 use Rattle.sl_acts.specs.Acts.{Has, Hears}
 use Rattle.sl_acts.specs.SoFar.{entry_of}
 use Rattle.sl_cause_due.proofs.JoinCauses.{concluded_call, goes_on_still, joining_may, joining_well}
-use Rattle.sl_cause_due.proofs.LaterSteps.{AnyMove, AnyStart, Going, MayAnswer, MayCall, after_that, answer_caused, before_later, begins, going, no_line, seen_caused, still_caused, told_no_line, wake_no_line}
+use Rattle.sl_cause_due.proofs.LaterSteps.{AnyMove, Going, MayAnswer, MayCall, MayStart, after_that, answer_caused, before_later, begins, going, no_line, seen_caused, still_caused, told_no_line, wake_no_line}
 use Rattle.sl_cause_due.proofs.Leases.LeaseAnswers.{led_caused}
 use Rattle.sl_cause_due.proofs.PlainCauses.{fault_caused, freed_may, lone_of, request_caused, spawn_caused, told_caused}
-use Rattle.sl_cause_due.proofs.WakeCauses.{timeout_caused, wake_well}
-use Rattle.sl_cause_due.specs.CausedSoFar.{CausedSoFar, IsAtOnce, IsConcluded, IsLater, StaysCaused, is_explained}
+use Rattle.sl_cause_due.proofs.ExitCauses.{exit_caused}
+use Rattle.sl_cause_due.proofs.RecoveryCauses.{begun_by_read, begun_by_time, joined_before, present_joined, recovery_same, stop_caused}
+use Rattle.sl_cause_due.proofs.WakeCauses.{sessions_wake, timeout_caused, wake_well}
+use Rattle.sl_cause_due.specs.CausedSoFar.{CausedSoFar, IsAtOnce, IsConcluded, IsLater, StaysCaused, is_explained, is_line}
 use Rattle.sl_cause_due.specs.Promises.{CausesAreKept, CausesBegin}
 use Rattle.sl_due.specs.DueAnswers.{set_reply}
 use Rattle.sl_due.specs.DueCommands.{answer_line, carry_decision}
-use Rattle.sl_due.specs.DueDelta.{carry_delta, see_request}
+use Rattle.sl_due.specs.DueDelta.{begins_by_read, carry_delta, see_request}
 use Rattle.sl_due.specs.DueFirst.{begin_recoveries, begin_recovery, begins_now, refuse, remove_connection, remove_of_refused, send, signal_and_refuse, signal_holders}
 use Rattle.sl_due.specs.DueInputs.{end_holdings, leave_holdings, refuse_jobs_of, started_reply, when_running}
 use Rattle.sl_due.specs.DueLease.{carry_lease, goes_on, next_of_lease}
@@ -30,8 +33,10 @@ use Rattle.sl_job_facts.proofs.CallsStay.{IsLate, is_special, late}
 use Rattle.sl_job_facts.proofs.EffectsAreAllowed.{DecisionAllowed, DeltaAllowed, GrantAllowed, LeaseAllowed, ReadAllowed, RequestAllowed, decision, delta, ended, exited, lease, left, refusal, removal, removal_of_refused, requested, said, sent, signalled, stopped}
 use Rattle.sl_job_facts.proofs.JobsAreAllowed.{is_told, late_on_survey, late_on_wake, late_unless_told}
 use Rattle.sl_job_facts.proofs.RepliesComeAfter.{IsLateLease, joining_late, mapped_or, lease_late, on_bool, request_late, set_late, value_late, wake_late}
-use Rattle.sl_job_facts.proofs.SessionsArePresent.{session_has}
-use Rattle.sl_leases.specs.Jobs.{aim_of, command_numbered, job_of_start, resource_named}
+use Rattle.sl_job_facts.proofs.SessionsArePresent.{present_is, session_has}
+use Rattle.sl_job_facts.proofs.SessionsStand.{recovery_joined}
+use Rattle.sl_job_facts.proofs.CallsHaveFacts.{sessions_bare}
+use Rattle.sl_leases.specs.Jobs.{aim_of, is_job_of_process, command_numbered, job_of_start, resource_named}
 use Rattle.sl_leases.specs.LeaseWork.{LeasePlace, convert_next, lease_place, release_next, settle_next}
 use Rattle.sl_leases.specs.Leases.{LeaseKnown, known, lease_step, lver_written, spot_of, spot_of_call, value_written}
 use Rattle.sl_leases.specs.declared.lease.Aim.{Aim}
@@ -47,14 +52,16 @@ use Rattle.sl_trace.specs.declared.reply.DeltaVersion.{DeltaVersion}
 use Rattle.sl_sector.specs.declared.sector.DeltaRec.{DeltaRec}
 use Rattle.sl_sector.specs.declared.sector.ValueRec.{ValueRec}
 use Rattle.sl_sessions.specs.Deltas.{DeltaLease, delta_record, is_renewal_due, own_offset, delta_known, delta_of_session, next_after_free, next_after_renewal, next_free, next_in_joining, next_on_wake, next_renewal}
-use Rattle.sl_sessions.specs.Sessions.{begun_in, calls_of, generation_of, joining_session, last_renewal, last_seq, present_sessions, recovery_of, sessions}
+use Rattle.sl_sessions.specs.Sessions.{is_joined, is_present, renewed_by, begun_in, calls_of, generation_of, joining_session, last_renewal, last_seq, present_sessions, recovery_of, sessions}
 use Rattle.sl_sessions.specs.declared.delta.DeltaNext.TheVariants.{MoveConnection, Nothing, WriteFree, WriteRenewal}
 use Rattle.sl_sessions.specs.declared.delta.DeltaKnown.{DeltaKnown}
 use Rattle.sl_sessions.specs.declared.delta.DeltaNext.{DeltaNext}
+use Rattle.sl_sessions.specs.declared.session.Begun.{Begun}
 use Rattle.sl_sessions.specs.declared.session.Session.{Session}
+use Rattle.sl_step_facts.specs.Whole.{WholeTrace}
 use Rattle.sl_step_facts.specs.Heard.{heard_by}
 use Rattle.sl_step_facts.specs.JobFacts.{FitsCommand}
-use Rattle.sl_trace.specs.Traces.{Submitted, end_of, is_running, job_of, next_job, spot_of_grant, work_job}
+use Rattle.sl_trace.specs.Traces.{Setting, Submitted, Trace, line_in, running_jobs, end_of, is_running, job_of, next_job, spot_of_grant, work_job}
 use Rattle.sl_trace.specs.declared.command.Command.TheVariants.{Acquire, AddLockspace, Convert, GetLvb, HostStatus, InqLockspace, Release, ReleaseOrphan, RemLockspace, Request, RunProgram, SetKillpath, SetLvb, Status, TakeOver}
 use Rattle.sl_trace.specs.declared.command.Command.{Command}
 use Rattle.sl_trace.specs.declared.command.ResourceArg.{ResourceArg}
@@ -66,7 +73,7 @@ use Rattle.sl_trace.specs.declared.effects.LeaseStep.{LeaseStep}
 use Rattle.sl_trace.specs.declared.effects.Mode.TheVariants.{Exclusive, Shared}
 use Rattle.sl_trace.specs.declared.effects.Mode.{Mode}
 use Rattle.sl_trace.specs.declared.effects.Op.TheVariants.{ReadSectors, WriteRecord}
-use Rattle.sl_trace.specs.declared.effects.Purpose.TheVariants.{Joining, Lease, Leaving, RequestRead, SeeRequest}
+use Rattle.sl_trace.specs.declared.effects.Purpose.TheVariants.{Joining, Lease, Leaving, RequestRead, SeeRequest, Survey}
 use Rattle.sl_trace.specs.declared.effects.Purpose.{Purpose}
 use Rattle.sl_trace.specs.declared.effects.Signal.TheVariants.{Kill, Term}
 use Rattle.sl_trace.specs.declared.effects.Spot.{Spot}
@@ -76,12 +83,13 @@ use Rattle.sl_trace.specs.declared.input.Answer.TheVariants.{Failed, Read, Writt
 use Rattle.sl_trace.specs.declared.input.Answer.{Answer}
 use Rattle.sl_trace.specs.declared.input.Input.TheVariants.{Answer as Told, Exit, Line, Number, Spawned, Wake}
 use Rattle.sl_trace.specs.declared.input.Input.{Input}
-use Rattle.sl_trace.specs.declared.reply.Reply.TheVariants.{BadCommand as Misread, Done, Granted, IdHeld, IoFault, IoTimeout, NoProcess, Recovering, SpawnFault, ValueSet}
+use Rattle.sl_trace.specs.declared.reply.Reply.TheVariants.{BadCommand as Misread, Done, Granted, IdHeld, IoFault, IoTimeout, NoProcess, Recovering, SpawnFault, Started, ValueSet}
 use Rattle.sl_trace.specs.declared.reply.Reply.{Reply}
+use Rattle.sl_words.proofs.WordLaws.{some_is_true}
 use Rattle.sl_words.proofs.CaseLaws.{false_is_true, none_some, not_both, some_value}
 use Rattle.std.proofs.Common.{ap, inl, inr, refl, subst, sym, ◌∙◌}
 use Rattle.std.specs.Option.{option_map_or}
-use Rattle.std.specs.Prelude.{Bool, Contains, List, None, Option, Some, false, is_some, length, true, ℕ, ◌+◌, ◌≡◌, ◌⊎◌}
+use Rattle.std.specs.Prelude.{Bool, Contains, List, None, Option, Some, false, filter, is_some, length, not, true, ℕ, ◌+◌, ◌==◌, ◌≡◌, ◌⊎◌}
 
 -- ---- what an act is made of
 
@@ -100,7 +108,7 @@ once_by x z later input grants ends a o =
     }
 
 -- An act that answers nobody's line.
-by_act : (x z : Step) → ((text : List ℕ) → x.input ≡ Line text → ⊥) → Going is_explained x z → CausedSoFar is_explained x → CausedSoFar is_explained z
+by_act : (x z : Step) → ((text : List ℕ) → x.input ≡ Line text → ⊥) → Going (is_explained x.input) x z → CausedSoFar is_explained x → CausedSoFar is_explained z
 by_act x z none g h = still_caused is_explained x z (no_line x z none) g h
 
 no_line_heard : (x : Step) (s : Session) (m : Submitted) (answer : Answer) → Hears x s m answer → (text : List ℕ) → x.input ≡ Line text → ⊥
@@ -134,35 +142,35 @@ reads_may x y s at work ReadBeforeFree going = λ c. absurd (going c)
 reads_may x y s at work step going = λ c. absurd (going c)
 
 -- Of a grant nothing is said.
-granted_may : (x : Step) (j lver : ℕ) → MayAnswer is_explained x j (Granted lver)
+granted_may : (x : Step) (j lver : ℕ) → MayAnswer (is_explained x.input) x j (Granted lver)
 granted_may x j lver = (late x (Granted lver) refl, λ shown. absurd (false_is_true shown))
 
-granting_may : (x : Step) (j lver : ℕ) (c : Command) → GrantAllowed (MayAnswer is_explained x) AnyStart j lver c
-granting_may x j lver (Acquire r shared p persistent) = granted_may x j lver
-granting_may x j lver (TakeOver r shared p persistent) = granted_may x j lver
-granting_may x j lver (RunProgram r shared path) = tt
-granting_may x j lver (AddLockspace a) = tt
-granting_may x j lver (RemLockspace a) = tt
-granting_may x j lver (InqLockspace a) = tt
-granting_may x j lver (HostStatus a) = tt
-granting_may x j lver (Release r p) = tt
-granting_may x j lver (ReleaseOrphan r) = tt
-granting_may x j lver (Convert r shared p) = tt
-granting_may x j lver (Request r v how) = tt
-granting_may x j lver (GetLvb r p) = tt
-granting_may x j lver (SetLvb r p bytes) = tt
-granting_may x j lver (SetKillpath p path) = tt
-granting_may x j lver Status = tt
+granting_may : (x : Step) (j lver : ℕ) (c : Command) → (x.input ≡ Wake → ⊥) → GrantAllowed (MayAnswer (is_explained x.input) x) (MayStart x) j lver c
+granting_may x j lver (Acquire r shared p persistent) told = granted_may x j lver
+granting_may x j lver (TakeOver r shared p persistent) told = granted_may x j lver
+granting_may x j lver (RunProgram r shared path) told = λ wake. absurd (told wake)
+granting_may x j lver (AddLockspace a) told = tt
+granting_may x j lver (RemLockspace a) told = tt
+granting_may x j lver (InqLockspace a) told = tt
+granting_may x j lver (HostStatus a) told = tt
+granting_may x j lver (Release r p) told = tt
+granting_may x j lver (ReleaseOrphan r) told = tt
+granting_may x j lver (Convert r shared p) told = tt
+granting_may x j lver (Request r v how) told = tt
+granting_may x j lver (GetLvb r p) told = tt
+granting_may x j lver (SetLvb r p bytes) told = tt
+granting_may x j lver (SetKillpath p path) told = tt
+granting_may x j lver Status told = tt
 
-lease_may : (x y : Step) (s : Session) (at : Spot) (work : Work) (n : LeaseNext) → (IsConcluded x → ⊥) → ((r : Reply) → n ≡ AnswerJob r → work_job work ≡ None) → LeaseAllowed (MayAnswer is_explained x) (MayCall x) AnyStart y s at work n
-lease_may x y s at work No_lease going none = tt
-lease_may x y s at work (ReadFor step) going none = reads_may x y s at work step going
-lease_may x y s at work (WriteBlock step b) going none = λ c. absurd (going c)
-lease_may x y s at work (WriteLeader step l) going none = λ c. absurd (going c)
-lease_may x y s at work (AnswerJob r) going none = λ j is. absurd (none_some j (sym (none r refl) ∙ is))
-lease_may x y s at work (GrantJob mode lver) going none = λ j c is reads. granting_may x j lver c
-lease_may x y s at work (BecomeShared lver l) going none = ((λ j is. granted_may x j lver), λ c. absurd (going c))
-lease_may x y s at work (BecomeExclusive lver b) going none = ((λ j is. granted_may x j lver), λ g c. absurd (going c))
+lease_may : (x y : Step) (s : Session) (at : Spot) (work : Work) (n : LeaseNext) → (IsConcluded x → ⊥) → ((r : Reply) → n ≡ AnswerJob r → work_job work ≡ None) → ((j : ℕ) → work_job work ≡ Some j → x.input ≡ Wake → ⊥) → LeaseAllowed (MayAnswer (is_explained x.input) x) (MayCall x) (MayStart x) y s at work n
+lease_may x y s at work No_lease going none told = tt
+lease_may x y s at work (ReadFor step) going none told = reads_may x y s at work step going
+lease_may x y s at work (WriteBlock step b) going none told = λ c. absurd (going c)
+lease_may x y s at work (WriteLeader step l) going none told = λ c. absurd (going c)
+lease_may x y s at work (AnswerJob r) going none told = λ j is. absurd (none_some j (sym (none r refl) ∙ is))
+lease_may x y s at work (GrantJob mode lver) going none told = λ j c is reads. granting_may x j lver c (told j is)
+lease_may x y s at work (BecomeShared lver l) going none told = ((λ j is. granted_may x j lver), λ c. absurd (going c))
+lease_may x y s at work (BecomeExclusive lver b) going none told = ((λ j is. granted_may x j lver), λ g c. absurd (going c))
 
 -- What answers nobody.
 abbrev pub AnswersNobody : LeaseNext → Type 0
@@ -182,73 +190,129 @@ convert_nobody k Shared name = mapped_or AnswersNobody _ k.own No_lease (λ b. t
 
 -- ---- lines
 
+-- A line is no wake.
+on_line : (x : Step) → is_line x.input ≡ true → x.input ≡ Wake → ⊥
+on_line x on wake = false_is_true (sym (ap (λ i. is_line i) wake) ∙ on)
+
 -- What was decided on a line.
-line_may : (x : Step) (j : ℕ) (c : Command) (d : Decision) → (IsConcluded x → ⊥) → ((r : Reply) → IsLate x r) → DecisionAllowed (Going is_explained x) (MayAnswer is_explained x) (MayCall x) AnyStart x j c d
-line_may x j c (Replies r) going after = tt
-line_may x j c (Joins n a) going after = λ z is q. absurd (going q)
-line_may x j c (Leaves s) going after = (tt, λ z k i there. (after (Recovering (last_renewal z.setting (seen z) s)), λ shown. absurd (false_is_true shown)))
-line_may x j c (ReadsArea s r) going after = λ q. absurd (going q)
-line_may x j c (Shares s lver) going after = granting_may x j lver c
-line_may x j c (GivesUp s g) going after =
+line_may : (x : Step) (j : ℕ) (c : Command) (d : Decision) → (is_line x.input ≡ true) → (IsConcluded x → ⊥) → ((r : Reply) → IsLate x r) → DecisionAllowed (Going (is_explained x.input) x) (MayAnswer (is_explained x.input) x) (MayCall x) (MayStart x) x j c d
+line_may x j c (Replies r) on going after = tt
+line_may x j c (Joins n a) on going after = λ z is q. absurd (going q)
+line_may x j c (Leaves s) on going after =
+    ((λ wake. refl), λ z k i there. (after (Recovering (last_renewal z.setting (seen z) s)), λ shown. absurd (false_is_true (sym (ap (λ b. not b) on) ∙ shown))))
+line_may x j c (ReadsArea s r) on going after = λ q. absurd (going q)
+line_may x j c (Shares s lver) on going after = granting_may x j lver c (on_line x on)
+line_may x j c (GivesUp s g) on going after =
     let y : Step = add_end (end_of g) x in (
       (after Done, λ shown. absurd (false_is_true shown)),
       lease_may x y s (spot_of_grant g) (ForJob j) (release_next (lease_place x.setting s) (known x.setting (seen y) s (spot_of_grant g)) g.mode g.lver) going
-          (nobody (release_next (lease_place x.setting s) (known x.setting (seen y) s (spot_of_grant g)) g.mode g.lver) (ForJob j) (release_nobody (lease_place x.setting s) (known x.setting (seen y) s (spot_of_grant g)) g.mode g.lver)),
+          (nobody (release_next (lease_place x.setting s) (known x.setting (seen y) s (spot_of_grant g)) g.mode g.lver) (ForJob j) (release_nobody (lease_place x.setting s) (known x.setting (seen y) s (spot_of_grant g)) g.mode g.lver)) (λ i is. on_line x on),
     )
-line_may x j c (TakesOver s g) going after = granting_may x j g.lver c
-line_may x j c (ConvertsTo s r mode) going after =
+line_may x j c (TakesOver s g) on going after = granting_may x j g.lver c (on_line x on)
+line_may x j c (ConvertsTo s r mode) on going after =
     lease_may x x s (spot_of r) (ForJob j) (convert_next (known x.setting (seen x) s (spot_of r)) mode r.name) going
-    (nobody (convert_next (known x.setting (seen x) s (spot_of r)) mode r.name) (ForJob j) (convert_nobody (known x.setting (seen x) s (spot_of r)) mode r.name))
-line_may x j c (Requests s r) going after = λ q. absurd (going q)
-line_may x j c (SetsValue s at v) going after = λ q. absurd (going q)
-line_may x j c (GetsValue s at) going after = λ q. absurd (going q)
+    (nobody (convert_next (known x.setting (seen x) s (spot_of r)) mode r.name) (ForJob j) (convert_nobody (known x.setting (seen x) s (spot_of r)) mode r.name)) (λ i is. on_line x on)
+line_may x j c (Requests s r) on going after = λ q. absurd (going q)
+line_may x j c (SetsValue s at v) on going after = λ q. absurd (going q)
+line_may x j c (GetsValue s at) on going after = λ q. absurd (going q)
+
+-- What is explained in some entry is so on a wake.
+explained_awake : (i : Input) (r : Reply) → is_explained i r ≡ true → is_explained Wake r ≡ true
+explained_awake i (IdHeld v w) is = is
+explained_awake i (Recovering t) is = refl
+explained_awake i Done is = is
+explained_awake i (Granted n) is = is
+explained_awake i (Started n p) is = is
+explained_awake i (ValueSet n m) is = is
+explained_awake i r is = refl
 
 -- What an act does after the input is seen.
-from_wake : (x z : Step) (i : Input) → x.input ≡ Wake → Going is_explained (with_input i x) z → CausedSoFar is_explained x → CausedSoFar is_explained z
-from_wake x z i wake g h = record { before = before_later x z first h.before; causes = λ a there shown apart. by a shown (g.replies a there shown) } where
-  w : Step
-  w = with_input i x
+from_wake : (x z : Step) (i : Input) → (i ≡ Wake → ⊥) → x.input ≡ Wake → Going (is_explained i) (with_input i x) z → CausedSoFar is_explained x → CausedSoFar is_explained z
+from_wake x z i other wake g h =
+    record {
+      before = before_later x z first h.before;
+      causes = λ a there shown apart. let here : is_explained i a.reply ≡ true = ap (λ k. is_explained k a.reply) (sym g.input) ∙ shown in by a here (g.replies a there here);
+      jobless = λ is. absurd (other (sym g.input ∙ is));
+    } where
+      w : Step
+      w = with_input i x
 
-  first : IsLater x z
-  first = record { setting = g.later.setting; before = g.later.before; reading = g.later.reading; carried = λ told. absurd (told wake) }
+      first : IsLater x z
+      first = record { setting = g.later.setting; before = g.later.before; reading = g.later.reading; carried = λ told. absurd (told wake) }
 
-  by : (a : JobReply) → is_explained a.reply ≡ true → Contains w.effects.replies a ⊎ StaysCaused w a → StaysCaused z a
-  by a shown (inl old) = λ u later. h.causes a old shown (λ o. wake_no_line x.input o.text wake o.line) u (after_that x z u first later)
-  by a shown (inr new) = λ u later. new u (after_that w z u g.later later)
+      by : (a : JobReply) → is_explained i a.reply ≡ true → Contains w.effects.replies a ⊎ StaysCaused w a → StaysCaused z a
+      by a shown (inl old) = λ u later.
+          h.causes a old (ap (λ k. is_explained k a.reply) wake ∙ explained_awake i a.reply shown) (λ o. wake_no_line x.input o.text wake o.line) u (after_that x z u first later)
+      by a shown (inr new) = λ u later. new u (after_that w z u g.later later)
+
+line_no_wake : (i : Input) (text : List ℕ) → i ≡ Line text → i ≡ Wake → ⊥
+line_no_wake i text is wake = cc
+
+told_no_wake : (i : Input) (n : ℕ) (a : Answer) → i ≡ Told n a → i ≡ Wake → ⊥
+told_no_wake i n a is wake = cc
+
+number_no_wake : (i : Input) (text : List ℕ) → i ≡ Number text → i ≡ Wake → ⊥
+number_no_wake i text is wake = cc
+
+exit_no_wake : (i : Input) (p : ℕ) → i ≡ Exit p → i ≡ Wake → ⊥
+exit_no_wake i p is wake = cc
+
+spawned_no_wake : (i : Input) (p : ℕ) (ok : Bool) → i ≡ Spawned p ok → i ≡ Wake → ⊥
+spawned_no_wake i p ok is wake = cc
 
 -- A line that is answered at once.
 at_once : (x : Step) (text : List ℕ) (r : Reply) → Keeps x → x.input ≡ Wake → CausedSoFar is_explained (answer_line text (next_job x.setting (seen x)) r x)
-at_once x text r k wake = record { before = k.1.before; causes = λ a there shown apart. by a shown apart (contains_last x.effects.replies (record { job = j; reply = r }) a there) } where
-  j : ℕ
-  j = next_job x.setting (seen x)
+at_once x text r k wake =
+    record {
+      before = k.1.before;
+      causes = λ a there shown apart. by a shown apart (contains_last x.effects.replies (record { job = j; reply = r }) a there);
+      jobless = λ is. absurd (line_no_wake z.input text refl is);
+    } where
+      j : ℕ
+      j = next_job x.setting (seen x)
 
-  z : Step
-  z = answer_line text (next_job x.setting (seen x)) r x
+      z : Step
+      z = answer_line text (next_job x.setting (seen x)) r x
 
-  first : IsLater x z
-  first = record { setting = refl; before = refl; reading = refl; carried = λ told. absurd (told wake) }
+      first : IsLater x z
+      first = record { setting = refl; before = refl; reading = refl; carried = λ told. absurd (told wake) }
 
-  by : (a : JobReply) → is_explained a.reply ≡ true → (IsAtOnce z a → ⊥) → Contains x.effects.replies a ⊎ (record { job = j; reply = r } ≡ a) → StaysCaused z a
-  by a shown apart (inl old) = λ u later. k.1.causes a old shown (λ o. wake_no_line x.input o.text wake o.line) u (after_that x z u first later)
-  by a shown apart (inr new) =
-      absurd (apart (record { text = text; line = refl; own = ap (λ (b : JobReply). b.job) (sym new) ∙ next_before x wake; ungranted = (k.0.1.waking wake).1; unended = (k.0.1.waking wake).0 }))
+      by : (a : JobReply) → is_explained (Line text) a.reply ≡ true → (IsAtOnce z a → ⊥) → Contains x.effects.replies a ⊎ (record { job = j; reply = r } ≡ a) → StaysCaused z a
+      by a shown apart (inl old) = λ u later.
+          k.1.causes a old (ap (λ i. is_explained i a.reply) wake ∙ explained_awake (Line text) a.reply shown) (λ o. wake_no_line x.input o.text wake o.line) u (after_that x z u first later)
+      by a shown apart (inr new) =
+          absurd (apart (record { text = text; line = refl; own = ap (λ (b : JobReply). b.job) (sym new) ∙ next_before x wake; ungranted = (k.0.1.waking wake).1; unended = (k.0.1.waking wake).0 }))
+
+-- A process exits, and its jobs are refused.
+exit_done : (x : Step) (p : ℕ) → Keeps x → x.input ≡ Wake → CausedSoFar is_explained (refuse_jobs_of p (leave_holdings p (with_input (Exit p) x)))
+exit_done x p k wake =
+    from_wake x (refuse_jobs_of p y) (Exit p) (λ is. exit_no_wake (Exit p) p refl is) wake
+    (for_each_keeps (Going (is_explained w.input) w) (filter (is_job_of_process (seen y) p) (running_jobs y.setting (seen y))) (λ j. add_reply j.number (NoProcess p)) y
+    (λ j there z g. (going (is_explained w.input) w).replies z j.number (NoProcess p) (late_unless_told w (NoProcess p) refl, λ shown. exit_caused x p (k.1.jobless wake) j there) g)
+    (left (Going (is_explained w.input) w) (Going (is_explained w.input) w) (MayAnswer (is_explained w.input) w) (MayCall w) (MayStart w) AnyMove (going (is_explained w.input) w) w p (begins (is_explained w.input) w))) k.1
+  where
+    w : Step
+    w = with_input (Exit p) x
+
+    y : Step
+    y = leave_holdings p w
 
 -- ---- answers
 
 -- A reply to the job of the call that was heard.
-replied : (x : Step) (s : Session) (m : Submitted) (answer : Answer) (j : ℕ) (r : Reply) → CausedSoFar is_explained x → Hears x s m answer → is_special r ≡ false → (is_explained r ≡ true → StaysCaused x (record { job = j; reply = r }))
+replied : (x : Step) (s : Session) (m : Submitted) (answer : Answer) (j : ℕ) (r : Reply) → CausedSoFar is_explained x → Hears x s m answer → is_special r ≡ false → (is_explained x.input r ≡ true → StaysCaused x (record { job = j; reply = r }))
     → CausedSoFar is_explained (add_reply j r x)
 replied x s m answer j r h hears after cause =
-    by_act x (add_reply j r x) (no_line_heard x s m answer hears) ((going is_explained x).replies x j r (late x r after, cause) (begins is_explained x)) h
+    by_act x (add_reply j r x) (no_line_heard x s m answer hears) ((going (is_explained x.input) x).replies x j r (late x r after, cause) (begins (is_explained x.input) x)) h
 
-delta_done : (x : Step) (s : Session) (n : DeltaNext) → DeltaAllowed (MayAnswer is_explained x) (MayCall x) AnyMove x s n → Going is_explained x (carry_delta s n x)
-delta_done x s n may = delta (Going is_explained x) (Going is_explained x) (MayAnswer is_explained x) (MayCall x) AnyStart AnyMove (going is_explained x) x s n may (begins is_explained x)
+delta_done : (x : Step) (s : Session) (n : DeltaNext) → DeltaAllowed (MayAnswer (is_explained x.input) x) (MayCall x) AnyMove x s n → Going (is_explained x.input) x (carry_delta s n x)
+delta_done x s n may = delta (Going (is_explained x.input) x) (Going (is_explained x.input) x) (MayAnswer (is_explained x.input) x) (MayCall x) (MayStart x) AnyMove (going (is_explained x.input) x) x s n may (begins (is_explained x.input) x)
 
-lease_done : (x : Step) (s : Session) (at : Spot) (work : Work) (n : LeaseNext) → LeaseAllowed (MayAnswer is_explained x) (MayCall x) AnyStart x s at work n → Going is_explained x (carry_lease s at work n x)
-lease_done x s at work n may = lease (Going is_explained x) (Going is_explained x) (MayAnswer is_explained x) (MayCall x) AnyStart AnyMove (going is_explained x) x s at work n may (begins is_explained x)
+lease_done : (x : Step) (s : Session) (at : Spot) (work : Work) (n : LeaseNext) → LeaseAllowed (MayAnswer (is_explained x.input) x) (MayCall x) (MayStart x) x s at work n → Going (is_explained x.input) x (carry_lease s at work n x)
+lease_done x s at work n may = lease (Going (is_explained x.input) x) (Going (is_explained x.input) x) (MayAnswer (is_explained x.input) x) (MayCall x) (MayStart x) AnyMove (going (is_explained x.input) x) x s at work n may (begins (is_explained x.input) x)
 
-no_held : (v : DeltaVersion) (w : Option DeltaVersion) → is_explained (IdHeld v w) ≡ true → ⊥
-no_held v w is = false_is_true is
+no_held : (i : Input) (v : DeltaVersion) (w : Option DeltaVersion) → is_explained i (IdHeld v w) ≡ true → ⊥
+no_held i v w is = false_is_true is
 
 joined_on : (x : Step) (s : Session) (j : ℕ) (step : JoinStep) (m : Submitted) (answer : Answer) → Keeps x → Hears x s m answer → m.call.purpose ≡ Joining j step
     → CausedSoFar is_explained (carry_delta s (next_in_joining (delta_of_session x.setting s) (generation_of (seen x) s) (calls_of (seen x) s) x.reading m step answer) x)
@@ -256,9 +320,9 @@ joined_on x s j step m answer k hears is =
     let n : DeltaNext = next_in_joining (delta_of_session x.setting s) (generation_of (seen x) s) (calls_of (seen x) s) x.reading m step answer in
     by_act x (carry_delta s n x) (no_line_heard x s m answer hears)
     (delta_done x s n
-    (joining_may is_explained x s j n (joining_of x s m j step (both_of x k.0.0) (heard_call x s m answer hears).0 hears.session is) (goes_on_still x s m answer k.0 hears (ap (λ p. lease_step p) is)) (λ r after. late x r after)
+    (joining_may (is_explained x.input) x s j n (joining_of x s m j step (both_of x k.0.0) (heard_call x s m answer hears).0 hears.session is) (goes_on_still x s m answer k.0 hears (ap (λ p. lease_step p) is)) (λ r after. late x r after)
     (joining_late (delta_of_session x.setting s) (generation_of (seen x) s) (calls_of (seen x) s) x.reading m step answer)
-    (joining_well is_explained no_held x s m j step answer (record { known = k.0; hears = hears; purpose = is })))) k.1
+    (joining_well (is_explained x.input) (no_held x.input) x s m j step answer (record { known = k.0; hears = hears; purpose = is })))) k.1
 
 -- The work on a lease goes on, or its job is answered.
 leads : (x : Step) (s : Session) (work : Work) (step : LeaseStep) (m : Submitted) (answer : Answer) (aim : Aim) → Keeps x → Hears x s m answer → m.call.purpose ≡ Lease work step → goes_on x.setting (seen x) s work ≡ true
@@ -277,7 +341,7 @@ leads x s work step m answer aim k hears is on aims n next = by work n is on aim
       not_both (is_running (seen x) j) runs (subst (λ i. is_running (seen x) i ≡ false) same c.over)
 
   other : (w : Work) (q : LeaseNext) → m.call.purpose ≡ Lease w step → goes_on x.setting (seen x) s w ≡ true → AnswersNobody q → CausedSoFar is_explained (carry_lease s at w q x)
-  other w q its runs none = by_act x (carry_lease s at w q x) (no_line_heard x s m answer hears) (lease_done x s at w q (lease_may x x s at w q (going_on w its runs) (nobody q w none))) k.1
+  other w q its runs none = by_act x (carry_lease s at w q x) (no_line_heard x s m answer hears) (lease_done x s at w q (lease_may x x s at w q (going_on w its runs) (nobody q w none) (λ i own wake. told_no_wake x.input hears.number answer hears.heard wake))) k.1
 
   by : (w : Work) (q : LeaseNext) → m.call.purpose ≡ Lease w step → goes_on x.setting (seen x) s w ≡ true → aim_of x.setting (seen x) w ≡ Some aim → next_of_lease x.setting (seen x) s at aim m step answer ≡ q
       → CausedSoFar is_explained (carry_lease s at w q x)
@@ -285,7 +349,7 @@ leads x s work step m answer aim k hears is on aims n next = by work n is on aim
   by (ForJob j) (AnswerJob r) its runs aims says =
       let may : IsLate x r = late x r (subst (λ v. IsLateLease v) says (lease_late (lease_place x.setting s) (known x.setting (seen x) s at) aim m.call.number (lver_written m) step answer)) in
       answer_caused is_explained x j r (no_line x (add_reply j r x) (no_line_heard x s m answer hears)) may
-      (λ shown. led_caused is_explained x s m answer j step aim r k.0 k.1.before hears its aims may says (λ d. absurd (false_is_true d)) shown) k.1
+      (λ shown. led_caused (is_explained x.input) x s m answer j step aim r k.0 k.1.before hears its aims may says (λ d. absurd (false_is_true d)) shown) k.1
   by w No_lease its runs aims says = other w No_lease its runs tt
   by w (ReadFor q) its runs aims says = other w (ReadFor q) its runs tt
   by w (WriteBlock q b) its runs aims says = other w (WriteBlock q b) its runs tt
@@ -299,12 +363,12 @@ asked : (x : Step) (s : Session) (m : Submitted) (j : ℕ) (bytes : List ℕ) (c
     → CausedSoFar is_explained (after_request_read s j bytes c x)
 asked x s m j bytes c k hears is reads =
     by_act x (after_request_read s j bytes c x) (no_line_heard x s m (Read bytes) hears)
-    (requested (Going is_explained x) (Going is_explained x) (MayAnswer is_explained x) (MayCall x) AnyStart AnyMove (going is_explained x) x s j bytes c (may c reads (k.0.0.facts.jobs.fits m j s c (heard_call x s m (Read bytes) hears).0 (ap (λ p. job_of p) is) hears.session reads)) (begins is_explained x)) k.1
+    (requested (Going (is_explained x.input) x) (Going (is_explained x.input) x) (MayAnswer (is_explained x.input) x) (MayCall x) (MayStart x) AnyMove (going (is_explained x.input) x) x s j bytes c (may c reads (k.0.0.facts.jobs.fits m j s c (heard_call x s m (Read bytes) hears).0 (ap (λ p. job_of p) is) hears.session reads)) (begins (is_explained x.input) x)) k.1
   where
     on : IsConcluded x → ⊥
     on = goes_on_still x s m (Read bytes) k.0 hears (ap (λ p. lease_step p) is)
 
-    request : (r : ResourceArg) (lver force : ℕ) → command_numbered x.setting (seen x) j ≡ Some (Request r lver force) → FitsCommand x.setting s m (Request r lver force) (RequestRead j) → RequestAllowed (MayAnswer is_explained x) (MayCall x) x s j bytes (Request r lver force)
+    request : (r : ResourceArg) (lver force : ℕ) → command_numbered x.setting (seen x) j ≡ Some (Request r lver force) → FitsCommand x.setting s m (Request r lver force) (RequestRead j) → RequestAllowed (MayAnswer (is_explained x.input) x) (MayCall x) x s j bytes (Request r lver force)
     request r lver force says fits =
         let one : fits.0 ≡ r = some_value fits.0 r (ap (λ q. resource_named q) (sym fits.3)) in (
           (λ why refused. (
@@ -314,7 +378,7 @@ asked x s m j bytes c k hears is reads =
           λ q. absurd (on q),
         )
 
-    may : (d : Command) → command_numbered x.setting (seen x) j ≡ Some d → FitsCommand x.setting s m d m.call.purpose → RequestAllowed (MayAnswer is_explained x) (MayCall x) x s j bytes d
+    may : (d : Command) → command_numbered x.setting (seen x) j ≡ Some d → FitsCommand x.setting s m d m.call.purpose → RequestAllowed (MayAnswer (is_explained x.input) x) (MayCall x) x s j bytes d
     may (Request r lver force) says fits = request r lver force says (subst (λ (p : Purpose). FitsCommand x.setting s m (Request r lver force) p) is fits)
     may (AddLockspace a) says fits = tt
     may (RemLockspace a) says fits = tt
@@ -331,9 +395,9 @@ asked x s m j bytes c k hears is reads =
     may (SetKillpath p path) says fits = tt
     may Status says fits = tt
 
-unset : (m : Submitted) → is_explained (set_reply m) ≡ true → ⊥
-unset m = by (value_written m) where
-  by : (o : Option ValueRec) → is_explained (option_map_or (λ (v : ValueRec). ValueSet v.lver v.seq) o Done) ≡ true → ⊥
+unset : (i : Input) (m : Submitted) → is_explained i (set_reply m) ≡ true → ⊥
+unset i m = by (value_written m) where
+  by : (o : Option ValueRec) → is_explained i (option_map_or (λ (v : ValueRec). ValueSet v.lver v.seq) o Done) ≡ true → ⊥
   by (Some v) is = false_is_true is
   by None is = false_is_true is
 
@@ -341,27 +405,48 @@ unset m = by (value_written m) where
 failed : (x : Step) (p : ℕ) → Keeps x → x.input ≡ Spawned p false → CausedSoFar is_explained (when_running (job_of_start (seen x) p) SpawnFault (end_holdings p x))
 failed x p k input =
     by_act x (when_running (job_of_start (seen x) p) SpawnFault (end_holdings p x)) (λ text line. spawned_no_line x.input p false text input line)
-    (said (Going is_explained x) (Going is_explained x) (MayAnswer is_explained x) (MayCall x) AnyStart AnyMove (going is_explained x) (end_holdings p x) (job_of_start (seen x) p) SpawnFault
+    (said (Going (is_explained x.input) x) (Going (is_explained x.input) x) (MayAnswer (is_explained x.input) x) (MayCall x) (MayStart x) AnyMove (going (is_explained x.input) x) (end_holdings p x) (job_of_start (seen x) p) SpawnFault
     (λ j is. (late x SpawnFault refl, λ shown. spawn_caused x p j k.0 input is))
-    (ended (Going is_explained x) (Going is_explained x) (MayAnswer is_explained x) (MayCall x) AnyStart AnyMove (going is_explained x) x p (begins is_explained x))) k.1
+    (ended (Going (is_explained x.input) x) (Going (is_explained x.input) x) (MayAnswer (is_explained x.input) x) (MayCall x) (MayStart x) AnyMove (going (is_explained x.input) x) x p (begins (is_explained x.input) x))) k.1
+
+-- A read showed another in the session's place.
+shown_done : (x : Step) (s : Session) (m : Submitted) (bytes : List ℕ) → Keeps x → Hears x s m (Read bytes) → m.call.purpose ≡ Survey → is_joined (seen x) s ≡ true → begins_by_read (seen x) (recovery_of x.setting (seen x) s) ≡ true
+    → CausedSoFar is_explained (signal_and_refuse s None x)
+shown_done x s m bytes k hears is joined starts =
+    by_act x (signal_and_refuse s None x) (no_line_heard x s m (Read bytes) hears)
+    (stopped (Going (is_explained x.input) x) (Going (is_explained x.input) x) (MayAnswer (is_explained x.input) x) (MayCall x) (MayStart x) AnyMove (going (is_explained x.input) x) (λ wake. refl) x s None
+    (λ z g j there. (late_on_survey x s m (Read bytes) (Recovering (last_renewal z.setting (seen z) s)) k.0.0.facts.calls hears (ap (λ p. job_of p) is), λ shown.
+    stop_caused (is_explained x.input) x z s j k.1.before before was (ap (λ i. line_in i) hears.heard) (ap (λ i. renewed_by x.past s i) hears.heard) (begun_by_read x s (λ wake. told_no_wake x.input hears.number (Read bytes) hears.heard wake) begun) g there)) (begins (is_explained x.input) x)) k.1
+  where
+    found : (b : Begun) × (recovery_of x.setting (seen x) s ≡ Some b) × ((b.kills_from == length (seen x)) ≡ true)
+    found = some_is_true (λ (b : Begun). b.kills_from == length (seen x)) (recovery_of x.setting (seen x) s) starts
+
+    begun : is_some (recovery_of x.setting (seen x) s) ≡ true
+    begun = ap (λ o. is_some o) found.1
+
+    before : Contains (sessions x.setting x.past) s
+    before = subst (λ ss. Contains ss s) (sessions_bare x hears.bare) (got_inside (sessions x.setting (seen x)) s.number s (has_heard x s m (Read bytes) hears))
+
+    was : is_joined x.past s ≡ true
+    was = joined_before x.past (entry_of x) s (recovery_joined x.setting (entry_of x) x.past s found.0 found.1) joined
 
 -- ---- what comes last
 
-removed : (x : Step) (name : List ℕ) → Going is_explained x (remove_connection name x)
-removed x name = removal (Going is_explained x) (Going is_explained x) (MayAnswer is_explained x) (MayCall x) AnyStart AnyMove (going is_explained x) x name tt (begins is_explained x)
+removed : (x : Step) (name : List ℕ) → Going (is_explained x.input) x (remove_connection name x)
+removed x name = removal (Going (is_explained x.input) x) (Going (is_explained x.input) x) (MayAnswer (is_explained x.input) x) (MayCall x) (MayStart x) AnyMove (going (is_explained x.input) x) x name tt (begins (is_explained x.input) x)
 
-renewed_may : (x : Step) (s : Session) (recovering : Bool) (made : ℕ) (answer : Answer) → (IsConcluded x → ⊥) → DeltaAllowed (MayAnswer is_explained x) (MayCall x) AnyMove x s (next_after_renewal recovering made answer)
-renewed_may x s recovering made Written going = on_bool (DeltaAllowed (MayAnswer is_explained x) (MayCall x) AnyMove x s) recovering (MoveConnection made) Nothing (tt, λ c. absurd (going c)) tt
+renewed_may : (x : Step) (s : Session) (recovering : Bool) (made : ℕ) (answer : Answer) → (IsConcluded x → ⊥) → DeltaAllowed (MayAnswer (is_explained x.input) x) (MayCall x) AnyMove x s (next_after_renewal recovering made answer)
+renewed_may x s recovering made Written going = on_bool (DeltaAllowed (MayAnswer (is_explained x.input) x) (MayCall x) AnyMove x s) recovering (MoveConnection made) Nothing (tt, λ c. absurd (going c)) tt
 renewed_may x s recovering made Failed going = tt
 renewed_may x s recovering made (Read bytes) going = tt
 
-renewal_may : (x : Step) (s : Session) (l : DeltaLease) (now : ℕ) (k : DeltaKnown) (bits : List ℕ) → (IsConcluded x → ⊥) → DeltaAllowed (MayAnswer is_explained x) (MayCall x) AnyMove x s (next_renewal l now k bits)
+renewal_may : (x : Step) (s : Session) (l : DeltaLease) (now : ℕ) (k : DeltaKnown) (bits : List ℕ) → (IsConcluded x → ⊥) → DeltaAllowed (MayAnswer (is_explained x.input) x) (MayCall x) AnyMove x s (next_renewal l now k bits)
 unfolding next_renewal
 renewal_may x s l now k bits going =
-    on_bool (DeltaAllowed (MayAnswer is_explained x) (MayCall x) AnyMove x s) (is_renewal_due l now k) Nothing (WriteRenewal (delta_record l Live k.generation (k.seq + 1) now bits)) tt (λ c. absurd (going c))
+    on_bool (DeltaAllowed (MayAnswer (is_explained x.input) x) (MayCall x) AnyMove x s) (is_renewal_due l now k) Nothing (WriteRenewal (delta_record l Live k.generation (k.seq + 1) now bits)) tt (λ c. absurd (going c))
 
 -- The free of a leaving is of no lease, and of the session's own generation.
-free_may : (x : Step) (s : Session) → Has x s → DeltaAllowed (MayAnswer is_explained x) (MayCall x) AnyMove x s (next_free (delta_of_session x.setting s) x.reading (delta_known x.setting (seen x) s))
+free_may : (x : Step) (s : Session) → Has x s → DeltaAllowed (MayAnswer (is_explained x.input) x) (MayCall x) AnyMove x s (next_free (delta_of_session x.setting s) x.reading (delta_known x.setting (seen x) s))
 free_may x s has = by (delta_known x.setting (seen x) s).leaving (delta_known x.setting (seen x) s).freed where
   d : DeltaRec
   d = delta_record (delta_of_session x.setting s) Free (generation_of (seen x) s) (last_seq (seen x) s + 1) x.reading no_bits
@@ -370,7 +455,7 @@ free_may x s has = by (delta_known x.setting (seen x) s).leaving (delta_known x.
   write j q =
       (refl, λ e is z there same. ap (λ (f : DeltaRec). f.generation) (sym (some_value d e is)) ∙ ap (λ y. generation_of (seen x) y) (same_session x z.number s z (session_has x.setting (seen x) z (contains_left (sessions x.setting x.past) (begun_in x.setting x.past (length (sessions x.setting x.past)) (entry_of x)) z there)) has same))
 
-  by : (o : Option ℕ) (b : Bool) → DeltaAllowed (MayAnswer is_explained x) (MayCall x) AnyMove x s (elim o as (λ z. DeltaNext) [ None ↦ Nothing | Some j ↦ elim b as (λ z. DeltaNext) [ true ↦ Nothing | false ↦ WriteFree j d ] ])
+  by : (o : Option ℕ) (b : Bool) → DeltaAllowed (MayAnswer (is_explained x.input) x) (MayCall x) AnyMove x s (elim o as (λ z. DeltaNext) [ None ↦ Nothing | Some j ↦ elim b as (λ z. DeltaNext) [ true ↦ Nothing | false ↦ WriteFree j d ] ])
   by None b = tt
   by (Some j) true = tt
   by (Some j) false = write j
@@ -384,92 +469,108 @@ causes_are_kept =
       kills = λ x s has due k.
           let z : Step = signal_holders Kill s x in
           let a : Alike x z = signalled_alike x Kill s in
-          let g : Going is_explained x z = signalled (Going is_explained x) (Going is_explained x) (MayAnswer is_explained x) (MayCall x) AnyStart AnyMove (going is_explained x) tt x Kill s (begins is_explained x) in
+          let g : Going (is_explained x.input) x z = signalled (Going (is_explained x.input) x) (Going (is_explained x.input) x) (MayAnswer (is_explained x.input) x) (MayCall x) (MayStart x) AnyMove (going (is_explained x.input) x) (λ wake. refl) x Kill s (begins (is_explained x.input) x) in
           still_caused is_explained x z (once_by x z g.later g.input a.grants a.ends) g k.1;
       times_out = λ x j m wake bare runs waits late_one k.
           let r : Reply = IoTimeout m.call.number m.reading x.reading in
           by_act x (refuse j r x) (no_line_awake x wake)
-          (refusal (Going is_explained x) (Going is_explained x) (MayAnswer is_explained x) (MayCall x) AnyStart AnyMove (going is_explained x) x j r (late_on_wake x r wake, λ shown. timeout_caused x j m wake bare waits late_one) (λ z is. tt) (begins is_explained x)) k.1;
-      hears = λ x number answer wake bare expected k. seen_caused is_explained x (Told number answer) wake k.1;
-      counts = λ x text wake bare k. seen_caused is_explained x (Number text) wake k.1;
-      exits = λ x p wake bare one k.
-          let w : Step = with_input (Exit p) x in
-          let y : Step = leave_holdings p w in
-          from_wake x (refuse_jobs_of p y) (Exit p) wake
-          (exited (Going is_explained w) (Going is_explained w) (MayAnswer is_explained w) (MayCall w) AnyStart AnyMove (going is_explained w) y p (λ j there. (late_unless_told w (NoProcess p) refl, λ shown. absurd (false_is_true shown)))
-          (left (Going is_explained w) (Going is_explained w) (MayAnswer is_explained w) (MayCall w) AnyStart AnyMove (going is_explained w) w p (begins is_explained w))) k.1;
-      exits_as_none = λ x p wake bare none k. seen_caused is_explained x (Exit p) wake k.1;
-      starts = λ x p ok wake bare expected k. seen_caused is_explained x (Spawned p ok) wake k.1;
+          (refusal (Going (is_explained x.input) x) (Going (is_explained x.input) x) (MayAnswer (is_explained x.input) x) (MayCall x) (MayStart x) AnyMove (going (is_explained x.input) x) x j r (late_on_wake x r wake, λ shown. timeout_caused x j m wake bare waits late_one) (λ z is. tt) (begins (is_explained x.input) x)) k.1;
+      hears = λ x number answer wake bare expected k. seen_caused is_explained x (Told number answer) (explained_awake (Told number answer)) (λ is. told_no_wake (Told number answer) number answer refl is) wake k.1;
+      counts = λ x text wake bare k. seen_caused is_explained x (Number text) (explained_awake (Number text)) (λ is. number_no_wake (Number text) text refl is) wake k.1;
+      exits = λ x p wake bare one k. exit_done x p k wake;
+      exits_as_none = λ x p wake bare none k. seen_caused is_explained x (Exit p) (explained_awake (Exit p)) (λ is. exit_no_wake (Exit p) p refl is) wake k.1;
+      starts = λ x p ok wake bare expected k. seen_caused is_explained x (Spawned p ok) (explained_awake (Spawned p ok)) (λ is. spawned_no_wake (Spawned p ok) p ok refl is) wake k.1;
       fails_to_start = λ x p input k. failed x p k input;
-      signals_instead = λ x p q input stood k. by_act x (add_signal q Term x) (λ text line. spawned_no_line x.input p false text input line) ((going is_explained x).signals x q Term (begins is_explained x)) k.1;
+      signals_instead = λ x p q input stood k. by_act x (add_signal q Term x) (λ text line. spawned_no_line x.input p false text input line) ((going (is_explained x.input) x).signals x q Term (begins (is_explained x.input) x)) k.1;
       says_started = λ x p j input is runs k.
           by_act x (add_reply j (started_reply (seen x) p) x) (λ text line. spawned_no_line x.input p true text input line)
-          ((going is_explained x).replies x j (started_reply (seen x) p) (late x (started_reply (seen x) p) refl, λ shown. absurd (false_is_true shown)) (begins is_explained x)) k.1;
+          ((going (is_explained x.input) x).replies x j (started_reply (seen x) p) (late x (started_reply (seen x) p) refl, λ shown. absurd (false_is_true shown)) (begins (is_explained x.input) x)) k.1;
       misreads = λ x text column wake bare says k. at_once x text (Misread column) k wake;
       answers = λ x text c r wake bare says is k. at_once x text r k wake;
       carries = λ x text c d wake bare says is more k.
           let w : Step = with_input (Line text) x in
           let j : ℕ = next_job x.setting (seen x) in
-          from_wake x (carry_decision j c d w) (Line text) wake
-          (decision (Going is_explained w) (Going is_explained w) (MayAnswer is_explained w) (MayCall w) AnyStart AnyMove (going is_explained w) w j c d (line_may w j c d (open_unless_told w refl) (λ r. late_unless_told w r refl))
-          (λ n a joins. (going is_explained w).calls w (joining_session n j a) a.path (Joining j FirstRead) _ (ReadSectors 1) (λ q. absurd (open_unless_told w refl q)) (begins is_explained w)) (begins is_explained w)) k.1;
+          from_wake x (carry_decision j c d w) (Line text) (λ is. line_no_wake (Line text) text refl is) wake
+          (decision (Going (is_explained w.input) w) (Going (is_explained w.input) w) (MayAnswer (is_explained w.input) w) (MayCall w) (MayStart w) AnyMove (going (is_explained w.input) w) w j c d (line_may w j c d refl (open_unless_told w refl) (λ r. late_unless_told w r refl))
+          (λ n a joins. (going (is_explained w.input) w).calls w (joining_session n j a) a.path (Joining j FirstRead) _ (ReadSectors 1) (λ q. absurd (open_unless_told w refl q)) (begins (is_explained w.input) w)) (begins (is_explained w.input) w)) k.1;
       joins_on = λ x s j step m answer hears is runs k. joined_on x s j step m answer k hears is;
       ends_joining = λ x s j step m answer hears is stops k.
           by_act x (remove_of_refused s x) (no_line_heard x s m answer hears)
-          (removal_of_refused (Going is_explained x) (Going is_explained x) (MayAnswer is_explained x) (MayCall x) AnyStart AnyMove (going is_explained x) x s tt (begins is_explained x)) k.1;
+          (removal_of_refused (Going (is_explained x.input) x) (Going (is_explained x.input) x) (MayAnswer (is_explained x.input) x) (MayCall x) (MayStart x) AnyMove (going (is_explained x.input) x) x s tt (begins (is_explained x.input) x)) k.1;
       renewed = λ x s m answer hears is k.
           let n : DeltaNext = next_after_renewal (is_some (recovery_of x.setting (seen x) s)) m.reading answer in
           by_act x (carry_delta s n x) (no_line_heard x s m answer hears) (delta_done x s n (renewed_may x s (is_some (recovery_of x.setting (seen x) s)) m.reading answer (goes_on_still x s m answer k.0 hears (ap (λ p. lease_step p) is)))) k.1;
       freed = λ x s j m answer hears is k.
-          by_act x (carry_delta s (next_after_free j m.call.number answer) x) (no_line_heard x s m answer hears) (delta_done x s (next_after_free j m.call.number answer) (freed_may is_explained x s m j answer k.0 hears is)) k.1;
-      shown = λ x s m bytes hears is joined starts k.
-          by_act x (signal_and_refuse s None x) (no_line_heard x s m (Read bytes) hears)
-          (stopped (Going is_explained x) (Going is_explained x) (MayAnswer is_explained x) (MayCall x) AnyStart AnyMove (going is_explained x) tt x s None
-          (λ z g j there. (late_on_survey x s m (Read bytes) (Recovering (last_renewal z.setting (seen z) s)) k.0.0.facts.calls hears (ap (λ p. job_of p) is), λ shown. absurd (false_is_true shown))) (begins is_explained x)) k.1;
+          by_act x (carry_delta s (next_after_free j m.call.number answer) x) (no_line_heard x s m answer hears) (delta_done x s (next_after_free j m.call.number answer) (freed_may (is_explained x.input) x s m j answer k.0 hears is)) k.1;
+      shown = λ x s m bytes hears is joined starts k. shown_done x s m bytes k hears is joined starts;
       sees = λ x s number bytes at g has input held k.
           by_act x (see_request s g x) (λ text line. told_no_line x.input number (Read bytes) text input line)
-          ((going is_explained x).calls x s g.path SeeRequest _ (ReadSectors 1) (λ q. (refl, λ d is. absurd (none_some d is))) (begins is_explained x)) k.1;
+          ((going (is_explained x.input) x).calls x s g.path SeeRequest _ (ReadSectors 1) (λ q. (refl, λ d is. absurd (none_some d is))) (begins (is_explained x.input) x)) k.1;
       leads_on = λ x s work step m answer aim hears is on aims k. leads x s work step m answer aim k hears is on aims (next_of_lease x.setting (seen x) s (spot_of_call x.setting.layout m) aim m step answer) refl;
       fails = λ x s m j hears lone runs k. replied x s m Failed j (IoFault m.call.number) k.1 hears refl (λ shown. fault_caused x s m j k.0 hears (lone_of m.call.purpose j lone));
       has_asked = λ x s m j owner hears is runs k. replied x s m Written j Done k.1 hears refl (λ shown. absurd (false_is_true shown));
-      has_set = λ x s m j hears is runs k. replied x s m Written j (set_reply m) k.1 hears (set_late m) (λ shown. absurd (unset m shown));
+      has_set = λ x s m j hears is runs k. replied x s m Written j (set_reply m) k.1 hears (set_late m) (λ shown. absurd (unset x.input m shown));
       asks = λ x s m j bytes c hears is runs reads k. asked x s m j bytes c k hears is reads;
       tells = λ x s m j bytes hears is runs k. replied x s m (Read bytes) j (value_reply x.setting.layout bytes) k.1 hears (value_late x.setting.layout bytes) (λ shown. told_caused x s m j bytes k.0 hears is);
       warns = λ x s m bytes g signal hears is held own says k.
           by_act x (send g.process signal x) (no_line_heard x s m (Read bytes) hears)
-          (sent (Going is_explained x) (Going is_explained x) (MayAnswer is_explained x) (MayCall x) AnyStart AnyMove (going is_explained x) tt x g.process signal (begins is_explained x)) k.1;
+          (sent (Going (is_explained x.input) x) (Going (is_explained x.input) x) (MayAnswer (is_explained x.input) x) (MayCall x) (MayStart x) AnyMove (going (is_explained x.input) x) (λ wake. refl) x g.process signal (begins (is_explained x.input) x)) k.1;
       joins_in_time = λ x s j has wake is runs k.
           let n : DeltaNext = next_on_wake (delta_of_session x.setting s) x.reading (calls_of (seen x) s) in
           by_act x (carry_delta s n x) (no_line_awake x wake)
-          (delta_done x s n (joining_may is_explained x s j n is (open_awake x wake) (λ r after. late x r after) (wake_late (delta_of_session x.setting s) x.reading (calls_of (seen x) s))
-          (wake_well is_explained x s j wake (got_inside (sessions x.setting (seen x)) s.number s has) is))) k.1;
+          (delta_done x s n (joining_may (is_explained x.input) x s j n is (open_awake x wake) (λ r after. late x r after) (wake_late (delta_of_session x.setting s) x.reading (calls_of (seen x) s))
+          (wake_well (is_explained x.input) x s j wake (got_inside (sessions x.setting (seen x)) s.number s has) is))) k.1;
       renews = λ x s has wake joined k.
           let n : DeltaNext = next_renewal (delta_of_session x.setting s) x.reading (delta_known x.setting (seen x) s) (bits_due x.setting (calls_of (seen x) s) x.reading) in
           by_act x (carry_delta s n x) (no_line_awake x wake) (delta_done x s n (renewal_may x s (delta_of_session x.setting s) x.reading (delta_known x.setting (seen x) s) (bits_due x.setting (calls_of (seen x) s) x.reading) (open_awake x wake))) k.1;
       settles = λ x s at has wake active aligned none k.
           let n : LeaseNext = settle_next (lease_place x.setting s) (known x.setting (seen x) s at) in
-          by_act x (carry_lease s at Settling n x) (no_line_awake x wake) (lease_done x s at Settling n (lease_may x x s at Settling n (open_awake x wake) (λ r is. refl))) k.1;
+          by_act x (carry_lease s at Settling n x) (no_line_awake x wake) (lease_done x s at Settling n (lease_may x x s at Settling n (open_awake x wake) (λ r is. refl) (λ i own. absurd (none_some i own)))) k.1;
       parts = λ x s has joined recovers free quiet k.
           let z : Step = remove_connection s.lockspace x in
           let a : Alike x z = removal_alike x x s.lockspace (same x) in
-          let g : Going is_explained x z = removed x s.lockspace in
+          let g : Going (is_explained x.input) x z = removed x s.lockspace in
           still_caused is_explained x z (once_by x z g.later g.input a.grants a.ends) g k.1;
       frees = λ x s has joined well free quiet k.
           let n : DeltaNext = next_free (delta_of_session x.setting s) x.reading (delta_known x.setting (seen x) s) in
           let a = delta_ungranting x s n in
-          let g : Going is_explained x (carry_delta s n x) = delta_done x s n (free_may x s has) in
+          let g : Going (is_explained x.input) x (carry_delta s n x) = delta_done x s n (free_may x s has) in
           still_caused is_explained x (carry_delta s n x) (once_by x (carry_delta s n x) g.later g.input a.grants a.ends) g k.1;
     }
 
+begin_done : (st : Setting) (past : Trace) (now : ℕ) (s : Session) → WholeTrace st past → Contains (present_sessions st (seen (begin_step st past now))) s → (y : Step)
+    → Going (is_explained Wake) (begin_step st past now) y → Going (is_explained Wake) (begin_step st past now) (begin_recovery s y)
+unfolding begin_recovery
+begin_done st past now s w there y g =
+    when_keeps (Going (is_explained Wake) x) (begins_now (seen y) (recovery_of y.setting (seen y) s)) (signal_and_refuse s None) y
+    (λ starts f. stopped (Going (is_explained Wake) x) (Going (is_explained Wake) x) (MayAnswer (is_explained Wake) x) (MayCall x) (MayStart x) AnyMove (going (is_explained Wake) x) (λ wake. refl) y s None
+    (λ z k j inside. (late_on_wake x (Recovering (last_renewal z.setting (seen z) s)) refl, λ shown.
+    stop_caused (is_explained Wake) x z s j w before (was (begun (begun_of y starts))) refl refl (begun_by_time x s refl (ap (λ o. is_some o) (begun (begun_of y starts)).1)) k inside)) f) g
+  where
+    x : Step
+    x = begin_step st past now
+
+    present : Contains (sessions st (seen x)) s × (is_present (seen x) s ≡ true)
+    present = present_is st (seen x) s there
+
+    before : Contains (sessions st past) s
+    before = subst (λ ss. Contains ss s) (sessions_wake x refl) present.0
+
+    begun_of : (z : Step) → begins_now (seen z) (recovery_of z.setting (seen z) s) ≡ true → (b : Begun) × (recovery_of z.setting (seen z) s ≡ Some b)
+    begun_of z starts = let v = some_is_true (λ (b : Begun). b.at + 1 == length (seen z)) (recovery_of z.setting (seen z) s) starts in (v.0, v.1)
+
+    begun : (b : Begun) × (recovery_of y.setting (seen y) s ≡ Some b) → (b : Begun) × (recovery_of st (seen x) s ≡ Some b)
+    begun v = (v.0, recovery_same x y s g.later g.input ∙ v.1)
+
+    was : (b : Begun) × (recovery_of st (seen x) s ≡ Some b) → is_joined past s ≡ true
+    was v = present_joined past now s (recovery_joined st (entry_of x) past s v.0 v.1) present.1
+
 pub causes_begin : CausesBegin is_explained
-unfolding begin_recoveries begin_recovery
+unfolding begin_recoveries
 causes_begin st past e follows whole =
     still_caused is_explained x (begin_recoveries x) (no_line x (begin_recoveries x) (λ text line. wake_no_line Wake text refl line))
-    (for_each_keeps (Going is_explained x) (present_sessions st (seen x)) begin_recovery x
-    (λ s there y g. when_keeps (Going is_explained x) (begins_now (seen y) (recovery_of y.setting (seen y) s)) (signal_and_refuse s None) y
-    (λ starts f. stopped (Going is_explained x) (Going is_explained x) (MayAnswer is_explained x) (MayCall x) AnyStart AnyMove (going is_explained x) tt y s None
-    (λ z k j inside. (late_on_wake x (Recovering (last_renewal z.setting (seen z) s)) refl, λ shown. absurd (false_is_true shown))) f) g) (begins is_explained x))
-    (record { before = whole; causes = λ a there shown apart. absurd (contains_none a there) })
+    (for_each_keeps (Going (is_explained Wake) x) (present_sessions st (seen x)) begin_recovery x (λ s there y g. begin_done st past e.reading s whole there y g) (begins (is_explained Wake) x))
+    (record { before = whole; causes = λ a there shown apart. absurd (contains_none a there); jobless = λ wake k there. absurd (contains_none k there) })
   where
     x : Step
     x = begin_step st past e.reading

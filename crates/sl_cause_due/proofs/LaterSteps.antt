@@ -31,6 +31,7 @@ use Rattle.sl_trace.specs.declared.effects.Move.{Move}
 use Rattle.sl_trace.specs.declared.effects.Op.{Op}
 use Rattle.sl_trace.specs.declared.effects.Purpose.{Purpose}
 use Rattle.sl_trace.specs.declared.input.Answer.{Answer}
+use Rattle.sl_trace.specs.declared.effects.Start.{Start}
 use Rattle.sl_trace.specs.declared.input.Input.TheVariants.{Answer as Told, Line, Wake}
 use Rattle.sl_trace.specs.declared.input.Input.{Input}
 use Rattle.sl_trace.specs.declared.reply.Reply.{Reply}
@@ -148,6 +149,7 @@ pub record Going (these : Reply → Bool) (x y : Step) : Type 0 where
   pub later : IsLater x y
   pub input : y.input ≡ x.input
   pub replies : (a : JobReply) → Contains y.effects.replies a → these a.reply ≡ true → Contains x.effects.replies a ⊎ StaysCaused x a
+  pub starts : (k : Start) → Contains y.effects.starts k → Contains x.effects.starts k ⊎ (x.input ≡ Wake → k.job ≡ None)
 
 abbrev pub MayAnswer : (Reply → Bool) → Step → ℕ → Reply → Type 0
 MayAnswer these x j r = IsLate x r × (these r ≡ true → StaysCaused x (record { job = j; reply = r }))
@@ -155,23 +157,24 @@ MayAnswer these x j r = IsLate x r × (these r ≡ true → StaysCaused x (recor
 abbrev pub MayCall : Step → Session → List ℕ → Purpose → ℕ → Op → Type 0
 MayCall x s path p o op = IsConcluded x → IsQuietCall x s p op
 
-abbrev pub AnyStart : Option ℕ → Type 0
-AnyStart o = Unit {0}
+abbrev pub MayStart : Step → Option ℕ → Type 0
+MayStart x o = x.input ≡ Wake → o ≡ None
 
 abbrev pub AnyMove : Move → Type 0
 AnyMove m = Unit {0}
 
 pub begins : (these : Reply → Bool) (x : Step) → Going these x x
-begins these x = record { later = itself x; input = refl; replies = λ a there shown. inl there }
+begins these x = record { later = itself x; input = refl; replies = λ a there shown. inl there; starts = λ k there. inl there }
 
 -- An effect that leaves calls and replies.
 plain : (these : Reply → Bool) (x y z : Step) → Going these x y → z.setting ≡ y.setting → z.past ≡ y.past → z.reading ≡ y.reading → z.input ≡ y.input → submitted (seen z) ≡ submitted (seen y)
-    → z.effects.replies ≡ y.effects.replies → ((n : ℕ) → is_running (seen z) n ≡ is_running (seen y) n) → Going these x z
-plain these x y z k setting past reading input calls same runs =
+    → z.effects.replies ≡ y.effects.replies → z.effects.starts ≡ y.effects.starts → ((n : ℕ) → is_running (seen z) n ≡ is_running (seen y) n) → Going these x z
+plain these x y z k setting past reading input calls same starts runs =
     record {
       later = record { setting = setting ∙ k.later.setting; before = past ∙ k.later.before; reading = reading ∙ k.later.reading; carried = λ told. on (k.later.carried told) };
       input = input ∙ k.input;
       replies = λ a there shown. k.replies a (subst (λ rs. Contains rs a) same there) shown;
+      starts = λ q there. k.starts q (subst (λ ks. Contains ks q) starts there);
     } where
       on : IsCarried x y → IsCarried x z
       on a =
@@ -195,6 +198,7 @@ more_calls these x y s path p o op may k =
       later = record { setting = k.later.setting; before = k.later.before; reading = k.later.reading; carried = λ told. on (k.later.carried told) };
       input = k.input;
       replies = k.replies;
+      starts = k.starts;
     } where
       made : Call
       made = record { number = next_call y.setting (seen y); session = s.number; purpose = p; path = path; offset = o; op = op }
@@ -218,6 +222,7 @@ more_replies these x y j r may k =
       later = record { setting = k.later.setting; before = k.later.before; reading = k.later.reading; carried = λ told. on (k.later.carried told) };
       input = k.input;
       replies = λ a there shown. by a shown (contains_last y.effects.replies (record { job = j; reply = r }) a there);
+      starts = k.starts;
     } where
       calls : submitted (seen (add_reply j r y)) ≡ submitted (seen y)
       calls = calls_stay y j r (late_there these x y r k may.0)
@@ -238,14 +243,29 @@ more_replies these x y j r may k =
       by a shown (inl old) = k.replies a old shown
       by a shown (inr new) = inr (subst (λ b. StaysCaused x b) new (may.1 (subst (λ (b : JobReply). these b.reply ≡ true) (sym new) shown)))
 
-pub going : (these : Reply → Bool) (x : Step) → Allows (Going these x) (Going these x) (MayAnswer these x) (MayCall x) AnyStart AnyMove
+more_starts : (these : Reply → Bool) (x y : Step) (s : Start) → MayStart x s.job → Going these x y → Going these x (add_start s y)
+more_starts these x y s may k =
+    record {
+      later = record { setting = k.later.setting; before = k.later.before; reading = k.later.reading; carried = λ told. on (k.later.carried told) };
+      input = k.input;
+      replies = k.replies;
+      starts = λ q there. by q (contains_last y.effects.starts s q there);
+    } where
+      on : IsCarried x y → IsCarried x (add_start s y)
+      on a = record { input = a.input; more = a.more; calls = a.calls; answered = a.answered; quiet = a.quiet }
+
+      by : (q : Start) → Contains y.effects.starts q ⊎ (s ≡ q) → Contains x.effects.starts q ⊎ (x.input ≡ Wake → q.job ≡ None)
+      by q (inl old) = k.starts q old
+      by q (inr new) = inr (λ wake. ap (λ (z : Start). z.job) (sym new) ∙ may wake)
+
+pub going : (these : Reply → Bool) (x : Step) → Allows (Going these x) (Going these x) (MayAnswer these x) (MayCall x) (MayStart x) AnyMove
 going these x =
     record {
-      ends = λ y e k. plain these x y (add_end e y) k refl refl refl refl refl refl (λ n. refl);
-      signals = λ y p signal k. plain these x y (add_signal p signal y) k refl refl refl refl refl refl (λ n. refl);
-      moves = λ y m may k. plain these x y (add_move m y) k refl refl refl refl refl refl (λ n. refl);
-      grants = λ y g k. plain these x y (add_grant g y) k refl refl refl refl refl refl (λ n. refl);
-      starts = λ y s may k. plain these x y (add_start s y) k refl refl refl refl refl refl (λ n. refl);
+      ends = λ y e k. plain these x y (add_end e y) k refl refl refl refl refl refl refl (λ n. refl);
+      signals = λ y p signal k. plain these x y (add_signal p signal y) k refl refl refl refl refl refl refl (λ n. refl);
+      moves = λ y m may k. plain these x y (add_move m y) k refl refl refl refl refl refl refl (λ n. refl);
+      grants = λ y g k. plain these x y (add_grant g y) k refl refl refl refl refl refl refl (λ n. refl);
+      starts = λ y s may k. more_starts these x y s may k;
       replies = λ y j r may k. more_replies these x y j r may k;
       calls = λ y s path p o op may k. more_calls these x y s path p o op may k;
       rest = λ y k. k;
@@ -256,11 +276,16 @@ going these x =
 pub before_later : (x z : Step) → IsLater x z → WholeTrace x.setting x.past → WholeTrace z.setting z.past
 before_later x z later w = subst (λ st. WholeTrace st z.past) (sym later.setting) (subst (λ t. WholeTrace x.setting t) (sym later.before) w)
 
-pub still_caused : (these : Reply → Bool) (x z : Step) → ((a : JobReply) → IsAtOnce x a → IsAtOnce z a) → Going these x z → CausedSoFar these x → CausedSoFar these z
-still_caused these x z once g h = record { before = before_later x z g.later h.before; causes = λ a there shown apart. by a shown apart (g.replies a there shown) } where
-  by : (a : JobReply) → these a.reply ≡ true → (IsAtOnce z a → ⊥) → Contains x.effects.replies a ⊎ StaysCaused x a → StaysCaused z a
-  by a shown apart (inl old) = λ w later. h.causes a old shown (λ o. apart (once a o)) w (after_that x z w g.later later)
-  by a shown apart (inr new) = λ w later. new w (after_that x z w g.later later)
+pub still_caused : (these : Input → Reply → Bool) (x z : Step) → ((a : JobReply) → IsAtOnce x a → IsAtOnce z a) → Going (these x.input) x z → CausedSoFar these x → CausedSoFar these z
+still_caused these x z once g h =
+    record {
+      before = before_later x z g.later h.before;
+      causes = λ a there shown apart. let here : these x.input a.reply ≡ true = ap (λ i. these i a.reply) (sym g.input) ∙ shown in by a here apart (g.replies a there here);
+      jobless = λ wake k there. let was : x.input ≡ Wake = sym g.input ∙ wake in elim (g.starts k there) [ inl old ↦ h.jobless was k old | inr new ↦ new was ];
+    } where
+      by : (a : JobReply) → these x.input a.reply ≡ true → (IsAtOnce z a → ⊥) → Contains x.effects.replies a ⊎ StaysCaused x a → StaysCaused z a
+      by a shown apart (inl old) = λ w later. h.causes a old shown (λ o. apart (once a o)) w (after_that x z w g.later later)
+      by a shown apart (inr new) = λ w later. new w (after_that x z w g.later later)
 
 -- A step with one more reply is a later one.
 pub replied_later : (x : Step) (j : ℕ) (r : Reply) → IsLate x r → IsLater x (add_reply j r x)
@@ -286,16 +311,16 @@ replied_over x j r = by (reply_to x.past j) (find (λ (a : JobReply). a.job == j
   by None None h = absurd (false_is_true h)
 
 -- One more reply, with its cause from there on.
-pub answer_caused : (these : Reply → Bool) (x : Step) (j : ℕ) (r : Reply) → ((a : JobReply) → IsAtOnce x a → IsAtOnce (add_reply j r x) a) → IsLate x r
-    → (these r ≡ true → StaysCaused (add_reply j r x) (record { job = j; reply = r })) → CausedSoFar these x → CausedSoFar these (add_reply j r x)
+pub answer_caused : (these : Input → Reply → Bool) (x : Step) (j : ℕ) (r : Reply) → ((a : JobReply) → IsAtOnce x a → IsAtOnce (add_reply j r x) a) → IsLate x r
+    → (these x.input r ≡ true → StaysCaused (add_reply j r x) (record { job = j; reply = r })) → CausedSoFar these x → CausedSoFar these (add_reply j r x)
 answer_caused these x j r once may cause h =
-    record { before = h.before; causes = λ a there shown apart. by a shown apart (contains_last x.effects.replies (record { job = j; reply = r }) a there) } where
+    record { before = h.before; causes = λ a there shown apart. by a shown apart (contains_last x.effects.replies (record { job = j; reply = r }) a there); jobless = h.jobless } where
       later : IsLater x (add_reply j r x)
       later = replied_later x j r may
 
-      by : (a : JobReply) → these a.reply ≡ true → (IsAtOnce (add_reply j r x) a → ⊥) → Contains x.effects.replies a ⊎ (record { job = j; reply = r } ≡ a) → StaysCaused (add_reply j r x) a
+      by : (a : JobReply) → these x.input a.reply ≡ true → (IsAtOnce (add_reply j r x) a → ⊥) → Contains x.effects.replies a ⊎ (record { job = j; reply = r } ≡ a) → StaysCaused (add_reply j r x) a
       by a shown apart (inl old) = λ w more. h.causes a old shown (λ o. apart (once a o)) w (after_that x (add_reply j r x) w later more)
-      by a shown apart (inr new) = subst (λ b. StaysCaused (add_reply j r x) b) new (cause (subst (λ (b : JobReply). these b.reply ≡ true) (sym new) shown))
+      by a shown apart (inr new) = subst (λ b. StaysCaused (add_reply j r x) b) new (cause (subst (λ (b : JobReply). these x.input b.reply ≡ true) (sym new) shown))
 
 -- Where the input is no line nothing is answered at once.
 pub no_line : (x z : Step) → ((text : List ℕ) → x.input ≡ Line text → ⊥) → (a : JobReply) → IsAtOnce x a → IsAtOnce z a
@@ -308,13 +333,14 @@ pub told_no_line : (i : Input) (n : ℕ) (a : Answer) (text : List ℕ) → i �
 told_no_line i n a text told line = cc
 
 -- What was caused before the input stays so as it is seen.
-pub seen_caused : (these : Reply → Bool) (x : Step) (i : Input) → x.input ≡ Wake → CausedSoFar these x → CausedSoFar these (with_input i x)
-seen_caused these x i wake h =
+pub seen_caused : (these : Input → Reply → Bool) (x : Step) (i : Input) → ((r : Reply) → these i r ≡ true → these Wake r ≡ true) → (i ≡ Wake → ⊥) → x.input ≡ Wake → CausedSoFar these x → CausedSoFar these (with_input i x)
+seen_caused these x i less other wake h =
     record {
       before = h.before;
       causes = λ a there shown apart w later.
-          h.causes a there shown (λ o. wake_no_line x.input o.text wake o.line) w
+          h.causes a there (ap (λ k. these k a.reply) wake ∙ less a.reply shown) (λ o. wake_no_line x.input o.text wake o.line) w
           (after_that x (with_input i x) w (record { setting = refl; before = refl; reading = refl; carried = λ told. absurd (told wake) }) later);
+      jobless = λ is. absurd (other is);
     }
 
 -- ---- a later step is the same but for its effects

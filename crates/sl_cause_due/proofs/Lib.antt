@@ -6,5 +6,6 @@ pub mod Leases
 pub mod JoinCauses
 pub mod WakeCauses
 pub mod RecoveryCauses
+pub mod ExitCauses
 pub mod CausesAreKept
 pub mod RepliesRun

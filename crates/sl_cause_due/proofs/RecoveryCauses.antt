@@ -11,7 +11,7 @@ use Rattle.sl_law.specs.Caused.{Answering, CausedBy, after_entry, before_entry}
 use Rattle.sl_leases.specs.Jobs.{command_of, is_command_that, jobs_of_session, lockspace_named}
 use Rattle.sl_plain.proofs.Lists.{contains_cases, contains_none, kept_inside}
 use Rattle.sl_plain.proofs.Numbers.{number_itself}
-use Rattle.sl_sessions.specs.Sessions.{is_active, is_joined, last_renewal, leaving_job, recovers, recovery_of, renewed_by, renewing, renewing_after, sessions, shows_other}
+use Rattle.sl_sessions.specs.Sessions.{has_open_write, is_active, is_joined, is_present, joined_after, refused_after, removed_after, removed_in, last_renewal, leaving_job, recovers, recovery_of, renewed_by, renewing, renewing_after, sessions, shows_other}
 use Rattle.sl_sessions.specs.declared.session.Begun.{Begun}
 use Rattle.sl_sessions.specs.declared.session.Renewing.{Renewing}
 use Rattle.sl_sessions.specs.declared.session.Session.{Session}
@@ -24,14 +24,15 @@ use Rattle.sl_trace.specs.declared.input.Input.TheVariants.{Wake}
 use Rattle.sl_trace.specs.declared.input.Input.{Input}
 use Rattle.sl_trace.specs.declared.reply.Reply.TheVariants.{Recovering}
 use Rattle.sl_trace.specs.declared.reply.Reply.{Reply}
+use Rattle.sl_trace_law.proofs.Sessions.Staying.{joined_more}
 use Rattle.sl_words.proofs.CaseLaws.{false_is_true, none_some, one_value}
-use Rattle.sl_words.proofs.WordLaws.{some_is_true}
+use Rattle.sl_words.proofs.WordLaws.{and_true, some_is_true}
 use Rattle.sl_words.specs.Words.{some_is}
-use Rattle.std.proofs.Common.{ap, inl, inr, refl, subst, sym, ◌∙◌}
+use Rattle.std.proofs.Common.{ap, ap₂, inl, inr, refl, subst, sym, ◌∙◌}
 use Rattle.std.proofs.lemmas.List.Elements.{Contains-append_cases}
 use Rattle.std.proofs.lemmas.List.{append-nil}
 use Rattle.std.specs.Option.{unwrap_or}
-use Rattle.std.specs.Prelude.{Bool, Contains, IsFalse, IsTrue, List, None, Ok, Option, Some, [], bytes_eq, cond, false, find, is_none, is_some, length, nat_le, true, ℕ, ◌&&◌, ◌++◌, ◌+◌, ◌==◌, ◌∷◌, ◌≡◌, ◌⊎◌}
+use Rattle.std.specs.Prelude.{Bool, Contains, IsFalse, IsTrue, List, None, Ok, Option, Some, [], bytes_eq, cond, false, find, is_none, is_some, length, nat_le, true, ℕ, ◌&&◌, ◌++◌, ◌+◌, ◌==◌, ◌∷◌, ◌≡◌, ◌||◌, ◌⊎◌}
 
 -- ---- how a session stands with its renewals in an entry with this input
 
@@ -113,7 +114,7 @@ numbered_is st (e ∷ es) j there = by (Contains-append_cases (jobs st es) (job_
   by (inr h) more = new (line_in e.input) refl h
 
 -- Without a line the jobs are those of before.
-jobs_past : (st : Setting) (past : Trace) (e : Entry) → line_in e.input ≡ None → jobs st (e ∷ past) ≡ jobs st past
+pub jobs_past : (st : Setting) (past : Trace) (e : Entry) → line_in e.input ≡ None → jobs st (e ∷ past) ≡ jobs st past
 jobs_past st past e none =
     ap (λ (q : Option (List ℕ)). jobs st past ++ elim q as (λ z. List Job) [ None ↦ [] | Some text ↦ record { number = next_job st past; at = length past; reading = e.reading; command = st.read text } ∷ [] ]) none
     ∙ append-nil (jobs st past)
@@ -204,3 +205,44 @@ begun_by_read x s told begun u later =
     ∙ (ap (λ past. is_some (stands_at x.setting past u.reading u.input s).recovery) later.before
     ∙ (ap (λ n. is_some (stands_at x.setting x.past n u.input s).recovery) later.reading
     ∙ (ap (λ i. is_some (stands_at x.setting x.past x.reading i s).recovery) (later.carried told).input ∙ begun)))
+
+-- ---- the session
+
+-- The same moment of a step, but for its effects.
+pub recovery_same : (x y : Step) (s : Session) → IsLater x y → y.input ≡ x.input → recovery_of x.setting (seen x) s ≡ recovery_of y.setting (seen y) s
+recovery_same x y s later input =
+    sym (ap (λ st. (stands_at st y.past y.reading y.input s).recovery) later.setting
+    ∙ (ap (λ past. (stands_at x.setting past y.reading y.input s).recovery) later.before
+    ∙ (ap (λ n. (stands_at x.setting x.past n y.input s).recovery) later.reading ∙ ap (λ i. (stands_at x.setting x.past x.reading i s).recovery) input)))
+
+unremoved : (past : Trace) (e : Entry) (s : Session) → is_none (removed_after (e ∷ past) s) ≡ true → is_none (removed_after past s) ≡ true
+unremoved past e s = by (removed_after past s) where
+  by : (o : Option ℕ) → is_none (elim o as (λ z. Option ℕ) [ Some i ↦ Some i | None ↦ removed_in past s e ]) ≡ true → is_none o ≡ true
+  by None h = refl
+  by (Some i) h = h
+
+-- Who is joined in an entry, and was not first in it, was joined before it.
+pub joined_before : (past : Trace) (e : Entry) (s : Session) → is_some (joined_after past s) ≡ true → is_joined (e ∷ past) s ≡ true → is_joined past s ≡ true
+joined_before past e s was is =
+    let v = and_true (is_some (joined_after (e ∷ past) s)) (is_none (removed_after (e ∷ past) s)) is in ap₂ (λ a b. a && b) was (unremoved past e s v.1)
+
+-- The trace on the wake that begins a step.
+abbrev pub seen_first : Trace → ℕ → Trace
+seen_first past now = record { reading = now; input = Wake; effects = no_effects } ∷ past
+
+pub present_joined : (past : Trace) (now : ℕ) (s : Session) → is_some (joined_after past s) ≡ true → is_present (seen_first past now) s ≡ true → is_joined past s ≡ true
+present_joined past now s was present = by (joined_after past s) refl was where
+  e : Entry
+  e = record { reading = now; input = Wake; effects = no_effects }
+
+  standing : (o q r : Option ℕ) (b : Bool) → is_some o ≡ true → (is_none (elim o as (λ z. Option ℕ) [ Some k ↦ q | None ↦ r ]) || is_none o && b) ≡ true → is_none q ≡ true
+  standing (Some k) None r b h is = refl
+  standing (Some k) (Some i) r true h is = absurd (false_is_true is)
+  standing (Some k) (Some i) r false h is = absurd (false_is_true is)
+  standing None q r b h is = absurd (false_is_true h)
+
+  by : (o : Option ℕ) → joined_after past s ≡ o → is_some o ≡ true → is_joined past s ≡ true
+  by (Some k) is h =
+      ap₂ (λ a b. a && b) was
+      (unremoved past e s (standing (joined_after (e ∷ past) s) (removed_after (e ∷ past) s) (refused_after (e ∷ past) s) (has_open_write (e ∷ past) s) (ap (λ q. is_some q) (joined_more e past s k is)) present))
+  by None is h = absurd (false_is_true h)

@@ -14,10 +14,12 @@ use Rattle.sl_trace.specs.declared.effects.Purpose.TheVariants.{Lease}
 use Rattle.sl_trace.specs.declared.effects.Spot.{Spot}
 use Rattle.sl_trace.specs.declared.effects.Work.TheVariants.{ForJob}
 use Rattle.sl_trace.specs.declared.effects.JobReply.{JobReply}
+use Rattle.sl_trace.specs.declared.effects.Start.{Start}
 use Rattle.sl_trace.specs.declared.input.Input.TheVariants.{Line, Wake}
-use Rattle.sl_trace.specs.declared.reply.Reply.TheVariants.{Done, Granted, IdHeld, NoProcess, Recovering, Started, ValueSet}
+use Rattle.sl_trace.specs.declared.input.Input.{Input}
+use Rattle.sl_trace.specs.declared.reply.Reply.TheVariants.{Done, Granted, IdHeld, Recovering, Started, ValueSet}
 use Rattle.sl_trace.specs.declared.reply.Reply.{Reply}
-use Rattle.std.specs.Prelude.{AllPairs, Bool, Contains, List, None, Some, [], false, filter, true, ℕ, ◌&&◌, ◌++◌, ◌≡◌, ◌≢◌}
+use Rattle.std.specs.Prelude.{AllPairs, Bool, Contains, List, None, Some, [], false, filter, not, true, ℕ, ◌&&◌, ◌++◌, ◌≡◌, ◌≢◌}
 
 -- Each reply so far is of a job that a line brought and that nobody answered before the step; no two are of one job.
 pub record RepliedSoFar (x : Step) : Type 0 where
@@ -79,18 +81,25 @@ pub record IsAtOnce (x : Step) (a : JobReply) : Type 0 where
   pub ungranted : x.effects.grants ≡ []
   pub unended : x.effects.ends ≡ []
 
--- After a trace with all its facts each reply so far but that has its cause, if it is one of these.
-pub record CausedSoFar (these : Reply → Bool) (x : Step) : Type 0 where
+-- After a trace with all its facts each reply so far but that has its cause, if it is one of these in an entry with this input.
+pub record CausedSoFar (these : Input → Reply → Bool) (x : Step) : Type 0 where
   pub before : WholeTrace x.setting x.past
-  pub causes : (a : JobReply) → Contains x.effects.replies a → these a.reply ≡ true → (IsAtOnce x a → ⊥) → StaysCaused x a
+  pub causes : (a : JobReply) → Contains x.effects.replies a → these x.input a.reply ≡ true → (IsAtOnce x a → ⊥) → StaysCaused x a
+  -- until an input is seen only kill programs are started
+  pub jobless : x.input ≡ Wake → (k : Start) → Contains x.effects.starts k → k.job ≡ None
 
--- The replies of which that is shown: all refusals by calls, by time and by starts, but for a read that differs from a joining's first.
-abbrev pub is_explained : Reply → Bool
-is_explained (IdHeld version later) = false
-is_explained (Recovering t) = false
-is_explained (NoProcess p) = false
-is_explained Done = false
-is_explained (Granted lver) = false
-is_explained (Started lver process) = false
-is_explained (ValueSet lver seq) = false
-is_explained r = true
+-- Whether the input is a line.
+abbrev pub is_line : Input → Bool
+is_line (Line text) = true
+is_line i = false
+
+-- The replies of which that is shown: all refusals by calls, by time, by starts and exits, and by recoveries, but for a read that differs
+-- from a joining's first, and what a leaving's line refuses.
+abbrev pub is_explained : Input → Reply → Bool
+is_explained i (IdHeld version later) = false
+is_explained i (Recovering t) = not (is_line i)
+is_explained i Done = false
+is_explained i (Granted lver) = false
+is_explained i (Started lver process) = false
+is_explained i (ValueSet lver seq) = false
+is_explained i r = true

@@ -3,6 +3,7 @@ use Rattle.sl_acts.specs.Acts.{Acts}
 use Rattle.sl_cause_due.specs.CausedSoFar.{CausedSoFar, RepliedSoFar}
 use Rattle.sl_holding_due.specs.Moments.{Known}
 use Rattle.sl_holding_due.specs.Promises.{Begins}
+use Rattle.sl_trace.specs.declared.input.Input.{Input}
 use Rattle.sl_trace.specs.declared.reply.Reply.{Reply}
 use Rattle.std.specs.Prelude.{Bool}
 
@@ -17,8 +18,8 @@ RepliesRunBegin = Begins RepliedSoFar
 -- ---- their causes
 
 -- Of these replies.
-abbrev pub CausesAreKept : (Reply → Bool) → Type 0
+abbrev pub CausesAreKept : (Input → Reply → Bool) → Type 0
 CausesAreKept these = Acts (λ x. Known x × CausedSoFar these x) (CausedSoFar these)
 
-abbrev pub CausesBegin : (Reply → Bool) → Type 0
+abbrev pub CausesBegin : (Input → Reply → Bool) → Type 0
 CausesBegin these = Begins (CausedSoFar these)
