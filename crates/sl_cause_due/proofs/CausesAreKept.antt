@@ -6,6 +6,7 @@ use Rattle.sl_acts.specs.Acts.{Has, Hears}
 use Rattle.sl_acts.specs.SoFar.{entry_of}
 use Rattle.sl_cause_due.proofs.JoinCauses.{concluded_call, goes_on_still, joining_may, joining_well}
 use Rattle.sl_cause_due.proofs.LaterSteps.{AnyMove, Going, MayAnswer, MayCall, MayStart, after_that, answer_caused, before_later, begins, going, no_line, seen_caused, still_caused, told_no_line, wake_no_line}
+use Rattle.sl_cause_due.proofs.Leases.GrantCauses.{JobLed, exclusive_done, grant_done, shared_done}
 use Rattle.sl_cause_due.proofs.Leases.LeaseAnswers.{led_caused}
 use Rattle.sl_cause_due.proofs.PlainCauses.{fault_caused, freed_may, lone_of, request_caused, spawn_caused, told_caused}
 use Rattle.sl_cause_due.proofs.ExitCauses.{exit_caused}
@@ -30,7 +31,7 @@ use Rattle.sl_holding_due.specs.Moments.{Known}
 use Rattle.sl_job_facts.proofs.AnsweredCallsFit.{both_of}
 use Rattle.sl_job_facts.proofs.CallsOfJobsFit.{joining_of}
 use Rattle.sl_job_facts.proofs.CallsStay.{IsLate, is_special, late}
-use Rattle.sl_job_facts.proofs.EffectsAreAllowed.{DecisionAllowed, DeltaAllowed, GrantAllowed, LeaseAllowed, ReadAllowed, RequestAllowed, decision, delta, ended, exited, lease, left, refusal, removal, removal_of_refused, requested, said, sent, signalled, stopped}
+use Rattle.sl_job_facts.proofs.EffectsAreAllowed.{DecisionAllowed, DeltaAllowed, GrantAllowed, LeaseAllowed, ReadAllowed, RequestAllowed, decision, delta, ended, lease, left, refusal, removal, removal_of_refused, requested, said, sent, signalled, stopped}
 use Rattle.sl_job_facts.proofs.JobsAreAllowed.{is_told, late_on_survey, late_on_wake, late_unless_told}
 use Rattle.sl_job_facts.proofs.RepliesComeAfter.{IsLateLease, joining_late, mapped_or, lease_late, on_bool, request_late, set_late, value_late, wake_late}
 use Rattle.sl_job_facts.proofs.SessionsArePresent.{present_is, session_has}
@@ -141,36 +142,45 @@ reads_may x y s at work (ReadArea name) going = λ c. absurd (going c)
 reads_may x y s at work ReadBeforeFree going = λ c. absurd (going c)
 reads_may x y s at work step going = λ c. absurd (going c)
 
--- Of a grant nothing is said.
-granted_may : (x : Step) (j lver : ℕ) → MayAnswer (is_explained x.input) x j (Granted lver)
-granted_may x j lver = (late x (Granted lver) refl, λ shown. absurd (false_is_true shown))
+-- Of what a line is granted nothing is said.
+granted_may : (x : Step) (j lver : ℕ) → is_line x.input ≡ true → MayAnswer (is_explained x.input) x j (Granted lver)
+granted_may x j lver on = (late x (Granted lver) refl, λ shown. absurd (false_is_true (sym (ap (λ b. not b) on) ∙ shown)))
 
-granting_may : (x : Step) (j lver : ℕ) (c : Command) → (x.input ≡ Wake → ⊥) → GrantAllowed (MayAnswer (is_explained x.input) x) (MayStart x) j lver c
-granting_may x j lver (Acquire r shared p persistent) told = granted_may x j lver
-granting_may x j lver (TakeOver r shared p persistent) told = granted_may x j lver
-granting_may x j lver (RunProgram r shared path) told = λ wake. absurd (told wake)
-granting_may x j lver (AddLockspace a) told = tt
-granting_may x j lver (RemLockspace a) told = tt
-granting_may x j lver (InqLockspace a) told = tt
-granting_may x j lver (HostStatus a) told = tt
-granting_may x j lver (Release r p) told = tt
-granting_may x j lver (ReleaseOrphan r) told = tt
-granting_may x j lver (Convert r shared p) told = tt
-granting_may x j lver (Request r v how) told = tt
-granting_may x j lver (GetLvb r p) told = tt
-granting_may x j lver (SetLvb r p bytes) told = tt
-granting_may x j lver (SetKillpath p path) told = tt
-granting_may x j lver Status told = tt
+granting_may : (x : Step) (j lver : ℕ) (c : Command) → MayAnswer (is_explained x.input) x j (Granted lver) → (x.input ≡ Wake → ⊥) → GrantAllowed (MayAnswer (is_explained x.input) x) (MayStart x) j lver c
+granting_may x j lver (Acquire r shared p persistent) may told = may
+granting_may x j lver (TakeOver r shared p persistent) may told = may
+granting_may x j lver (RunProgram r shared path) may told = λ wake. absurd (told wake)
+granting_may x j lver (AddLockspace a) may told = tt
+granting_may x j lver (RemLockspace a) may told = tt
+granting_may x j lver (InqLockspace a) may told = tt
+granting_may x j lver (HostStatus a) may told = tt
+granting_may x j lver (Release r p) may told = tt
+granting_may x j lver (ReleaseOrphan r) may told = tt
+granting_may x j lver (Convert r shared p) may told = tt
+granting_may x j lver (Request r v how) may told = tt
+granting_may x j lver (GetLvb r p) may told = tt
+granting_may x j lver (SetLvb r p bytes) may told = tt
+granting_may x j lver (SetKillpath p path) may told = tt
+granting_may x j lver Status may told = tt
 
-lease_may : (x y : Step) (s : Session) (at : Spot) (work : Work) (n : LeaseNext) → (IsConcluded x → ⊥) → ((r : Reply) → n ≡ AnswerJob r → work_job work ≡ None) → ((j : ℕ) → work_job work ≡ Some j → x.input ≡ Wake → ⊥) → LeaseAllowed (MayAnswer (is_explained x.input) x) (MayCall x) (MayStart x) y s at work n
-lease_may x y s at work No_lease going none told = tt
-lease_may x y s at work (ReadFor step) going none told = reads_may x y s at work step going
-lease_may x y s at work (WriteBlock step b) going none told = λ c. absurd (going c)
-lease_may x y s at work (WriteLeader step l) going none told = λ c. absurd (going c)
-lease_may x y s at work (AnswerJob r) going none told = λ j is. absurd (none_some j (sym (none r refl) ∙ is))
-lease_may x y s at work (GrantJob mode lver) going none told = λ j c is reads. granting_may x j lver c (told j is)
-lease_may x y s at work (BecomeShared lver l) going none told = ((λ j is. granted_may x j lver), λ c. absurd (going c))
-lease_may x y s at work (BecomeExclusive lver b) going none told = ((λ j is. granted_may x j lver), λ g c. absurd (going c))
+-- A job is granted.
+abbrev Gives : LeaseNext → Type 0
+Gives (GrantJob mode lver) = Unit {0}
+Gives (BecomeShared lver l) = Unit {0}
+Gives (BecomeExclusive lver b) = Unit {0}
+Gives n = ⊥
+
+lease_may : (x y : Step) (s : Session) (at : Spot) (work : Work) (n : LeaseNext) → (IsConcluded x → ⊥) → ((r : Reply) → n ≡ AnswerJob r → work_job work ≡ None)
+    → (Gives n → (j lver : ℕ) → work_job work ≡ Some j → MayAnswer (is_explained x.input) x j (Granted lver)) → ((j : ℕ) → work_job work ≡ Some j → x.input ≡ Wake → ⊥)
+    → LeaseAllowed (MayAnswer (is_explained x.input) x) (MayCall x) (MayStart x) y s at work n
+lease_may x y s at work No_lease going none may told = tt
+lease_may x y s at work (ReadFor step) going none may told = reads_may x y s at work step going
+lease_may x y s at work (WriteBlock step b) going none may told = λ c. absurd (going c)
+lease_may x y s at work (WriteLeader step l) going none may told = λ c. absurd (going c)
+lease_may x y s at work (AnswerJob r) going none may told = λ j is. absurd (none_some j (sym (none r refl) ∙ is))
+lease_may x y s at work (GrantJob mode lver) going none may told = λ j c is reads. granting_may x j lver c (may tt j lver is) (told j is)
+lease_may x y s at work (BecomeShared lver l) going none may told = ((λ j is. may tt j lver is), λ c. absurd (going c))
+lease_may x y s at work (BecomeExclusive lver b) going none may told = ((λ j is. may tt j lver is), λ g c. absurd (going c))
 
 -- What answers nobody.
 abbrev pub AnswersNobody : LeaseNext → Type 0
@@ -201,17 +211,17 @@ line_may x j c (Joins n a) on going after = λ z is q. absurd (going q)
 line_may x j c (Leaves s) on going after =
     ((λ wake. refl), λ z k i there. (after (Recovering (last_renewal z.setting (seen z) s)), λ shown. absurd (false_is_true (sym (ap (λ b. not b) on) ∙ shown))))
 line_may x j c (ReadsArea s r) on going after = λ q. absurd (going q)
-line_may x j c (Shares s lver) on going after = granting_may x j lver c (on_line x on)
+line_may x j c (Shares s lver) on going after = granting_may x j lver c (granted_may x j lver on) (on_line x on)
 line_may x j c (GivesUp s g) on going after =
     let y : Step = add_end (end_of g) x in (
       (after Done, λ shown. absurd (false_is_true shown)),
       lease_may x y s (spot_of_grant g) (ForJob j) (release_next (lease_place x.setting s) (known x.setting (seen y) s (spot_of_grant g)) g.mode g.lver) going
-          (nobody (release_next (lease_place x.setting s) (known x.setting (seen y) s (spot_of_grant g)) g.mode g.lver) (ForJob j) (release_nobody (lease_place x.setting s) (known x.setting (seen y) s (spot_of_grant g)) g.mode g.lver)) (λ i is. on_line x on),
+          (nobody (release_next (lease_place x.setting s) (known x.setting (seen y) s (spot_of_grant g)) g.mode g.lver) (ForJob j) (release_nobody (lease_place x.setting s) (known x.setting (seen y) s (spot_of_grant g)) g.mode g.lver)) (λ gives i n is. granted_may x i n on) (λ i is. on_line x on),
     )
-line_may x j c (TakesOver s g) on going after = granting_may x j g.lver c (on_line x on)
+line_may x j c (TakesOver s g) on going after = granting_may x j g.lver c (granted_may x j g.lver on) (on_line x on)
 line_may x j c (ConvertsTo s r mode) on going after =
     lease_may x x s (spot_of r) (ForJob j) (convert_next (known x.setting (seen x) s (spot_of r)) mode r.name) going
-    (nobody (convert_next (known x.setting (seen x) s (spot_of r)) mode r.name) (ForJob j) (convert_nobody (known x.setting (seen x) s (spot_of r)) mode r.name)) (λ i is. on_line x on)
+    (nobody (convert_next (known x.setting (seen x) s (spot_of r)) mode r.name) (ForJob j) (convert_nobody (known x.setting (seen x) s (spot_of r)) mode r.name)) (λ gives i n is. granted_may x i n on) (λ i is. on_line x on)
 line_may x j c (Requests s r) on going after = λ q. absurd (going q)
 line_may x j c (SetsValue s at v) on going after = λ q. absurd (going q)
 line_may x j c (GetsValue s at) on going after = λ q. absurd (going q)
@@ -221,7 +231,7 @@ explained_awake : (i : Input) (r : Reply) → is_explained i r ≡ true → is_e
 explained_awake i (IdHeld v w) is = is
 explained_awake i (Recovering t) is = refl
 explained_awake i Done is = is
-explained_awake i (Granted n) is = is
+explained_awake i (Granted n) is = refl
 explained_awake i (Started n p) is = is
 explained_awake i (ValueSet n m) is = is
 explained_awake i r is = refl
@@ -340,8 +350,13 @@ leads x s work step m answer aim k hears is on aims n next = by work n is on aim
       some_value c.job j (sym (ap (λ p. job_of p) c.purpose) ∙ (ap (λ (d : Submitted). job_of d.call.purpose) (concluded_call x s m answer k.0 hears c) ∙ ap (λ p. job_of p) its)) in
       not_both (is_running (seen x) j) runs (subst (λ i. is_running (seen x) i ≡ false) same c.over)
 
-  other : (w : Work) (q : LeaseNext) → m.call.purpose ≡ Lease w step → goes_on x.setting (seen x) s w ≡ true → AnswersNobody q → CausedSoFar is_explained (carry_lease s at w q x)
-  other w q its runs none = by_act x (carry_lease s at w q x) (no_line_heard x s m answer hears) (lease_done x s at w q (lease_may x x s at w q (going_on w its runs) (nobody q w none) (λ i own wake. told_no_wake x.input hears.number answer hears.heard wake))) k.1
+  other : (w : Work) (q : LeaseNext) → m.call.purpose ≡ Lease w step → goes_on x.setting (seen x) s w ≡ true → AnswersNobody q → (Gives q → (j : ℕ) → work_job w ≡ Some j → ⊥) → CausedSoFar is_explained (carry_lease s at w q x)
+  other w q its runs none gives =
+      by_act x (carry_lease s at w q x) (no_line_heard x s m answer hears)
+      (lease_done x s at w q (lease_may x x s at w q (going_on w its runs) (nobody q w none) (λ so j lver own. absurd (gives so j own)) (λ i own wake. told_no_wake x.input hears.number answer hears.heard wake))) k.1
+
+  led : (j : ℕ) → m.call.purpose ≡ Lease (ForJob j) step → goes_on x.setting (seen x) s (ForJob j) ≡ true → aim_of x.setting (seen x) (ForJob j) ≡ Some aim → JobLed is_explained x s m answer j step aim
+  led j its runs aims = record { known = k.0; caused = k.1; hears = hears; purpose = its; aims = aims; unconcluded = going_on (ForJob j) its runs }
 
   by : (w : Work) (q : LeaseNext) → m.call.purpose ≡ Lease w step → goes_on x.setting (seen x) s w ≡ true → aim_of x.setting (seen x) w ≡ Some aim → next_of_lease x.setting (seen x) s at aim m step answer ≡ q
       → CausedSoFar is_explained (carry_lease s at w q x)
@@ -350,13 +365,16 @@ leads x s work step m answer aim k hears is on aims n next = by work n is on aim
       let may : IsLate x r = late x r (subst (λ v. IsLateLease v) says (lease_late (lease_place x.setting s) (known x.setting (seen x) s at) aim m.call.number (lver_written m) step answer)) in
       answer_caused is_explained x j r (no_line x (add_reply j r x) (no_line_heard x s m answer hears)) may
       (λ shown. led_caused (is_explained x.input) x s m answer j step aim r k.0 k.1.before hears its aims may says (λ d. absurd (false_is_true d)) shown) k.1
-  by w No_lease its runs aims says = other w No_lease its runs tt
-  by w (ReadFor q) its runs aims says = other w (ReadFor q) its runs tt
-  by w (WriteBlock q b) its runs aims says = other w (WriteBlock q b) its runs tt
-  by w (WriteLeader q l) its runs aims says = other w (WriteLeader q l) its runs tt
-  by w (GrantJob mode lver) its runs aims says = other w (GrantJob mode lver) its runs tt
-  by w (BecomeShared lver l) its runs aims says = other w (BecomeShared lver l) its runs tt
-  by w (BecomeExclusive lver b) its runs aims says = other w (BecomeExclusive lver b) its runs tt
+  by w No_lease its runs aims says = other w No_lease its runs tt (λ so j own. so)
+  by w (ReadFor q) its runs aims says = other w (ReadFor q) its runs tt (λ so j own. so)
+  by w (WriteBlock q b) its runs aims says = other w (WriteBlock q b) its runs tt (λ so j own. so)
+  by w (WriteLeader q l) its runs aims says = other w (WriteLeader q l) its runs tt (λ so j own. so)
+  by Settling (GrantJob mode lver) its runs aims says = other Settling (GrantJob mode lver) its runs tt (λ so j own. none_some j own)
+  by Settling (BecomeShared lver l) its runs aims says = other Settling (BecomeShared lver l) its runs tt (λ so j own. none_some j own)
+  by Settling (BecomeExclusive lver b) its runs aims says = other Settling (BecomeExclusive lver b) its runs tt (λ so j own. none_some j own)
+  by (ForJob j) (GrantJob mode lver) its runs aims says = grant_done is_explained x s m answer j step aim (led j its runs aims) mode lver says
+  by (ForJob j) (BecomeShared lver l) its runs aims says = shared_done is_explained x s m answer j step aim (led j its runs aims) lver l says
+  by (ForJob j) (BecomeExclusive lver b) its runs aims says = exclusive_done is_explained x s m answer j step aim (led j its runs aims) lver b says
 
 -- The read of a request.
 asked : (x : Step) (s : Session) (m : Submitted) (j : ℕ) (bytes : List ℕ) (c : Command) → Keeps x → Hears x s m (Read bytes) → m.call.purpose ≡ RequestRead j → command_numbered x.setting (seen x) j ≡ Some c
@@ -415,8 +433,11 @@ shown_done : (x : Step) (s : Session) (m : Submitted) (bytes : List ℕ) → Kee
 shown_done x s m bytes k hears is joined starts =
     by_act x (signal_and_refuse s None x) (no_line_heard x s m (Read bytes) hears)
     (stopped (Going (is_explained x.input) x) (Going (is_explained x.input) x) (MayAnswer (is_explained x.input) x) (MayCall x) (MayStart x) AnyMove (going (is_explained x.input) x) (λ wake. refl) x s None
-    (λ z g j there. (late_on_survey x s m (Read bytes) (Recovering (last_renewal z.setting (seen z) s)) k.0.0.facts.calls hears (ap (λ p. job_of p) is), λ shown.
-    stop_caused (is_explained x.input) x z s j k.1.before before was (ap (λ i. line_in i) hears.heard) (ap (λ i. renewed_by x.past s i) hears.heard) (begun_by_read x s (λ wake. told_no_wake x.input hears.number (Read bytes) hears.heard wake) begun) g there)) (begins (is_explained x.input) x)) k.1
+    (λ z g j there. (
+      late_on_survey x s m (Read bytes) (Recovering (last_renewal z.setting (seen z) s)) k.0.0.facts.calls hears (ap (λ p. job_of p) is),
+      λ shown.
+          stop_caused (is_explained x.input) x z s j k.1.before before was (ap (λ i. line_in i) hears.heard) (ap (λ i. renewed_by x.past s i) hears.heard) (begun_by_read x s (λ wake. told_no_wake x.input hears.number (Read bytes) hears.heard wake) begun) g there,
+    )) (begins (is_explained x.input) x)) k.1
   where
     found : (b : Begun) × (recovery_of x.setting (seen x) s ≡ Some b) × ((b.kills_from == length (seen x)) ≡ true)
     found = some_is_true (λ (b : Begun). b.kills_from == length (seen x)) (recovery_of x.setting (seen x) s) starts
@@ -525,7 +546,7 @@ causes_are_kept =
           by_act x (carry_delta s n x) (no_line_awake x wake) (delta_done x s n (renewal_may x s (delta_of_session x.setting s) x.reading (delta_known x.setting (seen x) s) (bits_due x.setting (calls_of (seen x) s) x.reading) (open_awake x wake))) k.1;
       settles = λ x s at has wake active aligned none k.
           let n : LeaseNext = settle_next (lease_place x.setting s) (known x.setting (seen x) s at) in
-          by_act x (carry_lease s at Settling n x) (no_line_awake x wake) (lease_done x s at Settling n (lease_may x x s at Settling n (open_awake x wake) (λ r is. refl) (λ i own. absurd (none_some i own)))) k.1;
+          by_act x (carry_lease s at Settling n x) (no_line_awake x wake) (lease_done x s at Settling n (lease_may x x s at Settling n (open_awake x wake) (λ r is. refl) (λ gives i n own. absurd (none_some i own)) (λ i own. absurd (none_some i own)))) k.1;
       parts = λ x s has joined recovers free quiet k.
           let z : Step = remove_connection s.lockspace x in
           let a : Alike x z = removal_alike x x s.lockspace (same x) in
@@ -544,8 +565,11 @@ unfolding begin_recovery
 begin_done st past now s w there y g =
     when_keeps (Going (is_explained Wake) x) (begins_now (seen y) (recovery_of y.setting (seen y) s)) (signal_and_refuse s None) y
     (λ starts f. stopped (Going (is_explained Wake) x) (Going (is_explained Wake) x) (MayAnswer (is_explained Wake) x) (MayCall x) (MayStart x) AnyMove (going (is_explained Wake) x) (λ wake. refl) y s None
-    (λ z k j inside. (late_on_wake x (Recovering (last_renewal z.setting (seen z) s)) refl, λ shown.
-    stop_caused (is_explained Wake) x z s j w before (was (begun (begun_of y starts))) refl refl (begun_by_time x s refl (ap (λ o. is_some o) (begun (begun_of y starts)).1)) k inside)) f) g
+    (λ z k j inside. (
+      late_on_wake x (Recovering (last_renewal z.setting (seen z) s)) refl,
+      λ shown.
+          stop_caused (is_explained Wake) x z s j w before (was (begun (begun_of y starts))) refl refl (begun_by_time x s refl (ap (λ o. is_some o) (begun (begun_of y starts)).1)) k inside,
+    )) f) g
   where
     x : Step
     x = begin_step st past now

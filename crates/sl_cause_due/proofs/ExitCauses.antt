@@ -3,12 +3,11 @@ use Rattle.sl_acts.proofs.LoopsKeep.{for_each_keeps}
 use Rattle.sl_acts.specs.SoFar.{entry_of}
 use Rattle.sl_cause_due.proofs.LaterSteps.{by_effects}
 use Rattle.sl_cause_due.proofs.RecoveryCauses.{jobs_past, numbered_is}
-use Rattle.sl_cause_due.specs.CausedSoFar.{IsLater, StaysCaused, answering}
+use Rattle.sl_cause_due.specs.CausedSoFar.{StaysCaused}
 use Rattle.sl_due.specs.DueInputs.{end_holdings, leave_holdings}
 use Rattle.sl_due.specs.Steps.{Step, add_end, add_grant, seen, with_effects, with_input}
 use Rattle.sl_job_facts.proofs.CallsHaveFacts.{find_mapped}
 use Rattle.sl_job_facts.proofs.JobsAreNumbered.{finds_none, numbered_stays}
-use Rattle.sl_law.specs.Caused.{CausedBy}
 use Rattle.sl_leases.specs.Jobs.{child_of_job, is_command_that, is_job_of_process, process_named}
 use Rattle.sl_plain.proofs.Lists.{in_map, kept_inside}
 use Rattle.sl_trace.specs.Traces.{Child, Job, Trace, line_in, child_after, children, end_of, holdings, is_running, job_numbered, jobs, new_child, orphans_left, running_jobs}
@@ -22,7 +21,7 @@ use Rattle.sl_words.specs.Words.{some_is}
 use Rattle.std.proofs.Common.{ap, inl, refl, subst, sym, ◌∙◌}
 use Rattle.std.proofs.lemmas.List.Folds.{find-append}
 use Rattle.std.specs.Option.{option_or}
-use Rattle.std.specs.Prelude.{Bool, Contains, List, None, Option, Some, false, filter, find, map, option_map, true, ℕ, ◌++◌, ◌==◌, ◌≡◌, ◌||◌}
+use Rattle.std.specs.Prelude.{Bool, Contains, None, Option, Some, false, filter, find, map, option_map, true, ℕ, ◌==◌, ◌≡◌, ◌||◌}
 
 -- ---- children
 

@@ -3,7 +3,7 @@ use Rattle.sl_acts.proofs.Additions.{contains_last}
 use Rattle.sl_acts.specs.SoFar.{entry_of}
 use Rattle.sl_area.specs.Layouts.{Layout}
 use Rattle.sl_area.specs.Places.{sector_of}
-use Rattle.sl_job_facts.proofs.JobFactsGrow.{contains_right}
+use Rattle.sl_job_facts.proofs.JobFactsGrow.{contains_left, contains_right}
 use Rattle.sl_job_facts.proofs.SessionsStand.{running_before}
 use Rattle.sl_leases.specs.Leases.{is_on, lease_step}
 use Rattle.sl_parts_law.proofs.CallsGrow.{mine_more, others_stay}
@@ -26,6 +26,7 @@ use Rattle.sl_trace.proofs.TraceFacts.{submitted-push}
 use Rattle.sl_trace.specs.Traces.{Answered, Replied, Setting, Submitted, Trace, reply_to, bytes_given, is_running, new_call, next_call, record_of, submitted}
 use Rattle.sl_trace.specs.declared.effects.Call.{Call}
 use Rattle.sl_trace.specs.declared.effects.Effects.{Effects}
+use Rattle.sl_trace.specs.declared.effects.Grant.{Grant}
 use Rattle.sl_trace.specs.declared.effects.JobReply.{JobReply}
 use Rattle.sl_trace.specs.declared.effects.Move.{Move}
 use Rattle.sl_trace.specs.declared.effects.Op.{Op}
@@ -108,7 +109,7 @@ itself x =
       setting = refl;
       before = refl;
       reading = refl;
-      carried = λ told. record { input = refl; more = []; calls = refl; answered = λ n over. over; quiet = λ done s there. leases_same x.setting s (calls_of (seen x) s) (calls_of (seen x) s) refl };
+      carried = λ told. record { input = refl; more = []; calls = refl; answered = λ n over. over; granted = λ g there. there; quiet = λ done s there. leases_same x.setting s (calls_of (seen x) s) (calls_of (seen x) s) refl };
     }
 
 -- What is concluded stays so.
@@ -133,6 +134,7 @@ after_that x y z f g = record { setting = g.setting ∙ f.setting; before = g.be
         more = b.more ++ a.more;
         calls = b.calls ∙ (ap (λ ms. b.more ++ ms) a.calls ∙ sym (append_assoc b.more a.more (submitted (seen x))));
         answered = λ n over. b.answered n (a.answered n over);
+        granted = λ g there. b.granted g (a.granted g there);
         quiet = λ done s there.
             leases_then x.setting s (calls_of (seen x) s) (calls_of (seen y) s) (calls_of (seen z) s) (a.quiet done s there)
             (subst (λ st. KeepsLeases st s (calls_of (seen y) s) (calls_of (seen z) s)) f.setting
@@ -168,8 +170,8 @@ begins these x = record { later = itself x; input = refl; replies = λ a there s
 
 -- An effect that leaves calls and replies.
 plain : (these : Reply → Bool) (x y z : Step) → Going these x y → z.setting ≡ y.setting → z.past ≡ y.past → z.reading ≡ y.reading → z.input ≡ y.input → submitted (seen z) ≡ submitted (seen y)
-    → z.effects.replies ≡ y.effects.replies → z.effects.starts ≡ y.effects.starts → ((n : ℕ) → is_running (seen z) n ≡ is_running (seen y) n) → Going these x z
-plain these x y z k setting past reading input calls same starts runs =
+    → z.effects.replies ≡ y.effects.replies → z.effects.starts ≡ y.effects.starts → ((g : Grant) → Contains y.effects.grants g → Contains z.effects.grants g) → ((n : ℕ) → is_running (seen z) n ≡ is_running (seen y) n) → Going these x z
+plain these x y z k setting past reading input calls same starts grants runs =
     record {
       later = record { setting = setting ∙ k.later.setting; before = past ∙ k.later.before; reading = reading ∙ k.later.reading; carried = λ told. on (k.later.carried told) };
       input = input ∙ k.input;
@@ -183,6 +185,7 @@ plain these x y z k setting past reading input calls same starts runs =
             more = a.more;
             calls = calls ∙ a.calls;
             answered = λ n over. runs n ∙ a.answered n over;
+            granted = λ g there. grants g (a.granted g there);
             quiet = λ done s there.
                 leases_then x.setting s (calls_of (seen x) s) (calls_of (seen y) s) (calls_of (seen z) s) (a.quiet done s there)
                 (leases_same x.setting s (calls_of (seen y) s) (calls_of (seen z) s) (ap (λ ms. filter (is_call_of s) ms) calls));
@@ -210,6 +213,7 @@ more_calls these x y s path p o op may k =
             more = new_call (length y.past) y.reading made ∷ a.more;
             calls = submitted-push y.past (entry_of y) made ∙ ap (λ ms. new_call (length y.past) y.reading made ∷ ms) a.calls;
             answered = a.answered;
+            granted = a.granted;
             quiet = λ done z there. quiet_call x y s z path p o op (may done) there (a.quiet done z there);
           }
 
@@ -234,6 +238,7 @@ more_replies these x y j r may k =
             more = a.more;
             calls = calls ∙ a.calls;
             answered = λ n over. still_over y j r n (a.answered n over);
+            granted = a.granted;
             quiet = λ done s there.
                 leases_then x.setting s (calls_of (seen x) s) (calls_of (seen y) s) (calls_of (seen (add_reply j r y)) s) (a.quiet done s there)
                 (leases_same x.setting s (calls_of (seen y) s) (calls_of (seen (add_reply j r y)) s) (ap (λ ms. filter (is_call_of s) ms) calls));
@@ -252,7 +257,7 @@ more_starts these x y s may k =
       starts = λ q there. by q (contains_last y.effects.starts s q there);
     } where
       on : IsCarried x y → IsCarried x (add_start s y)
-      on a = record { input = a.input; more = a.more; calls = a.calls; answered = a.answered; quiet = a.quiet }
+      on a = record { input = a.input; more = a.more; calls = a.calls; answered = a.answered; granted = a.granted; quiet = a.quiet }
 
       by : (q : Start) → Contains y.effects.starts q ⊎ (s ≡ q) → Contains x.effects.starts q ⊎ (x.input ≡ Wake → q.job ≡ None)
       by q (inl old) = k.starts q old
@@ -261,10 +266,10 @@ more_starts these x y s may k =
 pub going : (these : Reply → Bool) (x : Step) → Allows (Going these x) (Going these x) (MayAnswer these x) (MayCall x) (MayStart x) AnyMove
 going these x =
     record {
-      ends = λ y e k. plain these x y (add_end e y) k refl refl refl refl refl refl refl (λ n. refl);
-      signals = λ y p signal k. plain these x y (add_signal p signal y) k refl refl refl refl refl refl refl (λ n. refl);
-      moves = λ y m may k. plain these x y (add_move m y) k refl refl refl refl refl refl refl (λ n. refl);
-      grants = λ y g k. plain these x y (add_grant g y) k refl refl refl refl refl refl refl (λ n. refl);
+      ends = λ y e k. plain these x y (add_end e y) k refl refl refl refl refl refl refl (λ g there. there) (λ n. refl);
+      signals = λ y p signal k. plain these x y (add_signal p signal y) k refl refl refl refl refl refl refl (λ g there. there) (λ n. refl);
+      moves = λ y m may k. plain these x y (add_move m y) k refl refl refl refl refl refl refl (λ g there. there) (λ n. refl);
+      grants = λ y g k. plain these x y (add_grant g y) k refl refl refl refl refl refl refl (λ h there. contains_left y.effects.grants (g ∷ []) h there) (λ n. refl);
       starts = λ y s may k. more_starts these x y s may k;
       replies = λ y j r may k. more_replies these x y j r may k;
       calls = λ y s path p o op may k. more_calls these x y s path p o op may k;
@@ -321,6 +326,21 @@ answer_caused these x j r once may cause h =
       by : (a : JobReply) → these x.input a.reply ≡ true → (IsAtOnce (add_reply j r x) a → ⊥) → Contains x.effects.replies a ⊎ (record { job = j; reply = r } ≡ a) → StaysCaused (add_reply j r x) a
       by a shown apart (inl old) = λ w more. h.causes a old shown (λ o. apart (once a o)) w (after_that x (add_reply j r x) w later more)
       by a shown apart (inr new) = subst (λ b. StaysCaused (add_reply j r x) b) new (cause (subst (λ (b : JobReply). these x.input b.reply ≡ true) (sym new) shown))
+
+-- What an act does for one job, where it answers no other.
+pub last_caused : (these : Input → Reply → Bool) (x z : Step) (j : ℕ) (r : Reply) → ((a : JobReply) → IsAtOnce x a → IsAtOnce z a) → (x.input ≡ Wake → ⊥) → IsLater x z → z.input ≡ x.input
+    → z.effects.replies ≡ x.effects.replies ++ record { job = j; reply = r } ∷ [] → (these x.input r ≡ true → StaysCaused z (record { job = j; reply = r })) → CausedSoFar these x → CausedSoFar these z
+last_caused these x z j r once told later input replies cause h =
+    record {
+      before = before_later x z later h.before;
+      causes = λ a there shown apart.
+          let here : these x.input a.reply ≡ true = ap (λ i. these i a.reply) (sym input) ∙ shown in
+          by a here apart (contains_last x.effects.replies (record { job = j; reply = r }) a (subst (λ rs. Contains rs a) replies there));
+      jobless = λ wake. absurd (told (sym input ∙ wake));
+    } where
+      by : (a : JobReply) → these x.input a.reply ≡ true → (IsAtOnce z a → ⊥) → Contains x.effects.replies a ⊎ (record { job = j; reply = r } ≡ a) → StaysCaused z a
+      by a shown apart (inl old) = λ w more. h.causes a old shown (λ o. apart (once a o)) w (after_that x z w later more)
+      by a shown apart (inr new) = subst (λ b. StaysCaused z b) new (cause (subst (λ (b : JobReply). these x.input b.reply ≡ true) (sym new) shown))
 
 -- Where the input is no line nothing is answered at once.
 pub no_line : (x z : Step) → ((text : List ℕ) → x.input ≡ Line text → ⊥) → (a : JobReply) → IsAtOnce x a → IsAtOnce z a

@@ -3,3 +3,4 @@ pub mod Limits
 pub mod AreaCauses
 pub mod PhaseCauses
 pub mod LeaseAnswers
+pub mod GrantCauses

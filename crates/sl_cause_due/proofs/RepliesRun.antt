@@ -1,36 +1,33 @@
 -- Each reply is of a job that a line has brought and that ran until then; so no two of a step are of one job.
-use Rattle.sl_acts.proofs.InputsKeep.{has_heard}
 use Rattle.sl_acts.proofs.LoopsKeep.{each_in_turn, for_each_keeps, when_keeps, with_some_keeps}
 use Rattle.sl_acts.proofs.ActsTogether.{from_more}
 use Rattle.sl_acts.specs.Acts.{Acts, Has, Hears}
-use Rattle.sl_cause_due.proofs.CausesAreKept.{AnswersNobody, convert_nobody, release_nobody}
 use Rattle.sl_cause_due.proofs.PlainCauses.{lone_of}
 use Rattle.sl_cause_due.specs.CausedSoFar.{RepliedSoFar}
 use Rattle.sl_cause_due.specs.Promises.{RepliesRun, RepliesRunBegin}
 use Rattle.sl_due.specs.DueAnswers.{set_reply}
 use Rattle.sl_due.specs.DueCommands.{after_end, answer_line, carry_decision}
-use Rattle.sl_due.specs.DueDelta.{carry_delta, move_connection, see_request}
-use Rattle.sl_due.specs.DueFirst.{is_overdue, send, begin_recoveries, begin_recovery, begins_now, refuse, remove_connection, remove_of_refused, signal_and_refuse, signal_holders}
+use Rattle.sl_due.specs.DueDelta.{carry_delta, move_connection}
+use Rattle.sl_due.specs.DueFirst.{begin_recoveries, begin_recovery, begins_now, refuse, remove_connection, remove_of_refused, signal_and_refuse, signal_holders}
 use Rattle.sl_due.specs.DueInputs.{end_holdings, leave_holdings, refuse_jobs_of, started_reply, when_running}
 use Rattle.sl_due.specs.DueLease.{carry_lease, convert_for, convert_holding, for_work, goes_on, grant_for, held_otherwise, next_of_lease, with_command}
 use Rattle.sl_due.specs.DueRequests.{after_request_read, after_value_read, bits_due, owner_read, request_refusal, value_reply, write_request}
-use Rattle.sl_due.specs.Steps.{Step, with_some, add_end, add_grant, add_move, add_reply, add_signal, add_start, begin_step, for_each, seen, with_input}
+use Rattle.sl_due.specs.Steps.{Step, with_some, add_end, add_grant, add_move, add_reply, begin_step, for_each, seen, with_input}
 use Rattle.sl_due.specs.declared.decision.Decision.TheVariants.{ConvertsTo, GetsValue, GivesUp, Joins, Leaves, ReadsArea, Replies, Requests, SetsValue, Shares, TakesOver}
 use Rattle.sl_due.specs.declared.decision.Decision.{Decision}
 use Rattle.sl_holding_due.proofs.LeaseCallers.{heard_call}
 use Rattle.sl_holding_due.specs.Moments.{Known}
 use Rattle.sl_job_facts.proofs.AnsweredCallsFit.{both_of}
 use Rattle.sl_job_facts.proofs.CallsOfJobsFit.{joining_of}
-use Rattle.sl_job_facts.proofs.EffectsAreAllowed.{Allows, DeltaAllowed, LeaseAllowed, ReadAllowed, delta, ended, lease, left, reads, removal, removal_of_refused, sent, signalled}
+use Rattle.sl_job_facts.proofs.EffectsAreAllowed.{Allows, ReadAllowed, left, reads, removal, removal_of_refused, sent, signalled}
 use Rattle.sl_job_facts.proofs.JobFactsGrow.{running_more}
 use Rattle.sl_job_facts.proofs.JobsAreAllowed.{caller_numbered, numbered_of, runner_numbered, starter_numbered}
 use Rattle.sl_job_facts.proofs.JobsAreNumbered.{below, next_is_new, numbered_seen}
 use Rattle.sl_job_facts.proofs.LinesAreAllowed.{new_numbered}
 use Rattle.sl_job_facts.proofs.RepliesComeAfter.{IsLateDelta, joining_late, wake_late}
-use Rattle.sl_leases.specs.Jobs.{aim_of, command_numbered, is_command_that, is_job_of_process, job_of_start, jobs_of_session, lockspace_named, process_named}
+use Rattle.sl_leases.specs.Jobs.{command_numbered, is_command_that, is_job_of_process, job_of_start, jobs_of_session, lockspace_named, process_named}
 use Rattle.sl_leases.specs.LeaseWork.{convert_next, lease_place, release_next, settle_next}
 use Rattle.sl_leases.specs.Leases.{holdings_on, known, spot_of, spot_of_call}
-use Rattle.sl_leases.specs.declared.lease.Aim.{Aim}
 use Rattle.sl_leases.specs.declared.lease.LeaseNext.TheVariants.{AnswerJob, BecomeExclusive, BecomeShared, GrantJob, Nothing as No_lease, ReadFor, WriteBlock, WriteLeader}
 use Rattle.sl_leases.specs.declared.lease.LeaseNext.{LeaseNext}
 use Rattle.sl_plain.proofs.Lists.{contains_first, contains_more, contains_none, find_fails, find_inside, got_index, got_inside, kept_inside, there_is}
@@ -38,29 +35,26 @@ use Rattle.sl_plain.proofs.Numbers.{number_itself}
 use Rattle.sl_plain.proofs.Options.{some_of}
 use Rattle.sl_acts.proofs.Additions.{contains_last}
 use Rattle.sl_sessions.specs.Deltas.{delta_record, is_renewal_due, delta_known, delta_of_session, next_after_free, next_after_renewal, next_free, next_in_joining, next_on_wake, next_renewal}
-use Rattle.sl_sessions.specs.Sessions.{calls_of, generation_of, joining_session, last_renewal, last_seq, present_sessions, recovery_of, session_of_job, sessions}
+use Rattle.sl_sessions.specs.Sessions.{calls_of, generation_of, last_renewal, last_seq, present_sessions, recovery_of, session_of_job, sessions}
 use Rattle.sl_sessions.specs.declared.delta.DeltaNext.TheVariants.{Disconnect, EndLeaving, Join, MoveConnection, Nothing, ReadOwn, RefuseJoin, RegisterAndRead, WriteClaim, WriteFirst, WriteFree, WriteRenewal}
 use Rattle.sl_sessions.specs.declared.delta.DeltaNext.{DeltaNext}
 use Rattle.sl_trace.specs.Connections.{is_registered}
 use Rattle.sl_sessions.specs.declared.session.Session.{Session}
 use Rattle.sl_step_facts.specs.Whole.{Whole}
-use Rattle.sl_trace.specs.Traces.{Job, Replied, is_of_job, outstanding, submitted, waiting_call, Setting, Submitted, Trace, end_of, holdings, is_running, job_in, job_numbered, job_of, jobs, line_in, next_job, reply_to, running_jobs, spot_of_grant, work_job}
+use Rattle.sl_trace.specs.Traces.{Job, Replied, is_of_job, outstanding, submitted, waiting_call, Setting, Submitted, Trace, end_of, holdings, is_running, job_numbered, job_of, jobs, line_in, next_job, reply_to, running_jobs, spot_of_grant, work_job}
 use Rattle.sl_trace.specs.declared.command.Command.TheVariants.{Acquire, AddLockspace, Convert, GetLvb, HostStatus, InqLockspace, Release, ReleaseOrphan, RemLockspace, Request, RunProgram, SetKillpath, SetLvb, Status, TakeOver}
 use Rattle.sl_trace.specs.declared.command.Command.{Command}
 use Rattle.sl_trace.specs.declared.effects.Entry.{Entry}
 use Rattle.sl_trace.specs.declared.effects.Grant.{Grant}
 use Rattle.sl_trace.specs.declared.effects.JobReply.{JobReply}
-use Rattle.sl_trace.specs.declared.effects.JoinStep.TheVariants.{FirstRead}
-use Rattle.sl_trace.specs.declared.effects.JoinStep.{JoinStep}
 use Rattle.sl_trace.specs.declared.effects.LeaseStep.TheVariants.{ReadArea, ReadBeforeFree}
 use Rattle.sl_trace.specs.declared.effects.LeaseStep.{LeaseStep}
 use Rattle.sl_trace.specs.declared.effects.Mode.TheVariants.{Exclusive, Shared}
 use Rattle.sl_trace.specs.declared.effects.Mode.{Mode}
 use Rattle.sl_trace.specs.declared.effects.Move.TheVariants.{Unregister}
 use Rattle.sl_trace.specs.declared.effects.Move.{Move}
-use Rattle.sl_trace.specs.declared.effects.Op.TheVariants.{ReadSectors}
 use Rattle.sl_trace.specs.declared.effects.Op.{Op}
-use Rattle.sl_trace.specs.declared.effects.Purpose.TheVariants.{Joining, Lease, Leaving, RequestRead}
+use Rattle.sl_trace.specs.declared.effects.Purpose.TheVariants.{Lease}
 use Rattle.sl_trace.specs.declared.effects.Purpose.{Purpose}
 use Rattle.sl_trace.specs.declared.effects.Signal.TheVariants.{Kill, Term}
 use Rattle.sl_trace.specs.declared.effects.Spot.{Spot}
@@ -72,7 +66,7 @@ use Rattle.sl_trace.specs.declared.input.Input.TheVariants.{Answer as Told, Exit
 use Rattle.sl_trace.specs.declared.input.Input.{Input}
 use Rattle.sl_trace.specs.declared.reply.Reply.TheVariants.{BadCommand as Misread, Done, Generation, Granted, IoFault, IoTimeout, NoProcess, Recovering, SpawnFault}
 use Rattle.sl_trace.specs.declared.reply.Reply.{Reply}
-use Rattle.sl_words.proofs.CaseLaws.{false_is_true, is_false, none_some, not_both, some_value, true_or_false}
+use Rattle.sl_words.proofs.CaseLaws.{false_is_true, none_some, not_both, some_value, true_or_false}
 use Rattle.sl_words.proofs.WordLaws.{some_is_true}
 use Rattle.sl_words.specs.Words.{some_is}
 use Rattle.sl_sector.specs.Bitmaps.{no_bits}

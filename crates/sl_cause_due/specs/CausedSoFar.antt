@@ -13,6 +13,7 @@ use Rattle.sl_trace.specs.declared.effects.LeaseStep.{LeaseStep}
 use Rattle.sl_trace.specs.declared.effects.Purpose.TheVariants.{Lease}
 use Rattle.sl_trace.specs.declared.effects.Spot.{Spot}
 use Rattle.sl_trace.specs.declared.effects.Work.TheVariants.{ForJob}
+use Rattle.sl_trace.specs.declared.effects.Grant.{Grant}
 use Rattle.sl_trace.specs.declared.effects.JobReply.{JobReply}
 use Rattle.sl_trace.specs.declared.effects.Start.{Start}
 use Rattle.sl_trace.specs.declared.input.Input.TheVariants.{Line, Wake}
@@ -60,6 +61,7 @@ pub record IsCarried (x z : Step) : Type 0 where
   pub more : List Submitted
   pub calls : submitted (seen z) ≡ more ++ submitted (seen x)
   pub answered : (n : ℕ) → is_running (seen x) n ≡ false → is_running (seen z) n ≡ false
+  pub granted : (g : Grant) → Contains x.effects.grants g → Contains z.effects.grants g
   pub quiet : IsConcluded x → (s : Session) → Contains (sessions x.setting x.past) s → KeepsLeases x.setting s (calls_of (seen x) s) (calls_of (seen z) s)
 
 -- A step that the other may have come to, in the same entry.
@@ -94,12 +96,12 @@ is_line (Line text) = true
 is_line i = false
 
 -- The replies of which that is shown: all refusals by calls, by time, by starts and exits, and by recoveries, but for a read that differs
--- from a joining's first, and what a leaving's line refuses.
+-- from a joining's first, and what a leaving's line refuses; and what a lease's work is granted.
 abbrev pub is_explained : Input → Reply → Bool
 is_explained i (IdHeld version later) = false
 is_explained i (Recovering t) = not (is_line i)
 is_explained i Done = false
-is_explained i (Granted lver) = false
+is_explained i (Granted lver) = not (is_line i)
 is_explained i (Started lver process) = false
 is_explained i (ValueSet lver seq) = false
 is_explained i r = true

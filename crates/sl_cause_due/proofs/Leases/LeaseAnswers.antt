@@ -160,7 +160,7 @@ was_joined x s m answer work step k has hears purpose =
       by (Some i) is h = absurd (false_is_true h)
 
 -- A command names the lockspace of its resource.
-lockspace_of : (c : Command) (r : ResourceArg) → resource_named c ≡ Some r → lockspace_named c ≡ Some r.lockspace
+pub lockspace_of : (c : Command) (r : ResourceArg) → resource_named c ≡ Some r → lockspace_named c ≡ Some r.lockspace
 lockspace_of (Acquire q shared p persistent) r is = ap (λ o. option_map (λ (z : ResourceArg). z.lockspace) o) is
 lockspace_of (TakeOver q shared p persistent) r is = ap (λ o. option_map (λ (z : ResourceArg). z.lockspace) o) is
 lockspace_of (Release q p) r is = ap (λ o. option_map (λ (z : ResourceArg). z.lockspace) o) is
