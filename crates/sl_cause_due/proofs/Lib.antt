@@ -9,3 +9,4 @@ pub mod RecoveryCauses
 pub mod ExitCauses
 pub mod CausesAreKept
 pub mod RepliesRun
+pub mod LineCauses

@@ -36,11 +36,11 @@ use Rattle.std.specs.Prelude.{Bool, Contains, IsFalse, IsTrue, List, None, Ok, O
 
 -- ---- how a session stands with its renewals in an entry with this input
 
-abbrev stands_at : Setting → Trace → ℕ → Input → Session → Renewing
+abbrev pub stands_at : Setting → Trace → ℕ → Input → Session → Renewing
 stands_at st past now i s = renewing_after st past s (renewing st past s) (record { reading = now; input = i; effects = no_effects })
 
 -- Recovery that begins by time is not undone by the input.
-by_time : (st : Setting) (past : Trace) (now : ℕ) (i : Input) (s : Session) → is_some (stands_at st past now Wake s).recovery ≡ true → is_some (stands_at st past now i s).recovery ≡ true
+pub by_time : (st : Setting) (past : Trace) (now : ℕ) (i : Input) (s : Session) → is_some (stands_at st past now Wake s).recovery ≡ true → is_some (stands_at st past now i s).recovery ≡ true
 by_time st past now i s = by (renewing st past s) ((renewing st past s).recovery) refl (is_joined past s && nat_le ((renewing st past s).last + fail st.timing) now) (is_joined past s) where
   e : Input → Entry
   e k = record { reading = now; input = k; effects = no_effects }
@@ -133,12 +133,12 @@ names_of j s is =
 
 -- ---- the cause
 
-off : (a b c : Bool) → b ≡ false → (a && b && c) ≡ false
+pub off : (a b c : Bool) → b ≡ false → (a && b && c) ≡ false
 off true false c is = refl
 off false false c is = refl
 off a true c is = absurd (false_is_true (sym is))
 
-is_nothing : {A : Type 0} (o : Option A) → is_some o ≡ true → is_none o ≡ false
+pub is_nothing : {A : Type 0} (o : Option A) → is_some o ≡ true → is_none o ≡ false
 is_nothing (Some a) h = refl
 is_nothing None h = absurd (false_is_true h)
 

@@ -1,6 +1,7 @@
 //! Whose the replies are, and their causes.
 
 ghost use Rattle.sl_cause_due.specs.CausedSoFar.{is_explained};
+ghost use Rattle.sl_cause_due.specs.LineCauses.{LinesAreCaused};
 ghost use Rattle.sl_cause_due.specs.Promises.{CausesAreKept, CausesBegin, RepliesRun, RepliesRunBegin};
 
 /// Each act gives its replies with their causes, as far as they are explained, and leaves those before it.
@@ -19,4 +20,9 @@ pub fn replies_run()
 
 pub fn replies_run_begin()
     ensures { RepliesRunBegin }
+{}
+
+/// What a command is answered at once has its cause, where it was decided on what stood before the entry's input.
+pub fn lines_are_caused()
+    ensures { LinesAreCaused }
 {}
