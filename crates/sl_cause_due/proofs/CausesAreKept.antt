@@ -5,14 +5,14 @@ use Rattle.sl_acts.proofs.InputsKeep.{has_heard}
 use Rattle.sl_acts.specs.Acts.{Has, Hears}
 use Rattle.sl_acts.specs.SoFar.{entry_of}
 use Rattle.sl_cause_due.proofs.JoinCauses.{concluded_call, goes_on_still, joining_may, joining_well}
-use Rattle.sl_cause_due.proofs.LaterSteps.{AnyMove, Going, MayAnswer, MayCall, MayStart, after_that, answer_caused, before_later, begins, going, no_line, seen_caused, still_caused, told_no_line, wake_no_line}
+use Rattle.sl_cause_due.proofs.LaterSteps.{AnyMove, Going, MayAnswer, MayCall, MayStart, after_that, answer_caused, before_later, begins, by_effects, going, no_line, seen_caused, still_caused, told_no_line, wake_no_line}
 use Rattle.sl_cause_due.proofs.Leases.GrantCauses.{JobLed, exclusive_done, grant_done, shared_done}
 use Rattle.sl_cause_due.proofs.Leases.LeaseAnswers.{led_caused}
 use Rattle.sl_cause_due.proofs.PlainCauses.{fault_caused, freed_may, lone_of, request_caused, spawn_caused, told_caused}
 use Rattle.sl_cause_due.proofs.ExitCauses.{exit_caused}
 use Rattle.sl_cause_due.proofs.RecoveryCauses.{begun_by_read, begun_by_time, joined_before, present_joined, recovery_same, stop_caused}
 use Rattle.sl_cause_due.proofs.WakeCauses.{sessions_wake, timeout_caused, wake_well}
-use Rattle.sl_cause_due.specs.CausedSoFar.{CausedSoFar, IsAtOnce, IsConcluded, IsLater, StaysCaused, is_explained, is_line}
+use Rattle.sl_cause_due.specs.CausedSoFar.{CausedSoFar, IsAtOnce, IsConcluded, IsLater, StaysCaused, answering, is_explained, is_line}
 use Rattle.sl_cause_due.specs.Promises.{CausesAreKept, CausesBegin}
 use Rattle.sl_due.specs.DueAnswers.{set_reply}
 use Rattle.sl_due.specs.DueCommands.{answer_line, carry_decision}
@@ -21,7 +21,7 @@ use Rattle.sl_due.specs.DueFirst.{begin_recoveries, begin_recovery, begins_now, 
 use Rattle.sl_due.specs.DueInputs.{end_holdings, leave_holdings, refuse_jobs_of, started_reply, when_running}
 use Rattle.sl_due.specs.DueLease.{carry_lease, goes_on, next_of_lease}
 use Rattle.sl_due.specs.DueRequests.{after_request_read, after_value_read, bits_due, value_reply}
-use Rattle.sl_due.specs.Steps.{Step, begin_step, add_end, add_reply, add_signal, seen, with_input}
+use Rattle.sl_due.specs.Steps.{Step, begin_step, add_end, add_reply, add_signal, seen, with_effects, with_input}
 use Rattle.sl_due.specs.declared.decision.Decision.TheVariants.{ConvertsTo, GetsValue, GivesUp, Joins, Leaves, ReadsArea, Replies, Requests, SetsValue, Shares, TakesOver}
 use Rattle.sl_due.specs.declared.decision.Decision.{Decision}
 use Rattle.sl_holding_due.proofs.HoldingsByDeltas.{same_session}
@@ -44,7 +44,9 @@ use Rattle.sl_leases.specs.declared.lease.Aim.{Aim}
 use Rattle.sl_leases.specs.declared.lease.LeaseNext.TheVariants.{AnswerJob, BecomeExclusive, BecomeShared, GrantJob, Nothing as No_lease, ReadFor, WriteBlock, WriteLeader}
 use Rattle.sl_leases.specs.declared.lease.LeaseNext.{LeaseNext}
 use Rattle.sl_job_facts.proofs.JobFactsGrow.{contains_left}
-use Rattle.sl_job_facts.proofs.JobsAreNumbered.{next_before}
+use Rattle.sl_job_facts.proofs.JobsAreNumbered.{line_is, next_before}
+use Rattle.sl_law.specs.Caused.{CausedBy}
+use Rattle.sl_trace.specs.declared.effects.Effects.{Effects}
 use Rattle.sl_plain.proofs.Lists.{contains_none, got_inside}
 use Rattle.sl_sector.specs.Bitmaps.{no_bits}
 use Rattle.sl_sector.specs.declared.sector.DeltaState.TheVariants.{Free, Live}
@@ -62,7 +64,7 @@ use Rattle.sl_sessions.specs.declared.session.Session.{Session}
 use Rattle.sl_step_facts.specs.Whole.{WholeTrace}
 use Rattle.sl_step_facts.specs.Heard.{heard_by}
 use Rattle.sl_step_facts.specs.JobFacts.{FitsCommand}
-use Rattle.sl_trace.specs.Traces.{Setting, Submitted, Trace, line_in, running_jobs, end_of, is_running, job_of, next_job, spot_of_grant, work_job}
+use Rattle.sl_trace.specs.Traces.{Job, Setting, Submitted, Trace, job_numbered, line_in, running_jobs, end_of, is_running, job_of, next_job, spot_of_grant, work_job}
 use Rattle.sl_trace.specs.declared.command.Command.TheVariants.{Acquire, AddLockspace, Convert, GetLvb, HostStatus, InqLockspace, Release, ReleaseOrphan, RemLockspace, Request, RunProgram, SetKillpath, SetLvb, Status, TakeOver}
 use Rattle.sl_trace.specs.declared.command.Command.{Command}
 use Rattle.sl_trace.specs.declared.command.ResourceArg.{ResourceArg}
@@ -87,10 +89,10 @@ use Rattle.sl_trace.specs.declared.input.Input.{Input}
 use Rattle.sl_trace.specs.declared.reply.Reply.TheVariants.{BadCommand as Misread, Done, Granted, IdHeld, IoFault, IoTimeout, NoProcess, Recovering, SpawnFault, Started, ValueSet}
 use Rattle.sl_trace.specs.declared.reply.Reply.{Reply}
 use Rattle.sl_words.proofs.WordLaws.{some_is_true}
-use Rattle.sl_words.proofs.CaseLaws.{false_is_true, none_some, not_both, some_value}
+use Rattle.sl_words.proofs.CaseLaws.{false_is_true, none_some, not_both, one_value, some_value}
 use Rattle.std.proofs.Common.{ap, inl, inr, refl, subst, sym, ◌∙◌}
 use Rattle.std.specs.Option.{option_map_or}
-use Rattle.std.specs.Prelude.{Bool, Contains, List, None, Option, Some, false, filter, is_some, length, not, true, ℕ, ◌+◌, ◌==◌, ◌≡◌, ◌⊎◌}
+use Rattle.std.specs.Prelude.{Bool, Contains, Err, List, None, Ok, Option, Some, false, filter, is_some, length, not, true, ℕ, ◌+◌, ◌==◌, ◌≡◌, ◌⊎◌}
 
 -- ---- what an act is made of
 
@@ -103,6 +105,8 @@ once_by x z later input grants ends a o =
     record {
       text = o.text;
       line = input ∙ o.line;
+      command = o.command;
+      says = ap (λ (st : Setting). st.read o.text) later.setting ∙ o.says;
       own = o.own ∙ (ap (λ st. next_job st x.past) (sym later.setting) ∙ ap (λ t. next_job z.setting t) (sym later.before));
       ungranted = grants ∙ o.ungranted;
       unended = ends ∙ o.unended;
@@ -271,8 +275,9 @@ spawned_no_wake : (i : Input) (p : ℕ) (ok : Bool) → i ≡ Spawned p ok → i
 spawned_no_wake i p ok is wake = cc
 
 -- A line that is answered at once.
-at_once : (x : Step) (text : List ℕ) (r : Reply) → Keeps x → x.input ≡ Wake → CausedSoFar is_explained (answer_line text (next_job x.setting (seen x)) r x)
-at_once x text r k wake =
+at_once : (x : Step) (text : List ℕ) (r : Reply) → Keeps x → x.input ≡ Wake → let z : Step = answer_line text (next_job x.setting (seen x)) r x in
+    (is_explained (Line text) r ≡ true → (IsAtOnce z (record { job = next_job x.setting (seen x); reply = r }) → ⊥) → StaysCaused z (record { job = next_job x.setting (seen x); reply = r })) → CausedSoFar is_explained z
+at_once x text r k wake cause =
     record {
       before = k.1.before;
       causes = λ a there shown apart. by a shown apart (contains_last x.effects.replies (record { job = j; reply = r }) a there);
@@ -291,7 +296,37 @@ at_once x text r k wake =
       by a shown apart (inl old) = λ u later.
           k.1.causes a old (ap (λ i. is_explained i a.reply) wake ∙ explained_awake (Line text) a.reply shown) (λ o. wake_no_line x.input o.text wake o.line) u (after_that x z u first later)
       by a shown apart (inr new) =
-          absurd (apart (record { text = text; line = refl; own = ap (λ (b : JobReply). b.job) (sym new) ∙ next_before x wake; ungranted = (k.0.1.waking wake).1; unended = (k.0.1.waking wake).0 }))
+          subst (λ b. StaysCaused z b) new
+          (cause (subst (λ (b : JobReply). is_explained (Line text) b.reply ≡ true) (sym new) shown) (λ o. apart (subst (λ b. IsAtOnce z b) new o)))
+
+-- .. with a command.
+commanded : (x : Step) (text : List ℕ) (c : Command) (r : Reply) → Keeps x → x.input ≡ Wake → x.setting.read text ≡ Ok c → CausedSoFar is_explained (answer_line text (next_job x.setting (seen x)) r x)
+commanded x text c r k wake says =
+    at_once x text r k wake
+    (λ shown apart. absurd (apart (record { text = text; line = refl; command = c; says = says; own = next_before x wake; ungranted = (k.0.1.waking wake).1; unended = (k.0.1.waking wake).0 })))
+
+-- .. without one.
+misread_caused : (x : Step) (text : List ℕ) (column : ℕ) → x.input ≡ Wake → x.setting.read text ≡ Err column
+    → StaysCaused (answer_line text (next_job x.setting (seen x)) (Misread column) x) (record { job = next_job x.setting (seen x); reply = Misread column })
+misread_caused x text column wake says =
+    by_effects z (record { job = j; reply = Misread column }) (λ is. line_no_wake z.input text refl is)
+    (λ fx carried job found. by fx job (sym (ap (λ n. job_numbered x.setting (seen (with_effects z fx)) n) (next_before x wake)) ∙ found)) where
+      j : ℕ
+      j = next_job x.setting (seen x)
+
+      z : Step
+      z = answer_line text j (Misread column) x
+
+      made : Job
+      made = record { number = next_job x.setting x.past; at = length x.past; reading = x.reading; command = x.setting.read text }
+
+      its : (fx : Effects) → job_numbered x.setting (seen (with_effects z fx)) (next_job x.setting x.past) ≡ Some made
+      its fx = line_is x.setting x.past x.reading text fx
+
+      by : (fx : Effects) (job : Job) → job_numbered x.setting (seen (with_effects z fx)) (next_job x.setting x.past) ≡ Some job → CausedBy (answering (with_effects z fx) job) (Misread column)
+      by fx job found =
+          let same : made ≡ job = one_value made job (job_numbered x.setting (seen (with_effects z fx)) (next_job x.setting x.past)) (its fx) found in
+          (ap (λ (k : Job). k.at) (sym same), ap (λ (k : Job). k.command) (sym same) ∙ says)
 
 -- A process exits, and its jobs are refused.
 exit_done : (x : Step) (p : ℕ) → Keeps x → x.input ≡ Wake → CausedSoFar is_explained (refuse_jobs_of p (leave_holdings p (with_input (Exit p) x)))
@@ -506,8 +541,8 @@ causes_are_kept =
       says_started = λ x p j input is runs k.
           by_act x (add_reply j (started_reply (seen x) p) x) (λ text line. spawned_no_line x.input p true text input line)
           ((going (is_explained x.input) x).replies x j (started_reply (seen x) p) (late x (started_reply (seen x) p) refl, λ shown. absurd (false_is_true shown)) (begins (is_explained x.input) x)) k.1;
-      misreads = λ x text column wake bare says k. at_once x text (Misread column) k wake;
-      answers = λ x text c r wake bare says is k. at_once x text r k wake;
+      misreads = λ x text column wake bare says k. at_once x text (Misread column) k wake (λ shown apart. misread_caused x text column wake says);
+      answers = λ x text c r wake bare says is k. commanded x text c r k wake says;
       carries = λ x text c d wake bare says is more k.
           let w : Step = with_input (Line text) x in
           let j : ℕ = next_job x.setting (seen x) in

@@ -4,6 +4,7 @@ use Rattle.sl_area.specs.Layouts.{record_in}
 use Rattle.sl_area.specs.Places.{leader_of, read_at}
 use Rattle.sl_cause_due.proofs.AnsweredJobs.{AnswersHere, answers_here, number_is, its_command, with_command, with_spot}
 use Rattle.sl_cause_due.proofs.LaterSteps.{AnyMove, MayAnswer, MayCall, by_effects}
+use Rattle.sl_cause_due.specs.Promises.{LeavingsAreCaused}
 use Rattle.sl_cause_due.specs.CausedSoFar.{StaysCaused, answering}
 use Rattle.sl_due.specs.DueRequests.{request_refusal, value_reply}
 use Rattle.sl_due.specs.Steps.{Step, seen, with_effects}
@@ -162,7 +163,7 @@ request_caused x s m n bytes r asked force k hears purpose says space why refuse
 
 -- ---- the free of a leaving
 
-done_caused : (x : Step) (s : Session) (m : Submitted) (n : ℕ) → Known x → Hears x s m Written → m.call.purpose ≡ Leaving n → StaysCaused x (record { job = n; reply = Done })
+pub done_caused : LeavingsAreCaused
 done_caused x s m n k hears purpose z later j is =
     by (some_of (command_numbered x.setting (seen x) n) (k.0.facts.jobs.called m n there of)) (answers_here x s m Written n k hears of z later j is)
   where

@@ -9,6 +9,7 @@ use Rattle.sl_sessions.specs.declared.session.Session.{Session}
 use Rattle.sl_step_facts.specs.Heard.{heard_by}
 use Rattle.sl_step_facts.specs.Whole.{WholeTrace}
 use Rattle.sl_trace.specs.Traces.{Job, Setting, Submitted, is_running, job_numbered, next_job, reply_to, submitted}
+use Rattle.sl_trace.specs.declared.command.Command.{Command}
 use Rattle.sl_trace.specs.declared.effects.LeaseStep.{LeaseStep}
 use Rattle.sl_trace.specs.declared.effects.Purpose.TheVariants.{Lease}
 use Rattle.sl_trace.specs.declared.effects.Spot.{Spot}
@@ -20,7 +21,7 @@ use Rattle.sl_trace.specs.declared.input.Input.TheVariants.{Line, Wake}
 use Rattle.sl_trace.specs.declared.input.Input.{Input}
 use Rattle.sl_trace.specs.declared.reply.Reply.TheVariants.{Done, Granted, IdHeld, Recovering, Started, ValueSet}
 use Rattle.sl_trace.specs.declared.reply.Reply.{Reply}
-use Rattle.std.specs.Prelude.{AllPairs, Bool, Contains, List, None, Some, [], false, filter, not, true, ℕ, ◌&&◌, ◌++◌, ◌≡◌, ◌≢◌}
+use Rattle.std.specs.Prelude.{AllPairs, Bool, Contains, List, None, Ok, Some, [], false, filter, not, true, ℕ, ◌&&◌, ◌++◌, ◌≡◌, ◌≢◌}
 
 -- Each reply so far is of a job that a line brought and that nobody answered before the step; no two are of one job.
 pub record RepliedSoFar (x : Step) : Type 0 where
@@ -75,10 +76,13 @@ pub record IsLater (x z : Step) : Type 0 where
 abbrev pub StaysCaused : Step → JobReply → Type 0
 StaysCaused x a = (z : Step) → IsLater x z → HasCause z a
 
--- The reply is that of the step's own line, and nothing was granted or ended for it: it was decided by what stood before the line.
+-- The reply is that of the step's own line, which says a command, and nothing was granted or ended for it: it was decided by what stood
+-- before the line.
 pub record IsAtOnce (x : Step) (a : JobReply) : Type 0 where
   pub text : List ℕ
   pub line : x.input ≡ Line text
+  pub command : Command
+  pub says : x.setting.read text ≡ Ok command
   pub own : a.job ≡ next_job x.setting x.past
   pub ungranted : x.effects.grants ≡ []
   pub unended : x.effects.ends ≡ []

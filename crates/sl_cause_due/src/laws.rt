@@ -2,7 +2,7 @@
 
 ghost use Rattle.sl_cause_due.specs.CausedSoFar.{is_explained};
 ghost use Rattle.sl_cause_due.specs.LineCauses.{LinesAreCaused};
-ghost use Rattle.sl_cause_due.specs.Promises.{CausesAreKept, CausesBegin, RepliesRun, RepliesRunBegin};
+ghost use Rattle.sl_cause_due.specs.Promises.{CausesAreKept, CausesBegin, LeavingsAreCaused, RepliesRun, RepliesRunBegin};
 
 /// Each act gives its replies with their causes, as far as they are explained, and leaves those before it.
 pub fn causes_are_kept()
@@ -25,4 +25,9 @@ pub fn replies_run_begin()
 /// What a command is answered at once has its cause, where it was decided on what stood before the entry's input.
 pub fn lines_are_caused()
     ensures { LinesAreCaused }
+{}
+
+/// That a leaving is done has its cause where its free was answered ok.
+pub fn leavings_are_caused()
+    ensures { LeavingsAreCaused }
 {}
