@@ -10,3 +10,5 @@ pub mod ExitCauses
 pub mod CausesAreKept
 pub mod RepliesRun
 pub mod LineCauses
+pub mod QuietMoves
+pub mod LineAnswers

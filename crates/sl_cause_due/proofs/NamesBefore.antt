@@ -26,14 +26,14 @@ use Rattle.std.specs.Prelude.{Bool, Contains, Err, IsSomeAnd, List, None, Ok, Op
 abbrev pub early_entry : ℕ → List Start → List JobReply → Entry
 early_entry now ks rs = record { reading = now; input = Wake; effects = record no_effects { starts = ks; replies = rs } }
 
-removed_then : (past : Trace) (now : ℕ) (ks : List Start) (rs : List JobReply) (s : Session) → removed_after (early_entry now ks rs ∷ past) s ≡ removed_after past s
+pub removed_then : (past : Trace) (now : ℕ) (ks : List Start) (rs : List JobReply) (s : Session) → removed_after (early_entry now ks rs ∷ past) s ≡ removed_after past s
 removed_then past now ks rs s = by (removed_after past s) (is_some (joined_after past s)) where
   by : (o : Option ℕ) (b : Bool) → (elim o as (λ z. Option ℕ) [ Some k ↦ Some k | None ↦ choose (b && false) (length past + 1) ]) ≡ o
   by (Some k) b = refl
   by None true = refl
   by None false = refl
 
-abbrev present_as : Option ℕ → Option ℕ → Option ℕ → Bool → Bool
+abbrev pub present_as : Option ℕ → Option ℕ → Option ℕ → Bool → Bool
 present_as joined removed refused writes = is_none (elim joined as (λ z. Option ℕ) [ Some k ↦ removed | None ↦ refused ]) || is_none joined && writes
 
 at_work : (joined removed refused : Option ℕ) (writes : Bool) → joined ≡ None → refused ≡ None → present_as joined removed refused writes ≡ true

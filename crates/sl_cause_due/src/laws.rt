@@ -1,7 +1,7 @@
 //! Whose the replies are, and their causes.
 
 ghost use Rattle.sl_cause_due.specs.CausedSoFar.{is_explained};
-ghost use Rattle.sl_cause_due.specs.LineCauses.{LinesAreCaused};
+ghost use Rattle.sl_cause_due.specs.LineCauses.{AnswersAreCaused, DecisionsOverlook, LinesAreCaused};
 ghost use Rattle.sl_cause_due.specs.Promises.{CausesAreKept, CausesBegin, LeavingsAreCaused, RepliesRun, RepliesRunBegin};
 
 /// Each act gives its replies with their causes, as far as they are explained, and leaves those before it.
@@ -30,4 +30,15 @@ pub fn lines_are_caused()
 /// That a leaving is done has its cause where its free was answered ok.
 pub fn leavings_are_caused()
     ensures { LeavingsAreCaused }
+{}
+
+/// What a command comes to is the same without the moves and signals that a step made before its input, where no joined session's connection
+/// was removed.
+pub fn decisions_overlook()
+    ensures { DecisionsOverlook }
+{}
+
+/// So what a line is answered at once has its cause in its entry, unless the session's recovery or leaving refuses it.
+pub fn answers_are_caused()
+    ensures { AnswersAreCaused }
 {}
