@@ -162,13 +162,14 @@ off_last false false false c = refl
 off_last a b true c = absurd (true_is_false c)
 
 -- Who isn't active before the input isn't so in the entry.
-inactive : (y : Answering) (s : Session) → is_joined (before_entry y) s ≡ true → is_active y.setting (before_entry y) s ≡ false → is_active y.setting (after_entry y) s ≡ false
-inactive y s joined idle = by (recovery_of st t s) refl (leaving_job st y.past s) refl where
+pub inactive : (y : Answering) (ks : List Start) (rs : List JobReply) (s : Session) → let t : Trace = early_entry y.entry.reading ks rs ∷ y.past in
+    is_joined t s ≡ true → is_active y.setting t s ≡ false → is_active y.setting (after_entry y) s ≡ false
+inactive y ks rs s joined idle = by (recovery_of st t s) refl (leaving_job st y.past s) refl where
   st : Setting
   st = y.setting
 
   t : Trace
-  t = before_entry y
+  t = early_entry y.entry.reading ks rs ∷ y.past
 
   u : Trace
   u = after_entry y
@@ -194,7 +195,7 @@ session_well y c s h found r = by (is_joined t s) refl where
       let v = choose_some (not (is_active y.setting t s)) (Recovering (last_renewal y.setting t s)) r is in
       subst (λ q. CausedBy y q) v.1
       (with_session y s (λ z. IsTrue (is_joined y.past z) × IsFalse (is_active y.setting (after_entry y) z) × (last_renewal y.setting (before_entry y) z ≡ last_renewal y.setting (before_entry y) s)) found
-      (joined_early y s joined, inactive y s joined (not_is (is_active y.setting t s) v.0), refl))
+      (joined_early y s joined, inactive y (filter (λ (k : Start). is_some k.stands_for) y.entry.effects.starts) (filter (λ (a : JobReply). is_before_input a.reply) y.entry.effects.replies) s joined (not_is (is_active y.setting t s) v.0), refl))
 
 session_active : (st : Setting) (es : Trace) (s : Session) → session_refusal st es s ≡ None → is_active st es s ≡ true
 session_active st es s = by (is_joined es s) (is_active st es s) where

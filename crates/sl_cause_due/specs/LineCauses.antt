@@ -16,6 +16,7 @@ use Rattle.sl_trace.specs.declared.effects.Move.{Move}
 use Rattle.sl_trace.specs.declared.effects.Sent.{Sent}
 use Rattle.sl_trace.specs.declared.effects.Start.{Start}
 use Rattle.sl_trace.specs.declared.input.Input.TheVariants.{Wake}
+use Rattle.sl_trace.specs.declared.reply.Reply.TheVariants.{Recovering}
 use Rattle.sl_trace.specs.declared.reply.Reply.{Reply}
 use Rattle.std.specs.List.{list_any}
 use Rattle.std.specs.Prelude.{Contains, List, Ok, [], false, filter, is_some, true, ℕ, ◌∷◌, ◌≡◌}
@@ -51,8 +52,7 @@ DecisionsOverlook =
     (st : Setting) (past : Trace) (now : ℕ) (ks : List Start) (rs : List JobReply) (ms : List Move) (gs : List Sent) → LeavesJoined st past ms → (reading : ℕ) (c : Command)
     → decided st (stirred_entry now ks rs ms gs ∷ past) reading c ≡ decided st (stirred_entry now ks rs [] [] ∷ past) reading c
 
--- A step before its input: it has made no call and granted and ended nothing, what it refused is told apart, and its programs stand for
--- signals.
+-- A step before its input: it has made no call, granted and ended nothing, and removed the connection of no joined session.
 pub record IsEarly (x : Step) : Type 0 where
   pub wake : x.input ≡ Wake
   pub uncalled : x.effects.calls ≡ []
@@ -73,3 +73,11 @@ pub record AnswersAfter (x : Step) (y : Answering) : Type 0 where
 abbrev pub AnswersAreCaused : Type 0
 AnswersAreCaused =
     (x : Step) (y : Answering) (c : Command) (r : Reply) → IsEarly x → AnswersAfter x y → AtLine y c → decided x.setting (seen x) x.reading c ≡ Replies r → CausedBy y r
+
+-- What the session's recovery or leaving refuses at once, which in the entry looks as if it had been refused before the input, has its
+-- cause too, whatever else the entry does.
+abbrev pub StoppedAreCaused : Type 0
+StoppedAreCaused =
+    (x : Step) (y : Answering) (c : Command) (t : ℕ) → IsEarly x → y.setting ≡ x.setting → y.past ≡ x.past → y.entry.reading ≡ x.reading
+    → filter (λ k. is_some k.stands_for) x.effects.starts ≡ x.effects.starts → filter (λ a. is_before_input a.reply) x.effects.replies ≡ x.effects.replies
+    → AtLine y c → decided x.setting (seen x) x.reading c ≡ Replies (Recovering t) → CausedBy y (Recovering t)

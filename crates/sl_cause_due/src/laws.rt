@@ -1,7 +1,7 @@
 //! Whose the replies are, and their causes.
 
 ghost use Rattle.sl_cause_due.specs.CausedSoFar.{is_explained};
-ghost use Rattle.sl_cause_due.specs.LineCauses.{AnswersAreCaused, DecisionsOverlook, LinesAreCaused};
+ghost use Rattle.sl_cause_due.specs.LineCauses.{AnswersAreCaused, DecisionsOverlook, LinesAreCaused, StoppedAreCaused};
 ghost use Rattle.sl_cause_due.specs.Promises.{CausesAreKept, CausesBegin, LeavingsAreCaused, RepliesRun, RepliesRunBegin};
 
 /// Each act gives its replies with their causes, as far as they are explained, and leaves those before it.
@@ -38,7 +38,13 @@ pub fn decisions_overlook()
     ensures { DecisionsOverlook }
 {}
 
-/// So what a line is answered at once has its cause in its entry, unless the session's recovery or leaving refuses it.
+/// So what a line is answered at once has its cause in the entry that ends the step, where that entry has of before its input just what the
+/// step had (so unless the line itself is refused as in recovery).
 pub fn answers_are_caused()
     ensures { AnswersAreCaused }
+{}
+
+/// A line that is refused as in recovery is so with its cause.
+pub fn stopped_are_caused()
+    ensures { StoppedAreCaused }
 {}
