@@ -1,0 +1,6 @@
+pub mod Hearing
+pub mod Limits
+pub mod AreaCauses
+pub mod PhaseCauses
+pub mod LeaseAnswers
+pub mod GrantCauses

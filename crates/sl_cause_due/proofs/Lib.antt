@@ -1,0 +1,14 @@
+pub mod LaterSteps
+pub mod AnsweredJobs
+pub mod PlainCauses
+pub mod NamesBefore
+pub mod Leases
+pub mod JoinCauses
+pub mod WakeCauses
+pub mod RecoveryCauses
+pub mod ExitCauses
+pub mod CausesAreKept
+pub mod RepliesRun
+pub mod LineCauses
+pub mod QuietMoves
+pub mod LineAnswers

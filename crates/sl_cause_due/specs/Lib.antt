@@ -1,0 +1,3 @@
+pub mod CausedSoFar
+pub mod Promises
+pub mod LineCauses

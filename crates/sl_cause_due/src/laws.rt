@@ -1,0 +1,50 @@
+//! Whose the replies are, and their causes.
+
+ghost use Rattle.sl_cause_due.specs.CausedSoFar.{is_explained};
+ghost use Rattle.sl_cause_due.specs.LineCauses.{AnswersAreCaused, DecisionsOverlook, LinesAreCaused, StoppedAreCaused};
+ghost use Rattle.sl_cause_due.specs.Promises.{CausesAreKept, CausesBegin, LeavingsAreCaused, RepliesRun, RepliesRunBegin};
+
+/// Each act gives its replies with their causes, as far as they are explained, and leaves those before it.
+pub fn causes_are_kept()
+    ensures { CausesAreKept is_explained }
+{}
+
+pub fn causes_begin()
+    ensures { CausesBegin is_explained }
+{}
+
+/// Each reply is of a running job, no two of a step are of one job.
+pub fn replies_run()
+    ensures { RepliesRun }
+{}
+
+pub fn replies_run_begin()
+    ensures { RepliesRunBegin }
+{}
+
+/// What a command is answered at once has its cause, where it was decided on what stood before the entry's input.
+pub fn lines_are_caused()
+    ensures { LinesAreCaused }
+{}
+
+/// That a leaving is done has its cause where its free was answered ok.
+pub fn leavings_are_caused()
+    ensures { LeavingsAreCaused }
+{}
+
+/// What a command comes to is the same without the moves and signals that a step made before its input, where no joined session's connection
+/// was removed.
+pub fn decisions_overlook()
+    ensures { DecisionsOverlook }
+{}
+
+/// So what a line is answered at once has its cause in the entry that ends the step, where that entry has of before its input just what the
+/// step had (so unless the line itself is refused as in recovery).
+pub fn answers_are_caused()
+    ensures { AnswersAreCaused }
+{}
+
+/// A line that is refused as in recovery is so with its cause.
+pub fn stopped_are_caused()
+    ensures { StoppedAreCaused }
+{}
