@@ -23,12 +23,12 @@ use Rattle.sl_watch.specs.declared.summary.Summary.{Summary as Kept}
 use Rattle.sl_words.proofs.CaseLaws.{some_value}
 use Rattle.sl_words.proofs.WordLaws.{and_true}
 use Rattle.std.proofs.Common.{ap, arith, eq-eqb, refl, subst, suc, sym, zero, ◌∙◌}
-use Rattle.std.proofs.lemmas.Bool.Decides.{nat_tests}
+use Rattle.std.proofs.lemmas.Bool.Decides.{nat_tests, same_from_decides}
 use Rattle.std.proofs.lemmas.Bool.{eqb-true}
 use Rattle.std.proofs.lemmas.List.{get_or-replicate, length-set}
 use Rattle.std.proofs.lemmas.Slice.Eq.{bytes_eq-Decides}
 use Rattle.std.specs.List.{range_with_len}
-use Rattle.std.specs.Prelude.{Bool, List, None, Ok, Option, Result, Some, bytes_eq, cond, false, length, max, nat_lt, option_map, replicate, slice_index_or, slice_set, true, [], ℕ, ◌&&◌, ◌+◌, ◌-◌, ◌<◌, ◌==◌, ◌∷◌, ◌≡◌, ◌≤◌}
+use Rattle.std.specs.Prelude.{Bool, IsTrue, List, None, Ok, Option, Result, Some, bytes_eq, cond, false, length, max, nat_lt, option_map, replicate, slice_index_or, slice_set, true, [], ℕ, ◌&&◌, ◌+◌, ◌-◌, ◌<◌, ◌==◌, ◌∷◌, ◌≡◌, ◌≤◌, ◌↔◌}
 
 -- ---- two records are one
 
@@ -88,6 +88,15 @@ delta_itself a =
     (both _ _ (eq-eqb a.stamp a.stamp refl)
     (both _ _ ((bytes_eq-Decides a.lockspace a.lockspace).1 refl)
     (both _ _ (host_itself a.host) ((bytes_eq-Decides a.bitmap a.bitmap).1 refl)))))))
+
+one_of : (a b : DeltaRec) → DeltaIs a ≡ DeltaIs b → a ≡ b
+one_of a b same = cc
+
+-- So the test is any that tells whether they are.
+pub by_records : (r : Bool) (a b : DeltaRec) → IsTrue r ↔ (DeltaIs a ≡ DeltaIs b) → r ≡ same_delta a b
+by_records r a b tells =
+    same_from_decides r (same_delta a b) (λ is. one_of a b (tells.0 is), λ same. tells.1 (ap (λ d. DeltaIs d) same))
+    (one_delta a b, λ same. ap (λ d. same_delta a d) (sym same) ∙ delta_itself a)
 
 -- ---- one look
 
