@@ -1,6 +1,6 @@
 -- A watch that is told of looks stands for the longer sightings.
-use Rattle.sl_area.specs.Layouts.{Layout, Sizes, layout_of, program_digest}
-use Rattle.sl_area.specs.Places.{read_at, sector_of}
+use Rattle.sl_area.specs.Layouts.{Sizes, layout_of, program_digest}
+use Rattle.sl_area.specs.Places.{read_at}
 use Rattle.sl_sector.specs.Fields.{delta_code}
 use Rattle.sl_sector.specs.Spelling.{decoded}
 use Rattle.sl_sector.specs.declared.sector.Bad.{Bad}
@@ -12,15 +12,13 @@ use Rattle.sl_sector.specs.declared.sector.Rec.{Rec}
 use Rattle.sl_sessions.specs.Watching.{new_run, run_with}
 use Rattle.sl_sessions.specs.declared.sighting.Run.{Run}
 use Rattle.sl_sessions.specs.declared.sighting.Sighting.{Sighting}
-use Rattle.sl_time.specs.Times.{TimingNumbers}
 use Rattle.sl_watch.proofs.WatchLaws.{told_stands}
 use Rattle.sl_watch.specs.Seen.{seen_with}
-use Rattle.sl_watch.specs.Summaries.{IsKept, IsKeptRun, IsSeen, IsSpelledBy, RunStands, Summary, bytes_with, freed_with, nothing_seen, summary_of, summary_with, whole_run}
-use Rattle.sl_watch.specs.Telling.{AreTrue, WatchesAreTold, begun_run, blank_watch, delta_found, kept_run_with, kept_with, look_at, same_delta, same_host, told_all, told_at, told_of}
+use Rattle.sl_watch.specs.Summaries.{IsKept, IsKeptRun, IsSeen, IsSpelledBy, RunStands, Summary, bytes_with, freed_with, nothing_seen, summary_of, summary_with}
+use Rattle.sl_watch.specs.Telling.{AreTrue, WatchesAreTold, begun_run, delta_found, kept_run_with, kept_with, look_at, same_delta, same_host, told_all, told_at, told_of}
 use Rattle.sl_watch.specs.Watches.{IsReadTrue, WatchStands, Watched, kept_at}
 use Rattle.sl_watch.specs.declared.run.KeptRun.{KeptRun}
 use Rattle.sl_watch.specs.declared.summary.Summary.{Summary as Kept}
-use Rattle.sl_words.proofs.CaseLaws.{some_value}
 use Rattle.sl_words.proofs.WordLaws.{and_true}
 use Rattle.std.proofs.Common.{ap, arith, eq-eqb, refl, subst, suc, sym, zero, ◌∙◌}
 use Rattle.std.proofs.lemmas.Bool.Decides.{nat_tests, same_from_decides}
@@ -28,7 +26,7 @@ use Rattle.std.proofs.lemmas.Bool.{eqb-true}
 use Rattle.std.proofs.lemmas.List.{get_or-replicate, length-set}
 use Rattle.std.proofs.lemmas.Slice.Eq.{bytes_eq-Decides}
 use Rattle.std.specs.List.{range_with_len}
-use Rattle.std.specs.Prelude.{Bool, IsTrue, List, None, Ok, Option, Result, Some, bytes_eq, cond, false, length, max, nat_lt, option_map, replicate, slice_index_or, slice_set, true, [], ℕ, ◌&&◌, ◌+◌, ◌-◌, ◌<◌, ◌==◌, ◌∷◌, ◌≡◌, ◌≤◌, ◌↔◌}
+use Rattle.std.specs.Prelude.{Bool, IsTrue, List, None, Ok, Option, Result, Some, bytes_eq, cond, false, length, max, nat_lt, true, [], ℕ, ◌&&◌, ◌+◌, ◌-◌, ◌==◌, ◌∷◌, ◌≡◌, ◌≤◌, ◌↔◌}
 
 -- ---- two records are one
 

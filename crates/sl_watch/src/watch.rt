@@ -46,7 +46,7 @@ pub struct Watch {
 
 impl Model for Watch {
     ghost use Rattle.sl_watch.specs.Telling.{delta_found, told_at};
-ghost use Rattle.sl_watch.specs.Watches.{Watched};
+    ghost use Rattle.sl_watch.specs.Watches.{Watched};
     ghost use Rattle.std.specs.Prelude.{length, ◌≡◌};
 
     ghost Value = { Watched };
