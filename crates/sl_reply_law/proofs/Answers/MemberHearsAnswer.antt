@@ -4,7 +4,7 @@ use Rattle.sl_due.specs.DueRequests.{is_asked}
 use Rattle.sl_host_plain.proofs.PlainLists.{all_as, all_from, any_as, any_mapped, at_mapped, each_of}
 use Rattle.sl_host_state.specs.Hears.{is_heeded_by, lease_hearing, member_hearing, others, renewing_hearing, still_busy}
 use Rattle.sl_host_state.specs.Kept.{Config, HostState, LeaseState, MemberState}
-use Rattle.sl_host_state.specs.Stands.{AreInTurn, IsWaiting, JoinStands, Keeps, LeaseStands, MemberStands, free_written, kept_call, newest_value, sectors_of}
+use Rattle.sl_host_state.specs.Stands.{AreInTurn, AskedStands, IsWaiting, JoinStands, Keeps, LeaseStands, MemberStands, WatchKeeps, free_written, kept_call, newest_value, sectors_of}
 use Rattle.sl_host_state.specs.declared.kept.LeaseCall.{LeaseCall}
 use Rattle.sl_host_state.specs.declared.kept.OpenCall.{OpenCall}
 use Rattle.sl_leases.specs.Counts.{values_on}
