@@ -218,15 +218,27 @@ limit_is i h x m at program s k =
 
 -- ---- what is told
 
+-- Two functions that are the same in a range.
+range_as : {A : Type 0} (f g : ℕ → A) (a n : ℕ) → ((i : ℕ) → a ≤ i → i < a + n → f i ≡ g i) → map f (range_with_len a n) ≡ map g (range_with_len a n)
+range_as f g a zero are = refl
+range_as f g a (suc n) are =
+    ap (λ y. y ∷ map f (range_with_len (a + 1) n)) (are a (omega arith) (omega arith))
+    ∙ ap (λ ys. g a ∷ ys) (range_as f g (a + 1) n (λ i one most. are i (omega (arith, one)) (omega (arith, most))))
+
 abbrev state_of : ℕ → Looks → StateOf
 state_of id looks = record { id = id; state = looks }
 
 pub states_are : (h : HostState) (st : Setting) (es : Trace) (now : ℕ) (m : MemberState) → now ≡ h.reading → Keeps h st es → MemberStands st es m → states_seen st es m.who now ≡ states_told h m
 states_are h st es now m is k s =
-    map_as (λ id. state_of id (host_state st.timing st.layout id (sightings st.layout id (calls_of es m.who)) now)) (λ id. state_of id (host_state st.timing st.layout id (m.seen id) now))
-    (range_with_len 1 st.layout.hosts) (λ id. ap (λ ss. state_of id (host_state st.timing st.layout id ss now)) (s.seen id))
-    ∙ ap (λ (c : Config). map (λ id. state_of id (host_state c.timing c.layout id (m.seen id) now)) (range_with_len 1 c.layout.hosts)) k.config
-    ∙ ap (λ t. map (λ id. state_of id (host_state h.config.timing h.config.layout id (m.seen id) t)) (range_with_len 1 h.config.layout.hosts)) is
+    range_as (λ id. state_of id (host_state st.timing st.layout id (sightings st.layout id (calls_of es m.who)) now)) (λ id. state_of id (state_by m.watch.timing (bare (kept_at m.watch id)).run now))
+    1 st.layout.hosts (λ id one most. ap (state_of id) (by id one (omega (arith, most))))
+    ∙ ap (λ (c : Config). map (λ id. state_of id (state_by m.watch.timing (bare (kept_at m.watch id)).run now)) (range_with_len 1 c.layout.hosts)) k.config
+    ∙ ap (λ t. map (λ id. state_of id (state_by m.watch.timing (bare (kept_at m.watch id)).run t)) (range_with_len 1 h.config.layout.hosts)) is where
+      by : (id : ℕ) → 1 ≤ id → id ≤ st.layout.hosts → host_state st.timing st.layout id (sightings st.layout id (calls_of es m.who)) now ≡ state_by m.watch.timing (bare (kept_at m.watch id)).run now
+      by id one most =
+          ap (λ t. host_state t st.layout id (sightings st.layout id (calls_of es m.who)) now) (sym s.seen.timed)
+          ∙ ap (λ g. host_state m.watch.timing g id (sightings st.layout id (calls_of es m.who)) now) (sym s.seen.sized)
+          ∙ sym (state_read m.watch (λ id. sightings st.layout id (calls_of es m.who)) id now s.seen.stands one (subst (λ (g : Layout). id ≤ g.hosts) (sym s.seen.sized) most))
 
 abbrev told : List ℕ → ℕ → ℕ → SessionOf
 told name id generation = record { lockspace = name; id = id; generation = generation }

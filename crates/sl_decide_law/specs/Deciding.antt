@@ -227,7 +227,7 @@ report_decision h a answer = with_member (member_of h a) (λ m. unless_refused (
 -- The states of all ids, as `host_status` tells them.
 abbrev pub states_told : HostState → MemberState → List StateOf
 states_told h m =
-    map (λ id. record { id = id; state = host_state h.config.timing h.config.layout id (m.seen id) h.reading }) (range_with_len 1 h.config.layout.hosts)
+    map (λ id. record { id = id; state = state_by m.watch.timing (bare (kept_at m.watch id)).run h.reading }) (range_with_len 1 h.config.layout.hosts)
 
 -- The joined sessions by lockspace name, as `status` tells them.
 abbrev pub sessions_told : HostState → List SessionOf

@@ -47,9 +47,9 @@ module _ (st : Setting) (before after : Trace) where
         joining = λ is. subst (JoinStands m.joining) (sym own) (s.joining (still is));
         renewing = same.renewals ∙ s.renewing;
         leaving = ap (option_map (λ j. record { at = j.at; reading = j.reading; kills_from = j.at + 1 })) same.leaving ∙ s.leaving;
-        asked = λ now owner. ap (λ ms. is_asked st ms now owner) own ∙ s.asked now owner;
+        asked = subst (AskedStands st _) (sym own) s.asked;
         turn = subst (λ ms. AreInTurn (filter (λ c. is_delta_purpose c.call.purpose) ms)) (sym own) s.turn;
-        seen = λ id. ap (λ ms. sightings st.layout id ms) own ∙ s.seen id;
+        seen = subst (WatchKeeps st _) (sym own) s.seen;
         spots = ap (spots_in st.layout) own ∙ s.spots;
         leases = λ k l there.
             subst
