@@ -38,12 +38,16 @@ use Rattle.sl_words.proofs.CaseLaws.{true_is_false}
 use Rattle.sl_words.proofs.WordLaws.{choose_some}
 use Rattle.sl_words.specs.Orders.{is_text_before}
 use Rattle.sl_words.specs.Words.{choose, least, some_is}
-use Rattle.std.proofs.Common.{ap, refl, subst, sym, ◌∙◌}
+use Rattle.sl_area.specs.Layouts.{Layout}
+use Rattle.sl_watch.proofs.SummaryLaws.{state_read}
+use Rattle.sl_watch.specs.Summaries.{bare, state_by}
+use Rattle.sl_watch.specs.Watches.{kept_at}
+use Rattle.std.proofs.Common.{ap, arith, refl, subst, suc, sym, zero, ◌∙◌}
 use Rattle.std.proofs.lemmas.Bool.Decides.{Decides-eqb}
 use Rattle.std.proofs.lemmas.List.{length-map}
 use Rattle.std.specs.List.{AllByRecursion, list_any, range_with_len}
 use Rattle.std.specs.Option.{option_or}
-use Rattle.std.specs.Prelude.{Bool, List, None, Option, Some, bytes_eq, cond, false, filter, find, if◌then◌else◌, is_none, is_some, length, map, nat_le, not, option_and_then, option_map, sum_by, true, [], ℕ, ◌&&◌, ◌+◌, ◌==◌, ◌||◌, ◌∷◌, ◌≡◌}
+use Rattle.std.specs.Prelude.{Bool, List, None, Option, Some, bytes_eq, cond, false, filter, find, if◌then◌else◌, is_none, is_some, length, map, nat_le, not, option_and_then, option_map, sum_by, true, [], ℕ, ◌&&◌, ◌+◌, ◌<◌, ◌==◌, ◌||◌, ◌∷◌, ◌≡◌, ◌≤◌}
 
 -- ---- members by name
 

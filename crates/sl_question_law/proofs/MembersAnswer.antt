@@ -48,6 +48,21 @@ empty_is : {A : Type 0} (xs : List A) → is_empty xs ≡ not (list_any (λ x. t
 empty_is [] = refl
 empty_is (x ∷ xs) = refl
 
+-- Two tests that are the same in a range.
+kept_range : (p q : ℕ → Bool) (a n : ℕ) → ((i : ℕ) → a ≤ i → i < a + n → p i ≡ q i) → filter p (range_with_len a n) ≡ filter q (range_with_len a n)
+kept_range p q a zero are = refl
+kept_range p q a (suc n) are =
+    ap (λ b. elim b as (λ z. List ℕ) [ true ↦ a ∷ filter p (range_with_len (a + 1) n) | false ↦ filter p (range_with_len (a + 1) n) ]) (are a (omega arith) (omega arith))
+    ∙ ap (λ ys. elim (q a) as (λ z. List ℕ) [ true ↦ a ∷ ys | false ↦ ys ]) (kept_range p q (a + 1) n (λ i one most. are i (omega (arith, one)) (omega (arith, most))))
+
+-- Where no record was seen there is no run.
+no_run : (g : Layout) (id : ℕ) (ss : List Sighting) → seen_records g id ss ≡ [] → current_run g id ss ≡ None
+no_run g id [] none = refl
+no_run g id (s ∷ ss) none = by (sighted g id s) none where
+  by : (o : Option DeltaRec) → cons_option o (seen_records g id ss) ≡ [] → option_map (λ d. run_with (current_run g id ss) s d (has_seen ss)) o ≡ None
+  by None is = refl
+  by (Some d) is = absurd cc
+
 module _ (i : Input) (h : HostState) (x : Step) (k : ℕ) (m : MemberState) (at_it : IsMemberAt i h x k m) where
   keeps : Keeps h x.setting (seen x)
   keeps = at_it.stands.keeps
@@ -91,7 +106,8 @@ module _ (i : Input) (h : HostState) (x : Step) (k : ℕ) (m : MemberState) (at_
 
   bits : (now : ℕ) → bits_due x.setting (calls_of (seen x) m.who) now ≡ bits_of x.setting m.asked now
   bits now =
-      ap bitmap_of (filter_as (is_asked x.setting (calls_of (seen x) m.who) now) (is_asked_in x.setting m.asked now) (range_with_len 1 x.setting.layout.hosts) (λ owner. stands.asked now owner))
+      ap bitmap_of (kept_range (is_asked x.setting (calls_of (seen x) m.who) now) (is_asked_in x.setting m.asked now) 1 x.setting.layout.hosts
+      (λ owner one most. stands.asked.each now owner one (omega (arith, most))))
 
   -- ---- what it has seen
 
@@ -103,15 +119,29 @@ module _ (i : Input) (h : HostState) (x : Step) (k : ℕ) (m : MemberState) (at_
     by (Some j) None is = refl
     by (Some j) (Some n) is = absurd (false_is_true is)
 
-  seen_evidence : (j g : ℕ) → evidence_in x.setting (calls_of (seen x) m.who) j g ≡ evidence_seen h m j g
-  seen_evidence j g =
-      ap (λ ss. evidence x.setting.timing x.setting.layout j g ss) (stands.seen j) ∙ ap (λ (c : Config). evidence c.timing c.layout j g (m.seen j)) config
+  seen_evidence : (j g : ℕ) → evidence_in x.setting (calls_of (seen x) m.who) j g ≡ evidence_seen m j g
+  seen_evidence j g = by (is_in_range 1 m.watch.sizes.hosts j) refl where
+    ss : List Sighting
+    ss = sightings x.setting.layout j (calls_of (seen x) m.who)
 
-  over : (j g : ℕ) → counts_over x.setting (seen x) m.who j g ≡ over_in h m j g
+    hosts : x.setting.layout.hosts ≡ m.watch.sizes.hosts
+    hosts = sym (ap (λ (z : Layout). z.hosts) stands.seen.sized)
+
+    by : (b : Bool) → is_in_range 1 m.watch.sizes.hosts j ≡ b
+        → evidence x.setting.timing x.setting.layout j g ss ≡ cond b (evidence_by m.watch.timing g (bare (kept_at m.watch j))) None
+    by true is =
+        let both = and_true (nat_le 1 j) (nat_le j m.watch.sizes.hosts) is in
+        ap (λ t. evidence t x.setting.layout j g ss) (sym stands.seen.timed) ∙ ap (λ z. evidence m.watch.timing z j g ss) (sym stands.seen.sized)
+        ∙ sym (evidence_read m.watch (λ id. sightings x.setting.layout id (calls_of (seen x) m.who)) j g stands.seen.stands (leb-true 1 j both.0) (leb-true j m.watch.sizes.hosts both.1))
+    by false is =
+        let none : seen_records x.setting.layout j ss ≡ [] = stands.seen.beyond j (ap (λ n. is_in_range 1 n j) hosts ∙ is) in
+        ap (λ ds. evidence_of x.setting.timing g ds (current_run x.setting.layout j ss)) none ∙ ap (evidence_of x.setting.timing g []) (no_run x.setting.layout j ss none)
+
+  over : (j g : ℕ) → counts_over x.setting (seen x) m.who j g ≡ over_in m j g
   over j g =
       ap (λ e. over_by (is_some e) (generation_of (seen x) m.who) (is_some (joined_after (seen x) m.who))) (seen_evidence j g)
-      ∙ ap (λ n. over_by (is_some (evidence_seen h m j g)) n (is_some (joined_after (seen x) m.who))) generation
-      ∙ ap (over_by (is_some (evidence_seen h m j g)) m.known.generation) has_joined where
+      ∙ ap (λ n. over_by (is_some (evidence_seen m j g)) n (is_some (joined_after (seen x) m.who))) generation
+      ∙ ap (over_by (is_some (evidence_seen m j g)) m.known.generation) has_joined where
         over_by : Bool → ℕ → Bool → Bool
         over_by evident n joined = elim evident as (λ z. Bool) [ true ↦ true | false ↦ j == m.who.id && nat_lt g n && joined ]
 
@@ -136,14 +166,14 @@ module _ (i : Input) (h : HostState) (x : Step) (k : ℕ) (m : MemberState) (at_
 
   -- ---- a lease, up to its calls
 
-  over_all : counts_over x.setting (seen x) m.who ≡ over_in h m
+  over_all : counts_over x.setting (seen x) m.who ≡ over_in m
   over_all = fun_ext (λ j. fun_ext (λ g. over j g))
 
   me_is : me (seen x) m.who ≡ me_in m
   me_is = ap (λ n. record { id = m.who.id; generation = n }) generation
 
   lease : (at : Spot) → known x.setting (seen x) m.who at
-      ≡ known_of h.config.layout m.who.lockspace (me_in m) (is_some (shared_at h m at)) (option_map (λ g. g.lver) (exclusive_at h m at)) (over_in h m) (lease_calls x.setting (seen x) m.who at)
+      ≡ known_of h.config.layout m.who.lockspace (me_in m) (is_some (shared_at h m at)) (option_map (λ g. g.lver) (exclusive_at h m at)) (over_in m) (lease_calls x.setting (seen x) m.who at)
   unfolding known
   lease at =
       let calls : List Submitted = lease_calls x.setting (seen x) m.who at in
