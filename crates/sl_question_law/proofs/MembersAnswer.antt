@@ -16,7 +16,13 @@ use Rattle.sl_reply_law.proofs.PlainFilters.{filter_mapped}
 use Rattle.sl_sector.specs.Bitmaps.{bitmap_of}
 use Rattle.sl_sector.specs.declared.sector.Owner.{Owner}
 use Rattle.sl_sessions.specs.Sessions.{calls_of, generation_of, has_open_write, is_active, is_call_of, is_leaving, is_present, is_recovering, joined_after, leaving_job, me, open_calls_of, recovery_of, refused_after, removed_after}
-use Rattle.sl_sessions.specs.Watching.{counts_over, evidence, evidence_in}
+use Rattle.sl_area.specs.Layouts.{Layout}
+use Rattle.sl_sector.specs.declared.sector.DeltaRec.{DeltaRec}
+use Rattle.sl_sessions.specs.Watching.{counts_over, current_run, evidence, evidence_in, evidence_of, has_seen, run_with, seen_records, sighted, sightings}
+use Rattle.sl_sessions.specs.declared.sighting.Sighting.{Sighting}
+use Rattle.sl_watch.proofs.SummaryLaws.{evidence_read}
+use Rattle.sl_watch.specs.Summaries.{bare, evidence_by}
+use Rattle.sl_watch.specs.Watches.{kept_at}
 use Rattle.sl_sessions.specs.declared.delta.DeltaKnown.{DeltaKnown}
 use Rattle.sl_sessions.specs.declared.session.Begun.{Begun}
 use Rattle.sl_sessions.specs.declared.session.Renewing.{Renewing}
@@ -27,10 +33,16 @@ use Rattle.sl_trace.specs.declared.input.Input.{Input}
 use Rattle.sl_words.proofs.CaseLaws.{false_is_true}
 use Rattle.sl_words.specs.Orders.{rising}
 use Rattle.sl_words.specs.Words.{is_empty, same_truth, some_is}
-use Rattle.std.proofs.Common.{ap, refl, sym, ◌∙◌}
+use Rattle.sl_words.proofs.WordLaws.{and_true}
+use Rattle.std.proofs.Common.{ap, arith, refl, suc, sym, zero, ◌∙◌}
+use Rattle.std.proofs.lemmas.Bool.Decides.{nat_tests}
+use Rattle.std.proofs.lemmas.Bool.{leb-true}
+use Rattle.sl_trace.specs.declared.reply.Evidence.TheVariants.{Newer}
+use Rattle.sl_trace.specs.declared.reply.Evidence.{Evidence}
+use Rattle.std.specs.Int.{is_in_range}
 use Rattle.std.proofs.Math.Path.{fun_ext}
-use Rattle.std.specs.List.{list_any, range_with_len}
-use Rattle.std.specs.Prelude.{Bool, List, None, Option, Some, bytes_eq, false, filter, find, is_none, is_some, map, nat_lt, not, option_map, true, [], ℕ, ◌&&◌, ◌+◌, ◌==◌, ◌∷◌, ◌≡◌, ◌||◌}
+use Rattle.std.specs.List.{cons_option, list_any, range_with_len}
+use Rattle.std.specs.Prelude.{Bool, List, None, Option, Some, bytes_eq, cond, false, filter, find, is_none, is_some, map, nat_le, nat_lt, not, option_map, true, [], ℕ, ◌&&◌, ◌+◌, ◌<◌, ◌==◌, ◌∷◌, ◌≡◌, ◌≤◌, ◌||◌}
 
 some_mapped : {A B : Type 0} (f : A → B) (o : Option A) → is_some (option_map f o) ≡ is_some o
 some_mapped f None = refl
@@ -52,8 +64,15 @@ empty_is (x ∷ xs) = refl
 kept_range : (p q : ℕ → Bool) (a n : ℕ) → ((i : ℕ) → a ≤ i → i < a + n → p i ≡ q i) → filter p (range_with_len a n) ≡ filter q (range_with_len a n)
 kept_range p q a zero are = refl
 kept_range p q a (suc n) are =
-    ap (λ b. elim b as (λ z. List ℕ) [ true ↦ a ∷ filter p (range_with_len (a + 1) n) | false ↦ filter p (range_with_len (a + 1) n) ]) (are a (omega arith) (omega arith))
-    ∙ ap (λ ys. elim (q a) as (λ z. List ℕ) [ true ↦ a ∷ ys | false ↦ ys ]) (kept_range p q (a + 1) n (λ i one most. are i (omega (arith, one)) (omega (arith, most))))
+    ap (λ b. cond b (a ∷ filter p (range_with_len (a + 1) n)) (filter p (range_with_len (a + 1) n))) (are a (omega arith) (omega arith))
+    ∙ ap (λ ys. cond (q a) (a ∷ ys) ys) (kept_range p q (a + 1) n (λ i one most. are i (omega (arith, one)) (omega (arith, most))))
+
+-- Nothing that was seen is no evidence.
+no_reason : (g : ℕ) → elim (nat_lt g 0) as (λ z. Option Evidence) [ true ↦ Some (Newer 0) | false ↦ None ] ≡ None
+no_reason g = by (nat_lt g 0) (grind (arith, nat_tests)) where
+  by : (b : Bool) → b ≡ false → elim b as (λ z. Option Evidence) [ true ↦ Some (Newer 0) | false ↦ None ] ≡ None
+  by false is = refl
+  by true is = absurd cc
 
 -- Where no record was seen there is no run.
 no_run : (g : Layout) (id : ℕ) (ss : List Sighting) → seen_records g id ss ≡ [] → current_run g id ss ≡ None
@@ -136,6 +155,7 @@ module _ (i : Input) (h : HostState) (x : Step) (k : ℕ) (m : MemberState) (at_
     by false is =
         let none : seen_records x.setting.layout j ss ≡ [] = stands.seen.beyond j (ap (λ n. is_in_range 1 n j) hosts ∙ is) in
         ap (λ ds. evidence_of x.setting.timing g ds (current_run x.setting.layout j ss)) none ∙ ap (evidence_of x.setting.timing g []) (no_run x.setting.layout j ss none)
+        ∙ no_reason g
 
   over : (j g : ℕ) → counts_over x.setting (seen x) m.who j g ≡ over_in m j g
   over j g =
