@@ -1,0 +1,4 @@
+pub mod PassesFollow
+pub mod EarlyParts
+pub mod Alone
+pub mod BeginningsFollow

@@ -5,3 +5,5 @@ pub mod Answers
 pub mod Inputs
 pub mod Wakes
 pub mod Stepping
+pub mod Sound
+pub mod Beginnings
