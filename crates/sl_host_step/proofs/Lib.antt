@@ -2,3 +2,4 @@ pub mod PassesFollow
 pub mod EarlyParts
 pub mod Alone
 pub mod BeginningsFollow
+pub mod EndingsFollow

@@ -7,3 +7,4 @@ pub mod Wakes
 pub mod Stepping
 pub mod Sound
 pub mod Beginnings
+pub mod Endings

@@ -1,9 +1,11 @@
 -- What a host keeps beside what its steps ask: its invariants of its own.
 use Rattle.sl_host_plain.specs.AtInput.{IsAtInput}
-use Rattle.sl_host_state.specs.Kept.{HostState}
+use Rattle.sl_host_state.specs.Kept.{HostState, MemberState}
 use Rattle.sl_host_state.specs.Passes.{whos}
+use Rattle.sl_host_state.specs.Stands.{is_kept_of}
+use Rattle.sl_host_state.specs.declared.kept.OpenCall.{OpenCall}
 use Rattle.sl_sessions.specs.declared.session.Session.{Session}
-use Rattle.std.specs.Prelude.{Contains, [], ◌≡◌}
+use Rattle.std.specs.Prelude.{Contains, Some, true, [], ℕ, ◌==◌, ◌≡◌}
 
 -- No two members have one lockspace.
 abbrev pub NamesApart : HostState → Type 0
@@ -14,3 +16,13 @@ pub record IsEarly (h : HostState) : Type 0 where
   pub at : IsAtInput h
   pub grants : h.made.grants ≡ []
   pub names : NamesApart h
+
+-- The calls of a leaving's job are its session's, and no two members leave for one job.
+pub record LeavingsOwn (h : HostState) : Type 0 where
+  pub calls : (m : MemberState) (c : OpenCall) (j : ℕ) → Contains h.members m → Contains h.unanswered c → m.known.leaving ≡ Some j → is_kept_of j c ≡ true → (c.session == m.who.number) ≡ true
+  pub apart : (m n : MemberState) (j : ℕ) → Contains h.members m → Contains h.members n → m.known.leaving ≡ Some j → n.known.leaving ≡ Some j → m.who ≡ n.who
+
+-- What lasts to a step's end.
+pub record IsLasting (h : HostState) : Type 0 where
+  pub names : NamesApart h
+  pub leavings : LeavingsOwn h

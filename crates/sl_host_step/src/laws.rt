@@ -1,9 +1,15 @@
 //! A step as a function of states follows what is due, part by part.
 
 ghost use Rattle.sl_host_step.specs.Beginnings.{BeginningsFollow};
+ghost use Rattle.sl_host_step.specs.Endings.{EndingsFollow};
 
 /// A host that stands for the steps so far, and whose members have names of their own, has at the next step's input done what is due before
 /// it.
 pub fn beginnings_follow()
     ensures { BeginningsFollow }
+{}
+
+/// Renewals on a wake, and what comes last in a step, follow what is due.
+pub fn endings_follow()
+    ensures { EndingsFollow }
 {}
