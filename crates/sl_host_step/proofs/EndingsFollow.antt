@@ -2,7 +2,6 @@
 use Rattle.sl_acts.proofs.LoopsKeep.{when_keeps}
 use Rattle.sl_acts.proofs.SessionsStay.{Stays, delta_stays, removal_stays}
 use Rattle.sl_acts.specs.Acts.{Has}
-use Rattle.sl_area.specs.Layouts.{Layout}
 use Rattle.sl_area.specs.Places.{delta_offset}
 use Rattle.sl_call_law.specs.Calls.{is_idle_job, is_leaving_alone}
 use Rattle.sl_decide_law.specs.Deciding.{held_of}
@@ -12,23 +11,23 @@ use Rattle.sl_due.specs.DueRequests.{bits_due}
 use Rattle.sl_due.specs.DueWake.{end_if_done, finish, finish_session, free_if_done, renew_on_wake}
 use Rattle.sl_due.specs.Steps.{Step, seen, when}
 use Rattle.sl_host_plain.proofs.MembersAreSessions.{numbers_are_apart}
-use Rattle.sl_host_plain.proofs.PlainLists.{in_either, one_there}
+use Rattle.sl_host_plain.proofs.PlainLists.{one_there}
 use Rattle.sl_host_state.specs.Kept.{HostState, MemberState}
-use Rattle.sl_host_state.specs.Makes.{calling, has_write_open, is_ended_by_move, joining_calling, known_calling, leases_calling, member_calling, next_submitted, with_move}
-use Rattle.sl_host_state.specs.Stands.{Stands, is_kept_of, kept_call}
+use Rattle.sl_host_state.specs.Makes.{has_write_open, next_submitted}
+use Rattle.sl_host_state.specs.Stands.{Stands, is_kept_of}
 use Rattle.sl_host_state.specs.declared.kept.OpenCall.{OpenCall}
 use Rattle.sl_host_step.proofs.Alone.{same_name}
-use Rattle.sl_host_step.proofs.EarlyParts.{was_there}
+use Rattle.sl_host_step.proofs.SoundParts.{sound_call, sound_removing}
 use Rattle.sl_host_step.proofs.PassesFollow.{IsPass, Passed, all}
 use Rattle.sl_host_step.specs.Endings.{EndingsFollow}
 use Rattle.sl_host_step.specs.Passes.{for_members}
-use Rattle.sl_host_step.specs.Sound.{IsLasting, LeavingsOwn, NamesApart}
+use Rattle.sl_host_step.specs.Sound.{IsSound, LeavingsOwn, NamesApart}
 use Rattle.sl_part_law.proofs.EndsAreTaken.{ends_are_taken}
 use Rattle.sl_part_law.proofs.GoneDoNothing.{gone_do_nothing}
 use Rattle.sl_part_law.proofs.MembersWake.{members_wake}
 use Rattle.sl_part_law.specs.Ends.{FreesAlone, ending_in, finishing, freeing_for, freeing_in, removing, renewing_in, writing_own}
 use Rattle.sl_part_law.specs.Wakes.{delta_in}
-use Rattle.sl_plain.proofs.Lists.{any_found, any_of, contains_cases, contains_map, contains_none, got_inside, in_map, kept_inside}
+use Rattle.sl_plain.proofs.Lists.{any_found, any_of, got_inside}
 use Rattle.sl_question_law.specs.Members.{IsMemberAt, has_call_open}
 use Rattle.sl_reply_law.specs.Moves.{EndsBegun}
 use Rattle.sl_sector.specs.Bitmaps.{no_bits}
@@ -39,7 +38,6 @@ use Rattle.sl_sessions.specs.Deltas.{delta_known, delta_of_session, delta_record
 use Rattle.sl_sessions.specs.Sessions.{calls_of, has_open_write, holdings_of, is_joined, open_calls_of, recovery_of}
 use Rattle.sl_sessions.specs.declared.session.Begun.{Begun}
 use Rattle.sl_sessions.specs.declared.session.Session.{Session}
-use Rattle.sl_trace.specs.Traces.{Submitted}
 use Rattle.sl_trace.specs.declared.effects.Move.TheVariants.{Unregister}
 use Rattle.sl_trace.specs.declared.effects.Op.TheVariants.{WriteRecord}
 use Rattle.sl_trace.specs.declared.effects.Purpose.TheVariants.{Leaving}
@@ -47,10 +45,10 @@ use Rattle.sl_trace.specs.declared.input.Input.{Input}
 use Rattle.sl_words.proofs.CaseLaws.{is_false, true_is_false}
 use Rattle.sl_words.proofs.WordLaws.{and_true}
 use Rattle.sl_words.specs.Words.{is_empty, some_is}
-use Rattle.std.proofs.Common.{ap, inl, inr, refl, subst, sym, ◌∙◌}
+use Rattle.std.proofs.Common.{ap, refl, subst, sym, ◌∙◌}
 use Rattle.std.proofs.lemmas.Bool.Decides.{Decides-eqb}
 use Rattle.std.specs.List.{list_any}
-use Rattle.std.specs.Prelude.{Bool, Contains, IsTrue, List, None, Option, Some, bytes_eq, cond, false, filter, is_some, map, not, slice_get, true, [], ℕ, ◌+◌, ◌&&◌, ◌==◌, ◌∷◌, ◌≡◌, ◌⊎◌, ◌||◌}
+use Rattle.std.specs.Prelude.{Bool, Contains, IsTrue, List, None, Option, Some, bytes_eq, cond, false, is_some, not, slice_get, true, ℕ, ◌+◌, ◌&&◌, ◌==◌, ◌≡◌, ◌||◌}
 
 -- ---- renewals
 
@@ -103,7 +101,7 @@ frees_alone i h x k m at own none j leaves freed =
       or_right true b is = refl
       or_right false b is = is
 
-ended : (i : Input) (h : HostState) (x : Step) (k : ℕ) (m : MemberState) → IsLasting h → IsMemberAt i h x k m → Stands i (finishing m h) (finish_session m.who x)
+ended : (i : Input) (h : HostState) (x : Step) (k : ℕ) (m : MemberState) → IsSound h → IsMemberAt i h x k m → Stands i (finishing m h) (finish_session m.who x)
 ended i h x k m p at = subst (λ y. Stands i (finishing m h) y) (sym (members_wake i h x k m at).finish) (by m.joined) where
   frees : (b : Bool) → (is_empty (held_of h m) && not (has_call_open h m.who.number)) ≡ b → Stands i (freeing_in m h) (free_if_done m.who x)
   frees true is =
@@ -125,96 +123,34 @@ ended i h x k m p at = subst (λ y. Stands i (finishing m h) y) (sym (members_wa
 
 -- ---- what lasts
 
-removing_lasts : (name : List ℕ) (h : HostState) → IsLasting h → IsLasting (removing name h)
-removing_lasts name h p = by (list_any (λ n. bytes_eq n name) h.connected) where
-  old : (m : MemberState) → Contains (filter (λ m. not (is_ended_by_move (Unregister name) m)) h.members) m → Contains h.members m
-  old m there = (kept_inside (λ (m : MemberState). not (is_ended_by_move (Unregister name) m)) h.members m there).0
-
-  by : (b : Bool) → IsLasting (cond b (with_move (Unregister name) h) h)
-  by true =
-      record {
-        names = λ s t a b. p.names s t (was_there h (Unregister name) s a) (was_there h (Unregister name) t b);
-        leavings = record {
-          calls = λ m c j there inside leaves of. p.leavings.calls m c j (old m there) inside leaves of;
-          apart = λ m n j a b is it. p.leavings.apart m n j (old m a) (old n b) is it;
-        };
-      }
-  by false = p
-
--- Whose member it was before a call.
-called_from : (g : Layout) (c : Submitted) (m : MemberState) → ((member_calling g c m).who ≡ m.who) × ((member_calling g c m).known.leaving ≡ m.known.leaving)
-called_from g c m = by (c.call.session == m.who.number) where
-  by : (b : Bool) → ((cond b (record m {
-    known = known_calling c m.known;
-    joining = joining_calling c m.joining;
-    leases = leases_calling g c m.leases;
-  }) m).who ≡ m.who) × ((cond b (record m {
-    known = known_calling c m.known;
-    joining = joining_calling c m.joining;
-    leases = leases_calling g c m.leases;
-  }) m).known.leaving ≡ m.known.leaving)
-  by true = (refl, refl)
-  by false = (refl, refl)
-
--- A call of a member, for its own leaving or for no leaving's job.
-pub call_lasts : (h : HostState) (c : Submitted) → IsLasting h
-    → ((m : MemberState) (j : ℕ) → Contains h.members m → m.known.leaving ≡ Some j → is_kept_of j (kept_call c) ≡ true → (c.call.session == m.who.number) ≡ true) → IsLasting (calling c h)
-call_lasts h c p new =
-    record {
-      names = λ s t a b. p.names s t (whose s a) (whose t b);
-      leavings = record {
-        calls = λ m d j there inside leaves of. (let z = from m there in
-            subst (λ n. (d.session == n) ≡ true) (ap (λ (t : Session). t.number) z.2) (own z.0 d j z.1 (in_either h.unanswered (kept_call c ∷ []) d inside) (z.3 ∙ leaves) of));
-        apart = λ m n j a b is it. (let y = from m a in let z = from n b in sym y.2 ∙ p.leavings.apart y.0 z.0 j y.1 z.1 (y.3 ∙ is) (z.3 ∙ it) ∙ z.2);
-      };
-    } where
-      g : Layout
-      g = h.config.layout
-
-      from : (m : MemberState) → Contains (map (member_calling h.config.layout c) h.members) m → (z : MemberState) × Contains h.members z × (z.who ≡ m.who) × (z.known.leaving ≡ m.known.leaving)
-      from m there =
-          let z = in_map (member_calling h.config.layout c) h.members m there in
-          (z.0, z.1, sym (called_from h.config.layout c z.0).0 ∙ ap (λ (y : MemberState). y.who) z.2, sym (called_from h.config.layout c z.0).1 ∙ ap (λ (y : MemberState). y.known.leaving) z.2)
-
-      whose : (s : Session) → Contains (map (λ (m : MemberState). m.who) (map (member_calling h.config.layout c) h.members)) s → Contains (map (λ (m : MemberState). m.who) h.members) s
-      whose s there =
-          let m = in_map (λ (m : MemberState). m.who) (map (member_calling h.config.layout c) h.members) s there in
-          let z = from m.0 m.1 in
-          subst (Contains (map (λ (m : MemberState). m.who) h.members)) (z.2 ∙ m.2) (contains_map (λ (m : MemberState). m.who) h.members z.0 z.1)
-
-      own : (z : MemberState) (d : OpenCall) (j : ℕ) → Contains h.members z → Contains h.unanswered d ⊎ Contains (kept_call c ∷ []) d → z.known.leaving ≡ Some j → is_kept_of j d ≡ true → (d.session == z.who.number) ≡ true
-      own z d j there (inl old) leaves of = p.leavings.calls z d j there old leaves of
-      own z d j there (inr last) leaves of =
-          elim (contains_cases (kept_call c) [] d last) [
-            | inl is ↦ subst (λ (e : OpenCall). (e.session == z.who.number) ≡ true) is (new z j there leaves (subst (λ e. is_kept_of j e ≡ true) (sym is) of))
-            | inr nothing ↦ absurd (contains_none d nothing)
-          ]
-
-finishing_lasts : (i : Input) (h : HostState) (x : Step) (k : ℕ) (m : MemberState) → IsLasting h → IsMemberAt i h x k m → IsLasting (finishing m h)
+finishing_lasts : (i : Input) (h : HostState) (x : Step) (k : ℕ) (m : MemberState) → IsSound h → IsMemberAt i h x k m → IsSound (finishing m h)
 finishing_lasts i h x k m p at = by m.joined (is_some m.renewing.recovery) where
-  written : (j : ℕ) (d : DeltaRec) → m.known.leaving ≡ Some j → IsLasting (writing_own m (Leaving j) d h)
+  written : (j : ℕ) (d : DeltaRec) → m.known.leaving ≡ Some j → IsSound (writing_own m (Leaving j) d h)
   written j d leaves =
-      call_lasts h (next_submitted h m.who.number m.who.path (Leaving j) (delta_offset h.config.layout m.who.offset m.who.id) (WriteRecord (DeltaIs d))) p
-      (λ z n there is of.
-      (let same : j ≡ n = (Decides-eqb j n).0 of in
-      (Decides-eqb m.who.number z.who.number).1 (ap (λ (t : Session). t.number) (p.leavings.apart m z n (got_inside h.members k m at.there) there (leaves ∙ ap (λ y. Some y) same) is))))
+      sound_call h (next_submitted h m.who.number m.who.path (Leaving j) (delta_offset h.config.layout m.who.offset m.who.id) (WriteRecord (DeltaIs d)))
+      (record {
+        leaving = λ z n there is of.
+            (let same : j ≡ n = (Decides-eqb j n).0 of in
+            (Decides-eqb m.who.number z.who.number).1 (ap (λ (t : Session). t.number) (p.leavings.apart m z n (got_inside h.members k m at.there) there (leaves ∙ ap (λ y. Some y) same) is)));
+        joining = λ z n there is of. absurd (p.leavings.others z m n there (got_inside h.members k m at.there) is (leaves ∙ ap (λ y. Some y) ((Decides-eqb j n).0 of)));
+      }) p
 
-  freed : (o : Option ℕ) → m.known.leaving ≡ o → (b : Bool) → IsLasting (freeing_for m o h)
+  freed : (o : Option ℕ) → m.known.leaving ≡ o → (b : Bool) → IsSound (freeing_for m o h)
   freed None is b = p
   freed (Some j) is b = unless m.known.freed where
-    unless : (b : Bool) → IsLasting (cond b h (writing_own m (Leaving j) (delta_record (delta_in h m) Free m.known.generation (m.known.seq + 1) h.reading no_bits) h))
+    unless : (b : Bool) → IsSound (cond b h (writing_own m (Leaving j) (delta_record (delta_in h m) Free m.known.generation (m.known.seq + 1) h.reading no_bits) h))
     unless true = p
     unless false = written j (delta_record (delta_in h m) Free m.known.generation (m.known.seq + 1) h.reading no_bits) is
 
-  frees : (b : Bool) → IsLasting (cond b (freeing_for m m.known.leaving h) h)
+  frees : (b : Bool) → IsSound (cond b (freeing_for m m.known.leaving h) h)
   frees true = freed m.known.leaving refl true
   frees false = p
 
-  ends : (b : Bool) → IsLasting (cond b (removing m.who.lockspace h) h)
-  ends true = removing_lasts m.who.lockspace h p
+  ends : (b : Bool) → IsSound (cond b (removing m.who.lockspace h) h)
+  ends true = sound_removing m.who.lockspace h p
   ends false = p
 
-  by : (a b : Bool) → IsLasting (cond a (cond b (ending_in m h) (freeing_in m h)) h)
+  by : (a b : Bool) → IsSound (cond a (cond b (ending_in m h) (freeing_in m h)) h)
   by true true = ends (is_empty (held_of h m) && not (has_write_open h m.who.number))
   by true false = frees (is_empty (held_of h m) && not (has_call_open h m.who.number))
   by false b = p
@@ -238,7 +174,7 @@ finish_stays x y s has is = when_keeps (Stays x) (is_joined (seen y) s) (λ z. e
   by true k = end_stays x y s k
   by false k = free_stays x y s k
 
-finishes : (i : Input) → IsPass i IsLasting finishing finish_session
+finishes : (i : Input) → IsPass i IsSound finishing finish_session
 finishes i =
     record {
       takes = λ h x k m p at. ended i h x k m p at;
@@ -247,14 +183,14 @@ finishes i =
       stays = finish_stays;
     }
 
-pub finished : (i : Input) (h : HostState) (x : Step) → IsLasting h → Stands i h x → Passed i IsLasting (for_members finishing h) (finish x)
+pub finished : (i : Input) (h : HostState) (x : Step) → IsSound h → Stands i h x → Passed i IsSound (for_members finishing h) (finish x)
 unfolding finish
-finished i h x p s = all i IsLasting finishing finish_session (finishes i) h x (record { stands = s; kept = p })
+finished i h x p s = all i IsSound finishing finish_session (finishes i) h x (record { stands = s; kept = p })
 
 pub endings_follow : EndingsFollow
 endings_follow =
     record {
       renewals = λ i h x s. (all i Anything renewing_in renew_on_wake (renews i) h x (record { stands = s; kept = tt })).stands;
       finish = λ i h x p s. (finished i h x p s).stands;
-      lasting = λ i h x p s. (finished i h x p s).kept;
+      sound = λ i h x p s. (finished i h x p s).kept;
     }

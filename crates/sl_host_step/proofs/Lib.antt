@@ -1,5 +1,6 @@
 pub mod PassesFollow
 pub mod EarlyParts
+pub mod SoundParts
 pub mod Alone
 pub mod BeginningsFollow
 pub mod EndingsFollow

@@ -4,12 +4,12 @@ use Rattle.sl_due.specs.Steps.{Step}
 use Rattle.sl_host_state.specs.Kept.{HostState}
 use Rattle.sl_host_state.specs.Stands.{Stands}
 use Rattle.sl_host_step.specs.Passes.{for_members}
-use Rattle.sl_host_step.specs.Sound.{IsLasting}
+use Rattle.sl_host_step.specs.Sound.{IsSound}
 use Rattle.sl_part_law.specs.Ends.{finishing, renewing_in}
 use Rattle.sl_trace.specs.declared.input.Input.{Input}
 
 -- The state follows the step.
 pub record EndingsFollow : Type 0 where
   pub renewals : (i : Input) (h : HostState) (x : Step) → Stands i h x → Stands i (for_members renewing_in h) (for_sessions renew_on_wake x)
-  pub finish : (i : Input) (h : HostState) (x : Step) → IsLasting h → Stands i h x → Stands i (for_members finishing h) (finish x)
-  pub lasting : (i : Input) (h : HostState) (x : Step) → IsLasting h → Stands i h x → IsLasting (for_members finishing h)
+  pub finish : (i : Input) (h : HostState) (x : Step) → IsSound h → Stands i h x → Stands i (for_members finishing h) (finish x)
+  pub sound : (i : Input) (h : HostState) (x : Step) → IsSound h → Stands i h x → IsSound (for_members finishing h)
