@@ -3,4 +3,5 @@ pub mod EarlyParts
 pub mod SoundParts
 pub mod Alone
 pub mod BeginningsFollow
+pub mod JoiningsWake
 pub mod EndingsFollow

@@ -8,3 +8,4 @@ pub mod Stepping
 pub mod Sound
 pub mod Beginnings
 pub mod Endings
+pub mod Waking
