@@ -3,5 +3,7 @@ pub mod EarlyParts
 pub mod SoundParts
 pub mod Alone
 pub mod BeginningsFollow
+pub mod LeasesAreKnown
+pub mod AreasLie
 pub mod JoiningsWake
 pub mod EndingsFollow
