@@ -8,22 +8,19 @@ use Rattle.sl_host_state.specs.Kept.{Config, HostState, MemberState}
 use Rattle.sl_host_state.specs.New.{sizes_in}
 use Rattle.sl_host_state.specs.Passes.{whos}
 use Rattle.sl_host_step.specs.Sound.{IsLaidOut}
-use Rattle.sl_leases.specs.Leases.{spots_in}
-use Rattle.sl_plain.proofs.Lists.{contains_map, got_inside}
 use Rattle.sl_question_law.specs.Members.{IsMemberAt}
 use Rattle.sl_sessions.specs.Sessions.{calls_of}
-use Rattle.sl_trace.specs.Traces.{Submitted}
 use Rattle.sl_trace.specs.declared.effects.LeaseStep.TheVariants.{ClearMode, FreeLeader, Phase1Read, Phase1Write, Phase2Read, Phase2Write, ReadArea, ReadBeforeFree, SetMode, TakeLeader}
 use Rattle.sl_trace.specs.declared.effects.LeaseStep.{LeaseStep}
 use Rattle.sl_trace.specs.declared.effects.Spot.{Spot}
 use Rattle.sl_trace.specs.declared.input.Input.{Input}
 use Rattle.sl_words.proofs.WordLaws.{and_true, or_true}
-use Rattle.std.proofs.Common.{ap, arith, inl, inr, refl, subst, sym, ◌∙◌}
+use Rattle.std.proofs.Common.{ap, arith, inl, inr, subst, sym, ◌∙◌}
 use Rattle.std.proofs.Math.Nat.{div-add-mod', mul-mod_left}
 use Rattle.std.proofs.lemmas.Bool.{eqb-true, leb-true}
 use Rattle.std.proofs.lemmas.Nat.{mod-mul-add}
 use Rattle.std.specs.Int.{is_in_range}
-use Rattle.std.specs.Prelude.{Bool, Contains, List, false, map, nat_le, true, ℕ, ◌%◌, ◌&&◌, ◌*◌, ◌+◌, ◌-◌, ◌/◌, ◌<◌, ◌==◌, ◌≡◌, ◌≤◌, ◌||◌}
+use Rattle.std.specs.Prelude.{Contains, map, nat_le, true, ℕ, ◌%◌, ◌&&◌, ◌*◌, ◌+◌, ◌-◌, ◌/◌, ◌<◌, ◌==◌, ◌≡◌, ◌≤◌}
 
 -- ---- room
 

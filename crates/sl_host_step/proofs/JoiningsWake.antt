@@ -5,7 +5,7 @@ use Rattle.sl_acts.specs.Acts.{Has}
 use Rattle.sl_answer_law.proofs.WakingsFollow.{IsTimeDecision, time_decides, wakings_follow}
 use Rattle.sl_answer_law.specs.Carrying.{carrying, own_sector, reading_own, registering}
 use Rattle.sl_answer_law.specs.Refusing.{refusing}
-use Rattle.sl_answer_law.specs.Wakings.{IsIdle, joining_by_time}
+use Rattle.sl_answer_law.specs.Wakings.{joining_by_time}
 use Rattle.sl_call_law.specs.Calls.{is_idle_job}
 use Rattle.sl_due.specs.DueDelta.{carry_delta}
 use Rattle.sl_due.specs.DueWake.{join_on_wake}
@@ -14,31 +14,31 @@ use Rattle.sl_host_plain.proofs.IdleJobs.{open_of_job}
 use Rattle.sl_host_plain.proofs.KeptJobs.{running_there}
 use Rattle.sl_host_plain.proofs.PlainLists.{each_of, none_any}
 use Rattle.sl_host_state.specs.Kept.{HostState, MemberState}
-use Rattle.sl_host_state.specs.Makes.{has_write_open, next_submitted, with_call, with_move, with_reply}
+use Rattle.sl_host_state.specs.Makes.{has_write_open, next_submitted, with_call, with_reply}
 use Rattle.sl_host_state.specs.Stands.{AreInTurn, MemberStands, Stands, is_kept_of, kept_job, kept_waiting, newest_of}
 use Rattle.sl_host_state.specs.declared.kept.JobState.{JobState}
 use Rattle.sl_host_state.specs.declared.kept.JoinCall.{JoinCall}
 use Rattle.sl_host_state.specs.declared.kept.OpenCall.{OpenCall}
 use Rattle.sl_host_step.proofs.Alone.{alone, not_joined}
 use Rattle.sl_host_step.proofs.PassesFollow.{IsPass}
-use Rattle.sl_host_step.proofs.SoundParts.{Was, cut_move, sound_call, sound_move, sound_removing, sound_reply}
+use Rattle.sl_host_step.proofs.SoundParts.{Was, sound_call, sound_move, sound_removing, sound_reply}
 use Rattle.sl_host_step.specs.Sound.{IsSound, JoiningsOwn}
 use Rattle.sl_part_law.proofs.GoneDoNothing.{gone_do_nothing}
 use Rattle.sl_part_law.specs.Ends.{removing}
 use Rattle.sl_part_law.specs.Wakes.{delta_in, next_by_newest}
-use Rattle.sl_plain.proofs.Lists.{any_found, any_of, contains_cases, contains_none, find_inside, got_inside, in_map, kept, kept_inside}
+use Rattle.sl_plain.proofs.Lists.{any_found, any_of, contains_cases, find_inside, got_inside, in_map, kept, kept_inside}
 use Rattle.sl_plain.proofs.Options.{none_is}
 use Rattle.sl_question_law.specs.Jobs.{joining_in, running_in}
 use Rattle.sl_question_law.specs.Members.{IsMemberAt}
 use Rattle.sl_reply_law.proofs.OpenCallsAreKept.{open_delta_is}
 use Rattle.sl_sessions.specs.Deltas.{DeltaLease, delta_of_session, join_step_of, next_by_time, next_on_wake}
-use Rattle.sl_sessions.specs.Sessions.{calls_of, has_open_delta, is_delta_purpose, is_join_done, open_calls_of, refused_after}
+use Rattle.sl_sessions.specs.Sessions.{calls_of, has_open_delta, is_delta_purpose, is_join_done, open_calls_of}
 use Rattle.sl_sessions.specs.declared.delta.DeltaKnown.{DeltaKnown}
 use Rattle.sl_sessions.specs.declared.delta.DeltaNext.TheVariants.{Disconnect, EndLeaving, Join, MoveConnection, Nothing, ReadOwn, RefuseJoin, RegisterAndRead, WriteClaim, WriteFirst, WriteFree, WriteRenewal}
 use Rattle.sl_sessions.specs.declared.delta.DeltaNext.{DeltaNext}
 use Rattle.sl_sessions.specs.declared.session.Session.{Session}
 use Rattle.sl_time.specs.Times.{fail}
-use Rattle.sl_trace.specs.Traces.{Answered, Job, Replied, Setting, Submitted, Trace, is_of_job, is_running, outstanding, reply_to, running_jobs, waiting_call}
+use Rattle.sl_trace.specs.Traces.{Answered, Replied, Setting, Submitted, Trace, is_of_job, is_running, outstanding, reply_to, running_jobs, waiting_call}
 use Rattle.sl_trace.specs.declared.effects.JoinStep.{JoinStep}
 use Rattle.sl_trace.specs.declared.effects.Move.TheVariants.{Register}
 use Rattle.sl_trace.specs.declared.effects.Op.TheVariants.{ReadSectors}
@@ -48,12 +48,11 @@ use Rattle.sl_trace.specs.declared.input.Input.TheVariants.{Wake}
 use Rattle.sl_trace.specs.declared.input.Input.{Input}
 use Rattle.sl_trace.specs.declared.reply.Reply.{Reply}
 use Rattle.sl_words.proofs.CaseLaws.{is_false, none_some, some_value, true_is_false}
-use Rattle.sl_words.proofs.WordLaws.{and_true}
 use Rattle.sl_words.specs.Words.{choose}
 use Rattle.std.proofs.Common.{ap, inl, inr, refl, subst, sym, ◌∙◌}
 use Rattle.std.proofs.lemmas.Bool.Decides.{Decides-eqb}
 use Rattle.std.specs.List.{AllByRecursion, list_any}
-use Rattle.std.specs.Prelude.{Bool, Contains, IsTrue, List, None, Option, Some, cond, false, filter, find, is_none, is_some, map, not, option_and_then, option_map, slice_get, true, [], ℕ, ◌+◌, ◌&&◌, ◌==◌, ◌∷◌, ◌≡◌, ◌⊎◌}
+use Rattle.std.specs.Prelude.{Bool, Contains, IsTrue, List, None, Option, Some, cond, false, filter, find, is_none, is_some, not, option_and_then, option_map, slice_get, true, [], ℕ, ◌+◌, ◌&&◌, ◌==◌, ◌∷◌, ◌≡◌}
 
 -- ---- the newest call is answered, so all are
 
@@ -168,10 +167,12 @@ joining_call h m j step path offset sectors p was job =
     sound_call h (next_submitted h m.who.number path (Joining j step) offset (ReadSectors sectors))
     (record {
       leaving = λ z n there leaves of. absurd (p.leavings.others was.old z n was.there there (ap (λ (t : Session). t.job) was.who ∙ job ∙ ap (λ y. Some y) ((Decides-eqb j n).0 of)) leaves);
-      joining = λ z n there is of.
-          ((Decides-eqb m.who.number z.who.number).1
-          (ap (λ (t : Session). t.number)
-          (sym was.who ∙ p.joinings.apart was.old z n was.there there (ap (λ (t : Session). t.job) was.who ∙ job ∙ ap (λ y. Some y) ((Decides-eqb j n).0 of)) is)), refl);
+      joining = λ z n there is of. (
+        (Decides-eqb m.who.number z.who.number).1
+            (ap (λ (t : Session). t.number)
+            (sym was.who ∙ p.joinings.apart was.old z n was.there there (ap (λ (t : Session). t.job) was.who ∙ job ∙ ap (λ y. Some y) ((Decides-eqb j n).0 of)) is)),
+        refl,
+      );
     }) p
 
 refusing_sound : (n : ℕ) (r : Reply) (h : HostState) → IsSound h → IsSound (refusing n r h)

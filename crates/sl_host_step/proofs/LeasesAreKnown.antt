@@ -1,5 +1,5 @@
 -- What is known of a lease by its calls is what is kept of it; and where no sectors are in hand the greatest number that is kept is enough.
-use Rattle.sl_area.specs.Layouts.{Layout, layout_of}
+use Rattle.sl_area.specs.Layouts.{Layout}
 use Rattle.sl_call_law.proofs.Calls.SpotsMore.{one_spot}
 use Rattle.sl_due.specs.Steps.{Step, seen}
 use Rattle.sl_host_plain.proofs.PlainLists.{at_some}
@@ -8,18 +8,16 @@ use Rattle.sl_host_state.specs.Makes.{is_lease_on, new_lease}
 use Rattle.sl_host_state.specs.New.{IsOfProgram, sizes_in}
 use Rattle.sl_host_state.specs.Stands.{LeaseStands, top_mbal}
 use Rattle.sl_host_state.specs.declared.kept.TopNumber.{TopNumber}
-use Rattle.sl_host_step.specs.Leases.{converting_next, kept_blocks, known_at, known_by, lease_at, releasing_next, settling_next, top_block}
+use Rattle.sl_host_step.specs.Leases.{converting_next, kept_blocks, known_at, known_by, lease_at, settling_next, top_block}
 use Rattle.sl_lease.proofs.NextLaws.{begins_again}
 use Rattle.sl_lease.specs.Asked.{TopStands, begin_above}
-use Rattle.sl_lease.specs.Side.{known_with, place_of}
 use Rattle.sl_lease.specs.declared.evidence.Held.{Held}
 use Rattle.sl_lease.specs.declared.side.Side.{Side}
-use Rattle.sl_leases.specs.LeaseWork.{LeasePlace, begin_next, convert_next, release_next, settle_next, settle_owed}
-use Rattle.sl_leases.specs.Leases.{LeaseKnown, known_of, last_blocks, lease_calls, owed_free}
+use Rattle.sl_leases.specs.LeaseWork.{begin_next, convert_next, release_next, settle_next, settle_owed}
+use Rattle.sl_leases.specs.Leases.{LeaseKnown, last_blocks, lease_calls, owed_free}
 use Rattle.sl_leases.specs.declared.lease.Owed.TheVariants.{BallotOwed, FreeOwed, ModeOwed}
 use Rattle.sl_leases.specs.declared.lease.Owed.{Owed}
 use Rattle.sl_leases.specs.declared.lease.Aim.TheVariants.{Settles}
-use Rattle.sl_leases.specs.declared.lease.LeaseNext.{LeaseNext}
 use Rattle.sl_plain.proofs.Lists.{find_inside}
 use Rattle.sl_question_law.proofs.MembersAnswer.{members_answer}
 use Rattle.sl_question_law.specs.Answers.{known_in, place_in}
@@ -29,15 +27,13 @@ use Rattle.sl_sector.specs.declared.sector.Block.{Block}
 use Rattle.sl_sector.specs.declared.sector.Owner.{Owner}
 use Rattle.sl_sessions.specs.Sessions.{me}
 use Rattle.sl_trace.specs.Traces.{Submitted}
-use Rattle.sl_trace.specs.declared.effects.Grant.{Grant}
 use Rattle.sl_trace.specs.declared.effects.Mode.TheVariants.{Exclusive, Shared}
 use Rattle.sl_trace.specs.declared.effects.Mode.{Mode}
 use Rattle.sl_trace.specs.declared.effects.Spot.{Spot}
 use Rattle.sl_trace.specs.declared.input.Input.{Input}
-use Rattle.sl_words.proofs.CaseLaws.{some_value}
-use Rattle.sl_words.specs.Words.{greatest, present}
+use Rattle.sl_words.specs.Words.{greatest}
 use Rattle.std.proofs.Common.{ap, arith, eq-eqb, refl, subst, sym, ◌∙◌}
-use Rattle.std.specs.Prelude.{Bool, List, None, Option, Some, cond, false, find, is_some, map, max, not, option_map, slice_get, true, unwrap_or, [], ℕ, ◌&&◌, ◌==◌, ◌∷◌, ◌≡◌}
+use Rattle.std.specs.Prelude.{Bool, List, None, Option, Some, cond, false, find, is_some, map, max, not, option_map, true, unwrap_or, [], ℕ, ◌&&◌, ◌==◌, ◌∷◌, ◌≡◌}
 
 module _ (i : Input) (h : HostState) (x : Step) (k : ℕ) (m : MemberState) (at : IsMemberAt i h x k m) (area : Spot) (l : LeaseState) (its : find (is_lease_on area) m.leases ≡ Some l) where
   pub calls : List Submitted
@@ -104,7 +100,7 @@ module _ (i : Input) (h : HostState) (x : Step) (k : ℕ) (m : MemberState) (at 
       let own = own_there n ballot in
       let top = stands.opened n ballot in
       subst (λ (g : Layout). begin_next (record { layout = g; lockspace = m.who.lockspace }) (known_by h m area l one) Settles n
-          ≡ begin_next (record { layout = g; lockspace = m.who.lockspace }) (known_by h m area l other) Settles n) program
+      ≡ begin_next (record { layout = g; lockspace = m.who.lockspace }) (known_by h m area l other) Settles n) program
       (sym (begins_again side l held (over_in m) one n own.0 top.0 (begin_above side held Settles n own.0 top.0.mbal) own.1 top.1 a ballot refl)
       ∙ begins_again side l held (over_in m) other n own.0 top.0 (begin_above side held Settles n own.0 top.0.mbal) own.1 top.1 b ballot refl)
 

@@ -7,3 +7,4 @@ pub mod LeasesAreKnown
 pub mod AreasLie
 pub mod JoiningsWake
 pub mod EndingsFollow
+pub mod SettlingsWake

@@ -2,6 +2,7 @@
 
 ghost use Rattle.sl_host_step.specs.Beginnings.{BeginningsFollow};
 ghost use Rattle.sl_host_step.specs.Endings.{EndingsFollow};
+ghost use Rattle.sl_host_step.specs.Waking.{WakesFollow};
 
 /// A host that stands for the steps so far, and whose members have names of their own, has at the next step's input done what is due before
 /// it.
@@ -12,4 +13,9 @@ pub fn beginnings_follow()
 /// Renewals on a wake, and what comes last in a step, follow what is due.
 pub fn endings_follow()
     ensures { EndingsFollow }
+{}
+
+/// The three passes of a wake follow what is due, for a host that is sound, and leave it so.
+pub fn wakes_follow()
+    ensures { WakesFollow }
 {}
