@@ -51,7 +51,7 @@ has_room z k is most = elim (or_true _ _ is) [
 -- ---- what lies in an area
 
 -- An area's start is a multiple of its size.
-begins_at : (n d : ℕ) → (n - n % d) % d ≡ 0
+pub begins_at : (n d : ℕ) → (n - n % d) % d ≡ 0
 begins_at n d = let whole : n - n % d ≡ n / d * d = left (n / d * d) (n % d) n (div-add-mod' n d) in ap (λ k. k % d) whole ∙ mul-mod_left (n / d) d where
   left : (a b c : ℕ) → a + b ≡ c → c - b ≡ a
   left a b c is = omega (arith, is)

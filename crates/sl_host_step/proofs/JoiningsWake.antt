@@ -90,7 +90,7 @@ all_answered (c ∷ cs) n newest answered turn d there delta = by (join_step_of 
         | inr later ↦ each_of (λ m. IsTrue (is_some m.answer)) (filter (λ m. is_delta_purpose m.call.purpose) cs) d rest (kept (λ m. is_delta_purpose m.call.purpose) cs d delta later)
       ]
 
-not_refused : (st : Setting) (es : Trace) (m : MemberState) (n : ℕ) → MemberStands st es m → m.who.job ≡ Some n → is_running es n ≡ true → m.refused ≡ false
+pub not_refused : (st : Setting) (es : Trace) (m : MemberState) (n : ℕ) → MemberStands st es m → m.who.job ≡ Some n → is_running es n ≡ true → m.refused ≡ false
 not_refused st es m n stands job runs =
     sym stands.refused
     ∙ ap (λ o. is_some (elim o as (λ z. Option ℕ) [ None ↦ None | Some j ↦ option_and_then (λ a. choose (not (is_join_done a.reply)) (a.at + 1)) (reply_to es j) ])) job

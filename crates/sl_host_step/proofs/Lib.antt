@@ -8,3 +8,5 @@ pub mod AreasLie
 pub mod JoiningsWake
 pub mod EndingsFollow
 pub mod SettlingsWake
+pub mod JoiningDecides
+pub mod InputsFollow

@@ -9,3 +9,4 @@ pub mod Sound
 pub mod Beginnings
 pub mod Endings
 pub mod Waking
+pub mod Taking

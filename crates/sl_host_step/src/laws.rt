@@ -2,6 +2,7 @@
 
 ghost use Rattle.sl_host_step.specs.Beginnings.{BeginningsFollow};
 ghost use Rattle.sl_host_step.specs.Endings.{EndingsFollow};
+ghost use Rattle.sl_host_step.specs.Taking.{InputsAreSound, InputsFollow};
 ghost use Rattle.sl_host_step.specs.Waking.{WakesFollow};
 
 /// A host that stands for the steps so far, and whose members have names of their own, has at the next step's input done what is due before
@@ -18,4 +19,14 @@ pub fn endings_follow()
 /// The three passes of a wake follow what is due, for a host that is sound, and leave it so.
 pub fn wakes_follow()
     ensures { WakesFollow }
+{}
+
+/// What an input makes due, but for a line: the state follows the step.
+pub fn inputs_follow()
+    ensures { InputsFollow }
+{}
+
+/// Numbers, exits and starts leave a host sound.
+pub fn inputs_are_sound()
+    ensures { InputsAreSound }
 {}
