@@ -10,3 +10,4 @@ pub mod EndingsFollow
 pub mod SettlingsWake
 pub mod JoiningDecides
 pub mod InputsFollow
+pub mod LinesFollow

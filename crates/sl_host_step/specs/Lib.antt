@@ -10,3 +10,4 @@ pub mod Beginnings
 pub mod Endings
 pub mod Waking
 pub mod Taking
+pub mod Lining

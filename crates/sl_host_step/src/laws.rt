@@ -2,6 +2,7 @@
 
 ghost use Rattle.sl_host_step.specs.Beginnings.{BeginningsFollow};
 ghost use Rattle.sl_host_step.specs.Endings.{EndingsFollow};
+ghost use Rattle.sl_host_step.specs.Lining.{LinesFollow};
 ghost use Rattle.sl_host_step.specs.Taking.{InputsAreSound, InputsFollow};
 ghost use Rattle.sl_host_step.specs.Waking.{WakesFollow};
 
@@ -29,4 +30,9 @@ pub fn inputs_follow()
 /// Numbers, exits and starts leave a host sound.
 pub fn inputs_are_sound()
     ensures { InputsAreSound }
+{}
+
+/// What a line makes due: the state follows the step.
+pub fn lines_follow()
+    ensures { LinesFollow }
 {}
