@@ -98,7 +98,7 @@ start h x p ok expected e s = by (child_in h p) refl where
 
 -- ---- they leave the host sound
 
-same_members : (h g : HostState) → g.members ≡ h.members → g.unanswered ≡ h.unanswered → g.config ≡ h.config → IsSound h → IsSound g
+pub same_members : (h g : HostState) → g.members ≡ h.members → g.unanswered ≡ h.unanswered → g.config ≡ h.config → IsSound h → IsSound g
 same_members h g members calls config k =
     sound_cut h g (record {
       from = λ m there. record { old = m; there = subst (λ ms. Contains ms m) members there; who = refl; leaving = refl };

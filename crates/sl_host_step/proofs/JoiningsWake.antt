@@ -175,7 +175,7 @@ joining_call h m j step path offset sectors p was job =
       );
     }) p
 
-refusing_sound : (n : ℕ) (r : Reply) (h : HostState) → IsSound h → IsSound (refusing n r h)
+pub refusing_sound : (n : ℕ) (r : Reply) (h : HostState) → IsSound h → IsSound (refusing n r h)
 refusing_sound n r h p = by (joining_in h n) where
   one : (m : MemberState) (b : Bool) → IsSound (cond b (removing m.who.lockspace (with_reply n r h)) (with_reply n r h))
   one m true = sound_removing m.who.lockspace (with_reply n r h) (sound_reply h n r p)

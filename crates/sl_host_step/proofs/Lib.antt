@@ -11,3 +11,4 @@ pub mod SettlingsWake
 pub mod JoiningDecides
 pub mod InputsFollow
 pub mod LinesFollow
+pub mod StepsFollow

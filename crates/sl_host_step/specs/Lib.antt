@@ -11,3 +11,4 @@ pub mod Endings
 pub mod Waking
 pub mod Taking
 pub mod Lining
+pub mod Whole

@@ -5,6 +5,7 @@ ghost use Rattle.sl_host_step.specs.Endings.{EndingsFollow};
 ghost use Rattle.sl_host_step.specs.Lining.{LinesFollow};
 ghost use Rattle.sl_host_step.specs.Taking.{InputsAreSound, InputsFollow};
 ghost use Rattle.sl_host_step.specs.Waking.{WakesFollow};
+ghost use Rattle.sl_host_step.specs.Whole.{StepsFollow};
 
 /// A host that stands for the steps so far, and whose members have names of their own, has at the next step's input done what is due before
 /// it.
@@ -35,4 +36,10 @@ pub fn inputs_are_sound()
 /// What a line makes due: the state follows the step.
 pub fn lines_follow()
     ensures { LinesFollow }
+{}
+
+/// The whole of a step: a host that stands for the steps so far, and is sound, takes an input that may come by the effects that are due, and
+/// stands for the longer trace.
+pub fn steps_follow()
+    ensures { StepsFollow }
 {}
