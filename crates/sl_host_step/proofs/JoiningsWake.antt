@@ -21,7 +21,7 @@ use Rattle.sl_host_state.specs.declared.kept.JoinCall.{JoinCall}
 use Rattle.sl_host_state.specs.declared.kept.OpenCall.{OpenCall}
 use Rattle.sl_host_step.proofs.Alone.{alone, not_joined}
 use Rattle.sl_host_step.proofs.PassesFollow.{IsPass}
-use Rattle.sl_host_step.proofs.SoundParts.{Was, sound_call, sound_move, sound_removing, sound_reply}
+use Rattle.sl_host_step.proofs.SoundParts.{IsCut, cut_move, cut_same, sound_call, sound_cut, sound_removing, sound_reply}
 use Rattle.sl_host_step.specs.Sound.{IsSound, JoiningsOwn}
 use Rattle.sl_part_law.proofs.GoneDoNothing.{gone_do_nothing}
 use Rattle.sl_part_law.specs.Ends.{removing}
@@ -42,6 +42,7 @@ use Rattle.sl_trace.specs.Traces.{Answered, Replied, Setting, Submitted, Trace, 
 use Rattle.sl_trace.specs.declared.effects.JoinStep.{JoinStep}
 use Rattle.sl_trace.specs.declared.effects.Move.TheVariants.{Register}
 use Rattle.sl_trace.specs.declared.effects.Op.TheVariants.{ReadSectors}
+use Rattle.sl_trace.specs.declared.effects.Op.{Op}
 use Rattle.sl_trace.specs.declared.effects.Purpose.TheVariants.{Joining, Lease, Leaving, Renewal, RequestRead, RequestWrite, SeeRequest, Survey, ValueRead, ValueWrite}
 use Rattle.sl_trace.specs.declared.effects.Purpose.{Purpose}
 use Rattle.sl_trace.specs.declared.input.Input.TheVariants.{Wake}
@@ -161,19 +162,21 @@ taken h x k m p at =
     })
 
 -- A joining's call is its own.
-joining_call : (h : HostState) (m : MemberState) (j : ℕ) (step : JoinStep) (path : List ℕ) (offset sectors : ℕ) → IsSound h → Was h m → m.who.job ≡ Some j
-    → IsSound (with_call m.who.number path (Joining j step) offset (ReadSectors sectors) h)
-joining_call h m j step path offset sectors p was job =
-    sound_call h (next_submitted h m.who.number path (Joining j step) offset (ReadSectors sectors))
+pub joining_call : (h g : HostState) (m : MemberState) (j : ℕ) (step : JoinStep) (path : List ℕ) (offset : ℕ) (op : Op) → IsCut h g → IsSound h → Contains h.members m → m.who.job ≡ Some j
+    → IsSound (with_call m.who.number path (Joining j step) offset op g)
+joining_call h g m j step path offset op cut k inside job =
+    sound_call g (next_submitted g m.who.number path (Joining j step) offset op)
     (record {
-      leaving = λ z n there leaves of. absurd (p.leavings.others was.old z n was.there there (ap (λ (t : Session). t.job) was.who ∙ job ∙ ap (λ y. Some y) ((Decides-eqb j n).0 of)) leaves);
-      joining = λ z n there is of. (
-        (Decides-eqb m.who.number z.who.number).1
-            (ap (λ (t : Session). t.number)
-            (sym was.who ∙ p.joinings.apart was.old z n was.there there (ap (λ (t : Session). t.job) was.who ∙ job ∙ ap (λ y. Some y) ((Decides-eqb j n).0 of)) is)),
-        refl,
-      );
-    }) p
+      leaving = λ z n there leaves of.
+          (let w = cut.from z there in absurd (k.leavings.others m w.old n inside w.there (job ∙ ap (λ y. Some y) ((Decides-eqb j n).0 of)) (w.leaving ∙ leaves)));
+      joining = λ z n there is of.
+          (let w = cut.from z there in (
+            (Decides-eqb m.who.number z.who.number).1
+                (ap (λ (t : Session). t.number)
+                (k.joinings.apart m w.old n inside w.there (job ∙ ap (λ y. Some y) ((Decides-eqb j n).0 of)) (ap (λ (t : Session). t.job) w.who ∙ is) ∙ w.who)),
+            refl,
+          ));
+    }) (sound_cut h g cut k)
 
 pub refusing_sound : (n : ℕ) (r : Reply) (h : HostState) → IsSound h → IsSound (refusing n r h)
 refusing_sound n r h p = by (joining_in h n) where
@@ -196,11 +199,10 @@ decided_sound h k m j (RefuseJoin r) there job is p = by m.who.job where
   by (Some n) = refusing_sound n r h p
 decided_sound h k m j (ReadOwn step) there job is p =
     subst (λ o. IsSound (elim o as (λ z. HostState) [ None ↦ h | Some n ↦ reading_own m.who (Joining n step) h ])) (sym job)
-    (joining_call h m j step m.who.path (own_sector h m.who) 1 p (record { old = m; there = got_inside h.members k m there; who = refl; leaving = refl }) job)
+    (joining_call h h m j step m.who.path (own_sector h m.who) (ReadSectors 1) (cut_same h) p (got_inside h.members k m there) job)
 decided_sound h k m j (RegisterAndRead step) there job is p =
     subst (λ o. IsSound (elim o as (λ z. HostState) [ None ↦ h | Some n ↦ reading_own m.who (Joining n step) (registering m.who h) ])) (sym job)
-    (joining_call (registering m.who h) m j step m.who.path (own_sector (registering m.who h) m.who) 1 (sound_move h (Register m.who.lockspace (h.reading + fail h.config.timing)) p)
-    (record { old = m; there = kept (λ (z : MemberState). not false) h.members m refl (got_inside h.members k m there); who = refl; leaving = refl }) job)
+    (joining_call h (registering m.who h) m j step m.who.path (own_sector (registering m.who h) m.who) (ReadSectors 1) (cut_move h (Register m.who.lockspace (h.reading + fail h.config.timing))) p (got_inside h.members k m there) job)
 decided_sound h k m j (WriteClaim d) there job is p = absurd is
 decided_sound h k m j Disconnect there job is p = absurd is
 decided_sound h k m j (WriteFirst d) there job is p = absurd is

@@ -11,4 +11,6 @@ pub mod SettlingsWake
 pub mod JoiningDecides
 pub mod InputsFollow
 pub mod LinesFollow
+pub mod SoundBefore
+pub mod AnswersAreSound
 pub mod StepsFollow

@@ -70,7 +70,7 @@ use Rattle.std.specs.Prelude.{Bool, Contains, List, None, Option, Some, cond, fa
 -- ---- a call without a job
 
 -- A call of no job is nobody's.
-unowned : (h : HostState) (session : ℕ) (path : List ℕ) (p : Purpose) (offset : ℕ) (op : Op) → job_of p ≡ None → IsSound h → IsSound (with_call session path p offset op h)
+pub unowned : (h : HostState) (session : ℕ) (path : List ℕ) (p : Purpose) (offset : ℕ) (op : Op) → job_of p ≡ None → IsSound h → IsSound (with_call session path p offset op h)
 unowned h session path p offset op none k =
     sound_call h (next_submitted h session path p offset op)
     (record {

@@ -90,6 +90,18 @@ cut_reply h job r = record { from = from; calls = λ c there. there; config = re
   from : (z : MemberState) → Contains (flat_map (member_replying h job r) h.members) z → Was h z
   from z there = let x = in_flat (member_replying h job r) h.members z there in same x.0 z (is_joining x.0 && some_is (λ j. j == job) x.0.who.job) x.1 x.2
 
+pub cut_same : (h : HostState) → IsCut h h
+cut_same h = record { from = λ m there. record { old = m; there = there; who = refl; leaving = refl }; calls = λ c there. there; config = refl }
+
+pub cut_more : (h f g : HostState) → IsCut h f → IsCut f g → IsCut h g
+cut_more h f g one two =
+    record {
+      from = λ m there. (let z = two.from m there in let y = one.from z.old z.there in
+          record { old = y.old; there = y.there; who = y.who ∙ z.who; leaving = y.leaving ∙ z.leaving });
+      calls = λ c there. one.calls c (two.calls c there);
+      config = two.config ∙ one.config;
+    }
+
 pub cut_move : (h : HostState) (move : Move) → IsCut h (with_move move h)
 cut_move h move =
     record {

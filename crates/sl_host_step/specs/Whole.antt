@@ -33,10 +33,9 @@ MayTake (Exit p) h x = Unit {0}
 MayTake (Spawned p ok) h x = Unit {0}
 MayTake Wake h x = Unit {0}
 
--- What a line and an answer leave is sound. (Of every other input it is shown.)
+-- What a line leaves is sound. (Of every other input it is shown.)
 abbrev pub LeavesSound : Input → HostState → Type 0
 LeavesSound (Line text) h = IsSound (taking (Line text) h)
-LeavesSound (Told n a) h = IsSound (taking (Told n a) h)
 LeavesSound i h = Unit {0}
 
 -- The entry that the step leaves.
