@@ -14,3 +14,4 @@ pub mod LinesFollow
 pub mod SoundBefore
 pub mod AnswersAreSound
 pub mod StepsFollow
+pub mod NewHostsAreSound

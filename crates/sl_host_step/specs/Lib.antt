@@ -12,3 +12,4 @@ pub mod Waking
 pub mod Taking
 pub mod Lining
 pub mod Whole
+pub mod NewHosts

@@ -3,6 +3,7 @@
 ghost use Rattle.sl_host_step.specs.Beginnings.{BeginningsFollow};
 ghost use Rattle.sl_host_step.specs.Endings.{EndingsFollow};
 ghost use Rattle.sl_host_step.specs.Lining.{LinesFollow};
+ghost use Rattle.sl_host_step.specs.NewHosts.{NewHostsAreSound};
 ghost use Rattle.sl_host_step.specs.Taking.{InputsAreSound, InputsFollow};
 ghost use Rattle.sl_host_step.specs.Waking.{WakesFollow};
 ghost use Rattle.sl_host_step.specs.Whole.{StepsFollow};
@@ -42,4 +43,9 @@ pub fn lines_follow()
 /// stands for the longer trace.
 pub fn steps_follow()
     ensures { StepsFollow }
+{}
+
+/// A new host is sound.
+pub fn new_hosts_are_sound()
+    ensures { NewHostsAreSound }
 {}
