@@ -10,6 +10,7 @@ pub mod EndingsFollow
 pub mod SettlingsWake
 pub mod JoiningDecides
 pub mod InputsFollow
+pub mod LinesArePlain
 pub mod LinesFollow
 pub mod SoundBefore
 pub mod AnswersAreSound

@@ -19,6 +19,7 @@ use Rattle.sl_host_state.specs.Hears.{answered_line, heard_line, leaves_member, 
 use Rattle.sl_host_state.specs.Kept.{HostState, MemberState}
 use Rattle.sl_host_state.specs.Makes.{with_call}
 use Rattle.sl_host_state.specs.Stands.{Stands}
+use Rattle.sl_host_step.proofs.LinesArePlain.{plain_by}
 use Rattle.sl_host_step.proofs.LeasesAreKnown.{converts_as_known, releases_as_known}
 use Rattle.sl_host_step.specs.Leases.{converting_next, releasing_next}
 use Rattle.sl_host_step.specs.Lines.{deciding, lining}
@@ -128,20 +129,20 @@ module _ (h : HostState) (x : Step) (text : List ℕ) (early : IsEarly h) (sound
     done (Shares t lver) is f =
         let k = its (Shares t lver) is t (theirs (Shares t lver) is) in
         subst (λ (y : Session). Stands (Line text) (granting_for y h.next_job c Shared lver (heard_line c h)) (on_line text x)) k.by.whose
-        (grants_are_taken.shares h x text c t lver k.place k.member (comes (Shares t lver) is) k.by f)
+        (grants_are_taken.shares h x text c t lver k.place k.member (comes (Shares t lver) is) k.by (plain_by h c (Shares t lver) is refl))
     done (GivesUp t g) is f =
         let k = its (GivesUp t g) is t (theirs (GivesUp t g) is) in
-        let l = f.1 k.place k.member k.by in
+        let l = f k.place k.member k.by in
         let here : IsMemberAt (Line text) (given_up h c g) (ended text g x) k.place k.member =
         record { stands = effects_are_taken.ended (end_of g) (heard_line c h) early.grants (Line text) (with_input (Line text) x) (lines_are_taken.heard h x text c (GivesUp t g) (comes (GivesUp t g) is)); there = k.by.there }
         in
         at_its t k (λ m h'. after_giving h c m g (releasing_next (given_up h c g) m (spot_of_grant g) g))
-        (grants_are_taken.gives_up h x text c t g k.place k.member (releasing_next (given_up h c g) k.member (spot_of_grant g) g) (comes (GivesUp t g) is) k.by f.0 early.grants
+        (grants_are_taken.gives_up h x text c t g k.place k.member (releasing_next (given_up h c g) k.member (spot_of_grant g) g) (comes (GivesUp t g) is) k.by (plain_by h c (GivesUp t g) is refl) early.grants
         (sym (releases_as_known (Line text) (given_up h c g) (ended text g x) k.place k.member here (spot_of_grant g) l.0.0 l.0.1 g.mode g.lver)) l.1)
     done (TakesOver t g) is f =
         let k = its (TakesOver t g) is t (theirs (TakesOver t g) is) in
         subst (λ (y : Session). Stands (Line text) (granting_for y h.next_job c g.mode g.lver (given_up h c g)) (on_line text x)) k.by.whose
-        (grants_are_taken.takes_over h x text c t g k.place k.member (comes (TakesOver t g) is) k.by f early.grants)
+        (grants_are_taken.takes_over h x text c t g k.place k.member (comes (TakesOver t g) is) k.by (plain_by h c (TakesOver t g) is refl) early.grants)
     done (ConvertsTo t r mode) is f =
         let k = its (ConvertsTo t r mode) is t (theirs (ConvertsTo t r mode) is) in
         let l = f k.place k.member k.by in

@@ -18,7 +18,6 @@ use Rattle.sl_host_step.specs.Leases.{converting_next, releasing_next}
 use Rattle.sl_host_step.specs.Sound.{IsEarly, IsSound}
 use Rattle.sl_leases.specs.Leases.{spot_of}
 use Rattle.sl_part_law.specs.Lines.{HeardBy}
-use Rattle.sl_reply_law.specs.Replies.{is_plain_line}
 use Rattle.sl_sector.specs.declared.sector.Rec.TheVariants.{ValueIs}
 use Rattle.sl_trace.specs.Traces.{spot_of_grant}
 use Rattle.sl_trace.specs.declared.command.Command.{Command}
@@ -42,11 +41,11 @@ MayDecide h x text c (Leaves s) = Unit {0}
 MayDecide h x text c (ReadsArea s r) =
     (k : ℕ) (m : MemberState) → HeardBy h c k m s
     → IsTrue (fits_lease h.config.layout m (next_submitted h m.who.number r.path (Lease (ForJob h.next_job) (ReadArea r.name)) r.offset (ReadSectors (h.config.layout.hosts + 2))))
-MayDecide h x text c (Shares s lver) = IsTrue (is_plain_line (Ok c))
+MayDecide h x text c (Shares s lver) = Unit {0}
 MayDecide h x text c (GivesUp s g) =
-    IsTrue (is_plain_line (Ok c)) × ((k : ℕ) (m : MemberState) → HeardBy h c k m s → IsLeased m (spot_of_grant g)
-    × MayCarryLease (Line text) (given_up h c g) (ended text g x) m (spot_of_grant g) (ForJob h.next_job) (releasing_next (given_up h c g) m (spot_of_grant g) g))
-MayDecide h x text c (TakesOver s g) = IsTrue (is_plain_line (Ok c))
+    (k : ℕ) (m : MemberState) → HeardBy h c k m s → IsLeased m (spot_of_grant g)
+    × MayCarryLease (Line text) (given_up h c g) (ended text g x) m (spot_of_grant g) (ForJob h.next_job) (releasing_next (given_up h c g) m (spot_of_grant g) g)
+MayDecide h x text c (TakesOver s g) = Unit {0}
 MayDecide h x text c (ConvertsTo s r mode) =
     (k : ℕ) (m : MemberState) → HeardBy h c k m s → IsLeased m (spot_of r)
     × MayCarryLease (Line text) (heard_line c h) (with_input (Line text) x) m (spot_of r) (ForJob h.next_job) (converting_next (heard_line c h) m (spot_of r) mode r.name)
