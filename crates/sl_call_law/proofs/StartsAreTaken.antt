@@ -4,7 +4,6 @@ use Rattle.sl_call_law.proofs.Calls.LeasesMore.{calls_on}
 use Rattle.sl_call_law.proofs.Calls.MemberMore.{self_by}
 use Rattle.sl_call_law.proofs.Calls.ValuesMore.{on_lease}
 use Rattle.sl_call_law.specs.Starts.{StartFits, StartsAreTaken}
-use Rattle.sl_due.specs.DueRequests.{is_asked}
 use Rattle.sl_due.specs.Steps.{Step, add_start, seen}
 use Rattle.sl_host_plain.proofs.KeptJobs.{kept_numbered}
 use Rattle.sl_host_plain.proofs.PlainLists.{all_both, range_last}
@@ -18,7 +17,6 @@ use Rattle.sl_leases.specs.Jobs.{command_of}
 use Rattle.sl_leases.specs.Leases.{spots_in}
 use Rattle.sl_plain.proofs.Lists.{in_map}
 use Rattle.sl_sessions.specs.Sessions.{calls_of, ended_after, is_call_of, is_delta_purpose, joined_after, leaving_job, recovery_of, sessions}
-use Rattle.sl_sessions.specs.Watching.{sightings}
 use Rattle.sl_trace.specs.Traces.{Child, Job, Submitted, child_after, children, first_child, is_of_job, is_write, job_numbered, job_of, mark, new_call, new_child, running_jobs, submitted, unanswered}
 use Rattle.sl_trace.specs.declared.effects.Call.{Call}
 use Rattle.sl_trace.specs.declared.effects.Effects.{Effects}

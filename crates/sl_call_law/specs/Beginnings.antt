@@ -7,7 +7,7 @@ use Rattle.sl_host_state.specs.Kept.{HostState}
 use Rattle.sl_host_state.specs.Stands.{HostStands, IsQuiet, Stands, Takes}
 use Rattle.sl_trace.specs.Traces.{Setting, Trace}
 use Rattle.sl_trace.specs.declared.input.Input.TheVariants.{Wake}
-use Rattle.std.specs.Prelude.{None, ℕ, ◌<◌, ◌≡◌, ◌≤◌}
+use Rattle.std.specs.Prelude.{ℕ, ◌<◌, ◌≡◌, ◌≤◌}
 
 -- A step that begins where nobody's recovery does.
 abbrev pub begun_quietly : ℕ → HostState → HostState

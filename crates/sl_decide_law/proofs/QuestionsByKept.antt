@@ -1,5 +1,5 @@
 -- What a decision asks of the steps has the answer that the kept state gives.
-use Rattle.sl_decide_law.proofs.PlainSums.{apart_unmapped, least_reversed, list_mapped, map_as, order_sum, row_apart, sum_mapped}
+use Rattle.sl_decide_law.proofs.PlainSums.{apart_unmapped, least_reversed, list_mapped, order_sum, row_apart, sum_mapped}
 use Rattle.sl_decide_law.specs.Deciding.{busy_refused, is_open_on, joined_refused, lease_count, limit_refused, member_named, member_of, member_refusal, open_at, pending_refused, process_refused, sessions_told, states_told, with_member}
 use Rattle.sl_due.specs.DueCommands.{busy_refusal, joined_refusal, limit_refusal, matching_session, pending_refusal, process_refusal, session_refusal, with_session}
 use Rattle.sl_due.specs.Steps.{Step, seen}

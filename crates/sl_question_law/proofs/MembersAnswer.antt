@@ -3,7 +3,7 @@ use Rattle.sl_due.specs.DueDelta.{begins_by_read}
 use Rattle.sl_due.specs.DueRequests.{bits_due, is_asked}
 use Rattle.sl_due.specs.Steps.{Step, seen}
 use Rattle.sl_host_plain.proofs.MembersAreSessions.{member_inside}
-use Rattle.sl_host_plain.proofs.PlainLists.{any_as, filter_as}
+use Rattle.sl_host_plain.proofs.PlainLists.{any_as}
 use Rattle.sl_host_state.specs.Kept.{Config, HostState, MemberState}
 use Rattle.sl_host_state.specs.Stands.{Keeps, MemberStands, bits_of, config_of, is_asked_in, kept_job}
 use Rattle.sl_host_state.specs.declared.kept.JobState.{JobState}

@@ -5,7 +5,6 @@ use Rattle.sl_call_law.proofs.Calls.LeasesMore.{calls_on, leases_may, leases_sta
 use Rattle.sl_call_law.proofs.Calls.SpotsMore.{spots_more}
 use Rattle.sl_call_law.proofs.Calls.ValuesMore.{on_lease, valued_more, values_more}
 use Rattle.sl_call_law.specs.Calls.{fits_generation, fits_lease, fits_turn, fits_value}
-use Rattle.sl_due.specs.DueRequests.{is_asked}
 use Rattle.sl_due.specs.Steps.{Step, seen, with_effects}
 use Rattle.sl_host_plain.proofs.PlainLists.{at_some}
 use Rattle.sl_host_state.specs.Kept.{LeaseState, MemberState}
@@ -18,7 +17,6 @@ use Rattle.sl_plain.proofs.Lists.{contains_none, got_inside}
 use Rattle.sl_sector.specs.declared.sector.DeltaRec.{DeltaRec}
 use Rattle.sl_sector.specs.declared.sector.Owner.{Owner}
 use Rattle.sl_sessions.specs.Sessions.{calls_of, delta_written, generation_in, given_number, is_call_of, is_delta_purpose, last_delta, leaving_job, recovery_of}
-use Rattle.sl_sessions.specs.Watching.{sightings}
 use Rattle.sl_sessions.specs.declared.delta.DeltaKnown.{DeltaKnown}
 use Rattle.sl_sessions.specs.declared.session.Session.{Session}
 use Rattle.sl_trace.proofs.TraceFacts.{submitted-push}

@@ -4,7 +4,6 @@ use Rattle.sl_call_law.proofs.Calls.KnownMore.{known_by}
 use Rattle.sl_call_law.proofs.Calls.LeasesMore.{calls_on}
 use Rattle.sl_call_law.proofs.Calls.MemberMore.{self_by}
 use Rattle.sl_call_law.proofs.Calls.ValuesMore.{on_lease}
-use Rattle.sl_due.specs.DueRequests.{is_asked}
 use Rattle.sl_host_plain.proofs.PlainLists.{all_as}
 use Rattle.sl_host_state.specs.Kept.{HostState, MemberState}
 use Rattle.sl_host_state.specs.Stands.{AreInTurn, AskedStands, JoinStands, Keeps, LeaseStands, MemberStands, WatchKeeps, is_there, kept_call, kept_job, newest_value}
@@ -14,7 +13,6 @@ use Rattle.sl_leases.specs.Leases.{spots_in}
 use Rattle.sl_plain.proofs.Numbers.{trans_le}
 use Rattle.sl_sessions.specs.Deltas.{delta_known}
 use Rattle.sl_sessions.specs.Sessions.{calls_of, ended_after, is_call_of, is_delta_purpose, joined_after, leaving_job, leaving_of, recovery_of, renewing, sessions}
-use Rattle.sl_sessions.specs.Watching.{sightings}
 use Rattle.sl_sessions.specs.declared.delta.DeltaKnown.{DeltaKnown}
 use Rattle.sl_sessions.specs.declared.session.Begun.{Begun}
 use Rattle.sl_sessions.specs.declared.session.Renewing.{Renewing}

@@ -18,7 +18,7 @@ use Rattle.sl_reply_law.specs.Answers.{AreIdSectors, FitsCall}
 use Rattle.sl_reply_law.proofs.PlainFilters.{found_kept, given_kept}
 use Rattle.sl_sessions.specs.Deltas.{claim_of, join_step_of}
 use Rattle.sl_sessions.specs.Sessions.{delta_written, is_delta_purpose, is_join_call, is_survey_purpose, join_call}
-use Rattle.sl_sessions.specs.Watching.{look_of, seen_records, sighted, sightings}
+use Rattle.sl_sessions.specs.Watching.{look_of, seen_records, sightings}
 use Rattle.sl_sessions.specs.declared.sighting.Sighting.{Sighting}
 use Rattle.sl_time.specs.Times.{fail}
 use Rattle.sl_trace.specs.Traces.{Answered, Setting, Submitted, Trace, answer_of, bytes_given, gave, is_ok_answer}

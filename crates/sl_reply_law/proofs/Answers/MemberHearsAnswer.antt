@@ -1,6 +1,5 @@
 -- A member that hears the answer to a call of its own stands for its session; any other member stands as it is.
 use Rattle.sl_area.specs.Layouts.{Layout}
-use Rattle.sl_due.specs.DueRequests.{is_asked}
 use Rattle.sl_host_plain.proofs.PlainLists.{all_as, all_from, any_as, any_mapped, at_mapped, each_of}
 use Rattle.sl_host_state.specs.Hears.{asked_hearing, watch_hearing, is_heeded_by, lease_hearing, member_hearing, others, renewing_hearing, still_busy}
 use Rattle.sl_host_state.specs.Kept.{Config, HostState, LeaseState, MemberState}
@@ -22,7 +21,6 @@ use Rattle.sl_reply_law.proofs.Answers.RenewingHearsAnswer.{renewing_other, rene
 use Rattle.sl_reply_law.specs.Answers.{FitsCall}
 use Rattle.sl_sessions.specs.Deltas.{delta_known}
 use Rattle.sl_sessions.specs.Sessions.{calls_of, free_write, generation_in, generation_of, has_open_delta, is_call_of, is_delta_purpose, is_present, leaving_job, me, renewal_in, renewing, seq_in}
-use Rattle.sl_sessions.specs.Watching.{sightings}
 use Rattle.sl_sessions.specs.declared.delta.DeltaKnown.{DeltaKnown}
 use Rattle.sl_sessions.specs.declared.session.Renewing.{Renewing}
 use Rattle.sl_sessions.specs.declared.session.Session.{Session}
