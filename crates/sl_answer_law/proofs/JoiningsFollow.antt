@@ -47,6 +47,7 @@ use Rattle.sl_trace.specs.declared.effects.Purpose.{Purpose}
 use Rattle.sl_trace.specs.declared.input.Answer.{Answer}
 use Rattle.sl_trace.specs.declared.input.Input.TheVariants.{Answer as Told}
 use Rattle.sl_trace.specs.declared.reply.Reply.TheVariants.{Generation}
+use Rattle.sl_words.proofs.WordLaws.{and_true}
 use Rattle.sl_words.proofs.CaseLaws.{some_value, true_is_false}
 use Rattle.sl_words.specs.Words.{is_empty, some_is}
 use Rattle.std.proofs.Common.{ap, refl, subst, sym, ◌∙◌}
@@ -198,7 +199,7 @@ module _ (number : ℕ) (c : OpenCall) (a : Answer) (h : HostState) (x : Step) (
 
   -- ---- it was refused before
 
-  refused : running_in (heard_answer number a h) j ≡ false → EndsBegun (Unregister m.who.lockspace) (heard_answer number a h)
+  refused : running_in (heard_answer number a h) j ≡ false → (m.refused ≡ true → EndsBegun (Unregister m.who.lockspace) (heard_answer number a h))
       → Follows number a h x
       (cond (m.refused && not (has_write_open (heard_answer number a h) m.who.number)) (removing m.who.lockspace (heard_answer number a h)) (heard_answer number a h))
   unfolding after_answer_of after_join_answer
@@ -214,10 +215,12 @@ module _ (number : ℕ) (c : OpenCall) (a : Answer) (h : HostState) (x : Step) (
       ]) stops in
       subst (λ y. Stands (Told number a) (cond (m.refused && not (has_write_open new m.who.number)) (removing m.who.lockspace new) new) y)
       (sym (d.3 ∙ ap (λ (p : Purpose). after_answer_of m.who d.0 p a told) is ∙ due ∙ refusals_are_told.removed number c a h x k m to.stands to.is_open to.fits to.at to.there))
-      (by (m.refused && not (has_write_open new m.who.number))) where
-        by : (b : Bool) → Stands (Told number a) (cond b (removing m.who.lockspace (heard_answer number a h)) (heard_answer number a h)) (when b (remove_connection m.who.lockspace) (with_input (Told number a) x))
-        by true = ends_are_taken.connection (Told number a) (heard_answer number a h) (with_input (Told number a) x) m.who.lockspace after ends
-        by false = after
+      (by (m.refused && not (has_write_open new m.who.number)) refl) where
+        by : (b : Bool) → (m.refused && not (has_write_open (heard_answer number a h) m.who.number)) ≡ b → Stands (Told number a) (cond b (removing m.who.lockspace (heard_answer number a h)) (heard_answer number a h)) (when b (remove_connection m.who.lockspace) (with_input (Told number a) x))
+        by true is =
+            ends_are_taken.connection (Told number a) (heard_answer number a h) (with_input (Told number a) x) m.who.lockspace after
+            (ends (and_true m.refused (not (has_write_open (heard_answer number a h) m.who.number)) is).0)
+        by false is = after
 
 pub joinings_follow : JoiningsFollow
 joinings_follow =

@@ -45,7 +45,7 @@ use Rattle.std.specs.Prelude.{Bool, None, Option, Some, cond, false, is_some, na
 -- ---- what a joining decides by time
 
 -- It refuses, or reads another time than at first.
-abbrev IsTimeDecision : DeltaNext → Type 0
+abbrev pub IsTimeDecision : DeltaNext → Type 0
 IsTimeDecision Nothing = Unit {0}
 IsTimeDecision (RefuseJoin r) = is_join_done r ≡ false
 IsTimeDecision (ReadOwn step) = same_join_step FirstRead step ≡ false
@@ -69,7 +69,7 @@ after_claim claimed now false b = tt
 after_claim claimed now true true = refl
 after_claim claimed now true false = refl
 
-time_decides : (l : DeltaLease) (now made answered : ℕ) (step : JoinStep) → IsTimeDecision (next_by_time l now made answered step)
+pub time_decides : (l : DeltaLease) (now made answered : ℕ) (step : JoinStep) → IsTimeDecision (next_by_time l now made answered step)
 time_decides l now made answered FirstRead = in_watch (nat_le (answered + renew l.timing) now)
 time_decides l now made answered WatchRead = in_watch (nat_le (answered + renew l.timing) now)
 time_decides l now made answered ClaimWrite = after_claim made now (nat_le (answered + dead l.timing) now) (nat_lt (made + join_max l.timing) now)

@@ -39,6 +39,6 @@ pub record JoiningsFollow : Type 0 where
       → IsAlone j (heard_answer number a h) → EndsBegun (Unregister m.who.lockspace) (heard_answer number a h) → Follows number a h x (carrying m.who next (heard_answer number a h))
   -- it was refused before
   pub refused : (number : ℕ) (c : OpenCall) (a : Answer) (h : HostState) (x : Step) (k : ℕ) (m : MemberState) (j : ℕ) (step : JoinStep) → IsAnswerTo number c a h x k m
-      → c.purpose ≡ Joining j step → running_in (heard_answer number a h) j ≡ false → EndsBegun (Unregister m.who.lockspace) (heard_answer number a h)
+      → c.purpose ≡ Joining j step → running_in (heard_answer number a h) j ≡ false → (m.refused ≡ true → EndsBegun (Unregister m.who.lockspace) (heard_answer number a h))
       → Follows number a h x
       (cond (m.refused && not (has_write_open (heard_answer number a h) m.who.number)) (removing m.who.lockspace (heard_answer number a h)) (heard_answer number a h))

@@ -4,21 +4,19 @@ use Rattle.sl_call_law.proofs.Calls.LeasesMore.{calls_on}
 use Rattle.sl_call_law.proofs.Calls.MemberMore.{self_by}
 use Rattle.sl_call_law.proofs.Calls.ValuesMore.{on_lease}
 use Rattle.sl_call_law.specs.Starts.{StartFits, StartsAreTaken}
-use Rattle.sl_due.specs.DueRequests.{is_asked}
 use Rattle.sl_due.specs.Steps.{Step, add_start, seen}
 use Rattle.sl_host_plain.proofs.KeptJobs.{kept_numbered}
 use Rattle.sl_host_plain.proofs.PlainLists.{all_both, range_last}
 use Rattle.sl_host_plain.proofs.Quiet.{job_quiet, member_quiet, quiet_by}
 use Rattle.sl_host_state.specs.Kept.{HostState, MemberState}
 use Rattle.sl_host_state.specs.Makes.{job_starting, with_start}
-use Rattle.sl_host_state.specs.Stands.{AreInTurn, IsQuiet, JoinStands, Keeps, LeaseStands, MemberStands, is_there, job_moments, kept_call, kept_waiting, newest_value}
+use Rattle.sl_host_state.specs.Stands.{AreInTurn, AskedStands, IsQuiet, JoinStands, Keeps, LeaseStands, MemberStands, WatchKeeps, is_there, job_moments, kept_call, kept_waiting, newest_value}
 use Rattle.sl_host_state.specs.declared.kept.JobState.{JobState}
 use Rattle.sl_leases.specs.Counts.{values_on}
 use Rattle.sl_leases.specs.Jobs.{command_of}
 use Rattle.sl_leases.specs.Leases.{spots_in}
 use Rattle.sl_plain.proofs.Lists.{in_map}
 use Rattle.sl_sessions.specs.Sessions.{calls_of, ended_after, is_call_of, is_delta_purpose, joined_after, leaving_job, recovery_of, sessions}
-use Rattle.sl_sessions.specs.Watching.{sightings}
 use Rattle.sl_trace.specs.Traces.{Child, Job, Submitted, child_after, children, first_child, is_of_job, is_write, job_numbered, job_of, mark, new_call, new_child, running_jobs, submitted, unanswered}
 use Rattle.sl_trace.specs.declared.effects.Call.{Call}
 use Rattle.sl_trace.specs.declared.effects.Effects.{Effects}
@@ -61,9 +59,9 @@ module _ (s : Start) where
         joining = λ still. subst (λ ms. JoinStands m.joining ms) (sym same) (k.joining still);
         renewing = k.renewing;
         leaving = k.leaving;
-        asked = λ now owner. ap (λ ms. is_asked x.setting ms now owner) same ∙ k.asked now owner;
+        asked = subst (AskedStands x.setting m.asked) (sym same) k.asked;
         turn = subst (λ ms. AreInTurn (filter (λ c. is_delta_purpose c.call.purpose) ms)) (sym same) k.turn;
-        seen = λ id. ap (λ ms. sightings x.setting.layout id ms) same ∙ k.seen id;
+        seen = subst (WatchKeeps x.setting m.watch) (sym same) k.seen;
         spots = ap (spots_in x.setting.layout) same ∙ k.spots;
         leases = λ i l there. subst (λ ms. LeaseStands x.setting.layout m.who.lockspace (self_by m.who ms) l (calls_on x.setting.layout l.spot ms)) (sym same) (k.leases i l there);
         valued = subst (λ ms. AllByRecursion (λ d. IsTrue (on_lease x.setting.layout m.leases d)) ms) (sym same) k.valued;

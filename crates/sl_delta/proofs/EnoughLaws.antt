@@ -49,12 +49,17 @@ write_is o g m ClaimWrite e = refl
 write_is o g m VerifyRead e = refl
 write_is o g m FirstRenewal e = rw e refl
 
+-- Of a list of calls for which the joining alone stands, too.
+pub joining_by : (o : OwnState) (g now : ℕ) (m : Submitted) (ms : List Submitted) (step : JoinStep) (answer : Answer) → JoinStands o.joining ms → g ≡ o.generation
+    → after_join o now m.call.number m.reading step answer ≡ next_in_joining (lease_of o) g ms now m step answer
+unfolding next_in_joining
+joining_by o g now m ms step (Read bytes) k e = read_is o now m ms bytes step k
+joining_by o g now m ms step Written k e = write_is o g m step e
+joining_by o g now m ms step Failed k e = refl
+
 joining_is : (s : Session) (o : OwnState) (now : ℕ) (m : Submitted) (ms : List Submitted) (step : JoinStep) (answer : Answer) → OwnStands s o ms
     → after_join o now m.call.number m.reading step answer ≡ next_in_joining (lease_of o) (generation_in s ms) ms now m step answer
-unfolding next_in_joining
-joining_is s o now m ms step (Read bytes) k = read_is o now m ms bytes step k.joining
-joining_is s o now m ms step Written k = write_is o (generation_in s ms) m step k.generation
-joining_is s o now m ms step Failed k = refl
+joining_is s o now m ms step answer k = joining_by o (generation_in s ms) now m ms step answer k.joining k.generation
 
 pub told_is : (o : OwnState) (now call made : ℕ) (j : ℕ) (step : JoinStep) (answer : Answer)
     → after_join (after_answer (Joining j step) answer now o) now call made step answer ≡ after_join o now call made step answer

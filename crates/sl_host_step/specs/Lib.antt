@@ -1,0 +1,15 @@
+pub mod Passes
+pub mod Leases
+pub mod Lines
+pub mod Answers
+pub mod Inputs
+pub mod Wakes
+pub mod Stepping
+pub mod Sound
+pub mod Beginnings
+pub mod Endings
+pub mod Waking
+pub mod Taking
+pub mod Lining
+pub mod Whole
+pub mod NewHosts

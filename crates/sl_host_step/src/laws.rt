@@ -1,0 +1,51 @@
+//! A step as a function of states follows what is due, part by part.
+
+ghost use Rattle.sl_host_step.specs.Beginnings.{BeginningsFollow};
+ghost use Rattle.sl_host_step.specs.Endings.{EndingsFollow};
+ghost use Rattle.sl_host_step.specs.Lining.{LinesFollow};
+ghost use Rattle.sl_host_step.specs.NewHosts.{NewHostsAreSound};
+ghost use Rattle.sl_host_step.specs.Taking.{InputsAreSound, InputsFollow};
+ghost use Rattle.sl_host_step.specs.Waking.{WakesFollow};
+ghost use Rattle.sl_host_step.specs.Whole.{StepsFollow};
+
+/// A host that stands for the steps so far, and whose members have names of their own, has at the next step's input done what is due before
+/// it.
+pub fn beginnings_follow()
+    ensures { BeginningsFollow }
+{}
+
+/// Renewals on a wake, and what comes last in a step, follow what is due.
+pub fn endings_follow()
+    ensures { EndingsFollow }
+{}
+
+/// The three passes of a wake follow what is due, for a host that is sound, and leave it so.
+pub fn wakes_follow()
+    ensures { WakesFollow }
+{}
+
+/// What an input makes due, but for a line: the state follows the step.
+pub fn inputs_follow()
+    ensures { InputsFollow }
+{}
+
+/// Numbers, exits and starts leave a host sound.
+pub fn inputs_are_sound()
+    ensures { InputsAreSound }
+{}
+
+/// What a line makes due: the state follows the step.
+pub fn lines_follow()
+    ensures { LinesFollow }
+{}
+
+/// The whole of a step: a host that stands for the steps so far, and is sound, takes an input that may come by the effects that are due, and
+/// stands for the longer trace.
+pub fn steps_follow()
+    ensures { StepsFollow }
+{}
+
+/// A new host is sound.
+pub fn new_hosts_are_sound()
+    ensures { NewHostsAreSound }
+{}

@@ -1,0 +1,9 @@
+//! A step of a host as one function of states: it begins, what is due before its input is done, the input is heard and done, on a wake the
+//! three passes are made, and what comes last is done. A pass goes by the numbers of the members that it begins with, and finds each again
+//! when its turn comes, since a part may take members out.
+//!
+//! The law on the whole still asks of an input what `MayTake` and `LeavesSound` say (specs/Whole): that open calls are their members', that
+//! what is kept of an answered lease decides as its calls do, that a line leaves the host sound.
+#![tactic(auto)]
+
+pub mod laws;
