@@ -1,0 +1,2 @@
+pub mod SpotOrder
+pub mod Places
