@@ -1,2 +1,3 @@
 pub mod SpotOrder
 pub mod Places
+pub mod Ranges

@@ -47,10 +47,11 @@ pub place_from_parts : (at : Spot) (ls : List LeaseState) (k : ℕ) → k ≤ le
 place_from_parts at [] zero le parts = tt
 place_from_parts at [] (suc k) le parts = absurd (omega (arith, le))
 place_from_parts at (l ∷ ls) zero le parts = parts.1 zero l (omega arith) (omega arith)
-place_from_parts at (l ∷ ls) (suc k) le parts =
-    (parts.0 zero l (omega arith) (omega arith),
-      place_from_parts at ls k (omega (arith, le))
-      ((λ j d from to. parts.0 (suc j) d (omega arith) (omega (arith, to))), (λ j d from to. parts.1 (suc j) d (omega (arith, from)) (omega (arith, to)))))
+place_from_parts at (l ∷ ls) (suc k) le parts = (
+  parts.0 zero l (omega arith) (omega arith),
+  place_from_parts at ls k (omega (arith, le))
+      ((λ j d from to. parts.0 (suc j) d (omega arith) (omega (arith, to))), (λ j d from to. parts.1 (suc j) d (omega (arith, from)) (omega (arith, to)))),
+)
 
 -- ---- the lease on an area
 
@@ -255,9 +256,10 @@ with_new at v ls items room k rising same h view =
     let gap = gap_in at ls items k same h in
     let none : list_any (is_lease_on at) items ≡ false = gap_any at items k rising gap in
     let P : LeasesState → Type 0 = λ w. (insert items k (new_lease at) ≡ with_lease at w.leases) × (room - 1 ≡ cond (list_any (is_lease_on at) w.leases) w.room (w.room - 1)) in
-    subst P view
-    (sym (ap (λ b. cond b items (put_in (λ a b. is_spot_before a.spot b.spot) (new_lease at) items)) none ∙ gap_put (new_lease at) items k gap),
-      sym (ap (λ b. cond b room (room - 1)) none))
+    subst P view (
+      sym (ap (λ b. cond b items (put_in (λ a b. is_spot_before a.spot b.spot) (new_lease at) items)) none ∙ gap_put (new_lease at) items k gap),
+      sym (ap (λ b. cond b room (room - 1)) none),
+    )
 
 -- There is room for it.
 pub room_for : (at : Spot) (v : LeasesState) (ls items : List LeaseState) (room k : ℕ) → AreByPlace items → ls ≡ items → IsGap at ls k → kept_as items room ≡ v

@@ -110,10 +110,10 @@ spot_weak x y z lt ge =
     elim (or_true (is_text_before x.path y.path) (bytes_eq x.path y.path && nat_lt x.base y.base) lt) [
       | inl first ↦ path_first x.path z.path x.base z.base (text_weak x.path y.path z.path first g.0)
       | inr same ↦
-        let parts = and_true (bytes_eq x.path y.path) (nat_lt x.base y.base) same in
-        let path : x.path ≡ y.path = (bytes_decides x.path y.path).0 parts.0 in
-        let P : List ℕ → Type 0 = λ p. (is_text_before p z.path || bytes_eq p z.path && nat_lt x.base z.base) ≡ true in
-        subst P (sym path) (by (is_text_before y.path z.path) refl g.0 g.1 parts.1)
+          let parts = and_true (bytes_eq x.path y.path) (nat_lt x.base y.base) same in
+          let path : x.path ≡ y.path = (bytes_decides x.path y.path).0 parts.0 in
+          let P : List ℕ → Type 0 = λ p. (is_text_before p z.path || bytes_eq p z.path && nat_lt x.base z.base) ≡ true in
+          subst P (sym path) (by (is_text_before y.path z.path) refl g.0 g.1 parts.1)
     ] where
       by : (b : Bool) → is_text_before y.path z.path ≡ b → is_text_before z.path y.path ≡ false → (bytes_eq z.path y.path && nat_lt z.base y.base) ≡ false
           → nat_lt x.base y.base ≡ true → (is_text_before y.path z.path || bytes_eq y.path z.path && nat_lt x.base z.base) ≡ true
@@ -131,19 +131,19 @@ spot_asym x y lt = by (is_spot_before y x) refl where
   by false is = is
   by true is = absurd (clash (or_true (is_text_before x.path y.path) (bytes_eq x.path y.path && nat_lt x.base y.base) lt)
       (or_true (is_text_before y.path x.path) (bytes_eq y.path x.path && nat_lt y.base x.base) is)) where
-    clash : (is_text_before x.path y.path ≡ true) ⊎ ((bytes_eq x.path y.path && nat_lt x.base y.base) ≡ true)
-        → (is_text_before y.path x.path ≡ true) ⊎ ((bytes_eq y.path x.path && nat_lt y.base x.base) ≡ true) → ⊥
-    clash (inl a) (inl b) = true_is_false (sym b ∙ text_asym x.path y.path a)
-    clash (inl a) (inr b) =
-        let same = (bytes_decides y.path x.path).0 (and_true (bytes_eq y.path x.path) (nat_lt y.base x.base) b).0 in
-        true_is_false (sym a ∙ ap (λ p. is_text_before x.path p) same ∙ text_itself x.path)
-    clash (inr a) (inl b) =
-        let same = (bytes_decides x.path y.path).0 (and_true (bytes_eq x.path y.path) (nat_lt x.base y.base) a).0 in
-        true_is_false (sym b ∙ ap (λ p. is_text_before y.path p) same ∙ text_itself y.path)
-    clash (inr a) (inr b) =
-        let u = (and_true (bytes_eq x.path y.path) (nat_lt x.base y.base) a).1 in
-        let v = (and_true (bytes_eq y.path x.path) (nat_lt y.base x.base) b).1 in
-        true_is_false (sym v ∙ less_asym x.base y.base u)
+        clash : (is_text_before x.path y.path ≡ true) ⊎ ((bytes_eq x.path y.path && nat_lt x.base y.base) ≡ true)
+            → (is_text_before y.path x.path ≡ true) ⊎ ((bytes_eq y.path x.path && nat_lt y.base x.base) ≡ true) → ⊥
+        clash (inl a) (inl b) = true_is_false (sym b ∙ text_asym x.path y.path a)
+        clash (inl a) (inr b) =
+            let same = (bytes_decides y.path x.path).0 (and_true (bytes_eq y.path x.path) (nat_lt y.base x.base) b).0 in
+            true_is_false (sym a ∙ ap (λ p. is_text_before x.path p) same ∙ text_itself x.path)
+        clash (inr a) (inl b) =
+            let same = (bytes_decides x.path y.path).0 (and_true (bytes_eq x.path y.path) (nat_lt x.base y.base) a).0 in
+            true_is_false (sym b ∙ ap (λ p. is_text_before y.path p) same ∙ text_itself y.path)
+        clash (inr a) (inr b) =
+            let u = (and_true (bytes_eq x.path y.path) (nat_lt x.base y.base) a).1 in
+            let v = (and_true (bytes_eq y.path x.path) (nat_lt y.base x.base) b).1 in
+            true_is_false (sym v ∙ less_asym x.base y.base u)
 
 pub spot_trans : (x y z : Spot) → is_spot_before x y ≡ true → is_spot_before y z ≡ true → is_spot_before x z ≡ true
 spot_trans x y z a b = spot_weak x y z a (spot_asym y z b)

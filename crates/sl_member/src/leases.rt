@@ -74,7 +74,13 @@ fn search(leases: &[Lease], at: &Spot) -> Result<usize, usize>
 {
     let place = place_of(leases, at);
     match leases.get(place) {
-        Some(lease) => { if is_on(lease, at) { Ok(place) } else { Err(place) } }
+        Some(lease) => {
+            if is_on(lease, at) {
+                Ok(place)
+            } else {
+                Err(place)
+            }
+        }
         None => Err(place),
     }
 }

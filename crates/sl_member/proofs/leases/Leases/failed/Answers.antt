@@ -7,10 +7,12 @@ use Rattle.std.proofs.Common.{ap, refl, ◌∙◌}
 pub invariant_of-self : goal.invariant_of-self
 invariant_of-self c =
     let i = c.self.invariant in
-    let items = c.self.inside.items.items in
-    (changed_rises c.args.at.now items c.in-Ok.place c.index_mut.result.now _ i.0 (found_in c.args.at.now _ items c.in-Ok.place c.deref.ensures.value c.in-Ok.ensures.found)
-      c.index_mut.ensures.value (ap (λ l. l.spot) c.failed.ensures ∙ refl),
-      i.1, i.2)
+    let items = c.self.inside.items.items in (
+      changed_rises c.args.at.now items c.in-Ok.place c.index_mut.result.now _ i.0 (found_in c.args.at.now _ items c.in-Ok.place c.deref.ensures.value c.in-Ok.ensures.found)
+          c.index_mut.ensures.value (ap (λ l. l.spot) c.failed.ensures ∙ refl),
+      i.1,
+      i.2,
+    )
 
 pub returns-in-Ok : goal.returns-in-Ok
 returns-in-Ok c =
