@@ -2,3 +2,4 @@ pub mod SpotOrder
 pub mod Places
 pub mod Ranges
 pub mod MemberParts
+pub mod CallsWork

@@ -7,13 +7,19 @@
 ghost use Rattle.sl_host_state.specs.Makes.{is_lease_on};
 ghost use Rattle.sl_lease.specs.Changes.{after_failure, after_read, after_write};
 ghost use Rattle.sl_leases.specs.Leases.{is_spot_before};
-ghost use Rattle.sl_member.specs.Leases.{AreByPlace, IsFound, IsGap, IsKeepable, IsPlaceOf, changed_at, lease_called, with_lease};
+ghost use Rattle.sl_area.specs.Layouts.{layout_of};
+ghost use Rattle.sl_trace.specs.Traces.{new_call};
+ghost use Rattle.sl_member.specs.Leases.{AreByPlace, IsFound, IsGap, IsKeepable, IsPlaceOf, begins_lease, changed_at, lease_called, leases_after, value_set, with_lease};
 ghost use Rattle.std.specs.List.{list_any};
-ghost use Rattle.std.specs.Prelude.{IfErr, IfOk, OnErr, OnOk, cond, false, find, length, max, option_map, slice_get, true, [], ◌+◌, ◌-◌, ◌<◌, ◌^◌, ◌≡◌, ◌≤◌};
+ghost use Rattle.std.specs.Prelude.{IfErr, IfOk, OnErr, OnOk, cond, false, find, length, map, max, option_map, slice_get, true, [], ◌+◌, ◌-◌, ◌<◌, ◌^◌, ◌≡◌, ◌≤◌};
 
+use crate::calls::{in_area, lease_step, spot_of, value_of};
+use sl_area::Geometry;
+use sl_host_state::ValuePair;
 use sl_lease::{Lease, Side};
 use sl_sector::{Block, Leader, Rec};
-use sl_trace::{LeaseStep, Op, Spot, Work};
+use sl_text::FilePath;
+use sl_trace::{Call, LeaseStep, Op, Spot, Work};
 use std::alloc::{AllocError, Global};
 use std::marker::Model;
 
@@ -98,6 +104,37 @@ fn lease_called(lease: &mut Lease, number: u64, work: Work, step: LeaseStep, op:
             record: Rec::LeaderIs(leader),
         } => lease.writes_leader(number, work, step, leader),
         _ => lease.reads(number, work, step),
+    }
+}
+
+/// A value of this version is submitted at a place, on the area of a lease perhaps.
+fn set_value(
+    lease: &mut Lease,
+    geometry: &Geometry,
+    path: &FilePath,
+    offset: u64,
+    value: ValuePair,
+)
+    ensures { lease.new ≡ value_set (layout_of geometry.now) path.now offset value lease.old }
+{
+    let spot = lease.spot();
+    if path.as_slice() == spot.path.as_slice() && in_area(geometry, spot.base, offset) {
+        lease.sets_value(value);
+    }
+}
+
+/// The same for all of these.
+fn set_values(
+    leases: &mut [Lease],
+    geometry: &Geometry,
+    path: &FilePath,
+    offset: u64,
+    value: ValuePair,
+)
+    ensures { leases.new ≡ map (value_set (layout_of geometry.now) path.now offset value) leases.old }
+{
+    for lease in leases.iter_mut() {
+        set_value(lease, geometry, path, offset, value);
     }
 }
 
@@ -213,6 +250,38 @@ impl Leases {
         match search(&self.items, at) {
             Ok(place) => self.items[place].failed(),
             Err(_) => {}
+        }
+    }
+
+    /// A value of this version is submitted at a place.
+    pub fn sets_value(
+        &mut self,
+        geometry: &Geometry,
+        path: &FilePath,
+        offset: u64,
+        value: ValuePair,
+    )
+        ensures { self.new ≡ record self.old { leases = map (value_set (layout_of geometry.now) path.now offset value) self.old.leases } }
+    {
+        set_values(&mut self.items, geometry, path, offset, value);
+    }
+
+    /// A call of their session is submitted.
+    pub fn calling(&mut self, geometry: &Geometry, call: &Call)
+        requires keepable { IsKeepable call.now.op }
+        requires room { begins_lease (layout_of geometry.now) (new_call 0 0 call.now) self.old.leases ≡ true → 0 < self.old.room }
+        ensures { self.new ≡ leases_after (layout_of geometry.now) (new_call 0 0 call.now) self.old }
+    {
+        match lease_step(&call.purpose) {
+            Some((work, step)) => {
+                let at = spot_of(geometry, call);
+                self.open(at);
+                self.called(&at, call.number, work, step, &call.op);
+            }
+            None => match value_of(&call.op) {
+                Some(value) => self.sets_value(geometry, &call.path, call.offset, value),
+                None => {}
+            },
         }
     }
 }

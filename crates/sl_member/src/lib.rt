@@ -2,6 +2,7 @@
 #![tactic(auto)]
 
 mod asked;
+mod calls;
 mod leases;
 mod member;
 mod seen;
