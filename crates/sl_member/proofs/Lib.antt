@@ -3,3 +3,4 @@ pub mod Places
 pub mod Ranges
 pub mod MemberParts
 pub mod CallsWork
+pub mod Numbered
