@@ -168,3 +168,17 @@ none_kept v run ms places room n f none view =
     where
       P : List MemberState → MembersState
       P ss = record { run = run; members = ss; places = places; room = room }
+
+-- The member at its place, as the list has it.
+pub run_kept : (v : MembersState) (run : RunOf) (ms : List MemberKept) (places room n k : ℕ) (x : MemberKept) → AreMembers run room ms → position (has_number n) ms ≡ Some k
+    → x ≡ slice_index_or ms k x → members_as run ms places room ≡ v → x.run ≡ v.run
+run_kept v run ms places room n k x i found is view = (member_at run room ms n k x i (is_at n ms k x found is)).0 ∙ ap (λ (w : MembersState). w.run) view
+
+pub state_kept : (v : MembersState) (run : RunOf) (ms : List MemberKept) (places room n k : ℕ) (x : MemberKept) → AreMembers run room ms → position (has_number n) ms ≡ Some k
+    → x ≡ slice_index_or ms k x → members_as run ms places room ≡ v → member_with n v.members ≡ Some x.state
+state_kept v run ms places room n k x i found is view =
+    subst (λ (w : MembersState). member_with n w.members ≡ Some x.state) view (at_found n ms k x i.apart (is_at n ms k x found is))
+
+pub nobody_kept : (v : MembersState) (run : RunOf) (ms : List MemberKept) (places room n : ℕ) → position (has_number n) ms ≡ None → members_as run ms places room ≡ v
+    → member_with n v.members ≡ None
+nobody_kept v run ms places room n none view = subst (λ (w : MembersState). member_with n w.members ≡ None) view (none_found n ms (none_at n ms none))
