@@ -76,24 +76,24 @@ put_changed : (at : Spot) (f : LeaseState → LeaseState) (new : LeaseState) →
 put_changed at f new here stays [] off = ap (λ b. cond b (f new) new ∷ []) (ap (λ s. is_lease_on at (record new { spot = s })) here ∙ same_itself at)
 put_changed at f new here stays (l ∷ ls) off =
     by (is_spot_before new.spot l.spot) refl (put_changed at f new here stays ls off.1)
-    where
-      on : is_lease_on at new ≡ true
-      on = ap (λ s. is_lease_on at (record new { spot = s })) here ∙ same_itself at
+  where
+    on : is_lease_on at new ≡ true
+    on = ap (λ s. is_lease_on at (record new { spot = s })) here ∙ same_itself at
 
-      before : is_spot_before (f new).spot l.spot ≡ is_spot_before new.spot l.spot
-      before = ap (λ s. is_spot_before s l.spot) stays
+    before : is_spot_before (f new).spot l.spot ≡ is_spot_before new.spot l.spot
+    before = ap (λ s. is_spot_before s l.spot) stays
 
-      by : (b : Bool) → is_spot_before new.spot l.spot ≡ b
-          → changed_at at f (put_in (λ a b. is_spot_before a.spot b.spot) new ls) ≡ put_in (λ a b. is_spot_before a.spot b.spot) (f new) ls
-          → changed_at at f (put_in (λ a b. is_spot_before a.spot b.spot) new (l ∷ ls)) ≡ put_in (λ a b. is_spot_before a.spot b.spot) (f new) (l ∷ ls)
-      by true is rest =
-          ap (λ t. changed_at at f (if t then new ∷ l ∷ ls else l ∷ put_in (λ a b. is_spot_before a.spot b.spot) new ls)) is
-          ∙ ap (λ t. cond t (f new) new ∷ changed_at at f (l ∷ ls)) on ∙ ap (λ zs. f new ∷ zs) (none_changed at f (l ∷ ls) off)
-          ∙ sym (ap (λ t. if t then f new ∷ l ∷ ls else l ∷ put_in (λ a b. is_spot_before a.spot b.spot) (f new) ls) (before ∙ is))
-      by false is rest =
-          ap (λ t. changed_at at f (if t then new ∷ l ∷ ls else l ∷ put_in (λ a b. is_spot_before a.spot b.spot) new ls)) is
-          ∙ ap (λ t. cond t (f l) l ∷ changed_at at f (put_in (λ a b. is_spot_before a.spot b.spot) new ls)) off.0 ∙ ap (λ zs. l ∷ zs) rest
-          ∙ sym (ap (λ t. if t then f new ∷ l ∷ ls else l ∷ put_in (λ a b. is_spot_before a.spot b.spot) (f new) ls) (before ∙ is))
+    by : (b : Bool) → is_spot_before new.spot l.spot ≡ b
+        → changed_at at f (put_in (λ a b. is_spot_before a.spot b.spot) new ls) ≡ put_in (λ a b. is_spot_before a.spot b.spot) (f new) ls
+        → changed_at at f (put_in (λ a b. is_spot_before a.spot b.spot) new (l ∷ ls)) ≡ put_in (λ a b. is_spot_before a.spot b.spot) (f new) (l ∷ ls)
+    by true is rest =
+        ap (λ t. changed_at at f (if t then new ∷ l ∷ ls else l ∷ put_in (λ a b. is_spot_before a.spot b.spot) new ls)) is
+        ∙ ap (λ t. cond t (f new) new ∷ changed_at at f (l ∷ ls)) on ∙ ap (λ zs. f new ∷ zs) (none_changed at f (l ∷ ls) off)
+        ∙ sym (ap (λ t. if t then f new ∷ l ∷ ls else l ∷ put_in (λ a b. is_spot_before a.spot b.spot) (f new) ls) (before ∙ is))
+    by false is rest =
+        ap (λ t. changed_at at f (if t then new ∷ l ∷ ls else l ∷ put_in (λ a b. is_spot_before a.spot b.spot) new ls)) is
+        ∙ ap (λ t. cond t (f l) l ∷ changed_at at f (put_in (λ a b. is_spot_before a.spot b.spot) new ls)) off.0 ∙ ap (λ zs. l ∷ zs) rest
+        ∙ sym (ap (λ t. if t then f new ∷ l ∷ ls else l ∷ put_in (λ a b. is_spot_before a.spot b.spot) (f new) ls) (before ∙ is))
 
 worked : (at : Spot) (m : Submitted) (f : LeaseState → LeaseState) → ((l : LeaseState) → lease_calling m l ≡ f l) → ((l : LeaseState) → (f l).spot ≡ l.spot) → (ls : List LeaseState)
     → changed_at at f (with_lease at ls) ≡ leases_working at m ls
@@ -116,22 +116,22 @@ pub lease_works : (g : Layout) (m : Submitted) (work : Work) (step : LeaseStep) 
 lease_works g m work step old mid new at is spot leases room so =
     so
     ∙ (ap (λ ls. P ls mid.room) (ap (changed_at at f) leases ∙ worked at m f (λ l. called_is m work step l is) (λ l. called_stays m.call.number work step m.call.op l) old.leases)
-      ∙ (ap (λ r. P (leases_working at m old.leases) r) (room ∙ turned (list_any (is_lease_on at) old.leases)) ∙ ap (λ s. P (leases_working s m old.leases) (R s)) spot
-      ∙ sym (ap (λ b. P (cond b (leases_working (spot_of_call g m) m old.leases) (map (value_calling g m) old.leases))
-          (cond (b && not (list_any (is_lease_on (spot_of_call g m)) old.leases)) (old.room - 1) old.room)) (ap is_some is))))
-    where
-      f : LeaseState → LeaseState
-      f l = lease_called m.call.number work step m.call.op l
+    ∙ (ap (λ r. P (leases_working at m old.leases) r) (room ∙ turned (list_any (is_lease_on at) old.leases)) ∙ ap (λ s. P (leases_working s m old.leases) (R s)) spot
+    ∙ sym (ap (λ b. P (cond b (leases_working (spot_of_call g m) m old.leases) (map (value_calling g m) old.leases))
+    (cond (b && not (list_any (is_lease_on (spot_of_call g m)) old.leases)) (old.room - 1) old.room)) (ap is_some is))))
+  where
+    f : LeaseState → LeaseState
+    f l = lease_called m.call.number work step m.call.op l
 
-      P : List LeaseState → ℕ → LeasesState
-      P ls r = record { leases = ls; room = r }
+    P : List LeaseState → ℕ → LeasesState
+    P ls r = record { leases = ls; room = r }
 
-      R : Spot → ℕ
-      R s = cond (not (list_any (is_lease_on s) old.leases)) (old.room - 1) old.room
+    R : Spot → ℕ
+    R s = cond (not (list_any (is_lease_on s) old.leases)) (old.room - 1) old.room
 
-      turned : (b : Bool) → cond b old.room (old.room - 1) ≡ cond (not b) (old.room - 1) old.room
-      turned true = refl
-      turned false = refl
+    turned : (b : Bool) → cond b old.room (old.room - 1) ≡ cond (not b) (old.room - 1) old.room
+    turned true = refl
+    turned false = refl
 
 -- ---- values
 
@@ -175,7 +175,7 @@ none_by g m l is = by (is_on g l.spot m.call) where
 other_call : (g : Layout) (m : Submitted) (v : LeasesState) → lease_step m.call.purpose ≡ None → record { leases = map (value_calling g m) v.leases; room = v.room } ≡ leases_after g m v
 other_call g m v is =
     sym (ap (λ b. P (cond b (leases_working (spot_of_call g m) m v.leases) (map (value_calling g m) v.leases))
-      (cond (b && not (list_any (is_lease_on (spot_of_call g m)) v.leases)) (v.room - 1) v.room)) (ap is_some is)) where
+    (cond (b && not (list_any (is_lease_on (spot_of_call g m)) v.leases)) (v.room - 1) v.room)) (ap is_some is)) where
       P : List LeaseState → ℕ → LeasesState
       P ls r = record { leases = ls; room = r }
 

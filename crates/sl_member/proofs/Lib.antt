@@ -4,3 +4,5 @@ pub mod Ranges
 pub mod MemberParts
 pub mod CallsWork
 pub mod Numbered
+pub mod Gathered
+pub mod CalledMembers

@@ -156,18 +156,18 @@ changed_kept v run ms places room n k f x y i found is made view =
     let at = is_at n ms k x found is in
     ap (λ ss. P ss) (map-set (λ (m : MemberKept). m.state) ms k y ∙ (ap (λ (z : MemberKept). slice_set (states ms) k z.state) made ∙ sym (at_changed n f ms k x i.apart at)))
     ∙ ap (λ (w : MembersState). record w { members = changed_member n f w.members }) view
-    where
-      P : List MemberState → MembersState
-      P ss = record { run = run; members = ss; places = places; room = room }
+  where
+    P : List MemberState → MembersState
+    P ss = record { run = run; members = ss; places = places; room = room }
 
 pub none_kept : (v : MembersState) (run : RunOf) (ms : List MemberKept) (places room n : ℕ) (f : MemberState → MemberState) → position (has_number n) ms ≡ None
     → members_as run ms places room ≡ v → v ≡ record v { members = changed_member n f v.members }
 none_kept v run ms places room n f none view =
     subst (λ (w : MembersState). w ≡ record w { members = changed_member n f w.members }) view
     (sym (ap (λ ss. P ss) (none_changed n f ms (none_at n ms none))))
-    where
-      P : List MemberState → MembersState
-      P ss = record { run = run; members = ss; places = places; room = room }
+  where
+    P : List MemberState → MembersState
+    P ss = record { run = run; members = ss; places = places; room = room }
 
 -- The member at its place, as the list has it.
 pub run_kept : (v : MembersState) (run : RunOf) (ms : List MemberKept) (places room n k : ℕ) (x : MemberKept) → AreMembers run room ms → position (has_number n) ms ≡ Some k

@@ -23,7 +23,7 @@ use sl_trace::{Call, LeaseStep, Op, Spot, Work};
 use std::alloc::{AllocError, Global};
 use std::marker::Model;
 
-/// A session's leases, by place, with memory for some more: together fewer than 2^32.
+/// A session's leases, by place, with memory for some more.
 #[derive(Drop)]
 pub struct Leases {
     items: Vec<Lease>,
@@ -32,13 +32,13 @@ pub struct Leases {
 
 impl Model for Leases {
     ghost use Rattle.sl_member.specs.Leases.{AreByPlace, LeasesState};
-    ghost use Rattle.std.specs.Prelude.{vec_capacity, vec_len, ◌+◌, ◌<◌, ◌^◌, ◌≤◌};
+    ghost use Rattle.std.specs.Prelude.{vec_capacity, vec_len, ◌+◌, ◌≤◌};
 
     ghost Value = { LeasesState };
 
     ghost view = { λ l. record { leases = l.items.items; room = l.room } };
 
-    ghost invariant = { λ l. AreByPlace l.items.items × (vec_len l.items + l.room ≤ vec_capacity l.items) × (vec_len l.items + l.room < 2 ^ 32) };
+    ghost invariant = { λ l. AreByPlace l.items.items × (vec_len l.items + l.room ≤ vec_capacity l.items) };
 }
 
 /// Whether an area comes first: by path, then by base.
@@ -108,13 +108,7 @@ fn lease_called(lease: &mut Lease, number: u64, work: Work, step: LeaseStep, op:
 }
 
 /// A value of this version is submitted at a place, on the area of a lease perhaps.
-fn set_value(
-    lease: &mut Lease,
-    geometry: &Geometry,
-    path: &FilePath,
-    offset: u64,
-    value: ValuePair,
-)
+fn set_value(lease: &mut Lease, geometry: &Geometry, path: &FilePath, offset: u64, value: ValuePair)
     ensures { lease.new ≡ value_set (layout_of geometry.now) path.now offset value lease.old }
 {
     let spot = lease.spot();
@@ -151,7 +145,6 @@ impl Leases {
 
     /// Sees that there is memory for so many more. An `Err` is want of memory, and changes nothing.
     pub fn reserve(&mut self, room: usize) -> Result<(), AllocError>
-        requires { length self.old.leases + room < 2 ^ 32 }
         ensures ok { OnOk result (self.new ≡ record self.old { room = max self.old.room room }) }
         ensures err { OnErr result (self.new ≡ self.old) }
     {
@@ -165,7 +158,6 @@ impl Leases {
     /// How many there are.
     pub fn len(&self) -> usize
         ensures exact { result ≡ length self.now.leases }
-        ensures few { result + self.now.room < 2 ^ 32 }
         ensures by_place { AreByPlace self.now.leases }
     {
         self.items.len()
@@ -264,6 +256,26 @@ impl Leases {
         ensures { self.new ≡ record self.old { leases = map (value_set (layout_of geometry.now) path.now offset value) self.old.leases } }
     {
         set_values(&mut self.items, geometry, path, offset, value);
+    }
+
+    /// Whether a call of their session is the first of a lease.
+    pub fn begins(&self, geometry: &Geometry, call: &Call) -> bool
+        ensures { result ≡ begins_lease (layout_of geometry.now) (new_call 0 0 call.now) self.now.leases }
+    {
+        match lease_step(&call.purpose) {
+            Some(_) => !self.has(&spot_of(geometry, call)),
+            None => false,
+        }
+    }
+
+    /// Whether there is a lease on an area.
+    fn has(&self, at: &Spot) -> bool
+        ensures { result ≡ list_any (is_lease_on at.now) self.now.leases }
+    {
+        match search(&self.items, at) {
+            Ok(_) => true,
+            Err(_) => false,
+        }
     }
 
     /// A call of their session is submitted.

@@ -150,7 +150,6 @@ impl Member {
 
     /// Sees that there is memory for so many more leases. An `Err` is want of memory, and changes nothing.
     pub fn reserve(&mut self, room: usize) -> Result<(), AllocError>
-        requires { length self.old.state.leases + room < 2 ^ 32 }
         ensures ok { OnOk result (self.new ≡ record self.old { room = max self.old.room room }) }
         ensures err { OnErr result (self.new ≡ self.old) }
     {
@@ -215,7 +214,8 @@ impl Member {
         ensures claimed { self.now.state.joined ≡ true → 1 ≤ result.generation }
         ensures place { (1 ≤ self.now.state.who.id) × (self.now.state.who.id ≤ self.now.run.sizes.hosts) }
     {
-        self.own.known(self.renewing.recovery.is_some(), self.leaves_for)
+        self.own
+            .known(self.renewing.recovery.is_some(), self.leaves_for)
     }
 
     /// The session as ballots name it.
@@ -330,6 +330,13 @@ impl Member {
     }
 
     // ---- what a call makes of it
+
+    /// Whether a call of it is the first of a lease.
+    pub fn begins_lease(&self, call: &Call) -> bool
+        ensures { result ≡ begins_lease (layout_of self.now.run.sizes) (new_call 0 0 call.now) self.now.state.leases }
+    {
+        self.leases.begins(&self.geometry, call)
+    }
 
     /// A call of it is submitted at the reading `now`. It counts from here on, whatever comes of it. The first call of a lease takes a
     /// place.

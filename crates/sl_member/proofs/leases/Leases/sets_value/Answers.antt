@@ -9,6 +9,7 @@ pub invariant_of-self : goal.invariant_of-self
 invariant_of-self c =
     let f = value_set (layout_of c.args.geometry.now) c.args.path.now c.args.offset c.args.value in
     let items = c.self.inside.items.items in
-    let all : take c.self.inside.items.len (c.set_values.new.leases ++ drop (length c.set_values.new.leases) items) ≡ map f items = grind (arith, common_steps) in
-    (subst AreByPlace (sym all) (mapped_rises f (value_stays (layout_of c.args.geometry.now) c.args.path.now c.args.offset c.args.value) items c.self.invariant.0),
-      c.self.invariant.1, c.self.invariant.2)
+    let all : take c.self.inside.items.len (c.set_values.new.leases ++ drop (length c.set_values.new.leases) items) ≡ map f items = grind (arith, common_steps) in (
+      subst AreByPlace (sym all) (mapped_rises f (value_stays (layout_of c.args.geometry.now) c.args.path.now c.args.offset c.args.value) items c.self.invariant.0),
+      c.self.invariant.1,
+    )

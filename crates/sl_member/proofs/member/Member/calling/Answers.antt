@@ -19,9 +19,9 @@ returns c at =
     let called : OwnState = after_call c.args.call.now.purpose c.delta_of.result c.args.now fields.own in
     let leases : LeasesState = leases_after (layout_of fields.geometry) (new_call 0 0 c.args.call.now) fields.leases in
     let joined : JoinState → MemberKept = λ j.
-        let v : MemberKept = the_view (with_parts (after_call c.args.call.now.purpose (delta_written m) c.args.now fields.own) leases) in
-        let s : MemberState = v.state in
-        record v { state = record s { joining = j } }
+    let v : MemberKept = the_view (with_parts (after_call c.args.call.now.purpose (delta_written m) c.args.now fields.own) leases) in
+    let s : MemberState = v.state in
+    record v { state = record s { joining = j } }
     in
     ap (λ o. the_view (with_parts o c.calling.new.self)) c.called.ensures.state ∙ ap (λ ls. the_view (with_parts called ls)) c.calling.ensures
     ∙ ap (λ d. the_view (with_parts (after_call c.args.call.now.purpose d c.args.now fields.own) leases)) c.delta_of.ensures

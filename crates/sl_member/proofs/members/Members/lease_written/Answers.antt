@@ -13,10 +13,11 @@ use Rattle.std.proofs.Common.{ap, position, refl, sym, true, ◌∙◌}
 
 pub invariant_of-self : goal.invariant_of-self
 invariant_of-self c =
-    let i = c.self.invariant in
-    (changed_members _ c.self.inside.room c.self.inside.items.items c.args.number c.in-Some.place (lease_changed c.args.at.now after_write) c.index_mut.result.now _ i.0 (sym (c.place_of.ensures.exact ∙ ap (λ ms. position (has_number c.args.number) ms) c.deref.ensures.value) ∙ c.in-Some.is)
-      c.index_mut.ensures.value (record { made = c.lease_written.ensures; who = λ s. refl }),
-      i.1, i.2)
+    let i = c.self.invariant in (
+      changed_members _ c.self.inside.room c.self.inside.items.items c.args.number c.in-Some.place (lease_changed c.args.at.now after_write) c.index_mut.result.now _ i.0 (sym (c.place_of.ensures.exact ∙ ap (λ ms. position (has_number c.args.number) ms) c.deref.ensures.value) ∙ c.in-Some.is)
+          c.index_mut.ensures.value (record { made = c.lease_written.ensures; who = λ s. refl }),
+      i.1,
+    )
 
 pub returns-in-Some : goal.returns-in-Some
 returns-in-Some c =
