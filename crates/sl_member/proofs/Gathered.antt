@@ -1,15 +1,16 @@
 -- Members that come and go, and what is found among them.
 use Rattle.sl_host_state.specs.Kept.{MemberState}
 use Rattle.sl_member.proofs.Numbered.{has_number, is_at, member_at, members_as, none_at, run_kept, set_members, state_kept, states}
-use Rattle.sl_member.specs.Members.{MemberKept, RunOf}
-use Rattle.sl_member.specs.Together.{AreApart, AreMembers, MembersState, member_with, number_of}
+use Rattle.sl_member.specs.Members.{MemberKept, RunOf, recovery_begun}
+use Rattle.sl_member.specs.Together.{AreApart, AreMembers, AreRoomier, MembersState, begun_by, begun_in, begun_kept, late_by, member_with, number_of}
 use Rattle.sl_words.proofs.CaseLaws.{false_is_true, none_some, some_value, true_is_false}
 use Rattle.sl_words.specs.Orders.{is_text_before, put_in}
 use Rattle.std.proofs.Common.{ap, arith, refl, subst, suc, sym, zero, ◌∙◌}
 use Rattle.std.proofs.lemmas.Bool.Decides.{Decides-eqb, nat_tests}
+use Rattle.std.proofs.lemmas.Grind.{common_steps}
 use Rattle.std.proofs.lemmas.List.Sums.{prefix_len-le-length}
-use Rattle.std.specs.List.{AllByRecursion, insert, position_or_len}
-use Rattle.std.specs.Prelude.{Bool, List, None, Option, Some, cond, false, filter, find, if◌then◌else◌, length, map, nat_lt, not, option_map, position, true, unwrap_or, [], ℕ, ◌+◌, ◌==◌, ◌∷◌, ◌≡◌, ◌≤◌}
+use Rattle.std.specs.List.{AllByRecursion, AllWithin, insert, list_any, position_or_len}
+use Rattle.std.specs.Prelude.{Bool, Err, List, None, Ok, OnErr, Option, Result, Some, cond, drop, false, filter, find, if◌then◌else◌, length, map, max, nat_lt, not, option_map, position, slice_index_or, slice_set, take, true, unwrap_or, [], ℕ, ◌++◌, ◌+◌, ◌<◌, ◌==◌, ◌∷◌, ◌≡◌, ◌≤◌, ◌||◌}
 
 -- ---- what is found
 
@@ -146,6 +147,119 @@ pub kept_kept : (v : MembersState) (run : RunOf) (ms zs : List MemberKept) (plac
     → members_as run ms places room ≡ v → members_as run zs places room ≡ record v { members = filter q v.members }
 kept_kept v run ms zs places room q is view =
     ap (λ ss. P ss) (ap states is ∙ kept_states q ms) ∙ ap (λ (w : MembersState). record w { members = filter q w.members }) view
+  where
+    P : List MemberState → MembersState
+    P ss = record { run = run; members = ss; places = places; room = room }
+
+-- ---- more memory
+
+pub roomier_itself : (ms : List MemberKept) → AreRoomier ms ms
+roomier_itself [] = tt
+roomier_itself (m ∷ ms) = (refl, refl, omega arith, roomier_itself ms)
+
+pub roomier_set : (xs ys : List MemberKept) (i : ℕ) (x y : MemberKept) → AreRoomier xs ys → x ≡ slice_index_or ys i x → y.run ≡ x.run → y.state ≡ x.state → x.room ≤ y.room
+    → AreRoomier xs (slice_set ys i y)
+roomier_set [] [] i x y h is run state room = tt
+roomier_set [] (z ∷ zs) i x y h is run state room = absurd h
+roomier_set (u ∷ us) [] i x y h is run state room = absurd h
+roomier_set (u ∷ us) (z ∷ zs) zero x y h is run state room =
+    let same : x ≡ z = is in
+    let more : x.room ≡ z.room = ap (λ (w : MemberKept). w.room) same in
+    let less : u.room ≤ z.room = h.2 in
+    (run ∙ (ap (λ (w : MemberKept). w.run) same ∙ h.0), state ∙ (ap (λ (w : MemberKept). w.state) same ∙ h.1), omega (arith, room, more, less), h.3)
+roomier_set (u ∷ us) (z ∷ zs) (suc i) x y h is run state room = (h.0, h.1, h.2, roomier_set us zs i x y h.3 is run state room)
+
+pub roomier_states : (xs ys : List MemberKept) → AreRoomier xs ys → states ys ≡ states xs
+roomier_states [] [] h = refl
+roomier_states [] (y ∷ ys) h = absurd h
+roomier_states (x ∷ xs) [] h = absurd h
+roomier_states (x ∷ xs) (y ∷ ys) h = ap (λ s. s ∷ states ys) h.1 ∙ ap (λ ss. x.state ∷ ss) (roomier_states xs ys h.3)
+
+roomier_numbers : (xs ys : List MemberKept) → AreRoomier xs ys → map number_of ys ≡ map number_of xs
+roomier_numbers [] [] h = refl
+roomier_numbers [] (y ∷ ys) h = absurd h
+roomier_numbers (x ∷ xs) [] h = absurd h
+roomier_numbers (x ∷ xs) (y ∷ ys) h = ap (λ (s : MemberState). s.who.number ∷ map number_of ys) h.1 ∙ ap (λ ns. number_of x ∷ ns) (roomier_numbers xs ys h.3)
+
+roomier_each : (run : RunOf) (room : ℕ) (xs ys : List MemberKept) → AreRoomier xs ys → AllByRecursion (λ m. (m.run ≡ run) × (room ≤ m.room)) xs
+    → AllByRecursion (λ m. (m.run ≡ run) × (room ≤ m.room)) ys
+roomier_each run room [] [] h i = tt
+roomier_each run room [] (y ∷ ys) h i = absurd h
+roomier_each run room (x ∷ xs) [] h i = absurd h
+roomier_each run room (x ∷ xs) (y ∷ ys) h i =
+    let least : room ≤ x.room = i.0.1 in let more : x.room ≤ y.room = h.2 in ((h.0 ∙ i.0.0, omega (arith, least, more)), roomier_each run room xs ys h.3 i.1)
+
+each_max : (run : RunOf) (room more : ℕ) (ys : List MemberKept) → AllByRecursion (λ m. (m.run ≡ run) × (room ≤ m.room)) ys → AllWithin (λ m. more ≤ m.room) ys 0 (length ys)
+    → AllByRecursion (λ m. (m.run ≡ run) × (max room more ≤ m.room)) ys
+each_max run room more [] i has = tt
+each_max run room more (y ∷ ys) i has =
+    let a : room ≤ y.room = i.0.1 in
+    let b : more ≤ y.room = has 0 y (omega arith) (omega arith) in
+    ((i.0.0, omega (arith, a, b)), each_max run room more ys i.1 (λ k d from to. has (suc k) d (omega arith) (omega (arith, to))))
+
+pub roomier_members : (run : RunOf) (room : ℕ) (xs ys : List MemberKept) → AreMembers run room xs → AreRoomier xs ys → AreMembers run room ys
+roomier_members run room xs ys i h = record { each = roomier_each run room xs ys h i.each; apart = subst AreApart (sym (roomier_numbers xs ys h)) i.apart }
+
+pub roomy_members : (run : RunOf) (room more : ℕ) (xs ys : List MemberKept) → AreMembers run room xs → AreRoomier xs ys → AllWithin (λ m. more ≤ m.room) ys 0 (length ys)
+    → AreMembers run (max room more) ys
+roomy_members run room more xs ys i h has = record {
+  each = each_max run room more ys (roomier_each run room xs ys h i.each) has;
+  apart = subst AreApart (sym (roomier_numbers xs ys h)) i.apart;
+}
+
+-- ---- a step begins
+
+begun_number : (now at : ℕ) (m : MemberKept) → number_of (begun_kept now at m) ≡ number_of m
+begun_number now at m = by (late_by m.run.timing now m.state) where
+  by : (b : Bool) → (let s : MemberState = cond b (recovery_begun (begun_in now at) m.state) m.state in s.who.number) ≡ m.state.who.number
+  by true = refl
+  by false = refl
+
+begun_numbers : (now at : ℕ) (ms : List MemberKept) → map number_of (map (begun_kept now at) ms) ≡ map number_of ms
+begun_numbers now at [] = refl
+begun_numbers now at (m ∷ ms) = ap (λ n. n ∷ map number_of (map (begun_kept now at) ms)) (begun_number now at m) ∙ ap (λ ns. number_of m ∷ ns) (begun_numbers now at ms)
+
+begun_each : (now at : ℕ) (run : RunOf) (room : ℕ) (ms : List MemberKept) → AllByRecursion (λ m. (m.run ≡ run) × (room ≤ m.room)) ms
+    → AllByRecursion (λ m. (m.run ≡ run) × (room ≤ m.room)) (map (begun_kept now at) ms)
+begun_each now at run room [] h = tt
+begun_each now at run room (m ∷ ms) h = (h.0, begun_each now at run room ms h.1)
+
+pub begun_members : (now at : ℕ) (run : RunOf) (room : ℕ) (ms zs : List MemberKept) → AreMembers run room ms → zs ≡ map (begun_kept now at) ms → AreMembers run room zs
+begun_members now at run room ms zs i is =
+    subst (λ xs. AreMembers run room xs) (sym is)
+    (record { each = begun_each now at run room ms i.each; apart = subst AreApart (sym (begun_numbers now at ms)) i.apart })
+
+pub begun_states : (now at : ℕ) (run : RunOf) (room : ℕ) (ms : List MemberKept) → AllByRecursion (λ m. (m.run ≡ run) × (room ≤ m.room)) ms
+    → states (map (begun_kept now at) ms) ≡ map (begun_by run.timing now at) (states ms)
+begun_states now at run room [] h = refl
+begun_states now at run room (m ∷ ms) h =
+    ap (λ (r : RunOf). begun_by r.timing now at m.state ∷ states (map (begun_kept now at) ms)) h.0.0
+    ∙ ap (λ ss. begun_by run.timing now at m.state ∷ ss) (begun_states now at run room ms h.1)
+
+pub late_states : (now : ℕ) (run : RunOf) (room : ℕ) (ms : List MemberKept) → AllByRecursion (λ m. (m.run ≡ run) × (room ≤ m.room)) ms
+    → list_any (λ (m : MemberKept). late_by m.run.timing now m.state) ms ≡ list_any (late_by run.timing now) (states ms)
+late_states now run room [] h = refl
+late_states now run room (m ∷ ms) h =
+    ap (λ (r : RunOf). late_by r.timing now m.state || list_any (λ (m : MemberKept). late_by m.run.timing now m.state) ms) h.0.0
+    ∙ ap (λ b. late_by run.timing now m.state || b) (late_states now run room ms h.1)
+
+pub roomier_length : (xs ys : List MemberKept) → AreRoomier xs ys → length ys ≡ length xs
+roomier_length [] [] h = refl
+roomier_length [] (y ∷ ys) h = absurd h
+roomier_length (x ∷ xs) [] h = absurd h
+roomier_length (x ∷ xs) (y ∷ ys) h = let rest = roomier_length xs ys h.3 in omega (arith, rest)
+
+-- All of a list, which is as long as that, in front of more.
+pub all_taken : (n : ℕ) (ys xs : List MemberKept) → length ys ≡ n → take n (ys ++ drop (length ys) xs) ≡ ys
+all_taken n ys xs e = grind (arith, common_steps)
+
+pub on_err : {T E : Type 0} (r : Result T E) (P : Type 0) → P → OnErr r P
+on_err (Ok a) P p = tt
+on_err (Err e) P p = p
+
+-- The same members with more memory are seen as the same.
+pub roomier_kept : (v : MembersState) (run : RunOf) (xs ys : List MemberKept) (places room : ℕ) → AreRoomier xs ys → members_as run xs places room ≡ v → members_as run ys places room ≡ v
+roomier_kept v run xs ys places room h view = ap (λ ss. P ss) (roomier_states xs ys h) ∙ view
   where
     P : List MemberState → MembersState
     P ss = record { run = run; members = ss; places = places; room = room }

@@ -20,6 +20,7 @@ ghost use Rattle.sl_lease.specs.Changes.{after_failure, after_read, after_write}
 ghost use Rattle.sl_member.specs.Asked.{bits_within};
 ghost use Rattle.sl_member.specs.Leases.{begins_lease};
 ghost use Rattle.sl_member.specs.Members.{IsOwnCall, RunOf, blank_member, delta_lease, kept_called, leaving_begun, lease_changed, own_of, own_told, owner_in, recovery_begun, renewal_counted, seen_in, side_in};
+ghost use Rattle.sl_member.specs.Together.{late_by};
 ghost use Rattle.sl_sector.specs.Records.{Fits};
 ghost use Rattle.sl_sessions.specs.Deltas.{next_free, next_renewal};
 ghost use Rattle.sl_sessions.specs.Sessions.{given_number, is_join_call};
@@ -30,7 +31,7 @@ ghost use Rattle.sl_trace.specs.declared.effects.Purpose.TheVariants.{Joining};
 ghost use Rattle.sl_trace.specs.declared.input.Answer.{Answer};
 ghost use Rattle.sl_watch.specs.Telling.{told_all};
 ghost use Rattle.sl_words.specs.Bounds.{moments};
-ghost use Rattle.std.specs.Prelude.{IfOk, IfSome, IsTrue, None, OnErr, OnOk, Some, bytes_eq, false, find, is_none, is_some, length, max, not, option_map, slice_get, true, ℕ, ◌&&◌, ◌*◌, ◌+◌, ◌<◌, ◌==◌, ◌^◌, ◌≡◌, ◌≤◌};
+ghost use Rattle.std.specs.Prelude.{IfOk, IfSome, IsTrue, None, OnErr, OnOk, Some, bytes_eq, false, find, is_none, is_some, length, max, nat_le, not, option_map, slice_get, true, ℕ, ◌&&◌, ◌*◌, ◌+◌, ◌<◌, ◌==◌, ◌^◌, ◌≡◌, ◌≤◌};
 
 use crate::asked::Asked;
 use crate::calls::delta_of;
@@ -105,6 +106,13 @@ fn own_sector(timing: &Timing, geometry: &Geometry, host: Name, who: &Session) -
         Some(_) => OwnSector::new(timing, geometry, host, who.lockspace, who.id),
         None => OwnSector::given(timing, geometry, host, who.lockspace, who.id, who.renewed),
     }
+}
+
+/// Whether so much has passed since a reading.
+fn has_passed(since: u64, time: u64, now: u64) -> bool
+    ensures { result ≡ nat_le (since + time) now }
+{
+    since <= now && time <= now - since
 }
 
 impl Member {
@@ -198,6 +206,16 @@ impl Member {
         ensures { result ≡ self.now.state.renewing }
     {
         self.renewing
+    }
+
+    /// Whether its recovery begins by time at the reading `now`: `fail` after the last renewal that counts.
+    pub fn is_late(&self, now: u64) -> bool
+        ensures { result ≡ late_by self.now.run.timing now self.now.state }
+    {
+        match self.renewing.recovery {
+            Some(_) => false,
+            None => self.joined && has_passed(self.renewing.last, self.timing.fail(), now),
+        }
     }
 
     /// How its leaving began.

@@ -10,7 +10,7 @@ ghost use Rattle.sl_host_state.specs.Kept.{MemberState};
 ghost use Rattle.sl_host_state.specs.Makes.{with_member};
 ghost use Rattle.sl_lease.specs.Changes.{after_failure, after_read, after_write};
 ghost use Rattle.sl_member.specs.Members.{IsOwnCall, leaving_begun, lease_changed, member_called, own_told, recovery_begun, renewal_counted};
-ghost use Rattle.sl_member.specs.Together.{begins_among, changed_member, member_with, side_with, told_survey};
+ghost use Rattle.sl_member.specs.Together.{AreRoomier, begins_among, begun_by, begun_kept, changed_member, late_by, member_with, side_with, told_survey};
 ghost use Rattle.sl_sessions.specs.Sessions.{is_join_call};
 ghost use Rattle.sl_trace.specs.Traces.{new_call};
 ghost use Rattle.sl_trace.specs.declared.effects.JoinStep.TheVariants.{FirstRead};
@@ -19,7 +19,8 @@ ghost use Rattle.sl_trace.specs.declared.input.Answer.{Answer};
 ghost use Rattle.sl_words.specs.Bounds.{moments};
 ghost use Rattle.sl_words.specs.Orders.{is_text_before};
 ghost use Rattle.sl_words.specs.Words.{some_is};
-ghost use Rattle.std.specs.Prelude.{IfSome, None, Some, bytes_eq, cond, false, filter, find, length, not, option_map, position, slice_get, true, unwrap_or, [], ℕ, ◌&&◌, ◌*◌, ◌-◌, ◌<◌, ◌==◌, ◌^◌, ◌≡◌, ◌≤◌};
+ghost use Rattle.std.specs.List.{AllWithin, list_any};
+ghost use Rattle.std.specs.Prelude.{IfSome, None, OnErr, OnOk, Some, bytes_eq, cond, false, filter, find, length, map, max, not, option_map, position, slice_get, true, unwrap_or, [], ℕ, ◌&&◌, ◌*◌, ◌-◌, ◌<◌, ◌==◌, ◌^◌, ◌≡◌, ◌≤◌};
 
 use crate::member::Member;
 use sl_area::Geometry;
@@ -30,7 +31,7 @@ use sl_sessions::Begun;
 use sl_text::Name;
 use sl_time::Timing;
 use sl_trace::{Call, Purpose, Spot};
-use std::alloc::Global;
+use std::alloc::{AllocError, Global};
 use std::marker::Model;
 
 /// The members of a host.
@@ -140,6 +141,46 @@ fn is_joined_as(member: &Member, lockspace: &Name) -> bool
     member.is_joined() && member.is_named(lockspace)
 }
 
+/// Sees that each has memory for so many more leases.
+fn reserve_rooms(items: &mut [Member], room: usize) -> Result<(), AllocError>
+    ensures kept { AreRoomier items.old items.new }
+    ensures ok { OnOk result (AllWithin (λ m. room ≤ m.room) items.new 0 (length items.new)) }
+{
+    for member in items.iter_mut() {
+        member.reserve(room)?;
+    }
+    Ok(())
+}
+
+/// Whether the recovery of one begins by time.
+fn is_any_late(items: &[Member], now: u64) -> bool
+    ensures { result ≡ list_any (λ m. late_by m.run.timing now m.state) items.now }
+{
+    items.iter().any(|member| member.is_late(now))
+}
+
+/// Begins the recovery of a member if it is late.
+fn begin(member: &mut Member, now: u64, at: u64)
+    ensures { member.new ≡ begun_kept now at member.old }
+{
+    if member.is_late(now) {
+        member.recovers(Begun {
+            at,
+            reading: now,
+            kills_from: at,
+        });
+    }
+}
+
+/// The same for all of these.
+fn begin_all(items: &mut [Member], now: u64, at: u64)
+    ensures { items.new ≡ map (begun_kept now at) items.old }
+{
+    for member in items.iter_mut() {
+        begin(member, now, at);
+    }
+}
+
 impl Members {
     /// None, of this run.
     pub fn new(alloc: Global, timing: &Timing, geometry: &Geometry, host: Name) -> Members
@@ -153,6 +194,33 @@ impl Members {
             places: 0,
             room: 0,
         }
+    }
+
+    /// Sees that there is memory for so many more members, and for so many more leases at each. An `Err` is want of memory, and changes
+    /// nothing.
+    pub fn reserve(&mut self, places: usize, room: usize) -> Result<(), AllocError>
+        ensures ok { OnOk result (self.new ≡ record self.old { places = max self.old.places places; room = max self.old.room room }) }
+        ensures err { OnErr result (self.new ≡ self.old) }
+    {
+        self.items.reserve(places)?;
+        reserve_rooms(&mut self.items, room)?;
+        self.places = self.places.max(places);
+        self.room = self.room.max(room);
+        Ok(())
+    }
+
+    /// Whether the recovery of one begins by time.
+    pub fn is_late(&self, now: u64) -> bool
+        ensures { result ≡ list_any (late_by self.now.run.timing now) self.now.members }
+    {
+        is_any_late(&self.items, now)
+    }
+
+    /// The step that is this one of all, counted from 0, begins at the reading `now`: recoveries begin that are due by time.
+    pub fn begins(&mut self, now: u64, at: u64)
+        ensures { self.new ≡ record self.old { members = map (begun_by self.old.run.timing now at) self.old.members } }
+    {
+        begin_all(&mut self.items, now, at);
     }
 
     /// How many there are.
