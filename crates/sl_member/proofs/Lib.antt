@@ -6,3 +6,4 @@ pub mod CallsWork
 pub mod Numbered
 pub mod Gathered
 pub mod CalledMembers
+pub mod HostsHear

@@ -1,4 +1,5 @@
 pub mod Asked
+pub mod Laws
 pub mod Leases
 pub mod Members
 pub mod Seen

@@ -3,6 +3,7 @@
 
 mod asked;
 mod calls;
+pub mod laws;
 mod leases;
 mod member;
 mod members;
