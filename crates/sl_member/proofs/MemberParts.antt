@@ -13,12 +13,12 @@ use Rattle.std.proofs.Common.{ap, refl, subst, sym, ◌∙◌}
 use Rattle.std.specs.Prelude.{Bool, List, Option, ℕ, ◌≡◌}
 
 -- What is kept of the own sector, of this run and session.
-abbrev pub own_at : OwnState → TimingNumbers → Sizes → List ℕ → ℕ → OwnState
-own_at o t z l i =
+abbrev pub own_at : OwnState → TimingNumbers → Sizes → List ℕ → List ℕ → ℕ → OwnState
+own_at o t z n l i =
     record {
       timing = t;
       sizes = z;
-      host = o.host;
+      host = n;
       lockspace = l;
       id = i;
       joining = o.joining;
@@ -29,29 +29,29 @@ own_at o t z l i =
       freed = o.freed;
     }
 
-pub own_is : {tm : TimingNumbers} {z : Sizes} {who : Session} {joined : Bool} {o : OwnState} {w : Watched} → IsMember tm z who joined o w
-    → o ≡ own_at o tm z who.lockspace who.id
-own_is {tm} {z} {who} {joined} {o} {w} i =
-    ap (λ t. own_at o t o.sizes o.lockspace o.id) i.timing ∙ ap (λ s. own_at o tm s o.lockspace o.id) i.sizes ∙ ap (λ l. own_at o tm z l o.id) i.lockspace
-    ∙ ap (λ n. own_at o tm z who.lockspace n) i.id
+pub own_is : {tm : TimingNumbers} {z : Sizes} {host : List ℕ} {who : Session} {joined : Bool} {o : OwnState} {w : Watched} → IsMember tm z host who joined o w
+    → o ≡ own_at o tm z host who.lockspace who.id
+own_is {tm} {z} {host} {who} {joined} {o} {w} i =
+    ap (λ t. own_at o t o.sizes o.host o.lockspace o.id) i.timing ∙ ap (λ s. own_at o tm s o.host o.lockspace o.id) i.sizes
+    ∙ ap (λ n. own_at o tm z n o.lockspace o.id) i.named ∙ ap (λ l. own_at o tm z host l o.id) i.lockspace ∙ ap (λ k. own_at o tm z host who.lockspace k) i.id
 
 -- Its delta lease.
-abbrev pub lease_at : OwnState → TimingNumbers → Sizes → List ℕ → ℕ → DeltaLease
-lease_at o t z l i = record { timing = t; layout = layout_of z; host = o.host; lockspace = l; id = i }
+abbrev pub lease_at : OwnState → TimingNumbers → Sizes → List ℕ → List ℕ → ℕ → DeltaLease
+lease_at o t z n l i = record { timing = t; layout = layout_of z; host = n; lockspace = l; id = i }
 
-pub lease_is : {tm : TimingNumbers} {z : Sizes} {who : Session} {joined : Bool} {o : OwnState} {w : Watched} → IsMember tm z who joined o w
-    → lease_of o ≡ lease_at o tm z who.lockspace who.id
-lease_is {tm} {z} {who} {joined} {o} {w} i = ap lease_of (own_is i)
+pub lease_is : {tm : TimingNumbers} {z : Sizes} {host : List ℕ} {who : Session} {joined : Bool} {o : OwnState} {w : Watched} → IsMember tm z host who joined o w
+    → lease_of o ≡ lease_at o tm z host who.lockspace who.id
+lease_is {tm} {z} {host} {who} {joined} {o} {w} i = ap lease_of (own_is i)
 
 -- After an answer they are so still.
-pub told_member : {tm : TimingNumbers} {z : Sizes} {who : Session} {joined : Bool} {o : OwnState} {w : Watched} (p : Purpose) (a : Answer) (now : ℕ) (n : OwnState)
-    → IsMember tm z who joined o w → n ≡ after_answer p a now o → IsMember tm z who joined n w
-told_member {tm} {z} {who} {joined} {o} {w} p a now n i is =
-    subst (λ q. IsMember tm z who joined q w) (sym is)
-    (record { timing = i.timing; sizes = i.sizes; lockspace = i.lockspace; id = i.id; watched = i.watched; times = i.times; claimed = i.claimed })
+pub told_member : {tm : TimingNumbers} {z : Sizes} {host : List ℕ} {who : Session} {joined : Bool} {o : OwnState} {w : Watched} (p : Purpose) (a : Answer) (now : ℕ) (n : OwnState)
+    → IsMember tm z host who joined o w → n ≡ after_answer p a now o → IsMember tm z host who joined n w
+told_member {tm} {z} {host} {who} {joined} {o} {w} p a now n i is =
+    subst (λ q. IsMember tm z host who joined q w) (sym is)
+    (record { timing = i.timing; sizes = i.sizes; named = i.named; lockspace = i.lockspace; id = i.id; watched = i.watched; times = i.times; claimed = i.claimed })
 
 -- .. and after the watch was told.
-pub watched_member : {tm : TimingNumbers} {z : Sizes} {who : Session} {joined : Bool} {o : OwnState} {w : Watched} (v : Watched) → IsMember tm z who joined o w
-    → v.sizes ≡ w.sizes → v.timing ≡ w.timing → IsMember tm z who joined o v
+pub watched_member : {tm : TimingNumbers} {z : Sizes} {host : List ℕ} {who : Session} {joined : Bool} {o : OwnState} {w : Watched} (v : Watched) → IsMember tm z host who joined o w
+    → v.sizes ≡ w.sizes → v.timing ≡ w.timing → IsMember tm z host who joined o v
 watched_member v i sizes timing =
-    record { timing = i.timing; sizes = i.sizes; lockspace = i.lockspace; id = i.id; watched = sizes ∙ i.watched; times = timing ∙ i.times; claimed = i.claimed }
+    record { timing = i.timing; sizes = i.sizes; named = i.named; lockspace = i.lockspace; id = i.id; watched = sizes ∙ i.watched; times = timing ∙ i.times; claimed = i.claimed }

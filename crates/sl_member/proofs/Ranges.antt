@@ -7,8 +7,8 @@ use Rattle.sl_watch.specs.Watches.{Watched}
 use Rattle.std.proofs.Common.{ap, arith, refl, suc, sym, zero, ◌∙◌}
 use Rattle.std.proofs.lemmas.List.Elements.{filter-append}
 use Rattle.std.proofs.lemmas.List.Sums.{fold-append}
-use Rattle.std.specs.List.{range_with_len}
-use Rattle.std.specs.Prelude.{Bool, List, Result, cond, false, filter, fold, true, [], ℕ, ◌++◌, ◌+◌, ◌∷◌, ◌≡◌}
+use Rattle.std.specs.List.{list_any, range_with_len}
+use Rattle.std.specs.Prelude.{Bool, List, Result, cond, false, filter, fold, true, [], ℕ, ◌++◌, ◌+◌, ◌<◌, ◌∷◌, ◌≡◌, ◌||◌}
 
 one_on : (a n : ℕ) → a + 1 + n ≡ a + suc n
 one_on a n = omega arith
@@ -51,3 +51,32 @@ pub told_more : (before after : ℕ) (found : ℕ → Result Rec Bad) (n : ℕ) 
 told_more before after found n w =
     ap (λ ids. told_of before after found ids w) (ids_more n)
     ∙ fold-append (λ (v : Watched) id. told_at before after id (found id) v) w (range_with_len 1 n) ((n + 1) ∷ [])
+
+any_or : (p : ℕ → Bool) (xs : List ℕ) (y : ℕ) → list_any p (xs ++ y ∷ []) ≡ (list_any p xs || p y)
+any_or p [] y = by (p y) where
+  by : (b : Bool) → (b || false) ≡ b
+  by true = refl
+  by false = refl
+any_or p (x ∷ xs) y = by (p x) (any_or p xs y) where
+  by : (b : Bool) → list_any p (xs ++ y ∷ []) ≡ (list_any p xs || p y) → (b || list_any p (xs ++ y ∷ [])) ≡ ((b || list_any p xs) || p y)
+  by true h = refl
+  by false h = h
+
+-- None so far, nor this one.
+pub none_more : (p : ℕ → Bool) (n : ℕ) → list_any p (range_with_len 1 n) ≡ false → p (n + 1) ≡ false → list_any p (range_with_len 1 (n + 1)) ≡ false
+none_more p n none here =
+    ap (list_any p) (ids_more n) ∙ any_or p (range_with_len 1 n) (n + 1) ∙ ap (λ b. b || p (n + 1)) none ∙ here
+
+one_in : (p : ℕ → Bool) (a n k : ℕ) → k < n → p (a + k) ≡ true → list_any p (range_with_len a n) ≡ true
+one_in p a zero k inside is = absurd (omega (arith, inside))
+one_in p a (suc n) zero inside is = ap (λ b. b || list_any p (range_with_len (a + 1) n)) (ap p (zero_on a) ∙ is) where
+  zero_on : (a : ℕ) → a ≡ a + zero
+  zero_on a = omega arith
+one_in p a (suc n) (suc k) inside is = either (p a) (one_in p (a + 1) n k (omega (arith, inside)) (ap p (one_on a k) ∙ is)) where
+  either : (b : Bool) → list_any p (range_with_len (a + 1) n) ≡ true → (b || list_any p (range_with_len (a + 1) n)) ≡ true
+  either true h = refl
+  either false h = h
+
+-- This one of them.
+pub one_asks : (p : ℕ → Bool) (n k : ℕ) → k < n → p (k + 1) ≡ true → list_any p (range_with_len 1 n) ≡ true
+one_asks p n k inside is = one_in p 1 n k inside (ap p (turned k) ∙ is)

@@ -39,9 +39,10 @@ pub record MemberKept : Type 0 where
   pub room : ℕ
 
 -- What its parts are together: each is of the run and of the session; who is joined has a generation.
-pub record IsMember (tm : TimingNumbers) (z : Sizes) (who : Session) (joined : Bool) (o : OwnState) (w : Watched) : Type 0 where
+pub record IsMember (tm : TimingNumbers) (z : Sizes) (host : List ℕ) (who : Session) (joined : Bool) (o : OwnState) (w : Watched) : Type 0 where
   pub timing : o.timing ≡ tm
   pub sizes : o.sizes ≡ z
+  pub named : o.host ≡ host
   pub lockspace : o.lockspace ≡ who.lockspace
   pub id : o.id ≡ who.id
   pub watched : w.sizes ≡ z

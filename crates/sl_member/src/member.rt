@@ -20,6 +20,7 @@ ghost use Rattle.sl_lease.specs.Changes.{after_failure, after_read, after_write}
 ghost use Rattle.sl_member.specs.Asked.{bits_within};
 ghost use Rattle.sl_member.specs.Leases.{begins_lease};
 ghost use Rattle.sl_member.specs.Members.{IsOwnCall, RunOf, blank_member, delta_lease, kept_called, leaving_begun, lease_changed, own_of, own_told, owner_in, recovery_begun, renewal_counted, seen_in, side_in};
+ghost use Rattle.sl_member.specs.Seen.{is_asked_by, shows_other_by};
 ghost use Rattle.sl_member.specs.Together.{late_by};
 ghost use Rattle.sl_sector.specs.Records.{Fits};
 ghost use Rattle.sl_sessions.specs.Deltas.{next_free, next_renewal};
@@ -37,6 +38,7 @@ use crate::asked::Asked;
 use crate::calls::delta_of;
 use crate::leases::Leases;
 use crate::seen::{Seen, tell_all};
+use crate::surveys::{is_asked, shows_other};
 use sl_area::Geometry;
 use sl_delta::{OwnSector, SectorAnswer};
 use sl_lease::{Lease, Side};
@@ -56,6 +58,7 @@ use std::marker::Model;
 pub struct Member {
     timing: Timing,
     geometry: Geometry,
+    host: Name,
     who: Session,
     joined: bool,
     refused: bool,
@@ -76,7 +79,7 @@ impl Model for Member {
     ghost Value = { MemberKept };
 
     ghost view = { λ m. record {
-      run = record { timing = m.timing; sizes = m.geometry; host = m.own.host };
+      run = record { timing = m.timing; sizes = m.geometry; host = m.host };
       state = record {
         who = m.who;
         joined = m.joined;
@@ -92,7 +95,7 @@ impl Model for Member {
       room = m.leases.room;
     } };
 
-    ghost invariant = { λ m. IsMember m.timing m.geometry m.who m.joined m.own m.watch };
+    ghost invariant = { λ m. IsMember m.timing m.geometry m.host m.who m.joined m.own m.watch };
 }
 
 /// The own sector of a session without a call: one that is given is joined under generation 1.
@@ -140,6 +143,7 @@ impl Member {
         Ok(Member {
             timing: *timing,
             geometry: *geometry,
+            host,
             who,
             joined: who.job.is_none(),
             refused: false,
@@ -277,6 +281,32 @@ impl Member {
         ensures { result.now ≡ self.now.state.watch }
     {
         &self.watch
+    }
+
+    /// Whether a read of all ids shows another in its place: under its id, another host's name or another generation.
+    pub fn shows_other(&self, sectors: &Images) -> bool
+        requires size { sectors.now.size ≡ self.now.run.sizes.sector }
+        requires many { length sectors.now.bytes ≡ self.now.run.sizes.hosts * self.now.run.sizes.sector }
+        ensures { result ≡ shows_other_by (layout_of self.now.run.sizes) self.now.run.host self.now.state.who.id self.now.state.known.generation sectors.now.bytes }
+    {
+        let known = self.known();
+        shows_other(
+            &self.geometry,
+            &self.host,
+            self.who.id,
+            known.generation,
+            sectors,
+        )
+    }
+
+    /// Whether it shows that another asks for what it holds.
+    pub fn is_asked(&self, sectors: &Images) -> bool
+        requires size { sectors.now.size ≡ self.now.run.sizes.sector }
+        requires many { length sectors.now.bytes ≡ self.now.run.sizes.hosts * self.now.run.sizes.sector }
+        ensures { result ≡ is_asked_by (layout_of self.now.run.sizes) self.now.state.who.id sectors.now.bytes }
+    {
+        let _known = self.known();
+        is_asked(&self.geometry, self.who.id, sectors)
     }
 
     /// Its leases, to be read.
