@@ -41,10 +41,9 @@ use crate::seen::{Seen, tell_all};
 use crate::surveys::{is_asked, shows_other};
 use sl_area::Geometry;
 use sl_delta::{OwnSector, SectorAnswer};
-use sl_lease::{Lease, Side};
+use sl_lease::{Lease, Sectors, Side};
 use sl_request::Bitmap;
 use sl_sector::{Block, HostId, Leader, Owner};
-use sl_sectors::Images;
 use sl_sessions::{Begun, DeltaKnown, DeltaNext, Renewing, Session};
 use sl_text::Name;
 use sl_time::Timing;
@@ -284,10 +283,10 @@ impl Member {
     }
 
     /// Whether a read of all ids shows another in its place: under its id, another host's name or another generation.
-    pub fn shows_other(&self, sectors: &Images) -> bool
-        requires size { sectors.now.size ≡ self.now.run.sizes.sector }
-        requires many { length sectors.now.bytes ≡ self.now.run.sizes.hosts * self.now.run.sizes.sector }
-        ensures { result ≡ shows_other_by (layout_of self.now.run.sizes) self.now.run.host self.now.state.who.id self.now.state.known.generation sectors.now.bytes }
+    pub fn shows_other<S: Sectors>(&self, sectors: &S) -> bool
+        requires cut { IsTrue (S.is_cut sectors.now self.now.run.sizes.sector) }
+        requires many { length (S.bytes sectors.now) ≡ self.now.run.sizes.hosts * self.now.run.sizes.sector }
+        ensures { result ≡ shows_other_by (layout_of self.now.run.sizes) self.now.run.host self.now.state.who.id self.now.state.known.generation (S.bytes sectors.now) }
     {
         let known = self.known();
         shows_other(
@@ -300,10 +299,10 @@ impl Member {
     }
 
     /// Whether it shows that another asks for what it holds.
-    pub fn is_asked(&self, sectors: &Images) -> bool
-        requires size { sectors.now.size ≡ self.now.run.sizes.sector }
-        requires many { length sectors.now.bytes ≡ self.now.run.sizes.hosts * self.now.run.sizes.sector }
-        ensures { result ≡ is_asked_by (layout_of self.now.run.sizes) self.now.state.who.id sectors.now.bytes }
+    pub fn is_asked<S: Sectors>(&self, sectors: &S) -> bool
+        requires cut { IsTrue (S.is_cut sectors.now self.now.run.sizes.sector) }
+        requires many { length (S.bytes sectors.now) ≡ self.now.run.sizes.hosts * self.now.run.sizes.sector }
+        ensures { result ≡ is_asked_by (layout_of self.now.run.sizes) self.now.state.who.id (S.bytes sectors.now) }
     {
         let _known = self.known();
         is_asked(&self.geometry, self.who.id, sectors)
@@ -418,10 +417,10 @@ impl Member {
     }
 
     /// Its read of all ids, submitted at the reading `before` and answered at `after`, gave these sectors.
-    pub fn surveyed(&mut self, before: u64, after: u64, sectors: &Images)
-        requires size { sectors.now.size ≡ self.old.run.sizes.sector }
-        requires many { length sectors.now.bytes ≡ self.old.run.sizes.hosts * self.old.run.sizes.sector }
-        ensures { self.new ≡ record self.old { state = record self.old.state { watch = told_all before after (layout_of self.old.run.sizes) sectors.now.bytes self.old.state.watch } } }
+    pub fn surveyed<S: Sectors>(&mut self, before: u64, after: u64, sectors: &S)
+        requires cut { IsTrue (S.is_cut sectors.now self.old.run.sizes.sector) }
+        requires many { length (S.bytes sectors.now) ≡ self.old.run.sizes.hosts * self.old.run.sizes.sector }
+        ensures { self.new ≡ record self.old { state = record self.old.state { watch = told_all before after (layout_of self.old.run.sizes) (S.bytes sectors.now) self.old.state.watch } } }
     {
         tell_all(&mut self.watch, &self.geometry, before, after, sectors);
     }

@@ -20,13 +20,13 @@ ghost use Rattle.sl_words.specs.Bounds.{moments};
 ghost use Rattle.sl_words.specs.Orders.{is_text_before};
 ghost use Rattle.sl_words.specs.Words.{some_is};
 ghost use Rattle.std.specs.List.{AllWithin, list_any};
-ghost use Rattle.std.specs.Prelude.{IfSome, None, OnErr, OnOk, Some, bytes_eq, cond, false, filter, find, length, map, max, not, option_map, position, slice_get, true, unwrap_or, [], ℕ, ◌&&◌, ◌*◌, ◌-◌, ◌<◌, ◌==◌, ◌^◌, ◌≡◌, ◌≤◌};
+ghost use Rattle.std.specs.Prelude.{IfSome, IsTrue, None, OnErr, OnOk, Some, bytes_eq, cond, false, filter, find, length, map, max, not, option_map, position, slice_get, true, unwrap_or, [], ℕ, ◌&&◌, ◌*◌, ◌-◌, ◌<◌, ◌==◌, ◌^◌, ◌≡◌, ◌≤◌};
 
 use crate::member::Member;
 use sl_area::Geometry;
 use sl_delta::SectorAnswer;
+use sl_lease::Sectors;
 use sl_sector::{Block, HostId, Leader};
-use sl_sectors::Images;
 use sl_sessions::Begun;
 use sl_text::Name;
 use sl_time::Timing;
@@ -336,10 +336,10 @@ impl Members {
     }
 
     /// Its read of all ids, submitted at the reading `before` and answered at `after`, gave these sectors.
-    pub fn surveyed(&mut self, number: u64, before: u64, after: u64, sectors: &Images)
-        requires size { sectors.now.size ≡ self.old.run.sizes.sector }
-        requires many { length sectors.now.bytes ≡ self.old.run.sizes.hosts * self.old.run.sizes.sector }
-        ensures { self.new ≡ record self.old { members = changed_member number (told_survey self.old.run before after sectors.now.bytes) self.old.members } }
+    pub fn surveyed<S: Sectors>(&mut self, number: u64, before: u64, after: u64, sectors: &S)
+        requires cut { IsTrue (S.is_cut sectors.now self.old.run.sizes.sector) }
+        requires many { length (S.bytes sectors.now) ≡ self.old.run.sizes.hosts * self.old.run.sizes.sector }
+        ensures { self.new ≡ record self.old { members = changed_member number (told_survey self.old.run before after (S.bytes sectors.now)) self.old.members } }
     {
         match place_of(&self.items, number) {
             Some(place) => self.items[place].surveyed(before, after, sectors),

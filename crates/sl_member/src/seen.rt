@@ -1,16 +1,14 @@
 //! What a session has seen of other hosts, and whom it counts as over.
 
 ghost use Rattle.sl_member.specs.Seen.{evidence_of, over_by};
-ghost use Rattle.sl_sectors.specs.Images.{record_at};
 ghost use Rattle.sl_area.specs.Layouts.{layout_of};
 ghost use Rattle.sl_area.specs.Places.{read_at};
 ghost use Rattle.sl_watch.specs.Telling.{told_all, told_at};
 ghost use Rattle.std.specs.Prelude.{IsTrue, Some, length, ◌&&◌, ◌*◌, ◌+◌, ◌-◌, ◌<◌, ◌≡◌, ◌≤◌};
 
 use sl_area::Geometry;
-use sl_lease::Evidence;
+use sl_lease::{Evidence, Sectors};
 use sl_sector::{Gen, HostId};
-use sl_sectors::Images;
 use sl_trace::Evidence as Reason;
 use sl_watch::Watch;
 use std::marker::Model;
@@ -73,34 +71,36 @@ impl<'a> Evidence for Seen<'a> {
 }
 
 /// The watch is told of an id, whose sector is in what a read of all gave.
-fn tell(
+fn tell<S: Sectors>(
     watch: &mut Watch,
     geometry: &Geometry,
     before: u64,
     after: u64,
     id: HostId,
-    sectors: &Images,
+    sectors: &S,
 )
     requires watched { geometry.now ≡ watch.old.sizes }
     requires id { (1 ≤ id) × (id ≤ geometry.now.hosts) }
-    requires size { sectors.now.size ≡ geometry.now.sector }
-    requires many { length sectors.now.bytes ≡ geometry.now.hosts * geometry.now.sector }
-    ensures exact { watch.new ≡ told_at before after id (read_at (layout_of geometry.now) sectors.now.bytes (id - 1)) watch.old }
+    requires cut { IsTrue (S.is_cut sectors.now geometry.now.sector) }
+    requires many { length (S.bytes sectors.now) ≡ geometry.now.hosts * geometry.now.sector }
+    ensures exact { watch.new ≡ told_at before after id (read_at (layout_of geometry.now) (S.bytes sectors.now) (id - 1)) watch.old }
     ensures run { (watch.new.sizes ≡ watch.old.sizes) × (watch.new.timing ≡ watch.old.timing) }
 {
-    let _size = geometry.sector();
-    match sectors.record(id as usize - 1) {
-        Some(found) => watch.told(before, after, id, found),
-        None => {}
-    }
+    watch.told(before, after, id, sectors.record(geometry.sector(), id - 1));
 }
 
 /// The watch is told of all ids: their sectors were read by a call submitted at the reading `before` and answered at `after`.
-pub fn tell_all(watch: &mut Watch, geometry: &Geometry, before: u64, after: u64, sectors: &Images)
+pub fn tell_all<S: Sectors>(
+    watch: &mut Watch,
+    geometry: &Geometry,
+    before: u64,
+    after: u64,
+    sectors: &S,
+)
     requires watched { geometry.now ≡ watch.old.sizes }
-    requires size { sectors.now.size ≡ geometry.now.sector }
-    requires many { length sectors.now.bytes ≡ geometry.now.hosts * geometry.now.sector }
-    ensures exact { watch.new ≡ told_all before after (layout_of geometry.now) sectors.now.bytes watch.old }
+    requires cut { IsTrue (S.is_cut sectors.now geometry.now.sector) }
+    requires many { length (S.bytes sectors.now) ≡ geometry.now.hosts * geometry.now.sector }
+    ensures exact { watch.new ≡ told_all before after (layout_of geometry.now) (S.bytes sectors.now) watch.old }
     ensures run { (watch.new.sizes ≡ watch.old.sizes) × (watch.new.timing ≡ watch.old.timing) }
 {
     for skipped in 0..geometry.hosts() {

@@ -4,26 +4,22 @@ ghost use Rattle.sl_area.specs.Layouts.{layout_of};
 ghost use Rattle.sl_area.specs.Places.{delta_of};
 ghost use Rattle.sl_member.specs.Seen.{asks_by, is_asked_by, shows_other_by};
 ghost use Rattle.sl_words.specs.Words.{some_is};
-ghost use Rattle.std.specs.Prelude.{bytes_eq, length, ◌*◌, ◌≡◌, ◌≤◌};
+ghost use Rattle.std.specs.Prelude.{IsTrue, bytes_eq, length, ◌*◌, ◌≡◌, ◌≤◌};
 
 use sl_area::Geometry;
+use sl_lease::Sectors;
 use sl_request::Bitmap;
 use sl_sector::{DeltaRec, HostId, delta_in};
-use sl_sectors::Images;
 use sl_text::Name;
 
 /// The delta record in an id's sector, if it spells one.
-fn delta_of(geometry: &Geometry, sectors: &Images, id: HostId) -> Option<DeltaRec>
+fn delta_of<S: Sectors>(geometry: &Geometry, sectors: &S, id: HostId) -> Option<DeltaRec>
     requires id { (1 ≤ id) × (id ≤ geometry.now.hosts) }
-    requires size { sectors.now.size ≡ geometry.now.sector }
-    requires many { length sectors.now.bytes ≡ geometry.now.hosts * geometry.now.sector }
-    ensures { result ≡ delta_of (layout_of geometry.now) sectors.now.bytes id }
+    requires cut { IsTrue (S.is_cut sectors.now geometry.now.sector) }
+    requires many { length (S.bytes sectors.now) ≡ geometry.now.hosts * geometry.now.sector }
+    ensures { result ≡ delta_of (layout_of geometry.now) (S.bytes sectors.now) id }
 {
-    let _size = geometry.sector();
-    match sectors.record(id as usize - 1) {
-        Some(found) => delta_in(found),
-        None => None,
-    }
+    delta_in(sectors.record(geometry.sector(), id - 1))
 }
 
 /// Whether a record names this host.
@@ -37,17 +33,17 @@ fn is_of(host: &Option<Name>, name: &Name) -> bool
 }
 
 /// Whether they show an id under another host's name or another generation.
-pub(crate) fn shows_other(
+pub(crate) fn shows_other<S: Sectors>(
     geometry: &Geometry,
     name: &Name,
     id: HostId,
     generation: u64,
-    sectors: &Images,
+    sectors: &S,
 ) -> bool
     requires id { (1 ≤ id) × (id ≤ geometry.now.hosts) }
-    requires size { sectors.now.size ≡ geometry.now.sector }
-    requires many { length sectors.now.bytes ≡ geometry.now.hosts * geometry.now.sector }
-    ensures { result ≡ shows_other_by (layout_of geometry.now) name.now id generation sectors.now.bytes }
+    requires cut { IsTrue (S.is_cut sectors.now geometry.now.sector) }
+    requires many { length (S.bytes sectors.now) ≡ geometry.now.hosts * geometry.now.sector }
+    ensures { result ≡ shows_other_by (layout_of geometry.now) name.now id generation (S.bytes sectors.now) }
 {
     match delta_of(geometry, sectors, id) {
         Some(delta) => delta.id == id
@@ -57,12 +53,12 @@ pub(crate) fn shows_other(
 }
 
 /// Whether the sector of another id has the bit of this one.
-fn asks(geometry: &Geometry, id: HostId, sectors: &Images, from: HostId) -> bool
+fn asks<S: Sectors>(geometry: &Geometry, id: HostId, sectors: &S, from: HostId) -> bool
     requires id { (1 ≤ id) × (id ≤ geometry.now.hosts) }
     requires from { (1 ≤ from) × (from ≤ geometry.now.hosts) }
-    requires size { sectors.now.size ≡ geometry.now.sector }
-    requires many { length sectors.now.bytes ≡ geometry.now.hosts * geometry.now.sector }
-    ensures { result ≡ asks_by (layout_of geometry.now) id sectors.now.bytes from }
+    requires cut { IsTrue (S.is_cut sectors.now geometry.now.sector) }
+    requires many { length (S.bytes sectors.now) ≡ geometry.now.hosts * geometry.now.sector }
+    ensures { result ≡ asks_by (layout_of geometry.now) id (S.bytes sectors.now) from }
 {
     let _hosts = geometry.hosts();
     match delta_of(geometry, sectors, from) {
@@ -72,11 +68,11 @@ fn asks(geometry: &Geometry, id: HostId, sectors: &Images, from: HostId) -> bool
 }
 
 /// Whether one of them has it.
-pub(crate) fn is_asked(geometry: &Geometry, id: HostId, sectors: &Images) -> bool
+pub(crate) fn is_asked<S: Sectors>(geometry: &Geometry, id: HostId, sectors: &S) -> bool
     requires id { (1 ≤ id) × (id ≤ geometry.now.hosts) }
-    requires size { sectors.now.size ≡ geometry.now.sector }
-    requires many { length sectors.now.bytes ≡ geometry.now.hosts * geometry.now.sector }
-    ensures { result ≡ is_asked_by (layout_of geometry.now) id sectors.now.bytes }
+    requires cut { IsTrue (S.is_cut sectors.now geometry.now.sector) }
+    requires many { length (S.bytes sectors.now) ≡ geometry.now.hosts * geometry.now.sector }
+    ensures { result ≡ is_asked_by (layout_of geometry.now) id (S.bytes sectors.now) }
 {
     for skipped in 0..geometry.hosts() {
         if asks(geometry, id, sectors, skipped + 1) {

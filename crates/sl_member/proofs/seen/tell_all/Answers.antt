@@ -6,13 +6,13 @@ use Rattle.sl_watch.specs.Telling.{told_at}
 use Rattle.std.proofs.Common.{ap, sym, ◌+◌, ◌-◌, ◌∙◌}
 
 pub loop-skipped-preserved : goal.loop-skipped-preserved
-loop-skipped-preserved c =
+loop-skipped-preserved g c =
     let k = c.loop-skipped.skipped in
-    let g = layout_of c.args.geometry.now in
-    let bytes = c.args.sectors.now.bytes in
+    let layout = layout_of c.args.geometry.now in
+    let bytes = g.S.Sectors.bytes c.args.sectors.now in
     record {
-      told = c.tell.ensures.exact ∙ ap (told_at c.args.before c.args.after (k + 1) (read_at g bytes (k + 1 - 1))) c.loop-skipped.invariant.told
-          ∙ sym (told_more c.args.before c.args.after (λ id. read_at g bytes (id - 1)) k c.args.watch.now);
+      told = c.tell.ensures.exact ∙ ap (told_at c.args.before c.args.after (k + 1) (read_at layout bytes (k + 1 - 1))) c.loop-skipped.invariant.told
+          ∙ sym (told_more c.args.before c.args.after (λ id. read_at layout bytes (id - 1)) k c.args.watch.now);
       sizes = c.tell.ensures.run.0 ∙ c.loop-skipped.invariant.sizes;
       timing = c.tell.ensures.run.1 ∙ c.loop-skipped.invariant.timing;
     }

@@ -6,8 +6,8 @@ use Rattle.std.proofs.Common.{◌-◌, ◌≡◌}
 use Rattle.std.specs.List.{range_with_len}
 
 abbrev pub invariant-loop-skipped : goal.invariant-loop-skipped
-invariant-loop-skipped l = record {
-  told : l.watch ≡ told_of l.before l.after (λ id. read_at (layout_of l.geometry) l.sectors.bytes (id - 1)) (range_with_len 1 l.skipped) l.fn.watch;
+invariant-loop-skipped g l = record {
+  told : l.watch ≡ told_of l.before l.after (λ id. read_at (layout_of l.geometry) (g.S.Sectors.bytes l.sectors) (id - 1)) (range_with_len 1 l.skipped) l.fn.watch;
   sizes : l.watch.sizes ≡ l.fn.watch.sizes;
   timing : l.watch.timing ≡ l.fn.watch.timing;
 }

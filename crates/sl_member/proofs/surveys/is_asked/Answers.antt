@@ -6,17 +6,17 @@ use Rattle.std.proofs.Common.{Bool, arith, false, subst, sym, ℕ, ◌≡◌, �
 use Rattle.std.specs.List.{list_any, range_with_len}
 
 pub loop-skipped-preserved : goal.loop-skipped-preserved
-loop-skipped-preserved c =
-    none_more (asks_by (layout_of c.args.geometry.now) c.args.id c.args.sectors.now.bytes) c.loop-skipped.skipped c.loop-skipped.invariant (sym c.if-asks.ensures)
+loop-skipped-preserved g c =
+    none_more (asks_by (layout_of c.args.geometry.now) c.args.id (g.S.Sectors.bytes c.args.sectors.now)) c.loop-skipped.skipped c.loop-skipped.invariant (sym c.if-asks.ensures)
 
 pub returns-then-asks : goal.returns-then-asks
-returns-then-asks c =
-    sym (one_asks (asks_by (layout_of c.args.geometry.now) c.args.id c.args.sectors.now.bytes) c.args.geometry.now.hosts c.loop-skipped.skipped
+returns-then-asks g c =
+    sym (one_asks (asks_by (layout_of c.args.geometry.now) c.args.id (g.S.Sectors.bytes c.args.sectors.now)) c.args.geometry.now.hosts c.loop-skipped.skipped
     (omega (arith, c.loop-skipped-test.true, c.hosts-skipped-end.ensures.exact)) (sym c.if-asks.ensures))
 
 pub returns : goal.returns
-returns c =
-    let p : ℕ → Bool = asks_by (layout_of c.args.geometry.now) c.args.id c.args.sectors.now.bytes in
+returns g c =
+    let p : ℕ → Bool = asks_by (layout_of c.args.geometry.now) c.args.id (g.S.Sectors.bytes c.args.sectors.now) in
     let all : c.loop-skipped.skipped ≡ c.args.geometry.now.hosts =
     omega (arith, c.loop-skipped-test.false, c.loop-skipped.auto.skipped-end, c.hosts-skipped-end.ensures.exact)
     in

@@ -5,4 +5,4 @@ use Rattle.std.proofs.Common.{false, ◌≡◌}
 use Rattle.std.specs.List.{list_any, range_with_len}
 
 abbrev pub invariant-loop-skipped : goal.invariant-loop-skipped
-invariant-loop-skipped l = list_any (asks_by (layout_of l.geometry) l.id l.sectors.bytes) (range_with_len 1 l.skipped) ≡ false
+invariant-loop-skipped g l = list_any (asks_by (layout_of l.geometry) l.id (g.S.Sectors.bytes l.sectors)) (range_with_len 1 l.skipped) ≡ false
