@@ -24,7 +24,7 @@ use Rattle.sl_trace.specs.declared.effects.Purpose.{Purpose}
 use Rattle.sl_trace.specs.declared.effects.Spot.{Spot}
 use Rattle.sl_trace.specs.declared.input.Answer.{Answer}
 use Rattle.sl_watch.specs.Watches.{Watched}
-use Rattle.std.specs.Prelude.{Bool, Err, IfSome, List, Option, Some, cond, false, is_some, not, true, ℕ, ◌&&◌, ◌-◌, ◌<◌, ◌≡◌, ◌≤◌}
+use Rattle.std.specs.Prelude.{Bool, Err, IfSome, List, None, Option, Some, cond, false, is_some, not, true, unwrap_or, ℕ, ◌&&◌, ◌-◌, ◌<◌, ◌≡◌, ◌≤◌}
 
 -- The run that a host and its members are of: times, sizes, the host's name.
 pub record RunOf : Type 0 where
@@ -117,6 +117,19 @@ own_told p a now s = let k : DeltaKnown = s.known in record s { known = record k
 -- A renewal counts that was submitted at this reading.
 abbrev pub renewal_counted : ℕ → MemberState → MemberState
 renewal_counted reading s = let r : Renewing = s.renewing in record s { renewing = record r { last = reading } }
+
+-- How a session stands with its renewals after an answer: one that shows another begins recovery so, else a renewal that counts, which was
+-- submitted at this reading, is the last. In recovery nothing counts.
+abbrev pub renewing_after : Option ℕ → Bool → Begun → Bool → Renewing → Renewing
+renewing_after counts shows begun joined r =
+    elim r.recovery [ Some b ↦ r | None ↦ cond (joined && shows) (record r { recovery = Some begun }) (record r { last = unwrap_or counts r.last }) ]
+
+abbrev pub renewing_told : Option ℕ → Bool → Begun → MemberState → MemberState
+renewing_told counts shows begun s = with_renewing (renewing_after counts shows begun s.joined s.renewing) s
+
+-- What is known of it tells whether it is in recovery: so it is of each member that code keeps.
+abbrev pub IsKnown : MemberState → Type 0
+IsKnown s = s.known.recovering ≡ is_some s.renewing.recovery
 
 -- Recovery begins.
 abbrev pub recovery_begun : Begun → MemberState → MemberState

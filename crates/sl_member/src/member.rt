@@ -19,7 +19,7 @@ ghost use Rattle.sl_lease.specs.Bounds.{IsSession};
 ghost use Rattle.sl_lease.specs.Changes.{after_failure, after_read, after_write};
 ghost use Rattle.sl_member.specs.Asked.{bits_within};
 ghost use Rattle.sl_member.specs.Leases.{begins_lease};
-ghost use Rattle.sl_member.specs.Members.{IsOwnCall, RunOf, blank_member, delta_lease, kept_called, leaving_begun, lease_changed, own_of, own_told, owner_in, recovery_begun, renewal_counted, seen_in, side_in};
+ghost use Rattle.sl_member.specs.Members.{IsKnown, IsOwnCall, RunOf, blank_member, delta_lease, kept_called, leaving_begun, lease_changed, own_of, own_told, owner_in, recovery_begun, renewal_counted, renewing_after, renewing_told, seen_in, side_in};
 ghost use Rattle.sl_member.specs.Seen.{is_asked_by, shows_other_by};
 ghost use Rattle.sl_member.specs.Together.{late_by};
 ghost use Rattle.sl_sector.specs.Records.{Fits};
@@ -107,6 +107,34 @@ fn own_sector(timing: &Timing, geometry: &Geometry, host: Name, who: &Session) -
     match who.job {
         Some(_) => OwnSector::new(timing, geometry, host, who.lockspace, who.id),
         None => OwnSector::given(timing, geometry, host, who.lockspace, who.id, who.renewed),
+    }
+}
+
+/// How a session stands with its renewals after an answer.
+fn renewing_after(
+    renewing: Renewing,
+    joined: bool,
+    counts: Option<u64>,
+    shows: bool,
+    begun: Begun,
+) -> Renewing
+    ensures { result ≡ renewing_after counts shows begun joined renewing }
+{
+    match renewing.recovery {
+        Some(_) => renewing,
+        None => {
+            if joined && shows {
+                Renewing {
+                    last: renewing.last,
+                    recovery: Some(begun),
+                }
+            } else {
+                Renewing {
+                    last: counts.unwrap_or(renewing.last),
+                    recovery: None,
+                }
+            }
+        }
     }
 }
 
@@ -206,7 +234,8 @@ impl Member {
 
     /// The submission reading of the last renewal that counts, and how recovery began.
     pub fn renewing(&self) -> Renewing
-        ensures { result ≡ self.now.state.renewing }
+        ensures exact { result ≡ self.now.state.renewing }
+        ensures known { IsKnown self.now.state }
     {
         self.renewing
     }
@@ -438,6 +467,14 @@ impl Member {
         ensures { self.new ≡ record self.old { state = renewal_counted reading self.old.state } }
     {
         self.renewing.last = reading;
+    }
+
+    /// An answer tells of its renewals: whether it shows another in its place, which begins recovery so, and else which renewal counts. In
+    /// recovery nothing counts.
+    pub fn renewing_told(&mut self, counts: Option<u64>, shows: bool, begun: Begun)
+        ensures { self.new ≡ record self.old { state = renewing_told counts shows begun self.old.state } }
+    {
+        self.renewing = renewing_after(self.renewing, self.joined, counts, shows, begun);
     }
 
     /// Its recovery begins.

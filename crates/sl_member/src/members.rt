@@ -9,7 +9,7 @@ ghost use Rattle.sl_host_state.specs.Hears.{asked_at};
 ghost use Rattle.sl_host_state.specs.Kept.{MemberState};
 ghost use Rattle.sl_host_state.specs.Makes.{with_member};
 ghost use Rattle.sl_lease.specs.Changes.{after_failure, after_read, after_write};
-ghost use Rattle.sl_member.specs.Members.{IsOwnCall, leaving_begun, lease_changed, member_called, own_told, recovery_begun, renewal_counted};
+ghost use Rattle.sl_member.specs.Members.{IsOwnCall, leaving_begun, lease_changed, member_called, own_told, recovery_begun, renewal_counted, renewing_told};
 ghost use Rattle.sl_member.specs.Together.{AreRoomier, begins_among, begun_by, begun_kept, changed_member, late_by, member_with, side_with, told_survey};
 ghost use Rattle.sl_sessions.specs.Sessions.{is_join_call};
 ghost use Rattle.sl_trace.specs.Traces.{new_call};
@@ -364,6 +364,17 @@ impl Members {
     {
         match place_of(&self.items, number) {
             Some(place) => self.items[place].renewed(reading),
+            None => {}
+        }
+    }
+
+    /// An answer tells of its renewals: whether it shows another in its place, which begins recovery so, and else which renewal counts. In
+    /// recovery nothing counts.
+    pub fn renewing_told(&mut self, number: u64, counts: Option<u64>, shows: bool, begun: Begun)
+        ensures { self.new ≡ record self.old { members = changed_member number (renewing_told counts shows begun) self.old.members } }
+    {
+        match place_of(&self.items, number) {
+            Some(place) => self.items[place].renewing_told(counts, shows, begun),
             None => {}
         }
     }
