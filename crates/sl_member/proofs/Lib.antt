@@ -7,3 +7,4 @@ pub mod Numbered
 pub mod Gathered
 pub mod CalledMembers
 pub mod HostsHear
+pub mod PartsHear

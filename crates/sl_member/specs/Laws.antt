@@ -1,6 +1,6 @@
 -- What code makes of a member is what a host's state functions make of it.
 use Rattle.sl_area.specs.Layouts.{Layout, layout_of}
-use Rattle.sl_host_state.specs.Hears.{asked_hearing, counted, is_heeded_by, lease_told, member_begun, member_hearing, member_leaving, renewing_hearing, still_busy, watch_hearing}
+use Rattle.sl_host_state.specs.Hears.{asked_hearing, counted, is_heeded_by, lease_told, member_begun, member_hearing, member_leaving, renewed_of, renewing_hearing, still_busy, watch_hearing}
 use Rattle.sl_host_state.specs.Kept.{HostState, LeaseState, MemberState}
 use Rattle.sl_host_state.specs.Makes.{is_lease_on, member_calling}
 use Rattle.sl_host_state.specs.declared.kept.LeaseCall.{LeaseCall}
@@ -9,12 +9,19 @@ use Rattle.sl_lease.specs.Asked.{leader_given, read_given}
 use Rattle.sl_lease.specs.Changes.{after_failure, after_read, after_write}
 use Rattle.sl_leases.specs.Leases.{lease_step}
 use Rattle.sl_member.specs.Leases.{changed_at}
-use Rattle.sl_member.specs.Members.{RunOf, leaving_begun, member_called, own_told}
+use Rattle.sl_member.specs.Members.{IsKnown, RunOf, lease_changed, leaving_begun, member_called, own_told, renewing_told}
+use Rattle.sl_member.specs.Seen.{shows_other_by}
 use Rattle.sl_member.specs.Together.{begun_by, changed_member, side_with}
 use Rattle.sl_sessions.specs.Sessions.{is_delta_purpose}
 use Rattle.sl_sessions.specs.declared.delta.DeltaKnown.{DeltaKnown}
 use Rattle.sl_trace.specs.Traces.{Submitted}
-use Rattle.sl_trace.specs.declared.effects.Purpose.TheVariants.{Lease}
+use Rattle.sl_sessions.specs.declared.session.Begun.{Begun}
+use Rattle.sl_trace.specs.declared.effects.JoinStep.{JoinStep}
+use Rattle.sl_trace.specs.declared.effects.LeaseStep.{LeaseStep}
+use Rattle.sl_trace.specs.declared.effects.Purpose.TheVariants.{Joining, Lease, Leaving, Renewal, RequestRead, RequestWrite, SeeRequest, Survey, ValueRead, ValueWrite}
+use Rattle.sl_trace.specs.declared.effects.Purpose.{Purpose}
+use Rattle.sl_trace.specs.declared.effects.Work.{Work}
+use Rattle.sl_watch.specs.Telling.{told_all}
 use Rattle.sl_trace.specs.declared.effects.Spot.{Spot}
 use Rattle.sl_trace.specs.declared.input.Answer.TheVariants.{Failed, Read, Written}
 use Rattle.sl_trace.specs.declared.input.Answer.{Answer}
@@ -86,3 +93,35 @@ pub record HostsKeepTheSame : Type 0 where
   pub begun : (now : ℕ) (h : HostState) (m : MemberState) → member_begun (counted now h) m ≡ begun_by h.config.timing now h.entries m
   pub leaving : (h : HostState) (m : MemberState) → m.leaving ≡ None
       → member_leaving h m ≡ leaving_begun (record { at = h.entries - 1; reading = h.reading; kills_from = h.entries }) h.next_job m
+
+-- ---- by purpose
+
+-- The call, for this purpose.
+abbrev pub open_for : OpenCall → Purpose → OpenCall
+open_for c p = record c { purpose = p }
+
+-- How a recovery begins by a read, in the step in progress: its kills come in a later one.
+abbrev pub begun_by_read : HostState → Begun
+begun_by_read h = record { at = h.entries - 1; reading = h.reading; kills_from = h.entries }
+
+-- An answer of each kind, as code tells it to the parts.
+pub record PartsHear : Type 0 where
+  pub joining : (h : HostState) (c : OpenCall) (a : Answer) (m : MemberState) (j : ℕ) (step : JoinStep) → let d : OpenCall = open_for c (Joining j step) in
+      heard_by_parts h d a m ≡ own_told d.purpose a h.reading (renewing_told (renewed_of d a) false (begun_by_read h) m)
+  pub renewal : (h : HostState) (c : OpenCall) (a : Answer) (m : MemberState) → let d : OpenCall = open_for c Renewal in
+      heard_by_parts h d a m ≡ own_told Renewal a h.reading (renewing_told (renewed_of d a) false (begun_by_read h) m)
+  pub survey : (h : HostState) (c : OpenCall) (bytes : List ℕ) (m : MemberState) → let s : MemberState =
+      own_told Survey (Read bytes) h.reading
+      (renewing_told None (shows_other_by h.config.layout h.config.name m.who.id m.known.generation bytes) (begun_by_read h) m) in
+      heard_by_parts h (open_for c Survey) (Read bytes) m ≡ record s { watch = told_all c.reading h.reading h.config.layout bytes s.watch }
+  pub no_survey : (h : HostState) (c : OpenCall) (m : MemberState) → IsKnown m → heard_by_parts h (open_for c Survey) Failed m ≡ own_told Survey Failed h.reading m
+  pub leaving : (h : HostState) (c : OpenCall) (a : Answer) (m : MemberState) (j : ℕ) → IsKnown m
+      → heard_by_parts h (open_for c (Leaving j)) a m ≡ own_told (Leaving j) a h.reading m
+  pub lease : (h : HostState) (c : OpenCall) (a : Answer) (m : MemberState) (work : Work) (step : LeaseStep) → IsKnown m → let d : OpenCall = open_for c (Lease work step) in
+      heard_by_parts h d a m ≡ lease_changed (area_of_call h.config.layout c) (lease_told h m (is_heeded_by h d) d a) m
+  pub request_write : (h : HostState) (c : OpenCall) (a : Answer) (m : MemberState) (j : ℕ) (owner : Option ℕ) → IsKnown m → let d : OpenCall = open_for c (RequestWrite j owner) in
+      heard_by_parts h d a m ≡ record m { asked = asked_hearing h d a m.asked }
+  pub request_read : (h : HostState) (c : OpenCall) (a : Answer) (m : MemberState) (j : ℕ) → IsKnown m → heard_by_parts h (open_for c (RequestRead j)) a m ≡ m
+  pub see_request : (h : HostState) (c : OpenCall) (a : Answer) (m : MemberState) → IsKnown m → heard_by_parts h (open_for c SeeRequest) a m ≡ m
+  pub value_write : (h : HostState) (c : OpenCall) (a : Answer) (m : MemberState) (j : ℕ) → IsKnown m → heard_by_parts h (open_for c (ValueWrite j)) a m ≡ m
+  pub value_read : (h : HostState) (c : OpenCall) (a : Answer) (m : MemberState) (j : ℕ) → IsKnown m → heard_by_parts h (open_for c (ValueRead j)) a m ≡ m
