@@ -1,17 +1,16 @@
 -- A call of one of the members: what is kept then.
 use Rattle.sl_area.specs.Layouts.{layout_of}
 use Rattle.sl_host_state.specs.Kept.{MemberState}
-use Rattle.sl_member.proofs.Numbered.{IsAt, at_changed, at_found, has_number, is_at, member_at, members_as, nobody_kept, none_at, none_changed, none_found, run_kept, set_members, state_kept, states}
+use Rattle.sl_member.proofs.Numbered.{at_changed, at_found, has_number, is_at, member_at, members_as, none_at, none_changed, none_found, run_kept, set_members, state_kept, states}
 use Rattle.sl_member.specs.Leases.{begins_lease}
 use Rattle.sl_member.specs.Members.{MemberKept, RunOf, kept_called, member_called}
 use Rattle.sl_member.specs.Together.{AreMembers, MembersState, begins_among, changed_member, member_with, number_of}
 use Rattle.sl_trace.specs.Traces.{Submitted}
-use Rattle.sl_trace.specs.declared.effects.Call.{Call}
 use Rattle.sl_words.proofs.CaseLaws.{some_value}
 use Rattle.sl_words.specs.Words.{some_is}
-use Rattle.std.proofs.Common.{ap, arith, refl, subst, sym, ◌∙◌}
+use Rattle.std.proofs.Common.{ap, arith, subst, sym, ◌∙◌}
 use Rattle.std.proofs.lemmas.List.{map-set}
-use Rattle.std.specs.Prelude.{Bool, List, None, Some, cond, false, map, position, slice_index_or, slice_set, true, ℕ, ◌-◌, ◌<◌, ◌≡◌, ◌≤◌}
+use Rattle.std.specs.Prelude.{Bool, List, None, Some, cond, false, position, slice_index_or, slice_set, true, ℕ, ◌-◌, ◌<◌, ◌≡◌, ◌≤◌}
 
 -- Whether it begins a lease, as the list says.
 pub among_is : (v : MembersState) (m : Submitted) (x : MemberKept) → member_with m.call.session v.members ≡ Some x.state → x.run ≡ v.run

@@ -2,19 +2,18 @@
 use Rattle.sl_area.specs.Layouts.{Layout}
 use Rattle.sl_host_state.specs.Kept.{LeaseState}
 use Rattle.sl_area.specs.Places.{in_area}
-use Rattle.sl_host_state.specs.Makes.{is_lease_on, lease_calling, leases_calling, leases_working, new_lease, value_calling}
+use Rattle.sl_host_state.specs.Makes.{is_lease_on, lease_calling, leases_working, new_lease, value_calling}
 use Rattle.sl_host_state.specs.Stands.{pair_of}
 use Rattle.sl_host_state.specs.declared.kept.ValuePair.{ValuePair}
 use Rattle.sl_lease.proofs.SameLaws.{hosts_keep_the_same}
 use Rattle.sl_lease.specs.Changes.{after_value}
 use Rattle.sl_lease.specs.Laws.{at_step}
-use Rattle.sl_leases.specs.Leases.{is_lease_call, is_on, is_spot_before, lease_step, spot_of_call, value_of_record, value_written}
+use Rattle.sl_leases.specs.Leases.{is_on, is_spot_before, lease_step, spot_of_call, value_written}
 use Rattle.sl_member.proofs.Places.{called_stays, none_changed}
 use Rattle.sl_member.proofs.SpotOrder.{same_itself}
-use Rattle.sl_member.specs.Leases.{AreByPlace, LeasesState, begins_lease, changed_at, lease_called, leases_after, value_set, with_lease}
-use Rattle.sl_sector.specs.declared.sector.DeltaRec.{DeltaRec}
+use Rattle.sl_member.specs.Leases.{AreByPlace, LeasesState, changed_at, lease_called, leases_after, value_set, with_lease}
 use Rattle.sl_sector.specs.declared.sector.Rec.TheVariants.{BlockIs, DeltaIs, LeaderIs, RequestIs, ValueIs}
-use Rattle.sl_trace.specs.Traces.{Submitted, record_of}
+use Rattle.sl_trace.specs.Traces.{Submitted}
 use Rattle.sl_trace.specs.declared.effects.Call.{Call}
 use Rattle.sl_trace.specs.declared.effects.LeaseStep.{LeaseStep}
 use Rattle.sl_trace.specs.declared.effects.Op.TheVariants.{ReadSectors, WriteRecord}
@@ -25,10 +24,10 @@ use Rattle.sl_trace.specs.declared.effects.Spot.{Spot}
 use Rattle.sl_trace.specs.declared.effects.Work.{Work}
 use Rattle.sl_words.proofs.CaseLaws.{none_some, some_value, true_is_false}
 use Rattle.sl_words.specs.Orders.{put_in}
-use Rattle.std.proofs.Common.{ap, arith, max, refl, subst, sym, ◌∙◌}
+use Rattle.std.proofs.Common.{ap, arith, max, refl, sym, ◌∙◌}
 use Rattle.std.specs.List.{AllByRecursion, list_any}
 use Rattle.std.specs.Option.{option_or}
-use Rattle.std.specs.Prelude.{Bool, List, None, Option, Some, bytes_eq, cond, false, if◌then◌else◌, is_some, map, not, option_and_then, option_map, true, [], ℕ, ◌-◌, ◌∷◌, ◌≡◌, ◌&&◌, ◌||◌}
+use Rattle.std.specs.Prelude.{Bool, List, None, Some, bytes_eq, cond, false, if◌then◌else◌, is_some, map, not, option_map, true, [], ℕ, ◌-◌, ◌∷◌, ◌≡◌, ◌&&◌, ◌||◌}
 
 -- A call of a lease has that purpose.
 purpose_is : (p : Purpose) (work : Work) (step : LeaseStep) → lease_step p ≡ Some (work, step) → p ≡ Lease work step

@@ -1,16 +1,16 @@
 -- Members that come and go, and what is found among them.
 use Rattle.sl_host_state.specs.Kept.{MemberState}
-use Rattle.sl_member.proofs.Numbered.{has_number, is_at, member_at, members_as, none_at, run_kept, set_members, state_kept, states}
+use Rattle.sl_member.proofs.Numbered.{members_as, states}
 use Rattle.sl_member.specs.Members.{MemberKept, RunOf, recovery_begun}
 use Rattle.sl_member.specs.Together.{AreApart, AreMembers, AreRoomier, MembersState, begun_by, begun_in, begun_kept, late_by, member_with, number_of}
-use Rattle.sl_words.proofs.CaseLaws.{false_is_true, none_some, some_value, true_is_false}
+use Rattle.sl_words.proofs.CaseLaws.{none_some}
 use Rattle.sl_words.specs.Orders.{is_text_before, put_in}
 use Rattle.std.proofs.Common.{ap, arith, refl, subst, suc, sym, zero, ◌∙◌}
-use Rattle.std.proofs.lemmas.Bool.Decides.{Decides-eqb, nat_tests}
+use Rattle.std.proofs.lemmas.Bool.Decides.{nat_tests}
 use Rattle.std.proofs.lemmas.Grind.{common_steps}
 use Rattle.std.proofs.lemmas.List.Sums.{prefix_len-le-length}
 use Rattle.std.specs.List.{AllByRecursion, AllWithin, insert, list_any, position_or_len}
-use Rattle.std.specs.Prelude.{Bool, Err, List, None, Ok, OnErr, Option, Result, Some, cond, drop, false, filter, find, if◌then◌else◌, length, map, max, nat_lt, not, option_map, position, slice_index_or, slice_set, take, true, unwrap_or, [], ℕ, ◌++◌, ◌+◌, ◌<◌, ◌==◌, ◌∷◌, ◌≡◌, ◌≤◌, ◌||◌}
+use Rattle.std.specs.Prelude.{Bool, Err, List, None, Ok, OnErr, Option, Result, Some, cond, drop, false, filter, find, if◌then◌else◌, length, map, max, nat_lt, not, option_map, position, slice_index_or, slice_set, take, true, unwrap_or, [], ℕ, ◌++◌, ◌+◌, ◌==◌, ◌∷◌, ◌≡◌, ◌≤◌, ◌||◌}
 
 -- ---- what is found
 

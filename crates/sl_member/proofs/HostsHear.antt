@@ -1,6 +1,6 @@
 -- What code makes of a member is what a host's state functions make of it.
 use Rattle.sl_area.specs.Layouts.{Layout, layout_of}
-use Rattle.sl_host_state.specs.Hears.{asked_hearing, counted, is_heeded_by, joining_hearing, lease_hearing, lease_told, member_begun, member_hearing, member_leaving, renewing_hearing, still_busy, watch_hearing}
+use Rattle.sl_host_state.specs.Hears.{asked_hearing, counted, is_heeded_by, joining_hearing, lease_hearing, lease_told, member_begun, member_hearing, member_leaving, renewing_hearing, watch_hearing}
 use Rattle.sl_host_state.specs.Kept.{HostState, LeaseState, MemberState}
 use Rattle.sl_host_state.specs.Makes.{is_lease_on}
 use Rattle.sl_host_state.specs.declared.kept.LeaseCall.{LeaseCall}
@@ -23,8 +23,7 @@ use Rattle.sl_trace.specs.declared.effects.Work.{Work}
 use Rattle.sl_trace.specs.declared.effects.Spot.{Spot}
 use Rattle.sl_trace.specs.declared.input.Answer.TheVariants.{Failed, Read, Written}
 use Rattle.sl_trace.specs.declared.input.Answer.{Answer}
-use Rattle.sl_words.proofs.CaseLaws.{true_is_false}
-use Rattle.std.proofs.Common.{ap, arith, inl, inr, refl, subst, sym, ◌∙◌}
+use Rattle.std.proofs.Common.{ap, arith, inl, inr, refl, sym, ◌∙◌}
 use Rattle.std.proofs.lemmas.Bool.Decides.{Decides-eqb}
 use Rattle.std.specs.List.{AllByRecursion}
 use Rattle.std.specs.Prelude.{Bool, List, None, Option, Some, cond, false, is_some, map, true, [], ℕ, ◌+◌, ◌-◌, ◌==◌, ◌∷◌, ◌≡◌, ◌⊎◌}

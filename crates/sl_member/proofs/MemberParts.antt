@@ -1,16 +1,15 @@
 -- The parts of a member stay those of its run and session.
 use Rattle.sl_area.specs.Layouts.{Sizes, layout_of}
-use Rattle.sl_delta.specs.Own.{OwnState, after_answer, after_call, lease_of}
+use Rattle.sl_delta.specs.Own.{OwnState, after_answer, lease_of}
 use Rattle.sl_member.specs.Members.{IsMember}
-use Rattle.sl_sector.specs.declared.sector.DeltaRec.{DeltaRec}
 use Rattle.sl_sessions.specs.Deltas.{DeltaLease}
 use Rattle.sl_sessions.specs.declared.session.Session.{Session}
 use Rattle.sl_time.specs.Times.{TimingNumbers}
 use Rattle.sl_trace.specs.declared.effects.Purpose.{Purpose}
 use Rattle.sl_trace.specs.declared.input.Answer.{Answer}
 use Rattle.sl_watch.specs.Watches.{Watched}
-use Rattle.std.proofs.Common.{ap, refl, subst, sym, ◌∙◌}
-use Rattle.std.specs.Prelude.{Bool, List, Option, ℕ, ◌≡◌}
+use Rattle.std.proofs.Common.{ap, subst, sym, ◌∙◌}
+use Rattle.std.specs.Prelude.{Bool, List, ℕ, ◌≡◌}
 
 -- What is kept of the own sector, of this run and session.
 abbrev pub own_at : OwnState → TimingNumbers → Sizes → List ℕ → List ℕ → ℕ → OwnState

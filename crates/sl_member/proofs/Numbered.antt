@@ -2,13 +2,13 @@
 use Rattle.sl_host_state.specs.Kept.{MemberState}
 use Rattle.sl_member.specs.Members.{MemberKept, RunOf}
 use Rattle.sl_member.specs.Together.{AreApart, AreMembers, MembersState, changed_member, member_with, number_of}
-use Rattle.sl_plain.proofs.Places.{FoundAt, position_found, position_none}
+use Rattle.sl_plain.proofs.Places.{position_found, position_none}
 use Rattle.sl_words.proofs.CaseLaws.{none_some, some_value, true_is_false}
 use Rattle.std.proofs.Common.{ap, arith, refl, subst, suc, sym, zero, ◌∙◌}
 use Rattle.std.proofs.lemmas.Bool.Decides.{Decides-eqb}
 use Rattle.std.proofs.lemmas.List.{map-set}
 use Rattle.std.specs.List.{AllByRecursion}
-use Rattle.std.specs.Prelude.{Bool, List, None, Option, Some, cond, false, find, length, map, position, slice_get, slice_index_or, slice_set, true, [], ℕ, ◌==◌, ◌∷◌, ◌≡◌, ◌≤◌}
+use Rattle.std.specs.Prelude.{Bool, List, None, Some, cond, false, map, position, slice_get, slice_index_or, slice_set, true, [], ℕ, ◌==◌, ◌∷◌, ◌≡◌, ◌≤◌}
 
 is_one : (n k : ℕ) → (n == k) ≡ true → n ≡ k
 is_one n k h = (Decides-eqb n k).0 h

@@ -1,9 +1,9 @@
 -- An answer of each kind, as code tells it to the parts of a member.
-use Rattle.sl_host_state.specs.Hears.{asked_hearing, beginning, is_heeded_by, lease_told, renewed_of, renewing_hearing, shows_other_by, watch_hearing}
+use Rattle.sl_host_state.specs.Hears.{asked_hearing, beginning, renewed_of, renewing_hearing, shows_other_by, watch_hearing}
 use Rattle.sl_host_state.specs.Kept.{HostState, MemberState}
 use Rattle.sl_host_state.specs.declared.kept.OpenCall.{OpenCall}
-use Rattle.sl_member.specs.Laws.{PartsHear, area_of_call, heard_by_parts, leases_told, open_for}
-use Rattle.sl_member.specs.Members.{IsKnown, lease_changed, own_told}
+use Rattle.sl_member.specs.Laws.{PartsHear, heard_by_parts, leases_told, open_for}
+use Rattle.sl_member.specs.Members.{IsKnown, own_told}
 use Rattle.sl_sessions.specs.declared.delta.DeltaKnown.{DeltaKnown}
 use Rattle.sl_sessions.specs.declared.session.Begun.{Begun}
 use Rattle.sl_sessions.specs.declared.session.Renewing.{Renewing}

@@ -6,7 +6,7 @@ use Rattle.sl_lease.specs.Changes.{after_read, after_write, read_told, write_tol
 use Rattle.sl_lease.specs.declared.side.Side.{Side}
 use Rattle.sl_leases.specs.Leases.{is_spot_before}
 use Rattle.sl_member.proofs.SpotOrder.{same_itself, spot_apart, spot_asym, spot_is, spot_past, spot_same, spot_trans}
-use Rattle.sl_member.specs.Leases.{AreByPlace, IsFound, IsGap, IsNotAt, IsPlaceOf, IsThere, LeasesState, changed_at, lease_called, with_lease}
+use Rattle.sl_member.specs.Leases.{AreByPlace, IsFound, IsGap, IsPlaceOf, IsThere, LeasesState, changed_at, lease_called, with_lease}
 use Rattle.sl_sector.specs.declared.sector.Block.{Block}
 use Rattle.sl_sector.specs.declared.sector.Leader.{Leader}
 use Rattle.sl_sector.specs.declared.sector.Rec.TheVariants.{BlockIs, LeaderIs}
@@ -16,12 +16,12 @@ use Rattle.sl_trace.specs.declared.effects.Op.TheVariants.{WriteRecord}
 use Rattle.sl_trace.specs.declared.effects.Op.{Op}
 use Rattle.sl_trace.specs.declared.effects.Spot.{Spot}
 use Rattle.sl_trace.specs.declared.effects.Work.{Work}
-use Rattle.sl_words.proofs.CaseLaws.{false_is_true, none_some, some_value, true_is_false}
+use Rattle.sl_words.proofs.CaseLaws.{none_some, some_value, true_is_false}
 use Rattle.sl_words.specs.Orders.{put_in}
 use Rattle.std.proofs.Common.{ap, arith, refl, subst, suc, sym, zero, ◌∙◌}
-use Rattle.std.specs.List.{AllByRecursion, AllWithin, insert, list_any}
+use Rattle.std.specs.List.{AllByRecursion, insert, list_any}
 use Rattle.std.specs.List.Sorted.{IsPartitionPoint, IsPartitionedBy}
-use Rattle.std.specs.Prelude.{Bool, List, None, Option, Some, cond, false, filter, find, if◌then◌else◌, length, map, slice_get, slice_index_or, slice_set, true, [], ℕ, ◌+◌, ◌-◌, ◌<◌, ◌∷◌, ◌≡◌, ◌≤◌, ◌||◌}
+use Rattle.std.specs.Prelude.{Bool, List, None, Option, Some, cond, false, find, if◌then◌else◌, length, slice_get, slice_index_or, slice_set, true, [], ℕ, ◌-◌, ◌<◌, ◌∷◌, ◌≡◌, ◌≤◌, ◌||◌}
 
 -- ---- where a bisection ends
 

@@ -8,7 +8,7 @@ use Rattle.std.proofs.Common.{ap, arith, refl, suc, sym, zero, ◌∙◌}
 use Rattle.std.proofs.lemmas.List.Elements.{filter-append}
 use Rattle.std.proofs.lemmas.List.Sums.{fold-append}
 use Rattle.std.specs.List.{list_any, range_with_len}
-use Rattle.std.specs.Prelude.{Bool, List, Result, cond, false, filter, fold, true, [], ℕ, ◌++◌, ◌+◌, ◌<◌, ◌∷◌, ◌≡◌, ◌||◌}
+use Rattle.std.specs.Prelude.{Bool, List, Result, cond, false, filter, true, [], ℕ, ◌++◌, ◌+◌, ◌<◌, ◌∷◌, ◌≡◌, ◌||◌}
 
 one_on : (a n : ℕ) → a + 1 + n ≡ a + suc n
 one_on a n = omega arith

@@ -1,8 +1,8 @@
 -- A member as code keeps it, and what each call and answer makes of it.
 use Rattle.sl_area.specs.Layouts.{Sizes, layout_of}
 use Rattle.sl_delta.specs.Own.{OwnState, joining_told}
-use Rattle.sl_host_state.specs.Hears.{asked_at, with_renewing}
-use Rattle.sl_host_state.specs.Kept.{Config, LeaseState, MemberState}
+use Rattle.sl_host_state.specs.Hears.{with_renewing}
+use Rattle.sl_host_state.specs.Kept.{LeaseState, MemberState}
 use Rattle.sl_host_state.specs.Makes.{joining_calling, known_calling, leases_calling}
 use Rattle.sl_host_state.specs.New.{new_member}
 use Rattle.sl_lease.specs.declared.side.Side.{Side}
@@ -19,12 +19,11 @@ use Rattle.sl_sessions.specs.declared.session.Renewing.{Renewing}
 use Rattle.sl_sessions.specs.declared.session.Session.{Session}
 use Rattle.sl_time.specs.Times.{TimingNumbers}
 use Rattle.sl_trace.specs.Traces.{Submitted}
-use Rattle.sl_trace.specs.declared.effects.Call.{Call}
 use Rattle.sl_trace.specs.declared.effects.Purpose.{Purpose}
 use Rattle.sl_trace.specs.declared.effects.Spot.{Spot}
 use Rattle.sl_trace.specs.declared.input.Answer.{Answer}
 use Rattle.sl_watch.specs.Watches.{Watched}
-use Rattle.std.specs.Prelude.{Bool, Err, IfSome, List, None, Option, Some, cond, false, is_some, not, true, unwrap_or, ℕ, ◌&&◌, ◌-◌, ◌<◌, ◌≡◌, ◌≤◌}
+use Rattle.std.specs.Prelude.{Bool, Err, IfSome, List, None, Option, Some, cond, is_some, not, true, unwrap_or, ℕ, ◌&&◌, ◌-◌, ◌≡◌, ◌≤◌}
 
 -- The run that a host and its members are of: times, sizes, the host's name.
 pub record RunOf : Type 0 where

@@ -1,7 +1,7 @@
 use Rattle.sl_member.proofs.Gathered.{roomier_itself, roomier_set}
 use Rattle.sl_member.proofs.members.reserve_rooms.Goals as goal
 use Rattle.sl_member.specs.Members.{MemberKept}
-use Rattle.std.proofs.Common.{ap, arith, slice_index_or, sym, ℕ, ◌≡◌, ◌≤◌}
+use Rattle.std.proofs.Common.{ap, arith, slice_index_or, ℕ, ◌≡◌, ◌≤◌}
 use Rattle.std.proofs.lemmas.List.Elements.{AllWithin-more_set}
 
 pub loop-member-init : goal.loop-member-init

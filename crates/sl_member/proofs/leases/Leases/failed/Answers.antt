@@ -1,7 +1,6 @@
-use Rattle.sl_lease.specs.Changes.{after_failure, after_read, after_write}
-use Rattle.sl_member.proofs.Places.{called_stays, changed_rises, found_in, found_kept, gap_kept, read_stays, write_stays}
+use Rattle.sl_lease.specs.Changes.{after_failure}
+use Rattle.sl_member.proofs.Places.{changed_rises, found_in, found_kept, gap_kept}
 use Rattle.sl_member.proofs.leases.Leases.failed.Goals as goal
-use Rattle.sl_member.specs.Leases.{lease_called}
 use Rattle.std.proofs.Common.{ap, refl, ◌∙◌}
 
 pub invariant_of-self : goal.invariant_of-self

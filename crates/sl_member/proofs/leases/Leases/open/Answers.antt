@@ -1,9 +1,8 @@
-use Rattle.sl_host_state.specs.Kept.{LeaseState}
 use Rattle.sl_host_state.specs.Makes.{new_lease}
 use Rattle.sl_member.proofs.Places.{gap_in, gap_rises, room_for, with_new, with_there}
 use Rattle.sl_member.proofs.leases.Leases.open.Goals as goal
-use Rattle.sl_member.specs.Leases.{AreByPlace, with_lease}
-use Rattle.std.proofs.Common.{List, ap, arith, insert, subst, sym, ◌<◌, ◌≡◌, ◌∙◌}
+use Rattle.sl_member.specs.Leases.{AreByPlace}
+use Rattle.std.proofs.Common.{ap, arith, insert, subst, sym, ◌<◌, ◌∙◌}
 
 pub overflow_sub-self : goal.overflow_sub-self
 overflow_sub-self c =

@@ -2,7 +2,7 @@ use Rattle.sl_area.specs.Layouts.{layout_of}
 use Rattle.sl_member.proofs.CallsWork.{mapped_rises, value_stays}
 use Rattle.sl_member.proofs.leases.Leases.sets_value.Goals as goal
 use Rattle.sl_member.specs.Leases.{AreByPlace, value_set}
-use Rattle.std.proofs.Common.{arith, drop, length, map, rules, subst, sym, take, ◌++◌, ◌≡◌}
+use Rattle.std.proofs.Common.{arith, drop, length, map, subst, sym, take, ◌++◌, ◌≡◌}
 use Rattle.std.proofs.lemmas.Grind.{common_steps}
 
 pub invariant_of-self : goal.invariant_of-self

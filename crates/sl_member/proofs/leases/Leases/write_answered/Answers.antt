@@ -1,8 +1,7 @@
-use Rattle.sl_lease.specs.Changes.{after_failure, after_read, after_write}
-use Rattle.sl_member.proofs.Places.{called_stays, changed_rises, found_in, found_kept, gap_kept, read_stays, write_stays}
+use Rattle.sl_lease.specs.Changes.{after_write}
+use Rattle.sl_member.proofs.Places.{changed_rises, found_in, found_kept, gap_kept, write_stays}
 use Rattle.sl_member.proofs.leases.Leases.write_answered.Goals as goal
-use Rattle.sl_member.specs.Leases.{lease_called}
-use Rattle.std.proofs.Common.{ap, refl, ◌∙◌}
+use Rattle.std.proofs.Common.{ap, ◌∙◌}
 
 pub invariant_of-self : goal.invariant_of-self
 invariant_of-self c =

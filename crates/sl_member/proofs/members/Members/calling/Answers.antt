@@ -5,7 +5,7 @@ use Rattle.sl_member.proofs.members.Members.calling.Goals as goal
 use Rattle.sl_member.specs.Leases.{begins_lease}
 use Rattle.sl_member.specs.Members.{MemberKept}
 use Rattle.sl_trace.specs.Traces.{new_call}
-use Rattle.std.proofs.Common.{Bool, ap, position, sym, ◌≡◌, ◌∙◌}
+use Rattle.std.proofs.Common.{ap, position, sym, ◌∙◌}
 
 pub calling-requires-clause-room : goal.calling-requires-clause-room
 calling-requires-clause-room c begins =

@@ -4,7 +4,7 @@ use Rattle.sl_member.proofs.members.Members.joining.Goals as goal
 use Rattle.sl_member.specs.Members.{MemberKept}
 use Rattle.sl_member.specs.Together.{MembersState}
 use Rattle.sl_words.specs.Words.{some_is}
-use Rattle.std.proofs.Common.{Bool, List, ap, bytes_eq, find, option_map, ◌==◌, ◌∙◌}
+use Rattle.std.proofs.Common.{Bool, List, ap, find, option_map, ◌==◌, ◌∙◌}
 
 pub returns : goal.returns
 returns c =

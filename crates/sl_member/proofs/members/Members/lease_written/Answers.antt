@@ -1,15 +1,8 @@
-use Rattle.sl_delta.specs.Own.{answer_in}
-use Rattle.sl_host_state.specs.Hears.{asked_at}
-use Rattle.sl_host_state.specs.Kept.{MemberState}
-use Rattle.sl_lease.specs.Changes.{after_failure, after_read, after_write}
+use Rattle.sl_lease.specs.Changes.{after_write}
 use Rattle.sl_member.proofs.Numbered.{changed_kept, changed_members, has_number, none_kept}
 use Rattle.sl_member.proofs.members.Members.lease_written.Goals as goal
-use Rattle.sl_member.specs.Members.{leaving_begun, lease_changed, own_told, recovery_begun, renewal_counted}
-use Rattle.sl_member.specs.Together.{side_with, told_survey}
-use Rattle.sl_trace.specs.declared.effects.JoinStep.TheVariants.{FirstRead}
-use Rattle.sl_trace.specs.declared.effects.Purpose.TheVariants.{Joining}
-use Rattle.sl_trace.specs.declared.input.Answer.TheVariants.{Written}
-use Rattle.std.proofs.Common.{ap, position, refl, sym, true, ◌∙◌}
+use Rattle.sl_member.specs.Members.{lease_changed}
+use Rattle.std.proofs.Common.{ap, position, refl, sym, ◌∙◌}
 
 pub invariant_of-self : goal.invariant_of-self
 invariant_of-self c =

@@ -3,8 +3,7 @@ use Rattle.sl_member.proofs.Gathered.{found_state, mapped_twice}
 use Rattle.sl_member.proofs.members.Members.named.Goals as goal
 use Rattle.sl_member.specs.Members.{MemberKept}
 use Rattle.sl_member.specs.Together.{MembersState}
-use Rattle.sl_words.specs.Words.{some_is}
-use Rattle.std.proofs.Common.{Bool, List, ap, bytes_eq, find, option_map, ◌==◌, ◌∙◌}
+use Rattle.std.proofs.Common.{Bool, List, ap, bytes_eq, find, option_map, ◌∙◌}
 
 pub returns : goal.returns
 returns c =
