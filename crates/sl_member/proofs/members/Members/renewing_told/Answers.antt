@@ -1,0 +1,21 @@
+use Rattle.sl_member.proofs.Numbered.{changed_kept, changed_members, has_number, none_kept}
+use Rattle.sl_member.proofs.members.Members.renewing_told.Goals as goal
+use Rattle.sl_member.specs.Members.{renewing_told}
+use Rattle.std.proofs.Common.{ap, position, refl, sym, ◌∙◌}
+
+pub invariant_of-self : goal.invariant_of-self
+invariant_of-self c =
+    let i = c.self.invariant in (
+      changed_members _ c.self.inside.room c.self.inside.items.items c.args.number c.in-Some.place (renewing_told c.args.counts c.args.shows c.args.begun) c.index_mut.result.now _ i.0 (sym (c.place_of.ensures.exact ∙ ap (λ ms. position (has_number c.args.number) ms) c.deref.ensures.value) ∙ c.in-Some.is)
+          c.index_mut.ensures.value (record { made = c.renewing_told.ensures; who = λ s. refl }),
+      i.1,
+    )
+
+pub returns-in-Some : goal.returns-in-Some
+returns-in-Some c =
+    changed_kept c.args.self.now _ c.self.inside.items.items c.self.inside.places c.self.inside.room c.args.number c.in-Some.place (renewing_told c.args.counts c.args.shows c.args.begun) c.index_mut.result.now _
+    c.self.invariant.0 (sym (c.place_of.ensures.exact ∙ ap (λ ms. position (has_number c.args.number) ms) c.deref.ensures.value) ∙ c.in-Some.is) c.index_mut.ensures.value c.renewing_told.ensures c.self.view_is
+
+pub returns-in-None : goal.returns-in-None
+returns-in-None c =
+    none_kept c.args.self.now _ c.self.inside.items.items c.self.inside.places c.self.inside.room c.args.number (renewing_told c.args.counts c.args.shows c.args.begun) (sym (c.place_of.ensures.exact ∙ ap (λ ms. position (has_number c.args.number) ms) c.deref.ensures.value) ∙ c.in-None.is) c.self.view_is
