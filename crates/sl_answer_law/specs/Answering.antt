@@ -23,7 +23,7 @@ use Rattle.std.specs.Prelude.{Some, false, is_some, slice_get, true, ℕ, ◌==�
 pub record IsAnswerTo (number : ℕ) (c : OpenCall) (a : Answer) (h : HostState) (x : Step) (k : ℕ) (m : MemberState) : Type 0 where
   pub stands : Stands Wake h x
   pub is_open : IsOpen h number c
-  pub fits : FitsCall a c
+  pub fits : FitsCall h.config.layout a c
   pub at : IsAtInput h
   pub there : slice_get h.members k ≡ Some m
   pub its : (c.session == m.who.number) ≡ true

@@ -16,7 +16,7 @@ use Rattle.sl_host_plain.proofs.Quiet.{job_quiet, member_quiet, quiet_by}
 use Rattle.sl_host_plain.proofs.SessionNumbers.{below_count}
 use Rattle.sl_host_state.specs.Kept.{Config, HostState, MemberState}
 use Rattle.sl_host_state.specs.Makes.{calling, member_calling, with_member}
-use Rattle.sl_host_state.specs.New.{new_member}
+use Rattle.sl_host_state.specs.New.{IsOfProgram, new_member}
 use Rattle.sl_host_state.specs.Stands.{IsQuiet, Keeps, MemberStands, Stands, member_moments}
 use Rattle.sl_plain.proofs.Lists.{contains_none, got_inside}
 use Rattle.sl_plain.proofs.Numbers.{number_itself}
@@ -119,7 +119,7 @@ begun_present x s call joined refused =
     ∙ ap (λ o. is_none o || true && has_open_write (seen (more call x)) s) refused
 
 present_begun : (h : HostState) (x : Step) (job : ℕ) (text : List ℕ) (a : LockspaceArg) (offset sectors : ℕ) → JoiningFits h job text a → Stands (Line text) h x
-    → present_sessions x.setting (seen (more (first_read x h job a offset sectors) x)) ≡ map (λ m. m.who) (with_member (new_member (begun h job a)) h.members)
+    → present_sessions x.setting (seen (more (first_read x h job a offset sectors) x)) ≡ map (λ m. m.who) (with_member (new_member h.config (begun h job a)) h.members)
 present_begun h x job text a offset sectors fits s =
     let call : Call = first_read x h job a offset sectors in
     let ss : List Session = sessions x.setting (seen x) in
@@ -135,25 +135,26 @@ present_begun h x job text a offset sectors fits s =
     (filter_where (is_present (seen (more call x))) (is_present (seen x)) ss (λ t there. others_present x call t (other_number h x t s.keeps there)))
     ∙ fold-push (λ sorted z. put_in before z sorted) [] (filter (is_present (seen x)) ss) (begun h job a)
     ∙ ap (put_in before (begun h job a)) s.keeps.present
-    ∙ sym (put_mapped (λ (m : MemberState). m.who) before (new_member (begun h job a)) h.members)
+    ∙ sym (put_mapped (λ (m : MemberState). m.who) before (new_member h.config (begun h job a)) h.members)
 
 -- ---- the members
 
-new_fits : (g : Layout) (x : Step) (h : HostState) (job : ℕ) (a : LockspaceArg) (offset sectors : ℕ) → MemberFits g (new_member (begun h job a)) (newest x (first_read x h job a offset sectors))
+new_fits : (g : Layout) (x : Step) (h : HostState) (job : ℕ) (a : LockspaceArg) (offset sectors : ℕ) → MemberFits g (new_member h.config (begun h job a)) (newest x (first_read x h job a offset sectors))
 new_fits g x h job a offset sectors = record { turn = refl; generation = refl; value = refl; lease = refl }
 
 members_begun : (h : HostState) (x : Step) (job : ℕ) (text : List ℕ) (a : LockspaceArg) (offset sectors : ℕ) → JoiningFits h job text a → Stands (Line text) h x → (i : ℕ) (m : MemberState)
-    → slice_get (map (member_calling h.config.layout (newest x (first_read x h job a offset sectors))) (with_member (new_member (begun h job a)) h.members)) i ≡ Some m
+    → slice_get (map (member_calling h.config.layout (newest x (first_read x h job a offset sectors))) (with_member (new_member h.config (begun h job a)) h.members)) i ≡ Some m
     → MemberStands x.setting (seen (more (first_read x h job a offset sectors) x)) m
 members_begun h x job text a offset sectors fits s i m at =
-    from (at_mapped (member_calling h.config.layout (newest x (first_read x h job a offset sectors))) (with_member (new_member (begun h job a)) h.members) i m at) where
-      new : MemberStands x.setting (seen (more (first_read x h job a offset sectors) x)) (member_calling h.config.layout (newest x (first_read x h job a offset sectors)) (new_member (begun h job a)))
+    from (at_mapped (member_calling h.config.layout (newest x (first_read x h job a offset sectors))) (with_member (new_member h.config (begun h job a)) h.members) i m at) where
+      new : MemberStands x.setting (seen (more (first_read x h job a offset sectors) x)) (member_calling h.config.layout (newest x (first_read x h job a offset sectors)) (new_member h.config (begun h job a)))
       new =
-          subst (λ b. MemberStands x.setting (seen (more (first_read x h job a offset sectors) x)) (cond b (called h.config.layout (newest x (first_read x h job a offset sectors)) (new_member (begun h job a))) (new_member (begun h job a))))
+          subst (λ b. MemberStands x.setting (seen (more (first_read x h job a offset sectors) x)) (cond b (called h.config.layout (newest x (first_read x h job a offset sectors)) (new_member h.config (begun h job a))) (new_member h.config (begun h job a))))
           (sym (number_itself h.born))
-          (subst (λ g. MemberStands x.setting (seen (more (first_read x h job a offset sectors) x)) (called g (newest x (first_read x h job a offset sectors)) (new_member (begun h job a)))) (layout_is h x s.keeps)
-          (own_stands x (first_read x h job a offset sectors) (new_member (begun h job a)) (number_itself h.born) (new_fits x.setting.layout x h job a offset sectors)
-          (new_stands x.setting (seen x) (begun h job a) job (to_come h x job text a fits s))))
+          (subst (λ g. MemberStands x.setting (seen (more (first_read x h job a offset sectors) x)) (called g (newest x (first_read x h job a offset sectors)) (new_member h.config (begun h job a)))) (layout_is h x s.keeps)
+          (own_stands x (first_read x h job a offset sectors) (new_member h.config (begun h job a)) (number_itself h.born) (new_fits x.setting.layout x h job a offset sectors)
+          (subst (λ c. MemberStands x.setting (seen x) (new_member c (begun h job a))) s.keeps.config
+          (new_stands x.setting (seen x) (begun h job a) job (subst (λ (c : Config). IsOfProgram c.layout) (sym s.keeps.config) fits.program) (to_come h x job text a fits s)))))
 
       old : (z : MemberState) → Contains h.members z → MemberStands x.setting (seen (more (first_read x h job a offset sectors) x)) (member_calling h.config.layout (newest x (first_read x h job a offset sectors)) z)
       old z there =
@@ -162,30 +163,30 @@ members_begun h x job text a offset sectors fits s i m at =
           subst (λ b. MemberStands x.setting (seen (more (first_read x h job a offset sectors) x)) (cond b (called h.config.layout (newest x (first_read x h job a offset sectors)) z) z)) (sym other)
           (stays_by_calls x (first_read x h job a offset sectors) z (others_stay x (first_read x h job a offset sectors) z.who other) (s.keeps.members k.0 z k.1))
 
-      one : (z : MemberState) → (new_member (begun h job a) ≡ z) ⊎ Contains h.members z
+      one : (z : MemberState) → (new_member h.config (begun h job a) ≡ z) ⊎ Contains h.members z
           → MemberStands x.setting (seen (more (first_read x h job a offset sectors) x)) (member_calling h.config.layout (newest x (first_read x h job a offset sectors)) z)
       one z (inl is) = subst (λ y. MemberStands x.setting (seen (more (first_read x h job a offset sectors) x)) (member_calling h.config.layout (newest x (first_read x h job a offset sectors)) y)) is new
       one z (inr there) = old z there
 
-      from : (z : MemberState) × (slice_get (with_member (new_member (begun h job a)) h.members) i ≡ Some z) × (member_calling h.config.layout (newest x (first_read x h job a offset sectors)) z ≡ m)
+      from : (z : MemberState) × (slice_get (with_member (new_member h.config (begun h job a)) h.members) i ≡ Some z) × (member_calling h.config.layout (newest x (first_read x h job a offset sectors)) z ≡ m)
           → MemberStands x.setting (seen (more (first_read x h job a offset sectors) x)) m
       from z =
           subst (λ y. MemberStands x.setting (seen (more (first_read x h job a offset sectors) x)) y) z.2
-          (one z.0 (put_inside (λ (u v : MemberState). is_text_before u.who.lockspace v.who.lockspace) (new_member (begun h job a)) h.members z.0
-          (got_inside (with_member (new_member (begun h job a)) h.members) i z.0 z.1)))
+          (one z.0 (put_inside (λ (u v : MemberState). is_text_before u.who.lockspace v.who.lockspace) (new_member h.config (begun h job a)) h.members z.0
+          (got_inside (with_member (new_member h.config (begun h job a)) h.members) i z.0 z.1)))
 
 -- ---- the whole
 
 -- The host with the session, before its call.
 abbrev with_begun : HostState → ℕ → LockspaceArg → HostState
-with_begun h job a = record h { born = h.born + 1; members = with_member (new_member (begun h job a)) h.members }
+with_begun h job a = record h { born = h.born + 1; members = with_member (new_member h.config (begun h job a)) h.members }
 
 quiet_begun : (h : HostState) (job : ℕ) (a : LockspaceArg) → IsQuiet h → IsQuiet (with_begun h job a)
 quiet_begun h job a quiet =
     quiet_by (with_begun h job a)
-    (λ m now there at. by m now (put_inside (λ (u v : MemberState). is_text_before u.who.lockspace v.who.lockspace) (new_member (begun h job a)) h.members m there) at)
+    (λ m now there at. by m now (put_inside (λ (u v : MemberState). is_text_before u.who.lockspace v.who.lockspace) (new_member h.config (begun h job a)) h.members m there) at)
     (λ j now there at. job_quiet h j now quiet there at) where
-      by : (m : MemberState) (now : ℕ) → (new_member (begun h job a) ≡ m) ⊎ Contains h.members m → Contains (member_moments h m) now → h.quiet_until ≤ now
+      by : (m : MemberState) (now : ℕ) → (new_member h.config (begun h job a) ≡ m) ⊎ Contains h.members m → Contains (member_moments h m) now → h.quiet_until ≤ now
       by m now (inl is) at = absurd (contains_none now (subst (λ y. Contains (member_moments h y) now) (sym is) at))
       by m now (inr old) at = member_quiet h m now quiet old at
 
@@ -208,10 +209,10 @@ begun_stands h x job text a offset sectors fits s =
       before = s.before;
       made = ap (λ (f : Effects). record f { calls = f.calls ++ call ∷ [] }) s.made;
       keeps =
-          keeps_more h x call (h.born + 1) (map (member_calling h.config.layout (newest x call)) (with_member (new_member (begun h job a)) h.members)) s.keeps refl
+          keeps_more h x call (h.born + 1) (map (member_calling h.config.layout (newest x call)) (with_member (new_member h.config (begun h job a)) h.members)) s.keeps refl
           job_fit.known job_fit.alone
           (begun_count h x job text a offset sectors fits s)
-          (present_begun h x job text a offset sectors fits s ∙ whos_stay h.config.layout (newest x call) (with_member (new_member (begun h job a)) h.members))
+          (present_begun h x job text a offset sectors fits s ∙ whos_stay h.config.layout (newest x call) (with_member (new_member h.config (begun h job a)) h.members))
           (members_begun h x job text a offset sectors fits s);
       quiet = quiet_more (with_begun h job a) (newest x call) (quiet_begun h job a s.quiet);
     }

@@ -11,7 +11,7 @@ use Rattle.sl_host_plain.proofs.PlainLists.{all_both, range_last}
 use Rattle.sl_host_plain.proofs.Quiet.{job_quiet, member_quiet, quiet_by}
 use Rattle.sl_host_state.specs.Kept.{HostState, MemberState}
 use Rattle.sl_host_state.specs.Makes.{job_starting, with_start}
-use Rattle.sl_host_state.specs.Stands.{AreInTurn, IsQuiet, JoinStands, Keeps, LeaseStands, MemberStands, is_there, job_moments, kept_call, kept_waiting, newest_value}
+use Rattle.sl_host_state.specs.Stands.{AreInTurn, AskedStands, IsQuiet, JoinStands, Keeps, LeaseStands, MemberStands, WatchKeeps, is_there, job_moments, kept_call, kept_waiting, newest_value}
 use Rattle.sl_host_state.specs.declared.kept.JobState.{JobState}
 use Rattle.sl_leases.specs.Counts.{values_on}
 use Rattle.sl_leases.specs.Jobs.{command_of}
@@ -61,9 +61,9 @@ module _ (s : Start) where
         joining = λ still. subst (λ ms. JoinStands m.joining ms) (sym same) (k.joining still);
         renewing = k.renewing;
         leaving = k.leaving;
-        asked = λ now owner. ap (λ ms. is_asked x.setting ms now owner) same ∙ k.asked now owner;
+        asked = subst (AskedStands x.setting m.asked) (sym same) k.asked;
         turn = subst (λ ms. AreInTurn (filter (λ c. is_delta_purpose c.call.purpose) ms)) (sym same) k.turn;
-        seen = λ id. ap (λ ms. sightings x.setting.layout id ms) same ∙ k.seen id;
+        seen = subst (WatchKeeps x.setting m.watch) (sym same) k.seen;
         spots = ap (spots_in x.setting.layout) same ∙ k.spots;
         leases = λ i l there. subst (λ ms. LeaseStands x.setting.layout m.who.lockspace (self_by m.who ms) l (calls_on x.setting.layout l.spot ms)) (sym same) (k.leases i l there);
         valued = subst (λ ms. AllByRecursion (λ d. IsTrue (on_lease x.setting.layout m.leases d)) ms) (sym same) k.valued;

@@ -10,7 +10,6 @@ use Rattle.sl_host_state.specs.Hears.{beginning, begun, counted, is_late, member
 use Rattle.sl_host_state.specs.Kept.{HostState, MemberState}
 use Rattle.sl_host_state.specs.Stands.{HostStands, IsQuiet, Keeps, MemberStands, Stands, Takes, is_there, kept_waiting}
 use Rattle.sl_host_state.specs.declared.kept.JobState.{JobState}
-use Rattle.sl_host_state.specs.declared.kept.Rooms.{Rooms}
 use Rattle.sl_leases.specs.Jobs.{command_of}
 use Rattle.sl_trace.specs.Traces.{Child, Job, Setting, Trace, children, first_child, job_of, jobs, running_jobs, submitted, waiting_call}
 use Rattle.sl_trace.specs.declared.input.Input.TheVariants.{Wake}
@@ -47,8 +46,8 @@ members_begun h st es now keeps k m there =
     let z = at_mapped (member_begun (counted now h)) h.members k m there in
     subst (λ y. MemberStands st (idle now ∷ es) y) z.2 (member_stands h st es now z.0 keeps (keeps.members k z.0 z.1))
 
-keeps_begun : (h : HostState) (st : Setting) (es : Trace) (now : ℕ) (room : Rooms) → Keeps h st es → Keeps (begun now room h) st (idle now ∷ es)
-keeps_begun h st es now room k =
+keeps_begun : (h : HostState) (st : Setting) (es : Trace) (now : ℕ) → Keeps h st es → Keeps (begun now h) st (idle now ∷ es)
+keeps_begun h st es now k =
     record {
       config = k.config;
       entries = (let e : length es ≡ h.entries = k.entries in let n : suc (length es) ≡ h.entries + 1 = omega (arith, e) in n);
@@ -72,16 +71,16 @@ keeps_begun h st es now room k =
       programs = same_programs st es now ∙ k.programs;
     }
 
-begins : (h : HostState) (st : Setting) (es : Trace) (now : ℕ) (room : Rooms) → h.reading ≤ now → HostStands h st es → Stands Wake (begun now room h) (begin_step st es now)
-begins h st es now room later s =
+begins : (h : HostState) (st : Setting) (es : Trace) (now : ℕ) → h.reading ≤ now → HostStands h st es → Stands Wake (begun now h) (begin_step st es now)
+begins h st es now later s =
     record {
       input = refl;
       past = s.past;
       reading = refl;
       before = s.reading;
       made = s.made;
-      keeps = keeps_begun h st es now room s.keeps;
-      quiet = quiet_begun h now room later s.quiet;
+      keeps = keeps_begun h st es now s.keeps;
+      quiet = quiet_begun h now later s.quiet;
     }
 
 worked_out : (h : HostState) (now : ℕ) → IsQuiet (quiet_to now h) → Takes h (quiet_to now h) (λ x. x)

@@ -5,20 +5,19 @@ use Rattle.sl_due.specs.Steps.{begin_step}
 use Rattle.sl_host_state.specs.Hears.{begun, counted, quiet_to}
 use Rattle.sl_host_state.specs.Kept.{HostState}
 use Rattle.sl_host_state.specs.Stands.{HostStands, IsQuiet, Stands, Takes}
-use Rattle.sl_host_state.specs.declared.kept.Rooms.{Rooms}
 use Rattle.sl_trace.specs.Traces.{Setting, Trace}
 use Rattle.sl_trace.specs.declared.input.Input.TheVariants.{Wake}
 use Rattle.std.specs.Prelude.{None, ℕ, ◌<◌, ◌≡◌, ◌≤◌}
 
 -- A step that begins where nobody's recovery does.
-abbrev pub begun_quietly : ℕ → Rooms → HostState → HostState
-begun_quietly now room h = let g : HostState = counted now h in record g { room = room; spare = None }
+abbrev pub begun_quietly : ℕ → HostState → HostState
+begun_quietly now h = counted now h
 
 -- How a step begins.
 pub record StepsBegin : Type 0 where
-  pub begins : (h : HostState) (st : Setting) (es : Trace) (now : ℕ) (room : Rooms) → h.reading ≤ now → HostStands h st es → Stands Wake (begun now room h) (begin_step st es now)
+  pub begins : (h : HostState) (st : Setting) (es : Trace) (now : ℕ) → h.reading ≤ now → HostStands h st es → Stands Wake (begun now h) (begin_step st es now)
   -- below the reading kept
-  pub quietly : (h : HostState) (now : ℕ) (room : Rooms) → now < h.quiet_until → IsQuiet h → begun now room h ≡ begun_quietly now room h
+  pub quietly : (h : HostState) (now : ℕ) → now < h.quiet_until → IsQuiet h → begun now h ≡ begun_quietly now h
   pub nothing : (h : HostState) (st : Setting) (es : Trace) (now : ℕ) → h.reading ≤ now → now < h.quiet_until → HostStands h st es
       → before_input (begin_step st es now) ≡ begin_step st es now
   -- it may be worked out anew at any time

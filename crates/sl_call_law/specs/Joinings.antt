@@ -3,6 +3,7 @@ use Rattle.sl_call_law.specs.Calls.{is_idle_job}
 use Rattle.sl_due.specs.Steps.{Step, add_call_of}
 use Rattle.sl_host_state.specs.Kept.{HostState}
 use Rattle.sl_host_state.specs.Makes.{with_joining}
+use Rattle.sl_host_state.specs.New.{IsOfProgram}
 use Rattle.sl_host_state.specs.Stands.{Stands}
 use Rattle.sl_trace.specs.declared.command.Command.TheVariants.{AddLockspace}
 use Rattle.sl_trace.specs.declared.command.LockspaceArg.{LockspaceArg}
@@ -12,12 +13,14 @@ use Rattle.sl_trace.specs.declared.effects.Purpose.TheVariants.{Joining}
 use Rattle.sl_trace.specs.declared.input.Input.TheVariants.{Line}
 use Rattle.std.specs.Prelude.{IsTrue, List, Ok, [], ℕ, ◌+◌, ◌≡◌}
 
--- The step's line says to join this lockspace, its job waits for no call, and the step has made none yet.
+-- The step's line says to join this lockspace, its job waits for no call, and the step has made none yet; areas are laid out as the
+-- program does.
 pub record JoiningFits (h : HostState) (job : ℕ) (text : List ℕ) (a : LockspaceArg) : Type 0 where
   pub says : h.config.read text ≡ Ok (AddLockspace a)
   pub number : h.next_job ≡ job + 1
   pub runs : IsTrue (is_idle_job h job)
   pub bare : h.made.calls ≡ []
+  pub program : IsOfProgram h.config.layout
 
 -- Then the session begins with the read.
 abbrev pub JoiningsAreTaken : Type 0

@@ -38,12 +38,16 @@ use Rattle.sl_words.proofs.CaseLaws.{true_is_false}
 use Rattle.sl_words.proofs.WordLaws.{choose_some}
 use Rattle.sl_words.specs.Orders.{is_text_before}
 use Rattle.sl_words.specs.Words.{choose, least, some_is}
-use Rattle.std.proofs.Common.{ap, refl, subst, sym, ◌∙◌}
+use Rattle.sl_area.specs.Layouts.{Layout}
+use Rattle.sl_watch.proofs.SummaryLaws.{state_read}
+use Rattle.sl_watch.specs.Summaries.{bare, state_by}
+use Rattle.sl_watch.specs.Watches.{kept_at}
+use Rattle.std.proofs.Common.{ap, arith, refl, subst, suc, sym, zero, ◌∙◌}
 use Rattle.std.proofs.lemmas.Bool.Decides.{Decides-eqb}
 use Rattle.std.proofs.lemmas.List.{length-map}
 use Rattle.std.specs.List.{AllByRecursion, list_any, range_with_len}
 use Rattle.std.specs.Option.{option_or}
-use Rattle.std.specs.Prelude.{Bool, List, None, Option, Some, bytes_eq, cond, false, filter, find, if◌then◌else◌, is_none, is_some, length, map, nat_le, not, option_and_then, option_map, sum_by, true, [], ℕ, ◌&&◌, ◌+◌, ◌==◌, ◌||◌, ◌∷◌, ◌≡◌}
+use Rattle.std.specs.Prelude.{Bool, List, None, Option, Some, bytes_eq, cond, false, filter, find, if◌then◌else◌, is_none, is_some, length, map, nat_le, not, option_and_then, option_map, sum_by, true, [], ℕ, ◌&&◌, ◌+◌, ◌<◌, ◌==◌, ◌||◌, ◌∷◌, ◌≡◌, ◌≤◌}
 
 -- ---- members by name
 
@@ -218,15 +222,27 @@ limit_is i h x m at program s k =
 
 -- ---- what is told
 
+-- Two functions that are the same in a range.
+range_as : {A : Type 0} (f g : ℕ → A) (a n : ℕ) → ((i : ℕ) → a ≤ i → i < a + n → f i ≡ g i) → map f (range_with_len a n) ≡ map g (range_with_len a n)
+range_as f g a zero are = refl
+range_as f g a (suc n) are =
+    ap (λ y. y ∷ map f (range_with_len (a + 1) n)) (are a (omega arith) (omega arith))
+    ∙ ap (λ ys. g a ∷ ys) (range_as f g (a + 1) n (λ i one most. are i (omega (arith, one)) (omega (arith, most))))
+
 abbrev state_of : ℕ → Looks → StateOf
 state_of id looks = record { id = id; state = looks }
 
 pub states_are : (h : HostState) (st : Setting) (es : Trace) (now : ℕ) (m : MemberState) → now ≡ h.reading → Keeps h st es → MemberStands st es m → states_seen st es m.who now ≡ states_told h m
 states_are h st es now m is k s =
-    map_as (λ id. state_of id (host_state st.timing st.layout id (sightings st.layout id (calls_of es m.who)) now)) (λ id. state_of id (host_state st.timing st.layout id (m.seen id) now))
-    (range_with_len 1 st.layout.hosts) (λ id. ap (λ ss. state_of id (host_state st.timing st.layout id ss now)) (s.seen id))
-    ∙ ap (λ (c : Config). map (λ id. state_of id (host_state c.timing c.layout id (m.seen id) now)) (range_with_len 1 c.layout.hosts)) k.config
-    ∙ ap (λ t. map (λ id. state_of id (host_state h.config.timing h.config.layout id (m.seen id) t)) (range_with_len 1 h.config.layout.hosts)) is
+    range_as (λ id. state_of id (host_state st.timing st.layout id (sightings st.layout id (calls_of es m.who)) now)) (λ id. state_of id (state_by m.watch.timing (bare (kept_at m.watch id)).run now))
+    1 st.layout.hosts (λ id one most. ap (state_of id) (by id one (omega (arith, most))))
+    ∙ ap (λ (c : Config). map (λ id. state_of id (state_by m.watch.timing (bare (kept_at m.watch id)).run now)) (range_with_len 1 c.layout.hosts)) k.config
+    ∙ ap (λ t. map (λ id. state_of id (state_by m.watch.timing (bare (kept_at m.watch id)).run t)) (range_with_len 1 h.config.layout.hosts)) is where
+      by : (id : ℕ) → 1 ≤ id → id ≤ st.layout.hosts → host_state st.timing st.layout id (sightings st.layout id (calls_of es m.who)) now ≡ state_by m.watch.timing (bare (kept_at m.watch id)).run now
+      by id one most =
+          ap (λ t. host_state t st.layout id (sightings st.layout id (calls_of es m.who)) now) (sym s.seen.timed)
+          ∙ ap (λ g. host_state m.watch.timing g id (sightings st.layout id (calls_of es m.who)) now) (sym s.seen.sized)
+          ∙ sym (state_read m.watch (λ id. sightings st.layout id (calls_of es m.who)) id now s.seen.stands one (subst (λ (g : Layout). id ≤ g.hosts) (sym s.seen.sized) most))
 
 abbrev told : List ℕ → ℕ → ℕ → SessionOf
 told name id generation = record { lockspace = name; id = id; generation = generation }

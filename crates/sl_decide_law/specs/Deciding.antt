@@ -12,7 +12,6 @@ use Rattle.sl_leases.specs.Counts.{busy_among}
 use Rattle.sl_leases.specs.Jobs.{is_asking_lease, is_program, wanted_mode}
 use Rattle.sl_leases.specs.Leases.{spot_of}
 use Rattle.sl_sessions.specs.Sessions.{is_session_arg}
-use Rattle.sl_sessions.specs.Watching.{host_state}
 use Rattle.sl_trace.specs.Limits.{most_children, most_holders, most_killpaths, most_lockspaces, most_processes, most_resources}
 use Rattle.sl_trace.specs.Traces.{is_orphan, is_shared, no_process, same_place}
 use Rattle.sl_trace.specs.declared.command.Command.TheVariants.{Acquire, AddLockspace, Convert, GetLvb, HostStatus, InqLockspace, Release, ReleaseOrphan, RemLockspace, Request, RunProgram, SetKillpath, SetLvb, Status, TakeOver}
@@ -30,6 +29,8 @@ use Rattle.sl_trace.specs.declared.reply.SessionOf.{SessionOf}
 use Rattle.sl_trace.specs.declared.reply.StateOf.{StateOf}
 use Rattle.sl_words.specs.Bounds.{is_number}
 use Rattle.sl_words.specs.Words.{choose, least, same_truth, some_is}
+use Rattle.sl_watch.specs.Summaries.{bare, state_by}
+use Rattle.sl_watch.specs.Watches.{kept_at}
 use Rattle.std.specs.List.{list_any, range_with_len}
 use Rattle.std.specs.Option.{option_map_or, option_or}
 use Rattle.std.specs.Prelude.{Bool, List, None, Option, Some, bytes_eq, false, filter, find, if◌then◌else◌, is_none, length, map, nat_le, not, option_and_then, option_map, sum_by, true, [], ℕ, ◌&&◌, ◌++◌, ◌+◌, ◌==◌, ◌||◌, ◌∷◌}
@@ -227,7 +228,7 @@ report_decision h a answer = with_member (member_of h a) (λ m. unless_refused (
 -- The states of all ids, as `host_status` tells them.
 abbrev pub states_told : HostState → MemberState → List StateOf
 states_told h m =
-    map (λ id. record { id = id; state = host_state h.config.timing h.config.layout id (m.seen id) h.reading }) (range_with_len 1 h.config.layout.hosts)
+    map (λ id. record { id = id; state = state_by m.watch.timing (bare (kept_at m.watch id)).run h.reading }) (range_with_len 1 h.config.layout.hosts)
 
 -- The joined sessions by lockspace name, as `status` tells them.
 abbrev pub sessions_told : HostState → List SessionOf

@@ -1,3 +1,4 @@
+pub mod Seeing
 pub mod NewHost
 pub mod Passing
 pub mod Others

@@ -1,16 +1,14 @@
 -- Ends, signals and grants of a step change nothing that is asked of its calls, sessions and jobs. All questions but those on calls are
 -- the same by computation, and those on calls look at an entry's reading and replies alone.
-use Rattle.sl_due.specs.DueRequests.{is_asked}
 use Rattle.sl_due.specs.Steps.{Step, add_end, add_grant, add_signal, seen, with_effects}
 use Rattle.sl_host_state.specs.Effects.{EffectsAreTaken}
 use Rattle.sl_host_state.specs.Kept.{HostState, MemberState}
 use Rattle.sl_host_state.specs.Makes.{with_end, with_grant, with_signal}
-use Rattle.sl_host_state.specs.Stands.{AreInTurn, JoinStands, Keeps, LeaseStands, MemberStands, Stands, Takes, kept_call, kept_waiting, newest_value}
+use Rattle.sl_host_state.specs.Stands.{AskedStands, WatchKeeps, AreInTurn, JoinStands, Keeps, LeaseStands, MemberStands, Stands, Takes, kept_call, kept_waiting, newest_value}
 use Rattle.sl_leases.specs.Counts.{values_on}
 use Rattle.sl_leases.specs.Jobs.{child_of_job, command_of}
 use Rattle.sl_leases.specs.Leases.{is_lease_call, is_on, spots_in, value_written}
 use Rattle.sl_sessions.specs.Sessions.{calls_of, ended_after, free_write, generation_in, is_call_of, is_delta_purpose, joined_after, leaving_job, recovery_of, renewal_in, seq_in, sessions}
-use Rattle.sl_sessions.specs.Watching.{sightings}
 use Rattle.sl_sessions.specs.declared.delta.DeltaKnown.{DeltaKnown}
 use Rattle.sl_sessions.specs.declared.session.Session.{Session}
 use Rattle.sl_trace.specs.Traces.{Submitted, Trace, children, holdings, is_ended_by, is_of_job, is_write, job_numbered, job_of, mark, new_call, running_jobs, same_place, submitted, unanswered}
@@ -77,9 +75,9 @@ module _ (es : List End) (ss : List Sent) (gs : List Grant) where
         joining = λ still. subst (λ ms. JoinStands m.joining ms) (sym own) (s.joining still);
         renewing = s.renewing;
         leaving = s.leaving;
-        asked = λ now owner. ap (λ ms. is_asked x.setting ms now owner) own ∙ s.asked now owner;
+        asked = subst (λ ms. AskedStands x.setting m.asked ms) (sym own) s.asked;
         turn = subst (λ ms. AreInTurn (filter (λ c. is_delta_purpose c.call.purpose) ms)) (sym own) s.turn;
-        seen = λ id. ap (λ ms. sightings x.setting.layout id ms) own ∙ s.seen id;
+        seen = subst (λ ms. WatchKeeps x.setting m.watch ms) (sym own) s.seen;
         spots = ap (spots_in x.setting.layout) own ∙ s.spots;
         leases = λ k l there.
             subst

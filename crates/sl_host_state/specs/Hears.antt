@@ -1,8 +1,8 @@
 -- What an input makes of the kept state, and what a step's beginning and end do. An input is heard before anything is decided on it:
 -- an answer by the one thing that waits for it, a line as a job, an exit by the children.
 use Rattle.sl_area.specs.Layouts.{Layout}
-use Rattle.sl_area.specs.Places.{area_blocks, blocks_in, leader_of, sector_of}
-use Rattle.sl_host_state.specs.Kept.{AskedAt, HostState, JobState, JoinCall, JoinState, LeaseState, MemberState, OpenCall, Rooms, TopNumber}
+use Rattle.sl_area.specs.Places.{area_blocks, blocks_in, leader_of}
+use Rattle.sl_host_state.specs.Kept.{HostState, JobState, JoinCall, JoinState, LeaseState, MemberState, OpenCall, TopNumber}
 use Rattle.sl_host_state.specs.Makes.{has_write_open, lowered}
 use Rattle.sl_host_state.specs.Stands.{is_there, top_mbal}
 use Rattle.sl_leases.specs.Ballots.{is_ahead, same_owner, stop_of, value_of}
@@ -14,7 +14,6 @@ use Rattle.sl_sessions.specs.Deltas.{join_step_of}
 use Rattle.sl_sessions.specs.Sessions.{is_delta_purpose, is_join_call, is_renewal, is_session_arg, is_survey_purpose, shows_other_in}
 use Rattle.sl_sessions.specs.declared.delta.DeltaKnown.{DeltaKnown}
 use Rattle.sl_sessions.specs.declared.session.Renewing.{Renewing}
-use Rattle.sl_sessions.specs.declared.sighting.Sighting.{Sighting}
 use Rattle.sl_due.specs.DueRequests.{owner_asked}
 use Rattle.sl_time.specs.Times.{fail}
 use Rattle.sl_trace.specs.Traces.{Child, KillProgram, Setting, bytes_given, child_after, is_done, is_ok_answer, job_of, kill_program_in, no_effects, with_program, without_program}
@@ -30,10 +29,12 @@ use Rattle.sl_trace.specs.declared.input.Answer.{Answer}
 use Rattle.sl_trace.specs.declared.input.Input.TheVariants.{Exit, Spawned}
 use Rattle.sl_trace.specs.declared.input.Input.{Input}
 use Rattle.sl_trace.specs.declared.reply.Reply.{Reply}
+use Rattle.sl_watch.specs.Telling.{told_all}
+use Rattle.sl_watch.specs.Watches.{Watched}
 use Rattle.sl_words.specs.Words.{choose, some_is}
 use Rattle.std.specs.List.{list_any}
 use Rattle.std.specs.Option.{option_map_or, option_or}
-use Rattle.std.specs.Prelude.{Bool, List, None, Option, Result, Some, cond, false, filter, find, is_some, length, map, min, nat_le, not, option_and_then, option_map, true, unwrap_or, [], ℕ, ◌&&◌, ◌++◌, ◌+◌, ◌-◌, ◌==◌, ◌∷◌}
+use Rattle.std.specs.Prelude.{Bool, List, None, Option, Result, Some, cond, false, filter, find, is_some, length, map, max, min, nat_le, not, option_and_then, option_map, slice_index_or, slice_set, true, unwrap_or, [], ℕ, ◌&&◌, ◌++◌, ◌+◌, ◌-◌, ◌==◌, ◌∷◌}
 
 -- ---- a step begins and ends
 
@@ -57,15 +58,13 @@ member_begun h m = cond (is_late h m) (with_renewing (beginning h (h.entries - 1
 abbrev pub counted : ℕ → HostState → HostState
 counted now h = record h { before = h.reading; reading = now; entries = h.entries + 1 }
 
--- A step begins at this reading, with these buffers.
-abbrev pub begun : ℕ → Rooms → HostState → HostState
-begun now room h =
+-- A step begins at this reading.
+abbrev pub begun : ℕ → HostState → HostState
+begun now h =
     let g : HostState = counted now h in
     record g {
       members = map (member_begun g) h.members;
       quiet_until = lowered (list_any (is_late g) h.members) (now + h.config.grace) h;
-      room = room;
-      spare = None;
     }
 
 -- A step is over: its effects are taken out, and the next call is the first of the next step.
@@ -148,16 +147,12 @@ heard_start p ok h = record h { children = cond (is_started_now h p) h.children 
 
 -- ---- an answer, heard by its session
 
--- The bytes of a read of all ids at this one.
-abbrev pub sighting_by : HostState → OpenCall → List ℕ → ℕ → Sighting
-sighting_by h c bytes id = record { before = c.reading; after = h.reading; bytes = sector_of h.config.layout bytes (id - 1) }
-
--- What was seen, with such a read.
-abbrev pub seen_with : HostState → OpenCall → Answer → (ℕ → List Sighting) → ℕ → List Sighting
-seen_with h c a before id =
+-- The watch after an answer: a read of all ids tells it of each.
+abbrev pub watch_hearing : HostState → OpenCall → Answer → Watched → Watched
+watch_hearing h c a w =
     elim (is_survey_purpose c.purpose) [
-      | false ↦ before id
-      | true ↦ elim (bytes_given a) [ None ↦ before id | Some bytes ↦ sighting_by h c bytes id ∷ before id ]
+      | false ↦ w
+      | true ↦ elim (bytes_given a) [ None ↦ w | Some bytes ↦ told_all c.reading h.reading h.config.layout bytes w ]
     ]
 
 -- The definitions' questions to a setting ask of a host no more than its configuration.
@@ -194,10 +189,14 @@ renewing_hearing h c a m =
       | None ↦ cond (m.joined && shows_other_by h c a m) (beginning h h.entries r) (record r { last = unwrap_or (renewed_of c a) r.last })
     ]
 
+-- The owners asked, with this one at this reading.
+abbrev pub asked_at : ℕ → ℕ → List (Option ℕ) → List (Option ℕ)
+asked_at now owner asked = slice_set asked (owner - 1) (Some (option_map_or (max now) (slice_index_or asked (owner - 1) None) now))
+
 -- The owners asked, with him whom a write of a request asked that is done.
-abbrev pub asked_hearing : HostState → OpenCall → Answer → List AskedAt → List AskedAt
+abbrev pub asked_hearing : HostState → OpenCall → Answer → List (Option ℕ) → List (Option ℕ)
 asked_hearing h c a asked =
-    elim (owner_asked c.purpose) [ None ↦ asked | Some o ↦ cond (is_ok_answer a) (record { owner = o; reading = h.reading } ∷ asked) asked ]
+    elim (owner_asked c.purpose) [ None ↦ asked | Some o ↦ cond (is_ok_answer a && nat_le 1 o) (asked_at h.reading o asked) asked ]
 
 -- A joining's call with an answer at this reading, if it had none.
 abbrev pub answered_at : ℕ → JoinCall → JoinCall
@@ -317,7 +316,7 @@ member_hearing h c a m =
       joining = joining_hearing h c a m.joining;
       renewing = renewing_hearing h c a m;
       asked = asked_hearing h c a m.asked;
-      seen = seen_with h c a m.seen;
+      watch = watch_hearing h c a m.watch;
       leases = map (lease_told h m (is_heeded_by h c) c a) m.leases;
     }
 

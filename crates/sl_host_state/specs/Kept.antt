@@ -9,29 +9,27 @@
 -- It is a member from the line's own step on, up to `gone`. What is still asked of a session that is gone is asked of other lists: of
 -- open calls (they keep its number, which no member has, so an answer does nothing) and of connections (they keep names, since a
 -- refused joining's connection is removed after it has gone).
-pub use Rattle.sl_host_state.specs.declared.kept.AskedAt.{AskedAt}
 pub use Rattle.sl_host_state.specs.declared.kept.JoinCall.{JoinCall}
 pub use Rattle.sl_host_state.specs.declared.kept.JobState.{JobState}
 pub use Rattle.sl_host_state.specs.declared.kept.LeaseCall.{LeaseCall}
 pub use Rattle.sl_host_state.specs.declared.kept.OpenCall.{OpenCall}
-pub use Rattle.sl_host_state.specs.declared.kept.Rooms.{Rooms}
 pub use Rattle.sl_host_state.specs.declared.kept.TopNumber.{TopNumber}
 pub use Rattle.sl_host_state.specs.declared.kept.ValuePair.{ValuePair}
 pub use Rattle.sl_host_state.specs.declared.kept.WaitingCall.{WaitingCall}
-use Rattle.sl_area.specs.Layouts.{Layout}
+use Rattle.sl_area.specs.Layouts.{Layout, Sizes, layout_of}
 use Rattle.sl_sector.specs.declared.sector.Block.{Block}
 use Rattle.sl_sector.specs.declared.sector.DeltaRec.{DeltaRec}
 use Rattle.sl_sessions.specs.declared.delta.DeltaKnown.{DeltaKnown}
 use Rattle.sl_sessions.specs.declared.session.Begun.{Begun}
 use Rattle.sl_sessions.specs.declared.session.Renewing.{Renewing}
 use Rattle.sl_sessions.specs.declared.session.Session.{Session}
-use Rattle.sl_sessions.specs.declared.sighting.Sighting.{Sighting}
 use Rattle.sl_time.specs.Times.{TimingNumbers}
 use Rattle.sl_trace.specs.Traces.{Child, KillProgram}
 use Rattle.sl_trace.specs.declared.command.Command.{Command}
 use Rattle.sl_trace.specs.declared.effects.Effects.{Effects}
 use Rattle.sl_trace.specs.declared.effects.Grant.{Grant}
 use Rattle.sl_trace.specs.declared.effects.Spot.{Spot}
+use Rattle.sl_watch.specs.Watches.{Watched}
 use Rattle.std.specs.Prelude.{Bool, List, Option, Result, ℕ}
 
 -- What a host is made of; it never changes.
@@ -96,9 +94,10 @@ pub record MemberState : Type 0 where
   pub renewing : Renewing
   -- how its leaving began
   pub leaving : Option Begun
-  pub asked : List AskedAt
-  -- of each id; a host keeps a summary of them
-  pub seen : ℕ → List Sighting
+  -- of each id, 1 to hosts, the reading of the last answered request to its host
+  pub asked : List (Option ℕ)
+  -- of each id what was seen of it
+  pub watch : Watched
   -- by place
   pub leases : List LeaseState
 
@@ -136,6 +135,60 @@ pub record HostState : Type 0 where
   pub programs : List KillProgram
   -- the effects of the step so far
   pub made : Effects
-  pub room : Rooms
-  -- buffers for one more step
-  pub spare : Option Rooms
+
+-- ---- as code keeps it: what is laid out by sizes, and read by the program's grammar
+
+-- What a host is made of.
+pub record Made : Type 0 where
+  pub timing : TimingNumbers
+  pub grace : ℕ
+  pub sizes : Sizes
+  pub machine : ℕ
+  pub name : List ℕ
+
+-- A host, field by field as above.
+pub record HostKept : Type 0 where
+  pub config : Made
+  pub reading : ℕ
+  pub before : ℕ
+  pub entries : ℕ
+  pub quiet_until : ℕ
+  pub first_call : ℕ
+  pub next_job : ℕ
+  pub started : ℕ
+  pub born : ℕ
+  pub members : List MemberState
+  pub connected : List (List ℕ)
+  pub unanswered : List OpenCall
+  pub jobs : List JobState
+  pub holdings : List Grant
+  pub children : List Child
+  pub programs : List KillProgram
+  pub made : Effects
+
+-- The configuration of a host that reads lines so.
+abbrev pub config_with : (List ℕ → Result Command ℕ) → Made → Config
+config_with read c = record { timing = c.timing; grace = c.grace; layout = layout_of c.sizes; machine = c.machine; name = c.name; read = read }
+
+-- The state of a host that reads lines so.
+abbrev pub state_of : (List ℕ → Result Command ℕ) → HostKept → HostState
+state_of read k =
+    record {
+      config = config_with read k.config;
+      reading = k.reading;
+      before = k.before;
+      entries = k.entries;
+      quiet_until = k.quiet_until;
+      first_call = k.first_call;
+      next_job = k.next_job;
+      started = k.started;
+      born = k.born;
+      members = k.members;
+      connected = k.connected;
+      unanswered = k.unanswered;
+      jobs = k.jobs;
+      holdings = k.holdings;
+      children = k.children;
+      programs = k.programs;
+      made = k.made;
+    }

@@ -249,4 +249,4 @@ with_member m ms = put_in (λ a b. is_text_before a.who.lockspace b.who.lockspac
 abbrev pub with_joining : ℕ → LockspaceArg → Purpose → ℕ → Op → HostState → HostState
 with_joining job a purpose offset op h =
     with_call h.born a.path purpose offset op
-    (record h { born = h.born + 1; members = with_member (new_member (joining_session h.born job a)) h.members })
+    (record h { born = h.born + 1; members = with_member (new_member h.config (joining_session h.born job a)) h.members })

@@ -13,11 +13,11 @@
 -- - jobs: the running jobs are those kept, each with its child and the call for which it waits.
 -- - holdings, children, programs: so are these.
 -- - quiet: nothing that is due by time before an input is due below `quiet_until`.
-use Rattle.sl_area.specs.Layouts.{Layout}
+use Rattle.sl_area.specs.Layouts.{Layout, layout_of}
 use Rattle.sl_due.specs.Due.{IsHostTrace}
 use Rattle.sl_due.specs.DueRequests.{is_asked}
 use Rattle.sl_due.specs.Steps.{Step, seen}
-use Rattle.sl_host_state.specs.Kept.{AskedAt, Config, HostState, JobState, JoinCall, JoinState, LeaseCall, LeaseState, MemberState, OpenCall, PairState, TopNumber, ValuePair, WaitingCall}
+use Rattle.sl_host_state.specs.Kept.{Config, HostState, JobState, JoinCall, JoinState, LeaseCall, LeaseState, MemberState, OpenCall, PairState, TopNumber, ValuePair, WaitingCall}
 use Rattle.sl_leases.specs.Ballots.{in_instance}
 use Rattle.sl_leases.specs.Counts.{values_on}
 use Rattle.sl_leases.specs.Jobs.{child_of_job, command_of}
@@ -28,7 +28,7 @@ use Rattle.sl_sector.specs.declared.sector.Owner.{Owner}
 use Rattle.sl_sector.specs.declared.sector.ValueRec.{ValueRec}
 use Rattle.sl_sessions.specs.Deltas.{claim_of, delta_known, first_answered, first_bytes, join_step_of}
 use Rattle.sl_sessions.specs.Sessions.{calls_of, is_delta_purpose, is_joined, leaving_of, me, present_sessions, refused_after, renewing, sessions}
-use Rattle.sl_sessions.specs.Watching.{sightings}
+use Rattle.sl_sessions.specs.Watching.{seen_records, sightings}
 use Rattle.sl_sessions.specs.declared.session.Begun.{Begun}
 use Rattle.sl_time.specs.Times.{fail}
 use Rattle.sl_trace.specs.Connections.{connections}
@@ -36,9 +36,11 @@ use Rattle.sl_trace.specs.Traces.{Child, Job, Setting, Submitted, Trace, childre
 use Rattle.sl_trace.specs.declared.effects.Op.TheVariants.{ReadSectors, WriteRecord}
 use Rattle.sl_trace.specs.declared.effects.Op.{Op}
 use Rattle.sl_trace.specs.declared.input.Input.{Input}
+use Rattle.sl_watch.specs.Watches.{WatchStands, Watched}
 use Rattle.sl_words.specs.Words.{choose, greatest, present, some_is}
+use Rattle.std.specs.Int.{is_in_range}
 use Rattle.std.specs.List.{AllByRecursion, list_any, range_with_len}
-use Rattle.std.specs.Prelude.{Bool, IsTrue, List, None, Option, Some, cond, false, filter, filter_map, flat_map, is_none, is_some, length, map, nat_le, nat_lt, not, option_and_then, option_map, reverse, slice_get, true, [], ℕ, ◌&&◌, ◌++◌, ◌+◌, ◌==◌, ◌||◌, ◌∷◌, ◌≡◌, ◌≤◌}
+use Rattle.std.specs.Prelude.{Bool, IsTrue, List, None, Option, Some, cond, false, filter, filter_map, flat_map, is_none, is_some, length, map, nat_le, nat_lt, not, option_and_then, option_map, reverse, slice_get, slice_index_or, true, [], ℕ, ◌&&◌, ◌++◌, ◌+◌, ◌-◌, ◌==◌, ◌||◌, ◌∷◌, ◌≡◌, ◌≤◌}
 
 -- ---- what is kept of what a trace has
 
@@ -149,16 +151,29 @@ AreInTurn [] = Unit {0}
 AreInTurn (m ∷ ms) = AllByRecursion (λ m. IsTrue (is_some m.answer)) ms
 
 -- Whether a request to this owner was answered less than `fail` ago.
-abbrev pub is_asked_in : Setting → List AskedAt → ℕ → ℕ → Bool
-is_asked_in st asked now owner = list_any (λ a. a.owner == owner && nat_lt now (a.reading + fail st.timing)) asked
+abbrev pub is_asked_in : Setting → List (Option ℕ) → ℕ → ℕ → Bool
+is_asked_in st asked now owner = some_is (λ r. nat_lt now (r + fail st.timing)) (slice_index_or asked (owner - 1) None)
 
 -- The bits of a renewal, by what is kept.
-abbrev pub bits_of : Setting → List AskedAt → ℕ → List ℕ
+abbrev pub bits_of : Setting → List (Option ℕ) → ℕ → List ℕ
 bits_of st asked now = bitmap_of (filter (is_asked_in st asked now) (range_with_len 1 st.layout.hosts))
 
 -- The value that was submitted last on the area.
 abbrev pub newest_value : List ValueRec → Option ValuePair
 newest_value vs = option_map pair_of (slice_get vs 0)
+
+-- The owners asked stand for a session's calls: of each id the last reading tells.
+pub record AskedStands (st : Setting) (asked : List (Option ℕ)) (ms : List Submitted) : Type 0 where
+  pub count : length asked ≡ st.layout.hosts
+  pub each : (now owner : ℕ) → 1 ≤ owner → owner ≤ st.layout.hosts → is_asked st ms now owner ≡ is_asked_in st asked now owner
+
+-- A watch stands for a session's calls: of each id what is kept is what its sightings come to, and beyond the ids nothing was seen.
+pub record WatchKeeps (st : Setting) (w : Watched) (ms : List Submitted) : Type 0 where
+  pub timed : w.timing ≡ st.timing
+  pub sized : layout_of w.sizes ≡ st.layout
+  pub count : length w.ids ≡ w.sizes.hosts
+  pub stands : WatchStands w (λ id. sightings st.layout id ms)
+  pub beyond : (id : ℕ) → is_in_range 1 st.layout.hosts id ≡ false → seen_records st.layout id (sightings st.layout id ms) ≡ []
 
 -- A member stands for its session.
 pub record MemberStands (st : Setting) (es : Trace) (m : MemberState) : Type 0 where
@@ -168,10 +183,10 @@ pub record MemberStands (st : Setting) (es : Trace) (m : MemberState) : Type 0 w
   pub joining : is_joining m ≡ true → JoinStands m.joining (calls_of es m.who)
   pub renewing : renewing st es m.who ≡ m.renewing
   pub leaving : leaving_of st es m.who ≡ m.leaving
-  pub asked : (now owner : ℕ) → is_asked st (calls_of es m.who) now owner ≡ is_asked_in st m.asked now owner
+  pub asked : AskedStands st m.asked (calls_of es m.who)
   -- its calls on delta sectors come one after another
   pub turn : AreInTurn (filter (λ c. is_delta_purpose c.call.purpose) (calls_of es m.who))
-  pub seen : (id : ℕ) → sightings st.layout id (calls_of es m.who) ≡ m.seen id
+  pub seen : WatchKeeps st m.watch (calls_of es m.who)
   pub spots : lease_spots st es m.who ≡ map (λ l. l.spot) m.leases
   pub leases : (k : ℕ) (l : LeaseState) → slice_get m.leases k ≡ Some l → LeaseStands st.layout m.who.lockspace (me es m.who) l (lease_calls st es m.who l.spot)
   -- each value that it submitted is on the area of a lease of it

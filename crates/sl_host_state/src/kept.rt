@@ -72,28 +72,3 @@ pub struct JoinCall {
     pub made: u64,
     pub answered: Option<u64>,
 }
-
-/// An owner of a lease, and the reading of the answer to a request to him.
-#[derive(Clone, Copy)]
-pub struct AskedAt {
-    pub owner: u32,
-    pub reading: u64,
-}
-
-/// For how many more elements of each list there is memory.
-#[derive(Clone, Copy)]
-pub struct Rooms {
-    pub ends: usize,
-    pub signals: usize,
-    pub moves: usize,
-    pub grants: usize,
-    pub starts: usize,
-    pub replies: usize,
-    pub calls: usize,
-    // of what is kept
-    pub unanswered: usize,
-    pub jobs: usize,
-    pub holdings: usize,
-    pub children: usize,
-    pub programs: usize,
-}

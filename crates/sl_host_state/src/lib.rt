@@ -5,6 +5,4 @@
 pub mod kept;
 pub mod laws;
 
-pub use kept::{
-    AskedAt, JobState, JoinCall, LeaseCall, OpenCall, Rooms, TopNumber, ValuePair, WaitingCall,
-};
+pub use kept::{JobState, JoinCall, LeaseCall, OpenCall, TopNumber, ValuePair, WaitingCall};

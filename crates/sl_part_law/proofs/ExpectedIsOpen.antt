@@ -5,7 +5,7 @@ use Rattle.sl_host_plain.proofs.PlainLists.{each_of, found_some}
 use Rattle.sl_host_state.specs.Kept.{Config, HostState}
 use Rattle.sl_host_state.specs.Stands.{Keeps, Stands, kept_call, sectors_of}
 use Rattle.sl_host_state.specs.declared.kept.OpenCall.{OpenCall}
-use Rattle.sl_part_law.specs.Expected.{ExpectedIsOpen, IsAnswerOf}
+use Rattle.sl_part_law.specs.Expected.{AreLooks, ExpectedIsOpen, IsAnswerOf}
 use Rattle.sl_plain.proofs.Lists.{any_found, contains_map, find_inside, kept_inside}
 use Rattle.sl_reply_law.proofs.Answers.AnswerFindsItsCall.{IsOr, in_reversed, the_call}
 use Rattle.sl_reply_law.proofs.PlainNumbers.{same_number}
@@ -72,10 +72,10 @@ call number a h x expected s none =
     let c = open_here h x.setting (seen (uncalled x)) number m.0 k m.1 its.0 in
     (c.0, c.1, subst (λ (g : Config). IsAnswerOf g.layout a c.0) k.config (by_op x.setting a m.0.call.op c.0 (ap (λ (z : OpenCall). z.sectors) c.2) its.1))
 
-fits : (g : Layout) (a : Answer) (c : OpenCall) → IsAnswerOf g a c → FitsCall a c
-fits g (Read bytes) c is = subst IsTrue (sym (ap is_some is.1)) refl
-fits g Written c is = tt
-fits g Failed c is = tt
+fits : (g : Layout) (a : Answer) (c : OpenCall) → IsAnswerOf g a c → AreLooks g a c → FitsCall g a c
+fits g (Read bytes) c is looks = (subst IsTrue (sym (ap is_some is.1)) refl, looks)
+fits g Written c is looks = tt
+fits g Failed c is looks = tt
 
 pub expected_is_open : ExpectedIsOpen
 expected_is_open = record { call = call; fits = fits }

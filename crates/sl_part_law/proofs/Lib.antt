@@ -8,4 +8,4 @@ pub mod GoneDoNothing
 pub mod LinesAreTaken
 pub mod SpawnsAreTaken
 pub mod ExpectedIsOpen
-pub mod RoomsAreFree
+pub mod EarlierIsQuiet

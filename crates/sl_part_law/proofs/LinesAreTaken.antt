@@ -20,6 +20,7 @@ use Rattle.sl_host_plain.proofs.PlainLists.{at_some}
 use Rattle.sl_host_state.specs.Hears.{answered_line, heard_line, new_job}
 use Rattle.sl_host_state.specs.Kept.{Config, HostState, LeaseState, MemberState}
 use Rattle.sl_host_state.specs.Makes.{is_lease_on, next_submitted, with_call, with_joining}
+use Rattle.sl_host_state.specs.New.{IsOfProgram}
 use Rattle.sl_host_state.specs.Stands.{IsWaiting, LeaseStands, Stands}
 use Rattle.sl_host_state.specs.declared.kept.JobState.{JobState}
 use Rattle.sl_host_state.specs.declared.kept.LeaseCall.{LeaseCall}
@@ -116,10 +117,10 @@ idle_or h c m = ap (λ b. b || is_leaving_alone (heard_line c h) m h.next_job) (
 layout_is : (h : HostState) (x : Step) → Stands Wake h x → x.setting.layout ≡ h.config.layout
 layout_is h x s = ap (λ (c : Config). c.layout) s.keeps.config
 
-joins : (h : HostState) (x : Step) (text : List ℕ) (c : Command) (n : ℕ) (a : LockspaceArg) → LineComes h x text c (Joins n a)
+joins : (h : HostState) (x : Step) (text : List ℕ) (c : Command) (n : ℕ) (a : LockspaceArg) → LineComes h x text c (Joins n a) → IsOfProgram h.config.layout
     → Stands (Line text) (with_joining h.next_job a (Joining h.next_job FirstRead) (delta_offset h.config.layout a.offset a.id) (ReadSectors 1) (heard_line c h)) (on_line text x)
 unfolding carry_decision
-joins h x text c n a l =
+joins h x text c n a l program =
     let theirs : IsDecidedFor x.setting (seen x) c (Joins n a) =
     subst (λ d. IsDecidedFor x.setting (seen x) c d) (commands_are_decided Wake h x c l.stands l.last ∙ l.decision) (decisions_are_theirs x.setting (seen x) x.reading c)
     in
@@ -131,7 +132,7 @@ joins h x text c n a l =
     (subst (λ k. Stands (Line text) after (add_call_of k a.path (Joining h.next_job FirstRead) (delta_offset y.setting.layout a.offset a.id) (ReadSectors 1) y)) (sym number)
     (subst (λ g. Stands (Line text) after (add_call_of h.born a.path (Joining h.next_job FirstRead) (delta_offset g a.offset a.id) (ReadSectors 1) y)) (sym (layout_is h x l.stands))
     (joinings_are_taken h' y h.next_job text a (delta_offset h.config.layout a.offset a.id) 1
-    (record { says = l.says ∙ ap (λ e. Ok e) theirs.0; number = refl; runs = own_idle h c; bare = l.at.calls }) (heard h x text c (Joins n a) l))))
+    (record { says = l.says ∙ ap (λ e. Ok e) theirs.0; number = refl; runs = own_idle h c; bare = l.at.calls; program = program }) (heard h x text c (Joins n a) l))))
 
 -- The member, as the line has been heard.
 pub member_at : (h : HostState) (x : Step) (text : List ℕ) (c : Command) (d : Decision) (k : ℕ) (m : MemberState) (s : Session) → LineComes h x text c d → HeardBy h c k m s

@@ -7,4 +7,4 @@ pub mod Recoveries
 pub mod Lines
 pub mod Spawns
 pub mod Expected
-pub mod Rooms
+pub mod Moments

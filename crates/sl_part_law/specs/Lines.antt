@@ -11,6 +11,7 @@ use Rattle.sl_host_plain.specs.AtInput.{IsAtInput}
 use Rattle.sl_host_state.specs.Hears.{answered_line, heard_line}
 use Rattle.sl_host_state.specs.Kept.{HostState, LeaseState, MemberState}
 use Rattle.sl_host_state.specs.Makes.{is_lease_on, next_submitted, with_call, with_joining}
+use Rattle.sl_host_state.specs.New.{IsOfProgram}
 use Rattle.sl_host_state.specs.Stands.{Stands}
 use Rattle.sl_part_law.specs.Refusals.{signalling_and_refusing}
 use Rattle.sl_question_law.specs.Members.{IsMemberAt}
@@ -57,7 +58,7 @@ pub record LinesAreTaken : Type 0 where
       → Stands (Line text) (heard_line c h) (with_input (Line text) x)
   pub carried : (h : HostState) (x : Step) (text : List ℕ) (c : Command) (d : Decision) → LineComes h x text c d → reply_at_once d ≡ None
       → on_line text x ≡ carry_decision h.next_job c d (with_input (Line text) x)
-  pub joins : (h : HostState) (x : Step) (text : List ℕ) (c : Command) (n : ℕ) (a : LockspaceArg) → LineComes h x text c (Joins n a)
+  pub joins : (h : HostState) (x : Step) (text : List ℕ) (c : Command) (n : ℕ) (a : LockspaceArg) → LineComes h x text c (Joins n a) → IsOfProgram h.config.layout
       → Stands (Line text) (with_joining h.next_job a (Joining h.next_job FirstRead) (delta_offset h.config.layout a.offset a.id) (ReadSectors 1) (heard_line c h)) (on_line text x)
   pub leaves : (h : HostState) (x : Step) (text : List ℕ) (c : Command) (s : Session) (k : ℕ) (m : MemberState) → LineComes h x text c (Leaves s) → HeardBy h c k m s
       → Stands (Line text) (signalling_and_refusing m (Some h.next_job) (heard_line c h)) (on_line text x)

@@ -6,7 +6,7 @@ ghost use Rattle.sl_part_law.specs.Expected.{ExpectedIsOpen};
 ghost use Rattle.sl_part_law.specs.Lines.{LinesAreTaken};
 ghost use Rattle.sl_part_law.specs.Recoveries.{GoneDoNothing, RecoveriesAreTaken};
 ghost use Rattle.sl_part_law.specs.Refusals.{RefusalsAreTaken};
-ghost use Rattle.sl_part_law.specs.Rooms.{RoomsAreFree};
+ghost use Rattle.sl_part_law.specs.Moments.{EarlierIsQuiet};
 ghost use Rattle.sl_part_law.specs.Signals.{SignalsAreTaken};
 ghost use Rattle.sl_part_law.specs.Spawns.{SpawnsAreTaken};
 ghost use Rattle.sl_part_law.specs.Wakes.{MembersWake};
@@ -61,7 +61,7 @@ pub fn expected_is_open()
     ensures { ExpectedIsOpen }
 {}
 
-/// A host stands whatever its rooms are.
-pub fn rooms_are_free()
-    ensures { RoomsAreFree }
+/// A host stands however early it looks again for what is due by time.
+pub fn earlier_is_quiet()
+    ensures { EarlierIsQuiet }
 {}

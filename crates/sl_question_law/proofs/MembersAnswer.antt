@@ -16,7 +16,13 @@ use Rattle.sl_reply_law.proofs.PlainFilters.{filter_mapped}
 use Rattle.sl_sector.specs.Bitmaps.{bitmap_of}
 use Rattle.sl_sector.specs.declared.sector.Owner.{Owner}
 use Rattle.sl_sessions.specs.Sessions.{calls_of, generation_of, has_open_write, is_active, is_call_of, is_leaving, is_present, is_recovering, joined_after, leaving_job, me, open_calls_of, recovery_of, refused_after, removed_after}
-use Rattle.sl_sessions.specs.Watching.{counts_over, evidence, evidence_in}
+use Rattle.sl_area.specs.Layouts.{Layout}
+use Rattle.sl_sector.specs.declared.sector.DeltaRec.{DeltaRec}
+use Rattle.sl_sessions.specs.Watching.{counts_over, current_run, evidence, evidence_in, evidence_of, has_seen, run_with, seen_records, sighted, sightings}
+use Rattle.sl_sessions.specs.declared.sighting.Sighting.{Sighting}
+use Rattle.sl_watch.proofs.SummaryLaws.{evidence_read}
+use Rattle.sl_watch.specs.Summaries.{bare, evidence_by}
+use Rattle.sl_watch.specs.Watches.{kept_at}
 use Rattle.sl_sessions.specs.declared.delta.DeltaKnown.{DeltaKnown}
 use Rattle.sl_sessions.specs.declared.session.Begun.{Begun}
 use Rattle.sl_sessions.specs.declared.session.Renewing.{Renewing}
@@ -27,10 +33,16 @@ use Rattle.sl_trace.specs.declared.input.Input.{Input}
 use Rattle.sl_words.proofs.CaseLaws.{false_is_true}
 use Rattle.sl_words.specs.Orders.{rising}
 use Rattle.sl_words.specs.Words.{is_empty, same_truth, some_is}
-use Rattle.std.proofs.Common.{ap, refl, sym, ◌∙◌}
+use Rattle.sl_words.proofs.WordLaws.{and_true}
+use Rattle.std.proofs.Common.{ap, arith, refl, suc, sym, zero, ◌∙◌}
+use Rattle.std.proofs.lemmas.Bool.Decides.{nat_tests}
+use Rattle.std.proofs.lemmas.Bool.{leb-true}
+use Rattle.sl_trace.specs.declared.reply.Evidence.TheVariants.{Newer}
+use Rattle.sl_trace.specs.declared.reply.Evidence.{Evidence}
+use Rattle.std.specs.Int.{is_in_range}
 use Rattle.std.proofs.Math.Path.{fun_ext}
-use Rattle.std.specs.List.{list_any, range_with_len}
-use Rattle.std.specs.Prelude.{Bool, List, None, Option, Some, bytes_eq, false, filter, find, is_none, is_some, map, nat_lt, not, option_map, true, [], ℕ, ◌&&◌, ◌+◌, ◌==◌, ◌∷◌, ◌≡◌, ◌||◌}
+use Rattle.std.specs.List.{cons_option, list_any, range_with_len}
+use Rattle.std.specs.Prelude.{Bool, List, None, Option, Some, bytes_eq, cond, false, filter, find, is_none, is_some, map, nat_le, nat_lt, not, option_map, true, [], ℕ, ◌&&◌, ◌+◌, ◌<◌, ◌==◌, ◌∷◌, ◌≡◌, ◌≤◌, ◌||◌}
 
 some_mapped : {A B : Type 0} (f : A → B) (o : Option A) → is_some (option_map f o) ≡ is_some o
 some_mapped f None = refl
@@ -47,6 +59,28 @@ begun_of j = record { at = j.at; reading = j.reading; kills_from = j.at + 1 }
 empty_is : {A : Type 0} (xs : List A) → is_empty xs ≡ not (list_any (λ x. true) xs)
 empty_is [] = refl
 empty_is (x ∷ xs) = refl
+
+-- Two tests that are the same in a range.
+kept_range : (p q : ℕ → Bool) (a n : ℕ) → ((i : ℕ) → a ≤ i → i < a + n → p i ≡ q i) → filter p (range_with_len a n) ≡ filter q (range_with_len a n)
+kept_range p q a zero are = refl
+kept_range p q a (suc n) are =
+    ap (λ b. cond b (a ∷ filter p (range_with_len (a + 1) n)) (filter p (range_with_len (a + 1) n))) (are a (omega arith) (omega arith))
+    ∙ ap (λ ys. cond (q a) (a ∷ ys) ys) (kept_range p q (a + 1) n (λ i one most. are i (omega (arith, one)) (omega (arith, most))))
+
+-- Nothing that was seen is no evidence.
+no_reason : (g : ℕ) → elim (nat_lt g 0) as (λ z. Option Evidence) [ true ↦ Some (Newer 0) | false ↦ None ] ≡ None
+no_reason g = by (nat_lt g 0) (grind (arith, nat_tests)) where
+  by : (b : Bool) → b ≡ false → elim b as (λ z. Option Evidence) [ true ↦ Some (Newer 0) | false ↦ None ] ≡ None
+  by false is = refl
+  by true is = absurd cc
+
+-- Where no record was seen there is no run.
+no_run : (g : Layout) (id : ℕ) (ss : List Sighting) → seen_records g id ss ≡ [] → current_run g id ss ≡ None
+no_run g id [] none = refl
+no_run g id (s ∷ ss) none = by (sighted g id s) none where
+  by : (o : Option DeltaRec) → cons_option o (seen_records g id ss) ≡ [] → option_map (λ d. run_with (current_run g id ss) s d (has_seen ss)) o ≡ None
+  by None is = refl
+  by (Some d) is = absurd cc
 
 module _ (i : Input) (h : HostState) (x : Step) (k : ℕ) (m : MemberState) (at_it : IsMemberAt i h x k m) where
   keeps : Keeps h x.setting (seen x)
@@ -91,7 +125,8 @@ module _ (i : Input) (h : HostState) (x : Step) (k : ℕ) (m : MemberState) (at_
 
   bits : (now : ℕ) → bits_due x.setting (calls_of (seen x) m.who) now ≡ bits_of x.setting m.asked now
   bits now =
-      ap bitmap_of (filter_as (is_asked x.setting (calls_of (seen x) m.who) now) (is_asked_in x.setting m.asked now) (range_with_len 1 x.setting.layout.hosts) (λ owner. stands.asked now owner))
+      ap bitmap_of (kept_range (is_asked x.setting (calls_of (seen x) m.who) now) (is_asked_in x.setting m.asked now) 1 x.setting.layout.hosts
+      (λ owner one most. stands.asked.each now owner one (omega (arith, most))))
 
   -- ---- what it has seen
 
@@ -103,15 +138,30 @@ module _ (i : Input) (h : HostState) (x : Step) (k : ℕ) (m : MemberState) (at_
     by (Some j) None is = refl
     by (Some j) (Some n) is = absurd (false_is_true is)
 
-  seen_evidence : (j g : ℕ) → evidence_in x.setting (calls_of (seen x) m.who) j g ≡ evidence_seen h m j g
-  seen_evidence j g =
-      ap (λ ss. evidence x.setting.timing x.setting.layout j g ss) (stands.seen j) ∙ ap (λ (c : Config). evidence c.timing c.layout j g (m.seen j)) config
+  seen_evidence : (j g : ℕ) → evidence_in x.setting (calls_of (seen x) m.who) j g ≡ evidence_seen m j g
+  seen_evidence j g = by (is_in_range 1 m.watch.sizes.hosts j) refl where
+    ss : List Sighting
+    ss = sightings x.setting.layout j (calls_of (seen x) m.who)
 
-  over : (j g : ℕ) → counts_over x.setting (seen x) m.who j g ≡ over_in h m j g
+    hosts : x.setting.layout.hosts ≡ m.watch.sizes.hosts
+    hosts = sym (ap (λ (z : Layout). z.hosts) stands.seen.sized)
+
+    by : (b : Bool) → is_in_range 1 m.watch.sizes.hosts j ≡ b
+        → evidence x.setting.timing x.setting.layout j g ss ≡ cond b (evidence_by m.watch.timing g (bare (kept_at m.watch j))) None
+    by true is =
+        let both = and_true (nat_le 1 j) (nat_le j m.watch.sizes.hosts) is in
+        ap (λ t. evidence t x.setting.layout j g ss) (sym stands.seen.timed) ∙ ap (λ z. evidence m.watch.timing z j g ss) (sym stands.seen.sized)
+        ∙ sym (evidence_read m.watch (λ id. sightings x.setting.layout id (calls_of (seen x) m.who)) j g stands.seen.stands (leb-true 1 j both.0) (leb-true j m.watch.sizes.hosts both.1))
+    by false is =
+        let none : seen_records x.setting.layout j ss ≡ [] = stands.seen.beyond j (ap (λ n. is_in_range 1 n j) hosts ∙ is) in
+        ap (λ ds. evidence_of x.setting.timing g ds (current_run x.setting.layout j ss)) none ∙ ap (evidence_of x.setting.timing g []) (no_run x.setting.layout j ss none)
+        ∙ no_reason g
+
+  over : (j g : ℕ) → counts_over x.setting (seen x) m.who j g ≡ over_in m j g
   over j g =
       ap (λ e. over_by (is_some e) (generation_of (seen x) m.who) (is_some (joined_after (seen x) m.who))) (seen_evidence j g)
-      ∙ ap (λ n. over_by (is_some (evidence_seen h m j g)) n (is_some (joined_after (seen x) m.who))) generation
-      ∙ ap (over_by (is_some (evidence_seen h m j g)) m.known.generation) has_joined where
+      ∙ ap (λ n. over_by (is_some (evidence_seen m j g)) n (is_some (joined_after (seen x) m.who))) generation
+      ∙ ap (over_by (is_some (evidence_seen m j g)) m.known.generation) has_joined where
         over_by : Bool → ℕ → Bool → Bool
         over_by evident n joined = elim evident as (λ z. Bool) [ true ↦ true | false ↦ j == m.who.id && nat_lt g n && joined ]
 
@@ -136,14 +186,14 @@ module _ (i : Input) (h : HostState) (x : Step) (k : ℕ) (m : MemberState) (at_
 
   -- ---- a lease, up to its calls
 
-  over_all : counts_over x.setting (seen x) m.who ≡ over_in h m
+  over_all : counts_over x.setting (seen x) m.who ≡ over_in m
   over_all = fun_ext (λ j. fun_ext (λ g. over j g))
 
   me_is : me (seen x) m.who ≡ me_in m
   me_is = ap (λ n. record { id = m.who.id; generation = n }) generation
 
   lease : (at : Spot) → known x.setting (seen x) m.who at
-      ≡ known_of h.config.layout m.who.lockspace (me_in m) (is_some (shared_at h m at)) (option_map (λ g. g.lver) (exclusive_at h m at)) (over_in h m) (lease_calls x.setting (seen x) m.who at)
+      ≡ known_of h.config.layout m.who.lockspace (me_in m) (is_some (shared_at h m at)) (option_map (λ g. g.lver) (exclusive_at h m at)) (over_in m) (lease_calls x.setting (seen x) m.who at)
   unfolding known
   lease at =
       let calls : List Submitted = lease_calls x.setting (seen x) m.who at in

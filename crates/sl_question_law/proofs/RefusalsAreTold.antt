@@ -60,7 +60,7 @@ module _ (i : Input) (h : HostState) (x : Step) (job : ℕ) (r : Reply) (s : Sta
     by None is = refl
     by (Some m) is = removes m is
 
-removed : (number : ℕ) (c : OpenCall) (a : Answer) (h : HostState) (x : Step) (k : ℕ) (m : MemberState) → Stands Wake h x → IsOpen h number c → FitsCall a c → IsAtInput h
+removed : (number : ℕ) (c : OpenCall) (a : Answer) (h : HostState) (x : Step) (k : ℕ) (m : MemberState) → Stands Wake h x → IsOpen h number c → FitsCall h.config.layout a c → IsAtInput h
     → slice_get h.members k ≡ Some m
     → remove_of_refused m.who (with_input (Told number a) x)
     ≡ when (m.refused && not (has_write_open (heard_answer number a h) m.who.number)) (remove_connection m.who.lockspace) (with_input (Told number a) x)

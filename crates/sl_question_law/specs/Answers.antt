@@ -58,7 +58,7 @@ place_in h m = record { layout = h.config.layout; lockspace = m.who.lockspace }
 -- What is known of its lease, up to its calls.
 abbrev pub known_in : HostState → MemberState → Step → Spot → LeaseKnown
 known_in h m x at =
-    known_of h.config.layout m.who.lockspace (me_in m) (is_some (shared_at h m at)) (option_map (λ g. g.lver) (exclusive_at h m at)) (over_in h m)
+    known_of h.config.layout m.who.lockspace (me_in m) (is_some (shared_at h m at)) (option_map (λ g. g.lver) (exclusive_at h m at)) (over_in m)
     (lease_calls x.setting (seen x) m.who at)
 
 -- For a job that runs: what a read gives, that a write is done, or the fault.

@@ -12,7 +12,7 @@ use Rattle.sl_leases.specs.Jobs.{jobs_of_session, lockspace_named}
 use Rattle.sl_leases.specs.Leases.{exclusive_on, has_shared_on, holdings_on, known, known_of, lease_calls, lease_spots, orphan_on, shared_on}
 use Rattle.sl_sector.specs.declared.sector.Owner.{Owner}
 use Rattle.sl_sessions.specs.Sessions.{calls_of, has_open_write, holders_of, holdings_of, is_active, is_joined, is_leaving, is_recovering, last_renewal, me, open_calls_of, recovery_of}
-use Rattle.sl_sessions.specs.Watching.{counts_over, evidence, evidence_in}
+use Rattle.sl_sessions.specs.Watching.{counts_over, evidence_in}
 use Rattle.sl_trace.specs.Traces.{is_orphan, is_shared}
 use Rattle.sl_trace.specs.declared.effects.Grant.{Grant}
 use Rattle.sl_trace.specs.declared.effects.Mode.{Mode}
@@ -22,8 +22,11 @@ use Rattle.sl_trace.specs.declared.reply.Evidence.{Evidence}
 use Rattle.sl_sessions.specs.declared.session.Begun.{Begun}
 use Rattle.sl_words.specs.Orders.{rising}
 use Rattle.sl_words.specs.Words.{is_empty, same_truth, some_is}
+use Rattle.sl_watch.specs.Summaries.{bare, evidence_by}
+use Rattle.sl_watch.specs.Watches.{kept_at}
+use Rattle.std.specs.Int.{is_in_range}
 use Rattle.std.specs.List.{list_any}
-use Rattle.std.specs.Prelude.{Bool, List, Option, Some, bytes_eq, false, filter, find, is_some, map, nat_lt, not, option_map, slice_get, true, ℕ, ◌&&◌, ◌==◌, ◌≡◌}
+use Rattle.std.specs.Prelude.{Bool, List, None, Option, Some, bytes_eq, cond, false, filter, find, is_some, map, nat_lt, not, option_map, slice_get, true, ℕ, ◌&&◌, ◌==◌, ◌≡◌}
 
 -- ---- of the member itself
 
@@ -46,13 +49,13 @@ begins_by_read_in h begun = some_is (λ b. b.kills_from == h.entries) begun
 -- ---- what it has seen
 
 -- Why generation g of id j counts as over, by what was seen of it.
-abbrev pub evidence_seen : HostState → MemberState → ℕ → ℕ → Option Evidence
-evidence_seen h m j g = evidence h.config.timing h.config.layout j g (m.seen j)
+abbrev pub evidence_seen : MemberState → ℕ → ℕ → Option Evidence
+evidence_seen m j g = cond (is_in_range 1 m.watch.sizes.hosts j) (evidence_by m.watch.timing g (bare (kept_at m.watch j))) None
 
 -- Whether it counts generation g of id j as over.
-abbrev pub over_in : HostState → MemberState → ℕ → ℕ → Bool
-over_in h m j g =
-    elim (is_some (evidence_seen h m j g)) [ true ↦ true | false ↦ j == m.who.id && nat_lt g m.known.generation && m.joined ]
+abbrev pub over_in : MemberState → ℕ → ℕ → Bool
+over_in m j g =
+    elim (is_some (evidence_seen m j g)) [ true ↦ true | false ↦ j == m.who.id && nat_lt g m.known.generation && m.joined ]
 
 -- ---- its calls, holdings and jobs
 
@@ -99,8 +102,8 @@ pub record MemberAnswers (h : HostState) (x : Step) (m : MemberState) : Type 0 w
   pub recovery : recovery_of x.setting (seen x) m.who ≡ m.renewing.recovery
   pub by_read : begins_by_read (seen x) (recovery_of x.setting (seen x) m.who) ≡ begins_by_read_in h m.renewing.recovery
   pub bits : (now : ℕ) → bits_due x.setting (calls_of (seen x) m.who) now ≡ bits_of x.setting m.asked now
-  pub evidence : (j g : ℕ) → evidence_in x.setting (calls_of (seen x) m.who) j g ≡ evidence_seen h m j g
-  pub over : (j g : ℕ) → counts_over x.setting (seen x) m.who j g ≡ over_in h m j g
+  pub evidence : (j g : ℕ) → evidence_in x.setting (calls_of (seen x) m.who) j g ≡ evidence_seen m j g
+  pub over : (j g : ℕ) → counts_over x.setting (seen x) m.who j g ≡ over_in m j g
   pub idle : is_empty (open_calls_of (seen x) m.who) ≡ not (has_call_open h m.who.number)
   pub writes : has_open_write (seen x) m.who ≡ has_write_open h m.who.number
   pub holdings : holdings_of (seen x) m.who ≡ held_of h m
@@ -116,7 +119,7 @@ pub record MemberAnswers (h : HostState) (x : Step) (m : MemberState) : Type 0 w
   -- what is known of a lease, up to its calls: its own state answers for those
   pub lease : (at : Spot)
       → known x.setting (seen x) m.who at
-      ≡ known_of h.config.layout m.who.lockspace (me_in m) (is_some (shared_at h m at)) (option_map (λ g. g.lver) (exclusive_at h m at)) (over_in h m)
+      ≡ known_of h.config.layout m.who.lockspace (me_in m) (is_some (shared_at h m at)) (option_map (λ g. g.lver) (exclusive_at h m at)) (over_in m)
       (lease_calls x.setting (seen x) m.who at)
 
 abbrev pub MembersAnswer : Type 0

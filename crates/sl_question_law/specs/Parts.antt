@@ -77,7 +77,7 @@ pub record RefusalsAreTold : Type 0 where
         | Some m ↦ when (not (has_write_open h m.who.number)) (remove_connection m.who.lockspace) (add_reply job r x)
       ]
   -- or once that is answered
-  pub removed : (number : ℕ) (c : OpenCall) (a : Answer) (h : HostState) (x : Step) (k : ℕ) (m : MemberState) → Stands Wake h x → IsOpen h number c → FitsCall a c → IsAtInput h
+  pub removed : (number : ℕ) (c : OpenCall) (a : Answer) (h : HostState) (x : Step) (k : ℕ) (m : MemberState) → Stands Wake h x → IsOpen h number c → FitsCall h.config.layout a c → IsAtInput h
       → slice_get h.members k ≡ Some m
       → remove_of_refused m.who (with_input (Told number a) x)
       ≡ when (m.refused && not (has_write_open (heard_answer number a h) m.who.number)) (remove_connection m.who.lockspace) (with_input (Told number a) x)

@@ -1,7 +1,7 @@
 -- A member whose session's calls, renewals and leaving are as they were stands as it did, but for whether it is joined and refused.
 use Rattle.sl_due.specs.DueRequests.{is_asked}
 use Rattle.sl_host_state.specs.Kept.{MemberState}
-use Rattle.sl_host_state.specs.Stands.{AreInTurn, JoinStands, LeaseStands, MemberStands, is_joining, newest_value}
+use Rattle.sl_host_state.specs.Stands.{AreInTurn, AskedStands, JoinStands, LeaseStands, MemberStands, WatchKeeps, is_joining, newest_value}
 use Rattle.sl_leases.specs.Counts.{values_on}
 use Rattle.sl_leases.specs.Leases.{is_lease_call, is_on, spots_in, value_written}
 use Rattle.sl_sessions.specs.Sessions.{calls_of, free_write, generation_in, is_call_of, is_delta_purpose, is_joined, leaving_job, refused_after, renewal_in, renewing, seq_in}
@@ -47,9 +47,9 @@ module _ (st : Setting) (before after : Trace) where
         joining = λ is. subst (JoinStands m.joining) (sym own) (s.joining (still is));
         renewing = same.renewals ∙ s.renewing;
         leaving = ap (option_map (λ j. record { at = j.at; reading = j.reading; kills_from = j.at + 1 })) same.leaving ∙ s.leaving;
-        asked = λ now owner. ap (λ ms. is_asked st ms now owner) own ∙ s.asked now owner;
+        asked = subst (AskedStands st _) (sym own) s.asked;
         turn = subst (λ ms. AreInTurn (filter (λ c. is_delta_purpose c.call.purpose) ms)) (sym own) s.turn;
-        seen = λ id. ap (λ ms. sightings st.layout id ms) own ∙ s.seen id;
+        seen = subst (WatchKeeps st _) (sym own) s.seen;
         spots = ap (spots_in st.layout) own ∙ s.spots;
         leases = λ k l there.
             subst

@@ -24,6 +24,11 @@ pub is_found : (size : ℕ) (c : Content) → IsImage size c → found_of c ≡ 
 is_found size (Spelled r) is = sym (spelled_is_read sha256 sha256_is_digest size is.sized r is.content)
 is_found size (Raw bytes found) is = is.content.1
 
+-- A record that is found in a sector is the one that it spells.
+pub is_spelled : (size : ℕ) (c : Content) → IsImage size c → IfOk (found_of c) (λ r. Spells sha256 (bytes_of size c) r)
+is_spelled size (Spelled r) is = (is.content, ap (λ n. spelling sha256 n r) (sym (length-spelling sha256 sha256_is_digest size r is.sized is.content)))
+is_spelled size (Raw bytes found) is = is.content.2
+
 pub is_long : (size : ℕ) (c : Content) → IsImage size c → length (bytes_of size c) ≡ size
 is_long size (Spelled r) is = length-spelling sha256 sha256_is_digest size r is.sized is.content
 is_long size (Raw bytes found) is = is.content.0

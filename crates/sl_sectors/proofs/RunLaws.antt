@@ -1,7 +1,5 @@
 -- Sectors of one size, one after another.
-use Rattle.sha2.specs.Sha256.{sha256}
-use Rattle.sl_sector.specs.Spelling.{decoded}
-use Rattle.sl_sectors.specs.Images.{Run, record_at}
+use Rattle.sl_sectors.specs.Images.{Run, sector_at, sector_in}
 use Rattle.sl_words.proofs.CaseLaws.{none_some, some_value}
 use Rattle.sl_words.proofs.WordLaws.{and_true}
 use Rattle.sl_words.specs.Words.{choose}
@@ -84,20 +82,23 @@ is_there f size xs k some all = ap (nat_lt (k * size)) (sym (whole f size xs all
 
 -- Past the last sector there is none.
 pub none_at : {X : Type 0} (f : X → List ℕ) (size : ℕ) (xs : List X) (k : ℕ) → 0 < size → list_all (λ y. length (f y) == size) xs ≡ true
-    → false ≡ nat_lt k (length xs) → None ≡ record_at (run_of f size xs) k
+    → length xs ≤ k → None ≡ sector_in (run_of f size xs) k
 none_at f size xs k some all past =
-    ap (λ b. choose b (decoded sha256 (take size (drop (k * size) (flat_map f xs))))) (past ∙ sym (is_there f size xs k some all))
+    let test : nat_lt k (length xs) ≡ false = grind (arith, nat_tests, past) in
+    ap (λ b. choose b (sector_at (run_of f size xs) k)) (sym (is_there f size xs k some all ∙ test))
 
--- One of them is read from its bytes.
+-- One of them has its bytes.
 pub some_at : {X : Type 0} (f : X → List ℕ) (size : ℕ) (xs : List X) (k : ℕ) (x : X) → 0 < size → list_all (λ y. length (f y) == size) xs ≡ true
-    → true ≡ nat_lt k (length xs) → slice_get xs k ≡ Some x → Some (decoded sha256 (f x)) ≡ record_at (run_of f size xs) k
-some_at f size xs k x some all within at =
-    ap (λ bytes. choose true (decoded sha256 bytes)) (sym (piece f size xs k x all at))
-    ∙ ap (λ b. choose b (decoded sha256 (take size (drop (k * size) (flat_map f xs))))) (within ∙ sym (is_there f size xs k some all))
+    → k < length xs → x ≡ get_or xs k x → Some (f x) ≡ sector_in (run_of f size xs) k
+some_at f size xs k x some all within is =
+    let test : nat_lt k (length xs) ≡ true = grind (arith, nat_tests, within) in
+    ap (λ bytes. choose true bytes) (sym (piece f size xs k x all (slice_get_read xs (length xs) k x refl within is)))
+    ∙ ap (λ b. choose b (sector_at (run_of f size xs) k)) (sym (is_there f size xs k some all ∙ test))
 
--- An element is at its place.
-pub element_at : {X : Type 0} (xs : List X) (k : ℕ) (x : X) → true ≡ nat_lt k (length xs) → x ≡ get_or xs k x → slice_get xs k ≡ Some x
-element_at xs k x within is = slice_get_read xs (length xs) k x refl (grind (arith, nat_tests, within)) is
+-- The sector that is found is the one at its place.
+pub chosen_is : {A : Type 0} (b : Bool) (x y : A) → Some x ≡ choose b y → x ≡ y
+chosen_is true x y is = some_value x y is
+chosen_is false x y is = absurd (none_some x (sym is))
 
 -- A sector has some bytes.
 pub has_some : (size : ℕ) → 512 ≤ size → 0 < size

@@ -7,6 +7,7 @@ use Rattle.sl_sector.specs.declared.sector.Rec.{Rec}
 use Rattle.sl_sectors.specs.declared.image.Content.TheVariants.{Raw, Spelled}
 use Rattle.sl_sectors.specs.declared.image.Content.{Content}
 use Rattle.sl_words.specs.Words.{choose}
+use Rattle.std.specs.Option.{option_map}
 use Rattle.std.specs.Prelude.{Err, IfOk, List, Ok, Option, Result, drop, length, nat_lt, take, [], ℕ, ◌*◌, ◌≡◌}
 
 -- ---- one sector
@@ -50,6 +51,14 @@ pub record Run : Type 0 where
   pub size : ℕ
   pub bytes : List ℕ
 
+-- The bytes of sector k.
+abbrev pub sector_at : Run → ℕ → List ℕ
+sector_at s k = take s.size (drop (k * s.size) s.bytes)
+
+-- .. if there are so many.
+abbrev pub sector_in : Run → ℕ → Option (List ℕ)
+sector_in s k = choose (nat_lt (k * s.size) (length s.bytes)) (sector_at s k)
+
 -- What sector k spells, if there are so many.
 abbrev pub record_at : Run → ℕ → Option (Result Rec Bad)
-record_at s k = choose (nat_lt (k * s.size) (length s.bytes)) (decoded sha256 (take s.size (drop (k * s.size) s.bytes)))
+record_at s k = option_map (decoded sha256) (sector_in s k)

@@ -2,9 +2,9 @@
 
 ghost use Rattle.sha2.specs.Sha256.{sha256};
 ghost use Rattle.sl_sector.specs.Records.{IsRecord};
-ghost use Rattle.sl_sector.specs.Spelling.{IsSectorSize, decoded, spelling};
+ghost use Rattle.sl_sector.specs.Spelling.{IsSectorSize, Spells, decoded, spelling};
 ghost use Rattle.sl_sectors.specs.Images.{IsSameFound, found_of, raw_of};
-ghost use Rattle.std.specs.Prelude.{bytes_eq, length, IsTrue, OnErr, OnOk, ◌++◌, ◌↔◌, ◌≡◌};
+ghost use Rattle.std.specs.Prelude.{bytes_eq, length, IfOk, IsTrue, OnErr, OnOk, ◌++◌, ◌↔◌, ◌≡◌};
 
 use sl_sector::{Bad, Rec, decode, same_record};
 use sl_text::Bytes;
@@ -75,9 +75,11 @@ impl Image {
     }
 
     /// What it spells, or why it spells nothing. Nothing is hashed.
-    #[tactic(auto, using(crate::proofs::ImageLaws::is_found))]
+    #[tactic(auto, using(crate::proofs::ImageLaws::is_found, crate::proofs::ImageLaws::is_spelled))]
     pub fn record(&self) -> Result<Rec, Bad>
-        ensures { result ≡ decoded sha256 self.now }
+        ensures found { result ≡ decoded sha256 self.now }
+        // a record that is found is the one whose spelling the bytes are, and keeps its rules
+        ensures spells { IfOk result (λ r. Spells sha256 self.now r) }
     {
         found_in(&self.content)
     }

@@ -1,9 +1,11 @@
 //! Sectors one after another, as a read gives them.
 
-ghost use Rattle.sl_sector.specs.Spelling.{IsSectorSize};
-ghost use Rattle.sl_sectors.specs.Images.{record_at};
+ghost use Rattle.sha2.specs.Sha256.{sha256};
+ghost use Rattle.sl_sector.specs.Spelling.{IsSectorSize, Spells};
+ghost use Rattle.sl_sectors.specs.Images.{record_at, sector_at, sector_in};
 ghost use Rattle.std.specs.Arc.{arc_value};
-ghost use Rattle.std.specs.Prelude.{flat_map, length, OnErr, OnOk, [], ◌*◌, ◌++◌, ◌≡◌};
+ghost use Rattle.std.specs.Option.{option_copied, option_map};
+ghost use Rattle.std.specs.Prelude.{flat_map, length, IfOk, IfSome, OnErr, OnOk, [], ◌*◌, ◌++◌, ◌≡◌};
 
 use crate::image::Image;
 use sl_sector::{Bad, Rec};
@@ -55,6 +57,13 @@ impl Images {
         Ok(())
     }
 
+    /// How many bytes each has.
+    pub fn size(&self) -> u32
+        ensures { result ≡ self.now.size }
+    {
+        self.size
+    }
+
     /// How many sectors there are.
     pub fn len(&self) -> usize
         ensures { result * self.now.size ≡ length self.now.bytes }
@@ -62,11 +71,24 @@ impl Images {
         count(&self.items)
     }
 
-    /// What sector k spells, or why it spells nothing, if there are so many. Nothing is hashed.
-    pub fn record(&self, k: usize) -> Option<Result<Rec, Bad>>
-        ensures { result ≡ record_at self.now k }
+    /// Sector k, counted from 0, to be read or shared, if there are so many.
+    pub fn sector(&self, k: usize) -> Option<&Arc<Image>>
+        ensures { option_map (λ image. arc_value image) (option_copied result) ≡ sector_in self.now k }
     {
-        match self.items.get(k) {
+        if k < count(&self.items) {
+            Some(&self.items[k])
+        } else {
+            None
+        }
+    }
+
+    /// What sector k, counted from 0, spells, or why it spells nothing, if there are so many. Nothing is hashed.
+    pub fn record(&self, k: usize) -> Option<Result<Rec, Bad>>
+        ensures found { result ≡ record_at self.now k }
+        // a record that is found is the one whose spelling the sector's bytes are, and keeps its rules
+        ensures spells { IfSome result (λ found. IfOk found (λ r. Spells sha256 (sector_at self.now k) r)) }
+    {
+        match self.sector(k) {
             None => None,
             Some(image) => Some(image.record()),
         }

@@ -1,5 +1,6 @@
 //! What sightings show, and what they don't.
 ghost use Rattle.sl_watch.specs.Laws as laws;
+ghost use Rattle.sl_watch.specs.Telling as telling;
 
 /// A claim that stands still is no evidence against its writer, however long it stands: he may still join.
 pub fn claims_are_no_evidence()
@@ -24,4 +25,9 @@ pub fn others_say_nothing()
 /// The record that is read from a sector's bytes is spelled by them, so two sectors that spell one record have the same bytes.
 pub fn bytes_are_read_true()
     ensures { laws.BytesAreReadTrue }
+{}
+
+/// A watch that is told what a read of all ids gave stands for each id's sightings with it.
+pub fn watches_are_told()
+    ensures { telling.WatchesAreTold }
 {}

@@ -12,6 +12,7 @@ ghost use Rattle.sl_sessions.specs.Watching.{is_free_state, is_live_state, is_si
 ghost use Rattle.sl_sessions.specs.declared.sighting.Run.{Run};
 ghost use Rattle.sl_sessions.specs.declared.sighting.Sighting.{Sighting};
 ghost use Rattle.sl_watch.specs.Summaries.{IsKeptRun, IsSeen, RunStands, bare_run};
+ghost use Rattle.sl_watch.specs.Telling.{kept_run_with, same_delta};
 
 use sl_sector::{DeltaRec, DeltaState, Gen, Rec, same_record};
 use sl_time::Timing;
@@ -43,7 +44,8 @@ fn is_live(state: DeltaState) -> bool
 
 /// Whether two records are one.
 fn is_same(a: &DeltaRec, b: &DeltaRec) -> bool
-    ensures { IsTrue result ↔ (a.now ≡ b.now) }
+    ensures truth { IsTrue result ↔ (a.now ≡ b.now) }
+    ensures exact { result ≡ same_delta a.now b.now }
 {
     same_record(&Rec::DeltaIs(*a), &Rec::DeltaIs(*b))
 }
@@ -58,8 +60,9 @@ impl KeptRun {
         spelled: &DeltaRec,
         changed: bool,
     ) -> KeptRun
-        ensures { (size : ℕ) (r : Option Run) (s : Sighting) → RunStands size run.now r → s.before ≡ before → s.after ≡ after → IsSeen size s.bytes (Some spelled.now)
+        ensures stands { (size : ℕ) (r : Option Run) (s : Sighting) → RunStands size run.now r → s.before ≡ before → s.after ≡ after → IsSeen size s.bytes (Some spelled.now)
             → IsKeptRun size result (run_with r s spelled.now changed) }
+        ensures exact { result ≡ kept_run_with run.now before after spelled.now changed }
     {
         match run {
             Some(run) => run.going_on(before, after, spelled, changed),
@@ -83,6 +86,7 @@ impl KeptRun {
     fn going_on(&self, before: u64, after: u64, spelled: &DeltaRec, changed: bool) -> KeptRun
         ensures same { self.now.spelled ≡ spelled.now → result ≡ record self.now { latest = before } }
         ensures other { (self.now.spelled ≡ spelled.now → ⊥) → result ≡ record { spelled = spelled.now; since = after; latest = before; changed = changed } }
+        ensures exact { result ≡ kept_run_with (Some self.now) before after spelled.now changed }
         ensures either { (self.now.spelled ≡ spelled.now) ⊎ (self.now.spelled ≡ spelled.now → ⊥) }
     {
         if is_same(&self.spelled, spelled) {

@@ -7,6 +7,7 @@ ghost use Rattle.std.specs.Prelude.{ℕ, ◌≡◌};
 ghost use Rattle.sl_sessions.specs.Watching.{span};
 ghost use Rattle.sl_sessions.specs.declared.sighting.Sighting.{Sighting};
 ghost use Rattle.sl_watch.specs.Summaries.{IsKept, IsSeen, Summary as Contents, evidence_by, freed_with, nothing_seen, state_by, summary_with, bare};
+ghost use Rattle.sl_watch.specs.Telling.{kept_with};
 
 use crate::run::{KeptRun, is_free};
 use sl_sector::{DeltaRec, Gen};
@@ -50,8 +51,9 @@ impl Summary {
 
     /// The summary after a sighting between these readings, which spells this record of the id, if any.
     pub(crate) fn with(&self, before: u64, after: u64, delta: &Option<DeltaRec>) -> Summary
-        ensures { (size : ℕ) (m : Contents) (s : Sighting) → IsKept size self.now m → s.before ≡ before → s.after ≡ after → IsSeen size s.bytes delta.now
+        ensures stands { (size : ℕ) (m : Contents) (s : Sighting) → IsKept size self.now m → s.before ≡ before → s.after ≡ after → IsSeen size s.bytes delta.now
             → IsKept size result (summary_with m s delta.now) }
+        ensures exact { result ≡ kept_with self.now before after delta.now }
     {
         match delta {
             Some(delta) => Summary {

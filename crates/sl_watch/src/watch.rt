@@ -22,6 +22,7 @@ ghost use Rattle.sl_sessions.specs.declared.sighting.Sighting.{Sighting};
 ghost use Rattle.sl_watch.specs.Reasons.{IsFirstReason, SawFree, SawNewer, StoodStill};
 ghost use Rattle.sl_watch.specs.Seen.{Seen, seen_at, seen_with, spelled_for};
 ghost use Rattle.sl_watch.specs.Summaries.{bare, evidence_by, nothing_seen, state_by};
+ghost use Rattle.sl_watch.specs.Telling.{delta_found, told_at};
 ghost use Rattle.sl_watch.specs.Watches.{IsReadTrue, StandsFor, WatchStands, kept_at};
 
 use crate::run::KeptRun;
@@ -44,6 +45,7 @@ pub struct Watch {
 }
 
 impl Model for Watch {
+    ghost use Rattle.sl_watch.specs.Telling.{delta_found, told_at};
     ghost use Rattle.sl_watch.specs.Watches.{Watched};
     ghost use Rattle.std.specs.Prelude.{length, ◌≡◌};
 
@@ -56,7 +58,8 @@ impl Model for Watch {
 
 /// The delta record of the id that was read; None where the sector is torn, or spells another.
 fn delta_for(id: HostId, found: Result<Rec, Bad>) -> Option<DeltaRec>
-    ensures { (bytes : List ℕ) → found ≡ decoded program_digest bytes → result ≡ spelled_for id bytes }
+    ensures exact { result ≡ delta_found id found }
+    ensures spelled { (bytes : List ℕ) → found ≡ decoded program_digest bytes → result ≡ spelled_for id bytes }
 {
     let delta = delta_in(found)?;
     if delta.id == id { Some(delta) } else { None }
@@ -173,6 +176,7 @@ impl Watch {
     /// The same where it is known what the sector spells: what `decode` gives of its bytes.
     pub fn told(&mut self, before: u64, after: u64, id: HostId, found: Result<Rec, Bad>)
         requires { (1 ≤ id) × (id ≤ self.old.sizes.hosts) }
+        ensures exact { self.new ≡ told_at before after id found self.old }
         ensures run { (self.new.timing ≡ self.old.timing) × (self.new.sizes ≡ self.old.sizes) }
         ensures stands { (seen : ℕ → List Sighting) (bytes : List ℕ) → WatchStands self.old seen → found ≡ decoded program_digest bytes
             → length bytes ≡ self.old.sizes.sector → IsReadTrue bytes

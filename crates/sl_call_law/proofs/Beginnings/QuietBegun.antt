@@ -6,7 +6,6 @@ use Rattle.sl_host_state.specs.Hears.{beginning, begun, counted, is_late, member
 use Rattle.sl_host_state.specs.Kept.{HostState, MemberState}
 use Rattle.sl_host_state.specs.Makes.{lowered}
 use Rattle.sl_host_state.specs.Stands.{IsQuiet, kill_moment, member_moments, recovery_moment}
-use Rattle.sl_host_state.specs.declared.kept.Rooms.{Rooms}
 use Rattle.sl_plain.proofs.Lists.{any_found, any_of, contains_cases, contains_first, contains_more, contains_none, in_map}
 use Rattle.sl_plain.proofs.Numbers.{equal_is_most, trans_le}
 use Rattle.sl_sessions.specs.declared.session.Begun.{Begun}
@@ -89,31 +88,31 @@ newly h now from m t later there =
 
 -- ---- the host
 
-pub quiet_begun : (h : HostState) (now : ℕ) (room : Rooms) → h.reading ≤ now → IsQuiet h → IsQuiet (begun now room h)
-quiet_begun h now room later quiet =
-    quiet_by (begun now room h)
+pub quiet_begun : (h : HostState) (now : ℕ) → h.reading ≤ now → IsQuiet h → IsQuiet (begun now h)
+quiet_begun h now later quiet =
+    quiet_by (begun now h)
     (λ m t there at. member (in_map (member_begun (counted now h)) h.members m there) t at)
-    (λ j t there at. trans_le (begun now room h).quiet_until h.quiet_until t least (job_quiet h j t quiet there at)) where
-      least : (begun now room h).quiet_until ≤ h.quiet_until
+    (λ j t there at. trans_le (begun now h).quiet_until h.quiet_until t least (job_quiet h j t quiet there at)) where
+      least : (begun now h).quiet_until ≤ h.quiet_until
       least = lowered_most (list_any (is_late (counted now h)) h.members) (now + h.config.grace) h
 
-      old : (z : MemberState) → Contains h.members z → (t : ℕ) → Contains (member_moments h z) t → (begun now room h).quiet_until ≤ t
-      old z in_it t at = trans_le (begun now room h).quiet_until h.quiet_until t least (member_quiet h z t quiet in_it at)
+      old : (z : MemberState) → Contains h.members z → (t : ℕ) → Contains (member_moments h z) t → (begun now h).quiet_until ≤ t
+      old z in_it t at = trans_le (begun now h).quiet_until h.quiet_until t least (member_quiet h z t quiet in_it at)
 
-      new : (z : MemberState) → Contains h.members z → is_late (counted now h) z ≡ true → (t : ℕ) → t ≡ now + h.config.grace → (begun now room h).quiet_until ≤ t
+      new : (z : MemberState) → Contains h.members z → is_late (counted now h) z ≡ true → (t : ℕ) → t ≡ now + h.config.grace → (begun now h).quiet_until ≤ t
       new z in_it late t is =
-          trans_le (begun now room h).quiet_until (now + h.config.grace) t
+          trans_le (begun now h).quiet_until (now + h.config.grace) t
           (lowered_reaches (list_any (is_late (counted now h)) h.members) (now + h.config.grace) h (any_of (is_late (counted now h)) h.members z late in_it))
           (equal_is_most (now + h.config.grace) t (sym is))
 
       within : (z : MemberState) → Contains h.members z → (t : ℕ) → (b : Bool) → is_late (counted now h) z ≡ b
-          → Contains (member_moments (counted now h) (cond b (with_renewing (beginning (counted now h) (h.entries + 1 - 1) z.renewing) z) z)) t → (begun now room h).quiet_until ≤ t
+          → Contains (member_moments (counted now h) (cond b (with_renewing (beginning (counted now h) (h.entries + 1 - 1) z.renewing) z) z)) t → (begun now h).quiet_until ≤ t
       within z in_it t true late at =
           elim (newly h now (h.entries + 1 - 1) z t later at) [ inl was ↦ old z in_it t was | inr is ↦ new z in_it late t is ]
       within z in_it t false late at = old z in_it t (still h now z t later at)
 
-      member : {m : MemberState} → (z : MemberState) × Contains h.members z × (member_begun (counted now h) z ≡ m) → (t : ℕ) → Contains (member_moments (begun now room h) m) t
-          → (begun now room h).quiet_until ≤ t
+      member : {m : MemberState} → (z : MemberState) × Contains h.members z × (member_begun (counted now h) z ≡ m) → (t : ℕ) → Contains (member_moments (begun now h) m) t
+          → (begun now h).quiet_until ≤ t
       member z t at = within z.0 z.1 t (is_late (counted now h) z.0) refl (subst (λ y. Contains (member_moments (counted now h) y) t) (sym z.2) at)
 
 -- ---- below the reading kept
@@ -150,9 +149,9 @@ members_as_they_are g (m ∷ ms) none =
     ap (λ b. cond b (with_renewing (beginning g (g.entries - 1) m.renewing) m) m ∷ map (member_begun g) ms) (none m (contains_first m ms))
     ∙ ap (λ zs. m ∷ zs) (members_as_they_are g ms (λ z there. none z (contains_more m ms z there)))
 
-pub quietly : (h : HostState) (now : ℕ) (room : Rooms) → now < h.quiet_until → IsQuiet h → begun now room h ≡ begun_quietly now room h
-quietly h now room below quiet =
+pub quietly : (h : HostState) (now : ℕ) → now < h.quiet_until → IsQuiet h → begun now h ≡ begun_quietly now h
+quietly h now below quiet =
     ap (λ b. (let g : HostState = counted now h in
-    record g { members = map (member_begun g) h.members; quiet_until = lowered b (now + h.config.grace) h; room = room; spare = None })) (none_late h now below quiet)
-    ∙ ap (λ ms. (let g : HostState = counted now h in record g { members = ms; quiet_until = h.quiet_until; room = room; spare = None }))
+    record g { members = map (member_begun g) h.members; quiet_until = lowered b (now + h.config.grace) h })) (none_late h now below quiet)
+    ∙ ap (λ ms. (let g : HostState = counted now h in record g { members = ms; quiet_until = h.quiet_until }))
     (members_as_they_are (counted now h) h.members (λ m there. not_late h now m below quiet there))

@@ -10,7 +10,8 @@ use Rattle.sl_due.specs.Steps.{Step, seen, with_effects}
 use Rattle.sl_host_plain.proofs.PlainLists.{at_some}
 use Rattle.sl_host_state.specs.Kept.{LeaseState, MemberState}
 use Rattle.sl_host_state.specs.Makes.{joining_calling, known_calling, leases_calling}
-use Rattle.sl_host_state.specs.Stands.{AreInTurn, JoinStands, LeaseStands, MemberStands, newest_value}
+use Rattle.sl_host_state.proofs.Seeing.{askings_stay, looks_stay}
+use Rattle.sl_host_state.specs.Stands.{AreInTurn, AskedStands, JoinStands, LeaseStands, MemberStands, WatchKeeps, newest_value}
 use Rattle.sl_leases.specs.Counts.{values_on}
 use Rattle.sl_leases.specs.Leases.{spots_in}
 use Rattle.sl_plain.proofs.Lists.{contains_none, got_inside}
@@ -73,9 +74,9 @@ stays_by_calls x call s same k =
       joining = λ still. subst (λ ms. JoinStands s.joining ms) (sym same) (k.joining still);
       renewing = k.renewing;
       leaving = k.leaving;
-      asked = λ now owner. ap (λ ms. is_asked x.setting ms now owner) same ∙ k.asked now owner;
+      asked = subst (AskedStands x.setting s.asked) (sym same) k.asked;
       turn = subst (λ ms. AreInTurn (filter (λ m. is_delta_purpose m.call.purpose) ms)) (sym same) k.turn;
-      seen = λ id. ap (λ ms. sightings x.setting.layout id ms) same ∙ k.seen id;
+      seen = subst (WatchKeeps x.setting s.watch) (sym same) k.seen;
       spots = ap (spots_in x.setting.layout) same ∙ k.spots;
       leases = λ i l there. subst (λ ms. LeaseStands x.setting.layout s.who.lockspace (self_by s.who ms) l (calls_on x.setting.layout l.spot ms)) (sym same) (k.leases i l there);
       valued = subst (λ ms. AllByRecursion (λ d. IsTrue (on_lease x.setting.layout s.leases d)) ms) (sym same) k.valued;
@@ -136,11 +137,11 @@ own_stands x call s own fits k =
       joining = λ still. subst (λ cs. JoinStands (joining_calling c s.joining) cs) (sym is) (joining_more (length x.past) x.reading call s.joining ms (k.joining still));
       renewing = k.renewing;
       leaving = k.leaving;
-      asked = λ now owner. ap (λ cs. is_asked x.setting cs now owner) is ∙ (asked_more (length x.past) x.reading call x.setting ms now owner ∙ k.asked now owner);
+      asked = subst (AskedStands x.setting s.asked) (sym is) (askings_stay x.setting s.asked ms (c ∷ ms) (asked_more (length x.past) x.reading call x.setting ms) k.asked);
       turn = subst (λ cs. AreInTurn (filter (λ m. is_delta_purpose m.call.purpose) cs)) (sym is)
           (turn_more (length x.past) x.reading call ms
           (not_both (is_delta_purpose call.purpose) s.known.busy (list_any (λ m. is_delta_purpose m.call.purpose) (unanswered ms)) fits.turn (ap (λ (n : DeltaKnown). n.busy) k.known)) k.turn);
-      seen = λ id. ap (λ cs. sightings g id cs) is ∙ (seen_more (length x.past) x.reading call g id ms ∙ k.seen id);
+      seen = subst (WatchKeeps x.setting s.watch) (sym is) (looks_stay x.setting s.watch ms (c ∷ ms) (λ id. seen_more (length x.past) x.reading call g id ms) k.seen);
       spots = ap (spots_in g) is ∙ spots_more g c ms s.leases k.spots;
       leases = λ i l there.
           subst (λ cs. LeaseStands g s.who.lockspace (self_by s.who cs) l (calls_on g l.spot cs)) (sym is)

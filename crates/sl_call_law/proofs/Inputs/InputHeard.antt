@@ -7,7 +7,7 @@ use Rattle.sl_call_law.proofs.Calls.ValuesMore.{on_lease}
 use Rattle.sl_due.specs.DueRequests.{is_asked}
 use Rattle.sl_host_plain.proofs.PlainLists.{all_as}
 use Rattle.sl_host_state.specs.Kept.{HostState, MemberState}
-use Rattle.sl_host_state.specs.Stands.{AreInTurn, JoinStands, Keeps, LeaseStands, MemberStands, is_there, kept_call, kept_job, newest_value}
+use Rattle.sl_host_state.specs.Stands.{AreInTurn, AskedStands, JoinStands, Keeps, LeaseStands, MemberStands, WatchKeeps, is_there, kept_call, kept_job, newest_value}
 use Rattle.sl_host_state.specs.declared.kept.JobState.{JobState}
 use Rattle.sl_leases.specs.Counts.{values_on}
 use Rattle.sl_leases.specs.Leases.{spots_in}
@@ -88,9 +88,9 @@ module _ (st : Setting) (past : Trace) (reading : ℕ) (fx : Effects) where
         joining = λ still. subst (λ ms. JoinStands m.joining ms) (sym same) (k.joining still);
         renewing = same_renewing i m.who plain ∙ k.renewing;
         leaving = leaves;
-        asked = λ now owner. ap (λ ms. is_asked st ms now owner) same ∙ k.asked now owner;
+        asked = subst (AskedStands st m.asked) (sym same) k.asked;
         turn = subst (λ ms. AreInTurn (filter (λ c. is_delta_purpose c.call.purpose) ms)) (sym same) k.turn;
-        seen = λ id. ap (λ ms. sightings st.layout id ms) same ∙ k.seen id;
+        seen = subst (WatchKeeps st m.watch) (sym same) k.seen;
         spots = ap (spots_in st.layout) same ∙ k.spots;
         leases = λ n l there. subst (λ ms. LeaseStands st.layout m.who.lockspace (self_by m.who ms) l (calls_on st.layout l.spot ms)) (sym same) (k.leases n l there);
         valued = subst (λ ms. AllByRecursion (λ d. IsTrue (on_lease st.layout m.leases d)) ms) (sym same) k.valued;

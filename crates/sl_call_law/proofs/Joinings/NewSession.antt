@@ -1,8 +1,10 @@
 -- A session that has not begun yet: it has no call, its job has no reply, so there is nothing to tell of it.
 use Rattle.sl_call_law.proofs.Joinings.CallsBelow.{AllOwned, none_yet}
 use Rattle.sl_due.specs.DueRequests.{is_asked}
-use Rattle.sl_host_state.specs.New.{new_joining, new_member}
-use Rattle.sl_host_state.specs.Stands.{AreInTurn, JoinStands, MemberStands}
+use Rattle.sl_host_state.proofs.NewHost.{new_asked, new_watch}
+use Rattle.sl_host_state.specs.New.{IsOfProgram, new_joining, new_member, sizes_in}
+use Rattle.sl_watch.specs.Telling.{blank_watch}
+use Rattle.sl_host_state.specs.Stands.{AreInTurn, AskedStands, JoinStands, MemberStands, WatchKeeps, config_of}
 use Rattle.sl_leases.specs.Leases.{spots_in, value_written}
 use Rattle.sl_plain.proofs.Lists.{contains_none, find_inside, kept}
 use Rattle.sl_sessions.specs.Sessions.{begun_in, calls_of, free_write, generation_in, is_call_of, is_delta_purpose, is_join_done, is_joined, is_renewal, joined_after, leaves, leaving_in, leaving_job, recovers, recovery_of, refused_after, removed_after, renewal_in, renewed_by, renewing, renewing_after, seq_in, sessions, shows_other}
@@ -22,7 +24,7 @@ use Rattle.sl_words.specs.Words.{choose}
 use Rattle.std.proofs.Common.{ap, arith, refl, subst, sym, ◌∙◌}
 use Rattle.std.proofs.lemmas.List.{length-append}
 use Rattle.std.specs.List.{AllByRecursion, list_any}
-use Rattle.std.specs.Prelude.{Bool, Contains, IsTrue, List, None, Option, Some, false, filter, is_none, is_some, length, nat_le, not, option_and_then, option_map, true, unwrap_or, [], ℕ, ◌&&◌, ◌++◌, ◌+◌, ◌==◌, ◌||◌, ◌∷◌, ◌≡◌, ◌≤◌}
+use Rattle.std.specs.Prelude.{Bool, Contains, IsTrue, List, None, Option, Some, [], false, filter, is_none, is_some, length, nat_le, not, option_and_then, option_map, replicate, true, unwrap_or, ℕ, ◌&&◌, ◌++◌, ◌+◌, ◌==◌, ◌||◌, ◌∷◌, ◌≡◌, ◌≤◌}
 
 -- It has its job and its number, and after these nothing of it has been done.
 pub record IsToCome (st : Setting) (es : Trace) (s : Session) (number : ℕ) : Type 0 where
@@ -137,8 +139,8 @@ new_joining_stands = record { watched = refl; since = refl; claim = refl; newest
 some_is_given : (o : Option ℕ) (job : ℕ) → o ≡ Some job → is_none o ≡ false
 some_is_given o job is = ap (λ z. is_none z) is
 
-pub new_stands : (st : Setting) (es : Trace) (s : Session) (job : ℕ) → IsToCome st es s job → MemberStands st es (new_member s)
-new_stands st es s job k =
+pub new_stands : (st : Setting) (es : Trace) (s : Session) (job : ℕ) → IsOfProgram st.layout → IsToCome st es s job → MemberStands st es (new_member (config_of st) s)
+new_stands st es s job program k =
     let none : calls_of es s ≡ [] = none_yet st es s k.owned k.later in
     record {
       joined = joins_not st es s job k ∙ sym (some_is_given s.job job k.job);
@@ -150,9 +152,9 @@ new_stands st es s job k =
       joining = λ still. subst (λ ms. JoinStands new_joining ms) (sym none) new_joining_stands;
       renewing = not_renewed_yet st es s job k;
       leaving = ap (λ o. option_map (λ (j : Job). record { at = j.at; reading = j.reading; kills_from = j.at + 1 }) o) (not_leaving_yet st es s job k);
-      asked = λ now owner. ap (λ ms. is_asked st ms now owner) none;
+      asked = subst (AskedStands st (replicate st.layout.hosts None)) (sym none) (new_asked st);
       turn = subst (λ ms. AreInTurn (filter (λ m. is_delta_purpose m.call.purpose) ms)) (sym none) tt;
-      seen = λ id. ap (λ ms. sightings st.layout id ms) none;
+      seen = subst (WatchKeeps st (blank_watch st.timing (sizes_in st.layout))) (sym none) (new_watch st program);
       spots = ap (spots_in st.layout) none;
       leases = λ i l there. absurd (none_some l there);
       valued = subst (λ ms. AllByRecursion (λ d. IsTrue (is_none (value_written d) || false)) ms) (sym none) tt;

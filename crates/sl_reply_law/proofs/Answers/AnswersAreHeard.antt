@@ -135,7 +135,7 @@ answered_call : (number : ℕ) (c : OpenCall) (h : HostState) (x : Step) → Sta
 answered_call number c h x s none is_open =
     the_call h x.setting (waking x.reading x.effects ∷ x.past) number c (subst (λ (z : Step). Stands Wake h z) (is_at_answer h x s none) s).keeps is_open
 
-answer_heard : (number : ℕ) (c : OpenCall) (a : Answer) (h : HostState) (x : Step) → Stands Wake h x → IsOpen h number c → FitsCall a c → IsAtInput h
+answer_heard : (number : ℕ) (c : OpenCall) (a : Answer) (h : HostState) (x : Step) → Stands Wake h x → IsOpen h number c → FitsCall h.config.layout a c → IsAtInput h
     → Stands (Told number a) (heard_answer number a h) (with_input (Told number a) x)
 answer_heard number c a h x s is_open fits at =
     let asked = answered_call number c h x s at.calls is_open in
@@ -147,7 +147,7 @@ answer_heard number c a h x s is_open fits at =
     record {
       keeps = k;
       its = subst (λ z. IsTheCall (submitted x.past) z m) (sym is_m) asked.1;
-      fits = subst (FitsCall a) (sym is_m) fits;
+      fits = subst (FitsCall h.config.layout a) (sym is_m) fits;
       reading = sym s.reading;
       replies = subst (AllByRecursion (λ r. IsTrue (is_before_input r.reply))) (ap (λ (fx : Effects). fx.replies) (sym s.made)) at.replies;
     } in

@@ -1,21 +1,24 @@
 -- What a session's calls on delta sectors have with an answer to one of them: it is the newest, for they come one after another. And the
 -- owners asked, with an answered write of a request.
 use Rattle.sl_host_plain.proofs.PlainLists.{each_of, kept_if}
-use Rattle.sl_area.specs.Layouts.{Layout}
+use Rattle.sl_area.specs.Layouts.{Layout, Sizes, layout_of, record_in}
 use Rattle.sl_area.specs.Places.{sector_of}
 use Rattle.sl_due.specs.DueRequests.{is_asked, is_fresh, owner_asked}
-use Rattle.sl_host_state.specs.Hears.{answered_at, asked_hearing, joining_hearing, seen_with}
+use Rattle.sl_host_state.specs.Hears.{answered_at, asked_at, asked_hearing, joining_hearing, watch_hearing}
+use Rattle.sl_host_state.proofs.Seeing.{looks_stay}
 use Rattle.sl_host_state.specs.Kept.{HostState, JoinState}
-use Rattle.sl_host_state.specs.Stands.{AreInTurn, JoinStands, is_asked_in, kept_call, newest_of}
-use Rattle.sl_host_state.specs.declared.kept.AskedAt.{AskedAt}
+use Rattle.sl_host_state.specs.declared.kept.OpenCall.{OpenCall}
+use Rattle.sl_host_state.specs.New.{sizes_in}
+use Rattle.sl_host_state.specs.Stands.{AreInTurn, AskedStands, JoinStands, WatchKeeps, is_asked_in, kept_call, newest_of}
 use Rattle.sl_host_state.specs.declared.kept.JoinCall.{JoinCall}
 use Rattle.sl_plain.proofs.Lists.{any_of, contains_cases, contains_map, contains_none, head_is, kept}
 use Rattle.sl_reply_law.proofs.Answers.AnswerFindsItsCall.{IsOr}
 use Rattle.sl_reply_law.proofs.Answers.AnswerMarksOneCall.{all_answered, answered_still, found_heard, hear, hear_by, not_its, picked, same_call, told}
+use Rattle.sl_reply_law.specs.Answers.{AreIdSectors, FitsCall}
 use Rattle.sl_reply_law.proofs.PlainFilters.{found_kept, given_kept}
 use Rattle.sl_sessions.specs.Deltas.{claim_of, join_step_of}
 use Rattle.sl_sessions.specs.Sessions.{delta_written, is_delta_purpose, is_join_call, is_survey_purpose, join_call}
-use Rattle.sl_sessions.specs.Watching.{look_of, sightings}
+use Rattle.sl_sessions.specs.Watching.{look_of, seen_records, sighted, sightings}
 use Rattle.sl_sessions.specs.declared.sighting.Sighting.{Sighting}
 use Rattle.sl_time.specs.Times.{fail}
 use Rattle.sl_trace.specs.Traces.{Answered, Setting, Submitted, Trace, answer_of, bytes_given, gave, is_ok_answer}
@@ -25,13 +28,21 @@ use Rattle.sl_trace.specs.declared.effects.JoinStep.TheVariants.{ClaimWrite, Fir
 use Rattle.sl_trace.specs.declared.effects.JoinStep.{JoinStep}
 use Rattle.sl_trace.specs.declared.effects.Purpose.TheVariants.{Joining, Lease, Leaving, Renewal, RequestRead, RequestWrite, SeeRequest, Survey, ValueRead, ValueWrite}
 use Rattle.sl_trace.specs.declared.effects.Purpose.{Purpose}
+use Rattle.sl_trace.specs.declared.input.Answer.TheVariants.{Failed, Read, Written}
 use Rattle.sl_trace.specs.declared.input.Answer.{Answer}
-use Rattle.sl_words.proofs.CaseLaws.{is_false, none_some, not_both, true_is_false}
+use Rattle.sl_watch.proofs.TellingLaws.{same_seen, watches_are_told}
+use Rattle.sl_watch.specs.Telling.{AreTrue, delta_found, look_at, told_all}
+use Rattle.sl_watch.specs.Watches.{WatchStands, Watched}
+use Rattle.sl_words.proofs.CaseLaws.{is_false, none_some, not_both, some_value, true_is_false}
 use Rattle.sl_words.specs.Words.{some_is}
-use Rattle.std.proofs.Common.{ap, inl, inr, refl, subst, sym, ◌∙◌}
+use Rattle.std.proofs.Common.{ap, arith, inl, inr, refl, subst, sym, ◌∙◌}
+use Rattle.std.proofs.lemmas.Bool.Decides.{nat_tests}
+use Rattle.std.proofs.lemmas.Bool.{eqb-true}
+use Rattle.std.proofs.lemmas.List.{get_or-set_other, get_or-set_same, length-set}
+use Rattle.std.specs.Int.{is_in_range}
 use Rattle.std.specs.List.{AllByRecursion, cons_option, list_any}
-use Rattle.std.specs.Option.{option_or}
-use Rattle.std.specs.Prelude.{Bool, Contains, IsTrue, List, None, Option, Some, cond, false, filter, filter_map, is_some, map, nat_lt, option_and_then, option_map, true, [], ℕ, ◌&&◌, ◌+◌, ◌-◌, ◌==◌, ◌∷◌, ◌≡◌, ◌⊎◌, ◌||◌}
+use Rattle.std.specs.Option.{option_map_or, option_or}
+use Rattle.std.specs.Prelude.{Bool, Contains, IsTrue, List, None, Option, Some, cond, false, filter, filter_map, is_some, length, map, max, nat_le, nat_lt, option_and_then, option_map, slice_index_or, true, [], ℕ, ◌&&◌, ◌+◌, ◌-◌, ◌==◌, ◌∷◌, ◌≡◌, ◌≤◌, ◌⊎◌, ◌||◌}
 
 -- The calls on delta sectors.
 abbrev pub deltas : List Submitted → List Submitted
@@ -88,6 +99,22 @@ no_step (ValueWrite j) is = refl
 no_step (ValueRead j) is = refl
 
 -- ---- an answer to one of a session's calls
+
+-- The bytes of a read of all ids at this one.
+abbrev sighting_by : HostState → OpenCall → List ℕ → ℕ → Sighting
+sighting_by h c bytes id = record { before = c.reading; after = h.reading; bytes = sector_of h.config.layout bytes (id - 1) }
+
+-- What was seen, with such a read.
+abbrev seen_with : HostState → OpenCall → Answer → (ℕ → List Sighting) → ℕ → List Sighting
+seen_with h c a before id =
+    elim (is_survey_purpose c.purpose) as (λ z. List Sighting) [
+      | false ↦ before id
+      | true ↦ elim (bytes_given a) as (λ z. List Sighting) [ None ↦ before id | Some bytes ↦ sighting_by h c bytes id ∷ before id ]
+    ]
+
+or_false : (b : Bool) → (b || false) ≡ b
+or_false true = refl
+or_false false = refl
 
 module _ (past : Trace) (now : ℕ) (fx : Effects) (a : Answer) (m : Submitted) where
   abbrev hears : Submitted → Submitted
@@ -202,6 +229,67 @@ module _ (past : Trace) (now : ℕ) (fx : Effects) (a : Answer) (m : Submitted) 
           | true ↦ elim (bytes_given a) as (λ z. List Sighting) [ None ↦ before id | Some bytes ↦ record { before = m.reading; after = h.reading; bytes = sector_of h.config.layout bytes (id - 1) } ∷ before id ]
         ]) (no_survey m.call.purpose is))
 
+  -- The watch is told of what is seen more.
+  pub watch_is : (st : Setting) (h : HostState) (w : Watched) (ms : List Submitted) → (m.call.number == m.call.number) ≡ true → m.answer ≡ None → Contains ms m
+      → AllByRecursion (IsOr m.call.number m) ms → AreInTurn (deltas ms) → h.config.layout ≡ st.layout → h.reading ≡ now → FitsCall h.config.layout a (kept_call m) → WatchKeeps st w ms
+      → WatchKeeps st (watch_hearing h (kept_call m) a w) (map hears ms)
+  watch_is st h w ms its open_yet inside alone turn layout reading fits k = by (is_survey_purpose m.call.purpose) (bytes_given a) refl refl where
+    before : ℕ → List Sighting
+    before id = sightings st.layout id ms
+
+    are : (id : ℕ) → sightings st.layout id (map hears ms) ≡ seen_with h (kept_call m) a before id
+    are id = sightings_are st.layout id ms h before its open_yet inside alone turn layout reading refl
+
+    seen_by_kind : Bool → Option (List ℕ) → ℕ → List Sighting
+    seen_by_kind b o id =
+        elim b as (λ z. List Sighting) [
+          | false ↦ before id
+          | true ↦ elim o as (λ z. List Sighting) [ None ↦ before id | Some bytes ↦ sighting_by h (kept_call m) bytes id ∷ before id ]
+        ]
+
+    watch_by : Bool → Option (List ℕ) → Watched
+    watch_by b o =
+        elim b as (λ z. Watched) [
+          | false ↦ w
+          | true ↦ elim o as (λ z. Watched) [ None ↦ w | Some bytes ↦ told_all m.reading h.reading h.config.layout bytes w ]
+        ]
+
+    sectors : (x : Answer) (bytes : List ℕ) → FitsCall h.config.layout x (kept_call m) → bytes_given x ≡ Some bytes → is_survey_purpose m.call.purpose ≡ true → AreIdSectors h.config.layout bytes
+    sectors (Read bytes) other f gives survey = subst (AreIdSectors h.config.layout) (some_value bytes other gives) (f.1 survey)
+    sectors Written other f gives survey = absurd (none_some other gives)
+    sectors Failed other f gives survey = absurd (none_some other gives)
+
+    told : (bytes : List ℕ) → AreIdSectors h.config.layout bytes → ((id : ℕ) → sightings st.layout id (map hears ms) ≡ sighting_by h (kept_call m) bytes id ∷ before id)
+        → WatchKeeps st (told_all m.reading h.reading h.config.layout bytes w) (map hears ms)
+    told bytes sound now_seen =
+        let g : h.config.layout ≡ layout_of w.sizes = layout ∙ sym k.sized in
+        let all : AreTrue w.sizes bytes = subst (λ y. AreTrue (sizes_in y) bytes) g sound.within in
+        record {
+          timed = watches_are_told.timing w m.reading h.reading h.config.layout bytes ∙ k.timed;
+          sized = ap layout_of (watches_are_told.sizes w m.reading h.reading h.config.layout bytes) ∙ k.sized;
+          count = watches_are_told.count w m.reading h.reading h.config.layout bytes ∙ k.count ∙ sym (ap (λ (z : Sizes). z.hosts) (watches_are_told.sizes w m.reading h.reading h.config.layout bytes));
+          stands = same_seen (told_all m.reading h.reading h.config.layout bytes w) (λ id. look_at m.reading h.reading h.config.layout bytes id ∷ before id) (λ id. sightings st.layout id (map hears ms))
+              (λ id one most. sym (now_seen id))
+              (subst (λ y. WatchStands (told_all m.reading h.reading y bytes w) (λ id. look_at m.reading h.reading y bytes id ∷ before id)) (sym g)
+              (watches_are_told.all w before m.reading h.reading bytes k.stands k.count all));
+          beyond = λ id out.
+              ap (seen_records st.layout id) (now_seen id)
+              ∙ ap (λ o. cons_option o (seen_records st.layout id (before id)))
+              (ap (λ y. delta_found id (record_in y (sector_of h.config.layout bytes (id - 1)))) (sym layout) ∙ sound.beyond id (subst (λ (y : Layout). is_in_range 1 y.hosts id ≡ false) (sym layout) out))
+              ∙ k.beyond id out;
+        }
+
+    by : (b : Bool) (o : Option (List ℕ)) → is_survey_purpose m.call.purpose ≡ b → bytes_given a ≡ o → WatchKeeps st (watch_hearing h (kept_call m) a w) (map hears ms)
+    by false o e f =
+        subst (λ v. WatchKeeps st v (map hears ms)) (sym (ap (λ z. watch_by z (bytes_given a)) e))
+        (looks_stay st w ms (map hears ms) (λ id. are id ∙ ap (λ z. seen_by_kind z (bytes_given a) id) e) k)
+    by true None e f =
+        subst (λ v. WatchKeeps st v (map hears ms)) (sym (ap (λ z. watch_by z (bytes_given a)) e ∙ ap (watch_by true) f))
+        (looks_stay st w ms (map hears ms) (λ id. are id ∙ ap (λ z. seen_by_kind z (bytes_given a) id) e ∙ ap (λ z. seen_by_kind true z id) f) k)
+    by true (Some bytes) e f =
+        subst (λ v. WatchKeeps st v (map hears ms)) (sym (ap (λ z. watch_by z (bytes_given a)) e ∙ ap (watch_by true) f))
+        (told bytes (sectors a bytes fits f e) (λ id. are id ∙ ap (λ z. seen_by_kind z (bytes_given a) id) e ∙ ap (λ z. seen_by_kind true z id) f))
+
   -- ---- what a joining has read
 
   steps_of_deltas : (step : JoinStep) (ms : List Submitted) → join_call ms step ≡ join_call (deltas ms) step
@@ -299,15 +387,34 @@ module _ (past : Trace) (now : ℕ) (fx : Effects) (a : Answer) (m : Submitted) 
     by false is = all_same ms is alone
 
   -- Who is asked with this write of a request, by its owner and answer.
-  one_asked : (st : Setting) (h : HostState) (asked : List AskedAt) (at owner : ℕ) (o : Option ℕ) (ok : Bool)
+  one_asked : (st : Setting) (h : HostState) (asked : List (Option ℕ)) (at owner : ℕ) (o : Option ℕ) (ok : Bool) → length asked ≡ st.layout.hosts → 1 ≤ owner → owner ≤ st.layout.hosts
       → ((some_is (λ z. z == owner) o && (ok && nat_lt at (h.reading + fail st.timing))) || is_asked_in st asked at owner)
-      ≡ is_asked_in st (elim o as (λ z. List AskedAt) [ None ↦ asked | Some z ↦ cond ok (record { owner = z; reading = h.reading } ∷ asked) asked ]) at owner
-  one_asked st h asked at owner None ok = refl
-  one_asked st h asked at owner (Some z) true = refl
-  one_asked st h asked at owner (Some z) false = ap (λ b. b || is_asked_in st asked at owner) (and_false (z == owner)) where
-    and_false : (b : Bool) → (b && false) ≡ false
-    and_false true = refl
-    and_false false = refl
+      ≡ is_asked_in st (elim o as (λ z. List (Option ℕ)) [ None ↦ asked | Some z ↦ cond (ok && nat_le 1 z) (asked_at h.reading z asked) asked ]) at owner
+  one_asked st h asked at owner None ok count one most = refl
+  one_asked st h asked at owner (Some z) ok count one most = by ok (nat_le 1 z) (z == owner) refl refl where
+    fresh : Bool
+    fresh = nat_lt at (h.reading + fail st.timing)
+
+    -- The later of two readings is fresh where one of them is.
+    later : (now deadline : ℕ) (o : Option ℕ) → (nat_lt at (now + deadline) || some_is (λ r. nat_lt at (r + deadline)) o) ≡ nat_lt at (option_map_or (max now) o now + deadline)
+    later now deadline None = (let e : (nat_lt at (now + deadline) || false) ≡ nat_lt at (now + deadline) = or_false (nat_lt at (now + deadline)) in e)
+    later now deadline (Some r) = grind (arith, nat_tests)
+
+    by : (good low same : Bool) → nat_le 1 z ≡ low → (z == owner) ≡ same
+        → ((same && (good && nat_lt at (h.reading + fail st.timing))) || is_asked_in st asked at owner) ≡ is_asked_in st (cond (good && low) (asked_at h.reading z asked) asked) at owner
+    by false low true e f = refl
+    by false low false e f = refl
+    by true false false e f = refl
+    by true false true e f = absurd (grind (arith, nat_tests, e, f, one))
+    by true true false e f =
+        ap (λ o. some_is (λ r. nat_lt at (r + fail st.timing)) o)
+        (sym (get_or-set_other asked (z - 1) (owner - 1) (Some (option_map_or (max h.reading) (slice_index_or asked (z - 1) None) h.reading)) None (grind (arith, nat_tests, e, f, one))))
+    by true true true e f =
+        let same : z ≡ owner = eqb-true z owner f in
+        later h.reading (fail st.timing) (slice_index_or asked (owner - 1) None)
+        ∙ ap (λ o. some_is (λ r. nat_lt at (r + fail st.timing)) o)
+        (sym (get_or-set_same asked (owner - 1) (Some (option_map_or (max h.reading) (slice_index_or asked (owner - 1) None) h.reading)) None (omega (arith, count, one, most))))
+        ∙ ap (λ y. is_asked_in st (asked_at h.reading y asked) at owner) (sym same)
 
   not_fresh : (st : Setting) (at owner : ℕ) → m.answer ≡ None → (some_is (λ o. o == owner) (owner_asked m.call.purpose) && is_fresh st at m) ≡ false
   not_fresh st at owner open_yet = ap (λ o. some_is (λ z. z == owner) (owner_asked m.call.purpose) && some_is (λ (x : Answered). is_ok_answer x.answer && nat_lt at (x.reading + fail st.timing)) o) open_yet
@@ -316,11 +423,27 @@ module _ (past : Trace) (now : ℕ) (fx : Effects) (a : Answer) (m : Submitted) 
         and_false true = refl
         and_false false = refl
 
-  pub asked_is : (st : Setting) (h : HostState) (asked : List AskedAt) (ms : List Submitted) (at owner : ℕ) → (m.call.number == m.call.number) ≡ true → m.answer ≡ None → Contains ms m
-      → AllByRecursion (IsOr m.call.number m) ms → h.reading ≡ now → is_asked st ms at owner ≡ is_asked_in st asked at owner
+  asked_is : (st : Setting) (h : HostState) (asked : List (Option ℕ)) (ms : List Submitted) (at owner : ℕ) → (m.call.number == m.call.number) ≡ true → m.answer ≡ None → Contains ms m
+      → AllByRecursion (IsOr m.call.number m) ms → h.reading ≡ now → length asked ≡ st.layout.hosts → 1 ≤ owner → owner ≤ st.layout.hosts → is_asked st ms at owner ≡ is_asked_in st asked at owner
       → is_asked st (map hears ms) at owner ≡ is_asked_in st (asked_hearing h (kept_call m) a asked) at owner
-  asked_is st h asked ms at owner its open_yet inside alone reading was =
+  asked_is st h asked ms at owner its open_yet inside alone reading count one most was =
       any_heard (λ d. some_is (λ o. o == owner) (owner_asked d.call.purpose) && is_fresh st at d) ms its open_yet inside alone (not_fresh st at owner open_yet)
       ∙ ap (λ b. (some_is (λ o. o == owner) (owner_asked m.call.purpose) && (is_ok_answer a && nat_lt at (now + fail st.timing))) || b) was
       ∙ ap (λ r. (some_is (λ o. o == owner) (owner_asked m.call.purpose) && (is_ok_answer a && nat_lt at (r + fail st.timing))) || is_asked_in st asked at owner) (sym reading)
-      ∙ one_asked st h asked at owner (owner_asked m.call.purpose) (is_ok_answer a)
+      ∙ one_asked st h asked at owner (owner_asked m.call.purpose) (is_ok_answer a) count one most
+
+  asked_count : (h : HostState) (asked : List (Option ℕ)) (o : Option ℕ) (ok : Bool)
+      → length (elim o as (λ z. List (Option ℕ)) [ None ↦ asked | Some z ↦ cond (ok && nat_le 1 z) (asked_at h.reading z asked) asked ]) ≡ length asked
+  asked_count h asked None ok = refl
+  asked_count h asked (Some z) ok = by (ok && nat_le 1 z) where
+    by : (b : Bool) → length (cond b (asked_at h.reading z asked) asked) ≡ length asked
+    by true = length-set asked (z - 1) _
+    by false = refl
+
+  pub asked_are : (st : Setting) (h : HostState) (asked : List (Option ℕ)) (ms : List Submitted) → (m.call.number == m.call.number) ≡ true → m.answer ≡ None → Contains ms m
+      → AllByRecursion (IsOr m.call.number m) ms → h.reading ≡ now → AskedStands st asked ms → AskedStands st (asked_hearing h (kept_call m) a asked) (map hears ms)
+  asked_are st h asked ms its open_yet inside alone reading k =
+      record {
+        count = asked_count h asked (owner_asked m.call.purpose) (is_ok_answer a) ∙ k.count;
+        each = λ at owner one most. asked_is st h asked ms at owner its open_yet inside alone reading k.count one most (k.each at owner one most);
+      }

@@ -2,9 +2,9 @@
 use Rattle.sl_area.specs.Layouts.{Layout}
 use Rattle.sl_due.specs.DueRequests.{is_asked}
 use Rattle.sl_host_plain.proofs.PlainLists.{all_as, all_from, any_as, any_mapped, at_mapped, each_of}
-use Rattle.sl_host_state.specs.Hears.{is_heeded_by, lease_hearing, member_hearing, others, renewing_hearing, still_busy}
+use Rattle.sl_host_state.specs.Hears.{asked_hearing, watch_hearing, is_heeded_by, lease_hearing, member_hearing, others, renewing_hearing, still_busy}
 use Rattle.sl_host_state.specs.Kept.{Config, HostState, LeaseState, MemberState}
-use Rattle.sl_host_state.specs.Stands.{AreInTurn, IsWaiting, JoinStands, Keeps, LeaseStands, MemberStands, free_written, kept_call, newest_value, sectors_of}
+use Rattle.sl_host_state.specs.Stands.{AreInTurn, AskedStands, IsWaiting, JoinStands, Keeps, LeaseStands, MemberStands, WatchKeeps, free_written, kept_call, newest_value, sectors_of}
 use Rattle.sl_host_state.specs.declared.kept.LeaseCall.{LeaseCall}
 use Rattle.sl_host_state.specs.declared.kept.OpenCall.{OpenCall}
 use Rattle.sl_leases.specs.Counts.{values_on}
@@ -14,7 +14,7 @@ use Rattle.sl_plain.proofs.Numbers.{number_itself}
 use Rattle.sl_reply_law.proofs.Answers.AnswerFindsItsCall.{IsOr, IsTheCall}
 use Rattle.sl_reply_law.proofs.Answers.AnswerIsHeeded.{heeded_is, waking}
 use Rattle.sl_reply_law.proofs.Answers.AnswerMarksOneCall.{all_answered, all_heard, free_stays, generation_stays, given_heard, hear, not_its, picked, renewal_stays, seq_stays, spots_stay, told, unheard}
-use Rattle.sl_reply_law.proofs.Answers.DeltaCallsHearAnswer.{asked_is, deltas, heard, heard_is, joining_is, sightings_are, turn_is}
+use Rattle.sl_reply_law.proofs.Answers.DeltaCallsHearAnswer.{asked_are, deltas, heard, heard_is, joining_is, watch_is, turn_is}
 use Rattle.sl_reply_law.proofs.Answers.LeaseHearsAnswer.{lease_hears}
 use Rattle.sl_reply_law.proofs.OpenCallsAreKept.{open_delta_is}
 use Rattle.sl_reply_law.proofs.PlainFilters.{all_kept}
@@ -43,15 +43,15 @@ use Rattle.std.specs.Prelude.{Bool, Contains, IsTrue, List, None, Option, Some, 
 pub record IsAnswered (st : Setting) (past : Trace) (now : ℕ) (fx : Effects) (a : Answer) (h : HostState) (m : Submitted) : Type 0 where
   pub keeps : Keeps h st (waking now fx ∷ past)
   pub its : IsTheCall (submitted past) (kept_call m) m
-  pub fits : FitsCall a (kept_call m)
+  pub fits : FitsCall h.config.layout a (kept_call m)
   pub reading : h.reading ≡ now
   pub replies : AllByRecursion (λ r. IsTrue (is_before_input r.reply)) fx.replies
 
-only_read : (a : Answer) (m : Submitted) → FitsCall a (kept_call m) → is_some (bytes_given a) ≡ true → record_of m.call.op ≡ None
-only_read a m = by a m.call.op where
-  by : (x : Answer) (op : Op) → FitsCall x (record (kept_call m) { sectors = sectors_of op }) → is_some (bytes_given x) ≡ true → record_of op ≡ None
+only_read : (g : Layout) (a : Answer) (m : Submitted) → FitsCall g a (kept_call m) → is_some (bytes_given a) ≡ true → record_of m.call.op ≡ None
+only_read g a m = by a m.call.op where
+  by : (x : Answer) (op : Op) → FitsCall g x (record (kept_call m) { sectors = sectors_of op }) → is_some (bytes_given x) ≡ true → record_of op ≡ None
   by (Read bytes) (ReadSectors n) fits is = refl
-  by (Read bytes) (WriteRecord r) fits is = absurd (false_is_true fits)
+  by (Read bytes) (WriteRecord r) fits is = absurd (false_is_true fits.0)
   by Written op fits is = absurd (false_is_true is)
   by Failed op fits is = absurd (false_is_true is)
 
@@ -113,7 +113,7 @@ module _ (st : Setting) (past : Trace) (now : ℕ) (fx : Effects) (a : Answer) (
           (subst (λ g. LeaseStands st.layout s.lockspace (me before s) (lease_hearing st.layout s.lockspace (record { id = s.id; generation = g }) heeded (kept_call m) a w.step w.frees w.clears l) (heard past now fx a m ∷ ds)) gen
           (subst (λ b. LeaseStands st.layout s.lockspace (me before s) (lease_hearing st.layout s.lockspace (me before s) b (kept_call m) a w.step w.frees w.clears l) (heard past now fx a m ∷ ds)) (sym heed)
           (lease_hears st.layout s.lockspace (me before s) l m ds w.work w.step (length past) now a (is_going_on past (told now fx m.call.number a) (job_of m.call.purpose)) (kept_call m) w refl
-          (only_read a m k.fits) (subst (λ (e : Submitted). lease_step e.call.purpose ≡ Some (w.work, w.step)) same waits.0.2) (subst (λ (e : Submitted). free_written e ≡ w.frees) same waits.0.3)
+          (only_read h.config.layout a m k.fits) (subst (λ (e : Submitted). lease_step e.call.purpose ≡ Some (w.work, w.step)) same waits.0.2) (subst (λ (e : Submitted). free_written e ≡ w.frees) same waits.0.3)
           (subst (λ (e : Submitted). some_is (λ b. not b.shared) (block_written e) ≡ w.clears) same waits.0.4) waits.1 stood)))
 
     by : (o : Option LeaseCall) → IsWaiting o ms
@@ -177,9 +177,9 @@ module _ (st : Setting) (past : Trace) (now : ℕ) (fx : Effects) (a : Answer) (
         joining = λ still. subst (JoinStands member.joining) (sym own) (s.joining still);
         renewing = renews ∙ s.renewing;
         leaving = s.leaving;
-        asked = λ at owner. ap (λ ms. is_asked st ms at owner) own ∙ s.asked at owner;
+        asked = subst (AskedStands st member.asked) (sym own) s.asked;
         turn = subst (λ ms. AreInTurn (filter (λ c. is_delta_purpose c.call.purpose) ms)) (sym own) s.turn;
-        seen = λ id. ap (λ ms. sightings st.layout id ms) own ∙ s.seen id;
+        seen = subst (WatchKeeps st member.watch) (sym own) s.seen;
         spots = ap (spots_in st.layout) own ∙ s.spots;
         leases = λ n l there.
             subst
@@ -260,10 +260,10 @@ module _ (st : Setting) (past : Trace) (now : ℕ) (fx : Effects) (a : Answer) (
         joining = λ still. subst (JoinStands _) (sym (own_calls who)) (joining_is past now fx a m ms h member.joining numbered open_m inside alone s.turn k.reading (s.joining still));
         renewing = renews;
         leaving = s.leaving;
-        asked = λ at owner. ap (λ z. is_asked st z at owner) (own_calls who) ∙ asked_is past now fx a m st h member.asked ms at owner numbered open_m inside alone k.reading (s.asked at owner);
+        asked = subst (AskedStands st (asked_hearing h c a member.asked)) (sym (own_calls who)) (asked_are past now fx a m st h member.asked ms numbered open_m inside alone k.reading s.asked);
         turn = subst (λ z. AreInTurn (deltas z)) (sym (own_calls who)) (turn_is past now fx a m ms s.turn);
-        seen = λ id. ap (sightings st.layout id) (own_calls who)
-            ∙ sightings_are past now fx a m st.layout id ms h member.seen numbered open_m inside alone s.turn (sym layout) k.reading (s.seen id);
+        seen = subst (WatchKeeps st (watch_hearing h c a member.watch)) (sym (own_calls who))
+            (watch_is past now fx a m st h member.watch ms numbered open_m inside alone s.turn (sym layout) k.reading k.fits s.seen);
         spots = ap (spots_in st.layout) (own_calls who) ∙ spots_stay past now fx n a st.layout ms ∙ s.spots ∙ sym (spots_told h.config.layout who member.known.generation (is_heeded_by h c) member.leases);
         leases = λ i l at.
             let old = at_mapped told_of member.leases i l at in

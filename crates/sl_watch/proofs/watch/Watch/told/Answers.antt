@@ -12,7 +12,7 @@ returns-clause-stands c =
     let w : Watched = c.args.self.now in
     let s : Sighting = record { before = c.args.before; after = c.args.after; bytes = bytes } in
     let adds : Adds w c.args.id s c.delta_for-delta.result c.with-next.result =
-    λ m kept seen. c.with-next.ensures w.sizes.sector m s (subst (λ k. IsKept w.sizes.sector k m) (sym c.kept.ensures.exact) kept) refl refl seen in
+    λ m kept seen. c.with-next.ensures.stands w.sizes.sector m s (subst (λ k. IsKept w.sizes.sector k m) (sym c.kept.ensures.exact) kept) refl refl seen in
     subst (λ x. WatchStands x (seen_with c.args.id s seen)) (sym c.put.ensures)
     (told_stands w seen c.args.id s c.args.found c.with-next.result stands c.requires.0 c.requires.1 c.kept.ensures.count is long true_read
-    (subst (λ d. Adds w c.args.id s d c.with-next.result) (c.delta_for-delta.ensures bytes is) adds))
+    (subst (λ d. Adds w c.args.id s d c.with-next.result) (c.delta_for-delta.ensures.spelled bytes is) adds))

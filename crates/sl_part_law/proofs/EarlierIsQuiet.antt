@@ -1,15 +1,15 @@
--- Nothing that is asked of a host asks for its rooms.
+-- Nothing that is asked of a host asks for when it looks again.
 use Rattle.sl_due.specs.Steps.{seen}
+use Rattle.sl_host_state.specs.Hears.{quiet_to}
 use Rattle.sl_host_state.specs.Kept.{HostState}
 use Rattle.sl_host_state.specs.Stands.{IsQuiet, Keeps}
-use Rattle.sl_host_state.specs.declared.kept.Rooms.{Rooms}
-use Rattle.sl_part_law.specs.Rooms.{RoomsAreFree, with_rooms}
+use Rattle.sl_part_law.specs.Moments.{EarlierIsQuiet}
 use Rattle.sl_trace.specs.Traces.{Setting, Trace}
 use Rattle.std.proofs.Common.{arith}
-use Rattle.std.specs.Prelude.{Option, ℕ, ◌≤◌}
+use Rattle.std.specs.Prelude.{ℕ, ◌≤◌}
 
-module _ (h : HostState) (room : Rooms) (spare : Option Rooms) (until : ℕ) where
-  keeps : (st : Setting) (es : Trace) → Keeps h st es → Keeps (with_rooms room spare until h) st es
+module _ (h : HostState) (until : ℕ) where
+  keeps : (st : Setting) (es : Trace) → Keeps h st es → Keeps (quiet_to until h) st es
   keeps st es k =
       record {
         config = k.config;
@@ -33,26 +33,26 @@ module _ (h : HostState) (room : Rooms) (spare : Option Rooms) (until : ℕ) whe
         programs = k.programs;
       }
 
-  quiet : until ≤ h.quiet_until → IsQuiet h → IsQuiet (with_rooms room spare until h)
+  quiet : until ≤ h.quiet_until → IsQuiet h → IsQuiet (quiet_to until h)
   quiet earlier was k now there = let q : h.quiet_until ≤ now = was k now there in omega (arith, earlier, q)
 
-pub rooms_are_free : RoomsAreFree
-rooms_are_free =
+pub earlier_is_quiet : EarlierIsQuiet
+earlier_is_quiet =
     record {
-      in_step = λ i h x room spare until earlier s. record {
+      in_step = λ i h x until earlier s. record {
         input = s.input;
         past = s.past;
         reading = s.reading;
         before = s.before;
         made = s.made;
-        keeps = keeps h room spare until x.setting (seen x) s.keeps;
-        quiet = quiet h room spare until earlier s.quiet;
+        keeps = keeps h until x.setting (seen x) s.keeps;
+        quiet = quiet h until earlier s.quiet;
       };
-      between = λ h st es room spare until earlier s. record {
+      between = λ h st es until earlier s. record {
         past = s.past;
         reading = s.reading;
         made = s.made;
-        keeps = keeps h room spare until st es s.keeps;
-        quiet = quiet h room spare until earlier s.quiet;
+        keeps = keeps h until st es s.keeps;
+        quiet = quiet h until earlier s.quiet;
       };
     }
