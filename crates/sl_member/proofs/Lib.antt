@@ -1,0 +1,3 @@
+pub mod SpotOrder
+pub mod Places
+pub mod Ranges

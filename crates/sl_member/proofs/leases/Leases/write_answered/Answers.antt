@@ -1,0 +1,25 @@
+use Rattle.sl_lease.specs.Changes.{after_failure, after_read, after_write}
+use Rattle.sl_member.proofs.Places.{called_stays, changed_rises, found_in, found_kept, gap_kept, read_stays, write_stays}
+use Rattle.sl_member.proofs.leases.Leases.write_answered.Goals as goal
+use Rattle.sl_member.specs.Leases.{lease_called}
+use Rattle.std.proofs.Common.{ap, refl, ◌∙◌}
+
+pub invariant_of-self : goal.invariant_of-self
+invariant_of-self c =
+    let i = c.self.invariant in
+    let items = c.self.inside.items.items in (
+      changed_rises c.args.at.now items c.in-Ok.place c.index_mut.result.now _ i.0 (found_in c.args.at.now _ items c.in-Ok.place c.deref.ensures.value c.in-Ok.ensures.found)
+          c.index_mut.ensures.value (ap (λ l. l.spot) c.write_answered.ensures ∙ write_stays c.index_mut.result.now),
+      i.1,
+      i.2,
+    )
+
+pub returns-in-Ok : goal.returns-in-Ok
+returns-in-Ok c =
+    found_kept c.args.at.now (after_write) c.args.self.now c.deref.result.now c.self.inside.items.items c.self.inside.room c.in-Ok.place c.index_mut.result.now _ c.self.invariant.0
+    c.deref.ensures.value c.in-Ok.ensures.found c.index_mut.ensures.value c.write_answered.ensures c.self.view_is
+
+pub returns-in-Err : goal.returns-in-Err
+returns-in-Err c =
+    gap_kept c.args.at.now (after_write) c.args.self.now c.deref.result.now c.self.inside.items.items c.self.inside.room c.in-Err.field-0 c.self.invariant.0 c.deref.ensures.value
+    c.in-Err.ensures.gap c.self.view_is

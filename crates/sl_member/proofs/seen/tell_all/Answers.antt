@@ -1,0 +1,17 @@
+use Rattle.sl_area.specs.Layouts.{layout_of}
+use Rattle.sl_area.specs.Places.{read_at}
+use Rattle.sl_member.proofs.Ranges.{told_more}
+use Rattle.sl_member.proofs.seen.tell_all.Goals as goal
+use Rattle.sl_watch.specs.Telling.{told_at}
+use Rattle.std.proofs.Common.{ap, sym, ◌+◌, ◌-◌, ◌∙◌}
+
+pub loop-skipped-preserved : goal.loop-skipped-preserved
+loop-skipped-preserved c =
+    let k = c.loop-skipped.skipped in
+    let g = layout_of c.args.geometry.now in
+    let bytes = c.args.sectors.now.bytes in
+    record {
+      told = c.tell.ensures.exact ∙ ap (told_at c.args.before c.args.after (k + 1) (read_at g bytes (k + 1 - 1))) c.loop-skipped.invariant.told
+          ∙ sym (told_more c.args.before c.args.after (λ id. read_at g bytes (id - 1)) k c.args.watch.now);
+      sizes = c.tell.ensures.sizes ∙ c.loop-skipped.invariant.sizes;
+    }

@@ -1,0 +1,77 @@
+-- The leases of a session, by place, and what a change of one of them makes of the list.
+use Rattle.sl_host_state.specs.Kept.{LeaseState}
+use Rattle.sl_host_state.specs.Makes.{is_lease_on, new_lease}
+use Rattle.sl_lease.specs.Bounds.{IsBegun}
+use Rattle.sl_lease.specs.Changes.{after_block, after_leader, after_reading}
+use Rattle.sl_leases.specs.Leases.{is_spot_before}
+use Rattle.sl_sector.specs.Records.{Fits}
+use Rattle.sl_sector.specs.declared.sector.Rec.TheVariants.{BlockIs, LeaderIs}
+use Rattle.sl_trace.specs.declared.effects.LeaseStep.{LeaseStep}
+use Rattle.sl_trace.specs.declared.effects.Op.TheVariants.{WriteRecord}
+use Rattle.sl_trace.specs.declared.effects.Op.{Op}
+use Rattle.sl_trace.specs.declared.effects.Spot.{Spot}
+use Rattle.sl_trace.specs.declared.effects.Work.{Work}
+use Rattle.sl_words.specs.Orders.{put_in}
+use Rattle.std.specs.List.{AllByRecursion, list_any}
+use Rattle.std.proofs.Common.{suc, zero}
+use Rattle.std.specs.Prelude.{List, None, Option, Some, cond, false, length, map, slice_get, true, [], ℕ, ◌<◌, ◌∷◌, ◌≡◌, ◌≤◌}
+
+-- The leases, and for how many more there is memory.
+pub record LeasesState : Type 0 where
+  pub leases : List LeaseState
+  pub room : ℕ
+
+-- Each comes before all that follow.
+abbrev pub AreByPlace : List LeaseState → Type 0
+AreByPlace [] = Unit {0}
+AreByPlace (l ∷ ls) = AllByRecursion (λ k. is_spot_before l.spot k.spot ≡ true) ls × AreByPlace ls
+
+-- All before this place come before the area, and the one there doesn't.
+abbrev pub IsPlaceOf : Spot → List LeaseState → ℕ → Type 0
+IsPlaceOf at [] zero = Unit {0}
+IsPlaceOf at [] (suc k) = ⊥
+IsPlaceOf at (l ∷ ls) zero = is_spot_before l.spot at ≡ false
+IsPlaceOf at (l ∷ ls) (suc k) = (is_spot_before l.spot at ≡ true) × IsPlaceOf at ls k
+
+-- At the place of the area stands none, or another area's.
+abbrev pub IsNotAt : Spot → Option LeaseState → Type 0
+IsNotAt at None = Unit {0}
+IsNotAt at (Some l) = is_lease_on at l ≡ false
+
+-- The lease that stands at the place of its area.
+pub record IsThere (at : Spot) (ls : List LeaseState) (k : ℕ) (l : LeaseState) : Type 0 where
+  pub place : IsPlaceOf at ls k
+  pub there : slice_get ls k ≡ Some l
+  pub on : is_lease_on at l ≡ true
+
+-- A lease stands at this place of the area, which is one of theirs.
+pub record IsFound (at : Spot) (ls : List LeaseState) (k : ℕ) : Type 0 where
+  pub inside : k < length ls
+  pub item : LeaseState
+  pub is : IsThere at ls k item
+
+-- None is on the area, and this is its place.
+pub record IsGap (at : Spot) (ls : List LeaseState) (k : ℕ) : Type 0 where
+  pub inside : k ≤ length ls
+  pub place : IsPlaceOf at ls k
+  pub other : IsNotAt at (slice_get ls k)
+
+-- The leases with this change of the one on the area, if it is there.
+abbrev pub changed_at : Spot → (LeaseState → LeaseState) → List LeaseState → List LeaseState
+changed_at at f ls = map (λ l. cond (is_lease_on at l) (f l) l) ls
+
+-- A lease whose call of this number is submitted, at a step of its work, to do this: what doesn't write block or leader counts as a read.
+abbrev pub lease_called : ℕ → Work → LeaseStep → Op → LeaseState → LeaseState
+lease_called number work step (WriteRecord (BlockIs b)) l = after_block number work step b l
+lease_called number work step (WriteRecord (LeaderIs d)) l = after_leader number work step d l
+lease_called number work step op l = after_reading number work step l
+
+-- What such a call writes can be kept: a block that is one of a ballot, a leader whose instance fits a record.
+abbrev pub IsKeepable : Op → Type 0
+IsKeepable (WriteRecord (BlockIs b)) = IsBegun b
+IsKeepable (WriteRecord (LeaderIs d)) = Fits d.lver
+IsKeepable op = Unit {0}
+
+-- The leases with one on the area: that which is there, else a new one.
+abbrev pub with_lease : Spot → List LeaseState → List LeaseState
+with_lease at ls = cond (list_any (is_lease_on at) ls) ls (put_in (λ a b. is_spot_before a.spot b.spot) (new_lease at) ls)

@@ -1,0 +1,218 @@
+//! The leases of a session, by place.
+//!
+//! They stand in a vector in the order of their areas, so one is found by bisection. A lease is large and never moves but when one comes
+//! in before it; what a call or an answer changes of it is changed in place. One comes in with its first call, into memory that was taken
+//! before, and none ever goes.
+
+ghost use Rattle.sl_host_state.specs.Makes.{is_lease_on};
+ghost use Rattle.sl_lease.specs.Changes.{after_failure, after_read, after_write};
+ghost use Rattle.sl_leases.specs.Leases.{is_spot_before};
+ghost use Rattle.sl_member.specs.Leases.{AreByPlace, IsFound, IsGap, IsKeepable, IsPlaceOf, changed_at, lease_called, with_lease};
+ghost use Rattle.std.specs.List.{list_any};
+ghost use Rattle.std.specs.Prelude.{IfErr, IfOk, OnErr, OnOk, cond, false, find, length, max, option_map, slice_get, true, [], ◌+◌, ◌-◌, ◌<◌, ◌^◌, ◌≡◌, ◌≤◌};
+
+use sl_lease::{Lease, Side};
+use sl_sector::{Block, Leader, Rec};
+use sl_trace::{LeaseStep, Op, Spot, Work};
+use std::alloc::{AllocError, Global};
+use std::marker::Model;
+
+/// A session's leases, by place, with memory for some more: together fewer than 2^32.
+#[derive(Drop)]
+pub struct Leases {
+    items: Vec<Lease>,
+    room: usize,
+}
+
+impl Model for Leases {
+    ghost use Rattle.sl_member.specs.Leases.{AreByPlace, LeasesState};
+    ghost use Rattle.std.specs.Prelude.{vec_capacity, vec_len, ◌+◌, ◌<◌, ◌^◌, ◌≤◌};
+
+    ghost Value = { LeasesState };
+
+    ghost view = { λ l. record { leases = l.items.items; room = l.room } };
+
+    ghost invariant = { λ l. AreByPlace l.items.items × (vec_len l.items + l.room ≤ vec_capacity l.items) × (vec_len l.items + l.room < 2 ^ 32) };
+}
+
+/// Whether an area comes first: by path, then by base.
+fn is_before(a: &Spot, b: &Spot) -> bool
+    ensures { result ≡ is_spot_before a.now b.now }
+{
+    a.path.is_before(&b.path) || a.path == b.path && a.base < b.base
+}
+
+/// Whether a lease's area comes before this one.
+fn is_low(lease: &Lease, at: &Spot) -> bool
+    ensures { result ≡ is_spot_before lease.now.spot at.now }
+{
+    is_before(&lease.spot(), at)
+}
+
+/// Whether a lease is on this area.
+fn is_on(lease: &Lease, at: &Spot) -> bool
+    ensures { result ≡ is_lease_on at.now lease.now }
+{
+    let spot = lease.spot();
+    at.base == spot.base && at.path == spot.path
+}
+
+/// The place of an area among leases: that of the first one that doesn't come before it.
+fn place_of(leases: &[Lease], at: &Spot) -> usize
+    requires { AreByPlace leases.now }
+    ensures bound { result ≤ length leases.now }
+    ensures place { IsPlaceOf at.now leases.now result }
+{
+    leases.partition_point(|lease| is_low(lease, at))
+}
+
+/// The place of the lease on an area; where there is none, the place at which it would stand.
+fn search(leases: &[Lease], at: &Spot) -> Result<usize, usize>
+    requires { AreByPlace leases.now }
+    ensures found { IfOk result (IsFound at.now leases.now) }
+    ensures gap { IfErr result (IsGap at.now leases.now) }
+{
+    let place = place_of(leases, at);
+    match leases.get(place) {
+        Some(lease) => {
+            if is_on(lease, at) {
+                Ok(place)
+            } else {
+                Err(place)
+            }
+        }
+        None => Err(place),
+    }
+}
+
+/// The call of this number is submitted for a lease.
+fn lease_called(lease: &mut Lease, number: u64, work: Work, step: LeaseStep, op: &Op)
+    requires { IsKeepable op.now }
+    ensures { lease.new ≡ lease_called number work step op.now lease.old }
+{
+    match op {
+        Op::WriteRecord {
+            record: Rec::BlockIs(block),
+        } => lease.writes_block(number, work, step, *block),
+        Op::WriteRecord {
+            record: Rec::LeaderIs(leader),
+        } => lease.writes_leader(number, work, step, leader),
+        _ => lease.reads(number, work, step),
+    }
+}
+
+impl Leases {
+    /// None.
+    pub fn new(alloc: Global) -> Leases
+        ensures { result ≡ record { leases = []; room = 0 } }
+    {
+        Leases {
+            items: Vec::new(alloc),
+            room: 0,
+        }
+    }
+
+    /// Sees that there is memory for so many more. An `Err` is want of memory, and changes nothing.
+    pub fn reserve(&mut self, room: usize) -> Result<(), AllocError>
+        requires { length self.old.leases + room < 2 ^ 32 }
+        ensures ok { OnOk result (self.new ≡ record self.old { room = max self.old.room room }) }
+        ensures err { OnErr result (self.new ≡ self.old) }
+    {
+        if self.room < room {
+            self.items.reserve(room)?;
+            self.room = room;
+        }
+        Ok(())
+    }
+
+    /// How many there are.
+    pub fn len(&self) -> usize
+        ensures exact { result ≡ length self.now.leases }
+        ensures few { result + self.now.room < 2 ^ 32 }
+        ensures by_place { AreByPlace self.now.leases }
+    {
+        self.items.len()
+    }
+
+    /// The lease at this place.
+    pub fn nth(&self, place: usize) -> &Lease
+        requires { place < length self.now.leases }
+        ensures { slice_get self.now.leases place ≡ Some result.now }
+    {
+        &self.items[place]
+    }
+
+    /// The lease on an area, if there is one.
+    pub fn get(&self, at: &Spot) -> Option<&Lease>
+        ensures { option_map (λ l. l.now) result ≡ find (is_lease_on at.now) self.now.leases }
+    {
+        match search(&self.items, at) {
+            Ok(place) => Some(&self.items[place]),
+            Err(_) => None,
+        }
+    }
+
+    /// Sees that there is a lease on an area. One that comes in takes a place.
+    pub fn open(&mut self, at: Spot)
+        requires { list_any (is_lease_on at) self.old.leases ≡ false → 0 < self.old.room }
+        ensures leases { self.new.leases ≡ with_lease at self.old.leases }
+        ensures room { self.new.room ≡ cond (list_any (is_lease_on at) self.old.leases) self.old.room (self.old.room - 1) }
+    {
+        match search(&self.items, &at) {
+            Ok(_) => {}
+            Err(place) => match self.items.insert(place, Lease::new(at)) {
+                Ok(()) => self.room -= 1,
+                Err(_) => unreachable!(),
+            },
+        }
+    }
+
+    /// The call of this number is submitted for the lease on an area, at a step of its work, to do this.
+    pub fn called(&mut self, at: &Spot, number: u64, work: Work, step: LeaseStep, op: &Op)
+        requires { IsKeepable op.now }
+        ensures { self.new ≡ record self.old { leases = changed_at at.now (lease_called number work step op.now) self.old.leases } }
+    {
+        match search(&self.items, at) {
+            Ok(place) => lease_called(&mut self.items[place], number, work, step, op),
+            Err(_) => {}
+        }
+    }
+
+    /// The read for which the lease on an area waits gave these; it is heeded while its work goes on.
+    pub fn read_answered(
+        &mut self,
+        at: &Spot,
+        side: &Side,
+        leader: &Option<Leader>,
+        blocks: &[Option<Block>],
+        heeded: bool,
+    )
+        requires { length blocks.now < 2 ^ 32 }
+        ensures { self.new ≡ record self.old { leases = changed_at at.now (after_read side.now heeded leader.now blocks.now) self.old.leases } }
+    {
+        match search(&self.items, at) {
+            Ok(place) => self.items[place].read_answered(side, leader, blocks, heeded),
+            Err(_) => {}
+        }
+    }
+
+    /// The write for which the lease on an area waits is done.
+    pub fn write_answered(&mut self, at: &Spot)
+        ensures { self.new ≡ record self.old { leases = changed_at at.now after_write self.old.leases } }
+    {
+        match search(&self.items, at) {
+            Ok(place) => self.items[place].write_answered(),
+            Err(_) => {}
+        }
+    }
+
+    /// The call for which the lease on an area waits has failed.
+    pub fn failed(&mut self, at: &Spot)
+        ensures { self.new ≡ record self.old { leases = changed_at at.now after_failure self.old.leases } }
+    {
+        match search(&self.items, at) {
+            Ok(place) => self.items[place].failed(),
+            Err(_) => {}
+        }
+    }
+}

@@ -1,0 +1,10 @@
+//! What a host keeps of a session: its id, its leases, what it has seen and whom it has asked.
+#![tactic(auto)]
+
+mod asked;
+mod leases;
+mod seen;
+
+pub use asked::Asked;
+pub use leases::Leases;
+pub use seen::{Seen, evidence_of, tell_all};
