@@ -19,6 +19,7 @@ mod rising;
 pub use children::{ChildState, Children};
 pub use connections::Connections;
 pub use holdings::{Holder, Holdings, Sought};
+pub use jobs::Jobs;
 pub use opens::OpenCalls;
 pub use programs::Programs;
 pub use rising::Rising;

@@ -1,0 +1,23 @@
+-- What a host does to its books is what the state functions say.
+use Rattle.sl_host_state.specs.Kept.{MemberState}
+use Rattle.sl_host_state.specs.Makes.{is_ended_by_move, with_end, with_grant, with_move, with_signal, with_start}
+use Rattle.sl_trace.specs.declared.command.Command.{Command}
+use Rattle.sl_trace.specs.declared.effects.End.{End}
+use Rattle.sl_trace.specs.declared.effects.Grant.{Grant}
+use Rattle.sl_trace.specs.declared.effects.Move.{Move}
+use Rattle.sl_trace.specs.declared.effects.Sent.{Sent}
+use Rattle.sl_trace.specs.declared.effects.Start.{Start}
+use Rattle.sl_whole_host.specs.Books.{BooksState, books_ending, books_granting, books_moving, books_signalling, books_starting, host_of}
+use Rattle.std.specs.Prelude.{List, Result, filter, not, ℕ, ◌≡◌}
+
+-- Of a host that reads lines so, with these members and books.
+pub record BooksFollow (read : List ℕ → Result Command ℕ) (ms : List MemberState) (b : BooksState) : Type 0 where
+  pub ended : (e : End) → host_of read ms (books_ending e b) ≡ with_end e (host_of read ms b)
+  pub granted : (g : Grant) → host_of read ms (books_granting g b) ≡ with_grant g (host_of read ms b)
+  pub signalled : (s : Sent) → host_of read ms (books_signalling s b) ≡ with_signal s.process s.signal (host_of read ms b)
+  pub started : (s : Start) → host_of read ms (books_starting s b) ≡ with_start s (host_of read ms b)
+  -- a move takes out the members that it ends
+  pub moved : (m : Move) → host_of read (filter (λ s. not (is_ended_by_move m s)) ms) (books_moving m b) ≡ with_move m (host_of read ms b)
+
+abbrev pub BooksFollowStates : Type 0
+BooksFollowStates = (read : List ℕ → Result Command ℕ) (ms : List MemberState) (b : BooksState) → BooksFollow read ms b
