@@ -1,0 +1,1 @@
+//! A step as a function of states follows what is due.

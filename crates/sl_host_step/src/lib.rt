@@ -1,0 +1,6 @@
+//! A step of a host as one function of states: it begins, what is due before its input is done, the input is heard and done, on a wake the
+//! three passes are made, and what comes last is done. A pass goes by the numbers of the members that it begins with, and finds each again
+//! when its turn comes, since a part may take members out.
+#![tactic(auto)]
+
+pub mod laws;
