@@ -1,6 +1,6 @@
 //! What a session keeps of its calls on its id's sector.
 
-ghost use Rattle.sl_delta.specs.Own.{HasMoments, IsMade, IsOwnRecord, IsTold, OwnStands, after_answer, after_call, answer_in, heard, newest_made, newest_told, without_calls};
+ghost use Rattle.sl_delta.specs.Own.{HasMoments, IsMade, IsOwnRecord, IsTold, OwnStands, after_answer, after_call, answer_in, heard, known_with, newest_made, newest_told, without_calls};
 ghost use Rattle.sl_host_state.specs.Hears.{answered_at};
 ghost use Rattle.sl_sector.specs.Records.{Fits};
 ghost use Rattle.sl_sessions.specs.Sessions.{given_number, is_join_call};
@@ -22,6 +22,7 @@ use sl_area::Geometry;
 use sl_host_state::JoinCall;
 use sl_sector::DeltaRec;
 use sl_sectors::Image;
+use sl_sessions::DeltaKnown;
 use sl_text::Name;
 use sl_time::Timing;
 use sl_trace::Purpose;
@@ -140,6 +141,23 @@ impl OwnSector {
             renewed,
             busy: false,
             freed: false,
+        }
+    }
+
+    /// What is known of the session; `recovering` says whether recovery has begun, `leaving` for which job it leaves.
+    pub fn known(&self, recovering: bool, leaving: Option<u64>) -> DeltaKnown
+        ensures exact { result ≡ known_with self.now recovering leaving }
+        ensures bounds { Fits result.generation × Fits result.seq × (result.renewed < moments) }
+        ensures place { (1 ≤ self.now.id) × (self.now.id ≤ self.now.sizes.hosts) }
+    {
+        DeltaKnown {
+            generation: self.generation,
+            seq: self.seq,
+            renewed: self.renewed,
+            busy: self.busy,
+            recovering,
+            leaving,
+            freed: self.freed,
         }
     }
 

@@ -9,10 +9,11 @@ ghost use Rattle.sl_area.specs.Places.{area_blocks, blocks_in, leader_of, read_a
 ghost use Rattle.sl_lease.specs.Reads.{behind, blocks_to, host_block};
 ghost use Rattle.sl_sector.specs.Records.{IsBlock, IsLeader, IsRecord};
 ghost use Rattle.sl_sector.specs.Spelling.{IsSectorSize, decoded};
-ghost use Rattle.std.specs.Prelude.{All, IfOk, IfSome, List, None, drop, length, replicate, take, ℕ, ◌*◌, ◌+◌, ◌-◌, ◌<◌, ◌^◌, ◌≡◌, ◌≤◌};
+ghost use Rattle.std.specs.Prelude.{All, Bool, IfOk, IfSome, IsTrue, List, None, drop, length, replicate, take, true, ℕ, ◌*◌, ◌+◌, ◌-◌, ◌<◌, ◌==◌, ◌^◌, ◌≡◌, ◌≤◌};
 
 use sl_area::Geometry;
 use sl_sector::{Bad, Block, Leader, Rec, block_in, decode, leader_in};
+use sl_sectors::Images;
 use std::alloc::{AllocError, Global};
 use std::marker::Model;
 
@@ -21,9 +22,13 @@ pub trait Sectors {
     /// Their bytes.
     ghost bytes: { Self → List ℕ };
 
+    /// Whether they are cut into sectors of this size.
+    ghost is_cut: { Self → ℕ → Bool };
+
     /// What sector k spells, counted from 0, where sectors have this size: there are so many.
     fn record(&self, size: u32, k: u32) -> Result<Rec, Bad>
         requires size { IsSectorSize size }
+        requires cut { IsTrue (is_cut self.now size) }
         requires many { (k + 1) * size ≤ length (bytes self.now) }
         ensures exact { result ≡ decoded program_digest (take size (drop (k * size) (bytes self.now))) }
         ensures rules { IfOk result IsRecord };
@@ -38,6 +43,8 @@ pub struct SectorBytes<'a> {
 impl<'a> Sectors for SectorBytes<'a> {
     ghost bytes = { λ s. s.bytes.now };
 
+    ghost is_cut = { λ s size. true };
+
     fn record(&self, size: u32, k: u32) -> Result<Rec, Bad> {
         let (_, rest) = self.bytes.split_at(k as usize * size as usize);
         let (sector, _) = rest.split_at(size as usize);
@@ -45,9 +52,23 @@ impl<'a> Sectors for SectorBytes<'a> {
     }
 }
 
+impl Sectors for Images {
+    ghost bytes = { λ s. s.bytes };
+
+    ghost is_cut = { λ s size. s.size == size };
+
+    fn record(&self, size: u32, k: u32) -> Result<Rec, Bad> {
+        match Images::record(self, k as usize) {
+            Some(found) => found,
+            None => unreachable!(),
+        }
+    }
+}
+
 /// The leader that a read of the area gave, if its sector spells one.
 pub fn leader_of<S: Sectors>(geometry: &Geometry, sectors: &S) -> Option<Leader>
-    requires { geometry.now.sector ≤ length (S.bytes sectors.now) }
+    requires many { geometry.now.sector ≤ length (S.bytes sectors.now) }
+    requires cut { IsTrue (S.is_cut sectors.now geometry.now.sector) }
     ensures exact { result ≡ leader_of (layout_of geometry.now) (S.bytes sectors.now) }
     ensures rules { IfSome result IsLeader }
 {
@@ -64,6 +85,7 @@ fn host_block<S: Sectors>(
     requires host { (1 ≤ host) × (host ≤ geometry.now.hosts) }
     requires skipped { skipped ≤ 2 }
     requires many { (skipped + host) * geometry.now.sector ≤ length (S.bytes sectors.now) }
+    requires cut { IsTrue (S.is_cut sectors.now geometry.now.sector) }
     ensures exact { result ≡ host_block geometry.now (behind geometry.now skipped (S.bytes sectors.now)) host }
     ensures rules { IfSome result IsBlock }
 {
@@ -106,6 +128,7 @@ impl Blocks {
     pub fn read_blocks<S: Sectors>(&mut self, geometry: &Geometry, sectors: &S)
         requires places { length self.old ≡ geometry.now.hosts }
         requires many { length (S.bytes sectors.now) ≡ geometry.now.hosts * geometry.now.sector }
+        requires cut { IsTrue (S.is_cut sectors.now geometry.now.sector) }
         ensures exact { self.new ≡ blocks_in (layout_of geometry.now) (S.bytes sectors.now) }
         ensures rules { All (λ o. IfSome o IsBlock) self.new }
     {
@@ -116,6 +139,7 @@ impl Blocks {
     pub fn read_area<S: Sectors>(&mut self, geometry: &Geometry, sectors: &S)
         requires places { length self.old ≡ geometry.now.hosts }
         requires many { length (S.bytes sectors.now) ≡ (geometry.now.hosts + 2) * geometry.now.sector }
+        requires cut { IsTrue (S.is_cut sectors.now geometry.now.sector) }
         ensures exact { self.new ≡ area_blocks (layout_of geometry.now) (S.bytes sectors.now) }
         ensures rules { All (λ o. IfSome o IsBlock) self.new }
     {
@@ -127,6 +151,7 @@ impl Blocks {
         requires places { length self.old ≡ geometry.now.hosts }
         requires skipped { skipped ≤ 2 }
         requires many { length (S.bytes sectors.now) ≡ (skipped + geometry.now.hosts) * geometry.now.sector }
+        requires cut { IsTrue (S.is_cut sectors.now geometry.now.sector) }
         ensures exact { self.new ≡ blocks_to geometry.now (behind geometry.now skipped (S.bytes sectors.now)) geometry.now.hosts }
         ensures rules { All (λ o. IfSome o IsBlock) self.new }
     {

@@ -1,3 +1,4 @@
 pub mod SpotOrder
 pub mod Places
 pub mod Ranges
+pub mod MemberParts

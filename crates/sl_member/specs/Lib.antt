@@ -1,3 +1,4 @@
 pub mod Asked
 pub mod Leases
+pub mod Members
 pub mod Seen

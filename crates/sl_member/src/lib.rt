@@ -3,8 +3,10 @@
 
 mod asked;
 mod leases;
+mod member;
 mod seen;
 
 pub use asked::Asked;
 pub use leases::Leases;
+pub use member::Member;
 pub use seen::{Seen, evidence_of, tell_all};

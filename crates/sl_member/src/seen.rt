@@ -86,7 +86,7 @@ fn tell(
     requires size { sectors.now.size ≡ geometry.now.sector }
     requires many { length sectors.now.bytes ≡ geometry.now.hosts * geometry.now.sector }
     ensures exact { watch.new ≡ told_at before after id (read_at (layout_of geometry.now) sectors.now.bytes (id - 1)) watch.old }
-    ensures sizes { watch.new.sizes ≡ watch.old.sizes }
+    ensures run { (watch.new.sizes ≡ watch.old.sizes) × (watch.new.timing ≡ watch.old.timing) }
 {
     let _size = geometry.sector();
     match sectors.record(id as usize - 1) {
@@ -101,7 +101,7 @@ pub fn tell_all(watch: &mut Watch, geometry: &Geometry, before: u64, after: u64,
     requires size { sectors.now.size ≡ geometry.now.sector }
     requires many { length sectors.now.bytes ≡ geometry.now.hosts * geometry.now.sector }
     ensures exact { watch.new ≡ told_all before after (layout_of geometry.now) sectors.now.bytes watch.old }
-    ensures sizes { watch.new.sizes ≡ watch.old.sizes }
+    ensures run { (watch.new.sizes ≡ watch.old.sizes) × (watch.new.timing ≡ watch.old.timing) }
 {
     for skipped in 0..geometry.hosts() {
         tell(watch, geometry, before, after, skipped + 1, sectors);

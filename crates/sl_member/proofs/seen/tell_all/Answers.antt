@@ -13,5 +13,6 @@ loop-skipped-preserved c =
     record {
       told = c.tell.ensures.exact ∙ ap (told_at c.args.before c.args.after (k + 1) (read_at g bytes (k + 1 - 1))) c.loop-skipped.invariant.told
           ∙ sym (told_more c.args.before c.args.after (λ id. read_at g bytes (id - 1)) k c.args.watch.now);
-      sizes = c.tell.ensures.sizes ∙ c.loop-skipped.invariant.sizes;
+      sizes = c.tell.ensures.run.0 ∙ c.loop-skipped.invariant.sizes;
+      timing = c.tell.ensures.run.1 ∙ c.loop-skipped.invariant.timing;
     }

@@ -9,4 +9,5 @@ abbrev pub invariant-loop-skipped : goal.invariant-loop-skipped
 invariant-loop-skipped l = record {
   told : l.watch ≡ told_of l.before l.after (λ id. read_at (layout_of l.geometry) l.sectors.bytes (id - 1)) (range_with_len 1 l.skipped) l.fn.watch;
   sizes : l.watch.sizes ≡ l.fn.watch.sizes;
+  timing : l.watch.timing ≡ l.fn.watch.timing;
 }

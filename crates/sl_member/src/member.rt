@@ -1,0 +1,430 @@
+//! A session whose lockspace is in use, as a host keeps it.
+//!
+//! Each part answers for its own: `own` for the calls on the id's sector, `watch` for what was seen of other ids, `asked` for the requests,
+//! `leases` for the resources. Beside them stand three stories:
+//!
+//! - joined, refused: a joining ends by one of both. A refused one stays while a write of it is unanswered, since that may land yet.
+//! - renewing: the submission reading of the last renewal that counts, and how recovery began. In recovery nothing counts any more.
+//! - leaving: how it began, and for which job.
+//!
+//! It makes no call and decides nothing on jobs: it is told of calls (`calling`) and of their answers, by purpose, and is asked what is
+//! known and what its own sector does next. What is known of a lease is asked of the lease (`lease`), with `side` and `seen`.
+
+ghost use Rattle.sl_area.specs.Layouts.{layout_of};
+ghost use Rattle.sl_delta.specs.Decides.{IsFitNext, after_join, on_wake};
+ghost use Rattle.sl_delta.specs.Own.{answer_in, without_calls};
+ghost use Rattle.sl_host_state.specs.Hears.{asked_at};
+ghost use Rattle.sl_host_state.specs.Makes.{is_lease_on};
+ghost use Rattle.sl_lease.specs.Bounds.{IsSession};
+ghost use Rattle.sl_lease.specs.Changes.{after_failure, after_read, after_write};
+ghost use Rattle.sl_member.specs.Asked.{bits_within};
+ghost use Rattle.sl_member.specs.Members.{RunOf, blank_member, delta_lease, leaving_begun, lease_changed, own_of, own_told, owner_in, recovery_begun, renewal_counted, seen_in, side_in};
+ghost use Rattle.sl_sector.specs.Records.{Fits};
+ghost use Rattle.sl_sessions.specs.Deltas.{next_free, next_renewal};
+ghost use Rattle.sl_sessions.specs.Sessions.{given_number, is_join_call};
+ghost use Rattle.sl_text.specs.Names.{is_name};
+ghost use Rattle.sl_trace.specs.declared.effects.JoinStep.TheVariants.{FirstRead};
+ghost use Rattle.sl_trace.specs.declared.effects.Purpose.TheVariants.{Joining};
+ghost use Rattle.sl_trace.specs.declared.input.Answer.{Answer};
+ghost use Rattle.sl_watch.specs.Telling.{told_all};
+ghost use Rattle.sl_words.specs.Bounds.{moments};
+ghost use Rattle.std.specs.Prelude.{IfOk, IfSome, IsTrue, None, OnErr, OnOk, Some, bytes_eq, false, find, is_none, is_some, length, max, not, option_map, slice_get, true, ℕ, ◌&&◌, ◌*◌, ◌+◌, ◌<◌, ◌==◌, ◌^◌, ◌≡◌, ◌≤◌};
+
+use crate::asked::Asked;
+use crate::leases::Leases;
+use crate::seen::{Seen, tell_all};
+use sl_area::Geometry;
+use sl_delta::{OwnSector, SectorAnswer};
+use sl_lease::{Lease, Side};
+use sl_request::Bitmap;
+use sl_sector::{Block, HostId, Leader, Owner};
+use sl_sectors::Images;
+use sl_sessions::{Begun, DeltaKnown, DeltaNext, Renewing, Session};
+use sl_text::Name;
+use sl_time::Timing;
+use sl_trace::{JoinStep, Purpose, Spot};
+use sl_watch::Watch;
+use std::alloc::{AllocError, Global};
+use std::marker::Model;
+
+/// A session whose lockspace is in use.
+#[derive(Drop)]
+pub struct Member {
+    timing: Timing,
+    geometry: Geometry,
+    who: Session,
+    joined: bool,
+    refused: bool,
+    own: OwnSector,
+    renewing: Renewing,
+    leaving: Option<Begun>,
+    leaves_for: Option<u64>,
+    asked: Asked,
+    watch: Watch,
+    leases: Leases,
+}
+
+impl Model for Member {
+    ghost use Rattle.sl_delta.specs.Own.{known_with};
+    ghost use Rattle.sl_member.specs.Members.{IsMember, MemberKept};
+    ghost use Rattle.std.specs.Prelude.{is_some};
+
+    ghost Value = { MemberKept };
+
+    ghost view = { λ m. record {
+      run = record { timing = m.timing; sizes = m.geometry; host = m.own.host };
+      state = record {
+        who = m.who;
+        joined = m.joined;
+        refused = m.refused;
+        known = known_with m.own (is_some m.renewing.recovery) m.leaves_for;
+        joining = m.own.joining;
+        renewing = m.renewing;
+        leaving = m.leaving;
+        asked = m.asked;
+        watch = m.watch;
+        leases = m.leases.leases;
+      };
+      room = m.leases.room;
+    } };
+
+    ghost invariant = { λ m. IsMember m.timing m.geometry m.who m.joined m.own m.watch };
+}
+
+/// The own sector of a session without a call: one that is given is joined under generation 1.
+fn own_sector(timing: &Timing, geometry: &Geometry, host: Name, who: &Session) -> OwnSector
+    requires id { (1 ≤ who.now.id) × (who.now.id ≤ geometry.now.hosts) }
+    requires named { IsTrue (is_name host) × IsTrue (is_name who.now.lockspace) }
+    requires renewed { (who.now.renewed < moments) × (is_some who.now.job ≡ true → who.now.renewed ≡ 0) }
+    ensures { result ≡ without_calls timing.now geometry.now host who.now.lockspace who.now.id (given_number who.now) who.now.renewed }
+{
+    match who.job {
+        Some(_) => OwnSector::new(timing, geometry, host, who.lockspace, who.id),
+        None => OwnSector::given(timing, geometry, host, who.lockspace, who.id, who.renewed),
+    }
+}
+
+impl Member {
+    /// A session without a call: one that is given (it has no job) is joined, under generation 1. It takes all memory that it will need but
+    /// that for leases; an `Err` is want of it.
+    pub fn new(
+        alloc: Global,
+        timing: &Timing,
+        geometry: &Geometry,
+        host: Name,
+        who: Session,
+    ) -> Result<Member, AllocError>
+        requires id { (1 ≤ who.id) × (who.id ≤ geometry.now.hosts) }
+        requires named { IsTrue (is_name host) × IsTrue (is_name who.lockspace) }
+        requires renewed { (who.renewed < moments) × (is_some who.job ≡ true → who.renewed ≡ 0) }
+        ensures { IfOk result (λ m. m ≡ record {
+          run = record { timing = timing.now; sizes = geometry.now; host = host };
+          state = blank_member (record { timing = timing.now; sizes = geometry.now; host = host }) who;
+          room = 0;
+        }) }
+    {
+        let own = own_sector(timing, geometry, host, &who);
+        let asked = Asked::new(alloc, geometry.hosts())?;
+        let watch = Watch::new(alloc, timing, geometry)?;
+        Ok(Member {
+            timing: *timing,
+            geometry: *geometry,
+            who,
+            joined: who.job.is_none(),
+            refused: false,
+            own,
+            renewing: Renewing {
+                last: who.renewed,
+                recovery: None,
+            },
+            leaving: None,
+            leaves_for: None,
+            asked,
+            watch,
+            leases: Leases::new(alloc),
+        })
+    }
+
+    /// Sees that there is memory for so many more leases. An `Err` is want of memory, and changes nothing.
+    pub fn reserve(&mut self, room: usize) -> Result<(), AllocError>
+        requires { length self.old.state.leases + room < 2 ^ 32 }
+        ensures ok { OnOk result (self.new ≡ record self.old { room = max self.old.room room }) }
+        ensures err { OnErr result (self.new ≡ self.old) }
+    {
+        self.leases.reserve(room)
+    }
+
+    // ---- what it is
+
+    /// Which session it is.
+    pub fn who(&self) -> &Session
+        ensures { result.now ≡ self.now.state.who }
+    {
+        &self.who
+    }
+
+    /// Whether it is of this lockspace.
+    pub fn is_named(&self, lockspace: &Name) -> bool
+        ensures { result ≡ bytes_eq self.now.state.who.lockspace lockspace.now }
+    {
+        self.who.lockspace.as_slice() == lockspace.as_slice()
+    }
+
+    /// Whether it is joined.
+    pub fn is_joined(&self) -> bool
+        ensures { result ≡ self.now.state.joined }
+    {
+        self.joined
+    }
+
+    /// Whether its joining was refused.
+    pub fn is_refused(&self) -> bool
+        ensures { result ≡ self.now.state.refused }
+    {
+        self.refused
+    }
+
+    /// Joined, neither in recovery nor leaving.
+    pub fn is_active(&self) -> bool
+        ensures { result ≡ (self.now.state.joined && is_none self.now.state.renewing.recovery && is_none self.now.state.leaving) }
+    {
+        self.joined && self.renewing.recovery.is_none() && self.leaving.is_none()
+    }
+
+    /// The submission reading of the last renewal that counts, and how recovery began.
+    pub fn renewing(&self) -> Renewing
+        ensures { result ≡ self.now.state.renewing }
+    {
+        self.renewing
+    }
+
+    /// How its leaving began.
+    pub fn leaving(&self) -> Option<Begun>
+        ensures { result ≡ self.now.state.leaving }
+    {
+        self.leaving
+    }
+
+    /// What is known of its own sector.
+    pub fn known(&self) -> DeltaKnown
+        ensures exact { result ≡ self.now.state.known }
+        ensures bounds { Fits result.generation × Fits result.seq × (result.renewed < moments) }
+        ensures claimed { self.now.state.joined ≡ true → 1 ≤ result.generation }
+        ensures place { (1 ≤ self.now.state.who.id) × (self.now.state.who.id ≤ self.now.run.sizes.hosts) }
+    {
+        self.own.known(self.renewing.recovery.is_some(), self.leaves_for)
+    }
+
+    /// The session as ballots name it.
+    fn owner(&self) -> Owner
+        ensures exact { result ≡ owner_in self.now.state }
+        ensures session { self.now.state.joined ≡ true → IsSession self.now.run.sizes result }
+    {
+        Owner {
+            id: self.who.id,
+            generation: self.known().generation,
+        }
+    }
+
+    /// For whom its leases are kept.
+    pub fn side(&self) -> Side
+        ensures exact { result ≡ side_in self.now }
+        ensures session { self.now.state.joined ≡ true → IsSession self.now.run.sizes result.me }
+    {
+        Side {
+            geometry: self.geometry,
+            lockspace: self.who.lockspace,
+            me: self.owner(),
+        }
+    }
+
+    /// What it has seen of other hosts: whom it counts as over.
+    pub fn seen(&self) -> Seen<'_>
+        ensures { result ≡ seen_in self.now.state }
+    {
+        Seen::by(
+            &self.watch,
+            self.geometry.hosts(),
+            self.who.id,
+            self.known().generation,
+            self.joined,
+        )
+    }
+
+    /// What it has seen, to be read.
+    pub fn watch(&self) -> &Watch
+        ensures { result.now ≡ self.now.state.watch }
+    {
+        &self.watch
+    }
+
+    /// Its leases, to be read.
+    pub fn leases(&self) -> &Leases
+        ensures { result.now ≡ record { leases = self.now.state.leases; room = self.now.room } }
+    {
+        &self.leases
+    }
+
+    /// Its lease on an area, if there is one.
+    pub fn lease(&self, at: &Spot) -> Option<&Lease>
+        ensures { option_map (λ l. l.now) result ≡ find (is_lease_on at.now) self.now.state.leases }
+    {
+        self.leases.get(at)
+    }
+
+    // ---- what its own sector does next
+
+    /// After an answer of its joining, which goes on: of the call with this number, at this step, submitted at the reading `made`.
+    pub fn after_join(
+        &self,
+        now: u64,
+        call: u64,
+        made: u64,
+        step: JoinStep,
+        answer: &SectorAnswer,
+    ) -> DeltaNext
+        requires { (now < moments) × (made < moments) }
+        ensures exact { result ≡ after_join (own_of self.now) now call made step (answer_in answer.now) }
+        ensures fit { IsFitNext result }
+    {
+        self.own.after_join(now, call, made, step, answer)
+    }
+
+    /// What is due of its joining by time.
+    pub fn on_wake(&self, now: u64) -> DeltaNext
+        ensures exact { result ≡ on_wake (own_of self.now) now }
+        ensures fit { IsFitNext result }
+    {
+        self.own.on_wake(now)
+    }
+
+    /// The bits of a renewal at the reading `now`.
+    fn bits(&self, now: u64) -> Bitmap
+        ensures { result ≡ bits_within self.now.run.timing self.now.run.sizes.hosts self.now.state.asked now }
+    {
+        self.asked.bits(&self.timing, self.geometry.hosts(), now)
+    }
+
+    /// The renewal that is due of it on a wake, once it is joined.
+    pub fn renewal(&self, now: u64) -> DeltaNext
+        requires { now < moments }
+        ensures exact { result ≡ next_renewal (delta_lease self.now) now self.now.state.known (bits_within self.now.run.timing self.now.run.sizes.hosts self.now.state.asked now) }
+        ensures fit { self.now.state.joined ≡ true → IsFitNext result }
+    {
+        let recovering = self.renewing.recovery.is_some();
+        let bits = self.bits(now);
+        self.own.renewal(now, recovering, self.leaves_for, &bits)
+    }
+
+    /// The free that its leaving writes. A seq is left for it.
+    pub fn free(&self, now: u64) -> DeltaNext
+        requires moment { now < moments }
+        requires left { Fits (self.now.state.known.seq + 1) }
+        ensures exact { result ≡ next_free (delta_lease self.now) now self.now.state.known }
+        ensures fit { self.now.state.joined ≡ true → IsFitNext result }
+    {
+        self.own.free(now, self.leaves_for)
+    }
+
+    // ---- what answers make of it
+
+    /// Its joining's first read was answered so.
+    pub fn first_answered(&mut self, now: u64, answer: SectorAnswer)
+        requires { now < moments }
+        ensures { (j : ℕ) → self.new ≡ record self.old { state = own_told (Joining j FirstRead) (answer_in answer) now self.old.state } }
+    {
+        self.own.first_answered(now, answer);
+    }
+
+    /// Another call of it was answered.
+    pub fn own_answered(&mut self, now: u64, purpose: &Purpose)
+        requires moment { now < moments }
+        requires later { is_join_call FirstRead purpose.now ≡ false }
+        ensures { (a : Answer) → self.new ≡ record self.old { state = own_told purpose.now a now self.old.state } }
+    {
+        self.own.answered(now, purpose);
+    }
+
+    /// Its read of all ids, submitted at the reading `before` and answered at `after`, gave these sectors.
+    pub fn surveyed(&mut self, before: u64, after: u64, sectors: &Images)
+        requires size { sectors.now.size ≡ self.old.run.sizes.sector }
+        requires many { length sectors.now.bytes ≡ self.old.run.sizes.hosts * self.old.run.sizes.sector }
+        ensures { self.new ≡ record self.old { state = record self.old.state { watch = told_all before after (layout_of self.old.run.sizes) sectors.now.bytes self.old.state.watch } } }
+    {
+        tell_all(&mut self.watch, &self.geometry, before, after, sectors);
+    }
+
+    /// A request to the host of an id was answered ok.
+    pub fn asked_answered(&mut self, now: u64, owner: HostId)
+        requires { 1 ≤ owner }
+        ensures { self.new ≡ record self.old { state = record self.old.state { asked = asked_at now owner self.old.state.asked } } }
+    {
+        self.asked.answered(now, owner);
+    }
+
+    /// A renewal that was submitted at this reading counts.
+    pub fn renewed(&mut self, reading: u64)
+        ensures { self.new ≡ record self.old { state = renewal_counted reading self.old.state } }
+    {
+        self.renewing.last = reading;
+    }
+
+    /// Its recovery begins.
+    pub fn recovers(&mut self, begun: Begun)
+        ensures { self.new ≡ record self.old { state = recovery_begun begun self.old.state } }
+    {
+        self.renewing.recovery = Some(begun);
+    }
+
+    /// Its leaving begins, for this job.
+    pub fn leaves(&mut self, begun: Begun, job: u64)
+        ensures { self.new ≡ record self.old { state = leaving_begun begun job self.old.state } }
+    {
+        self.leaving = Some(begun);
+        self.leaves_for = Some(job);
+    }
+
+    /// Its joining is done: it has written its claim.
+    pub fn joins(&mut self)
+        requires { 1 ≤ self.old.state.known.generation }
+        ensures { self.new ≡ record self.old { state = record self.old.state { joined = true } } }
+    {
+        self.joined = true;
+    }
+
+    /// Its joining was refused.
+    pub fn refuses(&mut self)
+        ensures { self.new ≡ record self.old { state = record self.old.state { refused = true } } }
+    {
+        self.refused = true;
+    }
+
+    /// The read for which its lease on an area waits gave these; it is heeded while its work goes on.
+    pub fn lease_read(
+        &mut self,
+        at: &Spot,
+        leader: &Option<Leader>,
+        blocks: &[Option<Block>],
+        heeded: bool,
+    )
+        requires { length blocks.now < 2 ^ 32 }
+        ensures { self.new ≡ record self.old { state = lease_changed at.now (after_read (side_in self.old) heeded leader.now blocks.now) self.old.state } }
+    {
+        let side = self.side();
+        self.leases.read_answered(at, &side, leader, blocks, heeded);
+    }
+
+    /// The write for which its lease on an area waits is done.
+    pub fn lease_written(&mut self, at: &Spot)
+        ensures { self.new ≡ record self.old { state = lease_changed at.now after_write self.old.state } }
+    {
+        self.leases.write_answered(at);
+    }
+
+    /// The call for which its lease on an area waits has failed.
+    pub fn lease_failed(&mut self, at: &Spot)
+        ensures { self.new ≡ record self.old { state = lease_changed at.now after_failure self.old.state } }
+    {
+        self.leases.failed(at);
+    }
+}
