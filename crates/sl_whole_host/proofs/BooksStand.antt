@@ -1,9 +1,11 @@
 -- Books follow the state functions.
 use Rattle.sl_host_state.specs.declared.kept.JobState.{JobState}
-use Rattle.sl_host_state.specs.Makes.{job_starting}
+use Rattle.sl_host_state.specs.Makes.{job_calling, job_starting}
+use Rattle.sl_host_state.specs.Stands.{kept_waiting}
+use Rattle.sl_host_state.specs.declared.kept.WaitingCall.{WaitingCall}
 use Rattle.sl_tables.specs.Holdings.{fits}
 use Rattle.sl_tables.specs.Jobs.{changed}
-use Rattle.sl_trace.specs.Traces.{same_place}
+use Rattle.sl_trace.specs.Traces.{Submitted, is_of_job, job_of, same_place}
 use Rattle.sl_trace.specs.declared.effects.End.{End}
 use Rattle.sl_trace.specs.declared.effects.Grant.{Grant}
 use Rattle.sl_trace.specs.declared.effects.Start.{Start}
@@ -51,3 +53,22 @@ no_job_started s [] is = refl
 no_job_started s (j ∷ jobs) is =
     ap (λ js. j ∷ js) (no_job_started s jobs is)
     ∙ sym (ap (λ o. cond (some_is (λ m. m == j.number) o) (record j { child = option_or j.child (Some s.process) }) j ∷ map (job_starting s) jobs) is)
+
+-- ---- calls
+
+-- The job of a call waits for it.
+pub jobs_called : (m : Submitted) (n : ℕ) (w : WaitingCall) (jobs : List JobState) → job_of m.call.purpose ≡ Some n → w ≡ kept_waiting m → changed n (λ j. record j { waits = Some w }) jobs ≡ map (job_calling m) jobs
+jobs_called m n w [] is waits = refl
+jobs_called m n w (j ∷ jobs) is waits =
+    ap (λ v. cond (j.number == n) (record j { waits = Some v }) j ∷ changed n (λ j. record j { waits = Some w }) jobs) waits
+    ∙ (ap (λ b. cond b (record j { waits = Some (kept_waiting m) }) j ∷ changed n (λ j. record j { waits = Some w }) jobs) (nat_eq_equiv.symm j.number n ∙ sym (of_job j.number is))
+    ∙ ap (λ js. job_calling m j ∷ js) (jobs_called m n w jobs is waits))
+  where
+    of_job : (k : ℕ) → job_of m.call.purpose ≡ Some n → is_of_job k m ≡ (n == k)
+    of_job k is = ap (λ o. some_is (λ j. j == k) o) is
+
+pub no_job_called : (m : Submitted) (jobs : List JobState) → job_of m.call.purpose ≡ None → jobs ≡ map (job_calling m) jobs
+no_job_called m [] is = refl
+no_job_called m (j ∷ jobs) is =
+    ap (λ js. j ∷ js) (no_job_called m jobs is)
+    ∙ sym (ap (λ o. cond (some_is (λ n. n == j.number) o) (record j { waits = Some (kept_waiting m) }) j ∷ map (job_calling m) jobs) is)

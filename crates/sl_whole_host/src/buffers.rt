@@ -81,6 +81,14 @@ impl Buffers {
         self.left
     }
 
+    /// One place of each is given up, for what makes no effect.
+    pub fn spend(&mut self)
+        requires { 0 < self.old.left }
+        ensures { self.new ≡ record self.old { left = self.old.left - 1 } }
+    {
+        self.left -= 1;
+    }
+
     /// How many calls there are.
     pub fn calls(&self) -> u64
         ensures { result ≡ length self.now.made.calls }
