@@ -354,6 +354,16 @@ impl Holdings {
         }
     }
 
+    /// Whether there is one of those sought.
+    pub fn has(&self, sought: &Sought) -> bool
+        ensures { result ≡ is_some (find (fits sought.now) self.now.held) }
+    {
+        match self.find(sought) {
+            Some(_) => true,
+            None => false,
+        }
+    }
+
     /// The least process of those sought.
     pub fn least_holder(&self, sought: &Sought) -> Option<u32>
         ensures { result ≡ least_holder sought.now self.now.held }

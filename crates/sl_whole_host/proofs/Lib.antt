@@ -1,1 +1,3 @@
 pub mod BooksStand
+pub mod QuestionsStand
+pub mod DecidingStands

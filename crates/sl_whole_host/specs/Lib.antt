@@ -1,2 +1,4 @@
 pub mod Books
+pub mod Asking
 pub mod Promises
+pub mod Refusing

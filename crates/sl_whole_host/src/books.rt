@@ -55,22 +55,22 @@ impl Config {
 /// All that a host keeps but its members. Each table has memory for what the effects that are left may put into it.
 #[derive(Drop)]
 pub struct Books {
-    config: Config,
-    reading: u64,
-    before: u64,
-    entries: u64,
-    quiet_until: u64,
-    first_call: u64,
-    next_job: u64,
-    started: u32,
-    born: u64,
-    connected: Connections,
-    unanswered: OpenCalls,
-    jobs: Jobs,
-    holdings: Holdings,
-    children: Children,
-    programs: Programs,
-    made: Buffers,
+    pub(crate) config: Config,
+    pub(crate) reading: u64,
+    pub(crate) before: u64,
+    pub(crate) entries: u64,
+    pub(crate) quiet_until: u64,
+    pub(crate) first_call: u64,
+    pub(crate) next_job: u64,
+    pub(crate) started: u32,
+    pub(crate) born: u64,
+    pub(crate) connected: Connections,
+    pub(crate) unanswered: OpenCalls,
+    pub(crate) jobs: Jobs,
+    pub(crate) holdings: Holdings,
+    pub(crate) children: Children,
+    pub(crate) programs: Programs,
+    pub(crate) made: Buffers,
 }
 
 impl Model for Books {

@@ -8,7 +8,9 @@
 
 mod books;
 mod buffers;
+mod deciding;
 pub mod laws;
+mod questions;
 
 pub use books::{Books, Config};
 pub use buffers::Buffers;
