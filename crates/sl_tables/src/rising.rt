@@ -155,6 +155,14 @@ impl<T: Drop> Rising<T> {
         }
     }
 
+    /// What stands rises: it does nothing, and lets a proof know.
+    #[tactic(auto, using(crate::proofs::SlotsStand::items_rise))]
+    pub(crate) fn rises(&self)
+        ensures { AreRising self.now.items }
+    {
+        let _next = self.next;
+    }
+
     /// Above which number the next is.
     pub fn next(&self) -> u64
         ensures { result ≡ self.now.next }
