@@ -1,11 +1,15 @@
 -- The leases of a session, by place, and what a change of one of them makes of the list.
 use Rattle.sl_host_state.specs.Kept.{LeaseState}
-use Rattle.sl_host_state.specs.Makes.{is_lease_on, new_lease}
+use Rattle.sl_area.specs.Layouts.{Layout}
+use Rattle.sl_area.specs.Places.{in_area}
+use Rattle.sl_host_state.specs.Makes.{is_lease_on, leases_calling, new_lease}
+use Rattle.sl_host_state.specs.declared.kept.ValuePair.{ValuePair}
 use Rattle.sl_lease.specs.Bounds.{IsBegun}
-use Rattle.sl_lease.specs.Changes.{after_block, after_leader, after_reading}
-use Rattle.sl_leases.specs.Leases.{is_spot_before}
+use Rattle.sl_lease.specs.Changes.{after_block, after_leader, after_reading, after_value}
+use Rattle.sl_leases.specs.Leases.{is_lease_call, is_spot_before, spot_of_call}
 use Rattle.sl_sector.specs.Records.{Fits}
 use Rattle.sl_sector.specs.declared.sector.Rec.TheVariants.{BlockIs, LeaderIs}
+use Rattle.sl_trace.specs.Traces.{Submitted}
 use Rattle.sl_trace.specs.declared.effects.LeaseStep.{LeaseStep}
 use Rattle.sl_trace.specs.declared.effects.Op.TheVariants.{WriteRecord}
 use Rattle.sl_trace.specs.declared.effects.Op.{Op}
@@ -14,7 +18,7 @@ use Rattle.sl_trace.specs.declared.effects.Work.{Work}
 use Rattle.sl_words.specs.Orders.{put_in}
 use Rattle.std.specs.List.{AllByRecursion, list_any}
 use Rattle.std.proofs.Common.{suc, zero}
-use Rattle.std.specs.Prelude.{List, None, Option, Some, cond, false, length, map, slice_get, true, [], ℕ, ◌<◌, ◌∷◌, ◌≡◌, ◌≤◌}
+use Rattle.std.specs.Prelude.{Bool, List, None, Option, Some, bytes_eq, cond, false, length, map, not, slice_get, true, [], ℕ, ◌&&◌, ◌-◌, ◌<◌, ◌∷◌, ◌≡◌, ◌≤◌}
 
 -- The leases, and for how many more there is memory.
 pub record LeasesState : Type 0 where
@@ -75,3 +79,15 @@ IsKeepable op = Unit {0}
 -- The leases with one on the area: that which is there, else a new one.
 abbrev pub with_lease : Spot → List LeaseState → List LeaseState
 with_lease at ls = cond (list_any (is_lease_on at) ls) ls (put_in (λ a b. is_spot_before a.spot b.spot) (new_lease at) ls)
+
+-- A lease after the write of a value at this place, if that is on its area.
+abbrev pub value_set : Layout → List ℕ → ℕ → ValuePair → LeaseState → LeaseState
+value_set g path offset v l = cond (bytes_eq path l.spot.path && in_area g l.spot.base offset) (after_value v l) l
+
+-- Whether the call is the first of a lease: it takes a place.
+abbrev pub begins_lease : Layout → Submitted → List LeaseState → Bool
+begins_lease g m ls = is_lease_call m && not (list_any (is_lease_on (spot_of_call g m)) ls)
+
+-- The leases after a call of their session, and the room left.
+abbrev pub leases_after : Layout → Submitted → LeasesState → LeasesState
+leases_after g m v = record { leases = leases_calling g m v.leases; room = cond (begins_lease g m v.leases) (v.room - 1) v.room }

@@ -6,7 +6,7 @@ use Rattle.sl_host_state.specs.Kept.{Config, LeaseState, MemberState}
 use Rattle.sl_host_state.specs.Makes.{joining_calling, known_calling, leases_calling}
 use Rattle.sl_host_state.specs.New.{new_member}
 use Rattle.sl_lease.specs.declared.side.Side.{Side}
-use Rattle.sl_member.specs.Leases.{IsKeepable, changed_at}
+use Rattle.sl_member.specs.Leases.{IsKeepable, begins_lease, changed_at}
 use Rattle.sl_member.specs.Seen.{SeenBy}
 use Rattle.sl_area.specs.Layouts.{Layout}
 use Rattle.sl_delta.specs.Own.{IsOwnRecord}
@@ -24,7 +24,7 @@ use Rattle.sl_trace.specs.declared.effects.Purpose.{Purpose}
 use Rattle.sl_trace.specs.declared.effects.Spot.{Spot}
 use Rattle.sl_trace.specs.declared.input.Answer.{Answer}
 use Rattle.sl_watch.specs.Watches.{Watched}
-use Rattle.std.specs.Prelude.{Bool, Err, IfSome, List, Option, Some, false, is_some, not, true, ℕ, ◌&&◌, ◌<◌, ◌≡◌, ◌≤◌}
+use Rattle.std.specs.Prelude.{Bool, Err, IfSome, List, Option, Some, cond, false, is_some, not, true, ℕ, ◌&&◌, ◌-◌, ◌<◌, ◌≡◌, ◌≤◌}
 
 -- The run that a host and its members are of: times, sizes, the host's name.
 pub record RunOf : Type 0 where
@@ -93,6 +93,14 @@ blank_member r s = new_member (record { timing = r.timing; grace = 0; layout = l
 -- After a call of its own: `member_calling` where the call is its.
 abbrev pub member_called : Layout → Submitted → MemberState → MemberState
 member_called g m s = record s { known = known_calling m s.known; joining = joining_calling m s.joining; leases = leases_calling g m s.leases }
+
+-- The same of what code keeps.
+abbrev pub kept_called : Submitted → MemberKept → MemberKept
+kept_called m v =
+    record v {
+      state = member_called (layout_of v.run.sizes) m v.state;
+      room = cond (begins_lease (layout_of v.run.sizes) m v.state.leases) (v.room - 1) v.room;
+    }
 
 -- What such a call writes can be kept.
 pub record IsOwnCall (m : Submitted) : Type 0 where

@@ -7,17 +7,23 @@
 ghost use Rattle.sl_host_state.specs.Makes.{is_lease_on};
 ghost use Rattle.sl_lease.specs.Changes.{after_failure, after_read, after_write};
 ghost use Rattle.sl_leases.specs.Leases.{is_spot_before};
-ghost use Rattle.sl_member.specs.Leases.{AreByPlace, IsFound, IsGap, IsKeepable, IsPlaceOf, changed_at, lease_called, with_lease};
+ghost use Rattle.sl_area.specs.Layouts.{layout_of};
+ghost use Rattle.sl_trace.specs.Traces.{new_call};
+ghost use Rattle.sl_member.specs.Leases.{AreByPlace, IsFound, IsGap, IsKeepable, IsPlaceOf, begins_lease, changed_at, lease_called, leases_after, value_set, with_lease};
 ghost use Rattle.std.specs.List.{list_any};
-ghost use Rattle.std.specs.Prelude.{IfErr, IfOk, OnErr, OnOk, cond, false, find, length, max, option_map, slice_get, true, [], ◌+◌, ◌-◌, ◌<◌, ◌^◌, ◌≡◌, ◌≤◌};
+ghost use Rattle.std.specs.Prelude.{IfErr, IfOk, OnErr, OnOk, cond, false, find, length, map, max, option_map, slice_get, true, [], ◌+◌, ◌-◌, ◌<◌, ◌^◌, ◌≡◌, ◌≤◌};
 
+use crate::calls::{in_area, lease_step, spot_of, value_of};
+use sl_area::Geometry;
+use sl_host_state::ValuePair;
 use sl_lease::{Lease, Side};
 use sl_sector::{Block, Leader, Rec};
-use sl_trace::{LeaseStep, Op, Spot, Work};
+use sl_text::FilePath;
+use sl_trace::{Call, LeaseStep, Op, Spot, Work};
 use std::alloc::{AllocError, Global};
 use std::marker::Model;
 
-/// A session's leases, by place, with memory for some more: together fewer than 2^32.
+/// A session's leases, by place, with memory for some more.
 #[derive(Drop)]
 pub struct Leases {
     items: Vec<Lease>,
@@ -26,13 +32,13 @@ pub struct Leases {
 
 impl Model for Leases {
     ghost use Rattle.sl_member.specs.Leases.{AreByPlace, LeasesState};
-    ghost use Rattle.std.specs.Prelude.{vec_capacity, vec_len, ◌+◌, ◌<◌, ◌^◌, ◌≤◌};
+    ghost use Rattle.std.specs.Prelude.{vec_capacity, vec_len, ◌+◌, ◌≤◌};
 
     ghost Value = { LeasesState };
 
     ghost view = { λ l. record { leases = l.items.items; room = l.room } };
 
-    ghost invariant = { λ l. AreByPlace l.items.items × (vec_len l.items + l.room ≤ vec_capacity l.items) × (vec_len l.items + l.room < 2 ^ 32) };
+    ghost invariant = { λ l. AreByPlace l.items.items × (vec_len l.items + l.room ≤ vec_capacity l.items) };
 }
 
 /// Whether an area comes first: by path, then by base.
@@ -101,6 +107,31 @@ fn lease_called(lease: &mut Lease, number: u64, work: Work, step: LeaseStep, op:
     }
 }
 
+/// A value of this version is submitted at a place, on the area of a lease perhaps.
+fn set_value(lease: &mut Lease, geometry: &Geometry, path: &FilePath, offset: u64, value: ValuePair)
+    ensures { lease.new ≡ value_set (layout_of geometry.now) path.now offset value lease.old }
+{
+    let spot = lease.spot();
+    if path.as_slice() == spot.path.as_slice() && in_area(geometry, spot.base, offset) {
+        lease.sets_value(value);
+    }
+}
+
+/// The same for all of these.
+fn set_values(
+    leases: &mut [Lease],
+    geometry: &Geometry,
+    path: &FilePath,
+    offset: u64,
+    value: ValuePair,
+)
+    ensures { leases.new ≡ map (value_set (layout_of geometry.now) path.now offset value) leases.old }
+{
+    for lease in leases.iter_mut() {
+        set_value(lease, geometry, path, offset, value);
+    }
+}
+
 impl Leases {
     /// None.
     pub fn new(alloc: Global) -> Leases
@@ -114,7 +145,6 @@ impl Leases {
 
     /// Sees that there is memory for so many more. An `Err` is want of memory, and changes nothing.
     pub fn reserve(&mut self, room: usize) -> Result<(), AllocError>
-        requires { length self.old.leases + room < 2 ^ 32 }
         ensures ok { OnOk result (self.new ≡ record self.old { room = max self.old.room room }) }
         ensures err { OnErr result (self.new ≡ self.old) }
     {
@@ -128,7 +158,6 @@ impl Leases {
     /// How many there are.
     pub fn len(&self) -> usize
         ensures exact { result ≡ length self.now.leases }
-        ensures few { result + self.now.room < 2 ^ 32 }
         ensures by_place { AreByPlace self.now.leases }
     {
         self.items.len()
@@ -213,6 +242,58 @@ impl Leases {
         match search(&self.items, at) {
             Ok(place) => self.items[place].failed(),
             Err(_) => {}
+        }
+    }
+
+    /// A value of this version is submitted at a place.
+    pub fn sets_value(
+        &mut self,
+        geometry: &Geometry,
+        path: &FilePath,
+        offset: u64,
+        value: ValuePair,
+    )
+        ensures { self.new ≡ record self.old { leases = map (value_set (layout_of geometry.now) path.now offset value) self.old.leases } }
+    {
+        set_values(&mut self.items, geometry, path, offset, value);
+    }
+
+    /// Whether a call of their session is the first of a lease.
+    pub fn begins(&self, geometry: &Geometry, call: &Call) -> bool
+        ensures { result ≡ begins_lease (layout_of geometry.now) (new_call 0 0 call.now) self.now.leases }
+    {
+        match lease_step(&call.purpose) {
+            Some(_) => !self.has(&spot_of(geometry, call)),
+            None => false,
+        }
+    }
+
+    /// Whether there is a lease on an area.
+    fn has(&self, at: &Spot) -> bool
+        ensures { result ≡ list_any (is_lease_on at.now) self.now.leases }
+    {
+        match search(&self.items, at) {
+            Ok(_) => true,
+            Err(_) => false,
+        }
+    }
+
+    /// A call of their session is submitted.
+    pub fn calling(&mut self, geometry: &Geometry, call: &Call)
+        requires keepable { IsKeepable call.now.op }
+        requires room { begins_lease (layout_of geometry.now) (new_call 0 0 call.now) self.old.leases ≡ true → 0 < self.old.room }
+        ensures { self.new ≡ leases_after (layout_of geometry.now) (new_call 0 0 call.now) self.old }
+    {
+        match lease_step(&call.purpose) {
+            Some((work, step)) => {
+                let at = spot_of(geometry, call);
+                self.open(at);
+                self.called(&at, call.number, work, step, &call.op);
+            }
+            None => match value_of(&call.op) {
+                Some(value) => self.sets_value(geometry, &call.path, call.offset, value),
+                None => {}
+            },
         }
     }
 }

@@ -18,11 +18,13 @@ ghost use Rattle.sl_host_state.specs.Makes.{is_lease_on};
 ghost use Rattle.sl_lease.specs.Bounds.{IsSession};
 ghost use Rattle.sl_lease.specs.Changes.{after_failure, after_read, after_write};
 ghost use Rattle.sl_member.specs.Asked.{bits_within};
-ghost use Rattle.sl_member.specs.Members.{RunOf, blank_member, delta_lease, leaving_begun, lease_changed, own_of, own_told, owner_in, recovery_begun, renewal_counted, seen_in, side_in};
+ghost use Rattle.sl_member.specs.Leases.{begins_lease};
+ghost use Rattle.sl_member.specs.Members.{IsOwnCall, RunOf, blank_member, delta_lease, kept_called, leaving_begun, lease_changed, own_of, own_told, owner_in, recovery_begun, renewal_counted, seen_in, side_in};
 ghost use Rattle.sl_sector.specs.Records.{Fits};
 ghost use Rattle.sl_sessions.specs.Deltas.{next_free, next_renewal};
 ghost use Rattle.sl_sessions.specs.Sessions.{given_number, is_join_call};
 ghost use Rattle.sl_text.specs.Names.{is_name};
+ghost use Rattle.sl_trace.specs.Traces.{new_call};
 ghost use Rattle.sl_trace.specs.declared.effects.JoinStep.TheVariants.{FirstRead};
 ghost use Rattle.sl_trace.specs.declared.effects.Purpose.TheVariants.{Joining};
 ghost use Rattle.sl_trace.specs.declared.input.Answer.{Answer};
@@ -31,6 +33,7 @@ ghost use Rattle.sl_words.specs.Bounds.{moments};
 ghost use Rattle.std.specs.Prelude.{IfOk, IfSome, IsTrue, None, OnErr, OnOk, Some, bytes_eq, false, find, is_none, is_some, length, max, not, option_map, slice_get, true, ℕ, ◌&&◌, ◌*◌, ◌+◌, ◌<◌, ◌==◌, ◌^◌, ◌≡◌, ◌≤◌};
 
 use crate::asked::Asked;
+use crate::calls::delta_of;
 use crate::leases::Leases;
 use crate::seen::{Seen, tell_all};
 use sl_area::Geometry;
@@ -42,7 +45,7 @@ use sl_sectors::Images;
 use sl_sessions::{Begun, DeltaKnown, DeltaNext, Renewing, Session};
 use sl_text::Name;
 use sl_time::Timing;
-use sl_trace::{JoinStep, Purpose, Spot};
+use sl_trace::{Call, JoinStep, Purpose, Spot};
 use sl_watch::Watch;
 use std::alloc::{AllocError, Global};
 use std::marker::Model;
@@ -147,7 +150,6 @@ impl Member {
 
     /// Sees that there is memory for so many more leases. An `Err` is want of memory, and changes nothing.
     pub fn reserve(&mut self, room: usize) -> Result<(), AllocError>
-        requires { length self.old.state.leases + room < 2 ^ 32 }
         ensures ok { OnOk result (self.new ≡ record self.old { room = max self.old.room room }) }
         ensures err { OnErr result (self.new ≡ self.old) }
     {
@@ -212,7 +214,8 @@ impl Member {
         ensures claimed { self.now.state.joined ≡ true → 1 ≤ result.generation }
         ensures place { (1 ≤ self.now.state.who.id) × (self.now.state.who.id ≤ self.now.run.sizes.hosts) }
     {
-        self.own.known(self.renewing.recovery.is_some(), self.leaves_for)
+        self.own
+            .known(self.renewing.recovery.is_some(), self.leaves_for)
     }
 
     /// The session as ballots name it.
@@ -324,6 +327,27 @@ impl Member {
         ensures fit { self.now.state.joined ≡ true → IsFitNext result }
     {
         self.own.free(now, self.leaves_for)
+    }
+
+    // ---- what a call makes of it
+
+    /// Whether a call of it is the first of a lease.
+    pub fn begins_lease(&self, call: &Call) -> bool
+        ensures { result ≡ begins_lease (layout_of self.now.run.sizes) (new_call 0 0 call.now) self.now.state.leases }
+    {
+        self.leases.begins(&self.geometry, call)
+    }
+
+    /// A call of it is submitted at the reading `now`. It counts from here on, whatever comes of it. The first call of a lease takes a
+    /// place.
+    pub fn calling(&mut self, now: u64, call: &Call)
+        requires moment { now < moments }
+        requires own { IsOwnCall (new_call 0 now call.now) }
+        requires room { begins_lease (layout_of self.old.run.sizes) (new_call 0 now call.now) self.old.state.leases ≡ true → 0 < self.old.room }
+        ensures { (at : ℕ) → self.new ≡ kept_called (new_call at now call.now) self.old }
+    {
+        self.own.called(now, &call.purpose, &delta_of(&call.op));
+        self.leases.calling(&self.geometry, call);
     }
 
     // ---- what answers make of it

@@ -32,7 +32,6 @@ invariant_of-self c =
       subst AreByPlace (sym (e.items ∙ ap (insert items c.in-Err.place) c.new.ensures))
           (gap_rises (new_lease c.args.at) items c.in-Err.place i.0 (gap_in c.args.at _ items c.in-Err.place c.deref.ensures.value c.in-Err.ensures.gap)),
       omega (arith, some, i.1, e.len, e.capacity),
-      omega (arith, some, i.2, e.len),
     )
 
 pub returns-in-Ok-clause-leases : goal.returns-in-Ok-clause-leases

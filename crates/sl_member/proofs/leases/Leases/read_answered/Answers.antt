@@ -11,7 +11,6 @@ invariant_of-self c =
       changed_rises c.args.at.now items c.in-Ok.place c.index_mut.result.now _ i.0 (found_in c.args.at.now _ items c.in-Ok.place c.deref.ensures.value c.in-Ok.ensures.found)
           c.index_mut.ensures.value (ap (λ l. l.spot) c.read_answered.ensures ∙ read_stays c.args.side.now c.args.heeded c.args.leader.now c.args.blocks.now c.index_mut.result.now),
       i.1,
-      i.2,
     )
 
 pub returns-in-Ok : goal.returns-in-Ok

@@ -1,0 +1,381 @@
+//! The members of a host together, by lockspace name.
+//!
+//! There are few, so one is looked for from the first on. Each is of the host's run, no two have one number, and each has memory for so
+//! many more leases (`room`); there is memory for so many more members (`places`). Only `put` and `reserve` ask for memory or take it.
+
+ghost use Rattle.sl_area.specs.Layouts.{layout_of};
+ghost use Rattle.sl_delta.specs.Own.{answer_in};
+ghost use Rattle.sl_host_state.specs.Hears.{asked_at};
+ghost use Rattle.sl_host_state.specs.Kept.{MemberState};
+ghost use Rattle.sl_host_state.specs.Makes.{with_member};
+ghost use Rattle.sl_lease.specs.Changes.{after_failure, after_read, after_write};
+ghost use Rattle.sl_member.specs.Members.{IsOwnCall, leaving_begun, lease_changed, member_called, own_told, recovery_begun, renewal_counted};
+ghost use Rattle.sl_member.specs.Together.{begins_among, changed_member, member_with, side_with, told_survey};
+ghost use Rattle.sl_sessions.specs.Sessions.{is_join_call};
+ghost use Rattle.sl_trace.specs.Traces.{new_call};
+ghost use Rattle.sl_trace.specs.declared.effects.JoinStep.TheVariants.{FirstRead};
+ghost use Rattle.sl_trace.specs.declared.effects.Purpose.TheVariants.{Joining};
+ghost use Rattle.sl_trace.specs.declared.input.Answer.{Answer};
+ghost use Rattle.sl_words.specs.Bounds.{moments};
+ghost use Rattle.sl_words.specs.Orders.{is_text_before};
+ghost use Rattle.sl_words.specs.Words.{some_is};
+ghost use Rattle.std.specs.Prelude.{IfSome, None, Some, bytes_eq, cond, false, filter, find, length, not, option_map, position, slice_get, true, unwrap_or, [], ℕ, ◌&&◌, ◌*◌, ◌-◌, ◌<◌, ◌==◌, ◌^◌, ◌≡◌, ◌≤◌};
+
+use crate::member::Member;
+use sl_area::Geometry;
+use sl_delta::SectorAnswer;
+use sl_sector::{Block, HostId, Leader};
+use sl_sectors::Images;
+use sl_sessions::Begun;
+use sl_text::Name;
+use sl_time::Timing;
+use sl_trace::{Call, Purpose, Spot};
+use std::alloc::Global;
+use std::marker::Model;
+
+/// The members of a host.
+#[derive(Drop)]
+pub struct Members {
+    timing: Timing,
+    geometry: Geometry,
+    host: Name,
+    items: Vec<Member>,
+    places: usize,
+    room: usize,
+}
+
+impl Model for Members {
+    ghost use Rattle.sl_member.specs.Together.{AreMembers, MembersState};
+    ghost use Rattle.std.specs.Prelude.{map, vec_capacity, vec_len, ◌+◌, ◌≤◌};
+
+    ghost Value = { MembersState };
+
+    ghost view = { λ m. record {
+      run = record { timing = m.timing; sizes = m.geometry; host = m.host };
+      members = map (λ k. k.state) m.items.items;
+      places = m.places;
+      room = m.room;
+    } };
+
+    ghost invariant = { λ m. AreMembers (record { timing = m.timing; sizes = m.geometry; host = m.host }) m.room m.items.items × (vec_len m.items + m.places ≤ vec_capacity m.items) };
+}
+
+/// Whether a member has this number.
+fn has_number(member: &Member, number: u64) -> bool
+    ensures { result ≡ (number == member.now.state.who.number) }
+{
+    number == member.who().number
+}
+
+/// The place of the member of this number.
+fn place_of(items: &[Member], number: u64) -> Option<usize>
+    ensures exact { result ≡ position (λ m. number == m.state.who.number) items.now }
+    ensures within { IfSome result (λ k. k < length items.now) }
+{
+    items.iter().position(|member| has_number(member, number))
+}
+
+/// The room that is left once a lease has begun, or not.
+fn left(room: usize, begins: bool) -> usize
+    requires { begins ≡ true → 0 < room }
+    ensures { result ≡ cond begins (room - 1) room }
+{
+    if begins { room - 1 } else { room }
+}
+
+/// Whether a member's lockspace comes behind this one.
+fn is_behind(member: &Member, lockspace: &Name) -> bool
+    ensures { result ≡ is_text_before lockspace.now member.now.state.who.lockspace }
+{
+    lockspace.is_before(&member.who().lockspace)
+}
+
+/// The place for a member of this lockspace: before the first that comes behind.
+fn gap_of(items: &[Member], lockspace: &Name) -> usize
+    ensures exact { result ≡ unwrap_or (position (λ m. is_text_before lockspace.now m.state.who.lockspace) items.now) (length items.now) }
+    ensures within { result ≤ length items.now }
+{
+    match place_behind(items, lockspace) {
+        Some(place) => place,
+        None => items.len(),
+    }
+}
+
+/// The place of the first member whose lockspace comes behind this one.
+fn place_behind(items: &[Member], lockspace: &Name) -> Option<usize>
+    ensures exact { result ≡ position (λ m. is_text_before lockspace.now m.state.who.lockspace) items.now }
+    ensures within { IfSome result (λ k. k < length items.now) }
+{
+    items.iter().position(|member| is_behind(member, lockspace))
+}
+
+/// The first member of this lockspace.
+fn find_named<'a>(items: &'a [Member], lockspace: &Name) -> Option<&'a Member>
+    ensures { option_map (λ m. m.now) result ≡ find (λ m. bytes_eq m.state.who.lockspace lockspace.now) items.entry.now }
+{
+    items.iter().find(|member| member.is_named(lockspace))
+}
+
+/// The first member that is for this job.
+fn find_for<'a>(items: &'a [Member], job: u64) -> Option<&'a Member>
+    ensures { option_map (λ m. m.now) result ≡ find (λ m. some_is (λ j. j == job) m.state.who.job) items.entry.now }
+{
+    items.iter().find(|member| is_for(member, job))
+}
+
+/// Whether a member is for this job.
+fn is_for(member: &Member, job: u64) -> bool
+    ensures { result ≡ some_is (λ j. j == job) member.now.state.who.job }
+{
+    match member.who().job {
+        Some(number) => number == job,
+        None => false,
+    }
+}
+
+/// Whether a member is joined and of this lockspace.
+fn is_joined_as(member: &Member, lockspace: &Name) -> bool
+    ensures { result ≡ (member.now.state.joined && bytes_eq member.now.state.who.lockspace lockspace.now) }
+{
+    member.is_joined() && member.is_named(lockspace)
+}
+
+impl Members {
+    /// None, of this run.
+    pub fn new(alloc: Global, timing: &Timing, geometry: &Geometry, host: Name) -> Members
+        ensures { result ≡ record { run = record { timing = timing.now; sizes = geometry.now; host = host }; members = []; places = 0; room = 0 } }
+    {
+        Members {
+            timing: *timing,
+            geometry: *geometry,
+            host,
+            items: Vec::new(alloc),
+            places: 0,
+            room: 0,
+        }
+    }
+
+    /// How many there are.
+    pub fn len(&self) -> usize
+        ensures { result ≡ length self.now.members }
+    {
+        self.items.len()
+    }
+
+    /// The member at this place.
+    pub fn nth(&self, place: usize) -> &Member
+        requires { place < length self.now.members }
+        ensures { slice_get self.now.members place ≡ Some result.now.state }
+    {
+        &self.items[place]
+    }
+
+    /// The member of this number, if there is one.
+    pub fn numbered(&self, number: u64) -> Option<&Member>
+        ensures exact { option_map (λ m. m.now.state) result ≡ member_with number self.now.members }
+        ensures run { IfSome result (λ m. m.now.run ≡ self.now.run) }
+    {
+        match place_of(&self.items, number) {
+            Some(place) => Some(&self.items[place]),
+            None => None,
+        }
+    }
+
+    /// The member of this lockspace, if there is one.
+    pub fn named(&self, lockspace: &Name) -> Option<&Member>
+        ensures { option_map (λ m. m.now.state) result ≡ find (λ s. bytes_eq s.who.lockspace lockspace.now) self.now.members }
+    {
+        find_named(&self.items, lockspace)
+    }
+
+    /// The member whose joining is this job, if there is one.
+    pub fn joining(&self, job: u64) -> Option<&Member>
+        ensures { option_map (λ m. m.now.state) result ≡ find (λ s. some_is (λ j. j == job) s.who.job) self.now.members }
+    {
+        find_for(&self.items, job)
+    }
+
+    /// One more member, with a number of its own, by lockspace name.
+    pub fn put(&mut self, member: Member)
+        requires place { 0 < self.old.places }
+        requires run { member.run ≡ self.old.run }
+        requires room { self.old.room ≤ member.room }
+        requires new { member_with member.state.who.number self.old.members ≡ None }
+        ensures { self.new ≡ record self.old { members = with_member member.state self.old.members; places = self.old.places - 1 } }
+    {
+        let place = gap_of(&self.items, &member.who().lockspace);
+        match self.items.insert(place, member) {
+            Ok(()) => self.places -= 1,
+            Err(_) => unreachable!(),
+        }
+    }
+
+    /// The member of this number goes.
+    pub fn remove(&mut self, number: u64)
+        ensures { self.new ≡ record self.old { members = filter (λ s. not (number == s.who.number)) self.old.members } }
+    {
+        self.items.retain(|member| !has_number(member, number));
+    }
+
+    /// The joined members of this lockspace go.
+    pub fn remove_joined(&mut self, lockspace: &Name)
+        ensures { self.new ≡ record self.old { members = filter (λ s. not (s.joined && bytes_eq s.who.lockspace lockspace.now)) self.old.members } }
+    {
+        self.items.retain(|member| !is_joined_as(member, lockspace));
+    }
+
+    /// A call of the member of this session is submitted at the reading `now`. The first call of a lease takes a place.
+    pub fn calling(&mut self, now: u64, call: &Call)
+        requires moment { now < moments }
+        requires own { IsOwnCall (new_call 0 now call.now) }
+        requires room { begins_among self.old.run (new_call 0 now call.now) self.old.members ≡ true → 0 < self.old.room }
+        ensures { (at : ℕ) → self.new ≡ record self.old {
+          members = changed_member call.now.session (member_called (layout_of self.old.run.sizes) (new_call at now call.now)) self.old.members;
+          room = cond (begins_among self.old.run (new_call 0 now call.now) self.old.members) (self.old.room - 1) self.old.room;
+        } }
+    {
+        match place_of(&self.items, call.session) {
+            Some(place) => {
+                let begins = self.items[place].begins_lease(call);
+                self.items[place].calling(now, call);
+                self.room = left(self.room, begins);
+            }
+            None => {}
+        }
+    }
+
+    /// The first read of the joining of this number's member was answered so.
+    pub fn first_answered(&mut self, number: u64, now: u64, answer: SectorAnswer)
+        requires { now < moments }
+        ensures { (j : ℕ) → self.new ≡ record self.old { members = changed_member number (own_told (Joining j FirstRead) (answer_in answer) now) self.old.members } }
+    {
+        match place_of(&self.items, number) {
+            Some(place) => self.items[place].first_answered(now, answer),
+            None => {}
+        }
+    }
+
+    /// Another call of it was answered.
+    pub fn own_answered(&mut self, number: u64, now: u64, purpose: &Purpose)
+        requires moment { now < moments }
+        requires later { is_join_call FirstRead purpose.now ≡ false }
+        ensures { (a : Answer) → self.new ≡ record self.old { members = changed_member number (own_told purpose.now a now) self.old.members } }
+    {
+        match place_of(&self.items, number) {
+            Some(place) => self.items[place].own_answered(now, purpose),
+            None => {}
+        }
+    }
+
+    /// Its read of all ids, submitted at the reading `before` and answered at `after`, gave these sectors.
+    pub fn surveyed(&mut self, number: u64, before: u64, after: u64, sectors: &Images)
+        requires size { sectors.now.size ≡ self.old.run.sizes.sector }
+        requires many { length sectors.now.bytes ≡ self.old.run.sizes.hosts * self.old.run.sizes.sector }
+        ensures { self.new ≡ record self.old { members = changed_member number (told_survey self.old.run before after sectors.now.bytes) self.old.members } }
+    {
+        match place_of(&self.items, number) {
+            Some(place) => self.items[place].surveyed(before, after, sectors),
+            None => {}
+        }
+    }
+
+    /// A request to the host of an id was answered ok.
+    pub fn asked_answered(&mut self, number: u64, now: u64, owner: HostId)
+        requires { 1 ≤ owner }
+        ensures { self.new ≡ record self.old { members = changed_member number (λ s. record s { asked = asked_at now owner s.asked }) self.old.members } }
+    {
+        match place_of(&self.items, number) {
+            Some(place) => self.items[place].asked_answered(now, owner),
+            None => {}
+        }
+    }
+
+    /// A renewal of it that was submitted at this reading counts.
+    pub fn renewed(&mut self, number: u64, reading: u64)
+        ensures { self.new ≡ record self.old { members = changed_member number (renewal_counted reading) self.old.members } }
+    {
+        match place_of(&self.items, number) {
+            Some(place) => self.items[place].renewed(reading),
+            None => {}
+        }
+    }
+
+    /// Its recovery begins.
+    pub fn recovers(&mut self, number: u64, begun: Begun)
+        ensures { self.new ≡ record self.old { members = changed_member number (recovery_begun begun) self.old.members } }
+    {
+        match place_of(&self.items, number) {
+            Some(place) => self.items[place].recovers(begun),
+            None => {}
+        }
+    }
+
+    /// Its leaving begins, for this job.
+    pub fn leaves(&mut self, number: u64, begun: Begun, job: u64)
+        ensures { self.new ≡ record self.old { members = changed_member number (leaving_begun begun job) self.old.members } }
+    {
+        match place_of(&self.items, number) {
+            Some(place) => self.items[place].leaves(begun, job),
+            None => {}
+        }
+    }
+
+    /// Its joining is done: it has written its claim.
+    pub fn joins(&mut self, number: u64)
+        requires { (s : MemberState) → member_with number self.old.members ≡ Some s → 1 ≤ s.known.generation }
+        ensures { self.new ≡ record self.old { members = changed_member number (λ s. record s { joined = true }) self.old.members } }
+    {
+        match place_of(&self.items, number) {
+            Some(place) => self.items[place].joins(),
+            None => {}
+        }
+    }
+
+    /// Its joining was refused.
+    pub fn refuses(&mut self, number: u64)
+        ensures { self.new ≡ record self.old { members = changed_member number (λ s. record s { refused = true }) self.old.members } }
+    {
+        match place_of(&self.items, number) {
+            Some(place) => self.items[place].refuses(),
+            None => {}
+        }
+    }
+
+    /// The read for which its lease on an area waits gave these; it is heeded while its work goes on.
+    pub fn lease_read(
+        &mut self,
+        number: u64,
+        at: &Spot,
+        leader: &Option<Leader>,
+        blocks: &[Option<Block>],
+        heeded: bool,
+    )
+        requires { length blocks.now < 2 ^ 32 }
+        ensures { self.new ≡ record self.old { members = changed_member number (λ s. lease_changed at.now (after_read (side_with self.old.run s) heeded leader.now blocks.now) s) self.old.members } }
+    {
+        match place_of(&self.items, number) {
+            Some(place) => self.items[place].lease_read(at, leader, blocks, heeded),
+            None => {}
+        }
+    }
+
+    /// The write for which its lease on an area waits is done.
+    pub fn lease_written(&mut self, number: u64, at: &Spot)
+        ensures { self.new ≡ record self.old { members = changed_member number (lease_changed at.now after_write) self.old.members } }
+    {
+        match place_of(&self.items, number) {
+            Some(place) => self.items[place].lease_written(at),
+            None => {}
+        }
+    }
+
+    /// The call for which its lease on an area waits has failed.
+    pub fn lease_failed(&mut self, number: u64, at: &Spot)
+        ensures { self.new ≡ record self.old { members = changed_member number (lease_changed at.now after_failure) self.old.members } }
+    {
+        match place_of(&self.items, number) {
+            Some(place) => self.items[place].lease_failed(at),
+            None => {}
+        }
+    }
+}
