@@ -238,6 +238,7 @@ impl OpenCalls {
     pub fn pending(&self, spot: &Spot) -> Option<u64>
         ensures first { result ≡ first_on self.now.area spot.now self.now.calls }
         ensures least { result ≡ least_on self.now.area spot.now self.now.calls }
+        ensures area { 0 < self.now.area }
     {
         self.calls.rises();
         self.firsts.get(&Area::at(*spot)).copied()

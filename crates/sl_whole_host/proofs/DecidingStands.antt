@@ -1,22 +1,33 @@
 -- What is found of a member's holdings.
+use Rattle.sl_due.specs.declared.decision.Decision.TheVariants.{Requests}
+use Rattle.std.proofs.Common.{sym}
+use Rattle.sl_whole_host.specs.Promises.{DecisionsAreTaken}
+use Rattle.sl_whole_host.specs.Refusing.{release_in, request_in}
+use Rattle.sl_leases.specs.Leases.{spot_of}
+use Rattle.sl_decide_law.specs.Deciding.{member_named, member_refusal, pending_refused, process_refused, serving_holding, with_member}
+use Rattle.sl_host_state.specs.Kept.{HostState, MemberState}
+use Rattle.sl_words.specs.Words.{choose}
 use Rattle.sl_tables.specs.Holdings.{fits, is_holder, is_in_mode}
 use Rattle.sl_tables.specs.declared.holdings.Holder.TheVariants.{Anyone, Is}
 use Rattle.sl_tables.specs.declared.holdings.Holder.{Holder}
-use Rattle.sl_trace.specs.Traces.{is_shared, same_place}
+use Rattle.sl_trace.specs.Traces.{is_orphan, is_shared, same_place}
 use Rattle.sl_trace.specs.declared.effects.Grant.{Grant}
 use Rattle.sl_trace.specs.declared.effects.Mode.TheVariants.{Exclusive, Shared}
 use Rattle.sl_trace.specs.declared.effects.Mode.{Mode}
 use Rattle.sl_trace.specs.declared.effects.Spot.{Spot}
 use Rattle.sl_whole_host.proofs.QuestionsStand.{find_found}
 use Rattle.sl_whole_host.specs.Asking.{held_under, sought_on}
-use Rattle.sl_whole_host.specs.Refusing.{shared_beside}
-use Rattle.sl_due.specs.declared.decision.Decision.TheVariants.{ReadsArea, Shares}
+use Rattle.sl_whole_host.specs.Refusing.{first_refusal, refused_or, shared_beside}
+use Rattle.sl_due.specs.DueCommands.{unless_refused}
+use Rattle.sl_trace.specs.declared.reply.Reply.{Reply}
+use Rattle.sl_trace.specs.declared.reply.Reply.TheVariants.{NotHeld}
+use Rattle.sl_due.specs.declared.decision.Decision.TheVariants.{GivesUp, ReadsArea, Replies, Shares}
 use Rattle.sl_due.specs.declared.decision.Decision.{Decision}
 use Rattle.sl_sessions.specs.declared.session.Session.{Session}
 use Rattle.sl_trace.specs.declared.command.ResourceArg.{ResourceArg}
 use Rattle.std.proofs.Common.{ap, refl, ◌∙◌}
 use Rattle.std.specs.Option.{option_map_or}
-use Rattle.std.specs.Prelude.{Bool, List, None, Option, Some, cond, false, filter, find, not, option_map, true, ℕ, ◌&&◌, ◌==◌, ◌≡◌}
+use Rattle.std.specs.Prelude.{Bool, List, None, Option, Some, cond, false, filter, find, is_none, is_some, not, option_map, true, [], ℕ, ◌∷◌, ◌&&◌, ◌==◌, ◌≡◌}
 
 abbrev here : Spot → Grant → Bool
 here at g = same_place g.path g.offset at.path at.base
@@ -56,8 +67,8 @@ pub exclusive_of_process : (session p : ℕ) (at : Spot) (held : List Grant)
     → find (fits (sought_on (Is p) session at (Some Exclusive))) held ≡ find (λ g. g.process == p && not (is_shared g.mode)) (on_area session at held)
 exclusive_of_process session p at held = found_on session at (Is p) (Some Exclusive) (λ g. g.process == p && not (is_shared g.mode)) (λ g. refl) held
 
-pub any_orphan : (session : ℕ) (at : Spot) (held : List Grant) → find (fits (sought_on (Is 0) session at None)) held ≡ find (λ g. g.process == 0) (on_area session at held)
-any_orphan session at held = found_on session at (Is 0) None (λ g. g.process == 0) (λ g. ends_true (g.process == 0)) held
+pub any_orphan : (session : ℕ) (at : Spot) (held : List Grant) → find (fits (sought_on (Is 0) session at None)) held ≡ find is_orphan (on_area session at held)
+any_orphan session at held = found_on session at (Is 0) None is_orphan (λ g. ends_true (g.process == 0)) held
 
 abbrev pub by_instance : Session → ResourceArg → Option ℕ → Decision
 by_instance s r None = ReadsArea s r
@@ -76,3 +87,47 @@ shares s r held true = by (find (λ g. is_shared g.mode) held)
     by : (o : Option Grant) → by_instance s r (option_map (λ (g : Grant). g.lver) o) ≡ by_holding s r o
     by None = refl
     by (Some g) = refl
+
+-- ---- refusals in order
+
+-- The first refusal decides, or what is begun.
+pub refused_first : (rs : List (Option Reply)) (d : Decision) → unless_refused rs d ≡ refused_or (first_refusal rs) d
+refused_first [] d = refl
+refused_first (None ∷ rs) d = refused_first rs d
+refused_first (Some why ∷ rs) d = refl
+
+missing_is : (o : Option Grant) → not (is_some o) ≡ is_none o
+missing_is None = refl
+missing_is (Some g) = refl
+
+-- A release and a request are decided so by the member of the resource's lockspace.
+pub releases_are : (h : HostState) (m : MemberState) (r : ResourceArg) (p : ℕ) → release_in h m r p
+    ≡ unless_refused (member_refusal m
+    ∷ process_refused h p
+    ∷ choose (is_none (serving_holding h m (spot_of r) p (λ g. true))) NotHeld
+    ∷ pending_refused h (spot_of r) ∷ []) (option_map_or (λ g. GivesUp m.who g) (serving_holding h m (spot_of r) p (λ g. true)) (Replies NotHeld))
+releases_are h m r p =
+    let o = serving_holding h m (spot_of r) p (λ g. true) in
+    let d = option_map_or (λ g. GivesUp m.who g) o (Replies NotHeld) in
+    sym (refused_first (member_refusal m ∷ process_refused h p ∷ choose (not (is_some o)) NotHeld ∷ pending_refused h (spot_of r) ∷ []) d)
+    ∙ ap (λ (b : Bool). unless_refused (member_refusal m ∷ process_refused h p ∷ choose b NotHeld ∷ pending_refused h (spot_of r) ∷ []) d) (missing_is o)
+
+pub requests_are : (h : HostState) (m : MemberState) (r : ResourceArg) → request_in h m r ≡ unless_refused (member_refusal m ∷ pending_refused h (spot_of r) ∷ []) (Requests m.who r)
+requests_are h m r = sym (refused_first (member_refusal m ∷ pending_refused h (spot_of r) ∷ []) (Requests m.who r))
+
+pub decisions_are : DecisionsAreTaken
+decisions_are h =
+    record { releases = λ r p. by_release r p (member_named h r.lockspace); requests = λ r. by_request r (member_named h r.lockspace) }
+  where
+    by_release : (r : ResourceArg) (p : ℕ) (o : Option MemberState) → with_member o (λ m. release_in h m r p)
+        ≡ with_member o (λ m.
+        unless_refused (member_refusal m
+        ∷ process_refused h p
+        ∷ choose (is_none (serving_holding h m (spot_of r) p (λ g. true))) NotHeld
+        ∷ pending_refused h (spot_of r) ∷ []) (option_map_or (λ g. GivesUp m.who g) (serving_holding h m (spot_of r) p (λ g. true)) (Replies NotHeld)))
+    by_release r p None = refl
+    by_release r p (Some m) = releases_are h m r p
+
+    by_request : (r : ResourceArg) (o : Option MemberState) → with_member o (λ m. request_in h m r) ≡ with_member o (λ m. unless_refused (member_refusal m ∷ pending_refused h (spot_of r) ∷ []) (Requests m.who r))
+    by_request r None = refl
+    by_request r (Some m) = requests_are h m r

@@ -1,4 +1,15 @@
 -- What a table finds is what the definitions ask for.
+use Rattle.sl_decide_law.specs.Deciding.{is_open_on}
+use Rattle.std.specs.Prelude.{bytes_eq, nat_le, nat_lt, ◌%◌, ◌*◌, ◌+◌, ◌-◌, ◌/◌, ◌<◌, ◌≤◌}
+use Rattle.std.specs.Cmp.Lexicographic.{nat_list_eq_equiv}
+use Rattle.sl_tables.specs.Opens.{is_on_area, least_on}
+use Rattle.sl_host_state.specs.declared.kept.OpenCall.{OpenCall}
+use Rattle.sl_area.specs.Layouts.{Layout, Sizes, layout_of}
+use Rattle.std.proofs.lemmas.Bool.{cases_lt, le-leb, leb-true, lt-ltb}
+use Rattle.std.proofs.lemmas.Bool.Decides.{Decides-eqb, Decides-ltb}
+use Rattle.sl_words.proofs.WordLaws.{and_true}
+use Rattle.std.proofs.Math.Nat.{div-add-mod, mul-le-mul_left}
+use Rattle.std.proofs.Common.{arith, inl, inr, mod-lt, subst, sym, true≢false}
 use Rattle.sl_tables.specs.Children.{child_of}
 use Rattle.sl_tables.specs.Holdings.{fits, least_holder}
 use Rattle.sl_tables.specs.declared.children.ChildState.{ChildState}
@@ -11,7 +22,7 @@ use Rattle.sl_whole_host.specs.Asking.{held_under}
 use Rattle.sl_words.specs.Words.{choose, least, some_is}
 use Rattle.std.proofs.Common.{ap, refl, ◌∙◌}
 use Rattle.std.specs.List.{list_any}
-use Rattle.std.specs.Prelude.{Bool, List, None, Option, Some, [], cond, false, filter, find, is_some, map, not, true, ℕ, ◌&&◌, ◌==◌, ◌∷◌, ◌≡◌, ◌||◌}
+use Rattle.std.specs.Prelude.{Bool, List, None, Option, Some, [], bytes_eq, cond, false, filter, find, is_some, map, nat_le, nat_lt, not, true, ℕ, ◌%◌, ◌&&◌, ◌*◌, ◌+◌, ◌-◌, ◌/◌, ◌<◌, ◌==◌, ◌∷◌, ◌≡◌, ◌≤◌, ◌||◌}
 
 -- ---- children
 
@@ -108,3 +119,74 @@ pub orphans_under : (session : ℕ) (held : List Grant)
     → is_some (find (fits (record { holder = Is 0; session = Some session; spot = None; mode = None })) held) ≡ list_any is_orphan (held_under session held)
 orphans_under session held =
     any_found (fits (record { holder = Is 0; session = Some session; spot = None; mode = None })) (λ g. g.session == session) is_orphan (λ g. under_is (g.process == 0) (g.session == session)) held
+
+-- ---- open calls on an area
+
+one_multiple : (size p q r s : ℕ) → r < size → s < size → size * p + r ≡ size * q + s → p ≡ q
+one_multiple size p q r s low low' same =
+    elim (cases_lt p q) [
+      | inl less ↦ absurd (let more : size * (p + 1) ≤ size * q = mul-le-mul_left size (omega (arith, less)) in omega (arith, more, low, low', same))
+      | inr up ↦
+          elim (cases_lt q p) [
+            | inl less ↦ absurd (let more : size * (q + 1) ≤ size * p = mul-le-mul_left size (omega (arith, less)) in omega (arith, more, low, low', same))
+            | inr down ↦ omega (arith, up, down)
+          ]
+    ]
+
+-- What begins at a multiple of a size, and stays within it, begins there.
+floor_is : (size base d : ℕ) → base % size ≡ 0 → d < size → base + d - (base + d) % size ≡ base
+floor_is size base d whole less =
+    let own : size * (base / size) + base % size ≡ base = div-add-mod base size in
+    let other : size * ((base + d) / size) + (base + d) % size ≡ base + d = div-add-mod (base + d) size in
+    let some : 0 < size = omega (arith, less) in
+    let rest : (base + d) % size < size = mod-lt (base + d) some in
+    let same : base / size ≡ (base + d) / size = one_multiple size (base / size) ((base + d) / size) d ((base + d) % size) less rest (omega (arith, own, other, whole)) in
+    let more : size * (base / size) ≡ size * ((base + d) / size) = ap (λ k. size * k) same in omega (arith, own, other, whole, more)
+
+within_is : (size base o : ℕ) → 0 < size → base % size ≡ 0 → (base == o - o % size) ≡ (nat_le base o && nat_lt o (base + size))
+within_is size base o some whole = by (base == o - o % size) (nat_le base o && nat_lt o (base + size)) refl refl
+  where
+    rest : o % size < size
+    rest = mod-lt o some
+
+    by : (b c : Bool) → (base == o - o % size) ≡ b → (nat_le base o && nat_lt o (base + size)) ≡ c → b ≡ c
+    by true true is within = refl
+    by false false is within = refl
+    by true false is within =
+        let own : base ≡ o - o % size = (Decides-eqb base (o - o % size)).0 is in
+        let le : base ≤ o = omega (arith, own) in
+        let lt : o < base + size = let low = rest in omega (arith, own, low) in
+        let there : (nat_le base o && nat_lt o (base + size)) ≡ true = ap (λ b. b && nat_lt o (base + size)) (le-leb base o le) ∙ lt-ltb o (base + size) lt in absurd (true≢false (sym there ∙ within))
+    by false true is within =
+        let parts = and_true (nat_le base o) (nat_lt o (base + size)) within in
+        let le = leb-true base o parts.0 in
+        let lt = (Decides-ltb o (base + size)).0 parts.1 in
+        let sum : base + (o - base) ≡ o = omega (arith, le) in
+        let own : base ≡ o - o % size = sym (ap (λ n. n - n % size) (sym sum) ∙ floor_is size base (o - base) whole (omega (arith, le, lt))) in
+        absurd (true≢false (sym ((Decides-eqb base (o - o % size)).1 own) ∙ is))
+
+-- A call is on the area down to whose base its offset is rounded.
+open_is_on : (g : Layout) (at : Spot) (c : OpenCall) → 0 < g.area → at.base % g.area ≡ 0 → is_on_area g.area at c ≡ is_open_on g at c
+open_is_on g at c some whole =
+    ap (λ b. b && bytes_eq at.path c.path) (within_is g.area at.base c.offset some whole)
+    ∙ (turned_and (nat_le at.base c.offset && nat_lt c.offset (at.base + g.area)) (bytes_eq at.path c.path)
+    ∙ ap (λ b. b && (nat_le at.base c.offset && nat_lt c.offset (at.base + g.area))) (nat_list_eq_equiv.symm at.path c.path))
+  where
+    turned_and : (a b : Bool) → (a && b) ≡ (b && a)
+    turned_and true true = refl
+    turned_and true false = refl
+    turned_and false true = refl
+    turned_and false false = refl
+
+pub open_is_least : (g : Layout) (at : Spot) (cs : List OpenCall) → 0 < g.area → at.base % g.area ≡ 0 → least_on g.area at cs ≡ least (map (λ (c : OpenCall). c.number) (filter (is_open_on g at) cs))
+open_is_least g at cs some whole = ap (λ (ds : List OpenCall). least (map (λ (c : OpenCall). c.number) ds)) (all cs)
+  where
+    all : (cs : List OpenCall) → filter (is_on_area g.area at) cs ≡ filter (is_open_on g at) cs
+    all [] = refl
+    all (c ∷ cs) =
+        ap (λ b. cond b (c ∷ filter (is_on_area g.area at) cs) (filter (is_on_area g.area at) cs)) (open_is_on g at c some whole)
+        ∙ ap (λ ds. cond (is_open_on g at c) (c ∷ ds) ds) (all cs)
+
+pub pending_is : (z : Sizes) (area : ℕ) (at : Spot) (cs : List OpenCall) → area ≡ z.area → 0 < area → at.base % z.area ≡ 0
+    → least_on area at cs ≡ least (map (λ (c : OpenCall). c.number) (filter (is_open_on (layout_of z) at) cs))
+pending_is z area at cs is some whole = ap (λ n. least_on n at cs) is ∙ open_is_least (layout_of z) at cs (subst (λ n. 0 < n) is some) whole

@@ -1,4 +1,10 @@
 -- What a host does to its books is what the state functions say.
+use Rattle.std.specs.Prelude.{true}
+use Rattle.sl_whole_host.specs.Refusing.{release_in, request_in}
+use Rattle.sl_trace.specs.declared.command.ResourceArg.{ResourceArg}
+use Rattle.sl_host_state.specs.Kept.{HostState}
+use Rattle.sl_due.specs.declared.decision.Decision.TheVariants.{GivesUp}
+use Rattle.sl_decide_law.specs.Deciding.{holder_decision, member_named, request_decision, with_member}
 use Rattle.sl_host_state.specs.Kept.{MemberState}
 use Rattle.sl_host_state.specs.Makes.{is_ended_by_move, with_end, with_grant, with_move, with_signal, with_start}
 use Rattle.sl_trace.specs.declared.command.Command.{Command}
@@ -21,3 +27,11 @@ pub record BooksFollow (read : List ℕ → Result Command ℕ) (ms : List Membe
 
 abbrev pub BooksFollowStates : Type 0
 BooksFollowStates = (read : List ℕ → Result Command ℕ) (ms : List MemberState) (b : BooksState) → BooksFollow read ms b
+
+-- A release and a request come to what the member decides that has the resource's lockspace.
+pub record DecidesByMember (h : HostState) : Type 0 where
+  pub releases : (r : ResourceArg) (p : ℕ) → with_member (member_named h r.lockspace) (λ m. release_in h m r p) ≡ holder_decision h r p (λ g. true) (λ m g. GivesUp m.who g)
+  pub requests : (r : ResourceArg) → with_member (member_named h r.lockspace) (λ m. request_in h m r) ≡ request_decision h r
+
+abbrev pub DecisionsAreTaken : Type 0
+DecisionsAreTaken = (h : HostState) → DecidesByMember h

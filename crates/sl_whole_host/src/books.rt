@@ -319,6 +319,13 @@ impl Books {
         self.made.move_on(step);
     }
 
+    /// The reading of the step in progress.
+    pub fn reading(&self) -> u64
+        ensures { result ≡ self.now.reading }
+    {
+        self.reading
+    }
+
     /// The number of the next call.
     pub fn next_call(&self) -> u64
         ensures { result ≡ self.now.first_call + length self.now.made.calls }

@@ -1,12 +1,13 @@
 //! What a command comes to: each of its refusals in order, then what is begun.
 
-ghost use Rattle.sl_decide_law.specs.Deciding.{held_on, member_acquires, member_converts, member_refusal, orphan_at, serving_holding};
+ghost use Rattle.sl_decide_law.specs.Deciding.{held_on, member_acquires, member_refusal, pending_refused, process_refused, serving_holding};
 ghost use Rattle.sl_leases.specs.Leases.{spot_of};
-ghost use Rattle.sl_trace.specs.Traces.{is_shared};
+ghost use Rattle.sl_trace.specs.Traces.{is_orphan, is_shared};
+ghost use Rattle.sl_trace.specs.declared.reply.Reply.TheVariants.{NotHeld};
 ghost use Rattle.sl_whole_host.specs.Asking.{alone};
-ghost use Rattle.sl_whole_host.specs.Refusing.{first_refusal, refused_or, shared_beside};
-ghost use Rattle.sl_words.specs.Words.{choose, same_truth};
-ghost use Rattle.std.specs.Prelude.{[], find, is_none, not, option_map, true, ◌&&◌, ◌==◌, ◌∷◌, ◌≡◌};
+ghost use Rattle.sl_whole_host.specs.Refusing.{first_refusal, giving_up, refused_or, release_in, request_in, shared_beside};
+ghost use Rattle.sl_words.specs.Words.{choose};
+ghost use Rattle.std.specs.Prelude.{[], find, not, option_map, true, ◌%◌, ◌∷◌, ◌≡◌};
 
 use crate::books::Books;
 use sl_due::Decision;
@@ -46,6 +47,19 @@ pub(crate) fn refused_or(refusal: Option<Reply>, decision: Decision) -> Decision
     match refusal {
         Some(reply) => Decision::Replies(reply),
         None => decision,
+    }
+}
+
+/// The end of a holding, if there is one.
+fn gives_up(member: &Member, held: Option<Grant>) -> Decision
+    ensures { result ≡ giving_up member.now.state held }
+{
+    match held {
+        Some(holding) => Decision::GivesUp {
+            session: *member.who(),
+            holding,
+        },
+        None => Decision::Replies(Reply::NotHeld),
     }
 }
 
@@ -104,8 +118,69 @@ impl Books {
     /// The orphan of the area, in whatever mode.
     #[tactic(auto, using(crate::proofs::DecidingStands::any_orphan))]
     fn orphan(&self, member: &Member, at: &Spot) -> Option<&Grant>
-        ensures { option_map (λ g. g.now) result ≡ find (λ g. g.process == 0) (held_on (alone self.now) member.now.state at.now) }
+        ensures { option_map (λ g. g.now) result ≡ find is_orphan (held_on (alone self.now) member.now.state at.now) }
     {
         self.held(member.who().number, at, Holder::Is(0), None)
+    }
+
+    /// What refuses a command of a holder: the member's state, his number, that he holds nothing there in a mode that serves, an open call.
+    fn holder_refused(&self, member: &Member, at: &Spot, process: u32, holds: bool) -> Option<Reply>
+        requires { at.now.base % self.now.config.sizes.area ≡ 0 }
+        ensures { result ≡ first_refusal (member_refusal member.now.state ∷ process_refused (alone self.now) process ∷ choose (not holds) NotHeld ∷ pending_refused (alone self.now) at.now ∷ []) }
+    {
+        if let Some(reply) = member_refusal(member) {
+            return Some(reply);
+        }
+        if let Some(reply) = self.process_refused(process) {
+            return Some(reply);
+        }
+        if !holds {
+            return Some(Reply::NotHeld);
+        }
+        self.pending_refused(at)
+    }
+
+    /// A release of what the process holds.
+    pub(crate) fn releases(&self, member: &Member, resource: &ResourceArg, process: u32) -> Decision
+        requires { resource.now.offset % self.now.config.sizes.area ≡ 0 }
+        ensures { result ≡ release_in (alone self.now) member.now.state resource.now process }
+    {
+        let at = spot_of(resource);
+        let held = self.held_by(member, &at, process);
+        let refusal = self.holder_refused(member, &at, process, held.is_some());
+        refused_or(refusal, gives_up(member, held))
+    }
+
+    /// The same holding, as a value.
+    fn held_by(&self, member: &Member, at: &Spot, process: u32) -> Option<Grant>
+        ensures { result ≡ serving_holding (alone self.now) member.now.state at.now process (λ g. true) }
+    {
+        match self.holding(member, at, process) {
+            Some(grant) => Some(*grant),
+            None => None,
+        }
+    }
+
+    /// What refuses a request: the member's state, an open call.
+    fn request_refused(&self, member: &Member, at: &Spot) -> Option<Reply>
+        requires { at.now.base % self.now.config.sizes.area ≡ 0 }
+        ensures { result ≡ first_refusal (member_refusal member.now.state ∷ pending_refused (alone self.now) at.now ∷ []) }
+    {
+        if let Some(reply) = member_refusal(member) {
+            return Some(reply);
+        }
+        self.pending_refused(at)
+    }
+
+    /// A request.
+    pub(crate) fn requests(&self, member: &Member, resource: &ResourceArg) -> Decision
+        requires { resource.now.offset % self.now.config.sizes.area ≡ 0 }
+        ensures { result ≡ request_in (alone self.now) member.now.state resource.now }
+    {
+        let request = Decision::Requests {
+            session: *member.who(),
+            resource: *resource,
+        };
+        refused_or(self.request_refused(member, &spot_of(resource)), request)
     }
 }

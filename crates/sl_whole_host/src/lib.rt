@@ -9,8 +9,10 @@
 mod books;
 mod buffers;
 mod deciding;
+mod host;
 pub mod laws;
 mod questions;
 
 pub use books::{Books, Config};
 pub use buffers::Buffers;
+pub use host::Host;

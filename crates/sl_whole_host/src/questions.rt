@@ -1,6 +1,6 @@
 //! What is asked of a host's books when a command is decided.
 
-ghost use Rattle.sl_decide_law.specs.Deciding.{busy_refused, held_at, holds_there, is_running_child, killpath_decision, other_at, process_refused};
+ghost use Rattle.sl_decide_law.specs.Deciding.{busy_refused, held_at, holds_there, is_running_child, killpath_decision, other_at, pending_refused, process_refused};
 ghost use Rattle.sl_host_state.specs.Asks.{stopper_in, ungranted_in};
 ghost use Rattle.sl_leases.specs.Counts.{busy_among};
 ghost use Rattle.sl_leases.specs.Jobs.{is_asking_lease, is_program};
@@ -10,7 +10,7 @@ ghost use Rattle.sl_trace.specs.Traces.{is_orphan, is_shared};
 ghost use Rattle.sl_whole_host.specs.Asking.{alone, held_under, sought_on};
 ghost use Rattle.sl_words.specs.Words.{choose, least};
 ghost use Rattle.std.specs.List.{list_any};
-ghost use Rattle.std.specs.Prelude.{filter, find, length, map, nat_le, not, option_and_then, option_map, ◌&&◌, ◌+◌, ◌==◌, ◌≡◌};
+ghost use Rattle.std.specs.Prelude.{filter, find, length, map, nat_le, not, option_and_then, option_map, ◌%◌, ◌&&◌, ◌+◌, ◌==◌, ◌≡◌};
 
 use crate::books::Books;
 use sl_due::Decision;
@@ -150,6 +150,17 @@ impl Books {
         match self.programs.get(process) {
             Some(program) if !self.is_full_of_children() => Some(*program),
             _ => None,
+        }
+    }
+
+    /// A call on the area that is unanswered refuses.
+    pub fn pending_refused(&self, at: &Spot) -> Option<Reply>
+        requires { at.now.base % self.now.config.sizes.area ≡ 0 }
+        ensures { result ≡ pending_refused (alone self.now) at.now }
+    {
+        match self.unanswered.pending(at) {
+            Some(call) => Some(Reply::Pending { call }),
+            None => None,
         }
     }
 
