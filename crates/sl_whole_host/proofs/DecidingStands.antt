@@ -1,4 +1,14 @@
 -- What is found of a member's holdings.
+use Rattle.sl_whole_host.specs.Refusing.{converting, getting}
+use Rattle.std.specs.Prelude.{length, nat_le, option_and_then, ◌+◌}
+use Rattle.std.specs.List.{list_any}
+use Rattle.sl_words.specs.Bounds.{is_number}
+use Rattle.sl_trace.specs.declared.reply.Reply.TheVariants.{Busy, Limit as LimitReached}
+use Rattle.sl_trace.specs.declared.reply.Limited.TheVariants.{Lockspaces, Seq as SeqLimit}
+use Rattle.sl_trace.specs.Traces.{no_process}
+use Rattle.sl_trace.specs.Limits.{most_lockspaces}
+use Rattle.sl_due.specs.declared.decision.Decision.TheVariants.{Joins, Leaves}
+use Rattle.sl_decide_law.specs.Deciding.{held_of, joined_refused, member_of, other_at}
 use Rattle.sl_due.specs.declared.decision.Decision.TheVariants.{Requests}
 use Rattle.std.proofs.Common.{sym}
 use Rattle.sl_whole_host.specs.Promises.{DecisionsAreTaken}
@@ -115,19 +125,41 @@ releases_are h m r p =
 pub requests_are : (h : HostState) (m : MemberState) (r : ResourceArg) → request_in h m r ≡ unless_refused (member_refusal m ∷ pending_refused h (spot_of r) ∷ []) (Requests m.who r)
 requests_are h m r = sym (refused_first (member_refusal m ∷ pending_refused h (spot_of r) ∷ []) (Requests m.who r))
 
+-- A list of refusals with a test of what is held, said the other way.
+swapped : (a b : Option Reply) (rest : List (Option Reply)) (o : Option Grant) (d : Decision)
+    → refused_or (first_refusal (a ∷ b ∷ choose (not (is_some o)) NotHeld ∷ rest)) d ≡ unless_refused (a ∷ b ∷ choose (is_none o) NotHeld ∷ rest) d
+swapped a b rest o d =
+    sym (refused_first (a ∷ b ∷ choose (not (is_some o)) NotHeld ∷ rest) d) ∙ ap (λ (c : Bool). unless_refused (a ∷ b ∷ choose c NotHeld ∷ rest) d) (missing_is o)
+
+by_member : (o : Option MemberState) (f g : MemberState → Decision) → ((m : MemberState) → f m ≡ g m) → with_member o f ≡ with_member o g
+by_member None f g same = refl
+by_member (Some m) f g same = same m
+
 pub decisions_are : DecisionsAreTaken
 decisions_are h =
-    record { releases = λ r p. by_release r p (member_named h r.lockspace); requests = λ r. by_request r (member_named h r.lockspace) }
-  where
-    by_release : (r : ResourceArg) (p : ℕ) (o : Option MemberState) → with_member o (λ m. release_in h m r p)
-        ≡ with_member o (λ m.
-        unless_refused (member_refusal m
-        ∷ process_refused h p
-        ∷ choose (is_none (serving_holding h m (spot_of r) p (λ g. true))) NotHeld
-        ∷ pending_refused h (spot_of r) ∷ []) (option_map_or (λ g. GivesUp m.who g) (serving_holding h m (spot_of r) p (λ g. true)) (Replies NotHeld)))
-    by_release r p None = refl
-    by_release r p (Some m) = releases_are h m r p
-
-    by_request : (r : ResourceArg) (o : Option MemberState) → with_member o (λ m. request_in h m r) ≡ with_member o (λ m. unless_refused (member_refusal m ∷ pending_refused h (spot_of r) ∷ []) (Requests m.who r))
-    by_request r None = refl
-    by_request r (Some m) = requests_are h m r
+    record {
+      releases = λ r p. by_member (member_named h r.lockspace) _ _ (λ m. releases_are h m r p);
+      converts =
+          λ r p mode.
+          by_member (member_named h r.lockspace) _ _
+          (λ m.
+          swapped (member_refusal m) (process_refused h p) (option_and_then (λ q. choose (not (is_shared mode)) (Busy q)) (other_at h (spot_of r) p) ∷ pending_refused h (spot_of r) ∷ [])
+          (serving_holding h m (spot_of r) p (λ g. true)) (converting m r mode (serving_holding h m (spot_of r) p (λ g. true))));
+      gets =
+          λ r p.
+          by_member (member_named h r.lockspace) _ _
+          (λ m.
+          swapped (member_refusal m) (process_refused h p) (pending_refused h (spot_of r) ∷ []) (serving_holding h m (spot_of r) p (λ g. true))
+          (getting m (spot_of r) (serving_holding h m (spot_of r) p (λ g. true))));
+      leaves =
+          λ a.
+          by_member (member_of h a) _ _
+          (λ m.
+          sym
+          (refused_first (member_refusal m
+          ∷ choose (list_any is_orphan (held_of h m)) (Busy no_process)
+          ∷ choose (not (is_number (m.known.seq + 1))) (LimitReached SeqLimit) ∷ []) (Leaves m.who)));
+      adds =
+          λ a. sym (refused_first (joined_refused (member_named h a.name) ∷ choose (nat_le most_lockspaces (length h.members)) (LimitReached Lockspaces) ∷ []) (Joins h.born a));
+      requests = λ r. by_member (member_named h r.lockspace) _ _ (λ m. requests_are h m r);
+    }

@@ -1,4 +1,16 @@
 -- What a command is refused for, by a member and the books.
+use Rattle.std.specs.Prelude.{length, nat_le, option_and_then, ◌+◌}
+use Rattle.std.specs.List.{list_any}
+use Rattle.sl_words.specs.Bounds.{is_number}
+use Rattle.sl_trace.specs.declared.reply.Reply.TheVariants.{Busy, Limit as LimitReached}
+use Rattle.sl_trace.specs.declared.reply.Limited.TheVariants.{Lockspaces, Seq as SeqLimit}
+use Rattle.sl_trace.specs.declared.effects.Spot.{Spot}
+use Rattle.sl_trace.specs.declared.effects.Mode.{Mode}
+use Rattle.sl_trace.specs.declared.command.LockspaceArg.{LockspaceArg}
+use Rattle.sl_trace.specs.Traces.{is_orphan, no_process}
+use Rattle.sl_trace.specs.Limits.{most_lockspaces}
+use Rattle.sl_due.specs.declared.decision.Decision.TheVariants.{GetsValue, Joins, Leaves}
+use Rattle.sl_decide_law.specs.Deciding.{held_of, joined_refused, member_converts, member_named, other_at}
 use Rattle.sl_decide_law.specs.Deciding.{member_refusal, pending_refused, process_refused, serving_holding}
 use Rattle.sl_due.specs.DueCommands.{unless_refused}
 use Rattle.sl_host_state.specs.Kept.{HostState, MemberState}
@@ -44,3 +56,42 @@ release_in h m r p =
 -- A request by a member: its refusals in order, or a request.
 abbrev pub request_in : HostState → MemberState → ResourceArg → Decision
 request_in h m r = refused_or (first_refusal (member_refusal m ∷ pending_refused h (spot_of r) ∷ [])) (Requests m.who r)
+
+-- A conversion by a member.
+abbrev pub converting : MemberState → ResourceArg → Mode → Option Grant → Decision
+converting m r mode o = option_map_or (member_converts m r mode) o (Replies NotHeld)
+
+abbrev pub convert_in : HostState → MemberState → ResourceArg → ℕ → Mode → Decision
+convert_in h m r p mode =
+    refused_or
+    (first_refusal (member_refusal m
+    ∷ process_refused h p
+    ∷ choose (not (is_some (serving_holding h m (spot_of r) p (λ g. true)))) NotHeld
+    ∷ option_and_then (λ q. choose (not (is_shared mode)) (Busy q)) (other_at h (spot_of r) p)
+    ∷ pending_refused h (spot_of r) ∷ [])) (converting m r mode (serving_holding h m (spot_of r) p (λ g. true)))
+
+-- The read of a value by a holder.
+abbrev pub getting : MemberState → Spot → Option Grant → Decision
+getting m at o = option_map_or (λ g. GetsValue m.who at) o (Replies NotHeld)
+
+abbrev pub get_in : HostState → MemberState → ResourceArg → ℕ → Decision
+get_in h m r p =
+    refused_or
+    (first_refusal (member_refusal m
+    ∷ process_refused h p
+    ∷ choose (not (is_some (serving_holding h m (spot_of r) p (λ g. true)))) NotHeld
+    ∷ pending_refused h (spot_of r) ∷ [])) (getting m (spot_of r) (serving_holding h m (spot_of r) p (λ g. true)))
+
+-- A `rem_lockspace` by the member whose id and area it names.
+abbrev pub leave_in : HostState → MemberState → Decision
+leave_in h m =
+    refused_or
+    (first_refusal (member_refusal m
+    ∷ choose (list_any is_orphan (held_of h m)) (Busy no_process)
+    ∷ choose (not (is_number (m.known.seq + 1))) (LimitReached SeqLimit) ∷ [])) (Leaves m.who)
+
+-- An `add_lockspace`.
+abbrev pub add_in : HostState → LockspaceArg → Decision
+add_in h a =
+    refused_or (first_refusal (joined_refused (member_named h a.name) ∷ choose (nat_le most_lockspaces (length h.members)) (LimitReached Lockspaces) ∷ []))
+    (Joins h.born a)
