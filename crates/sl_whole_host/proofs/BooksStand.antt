@@ -1,4 +1,7 @@
 -- Books follow the state functions.
+use Rattle.sl_whole_host.specs.Books.{books_exiting, books_spawning, host_of}
+use Rattle.sl_trace.specs.declared.input.Input.TheVariants.{Exit, Spawned}
+use Rattle.sl_host_state.specs.Hears.{children_after}
 use Rattle.sl_host_state.specs.declared.kept.JobState.{JobState}
 use Rattle.sl_host_state.specs.Makes.{job_calling, job_starting}
 use Rattle.sl_host_state.specs.Stands.{kept_waiting}
@@ -19,7 +22,19 @@ use Rattle.std.specs.Option.{option_or}
 use Rattle.std.specs.Prelude.{Bool, List, None, Some, [], bytes_eq, cond, false, filter, map, not, true, ℕ, ◌&&◌, ◌==◌, ◌∷◌, ◌≡◌}
 
 pub books_follow : BooksFollowStates
-books_follow read ms b = record { ended = λ e. refl; granted = λ g. refl; signalled = λ s. refl; started = λ s. refl; moved = λ m. refl }
+books_follow read ms b =
+    record {
+      ended = λ e. refl;
+      granted = λ g. refl;
+      signalled = λ s. refl;
+      started = λ s. refl;
+      called = λ m. refl;
+      exited = λ p new. ap (λ (c : Bool). record (host_of read ms (books_exiting p b)) { children = cond c b.children (children_after (Exit p) b.children) }) (sym new);
+      spawned = λ p ok new. ap (λ (c : Bool). record (host_of read ms (books_spawning p ok b)) { children = cond c b.children (children_after (Spawned p ok) b.children) }) (sym new);
+      numbered = refl;
+      counted = λ now. refl;
+      moved = λ m. refl;
+    }
 
 -- ---- ends
 

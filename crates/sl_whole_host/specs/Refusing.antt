@@ -1,4 +1,5 @@
 -- What a command is refused for, by a member and the books.
+use Rattle.std.specs.Prelude.{bytes_eq}
 use Rattle.std.specs.Prelude.{length, nat_le, option_and_then, ◌+◌}
 use Rattle.std.specs.List.{list_any}
 use Rattle.sl_words.specs.Bounds.{is_number}
@@ -10,9 +11,8 @@ use Rattle.sl_trace.specs.declared.command.LockspaceArg.{LockspaceArg}
 use Rattle.sl_trace.specs.Traces.{is_orphan, no_process}
 use Rattle.sl_trace.specs.Limits.{most_lockspaces}
 use Rattle.sl_due.specs.declared.decision.Decision.TheVariants.{GetsValue, Joins, Leaves}
-use Rattle.sl_decide_law.specs.Deciding.{held_of, joined_refused, member_converts, member_named, other_at}
+use Rattle.sl_decide_law.specs.Deciding.{held_of, joined_refused, member_converts, other_at}
 use Rattle.sl_decide_law.specs.Deciding.{member_refusal, pending_refused, process_refused, serving_holding}
-use Rattle.sl_due.specs.DueCommands.{unless_refused}
 use Rattle.sl_host_state.specs.Kept.{HostState, MemberState}
 use Rattle.sl_due.specs.declared.decision.Decision.TheVariants.{GivesUp, Replies, Requests}
 use Rattle.sl_due.specs.declared.decision.Decision.{Decision}
@@ -90,8 +90,12 @@ leave_in h m =
     ∷ choose (list_any is_orphan (held_of h m)) (Busy no_process)
     ∷ choose (not (is_number (m.known.seq + 1))) (LimitReached SeqLimit) ∷ [])) (Leaves m.who)
 
--- An `add_lockspace`.
+-- An `add_lockspace`, by the members and how many sessions there have been.
+abbrev pub add_by : List MemberState → ℕ → LockspaceArg → Decision
+add_by ms born a =
+    refused_or
+    (first_refusal (joined_refused (find (λ m. bytes_eq m.who.lockspace a.name) ms) ∷ choose (nat_le most_lockspaces (length ms)) (LimitReached Lockspaces) ∷ []))
+    (Joins born a)
+
 abbrev pub add_in : HostState → LockspaceArg → Decision
-add_in h a =
-    refused_or (first_refusal (joined_refused (member_named h a.name) ∷ choose (nat_le most_lockspaces (length h.members)) (LimitReached Lockspaces) ∷ []))
-    (Joins h.born a)
+add_in h a = add_by h.members h.born a

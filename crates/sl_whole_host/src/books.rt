@@ -326,6 +326,13 @@ impl Books {
         self.reading
     }
 
+    /// The sessions so far.
+    pub fn born(&self) -> u64
+        ensures { result ≡ self.now.born }
+    {
+        self.born
+    }
+
     /// The number of the next call.
     pub fn next_call(&self) -> u64
         ensures { result ≡ self.now.first_call + length self.now.made.calls }

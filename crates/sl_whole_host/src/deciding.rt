@@ -1,6 +1,6 @@
 //! What a command comes to: each of its refusals in order, then what is begun.
 
-ghost use Rattle.sl_decide_law.specs.Deciding.{held_of, held_on, member_acquires, member_named, member_refusal, other_at, pending_refused, process_refused, serving_holding, with_member};
+ghost use Rattle.sl_decide_law.specs.Deciding.{held_of, joined_refused, held_on, member_acquires, member_named, member_refusal, other_at, pending_refused, process_refused, serving_holding, with_member};
 ghost use Rattle.sl_host_state.specs.Kept.{state_of};
 ghost use Rattle.sl_leases.specs.Leases.{spot_of};
 ghost use Rattle.sl_trace.specs.Traces.{is_orphan, is_shared, no_process};
@@ -8,18 +8,21 @@ ghost use Rattle.sl_trace.specs.declared.reply.Limited.TheVariants.{Seq as SeqLi
 ghost use Rattle.sl_trace.specs.declared.reply.Reply.TheVariants.{Busy, Limit as LimitReached, NotHeld};
 ghost use Rattle.sl_whole_host.specs.Asking.{alone};
 ghost use Rattle.sl_whole_host.specs.Host.{ReadAs};
-ghost use Rattle.sl_whole_host.specs.Refusing.{convert_in, converting, first_refusal, get_in, getting, giving_up, leave_in, refused_or, release_in, request_in, shared_beside};
+ghost use Rattle.sl_whole_host.specs.Refusing.{add_by, convert_in, converting, first_refusal, get_in, getting, giving_up, leave_in, refused_or, release_in, request_in, shared_beside};
 ghost use Rattle.sl_words.specs.Bounds.{is_number};
 ghost use Rattle.sl_words.specs.Words.{choose};
 ghost use Rattle.std.specs.List.{list_any};
-ghost use Rattle.std.specs.Prelude.{List, [], find, not, option_and_then, option_map, true, ℕ, ◌%◌, ◌+◌, ◌∷◌, ◌≡◌};
+ghost use Rattle.std.specs.Prelude.{List, Some, [], bytes_eq, find, not, option_and_then, option_map, true, ℕ, ◌%◌, ◌+◌, ◌∷◌, ◌≡◌};
 
 use crate::books::Books;
 use crate::host::Host;
 use sl_due::Decision;
 use sl_member::Member;
 use sl_tables::Holder;
-use sl_trace::{Grant, Limited, Mode, Reply, ResourceArg, Spot};
+use sl_trace::{Grant, Limited, LockspaceArg, Mode, Reply, ResourceArg, Spot};
+
+/// Lockspaces of a machine.
+const MOST_LOCKSPACES: usize = 8;
 
 /// The area of a resource.
 pub(crate) fn spot_of(resource: &ResourceArg) -> Spot
@@ -43,6 +46,18 @@ pub(crate) fn member_refusal(member: &Member) -> Option<Reply>
         Some(Reply::Recovering {
             renewed: member.renewing().last,
         })
+    }
+}
+
+/// What an `add_lockspace` of a member's name is refused for.
+fn joined_refusal(member: &Member) -> Reply
+    ensures { Some result ≡ joined_refused (Some member.now.state) }
+{
+    match member_refusal(member) {
+        Some(reply) => reply,
+        None => Reply::Joined {
+            generation: member.known().generation,
+        },
     }
 }
 
@@ -356,6 +371,34 @@ impl Host {
         match self.members.named(&resource.lockspace) {
             Some(member) => self.books.requests(member, resource),
             None => Decision::Replies(Reply::NoSession),
+        }
+    }
+
+    /// What an `add_lockspace` is refused for by the member of that name.
+    fn joined_refused(&self, lockspace: &LockspaceArg) -> Option<Reply>
+        ensures { result ≡ joined_refused (find (λ m. bytes_eq m.who.lockspace lockspace.now.name) self.now.kept.members) }
+    {
+        match self.members.named(&lockspace.name) {
+            Some(member) => Some(joined_refusal(member)),
+            None => None,
+        }
+    }
+
+    /// What an `add_lockspace` comes to.
+    pub fn decide_add(&self, lockspace: &LockspaceArg) -> Decision
+        ensures { result ≡ add_by self.now.kept.members self.now.kept.born lockspace.now }
+    {
+        if let Some(reply) = self.joined_refused(lockspace) {
+            return Decision::Replies(reply);
+        }
+        if self.members.len() >= MOST_LOCKSPACES {
+            return Decision::Replies(Reply::Limit {
+                which: Limited::Lockspaces,
+            });
+        }
+        Decision::Joins {
+            session: self.books.born(),
+            lockspace: *lockspace,
         }
     }
 }
