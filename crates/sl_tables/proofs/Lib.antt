@@ -2,6 +2,8 @@ pub mod SlotsStand
 pub mod ScansFind
 pub mod NumbersName
 pub mod OpensStand
+pub mod HoldingsStand
 pub mod TotalsGo
 pub mod JobsChange
 pub mod ChildrenStand
+pub mod ProgramsStand

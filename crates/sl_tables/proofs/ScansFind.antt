@@ -9,13 +9,13 @@ use Rattle.std.proofs.lemmas.Bool.{le-ltb}
 use Rattle.std.specs.Map.{keys_of}
 use Rattle.std.specs.Prelude.{Bool, List, None, Option, Some, [], cond, false, find, length, nat_eq, nat_lt, option_map, position, slice_get, suc, take, true, zero, ℕ, ◌&&◌, ◌+◌, ◌<◌, ◌∷◌, ◌≡◌, ◌≤◌}
 
-next_is : (i : ℕ) → suc i ≡ i + 1
+pub next_is : (i : ℕ) → suc i ≡ i + 1
 next_is i = omega arith
 
 not_below : (n k : ℕ) → k ≤ n → nat_lt n k ≡ false
 not_below n k le = le-ltb n k le
 
-take_all : {A : Type 0} (xs : List A) (i : ℕ) → length xs ≤ i → take i xs ≡ xs
+pub take_all : {A : Type 0} (xs : List A) (i : ℕ) → length xs ≤ i → take i xs ≡ xs
 take_all [] zero le = refl
 take_all [] (suc i) le = refl
 take_all (x ∷ xs) zero le = absurd (omega (arith, le))

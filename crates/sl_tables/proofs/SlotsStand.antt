@@ -43,7 +43,7 @@ rising_push n v (e ∷ es) below h = (above_push e.0 n v es below.0 h.0, rising_
 
 -- ---- what is left by a test
 
-kept : {V : Type 0} (P : ℕ × V → Type 0) (p : ℕ × V → Bool) (es : List (ℕ × V)) → AllByRecursion P es → AllByRecursion P (filter p es)
+pub kept : {V : Type 0} (P : ℕ × V → Type 0) (p : ℕ × V → Bool) (es : List (ℕ × V)) → AllByRecursion P es → AllByRecursion P (filter p es)
 kept P p [] h = h
 kept P p (e ∷ es) h = by (p e) (kept P p es h.1)
   where
@@ -92,6 +92,11 @@ module _ {T : Type 0} where
   items_above k [] h = tt
   items_above k ((n, None) ∷ es) h = items_above k es h.1
   items_above k ((n, Some x) ∷ es) h = (h.0, items_above k es h.1)
+
+  pub items_below : (n : ℕ) (es : List (ℕ × Option T)) → AreBelow n es → AreBelow n (items_of es)
+  items_below n [] h = tt
+  items_below n ((k, None) ∷ es) h = items_below n es h.1
+  items_below n ((k, Some x) ∷ es) h = (h.0, items_below n es h.1)
 
   -- What stands in rising slots rises.
   pub items_rise : (es : List (ℕ × Option T)) → AreRising es → AreRising (items_of es)

@@ -2,8 +2,9 @@
 use Rattle.sl_host_state.specs.declared.kept.OpenCall.{OpenCall}
 use Rattle.sl_trace.specs.Traces.{same_spot}
 use Rattle.sl_trace.specs.declared.effects.Spot.{Spot}
+use Rattle.sl_words.specs.Words.{least}
 use Rattle.std.specs.List.{AllByRecursion}
-use Rattle.std.specs.Prelude.{Bool, List, Option, find, nat_lt, option_map, ℕ, ◌%◌, ◌&&◌, ◌-◌, ◌≡◌}
+use Rattle.std.specs.Prelude.{Bool, List, Option, filter, find, map, nat_lt, option_map, ℕ, ◌%◌, ◌&&◌, ◌-◌, ◌≡◌}
 
 -- The calls, the oldest first; above which number the next is; for how many more there is memory; the bytes of an area.
 pub record OpenState : Type 0 where
@@ -23,6 +24,10 @@ is_on_area area at c = same_spot at (area_of area c)
 -- The number of the first call on an area.
 abbrev pub first_on : ℕ → Spot → List OpenCall → Option ℕ
 first_on area at cs = option_map (λ c. c.number) (find (is_on_area area at) cs)
+
+-- The least number of the calls on an area.
+abbrev pub least_on : ℕ → Spot → List OpenCall → Option ℕ
+least_on area at cs = least (map (λ c. c.number) (filter (is_on_area area at) cs))
 
 -- Each call stands at its own number.
 abbrev pub AreNumbered : List (ℕ × OpenCall) → Type 0

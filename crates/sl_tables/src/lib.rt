@@ -1,4 +1,4 @@
-//! Tables of what a host keeps: its open calls, its running jobs, its holdings, its children.
+//! Tables of what a host keeps: its open calls, its running jobs, its holdings, its children, kill programs, connections.
 //!
 //! A table is seen as the list that the definitions ask of, the oldest element first, and its indexes as nothing at all. What a step may put in
 //! has its room taken before, so that no `put` can fail; what is taken out leaves a gap that costs nothing, and gaps are closed where room is
@@ -8,10 +8,18 @@
 
 mod area;
 mod children;
+mod connections;
+mod firsts;
+mod holdings;
 mod jobs;
 mod opens;
+mod programs;
 mod rising;
 
 pub use children::{ChildState, Children};
+pub use connections::Connections;
+pub use holdings::{Holder, Holdings, Sought};
+pub use jobs::Jobs;
 pub use opens::OpenCalls;
+pub use programs::Programs;
 pub use rising::Rising;

@@ -2,7 +2,7 @@
 
 ghost use Rattle.indexmap.specs.IndexMap.{get, index_map_len, spare};
 ghost use Rattle.sl_host_state.specs.declared.kept.OpenCall.{OpenCall as OpenCallOf};
-ghost use Rattle.sl_tables.specs.Opens.{area_of, first_on, is_on_area, next_on};
+ghost use Rattle.sl_tables.specs.Opens.{area_of, first_on, is_on_area, least_on, next_on};
 ghost use Rattle.sl_tables.specs.Rising.{AreRising, found_in, items_of};
 ghost use Rattle.sl_trace.specs.Traces.{same_spot};
 ghost use Rattle.sl_trace.specs.declared.effects.Spot.{Spot as SpotOf};
@@ -233,10 +233,14 @@ impl OpenCalls {
         self.calls.get(number)
     }
 
-    /// The first call on an area.
+    /// The first call on an area: it has the least number.
+    #[tactic(auto, using(crate::proofs::OpensStand::first_least))]
     pub fn pending(&self, spot: &Spot) -> Option<u64>
-        ensures { result ≡ first_on self.now.area spot.now self.now.calls }
+        ensures first { result ≡ first_on self.now.area spot.now self.now.calls }
+        ensures least { result ≡ least_on self.now.area spot.now self.now.calls }
+        ensures area { 0 < self.now.area }
     {
+        self.calls.rises();
         self.firsts.get(&Area::at(*spot)).copied()
     }
 

@@ -1,6 +1,6 @@
 //! Elements by numbers that rise.
 
-ghost use Rattle.sl_tables.specs.Rising.{AreRising, RisingState};
+ghost use Rattle.sl_tables.specs.Rising.{AreBelow, AreRising, RisingState};
 ghost use Rattle.indexmap.specs.IndexMap.{index_map_len, spare, with_value_at};
 ghost use Rattle.sl_tables.specs.Rising.{is_full};
 ghost use Rattle.std.specs.Map.{lookup};
@@ -135,12 +135,13 @@ impl<T: Drop> Rising<T> {
     }
 
     /// Takes the element of this number out, if it stands.
-    #[tactic(auto, using(crate::proofs::SlotsStand::found_none, crate::proofs::SlotsStand::gap_left, crate::proofs::SlotsStand::items_rise))]
+    #[tactic(auto, using(crate::proofs::SlotsStand::found_none, crate::proofs::SlotsStand::gap_left, crate::proofs::SlotsStand::items_rise, crate::proofs::SlotsStand::items_below))]
     pub fn take(&mut self, number: u64) -> Option<T>
         ensures found { result ≡ lookup (nat_eq number) self.old.items }
         ensures items { self.new.items ≡ filter (λ p. not (nat_eq number p.0)) self.old.items }
         ensures kept { (self.new.next ≡ self.old.next) × (self.new.room ≡ self.old.room) }
         ensures rising { AreRising self.old.items }
+        ensures below { AreBelow self.old.next self.old.items }
     {
         match self.slots.get_index_of(&number) {
             Some(index) => {
@@ -152,6 +153,21 @@ impl<T: Drop> Rising<T> {
             }
             None => None,
         }
+    }
+
+    /// What stands rises: it does nothing, and lets a proof know.
+    #[tactic(auto, using(crate::proofs::SlotsStand::items_rise))]
+    pub(crate) fn rises(&self)
+        ensures { AreRising self.now.items }
+    {
+        let _next = self.next;
+    }
+
+    /// Above which number the next is.
+    pub fn next(&self) -> u64
+        ensures { result ≡ self.now.next }
+    {
+        self.next
     }
 
     /// How many there are.

@@ -1,0 +1,4 @@
+pub mod BooksStand
+pub mod QuestionsStand
+pub mod DecidingStands
+pub mod HostStands

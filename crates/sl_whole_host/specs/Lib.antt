@@ -1,0 +1,5 @@
+pub mod Books
+pub mod Host
+pub mod Asking
+pub mod Refusing
+pub mod Promises

@@ -1,0 +1,61 @@
+-- What a host does to its books is what the state functions say.
+use Rattle.std.specs.Prelude.{Bool, false, map}
+use Rattle.sl_whole_host.specs.Books.{books_calling, books_counting, books_exiting, books_numbering, books_spawning}
+use Rattle.sl_trace.specs.Traces.{Submitted}
+use Rattle.sl_host_state.specs.Makes.{calling, member_calling}
+use Rattle.sl_host_state.specs.Hears.{counted, heard_exit, heard_number, heard_start, is_started_now}
+use Rattle.sl_area.specs.Layouts.{layout_of}
+use Rattle.sl_whole_host.specs.Refusing.{add_in, convert_in, get_in, leave_in}
+use Rattle.sl_trace.specs.declared.effects.Mode.{Mode}
+use Rattle.sl_trace.specs.declared.command.LockspaceArg.{LockspaceArg}
+use Rattle.sl_leases.specs.Leases.{spot_of}
+use Rattle.sl_due.specs.declared.decision.Decision.TheVariants.{GetsValue}
+use Rattle.sl_decide_law.specs.Deciding.{add_decision, convert_decision, leave_decision, member_of}
+use Rattle.std.specs.Prelude.{true}
+use Rattle.sl_whole_host.specs.Refusing.{release_in, request_in}
+use Rattle.sl_trace.specs.declared.command.ResourceArg.{ResourceArg}
+use Rattle.sl_host_state.specs.Kept.{HostState}
+use Rattle.sl_due.specs.declared.decision.Decision.TheVariants.{GivesUp}
+use Rattle.sl_decide_law.specs.Deciding.{holder_decision, member_named, request_decision, with_member}
+use Rattle.sl_host_state.specs.Kept.{MemberState}
+use Rattle.sl_host_state.specs.Makes.{is_ended_by_move, with_end, with_grant, with_move, with_signal, with_start}
+use Rattle.sl_trace.specs.declared.command.Command.{Command}
+use Rattle.sl_trace.specs.declared.effects.End.{End}
+use Rattle.sl_trace.specs.declared.effects.Grant.{Grant}
+use Rattle.sl_trace.specs.declared.effects.Move.{Move}
+use Rattle.sl_trace.specs.declared.effects.Sent.{Sent}
+use Rattle.sl_trace.specs.declared.effects.Start.{Start}
+use Rattle.sl_whole_host.specs.Books.{BooksState, books_ending, books_granting, books_moving, books_signalling, books_starting, host_of}
+use Rattle.std.specs.Prelude.{List, Result, filter, not, ℕ, ◌≡◌}
+
+-- Of a host that reads lines so, with these members and books.
+pub record BooksFollow (read : List ℕ → Result Command ℕ) (ms : List MemberState) (b : BooksState) : Type 0 where
+  pub ended : (e : End) → host_of read ms (books_ending e b) ≡ with_end e (host_of read ms b)
+  pub granted : (g : Grant) → host_of read ms (books_granting g b) ≡ with_grant g (host_of read ms b)
+  pub signalled : (s : Sent) → host_of read ms (books_signalling s b) ≡ with_signal s.process s.signal (host_of read ms b)
+  pub started : (s : Start) → host_of read ms (books_starting s b) ≡ with_start s (host_of read ms b)
+  -- a call is heard by the member that makes it
+  pub called : (m : Submitted) → host_of read (map (member_calling (layout_of b.config.sizes) m) ms) (books_calling m b) ≡ calling m (host_of read ms b)
+  -- an exit and a start's answer, of a child that the step doesn't start
+  pub exited : (p : ℕ) → is_started_now (host_of read ms b) p ≡ false → host_of read ms (books_exiting p b) ≡ heard_exit p (host_of read ms b)
+  pub spawned : (p : ℕ) (ok : Bool) → is_started_now (host_of read ms b) p ≡ false → host_of read ms (books_spawning p ok b) ≡ heard_start p ok (host_of read ms b)
+  -- a line that is no command, and the count of a step
+  pub numbered : host_of read ms (books_numbering b) ≡ heard_number (host_of read ms b)
+  pub counted : (now : ℕ) → host_of read ms (books_counting now b) ≡ counted now (host_of read ms b)
+  -- a move takes out the members that it ends
+  pub moved : (m : Move) → host_of read (filter (λ s. not (is_ended_by_move m s)) ms) (books_moving m b) ≡ with_move m (host_of read ms b)
+
+abbrev pub BooksFollowStates : Type 0
+BooksFollowStates = (read : List ℕ → Result Command ℕ) (ms : List MemberState) (b : BooksState) → BooksFollow read ms b
+
+-- Commands come to what the member decides that has the lockspace.
+pub record DecidesByMember (h : HostState) : Type 0 where
+  pub releases : (r : ResourceArg) (p : ℕ) → with_member (member_named h r.lockspace) (λ m. release_in h m r p) ≡ holder_decision h r p (λ g. true) (λ m g. GivesUp m.who g)
+  pub converts : (r : ResourceArg) (p : ℕ) (mode : Mode) → with_member (member_named h r.lockspace) (λ m. convert_in h m r p mode) ≡ convert_decision h r p mode
+  pub gets : (r : ResourceArg) (p : ℕ) → with_member (member_named h r.lockspace) (λ m. get_in h m r p) ≡ holder_decision h r p (λ g. true) (λ m g. GetsValue m.who (spot_of r))
+  pub leaves : (a : LockspaceArg) → with_member (member_of h a) (λ m. leave_in h m) ≡ leave_decision h a
+  pub adds : (a : LockspaceArg) → add_in h a ≡ add_decision h a
+  pub requests : (r : ResourceArg) → with_member (member_named h r.lockspace) (λ m. request_in h m r) ≡ request_decision h r
+
+abbrev pub DecisionsAreTaken : Type 0
+DecisionsAreTaken = (h : HostState) → DecidesByMember h

@@ -1,0 +1,194 @@
+//! The effects of a step in progress, class by class, with memory for some more.
+
+ghost use Rattle.sl_trace.specs.Traces.{no_effects};
+ghost use Rattle.sl_whole_host.specs.Books.{BuffersState};
+ghost use Rattle.std.specs.Prelude.{IfOk, length, [], ◌+◌, ◌++◌, ◌-◌, ◌<◌, ◌^◌, ◌∷◌, ◌≡◌};
+
+use sl_room::Room;
+use sl_sector::{Block, DeltaRec, DeltaState, Leader, Rec, Request, ValueRec};
+use sl_text::{Data, FilePath, Name, Seq};
+use sl_trace::{
+    Call, Effects, End, Grant, JobReply, JoinStep, LeaseStep, Move, Op, Purpose, Sent, Start, Work,
+};
+use std::alloc::{AllocError, Global};
+use std::marker::Model;
+
+/// The types within a call.
+type WithinCall = (
+    (Op, Purpose, Work, LeaseStep, JoinStep),
+    (Rec, Leader, Block, DeltaRec, DeltaState, Request, ValueRec),
+    (Name, Data, FilePath),
+);
+
+/// Lists of effects: each has memory for at least `left` more.
+#[derive(Drop)]
+pub struct Buffers {
+    ends: Room<End>,
+    signals: Room<Sent>,
+    moves: Room<Move>,
+    grants: Room<Grant>,
+    starts: Room<Start>,
+    replies: Room<JobReply>,
+    calls: Room<Call>,
+    left: usize,
+}
+
+impl Model for Buffers {
+    ghost use Rattle.sl_whole_host.specs.Books.{BuffersState};
+    ghost use Rattle.std.specs.Prelude.{◌≤◌};
+
+    ghost Value = { BuffersState };
+
+    ghost view = { λ b. record {
+      made = record {
+        ends = b.ends.items;
+        signals = b.signals.items;
+        moves = b.moves.items;
+        grants = b.grants.items;
+        starts = b.starts.items;
+        replies = b.replies.items;
+        calls = b.calls.items;
+      };
+      left = b.left;
+    } };
+
+    ghost invariant = { λ b. (b.left ≤ b.ends.room) × (b.left ≤ b.signals.room) × (b.left ≤ b.moves.room) × (b.left ≤ b.grants.room) × (b.left ≤ b.starts.room)
+        × (b.left ≤ b.replies.room) × (b.left ≤ b.calls.room) };
+}
+
+impl Buffers {
+    /// No effects, with memory for so many of each class. An `Err` is want of memory.
+    pub fn new(alloc: Global, room: usize) -> Result<Buffers, AllocError>
+        requires { room < 2 ^ 32 }
+        ensures { IfOk result (λ b. b ≡ record { made = no_effects; left = room }) }
+    {
+        Ok(Buffers {
+            ends: Room::new(alloc, room)?,
+            signals: Room::new(alloc, room)?,
+            moves: Room::new(alloc, room)?,
+            grants: Room::new(alloc, room)?,
+            starts: Room::new(alloc, room)?,
+            replies: Room::new(alloc, room)?,
+            calls: Room::new(alloc, room)?,
+            left: room,
+        })
+    }
+
+    /// For how many more effects there is memory.
+    pub fn left(&self) -> usize
+        ensures { result ≡ self.now.left }
+    {
+        self.left
+    }
+
+    /// One place of each is given up, for what makes no effect.
+    pub fn spend(&mut self)
+        requires { 0 < self.old.left }
+        ensures { self.new ≡ record self.old { left = self.old.left - 1 } }
+    {
+        self.left -= 1;
+    }
+
+    /// How many calls there are.
+    pub fn calls(&self) -> u64
+        ensures { result ≡ length self.now.made.calls }
+    {
+        self.calls.len() as u64
+    }
+
+    /// One more end.
+    pub fn end(&mut self, end: End)
+        requires { 0 < self.old.left }
+        ensures made { self.new.made ≡ record self.old.made { ends = self.old.made.ends ++ end ∷ [] } }
+        ensures left { self.new.left ≡ self.old.left - 1 }
+    {
+        self.ends.put(end);
+        self.left -= 1;
+    }
+
+    /// One more signal.
+    pub fn signal(&mut self, sent: Sent)
+        requires { 0 < self.old.left }
+        ensures made { self.new.made ≡ record self.old.made { signals = self.old.made.signals ++ sent ∷ [] } }
+        ensures left { self.new.left ≡ self.old.left - 1 }
+    {
+        self.signals.put(sent);
+        self.left -= 1;
+    }
+
+    /// One more move.
+    pub fn move_on(&mut self, step: Move)
+        requires { 0 < self.old.left }
+        ensures made { self.new.made ≡ record self.old.made { moves = self.old.made.moves ++ step ∷ [] } }
+        ensures left { self.new.left ≡ self.old.left - 1 }
+    {
+        self.moves.put(step);
+        self.left -= 1;
+    }
+
+    /// One more grant.
+    pub fn grant(&mut self, grant: Grant)
+        requires { 0 < self.old.left }
+        ensures made { self.new.made ≡ record self.old.made { grants = self.old.made.grants ++ grant ∷ [] } }
+        ensures left { self.new.left ≡ self.old.left - 1 }
+    {
+        self.grants.put(grant);
+        self.left -= 1;
+    }
+
+    /// One more start.
+    pub fn start(&mut self, start: Start)
+        requires { 0 < self.old.left }
+        ensures made { self.new.made ≡ record self.old.made { starts = self.old.made.starts ++ start ∷ [] } }
+        ensures left { self.new.left ≡ self.old.left - 1 }
+    {
+        self.starts.put(start);
+        self.left -= 1;
+    }
+
+    /// One more reply.
+    pub fn reply(&mut self, reply: JobReply)
+        requires { 0 < self.old.left }
+        ensures made { self.new.made ≡ record self.old.made { replies = self.old.made.replies ++ reply ∷ [] } }
+        ensures left { self.new.left ≡ self.old.left - 1 }
+    {
+        self.replies.put(reply);
+        self.left -= 1;
+    }
+
+    /// One more call.
+    pub fn call(&mut self, call: Call)
+        requires { 0 < self.old.left }
+        ensures made { self.new.made ≡ record self.old.made { calls = self.old.made.calls ++ call ∷ [] } }
+        ensures left { self.new.left ≡ self.old.left - 1 }
+    {
+        let _within: Option<WithinCall> = None;
+        self.calls.put(call);
+        self.left -= 1;
+    }
+
+    /// The effects.
+    pub fn into_effects(self) -> Effects
+        ensures { result ≡ self.made }
+    {
+        let Buffers {
+            ends,
+            signals,
+            moves,
+            grants,
+            starts,
+            replies,
+            calls,
+            left: _,
+        } = self;
+        Effects {
+            ends: Seq::new(ends.into_vec()),
+            signals: Seq::new(signals.into_vec()),
+            moves: Seq::new(moves.into_vec()),
+            grants: Seq::new(grants.into_vec()),
+            starts: Seq::new(starts.into_vec()),
+            replies: Seq::new(replies.into_vec()),
+            calls: Seq::new(calls.into_vec()),
+        }
+    }
+}
