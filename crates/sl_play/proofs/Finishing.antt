@@ -16,7 +16,7 @@ use Rattle.sl_trace.specs.declared.effects.Effects.{Effects}
 use Rattle.std.proofs.Common.{ap, refl, subst, sym, ◌∙◌}
 use Rattle.std.specs.Prelude.{Err, IsSomeAnd, IsTrue, List, None, Ok, Option, Some, true, [], ℕ, ◌++◌, ◌∷◌, ◌≡◌}
 
-bytes_joined : (xs ys : List (List ℕ)) → as_bytes (xs ++ ys) ≡ as_bytes xs ++ as_bytes ys
+pub bytes_joined : (xs ys : List (List ℕ)) → as_bytes (xs ++ ys) ≡ as_bytes xs ++ as_bytes ys
 bytes_joined [] ys = refl
 bytes_joined (x ∷ xs) ys = ap (λ zs. (x ++ 10 ∷ []) ++ zs) (bytes_joined xs ys) ∙ sym (append_assoc (x ++ 10 ∷ []) (as_bytes xs) (as_bytes ys))
 

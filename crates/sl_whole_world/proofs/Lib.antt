@@ -6,3 +6,5 @@ pub mod DoneCalls
 pub mod StartedDaemons
 pub mod EndedEvents
 pub mod Refused
+pub mod HeldThere
+pub mod LeftGrants

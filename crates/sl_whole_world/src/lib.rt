@@ -9,9 +9,11 @@
 mod answers;
 mod apply;
 mod begin;
+mod conflicts;
 mod ends;
 mod given;
 mod hosts;
+pub mod laws;
 mod own;
 mod questions;
 mod sites;
