@@ -12,3 +12,5 @@ pub mod RepliesRun
 pub mod LineCauses
 pub mod QuietMoves
 pub mod LineAnswers
+pub mod HeadsAreEarly
+pub mod LinesAreWell
