@@ -14,3 +14,4 @@ pub mod QuietMoves
 pub mod LineAnswers
 pub mod HeadsAreEarly
 pub mod LinesAreWell
+pub mod AtOnceAreCaused

@@ -4,7 +4,7 @@ use Rattle.sl_cause_due.proofs.HeadsAreEarly.{heads_are_early, last_is_silent}
 use Rattle.sl_cause_due.proofs.LineAnswers.{answers_are_caused, stopped_are_caused}
 use Rattle.sl_cause_due.proofs.NamesBefore.{early_entry}
 use Rattle.sl_cause_due.specs.LineCauses.{AnswersAfter, AtLine, IsBeforeInput, LinesAreWell, at_its_line}
-use Rattle.sl_due.specs.Due.{after_input, before_input, due, due_step}
+use Rattle.sl_due.specs.Due.{IsDue, after_input, before_input, due, due_step}
 use Rattle.sl_due.specs.DueCommands.{answer_line, carry_command, carry_line, decided, on_line}
 use Rattle.sl_due.specs.DueInputs.{take_input}
 use Rattle.sl_due.specs.DueWake.{finish}
@@ -17,6 +17,7 @@ use Rattle.sl_words.proofs.CaseLaws.{one_value}
 use Rattle.sl_trace.specs.Traces.{Job, Setting, Trace, is_before_input, job_numbered, next_job}
 use Rattle.sl_trace.specs.declared.command.Command.{Command}
 use Rattle.sl_trace.specs.declared.effects.Effects.{Effects}
+use Rattle.sl_trace.specs.declared.effects.Entry.{Entry}
 use Rattle.sl_trace.specs.declared.effects.JobReply.{JobReply}
 use Rattle.sl_trace.specs.declared.effects.Start.{Start}
 use Rattle.sl_trace.specs.declared.input.Input.TheVariants.{Line}
@@ -48,8 +49,12 @@ step_at : (st : Setting) (past : Trace) (now : ℕ) (text : List ℕ) → due_st
 unfolding due_step after_input take_input
 step_at st past now text = refl
 
-pub lines_are_well : LinesAreWell
+-- So of an entry that is due.
+pub line_done : (st : Setting) (past : Trace) (e : Entry) (text : List ℕ) → IsDue st past e → e.input ≡ Line text → e.effects ≡ (finish (on_line text (before_input (begin_step st past e.reading)))).effects
 unfolding due
+line_done st past e text due_so line = due_so ∙ (ap (λ i. (due_step st past e.reading i).effects) line ∙ ap (λ (s : Step). s.effects) (step_at st past e.reading text))
+
+pub lines_are_well : LinesAreWell
 lines_are_well st past e text c r j w due_so line says is found = by r refl where
   x : Step
   x = before_input (begin_step st past e.reading)
@@ -67,15 +72,13 @@ lines_are_well st past e text c r j w due_so line says is found = by r refl wher
   decision = ap (λ g. decided g (seen x) x.reading c) h.setting ∙ (ap (λ m. decided st (seen x) m c) h.reading ∙ is)
 
   ended : e.effects ≡ (finish z).effects
-  ended =
-      due_so ∙ (ap (λ i. (due_step st past e.reading i).effects) line
-      ∙ (ap (λ (s : Step). s.effects) (step_at st past e.reading text) ∙ ap (λ s. (finish s).effects) (line_at x text c r (ap (λ (g : Setting). g.read text) h.setting ∙ says) decision)))
+  ended = line_done st past e text due_so line ∙ ap (λ s. (finish s).effects) (line_at x text c r (ap (λ (g : Setting). g.read text) h.setting ∙ says) decision)
 
   replies_are : e.effects.replies ≡ x.effects.replies ++ record { job = n; reply = r } ∷ []
-  replies_are = ap (λ (f : Effects). f.replies) ended ∙ (last_is_silent z).1
+  replies_are = ap (λ (f : Effects). f.replies) ended ∙ (last_is_silent z).replies
 
   starts_are : e.effects.starts ≡ x.effects.starts
-  starts_are = ap (λ (f : Effects). f.starts) ended ∙ (last_is_silent z).0
+  starts_are = ap (λ (f : Effects). f.starts) ended ∙ (last_is_silent z).starts
 
   stands : filter (λ (k : Start). is_some k.stands_for) x.effects.starts ≡ x.effects.starts
   stands = all_pass (λ (k : Start). is_some k.stands_for) x.effects.starts h.starts

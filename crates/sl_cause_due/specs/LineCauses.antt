@@ -1,5 +1,6 @@
 -- What a line is answered at once, by what stood before it.
-use Rattle.sl_due.specs.Due.{IsDue, before_input}
+use Rattle.sl_cause_due.specs.CausedSoFar.{IsAtOnce}
+use Rattle.sl_due.specs.Due.{IsDue, before_input, due_step}
 use Rattle.sl_due.specs.DueCommands.{decided}
 use Rattle.sl_due.specs.DueWake.{finish}
 use Rattle.sl_due.specs.declared.decision.Decision.TheVariants.{Replies}
@@ -21,7 +22,7 @@ use Rattle.sl_trace.specs.declared.input.Input.TheVariants.{Line, Wake}
 use Rattle.sl_trace.specs.declared.reply.Reply.TheVariants.{Recovering}
 use Rattle.sl_trace.specs.declared.reply.Reply.{Reply}
 use Rattle.std.specs.List.{list_any}
-use Rattle.std.specs.Prelude.{Contains, List, Ok, Some, [], false, filter, is_some, true, ℕ, ◌∷◌, ◌≡◌}
+use Rattle.std.specs.Prelude.{Contains, List, Ok, Some, [], false, filter, is_some, true, ℕ, ◌<◌, ◌∷◌, ◌≡◌}
 
 -- The entry, after a trace with all its facts, brings this command.
 pub record AtLine (y : Answering) (c : Command) : Type 0 where
@@ -95,14 +96,22 @@ pub record IsBeforeInput (st : Setting) (past : Trace) (now : ℕ) (x : Step) : 
   pub early : IsEarly x
   pub starts : (k : Start) → Contains x.effects.starts k → is_some k.stands_for ≡ true
   pub replies : (a : JobReply) → Contains x.effects.replies a → is_before_input a.reply ≡ true
+  pub numbers : (a : JobReply) → Contains x.effects.replies a → a.job < next_job st past
 
 -- Each step is so where its input is looked at.
 abbrev pub HeadsAreEarly : Type 0
 HeadsAreEarly = (st : Setting) (past : Trace) (now : ℕ) → WholeTrace st past → IsBeforeInput st past now (before_input (begin_step st past now))
 
--- What comes last in a step starts nothing and answers nobody.
+-- The step has started, answered, granted and ended what the other has, and nothing else.
+pub record IsSilent (x y : Step) : Type 0 where
+  pub starts : y.effects.starts ≡ x.effects.starts
+  pub replies : y.effects.replies ≡ x.effects.replies
+  pub grants : y.effects.grants ≡ x.effects.grants
+  pub ends : y.effects.ends ≡ x.effects.ends
+
+-- What comes last in a step starts nothing, answers nobody, and grants and ends nothing.
 abbrev pub LastIsSilent : Type 0
-LastIsSilent = (x : Step) → ((finish x).effects.starts ≡ x.effects.starts) × ((finish x).effects.replies ≡ x.effects.replies)
+LastIsSilent = (x : Step) → IsSilent x (finish x)
 
 -- The job that an entry's line begins, answered by it.
 abbrev pub at_its_line : Setting → Trace → Entry → Job → Answering
@@ -114,3 +123,9 @@ LinesAreWell =
     (st : Setting) (past : Trace) (e : Entry) (text : List ℕ) (c : Command) (r : Reply) (j : Job) → WholeTrace st past → IsDue st past e → e.input ≡ Line text → st.read text ≡ Ok c
     → decided st (seen (before_input (begin_step st past e.reading))) e.reading c ≡ Replies r → job_numbered st (e ∷ past) (next_job st past) ≡ Some j
     → CausedBy (at_its_line st past e j) r
+
+-- And so has each reply that an entry that is due gives at once to its own line.
+abbrev pub AtOnceAreCaused : Type 0
+AtOnceAreCaused =
+    (st : Setting) (past : Trace) (e : Entry) (a : JobReply) (j : Job) → WholeTrace st past → IsDue st past e → Contains e.effects.replies a → IsAtOnce (due_step st past e.reading e.input) a
+    → job_numbered st (e ∷ past) a.job ≡ Some j → CausedBy (at_its_line st past e j) a.reply

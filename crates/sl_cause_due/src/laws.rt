@@ -1,7 +1,7 @@
 //! Whose the replies are, and their causes.
 
 ghost use Rattle.sl_cause_due.specs.CausedSoFar.{is_explained};
-ghost use Rattle.sl_cause_due.specs.LineCauses.{AnswersAreCaused, DecisionsOverlook, HeadsAreEarly, LastIsSilent, LinesAreCaused, LinesAreWell, StoppedAreCaused};
+ghost use Rattle.sl_cause_due.specs.LineCauses.{AnswersAreCaused, AtOnceAreCaused, DecisionsOverlook, HeadsAreEarly, LastIsSilent, LinesAreCaused, LinesAreWell, StoppedAreCaused};
 ghost use Rattle.sl_cause_due.specs.Promises.{CausesAreKept, CausesBegin, LeavingsAreCaused, RepliesRun, RepliesRunBegin};
 
 /// Each act gives its replies with their causes, as far as they are explained, and leaves those before it.
@@ -55,7 +55,7 @@ pub fn heads_are_early()
     ensures { HeadsAreEarly }
 {}
 
-/// What comes last in a step starts nothing and answers nobody.
+/// What comes last in a step starts nothing, answers nobody, and grants and ends nothing.
 pub fn last_is_silent()
     ensures { LastIsSilent }
 {}
@@ -63,4 +63,9 @@ pub fn last_is_silent()
 /// What a command is answered at once has its cause in the entry that is due.
 pub fn lines_are_well()
     ensures { LinesAreWell }
+{}
+
+/// Each reply that an entry that is due gives at once to its own line has its cause.
+pub fn at_once_are_caused()
+    ensures { AtOnceAreCaused }
 {}
