@@ -56,9 +56,12 @@ use Rattle.std.specs.Prelude.{Bool, Contains, List, None, Ok, Option, Result, So
 
 -- ---- what a command does that is carried out
 
--- It has answered no job of this number.
-abbrev Spares : ℕ → Step → Step → Type 0
-Spares n w y = (a : JobReply) → Contains y.effects.replies a → a.job ≡ n → Contains w.effects.replies a
+-- It has given no reply of this kind.
+abbrev pub Spares : (JobReply → Type 0) → Step → Step → Type 0
+Spares P w y = (a : JobReply) → Contains y.effects.replies a → P a → Contains w.effects.replies a
+
+abbrev pub OfJob : ℕ → JobReply → Type 0
+OfJob n a = a.job ≡ n
 
 -- It has granted or ended something.
 abbrev Acted : Step → Type 0
@@ -68,37 +71,37 @@ grown : {A : Type 0} (xs : List A) (x : A) → xs ++ x ∷ [] ≡ [] → ⊥
 grown [] x is = cc
 grown (y ∷ ys) x is = cc
 
-told : (n : ℕ) (w y : Step) (p : ℕ) → Spares n w y → Spares n w (send p Term y)
-told n w y p h = by (stopper_of y.setting (seen y) p) where
+pub told : (P : JobReply → Type 0) (w y : Step) (p : ℕ) → Spares P w y → Spares P w (send p Term y)
+told P w y p h = by (stopper_of y.setting (seen y) p) where
   by : (o : Option (List ℕ))
-      → Spares n w (elim o as (λ z. Step) [
+      → Spares P w (elim o as (λ z. Step) [
         | None ↦ add_signal p Term y
         | Some program ↦ add_start (record { process = next_child (seen y); program = program; job = None; stands_for = Some p }) y
       ])
   by None = h
   by (Some program) = h
 
-abbrev not_kept : Option ℕ → Job → Bool
+abbrev pub not_kept : Option ℕ → Job → Bool
 not_kept kept j = not (some_is (λ n. n == j.number) kept)
 
 -- A leaving refuses others.
-leaving : (n : ℕ) (s : Session) (w : Step) → Spares n w (signal_and_refuse s (Some n) w)
+pub leaving : (n : ℕ) (s : Session) (w : Step) → Spares (OfJob n) w (signal_and_refuse s (Some n) w)
 unfolding signal_and_refuse
 leaving n s w =
     let z : Step = signal_holders Term s w in
-    for_each_keeps (Spares n w) (filter (not_kept (Some n)) (jobs_of_session z.setting (seen z) s)) (λ j. add_reply j.number (Recovering (last_renewal z.setting (seen z) s))) z
+    for_each_keeps (Spares (OfJob n) w) (filter (not_kept (Some n)) (jobs_of_session z.setting (seen z) s)) (λ j. add_reply j.number (Recovering (last_renewal z.setting (seen z) s))) z
     (λ j there y h. other y j.number (Recovering (last_renewal z.setting (seen z) s)) (apart j (kept_inside (not_kept (Some n)) (jobs_of_session z.setting (seen z) s) j there).1) h)
-    (for_each_keeps (Spares n w) (holders_of (seen w) s) (λ p. send p Term) w (λ p there y h. told n w y p h) (λ a there is. there)) where
+    (for_each_keeps (Spares (OfJob n) w) (holders_of (seen w) s) (λ p. send p Term) w (λ p there y h. told (OfJob n) w y p h) (λ a there is. there)) where
       apart : (j : Job) → not (n == j.number) ≡ true → j.number ≡ n → ⊥
       apart j other is = true_is_false (sym other ∙ ap (λ b. not b) (ap (λ k. n == k) is ∙ number_itself n))
 
-      other : (y : Step) (j : ℕ) (r : Reply) → (j ≡ n → ⊥) → Spares n w y → Spares n w (add_reply j r y)
+      other : (y : Step) (j : ℕ) (r : Reply) → (j ≡ n → ⊥) → Spares (OfJob n) w y → Spares (OfJob n) w (add_reply j r y)
       other y j r not_it h a there is = by (contains_last y.effects.replies (record { job = j; reply = r }) a there) where
         by : Contains y.effects.replies a ⊎ (record { job = j; reply = r } ≡ a) → Contains w.effects.replies a
         by (inl old) = h a old is
         by (inr new) = absurd (not_it (ap (λ (b : JobReply). b.job) new ∙ is))
 
-granting : (s : Session) (n : ℕ) (c : Command) (mode : Mode) (lver : ℕ) (w : Step) → Spares n w (grant_for s n c mode lver w) ⊎ Acted (grant_for s n c mode lver w)
+granting : (s : Session) (n : ℕ) (c : Command) (mode : Mode) (lver : ℕ) (w : Step) → Spares (OfJob n) w (grant_for s n c mode lver w) ⊎ Acted (grant_for s n c mode lver w)
 granting s n (Acquire r shared p persistent) mode lver w = inr (λ none ends. grown w.effects.grants _ none)
 granting s n (TakeOver r shared p persistent) mode lver w = inr (λ none ends. grown w.effects.grants _ none)
 granting s n (RunProgram r shared path) mode lver w = inr (λ none ends. grown w.effects.grants _ none)
@@ -127,16 +130,16 @@ acted_ending s at n g y h = by (holdings_on (seen y) s at) where
   by [] = acted_releasing s at n g.mode g.lver (lease_place y.setting s) (known y.setting (seen y) s at) y h
   by (k ∷ ks) = h
 
-converting : (s : Session) (at : Spot) (n m : ℕ) (mode : Mode) (name : List ℕ) (k : LeaseKnown) (w : Step) → Spares m w (carry_lease s at (ForJob n) (convert_next k mode name) w)
+pub converting : (P : JobReply → Type 0) (s : Session) (at : Spot) (n : ℕ) (mode : Mode) (name : List ℕ) (k : LeaseKnown) (w : Step) → Spares P w (carry_lease s at (ForJob n) (convert_next k mode name) w)
 unfolding carry_lease
-converting s at n m Exclusive name k w = λ a there is. there
-converting s at n m Shared name k w = by k.own where
-  by : (o : Option Block) → Spares m w (carry_lease s at (ForJob n) (option_map_or (λ own. WriteBlock SetMode (moded_block own true k.self.generation)) o Nothing) w)
+converting P s at n Exclusive name k w = λ a there is. there
+converting P s at n Shared name k w = by k.own where
+  by : (o : Option Block) → Spares P w (carry_lease s at (ForJob n) (option_map_or (λ own. WriteBlock SetMode (moded_block own true k.self.generation)) o Nothing) w)
   by None = λ a there is. there
   by (Some own) = λ a there is. there
 
 -- A command that is carried out leaves its own job, unless it grants or ends something.
-carried : (n : ℕ) (c : Command) (d : Decision) (w : Step) → reply_at_once d ≡ None → Spares n w (carry_decision n c d w) ⊎ Acted (carry_decision n c d w)
+carried : (n : ℕ) (c : Command) (d : Decision) (w : Step) → reply_at_once d ≡ None → Spares (OfJob n) w (carry_decision n c d w) ⊎ Acted (carry_decision n c d w)
 unfolding carry_decision
 carried n c (Replies r) w is = absurd (none_some r (sym is))
 carried n c (Joins number a) w is = inl (λ a there is. there)
@@ -145,14 +148,14 @@ carried n c (ReadsArea s r) w is = inl (λ a there is. there)
 carried n c (Shares s lver) w is = granting s n c Shared lver w
 carried n c (GivesUp s g) w is = inr (acted_ending s (spot_of_grant g) n g (add_end (end_of g) w) (λ grants none. grown w.effects.ends (end_of g) none))
 carried n c (TakesOver s g) w is = inr (acted_granting s n c g.mode g.lver w g)
-carried n c (ConvertsTo s r mode) w is = inl (converting s (spot_of r) n n mode r.name (known w.setting (seen w) s (spot_of r)) w)
+carried n c (ConvertsTo s r mode) w is = inl (converting (OfJob n) s (spot_of r) n mode r.name (known w.setting (seen w) s (spot_of r)) w)
 carried n c (Requests s r) w is = inl (λ a there is. there)
 carried n c (SetsValue s at v) w is = inl (λ a there is. there)
 carried n c (GetsValue s at) w is = inl (λ a there is. there)
 
 -- ---- in an entry that is due
 
-at_once_is : (d : Decision) (r : Reply) → reply_at_once d ≡ Some r → d ≡ Replies r
+pub at_once_is : (d : Decision) (r : Reply) → reply_at_once d ≡ Some r → d ≡ Replies r
 at_once_is (Replies q) r is = ap (λ z. Replies z) (some_value q r is)
 at_once_is (Joins number a) r is = absurd (none_some r is)
 at_once_is (Leaves s) r is = absurd (none_some r is)
@@ -166,7 +169,7 @@ at_once_is (SetsValue s at v) r is = absurd (none_some r is)
 at_once_is (GetsValue s at) r is = absurd (none_some r is)
 
 -- A line that says a command.
-line_says : (x : Step) (text : List ℕ) (c : Command) → x.setting.read text ≡ Ok c
+pub line_says : (x : Step) (text : List ℕ) (c : Command) → x.setting.read text ≡ Ok c
     → on_line text x ≡ carry_command text (next_job x.setting (seen x)) c (decided x.setting (seen x) x.reading c) x
 unfolding on_line
 line_says x text c says = ap (λ (o : Result Command ℕ). carry_line text (next_job x.setting (seen x)) (o >>= (λ c. Ok (c, decided x.setting (seen x) x.reading c))) x) says
@@ -243,7 +246,7 @@ at_once_are_caused st past e a j w due_so there o found = by (reply_at_once d) r
     z : Step
     z = carry_decision n o.command d (with_input (Line o.text) x)
 
-    nobody : Spares n (with_input (Line o.text) x) z ⊎ Acted z → ⊥
+    nobody : Spares (OfJob n) (with_input (Line o.text) x) z ⊎ Acted z → ⊥
     nobody (inl spares) = not_before (spares a (replies_are None is) (own ∙ sym number))
     nobody (inr acted) =
         acted (sym (ap (λ (k : Effects). k.grants) (ended ∙ is_of None is) ∙ (last_is_silent z).grants) ∙ o.ungranted)

@@ -15,3 +15,4 @@ pub mod LineAnswers
 pub mod HeadsAreEarly
 pub mod LinesAreWell
 pub mod AtOnceAreCaused
+pub mod LeavingsRefuse

@@ -30,7 +30,7 @@ use Rattle.std.proofs.lemmas.List.Elements.{filter-append}
 use Rattle.std.specs.Prelude.{Bool, Contains, List, Ok, Result, [], cond, false, filter, is_some, length, true, ℕ, ◌++◌, ◌∷◌, ◌≡◌}
 
 -- What is kept of a list whose members all pass, and of one whose last fails.
-all_pass : {A : Type 0} (p : A → Bool) (xs : List A) → ((a : A) → Contains xs a → p a ≡ true) → filter p xs ≡ xs
+pub all_pass : {A : Type 0} (p : A → Bool) (xs : List A) → ((a : A) → Contains xs a → p a ≡ true) → filter p xs ≡ xs
 all_pass p [] h = refl
 all_pass p (x ∷ xs) h = ap (λ b. cond b (x ∷ filter p xs) (filter p xs)) (h x (contains_first x xs)) ∙ ap (λ ys. x ∷ ys) (all_pass p xs (λ a there. h a (contains_more x xs a there)))
 

@@ -1,5 +1,5 @@
 -- What a line is answered at once, by what stood before it.
-use Rattle.sl_cause_due.specs.CausedSoFar.{IsAtOnce}
+use Rattle.sl_cause_due.specs.CausedSoFar.{CausedSoFar, IsAtOnce, is_explained}
 use Rattle.sl_due.specs.Due.{IsDue, before_input, due_step}
 use Rattle.sl_due.specs.DueCommands.{decided}
 use Rattle.sl_due.specs.DueWake.{finish}
@@ -129,3 +129,10 @@ abbrev pub AtOnceAreCaused : Type 0
 AtOnceAreCaused =
     (st : Setting) (past : Trace) (e : Entry) (a : JobReply) (j : Job) → WholeTrace st past → IsDue st past e → Contains e.effects.replies a → IsAtOnce (due_step st past e.reading e.input) a
     → job_numbered st (e ∷ past) a.job ≡ Some j → CausedBy (at_its_line st past e j) a.reply
+
+-- Whom the step of a line refuses as in recovery, at its head, at once, or as others of a session that leaves by the line, is so with its cause.
+abbrev pub RefusedAtLines : Type 0
+RefusedAtLines =
+    (st : Setting) (past : Trace) (e : Entry) (text : List ℕ) (a : JobReply) (t : ℕ) (j : Job) → WholeTrace st past → IsDue st past e → e.input ≡ Line text
+    → CausedSoFar is_explained (before_input (begin_step st past e.reading)) → Contains e.effects.replies a → a.reply ≡ Recovering t → job_numbered st (e ∷ past) a.job ≡ Some j
+    → CausedBy (at_its_line st past e j) (Recovering t)

@@ -1,7 +1,7 @@
 //! Whose the replies are, and their causes.
 
 ghost use Rattle.sl_cause_due.specs.CausedSoFar.{is_explained};
-ghost use Rattle.sl_cause_due.specs.LineCauses.{AnswersAreCaused, AtOnceAreCaused, DecisionsOverlook, HeadsAreEarly, LastIsSilent, LinesAreCaused, LinesAreWell, StoppedAreCaused};
+ghost use Rattle.sl_cause_due.specs.LineCauses.{AnswersAreCaused, AtOnceAreCaused, DecisionsOverlook, HeadsAreEarly, LastIsSilent, LinesAreCaused, LinesAreWell, RefusedAtLines, StoppedAreCaused};
 ghost use Rattle.sl_cause_due.specs.Promises.{CausesAreKept, CausesBegin, LeavingsAreCaused, RepliesRun, RepliesRunBegin};
 
 /// Each act gives its replies with their causes, as far as they are explained, and leaves those before it.
@@ -68,4 +68,9 @@ pub fn lines_are_well()
 /// Each reply that an entry that is due gives at once to its own line has its cause.
 pub fn at_once_are_caused()
     ensures { AtOnceAreCaused }
+{}
+
+/// Whom the step of a line refuses as in recovery is so with its cause, also the others of a session that leaves by the line.
+pub fn refused_at_lines()
+    ensures { RefusedAtLines }
 {}
