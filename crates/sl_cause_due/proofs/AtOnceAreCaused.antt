@@ -6,7 +6,6 @@ use Rattle.sl_acts.proofs.StepsKeep.{Fixed, due_is_of}
 use Rattle.sl_acts.proofs.TracesKeep.{due_is_seen}
 use Rattle.sl_cause_due.proofs.HeadsAreEarly.{heads_are_early, last_is_silent}
 use Rattle.sl_cause_due.proofs.LinesAreWell.{line_done, lines_are_well}
-use Rattle.sl_cause_due.specs.CausedSoFar.{IsAtOnce}
 use Rattle.sl_cause_due.specs.LineCauses.{AtOnceAreCaused, IsBeforeInput, at_its_line}
 use Rattle.sl_due.specs.Due.{before_input, due_step}
 use Rattle.sl_due.specs.DueCommands.{after_end, answer_line, carry_command, carry_decision, carry_line, decided, on_line, reply_at_once}
@@ -24,7 +23,6 @@ use Rattle.sl_leases.specs.LeaseWork.{LeasePlace, convert_next, lease_place, rel
 use Rattle.sl_leases.specs.Ballots.{moded_block}
 use Rattle.sl_leases.specs.Leases.{LeaseKnown, holdings_on, known, spot_of}
 use Rattle.sl_leases.specs.declared.lease.LeaseNext.TheVariants.{Nothing, WriteBlock}
-use Rattle.sl_leases.specs.declared.lease.LeaseNext.{LeaseNext}
 use Rattle.sl_plain.proofs.Lists.{kept_inside}
 use Rattle.sl_plain.proofs.Numbers.{number_itself}
 use Rattle.sl_sector.specs.declared.sector.Block.{Block}
@@ -34,7 +32,6 @@ use Rattle.sl_trace.specs.Traces.{Job, Setting, Trace, end_of, job_numbered, nex
 use Rattle.sl_trace.specs.declared.command.Command.TheVariants.{Acquire, RunProgram, TakeOver}
 use Rattle.sl_trace.specs.declared.command.Command.{Command}
 use Rattle.sl_trace.specs.declared.effects.Effects.{Effects}
-use Rattle.sl_trace.specs.declared.effects.Entry.{Entry}
 use Rattle.sl_trace.specs.declared.effects.Grant.{Grant}
 use Rattle.sl_trace.specs.declared.effects.JobReply.{JobReply}
 use Rattle.sl_trace.specs.declared.effects.LeaseStep.TheVariants.{ClearMode, SetMode}

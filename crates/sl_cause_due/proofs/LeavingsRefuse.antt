@@ -4,7 +4,7 @@ use Rattle.sl_acts.proofs.Additions.{contains_last}
 use Rattle.sl_acts.proofs.EffectsKeep.{signalled}
 use Rattle.sl_acts.proofs.LoopsKeep.{for_each_keeps}
 use Rattle.sl_acts.specs.Plainly.{ByEffects}
-use Rattle.sl_cause_due.proofs.AtOnceAreCaused.{OfJob, Spares, at_once_is, converting, leaving, line_says, not_kept, told}
+use Rattle.sl_cause_due.proofs.AtOnceAreCaused.{Spares, at_once_is, converting, leaving, not_kept, told}
 use Rattle.sl_cause_due.proofs.HeadsAreEarly.{heads_are_early, last_is_silent}
 use Rattle.sl_cause_due.proofs.LaterSteps.{wake_no_line}
 use Rattle.sl_cause_due.proofs.LineCauses.{off_last, unjoined_early}
@@ -13,10 +13,10 @@ use Rattle.sl_cause_due.proofs.NamesBefore.{early_entry, session_then, with_sess
 use Rattle.sl_cause_due.proofs.RecoveryCauses.{Names, joined_before, last_stays, names_of, numbered_is, stands_at}
 use Rattle.sl_acts.specs.SoFar.{entry_of}
 use Rattle.sl_cause_due.proofs.WakeCauses.{sessions_wake}
-use Rattle.sl_cause_due.specs.CausedSoFar.{CausedSoFar, IsLater, is_explained}
+use Rattle.sl_cause_due.specs.CausedSoFar.{IsLater, is_explained}
 use Rattle.sl_cause_due.specs.LineCauses.{IsBeforeInput, RefusedAtLines, at_its_line}
 use Rattle.sl_due.specs.Due.{before_input}
-use Rattle.sl_due.specs.DueCommands.{after_end, answer_line, carry_command, carry_decision, carry_line, decided, on_line, reply_at_once}
+use Rattle.sl_due.specs.DueCommands.{after_end, answer_line, carry_decision, carry_line, decided, on_line, reply_at_once}
 use Rattle.sl_due.specs.DueFirst.{send, signal_and_refuse, signal_holders}
 use Rattle.sl_due.specs.DueLease.{carry_lease, grant_for, grant_of}
 use Rattle.sl_due.specs.DueWake.{finish}
@@ -33,15 +33,13 @@ use Rattle.sl_leases.specs.LeaseWork.{LeasePlace, lease_place, release_next}
 use Rattle.sl_leases.specs.Leases.{LeaseKnown, holdings_on, known, spot_of}
 use Rattle.sl_leases.specs.declared.lease.LeaseNext.TheVariants.{Nothing, WriteBlock}
 use Rattle.sl_plain.proofs.Lists.{contains_first, contains_more, find_inside, kept_inside}
-use Rattle.sl_plain.proofs.Numbers.{less_is_other}
 use Rattle.sl_sector.specs.declared.sector.Block.{Block}
-use Rattle.sl_sessions.specs.Sessions.{holders_of, is_active, is_joined, is_session_arg, joined_after, last_renewal, leaves, leaving_in, leaving_job, present_sessions, recovery_of, removed_after, renewing, session_named, sessions}
+use Rattle.sl_sessions.specs.Sessions.{holders_of, is_active, is_joined, joined_after, last_renewal, leaves, leaving_in, leaving_job, present_sessions, recovery_of, removed_after, renewing, sessions}
 use Rattle.sl_sessions.specs.declared.session.Session.{Session}
 use Rattle.sl_step_facts.specs.Whole.{WholeTrace}
 use Rattle.sl_trace.specs.Traces.{Job, Setting, Trace, end_of, is_before_input, is_running, job_numbered, jobs, line_in, next_job, running_jobs, spot_of_grant}
-use Rattle.sl_trace.specs.declared.command.Command.TheVariants.{Acquire, RemLockspace, RunProgram, TakeOver}
+use Rattle.sl_trace.specs.declared.command.Command.TheVariants.{Acquire, RunProgram, TakeOver}
 use Rattle.sl_trace.specs.declared.command.Command.{Command}
-use Rattle.sl_trace.specs.declared.command.LockspaceArg.{LockspaceArg}
 use Rattle.sl_trace.specs.declared.effects.Effects.{Effects}
 use Rattle.sl_trace.specs.declared.effects.Entry.{Entry}
 use Rattle.sl_trace.specs.declared.effects.Grant.{Grant}
@@ -56,7 +54,7 @@ use Rattle.sl_trace.specs.declared.input.Input.TheVariants.{Line, Wake}
 use Rattle.sl_trace.specs.declared.input.Input.{Input}
 use Rattle.sl_trace.specs.declared.reply.Reply.TheVariants.{BadCommand as Misread, Done, Granted, Recovering}
 use Rattle.sl_trace.specs.declared.reply.Reply.{Reply}
-use Rattle.sl_words.proofs.CaseLaws.{false_is_true, is_false, none_some, one_value}
+use Rattle.sl_words.proofs.CaseLaws.{false_is_true, is_false, one_value}
 use Rattle.sl_words.proofs.WordLaws.{and_true}
 use Rattle.sl_words.specs.Results.{◌>>=◌}
 use Rattle.sl_words.specs.Words.{choose, some_is}
@@ -64,15 +62,15 @@ use Rattle.std.proofs.Common.{ap, ap₂, arith, inl, inr, refl, subst, sym, ◌�
 use Rattle.std.proofs.lemmas.Bool.{eqb-true}
 use Rattle.std.specs.List.{list_any}
 use Rattle.std.specs.Option.{option_map_or}
-use Rattle.std.specs.Prelude.{Bool, Contains, Err, IsFalse, IsTrue, List, None, Ok, Option, Result, Some, [], bytes_eq, cond, false, filter, is_none, is_some, length, not, true, ℕ, ◌&&◌, ◌<◌, ◌==◌, ◌∷◌, ◌≡◌, ◌||◌, ◌⊎◌}
+use Rattle.std.specs.Prelude.{Bool, Contains, Err, IsFalse, IsTrue, List, None, Ok, Option, Result, Some, [], bytes_eq, false, filter, is_none, is_some, length, not, true, ℕ, ◌&&◌, ◌<◌, ◌==◌, ◌∷◌, ◌≡◌, ◌||◌, ◌⊎◌}
 
 -- ---- what other commands answer
 
-abbrev Stops : ℕ → JobReply → Type 0
-Stops t a = a.reply ≡ Recovering t
+abbrev pub Says : Reply → JobReply → Type 0
+Says q a = a.reply ≡ q
 
-no_stop : (t : ℕ) (w y : Step) (n : ℕ) (r : Reply) → (r ≡ Recovering t → ⊥) → Spares (Stops t) w y → Spares (Stops t) w (add_reply n r y)
-no_stop t w y n r other h a there is = by (contains_last y.effects.replies (record { job = n; reply = r }) a there) where
+pub says_other : (q : Reply) (w y : Step) (n : ℕ) (r : Reply) → (r ≡ q → ⊥) → Spares (Says q) w y → Spares (Says q) w (add_reply n r y)
+says_other q w y n r other h a there is = by (contains_last y.effects.replies (record { job = n; reply = r }) a there) where
   by : Contains y.effects.replies a ⊎ (record { job = n; reply = r } ≡ a) → Contains w.effects.replies a
   by (inl old) = h a old is
   by (inr new) = absurd (other (ap (λ (b : JobReply). b.reply) new ∙ is))
@@ -86,40 +84,40 @@ done_apart t is = cc
 misread_apart : (n t : ℕ) → Misread n ≡ Recovering t → ⊥
 misread_apart n t is = cc
 
-granting : (t : ℕ) (s : Session) (n : ℕ) (c : Command) (mode : Mode) (lver : ℕ) (w y : Step) → Spares (Stops t) w y → Spares (Stops t) w (grant_for s n c mode lver y)
-granting t s n (Acquire r shared p persistent) mode lver w y h = no_stop t w (add_grant (grant_of s r p mode lver persistent) y) n (Granted lver) (granted_apart lver t) h
-granting t s n (TakeOver r shared p persistent) mode lver w y h = no_stop t w (add_grant (grant_of s r p mode lver persistent) y) n (Granted lver) (granted_apart lver t) h
+granting : (t : ℕ) (s : Session) (n : ℕ) (c : Command) (mode : Mode) (lver : ℕ) (w y : Step) → Spares (Says (Recovering t)) w y → Spares (Says (Recovering t)) w (grant_for s n c mode lver y)
+granting t s n (Acquire r shared p persistent) mode lver w y h = says_other (Recovering t) w (add_grant (grant_of s r p mode lver persistent) y) n (Granted lver) (granted_apart lver t) h
+granting t s n (TakeOver r shared p persistent) mode lver w y h = says_other (Recovering t) w (add_grant (grant_of s r p mode lver persistent) y) n (Granted lver) (granted_apart lver t) h
 granting t s n (RunProgram r shared path) mode lver w y h = h
 granting t s n c mode lver w y h = h
 
-releasing : (t : ℕ) (s : Session) (at : Spot) (n : ℕ) (mode : Mode) (lver : ℕ) (p : LeasePlace) (k : LeaseKnown) (w y : Step) → Spares (Stops t) w y
-    → Spares (Stops t) w (carry_lease s at (ForJob n) (release_next p k mode lver) y)
+releasing : (q : Reply) (s : Session) (at : Spot) (n : ℕ) (mode : Mode) (lver : ℕ) (p : LeasePlace) (k : LeaseKnown) (w y : Step) → Spares (Says q) w y
+    → Spares (Says q) w (carry_lease s at (ForJob n) (release_next p k mode lver) y)
 unfolding carry_lease
-releasing t s at n Exclusive lver p k w y h = h
-releasing t s at n Shared lver p k w y h = by k.own where
-  by : (o : Option Block) → Spares (Stops t) w (carry_lease s at (ForJob n) (option_map_or (λ own. WriteBlock ClearMode (moded_block own false 0)) o Nothing) y)
+releasing q s at n Exclusive lver p k w y h = h
+releasing q s at n Shared lver p k w y h = by k.own where
+  by : (o : Option Block) → Spares (Says q) w (carry_lease s at (ForJob n) (option_map_or (λ own. WriteBlock ClearMode (moded_block own false 0)) o Nothing) y)
   by None = h
   by (Some own) = h
 
-ending : (t : ℕ) (s : Session) (at : Spot) (n : ℕ) (g : Grant) (w y : Step) → Spares (Stops t) w y → Spares (Stops t) w (after_end s at n g y)
+pub ending : (q : Reply) (s : Session) (at : Spot) (n : ℕ) (g : Grant) (w y : Step) → (Done ≡ q → ⊥) → Spares (Says q) w y → Spares (Says q) w (after_end s at n g y)
 unfolding after_end
-ending t s at n g w y h = by (holdings_on (seen y) s at) where
+ending q s at n g w y other h = by (holdings_on (seen y) s at) where
   by : (hs : List Grant)
-      → Spares (Stops t) w (elim hs as (λ z. Step) [ k ∷ ks ↦ add_reply n Done y | [] ↦ carry_lease s at (ForJob n) (release_next (lease_place y.setting s) (known y.setting (seen y) s at) g.mode g.lver) y ])
-  by [] = releasing t s at n g.mode g.lver (lease_place y.setting s) (known y.setting (seen y) s at) w y h
-  by (k ∷ ks) = no_stop t w y n Done (done_apart t) h
+      → Spares (Says q) w (elim hs as (λ z. Step) [ k ∷ ks ↦ add_reply n Done y | [] ↦ carry_lease s at (ForJob n) (release_next (lease_place y.setting s) (known y.setting (seen y) s at) g.mode g.lver) y ])
+  by [] = releasing q s at n g.mode g.lver (lease_place y.setting s) (known y.setting (seen y) s at) w y h
+  by (k ∷ ks) = says_other q w y n Done other h
 
 -- All but a leaving.
-others_spare : (t n : ℕ) (c : Command) (d : Decision) (w : Step) → ((s : Session) → d ≡ Leaves s → ⊥) → Spares (Stops t) w (carry_decision n c d w)
+others_spare : (t n : ℕ) (c : Command) (d : Decision) (w : Step) → ((s : Session) → d ≡ Leaves s → ⊥) → Spares (Says (Recovering t)) w (carry_decision n c d w)
 unfolding carry_decision
 others_spare t n c (Replies r) w other = λ a there is. there
 others_spare t n c (Joins number l) w other = λ a there is. there
 others_spare t n c (Leaves s) w other = absurd (other s refl)
 others_spare t n c (ReadsArea s r) w other = λ a there is. there
 others_spare t n c (Shares s lver) w other = granting t s n c Shared lver w w (λ a there is. there)
-others_spare t n c (GivesUp s g) w other = ending t s (spot_of_grant g) n g w (add_end (end_of g) w) (λ a there is. there)
+others_spare t n c (GivesUp s g) w other = ending (Recovering t) s (spot_of_grant g) n g w (add_end (end_of g) w) (done_apart t) (λ a there is. there)
 others_spare t n c (TakesOver s g) w other = granting t s n c g.mode g.lver w (add_end (end_of g) w) (λ a there is. there)
-others_spare t n c (ConvertsTo s r mode) w other = converting (Stops t) s (spot_of r) n mode r.name (known w.setting (seen w) s (spot_of r)) w
+others_spare t n c (ConvertsTo s r mode) w other = converting (Says (Recovering t)) s (spot_of r) n mode r.name (known w.setting (seen w) s (spot_of r)) w
 others_spare t n c (Requests s r) w other = λ a there is. there
 others_spare t n c (SetsValue s at v) w other = λ a there is. there
 others_spare t n c (GetsValue s at) w other = λ a there is. there
@@ -142,13 +140,13 @@ of_effects st past now i =
     }
 
 -- The reply is to a job of the session, and tells its last renewal.
-record Refused (z : Step) (s : Session) (a : JobReply) : Type 0 where
-  job : Job
-  mine : Contains (jobs_of_session z.setting (seen z) s) job
-  number : job.number ≡ a.job
-  reply : Recovering (last_renewal z.setting (seen z) s) ≡ a.reply
+pub record Refused (z : Step) (s : Session) (a : JobReply) : Type 0 where
+  pub job : Job
+  pub mine : Contains (jobs_of_session z.setting (seen z) s) job
+  pub number : job.number ≡ a.job
+  pub reply : Recovering (last_renewal z.setting (seen z) s) ≡ a.reply
 
-refusals : (n : ℕ) (s : Session) (w : Step) (a : JobReply) → Contains (signal_and_refuse s (Some n) w).effects.replies a → Contains w.effects.replies a ⊎ Refused (signal_holders Term s w) s a
+pub refusals : (n : ℕ) (s : Session) (w : Step) (a : JobReply) → Contains (signal_and_refuse s (Some n) w).effects.replies a → Contains w.effects.replies a ⊎ Refused (signal_holders Term s w) s a
 unfolding signal_and_refuse
 refusals n s w a there =
     for_each_keeps (λ y. Contains y.effects.replies a → Contains w.effects.replies a ⊎ Refused z s a) (filter (not_kept (Some n)) (jobs_of_session z.setting (seen z) s))
@@ -166,7 +164,7 @@ refusals n s w a there =
 
 -- ---- who was joined before the input was so before the entry
 
-joined_past : (past : Trace) (e : Entry) (s : Session) → ((a : JobReply) → Contains e.effects.replies a → is_before_input a.reply ≡ true) → is_joined (e ∷ past) s ≡ true → is_joined past s ≡ true
+pub joined_past : (past : Trace) (e : Entry) (s : Session) → ((a : JobReply) → Contains e.effects.replies a → is_before_input a.reply ≡ true) → is_joined (e ∷ past) s ≡ true → is_joined past s ≡ true
 joined_past past e s early is = by (joined_after past s) refl where
   by : (o : Option ℕ) → joined_after past s ≡ o → is_joined past s ≡ true
   by (Some k) was = joined_before past e s (ap (λ o. is_some o) was) is
@@ -261,11 +259,11 @@ refused_caused st past e text s z a t j w there h of r is found =
         ∙ (ap (λ m. (stands_at st past m z.input s).last) of.2
         ∙ (ap (λ i. (stands_at st past e.reading i s).last) of.3 ∙ last_stays st past e.reading (Line text) s refl))))
 
-first_of : (a b c : Bool) → (a && b && c) ≡ true → a ≡ true
+pub first_of : (a b c : Bool) → (a && b && c) ≡ true → a ≡ true
 first_of true b c is = refl
 first_of false b c is = absurd (false_is_true is)
 
-line_reads : (x : Step) (text : List ℕ)
+pub line_reads : (x : Step) (text : List ℕ)
     → on_line text x ≡ carry_line text (next_job x.setting (seen x)) (x.setting.read text >>= (λ c. Ok (c, decided x.setting (seen x) x.reading c))) x
 unfolding on_line
 line_reads x text = refl

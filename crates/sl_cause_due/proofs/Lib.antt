@@ -16,3 +16,4 @@ pub mod HeadsAreEarly
 pub mod LinesAreWell
 pub mod AtOnceAreCaused
 pub mod LeavingsRefuse
+pub mod GrantedAtLines

@@ -19,7 +19,7 @@ use Rattle.sl_trace.specs.declared.effects.Move.{Move}
 use Rattle.sl_trace.specs.declared.effects.Sent.{Sent}
 use Rattle.sl_trace.specs.declared.effects.Start.{Start}
 use Rattle.sl_trace.specs.declared.input.Input.TheVariants.{Line, Wake}
-use Rattle.sl_trace.specs.declared.reply.Reply.TheVariants.{Recovering}
+use Rattle.sl_trace.specs.declared.reply.Reply.TheVariants.{Granted, Recovering}
 use Rattle.sl_trace.specs.declared.reply.Reply.{Reply}
 use Rattle.std.specs.List.{list_any}
 use Rattle.std.specs.Prelude.{Contains, List, Ok, Some, [], false, filter, is_some, true, ℕ, ◌<◌, ◌∷◌, ◌≡◌}
@@ -136,3 +136,9 @@ RefusedAtLines =
     (st : Setting) (past : Trace) (e : Entry) (text : List ℕ) (a : JobReply) (t : ℕ) (j : Job) → WholeTrace st past → IsDue st past e → e.input ≡ Line text
     → CausedSoFar is_explained (before_input (begin_step st past e.reading)) → Contains e.effects.replies a → a.reply ≡ Recovering t → job_numbered st (e ∷ past) a.job ≡ Some j
     → CausedBy (at_its_line st past e j) (Recovering t)
+
+-- What a line is granted, beside a holding or by taking one over, is granted with its cause.
+abbrev pub GrantedAtLines : Type 0
+GrantedAtLines =
+    (st : Setting) (past : Trace) (e : Entry) (text : List ℕ) (a : JobReply) (lver : ℕ) (j : Job) → WholeTrace st past → IsDue st past e → e.input ≡ Line text → Contains e.effects.replies a
+    → a.reply ≡ Granted lver → job_numbered st (e ∷ past) a.job ≡ Some j → CausedBy (at_its_line st past e j) (Granted lver)

@@ -1,7 +1,7 @@
 //! Whose the replies are, and their causes.
 
 ghost use Rattle.sl_cause_due.specs.CausedSoFar.{is_explained};
-ghost use Rattle.sl_cause_due.specs.LineCauses.{AnswersAreCaused, AtOnceAreCaused, DecisionsOverlook, HeadsAreEarly, LastIsSilent, LinesAreCaused, LinesAreWell, RefusedAtLines, StoppedAreCaused};
+ghost use Rattle.sl_cause_due.specs.LineCauses.{AnswersAreCaused, AtOnceAreCaused, DecisionsOverlook, GrantedAtLines, HeadsAreEarly, LastIsSilent, LinesAreCaused, LinesAreWell, RefusedAtLines, StoppedAreCaused};
 ghost use Rattle.sl_cause_due.specs.Promises.{CausesAreKept, CausesBegin, LeavingsAreCaused, RepliesRun, RepliesRunBegin};
 
 /// Each act gives its replies with their causes, as far as they are explained, and leaves those before it.
@@ -73,4 +73,9 @@ pub fn at_once_are_caused()
 /// Whom the step of a line refuses as in recovery is so with its cause, also the others of a session that leaves by the line.
 pub fn refused_at_lines()
     ensures { RefusedAtLines }
+{}
+
+/// What a line is granted, beside a holding or by taking one over, is granted with its cause.
+pub fn granted_at_lines()
+    ensures { GrantedAtLines }
 {}
