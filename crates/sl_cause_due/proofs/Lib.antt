@@ -12,3 +12,8 @@ pub mod RepliesRun
 pub mod LineCauses
 pub mod QuietMoves
 pub mod LineAnswers
+pub mod HeadsAreEarly
+pub mod LinesAreWell
+pub mod AtOnceAreCaused
+pub mod LeavingsRefuse
+pub mod GrantedAtLines

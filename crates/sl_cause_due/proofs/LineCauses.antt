@@ -115,7 +115,7 @@ early_undone (Recovering t) h = refl
 early_undone (Generation g) h = absurd (false_is_true h)
 early_undone r h = absurd (false_is_true h)
 
-unjoined_early : (past : Trace) (now : ℕ) (ks : List Start) (rs : List JobReply) (s : Session) → joined_after past s ≡ None → joined_after (early_entry now ks (filter (λ (a : JobReply). is_before_input a.reply) rs) ∷ past) s ≡ None
+pub unjoined_early : (past : Trace) (now : ℕ) (ks : List Start) (rs : List JobReply) (s : Session) → joined_after past s ≡ None → joined_after (early_entry now ks (filter (λ (a : JobReply). is_before_input a.reply) rs) ∷ past) s ≡ None
 unjoined_early past now ks rs s none = of_job s.job none where
   early : List JobReply
   early = filter (λ (a : JobReply). is_before_input a.reply) rs
@@ -154,7 +154,7 @@ joined_early y s is = by (joined_after y.past s) refl where
       absurd (false_is_true (sym (ap (λ o. is_some o) (unjoined_early y.past y.entry.reading (filter (λ (k : Start). is_some k.stands_for) y.entry.effects.starts) y.entry.effects.replies s un))
       ∙ (and_true (is_some (joined_after (before_entry y) s)) _ is).0))
 
-off_last : (a b c : Bool) → c ≡ false → (a && b && c) ≡ false
+pub off_last : (a b c : Bool) → c ≡ false → (a && b && c) ≡ false
 off_last true true false c = refl
 off_last true false false c = refl
 off_last false true false c = refl

@@ -66,7 +66,7 @@ by_time st past now i s = by (renewing st past s) ((renewing st past s).recovery
   by r None is false false h = absurd (false_is_true (sym (ap (λ o. is_some o) is) ∙ h))
 
 -- The last renewal is as it was, unless the input answers one.
-last_stays : (st : Setting) (past : Trace) (now : ℕ) (i : Input) (s : Session) → renewed_by past s i ≡ None → (stands_at st past now i s).last ≡ (renewing st past s).last
+pub last_stays : (st : Setting) (past : Trace) (now : ℕ) (i : Input) (s : Session) → renewed_by past s i ≡ None → (stands_at st past now i s).last ≡ (renewing st past s).last
 last_stays st past now i s none =
     by (renewing st past s) ((renewing st past s).recovery) (is_joined past s && nat_le ((renewing st past s).last + fail st.timing) now) (is_joined past s && shows_other st past s i)
   where
@@ -120,12 +120,12 @@ jobs_past st past e none =
     ∙ append-nil (jobs st past)
 
 -- Its command names the session's lockspace.
-record Names (j : Job) (s : Session) : Type 0 where
-  command : Command
-  says : j.command ≡ Ok command
-  names : lockspace_named command ≡ Some s.lockspace
+pub record Names (j : Job) (s : Session) : Type 0 where
+  pub command : Command
+  pub says : j.command ≡ Ok command
+  pub names : lockspace_named command ≡ Some s.lockspace
 
-names_of : (j : Job) (s : Session) → is_command_that (λ c. some_is (λ n. bytes_eq n s.lockspace) (lockspace_named c)) j ≡ true → Names j s
+pub names_of : (j : Job) (s : Session) → is_command_that (λ c. some_is (λ n. bytes_eq n s.lockspace) (lockspace_named c)) j ≡ true → Names j s
 names_of j s is =
     let c = some_is_true (λ d. some_is (λ n. bytes_eq n s.lockspace) (lockspace_named d)) (command_of j) is in
     let n = some_is_true (λ k. bytes_eq k s.lockspace) (lockspace_named c.0) c.2 in

@@ -98,7 +98,7 @@ answered_over x a there = by (reply_to x.past a.job) (find mine x.effects.replie
   by None (Some b) is = refl
   by None None is = absurd (not_both (mine a) (number_itself a.job) (find_fails mine x.effects.replies a is there))
 
-before_it : (x : Step) (j : ℕ) → is_running (seen x) j ≡ true → reply_to x.past j ≡ None
+pub before_it : (x : Step) (j : ℕ) → is_running (seen x) j ≡ true → reply_to x.past j ≡ None
 before_it x j runs = by (reply_to x.past j) refl runs where
   by : (o : Option Replied) → reply_to x.past j ≡ o
       → is_none (elim o as (λ z. Option Replied) [ Some b ↦ Some b | None ↦ option_map (λ (b : JobReply). record { at = length x.past; reply = b.reply }) (find (λ (b : JobReply). b.job == j) x.effects.replies) ]) ≡ true

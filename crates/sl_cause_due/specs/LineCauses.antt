@@ -1,25 +1,28 @@
 -- What a line is answered at once, by what stood before it.
+use Rattle.sl_cause_due.specs.CausedSoFar.{CausedSoFar, IsAtOnce, is_explained}
+use Rattle.sl_due.specs.Due.{IsDue, before_input, due_step}
 use Rattle.sl_due.specs.DueCommands.{decided}
+use Rattle.sl_due.specs.DueWake.{finish}
 use Rattle.sl_due.specs.declared.decision.Decision.TheVariants.{Replies}
 use Rattle.sl_due.specs.declared.decision.Decision.{Decision}
-use Rattle.sl_due.specs.Steps.{Step, seen}
+use Rattle.sl_due.specs.Steps.{Step, begin_step, seen}
 use Rattle.sl_law.specs.Caused.{Answering, CausedBy, IsAtCommand, before_entry}
 use Rattle.sl_sessions.specs.Sessions.{is_joined, sessions}
 use Rattle.sl_sessions.specs.declared.session.Session.{Session}
 use Rattle.sl_step_facts.specs.Whole.{WholeTrace}
 use Rattle.sl_trace.specs.Connections.{unregisters}
-use Rattle.sl_trace.specs.Traces.{Setting, Trace, is_before_input, no_effects}
+use Rattle.sl_trace.specs.Traces.{Job, Setting, Trace, is_before_input, job_numbered, next_job, no_effects}
 use Rattle.sl_trace.specs.declared.command.Command.{Command}
 use Rattle.sl_trace.specs.declared.effects.Entry.{Entry}
 use Rattle.sl_trace.specs.declared.effects.JobReply.{JobReply}
 use Rattle.sl_trace.specs.declared.effects.Move.{Move}
 use Rattle.sl_trace.specs.declared.effects.Sent.{Sent}
 use Rattle.sl_trace.specs.declared.effects.Start.{Start}
-use Rattle.sl_trace.specs.declared.input.Input.TheVariants.{Wake}
-use Rattle.sl_trace.specs.declared.reply.Reply.TheVariants.{Recovering}
+use Rattle.sl_trace.specs.declared.input.Input.TheVariants.{Line, Wake}
+use Rattle.sl_trace.specs.declared.reply.Reply.TheVariants.{Granted, Recovering}
 use Rattle.sl_trace.specs.declared.reply.Reply.{Reply}
 use Rattle.std.specs.List.{list_any}
-use Rattle.std.specs.Prelude.{Contains, List, Ok, [], false, filter, is_some, true, ℕ, ◌∷◌, ◌≡◌}
+use Rattle.std.specs.Prelude.{Contains, List, Ok, Some, [], false, filter, is_some, true, ℕ, ◌<◌, ◌∷◌, ◌≡◌}
 
 -- The entry, after a trace with all its facts, brings this command.
 pub record AtLine (y : Answering) (c : Command) : Type 0 where
@@ -81,3 +84,61 @@ StoppedAreCaused =
     (x : Step) (y : Answering) (c : Command) (t : ℕ) → IsEarly x → y.setting ≡ x.setting → y.past ≡ x.past → y.entry.reading ≡ x.reading
     → filter (λ k. is_some k.stands_for) x.effects.starts ≡ x.effects.starts → filter (λ a. is_before_input a.reply) x.effects.replies ≡ x.effects.replies
     → AtLine y c → decided x.setting (seen x) x.reading c ≡ Replies (Recovering t) → CausedBy y (Recovering t)
+
+-- ---- at the real head of a step
+
+-- A step of this setting after these entries at this reading, before its input: it is early, has started kill programs alone, and has refused
+-- jobs by recoveries and by time alone.
+pub record IsBeforeInput (st : Setting) (past : Trace) (now : ℕ) (x : Step) : Type 0 where
+  pub setting : x.setting ≡ st
+  pub before : x.past ≡ past
+  pub reading : x.reading ≡ now
+  pub early : IsEarly x
+  pub starts : (k : Start) → Contains x.effects.starts k → is_some k.stands_for ≡ true
+  pub replies : (a : JobReply) → Contains x.effects.replies a → is_before_input a.reply ≡ true
+  pub numbers : (a : JobReply) → Contains x.effects.replies a → a.job < next_job st past
+
+-- Each step is so where its input is looked at.
+abbrev pub HeadsAreEarly : Type 0
+HeadsAreEarly = (st : Setting) (past : Trace) (now : ℕ) → WholeTrace st past → IsBeforeInput st past now (before_input (begin_step st past now))
+
+-- The step has started, answered, granted and ended what the other has, and nothing else.
+pub record IsSilent (x y : Step) : Type 0 where
+  pub starts : y.effects.starts ≡ x.effects.starts
+  pub replies : y.effects.replies ≡ x.effects.replies
+  pub grants : y.effects.grants ≡ x.effects.grants
+  pub ends : y.effects.ends ≡ x.effects.ends
+
+-- What comes last in a step starts nothing, answers nobody, and grants and ends nothing.
+abbrev pub LastIsSilent : Type 0
+LastIsSilent = (x : Step) → IsSilent x (finish x)
+
+-- The job that an entry's line begins, answered by it.
+abbrev pub at_its_line : Setting → Trace → Entry → Job → Answering
+at_its_line st past e j = record { setting = st; past = past; entry = e; job = j }
+
+-- So what a command is answered at once has its cause in the entry that is due.
+abbrev pub LinesAreWell : Type 0
+LinesAreWell =
+    (st : Setting) (past : Trace) (e : Entry) (text : List ℕ) (c : Command) (r : Reply) (j : Job) → WholeTrace st past → IsDue st past e → e.input ≡ Line text → st.read text ≡ Ok c
+    → decided st (seen (before_input (begin_step st past e.reading))) e.reading c ≡ Replies r → job_numbered st (e ∷ past) (next_job st past) ≡ Some j
+    → CausedBy (at_its_line st past e j) r
+
+-- And so has each reply that an entry that is due gives at once to its own line.
+abbrev pub AtOnceAreCaused : Type 0
+AtOnceAreCaused =
+    (st : Setting) (past : Trace) (e : Entry) (a : JobReply) (j : Job) → WholeTrace st past → IsDue st past e → Contains e.effects.replies a → IsAtOnce (due_step st past e.reading e.input) a
+    → job_numbered st (e ∷ past) a.job ≡ Some j → CausedBy (at_its_line st past e j) a.reply
+
+-- Whom the step of a line refuses as in recovery, at its head, at once, or as others of a session that leaves by the line, is so with its cause.
+abbrev pub RefusedAtLines : Type 0
+RefusedAtLines =
+    (st : Setting) (past : Trace) (e : Entry) (text : List ℕ) (a : JobReply) (t : ℕ) (j : Job) → WholeTrace st past → IsDue st past e → e.input ≡ Line text
+    → CausedSoFar is_explained (before_input (begin_step st past e.reading)) → Contains e.effects.replies a → a.reply ≡ Recovering t → job_numbered st (e ∷ past) a.job ≡ Some j
+    → CausedBy (at_its_line st past e j) (Recovering t)
+
+-- What a line is granted, beside a holding or by taking one over, is granted with its cause.
+abbrev pub GrantedAtLines : Type 0
+GrantedAtLines =
+    (st : Setting) (past : Trace) (e : Entry) (text : List ℕ) (a : JobReply) (lver : ℕ) (j : Job) → WholeTrace st past → IsDue st past e → e.input ≡ Line text → Contains e.effects.replies a
+    → a.reply ≡ Granted lver → job_numbered st (e ∷ past) a.job ≡ Some j → CausedBy (at_its_line st past e j) (Granted lver)

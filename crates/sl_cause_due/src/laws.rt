@@ -1,7 +1,7 @@
 //! Whose the replies are, and their causes.
 
 ghost use Rattle.sl_cause_due.specs.CausedSoFar.{is_explained};
-ghost use Rattle.sl_cause_due.specs.LineCauses.{AnswersAreCaused, DecisionsOverlook, LinesAreCaused, StoppedAreCaused};
+ghost use Rattle.sl_cause_due.specs.LineCauses.{AnswersAreCaused, AtOnceAreCaused, DecisionsOverlook, GrantedAtLines, HeadsAreEarly, LastIsSilent, LinesAreCaused, LinesAreWell, RefusedAtLines, StoppedAreCaused};
 ghost use Rattle.sl_cause_due.specs.Promises.{CausesAreKept, CausesBegin, LeavingsAreCaused, RepliesRun, RepliesRunBegin};
 
 /// Each act gives its replies with their causes, as far as they are explained, and leaves those before it.
@@ -47,4 +47,35 @@ pub fn answers_are_caused()
 /// A line that is refused as in recovery is so with its cause.
 pub fn stopped_are_caused()
     ensures { StoppedAreCaused }
+{}
+
+/// Before its input a step has called, granted and ended nothing, started kill programs alone, refused jobs by recoveries and by time alone, and
+/// removed no joined session's connection.
+pub fn heads_are_early()
+    ensures { HeadsAreEarly }
+{}
+
+/// What comes last in a step starts nothing, answers nobody, and grants and ends nothing.
+pub fn last_is_silent()
+    ensures { LastIsSilent }
+{}
+
+/// What a command is answered at once has its cause in the entry that is due.
+pub fn lines_are_well()
+    ensures { LinesAreWell }
+{}
+
+/// Each reply that an entry that is due gives at once to its own line has its cause.
+pub fn at_once_are_caused()
+    ensures { AtOnceAreCaused }
+{}
+
+/// Whom the step of a line refuses as in recovery is so with its cause, also the others of a session that leaves by the line.
+pub fn refused_at_lines()
+    ensures { RefusedAtLines }
+{}
+
+/// What a line is granted, beside a holding or by taking one over, is granted with its cause.
+pub fn granted_at_lines()
+    ensures { GrantedAtLines }
 {}

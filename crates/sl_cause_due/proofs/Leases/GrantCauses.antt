@@ -168,10 +168,10 @@ opposite true true is = absurd (false_is_true (sym is))
 opposite false false is = absurd (false_is_true (sym is))
 
 -- What was held before an input is held where nothing was granted or ended since.
-held_early : (past : Trace) (now : ℕ) (ks : List Start) (rs : List JobReply) → holdings (early_entry now ks rs ∷ past) ≡ holdings past
+pub held_early : (past : Trace) (now : ℕ) (ks : List Start) (rs : List JobReply) → holdings (early_entry now ks rs ∷ past) ≡ holdings past
 held_early past now ks rs = append-nil (filter (λ g. not (is_ended_by [] g)) (holdings past)) ∙ none_ended (holdings past)
 
-held_past : (x : Step) → x.effects.ends ≡ [] → x.effects.grants ≡ [] → holdings (seen x) ≡ holdings x.past
+pub held_past : (x : Step) → x.effects.ends ≡ [] → x.effects.grants ≡ [] → holdings (seen x) ≡ holdings x.past
 held_past x ends grants =
     ap (λ es. filter (λ g. not (is_ended_by es g)) (holdings x.past) ++ x.effects.grants) ends
     ∙ (ap (λ gs. filter (λ g. not (is_ended_by [] g)) (holdings x.past) ++ gs) grants ∙ (append-nil (filter (λ g. not (is_ended_by [] g)) (holdings x.past)) ∙ none_ended (holdings x.past)))
