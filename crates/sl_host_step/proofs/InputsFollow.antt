@@ -23,6 +23,7 @@ use Rattle.sl_host_state.specs.Makes.{has_write_open, with_end, with_grant, with
 use Rattle.sl_host_state.specs.Passes.{whos}
 use Rattle.sl_host_state.specs.Stands.{MemberStands, Stands, is_joining}
 use Rattle.sl_host_state.specs.declared.kept.OpenCall.{OpenCall}
+use Rattle.sl_host_step.proofs.AnswersAreKnown.{answers_as_known}
 use Rattle.sl_host_step.proofs.Alone.{alone, not_joined}
 use Rattle.sl_host_step.proofs.AreasLie.{begins_at, placed}
 use Rattle.sl_host_step.proofs.EarlyParts.{over_keeps}
@@ -75,7 +76,7 @@ use Rattle.sl_words.proofs.CaseLaws.{is_false, none_some, true_is_false}
 use Rattle.std.proofs.Common.{ap, refl, subst, sym, ◌∙◌}
 use Rattle.std.proofs.lemmas.Bool.Decides.{Decides-eqb}
 use Rattle.std.specs.List.{list_any}
-use Rattle.std.specs.Prelude.{Bool, Contains, List, None, Option, Some, bytes_eq, cond, false, filter, is_none, is_some, map, not, option_and_then, option_map, slice_get, true, ℕ, ◌&&◌, ◌+◌, ◌==◌, ◌||◌, ◌≡◌}
+use Rattle.std.specs.Prelude.{Bool, Contains, List, None, Option, Some, bytes_eq, cond, false, filter, is_none, is_some, map, not, option_and_then, option_map, slice_get, true, ℕ, ◌&&◌, ◌+◌, ◌<◌, ◌==◌, ◌||◌, ◌≡◌}
 
 -- ---- a number, an exit, a start
 
@@ -322,6 +323,9 @@ module _ (n : ℕ) (c : OpenCall) (a : Answer) (h : HostState) (x : Step) (comes
               subst (λ (g : HostState). Contains (whos g) m.who) (sym heard_as)
               (contains_map (λ (y : MemberState). y.who) (heard_answer n a h).members (member_hearing h c a m) (got_inside (heard_answer n a h).members at.0 (member_hearing h c a m) at.1))
 
+    room : IsPlaced (heard_answer n a h) (member_hearing h c a m) c → 0 < h.config.layout.area
+    room at = subst (λ (g : HostState). 0 < g.config.layout.area) (sym heard_as) at.room
+
     -- By its purpose.
     done : (p : Purpose) → c.purpose ≡ p → IsCallOf m p → ((work : Work) (step : LeaseStep) (aim : Aim) → c.purpose ≡ Lease work step → LeaseMay n c a h x m work step aim)
         → Follows n a h x (answering_for p h m c a (heard_answer n a h))
@@ -349,7 +353,7 @@ module _ (n : ℕ) (c : OpenCall) (a : Answer) (h : HostState) (x : Step) (comes
       aimed goes None aims = lease_answers_follow.aimless n c a h x k m work step to (free is_own) is goes aims
       aimed goes (Some aim) aims =
           leases_go_on n c a h x k m work step aim (answered_next (heard_answer n a h) (member_hearing h c a m) (area_of (heard_answer n a h) c) c aim step a) to (free is_own) is goes aims
-          (may work step aim is).known (lies is_own) (may work step aim is).converts
+          (answers_as_known n c a h x k m to (free is_own) work step is (room (lies is_own)) comes.sound.laid.program aim) (lies is_own) (may work step aim is).converts
 
       works : (b : Bool) → goes_on_in (heard_answer n a h) (member_hearing h c a m) work ≡ b
           → Follows n a h x

@@ -4,6 +4,7 @@ pub mod SoundParts
 pub mod Alone
 pub mod BeginningsFollow
 pub mod LeasesAreKnown
+pub mod AnswersAreKnown
 pub mod AreasLie
 pub mod JoiningsWake
 pub mod EndingsFollow

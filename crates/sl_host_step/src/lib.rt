@@ -3,7 +3,7 @@
 //! when its turn comes, since a part may take members out.
 //!
 //! The law on the whole still asks of an input what `MayTake` and `LeavesSound` say (specs/Whole): that open calls are their members', that
-//! what is kept of an answered lease decides as its calls do, that a line leaves the host sound.
+//! a conversion which an answer ends may be, that a line leaves the host sound.
 #![tactic(auto)]
 
 pub mod laws;
