@@ -15,5 +15,6 @@ pub mod LinesArePlain
 pub mod LinesFollow
 pub mod SoundBefore
 pub mod AnswersAreSound
+pub mod LinesAreSound
 pub mod StepsFollow
 pub mod NewHostsAreSound

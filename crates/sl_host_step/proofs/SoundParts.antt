@@ -40,7 +40,7 @@ whose h g from s there =
     let z = from m.0 m.1 in
     subst (Contains (whos h)) (z.who ∙ m.2) (contains_map (λ (m : MemberState). m.who) h.members z.old z.there)
 
-laid_as : (h g : HostState) → g.config ≡ h.config → ((s : Session) → Contains (whos g) s → Contains (whos h) s) → IsLaidOut h → IsLaidOut g
+pub laid_as : (h g : HostState) → g.config ≡ h.config → ((s : Session) → Contains (whos g) s → Contains (whos h) s) → IsLaidOut h → IsLaidOut g
 laid_as h g same back k =
     record {
       program = subst (λ (c : Config). IsOfProgram c.layout) (sym same) k.program;
