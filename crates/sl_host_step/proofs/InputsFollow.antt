@@ -315,6 +315,7 @@ module _ (n : ℕ) (c : OpenCall) (a : Answer) (h : HostState) (x : Step) (comes
                 program = comes.sound.laid.program;
                 geometry = comes.sound.laid.geometry;
                 ids = λ s at. comes.sound.laid.ids s (back s (subst (λ (g : HostState). Contains (whos g) s) heard_as at));
+                joins = comes.sound.laid.joins;
               }
 
           who_there : Contains (whos (hearing c a h)) m.who

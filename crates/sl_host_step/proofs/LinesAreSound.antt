@@ -361,7 +361,7 @@ module _ (h : HostState) (c : Command) (k : IsSound h) (new : IsNew h h.next_job
           calls = λ m d j there inside is of. joining_calls m d j (came m there) inside is of;
           apart = λ m n j at_m at_n is it. joining_apart m n j (came m at_m) (came n at_n) is it;
         };
-        laid = record { program = k.laid.program; geometry = k.laid.geometry; ids = λ s there. ids s (of_whos s there) };
+        laid = record { program = k.laid.program; geometry = k.laid.geometry; ids = λ s there. ids s (of_whos s there); joins = k.laid.joins };
       } where
         names : (s t : Session) → s.lockspace ≡ t.lockspace → (its_session ≡ s) ⊎ Contains (whos h) s → (its_session ≡ t) ⊎ Contains (whos h) t → s ≡ t
         names s t same (inl p) (inl q) = sym p ∙ q
@@ -421,14 +421,14 @@ module _ (h : HostState) (c : Command) (k : IsSound h) (new : IsNew h h.next_job
 
 -- ---- the whole
 
--- A line leaves a host sound, where what its text may say joins by an id of the layout.
+-- A line leaves a host sound.
 pub lines_are_sound : (h : HostState) (x : Step) (text : List ℕ) → Stands Wake h x → IsSound h → ((c : Command) → h.config.read text ≡ Ok c → LastIsEnough h x c)
-    → ((a : LockspaceArg) → h.config.read text ≡ Ok (AddLockspace a) → (1 ≤ a.id) × (a.id ≤ h.config.layout.hosts)) → IsSound (lining (h.config.read text) h)
-lines_are_sound h x text s k last ids = said (h.config.read text) refl where
+    → IsSound (lining (h.config.read text) h)
+lines_are_sound h x text s k last = said (h.config.read text) refl where
   joins : (c : Command) → h.config.read text ≡ Ok c → (n : ℕ) (a : LockspaceArg) → decision_of h c ≡ Joins n a → IsSound (deciding c (Joins n a) h)
   joins c says n a is =
       let theirs = subst (λ e. IsDecidedFor x.setting (seen x) c e) (commands_are_decided Wake h x c s (last c says) ∙ is) (decisions_are_theirs x.setting (seen x) x.reading c) in
-      joins_sound h c k (is_new h x s) (plain_by h c (Joins n a) is refl) a (none_named h a a n (sym (ap (decision_of h) theirs.0) ∙ is)) (ids a (says ∙ ap (λ d. Ok d) theirs.0)) n
+      joins_sound h c k (is_new h x s) (plain_by h c (Joins n a) is refl) a (none_named h a a n (sym (ap (decision_of h) theirs.0) ∙ is)) (k.laid.joins text a (says ∙ ap (λ d. Ok d) theirs.0)) n
 
   said : (o : Result Command ℕ) → h.config.read text ≡ o → IsSound (lining o h)
   said (Err column) says = same_members h (answered_line (Err column) (Misread column) h) refl refl refl k

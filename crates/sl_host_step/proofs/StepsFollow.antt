@@ -58,7 +58,7 @@ taken : (i : Input) (now : ℕ) (h : HostState) (st : Setting) (es : Trace) → 
     → Stands i (taking i (before_taking (begun now h))) (take_input i (before_input (begin_step st es now))) × IsSound (taking i (before_taking (begun now h)))
 unfolding take_input
 taken (Line text) now h st es c =
-    (lines_follow (before_taking (begun now h)) (before_input (begin_step st es now)) text (early now (Line text) h st es c) (sound now (Line text) h st es c) c.may (at_input now (Line text) h st es c), lines_are_sound (before_taking (begun now h)) (before_input (begin_step st es now)) text (at_input now (Line text) h st es c) (sound now (Line text) h st es c) (λ d says. (c.may d says).last) c.ids)
+    (lines_follow (before_taking (begun now h)) (before_input (begin_step st es now)) text (early now (Line text) h st es c) (sound now (Line text) h st es c) c.may (at_input now (Line text) h st es c), lines_are_sound (before_taking (begun now h)) (before_input (begin_step st es now)) text (at_input now (Line text) h st es c) (sound now (Line text) h st es c) (λ d says. (c.may d says).last))
 taken (Number text) now h st es c =
     (inputs_follow.number (before_taking (begun now h)) (before_input (begin_step st es now)) text (at_input now (Number text) h st es c), inputs_are_sound.number (before_taking (begun now h)) text (sound now (Number text) h st es c))
 taken (Told n a) now h st es c = (

@@ -12,16 +12,14 @@ use Rattle.sl_host_step.specs.Taking.{CallsAreTheirs, LeaseMay}
 use Rattle.sl_leases.specs.declared.lease.Aim.{Aim}
 use Rattle.sl_reply_law.specs.Answers.{FitsCall, IsOpen}
 use Rattle.sl_trace.specs.Traces.{FollowsTrace, Setting, Trace}
-use Rattle.sl_trace.specs.declared.command.Command.TheVariants.{AddLockspace}
 use Rattle.sl_trace.specs.declared.command.Command.{Command}
-use Rattle.sl_trace.specs.declared.command.LockspaceArg.{LockspaceArg}
 use Rattle.sl_trace.specs.declared.effects.Entry.{Entry}
 use Rattle.sl_trace.specs.declared.effects.LeaseStep.{LeaseStep}
 use Rattle.sl_trace.specs.declared.effects.Purpose.TheVariants.{Lease}
 use Rattle.sl_trace.specs.declared.effects.Work.{Work}
 use Rattle.sl_trace.specs.declared.input.Input.TheVariants.{Answer as Told, Exit, Line, Number, Spawned, Wake}
 use Rattle.sl_trace.specs.declared.input.Input.{Input}
-use Rattle.std.specs.Prelude.{Contains, Ok, ℕ, ◌∷◌, ◌≡◌, ◌≤◌}
+use Rattle.std.specs.Prelude.{Contains, Ok, ℕ, ◌∷◌, ◌≡◌}
 
 -- What is asked of an input, by the host and the step that have come to it.
 abbrev pub MayTake : Input → HostState → Step → Type 0
@@ -34,11 +32,6 @@ MayTake (Exit p) h x = Unit {0}
 MayTake (Spawned p ok) h x = Unit {0}
 MayTake Wake h x = Unit {0}
 
--- A line that joins a lockspace names an id of the layout.
-abbrev pub NamesIds : Input → HostState → Type 0
-NamesIds (Line text) h = (a : LockspaceArg) → h.config.read text ≡ Ok (AddLockspace a) → (1 ≤ a.id) × (a.id ≤ h.config.layout.hosts)
-NamesIds i h = Unit {0}
-
 -- The entry that the step leaves.
 abbrev pub entry_at : Setting → Trace → ℕ → Input → Entry
 entry_at st es now i = record { reading = now; input = i; effects = due st es now i }
@@ -49,7 +42,6 @@ pub record StepComes (now : ℕ) (i : Input) (h : HostState) (st : Setting) (es 
   pub sound : IsSound h
   pub follows : FollowsTrace st es (entry_at st es now i)
   pub may : MayTake i (before_taking (begun now h)) (before_input (begin_step st es now))
-  pub ids : NamesIds i (before_taking (begun now h))
 
 -- Then its effects are those that are due, it stands for the longer trace, and is sound.
 pub record StepsFollow : Type 0 where
