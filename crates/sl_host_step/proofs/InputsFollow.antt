@@ -373,7 +373,7 @@ module _ (n : ℕ) (c : OpenCall) (a : Answer) (h : HostState) (x : Step) (comes
     done (ValueRead j) is is_own may = requests_follow.value_read n c a h x k m j to (free is_own) is
 
   -- The call is of a member, or of nobody.
-  answered : ((m : MemberState) (work : Work) (step : LeaseStep) (aim : Aim) → Contains h.members m → c.purpose ≡ Lease work step → LeaseMay n c a h x m work step aim)
+  answered : ((m : MemberState) (work : Work) (step : LeaseStep) (aim : Aim) → Contains h.members m → (c.session == m.who.number) ≡ true → c.purpose ≡ Lease work step → LeaseMay n c a h x m work step aim)
       → Stands (Told n a) (answering n a h) (after_answer (is_present (seen x)) n a (with_input (Told n a) x))
   answered may =
       subst (λ o. Stands (Told n a) (elim o as (λ z. HostState) [ None ↦ h | Some d ↦ answering_by (member_numbered h d.session) n d a h ]) (after_answer (is_present (seen x)) n a (with_input (Told n a) x)))
@@ -391,10 +391,10 @@ module _ (n : ℕ) (c : OpenCall) (a : Answer) (h : HostState) (x : Step) (comes
             let found = find_inside (λ (z : MemberState). z.who.number == c.session) h.members m some in
             let at = at_some h.members m found.0 in
             let its : (c.session == m.who.number) ≡ true = (Decides-eqb c.session m.who.number).1 (sym ((Decides-eqb m.who.number c.session).0 found.1)) in
-            done at.0 m at.1 its c.purpose refl (own at.0 m at.1 its) (λ work step aim is. may m work step aim found.0 is)
+            done at.0 m at.1 its c.purpose refl (own at.0 m at.1 its) (λ work step aim is. may m work step aim found.0 its is)
 
 told_answer : (n : ℕ) (c : OpenCall) (a : Answer) (h : HostState) (x : Step) → AnswerComes n c a h x
-    → ((m : MemberState) (work : Work) (step : LeaseStep) (aim : Aim) → Contains h.members m → c.purpose ≡ Lease work step → LeaseMay n c a h x m work step aim)
+    → ((m : MemberState) (work : Work) (step : LeaseStep) (aim : Aim) → Contains h.members m → (c.session == m.who.number) ≡ true → c.purpose ≡ Lease work step → LeaseMay n c a h x m work step aim)
     → Stands (Told n a) (taking (Told n a) h) (take_input (Told n a) x)
 unfolding take_input
 told_answer n c a h x comes may = answered n c a h x comes may

@@ -54,7 +54,7 @@ pub record InputsFollow : Type 0 where
   pub start : (h : HostState) (x : Step) (p : ℕ) (ok : Bool) → is_expected x.setting x.past (Spawned p ok) ≡ true → IsEarly h → Stands Wake h x
       → Stands (Spawned p ok) (taking (Spawned p ok) h) (take_input (Spawned p ok) x)
   pub answer : (number : ℕ) (c : OpenCall) (a : Answer) (h : HostState) (x : Step) → AnswerComes number c a h x
-      → ((m : MemberState) (work : Work) (step : LeaseStep) (aim : Aim) → Contains h.members m → c.purpose ≡ Lease work step → LeaseMay number c a h x m work step aim)
+      → ((m : MemberState) (work : Work) (step : LeaseStep) (aim : Aim) → Contains h.members m → (c.session == m.who.number) ≡ true → c.purpose ≡ Lease work step → LeaseMay number c a h x m work step aim)
       → Stands (Told number a) (taking (Told number a) h) (take_input (Told number a) x)
 
 -- They leave the host sound.

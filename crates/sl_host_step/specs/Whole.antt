@@ -19,14 +19,14 @@ use Rattle.sl_trace.specs.declared.effects.Purpose.TheVariants.{Lease}
 use Rattle.sl_trace.specs.declared.effects.Work.{Work}
 use Rattle.sl_trace.specs.declared.input.Input.TheVariants.{Answer as Told, Exit, Line, Number, Spawned, Wake}
 use Rattle.sl_trace.specs.declared.input.Input.{Input}
-use Rattle.std.specs.Prelude.{Contains, Ok, ℕ, ◌∷◌, ◌≡◌}
+use Rattle.std.specs.Prelude.{Contains, Ok, true, ℕ, ◌==◌, ◌∷◌, ◌≡◌}
 
 -- What is asked of an input, by the host and the step that have come to it.
 abbrev pub MayTake : Input → HostState → Step → Type 0
 MayTake (Line text) h x = (c : Command) → h.config.read text ≡ Ok c → LineMay h x text c
 MayTake (Told n a) h x =
     (c : OpenCall) × IsOpen h n c × FitsCall h.config.layout a c × CallsAreTheirs h
-    × ((m : MemberState) (work : Work) (step : LeaseStep) (aim : Aim) → Contains h.members m → c.purpose ≡ Lease work step → LeaseMay n c a h x m work step aim)
+    × ((m : MemberState) (work : Work) (step : LeaseStep) (aim : Aim) → Contains h.members m → (c.session == m.who.number) ≡ true → c.purpose ≡ Lease work step → LeaseMay n c a h x m work step aim)
 MayTake (Number text) h x = Unit {0}
 MayTake (Exit p) h x = Unit {0}
 MayTake (Spawned p ok) h x = Unit {0}
