@@ -156,6 +156,61 @@ heard_cut h c a = record { from = from; calls = λ d there. (kept_inside (λ (e 
         leaving = leaving m.0 (c.session == m.0.who.number) ∙ ap (λ (y : MemberState). y.known.leaving) m.2;
       }
 
+-- ---- a lease
+
+pub granted : (s : Session) (j : ℕ) (d : Command) (mode : Mode) (lver : ℕ) (g : HostState) → IsSound g → IsSound (granting_for s j d mode lver g)
+granted s j (Acquire r shared p persistent) mode lver g z = sound_reply _ j (Granted lver) (same_members g _ refl refl refl z)
+granted s j (TakeOver r shared p persistent) mode lver g z = sound_reply _ j (Granted lver) (same_members g _ refl refl refl z)
+granted s j (RunProgram r shared path) mode lver g z = same_members g _ refl refl refl z
+granted s j (AddLockspace a) mode lver g z = z
+granted s j (RemLockspace a) mode lver g z = z
+granted s j (InqLockspace a) mode lver g z = z
+granted s j (HostStatus a) mode lver g z = z
+granted s j (Release r p) mode lver g z = z
+granted s j (ReleaseOrphan r) mode lver g z = z
+granted s j (Convert r shared p) mode lver g z = z
+granted s j (Request r asked how) mode lver g z = z
+granted s j (GetLvb r p) mode lver g z = z
+granted s j (SetLvb r p bytes) mode lver g z = z
+granted s j (SetKillpath p path) mode lver g z = z
+granted s j Status mode lver g z = z
+
+by_work : (work : Work) (f : ℕ → HostState → HostState) (g : HostState) → IsSound g → ((j : ℕ) → IsSound (f j g)) → IsSound (elim (work_job work) as (λ z. HostState) [ None ↦ g | Some j ↦ f j g ])
+by_work (ForJob j) f g z one = one j
+by_work Settling f g z one = z
+
+by_command : (j : ℕ) (f : Command → HostState → HostState) (g : HostState) → IsSound g → ((d : Command) → IsSound (f d g)) → IsSound (elim (command_in g j) as (λ z. HostState) [ None ↦ g | Some d ↦ f d g ])
+by_command j f g z one = by (command_in g j) where
+  by : (o : Option Command) → IsSound (elim o as (λ z. HostState) [ None ↦ g | Some d ↦ f d g ])
+  by None = z
+  by (Some d) = one d
+
+convert_sound : (q : MemberState) (at : Spot) (work : Work) (mode : Mode) (lver : ℕ) (g : HostState) → IsSound g → IsSound (converted q at work mode lver g)
+convert_sound q at work mode lver g z =
+    by_work work (λ j f. elim (command_in f j) [ None ↦ f | Some d ↦ converting_for q at j d mode lver f ]) g z
+    (λ j. by_command j (λ d. converting_for q at j d mode lver) g z (λ d. named j d (process_named d))) where
+      one : (j p : ℕ) (o : Option Grant) → IsSound (elim o as (λ z. HostState) [ None ↦ g | Some e ↦ converting j mode lver e g ])
+      one j p None = z
+      one j p (Some e) = sound_reply _ j (Granted lver) (same_members g _ refl refl refl z)
+
+      named : (j : ℕ) (d : Command) (o : Option ℕ) → IsSound (elim o as (λ z. HostState) [ None ↦ g | Some p ↦ elim (otherwise_at g q at p mode) as (λ z. HostState) [ None ↦ g | Some e ↦ converting j mode lver e g ] ])
+      named j d None = z
+      named j d (Some p) = one j p (otherwise_at g q at p mode)
+
+-- What a lease does next leaves it sound, where its calls do.
+pub leased : (q : MemberState) (at : Spot) (work : Work) (next : LeaseNext) (g : HostState) → IsSound g
+    → ((path : List ℕ) (s : LeaseStep) (offset : ℕ) (op : Op) → IsSound (with_call q.who.number path (Lease work s) offset op g)) → IsSound (carrying_lease q at work next g)
+leased q at work NoLease g z calls = z
+leased q at work (ReadFor s) g z calls = calls _ s _ _
+leased q at work (WriteBlock s b) g z calls = calls _ s _ _
+leased q at work (WriteLeader s l) g z calls = calls _ s _ _
+leased q at work (AnswerJob r) g z calls = by_work work (λ j. with_reply j r) g z (λ j. sound_reply g j r z)
+leased q at work (GrantJob mode lver) g z calls =
+    by_work work (λ j f. elim (command_in f j) [ None ↦ f | Some d ↦ granting_for q.who j d mode lver f ]) g z
+    (λ j. by_command j (λ d. granting_for q.who j d mode lver) g z (λ d. granted q.who j d mode lver g z))
+leased q at work (BecomeShared lver l) g z calls = unowned _ q.who.number _ (Lease Settling FreeLeader) _ _ refl (convert_sound q at work Shared lver g z)
+leased q at work (BecomeExclusive lver b) g z calls = unowned _ q.who.number _ (Lease Settling ClearMode) _ _ refl (convert_sound q at work Exclusive lver g z)
+
 -- ---- what is done for the member m by the call c of the host h
 
 module _ (h : HostState) (c : OpenCall) (m : MemberState) (k : IsSound h) (open_c : Contains h.unanswered c) (inside : Contains h.members m) (its : (c.session == m.who.number) ≡ true) where
@@ -203,67 +258,11 @@ module _ (h : HostState) (c : OpenCall) (m : MemberState) (k : IsSound h) (open_
     by true = sound_reply (removing m.who.lockspace g) j r (sound_removing m.who.lockspace g (sound_cut h g cut k))
     by false = sound_removing m.who.lockspace g (sound_cut h g cut k)
 
-  -- ---- a lease
-
-  granted : (s : Session) (j : ℕ) (d : Command) (mode : Mode) (lver : ℕ) (g : HostState) → IsSound g → IsSound (granting_for s j d mode lver g)
-  granted s j (Acquire r shared p persistent) mode lver g z = sound_reply _ j (Granted lver) (same_members g _ refl refl refl z)
-  granted s j (TakeOver r shared p persistent) mode lver g z = sound_reply _ j (Granted lver) (same_members g _ refl refl refl z)
-  granted s j (RunProgram r shared path) mode lver g z = same_members g _ refl refl refl z
-  granted s j (AddLockspace a) mode lver g z = z
-  granted s j (RemLockspace a) mode lver g z = z
-  granted s j (InqLockspace a) mode lver g z = z
-  granted s j (HostStatus a) mode lver g z = z
-  granted s j (Release r p) mode lver g z = z
-  granted s j (ReleaseOrphan r) mode lver g z = z
-  granted s j (Convert r shared p) mode lver g z = z
-  granted s j (Request r asked how) mode lver g z = z
-  granted s j (GetLvb r p) mode lver g z = z
-  granted s j (SetLvb r p bytes) mode lver g z = z
-  granted s j (SetKillpath p path) mode lver g z = z
-  granted s j Status mode lver g z = z
-
-  by_work : (work : Work) (f : ℕ → HostState → HostState) (g : HostState) → IsSound g → ((j : ℕ) → IsSound (f j g)) → IsSound (elim (work_job work) as (λ z. HostState) [ None ↦ g | Some j ↦ f j g ])
-  by_work (ForJob j) f g z one = one j
-  by_work Settling f g z one = z
-
-  by_command : (j : ℕ) (f : Command → HostState → HostState) (g : HostState) → IsSound g → ((d : Command) → IsSound (f d g)) → IsSound (elim (command_in g j) as (λ z. HostState) [ None ↦ g | Some d ↦ f d g ])
-  by_command j f g z one = by (command_in g j) where
-    by : (o : Option Command) → IsSound (elim o as (λ z. HostState) [ None ↦ g | Some d ↦ f d g ])
-    by None = z
-    by (Some d) = one d
-
-  convert_sound : (q : MemberState) (at : Spot) (work : Work) (mode : Mode) (lver : ℕ) (g : HostState) → IsSound g → IsSound (converted q at work mode lver g)
-  convert_sound q at work mode lver g z =
-      by_work work (λ j f. elim (command_in f j) [ None ↦ f | Some d ↦ converting_for q at j d mode lver f ]) g z
-      (λ j. by_command j (λ d. converting_for q at j d mode lver) g z (λ d. named j d (process_named d))) where
-        one : (j p : ℕ) (o : Option Grant) → IsSound (elim o as (λ z. HostState) [ None ↦ g | Some e ↦ converting j mode lver e g ])
-        one j p None = z
-        one j p (Some e) = sound_reply _ j (Granted lver) (same_members g _ refl refl refl z)
-
-        named : (j : ℕ) (d : Command) (o : Option ℕ) → IsSound (elim o as (λ z. HostState) [ None ↦ g | Some p ↦ elim (otherwise_at g q at p mode) as (λ z. HostState) [ None ↦ g | Some e ↦ converting j mode lver e g ] ])
-        named j d None = z
-        named j d (Some p) = one j p (otherwise_at g q at p mode)
-
   worked : (q : MemberState) (at : Spot) (work : Work) (step : LeaseStep) (next : LeaseNext) (g : HostState) → IsCut h g → q.who ≡ m.who → c.purpose ≡ Lease work step → IsSound (carrying_lease q at work next g)
-  worked q at work step next g cut who is = by next where
-    z : IsSound g
-    z = sound_cut h g cut k
-
+  worked q at work step next g cut who is = leased q at work next g (sound_cut h g cut k) calls where
     calls : (path : List ℕ) (next_step : LeaseStep) (offset : ℕ) (op : Op) → IsSound (with_call q.who.number path (Lease work next_step) offset op g)
     calls path next_step offset op =
         subst (λ (t : Session). IsSound (with_call t.number path (Lease work next_step) offset op g)) (sym who) (followed g path (Lease work next_step) offset op cut (ap is_delta_purpose is) (sym (ap job_of is)))
-
-    by : (next : LeaseNext) → IsSound (carrying_lease q at work next g)
-    by NoLease = sound_cut h g cut k
-    by (ReadFor s) = calls _ s _ _
-    by (WriteBlock s b) = calls _ s _ _
-    by (WriteLeader s l) = calls _ s _ _
-    by (AnswerJob r) = by_work work (λ j. with_reply j r) g (sound_cut h g cut k) (λ j. sound_reply g j r (sound_cut h g cut k))
-    by (GrantJob mode lver) =
-        by_work work (λ j f. elim (command_in f j) [ None ↦ f | Some d ↦ granting_for q.who j d mode lver f ]) g (sound_cut h g cut k)
-        (λ j. by_command j (λ d. granting_for q.who j d mode lver) g (sound_cut h g cut k) (λ d. granted q.who j d mode lver g (sound_cut h g cut k)))
-    by (BecomeShared lver l) = unowned _ q.who.number _ (Lease Settling FreeLeader) _ _ refl (convert_sound q at work Shared lver g (sound_cut h g cut k))
-    by (BecomeExclusive lver b) = unowned _ q.who.number _ (Lease Settling ClearMode) _ _ refl (convert_sound q at work Exclusive lver g (sound_cut h g cut k))
 
   -- ---- requests
 

@@ -23,6 +23,7 @@ use Rattle.sl_host_state.specs.Makes.{has_write_open, with_end, with_grant, with
 use Rattle.sl_host_state.specs.Passes.{whos}
 use Rattle.sl_host_state.specs.Stands.{MemberStands, Stands, is_joining}
 use Rattle.sl_host_state.specs.declared.kept.OpenCall.{OpenCall}
+use Rattle.sl_host_step.proofs.AnswersAreKnown.{answers_as_known}
 use Rattle.sl_host_step.proofs.Alone.{alone, not_joined}
 use Rattle.sl_host_step.proofs.AreasLie.{begins_at, placed}
 use Rattle.sl_host_step.proofs.EarlyParts.{over_keeps}
@@ -75,7 +76,7 @@ use Rattle.sl_words.proofs.CaseLaws.{is_false, none_some, true_is_false}
 use Rattle.std.proofs.Common.{ap, refl, subst, sym, ◌∙◌}
 use Rattle.std.proofs.lemmas.Bool.Decides.{Decides-eqb}
 use Rattle.std.specs.List.{list_any}
-use Rattle.std.specs.Prelude.{Bool, Contains, List, None, Option, Some, bytes_eq, cond, false, filter, is_none, is_some, map, not, option_and_then, option_map, slice_get, true, ℕ, ◌&&◌, ◌+◌, ◌==◌, ◌||◌, ◌≡◌}
+use Rattle.std.specs.Prelude.{Bool, Contains, List, None, Option, Some, bytes_eq, cond, false, filter, is_none, is_some, map, not, option_and_then, option_map, slice_get, true, ℕ, ◌&&◌, ◌+◌, ◌<◌, ◌==◌, ◌||◌, ◌≡◌}
 
 -- ---- a number, an exit, a start
 
@@ -314,6 +315,7 @@ module _ (n : ℕ) (c : OpenCall) (a : Answer) (h : HostState) (x : Step) (comes
                 program = comes.sound.laid.program;
                 geometry = comes.sound.laid.geometry;
                 ids = λ s at. comes.sound.laid.ids s (back s (subst (λ (g : HostState). Contains (whos g) s) heard_as at));
+                joins = comes.sound.laid.joins;
               }
 
           who_there : Contains (whos (hearing c a h)) m.who
@@ -321,6 +323,9 @@ module _ (n : ℕ) (c : OpenCall) (a : Answer) (h : HostState) (x : Step) (comes
               let at = answers_set_free.member n c a h x k m to (free joined) in
               subst (λ (g : HostState). Contains (whos g) m.who) (sym heard_as)
               (contains_map (λ (y : MemberState). y.who) (heard_answer n a h).members (member_hearing h c a m) (got_inside (heard_answer n a h).members at.0 (member_hearing h c a m) at.1))
+
+    room : IsPlaced (heard_answer n a h) (member_hearing h c a m) c → 0 < h.config.layout.area
+    room at = subst (λ (g : HostState). 0 < g.config.layout.area) (sym heard_as) at.room
 
     -- By its purpose.
     done : (p : Purpose) → c.purpose ≡ p → IsCallOf m p → ((work : Work) (step : LeaseStep) (aim : Aim) → c.purpose ≡ Lease work step → LeaseMay n c a h x m work step aim)
@@ -349,7 +354,7 @@ module _ (n : ℕ) (c : OpenCall) (a : Answer) (h : HostState) (x : Step) (comes
       aimed goes None aims = lease_answers_follow.aimless n c a h x k m work step to (free is_own) is goes aims
       aimed goes (Some aim) aims =
           leases_go_on n c a h x k m work step aim (answered_next (heard_answer n a h) (member_hearing h c a m) (area_of (heard_answer n a h) c) c aim step a) to (free is_own) is goes aims
-          (may work step aim is).known (lies is_own) (may work step aim is).converts
+          (answers_as_known n c a h x k m to (free is_own) work step is (room (lies is_own)) comes.sound.laid.program aim) (lies is_own) (may work step aim is).converts
 
       works : (b : Bool) → goes_on_in (heard_answer n a h) (member_hearing h c a m) work ≡ b
           → Follows n a h x
@@ -368,7 +373,7 @@ module _ (n : ℕ) (c : OpenCall) (a : Answer) (h : HostState) (x : Step) (comes
     done (ValueRead j) is is_own may = requests_follow.value_read n c a h x k m j to (free is_own) is
 
   -- The call is of a member, or of nobody.
-  answered : ((m : MemberState) (work : Work) (step : LeaseStep) (aim : Aim) → Contains h.members m → c.purpose ≡ Lease work step → LeaseMay n c a h x m work step aim)
+  answered : ((m : MemberState) (work : Work) (step : LeaseStep) (aim : Aim) → Contains h.members m → (c.session == m.who.number) ≡ true → c.purpose ≡ Lease work step → LeaseMay n c a h x m work step aim)
       → Stands (Told n a) (answering n a h) (after_answer (is_present (seen x)) n a (with_input (Told n a) x))
   answered may =
       subst (λ o. Stands (Told n a) (elim o as (λ z. HostState) [ None ↦ h | Some d ↦ answering_by (member_numbered h d.session) n d a h ]) (after_answer (is_present (seen x)) n a (with_input (Told n a) x)))
@@ -386,10 +391,10 @@ module _ (n : ℕ) (c : OpenCall) (a : Answer) (h : HostState) (x : Step) (comes
             let found = find_inside (λ (z : MemberState). z.who.number == c.session) h.members m some in
             let at = at_some h.members m found.0 in
             let its : (c.session == m.who.number) ≡ true = (Decides-eqb c.session m.who.number).1 (sym ((Decides-eqb m.who.number c.session).0 found.1)) in
-            done at.0 m at.1 its c.purpose refl (own at.0 m at.1 its) (λ work step aim is. may m work step aim found.0 is)
+            done at.0 m at.1 its c.purpose refl (own at.0 m at.1 its) (λ work step aim is. may m work step aim found.0 its is)
 
 told_answer : (n : ℕ) (c : OpenCall) (a : Answer) (h : HostState) (x : Step) → AnswerComes n c a h x
-    → ((m : MemberState) (work : Work) (step : LeaseStep) (aim : Aim) → Contains h.members m → c.purpose ≡ Lease work step → LeaseMay n c a h x m work step aim)
+    → ((m : MemberState) (work : Work) (step : LeaseStep) (aim : Aim) → Contains h.members m → (c.session == m.who.number) ≡ true → c.purpose ≡ Lease work step → LeaseMay n c a h x m work step aim)
     → Stands (Told n a) (taking (Told n a) h) (take_input (Told n a) x)
 unfolding take_input
 told_answer n c a h x comes may = answered n c a h x comes may

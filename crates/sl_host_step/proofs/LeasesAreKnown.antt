@@ -63,7 +63,7 @@ module _ (i : Input) (h : HostState) (x : Step) (k : ℕ) (m : MemberState) (at 
       ∙ ap (λ n. record k0 { own = l.own; name = l.name; freed = l.freed; ballot = l.ballot; shown = n }) s.shown
       ∙ ap (λ n. record k0 { own = l.own; name = l.name; freed = l.freed; ballot = l.ballot; shown = l.shown; won = n }) s.won
 
-  lease_is : lease_at m area ≡ l
+  pub lease_is : lease_at m area ≡ l
   lease_is = ap (λ o. unwrap_or o (new_lease area)) its
 
   -- ---- the greatest number is enough

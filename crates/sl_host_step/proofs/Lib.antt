@@ -4,6 +4,7 @@ pub mod SoundParts
 pub mod Alone
 pub mod BeginningsFollow
 pub mod LeasesAreKnown
+pub mod AnswersAreKnown
 pub mod AreasLie
 pub mod JoiningsWake
 pub mod EndingsFollow
@@ -14,5 +15,6 @@ pub mod LinesArePlain
 pub mod LinesFollow
 pub mod SoundBefore
 pub mod AnswersAreSound
+pub mod LinesAreSound
 pub mod StepsFollow
 pub mod NewHostsAreSound

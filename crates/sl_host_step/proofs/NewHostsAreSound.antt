@@ -44,5 +44,5 @@ new_hosts_are_sound st fit =
         calls = λ m c j there inside is of. absurd (contains_none c inside);
         apart = λ m n j a b is it. absurd (none_some j (sym (no_job st m.who (was_given st m a).0) ∙ is));
       };
-      laid = record { program = fit.program; geometry = fit.geometry; ids = λ s there. fit.ids s (from_whos st s there) };
+      laid = record { program = fit.program; geometry = fit.geometry; ids = λ s there. fit.ids s (from_whos st s there); joins = fit.joins };
     }

@@ -17,9 +17,11 @@ use Rattle.sl_trace.specs.declared.effects.Move.TheVariants.{Unregister}
 use Rattle.sl_trace.specs.declared.effects.Move.{Move}
 use Rattle.sl_trace.specs.declared.reply.Reply.{Reply}
 use Rattle.sl_words.specs.Words.{some_is}
+use Rattle.sl_trace.specs.declared.command.Command.TheVariants.{AddLockspace}
+use Rattle.sl_trace.specs.declared.command.LockspaceArg.{LockspaceArg}
 use Rattle.std.proofs.Common.{ap, inl, inr, refl, subst, sym, ◌∙◌}
 use Rattle.std.specs.List.{list_any}
-use Rattle.std.specs.Prelude.{Bool, Contains, List, Some, bytes_eq, cond, false, flat_map, map, not, true, [], ℕ, ◌&&◌, ◌++◌, ◌==◌, ◌∷◌, ◌≡◌, ◌≤◌, ◌⊎◌}
+use Rattle.std.specs.Prelude.{Ok, Bool, Contains, List, Some, bytes_eq, cond, false, flat_map, map, not, true, [], ℕ, ◌&&◌, ◌++◌, ◌==◌, ◌∷◌, ◌≡◌, ◌≤◌, ◌⊎◌}
 
 -- A member was one before.
 pub record Was (h : HostState) (m : MemberState) : Type 0 where
@@ -40,12 +42,13 @@ whose h g from s there =
     let z = from m.0 m.1 in
     subst (Contains (whos h)) (z.who ∙ m.2) (contains_map (λ (m : MemberState). m.who) h.members z.old z.there)
 
-laid_as : (h g : HostState) → g.config ≡ h.config → ((s : Session) → Contains (whos g) s → Contains (whos h) s) → IsLaidOut h → IsLaidOut g
+pub laid_as : (h g : HostState) → g.config ≡ h.config → ((s : Session) → Contains (whos g) s → Contains (whos h) s) → IsLaidOut h → IsLaidOut g
 laid_as h g same back k =
     record {
       program = subst (λ (c : Config). IsOfProgram c.layout) (sym same) k.program;
       geometry = subst (λ (c : Config). IsGeometry (sizes_in c.layout)) (sym same) k.geometry;
       ids = λ s there. (let r = k.ids s (back s there) in (r.0, subst (λ (c : Config). s.id ≤ c.layout.hosts) (sym same) r.1));
+      joins = subst (λ (c : Config). (text : List ℕ) (a : LockspaceArg) → c.read text ≡ Ok (AddLockspace a) → (1 ≤ a.id) × (a.id ≤ c.layout.hosts)) (sym same) k.joins;
     }
 
 pub sound_cut : (h g : HostState) → IsCut h g → IsSound h → IsSound g

@@ -13,6 +13,7 @@ use Rattle.sl_host_state.specs.Stands.{HostStands, Stands}
 use Rattle.sl_host_step.proofs.BeginningsFollow.{beginnings_follow}
 use Rattle.sl_host_step.proofs.EndingsFollow.{endings_follow}
 use Rattle.sl_host_step.proofs.InputsFollow.{inputs_are_sound, inputs_follow, same_members}
+use Rattle.sl_host_step.proofs.LinesAreSound.{lines_are_sound}
 use Rattle.sl_host_step.proofs.LinesFollow.{lines_follow}
 use Rattle.sl_host_step.proofs.SettlingsWake.{wakes_follow}
 use Rattle.sl_host_step.proofs.SoundBefore.{before_sound}
@@ -57,7 +58,7 @@ taken : (i : Input) (now : ℕ) (h : HostState) (st : Setting) (es : Trace) → 
     → Stands i (taking i (before_taking (begun now h))) (take_input i (before_input (begin_step st es now))) × IsSound (taking i (before_taking (begun now h)))
 unfolding take_input
 taken (Line text) now h st es c =
-    (lines_follow (before_taking (begun now h)) (before_input (begin_step st es now)) text (early now (Line text) h st es c) (sound now (Line text) h st es c) c.may (at_input now (Line text) h st es c), c.leaves)
+    (lines_follow (before_taking (begun now h)) (before_input (begin_step st es now)) text (early now (Line text) h st es c) (sound now (Line text) h st es c) c.may (at_input now (Line text) h st es c), lines_are_sound (before_taking (begun now h)) (before_input (begin_step st es now)) text (at_input now (Line text) h st es c) (sound now (Line text) h st es c) (λ d says. (c.may d says).last))
 taken (Number text) now h st es c =
     (inputs_follow.number (before_taking (begun now h)) (before_input (begin_step st es now)) text (at_input now (Number text) h st es c), inputs_are_sound.number (before_taking (begun now h)) text (sound now (Number text) h st es c))
 taken (Told n a) now h st es c = (

@@ -8,7 +8,9 @@ use Rattle.sl_host_state.specs.Stands.{is_kept_of}
 use Rattle.sl_host_state.specs.declared.kept.OpenCall.{OpenCall}
 use Rattle.sl_sessions.specs.Sessions.{is_delta_purpose}
 use Rattle.sl_sessions.specs.declared.session.Session.{Session}
-use Rattle.std.specs.Prelude.{Contains, Some, true, [], ℕ, ◌==◌, ◌≡◌, ◌≤◌}
+use Rattle.sl_trace.specs.declared.command.Command.TheVariants.{AddLockspace}
+use Rattle.sl_trace.specs.declared.command.LockspaceArg.{LockspaceArg}
+use Rattle.std.specs.Prelude.{Contains, List, Ok, Some, true, [], ℕ, ◌==◌, ◌≡◌, ◌≤◌}
 
 -- No two members have one lockspace.
 abbrev pub NamesApart : HostState → Type 0
@@ -32,11 +34,12 @@ pub record JoiningsOwn (h : HostState) : Type 0 where
       → ((c.session == m.who.number) ≡ true) × (is_delta_purpose c.purpose ≡ true)
   pub apart : (m n : MemberState) (j : ℕ) → Contains h.members m → Contains h.members n → m.who.job ≡ Some j → n.who.job ≡ Some j → m.who ≡ n.who
 
--- Areas are laid out as the program does, and each member's id is one of them.
+-- Areas are laid out as the program does, each member's id is one of them, and who joins by a line names one of them.
 pub record IsLaidOut (h : HostState) : Type 0 where
   pub program : IsOfProgram h.config.layout
   pub geometry : IsGeometry (sizes_in h.config.layout)
   pub ids : (s : Session) → Contains (whos h) s → (1 ≤ s.id) × (s.id ≤ h.config.layout.hosts)
+  pub joins : (text : List ℕ) (a : LockspaceArg) → h.config.read text ≡ Ok (AddLockspace a) → (1 ≤ a.id) × (a.id ≤ h.config.layout.hosts)
 
 -- All of them.
 pub record IsSound (h : HostState) : Type 0 where

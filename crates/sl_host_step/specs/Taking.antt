@@ -10,9 +10,7 @@ use Rattle.sl_host_state.specs.declared.kept.OpenCall.{OpenCall}
 use Rattle.sl_host_step.specs.Inputs.{taking}
 use Rattle.sl_host_step.specs.Leases.{answered_next}
 use Rattle.sl_host_step.specs.Sound.{IsEarly, IsSound}
-use Rattle.sl_leases.specs.LeaseWork.{lease_next}
 use Rattle.sl_leases.specs.declared.lease.Aim.{Aim}
-use Rattle.sl_question_law.specs.Answers.{known_in, place_in}
 use Rattle.sl_reply_law.specs.Answers.{FitsCall, IsOpen}
 use Rattle.sl_trace.specs.Traces.{is_expected}
 use Rattle.sl_trace.specs.declared.effects.LeaseStep.{LeaseStep}
@@ -44,11 +42,8 @@ pub record AnswerComes (number : ℕ) (c : OpenCall) (a : Answer) (h : HostState
   pub is_open : IsOpen h number c
   pub fits : FitsCall h.config.layout a c
 
--- What is asked of an answer on a lease: what is kept decides as the calls do, and a conversion that is done may be.
+-- What is asked of an answer on a lease: a conversion that is done may be.
 pub record LeaseMay (number : ℕ) (c : OpenCall) (a : Answer) (h : HostState) (x : Step) (m : MemberState) (work : Work) (step : LeaseStep) (aim : Aim) : Type 0 where
-  pub known : answered_next (heard_answer number a h) (member_hearing h c a m) (area_of (heard_answer number a h) c) c aim step a
-      ≡ lease_next (place_in (heard_answer number a h) (member_hearing h c a m))
-      (known_in (heard_answer number a h) (member_hearing h c a m) (with_input (Told number a) x) (area_of (heard_answer number a h) c)) aim c.number c.lver step a
   pub converts : IfConverted (Told number a) (heard_answer number a h) (with_input (Told number a) x) (member_hearing h c a m) c work
       (answered_next (heard_answer number a h) (member_hearing h c a m) (area_of (heard_answer number a h) c) c aim step a)
 
@@ -59,7 +54,7 @@ pub record InputsFollow : Type 0 where
   pub start : (h : HostState) (x : Step) (p : ℕ) (ok : Bool) → is_expected x.setting x.past (Spawned p ok) ≡ true → IsEarly h → Stands Wake h x
       → Stands (Spawned p ok) (taking (Spawned p ok) h) (take_input (Spawned p ok) x)
   pub answer : (number : ℕ) (c : OpenCall) (a : Answer) (h : HostState) (x : Step) → AnswerComes number c a h x
-      → ((m : MemberState) (work : Work) (step : LeaseStep) (aim : Aim) → Contains h.members m → c.purpose ≡ Lease work step → LeaseMay number c a h x m work step aim)
+      → ((m : MemberState) (work : Work) (step : LeaseStep) (aim : Aim) → Contains h.members m → (c.session == m.who.number) ≡ true → c.purpose ≡ Lease work step → LeaseMay number c a h x m work step aim)
       → Stands (Told number a) (taking (Told number a) h) (take_input (Told number a) x)
 
 -- They leave the host sound.

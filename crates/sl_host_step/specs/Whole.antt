@@ -5,7 +5,6 @@ use Rattle.sl_host_state.specs.Hears.{begun}
 use Rattle.sl_host_state.specs.Kept.{HostState, MemberState}
 use Rattle.sl_host_state.specs.Stands.{HostStands}
 use Rattle.sl_host_state.specs.declared.kept.OpenCall.{OpenCall}
-use Rattle.sl_host_step.specs.Inputs.{taking}
 use Rattle.sl_host_step.specs.Lining.{LineMay}
 use Rattle.sl_host_step.specs.Sound.{IsSound}
 use Rattle.sl_host_step.specs.Stepping.{before_taking, effects_of, stepped}
@@ -20,23 +19,18 @@ use Rattle.sl_trace.specs.declared.effects.Purpose.TheVariants.{Lease}
 use Rattle.sl_trace.specs.declared.effects.Work.{Work}
 use Rattle.sl_trace.specs.declared.input.Input.TheVariants.{Answer as Told, Exit, Line, Number, Spawned, Wake}
 use Rattle.sl_trace.specs.declared.input.Input.{Input}
-use Rattle.std.specs.Prelude.{Contains, Ok, ℕ, ◌∷◌, ◌≡◌}
+use Rattle.std.specs.Prelude.{Contains, Ok, true, ℕ, ◌==◌, ◌∷◌, ◌≡◌}
 
 -- What is asked of an input, by the host and the step that have come to it.
 abbrev pub MayTake : Input → HostState → Step → Type 0
 MayTake (Line text) h x = (c : Command) → h.config.read text ≡ Ok c → LineMay h x text c
 MayTake (Told n a) h x =
     (c : OpenCall) × IsOpen h n c × FitsCall h.config.layout a c × CallsAreTheirs h
-    × ((m : MemberState) (work : Work) (step : LeaseStep) (aim : Aim) → Contains h.members m → c.purpose ≡ Lease work step → LeaseMay n c a h x m work step aim)
+    × ((m : MemberState) (work : Work) (step : LeaseStep) (aim : Aim) → Contains h.members m → (c.session == m.who.number) ≡ true → c.purpose ≡ Lease work step → LeaseMay n c a h x m work step aim)
 MayTake (Number text) h x = Unit {0}
 MayTake (Exit p) h x = Unit {0}
 MayTake (Spawned p ok) h x = Unit {0}
 MayTake Wake h x = Unit {0}
-
--- What a line leaves is sound. (Of every other input it is shown.)
-abbrev pub LeavesSound : Input → HostState → Type 0
-LeavesSound (Line text) h = IsSound (taking (Line text) h)
-LeavesSound i h = Unit {0}
 
 -- The entry that the step leaves.
 abbrev pub entry_at : Setting → Trace → ℕ → Input → Entry
@@ -48,7 +42,6 @@ pub record StepComes (now : ℕ) (i : Input) (h : HostState) (st : Setting) (es 
   pub sound : IsSound h
   pub follows : FollowsTrace st es (entry_at st es now i)
   pub may : MayTake i (before_taking (begun now h)) (before_input (begin_step st es now))
-  pub leaves : LeavesSound i (before_taking (begun now h))
 
 -- Then its effects are those that are due, it stands for the longer trace, and is sound.
 pub record StepsFollow : Type 0 where

@@ -2,8 +2,8 @@
 //! three passes are made, and what comes last is done. A pass goes by the numbers of the members that it begins with, and finds each again
 //! when its turn comes, since a part may take members out.
 //!
-//! The law on the whole still asks of an input what `MayTake` and `LeavesSound` say (specs/Whole): that open calls are their members', that
-//! what is kept of an answered lease decides as its calls do, that a line leaves the host sound.
+//! The law on the whole still asks of an input what `MayTake` says (specs/Whole): that open calls are their members', that a conversion
+//! which an answer ends may be, that a line's calls fit their lease.
 #![tactic(auto)]
 
 pub mod laws;
