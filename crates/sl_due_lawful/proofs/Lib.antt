@@ -1,6 +1,9 @@
 pub mod AllIsKept
 pub mod LonesAreKept
 pub mod LonesMay
+pub mod OwnRecords
+pub mod DeltaWrites
+pub mod SpelledAreKept
 pub mod CallsAreLawful
 pub mod ActsRest
 pub mod FirstFacts
