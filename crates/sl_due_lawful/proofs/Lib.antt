@@ -3,6 +3,7 @@ pub mod LonesAreKept
 pub mod LonesMay
 pub mod OwnRecords
 pub mod DeltaWrites
+pub mod ValueWrites
 pub mod SpelledAreKept
 pub mod CallsAreLawful
 pub mod ActsRest

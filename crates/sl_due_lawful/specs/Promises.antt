@@ -55,7 +55,7 @@ is_lone_read p = false
 abbrev pub LonesSoFar : Step → Type 0
 LonesSoFar x = EachCall x.setting (λ es s c. IsTrue (is_lone_read c.call.purpose) → IsTrue (may_submit (stage_of es s))) x.past (entry_of x)
 
--- What is asked of the acts besides what is shown: that what a lease decides to write is a record, and a value that is set. (All else that is
+-- What is asked of the acts besides what is shown: that what a lease decides to write, a block or a leader, is a record. (All else that is
 -- written is shown to be one.)
 pub record ActsAsked : Type 0 where
   pub leads : (x : Step) (s : Session) (work : Work) (step : LeaseStep) (m : Submitted) (answer : Answer) (aim : Aim) → Kept x → Hears x s m answer →

@@ -1,12 +1,12 @@
 -- That what is decided is written as a record.
 use Rattle.sl_due.specs.Steps.{Step, add_end, seen}
-use Rattle.sl_due.specs.declared.decision.Decision.TheVariants.{ConvertsTo, GivesUp, SetsValue}
+use Rattle.sl_due.specs.declared.decision.Decision.TheVariants.{ConvertsTo, GivesUp}
 use Rattle.sl_due.specs.declared.decision.Decision.{Decision}
 use Rattle.sl_leases.specs.LeaseWork.{convert_next, lease_place, release_next}
 use Rattle.sl_leases.specs.Leases.{known, spot_of}
 use Rattle.sl_leases.specs.declared.lease.LeaseNext.TheVariants.{BecomeExclusive, BecomeShared, WriteBlock, WriteLeader}
 use Rattle.sl_leases.specs.declared.lease.LeaseNext.{LeaseNext}
-use Rattle.sl_sector.specs.Records.{IsBlock, IsLeader, IsValue}
+use Rattle.sl_sector.specs.Records.{IsBlock, IsLeader}
 use Rattle.sl_trace.specs.Traces.{end_of, spot_of_grant}
 
 -- What a lease writes next, if anything, is a record.
@@ -17,10 +17,9 @@ LeaseWrites (BecomeShared lver l) = IsLeader l
 LeaseWrites (BecomeExclusive lver b) = IsBlock b
 LeaseWrites next = Unit {0}
 
--- What a command writes at once, if anything, is a record.
+-- What a release or a conversion writes at once on its lease, if anything, is a record.
 abbrev pub DecisionWrites : Step → Decision → Type 0
 DecisionWrites y (GivesUp s g) =
     LeaseWrites (release_next (lease_place y.setting s) (known y.setting (seen (add_end (end_of g) y)) s (spot_of_grant g)) g.mode g.lver)
 DecisionWrites y (ConvertsTo s r mode) = LeaseWrites (convert_next (known y.setting (seen y) s (spot_of r)) mode r.name)
-DecisionWrites y (SetsValue s at v) = IsValue v
 DecisionWrites y decision = Unit {0}
