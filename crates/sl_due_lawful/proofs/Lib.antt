@@ -4,6 +4,7 @@ pub mod LonesMay
 pub mod OwnRecords
 pub mod DeltaWrites
 pub mod ValueWrites
+pub mod ReleaseWrites
 pub mod SpelledAreKept
 pub mod CallsAreLawful
 pub mod ActsRest

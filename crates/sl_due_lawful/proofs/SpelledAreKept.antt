@@ -1,4 +1,8 @@
 -- What is written is a record: on id sectors, requests and values by what is known, on leases by what they decide.
+use Rattle.sl_due_lawful.proofs.ReleaseWrites.{releases_well}
+use Rattle.sl_trace.specs.declared.effects.Grant.{Grant}
+use Rattle.sl_trace.specs.declared.input.Input.TheVariants.{Wake}
+use Rattle.std.specs.Prelude.{[], ◌≡◌}
 use Rattle.sl_due.specs.DueCommands.{decided}
 use Rattle.sl_due_lawful.proofs.ValueWrites.{values_well}
 use Rattle.sl_sector.specs.Records.{IsValue}
@@ -190,19 +194,19 @@ request_allowed x s j bytes Status fits most = tt
 
 -- ---- lines
 
-decision_allowed : (y : Step) (j : ℕ) (c : Command) (d : Decision) → DecisionWrites y d → ((s : Session) (at : Spot) (v : ValueRec) → d ≡ SetsValue s at v → IsValue v) → DecisionAllowed SpelledSoFar Anything Spelled AnyStart y j c d
-decision_allowed y j c (Replies r) k values = tt
-decision_allowed y j c (Joins n a) k values = λ z its. reads_spelled 1
-decision_allowed y j c (Leaves s) k values = (tt, λ z h i there. tt)
-decision_allowed y j c (ReadsArea s r) k values = reads_spelled (y.setting.layout.hosts + 2)
-decision_allowed y j c (Shares s lver) k values = grant_allowed j lver c
-decision_allowed y j c (GivesUp s g) k values =
-    (tt, lease_allowed (add_end (end_of g) y) s (spot_of_grant g) (ForJob j) (release_next (lease_place y.setting s) (known y.setting (seen (add_end (end_of g) y)) s (spot_of_grant g)) g.mode g.lver) k)
-decision_allowed y j c (TakesOver s g) k values = grant_allowed j g.lver c
-decision_allowed y j c (ConvertsTo s r mode) k values = lease_allowed y s (spot_of r) (ForJob j) (convert_next (known y.setting (seen y) s (spot_of r)) mode r.name) k
-decision_allowed y j c (Requests s r) k values = reads_spelled 2
-decision_allowed y j c (SetsValue s at v) k values = record_spelled (ValueIs v) (values s at v refl)
-decision_allowed y j c (GetsValue s at) k values = reads_spelled 1
+decision_allowed : (y : Step) (j : ℕ) (c : Command) (d : Decision) → DecisionWrites y d → ((s : Session) (at : Spot) (v : ValueRec) → d ≡ SetsValue s at v → IsValue v) → ((s : Session) (g : Grant) → DecisionWrites y (GivesUp s g) → LeaseWrites (release_next (lease_place y.setting s) (known y.setting (seen (add_end (end_of g) y)) s (spot_of_grant g)) g.mode g.lver)) → DecisionAllowed SpelledSoFar Anything Spelled AnyStart y j c d
+decision_allowed y j c (Replies r) k values gives = tt
+decision_allowed y j c (Joins n a) k values gives = λ z its. reads_spelled 1
+decision_allowed y j c (Leaves s) k values gives = (tt, λ z h i there. tt)
+decision_allowed y j c (ReadsArea s r) k values gives = reads_spelled (y.setting.layout.hosts + 2)
+decision_allowed y j c (Shares s lver) k values gives = grant_allowed j lver c
+decision_allowed y j c (GivesUp s g) k values gives =
+    (tt, lease_allowed (add_end (end_of g) y) s (spot_of_grant g) (ForJob j) (release_next (lease_place y.setting s) (known y.setting (seen (add_end (end_of g) y)) s (spot_of_grant g)) g.mode g.lver) (gives s g k))
+decision_allowed y j c (TakesOver s g) k values gives = grant_allowed j g.lver c
+decision_allowed y j c (ConvertsTo s r mode) k values gives = lease_allowed y s (spot_of r) (ForJob j) (convert_next (known y.setting (seen y) s (spot_of r)) mode r.name) k
+decision_allowed y j c (Requests s r) k values gives = reads_spelled 2
+decision_allowed y j c (SetsValue s at v) k values gives = record_spelled (ValueIs v) (values s at v refl)
+decision_allowed y j c (GetsValue s at) k values gives = reads_spelled 1
 
 -- The call that begins a session is of no session yet.
 joining_spelled : (x : Step) (j n : ℕ) (c : Command) (a : LockspaceArg) → SpelledSoFar x → SpelledSoFar (carry_decision j c (Joins n a) x)
@@ -215,11 +219,11 @@ joining_spelled x j n c a h k r there = by (contains_last x.effects.calls made k
   by (inl old) is = h k r old is
   by (inr same) is = reads_spelled 1 r (ap (λ (z : Call). record_of z.op) same ∙ is)
 
-carried_spelled : (x : Step) (text : List ℕ) (c : Command) (d : Decision) → Kept x → x.setting.read text ≡ Ok c → decided x.setting (seen x) x.reading c ≡ d → DecisionWrites (with_input (Line text) x) d
+carried_spelled : (x : Step) (text : List ℕ) (c : Command) (d : Decision) → Kept x → x.input ≡ Wake → x.effects.calls ≡ [] → x.setting.read text ≡ Ok c → decided x.setting (seen x) x.reading c ≡ d → DecisionWrites (with_input (Line text) x) d
     → SpelledSoFar (carry_decision (next_job x.setting (seen x)) c d (with_input (Line text) x))
-carried_spelled x text c d k says is writes =
+carried_spelled x text c d k wake bare says is writes =
     decision SpelledSoFar SpelledSoFar Anything Spelled AnyStart AnyMove spelled_effects (with_input (Line text) x) (next_job x.setting (seen x)) c d (decision_allowed (with_input (Line text) x) (next_job x.setting (seen x)) c d writes
-    (λ s at v sets. values_well x c s at v k.known.0 (k.known.0.setting.reads text c says) (is ∙ sets)))
+    (λ s at v sets. values_well x c s at v k.known.0 (k.known.0.setting.reads text c says) (is ∙ sets)) (λ s g may. releases_well x text s g wake bare k.known.0 may))
     (λ n a joins. joining_spelled (with_input (Line text) x) (next_job x.setting (seen x)) n c a (spelled_now x k)) (spelled_now x k)
 
 -- ---- all acts
@@ -235,7 +239,7 @@ spelled_are_kept a =
       starts = λ x n ok wake bare expected h. spelled_now x h;
       misreads = λ x text column wake bare says h. spelled_now x h;
       answers = λ x text c r wake bare says is h. spelled_now x h;
-      carries = λ x text c d wake bare says is more h. carried_spelled x text c d h says is (a.writes x text c d h wake bare says is more);
+      carries = λ x text c d wake bare says is more h. carried_spelled x text c d h wake bare says is (a.writes x text c d h wake bare says is more);
       sees = λ x s number bytes at g has input held h. spelled_effects.calls x s g.path SeeRequest (request_offset x.setting.layout g.offset) (ReadSectors 1) (reads_spelled 1) (spelled_now x h);
       parts = λ x s has joined recovers_one free quiet h. removal SpelledSoFar SpelledSoFar Anything Spelled AnyStart AnyMove spelled_effects x s.lockspace tt (spelled_now x h);
       frees = λ x s has joined well free quiet h. delta SpelledSoFar SpelledSoFar Anything Spelled AnyStart AnyMove spelled_effects x s (next_free (delta_of_session x.setting s) x.reading (delta_known x.setting (seen x) s)) (delta_allowed x s _ (frees_well x s h.known.0 has joined)) (spelled_now x h);

@@ -7,7 +7,8 @@ use Rattle.sl_leases.specs.Leases.{known, spot_of}
 use Rattle.sl_leases.specs.declared.lease.LeaseNext.TheVariants.{BecomeExclusive, BecomeShared, WriteBlock, WriteLeader}
 use Rattle.sl_leases.specs.declared.lease.LeaseNext.{LeaseNext}
 use Rattle.sl_sector.specs.Records.{IsBlock, IsLeader}
-use Rattle.sl_trace.specs.Traces.{end_of, spot_of_grant}
+use Rattle.sl_trace.specs.Traces.{end_of, is_shared, spot_of_grant}
+use Rattle.std.specs.Prelude.{false, ◌≡◌}
 
 -- What a lease writes next, if anything, is a record.
 abbrev pub LeaseWrites : LeaseNext → Type 0
@@ -17,9 +18,9 @@ LeaseWrites (BecomeShared lver l) = IsLeader l
 LeaseWrites (BecomeExclusive lver b) = IsBlock b
 LeaseWrites next = Unit {0}
 
--- What a release or a conversion writes at once on its lease, if anything, is a record.
+-- What the release of an exclusive holding or a conversion writes at once on its lease, if anything, is a record.
 abbrev pub DecisionWrites : Step → Decision → Type 0
 DecisionWrites y (GivesUp s g) =
-    LeaseWrites (release_next (lease_place y.setting s) (known y.setting (seen (add_end (end_of g) y)) s (spot_of_grant g)) g.mode g.lver)
+    is_shared g.mode ≡ false → LeaseWrites (release_next (lease_place y.setting s) (known y.setting (seen (add_end (end_of g) y)) s (spot_of_grant g)) g.mode g.lver)
 DecisionWrites y (ConvertsTo s r mode) = LeaseWrites (convert_next (known y.setting (seen y) s (spot_of r)) mode r.name)
 DecisionWrites y decision = Unit {0}
