@@ -5,6 +5,7 @@ pub mod OwnRecords
 pub mod DeltaWrites
 pub mod ValueWrites
 pub mod ReleaseWrites
+pub mod ConversionWrites
 pub mod SpelledAreKept
 pub mod CallsAreLawful
 pub mod ActsRest

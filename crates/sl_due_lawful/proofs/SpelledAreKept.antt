@@ -1,4 +1,7 @@
 -- What is written is a record: on id sectors, requests and values by what is known, on leases by what they decide.
+use Rattle.sl_due_lawful.proofs.ConversionWrites.{converts_well}
+use Rattle.sl_trace.specs.declared.command.ResourceArg.{ResourceArg}
+use Rattle.sl_trace.specs.declared.effects.Mode.{Mode}
 use Rattle.sl_due_lawful.proofs.ReleaseWrites.{releases_well}
 use Rattle.sl_trace.specs.declared.effects.Grant.{Grant}
 use Rattle.sl_trace.specs.declared.input.Input.TheVariants.{Wake}
@@ -194,19 +197,19 @@ request_allowed x s j bytes Status fits most = tt
 
 -- ---- lines
 
-decision_allowed : (y : Step) (j : ℕ) (c : Command) (d : Decision) → DecisionWrites y d → ((s : Session) (at : Spot) (v : ValueRec) → d ≡ SetsValue s at v → IsValue v) → ((s : Session) (g : Grant) → DecisionWrites y (GivesUp s g) → LeaseWrites (release_next (lease_place y.setting s) (known y.setting (seen (add_end (end_of g) y)) s (spot_of_grant g)) g.mode g.lver)) → DecisionAllowed SpelledSoFar Anything Spelled AnyStart y j c d
-decision_allowed y j c (Replies r) k values gives = tt
-decision_allowed y j c (Joins n a) k values gives = λ z its. reads_spelled 1
-decision_allowed y j c (Leaves s) k values gives = (tt, λ z h i there. tt)
-decision_allowed y j c (ReadsArea s r) k values gives = reads_spelled (y.setting.layout.hosts + 2)
-decision_allowed y j c (Shares s lver) k values gives = grant_allowed j lver c
-decision_allowed y j c (GivesUp s g) k values gives =
+decision_allowed : (y : Step) (j : ℕ) (c : Command) (d : Decision) → DecisionWrites y d → ((s : Session) (at : Spot) (v : ValueRec) → d ≡ SetsValue s at v → IsValue v) → ((s : Session) (g : Grant) → DecisionWrites y (GivesUp s g) → LeaseWrites (release_next (lease_place y.setting s) (known y.setting (seen (add_end (end_of g) y)) s (spot_of_grant g)) g.mode g.lver)) → ((s : Session) (r : ResourceArg) (mode : Mode) → d ≡ ConvertsTo s r mode → LeaseWrites (convert_next (known y.setting (seen y) s (spot_of r)) mode r.name)) → DecisionAllowed SpelledSoFar Anything Spelled AnyStart y j c d
+decision_allowed y j c (Replies r) k values gives converts = tt
+decision_allowed y j c (Joins n a) k values gives converts = λ z its. reads_spelled 1
+decision_allowed y j c (Leaves s) k values gives converts = (tt, λ z h i there. tt)
+decision_allowed y j c (ReadsArea s r) k values gives converts = reads_spelled (y.setting.layout.hosts + 2)
+decision_allowed y j c (Shares s lver) k values gives converts = grant_allowed j lver c
+decision_allowed y j c (GivesUp s g) k values gives converts =
     (tt, lease_allowed (add_end (end_of g) y) s (spot_of_grant g) (ForJob j) (release_next (lease_place y.setting s) (known y.setting (seen (add_end (end_of g) y)) s (spot_of_grant g)) g.mode g.lver) (gives s g k))
-decision_allowed y j c (TakesOver s g) k values gives = grant_allowed j g.lver c
-decision_allowed y j c (ConvertsTo s r mode) k values gives = lease_allowed y s (spot_of r) (ForJob j) (convert_next (known y.setting (seen y) s (spot_of r)) mode r.name) k
-decision_allowed y j c (Requests s r) k values gives = reads_spelled 2
-decision_allowed y j c (SetsValue s at v) k values gives = record_spelled (ValueIs v) (values s at v refl)
-decision_allowed y j c (GetsValue s at) k values gives = reads_spelled 1
+decision_allowed y j c (TakesOver s g) k values gives converts = grant_allowed j g.lver c
+decision_allowed y j c (ConvertsTo s r mode) k values gives converts = lease_allowed y s (spot_of r) (ForJob j) (convert_next (known y.setting (seen y) s (spot_of r)) mode r.name) (converts s r mode refl)
+decision_allowed y j c (Requests s r) k values gives converts = reads_spelled 2
+decision_allowed y j c (SetsValue s at v) k values gives converts = record_spelled (ValueIs v) (values s at v refl)
+decision_allowed y j c (GetsValue s at) k values gives converts = reads_spelled 1
 
 -- The call that begins a session is of no session yet.
 joining_spelled : (x : Step) (j n : ℕ) (c : Command) (a : LockspaceArg) → SpelledSoFar x → SpelledSoFar (carry_decision j c (Joins n a) x)
@@ -223,7 +226,7 @@ carried_spelled : (x : Step) (text : List ℕ) (c : Command) (d : Decision) → 
     → SpelledSoFar (carry_decision (next_job x.setting (seen x)) c d (with_input (Line text) x))
 carried_spelled x text c d k wake bare says is writes =
     decision SpelledSoFar SpelledSoFar Anything Spelled AnyStart AnyMove spelled_effects (with_input (Line text) x) (next_job x.setting (seen x)) c d (decision_allowed (with_input (Line text) x) (next_job x.setting (seen x)) c d writes
-    (λ s at v sets. values_well x c s at v k.known.0 (k.known.0.setting.reads text c says) (is ∙ sets)) (λ s g may. releases_well x text s g wake bare k.known.0 may))
+    (λ s at v sets. values_well x c s at v k.known.0 (k.known.0.setting.reads text c says) (is ∙ sets)) (λ s g may. releases_well x text s g wake bare k.known.0 may) (λ s r mode sets. converts_well x text c s r mode wake bare k.known.0 (is ∙ sets)))
     (λ n a joins. joining_spelled (with_input (Line text) x) (next_job x.setting (seen x)) n c a (spelled_now x k)) (spelled_now x k)
 
 -- ---- all acts

@@ -55,8 +55,8 @@ is_lone_read p = false
 abbrev pub LonesSoFar : Step → Type 0
 LonesSoFar x = EachCall x.setting (λ es s c. IsTrue (is_lone_read c.call.purpose) → IsTrue (may_submit (stage_of es s))) x.past (entry_of x)
 
--- What is asked of the acts besides what is shown: that what a lease decides to write, a block or a leader, is a record. (All else that is
--- written is shown to be one.)
+-- What is asked of the acts besides what is shown: that what a lease decides to write after an answer or in a settling is a record, and the leader
+-- that the release of an exclusive holding writes. (All else that is written is shown to be one.)
 pub record ActsAsked : Type 0 where
   pub leads : (x : Step) (s : Session) (work : Work) (step : LeaseStep) (m : Submitted) (answer : Answer) (aim : Aim) → Kept x → Hears x s m answer →
       m.call.purpose ≡ Lease work step → goes_on x.setting (seen x) s work ≡ true → aim_of x.setting (seen x) work ≡ Some aim →

@@ -1,9 +1,9 @@
 -- That what is decided is written as a record.
 use Rattle.sl_due.specs.Steps.{Step, add_end, seen}
-use Rattle.sl_due.specs.declared.decision.Decision.TheVariants.{ConvertsTo, GivesUp}
+use Rattle.sl_due.specs.declared.decision.Decision.TheVariants.{GivesUp}
 use Rattle.sl_due.specs.declared.decision.Decision.{Decision}
-use Rattle.sl_leases.specs.LeaseWork.{convert_next, lease_place, release_next}
-use Rattle.sl_leases.specs.Leases.{known, spot_of}
+use Rattle.sl_leases.specs.LeaseWork.{lease_place, release_next}
+use Rattle.sl_leases.specs.Leases.{known}
 use Rattle.sl_leases.specs.declared.lease.LeaseNext.TheVariants.{BecomeExclusive, BecomeShared, WriteBlock, WriteLeader}
 use Rattle.sl_leases.specs.declared.lease.LeaseNext.{LeaseNext}
 use Rattle.sl_sector.specs.Records.{IsBlock, IsLeader}
@@ -18,9 +18,8 @@ LeaseWrites (BecomeShared lver l) = IsLeader l
 LeaseWrites (BecomeExclusive lver b) = IsBlock b
 LeaseWrites next = Unit {0}
 
--- What the release of an exclusive holding or a conversion writes at once on its lease, if anything, is a record.
+-- The leader that the release of an exclusive holding writes is a record.
 abbrev pub DecisionWrites : Step → Decision → Type 0
 DecisionWrites y (GivesUp s g) =
     is_shared g.mode ≡ false → LeaseWrites (release_next (lease_place y.setting s) (known y.setting (seen (add_end (end_of g) y)) s (spot_of_grant g)) g.mode g.lver)
-DecisionWrites y (ConvertsTo s r mode) = LeaseWrites (convert_next (known y.setting (seen y) s (spot_of r)) mode r.name)
 DecisionWrites y decision = Unit {0}
