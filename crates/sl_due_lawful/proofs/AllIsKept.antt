@@ -9,6 +9,7 @@ use Rattle.sl_due.specs.Steps.{Step, begin_step}
 use Rattle.sl_due_lawful.proofs.CallsAreLawful.{calls_are_lawful}
 use Rattle.sl_due_lawful.proofs.LonesAreKept.{lones_are_kept}
 use Rattle.sl_due_lawful.proofs.LonesMay.{lones_may}
+use Rattle.sl_due_lawful.proofs.SpelledAreKept.{spelled_are_kept}
 use Rattle.sl_due_lawful.specs.Kept.{Holds, Kept}
 use Rattle.sl_due_lawful.specs.Lones.{Lones}
 use Rattle.sl_due_lawful.specs.Promises.{ActsAsked, DeltasSoFar, SpelledSoFar}
@@ -272,7 +273,7 @@ from_lones : ActsAsked → Acts Kept From_lones
 from_lones a = both Kept Lones From_delta_calls (from_more (λ x. Whole x × Lones x) Kept Lones (λ x k. (k.known.0, k.lones)) lones_are_kept) (from_delta_calls a)
 
 from_spelled : ActsAsked → Acts Kept From_spelled
-from_spelled a = both Kept SpelledSoFar From_lones (from_more Kept Kept SpelledSoFar (λ x k. k) a.spelled) (from_lones a)
+from_spelled a = both Kept SpelledSoFar From_lones (spelled_are_kept a) (from_lones a)
 
 from_values : ActsAsked → Acts Kept From_values
 from_values a = both Kept HasValueFacts From_spelled (from_more Known Kept HasValueFacts (λ x k. k.known) value_facts_are_kept) (from_spelled a)

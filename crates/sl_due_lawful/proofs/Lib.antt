@@ -1,6 +1,12 @@
 pub mod AllIsKept
 pub mod LonesAreKept
 pub mod LonesMay
+pub mod OwnRecords
+pub mod DeltaWrites
+pub mod ValueWrites
+pub mod ReleaseWrites
+pub mod ConversionWrites
+pub mod SpelledAreKept
 pub mod CallsAreLawful
 pub mod ActsRest
 pub mod FirstFacts

@@ -1,3 +1,4 @@
+pub mod Writes
 pub mod Kept
 pub mod Lones
 pub mod Busy
