@@ -8,13 +8,13 @@ use Rattle.sl_trace.specs.declared.reply.Limited.TheVariants.{Lockspaces, Seq as
 use Rattle.sl_trace.specs.Traces.{no_process}
 use Rattle.sl_trace.specs.Limits.{most_lockspaces}
 use Rattle.sl_due.specs.declared.decision.Decision.TheVariants.{Joins, Leaves}
-use Rattle.sl_decide_law.specs.Deciding.{held_of, joined_refused, member_of, other_at}
+use Rattle.sl_host_law.specs.Decisions.Deciding.{held_of, joined_refused, member_of, other_at}
 use Rattle.sl_due.specs.declared.decision.Decision.TheVariants.{Requests}
 use Rattle.std.proofs.Common.{sym}
 use Rattle.sl_whole_host.specs.Promises.{DecisionsAreTaken}
 use Rattle.sl_whole_host.specs.Refusing.{release_in, request_in}
 use Rattle.sl_leases.specs.Leases.{spot_of}
-use Rattle.sl_decide_law.specs.Deciding.{member_named, member_refusal, pending_refused, process_refused, serving_holding, with_member}
+use Rattle.sl_host_law.specs.Decisions.Deciding.{member_named, member_refusal, pending_refused, process_refused, serving_holding, with_member}
 use Rattle.sl_host_state.specs.Kept.{HostState, MemberState}
 use Rattle.sl_words.specs.Words.{choose}
 use Rattle.sl_tables.specs.Holdings.{fits, is_holder, is_in_mode}

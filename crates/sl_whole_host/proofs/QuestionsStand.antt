@@ -1,5 +1,5 @@
 -- What a table finds is what the definitions ask for.
-use Rattle.sl_decide_law.specs.Deciding.{is_open_on}
+use Rattle.sl_host_law.specs.Decisions.Deciding.{is_open_on}
 use Rattle.std.specs.Prelude.{bytes_eq, nat_le, nat_lt, ◌%◌, ◌*◌, ◌+◌, ◌-◌, ◌/◌, ◌<◌, ◌≤◌}
 use Rattle.std.specs.Cmp.Lexicographic.{nat_list_eq_equiv}
 use Rattle.sl_tables.specs.Opens.{is_on_area, least_on}

@@ -10,13 +10,13 @@ use Rattle.sl_trace.specs.declared.effects.Mode.{Mode}
 use Rattle.sl_trace.specs.declared.command.LockspaceArg.{LockspaceArg}
 use Rattle.sl_leases.specs.Leases.{spot_of}
 use Rattle.sl_due.specs.declared.decision.Decision.TheVariants.{GetsValue}
-use Rattle.sl_decide_law.specs.Deciding.{add_decision, convert_decision, leave_decision, member_of}
+use Rattle.sl_host_law.specs.Decisions.Deciding.{add_decision, convert_decision, leave_decision, member_of}
 use Rattle.std.specs.Prelude.{true}
 use Rattle.sl_whole_host.specs.Refusing.{release_in, request_in}
 use Rattle.sl_trace.specs.declared.command.ResourceArg.{ResourceArg}
 use Rattle.sl_host_state.specs.Kept.{HostState}
 use Rattle.sl_due.specs.declared.decision.Decision.TheVariants.{GivesUp}
-use Rattle.sl_decide_law.specs.Deciding.{holder_decision, member_named, request_decision, with_member}
+use Rattle.sl_host_law.specs.Decisions.Deciding.{holder_decision, member_named, request_decision, with_member}
 use Rattle.sl_host_state.specs.Kept.{MemberState}
 use Rattle.sl_host_state.specs.Makes.{is_ended_by_move, with_end, with_grant, with_move, with_signal, with_start}
 use Rattle.sl_trace.specs.declared.command.Command.{Command}

@@ -11,8 +11,8 @@ use Rattle.sl_trace.specs.declared.command.LockspaceArg.{LockspaceArg}
 use Rattle.sl_trace.specs.Traces.{is_orphan, no_process}
 use Rattle.sl_trace.specs.Limits.{most_lockspaces}
 use Rattle.sl_due.specs.declared.decision.Decision.TheVariants.{GetsValue, Joins, Leaves}
-use Rattle.sl_decide_law.specs.Deciding.{held_of, joined_refused, member_converts, other_at}
-use Rattle.sl_decide_law.specs.Deciding.{member_refusal, pending_refused, process_refused, serving_holding}
+use Rattle.sl_host_law.specs.Decisions.Deciding.{held_of, joined_refused, member_converts, other_at}
+use Rattle.sl_host_law.specs.Decisions.Deciding.{member_refusal, pending_refused, process_refused, serving_holding}
 use Rattle.sl_host_state.specs.Kept.{HostState, MemberState}
 use Rattle.sl_due.specs.declared.decision.Decision.TheVariants.{GivesUp, Replies, Requests}
 use Rattle.sl_due.specs.declared.decision.Decision.{Decision}

@@ -1,6 +1,6 @@
 //! What a command comes to: each of its refusals in order, then what is begun.
 
-ghost use Rattle.sl_decide_law.specs.Deciding.{held_of, joined_refused, held_on, member_acquires, member_named, member_refusal, other_at, pending_refused, process_refused, serving_holding, with_member};
+ghost use Rattle.sl_host_law.specs.Decisions.Deciding.{held_of, joined_refused, held_on, member_acquires, member_named, member_refusal, other_at, pending_refused, process_refused, serving_holding, with_member};
 ghost use Rattle.sl_host_state.specs.Kept.{state_of};
 ghost use Rattle.sl_leases.specs.Leases.{spot_of};
 ghost use Rattle.sl_trace.specs.Traces.{is_orphan, is_shared, no_process};

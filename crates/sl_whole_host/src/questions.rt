@@ -1,6 +1,6 @@
 //! What is asked of a host's books when a command is decided.
 
-ghost use Rattle.sl_decide_law.specs.Deciding.{busy_refused, held_at, holds_there, is_running_child, killpath_decision, other_at, pending_refused, process_refused};
+ghost use Rattle.sl_host_law.specs.Decisions.Deciding.{busy_refused, held_at, holds_there, is_running_child, killpath_decision, other_at, pending_refused, process_refused};
 ghost use Rattle.sl_host_state.specs.Asks.{stopper_in, ungranted_in};
 ghost use Rattle.sl_leases.specs.Counts.{busy_among};
 ghost use Rattle.sl_leases.specs.Jobs.{is_asking_lease, is_program};

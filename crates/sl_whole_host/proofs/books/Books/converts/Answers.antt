@@ -1,4 +1,4 @@
-use Rattle.sl_decide_law.specs.Deciding.{member_refusal, other_at, pending_refused, process_refused, serving_holding}
+use Rattle.sl_host_law.specs.Decisions.Deciding.{member_refusal, other_at, pending_refused, process_refused, serving_holding}
 use Rattle.sl_due.specs.declared.decision.Decision.{Decision}
 use Rattle.sl_trace.specs.Traces.{is_shared}
 use Rattle.sl_trace.specs.declared.effects.Grant.{Grant}

@@ -1,4 +1,4 @@
-use Rattle.sl_decide_law.specs.Deciding.{pending_refused}
+use Rattle.sl_host_law.specs.Decisions.Deciding.{pending_refused}
 use Rattle.sl_trace.specs.declared.reply.Reply.TheVariants.{Pending}
 use Rattle.sl_whole_host.proofs.QuestionsStand.{pending_is}
 use Rattle.sl_whole_host.proofs.books.Books.pending_refused.Goals as goal

@@ -1,4 +1,4 @@
-use Rattle.sl_decide_law.specs.Deciding.{member_named, with_member}
+use Rattle.sl_host_law.specs.Decisions.Deciding.{member_named, with_member}
 use Rattle.sl_host_state.specs.Kept.{state_of}
 use Rattle.sl_whole_host.proofs.host.Host.decide_get.Goals as goal
 use Rattle.sl_whole_host.specs.Books.{kept_of}

@@ -1,4 +1,0 @@
-//! What is decided at an answer is done: the state that follows stands for the step with it.
-#![tactic(auto)]
-
-pub mod laws;

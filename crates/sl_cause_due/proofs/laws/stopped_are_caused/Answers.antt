@@ -1,5 +1,0 @@
-use Rattle.sl_cause_due.proofs.LineAnswers as its
-use Rattle.sl_cause_due.proofs.laws.stopped_are_caused.Goals as goal
-
-pub returns : goal.returns
-returns c = its.stopped_are_caused

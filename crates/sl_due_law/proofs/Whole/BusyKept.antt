@@ -1,0 +1,399 @@
+-- No job is idle, where what is asked of jobs is so.
+use Rattle.sl_acts.proofs.AnswersAreHeeded.{step_heeds}
+use Rattle.sl_acts.proofs.InputsKeep.{has_heard}
+use Rattle.sl_acts.proofs.LoopsKeep.{when_keeps}
+use Rattle.sl_acts.proofs.SessionsStay.{Stays, delta_stays, itself, refusal_stays}
+use Rattle.sl_acts.proofs.StepsKeep.{Fixed, due_is_of}
+use Rattle.sl_acts.proofs.TracesKeep.{due_is_seen}
+use Rattle.sl_acts.specs.Acts.{AnswerActs, Hears, OtherActs}
+use Rattle.sl_acts.specs.SoFar.{entry_of}
+use Rattle.sl_area.specs.Places.{delta_offset, request_offset}
+use Rattle.sl_due.specs.Due.{IsDue, IsHostTrace, due_step}
+use Rattle.sl_due.specs.DueAnswers.{set_reply}
+use Rattle.sl_due.specs.DueCommands.{carry_decision, decided, reply_at_once}
+use Rattle.sl_due.specs.DueDelta.{carry_delta, end_leaving, see_request}
+use Rattle.sl_due.specs.DueFirst.{begin_recoveries, refuse, remove_connection, remove_of_refused, send, signal_and_refuse, signal_holders}
+use Rattle.sl_due.specs.DueInputs.{end_holdings, leave_holdings, refuse_jobs_of, started_reply, when_running}
+use Rattle.sl_due.specs.DueLease.{carry_lease, next_of_lease}
+use Rattle.sl_due.specs.DueRequests.{after_request_read, after_value_read, bits_due, value_reply}
+use Rattle.sl_due.specs.Steps.{Step, add_call_of, add_move, add_reply, add_signal, begin_step, seen, when, with_input}
+use Rattle.sl_due.specs.declared.decision.Decision.{Decision}
+use Rattle.sl_due.specs.declared.decision.Decision.TheVariants.{ConvertsTo, GetsValue, GivesUp, Joins, Leaves, ReadsArea, Replies, Requests, SetsValue, Shares, TakesOver}
+use Rattle.sl_due_law.proofs.Whole.ActsRest.{Heard, Rested, answer_acts_rest, other_acts_rest, rested}
+use Rattle.sl_due_law.proofs.Whole.AllIsKept.{all_begins}
+use Rattle.sl_due_law.proofs.Whole.BusyActs.{Busy, BusyHeard, answered_busy, lined_busy, seen_busy}
+use Rattle.sl_due_law.proofs.Whole.BusyRests.{Walks, alone, asked_busy, from_busy, heard_alone, joined_busy, late_alone, lone_is, replied_busy, unfound_alone, walk, walked}
+use Rattle.sl_due_law.proofs.Whole.TracesHold.{due_is_lawful_with, step_holds, traces_hold}
+use Rattle.sl_due_law.proofs.Whole.WaitsAtEnd.{none_idle}
+use Rattle.sl_due_law.proofs.Whole.WaitsStay.{waits_called}
+use Rattle.sl_due_law.specs.Whole.Busy.{AllWait, For_call, For_child, For_leaving, For_session, Waits, told_by}
+use Rattle.sl_due_law.specs.Whole.Kept.{Holds, Kept}
+use Rattle.sl_due_law.specs.Whole.Promises.{ActsAsked, DueIsWellWith, EntriesAreCaused, JobsAsked, MayRest, NoneIsIdleWith}
+use Rattle.sl_due_law.proofs.Jobs.AnsweredCallsFit.{both_of}
+use Rattle.sl_due_law.proofs.Jobs.CallsHaveFacts.{sessions_bare}
+use Rattle.sl_due_law.proofs.Jobs.CallsOfJobsFit.{joining_of}
+use Rattle.sl_due_law.proofs.Jobs.EffectsAreAllowed.{DecisionAllowed, decision, delta, ended, exited, lease, left, refusal, removal, removal_of_refused, said, sent, signalled, stopped}
+use Rattle.sl_due_law.proofs.Jobs.JobFactsGrow.{contains_left}
+use Rattle.sl_due_law.proofs.Jobs.LinesAreAllowed.{IsBegun}
+use Rattle.sl_due_law.proofs.Jobs.NearlyPlainActs.{AnyMove, AnyStart, Anything, NoLook, decision_plain, free_plain, freed_plain, joining_plain, lease_plain, renewal_plain, renewed_plain}
+use Rattle.sl_due_law.proofs.Jobs.RepliesComeAfter.{joining_late, wake_late}
+use Rattle.sl_due_law.proofs.Jobs.SessionsStand.{reply_stops}
+use Rattle.sl_law.specs.Caused.{IsCaused}
+use Rattle.sl_law.specs.Lawful.{IsSetting}
+use Rattle.sl_leases.specs.Jobs.{command_numbered, job_of_start}
+use Rattle.sl_leases.specs.LeaseWork.{lease_place, settle_next}
+use Rattle.sl_leases.specs.Leases.{known, spot_of_call}
+use Rattle.sl_leases.specs.declared.lease.LeaseNext.{LeaseNext}
+use Rattle.sl_plain.proofs.Lists.{contains_map, contains_none, find_inside, head_is}
+use Rattle.sl_plain.proofs.Options.{some_of}
+use Rattle.sl_due_law.proofs.Recovery.FreesConclude.{free_written}
+use Rattle.sl_due_law.proofs.Recovery.StopsBegin.{IsDenial, Says, begun_says, with_said}
+use Rattle.sl_due_law.proofs.Recovery.StopsConclude.{old_session}
+use Rattle.sl_sessions.specs.Deltas.{delta_known, delta_of_session, next_after_free, next_after_renewal, next_free, next_in_joining, next_on_wake, next_renewal}
+use Rattle.sl_sessions.specs.Sessions.{calls_of, generation_of, recovery_of, session_numbered, sessions}
+use Rattle.sl_sessions.specs.declared.delta.DeltaNext.{DeltaNext}
+use Rattle.sl_sessions.specs.declared.session.Session.{Session}
+use Rattle.sl_due_law.specs.Facts.Heard.{heard_by}
+use Rattle.sl_due_law.specs.Facts.JobFacts.{FitsCommand}
+use Rattle.sl_due_law.specs.Facts.Whole.{Whole}
+use Rattle.sl_trace.specs.Connections.{is_registered}
+use Rattle.sl_trace.specs.Traces.{FollowsTrace, Job, Replied, Setting, Submitted, Trace, child_after, children, is_running, job_of, jobs, new_child, next_job, reply_in, reply_to, submitted, work_job}
+use Rattle.sl_trace.specs.declared.command.Command.{Command}
+use Rattle.sl_trace.specs.declared.command.LockspaceArg.{LockspaceArg}
+use Rattle.sl_trace.specs.declared.effects.Entry.{Entry}
+use Rattle.sl_trace.specs.declared.effects.JoinStep.TheVariants.{FirstRead}
+use Rattle.sl_trace.specs.declared.effects.Move.TheVariants.{Unregister}
+use Rattle.sl_trace.specs.declared.effects.Op.TheVariants.{ReadSectors}
+use Rattle.sl_trace.specs.declared.effects.Purpose.TheVariants.{Joining, RequestRead, SeeRequest}
+use Rattle.sl_trace.specs.declared.effects.Signal.TheVariants.{Kill, Term}
+use Rattle.sl_trace.specs.declared.effects.Work.TheVariants.{Settling}
+use Rattle.sl_trace.specs.declared.input.Answer.{Answer}
+use Rattle.sl_trace.specs.declared.input.Answer.TheVariants.{Failed, Read, Written}
+use Rattle.sl_trace.specs.declared.input.Input.{Input}
+use Rattle.sl_trace.specs.declared.input.Input.TheVariants.{Answer as Told, Exit, Line, Number, Spawned, Wake}
+use Rattle.sl_trace.specs.declared.reply.Reply.{Reply}
+use Rattle.sl_trace.specs.declared.reply.Reply.TheVariants.{BadCommand as Misread, Done, IoFault, IoTimeout, SpawnFault}
+use Rattle.sl_words.proofs.CaseLaws.{false_is_true, none_some, not_both, some_value}
+use Rattle.std.proofs.Common.{ap, inl, inr, refl, subst, sym, ◌∙◌}
+use Rattle.std.proofs.lemmas.List.{append-nil}
+use Rattle.std.specs.Prelude.{Bool, Contains, List, None, Ok, Option, Some, [], false, is_none, is_some, map, true, ℕ, ◌==◌, ◌∷◌, ◌≡◌, ◌⊎◌}
+
+abbrev Waiting : Step → Type 0
+Waiting x = Rested x × Busy x
+
+abbrev HeardWaiting : Step → Type 0
+HeardWaiting x = Heard x × BusyHeard x
+
+-- ---- acts but those of an answer
+
+carried_walk : (x : Step) (text : List ℕ) (c : Command) (d : Decision) → x.input ≡ Wake → x.effects.calls ≡ [] → Busy x
+    → Walks (Line text) (Some (next_job x.setting (seen x))) (carry_decision (next_job x.setting (seen x)) c d (with_input (Line text) x))
+unfolding carry_decision
+carried_walk x text c d wake bare h = by (decision_plain K w j c d) where
+  w : Step
+  w = with_input (Line text) x
+
+  j : ℕ
+  j = next_job x.setting (seen x)
+
+  K : Step → Type 0
+  K = Walks (Line text) (Some (next_job x.setting (seen x)))
+
+  lined : Walks (Line text) (Some (next_job x.setting (seen x))) (with_input (Line text) x)
+  lined = (refl, lined_busy x text wake bare h)
+
+  begins : (n : ℕ) (a : LockspaceArg) → Walks (Line text) (Some (next_job x.setting (seen x))) (carry_decision (next_job x.setting (seen x)) c (Joins n a) (with_input (Line text) x))
+  begins n a =
+      let y : Step = add_call_of n a.path (Joining (next_job x.setting (seen x)) FirstRead) (delta_offset x.setting.layout a.offset a.id) (ReadSectors 1) (with_input (Line text) x) in (
+        refl,
+        λ i there runs other.
+            waits_called (with_input (Line text) x) None n a.path (Joining (next_job x.setting (seen x)) FirstRead) (delta_offset x.setting.layout a.offset a.id) (ReadSectors 1) i.number
+            (λ s inside. old_session y s (subst (λ ss. Contains ss s) (sessions_bare (with_input (Line text) x) bare) inside)) (lined_busy x text wake bare h i there runs other),
+      )
+
+  begun : (z : Decision) → IsBegun z → Walks (Line text) (Some (next_job x.setting (seen x))) (carry_decision (next_job x.setting (seen x)) c z (with_input (Line text) x))
+  begun (Joins n a) k = begins n a
+  begun (Leaves s) k = absurd k
+  begun (Replies r) k = absurd k
+  begun (ReadsArea s r) k = absurd k
+  begun (Shares s lver) k = absurd k
+  begun (GivesUp s g) k = absurd k
+  begun (TakesOver s g) k = absurd k
+  begun (ConvertsTo s r mode) k = absurd k
+  begun (Requests s r) k = absurd k
+  begun (SetsValue s spot v) k = absurd k
+  begun (GetsValue s spot) k = absurd k
+
+  by : IsBegun d ⊎ DecisionAllowed (Walks (Line text) (Some (next_job x.setting (seen x)))) Anything NoLook AnyStart (with_input (Line text) x) (next_job x.setting (seen x)) c d
+      → Walks (Line text) (Some (next_job x.setting (seen x))) (carry_decision (next_job x.setting (seen x)) c d (with_input (Line text) x))
+  by (inr may) =
+      decision (Walks (Line text) (Some (next_job x.setting (seen x)))) (Walks (Line text) (Some (next_job x.setting (seen x)))) Anything NoLook AnyStart AnyMove (walk (Line text) (Some (next_job x.setting (seen x))))
+      (with_input (Line text) x) (next_job x.setting (seen x)) c d may (λ n a joins. begins n a) lined
+  by (inl k) = begun d k
+
+other_acts_wait : ActsAsked → JobsAsked → OtherActs Waiting
+other_acts_wait asked jobs =
+    let r : OtherActs Rested = other_acts_rest asked in
+    record {
+      kills = λ x s has due h.
+          (r.kills x s has due h.0, alone (signal_holders Kill s x) x.input (signalled (Walks x.input None) (Walks x.input None) Anything NoLook AnyStart AnyMove (walk x.input None) tt x Kill s (from_busy x h.1)));
+      times_out = λ x j m wake bare runs waits late_one h. (
+        r.times_out x j m wake bare runs waits late_one h.0,
+        alone (refuse j (IoTimeout m.call.number m.reading x.reading) x) x.input (refusal (Walks x.input None) (Walks x.input None) Anything NoLook AnyStart AnyMove (walk x.input None) x j (IoTimeout m.call.number m.reading x.reading) tt (λ z is. tt) (from_busy x h.1)),
+      );
+      counts = λ x text wake bare h. (r.counts x text wake bare h.0, seen_busy x (Number text) wake bare refl h.1);
+      exits = λ x n wake bare one h.
+          let w : Step = with_input (Exit n) x in (
+            r.exits x n wake bare one h.0,
+            alone (refuse_jobs_of n (leave_holdings n w)) (Exit n) (exited (Walks (Exit n) None) (Walks (Exit n) None) Anything NoLook AnyStart AnyMove (walk (Exit n) None) (leave_holdings n w) n (λ j there. tt)
+                (left (Walks (Exit n) None) (Walks (Exit n) None) Anything NoLook AnyStart AnyMove (walk (Exit n) None) w n (from_busy w (seen_busy x (Exit n) wake bare refl h.1)))),
+          );
+      exits_as_none = λ x n wake bare none h. (r.exits_as_none x n wake bare none h.0, seen_busy x (Exit n) wake bare refl h.1);
+      starts = λ x n ok wake bare expected h. (r.starts x n ok wake bare expected h.0, seen_busy x (Spawned n ok) wake bare refl h.1);
+      fails_to_start = λ x n input h. (
+        r.fails_to_start x n input h.0,
+        alone (when_running (job_of_start (seen x) n) SpawnFault (end_holdings n x)) x.input (said (Walks x.input None) (Walks x.input None) Anything NoLook AnyStart AnyMove (walk x.input None) (end_holdings n x) (job_of_start (seen x) n) SpawnFault (λ j is. tt)
+            (ended (Walks x.input None) (Walks x.input None) Anything NoLook AnyStart AnyMove (walk x.input None) x n (from_busy x h.1))),
+      );
+      signals_instead = λ x n o input stood h. (r.signals_instead x n o input stood h.0, alone (add_signal o Term x) x.input ((walk x.input None).signals x o Term (from_busy x h.1)));
+      says_started = λ x n j input is runs h.
+          (r.says_started x n j input is runs h.0, alone (add_reply j (started_reply (seen x) n) x) x.input ((walk x.input None).replies x j (started_reply (seen x) n) tt (from_busy x h.1)));
+      misreads = λ x text column wake bare says h. (r.misreads x text column wake bare says h.0, answered_busy x text (Misread column) wake bare h.1);
+      answers = λ x text c q wake bare says is h. (r.answers x text c q wake bare says is h.0, answered_busy x text q wake bare h.1);
+      carries = λ x text c d wake bare says is more h. (
+        r.carries x text c d wake bare says is more h.0,
+        walked (carry_decision (next_job x.setting (seen x)) c d (with_input (Line text) x)) (Line text) (Some (next_job x.setting (seen x))) (carried_walk x text c d wake bare h.1)
+            (λ j its runs. line_rests jobs x text c d j h.0.0 wake bare says is more its runs),
+      );
+      joins_in_time = λ x s j has wake is runs h.
+          let n : DeltaNext = next_on_wake (delta_of_session x.setting s) x.reading (calls_of (seen x) s) in (
+            r.joins_in_time x s j has wake is runs h.0,
+            alone (carry_delta s n x) x.input (delta (Walks x.input None) (Walks x.input None) Anything NoLook AnyStart AnyMove (walk x.input None) x s n
+                (joining_plain x s n (wake_late (delta_of_session x.setting s) x.reading (calls_of (seen x) s))) (from_busy x h.1)),
+          );
+      renews = λ x s has wake joined h.
+          let bits : List ℕ = bits_due x.setting (calls_of (seen x) s) x.reading in
+          let n : DeltaNext = next_renewal (delta_of_session x.setting s) x.reading (delta_known x.setting (seen x) s) bits in (
+            r.renews x s has wake joined h.0,
+            alone (carry_delta s n x) x.input (delta (Walks x.input None) (Walks x.input None) Anything NoLook AnyStart AnyMove (walk x.input None) x s n
+                (renewal_plain x s (delta_of_session x.setting s) x.reading (delta_known x.setting (seen x) s) bits) (from_busy x h.1)),
+          );
+      settles = λ x s spot has wake active whole none h.
+          let n : LeaseNext = settle_next (lease_place x.setting s) (known x.setting (seen x) s spot) in (
+            r.settles x s spot has wake active whole none h.0,
+            alone (carry_lease s spot Settling n x) x.input (lease (Walks x.input None) (Walks x.input None) Anything NoLook AnyStart AnyMove (walk x.input None) x s spot Settling n (lease_plain x s spot Settling n) (from_busy x h.1)),
+          );
+      parts = λ x s p1 p2 p3 p4 p5 h.
+          (r.parts x s p1 p2 p3 p4 p5 h.0, alone (remove_connection s.lockspace x) x.input (removal (Walks x.input None) (Walks x.input None) Anything NoLook AnyStart AnyMove (walk x.input None) x s.lockspace tt (from_busy x h.1)));
+      frees = λ x s p1 p2 p3 p4 p5 h.
+          let n : DeltaNext = next_free (delta_of_session x.setting s) x.reading (delta_known x.setting (seen x) s) in (
+            r.frees x s p1 p2 p3 p4 p5 h.0,
+            alone (carry_delta s n x) x.input (delta (Walks x.input None) (Walks x.input None) Anything NoLook AnyStart AnyMove (walk x.input None) x s n
+                (free_plain x s (delta_of_session x.setting s) x.reading (delta_known x.setting (seen x) s)) (from_busy x h.1)),
+          );
+    } where
+      line_rests : JobsAsked → (x : Step) (text : List ℕ) (c : Command) (d : Decision) (j : ℕ) → Kept x → x.input ≡ Wake → x.effects.calls ≡ [] → x.setting.read text ≡ Ok c → decided x.setting (seen x) x.reading c ≡ d → reply_at_once d ≡ None
+          → Some (next_job x.setting (seen x)) ≡ Some j → MayRest (carry_decision (next_job x.setting (seen x)) c d (with_input (Line text) x)) j
+      line_rests jobs x text c d j k wake bare says is more its =
+          subst (λ n. MayRest (carry_decision (next_job x.setting (seen x)) c d (with_input (Line text) x)) n) (some_value (next_job x.setting (seen x)) j its) (jobs.lines x text c d k wake bare says is more)
+
+-- ---- an answer's acts
+
+-- What ends a leaving leaves its job done.
+freed_stops : (x : Step) (s : Session) (j n : ℕ) (answer : Answer) → ((bytes : List ℕ) → answer ≡ Read bytes → ⊥) → is_running (seen (carry_delta s (next_after_free j n answer) x)) j ≡ false
+unfolding carry_delta
+freed_stops x s j n answer writes = by answer writes where
+  ended : (r : Reply) → is_running (seen (end_leaving s j r x)) j ≡ false
+  ended r = said_then (is_running (seen x) j) refl where
+    before : is_running (seen (remove_connection s.lockspace x)) j ≡ is_running (seen x) j
+    before = when_keeps (λ z. is_running (seen z) j ≡ is_running (seen x) j) (is_registered x.setting (seen x) s.lockspace) (add_move (Unregister s.lockspace)) x (λ up h. h) refl
+
+    said_then : (b : Bool) → is_running (seen x) j ≡ b → is_running (seen (when b (add_reply j r) (remove_connection s.lockspace x))) j ≡ false
+    said_then true runs = reply_stops (remove_connection s.lockspace x) j r
+    said_then false stops = before ∙ stops
+
+  by : (a : Answer) → ((bytes : List ℕ) → a ≡ Read bytes → ⊥) → is_running (seen (carry_delta s (next_after_free j n a) x)) j ≡ false
+  by Written other = ended Done
+  by Failed other = ended (IoFault n)
+  by (Read bytes) other = absurd (other bytes refl)
+
+answer_acts_wait : ActsAsked → JobsAsked → AnswerActs HeardWaiting Waiting
+unfolding after_value_read
+answer_acts_wait asked jobs =
+    let r : AnswerActs Heard Rested = answer_acts_rest asked in
+    record {
+      hears = λ x number answer wake bare expected h. (r.hears x number answer wake bare expected h.0, seen_busy x (Told number answer) wake bare refl h.1);
+      finds_none = λ x number answer p1 p2 h. (r.finds_none x number answer p1 p2 h.0, unfound_alone x number answer h.0.0.known.0 p1 p2 h.1);
+      finds_nobody = λ x number answer m p1 p2 nobody h.
+          let there = (find_inside (λ (z : Submitted). z.call.number == number) (submitted (seen x)) m p2).0 in
+          let s = some_of (session_numbered x.setting (seen x) m.call.session) (h.0.0.known.0.facts.calls.owned m there) in absurd (none_some s.0 (sym nobody ∙ s.1));
+      comes_late = λ x number answer m s p1 p2 p3 p4 h.
+          (r.comes_late x number answer m s p1 p2 p3 p4 h.0, late_alone x number answer m h.0.0.known.0 p1 p2 h.1 (λ j its runs. jobs.late x number answer m s j h.0.0 h.0.1 p1 p2 p3 p4 its runs));
+      idles = λ x s m answer hears idle h. (
+        r.idles x s m answer hears idle h.0,
+        walked x (Told hears.number answer) (job_of m.call.purpose) (heard_alone x s m answer (job_of m.call.purpose) h.0.0.known.0 hears refl h.1) (λ j its runs. jobs.idles x s m answer j h.0.0 h.0.1 hears idle its runs),
+      );
+      joins_on = λ x s j step m answer hears is runs h.
+          let n : DeltaNext = next_in_joining (delta_of_session x.setting s) (generation_of (seen x) s) (calls_of (seen x) s) x.reading m step answer in
+          let i : Input = Told hears.number answer in
+          let own : Walks i (Some j) x = heard_alone x s m answer (Some j) h.0.0.known.0 hears (ap (λ p. job_of p) is) h.1 in
+          let stays : Stays x (carry_delta s n x) = delta_stays x x s n (itself x) in (
+            r.joins_on x s j step m answer hears is runs h.0,
+            joined_busy x (carry_delta s n x) i s j (delta (Walks i (Some j)) (Walks i (Some j)) Anything NoLook AnyStart AnyMove (walk i (Some j)) x s n
+                (joining_plain x s n (joining_late (delta_of_session x.setting s) (generation_of (seen x) s) (calls_of (seen x) s) x.reading m step answer)) own) (stays.sessions s (has_heard x s m answer hears))
+                (joining_of x s m j step (both_of x h.0.0.known.0) (find_inside (λ (d : Submitted). d.call.number == hears.number) (submitted (seen x)) m hears.call).0 hears.session is),
+          );
+      ends_joining = λ x s j step m answer hears is stops h.
+          let i : Input = Told hears.number answer in
+          let own : Walks i (Some j) x = heard_alone x s m answer (Some j) h.0.0.known.0 hears (ap (λ p. job_of p) is) h.1 in
+          let stays : Stays x (remove_of_refused s x) = refusal_stays x x s (itself x) in (
+            r.ends_joining x s j step m answer hears is stops h.0,
+            joined_busy x (remove_of_refused s x) i s j (removal_of_refused (Walks i (Some j)) (Walks i (Some j)) Anything NoLook AnyStart AnyMove (walk i (Some j)) x s tt own) (stays.sessions s (has_heard x s m answer hears))
+                (joining_of x s m j step (both_of x h.0.0.known.0) (find_inside (λ (d : Submitted). d.call.number == hears.number) (submitted (seen x)) m hears.call).0 hears.session is),
+          );
+      renewed = λ x s m answer hears is h.
+          let i : Input = Told hears.number answer in
+          let n : DeltaNext = next_after_renewal (is_some (recovery_of x.setting (seen x) s)) m.reading answer in (
+            r.renewed x s m answer hears is h.0,
+            alone (carry_delta s n x) i (delta (Walks i None) (Walks i None) Anything NoLook AnyStart AnyMove (walk i None) x s n (renewed_plain x s (is_some (recovery_of x.setting (seen x) s)) m.reading answer)
+                (heard_alone x s m answer None h.0.0.known.0 hears (ap (λ p. job_of p) is) h.1)),
+          );
+      freed = λ x s j m answer hears is h.
+          let i : Input = Told hears.number answer in
+          let n : DeltaNext = next_after_free j m.call.number answer in (
+            r.freed x s j m answer hears is h.0,
+            walked (carry_delta s n x) i (Some j) (delta (Walks i (Some j)) (Walks i (Some j)) Anything NoLook AnyStart AnyMove (walk i (Some j)) x s n (freed_plain x s j m.call.number answer)
+                (heard_alone x s m answer (Some j) h.0.0.known.0 hears (ap (λ p. job_of p) is) h.1))
+                (λ k its runs. absurd (not_both (is_running (seen (carry_delta s n x)) k) runs
+                (subst (λ q. is_running (seen (carry_delta s n x)) q ≡ false) (some_value j k its) (freed_stops x s j m.call.number answer (free_written x s j m answer h.0.0.known.0 hears is))))),
+          );
+      shown = λ x s m bytes hears is joined begins h.
+          let i : Input = Told hears.number (Read bytes) in (
+            r.shown x s m bytes hears is joined begins h.0,
+            alone (signal_and_refuse s None x) i (stopped (Walks i None) (Walks i None) Anything NoLook AnyStart AnyMove (walk i None) tt x s None (λ z k j there. tt)
+                (heard_alone x s m (Read bytes) None h.0.0.known.0 hears (ap (λ p. job_of p) is) h.1)),
+          );
+      sees = λ x s number bytes spot g has input held h. (
+        r.sees x s number bytes spot g has input held h.0,
+        alone (see_request s g x) x.input ((walk x.input None).calls x s g.path SeeRequest (request_offset x.setting.layout g.offset) (ReadSectors 1) refl (from_busy x h.1)),
+      );
+      leads_on = λ x s work step m answer aim hears is on aims h.
+          let i : Input = Told hears.number answer in
+          let n : LeaseNext = next_of_lease x.setting (seen x) s (spot_of_call x.setting.layout m) aim m step answer in (
+            r.leads_on x s work step m answer aim hears is on aims h.0,
+            walked (carry_lease s (spot_of_call x.setting.layout m) work n x) i (work_job work) (lease (Walks i (work_job work)) (Walks i (work_job work)) Anything NoLook AnyStart AnyMove (walk i (work_job work)) x s
+                (spot_of_call x.setting.layout m) work n (lease_plain x s (spot_of_call x.setting.layout m) work n) (heard_alone x s m answer (work_job work) h.0.0.known.0 hears (ap (λ p. job_of p) is) h.1))
+                (λ j its runs. jobs.leases x s work step m answer aim j h.0.0 h.0.1 hears is on aims its runs),
+          );
+      fails = λ x s m j hears lone runs h.
+          (r.fails x s m j hears lone runs h.0, replied_busy x (Told hears.number Failed) j (IoFault m.call.number) (heard_alone x s m Failed (Some j) h.0.0.known.0 hears (lone_is m.call.purpose j lone) h.1));
+      has_asked = λ x s m j owner hears is runs h.
+          (r.has_asked x s m j owner hears is runs h.0, replied_busy x (Told hears.number Written) j Done (heard_alone x s m Written (Some j) h.0.0.known.0 hears (ap (λ p. job_of p) is) h.1));
+      has_set = λ x s m j hears is runs h.
+          (r.has_set x s m j hears is runs h.0, replied_busy x (Told hears.number Written) j (set_reply m) (heard_alone x s m Written (Some j) h.0.0.known.0 hears (ap (λ p. job_of p) is) h.1));
+      asks = λ x s m j bytes c hears is runs reads_one h. (
+        r.asks x s m j bytes c hears is runs reads_one h.0,
+        asks_busy x s m j bytes c h.0.0.known.0 hears is reads_one (heard_alone x s m (Read bytes) (Some j) h.0.0.known.0 hears (ap (λ p. job_of p) is) h.1),
+      );
+      tells = λ x s m j bytes hears is runs h. (
+        r.tells x s m j bytes hears is runs h.0,
+        replied_busy x (Told hears.number (Read bytes)) j (value_reply x.setting.layout bytes) (heard_alone x s m (Read bytes) (Some j) h.0.0.known.0 hears (ap (λ p. job_of p) is) h.1),
+      );
+      warns = λ x s m bytes g signal hears is held own says h.
+          let i : Input = Told hears.number (Read bytes) in (
+            r.warns x s m bytes g signal hears is held own says h.0,
+            alone (send g.process signal x) i (sent (Walks i None) (Walks i None) Anything NoLook AnyStart AnyMove (walk i None) tt x g.process signal (heard_alone x s m (Read bytes) None h.0.0.known.0 hears (ap (λ p. job_of p) is) h.1)),
+          );
+    } where
+      asks_busy : (x : Step) (s : Session) (m : Submitted) (j : ℕ) (bytes : List ℕ) (c : Command) → Whole x → (hears : Hears x s m (Read bytes)) → m.call.purpose ≡ RequestRead j → command_numbered x.setting (seen x) j ≡ Some c
+          → Walks (Told hears.number (Read bytes)) (Some j) x → Busy (after_request_read s j bytes c x)
+      asks_busy x s m j bytes c w hears is reads_one own =
+          let there = (find_inside (λ (d : Submitted). d.call.number == hears.number) (submitted (seen x)) m hears.call).0 in
+          let f : FitsCommand x.setting s m c m.call.purpose = w.facts.jobs.fits m j s c there (ap (λ p. job_of p) is) hears.session reads_one in
+          let g : FitsCommand x.setting s m c (RequestRead j) = subst (λ p. FitsCommand x.setting s m c p) is f in
+          subst (λ d. Busy (after_request_read s j bytes d x)) (sym g.3) (asked_busy x (Told hears.number (Read bytes)) s j bytes g.0 g.1 g.2 own)
+
+-- ---- entries
+
+-- A trace that holds, and in which each running job waits.
+record HoldsWaiting (st : Setting) (t : Trace) : Type 0 where
+  holds : Holds st t
+  waits : AllWait st t None None
+
+busy_begins : (st : Setting) (past : Trace) (now : ℕ) → AllWait st past None None → Busy (begin_recoveries (begin_step st past now))
+busy_begins st past now h = subst (λ y. Busy y) (sym said_so.is) (λ j there runs. again j (h j (subst (λ js. Contains js j) (append-nil (jobs st past)) there) (ran j.number runs))) where
+  said_so : Says IsDenial (begin_step st past now) (begin_recoveries (begin_step st past now))
+  said_so = begun_says st past now
+
+  z : Step
+  z = with_said (begin_step st past now) said_so.signals said_so.starts said_so.replies
+
+  ran : (n : ℕ) → is_running (seen (with_said (begin_step st past now) said_so.signals said_so.starts said_so.replies)) n ≡ true → is_running past n ≡ true
+  ran n runs = by (reply_to past n) runs where
+    by : (o : Option Replied) → is_none (elim o as (λ w. Option Replied) [ Some q ↦ Some q | None ↦ reply_in n past (entry_of (with_said (begin_step st past now) said_so.signals said_so.starts said_so.replies)) ]) ≡ true → is_none o ≡ true
+    by None g = refl
+    by (Some q) g = absurd (false_is_true g)
+
+  sessions_same : sessions st past ≡ sessions st (seen (with_said (begin_step st past now) said_so.signals said_so.starts said_so.replies))
+  sessions_same = sym (append-nil (sessions st past))
+
+  again : (j : Job) → Waits st past None None j.number → Waits st (seen (with_said (begin_step st past now) said_so.signals said_so.starts said_so.replies)) None None j.number
+  again j (For_session s there its) = For_session s (subst (λ ss. Contains ss s) sessions_same there) its
+  again j (For_call m there opens its) = For_call m there opens its
+  again j (For_child k there its opens) =
+      For_child k (contains_left (map (child_after Wake) (children past)) (map new_child said_so.starts) k (contains_map (child_after Wake) (children past) k there)) its opens
+  again j (For_leaving s k there is number) =
+      For_leaving s k (subst (λ ss. Contains ss s) sessions_same there) (ap (λ o. elim o as (λ w. Option Job) [ Some a ↦ Some a | None ↦ None ]) is) number
+
+step_waits : ActsAsked → JobsAsked → (st : Setting) (past : Trace) (e : Entry) → FollowsTrace st past e → IsDue st past e → HoldsWaiting st past → HoldsWaiting st (e ∷ past)
+step_waits asked jobs st past e follows due_one h = record { holds = held; waits = λ j there runs. plain j runs (waits_end j there runs) } where
+  held : Holds st (e ∷ past)
+  held = step_holds asked st past e follows due_one h.holds
+
+  fixed : Fixed st past e.reading (due_step st past e.reading e.input)
+  fixed = due_is_of st past e.reading e.input
+
+  entry : entry_of (due_step st past e.reading e.input) ≡ e
+  entry = head_is (entry_of (due_step st past e.reading e.input)) e (due_step st past e.reading e.input).past past (due_is_seen st past e due_one)
+
+  begun : Waiting (begin_recoveries (begin_step st past e.reading))
+  begun = (
+    rested (begin_recoveries (begin_step st past e.reading)) (ap (λ (y : Step). heard_by y.input) (begun_says st past e.reading).is) (all_begins st past e follows h.holds),
+    busy_begins st past e.reading h.waits,
+  )
+
+  at_end : Busy (due_step st past e.reading e.input)
+  at_end = (step_heeds HeardWaiting Waiting (other_acts_wait asked jobs) (answer_acts_wait asked jobs) st past e.reading e.input follows.expected begun).1
+
+  waits_end : AllWait st (e ∷ past) None (told_by e.input)
+  waits_end =
+      subst (λ f. AllWait st (f ∷ past) None (told_by f.input)) entry
+      (subst (λ t. AllWait st (entry_of (due_step st past e.reading e.input) ∷ t) None (told_by (due_step st past e.reading e.input).input)) fixed.before
+      (subst (λ k. AllWait k (seen (due_step st past e.reading e.input)) None (told_by (due_step st past e.reading e.input).input)) fixed.setting at_end))
+
+  plain : (j : Job) → is_running (e ∷ past) j.number ≡ true → Waits st (e ∷ past) None (told_by e.input) j.number → Waits st (e ∷ past) None None j.number
+  plain j runs (For_session s there its) = For_session s there its
+  plain j runs (For_call m there opens its) = For_call m there opens its
+  plain j runs (For_child k there its (inl opens)) = For_child k there its (inl opens)
+  plain j runs (For_child k there its (inr told)) =
+      absurd (not_both (is_running (e ∷ past) j.number) runs (jobs.starts st past e k j.number follows due_one h.holds held there its told))
+  plain j runs (For_leaving s k there is number) = For_leaving s k there is number
+
+traces_wait : ActsAsked → JobsAsked → (st : Setting) (es : Trace) → IsSetting st → IsHostTrace st es → HoldsWaiting st es
+traces_wait asked jobs st [] setting h = record { holds = traces_hold asked st [] setting h; waits = λ j there runs. absurd (contains_none j there) }
+traces_wait asked jobs st (e ∷ past) setting h = step_waits asked jobs st past e h.0.0 h.1.0 (traces_wait asked jobs st past setting (h.0.1, h.1.1))
+
+pub none_is_idle_with : NoneIsIdleWith
+none_is_idle_with asked jobs st es setting h =
+    let w : HoldsWaiting st es = traces_wait asked jobs st es setting h in
+    none_idle st es w.holds.whole.facts.names w.holds.whole.facts.jobs w.holds.whole.lawful.orderly w.waits
+
+-- ---- all together
+
+all_caused : ActsAsked → EntriesAreCaused → (st : Setting) (es : Trace) → IsSetting st → IsHostTrace st es → IsCaused st es
+all_caused asked caused st [] setting h = tt
+all_caused asked caused st (e ∷ past) setting h =
+    (caused st past e h.0.0 h.1.0 (traces_hold asked st past setting (h.0.1, h.1.1)) (traces_hold asked st (e ∷ past) setting h), all_caused asked caused st past setting (h.0.1, h.1.1))
+
+pub due_is_well_with : DueIsWellWith
+due_is_well_with asked jobs caused st es setting h = (due_is_lawful_with asked st es setting h, all_caused asked caused st es setting h, none_is_idle_with asked jobs st es setting h)

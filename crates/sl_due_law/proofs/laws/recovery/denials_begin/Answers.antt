@@ -1,0 +1,5 @@
+use Rattle.sl_due_law.proofs.Recovery.DenialsAreKept as its
+use Rattle.sl_due_law.proofs.laws.recovery.denials_begin.Goals as goal
+
+pub returns : goal.returns
+returns c = its.denials_begin

@@ -1,0 +1,87 @@
+//! The replies of a daemon that does what is due: each is of a running job, one for a job, and, as far as that is explained here, it has
+//! its cause at each act and keeps it to the entry's end: all that calls, time, starts, exits and recoveries refuse, what a lease's work is
+//! granted, what reads tell, and texts that say no command. What a command is answered at once has its cause in the entry that is due,
+//! by what the step had done before its input.
+//! Whom the step of a line refuses as in recovery, and what a line is granted, has its cause there too.
+//! Not explained are reads that differ from a joining's first, what writes of requests, values and releases are answered, and started
+//! programs.
+
+ghost use Rattle.sl_due_law.specs.Causes.CausedSoFar.{is_explained};
+ghost use Rattle.sl_due_law.specs.Causes.LineCauses.{AnswersAreCaused, AtOnceAreCaused, DecisionsOverlook, GrantedAtLines, HeadsAreEarly, LastIsSilent, LinesAreCaused, LinesAreWell, RefusedAtLines, StoppedAreCaused};
+ghost use Rattle.sl_due_law.specs.Causes.Promises.{CausesAreKept, CausesBegin, LeavingsAreCaused, RepliesRun, RepliesRunBegin};
+
+/// Each act gives its replies with their causes, as far as they are explained, and leaves those before it.
+pub fn causes_are_kept()
+    ensures { CausesAreKept is_explained }
+{}
+
+pub fn causes_begin()
+    ensures { CausesBegin is_explained }
+{}
+
+/// Each reply is of a running job, no two of a step are of one job.
+pub fn replies_run()
+    ensures { RepliesRun }
+{}
+
+pub fn replies_run_begin()
+    ensures { RepliesRunBegin }
+{}
+
+/// What a command is answered at once has its cause, where it was decided on what stood before the entry's input.
+pub fn lines_are_caused()
+    ensures { LinesAreCaused }
+{}
+
+/// That a leaving is done has its cause where its free was answered ok.
+pub fn leavings_are_caused()
+    ensures { LeavingsAreCaused }
+{}
+
+/// What a command comes to is the same without the moves and signals that a step made before its input, where no joined session's connection
+/// was removed.
+pub fn decisions_overlook()
+    ensures { DecisionsOverlook }
+{}
+
+/// So what a line is answered at once has its cause in the entry that ends the step, where that entry has of before its input just what the
+/// step had (so unless the line itself is refused as in recovery).
+pub fn answers_are_caused()
+    ensures { AnswersAreCaused }
+{}
+
+/// A line that is refused as in recovery is so with its cause.
+pub fn stopped_are_caused()
+    ensures { StoppedAreCaused }
+{}
+
+/// Before its input a step has called, granted and ended nothing, started kill programs alone, refused jobs by recoveries and by time alone, and
+/// removed no joined session's connection.
+pub fn heads_are_early()
+    ensures { HeadsAreEarly }
+{}
+
+/// What comes last in a step starts nothing, answers nobody, and grants and ends nothing.
+pub fn last_is_silent()
+    ensures { LastIsSilent }
+{}
+
+/// What a command is answered at once has its cause in the entry that is due.
+pub fn lines_are_well()
+    ensures { LinesAreWell }
+{}
+
+/// Each reply that an entry that is due gives at once to its own line has its cause.
+pub fn at_once_are_caused()
+    ensures { AtOnceAreCaused }
+{}
+
+/// Whom the step of a line refuses as in recovery is so with its cause, also the others of a session that leaves by the line.
+pub fn refused_at_lines()
+    ensures { RefusedAtLines }
+{}
+
+/// What a line is granted, beside a holding or by taking one over, is granted with its cause.
+pub fn granted_at_lines()
+    ensures { GrantedAtLines }
+{}

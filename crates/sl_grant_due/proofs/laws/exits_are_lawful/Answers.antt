@@ -1,5 +1,0 @@
-use Rattle.sl_grant_due.proofs.ExitsAreLawful as its
-use Rattle.sl_grant_due.proofs.laws.exits_are_lawful.Goals as goal
-
-pub returns : goal.returns
-returns c = its.exits_are_lawful

@@ -1,5 +1,0 @@
-use Rattle.sl_grant_due.proofs.GrantsStand as its
-use Rattle.sl_grant_due.proofs.laws.grants_stand.Goals as goal
-
-pub returns : goal.returns
-returns c = its.grants_stand

@@ -1,0 +1,168 @@
+-- The state after what a lease decided stands for the step with it.
+use Rattle.sl_host_law.proofs.Answers.DecisionsAreCarried.{called, layout_is}
+use Rattle.sl_host_law.specs.Answers.Leasing.{LeasesAreCarried, MayAnswer, MayWork, converted, converting, converting_for, for_command_of, for_work_of, granting_for, read_from, reading, sectors_read, starting, writing_block, writing_leader}
+use Rattle.sl_area.specs.Layouts.{Layout}
+use Rattle.sl_area.specs.Places.{block_offset, leader_offset}
+use Rattle.sl_host_law.proofs.Calls.StartsAreTaken.{starts_are_taken}
+use Rattle.sl_due.specs.DueLease.{carry_lease, convert_for, convert_holding, for_work, grant_for, grant_of, held_otherwise, read_for, start_for, with_command, write_block, write_leader}
+use Rattle.sl_due.specs.Steps.{Step, add_call_of, add_end, add_grant, add_reply, seen, with_some}
+use Rattle.sl_host_state.proofs.Others.{effects_are_taken}
+use Rattle.sl_host_state.specs.Kept.{HostState, MemberState}
+use Rattle.sl_host_state.specs.Makes.{with_end, with_grant, with_reply}
+use Rattle.sl_host_state.specs.Stands.{Stands}
+use Rattle.sl_leases.specs.Jobs.{process_named}
+use Rattle.sl_leases.specs.declared.lease.LeaseNext.TheVariants.{AnswerJob, BecomeExclusive, BecomeShared, GrantJob, Nothing, ReadFor, WriteBlock, WriteLeader}
+use Rattle.sl_host_law.proofs.Questions.JobsAnswer.{jobs_answer}
+use Rattle.sl_host_law.proofs.Questions.MembersAnswer.{members_answer}
+use Rattle.sl_host_law.specs.Questions.Jobs.{command_in, running_in}
+use Rattle.sl_host_law.specs.Questions.Members.{IsMemberAt, otherwise_at}
+use Rattle.sl_host_law.proofs.Replies.Replies.RepliesAreTaken.{replies_are_taken}
+use Rattle.sl_host_law.specs.Replies.Replies.{LeavesLine, MayReply}
+use Rattle.sl_sector.specs.declared.sector.Block.{Block}
+use Rattle.sl_sector.specs.declared.sector.Leader.{Leader}
+use Rattle.sl_sector.specs.declared.sector.Rec.TheVariants.{BlockIs, LeaderIs}
+use Rattle.sl_sessions.specs.declared.session.Session.{Session}
+use Rattle.sl_trace.specs.Traces.{end_of, first_child, next_child, work_job}
+use Rattle.sl_trace.specs.declared.command.Command.TheVariants.{Acquire, RunProgram, TakeOver}
+use Rattle.sl_trace.specs.declared.command.Command.{Command}
+use Rattle.sl_trace.specs.declared.command.ResourceArg.{ResourceArg}
+use Rattle.sl_trace.specs.declared.effects.End.{End}
+use Rattle.sl_trace.specs.declared.effects.Grant.{Grant}
+use Rattle.sl_trace.specs.declared.effects.LeaseStep.TheVariants.{ClearMode, FreeLeader, ReadArea, ReadBeforeFree}
+use Rattle.sl_trace.specs.declared.effects.LeaseStep.{LeaseStep}
+use Rattle.sl_trace.specs.declared.effects.Mode.TheVariants.{Exclusive, Shared}
+use Rattle.sl_trace.specs.declared.effects.Mode.{Mode}
+use Rattle.sl_trace.specs.declared.effects.Op.TheVariants.{ReadSectors, WriteRecord}
+use Rattle.sl_trace.specs.declared.effects.Purpose.TheVariants.{Lease}
+use Rattle.sl_trace.specs.declared.effects.Spot.{Spot}
+use Rattle.sl_trace.specs.declared.effects.Work.TheVariants.{Settling}
+use Rattle.sl_trace.specs.declared.effects.Work.{Work}
+use Rattle.sl_trace.specs.declared.input.Input.TheVariants.{Answer as Told, Exit, Line, Number, Spawned, Wake}
+use Rattle.sl_trace.specs.declared.input.Input.{Input}
+use Rattle.sl_trace.specs.declared.reply.Reply.TheVariants.{Granted}
+use Rattle.std.proofs.Common.{ap, refl, subst, sym}
+use Rattle.std.specs.Prelude.{List, None, Option, Some, false, true, [], ℕ, ◌+◌, ◌≡◌}
+
+-- ---- calls
+
+read : (i : Input) (h : HostState) (x : Step) (s : Session) (at : Spot) (work : Work) (step : LeaseStep) → Stands i h x → MayWork h s at work step (read_from h at step) (ReadSectors (sectors_read h step))
+    → Stands i (reading s at work step h) (read_for s at work step x)
+read i h x s at work step stands may = subst (λ y. Stands i (reading s at work step h) y) (by step) (called i h x s at.path (Lease work step) (read_from h at step) (ReadSectors (sectors_read h step)) stands may) where
+  same : h.config.layout ≡ x.setting.layout
+  same = layout_is i h x stands
+
+  by : (z : LeaseStep) → add_call_of s.number at.path (Lease work z) (read_from h at z) (ReadSectors (sectors_read h z)) x ≡ read_for s at work z x
+  by (ReadArea name) = ap (λ (g : Layout). add_call_of s.number at.path (Lease work (ReadArea name)) at.base (ReadSectors (g.hosts + 2)) x) (layout_is i h x stands)
+  by ReadBeforeFree = ap (λ (g : Layout). add_call_of s.number at.path (Lease work ReadBeforeFree) at.base (ReadSectors (g.hosts + 2)) x) (layout_is i h x stands)
+  by z = ap (λ (g : Layout). add_call_of s.number at.path (Lease work z) (block_offset g at.base 1) (ReadSectors g.hosts) x) (layout_is i h x stands)
+
+wrote_block : (i : Input) (h : HostState) (x : Step) (s : Session) (at : Spot) (work : Work) (step : LeaseStep) (b : Block) → Stands i h x
+    → MayWork h s at work step (block_offset h.config.layout at.base s.id) (WriteRecord (BlockIs b)) → Stands i (writing_block s at work step b h) (write_block s at work step b x)
+wrote_block i h x s at work step b stands may =
+    subst (λ (g : Layout). Stands i (writing_block s at work step b h) (add_call_of s.number at.path (Lease work step) (block_offset g at.base s.id) (WriteRecord (BlockIs b)) x)) (layout_is i h x stands)
+    (called i h x s at.path (Lease work step) (block_offset h.config.layout at.base s.id) (WriteRecord (BlockIs b)) stands may)
+
+wrote_leader : (i : Input) (h : HostState) (x : Step) (s : Session) (at : Spot) (work : Work) (step : LeaseStep) (l : Leader) → Stands i h x
+    → MayWork h s at work step (leader_offset at.base) (WriteRecord (LeaderIs l)) → Stands i (writing_leader s at work step l h) (write_leader s at work step l x)
+wrote_leader i h x s at work step l stands may = called i h x s at.path (Lease work step) (leader_offset at.base) (WriteRecord (LeaderIs l)) stands may
+
+-- ---- replies after a grant or an end
+
+granted_line : (i : Input) (g : Grant) (h : HostState) (j : ℕ) → LeavesLine i j h → LeavesLine i j (with_grant g h)
+granted_line (Line text) g h j line = line
+granted_line (Number text) g h j line = tt
+granted_line (Told number a) g h j line = tt
+granted_line (Exit p) g h j line = tt
+granted_line (Spawned p ok) g h j line = tt
+granted_line Wake g h j line = tt
+
+ended_line : (i : Input) (e : End) (h : HostState) (j : ℕ) → LeavesLine i j h → LeavesLine i j (with_end e h)
+ended_line (Line text) e h j line = line
+ended_line (Number text) e h j line = tt
+ended_line (Told number a) e h j line = tt
+ended_line (Exit p) e h j line = tt
+ended_line (Spawned p ok) e h j line = tt
+ended_line Wake e h j line = tt
+
+granted : (i : Input) (h : HostState) (x : Step) (g : Grant) (j : ℕ) (lver : ℕ) → Stands i h x → MayReply i h x j (Granted lver)
+    → Stands i (with_reply j (Granted lver) (with_grant g h)) (add_reply j (Granted lver) (add_grant g x))
+granted i h x g j lver s may =
+    replies_are_taken j (Granted lver) i (with_grant g h) (add_grant g x) (effects_are_taken.grant g h i x s)
+    (record { runs = may.runs; heed = may.heed; line = granted_line i g h j may.line })
+
+started : (i : Input) (h : HostState) (x : Step) (s : Session) (j : ℕ) (r : ResourceArg) (path : List ℕ) (mode : Mode) (lver : ℕ) → Stands i h x → running_in h j ≡ true
+    → Stands i (starting s j r path mode lver h) (start_for s j r path mode lver (next_child (seen x)) x)
+started i h x s j r path mode lver stands runs =
+    subst (λ n. Stands i (starting s j r path mode lver h) (start_for s j r path mode lver (first_child + n) x)) (sym stands.keeps.started)
+    (starts_are_taken (with_grant (grant_of s r (first_child + h.started) mode lver false) h) (record { process = first_child + h.started; program = path; job = Some j; stands_for = None })
+    (record { number = refl; job = runs }) i (add_grant (grant_of s r (first_child + h.started) mode lver false) x)
+    (effects_are_taken.grant (grant_of s r (first_child + h.started) mode lver false) h i x stands))
+
+granted_for : (i : Input) (h : HostState) (x : Step) (s : Session) (j : ℕ) (c : Command) (mode : Mode) (lver : ℕ) → Stands i h x → MayReply i h x j (Granted lver)
+    → Stands i (granting_for s j c mode lver h) (grant_for s j c mode lver x)
+granted_for i h x s j (Acquire r shared p persistent) mode lver stands may = granted i h x (grant_of s r p mode lver persistent) j lver stands may
+granted_for i h x s j (TakeOver r shared p persistent) mode lver stands may = granted i h x (grant_of s r p mode lver persistent) j lver stands may
+granted_for i h x s j (RunProgram r shared path) mode lver stands may = started i h x s j r path mode lver stands may.runs
+granted_for i h x s j c mode lver stands may = stands
+
+converted_one : (i : Input) (h : HostState) (x : Step) (g : Grant) (j : ℕ) (mode : Mode) (lver : ℕ) → Stands i h x → MayReply i h x j (Granted lver) → h.made.grants ≡ []
+    → Stands i (converting j mode lver g h) (convert_holding j mode lver g x)
+converted_one i h x g j mode lver s may none =
+    replies_are_taken j (Granted lver) i (with_grant (record g { mode = mode; lver = lver }) (with_end (end_of g) h)) (add_grant (record g { mode = mode; lver = lver }) (add_end (end_of g) x))
+    (effects_are_taken.grant (record g { mode = mode; lver = lver }) (with_end (end_of g) h) i (add_end (end_of g) x) (effects_are_taken.ended (end_of g) h none i x s))
+    (record { runs = may.runs; heed = may.heed; line = granted_line i (record g { mode = mode; lver = lver }) (with_end (end_of g) h) j (ended_line i (end_of g) h j may.line) })
+
+-- ---- for a job and its command
+
+module _ (i : Input) (h : HostState) (x : Step) (stands : Stands i h x) where
+  for_its_work : (work : Work) (f : ℕ → HostState → HostState) (g : ℕ → Step → Step) → ((j : ℕ) → work_job work ≡ Some j → Stands i (f j h) (g j x)) → Stands i (for_work_of work f h) (for_work work g x)
+  for_its_work work f g each = by (work_job work) refl where
+    by : (o : Option ℕ) → work_job work ≡ o → Stands i (elim o as (λ z. HostState) [ None ↦ h | Some j ↦ f j h ]) (with_some o g x)
+    by None is = stands
+    by (Some j) is = each j is
+
+  for_its_command : (j : ℕ) (f : Command → HostState → HostState) (g : Command → Step → Step) → running_in h j ≡ true → ((c : Command) → Stands i (f c h) (g c x)) → Stands i (for_command_of j f h) (with_command j g x)
+  for_its_command j f g runs each =
+      subst (λ o. Stands i (for_command_of j f h) (with_some o g x)) (sym ((jobs_answer i h x stands).command j runs)) (by (command_in h j)) where
+        by : (o : Option Command) → Stands i (elim o as (λ z. HostState) [ None ↦ h | Some c ↦ f c h ]) (with_some o g x)
+        by None = stands
+        by (Some c) = each c
+
+  conversion : (k : ℕ) (m : MemberState) (at : Spot) (j : ℕ) (c : Command) (mode : Mode) (lver : ℕ) → IsMemberAt i h x k m → MayReply i h x j (Granted lver) → h.made.grants ≡ []
+      → Stands i (converting_for m at j c mode lver h) (convert_for m.who at j c mode lver x)
+  conversion k m at j c mode lver member may none = by (process_named c) where
+    of_holding : (p : ℕ) (o : Option Grant) → Stands i (elim o as (λ z. HostState) [ None ↦ h | Some g ↦ converting j mode lver g h ]) (with_some o (convert_holding j mode lver) x)
+    of_holding p None = stands
+    of_holding p (Some g) = converted_one i h x g j mode lver stands may none
+
+    by : (o : Option ℕ)
+        → Stands i (elim o as (λ z. HostState) [ None ↦ h | Some p ↦ elim (otherwise_at h m at p mode) as (λ z. HostState) [ None ↦ h | Some g ↦ converting j mode lver g h ] ])
+        (with_some o (λ p y. with_some (held_otherwise (seen y) m.who at p mode) (convert_holding j mode lver) y) x)
+    by None = stands
+    by (Some p) =
+        subst (λ o. Stands i (elim (otherwise_at h m at p mode) as (λ z. HostState) [ None ↦ h | Some g ↦ converting j mode lver g h ]) (with_some o (convert_holding j mode lver) x))
+        (sym ((members_answer i h x k m member).otherwise at p mode)) (of_holding p (otherwise_at h m at p mode))
+
+  converts : (k : ℕ) (m : MemberState) (at : Spot) (work : Work) (mode : Mode) (lver : ℕ) → IsMemberAt i h x k m → MayAnswer i h x work (Granted lver) → h.made.grants ≡ []
+      → Stands i (converted m at work mode lver h) (for_work work (λ j. with_command j (λ c. convert_for m.who at j c mode lver)) x)
+  converts k m at work mode lver member may none =
+      for_its_work work (λ j. for_command_of j (λ c. converting_for m at j c mode lver)) (λ j. with_command j (λ c. convert_for m.who at j c mode lver))
+      (λ j is. for_its_command j (λ c. converting_for m at j c mode lver) (λ c. convert_for m.who at j c mode lver) (may j is).runs (λ c. conversion k m at j c mode lver member (may j is) none))
+
+pub leases_are_carried : LeasesAreCarried
+unfolding carry_lease
+leases_are_carried i h x k m at work Nothing member may = member.stands
+leases_are_carried i h x k m at work (ReadFor step) member may = read i h x m.who at work step member.stands may
+leases_are_carried i h x k m at work (WriteBlock step b) member may = wrote_block i h x m.who at work step b member.stands may
+leases_are_carried i h x k m at work (WriteLeader step l) member may = wrote_leader i h x m.who at work step l member.stands may
+leases_are_carried i h x k m at work (AnswerJob r) member may =
+    for_its_work i h x member.stands work (λ j. with_reply j r) (λ j. add_reply j r) (λ j is. replies_are_taken j r i h x member.stands (may j is))
+leases_are_carried i h x k m at work (GrantJob mode lver) member may =
+    for_its_work i h x member.stands work (λ j. for_command_of j (λ c. granting_for m.who j c mode lver)) (λ j. with_command j (λ c. grant_for m.who j c mode lver))
+    (λ j is. for_its_command i h x member.stands j (λ c. granting_for m.who j c mode lver) (λ c. grant_for m.who j c mode lver) (may j is).runs (λ c. granted_for i h x m.who j c mode lver member.stands (may j is)))
+leases_are_carried i h x k m at work (BecomeShared lver l) member may =
+    wrote_leader i (converted m at work Shared lver h) (for_work work (λ j. with_command j (λ c. convert_for m.who at j c Shared lver)) x) m.who at Settling FreeLeader l
+    (converts i h x member.stands k m at work Shared lver member may.0 may.1) may.2
+leases_are_carried i h x k m at work (BecomeExclusive lver b) member may =
+    wrote_block i (converted m at work Exclusive lver h) (for_work work (λ j. with_command j (λ c. convert_for m.who at j c Exclusive lver)) x) m.who at Settling ClearMode b
+    (converts i h x member.stands k m at work Exclusive lver member may.0 may.1) may.2

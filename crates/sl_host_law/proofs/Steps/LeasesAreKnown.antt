@@ -1,0 +1,153 @@
+-- What is known of a lease by its calls is what is kept of it; and where no sectors are in hand the greatest number that is kept is enough.
+use Rattle.sl_area.specs.Layouts.{Layout}
+use Rattle.sl_host_law.proofs.Calls.Calls.SpotsMore.{one_spot}
+use Rattle.sl_due.specs.Steps.{Step, seen}
+use Rattle.sl_host_law.proofs.Plain.PlainLists.{at_some}
+use Rattle.sl_host_state.specs.Kept.{Config, HostState, LeaseState, MemberState}
+use Rattle.sl_host_state.specs.Makes.{is_lease_on, new_lease}
+use Rattle.sl_host_state.specs.New.{IsOfProgram, sizes_in}
+use Rattle.sl_host_state.specs.Stands.{LeaseStands, top_mbal}
+use Rattle.sl_host_state.specs.declared.kept.TopNumber.{TopNumber}
+use Rattle.sl_host_law.specs.Steps.Leases.{converting_next, kept_blocks, known_at, known_by, lease_at, settling_next, top_block}
+use Rattle.sl_lease.proofs.NextLaws.{begins_again}
+use Rattle.sl_lease.specs.Asked.{TopStands, begin_above}
+use Rattle.sl_lease.specs.declared.evidence.Held.{Held}
+use Rattle.sl_lease.specs.declared.side.Side.{Side}
+use Rattle.sl_leases.specs.LeaseWork.{begin_next, convert_next, release_next, settle_next, settle_owed}
+use Rattle.sl_leases.specs.Leases.{LeaseKnown, last_blocks, lease_calls, owed_free}
+use Rattle.sl_leases.specs.declared.lease.Owed.TheVariants.{BallotOwed, FreeOwed, ModeOwed}
+use Rattle.sl_leases.specs.declared.lease.Owed.{Owed}
+use Rattle.sl_leases.specs.declared.lease.Aim.TheVariants.{Settles}
+use Rattle.sl_plain.proofs.Lists.{find_inside}
+use Rattle.sl_host_law.proofs.Questions.MembersAnswer.{members_answer}
+use Rattle.sl_host_law.specs.Questions.Answers.{known_in, place_in}
+use Rattle.sl_host_law.specs.Questions.Members.{IsMemberAt, exclusive_at, me_in, over_in, shared_at}
+use Rattle.sl_host_law.proofs.Replies.Answers.OpenBallotsAreOwn.{IsOwn, open_is_own}
+use Rattle.sl_sector.specs.declared.sector.Block.{Block}
+use Rattle.sl_sector.specs.declared.sector.Owner.{Owner}
+use Rattle.sl_sessions.specs.Sessions.{me}
+use Rattle.sl_trace.specs.Traces.{Submitted}
+use Rattle.sl_trace.specs.declared.effects.Mode.TheVariants.{Exclusive, Shared}
+use Rattle.sl_trace.specs.declared.effects.Mode.{Mode}
+use Rattle.sl_trace.specs.declared.effects.Spot.{Spot}
+use Rattle.sl_trace.specs.declared.input.Input.{Input}
+use Rattle.sl_words.specs.Words.{greatest}
+use Rattle.std.proofs.Common.{ap, arith, eq-eqb, refl, subst, sym, ◌∙◌}
+use Rattle.std.specs.Prelude.{Bool, List, None, Option, Some, cond, false, find, is_some, map, max, not, option_map, true, unwrap_or, [], ℕ, ◌&&◌, ◌==◌, ◌∷◌, ◌≡◌}
+
+module _ (i : Input) (h : HostState) (x : Step) (k : ℕ) (m : MemberState) (at : IsMemberAt i h x k m) (area : Spot) (l : LeaseState) (its : find (is_lease_on area) m.leases ≡ Some l) where
+  pub calls : List Submitted
+  calls = lease_calls x.setting (seen x) m.who area
+
+  -- The lease stands for its calls.
+  pub stands : LeaseStands h.config.layout m.who.lockspace (me_in m) l (lease_calls x.setting (seen x) m.who area)
+  stands =
+      let found = find_inside (is_lease_on area) m.leases l its in
+      let place = at_some m.leases l found.0 in
+      let here : area ≡ l.spot = one_spot area l.spot found.1 in
+      subst (λ (s : Spot). LeaseStands h.config.layout m.who.lockspace (me_in m) l (lease_calls x.setting (seen x) m.who s)) (sym here)
+      (subst (λ (o : Owner). LeaseStands h.config.layout m.who.lockspace o l (lease_calls x.setting (seen x) m.who l.spot)) (members_answer i h x k m at).me
+      (subst (λ (c : Config). LeaseStands c.layout m.who.lockspace (me (seen x) m.who) l (lease_calls x.setting (seen x) m.who l.spot)) at.stands.keeps.config
+      ((at.stands.keeps.members k m at.there).leases place.0 l place.1)))
+
+  pub known_is : known_in h m x area ≡ known_by h m area l (last_blocks h.config.layout (lease_calls x.setting (seen x) m.who area))
+  known_is =
+      let g : Layout = h.config.layout in
+      let ms : List Submitted = lease_calls x.setting (seen x) m.who area in
+      let s = stands in
+      let k0 : LeaseKnown = known_in h m x area in
+      ap (λ o. record k0 { own = o }) s.own
+      ∙ ap (λ n. record k0 { own = l.own; name = n }) s.name
+      ∙ ap (λ n. record k0 { own = l.own; name = l.name; freed = n }) s.freed
+      ∙ ap (λ n. record k0 { own = l.own; name = l.name; freed = l.freed; ballot = n }) s.ballot
+      ∙ ap (λ n. record k0 { own = l.own; name = l.name; freed = l.freed; ballot = l.ballot; shown = n }) s.shown
+      ∙ ap (λ n. record k0 { own = l.own; name = l.name; freed = l.freed; ballot = l.ballot; shown = l.shown; won = n }) s.won
+
+  pub lease_is : lease_at m area ≡ l
+  lease_is = ap (λ o. unwrap_or o (new_lease area)) its
+
+  -- ---- the greatest number is enough
+
+  pub read_tops : TopStands l (last_blocks h.config.layout (lease_calls x.setting (seen x) m.who area))
+  read_tops = record { greatest_is = stands.top; opened = stands.opened }
+
+  pub kept_tops : TopStands l (kept_blocks l)
+  kept_tops = record { greatest_is = greatest_is; opened = stands.opened } where
+    alone : (t : TopNumber) (b : Bool) → b ≡ true → greatest (map (λ (z : Block). z.mbal) (cond b (top_block t ∷ []) [])) ≡ t.mbal
+    alone t true is = (let most : max t.mbal 0 ≡ t.mbal = omega arith in most)
+    alone t false is = absurd cc
+
+    greatest_is : (t : TopNumber) → l.top ≡ Some t → top_mbal t.instance (kept_blocks l) ≡ t.mbal
+    greatest_is t is =
+        ap (λ o. top_mbal t.instance (elim o as (λ z. List (Option Block)) [ None ↦ [] | Some u ↦ Some (top_block u) ∷ [] ])) is ∙ alone t (t.instance == t.instance) (eq-eqb t.instance t.instance refl)
+
+  own_there : (n : ℕ) → l.ballot ≡ Some n → (b : Block) × (l.own ≡ Some b)
+  own_there n open_ballot_is =
+      let o : IsOwn _ n = open_is_own h.config.layout (lease_calls x.setting (seen x) m.who area) n (stands.ballot ∙ open_ballot_is) in
+      (o.block, sym stands.own ∙ o.own_is)
+
+  side : Side
+  side = record { geometry = sizes_in h.config.layout; lockspace = m.who.lockspace; me = me_in m }
+
+  held : Held
+  held = record { shared = is_some (shared_at h m area); exclusive = option_map (λ g. g.lver) (exclusive_at h m area) }
+
+  -- A ballot begins the same by any blocks that have that number.
+  begins_alike : (n : ℕ) (one other : List (Option Block)) → IsOfProgram h.config.layout → l.ballot ≡ Some n → TopStands l one → TopStands l other
+      → begin_next (place_in h m) (known_by h m area l one) Settles n ≡ begin_next (place_in h m) (known_by h m area l other) Settles n
+  unfolding side held
+  begins_alike n one other program ballot a b =
+      let own = own_there n ballot in
+      let top = stands.opened n ballot in
+      subst (λ (g : Layout). begin_next (record { layout = g; lockspace = m.who.lockspace }) (known_by h m area l one) Settles n
+      ≡ begin_next (record { layout = g; lockspace = m.who.lockspace }) (known_by h m area l other) Settles n) program
+      (sym (begins_again side l held (over_in m) one n own.0 top.0 (begin_above side held Settles n own.0 top.0.mbal) own.1 top.1 a ballot refl)
+      ∙ begins_again side l held (over_in m) other n own.0 top.0 (begin_above side held Settles n own.0 top.0.mbal) own.1 top.1 b ballot refl)
+
+  pub settles_alike : (one other : List (Option Block)) → IsOfProgram h.config.layout → TopStands l one → TopStands l other
+      → settle_next (place_in h m) (known_by h m area l one) ≡ settle_next (place_in h m) (known_by h m area l other)
+  unfolding settle_next
+  settles_alike one other program a b = by l.ballot refl where
+    free : (o : Option ℕ) → settle_owed (place_in h m) (known_by h m area l one) (option_map (λ n. FreeOwed n) o) ≡ settle_owed (place_in h m) (known_by h m area l other) (option_map (λ n. FreeOwed n) o)
+    free None = refl
+    free (Some n) = refl
+
+    later : (t : Bool)
+        → settle_owed (place_in h m) (known_by h m area l one) (elim t as (λ z. Option Owed) [ true ↦ Some ModeOwed | false ↦ option_map (λ n. FreeOwed n) (owed_free (known_by h m area l one)) ])
+        ≡ settle_owed (place_in h m) (known_by h m area l other) (elim t as (λ z. Option Owed) [ true ↦ Some ModeOwed | false ↦ option_map (λ n. FreeOwed n) (owed_free (known_by h m area l other)) ])
+    later true = refl
+    later false = free (owed_free (known_by h m area l one))
+
+    by : (o : Option ℕ) → l.ballot ≡ o
+        → settle_owed (place_in h m) (known_by h m area l one)
+        (elim o as (λ z. Option Owed) [
+          | Some n ↦ Some (BallotOwed n)
+          | None ↦ elim (l.shown && not (is_some (shared_at h m area))) as (λ z. Option Owed) [ true ↦ Some ModeOwed | false ↦ option_map (λ n. FreeOwed n) (owed_free (known_by h m area l one)) ]
+        ])
+        ≡ settle_owed (place_in h m) (known_by h m area l other)
+        (elim o as (λ z. Option Owed) [
+          | Some n ↦ Some (BallotOwed n)
+          | None ↦ elim (l.shown && not (is_some (shared_at h m area))) as (λ z. Option Owed) [ true ↦ Some ModeOwed | false ↦ option_map (λ n. FreeOwed n) (owed_free (known_by h m area l other)) ]
+        ])
+    by None is = later (l.shown && not (is_some (shared_at h m area)))
+    by (Some n) is = begins_alike n one other program is a b
+
+  pub settles_as_known : IsOfProgram h.config.layout → settling_next h m area ≡ settle_next (place_in h m) (known_in h m x area)
+  settles_as_known program =
+      ap (λ z. settle_next (place_in h m) (known_by h m area z (kept_blocks z))) lease_is
+      ∙ settles_alike (kept_blocks l) (last_blocks h.config.layout (lease_calls x.setting (seen x) m.who area)) program kept_tops read_tops
+      ∙ sym (ap (settle_next (place_in h m)) known_is)
+
+  pub releases_as_known : (mode : Mode) (lver : ℕ) → release_next (place_in h m) (known_at h m area) mode lver ≡ release_next (place_in h m) (known_in h m x area) mode lver
+  releases_as_known mode lver = ap (λ z. release_next (place_in h m) (known_by h m area z (kept_blocks z)) mode lver) lease_is ∙ by mode ∙ sym (ap (λ z. release_next (place_in h m) z mode lver) known_is) where
+    by : (w : Mode) → release_next (place_in h m) (known_by h m area l (kept_blocks l)) w lver
+        ≡ release_next (place_in h m) (known_by h m area l (last_blocks h.config.layout (lease_calls x.setting (seen x) m.who area))) w lver
+    by Shared = refl
+    by Exclusive = refl
+
+  pub converts_as_known : (mode : Mode) (name : List ℕ) → converting_next h m area mode name ≡ convert_next (known_in h m x area) mode name
+  converts_as_known mode name = ap (λ z. convert_next (known_by h m area z (kept_blocks z)) mode name) lease_is ∙ by mode ∙ sym (ap (λ z. convert_next z mode name) known_is) where
+    by : (w : Mode) → convert_next (known_by h m area l (kept_blocks l)) w name
+        ≡ convert_next (known_by h m area l (last_blocks h.config.layout (lease_calls x.setting (seen x) m.who area))) w name
+    by Shared = refl
+    by Exclusive = refl

@@ -1,5 +1,0 @@
-use Rattle.sl_lease_ways.proofs.NextsFit.AnswersFit as its
-use Rattle.sl_lease_ways.proofs.laws.conversions_fit.Goals as goal
-
-pub returns : goal.returns
-returns c = its.conversions_fit

@@ -1,5 +1,0 @@
-use Rattle.sl_lease_ways.proofs.Kept.FactsAreKept as its
-use Rattle.sl_lease_ways.proofs.laws.turn_facts_are_kept.Goals as goal
-
-pub returns : goal.returns
-returns c = its.turn_facts_are_kept

@@ -1,5 +1,0 @@
-use Rattle.sl_recovery_due.proofs.DenialsAreKept as its
-use Rattle.sl_recovery_due.proofs.laws.denials_are_kept.Goals as goal
-
-pub returns : goal.returns
-returns c = its.denials_are_kept

@@ -1,5 +1,0 @@
-use Rattle.sl_session_due.proofs.DeltasAreKept as its
-use Rattle.sl_session_due.proofs.laws.calls_are_kept.Goals as goal
-
-pub returns : goal.returns
-returns c = its.calls_are_kept

@@ -1,5 +1,0 @@
-use Rattle.sl_session_due.proofs.DeltaPromises as its
-use Rattle.sl_session_due.proofs.laws.frees_are_lawful.Goals as goal
-
-pub returns : goal.returns
-returns c = its.frees

@@ -1,5 +1,0 @@
-use Rattle.sl_session_facts.proofs.NameFactsAreKept as its
-use Rattle.sl_session_facts.proofs.laws.name_facts_begin.Goals as goal
-
-pub returns : goal.returns
-returns c = its.name_facts_begin
