@@ -4,8 +4,12 @@ pub mod LonesMay
 pub mod OwnRecords
 pub mod DeltaWrites
 pub mod ValueWrites
+pub mod LeaderWrites
 pub mod ReleaseWrites
+pub mod SettleWrites
 pub mod ConversionWrites
+pub mod AreaWrites
+pub mod AnswerWrites
 pub mod SpelledAreKept
 pub mod CallsAreLawful
 pub mod ActsRest

@@ -40,7 +40,8 @@ use Rattle.std.specs.Prelude.{Bool, Contains, List, None, Option, Some, [], byte
 not_none : (n : ℕ) → 1 ≤ n → n ≡ 0 → ⊥
 not_none n one is = omega (arith, one, is)
 
-moded : (own : Block) (generation : ℕ) → IsBlock own → 1 ≤ own.lver → 1 ≤ generation → Fits generation → IsBlock (moded_block own true generation)
+-- The own block with the mode.
+pub moded : (own : Block) (generation : ℕ) → IsBlock own → 1 ≤ own.lver → 1 ≤ generation → Fits generation → IsBlock (moded_block own true generation)
 moded own generation is one some fits =
     record {
       host = is.host;

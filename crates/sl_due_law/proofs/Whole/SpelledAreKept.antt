@@ -1,8 +1,10 @@
 -- What is written is a record: on id sectors, requests and values by what is known, on leases by what they decide.
+use Rattle.sl_due_law.proofs.Whole.AnswerWrites.{answers_well}
 use Rattle.sl_due_law.proofs.Whole.ConversionWrites.{converts_well}
 use Rattle.sl_trace.specs.declared.command.ResourceArg.{ResourceArg}
 use Rattle.sl_trace.specs.declared.effects.Mode.{Mode}
 use Rattle.sl_due_law.proofs.Whole.ReleaseWrites.{releases_well}
+use Rattle.sl_due_law.proofs.Whole.SettleWrites.{settles_well}
 use Rattle.sl_trace.specs.declared.effects.Grant.{Grant}
 use Rattle.sl_trace.specs.declared.input.Input.TheVariants.{Wake}
 use Rattle.std.specs.Prelude.{[], ◌≡◌}
@@ -62,7 +64,7 @@ use Rattle.sl_due_law.proofs.Whole.DeltaWrites.{WritesRecord, frees_well, joins_
 use Rattle.sl_due_law.proofs.Whole.OwnRecords.{request_is, session_id}
 use Rattle.sl_due_law.specs.Whole.Kept.{Kept}
 use Rattle.sl_due_law.specs.Whole.Promises.{ActsAsked, SpelledSoFar}
-use Rattle.sl_due_law.specs.Whole.Writes.{DecisionWrites, LeaseWrites}
+use Rattle.sl_due_law.specs.Whole.Writes.{LeaseWrites}
 use Rattle.sl_due_law.proofs.Holdings.LeaseCallers.{commands_fit}
 use Rattle.sl_due_law.proofs.Jobs.EffectsAreAllowed.{removal, signalled}
 use Rattle.sl_plain.proofs.Lists.{got_inside}
@@ -197,19 +199,19 @@ request_allowed x s j bytes Status fits most = tt
 
 -- ---- lines
 
-decision_allowed : (y : Step) (j : ℕ) (c : Command) (d : Decision) → DecisionWrites y d → ((s : Session) (at : Spot) (v : ValueRec) → d ≡ SetsValue s at v → IsValue v) → ((s : Session) (g : Grant) → DecisionWrites y (GivesUp s g) → LeaseWrites (release_next (lease_place y.setting s) (known y.setting (seen (add_end (end_of g) y)) s (spot_of_grant g)) g.mode g.lver)) → ((s : Session) (r : ResourceArg) (mode : Mode) → d ≡ ConvertsTo s r mode → LeaseWrites (convert_next (known y.setting (seen y) s (spot_of r)) mode r.name)) → DecisionAllowed SpelledSoFar Anything Spelled AnyStart y j c d
-decision_allowed y j c (Replies r) k values gives converts = tt
-decision_allowed y j c (Joins n a) k values gives converts = λ z its. reads_spelled 1
-decision_allowed y j c (Leaves s) k values gives converts = (tt, λ z h i there. tt)
-decision_allowed y j c (ReadsArea s r) k values gives converts = reads_spelled (y.setting.layout.hosts + 2)
-decision_allowed y j c (Shares s lver) k values gives converts = grant_allowed j lver c
-decision_allowed y j c (GivesUp s g) k values gives converts =
-    (tt, lease_allowed (add_end (end_of g) y) s (spot_of_grant g) (ForJob j) (release_next (lease_place y.setting s) (known y.setting (seen (add_end (end_of g) y)) s (spot_of_grant g)) g.mode g.lver) (gives s g k))
-decision_allowed y j c (TakesOver s g) k values gives converts = grant_allowed j g.lver c
-decision_allowed y j c (ConvertsTo s r mode) k values gives converts = lease_allowed y s (spot_of r) (ForJob j) (convert_next (known y.setting (seen y) s (spot_of r)) mode r.name) (converts s r mode refl)
-decision_allowed y j c (Requests s r) k values gives converts = reads_spelled 2
-decision_allowed y j c (SetsValue s at v) k values gives converts = record_spelled (ValueIs v) (values s at v refl)
-decision_allowed y j c (GetsValue s at) k values gives converts = reads_spelled 1
+decision_allowed : (y : Step) (j : ℕ) (c : Command) (d : Decision) → ((s : Session) (at : Spot) (v : ValueRec) → d ≡ SetsValue s at v → IsValue v) → ((s : Session) (g : Grant) → d ≡ GivesUp s g → LeaseWrites (release_next (lease_place y.setting s) (known y.setting (seen (add_end (end_of g) y)) s (spot_of_grant g)) g.mode g.lver)) → ((s : Session) (r : ResourceArg) (mode : Mode) → d ≡ ConvertsTo s r mode → LeaseWrites (convert_next (known y.setting (seen y) s (spot_of r)) mode r.name)) → DecisionAllowed SpelledSoFar Anything Spelled AnyStart y j c d
+decision_allowed y j c (Replies r) values gives converts = tt
+decision_allowed y j c (Joins n a) values gives converts = λ z its. reads_spelled 1
+decision_allowed y j c (Leaves s) values gives converts = (tt, λ z h i there. tt)
+decision_allowed y j c (ReadsArea s r) values gives converts = reads_spelled (y.setting.layout.hosts + 2)
+decision_allowed y j c (Shares s lver) values gives converts = grant_allowed j lver c
+decision_allowed y j c (GivesUp s g) values gives converts =
+    (tt, lease_allowed (add_end (end_of g) y) s (spot_of_grant g) (ForJob j) (release_next (lease_place y.setting s) (known y.setting (seen (add_end (end_of g) y)) s (spot_of_grant g)) g.mode g.lver) (gives s g refl))
+decision_allowed y j c (TakesOver s g) values gives converts = grant_allowed j g.lver c
+decision_allowed y j c (ConvertsTo s r mode) values gives converts = lease_allowed y s (spot_of r) (ForJob j) (convert_next (known y.setting (seen y) s (spot_of r)) mode r.name) (converts s r mode refl)
+decision_allowed y j c (Requests s r) values gives converts = reads_spelled 2
+decision_allowed y j c (SetsValue s at v) values gives converts = record_spelled (ValueIs v) (values s at v refl)
+decision_allowed y j c (GetsValue s at) values gives converts = reads_spelled 1
 
 -- The call that begins a session is of no session yet.
 joining_spelled : (x : Step) (j n : ℕ) (c : Command) (a : LockspaceArg) → SpelledSoFar x → SpelledSoFar (carry_decision j c (Joins n a) x)
@@ -222,11 +224,11 @@ joining_spelled x j n c a h k r there = by (contains_last x.effects.calls made k
   by (inl old) is = h k r old is
   by (inr same) is = reads_spelled 1 r (ap (λ (z : Call). record_of z.op) same ∙ is)
 
-carried_spelled : (x : Step) (text : List ℕ) (c : Command) (d : Decision) → Kept x → x.input ≡ Wake → x.effects.calls ≡ [] → x.setting.read text ≡ Ok c → decided x.setting (seen x) x.reading c ≡ d → DecisionWrites (with_input (Line text) x) d
+carried_spelled : (x : Step) (text : List ℕ) (c : Command) (d : Decision) → Kept x → x.input ≡ Wake → x.effects.calls ≡ [] → x.setting.read text ≡ Ok c → decided x.setting (seen x) x.reading c ≡ d
     → SpelledSoFar (carry_decision (next_job x.setting (seen x)) c d (with_input (Line text) x))
-carried_spelled x text c d k wake bare says is writes =
-    decision SpelledSoFar SpelledSoFar Anything Spelled AnyStart AnyMove spelled_effects (with_input (Line text) x) (next_job x.setting (seen x)) c d (decision_allowed (with_input (Line text) x) (next_job x.setting (seen x)) c d writes
-    (λ s at v sets. values_well x c s at v k.known.0 (k.known.0.setting.reads text c says) (is ∙ sets)) (λ s g may. releases_well x text s g wake bare k.known.0 may) (λ s r mode sets. converts_well x text c s r mode wake bare k.known.0 (is ∙ sets)))
+carried_spelled x text c d k wake bare says is =
+    decision SpelledSoFar SpelledSoFar Anything Spelled AnyStart AnyMove spelled_effects (with_input (Line text) x) (next_job x.setting (seen x)) c d (decision_allowed (with_input (Line text) x) (next_job x.setting (seen x)) c d
+    (λ s at v sets. values_well x c s at v k.known.0 (k.known.0.setting.reads text c says) (is ∙ sets)) (λ s g gives. releases_well x text c s g wake bare k.known.0 (is ∙ gives)) (λ s r mode sets. converts_well x text c s r mode wake bare k.known.0 (is ∙ sets)))
     (λ n a joins. joining_spelled (with_input (Line text) x) (next_job x.setting (seen x)) n c a (spelled_now x k)) (spelled_now x k)
 
 -- ---- all acts
@@ -242,7 +244,7 @@ spelled_are_kept a =
       starts = λ x n ok wake bare expected h. spelled_now x h;
       misreads = λ x text column wake bare says h. spelled_now x h;
       answers = λ x text c r wake bare says is h. spelled_now x h;
-      carries = λ x text c d wake bare says is more h. carried_spelled x text c d h wake bare says is (a.writes x text c d h wake bare says is more);
+      carries = λ x text c d wake bare says is more h. carried_spelled x text c d h wake bare says is;
       sees = λ x s number bytes at g has input held h. spelled_effects.calls x s g.path SeeRequest (request_offset x.setting.layout g.offset) (ReadSectors 1) (reads_spelled 1) (spelled_now x h);
       parts = λ x s has joined recovers_one free quiet h. removal SpelledSoFar SpelledSoFar Anything Spelled AnyStart AnyMove spelled_effects x s.lockspace tt (spelled_now x h);
       frees = λ x s has joined well free quiet h. delta SpelledSoFar SpelledSoFar Anything Spelled AnyStart AnyMove spelled_effects x s (next_free (delta_of_session x.setting s) x.reading (delta_known x.setting (seen x) s)) (delta_allowed x s _ (frees_well x s h.known.0 has joined)) (spelled_now x h);
@@ -271,7 +273,7 @@ spelled_are_kept a =
           (stopped SpelledSoFar SpelledSoFar Anything Spelled AnyStart AnyMove spelled_effects tt x s None (λ z k j there. tt) (spelled_now x h));
       leads_on = λ x s work step m answer aim hears is on aims h.
           (lease SpelledSoFar SpelledSoFar Anything Spelled AnyStart AnyMove spelled_effects x s (spot_of_call x.setting.layout m) work (next_of_lease x.setting (seen x) s (spot_of_call x.setting.layout m) aim m step answer)
-          (lease_allowed x s (spot_of_call x.setting.layout m) work (next_of_lease x.setting (seen x) s (spot_of_call x.setting.layout m) aim m step answer) (a.leads x s work step m answer aim h hears is on aims)) (spelled_now x h));
+          (lease_allowed x s (spot_of_call x.setting.layout m) work (next_of_lease x.setting (seen x) s (spot_of_call x.setting.layout m) aim m step answer) (answers_well x s work step m answer aim h.known.0 hears is on (λ asked. a.leads x s work step m answer aim h hears is on aims asked))) (spelled_now x h));
       fails = λ x s m j hears lone runs h.
           (spelled_effects.replies x j (IoFault m.call.number) tt (spelled_now x h));
       has_asked = λ x s m j owner hears is runs h.
@@ -292,5 +294,5 @@ spelled_are_kept a =
           (delta_allowed x s _ (renews_well x s h.known.0 has joined)) (spelled_now x h);
       settles = λ x s spot has wake active whole none h.
           (lease SpelledSoFar SpelledSoFar Anything Spelled AnyStart AnyMove spelled_effects x s spot Settling (settle_next (lease_place x.setting s) (known x.setting (seen x) s spot))
-          (lease_allowed x s spot Settling (settle_next (lease_place x.setting s) (known x.setting (seen x) s spot)) (a.settles x s spot h has wake active whole none)) (spelled_now x h));
+          (lease_allowed x s spot Settling (settle_next (lease_place x.setting s) (known x.setting (seen x) s spot)) (settles_well x s spot h.known.0 has active whole)) (spelled_now x h));
     }

@@ -66,7 +66,8 @@ own_is_record x s at b w is =
     let wrote = then_value block_of_record (record_of m.0.call.op) b m.2 in
     subst (λ (r : Rec). IsRecord r) (block_record_is wrote.0 b wrote.2) (spelled_of x.setting (seen x) m.0 wrote.0 w.orderly mine.0 wrote.1)
 
-held_lver : (x : Step) (g : Grant) → Whole x → Contains (holdings (seen x)) g → is_shared g.mode ≡ false → Fits g.lver
+-- So the instance of an exclusive holding fits.
+pub held_lver : (x : Step) (g : Grant) → Whole x → Contains (holdings (seen x)) g → is_shared g.mode ≡ false → Fits g.lver
 held_lver x g w there alone =
     let z = w.facts.holdings.owned g there in
     let stands = w.facts.holdings.stands g z.0 there z.1 alone in
@@ -92,7 +93,7 @@ where_held : (o : Option Grant) (f : Grant → Decision) → ((g : Grant) → o 
 where_held None f h = tt
 where_held (Some g) f h = h g refl
 
-not_true : (b : Bool) → not b ≡ true → b ≡ false
+pub not_true : (b : Bool) → not b ≡ true → b ≡ false
 not_true true is = sym is
 not_true false is = refl
 

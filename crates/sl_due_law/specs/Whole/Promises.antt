@@ -1,5 +1,5 @@
 -- What is shown of each trace of a daemon that does what is due, and from what.
-use Rattle.sl_acts.specs.Acts.{Has, Hears, IsIdle}
+use Rattle.sl_acts.specs.Acts.{Hears, IsIdle}
 use Rattle.sl_acts.specs.SoFar.{entry_of}
 use Rattle.sl_due.specs.Due.{IsDue, IsHostTrace, NoIdleJob}
 use Rattle.sl_due.specs.DueCommands.{carry_decision, decided, reply_at_once}
@@ -8,20 +8,19 @@ use Rattle.sl_due.specs.Steps.{Step, seen, with_input}
 use Rattle.sl_due.specs.declared.decision.Decision.{Decision}
 use Rattle.sl_due_law.specs.Whole.Busy.{Waits, told_by}
 use Rattle.sl_due_law.specs.Whole.Kept.{Holds, Kept}
-use Rattle.sl_due_law.specs.Whole.Writes.{DecisionWrites, LeaseWrites}
+use Rattle.sl_due_law.specs.Whole.Writes.{LeaseWrites, is_asked_of}
 use Rattle.sl_law.specs.Caused.{AnswersWell, IsCaused}
 use Rattle.sl_law.specs.Lawful.{IsSetting, Lawful}
 use Rattle.sl_law.specs.LawfulCalls.{may_submit}
 use Rattle.sl_law.specs.LawfulDelta.{LawfulDelta}
 use Rattle.sl_law.specs.Saying.{EachCall}
 use Rattle.sl_leases.specs.Jobs.{aim_of}
-use Rattle.sl_leases.specs.LeaseWork.{lease_place, settle_next}
-use Rattle.sl_leases.specs.Leases.{known, open_on, spot_of_call}
+use Rattle.sl_leases.specs.Leases.{spot_of_call}
 use Rattle.sl_leases.specs.declared.lease.Aim.{Aim}
 use Rattle.sl_due_law.specs.Recovery.Stops.{JustHeard}
 use Rattle.sl_sector.specs.Records.{IsRecord}
 use Rattle.sl_sector.specs.declared.sector.Rec.{Rec}
-use Rattle.sl_sessions.specs.Sessions.{is_active, is_present, session_numbered, stage_of}
+use Rattle.sl_sessions.specs.Sessions.{is_present, session_numbered, stage_of}
 use Rattle.sl_sessions.specs.declared.session.Session.{Session}
 use Rattle.sl_due_law.specs.Facts.Whole.{Facts}
 use Rattle.sl_trace.specs.Traces.{Child, FollowsTrace, Setting, Submitted, Trace, call_numbered, children, is_running, job_of, next_job, record_of, work_job}
@@ -32,11 +31,10 @@ use Rattle.sl_trace.specs.declared.effects.JoinStep.TheVariants.{FirstRead}
 use Rattle.sl_trace.specs.declared.effects.LeaseStep.{LeaseStep}
 use Rattle.sl_trace.specs.declared.effects.Purpose.{Purpose}
 use Rattle.sl_trace.specs.declared.effects.Purpose.TheVariants.{Joining, Lease, SeeRequest}
-use Rattle.sl_trace.specs.declared.effects.Spot.{Spot}
 use Rattle.sl_trace.specs.declared.effects.Work.{Work}
 use Rattle.sl_trace.specs.declared.input.Answer.{Answer}
 use Rattle.sl_trace.specs.declared.input.Input.TheVariants.{Answer as Told, Line, Wake}
-use Rattle.std.specs.Prelude.{Bool, Contains, IsTrue, List, None, Ok, Some, [], false, true, ℕ, ◌%◌, ◌∷◌, ◌≡◌}
+use Rattle.std.specs.Prelude.{Bool, Contains, IsTrue, List, None, Ok, Some, [], false, true, ℕ, ◌∷◌, ◌≡◌}
 
 abbrev pub DeltasSoFar : Step → Type 0
 DeltasSoFar x = LawfulDelta x.setting x.past (entry_of x)
@@ -55,16 +53,12 @@ is_lone_read p = false
 abbrev pub LonesSoFar : Step → Type 0
 LonesSoFar x = EachCall x.setting (λ es s c. IsTrue (is_lone_read c.call.purpose) → IsTrue (may_submit (stage_of es s))) x.past (entry_of x)
 
--- What is asked of the acts besides what is shown: that what a lease decides to write after an answer or in a settling is a record, and the leader
--- that the release of an exclusive holding writes. (All else that is written is shown to be one.)
+-- What is asked of the acts besides what is shown: that what a lease decides to write after the read of phase 1 is a record. (All else that is
+-- written is shown to be one.)
 pub record ActsAsked : Type 0 where
   pub leads : (x : Step) (s : Session) (work : Work) (step : LeaseStep) (m : Submitted) (answer : Answer) (aim : Aim) → Kept x → Hears x s m answer →
-      m.call.purpose ≡ Lease work step → goes_on x.setting (seen x) s work ≡ true → aim_of x.setting (seen x) work ≡ Some aim →
+      m.call.purpose ≡ Lease work step → goes_on x.setting (seen x) s work ≡ true → aim_of x.setting (seen x) work ≡ Some aim → is_asked_of step answer ≡ true →
       LeaseWrites (next_of_lease x.setting (seen x) s (spot_of_call x.setting.layout m) aim m step answer)
-  pub settles : (x : Step) (s : Session) (at : Spot) → Kept x → Has x s → x.input ≡ Wake → is_active x.setting (seen x) s ≡ true → at.base % x.setting.layout.area ≡ 0 →
-      open_on x.setting (seen x) at ≡ [] → LeaseWrites (settle_next (lease_place x.setting s) (known x.setting (seen x) s at))
-  pub writes : (x : Step) (text : List ℕ) (c : Command) (d : Decision) → Kept x → x.input ≡ Wake → x.effects.calls ≡ [] → x.setting.read text ≡ Ok c →
-      decided x.setting (seen x) x.reading c ≡ d → reply_at_once d ≡ None → DecisionWrites (with_input (Line text) x) d
 
 -- The facts hold before the first entry.
 abbrev pub FactsAtFirst : Type 0
