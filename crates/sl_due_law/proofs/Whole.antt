@@ -9,6 +9,7 @@ pub mod ReleaseWrites
 pub mod SettleWrites
 pub mod ConversionWrites
 pub mod AreaWrites
+pub mod BallotWrites
 pub mod AnswerWrites
 pub mod SpelledAreKept
 pub mod CallsAreLawful

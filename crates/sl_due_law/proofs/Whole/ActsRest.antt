@@ -12,7 +12,6 @@ use Rattle.sl_due.specs.declared.decision.Decision.{Decision}
 use Rattle.sl_due.specs.declared.decision.Decision.TheVariants.{ConvertsTo, GetsValue, GivesUp, Joins, Leaves, ReadsArea, Replies, Requests, SetsValue, Shares, TakesOver}
 use Rattle.sl_due_law.proofs.Whole.AllIsKept.{all_is_kept}
 use Rattle.sl_due_law.specs.Whole.Kept.{Kept, Rests}
-use Rattle.sl_due_law.specs.Whole.Promises.{ActsAsked}
 use Rattle.sl_due_law.specs.Holdings.Moments.{Known}
 use Rattle.sl_due_law.proofs.Jobs.EffectsAreAllowed.{DecisionAllowed, decision, delta, ended, exited, lease, left, refusal, said}
 use Rattle.sl_due_law.proofs.Jobs.JobPromises.{quiet_facts_conclude}
@@ -220,9 +219,9 @@ carried_unheard x text j c d = by (decision_plain Unheard (with_input (Line text
 pub rested : (y : Step) → Unheard y → Kept y → Rested y
 rested y none k = (k, rests_unheard y none k)
 
-pub other_acts_rest : ActsAsked → OtherActs Rested
-other_acts_rest asked =
-    let a : Acts Kept Kept = all_is_kept asked in
+pub other_acts_rest : OtherActs Rested
+other_acts_rest =
+    let a : Acts Kept Kept = all_is_kept in
     let p : Nearly Unheard = unheard in
     record {
       kills = λ x s has due h. (a.kills x s has due h.0, rests_killed x s h.1);
@@ -262,9 +261,9 @@ other_acts_rest asked =
       frees = λ x s p1 p2 p3 p4 p5 h. (a.frees x s p1 p2 p3 p4 p5 h.0, rest_of _ (all_conclude.frees x s p1 p2 p3 p4 p5 h));
     }
 
-pub answer_acts_rest : ActsAsked → AnswerActs Heard Rested
-answer_acts_rest asked =
-    let a : Acts Kept Kept = all_is_kept asked in
+pub answer_acts_rest : AnswerActs Heard Rested
+answer_acts_rest =
+    let a : Acts Kept Kept = all_is_kept in
     record {
       hears = λ x number answer wake bare expected h. (a.hears x number answer wake bare expected h.0, just_heard x number answer wake h.0.denies h.0.partings);
       finds_none = λ x number answer p1 p2 h. (h.0, rest_of x (all_conclude.finds_none x number answer p1 p2 h));

@@ -12,7 +12,7 @@ use Rattle.sl_due_law.proofs.Whole.LonesMay.{lones_may}
 use Rattle.sl_due_law.proofs.Whole.SpelledAreKept.{spelled_are_kept}
 use Rattle.sl_due_law.specs.Whole.Kept.{Holds, Kept}
 use Rattle.sl_due_law.specs.Whole.Lones.{Lones}
-use Rattle.sl_due_law.specs.Whole.Promises.{ActsAsked, DeltasSoFar, SpelledSoFar}
+use Rattle.sl_due_law.specs.Whole.Promises.{DeltasSoFar, SpelledSoFar}
 use Rattle.sl_due_law.proofs.Grants.ActiveGrants.{granting_begins, granting_is_lawful}
 use Rattle.sl_due_law.proofs.Grants.EndsAreLawful.{ends_are_lawful, ends_begin}
 use Rattle.sl_due_law.proofs.Grants.ExitsAreLawful.{exits_are_lawful, exits_begin}
@@ -227,98 +227,98 @@ From_calls x = HasCallFacts x × From_jobs x
 abbrev From_follows : Step → Type 0
 From_follows x = FollowsSoFar x × From_calls x
 
-from_old : ActsAsked → Acts Kept From_old
-from_old a = from_more IsOld Kept IsOld (λ x k. k.before) old_is_kept
+from_old : Acts Kept From_old
+from_old = from_more IsOld Kept IsOld (λ x k. k.before) old_is_kept
 
-from_partings : ActsAsked → Acts Kept From_partings
-from_partings a = both Kept Partings From_old (from_more (λ x. Known x × Partings x) Kept Partings (λ x k. (k.known, k.partings)) partings_are_kept) (from_old a)
+from_partings : Acts Kept From_partings
+from_partings = both Kept Partings From_old (from_more (λ x. Known x × Partings x) Kept Partings (λ x k. (k.known, k.partings)) partings_are_kept) from_old
 
-from_denies : ActsAsked → Acts Kept From_denies
-from_denies a = both Kept Denies From_partings (from_more Denies Kept Denies (λ x k. k.denies) denials_are_kept) (from_partings a)
+from_denies : Acts Kept From_denies
+from_denies = both Kept Denies From_partings (from_more Denies Kept Denies (λ x k. k.denies) denials_are_kept) from_partings
 
-from_stops : ActsAsked → Acts Kept From_stops
-from_stops a = both Kept StopsSoFar From_denies (from_more (λ x. Known x × StopsSoFar x × Denies x) Kept StopsSoFar (λ x k. (k.known, k.stops, k.denies)) stops_are_kept) (from_denies a)
+from_stops : Acts Kept From_stops
+from_stops = both Kept StopsSoFar From_denies (from_more (λ x. Known x × StopsSoFar x × Denies x) Kept StopsSoFar (λ x k. (k.known, k.stops, k.denies)) stops_are_kept) from_denies
 
-from_exits : ActsAsked → Acts Kept From_exits
-from_exits a = both Kept ExitsSoFar From_stops (from_more (λ x. Known x × ExitsSoFar x) Kept ExitsSoFar (λ x k. (k.known, k.exits)) exits_are_lawful) (from_stops a)
+from_exits : Acts Kept From_exits
+from_exits = both Kept ExitsSoFar From_stops (from_more (λ x. Known x × ExitsSoFar x) Kept ExitsSoFar (λ x k. (k.known, k.exits)) exits_are_lawful) from_stops
 
-from_moment : ActsAsked → Acts Kept From_moment
-from_moment a = both Kept Moment From_exits (from_more Moment Kept Moment (λ x k. k.known.1) moments_are_kept) (from_exits a)
+from_moment : Acts Kept From_moment
+from_moment = both Kept Moment From_exits (from_more Moment Kept Moment (λ x k. k.known.1) moments_are_kept) from_exits
 
-from_lawful_values : ActsAsked → Acts Kept From_lawful_values
-from_lawful_values a = both Kept ValuesSoFar From_moment (from_more Known Kept ValuesSoFar (λ x k. k.known) values_are_lawful) (from_moment a)
+from_lawful_values : Acts Kept From_lawful_values
+from_lawful_values = both Kept ValuesSoFar From_moment (from_more Known Kept ValuesSoFar (λ x k. k.known) values_are_lawful) from_moment
 
-from_lawful_ends : ActsAsked → Acts Kept From_lawful_ends
-from_lawful_ends a = both Kept EndsSoFar From_lawful_values (from_more Known Kept EndsSoFar (λ x k. k.known) ends_are_lawful) (from_lawful_values a)
+from_lawful_ends : Acts Kept From_lawful_ends
+from_lawful_ends = both Kept EndsSoFar From_lawful_values (from_more Known Kept EndsSoFar (λ x k. k.known) ends_are_lawful) from_lawful_values
 
-from_lawful_granting : ActsAsked → Acts Kept From_lawful_granting
-from_lawful_granting a = both Kept GrantingSoFar From_lawful_ends (from_more Known Kept GrantingSoFar (λ x k. k.known) granting_is_lawful) (from_lawful_ends a)
+from_lawful_granting : Acts Kept From_lawful_granting
+from_lawful_granting = both Kept GrantingSoFar From_lawful_ends (from_more Known Kept GrantingSoFar (λ x k. k.known) granting_is_lawful) from_lawful_ends
 
-from_moved : ActsAsked → Acts Kept From_moved
-from_moved a = both Kept MovedSoFar From_lawful_granting (from_more (λ x. Whole x × MovedSoFar x) Kept MovedSoFar (λ x k. (k.known.0, k.moved)) moves_are_kept) (from_lawful_granting a)
+from_moved : Acts Kept From_moved
+from_moved = both Kept MovedSoFar From_lawful_granting (from_more (λ x. Whole x × MovedSoFar x) Kept MovedSoFar (λ x k. (k.known.0, k.moved)) moves_are_kept) from_lawful_granting
 
-from_lawful_modes : ActsAsked → Acts Kept From_lawful_modes
-from_lawful_modes a = both Kept ModesSoFar From_moved (from_more Known Kept ModesSoFar (λ x k. k.known) modes_are_lawful) (from_moved a)
+from_lawful_modes : Acts Kept From_lawful_modes
+from_lawful_modes = both Kept ModesSoFar From_moved (from_more Known Kept ModesSoFar (λ x k. k.known) modes_are_lawful) from_moved
 
-from_lawful_leases : ActsAsked → Acts Kept From_lawful_leases
-from_lawful_leases a = both Kept LeaseLaws From_lawful_modes (from_more Whole Kept LeaseLaws (λ x k. k.known.0) laws_are_kept) (from_lawful_modes a)
+from_lawful_leases : Acts Kept From_lawful_leases
+from_lawful_leases = both Kept LeaseLaws From_lawful_modes (from_more Whole Kept LeaseLaws (λ x k. k.known.0) laws_are_kept) from_lawful_modes
 
-from_joins : ActsAsked → Acts Kept From_joins
-from_joins a = both Kept JoinsSoFar From_lawful_leases (from_more Whole Kept JoinsSoFar (λ x k. k.known.0) joins_are_kept) (from_lawful_leases a)
+from_joins : Acts Kept From_joins
+from_joins = both Kept JoinsSoFar From_lawful_leases (from_more Whole Kept JoinsSoFar (λ x k. k.known.0) joins_are_kept) from_lawful_leases
 
-from_delta_calls : ActsAsked → Acts Kept From_delta_calls
-from_delta_calls a = both Kept CallsKept From_joins (from_more KnowsCalls Kept CallsKept (λ x k. knows_calls x k) calls_are_kept) (from_joins a)
+from_delta_calls : Acts Kept From_delta_calls
+from_delta_calls = both Kept CallsKept From_joins (from_more KnowsCalls Kept CallsKept (λ x k. knows_calls x k) calls_are_kept) from_joins
 
-from_lones : ActsAsked → Acts Kept From_lones
-from_lones a = both Kept Lones From_delta_calls (from_more (λ x. Whole x × Lones x) Kept Lones (λ x k. (k.known.0, k.lones)) lones_are_kept) (from_delta_calls a)
+from_lones : Acts Kept From_lones
+from_lones = both Kept Lones From_delta_calls (from_more (λ x. Whole x × Lones x) Kept Lones (λ x k. (k.known.0, k.lones)) lones_are_kept) from_delta_calls
 
-from_spelled : ActsAsked → Acts Kept From_spelled
-from_spelled a = both Kept SpelledSoFar From_lones (spelled_are_kept a) (from_lones a)
+from_spelled : Acts Kept From_spelled
+from_spelled = both Kept SpelledSoFar From_lones spelled_are_kept from_lones
 
-from_values : ActsAsked → Acts Kept From_values
-from_values a = both Kept HasValueFacts From_spelled (from_more Known Kept HasValueFacts (λ x k. k.known) value_facts_are_kept) (from_spelled a)
+from_values : Acts Kept From_values
+from_values = both Kept HasValueFacts From_spelled (from_more Known Kept HasValueFacts (λ x k. k.known) value_facts_are_kept) from_spelled
 
-from_numbers : ActsAsked → Acts Kept From_numbers
-from_numbers a = both Kept HasNumberFacts From_values (from_more Whole Kept HasNumberFacts (λ x k. k.known.0) number_facts_are_kept) (from_values a)
+from_numbers : Acts Kept From_numbers
+from_numbers = both Kept HasNumberFacts From_values (from_more Whole Kept HasNumberFacts (λ x k. k.known.0) number_facts_are_kept) from_values
 
-from_grounds : ActsAsked → Acts Kept From_grounds
-from_grounds a = both Kept HasGrantGrounds From_numbers (from_more Whole Kept HasGrantGrounds (λ x k. k.known.0) grant_grounds_are_kept) (from_numbers a)
+from_grounds : Acts Kept From_grounds
+from_grounds = both Kept HasGrantGrounds From_numbers (from_more Whole Kept HasGrantGrounds (λ x k. k.known.0) grant_grounds_are_kept) from_numbers
 
-from_works : ActsAsked → Acts Kept From_works
-from_works a = both Kept HasWorkFacts From_grounds (from_more Known Kept HasWorkFacts (λ x k. k.known) work_facts_are_kept) (from_grounds a)
+from_works : Acts Kept From_works
+from_works = both Kept HasWorkFacts From_grounds (from_more Known Kept HasWorkFacts (λ x k. k.known) work_facts_are_kept) from_grounds
 
-from_holdings : ActsAsked → Acts Kept From_holdings
-from_holdings a = both Kept HasHoldingFacts From_works (from_more Known Kept HasHoldingFacts (λ x k. k.known) holding_facts_are_kept) (from_works a)
+from_holdings : Acts Kept From_holdings
+from_holdings = both Kept HasHoldingFacts From_works (from_more Known Kept HasHoldingFacts (λ x k. k.known) holding_facts_are_kept) from_works
 
-from_ways : ActsAsked → Acts Kept From_ways
-from_ways a = both Kept HasWayFacts From_holdings (from_more Whole Kept HasWayFacts (λ x k. k.known.0) way_facts_are_kept) (from_holdings a)
+from_ways : Acts Kept From_ways
+from_ways = both Kept HasWayFacts From_holdings (from_more Whole Kept HasWayFacts (λ x k. k.known.0) way_facts_are_kept) from_holdings
 
-from_turns : ActsAsked → Acts Kept From_turns
-from_turns a = both Kept HasTurnFacts From_ways (from_more Whole Kept HasTurnFacts (λ x k. k.known.0) turn_facts_are_kept) (from_ways a)
+from_turns : Acts Kept From_turns
+from_turns = both Kept HasTurnFacts From_ways (from_more Whole Kept HasTurnFacts (λ x k. k.known.0) turn_facts_are_kept) from_ways
 
-from_delta : ActsAsked → Acts Kept From_delta
-from_delta a = both Kept HasDeltaFacts From_turns (from_more Whole Kept HasDeltaFacts (λ x k. k.known.0) delta_facts_are_kept) (from_turns a)
+from_delta : Acts Kept From_delta
+from_delta = both Kept HasDeltaFacts From_turns (from_more Whole Kept HasDeltaFacts (λ x k. k.known.0) delta_facts_are_kept) from_turns
 
-from_watches : ActsAsked → Acts Kept From_watches
-from_watches a = both Kept HasWatchFacts From_delta (from_more (λ x. Whole x × HasWatchFacts x) Kept HasWatchFacts (λ x k. (k.known.0, k.watches)) watch_facts_are_kept) (from_delta a)
+from_watches : Acts Kept From_watches
+from_watches = both Kept HasWatchFacts From_delta (from_more (λ x. Whole x × HasWatchFacts x) Kept HasWatchFacts (λ x k. (k.known.0, k.watches)) watch_facts_are_kept) from_delta
 
-from_connections : ActsAsked → Acts Kept From_connections
-from_connections a = both Kept HasConnectionFacts From_watches (from_more Whole Kept HasConnectionFacts (λ x k. k.known.0) connection_facts_are_kept) (from_watches a)
+from_connections : Acts Kept From_connections
+from_connections = both Kept HasConnectionFacts From_watches (from_more Whole Kept HasConnectionFacts (λ x k. k.known.0) connection_facts_are_kept) from_watches
 
-from_names : ActsAsked → Acts Kept From_names
-from_names a = both Kept HasNameFacts From_connections (from_more Whole Kept HasNameFacts (λ x k. k.known.0) name_facts_are_kept) (from_connections a)
+from_names : Acts Kept From_names
+from_names = both Kept HasNameFacts From_connections (from_more Whole Kept HasNameFacts (λ x k. k.known.0) name_facts_are_kept) from_connections
 
-from_quiet : ActsAsked → Acts Kept From_quiet
-from_quiet a = both Kept HasQuietFacts From_names (from_more Whole Kept HasQuietFacts (λ x k. k.known.0) quiet_facts_are_kept) (from_names a)
+from_quiet : Acts Kept From_quiet
+from_quiet = both Kept HasQuietFacts From_names (from_more Whole Kept HasQuietFacts (λ x k. k.known.0) quiet_facts_are_kept) from_names
 
-from_jobs : ActsAsked → Acts Kept From_jobs
-from_jobs a = both Kept HasJobFacts From_quiet (from_more Whole Kept HasJobFacts (λ x k. k.known.0) job_facts_are_kept) (from_quiet a)
+from_jobs : Acts Kept From_jobs
+from_jobs = both Kept HasJobFacts From_quiet (from_more Whole Kept HasJobFacts (λ x k. k.known.0) job_facts_are_kept) from_quiet
 
-from_calls : ActsAsked → Acts Kept From_calls
-from_calls a = both Kept HasCallFacts From_jobs (from_more Whole Kept HasCallFacts (λ x k. k.known.0) call_facts_are_kept) (from_jobs a)
+from_calls : Acts Kept From_calls
+from_calls = both Kept HasCallFacts From_jobs (from_more Whole Kept HasCallFacts (λ x k. k.known.0) call_facts_are_kept) from_jobs
 
-from_follows : ActsAsked → Acts Kept From_follows
-from_follows a = both Kept FollowsSoFar From_calls (from_more Whole Kept FollowsSoFar (λ x k. k.known.0) entries_follow) (from_calls a)
+from_follows : Acts Kept From_follows
+from_follows = both Kept FollowsSoFar From_calls (from_more Whole Kept FollowsSoFar (λ x k. k.known.0) entries_follow) from_calls
 
 parts_of : (x : Step) → From_follows x → Parts x
 parts_of x h =
@@ -418,8 +418,8 @@ kept_of x h =
     }
 
 -- Each act keeps all of it.
-pub all_is_kept : ActsAsked → Acts Kept Kept
-all_is_kept a = to_less Kept From_follows Kept (λ x h. kept_of x (parts_of x h)) (from_follows a)
+pub all_is_kept : Acts Kept Kept
+all_is_kept = to_less Kept From_follows Kept (λ x h. kept_of x (parts_of x h)) from_follows
 
 -- ---- once a step has begun
 

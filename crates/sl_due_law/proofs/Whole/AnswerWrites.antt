@@ -1,4 +1,4 @@
--- What a lease writes after an answer is a record, but for the answers of which that is asked.
+-- What a lease writes after an answer is a record.
 use Rattle.sl_words.specs.Words.{choose, some_is}
 use Rattle.sl_due_law.proofs.Leases.NamesVerified.{ended_wrote}
 use Rattle.sl_due_law.proofs.Ways.NextsFit.WritesFit.{left_is_won}
@@ -20,16 +20,21 @@ use Rattle.sl_due_law.proofs.Whole.ConversionWrites.{moded}
 use Rattle.sl_due_law.proofs.Whole.LeaderWrites.{leader_well}
 use Rattle.sl_due_law.proofs.Whole.ReleaseWrites.{unmoded}
 use Rattle.sl_due_law.proofs.Whole.SettleWrites.{MayWrite, OwnWell, begins_well, may_write, own_well, refuses_well, settles_known, submitted_known}
-use Rattle.sl_due_law.specs.Whole.Writes.{LeaseWrites, is_asked_of}
+use Rattle.sl_due_law.specs.Whole.Writes.{LeaseWrites}
+use Rattle.sl_due_law.proofs.Whole.BallotWrites.{phase1_own}
+use Rattle.sl_area.specs.Layouts.{sizes}
+use Rattle.sl_due_law.proofs.Ways.Decoding.{blocks_read}
+use Rattle.sl_resource.proofs.RecordFacts.{phase2_begun}
+use Rattle.sl_resource.specs.Bounds.{IsBegun}
 use Rattle.sl_due_law.proofs.Leases.WorkIsActive.{work_is_active}
 use Rattle.sl_due_law.proofs.Ways.Kept.EffectsLeave.{there_has}
 use Rattle.sl_due_law.proofs.Ways.Kept.HeardStands.{heard_call, heard_has, heard_open}
 use Rattle.sl_due_law.proofs.Ways.NewestCall.{block_is, leader_is_no_block, read_writes_no_block, submitted_here, submitted_passed}
 use Rattle.sl_due_law.proofs.Ways.Places.{spot_aligned}
 use Rattle.sl_due_law.proofs.Ways.WayNumbers.{Doing, EndsBy, Frees, Reads, Takes, Writes_ballot, Writes_mode, doing, ended_below, ends_by, is_verified, lver_of, own_lver}
-use Rattle.sl_leases.specs.Ballots.{is_ahead, moded_block, same_owner, stop_of, value_of}
-use Rattle.sl_leases.specs.LeaseWork.{LeasePlace, after_clearing, after_freeing, after_moding, after_phase2, after_take, begin_next, leader_for, lease_next, lease_place, lost_next, settle_next, stopped_next, won_next}
-use Rattle.sl_leases.specs.Leases.{LeaseKnown, block_submitted, ended_ballot, ended_ballots, exclusive_on, holdings_on, known, lease_calls, lease_step, lver_written, owed_free, spot_of_call}
+use Rattle.sl_leases.specs.Ballots.{ballot_blocks, is_ahead, moded_block, phase2_block, same_owner, stop_of, value_of}
+use Rattle.sl_leases.specs.LeaseWork.{LeasePlace, after_clearing, after_freeing, after_moding, after_phase1, after_phase2, after_take, begin_next, leader_for, lease_next, lease_place, looks_for_shared, lost_next, phase2_next, settle_next, stopped_next, unstopped_next, won_next}
+use Rattle.sl_leases.specs.Leases.{LeaseKnown, block_submitted, ended_ballot, ended_ballots, exclusive_on, holdings_on, known, lease_calls, lease_step, lver_written, mode_gen_of, owed_free, shared_elsewhere, spot_of_call}
 use Rattle.sl_leases.specs.declared.lease.Aim.TheVariants.{Acquires, Converts, Releases, Settles}
 use Rattle.sl_leases.specs.declared.lease.Aim.{Aim}
 use Rattle.sl_leases.specs.declared.lease.LeaseNext.TheVariants.{AnswerJob, BecomeExclusive, BecomeShared, Nothing, WriteBlock, WriteLeader}
@@ -54,7 +59,7 @@ use Rattle.sl_trace.specs.declared.effects.Work.TheVariants.{ForJob, Settling}
 use Rattle.sl_trace.specs.declared.effects.Work.{Work}
 use Rattle.sl_trace.specs.declared.input.Answer.TheVariants.{Failed, Read, Written}
 use Rattle.sl_trace.specs.declared.input.Answer.{Answer}
-use Rattle.sl_trace.specs.declared.reply.Reply.TheVariants.{Held as HeldBy, IoFault}
+use Rattle.sl_trace.specs.declared.reply.Reply.TheVariants.{Held as HeldBy, IoFault, Shared as SharedBy}
 use Rattle.sl_words.proofs.CaseLaws.{none_some, some_value}
 use Rattle.std.proofs.Common.{ap, arith, inl, inr, refl, subst, sym, ◌∙◌}
 use Rattle.std.specs.Option.{option_map_or}
@@ -150,6 +155,33 @@ phase2_well p k aim own None is may well lead = by (same_owner (value_of own) k.
   by true = won_well p k aim own is well lead
   by false = lost_well p k aim own.lver (value_of own) may (own, is) well
 
+proposes_well : (p : LeasePlace) (k : LeaseKnown) (own : Block) (read : List (Option Block)) → MayWrite p k → IsBegun own → AreBlocks read → LeaseWrites (phase2_next k own read)
+proposes_well p k own read may begun all =
+    (phase2_begun (sizes 0 0 p.layout.hosts) k.self own read k.shared (moded_block (phase2_block k.self own (ballot_blocks own read)) k.shared (mode_gen_of k)) (record { id = may.id; generation = may.generation }) may.hosts begun all refl).block
+
+unstopped_well : (p : LeasePlace) (k : LeaseKnown) (aim : Aim) (own : Block) (read : List (Option Block)) → MayWrite p k → IsBegun own → AreBlocks read → LeaseWrites (unstopped_next k aim own read)
+unstopped_well p k aim own read may begun all = by (looks_for_shared aim) where
+  alone : (o : Option Block) → LeaseWrites (elim o as (λ z. LeaseNext) [ Some b ↦ AnswerJob (SharedBy (record { id = b.host; generation = b.mode_gen })) | None ↦ phase2_next k own read ])
+  alone None = proposes_well p k own read may begun all
+  alone (Some b) = tt
+
+  by : (b : Bool) → LeaseWrites (elim b as (λ z. LeaseNext) [
+    | false ↦ phase2_next k own read
+    | true ↦ elim (shared_elsewhere k read) as (λ z. LeaseNext) [ Some b ↦ AnswerJob (SharedBy (record { id = b.host; generation = b.mode_gen })) | None ↦ phase2_next k own read ]
+  ])
+  by false = proposes_well p k own read may begun all
+  by true = alone (shared_elsewhere k read)
+
+phase1_well : (p : LeasePlace) (k : LeaseKnown) (aim : Aim) (own : Block) (read : List (Option Block)) (stop : Option Stop) → MayWrite p k → OwnWell k → IsBegun own → AreBlocks read → LeaseWrites (after_phase1 p k aim own read stop)
+phase1_well p k aim own read (Some stop) may well begun all = stopped_well p k aim stop may well
+phase1_well p k aim own read None may well begun all = unstopped_well p k aim own read may begun all
+
+begun_well : (p : LeasePlace) (k : LeaseKnown) (aim : Aim) (bytes : List ℕ) (o : Option Block) → MayWrite p k → OwnWell k → ((own : Block) → o ≡ Some own → IsBegun own)
+    → LeaseWrites (option_map_or (λ own. after_phase1 p k aim own (blocks_in p.layout bytes) (stop_of own (blocks_in p.layout bytes))) o Nothing)
+begun_well p k aim bytes None may well begun = tt
+begun_well p k aim bytes (Some own) may well begun =
+    phase1_well p k aim own (blocks_in p.layout bytes) (stop_of own (blocks_in p.layout bytes)) may well (begun own refl) (blocks_read p.layout bytes)
+
 ended_well : (p : LeasePlace) (k : LeaseKnown) (aim : Aim) (bytes : List ℕ) (o : Option Block) → k.own ≡ o → MayWrite p k → OwnWell k → LeadWell p k
     → LeaseWrites (option_map_or (λ own. after_phase2 p k aim own (stop_of own (blocks_in p.layout bytes))) o Nothing)
 ended_well p k aim bytes None is may well lead = tt
@@ -201,12 +233,12 @@ owed_well p k lead won = by (owed_free k) refl where
       let h = won n (subst (λ z. k.won ≡ Some z) same from.1) in lead.leads false n h.own h.knows h.one h.fits
 
 answers_known : (p : LeasePlace) (k : LeaseKnown) (aim : Aim) (call n : ℕ) (step : LeaseStep) (answer : Answer) → MayWrite p k → OwnWell k → LeadWell p k → AreBlocks k.read → (step ≡ SetMode → IsOwn k n) → ((e : ℕ) → k.exclusive ≡ Some e → IsHeldUnder k e) → ((n : ℕ) → k.won ≡ Some n → IsHeldUnder k n)
-    → (is_asked_of step answer ≡ true → LeaseWrites (lease_next p k aim call n step answer)) → LeaseWrites (lease_next p k aim call n step answer)
+    → (step ≡ Phase1Read → (own : Block) → k.own ≡ Some own → IsBegun own) → LeaseWrites (lease_next p k aim call n step answer)
 unfolding lease_next
 answers_known p k aim call n step Failed may well lead all set held won h = refuses_well aim (IoFault call)
 answers_known p k aim call n (ReadArea name) (Read bytes) may well lead all set held won h = areas_well p k aim name bytes may well all
 answers_known p k aim call n ReadBeforeFree (Read bytes) may well lead all set held won h = owed_well p k lead won
-answers_known p k aim call n Phase1Read (Read bytes) may well lead all set held won h = h refl
+answers_known p k aim call n Phase1Read (Read bytes) may well lead all set held won h = begun_well p k aim bytes k.own may well (h refl)
 answers_known p k aim call n Phase2Read (Read bytes) may well lead all set held won h = ended_well p k aim bytes k.own refl may well lead
 answers_known p k aim call n Phase1Write (Read bytes) may well lead all set held won h = tt
 answers_known p k aim call n Phase2Write (Read bytes) may well lead all set held won h = tt
@@ -294,18 +326,35 @@ set_own x s work m answer w h is =
       under = ap (λ (o : Op). lver_written (record m { call = record m.call { op = o } })) way.wrote;
     }
 
--- What a lease writes after an answer, where it is so of the answers of which it is asked.
+-- After the read of phase 1 the own block is one that a ballot has begun.
+begun_own : (x : Step) (s : Session) (work : Work) (m : Submitted) (answer : Answer) → Whole x → Hears x s m answer → m.call.purpose ≡ Lease work Phase1Read
+    → (own : Block) → (known x.setting (seen x) s (spot_of_call x.setting.layout m)).own ≡ Some own → IsBegun own
+unfolding known
+begun_own x s work m answer w h is own knows =
+    let at : Spot = spot_of_call x.setting.layout m in
+    let inside = there_has x.setting (seen x) s.number s (heard_has x s m answer h) in
+    let one = phase1_own x s work m answer w h is in
+    let same : one.own ≡ own = some_value one.own own (sym one.knows ∙ knows) in
+    record {
+      block = own_is_record x s at own w knows;
+      begun = (
+        begun_lver (way_context x.setting (seen x) s) (lease_calls x.setting (seen x) s at) (w.facts.ways.each s at inside (spot_aligned x.setting.layout.area m.call.offset)) own knows,
+        subst (λ (z : Block). 1 ≤ z.mbal) same one.mbal,
+      );
+    }
+
+-- What a lease writes after an answer.
 pub answers_well : (x : Step) (s : Session) (work : Work) (step : LeaseStep) (m : Submitted) (answer : Answer) (aim : Aim) → Whole x → Hears x s m answer → m.call.purpose ≡ Lease work step
-    → goes_on x.setting (seen x) s work ≡ true → (is_asked_of step answer ≡ true → LeaseWrites (next_of_lease x.setting (seen x) s (spot_of_call x.setting.layout m) aim m step answer))
-    → LeaseWrites (next_of_lease x.setting (seen x) s (spot_of_call x.setting.layout m) aim m step answer)
-answers_well x s work step m answer aim w h is on asked =
+    → goes_on x.setting (seen x) s work ≡ true → LeaseWrites (next_of_lease x.setting (seen x) s (spot_of_call x.setting.layout m) aim m step answer)
+answers_well x s work step m answer aim w h is on =
     let inside = there_has x.setting (seen x) s.number s (heard_has x s m answer h) in
     let aligned = spot_aligned x.setting.layout.area m.call.offset in
     let active : is_active x.setting (seen x) s ≡ true = by work is on in
     answers_known (lease_place x.setting s) (known x.setting (seen x) s (spot_of_call x.setting.layout m)) aim m.call.number _ step answer
     (may_write x s (spot_of_call x.setting.layout m) w inside (w.facts.delta.numbers s inside (active_is_joined x.setting (seen x) s active))) (own_well x s (spot_of_call x.setting.layout m) w inside aligned)
     (lead_well x s (spot_of_call x.setting.layout m) w inside active aligned) (read_well x s (spot_of_call x.setting.layout m))
-    (λ sets. set_own x s work m answer w h (subst (λ z. m.call.purpose ≡ Lease work z) sets is)) (λ e. held_under x s (spot_of_call x.setting.layout m) e w inside) (λ n. won_under x s (spot_of_call x.setting.layout m) n w inside aligned) asked
+    (λ sets. set_own x s work m answer w h (subst (λ z. m.call.purpose ≡ Lease work z) sets is)) (λ e. held_under x s (spot_of_call x.setting.layout m) e w inside) (λ n. won_under x s (spot_of_call x.setting.layout m) n w inside aligned)
+    (λ reads. begun_own x s work m answer w h (subst (λ z. m.call.purpose ≡ Lease work z) reads is))
   where
     by : (work : Work) → m.call.purpose ≡ Lease work step → goes_on x.setting (seen x) s work ≡ true → is_active x.setting (seen x) s ≡ true
     by Settling is on = on

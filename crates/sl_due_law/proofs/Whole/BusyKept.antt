@@ -23,12 +23,12 @@ use Rattle.sl_due_law.proofs.Whole.ActsRest.{Heard, Rested, answer_acts_rest, ot
 use Rattle.sl_due_law.proofs.Whole.AllIsKept.{all_begins}
 use Rattle.sl_due_law.proofs.Whole.BusyActs.{Busy, BusyHeard, answered_busy, lined_busy, seen_busy}
 use Rattle.sl_due_law.proofs.Whole.BusyRests.{Walks, alone, asked_busy, from_busy, heard_alone, joined_busy, late_alone, lone_is, replied_busy, unfound_alone, walk, walked}
-use Rattle.sl_due_law.proofs.Whole.TracesHold.{due_is_lawful_with, step_holds, traces_hold}
+use Rattle.sl_due_law.proofs.Whole.TracesHold.{traces_are_lawful, step_holds, traces_hold}
 use Rattle.sl_due_law.proofs.Whole.WaitsAtEnd.{none_idle}
 use Rattle.sl_due_law.proofs.Whole.WaitsStay.{waits_called}
 use Rattle.sl_due_law.specs.Whole.Busy.{AllWait, For_call, For_child, For_leaving, For_session, Waits, told_by}
 use Rattle.sl_due_law.specs.Whole.Kept.{Holds, Kept}
-use Rattle.sl_due_law.specs.Whole.Promises.{ActsAsked, DueIsWellWith, EntriesAreCaused, JobsAsked, MayRest, NoneIsIdleWith}
+use Rattle.sl_due_law.specs.Whole.Promises.{DueIsWellWith, EntriesAreCaused, JobsAsked, MayRest, NoneIsIdleWith}
 use Rattle.sl_due_law.proofs.Jobs.AnsweredCallsFit.{both_of}
 use Rattle.sl_due_law.proofs.Jobs.CallsHaveFacts.{sessions_bare}
 use Rattle.sl_due_law.proofs.Jobs.CallsOfJobsFit.{joining_of}
@@ -131,9 +131,9 @@ carried_walk x text c d wake bare h = by (decision_plain K w j c d) where
       (with_input (Line text) x) (next_job x.setting (seen x)) c d may (λ n a joins. begins n a) lined
   by (inl k) = begun d k
 
-other_acts_wait : ActsAsked → JobsAsked → OtherActs Waiting
-other_acts_wait asked jobs =
-    let r : OtherActs Rested = other_acts_rest asked in
+other_acts_wait : JobsAsked → OtherActs Waiting
+other_acts_wait jobs =
+    let r : OtherActs Rested = other_acts_rest in
     record {
       kills = λ x s has due h.
           (r.kills x s has due h.0, alone (signal_holders Kill s x) x.input (signalled (Walks x.input None) (Walks x.input None) Anything NoLook AnyStart AnyMove (walk x.input None) tt x Kill s (from_busy x h.1)));
@@ -217,10 +217,10 @@ freed_stops x s j n answer writes = by answer writes where
   by Failed other = ended (IoFault n)
   by (Read bytes) other = absurd (other bytes refl)
 
-answer_acts_wait : ActsAsked → JobsAsked → AnswerActs HeardWaiting Waiting
+answer_acts_wait : JobsAsked → AnswerActs HeardWaiting Waiting
 unfolding after_value_read
-answer_acts_wait asked jobs =
-    let r : AnswerActs Heard Rested = answer_acts_rest asked in
+answer_acts_wait jobs =
+    let r : AnswerActs Heard Rested = answer_acts_rest in
     record {
       hears = λ x number answer wake bare expected h. (r.hears x number answer wake bare expected h.0, seen_busy x (Told number answer) wake bare refl h.1);
       finds_none = λ x number answer p1 p2 h. (r.finds_none x number answer p1 p2 h.0, unfound_alone x number answer h.0.0.known.0 p1 p2 h.1);
@@ -345,10 +345,10 @@ busy_begins st past now h = subst (λ y. Busy y) (sym said_so.is) (λ j there ru
   again j (For_leaving s k there is number) =
       For_leaving s k (subst (λ ss. Contains ss s) sessions_same there) (ap (λ o. elim o as (λ w. Option Job) [ Some a ↦ Some a | None ↦ None ]) is) number
 
-step_waits : ActsAsked → JobsAsked → (st : Setting) (past : Trace) (e : Entry) → FollowsTrace st past e → IsDue st past e → HoldsWaiting st past → HoldsWaiting st (e ∷ past)
-step_waits asked jobs st past e follows due_one h = record { holds = held; waits = λ j there runs. plain j runs (waits_end j there runs) } where
+step_waits : JobsAsked → (st : Setting) (past : Trace) (e : Entry) → FollowsTrace st past e → IsDue st past e → HoldsWaiting st past → HoldsWaiting st (e ∷ past)
+step_waits jobs st past e follows due_one h = record { holds = held; waits = λ j there runs. plain j runs (waits_end j there runs) } where
   held : Holds st (e ∷ past)
-  held = step_holds asked st past e follows due_one h.holds
+  held = step_holds st past e follows due_one h.holds
 
   fixed : Fixed st past e.reading (due_step st past e.reading e.input)
   fixed = due_is_of st past e.reading e.input
@@ -363,7 +363,7 @@ step_waits asked jobs st past e follows due_one h = record { holds = held; waits
   )
 
   at_end : Busy (due_step st past e.reading e.input)
-  at_end = (step_heeds HeardWaiting Waiting (other_acts_wait asked jobs) (answer_acts_wait asked jobs) st past e.reading e.input follows.expected begun).1
+  at_end = (step_heeds HeardWaiting Waiting (other_acts_wait jobs) (answer_acts_wait jobs) st past e.reading e.input follows.expected begun).1
 
   waits_end : AllWait st (e ∷ past) None (told_by e.input)
   waits_end =
@@ -379,21 +379,21 @@ step_waits asked jobs st past e follows due_one h = record { holds = held; waits
       absurd (not_both (is_running (e ∷ past) j.number) runs (jobs.starts st past e k j.number follows due_one h.holds held there its told))
   plain j runs (For_leaving s k there is number) = For_leaving s k there is number
 
-traces_wait : ActsAsked → JobsAsked → (st : Setting) (es : Trace) → IsSetting st → IsHostTrace st es → HoldsWaiting st es
-traces_wait asked jobs st [] setting h = record { holds = traces_hold asked st [] setting h; waits = λ j there runs. absurd (contains_none j there) }
-traces_wait asked jobs st (e ∷ past) setting h = step_waits asked jobs st past e h.0.0 h.1.0 (traces_wait asked jobs st past setting (h.0.1, h.1.1))
+traces_wait : JobsAsked → (st : Setting) (es : Trace) → IsSetting st → IsHostTrace st es → HoldsWaiting st es
+traces_wait jobs st [] setting h = record { holds = traces_hold st [] setting h; waits = λ j there runs. absurd (contains_none j there) }
+traces_wait jobs st (e ∷ past) setting h = step_waits jobs st past e h.0.0 h.1.0 (traces_wait jobs st past setting (h.0.1, h.1.1))
 
 pub none_is_idle_with : NoneIsIdleWith
-none_is_idle_with asked jobs st es setting h =
-    let w : HoldsWaiting st es = traces_wait asked jobs st es setting h in
+none_is_idle_with jobs st es setting h =
+    let w : HoldsWaiting st es = traces_wait jobs st es setting h in
     none_idle st es w.holds.whole.facts.names w.holds.whole.facts.jobs w.holds.whole.lawful.orderly w.waits
 
 -- ---- all together
 
-all_caused : ActsAsked → EntriesAreCaused → (st : Setting) (es : Trace) → IsSetting st → IsHostTrace st es → IsCaused st es
-all_caused asked caused st [] setting h = tt
-all_caused asked caused st (e ∷ past) setting h =
-    (caused st past e h.0.0 h.1.0 (traces_hold asked st past setting (h.0.1, h.1.1)) (traces_hold asked st (e ∷ past) setting h), all_caused asked caused st past setting (h.0.1, h.1.1))
+all_caused : EntriesAreCaused → (st : Setting) (es : Trace) → IsSetting st → IsHostTrace st es → IsCaused st es
+all_caused caused st [] setting h = tt
+all_caused caused st (e ∷ past) setting h =
+    (caused st past e h.0.0 h.1.0 (traces_hold st past setting (h.0.1, h.1.1)) (traces_hold st (e ∷ past) setting h), all_caused caused st past setting (h.0.1, h.1.1))
 
 pub due_is_well_with : DueIsWellWith
-due_is_well_with asked jobs caused st es setting h = (due_is_lawful_with asked st es setting h, all_caused asked caused st es setting h, none_is_idle_with asked jobs st es setting h)
+due_is_well_with jobs caused st es setting h = (traces_are_lawful st es setting h, all_caused caused st es setting h, none_is_idle_with jobs st es setting h)

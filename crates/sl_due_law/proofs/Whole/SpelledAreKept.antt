@@ -63,7 +63,7 @@ use Rattle.sl_acts.proofs.InputsKeep.{has_heard}
 use Rattle.sl_due_law.proofs.Whole.DeltaWrites.{WritesRecord, frees_well, joins_well, renews_well, wakes_well}
 use Rattle.sl_due_law.proofs.Whole.OwnRecords.{request_is, session_id}
 use Rattle.sl_due_law.specs.Whole.Kept.{Kept}
-use Rattle.sl_due_law.specs.Whole.Promises.{ActsAsked, SpelledSoFar}
+use Rattle.sl_due_law.specs.Whole.Promises.{SpelledSoFar}
 use Rattle.sl_due_law.specs.Whole.Writes.{LeaseWrites}
 use Rattle.sl_due_law.proofs.Holdings.LeaseCallers.{commands_fit}
 use Rattle.sl_due_law.proofs.Jobs.EffectsAreAllowed.{removal, signalled}
@@ -233,9 +233,9 @@ carried_spelled x text c d k wake bare says is =
 
 -- ---- all acts
 
-pub spelled_are_kept : ActsAsked → Acts Kept SpelledSoFar
+pub spelled_are_kept : Acts Kept SpelledSoFar
 unfolding after_value_read
-spelled_are_kept a =
+spelled_are_kept =
     record {
       kills = λ x s has due h. signalled SpelledSoFar SpelledSoFar Anything Spelled AnyStart AnyMove spelled_effects tt x Kill s (spelled_now x h);
       hears = λ x number answer wake bare expected h. spelled_now x h;
@@ -273,7 +273,7 @@ spelled_are_kept a =
           (stopped SpelledSoFar SpelledSoFar Anything Spelled AnyStart AnyMove spelled_effects tt x s None (λ z k j there. tt) (spelled_now x h));
       leads_on = λ x s work step m answer aim hears is on aims h.
           (lease SpelledSoFar SpelledSoFar Anything Spelled AnyStart AnyMove spelled_effects x s (spot_of_call x.setting.layout m) work (next_of_lease x.setting (seen x) s (spot_of_call x.setting.layout m) aim m step answer)
-          (lease_allowed x s (spot_of_call x.setting.layout m) work (next_of_lease x.setting (seen x) s (spot_of_call x.setting.layout m) aim m step answer) (answers_well x s work step m answer aim h.known.0 hears is on (λ asked. a.leads x s work step m answer aim h hears is on aims asked))) (spelled_now x h));
+          (lease_allowed x s (spot_of_call x.setting.layout m) work (next_of_lease x.setting (seen x) s (spot_of_call x.setting.layout m) aim m step answer) (answers_well x s work step m answer aim h.known.0 hears is on)) (spelled_now x h));
       fails = λ x s m j hears lone runs h.
           (spelled_effects.replies x j (IoFault m.call.number) tt (spelled_now x h));
       has_asked = λ x s m j owner hears is runs h.

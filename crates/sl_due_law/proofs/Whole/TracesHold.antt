@@ -10,7 +10,7 @@ use Rattle.sl_due_law.proofs.Whole.ActsRest.{Heard, Rested, answer_acts_rest, ot
 use Rattle.sl_due_law.proofs.Whole.AllIsKept.{all_begins}
 use Rattle.sl_due_law.proofs.Whole.FirstFacts.{facts_at_first, grounds_rest}
 use Rattle.sl_due_law.specs.Whole.Kept.{Holds, Kept, Rests}
-use Rattle.sl_due_law.specs.Whole.Promises.{ActsAsked, DueIsLawfulWith, TracesHold}
+use Rattle.sl_due_law.specs.Whole.Promises.{TracesAreLawful, TracesHold}
 use Rattle.sl_law.specs.Lawful.{Lawful, Orderly}
 use Rattle.sl_law.specs.LawfulExit.{LawfulExit}
 use Rattle.sl_due_law.proofs.Ways.Kept.StepsBegin.{turns_rest}
@@ -144,8 +144,8 @@ at_end st past e y setting before entry k r =
       watches = r.watches;
     })))
 
-pub step_holds : ActsAsked → (st : Setting) (past : Trace) (e : Entry) → FollowsTrace st past e → IsDue st past e → Holds st past → Holds st (e ∷ past)
-step_holds asked st past e follows due_one h = by (step_heeds Heard Rested (other_acts_rest asked) (answer_acts_rest asked) st past e.reading e.input follows.expected begun) where
+pub step_holds : (st : Setting) (past : Trace) (e : Entry) → FollowsTrace st past e → IsDue st past e → Holds st past → Holds st (e ∷ past)
+step_holds st past e follows due_one h = by (step_heeds Heard Rested other_acts_rest answer_acts_rest st past e.reading e.input follows.expected begun) where
   kept_first : Kept (begin_recoveries (begin_step st past e.reading))
   kept_first = all_begins st past e follows h
 
@@ -190,8 +190,8 @@ first_kills : (st : Setting) → KillFacts st []
 first_kills st = record { recovery = λ s b there is. absurd (none_some b is); leaving = λ s b there is. absurd (none_some b is) }
 
 pub traces_hold : TracesHold
-traces_hold asked st [] setting h = record { whole = record { setting = setting; lawful = first_lawful st; facts = facts_at_first st setting }; watches = nothing_was_read st; kills = first_kills st }
-traces_hold asked st (e ∷ past) setting h = step_holds asked st past e h.0.0 h.1.0 (traces_hold asked st past setting (h.0.1, h.1.1))
+traces_hold st [] setting h = record { whole = record { setting = setting; lawful = first_lawful st; facts = facts_at_first st setting }; watches = nothing_was_read st; kills = first_kills st }
+traces_hold st (e ∷ past) setting h = step_holds st past e h.0.0 h.1.0 (traces_hold st past setting (h.0.1, h.1.1))
 
-pub due_is_lawful_with : DueIsLawfulWith
-due_is_lawful_with asked st es setting h = (traces_hold asked st es setting h).whole.lawful
+pub traces_are_lawful : TracesAreLawful
+traces_are_lawful st es setting h = (traces_hold st es setting h).whole.lawful

@@ -8,7 +8,6 @@ use Rattle.sl_due.specs.Steps.{Step, seen, with_input}
 use Rattle.sl_due.specs.declared.decision.Decision.{Decision}
 use Rattle.sl_due_law.specs.Whole.Busy.{Waits, told_by}
 use Rattle.sl_due_law.specs.Whole.Kept.{Holds, Kept}
-use Rattle.sl_due_law.specs.Whole.Writes.{LeaseWrites, is_asked_of}
 use Rattle.sl_law.specs.Caused.{AnswersWell, IsCaused}
 use Rattle.sl_law.specs.Lawful.{IsSetting, Lawful}
 use Rattle.sl_law.specs.LawfulCalls.{may_submit}
@@ -53,13 +52,6 @@ is_lone_read p = false
 abbrev pub LonesSoFar : Step → Type 0
 LonesSoFar x = EachCall x.setting (λ es s c. IsTrue (is_lone_read c.call.purpose) → IsTrue (may_submit (stage_of es s))) x.past (entry_of x)
 
--- What is asked of the acts besides what is shown: that what a lease decides to write after the read of phase 1 is a record. (All else that is
--- written is shown to be one.)
-pub record ActsAsked : Type 0 where
-  pub leads : (x : Step) (s : Session) (work : Work) (step : LeaseStep) (m : Submitted) (answer : Answer) (aim : Aim) → Kept x → Hears x s m answer →
-      m.call.purpose ≡ Lease work step → goes_on x.setting (seen x) s work ≡ true → aim_of x.setting (seen x) work ≡ Some aim → is_asked_of step answer ≡ true →
-      LeaseWrites (next_of_lease x.setting (seen x) s (spot_of_call x.setting.layout m) aim m step answer)
-
 -- The facts hold before the first entry.
 abbrev pub FactsAtFirst : Type 0
 FactsAtFirst = (st : Setting) → IsSetting st → Facts st [] None
@@ -89,18 +81,18 @@ pub record JobsAsked : Type 0 where
   pub starts : (st : Setting) (past : Trace) (e : Entry) (k : Child) (j : ℕ) → FollowsTrace st past e → IsDue st past e → Holds st past → Holds st (e ∷ past) →
       Contains (children (e ∷ past)) k → k.job ≡ Some j → told_by e.input ≡ Some k.process → is_running (e ∷ past) j ≡ false
 
--- With these each trace of steps that are due holds.
+-- Each trace of steps that are due holds.
 abbrev pub TracesHold : Type 0
-TracesHold = ActsAsked → (st : Setting) (es : Trace) → IsSetting st → IsHostTrace st es → Holds st es
+TracesHold = (st : Setting) (es : Trace) → IsSetting st → IsHostTrace st es → Holds st es
 
 -- So what is due is lawful.
-abbrev pub DueIsLawfulWith : Type 0
-DueIsLawfulWith = ActsAsked → (st : Setting) (es : Trace) → IsSetting st → IsHostTrace st es → Lawful st es
+abbrev pub TracesAreLawful : Type 0
+TracesAreLawful = (st : Setting) (es : Trace) → IsSetting st → IsHostTrace st es → Lawful st es
 
 -- No job is idle.
 abbrev pub NoneIsIdleWith : Type 0
-NoneIsIdleWith = ActsAsked → JobsAsked → (st : Setting) (es : Trace) → IsSetting st → IsHostTrace st es → NoIdleJob st es
+NoneIsIdleWith = JobsAsked → (st : Setting) (es : Trace) → IsSetting st → IsHostTrace st es → NoIdleJob st es
 
 -- And all together.
 abbrev pub DueIsWellWith : Type 0
-DueIsWellWith = ActsAsked → JobsAsked → EntriesAreCaused → (st : Setting) (es : Trace) → IsSetting st → IsHostTrace st es → Lawful st es × IsCaused st es × NoIdleJob st es
+DueIsWellWith = JobsAsked → EntriesAreCaused → (st : Setting) (es : Trace) → IsSetting st → IsHostTrace st es → Lawful st es × IsCaused st es × NoIdleJob st es
