@@ -1,3 +1,17 @@
+pub mod ToldProcesses
+pub mod PlainMakings
+pub mod LineMakings
+pub mod AnswerMakings
+pub mod MakingsAreKept
+pub mod LooksAreKept
+pub mod EntryMakings
+pub mod CallsBehind
+pub mod LineComes
+pub mod ChildrenHold
+pub mod ReleasedAtLines
+pub mod CauseFactsHold
+pub mod DoneAtLines
+pub mod AnswersAreWell
 pub mod LaterSteps
 pub mod AnsweredJobs
 pub mod PlainCauses
@@ -7,6 +21,7 @@ pub mod JoinCauses
 pub mod WakeCauses
 pub mod RecoveryCauses
 pub mod ExitCauses
+pub mod LaterCauses
 pub mod CausesAreKept
 pub mod RepliesRun
 pub mod LineCauses

@@ -9,3 +9,4 @@ pub mod Recovery
 pub mod Connections
 pub mod Causes
 pub mod Whole
+pub mod Due

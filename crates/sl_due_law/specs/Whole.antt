@@ -3,3 +3,4 @@ pub mod Kept
 pub mod Lones
 pub mod Busy
 pub mod Promises
+pub mod JobLore

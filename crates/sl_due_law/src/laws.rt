@@ -5,6 +5,7 @@
 
 pub mod causes;
 pub mod connections;
+pub mod due;
 pub mod grants;
 pub mod holdings;
 pub mod jobs;

@@ -9,3 +9,4 @@ pub mod RefusedByLaw
 pub mod Spans
 pub mod ReadCommands
 pub mod RecordBytes
+pub mod SettingsMatter

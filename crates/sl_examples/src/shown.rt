@@ -1,5 +1,6 @@
 //! What the worked schedules show.
 
+ghost use Rattle.sl_examples.specs.Settings.{SettingsMatter};
 ghost use Rattle.sl_examples.specs.Shown.{SchedulesReplay, TracesKeepLaws, LiteralTracesKeepLaws, RunsStaySafe, LinesAreRefused};
 
 /// Each worked schedule gives its report, each daemon doing what is due.
@@ -25,4 +26,9 @@ pub fn runs_stay_safe()
 /// Lines are refused, each by its own text.
 pub fn lines_are_refused()
     ensures { LinesAreRefused }
+{}
+
+/// What is due is lawful only in the settings that a daemon may be made of: without that premise a first read within a sector is due.
+pub fn settings_matter()
+    ensures { SettingsMatter }
 {}

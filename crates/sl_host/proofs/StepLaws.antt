@@ -2,7 +2,8 @@
 use Rattle.sl_due.specs.Due.{due}
 use Rattle.sl_host.specs.Expected.{IsLawfulAt, StepsAt}
 use Rattle.sl_host.specs.Hosts.{HostStands, HostState, Steps}
-use Rattle.sl_still_law.proofs.Lawfully.Whole.{traces_are_lawful}
+use Rattle.sl_due_law.proofs.Causes.AnswersAreWell.{traces_are_caused}
+use Rattle.sl_due_law.proofs.Whole.TracesHold.{traces_are_lawful}
 use Rattle.sl_trace.specs.Traces.{Setting, Trace}
 use Rattle.sl_trace.specs.declared.effects.Effects.{Effects}
 use Rattle.sl_trace.specs.declared.input.Input.{Input}
@@ -27,8 +28,10 @@ step_ok h after now i j (Err e) reading is steps = tt
 
 pub stands_lawful : (h : HostState) (st : Setting) (es : Trace) → HostStands h st es → IsLawfulAt st es
 stands_lawful h st es k =
-    let whole = traces_are_lawful st h.reading k.setting.still k.setting.setting es k.stands.due_so_far k.hears in
-    record { lawful = whole.0; caused = whole.1 }
+    record {
+      lawful = traces_are_lawful st es k.setting.setting k.stands.due_so_far;
+      caused = traces_are_caused st es k.setting.setting k.stands.due_so_far;
+    }
 
 pub lawful_ok : {E : Type 0} (h after : HostState) (now : ℕ) (i : Input) (r : Result Effects E) → IfOk r (λ fx. (st : Setting) (es : Trace) → HostStands h st es → StepsAt after st es now i fx)
     → IfOk r (λ fx. (st : Setting) (es : Trace) → HostStands h st es → IsLawfulAt st (record { reading = now; input = i; effects = fx } ∷ es))

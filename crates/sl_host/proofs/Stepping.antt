@@ -1,7 +1,7 @@
 -- A step of the host is what is due, and it then stands for the trace with the step's entry: a line that is answered at once, a lease that
 -- begins, gives back or goes on.
 use Rattle.sl_first.specs.FirstPath.{first_effects, one_reply}
-use Rattle.sl_first_law.specs.Cause.Promises.{is_line_or_answer}
+use Rattle.sl_still.specs.StillPath.{is_line_or_answer}
 use Rattle.sl_lease_host.specs.LeaseHosts.{KeepsAt, KeepsLease, LeaseHostState, lease_of}
 use Rattle.sl_plain.proofs.Lists.{contains_none}
 use Rattle.sl_still.proofs.Entered.{line_next}

@@ -5,7 +5,7 @@ use Rattle.sl_due.specs.Steps.{Step, seen, with_some}
 use Rattle.sl_first.proofs.Courses.{course_live}
 use Rattle.sl_first.specs.FirstPath.{Doing, first_effects, one_reply}
 use Rattle.sl_first.specs.FirstSteps.{Begins_phase1, Begins_phase2, Goes_on_phase1, Goes_on_phase2, Grants, IsNamed, Live, OnCourse, Replies_late, Takes, first_known, process_of}
-use Rattle.sl_first_law.specs.Ballot.Ways.{ballot_place}
+use Rattle.sl_still.specs.StillSteps.{ballot_place}
 use Rattle.sl_leases.specs.Leases.{lver_written, spot_of}
 use Rattle.sl_leases.specs.declared.lease.LeaseNext.TheVariants.{AnswerJob, GrantJob, ReadFor, WriteBlock, WriteLeader}
 use Rattle.sl_leases.specs.declared.lease.LeaseNext.{LeaseNext}

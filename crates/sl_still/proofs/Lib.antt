@@ -23,6 +23,3 @@ pub mod ToldStands
 pub mod ToldShapes
 pub mod Beginning
 pub mod Shapes
-pub mod Places
-pub mod Whole
-pub mod Asking

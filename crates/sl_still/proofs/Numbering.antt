@@ -1,6 +1,6 @@
 -- Calls are numbered in order, so a number names one call.
 use Rattle.sl_first.proofs.Growth.{same_number}
-use Rattle.sl_first_law.specs.Ballot.Ways.{Numbered}
+use Rattle.sl_still.specs.StillSteps.{Numbered}
 use Rattle.sl_plain.proofs.Lists.{contains_cases, contains_none}
 use Rattle.sl_trace_law.proofs.Sessions.Making.{same_answered}
 use Rattle.sl_trace.specs.Traces.{IsTrace, Setting, Submitted, Trace, answered_in, call_numbered, mark, new_call, submitted}

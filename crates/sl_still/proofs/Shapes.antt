@@ -2,7 +2,7 @@
 use Rattle.sl_due.specs.Due.{IsDue, IsHostTrace, due}
 use Rattle.sl_first.specs.FirstPath.{Doing, first_effects}
 use Rattle.sl_first.specs.FirstSteps.{Holds, Idle, Phase, Works}
-use Rattle.sl_first_law.specs.Cause.Promises.{is_line_or_answer}
+use Rattle.sl_still.specs.StillPath.{is_line_or_answer}
 use Rattle.sl_leases.specs.declared.lease.LeaseNext.{LeaseNext}
 use Rattle.sl_plain.proofs.Lists.{contains_first, contains_more}
 use Rattle.sl_still.proofs.Begun.{line_state}

@@ -1,5 +1,4 @@
 pub mod StillPath
 pub mod StillLeases
 pub mod StillSteps
-pub mod StillWhole
 pub mod Promises

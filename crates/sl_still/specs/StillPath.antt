@@ -2,7 +2,6 @@
 -- session and an area; all that the laws ask of it is a function of its own calls and its own holding.
 use Rattle.sl_area.specs.Places.{is_base}
 use Rattle.sl_first.specs.FirstSteps.{first_grant, first_over}
-use Rattle.sl_first_law.specs.Cause.Promises.{is_line_or_answer}
 use Rattle.sl_leases.specs.Leases.{is_lease_call, lease_step, spot_of, spot_of_call}
 use Rattle.sl_sessions.specs.Sessions.{delta_written, generation_of, given_session, is_active, is_joined, leaving_job, removed_after, renewing, session_named, session_numbered}
 use Rattle.sl_sessions.specs.Watching.{counts_over}
@@ -17,7 +16,7 @@ use Rattle.sl_trace.specs.declared.effects.Entry.{Entry}
 use Rattle.sl_trace.specs.declared.effects.Grant.{Grant}
 use Rattle.sl_trace.specs.declared.effects.Spot.{Spot}
 use Rattle.sl_trace.specs.declared.input.Given.{Given}
-use Rattle.sl_trace.specs.declared.input.Input.TheVariants.{Wake}
+use Rattle.sl_trace.specs.declared.input.Input.TheVariants.{Answer as Told, Line, Wake}
 use Rattle.sl_trace.specs.declared.input.Input.{Input}
 use Rattle.sl_words.specs.Bounds.{moments}
 use Rattle.std.specs.Int.{is_in_range}
@@ -52,6 +51,12 @@ pub record IsStill (st : Setting) (now : ℕ) : Type 0 where
   pub sector : 1 ≤ st.layout.sector
   pub roomy : st.layout.sector * (st.layout.hosts + 2) ≤ st.layout.area
   pub reads : (text : List ℕ) → IsStillCommand st (st.read text)
+
+-- Whether a line or an answer comes.
+abbrev pub is_line_or_answer : Input → Bool
+is_line_or_answer (Line text) = true
+is_line_or_answer (Told call a) = true
+is_line_or_answer i = false
 
 -- In each entry a line or an answer comes, and the clock stands.
 abbrev pub HearsStill : ℕ → Trace → Type 0

@@ -1,8 +1,9 @@
 -- What such a daemon does in an entry: a line is answered at once, or one of its leases moves. The calls are those of a daemon of one
 -- session and one resource, made for the lease's session.
+use Rattle.sl_trace.specs.declared.input.Given.{Given}
+use Rattle.sl_leases.specs.LeaseWork.{LeasePlace}
 use Rattle.sl_due.specs.DueCommands.{decided}
 use Rattle.sl_due.specs.declared.decision.Decision.TheVariants.{Replies}
-use Rattle.sl_first_law.specs.Ballot.Ways.{ballot_place}
 use Rattle.sl_first.specs.FirstPath.{Doing, first_effects, heeded_call, next_doing, one_reply}
 use Rattle.sl_first.specs.FirstSteps.{Holds, Idle, IsNamed, Live, Phase, Works, blocks_read, first_aim, first_known, first_next, first_read, goes_on_with, last_write, leader_write, own_write, process_of}
 use Rattle.sl_leases.specs.declared.lease.LeaseNext.TheVariants.{AnswerJob, BecomeExclusive, BecomeShared, GrantJob, Nothing, ReadFor, WriteBlock, WriteLeader}
@@ -25,7 +26,16 @@ use Rattle.sl_trace.specs.declared.reply.Limited.TheVariants.{Holders, Resources
 use Rattle.sl_trace.specs.declared.reply.Limited.{Limited}
 use Rattle.sl_trace.specs.declared.reply.Reply.TheVariants.{BadCommand as Misread, Busy, Granted, Limit as LimitReached, NoProcess, NoSession, NotHeld, Pending}
 use Rattle.sl_trace.specs.declared.reply.Reply.{Reply}
-use Rattle.std.specs.Prelude.{Bool, Err, List, Ok, false, true, [], ℕ, ◌∷◌, ◌≡◌}
+use Rattle.std.specs.Prelude.{Bool, Err, List, Ok, [], false, length, true, ℕ, ◌+◌, ◌∷◌, ◌≡◌}
+
+-- Where the leases of a session stand.
+abbrev pub ballot_place : Setting → Given → LeasePlace
+ballot_place st g = record { layout = st.layout; lockspace = g.lockspace }
+
+-- Each call has the number that follows those before it.
+abbrev pub Numbered : Setting → List Submitted → Type 0
+Numbered st [] = Unit {0}
+Numbered st (m ∷ ms) = (m.call.number ≡ st.first.call + length ms) × Numbered st ms
 
 -- ---- a line that is answered at once
 

@@ -1,6 +1,6 @@
 //! What is due of a daemon of several given sessions and any resources, by where its leases stand.
 
-ghost use Rattle.sl_still.specs.Promises.{EntriesAreShaped, LeasesAreKnown, MovesFindTheirPlace, SessionsStand, StillBegins};
+ghost use Rattle.sl_still.specs.Promises.{EntriesAreShaped, LeasesAreKnown, SessionsStand, StillBegins};
 
 /// The sessions are those that were given, and each stays joined, out of recovery, and of the first generation.
 pub fn sessions_stand()
@@ -21,9 +21,4 @@ pub fn still_begins()
 /// grant with its reply. All other leases stay as they are.
 pub fn entries_are_shaped()
     ensures { EntriesAreShaped }
-{}
-
-/// Where a lease makes a call, all its calls are answered, and it holds nothing.
-pub fn moves_find_their_place()
-    ensures { MovesFindTheirPlace }
 {}

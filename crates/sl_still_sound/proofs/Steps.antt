@@ -1,7 +1,7 @@
 -- A step of a daemon of several given sessions: it is small, and the daemon stays one.
 use Rattle.sl_due.specs.Due.{due}
 use Rattle.sl_first.specs.FirstPath.{Doing}
-use Rattle.sl_first_law.specs.Cause.Promises.{is_line_or_answer}
+use Rattle.sl_still.specs.StillPath.{is_line_or_answer}
 use Rattle.sl_leases.specs.declared.lease.LeaseNext.TheVariants.{AnswerJob, BecomeExclusive, BecomeShared, GrantJob, Nothing, ReadFor, WriteBlock, WriteLeader}
 use Rattle.sl_leases.specs.declared.lease.LeaseNext.{LeaseNext}
 use Rattle.sl_still.proofs.Comes.{Comes_begins, Comes_gives, Comes_refused, LineComes, line_comes}
@@ -9,7 +9,7 @@ use Rattle.sl_still.proofs.Lists.{given_at, place_of}
 use Rattle.sl_still.specs.StillLeases.{StillStands, Table}
 use Rattle.sl_still.specs.StillPath.{HearsStill, IsStill, IsStillGiven, StillLease, still_entry}
 use Rattle.sl_still.specs.StillSteps.{lease_comes, lease_effects, refused_entry}
-use Rattle.sl_still_law.proofs.Lawfully.Whole.{traces_are_lawful}
+use Rattle.sl_due_law.proofs.Whole.TracesHold.{traces_are_lawful}
 use Rattle.sl_still_sound.specs.StillDaemons.{IsStillDaemon}
 use Rattle.sl_still_step.proofs.AnswerSteps.{answers_step}
 use Rattle.sl_still_step.proofs.Answered.{answers_find}
@@ -56,7 +56,7 @@ with_effects : (st : Setting) (es : Trace) (x : IsStillDaemon st es) (i : Input)
     → StillStands st x.now U (still_entry x.now i fx ∷ es) → StepsOn st es x.now i
 with_effects st es x i fx U kind is few stands =
     let hears : HearsStill x.now (still_entry x.now i fx ∷ es) = ((refl, kind), x.hears) in
-    let lawful = (traces_are_lawful st x.now x.still x.setting (still_entry x.now i fx ∷ es) stands.due_so_far hears).0 in
+    let lawful = traces_are_lawful st (still_entry x.now i fx ∷ es) x.setting stands.due_so_far in
     subst (λ y. IsSmall es (entry_of x.now i y) × IsStillDaemon st (entry_of x.now i y ∷ es)) (sym is) (
       record {
         apart = open_apart st x.now U (still_entry x.now i fx ∷ es) stands;

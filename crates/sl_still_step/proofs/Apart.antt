@@ -1,7 +1,7 @@
 -- Open calls have numbers of their own, and holdings at one place are one lease's.
 use Rattle.sl_first.proofs.Growth.{same_number}
 use Rattle.sl_first.specs.FirstSteps.{Holds, Phase}
-use Rattle.sl_first_law.specs.Ballot.Ways.{Numbered}
+use Rattle.sl_still.specs.StillSteps.{Numbered}
 use Rattle.sl_run.specs.Conflicts.{conflicts}
 use Rattle.sl_still.proofs.Leases.{spot_self}
 use Rattle.sl_still.proofs.Numbering.{calls_numbered}

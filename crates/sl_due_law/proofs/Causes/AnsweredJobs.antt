@@ -1,4 +1,6 @@
 -- The job that is answered, and the call whose answer does it, at each later step of the entry.
+use Rattle.sl_words.proofs.CaseLaws.{false_is_true}
+use Rattle.sl_trace.specs.declared.effects.Entry.{Entry}
 use Rattle.sl_acts.specs.Acts.{Hears}
 use Rattle.sl_due_law.specs.Causes.CausedSoFar.{IsCarried, IsLater, answering}
 use Rattle.sl_due.specs.Steps.{Step, seen}
@@ -13,7 +15,7 @@ use Rattle.sl_leases.specs.Leases.{spot_of}
 use Rattle.sl_plain.proofs.Lists.{find_inside}
 use Rattle.sl_plain.proofs.Numbers.{number_itself}
 use Rattle.sl_sessions.specs.declared.session.Session.{Session}
-use Rattle.sl_trace.specs.Traces.{Job, Setting, Submitted, Trace, job_numbered, job_of, jobs, no_effects, submitted}
+use Rattle.sl_trace.specs.Traces.{Job, Replied, Setting, Submitted, Trace, is_running, job_numbered, job_of, jobs, no_effects, reply_in, reply_to, submitted}
 use Rattle.sl_trace.specs.declared.command.Command.{Command}
 use Rattle.sl_trace.specs.declared.command.ResourceArg.{ResourceArg}
 use Rattle.sl_trace.specs.declared.effects.Spot.{Spot}
@@ -21,9 +23,9 @@ use Rattle.sl_trace.specs.declared.input.Answer.{Answer}
 use Rattle.sl_trace.specs.declared.input.Input.TheVariants.{Answer as Told, Wake}
 use Rattle.sl_trace.specs.declared.input.Input.{Input}
 use Rattle.sl_words.specs.Words.{some_is}
-use Rattle.std.proofs.Common.{ap, subst, sym, ◌∙◌}
+use Rattle.std.proofs.Common.{ap, refl, subst, sym, ◌∙◌}
 use Rattle.std.proofs.lemmas.Bool.{eqb-true}
-use Rattle.std.specs.Prelude.{Contains, Err, IsSomeAnd, List, Ok, Result, Some, find, length, option_and_then, ℕ, ◌==◌, ◌∷◌, ◌≡◌}
+use Rattle.std.specs.Prelude.{Contains, Err, IsSomeAnd, List, None, Ok, Option, Result, Some, find, is_none, length, option_and_then, true, ℕ, ◌==◌, ◌∷◌, ◌≡◌}
 
 -- ---- the job
 
@@ -45,6 +47,13 @@ number_is st t n j is = eqb-true j.number n (find_inside (λ (k : Job). k.number
 
 pub its_command : (st : Setting) (t : Trace) (n : ℕ) (j : Job) (c : Command) → job_numbered st t n ≡ Some j → command_numbered st t n ≡ Some c → j.command ≡ Ok c
 its_command st t n j c is says = command_read j c (sym (ap (λ o. option_and_then command_of o) is) ∙ says)
+
+-- Who runs ran before.
+pub ran_past : (past : Trace) (e : Entry) (j : ℕ) → is_running (e ∷ past) j ≡ true → is_running past j ≡ true
+ran_past past e j runs = by (reply_to past j) refl runs where
+  by : (o : Option Replied) → reply_to past j ≡ o → is_none (elim o as (λ z. Option Replied) [ Some r ↦ Some r | None ↦ reply_in j past e ]) ≡ true → is_running past j ≡ true
+  by None none is = ap (λ o. is_none o) none
+  by (Some r) has is = absurd (false_is_true is)
 
 -- ---- what a job says
 

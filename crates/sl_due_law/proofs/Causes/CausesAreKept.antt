@@ -1,11 +1,12 @@
 -- Each act gives its replies with their causes, and leaves those of the replies before it.
+use Rattle.sl_due_law.proofs.Causes.LaterCauses.{released_caused, requested_caused, set_caused, started_caused}
 use Rattle.sl_acts.proofs.Additions.{contains_last}
 use Rattle.sl_acts.proofs.LoopsKeep.{for_each_keeps, when_keeps}
 use Rattle.sl_acts.proofs.InputsKeep.{has_heard}
 use Rattle.sl_acts.specs.Acts.{Has, Hears}
 use Rattle.sl_acts.specs.SoFar.{entry_of}
 use Rattle.sl_due_law.proofs.Causes.JoinCauses.{concluded_call, goes_on_still, joining_may, joining_well}
-use Rattle.sl_due_law.proofs.Causes.LaterSteps.{AnyMove, Going, MayAnswer, MayCall, MayStart, after_that, answer_caused, before_later, begins, by_effects, going, no_line, seen_caused, still_caused, told_no_line, wake_no_line}
+use Rattle.sl_due_law.proofs.Causes.LaterSteps.{AnyMove, Going, MayAnswer, MayCall, MayStart, after_that, answer_caused, before_later, begins, by_effects, facts_later, going, no_line, seen_caused, still_caused, told_no_line, wake_no_line}
 use Rattle.sl_due_law.proofs.Causes.Leases.GrantCauses.{JobLed, exclusive_done, grant_done, shared_done}
 use Rattle.sl_due_law.proofs.Causes.Leases.LeaseAnswers.{led_caused}
 use Rattle.sl_due_law.proofs.Causes.PlainCauses.{fault_caused, freed_may, lone_of, request_caused, spawn_caused, told_caused}
@@ -39,7 +40,7 @@ use Rattle.sl_due_law.proofs.Jobs.SessionsStand.{recovery_joined}
 use Rattle.sl_due_law.proofs.Jobs.CallsHaveFacts.{sessions_bare}
 use Rattle.sl_leases.specs.Jobs.{aim_of, is_job_of_process, command_numbered, job_of_start, resource_named}
 use Rattle.sl_leases.specs.LeaseWork.{LeasePlace, convert_next, lease_place, release_next, settle_next}
-use Rattle.sl_leases.specs.Leases.{LeaseKnown, known, lease_step, lver_written, spot_of, spot_of_call, value_written}
+use Rattle.sl_leases.specs.Leases.{LeaseKnown, known, lease_step, lver_written, spot_of, spot_of_call}
 use Rattle.sl_leases.specs.declared.lease.Aim.{Aim}
 use Rattle.sl_leases.specs.declared.lease.LeaseNext.TheVariants.{AnswerJob, BecomeExclusive, BecomeShared, GrantJob, Nothing as No_lease, ReadFor, WriteBlock, WriteLeader}
 use Rattle.sl_leases.specs.declared.lease.LeaseNext.{LeaseNext}
@@ -51,9 +52,7 @@ use Rattle.sl_plain.proofs.Lists.{contains_none, got_inside}
 use Rattle.sl_sector.specs.Bitmaps.{no_bits}
 use Rattle.sl_sector.specs.declared.sector.DeltaState.TheVariants.{Free, Live}
 use Rattle.sl_sector.specs.declared.sector.Rec.TheVariants.{DeltaIs}
-use Rattle.sl_trace.specs.declared.reply.DeltaVersion.{DeltaVersion}
 use Rattle.sl_sector.specs.declared.sector.DeltaRec.{DeltaRec}
-use Rattle.sl_sector.specs.declared.sector.ValueRec.{ValueRec}
 use Rattle.sl_sessions.specs.Deltas.{DeltaLease, delta_record, is_renewal_due, own_offset, delta_known, delta_of_session, next_after_free, next_after_renewal, next_free, next_in_joining, next_on_wake, next_renewal}
 use Rattle.sl_sessions.specs.Sessions.{is_joined, is_present, renewed_by, begun_in, calls_of, generation_of, joining_session, last_renewal, last_seq, present_sessions, recovery_of, sessions}
 use Rattle.sl_sessions.specs.declared.delta.DeltaNext.TheVariants.{MoveConnection, Nothing, WriteFree, WriteRenewal}
@@ -86,12 +85,11 @@ use Rattle.sl_trace.specs.declared.input.Answer.TheVariants.{Failed, Read, Writt
 use Rattle.sl_trace.specs.declared.input.Answer.{Answer}
 use Rattle.sl_trace.specs.declared.input.Input.TheVariants.{Answer as Told, Exit, Line, Number, Spawned, Wake}
 use Rattle.sl_trace.specs.declared.input.Input.{Input}
-use Rattle.sl_trace.specs.declared.reply.Reply.TheVariants.{BadCommand as Misread, Done, Granted, IdHeld, IoFault, IoTimeout, NoProcess, Recovering, SpawnFault, Started, ValueSet}
+use Rattle.sl_trace.specs.declared.reply.Reply.TheVariants.{BadCommand as Misread, Done, Granted, IoFault, IoTimeout, NoProcess, Recovering, SpawnFault}
 use Rattle.sl_trace.specs.declared.reply.Reply.{Reply}
 use Rattle.sl_words.proofs.WordLaws.{some_is_true}
 use Rattle.sl_words.proofs.CaseLaws.{false_is_true, none_some, not_both, one_value, some_value}
 use Rattle.std.proofs.Common.{ap, inl, inr, refl, subst, sym, ◌∙◌}
-use Rattle.std.specs.Option.{option_map_or}
 use Rattle.std.specs.Prelude.{Bool, Contains, Err, List, None, Ok, Option, Some, false, filter, is_some, length, not, true, ℕ, ◌+◌, ◌==◌, ◌≡◌, ◌⊎◌}
 
 -- ---- what an act is made of
@@ -218,7 +216,7 @@ line_may x j c (ReadsArea s r) on going after = λ q. absurd (going q)
 line_may x j c (Shares s lver) on going after = granting_may x j lver c (granted_may x j lver on) (on_line x on)
 line_may x j c (GivesUp s g) on going after =
     let y : Step = add_end (end_of g) x in (
-      (after Done, λ shown. absurd (false_is_true shown)),
+      (after Done, λ shown. absurd (false_is_true (sym (ap (λ b. not b) on) ∙ shown))),
       lease_may x y s (spot_of_grant g) (ForJob j) (release_next (lease_place x.setting s) (known x.setting (seen y) s (spot_of_grant g)) g.mode g.lver) going
           (nobody (release_next (lease_place x.setting s) (known x.setting (seen y) s (spot_of_grant g)) g.mode g.lver) (ForJob j) (release_nobody (lease_place x.setting s) (known x.setting (seen y) s (spot_of_grant g)) g.mode g.lver)) (λ gives i n is. granted_may x i n on) (λ i is. on_line x on),
     )
@@ -232,12 +230,9 @@ line_may x j c (GetsValue s at) on going after = λ q. absurd (going q)
 
 -- What is explained in some entry is so on a wake.
 explained_awake : (i : Input) (r : Reply) → is_explained i r ≡ true → is_explained Wake r ≡ true
-explained_awake i (IdHeld v w) is = is
 explained_awake i (Recovering t) is = refl
-explained_awake i Done is = is
+explained_awake i Done is = refl
 explained_awake i (Granted n) is = refl
-explained_awake i (Started n p) is = is
-explained_awake i (ValueSet n m) is = is
 explained_awake i r is = refl
 
 -- What an act does after the input is seen.
@@ -245,6 +240,7 @@ from_wake : (x z : Step) (i : Input) → (i ≡ Wake → ⊥) → x.input ≡ Wa
 from_wake x z i other wake g h =
     record {
       before = before_later x z first h.before;
+      facts = facts_later x z first h.facts;
       causes = λ a there shown apart. let here : is_explained i a.reply ≡ true = ap (λ k. is_explained k a.reply) (sym g.input) ∙ shown in by a here (g.replies a there here);
       jobless = λ is. absurd (other (sym g.input ∙ is));
     } where
@@ -280,6 +276,7 @@ at_once : (x : Step) (text : List ℕ) (r : Reply) → Keeps x → x.input ≡ W
 at_once x text r k wake cause =
     record {
       before = k.1.before;
+      facts = k.1.facts;
       causes = λ a there shown apart. by a shown apart (contains_last x.effects.replies (record { job = j; reply = r }) a there);
       jobless = λ is. absurd (line_no_wake z.input text refl is);
     } where
@@ -356,18 +353,15 @@ delta_done x s n may = delta (Going (is_explained x.input) x) (Going (is_explain
 lease_done : (x : Step) (s : Session) (at : Spot) (work : Work) (n : LeaseNext) → LeaseAllowed (MayAnswer (is_explained x.input) x) (MayCall x) (MayStart x) x s at work n → Going (is_explained x.input) x (carry_lease s at work n x)
 lease_done x s at work n may = lease (Going (is_explained x.input) x) (Going (is_explained x.input) x) (MayAnswer (is_explained x.input) x) (MayCall x) (MayStart x) AnyMove (going (is_explained x.input) x) x s at work n may (begins (is_explained x.input) x)
 
-no_held : (i : Input) (v : DeltaVersion) (w : Option DeltaVersion) → is_explained i (IdHeld v w) ≡ true → ⊥
-no_held i v w is = false_is_true is
-
-joined_on : (x : Step) (s : Session) (j : ℕ) (step : JoinStep) (m : Submitted) (answer : Answer) → Keeps x → Hears x s m answer → m.call.purpose ≡ Joining j step
+joined_on : (x : Step) (s : Session) (j : ℕ) (step : JoinStep) (m : Submitted) (answer : Answer) → Keeps x → Hears x s m answer → m.call.purpose ≡ Joining j step → is_running (seen x) j ≡ true
     → CausedSoFar is_explained (carry_delta s (next_in_joining (delta_of_session x.setting s) (generation_of (seen x) s) (calls_of (seen x) s) x.reading m step answer) x)
-joined_on x s j step m answer k hears is =
+joined_on x s j step m answer k hears is runs =
     let n : DeltaNext = next_in_joining (delta_of_session x.setting s) (generation_of (seen x) s) (calls_of (seen x) s) x.reading m step answer in
     by_act x (carry_delta s n x) (no_line_heard x s m answer hears)
     (delta_done x s n
     (joining_may (is_explained x.input) x s j n (joining_of x s m j step (both_of x k.0.0) (heard_call x s m answer hears).0 hears.session is) (goes_on_still x s m answer k.0 hears (ap (λ p. lease_step p) is)) (λ r after. late x r after)
     (joining_late (delta_of_session x.setting s) (generation_of (seen x) s) (calls_of (seen x) s) x.reading m step answer)
-    (joining_well (is_explained x.input) (no_held x.input) x s m j step answer (record { known = k.0; hears = hears; purpose = is })))) k.1
+    (joining_well (is_explained x.input) x s m j step answer k.1.before k.1.facts runs (record { known = k.0; hears = hears; purpose = is })))) k.1
 
 -- The work on a lease goes on, or its job is answered.
 leads : (x : Step) (s : Session) (work : Work) (step : LeaseStep) (m : Submitted) (answer : Answer) (aim : Aim) → Keeps x → Hears x s m answer → m.call.purpose ≡ Lease work step → goes_on x.setting (seen x) s work ≡ true
@@ -399,7 +393,7 @@ leads x s work step m answer aim k hears is on aims n next = by work n is on aim
   by (ForJob j) (AnswerJob r) its runs aims says =
       let may : IsLate x r = late x r (subst (λ v. IsLateLease v) says (lease_late (lease_place x.setting s) (known x.setting (seen x) s at) aim m.call.number (lver_written m) step answer)) in
       answer_caused is_explained x j r (no_line x (add_reply j r x) (no_line_heard x s m answer hears)) may
-      (λ shown. led_caused (is_explained x.input) x s m answer j step aim r k.0 k.1.before hears its aims may says (λ d. absurd (false_is_true d)) shown) k.1
+      (λ shown. led_caused (is_explained x.input) x s m answer j step aim r k.0 k.1.before hears its aims may says (λ is d. released_caused x s m answer j step aim k.0 k.1.facts hears its runs aims (says ∙ ap (λ q. AnswerJob q) is) (late x Done refl)) shown) k.1
   by w No_lease its runs aims says = other w No_lease its runs tt (λ so j own. so)
   by w (ReadFor q) its runs aims says = other w (ReadFor q) its runs tt (λ so j own. so)
   by w (WriteBlock q b) its runs aims says = other w (WriteBlock q b) its runs tt (λ so j own. so)
@@ -447,12 +441,6 @@ asked x s m j bytes c k hears is reads =
     may (SetLvb r p set) says fits = tt
     may (SetKillpath p path) says fits = tt
     may Status says fits = tt
-
-unset : (i : Input) (m : Submitted) → is_explained i (set_reply m) ≡ true → ⊥
-unset i m = by (value_written m) where
-  by : (o : Option ValueRec) → is_explained i (option_map_or (λ (v : ValueRec). ValueSet v.lver v.seq) o Done) ≡ true → ⊥
-  by (Some v) is = false_is_true is
-  by None is = false_is_true is
 
 -- A start that failed. (Its job's reply has its cause by the input and what was before it.).
 failed : (x : Step) (p : ℕ) → Keeps x → x.input ≡ Spawned p false → CausedSoFar is_explained (when_running (job_of_start (seen x) p) SpawnFault (end_holdings p x))
@@ -540,7 +528,7 @@ causes_are_kept =
       signals_instead = λ x p q input stood k. by_act x (add_signal q Term x) (λ text line. spawned_no_line x.input p false text input line) ((going (is_explained x.input) x).signals x q Term (begins (is_explained x.input) x)) k.1;
       says_started = λ x p j input is runs k.
           by_act x (add_reply j (started_reply (seen x) p) x) (λ text line. spawned_no_line x.input p true text input line)
-          ((going (is_explained x.input) x).replies x j (started_reply (seen x) p) (late x (started_reply (seen x) p) refl, λ shown. absurd (false_is_true shown)) (begins (is_explained x.input) x)) k.1;
+          ((going (is_explained x.input) x).replies x j (started_reply (seen x) p) (late x (started_reply (seen x) p) refl, λ shown. started_caused x p j k.0 k.1.before k.1.facts input is runs) (begins (is_explained x.input) x)) k.1;
       misreads = λ x text column wake bare says k. at_once x text (Misread column) k wake (λ shown apart. misread_caused x text column wake says);
       answers = λ x text c r wake bare says is k. commanded x text c r k wake says;
       carries = λ x text c d wake bare says is more k.
@@ -549,7 +537,7 @@ causes_are_kept =
           from_wake x (carry_decision j c d w) (Line text) (λ is. line_no_wake (Line text) text refl is) wake
           (decision (Going (is_explained w.input) w) (Going (is_explained w.input) w) (MayAnswer (is_explained w.input) w) (MayCall w) (MayStart w) AnyMove (going (is_explained w.input) w) w j c d (line_may w j c d refl (open_unless_told w refl) (λ r. late_unless_told w r refl))
           (λ n a joins. (going (is_explained w.input) w).calls w (joining_session n j a) a.path (Joining j FirstRead) _ (ReadSectors 1) (λ q. absurd (open_unless_told w refl q)) (begins (is_explained w.input) w)) (begins (is_explained w.input) w)) k.1;
-      joins_on = λ x s j step m answer hears is runs k. joined_on x s j step m answer k hears is;
+      joins_on = λ x s j step m answer hears is runs k. joined_on x s j step m answer k hears is runs;
       ends_joining = λ x s j step m answer hears is stops k.
           by_act x (remove_of_refused s x) (no_line_heard x s m answer hears)
           (removal_of_refused (Going (is_explained x.input) x) (Going (is_explained x.input) x) (MayAnswer (is_explained x.input) x) (MayCall x) (MayStart x) AnyMove (going (is_explained x.input) x) x s tt (begins (is_explained x.input) x)) k.1;
@@ -564,8 +552,8 @@ causes_are_kept =
           ((going (is_explained x.input) x).calls x s g.path SeeRequest _ (ReadSectors 1) (λ q. (refl, λ d is. absurd (none_some d is))) (begins (is_explained x.input) x)) k.1;
       leads_on = λ x s work step m answer aim hears is on aims k. leads x s work step m answer aim k hears is on aims (next_of_lease x.setting (seen x) s (spot_of_call x.setting.layout m) aim m step answer) refl;
       fails = λ x s m j hears lone runs k. replied x s m Failed j (IoFault m.call.number) k.1 hears refl (λ shown. fault_caused x s m j k.0 hears (lone_of m.call.purpose j lone));
-      has_asked = λ x s m j owner hears is runs k. replied x s m Written j Done k.1 hears refl (λ shown. absurd (false_is_true shown));
-      has_set = λ x s m j hears is runs k. replied x s m Written j (set_reply m) k.1 hears (set_late m) (λ shown. absurd (unset x.input m shown));
+      has_asked = λ x s m j owner hears is runs k. replied x s m Written j Done k.1 hears refl (λ shown. requested_caused x s m j owner k.0 k.1.facts hears is);
+      has_set = λ x s m j hears is runs k. replied x s m Written j (set_reply m) k.1 hears (set_late m) (λ shown. set_caused x s m j k.0 k.1.facts hears is);
       asks = λ x s m j bytes c hears is runs reads k. asked x s m j bytes c k hears is reads;
       tells = λ x s m j bytes hears is runs k. replied x s m (Read bytes) j (value_reply x.setting.layout bytes) k.1 hears (value_late x.setting.layout bytes) (λ shown. told_caused x s m j bytes k.0 hears is);
       warns = λ x s m bytes g signal hears is held own says k.
@@ -626,10 +614,10 @@ begin_done st past now s w there y g =
 
 pub causes_begin : CausesBegin is_explained
 unfolding begin_recoveries
-causes_begin st past e follows whole =
+causes_begin st past e follows whole facts =
     still_caused is_explained x (begin_recoveries x) (no_line x (begin_recoveries x) (λ text line. wake_no_line Wake text refl line))
     (for_each_keeps (Going (is_explained Wake) x) (present_sessions st (seen x)) begin_recovery x (λ s there y g. begin_done st past e.reading s whole there y g) (begins (is_explained Wake) x))
-    (record { before = whole; causes = λ a there shown apart. absurd (contains_none a there); jobless = λ wake k there. absurd (contains_none k there) })
+    (record { before = whole; facts = facts; causes = λ a there shown apart. absurd (contains_none a there); jobless = λ wake k there. absurd (contains_none k there) })
   where
     x : Step
     x = begin_step st past e.reading

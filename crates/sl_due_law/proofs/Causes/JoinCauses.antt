@@ -3,63 +3,73 @@ use Rattle.sl_acts.proofs.InputsKeep.{has_heard}
 use Rattle.sl_acts.specs.Acts.{Hears}
 use Rattle.sl_acts.specs.SoFar.{entry_of}
 use Rattle.sl_area.specs.Layouts.{record_in, sector_with}
-use Rattle.sl_due_law.proofs.Causes.AnsweredJobs.{AnswersHere, answers_here, told_not_waking}
+use Rattle.sl_due.specs.Steps.{Step, seen, with_effects}
+use Rattle.sl_due_law.proofs.Causes.AnsweredJobs.{AnswersHere, answers_here, ran_past, told_not_waking}
 use Rattle.sl_due_law.proofs.Causes.LaterSteps.{AnyMove, MayAnswer, MayCall, by_effects}
 use Rattle.sl_due_law.proofs.Causes.Leases.Limits.{not_number}
 use Rattle.sl_due_law.proofs.Causes.PlainCauses.{fault_caused}
-use Rattle.sl_due_law.specs.Causes.CausedSoFar.{IsCarried, IsConcluded, StaysCaused, answering}
-use Rattle.sl_due.specs.Steps.{Step, seen, with_effects}
+use Rattle.sl_due_law.proofs.Connections.HeardCalls.{WasHeard, heard_before}
+use Rattle.sl_due_law.proofs.Connections.JoiningConnections.{working_unjoined}
+use Rattle.sl_due_law.proofs.Connections.JoiningDecisions.{heard_working}
 use Rattle.sl_due_law.proofs.Holdings.HoldingsByInputs.{filter_told}
 use Rattle.sl_due_law.proofs.Holdings.LeaseCallers.{heard_call}
-use Rattle.sl_due_law.specs.Holdings.Moments.{Known}
-use Rattle.sl_due_law.proofs.Jobs.CallsHaveFacts.{find_mapped, sessions_bare}
-use Rattle.sl_due_law.proofs.Jobs.CallsOfJobsFit.{joining_of}
-use Rattle.sl_due_law.proofs.Jobs.CallsStay.{IsLate, is_special, late_join}
 use Rattle.sl_due_law.proofs.Jobs.AnsweredCallsFit.{both_of}
+use Rattle.sl_due_law.proofs.Jobs.CallsHaveFacts.{find_mapped, sessions_bare}
+use Rattle.sl_due_law.proofs.Jobs.CallsOfJobsFit.{joining_of, list_all_inside}
+use Rattle.sl_due_law.proofs.Jobs.CallsStay.{IsLate, is_special, late_join}
 use Rattle.sl_due_law.proofs.Jobs.EffectsAreAllowed.{DeltaAllowed}
 use Rattle.sl_due_law.proofs.Jobs.JobsAreAllowed.{calls_heard}
 use Rattle.sl_due_law.proofs.Jobs.RepliesComeAfter.{IsLateDelta, on_bool}
 use Rattle.sl_due_law.proofs.Jobs.SessionsHaveJobs.{one_session}
+use Rattle.sl_due_law.proofs.Sessions.NamesAreAllowed.{heard_mine}
+use Rattle.sl_due_law.specs.Causes.CauseFacts.{CauseFacts}
+use Rattle.sl_due_law.specs.Causes.CausedSoFar.{IsCarried, IsConcluded, StaysCaused, answering}
+use Rattle.sl_due_law.specs.Facts.Whole.{WholeTrace}
+use Rattle.sl_due_law.specs.Holdings.Moments.{Known}
 use Rattle.sl_law.specs.Caused.{Answering, CausedBy, JoinRead}
 use Rattle.sl_leases.specs.Leases.{lease_step}
-use Rattle.sl_plain.proofs.Lists.{find_fails, find_inside, got_inside}
+use Rattle.sl_plain.proofs.Lists.{contains_cases, contains_none, find_fails, find_inside, got_inside, kept, kept_inside}
 use Rattle.sl_plain.proofs.Numbers.{number_itself}
+use Rattle.sl_sector.specs.Bitmaps.{no_bits}
 use Rattle.sl_sector.specs.Spelling.{delta_in}
 use Rattle.sl_sector.specs.declared.sector.DeltaRec.{DeltaRec}
-use Rattle.sl_sector.specs.declared.sector.Rec.TheVariants.{DeltaIs}
-use Rattle.sl_sessions.specs.Deltas.{claim_of, claim_on, delta_of_session, id_held, id_lost, is_watched_out, next_after_deciding, next_after_first, next_after_verify, next_after_watch, next_in_joining, watched, where_watched}
-use Rattle.sl_sessions.specs.Sessions.{calls_of, delta_of_record, delta_written, generation_in, generation_of, given_number, is_call_of, is_join_call, last_delta, same_join_step, session_of_job, sessions}
-use Rattle.sl_sessions.specs.Watching.{is_free_state}
-use Rattle.sl_sessions.specs.declared.delta.DeltaNext.TheVariants.{Disconnect, EndLeaving, Join, MoveConnection, Nothing, ReadOwn, RefuseJoin, RegisterAndRead, WriteClaim, WriteFirst, WriteFree, WriteRenewal}
-use Rattle.sl_sessions.specs.declared.delta.DeltaNext.{DeltaNext}
-use Rattle.sl_sessions.specs.Deltas.{DeltaLease, delta_record}
-use Rattle.sl_sessions.specs.declared.session.Session.{Session}
-use Rattle.sl_trace.specs.Traces.{Job, Setting, Submitted, Trace, answered_in, call_numbered, record_of, job_numbered, job_of, submitted}
-use Rattle.sl_sector.specs.Bitmaps.{no_bits}
 use Rattle.sl_sector.specs.declared.sector.DeltaState.TheVariants.{Claimed, Live}
+use Rattle.sl_sector.specs.declared.sector.Rec.TheVariants.{DeltaIs}
+use Rattle.sl_sessions.specs.Deltas.{DeltaLease, claim_of, claim_on, delta_of_session, delta_record, first_bytes, id_held, id_lost, is_watched_out, next_after_deciding, next_after_first, next_after_verify, next_after_watch, next_in_joining, version_in, version_of, watched, where_watched}
+use Rattle.sl_sessions.specs.Sessions.{calls_of, delta_of_record, delta_written, generation_in, generation_of, given_number, is_call_of, is_join_call, join_call, joined_after, last_delta, same_join_step, session_numbered, session_of_job, sessions}
+use Rattle.sl_sessions.specs.Watching.{is_free_state}
+use Rattle.sl_sessions.specs.declared.delta.DeltaNext.{DeltaNext}
+use Rattle.sl_sessions.specs.declared.delta.DeltaNext.TheVariants.{Disconnect, EndLeaving, Join, MoveConnection, Nothing, ReadOwn, RefuseJoin, RegisterAndRead, WriteClaim, WriteFirst, WriteFree, WriteRenewal}
+use Rattle.sl_sessions.specs.declared.session.Session.{Session}
+use Rattle.sl_trace.specs.Traces.{Answered, Job, Setting, Submitted, Trace, answer_of, answered_in, bytes_given, call_numbered, gave, is_answer_for, is_ok_answer, is_running, is_write, job_numbered, job_of, record_of, submitted}
 use Rattle.sl_trace.specs.declared.effects.Call.{Call}
 use Rattle.sl_trace.specs.declared.effects.Effects.{Effects}
 use Rattle.sl_trace.specs.declared.effects.Entry.{Entry}
-use Rattle.sl_trace.specs.declared.effects.JoinStep.TheVariants.{ClaimWrite, DecidingRead, FirstRead, FirstRenewal, VerifyRead, WatchRead}
 use Rattle.sl_trace.specs.declared.effects.JoinStep.{JoinStep}
-use Rattle.sl_trace.specs.declared.effects.Purpose.TheVariants.{Joining}
+use Rattle.sl_trace.specs.declared.effects.JoinStep.TheVariants.{ClaimWrite, DecidingRead, FirstRead, FirstRenewal, VerifyRead, WatchRead}
+use Rattle.sl_trace.specs.declared.effects.Op.{Op}
+use Rattle.sl_trace.specs.declared.effects.Op.TheVariants.{ReadSectors, WriteRecord}
+use Rattle.sl_trace.specs.declared.effects.Purpose.{Purpose}
+use Rattle.sl_trace.specs.declared.effects.Purpose.TheVariants.{Joining, Lease, Leaving, Renewal, RequestRead, RequestWrite, SeeRequest, Survey, ValueRead, ValueWrite}
 use Rattle.sl_trace.specs.declared.effects.Work.TheVariants.{ForJob}
-use Rattle.sl_trace.specs.declared.reply.DeltaVersion.{DeltaVersion}
-use Rattle.sl_trace_law.proofs.Sessions.Making.{same_answered}
-use Rattle.sl_trace_law.proofs.Sessions.Naming.{same_name}
-use Rattle.sl_words.specs.Bounds.{is_number, record_numbers}
-use Rattle.sl_trace.specs.declared.input.Answer.TheVariants.{Failed, Read, Written}
 use Rattle.sl_trace.specs.declared.input.Answer.{Answer}
+use Rattle.sl_trace.specs.declared.input.Answer.TheVariants.{Failed, Read, Written}
 use Rattle.sl_trace.specs.declared.reply.Limited.TheVariants.{Gen as GenLimit, Seq as SeqLimit}
-use Rattle.sl_trace.specs.declared.reply.Reply.TheVariants.{Generation, IdHeld, Limit as LimitReached, TornDelta, WrongDelta}
 use Rattle.sl_trace.specs.declared.reply.Reply.{Reply}
-use Rattle.sl_words.proofs.CaseLaws.{none_some, not_both, one_value, some_value}
-use Rattle.sl_words.proofs.WordLaws.{some_is_true}
+use Rattle.sl_trace.specs.declared.reply.Reply.TheVariants.{Generation, IdHeld, Limit as LimitReached, TornDelta, WrongDelta}
+use Rattle.sl_trace_law.proofs.Sessions.Covering.{joinings_are_in_turn}
+use Rattle.sl_trace_law.proofs.Sessions.Making.{kept_by, same_answered}
+use Rattle.sl_trace_law.proofs.Sessions.Naming.{same_name}
+use Rattle.sl_trace_law.proofs.Sessions.Staying.{joined_more}
+use Rattle.sl_trace_law.specs.Sessions.Promises.{all_done, fits, fits_as, has_reply, is_in_turn}
+use Rattle.sl_words.proofs.CaseLaws.{false_is_true, none_some, not_both, one_value, some_value}
+use Rattle.sl_words.proofs.WordLaws.{and_true, some_is_true}
+use Rattle.sl_words.specs.Bounds.{is_number, record_numbers}
 use Rattle.sl_words.specs.Words.{some_is}
-use Rattle.std.specs.Option.{option_map_or}
 use Rattle.std.proofs.Common.{ap, inl, inr, refl, subst, sym, ◌∙◌}
 use Rattle.std.proofs.lemmas.Bool.{eqb-true}
-use Rattle.std.specs.Prelude.{Bool, Contains, IsFalse, List, None, Option, Some, [], bytes_eq, false, filter, find, map, option_and_then, option_map, true, ℕ, ◌&&◌, ◌+◌, ◌==◌, ◌∷◌, ◌≡◌, ◌≢◌, ◌≤◌}
+use Rattle.std.specs.Option.{option_map_or}
+use Rattle.std.specs.Prelude.{Bool, Contains, IsFalse, List, None, Option, Some, [], bytes_eq, false, filter, find, is_some, map, option_and_then, option_map, slice_get, true, unwrap_or, ℕ, ◌&&◌, ◌+◌, ◌==◌, ◌∷◌, ◌≡◌, ◌≢◌, ◌≤◌, ◌⊎◌}
 
 -- ---- what was known before the answer
 
@@ -183,9 +193,175 @@ first_well these x s m bytes j h = by (delta_in (record_in x.setting.layout byte
       (λ y read setting past. read (λ z bs. delta_in (record_in y.setting.layout bs) ≡ None) (ap (λ st. delta_in (record_in st.layout bytes)) setting ∙ torn))
   by (Some d) spells = named d spells (bytes_eq d.lockspace s.lockspace && d.id == s.id) refl
 
--- Of a read that differs from the first nothing is said here.
-watched_well : (these : Reply → Bool) (x : Step) (j : ℕ) (l : DeltaLease) (first bytes : List ℕ) (n : DeltaNext) → (these (id_held l.layout first bytes) ≡ true → ⊥) → IsWellJoin these x j n → IsWellJoin these x j (where_watched l first bytes n)
-watched_well these x j l first bytes n none h = on_bool (IsWellJoin these x j) (bytes_eq first bytes) (RefuseJoin (id_held l.layout first bytes)) n (λ shown. absurd (none shown)) h
+-- ---- a read that differs from the first
+
+differ : (a b : List ℕ) → bytes_eq a b ≡ false → a ≢ b
+differ a b other same = not_both (bytes_eq a b) (subst (λ c. bytes_eq a c ≡ true) same (same_name a)) other
+
+-- All of a joining's calls but the newest are answered.
+answered_but : (ms : List Submitted) (d f : Submitted) → is_in_turn ms ≡ true → Contains ms d → d.answer ≡ None → Contains ms f → (f ≡ d → ⊥) → has_reply f ≡ true
+answered_but [] d f turn inside none there apart = absurd (contains_none d inside)
+answered_but (x ∷ xs) d f turn inside none there apart = by (contains_cases x xs d inside) (contains_cases x xs f there) where
+  rest : all_done xs ≡ true
+  rest = (and_true (fits x) (all_done xs) turn).1
+
+  replied : (k : Submitted) → Contains xs k → has_reply k ≡ true
+  replied k old = (and_true (fits k) (has_reply k) (list_all_inside (λ z. fits z && has_reply z) xs k rest old)).1
+
+  by : (x ≡ d) ⊎ Contains xs d → (x ≡ f) ⊎ Contains xs f → has_reply f ≡ true
+  by own (inr old) = replied f old
+  by (inl first) (inl its) = absurd (apart (sym its ∙ first))
+  by (inr old) (inl its) = absurd (false_is_true (sym (ap (λ o. is_some o) none) ∙ replied d old))
+
+-- A first read that was answered ok gave bytes.
+first_gave : (st : Setting) (p : Purpose) (o : Op) (a : Answer) → is_join_call FirstRead p ≡ true → fits_as p (is_write o) ≡ true → is_ok_answer a ≡ true → is_answer_for st a o ≡ true → (bytes : List ℕ) × (bytes_given a ≡ Some bytes)
+first_gave st (Joining j FirstRead) (ReadSectors n) (Read bytes) first fit ok answers = (bytes, refl)
+first_gave st p o Failed first fit ok answers = absurd (false_is_true ok)
+first_gave st (Joining j FirstRead) (WriteRecord r) a first fit ok answers = absurd (false_is_true fit)
+first_gave st p (ReadSectors n) Written first fit ok answers = absurd (false_is_true answers)
+first_gave st p (WriteRecord r) (Read bytes) first fit ok answers = absurd (false_is_true answers)
+first_gave st (Joining j WatchRead) o a first fit ok answers = absurd (false_is_true first)
+first_gave st (Joining j DecidingRead) o a first fit ok answers = absurd (false_is_true first)
+first_gave st (Joining j ClaimWrite) o a first fit ok answers = absurd (false_is_true first)
+first_gave st (Joining j VerifyRead) o a first fit ok answers = absurd (false_is_true first)
+first_gave st (Joining j FirstRenewal) o a first fit ok answers = absurd (false_is_true first)
+first_gave st Renewal o a first fit ok answers = absurd (false_is_true first)
+first_gave st Survey o a first fit ok answers = absurd (false_is_true first)
+first_gave st (Leaving j) o a first fit ok answers = absurd (false_is_true first)
+first_gave st (Lease work step) o a first fit ok answers = absurd (false_is_true first)
+first_gave st (RequestRead j) o a first fit ok answers = absurd (false_is_true first)
+first_gave st (RequestWrite j owner) o a first fit ok answers = absurd (false_is_true first)
+first_gave st SeeRequest o a first fit ok answers = absurd (false_is_true first)
+first_gave st (ValueWrite j) o a first fit ok answers = absurd (false_is_true first)
+first_gave st (ValueRead j) o a first fit ok answers = absurd (false_is_true first)
+
+-- What the first read gave, which spells a record, is watched.
+record FirstWas (x : Step) (s : Session) : Type 0 where
+  bytes : List ℕ
+  gave_them : first_bytes (calls_of x.past s) ≡ Some bytes
+  watches : watched (calls_of (seen x) s) ≡ bytes
+  record_read : DeltaRec
+  spells : delta_in (record_in x.setting.layout bytes) ≡ Some record_read
+
+first_was : (x : Step) (s : Session) (m : Submitted) (answer : Answer) (j : ℕ) (step : JoinStep) → JoinHeard x s m answer j step → same_join_step FirstRead step ≡ false → WholeTrace x.setting x.past → CauseFacts x.setting x.past
+    → is_running (seen x) j ≡ true → FirstWas x s
+first_was x s m answer j step h later w facts runs = of (join_call (calls_of x.past s) FirstRead) refl where
+  numbered : session_numbered x.setting x.past s.number ≡ Some s
+  numbered = subst (λ ss. slice_get ss s.number ≡ Some s) (sessions_bare x h.hears.bare) (has_heard x s m answer h.hears)
+
+  there : Contains (sessions x.setting x.past) s
+  there = got_inside (sessions x.setting x.past) s.number s numbered
+
+  its : s.job ≡ Some j
+  its = its_job x s m answer j step h
+
+  mark_one : Submitted → Submitted
+  mark_one d = answered_in x.past (entry_of x) h.hears.number answer d
+
+  was : (d : Submitted) × WasHeard x h.hears.number answer m d
+  was = heard_before x s m answer h.known.0 h.hears
+
+  same_call : was.0.call ≡ m.call
+  same_call = sym (same_answered x.past (entry_of x) h.hears.number answer was.0).call ∙ ap (λ (d : Submitted). d.call) was.1.marked
+
+  mine : Contains (calls_of x.past s) was.0
+  mine =
+      kept (is_call_of s) (submitted x.past) was.0 (ap (λ (c : Call). c.session == s.number) same_call ∙ (kept_inside (is_call_of s) (submitted (seen x)) m (heard_mine x s m answer h.hears)).1) was.1.inside
+
+  unjoined : joined_after x.past s ≡ None
+  unjoined = by (joined_after x.past s) refl where
+    by : (o : Option ℕ) → joined_after x.past s ≡ o → joined_after x.past s ≡ None
+    by None is = is
+    by (Some k) is = absurd (none_some k (sym (working_unjoined x s j (heard_working x s j step m answer h.known.0 h.hears h.purpose runs)) ∙ joined_more (entry_of x) x.past s k is))
+
+  turn : is_in_turn (calls_of x.past s) ≡ true
+  turn = joinings_are_in_turn x.setting x.past s w.lawful.orderly numbered unjoined
+
+  is_first : Submitted → Bool
+  is_first d = is_join_call FirstRead d.call.purpose
+
+  first : (f : Submitted) → join_call (calls_of x.past s) FirstRead ≡ Some f → Contains (calls_of x.past s) f → is_first f ≡ true → FirstWas x s
+  first f found inside looks = answered f.answer refl where
+    apart : f ≡ was.0 → ⊥
+    apart is =
+        not_both (is_join_call FirstRead m.call.purpose) (ap (λ (c : Call). is_join_call FirstRead c.purpose) (sym same_call) ∙ (ap (λ (d : Submitted). is_join_call FirstRead d.call.purpose) (sym is) ∙ looks))
+        (ap (λ p. is_join_call FirstRead p) h.purpose ∙ later)
+
+    fit : fits f ≡ true
+    fit = in_list (calls_of x.past s) turn inside where
+      in_list : (ms : List Submitted) → is_in_turn ms ≡ true → Contains ms f → fits f ≡ true
+      in_list [] t i = absurd (contains_none f i)
+      in_list (k ∷ ks) t i =
+          let both = and_true (fits k) (all_done ks) t in
+          elim (contains_cases k ks f i) [ inl one ↦ ap (λ q. fits q) (sym one) ∙ both.0 | inr old ↦ (and_true (fits f) (has_reply f) (list_all_inside (λ z. fits z && has_reply z) ks f both.1 old)).0 ]
+
+    answered : (o : Option Answered) → f.answer ≡ o → FirstWas x s
+    answered None none = absurd (false_is_true (sym (ap (λ o. is_some o) none) ∙ answered_but (calls_of x.past s) was.0 f turn mine was.1.opened inside apart))
+    answered (Some a) is =
+        let ok = w.facts.names.done s j f a there its (ran_past x.past (entry_of x) j runs) inside is (λ heard. none_some f.call.number heard) in
+        let gives = first_gave x.setting f.call.purpose f.call.op a.answer looks fit ok (w.facts.calls.fits f a (kept_inside (is_call_of s) (submitted x.past) f inside).0 is) in
+        let given : gave f ≡ Some gives.0 = ap (λ o. option_and_then (λ (b : Answered). bytes_given b.answer) o) is ∙ gives.1 in
+        let spelled =
+        facts.watches.first s f gives.0 (record {
+          job = j;
+          session = there;
+          its = its;
+          runs = ran_past x.past (entry_of x) j runs;
+          inside = inside;
+          for = looks;
+          given = given;
+          done = λ heard. none_some f.call.number heard;
+        })
+        in record {
+          bytes = gives.0;
+          gave_them = ap (λ o. option_and_then gave o) found ∙ given;
+          watches =
+              ap (λ ms. unwrap_or (option_and_then gave (find is_first ms)) []) (mine_before x s m answer h.hears)
+              ∙ (ap (λ o. unwrap_or (option_and_then gave o) [])
+              (find_mapped is_first mark_one (calls_of x.past s) (λ d. ap (λ (c : Call). is_join_call FirstRead c.purpose) (same_answered x.past (entry_of x) h.hears.number answer d).call)
+              ∙ (ap (λ o. option_map mark_one o) found ∙ ap (λ d. Some d) (kept_by f a (answer_of x.past (entry_of x) answer f.call) (f.call.number == h.hears.number) is))) ∙ ap (λ o. unwrap_or o []) given);
+          record_read = spelled.0;
+          spells = spelled.1;
+        }
+
+  of : (o : Option Submitted) → join_call (calls_of x.past s) FirstRead ≡ o → FirstWas x s
+  of None none = let l = facts.looked s j there its in absurd (not_both (is_first l.0) l.2 (find_fails is_first (calls_of x.past s) l.0 none l.1))
+  of (Some f) found = let v = find_inside is_first (calls_of x.past s) f found in first f found v.0 v.1
+
+held_caused : (x : Step) (s : Session) (m : Submitted) (bytes : List ℕ) (j : ℕ) (step : JoinStep) → JoinHeard x s m (Read bytes) j step → (step ≡ WatchRead) ⊎ (step ≡ DecidingRead) → FirstWas x s
+    → bytes_eq (watched (calls_of (seen x) s)) bytes ≡ false → StaysCaused x (record { job = j; reply = id_held x.setting.layout (watched (calls_of (seen x) s)) bytes })
+held_caused x s m bytes j step h which f other =
+    subst (λ r. StaysCaused x (record { job = j; reply = r })) says
+    (by_read x s m bytes j step h (IdHeld (version_of f.record_read) (version_in x.setting.layout bytes)) (λ y read setting past. by which y read setting past)) where
+      version : version_in x.setting.layout f.bytes ≡ Some (version_of f.record_read)
+      version = ap (λ o. option_map version_of o) f.spells
+
+      says : IdHeld (version_of f.record_read) (version_in x.setting.layout bytes) ≡ id_held x.setting.layout (watched (calls_of (seen x) s)) bytes
+      says =
+          sym (ap (λ ws. id_held x.setting.layout ws bytes) f.watches ∙ ap (λ o. IdHeld (unwrap_or o (record { generation = 0; seq = 0 })) (version_in x.setting.layout bytes)) version)
+
+      differs : f.bytes ≢ bytes
+      differs = differ f.bytes bytes (ap (λ ws. bytes_eq ws bytes) (sym f.watches) ∙ other)
+
+      Tells : Answering → Session → List ℕ → Type 0
+      Tells y z bs =
+          (first : List ℕ) × (first_bytes (calls_of y.past z) ≡ Some first) × (first ≢ bs) × (version_in y.setting.layout first ≡ Some (version_of f.record_read)) × (version_in y.setting.layout bs ≡ version_in x.setting.layout bytes)
+
+      told : (y : Answering) → y.setting ≡ x.setting → y.past ≡ x.past → Tells y s bytes
+      told y setting past =
+          (f.bytes, ap (λ t. first_bytes (calls_of t s)) past ∙ f.gave_them, differs, ap (λ st. version_in st.layout f.bytes) setting ∙ version, ap (λ st. version_in st.layout bytes) setting)
+
+      by : (step ≡ WatchRead) ⊎ (step ≡ DecidingRead) → (y : Answering) → ((P : Session → List ℕ → Type 0) → P s bytes → JoinRead y step P) → y.setting ≡ x.setting → y.past ≡ x.past
+          → CausedBy y (IdHeld (version_of f.record_read) (version_in x.setting.layout bytes))
+      by (inl is) y read setting past = inl (subst (λ q. JoinRead y q (Tells y)) is (read (Tells y) (told y setting past)))
+      by (inr is) y read setting past = inr (subst (λ q. JoinRead y q (Tells y)) is (read (Tells y) (told y setting past)))
+
+watched_well : (these : Reply → Bool) (x : Step) (j : ℕ) (l : DeltaLease) (first bytes : List ℕ) (n : DeltaNext) → (bytes_eq first bytes ≡ false → StaysCaused x (record { job = j; reply = id_held l.layout first bytes })) → IsWellJoin these x j n
+    → IsWellJoin these x j (where_watched l first bytes n)
+watched_well these x j l first bytes n cause h = by (bytes_eq first bytes) refl where
+  by : (b : Bool) → bytes_eq first bytes ≡ b → IsWellJoin these x j (elim b as (λ z. DeltaNext) [ false ↦ RefuseJoin (id_held l.layout first bytes) | true ↦ n ])
+  by false other = λ shown. cause other
+  by true same = h
 
 claim_well : (these : Reply → Bool) (x : Step) (s : Session) (m : Submitted) (bytes : List ℕ) (j : ℕ) → JoinHeard x s m (Read bytes) j DecidingRead
     → (o : Option DeltaRec) → delta_in (record_in x.setting.layout bytes) ≡ o → IsWellJoin these x j (elim o as (λ z. DeltaNext) [ None ↦ Nothing | Some d ↦ claim_on (delta_of_session x.setting s) x.reading d ])
@@ -209,9 +385,6 @@ claim_well these x s m bytes j h (Some d) spells = by (is_number (d.generation +
       by_read x s m bytes j DecidingRead h (LimitReached SeqLimit)
       (λ y read setting past. inl (read (λ z bs. (f : DeltaRec) × (delta_in (record_in y.setting.layout bs) ≡ Some f) × (record_numbers ≤ f.seq + 1)) (d, there y setting, not_number (d.seq + 1) high)))
   by true right true low = tt
-
-differ : (a b : List ℕ) → bytes_eq a b ≡ false → a ≢ b
-differ a b other same = not_both (bytes_eq a b) (subst (λ c. bytes_eq a c ≡ true) same (same_name a)) other
 
 verify_well : (these : Reply → Bool) (x : Step) (s : Session) (m : Submitted) (bytes : List ℕ) (j : ℕ) → JoinHeard x s m (Read bytes) j VerifyRead
     → IsWellJoin these x j (next_after_verify (delta_of_session x.setting s) (calls_of (seen x) s) x.reading bytes)
@@ -260,28 +433,28 @@ joined_well these x s m j h =
     let a : AnswersHere x m Written j (with_effects x fx) job = here x s m Written j FirstRenewal h fx carried job found in
     inr (s, session_before x s m Written j FirstRenewal h job.number a.number, sym (generation_before x s m Written h.hears), (m, a.call, ap (λ p. is_join_call FirstRenewal p) h.purpose)))
 
--- What a joining's answer leads to has its cause, where nothing is said of reads that differ.
-pub joining_well : (these : Reply → Bool) → ((v : DeltaVersion) (w : Option DeltaVersion) → these (IdHeld v w) ≡ true → ⊥) → (x : Step) (s : Session) (m : Submitted) (j : ℕ) (step : JoinStep) (answer : Answer) → JoinHeard x s m answer j step
+-- What a joining's answer leads to has its cause.
+pub joining_well : (these : Reply → Bool) (x : Step) (s : Session) (m : Submitted) (j : ℕ) (step : JoinStep) (answer : Answer) → WholeTrace x.setting x.past → CauseFacts x.setting x.past → is_running (seen x) j ≡ true → JoinHeard x s m answer j step
     → IsWellJoin these x j (next_in_joining (delta_of_session x.setting s) (generation_of (seen x) s) (calls_of (seen x) s) x.reading m step answer)
 unfolding next_in_joining next_after_watch next_after_deciding
-joining_well these none x s m j step Failed h = λ shown. fault_caused x s m j h.known h.hears (ap (λ p. job_of p) h.purpose)
-joining_well these none x s m j FirstRead (Read bytes) h = first_well these x s m bytes j h
-joining_well these none x s m j WatchRead (Read bytes) h =
+joining_well these x s m j step Failed w facts runs h = λ shown. fault_caused x s m j h.known h.hears (ap (λ p. job_of p) h.purpose)
+joining_well these x s m j FirstRead (Read bytes) w facts runs h = first_well these x s m bytes j h
+joining_well these x s m j WatchRead (Read bytes) w facts runs h =
     watched_well these x j (delta_of_session x.setting s) (watched (calls_of (seen x) s)) bytes (elim (is_watched_out x.setting.timing (calls_of (seen x) s) m.reading) [ true ↦ RegisterAndRead DecidingRead | false ↦ Nothing ])
-    (λ shown. none _ _ shown) (on_bool (IsWellJoin these x j) (is_watched_out x.setting.timing (calls_of (seen x) s) m.reading) Nothing (RegisterAndRead DecidingRead) tt tt)
-joining_well these none x s m j DecidingRead (Read bytes) h =
+    (λ other. held_caused x s m bytes j WatchRead h (inl refl) (first_was x s m (Read bytes) j WatchRead h refl w facts runs) other) (on_bool (IsWellJoin these x j) (is_watched_out x.setting.timing (calls_of (seen x) s) m.reading) Nothing (RegisterAndRead DecidingRead) tt tt)
+joining_well these x s m j DecidingRead (Read bytes) w facts runs h =
     watched_well these x j (delta_of_session x.setting s) (watched (calls_of (seen x) s)) bytes
     (elim (delta_in (record_in x.setting.layout bytes)) [ None ↦ Nothing | Some d ↦ claim_on (delta_of_session x.setting s) x.reading d ])
-    (λ shown. none _ _ shown) (claim_well these x s m bytes j h (delta_in (record_in x.setting.layout bytes)) refl)
-joining_well these none x s m j VerifyRead (Read bytes) h = verify_well these x s m bytes j h
-joining_well these none x s m j ClaimWrite (Read bytes) h = tt
-joining_well these none x s m j FirstRenewal (Read bytes) h = tt
-joining_well these none x s m j FirstRead Written h = tt
-joining_well these none x s m j WatchRead Written h = tt
-joining_well these none x s m j DecidingRead Written h = tt
-joining_well these none x s m j ClaimWrite Written h = tt
-joining_well these none x s m j VerifyRead Written h = tt
-joining_well these none x s m j FirstRenewal Written h = λ shown. joined_well these x s m j h
+    (λ other. held_caused x s m bytes j DecidingRead h (inr refl) (first_was x s m (Read bytes) j DecidingRead h refl w facts runs) other) (claim_well these x s m bytes j h (delta_in (record_in x.setting.layout bytes)) refl)
+joining_well these x s m j VerifyRead (Read bytes) w facts runs h = verify_well these x s m bytes j h
+joining_well these x s m j ClaimWrite (Read bytes) w facts runs h = tt
+joining_well these x s m j FirstRenewal (Read bytes) w facts runs h = tt
+joining_well these x s m j FirstRead Written w facts runs h = tt
+joining_well these x s m j WatchRead Written w facts runs h = tt
+joining_well these x s m j DecidingRead Written w facts runs h = tt
+joining_well these x s m j ClaimWrite Written w facts runs h = tt
+joining_well these x s m j VerifyRead Written w facts runs h = tt
+joining_well these x s m j FirstRenewal Written w facts runs h = λ shown. joined_well these x s m j h
 
 -- So it may be done.
 pub joining_may : (these : Reply → Bool) (x : Step) (s : Session) (j : ℕ) (n : DeltaNext) → s.job ≡ Some j → (IsConcluded x → ⊥) → ((r : Reply) → is_special r ≡ false → IsLate x r) → IsLateDelta n → IsWellJoin these x j n

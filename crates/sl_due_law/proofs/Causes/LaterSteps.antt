@@ -16,6 +16,7 @@ use Rattle.sl_due_law.specs.Facts.Whole.{WholeTrace}
 use Rattle.sl_words.proofs.CaseLaws.{false_is_true, is_false, not_both, true_or_false}
 use Rattle.std.specs.List.{cons_option}
 use Rattle.std.specs.Option.{option_map_or}
+use Rattle.sl_due_law.specs.Causes.CauseFacts.{CauseFacts}
 use Rattle.sl_due_law.specs.Causes.CausedSoFar.{CausedSoFar, HasCause, IsAtOnce, IsCarried, IsConcluded, IsLater, KeepsLeases, StaysCaused, on_lease}
 use Rattle.sl_due.specs.Steps.{Step, with_effects, add_call_of, add_end, add_grant, add_move, add_reply, add_signal, add_start, seen, with_input}
 use Rattle.sl_due_law.proofs.Jobs.CallsStay.{IsLate, calls_stay}
@@ -281,10 +282,14 @@ going these x =
 pub before_later : (x z : Step) → IsLater x z → WholeTrace x.setting x.past → WholeTrace z.setting z.past
 before_later x z later w = subst (λ st. WholeTrace st z.past) (sym later.setting) (subst (λ t. WholeTrace x.setting t) (sym later.before) w)
 
+pub facts_later : (x z : Step) → IsLater x z → CauseFacts x.setting x.past → CauseFacts z.setting z.past
+facts_later x z later w = subst (λ st. CauseFacts st z.past) (sym later.setting) (subst (λ t. CauseFacts x.setting t) (sym later.before) w)
+
 pub still_caused : (these : Input → Reply → Bool) (x z : Step) → ((a : JobReply) → IsAtOnce x a → IsAtOnce z a) → Going (these x.input) x z → CausedSoFar these x → CausedSoFar these z
 still_caused these x z once g h =
     record {
       before = before_later x z g.later h.before;
+      facts = facts_later x z g.later h.facts;
       causes = λ a there shown apart. let here : these x.input a.reply ≡ true = ap (λ i. these i a.reply) (sym g.input) ∙ shown in by a here apart (g.replies a there here);
       jobless = λ wake k there. let was : x.input ≡ Wake = sym g.input ∙ wake in elim (g.starts k there) [ inl old ↦ h.jobless was k old | inr new ↦ new was ];
     } where
@@ -319,7 +324,7 @@ replied_over x j r = by (reply_to x.past j) (find (λ (a : JobReply). a.job == j
 pub answer_caused : (these : Input → Reply → Bool) (x : Step) (j : ℕ) (r : Reply) → ((a : JobReply) → IsAtOnce x a → IsAtOnce (add_reply j r x) a) → IsLate x r
     → (these x.input r ≡ true → StaysCaused (add_reply j r x) (record { job = j; reply = r })) → CausedSoFar these x → CausedSoFar these (add_reply j r x)
 answer_caused these x j r once may cause h =
-    record { before = h.before; causes = λ a there shown apart. by a shown apart (contains_last x.effects.replies (record { job = j; reply = r }) a there); jobless = h.jobless } where
+    record { before = h.before; facts = h.facts; causes = λ a there shown apart. by a shown apart (contains_last x.effects.replies (record { job = j; reply = r }) a there); jobless = h.jobless } where
       later : IsLater x (add_reply j r x)
       later = replied_later x j r may
 
@@ -333,6 +338,7 @@ pub last_caused : (these : Input → Reply → Bool) (x z : Step) (j : ℕ) (r :
 last_caused these x z j r once told later input replies cause h =
     record {
       before = before_later x z later h.before;
+      facts = facts_later x z later h.facts;
       causes = λ a there shown apart.
           let here : these x.input a.reply ≡ true = ap (λ i. these i a.reply) (sym input) ∙ shown in
           by a here apart (contains_last x.effects.replies (record { job = j; reply = r }) a (subst (λ rs. Contains rs a) replies there));
@@ -357,6 +363,7 @@ pub seen_caused : (these : Input → Reply → Bool) (x : Step) (i : Input) → 
 seen_caused these x i less other wake h =
     record {
       before = h.before;
+      facts = h.facts;
       causes = λ a there shown apart w later.
           h.causes a there (ap (λ k. these k a.reply) wake ∙ less a.reply shown) (λ o. wake_no_line x.input o.text wake o.line) w
           (after_that x (with_input i x) w (record { setting = refl; before = refl; reading = refl; carried = λ told. absurd (told wake) }) later);

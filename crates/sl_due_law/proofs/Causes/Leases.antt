@@ -4,3 +4,4 @@ pub mod AreaCauses
 pub mod PhaseCauses
 pub mod LeaseAnswers
 pub mod GrantCauses
+pub mod LeaseDone

@@ -90,7 +90,7 @@ granting t s n (TakeOver r shared p persistent) mode lver w y h = says_other (Re
 granting t s n (RunProgram r shared path) mode lver w y h = h
 granting t s n c mode lver w y h = h
 
-releasing : (q : Reply) (s : Session) (at : Spot) (n : ℕ) (mode : Mode) (lver : ℕ) (p : LeasePlace) (k : LeaseKnown) (w y : Step) → Spares (Says q) w y
+pub releasing : (q : Reply) (s : Session) (at : Spot) (n : ℕ) (mode : Mode) (lver : ℕ) (p : LeasePlace) (k : LeaseKnown) (w y : Step) → Spares (Says q) w y
     → Spares (Says q) w (carry_lease s at (ForJob n) (release_next p k mode lver) y)
 unfolding carry_lease
 releasing q s at n Exclusive lver p k w y h = h

@@ -197,7 +197,7 @@ child_same p ok k = by (p == k.process) where
   by true = (refl, refl)
 
 -- The child of a start that is answered was there before.
-started_before : (x : Step) (p : ℕ) (ok : Bool) (j : ℕ) → Known x → x.input ≡ Spawned p ok → job_of_start (seen x) p ≡ Some j → job_of_start x.past p ≡ Some j
+pub started_before : (x : Step) (p : ℕ) (ok : Bool) (j : ℕ) → Known x → x.input ≡ Spawned p ok → job_of_start (seen x) p ≡ Some j → job_of_start x.past p ≡ Some j
 started_before x p ok j k input is = by (some_is_true (λ (c : Child). is_none c.answer) (child_numbered x.past p) expected) where
   expected : is_starting x.past p ≡ true
   expected = subst (λ i. IsTrue (is_expected x.setting x.past i)) input k.0.orderly.is_trace.0.expected

@@ -205,7 +205,7 @@ call_next x s (ForJob j) step m answer aim l next is calls further o op on =
 -- ---- what is granted
 
 -- Nobody else works where the call was answered.
-nobody_there : (x : Step) (s : Session) (work : Work) (step : LeaseStep) (m : Submitted) (answer : Answer) (aim : Aim) → Led x s work step m answer aim → (g : Grant)
+pub nobody_there : (x : Step) (s : Session) (work : Work) (step : LeaseStep) (m : Submitted) (answer : Answer) (aim : Aim) → Led x s work step m answer aim → (g : Grant)
     → spot_of_grant g ≡ spot_at x m → NobodyWorksAt x g
 nobody_there x s work step m answer aim l g at n j b there none purpose same =
     let spot : spot_of_grant g ≡ spot_of_call x.setting.layout n = spot_is g (spot_of_call x.setting.layout n) same in

@@ -102,7 +102,7 @@ refused_so y p z k =
 
 -- ---- jobs of the process are refused
 
-ran_on : (z : Step) (p : ℕ) (j : ℕ) → is_running (seen (refuse_jobs_of p z)) j ≡ true → is_running (seen z) j ≡ true
+pub ran_on : (z : Step) (p : ℕ) (j : ℕ) → is_running (seen (refuse_jobs_of p z)) j ≡ true → is_running (seen z) j ≡ true
 ran_on z p j =
     for_each_keeps (λ w. is_running (seen w) j ≡ true → is_running (seen z) j ≡ true) (filter (is_job_of_process (seen z) p) (running_jobs z.setting (seen z))) (λ i. add_reply i.number (NoProcess p)) z
     (λ i there w k runs. k (ran_before w.past (entry_of w) (record { job = i.number; reply = NoProcess p }) j runs)) (λ runs. runs)

@@ -185,14 +185,14 @@ aimed_as c a b one two = one_value a b (aim_of_command c) one two
 -- ---- an acquire that begins with a read of the area
 
 -- All that a command's line comes with.
-record Lined (x : Step) (text : List ℕ) (c : Command) (s : Session) : Type 0 where
-  known : Known x
-  wake : x.input ≡ Wake
-  bare : x.effects.calls ≡ []
-  says : x.setting.read text ≡ Ok c
-  has : Has (with_input (Line text) x) s
-  command : IsCommand x.setting.layout c
-  works : WorksAt (with_input (Line text) x)
+pub record Lined (x : Step) (text : List ℕ) (c : Command) (s : Session) : Type 0 where
+  pub known : Known x
+  pub wake : x.input ≡ Wake
+  pub bare : x.effects.calls ≡ []
+  pub says : x.setting.read text ≡ Ok c
+  pub has : Has (with_input (Line text) x) s
+  pub command : IsCommand x.setting.layout c
+  pub works : WorksAt (with_input (Line text) x)
 
 called : (x : Step) (text : List ℕ) (c : Command) (s : Session) → Lined x text c s → submitted (seen (with_input (Line text) x)) ≡ submitted (seen x)
 called x text c s l = calls_stay x (Line text) l.wake l.bare refl
@@ -456,7 +456,7 @@ converts_work x text c s r mode l g = converting mode refl where
 
 -- ---- what is granted at once
 
-nobody_waits : (x : Step) (text : List ℕ) (c : Command) (s : Session) (r e : ResourceArg) → Lined x text c s → IsReady x.setting (seen x) s r → resource_named c ≡ Some r → resource_named c ≡ Some e → (g : Grant) → spot_of_grant g ≡ spot_of e
+pub nobody_waits : (x : Step) (text : List ℕ) (c : Command) (s : Session) (r e : ResourceArg) → Lined x text c s → IsReady x.setting (seen x) s r → resource_named c ≡ Some r → resource_named c ≡ Some e → (g : Grant) → spot_of_grant g ≡ spot_of e
     → NobodyWorksAt (with_input (Line text) x) g
 nobody_waits x text c s r e l ready named named_e g at m j step there none purpose same =
     let spot : spot_of r ≡ spot_of_call x.setting.layout m =

@@ -104,7 +104,7 @@ calm st es at none = none_mapped (λ (m : Submitted). m.call.number) (open_on st
 ready : (st : Setting) (es : Trace) (s : Session) (r : ResourceArg) → session_named st es r.lockspace ≡ Some s → session_refusal st es s ≡ None → pending_refusal st es (spot_of r) ≡ None → IsReady st es s r
 ready st es s r named active pending = record { named = named; active = session_active st es s active; calm = calm st es (spot_of r) pending }
 
-acts : (es : Trace) (p : ℕ) → process_refusal es p ≡ None → may_act es p ≡ true
+pub acts : (es : Trace) (p : ℕ) → process_refusal es p ≡ None → may_act es p ≡ true
 acts es p none = not_true (may_act es p) (choose_none (not (may_act es p)) (NoProcess p) none)
 
 neither : {A : Type 0} (o p : Option A) → option_or o p ≡ None → (o ≡ None) × (p ≡ None)

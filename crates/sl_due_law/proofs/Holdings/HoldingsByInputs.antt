@@ -181,7 +181,7 @@ same_number (Spawned p ok) k = by (p == k.process) where
   by false = refl
 same_number Wake k = refl
 
-given_seen : (x : Step) (i : Input) → x.input ≡ Wake → ((k : Child) → Contains (children (seen x)) k → k.process < next_child (seen x))
+pub given_seen : (x : Step) (i : Input) → x.input ≡ Wake → ((k : Child) → Contains (children (seen x)) k → k.process < next_child (seen x))
     → (k : Child) → Contains (children (seen (with_input i x))) k → k.process < next_child (seen (with_input i x))
 given_seen x i wake old k there = lt_then_le k.process (next_child (seen x)) (next_child (seen (with_input i x))) (by (Contains-append_cases (map (child_after i) (children x.past)) (map new_child x.effects.starts) k there)) (children_seen x i) where
   by : Contains (map (child_after i) (children x.past)) k ⊎ Contains (map new_child x.effects.starts) k → k.process < next_child (seen x)

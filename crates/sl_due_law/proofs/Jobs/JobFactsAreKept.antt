@@ -183,7 +183,7 @@ timed_out x j m wake waits b =
     (refusal (Meanwhile x) Both (MayReply x) (MayCall x) (MayStart x) MayMove (allows x) x j (IoTimeout m.call.number m.reading x.reading)
     (caller_numbered x m j b there its, late_on_wake x (IoTimeout m.call.number m.reading x.reading) wake) (λ z is. tt) (at x b)).0
 
-lone_of : (p : Purpose) (j : ℕ) → lone_job p ≡ Some j → job_of p ≡ Some j
+pub lone_of : (p : Purpose) (j : ℕ) → lone_job p ≡ Some j → job_of p ≡ Some j
 lone_of (RequestRead i) j is = is
 lone_of (RequestWrite i owner) j is = is
 lone_of (ValueWrite i) j is = is

@@ -225,7 +225,7 @@ same_fit st s c b m is Renewal h = h
 same_fit st s c b m is Survey h = h
 same_fit st s c b m is SeeRequest h = h
 
-child_job : (i : Input) (k : Child) → (child_after i k).job ≡ k.job
+pub child_job : (i : Input) (k : Child) → (child_after i k).job ≡ k.job
 child_job (Spawned p ok) k = by (p == k.process) where
   by : (b : Bool) → (elim b as (λ z. Child) [ false ↦ k | true ↦ record k { answer = option_or k.answer (Some ok) } ]).job ≡ k.job
   by false = refl

@@ -112,7 +112,7 @@ reads_plain y s at work SetMode = refl
 reads_plain y s at work FreeLeader = refl
 reads_plain y s at work ClearMode = refl
 
-grant_plain : (j lver : ℕ) (c : Command) → GrantAllowed Anything AnyStart j lver c
+pub grant_plain : (j lver : ℕ) (c : Command) → GrantAllowed Anything AnyStart j lver c
 grant_plain j lver (Acquire r shared q persistent) = tt
 grant_plain j lver (TakeOver r shared q persistent) = tt
 grant_plain j lver (RunProgram r shared path) = tt

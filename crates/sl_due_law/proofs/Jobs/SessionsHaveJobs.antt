@@ -80,7 +80,7 @@ pub record JoinedBy (st : Setting) (es : Trace) (s : Session) (j : ℕ) : Type 0
   pub command : command_numbered st es j ≡ Some (AddLockspace arg)
   pub session : s ≡ joining_session s.number j arg
 
-line_command : (st : Setting) (es : Trace) (e : Entry) (text : List ℕ) (c : Command) → e.input ≡ Line text → st.read text ≡ Ok c → command_numbered st (e ∷ es) (next_job st es) ≡ Some c
+pub line_command : (st : Setting) (es : Trace) (e : Entry) (text : List ℕ) (c : Command) → e.input ≡ Line text → st.read text ≡ Ok c → command_numbered st (e ∷ es) (next_job st es) ≡ Some c
 line_command st es e text c line reads =
     ap (λ i. option_and_then command_of (job_numbered st (record { reading = e.reading; input = i; effects = e.effects } ∷ es) (next_job st es))) line
     ∙ (ap (λ o. option_and_then command_of o) (line_is st es e.reading text e.effects) ∙ ap (λ (o : Result Command ℕ). command_of (record { number = next_job st es; at = length es; reading = e.reading; command = o })) reads)

@@ -128,12 +128,12 @@ unleft s (HostStatus a) r is = absurd (none_some r is)
 unleft s (SetKillpath p path) r is = absurd (none_some r is)
 unleft s Status r is = absurd (none_some r is)
 
-record NamesIts (s : Session) (c : Command) : Type 0 where
-  resource : ResourceArg
-  named : resource_named c ≡ Some resource
-  lockspace : resource.lockspace ≡ s.lockspace
+pub record NamesIts (s : Session) (c : Command) : Type 0 where
+  pub resource : ResourceArg
+  pub named : resource_named c ≡ Some resource
+  pub lockspace : resource.lockspace ≡ s.lockspace
 
-names_its : (st : Setting) (s : Session) (m : Submitted) (c : Command) (p : Purpose) → is_area_work p ≡ true → FitsCommand st s m c p → NamesIts s c
+pub names_its : (st : Setting) (s : Session) (m : Submitted) (c : Command) (p : Purpose) → is_area_work p ≡ true → FitsCommand st s m c p → NamesIts s c
 names_its st s m c (Lease work step) area f = record { resource = f.0; named = f.1; lockspace = f.3.0 }
 names_its st s m c (RequestRead j) area f = record { resource = f.0; named = ap (λ z. resource_named z) f.3; lockspace = f.4.0 }
 names_its st s m c (RequestWrite j o) area f = record { resource = f.0; named = ap (λ z. resource_named z) f.3; lockspace = f.4.0 }
@@ -146,30 +146,34 @@ names_its st s m c (Leaving j) area f = absurd (false_is_true area)
 names_its st s m c SeeRequest area f = absurd (false_is_true area)
 
 -- A running job of the session.
-record ItsJob (x : Step) (s : Session) (j : ℕ) (c : Command) : Type 0 where
-  job : Job
-  numbered : job_numbered x.setting (seen x) j ≡ Some job
-  command : command_of job ≡ Some c
-  number : job.number ≡ j
-  inside : Contains (jobs_of_session x.setting (seen x) s) job
+pub record ItsJob (st : Setting) (t : Trace) (s : Session) (j : ℕ) (c : Command) : Type 0 where
+  pub job : Job
+  pub numbered : job_numbered st t j ≡ Some job
+  pub command : command_of job ≡ Some c
+  pub number : job.number ≡ j
+  pub inside : Contains (jobs_of_session st t s) job
 
-its_job : (x : Step) (s : Session) (j : ℕ) (c : Command) → command_numbered x.setting (seen x) j ≡ Some c → is_running (seen x) j ≡ true → NamesIts s c → ItsJob x s j c
-its_job x s j c command runs names =
-    let v = then_value (λ (q : Job). command_of q) (job_numbered x.setting (seen x) j) c command in
+-- A command's resource is in the lockspace that it names.
+pub in_lockspace : (s : Session) (c : Command) → NamesIts s c → lockspace_named c ≡ Some s.lockspace
+in_lockspace s c names = named_so c names.resource names.named ∙ ap (λ n. Some n) names.lockspace
+
+pub its_job : (st : Setting) (t : Trace) (s : Session) (j : ℕ) (c : Command) → command_numbered st t j ≡ Some c → is_running t j ≡ true → lockspace_named c ≡ Some s.lockspace → ItsJob st t s j c
+its_job st t s j c command runs names =
+    let v = then_value (λ (q : Job). command_of q) (job_numbered st t j) c command in
     let q : Job = v.0 in
-    let found = find_inside (λ (k : Job). k.number == j) (jobs x.setting (seen x)) q v.1 in
+    let found = find_inside (λ (k : Job). k.number == j) (jobs st t) q v.1 in
     let number : q.number ≡ j = eqb-true q.number j found.1 in
-    let same : bytes_eq names.resource.lockspace s.lockspace ≡ true = (bytes_eq-Decides names.resource.lockspace s.lockspace).1 names.lockspace in
+    let same : bytes_eq s.lockspace s.lockspace ≡ true = (bytes_eq-Decides s.lockspace s.lockspace).1 refl in
     let passes : is_command_that (λ c. some_is (λ n. bytes_eq n s.lockspace) (lockspace_named c)) q ≡ true =
-    ap (λ o. some_is (λ c. some_is (λ n. bytes_eq n s.lockspace) (lockspace_named c)) o) v.2 ∙ (ap (λ o. some_is (λ n. bytes_eq n s.lockspace) o) (named_so c names.resource names.named) ∙ same)
+    ap (λ o. some_is (λ c. some_is (λ n. bytes_eq n s.lockspace) (lockspace_named c)) o) v.2 ∙ (ap (λ o. some_is (λ n. bytes_eq n s.lockspace) o) names ∙ same)
     in
     record {
       job = q;
       numbered = v.1;
       command = v.2;
       number = number;
-      inside = kept (is_command_that (λ c. some_is (λ n. bytes_eq n s.lockspace) (lockspace_named c))) (running_jobs x.setting (seen x)) q passes
-          (kept (λ (k : Job). is_running (seen x) k.number) (jobs x.setting (seen x)) q (ap (λ n. is_running (seen x) n) number ∙ runs) found.0);
+      inside = kept (is_command_that (λ c. some_is (λ n. bytes_eq n s.lockspace) (lockspace_named c))) (running_jobs st t) q passes
+          (kept (λ (k : Job). is_running t k.number) (jobs st t) q (ap (λ n. is_running t n) number ∙ runs) found.0);
     }
 
 ok_command : (r : Result Command ℕ) (c : Command) → elim r as (λ z. Option Command) [ Ok d ↦ Some d | Err e ↦ None ] ≡ Some c → r ≡ Ok c
@@ -220,7 +224,7 @@ work_is_active x w = record { each = λ s m a j h area its runs. by_command s m 
       → (c : Command) → command_numbered x.setting (seen x) j ≡ Some c → is_active x.setting (seen x) s ≡ true
   active s m a j h area its runs c command =
       let names : NamesIts s c = names_its x.setting s m c m.call.purpose area (w.facts.jobs.fits m j s c (heard_call x s m a h w).there its h.session command) in
-      let job : ItsJob x s j c = its_job x s j c command runs names in
+      let job : ItsJob x.setting (seen x) s j c = its_job x.setting (seen x) s j c command runs (in_lockspace s c names) in
       let there : Contains (sessions x.setting (seen x)) s = there_has x.setting (seen x) m.call.session s h.session in
       let some : is_some (joined_after (seen x) s) ≡ true = joined s m a h area in
       let unremoved : is_none (removed_after (seen x) s) ≡ true = present_unremoved (joined_after (seen x) s) (removed_after (seen x) s) (refused_after (seen x) s) (has_open_write (seen (with_input Wake x)) s) some h.present in
@@ -228,13 +232,13 @@ work_is_active x w = record { each = λ s m a j h area its runs. by_command s m 
       all_true (is_some (joined_after (seen x) s)) (is_none (removed_after (seen x) s)) (is_none (recovery_of x.setting (seen x) s)) (is_none (leaving_job x.setting (seen x) s)) some unremoved
       (well job there is_in (recovery_of x.setting (seen x) s) refl) (staying names job there is_in (leaving_job x.setting (seen x) s) refl)
     where
-      well : ItsJob x s j c → Contains (sessions x.setting (seen x)) s → is_joined (seen x) s ≡ true → (o : Option Begun) → recovery_of x.setting (seen x) s ≡ o → is_none o ≡ true
+      well : ItsJob x.setting (seen x) s j c → Contains (sessions x.setting (seen x)) s → is_joined (seen x) s ≡ true → (o : Option Begun) → recovery_of x.setting (seen x) s ≡ o → is_none o ≡ true
       well job there is_in None is = refl
       well job there is_in (Some b) is =
           absurd (contains_none job.job (subst (λ js. Contains js job.job) (w.facts.quiet.recovering s there (ap (λ q. q && is_some (recovery_of x.setting (seen x) s)) is_in ∙ ap (λ o. is_some o) is)
           (and_false (is_some (heard_by x.input)) (begins_by_read (seen x) (recovery_of x.setting (seen x) s)) (not_by_read x s s m a h (area_no_survey m.call.purpose area) w))) job.inside))
 
-      staying : NamesIts s c → ItsJob x s j c → Contains (sessions x.setting (seen x)) s → is_joined (seen x) s ≡ true → (o : Option Job) → leaving_job x.setting (seen x) s ≡ o → is_none o ≡ true
+      staying : NamesIts s c → ItsJob x.setting (seen x) s j c → Contains (sessions x.setting (seen x)) s → is_joined (seen x) s ≡ true → (o : Option Job) → leaving_job x.setting (seen x) s ≡ o → is_none o ≡ true
       staying names job there is_in None is = refl
       staying names job there is_in (Some k) is =
           let number : job.job.number ≡ k.number = w.facts.quiet.leaving s k job.job there is_in is job.inside in

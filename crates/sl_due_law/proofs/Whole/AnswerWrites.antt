@@ -29,9 +29,10 @@ use Rattle.sl_resource.specs.Bounds.{IsBegun}
 use Rattle.sl_due_law.proofs.Leases.WorkIsActive.{work_is_active}
 use Rattle.sl_due_law.proofs.Ways.Kept.EffectsLeave.{there_has}
 use Rattle.sl_due_law.proofs.Ways.Kept.HeardStands.{heard_call, heard_has, heard_open}
-use Rattle.sl_due_law.proofs.Ways.NewestCall.{block_is, leader_is_no_block, read_writes_no_block, submitted_here, submitted_passed}
+use Rattle.sl_due_law.proofs.Ways.Lawful.BallotLaws.{own_begun}
+use Rattle.sl_due_law.proofs.Ways.NewestCall.{block_is, submitted_here}
 use Rattle.sl_due_law.proofs.Ways.Places.{spot_aligned}
-use Rattle.sl_due_law.proofs.Ways.WayNumbers.{Doing, EndsBy, Frees, Reads, Takes, Writes_ballot, Writes_mode, doing, ended_below, ends_by, is_verified, lver_of, own_lver}
+use Rattle.sl_due_law.proofs.Ways.WayNumbers.{EndsBy, ended_below, ends_by, is_verified, lver_of, own_lver}
 use Rattle.sl_leases.specs.Ballots.{ballot_blocks, is_ahead, moded_block, phase2_block, same_owner, stop_of, value_of}
 use Rattle.sl_leases.specs.LeaseWork.{LeasePlace, after_clearing, after_freeing, after_moding, after_phase1, after_phase2, after_take, begin_next, leader_for, lease_next, lease_place, looks_for_shared, lost_next, phase2_next, settle_next, stopped_next, unstopped_next, won_next}
 use Rattle.sl_leases.specs.Leases.{LeaseKnown, block_submitted, ended_ballot, ended_ballots, exclusive_on, holdings_on, known, lease_calls, lease_step, lver_written, mode_gen_of, owed_free, shared_elsewhere, spot_of_call}
@@ -70,26 +71,12 @@ use Rattle.std.specs.Prelude.{Bool, Contains, List, None, Option, Some, [], fals
 above : (a n : ℕ) → a < n → 1 ≤ n
 above a n less = omega (arith, less)
 
--- Each block that a lease submits is in an instance.
-begun_lver : (w : WayContext) (ms : List Submitted) → Ways w ms → (b : Block) → block_submitted ms ≡ Some b → 1 ≤ b.lver
-begun_lver w [] h b is = absurd (none_some b is)
-begun_lver w (m ∷ ms) h b is = by (doing w m ms h.1 h.0) (λ x old. begun_lver w ms h.1 x old) where
-  here : (x : Block) → block_submitted (m ∷ ms) ≡ Some x → 1 ≤ x.lver → 1 ≤ b.lver
-  here x at one = subst (λ (z : Block). 1 ≤ z.lver) (some_value x b (sym at ∙ is)) one
-
-  by : Doing w m ms → ((x : Block) → block_submitted ms ≡ Some x → 1 ≤ x.lver) → 1 ≤ b.lver
-  by (Reads n op) before = before b (sym (submitted_passed m ms (read_writes_no_block m n op)) ∙ is)
-  by (Writes_ballot x op up fresh named) before = here x (submitted_here m ms x (block_is m x op)) (above _ x.lver fresh)
-  by (Writes_mode x own op knows same other) before = here x (submitted_here m ms x (block_is m x op)) (subst (λ n. 1 ≤ n) same (before own knows))
-  by (Takes l op held) before = before b (sym (submitted_passed m ms (leader_is_no_block m l op)) ∙ is)
-  by (Frees l op free won concluded) before = before b (sym (submitted_passed m ms (leader_is_no_block m l op)) ∙ is)
-
 -- So the instance of each ballot that ended is one.
 ended_one : (w : WayContext) (ms : List Submitted) → Ways w ms → (n : ℕ) (o : Owner) → Contains (ended_ballots w.layout ms) (n, o) → 1 ≤ n
 ended_one w [] h n o there = absurd (contains_none (n, o) there)
 ended_one w (m ∷ ms) h n o there = by (ended_ballot w.layout m ms) refl there (λ rest. ended_one w ms h.1 n o rest) where
   ended : ended_ballot w.layout m ms ≡ Some (n, o) → 1 ≤ n
-  ended is = let e : EndsBy w.layout m ms n o = ends_by w.layout m ms n o is in subst (λ z. 1 ≤ z) e.lver (begun_lver w ms h.1 e.own e.known)
+  ended is = let e : EndsBy w.layout m ms n o = ends_by w.layout m ms n o is in subst (λ z. 1 ≤ z) e.lver (own_begun w ms h.1 e.own e.known)
 
   by : (e : Option (ℕ × Owner)) → ended_ballot w.layout m ms ≡ e → Contains (elim e as (λ z. List (ℕ × Owner)) [ None ↦ ended_ballots w.layout ms | Some p ↦ p ∷ ended_ballots w.layout ms ]) (n, o)
       → (Contains (ended_ballots w.layout ms) (n, o) → 1 ≤ n) → 1 ≤ n
@@ -266,7 +253,7 @@ lead_well x s at w inside active aligned =
     let ways = w.facts.ways.each s at inside aligned in
     let numbers = w.facts.delta.numbers s inside (active_is_joined x.setting (seen x) s active) in
     record {
-      begun = λ b is. begun_lver (way_context x.setting (seen x) s) (lease_calls x.setting (seen x) s at) ways b is;
+      begun = λ b is. own_begun (way_context x.setting (seen x) s) (lease_calls x.setting (seen x) s at) ways b is;
       leads = λ held n b is one fits.
           leader_well x.setting (seen x) s at held n w.setting inside numbers (is_verified (way_context x.setting (seen x) s) (lease_calls x.setting (seen x) s at) ways b is) one fits;
     }
@@ -338,7 +325,7 @@ begun_own x s work m answer w h is own knows =
     record {
       block = own_is_record x s at own w knows;
       begun = (
-        begun_lver (way_context x.setting (seen x) s) (lease_calls x.setting (seen x) s at) (w.facts.ways.each s at inside (spot_aligned x.setting.layout.area m.call.offset)) own knows,
+        own_begun (way_context x.setting (seen x) s) (lease_calls x.setting (seen x) s at) (w.facts.ways.each s at inside (spot_aligned x.setting.layout.area m.call.offset)) own knows,
         subst (λ (z : Block). 1 ≤ z.mbal) same one.mbal,
       );
     }

@@ -4,18 +4,19 @@ use Rattle.sl_due.specs.DueCommands.{answer_line}
 use Rattle.sl_due.specs.Steps.{Step, add_reply, seen, with_input}
 use Rattle.sl_due_law.proofs.Whole.WaitsStay.{AllButWait, waits_effects}
 use Rattle.sl_due_law.specs.Whole.Busy.{AllWait, For_call, For_child, For_leaving, For_session, Waits, told_by}
+use Rattle.sl_due_law.proofs.Grants.Values.ReadsByInputs.{child_same, has_number}
 use Rattle.sl_due_law.proofs.Jobs.CallsHaveFacts.{calls_before, sessions_told}
-use Rattle.sl_due_law.proofs.Jobs.JobFactsGrow.{contains_left, contains_right}
+use Rattle.sl_due_law.proofs.Jobs.JobFactsGrow.{contains_left}
 use Rattle.sl_due_law.proofs.Jobs.JobsAreAllowed.{calls_heard}
 use Rattle.sl_due_law.proofs.Jobs.JobsAreNumbered.{next_before}
 use Rattle.sl_due_law.proofs.Jobs.NearlyPlainActs.{is_command_line}
 use Rattle.sl_due_law.proofs.Jobs.SessionsHaveJobs.{contains_either, contains_only}
 use Rattle.sl_due_law.proofs.Jobs.SessionsStand.{reply_stops}
-use Rattle.sl_plain.proofs.Lists.{contains_map, in_map}
+use Rattle.sl_plain.proofs.Lists.{contains_map, find_inside}
 use Rattle.sl_plain.proofs.Numbers.{number_itself}
 use Rattle.sl_sessions.specs.Sessions.{leaving_in, leaving_job}
 use Rattle.sl_due_law.specs.Facts.Heard.{heard_by}
-use Rattle.sl_trace.specs.Traces.{Child, Job, Submitted, answer_of, answered_in, child_after, children, is_running, job_of, jobs, new_child, next_job, submitted}
+use Rattle.sl_trace.specs.Traces.{Child, Job, Submitted, answer_of, answered_in, child_after, child_numbered, children, is_running, job_of, jobs, new_child, next_job, submitted}
 use Rattle.sl_trace.specs.declared.effects.Call.{Call}
 use Rattle.sl_trace.specs.declared.input.Input.{Input}
 use Rattle.sl_trace.specs.declared.input.Input.TheVariants.{Answer as Told, Exit, Line, Number, Spawned, Wake}
@@ -25,7 +26,7 @@ use Rattle.sl_words.proofs.CaseLaws.{none_some, not_both, some_value, true_is_fa
 use Rattle.std.proofs.Common.{ap, inl, inr, refl, subst, sym, ◌∙◌}
 use Rattle.std.proofs.lemmas.Bool.{eqb-true}
 use Rattle.std.specs.Option.{option_or}
-use Rattle.std.specs.Prelude.{Bool, Contains, List, None, Option, Some, [], false, length, map, true, ℕ, ◌++◌, ◌==◌, ◌∷◌, ◌≡◌, ◌⊎◌}
+use Rattle.std.specs.Prelude.{Bool, Contains, List, None, Option, Some, [], cond, false, find, length, map, true, ℕ, ◌++◌, ◌==◌, ◌∷◌, ◌≡◌, ◌⊎◌}
 
 abbrev pub Busy : Step → Type 0
 Busy x = AllWait x.setting (seen x) None (told_by x.input)
@@ -67,21 +68,31 @@ child_seen (Number text) k opens = (refl, inl opens)
 child_seen Wake k opens = (refl, inl opens)
 
 -- A child whose start is open, once an input is seen.
-children_seen : (x : Step) (i : Input) (k : Child) (j : ℕ) → Contains (children (seen (with_input Wake x))) k → k.job ≡ Some j → k.answer ≡ None
-    → (c : Child) × Contains (children (seen (with_input i x))) c × (c.job ≡ Some j) × ((c.answer ≡ None) ⊎ (told_by i ≡ Some c.process))
-children_seen x i k j there its opens = by (contains_either (map (child_after Wake) (children x.past)) (map new_child x.effects.starts) k there) where
-  by : Contains (map (child_after Wake) (children x.past)) k ⊎ Contains (map new_child x.effects.starts) k
-      → (c : Child) × Contains (map (child_after i) (children x.past) ++ map new_child x.effects.starts) c × (c.job ≡ Some j) × ((c.answer ≡ None) ⊎ (told_by i ≡ Some c.process))
-  by (inr new) = (k, contains_right (map (child_after i) (children x.past)) (map new_child x.effects.starts) k new, its, inl opens)
-  by (inl old) =
-      let was = in_map (child_after Wake) (children x.past) k old in
-      let same : was.0 ≡ k = was.2 in
-      let c = child_seen i was.0 (ap (λ (z : Child). z.answer) same ∙ opens) in (
-        child_after i was.0,
-        contains_left (map (child_after i) (children x.past)) (map new_child x.effects.starts) (child_after i was.0) (contains_map (child_after i) (children x.past) was.0 was.1),
-        c.0 ∙ (ap (λ (z : Child). z.job) same ∙ its),
-        c.1,
-      )
+open_child : (i : Input) (n : ℕ) (ks ns : List Child) (k : Child) → find (has_number n) (map (child_after Wake) ks ++ ns) ≡ Some k → k.answer ≡ None
+    → (c : Child) × (find (has_number n) (map (child_after i) ks ++ ns) ≡ Some c) × (c.job ≡ k.job) × ((c.answer ≡ None) ⊎ (told_by i ≡ Some c.process))
+open_child i n [] ns k is opens = (k, is, refl, inl opens)
+open_child i n (d ∷ ks) ns k is opens = by (d.process == n) refl (λ rest. open_child i n ks ns k rest opens) where
+  was : (b : Bool) → (d.process == n) ≡ b → cond b (Some d) (find (has_number n) (map (child_after Wake) ks ++ ns)) ≡ Some k
+  was b at = ap (λ z. cond z (Some d) (find (has_number n) (map (child_after Wake) ks ++ ns))) (sym at) ∙ is
+
+  then : (b : Bool) → (d.process == n) ≡ b → (o : Option Child) → cond b (Some (child_after i d)) (find (has_number n) (map (child_after i) ks ++ ns)) ≡ o
+      → find (has_number n) (map (child_after i) (d ∷ ks) ++ ns) ≡ o
+  then b at o found = ap (λ z. cond z (Some (child_after i d)) (find (has_number n) (map (child_after i) ks ++ ns))) (ap (λ m. m == n) (child_same i d) ∙ at) ∙ found
+
+  by : (b : Bool) → (d.process == n) ≡ b
+      → (find (has_number n) (map (child_after Wake) ks ++ ns) ≡ Some k → (c : Child) × (find (has_number n) (map (child_after i) ks ++ ns) ≡ Some c) × (c.job ≡ k.job) × ((c.answer ≡ None) ⊎ (told_by i ≡ Some c.process)))
+      → (c : Child) × (find (has_number n) (map (child_after i) (d ∷ ks) ++ ns) ≡ Some c) × (c.job ≡ k.job) × ((c.answer ≡ None) ⊎ (told_by i ≡ Some c.process))
+  by true at rest =
+      let same : d ≡ k = some_value d k (was true at) in
+      let c = child_seen i d (ap (λ (z : Child). z.answer) same ∙ opens) in (child_after i d, then true at (Some (child_after i d)) refl, c.0 ∙ ap (λ (z : Child). z.job) same, c.1)
+  by false at rest = let c = rest (was false at) in (c.0, then false at (Some c.0) c.1, c.2, c.3)
+
+children_seen : (x : Step) (i : Input) (k : Child) (j : ℕ) → child_numbered (seen (with_input Wake x)) k.process ≡ Some k → k.job ≡ Some j → k.answer ≡ None
+    → (c : Child) × (child_numbered (seen (with_input i x)) c.process ≡ Some c) × (c.job ≡ Some j) × ((c.answer ≡ None) ⊎ (told_by i ≡ Some c.process))
+children_seen x i k j there its opens =
+    let c = open_child i k.process (children x.past) (map new_child x.effects.starts) k there opens in
+    let number : c.0.process ≡ k.process = eqb-true c.0.process k.process (find_inside (has_number k.process) (map (child_after i) (children x.past) ++ map new_child x.effects.starts) c.0 c.1).1 in
+    (c.0, subst (λ n. child_numbered (seen (with_input i x)) n ≡ Some c.0) (sym number) c.1, c.2 ∙ its, c.3)
 
 -- A call without an answer, once an input is seen.
 calls_seen : (x : Step) (i : Input) (m : Submitted) (j : ℕ) → x.effects.calls ≡ [] → Contains (submitted (seen (with_input Wake x))) m → m.answer ≡ None → job_of m.call.purpose ≡ Some j

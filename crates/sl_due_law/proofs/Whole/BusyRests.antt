@@ -1,5 +1,5 @@
 -- Each act leaves every running job waiting: those that are left alone by what the act does, and the act's own.
-use Rattle.sl_acts.specs.Acts.{Has, Hears, lone_job}
+use Rattle.sl_acts.specs.Acts.{Has, Hears}
 use Rattle.sl_acts.specs.SoFar.{entry_of}
 use Rattle.sl_area.specs.Places.{request_offset}
 use Rattle.sl_due.specs.DueRequests.{after_request_read, owner_read, request_refusal, write_request}
@@ -24,7 +24,7 @@ use Rattle.sl_trace.specs.declared.effects.JoinStep.TheVariants.{FirstRead}
 use Rattle.sl_trace.specs.declared.effects.Op.{Op}
 use Rattle.sl_trace.specs.declared.effects.Op.TheVariants.{WriteRecord}
 use Rattle.sl_trace.specs.declared.effects.Purpose.{Purpose}
-use Rattle.sl_trace.specs.declared.effects.Purpose.TheVariants.{Joining, Lease, Leaving, Renewal, RequestRead, RequestWrite, SeeRequest, Survey, ValueRead, ValueWrite}
+use Rattle.sl_trace.specs.declared.effects.Purpose.TheVariants.{RequestWrite}
 use Rattle.sl_trace.specs.declared.input.Answer.{Answer}
 use Rattle.sl_trace.specs.declared.input.Input.{Input}
 use Rattle.sl_trace.specs.declared.input.Input.TheVariants.{Answer as Told}
@@ -123,18 +123,6 @@ pub replied_busy : (x : Step) (i : Input) (j : ℕ) (r : Reply) → Walks i (Som
 replied_busy x i j r h =
     walked (add_reply j r x) i (Some j) ((walk i (Some j)).replies x j r tt h)
     (λ n is runs. absurd (not_both (is_running (seen (add_reply j r x)) n) runs (subst (λ k. is_running (seen (add_reply j r x)) k ≡ false) (some_value j n is) (reply_stops x j r))))
-
-pub lone_is : (p : Purpose) (j : ℕ) → lone_job p ≡ Some j → job_of p ≡ Some j
-lone_is (RequestRead k) j is = is
-lone_is (RequestWrite k owner) j is = is
-lone_is (ValueWrite k) j is = is
-lone_is (ValueRead k) j is = is
-lone_is (Joining k step) j is = absurd (none_some j is)
-lone_is Renewal j is = absurd (none_some j is)
-lone_is Survey j is = absurd (none_some j is)
-lone_is (Leaving k) j is = absurd (none_some j is)
-lone_is (Lease work step) j is = absurd (none_some j is)
-lone_is SeeRequest j is = absurd (none_some j is)
 
 -- A call that a job makes.
 called_busy : (x : Step) (i : Input) (j : ℕ) (s : Session) (path : List ℕ) (p : Purpose) (o : ℕ) (op : Op) → is_join_call FirstRead p ≡ false → job_of p ≡ Some j → Walks i (Some j) x → Busy (add_call_of s.number path p o op x)

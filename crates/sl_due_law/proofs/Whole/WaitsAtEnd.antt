@@ -135,7 +135,7 @@ none_idle st t names facts orderly waits =
       by (For_call m there (inl opens) of) = inl (open_waits t j.number m there opens of)
       by (For_call m there (inr heard) of) = absurd (none_some m.call.number heard)
       by (For_child k there its (inl opens)) =
-          inr (inl (any_of (λ (c : Child). some_is (λ n. n == j.number) c.job && is_none c.answer) (children t) k (ap₂ (λ p q. p && q) (ap (λ o. some_is (λ n. n == j.number) o) its ∙ number_itself j.number) (ap (λ o. is_none o) opens)) there))
+          inr (inl (any_of (λ (c : Child). some_is (λ n. n == j.number) c.job && is_none c.answer) (children t) k (ap₂ (λ p q. p && q) (ap (λ o. some_is (λ n. n == j.number) o) its ∙ number_itself j.number) (ap (λ o. is_none o) opens)) (find_inside (λ (c : Child). c.process == k.process) (children t) k there).0))
       by (For_child k there its (inr told)) = absurd (none_some k.process told)
       by (For_leaving s k there is number) =
           inr (inr (inr (any_of (λ (z : Session). some_is (λ (i : Job). i.number == j.number) (leaving_job st t z)) (sessions st t) s

@@ -2,7 +2,7 @@
 use Rattle.sl_acts.specs.SoFar.{entry_of}
 use Rattle.sl_due.specs.Steps.{Step, add_call_of, add_end, add_grant, add_move, add_reply, add_signal, add_start, seen}
 use Rattle.sl_due_law.specs.Whole.Busy.{For_call, For_child, For_leaving, For_session, Waits}
-use Rattle.sl_due_law.proofs.Jobs.JobFactsGrow.{contains_left}
+use Rattle.sl_due_law.proofs.Jobs.JobsAreNumbered.{found_before}
 use Rattle.sl_due_law.proofs.Jobs.NearlyPlainActs.{Nearly}
 use Rattle.sl_due_law.proofs.Jobs.SessionsHaveJobs.{left_in}
 use Rattle.sl_due_law.proofs.Jobs.SessionsStand.{reply_stops, running_before}
@@ -12,7 +12,7 @@ use Rattle.sl_plain.proofs.Lists.{contains_first, contains_map, contains_more, c
 use Rattle.sl_sessions.specs.Sessions.{is_joined, leaves, leaving_in, leaving_job, sessions}
 use Rattle.sl_sessions.specs.declared.session.Session.{Session}
 use Rattle.sl_trace.proofs.TraceFacts.{submitted-push}
-use Rattle.sl_trace.specs.Traces.{Answered, Job, Setting, Submitted, Trace, answer_of, answered_in, children, is_running, jobs, line_in, mark, new_call, new_child, next_call, next_job, submitted}
+use Rattle.sl_trace.specs.Traces.{Answered, Child, Job, Setting, Submitted, Trace, answer_of, answered_in, children, is_running, jobs, line_in, mark, new_call, new_child, next_call, next_job, submitted}
 use Rattle.sl_trace.specs.declared.effects.Call.{Call}
 use Rattle.sl_trace.specs.declared.effects.Entry.{Entry}
 use Rattle.sl_trace.specs.declared.effects.JobReply.{JobReply}
@@ -29,7 +29,7 @@ use Rattle.std.proofs.Common.{ap, ap₂, inl, inr, refl, subst, sym, ◌∙◌}
 use Rattle.std.proofs.lemmas.Bool.{eqb-true}
 use Rattle.std.specs.List.{list_any}
 use Rattle.std.specs.Option.{option_or}
-use Rattle.std.specs.Prelude.{Bool, Contains, List, None, Option, Some, [], false, fold, length, map, not, slice_get, suc, true, zero, ℕ, ◌&&◌, ◌++◌, ◌==◌, ◌∷◌, ◌≡◌, ◌⊎◌}
+use Rattle.std.specs.Prelude.{Bool, Contains, List, None, Option, Some, [], false, find, fold, length, map, not, slice_get, suc, true, zero, ℕ, ◌&&◌, ◌++◌, ◌==◌, ◌∷◌, ◌≡◌, ◌⊎◌}
 
 -- ---- the same in another trace
 
@@ -37,7 +37,7 @@ pub waits_again : (st : Setting) (t u : Trace) (heard told : Option ℕ) (j : �
     → Waits st t heard told j → Waits st u heard told j
 waits_again st t u heard told j ss ms ks leaving (For_session s there its) = For_session s (subst (λ zs. Contains zs s) ss there) its
 waits_again st t u heard told j ss ms ks leaving (For_call m there opens of) = For_call m (subst (λ zs. Contains zs m) ms there) opens of
-waits_again st t u heard told j ss ms ks leaving (For_child k there its opens) = For_child k (subst (λ zs. Contains zs k) ks there) its opens
+waits_again st t u heard told j ss ms ks leaving (For_child k there its opens) = For_child k (ap (λ zs. find (λ (c : Child). c.process == k.process) zs) (sym ks) ∙ there) its opens
 waits_again st t u heard told j ss ms ks leaving (For_leaving s k there is number) = For_leaving s k (subst (λ zs. Contains zs s) ss there) (sym (leaving s) ∙ is) number
 
 -- ---- a reply
@@ -89,7 +89,7 @@ open_replied past e f m reading input calls there opens = subst (λ ms. Contains
 
 -- ---- a leaving that no reply undoes
 
-leaving_replied : (y : Step) (i : ℕ) (r : Reply) (s : Session) (k : Job) → leaving_job y.setting (seen y) s ≡ Some k → (i ≡ k.number → ⊥) → leaving_job y.setting (seen (add_reply i r y)) s ≡ Some k
+pub leaving_replied : (y : Step) (i : ℕ) (r : Reply) (s : Session) (k : Job) → leaving_job y.setting (seen y) s ≡ Some k → (i ≡ k.number → ⊥) → leaving_job y.setting (seen (add_reply i r y)) s ≡ Some k
 leaving_replied y i r s k is other = by (leaving_job y.setting y.past s) is where
   unmoved : leaving_in y.setting y.past s (entry_of y) ≡ Some k → list_any (λ (a : JobReply). a.job == next_job y.setting y.past) (y.effects.replies ++ record { job = i; reply = r } ∷ []) ≡ list_any (λ (a : JobReply). a.job == next_job y.setting y.past) y.effects.replies
   unmoved h =
@@ -131,7 +131,7 @@ waits_started : (y : Step) (told : Option ℕ) (k : Start) (j : ℕ) → Waits y
 waits_started y told k j (For_session s there its) = For_session s there its
 waits_started y told k j (For_call m there opens of) = For_call m there opens of
 waits_started y told k j (For_child c there its opens) =
-    For_child c (subst (λ ks. Contains ks c) (sym (effects_are_told.starts k (entry_of y) y.past)) (contains_left (children (seen y)) (new_child k ∷ []) c there)) its opens
+    For_child c (ap (λ ks. find (λ (d : Child). d.process == c.process) ks) (effects_are_told.starts k (entry_of y) y.past) ∙ found_before (λ (d : Child). d.process == c.process) (children (seen y)) (new_child k ∷ []) c there) its opens
 waits_started y told k j (For_leaving s c there is number) = For_leaving s c there is number
 
 -- All jobs but one that need not wait yet.

@@ -6,6 +6,7 @@ use Rattle.sl_leases.specs.Leases.{is_lease_call, is_on}
 use Rattle.sl_sessions.specs.Sessions.{calls_of, generation_in, sessions}
 use Rattle.sl_sessions.specs.Watching.{evidence_in}
 use Rattle.sl_sessions.specs.declared.session.Session.{Session}
+use Rattle.sl_due_law.specs.Causes.CauseFacts.{CauseFacts}
 use Rattle.sl_due_law.specs.Facts.Heard.{heard_by}
 use Rattle.sl_due_law.specs.Facts.Whole.{WholeTrace}
 use Rattle.sl_trace.specs.Traces.{Job, Setting, Submitted, is_running, job_numbered, next_job, reply_to, submitted}
@@ -19,7 +20,7 @@ use Rattle.sl_trace.specs.declared.effects.JobReply.{JobReply}
 use Rattle.sl_trace.specs.declared.effects.Start.{Start}
 use Rattle.sl_trace.specs.declared.input.Input.TheVariants.{Line, Wake}
 use Rattle.sl_trace.specs.declared.input.Input.{Input}
-use Rattle.sl_trace.specs.declared.reply.Reply.TheVariants.{Done, Granted, IdHeld, Recovering, Started, ValueSet}
+use Rattle.sl_trace.specs.declared.reply.Reply.TheVariants.{Done, Granted, Recovering}
 use Rattle.sl_trace.specs.declared.reply.Reply.{Reply}
 use Rattle.std.specs.Prelude.{AllPairs, Bool, Contains, List, None, Ok, Some, [], false, filter, not, true, ℕ, ◌&&◌, ◌++◌, ◌≡◌, ◌≢◌}
 
@@ -90,6 +91,7 @@ pub record IsAtOnce (x : Step) (a : JobReply) : Type 0 where
 -- After a trace with all its facts each reply so far but that has its cause, if it is one of these in an entry with this input.
 pub record CausedSoFar (these : Input → Reply → Bool) (x : Step) : Type 0 where
   pub before : WholeTrace x.setting x.past
+  pub facts : CauseFacts x.setting x.past
   pub causes : (a : JobReply) → Contains x.effects.replies a → these x.input a.reply ≡ true → (IsAtOnce x a → ⊥) → StaysCaused x a
   -- until an input is seen only kill programs are started
   pub jobless : x.input ≡ Wake → (k : Start) → Contains x.effects.starts k → k.job ≡ None
@@ -99,13 +101,9 @@ abbrev pub is_line : Input → Bool
 is_line (Line text) = true
 is_line i = false
 
--- The replies of which that is shown: all refusals by calls, by time, by starts and exits, and by recoveries, but for a read that differs
--- from a joining's first, and what a leaving's line refuses; and what a lease's work is granted.
+-- The replies of which that is shown: all but what a line refuses as in recovery, what it is granted, and what it is answered as done.
 abbrev pub is_explained : Input → Reply → Bool
-is_explained i (IdHeld version later) = false
 is_explained i (Recovering t) = not (is_line i)
-is_explained i Done = false
+is_explained i Done = not (is_line i)
 is_explained i (Granted lver) = not (is_line i)
-is_explained i (Started lver process) = false
-is_explained i (ValueSet lver seq) = false
 is_explained i r = true

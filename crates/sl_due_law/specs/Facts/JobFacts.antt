@@ -1,11 +1,10 @@
--- What is known of jobs: whose they are, what their calls have to do with their commands, and that none is left idle.
-use Rattle.sl_due.specs.Due.{IsBusy}
+-- What is known of jobs: whose they are, and what their calls have to do with their commands.
 use Rattle.sl_leases.specs.Jobs.{aim_of_command, command_numbered, resource_named}
 use Rattle.sl_leases.specs.Leases.{spot_of, spot_of_call}
 use Rattle.sl_sessions.specs.Sessions.{is_session_arg, joining_session, session_numbered, sessions}
 use Rattle.sl_sessions.specs.declared.session.Session.{Session}
 use Rattle.sl_due_law.specs.Facts.Heard.{IsOpen}
-use Rattle.sl_trace.specs.Traces.{Child, Job, Setting, Submitted, Trace, children, is_running, job_numbered, job_of, running_jobs, submitted}
+use Rattle.sl_trace.specs.Traces.{Child, Setting, Submitted, Trace, children, is_running, job_numbered, job_of, submitted}
 use Rattle.sl_trace.specs.declared.command.Command.TheVariants.{AddLockspace, GetLvb, RemLockspace, Request, RunProgram, SetLvb}
 use Rattle.sl_trace.specs.declared.command.Command.{Command}
 use Rattle.sl_trace.specs.declared.command.LockspaceArg.{LockspaceArg}
@@ -14,7 +13,7 @@ use Rattle.sl_trace.specs.declared.effects.LeaseStep.TheVariants.{ReadArea}
 use Rattle.sl_trace.specs.declared.effects.LeaseStep.{LeaseStep}
 use Rattle.sl_trace.specs.declared.effects.Purpose.TheVariants.{Joining, Lease, Leaving, RequestRead, RequestWrite, ValueRead, ValueWrite}
 use Rattle.sl_trace.specs.declared.effects.Purpose.{Purpose}
-use Rattle.std.specs.Prelude.{Bool, Contains, IsSome, IsTrue, List, Option, Some, false, ℕ, ◌≡◌, ◌⊎◌}
+use Rattle.std.specs.Prelude.{Bool, Contains, IsSome, IsTrue, List, Option, Some, false, ℕ, ◌≡◌}
 
 -- A call on a resource's area is of the command's resource, in the session's lockspace.
 abbrev pub IsOfResource : Setting → Session → Submitted → ResourceArg → Type 0
@@ -51,11 +50,3 @@ pub record JobFacts (st : Setting) (t : Trace) (heard : Option ℕ) : Type 0 whe
   -- so an overdue call is its job's
   pub one : (m n : Submitted) (j : ℕ) → Contains (submitted t) m → Contains (submitted t) n → IsOpen t heard m → IsOpen t heard n →
       job_of m.call.purpose ≡ Some j → job_of n.call.purpose ≡ Some j → m ≡ n
-
--- The answer to the job's call was heard.
-abbrev pub IsHeardFor : Trace → Option ℕ → Job → Type 0
-IsHeardFor t heard j = (m : Submitted) × Contains (submitted t) m × (heard ≡ Some m.call.number) × (job_of m.call.purpose ≡ Some j.number)
-
--- Each job that runs has something to wait for.
-pub record BusyFacts (st : Setting) (t : Trace) (heard : Option ℕ) : Type 0 where
-  pub each : (j : Job) → Contains (running_jobs st t) j → IsBusy st t j ⊎ IsHeardFor t heard j

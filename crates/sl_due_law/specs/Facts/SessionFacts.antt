@@ -8,7 +8,7 @@ use Rattle.sl_sessions.specs.declared.session.Session.{Session}
 use Rattle.sl_due_law.specs.Facts.Heard.{IsOpen}
 use Rattle.sl_time.specs.Times.{fail}
 use Rattle.sl_trace.specs.Connections.{Connection, connection_named, connections, is_registered, last_registering}
-use Rattle.sl_trace.specs.Traces.{Answered, Job, Setting, Submitted, Trace, is_ok_answer, is_running, is_write, submitted, unanswered}
+use Rattle.sl_trace.specs.Traces.{Answered, Job, Setting, Submitted, Trace, is_ok_answer, is_running, is_write, unanswered}
 use Rattle.sl_words.specs.Bounds.{is_number}
 use Rattle.sl_words.specs.Words.{is_empty}
 use Rattle.std.specs.Prelude.{Contains, IsSome, IsTrue, List, None, Option, Some, false, is_some, true, [], ℕ, ◌&&◌, ◌+◌, ◌∷◌, ◌≡◌, ◌≤◌, ◌⊎◌}

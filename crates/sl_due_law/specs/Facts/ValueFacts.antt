@@ -10,7 +10,7 @@ use Rattle.sl_trace.specs.declared.command.Command.TheVariants.{GetLvb}
 use Rattle.sl_trace.specs.declared.command.ResourceArg.{ResourceArg}
 use Rattle.sl_trace.specs.declared.effects.Grant.{Grant}
 use Rattle.sl_trace.specs.declared.effects.Purpose.TheVariants.{ValueRead}
-use Rattle.std.specs.Prelude.{Bool, Contains, Option, Some, false, true, ℕ, ◌≡◌, ◌≤◌}
+use Rattle.std.specs.Prelude.{Contains, Option, Some, false, true, ℕ, ◌≡◌, ◌≤◌}
 
 -- A read of a value, of a session's job that runs, which waits for its answer or for what that makes due.
 pub record IsReading (st : Setting) (t : Trace) (heard : Option ℕ) (m : Submitted) (j : ℕ) (s : Session) : Type 0 where

@@ -1,7 +1,7 @@
 -- What a running job waits for.
 use Rattle.sl_sessions.specs.Sessions.{leaving_job, sessions}
 use Rattle.sl_sessions.specs.declared.session.Session.{Session}
-use Rattle.sl_trace.specs.Traces.{Child, Job, Setting, Submitted, Trace, children, is_running, job_of, jobs, submitted}
+use Rattle.sl_trace.specs.Traces.{Child, Job, Setting, Submitted, Trace, child_numbered, is_running, job_of, jobs, submitted}
 use Rattle.sl_trace.specs.declared.input.Input.TheVariants.{Spawned}
 use Rattle.sl_trace.specs.declared.input.Input.{Input}
 use Rattle.std.specs.Prelude.{Contains, None, Option, Some, true, ℕ, ◌≡◌, ◌⊎◌}
@@ -16,7 +16,7 @@ told_by i = None
 pub data Waits (st : Setting) (t : Trace) (heard told : Option ℕ) (j : ℕ) : Type 0 where
   For_session : (s : Session) → Contains (sessions st t) s → s.job ≡ Some j → Waits st t heard told j
   For_call : (m : Submitted) → Contains (submitted t) m → (m.answer ≡ None) ⊎ (heard ≡ Some m.call.number) → job_of m.call.purpose ≡ Some j → Waits st t heard told j
-  For_child : (k : Child) → Contains (children t) k → k.job ≡ Some j → (k.answer ≡ None) ⊎ (told ≡ Some k.process) → Waits st t heard told j
+  For_child : (k : Child) → child_numbered t k.process ≡ Some k → k.job ≡ Some j → (k.answer ≡ None) ⊎ (told ≡ Some k.process) → Waits st t heard told j
   For_leaving : (s : Session) (k : Job) → Contains (sessions st t) s → leaving_job st t s ≡ Some k → k.number ≡ j → Waits st t heard told j
 
 -- Each running job waits.

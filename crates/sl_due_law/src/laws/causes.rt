@@ -1,16 +1,16 @@
-//! The replies of a daemon that does what is due: each is of a running job, one for a job, and, as far as that is explained here, it has
-//! its cause at each act and keeps it to the entry's end: all that calls, time, starts, exits and recoveries refuse, what a lease's work is
-//! granted, what reads tell, and texts that say no command. What a command is answered at once has its cause in the entry that is due,
-//! by what the step had done before its input.
-//! Whom the step of a line refuses as in recovery, and what a line is granted, has its cause there too.
-//! Not explained are reads that differ from a joining's first, what writes of requests, values and releases are answered, and started
-//! programs.
+//! The replies of a daemon that does what is due: each is of a running job, one for a job, and has its cause, in each trace of a daemon that
+//! does what is due.
+//!
+//! Each act gives its replies with their causes and keeps them to the entry's end, but for what a line is answered at once, refused as in
+//! recovery, granted, or answered as done: that has its cause in the entry that is due, by what the step had done before its input.
+//! What is answered later than it was asked rests on what stands behind it: a first look that spelled a record, a read that let a request
+//! pass, a value that the line brought, an end in the line's entry, what a child to be started holds. That stands in each such trace.
 
 ghost use Rattle.sl_due_law.specs.Causes.CausedSoFar.{is_explained};
-ghost use Rattle.sl_due_law.specs.Causes.LineCauses.{AnswersAreCaused, AtOnceAreCaused, DecisionsOverlook, GrantedAtLines, HeadsAreEarly, LastIsSilent, LinesAreCaused, LinesAreWell, RefusedAtLines, StoppedAreCaused};
-ghost use Rattle.sl_due_law.specs.Causes.Promises.{CausesAreKept, CausesBegin, LeavingsAreCaused, RepliesRun, RepliesRunBegin};
+ghost use Rattle.sl_due_law.specs.Causes.LineCauses.{AnswersAreCaused, AtOnceAreCaused, DecisionsOverlook, DoneAtLines, GrantedAtLines, HeadsAreEarly, LastIsSilent, LinesAreCaused, LinesAreWell, RefusedAtLines, StoppedAreCaused};
+ghost use Rattle.sl_due_law.specs.Causes.Promises.{CausesAreKept, CausesBegin, CausesStand, LeavingsAreCaused, RepliesRun, RepliesRunBegin, TracesAreCaused};
 
-/// Each act gives its replies with their causes, as far as they are explained, and leaves those before it.
+/// Each act gives its replies with their causes, but for those of its line, and leaves those before it.
 pub fn causes_are_kept()
     ensures { CausesAreKept is_explained }
 {}
@@ -84,4 +84,19 @@ pub fn refused_at_lines()
 /// What a line is granted, beside a holding or by taking one over, is granted with its cause.
 pub fn granted_at_lines()
     ensures { GrantedAtLines }
+{}
+
+/// What a line is answered as done is so with its cause: a kill program is set, or a holding was given up beside others of the lease.
+pub fn done_at_lines()
+    ensures { DoneAtLines }
+{}
+
+/// What the causes of later replies stand on holds of each trace of steps that are due.
+pub fn causes_stand()
+    ensures { CausesStand }
+{}
+
+/// Each reply of each entry that is due has its cause.
+pub fn traces_are_caused()
+    ensures { TracesAreCaused }
 {}

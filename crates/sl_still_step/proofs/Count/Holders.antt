@@ -3,11 +3,10 @@ use Rattle.sl_first.proofs.Growth.{same_number}
 use Rattle.sl_first.proofs.Standing.{held_stays}
 use Rattle.sl_first.specs.FirstPath.{first_effects}
 use Rattle.sl_first.specs.FirstSteps.{Holds, Idle, Phase, Works}
-use Rattle.sl_first_law.proofs.Calmness.{only}
 use Rattle.sl_leases.specs.Counts.{holder_count}
 use Rattle.sl_leases.specs.Jobs.{is_asking_lease}
 use Rattle.sl_leases.specs.Leases.{spot_of}
-use Rattle.sl_plain.proofs.Lists.{contains_none, kept}
+use Rattle.sl_plain.proofs.Lists.{contains_cases, contains_none, kept}
 use Rattle.sl_plain.proofs.Truth.{or_false}
 use Rattle.sl_still.proofs.Leases.{grant_of_lease, held_filtered, is_its_grant, spot_same, spot_self}
 use Rattle.sl_still.proofs.Lists.{list_all_of}
@@ -22,10 +21,13 @@ use Rattle.sl_trace.specs.declared.effects.End.{End}
 use Rattle.sl_trace.specs.declared.effects.Grant.{Grant}
 use Rattle.sl_trace.specs.declared.effects.JobReply.{JobReply}
 use Rattle.sl_words.proofs.WordLaws.{and_true}
-use Rattle.std.proofs.Common.{ap, arith, refl, subst, sym, ◌∙◌}
+use Rattle.std.proofs.Common.{inl, inr, ap, arith, refl, subst, sym, ◌∙◌}
 use Rattle.std.proofs.lemmas.List.Filters.{length-filter_both}
 use Rattle.std.proofs.lemmas.List.{append-nil, length-append}
 use Rattle.std.specs.Prelude.{Contains, List, [], false, filter, length, not, true, ℕ, ◌&&◌, ◌++◌, ◌+◌, ◌==◌, ◌∷◌, ◌≡◌}
+
+only : {A : Type 0} (a x : A) → Contains (a ∷ []) x → a ≡ x
+only a x there = elim (contains_cases a [] x there) [ inl is ↦ is | inr none ↦ absurd (contains_none x none) ]
 
 -- Where no child was started, the holders are the holdings and the jobs that ask for one.
 pub holders_are : (st : Setting) (es : Trace) → children es ≡ [] → holder_count st es ≡ length (holdings es) + asking st es

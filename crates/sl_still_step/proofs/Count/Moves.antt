@@ -3,7 +3,7 @@ use Rattle.sl_first.proofs.Entries.{running_answered, running_begun, running_sta
 use Rattle.sl_first.proofs.Standing.{held_stays}
 use Rattle.sl_first.specs.FirstPath.{Doing, first_effects, next_doing, one_reply, open_kept}
 use Rattle.sl_first.specs.FirstSteps.{Begins_phase1, Begins_phase2, Goes_on_phase1, Goes_on_phase2, Grants, Holds, Idle, IsNamed, Live, Phase, Replies_late, Takes, Works, first_known, process_of, work_in}
-use Rattle.sl_first_law.specs.Ballot.Ways.{ballot_place}
+use Rattle.sl_still.specs.StillSteps.{ballot_place}
 use Rattle.sl_leases.specs.Counts.{holder_count, resource_count}
 use Rattle.sl_leases.specs.Jobs.{is_asking_lease, is_command_that}
 use Rattle.sl_leases.specs.declared.lease.LeaseNext.{LeaseNext}

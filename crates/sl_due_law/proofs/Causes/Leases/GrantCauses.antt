@@ -143,7 +143,7 @@ way x s m j step c h ms newest =
 -- ---- the shared mode
 
 -- Whose leader was freed for a job that acquires wanted the shared mode.
-freed_shared : (x : Step) (s : Session) (m : Submitted) (j : ℕ) (c : Command) (mode : Mode) → WriteHeard x s m j FreeLeader c → aim_of x.setting (seen x) (ForJob j) ≡ Some (Acquires mode) → mode ≡ Shared
+pub freed_shared : (x : Step) (s : Session) (m : Submitted) (j : ℕ) (c : Command) (mode : Mode) → WriteHeard x s m j FreeLeader c → aim_of x.setting (seen x) (ForJob j) ≡ Some (Acquires mode) → mode ≡ Shared
 freed_shared x s m j c mode h aims = by (way x s m j FreeLeader c h newest.0 newest.1).why where
   newest : (ms : List Submitted) × (lease_calls x.setting (seen x) s (spot_of_call x.setting.layout m) ≡ m ∷ ms)
   newest = h.known.0.facts.turns.newest s m h.hears.session (heard_call x s m Written h.hears).0 (heard_opens x s m Written h.hears) (ap (λ p. is_some (lease_step p)) h.purpose)
@@ -291,13 +291,13 @@ pub record JobLed (these : Input → Reply → Bool) (x : Step) (s : Session) (m
   pub unconcluded : IsConcluded x → ⊥
 
 -- The command of the job.
-asked : (x : Step) (j : ℕ) (aim : Aim) → aim_of x.setting (seen x) (ForJob j) ≡ Some aim → (c : Command) × (command_numbered x.setting (seen x) j ≡ Some c) × (aim_of_command c ≡ Some aim)
+pub asked : (x : Step) (j : ℕ) (aim : Aim) → aim_of x.setting (seen x) (ForJob j) ≡ Some aim → (c : Command) × (command_numbered x.setting (seen x) j ≡ Some c) × (aim_of_command c ≡ Some aim)
 asked x j aim aims = then_value aim_of_command (command_numbered x.setting (seen x) j) aim aims
 
-abbrev mode_for : Bool → Mode
+abbrev pub mode_for : Bool → Mode
 mode_for shared = elim shared [ true ↦ Shared | false ↦ Exclusive ]
 
-is_wanted : (shared : Bool) → is_shared (mode_for shared) ≡ shared
+pub is_wanted : (shared : Bool) → is_shared (mode_for shared) ≡ shared
 is_wanted true = refl
 is_wanted false = refl
 
@@ -367,7 +367,7 @@ grant_done these x s m answer j step aim h mode lver next = subst (λ o. CausedS
   of Status reads aims = h.caused
 
 -- Who converts has asked for it.
-converts_asked : (c : Command) (mode : Mode) → aim_of_command c ≡ Some (Converts mode) → (r : ResourceArg) × (shared : Bool) × (p : ℕ) × (c ≡ Convert r shared p) × (is_shared mode ≡ shared)
+pub converts_asked : (c : Command) (mode : Mode) → aim_of_command c ≡ Some (Converts mode) → (r : ResourceArg) × (shared : Bool) × (p : ℕ) × (c ≡ Convert r shared p) × (is_shared mode ≡ shared)
 converts_asked (Convert r shared p) mode is = (r, shared, p, refl, ap (λ q. is_shared q) (modes (some_value (Converts mode) (Converts (mode_for shared)) (sym is))) ∙ is_wanted shared) where
   modes : {a b : Mode} → Converts a ≡ Converts b → a ≡ b
   modes same = cc

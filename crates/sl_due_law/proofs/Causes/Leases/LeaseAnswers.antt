@@ -346,11 +346,11 @@ refused_caused these x s m answer j step aim why k w hears purpose aims may next
 pub led_caused : (these : Reply → Bool) (x : Step) (s : Session) (m : Submitted) (answer : Answer) (j : ℕ) (step : LeaseStep) (aim : Aim) (why : Reply) → Known x → WholeTrace x.setting x.past → Hears x s m answer
     → m.call.purpose ≡ Lease (ForJob j) step → aim_of x.setting (seen x) (ForJob j) ≡ Some aim → IsLate x why
     → next_of_lease x.setting (seen x) s (spot_of_call x.setting.layout m) aim m step answer ≡ AnswerJob why
-    → (these Done ≡ true → StaysCaused (add_reply j Done x) (record { job = j; reply = Done }))
+    → (why ≡ Done → these Done ≡ true → StaysCaused (add_reply j Done x) (record { job = j; reply = Done }))
     → these why ≡ true → StaysCaused (add_reply j why x) (record { job = j; reply = why })
 led_caused these x s m answer j step aim why k w hears purpose aims may next done shown = by (is_done why) refl where
   by : (b : Bool) → is_done why ≡ b → StaysCaused (add_reply j why x) (record { job = j; reply = why })
   by true is =
       subst (λ (r : Reply). StaysCaused (add_reply j r x) (record { job = j; reply = r })) (sym (done_is why is))
-      (done (subst (λ (r : Reply). these r ≡ true) (done_is why is) shown))
+      (done (done_is why is) (subst (λ (r : Reply). these r ≡ true) (done_is why is) shown))
   by false other = refused_caused these x s m answer j step aim why k w hears purpose aims may next (ap₂ (λ a b. a && not b) shown other)

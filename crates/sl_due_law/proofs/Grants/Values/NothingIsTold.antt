@@ -241,7 +241,7 @@ answered_now x m w there told = by (new_or_marked x.effects.calls (length x.past
   by (inr inside) = by_input x.input refl inside
 
 -- Who was replied to runs no more.
-replied_stops : (past : Trace) (e : Entry) (a : JobReply) → Contains e.effects.replies a → is_running (e ∷ past) a.job ≡ false
+pub replied_stops : (past : Trace) (e : Entry) (a : JobReply) → Contains e.effects.replies a → is_running (e ∷ past) a.job ≡ false
 replied_stops past e a there = by (reply_to past a.job) where
   found : (o : Option JobReply) → find (λ (b : JobReply). b.job == a.job) e.effects.replies ≡ o → is_none (option_map (λ (b : JobReply). let r : Replied = record { at = length past; reply = b.reply } in r) o) ≡ false
   found (Some b) is = refl

@@ -45,7 +45,7 @@ use Rattle.std.specs.Prelude.{Bool, Contains, List, None, Option, Some, [], cond
 
 -- ---- children
 
-child_kept : (i : Input) (c : Child) → c.answer ≡ Some true → (child_after i c).answer ≡ Some true
+pub child_kept : (i : Input) (c : Child) → c.answer ≡ Some true → (child_after i c).answer ≡ Some true
 child_kept (Spawned q ok) c is = by (q == c.process) where
   by : (b : Bool) → (let k : Child = elim b as (λ z. Child) [ false ↦ c | true ↦ record c { answer = option_or c.answer (Some ok) } ] in k.answer) ≡ Some true
   by true = ap (λ o. option_or o (Some ok)) is
@@ -59,7 +59,7 @@ child_kept (Line text) c is = is
 child_kept (Number text) c is = is
 child_kept Wake c is = is
 
-child_same : (i : Input) (c : Child) → (child_after i c).process ≡ c.process
+pub child_same : (i : Input) (c : Child) → (child_after i c).process ≡ c.process
 child_same (Spawned q ok) c = by (q == c.process) where
   by : (b : Bool) → (let k : Child = elim b as (λ z. Child) [ false ↦ c | true ↦ record c { answer = option_or c.answer (Some ok) } ] in k.process) ≡ c.process
   by true = refl
@@ -73,7 +73,7 @@ child_same (Line text) c = refl
 child_same (Number text) c = refl
 child_same Wake c = refl
 
-abbrev has_number : ℕ → Child → Bool
+abbrev pub has_number : ℕ → Child → Bool
 has_number p c = c.process == p
 
 -- A child that is found after the input, of one that was started.
@@ -92,11 +92,11 @@ found_then i p (c ∷ ks) ns k is h = by (c.process == p) refl (λ found rest. f
   by true at rest = subst (λ (d : Child). d.answer ≡ Some true) (some_value (child_after i c) k (turned true at)) (child_kept i c (before true at c refl))
   by false at rest = rest (turned false at) (λ d found. before false at d found)
 
-woken : (ks : List Child) → map (child_after Wake) ks ≡ ks
+pub woken : (ks : List Child) → map (child_after Wake) ks ≡ ks
 woken [] = refl
 woken (k ∷ ks) = ap (λ rest. k ∷ rest) (woken ks)
 
-started_then : (x : Step) (i : Input) (p : ℕ) → x.input ≡ Wake → ((k : Child) → child_numbered (seen x) p ≡ Some k → k.answer ≡ Some true) → (k : Child) → child_numbered (seen (with_input i x)) p ≡ Some k → k.answer ≡ Some true
+pub started_then : (x : Step) (i : Input) (p : ℕ) → x.input ≡ Wake → ((k : Child) → child_numbered (seen x) p ≡ Some k → k.answer ≡ Some true) → (k : Child) → child_numbered (seen (with_input i x)) p ≡ Some k → k.answer ≡ Some true
 started_then x i p wake h k is =
     found_then i p (children x.past) (map new_child x.effects.starts) k is
     (λ c found. h c (ap (λ j. find (has_number p) (map (child_after j) (children x.past) ++ map new_child x.effects.starts)) wake
@@ -204,11 +204,11 @@ heard_values x n w wake bare expected k = facts_by x.setting z (above_then x (To
 
 -- ---- an exit
 
-command_then : (x : Step) (i : Input) (j : ℕ) (c : Command) → x.input ≡ Wake → command_numbered x.setting (seen x) j ≡ Some c → command_numbered x.setting (seen (with_input i x)) j ≡ Some c
+pub command_then : (x : Step) (i : Input) (j : ℕ) (c : Command) → x.input ≡ Wake → command_numbered x.setting (seen x) j ≡ Some c → command_numbered x.setting (seen (with_input i x)) j ≡ Some c
 command_then x i j c wake is = let v = then_value command_of (job_numbered x.setting (seen x) j) c is in ap (λ o. option_and_then command_of o) (numbered_seen x i wake j v.0 v.1) ∙ v.2
 
 -- Ends of what a process holds spare what another does.
-others_spared : (g e : Grant) (p q : ℕ) → g.process ≡ p → e.process ≡ q → (p == q) ≡ false → ((end_of g).process == e.process && same_place g.path g.offset e.path e.offset) ≡ false
+pub others_spared : (g e : Grant) (p q : ℕ) → g.process ≡ p → e.process ≡ q → (p == q) ≡ false → ((end_of g).process == e.process && same_place g.path g.offset e.path e.offset) ≡ false
 others_spared g e p q first second other =
     ap (λ b. b && same_place g.path g.offset e.path e.offset) (ap (λ n. n == e.process) first ∙ (ap (λ n. p == n) second ∙ other))
 
@@ -270,7 +270,7 @@ exit_reads x p wake bare k =
 
 -- ---- a start that failed
 
-found_after : (i : Input) (p : ℕ) (ks ns : List Child) (c : Child) → find (has_number p) ks ≡ Some c → find (has_number p) (map (child_after i) ks ++ ns) ≡ Some (child_after i c)
+pub found_after : (i : Input) (p : ℕ) (ks ns : List Child) (c : Child) → find (has_number p) ks ≡ Some c → find (has_number p) (map (child_after i) ks ++ ns) ≡ Some (child_after i c)
 found_after i p [] ns c is = absurd (none_some c is)
 found_after i p (k ∷ ks) ns c is = by (k.process == p) refl (λ rest. found_after i p ks ns c rest) where
   was : (b : Bool) → (k.process == p) ≡ b → cond b (Some k) (find (has_number p) ks) ≡ Some c
@@ -286,7 +286,7 @@ found_after i p (k ∷ ks) ns c is = by (k.process == p) refl (λ rest. found_af
   by false at rest = turned false at (rest (was false at))
 
 -- Its child is one that wasn't started.
-failed_child : (x : Step) (q : ℕ) → x.input ≡ Spawned q false → FollowsTrace x.setting x.past (entry_of x) → (k : Child) × (child_numbered (seen x) q ≡ Some k) × (k.answer ≡ Some false)
+pub failed_child : (x : Step) (q : ℕ) → x.input ≡ Spawned q false → FollowsTrace x.setting x.past (entry_of x) → (k : Child) × (child_numbered (seen x) q ≡ Some k) × (k.answer ≡ Some false)
 failed_child x q input follows =
     let expected : is_starting x.past q ≡ true = ap (λ i. is_expected x.setting x.past i) (sym input) ∙ follows.expected in
     let v = some_is_true (λ (k : Child). is_none k.answer) (child_numbered x.past q) expected in

@@ -73,14 +73,14 @@ heard_way x step aim answer h = step_way (context_at x) h.call h.rest x.work ste
 
 -- ---- what it gave
 
-abbrev given_in : Layout → List ℕ → Purpose → Option (List (Option Block))
+abbrev pub given_in : Layout → List ℕ → Purpose → Option (List (Option Block))
 given_in l bytes p =
     elim (is_at_in Area_read p || is_at_in Read_before_free p) as (λ z. Option (List (Option Block))) [
       | true ↦ Some (area_blocks l bytes)
       | false ↦ elim (is_at_in Phase1_read p || is_at_in Phase2_read p) as (λ z. Option (List (Option Block))) [ true ↦ Some (blocks_in l bytes) | false ↦ None ]
     ]
 
-given_by : (l : Layout) (m : Submitted) (bytes : List ℕ) → gave m ≡ Some bytes → blocks_given l m ≡ given_in l bytes m.call.purpose
+pub given_by : (l : Layout) (m : Submitted) (bytes : List ℕ) → gave m ≡ Some bytes → blocks_given l m ≡ given_in l bytes m.call.purpose
 given_by l m bytes is =
     ap (λ o. elim o as (λ z. Option (List (Option Block))) [
       | None ↦ None

@@ -1,0 +1,60 @@
+-- A daemon that reads a joining at an offset within a sector does what is due, and breaks the law of first reads.
+use Rattle.sl_due.specs.Due.{after_input, before_input, due, due_step}
+use Rattle.sl_due.specs.DueAnswers.{after_answer, after_answer_of}
+use Rattle.sl_due.specs.DueCommands.{after_end, carry_decision, decided, on_line}
+use Rattle.sl_due.specs.DueDelta.{after_free, after_join_answer, after_renewal, after_survey, carry_delta, see_requests}
+use Rattle.sl_due.specs.DueFirst.{begin_recoveries, begin_recovery, kill_holders, kills, refuse, signal_and_refuse, time_out, time_outs}
+use Rattle.sl_due.specs.DueInputs.{leave_holdings, on_exit, on_spawned, take_input}
+use Rattle.sl_due.specs.DueLease.{after_lease_answer, carry_lease, settle}
+use Rattle.sl_due.specs.DueRequests.{after_request_read, after_see_request, after_value_read, request_refusal}
+use Rattle.sl_due.specs.DueWake.{finish, finish_session, join_on_wake, on_wake, renew_on_wake, settle_on_wake, settlings}
+use Rattle.sl_leases.specs.Ballots.{instance_of, phase1_block, phase2_block, stop_of}
+use Rattle.sl_leases.specs.LeaseWork.{area_next, begin_next, lease_next, settle_next}
+use Rattle.sl_leases.specs.Leases.{known}
+use Rattle.sl_lvm.specs.Lvm.{begins, goes_on_with, lvm_turn}
+use Rattle.sl_lvm.specs.LvmLines.{lvm_forms}
+use Rattle.sl_report.specs.Reports.{count_event}
+use Rattle.sl_report.specs.ScheduleLines.{event_forms, header_forms, header_of, header_tests}
+use Rattle.sl_run.specs.Events.{event_tests, first_change, pass_tests}
+use Rattle.sl_run.specs.Locks.{locks_after, told_effects}
+use Rattle.sl_run.specs.Worlds.{initial_record, machine_of_header}
+use Rattle.sl_sector.specs.Fields.{u32_at, u32_bytes, u64_at, u64_bytes}
+use Rattle.sl_sector.specs.Spelling.{block_rules, checked_part, decoded, delta_rules, field_bytes, fields_of, leader_rules, magic, request_rules, spelling, value_rules}
+use Rattle.sl_sessions.specs.Deltas.{next_after_deciding, next_after_first, next_after_verify, next_after_watch, next_in_joining, next_on_wake, next_renewal}
+use Rattle.sl_text.specs.Names.{padded_text}
+use Rattle.sl_trace.specs.Commands.{forms}
+use Rattle.sl_trace.specs.EffectTexts.{reply_words}
+use Rattle.std.specs.Fmt.{digits}
+use Rattle.sl_due.specs.Due.{IsHostTrace}
+use Rattle.sl_examples.specs.Settings.{SettingsMatter, joins_within_sector, reads_within_sectors}
+use Rattle.sl_law.specs.Lawful.{Lawful}
+use Rattle.sl_law.specs.LawfulDelta.{LawfulLook}
+use Rattle.sl_law.specs.Saying.{cut_at}
+use Rattle.sl_sessions.specs.declared.session.Session.{Session}
+use Rattle.sl_trace.specs.Traces.{new_call}
+use Rattle.sl_trace.specs.declared.effects.Call.{Call}
+use Rattle.sl_trace.specs.declared.effects.JoinStep.TheVariants.{FirstRead}
+use Rattle.sl_trace.specs.declared.effects.Op.TheVariants.{ReadSectors}
+use Rattle.sl_trace.specs.declared.effects.Purpose.TheVariants.{Joining}
+use Rattle.sl_words.proofs.CaseLaws.{false_is_true}
+use Rattle.std.proofs.Common.{arith, refl}
+use Rattle.std.specs.Prelude.{Some, [], codes, ◌∷◌}
+
+abbrev look : Call
+look = record { number = 1; session = 0; purpose = Joining 1 FirstRead; path = codes "/d"; offset = 7; op = ReadSectors 1 }
+
+abbrev joining : Session
+joining = record { number = 0; job = Some 1; lockspace = codes "ls"; id = 1; path = codes "/d"; offset = 7; renewed = 0 }
+
+is_host_trace : IsHostTrace reads_within_sectors (joins_within_sector ∷ [])
+unfolding after_answer after_answer_of after_end after_free after_input after_join_answer after_lease_answer after_renewal after_request_read after_see_request after_survey after_value_read area_next before_input begin_next begin_recoveries begin_recovery begins block_rules carry_decision carry_delta carry_lease checked_part count_event decided decoded delta_rules digits due due_step event_forms event_tests field_bytes fields_of finish finish_session first_change forms goes_on_with header_forms header_of header_tests initial_record instance_of join_on_wake kill_holders kills known leader_rules lease_next leave_holdings locks_after lvm_forms lvm_turn machine_of_header magic next_after_deciding next_after_first next_after_verify next_after_watch next_in_joining next_on_wake next_renewal on_exit on_line on_spawned on_wake padded_text pass_tests phase1_block phase2_block refuse renew_on_wake reply_words request_refusal request_rules see_requests settle settle_next settle_on_wake settlings signal_and_refuse spelling stop_of take_input time_out time_outs told_effects u32_at u32_bytes u64_at u64_bytes value_rules
+is_host_trace = ((record { time = omega arith; below = omega arith; expected = refl; numbered = refl }, tt), (refl, tt))
+
+breaks : Lawful reads_within_sectors (joins_within_sector ∷ []) → ⊥
+unfolding after_answer after_answer_of after_end after_free after_input after_join_answer after_lease_answer after_renewal after_request_read after_see_request after_survey after_value_read area_next before_input begin_next begin_recoveries begin_recovery begins block_rules carry_decision carry_delta carry_lease checked_part count_event decided decoded delta_rules digits due due_step event_forms event_tests field_bytes fields_of finish finish_session first_change forms goes_on_with header_forms header_of header_tests initial_record instance_of join_on_wake kill_holders kills known leader_rules lease_next leave_holdings locks_after lvm_forms lvm_turn machine_of_header magic next_after_deciding next_after_first next_after_verify next_after_watch next_in_joining next_on_wake next_renewal on_exit on_line on_spawned on_wake padded_text pass_tests phase1_block phase2_block refuse renew_on_wake reply_words request_refusal request_rules see_requests settle settle_next settle_on_wake settlings signal_and_refuse spelling stop_of take_input time_out time_outs told_effects u32_at u32_bytes u64_at u64_bytes value_rules
+breaks h =
+    let law : LawfulLook reads_within_sectors (cut_at 0 joins_within_sector ∷ []) joining (new_call 0 0 look) = h.orderly.delta.0.calls 0 look joining refl refl in
+    false_is_true law.placed
+
+pub settings_matter : SettingsMatter
+settings_matter all = breaks (all reads_within_sectors (joins_within_sector ∷ []) is_host_trace)

@@ -1,4 +1,0 @@
-pub mod Bringing
-pub mod Keeping
-pub mod Standing
-pub mod Promises

@@ -1,4 +1,0 @@
-pub mod Fresh
-pub mod MoveNumbers
-pub mod MoveWays
-pub mod Moves
