@@ -1,3 +1,5 @@
-mod Finishing
-mod Owing
+pub mod Finishing
+mod Happening
+pub mod Owing
+mod Playing
 mod Texts

@@ -1,3 +1,4 @@
 pub mod Finishing
 pub mod Owing
+pub mod Playing
 pub mod Telling

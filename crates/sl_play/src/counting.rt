@@ -1,17 +1,55 @@
 //! What the last line counts of a step.
 //!
-//! Each count is added with a test: one that is too great ends the run as want of memory does, and never wraps.
+//! Each count is added with a test: one that is too great for 64 bits ends the play, and never wraps.
 
 ghost use Rattle.sl_locks.specs.Replies.{line_text};
-ghost use Rattle.sl_play.specs.Telling.{counts_with, told_view};
+ghost use Rattle.sl_play.specs.Telling.{AreCounted, counts_with, told_view};
+ghost use Rattle.sl_play.specs.declared.counting.PlayError.TheVariants.{TooMany};
+ghost use Rattle.sl_report.specs.Reports as reports;
 ghost use Rattle.sl_report.specs.Reports.{is_ok_text, refusals_told};
 ghost use Rattle.sl_trace.specs.EffectTexts.{is_ok_reply};
-ghost use Rattle.std.specs.Prelude.{count_by, IfOk, IfSome, length, not, ◌≡◌, ◌≤◌};
+ghost use Rattle.std.specs.Prelude.{count_by, Err, IfNone, IfOk, IfSome, length, not, ◌<◌, ◌^◌, ◌≡◌, ◌≤◌};
 
 use sl_locks::{LineReply, StepTold, push_line_reply};
 use sl_schedule::Counts;
 use sl_trace::{JobReply, Reply};
 use std::alloc::{AllocError, Global};
+use thiserror::Error;
+
+/// Why a play does not go on.
+#[derive(Clone, Copy, Debug, PartialEq, Eq, Error)]
+pub enum PlayError {
+    /// There is no memory, or there are no numbers left for calls or jobs.
+    #[error("out of memory")]
+    NoMemory,
+    /// A count of the last line would be too great for 64 bits.
+    #[error("a count is too great")]
+    TooMany,
+}
+
+impl From<AllocError> for PlayError {
+    ghost use Rattle.sl_play.specs.declared.counting.PlayError.TheVariants.{NoMemory};
+    ghost use Rattle.std.specs.Prelude.{◌≡◌};
+
+    ghost from_gives = { λ _ e. e ≡ NoMemory };
+
+    fn from(_: AllocError) -> PlayError {
+        PlayError::NoMemory
+    }
+}
+
+/// All counts at 0.
+pub fn no_counts() -> Counts
+    ensures { result ≡ reports.no_counts }
+{
+    Counts {
+        events: 0,
+        calls: 0,
+        grants: 0,
+        refusals: 0,
+        conflicts: 0,
+    }
+}
 
 /// Whether the answer's text begins with `ok`.
 fn is_ok(reply: &Reply) -> bool
@@ -39,7 +77,8 @@ fn is_ok(reply: &Reply) -> bool
 
 /// How many commands were answered with a refusal.
 fn refused(replies: &[JobReply]) -> usize
-    ensures { result ≡ count_by (λ a. not (is_ok_reply a.reply)) replies.now }
+    ensures exact { result ≡ count_by (λ a. not (is_ok_reply a.reply)) replies.now }
+    ensures few { (result ≤ length replies.now) × (length replies.now < 2 ^ 63) }
 {
     replies.iter().filter(|a| !is_ok(&a.reply)).count()
 }
@@ -70,7 +109,7 @@ fn refusals(alloc: Global, told: &StepTold) -> Result<u64, AllocError>
         None => Ok(count),
         Some((_, reply)) => {
             if is_refusal(alloc, reply)? {
-                count.checked_add(1).ok_or(AllocError)
+                Ok(count + 1)
             } else {
                 Ok(count)
             }
@@ -87,7 +126,8 @@ fn added(
     conflicts: u64,
 ) -> Option<Counts>
     requires { refusals ≡ refusals_told (told_view told.now) }
-    ensures { IfSome result (λ k. k ≡ counts_with ask told.now conflicts counts.now) }
+    ensures exact { IfSome result (λ k. k ≡ counts_with ask told.now conflicts counts.now) }
+    ensures many { IfNone result (AreCounted (counts_with ask told.now conflicts counts.now) → ⊥) }
 {
     let events = if ask {
         counts.events
@@ -103,17 +143,20 @@ fn added(
     })
 }
 
-/// The counts with those of a step, which is an ask's or another event's, and so many conflicts. An `Err` is want of memory, or a count
-/// that is too great.
+/// The counts with those of a step, which is an ask's or another event's, and so many conflicts.
 pub fn counted(
     alloc: Global,
     counts: &Counts,
     ask: bool,
     told: &StepTold,
     conflicts: u64,
-) -> Result<Counts, AllocError>
-    ensures { IfOk result (λ k. k ≡ counts_with ask told.now conflicts counts.now) }
+) -> Result<Counts, PlayError>
+    ensures exact { IfOk result (λ k. k ≡ counts_with ask told.now conflicts counts.now) }
+    ensures many { result ≡ Err TooMany → AreCounted (counts_with ask told.now conflicts counts.now) → ⊥ }
 {
     let refusals = refusals(alloc, told)?;
-    added(counts, ask, told, refusals, conflicts).ok_or(AllocError)
+    match added(counts, ask, told, refusals, conflicts) {
+        Some(counts) => Ok(counts),
+        None => Err(PlayError::TooMany),
+    }
 }

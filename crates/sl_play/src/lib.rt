@@ -1,11 +1,17 @@
 //! A schedule's lines played in a world of many machines, and the report of what happens.
 //!
-//! `laws` says how a report is proved from its end: whatever is left behind an event is left before it, with the event's lines in front.
-//! `telling` writes the lines of a step and `counting` counts it. How many of a step's grants left a conflict is asked of the world
-//! (`World::conflicts_left` of sl_whole_world). Still to come: the event that comes to pass in a `World` with its lines and counts, a
-//! test's line among them, and a schedule's line with the asks behind it.
+//! A `Play` is a world of many machines, whichever daemons run in it, with what the last line of the report will count. `happen` brings one
+//! event to pass and writes its lines; `take_line` takes a line of a schedule with the asks of lvmlockd's locks behind it. `laws` says how a
+//! report is proved from its end: whatever is left behind an event is left before it, with the event's lines in front. So a program that goes
+//! from line to line never has to know the run that it makes.
 #![tactic(auto)]
 
-pub mod counting;
+mod counting;
 pub mod laws;
-pub mod telling;
+mod lines;
+mod play;
+mod telling;
+
+pub use counting::{PlayError, counted, no_counts};
+pub use play::Play;
+pub use telling::push_event;

@@ -1,13 +1,14 @@
 //! The lines of a step: what the daemon or the machine did, and the reply to lvmlockd's line, if it has come.
 
 ghost use Rattle.sl_locks.specs.Replies.{line_text, told_as};
-ghost use Rattle.sl_play.specs.Telling.{step_text};
-ghost use Rattle.sl_report.specs.Reports.{told_lines};
+ghost use Rattle.sl_play.specs.Telling.{tests_told, told_view};
+ghost use Rattle.sl_report.specs.Reports.{step_lines, told_lines};
 ghost use Rattle.sl_text.specs.Forms.{as_bytes};
 ghost use Rattle.std.specs.Prelude.{OnErr, OnOk, Some, ◌++◌, ◌≡◌};
 
 use sl_command::push_effect_lines;
 use sl_locks::{LineReply, StepTold, push_line_reply};
+use sl_schedule::push_test_line;
 use std::alloc::AllocError;
 
 /// Adds the line of the reply to a line of lvmlockd.
@@ -40,14 +41,30 @@ fn push_line(
     }
 }
 
-/// Adds the lines of a step of a machine. An `Err` is want of memory, and `out` stays as it was.
+/// Adds the line of a test of the watchdog daemon, if there was one.
+fn push_test(out: &mut Vec<u8>, machine: u32, test: Option<bool>) -> Result<(), AllocError>
+    ensures { OnOk result (out.new.items ≡ out.old.items ++ as_bytes (tests_told machine test)) }
+{
+    match test {
+        None => Ok(()),
+        Some(holds) => push_test_line(out, machine, holds),
+    }
+}
+
+/// Adds the lines of an event: those of the step of a machine, and that of a test. An `Err` is want of memory, and `out` stays as it was.
 #[tactic(auto, using(crate::proofs::Finishing::bytes_joined))]
-pub fn push_step(out: &mut Vec<u8>, machine: u32, told: &StepTold) -> Result<(), AllocError>
-    ensures ok { OnOk result (out.new.items ≡ out.old.items ++ step_text machine told.now) }
+pub fn push_event(
+    out: &mut Vec<u8>,
+    machine: u32,
+    told: &StepTold,
+    test: Option<bool>,
+) -> Result<(), AllocError>
+    ensures ok { OnOk result (out.new.items ≡ out.old.items ++ as_bytes (step_lines machine (told_view told.now) ++ tests_told machine test)) }
     ensures err { OnErr result (out.new.items ≡ out.old.items) }
 {
     let mut lines = Vec::new(*out.allocator());
     push_effect_lines(&mut lines, machine, &told.effects)?;
     push_line(&mut lines, machine, &told.line)?;
+    push_test(&mut lines, machine, test)?;
     out.extend_from_slice(&lines)
 }

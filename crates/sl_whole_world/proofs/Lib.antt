@@ -8,3 +8,4 @@ pub mod EndedEvents
 pub mod Refused
 pub mod HeldThere
 pub mod LeftGrants
+pub mod DueAsks

@@ -1,0 +1,2 @@
+pub mod HeaderBegins
+pub mod LineReads
