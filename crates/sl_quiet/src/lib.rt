@@ -1,0 +1,6 @@
+//! An acquire that nothing stands in the way of is granted.
+//!
+//! A folder a question.
+#![tactic(auto)]
+
+pub mod laws;
