@@ -93,6 +93,13 @@ impl Lease {
         self.spot
     }
 
+    /// Version and seq of the value that was submitted last on the area.
+    pub fn value(&self) -> Option<ValuePair>
+        ensures { result ≡ self.now.value }
+    {
+        self.value
+    }
+
     /// A read at this step is submitted, as the call of this number.
     pub fn reads(&mut self, number: u64, work: Work, step: LeaseStep)
         ensures { self.new ≡ after_reading number work step self.old }

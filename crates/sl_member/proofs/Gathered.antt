@@ -1,16 +1,18 @@
 -- Members that come and go, and what is found among them.
 use Rattle.sl_host_state.specs.Kept.{MemberState}
 use Rattle.sl_member.proofs.Numbered.{members_as, states}
-use Rattle.sl_member.specs.Members.{MemberKept, RunOf, recovery_begun}
-use Rattle.sl_member.specs.Together.{AreApart, AreMembers, AreRoomier, MembersState, begun_by, begun_in, begun_kept, late_by, member_with, number_of}
-use Rattle.sl_words.proofs.CaseLaws.{none_some}
+use Rattle.sl_member.specs.Members.{MemberKept, RunOf, leaving_begun, recovery_begun}
+use Rattle.sl_member.specs.Together.{AreApart, AreMembers, AreRoomier, MembersState, begins_leaving, begun_by, begun_in, begun_kept, late_by, left_by, left_kept, member_with, number_of}
+use Rattle.sl_sessions.specs.declared.session.Begun.{Begun}
+use Rattle.sl_trace.specs.declared.command.LockspaceArg.{LockspaceArg}
+use Rattle.sl_words.proofs.CaseLaws.{none_some, some_value}
 use Rattle.sl_words.specs.Orders.{is_text_before, put_in}
 use Rattle.std.proofs.Common.{ap, arith, refl, subst, suc, sym, zero, ◌∙◌}
 use Rattle.std.proofs.lemmas.Bool.Decides.{nat_tests}
 use Rattle.std.proofs.lemmas.Grind.{common_steps}
 use Rattle.std.proofs.lemmas.List.Sums.{prefix_len-le-length}
 use Rattle.std.specs.List.{AllByRecursion, AllWithin, insert, list_any, position_or_len}
-use Rattle.std.specs.Prelude.{Bool, Err, List, None, Ok, OnErr, Option, Result, Some, cond, drop, false, filter, find, if◌then◌else◌, length, map, max, nat_lt, not, option_map, position, slice_index_or, slice_set, take, true, unwrap_or, [], ℕ, ◌++◌, ◌+◌, ◌==◌, ◌∷◌, ◌≡◌, ◌≤◌, ◌||◌}
+use Rattle.std.specs.Prelude.{Bool, Err, IfSome, List, None, Ok, OnErr, Option, Result, Some, cond, drop, false, filter, find, if◌then◌else◌, length, map, max, nat_lt, not, option_map, position, slice_index_or, slice_set, take, true, unwrap_or, [], ℕ, ◌++◌, ◌+◌, ◌==◌, ◌∷◌, ◌≡◌, ◌≤◌, ◌||◌}
 
 -- ---- what is found
 
@@ -21,6 +23,19 @@ found_state p (m ∷ ms) = by (p m.state) (found_state p ms) where
       → option_map (λ m. m.state) (cond b (Some m) (find (λ (m : MemberKept). p m.state) ms)) ≡ cond b (Some m.state) (find p (states ms))
   by true rest = refl
   by false rest = rest
+
+-- What is found of members of one run is of that run.
+run_found : (run : RunOf) (room : ℕ) (p : MemberKept → Bool) (ms : List MemberKept) (m : MemberKept) → AllByRecursion (λ n. (n.run ≡ run) × (room ≤ n.room)) ms → Some m ≡ find p ms → m.run ≡ run
+run_found run room p [] m each is = absurd (none_some m (sym is))
+run_found run room p (n ∷ ms) m each is = by (p n) is (run_found run room p ms m each.1) where
+  by : (b : Bool) → Some m ≡ cond b (Some n) (find p ms) → (Some m ≡ find p ms → m.run ≡ run) → m.run ≡ run
+  by true here rest = ap (λ (k : MemberKept). k.run) (some_value m n here) ∙ each.0.0
+  by false there rest = rest there
+
+pub run_if_found : {R : Type 0} (now : R → MemberKept) (run : RunOf) (room : ℕ) (p : MemberKept → Bool) (ms : List MemberKept) (o : Option R)
+    → AllByRecursion (λ n. (n.run ≡ run) × (room ≤ n.room)) ms → option_map now o ≡ find p ms → IfSome o (λ r. (now r).run ≡ run)
+run_if_found now run room p ms None each is = tt
+run_if_found now run room p ms (Some r) each is = run_found run room p ms (now r) each is
 
 pub mapped_twice : {A B C : Type 0} (f : A → B) (g : B → C) (o : Option A) → option_map (λ x. g (f x)) o ≡ option_map g (option_map f o)
 mapped_twice f g None = refl
@@ -263,3 +278,33 @@ roomier_kept v run xs ys places room h view = ap (λ ss. P ss) (roomier_states x
   where
     P : List MemberState → MembersState
     P ss = record { run = run; members = ss; places = places; room = room }
+
+-- ---- one leaves
+
+left_number : (a : LockspaceArg) (b : Begun) (job : ℕ) (m : MemberKept) → number_of (left_kept a b job m) ≡ number_of m
+left_number a b job m = by (begins_leaving a m.state) where
+  by : (c : Bool) → (let s : MemberState = cond c (leaving_begun b job m.state) m.state in s.who.number) ≡ m.state.who.number
+  by true = refl
+  by false = refl
+
+left_numbers : (a : LockspaceArg) (b : Begun) (job : ℕ) (ms : List MemberKept) → map number_of (map (left_kept a b job) ms) ≡ map number_of ms
+left_numbers a b job [] = refl
+left_numbers a b job (m ∷ ms) = ap (λ n. n ∷ map number_of (map (left_kept a b job) ms)) (left_number a b job m) ∙ ap (λ ns. number_of m ∷ ns) (left_numbers a b job ms)
+
+left_each : (a : LockspaceArg) (b : Begun) (job : ℕ) (run : RunOf) (room : ℕ) (ms : List MemberKept) → AllByRecursion (λ m. (m.run ≡ run) × (room ≤ m.room)) ms
+    → AllByRecursion (λ m. (m.run ≡ run) × (room ≤ m.room)) (map (left_kept a b job) ms)
+left_each a b job run room [] h = tt
+left_each a b job run room (m ∷ ms) h = (h.0, left_each a b job run room ms h.1)
+
+pub left_members : (a : LockspaceArg) (b : Begun) (job : ℕ) (run : RunOf) (room : ℕ) (ms zs : List MemberKept) → AreMembers run room ms → zs ≡ map (left_kept a b job) ms → AreMembers run room zs
+left_members a b job run room ms zs i is =
+    subst (AreMembers run room) (sym is)
+    (record { each = left_each a b job run room ms i.each; apart = subst AreApart (sym (left_numbers a b job ms)) i.apart })
+
+pub left_states : (a : LockspaceArg) (b : Begun) (job : ℕ) (ms : List MemberKept) → states (map (left_kept a b job) ms) ≡ map (left_by a b job) (states ms)
+left_states a b job [] = refl
+left_states a b job (m ∷ ms) = ap (λ ss. left_by a b job m.state ∷ ss) (left_states a b job ms)
+
+pub any_state : (p : MemberState → Bool) (ms : List MemberKept) → list_any (λ (m : MemberKept). p m.state) ms ≡ list_any p (states ms)
+any_state p [] = refl
+any_state p (m ∷ ms) = ap (λ b. p m.state || b) (any_state p ms)

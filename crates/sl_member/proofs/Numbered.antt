@@ -182,3 +182,8 @@ state_kept v run ms places room n k x i found is view =
 pub nobody_kept : (v : MembersState) (run : RunOf) (ms : List MemberKept) (places room n : ℕ) → position (has_number n) ms ≡ None → members_as run ms places room ≡ v
     → member_with n v.members ≡ None
 nobody_kept v run ms places room n none view = subst (λ (w : MembersState). member_with n w.members ≡ None) view (none_found n ms (none_at n ms none))
+
+-- The numbers of members are those of their states.
+pub numbers_are : (ms : List MemberKept) → map number_of ms ≡ map (λ (s : MemberState). s.who.number) (states ms)
+numbers_are [] = refl
+numbers_are (m ∷ ms) = ap (λ ns. number_of m ∷ ns) (numbers_are ms)

@@ -1,16 +1,19 @@
 -- The members of a host together, and what a change of one of them makes of the list.
 use Rattle.sl_area.specs.Layouts.{layout_of}
 use Rattle.sl_host_state.specs.Kept.{MemberState}
+use Rattle.sl_host_state.specs.Stands.{is_joining}
 use Rattle.sl_lease.specs.declared.side.Side.{Side}
 use Rattle.sl_member.specs.Leases.{begins_lease}
-use Rattle.sl_member.specs.Members.{MemberKept, RunOf, owner_in, recovery_begun}
+use Rattle.sl_member.specs.Members.{MemberKept, RunOf, leaving_begun, owner_in, recovery_begun}
+use Rattle.sl_sessions.specs.Sessions.{is_session_arg}
 use Rattle.sl_sessions.specs.declared.session.Begun.{Begun}
 use Rattle.sl_time.specs.Times.{TimingNumbers, fail}
 use Rattle.sl_trace.specs.Traces.{Submitted}
+use Rattle.sl_trace.specs.declared.command.LockspaceArg.{LockspaceArg}
 use Rattle.sl_watch.specs.Telling.{told_all}
 use Rattle.sl_words.specs.Words.{some_is}
 use Rattle.std.specs.List.{AllByRecursion}
-use Rattle.std.specs.Prelude.{Bool, List, None, Option, Some, cond, false, find, map, nat_le, [], ℕ, ◌&&◌, ◌+◌, ◌==◌, ◌∷◌, ◌≡◌, ◌≤◌}
+use Rattle.std.specs.Prelude.{Bool, List, None, Option, Some, cond, false, find, is_none, map, nat_le, [], ℕ, ◌&&◌, ◌+◌, ◌==◌, ◌∷◌, ◌≡◌, ◌≤◌}
 
 -- The members of a host of this run; for how many more there is memory, and for how many more leases at each of them.
 pub record MembersState : Type 0 where
@@ -74,3 +77,18 @@ begun_by tm now at m = cond (late_by tm now m) (recovery_begun (begun_in now at)
 
 abbrev pub begun_kept : ℕ → ℕ → MemberKept → MemberKept
 begun_kept now at v = record v { state = begun_by v.run.timing now at v.state }
+
+-- Whether it is joining, by this job.
+abbrev pub is_joining_by : ℕ → MemberState → Bool
+is_joining_by job s = is_joining s && some_is (λ j. j == job) s.who.job
+
+-- Whether a member leaves by these words, and is not leaving yet.
+abbrev pub begins_leaving : LockspaceArg → MemberState → Bool
+begins_leaving a m = m.joined && is_session_arg m.who a && is_none m.leaving
+
+-- A member after a line of these words: it leaves so, for this job.
+abbrev pub left_by : LockspaceArg → Begun → ℕ → MemberState → MemberState
+left_by a b job m = cond (begins_leaving a m) (leaving_begun b job m) m
+
+abbrev pub left_kept : LockspaceArg → Begun → ℕ → MemberKept → MemberKept
+left_kept a b job v = record v { state = left_by a b job v.state }

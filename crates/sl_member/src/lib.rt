@@ -29,5 +29,5 @@ mod surveys;
 pub use asked::Asked;
 pub use leases::Leases;
 pub use member::Member;
-pub use members::Members;
+pub use members::{Members, is_session_arg};
 pub use seen::{Seen, evidence_of, tell_all};

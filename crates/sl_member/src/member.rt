@@ -30,7 +30,9 @@ ghost use Rattle.sl_trace.specs.Traces.{new_call};
 ghost use Rattle.sl_trace.specs.declared.effects.JoinStep.TheVariants.{FirstRead};
 ghost use Rattle.sl_trace.specs.declared.effects.Purpose.TheVariants.{Joining};
 ghost use Rattle.sl_trace.specs.declared.input.Answer.{Answer};
+ghost use Rattle.sl_watch.specs.Summaries.{bare, state_by};
 ghost use Rattle.sl_watch.specs.Telling.{told_all};
+ghost use Rattle.sl_watch.specs.Watches.{kept_at};
 ghost use Rattle.sl_words.specs.Bounds.{moments};
 ghost use Rattle.std.specs.Prelude.{IfOk, IfSome, IsTrue, None, OnErr, OnOk, Some, bytes_eq, false, find, is_none, is_some, length, max, nat_le, not, option_map, slice_get, true, ℕ, ◌&&◌, ◌*◌, ◌+◌, ◌<◌, ◌==◌, ◌^◌, ◌≡◌, ◌≤◌};
 
@@ -47,7 +49,7 @@ use sl_sector::{Block, HostId, Leader, Owner};
 use sl_sessions::{Begun, DeltaKnown, DeltaNext, Renewing, Session};
 use sl_text::Name;
 use sl_time::Timing;
-use sl_trace::{Call, JoinStep, Purpose, Spot};
+use sl_trace::{Call, HostState, JoinStep, Purpose, Spot};
 use sl_watch::Watch;
 use std::alloc::{AllocError, Global};
 use std::marker::Model;
@@ -309,6 +311,14 @@ impl Member {
         ensures { result.now ≡ self.now.state.watch }
     {
         &self.watch
+    }
+
+    /// What an id, 1 to the number of hosts, looks like to it at the reading `now`, in milliseconds.
+    pub fn status(&self, id: HostId, now: u64) -> HostState
+        requires { (1 ≤ id) × (id ≤ self.now.run.sizes.hosts) }
+        ensures { result ≡ state_by self.now.state.watch.timing (bare (kept_at self.now.state.watch id)).run now }
+    {
+        self.watch.status(id, now)
     }
 
     /// Whether a read of all ids shows another in its place: under its id, another host's name or another generation.

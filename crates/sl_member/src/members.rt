@@ -10,8 +10,8 @@ ghost use Rattle.sl_host_state.specs.Kept.{MemberState};
 ghost use Rattle.sl_host_state.specs.Makes.{with_member};
 ghost use Rattle.sl_lease.specs.Changes.{after_failure, after_read, after_write};
 ghost use Rattle.sl_member.specs.Members.{IsOwnCall, leaving_begun, lease_changed, member_called, own_told, recovery_begun, renewal_counted, renewing_told};
-ghost use Rattle.sl_member.specs.Together.{AreRoomier, begins_among, begun_by, begun_kept, changed_member, late_by, member_with, side_with, told_survey};
-ghost use Rattle.sl_sessions.specs.Sessions.{is_join_call};
+ghost use Rattle.sl_member.specs.Together.{AreApart, AreRoomier, begins_among, begins_leaving, begun_by, begun_kept, changed_member, is_joining_by, late_by, left_by, left_kept, member_with, side_with, told_survey};
+ghost use Rattle.sl_sessions.specs.Sessions.{is_join_call, is_session_arg};
 ghost use Rattle.sl_trace.specs.Traces.{new_call};
 ghost use Rattle.sl_trace.specs.declared.effects.JoinStep.TheVariants.{FirstRead};
 ghost use Rattle.sl_trace.specs.declared.effects.Purpose.TheVariants.{Joining};
@@ -27,10 +27,10 @@ use sl_area::Geometry;
 use sl_delta::SectorAnswer;
 use sl_lease::Sectors;
 use sl_sector::{Block, HostId, Leader};
-use sl_sessions::Begun;
+use sl_sessions::{Begun, Session};
 use sl_text::Name;
 use sl_time::Timing;
-use sl_trace::{Call, Purpose, Spot};
+use sl_trace::{Call, LockspaceArg, Purpose, Spot};
 use std::alloc::{AllocError, Global};
 use std::marker::Model;
 
@@ -134,6 +134,20 @@ fn is_for(member: &Member, job: u64) -> bool
     }
 }
 
+/// Whether a member is joining, by this job.
+fn is_joining_by(member: &Member, job: u64) -> bool
+    ensures { result ≡ is_joining_by job member.now.state }
+{
+    !member.is_joined() && !member.is_refused() && is_for(member, job)
+}
+
+/// The first member that is joining by this job.
+fn find_joining<'a>(items: &'a [Member], job: u64) -> Option<&'a Member>
+    ensures { option_map (λ m. m.now) result ≡ find (λ m. is_joining_by job m.state) items.entry.now }
+{
+    items.iter().find(|member| is_joining_by(member, job))
+}
+
 /// Whether a member is joined and of this lockspace.
 fn is_joined_as(member: &Member, lockspace: &Name) -> bool
     ensures { result ≡ (member.now.state.joined && bytes_eq member.now.state.who.lockspace lockspace.now) }
@@ -181,6 +195,55 @@ fn begin_all(items: &mut [Member], now: u64, at: u64)
     }
 }
 
+/// Whether the words name this session's lockspace, id and area.
+pub fn is_session_arg(session: &Session, lockspace: &LockspaceArg) -> bool
+    ensures { result ≡ is_session_arg session.now lockspace.now }
+{
+    lockspace.name.as_slice() == session.lockspace.as_slice()
+        && lockspace.id == session.id
+        && (lockspace.offset == session.offset
+            && lockspace.path.as_slice() == session.path.as_slice())
+}
+
+/// Whether a member is joined and named by these words.
+fn is_left_by(member: &Member, lockspace: &LockspaceArg) -> bool
+    ensures { result ≡ (member.now.state.joined && is_session_arg member.now.state.who lockspace.now) }
+{
+    member.is_joined() && is_session_arg(member.who(), lockspace)
+}
+
+/// Whether a member leaves by these words, and is not leaving yet.
+fn begins_leaving(member: &Member, lockspace: &LockspaceArg) -> bool
+    ensures { result ≡ begins_leaving lockspace.now member.now.state }
+{
+    is_left_by(member, lockspace) && member.leaving().is_none()
+}
+
+/// Begins the leaving of a member that these words name, for this job.
+fn leave(member: &mut Member, lockspace: &LockspaceArg, begun: Begun, job: u64)
+    ensures { member.new ≡ left_kept lockspace.now begun job member.old }
+{
+    if begins_leaving(member, lockspace) {
+        member.leaves(begun, job);
+    }
+}
+
+/// The same for all of these.
+fn leave_all(items: &mut [Member], lockspace: &LockspaceArg, begun: Begun, job: u64)
+    ensures { items.new ≡ map (left_kept lockspace.now begun job) items.old }
+{
+    for member in items.iter_mut() {
+        leave(member, lockspace, begun, job);
+    }
+}
+
+/// Whether one is joined and named by these words.
+fn is_any_left(items: &[Member], lockspace: &LockspaceArg) -> bool
+    ensures { result ≡ list_any (λ m. m.state.joined && is_session_arg m.state.who lockspace.now) items.now }
+{
+    items.iter().any(|member| is_left_by(member, lockspace))
+}
+
 impl Members {
     /// None, of this run.
     pub fn new(alloc: Global, timing: &Timing, geometry: &Geometry, host: Name) -> Members
@@ -223,6 +286,20 @@ impl Members {
         begin_all(&mut self.items, now, at);
     }
 
+    /// Whether one is joined and named by these words.
+    pub fn is_left(&self, lockspace: &LockspaceArg) -> bool
+        ensures { result ≡ list_any (λ s. s.joined && is_session_arg s.who lockspace.now) self.now.members }
+    {
+        is_any_left(&self.items, lockspace)
+    }
+
+    /// A line of these words leaves, for this job: the leaving begins of each that is joined, named by them and not leaving yet.
+    pub fn leave(&mut self, lockspace: &LockspaceArg, begun: Begun, job: u64)
+        ensures { self.new ≡ record self.old { members = map (left_by lockspace.now begun job) self.old.members } }
+    {
+        leave_all(&mut self.items, lockspace, begun, job);
+    }
+
     /// How many there are.
     pub fn len(&self) -> usize
         ensures { result ≡ length self.now.members }
@@ -251,7 +328,8 @@ impl Members {
 
     /// The member of this lockspace, if there is one.
     pub fn named(&self, lockspace: &Name) -> Option<&Member>
-        ensures { option_map (λ m. m.now.state) result ≡ find (λ s. bytes_eq s.who.lockspace lockspace.now) self.now.members }
+        ensures exact { option_map (λ m. m.now.state) result ≡ find (λ s. bytes_eq s.who.lockspace lockspace.now) self.now.members }
+        ensures run { IfSome result (λ m. m.now.run ≡ self.now.run) }
     {
         find_named(&self.items, lockspace)
     }
@@ -261,6 +339,14 @@ impl Members {
         ensures { option_map (λ m. m.now.state) result ≡ find (λ s. some_is (λ j. j == job) s.who.job) self.now.members }
     {
         find_for(&self.items, job)
+    }
+
+    /// The first member that is joining by this job, if there is one. All numbers are apart.
+    pub fn joining_by(&self, job: u64) -> Option<&Member>
+        ensures exact { option_map (λ m. m.now.state) result ≡ find (is_joining_by job) self.now.members }
+        ensures apart { AreApart (map (λ s. s.who.number) self.now.members) }
+    {
+        find_joining(&self.items, job)
     }
 
     /// One more member, with a number of its own, by lockspace name.

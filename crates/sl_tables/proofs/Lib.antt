@@ -2,6 +2,7 @@ pub mod SlotsStand
 pub mod ScansFind
 pub mod NumbersName
 pub mod OpensStand
+pub mod WritesCount
 pub mod HoldingsStand
 pub mod TotalsGo
 pub mod JobsChange

@@ -2,12 +2,13 @@
 
 ghost use Rattle.indexmap.specs.IndexMap.{get, index_map_len, spare};
 ghost use Rattle.sl_host_state.specs.declared.kept.OpenCall.{OpenCall as OpenCallOf};
-ghost use Rattle.sl_tables.specs.Opens.{area_of, first_on, is_on_area, least_on, next_on};
+ghost use Rattle.sl_tables.specs.Opens.{area_of, count_in, first_on, is_on_area, is_write_of, least_on, next_on};
 ghost use Rattle.sl_tables.specs.Rising.{AreRising, found_in, items_of};
 ghost use Rattle.sl_trace.specs.Traces.{same_spot};
 ghost use Rattle.sl_trace.specs.declared.effects.Spot.{Spot as SpotOf};
 ghost use Rattle.sl_words.specs.Words.{some_is};
-ghost use Rattle.std.specs.Prelude.{Bool, IsSome, None, OnErr, OnOk, Some, cond, filter, find, not, max, nat_lt, option_map, slice_get, take, unwrap_or, [], ℕ, ◌%◌, ◌&&◌, ◌+◌, ◌++◌, ◌-◌, ◌<◌, ◌==◌, ◌^◌, ◌∷◌, ◌≡◌, ◌≤◌};
+ghost use Rattle.std.specs.List.{list_any};
+ghost use Rattle.std.specs.Prelude.{Bool, IsSome, None, OnErr, OnOk, Some, cond, filter, find, is_none, not, max, nat_eq, nat_lt, option_map, slice_get, take, true, unwrap_or, [], ℕ, ◌%◌, ◌&&◌, ◌+◌, ◌++◌, ◌-◌, ◌<◌, ◌==◌, ◌^◌, ◌∷◌, ◌≡◌, ◌≤◌};
 
 use crate::area::Area;
 use crate::rising::Rising;
@@ -168,29 +169,93 @@ fn move_on(
     }
 }
 
+/// Whether the call writes.
+fn writes(call: &OpenCall) -> bool
+    ensures { result ≡ is_none call.now.sectors }
+{
+    call.sectors.is_none()
+}
+
+/// What is counted of a key.
+fn count_of(counts: &IndexMap<u64, u64>, key: u64) -> u64
+    ensures { result ≡ count_in (get nat_eq counts.now key) }
+{
+    match counts.get(&key) {
+        Some(count) => *count,
+        None => 0,
+    }
+}
+
+/// Counts one more of a key, if it counts.
+fn count_one(counts: &mut IndexMap<u64, u64>, key: u64, counts_one: bool)
+    requires room { 0 < spare counts.old }
+    requires few { counts_one ≡ true → count_in (get nat_eq counts.old key) < 2 ^ 64 - 1 }
+    ensures counts { (k : ℕ) → count_in (get nat_eq counts.new k) ≡ count_in (get nat_eq counts.old k) + cond (nat_eq key k && counts_one) 1 0 }
+    ensures room { spare counts.old ≤ spare counts.new + 1 }
+{
+    if counts_one {
+        let count = count_of(counts, key);
+        match counts.insert(key, count + 1) {
+            Ok(_) => {}
+            Err(_) => unreachable!(),
+        }
+    }
+}
+
+/// Puts this count in the place of what is counted of a key that has one.
+fn recount(counts: &mut IndexMap<u64, u64>, key: u64, count: u64)
+    requires { IsSome (get nat_eq counts.old key) }
+    ensures counts { (k : ℕ) → get nat_eq counts.new k ≡ cond (nat_eq key k) (Some count) (get nat_eq counts.old k) }
+    ensures room { spare counts.old ≤ spare counts.new }
+{
+    match counts.get_mut(&key) {
+        Some(old) => *old = count,
+        None => unreachable!(),
+    }
+}
+
+/// Counts one less of a key, if it counts.
+fn count_less(counts: &mut IndexMap<u64, u64>, key: u64, counts_one: bool)
+    ensures counts { (k : ℕ) → count_in (get nat_eq counts.new k) ≡ count_in (get nat_eq counts.old k) - cond (nat_eq key k && counts_one) 1 0 }
+    ensures room { spare counts.old ≤ spare counts.new }
+{
+    if counts_one {
+        let count = count_of(counts, key);
+        if count > 1 {
+            recount(counts, key, count - 1);
+        } else {
+            counts.swap_remove(&key);
+        }
+    }
+}
+
 /// The calls without an answer, the oldest first, with memory for some more.
 #[derive(Drop)]
 pub struct OpenCalls {
     calls: Rising<OpenCall>,
     /// Of each area on which calls are, the number of the first.
     firsts: IndexMap<Area, u64>,
+    /// Of each session that has any, how many of its calls write.
+    writes: IndexMap<u64, u64>,
     area: u64,
 }
 
 impl Model for OpenCalls {
     ghost use Rattle.indexmap.specs.IndexMap.{get, spare};
-    ghost use Rattle.sl_tables.specs.Opens.{AreNumbered, OpenState, first_on};
+    ghost use Rattle.sl_tables.specs.Opens.{AreNumbered, OpenState, count_in, first_on, write_weight};
+    ghost use Rattle.sl_tables.specs.Totals.{total};
     ghost use Rattle.sl_trace.specs.Traces.{same_spot};
     ghost use Rattle.sl_trace.specs.declared.effects.Spot.{Spot as SpotOf};
     ghost use Rattle.std.specs.Map.{values_of};
-    ghost use Rattle.std.specs.Prelude.{◌<◌, ◌≡◌, ◌≤◌};
+    ghost use Rattle.std.specs.Prelude.{nat_eq, ℕ, ◌<◌, ◌≡◌, ◌≤◌};
 
     ghost Value = { OpenState };
 
     ghost view = { λ o. record { calls = values_of o.calls.items; next = o.calls.next; room = o.calls.room; area = o.area } };
 
     ghost invariant = { λ o. AreNumbered o.calls.items × ((at : SpotOf) → get same_spot o.firsts at ≡ first_on o.area at (values_of o.calls.items))
-        × (o.calls.room ≤ spare o.firsts) × (0 < o.area) };
+        × (o.calls.room ≤ spare o.firsts) × (0 < o.area)
+        × ((s : ℕ) → count_in (get nat_eq o.writes s) ≡ total (write_weight s) o.calls.items) × (o.calls.room ≤ spare o.writes) };
 }
 
 impl OpenCalls {
@@ -202,6 +267,7 @@ impl OpenCalls {
         OpenCalls {
             calls: Rising::new(alloc),
             firsts: IndexMap::new(alloc),
+            writes: IndexMap::new(alloc),
             area,
         }
     }
@@ -212,6 +278,7 @@ impl OpenCalls {
         ensures err { OnErr result (self.new ≡ self.old) }
     {
         self.firsts.reserve(room)?;
+        self.writes.reserve(room)?;
         self.calls.reserve(room)
     }
 
@@ -222,8 +289,10 @@ impl OpenCalls {
         ensures { self.new ≡ record self.old { calls = self.old.calls ++ call ∷ []; next = call.number + 1; room = self.old.room - 1 } }
     {
         let _within: Option<WithinCall> = None;
+        let (session, one) = (call.session, writes(&call));
         note_first(&mut self.firsts, area_of(&call, self.area), call.number);
         self.calls.put(call.number, call);
+        count_one(&mut self.writes, session, one);
     }
 
     /// The call of this number, if it has no answer.
@@ -244,6 +313,14 @@ impl OpenCalls {
         self.firsts.get(&Area::at(*spot)).copied()
     }
 
+    /// Whether a call of the session writes.
+    #[tactic(auto, using(crate::proofs::WritesCount::any_counted))]
+    pub fn has_write(&self, session: u64) -> bool
+        ensures { result ≡ list_any (is_write_of session) self.now.calls }
+    {
+        count_of(&self.writes, session) > 0
+    }
+
     /// The call of this number is answered: it is given, if it had no answer.
     pub fn answered(&mut self, number: u64) -> Option<OpenCall>
         ensures call { result ≡ find (λ c. c.number == number) self.old.calls }
@@ -254,6 +331,7 @@ impl OpenCalls {
             Some(call) => {
                 let spot = area_of(&call, self.area);
                 move_on(&mut self.firsts, &self.calls, &spot, number, self.area);
+                count_less(&mut self.writes, call.session, writes(&call));
                 Some(call)
             }
             None => None,

@@ -1,4 +1,8 @@
 pub mod BooksStand
 pub mod QuestionsStand
-pub mod DecidingStands
 pub mod HostStands
+pub mod Finding
+pub mod PassingStands
+pub mod RepliesStand
+pub mod LinesHeard
+pub mod HearingsStand

@@ -1,5 +1,5 @@
--- What is asked of a host's books alone: no question here asks of members, or of what lines say.
-use Rattle.sl_host_state.specs.Kept.{HostState}
+-- What is asked of a host when a command is decided, and of its books alone: no question here asks what lines say.
+use Rattle.sl_host_state.specs.Kept.{HostKept, HostState, state_of}
 use Rattle.sl_tables.specs.declared.holdings.Holder.{Holder}
 use Rattle.sl_tables.specs.declared.holdings.Sought.{Sought}
 use Rattle.sl_trace.specs.declared.effects.Grant.{Grant}
@@ -11,6 +11,10 @@ use Rattle.std.specs.Prelude.{Err, List, Option, Some, [], filter, ℕ, ◌==◌
 -- The host of these books with no member, which reads no line.
 abbrev pub alone : BooksState → HostState
 alone b = host_of (λ text. Err 0) [] b
+
+-- The host that keeps this and reads no line.
+abbrev pub state_in : HostKept → HostState
+state_in k = state_of (λ text. Err 0) k
 
 -- The holdings of a session on an area, of these processes, in this mode.
 abbrev pub sought_on : Holder → ℕ → Spot → Option Mode → Sought

@@ -24,12 +24,13 @@ use Rattle.sl_trace.specs.declared.input.Input.TheVariants.{Exit, Spawned}
 use Rattle.sl_trace.specs.declared.reply.Reply.{Reply}
 use Rattle.std.specs.Prelude.{Bool, List, None, Option, Result, Some, [], cond, filter, is_some, map, min, not, ℕ, ◌&&◌, ◌+◌, ◌++◌, ◌-◌, ◌==◌, ◌∷◌}
 
--- The effects of a step so far; for how many more of each class there is memory.
+-- The effects of a step so far; for how many more calls there is memory, and how many more of each other class.
 pub record BuffersState : Type 0 where
   pub made : Effects
   pub left : ℕ
+  pub calls : ℕ
 
--- All that a host keeps but its members; how many more effects it may make.
+-- All that a host keeps but its members; how many more calls it may make, and how many more other effects.
 pub record BooksState : Type 0 where
   pub config : Made
   pub reading : ℕ
@@ -48,6 +49,7 @@ pub record BooksState : Type 0 where
   pub programs : List KillProgram
   pub made : Effects
   pub left : ℕ
+  pub calls : ℕ
 
 -- The host of these members and books.
 abbrev pub kept_of : List MemberState → BooksState → HostKept
@@ -117,7 +119,7 @@ books_calling m b =
       unanswered = b.unanswered ++ kept_call m ∷ [];
       jobs = map (job_calling m) b.jobs;
       quiet_until = cond (is_some (job_of m.call.purpose)) (min b.quiet_until (m.reading + b.config.timing.io)) b.quiet_until;
-      left = b.left - 1;
+      calls = b.calls - 1;
     }
 
 -- The call as it is submitted in the step.

@@ -1,12 +1,13 @@
 -- A host as code keeps it, and how a change of it is said.
 use Rattle.sl_host_state.specs.Kept.{HostKept, HostState, state_of}
 use Rattle.sl_trace.specs.declared.command.Command.{Command}
-use Rattle.std.specs.Prelude.{List, Result, ℕ, ◌≡◌}
+use Rattle.std.specs.Prelude.{List, Result, ℕ, ◌+◌, ◌≡◌, ◌≤◌}
 
--- A host; how many more effects it may make in the step.
+-- A host; how many more calls it may make in the step, and how many more other effects.
 pub record HostView : Type 0 where
   pub kept : HostKept
   pub left : ℕ
+  pub calls : ℕ
 
 -- What a line reads as: a command, or the column of the first word that doesn't fit.
 abbrev pub ReadAs : Type 0
@@ -15,3 +16,11 @@ ReadAs = Result Command ℕ
 -- Its state, however lines are read, becomes this of it.
 abbrev pub Becomes : HostView → HostView → (HostState → HostState) → Type 0
 Becomes old new f = (read : List ℕ → Result Command ℕ) → state_of read new.kept ≡ f (state_of read old.kept)
+
+-- What it is made of stays, and the reading of the step.
+abbrev pub SameRun : HostView → HostView → Type 0
+SameRun old new = (new.kept.config ≡ old.kept.config) × (new.kept.reading ≡ old.kept.reading)
+
+-- It uses no more than so many calls, and so many other effects.
+abbrev pub Spends : HostView → HostView → ℕ → ℕ → Type 0
+Spends old new n k = (old.left ≤ new.left + n) × (old.calls ≤ new.calls + k)

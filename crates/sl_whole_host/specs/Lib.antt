@@ -1,5 +1,10 @@
 pub mod Books
 pub mod Host
 pub mod Asking
-pub mod Refusing
 pub mod Promises
+pub mod Views
+pub mod Notes
+pub mod Choosing
+pub mod Passing
+pub mod Replying
+pub mod Lining

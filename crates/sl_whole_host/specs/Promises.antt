@@ -5,18 +5,6 @@ use Rattle.sl_trace.specs.Traces.{Submitted}
 use Rattle.sl_host_state.specs.Makes.{calling, member_calling}
 use Rattle.sl_host_state.specs.Hears.{counted, heard_exit, heard_number, heard_start, is_started_now}
 use Rattle.sl_area.specs.Layouts.{layout_of}
-use Rattle.sl_whole_host.specs.Refusing.{add_in, convert_in, get_in, leave_in}
-use Rattle.sl_trace.specs.declared.effects.Mode.{Mode}
-use Rattle.sl_trace.specs.declared.command.LockspaceArg.{LockspaceArg}
-use Rattle.sl_leases.specs.Leases.{spot_of}
-use Rattle.sl_due.specs.declared.decision.Decision.TheVariants.{GetsValue}
-use Rattle.sl_host_law.specs.Decisions.Deciding.{add_decision, convert_decision, leave_decision, member_of}
-use Rattle.std.specs.Prelude.{true}
-use Rattle.sl_whole_host.specs.Refusing.{release_in, request_in}
-use Rattle.sl_trace.specs.declared.command.ResourceArg.{ResourceArg}
-use Rattle.sl_host_state.specs.Kept.{HostState}
-use Rattle.sl_due.specs.declared.decision.Decision.TheVariants.{GivesUp}
-use Rattle.sl_host_law.specs.Decisions.Deciding.{holder_decision, member_named, request_decision, with_member}
 use Rattle.sl_host_state.specs.Kept.{MemberState}
 use Rattle.sl_host_state.specs.Makes.{is_ended_by_move, with_end, with_grant, with_move, with_signal, with_start}
 use Rattle.sl_trace.specs.declared.command.Command.{Command}
@@ -47,15 +35,3 @@ pub record BooksFollow (read : List ℕ → Result Command ℕ) (ms : List Membe
 
 abbrev pub BooksFollowStates : Type 0
 BooksFollowStates = (read : List ℕ → Result Command ℕ) (ms : List MemberState) (b : BooksState) → BooksFollow read ms b
-
--- Commands come to what the member decides that has the lockspace.
-pub record DecidesByMember (h : HostState) : Type 0 where
-  pub releases : (r : ResourceArg) (p : ℕ) → with_member (member_named h r.lockspace) (λ m. release_in h m r p) ≡ holder_decision h r p (λ g. true) (λ m g. GivesUp m.who g)
-  pub converts : (r : ResourceArg) (p : ℕ) (mode : Mode) → with_member (member_named h r.lockspace) (λ m. convert_in h m r p mode) ≡ convert_decision h r p mode
-  pub gets : (r : ResourceArg) (p : ℕ) → with_member (member_named h r.lockspace) (λ m. get_in h m r p) ≡ holder_decision h r p (λ g. true) (λ m g. GetsValue m.who (spot_of r))
-  pub leaves : (a : LockspaceArg) → with_member (member_of h a) (λ m. leave_in h m) ≡ leave_decision h a
-  pub adds : (a : LockspaceArg) → add_in h a ≡ add_decision h a
-  pub requests : (r : ResourceArg) → with_member (member_named h r.lockspace) (λ m. request_in h m r) ≡ request_decision h r
-
-abbrev pub DecisionsAreTaken : Type 0
-DecisionsAreTaken = (h : HostState) → DecidesByMember h

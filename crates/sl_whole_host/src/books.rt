@@ -98,12 +98,13 @@ impl Model for Books {
       programs = b.programs.programs;
       made = b.made.made;
       left = b.made.left;
+      calls = b.made.calls;
     } };
 
-    ghost invariant = { λ b. (b.made.left ≤ b.connected.room) × (b.made.left ≤ b.unanswered.room) × (b.made.left ≤ b.holdings.room) × (b.made.left ≤ b.children.room)
-        × (b.unanswered.area ≡ b.config.sizes.area) × (b.unanswered.next ≤ b.first_call + length b.made.made.calls) × (b.first_call + length b.made.made.calls + b.made.left < 2 ^ 63)
+    ghost invariant = { λ b. (b.made.left ≤ b.connected.room) × (b.made.calls ≤ b.unanswered.room) × (b.made.left ≤ b.holdings.room) × (b.made.left ≤ b.children.room)
+        × (b.unanswered.area ≡ b.config.sizes.area) × (b.unanswered.next ≤ b.first_call + length b.made.made.calls) × (b.first_call + length b.made.made.calls + b.made.calls < 2 ^ 63)
         × (b.holdings.next + b.made.left < 2 ^ 63) × (b.children.next ≤ first_child + b.started) × (b.started + b.made.left < 2 ^ 31)
-        × (b.made.left ≤ b.jobs.room) × (b.jobs.next ≤ b.next_job) × (b.next_job + b.made.left < 2 ^ 63) };
+        × (b.made.left ≤ b.jobs.room) × (b.jobs.next ≤ b.next_job) × (b.next_job + b.made.left < 2 ^ 63) × (b.made.left ≤ b.programs.room) };
 }
 
 /// The types within a call.
@@ -342,7 +343,7 @@ impl Books {
 
     /// One more call, with the next number. Its job waits for it, and until then something may be due before an input.
     pub fn call(&mut self, call: Call)
-        requires left { 0 < self.old.left }
+        requires left { 0 < self.old.calls }
         requires next { call.number ≡ self.old.first_call + length self.old.made.calls }
         requires moment { self.old.reading < 2 ^ 63 }
         ensures { self.new ≡ books_calling (submitted_in self.old call) self.old }

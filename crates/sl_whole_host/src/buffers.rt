@@ -20,7 +20,7 @@ type WithinCall = (
     (Name, Data, FilePath),
 );
 
-/// Lists of effects: each has memory for at least `left` more.
+/// Lists of effects: that of calls has memory for at least `more_calls` more, each other one for at least `left` more.
 #[derive(Drop)]
 pub struct Buffers {
     ends: Room<End>,
@@ -31,6 +31,7 @@ pub struct Buffers {
     replies: Room<JobReply>,
     calls: Room<Call>,
     left: usize,
+    more_calls: usize,
 }
 
 impl Model for Buffers {
@@ -50,17 +51,18 @@ impl Model for Buffers {
         calls = b.calls.items;
       };
       left = b.left;
+      calls = b.more_calls;
     } };
 
     ghost invariant = { λ b. (b.left ≤ b.ends.room) × (b.left ≤ b.signals.room) × (b.left ≤ b.moves.room) × (b.left ≤ b.grants.room) × (b.left ≤ b.starts.room)
-        × (b.left ≤ b.replies.room) × (b.left ≤ b.calls.room) };
+        × (b.left ≤ b.replies.room) × (b.more_calls ≤ b.calls.room) };
 }
 
 impl Buffers {
-    /// No effects, with memory for so many of each class. An `Err` is want of memory.
-    pub fn new(alloc: Global, room: usize) -> Result<Buffers, AllocError>
-        requires { room < 2 ^ 32 }
-        ensures { IfOk result (λ b. b ≡ record { made = no_effects; left = room }) }
+    /// No effects, with memory for so many calls, and so many of each other class. An `Err` is want of memory.
+    pub fn new(alloc: Global, room: usize, more_calls: usize) -> Result<Buffers, AllocError>
+        requires { (room < 2 ^ 32) × (more_calls < 2 ^ 32) }
+        ensures { IfOk result (λ b. b ≡ record { made = no_effects; left = room; calls = more_calls }) }
     {
         Ok(Buffers {
             ends: Room::new(alloc, room)?,
@@ -69,19 +71,27 @@ impl Buffers {
             grants: Room::new(alloc, room)?,
             starts: Room::new(alloc, room)?,
             replies: Room::new(alloc, room)?,
-            calls: Room::new(alloc, room)?,
+            calls: Room::new(alloc, more_calls)?,
             left: room,
+            more_calls,
         })
     }
 
-    /// For how many more effects there is memory.
+    /// For how many more effects there is memory that are no calls.
     pub fn left(&self) -> usize
         ensures { result ≡ self.now.left }
     {
         self.left
     }
 
-    /// One place of each is given up, for what makes no effect.
+    /// For how many more calls there is memory.
+    pub fn more_calls(&self) -> usize
+        ensures { result ≡ self.now.calls }
+    {
+        self.more_calls
+    }
+
+    /// One place is given up, for what makes no effect.
     pub fn spend(&mut self)
         requires { 0 < self.old.left }
         ensures { self.new ≡ record self.old { left = self.old.left - 1 } }
@@ -100,7 +110,7 @@ impl Buffers {
     pub fn end(&mut self, end: End)
         requires { 0 < self.old.left }
         ensures made { self.new.made ≡ record self.old.made { ends = self.old.made.ends ++ end ∷ [] } }
-        ensures left { self.new.left ≡ self.old.left - 1 }
+        ensures left { (self.new.left ≡ self.old.left - 1) × (self.new.calls ≡ self.old.calls) }
     {
         self.ends.put(end);
         self.left -= 1;
@@ -110,7 +120,7 @@ impl Buffers {
     pub fn signal(&mut self, sent: Sent)
         requires { 0 < self.old.left }
         ensures made { self.new.made ≡ record self.old.made { signals = self.old.made.signals ++ sent ∷ [] } }
-        ensures left { self.new.left ≡ self.old.left - 1 }
+        ensures left { (self.new.left ≡ self.old.left - 1) × (self.new.calls ≡ self.old.calls) }
     {
         self.signals.put(sent);
         self.left -= 1;
@@ -120,7 +130,7 @@ impl Buffers {
     pub fn move_on(&mut self, step: Move)
         requires { 0 < self.old.left }
         ensures made { self.new.made ≡ record self.old.made { moves = self.old.made.moves ++ step ∷ [] } }
-        ensures left { self.new.left ≡ self.old.left - 1 }
+        ensures left { (self.new.left ≡ self.old.left - 1) × (self.new.calls ≡ self.old.calls) }
     {
         self.moves.put(step);
         self.left -= 1;
@@ -130,7 +140,7 @@ impl Buffers {
     pub fn grant(&mut self, grant: Grant)
         requires { 0 < self.old.left }
         ensures made { self.new.made ≡ record self.old.made { grants = self.old.made.grants ++ grant ∷ [] } }
-        ensures left { self.new.left ≡ self.old.left - 1 }
+        ensures left { (self.new.left ≡ self.old.left - 1) × (self.new.calls ≡ self.old.calls) }
     {
         self.grants.put(grant);
         self.left -= 1;
@@ -140,7 +150,7 @@ impl Buffers {
     pub fn start(&mut self, start: Start)
         requires { 0 < self.old.left }
         ensures made { self.new.made ≡ record self.old.made { starts = self.old.made.starts ++ start ∷ [] } }
-        ensures left { self.new.left ≡ self.old.left - 1 }
+        ensures left { (self.new.left ≡ self.old.left - 1) × (self.new.calls ≡ self.old.calls) }
     {
         self.starts.put(start);
         self.left -= 1;
@@ -150,7 +160,7 @@ impl Buffers {
     pub fn reply(&mut self, reply: JobReply)
         requires { 0 < self.old.left }
         ensures made { self.new.made ≡ record self.old.made { replies = self.old.made.replies ++ reply ∷ [] } }
-        ensures left { self.new.left ≡ self.old.left - 1 }
+        ensures left { (self.new.left ≡ self.old.left - 1) × (self.new.calls ≡ self.old.calls) }
     {
         self.replies.put(reply);
         self.left -= 1;
@@ -158,13 +168,13 @@ impl Buffers {
 
     /// One more call.
     pub fn call(&mut self, call: Call)
-        requires { 0 < self.old.left }
+        requires { 0 < self.old.calls }
         ensures made { self.new.made ≡ record self.old.made { calls = self.old.made.calls ++ call ∷ [] } }
-        ensures left { self.new.left ≡ self.old.left - 1 }
+        ensures left { (self.new.left ≡ self.old.left) × (self.new.calls ≡ self.old.calls - 1) }
     {
         let _within: Option<WithinCall> = None;
         self.calls.put(call);
-        self.left -= 1;
+        self.more_calls -= 1;
     }
 
     /// The effects.
@@ -180,6 +190,7 @@ impl Buffers {
             replies,
             calls,
             left: _,
+            more_calls: _,
         } = self;
         Effects {
             ends: Seq::new(ends.into_vec()),

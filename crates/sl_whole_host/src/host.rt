@@ -3,7 +3,7 @@
 ghost use Rattle.sl_host_state.specs.Makes.{is_ended_by_move, with_call, with_end, with_grant, with_move, with_signal, with_start};
 ghost use Rattle.sl_member.specs.Members.{IsOwnCall};
 ghost use Rattle.sl_trace.specs.Traces.{first_child, new_call};
-ghost use Rattle.sl_whole_host.specs.Host.{Becomes};
+ghost use Rattle.sl_whole_host.specs.Host.{Becomes, SameRun};
 ghost use Rattle.sl_words.specs.Bounds.{moments};
 ghost use Rattle.std.specs.Prelude.{filter, not, ℕ, ◌+◌, ◌-◌, ◌<◌, ◌≡◌};
 
@@ -15,7 +15,7 @@ use sl_text::{Data, FilePath, Name};
 use sl_trace::{Call, End, Grant, JoinStep, LeaseStep, Move, Op, Purpose, Sent, Start, Work};
 use std::marker::Model;
 
-/// A host. Its members have memory for as many leases each as it may make effects.
+/// A host. Its members have memory for as many leases each as it may make calls.
 #[derive(Drop)]
 pub struct Host {
     pub(crate) members: Members,
@@ -29,9 +29,9 @@ impl Model for Host {
 
     ghost Value = { HostView };
 
-    ghost view = { λ h. record { kept = kept_of h.members.members h.books; left = h.books.left } };
+    ghost view = { λ h. record { kept = kept_of h.members.members h.books; left = h.books.left; calls = h.books.calls } };
 
-    ghost invariant = { λ h. (h.members.run ≡ record { timing = h.books.config.timing; sizes = h.books.config.sizes; host = h.books.config.name }) × (h.books.left ≤ h.members.room) };
+    ghost invariant = { λ h. (h.members.run ≡ record { timing = h.books.config.timing; sizes = h.books.config.sizes; host = h.books.config.name }) × (h.books.calls ≤ h.members.room) };
 }
 
 /// The types within a call.
@@ -67,7 +67,8 @@ impl Host {
     pub fn end(&mut self, end: End)
         requires { 0 < self.old.left }
         ensures state { Becomes self.old self.new (with_end end) }
-        ensures left { self.new.left ≡ self.old.left - 1 }
+        ensures left { (self.new.left ≡ self.old.left - 1) × (self.new.calls ≡ self.old.calls) }
+        ensures run { SameRun self.old self.new }
     {
         self.books.end(end);
     }
@@ -76,7 +77,8 @@ impl Host {
     pub fn grant(&mut self, grant: Grant)
         requires { 0 < self.old.left }
         ensures state { Becomes self.old self.new (with_grant grant) }
-        ensures left { self.new.left ≡ self.old.left - 1 }
+        ensures left { (self.new.left ≡ self.old.left - 1) × (self.new.calls ≡ self.old.calls) }
+        ensures run { SameRun self.old self.new }
     {
         self.books.grant(grant);
     }
@@ -85,7 +87,8 @@ impl Host {
     pub fn signal(&mut self, sent: Sent)
         requires { 0 < self.old.left }
         ensures state { Becomes self.old self.new (with_signal sent.process sent.signal) }
-        ensures left { self.new.left ≡ self.old.left - 1 }
+        ensures left { (self.new.left ≡ self.old.left - 1) × (self.new.calls ≡ self.old.calls) }
+        ensures run { SameRun self.old self.new }
     {
         self.books.signal(sent);
     }
@@ -95,7 +98,8 @@ impl Host {
         requires left { 0 < self.old.left }
         requires next { start.process ≡ first_child + self.old.kept.started }
         ensures state { Becomes self.old self.new (with_start start) }
-        ensures left { self.new.left ≡ self.old.left - 1 }
+        ensures left { (self.new.left ≡ self.old.left - 1) × (self.new.calls ≡ self.old.calls) }
+        ensures run { SameRun self.old self.new }
     {
         self.books.start(start);
     }
@@ -104,7 +108,8 @@ impl Host {
     pub fn move_on(&mut self, step: Move)
         requires { 0 < self.old.left }
         ensures state { Becomes self.old self.new (with_move step) }
-        ensures left { self.new.left ≡ self.old.left - 1 }
+        ensures left { (self.new.left ≡ self.old.left - 1) × (self.new.calls ≡ self.old.calls) }
+        ensures run { SameRun self.old self.new }
     {
         part_with(&mut self.members, &step);
         self.books.move_on(step);
@@ -112,11 +117,12 @@ impl Host {
 
     /// One more call of a session, with the next number.
     pub fn call(&mut self, session: u64, path: FilePath, purpose: Purpose, offset: u64, op: Op)
-        requires left { 0 < self.old.left }
+        requires left { 0 < self.old.calls }
         requires moment { self.old.kept.reading < moments }
         requires own { (n : ℕ) → IsOwnCall (new_call 0 self.old.kept.reading (record { number = n; session = session; purpose = purpose; path = path; offset = offset; op = op })) }
         ensures state { Becomes self.old self.new (with_call session path purpose offset op) }
-        ensures left { self.new.left ≡ self.old.left - 1 }
+        ensures left { (self.new.left ≡ self.old.left) × (self.new.calls ≡ self.old.calls - 1) }
+        ensures run { SameRun self.old self.new }
     {
         let _within: Option<WithinCall> = None;
         let call = Call {

@@ -44,9 +44,9 @@ use Rattle.sl_plain.proofs.Lists.{any_found, any_of, contains_map, find_fails, f
 use Rattle.sl_host_law.proofs.Questions.AnswersAreTheirs.{answers_are_theirs}
 use Rattle.sl_host_law.specs.Questions.Jobs.{aim_in, goes_on_in, is_of_process_in, running_in}
 use Rattle.sl_host_law.specs.Replies.Moves.{EndsBegun}
-use Rattle.sl_sessions.specs.Sessions.{calls_of, is_join_done, is_present, leaving_job, removed_after}
+use Rattle.sl_sessions.specs.Sessions.{calls_of, is_join_done, is_present, removed_after}
 use Rattle.sl_sessions.specs.declared.session.Session.{Session}
-use Rattle.sl_trace.specs.Traces.{Child, Job, Replied, end_of, is_expected, no_process, orphans_left, reply_to}
+use Rattle.sl_trace.specs.Traces.{Child, Replied, end_of, is_expected, no_process, orphans_left, reply_to}
 use Rattle.sl_trace.specs.declared.effects.Signal.TheVariants.{Term}
 use Rattle.sl_trace.specs.declared.input.Answer.{Answer}
 use Rattle.sl_trace.specs.declared.input.Input.TheVariants.{Answer as Told, Exit, Number, Spawned, Wake}
@@ -61,8 +61,6 @@ use Rattle.sl_host_state.specs.declared.kept.WaitingCall.{WaitingCall}
 use Rattle.sl_host_law.proofs.Steps.JoiningDecides.{joining_decides}
 use Rattle.sl_leases.specs.declared.lease.Aim.{Aim}
 use Rattle.sl_host_law.specs.Parts.Ends.{removing}
-use Rattle.sl_sessions.specs.declared.session.Begun.{Begun}
-use Rattle.sl_sessions.specs.declared.delta.DeltaKnown.{DeltaKnown}
 use Rattle.sl_trace.specs.declared.effects.JoinStep.{JoinStep}
 use Rattle.sl_trace.specs.declared.effects.LeaseStep.{LeaseStep}
 use Rattle.sl_trace.specs.declared.effects.Move.TheVariants.{Unregister}
@@ -72,11 +70,11 @@ use Rattle.sl_trace.specs.declared.effects.Work.{Work}
 use Rattle.sl_words.proofs.WordLaws.{and_true}
 use Rattle.sl_words.specs.Words.{choose}
 use Rattle.std.proofs.lemmas.Slice.Eq.{bytes_eq-Decides}
-use Rattle.sl_words.proofs.CaseLaws.{is_false, none_some, true_is_false}
+use Rattle.sl_words.proofs.CaseLaws.{is_false, true_is_false}
 use Rattle.std.proofs.Common.{ap, refl, subst, sym, ◌∙◌}
 use Rattle.std.proofs.lemmas.Bool.Decides.{Decides-eqb}
 use Rattle.std.specs.List.{list_any}
-use Rattle.std.specs.Prelude.{Bool, Contains, List, None, Option, Some, bytes_eq, cond, false, filter, is_none, is_some, map, not, option_and_then, option_map, slice_get, true, ℕ, ◌&&◌, ◌+◌, ◌<◌, ◌==◌, ◌||◌, ◌≡◌}
+use Rattle.std.specs.Prelude.{Bool, Contains, List, None, Option, Some, bytes_eq, cond, false, filter, is_none, is_some, map, not, option_and_then, slice_get, true, ℕ, ◌&&◌, ◌+◌, ◌<◌, ◌==◌, ◌||◌, ◌≡◌}
 
 -- ---- a number, an exit, a start
 
@@ -153,7 +151,7 @@ inputs_are_sound =
 -- ---- an answer
 
 -- Who is joined isn't refused.
-joined_stays : (h : HostState) (x : Step) (k : ℕ) (m : MemberState) → Stands Wake h x → slice_get h.members k ≡ Some m → m.joined ≡ true → m.refused ≡ false
+pub joined_stays : (h : HostState) (x : Step) (k : ℕ) (m : MemberState) → Stands Wake h x → slice_get h.members k ≡ Some m → m.joined ≡ true → m.refused ≡ false
 joined_stays h x k m s there joined = by (m.who.job) refl where
   stands : MemberStands x.setting (seen x) m
   stands = s.keeps.members k m there
@@ -333,16 +331,7 @@ module _ (n : ℕ) (c : OpenCall) (a : Answer) (h : HostState) (x : Step) (comes
     done (Joining j step) is is_own may = joins j step is is_own
     done Renewal is is_own may = answers_follow.renewal n c a h x k m to is (free is_own)
     done Survey is is_own may = surveys_follow n c a h x k m to (free is_own) is
-    done (Leaving j) is is_own may =
-        answers_follow.free n c a h x k m j to is (free is_own.0)
-        (ends k m there (λ joined. leaves_begun (comes.stands.keeps.members k m there) is_own.1))
-      where
-        begun_if : (o : Option Job) → option_map (λ (z : Job). z.number) o ≡ Some j → is_some (option_map (λ (z : Job). (let b : Begun = record { at = z.at; reading = z.reading; kills_from = z.at + 1 } in b)) o) ≡ true
-        begun_if None e = absurd (none_some j e)
-        begun_if (Some z) e = refl
-
-        leaves_begun : MemberStands x.setting (seen x) m → m.known.leaving ≡ Some j → is_some m.leaving ≡ true
-        leaves_begun s e = ap (λ o. is_some o) (sym s.leaving) ∙ begun_if (leaving_job x.setting (seen x) m.who) (ap (λ (d : DeltaKnown). d.leaving) s.known ∙ e)
+    done (Leaving j) is is_own may = answers_follow.free n c a h x k m j to is (free is_own.0) (ends k m there (λ joined. is_own.1))
     done (Lease work step) is is_own may = works (goes_on_in (heard_answer n a h) (member_hearing h c a m) work) refl where
       aimed : (goes_on_in (heard_answer n a h) (member_hearing h c a m) work) ≡ true → (o : Option Aim) → aim_in (heard_answer n a h) work ≡ o
           → Follows n a h x
@@ -354,7 +343,7 @@ module _ (n : ℕ) (c : OpenCall) (a : Answer) (h : HostState) (x : Step) (comes
       aimed goes None aims = lease_answers_follow.aimless n c a h x k m work step to (free is_own) is goes aims
       aimed goes (Some aim) aims =
           leases_go_on n c a h x k m work step aim (answered_next (heard_answer n a h) (member_hearing h c a m) (area_of (heard_answer n a h) c) c aim step a) to (free is_own) is goes aims
-          (answers_as_known n c a h x k m to (free is_own) work step is (room (lies is_own)) comes.sound.laid.program aim) (lies is_own) (may work step aim is).converts
+          (answers_as_known n c a h x k m to (free is_own) work step is (room (lies is_own)) comes.sound.laid.program aim) (lies is_own) ((may work step aim is).converts goes aims)
 
       works : (b : Bool) → goes_on_in (heard_answer n a h) (member_hearing h c a m) work ≡ b
           → Follows n a h x

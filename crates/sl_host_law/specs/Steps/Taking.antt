@@ -7,6 +7,7 @@ use Rattle.sl_host_state.specs.Hears.{heard_answer, member_hearing}
 use Rattle.sl_host_state.specs.Kept.{HostState, MemberState}
 use Rattle.sl_host_state.specs.Stands.{Stands}
 use Rattle.sl_host_state.specs.declared.kept.OpenCall.{OpenCall}
+use Rattle.sl_host_law.specs.Questions.Jobs.{aim_in, goes_on_in}
 use Rattle.sl_host_law.specs.Steps.Inputs.{taking}
 use Rattle.sl_host_law.specs.Steps.Leases.{answered_next}
 use Rattle.sl_host_law.specs.Steps.Sound.{IsEarly, IsSound}
@@ -20,12 +21,12 @@ use Rattle.sl_trace.specs.declared.effects.Work.{Work}
 use Rattle.sl_trace.specs.declared.input.Answer.{Answer}
 use Rattle.sl_trace.specs.declared.input.Input.TheVariants.{Answer as Told, Exit, Number, Spawned, Wake}
 use Rattle.sl_words.specs.Words.{is_empty}
-use Rattle.std.specs.Prelude.{Bool, Contains, List, Some, false, true, ℕ, ◌==◌, ◌≡◌}
+use Rattle.std.specs.Prelude.{Bool, Contains, List, Some, false, is_some, true, ℕ, ◌==◌, ◌≡◌}
 
--- A call for this purpose is its member's: of a joining that joins it, of a leaving that it leaves by, else of one that has joined.
+-- A call for this purpose is its member's: of a joining that joins it, of a leaving in which it is, else of one that has joined.
 abbrev pub IsCallOf : MemberState → Purpose → Type 0
 IsCallOf m (Joining j step) = m.who.job ≡ Some j
-IsCallOf m (Leaving j) = (m.joined ≡ true) × (m.known.leaving ≡ Some j)
+IsCallOf m (Leaving j) = (m.joined ≡ true) × (is_some m.leaving ≡ true)
 IsCallOf m p = m.joined ≡ true
 
 -- Each open call is its member's, and who hasn't joined has no leases.
@@ -42,9 +43,10 @@ pub record AnswerComes (number : ℕ) (c : OpenCall) (a : Answer) (h : HostState
   pub is_open : IsOpen h number c
   pub fits : FitsCall h.config.layout a c
 
--- What is asked of an answer on a lease: a conversion that is done may be.
+-- What is asked of an answer on a lease whose work goes on: a conversion that is done may be.
 pub record LeaseMay (number : ℕ) (c : OpenCall) (a : Answer) (h : HostState) (x : Step) (m : MemberState) (work : Work) (step : LeaseStep) (aim : Aim) : Type 0 where
-  pub converts : IfConverted (Told number a) (heard_answer number a h) (with_input (Told number a) x) (member_hearing h c a m) c work
+  pub converts : goes_on_in (heard_answer number a h) (member_hearing h c a m) work ≡ true → aim_in (heard_answer number a h) work ≡ Some aim
+      → IfConverted (Told number a) (heard_answer number a h) (with_input (Told number a) x) (member_hearing h c a m) c work
       (answered_next (heard_answer number a h) (member_hearing h c a m) (area_of (heard_answer number a h) c) c aim step a)
 
 -- The state follows the step.

@@ -19,7 +19,7 @@ calling-requires-clause-own c =
 pub invariant_of-self : goal.invariant_of-self
 invariant_of-self c = (
   ap (λ s. s.run) (c.calling.ensures 0) ∙ (c.self.invariant.0 ∙ ap same_run (sym c.call.ensures)),
-  lowered_room _ c.self.inside.books.left c.self.inside.members.room c.call.new.self.left c.calling.new.self.room (ap (λ b. b.left) c.call.ensures) (ap (λ s. s.room) (c.calling.ensures 0)) c.self.invariant.1,
+  lowered_room _ c.self.inside.books.calls c.self.inside.members.room c.call.new.self.calls c.calling.new.self.room (ap (λ b. b.calls) c.call.ensures) (ap (λ s. s.room) (c.calling.ensures 0)) c.self.invariant.1,
 )
 
 pub returns-clause-state : goal.returns-clause-state

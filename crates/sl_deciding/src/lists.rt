@@ -1,0 +1,48 @@
+//! Memory for the lists that are told: it is taken before anything is decided, so that a decision can't fail.
+
+ghost use Rattle.sl_deciding.specs.Lists.{FitsLists, tells_list};
+ghost use Rattle.std.specs.Prelude.{IfOk, IsOk, false, ◌≡◌};
+
+use sl_area::Geometry;
+use sl_trace::{Command, SessionOf, StateOf};
+use std::alloc::{AllocError, Global};
+use std::marker::Model;
+
+/// Lockspaces of a machine.
+const MOST_LOCKSPACES: usize = 8;
+
+/// Empty lists of states and sessions, with memory for some of each.
+#[derive(Drop)]
+pub struct Lists {
+    pub(crate) states: Vec<StateOf>,
+    pub(crate) sessions: Vec<SessionOf>,
+}
+
+impl Model for Lists {
+    ghost use Rattle.sl_deciding.specs.Lists.{ListsState};
+    ghost use Rattle.std.specs.Prelude.{[], vec_capacity, ◌≡◌};
+
+    ghost Value = { ListsState };
+
+    ghost view = { λ l. record { states = vec_capacity l.states; sessions = vec_capacity l.sessions } };
+
+    ghost invariant = { λ l. (l.states.items ≡ []) × (l.sessions.items ≡ []) };
+}
+
+impl Lists {
+    /// Memory for the list that the command is answered by, of a host with areas of these sizes; an `Err` is want of it. A command that is not
+    /// answered by a list takes none.
+    pub fn of(alloc: Global, geometry: &Geometry, command: &Command) -> Result<Lists, AllocError>
+        ensures fit { IfOk result (λ l. FitsLists geometry.now command.now l) }
+        ensures memory { tells_list command.now ≡ false → IsOk result }
+    {
+        let mut states = Vec::new(alloc);
+        let mut sessions = Vec::new(alloc);
+        match command {
+            Command::HostStatus(_) => states.reserve(geometry.hosts() as usize)?,
+            Command::Status => sessions.reserve(MOST_LOCKSPACES)?,
+            _ => {}
+        }
+        Ok(Lists { states, sessions })
+    }
+}

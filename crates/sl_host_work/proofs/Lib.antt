@@ -1,0 +1,14 @@
+pub mod HeldStands
+pub mod LeaseNextStands
+pub mod NextLaws
+pub mod PlainLaws
+pub mod Sequences
+pub mod WakingStands
+pub mod NumbersRise
+pub mod SignalsStand
+pub mod EndsStand
+pub mod Passing
+pub mod KillsStand
+pub mod OrphansStand
+pub mod HoldersFew
+pub mod RefusalsStand

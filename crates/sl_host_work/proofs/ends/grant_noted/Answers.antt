@@ -1,0 +1,34 @@
+use Rattle.sl_host_law.specs.Parts.Signals.{over}
+use Rattle.sl_host_state.specs.Kept.{state_of}
+use Rattle.sl_host_state.specs.Makes.{with_grant}
+use Rattle.sl_host_work.proofs.Passing.{fewer_left, over_end, over_next}
+use Rattle.sl_host_work.proofs.ends.grant_noted.Goals as goal
+use Rattle.std.proofs.Common.{ap, arith, refl, sym, ◌≡◌, ◌∙◌}
+use Rattle.std.specs.Prelude.{drop, length}
+
+pub loop-place-init : goal.loop-place-init
+loop-place-init c = record { comes = λ read. refl; run = (refl, refl); room = c.requires; spent = omega arith; calls = omega arith }
+
+pub grant-requires : goal.grant-requires
+grant-requires c =
+    let less = fewer_left c.args.grants.now.items c.loop-place.place c.nth.result.now c.nth.ensures in omega (arith, less, c.loop-place.invariant.room)
+
+pub loop-place-preserved : goal.loop-place-preserved
+loop-place-preserved c =
+    let was = c.loop-place.invariant in
+    let done = c.grant.ensures in
+    let less = fewer_left c.args.grants.now.items c.loop-place.place c.nth.result.now c.nth.ensures in
+    record {
+      comes = λ read. was.comes read ∙ over_next with_grant c.args.grants.now.items c.loop-place.place c.nth.result.now (state_of read c.loop-place.host.kept) (state_of read c.grant.new.self.kept) c.nth.ensures (done.state read);
+      run = (done.run.0 ∙ was.run.0, done.run.1 ∙ was.run.1);
+      room = omega (arith, less, was.room, done.left.0);
+      spent = omega (arith, less, was.room, was.spent, done.left.0);
+      calls = omega (arith, was.calls, done.left.1);
+    }
+
+pub returns-clause-state : goal.returns-clause-state
+returns-clause-state c read =
+    let end : c.loop-place.place ≡ length c.args.grants.now.items = omega (arith, c.len-place-end.ensures, c.loop-place-test.false, c.loop-place.auto.place-end) in
+    sym (c.loop-place.invariant.comes read
+    ∙ (ap (λ n. over (drop n c.args.grants.now.items) with_grant (state_of read c.loop-place.host.kept)) end
+    ∙ over_end with_grant c.args.grants.now.items (state_of read c.loop-place.host.kept)))

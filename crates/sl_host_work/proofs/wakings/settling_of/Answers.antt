@@ -1,0 +1,6 @@
+use Rattle.sl_host_work.proofs.wakings.settling_of.Goals as goal
+use Rattle.sl_member.specs.Together.{member_with}
+use Rattle.std.proofs.Common.{ap, sym, ◌∙◌}
+
+pub member_settling-requires-clause-may : goal.member_settling-requires-clause-may
+member_settling-requires-clause-may c = c.requires.may _ (sym (c.in-Some.ensures.exact ∙ ap (member_with c.args.number) c.members.ensures.members))

@@ -1,0 +1,11 @@
+pub mod Placed
+pub mod Leasing
+pub mod Next
+pub mod Asking
+pub mod Waking
+pub mod Holders
+pub mod Killing
+pub mod Ending
+pub mod Rooms
+pub mod Stopping
+pub mod Refused

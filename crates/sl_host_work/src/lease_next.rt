@@ -1,0 +1,142 @@
+//! What a lease does next: after an answer, by a settling, by a release, by a conversion.
+//!
+//! The lease decides by what it keeps, what is held under it, and whom its session counts as over.
+
+ghost use Rattle.sl_area.specs.Layouts.{layout_of};
+ghost use Rattle.sl_host_law.specs.Steps.Leases.{answered_next, converting_next, kept_blocks, lease_at, releasing_next, settling_next};
+ghost use Rattle.sl_host_state.specs.Kept.{HostState, MemberState};
+ghost use Rattle.sl_host_state.specs.declared.kept.OpenCall.{OpenCall};
+ghost use Rattle.sl_host_work.specs.Asking.{IsNamedFor, IsShown, MayAsk};
+ghost use Rattle.sl_host_work.specs.Leasing.{held_with};
+ghost use Rattle.sl_host_work.specs.Next.{IsFit};
+ghost use Rattle.sl_lease.specs.Bounds.{IsInstance};
+ghost use Rattle.sl_lease.specs.Side.{is_named};
+ghost use Rattle.sl_sector.specs.Records.{IsBlock, IsLeader};
+ghost use Rattle.sl_tables.specs.Holdings.{fits};
+ghost use Rattle.sl_tables.specs.declared.holdings.Holder.TheVariants.{Anyone};
+ghost use Rattle.sl_trace.specs.declared.effects.LeaseStep.{LeaseStep};
+ghost use Rattle.sl_trace.specs.declared.effects.Spot.{Spot};
+ghost use Rattle.sl_trace.specs.declared.input.Answer.TheVariants.{Failed, Read, Written};
+ghost use Rattle.sl_whole_host.specs.Asking.{sought_on, state_in};
+ghost use Rattle.std.specs.Prelude.{All, IfSome, IsTrue, List, Some, find, length, option_map, ℕ, ◌<◌, ◌^◌, ◌≡◌};
+
+use sl_host_state::OpenCall;
+use sl_lease::{Held, Lease, after_failure};
+use sl_leases::{Aim, LeaseNext};
+use sl_member::Member;
+use sl_sector::{Block, Leader};
+use sl_tables::Holder;
+use sl_text::Name;
+use sl_trace::{Grant, LeaseStep, Mode, Spot};
+use sl_whole_host::Host;
+
+/// The first holding under the session of this number on an area, in this mode.
+fn held_in(host: &Host, session: u64, at: &Spot, mode: Mode) -> Option<Grant>
+    ensures { result ≡ find (fits (sought_on Anyone session at.now (Some mode))) host.now.kept.holdings }
+{
+    match host.held(session, at, Holder::Anyone, Some(mode)) {
+        Some(held) => Some(*held),
+        None => None,
+    }
+}
+
+/// The instance of a holding, if there is one.
+fn lver_of(held: Option<Grant>) -> Option<u64>
+    ensures { result ≡ option_map (λ g. g.lver) held }
+{
+    match held {
+        Some(grant) => Some(grant.lver),
+        None => None,
+    }
+}
+
+/// What is held under the session of this number on an area.
+#[tactic(auto, using(crate::proofs::HeldStands::held_found))]
+fn held_under(host: &Host, session: u64, at: &Spot) -> Held
+    ensures { result ≡ held_with session at.now host.now.kept.holdings }
+{
+    let shared = held_in(host, session, at, Mode::Shared);
+    let exclusive = held_in(host, session, at, Mode::Exclusive);
+    Held {
+        shared: shared.is_some(),
+        exclusive: lver_of(exclusive),
+    }
+}
+
+/// What a settling does next.
+pub fn settling_next(host: &Host, member: &Member, at: &Spot) -> LeaseNext
+    requires run { member.now.run.sizes ≡ host.now.kept.config.sizes }
+    requires may { MayAsk (state_in host.now.kept) member.now.state at.now (kept_blocks (lease_at member.now.state at.now)) }
+    ensures exact { result ≡ settling_next (state_in host.now.kept) member.now.state at.now }
+    ensures fit { IsFit result }
+{
+    let held = held_under(host, member.who().number, at);
+    let side = member.side();
+    match member.lease(at) {
+        Some(lease) => lease.settle(&side, held),
+        None => Lease::new(*at).settle(&side, held),
+    }
+}
+
+/// What a release does first, once the last holding under the lease has ended: it was in this mode, under this instance.
+pub fn releasing_next(host: &Host, member: &Member, at: &Spot, ended: &Grant) -> LeaseNext
+    requires run { member.now.run.sizes ≡ host.now.kept.config.sizes }
+    requires may { MayAsk (state_in host.now.kept) member.now.state at.now (kept_blocks (lease_at member.now.state at.now)) }
+    requires named { IsTrue (is_named (lease_at member.now.state at.now)) }
+    requires instance { IsInstance ended.now.lver }
+    ensures exact { result ≡ releasing_next (state_in host.now.kept) member.now.state at.now ended.now }
+    ensures fit { IsFit result }
+{
+    let side = member.side();
+    match member.lease(at) {
+        Some(lease) => lease.release(&side, ended.mode, ended.lver),
+        None => Lease::new(*at).release(&side, ended.mode, ended.lver),
+    }
+}
+
+/// What a conversion to this mode does first, of a resource of this name.
+pub fn converting_next(host: &Host, member: &Member, at: &Spot, mode: Mode, name: Name) -> LeaseNext
+    requires run { member.now.run.sizes ≡ host.now.kept.config.sizes }
+    requires may { MayAsk (state_in host.now.kept) member.now.state at.now (kept_blocks (lease_at member.now.state at.now)) }
+    ensures exact { result ≡ converting_next (state_in host.now.kept) member.now.state at.now mode name }
+    ensures fit { IsFit result }
+{
+    let side = member.side();
+    match member.lease(at) {
+        Some(lease) => lease.convert(&side, mode, name),
+        None => Lease::new(*at).convert(&side, mode, name),
+    }
+}
+
+/// What comes next after the write of this call is done, at this step. The member has heard the answer.
+pub fn next_after_write(
+    host: &Host,
+    member: &Member,
+    at: &Spot,
+    aim: Aim,
+    step: LeaseStep,
+    call: &OpenCall,
+) -> LeaseNext
+    requires run { member.now.run.sizes ≡ host.now.kept.config.sizes }
+    requires may { MayAsk (state_in host.now.kept) member.now.state at.now (kept_blocks (lease_at member.now.state at.now)) }
+    requires named { IsNamedFor member.now.state at.now step }
+    requires instance { IsInstance call.now.lver }
+    ensures exact { result ≡ answered_next (state_in host.now.kept) member.now.state at.now call.now aim step Written }
+    ensures fit { IsFit result }
+{
+    let held = held_under(host, member.who().number, at);
+    let side = member.side();
+    match member.lease(at) {
+        Some(lease) => lease.after_write(&side, held, aim, call.lver, step),
+        None => Lease::new(*at).after_write(&side, held, aim, call.lver, step),
+    }
+}
+
+/// What comes next after this call has failed.
+#[tactic(auto, unfolding(sl_leases::specs::LeaseWork::lease_next))]
+pub fn next_after_failure(aim: Aim, call: &OpenCall) -> LeaseNext
+    ensures exact { (h : HostState) (m : MemberState) (at : Spot) (step : LeaseStep) → result ≡ answered_next h m at call.now aim step Failed }
+    ensures fit { IsFit result }
+{
+    after_failure(aim, call.number)
+}

@@ -1,0 +1,197 @@
+-- A conversion that is done may be: its job runs and waits no more, and the lease makes the call that is owed next.
+use Rattle.sl_area.specs.Places.{block_offset, leader_offset}
+use Rattle.sl_due.specs.Steps.{Step, with_input}
+use Rattle.sl_host_law.proofs.Answers.AnswersSetFree.{answers_set_free}
+use Rattle.sl_host_law.proofs.Answers.LeasesSetFree.{leases_set_free}
+use Rattle.sl_host_law.proofs.Plain.PlainLists.{at_some, flat_has}
+use Rattle.sl_host_law.proofs.Steps.AreasLie.{begins_at, placed}
+use Rattle.sl_host_law.proofs.Steps.InputsFollow.{joined_stays}
+use Rattle.sl_host_law.specs.Answers.Answering.{IsAnswerTo}
+use Rattle.sl_host_law.specs.Answers.LeaseAnswers.{area_of}
+use Rattle.sl_host_law.specs.Answers.Leasing.{MayWork, converted, converting, converting_for}
+use Rattle.sl_host_law.specs.Answers.LeasesGoOn.{IfConverted, IsPlacedAt}
+use Rattle.sl_host_law.specs.Calls.Calls.{fits_lease}
+use Rattle.sl_host_law.specs.Questions.Jobs.{command_in, goes_on_in}
+use Rattle.sl_host_law.specs.Questions.Members.{otherwise_at}
+use Rattle.sl_host_law.specs.Replies.Answers.{FitsCall, IsOpen}
+use Rattle.sl_host_law.specs.Replies.Replies.{MayReply}
+use Rattle.sl_host_law.specs.Steps.Taking.{IsCallOf, LeaseMay}
+use Rattle.sl_host_state.specs.Hears.{heard_answer, hearing, member_hearing}
+use Rattle.sl_host_state.specs.Kept.{Config, HostState, LeaseState, MemberState}
+use Rattle.sl_host_state.specs.Makes.{is_lease_on, member_answered, member_replying, next_submitted}
+use Rattle.sl_host_state.specs.declared.kept.JobState.{JobState}
+use Rattle.sl_host_state.specs.declared.kept.OpenCall.{OpenCall}
+use Rattle.sl_leases.specs.Jobs.{process_named}
+use Rattle.sl_leases.specs.declared.lease.Aim.{Aim}
+use Rattle.sl_leases.specs.declared.lease.LeaseNext.TheVariants.{AnswerJob, BecomeExclusive, BecomeShared, GrantJob, Nothing, ReadFor, WriteBlock, WriteLeader}
+use Rattle.sl_leases.specs.declared.lease.LeaseNext.{LeaseNext}
+use Rattle.sl_plain.proofs.Lists.{contains_first, contains_map, find_inside, got_inside}
+use Rattle.sl_sector.specs.declared.sector.Block.{Block}
+use Rattle.sl_sector.specs.declared.sector.Leader.{Leader}
+use Rattle.sl_sector.specs.declared.sector.Rec.TheVariants.{BlockIs, LeaderIs}
+use Rattle.sl_step_law.proofs.CallsOfMembers.{calls_are_theirs}
+use Rattle.sl_step_law.specs.Ready.{IsReady}
+use Rattle.sl_trace.specs.Traces.{work_job}
+use Rattle.sl_trace.specs.declared.command.Command.{Command}
+use Rattle.sl_trace.specs.declared.effects.Grant.{Grant}
+use Rattle.sl_trace.specs.declared.effects.LeaseStep.TheVariants.{ClearMode, FreeLeader}
+use Rattle.sl_trace.specs.declared.effects.LeaseStep.{LeaseStep}
+use Rattle.sl_trace.specs.declared.effects.Mode.TheVariants.{Exclusive, Shared}
+use Rattle.sl_trace.specs.declared.effects.Mode.{Mode}
+use Rattle.sl_trace.specs.declared.effects.Op.TheVariants.{WriteRecord}
+use Rattle.sl_trace.specs.declared.effects.Purpose.TheVariants.{Lease}
+use Rattle.sl_trace.specs.declared.effects.Spot.{Spot}
+use Rattle.sl_trace.specs.declared.effects.Work.TheVariants.{ForJob, Settling}
+use Rattle.sl_trace.specs.declared.effects.Work.{Work}
+use Rattle.sl_trace.specs.declared.input.Answer.{Answer}
+use Rattle.sl_trace.specs.declared.input.Input.TheVariants.{Answer as Told}
+use Rattle.sl_trace.specs.declared.reply.Reply.TheVariants.{Granted}
+use Rattle.sl_words.proofs.CaseLaws.{none_some, some_value}
+use Rattle.sl_words.specs.Words.{some_is}
+use Rattle.std.proofs.Common.{ap, arith, inl, refl, subst, sym, ◌∙◌}
+use Rattle.std.specs.List.{list_any}
+use Rattle.std.specs.Option.{option_map_or}
+use Rattle.std.specs.Prelude.{Bool, Contains, IsTrue, None, Option, Some, cond, false, find, is_none, nat_lt, not, slice_get, true, [], ℕ, ◌%◌, ◌&&◌, ◌-◌, ◌<◌, ◌==◌, ◌≡◌, ◌∷◌}
+
+-- ---- a conversion leaves the member and what the host is made of
+
+-- The member is there, and the host is made of this.
+abbrev StaysIn : MemberState → Config → HostState → Type 0
+StaysIn q made g = Contains g.members q × (g.config ≡ made)
+
+converting_stays : (q : MemberState) (made : Config) (j : ℕ) (mode : Mode) (lver : ℕ) (e : Grant) (g : HostState) → q.joined ≡ true → StaysIn q made g → StaysIn q made (converting j mode lver e g)
+converting_stays q made j mode lver e g joined s =
+    (flat_has (member_replying g j (Granted lver)) g.members q q s.0 (subst (λ b. Contains (cond (not b && not q.refused && some_is (λ n. n == j) q.who.job) (member_answered g (Granted lver) q) (q ∷ [])) q) (sym joined) here), s.1) where
+      here : Contains (q ∷ []) q
+      here = contains_first q []
+
+converted_stays : (q : MemberState) (made : Config) (at : Spot) (work : Work) (mode : Mode) (lver : ℕ) (g : HostState) → q.joined ≡ true → StaysIn q made g → StaysIn q made (converted q at work mode lver g)
+converted_stays q made at Settling mode lver g joined s = s
+converted_stays q made at (ForJob j) mode lver g joined s = by (command_in g j) where
+  one : (o : Option Grant) → StaysIn q made (elim o as (λ z. HostState) [ None ↦ g | Some e ↦ converting j mode lver e g ])
+  one None = s
+  one (Some e) = converting_stays q made j mode lver e g joined s
+
+  named : (o : Option ℕ) → StaysIn q made (elim o as (λ z. HostState) [ None ↦ g | Some p ↦ elim (otherwise_at g q at p mode) as (λ z. HostState) [ None ↦ g | Some e ↦ converting j mode lver e g ] ])
+  named None = s
+  named (Some p) = one (otherwise_at g q at p mode)
+
+  by : (o : Option Command) → StaysIn q made (elim o as (λ z. HostState) [ None ↦ g | Some d ↦ converting_for q at j d mode lver g ])
+  by None = s
+  by (Some d) = named (process_named d)
+
+-- ---- the call that is owed
+
+some_room : (n : ℕ) → 0 < n → nat_lt 0 n ≡ true
+some_room n less = grind (arith, less)
+
+-- The lease waits for nothing, and the call isn't of the second phase.
+lease_fits : (room : Bool) (l : LeaseState) (o : Option LeaseState) (late other : Bool) → room ≡ true → o ≡ Some l → l.waiting ≡ None → (room && option_map_or (λ z. is_none z.waiting && true) o other) ≡ true
+lease_fits room l o late other has is idle = ap (λ b. b && option_map_or (λ (z : LeaseState). is_none z.waiting && true) o other) has ∙ ap (λ p. option_map_or (λ (z : LeaseState). is_none z.waiting && true) p other) is ∙ ap (λ p. is_none p && true) idle
+
+module _ (q : MemberState) (made : Config) (at : Spot) (l : LeaseState) (found : find (is_lease_on at) q.leases ≡ Some l) (idle : l.waiting ≡ None) (room : 0 < made.layout.area) where
+  frees : (g : HostState) (leader : Leader) → StaysIn q made g → leader_offset at.base - leader_offset at.base % made.layout.area ≡ at.base
+      → MayWork g q.who at Settling FreeLeader (leader_offset at.base) (WriteRecord (LeaderIs leader))
+  frees g leader s near =
+      let place = at_some g.members q s.0 in
+      record {
+        place = place.0;
+        member = q;
+        there = place.1;
+        its = refl;
+        fits = record {
+          later = refl;
+          job = refl;
+          turn = refl;
+          generation = refl;
+          value = refl;
+          lease = subst (λ (z : Config). IsTrue (fits_lease z.layout q (next_submitted g q.who.number at.path (Lease Settling FreeLeader) (leader_offset at.base) (WriteRecord (LeaderIs leader))))) (sym s.1)
+              (lease_fits (nat_lt 0 made.layout.area) l (find (is_lease_on (record { path = at.path; base = leader_offset at.base - leader_offset at.base % made.layout.area })) q.leases) false true (some_room made.layout.area room)
+              (ap (λ n. find (is_lease_on (record { path = at.path; base = n })) q.leases) near ∙ found) idle);
+        };
+      }
+
+  clears : (g : HostState) (b : Block) → StaysIn q made g → block_offset made.layout at.base q.who.id - block_offset made.layout at.base q.who.id % made.layout.area ≡ at.base
+      → MayWork g q.who at Settling ClearMode (block_offset g.config.layout at.base q.who.id) (WriteRecord (BlockIs b))
+  clears g b s near =
+      let place = at_some g.members q s.0 in
+      record {
+        place = place.0;
+        member = q;
+        there = place.1;
+        its = refl;
+        fits = record {
+          later = refl;
+          job = refl;
+          turn = refl;
+          generation = refl;
+          value = refl;
+          lease = subst (λ (z : Config). IsTrue (fits_lease z.layout q (next_submitted g q.who.number at.path (Lease Settling ClearMode) (block_offset z.layout at.base q.who.id) (WriteRecord (BlockIs b))))) (sym s.1)
+              (lease_fits (nat_lt 0 made.layout.area) l (find (is_lease_on (record { path = at.path; base = block_offset made.layout at.base q.who.id - block_offset made.layout at.base q.who.id % made.layout.area })) q.leases) false true
+              (some_room made.layout.area room) (ap (λ n. find (is_lease_on (record { path = at.path; base = n })) q.leases) near ∙ found) idle);
+        };
+      }
+
+-- ---- an answer
+
+module _ (h : HostState) (x : Step) (number : ℕ) (c : OpenCall) (a : Answer) (m : MemberState) (work : Work) (step : LeaseStep) (r : IsReady h x) (opens : IsOpen h number c) (fit : FitsCall h.config.layout a c)
+    (there : Contains h.members m) (its : (c.session == m.who.number) ≡ true) (is : c.purpose ≡ Lease work step) where
+  abbrev q : MemberState
+  q = member_hearing h c a m
+
+  here : (k : ℕ) × (slice_get h.members k ≡ Some m)
+  here = at_some h.members m there
+
+  to : IsAnswerTo number c a h x here.0 m
+  to = record { stands = r.stands; is_open = opens; fits = fit; at = r.early.at; there = here.1; its = its }
+
+  joined : m.joined ≡ true
+  joined = subst (λ p. IsCallOf m p) is ((calls_are_theirs h x r).own m c there (find_inside (λ (d : OpenCall). d.number == number) h.unanswered c opens).0 its)
+
+  unrefused : m.refused ≡ false
+  unrefused = joined_stays h x here.0 m r.stands here.1 joined
+
+  heard_as : hearing c a h ≡ heard_answer number a h
+  heard_as = sym (ap (λ o. elim o as (λ z. HostState) [ None ↦ h | Some d ↦ hearing d a h ]) opens)
+
+  at : IsPlacedAt h m (area_of h c)
+  at = placed h m (area_of h c) r.sound.laid (contains_map (λ (y : MemberState). y.who) h.members m there) (begins_at c.offset h.config.layout.area)
+
+  lease : (l : LeaseState) × (find (is_lease_on (area_of h c)) q.leases ≡ Some l) × (l.waiting ≡ None)
+  lease = leases_set_free.lease number c a h x here.0 m work step to is at.room
+
+  stays : StaysIn q h.config (hearing c a h)
+  stays =
+      let z = answers_set_free.member number c a h x here.0 m to unrefused in
+      (subst (λ (g : HostState). Contains g.members q) (sym heard_as) (got_inside (heard_answer number a h).members z.0 q z.1), refl)
+
+  answers : (lver : ℕ) → goes_on_in (hearing c a h) q work ≡ true → (j : ℕ) → work_job work ≡ Some j → MayReply (Told number a) (hearing c a h) (with_input (Told number a) x) j (Granted lver)
+  answers lver goes j for = record { runs = runs work goes for; heed = inl refl; line = tt } where
+    runs : (w : Work) → goes_on_in (hearing c a h) q w ≡ true → work_job w ≡ Some j → IsTrue (list_any (λ z. z.number == j) (hearing c a h).jobs)
+    runs (ForJob n) on same = subst (λ k. list_any (λ (z : JobState). z.number == k) (hearing c a h).jobs ≡ true) (some_value n j same) on
+    runs Settling on same = absurd (none_some j same)
+
+  heard : (next : LeaseNext) → goes_on_in (hearing c a h) q work ≡ true → IfConverted (Told number a) (hearing c a h) (with_input (Told number a) x) q c work next
+  heard (BecomeShared lver l) goes = (
+    answers lver goes,
+    r.early.grants,
+    frees q h.config (area_of h c) lease.0 lease.1 lease.2 at.room (converted q (area_of h c) work Shared lver (hearing c a h)) l (converted_stays q h.config (area_of h c) work Shared lver (hearing c a h) joined stays) at.leader,
+  )
+  heard (BecomeExclusive lver b) goes = (
+    answers lver goes,
+    r.early.grants,
+    clears q h.config (area_of h c) lease.0 lease.1 lease.2 at.room (converted q (area_of h c) work Exclusive lver (hearing c a h)) b (converted_stays q h.config (area_of h c) work Exclusive lver (hearing c a h) joined stays) at.block,
+  )
+  heard Nothing goes = tt
+  heard (ReadFor s) goes = tt
+  heard (WriteBlock s b) goes = tt
+  heard (WriteLeader s l) goes = tt
+  heard (AnswerJob p) goes = tt
+  heard (GrantJob mode lver) goes = tt
+
+  pub conversions_may : (aim : Aim) → LeaseMay number c a h x m work step aim
+  conversions_may aim =
+      record {
+        converts = λ goes aims.
+            subst (λ (g : HostState). (next : LeaseNext) → goes_on_in g q work ≡ true → IfConverted (Told number a) g (with_input (Told number a) x) q c work next) heard_as heard _ goes;
+      }

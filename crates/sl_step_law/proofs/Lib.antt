@@ -1,0 +1,17 @@
+pub mod HostsAreReady
+pub mod CallsOfMembers
+pub mod AnswersAreKnown
+pub mod AnswersAreAwaited
+pub mod AsksAreKept
+pub mod CallsAsk
+pub mod MembersAreKnown
+pub mod ConversionsMay
+pub mod HeldOnce
+pub mod HoldersLeased
+pub mod LinesMay
+pub mod StepsAreTaken
+pub mod DueFollows
+pub mod EffectsAreSound
+pub mod HostsBegin
+pub mod JoiningsClaim
+pub mod PlacesAreKnown

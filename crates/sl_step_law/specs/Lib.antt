@@ -1,0 +1,11 @@
+pub mod Ready
+pub mod Answers
+pub mod Awaiting
+pub mod Asking
+pub mod Members
+pub mod Holdings
+pub mod Lines
+pub mod Whole
+pub mod Follows
+pub mod Sound
+pub mod Placed
