@@ -1,6 +1,5 @@
 -- Lists that commands are answered by, and memory for them.
 use Rattle.sl_area.specs.Layouts.{Sizes}
-use Rattle.sl_trace.specs.Limits.{most_lockspaces}
 use Rattle.sl_trace.specs.declared.command.Command.TheVariants.{HostStatus, Status}
 use Rattle.sl_trace.specs.declared.command.Command.{Command}
 use Rattle.std.specs.Prelude.{Bool, false, true, ℕ, ◌≤◌}
@@ -16,8 +15,8 @@ tells_list (HostStatus a) = true
 tells_list Status = true
 tells_list c = false
 
--- There is memory for the list that the command is answered by.
-abbrev pub FitsLists : Sizes → Command → ListsState → Type 0
-FitsLists z (HostStatus a) l = z.hosts ≤ l.states
-FitsLists z Status l = most_lockspaces ≤ l.sessions
-FitsLists z c l = Unit {0}
+-- There is memory for the list that the command is answered by, of a host with areas of these sizes and no more members than that.
+abbrev pub FitsLists : Sizes → ℕ → Command → ListsState → Type 0
+FitsLists z seats (HostStatus a) l = z.hosts ≤ l.states
+FitsLists z seats Status l = seats ≤ l.sessions
+FitsLists z seats c l = Unit {0}

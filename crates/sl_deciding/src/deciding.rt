@@ -5,10 +5,9 @@ ghost use Rattle.sl_deciding.specs.Lists.{FitsLists};
 ghost use Rattle.sl_host_law.specs.Decisions.Deciding.{decision_of};
 ghost use Rattle.sl_host_state.specs.Kept.{state_of};
 ghost use Rattle.sl_trace.specs.Commands.{IsCommand};
-ghost use Rattle.sl_trace.specs.Limits.{most_lockspaces};
 ghost use Rattle.sl_whole_host.specs.Asking.{state_in};
 ghost use Rattle.sl_whole_host.specs.Host.{ReadAs};
-ghost use Rattle.std.specs.Prelude.{List, cond, length, ℕ, ◌≡◌, ◌≤◌};
+ghost use Rattle.std.specs.Prelude.{List, cond, ℕ, ◌≡◌};
 
 use crate::acquiring::decide_acquire;
 use crate::holders::{decide_convert, decide_release, decide_request};
@@ -35,8 +34,7 @@ fn mode_of(shared: bool) -> Mode
 /// What a command comes to, of a host that reads no line.
 fn decided(host: &Host, command: &Command, lists: Lists) -> Decision
     requires command { IsCommand (layout_of host.now.kept.config.sizes) command.now }
-    requires lists { FitsLists host.now.kept.config.sizes command.now lists }
-    requires few { length host.now.kept.members ≤ most_lockspaces }
+    requires lists { FitsLists host.now.kept.config.sizes host.now.seats command.now lists }
     ensures { result ≡ decision_of (state_in host.now.kept) command.now }
 {
     match command {
@@ -85,8 +83,7 @@ fn decided(host: &Host, command: &Command, lists: Lists) -> Decision
 #[tactic(auto, using(crate::proofs::DecisionsAre::reads_nothing))]
 pub fn decide(host: &Host, command: &Command, lists: Lists) -> Decision
     requires command { IsCommand (layout_of host.now.kept.config.sizes) command.now }
-    requires lists { FitsLists host.now.kept.config.sizes command.now lists }
-    requires few { length host.now.kept.members ≤ most_lockspaces }
+    requires lists { FitsLists host.now.kept.config.sizes host.now.seats command.now lists }
     ensures { (read : List ℕ → ReadAs) → result ≡ decision_of (state_of read host.now.kept) command.now }
 {
     decided(host, command, lists)

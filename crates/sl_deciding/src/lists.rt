@@ -8,9 +8,6 @@ use sl_trace::{Command, SessionOf, StateOf};
 use std::alloc::{AllocError, Global};
 use std::marker::Model;
 
-/// Lockspaces of a machine.
-const MOST_LOCKSPACES: usize = 8;
-
 /// Empty lists of states and sessions, with memory for some of each.
 #[derive(Drop)]
 pub struct Lists {
@@ -30,17 +27,22 @@ impl Model for Lists {
 }
 
 impl Lists {
-    /// Memory for the list that the command is answered by, of a host with areas of these sizes; an `Err` is want of it. A command that is not
-    /// answered by a list takes none.
-    pub fn of(alloc: Global, geometry: &Geometry, command: &Command) -> Result<Lists, AllocError>
-        ensures fit { IfOk result (λ l. FitsLists geometry.now command.now l) }
+    /// Memory for the list that the command is answered by, of a host with areas of these sizes and no more than so many members; an `Err` is
+    /// want of it. A command that is not answered by a list takes none.
+    pub fn of(
+        alloc: Global,
+        geometry: &Geometry,
+        seats: usize,
+        command: &Command,
+    ) -> Result<Lists, AllocError>
+        ensures fit { IfOk result (λ l. FitsLists geometry.now seats command.now l) }
         ensures memory { tells_list command.now ≡ false → IsOk result }
     {
         let mut states = Vec::new(alloc);
         let mut sessions = Vec::new(alloc);
         match command {
             Command::HostStatus(_) => states.reserve(geometry.hosts() as usize)?,
-            Command::Status => sessions.reserve(MOST_LOCKSPACES)?,
+            Command::Status => sessions.reserve(seats)?,
             _ => {}
         }
         Ok(Lists { states, sessions })

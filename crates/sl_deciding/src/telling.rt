@@ -83,9 +83,11 @@ fn sessions_of(members: &Members, list: Vec<SessionOf>) -> Vec<SessionOf>
 
 /// What a `status` comes to.
 pub(crate) fn decide_status(host: &Host, lists: Lists) -> Decision
-    requires { length host.now.kept.members ≤ lists.sessions }
+    requires { host.now.seats ≤ lists.sessions }
     ensures { result ≡ Replies (Sessions (sessions_told (state_in host.now.kept))) }
 {
+    // There are no more members than this: so the proof knows that they all fit.
+    let _seats = host.seats();
     let Lists {
         states: _,
         sessions,

@@ -67,3 +67,8 @@ pub otherwise_found : (s : Session) (at : Spot) (p : ℕ) (mode other : Mode) (h
 otherwise_found s at p mode other held is =
     found_on s.number at (Is p) (Some other) (λ g. g.process == p && not (same_truth (is_shared g.mode) (is_shared mode)))
     (λ g. ap (λ b. (g.process == p) && b) (turned_mode (is_shared mode) (is_shared g.mode) (is_shared other) is)) held
+
+-- The first exclusive holding under a session's lease on an area.
+pub exclusive_found : (session : ℕ) (at : Spot) (held : List Grant)
+    → find (fits (sought_on Anyone session at (Some Exclusive))) held ≡ find (λ g. not (is_shared g.mode)) (filter (λ g. same_place g.path g.offset at.path at.base) (held_under session held))
+exclusive_found session at held = found_on session at Anyone (Some Exclusive) (λ g. not (is_shared g.mode)) (λ g. exclusive_is (is_shared g.mode)) held

@@ -22,20 +22,21 @@ use Rattle.sl_leases.specs.declared.lease.Aim.{Aim}
 use Rattle.sl_leases.specs.declared.lease.LeaseNext.TheVariants.{AnswerJob, BecomeExclusive, BecomeShared, GrantJob, Nothing, ReadFor, WriteBlock, WriteLeader}
 use Rattle.sl_leases.specs.declared.lease.LeaseNext.{LeaseNext}
 use Rattle.sl_member.specs.Members.{MemberKept, owner_in, seen_in, side_in}
-use Rattle.sl_member.specs.Seen.{over_by}
+use Rattle.sl_member.specs.Seen.{SeenBy, over_by}
 use Rattle.sl_sector.specs.declared.sector.Block.{Block}
 use Rattle.sl_sector.specs.declared.sector.Leader.{Leader}
 use Rattle.sl_trace.specs.declared.effects.Grant.{Grant}
 use Rattle.sl_trace.specs.declared.effects.LeaseStep.TheVariants.{ClearMode, FreeLeader, Phase1Read, Phase1Write, Phase2Read, Phase2Write, ReadArea, ReadBeforeFree, SetMode, TakeLeader}
 use Rattle.sl_trace.specs.declared.effects.LeaseStep.{LeaseStep}
 use Rattle.sl_trace.specs.declared.effects.Mode.{Mode}
+use Rattle.sl_trace.specs.declared.effects.Purpose.TheVariants.{Survey}
 use Rattle.sl_trace.specs.declared.effects.Spot.{Spot}
 use Rattle.sl_trace.specs.declared.input.Answer.TheVariants.{Read, Written}
 use Rattle.sl_trace.specs.declared.reply.Reply.TheVariants.{TornLeader, WrongArea}
 use Rattle.sl_trace.specs.declared.input.Answer.{Answer}
 use Rattle.sl_whole_host.specs.Asking.{state_in}
 use Rattle.std.proofs.Common.{ap, refl, subst, sym, ◌∙◌}
-use Rattle.std.specs.Prelude.{Bool, IfSome, IsTrue, List, None, Option, Some, false, option_map, true, ℕ, ◌||◌, ◌≡◌}
+use Rattle.std.specs.Prelude.{Bool, IfSome, IsTrue, List, None, Option, Some, [], false, option_map, true, ℕ, ◌||◌, ◌≡◌}
 
 -- What may be done next is fit, where a holding that becomes shared is of an instance.
 fit_by : (held : Option ℕ) (next : LeaseNext) → IsFitNext next → IsOfHeld held next → IfSome held IsInstance → IsFit next
@@ -174,3 +175,24 @@ module _ (h : HostState) (m : MemberState) (at : Spot) (read : List (Option Bloc
   answers_fit c aim step a is =
       fit_next h m at read next (answered_next h m at c aim step a) may is fit
       (leases_are_of_held.answered (place_in h m) (known_by h m at (lease_at m at) (blocks_at h.config.layout (lease_at m at) step a)) aim c.number c.lver step a)
+
+-- Any call: what comes after a read asks nothing of it.
+some_call : OpenCall
+some_call = record { number = 0; session = 0; purpose = Survey; path = []; offset = 0; sectors = None; lver = 0; value = None; reading = 0 }
+
+-- After a read, which the session has seen so.
+module _ (k : HostKept) (m : MemberKept) (at : Spot) (z : Side) (l : LeaseState) (held : Held) (next : LeaseNext) (s : IsKeptSo k m at z l held) (seen : SeenBy) (sees : seen ≡ seen_in m.state) where
+  pub reads_seen : (c : OpenCall) (aim : Aim) (step : LeaseStep) (bytes : List ℕ) (leader : Option Leader) (read : List (Option Block)) → MayAsk (state_in k) m.state at read → IsNamedFor m.state at step
+      → IsShown (layout_of k.config.sizes) step bytes leader read
+      → (IsTrue (is_first_step step || is_named l) → TopStands l read → next ≡ read_asked (place_of z) (known_with z l held (over_by seen) read) aim leader read step)
+      → next ≡ answered_next (state_in k) m.state at c aim step (Read bytes)
+  reads_seen c aim step bytes leader read may named shown exact =
+      reads k m at z l held next s c aim step bytes leader read may named shown
+      (λ n t. exact n t ∙ ap (λ v. read_asked (place_of z) (known_with z l held (over_by v) read) aim leader read step) sees)
+
+  pub reads_fit : (aim : Aim) (step : LeaseStep) (bytes : List ℕ) (leader : Option Leader) (read : List (Option Block)) → MayAsk (state_in k) m.state at read → IsNamedFor m.state at step
+      → IsShown (layout_of k.config.sizes) step bytes leader read
+      → (IsTrue (is_first_step step || is_named l) → TopStands l read → next ≡ read_asked (place_of z) (known_with z l held (over_by seen) read) aim leader read step)
+      → IsFitNext next → IsFit next
+  reads_fit aim step bytes leader read may named shown exact fit =
+      answers_fit (state_in k) m.state at read next may fit some_call aim step (Read bytes) (reads_seen some_call aim step bytes leader read may named shown exact)

@@ -81,7 +81,7 @@ fn note_orphan(host: &Host, grant: &Grant, orphans: &mut Notes<Grant>)
 }
 
 /// All holdings of the process end, and what they leave is noted. It holds no place twice, and is none.
-fn end_holdings(host: &mut Host, process: u32, orphans: &mut Notes<Grant>)
+pub fn end_holdings(host: &mut Host, process: u32, orphans: &mut Notes<Grant>)
     requires once { HoldsOnce process host.old.kept.holdings }
     requires some { (process == no_process) ≡ false }
     requires left { length (held_by process host.old.kept.holdings) ≤ host.old.left }

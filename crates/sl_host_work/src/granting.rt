@@ -167,7 +167,7 @@ fn held_otherwise(host: &Host, who: &Session, at: &Spot, process: u32, mode: Mod
 }
 
 /// The process that a command names.
-fn process_named(command: &Command) -> Option<u32>
+pub fn process_named(command: &Command) -> Option<u32>
     ensures { result ≡ process_named command.now }
 {
     match command {

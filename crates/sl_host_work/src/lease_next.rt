@@ -108,6 +108,35 @@ pub fn converting_next(host: &Host, member: &Member, at: &Spot, mode: Mode, name
     }
 }
 
+/// What comes next after a read for this step that gave this leader, if it reads one, and these blocks. The member has heard the answer.
+pub fn next_after_read(
+    host: &Host,
+    member: &Member,
+    at: &Spot,
+    aim: Aim,
+    step: LeaseStep,
+    leader: &Option<Leader>,
+    blocks: &[Option<Block>],
+) -> LeaseNext
+    requires run { member.now.run.sizes ≡ host.now.kept.config.sizes }
+    requires may { MayAsk (state_in host.now.kept) member.now.state at.now blocks.now }
+    requires named { IsNamedFor member.now.state at.now step }
+    requires shown { (bytes : List ℕ) × IsShown (layout_of host.now.kept.config.sizes) step bytes leader.now blocks.now }
+    requires leader { IfSome leader.now IsLeader }
+    requires blocks { All (λ o. IfSome o IsBlock) blocks.now × (length blocks.now < 2 ^ 32) }
+    ensures exact { (c : OpenCall) (bytes : List ℕ) → IsShown (layout_of host.now.kept.config.sizes) step bytes leader.now blocks.now
+        → result ≡ answered_next (state_in host.now.kept) member.now.state at.now c aim step (Read bytes) }
+    ensures fit { IsFit result }
+{
+    let held = held_under(host, member.who().number, at);
+    let side = member.side();
+    let seen = member.seen();
+    match member.lease(at) {
+        Some(lease) => lease.after_read(&side, held, &seen, aim, step, leader, blocks),
+        None => Lease::new(*at).after_read(&side, held, &seen, aim, step, leader, blocks),
+    }
+}
+
 /// What comes next after the write of this call is done, at this step. The member has heard the answer.
 pub fn next_after_write(
     host: &Host,

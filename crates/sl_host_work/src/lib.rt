@@ -3,9 +3,6 @@
 //! `delta` carries what the holder of an id's sector is to do. `lease_next` is what a lease does next, `leasing` carries it, with the grants of
 //! `granting`. `wakings` has what is due to a session by time. `signals`, `refusing`, `recoveries` and `ends` have recoveries, kills, refused joinings and
 //! the ends of holdings.
-//!
-//! What is not here yet: requests and values, what a lease does next after an answered read, joining a lockspace by a line, and most passes over all
-//! members or jobs.
 #![tactic(auto)]
 
 mod delta;
@@ -20,10 +17,11 @@ mod signals;
 mod wakings;
 
 pub use delta::carry;
-pub use ends::{leave_holdings, remove_connection};
-pub use granting::grant_for;
+pub use ends::{end_holdings, leave_holdings, remove_connection};
+pub use granting::{grant_for, process_named};
 pub use lease_next::{
-    converting_next, next_after_failure, next_after_write, releasing_next, settling_next,
+    converting_next, next_after_failure, next_after_read, next_after_write, releasing_next,
+    settling_next,
 };
 pub use leasing::carry_lease;
 pub use recoveries::{Stopped, kill_all, overdue};

@@ -19,13 +19,13 @@ among_is v m x state run =
     ap (some_is (λ (s : MemberState). begins_lease (layout_of v.run.sizes) m s.leases)) state ∙ ap (λ (r : RunOf). begins_lease (layout_of r.sizes) m x.state.leases) (sym run)
 
 -- There is room for the lease that it begins.
-pub room_at : (v : MembersState) (run : RunOf) (ms : List MemberKept) (places room k : ℕ) (m : Submitted) (x : MemberKept) → AreMembers run room ms
-    → position (has_number m.call.session) ms ≡ Some k → x ≡ slice_index_or ms k x → members_as run ms places room ≡ v → (begins_among v.run m v.members ≡ true → 0 < v.room)
+pub room_at : (v : MembersState) (run : RunOf) (ms : List MemberKept) (most room k : ℕ) (m : Submitted) (x : MemberKept) → AreMembers run room ms
+    → position (has_number m.call.session) ms ≡ Some k → x ≡ slice_index_or ms k x → members_as run ms most room ≡ v → (begins_among v.run m v.members ≡ true → 0 < v.room)
     → begins_lease (layout_of x.run.sizes) m x.state.leases ≡ true → (0 < room) × (0 < x.room)
-room_at v run ms places room k m x i found is view has begins =
+room_at v run ms most room k m x i found is view has begins =
     let n : ℕ = m.call.session in
-    let state : member_with n v.members ≡ Some x.state = state_kept v run ms places room n k x i found is view in
-    let same : x.run ≡ v.run = run_kept v run ms places room n k x i found is view in
+    let state : member_with n v.members ≡ Some x.state = state_kept v run ms most room n k x i found is view in
+    let same : x.run ≡ v.run = run_kept v run ms most room n k x i found is view in
     let some : 0 < v.room = has (among_is v m x state same ∙ begins) in
     let here : room ≡ v.room = ap (λ (w : MembersState). w.room) view in
     let more : room ≤ x.room = (member_at run room ms n k x i (is_at n ms k x found is)).1 in
@@ -51,18 +51,18 @@ called_members run room less ms k m x y b i found is made begins left =
     let y_room : y.room ≡ cond b (x.room - 1) x.room = ap (λ (z : MemberKept). z.room) made ∙ ap (λ t. cond t (x.room - 1) x.room) (sym begins) in
     set_members run room less ms n k x y i at (omega (arith, few, left)) (ap (λ (z : MemberKept). z.run) made) (omega (arith, many, left, y_room)) (ap number_of made)
 
-pub called_kept : (v : MembersState) (run : RunOf) (ms : List MemberKept) (places room less k : ℕ) (m : Submitted) (x y : MemberKept) (b : Bool) → AreMembers run room ms
+pub called_kept : (v : MembersState) (run : RunOf) (ms : List MemberKept) (most room less k : ℕ) (m : Submitted) (x y : MemberKept) (b : Bool) → AreMembers run room ms
     → position (has_number m.call.session) ms ≡ Some k → x ≡ slice_index_or ms k x → y ≡ kept_called m x → b ≡ begins_lease (layout_of x.run.sizes) m x.state.leases
-    → less ≡ cond b (room - 1) room → members_as run ms places room ≡ v
-    → members_as run (slice_set ms k y) places less
+    → less ≡ cond b (room - 1) room → members_as run ms most room ≡ v
+    → members_as run (slice_set ms k y) most less
     ≡ record v { members = changed_member m.call.session (member_called (layout_of v.run.sizes) m) v.members; room = cond (begins_among v.run m v.members) (v.room - 1) v.room }
-called_kept v run ms places room less k m x y b i found is made begins left view =
+called_kept v run ms most room less k m x y b i found is made begins left view =
     let n : ℕ = m.call.session in
     let at = is_at n ms k x found is in
     let here : x.run ≡ run = (member_at run room ms n k x i at).0 in
-    let w : MembersState = members_as run ms places room in
+    let w : MembersState = members_as run ms most room in
     let among : begins_among run m (states ms) ≡ begins_lease (layout_of x.run.sizes) m x.state.leases = among_is w m x (at_found n ms k x i.apart at) here in
-    let P : List MemberState → ℕ → MembersState = λ ss r. record { run = run; members = ss; places = places; room = r } in
+    let P : List MemberState → ℕ → MembersState = λ ss r. record { run = run; members = ss; most = most; room = r } in
     subst (λ (w : MembersState). P (states (slice_set ms k y)) less
     ≡ record w { members = changed_member n (member_called (layout_of w.run.sizes) m) w.members; room = cond (begins_among w.run m w.members) (w.room - 1) w.room }) view
     (ap (λ ss. P ss less)
@@ -72,13 +72,13 @@ called_kept v run ms places room less k m x y b i found is made begins left view
     ∙ ap (λ r. P (changed_member n (member_called (layout_of run.sizes) m) (states ms)) r)
     (left ∙ ap (λ t. cond t (room - 1) room) (begins ∙ sym among)))
 
-pub nobody_called : (v : MembersState) (run : RunOf) (ms : List MemberKept) (places room : ℕ) (m : Submitted) → position (has_number m.call.session) ms ≡ None
-    → members_as run ms places room ≡ v
+pub nobody_called : (v : MembersState) (run : RunOf) (ms : List MemberKept) (most room : ℕ) (m : Submitted) → position (has_number m.call.session) ms ≡ None
+    → members_as run ms most room ≡ v
     → v ≡ record v { members = changed_member m.call.session (member_called (layout_of v.run.sizes) m) v.members; room = cond (begins_among v.run m v.members) (v.room - 1) v.room }
-nobody_called v run ms places room m none view =
+nobody_called v run ms most room m none view =
     let n : ℕ = m.call.session in
     let off = none_at n ms none in
-    let P : List MemberState → ℕ → MembersState = λ ss r. record { run = run; members = ss; places = places; room = r } in
+    let P : List MemberState → ℕ → MembersState = λ ss r. record { run = run; members = ss; most = most; room = r } in
     subst (λ (w : MembersState). w
     ≡ record w { members = changed_member n (member_called (layout_of w.run.sizes) m) w.members; room = cond (begins_among w.run m w.members) (w.room - 1) w.room }) view
     (sym (ap (λ ss. P ss (cond (begins_among run m (states ms)) (room - 1) room)) (none_changed n (member_called (layout_of run.sizes) m) ms off)

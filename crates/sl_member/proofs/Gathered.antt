@@ -10,9 +10,10 @@ use Rattle.sl_words.specs.Orders.{is_text_before, put_in}
 use Rattle.std.proofs.Common.{ap, arith, refl, subst, suc, sym, zero, ◌∙◌}
 use Rattle.std.proofs.lemmas.Bool.Decides.{nat_tests}
 use Rattle.std.proofs.lemmas.Grind.{common_steps}
+use Rattle.std.proofs.lemmas.List.{length-map}
 use Rattle.std.proofs.lemmas.List.Sums.{prefix_len-le-length}
 use Rattle.std.specs.List.{AllByRecursion, AllWithin, insert, list_any, position_or_len}
-use Rattle.std.specs.Prelude.{Bool, Err, IfSome, List, None, Ok, OnErr, Option, Result, Some, cond, drop, false, filter, find, if◌then◌else◌, length, map, max, nat_lt, not, option_map, position, slice_index_or, slice_set, take, true, unwrap_or, [], ℕ, ◌++◌, ◌+◌, ◌==◌, ◌∷◌, ◌≡◌, ◌≤◌, ◌||◌}
+use Rattle.std.specs.Prelude.{Bool, Err, IfSome, List, None, Ok, OnErr, Option, Result, Some, cond, drop, false, filter, find, if◌then◌else◌, length, map, max, min, nat_lt, not, option_map, position, slice_index_or, slice_set, take, true, unwrap_or, [], ℕ, ◌++◌, ◌+◌, ◌<◌, ◌==◌, ◌∷◌, ◌≡◌, ◌≤◌, ◌||◌}
 
 -- ---- what is found
 
@@ -112,15 +113,27 @@ none_here n (m ∷ ms) h = by (number_of m == n) refl h (λ g. none_here n ms g)
   by true is g rest = absurd (none_some m.state (sym g))
   by false is g rest = (turned (number_of m) n is, rest g)
 
-pub put_members : (v : MembersState) (run : RunOf) (ms : List MemberKept) (places room k : ℕ) (x : MemberKept) → AreMembers run room ms → members_as run ms places room ≡ v
-    → x.run ≡ v.run → v.room ≤ x.room → member_with (number_of x) v.members ≡ None → AreMembers run room (insert ms k x)
-put_members v run ms places room k x i view runs has none =
+-- Members that have memory for more have it for less.
+pub lowered_each : (run : RunOf) (room less : ℕ) (ms : List MemberKept) → less ≤ room → AllByRecursion (λ m. (m.run ≡ run) × (room ≤ m.room)) ms
+    → AllByRecursion (λ m. (m.run ≡ run) × (less ≤ m.room)) ms
+lowered_each run room less [] le h = tt
+lowered_each run room less (m ∷ ms) le h = ((h.0.0, (let a : room ≤ m.room = h.0.1 in omega (arith, a, le))), lowered_each run room less ms le h.1)
+
+pub put_members : (v : MembersState) (run : RunOf) (ms : List MemberKept) (most room k : ℕ) (x : MemberKept) → AreMembers run room ms → members_as run ms most room ≡ v
+    → x.run ≡ v.run → member_with (number_of x) v.members ≡ None → AreMembers run (min room x.room) (insert ms k x)
+put_members v run ms most room k x i view runs none =
     let here : member_with (number_of x) (states ms) ≡ None = subst (λ (w : MembersState). member_with (number_of x) w.members ≡ None) (sym view) none in
-    let rooms : room ≤ x.room = subst (λ (w : MembersState). w.room ≤ x.room) (sym view) has in
     record {
-      each = each_in run room x ms k (runs ∙ sym (ap (λ (w : MembersState). w.run) view), rooms) i.each;
+      each = each_in run (min room x.room) x ms k (runs ∙ sym (ap (λ (w : MembersState). w.run) view), omega arith) (lowered_each run room (min room x.room) ms (omega arith) i.each);
       apart = subst AreApart (sym (numbers_in x ms k)) (apart_in (number_of x) (map number_of ms) k (none_here (number_of x) ms here) i.apart);
     }
+
+-- There are as few as are seen.
+pub few_kept : (v : MembersState) (run : RunOf) (ms : List MemberKept) (most room : ℕ) → members_as run ms most room ≡ v → length v.members < v.most → length ms < most
+few_kept v run ms most room view few =
+    let few : length (states ms) < most = subst (λ (w : MembersState). length w.members < w.most) (sym view) few in
+    let same : length (states ms) ≡ length ms = length-map ms (λ (m : MemberKept). m.state) in
+    omega (arith, few, same)
 
 -- ---- some go
 
@@ -158,13 +171,13 @@ pub kept_members : (run : RunOf) (room : ℕ) (ms zs : List MemberKept) (p : Mem
 kept_members run room ms zs p i is =
     subst (λ xs. AreMembers run room xs) (sym is) (record { each = kept_each (λ m. (m.run ≡ run) × (room ≤ m.room)) p ms i.each; apart = kept_apart p ms i.apart })
 
-pub kept_kept : (v : MembersState) (run : RunOf) (ms zs : List MemberKept) (places room : ℕ) (q : MemberState → Bool) → zs ≡ filter (λ (m : MemberKept). q m.state) ms
-    → members_as run ms places room ≡ v → members_as run zs places room ≡ record v { members = filter q v.members }
-kept_kept v run ms zs places room q is view =
+pub kept_kept : (v : MembersState) (run : RunOf) (ms zs : List MemberKept) (most room : ℕ) (q : MemberState → Bool) → zs ≡ filter (λ (m : MemberKept). q m.state) ms
+    → members_as run ms most room ≡ v → members_as run zs most room ≡ record v { members = filter q v.members }
+kept_kept v run ms zs most room q is view =
     ap (λ ss. P ss) (ap states is ∙ kept_states q ms) ∙ ap (λ (w : MembersState). record w { members = filter q w.members }) view
   where
     P : List MemberState → MembersState
-    P ss = record { run = run; members = ss; places = places; room = room }
+    P ss = record { run = run; members = ss; most = most; room = room }
 
 -- ---- more memory
 
@@ -215,10 +228,18 @@ each_max run room more (y ∷ ys) i has =
 pub roomier_members : (run : RunOf) (room : ℕ) (xs ys : List MemberKept) → AreMembers run room xs → AreRoomier xs ys → AreMembers run room ys
 roomier_members run room xs ys i h = record { each = roomier_each run room xs ys h i.each; apart = subst AreApart (sym (roomier_numbers xs ys h)) i.apart }
 
-pub roomy_members : (run : RunOf) (room more : ℕ) (xs ys : List MemberKept) → AreMembers run room xs → AreRoomier xs ys → AllWithin (λ m. more ≤ m.room) ys 0 (length ys)
-    → AreMembers run (max room more) ys
+-- .. where those that had less have more.
+each_more : (run : RunOf) (room more : ℕ) (ys : List MemberKept) → AllByRecursion (λ m. (m.run ≡ run) × (room ≤ m.room)) ys
+    → (room < more → AllWithin (λ m. more ≤ m.room) ys 0 (length ys)) → AllByRecursion (λ m. (m.run ≡ run) × (max room more ≤ m.room)) ys
+each_more run room more ys i has = by (nat_lt room more) refl where
+  by : (b : Bool) → nat_lt room more ≡ b → AllByRecursion (λ m. (m.run ≡ run) × (max room more ≤ m.room)) ys
+  by true is = each_max run room more ys i (has (grind (arith, nat_tests)))
+  by false is = lowered_each run room (max room more) ys (let le : more ≤ room = grind (arith, nat_tests) in omega (arith, le)) i
+
+pub roomy_members : (run : RunOf) (room more : ℕ) (xs ys : List MemberKept) → AreMembers run room xs → AreRoomier xs ys
+    → (room < more → AllWithin (λ m. more ≤ m.room) ys 0 (length ys)) → AreMembers run (max room more) ys
 roomy_members run room more xs ys i h has = record {
-  each = each_max run room more ys (roomier_each run room xs ys h i.each) has;
+  each = each_more run room more ys (roomier_each run room xs ys h i.each) has;
   apart = subst AreApart (sym (roomier_numbers xs ys h)) i.apart;
 }
 
@@ -273,11 +294,11 @@ on_err (Ok a) P p = tt
 on_err (Err e) P p = p
 
 -- The same members with more memory are seen as the same.
-pub roomier_kept : (v : MembersState) (run : RunOf) (xs ys : List MemberKept) (places room : ℕ) → AreRoomier xs ys → members_as run xs places room ≡ v → members_as run ys places room ≡ v
-roomier_kept v run xs ys places room h view = ap (λ ss. P ss) (roomier_states xs ys h) ∙ view
+pub roomier_kept : (v : MembersState) (run : RunOf) (xs ys : List MemberKept) (most room : ℕ) → AreRoomier xs ys → members_as run xs most room ≡ v → members_as run ys most room ≡ v
+roomier_kept v run xs ys most room h view = ap (λ ss. P ss) (roomier_states xs ys h) ∙ view
   where
     P : List MemberState → MembersState
-    P ss = record { run = run; members = ss; places = places; room = room }
+    P ss = record { run = run; members = ss; most = most; room = room }
 
 -- ---- one leaves
 

@@ -134,7 +134,7 @@ set_members run room less ms n k x y i h le runs has same = record {
 
 -- What is kept, by its parts.
 abbrev pub members_as : RunOf → List MemberKept → ℕ → ℕ → MembersState
-members_as run ms places room = record { run = run; members = states ms; places = places; room = room }
+members_as run ms most room = record { run = run; members = states ms; most = most; room = room }
 
 -- A member whose state alone changes.
 pub record IsChanged (f : MemberState → MemberState) (x y : MemberKept) : Type 0 where
@@ -149,39 +149,39 @@ changed_members run room ms n k f x y i found is h =
     (let a : room ≤ x.room = (member_at run room ms n k x i at).1 in let b : y.room ≡ x.room = ap (λ (z : MemberKept). z.room) h.made in omega (arith, a, b))
     (ap number_of h.made ∙ h.who x.state)
 
-pub changed_kept : (v : MembersState) (run : RunOf) (ms : List MemberKept) (places room n k : ℕ) (f : MemberState → MemberState) (x y : MemberKept) → AreMembers run room ms
-    → position (has_number n) ms ≡ Some k → x ≡ slice_index_or ms k x → y ≡ record x { state = f x.state } → members_as run ms places room ≡ v
-    → members_as run (slice_set ms k y) places room ≡ record v { members = changed_member n f v.members }
-changed_kept v run ms places room n k f x y i found is made view =
+pub changed_kept : (v : MembersState) (run : RunOf) (ms : List MemberKept) (most room n k : ℕ) (f : MemberState → MemberState) (x y : MemberKept) → AreMembers run room ms
+    → position (has_number n) ms ≡ Some k → x ≡ slice_index_or ms k x → y ≡ record x { state = f x.state } → members_as run ms most room ≡ v
+    → members_as run (slice_set ms k y) most room ≡ record v { members = changed_member n f v.members }
+changed_kept v run ms most room n k f x y i found is made view =
     let at = is_at n ms k x found is in
     ap (λ ss. P ss) (map-set (λ (m : MemberKept). m.state) ms k y ∙ (ap (λ (z : MemberKept). slice_set (states ms) k z.state) made ∙ sym (at_changed n f ms k x i.apart at)))
     ∙ ap (λ (w : MembersState). record w { members = changed_member n f w.members }) view
   where
     P : List MemberState → MembersState
-    P ss = record { run = run; members = ss; places = places; room = room }
+    P ss = record { run = run; members = ss; most = most; room = room }
 
-pub none_kept : (v : MembersState) (run : RunOf) (ms : List MemberKept) (places room n : ℕ) (f : MemberState → MemberState) → position (has_number n) ms ≡ None
-    → members_as run ms places room ≡ v → v ≡ record v { members = changed_member n f v.members }
-none_kept v run ms places room n f none view =
+pub none_kept : (v : MembersState) (run : RunOf) (ms : List MemberKept) (most room n : ℕ) (f : MemberState → MemberState) → position (has_number n) ms ≡ None
+    → members_as run ms most room ≡ v → v ≡ record v { members = changed_member n f v.members }
+none_kept v run ms most room n f none view =
     subst (λ (w : MembersState). w ≡ record w { members = changed_member n f w.members }) view
     (sym (ap (λ ss. P ss) (none_changed n f ms (none_at n ms none))))
   where
     P : List MemberState → MembersState
-    P ss = record { run = run; members = ss; places = places; room = room }
+    P ss = record { run = run; members = ss; most = most; room = room }
 
 -- The member at its place, as the list has it.
-pub run_kept : (v : MembersState) (run : RunOf) (ms : List MemberKept) (places room n k : ℕ) (x : MemberKept) → AreMembers run room ms → position (has_number n) ms ≡ Some k
-    → x ≡ slice_index_or ms k x → members_as run ms places room ≡ v → x.run ≡ v.run
-run_kept v run ms places room n k x i found is view = (member_at run room ms n k x i (is_at n ms k x found is)).0 ∙ ap (λ (w : MembersState). w.run) view
+pub run_kept : (v : MembersState) (run : RunOf) (ms : List MemberKept) (most room n k : ℕ) (x : MemberKept) → AreMembers run room ms → position (has_number n) ms ≡ Some k
+    → x ≡ slice_index_or ms k x → members_as run ms most room ≡ v → x.run ≡ v.run
+run_kept v run ms most room n k x i found is view = (member_at run room ms n k x i (is_at n ms k x found is)).0 ∙ ap (λ (w : MembersState). w.run) view
 
-pub state_kept : (v : MembersState) (run : RunOf) (ms : List MemberKept) (places room n k : ℕ) (x : MemberKept) → AreMembers run room ms → position (has_number n) ms ≡ Some k
-    → x ≡ slice_index_or ms k x → members_as run ms places room ≡ v → member_with n v.members ≡ Some x.state
-state_kept v run ms places room n k x i found is view =
+pub state_kept : (v : MembersState) (run : RunOf) (ms : List MemberKept) (most room n k : ℕ) (x : MemberKept) → AreMembers run room ms → position (has_number n) ms ≡ Some k
+    → x ≡ slice_index_or ms k x → members_as run ms most room ≡ v → member_with n v.members ≡ Some x.state
+state_kept v run ms most room n k x i found is view =
     subst (λ (w : MembersState). member_with n w.members ≡ Some x.state) view (at_found n ms k x i.apart (is_at n ms k x found is))
 
-pub nobody_kept : (v : MembersState) (run : RunOf) (ms : List MemberKept) (places room n : ℕ) → position (has_number n) ms ≡ None → members_as run ms places room ≡ v
+pub nobody_kept : (v : MembersState) (run : RunOf) (ms : List MemberKept) (most room n : ℕ) → position (has_number n) ms ≡ None → members_as run ms most room ≡ v
     → member_with n v.members ≡ None
-nobody_kept v run ms places room n none view = subst (λ (w : MembersState). member_with n w.members ≡ None) view (none_found n ms (none_at n ms none))
+nobody_kept v run ms most room n none view = subst (λ (w : MembersState). member_with n w.members ≡ None) view (none_found n ms (none_at n ms none))
 
 -- The numbers of members are those of their states.
 pub numbers_are : (ms : List MemberKept) → map number_of ms ≡ map (λ (s : MemberState). s.who.number) (states ms)

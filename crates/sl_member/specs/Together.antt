@@ -15,11 +15,11 @@ use Rattle.sl_words.specs.Words.{some_is}
 use Rattle.std.specs.List.{AllByRecursion}
 use Rattle.std.specs.Prelude.{Bool, List, None, Option, Some, cond, false, find, is_none, map, nat_le, [], ℕ, ◌&&◌, ◌+◌, ◌==◌, ◌∷◌, ◌≡◌, ◌≤◌}
 
--- The members of a host of this run; for how many more there is memory, and for how many more leases at each of them.
+-- The members of a host of this run; for how many of them there is memory in all, and for how many more leases at each of them.
 pub record MembersState : Type 0 where
   pub run : RunOf
   pub members : List MemberState
-  pub places : ℕ
+  pub most : ℕ
   pub room : ℕ
 
 -- No two of these numbers are one.

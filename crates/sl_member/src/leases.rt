@@ -155,6 +155,13 @@ impl Leases {
         Ok(())
     }
 
+    /// For how many more there is memory.
+    pub fn room(&self) -> usize
+        ensures { result ≡ self.now.room }
+    {
+        self.room
+    }
+
     /// How many there are.
     pub fn len(&self) -> usize
         ensures exact { result ≡ length self.now.leases }

@@ -197,6 +197,13 @@ impl Member {
         self.leases.reserve(room)
     }
 
+    /// For how many more leases there is memory.
+    pub fn room(&self) -> usize
+        ensures { result ≡ self.now.room }
+    {
+        self.leases.room()
+    }
+
     // ---- what it is
 
     /// Which session it is.

@@ -1,7 +1,7 @@
 //! The members of a host together, by lockspace name.
 //!
 //! There are few, so one is looked for from the first on. Each is of the host's run, no two have one number, and each has memory for so
-//! many more leases (`room`); there is memory for so many more members (`places`). Only `put` and `reserve` ask for memory or take it.
+//! many more leases (`room`); there is memory for so many members in all (`most`). Only `reserve` asks for memory.
 
 ghost use Rattle.sl_area.specs.Layouts.{layout_of};
 ghost use Rattle.sl_delta.specs.Own.{answer_in};
@@ -20,7 +20,7 @@ ghost use Rattle.sl_words.specs.Bounds.{moments};
 ghost use Rattle.sl_words.specs.Orders.{is_text_before};
 ghost use Rattle.sl_words.specs.Words.{some_is};
 ghost use Rattle.std.specs.List.{AllWithin, list_any};
-ghost use Rattle.std.specs.Prelude.{IfSome, IsTrue, None, OnErr, OnOk, Some, bytes_eq, cond, false, filter, find, length, map, max, not, option_map, position, slice_get, true, unwrap_or, [], ℕ, ◌&&◌, ◌*◌, ◌-◌, ◌<◌, ◌==◌, ◌^◌, ◌≡◌, ◌≤◌};
+ghost use Rattle.std.specs.Prelude.{IfSome, IsTrue, None, OnErr, OnOk, Some, bytes_eq, cond, false, filter, find, length, map, max, min, not, option_map, position, slice_get, true, unwrap_or, vec_capacity, vec_len, [], ℕ, ◌&&◌, ◌*◌, ◌-◌, ◌<◌, ◌==◌, ◌^◌, ◌≡◌, ◌≤◌};
 
 use crate::member::Member;
 use sl_area::Geometry;
@@ -41,24 +41,25 @@ pub struct Members {
     geometry: Geometry,
     host: Name,
     items: Vec<Member>,
-    places: usize,
+    most: usize,
     room: usize,
 }
 
 impl Model for Members {
     ghost use Rattle.sl_member.specs.Together.{AreMembers, MembersState};
-    ghost use Rattle.std.specs.Prelude.{map, vec_capacity, vec_len, ◌+◌, ◌≤◌};
+    ghost use Rattle.std.specs.Prelude.{map, vec_capacity, vec_len, ◌≤◌};
 
     ghost Value = { MembersState };
 
     ghost view = { λ m. record {
       run = record { timing = m.timing; sizes = m.geometry; host = m.host };
       members = map (λ k. k.state) m.items.items;
-      places = m.places;
+      most = m.most;
       room = m.room;
     } };
 
-    ghost invariant = { λ m. AreMembers (record { timing = m.timing; sizes = m.geometry; host = m.host }) m.room m.items.items × (vec_len m.items + m.places ≤ vec_capacity m.items) };
+    ghost invariant = { λ m. AreMembers (record { timing = m.timing; sizes = m.geometry; host = m.host }) m.room m.items.items × (vec_len m.items ≤ m.most)
+        × (m.most ≤ vec_capacity m.items) };
 }
 
 /// Whether a member has this number.
@@ -166,6 +167,28 @@ fn reserve_rooms(items: &mut [Member], room: usize) -> Result<(), AllocError>
     Ok(())
 }
 
+/// The same where there is memory for fewer.
+#[tactic(auto, using(crate::proofs::Gathered::roomier_itself))]
+fn reserve_more(items: &mut [Member], has: usize, room: usize) -> Result<(), AllocError>
+    ensures kept { AreRoomier items.old items.new }
+    ensures ok { OnOk result (has < room → AllWithin (λ m. room ≤ m.room) items.new 0 (length items.new)) }
+{
+    if has < room {
+        reserve_rooms(items, room)
+    } else {
+        Ok(())
+    }
+}
+
+/// Sees that there is memory for so many in all.
+fn reserve_places(items: &mut Vec<Member>, most: usize) -> Result<(), AllocError>
+    ensures items { (items.new.items ≡ items.old.items) × (vec_len items.new ≡ vec_len items.old) }
+    ensures capacity { vec_capacity items.old ≤ vec_capacity items.new }
+    ensures ok { OnOk result (most ≤ vec_capacity items.new) }
+{
+    items.reserve(most.saturating_sub(items.len()))
+}
+
 /// Whether the recovery of one begins by time.
 fn is_any_late(items: &[Member], now: u64) -> bool
     ensures { result ≡ list_any (λ m. late_by m.run.timing now m.state) items.now }
@@ -247,29 +270,37 @@ fn is_any_left(items: &[Member], lockspace: &LockspaceArg) -> bool
 impl Members {
     /// None, of this run.
     pub fn new(alloc: Global, timing: &Timing, geometry: &Geometry, host: Name) -> Members
-        ensures { result ≡ record { run = record { timing = timing.now; sizes = geometry.now; host = host }; members = []; places = 0; room = 0 } }
+        ensures { result ≡ record { run = record { timing = timing.now; sizes = geometry.now; host = host }; members = []; most = 0; room = 0 } }
     {
         Members {
             timing: *timing,
             geometry: *geometry,
             host,
             items: Vec::new(alloc),
-            places: 0,
+            most: 0,
             room: 0,
         }
     }
 
-    /// Sees that there is memory for so many more members, and for so many more leases at each. An `Err` is want of memory, and changes
+    /// Sees that there is memory for so many members in all, and for so many more leases at each. An `Err` is want of memory, and changes
     /// nothing.
-    pub fn reserve(&mut self, places: usize, room: usize) -> Result<(), AllocError>
-        ensures ok { OnOk result (self.new ≡ record self.old { places = max self.old.places places; room = max self.old.room room }) }
+    pub fn reserve(&mut self, most: usize, room: usize) -> Result<(), AllocError>
+        ensures ok { OnOk result (self.new ≡ record self.old { most = max self.old.most most; room = max self.old.room room }) }
         ensures err { OnErr result (self.new ≡ self.old) }
     {
-        self.items.reserve(places)?;
-        reserve_rooms(&mut self.items, room)?;
-        self.places = self.places.max(places);
+        reserve_places(&mut self.items, most)?;
+        reserve_more(&mut self.items, self.room, room)?;
+        self.most = self.most.max(most);
         self.room = self.room.max(room);
         Ok(())
+    }
+
+    /// For how many members there is memory in all: there are no more than that.
+    pub fn most(&self) -> usize
+        ensures exact { result ≡ self.now.most }
+        ensures few { length self.now.members ≤ result }
+    {
+        self.most
     }
 
     /// Whether the recovery of one begins by time.
@@ -349,17 +380,18 @@ impl Members {
         find_joining(&self.items, job)
     }
 
-    /// One more member, with a number of its own, by lockspace name.
+    /// One more member, with a number of its own, by lockspace name. From here on each has memory for as many more leases as it has, if that
+    /// is less than before.
     pub fn put(&mut self, member: Member)
-        requires place { 0 < self.old.places }
+        requires place { length self.old.members < self.old.most }
         requires run { member.run ≡ self.old.run }
-        requires room { self.old.room ≤ member.room }
         requires new { member_with member.state.who.number self.old.members ≡ None }
-        ensures { self.new ≡ record self.old { members = with_member member.state self.old.members; places = self.old.places - 1 } }
+        ensures { self.new ≡ record self.old { members = with_member member.state self.old.members; room = min self.old.room member.room } }
     {
         let place = gap_of(&self.items, &member.who().lockspace);
+        self.room = self.room.min(member.room());
         match self.items.insert(place, member) {
-            Ok(()) => self.places -= 1,
+            Ok(()) => {}
             Err(_) => unreachable!(),
         }
     }

@@ -14,6 +14,7 @@ use sl_watch::Watch;
 use std::marker::Model;
 
 /// What a session has seen, with who it is: its id, generation, and whether it is joined.
+#[derive(Drop)]
 pub struct Seen<'a> {
     watch: &'a Watch,
     hosts: u32,

@@ -45,6 +45,10 @@ is_write_of session c = c.session == session && is_none c.sectors
 abbrev pub write_weight : ℕ → OpenCall → ℕ
 write_weight session c = cond (is_write_of session c) 1 0
 
+-- What a call adds to the count of its session's.
+abbrev pub call_weight : ℕ → OpenCall → ℕ
+call_weight session c = cond (c.session == session) 1 0
+
 -- A count that is noted, or not.
 abbrev pub count_in : Option ℕ → ℕ
 count_in o = unwrap_or o 0

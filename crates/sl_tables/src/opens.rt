@@ -237,12 +237,14 @@ pub struct OpenCalls {
     firsts: IndexMap<Area, u64>,
     /// Of each session that has any, how many of its calls write.
     writes: IndexMap<u64, u64>,
+    /// How many there are of it.
+    counts: IndexMap<u64, u64>,
     area: u64,
 }
 
 impl Model for OpenCalls {
     ghost use Rattle.indexmap.specs.IndexMap.{get, spare};
-    ghost use Rattle.sl_tables.specs.Opens.{AreNumbered, OpenState, count_in, first_on, write_weight};
+    ghost use Rattle.sl_tables.specs.Opens.{AreNumbered, OpenState, call_weight, count_in, first_on, write_weight};
     ghost use Rattle.sl_tables.specs.Totals.{total};
     ghost use Rattle.sl_trace.specs.Traces.{same_spot};
     ghost use Rattle.sl_trace.specs.declared.effects.Spot.{Spot as SpotOf};
@@ -255,7 +257,8 @@ impl Model for OpenCalls {
 
     ghost invariant = { λ o. AreNumbered o.calls.items × ((at : SpotOf) → get same_spot o.firsts at ≡ first_on o.area at (values_of o.calls.items))
         × (o.calls.room ≤ spare o.firsts) × (0 < o.area)
-        × ((s : ℕ) → count_in (get nat_eq o.writes s) ≡ total (write_weight s) o.calls.items) × (o.calls.room ≤ spare o.writes) };
+        × ((s : ℕ) → count_in (get nat_eq o.writes s) ≡ total (write_weight s) o.calls.items) × (o.calls.room ≤ spare o.writes)
+        × ((s : ℕ) → count_in (get nat_eq o.counts s) ≡ total (call_weight s) o.calls.items) × (o.calls.room ≤ spare o.counts) };
 }
 
 impl OpenCalls {
@@ -268,6 +271,7 @@ impl OpenCalls {
             calls: Rising::new(alloc),
             firsts: IndexMap::new(alloc),
             writes: IndexMap::new(alloc),
+            counts: IndexMap::new(alloc),
             area,
         }
     }
@@ -279,6 +283,7 @@ impl OpenCalls {
     {
         self.firsts.reserve(room)?;
         self.writes.reserve(room)?;
+        self.counts.reserve(room)?;
         self.calls.reserve(room)
     }
 
@@ -293,6 +298,7 @@ impl OpenCalls {
         note_first(&mut self.firsts, area_of(&call, self.area), call.number);
         self.calls.put(call.number, call);
         count_one(&mut self.writes, session, one);
+        count_one(&mut self.counts, session, true);
     }
 
     /// The call of this number, if it has no answer.
@@ -321,6 +327,14 @@ impl OpenCalls {
         count_of(&self.writes, session) > 0
     }
 
+    /// Whether a call of the session is there.
+    #[tactic(auto, using(crate::proofs::WritesCount::any_counted))]
+    pub fn has_call(&self, session: u64) -> bool
+        ensures { result ≡ list_any (λ c. c.session == session) self.now.calls }
+    {
+        count_of(&self.counts, session) > 0
+    }
+
     /// The call of this number is answered: it is given, if it had no answer.
     pub fn answered(&mut self, number: u64) -> Option<OpenCall>
         ensures call { result ≡ find (λ c. c.number == number) self.old.calls }
@@ -332,6 +346,7 @@ impl OpenCalls {
                 let spot = area_of(&call, self.area);
                 move_on(&mut self.firsts, &self.calls, &spot, number, self.area);
                 count_less(&mut self.writes, call.session, writes(&call));
+                count_less(&mut self.counts, call.session, true);
                 Some(call)
             }
             None => None,

@@ -1,7 +1,4 @@
 -- Books follow the state functions.
-use Rattle.sl_whole_host.specs.Books.{books_exiting, books_spawning, host_of}
-use Rattle.sl_trace.specs.declared.input.Input.TheVariants.{Exit, Spawned}
-use Rattle.sl_host_state.specs.Hears.{children_after}
 use Rattle.sl_host_state.specs.declared.kept.JobState.{JobState}
 use Rattle.sl_host_state.specs.Makes.{job_calling, job_starting}
 use Rattle.sl_host_state.specs.Stands.{kept_waiting}
@@ -29,8 +26,8 @@ books_follow read ms b =
       signalled = λ s. refl;
       started = λ s. refl;
       called = λ m. refl;
-      exited = λ p new. ap (λ (c : Bool). record (host_of read ms (books_exiting p b)) { children = cond c b.children (children_after (Exit p) b.children) }) (sym new);
-      spawned = λ p ok new. ap (λ (c : Bool). record (host_of read ms (books_spawning p ok b)) { children = cond c b.children (children_after (Spawned p ok) b.children) }) (sym new);
+      exited = λ p. refl;
+      spawned = λ p ok. refl;
       numbered = refl;
       counted = λ now. refl;
       moved = λ m. refl;

@@ -1,22 +1,13 @@
 -- Exits, starts and a step's beginning, as books and members take them.
-use Rattle.sl_host_state.specs.Hears.{begun, counted, heard_exit, heard_start, member_begun, with_renewing}
+use Rattle.sl_host_state.specs.Hears.{begun, counted, member_begun, with_renewing}
 use Rattle.sl_host_state.specs.Kept.{HostState, MemberState}
 use Rattle.sl_member.specs.Together.{begun_by, late_by}
 use Rattle.sl_sessions.specs.declared.session.Renewing.{Renewing}
 use Rattle.sl_trace.specs.declared.command.Command.{Command}
-use Rattle.sl_whole_host.proofs.BooksStand.{books_follow}
-use Rattle.sl_whole_host.specs.Books.{BooksState, books_counting, books_exiting, books_spawning, host_of}
+use Rattle.sl_whole_host.specs.Books.{BooksState, books_counting, host_of}
 use Rattle.std.proofs.Common.{ap, arith, refl, ◌∙◌}
 use Rattle.std.specs.List.{list_any}
-use Rattle.std.specs.Prelude.{Bool, List, Result, Some, [], cond, false, map, min, ℕ, ◌+◌, ◌-◌, ◌==◌, ◌∷◌, ◌≡◌}
-
-pub exit_follows : (read : List ℕ → Result Command ℕ) (ms : List MemberState) (b : BooksState) (p : ℕ) → list_any (λ s. s.process == p) b.made.starts ≡ false
-    → host_of read ms (books_exiting p b) ≡ heard_exit p (host_of read ms b)
-exit_follows read ms b p new = (books_follow read ms b).exited p new
-
-pub start_follows : (read : List ℕ → Result Command ℕ) (ms : List MemberState) (b : BooksState) (p : ℕ) (ok : Bool) → list_any (λ s. s.process == p) b.made.starts ≡ false
-    → host_of read ms (books_spawning p ok b) ≡ heard_start p ok (host_of read ms b)
-start_follows read ms b p ok new = (books_follow read ms b).spawned p ok new
+use Rattle.std.specs.Prelude.{Bool, List, Result, Some, [], cond, map, min, ℕ, ◌+◌, ◌-◌, ◌∷◌, ◌≡◌}
 
 one_begun : (h : HostState) (now : ℕ) (m : MemberState) → begun_by h.config.timing now h.entries m ≡ member_begun (counted now h) m
 one_begun h now m =

@@ -6,3 +6,8 @@ pub mod PassingStands
 pub mod RepliesStand
 pub mod LinesHeard
 pub mod HearingsStand
+pub mod Scanning
+pub mod AnswersTold
+pub mod AnswersHeard
+pub mod BeginningStand
+pub mod CountsStand

@@ -22,15 +22,30 @@ use Rattle.sl_trace.specs.declared.effects.Sent.{Sent}
 use Rattle.sl_trace.specs.declared.effects.Start.{Start}
 use Rattle.sl_trace.specs.declared.input.Input.TheVariants.{Exit, Spawned}
 use Rattle.sl_trace.specs.declared.reply.Reply.{Reply}
-use Rattle.std.specs.Prelude.{Bool, List, None, Option, Result, Some, [], cond, filter, is_some, map, min, not, ℕ, ◌&&◌, ◌+◌, ◌++◌, ◌-◌, ◌==◌, ◌∷◌}
+use Rattle.std.specs.List.{list_any}
+use Rattle.std.specs.Prelude.{Bool, List, None, Option, Result, Some, [], cond, filter, is_some, length, map, min, not, ℕ, ◌&&◌, ◌+◌, ◌++◌, ◌-◌, ◌==◌, ◌∷◌, ◌≤◌}
 
--- The effects of a step so far; for how many more calls there is memory, and how many more of each other class.
+-- The effects of a step so far; for how many more calls there is memory, and how many more of each other class; how many of each other class
+-- the step makes at most, and how many calls.
 pub record BuffersState : Type 0 where
   pub made : Effects
   pub left : ℕ
   pub calls : ℕ
+  pub most : ℕ
+  pub most_calls : ℕ
 
--- All that a host keeps but its members; how many more calls it may make, and how many more other effects.
+-- No class of these effects but calls has more than so many, and calls no more than so many.
+pub record AreFew (most most_calls : ℕ) (fx : Effects) : Type 0 where
+  pub of_ends : length fx.ends ≤ most
+  pub of_signals : length fx.signals ≤ most
+  pub of_moves : length fx.moves ≤ most
+  pub of_grants : length fx.grants ≤ most
+  pub of_starts : length fx.starts ≤ most
+  pub of_replies : length fx.replies ≤ most
+  pub of_calls : length fx.calls ≤ most_calls
+
+-- All that a host keeps but its members; how many more calls it may make, and how many more other effects; how many of each class of these it
+-- makes at most in the step, and how many calls.
 pub record BooksState : Type 0 where
   pub config : Made
   pub reading : ℕ
@@ -50,6 +65,8 @@ pub record BooksState : Type 0 where
   pub made : Effects
   pub left : ℕ
   pub calls : ℕ
+  pub most : ℕ
+  pub most_calls : ℕ
 
 -- The host of these members and books.
 abbrev pub kept_of : List MemberState → BooksState → HostKept
@@ -153,12 +170,16 @@ books_answering r program b =
 abbrev pub books_numbering : BooksState → BooksState
 books_numbering b = record b { next_job = b.next_job + 1; left = b.left - 1 }
 
+-- Whether a child of this number is started by the step.
+abbrev pub starts_now : ℕ → BooksState → Bool
+starts_now p b = let fx : Effects = b.made in list_any (λ s. s.process == p) fx.starts
+
 -- Of an exit, and of a start's answer: children that the step starts are none of theirs.
 abbrev pub books_exiting : ℕ → BooksState → BooksState
-books_exiting p b = record b { children = children_after (Exit p) b.children; programs = without_program (Some p) b.programs }
+books_exiting p b = record b { children = cond (starts_now p b) b.children (children_after (Exit p) b.children); programs = without_program (Some p) b.programs }
 
 abbrev pub books_spawning : ℕ → Bool → BooksState → BooksState
-books_spawning p ok b = record b { children = children_after (Spawned p ok) b.children }
+books_spawning p ok b = record b { children = cond (starts_now p b) b.children (children_after (Spawned p ok) b.children) }
 
 -- Of an answer to the call of this number.
 abbrev pub books_hearing : ℕ → BooksState → BooksState

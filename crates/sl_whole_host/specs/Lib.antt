@@ -8,3 +8,7 @@ pub mod Choosing
 pub mod Passing
 pub mod Replying
 pub mod Lining
+pub mod Hearing
+pub mod Joining
+pub mod Beginning
+pub mod Reserving

@@ -1,9 +1,9 @@
 -- What a host does to its books is what the state functions say.
-use Rattle.std.specs.Prelude.{Bool, false, map}
+use Rattle.std.specs.Prelude.{Bool, map}
 use Rattle.sl_whole_host.specs.Books.{books_calling, books_counting, books_exiting, books_numbering, books_spawning}
 use Rattle.sl_trace.specs.Traces.{Submitted}
 use Rattle.sl_host_state.specs.Makes.{calling, member_calling}
-use Rattle.sl_host_state.specs.Hears.{counted, heard_exit, heard_number, heard_start, is_started_now}
+use Rattle.sl_host_state.specs.Hears.{counted, heard_exit, heard_number, heard_start}
 use Rattle.sl_area.specs.Layouts.{layout_of}
 use Rattle.sl_host_state.specs.Kept.{MemberState}
 use Rattle.sl_host_state.specs.Makes.{is_ended_by_move, with_end, with_grant, with_move, with_signal, with_start}
@@ -24,9 +24,9 @@ pub record BooksFollow (read : List ℕ → Result Command ℕ) (ms : List Membe
   pub started : (s : Start) → host_of read ms (books_starting s b) ≡ with_start s (host_of read ms b)
   -- a call is heard by the member that makes it
   pub called : (m : Submitted) → host_of read (map (member_calling (layout_of b.config.sizes) m) ms) (books_calling m b) ≡ calling m (host_of read ms b)
-  -- an exit and a start's answer, of a child that the step doesn't start
-  pub exited : (p : ℕ) → is_started_now (host_of read ms b) p ≡ false → host_of read ms (books_exiting p b) ≡ heard_exit p (host_of read ms b)
-  pub spawned : (p : ℕ) (ok : Bool) → is_started_now (host_of read ms b) p ≡ false → host_of read ms (books_spawning p ok b) ≡ heard_start p ok (host_of read ms b)
+  -- an exit and a start's answer
+  pub exited : (p : ℕ) → host_of read ms (books_exiting p b) ≡ heard_exit p (host_of read ms b)
+  pub spawned : (p : ℕ) (ok : Bool) → host_of read ms (books_spawning p ok b) ≡ heard_start p ok (host_of read ms b)
   -- a line that is no command, and the count of a step
   pub numbered : host_of read ms (books_numbering b) ≡ heard_number (host_of read ms b)
   pub counted : (now : ℕ) → host_of read ms (books_counting now b) ≡ counted now (host_of read ms b)

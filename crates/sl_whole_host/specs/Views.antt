@@ -26,4 +26,6 @@ books_of v =
       made = k.made;
       left = v.left;
       calls = v.calls;
+      most = v.most;
+      most_calls = v.most_calls;
     }

@@ -1,11 +1,12 @@
 //! What a host is asked by those who act on it.
 
 ghost use Rattle.sl_tables.specs.Holdings.{fits};
+ghost use Rattle.sl_trace.specs.Limits.{most_lockspaces};
 ghost use Rattle.sl_trace.specs.Traces.{first_child};
-ghost use Rattle.sl_whole_host.specs.Asking.{sought_on};
+ghost use Rattle.sl_whole_host.specs.Asking.{leases_in, most_counted, sought_on};
 ghost use Rattle.sl_whole_host.specs.Views.{books_of};
 ghost use Rattle.std.specs.List.{list_any};
-ghost use Rattle.std.specs.Prelude.{bytes_eq, find, option_and_then, option_map, ◌+◌, ◌==◌, ◌≡◌};
+ghost use Rattle.std.specs.Prelude.{bytes_eq, find, length, min, option_and_then, option_map, ◌+◌, ◌==◌, ◌≡◌, ◌≤◌};
 
 use crate::books::{Books, Config};
 use crate::host::Host;
@@ -27,7 +28,40 @@ impl Books {
     }
 }
 
+/// The leases of the members together, or the greatest count.
+#[tactic(auto, using(crate::proofs::CountsStand::counted_more, crate::proofs::CountsStand::counted_all))]
+fn leases_of(members: &Members) -> usize
+    ensures { result ≡ min (leases_in members.now.members) most_counted }
+{
+    let mut leases: usize = 0;
+    for place in 0..members.len() {
+        leases = leases.saturating_add(members.nth(place).leases().len());
+    }
+    leases
+}
+
 impl Host {
+    /// How many jobs run.
+    pub fn job_count(&self) -> usize
+        ensures { result ≡ length self.now.kept.jobs }
+    {
+        self.books.jobs.len()
+    }
+
+    /// How many holdings there are.
+    pub fn holding_count(&self) -> usize
+        ensures { result ≡ length self.now.kept.holdings }
+    {
+        self.books.holdings.len()
+    }
+
+    /// How many leases the members have together, or the greatest count.
+    pub fn lease_count(&self) -> usize
+        ensures { result ≡ min (leases_in self.now.kept.members) most_counted }
+    {
+        leases_of(&self.members)
+    }
+
     /// What it is made of.
     pub fn config(&self) -> &Config
         ensures { result.now ≡ self.now.kept.config }
@@ -48,6 +82,23 @@ impl Host {
         ensures run { result.now.run ≡ record { timing = self.now.kept.config.timing; sizes = self.now.kept.config.sizes; host = self.now.kept.config.name } }
     {
         &self.members
+    }
+
+    /// For how many members there is memory: there are no more of them.
+    pub fn seats(&self) -> usize
+        ensures exact { result ≡ self.now.seats }
+        ensures few { length self.now.kept.members ≤ result }
+        ensures many { most_lockspaces ≤ result }
+    {
+        self.members.most()
+    }
+
+    /// How many more calls the step may make: no more than it makes in all.
+    pub fn calls_left(&self) -> usize
+        ensures exact { result ≡ self.now.calls }
+        ensures few { result ≤ self.now.most_calls }
+    {
+        self.books.calls_left()
     }
 
     /// The reading of the step in progress.

@@ -5,7 +5,7 @@ ghost use Rattle.sl_tables.specs.Holdings.{fits};
 ghost use Rattle.sl_host_state.specs.Stands.{kept_call, kept_waiting, sectors_of};
 ghost use Rattle.sl_trace.specs.Traces.{first_child, job_of, new_call, new_child, no_effects, same_place};
 ghost use Rattle.sl_whole_host.specs.Books.{books_answering, books_calling, books_counting, books_ending, books_exiting, books_granting, books_hearing, books_lining, books_lowering, books_moving, books_numbering, books_replying, books_signalling, books_spawning, books_starting, ended_by, lver_in, submitted_in, value_in};
-ghost use Rattle.std.specs.Prelude.{Some, cond, filter, is_some, length, map, min, not, ◌&&◌, ◌+◌, ◌++◌, ◌-◌, ◌<◌, ◌==◌, ◌^◌, ◌∷◌, ◌≡◌};
+ghost use Rattle.std.specs.Prelude.{Some, cond, filter, is_some, length, map, min, not, ◌&&◌, ◌+◌, ◌++◌, ◌-◌, ◌<◌, ◌==◌, ◌^◌, ◌∷◌, ◌≡◌, ◌≤◌};
 
 use crate::buffers::Buffers;
 use sl_area::Geometry;
@@ -63,6 +63,7 @@ pub struct Books {
     pub(crate) first_call: u64,
     pub(crate) next_job: u64,
     pub(crate) started: u32,
+    pub(crate) granted: u64,
     pub(crate) born: u64,
     pub(crate) connected: Connections,
     pub(crate) unanswered: OpenCalls,
@@ -99,12 +100,15 @@ impl Model for Books {
       made = b.made.made;
       left = b.made.left;
       calls = b.made.calls;
+      most = b.made.most;
+      most_calls = b.made.most_calls;
     } };
 
     ghost invariant = { λ b. (b.made.left ≤ b.connected.room) × (b.made.calls ≤ b.unanswered.room) × (b.made.left ≤ b.holdings.room) × (b.made.left ≤ b.children.room)
-        × (b.unanswered.area ≡ b.config.sizes.area) × (b.unanswered.next ≤ b.first_call + length b.made.made.calls) × (b.first_call + length b.made.made.calls + b.made.calls < 2 ^ 63)
-        × (b.holdings.next + b.made.left < 2 ^ 63) × (b.children.next ≤ first_child + b.started) × (b.started + b.made.left < 2 ^ 31)
-        × (b.made.left ≤ b.jobs.room) × (b.jobs.next ≤ b.next_job) × (b.next_job + b.made.left < 2 ^ 63) × (b.made.left ≤ b.programs.room) };
+        × (b.unanswered.area ≡ b.config.sizes.area) × (b.unanswered.next ≤ b.first_call + length b.made.made.calls) × (b.first_call + length b.made.made.calls + b.made.calls < 2 ^ 64)
+        × (b.born + b.made.calls < 2 ^ 64)
+        × (b.holdings.next ≤ b.granted) × (b.granted + b.made.left < 2 ^ 64) × (b.children.next ≤ first_child + b.started) × (b.started + b.made.left < 2 ^ 31)
+        × (b.made.left ≤ b.jobs.room) × (b.jobs.next ≤ b.next_job) × (b.next_job + b.made.left < 2 ^ 64) × (b.made.left ≤ b.programs.room) };
 }
 
 /// The types within a call.
@@ -163,7 +167,7 @@ fn value_of(op: &Op) -> Option<ValuePair>
 }
 
 /// The job that a call belongs to, if any.
-fn job_of(purpose: &Purpose) -> Option<u64>
+pub(crate) fn job_of(purpose: &Purpose) -> Option<u64>
     ensures { result ≡ job_of purpose.now }
 {
     match purpose {
@@ -269,6 +273,7 @@ impl Books {
         let held = grant;
         self.made.grant(grant);
         self.holdings.put(held);
+        self.granted += 1;
     }
 
     /// One more signal.
@@ -318,6 +323,14 @@ impl Books {
             Move::Unregister { lockspace } => self.connected.remove(&lockspace),
         }
         self.made.move_on(step);
+    }
+
+    /// How many more calls the step may make: no more than it makes in all.
+    pub fn calls_left(&self) -> usize
+        ensures exact { result ≡ self.now.calls }
+        ensures few { result ≤ self.now.most_calls }
+    {
+        self.made.more_calls()
     }
 
     /// The reading of the step in progress.
@@ -389,19 +402,23 @@ impl Books {
         self.made.spend();
     }
 
-    /// A process has exited: a child of this number has, and its kill program goes.
+    /// A process has exited: a child of this number has, unless the step starts it, and its kill program goes.
     pub fn exit(&mut self, process: u32)
         ensures { self.new ≡ books_exiting process self.old }
     {
-        self.children.exited(process);
         self.programs.remove(process);
+        if !self.made.has_start(process) {
+            self.children.exited(process);
+        }
     }
 
-    /// A start is answered.
+    /// A start is answered, unless the step makes it.
     pub fn spawned(&mut self, process: u32, ok: bool)
         ensures { self.new ≡ books_spawning process ok self.old }
     {
-        self.children.answered(process, ok);
+        if !self.made.has_start(process) {
+            self.children.answered(process, ok);
+        }
     }
 
     /// One more step, at this reading.

@@ -1,8 +1,9 @@
 //! The effects of a step in progress, class by class, with memory for some more.
 
 ghost use Rattle.sl_trace.specs.Traces.{no_effects};
-ghost use Rattle.sl_whole_host.specs.Books.{BuffersState};
-ghost use Rattle.std.specs.Prelude.{IfOk, length, [], ◌+◌, ◌++◌, ◌-◌, ◌<◌, ◌^◌, ◌∷◌, ◌≡◌};
+ghost use Rattle.sl_whole_host.specs.Books.{AreFew, BuffersState};
+ghost use Rattle.std.specs.List.{list_any};
+ghost use Rattle.std.specs.Prelude.{IfOk, length, [], ◌+◌, ◌++◌, ◌-◌, ◌<◌, ◌==◌, ◌^◌, ◌∷◌, ◌≡◌, ◌≤◌};
 
 use sl_room::Room;
 use sl_sector::{Block, DeltaRec, DeltaState, Leader, Rec, Request, ValueRec};
@@ -20,7 +21,8 @@ type WithinCall = (
     (Name, Data, FilePath),
 );
 
-/// Lists of effects: that of calls has memory for at least `more_calls` more, each other one for at least `left` more.
+/// Lists of effects: that of calls has memory for at least `more_calls` more, each other one for at least `left` more. With as many more, that
+/// of calls has at most `most_calls`, each other one at most `most`.
 #[derive(Drop)]
 pub struct Buffers {
     ends: Room<End>,
@@ -32,11 +34,13 @@ pub struct Buffers {
     calls: Room<Call>,
     left: usize,
     more_calls: usize,
+    most: usize,
+    most_calls: usize,
 }
 
 impl Model for Buffers {
     ghost use Rattle.sl_whole_host.specs.Books.{BuffersState};
-    ghost use Rattle.std.specs.Prelude.{◌≤◌};
+    ghost use Rattle.std.specs.Prelude.{length, ◌+◌, ◌≤◌};
 
     ghost Value = { BuffersState };
 
@@ -52,17 +56,29 @@ impl Model for Buffers {
       };
       left = b.left;
       calls = b.more_calls;
+      most = b.most;
+      most_calls = b.most_calls;
     } };
 
     ghost invariant = { λ b. (b.left ≤ b.ends.room) × (b.left ≤ b.signals.room) × (b.left ≤ b.moves.room) × (b.left ≤ b.grants.room) × (b.left ≤ b.starts.room)
-        × (b.left ≤ b.replies.room) × (b.more_calls ≤ b.calls.room) };
+        × (b.left ≤ b.replies.room) × (b.more_calls ≤ b.calls.room)
+        × (length b.ends.items + b.left ≤ b.most) × (length b.signals.items + b.left ≤ b.most) × (length b.moves.items + b.left ≤ b.most)
+        × (length b.grants.items + b.left ≤ b.most) × (length b.starts.items + b.left ≤ b.most) × (length b.replies.items + b.left ≤ b.most)
+        × (length b.calls.items + b.more_calls ≤ b.most_calls) };
+}
+
+/// Whether a start is of a child of this number.
+fn is_of(start: &Start, process: u32) -> bool
+    ensures { result ≡ (start.now.process == process) }
+{
+    start.process == process
 }
 
 impl Buffers {
     /// No effects, with memory for so many calls, and so many of each other class. An `Err` is want of memory.
     pub fn new(alloc: Global, room: usize, more_calls: usize) -> Result<Buffers, AllocError>
         requires { (room < 2 ^ 32) × (more_calls < 2 ^ 32) }
-        ensures { IfOk result (λ b. b ≡ record { made = no_effects; left = room; calls = more_calls }) }
+        ensures { IfOk result (λ b. b ≡ record { made = no_effects; left = room; calls = more_calls; most = room; most_calls = more_calls }) }
     {
         Ok(Buffers {
             ends: Room::new(alloc, room)?,
@@ -74,6 +90,8 @@ impl Buffers {
             calls: Room::new(alloc, more_calls)?,
             left: room,
             more_calls,
+            most: room,
+            most_calls: more_calls,
         })
     }
 
@@ -86,7 +104,8 @@ impl Buffers {
 
     /// For how many more calls there is memory.
     pub fn more_calls(&self) -> usize
-        ensures { result ≡ self.now.calls }
+        ensures exact { result ≡ self.now.calls }
+        ensures few { result ≤ self.now.most_calls }
     {
         self.more_calls
     }
@@ -97,6 +116,16 @@ impl Buffers {
         ensures { self.new ≡ record self.old { left = self.old.left - 1 } }
     {
         self.left -= 1;
+    }
+
+    /// Whether a child of this number is started by the step.
+    pub fn has_start(&self, process: u32) -> bool
+        ensures { result ≡ list_any (λ s. s.process == process) self.now.made.starts }
+    {
+        self.starts
+            .as_slice()
+            .iter()
+            .any(|start| is_of(start, process))
     }
 
     /// How many calls there are.
@@ -111,6 +140,7 @@ impl Buffers {
         requires { 0 < self.old.left }
         ensures made { self.new.made ≡ record self.old.made { ends = self.old.made.ends ++ end ∷ [] } }
         ensures left { (self.new.left ≡ self.old.left - 1) × (self.new.calls ≡ self.old.calls) }
+        ensures most { (self.new.most ≡ self.old.most) × (self.new.most_calls ≡ self.old.most_calls) }
     {
         self.ends.put(end);
         self.left -= 1;
@@ -121,6 +151,7 @@ impl Buffers {
         requires { 0 < self.old.left }
         ensures made { self.new.made ≡ record self.old.made { signals = self.old.made.signals ++ sent ∷ [] } }
         ensures left { (self.new.left ≡ self.old.left - 1) × (self.new.calls ≡ self.old.calls) }
+        ensures most { (self.new.most ≡ self.old.most) × (self.new.most_calls ≡ self.old.most_calls) }
     {
         self.signals.put(sent);
         self.left -= 1;
@@ -131,6 +162,7 @@ impl Buffers {
         requires { 0 < self.old.left }
         ensures made { self.new.made ≡ record self.old.made { moves = self.old.made.moves ++ step ∷ [] } }
         ensures left { (self.new.left ≡ self.old.left - 1) × (self.new.calls ≡ self.old.calls) }
+        ensures most { (self.new.most ≡ self.old.most) × (self.new.most_calls ≡ self.old.most_calls) }
     {
         self.moves.put(step);
         self.left -= 1;
@@ -141,6 +173,7 @@ impl Buffers {
         requires { 0 < self.old.left }
         ensures made { self.new.made ≡ record self.old.made { grants = self.old.made.grants ++ grant ∷ [] } }
         ensures left { (self.new.left ≡ self.old.left - 1) × (self.new.calls ≡ self.old.calls) }
+        ensures most { (self.new.most ≡ self.old.most) × (self.new.most_calls ≡ self.old.most_calls) }
     {
         self.grants.put(grant);
         self.left -= 1;
@@ -151,6 +184,7 @@ impl Buffers {
         requires { 0 < self.old.left }
         ensures made { self.new.made ≡ record self.old.made { starts = self.old.made.starts ++ start ∷ [] } }
         ensures left { (self.new.left ≡ self.old.left - 1) × (self.new.calls ≡ self.old.calls) }
+        ensures most { (self.new.most ≡ self.old.most) × (self.new.most_calls ≡ self.old.most_calls) }
     {
         self.starts.put(start);
         self.left -= 1;
@@ -161,6 +195,7 @@ impl Buffers {
         requires { 0 < self.old.left }
         ensures made { self.new.made ≡ record self.old.made { replies = self.old.made.replies ++ reply ∷ [] } }
         ensures left { (self.new.left ≡ self.old.left - 1) × (self.new.calls ≡ self.old.calls) }
+        ensures most { (self.new.most ≡ self.old.most) × (self.new.most_calls ≡ self.old.most_calls) }
     {
         self.replies.put(reply);
         self.left -= 1;
@@ -171,6 +206,7 @@ impl Buffers {
         requires { 0 < self.old.calls }
         ensures made { self.new.made ≡ record self.old.made { calls = self.old.made.calls ++ call ∷ [] } }
         ensures left { (self.new.left ≡ self.old.left) × (self.new.calls ≡ self.old.calls - 1) }
+        ensures most { (self.new.most ≡ self.old.most) × (self.new.most_calls ≡ self.old.most_calls) }
     {
         let _within: Option<WithinCall> = None;
         self.calls.put(call);
@@ -179,7 +215,8 @@ impl Buffers {
 
     /// The effects.
     pub fn into_effects(self) -> Effects
-        ensures { result ≡ self.made }
+        ensures exact { result ≡ self.made }
+        ensures few { AreFew self.most self.most_calls result }
     {
         let Buffers {
             ends,
@@ -191,6 +228,8 @@ impl Buffers {
             calls,
             left: _,
             more_calls: _,
+            most: _,
+            most_calls: _,
         } = self;
         Effects {
             ends: Seq::new(ends.into_vec()),

@@ -2,9 +2,9 @@
 
 ghost use Rattle.sl_host_state.specs.Hears.{begun, heard_exit, heard_start, quiet_to, rested};
 ghost use Rattle.sl_trace.specs.Traces.{no_effects};
-ghost use Rattle.sl_whole_host.specs.Host.{Becomes, SameRun};
-ghost use Rattle.std.specs.List.{list_any};
-ghost use Rattle.std.specs.Prelude.{false, ◌+◌, ◌<◌, ◌==◌, ◌^◌, ◌≡◌};
+ghost use Rattle.sl_whole_host.specs.Books.{AreFew};
+ghost use Rattle.sl_whole_host.specs.Host.{Becomes, SameMost, SameRun};
+ghost use Rattle.std.specs.Prelude.{◌+◌, ◌<◌, ◌^◌, ◌≡◌};
 
 use crate::buffers::Buffers;
 use crate::host::Host;
@@ -12,10 +12,8 @@ use sl_trace::Effects;
 use std::mem;
 
 impl Host {
-    /// A process has exited, which the step doesn't start: a child of this number has, and its kill program goes.
-    #[tactic(auto, using(crate::proofs::HearingsStand::exit_follows))]
+    /// A process has exited: a child of this number has, unless the step starts it, and its kill program goes.
     pub fn hear_exit(&mut self, process: u32)
-        requires { list_any (λ s. s.process == process) self.old.kept.made.starts ≡ false }
         ensures state { Becomes self.old self.new (heard_exit process) }
         ensures left { (self.new.left ≡ self.old.left) × (self.new.calls ≡ self.old.calls) }
         ensures run { SameRun self.old self.new }
@@ -23,10 +21,8 @@ impl Host {
         self.books.exit(process);
     }
 
-    /// A start is answered, of a child that the step doesn't start.
-    #[tactic(auto, using(crate::proofs::HearingsStand::start_follows))]
+    /// A start is answered, unless the step makes it.
     pub fn hear_start(&mut self, process: u32, ok: bool)
-        requires { list_any (λ s. s.process == process) self.old.kept.made.starts ≡ false }
         ensures state { Becomes self.old self.new (heard_start process ok) }
         ensures left { (self.new.left ≡ self.old.left) × (self.new.calls ≡ self.old.calls) }
         ensures run { SameRun self.old self.new }
@@ -42,6 +38,7 @@ impl Host {
         ensures state { Becomes self.old self.new (begun now) }
         ensures left { (self.new.left ≡ self.old.left) × (self.new.calls ≡ self.old.calls) }
         ensures run { (self.new.kept.config ≡ self.old.kept.config) × (self.new.kept.reading ≡ now) }
+        ensures most { SameMost self.old self.new }
     {
         let (entries, kills) = (self.books.entries, now + self.books.config.grace);
         if self.members.is_late(now) {
@@ -63,11 +60,13 @@ impl Host {
     /// A step is over: its effects are taken out, and the next call is the first of the next step. Nothing is left to be made until memory
     /// is taken anew; `none` is what stands in their place.
     pub fn rest(&mut self, none: Buffers) -> Effects
-        requires { none ≡ record { made = no_effects; left = 0; calls = 0 } }
+        requires { none ≡ record { made = no_effects; left = 0; calls = 0; most = 0; most_calls = 0 } }
         ensures effects { result ≡ self.old.kept.made }
+        ensures few { AreFew self.old.most self.old.most_calls result }
         ensures state { Becomes self.old self.new rested }
         ensures left { (self.new.left ≡ 0) × (self.new.calls ≡ 0) }
-        ensures run { SameRun self.old self.new }
+        ensures run { (self.new.kept.config ≡ self.old.kept.config) × (self.new.kept.reading ≡ self.old.kept.reading) }
+        ensures most { (self.new.most ≡ 0) × (self.new.most_calls ≡ 0) × (self.new.seats ≡ self.old.seats) }
     {
         self.books.first_call = self.books.next_call();
         mem::replace(&mut self.books.made, none).into_effects()

@@ -1,6 +1,6 @@
 //! A line, heard: it is a job from here on, or it is answered at once.
 
-ghost use Rattle.sl_host_state.specs.Hears.{answered_line, heard_line, program_answered};
+ghost use Rattle.sl_host_state.specs.Hears.{answered_line, heard_line, heard_number, program_answered};
 ghost use Rattle.sl_trace.specs.Traces.{is_done, kill_program_in, with_program};
 ghost use Rattle.sl_trace.specs.declared.reply.Reply.TheVariants.{BadCommand as Misread};
 ghost use Rattle.sl_whole_host.specs.Books.{books_answering};
@@ -122,6 +122,16 @@ impl Host {
         ensures run { SameRun self.old self.new }
     {
         self.books.answer(Reply::BadCommand { column }, None);
+    }
+
+    /// A line that says no command of the host's takes a number alone.
+    pub fn number_line(&mut self)
+        requires { 0 < self.old.left }
+        ensures state { Becomes self.old self.new heard_number }
+        ensures left { (self.new.left ≡ self.old.left - 1) × (self.new.calls ≡ self.old.calls) }
+        ensures run { SameRun self.old self.new }
+    {
+        self.books.number();
     }
 
     /// A line is a job from here on.

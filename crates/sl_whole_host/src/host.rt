@@ -15,7 +15,7 @@ use sl_text::{Data, FilePath, Name};
 use sl_trace::{Call, End, Grant, JoinStep, LeaseStep, Move, Op, Purpose, Sent, Start, Work};
 use std::marker::Model;
 
-/// A host. Its members have memory for as many leases each as it may make calls.
+/// A host. Its members have memory for as many leases each as it may make calls, and there is memory for as many members as may join.
 #[derive(Drop)]
 pub struct Host {
     pub(crate) members: Members,
@@ -23,19 +23,21 @@ pub struct Host {
 }
 
 impl Model for Host {
+    ghost use Rattle.sl_trace.specs.Limits.{most_lockspaces};
     ghost use Rattle.sl_whole_host.specs.Books.{kept_of};
     ghost use Rattle.sl_whole_host.specs.Host.{HostView};
     ghost use Rattle.std.specs.Prelude.{◌≡◌, ◌≤◌};
 
     ghost Value = { HostView };
 
-    ghost view = { λ h. record { kept = kept_of h.members.members h.books; left = h.books.left; calls = h.books.calls } };
+    ghost view = { λ h. record { kept = kept_of h.members.members h.books; left = h.books.left; calls = h.books.calls; most = h.books.most; most_calls = h.books.most_calls; seats = h.members.most } };
 
-    ghost invariant = { λ h. (h.members.run ≡ record { timing = h.books.config.timing; sizes = h.books.config.sizes; host = h.books.config.name }) × (h.books.calls ≤ h.members.room) };
+    ghost invariant = { λ h. (h.members.run ≡ record { timing = h.books.config.timing; sizes = h.books.config.sizes; host = h.books.config.name }) × (h.books.calls ≤ h.members.room)
+        × (most_lockspaces ≤ h.members.most) };
 }
 
 /// The types within a call.
-type WithinCall = (
+pub(crate) type WithinCall = (
     (
         Op,
         Purpose,
@@ -53,7 +55,7 @@ type WithinCall = (
 #[tactic(auto, using(crate::proofs::HostStands::none_ended))]
 fn part_with(members: &mut Members, step: &Move)
     ensures members { members.new.members ≡ filter (λ m. not (is_ended_by_move step.now m)) members.old.members }
-    ensures run { (members.new.run ≡ members.old.run) × (members.new.room ≡ members.old.room) }
+    ensures run { (members.new.run ≡ members.old.run) × (members.new.room ≡ members.old.room) × (members.new.most ≡ members.old.most) }
 {
     match step {
         Move::Register { .. } => {}

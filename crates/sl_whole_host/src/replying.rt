@@ -31,7 +31,7 @@ fn joining_number(members: &Members, job: u64) -> Option<u64>
 #[tactic(auto, using(crate::proofs::RepliesStand::changed_is, crate::proofs::RepliesStand::removed_is))]
 fn refuse(members: &mut Members, unanswered: &OpenCalls, number: u64)
     ensures members { members.new.members ≡ flat_map (refused_at unanswered.now.calls number) members.old.members }
-    ensures run { (members.new.run ≡ members.old.run) × (members.new.room ≡ members.old.room) }
+    ensures run { (members.new.run ≡ members.old.run) × (members.new.room ≡ members.old.room) × (members.new.most ≡ members.old.most) }
 {
     if unanswered.has_write(number) {
         members.refuses(number);
@@ -43,7 +43,7 @@ fn refuse(members: &mut Members, unanswered: &OpenCalls, number: u64)
 /// The joinings by this job are refused.
 fn refuse_joinings(members: &mut Members, unanswered: &OpenCalls, job: u64)
     ensures members { members.new.members ≡ flat_map (refused_by unanswered.now.calls job) members.old.members }
-    ensures run { (members.new.run ≡ members.old.run) × (members.new.room ≡ members.old.room) }
+    ensures run { (members.new.run ≡ members.old.run) × (members.new.room ≡ members.old.room) × (members.new.most ≡ members.old.most) }
 {
     while let Some(number) = joining_number(members, job) {
         refuse(members, unanswered, number);
@@ -55,7 +55,7 @@ fn refuse_joinings(members: &mut Members, unanswered: &OpenCalls, job: u64)
 fn finish_joinings(members: &mut Members, job: u64)
     requires { HasClaims job members.old.members }
     ensures members { members.new.members ≡ flat_map (joined_by job) members.old.members }
-    ensures run { (members.new.run ≡ members.old.run) × (members.new.room ≡ members.old.room) }
+    ensures run { (members.new.run ≡ members.old.run) × (members.new.room ≡ members.old.room) × (members.new.most ≡ members.old.most) }
 {
     while let Some(number) = joining_number(members, job) {
         members.joins(number);
@@ -63,7 +63,7 @@ fn finish_joinings(members: &mut Members, job: u64)
 }
 
 /// The lesser of a moment and one that is so long after another.
-fn lowered_after(moment: u64, since: u64, time: u64) -> u64
+pub(crate) fn lowered_after(moment: u64, since: u64, time: u64) -> u64
     ensures { result ≡ min moment (since + time) }
 {
     if since <= moment && time < moment - since {

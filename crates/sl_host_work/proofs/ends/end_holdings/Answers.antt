@@ -21,7 +21,7 @@ loop-grant-init c =
     let start : c.clear.new.self.items ++ orphans_left c.args.process c.args.host.now.kept.holdings ≡ orphans_left c.args.process c.args.host.now.kept.holdings = ap (λ gs. gs ++ orphans_left c.args.process c.args.host.now.kept.holdings) none in
     let empty : length c.clear.new.self.items ≡ 0 = ap (λ gs. length gs) none in
     let fits_in : length c.clear.new.self.items + length (held_by c.args.process c.args.host.now.kept.holdings) ≤ c.args.orphans.now.most = omega (arith, empty, c.requires.room) in
-    record { comes = λ read. refl; once = c.requires.once; run = (refl, refl); room = c.requires.left; spent = omega arith; calls = omega arith; noted = start; most = ap (λ n. n.most) c.clear.ensures; few = fits_in }
+    record { comes = λ read. refl; once = c.requires.once; run = (refl, refl, (refl, refl, refl)); room = c.requires.left; spent = omega arith; calls = omega arith; noted = start; most = ap (λ n. n.most) c.clear.ensures; few = fits_in }
 
 pub end-requires : goal.end-requires
 end-requires c =
@@ -46,7 +46,7 @@ loop-grant-preserved c =
     record {
       comes = λ read. was.comes read ∙ ended_next c.args.process c.in-Some.grant (state_of read c.loop-grant.host.kept) (state_of read c.end.new.self.kept) was.once found (one read);
       once = once_after c.args.process c.in-Some.grant c.loop-grant.host c.end.new.self was.once one;
-      run = (c.end.ensures.run.0 ∙ was.run.0, c.end.ensures.run.1 ∙ was.run.1);
+      run = (c.end.ensures.run.0 ∙ was.run.0, c.end.ensures.run.1 ∙ was.run.1, (c.end.ensures.run.2.0 ∙ was.run.2.0, c.end.ensures.run.2.1 ∙ was.run.2.1, c.end.ensures.run.2.2 ∙ was.run.2.2));
       room = omega (arith, less, was.room, c.end.ensures.left.0);
       spent = omega (arith, less, was.room, was.spent, c.end.ensures.left.0);
       calls = omega (arith, was.calls, c.end.ensures.left.1);

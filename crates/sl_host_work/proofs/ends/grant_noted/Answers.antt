@@ -7,7 +7,7 @@ use Rattle.std.proofs.Common.{ap, arith, refl, sym, ◌≡◌, ◌∙◌}
 use Rattle.std.specs.Prelude.{drop, length}
 
 pub loop-place-init : goal.loop-place-init
-loop-place-init c = record { comes = λ read. refl; run = (refl, refl); room = c.requires; spent = omega arith; calls = omega arith }
+loop-place-init c = record { comes = λ read. refl; run = (refl, refl, (refl, refl, refl)); room = c.requires; spent = omega arith; calls = omega arith }
 
 pub grant-requires : goal.grant-requires
 grant-requires c =
@@ -20,7 +20,7 @@ loop-place-preserved c =
     let less = fewer_left c.args.grants.now.items c.loop-place.place c.nth.result.now c.nth.ensures in
     record {
       comes = λ read. was.comes read ∙ over_next with_grant c.args.grants.now.items c.loop-place.place c.nth.result.now (state_of read c.loop-place.host.kept) (state_of read c.grant.new.self.kept) c.nth.ensures (done.state read);
-      run = (done.run.0 ∙ was.run.0, done.run.1 ∙ was.run.1);
+      run = (done.run.0 ∙ was.run.0, done.run.1 ∙ was.run.1, (done.run.2.0 ∙ was.run.2.0, done.run.2.1 ∙ was.run.2.1, done.run.2.2 ∙ was.run.2.2));
       room = omega (arith, less, was.room, done.left.0);
       spent = omega (arith, less, was.room, was.spent, done.left.0);
       calls = omega (arith, was.calls, done.left.1);

@@ -10,7 +10,7 @@ use Rattle.std.proofs.Common.{ap, arith, refl, sym, ◌∙◌}
 use Rattle.std.specs.Prelude.{List, Some, drop, length, slice_get, ℕ, ◌<◌, ◌≡◌}
 
 pub loop-place-init : goal.loop-place-init
-loop-place-init c = record { comes = λ read. refl; stays = (refl, refl, refl); run = (refl, refl); room = c.requires; spent = omega arith; calls = omega arith }
+loop-place-init c = record { comes = λ read. refl; stays = (refl, refl, refl); run = (refl, refl, (refl, refl, refl)); room = c.requires; spent = omega arith; calls = omega arith }
 
 -- the member at the loop's place
 member_here : (first : HostView) (ms : List MemberState) (k end : ℕ) → end ≡ length ms → ms ≡ first.kept.members → k < end → (m : MemberState) × (slice_get first.kept.members k ≡ Some m)
@@ -40,7 +40,7 @@ loop-place-preserved c =
     record {
       comes = λ read. was.comes read ∙ killed_next read first c.loop-place.host c.kill_at.new.host c.loop-place.place at.0 was.stays at.1 done.state;
       stays = (done.stays.0 ∙ was.stays.0, done.stays.1 ∙ was.stays.1, done.stays.2 ∙ was.stays.2);
-      run = (done.run.0 ∙ was.run.0, done.run.1 ∙ was.run.1);
+      run = (done.run.0 ∙ was.run.0, done.run.1 ∙ was.run.1, (done.run.2.0 ∙ was.run.2.0, done.run.2.1 ∙ was.run.2.1, done.run.2.2 ∙ was.run.2.2));
       room = omega (arith, next, count, was.room, done.left.0);
       spent = omega (arith, next, count, was.spent, was.room, done.left.0);
       calls = omega (arith, was.calls, done.left.1);

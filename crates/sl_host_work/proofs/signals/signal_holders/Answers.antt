@@ -12,7 +12,7 @@ loop-process-init c =
     record {
       comes = λ read. ap (λ ns. over ns (λ p. sending p c.args.signal) (state_of read c.args.host.now.kept)) (sym (holders_first c.args.session c.args.host.now.kept.holdings));
       stays = (refl, refl, refl);
-      run = (refl, refl);
+      run = (refl, refl, (refl, refl, refl));
       room = omega (arith, first, c.requires);
       spent = omega (arith, first);
       calls = refl;
@@ -39,7 +39,7 @@ loop-process-preserved c =
     record {
       comes = λ read. was.comes read ∙ over_one c.args.signal (those_above c.loop-process.last (holders_under c.args.session c.args.host.now.kept.holdings)) (those_above c.in-Some.process (holders_under c.args.session c.args.host.now.kept.holdings)) c.in-Some.process (state_of read c.loop-process.host.kept) (state_of read c.send.new.host.kept) next (sent.state read);
       stays = (sent.stays.0 ∙ was.stays.0, sent.stays.1 ∙ was.stays.1, sent.stays.2 ∙ was.stays.2);
-      run = (sent.run.0 ∙ was.run.0, sent.run.1 ∙ was.run.1);
+      run = (sent.run.0 ∙ was.run.0, sent.run.1 ∙ was.run.1, (sent.run.2.0 ∙ was.run.2.0, sent.run.2.1 ∙ was.run.2.1, sent.run.2.2 ∙ was.run.2.2));
       room = omega (arith, one, was.room, sent.left.0);
       spent = omega (arith, one, was.spent, was.room, sent.left.0);
       calls = sent.left.1 ∙ was.calls;

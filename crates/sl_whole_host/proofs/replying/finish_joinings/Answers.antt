@@ -20,7 +20,8 @@ loop-number-preserved c =
       more ∙ c.loop-number.invariant.0,
       ap (λ (v : MembersState). v.run) c.joins.ensures ∙ c.loop-number.invariant.1,
       ap (λ (v : MembersState). v.room) c.joins.ensures ∙ c.loop-number.invariant.2,
-      claims_stay c.args.job c.in-Some.number c.loop-number.members.members c.joins.new.self.members c.loop-number.invariant.3 made,
+      ap (λ (v : MembersState). v.most) c.joins.ensures ∙ c.loop-number.invariant.3,
+      claims_stay c.args.job c.in-Some.number c.loop-number.members.members c.joins.new.self.members c.loop-number.invariant.4 made,
     )
 
 pub returns-clause-members : goal.returns-clause-members

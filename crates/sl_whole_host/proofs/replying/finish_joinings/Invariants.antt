@@ -6,7 +6,7 @@ use Rattle.std.specs.List.{flat_map}
 
 abbrev pub invariant-loop-number : goal.invariant-loop-number
 invariant-loop-number l =
-    (flat_map (joined_by l.job) l.members.members ≡ flat_map (joined_by l.job) l.fn.members.members) × (l.members.run ≡ l.fn.members.run) × (l.members.room ≡ l.fn.members.room)
+    (flat_map (joined_by l.job) l.members.members ≡ flat_map (joined_by l.job) l.fn.members.members) × (l.members.run ≡ l.fn.members.run) × (l.members.room ≡ l.fn.members.room) × (l.members.most ≡ l.fn.members.most)
     × HasClaims l.job l.members.members
 
 abbrev pub decreases-loop-number : goal.decreases-loop-number

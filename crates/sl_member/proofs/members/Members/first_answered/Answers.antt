@@ -12,13 +12,14 @@ invariant_of-self c =
       changed_members _ c.self.inside.room c.self.inside.items.items c.args.number c.in-Some.place (own_told (Joining 0 FirstRead) (answer_in c.args.answer) c.args.now) c.index_mut.result.now _ i.0 (sym (c.place_of.ensures.exact ∙ ap (λ ms. position (has_number c.args.number) ms) c.deref.ensures.value) ∙ c.in-Some.is)
           c.index_mut.ensures.value (record { made = (c.first_answered.ensures 0); who = λ s. refl }),
       i.1,
+      i.2,
     )
 
 pub returns-in-Some : goal.returns-in-Some
 returns-in-Some c j =
-    changed_kept c.args.self.now _ c.self.inside.items.items c.self.inside.places c.self.inside.room c.args.number c.in-Some.place (own_told (Joining j FirstRead) (answer_in c.args.answer) c.args.now) c.index_mut.result.now _
+    changed_kept c.args.self.now _ c.self.inside.items.items c.self.inside.most c.self.inside.room c.args.number c.in-Some.place (own_told (Joining j FirstRead) (answer_in c.args.answer) c.args.now) c.index_mut.result.now _
     c.self.invariant.0 (sym (c.place_of.ensures.exact ∙ ap (λ ms. position (has_number c.args.number) ms) c.deref.ensures.value) ∙ c.in-Some.is) c.index_mut.ensures.value (c.first_answered.ensures j) c.self.view_is
 
 pub returns-in-None : goal.returns-in-None
 returns-in-None c j =
-    none_kept c.args.self.now _ c.self.inside.items.items c.self.inside.places c.self.inside.room c.args.number (own_told (Joining j FirstRead) (answer_in c.args.answer) c.args.now) (sym (c.place_of.ensures.exact ∙ ap (λ ms. position (has_number c.args.number) ms) c.deref.ensures.value) ∙ c.in-None.is) c.self.view_is
+    none_kept c.args.self.now _ c.self.inside.items.items c.self.inside.most c.self.inside.room c.args.number (own_told (Joining j FirstRead) (answer_in c.args.answer) c.args.now) (sym (c.place_of.ensures.exact ∙ ap (λ ms. position (has_number c.args.number) ms) c.deref.ensures.value) ∙ c.in-None.is) c.self.view_is

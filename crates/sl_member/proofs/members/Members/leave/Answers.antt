@@ -11,13 +11,13 @@ pub invariant_of-self : goal.invariant_of-self
 invariant_of-self c =
     let items : List MemberKept = c.self.inside.items.items in
     let all : take c.self.inside.items.len (c.leave_all.new.items ++ drop (length c.leave_all.new.items) items) ≡ map (left_kept c.args.lockspace.now c.args.begun c.args.job) items = grind (arith, common_steps) in
-    (left_members c.args.lockspace.now c.args.begun c.args.job _ c.self.inside.room items _ c.self.invariant.0 all, c.self.invariant.1)
+    (left_members c.args.lockspace.now c.args.begun c.args.job _ c.self.inside.room items _ c.self.invariant.0 all, c.self.invariant.1, c.self.invariant.2)
 
 pub returns : goal.returns
 returns c =
     let items : List MemberKept = c.self.inside.items.items in
     let run : RunOf = record { timing = c.self.inside.timing; sizes = c.self.inside.geometry; host = c.self.inside.host } in
-    let P : List MemberState → MembersState = λ ss. record { run = run; members = ss; places = c.self.inside.places; room = c.self.inside.room } in
+    let P : List MemberState → MembersState = λ ss. record { run = run; members = ss; most = c.self.inside.most; room = c.self.inside.room } in
     let all : take c.self.inside.items.len (c.leave_all.new.items ++ drop (length c.leave_all.new.items) items) ≡ map (left_kept c.args.lockspace.now c.args.begun c.args.job) items = grind (arith, common_steps) in
     ap (λ (zs : List MemberKept). P (states zs)) all ∙ ap P (left_states c.args.lockspace.now c.args.begun c.args.job items)
     ∙ ap (λ (v : MembersState). record v { members = map (left_by c.args.lockspace.now c.args.begun c.args.job) v.members }) c.self.view_is

@@ -12,7 +12,7 @@ invariant_of-self c =
     let is : c.retain.new.self.items ≡ filter (λ (m : MemberKept). q m.state) c.self.inside.items.items =
     filter_same _ (λ (m : MemberKept). q m.state) _ (λ x b f' k. search rules) _ _ c.retain.ensures.filtered
     in
-    (kept_members _ c.self.inside.room c.self.inside.items.items _ (λ m. q m.state) i.0 is, omega (arith, i.1, c.retain.ensures.bound, c.retain.ensures.capacity))
+    (kept_members _ c.self.inside.room c.self.inside.items.items _ (λ m. q m.state) i.0 is, omega (arith, i.1, c.retain.ensures.bound), omega (arith, i.2, c.retain.ensures.capacity))
 
 pub returns : goal.returns
 returns c =
@@ -20,4 +20,4 @@ returns c =
     let is : c.retain.new.self.items ≡ filter (λ (m : MemberKept). q m.state) c.self.inside.items.items =
     filter_same _ (λ (m : MemberKept). q m.state) _ (λ x b f' k. search rules) _ _ c.retain.ensures.filtered
     in
-    kept_kept c.args.self.now _ c.self.inside.items.items _ c.self.inside.places c.self.inside.room q is c.self.view_is
+    kept_kept c.args.self.now _ c.self.inside.items.items _ c.self.inside.most c.self.inside.room q is c.self.view_is

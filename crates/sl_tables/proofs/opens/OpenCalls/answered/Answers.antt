@@ -4,8 +4,8 @@ use Rattle.sl_tables.proofs.OpensStand.{left_is, moved}
 use Rattle.sl_tables.proofs.SlotsStand.{none_left_out}
 use Rattle.sl_tables.proofs.opens.OpenCalls.answered.Goals as goal
 use Rattle.sl_tables.proofs.TotalsGo.{total_less}
-use Rattle.sl_tables.proofs.WritesCount.{taken}
-use Rattle.sl_tables.specs.Opens.{AreNumbered, area_of, count_in, first_on, next_on, write_weight}
+use Rattle.sl_tables.proofs.WritesCount.{counts_one, taken}
+use Rattle.sl_tables.specs.Opens.{AreNumbered, area_of, call_weight, count_in, first_on, next_on, write_weight}
 use Rattle.sl_tables.specs.Totals.{total}
 use Rattle.sl_trace.specs.Traces.{same_spot}
 use Rattle.sl_words.specs.Words.{some_is}
@@ -38,13 +38,29 @@ invariant_of-self c =
           ∙ (taken (total (write_weight s) (filter (λ p. not (nat_eq c.args.number p.0)) old)) (write_weight s c.in-Some.call) (total (write_weight s) old) less
           ∙ ap (total (write_weight s)) (sym items))))),
       omega (arith, i.5, c.count_less.ensures.room, c.in-Some.ensures.kept.1),
+      (λ s.
+          let less = total_less (call_weight s) c.args.number old c.in-Some.call c.in-Some.ensures.rising (sym c.in-Some.ensures.found) in
+          c.count_less-in-Some.ensures.counts s
+          ∙ (ap (λ n. count_in (get nat_eq c.self.inside.counts s) - n) (counts_one (nat_eq c.in-Some.call.session s))
+          ∙ (ap (λ n. n - call_weight s c.in-Some.call) (i.6 s)
+          ∙ (taken (total (call_weight s) (filter (λ p. not (nat_eq c.args.number p.0)) old)) (call_weight s c.in-Some.call) (total (call_weight s) old) less
+          ∙ ap (total (call_weight s)) (sym items))))),
+      omega (arith, i.7, c.count_less-in-Some.ensures.room, c.in-Some.ensures.kept.1),
     )
 
 pub invariant_of-self-in-None : goal.invariant_of-self-in-None
 invariant_of-self-in-None c =
     let i = c.self.invariant in
-    let items = c.in-None.ensures.items ∙ none_left_out c.args.number c.self.inside.calls.items (sym c.in-None.ensures.found) in
-    (subst AreNumbered (sym items) i.0, (λ at. i.1 at ∙ ap (λ zs. first_on c.self.inside.area at (values_of zs)) (sym items)), omega (arith, i.2, c.in-None.ensures.kept.1), i.3, (λ s. i.4 s ∙ ap (total (write_weight s)) (sym items)), omega (arith, i.5, c.in-None.ensures.kept.1))
+    let items = c.in-None.ensures.items ∙ none_left_out c.args.number c.self.inside.calls.items (sym c.in-None.ensures.found) in (
+      subst AreNumbered (sym items) i.0,
+      (λ at. i.1 at ∙ ap (λ zs. first_on c.self.inside.area at (values_of zs)) (sym items)),
+      omega (arith, i.2, c.in-None.ensures.kept.1),
+      i.3,
+      (λ s. i.4 s ∙ ap (total (write_weight s)) (sym items)),
+      omega (arith, i.5, c.in-None.ensures.kept.1),
+      (λ s. i.6 s ∙ ap (total (call_weight s)) (sym items)),
+      omega (arith, i.7, c.in-None.ensures.kept.1),
+    )
 
 pub returns-in-Some-clause-call : goal.returns-in-Some-clause-call
 returns-in-Some-clause-call c =
