@@ -54,7 +54,7 @@ traces_ask st [] h = tt
 traces_ask st (e ∷ past) h = (entry_asks st past e h, traces_ask st past (h.0.1, h.1.1))
 
 -- What is said of each entry is said of the one that made a call.
-made_by : (P : Trace → Entry → Type 0) (later : Trace) (e : Entry) (past : Trace) → EachEntry P (later ++ e ∷ past) → P past e
+pub made_by : (P : Trace → Entry → Type 0) (later : Trace) (e : Entry) (past : Trace) → EachEntry P (later ++ e ∷ past) → P past e
 made_by P [] e past h = h.0
 made_by P (f ∷ later) e past h = made_by P later e past h.1
 

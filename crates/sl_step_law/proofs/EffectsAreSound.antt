@@ -1,5 +1,8 @@
 -- A step's effects as a world asks them: by the laws of the trace that the step leaves.
+use Rattle.sl_daemon.specs.Daemons.{IsSoundCall, IsSoundOp}
 use Rattle.sl_due.specs.Due.{IsHostTrace, due}
+use Rattle.sl_run.specs.Events.{sectors_of as sectors_had}
+use Rattle.sl_step_law.proofs.CallsAreStanding.{traces_stand}
 use Rattle.sl_due_law.proofs.Whole.CallsAreLawful.{new_inside}
 use Rattle.sl_due_law.proofs.Whole.TracesHold.{traces_hold, traces_are_lawful}
 use Rattle.sl_host_law.specs.Steps.Stepping.{effects_of}
@@ -23,6 +26,7 @@ use Rattle.sl_trace.specs.declared.effects.Effects.{Effects}
 use Rattle.sl_trace.specs.declared.effects.JoinStep.TheVariants.{ClaimWrite, DecidingRead, FirstRead, FirstRenewal, VerifyRead, WatchRead}
 use Rattle.sl_trace.specs.declared.effects.LeaseStep.TheVariants.{ClearMode, FreeLeader, Phase1Read, Phase1Write, Phase2Read, Phase2Write, ReadArea, ReadBeforeFree, SetMode, TakeLeader}
 use Rattle.sl_trace.specs.declared.effects.Op.TheVariants.{ReadSectors, WriteRecord}
+use Rattle.sl_trace.specs.declared.effects.Op.{Op}
 use Rattle.sl_trace.specs.declared.effects.Purpose.TheVariants.{Joining, Lease, Leaving, Renewal, RequestRead, RequestWrite, SeeRequest, Survey, ValueRead, ValueWrite}
 use Rattle.sl_trace.specs.declared.effects.Purpose.{Purpose}
 use Rattle.sl_trace.specs.declared.effects.Start.{Start}
@@ -31,7 +35,7 @@ use Rattle.sl_words.proofs.CaseLaws.{none_some, some_value}
 use Rattle.std.proofs.Common.{ap, ap₂, arith, refl, suc, subst, sym, ◌∙◌}
 use Rattle.std.proofs.lemmas.List.{length-append, length-map, map-append}
 use Rattle.std.specs.List.{range_with_len}
-use Rattle.std.specs.Prelude.{Contains, List, Some, length, map, [], ℕ, ◌++◌, ◌+◌, ◌∷◌, ◌≡◌, ◌≤◌}
+use Rattle.std.specs.Prelude.{Contains, List, Some, length, map, [], ℕ, ◌++◌, ◌%◌, ◌+◌, ◌∷◌, ◌≡◌, ◌≤◌}
 
 -- ---- plain facts
 
@@ -141,6 +145,19 @@ module _ (now : ℕ) (i : Input) (h : HostState) (st : Setting) (es : Trace) (co
     writes : (r : Rec) → c.op ≡ WriteRecord r → IsRecord r
     writes r is = lawful.orderly.calls.0.spelled c r made (ap record_of is)
 
+    whole : c.offset % st.layout.sector ≡ 0
+    whole = ((traces_stand st (entry_at st es now i ∷ es) comes.0.setting trace).0 c made).whole
+
+    sound : IsSoundCall st.layout.sector c
+    sound = record { some = some_by c.op refl; whole = whole; op = op_by c.op refl } where
+      some_by : (o : Op) → c.op ≡ o → 1 ≤ sectors_had o
+      some_by (ReadSectors n) is = reads n is
+      some_by (WriteRecord r) is = omega arith
+
+      op_by : (o : Op) → c.op ≡ o → IsSoundOp o
+      op_by (ReadSectors n) is = tt
+      op_by (WriteRecord r) is = writes r is
+
 pub effects_are_sound : EffectsAreSound
 effects_are_sound =
     record {
@@ -149,4 +166,6 @@ effects_are_sound =
       asks = λ now i h st es c comes there. asks now i h st es comes c there;
       reads = λ now i h st es c n comes there is. reads now i h st es comes c there n is;
       writes = λ now i h st es c r comes there is. writes now i h st es comes c there r is;
+      whole = λ now i h st es c comes there. whole now i h st es comes c there;
+      sound = λ now i h st es c comes there. sound now i h st es comes c there;
     }

@@ -53,7 +53,7 @@ same_call es e number a d = by (d.call.number == number) where
   by true = refl
   by false = refl
 
-marked : (es : Trace) (e : Entry) (i : Input) (ms : List Submitted) (d : Submitted) → Contains ms d → (z : Submitted) × Contains (mark es e i ms) z × (z.call ≡ d.call)
+pub marked : (es : Trace) (e : Entry) (i : Input) (ms : List Submitted) (d : Submitted) → Contains ms d → (z : Submitted) × Contains (mark es e i ms) z × (z.call ≡ d.call)
 marked es e (Told number a) ms d there = (answered_in es e number a d, contains_map (answered_in es e number a) ms d there, same_call es e number a d)
 marked es e (Line text) ms d there = (d, there, refl)
 marked es e (Number text) ms d there = (d, there, refl)
@@ -61,7 +61,7 @@ marked es e (Exit p) ms d there = (d, there, refl)
 marked es e (Spawned p ok) ms d there = (d, there, refl)
 marked es e Wake ms d there = (d, there, refl)
 
-folded : (at reading : ℕ) (cs : List Call) (ms : List Submitted) (d : Submitted) → Contains ms d → Contains (fold (λ zs c. new_call at reading c ∷ zs) ms cs) d
+pub folded : (at reading : ℕ) (cs : List Call) (ms : List Submitted) (d : Submitted) → Contains ms d → Contains (fold (λ zs c. new_call at reading c ∷ zs) ms cs) d
 folded at reading [] ms d there = there
 folded at reading (c ∷ cs) ms d there = folded at reading cs (new_call at reading c ∷ ms) d (contains_more (new_call at reading c) ms d there)
 

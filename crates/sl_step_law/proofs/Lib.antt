@@ -4,6 +4,21 @@ pub mod AnswersAreKnown
 pub mod AnswersAreAwaited
 pub mod AsksAreKept
 pub mod CallsAsk
+pub mod LooksAreOwed
+pub mod OffsetsAreWhole
+pub mod CallsOnPast
+pub mod LeasesOnPast
+pub mod LeasesStandOn
+pub mod StandingIsKept
+pub mod CallsAreStanding
+pub mod MomentsAreKnown
+pub mod BlocksAreInstances
+pub mod HoldersWrote
+pub mod LeasesAreKnown
+pub mod CallsOfInstances
+pub mod LeaseAnswersAreKnown
+pub mod HostsAreKnown
+pub mod DecisionsAreKnown
 pub mod MembersAreKnown
 pub mod ConversionsMay
 pub mod HeldOnce
@@ -15,3 +30,5 @@ pub mod EffectsAreSound
 pub mod HostsBegin
 pub mod JoiningsClaim
 pub mod PlacesAreKnown
+pub mod ValuesFall
+pub mod LastValues

@@ -30,16 +30,16 @@ use Rattle.sl_trace.specs.declared.effects.Op.{Op}
 use Rattle.sl_trace.specs.declared.input.Input.{Input}
 use Rattle.sl_words.proofs.CaseLaws.{none_some, some_value}
 use Rattle.sl_words.proofs.WordLaws.{and_true}
-use Rattle.std.proofs.Common.{ap, arith, refl, subst, sym, ◌∙◌}
+use Rattle.std.proofs.Common.{ap, arith, refl, subst, sym}
 use Rattle.std.proofs.lemmas.Bool.{leb-true}
-use Rattle.std.specs.Prelude.{Contains, IsTrue, None, Option, Some, false, nat_le, option_and_then, slice_get, true, ℕ, ◌&&◌, ◌<◌, ◌≡◌, ◌≤◌}
+use Rattle.std.specs.Prelude.{Contains, IsTrue, None, Option, Some, false, nat_le, option_and_then, ℕ, ◌&&◌, ◌≡◌, ◌≤◌}
 
 -- ---- sessions
 
-abbrev IsAt : Layout → Session → Type 0
+abbrev pub IsAt : Layout → Session → Type 0
 IsAt g s = (1 ≤ s.id) × (s.id ≤ g.hosts) × IsTrue (is_base g s.offset)
 
-session_at : (st : Setting) (es : Trace) (s : Session) → IsSetting st → Contains (sessions st es) s → IsAt st.layout s
+pub session_at : (st : Setting) (es : Trace) (s : Session) → IsSetting st → Contains (sessions st es) s → IsAt st.layout s
 session_at st es s setting there = by s.job refl where
   by : (o : Option ℕ) → s.job ≡ o → IsAt st.layout s
   by (Some j) its =

@@ -2,10 +2,16 @@ pub mod Ready
 pub mod Answers
 pub mod Awaiting
 pub mod Asking
+pub mod Standing
 pub mod Members
 pub mod Holdings
 pub mod Lines
 pub mod Whole
+pub mod Moments
+pub mod Leased
+pub mod Answering
+pub mod Knowing
 pub mod Follows
 pub mod Sound
 pub mod Placed
+pub mod LastValues

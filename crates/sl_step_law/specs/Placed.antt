@@ -12,7 +12,7 @@ use Rattle.sl_trace.specs.Traces.{is_shared}
 use Rattle.sl_trace.specs.declared.effects.Grant.{Grant}
 use Rattle.sl_trace.specs.declared.effects.Spot.{Spot}
 use Rattle.sl_trace.specs.declared.input.Input.{Input}
-use Rattle.std.specs.Prelude.{Contains, IsTrue, Some, false, find, ℕ, ◌≡◌, ◌≤◌}
+use Rattle.std.specs.Prelude.{Contains, IsTrue, Some, false, find, ◌≡◌, ◌≤◌}
 
 pub record PlacesAreKnown : Type 0 where
   -- a member's id is one of the layout, and its area stands at a base

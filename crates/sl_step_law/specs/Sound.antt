@@ -1,4 +1,5 @@
 -- What a world asks of a step's effects: calls and children are numbered on, a call reads some sectors or writes a record.
+use Rattle.sl_daemon.specs.Daemons.{IsSoundCall}
 use Rattle.sl_host_law.specs.Steps.Stepping.{effects_of}
 use Rattle.sl_host_state.specs.Kept.{HostState}
 use Rattle.sl_host_state.specs.Stands.{sectors_of}
@@ -11,7 +12,7 @@ use Rattle.sl_trace.specs.declared.effects.Call.{Call}
 use Rattle.sl_trace.specs.declared.effects.Op.TheVariants.{ReadSectors, WriteRecord}
 use Rattle.sl_trace.specs.declared.input.Input.{Input}
 use Rattle.std.specs.List.{range_with_len}
-use Rattle.std.specs.Prelude.{Contains, length, map, ℕ, ◌≡◌, ◌≤◌}
+use Rattle.std.specs.Prelude.{Contains, length, map, ℕ, ◌%◌, ◌≡◌, ◌≤◌}
 
 pub record EffectsAreSound : Type 0 where
   pub calls : (now : ℕ) (i : Input) (h : HostState) (st : Setting) (es : Trace) → MayCome now i h st es
@@ -24,3 +25,7 @@ pub record EffectsAreSound : Type 0 where
       → c.op ≡ ReadSectors n → 1 ≤ n
   pub writes : (now : ℕ) (i : Input) (h : HostState) (st : Setting) (es : Trace) (c : Call) (r : Rec) → MayCome now i h st es → Contains (effects_of now i h).calls c
       → c.op ≡ WriteRecord r → IsRecord r
+  pub whole : (now : ℕ) (i : Input) (h : HostState) (st : Setting) (es : Trace) (c : Call) → MayCome now i h st es → Contains (effects_of now i h).calls c
+      → c.offset % st.layout.sector ≡ 0
+  -- so each call is as a world asks
+  pub sound : (now : ℕ) (i : Input) (h : HostState) (st : Setting) (es : Trace) (c : Call) → MayCome now i h st es → Contains (effects_of now i h).calls c → IsSoundCall st.layout.sector c

@@ -1,10 +1,16 @@
 //! A host that has come to its input, and what is known of it there.
 
+ghost use Rattle.sl_step_law.specs.Standing.{CallsAreStanding};
+ghost use Rattle.sl_step_law.specs.Moments.{MomentsAreKnown};
+ghost use Rattle.sl_step_law.specs.Leased.{LeasesAreKnown};
+ghost use Rattle.sl_step_law.specs.Answering.{LeaseAnswersAreKnown};
+ghost use Rattle.sl_step_law.specs.Knowing.{DecisionsAreKnown, HostsAreKnown};
 ghost use Rattle.sl_step_law.specs.Answers.{AnswersAreKnown};
 ghost use Rattle.sl_step_law.specs.Asking.{CallsAsk};
 ghost use Rattle.sl_step_law.specs.Awaiting.{AnswersAreAwaited};
 ghost use Rattle.sl_step_law.specs.Follows.{DueFollows, InputsCome};
 ghost use Rattle.sl_step_law.specs.Holdings.{HoldingsAreKnown};
+ghost use Rattle.sl_step_law.specs.LastValues.{LastValuesAreEnough, LinesMayPlainly, StepsAreTakenPlainly};
 ghost use Rattle.sl_step_law.specs.Lines.{LinesMay};
 ghost use Rattle.sl_step_law.specs.Members.{JoiningsClaim, MembersAreKnown, StepsAreKept};
 ghost use Rattle.sl_step_law.specs.Placed.{PlacesAreKnown};
@@ -85,4 +91,49 @@ pub fn inputs_come()
 /// Members and holdings stand at bases, under ids of the layout; an exclusive holding is of an instance.
 pub fn places_are_known()
     ensures { PlacesAreKnown }
+{}
+
+/// Calls stand at whole sectors, those of leases in areas at bases; before a settling looks its session wrote a block there.
+pub fn calls_are_standing()
+    ensures { CallsAreStanding }
+{}
+
+/// At each moment of a step at which a part of it begins the host stands for the step so far, is sound, and all that each act keeps is known.
+pub fn moments_are_known()
+    ensures { MomentsAreKnown }
+{}
+
+/// Leases stand at bases; who has written a block has verified the name; who holds has written a block of an instance.
+pub fn leases_are_known()
+    ensures { LeasesAreKnown }
+{}
+
+/// What an answer to the call of a lease finds: its lease, named and with the blocks that it shows; and the job that waits is the call's own.
+pub fn lease_answers_are_known()
+    ensures { LeaseAnswersAreKnown }
+{}
+
+/// A host's clock is below the end of time, its commands were read, its jobs have numbers of their own.
+pub fn hosts_are_known()
+    ensures { HostsAreKnown }
+{}
+
+/// What the decision on a line rests on: who gives up, converts, sets or asks for a value may do so there.
+pub fn decisions_are_known()
+    ensures { DecisionsAreKnown }
+{}
+
+/// Of the values that a holder set before, the last one tells the version of the next: it alone can be of the instance held.
+pub fn last_values_are_enough()
+    ensures { LastValuesAreEnough }
+{}
+
+/// So what a line comes to may be done.
+pub fn lines_may_plainly()
+    ensures { LinesMayPlainly }
+{}
+
+/// An input that comes to a host that stands is taken, if the bytes of an answer are bytes.
+pub fn steps_are_taken_plainly()
+    ensures { StepsAreTakenPlainly }
 {}
