@@ -1,1 +1,9 @@
-pub mod BeforeStands
+pub mod Expected
+pub mod Comes
+pub mod KnownPasses
+pub mod Coming
+pub mod ServesOn
+pub mod CallsStay
+pub mod RoomsStand
+pub mod KnownLines
+pub mod Lining

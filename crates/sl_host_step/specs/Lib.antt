@@ -1,1 +1,5 @@
-pub mod LineFacts
+pub mod Serving
+pub mod Expecting
+pub mod Rooms
+pub mod Moments
+pub mod Seating

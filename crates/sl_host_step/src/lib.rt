@@ -1,13 +1,11 @@
-//! The step of a host, as code: each function here is one of the functions of `sl_host_law` on a host's state.
+//! A host's step, whole, and whether an input may come to it.
 //!
-//! `before` has what is due before an input: the jobs whose calls are overdue are refused. `lines` has what a line makes due: replies at once, and the lines
-//! that make a call.
-//!
-//! What is not here yet: the other lines, answers, exits and starts as inputs, what a wake makes due, what comes last, and the whole step.
+//! `step` puts a step together: memory and numbers first (`rooms`), then what is due before the input, the input, a wake, what comes last. `line` has a
+//! step at a line. `expecting` says whether an input may come; that it is asked of what is kept is the law of `laws`.
 #![tactic(auto)]
 
-mod before;
-mod lines;
-
-pub use before::time_out_all;
-pub use lines::misread;
+mod expecting;
+pub mod laws;
+mod line;
+mod rooms;
+mod step;

@@ -1,0 +1,21 @@
+use Rattle.sl_host_answers.proofs.LeasesStand.{goes_further, goes_nowhere}
+use Rattle.sl_host_answers.proofs.leases.answer_lease_written.Goals as goal
+use Rattle.sl_host_answers.specs.Facts.{WorkKnown}
+use Rattle.sl_host_state.specs.Kept.{state_of}
+use Rattle.sl_trace.specs.declared.effects.Spot.{Spot}
+use Rattle.sl_trace.specs.declared.input.Answer.TheVariants.{Written}
+use Rattle.std.proofs.Common.{subst, sym, ◌∙◌}
+
+pub next_write-requires-clause-known : goal.next_write-requires-clause-known
+next_write-requires-clause-known c = let P : Spot → Type 0 = λ s. WorkKnown c.args.host.now.kept s c.args.call.now.session c.args.work c.args.step in subst P (sym c.area_of-at.ensures) c.requires.known
+
+pub returns-in-Some-clause-state : goal.returns-in-Some-clause-state
+returns-in-Some-clause-state c read =
+    let a = c.args in
+    let went = goes_further (state_of read a.host.now.kept) a.call.now a.work a.step Written a.call.now.session c.in-Some.who c.in-Some.next c.area_of-at.result c.area_of-at.ensures c.in-Some.ensures.exact in
+    c.carry_lease.ensures.state went.0 went.1 read ∙ went.2
+
+pub returns-in-None-clause-state : goal.returns-in-None-clause-state
+returns-in-None-clause-state c read =
+    let a = c.args in
+    goes_nowhere (state_of read a.host.now.kept) a.call.now a.work a.step Written a.call.now.session c.area_of-at.result c.area_of-at.ensures c.in-None.ensures.exact

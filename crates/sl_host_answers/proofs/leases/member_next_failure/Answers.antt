@@ -1,0 +1,24 @@
+use Rattle.sl_host_answers.proofs.leases.member_next_failure.Goals as goal
+use Rattle.sl_host_law.specs.Steps.Leases.{answered_next}
+use Rattle.sl_host_work.specs.Placed.{IsPlaced}
+use Rattle.sl_leases.specs.declared.lease.Aim.{Aim}
+use Rattle.sl_leases.specs.declared.lease.LeaseNext.{LeaseNext}
+use Rattle.sl_sessions.specs.declared.session.Session.{Session}
+use Rattle.sl_trace.specs.declared.input.Answer.TheVariants.{Failed}
+use Rattle.sl_whole_host.specs.Asking.{state_in}
+use Rattle.std.proofs.Common.{ap, refl, subst, sym, ◌∙◌}
+use Rattle.std.specs.Prelude.{Option, Some, option_map}
+
+pub returns-in-Some-clause-exact : goal.returns-in-Some-clause-exact
+returns-in-Some-clause-exact c =
+    let a = c.args in
+    let m = a.member.now.state in
+    let h = state_in a.host.now.kept in
+    let both : Session → LeaseNext → Option (Session × LeaseNext) = λ s n. Some (s, n) in
+    let found : Option Aim → Option (Session × LeaseNext) = λ o. option_map (λ aim. (m.who, answered_next h m a.at.now a.call.now aim a.step Failed)) o in
+    (λ i. both (c.who.ensures i) (c.next_after_failure.ensures.exact h m a.at.now a.step i)) ∙ ap found c.in-Some.ensures.exact
+
+pub returns-in-Some-clause-fit : goal.returns-in-Some-clause-fit
+returns-in-Some-clause-fit c =
+    let known = c.requires.known (c.in-Some.ensures.goes refl) in
+    (c.next_after_failure.ensures.fit, subst (λ (s : Session). IsPlaced c.args.host.now.kept.config.sizes s) (sym c.who.ensures) known.placed, known.area)

@@ -1,0 +1,7 @@
+pub mod Facts
+pub mod Requests
+pub mod Looks
+pub mod Leases
+pub mod Surveys
+pub mod Own
+pub mod Answering

@@ -1,0 +1,4 @@
+mod EndsStand
+mod HeardKnown
+mod LeavesStand
+mod SeatsStand

@@ -1,0 +1,6 @@
+use Rattle.sl_host_lines.proofs.line_ends.freed_of.Goals as goal
+use Rattle.sl_member.specs.Together.{member_with}
+use Rattle.std.proofs.Common.{ap, sym, ◌∙◌}
+
+pub freed_next-requires-clause-may : goal.freed_next-requires-clause-may
+freed_next-requires-clause-may c = c.requires.may _ (sym (c.in-Some.ensures.exact ∙ ap (member_with c.args.number) c.members.ensures.members))

@@ -1,0 +1,4 @@
+pub mod LineFacts
+pub mod Ending
+pub mod Leaving
+pub mod Seats

@@ -1,0 +1,12 @@
+pub mod BeforeStands
+pub mod Lessening
+pub mod PartsLessen
+pub mod Refused
+pub mod QuietBefore
+pub mod Runs
+pub mod Moments
+pub mod ProcessesStand
+pub mod WakingLessens
+pub mod Settling
+pub mod Spots
+pub mod Finishes

@@ -1,0 +1,24 @@
+use Rattle.sl_host_law.specs.Parts.Signals.{over}
+use Rattle.sl_host_law.specs.Steps.Passes.{at_member}
+use Rattle.sl_host_law.specs.Steps.Wakes.{settling_here}
+use Rattle.sl_host_passes.proofs.waking.settle_noted.Given as goal
+use Rattle.sl_host_passes.specs.Fewer.{SameLeases}
+use Rattle.sl_host_passes.specs.Knowing.{HasLeases, WakeKnown}
+use Rattle.sl_host_state.specs.Kept.{state_of}
+use Rattle.sl_trace.specs.declared.command.Command.{Command}
+use Rattle.sl_whole_host.specs.Host.{SameRun}
+use Rattle.std.proofs.Common.{List, Result, drop, length, ℕ, ◌*◌, ◌+◌, ◌≡◌, ◌≤◌}
+
+-- those from this place on are still to come
+abbrev pub invariant-loop-place : goal.invariant-loop-place
+invariant-loop-place l = record {
+  comes : (read : List ℕ → Result Command ℕ) → over l.spots.items (λ at. at_member l.fn.number (settling_here at)) (state_of read l.fn.host.kept) ≡ over (drop l.place l.spots.items) (λ at. at_member l.fn.number (settling_here at)) (state_of read l.host.kept);
+  run : SameRun l.fn.host l.host;
+  known : WakeKnown l.host.kept;
+  has : HasLeases l.fn.number l.spots.items l.host.kept.members;
+  same : SameLeases l.fn.host.kept.members l.host.kept.members;
+  room : 3 * length (drop l.place l.spots.items) ≤ l.host.left;
+  spent : l.fn.host.left + 3 * length (drop l.place l.spots.items) ≤ l.host.left + 3 * length l.spots.items;
+  calls : length (drop l.place l.spots.items) ≤ l.host.calls;
+  called : l.fn.host.calls + length (drop l.place l.spots.items) ≤ l.host.calls + length l.spots.items;
+}

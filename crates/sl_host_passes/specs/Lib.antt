@@ -1,0 +1,4 @@
+pub mod Fewer
+pub mod Knowing
+pub mod Calm
+pub mod Finishing

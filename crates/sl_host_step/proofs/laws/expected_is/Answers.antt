@@ -1,0 +1,5 @@
+use Rattle.sl_host_step.proofs.Expected as its
+use Rattle.sl_host_step.proofs.laws.expected_is.Goals as goal
+
+pub returns : goal.returns
+returns c = its.expected_is

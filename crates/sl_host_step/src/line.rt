@@ -1,0 +1,138 @@
+//! A line of a step: it is read, the memory that its command takes is made, then the step begins and the line is taken.
+
+ghost use Rattle.sl_area.specs.Layouts.{layout_of};
+ghost use Rattle.sl_deciding.specs.Lists.{FitsLists};
+ghost use Rattle.sl_host_lines.specs.Seats.{HasSeat};
+ghost use Rattle.sl_host_state.specs.Kept.{HostKept};
+ghost use Rattle.sl_host_step.specs.Moments.{AtEnd, AtInput, HasStepped, StepComes};
+ghost use Rattle.sl_host_step.specs.Rooms.{EndsWith, HasLeft, ScratchState, Suffices};
+ghost use Rattle.sl_host_step.specs.Seating.{HasPlace, MayBeSeated};
+ghost use Rattle.sl_host_step.specs.Serving.{IsIdle};
+ghost use Rattle.sl_trace.specs.Commands.{command_in, forms};
+ghost use Rattle.sl_trace.specs.declared.input.Input.TheVariants.{Line as LineOf};
+ghost use Rattle.sl_whole_host.specs.Host.{HostView};
+ghost use Rattle.std.specs.Prelude.{Err, IfOk, List, Ok, OnErr, ℕ, ◌≡◌, ◌≤◌};
+
+use crate::rooms::{Scratch, calls_for};
+use crate::step::{conclude, start};
+use sl_command::parse_command;
+use sl_deciding::Lists;
+use sl_host_lines::{misread, take_line};
+use sl_member::Member;
+use sl_trace::{Command, Effects};
+use sl_whole_host::Host;
+use std::alloc::{AllocError, Global};
+
+/// A line that says no command is taken.
+#[tactic(auto, using(crate::proofs::Coming::line_ends))]
+fn take_misread(host: &mut Host, column: u64)
+    requires at { (now : ℕ) × (text : List ℕ) × (first : HostKept) × AtInput now (LineOf text) first host.old.kept }
+    requires left { (first : HostView) × HasLeft first host.old }
+    ensures at { (now : ℕ) (text : List ℕ) (first : HostKept) → command_in (forms (layout_of first.config.sizes)) text ≡ Err column → AtInput now (LineOf text) first host.old.kept
+        → AtEnd now (LineOf text) first host.new.kept }
+    ensures left { (first : HostView) → HasLeft first host.old → EndsWith first host.new }
+{
+    misread(host, column);
+}
+
+/// A command that was read is taken.
+#[tactic(auto, using(crate::proofs::Coming::line_ends, crate::proofs::Lining::line_known_at))]
+fn take_command(
+    host: &mut Host,
+    scratch: &mut Scratch,
+    seat: Option<Member>,
+    lists: Lists,
+    command: Command,
+)
+    requires at { (now : ℕ) × (text : List ℕ) × (first : HostKept) × (command_in (forms (layout_of first.config.sizes)) text ≡ Ok command) × AtInput now (LineOf text) first host.old.kept }
+    requires left { (first : HostView) × HasLeft first host.old }
+    requires scratch { Suffices scratch.old host.old }
+    requires lists { FitsLists host.old.kept.config.sizes host.old.seats command lists }
+    requires seat { HasSeat host.old command seat }
+    ensures at { (now : ℕ) (text : List ℕ) (first : HostKept) → command_in (forms (layout_of first.config.sizes)) text ≡ Ok command → AtInput now (LineOf text) first host.old.kept
+        → AtEnd now (LineOf text) first host.new.kept }
+    ensures left { (first : HostView) → HasLeft first host.old → EndsWith first host.new }
+    ensures lists { host.new.seats ≤ scratch.new.members }
+    ensures blocks { scratch.new.blocks ≡ scratch.old.blocks }
+{
+    take_line(host, &mut scratch.jobs, seat, lists, Ok(command));
+}
+
+/// The member that a command joins with, if it does, with memory for as many leases as the step may make calls. An `Err` is want of memory.
+fn seat_for(alloc: Global, host: &Host, command: &Command) -> Result<Option<Member>, AllocError>
+    requires { MayBeSeated host.now.kept command.now }
+    ensures { IfOk result (HasPlace host.now command.now) }
+{
+    match command {
+        Command::AddLockspace(lockspace) => {
+            let leases = calls_for(host);
+            let member = host.seat(alloc, lockspace, host.next_job(), leases)?;
+            Ok(Some(member))
+        }
+        _ => Ok(None),
+    }
+}
+
+/// A step at a line that says no command: the column of the first word that doesn't fit is told.
+fn step_misread(
+    alloc: Global,
+    host: &mut Host,
+    scratch: &mut Scratch,
+    now: u64,
+    column: u64,
+) -> Result<Effects, AllocError>
+    requires comes { (text : List ℕ) × StepComes now (LineOf text) host.old.kept × (command_in (forms (layout_of host.old.kept.config.sizes)) text ≡ Err column) }
+    requires idle { IsIdle host.old }
+    ensures ok { (text : List ℕ) → StepComes now (LineOf text) host.old.kept → command_in (forms (layout_of host.old.kept.config.sizes)) text ≡ Err column
+        → IfOk result (λ fx. HasStepped now (LineOf text) host.old host.new fx) }
+    ensures err { OnErr result (host.new ≡ host.old) }
+    ensures blocks { scratch.new.blocks ≡ scratch.old.blocks }
+{
+    let begun = start(alloc, host, scratch, now)?;
+    take_misread(host, column);
+    Ok(conclude(host, scratch, begun.none, begun.is_loud))
+}
+
+/// A step at a command.
+#[tactic(auto, using(crate::proofs::Lining::may_be_seated, crate::proofs::Lining::seated))]
+fn step_command(
+    alloc: Global,
+    host: &mut Host,
+    scratch: &mut Scratch,
+    now: u64,
+    command: Command,
+) -> Result<Effects, AllocError>
+    requires comes { (text : List ℕ) × StepComes now (LineOf text) host.old.kept × (command_in (forms (layout_of host.old.kept.config.sizes)) text ≡ Ok command) }
+    requires idle { IsIdle host.old }
+    ensures ok { (text : List ℕ) → StepComes now (LineOf text) host.old.kept → command_in (forms (layout_of host.old.kept.config.sizes)) text ≡ Ok command
+        → IfOk result (λ fx. HasStepped now (LineOf text) host.old host.new fx) }
+    ensures err { OnErr result (host.new ≡ host.old) }
+    ensures blocks { scratch.new.blocks ≡ scratch.old.blocks }
+{
+    let lists = Lists::of(alloc, &host.config().geometry, host.seats(), &command)?;
+    let seat = seat_for(alloc, host, &command)?;
+    let begun = start(alloc, host, scratch, now)?;
+    take_command(host, scratch, seat, lists, command);
+    Ok(conclude(host, scratch, begun.none, begun.is_loud))
+}
+
+/// A step at a line.
+#[tactic(auto, using(crate::proofs::Lining::read_command, crate::proofs::Lining::read_column))]
+pub(crate) fn step_line(
+    alloc: Global,
+    host: &mut Host,
+    scratch: &mut Scratch,
+    now: u64,
+    text: &[u8],
+) -> Result<Effects, AllocError>
+    requires comes { StepComes now (LineOf text.now) host.old.kept }
+    requires idle { IsIdle host.old }
+    ensures ok { IfOk result (λ fx. HasStepped now (LineOf text.now) host.old host.new fx) }
+    ensures err { OnErr result (host.new ≡ host.old) }
+    ensures blocks { scratch.new.blocks ≡ scratch.old.blocks }
+{
+    match parse_command(text, &host.config().geometry) {
+        Err(bad) => step_misread(alloc, host, scratch, now, bad.column),
+        Ok(command) => step_command(alloc, host, scratch, now, command),
+    }
+}

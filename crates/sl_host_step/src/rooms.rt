@@ -1,0 +1,176 @@
+//! Memory for a step, which is taken before the first change: then nothing in it can fail.
+//!
+//! A step may have to do with each job, holding, lease and session: so much it has room for, of effects and of calls. The lists that it goes by
+//! keep their memory from step to step.
+
+ghost use Rattle.sl_host_step.specs.Rooms.{HasRoom, ScratchState, Suffices, are_many, calls_for, calls_within, counts_of, effects_within, left_for, room_end};
+ghost use Rattle.sl_host_step.specs.Serving.{IsIdle};
+ghost use Rattle.sl_trace.specs.Traces.{no_effects};
+ghost use Rattle.sl_whole_host.specs.Asking.{leases_in};
+ghost use Rattle.std.specs.Prelude.{IfOk, OnErr, OnOk, length, min, ◌<◌, ◌≡◌, ◌≤◌};
+
+use sl_area::Geometry;
+use sl_lease::Blocks;
+use sl_trace::{Grant, Spot};
+use sl_whole_host::{Buffers, Host, Notes};
+use std::alloc::{AllocError, Global};
+use std::marker::Model;
+
+/// More than this no step has room for.
+const ROOM_END: usize = 0x8000_0000;
+
+/// A host counts no more steps.
+const LAST_ENTRY: u64 = 0x8000_0000_0000_0000;
+
+/// Lists that a step goes by: numbers of members and jobs, areas, orphans, and the blocks of a read.
+#[derive(Drop)]
+pub(crate) struct Scratch {
+    pub(crate) members: Notes<u64>,
+    pub(crate) jobs: Notes<u64>,
+    pub(crate) spots: Notes<Spot>,
+    pub(crate) orphans: Notes<Grant>,
+    pub(crate) blocks: Blocks,
+    job_room: usize,
+}
+
+impl Model for Scratch {
+    ghost use Rattle.sl_host_step.specs.Rooms.{ScratchState};
+    ghost use Rattle.std.specs.Prelude.{length, ◌≤◌};
+
+    ghost Value = { ScratchState };
+
+    ghost view = { λ s. record { members = s.members.most; jobs = s.jobs.most; spots = s.spots.most; orphans = s.orphans.most; blocks = length s.blocks } };
+
+    ghost invariant = { λ s. s.job_room ≤ s.jobs.most };
+}
+
+impl Scratch {
+    /// Empty lists, and one block of each host. An `Err` is want of memory.
+    pub(crate) fn new(alloc: Global, geometry: &Geometry) -> Result<Scratch, AllocError>
+        ensures { IfOk result (λ s. s.blocks ≡ geometry.now.hosts) }
+    {
+        Ok(Scratch {
+            members: Notes::new(alloc),
+            jobs: Notes::new(alloc),
+            spots: Notes::new(alloc),
+            orphans: Notes::new(alloc),
+            blocks: Blocks::new(alloc, geometry.hosts())?,
+            job_room: 0,
+        })
+    }
+
+    /// Sees that there is memory for what the host keeps. An `Err` is want of memory.
+    fn reserve(&mut self, host: &Host, leases: usize) -> Result<(), AllocError>
+        requires jobs { length host.now.kept.jobs < room_end }
+        requires leases { leases_in host.now.kept.members ≤ leases }
+        ensures ok { OnOk result (Suffices self.new host.now) }
+        ensures blocks { self.new.blocks ≡ self.old.blocks }
+    {
+        let jobs = host.job_count() + 1;
+        self.members.reserve(host.seats())?;
+        self.jobs.reserve(jobs)?;
+        self.job_room = jobs;
+        self.spots.reserve(leases)?;
+        self.orphans.reserve(host.holding_count())
+    }
+
+    /// For how many jobs there is memory.
+    pub(crate) fn job_room(&self) -> usize
+        ensures { result ≤ self.now.jobs }
+    {
+        self.job_room
+    }
+}
+
+/// What a host has of that which a step may have to do with.
+#[derive(Clone, Copy)]
+struct Counts {
+    jobs: usize,
+    holdings: usize,
+    leases: usize,
+    seats: usize,
+}
+
+impl Counts {
+    /// Of this host.
+    fn of(host: &Host) -> Counts
+        ensures { result ≡ counts_of host.now }
+    {
+        Counts {
+            jobs: host.job_count(),
+            holdings: host.holding_count(),
+            leases: host.lease_count(),
+            seats: host.seats(),
+        }
+    }
+
+    /// Whether there is more of one than a step has room for.
+    fn are_many(self) -> bool
+        ensures { result ≡ are_many self }
+    {
+        self.jobs >= ROOM_END
+            || self.holdings >= ROOM_END
+            || self.leases >= ROOM_END
+            || self.seats >= ROOM_END
+    }
+
+    /// So many effects at most of each class but calls.
+    fn effects(self) -> usize
+        ensures { result ≡ min room_end (effects_within self.jobs self.holdings self.leases self.seats) }
+    {
+        if self.are_many() {
+            return ROOM_END;
+        }
+        let of_tables = 4 * self.jobs + 4 * self.holdings + 3 * self.leases;
+        ROOM_END.min(of_tables + 4 * self.seats + 16)
+    }
+
+    /// So many calls.
+    fn calls(self) -> usize
+        ensures { result ≡ min room_end (calls_within self.leases self.seats) }
+    {
+        if self.leases >= ROOM_END || self.seats >= ROOM_END {
+            return ROOM_END;
+        }
+        ROOM_END.min(self.leases + 4 * self.seats + 8)
+    }
+}
+
+/// So many effects a step makes at most of each class but calls.
+pub(crate) fn left_for(host: &Host) -> usize
+    ensures { result ≡ left_for host.now }
+{
+    Counts::of(host).effects()
+}
+
+/// So many calls.
+pub(crate) fn calls_for(host: &Host) -> usize
+    ensures { result ≡ calls_for host.now }
+{
+    Counts::of(host).calls()
+}
+
+/// Takes the memory of a step, and makes what stands in the place of its effects once they are taken out. An `Err` is want of memory, or of
+/// numbers of calls, jobs, children or steps, and changes nothing.
+pub(crate) fn take_room(
+    alloc: Global,
+    host: &mut Host,
+    scratch: &mut Scratch,
+) -> Result<Buffers, AllocError>
+    requires idle { IsIdle host.old }
+    requires made { host.old.kept.made ≡ no_effects }
+    ensures none { IfOk result (λ none. none ≡ record { made = no_effects; left = 0; calls = 0; most = 0; most_calls = 0 }) }
+    ensures ok { OnOk result (HasRoom host.old host.new × Suffices scratch.new host.old) }
+    ensures err { OnErr result (host.new ≡ host.old) }
+    ensures blocks { scratch.new.blocks ≡ scratch.old.blocks }
+{
+    let counts = Counts::of(host);
+    let (left, calls) = (counts.effects(), counts.calls());
+    if left >= ROOM_END || calls >= ROOM_END || host.entries() >= LAST_ENTRY {
+        return Err(AllocError);
+    }
+    let none = Buffers::new(alloc, 0, 0)?;
+    scratch.reserve(host, counts.leases)?;
+    host.reserve(alloc, left, calls)?;
+    Ok(none)
+}

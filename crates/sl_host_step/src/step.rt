@@ -1,0 +1,256 @@
+//! The whole step of a host: its memory is taken, then what is due before its input is done, what the input makes due, what a wake does, and what comes
+//! last.
+//!
+//! The memory is taken first: an `Err` has changed nothing, and behind it nothing can fail. The states that a step comes to are `AtInput`, `AtEnd`
+//! and `AllDone` of specs/Moments.antt; what each part asks of its host is known there, by the laws of a host's step.
+
+ghost use Rattle.sl_area.specs.Layouts.{layout_of};
+ghost use Rattle.sl_host_passes.specs.Fewer.{IsNoMore};
+ghost use Rattle.sl_host_state.specs.Kept.{HostKept};
+ghost use Rattle.sl_host_step.specs.Moments.{AllDone, AtEnd, AtInput, HasStepped, IsCalmed, IsOver, StepComes};
+ghost use Rattle.sl_host_step.specs.Rooms.{EndsWith, HasLeft, HasRoom, ScratchState, Suffices};
+ghost use Rattle.sl_host_step.specs.Serving.{IsIdle};
+ghost use Rattle.sl_trace.specs.Traces.{no_effects};
+ghost use Rattle.sl_trace.specs.declared.input.Input.TheVariants.{Exit as ExitOf, Number as NumberOf, Spawned as SpawnedOf, Wake as WakeOf};
+ghost use Rattle.sl_trace.specs.declared.input.Input.{Input as InputOf};
+ghost use Rattle.sl_whole_host.specs.Books.{AreFew};
+ghost use Rattle.sl_whole_host.specs.Host.{HostView, SameRun};
+ghost use Rattle.std.specs.Prelude.{IfOk, List, OnErr, length, ℕ, ◌*◌, ◌<◌, ◌^◌, ◌≡◌, ◌≤◌};
+
+use crate::rooms::{Scratch, take_room};
+use sl_host_passes::{begin_step, calm, exit, finish, spawned, wake};
+use sl_trace::Effects;
+use sl_whole_host::{Buffers, Host};
+use std::alloc::{AllocError, Global};
+
+/// The step comes to its input.
+#[tactic(auto, using(crate::proofs::KnownPasses::begin_known, crate::proofs::Coming::begins))]
+fn begin(host: &mut Host, scratch: &mut Scratch, now: u64)
+    requires comes { (i : InputOf) × StepComes now i host.old.kept }
+    requires room { (first : HostView) × HasRoom first host.old }
+    requires lists { Suffices scratch.old host.old }
+    ensures at { (i : InputOf) → StepComes now i host.old.kept → AtInput now i host.old.kept host.new.kept }
+    ensures left { (first : HostView) → HasRoom first host.old → HasLeft first host.new }
+    ensures lists { Suffices scratch.new host.new }
+    ensures blocks { scratch.new.blocks ≡ scratch.old.blocks }
+{
+    host.seats();
+    begin_step(host, &mut scratch.members, &mut scratch.jobs, now);
+    host.calls_left();
+}
+
+/// A wake: what is due by time to each session.
+#[tactic(auto, using(crate::proofs::KnownPasses::wake_known, crate::proofs::Comes::moment_at_input, crate::proofs::Coming::wake_ends))]
+fn take_wake(host: &mut Host, scratch: &mut Scratch)
+    requires at { (now : ℕ) × (first : HostKept) × AtInput now WakeOf first host.old.kept }
+    requires left { (first : HostView) × HasLeft first host.old }
+    requires lists { Suffices scratch.old host.old }
+    ensures at { (now : ℕ) (first : HostKept) → AtInput now WakeOf first host.old.kept → AtEnd now WakeOf first host.new.kept }
+    ensures left { (first : HostView) → HasLeft first host.old → EndsWith first host.new }
+    ensures lists { host.new.seats ≤ scratch.new.members }
+    ensures blocks { scratch.new.blocks ≡ scratch.old.blocks }
+{
+    host.seats();
+    wake(host, &mut scratch.members, &mut scratch.spots);
+}
+
+/// A process has exited.
+#[tactic(auto, using(crate::proofs::KnownPasses::holds_once, crate::proofs::Comes::moment_at_input, crate::proofs::Coming::exit_ends))]
+fn take_exit(host: &mut Host, scratch: &mut Scratch, process: u32)
+    requires at { (now : ℕ) × (first : HostKept) × AtInput now (ExitOf process) first host.old.kept }
+    requires left { (first : HostView) × HasLeft first host.old }
+    requires lists { Suffices scratch.old host.old }
+    ensures at { (now : ℕ) (first : HostKept) → AtInput now (ExitOf process) first host.old.kept → AtEnd now (ExitOf process) first host.new.kept }
+    ensures left { (first : HostView) → HasLeft first host.old → EndsWith first host.new }
+    ensures lists { host.new.seats ≤ scratch.new.members }
+    ensures blocks { scratch.new.blocks ≡ scratch.old.blocks }
+{
+    exit(host, &mut scratch.orphans, &mut scratch.jobs, process);
+}
+
+/// The start of a child is answered.
+#[tactic(auto, using(crate::proofs::KnownPasses::holds_once, crate::proofs::KnownPasses::starts_some, crate::proofs::Comes::moment_at_input, crate::proofs::Coming::start_ends))]
+fn take_start(host: &mut Host, scratch: &mut Scratch, process: u32, ok: bool)
+    requires at { (now : ℕ) × (first : HostKept) × AtInput now (SpawnedOf process ok) first host.old.kept }
+    requires left { (first : HostView) × HasLeft first host.old }
+    requires lists { Suffices scratch.old host.old }
+    ensures at { (now : ℕ) (first : HostKept) → AtInput now (SpawnedOf process ok) first host.old.kept → AtEnd now (SpawnedOf process ok) first host.new.kept }
+    ensures left { (first : HostView) → HasLeft first host.old → EndsWith first host.new }
+    ensures lists { host.new.seats ≤ scratch.new.members }
+    ensures blocks { scratch.new.blocks ≡ scratch.old.blocks }
+{
+    spawned(host, &mut scratch.orphans, process, ok);
+}
+
+/// A line takes a number alone.
+#[tactic(auto, using(crate::proofs::Coming::number_ends))]
+fn take_number(host: &mut Host)
+    requires at { (now : ℕ) × (text : List ℕ) × (first : HostKept) × AtInput now (NumberOf text) first host.old.kept }
+    requires left { (first : HostView) × HasLeft first host.old }
+    ensures at { (now : ℕ) (text : List ℕ) (first : HostKept) → AtInput now (NumberOf text) first host.old.kept → AtEnd now (NumberOf text) first host.new.kept }
+    ensures left { (first : HostView) → HasLeft first host.old → EndsWith first host.new }
+{
+    host.number_line();
+}
+
+/// What comes last of each session.
+#[tactic(auto, using(crate::proofs::KnownPasses::finish_known, crate::proofs::Comes::moment_at_end, crate::proofs::Coming::finish_ends))]
+fn end(host: &mut Host, scratch: &mut Scratch)
+    requires at { (now : ℕ) × (i : InputOf) × (first : HostKept) × AtEnd now i first host.old.kept }
+    requires left { (first : HostView) × EndsWith first host.old }
+    requires lists { host.old.seats ≤ scratch.old.members }
+    ensures done { (now : ℕ) (i : InputOf) (first : HostKept) → AtEnd now i first host.old.kept → AllDone now i first host.new.kept }
+    ensures most { (host.new.most ≡ host.old.most) × (host.new.most_calls ≡ host.old.most_calls) × (host.new.seats ≡ host.old.seats) }
+    ensures blocks { scratch.new.blocks ≡ scratch.old.blocks }
+{
+    host.seats();
+    finish(host, &mut scratch.members);
+}
+
+/// Where something was due by time, it is worked out anew how long nothing is.
+#[tactic(auto, using(crate::proofs::KnownPasses::jobs_apart, crate::proofs::Comes::moment_when_done, crate::proofs::Coming::stays_calm, crate::proofs::Coming::grows_calm))]
+fn grow_calm(host: &mut Host, scratch: &mut Scratch, is_loud: bool)
+    requires done { (now : ℕ) × (i : InputOf) × (first : HostKept) × AllDone now i first host.old.kept }
+    ensures calm { IsCalmed host.old.kept host.new.kept }
+    ensures run { SameRun host.old host.new }
+    ensures blocks { scratch.new.blocks ≡ scratch.old.blocks }
+{
+    if is_loud && host.job_count() <= scratch.job_room() {
+        calm(host, &mut scratch.jobs);
+    }
+}
+
+/// The effects are taken out.
+#[tactic(auto, using(crate::proofs::Coming::rests))]
+fn rest(host: &mut Host, none: Buffers) -> Effects
+    requires done { (now : ℕ) × (i : InputOf) × (first : HostKept) × (k : HostKept) × AllDone now i first k × IsCalmed k host.old.kept }
+    requires none { none ≡ record { made = no_effects; left = 0; calls = 0; most = 0; most_calls = 0 } }
+    ensures over { (now : ℕ) (i : InputOf) (first k : HostKept) → AllDone now i first k → IsCalmed k host.old.kept → IsOver now i first host.new.kept result }
+    ensures few { AreFew host.old.most host.old.most_calls result }
+    ensures idle { IsIdle host.new }
+    ensures seats { host.new.seats ≡ host.old.seats }
+{
+    host.rest(none)
+}
+
+/// What comes behind an input, to the step's end.
+pub(crate) fn conclude(
+    host: &mut Host,
+    scratch: &mut Scratch,
+    none: Buffers,
+    is_loud: bool,
+) -> Effects
+    requires at { (now : ℕ) × (i : InputOf) × (first : HostKept) × AtEnd now i first host.old.kept }
+    requires left { (first : HostView) × EndsWith first host.old }
+    requires lists { host.old.seats ≤ scratch.old.members }
+    requires none { none ≡ record { made = no_effects; left = 0; calls = 0; most = 0; most_calls = 0 } }
+    ensures stepped { (now : ℕ) (i : InputOf) (first : HostView) → AtEnd now i first.kept host.old.kept → EndsWith first host.old → HasStepped now i first host.new result }
+    ensures blocks { scratch.new.blocks ≡ scratch.old.blocks }
+{
+    end(host, scratch);
+    grow_calm(host, scratch, is_loud);
+    rest(host, none)
+}
+
+/// What stands in the place of a step's effects once they are taken out, and whether something may be due by time in it.
+#[derive(Drop)]
+pub(crate) struct Begun {
+    pub(crate) none: Buffers,
+    pub(crate) is_loud: bool,
+}
+
+/// Takes the memory of a step, and brings it to its input. An `Err` is want of memory or of numbers, and changes nothing.
+pub(crate) fn start(
+    alloc: Global,
+    host: &mut Host,
+    scratch: &mut Scratch,
+    now: u64,
+) -> Result<Begun, AllocError>
+    requires comes { (i : InputOf) × StepComes now i host.old.kept }
+    requires idle { IsIdle host.old }
+    ensures none { IfOk result (λ b. b.none ≡ record { made = no_effects; left = 0; calls = 0; most = 0; most_calls = 0 }) }
+    ensures at { (i : InputOf) → StepComes now i host.old.kept → IfOk result (λ b. AtInput now i host.old.kept host.new.kept) }
+    ensures left { IfOk result (λ b. HasLeft host.old host.new × Suffices scratch.new host.new) }
+    ensures err { OnErr result (host.new ≡ host.old) }
+    ensures blocks { scratch.new.blocks ≡ scratch.old.blocks }
+{
+    let is_loud = host.quiet_until() <= now;
+    let none = take_room(alloc, host, scratch)?;
+    begin(host, scratch, now);
+    Ok(Begun { none, is_loud })
+}
+
+/// A wake.
+pub(crate) fn step_wake(
+    alloc: Global,
+    host: &mut Host,
+    scratch: &mut Scratch,
+    now: u64,
+) -> Result<Effects, AllocError>
+    requires comes { StepComes now WakeOf host.old.kept }
+    requires idle { IsIdle host.old }
+    ensures ok { IfOk result (λ fx. HasStepped now WakeOf host.old host.new fx) }
+    ensures err { OnErr result (host.new ≡ host.old) }
+    ensures blocks { scratch.new.blocks ≡ scratch.old.blocks }
+{
+    let begun = start(alloc, host, scratch, now)?;
+    take_wake(host, scratch);
+    Ok(conclude(host, scratch, begun.none, begun.is_loud))
+}
+
+/// An exit.
+pub(crate) fn step_exit(
+    alloc: Global,
+    host: &mut Host,
+    scratch: &mut Scratch,
+    now: u64,
+    process: u32,
+) -> Result<Effects, AllocError>
+    requires comes { StepComes now (ExitOf process) host.old.kept }
+    requires idle { IsIdle host.old }
+    ensures ok { IfOk result (λ fx. HasStepped now (ExitOf process) host.old host.new fx) }
+    ensures err { OnErr result (host.new ≡ host.old) }
+    ensures blocks { scratch.new.blocks ≡ scratch.old.blocks }
+{
+    let begun = start(alloc, host, scratch, now)?;
+    take_exit(host, scratch, process);
+    Ok(conclude(host, scratch, begun.none, begun.is_loud))
+}
+
+/// The answer to a start.
+pub(crate) fn step_start(
+    alloc: Global,
+    host: &mut Host,
+    scratch: &mut Scratch,
+    now: u64,
+    process: u32,
+    ok: bool,
+) -> Result<Effects, AllocError>
+    requires comes { StepComes now (SpawnedOf process ok) host.old.kept }
+    requires idle { IsIdle host.old }
+    ensures ok { IfOk result (λ fx. HasStepped now (SpawnedOf process ok) host.old host.new fx) }
+    ensures err { OnErr result (host.new ≡ host.old) }
+    ensures blocks { scratch.new.blocks ≡ scratch.old.blocks }
+{
+    let begun = start(alloc, host, scratch, now)?;
+    take_start(host, scratch, process, ok);
+    Ok(conclude(host, scratch, begun.none, begun.is_loud))
+}
+
+/// A line that takes a number alone.
+pub(crate) fn step_number(
+    alloc: Global,
+    host: &mut Host,
+    scratch: &mut Scratch,
+    now: u64,
+) -> Result<Effects, AllocError>
+    requires comes { (text : List ℕ) × StepComes now (NumberOf text) host.old.kept }
+    requires idle { IsIdle host.old }
+    ensures ok { (text : List ℕ) → StepComes now (NumberOf text) host.old.kept → IfOk result (λ fx. HasStepped now (NumberOf text) host.old host.new fx) }
+    ensures err { OnErr result (host.new ≡ host.old) }
+    ensures blocks { scratch.new.blocks ≡ scratch.old.blocks }
+{
+    let begun = start(alloc, host, scratch, now)?;
+    take_number(host);
+    Ok(conclude(host, scratch, begun.none, begun.is_loud))
+}
