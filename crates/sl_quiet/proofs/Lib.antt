@@ -5,3 +5,4 @@ pub mod Stay
 pub mod Area
 pub mod Along
 pub mod Denied
+pub mod Start

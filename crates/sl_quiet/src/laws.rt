@@ -5,5 +5,6 @@ pub mod area;
 pub mod course;
 pub mod denied;
 pub mod read;
+pub mod start;
 pub mod stay;
 pub mod step;

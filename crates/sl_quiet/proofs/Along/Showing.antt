@@ -58,16 +58,16 @@ same_number a b h = grind (arith, tests)
 up_to : (k n : ℕ) → k < 1 + n → k ≤ n
 up_to k n h = omega (arith, h)
 
-each_shows : (w : World) (q : Asked) (stage : Stage) (call : ℕ) (own : Block) → AreaOnCourse w q stage call → own_at q stage ≡ Some own → AllByRecursion (λ (b : Block). b.lver < own.lver) q.blocks
+each_shows : (w : World) (q : Asked) (stage : Stage) (number made : ℕ) (own : Block) → AreaOnCourse w q stage number made → own_at q stage ≡ Some own → AllByRecursion (λ (b : Block). b.lver < own.lver) q.blocks
     → (k : ℕ) → 1 ≤ k → k < 1 + w.layout.hosts → Shows own (block_there w (spot_of q.resource) k)
-each_shows w q stage call own area is below k low high =
+each_shows w q stage number made own area is below k low high =
     elim (true_or_false (k == q.session.id)) as (λ z. Shows own (block_there w (spot_of q.resource) k)) [
       | inl mine ↦ inl (ap (λ n. block_there w (spot_of q.resource) n) (same_number k q.session.id mine) ∙ area.own own is)
       | inr other ↦
           let b = area.others k low (up_to k w.layout.hosts high) (λ same. true_is_false (sym (eq-eqb k q.session.id same) ∙ other)) in
-          inr (b.0, b.2, all_has (λ (x : Block). x.lver < own.lver) q.blocks b.0 below b.1)
+          inr (q.block_of k, b.1, all_has (λ (x : Block). x.lver < own.lver) q.blocks (q.block_of k) below b.0)
     ]
 
 pub areas_show_own : AreasShowOwn
-areas_show_own w q stage call own area is below =
-    let r = shown (block_there w (spot_of q.resource)) own 1 w.layout.hosts (each_shows w q stage call own area is below) in (r.blocks, r.same, r.alone)
+areas_show_own w q stage number made own area is below =
+    let r = shown (block_there w (spot_of q.resource)) own 1 w.layout.hosts (each_shows w q stage number made own area is below) in (r.blocks, r.same, r.alone)

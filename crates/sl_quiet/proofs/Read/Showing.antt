@@ -30,7 +30,7 @@ first_in a n = omega arith
 next_in : (a k n : ℕ) → a + 1 ≤ k → k < (a + 1) + n → (a ≤ k) × (k < a + suc n)
 next_in a k n low high = (omega (arith, low), omega (arith, high))
 
-same_on : {A : Type 0} (f g : ℕ → A) (a n : ℕ) → ((k : ℕ) → a ≤ k → k < a + n → f k ≡ g k) → map f (range_with_len a n) ≡ map g (range_with_len a n)
+pub same_on : {A : Type 0} (f g : ℕ → A) (a n : ℕ) → ((k : ℕ) → a ≤ k → k < a + n → f k ≡ g k) → map f (range_with_len a n) ≡ map g (range_with_len a n)
 same_on f g a zero h = refl
 same_on f g a (suc n) h =
     ap (λ x. x ∷ map f (range_with_len (a + 1) n)) (h a (least_is a) (first_in a n))

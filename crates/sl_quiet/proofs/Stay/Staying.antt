@@ -32,7 +32,7 @@ use Rattle.std.specs.Prelude.{Bool, Contains, List, None, Option, Some, [], fals
 
 -- ---- two filters
 
-abbrev both_kept : (Submitted → Bool) → (Submitted → Bool) → List Submitted → List Submitted
+abbrev pub both_kept : (Submitted → Bool) → (Submitted → Bool) → List Submitted → List Submitted
 both_kept r q ms = filter q (filter r ms)
 
 unfold_one : (r q : Submitted → Bool) (x : Submitted) (ms : List Submitted) (b : Bool)
@@ -49,7 +49,7 @@ dropped : (r q : Submitted → Bool) (x : Submitted) (ms : List Submitted) → (
 dropped r q x ms h = unfold_one r q x ms (r x) ∙ dropped_by x (both_kept r q ms) (r x) (q x) h
 
 -- New calls that are not of these leave them.
-none_new : (r q : Submitted → Bool) (at reading : ℕ) (cs : List Call) (ms : List Submitted)
+pub none_new : (r q : Submitted → Bool) (at reading : ℕ) (cs : List Call) (ms : List Submitted)
     → ((c : Call) → Contains cs c → r (new_call at reading c) ≡ true → q (new_call at reading c) ≡ true → ⊥)
     → both_kept r q (fold (λ ms c. new_call at reading c ∷ ms) ms cs) ≡ both_kept r q ms
 none_new r q at reading [] ms h = refl
@@ -80,7 +80,7 @@ same_number : (a b : ℕ) → (a == b) ≡ true → a ≡ b
 same_number a b h = grind (arith, tests)
 
 -- One that is answered already, or has another number, is left.
-left_alone : (es : Trace) (e : Entry) (n : ℕ) (a : Answer) (m : Submitted) → (m.call.number ≡ n → m.answer ≡ None → ⊥) → answered_in es e n a m ≡ m
+pub left_alone : (es : Trace) (e : Entry) (n : ℕ) (a : Answer) (m : Submitted) → (m.call.number ≡ n → m.answer ≡ None → ⊥) → answered_in es e n a m ≡ m
 left_alone es e n a m h = kept_by es e a m (m.call.number == n) (λ is. h (same_number m.call.number n is))
 
 step_by : (x y : Submitted) (zs ws : List Submitted) (b b' c c' : Bool) → b' ≡ b → c' ≡ c → (b ≡ true → c ≡ true → y ≡ x) → ws ≡ zs
@@ -102,7 +102,7 @@ mapped r q f hr hq (x ∷ ms) h =
     (mapped r q f hr hq ms (λ m has. h m (contains_more x ms m has)))
     ∙ sym (unfold_one r q x ms (r x))
 
-marked_by : (r q : Submitted → Bool) (es : Trace) (e : Entry) (i : Input) → ((m n : Submitted) → m.call ≡ n.call → r m ≡ r n) → ((m n : Submitted) → m.call ≡ n.call → q m ≡ q n)
+pub marked_by : (r q : Submitted → Bool) (es : Trace) (e : Entry) (i : Input) → ((m n : Submitted) → m.call ≡ n.call → r m ≡ r n) → ((m n : Submitted) → m.call ≡ n.call → q m ≡ q n)
     → (ms : List Submitted) → ((n : ℕ) (a : Answer) → i ≡ Told n a → (m : Submitted) → Contains ms m → r m ≡ true → q m ≡ true → m.call.number ≡ n → m.answer ≡ None → ⊥)
     → both_kept r q (mark es e i ms) ≡ both_kept r q ms
 marked_by r q es e (Told n a) hr hq ms h =
@@ -173,7 +173,7 @@ even : (a b : Bool) (n : ℕ) → (n == 0) ≡ a → (a && b) ≡ true → n ≡
 even true b n is h = same_number n 0 is
 even false b n is h = absurd (false_is_true h)
 
-spot_is : (g : Layout) (at : Spot) (m : Submitted) → at.base % g.area ≡ 0 → is_on g at m.call ≡ true → spot_of_call g m ≡ at
+pub spot_is : (g : Layout) (at : Spot) (m : Submitted) → at.base % g.area ≡ 0 → is_on g at m.call ≡ true → spot_of_call g m ≡ at
 spot_is g at m even_base on =
     let c : Submitted = new_call 0 0 (record m.call { path = at.path; offset = at.base }) in
     let same : spot_of_call g c ≡ at = ap (λ n. let z : Spot = record { path = at.path; base = n } in z) (none_off at.base (at.base % g.area) even_base) in
@@ -218,7 +218,7 @@ waits_of st past s at d has =
     let both = and_true (is_lease_call d) (is_on st.layout at d.call) one.1 in
     record { there = two.0; mine = two.1; lease = both.0; on = both.1 }
 
-lease_is_work : (p : Purpose) → is_some (lease_step p) ≡ true → is_area_work p ≡ true
+pub lease_is_work : (p : Purpose) → is_some (lease_step p) ≡ true → is_area_work p ≡ true
 lease_is_work (Lease work step) h = refl
 lease_is_work (Joining j step) h = absurd (false_is_true h)
 lease_is_work Renewal h = absurd (false_is_true h)

@@ -1,23 +1,26 @@
 -- What is carried from event to event of a quiet acquire: at which call of its course it is, what that call is, and what the area holds.
-use Rattle.sl_area.specs.Places.{block_offset, leader_offset}
-use Rattle.sl_leases.specs.Ballots.{moded_block}
-use Rattle.sl_leases.specs.Counts.{held_here}
-use Rattle.sl_leases.specs.Leases.{is_on, lease_calls, spot_of}
+use Rattle.sl_area.specs.Places.{block_offset, in_area, is_base, leader_offset}
+use Rattle.sl_due.specs.Due.{IsHostTrace}
+use Rattle.sl_law.specs.Lawful.{IsSetting}
+use Rattle.sl_leases.specs.Ballots.{in_instance, moded_block, next_mbal}
+use Rattle.sl_leases.specs.Jobs.{command_numbered}
+use Rattle.sl_leases.specs.LeaseWork.{lease_place}
+use Rattle.sl_leases.specs.Leases.{block_submitted, freed, is_leader_of, lease_calls, own_or_read, spot_of, verified_name}
+use Rattle.sl_quiet.specs.Area.Calm.{IsCalm}
 use Rattle.sl_quiet.specs.Course.Course.{Same, first_block, second_block}
 use Rattle.sl_quiet.specs.Course.Quietly.{StandsAlone, all_whole}
 use Rattle.sl_quiet.specs.Read.Standing.{blocks_there}
-use Rattle.sl_report.specs.Headline.{SoundRun}
-use Rattle.sl_run.specs.Quiet.{QuietIsGranted, job_calls, leader_there}
-use Rattle.sl_run.specs.Runs.{Happening}
-use Rattle.sl_run.specs.Safety.{LawfulRun, block_there}
-use Rattle.sl_run.specs.Worlds.{Course, Daemon, Machine, Program, World, is_open, is_write_course, machine_at, world_with}
-use Rattle.sl_run.specs.declared.header.Header.{Header}
+use Rattle.sl_quiet.specs.Stay.Staying.{IsOfOthers}
+use Rattle.sl_run.specs.Quiet.{job_calls, leader_there}
+use Rattle.sl_run.specs.Safety.{block_there}
+use Rattle.sl_run.specs.Worlds.{Daemon, Landing, Machine, Stamp, World, machine_at}
+use Rattle.sl_run_law.specs.Course.Stamping.{stamp_in}
 use Rattle.sl_sector.specs.declared.sector.Block.{Block}
 use Rattle.sl_sector.specs.declared.sector.Leader.{Leader}
 use Rattle.sl_sector.specs.declared.sector.Rec.TheVariants.{BlockIs, LeaderIs}
 use Rattle.sl_sessions.specs.declared.session.Session.{Session}
-use Rattle.sl_sessions.specs.Sessions.{is_active, session_named, session_numbered}
-use Rattle.sl_trace.specs.Traces.{Setting, Submitted, Trace, is_answered_ok, is_of_job, line_in, next_job, reply_to, submitted}
+use Rattle.sl_sessions.specs.Sessions.{is_active, me, session_numbered}
+use Rattle.sl_trace.specs.Traces.{Setting, Submitted, Trace, is_answered_ok, reply_to}
 use Rattle.sl_trace.specs.declared.command.Command.TheVariants.{Acquire}
 use Rattle.sl_trace.specs.declared.command.ResourceArg.{ResourceArg}
 use Rattle.sl_trace.specs.declared.effects.Entry.{Entry}
@@ -27,32 +30,10 @@ use Rattle.sl_trace.specs.declared.effects.Op.TheVariants.{ReadSectors, WriteRec
 use Rattle.sl_trace.specs.declared.effects.Op.{Op}
 use Rattle.sl_trace.specs.declared.effects.Purpose.TheVariants.{Lease}
 use Rattle.sl_trace.specs.declared.effects.Work.TheVariants.{ForJob}
-use Rattle.sl_trace.specs.declared.input.Answer.{Answer}
-use Rattle.sl_trace.specs.declared.input.Input.TheVariants.{Answer as Told, Exit, Spawned, Wake}
-use Rattle.sl_leases.specs.Jobs.{child_of_job, command_numbered, job_of_start}
+use Rattle.sl_trace.specs.declared.input.Input.TheVariants.{Exit}
+use Rattle.sl_words.specs.Bounds.{record_numbers}
 use Rattle.std.specs.List.{AllByRecursion}
-use Rattle.std.specs.Prelude.{Bool, Contains, IsSome, IsTrue, List, None, Option, Some, [], false, length, true, ℕ, ◌&&◌, ◌++◌, ◌+◌, ◌<◌, ◌∷◌, ◌≡◌, ◌≤◌}
-
--- ---- what is needed of every trace that does what is due, beside its laws and causes
-
--- The entry concerns the job: it is its line, answers a call of it, tells of its process or its child, or is a wake or the time before
--- the input.
-pub data Concerns (st : Setting) (past : Trace) (e : Entry) (j : ℕ) : Type 0 where
-  At_line : IsSome (line_in e.input) → next_job st past ≡ j → Concerns st past e j
-  At_answer : (m : Submitted) (n : ℕ) (a : Answer) → Contains (submitted past) m → IsTrue (is_of_job j m) → m.call.number ≡ n → e.input ≡ Told n a → Concerns st past e j
-  At_exit : (p : ℕ) → e.input ≡ Exit p → Concerns st past e j
-  At_start : (p : ℕ) (ok : Bool) → e.input ≡ Spawned p ok → job_of_start past p ≡ Some j → Concerns st past e j
-  On_wake : e.input ≡ Wake → Concerns st past e j
-
--- What an acquire's job does, in any trace of a host: its calls are its lease's, nobody is answered before asking.
-pub record AcquireFacts (st : Setting) (es : Trace) (s : Session) (r : ResourceArg) (j : ℕ) : Type 0 where
-  -- each call of the job works on its lease
-  pub fits : (m : Submitted) → Contains (submitted es) m → IsTrue (is_of_job j m) →
-      (step : LeaseStep) × (m.call.purpose ≡ Lease (ForJob j) step) × Contains (lease_calls st es s (spot_of r)) m
-  -- it starts no child
-  pub childless : child_of_job es j ≡ None
-  -- a job that hasn't begun has no call and no reply
-  pub unbegun : next_job st es ≤ j → (reply_to es j ≡ None) × ((m : Submitted) → Contains (submitted es) m → IsTrue (is_of_job j m) → ⊥)
+use Rattle.std.specs.Prelude.{Bool, Contains, IsTrue, List, None, Option, Some, [], false, is_some, map, true, ℕ, ◌++◌, ◌+◌, ◌<◌, ◌∷◌, ◌≡◌, ◌≤◌, ◌⊎◌}
 
 -- ---- the course
 
@@ -67,16 +48,28 @@ pub data Stage : Type 0 where
   Sets_mode : Stage
   Frees_leader : Stage
 
--- How many calls have been made.
-abbrev pub calls_made : Stage → ℕ
-calls_made Reads_area = 1
-calls_made Writes_first = 2
-calls_made Reads_first = 3
-calls_made Writes_second = 4
-calls_made Reads_second = 5
-calls_made Takes_leader = 6
-calls_made Sets_mode = 7
-calls_made Frees_leader = 8
+-- The stages before, the newest first.
+abbrev pub stages_before : Stage → List Stage
+stages_before Reads_area = []
+stages_before Writes_first = Reads_area ∷ []
+stages_before Reads_first = Writes_first ∷ Reads_area ∷ []
+stages_before Writes_second = Reads_first ∷ Writes_first ∷ Reads_area ∷ []
+stages_before Reads_second = Writes_second ∷ Reads_first ∷ Writes_first ∷ Reads_area ∷ []
+stages_before Takes_leader = Reads_second ∷ Writes_second ∷ Reads_first ∷ Writes_first ∷ Reads_area ∷ []
+stages_before Sets_mode = Takes_leader ∷ Reads_second ∷ Writes_second ∷ Reads_first ∷ Writes_first ∷ Reads_area ∷ []
+stages_before Frees_leader = Sets_mode ∷ Takes_leader ∷ Reads_second ∷ Writes_second ∷ Reads_first ∷ Writes_first ∷ Reads_area ∷ []
+
+-- The stage that comes next, if one does: exclusive mode ends with the leader taken.
+abbrev pub stage_next : Bool → Stage → Option Stage
+stage_next shared Reads_area = Some Writes_first
+stage_next shared Writes_first = Some Reads_first
+stage_next shared Reads_first = Some Writes_second
+stage_next shared Writes_second = Some Reads_second
+stage_next shared Reads_second = Some Takes_leader
+stage_next false Takes_leader = None
+stage_next true Takes_leader = Some Sets_mode
+stage_next shared Sets_mode = Some Frees_leader
+stage_next shared Frees_leader = None
 
 -- The acquire, and what stood there when it began.
 pub record Asked : Type 0 where
@@ -91,6 +84,7 @@ pub record Asked : Type 0 where
   pub leader : Leader
   -- of all hosts, by their numbers
   pub blocks : List Block
+  pub block_of : ℕ → Block
   -- the own block: submitted last, else the one that stands there
   pub own : Block
   -- the lease's calls of before
@@ -153,6 +147,45 @@ own_at q Reads_first = Some (first_of_asked q)
 own_at q Reads_second = Some (second_of_asked q)
 own_at q stage = None
 
+-- The call at a stage.
+pub record IsCallAt (q : Asked) (stage : Stage) (m : Submitted) : Type 0 where
+  pub purpose : m.call.purpose ≡ Lease (ForJob q.job) (step_at q stage)
+  pub op : m.call.op ≡ op_at q stage
+  pub path : m.call.path ≡ q.resource.path
+  pub offset : m.call.offset ≡ offset_at q stage
+
+-- These are the calls at these stages, and each was answered ok.
+abbrev pub AllDone : Asked → List Stage → List Submitted → Type 0
+AllDone q [] [] = Unit {0}
+AllDone q [] (m ∷ ms) = ⊥
+AllDone q (stage ∷ stages) [] = ⊥
+AllDone q (stage ∷ stages) (m ∷ ms) = IsCallAt q stage m × (is_answered_ok m ≡ true) × AllDone q stages ms
+
+-- What the acquire is in its daemon's setting, all along.
+pub record IsAskedOf (st : Setting) (q : Asked) : Type 0 where
+  pub lockspace : q.session.lockspace ≡ q.resource.lockspace
+  pub place : q.same.place ≡ lease_place st q.session
+  pub id : q.same.self.id ≡ q.session.id
+  pub answered : AllByRecursion (λ m. is_some m.answer ≡ true) q.before
+  pub host : (1 ≤ q.session.id) × (q.session.id ≤ st.layout.hosts)
+  pub base : IsTrue (is_base st.layout q.resource.offset)
+  pub free : q.leader.held ≡ false
+  pub names : IsTrue (is_leader_of st.layout q.resource.lockspace q.resource.name q.leader)
+  pub below : AllByRecursion (λ b. b.lver ≤ q.leader.lver) q.blocks
+  -- the own block, and the frees of before
+  pub own_is : own_or_read q.session.id (block_submitted q.before) (all_whole q.blocks) ≡ Some q.own
+  pub own_low : q.own.lver ≤ q.leader.lver + 1
+  pub unaccepted : q.own.lver ≡ q.leader.lver + 1 → q.own.bal ≡ 0
+  pub freed_low : freed q.before ≤ q.leader.lver
+  pub lver : q.leader.lver + 1 < record_numbers
+  pub mbal : next_mbal st.layout.hosts q.session.id (map (λ b. b.mbal) (in_instance (q.leader.lver + 1) (q.own ∷ []))) < record_numbers
+
+-- The last two stages are of shared mode alone.
+abbrev pub IsOfMode : Bool → Stage → Type 0
+IsOfMode shared Sets_mode = shared ≡ true
+IsOfMode shared Frees_leader = shared ≡ true
+IsOfMode shared stage = Unit {0}
+
 -- The daemon while the acquire is at a call: it is unanswered, and what came before it was answered ok.
 pub record DaemonOnCourse (st : Setting) (es : Trace) (q : Asked) (stage : Stage) : Type 0 where
   pub call : Submitted
@@ -160,42 +193,55 @@ pub record DaemonOnCourse (st : Setting) (es : Trace) (q : Asked) (stage : Stage
   pub command : command_numbered st es q.job ≡ Some (Acquire q.resource q.shared q.process q.persistent)
   pub runs : reply_to es q.job ≡ None
   pub calls : job_calls es q.job ≡ call ∷ older
-  pub count : length (call ∷ older) ≡ calls_made stage
-  pub lease : lease_calls st es q.session (spot_of q.resource) ≡ (call ∷ older) ++ q.before
+  pub lease : lease_calls st es q.session (spot_of q.resource) ≡ call ∷ (older ++ q.before)
   pub waits : call.answer ≡ None
-  pub done : AllByRecursion (λ m. is_answered_ok m ≡ true) older
-  pub is : (call.call.purpose ≡ Lease (ForJob q.job) (step_at q stage)) × (call.call.op ≡ op_at q stage)
-      × (call.call.path ≡ q.resource.path) × (call.call.offset ≡ offset_at q stage)
-  pub session : (session_numbered st es q.session.number ≡ Some q.session) × (session_named st es q.resource.lockspace ≡ Some q.session)
+  pub mode : IsOfMode q.shared stage
+  pub is : IsCallAt q stage call
+  pub done : AllDone q (stages_before stage) older
+  pub session : session_numbered st es q.session.number ≡ Some q.session
   pub active : IsTrue (is_active st es q.session)
-  pub not_held : held_here es (spot_of q.resource) ≡ []
+  pub self : me es q.session ≡ q.same.self
+  -- from the read of the area on the lease has verified the resource's name
+  pub name : (stage ≡ Reads_area) ⊎ (verified_name st.layout q.session.lockspace (older ++ q.before) ≡ q.resource.name)
 
--- The area while the acquire is at a call: others' blocks are those of the start, the own block is the one written last, and no other
--- write is in flight there.
-pub record AreaOnCourse (w : World) (q : Asked) (stage : Stage) (call : ℕ) : Type 0 where
-  pub others : (host : ℕ) → 1 ≤ host → host ≤ w.layout.hosts → (host ≡ q.session.id → ⊥) → (b : Block) × Contains q.blocks b × (block_there w (spot_of q.resource) host ≡ Some b)
+-- The area while the acquire is at the call of this number, which was made at this step: others' blocks are those of the start, the own
+-- block is the one written last, no write is in flight there but this machine's, and what landed there since is that call's.
+pub record AreaOnCourse (w : World) (q : Asked) (stage : Stage) (number made : ℕ) : Type 0 where
+  pub others : (host : ℕ) → 1 ≤ host → host ≤ w.layout.hosts → (host ≡ q.session.id → ⊥) → Contains q.blocks (q.block_of host) × (block_there w (spot_of q.resource) host ≡ Some (q.block_of host))
   pub own : (b : Block) → own_at q stage ≡ Some b → block_there w (spot_of q.resource) q.session.id ≡ Some b
   pub leader : stage ≡ Reads_area → leader_there w (spot_of q.resource) ≡ Some q.leader
-  pub calm : (k : ℕ) (a : Machine) (c : Course) → machine_at w k ≡ Some a → Contains a.calls c →
-      IsTrue (is_write_course c && is_open a c && is_on w.layout (spot_of q.resource) c.call) → (k ≡ q.machine) × (c.call.number ≡ call)
+  pub blocks : stage ≡ Reads_area → blocks_there w (spot_of q.resource) ≡ all_whole q.blocks
+  pub calm : IsCalm w (spot_of q.resource) q.machine
+  pub since : (l : Landing) → Contains w.landings l → l.path ≡ q.resource.path → IsTrue (in_area w.layout q.resource.offset l.offset) → made < l.step → l.writer ≡ Some (q.machine, number)
 
 -- What is carried from event to event.
 pub record OnCourse (w : World) (q : Asked) (stage : Stage) : Type 0 where
   pub machine : Machine
   pub daemon : Daemon
   pub at : (machine_at w q.machine ≡ Some machine) × (machine.daemon ≡ Some daemon)
+  pub asked : IsAskedOf daemon.setting q
   pub host : DaemonOnCourse daemon.setting daemon.trace q stage
-  pub area : AreaOnCourse w q stage host.call.call.number
+  pub stamp : Stamp
+  pub stamped : stamp_in daemon.stamps host.call.at ≡ Some stamp
+  pub area : AreaOnCourse w q stage host.call.call.number stamp.step
 
--- ---- the promise
+-- An entry that does not concern the call: it answers another, or none, the process doesn't exit by it, it comes in time, and after it the
+-- session is neither in recovery nor leaving.
+pub record IsBeside (st : Setting) (past : Trace) (e : Entry) (q : Asked) (call : Submitted) : Type 0 where
+  pub others : IsOfOthers e call.call.number
+  pub stays : e.input ≡ Exit q.process → ⊥
+  pub timely : e.reading < call.reading + st.timing.io
+  pub active : IsTrue (is_active st (e ∷ past) q.session)
 
--- A quiet acquire is granted, in each sound run.
-abbrev pub QuietAcquiresAreGranted : Type 0
-QuietAcquiresAreGranted = (p : Program) (h : Header) (xs : List Happening) → LawfulRun p h xs → SoundRun p h xs → QuietIsGranted (world_with p h) xs
+-- It leaves the daemon on its course, at the same call.
+abbrev pub OthersKeepCourse : Type 0
+OthersKeepCourse =
+    (st : Setting) (past : Trace) (e : Entry) (q : Asked) (stage : Stage) → IsSetting st → IsHostTrace st (e ∷ past) → IsAskedOf st q → (c : DaemonOnCourse st past q stage) → IsBeside st past e q c.call
+    → (d : DaemonOnCourse st (e ∷ past) q stage) × (d.call ≡ c.call)
 
 -- ---- what a later read of the blocks finds
 
 -- While it is on its course the blocks that stand there are whole, the own one is the last written, and each other is of an earlier instance.
 abbrev pub AreasShowOwn : Type 0
-AreasShowOwn = (w : World) (q : Asked) (stage : Stage) (call : ℕ) (own : Block) → AreaOnCourse w q stage call → own_at q stage ≡ Some own →
+AreasShowOwn = (w : World) (q : Asked) (stage : Stage) (number made : ℕ) (own : Block) → AreaOnCourse w q stage number made → own_at q stage ≡ Some own →
     AllByRecursion (λ b. b.lver < own.lver) q.blocks → (bs : List Block) × (blocks_there w (spot_of q.resource) ≡ all_whole bs) × StandsAlone own bs

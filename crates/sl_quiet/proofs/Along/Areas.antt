@@ -1,0 +1,261 @@
+-- The area of a quiet acquire goes on: only the acquire's own call may land there.
+use Rattle.std.specs.List.{range_with_len}
+use Rattle.sl_quiet.specs.Read.Standing.{blocks_there}
+use Rattle.sl_quiet.proofs.Read.Showing.{same_on}
+use Rattle.sl_area.specs.Layouts.{Layout, Sizes, record_in}
+use Rattle.sl_area.specs.Places.{block_offset, in_area}
+use Rattle.sl_trace_law.proofs.Sessions.Naming.{same_name}
+use Rattle.sl_history.specs.Resources.Promises.{spot_of_line}
+use Rattle.sl_leases.specs.LeaseWork.{LeasePlace}
+use Rattle.sl_leases.specs.Leases.{is_on, spot_of}
+use Rattle.sl_plain.proofs.Lists.{contains_cases, find_inside}
+use Rattle.sl_plain.proofs.Numbers.{at_least_first, refl_le}
+use Rattle.sl_quiet.proofs.Along.Calls.{CallThere, call_there}
+use Rattle.sl_quiet.proofs.Area.Calming.{calm_goes_on, one_write_in_flight}
+use Rattle.sl_quiet.specs.Along.Along.{Asked, Frees_leader, IsCallAt, Reads_area, Reads_first, Reads_second, Sets_mode, Stage, Takes_leader, Writes_first, Writes_second, op_at, own_at}
+use Rattle.sl_quiet.specs.Area.Calm.{IsCalm}
+use Rattle.sl_run.specs.Quiet.{leader_there}
+use Rattle.sl_run.specs.Safety.{block_there}
+use Rattle.sl_run.specs.Worlds.{content, initial_bytes, is_write_course}
+use Rattle.sl_run_law.proofs.Course.Distinct.{running_has}
+use Rattle.sl_run_law.proofs.Course.Made.{daemons_are_of_world, last_goes}
+use Rattle.sl_run_law.proofs.Front.Going.{fronts_are_lawful}
+use Rattle.sl_run_law.proofs.Place.Areas.{is_within}
+use Rattle.sl_run_law.proofs.Place.Checks.{behind, same_block}
+use Rattle.sl_run_law.proofs.Place.Finding.{place_is}
+use Rattle.sl_run_law.proofs.Place.Seats.{sized_in}
+use Rattle.sl_run_law.proofs.Place.Sizes.{IsSized, area_has_bytes, sector_has_bytes, slot_below}
+use Rattle.sl_sector.specs.Spelling.{block_in, leader_in}
+use Rattle.sl_sector.specs.declared.sector.Block.{Block}
+use Rattle.sl_trace.specs.Traces.{Submitted, is_write, same_place}
+use Rattle.sl_trace.specs.declared.effects.Call.{Call}
+use Rattle.sl_trace.specs.declared.effects.Spot.{Spot}
+use Rattle.sl_words.proofs.CaseLaws.{none_some, true_is_false}
+use Rattle.sl_quiet.specs.Along.Going.{AreaGoesOn, LandingsGoOn, LandsNow}
+use Rattle.sl_run.specs.Events.{first_change, happens, input_of, machine_of, next_step}
+use Rattle.sl_run.specs.Runs.{IsRun}
+use Rattle.sl_run.specs.Safety.{LawfulRun, world_at}
+use Rattle.sl_run.specs.Worlds.{Course, Landing, World, is_open, world_with}
+use Rattle.sl_run.specs.declared.header.Header.{Header}
+use Rattle.sl_run_law.proofs.Front.Going.{one_step, run_after, run_rest}
+use Rattle.sl_run_law.proofs.Landing.Arriving.{Arrival, first_lands}
+use Rattle.sl_run_law.proofs.Landing.Passing.{step_landings}
+use Rattle.sl_run_law.specs.Front.Fronts.{HasOneStep}
+use Rattle.sl_words.proofs.WordLaws.{and_true}
+use Rattle.std.proofs.Common.{ap, ap₂, arith, inl, inr, refl, subst, sym, ◌∙◌}
+use Rattle.std.specs.Prelude.{Bool, Contains, IsTrue, List, None, Some, [], bytes_eq, false, find, if◌then◌else◌, true, ℕ, ◌&&◌, ◌*◌, ◌++◌, ◌+◌, ◌<◌, ◌==◌, ◌∷◌, ◌≡◌, ◌≤◌, ◌⊎◌, map}
+
+text_same : (a b : List ℕ) → a ≡ b → bytes_eq a b ≡ true
+text_same a b is = subst (λ y. bytes_eq a y ≡ true) is (same_name a)
+
+both_true : (b c : Bool) → b ≡ true → c ≡ true → (b && c) ≡ true
+both_true b c is its = ap (λ t. t && c) is ∙ its
+
+up_to : (k n : ℕ) → k < 1 + n → k ≤ n
+up_to k n h = omega (arith, h)
+
+two_more : (id hosts : ℕ) → id ≤ hosts → id + 1 ≤ hosts + 2
+two_more id hosts high = omega (arith, high)
+
+-- A block is in its area.
+pub block_within : {s : Sizes} (g : Layout) (base id : ℕ) → IsSized s g → id ≤ g.hosts → IsTrue (in_area g base (block_offset g base id))
+block_within g base id z high =
+    is_within g base (block_offset g base id) (at_least_first base (g.sector * (id + 1)))
+    (slot_below g.sector base (id + 1) g.hosts g.area (sector_has_bytes g z) (two_more id g.hosts high) z.room)
+
+itself_below : (base area : ℕ) → 0 < area → base < base + area
+itself_below base area h = omega (arith, h)
+
+-- So is the leader.
+pub leader_within : {s : Sizes} (g : Layout) (base : ℕ) → IsSized s g → IsTrue (in_area g base base)
+leader_within g base z = is_within g base base (refl_le base) (itself_below base g.area (area_has_bytes g z))
+
+pub landings_go_on : LandingsGoOn
+landings_go_on p h now x run = by (first_lands x.0 w last.0) where
+  w : World
+  w = world_at p h now
+
+  v : World
+  v = world_at p h (now ++ x ∷ [])
+
+  last : IsRun w (x ∷ [])
+  last = run_rest (world_with p h) now (x ∷ []) run.is_run
+
+  one : HasOneStep w x.0 x.1
+  one = one_step w x.0 x.1 last.1
+
+  after : v.landings ≡ (first_change x.0 w).landings
+  after =
+      ap (λ (u : World). u.landings) (run_after (world_with p h) now (x ∷ []) ∙ ap (λ fxs. happens w x.0 fxs) one.one)
+      ∙ step_landings (machine_of x.0) (input_of w x.0) one.effects (next_step (first_change x.0 w))
+
+  by : ((first_change x.0 w).landings ≡ w.landings) ⊎ Arrival w (first_change x.0 w) → (v.landings ≡ w.landings) ⊎ LandsNow w v
+  by (inl same) = inl (after ∙ same)
+  by (inr a) =
+      let f = find_inside (λ (c : Course). c.call.number == a.number && is_open a.host c) (a.host).calls a.flight a.flies in
+      inr (record {
+        landing = a.landing;
+        same = after ∙ a.same;
+        machine = a.machine;
+        host = a.host;
+        course = a.flight;
+        at = a.at;
+        has = f.0;
+        opens = (and_true ((a.flight).call.number == a.number) (is_open a.host a.flight) f.1).1;
+        writes = a.writes;
+        place = a.place;
+        writer = a.writer;
+      })
+
+-- ---- places where the call does not write
+
+-- The call doesn't write at this place.
+abbrev Misses : Submitted → ℕ → Type 0
+Misses m o = is_write m.call.op ≡ true → m.call.offset ≡ o → ⊥
+
+reads_on : (q : Asked) (stage : Stage) (m : Submitted) (o : ℕ) → IsCallAt q stage m → is_write (op_at q stage) ≡ false → Misses m o
+reads_on q stage m o is reads writes at = true_is_false (sym writes ∙ (ap (λ op. is_write op) is.op ∙ reads))
+
+-- It is no other host's block.
+misses_others : (q : Asked) (stage : Stage) (m : Submitted) (sizes : Sizes) (host : ℕ) → IsSized sizes q.same.place.layout → (host ≡ q.session.id → ⊥) → IsCallAt q stage m
+    → Misses m (block_offset q.same.place.layout q.resource.offset host)
+misses_others q Reads_area m sizes host z other is writes at = reads_on q Reads_area m (block_offset q.same.place.layout q.resource.offset host) is refl writes at
+misses_others q Reads_first m sizes host z other is writes at = reads_on q Reads_first m (block_offset q.same.place.layout q.resource.offset host) is refl writes at
+misses_others q Reads_second m sizes host z other is writes at = reads_on q Reads_second m (block_offset q.same.place.layout q.resource.offset host) is refl writes at
+misses_others q Writes_first m sizes host z other is writes at = other (sym (same_block q.same.place.layout q.resource.offset q.session.id host z (sym is.offset ∙ at)))
+misses_others q Writes_second m sizes host z other is writes at = other (sym (same_block q.same.place.layout q.resource.offset q.session.id host z (sym is.offset ∙ at)))
+misses_others q Sets_mode m sizes host z other is writes at = other (sym (same_block q.same.place.layout q.resource.offset q.session.id host z (sym is.offset ∙ at)))
+misses_others q Takes_leader m sizes host z other is writes at = behind q.same.place.layout q.resource.offset host z (sym is.offset ∙ at)
+misses_others q Frees_leader m sizes host z other is writes at = behind q.same.place.layout q.resource.offset host z (sym is.offset ∙ at)
+
+-- Where a block is looked for, the call is a read.
+misses_own : (q : Asked) (stage : Stage) (m : Submitted) (b : Block) (o : ℕ) → own_at q stage ≡ Some b → IsCallAt q stage m → Misses m o
+misses_own q Reads_first m b o own is = reads_on q Reads_first m o is refl
+misses_own q Reads_second m b o own is = reads_on q Reads_second m o is refl
+misses_own q Reads_area m b o own is = absurd (none_some b own)
+misses_own q Writes_first m b o own is = absurd (none_some b own)
+misses_own q Writes_second m b o own is = absurd (none_some b own)
+misses_own q Takes_leader m b o own is = absurd (none_some b own)
+misses_own q Sets_mode m b o own is = absurd (none_some b own)
+misses_own q Frees_leader m b o own is = absurd (none_some b own)
+
+-- ---- what stands there
+
+other_place : (g : Layout) (h : Header) (l : Landing) (ls : List Landing) (path : List ℕ) (o : ℕ) → same_place l.path l.offset path o ≡ false
+    → elim (find (λ (k : Landing). same_place k.path k.offset path o) (l ∷ ls)) as (λ z. List ℕ) [ Some k ↦ k.bytes | None ↦ initial_bytes g h path o ]
+    ≡ elim (find (λ (k : Landing). same_place k.path k.offset path o) ls) as (λ z. List ℕ) [ Some k ↦ k.bytes | None ↦ initial_bytes g h path o ]
+other_place g h l ls path o other =
+    ap (λ b. elim (if b then Some l else find (λ (k : Landing). same_place k.path k.offset path o) ls) as (λ z. List ℕ) [ Some k ↦ k.bytes | None ↦ initial_bytes g h path o ]) other
+
+pub area_goes_on : AreaGoesOn
+area_goes_on p h now x run q stage line resource a d at runs setting host asked c made area leaves =
+    record {
+      others = λ k low high other. let b = area.others k low (subst (λ (g : Layout). k ≤ g.hosts) layout high) other in (b.0, blocks k low (subst (λ (g : Layout). k ≤ g.hosts) layout high) (others k other) ∙ b.1);
+      own = λ b is. blocks q.session.id hosts.0 hosts.1 (misses_own q stage c.call b (block_offset w.layout q.resource.offset q.session.id) is c.is) ∙ area.own b is;
+      leader = λ is. leads is ∙ area.leader is;
+      blocks = λ is. whole is ∙ area.blocks is;
+      calm = calm_goes_on p h now x run spot q.machine a d at runs leaves area.calm;
+      since = since;
+    } where
+      w : World
+      w = world_at p h now
+
+      v : World
+      v = world_at p h (now ++ x ∷ [])
+
+      spot : Spot
+      spot = spot_of q.resource
+
+      before : LawfulRun p h now
+      before = fronts_are_lawful p h now (x ∷ []) run
+
+      layout : v.layout ≡ w.layout
+      layout = (last_goes p h now x).layout
+
+      header : v.header ≡ w.header
+      header = (last_goes p h now x).header
+
+      z : IsSized h.geometry w.layout
+      z = sized_in p h now before
+
+      of_world : d.setting.layout ≡ w.layout
+      of_world = (daemons_are_of_world p h now before q.machine a d at (running_has a d runs)).layout
+
+      place : q.same.place.layout ≡ w.layout
+      place = ap (λ (y : LeasePlace). y.layout) asked.place ∙ of_world
+
+      spots : spot_of_line line ≡ spot
+      spots = ap₂ (λ y n. record { path = y; base = n }) resource.path resource.offset
+
+      call : CallThere d.setting d.trace q c.call
+      call = call_there d.setting d.trace q stage c
+
+      hosts : (1 ≤ q.session.id) × (q.session.id ≤ w.layout.hosts)
+      hosts = subst (λ (g : Layout). (1 ≤ q.session.id) × (q.session.id ≤ g.hosts)) of_world asked.host
+
+      -- what lands on the area is the acquire's
+      mine : (l : LandsNow w v) → (l.landing).path ≡ q.resource.path → IsTrue (in_area w.layout q.resource.offset (l.landing).offset) → (l.machine ≡ q.machine) × ((l.course).call ≡ (c.call).call)
+      mine l path inside =
+          one_write_in_flight p h now line before resource.listed q.machine a d at runs setting host (subst (λ y. IsCalm w y q.machine) (sym spots) area.calm) c.call call.there c.waits call.works
+          (subst (λ g. is_on g (spot_of_line line) (c.call).call ≡ true) of_world (subst (λ y. is_on d.setting.layout y (c.call).call ≡ true) (sym spots) call.on))
+          l.machine l.host l.course l.at l.has
+          (both_true (is_write_course l.course && is_open l.host l.course) (is_on w.layout (spot_of_line line) (l.course).call) (both_true (is_write_course l.course) (is_open l.host l.course) l.writes l.opens)
+          (both_true (bytes_eq (l.course).call.path line.path) (in_area w.layout line.offset (l.course).call.offset)
+          (text_same (l.course).call.path line.path ((l.place).0 ∙ (path ∙ sym resource.path)))
+          (subst (λ n. in_area w.layout n (l.course).call.offset ≡ true) (sym resource.offset) (subst (λ n. in_area w.layout q.resource.offset n ≡ true) (sym (l.place).1) inside))))
+
+      stays : (o : ℕ) → IsTrue (in_area w.layout q.resource.offset o) → Misses c.call o → content v q.resource.path o ≡ content w q.resource.path o
+      stays o inside misses = same (landings_go_on p h now x run) where
+        held : World → List Landing → List ℕ
+        held u ls = elim (find (λ (k : Landing). same_place k.path k.offset q.resource.path o) ls) as (λ y. List ℕ) [ Some k ↦ k.bytes | None ↦ initial_bytes u.layout u.header q.resource.path o ]
+
+        settings : (ls : List Landing) → held v ls ≡ held w ls
+        settings ls =
+            ap₂ (λ g y. elim (find (λ (k : Landing). same_place k.path k.offset q.resource.path o) ls) as (λ y. List ℕ) [ Some k ↦ k.bytes | None ↦ initial_bytes g y q.resource.path o ]) layout header
+
+        new : (l : LandsNow w v) → (t : Bool) → same_place (l.landing).path (l.landing).offset q.resource.path o ≡ t → content v q.resource.path o ≡ content w q.resource.path o
+        new l false other = settings v.landings ∙ (ap (λ ls. held w ls) l.same ∙ other_place w.layout w.header l.landing w.landings q.resource.path o other)
+        new l true is =
+            let its = place_is (l.landing).path (l.landing).offset q.resource.path o is in
+            let one = mine l its.0 (subst (λ n. in_area w.layout q.resource.offset n ≡ true) (sym its.1) inside) in
+            absurd (misses (ap (λ (y : Call). is_write y.op) (sym one.1) ∙ l.writes) (ap (λ (y : Call). y.offset) (sym one.1) ∙ ((l.place).1 ∙ its.1)))
+
+        same : (v.landings ≡ w.landings) ⊎ LandsNow w v → content v q.resource.path o ≡ content w q.resource.path o
+        same (inl is) = settings v.landings ∙ ap (λ ls. held w ls) is
+        same (inr l) = new l (same_place (l.landing).path (l.landing).offset q.resource.path o) refl
+
+      inside_block : (k : ℕ) → 1 ≤ k → k ≤ w.layout.hosts → IsTrue (in_area w.layout q.resource.offset (block_offset w.layout q.resource.offset k))
+      inside_block k low high = block_within w.layout q.resource.offset k z high
+
+      blocks : (k : ℕ) → 1 ≤ k → k ≤ w.layout.hosts → Misses c.call (block_offset w.layout q.resource.offset k) → block_there v spot k ≡ block_there w spot k
+      blocks k low high misses =
+          ap (λ g. block_in k (record_in g (content v q.resource.path (block_offset g q.resource.offset k)))) layout
+          ∙ ap (λ bs. block_in k (record_in w.layout bs)) (stays (block_offset w.layout q.resource.offset k) (inside_block k low high) misses)
+
+      others : (k : ℕ) → (k ≡ q.session.id → ⊥) → Misses c.call (block_offset w.layout q.resource.offset k)
+      others k other = subst (λ g. Misses c.call (block_offset g q.resource.offset k)) place (misses_others q stage c.call h.geometry k (subst (λ g. IsSized h.geometry g) (sym place) z) other c.is)
+
+      leads : stage ≡ Reads_area → leader_there v spot ≡ leader_there w spot
+      leads is =
+          ap (λ g. leader_in (record_in g (content v q.resource.path q.resource.offset))) layout
+          ∙ ap (λ bs. leader_in (record_in w.layout bs)) (stays q.resource.offset (leader_within w.layout q.resource.offset z) (reads_on q stage c.call q.resource.offset c.is (ap (λ s. is_write (op_at q s)) is)))
+
+      whole : stage ≡ Reads_area → blocks_there v spot ≡ blocks_there w spot
+      whole is =
+          ap (λ (g : Layout). map (block_there v spot) (range_with_len 1 g.hosts)) layout
+          ∙ same_on (block_there v spot) (block_there w spot) 1 w.layout.hosts
+          (λ k low high. blocks k low (up_to k w.layout.hosts high) (reads_on q stage c.call (block_offset w.layout q.resource.offset k) c.is (ap (λ s. is_write (op_at q s)) is)))
+
+      since : (l : Landing) → Contains v.landings l → l.path ≡ q.resource.path → IsTrue (in_area v.layout q.resource.offset l.offset) → made < l.step → l.writer ≡ Some (q.machine, (c.call).call.number)
+      since l there path inside later = by (landings_go_on p h now x run) where
+        within : IsTrue (in_area w.layout q.resource.offset l.offset)
+        within = subst (λ g. IsTrue (in_area g q.resource.offset l.offset)) layout inside
+
+        by : (v.landings ≡ w.landings) ⊎ LandsNow w v → l.writer ≡ Some (q.machine, (c.call).call.number)
+        by (inl same) = area.since l (subst (λ ls. Contains ls l) same there) path within later
+        by (inr new) = which (contains_cases new.landing w.landings l (subst (λ ls. Contains ls l) new.same there)) where
+          which : (new.landing ≡ l) ⊎ Contains w.landings l → l.writer ≡ Some (q.machine, (c.call).call.number)
+          which (inr old) = area.since l old path within later
+          which (inl is) =
+              let one = mine new (ap (λ (y : Landing). y.path) is ∙ path) (subst (λ (y : Landing). IsTrue (in_area w.layout q.resource.offset y.offset)) (sym is) within) in
+              ap (λ (y : Landing). y.writer) (sym is) ∙ (new.writer ∙ ap₂ (λ m n. Some (m, n)) one.0 (ap (λ (y : Call). y.number) one.1))
