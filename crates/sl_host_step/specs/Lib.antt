@@ -3,3 +3,4 @@ pub mod Expecting
 pub mod Rooms
 pub mod Moments
 pub mod Seating
+pub mod Telling

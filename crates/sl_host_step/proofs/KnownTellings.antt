@@ -1,0 +1,245 @@
+-- An answer that comes as a step begins: how many sectors it is, by the purpose of its call; and so at the input, for the open calls stay.
+use Rattle.sl_area.specs.Layouts.{Layout, Sizes, layout_of}
+use Rattle.sl_due.specs.Due.{before_input}
+use Rattle.sl_due.specs.Steps.{Step, begin_step}
+use Rattle.sl_host_answers.specs.Answering.{FitsHeard, FitsSectors, calls_for, calls_of, effects_for, effects_of, is_joining_purpose, is_writing, takes_sectors}
+use Rattle.sl_host_answers.specs.declared.answers.Heard.{Heard}
+use Rattle.sl_host_answers.specs.Surveys.{leases_of, spots_of}
+use Rattle.sl_host_law.specs.Parts.Expected.{IsAnswerOf}
+use Rattle.sl_host_law.specs.Replies.Answers.{IsOpen}
+use Rattle.sl_host_law.specs.Steps.Stepping.{before_taking}
+use Rattle.sl_host_passes.proofs.Spots.{found_few}
+use Rattle.sl_host_passes.specs.Fewer.{leases_in}
+use Rattle.sl_host_state.specs.Hears.{begun}
+use Rattle.sl_host_state.specs.Kept.{Config, HostKept, HostState, LeaseState, Made, MemberState, state_of}
+use Rattle.sl_host_state.specs.declared.kept.OpenCall.{OpenCall}
+use Rattle.sl_host_step.proofs.CallsStay.{calls_stay, config_stays}
+use Rattle.sl_host_step.proofs.Comes.{comes_plainly, expected_at}
+use Rattle.sl_host_step.specs.Moments.{AtInput, StepComes}
+use Rattle.sl_host_step.specs.Telling.{joins_at}
+use Rattle.sl_lease.specs.Steps.{is_read_step}
+use Rattle.sl_member.specs.Together.{member_with}
+use Rattle.sl_plain.proofs.Lists.{find_inside}
+use Rattle.sl_sessions.specs.Sessions.{is_survey_purpose}
+use Rattle.sl_sector.specs.Spelling.{IsSectorSize}
+use Rattle.sl_step_law.proofs.AnswersAreKnown.{answers_are_known, sector_size}
+use Rattle.sl_step_law.proofs.CallsAsk.{calls_ask}
+use Rattle.sl_step_law.proofs.HostsAreReady.{hosts_are_ready}
+use Rattle.sl_step_law.proofs.LeaseAnswersAreKnown.{lease_answers_are_known}
+use Rattle.sl_step_law.specs.Asking.{sectors_asked}
+use Rattle.sl_step_law.specs.Ready.{IsReady}
+use Rattle.sl_trace.specs.Traces.{is_expected}
+use Rattle.sl_trace.specs.declared.effects.JoinStep.TheVariants.{ClaimWrite, DecidingRead, FirstRead, FirstRenewal, VerifyRead, WatchRead}
+use Rattle.sl_trace.specs.declared.effects.LeaseStep.TheVariants.{ClearMode, FreeLeader, Phase1Read, Phase1Write, Phase2Read, Phase2Write, ReadArea, ReadBeforeFree, SetMode, TakeLeader}
+use Rattle.sl_trace.specs.declared.effects.LeaseStep.{LeaseStep}
+use Rattle.sl_trace.specs.declared.effects.Purpose.TheVariants.{Joining, Lease, Leaving, Renewal, RequestRead, RequestWrite, SeeRequest, Survey, ValueRead, ValueWrite}
+use Rattle.sl_trace.specs.declared.effects.Purpose.{Purpose}
+use Rattle.sl_trace.specs.declared.effects.Work.{Work}
+use Rattle.sl_trace.specs.declared.input.Answer.TheVariants.{Read, Written}
+use Rattle.sl_trace.specs.declared.input.Answer.{Answer}
+use Rattle.sl_trace.specs.declared.input.Input.TheVariants.{Answer as Told}
+use Rattle.sl_trace.specs.declared.input.Input.{Input}
+use Rattle.sl_whole_host.specs.Asking.{state_in}
+use Rattle.sl_whole_host.specs.Hearing.{sectors_read}
+use Rattle.sl_words.proofs.CaseLaws.{none_some, some_value, true_is_false}
+use Rattle.std.proofs.Common.{ap, arith, refl, subst, sym, ◌∙◌}
+use Rattle.std.proofs.lemmas.List.{length-map}
+use Rattle.std.specs.Option.{option_map_or}
+use Rattle.std.specs.Prelude.{Bool, List, None, Option, Some, cond, false, find, is_some, length, true, ℕ, ◌*◌, ◌+◌, ◌==◌, ◌≡◌, ◌≤◌}
+
+-- ---- by the purpose of the call
+
+-- A read that isn't a joining's is answered by sectors.
+takes : (hosts : ℕ) (p : Purpose) → is_joining_purpose p ≡ false → is_some (sectors_asked hosts p) ≡ true → takes_sectors p ≡ true
+takes hosts (Joining j step) other reads = absurd (true_is_false other)
+takes hosts Renewal other reads = absurd (true_is_false (sym reads))
+takes hosts Survey other reads = refl
+takes hosts (Leaving j) other reads = absurd (true_is_false (sym reads))
+takes hosts (Lease work step) other reads = refl
+takes hosts (RequestRead j) other reads = refl
+takes hosts (RequestWrite j owner) other reads = absurd (true_is_false (sym reads))
+takes hosts SeeRequest other reads = refl
+takes hosts (ValueWrite j) other reads = absurd (true_is_false (sym reads))
+takes hosts (ValueRead j) other reads = refl
+
+-- What is no read may be a write.
+writing : (hosts : ℕ) (p : Purpose) → sectors_asked hosts p ≡ None → is_writing p ≡ true
+writing hosts (Joining j step) none = refl
+writing hosts Renewal none = refl
+writing hosts Survey none = absurd (none_some hosts (sym none))
+writing hosts (Leaving j) none = refl
+writing hosts (Lease work step) none = refl
+writing hosts (RequestRead j) none = absurd (none_some 2 (sym none))
+writing hosts (RequestWrite j owner) none = refl
+writing hosts SeeRequest none = absurd (none_some 1 (sym none))
+writing hosts (ValueWrite j) none = refl
+writing hosts (ValueRead j) none = absurd (none_some 1 (sym none))
+
+-- How many a lease's read asks.
+lease_asks : (hosts : ℕ) (work : Work) (step : LeaseStep) → is_read_step step ≡ true → sectors_asked hosts (Lease work step) ≡ Some (sectors_read hosts step)
+lease_asks hosts work (ReadArea name) reads = refl
+lease_asks hosts work ReadBeforeFree reads = refl
+lease_asks hosts work Phase1Read reads = refl
+lease_asks hosts work Phase2Read reads = refl
+lease_asks hosts work Phase1Write reads = absurd (true_is_false (sym reads))
+lease_asks hosts work Phase2Write reads = absurd (true_is_false (sym reads))
+lease_asks hosts work TakeLeader reads = absurd (true_is_false (sym reads))
+lease_asks hosts work SetMode reads = absurd (true_is_false (sym reads))
+lease_asks hosts work FreeLeader reads = absurd (true_is_false (sym reads))
+lease_asks hosts work ClearMode reads = absurd (true_is_false (sym reads))
+
+-- A joining reads one sector at a time.
+asks_one : (hosts : ℕ) (p : Purpose) (n : ℕ) → is_joining_purpose p ≡ true → sectors_asked hosts p ≡ Some n → n ≡ 1
+asks_one hosts (Joining j FirstRead) n joins asked = sym (some_value 1 n asked)
+asks_one hosts (Joining j WatchRead) n joins asked = sym (some_value 1 n asked)
+asks_one hosts (Joining j DecidingRead) n joins asked = sym (some_value 1 n asked)
+asks_one hosts (Joining j ClaimWrite) n joins asked = absurd (none_some n asked)
+asks_one hosts (Joining j VerifyRead) n joins asked = sym (some_value 1 n asked)
+asks_one hosts (Joining j FirstRenewal) n joins asked = absurd (none_some n asked)
+asks_one hosts Renewal n joins asked = absurd (none_some n asked)
+asks_one hosts Survey n joins asked = absurd (true_is_false (sym joins))
+asks_one hosts (Leaving j) n joins asked = absurd (none_some n asked)
+asks_one hosts (Lease work step) n joins asked = absurd (true_is_false (sym joins))
+asks_one hosts (RequestRead j) n joins asked = absurd (true_is_false (sym joins))
+asks_one hosts (RequestWrite j owner) n joins asked = absurd (none_some n asked)
+asks_one hosts SeeRequest n joins asked = absurd (true_is_false (sym joins))
+asks_one hosts (ValueWrite j) n joins asked = absurd (none_some n asked)
+asks_one hosts (ValueRead j) n joins asked = absurd (true_is_false (sym joins))
+
+-- One sector's bytes.
+one : (n : ℕ) → 1 * n ≡ n
+one n = grind (arith)
+
+-- ---- of a host at its input
+
+module _ (z : Sizes) (h : HostState) (x : Step) (number : ℕ) (answer : Answer) (c : OpenCall) (same : h.config.layout ≡ layout_of z) (r : IsReady h x)
+    (expected : is_expected x.setting x.past (Told number answer) ≡ true) (opens : IsOpen h number c) where
+  -- It is an answer to this call.
+  answers : IsAnswerOf (layout_of z) answer c
+  answers =
+      let y = answers_are_known.open_one h x number answer r expected in
+      subst (λ g. IsAnswerOf g answer c) same (subst (IsAnswerOf h.config.layout answer) (some_value y.0 c (sym y.1 ∙ opens)) y.2)
+
+  asks : c.sectors ≡ sectors_asked z.hosts c.purpose
+  asks = subst (λ (g : Layout). c.sectors ≡ sectors_asked g.hosts c.purpose) same (calls_ask h x c r (find_inside (λ (d : OpenCall). d.number == number) h.unanswered c opens).0)
+
+  module _ (bytes : List ℕ) (is : answer ≡ Read bytes) where
+    given : IsAnswerOf (layout_of z) (Read bytes) c
+    given = subst (λ y. IsAnswerOf (layout_of z) y c) is answers
+
+    many : (n : ℕ) → sectors_asked z.hosts c.purpose ≡ Some n → length bytes ≡ n * z.sector
+    many n asked = given.2 ∙ ap (λ i. i * z.sector) (some_value given.0 n (sym given.1 ∙ asks ∙ asked))
+
+    reads : (work : Work) (step : LeaseStep) → c.purpose ≡ Lease work step → is_read_step step ≡ true
+    reads work step for = sym (lease_answers_are_known.steps h x number c work step r opens for) ∙ ap (λ o. is_some o) given.1
+
+    fits : is_joining_purpose c.purpose ≡ false → FitsSectors z c (length bytes)
+    fits other =
+        record {
+          taken = takes z.hosts c.purpose other (ap (λ o. is_some o) (sym asks ∙ given.1));
+          survey = λ for. many z.hosts (ap (sectors_asked z.hosts) for);
+          lease = λ work step for. (let y = reads work step for in (y, ap (λ o. is_some o) given.1, many (sectors_read z.hosts step) (ap (sectors_asked z.hosts) for ∙ lease_asks z.hosts work step y)));
+          request = λ j for. many 2 (ap (sectors_asked z.hosts) for);
+          look = λ for. many 1 (ap (sectors_asked z.hosts) for) ∙ one z.sector;
+          value = λ j for. many 1 (ap (sectors_asked z.hosts) for) ∙ one z.sector;
+        }
+
+    -- A joining's is one.
+    joined_one : is_joining_purpose c.purpose ≡ true → length bytes ≡ z.sector
+    joined_one joins = given.2 ∙ ap (λ i. i * z.sector) (asks_one z.hosts c.purpose given.0 joins (sym asks ∙ given.1)) ∙ one z.sector
+
+  writes : answer ≡ Written → is_writing c.purpose ≡ true
+  writes is = writing z.hosts c.purpose (sym asks ∙ subst (λ y. IsAnswerOf (layout_of z) y c) is answers)
+
+-- ---- as a step begins
+
+module _ (now number : ℕ) (answer : Answer) (k : HostKept) (c : OpenCall) (s : StepComes now (Told number answer) k) (opens : IsOpen (state_in k) number c) where
+  abbrev before : HostState
+  before = state_of s.setting.read k
+
+  abbrev at : HostState
+  at = before_taking (begun now before)
+
+  same : at.config.layout ≡ layout_of k.config.sizes
+  same = ap (λ (y : Config). y.layout) (config_stays now before)
+
+  ready : IsReady at (before_input (begin_step s.setting s.past now))
+  ready = hosts_are_ready now (Told number answer) before s.setting s.past (comes_plainly now (Told number answer) k s).comes
+
+  still : IsOpen at number c
+  still = ap (λ cs. find (λ (d : OpenCall). d.number == number) cs) (calls_stay now before) ∙ opens
+
+  expects : is_expected (before_input (begin_step s.setting s.past now)).setting (before_input (begin_step s.setting s.past now)).past (Told number answer) ≡ true
+  expects = expected_at now (Told number answer) before s.setting s.past (comes_plainly now (Told number answer) k s).comes
+
+  -- Sectors come to a call that takes them, as many as it asks.
+  pub sectors_fit : (bytes : List ℕ) → answer ≡ Read bytes → is_joining_purpose c.purpose ≡ false → FitsSectors k.config.sizes c (length bytes)
+  sectors_fit bytes is other = fits k.config.sizes at (before_input (begin_step s.setting s.past now)) number answer c same ready expects still bytes is other
+
+  -- What is written was a write.
+  pub writes_fit : answer ≡ Written → is_writing c.purpose ≡ true
+  writes_fit is = writes k.config.sizes at (before_input (begin_step s.setting s.past now)) number answer c same ready expects still is
+
+  -- A joining's read is one sector.
+  pub joined_fits : (bytes : List ℕ) → answer ≡ Read bytes → is_joining_purpose c.purpose ≡ true → length bytes ≡ k.config.sizes.sector
+  joined_fits bytes is joins = joined_one k.config.sizes at (before_input (begin_step s.setting s.past now)) number answer c same ready expects still bytes is joins
+
+pub sector_fits : (now : ℕ) (i : Input) (k : HostKept) → StepComes now i k → IsSectorSize k.config.sizes.sector
+sector_fits now i k s = (sector_size k.config.sizes s.keeps.sound.laid.geometry).0
+
+-- Whether it is a joining's is known by what is kept.
+pub joins_is : (k : HostKept) (number : ℕ) (c : OpenCall) → IsOpen (state_in k) number c → joins_at k number ≡ is_joining_purpose c.purpose
+joins_is k number c opens = ap (λ o. option_map_or (λ (d : OpenCall). is_joining_purpose d.purpose) o false) opens
+
+pub joining_long : (now number : ℕ) (bytes : List ℕ) (k : HostKept) → StepComes now (Told number (Read bytes)) k → joins_at k number ≡ true → length bytes ≡ k.config.sizes.sector
+joining_long now number bytes k s joins = by (find (λ (d : OpenCall). d.number == number) k.unanswered) refl joins where
+  by : (o : Option OpenCall) → find (λ (d : OpenCall). d.number == number) k.unanswered ≡ o → option_map_or (λ (d : OpenCall). is_joining_purpose d.purpose) o false ≡ true
+      → length bytes ≡ k.config.sizes.sector
+  by None is said = absurd (true_is_false (sym said))
+  by (Some c) is said = joined_fits now number (Read bytes) k c s is bytes refl said
+
+pub joining_sized : (now number : ℕ) (bytes : List ℕ) (k : HostKept) → StepComes now (Told number (Read bytes)) k → joins_at k number ≡ true → IsSectorSize (length bytes)
+joining_sized now number bytes k s joins = subst IsSectorSize (sym (joining_long now number bytes k s joins)) (sector_fits now (Told number (Read bytes)) k s)
+
+-- ---- and at its input
+
+module _ (now : ℕ) (i : Input) (first k : HostKept) (a : AtInput now i first k) where
+  calls_same : k.unanswered ≡ first.unanswered
+  calls_same = ap (λ (h : HostState). h.unanswered) (a.is a.comes.setting.read a.comes.keeps.reads) ∙ calls_stay now (state_of a.comes.setting.read first)
+
+  pub open_still : (number : ℕ) (c : OpenCall) → IsOpen (state_in k) number c → IsOpen (state_in first) number c
+  open_still number c opens = sym (ap (λ cs. find (λ (d : OpenCall). d.number == number) cs) calls_same) ∙ opens
+
+  pub fits_still : {S : Type 0} (number : ℕ) (bytes : S → List ℕ) (is_cut : S → ℕ → Bool) (heard : Heard S)
+      → ((c : OpenCall) → IsOpen (state_in first) number c → FitsHeard bytes is_cut first.config.sizes c heard) → (c : OpenCall) → IsOpen (state_in k) number c
+      → FitsHeard bytes is_cut k.config.sizes c heard
+  fits_still number bytes is_cut heard fit c opens = subst (λ (m : Made). FitsHeard bytes is_cut m.sizes c heard) (sym a.same) (fit c (open_still number c opens))
+
+-- ---- how much it makes due
+
+-- A session's leases are some of them all.
+leases_few : (n : ℕ) (k : HostKept) → leases_of n k ≤ leases_in k.members
+leases_few n k = subst (λ i. i ≤ leases_in k.members) (sym (by (member_with n k.members))) (found_few n k.members) where
+  by : (o : Option MemberState) → length (spots_of o) ≡ option_map_or (λ (m : MemberState). length m.leases) o 0
+  by None = refl
+  by (Some m) = length-map m.leases (λ (l : LeaseState). l.spot)
+
+pub few_effects : (k : HostKept) (number : ℕ) → effects_of k number ≤ length k.holdings + length k.jobs + 3
+few_effects k number = by (find (λ (c : OpenCall). c.number == number) k.unanswered) where
+  some : (b : Bool) → cond b (length k.holdings + length k.jobs + 3) 3 ≤ length k.holdings + length k.jobs + 3
+  some true = grind arith
+  some false = grind arith
+
+  by : (o : Option OpenCall) → (elim o as (λ z. ℕ) [ None ↦ 0 | Some c ↦ effects_for k c.purpose ]) ≤ length k.holdings + length k.jobs + 3
+  by None = grind arith
+  by (Some c) = some (is_survey_purpose c.purpose)
+
+pub few_calls : (k : HostKept) (number : ℕ) → calls_of k number ≤ leases_in k.members + 1
+few_calls k number = by (find (λ (c : OpenCall). c.number == number) k.unanswered) where
+  some : (n : ℕ) (b : Bool) → cond b (leases_of n k + 1) 1 ≤ leases_in k.members + 1
+  some n true = let few = leases_few n k in omega (arith, few)
+  some n false = grind arith
+
+  by : (o : Option OpenCall) → (elim o as (λ z. ℕ) [ None ↦ 0 | Some c ↦ calls_for k c.session c.purpose ]) ≤ leases_in k.members + 1
+  by None = grind arith
+  by (Some c) = some c.session (is_survey_purpose c.purpose)

@@ -1,0 +1,30 @@
+use Rattle.sl_host_answers.specs.Answering.{answer_of}
+use Rattle.sl_host_state.specs.Kept.{Made}
+use Rattle.sl_host_step.proofs.KnownTellings.{fits_still}
+use Rattle.sl_host_step.proofs.answer.step_heard.Goals as goal
+use Rattle.sl_trace.specs.declared.input.Input.TheVariants.{Answer as Told}
+use Rattle.std.proofs.Common.{ap, sym, ◌∙◌}
+
+pub take_answer-requires-clause-at : goal.take_answer-requires-clause-at
+take_answer-requires-clause-at g c = (c.args.now, c.args.host.now.kept, c.in_ok-begun.ensures.at (Told c.args.number (answer_of g.S.Sectors.bytes c.args.heard)) c.requires.comes)
+
+pub take_answer-requires-clause-fits : goal.take_answer-requires-clause-fits
+take_answer-requires-clause-fits g c =
+    let i = Told c.args.number (answer_of g.S.Sectors.bytes c.args.heard) in
+    fits_still c.args.now i c.args.host.now.kept c.start.new.host.kept (c.in_ok-begun.ensures.at i c.requires.comes) c.args.number g.S.Sectors.bytes g.S.Sectors.is_cut c.args.heard c.requires.fits
+
+pub take_answer-requires-clause-blocks : goal.take_answer-requires-clause-blocks
+take_answer-requires-clause-blocks g c =
+    let i = Told c.args.number (answer_of g.S.Sectors.bytes c.args.heard) in
+    c.start.ensures.blocks ∙ c.requires.blocks ∙ ap (λ (m : Made). m.sizes.hosts) (sym (c.in_ok-begun.ensures.at i c.requires.comes).same)
+
+pub conclude-requires-clause-at : goal.conclude-requires-clause-at
+conclude-requires-clause-at g c =
+    let i = Told c.args.number (answer_of g.S.Sectors.bytes c.args.heard) in
+    (c.args.now, i, c.args.host.now.kept, c.take_answer.ensures.at c.args.now c.args.host.now.kept (c.in_ok-begun.ensures.at i c.requires.comes))
+
+pub returns-clause-ok : goal.returns-clause-ok
+returns-clause-ok g c =
+    let i = Told c.args.number (answer_of g.S.Sectors.bytes c.args.heard) in
+    c.conclude.ensures.stepped c.args.now i c.args.host.now (c.take_answer.ensures.at c.args.now c.args.host.now.kept (c.in_ok-begun.ensures.at i c.requires.comes))
+    (c.take_answer.ensures.left c.args.host.now c.in_ok-begun.ensures.left.0)

@@ -1,0 +1,228 @@
+//! An answer of a step: what it is at hand as is made ready before the step begins, then the host is told.
+//!
+//! A joining's read is one sector, which its session keeps: it is shared with the disk, or made of the bytes. Any other read is looked at where it is.
+
+ghost use Rattle.sl_daemon.specs.Daemons.{read_of};
+ghost use Rattle.sl_host_answers.specs.Answering.{FitsHeard, answer_of};
+ghost use Rattle.sl_host_law.specs.Replies.Answers.{IsOpen};
+ghost use Rattle.sl_host_state.specs.Kept.{HostKept};
+ghost use Rattle.sl_host_state.specs.declared.kept.OpenCall.{OpenCall as OpenCallOf};
+ghost use Rattle.sl_host_step.specs.Moments.{AtEnd, AtInput, HasStepped, StepComes};
+ghost use Rattle.sl_host_step.specs.Rooms.{EndsWith, HasLeft, ScratchState, Suffices};
+ghost use Rattle.sl_host_step.specs.Serving.{IsIdle};
+ghost use Rattle.sl_host_step.specs.Telling.{joins_at};
+ghost use Rattle.sl_sector.specs.Spelling.{IsSectorSize};
+ghost use Rattle.sl_trace.specs.declared.input.Answer.TheVariants.{Failed as FailedOf, Read as ReadOf, Written as WrittenOf};
+ghost use Rattle.sl_trace.specs.declared.input.Input.TheVariants.{Answer as Told};
+ghost use Rattle.sl_whole_host.specs.Asking.{state_in};
+ghost use Rattle.sl_whole_host.specs.Host.{HostView};
+ghost use Rattle.std.specs.Arc.{arc_value};
+ghost use Rattle.std.specs.Prelude.{IfOk, OnErr, length, ℕ, ◌==◌, ◌≡◌, ◌≤◌};
+
+use crate::rooms::Scratch;
+use crate::step::{conclude, start};
+use sl_host_answers::{Heard, answer};
+use sl_lease::{SectorBytes, Sectors};
+use sl_sectors::{Image, Images};
+use sl_text::Bytes;
+use sl_trace::{Answer, Effects, Purpose};
+use sl_whole_host::Host;
+use std::alloc::{AllocError, Global};
+use std::sync::Arc;
+
+/// Whether the call of this number is a joining's.
+fn is_joining(host: &Host, number: u64) -> bool
+    ensures { result ≡ joins_at host.now.kept number }
+{
+    match host.open_call(number) {
+        Some(call) => match call.purpose {
+            Purpose::Joining { .. } => true,
+            _ => false,
+        },
+        None => false,
+    }
+}
+
+/// The host is told, and does what that makes due.
+#[tactic(auto, using(crate::proofs::Telling::can_answer, crate::proofs::KnownTellings::few_effects, crate::proofs::KnownTellings::few_calls, crate::proofs::Coming::answer_ends))]
+fn take_answer<S: Sectors>(host: &mut Host, scratch: &mut Scratch, number: u64, heard: Heard<'_, S>)
+    requires at { (now : ℕ) × (first : HostKept) × AtInput now (Told number (answer_of S.bytes heard)) first host.old.kept }
+    requires fits { (c : OpenCallOf) → IsOpen (state_in host.old.kept) number c → FitsHeard S.bytes S.is_cut host.old.kept.config.sizes c heard }
+    requires left { (first : HostView) × HasLeft first host.old }
+    requires scratch { Suffices scratch.old host.old }
+    requires blocks { scratch.old.blocks ≡ host.old.kept.config.sizes.hosts }
+    ensures at { (now : ℕ) (first : HostKept) → AtInput now (Told number (answer_of S.bytes heard.entry)) first host.old.kept → AtEnd now (Told number (answer_of S.bytes heard.entry)) first host.new.kept }
+    ensures left { (first : HostView) → HasLeft first host.old → EndsWith first host.new }
+    ensures lists { host.new.seats ≤ scratch.new.members }
+    ensures blocks { scratch.new.blocks ≡ scratch.old.blocks }
+{
+    answer(
+        host,
+        &mut scratch.jobs,
+        &mut scratch.spots,
+        &mut scratch.blocks,
+        number,
+        heard,
+    );
+}
+
+/// A step at an answer that is at hand so.
+#[tactic(auto, using(crate::proofs::KnownTellings::fits_still))]
+fn step_heard<S: Sectors>(
+    alloc: Global,
+    host: &mut Host,
+    scratch: &mut Scratch,
+    now: u64,
+    number: u64,
+    heard: Heard<'_, S>,
+) -> Result<Effects, AllocError>
+    requires comes { StepComes now (Told number (answer_of S.bytes heard)) host.old.kept }
+    requires fits { (c : OpenCallOf) → IsOpen (state_in host.old.kept) number c → FitsHeard S.bytes S.is_cut host.old.kept.config.sizes c heard }
+    requires idle { IsIdle host.old }
+    requires blocks { scratch.old.blocks ≡ host.old.kept.config.sizes.hosts }
+    ensures ok { IfOk result (λ fx. HasStepped now (Told number (answer_of S.bytes heard.entry)) host.old host.new fx) }
+    ensures err { OnErr result (host.new ≡ host.old) }
+    ensures blocks { scratch.new.blocks ≡ scratch.old.blocks }
+{
+    let begun = start(alloc, host, scratch, now)?;
+    take_answer(host, scratch, number, heard);
+    Ok(conclude(host, scratch, begun.none, begun.is_loud))
+}
+
+/// A step at the answer ok of a read, whose bytes are these.
+#[tactic(auto, using(crate::proofs::KnownTellings::joining_sized))]
+fn step_bytes(
+    alloc: Global,
+    host: &mut Host,
+    scratch: &mut Scratch,
+    now: u64,
+    number: u64,
+    bytes: Bytes,
+) -> Result<Effects, AllocError>
+    requires comes { StepComes now (Told number (ReadOf bytes)) host.old.kept }
+    requires idle { IsIdle host.old }
+    requires blocks { scratch.old.blocks ≡ host.old.kept.config.sizes.hosts }
+    ensures ok { IfOk result (λ fx. HasStepped now (Told number (ReadOf bytes)) host.old host.new fx) }
+    ensures err { OnErr result (host.new ≡ host.old) }
+    ensures blocks { scratch.new.blocks ≡ scratch.old.blocks }
+{
+    if is_joining(host, number) {
+        let sector = Arc::new(alloc, Image::of_bytes(bytes))?;
+        return step_heard::<SectorBytes<'_>>(
+            alloc,
+            host,
+            scratch,
+            now,
+            number,
+            Heard::Sector(sector),
+        );
+    }
+    let sectors = SectorBytes {
+        bytes: bytes.as_slice(),
+    };
+    step_heard(alloc, host, scratch, now, number, Heard::Sectors(&sectors))
+}
+
+/// A step at an answer.
+pub(crate) fn step_answer(
+    alloc: Global,
+    host: &mut Host,
+    scratch: &mut Scratch,
+    now: u64,
+    number: u64,
+    answer: Answer,
+) -> Result<Effects, AllocError>
+    requires comes { StepComes now (Told number answer) host.old.kept }
+    requires idle { IsIdle host.old }
+    requires blocks { scratch.old.blocks ≡ host.old.kept.config.sizes.hosts }
+    ensures ok { IfOk result (λ fx. HasStepped now (Told number answer) host.old host.new fx) }
+    ensures err { OnErr result (host.new ≡ host.old) }
+    ensures blocks { scratch.new.blocks ≡ scratch.old.blocks }
+{
+    match answer {
+        Answer::Read(bytes) => step_bytes(alloc, host, scratch, now, number, bytes),
+        Answer::Written => step_heard::<SectorBytes<'_>>(
+            alloc,
+            host,
+            scratch,
+            now,
+            number,
+            Heard::Written,
+        ),
+        Answer::Failed => step_heard::<SectorBytes<'_>>(
+            alloc,
+            host,
+            scratch,
+            now,
+            number,
+            Heard::Failed,
+        ),
+    }
+}
+
+/// The one sector of a read, shared. An `Err` is want of memory.
+fn only_sector(sectors: &Images) -> Result<Arc<Image>, AllocError>
+    requires sized { IsSectorSize sectors.now.size }
+    requires one { length sectors.now.bytes ≡ sectors.now.size }
+    ensures { IfOk result (λ image. arc_value image ≡ sectors.now.bytes) }
+{
+    match sectors.sector(0) {
+        Some(image) => Ok(image.clone()?),
+        None => unreachable!(),
+    }
+}
+
+/// Whether sectors are cut as a host's are.
+fn is_cut_so(host: &Host, sectors: &Images) -> bool
+    ensures { result ≡ (sectors.now.size == host.now.kept.config.sizes.sector) }
+{
+    sectors.size() == host.config().geometry.sector()
+}
+
+/// A step at sectors that are cut otherwise: their bytes are copied.
+fn step_copied(
+    alloc: Global,
+    host: &mut Host,
+    scratch: &mut Scratch,
+    now: u64,
+    number: u64,
+    sectors: &Images,
+) -> Result<Effects, AllocError>
+    requires comes { StepComes now (read_of number sectors.now) host.old.kept }
+    requires idle { IsIdle host.old }
+    requires blocks { scratch.old.blocks ≡ host.old.kept.config.sizes.hosts }
+    ensures ok { IfOk result (λ fx. HasStepped now (read_of number sectors.now) host.old host.new fx) }
+    ensures err { OnErr result (host.new ≡ host.old) }
+    ensures blocks { scratch.new.blocks ≡ scratch.old.blocks }
+{
+    let mut bytes = Vec::new(alloc);
+    sectors.push_bytes(&mut bytes)?;
+    step_bytes(alloc, host, scratch, now, number, Bytes::new(bytes))
+}
+
+/// A step at the answer ok of a read, with its sectors as the world has them.
+#[tactic(auto, using(crate::proofs::KnownTellings::joining_long, crate::proofs::KnownTellings::sector_fits))]
+pub(crate) fn step_images(
+    alloc: Global,
+    host: &mut Host,
+    scratch: &mut Scratch,
+    now: u64,
+    number: u64,
+    sectors: &Images,
+) -> Result<Effects, AllocError>
+    requires comes { StepComes now (read_of number sectors.now) host.old.kept }
+    requires idle { IsIdle host.old }
+    requires blocks { scratch.old.blocks ≡ host.old.kept.config.sizes.hosts }
+    ensures ok { IfOk result (λ fx. HasStepped now (read_of number sectors.now) host.old host.new fx) }
+    ensures err { OnErr result (host.new ≡ host.old) }
+    ensures blocks { scratch.new.blocks ≡ scratch.old.blocks }
+{
+    if !is_cut_so(host, sectors) {
+        return step_copied(alloc, host, scratch, now, number, sectors);
+    }
+    if is_joining(host, number) {
+        let sector = only_sector(sectors)?;
+        return step_heard::<Images>(alloc, host, scratch, now, number, Heard::Sector(sector));
+    }
+    step_heard(alloc, host, scratch, now, number, Heard::Sectors(sectors))
+}

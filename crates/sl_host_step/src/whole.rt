@@ -1,0 +1,61 @@
+//! A step by its input.
+
+ghost use Rattle.sl_daemon.specs.Daemons.{read_of};
+ghost use Rattle.sl_host_step.specs.Moments.{HasStepped, StepComes};
+ghost use Rattle.sl_host_step.specs.Rooms.{ScratchState};
+ghost use Rattle.sl_host_step.specs.Serving.{IsIdle};
+ghost use Rattle.sl_whole_host.specs.Host.{HostView};
+ghost use Rattle.std.specs.Prelude.{IfOk, OnErr, ◌≡◌};
+
+use crate::answer::{step_answer, step_images};
+use crate::line::step_line;
+use crate::rooms::Scratch;
+use crate::step::{step_exit, step_number, step_start, step_wake};
+use sl_sectors::Images;
+use sl_trace::{Effects, Input};
+use sl_whole_host::Host;
+use std::alloc::{AllocError, Global};
+
+/// A step at this input. An `Err` is want of memory, or of numbers of calls, jobs, children or steps, and changes nothing.
+pub(crate) fn step_at(
+    alloc: Global,
+    host: &mut Host,
+    scratch: &mut Scratch,
+    now: u64,
+    input: Input,
+) -> Result<Effects, AllocError>
+    requires comes { StepComes now input host.old.kept }
+    requires idle { IsIdle host.old }
+    requires blocks { scratch.old.blocks ≡ host.old.kept.config.sizes.hosts }
+    ensures ok { IfOk result (λ fx. HasStepped now input host.old host.new fx) }
+    ensures err { OnErr result (host.new ≡ host.old) }
+    ensures blocks { scratch.new.blocks ≡ scratch.old.blocks }
+{
+    match input {
+        Input::Line(text) => step_line(alloc, host, scratch, now, text.as_slice()),
+        Input::Number(_) => step_number(alloc, host, scratch, now),
+        Input::Answer { call, answer } => step_answer(alloc, host, scratch, now, call, answer),
+        Input::Wake => step_wake(alloc, host, scratch, now),
+        Input::Exit { process } => step_exit(alloc, host, scratch, now, process),
+        Input::Spawned { process, ok } => step_start(alloc, host, scratch, now, process, ok),
+    }
+}
+
+/// A step at the answer ok of a read, with its sectors as the world has them. An `Err` is as above.
+pub(crate) fn step_read(
+    alloc: Global,
+    host: &mut Host,
+    scratch: &mut Scratch,
+    now: u64,
+    call: u64,
+    sectors: &Images,
+) -> Result<Effects, AllocError>
+    requires comes { StepComes now (read_of call sectors.now) host.old.kept }
+    requires idle { IsIdle host.old }
+    requires blocks { scratch.old.blocks ≡ host.old.kept.config.sizes.hosts }
+    ensures ok { IfOk result (λ fx. HasStepped now (read_of call sectors.now) host.old host.new fx) }
+    ensures err { OnErr result (host.new ≡ host.old) }
+    ensures blocks { scratch.new.blocks ≡ scratch.old.blocks }
+{
+    step_images(alloc, host, scratch, now, call, sectors)
+}
