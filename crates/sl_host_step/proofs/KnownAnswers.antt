@@ -22,7 +22,6 @@ use Rattle.sl_plain.proofs.Lists.{find_inside}
 use Rattle.sl_sector.specs.declared.sector.Block.{Block}
 use Rattle.sl_step_law.proofs.AnswersAreAwaited.{answers_are_awaited}
 use Rattle.sl_step_law.proofs.AnswersAreKnown.{answers_are_known}
-use Rattle.sl_step_law.proofs.CallsAsk.{calls_ask}
 use Rattle.sl_step_law.proofs.HostsAreKnown.{hosts_are_known}
 use Rattle.sl_step_law.proofs.LeaseAnswersAreKnown.{lease_answers_are_known}
 use Rattle.sl_step_law.proofs.MembersAreKnown.{members_are_known}
@@ -30,7 +29,6 @@ use Rattle.sl_step_law.proofs.MomentsAreKnown.{moments_are_known}
 use Rattle.sl_step_law.proofs.PlacesAreKnown.{places_are_known}
 use Rattle.sl_step_law.specs.Answering.{LeaseHeard}
 use Rattle.sl_step_law.specs.Awaiting.{IsMembersCall}
-use Rattle.sl_step_law.specs.Asking.{sectors_asked}
 use Rattle.sl_step_law.specs.Moments.{IsMoment}
 use Rattle.sl_trace.specs.declared.effects.LeaseStep.{LeaseStep}
 use Rattle.sl_trace.specs.declared.effects.Purpose.TheVariants.{Lease}
@@ -45,7 +43,7 @@ use Rattle.sl_words.specs.Bounds.{moments}
 use Rattle.sl_words.specs.Words.{some_is}
 use Rattle.std.proofs.Common.{ap, subst, sym, ◌∙◌}
 use Rattle.std.proofs.lemmas.Bool.{eqb-true}
-use Rattle.std.specs.Prelude.{Contains, List, Option, Some, find, is_some, true, ℕ, ◌<◌, ◌==◌, ◌≡◌, length, ◌*◌, None}
+use Rattle.std.specs.Prelude.{Contains, List, Option, Some, find, is_some, true, ℕ, ◌<◌, ◌==◌, ◌≡◌}
 
 module _ (now number : ℕ) (answer : Answer) (k : HostKept) (c : OpenCall) (a : IsAtInput now (Told number answer) k) (opens : IsOpen (state_in k) number c) where
   moment : IsMoment Wake (state_of a.read k) a.step
@@ -78,23 +76,6 @@ module _ (now number : ℕ) (answer : Answer) (k : HostKept) (c : OpenCall) (a :
   reads work step bytes for is =
       let n = subst (λ z. IsAnswerOf (layout_of k.config.sizes) z c) is answers in
       sym (lease_answers_are_known.steps (state_of a.read k) a.step number c work step a.ready opens for) ∙ ap (λ o. is_some o) n.1
-
-  -- ---- its sectors
-
-  asks : c.sectors ≡ sectors_asked k.config.sizes.hosts c.purpose
-  asks = calls_ask (state_of a.read k) a.step c a.ready found.0
-
-  -- A read gives as many as its purpose asks.
-  pub many : (bytes : List ℕ) (n : ℕ) → answer ≡ Read bytes → sectors_asked k.config.sizes.hosts c.purpose ≡ Some n → length bytes ≡ n * k.config.sizes.sector
-  many bytes n is asked =
-      let z = subst (λ z. IsAnswerOf (layout_of k.config.sizes) z c) is answers in z.2 ∙ ap (λ i. i * k.config.sizes.sector) (some_value z.0 n (sym z.1 ∙ asks ∙ asked))
-
-  -- What gives bytes reads; what is written writes.
-  pub gives : (bytes : List ℕ) → answer ≡ Read bytes → is_some (sectors_asked k.config.sizes.hosts c.purpose) ≡ true
-  gives bytes is = (let z = subst (λ z. IsAnswerOf (layout_of k.config.sizes) z c) is answers in ap (λ o. is_some o) (sym asks ∙ z.1))
-
-  pub written : answer ≡ Written → sectors_asked k.config.sizes.hosts c.purpose ≡ None
-  written is = sym asks ∙ subst (λ z. IsAnswerOf (layout_of k.config.sizes) z c) is answers
 
   -- ---- before it is heard
 

@@ -50,7 +50,7 @@ has_steps_by w e None is = refl
 has_steps_by w e (Some i) is = (at_most_one, refl, λ k h. first_step w e _ k (ap is_some is) h)
 
 -- What is due is the steps of the event.
-has_steps : (w : World) (e : Event) → HasSteps w e (effects_of w e)
+pub has_steps : (w : World) (e : Event) → HasSteps w e (effects_of w e)
 has_steps w e = has_steps_by w e (input_of w e) refl
 
 -- ---- runs, one behind another

@@ -1,6 +1,6 @@
 -- A search for a run of events, each daemon doing what is due; and the digest of examples is one.
 use Rattle.sl_examples.specs.Cheap.{cheap_digest}
-use Rattle.sl_first_run.proofs.Reported.{has_steps}
+use Rattle.sl_run_report.proofs.Reported.{has_steps}
 use Rattle.sl_report.specs.Replay.{due_run, effects_of}
 use Rattle.sl_run.specs.Events.{happens, may_happen}
 use Rattle.sl_run.specs.Runs.{IsRun}

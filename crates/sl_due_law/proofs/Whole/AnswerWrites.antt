@@ -24,8 +24,8 @@ use Rattle.sl_due_law.specs.Whole.Writes.{LeaseWrites}
 use Rattle.sl_due_law.proofs.Whole.BallotWrites.{phase1_own}
 use Rattle.sl_area.specs.Layouts.{sizes}
 use Rattle.sl_due_law.proofs.Ways.Decoding.{blocks_read}
-use Rattle.sl_resource.proofs.RecordFacts.{phase2_begun}
-use Rattle.sl_resource.specs.Bounds.{IsBegun}
+use Rattle.sl_lease.proofs.RecordFacts.{phase2_begun}
+use Rattle.sl_lease.specs.Bounds.{IsBegun}
 use Rattle.sl_due_law.proofs.Leases.WorkIsActive.{work_is_active}
 use Rattle.sl_due_law.proofs.Ways.Kept.EffectsLeave.{there_has}
 use Rattle.sl_due_law.proofs.Ways.Kept.HeardStands.{heard_call, heard_has, heard_open}

@@ -12,7 +12,7 @@ use Rattle.sl_leases.specs.declared.lease.Instance.{Instance}
 use Rattle.sl_leases.specs.declared.lease.LeaseNext.TheVariants.{AnswerJob, Nothing}
 use Rattle.sl_leases.specs.declared.lease.LeaseNext.{LeaseNext}
 use Rattle.sl_plain.proofs.Lists.{got_inside}
-use Rattle.sl_resource.proofs.RecordFacts.{instance_least}
+use Rattle.sl_lease.proofs.RecordFacts.{instance_least}
 use Rattle.sl_sector.specs.Records.{IsBlock, IsLeader}
 use Rattle.sl_sector.specs.declared.sector.Block.{Block}
 use Rattle.sl_sector.specs.declared.sector.Leader.{Leader}

@@ -1,4 +1,0 @@
-pub mod FirstPath
-pub mod FirstWords
-pub mod FirstSteps
-pub mod Promises

@@ -1,2 +1,0 @@
-pub mod LeaseForms
-pub mod LeaseTexts

@@ -1,6 +1,0 @@
-pub mod LeaseHosts
-pub mod Moves
-pub mod Phases
-pub mod Sites
-pub mod Submits
-pub mod Taken

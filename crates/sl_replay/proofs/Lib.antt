@@ -1,4 +1,0 @@
-pub mod Holdings
-pub mod ReportLaws
-pub mod HeaderLaws
-pub mod CountLaws

@@ -1,4 +1,0 @@
-pub mod StillPath
-pub mod StillLeases
-pub mod StillSteps
-pub mod Promises

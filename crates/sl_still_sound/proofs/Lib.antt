@@ -1,3 +1,0 @@
-mod Steps
-mod Daemons
-pub mod Readings

@@ -1,2 +1,0 @@
-pub mod StillDaemons
-pub mod Promises

@@ -1,6 +1,0 @@
-pub mod Sums
-pub mod Jobs
-pub mod Spots
-pub mod Resources
-pub mod Holders
-pub mod Moves

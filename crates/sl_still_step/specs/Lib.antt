@@ -1,3 +1,0 @@
-pub mod StillAreas
-pub mod Promises
-pub mod Count
