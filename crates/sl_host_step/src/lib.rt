@@ -3,10 +3,12 @@
 
 mod answer;
 mod bytes;
-pub mod daemon;
+mod daemon;
 mod expecting;
 pub mod laws;
 mod line;
 mod rooms;
 mod step;
 mod whole;
+
+pub use daemon::HostDaemon;

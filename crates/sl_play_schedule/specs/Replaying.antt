@@ -6,7 +6,7 @@ use Rattle.sl_play.specs.Owing.{EachStood}
 use Rattle.sl_play.specs.Playing.{PlayState, PlaysOn}
 use Rattle.sl_play_schedule.specs.declared.replay.Played.TheVariants.{Done, NoMemory, ReadFault, Refused, WriteFault}
 use Rattle.sl_play_schedule.specs.declared.replay.Played.{Played}
-use Rattle.sl_report.specs.Headline.{FrontOf, HeadersAreGood, IsFrontOf, MayHaveBeen, ReplayOf, ReplayOwed}
+use Rattle.sl_report.specs.Headline.{FrontOf, HeadersAreGood, IsFrontOf, MayHaveBeen, Promise, ReplayOf, ReplayOwed}
 use Rattle.sl_report.specs.Languages.{Language, language_of}
 use Rattle.sl_report.specs.Reports.{Counts, end_line, no_counts}
 use Rattle.sl_report.specs.ScheduleLines.{HeaderLine}
@@ -58,19 +58,18 @@ ReportsFront commands stands ended read written =
 
 -- It is the report of these lines and no more: with a last line behind it, it is all of the report of a source that ends with them; or they are
 -- lines of a header that isn't whole, and nothing is written.
-pub data ReportsLines {D : Type 0} (commands : Header → List (Form Command)) (stands : D → Setting → Trace → Type 0) (lines written : List ℕ) : Type 0 where
-  Of_events : (k : Counts) → ReplayOf (λ p h xs. MadeRun stands p h xs) (played_language commands) lines (written ++ as_bytes (end_line k ∷ [])) 0
-      → ReportsLines commands stands lines written
-  Of_header : (ls : List HeaderLine) (r : ReaderState) → HeaderGoesOn lines ls r → written ≡ [] → ReportsLines commands stands lines written
+pub data ReportsLines (promised : Promise) (lang : Language) (lines written : List ℕ) : Type 0 where
+  Of_events : (k : Counts) → ReplayOf promised lang lines (written ++ as_bytes (end_line k ∷ [])) 0 → ReportsLines promised lang lines written
+  Of_header : (ls : List HeaderLine) (r : ReaderState) → HeaderGoesOn lines ls r → written ≡ [] → ReportsLines promised lang lines written
 
 -- So of the complete lines of what was read: all up to the last line feed.
-pub record ReportsComplete {D : Type 0} (commands : Header → List (Form Command)) (stands : D → Setting → Trace → Type 0) (read written : List ℕ) : Type 0 where
+pub record ReportsComplete (promised : Promise) (lang : Language) (read written : List ℕ) : Type 0 where
   pub complete : List ℕ
   pub partial : List ℕ
   pub cut : read ≡ complete ++ partial
   pub whole : AreWholeLines complete
   pub free : IsTrue (is_free_of 10 partial)
-  pub report : ReportsLines commands stands complete written
+  pub report : ReportsLines promised lang complete written
 
 -- ---- by the status
 
@@ -83,7 +82,7 @@ pub data Replays {D : Type 0} (commands : Header → List (Form Command)) (stand
   Stops : (x : Moved left after taken now) → ReportsAll commands stands x.ended x.read x.written 1
       → Replays commands stands left after taken now faults later sink_faults sink_later Refused
   -- a read failed, and the report of the complete lines is written
-  Breaks : (x : Moved left after taken now) → Rose faults later → ReportsComplete commands stands x.read x.written → ReportsFront commands stands x.ended x.read x.written
+  Breaks : (x : Moved left after taken now) → Rose faults later → ReportsComplete (λ p h xs. MadeRun stands p h xs) (played_language commands) x.read x.written → ReportsFront commands stands x.ended x.read x.written
       → Replays commands stands left after taken now faults later sink_faults sink_later ReadFault
   -- a write failed, or there was no memory: what is written begins the report
   Chokes : (x : Moved left after taken now) → Rose sink_faults sink_later → ReportsFront commands stands x.ended x.read x.written
@@ -108,7 +107,7 @@ pub record IsOwed {D : Type 0} (commands : Header → List (Form Command)) (stan
   pub write_fault : s ≡ WriteFault → Rose sink_faults sink_later
   -- at status 0 the source was read to its end; at 3 the complete lines' report stands written, and no more
   pub to_end : s ≡ Done → moved.ended ≡ true
-  pub complete : s ≡ ReadFault → ReportsComplete commands stands moved.read moved.written
+  pub complete : s ≡ ReadFault → ReportsComplete (λ p h xs. MadeRun stands p h xs) (played_language commands) moved.read moved.written
 
 abbrev pub ReplaysAreOwed : {D : Type 0} → (Header → List (Form Command)) → (D → Setting → Trace → Type 0) → Type 0
 ReplaysAreOwed {D} commands stands =

@@ -1,11 +1,12 @@
--- A made run of daemons that do what is due is sound, field by field.
+-- A made run of daemons that do what is due is sound, field by field; and what is shown of lawful runs is true of it.
 use Rattle.sl_daemon.specs.Daemons.{Stood}
 use Rattle.sl_due.specs.Due.{IsHostTrace}
 use Rattle.sl_run.specs.Runs.{EachDaemon}
-use Rattle.sl_run.specs.Safety.{SafeRun, world_at}
-use Rattle.sl_safety.proofs.Whole.{lawful_runs_are_safe}
+use Rattle.sl_run.specs.Safety.{LawfulRun, SafeRun, world_at}
+use Rattle.sl_safety.proofs.Value.Proven.{values_are_last}
+use Rattle.sl_safety.proofs.Whole.{lawful_runs_are_safe, volumes_exclude}
 use Rattle.sl_sound.proofs.Counting.{safe_runs_count_none}
-use Rattle.sl_sound.specs.Promises.{MadeRunsAreSound}
+use Rattle.sl_sound.specs.Promises.{MadeRunsAreSound, SoundRunsAreServed}
 use Rattle.sl_trace.specs.Traces.{Setting, Trace}
 use Rattle.std.proofs.Common.{sym}
 use Rattle.std.proofs.lemmas.List.{append-nil}
@@ -31,3 +32,13 @@ made_runs_are_sound {D} stands does lawful p h xs header digest made =
       safe = safe;
       no_conflict = safe_runs_count_none p h xs made.is_run safe;
     }
+
+pub sound_runs_are_served : SoundRunsAreServed
+sound_runs_are_served p h xs header digest sound =
+    let lawful : LawfulRun p h xs = record {
+      header = header;
+      digest = digest;
+      is_run = sound.is_run;
+      lawful = λ d has. (sound.lawful d has).orderly;
+    } in
+    record { sound = sound; values = values_are_last p h xs lawful; volumes = volumes_exclude p h xs lawful }

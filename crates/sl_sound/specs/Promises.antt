@@ -1,6 +1,6 @@
 -- What is promised of made runs, once daemons do what is due, and what is due is lawful.
 use Rattle.sl_due.specs.Due.{IsHostTrace}
-use Rattle.sl_report.specs.Headline.{HeadersAreGood, ReplayOwed, SoundRun}
+use Rattle.sl_report.specs.Headline.{HeadersAreGood, ReplayHeadline, ReplayOf, ReplayOwed, SoundRun}
 use Rattle.sl_report.specs.Host.{DueIsLawful}
 use Rattle.sl_report.specs.Languages.{Language}
 use Rattle.sl_report.specs.Reports.{no_counts, run_counts}
@@ -10,7 +10,7 @@ use Rattle.sl_run.specs.Safety.{SafeRun}
 use Rattle.sl_run.specs.Worlds.{Program, world_with}
 use Rattle.sl_run.specs.declared.header.Header.{Header}
 use Rattle.sl_sector.specs.Spelling.{IsDigest}
-use Rattle.sl_sound.specs.Made.{MadeRun}
+use Rattle.sl_sound.specs.Made.{MadeRun, ServedRun}
 use Rattle.sl_trace.specs.Traces.{Setting, Trace}
 use Rattle.std.specs.Prelude.{Bool, List, ℕ, ◌≡◌}
 
@@ -32,6 +32,10 @@ abbrev pub MadeRunsAreSound : {D : Type 0} → (D → Setting → Trace → Type
 MadeRunsAreSound stands =
     DaemonsDoWhatIsDue stands → DueIsLawful → (p : Program) (h : Header) (xs : List Happening) → IsHeader h → IsDigest p.digest → MadeRun stands p h xs → SoundRun p h xs
 
+-- A sound run is a lawful one, so all that is shown of lawful runs is true of it.
+abbrev pub SoundRunsAreServed : Type 0
+SoundRunsAreServed = (p : Program) (h : Header) (xs : List Happening) → IsHeader h → IsDigest p.digest → SoundRun p h xs → ServedRun p h xs
+
 -- ---- what is owed
 
 -- So what is owed for bytes read and written of which a made run is promised, is owed of a sound one.
@@ -40,3 +44,15 @@ MadeReplaysAreSound stands =
     DaemonsDoWhatIsDue stands → DueIsLawful → (lang : Language) → HeadersAreGood lang → IsDigest lang.program.digest
     → (ended : Bool) (read written : List ℕ) (status : ℕ) → ReplayOwed (λ p h xs. MadeRun stands p h xs) lang ended read written status
     → ReplayOwed SoundRun lang ended read written status
+
+-- .. and where the plain program's report is owed, of a sound run, it is owed of one that is served.
+abbrev pub SoundReplaysAreServed : Type 0
+SoundReplaysAreServed =
+    (lang : Language) → HeadersAreGood lang → IsDigest lang.program.digest
+    → (ended : Bool) (read written : List ℕ) (status : ℕ) → ReplayHeadline SoundRun lang ended read written status → ReplayHeadline ServedRun lang ended read written status
+
+-- What is promised of a made run's whole report is so promised of a served one's.
+abbrev pub MadeReportsAreServed : {D : Type 0} → (D → Setting → Trace → Type 0) → Type 0
+MadeReportsAreServed stands =
+    DaemonsDoWhatIsDue stands → DueIsLawful → (lang : Language) → HeadersAreGood lang → IsDigest lang.program.digest
+    → (source written : List ℕ) (status : ℕ) → ReplayOf (λ p h xs. MadeRun stands p h xs) lang source written status → ReplayOf ServedRun lang source written status

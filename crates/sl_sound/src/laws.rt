@@ -1,6 +1,6 @@
 //! What is promised of made runs.
 
-ghost use Rattle.sl_sound.specs.Promises.{MadeReplaysAreSound, MadeRunsAreSound, SafeRunsCountNone};
+ghost use Rattle.sl_sound.specs.Promises.{MadeReplaysAreSound, MadeReportsAreServed, MadeRunsAreSound, SafeRunsCountNone, SoundReplaysAreServed, SoundRunsAreServed};
 
 use sl_daemon::Daemon;
 
@@ -17,4 +17,19 @@ pub fn made_runs_are_sound<D: Daemon>()
 /// What is owed of made runs is then owed of sound ones.
 pub fn made_replays_are_sound<D: Daemon>()
     ensures { MadeReplaysAreSound D.stands }
+{}
+
+/// A sound run is a lawful one, so values are the last, and volumes exclude each other.
+pub fn sound_runs_are_served()
+    ensures { SoundRunsAreServed }
+{}
+
+/// What is owed of sound runs is owed of served ones.
+pub fn sound_replays_are_served()
+    ensures { SoundReplaysAreServed }
+{}
+
+/// So is the whole report of a made run.
+pub fn made_reports_are_served<D: Daemon>()
+    ensures { MadeReportsAreServed D.stands }
 {}

@@ -1,4 +1,3 @@
-pub mod SessionLaws
 pub mod TopLaws
 pub mod RunLaws
 pub mod DirectLaws

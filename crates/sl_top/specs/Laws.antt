@@ -4,8 +4,8 @@ use Rattle.sl_cli.specs.declared.reading.Words.{Words}
 use Rattle.sl_direct.specs.Laws.{sector_at}
 use Rattle.sl_direct.specs.Lines.{is_its_leader, leader_in_sector}
 use Rattle.sl_direct.specs.declared.action.Action.TheVariants.{ReadLeader}
-use Rattle.sl_first_run.specs.Accepted.{IsAccepted}
-use Rattle.sl_still_schedule.specs.StillLanguage.{still_language}
+use Rattle.sl_report.specs.Languages.{whole_language}
+use Rattle.sl_run_report.specs.Followed.{IsAccepted}
 use Rattle.sl_top.specs.Runs.{IsCutShort, IsDirect, Outside, Owes}
 use Rattle.sl_top.specs.declared.status.Status.TheVariants.{AreaFault, BadWords, Done, NoMemory, NotTheLeader, ReadFault, Refused, WriteFault}
 use Rattle.sl_top.specs.declared.status.Status.{Status}
@@ -48,6 +48,12 @@ pub record NothingFailed (x y : Outside) : Type 0 where
 
 -- A schedule that is read and allowed from its first line to its last is done, if nothing fails and memory lasts; and no other schedule is.
 pub record AcceptedSchedulesEndWell : Type 0 where
-  pub well : (source : List ℕ) (x y : Outside) (s : Status) → Owes (Some Replay) x y s → x.left ≡ Some source → IsAccepted still_language source → NothingFailed x y
+  pub well : (source : List ℕ) (x y : Outside) (s : Status) → Owes (Some Replay) x y s → x.left ≡ Some source → IsAccepted whole_language source → NothingFailed x y
       → (s ≡ Done) ⊎ (s ≡ NoMemory)
-  pub only : (source : List ℕ) (x y : Outside) (s : Status) → Owes (Some Replay) x y s → x.left ≡ Some source → s ≡ Done → IsAccepted still_language source
+  pub only : (source : List ℕ) (x y : Outside) (s : Status) → Owes (Some Replay) x y s → x.left ≡ Some source → s ≡ Done → IsAccepted whole_language source
+
+-- Any other is refused, if nothing fails and memory lasts; and none that is accepted is.
+pub record OthersAreRefused : Type 0 where
+  pub well : (source : List ℕ) (x y : Outside) (s : Status) → Owes (Some Replay) x y s → x.left ≡ Some source → (IsAccepted whole_language source → ⊥) → NothingFailed x y
+      → (s ≡ Refused) ⊎ (s ≡ NoMemory)
+  pub only : (source : List ℕ) (x y : Outside) (s : Status) → Owes (Some Replay) x y s → x.left ≡ Some source → s ≡ Refused → IsAccepted whole_language source → ⊥

@@ -6,11 +6,11 @@ use Rattle.sl_cli.specs.declared.texts.TheConstants.{HELP, VERSION}
 use Rattle.sl_direct.specs.Actions.{Directs, path_of}
 use Rattle.sl_direct.specs.declared.action.Action.{Action}
 use Rattle.sl_direct.specs.declared.action.Directed.{Directed}
-use Rattle.sl_first_run.specs.Readings.{replay_status}
-use Rattle.sl_report.specs.Headline.{IsFrontOf, MayHaveBeen, ReplayHeadline, SoundRun, is_whole_status}
-use Rattle.sl_report.specs.Schedules.{replay_lines}
-use Rattle.sl_still_schedule.specs.StillLanguage.{still_language}
-use Rattle.sl_text.specs.Forms.{as_bytes}
+use Rattle.sl_play_schedule.specs.Replaying.{ReportsComplete}
+use Rattle.sl_report.specs.Headline.{IsFrontOf, MayHaveBeen, ReplayHeadline, is_whole_status}
+use Rattle.sl_report.specs.Languages.{whole_language}
+use Rattle.sl_run_report.specs.Promises.{replay_status}
+use Rattle.sl_sound.specs.Made.{ServedRun}
 use Rattle.sl_top.specs.Disks.{CountsBack, Disks, KeepsAllBut}
 use Rattle.sl_top.specs.Statuses.{code, status_after}
 use Rattle.sl_top.specs.declared.status.Status.TheVariants.{BadWords, Done, NoMemory, ReadFault, WriteFault}
@@ -18,15 +18,11 @@ use Rattle.sl_top.specs.declared.status.Status.{Status}
 use Rattle.sl_words.specs.Causes.{Rose}
 use Rattle.std.specs.Global.{Global}
 use Rattle.std.specs.Io.KnownBytes.{Appends, Consumes, IsAtEnd}
-use Rattle.std.specs.Prelude.{Bool, IsTrue, List, None, Option, Some, String, codes, map, string_bytes, [], ℕ, ◌++◌, ◌∷◌, ◌≡◌, ◌⊎◌}
+use Rattle.std.specs.Prelude.{Bool, IsTrue, List, None, Option, Some, String, codes, map, string_bytes, true, [], ℕ, ◌++◌, ◌∷◌, ◌≡◌, ◌⊎◌}
 
 -- What the words of the command line say, if they say something.
 abbrev pub said : List (String Global) → Option Words
 said words = said_in (map string_bytes words)
-
--- The report of a source.
-abbrev pub report_text : List ℕ → List ℕ
-report_text source = as_bytes (replay_lines still_language source)
 
 -- The line that words print which say nothing.
 abbrev pub bad_words_text : List ℕ
@@ -56,10 +52,14 @@ pub record Replays (left after : Option (List ℕ)) (faults later : ℕ) (taken 
   pub reads : Consumes left after read
   pub at_end : IsTrue ended → IsAtEnd after
   pub writes : Appends taken now written
-  -- the bytes written are the report of a sound run
-  pub headline : ReplayHeadline SoundRun still_language ended read written (code s)
+  -- the bytes written are the report of a run that is served: its daemons do what is due, it is lawful, and no two holdings conflict in it
+  pub headline : ReplayHeadline ServedRun whole_language ended read written (code s)
   -- a status that tells of a whole report is the source's own
-  pub own : IsTrue (is_whole_status (code s)) → (source : List ℕ) → MayHaveBeen ended read source → code s ≡ replay_status still_language source
+  pub own : IsTrue (is_whole_status (code s)) → (source : List ℕ) → MayHaveBeen ended read source → code s ≡ replay_status whole_language source
+  -- at status 0 the source was read to its end
+  pub to_end : s ≡ Done → ended ≡ true
+  -- where a read failed, the report of the complete lines is written, and no more
+  pub complete : s ≡ ReadFault → ReportsComplete ServedRun whole_language read written
   -- a fault is told only where one was counted
   pub read_fault : s ≡ ReadFault → Rose faults later
   pub write_fault : s ≡ WriteFault → Rose sink_faults sink_later

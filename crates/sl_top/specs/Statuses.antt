@@ -1,8 +1,8 @@
 -- The numbers of statuses.
 use Rattle.sl_direct.specs.declared.action.Directed.TheVariants as directed
 use Rattle.sl_direct.specs.declared.action.Directed.{Directed}
-use Rattle.sl_replay.specs.declared.replay.Ended.TheVariants.{AtLine, Whole}
-use Rattle.sl_replay.specs.declared.replay.Ended.{Ended}
+use Rattle.sl_play_schedule.specs.declared.replay.Played.TheVariants as played
+use Rattle.sl_play_schedule.specs.declared.replay.Played.{Played}
 use Rattle.sl_top.specs.declared.status.Status.TheVariants.{AreaFault, BadWords, Done, NoMemory, NotTheLeader, ReadFault, Refused, WriteFault}
 use Rattle.sl_top.specs.declared.status.Status.{Status}
 use Rattle.std.specs.Prelude.{ℕ}
@@ -18,10 +18,13 @@ code NoMemory = 5
 code AreaFault = 6
 code NotTheLeader = 7
 
--- The status of a report that was written whole.
-abbrev pub status_of : Ended → Status
-status_of Whole = Done
-status_of AtLine = Refused
+-- The status of a replay that ended so.
+abbrev pub status_of : Played → Status
+status_of played.Done = Done
+status_of played.Refused = Refused
+status_of played.ReadFault = ReadFault
+status_of played.WriteFault = WriteFault
+status_of played.NoMemory = NoMemory
 
 -- The status of an action that went so.
 abbrev pub status_after : Directed → Status

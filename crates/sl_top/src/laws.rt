@@ -1,6 +1,6 @@
 //! What each status tells of a run: laws of the definitions that `run` and `run_offline` cite.
 
-ghost use Rattle.sl_top.specs.Laws.{AcceptedSchedulesEndWell, CausesHaveStatuses, StatusesHaveCauses};
+ghost use Rattle.sl_top.specs.Laws.{AcceptedSchedulesEndWell, CausesHaveStatuses, OthersAreRefused, StatusesHaveCauses};
 
 /// Each status but `Done` and want of memory comes only with its cause.
 pub fn statuses_have_causes()
@@ -15,4 +15,9 @@ pub fn causes_have_statuses()
 /// A schedule that is read and allowed to its end is done, unless something fails or memory lacks; no other is.
 pub fn accepted_schedules_end_well()
     ensures { AcceptedSchedulesEndWell }
+{}
+
+/// Any other schedule is refused, unless something fails or memory lacks; no accepted one is.
+pub fn other_schedules_are_refused()
+    ensures { OthersAreRefused }
 {}

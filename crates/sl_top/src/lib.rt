@@ -1,7 +1,8 @@
 //! The top call: the words of the command line, a source, a sink, devices, and the status that the process ends with.
 //!
-//! `run` does what the words say. `replay` reads the source and puts its report out to the sink; `direct` takes a disk of the devices, does
-//! its action there and gives the disk back; the help and the version are put out; words that say nothing are refused. `devices` says what
+//! `run` does what the words say. `replay` reads the source line by line, plays it in a world of hosts and puts its report out to the sink;
+//! `direct` takes a disk of the devices, does its action there and gives the disk back; the help and the version are put out; words that say
+//! nothing are refused. `devices` says what
 //! devices are; `mem_devices` has them in memory, with what each disk holds told, `file_devices` over files.
 //!
 //! The clause of `run` is one definition, `Owes` in specs/Runs.antt, by what the words say. `laws` reads the statuses off it: each comes
@@ -10,7 +11,6 @@
 
 mod devices;
 mod file_devices;
-mod first;
 pub mod laws;
 mod mem_devices;
 mod status;

@@ -4,7 +4,7 @@ ghost use Rattle.sl_top.specs.Statuses.{code, status_after, status_of};
 ghost use Rattle.std.specs.Prelude.{◌≡◌};
 
 use sl_direct::Directed;
-use sl_replay::Ended;
+use sl_play_schedule::Played;
 
 /// How a run of the program ended.
 #[derive(Clone, Copy, Debug, PartialEq, Eq)]
@@ -45,13 +45,16 @@ impl Status {
     }
 }
 
-/// The status of a report that was written whole.
-pub(crate) fn status_of(ended: Ended) -> Status
-    ensures { result ≡ status_of ended }
+/// The status of a replay that ended so.
+pub(crate) fn status_of(played: Played) -> Status
+    ensures { result ≡ status_of played }
 {
-    match ended {
-        Ended::Whole => Status::Done,
-        Ended::AtLine => Status::Refused,
+    match played {
+        Played::Done => Status::Done,
+        Played::Refused => Status::Refused,
+        Played::ReadFault => Status::ReadFault,
+        Played::WriteFault => Status::WriteFault,
+        Played::NoMemory => Status::NoMemory,
     }
 }
 

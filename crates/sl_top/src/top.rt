@@ -1,110 +1,32 @@
 //! The top call.
 //!
-//! `replay` reads its source whole before it runs a line, so a read that fails leaves nothing written. The report is put out once it
-//! stands, or as far as memory went: what is written is then a front of it. `direct` takes one disk of the devices, does its action there,
-//! and gives the disk back.
+//! `replay` plays its source line by line, so where a read fails the report of the lines before it stands written; where a write fails or memory
+//! runs out, a front of the report. `direct` takes one disk of the devices, does its action there, and gives the disk back.
 
 ghost use Rattle.sl_direct.specs.Actions.{IsAction};
-ghost use Rattle.sl_replay.specs.Reports.{Adds, ending_of};
-ghost use Rattle.sl_report.specs.Headline.{IsFrontOf};
-ghost use Rattle.sl_report.specs.Reports.{no_counts};
-ghost use Rattle.sl_run.specs.Worlds.{world_with};
-ghost use Rattle.sl_still_schedule.specs.StillHeaders.{IsStillHeader};
-ghost use Rattle.sl_still_schedule.specs.StillLanguage.{still_program};
-ghost use Rattle.sl_top.specs.Runs.{ActsOn, IsDirect, IsReplay, Owes, PutsOut, Replays, report_text, said};
-ghost use Rattle.sl_top.specs.Statuses.{status_of};
+ghost use Rattle.sl_top.specs.Runs.{ActsOn, IsDirect, IsReplay, Owes, PutsOut, Replays, said};
 ghost use Rattle.sl_top.specs.declared.status.Status.TheVariants.{WriteFault};
-ghost use Rattle.std.specs.Prelude.{IfOk, List, OnErr, [], length, ℕ, ◌-◌, ◌<◌, ◌^◌, ◌≡◌, ◌≢◌, ◌≤◌};
+ghost use Rattle.std.specs.Prelude.{◌≡◌, ◌≢◌};
 
 use crate::devices::Devices;
-use crate::first::{first_run, has_daemon};
 use crate::status::{Status, status_after, status_of};
 use sl_area::Area;
 use sl_cli::{HELP, VERSION, Words, WordsError, read_words};
 use sl_direct::{Action, run_direct};
-use sl_io::{ReadAll, ReadAllError, Sink, Source, read_all, write_all};
-use sl_replay::{Ended, read_still_header, run_idle};
-use sl_run::Header;
-use sl_schedule::{Lines, push_refusal_line};
-use std::alloc::{AllocError, Global};
+use sl_header_law::laws::whole_language_may_play;
+use sl_host_step::HostDaemon;
+use sl_io::{Sink, Source, write_all};
+use sl_locks::LvmLocks;
+use sl_play_schedule::play_schedule;
+use std::alloc::Global;
 
-/// The most bytes of a schedule.
-const GREATEST_SOURCE: usize = 1_000_000_000;
-
-/// How many bytes there are: so few that their lines can be counted.
-fn bytes_of(source: &[u8]) -> usize
-    ensures exact { result ≡ length source.now }
-    ensures few { length source.now < 2 ^ 63 }
-{
-    source.len()
-}
-
-/// Writes what the lines behind a header add to the report, where this was written of it. After an `Err`, which is want of memory, a front
-/// of the report was written.
-fn push_run(
-    alloc: Global,
-    header: Header,
-    out: &mut Vec<u8>,
-    lines: &mut Lines,
-) -> Result<Ended, AllocError>
-    requires header { IsStillHeader header }
-    requires room { length lines.old ≤ 2 ^ 64 - 1 }
-    ensures exact { (total : List ℕ) (end : Ended) → Adds header (world_with still_program header) no_counts lines.old out.old.items total end
-        → IfOk result (λ ended. (ended ≡ end) × (out.new.items ≡ total)) }
-    ensures front { (total : List ℕ) (end : Ended) → Adds header (world_with still_program header) no_counts lines.old out.old.items total end
-        → OnErr result (IsFrontOf out.new.items total) }
-{
-    if !has_daemon(&header) {
-        return run_idle(alloc, header.geometry.sector(), out, lines);
-    }
-    let mut replay = first_run(alloc, header)?;
-    replay.run(alloc, out, lines)
-}
-
-/// Writes the report of a source. After an `Err`, which is want of memory, a front of it was written.
-fn push_report(alloc: Global, source: &[u8], out: &mut Vec<u8>) -> Result<Ended, AllocError>
-    requires { out.old.items ≡ [] }
-    ensures whole { IfOk result (λ ended. (ended ≡ ending_of source.now) × (out.new.items ≡ report_text source.now)) }
-    ensures front { OnErr result (IsFrontOf out.new.items (report_text source.now)) }
-{
-    let _bytes = bytes_of(source);
-    let mut lines = Lines::new(source);
-    match read_still_header(alloc, &mut lines)? {
-        Ok(header) => push_run(alloc, header, out, &mut lines),
-        Err((number, why)) => {
-            push_refusal_line(out, number, why)?;
-            Ok(Ended::AtLine)
-        }
-    }
-}
-
-/// Puts out the report of a source.
-fn report<K: Sink>(alloc: Global, source: &[u8], sink: &mut K) -> Status
-    ensures { PutsOut (K.taken sink.old) (K.taken sink.new) (K.faults sink.old) (K.faults sink.new) (report_text source.now)
-        (status_of (ending_of source.now)) result }
-{
-    let mut out = Vec::new(alloc);
-    let ended = push_report(alloc, source, &mut out);
-    match write_all(sink, &out) {
-        Ok(()) => match ended {
-            Ok(ended) => status_of(ended),
-            Err(_) => Status::NoMemory,
-        },
-        Err(_) => Status::WriteFault,
-    }
-}
-
-/// Reads a schedule from the source, and puts out its report.
+/// Reads a schedule from the source, plays it in a world of hosts, and puts out its report, each line's before the next is read.
 fn replay<S: Source, K: Sink>(alloc: Global, source: &mut S, sink: &mut K) -> Status
     ensures { Replays (S.left source.old) (S.left source.new) (S.faults source.old) (S.faults source.new)
         (K.taken sink.old) (K.taken sink.new) (K.faults sink.old) (K.faults sink.new) result }
 {
-    match read_all(alloc, source, GREATEST_SOURCE) {
-        Ok(ReadAll::Whole(bytes)) => report(alloc, &bytes, sink),
-        Ok(ReadAll::Longer(bytes)) => report(alloc, &bytes, sink),
-        Err(ReadAllError::Failed) => Status::ReadFault,
-        Err(ReadAllError::NoMemory) => Status::NoMemory,
-    }
+    whole_language_may_play();
+    status_of(play_schedule::<S, K, HostDaemon, LvmLocks>(alloc, source, sink))
 }
 
 /// Puts out a text.
