@@ -8,21 +8,15 @@ use Rattle.sl_top.specs.Runs.{Outside, Owes, PutsOut, bad_words_text}
 use Rattle.sl_top.specs.declared.status.Status.TheVariants.{NoMemory}
 use Rattle.sl_top.specs.declared.status.Status.{Status}
 use Rattle.std.proofs.Common.{List, None, Option, Some, [], inr, refl, ℕ}
-use Rattle.std.specs.Io.KnownBytes.{Consumes}
 
 nothing_told : (taken : Option (List ℕ)) (faults : ℕ) (text : List ℕ) (whole : Status) → PutsOut taken taken faults faults text whole NoMemory
 nothing_told taken faults text whole =
     record { written = []; appends = nothing_put taken; text_is = inr (none_written [] text refl, inr refl); cause = λ e. absurd cc }
 
-nothing_read : (left : Option (List ℕ)) → Consumes left left []
-nothing_read None = tt
-nothing_read (Some xs) = refl
-
 -- For want of memory, whatever the words say.
 pub nothing_done : (w : Option Words) (x : Outside) → Owes w x x NoMemory
 nothing_done None x = nothing_told x.taken x.sink_faults bad_words_text _
-nothing_done (Some Replay) x =
-    unread x.left x.left x.source_faults x.source_faults x.taken x.sink_faults [] NoMemory (nothing_read x.left) refl (λ e. absurd cc) (λ e. absurd cc)
+nothing_done (Some Replay) x = unread x.left x.source_faults x.taken x.sink_faults
 nothing_done (Some (Direct a)) x = not_begun a x.disks x.device_faults x.taken x.sink_faults
 nothing_done (Some Help) x = nothing_told x.taken x.sink_faults _ _
 nothing_done (Some Version) x = nothing_told x.taken x.sink_faults _ _

@@ -1,161 +1,176 @@
--- What a replay owes: by what was read, and what was put out of its report.
-use Rattle.sl_first_run.proofs.Cutting.{cuts_are_reported}
-use Rattle.sl_first_run.specs.Followed.{followed, followed_end}
-use Rattle.sl_first_run.specs.Promises.{IsDecided}
-use Rattle.sl_first_run.specs.Readings.{replay_status}
-use Rattle.sl_replay.specs.Reports.{ending_from, ending_of}
-use Rattle.sl_replay.specs.declared.replay.Ended.TheVariants.{AtLine, Whole}
-use Rattle.sl_replay.specs.declared.replay.Ended.{Ended}
-use Rattle.sl_report.specs.Headline.{MayHaveBeen, ReplayHeadline, SoundRun, is_whole_status}
-use Rattle.sl_report.specs.Replay.{effects_of}
-use Rattle.sl_report.specs.Schedules.{At_line, EventLine, HeaderReading, Header_read, Header_refused, event_lines_of, greatest_source, numbered_lines, read_header, status_of as status_number}
-use Rattle.sl_run.specs.Events.{happens, refusal_of}
-use Rattle.sl_run.specs.Worlds.{World, world_with}
-use Rattle.sl_run.specs.declared.event.Refusal.{Refusal}
-use Rattle.sl_still_schedule.specs.StillLanguage.{still_language, still_program}
-use Rattle.sl_still_sound.proofs.Readings.{still_schedules_are_reported}
-use Rattle.sl_top.specs.Runs.{IsCutShort, IsWritten, PutsOut, Replays, report_text}
+-- What a replay owes: the run that was made is served, and what is written of it is the plain program's report.
+use Rattle.sl_due_law.proofs.Due.{due_is_lawful}
+use Rattle.sl_header_law.proofs.Commands.{whole_language_may_play}
+use Rattle.sl_host_step.specs.Serving.{Serves, whole_commands}
+use Rattle.sl_play_schedule.proofs.Owing.{replays_are_owed}
+use Rattle.sl_play_schedule.specs.Replaying.{IsOwed, Of_events, Of_header, ReportsComplete, ReportsLines, played_language}
+use Rattle.sl_play_schedule.specs.Replaying as play
+use Rattle.sl_play_schedule.specs.declared.replay.Played.TheVariants as played
+use Rattle.sl_play_schedule.specs.declared.replay.Played.{Played}
+use Rattle.sl_report.specs.Headline.{HeadersAreGood, MayHaveBeen, ReplayHeadline, ReplayOf, ReplayOwed, SoundRun, is_whole_status}
+use Rattle.sl_report.specs.Languages.{Language, whole_language}
+use Rattle.sl_run_report.proofs.OneReport.{owed_is_headline, runs_have_one_report}
+use Rattle.sl_run_report.specs.Promises.{replay_status}
+use Rattle.sl_sector.proofs.WrittenBytes.{sha256_is_digest}
+use Rattle.sl_sector.specs.Spelling.{IsDigest}
+use Rattle.sl_sound.proofs.Owing.{made_replays_are_sound, made_reports_are_served, sound_replays_are_served}
+use Rattle.sl_sound.specs.Made.{MadeRun, ServedRun}
+use Rattle.sl_sound.specs.Promises.{DaemonsDoWhatIsDue}
+use Rattle.sl_text.specs.Forms.{as_bytes}
+use Rattle.sl_top.specs.Runs.{Replays}
 use Rattle.sl_top.specs.Statuses.{code, status_of}
-use Rattle.sl_top.specs.declared.status.Status.TheVariants.{AreaFault, BadWords, Done, NoMemory, NotTheLeader, ReadFault, Refused, WriteFault}
+use Rattle.sl_top.specs.declared.status.Status.TheVariants.{Done, NoMemory, ReadFault, WriteFault}
 use Rattle.sl_top.specs.declared.status.Status.{Status}
-use Rattle.sl_words.proofs.CaseLaws.{false_is_true}
-use Rattle.sl_words.specs.Causes.{Rose}
-use Rattle.std.proofs.Common.{Bool, IsTrue, List, None, Option, Some, [], ap, append-nil, false, inl, inr, length, refl, subst, sym, true, ℕ, ◌+◌, ◌∙◌, ◌∷◌, ◌≡◌}
+use Rattle.std.proofs.Common.{List, None, Option, Some, [], append-nil, refl, subst, sym, true, ℕ, ◌++◌, ◌≡◌}
 use Rattle.std.specs.Int.{is_in_range}
-use Rattle.std.specs.Io.KnownBytes.{Appends, Consumes, IsAtEnd}
-use Rattle.sl_io.specs.Reading.{IsReading}
-use Rattle.sl_io.specs.declared.reading.ReadAll.TheVariants.{Longer as Longer_read, Whole as Whole_read}
-use Rattle.sl_io.specs.declared.reading.ReadAll.{ReadAll}
-use Rattle.std.specs.Global.{Global}
-use Rattle.std.specs.Prelude.{Err, Ok, Vec}
+use Rattle.std.specs.Io.KnownBytes.{Appends, Consumes}
+use Rattle.std.specs.Prelude.{IsTrue, MatchBool, false}
 
--- ---- the status
+-- ---- the language, and its hosts
 
-ended_by : (o : Option Refusal) (n : ℕ) (a : Ended) (b : Rattle.sl_report.specs.Schedules.Ending) → code (status_of a) ≡ status_number b
-    → code (status_of (elim o as (λ x. Ended) [ Some r ↦ AtLine | None ↦ a ]))
-    ≡ status_number (elim o as (λ x. Rattle.sl_report.specs.Schedules.Ending) [ Some r ↦ At_line n r | None ↦ b ])
-ended_by None n a b same = same
-ended_by (Some r) n a b same = refl
+-- A host does what is due.
+hosts_do : DaemonsDoWhatIsDue Serves
+hosts_do d st es s = s.0.stands.past
 
-ends_alike : (w : World) (ls : List EventLine) → code (status_of (ending_from w ls)) ≡ status_number (followed_end w ls)
-ends_alike w [] = refl
-ends_alike w ((n, Err r) ∷ ls) = refl
-ends_alike w ((n, Ok e) ∷ ls) =
-    ended_by (refusal_of w e) n (ending_from (happens w e (effects_of w e)) ls) (followed_end (happens w e (effects_of w e)) ls)
-    (ends_alike (happens w e (effects_of w e)) ls)
+same_language : played_language whole_commands ≡ whole_language
+same_language = whole_language_may_play.whole
 
-code_of : (r : HeaderReading)
-    → code (status_of (elim r as (λ x. Ended) [ Header_refused number why ↦ AtLine | Header_read h rest ↦ ending_from (world_with still_program h) (event_lines_of still_language h rest) ]))
-    ≡ elim r as (λ x. ℕ) [
-      | Header_refused number why ↦ 1
-      | Header_read h rest ↦ status_number (followed (world_with still_program h) (event_lines_of still_language h rest)).1
-    ]
-code_of (Header_refused number why) = refl
-code_of (Header_read h rest) = ends_alike (world_with still_program h) (event_lines_of still_language h rest)
+good_headers : HeadersAreGood (played_language whole_commands)
+good_headers = whole_language_may_play.plays.headers
 
-code_is : (source : List ℕ) → code (status_of (ending_of source)) ≡ replay_status still_language source
-code_is source = code_of (read_header still_language [] 1 (numbered_lines source))
+pub whole_headers : HeadersAreGood whole_language
+whole_headers = subst HeadersAreGood same_language good_headers
 
--- ---- what was put out
+digest_of : IsDigest (played_language whole_commands).program.digest
+digest_of = sha256_is_digest
 
-cut_short : (s : Status) → IsCutShort s → IsTrue (is_in_range 3 5 (code s))
-cut_short s (inl e) = subst (λ t. IsTrue (is_in_range 3 5 (code t))) (sym e) refl
-cut_short s (inr e) = subst (λ t. IsTrue (is_in_range 3 5 (code t))) (sym e) refl
+-- ---- statuses
 
-headline_by : (ended : Bool) (read written : List ℕ) (s : Status) → IsDecided ended read → IsWritten (report_text read) (status_of (ending_of read)) written s
-    → ReplayHeadline SoundRun still_language ended read written (code s)
-headline_by ended read written s decided (inl whole) =
-    subst (λ v. ReplayHeadline SoundRun still_language ended read v (code s)) (sym whole.0)
-    (subst (λ n. ReplayHeadline SoundRun still_language ended read (report_text read) n) (sym (ap code whole.1 ∙ code_is read))
-    (still_schedules_are_reported.whole ended read decided))
-headline_by ended read written s decided (inr part) =
-    still_schedules_are_reported.broken ended read written (code s) (cut_short s part.1) decided part.0
+same_code : (p : Played) → play.code p ≡ code (status_of p)
+same_code played.Done = refl
+same_code played.Refused = refl
+same_code played.ReadFault = refl
+same_code played.WriteFault = refl
+same_code played.NoMemory = refl
 
--- ---- the status is the source's own
+done_is : (p : Played) → status_of p ≡ Done → p ≡ played.Done
+done_is played.Done e = refl
+done_is played.Refused e = absurd cc
+done_is played.ReadFault e = absurd cc
+done_is played.WriteFault e = absurd cc
+done_is played.NoMemory e = absurd cc
 
-own_by : (ended : Bool) (read source : List ℕ) → IsDecided ended read → MayHaveBeen ended read source → replay_status still_language read ≡ replay_status still_language source
-own_by true read source decided is = ap (replay_status still_language) (sym is)
-own_by false read source (inl e) front = absurd cc
-own_by false read source (inr long) front = sym (cuts_are_reported.statuses still_language read source front long)
+read_fault_is : (p : Played) → status_of p ≡ ReadFault → p ≡ played.ReadFault
+read_fault_is played.Done e = absurd cc
+read_fault_is played.Refused e = absurd cc
+read_fault_is played.ReadFault e = refl
+read_fault_is played.WriteFault e = absurd cc
+read_fault_is played.NoMemory e = absurd cc
 
-not_whole : (s : Status) → IsCutShort s → is_whole_status (code s) ≡ false
-not_whole s (inl e) = ap (λ t. is_whole_status (code t)) e
-not_whole s (inr e) = ap (λ t. is_whole_status (code t)) e
+write_fault_is : (p : Played) → status_of p ≡ WriteFault → p ≡ played.WriteFault
+write_fault_is played.Done e = absurd cc
+write_fault_is played.Refused e = absurd cc
+write_fault_is played.ReadFault e = absurd cc
+write_fault_is played.WriteFault e = refl
+write_fault_is played.NoMemory e = absurd cc
 
-own_status : (ended : Bool) (read written : List ℕ) (s : Status) → IsDecided ended read → IsWritten (report_text read) (status_of (ending_of read)) written s
-    → IsTrue (is_whole_status (code s)) → (source : List ℕ) → MayHaveBeen ended read source → code s ≡ replay_status still_language source
-own_status ended read written s decided (inl whole) tells source may = ap code whole.1 ∙ code_is read ∙ own_by ended read source decided may
-own_status ended read written s decided (inr part) tells source may = absurd (false_is_true (sym (not_whole s part.1) ∙ tells))
+-- ---- what is owed
 
-in_range_not_whole : (s : Status) → IsTrue (is_in_range 3 5 (code s)) → IsTrue (is_whole_status (code s)) → ⊥
-in_range_not_whole Done range tells = let no : false ≡ true = range in absurd cc
-in_range_not_whole Refused range tells = let no : false ≡ true = range in absurd cc
-in_range_not_whole BadWords range tells = let no : false ≡ true = range in absurd cc
-in_range_not_whole ReadFault range tells = let no : false ≡ true = tells in absurd cc
-in_range_not_whole WriteFault range tells = let no : false ≡ true = tells in absurd cc
-in_range_not_whole NoMemory range tells = let no : false ≡ true = tells in absurd cc
-in_range_not_whole AreaFault range tells = let no : false ≡ true = range in absurd cc
-in_range_not_whole NotTheLeader range tells = let no : false ≡ true = range in absurd cc
+-- What was made is sound.
+sound_owed : (ended : _) (read written : List ℕ) (status : ℕ) → ReplayOwed (λ p h xs. MadeRun Serves p h xs) (played_language whole_commands) ended read written status
+    → ReplayOwed SoundRun whole_language ended read written status
+sound_owed ended read written status owed =
+    subst (λ l. ReplayOwed SoundRun l ended read written status) same_language
+    (made_replays_are_sound Serves hosts_do due_is_lawful (played_language whole_commands) good_headers digest_of ended read written status owed)
 
-not_reading : (e : Ended) → status_of e ≡ ReadFault → ⊥
-not_reading Whole h = absurd cc
-not_reading AtLine h = absurd cc
+-- The status is the source's own.
+own_status : (ended : _) (read written : List ℕ) (status : ℕ) → ReplayOwed SoundRun whole_language ended read written status → IsTrue (is_whole_status status)
+    → (source : List ℕ) → MayHaveBeen ended read source → status ≡ replay_status whole_language source
+own_status ended read written status owed tells source may =
+    let whole : MatchBool true ((one : List ℕ) → MayHaveBeen ended read one → ReplayOf SoundRun whole_language one written status)
+    (IsTrue (is_in_range 3 5 status) × ((one : List ℕ) → MayHaveBeen ended read one → _)) =
+    subst (λ b. MatchBool b ((one : List ℕ) → MayHaveBeen ended read one → ReplayOf SoundRun whole_language one written status) _) tells owed in
+    runs_have_one_report.status whole_language whole_headers source written status (whole source may)
 
-never_reading : (text written : List ℕ) (e : Ended) (s : Status) → IsWritten text (status_of e) written s → s ≡ ReadFault → ⊥
-never_reading text written e s (inl whole) is = not_reading e (sym whole.1 ∙ is)
-never_reading text written e s (inr (front, inl h)) is = let no : WriteFault ≡ ReadFault = sym h ∙ is in absurd cc
-never_reading text written e s (inr (front, inr h)) is = let no : NoMemory ≡ ReadFault = sym h ∙ is in absurd cc
+served_headline : (ended : _) (read written : List ℕ) (status : ℕ) → ReplayOwed SoundRun whole_language ended read written status
+    → ReplayHeadline ServedRun whole_language ended read written status
+served_headline ended read written status owed =
+    sound_replays_are_served whole_language whole_headers sha256_is_digest ended read written status
+    (owed_is_headline whole_language whole_headers ended read written status owed)
 
-pub replays_by : (left after : Option (List ℕ)) (faults later : ℕ) (taken now : Option (List ℕ)) (sink_faults sink_later : ℕ) (read : List ℕ) (ended : Bool) (s : Status)
-    → Consumes left after read → (IsTrue ended → IsAtEnd after) → IsDecided ended read
-    → PutsOut taken now sink_faults sink_later (report_text read) (status_of (ending_of read)) s → Replays left after faults later taken now sink_faults sink_later s
-replays_by left after faults later taken now sink_faults sink_later read ended s reads at_end decided put =
+-- Of the complete lines.
+served_lines : (lines written : List ℕ) → ReportsLines (λ p h xs. MadeRun Serves p h xs) (played_language whole_commands) lines written
+    → ReportsLines ServedRun whole_language lines written
+served_lines lines written (Of_events k replay) =
+    Of_events k (subst (λ l. ReplayOf ServedRun l lines _ 0) same_language
+    (made_reports_are_served Serves hosts_do due_is_lawful (played_language whole_commands) good_headers digest_of lines _ 0 replay))
+served_lines lines written (Of_header ls r goes none) = Of_header ls r goes none
+
+served_complete : (read written : List ℕ) → ReportsComplete (λ p h xs. MadeRun Serves p h xs) (played_language whole_commands) read written
+    → ReportsComplete ServedRun whole_language read written
+served_complete read written c =
     record {
-      read = read;
-      ended = ended;
-      written = put.written;
-      reads = reads;
-      at_end = at_end;
-      writes = put.appends;
-      headline = headline_by ended read put.written s decided put.text_is;
-      own = own_status ended read put.written s decided put.text_is;
-      read_fault = λ e. absurd (never_reading (report_text read) put.written (ending_of read) s put.text_is e);
-      write_fault = put.cause;
+      complete = c.complete;
+      partial = c.partial;
+      cut = c.cut;
+      whole = c.whole;
+      free = c.free;
+      report = served_lines c.complete written c.report;
     }
 
--- ---- nothing was put out
+-- ---- a replay
+
+module _ (left after taken now : Option (List ℕ)) (faults later sink_faults sink_later : ℕ) (p : Played) where
+  by_owed : IsOwed whole_commands Serves left after taken now faults later sink_faults sink_later p → Replays left after faults later taken now sink_faults sink_later (status_of p)
+  by_owed o =
+      let owed : ReplayOwed SoundRun whole_language o.moved.ended o.moved.read o.moved.written (code (status_of p)) =
+      subst (λ n. ReplayOwed SoundRun whole_language o.moved.ended o.moved.read o.moved.written n) (same_code p)
+      (sound_owed o.moved.ended o.moved.read o.moved.written (play.code p) o.owed) in
+      record {
+        read = o.moved.read;
+        ended = o.moved.ended;
+        written = o.moved.written;
+        reads = o.moved.reads;
+        at_end = o.moved.at_end;
+        writes = o.moved.writes;
+        headline = served_headline o.moved.ended o.moved.read o.moved.written (code (status_of p)) owed;
+        own = own_status o.moved.ended o.moved.read o.moved.written (code (status_of p)) owed;
+        to_end = λ e. o.to_end (done_is p e);
+        complete = λ e. served_complete o.moved.read o.moved.written (o.complete (read_fault_is p e));
+        read_fault = λ e. o.read_fault (read_fault_is p e);
+        write_fault = λ e. o.write_fault (write_fault_is p e);
+      }
+
+  -- What was played is owed.
+  pub replays_by : play.Replays whole_commands Serves left after taken now faults later sink_faults sink_later p → (s : Status) → s ≡ status_of p
+      → Replays left after faults later taken now sink_faults sink_later s
+  replays_by played s is =
+      subst (λ t. Replays left after faults later taken now sink_faults sink_later t) (sym is)
+      (by_owed (replays_are_owed whole_commands Serves left after taken now faults later sink_faults sink_later p played))
+
+-- ---- nothing was read, and nothing put out
 
 pub nothing_put : (taken : Option (List ℕ)) → Appends taken taken []
 nothing_put None = tt
 nothing_put (Some xs) = sym (append-nil xs)
 
-pub unread : (left after : Option (List ℕ)) (faults later : ℕ) (taken : Option (List ℕ)) (sink_faults : ℕ) (read : List ℕ) (s : Status)
-    → Consumes left after read → IsTrue (is_in_range 3 5 (code s)) → (s ≡ ReadFault → Rose faults later) → (s ≡ WriteFault → ⊥)
-    → Replays left after faults later taken taken sink_faults sink_faults s
-unread left after faults later taken sink_faults read s reads range rose other =
+nothing_read : (left : Option (List ℕ)) → Consumes left left []
+nothing_read None = tt
+nothing_read (Some xs) = refl
+
+pub unread : (left : Option (List ℕ)) (faults : ℕ) (taken : Option (List ℕ)) (sink_faults : ℕ) → Replays left left faults faults taken taken sink_faults sink_faults NoMemory
+unread left faults taken sink_faults =
     record {
-      read = read;
+      read = [];
       ended = false;
       written = [];
-      reads = reads;
+      reads = nothing_read left;
       at_end = λ e. absurd cc;
       writes = nothing_put taken;
-      headline = still_schedules_are_reported.unwritten false read (code s) range;
-      own = λ tells source may. absurd (in_range_not_whole s range tells);
-      read_fault = rose;
-      write_fault = λ e. absurd (other e);
+      headline = (refl, λ source may. (_, refl));
+      own = λ tells source may. (let no : false ≡ true = tells in absurd cc);
+      to_end = λ e. absurd cc;
+      complete = λ e. absurd cc;
+      read_fault = λ e. absurd cc;
+      write_fault = λ e. absurd cc;
     }
-
--- ---- what was read
-
-pub whole_read : (left after : Option (List ℕ)) (limit : ℕ) (r : ReadAll) (bytes : Vec ℕ Global) (read : List ℕ) → r ≡ Whole_read bytes → read ≡ bytes.items
-    → IsReading left after limit r → Consumes left after read × IsAtEnd after
-whole_read left after limit r bytes read is same h =
-    let whole : IsReading left after limit (Whole_read bytes) = subst (λ x. IsReading left after limit x) is h in
-    (subst (λ v. Consumes left after v) (sym same) whole.0, whole.1)
-
-pub longer_read : (left after : Option (List ℕ)) (limit : ℕ) (r : ReadAll) (bytes : Vec ℕ Global) (read : List ℕ) → r ≡ Longer_read bytes → read ≡ bytes.items
-    → IsReading left after limit r → Consumes left after read × (length read ≡ limit + 1)
-longer_read left after limit r bytes read is same h =
-    let longer : IsReading left after limit (Longer_read bytes) = subst (λ x. IsReading left after limit x) is h in
-    (subst (λ v. Consumes left after v) (sym same) longer.0, ap (λ v. length v) same ∙ longer.1)

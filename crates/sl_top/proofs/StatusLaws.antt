@@ -8,12 +8,14 @@ use Rattle.sl_direct.specs.declared.action.Action.TheVariants.{ReadLeader}
 use Rattle.sl_direct.specs.declared.action.Action.{Action}
 use Rattle.sl_direct.specs.declared.action.Directed.TheVariants as directed
 use Rattle.sl_direct.specs.declared.action.Directed.{Directed}
-use Rattle.sl_first_run.proofs.Accepting.{accepted_schedules_end_well as accepted_runs}
-use Rattle.sl_first_run.specs.Readings.{replay_status}
-use Rattle.sl_report.specs.Headline.{MayHaveBeen, ReplayHeadline, SoundRun, is_whole_status}
-use Rattle.sl_still_schedule.specs.StillLanguage.{still_language}
-use Rattle.sl_still_sound.proofs.Readings.{still_language_is_read}
-use Rattle.sl_top.specs.Laws.{AcceptedSchedulesEndWell, CausesHaveStatuses, HasItsCause, IsNotTheLeader, NothingFailed, StatusesHaveCauses, has_leader}
+use Rattle.sl_report.specs.Headline.{MayHaveBeen, ReplayHeadline, is_whole_status}
+use Rattle.sl_report.specs.Languages.{whole_language}
+use Rattle.sl_run_report.proofs.OneReport.{accepted_schedules_end_well as accepted_runs}
+use Rattle.sl_run_report.specs.Followed.{IsAccepted}
+use Rattle.sl_run_report.specs.Promises.{replay_status}
+use Rattle.sl_sound.specs.Made.{ServedRun}
+use Rattle.sl_top.proofs.RunLaws.{whole_headers}
+use Rattle.sl_top.specs.Laws.{AcceptedSchedulesEndWell, CausesHaveStatuses, HasItsCause, IsNotTheLeader, NothingFailed, OthersAreRefused, StatusesHaveCauses, has_leader}
 use Rattle.sl_top.specs.Runs.{ActsOn, IsCutShort, IsWritten, Outside, PutsOut, Replays, bad_words_text}
 use Rattle.sl_top.specs.Statuses.{code, status_after}
 use Rattle.sl_top.specs.declared.status.Status.TheVariants.{AreaFault, BadWords, Done, NoMemory, NotTheLeader, ReadFault, Refused, WriteFault}
@@ -62,9 +64,9 @@ bad_caused x y s put =
 -- ---- a replay
 
 -- No other status tells of a report.
-outside : (ended : Bool) (read written : List ℕ) (s t : Status) → ReplayHeadline SoundRun still_language ended read written (code s) → s ≡ t
-    → (ReplayHeadline SoundRun still_language ended read written (code t) → ⊥) → ⊥
-outside ended read written s t headline is never = never (subst (λ u. ReplayHeadline SoundRun still_language ended read written (code u)) is headline)
+outside : (ended : Bool) (read written : List ℕ) (s t : Status) → ReplayHeadline ServedRun whole_language ended read written (code s) → s ≡ t
+    → (ReplayHeadline ServedRun whole_language ended read written (code t) → ⊥) → ⊥
+outside ended read written s t headline is never = never (subst (λ u. ReplayHeadline ServedRun whole_language ended read written (code u)) is headline)
 
 replay_caused : (x y : Outside) (s : Status) → Replays x.left y.left x.source_faults y.source_faults x.taken y.taken x.sink_faults y.sink_faults s → HasItsCause (Some Replay) x y s
 replay_caused x y s run =
@@ -203,16 +205,16 @@ told_source source x y s told run = consumed source run.read y.left (subst (λ o
 -- A whole report's status is the schedule's.
 own_status : (source : List ℕ) (x y : Outside) (s : Status) → x.left ≡ Some source
     → Replays x.left y.left x.source_faults y.source_faults x.taken y.taken x.sink_faults y.sink_faults s → IsTrue (is_whole_status (code s))
-    → code s ≡ replay_status still_language source
+    → code s ≡ replay_status whole_language source
 own_status source x y s told run whole = run.own whole source (told_source source x y s told run)
 
 zero_is_one : (n : ℕ) → 1 ≡ n → n ≡ 0 → ⊥
 zero_is_one n one zero = omega (arith, one, zero)
 
 ends_well : (source : List ℕ) (x y : Outside) (s : Status) → Replays x.left y.left x.source_faults y.source_faults x.taken y.taken x.sink_faults y.sink_faults s
-    → x.left ≡ Some source → replay_status still_language source ≡ 0 → NothingFailed x y → (s ≡ Done) ⊎ (s ≡ NoMemory)
+    → x.left ≡ Some source → replay_status whole_language source ≡ 0 → NothingFailed x y → (s ≡ Done) ⊎ (s ≡ NoMemory)
 ends_well source x y Done run told zero none = inl refl
-ends_well source x y Refused run told zero none = absurd (zero_is_one (replay_status still_language source) (own_status source x y Refused told run refl) zero)
+ends_well source x y Refused run told zero none = absurd (zero_is_one (replay_status whole_language source) (own_status source x y Refused told run refl) zero)
 ends_well source x y BadWords run told zero none = absurd (outside run.ended run.read run.written BadWords BadWords run.headline refl (λ h. let no : false ≡ true = h.0 in absurd cc))
 ends_well source x y ReadFault run told zero none = absurd (none.source (run.read_fault refl))
 ends_well source x y WriteFault run told zero none = absurd (none.sink (run.write_fault refl))
@@ -221,13 +223,39 @@ ends_well source x y AreaFault run told zero none = absurd (outside run.ended ru
 ends_well source x y NotTheLeader run told zero none = absurd (outside run.ended run.read run.written NotTheLeader NotTheLeader run.headline refl (λ h. let no : false ≡ true = h.0 in absurd cc))
 
 ends_at_zero : (source : List ℕ) (x y : Outside) (s : Status) → Replays x.left y.left x.source_faults y.source_faults x.taken y.taken x.sink_faults y.sink_faults s
-    → x.left ≡ Some source → s ≡ Done → replay_status still_language source ≡ 0
+    → x.left ≡ Some source → s ≡ Done → replay_status whole_language source ≡ 0
 ends_at_zero source x y s run told done =
     sym (own_status source x y s told run (ap (λ t. is_whole_status (code t)) done)) ∙ ap code done
 
 pub accepted_schedules_end_well : AcceptedSchedulesEndWell
 accepted_schedules_end_well =
     record {
-      well = λ source x y s run told accepted none. ends_well source x y s run told (accepted_runs.well still_language still_language_is_read.events source accepted) none;
-      only = λ source x y s run told done. accepted_runs.only still_language still_language_is_read.events source (ends_at_zero source x y s run told done);
+      well = λ source x y s run told accepted none. ends_well source x y s run told (accepted_runs.well whole_language whole_headers source accepted) none;
+      only = λ source x y s run told done. accepted_runs.only whole_language whole_headers source (ends_at_zero source x y s run told done);
+    }
+
+-- ---- and others
+
+ends_refused : (source : List ℕ) (x y : Outside) (s : Status) → Replays x.left y.left x.source_faults y.source_faults x.taken y.taken x.sink_faults y.sink_faults s
+    → x.left ≡ Some source → (replay_status whole_language source ≡ 0 → ⊥) → NothingFailed x y → (s ≡ Refused) ⊎ (s ≡ NoMemory)
+ends_refused source x y Done run told other none = absurd (other (sym (own_status source x y Done told run refl)))
+ends_refused source x y Refused run told other none = inl refl
+ends_refused source x y BadWords run told other none = absurd (outside run.ended run.read run.written BadWords BadWords run.headline refl (λ h. let no : false ≡ true = h.0 in absurd cc))
+ends_refused source x y ReadFault run told other none = absurd (none.source (run.read_fault refl))
+ends_refused source x y WriteFault run told other none = absurd (none.sink (run.write_fault refl))
+ends_refused source x y NoMemory run told other none = inr refl
+ends_refused source x y AreaFault run told other none = absurd (outside run.ended run.read run.written AreaFault AreaFault run.headline refl (λ h. let no : false ≡ true = h.0 in absurd cc))
+ends_refused source x y NotTheLeader run told other none = absurd (outside run.ended run.read run.written NotTheLeader NotTheLeader run.headline refl (λ h. let no : false ≡ true = h.0 in absurd cc))
+
+ends_at_one : (source : List ℕ) (x y : Outside) (s : Status) → Replays x.left y.left x.source_faults y.source_faults x.taken y.taken x.sink_faults y.sink_faults s
+    → x.left ≡ Some source → s ≡ Refused → replay_status whole_language source ≡ 1
+ends_at_one source x y s run told refused =
+    sym (own_status source x y s told run (ap (λ t. is_whole_status (code t)) refused)) ∙ ap code refused
+
+pub other_schedules_are_refused : OthersAreRefused
+other_schedules_are_refused =
+    record {
+      well = λ source x y s run told other none. ends_refused source x y s run told (λ zero. other (accepted_runs.only whole_language whole_headers source zero)) none;
+      only = λ source x y s run told refused accepted.
+          zero_is_one (replay_status whole_language source) (sym (ends_at_one source x y s run told refused)) (accepted_runs.well whole_language whole_headers source accepted);
     }
