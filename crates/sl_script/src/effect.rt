@@ -59,7 +59,7 @@ fn resource(words: &mut Words<'_>) -> Result<ResourceArg, usize> {
 }
 
 /// `PROCESS RESOURCE ex LVER`, or `sh` for `ex`
-pub fn grant(words: &mut Words<'_>) -> Result<Grant, usize> {
+pub(crate) fn grant(words: &mut Words<'_>) -> Result<Grant, usize> {
     let process = words.positive_short_number()?;
     let resource = resource(words)?;
     let mode = if words.skip(b"sh") {
@@ -83,7 +83,7 @@ pub fn grant(words: &mut Words<'_>) -> Result<Grant, usize> {
 }
 
 /// `PROCESS RESOURCE`
-pub fn end(words: &mut Words<'_>) -> Result<End, usize> {
+pub(crate) fn end(words: &mut Words<'_>) -> Result<End, usize> {
     let process = words.positive_short_number()?;
     let resource = resource(words)?;
     Ok(End {
@@ -96,7 +96,7 @@ pub fn end(words: &mut Words<'_>) -> Result<End, usize> {
 }
 
 /// `PROCESS term`, or `kill`
-pub fn signal(words: &mut Words<'_>) -> Result<Sent, usize> {
+pub(crate) fn signal(words: &mut Words<'_>) -> Result<Sent, usize> {
     let process = words.positive_short_number()?;
     let signal = if words.skip(b"kill") {
         Signal::Kill
@@ -108,7 +108,7 @@ pub fn signal(words: &mut Words<'_>) -> Result<Sent, usize> {
 }
 
 /// `register LOCKSPACE EXPIRY`, `renew LOCKSPACE EXPIRY` or `unregister LOCKSPACE`
-pub fn moved(words: &mut Words<'_>) -> Result<Move, usize> {
+pub(crate) fn moved(words: &mut Words<'_>) -> Result<Move, usize> {
     if words.skip(b"register") {
         Ok(Move::Register {
             lockspace: words.name()?,
@@ -128,7 +128,7 @@ pub fn moved(words: &mut Words<'_>) -> Result<Move, usize> {
 }
 
 /// `JOB REPLY`
-pub fn replied(words: &mut Words<'_>) -> Result<JobReply, usize> {
+pub(crate) fn replied(words: &mut Words<'_>) -> Result<JobReply, usize> {
     Ok(JobReply {
         job: words.number()?,
         reply: reply(words)?,

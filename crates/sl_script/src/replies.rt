@@ -97,7 +97,7 @@ fn short(words: &mut Words<'_>) -> Result<Reply, usize> {
 }
 
 /// The reply that the next words tell.
-pub fn reply(words: &mut Words<'_>) -> Result<Reply, usize> {
+pub(crate) fn reply(words: &mut Words<'_>) -> Result<Reply, usize> {
     if words.skip(b"ok") {
         ok(words)
     } else if words.skip(b"Held") {

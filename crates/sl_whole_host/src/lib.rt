@@ -6,8 +6,6 @@
 //! members. `deciding` is what is asked when a command is decided, `asking` what those ask who act on it, `passing` what a pass over members, jobs or
 //! holders goes by. A step takes its memory first (`reserve`): `left` says how many more effects may be made, `calls` how many of them may be calls, and
 //! each effect lowers its own by one, so that none of them can fail. `laws` says that the books follow the state functions.
-//!
-//! Nothing runs on this crate so far.
 #![tactic(auto)]
 
 mod asking;
