@@ -12,8 +12,8 @@ use Rattle.sl_trace.specs.declared.effects.Grant.{Grant}
 use Rattle.sl_trace.specs.declared.effects.Mode.TheVariants.{Exclusive, Shared}
 use Rattle.sl_trace.specs.declared.effects.Mode.{Mode}
 use Rattle.sl_trace.specs.declared.effects.Spot.{Spot}
-use Rattle.sl_whole_host.proofs.QuestionsStand.{find_found}
-use Rattle.sl_whole_host.specs.Asking.{held_under, sought_on}
+use Rattle.sl_host.proofs.QuestionsStand.{find_found}
+use Rattle.sl_host.specs.Asking.{held_under, sought_on}
 use Rattle.std.proofs.Common.{ap, refl, ◌∙◌}
 use Rattle.std.specs.Option.{option_map_or}
 use Rattle.std.specs.Prelude.{Bool, List, None, Option, Some, cond, false, filter, find, not, option_map, true, ℕ, ◌&&◌, ◌==◌, ◌≡◌}

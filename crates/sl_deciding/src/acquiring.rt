@@ -4,16 +4,16 @@ ghost use Rattle.sl_deciding.specs.Refusing.{acquire_in, first_refusal, leases_i
 ghost use Rattle.sl_host_law.specs.Decisions.Deciding.{busy_refused, held_on, limit_reached, limit_refused, member_acquires, member_named, member_refusal, pending_refused, process_refused, with_member};
 ghost use Rattle.sl_host_state.specs.Makes.{is_lease_on};
 ghost use Rattle.sl_trace.specs.Limits.{most_resources};
-ghost use Rattle.sl_whole_host.specs.Asking.{state_in};
+ghost use Rattle.sl_host.specs.Asking.{state_in};
 ghost use Rattle.std.specs.List.{list_any};
 ghost use Rattle.std.specs.Prelude.{[], cond, is_none, length, nat_le, option_and_then, ◌%◌, ◌-◌, ◌∷◌, ◌≡◌};
 
 use crate::held::shared_holding;
 use crate::refusing::{asker_refused, member_named, member_refusal, refused_or, spot_of};
 use sl_due::Decision;
+use sl_host::Host;
 use sl_member::{Member, Members};
 use sl_trace::{Limited, Reply, ResourceArg, Spot};
-use sl_whole_host::Host;
 
 /// Leases of a machine.
 const MOST_RESOURCES: usize = 256;

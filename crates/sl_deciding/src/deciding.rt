@@ -5,8 +5,8 @@ ghost use Rattle.sl_deciding.specs.Lists.{FitsLists};
 ghost use Rattle.sl_host_law.specs.Decisions.Deciding.{decision_of};
 ghost use Rattle.sl_host_state.specs.Kept.{state_of};
 ghost use Rattle.sl_trace.specs.Commands.{IsCommand};
-ghost use Rattle.sl_whole_host.specs.Asking.{state_in};
-ghost use Rattle.sl_whole_host.specs.Host.{ReadAs};
+ghost use Rattle.sl_host.specs.Asking.{state_in};
+ghost use Rattle.sl_host.specs.Host.{ReadAs};
 ghost use Rattle.std.specs.Prelude.{List, cond, ℕ, ◌≡◌};
 
 use crate::acquiring::decide_acquire;
@@ -17,8 +17,8 @@ use crate::orphans::{decide_release_orphan, decide_take_over};
 use crate::telling::{decide_states, decide_status};
 use crate::values::{decide_get, decide_set};
 use sl_due::Decision;
+use sl_host::Host;
 use sl_trace::{Command, Mode};
-use sl_whole_host::Host;
 
 /// The mode that is meant.
 fn mode_of(shared: bool) -> Mode

@@ -3,13 +3,13 @@
 ghost use Rattle.sl_host_law.specs.Decisions.Deciding.{held_on, serving_holding};
 ghost use Rattle.sl_tables.specs.Holdings.{fits};
 ghost use Rattle.sl_trace.specs.Traces.{is_orphan, is_shared};
-ghost use Rattle.sl_whole_host.specs.Asking.{sought_on, state_in};
+ghost use Rattle.sl_host.specs.Asking.{sought_on, state_in};
 ghost use Rattle.std.specs.Prelude.{find, not, true, ◌≡◌};
 
+use sl_host::Host;
 use sl_member::Member;
 use sl_tables::Holder;
 use sl_trace::{Grant, Mode, Spot};
-use sl_whole_host::Host;
 
 /// The first holding of a member on an area, of these processes, in this mode.
 fn first_held(

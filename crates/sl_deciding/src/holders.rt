@@ -4,16 +4,16 @@ ghost use Rattle.sl_deciding.specs.Refusing.{convert_in, converting, first_refus
 ghost use Rattle.sl_host_law.specs.Decisions.Deciding.{member_named, member_refusal, other_at, pending_refused, process_refused, with_member};
 ghost use Rattle.sl_trace.specs.Traces.{is_shared};
 ghost use Rattle.sl_trace.specs.declared.reply.Reply.TheVariants.{Busy, NotHeld};
-ghost use Rattle.sl_whole_host.specs.Asking.{state_in};
+ghost use Rattle.sl_host.specs.Asking.{state_in};
 ghost use Rattle.sl_words.specs.Words.{choose};
 ghost use Rattle.std.specs.Prelude.{[], not, option_and_then, ◌%◌, ◌∷◌, ◌≡◌};
 
 use crate::held::holding;
 use crate::refusing::{holder_refused, member_named, member_refusal, refused_or, spot_of};
 use sl_due::Decision;
+use sl_host::Host;
 use sl_member::Member;
 use sl_trace::{Grant, Mode, Reply, ResourceArg, Spot};
-use sl_whole_host::Host;
 
 /// The end of a holding, if there is one.
 fn gives_up(member: &Member, held: Option<Grant>) -> Decision

@@ -5,7 +5,7 @@ ghost use Rattle.sl_host_law.specs.Decisions.Deciding.{held_of, joined_refused, 
 ghost use Rattle.sl_trace.specs.Traces.{is_orphan, no_process};
 ghost use Rattle.sl_trace.specs.declared.reply.Limited.TheVariants.{Seq as SeqLimit};
 ghost use Rattle.sl_trace.specs.declared.reply.Reply.TheVariants.{Busy, Generation, Limit as LimitReached};
-ghost use Rattle.sl_whole_host.specs.Asking.{state_in};
+ghost use Rattle.sl_host.specs.Asking.{state_in};
 ghost use Rattle.sl_words.specs.Bounds.{is_number};
 ghost use Rattle.sl_words.specs.Words.{choose};
 ghost use Rattle.std.specs.List.{list_any};
@@ -13,9 +13,9 @@ ghost use Rattle.std.specs.Prelude.{IfSome, Some, [], not, option_map, ◌+◌, 
 
 use crate::refusing::{member_named, member_refusal, refused_or};
 use sl_due::Decision;
+use sl_host::Host;
 use sl_member::{Member, is_session_arg};
 use sl_trace::{Limited, LockspaceArg, Reply};
-use sl_whole_host::Host;
 
 /// Lockspaces of a machine.
 const MOST_LOCKSPACES: usize = 8;

@@ -4,16 +4,16 @@ ghost use Rattle.sl_deciding.specs.Refusing.{first_refusal, release_orphan_in, r
 ghost use Rattle.sl_host_law.specs.Decisions.Deciding.{holds_there, member_named, member_refusal, orphan_at, pending_refused, process_refused, with_member};
 ghost use Rattle.sl_trace.specs.Traces.{is_orphan, is_shared};
 ghost use Rattle.sl_trace.specs.declared.reply.Reply.TheVariants.{Busy, NoOrphan};
-ghost use Rattle.sl_whole_host.specs.Asking.{state_in};
+ghost use Rattle.sl_host.specs.Asking.{state_in};
 ghost use Rattle.sl_words.specs.Words.{choose, same_truth};
 ghost use Rattle.std.specs.Prelude.{[], not, option_and_then, option_map, true, ◌%◌, ◌∷◌, ◌≡◌};
 
 use crate::held::orphan;
 use crate::refusing::{member_named, member_refusal, refused_or, spot_of};
 use sl_due::Decision;
+use sl_host::Host;
 use sl_member::Member;
 use sl_trace::{Grant, Mode, Reply, ResourceArg, Spot};
-use sl_whole_host::Host;
 
 /// Whether a mode is the one that is meant.
 fn is_meant(shared: bool, mode: Mode) -> bool

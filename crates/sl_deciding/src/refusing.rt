@@ -4,15 +4,15 @@ ghost use Rattle.sl_host_law.specs.Decisions.Deciding.{member_named, member_refu
 ghost use Rattle.sl_deciding.specs.Refusing.{first_refusal, refused_or};
 ghost use Rattle.sl_leases.specs.Leases.{spot_of};
 ghost use Rattle.sl_trace.specs.declared.reply.Reply.TheVariants.{NotHeld};
-ghost use Rattle.sl_whole_host.specs.Asking.{state_in};
+ghost use Rattle.sl_host.specs.Asking.{state_in};
 ghost use Rattle.sl_words.specs.Words.{choose};
 ghost use Rattle.std.specs.Prelude.{IfSome, [], not, option_and_then, option_map, ◌%◌, ◌∷◌, ◌≡◌};
 
 use sl_due::Decision;
+use sl_host::Host;
 use sl_member::Member;
 use sl_text::Name;
 use sl_trace::{Reply, ResourceArg, Spot};
-use sl_whole_host::Host;
 
 /// The area of a resource.
 pub(crate) fn spot_of(resource: &ResourceArg) -> Spot

@@ -6,17 +6,17 @@ ghost use Rattle.sl_deciding.specs.Telling.{session_in, sessions_in, state_seen,
 ghost use Rattle.sl_due.specs.declared.decision.Decision.TheVariants.{Replies};
 ghost use Rattle.sl_host_law.specs.Decisions.Deciding.{member_of, sessions_told, states_told, with_member};
 ghost use Rattle.sl_trace.specs.declared.reply.Reply.TheVariants.{Hosts, Sessions};
-ghost use Rattle.sl_whole_host.specs.Asking.{state_in};
+ghost use Rattle.sl_host.specs.Asking.{state_in};
 ghost use Rattle.std.specs.Prelude.{[], cond, length, vec_capacity, ◌++◌, ◌+◌, ◌<◌, ◌∷◌, ◌≡◌, ◌≤◌};
 
 use crate::lists::Lists;
 use crate::lockspaces::member_of;
 use crate::refusing::{member_refusal, refused_or};
 use sl_due::Decision;
+use sl_host::Host;
 use sl_member::{Member, Members};
 use sl_text::Seq;
 use sl_trace::{LockspaceArg, Reply, SessionOf, StateOf};
-use sl_whole_host::Host;
 
 /// What an id looks like to a member at the reading `now`, in milliseconds.
 fn state_of(member: &Member, now: u64, id: u32) -> StateOf

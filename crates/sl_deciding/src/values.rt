@@ -3,7 +3,7 @@
 ghost use Rattle.sl_deciding.specs.Refusing.{get_in, getting, set_in, setting};
 ghost use Rattle.sl_host_law.specs.Decisions.Deciding.{member_named, member_sets, value_seq, with_member};
 ghost use Rattle.sl_host_state.specs.Makes.{is_lease_on};
-ghost use Rattle.sl_whole_host.specs.Asking.{state_in};
+ghost use Rattle.sl_host.specs.Asking.{state_in};
 ghost use Rattle.sl_words.specs.Words.{choose};
 ghost use Rattle.std.specs.Option.{option_map_or};
 ghost use Rattle.std.specs.Prelude.{find, option_and_then, ◌%◌, ◌==◌, ◌≡◌};
@@ -11,12 +11,12 @@ ghost use Rattle.std.specs.Prelude.{find, option_and_then, ◌%◌, ◌==◌, �
 use crate::held::{exclusive_holding, holding};
 use crate::refusing::{holder_refused, member_named, refused_or, spot_of};
 use sl_due::Decision;
+use sl_host::Host;
 use sl_host_state::ValuePair;
 use sl_member::Member;
 use sl_sector::ValueRec;
 use sl_text::Data;
 use sl_trace::{Grant, Limited, Reply, ResourceArg, Spot};
-use sl_whole_host::Host;
 
 /// The read of a value, if there is a holding.
 fn gets_value(member: &Member, spot: Spot, held: Option<Grant>) -> Decision

@@ -24,9 +24,9 @@ use Rattle.sl_trace.specs.declared.effects.Purpose.TheVariants.{Joining, Lease, 
 use Rattle.sl_trace.specs.declared.effects.Purpose.{Purpose}
 use Rattle.sl_trace.specs.declared.input.Answer.TheVariants.{Failed}
 use Rattle.sl_trace.specs.declared.input.Answer.{Answer}
-use Rattle.sl_whole_host.proofs.AnswersTold.{blocks_few}
-use Rattle.sl_whole_host.specs.Asking.{state_in}
-use Rattle.sl_whole_host.specs.Hearing.{is_untold}
+use Rattle.sl_host.proofs.AnswersTold.{blocks_few}
+use Rattle.sl_host.specs.Asking.{state_in}
+use Rattle.sl_host.specs.Hearing.{is_untold}
 use Rattle.sl_words.proofs.CaseLaws.{none_some, some_value}
 use Rattle.std.proofs.Common.{ap, arith, refl, subst, sym, true≢false, ◌∙◌}
 use Rattle.std.proofs.lemmas.Bool.Decides.{Decides-eqb}

@@ -22,9 +22,9 @@ use Rattle.sl_trace.specs.declared.effects.Grant.{Grant}
 use Rattle.sl_trace.specs.declared.effects.Signal.TheVariants.{Kill, Term}
 use Rattle.sl_trace.specs.declared.effects.Signal.{Signal}
 use Rattle.sl_trace.specs.declared.reply.Reply.TheVariants.{Recovering}
-use Rattle.sl_whole_host.proofs.PassingStands.{chosen_few, front_all, front_more}
-use Rattle.sl_whole_host.specs.Choosing.{chosen_among}
-use Rattle.sl_whole_host.specs.declared.passing.Chosen.TheVariants.{OfLockspace}
+use Rattle.sl_host.proofs.PassingStands.{chosen_few, front_all, front_more}
+use Rattle.sl_host.specs.Choosing.{chosen_among}
+use Rattle.sl_host.specs.declared.passing.Chosen.TheVariants.{OfLockspace}
 use Rattle.sl_words.proofs.CaseLaws.{some_value}
 use Rattle.sl_words.specs.Bounds.{moments}
 use Rattle.sl_words.specs.Words.{choose}

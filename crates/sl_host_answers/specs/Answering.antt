@@ -32,8 +32,8 @@ use Rattle.sl_trace.specs.declared.effects.Work.{Work}
 use Rattle.sl_trace.specs.declared.input.Answer.TheVariants.{Failed, Read, Written}
 use Rattle.sl_trace.specs.declared.input.Answer.{Answer}
 use Rattle.sl_trace.specs.declared.reply.Reply.TheVariants.{Done}
-use Rattle.sl_whole_host.specs.Asking.{state_in}
-use Rattle.sl_whole_host.specs.Hearing.{MayHear, sectors_read}
+use Rattle.sl_host.specs.Asking.{state_in}
+use Rattle.sl_host.specs.Hearing.{MayHear, sectors_read}
 use Rattle.sl_words.specs.Bounds.{moments}
 use Rattle.std.specs.Arc.{arc_value}
 use Rattle.std.specs.Prelude.{Bool, IsTrue, List, None, Option, Result, Some, cond, false, find, is_some, length, option_map, true, ℕ, ◌*◌, ◌+◌, ◌<◌, ◌==◌, ◌≡◌, ◌≤◌}

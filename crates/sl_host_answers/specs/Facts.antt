@@ -15,8 +15,8 @@ use Rattle.sl_trace.specs.declared.effects.Grant.{Grant}
 use Rattle.sl_trace.specs.declared.effects.LeaseStep.{LeaseStep}
 use Rattle.sl_trace.specs.declared.effects.Spot.{Spot}
 use Rattle.sl_trace.specs.declared.effects.Work.{Work}
-use Rattle.sl_whole_host.specs.Asking.{state_in}
-use Rattle.sl_whole_host.specs.Replying.{HasClaims}
+use Rattle.sl_host.specs.Asking.{state_in}
+use Rattle.sl_host.specs.Replying.{HasClaims}
 use Rattle.sl_words.specs.Bounds.{moments}
 use Rattle.std.specs.Prelude.{Contains, List, Option, Some, true, ℕ, ◌<◌, ◌≡◌}
 

@@ -8,7 +8,7 @@ use Rattle.sl_trace.specs.Traces.{is_orphan, is_shared, same_place}
 use Rattle.sl_trace.specs.declared.effects.Grant.{Grant}
 use Rattle.sl_trace.specs.declared.effects.Signal.{Signal}
 use Rattle.sl_trace.specs.declared.effects.Spot.{Spot}
-use Rattle.sl_whole_host.specs.Asking.{held_under}
+use Rattle.sl_host.specs.Asking.{held_under}
 use Rattle.sl_words.specs.Words.{choose}
 use Rattle.std.specs.Prelude.{List, None, Option, Some, cond, filter, find, nat_lt, not, option_and_then, option_map, ℕ}
 

@@ -10,7 +10,7 @@ use Rattle.sl_member.specs.Together.{member_with}
 use Rattle.sl_sessions.specs.declared.session.Session.{Session}
 use Rattle.sl_trace.specs.declared.effects.Grant.{Grant}
 use Rattle.sl_trace.specs.declared.effects.Spot.{Spot}
-use Rattle.sl_whole_host.specs.Host.{HostView}
+use Rattle.sl_host.specs.Host.{HostView}
 use Rattle.sl_words.specs.Words.{choose}
 use Rattle.std.specs.Prelude.{List, None, Option, Some, [], length, map, ℕ, ◌≡◌}
 

@@ -24,8 +24,8 @@ ghost use Rattle.sl_member.specs.Together.{member_with};
 ghost use Rattle.sl_trace.specs.declared.effects.Purpose.TheVariants.{Joining, Lease as LeaseWork, Leaving, Renewal, RequestRead, RequestWrite, SeeRequest, Survey, ValueRead, ValueWrite};
 ghost use Rattle.sl_trace.specs.declared.input.Answer.TheVariants.{Failed, Read, Written};
 ghost use Rattle.sl_trace.specs.declared.reply.Reply.TheVariants.{Done};
-ghost use Rattle.sl_whole_host.specs.Asking.{state_in};
-ghost use Rattle.sl_whole_host.specs.Host.{Becomes, SameRun, Spends};
+ghost use Rattle.sl_host.specs.Asking.{state_in};
+ghost use Rattle.sl_host.specs.Host.{Becomes, SameRun, Spends};
 ghost use Rattle.std.specs.Arc.{arc_value};
 ghost use Rattle.std.specs.Prelude.{IfSome, IsTrue, Some, false, find, is_some, length, true, ℕ, ◌*◌, ◌+◌, ◌==◌, ◌≡◌, ◌≤◌};
 
@@ -38,11 +38,11 @@ use crate::own::{
 use crate::requests::{answer_request, answer_value};
 use crate::surveys::answer_survey;
 use sl_delta::SectorAnswer;
+use sl_host::{Host, Notes};
 use sl_host_state::OpenCall;
 use sl_lease::{Blocks, Sectors};
 use sl_sectors::Image;
 use sl_trace::{JoinStep, LeaseStep, Purpose, Spot, Work};
-use sl_whole_host::{Host, Notes};
 use std::sync::Arc;
 
 /// An answer: the one sector that a joining's call read, the sectors that another one read, that the call is written, or that it failed.

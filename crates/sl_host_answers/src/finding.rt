@@ -9,13 +9,13 @@ ghost use Rattle.sl_member.specs.Together.{member_with};
 ghost use Rattle.std.specs.Prelude.{Contains, IfSome, IsTrue, length, option_map, ◌*◌, ◌≡◌};
 
 use sl_area::Geometry;
+use sl_host::Host;
 use sl_host_state::OpenCall;
 use sl_lease::Sectors;
 use sl_sector::{Bad, Rec};
 use sl_sessions::Session;
 use sl_tables::Holder;
 use sl_trace::{Grant, Mode, Spot};
-use sl_whole_host::Host;
 
 /// The session of this number, if a member is.
 pub(crate) fn session_of(host: &Host, number: u64) -> Option<Session>

@@ -6,12 +6,12 @@ ghost use Rattle.sl_host_state.specs.Makes.{with_reply};
 ghost use Rattle.sl_sessions.specs.Sessions.{is_join_done};
 ghost use Rattle.sl_trace.specs.declared.input.Answer.TheVariants.{Failed, Written};
 ghost use Rattle.sl_trace.specs.declared.reply.Reply.TheVariants.{Done};
-ghost use Rattle.sl_whole_host.specs.Host.{Becomes, SameRun, Spends};
+ghost use Rattle.sl_host.specs.Host.{Becomes, SameRun, Spends};
 ghost use Rattle.std.specs.Prelude.{false, ◌≡◌, ◌≤◌};
 
+use sl_host::Host;
 use sl_host_state::OpenCall;
 use sl_trace::Reply;
-use sl_whole_host::Host;
 
 /// The call of a job failed: the job is answered so, if it runs.
 pub fn answer_failed(host: &mut Host, call: &OpenCall, job: u64)

@@ -16,12 +16,13 @@ ghost use Rattle.sl_lease.specs.Bounds.{IsInstance};
 ghost use Rattle.sl_leases.specs.Jobs.{aim_of_command};
 ghost use Rattle.sl_sector.specs.Records.{IsBlock, IsLeader};
 ghost use Rattle.sl_trace.specs.declared.input.Answer.TheVariants.{Failed, Read, Written};
-ghost use Rattle.sl_whole_host.specs.Asking.{state_in};
-ghost use Rattle.sl_whole_host.specs.Host.{Becomes, SameRun, Spends};
+ghost use Rattle.sl_host.specs.Asking.{state_in};
+ghost use Rattle.sl_host.specs.Host.{Becomes, SameRun, Spends};
 ghost use Rattle.sl_words.specs.Bounds.{moments};
 ghost use Rattle.std.specs.Prelude.{All, IfSome, List, Some, is_some, length, true, ℕ, ◌<◌, ◌^◌, ◌≡◌, ◌≤◌};
 
 use crate::finding::area_of;
+use sl_host::Host;
 use sl_host_state::OpenCall;
 use sl_host_work::{carry_lease, next_after_failure, next_after_read, next_after_write};
 use sl_leases::{Aim, LeaseNext};
@@ -29,7 +30,6 @@ use sl_member::Member;
 use sl_sector::{Block, Leader};
 use sl_sessions::Session;
 use sl_trace::{Command, LeaseStep, Mode, Spot, Work};
-use sl_whole_host::Host;
 
 // ---- where the work goes on
 

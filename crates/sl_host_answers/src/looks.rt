@@ -7,19 +7,19 @@ ghost use Rattle.sl_host_law.specs.Answers.Requests.{seeing_request};
 ghost use Rattle.sl_host_law.specs.Questions.Members.{exclusive_at};
 ghost use Rattle.sl_host_law.specs.Steps.Passes.{at_member, member_numbered};
 ghost use Rattle.sl_host_law.specs.Questions.Answers.{spot_in};
-ghost use Rattle.sl_whole_host.specs.Asking.{state_in};
-ghost use Rattle.sl_whole_host.specs.Host.{Becomes, SameRun, Spends};
+ghost use Rattle.sl_host.specs.Asking.{state_in};
+ghost use Rattle.sl_host.specs.Host.{Becomes, SameRun, Spends};
 ghost use Rattle.std.specs.Prelude.{IsTrue, Some, length, ◌<◌, ◌==◌, ◌≡◌, ◌≤◌};
 
 use crate::finding::{area_of, exclusive_under, only_record};
 use sl_area::Geometry;
+use sl_host::Host;
 use sl_host_state::OpenCall;
 use sl_host_work::send;
 use sl_lease::Sectors;
 use sl_member::Member;
 use sl_sector::{Request, request_in};
 use sl_trace::{Grant, Signal, Spot};
-use sl_whole_host::Host;
 
 /// The signal of a request's force: 1 kills.
 fn signal_of_force(force: u32) -> Signal

@@ -16,18 +16,18 @@ ghost use Rattle.sl_sessions.specs.Deltas.{next_after_free, next_after_renewal};
 ghost use Rattle.sl_sessions.specs.Sessions.{is_join_done};
 ghost use Rattle.sl_sessions.specs.declared.delta.DeltaNext.TheVariants.{EndLeaving};
 ghost use Rattle.sl_trace.specs.declared.input.Answer.TheVariants.{Failed, Written};
-ghost use Rattle.sl_whole_host.specs.Asking.{state_in};
-ghost use Rattle.sl_whole_host.specs.Host.{Becomes, SameRun, Spends};
+ghost use Rattle.sl_host.specs.Asking.{state_in};
+ghost use Rattle.sl_host.specs.Host.{Becomes, SameRun, Spends};
 ghost use Rattle.sl_words.specs.Bounds.{moments};
 ghost use Rattle.std.specs.Prelude.{IfSome, Some, false, is_some, option_map, ◌<◌, ◌≡◌, ◌≤◌};
 
 use sl_delta::SectorAnswer;
+use sl_host::Host;
 use sl_host_state::OpenCall;
 use sl_host_work::{carry, remove_connection};
 use sl_member::Member;
 use sl_sessions::{DeltaNext, Session};
 use sl_trace::{JoinStep, Reply};
-use sl_whole_host::Host;
 
 // ---- joinings
 

@@ -17,12 +17,13 @@ ghost use Rattle.sl_sessions.specs.Sessions.{is_join_done};
 ghost use Rattle.sl_trace.specs.Commands.{IsCommand};
 ghost use Rattle.sl_trace.specs.declared.command.Command.TheVariants.{Request as Requests};
 ghost use Rattle.sl_trace.specs.declared.input.Answer.TheVariants.{Read};
-ghost use Rattle.sl_whole_host.specs.Host.{Becomes, SameRun, Spends};
+ghost use Rattle.sl_host.specs.Host.{Becomes, SameRun, Spends};
 ghost use Rattle.sl_words.specs.Bounds.{moments};
 ghost use Rattle.std.specs.Prelude.{IfSome, IsTrue, cond, false, length, ◌*◌, ◌<◌, ◌==◌, ◌≡◌, ◌≤◌};
 
 use crate::finding::{only_record, request_place, session_of};
 use sl_area::Geometry;
+use sl_host::Host;
 use sl_host_state::OpenCall;
 use sl_lease::{Sectors, leader_of};
 use sl_request::check_request;
@@ -30,7 +31,6 @@ use sl_sector::{Leader, Rec, Request, request_in, value_in};
 use sl_sessions::Session;
 use sl_text::Name;
 use sl_trace::{Command, Op, Purpose, Reply, ResourceArg};
-use sl_whole_host::Host;
 
 // ---- a value is read
 

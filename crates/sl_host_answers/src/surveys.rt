@@ -11,19 +11,19 @@ ghost use Rattle.sl_host_law.specs.Steps.Passes.{at_member, member_numbered};
 ghost use Rattle.sl_host_work.specs.Placed.{IsArea};
 ghost use Rattle.sl_host_work.specs.Stopping.{stopping_cost};
 ghost use Rattle.sl_member.specs.Together.{member_with};
-ghost use Rattle.sl_whole_host.specs.Asking.{state_in};
-ghost use Rattle.sl_whole_host.specs.Host.{Becomes, SameRun, Spends};
+ghost use Rattle.sl_host.specs.Asking.{state_in};
+ghost use Rattle.sl_host.specs.Host.{Becomes, SameRun, Spends};
 ghost use Rattle.sl_words.specs.Bounds.{moments};
 ghost use Rattle.std.specs.Prelude.{IsTrue, Some, [], length, map, ◌*◌, ◌+◌, ◌<◌, ◌≡◌, ◌≤◌};
 
 use crate::finding::{exclusive_under, request_place};
+use sl_host::{Host, Notes};
 use sl_host_state::OpenCall;
 use sl_host_work::{Stopped, stop};
 use sl_lease::Sectors;
 use sl_member::{Leases, Member};
 use sl_sessions::{Begun, Session};
 use sl_trace::{Grant, Op, Purpose, Spot};
-use sl_whole_host::{Host, Notes};
 
 // ---- what it shows
 

@@ -19,8 +19,8 @@ use Rattle.sl_trace.specs.declared.effects.Mode.{Mode}
 use Rattle.sl_trace.specs.declared.effects.Spot.{Spot}
 use Rattle.sl_trace.specs.declared.effects.Work.TheVariants.{ForJob}
 use Rattle.sl_trace.specs.declared.reply.Reply.TheVariants.{Done}
-use Rattle.sl_whole_host.proofs.QuestionsStand.{find_found}
-use Rattle.sl_whole_host.specs.Asking.{held_under, sought_on, state_in}
+use Rattle.sl_host.proofs.QuestionsStand.{find_found}
+use Rattle.sl_host.specs.Asking.{held_under, sought_on, state_in}
 use Rattle.sl_words.proofs.CaseLaws.{none_some, some_value}
 use Rattle.sl_words.specs.Words.{is_empty}
 use Rattle.std.proofs.Common.{ap, refl, sym, ◌∙◌}

@@ -19,8 +19,8 @@ use Rattle.sl_trace.specs.declared.command.Command.{Command}
 use Rattle.sl_trace.specs.declared.effects.End.{End}
 use Rattle.sl_trace.specs.declared.effects.Grant.{Grant}
 use Rattle.sl_trace.specs.declared.effects.Spot.{Spot}
-use Rattle.sl_whole_host.specs.Asking.{state_in}
-use Rattle.sl_whole_host.specs.Host.{Becomes, HostView, SameRun}
+use Rattle.sl_host.specs.Asking.{state_in}
+use Rattle.sl_host.specs.Host.{Becomes, HostView, SameRun}
 use Rattle.sl_words.proofs.CaseLaws.{none_some, some_value}
 use Rattle.std.proofs.Common.{ap, refl, subst, sym, ◌∙◌}
 use Rattle.std.proofs.lemmas.List.{length-map}

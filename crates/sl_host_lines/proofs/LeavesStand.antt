@@ -12,10 +12,10 @@ use Rattle.sl_host_work.specs.Stopping.{stopped_of, stopping}
 use Rattle.sl_host_work.specs.declared.recoveries.Stopped.{Stopped}
 use Rattle.sl_trace.specs.declared.command.Command.{Command}
 use Rattle.sl_trace.specs.declared.effects.Grant.{Grant}
-use Rattle.sl_whole_host.specs.Choosing.{chosen_among, is_chosen}
-use Rattle.sl_whole_host.specs.declared.passing.Chosen.TheVariants.{OfLockspace}
-use Rattle.sl_whole_host.specs.declared.passing.Chosen.{Chosen}
-use Rattle.sl_whole_host.specs.Host.{Becomes, HostView}
+use Rattle.sl_host.specs.Choosing.{chosen_among, is_chosen}
+use Rattle.sl_host.specs.declared.passing.Chosen.TheVariants.{OfLockspace}
+use Rattle.sl_host.specs.declared.passing.Chosen.{Chosen}
+use Rattle.sl_host.specs.Host.{Becomes, HostView}
 use Rattle.sl_words.proofs.CaseLaws.{none_some, some_value}
 use Rattle.std.proofs.Common.{ap, arith, length-append, refl, sym, ◌∙◌}
 use Rattle.std.proofs.lemmas.List.Filters.{length-filter_both}

@@ -15,8 +15,8 @@ use Rattle.sl_trace.specs.declared.command.LockspaceArg.{LockspaceArg}
 use Rattle.sl_trace.specs.declared.reply.Limited.TheVariants.{Lockspaces}
 use Rattle.sl_trace.specs.declared.reply.Reply.TheVariants.{Limit as LimitReached}
 use Rattle.sl_trace.specs.declared.reply.Reply.{Reply}
-use Rattle.sl_whole_host.specs.Host.{Becomes, HostView, SameRun}
-use Rattle.sl_whole_host.specs.Joining.{run_in}
+use Rattle.sl_host.specs.Host.{Becomes, HostView, SameRun}
+use Rattle.sl_host.specs.Joining.{run_in}
 use Rattle.sl_words.specs.Words.{choose}
 use Rattle.std.proofs.Common.{ap, arith, refl, subst, sym, ◌∙◌}
 use Rattle.std.proofs.lemmas.Bool.Decides.{nat_tests}

@@ -19,8 +19,8 @@ use Rattle.sl_trace.specs.declared.command.Command.{Command}
 use Rattle.sl_trace.specs.declared.command.LockspaceArg.{LockspaceArg}
 use Rattle.sl_trace.specs.declared.effects.Grant.{Grant}
 use Rattle.sl_trace.specs.declared.effects.Spot.{Spot}
-use Rattle.sl_whole_host.specs.Asking.{state_in}
-use Rattle.sl_whole_host.specs.Host.{ReadAs}
+use Rattle.sl_host.specs.Asking.{state_in}
+use Rattle.sl_host.specs.Host.{ReadAs}
 use Rattle.sl_words.specs.Bounds.{moments}
 use Rattle.std.specs.Prelude.{IfSome, IsTrue, List, None, Some, true, ℕ, ◌+◌, ◌<◌, ◌^◌, ◌≡◌}
 

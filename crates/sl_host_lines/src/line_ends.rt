@@ -14,14 +14,15 @@ ghost use Rattle.sl_host_work.specs.Placed.{IsArea, IsPlaced};
 ghost use Rattle.sl_leases.specs.Leases.{spot_of};
 ghost use Rattle.sl_member.specs.Together.{member_with};
 ghost use Rattle.sl_trace.specs.Traces.{spot_of_grant};
-ghost use Rattle.sl_whole_host.specs.Asking.{state_in};
-ghost use Rattle.sl_whole_host.specs.Host.{Becomes, SameRun, Spends};
+ghost use Rattle.sl_host.specs.Asking.{state_in};
+ghost use Rattle.sl_host.specs.Host.{Becomes, SameRun, Spends};
 ghost use Rattle.sl_words.specs.Bounds.{moments};
 ghost use Rattle.sl_words.specs.Words.{is_empty};
 ghost use Rattle.std.specs.Prelude.{IfSome, is_some, ◌+◌, ◌<◌, ◌≡◌, ◌≤◌};
 
 use crate::line_grants::end_of;
 use crate::lines::begin;
+use sl_host::Host;
 use sl_host_work::{carry_lease, converting_next, releasing_next};
 use sl_leases::LeaseNext;
 use sl_member::Member;
@@ -29,7 +30,6 @@ use sl_sessions::Session;
 use sl_tables::Holder;
 use sl_text::Name;
 use sl_trace::{Command, Grant, Mode, Reply, ResourceArg, Spot, Work};
-use sl_whole_host::Host;
 
 /// The area of a holding.
 fn spot_of_grant(grant: &Grant) -> Spot

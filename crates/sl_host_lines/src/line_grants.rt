@@ -4,14 +4,14 @@ ghost use Rattle.sl_due.specs.declared.decision.Decision.TheVariants.{Shares, Ta
 ghost use Rattle.sl_host_law.specs.Steps.Lines.{deciding};
 ghost use Rattle.sl_host_lines.specs.LineFacts.{IsTimely};
 ghost use Rattle.sl_trace.specs.Traces.{end_of};
-ghost use Rattle.sl_whole_host.specs.Host.{Becomes, SameRun, Spends};
+ghost use Rattle.sl_host.specs.Host.{Becomes, SameRun, Spends};
 ghost use Rattle.std.specs.Prelude.{◌+◌, ◌≡◌, ◌≤◌};
 
 use crate::lines::begin;
+use sl_host::Host;
 use sl_host_work::grant_for;
 use sl_sessions::Session;
 use sl_trace::{Command, End, Grant, Mode};
-use sl_whole_host::Host;
 
 /// The end of a holding.
 pub(crate) fn end_of(grant: &Grant) -> End

@@ -13,16 +13,16 @@ ghost use Rattle.sl_member.specs.Together.{member_with};
 ghost use Rattle.sl_trace.specs.Commands.{IsLockspaceArg};
 ghost use Rattle.sl_trace.specs.Limits.{most_lockspaces};
 ghost use Rattle.sl_trace.specs.declared.command.Command.TheVariants.{AddLockspace};
-ghost use Rattle.sl_whole_host.specs.Host.{Becomes, SameRun, Spends};
-ghost use Rattle.sl_whole_host.specs.Notes.{NotesState};
+ghost use Rattle.sl_host.specs.Host.{Becomes, SameRun, Spends};
+ghost use Rattle.sl_host.specs.Notes.{NotesState};
 ghost use Rattle.std.specs.Prelude.{None, length, option_map, ℕ, ◌+◌, ◌<◌, ◌≡◌, ◌≤◌};
 
 use crate::lines::begin;
+use sl_host::{Host, Notes};
 use sl_host_work::{Stopped, stop};
 use sl_member::Member;
 use sl_sessions::Session;
 use sl_trace::{Command, LockspaceArg, Op};
-use sl_whole_host::{Host, Notes};
 
 /// What of a member is stopped.
 fn stopped(member: &Member) -> Stopped

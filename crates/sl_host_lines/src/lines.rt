@@ -6,13 +6,13 @@ ghost use Rattle.sl_due.specs.declared.decision.Decision.TheVariants.{GetsValue,
 ghost use Rattle.sl_host_law.specs.Steps.Lines.{deciding, lining};
 ghost use Rattle.sl_host_state.specs.Hears.{heard_line};
 ghost use Rattle.sl_host_lines.specs.LineFacts.{IsTimely};
-ghost use Rattle.sl_whole_host.specs.Host.{Becomes, SameRun, Spends};
+ghost use Rattle.sl_host.specs.Host.{Becomes, SameRun, Spends};
 ghost use Rattle.std.specs.Prelude.{Err, IsTrue, ◌+◌, ◌≡◌, ◌≤◌};
 
+use sl_host::Host;
 use sl_sector::{Rec, ValueRec};
 use sl_sessions::Session;
 use sl_trace::{Command, LeaseStep, Op, Purpose, Reply, ResourceArg, Spot, Work};
-use sl_whole_host::Host;
 
 /// A line that says no command: the column of the first word that doesn't fit is told.
 pub fn misread(host: &mut Host, column: u64)

@@ -8,9 +8,9 @@ ghost use Rattle.sl_host_lines.specs.Leaving.{line_cost};
 ghost use Rattle.sl_host_lines.specs.LineFacts.{DecisionKnown, IsTimely, LineKnown};
 ghost use Rattle.sl_host_lines.specs.Seats.{HasSeat};
 ghost use Rattle.sl_trace.specs.Commands.{IsCommand};
-ghost use Rattle.sl_whole_host.specs.Asking.{state_in};
-ghost use Rattle.sl_whole_host.specs.Host.{Becomes, SameRun, Spends};
-ghost use Rattle.sl_whole_host.specs.Notes.{NotesState};
+ghost use Rattle.sl_host.specs.Asking.{state_in};
+ghost use Rattle.sl_host.specs.Host.{Becomes, SameRun, Spends};
+ghost use Rattle.sl_host.specs.Notes.{NotesState};
 ghost use Rattle.std.specs.Prelude.{IfOk, Ok, length, ◌<◌, ◌≡◌, ◌≤◌};
 
 use crate::line_ends::{convert, give_up};
@@ -19,9 +19,9 @@ use crate::line_sessions::{join_with, leave};
 use crate::lines::{answer, get_value, misread, read_area, request, set_value};
 use sl_deciding::{Lists, decide};
 use sl_due::Decision;
+use sl_host::{Host, Notes};
 use sl_member::Member;
 use sl_trace::Command;
-use sl_whole_host::{Host, Notes};
 
 /// What a command came to is done.
 fn carry_out(

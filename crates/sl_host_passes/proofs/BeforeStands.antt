@@ -1,7 +1,7 @@
 -- A pass over all jobs goes by the numbers of all.
 use Rattle.sl_host_state.specs.declared.kept.JobState.{JobState}
-use Rattle.sl_whole_host.specs.Choosing.{chosen_among}
-use Rattle.sl_whole_host.specs.declared.passing.Chosen.TheVariants.{All}
+use Rattle.sl_host.specs.Choosing.{chosen_among}
+use Rattle.sl_host.specs.declared.passing.Chosen.TheVariants.{All}
 use Rattle.std.proofs.Common.{ap, refl, ◌∙◌}
 use Rattle.std.proofs.lemmas.List.{length-map}
 use Rattle.std.specs.Prelude.{List, [], length, map, ℕ, ◌∷◌, ◌≡◌}

@@ -32,9 +32,9 @@ use Rattle.sl_trace.specs.declared.effects.Grant.{Grant}
 use Rattle.sl_trace.specs.declared.effects.Move.TheVariants.{Unregister}
 use Rattle.sl_trace.specs.declared.effects.Op.TheVariants.{WriteRecord}
 use Rattle.sl_trace.specs.declared.effects.Purpose.TheVariants.{Leaving}
-use Rattle.sl_whole_host.specs.Asking.{held_under, state_in}
-use Rattle.sl_whole_host.specs.Host.{Becomes, HostView, SameRun}
-use Rattle.sl_whole_host.specs.Passing.{above}
+use Rattle.sl_host.specs.Asking.{held_under, state_in}
+use Rattle.sl_host.specs.Host.{Becomes, HostView, SameRun}
+use Rattle.sl_host.specs.Passing.{above}
 use Rattle.sl_words.proofs.CaseLaws.{true_is_false}
 use Rattle.sl_words.specs.Bounds.{moments}
 use Rattle.sl_words.specs.Words.{is_empty, least}

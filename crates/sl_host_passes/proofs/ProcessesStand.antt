@@ -13,8 +13,8 @@ use Rattle.sl_tables.specs.Children.{child_of}
 use Rattle.sl_tables.specs.declared.children.ChildState.{ChildState}
 use Rattle.sl_trace.specs.Traces.{Child, end_of, leaves_orphan, no_process, orphan_of, orphans_left}
 use Rattle.sl_trace.specs.declared.effects.Grant.{Grant}
-use Rattle.sl_whole_host.specs.Choosing.{chosen_among, is_chosen}
-use Rattle.sl_whole_host.specs.declared.passing.Chosen.{Chosen}
+use Rattle.sl_host.specs.Choosing.{chosen_among, is_chosen}
+use Rattle.sl_host.specs.declared.passing.Chosen.{Chosen}
 use Rattle.std.proofs.Common.{ap, arith, refl, sym, ◌∙◌}
 use Rattle.std.proofs.lemmas.List.{length-map}
 use Rattle.std.specs.Prelude.{Bool, List, None, Option, Some, [], cond, false, filter, find, length, map, option_map, ℕ, ◌*◌, ◌+◌, ◌==◌, ◌∷◌, ◌≡◌, ◌≤◌}

@@ -20,8 +20,8 @@ use Rattle.sl_trace.specs.declared.effects.Grant.{Grant}
 use Rattle.sl_trace.specs.declared.effects.Signal.TheVariants.{Term}
 use Rattle.sl_trace.specs.declared.reply.Reply.TheVariants.{Recovering}
 use Rattle.sl_trace.specs.declared.reply.Reply.{Reply}
-use Rattle.sl_whole_host.specs.Choosing.{chosen_among, is_chosen}
-use Rattle.sl_whole_host.specs.declared.passing.Chosen.TheVariants.{OfLockspace}
+use Rattle.sl_host.specs.Choosing.{chosen_among, is_chosen}
+use Rattle.sl_host.specs.declared.passing.Chosen.TheVariants.{OfLockspace}
 use Rattle.sl_words.proofs.CaseLaws.{none_some, some_value}
 use Rattle.sl_words.specs.Words.{choose}
 use Rattle.std.proofs.Common.{ap, arith, refl, subst, sym, ◌∙◌}

@@ -1,5 +1,5 @@
 -- What a host is made of stays through one change after another.
-use Rattle.sl_whole_host.specs.Host.{HostView, SameRun}
+use Rattle.sl_host.specs.Host.{HostView, SameRun}
 use Rattle.std.proofs.Common.{refl, ◌∙◌}
 use Rattle.std.specs.Prelude.{◌≡◌}
 

@@ -49,8 +49,8 @@ use Rattle.sl_trace.specs.declared.effects.Op.{Op}
 use Rattle.sl_trace.specs.declared.effects.Purpose.TheVariants.{Lease}
 use Rattle.sl_trace.specs.declared.effects.Spot.{Spot}
 use Rattle.sl_trace.specs.declared.effects.Work.TheVariants.{Settling}
-use Rattle.sl_whole_host.specs.Asking.{state_in}
-use Rattle.sl_whole_host.specs.Host.{Becomes, HostView}
+use Rattle.sl_host.specs.Asking.{state_in}
+use Rattle.sl_host.specs.Host.{Becomes, HostView}
 use Rattle.sl_words.proofs.CaseLaws.{none_some, some_value, false_is_true, true_is_false}
 use Rattle.sl_words.proofs.WordLaws.{and_true}
 use Rattle.sl_words.specs.Bounds.{is_number}

@@ -2,7 +2,7 @@
 use Rattle.sl_host_passes.specs.Fewer.{leases_among, leases_at, leases_in}
 use Rattle.sl_host_state.specs.Kept.{LeaseState, MemberState}
 use Rattle.sl_member.specs.Together.{AreApart, member_with}
-use Rattle.sl_whole_host.proofs.PassingStands.{front_all, front_more}
+use Rattle.sl_host.proofs.PassingStands.{front_all, front_more}
 use Rattle.sl_trace.specs.declared.effects.Spot.{Spot}
 use Rattle.std.proofs.Common.{ap, arith, refl, sym, ◌∙◌}
 use Rattle.std.proofs.lemmas.List.Sums.{sum_by-cons}

@@ -37,8 +37,8 @@ use Rattle.sl_trace.specs.declared.effects.Move.TheVariants.{Register, Renew}
 use Rattle.sl_trace.specs.declared.effects.Op.TheVariants.{ReadSectors, WriteRecord}
 use Rattle.sl_trace.specs.declared.effects.Purpose.TheVariants.{Joining, Leaving, Renewal, Survey}
 use Rattle.sl_trace.specs.declared.reply.Reply.TheVariants.{Generation}
-use Rattle.sl_whole_host.specs.Asking.{state_in}
-use Rattle.sl_whole_host.specs.Host.{Becomes, HostView, SameRun}
+use Rattle.sl_host.specs.Asking.{state_in}
+use Rattle.sl_host.specs.Host.{Becomes, HostView, SameRun}
 use Rattle.sl_words.specs.Bounds.{moments}
 use Rattle.std.proofs.Common.{ap, refl, subst, sym, ◌∙◌}
 use Rattle.std.specs.Prelude.{Bool, Contains, List, None, Option, Some, cond, false, ℕ, ◌&&◌, ◌+◌, ◌<◌, ◌==◌, ◌≡◌}

@@ -1,6 +1,6 @@
 -- What a pass leaves of a host's tables: holdings as they are, and of jobs, members and leases no more than there were. No session is born, and no line
 -- takes a number.
-pub use Rattle.sl_whole_host.specs.Asking.{leases_in}
+pub use Rattle.sl_host.specs.Asking.{leases_in}
 use Rattle.sl_host_state.specs.Kept.{HostKept, MemberState}
 use Rattle.sl_host_work.specs.Killing.{count_under}
 use Rattle.sl_trace.specs.declared.effects.Grant.{Grant}

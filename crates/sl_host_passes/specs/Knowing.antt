@@ -13,7 +13,7 @@ use Rattle.sl_sessions.specs.declared.session.Begun.{Begun}
 use Rattle.sl_trace.specs.Traces.{is_shared}
 use Rattle.sl_trace.specs.declared.effects.Grant.{Grant}
 use Rattle.sl_trace.specs.declared.effects.Spot.{Spot}
-use Rattle.sl_whole_host.specs.Asking.{state_in}
+use Rattle.sl_host.specs.Asking.{state_in}
 use Rattle.sl_words.specs.Bounds.{moments}
 use Rattle.std.specs.Prelude.{Contains, List, None, Option, Some, [], cond, false, map, true, ℕ, ◌+◌, ◌<◌, ◌^◌, ◌≡◌}
 

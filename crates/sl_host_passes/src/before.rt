@@ -11,13 +11,13 @@ ghost use Rattle.sl_host_law.specs.Steps.Passes.{at_job, at_member, for_jobs, fo
 ghost use Rattle.sl_host_law.specs.Steps.Stepping.{before_taking};
 ghost use Rattle.sl_host_passes.specs.Fewer.{IsNoMore, holders_among};
 ghost use Rattle.sl_host_work.specs.Killing.{holders_of_all};
-ghost use Rattle.sl_whole_host.specs.Host.{Becomes, SameRun, Spends};
-ghost use Rattle.sl_whole_host.specs.Notes.{NotesState};
+ghost use Rattle.sl_host.specs.Host.{Becomes, SameRun, Spends};
+ghost use Rattle.sl_host.specs.Notes.{NotesState};
 ghost use Rattle.std.specs.Prelude.{length, ◌*◌, ◌+◌, ◌≡◌, ◌≤◌};
 
+use sl_host::{Chosen, Host, Notes};
 use sl_host_work::laws::holders_are_few;
 use sl_host_work::{kill_all, recover, time_out};
-use sl_whole_host::{Chosen, Host, Notes};
 
 /// The jobs of these numbers are refused where their calls are overdue.
 fn time_out_noted(host: &mut Host, numbers: &Notes<u64>)

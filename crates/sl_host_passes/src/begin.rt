@@ -4,12 +4,12 @@ ghost use Rattle.sl_host_law.specs.Steps.Stepping.{before_taking};
 ghost use Rattle.sl_host_passes.specs.Fewer.{IsNoMore};
 ghost use Rattle.sl_host_passes.specs.Knowing.{BeginKnown};
 ghost use Rattle.sl_host_state.specs.Hears.{begun};
-ghost use Rattle.sl_whole_host.specs.Host.{Becomes, SameMost, Spends};
-ghost use Rattle.sl_whole_host.specs.Notes.{NotesState};
+ghost use Rattle.sl_host.specs.Host.{Becomes, SameMost, Spends};
+ghost use Rattle.sl_host.specs.Notes.{NotesState};
 ghost use Rattle.std.specs.Prelude.{length, ◌*◌, ◌+◌, ◌<◌, ◌≡◌, ◌≤◌};
 
 use crate::before::before_input;
-use sl_whole_host::{Host, Notes};
+use sl_host::{Host, Notes};
 
 /// The step at the reading `now` begins, and what is due before its input is done. Where the host is quiet that takes no pass.
 pub fn begin_step(host: &mut Host, members: &mut Notes<u64>, numbers: &mut Notes<u64>, now: u64)

@@ -5,15 +5,15 @@ ghost use Rattle.sl_host_passes.specs.Knowing.{JobsApart};
 ghost use Rattle.sl_host_state.specs.Hears.{quiet_to};
 ghost use Rattle.sl_host_state.specs.Stands.{IsQuiet, job_moments, kill_moment, member_moments, recovery_moment};
 ghost use Rattle.sl_host_work.specs.Killing.{unread};
-ghost use Rattle.sl_whole_host.specs.Asking.{state_in};
-ghost use Rattle.sl_whole_host.specs.Host.{Becomes, SameRun, Spends};
-ghost use Rattle.sl_whole_host.specs.Notes.{NotesState};
+ghost use Rattle.sl_host.specs.Asking.{state_in};
+ghost use Rattle.sl_host.specs.Host.{Becomes, SameRun, Spends};
+ghost use Rattle.sl_host.specs.Notes.{NotesState};
 ghost use Rattle.std.specs.Prelude.{find, flat_map, length, min, nat_le, ◌+◌, ◌-◌, ◌==◌, ◌^◌, ◌≡◌, ◌≤◌};
 
+use sl_host::{Chosen, Host, Notes};
 use sl_host_state::JobState;
 use sl_member::Member;
 use sl_sessions::Begun;
-use sl_whole_host::{Chosen, Host, Notes};
 
 /// The earlier of a moment and one so much after a reading.
 fn sooner(next: u64, since: u64, time: u64) -> u64

@@ -11,17 +11,17 @@ ghost use Rattle.sl_host_passes.specs.Knowing.{FinishKnown};
 ghost use Rattle.sl_host_work.specs.Placed.{IsPlaced};
 ghost use Rattle.sl_sector.specs.Records.{Fits};
 ghost use Rattle.sl_sessions.specs.Deltas.{next_free};
-ghost use Rattle.sl_whole_host.specs.Asking.{held_under, state_in};
-ghost use Rattle.sl_whole_host.specs.Host.{Becomes, SameRun, Spends};
-ghost use Rattle.sl_whole_host.specs.Notes.{NotesState};
+ghost use Rattle.sl_host.specs.Asking.{held_under, state_in};
+ghost use Rattle.sl_host.specs.Host.{Becomes, SameRun, Spends};
+ghost use Rattle.sl_host.specs.Notes.{NotesState};
 ghost use Rattle.sl_words.specs.Bounds.{moments};
 ghost use Rattle.sl_words.specs.Words.{is_empty};
 ghost use Rattle.std.specs.Prelude.{IfSome, Some, false, length, true, ℕ, ◌*◌, ◌+◌, ◌<◌, ◌≡◌, ◌≤◌};
 
+use sl_host::{Host, Notes};
 use sl_host_work::carry;
 use sl_member::Member;
 use sl_sessions::{DeltaNext, Session};
-use sl_whole_host::{Host, Notes};
 
 /// Whether nothing is held under the session: by no process, and no orphan.
 #[tactic(auto, using(crate::proofs::Finishes::nothing_held))]

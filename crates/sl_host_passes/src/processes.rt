@@ -8,15 +8,15 @@ ghost use Rattle.sl_host_work.specs.Ending.{HoldsOnce};
 ghost use Rattle.sl_sessions.specs.Sessions.{is_join_done};
 ghost use Rattle.sl_tables.specs.Children.{child_of};
 ghost use Rattle.sl_trace.specs.Traces.{no_process};
-ghost use Rattle.sl_whole_host.specs.Asking.{state_in};
-ghost use Rattle.sl_whole_host.specs.Host.{Becomes, SameRun, Spends};
-ghost use Rattle.sl_whole_host.specs.Notes.{NotesState};
+ghost use Rattle.sl_host.specs.Asking.{state_in};
+ghost use Rattle.sl_host.specs.Host.{Becomes, SameRun, Spends};
+ghost use Rattle.sl_host.specs.Notes.{NotesState};
 ghost use Rattle.std.specs.Prelude.{false, length, ◌*◌, ◌+◌, ◌==◌, ◌≡◌, ◌≤◌};
 
+use sl_host::{Host, Notes};
 use sl_host_work::{end_holdings, leave_holdings, refuse_of_process};
 use sl_tables::ChildState;
 use sl_trace::{Grant, Reply, Sent, Signal};
-use sl_whole_host::{Host, Notes};
 
 /// A process has exited: its holdings end, the persistent ones are the machine's orphans from here on, its jobs are refused. Process 0 is none.
 pub fn exit(host: &mut Host, orphans: &mut Notes<Grant>, numbers: &mut Notes<u64>, process: u32)

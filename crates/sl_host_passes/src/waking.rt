@@ -12,14 +12,14 @@ ghost use Rattle.sl_host_law.specs.Steps.Wakes.{settling_all, settling_here, wak
 ghost use Rattle.sl_host_passes.specs.Fewer.{IsNoMore, SameLeases, leases_among, leases_at, leases_in};
 ghost use Rattle.sl_host_passes.specs.Knowing.{AreAreas, HasLeases, WakeKnown, spots_of};
 ghost use Rattle.sl_member.specs.Together.{member_with};
-ghost use Rattle.sl_whole_host.specs.Host.{Becomes, SameRun, Spends};
-ghost use Rattle.sl_whole_host.specs.Notes.{NotesState};
+ghost use Rattle.sl_host.specs.Host.{Becomes, SameRun, Spends};
+ghost use Rattle.sl_host.specs.Notes.{NotesState};
 ghost use Rattle.std.specs.Prelude.{Some, length, map, [], ◌*◌, ◌+◌, ◌≡◌, ◌≤◌};
 
+use sl_host::{Host, Notes};
 use sl_host_work::{join_by_time, renew, settle};
 use sl_member::{Leases, Member};
 use sl_trace::Spot;
-use sl_whole_host::{Host, Notes};
 
 /// The joinings of the members of these numbers go on, where their time has come.
 fn join_noted(host: &mut Host, members: &Notes<u64>)

@@ -23,9 +23,9 @@ use Rattle.sl_trace.specs.declared.command.Command.{Command}
 use Rattle.sl_trace.specs.declared.effects.Effects.{Effects}
 use Rattle.sl_trace.specs.declared.input.Given.{Given}
 use Rattle.sl_trace.specs.declared.input.Input.{Input}
-use Rattle.sl_whole_host.specs.Asking.{state_in}
-use Rattle.sl_whole_host.specs.Beginning.{MayBeGiven, setting_begun}
-use Rattle.sl_whole_host.specs.Host.{HostView}
+use Rattle.sl_host.specs.Asking.{state_in}
+use Rattle.sl_host.specs.Beginning.{MayBeGiven, setting_begun}
+use Rattle.sl_host.specs.Host.{HostView}
 use Rattle.std.proofs.Common.{ap, refl, subst, sym}
 use Rattle.std.specs.List.{AllByRecursion}
 use Rattle.std.specs.Prelude.{Err, IfOk, List, Ok, OnErr, Result, [], ℕ, ◌∷◌, ◌≡◌, ◌≤◌}

@@ -11,7 +11,7 @@ use Rattle.sl_host_state.specs.Hears.{begun, heard_exit, heard_number, quiet_to,
 use Rattle.sl_host_state.specs.Stands.{IsQuiet}
 use Rattle.sl_host_step.proofs.Comes.{moment_when_done}
 use Rattle.sl_trace.specs.declared.effects.Effects.{Effects}
-use Rattle.sl_whole_host.specs.Asking.{state_in}
+use Rattle.sl_host.specs.Asking.{state_in}
 use Rattle.sl_host_state.specs.Kept.{HostKept, HostState, state_of}
 use Rattle.sl_host_step.specs.Moments.{AllDone, AtEnd, AtInput, HasCome, IsCalmed, IsOver, StepComes, made_due}
 use Rattle.sl_host_step.specs.Serving.{ReadsWhole}
@@ -21,7 +21,7 @@ use Rattle.sl_trace.specs.declared.command.Command.{Command}
 use Rattle.sl_trace.specs.declared.input.Answer.{Answer}
 use Rattle.sl_trace.specs.declared.input.Input.TheVariants.{Answer as Told, Exit, Line, Number, Spawned, Wake}
 use Rattle.sl_trace.specs.declared.input.Input.{Input}
-use Rattle.sl_whole_host.specs.Host.{Becomes, HostView, SameRun}
+use Rattle.sl_host.specs.Host.{Becomes, HostView, SameRun}
 use Rattle.std.proofs.Common.{ap, refl, subst, sym, ◌∙◌}
 use Rattle.std.specs.Prelude.{Bool, Err, List, Result, ℕ, ◌≡◌}
 

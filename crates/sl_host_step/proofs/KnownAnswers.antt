@@ -36,8 +36,8 @@ use Rattle.sl_trace.specs.declared.effects.Work.{Work}
 use Rattle.sl_trace.specs.declared.input.Answer.TheVariants.{Read, Written}
 use Rattle.sl_trace.specs.declared.input.Answer.{Answer}
 use Rattle.sl_trace.specs.declared.input.Input.TheVariants.{Answer as Told, Wake}
-use Rattle.sl_whole_host.specs.Asking.{state_in}
-use Rattle.sl_whole_host.specs.Hearing.{AreWaiting, MayHear, MemberAwaits}
+use Rattle.sl_host.specs.Asking.{state_in}
+use Rattle.sl_host.specs.Hearing.{AreWaiting, MayHear, MemberAwaits}
 use Rattle.sl_words.proofs.CaseLaws.{some_value}
 use Rattle.sl_words.specs.Bounds.{moments}
 use Rattle.sl_words.specs.Words.{some_is}

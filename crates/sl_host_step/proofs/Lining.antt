@@ -13,13 +13,13 @@ use Rattle.sl_command.specs.Verbs.{answered}
 use Rattle.sl_member.specs.Members.{MemberKept, blank_member}
 use Rattle.sl_sessions.specs.Sessions.{joining_session}
 use Rattle.sl_trace.specs.declared.command.BadCommand.{BadCommand}
-use Rattle.sl_whole_host.specs.Joining.{run_in}
+use Rattle.sl_host.specs.Joining.{run_in}
 use Rattle.sl_text.specs.Names.{is_name}
 use Rattle.sl_trace.specs.Commands.{IsCommand, command_in, forms}
 use Rattle.sl_trace.specs.declared.command.Command.TheVariants as commands
 use Rattle.sl_trace.specs.declared.command.Command.{Command}
 use Rattle.sl_trace.specs.declared.input.Input.TheVariants.{Line}
-use Rattle.sl_whole_host.specs.Host.{HostView, SameRun, Spends}
+use Rattle.sl_host.specs.Host.{HostView, SameRun, Spends}
 use Rattle.std.proofs.Common.{ap, arith, refl, subst, sym, ◌∙◌}
 use Rattle.std.specs.Prelude.{Err, IsTrue, List, None, Ok, Option, Result, Some, length, ℕ, ◌*◌, ◌+◌, ◌≡◌, ◌≤◌}
 

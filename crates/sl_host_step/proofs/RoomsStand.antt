@@ -1,6 +1,6 @@
 -- How much a step may make is the same by a count of leases that stops at the greatest one.
 use Rattle.sl_host_step.specs.Rooms.{calls_within, effects_within, room_end}
-use Rattle.sl_whole_host.specs.Asking.{most_counted}
+use Rattle.sl_host.specs.Asking.{most_counted}
 use Rattle.std.proofs.Common.{arith}
 use Rattle.std.specs.Prelude.{min, ℕ, ◌≡◌}
 

@@ -14,9 +14,9 @@ use Rattle.sl_trace.specs.Traces.{Setting, Trace}
 use Rattle.sl_trace.specs.declared.command.Command.{Command}
 use Rattle.sl_trace.specs.declared.effects.Effects.{Effects}
 use Rattle.sl_trace.specs.declared.input.Input.{Input}
-use Rattle.sl_whole_host.specs.Asking.{state_in}
-use Rattle.sl_whole_host.specs.Host.{HostView}
-use Rattle.sl_whole_host.specs.Books.{AreFew}
+use Rattle.sl_host.specs.Asking.{state_in}
+use Rattle.sl_host.specs.Host.{HostView}
+use Rattle.sl_host.specs.Books.{AreFew}
 use Rattle.std.specs.Prelude.{List, Result, cond, true, ℕ, ◌≡◌}
 
 -- A step that may come: to what is kept, which stands for some trace.

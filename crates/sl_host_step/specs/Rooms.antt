@@ -2,8 +2,8 @@
 use Rattle.sl_daemon.specs.declared.daemon.Most.{Most}
 use Rattle.sl_host_passes.specs.Fewer.{leases_in}
 use Rattle.sl_host_step.specs.declared.rooms.Counts.{Counts}
-use Rattle.sl_whole_host.specs.Asking.{most_counted}
-use Rattle.sl_whole_host.specs.Host.{HostView}
+use Rattle.sl_host.specs.Asking.{most_counted}
+use Rattle.sl_host.specs.Host.{HostView}
 use Rattle.std.specs.Prelude.{Bool, length, min, nat_le, ℕ, ◌*◌, ◌+◌, ◌<◌, ◌^◌, ◌||◌, ◌≡◌, ◌≤◌}
 
 -- More than this no step has room for.

@@ -8,8 +8,8 @@ use Rattle.sl_text.specs.Names.{is_name}
 use Rattle.sl_trace.specs.Commands.{IsCommand}
 use Rattle.sl_trace.specs.declared.command.Command.TheVariants.{AddLockspace}
 use Rattle.sl_trace.specs.declared.command.Command.{Command}
-use Rattle.sl_whole_host.specs.Host.{HostView}
-use Rattle.sl_whole_host.specs.Joining.{run_in}
+use Rattle.sl_host.specs.Host.{HostView}
+use Rattle.sl_host.specs.Joining.{run_in}
 use Rattle.std.specs.Prelude.{IsTrue, None, Option, Some, ℕ, ◌≡◌}
 
 -- What is asked of host and command.

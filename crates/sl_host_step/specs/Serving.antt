@@ -9,7 +9,7 @@ use Rattle.sl_text.specs.Forms.{Form}
 use Rattle.sl_trace.specs.Commands.{command_in, forms}
 use Rattle.sl_trace.specs.Traces.{Setting, Trace}
 use Rattle.sl_trace.specs.declared.command.Command.{Command}
-use Rattle.sl_whole_host.specs.Host.{HostView}
+use Rattle.sl_host.specs.Host.{HostView}
 use Rattle.std.specs.Prelude.{List, Result, ℕ, ◌≡◌, ◌≤◌}
 
 -- It reads all commands, at the places of the header's layout.

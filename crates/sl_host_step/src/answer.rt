@@ -14,19 +14,19 @@ ghost use Rattle.sl_host_step.specs.Telling.{joins_at};
 ghost use Rattle.sl_sector.specs.Spelling.{IsSectorSize};
 ghost use Rattle.sl_trace.specs.declared.input.Answer.TheVariants.{Failed as FailedOf, Read as ReadOf, Written as WrittenOf};
 ghost use Rattle.sl_trace.specs.declared.input.Input.TheVariants.{Answer as Told};
-ghost use Rattle.sl_whole_host.specs.Asking.{state_in};
-ghost use Rattle.sl_whole_host.specs.Host.{HostView};
+ghost use Rattle.sl_host.specs.Asking.{state_in};
+ghost use Rattle.sl_host.specs.Host.{HostView};
 ghost use Rattle.std.specs.Arc.{arc_value};
 ghost use Rattle.std.specs.Prelude.{IfOk, OnErr, length, ℕ, ◌==◌, ◌≡◌, ◌≤◌};
 
 use crate::rooms::Scratch;
 use crate::step::{conclude, start};
+use sl_host::Host;
 use sl_host_answers::{Heard, answer};
 use sl_lease::{SectorBytes, Sectors};
 use sl_sectors::{Image, Images};
 use sl_text::Bytes;
 use sl_trace::{Answer, Effects, Purpose};
-use sl_whole_host::Host;
 use std::alloc::{AllocError, Global};
 use std::sync::Arc;
 

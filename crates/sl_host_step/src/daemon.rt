@@ -14,11 +14,11 @@ use crate::rooms::{Scratch, calls_for, left_for};
 use crate::whole::{step_at, step_read};
 use sl_command::parse_command;
 use sl_daemon::{Daemon, Most, Site};
+use sl_host::{Config, Host};
 use sl_host_work::process_named;
 use sl_run::Header;
 use sl_sectors::Images;
 use sl_trace::{Command, Effects, Input};
-use sl_whole_host::{Config, Host};
 use std::alloc::{AllocError, Global};
 use std::marker::Model;
 
@@ -61,7 +61,7 @@ pub struct HostDaemon {
 }
 
 impl Model for HostDaemon {
-    ghost use Rattle.sl_whole_host.specs.Host.{HostView};
+    ghost use Rattle.sl_host.specs.Host.{HostView};
     ghost use Rattle.std.specs.Prelude.{◌≡◌};
 
     ghost Value = { HostView };

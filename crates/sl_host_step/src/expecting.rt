@@ -2,13 +2,13 @@
 
 ghost use Rattle.sl_area.specs.Layouts.{layout_of};
 ghost use Rattle.sl_host_step.specs.Expecting.{expected_in, is_answer_of};
-ghost use Rattle.sl_whole_host.specs.Asking.{state_in};
+ghost use Rattle.sl_host.specs.Asking.{state_in};
 ghost use Rattle.std.specs.Option.{option_map_or};
 ghost use Rattle.std.specs.Prelude.{false, find, is_none, length, ◌*◌, ◌==◌, ◌≡◌};
 
+use sl_host::Host;
 use sl_host_state::OpenCall;
 use sl_trace::{Answer, Input};
-use sl_whole_host::Host;
 
 /// Whether so many bytes are so many sectors.
 fn is_many(host: &Host, bytes: usize, sectors: u32) -> bool

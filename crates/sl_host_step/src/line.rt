@@ -10,17 +10,17 @@ ghost use Rattle.sl_host_step.specs.Seating.{HasPlace, MayBeSeated};
 ghost use Rattle.sl_host_step.specs.Serving.{IsIdle};
 ghost use Rattle.sl_trace.specs.Commands.{command_in, forms};
 ghost use Rattle.sl_trace.specs.declared.input.Input.TheVariants.{Line as LineOf};
-ghost use Rattle.sl_whole_host.specs.Host.{HostView};
+ghost use Rattle.sl_host.specs.Host.{HostView};
 ghost use Rattle.std.specs.Prelude.{Err, IfOk, List, Ok, OnErr, ℕ, ◌≡◌, ◌≤◌};
 
 use crate::rooms::{Scratch, calls_for};
 use crate::step::{conclude, start};
 use sl_command::parse_command;
 use sl_deciding::Lists;
+use sl_host::Host;
 use sl_host_lines::{misread, take_line};
 use sl_member::Member;
 use sl_trace::{Command, Effects};
-use sl_whole_host::Host;
 use std::alloc::{AllocError, Global};
 
 /// A line that says no command is taken.

@@ -6,13 +6,13 @@
 ghost use Rattle.sl_host_step.specs.Rooms.{HasRoom, ScratchState, Suffices, are_many, calls_for, calls_within, counts_of, effects_within, left_for, room_end};
 ghost use Rattle.sl_host_step.specs.Serving.{IsIdle};
 ghost use Rattle.sl_trace.specs.Traces.{no_effects};
-ghost use Rattle.sl_whole_host.specs.Asking.{leases_in};
+ghost use Rattle.sl_host.specs.Asking.{leases_in};
 ghost use Rattle.std.specs.Prelude.{IfOk, OnErr, OnOk, length, min, ◌<◌, ◌≡◌, ◌≤◌};
 
 use sl_area::Geometry;
+use sl_host::{Buffers, Host, Notes};
 use sl_lease::Blocks;
 use sl_trace::{Grant, Spot};
-use sl_whole_host::{Buffers, Host, Notes};
 use std::alloc::{AllocError, Global};
 use std::marker::Model;
 

@@ -13,14 +13,14 @@ ghost use Rattle.sl_host_step.specs.Serving.{IsIdle};
 ghost use Rattle.sl_trace.specs.Traces.{no_effects};
 ghost use Rattle.sl_trace.specs.declared.input.Input.TheVariants.{Exit as ExitOf, Number as NumberOf, Spawned as SpawnedOf, Wake as WakeOf};
 ghost use Rattle.sl_trace.specs.declared.input.Input.{Input as InputOf};
-ghost use Rattle.sl_whole_host.specs.Books.{AreFew};
-ghost use Rattle.sl_whole_host.specs.Host.{HostView, SameRun};
+ghost use Rattle.sl_host.specs.Books.{AreFew};
+ghost use Rattle.sl_host.specs.Host.{HostView, SameRun};
 ghost use Rattle.std.specs.Prelude.{IfOk, List, OnErr, length, ℕ, ◌*◌, ◌<◌, ◌^◌, ◌≡◌, ◌≤◌};
 
 use crate::rooms::{Scratch, take_room};
+use sl_host::{Buffers, Host};
 use sl_host_passes::{begin_step, calm, exit, finish, spawned, wake};
 use sl_trace::Effects;
-use sl_whole_host::{Buffers, Host};
 use std::alloc::{AllocError, Global};
 
 /// The step comes to its input.

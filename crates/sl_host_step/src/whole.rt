@@ -4,16 +4,16 @@ ghost use Rattle.sl_daemon.specs.Daemons.{read_of};
 ghost use Rattle.sl_host_step.specs.Moments.{HasStepped, StepComes};
 ghost use Rattle.sl_host_step.specs.Rooms.{ScratchState};
 ghost use Rattle.sl_host_step.specs.Serving.{IsIdle};
-ghost use Rattle.sl_whole_host.specs.Host.{HostView};
+ghost use Rattle.sl_host.specs.Host.{HostView};
 ghost use Rattle.std.specs.Prelude.{IfOk, OnErr, ◌≡◌};
 
 use crate::answer::{step_answer, step_images};
 use crate::line::step_line;
 use crate::rooms::Scratch;
 use crate::step::{step_exit, step_number, step_start, step_wake};
+use sl_host::Host;
 use sl_sectors::Images;
 use sl_trace::{Effects, Input};
-use sl_whole_host::Host;
 use std::alloc::{AllocError, Global};
 
 /// A step at this input. An `Err` is want of memory, or of numbers of calls, jobs, children or steps, and changes nothing.

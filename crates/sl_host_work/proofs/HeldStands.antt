@@ -10,8 +10,8 @@ use Rattle.sl_trace.specs.declared.effects.Grant.{Grant}
 use Rattle.sl_trace.specs.declared.effects.Mode.TheVariants.{Exclusive, Shared}
 use Rattle.sl_trace.specs.declared.effects.Mode.{Mode}
 use Rattle.sl_trace.specs.declared.effects.Spot.{Spot}
-use Rattle.sl_whole_host.proofs.QuestionsStand.{find_found}
-use Rattle.sl_whole_host.specs.Asking.{held_under, sought_on}
+use Rattle.sl_host.proofs.QuestionsStand.{find_found}
+use Rattle.sl_host.specs.Asking.{held_under, sought_on}
 use Rattle.sl_words.specs.Words.{same_truth}
 use Rattle.std.proofs.Common.{ap, refl, ◌∙◌}
 use Rattle.std.specs.Option.{option_map_or}

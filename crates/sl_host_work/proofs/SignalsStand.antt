@@ -11,10 +11,10 @@ use Rattle.sl_trace.specs.Traces.{first_child, is_orphan}
 use Rattle.sl_trace.specs.declared.effects.Grant.{Grant}
 use Rattle.sl_trace.specs.declared.effects.Signal.TheVariants.{Kill, Term}
 use Rattle.sl_trace.specs.declared.effects.Signal.{Signal}
-use Rattle.sl_whole_host.specs.Asking.{alone}
-use Rattle.sl_whole_host.specs.Host.{Becomes, HostView}
-use Rattle.sl_whole_host.specs.Passing.{above}
-use Rattle.sl_whole_host.specs.Views.{books_of}
+use Rattle.sl_host.specs.Asking.{alone}
+use Rattle.sl_host.specs.Host.{Becomes, HostView}
+use Rattle.sl_host.specs.Passing.{above}
+use Rattle.sl_host.specs.Views.{books_of}
 use Rattle.std.proofs.Common.{ap, arith, refl, subst, sym, ◌∙◌}
 use Rattle.sl_trace.specs.declared.command.Command.{Command}
 use Rattle.std.proofs.lemmas.Bool.Decides.{nat_tests}

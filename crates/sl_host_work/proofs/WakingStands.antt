@@ -17,7 +17,7 @@ use Rattle.sl_area.specs.Layouts.{layout_of}
 use Rattle.sl_host_state.specs.Kept.{HostKept, HostState, MemberState}
 use Rattle.sl_member.specs.Asked.{bits_within}
 use Rattle.sl_member.specs.Members.{MemberKept, RunOf, delta_lease, own_of}
-use Rattle.sl_whole_host.specs.Asking.{state_in}
+use Rattle.sl_host.specs.Asking.{state_in}
 use Rattle.sl_host_work.specs.Waking.{joining_of, joining_on, renewal_of, renewal_written, renewing_by, settling_of, written_in}
 use Rattle.sl_sector.specs.declared.sector.DeltaRec.{DeltaRec}
 use Rattle.sl_sector.specs.declared.sector.DeltaState.TheVariants.{Live}

@@ -4,7 +4,7 @@ use Rattle.sl_host_state.specs.Kept.{HostState}
 use Rattle.sl_trace.specs.Traces.{is_orphan}
 use Rattle.sl_trace.specs.declared.effects.Grant.{Grant}
 use Rattle.sl_trace.specs.declared.effects.Signal.{Signal}
-use Rattle.sl_whole_host.specs.Host.{HostView}
+use Rattle.sl_host.specs.Host.{HostView}
 use Rattle.sl_words.specs.Orders.{rising}
 use Rattle.std.specs.Prelude.{List, filter, map, not, ℕ, ◌==◌, ◌≡◌}
 

@@ -10,7 +10,7 @@ use Rattle.sl_trace.specs.declared.effects.Grant.{Grant}
 use Rattle.sl_trace.specs.declared.effects.Mode.{Mode}
 use Rattle.sl_trace.specs.declared.effects.Spot.{Spot}
 use Rattle.sl_trace.specs.declared.effects.Work.{Work}
-use Rattle.sl_whole_host.specs.Asking.{held_under}
+use Rattle.sl_host.specs.Asking.{held_under}
 use Rattle.sl_words.specs.Words.{same_truth}
 use Rattle.std.specs.Prelude.{List, None, Option, Some, filter, find, is_some, not, option_map, ℕ, ◌&&◌, ◌==◌}
 

@@ -11,9 +11,9 @@ use Rattle.sl_host_work.specs.declared.recoveries.Stopped.{Stopped}
 use Rattle.sl_trace.specs.declared.effects.Signal.TheVariants.{Term}
 use Rattle.sl_trace.specs.declared.reply.Reply.TheVariants.{Recovering}
 use Rattle.sl_trace.specs.declared.reply.Reply.{Reply}
-use Rattle.sl_whole_host.specs.Choosing.{chosen_among}
-use Rattle.sl_whole_host.specs.declared.passing.Chosen.TheVariants.{OfLockspace}
-use Rattle.sl_whole_host.specs.declared.passing.Chosen.{Chosen}
+use Rattle.sl_host.specs.Choosing.{chosen_among}
+use Rattle.sl_host.specs.declared.passing.Chosen.TheVariants.{OfLockspace}
+use Rattle.sl_host.specs.declared.passing.Chosen.{Chosen}
 use Rattle.sl_words.specs.Words.{choose}
 use Rattle.std.specs.Prelude.{List, None, Option, Some, length, not, option_and_then, ℕ, ◌+◌}
 

@@ -16,7 +16,7 @@ use Rattle.sl_sessions.specs.declared.delta.DeltaNext.{DeltaNext}
 use Rattle.sl_sessions.specs.declared.session.Session.{Session}
 use Rattle.sl_trace.specs.declared.effects.Spot.{Spot}
 use Rattle.sl_trace.specs.declared.effects.Purpose.TheVariants.{Renewal}
-use Rattle.sl_whole_host.specs.Asking.{state_in}
+use Rattle.sl_host.specs.Asking.{state_in}
 use Rattle.std.specs.Prelude.{None, Option, Some, cond, option_map, ℕ, ◌+◌, ◌≡◌}
 
 -- Each member's session is placed.

@@ -19,17 +19,17 @@ ghost use Rattle.sl_trace.specs.declared.effects.JoinStep.TheVariants.{ClaimWrit
 ghost use Rattle.sl_trace.specs.declared.effects.Purpose.TheVariants.{Joining};
 ghost use Rattle.sl_trace.specs.declared.reply.Reply.TheVariants.{Generation};
 ghost use Rattle.sl_sessions.specs.declared.delta.DeltaNext.TheVariants.{Join};
-ghost use Rattle.sl_whole_host.specs.Replying.{HasClaims};
-ghost use Rattle.sl_whole_host.specs.Host.{Becomes, SameRun, Spends};
+ghost use Rattle.sl_host.specs.Replying.{HasClaims};
+ghost use Rattle.sl_host.specs.Host.{Becomes, SameRun, Spends};
 ghost use Rattle.sl_words.specs.Bounds.{moments};
 ghost use Rattle.std.specs.Prelude.{Some, cond, false, ℕ, ◌+◌, ◌-◌, ◌<◌, ◌≡◌, ◌≤◌};
 
 use crate::ends::remove_connection;
 use crate::refusing::refuse;
+use sl_host::Host;
 use sl_sector::{DeltaRec, Rec};
 use sl_sessions::{DeltaNext, Session};
 use sl_trace::{JoinStep, Move, Op, Purpose, Reply};
-use sl_whole_host::Host;
 
 /// Where the session's own sector stands.
 fn own_sector(host: &Host, who: &Session) -> u64

@@ -6,13 +6,13 @@ ghost use Rattle.sl_host_law.specs.Parts.Signals.{over};
 ghost use Rattle.sl_host_state.specs.Makes.{with_grant};
 ghost use Rattle.sl_host_work.specs.Ending.{HoldsOnce, held_by, leaves_at, with_orphan};
 ghost use Rattle.sl_trace.specs.Traces.{end_of, no_process, orphan_of, orphans_left};
-ghost use Rattle.sl_whole_host.specs.Host.{Becomes, SameRun, Spends};
-ghost use Rattle.sl_whole_host.specs.Notes.{NotesState};
+ghost use Rattle.sl_host.specs.Host.{Becomes, SameRun, Spends};
+ghost use Rattle.sl_host.specs.Notes.{NotesState};
 ghost use Rattle.std.specs.Prelude.{false, length, ◌+◌, ◌<◌, ◌==◌, ◌≡◌, ◌≤◌};
 
+use sl_host::{Host, Notes};
 use sl_text::Name;
 use sl_trace::{End, Grant, Move, Spot};
-use sl_whole_host::{Host, Notes};
 
 /// A connection that stands is removed.
 pub fn remove_connection(host: &mut Host, lockspace: &Name)

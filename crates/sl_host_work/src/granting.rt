@@ -8,14 +8,14 @@ ghost use Rattle.sl_leases.specs.Jobs.{process_named};
 ghost use Rattle.sl_sessions.specs.Sessions.{is_join_done};
 ghost use Rattle.sl_trace.specs.Traces.{end_of, is_shared, work_job};
 ghost use Rattle.sl_trace.specs.declared.reply.Reply.TheVariants.{Granted};
-ghost use Rattle.sl_whole_host.specs.Host.{Becomes, SameRun, Spends};
+ghost use Rattle.sl_host.specs.Host.{Becomes, SameRun, Spends};
 ghost use Rattle.std.specs.Prelude.{false, not, ◌≡◌, ◌≤◌};
 
+use sl_host::Host;
 use sl_sessions::Session;
 use sl_tables::Holder;
 use sl_text::FilePath;
 use sl_trace::{Command, End, Grant, Mode, Reply, ResourceArg, Spot, Start, Work};
-use sl_whole_host::Host;
 
 /// A grant under the session, with the names of the command.
 fn grant_of(

@@ -17,9 +17,10 @@ ghost use Rattle.sl_tables.specs.declared.holdings.Holder.TheVariants.{Anyone};
 ghost use Rattle.sl_trace.specs.declared.effects.LeaseStep.{LeaseStep};
 ghost use Rattle.sl_trace.specs.declared.effects.Spot.{Spot};
 ghost use Rattle.sl_trace.specs.declared.input.Answer.TheVariants.{Failed, Read, Written};
-ghost use Rattle.sl_whole_host.specs.Asking.{sought_on, state_in};
+ghost use Rattle.sl_host.specs.Asking.{sought_on, state_in};
 ghost use Rattle.std.specs.Prelude.{All, IfSome, IsTrue, List, Some, find, length, option_map, ℕ, ◌<◌, ◌^◌, ◌≡◌};
 
+use sl_host::Host;
 use sl_host_state::OpenCall;
 use sl_lease::{Held, Lease, after_failure};
 use sl_leases::{Aim, LeaseNext};
@@ -28,7 +29,6 @@ use sl_sector::{Block, Leader};
 use sl_tables::Holder;
 use sl_text::Name;
 use sl_trace::{Grant, LeaseStep, Mode, Spot};
-use sl_whole_host::Host;
 
 /// The first holding under the session of this number on an area, in this mode.
 fn held_in(host: &Host, session: u64, at: &Spot, mode: Mode) -> Option<Grant>

@@ -14,17 +14,17 @@ ghost use Rattle.sl_sector.specs.Records.{Fits};
 ghost use Rattle.sl_trace.specs.declared.effects.LeaseStep.TheVariants.{ClearMode, FreeLeader};
 ghost use Rattle.sl_trace.specs.declared.effects.Mode.TheVariants.{Exclusive, Shared};
 ghost use Rattle.sl_trace.specs.declared.effects.Work.TheVariants.{Settling};
-ghost use Rattle.sl_whole_host.specs.Asking.{state_in};
-ghost use Rattle.sl_whole_host.specs.Host.{Becomes, SameRun, Spends};
+ghost use Rattle.sl_host.specs.Asking.{state_in};
+ghost use Rattle.sl_host.specs.Host.{Becomes, SameRun, Spends};
 ghost use Rattle.sl_words.specs.Bounds.{moments};
 ghost use Rattle.std.specs.Prelude.{◌<◌, ◌≡◌, ◌≤◌};
 
 use crate::granting::{answer_job, converted, grant_job};
+use sl_host::Host;
 use sl_leases::LeaseNext;
 use sl_sector::{Block, Leader, Rec};
 use sl_sessions::Session;
 use sl_trace::{LeaseStep, Mode, Op, Purpose, Spot, Work};
-use sl_whole_host::Host;
 
 /// Where the own block of a session stands, in the resource's area at this base.
 fn own_block(host: &Host, who: &Session, at: &Spot) -> u64

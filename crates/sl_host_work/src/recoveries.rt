@@ -8,16 +8,16 @@ ghost use Rattle.sl_host_work.specs.Holders.{SameButSignals};
 ghost use Rattle.sl_host_work.specs.Killing.{holders_at, holders_of_all, is_killed, killed_of, killing_at, unread};
 ghost use Rattle.sl_host_work.specs.Stopping.{overdue_of, recovering_of};
 ghost use Rattle.sl_member.specs.Together.{member_with};
-ghost use Rattle.sl_whole_host.specs.Host.{Becomes, SameRun, Spends};
+ghost use Rattle.sl_host.specs.Host.{Becomes, SameRun, Spends};
 ghost use Rattle.std.specs.Prelude.{Some, find, length, nat_le, slice_get, ◌+◌, ◌<◌, ◌==◌, ◌≡◌, ◌≤◌};
 
 use crate::signals::signal_holders;
+use sl_host::Host;
 use sl_host_state::WaitingCall;
 use sl_member::Member;
 use sl_sessions::Begun;
 use sl_text::Name;
 use sl_trace::Signal;
-use sl_whole_host::Host;
 
 /// Whether so much time has passed since a reading.
 fn has_passed(since: u64, time: u64, now: u64) -> bool

@@ -11,20 +11,20 @@ ghost use Rattle.sl_host_law.specs.Parts.Exits.{refusing_of};
 ghost use Rattle.sl_member.specs.Together.{member_with};
 ghost use Rattle.sl_host_work.specs.Refused.{reply_of};
 ghost use Rattle.sl_sessions.specs.Sessions.{is_join_done};
-ghost use Rattle.sl_whole_host.specs.Choosing.{chosen_among};
-ghost use Rattle.sl_whole_host.specs.Host.{Becomes, SameRun, Spends};
-ghost use Rattle.sl_whole_host.specs.Notes.{NotesState};
-ghost use Rattle.sl_whole_host.specs.declared.passing.Chosen.TheVariants.{OfLockspace, OfProcess};
+ghost use Rattle.sl_host.specs.Choosing.{chosen_among};
+ghost use Rattle.sl_host.specs.Host.{Becomes, SameRun, Spends};
+ghost use Rattle.sl_host.specs.Notes.{NotesState};
+ghost use Rattle.sl_host.specs.declared.passing.Chosen.TheVariants.{OfLockspace, OfProcess};
 ghost use Rattle.sl_words.specs.Words.{some_is};
 ghost use Rattle.std.specs.Prelude.{Some, false, find, length, ◌+◌, ◌==◌, ◌≡◌, ◌≤◌};
 
 use crate::ends::remove_connection;
 use crate::recoveries::{Stopped, overdue, recovering_numbered};
 use crate::signals::signal_holders;
+use sl_host::{Chosen, Host, Notes};
 use sl_member::Member;
 use sl_text::Name;
 use sl_trace::{Reply, Signal};
-use sl_whole_host::{Chosen, Host, Notes};
 
 /// Why jobs are refused together: their session is in recovery or leaves, with this last renewal, or their process has exited.
 #[derive(Clone, Copy)]

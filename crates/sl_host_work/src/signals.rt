@@ -2,11 +2,11 @@
 
 ghost use Rattle.sl_host_law.specs.Parts.Signals.{over, sending, telling};
 ghost use Rattle.sl_host_work.specs.Holders.{SameButSignals, holders_under, signalling_all};
-ghost use Rattle.sl_whole_host.specs.Host.{Becomes, SameRun, Spends};
+ghost use Rattle.sl_host.specs.Host.{Becomes, SameRun, Spends};
 ghost use Rattle.std.specs.Prelude.{length, ◌-◌, ◌<◌, ◌≡◌, ◌≤◌};
 
+use sl_host::Host;
 use sl_trace::{Sent, Signal, Start};
-use sl_whole_host::Host;
 
 /// A process is told to stop.
 pub fn tell(host: &mut Host, process: u32)

@@ -11,8 +11,8 @@ ghost use Rattle.sl_host_work.specs.Next.{IsFit, IsPlain};
 ghost use Rattle.sl_host_work.specs.Placed.{IsArea, IsPlaced};
 ghost use Rattle.sl_member.specs.Together.{member_with};
 ghost use Rattle.sl_host_work.specs.Waking.{ArePlaced, MaySettle, joining_of, renewal_of, renewal_written, settling_of, written_in};
-ghost use Rattle.sl_whole_host.specs.Asking.{state_in};
-ghost use Rattle.sl_whole_host.specs.Host.{Becomes, SameRun, Spends};
+ghost use Rattle.sl_host.specs.Asking.{state_in};
+ghost use Rattle.sl_host.specs.Host.{Becomes, SameRun, Spends};
 ghost use Rattle.sl_words.specs.Bounds.{moments};
 ghost use Rattle.sl_delta.specs.Decides.{IsFitNext};
 ghost use Rattle.std.specs.Prelude.{IfSome, Some, true, ◌<◌, ◌≡◌, ◌≤◌};
@@ -20,12 +20,12 @@ ghost use Rattle.std.specs.Prelude.{IfSome, Some, true, ◌<◌, ◌≡◌, ◌�
 use crate::delta::{carry, write_own};
 use crate::lease_next::settling_next;
 use crate::leasing::carry_lease;
+use sl_host::Host;
 use sl_leases::LeaseNext;
 use sl_member::Member;
 use sl_sector::DeltaRec;
 use sl_sessions::{DeltaNext, Session};
 use sl_trace::{Purpose, Spot, Work};
-use sl_whole_host::Host;
 
 /// What a renewal writes.
 fn renewal_written(next: &DeltaNext) -> Option<DeltaRec>

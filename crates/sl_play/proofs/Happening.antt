@@ -21,14 +21,14 @@ use Rattle.sl_trace.specs.Traces.{Setting, Trace}
 use Rattle.sl_trace.specs.declared.command.Command.{Command}
 use Rattle.sl_trace.specs.declared.effects.Effects.{Effects}
 use Rattle.sl_trace.specs.declared.input.Input.{Input}
-use Rattle.sl_whole_world.proofs.LeftGrants.{conflicts_are_left}
-use Rattle.sl_whole_world.specs.Allowing.{StandsForSome}
-use Rattle.sl_whole_world.specs.Counting.{conflicts_left}
-use Rattle.sl_whole_world.specs.Giving.{IsSame}
-use Rattle.sl_whole_world.specs.Telling.{ComesTold}
-use Rattle.sl_whole_world.specs.declared.apply.ApplyError.TheVariants.{OutOfMemory, Refused}
-use Rattle.sl_whole_world.specs.declared.apply.ApplyError.{ApplyError}
-use Rattle.sl_whole_world.specs.declared.world.World.{World as KeptWorld}
+use Rattle.sl_world.proofs.LeftGrants.{conflicts_are_left}
+use Rattle.sl_world.specs.Allowing.{StandsForSome}
+use Rattle.sl_world.specs.Counting.{conflicts_left}
+use Rattle.sl_world.specs.Giving.{IsSame}
+use Rattle.sl_world.specs.Telling.{ComesTold}
+use Rattle.sl_world.specs.declared.apply.ApplyError.TheVariants.{OutOfMemory, Refused}
+use Rattle.sl_world.specs.declared.apply.ApplyError.{ApplyError}
+use Rattle.sl_world.specs.declared.world.World.{World as KeptWorld}
 use Rattle.sl_world_law.proofs.Told.{telling_is_kept}
 use Rattle.sl_world_law.specs.Standing.{Comes}
 use Rattle.sl_world_law.specs.Telling.{conflicts_in, tested_in, tested_lines, told_in, told_of}

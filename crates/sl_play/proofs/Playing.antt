@@ -26,7 +26,7 @@ use Rattle.sl_text.specs.Forms.{Form, as_bytes}
 use Rattle.sl_trace.specs.Traces.{Setting, Trace}
 use Rattle.sl_trace.specs.declared.command.Command.{Command}
 use Rattle.sl_trace.specs.declared.effects.Effects.{Effects}
-use Rattle.sl_whole_world.specs.Allowing.{StandsForSome}
+use Rattle.sl_world.specs.Allowing.{StandsForSome}
 use Rattle.sl_world_law.proofs.FirstStanding.{each_stood}
 use Rattle.sl_world_law.proofs.Told.{asks_are_kept}
 use Rattle.sl_world_law.specs.Standing.{Comes}

@@ -25,9 +25,9 @@ use Rattle.sl_text.specs.Forms.{Form, as_bytes}
 use Rattle.sl_trace.specs.Traces.{Setting, Trace}
 use Rattle.sl_trace.specs.declared.command.Command.{Command}
 use Rattle.sl_trace.specs.declared.effects.Effects.{Effects}
-use Rattle.sl_whole_world.specs.Allowing.{StandsForSome}
-use Rattle.sl_whole_world.specs.declared.apply.ApplyError.TheVariants.{OutOfMemory, Refused}
-use Rattle.sl_whole_world.specs.declared.apply.ApplyError.{ApplyError}
+use Rattle.sl_world.specs.Allowing.{StandsForSome}
+use Rattle.sl_world.specs.declared.apply.ApplyError.TheVariants.{OutOfMemory, Refused}
+use Rattle.sl_world.specs.declared.apply.ApplyError.{ApplyError}
 use Rattle.sl_world_law.specs.Standing.{Comes}
 use Rattle.sl_world_law.specs.Telling.{tested_in}
 use Rattle.std.specs.Prelude.{Bool, Err, List, None, Ok, Option, Result, Some, true, [], ℕ, ◌++◌, ◌∷◌, ◌≡◌}

@@ -16,7 +16,7 @@ ghost use Rattle.sl_run.specs.Headers.{IsHeader};
 ghost use Rattle.sl_run.specs.Worlds as worlds;
 ghost use Rattle.sl_run.specs.declared.event.Refusal.{Refusal as RefusalOf};
 ghost use Rattle.sl_text.specs.Forms.{as_bytes};
-ghost use Rattle.sl_whole_world.specs.Counting.{conflicts_left};
+ghost use Rattle.sl_world.specs.Counting.{conflicts_left};
 ghost use Rattle.std.specs.Prelude.{Err, IfOk, Ok, OnErr, OnOk, Some, length, true, ◌++◌, ◌≡◌, ◌⊎◌};
 
 use crate::counting::{PlayError, counted, no_counts};
@@ -26,7 +26,7 @@ use sl_locks::StepTold;
 use sl_machine::LockTable;
 use sl_run::{Event, Header, Refusal};
 use sl_schedule::Counts;
-use sl_whole_world::{ApplyError, World};
+use sl_world::{ApplyError, World};
 use std::alloc::{AllocError, Global};
 
 /// A world, with the daemons that run in it, and what is counted.

@@ -3,7 +3,7 @@ use Rattle.sl_deciding.specs.Refusing.{first_refusal, refused_or}
 use Rattle.sl_due.specs.declared.decision.Decision.{Decision}
 use Rattle.sl_host_law.specs.Decisions.Deciding.{busy_refused, limit_refused, member_acquires, member_refusal, pending_refused, process_refused}
 use Rattle.sl_trace.specs.declared.effects.Spot.{Spot}
-use Rattle.sl_whole_host.specs.Asking.{state_in}
+use Rattle.sl_host.specs.Asking.{state_in}
 use Rattle.std.proofs.Common.{[], ap, is_none, option_and_then, ◌∙◌, ◌∷◌}
 
 pub returns : goal.returns

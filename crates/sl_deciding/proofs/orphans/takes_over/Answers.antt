@@ -6,7 +6,7 @@ use Rattle.sl_trace.specs.Traces.{is_shared}
 use Rattle.sl_trace.specs.declared.effects.Grant.{Grant}
 use Rattle.sl_trace.specs.declared.effects.Spot.{Spot}
 use Rattle.sl_trace.specs.declared.reply.Reply.TheVariants.{Busy, NoOrphan}
-use Rattle.sl_whole_host.specs.Asking.{state_in}
+use Rattle.sl_host.specs.Asking.{state_in}
 use Rattle.sl_words.specs.Words.{choose, same_truth}
 use Rattle.std.proofs.Common.{Bool, Option, [], ap, is_some, not, option_map, ◌∙◌, ◌∷◌}
 

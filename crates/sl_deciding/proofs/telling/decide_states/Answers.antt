@@ -2,7 +2,7 @@ use Rattle.sl_deciding.proofs.telling.decide_states.Goals as goal
 use Rattle.sl_deciding.specs.Refusing.{report_in}
 use Rattle.sl_host_law.specs.Decisions.Deciding.{states_told, with_member}
 use Rattle.sl_trace.specs.declared.reply.Reply.TheVariants.{Hosts}
-use Rattle.sl_whole_host.specs.Asking.{state_in}
+use Rattle.sl_host.specs.Asking.{state_in}
 use Rattle.std.proofs.Common.{ap, ◌∙◌}
 
 pub returns-in-Some : goal.returns-in-Some

@@ -1,7 +1,7 @@
 use Rattle.sl_deciding.proofs.values.decide_set.Goals as goal
 use Rattle.sl_deciding.specs.Refusing.{set_in}
 use Rattle.sl_host_law.specs.Decisions.Deciding.{with_member}
-use Rattle.sl_whole_host.specs.Asking.{state_in}
+use Rattle.sl_host.specs.Asking.{state_in}
 use Rattle.std.proofs.Common.{ap, ◌∙◌}
 
 pub returns-in-Some : goal.returns-in-Some

@@ -5,7 +5,7 @@ use Rattle.sl_host_state.specs.Hears.{heard_answer}
 use Rattle.sl_host_law.specs.Answers.Requests.{answering_job}
 use Rattle.sl_host_law.specs.Steps.Passes.{at_member}
 use Rattle.sl_member.specs.Together.{member_with}
-use Rattle.sl_whole_host.specs.Asking.{state_in}
+use Rattle.sl_host.specs.Asking.{state_in}
 use Rattle.std.proofs.Common.{ap, refl, ◌∙◌}
 use Rattle.sl_host_answers.proofs.answers.hear_job_failed.Goals as goal
 

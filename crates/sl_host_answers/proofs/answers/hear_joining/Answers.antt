@@ -4,7 +4,7 @@ use Rattle.sl_host_state.specs.Kept.{HostKept, state_of}
 use Rattle.sl_host_state.specs.Hears.{heard_answer}
 use Rattle.sl_host_answers.specs.Answering.{joined_on}
 use Rattle.sl_delta.specs.Own.{answer_in}
-use Rattle.sl_whole_host.specs.Hearing.{is_own_purpose}
+use Rattle.sl_host.specs.Hearing.{is_own_purpose}
 use Rattle.std.proofs.Common.{ap, ◌∙◌}
 use Rattle.sl_host_answers.proofs.answers.hear_joining.Goals as goal
 

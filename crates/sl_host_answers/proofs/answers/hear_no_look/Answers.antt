@@ -3,7 +3,7 @@ use Rattle.sl_trace.specs.declared.effects.Purpose.TheVariants.{SeeRequest}
 use Rattle.sl_trace.specs.declared.input.Answer.TheVariants.{Failed}
 use Rattle.sl_host_state.specs.Kept.{state_of}
 use Rattle.sl_host_state.specs.Hears.{heard_answer}
-use Rattle.sl_whole_host.specs.Hearing.{is_untold}
+use Rattle.sl_host.specs.Hearing.{is_untold}
 use Rattle.std.proofs.Common.{ap, ◌∙◌}
 use Rattle.sl_host_answers.proofs.answers.hear_no_look.Goals as goal
 

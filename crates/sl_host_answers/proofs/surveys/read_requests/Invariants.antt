@@ -4,7 +4,7 @@ use Rattle.sl_host_law.specs.Answers.Surveys.{reading_request_on}
 use Rattle.sl_host_law.specs.Parts.Signals.{over}
 use Rattle.sl_host_state.specs.Kept.{state_of}
 use Rattle.sl_trace.specs.declared.command.Command.{Command}
-use Rattle.sl_whole_host.specs.Host.{SameRun}
+use Rattle.sl_host.specs.Host.{SameRun}
 use Rattle.std.proofs.Common.{List, Result, drop, length, ℕ, ◌+◌, ◌≡◌, ◌≤◌}
 
 -- those from this place on are still to come

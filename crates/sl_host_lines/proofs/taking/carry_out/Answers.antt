@@ -9,7 +9,7 @@ use Rattle.sl_host_lines.specs.Seats.{HasSeat}
 use Rattle.sl_host_state.specs.Kept.{state_of}
 use Rattle.sl_trace.specs.Commands.{IsCommand}
 use Rattle.sl_trace.specs.declared.command.Command.{Command}
-use Rattle.sl_whole_host.specs.Asking.{state_in}
+use Rattle.sl_host.specs.Asking.{state_in}
 use Rattle.std.proofs.Common.{ap, subst, sym, ◌∙◌}
 
 pub returns-in-Replies-clause-state : goal.returns-in-Replies-clause-state

@@ -1,7 +1,7 @@
 use Rattle.sl_host_law.specs.Steps.Lines.{lining}
 use Rattle.sl_host_lines.proofs.taking.take_line.Goals as goal
 use Rattle.sl_host_state.specs.Kept.{state_of}
-use Rattle.sl_whole_host.specs.Host.{ReadAs}
+use Rattle.sl_host.specs.Host.{ReadAs}
 use Rattle.std.proofs.Common.{ap, sym, ◌∙◌}
 
 pub returns-in-Err-clause-state : goal.returns-in-Err-clause-state

@@ -4,7 +4,7 @@ use Rattle.sl_host_law.specs.Steps.Passes.{at_job}
 use Rattle.sl_host_state.specs.Kept.{state_of}
 use Rattle.sl_host_passes.proofs.before.time_out_noted.Given as goal
 use Rattle.sl_trace.specs.declared.command.Command.{Command}
-use Rattle.sl_whole_host.specs.Host.{SameRun}
+use Rattle.sl_host.specs.Host.{SameRun}
 use Rattle.std.proofs.Common.{List, Result, drop, length, ℕ, ◌*◌, ◌+◌, ◌≡◌, ◌≤◌}
 
 -- those from this place on are still to come

@@ -5,7 +5,7 @@ use Rattle.sl_host_passes.proofs.begin.begin_step.Goals as goal
 use Rattle.sl_host_passes.specs.Fewer.{IsNoMore}
 use Rattle.sl_host_state.specs.Hears.{begun}
 use Rattle.sl_host_state.specs.Kept.{HostState, state_of}
-use Rattle.sl_whole_host.specs.Host.{Becomes, HostView}
+use Rattle.sl_host.specs.Host.{Becomes, HostView}
 use Rattle.std.proofs.Common.{ap, arith, sym, ◌∙◌}
 use Rattle.std.specs.Prelude.{length, ℕ, ◌<◌, ◌≡◌}
 

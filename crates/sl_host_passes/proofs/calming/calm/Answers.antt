@@ -7,10 +7,10 @@ use Rattle.sl_host_state.specs.Hears.{quiet_to}
 use Rattle.sl_host_state.specs.Kept.{HostKept, HostState, state_of}
 use Rattle.sl_host_state.specs.Stands.{IsQuiet, job_moments, member_moments}
 use Rattle.sl_host_work.specs.Killing.{unread}
-use Rattle.sl_whole_host.specs.Choosing.{chosen_among}
-use Rattle.sl_whole_host.specs.Host.{Becomes, HostView}
-use Rattle.sl_whole_host.specs.Notes.{NotesState}
-use Rattle.sl_whole_host.specs.declared.passing.Chosen.TheVariants.{All}
+use Rattle.sl_host.specs.Choosing.{chosen_among}
+use Rattle.sl_host.specs.Host.{Becomes, HostView}
+use Rattle.sl_host.specs.Notes.{NotesState}
+use Rattle.sl_host.specs.declared.passing.Chosen.TheVariants.{All}
 use Rattle.std.proofs.Common.{ap, subst, sym, ◌∙◌}
 use Rattle.std.specs.Prelude.{Err, List, find, flat_map, map, ℕ, ◌-◌, ◌==◌, ◌^◌, ◌≡◌}
 

@@ -1,8 +1,8 @@
 use Rattle.sl_host_passes.proofs.Finishes.{nothing_held}
 use Rattle.sl_host_passes.proofs.finishing.holds_nothing.Goals as goal
 use Rattle.sl_trace.specs.Traces.{is_orphan}
-use Rattle.sl_whole_host.specs.Asking.{held_under}
-use Rattle.sl_whole_host.specs.Books.{BooksState}
+use Rattle.sl_host.specs.Asking.{held_under}
+use Rattle.sl_host.specs.Books.{BooksState}
 use Rattle.std.proofs.Common.{ap, sym, ◌∙◌}
 use Rattle.std.specs.List.{list_any}
 use Rattle.std.specs.Prelude.{is_some, not, ◌&&◌}

@@ -6,9 +6,9 @@ use Rattle.sl_host_state.specs.Kept.{HostState, state_of}
 use Rattle.sl_host_work.specs.Ending.{HoldsOnce, held_by}
 use Rattle.sl_trace.specs.Traces.{no_process, orphans_left}
 use Rattle.sl_trace.specs.declared.effects.Grant.{Grant}
-use Rattle.sl_whole_host.specs.Choosing.{chosen_among}
-use Rattle.sl_whole_host.specs.Host.{Becomes, HostView}
-use Rattle.sl_whole_host.specs.declared.passing.Chosen.TheVariants.{OfProcess}
+use Rattle.sl_host.specs.Choosing.{chosen_among}
+use Rattle.sl_host.specs.Host.{Becomes, HostView}
+use Rattle.sl_host.specs.declared.passing.Chosen.TheVariants.{OfProcess}
 use Rattle.std.proofs.Common.{ap, arith, subst, sym, ◌∙◌}
 use Rattle.std.specs.Prelude.{Err, List, cond, false, length, true, ℕ, ◌*◌, ◌+◌, ◌==◌, ◌≡◌, ◌≤◌}
 

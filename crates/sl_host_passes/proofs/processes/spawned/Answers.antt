@@ -5,7 +5,7 @@ use Rattle.sl_host_state.specs.Hears.{heard_start}
 use Rattle.sl_host_state.specs.Kept.{HostState, state_of}
 use Rattle.sl_host_work.specs.Ending.{HoldsOnce}
 use Rattle.sl_tables.specs.Children.{child_of}
-use Rattle.sl_whole_host.specs.Host.{Becomes, HostView}
+use Rattle.sl_host.specs.Host.{Becomes, HostView}
 use Rattle.std.proofs.Common.{ap, arith, subst, sym, ◌∙◌}
 use Rattle.std.specs.Prelude.{Bool, Err, length, ℕ, ◌≡◌}
 

@@ -11,8 +11,8 @@ use Rattle.sl_host_work.proofs.Passing.{fewer_left, over_end, over_next}
 use Rattle.sl_host_work.specs.Placed.{IsArea}
 use Rattle.sl_plain.proofs.Lists.{got_inside}
 use Rattle.sl_trace.specs.declared.effects.Spot.{Spot}
-use Rattle.sl_whole_host.specs.Asking.{state_in}
-use Rattle.sl_whole_host.specs.Host.{HostView, SameRun}
+use Rattle.sl_host.specs.Asking.{state_in}
+use Rattle.sl_host.specs.Host.{HostView, SameRun}
 use Rattle.std.proofs.Common.{ap, arith, refl, subst, sym, ◌≡◌, ◌∙◌}
 use Rattle.std.specs.Prelude.{Contains, List, drop, length}
 

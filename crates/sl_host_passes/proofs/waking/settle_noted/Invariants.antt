@@ -6,7 +6,7 @@ use Rattle.sl_host_passes.specs.Fewer.{SameLeases}
 use Rattle.sl_host_passes.specs.Knowing.{HasLeases, WakeKnown}
 use Rattle.sl_host_state.specs.Kept.{state_of}
 use Rattle.sl_trace.specs.declared.command.Command.{Command}
-use Rattle.sl_whole_host.specs.Host.{SameRun}
+use Rattle.sl_host.specs.Host.{SameRun}
 use Rattle.std.proofs.Common.{List, Result, drop, length, ℕ, ◌*◌, ◌+◌, ◌≡◌, ◌≤◌}
 
 -- those from this place on are still to come

@@ -1,6 +1,6 @@
 use Rattle.sl_host_step.proofs.expecting.is_expected.Goals as goal
 use Rattle.sl_host_step.specs.Expecting.{expected_in}
-use Rattle.sl_whole_host.specs.Asking.{state_in}
+use Rattle.sl_host.specs.Asking.{state_in}
 use Rattle.std.proofs.Common.{ap, sym, ◌∙◌}
 
 pub returns-in-Spawned : goal.returns-in-Spawned

@@ -4,7 +4,7 @@ use Rattle.sl_host_step.proofs.Coming.{begins}
 use Rattle.sl_host_step.proofs.KnownPasses.{begin_known}
 use Rattle.sl_host_step.proofs.step.begin.Goals as goal
 use Rattle.sl_host_step.specs.Rooms.{HasLeft, HasRoom, calls_within, effects_within}
-use Rattle.sl_whole_host.specs.Host.{HostView, SameMost, Spends}
+use Rattle.sl_host.specs.Host.{HostView, SameMost, Spends}
 use Rattle.std.proofs.Common.{ap, arith, subst, sym, ◌∙◌}
 use Rattle.std.specs.Prelude.{length, ℕ, ◌*◌, ◌+◌, ◌<◌, ◌^◌, ◌≡◌, ◌≤◌}
 

@@ -1,6 +1,6 @@
 use Rattle.sl_host_step.proofs.step.conclude.Goals as goal
 use Rattle.sl_host_step.specs.Rooms.{calls_for, left_for}
-use Rattle.sl_whole_host.specs.Books.{AreFew}
+use Rattle.sl_host.specs.Books.{AreFew}
 use Rattle.std.proofs.Common.{subst, ◌∙◌}
 use Rattle.std.specs.Prelude.{ℕ}
 

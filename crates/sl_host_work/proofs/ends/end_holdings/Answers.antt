@@ -7,7 +7,7 @@ use Rattle.sl_host_work.specs.Ending.{held_by}
 use Rattle.sl_trace.specs.Traces.{end_of, orphans_left}
 use Rattle.sl_trace.specs.declared.effects.End.{End}
 use Rattle.sl_trace.specs.declared.effects.Grant.{Grant}
-use Rattle.sl_whole_host.specs.Host.{Becomes, HostView}
+use Rattle.sl_host.specs.Host.{Becomes, HostView}
 use Rattle.std.proofs.Common.{ap, arith, refl, sym, ◌≡◌, ◌∙◌}
 use Rattle.std.specs.Prelude.{[], length, ◌+◌, ◌++◌, ◌≤◌}
 

@@ -4,7 +4,7 @@ use Rattle.sl_host_work.proofs.ends.end_holdings.Given as goal
 use Rattle.sl_host_work.specs.Ending.{HoldsOnce, held_by}
 use Rattle.sl_trace.specs.Traces.{orphans_left}
 use Rattle.sl_trace.specs.declared.command.Command.{Command}
-use Rattle.sl_whole_host.specs.Host.{SameRun}
+use Rattle.sl_host.specs.Host.{SameRun}
 use Rattle.std.proofs.Common.{List, Result, length, ℕ, ◌+◌, ◌++◌, ◌≡◌, ◌≤◌}
 
 -- what is held now is still to end

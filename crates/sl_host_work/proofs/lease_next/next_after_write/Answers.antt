@@ -4,7 +4,7 @@ use Rattle.sl_host_work.proofs.LeaseNextStands.{answers_fit, writes}
 use Rattle.sl_host_work.proofs.lease_next.next_after_write.Goals as goal
 use Rattle.sl_trace.specs.declared.input.Answer.TheVariants.{Written}
 use Rattle.sl_host_work.specs.Leasing.{held_with}
-use Rattle.sl_whole_host.specs.Asking.{state_in}
+use Rattle.sl_host.specs.Asking.{state_in}
 use Rattle.std.proofs.Common.{ap, ◌∙◌}
 use Rattle.std.specs.Prelude.{unwrap_or}
 

@@ -3,7 +3,7 @@ use Rattle.sl_host_state.specs.Makes.{new_lease}
 use Rattle.sl_host_work.proofs.LeaseNextStands.{releases, releases_fit}
 use Rattle.sl_host_work.proofs.lease_next.releasing_next.Goals as goal
 use Rattle.sl_host_work.specs.Leasing.{held_with}
-use Rattle.sl_whole_host.specs.Asking.{state_in}
+use Rattle.sl_host.specs.Asking.{state_in}
 use Rattle.std.proofs.Common.{ap, refl, ◌∙◌}
 use Rattle.std.specs.Prelude.{unwrap_or}
 

@@ -5,7 +5,7 @@ use Rattle.sl_host_state.specs.Kept.{MemberState, state_of}
 use Rattle.sl_host_work.proofs.KillsStand.{all_next, at_place, count_at, killed_next}
 use Rattle.sl_host_work.proofs.Passing.{over_end, there}
 use Rattle.sl_host_work.proofs.recoveries.kill_all.Goals as goal
-use Rattle.sl_whole_host.specs.Host.{HostView}
+use Rattle.sl_host.specs.Host.{HostView}
 use Rattle.std.proofs.Common.{ap, arith, refl, sym, ◌∙◌}
 use Rattle.std.specs.Prelude.{List, Some, drop, length, slice_get, ℕ, ◌<◌, ◌≡◌}
 

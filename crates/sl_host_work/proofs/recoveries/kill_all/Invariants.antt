@@ -5,7 +5,7 @@ use Rattle.sl_host_work.proofs.recoveries.kill_all.Given as goal
 use Rattle.sl_host_work.specs.Holders.{SameButSignals}
 use Rattle.sl_host_work.specs.Killing.{holders_of_all}
 use Rattle.sl_trace.specs.declared.command.Command.{Command}
-use Rattle.sl_whole_host.specs.Host.{SameRun}
+use Rattle.sl_host.specs.Host.{SameRun}
 use Rattle.std.proofs.Common.{List, Result, drop, ℕ, ◌+◌, ◌≡◌, ◌≤◌}
 
 -- the members from this place on are still to come

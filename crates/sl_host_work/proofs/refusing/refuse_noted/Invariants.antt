@@ -4,7 +4,7 @@ use Rattle.sl_host_state.specs.Makes.{with_reply}
 use Rattle.sl_host_work.proofs.refusing.refuse_noted.Given as goal
 use Rattle.sl_host_work.specs.Refused.{reply_of}
 use Rattle.sl_trace.specs.declared.command.Command.{Command}
-use Rattle.sl_whole_host.specs.Host.{SameRun}
+use Rattle.sl_host.specs.Host.{SameRun}
 use Rattle.std.proofs.Common.{List, Result, drop, length, ℕ, ◌+◌, ◌≡◌, ◌≤◌}
 
 -- those from this place on are still to come

@@ -4,7 +4,7 @@ use Rattle.sl_host_work.proofs.NumbersRise.{those_above}
 use Rattle.sl_host_work.proofs.signals.signal_holders.Given as goal
 use Rattle.sl_host_work.specs.Holders.{SameButSignals, holders_under, signalling_all}
 use Rattle.sl_trace.specs.declared.command.Command.{Command}
-use Rattle.sl_whole_host.specs.Host.{SameRun}
+use Rattle.sl_host.specs.Host.{SameRun}
 use Rattle.std.proofs.Common.{List, Result, length, ℕ, ◌+◌, ◌≡◌, ◌≤◌}
 
 -- those above the last are still to come

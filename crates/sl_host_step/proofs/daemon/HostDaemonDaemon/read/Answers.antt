@@ -2,7 +2,7 @@ use Rattle.sl_daemon.specs.Daemons.{read_of}
 use Rattle.sl_host_step.proofs.Begins.{steps_so}
 use Rattle.sl_host_step.proofs.daemon.HostDaemonDaemon.read.Goals as goal
 use Rattle.sl_host_step.specs.Moments.{HasStepped}
-use Rattle.sl_whole_host.specs.Host.{HostView}
+use Rattle.sl_host.specs.Host.{HostView}
 use Rattle.std.proofs.Common.{subst}
 use Rattle.std.specs.Prelude.{IfOk}
 

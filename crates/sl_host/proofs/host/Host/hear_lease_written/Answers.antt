@@ -1,0 +1,28 @@
+use Rattle.sl_area.specs.Layouts.{layout_of}
+use Rattle.sl_lease.specs.Changes.{after_write}
+use Rattle.sl_member.specs.Laws.{area_of_call}
+use Rattle.sl_member.specs.Members.{lease_changed}
+use Rattle.sl_trace.specs.declared.input.Answer.TheVariants.{Written}
+use Rattle.sl_host.proofs.AnswersHeard.{lease_written_whole}
+use Rattle.sl_host_state.specs.Hears.{heard_answer}
+use Rattle.sl_host_state.specs.Kept.{MemberState, state_of}
+use Rattle.sl_member.specs.Together.{MembersState, changed_member}
+use Rattle.sl_host.specs.Books.{BooksState, host_of}
+use Rattle.sl_host.specs.Hearing.{MayHear, begun_at, is_over_in, others_in, own_heard, request_heard, survey_heard}
+use Rattle.sl_host.specs.Host.{HostView}
+use Rattle.sl_host.proofs.host.Host.hear_lease_written.Goals as goal
+use Rattle.std.proofs.Common.{List, ap, filter, not, subst, sym, ◌∙◌, ◌≡◌}
+
+pub returns-clause-state : goal.returns-clause-state
+returns-clause-state c read =
+    let b : BooksState = c.self.inside.books in
+    let ms : List MemberState = c.self.inside.members.members in
+    let call = c.args.call.now in
+    let may = subst (λ (v : HostView). MayHear v.kept call) (sym c.self.view_is) c.requires.may in
+    let rest : List MemberState → List MemberState = filter (λ s. not (is_over_in (others_in call.number b.unanswered) s)) in
+    let made : c.hear.new.members.members ≡ rest (changed_member call.session (lease_changed (area_of_call (layout_of b.config.sizes) call) after_write) ms) =
+    ap (λ (v : MembersState). v.members) c.hear.ensures.members
+    ∙ (ap (λ (v : MembersState). rest v.members) c.lease_written.ensures ∙ ap (λ t. rest (changed_member call.session (lease_changed t after_write) ms)) c.area_of-at.ensures) in
+    ap (λ (bk : BooksState). host_of read c.hear.new.members.members bk) c.hear.ensures.books
+    ∙ (lease_written_whole read ms b call may c.hear.new.members.members c.args.work c.args.step c.requires.purpose c.order.ensures.apart c.order.ensures.by_place made
+    ∙ ap (λ (v : HostView). heard_answer call.number Written (state_of read v.kept)) c.self.view_is)

@@ -1,0 +1,244 @@
+//! The effects of a step in progress, class by class, with memory for some more.
+
+ghost use Rattle.sl_trace.specs.Traces.{no_effects};
+ghost use Rattle.sl_host.specs.Books.{AreFew, BuffersState};
+ghost use Rattle.std.specs.List.{list_any};
+ghost use Rattle.std.specs.Prelude.{IfOk, length, [], ◌+◌, ◌++◌, ◌-◌, ◌<◌, ◌==◌, ◌^◌, ◌∷◌, ◌≡◌, ◌≤◌};
+
+use sl_room::Room;
+use sl_sector::{Block, DeltaRec, DeltaState, Leader, Rec, Request, ValueRec};
+use sl_text::{Data, FilePath, Name, Seq};
+use sl_trace::{
+    Call, Effects, End, Grant, JobReply, JoinStep, LeaseStep, Move, Op, Purpose, Sent, Start, Work,
+};
+use std::alloc::{AllocError, Global};
+use std::marker::Model;
+
+/// The types within a call.
+type WithinCall = (
+    (Op, Purpose, Work, LeaseStep, JoinStep),
+    (Rec, Leader, Block, DeltaRec, DeltaState, Request, ValueRec),
+    (Name, Data, FilePath),
+);
+
+/// Lists of effects: that of calls has memory for at least `more_calls` more, each other one for at least `left` more. With as many more, that
+/// of calls has at most `most_calls`, each other one at most `most`.
+#[derive(Drop)]
+pub struct Buffers {
+    ends: Room<End>,
+    signals: Room<Sent>,
+    moves: Room<Move>,
+    grants: Room<Grant>,
+    starts: Room<Start>,
+    replies: Room<JobReply>,
+    calls: Room<Call>,
+    left: usize,
+    more_calls: usize,
+    most: usize,
+    most_calls: usize,
+}
+
+impl Model for Buffers {
+    ghost use Rattle.sl_host.specs.Books.{BuffersState};
+    ghost use Rattle.std.specs.Prelude.{length, ◌+◌, ◌≤◌};
+
+    ghost Value = { BuffersState };
+
+    ghost view = { λ b. record {
+      made = record {
+        ends = b.ends.items;
+        signals = b.signals.items;
+        moves = b.moves.items;
+        grants = b.grants.items;
+        starts = b.starts.items;
+        replies = b.replies.items;
+        calls = b.calls.items;
+      };
+      left = b.left;
+      calls = b.more_calls;
+      most = b.most;
+      most_calls = b.most_calls;
+    } };
+
+    ghost invariant = { λ b. (b.left ≤ b.ends.room) × (b.left ≤ b.signals.room) × (b.left ≤ b.moves.room) × (b.left ≤ b.grants.room) × (b.left ≤ b.starts.room)
+        × (b.left ≤ b.replies.room) × (b.more_calls ≤ b.calls.room)
+        × (length b.ends.items + b.left ≤ b.most) × (length b.signals.items + b.left ≤ b.most) × (length b.moves.items + b.left ≤ b.most)
+        × (length b.grants.items + b.left ≤ b.most) × (length b.starts.items + b.left ≤ b.most) × (length b.replies.items + b.left ≤ b.most)
+        × (length b.calls.items + b.more_calls ≤ b.most_calls) };
+}
+
+/// Whether a start is of a child of this number.
+fn is_of(start: &Start, process: u32) -> bool
+    ensures { result ≡ (start.now.process == process) }
+{
+    start.process == process
+}
+
+impl Buffers {
+    /// No effects, with memory for so many calls, and so many of each other class. An `Err` is want of memory.
+    pub fn new(alloc: Global, room: usize, more_calls: usize) -> Result<Buffers, AllocError>
+        requires { (room < 2 ^ 32) × (more_calls < 2 ^ 32) }
+        ensures { IfOk result (λ b. b ≡ record { made = no_effects; left = room; calls = more_calls; most = room; most_calls = more_calls }) }
+    {
+        Ok(Buffers {
+            ends: Room::new(alloc, room)?,
+            signals: Room::new(alloc, room)?,
+            moves: Room::new(alloc, room)?,
+            grants: Room::new(alloc, room)?,
+            starts: Room::new(alloc, room)?,
+            replies: Room::new(alloc, room)?,
+            calls: Room::new(alloc, more_calls)?,
+            left: room,
+            more_calls,
+            most: room,
+            most_calls: more_calls,
+        })
+    }
+
+    /// For how many more effects there is memory that are no calls.
+    pub fn left(&self) -> usize
+        ensures { result ≡ self.now.left }
+    {
+        self.left
+    }
+
+    /// For how many more calls there is memory.
+    pub fn more_calls(&self) -> usize
+        ensures exact { result ≡ self.now.calls }
+        ensures few { result ≤ self.now.most_calls }
+    {
+        self.more_calls
+    }
+
+    /// One place is given up, for what makes no effect.
+    pub fn spend(&mut self)
+        requires { 0 < self.old.left }
+        ensures { self.new ≡ record self.old { left = self.old.left - 1 } }
+    {
+        self.left -= 1;
+    }
+
+    /// Whether a child of this number is started by the step.
+    pub fn has_start(&self, process: u32) -> bool
+        ensures { result ≡ list_any (λ s. s.process == process) self.now.made.starts }
+    {
+        self.starts
+            .as_slice()
+            .iter()
+            .any(|start| is_of(start, process))
+    }
+
+    /// How many calls there are.
+    pub fn calls(&self) -> u64
+        ensures { result ≡ length self.now.made.calls }
+    {
+        self.calls.len() as u64
+    }
+
+    /// One more end.
+    pub fn end(&mut self, end: End)
+        requires { 0 < self.old.left }
+        ensures made { self.new.made ≡ record self.old.made { ends = self.old.made.ends ++ end ∷ [] } }
+        ensures left { (self.new.left ≡ self.old.left - 1) × (self.new.calls ≡ self.old.calls) }
+        ensures most { (self.new.most ≡ self.old.most) × (self.new.most_calls ≡ self.old.most_calls) }
+    {
+        self.ends.put(end);
+        self.left -= 1;
+    }
+
+    /// One more signal.
+    pub fn signal(&mut self, sent: Sent)
+        requires { 0 < self.old.left }
+        ensures made { self.new.made ≡ record self.old.made { signals = self.old.made.signals ++ sent ∷ [] } }
+        ensures left { (self.new.left ≡ self.old.left - 1) × (self.new.calls ≡ self.old.calls) }
+        ensures most { (self.new.most ≡ self.old.most) × (self.new.most_calls ≡ self.old.most_calls) }
+    {
+        self.signals.put(sent);
+        self.left -= 1;
+    }
+
+    /// One more move.
+    pub fn move_on(&mut self, step: Move)
+        requires { 0 < self.old.left }
+        ensures made { self.new.made ≡ record self.old.made { moves = self.old.made.moves ++ step ∷ [] } }
+        ensures left { (self.new.left ≡ self.old.left - 1) × (self.new.calls ≡ self.old.calls) }
+        ensures most { (self.new.most ≡ self.old.most) × (self.new.most_calls ≡ self.old.most_calls) }
+    {
+        self.moves.put(step);
+        self.left -= 1;
+    }
+
+    /// One more grant.
+    pub fn grant(&mut self, grant: Grant)
+        requires { 0 < self.old.left }
+        ensures made { self.new.made ≡ record self.old.made { grants = self.old.made.grants ++ grant ∷ [] } }
+        ensures left { (self.new.left ≡ self.old.left - 1) × (self.new.calls ≡ self.old.calls) }
+        ensures most { (self.new.most ≡ self.old.most) × (self.new.most_calls ≡ self.old.most_calls) }
+    {
+        self.grants.put(grant);
+        self.left -= 1;
+    }
+
+    /// One more start.
+    pub fn start(&mut self, start: Start)
+        requires { 0 < self.old.left }
+        ensures made { self.new.made ≡ record self.old.made { starts = self.old.made.starts ++ start ∷ [] } }
+        ensures left { (self.new.left ≡ self.old.left - 1) × (self.new.calls ≡ self.old.calls) }
+        ensures most { (self.new.most ≡ self.old.most) × (self.new.most_calls ≡ self.old.most_calls) }
+    {
+        self.starts.put(start);
+        self.left -= 1;
+    }
+
+    /// One more reply.
+    pub fn reply(&mut self, reply: JobReply)
+        requires { 0 < self.old.left }
+        ensures made { self.new.made ≡ record self.old.made { replies = self.old.made.replies ++ reply ∷ [] } }
+        ensures left { (self.new.left ≡ self.old.left - 1) × (self.new.calls ≡ self.old.calls) }
+        ensures most { (self.new.most ≡ self.old.most) × (self.new.most_calls ≡ self.old.most_calls) }
+    {
+        self.replies.put(reply);
+        self.left -= 1;
+    }
+
+    /// One more call.
+    pub fn call(&mut self, call: Call)
+        requires { 0 < self.old.calls }
+        ensures made { self.new.made ≡ record self.old.made { calls = self.old.made.calls ++ call ∷ [] } }
+        ensures left { (self.new.left ≡ self.old.left) × (self.new.calls ≡ self.old.calls - 1) }
+        ensures most { (self.new.most ≡ self.old.most) × (self.new.most_calls ≡ self.old.most_calls) }
+    {
+        let _within: Option<WithinCall> = None;
+        self.calls.put(call);
+        self.more_calls -= 1;
+    }
+
+    /// The effects.
+    pub fn into_effects(self) -> Effects
+        ensures exact { result ≡ self.made }
+        ensures few { AreFew self.most self.most_calls result }
+    {
+        let Buffers {
+            ends,
+            signals,
+            moves,
+            grants,
+            starts,
+            replies,
+            calls,
+            left: _,
+            more_calls: _,
+            most: _,
+            most_calls: _,
+        } = self;
+        Effects {
+            ends: Seq::new(ends.into_vec()),
+            signals: Seq::new(signals.into_vec()),
+            moves: Seq::new(moves.into_vec()),
+            grants: Seq::new(grants.into_vec()),
+            starts: Seq::new(starts.into_vec()),
+            replies: Seq::new(replies.into_vec()),
+            calls: Seq::new(calls.into_vec()),
+        }
+    }
+}

@@ -1,0 +1,293 @@
+//! An answer, told to the member that waits for it; and refused members that are over.
+
+ghost use Rattle.sl_delta.specs.Own.{answer_in};
+ghost use Rattle.sl_host_state.specs.Hears.{renewed_of};
+ghost use Rattle.sl_host_state.specs.Kept.{MemberState};
+ghost use Rattle.sl_lease.specs.Asked.{leader_given, read_given};
+ghost use Rattle.sl_area.specs.Layouts.{layout_of};
+ghost use Rattle.sl_member.specs.Leases.{AreByPlace};
+ghost use Rattle.sl_member.specs.Members.{own_told};
+ghost use Rattle.sl_member.specs.Together.{AreApart, changed_member, member_with};
+ghost use Rattle.sl_sector.specs.Records.{IsBlock, IsLeader};
+ghost use Rattle.sl_sessions.specs.Sessions.{is_join_call, is_renewal};
+ghost use Rattle.sl_trace.specs.declared.effects.JoinStep.TheVariants.{FirstRead};
+ghost use Rattle.sl_trace.specs.declared.effects.Purpose.TheVariants.{Survey};
+ghost use Rattle.sl_trace.specs.declared.input.Answer.TheVariants.{Failed};
+ghost use Rattle.sl_host.specs.Hearing.{is_over_in, own_heard, reads_area, renewals_told, request_heard, sectors_read, shows_at, survey_heard, tells_renewals};
+ghost use Rattle.sl_words.specs.Bounds.{moments};
+ghost use Rattle.std.specs.List.{list_any};
+ghost use Rattle.std.specs.Prelude.{All, IfSome, IsTrue, Some, cond, filter, find, length, map, not, option_map, slice_get, ◌*◌, ◌<◌, ◌==◌, ◌^◌, ◌≡◌};
+
+use sl_area::Geometry;
+use sl_delta::SectorAnswer;
+use sl_host_state::OpenCall;
+use sl_lease::{Blocks, Sectors, leader_of};
+use sl_member::{Member, Members};
+use sl_sector::Leader;
+use sl_sessions::Begun;
+use sl_tables::OpenCalls;
+use sl_trace::{JoinStep, LeaseStep, Purpose};
+
+// ---- refused members
+
+/// Whether a refused member is over: no write of it is open.
+fn is_over(member: &Member, unanswered: &OpenCalls) -> bool
+    ensures { result ≡ is_over_in unanswered.now.calls member.now.state }
+{
+    member.is_refused() && !unanswered.has_write(member.who().number)
+}
+
+/// The number of the first member that is over.
+fn over_number(members: &Members, unanswered: &OpenCalls) -> Option<u64>
+    ensures { result ≡ option_map (λ s. s.who.number) (find (is_over_in unanswered.now.calls) members.now.members) }
+{
+    for place in 0..members.len() {
+        let member = members.nth(place);
+        if is_over(member, unanswered) {
+            return Some(member.who().number);
+        }
+    }
+    None
+}
+
+/// What members know of themselves: their numbers are apart, and the leases of each stand by place.
+pub(crate) fn order(members: &Members, number: u64)
+    ensures apart { AreApart (map (λ s. s.who.number) members.now.members) }
+    ensures by_place { (m : MemberState) → member_with number members.now.members ≡ Some m → AreByPlace m.leases }
+{
+    let _joining = members.joining_by(0);
+    match members.numbered(number) {
+        Some(member) => {
+            let _count = member.leases().len();
+        }
+        None => {}
+    }
+}
+
+/// The refused members go that are over.
+pub(crate) fn remove_over(members: &mut Members, unanswered: &OpenCalls)
+    ensures { members.new ≡ record members.old { members = filter (λ s. not (is_over_in unanswered.now.calls s)) members.old.members } }
+{
+    while let Some(number) = over_number(members, unanswered) {
+        order(members, number);
+        members.remove(number);
+    }
+}
+
+// ---- the own sector
+
+/// Whether the call is a joining's first read.
+fn is_first_read(purpose: &Purpose) -> bool
+    ensures { result ≡ is_join_call FirstRead purpose.now }
+{
+    matches!(
+        purpose,
+        Purpose::Joining {
+            job: _,
+            step: JoinStep::FirstRead,
+        }
+    )
+}
+
+/// Whether the call is a renewal, the first one too.
+pub(crate) fn is_renewal(purpose: &Purpose) -> bool
+    ensures { result ≡ is_renewal purpose.now }
+{
+    matches!(
+        purpose,
+        Purpose::Renewal
+            | Purpose::Joining {
+                job: _,
+                step: JoinStep::FirstRenewal,
+            }
+    )
+}
+
+/// Whether the call's answer may tell of renewals.
+fn tells_renewals(purpose: &Purpose) -> bool
+    ensures { result ≡ tells_renewals purpose.now }
+{
+    matches!(
+        purpose,
+        Purpose::Renewal | Purpose::Joining { job: _, step: _ }
+    )
+}
+
+/// The submission reading of a renewal that is answered ok.
+fn renewed_of(call: &OpenCall, answer: &SectorAnswer) -> Option<u64>
+    ensures { result ≡ renewed_of call.now (answer_in answer.now) }
+{
+    match answer {
+        SectorAnswer::Read(_) => None,
+        SectorAnswer::Written => {
+            if is_renewal(&call.purpose) {
+                Some(call.reading)
+            } else {
+                None
+            }
+        }
+        SectorAnswer::Failed => None,
+    }
+}
+
+/// The answer tells of its member's renewals, if it does.
+fn tell_renewals(members: &mut Members, call: &OpenCall, answer: &SectorAnswer, begun: Begun)
+    ensures { members.new ≡ record members.old { members = changed_member call.now.session (renewals_told call.now (answer_in answer.now) begun) members.old.members } }
+{
+    if tells_renewals(&call.purpose) {
+        let renewed = renewed_of(call, answer);
+        members.renewing_told(call.session, renewed, false, begun);
+    }
+}
+
+/// The answer is told to what its member keeps of its own sector.
+#[tactic(auto, using(crate::proofs::AnswersTold::first_changed))]
+fn tell_sector(members: &mut Members, call: &OpenCall, now: u64, answer: SectorAnswer)
+    requires { now < moments }
+    ensures { members.new ≡ record members.old { members = changed_member call.now.session (own_told call.now.purpose (answer_in answer) now) members.old.members } }
+{
+    if is_first_read(&call.purpose) {
+        members.first_answered(call.session, now, answer);
+    } else {
+        members.own_answered(call.session, now, &call.purpose);
+    }
+}
+
+/// An answer to a call on the own sector of its member.
+#[tactic(auto, using(crate::proofs::AnswersTold::own_changed))]
+pub(crate) fn tell_own(
+    members: &mut Members,
+    call: &OpenCall,
+    begun: Begun,
+    now: u64,
+    answer: SectorAnswer,
+)
+    requires { now < moments }
+    ensures { members.new ≡ record members.old { members = changed_member call.now.session (own_heard call.now (answer_in answer) begun now) members.old.members } }
+{
+    tell_renewals(members, call, &answer, begun);
+    tell_sector(members, call, now, answer);
+}
+
+// ---- a read of all ids
+
+/// Whether the sectors of all ids show another in the place of the member of this number.
+fn shows_to<S: Sectors>(members: &Members, number: u64, sectors: &S) -> bool
+    requires cut { IsTrue (S.is_cut sectors.now members.now.run.sizes.sector) }
+    requires many { length (S.bytes sectors.now) ≡ members.now.run.sizes.hosts * members.now.run.sizes.sector }
+    ensures { (m : MemberState) → member_with number members.now.members ≡ Some m → result ≡ shows_at members.now.run (S.bytes sectors.now) m }
+{
+    match members.numbered(number) {
+        Some(member) => member.shows_other(sectors),
+        None => false,
+    }
+}
+
+/// Whether they show another in the place of the member at this place.
+fn shows_by_place<S: Sectors>(members: &Members, place: usize, sectors: &S) -> bool
+    requires place { place < length members.now.members }
+    requires cut { IsTrue (S.is_cut sectors.now members.now.run.sizes.sector) }
+    requires many { length (S.bytes sectors.now) ≡ members.now.run.sizes.hosts * members.now.run.sizes.sector }
+    ensures { (m : MemberState) → slice_get members.now.members place ≡ Some m → result ≡ shows_at members.now.run (S.bytes sectors.now) m }
+{
+    let number = members.nth(place).who().number;
+    order(members, number);
+    shows_to(members, number, sectors)
+}
+
+/// Whether they show another in the place of any member.
+pub(crate) fn shows_any<S: Sectors>(members: &Members, sectors: &S) -> bool
+    requires cut { IsTrue (S.is_cut sectors.now members.now.run.sizes.sector) }
+    requires many { length (S.bytes sectors.now) ≡ members.now.run.sizes.hosts * members.now.run.sizes.sector }
+    ensures { result ≡ list_any (shows_at members.now.run (S.bytes sectors.now)) members.now.members }
+{
+    for place in 0..members.len() {
+        if shows_by_place(members, place, sectors) {
+            return true;
+        }
+    }
+    false
+}
+
+/// A read of all ids, answered at the reading `now`, is told to its member.
+pub(crate) fn tell_survey<S: Sectors>(
+    members: &mut Members,
+    call: &OpenCall,
+    begun: Begun,
+    now: u64,
+    sectors: &S,
+)
+    requires moment { now < moments }
+    requires cut { IsTrue (S.is_cut sectors.now members.old.run.sizes.sector) }
+    requires many { length (S.bytes sectors.now) ≡ members.old.run.sizes.hosts * members.old.run.sizes.sector }
+    ensures { members.new ≡ record members.old { members = changed_member call.now.session (survey_heard members.old.run call.now.reading now (S.bytes sectors.now) begun) members.old.members } }
+{
+    order(members, call.session);
+    let shows = shows_to(members, call.session, sectors);
+    members.renewing_told(call.session, None, shows, begun);
+    members.own_answered(call.session, now, &Purpose::Survey);
+    members.surveyed(call.session, call.reading, now, sectors);
+}
+
+/// A read of all ids that failed is told to its member.
+pub(crate) fn tell_no_survey(members: &mut Members, call: &OpenCall, now: u64)
+    requires { now < moments }
+    ensures { members.new ≡ record members.old { members = changed_member call.now.session (own_told Survey Failed now) members.old.members } }
+{
+    members.own_answered(call.session, now, &Purpose::Survey);
+}
+
+// ---- a lease's read
+
+/// Whether a read at this step gives a leader too.
+fn reads_area(step: &LeaseStep) -> bool
+    ensures { result ≡ reads_area step.now }
+{
+    matches!(
+        step,
+        LeaseStep::ReadArea { resource: _ } | LeaseStep::ReadBeforeFree
+    )
+}
+
+/// The leader, and in their places the blocks, of a read at this step of a lease's work.
+#[tactic(auto, using(crate::proofs::AnswersTold::area_read, crate::proofs::AnswersTold::blocks_read))]
+pub(crate) fn read_lease<S: Sectors>(
+    geometry: &Geometry,
+    step: &LeaseStep,
+    sectors: &S,
+    blocks: &mut Blocks,
+) -> Option<Leader>
+    requires cut { IsTrue (S.is_cut sectors.now geometry.now.sector) }
+    requires many { length (S.bytes sectors.now) ≡ sectors_read geometry.now.hosts step.now * geometry.now.sector }
+    requires places { length blocks.old ≡ geometry.now.hosts }
+    ensures leader { result ≡ leader_given (layout_of geometry.now) step.now (S.bytes sectors.now) }
+    ensures rules { IfSome result IsLeader }
+    ensures blocks { blocks.new ≡ read_given (layout_of geometry.now) step.now (S.bytes sectors.now) }
+    ensures blocks_rules { All (λ o. IfSome o IsBlock) blocks.new }
+    ensures few { length blocks.new < 2 ^ 32 }
+{
+    let _hosts = geometry.hosts();
+    if reads_area(step) {
+        blocks.read_area(geometry, sectors);
+        leader_of(geometry, sectors)
+    } else {
+        blocks.read_blocks(geometry, sectors);
+        None
+    }
+}
+
+// ---- a request
+
+/// A request to this owner, if it is to one, is written: its member has asked him.
+pub(crate) fn tell_request(members: &mut Members, call: &OpenCall, now: u64, owner: Option<u32>)
+    ensures { members.new ≡ record members.old { members = changed_member call.now.session (request_heard owner now) members.old.members } }
+{
+    match owner {
+        Some(owner) => {
+            if owner >= 1 {
+                members.asked_answered(call.session, now, owner);
+            }
+        }
+        None => {}
+    }
+}

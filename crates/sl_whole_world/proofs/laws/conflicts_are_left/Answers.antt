@@ -1,5 +1,0 @@
-use Rattle.sl_whole_world.proofs.LeftGrants.{conflicts_are_left}
-use Rattle.sl_whole_world.proofs.laws.conflicts_are_left.Goals as goal
-
-pub returns : goal.returns
-returns c = conflicts_are_left

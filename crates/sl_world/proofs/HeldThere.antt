@@ -1,0 +1,82 @@
+-- What is asked of all that the other machines hold is asked of each of them.
+use Rattle.sl_kept.specs.Kept.{MachineState, machine_in}
+use Rattle.sl_machine.specs.Keeping.{kept_state}
+use Rattle.sl_machine.specs.Machines.{machine_state}
+use Rattle.sl_machine.specs.declared.kept.Kept.{Kept}
+use Rattle.sl_machine.specs.declared.machine.Machine.{Machine}
+use Rattle.sl_plain.proofs.Lists.{there_is}
+use Rattle.sl_report.specs.Reports.{conflicts_after}
+use Rattle.sl_run.specs.Conflicts.{Holding, has_conflict}
+use Rattle.sl_run.specs.Locks.{Locks}
+use Rattle.sl_trace.specs.declared.effects.Grant.{Grant}
+use Rattle.sl_world.specs.Counting.{all_with, any_beside, any_there, conflicts_left, holding, others_from}
+use Rattle.sl_world_law.specs.Telling.{others_in}
+use Rattle.std.proofs.Common.{ap, ap₂, arith, refl, sym, ◌∙◌}
+use Rattle.std.proofs.lemmas.List.{drop_more, take_more}
+use Rattle.std.proofs.lemmas.List.Elements.{filter-append}
+use Rattle.std.proofs.lemmas.List.Folds.{list_any-append}
+use Rattle.std.specs.List.{enumerate_from, list_any}
+use Rattle.std.specs.Option.{option_map_or}
+use Rattle.std.specs.Prelude.{Bool, List, Option, Some, cond, false, drop, filter, flat_map, if◌then◌else◌, length, map, not, take, true, [], ℕ, ◌&&◌, ◌++◌, ◌+◌, ◌-◌, ◌<◌, ◌==◌, ◌∷◌, ◌≡◌, ◌||◌}
+
+any_map : {A B : Type 0} (p : B → Bool) (f : A → B) (xs : List A) → list_any p (map f xs) ≡ list_any (λ x. p (f x)) xs
+any_map p f [] = refl
+any_map p f (x ∷ xs) = ap (λ b. p (f x) || b) (any_map p f xs)
+
+held_is : {L : Type 0} (locks : L → Locks) (a : Machine L) → (machine_state locks a).held ≡ a.held.items
+unfolding machine_state
+held_is locks a = refl
+
+-- Of one machine: nothing where it is that one.
+one_machine : (p : Holding → Bool) (i m : ℕ) (gs : List Grant) → list_any p (filter (λ (h : Holding). not (h.machine == m)) (map (holding i) gs)) ≡ (not (i == m) && list_any p (map (holding i) gs))
+one_machine p i m gs = go (i == m) refl gs
+  where
+    go : (b : Bool) → (i == m) ≡ b → (hs : List Grant)
+        → list_any p (filter (λ (h : Holding). not (h.machine == m)) (map (holding i) hs)) ≡ (not b && list_any p (map (holding i) hs))
+    go true is [] = refl
+    go false is [] = refl
+    go true is (h ∷ hs) =
+        ap (λ b. list_any p (cond (not b) (holding i h ∷ filter (λ (x : Holding). not (x.machine == m)) (map (holding i) hs)) (filter (λ (x : Holding). not (x.machine == m)) (map (holding i) hs)))) is
+        ∙ go true is hs
+    go false is (h ∷ hs) =
+        ap (λ b. list_any p (cond (not b) (holding i h ∷ filter (λ (x : Holding). not (x.machine == m)) (map (holding i) hs)) (filter (λ (x : Holding). not (x.machine == m)) (map (holding i) hs)))) is
+        ∙ ap (λ b. p (holding i h) || b) (go false is hs)
+
+others_at : {L : Type 0} (locks : L → Locks) (p : Holding → Bool) (m i : ℕ) (machines : List (Machine L))
+    → list_any p (others_from (i + 1) m (map (machine_state locks) machines))
+    ≡ list_any (λ q. not (q.0 + 1 == m) && any_there p (q.0 + 1) q.1.held.items) (enumerate_from i machines)
+others_at locks p m i [] = refl
+others_at locks p m i (a ∷ machines) =
+    ap (list_any p) (filter-append (λ (h : Holding). not (h.machine == m)) (map (holding (i + 1)) (machine_state locks a).held)
+    (flat_map (λ q. map (holding q.0) q.1.held) (enumerate_from (i + 1 + 1) (map (machine_state locks) machines))))
+    ∙ list_any-append p (filter (λ (h : Holding). not (h.machine == m)) (map (holding (i + 1)) (machine_state locks a).held)) (others_from (i + 1 + 1) m (map (machine_state locks) machines))
+    ∙ ap₂ (λ b c. b || c)
+    (one_machine p (i + 1) m (machine_state locks a).held ∙ ap (λ gs. not (i + 1 == m) && list_any p (map (holding (i + 1)) gs)) (held_is locks a) ∙ ap (λ b. not (i + 1 == m) && b) (any_map p (holding (i + 1)) a.held.items))
+    (others_at locks p m (i + 1) machines)
+
+-- Of all.
+pub any_all : {L : Type 0} (locks : L → Locks) (p : Holding → Bool) (m : ℕ) (machines : List (Machine L)) (mine : List Grant)
+    → list_any p (all_with m (map (machine_state locks) machines) mine) ≡ (any_beside p m machines || any_there p m mine)
+any_all locks p m machines mine =
+    list_any-append p (others_from 1 m (map (machine_state locks) machines)) (map (holding m) mine) ∙ ap₂ (λ b c. b || c) (others_at locks p m 0 machines) (any_map p (holding m) mine)
+
+-- What a machine holds is there.
+pub left_at : {L : Type 0} (locks : L → Locks) (k : Kept L) (m n : ℕ) (a : Machine L) → Some (machine_state locks a) ≡ machine_in (kept_state locks k) m
+    → conflicts_after (others_from 1 m (map (machine_state locks) k.machines.items)) m (take (length a.held.items - n) a.held.items) (drop (length a.held.items - n) a.held.items)
+    ≡ conflicts_left (kept_state locks k) m n
+unfolding kept_state machine_state
+left_at locks k m n a at =
+    ap (λ (o : Option MachineState). let gs : List Grant = option_map_or (λ (s : MachineState). s.held) o [] in
+    conflicts_after (others_in (kept_state locks k) m) m (take (length gs - n) gs) (drop (length gs - n) gs)) at
+
+-- One grant more is counted.
+pub counted_more : (hs : List Holding) (m at count start : ℕ) (held : List Grant) → at < length held → (b : Bool)
+    → b ≡ has_conflict (hs ++ map (holding m) (take (at + 1) held)) → count + conflicts_after hs m (take at held) (drop at held) ≡ start
+    → count + (if b then 1 else 0) + conflicts_after hs m (take (at + 1) held) (drop (at + 1) held) ≡ start
+counted_more hs m at count start held lt b is so_far =
+    let d : Grant = (there_is held at lt).0 in
+    let next : conflicts_after hs m (take at held) (drop at held) ≡ (if b then 1 else 0) + conflicts_after hs m (take (at + 1) held) (drop (at + 1) held)
+    = ap (conflicts_after hs m (take at held)) (drop_more held at d lt)
+    ∙ ap (λ ys. (if has_conflict (hs ++ map (holding m) ys) then 1 else 0) + conflicts_after hs m ys (drop (at + 1) held)) (sym (take_more held at d lt))
+    ∙ ap (λ c. (if c then 1 else 0) + conflicts_after hs m (take (at + 1) held) (drop (at + 1) held)) (sym is) in
+    omega (arith, so_far, next)

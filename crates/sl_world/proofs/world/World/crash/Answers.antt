@@ -1,0 +1,20 @@
+use Rattle.sl_machine.specs.Keeping.{kept_state}
+use Rattle.sl_world.proofs.AllowedEvents.{crash_there, ended_comes, seat_there}
+use Rattle.sl_world.proofs.world.World.crash.Goals as goal
+
+pub overflow_sub-machine : goal.overflow_sub-machine
+overflow_sub-machine g c =
+    let k = kept_state g.L.LockTable.locks c.args.self.now.kept in
+    let s = crash_there g.D.Daemon.commands k c.args.machine c.requires.unrefused in
+    (seat_there g.D.Daemon.commands g.D.Daemon.stands k c.args.self.now.hosts c.args.machine s.0 c.requires.world c.requires.stands_for s.1).1
+
+pub end-requires : goal.end-requires
+end-requires g c =
+    let k = kept_state g.L.LockTable.locks c.args.self.now.kept in
+    let s = crash_there g.D.Daemon.commands k c.args.machine c.requires.unrefused in
+    (seat_there g.D.Daemon.commands g.D.Daemon.stands k c.args.self.now.hosts c.args.machine s.0 c.requires.world c.requires.stands_for s.1).0
+
+pub returns : goal.returns
+returns g c =
+    ended_comes g.D.Daemon.commands g.D.Daemon.stands (kept_state g.L.LockTable.locks c.args.self.now.kept) c.args.self.now.hosts c.end.new.self c.args.machine
+    (kept_state g.L.LockTable.locks c.crash.new.self) c.requires c.crash.ensures c.end.ensures

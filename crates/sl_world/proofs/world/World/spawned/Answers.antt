@@ -1,0 +1,22 @@
+use Rattle.sl_machine.specs.Keeping.{kept_state}
+use Rattle.sl_run.specs.declared.event.Event.TheVariants.{SpawnedOf}
+use Rattle.sl_trace.specs.declared.input.Input.TheVariants.{Spawned}
+use Rattle.sl_world.proofs.AllowedEvents.{first_spawned, spawn_given, may_give}
+use Rattle.sl_world.proofs.ToldSteps.{simply_told}
+use Rattle.sl_world.proofs.GivenSteps.{if_ok_then}
+use Rattle.sl_world.proofs.world.World.spawned.Goals as goal
+use Rattle.sl_world.specs.Telling.{ComesTold, GivesTold}
+
+pub give-requires : goal.give-requires
+give-requires g c =
+    may_give g.D.Daemon.commands g.D.Daemon.stands (kept_state g.L.LockTable.locks c.args.self.now.kept) c.args.self.now.hosts (SpawnedOf c.args.machine c.args.process c.args.ok) (Spawned c.args.process c.args.ok) c.requires
+    (spawn_given g.D.Daemon.commands (kept_state g.L.LockTable.locks c.args.self.now.kept) c.args.machine c.args.process c.args.ok)
+
+pub returns-clause-ok : goal.returns-clause-ok
+returns-clause-ok g c =
+    if_ok_then (GivesTold g.D.Daemon.stands g.D.Daemon.makes (kept_state g.L.LockTable.locks c.args.self.now.kept) c.args.self.now.hosts c.args.machine (Spawned c.args.process c.args.ok) (kept_state g.L.LockTable.locks c.give.new.self.kept) c.give.new.self.hosts)
+    (ComesTold g.D.Daemon.commands g.D.Daemon.stands (kept_state g.L.LockTable.locks c.args.self.now.kept) c.args.self.now.hosts (SpawnedOf c.args.machine c.args.process c.args.ok) (kept_state g.L.LockTable.locks c.give.new.self.kept) c.give.new.self.hosts)
+    c.give.result
+    (λ fx given. simply_told g.D.Daemon.commands g.D.Daemon.stands g.D.Daemon.makes (kept_state g.L.LockTable.locks c.args.self.now.kept) c.args.self.now.hosts (SpawnedOf c.args.machine c.args.process c.args.ok) (Spawned c.args.process c.args.ok) fx
+    (kept_state g.L.LockTable.locks c.give.new.self.kept) c.give.new.self.hosts c.requires (spawn_given g.D.Daemon.commands (kept_state g.L.LockTable.locks c.args.self.now.kept) c.args.machine c.args.process c.args.ok) (first_spawned (kept_state g.L.LockTable.locks c.args.self.now.kept) c.args.machine c.args.process c.args.ok) given)
+    c.give.ensures.ok

@@ -1,0 +1,174 @@
+//! Events: each is refused, or comes to pass.
+//!
+//! `apply` asks first why the event may not happen, and then matches it: one method an event, each of which is shown to make the world that the
+//! definitions make of it, with the effects that it answers. A refusal or want of memory leaves the world for which it stood.
+
+ghost use Rattle.sl_kept.specs.Refusing.{refusal_in};
+ghost use Rattle.sl_kept.specs.Sane.{WorldStands};
+ghost use Rattle.sl_machine.specs.Keeping.{kept_state};
+ghost use Rattle.sl_machine.specs.Testing.{bars_locks, is_tear};
+ghost use Rattle.sl_world.specs.Allowing.{AllCome, IsAllowed, StandsForSome};
+ghost use Rattle.sl_world.specs.Giving.{IsSame};
+ghost use Rattle.sl_world.specs.Telling.{ComesTold};
+ghost use Rattle.sl_run.specs.Events as events;
+ghost use Rattle.sl_run.specs.Worlds as worlds;
+ghost use Rattle.sl_run.specs.declared.event.Event.TheVariants.{Tear};
+ghost use Rattle.sl_trace.specs.Traces.{no_effects};
+ghost use Rattle.sl_run.specs.declared.event.Refusal.{Refusal as RefusalOf};
+ghost use Rattle.std.specs.Prelude.{Err, IfOk, OnErr, OnOk, Some, true, ◌≡◌, ◌⊎◌};
+
+use crate::ends::told_alone;
+use crate::world::World;
+use sl_daemon::Daemon;
+use sl_locks::StepTold;
+use sl_machine::{LockTable, no_effects};
+use sl_run::{Event, Refusal};
+use sl_text::Bytes;
+use std::alloc::AllocError;
+
+/// Why an event isn't applied.
+#[derive(Drop)]
+pub enum ApplyError {
+    Refused(Refusal),
+    OutOfMemory,
+}
+
+impl<D: Daemon, L: LockTable> World<D, L> {
+    /// Whether the event is a command for lvmlockd's process.
+    fn is_for_locks(&self, event: &Event) -> bool
+        ensures { result ≡ bars_locks D.commands (kept_state L.locks self.now.kept) event.now }
+    {
+        match event {
+            Event::GiveCommand { machine: _, text } => {
+                D::is_for_locks(self.kept.header(), text.as_slice())
+            }
+            _ => false,
+        }
+    }
+
+    /// Why an event may not happen. An `Err` is want of memory, at a tear alone: whether its bytes spell something is told by the bytes.
+    /// Nothing that is seen changes.
+    pub fn refusal(&mut self, event: &Event) -> Result<Option<Refusal>, AllocError>
+        ensures exact { IfOk result (λ r. r ≡ refusal_in D.commands (kept_state L.locks self.old.kept) event.now) }
+        ensures total { OnErr result (is_tear event.now ≡ true) }
+        ensures same { IsSame (kept_state L.locks self.old.kept) self.old.hosts (kept_state L.locks self.new.kept) self.new.hosts }
+    {
+        let locks = self.is_for_locks(event);
+        self.kept.refusal(event, locks)
+    }
+
+    /// A write takes effect in part, which nothing refuses. An `Err` is want of memory.
+    fn tear_allowed(
+        &mut self,
+        machine: u32,
+        call: u64,
+        kept: u32,
+        bytes: &Bytes,
+    ) -> Result<(), AllocError>
+        requires { IsAllowed D.commands D.stands (kept_state L.locks self.old.kept) self.old.hosts (Tear machine call kept bytes.now) }
+        ensures ok { OnOk result (AllCome D.commands D.stands (kept_state L.locks self.old.kept) self.old.hosts (Tear machine call kept bytes.now) (kept_state L.locks self.new.kept) self.new.hosts no_effects) }
+        ensures err { OnErr result (IsSame (kept_state L.locks self.old.kept) self.old.hosts (kept_state L.locks self.new.kept) self.new.hosts) }
+    {
+        match self.tear(machine, call, kept, bytes)? {
+            Ok(()) => Ok(()),
+            Err(_) => Err(AllocError),
+        }
+    }
+
+    /// The event comes to pass; the answer is what is told of it. An `Err` is want of memory or of numbers.
+    fn happen(&mut self, event: Event) -> Result<StepTold, AllocError>
+        requires { IsAllowed D.commands D.stands (kept_state L.locks self.old.kept) self.old.hosts event }
+        ensures ok { IfOk result (ComesTold D.commands D.stands (kept_state L.locks self.old.kept) self.old.hosts event (kept_state L.locks self.new.kept) self.new.hosts) }
+        ensures err { OnErr result (IsSame (kept_state L.locks self.old.kept) self.old.hosts (kept_state L.locks self.new.kept) self.new.hosts) }
+    {
+        let alloc = *self.kept.machines.allocator();
+        match event {
+            Event::Pass { time, growths } => {
+                self.pass(time, &growths);
+                Ok(told_alone(no_effects(alloc)))
+            }
+            Event::WakeUp { machine } => self.wake(machine),
+            Event::GiveCommand { machine, text } => self.command(machine, text),
+            Event::GiveLvm { machine, line } => self.lvm_line(machine, line),
+            Event::GiveAsk { machine } => self.ask(machine),
+            Event::Sample {
+                machine,
+                call,
+                sectors,
+            } => {
+                self.sample(machine, call, sectors)?;
+                Ok(told_alone(no_effects(alloc)))
+            }
+            Event::Land { machine, call } => {
+                self.land(machine, call)?;
+                Ok(told_alone(no_effects(alloc)))
+            }
+            Event::Tear {
+                machine,
+                call,
+                kept,
+                bytes,
+            } => {
+                self.tear_allowed(machine, call, kept, &bytes)?;
+                Ok(told_alone(no_effects(alloc)))
+            }
+            Event::AnswerCall { machine, call, ok } => {
+                if ok {
+                    self.answer(machine, call)
+                } else {
+                    self.fail(machine, call)
+                }
+            }
+            Event::Do { machine, call } => self.do_call(machine, call),
+            Event::DropWrite { machine, call } => {
+                self.drop_write(machine, call);
+                Ok(told_alone(no_effects(alloc)))
+            }
+            Event::Test { machine } => {
+                self.test(machine);
+                Ok(told_alone(no_effects(alloc)))
+            }
+            Event::ExitOf { machine, process } => self.exit(machine, process),
+            Event::SpawnedOf {
+                machine,
+                process,
+                ok,
+            } => self.spawned(machine, process, ok),
+            Event::StartDaemon { machine, name } => {
+                self.start(machine, name)?;
+                Ok(told_alone(no_effects(alloc)))
+            }
+            Event::Crash { machine } => {
+                self.crash(machine);
+                Ok(told_alone(no_effects(alloc)))
+            }
+            Event::Reset { machine } => self.reset(machine),
+            Event::Restart { machine } => {
+                self.restart(machine);
+                Ok(told_alone(no_effects(alloc)))
+            }
+        }
+    }
+
+    /// An event comes to pass, unless something refuses it; the answer is what is told of it: the effects of its daemon or of the
+    /// machine itself, without the reply to an ask, and the reply to lvmlockd's line, if it has come. After an `Err`
+    /// nothing has changed that is seen.
+    pub fn apply(&mut self, event: Event) -> Result<StepTold, ApplyError>
+        requires { StandsForSome D.commands D.stands (kept_state L.locks self.old.kept) self.old.hosts }
+        ensures refused { (w : worlds.World) → WorldStands D.commands D.stands (kept_state L.locks self.old.kept) self.old.hosts w → (r : RefusalOf)
+            → events.refusal_of w event ≡ Some r → (result ≡ Err (ApplyError.Refused r)) ⊎ ((is_tear event ≡ true) × (result ≡ Err ApplyError.OutOfMemory)) }
+        ensures only { (w : worlds.World) → WorldStands D.commands D.stands (kept_state L.locks self.old.kept) self.old.hosts w → (r : RefusalOf)
+            → result ≡ Err (ApplyError.Refused r) → events.refusal_of w event ≡ Some r }
+        ensures ok { IfOk result (ComesTold D.commands D.stands (kept_state L.locks self.old.kept) self.old.hosts event (kept_state L.locks self.new.kept) self.new.hosts) }
+        ensures err { OnErr result (IsSame (kept_state L.locks self.old.kept) self.old.hosts (kept_state L.locks self.new.kept) self.new.hosts) }
+    {
+        match self.refusal(&event) {
+            Err(_) => Err(ApplyError::OutOfMemory),
+            Ok(Some(why)) => Err(ApplyError::Refused(why)),
+            Ok(None) => match self.happen(event) {
+                Ok(told) => Ok(told),
+                Err(_) => Err(ApplyError::OutOfMemory),
+            },
+        }
+    }
+}

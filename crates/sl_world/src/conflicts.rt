@@ -1,0 +1,149 @@
+//! How many grants of a step left a conflict.
+//!
+//! It is asked when the step is done: the grants of a step are the last that its machine holds, and the other machines hold what they held. Each grant
+//! costs a test of each two holdings of the world; where nothing is granted nothing is looked at. Nothing is allocated.
+
+ghost use Rattle.sl_machine.specs.Keeping.{kept_state};
+ghost use Rattle.sl_machine.specs.Machines.{machine_state};
+ghost use Rattle.sl_report.specs.Reports.{conflicts_after};
+ghost use Rattle.sl_run.specs.Conflicts as conflicts;
+ghost use Rattle.sl_trace.specs.Traces as traces;
+ghost use Rattle.sl_world.specs.Counting.{all_with, any_beside, any_there, conflicts_left, conflicts_with, holding, others_from};
+ghost use Rattle.std.specs.Prelude.{drop, length, map, take, ◌&&◌, ◌≡◌, ◌≤◌};
+
+use crate::world::World;
+use sl_daemon::Daemon;
+use sl_machine::{LockTable, Machine};
+use sl_trace::{Grant, Mode};
+
+/// Whether a mode is shared.
+fn is_shared(mode: Mode) -> bool
+    ensures { result ≡ traces.is_shared mode }
+{
+    match mode {
+        Mode::Exclusive => false,
+        Mode::Shared => true,
+    }
+}
+
+/// Whether two holdings conflict, each with its machine.
+fn conflict(machine: usize, held: &Grant, other: usize, with: &Grant) -> bool
+    ensures { result ≡ conflicts.conflicts (holding machine held.now) (holding other with.now) }
+{
+    let place = held.offset == with.offset && held.path == with.path;
+    let shared = is_shared(held.mode) && is_shared(with.mode);
+    let process = machine == other && held.process == with.process;
+    place && !shared && !process
+}
+
+/// Whether a holding conflicts with one of those of a machine.
+fn conflicts_there(machine: usize, held: &Grant, other: usize, theirs: &[Grant]) -> bool
+    ensures { result ≡ any_there (conflicts.conflicts (holding machine held.now)) other theirs.now }
+{
+    theirs
+        .iter()
+        .any(|with| conflict(machine, held, other, with))
+}
+
+/// Whether a holding conflicts with one of another machine than this.
+fn conflicts_beside<L: LockTable>(
+    machines: &[Machine<L>],
+    beside: usize,
+    machine: usize,
+    held: &Grant,
+) -> bool
+    ensures { result ≡ any_beside (conflicts.conflicts (holding machine held.now)) beside machines.now }
+{
+    machines.iter().enumerate().any(|(index, other)| {
+        index + 1 != beside && conflicts_there(machine, held, index + 1, &other.held)
+    })
+}
+
+/// Whether a holding conflicts with one of all, where one machine holds this.
+#[tactic(auto, using(crate::proofs::HeldThere::any_all))]
+fn conflicts_with_any<L: LockTable>(
+    machines: &[Machine<L>],
+    owner: usize,
+    mine: &[Grant],
+    machine: usize,
+    held: &Grant,
+) -> bool
+    ensures { result ≡ conflicts_with owner (map (machine_state L.locks) machines.now) mine.now (holding machine held.now) }
+{
+    conflicts_beside(machines, owner, machine, held) || conflicts_there(machine, held, owner, mine)
+}
+
+/// Whether one of these holdings of a machine conflicts with one of all, where one machine holds this.
+fn some_conflict<L: LockTable>(
+    machines: &[Machine<L>],
+    owner: usize,
+    mine: &[Grant],
+    machine: usize,
+    theirs: &[Grant],
+) -> bool
+    ensures { result ≡ any_there (conflicts_with owner (map (machine_state L.locks) machines.now) mine.now) machine theirs.now }
+{
+    theirs.iter().any(|held| conflicts_with_any(machines, owner, mine, machine, held))
+}
+
+/// Whether a holding of another machine than this conflicts with one of all, where this machine holds this.
+fn some_conflict_beside<L: LockTable>(machines: &[Machine<L>], owner: usize, mine: &[Grant]) -> bool
+    ensures { result ≡ any_beside (conflicts_with owner (map (machine_state L.locks) machines.now) mine.now) owner machines.now }
+{
+    machines.iter().enumerate().any(|(index, other)| {
+        index + 1 != owner && some_conflict(machines, owner, mine, index + 1, &other.held)
+    })
+}
+
+/// Whether two holdings conflict, where one machine holds this.
+#[tactic(auto, using(crate::proofs::HeldThere::any_all))]
+fn has_conflict<L: LockTable>(machines: &[Machine<L>], owner: usize, mine: &[Grant]) -> bool
+    ensures { result ≡ conflicts.has_conflict (all_with owner (map (machine_state L.locks) machines.now) mine.now) }
+{
+    some_conflict_beside(machines, owner, mine) || some_conflict(machines, owner, mine, owner, mine)
+}
+
+/// How many of the last grants of a machine left a conflict, given in turn behind the first.
+fn count_conflicts<L: LockTable>(
+    machines: &[Machine<L>],
+    owner: usize,
+    held: &[Grant],
+    first: usize,
+) -> u64
+    requires { first ≤ length held.now }
+    ensures { result ≡ conflicts_after (others_from 1 owner (map (machine_state L.locks) machines.now)) owner (take first held.now) (drop first held.now) }
+{
+    let mut count: u64 = 0;
+    let mut at = first;
+    while at < held.len() {
+        at += 1;
+        if has_conflict(machines, owner, &held[..at]) {
+            count += 1;
+        }
+    }
+    count
+}
+
+impl<D: Daemon, L: LockTable> World<D, L> {
+    /// How many of the last `granted` holdings of a machine left a conflict when they were granted, one behind the other.
+    #[tactic(auto, using(crate::proofs::HeldThere::left_at))]
+    pub fn conflicts_left(&self, machine: u32, granted: usize) -> u64
+        ensures { result ≡ conflicts_left (kept_state L.locks self.now.kept) machine granted }
+    {
+        if granted == 0 {
+            return 0;
+        }
+        match self.kept.machine(machine) {
+            None => 0,
+            Some(found) => {
+                let first = found.held.len().saturating_sub(granted);
+                count_conflicts(
+                    self.kept.machines.as_slice(),
+                    machine as usize,
+                    found.held.as_slice(),
+                    first,
+                )
+            }
+        }
+    }
+}

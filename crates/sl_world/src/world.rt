@@ -1,0 +1,73 @@
+//! The executed world, and how it gives a daemon an input.
+//!
+//! An input is given in three moves: room is taken for as much as the daemon says that its step makes at most, the daemon steps, and its
+//! effects are put away. The first and the second may want memory and then change nothing; the third can't fail. So an event either comes to pass whole, or
+//! nothing that is seen has changed.
+
+ghost use Rattle.sl_kept.specs.Kept.{MachineState, machine_in};
+ghost use Rattle.sl_machine.specs.Keeping.{kept_state};
+ghost use Rattle.sl_time.specs.Times.{reading_of};
+ghost use Rattle.sl_world.specs.Allowing.{LeavesAt, MayGive};
+ghost use Rattle.sl_world.specs.Giving.{IsSame};
+ghost use Rattle.sl_world.specs.Telling.{GivesTold};
+ghost use Rattle.std.specs.Prelude.{IfOk, OnErr, Some, true, ◌≡◌};
+
+use crate::hosts::Hosts;
+use sl_daemon::Daemon;
+use sl_locks::StepTold;
+use sl_machine::{Kept, LockTable, hear, lock_input_of};
+use sl_trace::Input;
+use std::alloc::{AllocError, Global};
+
+/// A world: what is kept, and the daemons that run.
+#[derive(Drop)]
+pub struct World<D: Daemon, L: LockTable> {
+    pub(crate) kept: Kept<L>,
+    pub(crate) hosts: Hosts<D>,
+}
+
+/// What a machine's clock shows; 0 where there is none.
+pub(crate) fn reading<L: LockTable>(kept: &Kept<L>, machine: u32) -> u64
+    ensures { (s : MachineState) → machine_in (kept_state L.locks kept.now) machine ≡ Some s → result ≡ reading_of s.clock }
+{
+    match kept.machine(machine) {
+        Some(found) => found.reading(),
+        None => 0,
+    }
+}
+
+/// How many numbers are kept back, so that a step has numbers for all that it makes.
+const LEFT: u64 = (1 << 63) - 2048;
+
+/// Whether numbers are left for a step on a machine.
+pub(crate) fn has_numbers<L: LockTable>(kept: &Kept<L>, machine: u32) -> bool
+    ensures { result ≡ true → LeavesAt (kept_state L.locks kept.now) machine }
+{
+    match kept.machine(machine) {
+        Some(found) => found.flights.next() < LEFT && found.job < LEFT,
+        None => false,
+    }
+}
+
+impl<D: Daemon, L: LockTable> World<D, L> {
+    /// The daemon of a machine takes a step at this input. An `Err` is want of memory or of numbers, and changes nothing that is seen.
+    pub(crate) fn give(&mut self, machine: u32, input: Input) -> Result<StepTold, AllocError>
+        requires { MayGive D.stands (kept_state L.locks self.old.kept) self.old.hosts machine input }
+        ensures ok { IfOk result (GivesTold D.stands D.makes (kept_state L.locks self.old.kept) self.old.hosts machine input (kept_state L.locks self.new.kept) self.new.hosts) }
+        ensures err { OnErr result (IsSame (kept_state L.locks self.old.kept) self.old.hosts (kept_state L.locks self.new.kept) self.new.hosts) }
+    {
+        let left = has_numbers(&self.kept, machine);
+        if !left {
+            return Err(AllocError);
+        }
+        let index = machine as usize - 1;
+        let now = reading(&self.kept, machine);
+        let most = self.hosts.most(index);
+        let heard = hear(&input);
+        let locks = lock_input_of(*self.kept.machines.allocator(), &input)?;
+        self.kept.reserve(machine, &most)?;
+        let effects = self.hosts.step(index, now, input)?;
+        let told = self.kept.step(machine, heard, locks, effects);
+        Ok(told)
+    }
+}
