@@ -1,12 +1,14 @@
 -- What is owed grows with what is promised: so what is owed of made runs is owed of sound ones, and of served ones.
 use Rattle.sl_report.specs.Headline.{FrontOf, HeadersAreGood, Promise, ReplayOf, SoundRun, In_events, In_header, MayHaveBeen, Of_events, Of_nothing, Of_report, is_whole_status}
+use Rattle.sl_report.specs.Host.{DueIsLawful}
 use Rattle.sl_report.specs.Languages.{Language}
 use Rattle.sl_run.specs.Headers.{IsHeader}
 use Rattle.sl_run.specs.Runs.{Happening}
 use Rattle.sl_run.specs.declared.header.Header.{Header}
+use Rattle.sl_sector.specs.Spelling.{IsDigest}
 use Rattle.sl_sound.proofs.Soundness.{made_runs_are_sound, sound_runs_are_served}
 use Rattle.sl_sound.specs.Made.{MadeRun, ServedRun}
-use Rattle.sl_sound.specs.Promises.{MadeReplaysAreSound, MadeReportsAreServed, SoundReplaysAreServed}
+use Rattle.sl_sound.specs.Promises.{DaemonsDoWhatIsDue, MadeReplaysAreServed, MadeReplaysAreSound, MadeReportsAreServed, SoundReplaysAreServed}
 use Rattle.sl_trace.specs.Traces.{Setting, Trace}
 use Rattle.std.specs.Int.{is_in_range}
 use Rattle.std.specs.Prelude.{Bool, IsTrue, List, MatchBool, false, true, ℕ}
@@ -54,7 +56,15 @@ pub sound_replays_are_served : SoundReplaysAreServed
 sound_replays_are_served lang good digest ended read written status headline =
     headline_by SoundRun ServedRun lang good (λ h xs header sound. sound_runs_are_served lang.program h xs header digest sound) ended read written status (is_whole_status status) headline
 
+served_grow : {D : Type 0} (stands : D → Setting → Trace → Type 0) → DaemonsDoWhatIsDue stands → DueIsLawful → (lang : Language) → IsDigest lang.program.digest
+    → Grows (λ p h xs. MadeRun stands p h xs) ServedRun lang
+served_grow stands does lawful lang digest h xs header made =
+    sound_runs_are_served lang.program h xs header digest (made_runs_are_sound stands does lawful lang.program h xs header digest made)
+
+pub made_replays_are_served : {D : Type 0} (stands : D → Setting → Trace → Type 0) → MadeReplaysAreServed stands
+made_replays_are_served {D} stands does lawful lang good digest ended read written status owed =
+    owed_by (λ p h xs. MadeRun stands p h xs) ServedRun lang good (served_grow stands does lawful lang digest) ended read written status (is_whole_status status) owed
+
 pub made_reports_are_served : {D : Type 0} (stands : D → Setting → Trace → Type 0) → MadeReportsAreServed stands
 made_reports_are_served {D} stands does lawful lang good digest source written status replay =
-    replay_grows (λ p h xs. MadeRun stands p h xs) ServedRun lang good
-    (λ h xs header made. sound_runs_are_served lang.program h xs header digest (made_runs_are_sound stands does lawful lang.program h xs header digest made)) source written status replay
+    replay_grows (λ p h xs. MadeRun stands p h xs) ServedRun lang good (served_grow stands does lawful lang digest) source written status replay

@@ -4,7 +4,7 @@ use Rattle.sl_due.specs.Due.{IsHostTrace}
 use Rattle.sl_run.specs.Runs.{EachDaemon}
 use Rattle.sl_run.specs.Safety.{LawfulRun, SafeRun, world_at}
 use Rattle.sl_safety.proofs.Value.Proven.{values_are_last}
-use Rattle.sl_safety.proofs.Whole.{lawful_runs_are_safe, volumes_exclude}
+use Rattle.sl_safety.proofs.Whole.{invariants_hold, lawful_runs_are_safe, volumes_exclude}
 use Rattle.sl_sound.proofs.Counting.{safe_runs_count_none}
 use Rattle.sl_sound.specs.Promises.{MadeRunsAreSound, SoundRunsAreServed}
 use Rattle.sl_trace.specs.Traces.{Setting, Trace}
@@ -41,4 +41,4 @@ sound_runs_are_served p h xs header digest sound =
       is_run = sound.is_run;
       lawful = λ d has. (sound.lawful d has).orderly;
     } in
-    record { sound = sound; values = values_are_last p h xs lawful; volumes = volumes_exclude p h xs lawful }
+    record { sound = sound; invariants = invariants_hold p h xs lawful; values = values_are_last p h xs lawful; volumes = volumes_exclude p h xs lawful }

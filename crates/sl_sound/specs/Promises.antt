@@ -51,6 +51,13 @@ SoundReplaysAreServed =
     (lang : Language) → HeadersAreGood lang → IsDigest lang.program.digest
     → (ended : Bool) (read written : List ℕ) (status : ℕ) → ReplayHeadline SoundRun lang ended read written status → ReplayHeadline ServedRun lang ended read written status
 
+-- .. and so is what is owed of made runs, whole or a front of it.
+abbrev pub MadeReplaysAreServed : {D : Type 0} → (D → Setting → Trace → Type 0) → Type 0
+MadeReplaysAreServed stands =
+    DaemonsDoWhatIsDue stands → DueIsLawful → (lang : Language) → HeadersAreGood lang → IsDigest lang.program.digest
+    → (ended : Bool) (read written : List ℕ) (status : ℕ) → ReplayOwed (λ p h xs. MadeRun stands p h xs) lang ended read written status
+    → ReplayOwed ServedRun lang ended read written status
+
 -- What is promised of a made run's whole report is so promised of a served one's.
 abbrev pub MadeReportsAreServed : {D : Type 0} → (D → Setting → Trace → Type 0) → Type 0
 MadeReportsAreServed stands =

@@ -7,13 +7,13 @@ use Rattle.sl_play_schedule.specs.Replaying.{IsOwed, Of_events, Of_header, Repor
 use Rattle.sl_play_schedule.specs.Replaying as play
 use Rattle.sl_play_schedule.specs.declared.replay.Played.TheVariants as played
 use Rattle.sl_play_schedule.specs.declared.replay.Played.{Played}
-use Rattle.sl_report.specs.Headline.{HeadersAreGood, MayHaveBeen, ReplayHeadline, ReplayOf, ReplayOwed, SoundRun, is_whole_status}
+use Rattle.sl_report.specs.Headline.{HeadersAreGood, MayHaveBeen, Of_nothing, ReplayHeadline, ReplayOf, ReplayOwed, SoundRun, is_whole_status}
 use Rattle.sl_report.specs.Languages.{Language, whole_language}
 use Rattle.sl_run_report.proofs.OneReport.{owed_is_headline, runs_have_one_report}
 use Rattle.sl_run_report.specs.Promises.{replay_status}
 use Rattle.sl_sector.proofs.WrittenBytes.{sha256_is_digest}
 use Rattle.sl_sector.specs.Spelling.{IsDigest}
-use Rattle.sl_sound.proofs.Owing.{made_replays_are_sound, made_reports_are_served, sound_replays_are_served}
+use Rattle.sl_sound.proofs.Owing.{made_replays_are_served, made_replays_are_sound, made_reports_are_served, sound_replays_are_served}
 use Rattle.sl_sound.specs.Made.{MadeRun, ServedRun}
 use Rattle.sl_sound.specs.Promises.{DaemonsDoWhatIsDue}
 use Rattle.sl_text.specs.Forms.{as_bytes}
@@ -83,6 +83,13 @@ sound_owed ended read written status owed =
     subst (λ l. ReplayOwed SoundRun l ended read written status) same_language
     (made_replays_are_sound Serves hosts_do due_is_lawful (played_language whole_commands) good_headers digest_of ended read written status owed)
 
+-- .. and served.
+served_owed : (ended : _) (read written : List ℕ) (status : ℕ) → ReplayOwed (λ p h xs. MadeRun Serves p h xs) (played_language whole_commands) ended read written status
+    → ReplayOwed ServedRun whole_language ended read written status
+served_owed ended read written status owed =
+    subst (λ l. ReplayOwed ServedRun l ended read written status) same_language
+    (made_replays_are_served Serves hosts_do due_is_lawful (played_language whole_commands) good_headers digest_of ended read written status owed)
+
 -- The status is the source's own.
 own_status : (ended : _) (read written : List ℕ) (status : ℕ) → ReplayOwed SoundRun whole_language ended read written status → IsTrue (is_whole_status status)
     → (source : List ℕ) → MayHaveBeen ended read source → status ≡ replay_status whole_language source
@@ -133,6 +140,8 @@ module _ (left after taken now : Option (List ℕ)) (faults later sink_faults si
         reads = o.moved.reads;
         at_end = o.moved.at_end;
         writes = o.moved.writes;
+        owed = subst (λ n. ReplayOwed ServedRun whole_language o.moved.ended o.moved.read o.moved.written n) (same_code p)
+            (served_owed o.moved.ended o.moved.read o.moved.written (play.code p) o.owed);
         headline = served_headline o.moved.ended o.moved.read o.moved.written (code (status_of p)) owed;
         own = own_status o.moved.ended o.moved.read o.moved.written (code (status_of p)) owed;
         to_end = λ e. o.to_end (done_is p e);
@@ -167,6 +176,7 @@ unread left faults taken sink_faults =
       reads = nothing_read left;
       at_end = λ e. absurd cc;
       writes = nothing_put taken;
+      owed = (refl, λ source may. Of_nothing refl);
       headline = (refl, λ source may. (_, refl));
       own = λ tells source may. (let no : false ≡ true = tells in absurd cc);
       to_end = λ e. absurd cc;

@@ -7,7 +7,7 @@ use Rattle.sl_direct.specs.Actions.{Directs, path_of}
 use Rattle.sl_direct.specs.declared.action.Action.{Action}
 use Rattle.sl_direct.specs.declared.action.Directed.{Directed}
 use Rattle.sl_play_schedule.specs.Replaying.{ReportsComplete}
-use Rattle.sl_report.specs.Headline.{IsFrontOf, MayHaveBeen, ReplayHeadline, is_whole_status}
+use Rattle.sl_report.specs.Headline.{IsFrontOf, MayHaveBeen, ReplayHeadline, ReplayOwed, is_whole_status}
 use Rattle.sl_report.specs.Languages.{whole_language}
 use Rattle.sl_run_report.specs.Promises.{replay_status}
 use Rattle.sl_sound.specs.Made.{ServedRun}
@@ -52,7 +52,10 @@ pub record Replays (left after : Option (List ℕ)) (faults later : ℕ) (taken 
   pub reads : Consumes left after read
   pub at_end : IsTrue ended → IsAtEnd after
   pub writes : Appends taken now written
-  -- the bytes written are the report of a run that is served: its daemons do what is due, it is lawful, and no two holdings conflict in it
+  -- the bytes written are the report of a run that is served: its daemons do what is due, it is lawful, and no two holdings conflict in it; or,
+  -- by the status, a front of it
+  pub owed : ReplayOwed ServedRun whole_language ended read written (code s)
+  -- that report is the one that the plain program computes of the source
   pub headline : ReplayHeadline ServedRun whole_language ended read written (code s)
   -- a status that tells of a whole report is the source's own
   pub own : IsTrue (is_whole_status (code s)) → (source : List ℕ) → MayHaveBeen ended read source → code s ≡ replay_status whole_language source
