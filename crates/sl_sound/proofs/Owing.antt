@@ -46,15 +46,15 @@ made_replays_are_sound {D} stands does lawful lang good digest ended read writte
 
 -- ---- what is served
 
-headline_by : (less more : Promise) (lang : Language) → HeadersAreGood lang → Grows less more lang → (ended : Bool) (read written : List ℕ) (status : ℕ) (whole : Bool) {Front : Type 0}
+headline_by : (less more : Promise) (lang : Language) → HeadersAreGood lang → Grows less more lang → (ended : Bool) (read written : List ℕ) (status : ℕ) (whole : Bool) (Front : Type 0)
     → MatchBool whole ((source : List ℕ) → MayHaveBeen ended read source → ReplayOf less lang source written status) Front
     → MatchBool whole ((source : List ℕ) → MayHaveBeen ended read source → ReplayOf more lang source written status) Front
-headline_by less more lang good grows ended read written status true owed = λ source may. replay_grows less more lang good grows source written status (owed source may)
-headline_by less more lang good grows ended read written status false owed = owed
+headline_by less more lang good grows ended read written status true Front owed = λ source may. replay_grows less more lang good grows source written status (owed source may)
+headline_by less more lang good grows ended read written status false Front owed = owed
 
 pub sound_replays_are_served : SoundReplaysAreServed
 sound_replays_are_served lang good digest ended read written status headline =
-    headline_by SoundRun ServedRun lang good (λ h xs header sound. sound_runs_are_served lang.program h xs header digest sound) ended read written status (is_whole_status status) headline
+    headline_by SoundRun ServedRun lang good (λ h xs header sound. sound_runs_are_served lang.program h xs header digest sound) ended read written status (is_whole_status status) _ headline
 
 served_grow : {D : Type 0} (stands : D → Setting → Trace → Type 0) → DaemonsDoWhatIsDue stands → DueIsLawful → (lang : Language) → IsDigest lang.program.digest
     → Grows (λ p h xs. MadeRun stands p h xs) ServedRun lang
