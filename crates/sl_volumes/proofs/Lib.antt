@@ -1,0 +1,5 @@
+pub mod Turns
+pub mod Lines
+pub mod Jobs
+pub mod Standing
+pub mod Machines
