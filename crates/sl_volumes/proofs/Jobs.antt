@@ -1,15 +1,15 @@
 -- Numbers of jobs: each is below that of the next line, and what a number names stays.
-use Rattle.sl_plain.proofs.Lists.{contains_cases, contains_first, contains_more, contains_none, find_inside}
+use Rattle.sl_plain.proofs.Lists.{contains_cases, contains_first, contains_more, contains_none}
 use Rattle.sl_plain.proofs.Numbers.{less_is_other, number_itself}
 use Rattle.sl_trace.specs.Traces.{Job, Setting, Trace, job_in, job_numbered, jobs, next_job, numbers_taken}
 use Rattle.sl_trace.specs.declared.effects.Effects.{Effects}
 use Rattle.sl_trace.specs.declared.effects.Entry.{Entry}
 use Rattle.sl_trace.specs.declared.input.Input.TheVariants.{Answer as Heard, Exit, Line, Number, Spawned, Wake}
 use Rattle.sl_trace.specs.declared.input.Input.{Input}
-use Rattle.sl_words.proofs.CaseLaws.{none_some, true_is_false}
-use Rattle.std.proofs.Common.{ap, arith, inl, inr, refl, subst, sym, ◌∙◌}
+use Rattle.sl_words.proofs.CaseLaws.{none_some}
+use Rattle.std.proofs.Common.{ap, arith, inl, inr, subst, ◌∙◌}
 use Rattle.std.proofs.lemmas.List.{append-nil}
-use Rattle.std.specs.Prelude.{Bool, Contains, List, None, Option, Some, false, find, if◌then◌else◌, length, true, [], ℕ, ◌++◌, ◌+◌, ◌<◌, ◌==◌, ◌∷◌, ◌≡◌, ◌⊎◌}
+use Rattle.std.specs.Prelude.{Bool, Contains, List, None, Some, false, find, if◌then◌else◌, length, true, [], ℕ, ◌++◌, ◌+◌, ◌<◌, ◌==◌, ◌∷◌, ◌≡◌, ◌⊎◌}
 
 -- ---- lists
 

@@ -3,3 +3,8 @@ pub mod Lines
 pub mod Jobs
 pub mod Standing
 pub mod Machines
+pub mod Joins
+pub mod Asked
+pub mod Caused
+pub mod Fronts
+pub mod Taken

@@ -1,11 +1,11 @@
 -- Only the lock of a group has its value read or written by a line.
 use Rattle.sl_lvm.specs.LockNames.{Lock, group_lock}
-use Rattle.sl_lvm.specs.LvmLines.{Deactivates, Gives, Gives_writing, Informs, LvmLine, Starts, Stops, Takes, Takes_comparing, line_or, lvm_forms, lvm_line_in}
+use Rattle.sl_lvm.specs.LvmLines.{Gives_writing, LvmLine, Takes_comparing, line_or, lvm_forms, lvm_line_in}
 use Rattle.sl_text.specs.Forms.{Form, bad_column, fits_whole, made_by, words_of}
 use Rattle.sl_trace.specs.declared.effects.Mode.{Mode}
 use Rattle.sl_words.proofs.CaseLaws.{none_some, some_value}
-use Rattle.std.proofs.Common.{ap, refl, subst, sym, ◌∙◌}
-use Rattle.std.specs.Prelude.{Bool, Err, List, None, Ok, Option, Result, Some, false, find, if◌then◌else◌, option_map, true, [], ℕ, ◌∷◌, ◌≡◌}
+use Rattle.std.proofs.Common.{ap, refl, subst}
+use Rattle.std.specs.Prelude.{Bool, List, None, Ok, Option, Result, Some, false, find, if◌then◌else◌, option_map, true, [], ℕ, ◌∷◌, ◌≡◌}
 
 -- Each line that compares or writes names the lock of a group.
 abbrev IsOfGroup : LvmLine → Type 0

@@ -1,8 +1,7 @@
 -- What holds of the locks of each machine after each lawful run.
 use Rattle.sl_area.specs.Layouts.{layout_with}
-use Rattle.sl_run.specs.Events.{after_step, first_change, input_of, machine_of, next_step, number_of_step}
-use Rattle.sl_run.specs.Locks.{Locks, fresh_locks, locks_after}
-use Rattle.sl_run.specs.Reach.{AsksAreFew}
+use Rattle.sl_run.specs.Events.{after_step, first_change, next_step, number_of_step}
+use Rattle.sl_run.specs.Locks.{fresh_locks, locks_after}
 use Rattle.sl_run.specs.Runs.{Happening}
 use Rattle.sl_run.specs.Safety.{LawfulRun, world_at}
 use Rattle.sl_run.specs.Worlds.{Machine, Program, Stamp, World, machine_at, machine_of_header, stamp_now, world_with}
@@ -18,7 +17,7 @@ use Rattle.sl_volumes.proofs.Standing.{LocksHold, step_holds}
 use Rattle.sl_volumes.specs.Few.{AsksAreFewInRuns}
 use Rattle.sl_words.proofs.CaseLaws.{none_some}
 use Rattle.std.proofs.Common.{ap, refl, subst, sym, ◌∙◌}
-use Rattle.std.specs.Prelude.{List, Option, Some, ℕ, ◌++◌, ◌∷◌, ◌≡◌, ◌≤◌}
+use Rattle.std.specs.Prelude.{List, Some, ℕ, ◌≡◌, ◌≤◌}
 
 -- The locks of a machine in a world of this header.
 abbrev pub MachineHolds : Header → Machine → Type 0
@@ -34,6 +33,7 @@ fresh_hold h =
       fair = λ c is. absurd (none_some c is);
       runs = λ c is. absurd (none_some c is);
       asks = λ c text is due. absurd (none_some c is);
+      given = λ n is. absurd (none_some n is);
     }
 
 first_holds : (p : Program) (h : Header) (m : ℕ) → MachineHolds h (machine_of_header p (layout_with p.digest h.geometry) h m)

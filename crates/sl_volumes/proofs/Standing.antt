@@ -4,7 +4,7 @@ use Rattle.sl_lvm.specs.Lvm.{Acquiring, Course, Lvm, Moving, Reading, Releasing,
 use Rattle.sl_lvm.specs.LvmLines.{Gives_writing, LvmLine, Takes, Takes_comparing, lvm_line_in}
 use Rattle.sl_lvm.specs.declared.turn.LvmIn.TheVariants.{Ended, Line as TextLine, Reply as HostReply}
 use Rattle.sl_lvm.specs.declared.turn.LvmOut.{LvmOut}
-use Rattle.sl_run.specs.Locks.{Locks, Told, after_turn, ended_locks, is_lock_exit, locks_after, numbered_locks, replied_locks, turned_locks}
+use Rattle.sl_run.specs.Locks.{Locks, Told, after_turn, is_lock_exit, locks_after, numbered_locks, replied_locks, turned_locks}
 use Rattle.sl_text.specs.Forms.{spaced}
 use Rattle.sl_trace.specs.Commands.{command_words}
 use Rattle.sl_trace.specs.EffectTexts.{reply_text}
@@ -19,7 +19,7 @@ use Rattle.sl_trace.specs.declared.input.Input.{Input}
 use Rattle.sl_trace.specs.declared.reply.Reply.{Reply}
 use Rattle.sl_volumes.proofs.Lines.{compares_group, writes_group}
 use Rattle.sl_volumes.proofs.Turns.{Asks_again, Gave_up, HostTurn, Kept_on, LineTurn, Line_compares, Line_gives, Line_moves, Line_takes, Line_told, Line_writes, Moved, Read_none, Read_torn, Read_value, Took_lock, Took_to_read, Wrote_none, Wrote_value, line_turn, quiet_turn, reply_turn}
-use Rattle.sl_volumes.specs.Asks.{IsAskOf, IsFairCourse, IsNamedLock, asked_command}
+use Rattle.sl_volumes.specs.Asks.{IsAskOf, IsFairCourse}
 use Rattle.sl_plain.proofs.Numbers.{zero_least}
 use Rattle.sl_words.proofs.CaseLaws.{false_is_true, none_some, some_value}
 use Rattle.std.proofs.Common.{ap, arith, refl, subst, sym, ◌∙◌}
@@ -103,6 +103,8 @@ pub record LocksHold (area retries : ℕ) (k : Locks) : Type 0 where
   pub fair : (c : Course) → k.lvm.course ≡ Some c → IsFairCourse area retries c
   pub runs : (c : Course) → k.lvm.course ≡ Some c → is_some k.line ≡ true
   pub asks : (c : Course) (text : List ℕ) → k.lvm.course ≡ Some c → k.due ≡ Some text → IsAskOf area c text
+  -- an ask that was given is due no more
+  pub given : (n : ℕ) → k.asked ≡ Some n → k.due ≡ None
 
 -- Where an ask is made.
 asks_hold : (area retries : ℕ) (k : Locks) (m : Lvm) (c : Command) (course : Course) → m.area ≡ area → m.retries ≡ retries → is_some k.line ≡ true → IsFairCourse area retries course
@@ -114,6 +116,7 @@ asks_hold area retries k m c course size most line fair ask =
       fair = λ d is. subst (IsFairCourse area retries) (some_value course d is) fair;
       runs = λ d is. line;
       asks = λ d text is due. subst (λ y. IsAskOf area y text) (some_value course d is) (subst (IsAskOf area course) (some_value (spaced (command_words c)) text due) ask);
+      given = λ n is. absurd (none_some n is);
     }
 
 -- Where the line is answered.
@@ -125,6 +128,7 @@ tells_hold area retries k m text size most =
       fair = λ d is. absurd (none_some d is);
       runs = λ d is. absurd (none_some d is);
       asks = λ d t is due. absurd (none_some d is);
+      given = λ n is. absurd (none_some n is);
     }
 
 the_ask : (area : ℕ) (c d : Command) → Some c ≡ Some d → spaced (command_words c) ≡ spaced (command_words d)
@@ -167,9 +171,11 @@ line_holds area retries k text t h line (Line_takes l mode read is) =
     (λ d ask. sized area l mode k.lvm.area d h.area_is ask))
 line_holds area retries k text t h line (Line_compares l mode read is) =
     subst (λ (y : Lvm × LvmOut). LocksHold area retries (after_turn k y).0) (sym is)
-    (asks_hold area retries k k.lvm (Acquire (resource_of k.lvm.area l) (is_shared mode) lock_process false) (Acquiring l mode 0 true) h.area_is h.retries_are line
-    (zero_least retries, (text, Takes_comparing l mode, named area k.lvm.area text (Takes_comparing l mode) read h.area_is, refl),
-    λ yes. compares_group k.lvm.area text l mode read)
+    (asks_hold area retries k k.lvm (Acquire (resource_of k.lvm.area l) (is_shared mode) lock_process false) (Acquiring l mode 0 true) h.area_is h.retries_are line (
+      zero_least retries,
+      (text, Takes_comparing l mode, named area k.lvm.area text (Takes_comparing l mode) read h.area_is, refl),
+      λ yes. compares_group k.lvm.area text l mode read,
+    )
     (λ d ask. sized area l mode k.lvm.area d h.area_is ask))
 line_holds area retries k text t h line (Line_writes l read is) =
     subst (λ (y : Lvm × LvmOut). LocksHold area retries (after_turn k y).0) (sym is)
@@ -227,15 +233,27 @@ host_holds area retries k r c t h at (Kept_on l refused s was is) =
 
 -- ---- a whole step
 
+lvm_by : (number : ℕ) (k : Locks) (o : Option (List ℕ)) → (elim o as (λ x. Locks) [ None ↦ k | Some ask ↦ record k { asked = Some number; due = None } ]).lvm ≡ k.lvm
+lvm_by number k None = refl
+lvm_by number k (Some ask) = refl
+
+pub numbered_lvm : (number : ℕ) (i : Input) (k : Locks) → (numbered_locks number i k).lvm ≡ k.lvm
+numbered_lvm number (Number text) k = refl
+numbered_lvm number (Line text) k = lvm_by number k k.due
+numbered_lvm number (Heard n answer) k = refl
+numbered_lvm number Wake k = refl
+numbered_lvm number (Exit p) k = refl
+numbered_lvm number (Spawned p ok) k = refl
+
 -- With the step's number.
 lined : (area retries number : ℕ) (k : Locks) → LocksHold area retries k → LocksHold area retries (record k { line = Some number })
-lined area retries number k h = record { area_is = h.area_is; retries_are = h.retries_are; fair = h.fair; runs = λ c is. refl; asks = h.asks }
+lined area retries number k h = record { area_is = h.area_is; retries_are = h.retries_are; fair = h.fair; runs = λ c is. refl; asks = h.asks; given = h.given }
 
 given_by : (area retries number : ℕ) (k : Locks) (o : Option (List ℕ)) → LocksHold area retries k
     → LocksHold area retries (elim o as (λ x. Locks) [ None ↦ k | Some ask ↦ record k { asked = Some number; due = None } ])
 given_by area retries number k None h = h
 given_by area retries number k (Some ask) h =
-    record { area_is = h.area_is; retries_are = h.retries_are; fair = h.fair; runs = h.runs; asks = λ c text is none. absurd (none_some text none) }
+    record { area_is = h.area_is; retries_are = h.retries_are; fair = h.fair; runs = h.runs; asks = λ c text is none. absurd (none_some text none); given = λ n is. refl }
 
 pub numbered_hold : (area retries number : ℕ) (i : Input) (k : Locks) → LocksHold area retries k → LocksHold area retries (numbered_locks number i k)
 numbered_hold area retries number (Number text) k h = lined area retries number k h
@@ -257,7 +275,7 @@ turn_holds area retries number i fx k q h (Reply_given n a c t asked found at tu
 turn_holds area retries number i fx k q h (None_given same) = subst (λ (p : Locks × Told). LocksHold area retries p.0) (sym same) h
 
 if_ends : (area retries : ℕ) (k : Locks) (t : Bool) → LocksHold area retries k → LocksHold area retries (if t then emptied k else k)
-if_ends area retries k true h = record { area_is = h.area_is; retries_are = h.retries_are; fair = h.fair; runs = h.runs; asks = h.asks }
+if_ends area retries k true h = record { area_is = h.area_is; retries_are = h.retries_are; fair = h.fair; runs = h.runs; asks = h.asks; given = h.given }
 if_ends area retries k false h = h
 
 pub step_holds : (area retries number : ℕ) (i : Input) (fx : Effects) (k : Locks) → LocksHold area retries k → LocksHold area retries (locks_after number i fx k).0
