@@ -1,0 +1,10 @@
+pub mod Turns
+pub mod Lines
+pub mod Jobs
+pub mod Standing
+pub mod Machines
+pub mod Joins
+pub mod Asked
+pub mod Caused
+pub mod Fronts
+pub mod Taken

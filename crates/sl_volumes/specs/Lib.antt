@@ -1,0 +1,4 @@
+pub mod Few
+pub mod Asks
+pub mod Fitting
+pub mod Taken
