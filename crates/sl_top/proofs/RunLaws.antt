@@ -7,8 +7,9 @@ use Rattle.sl_play_schedule.specs.Replaying.{IsOwed, Of_events, Of_header, Repor
 use Rattle.sl_play_schedule.specs.Replaying as play
 use Rattle.sl_play_schedule.specs.declared.replay.Played.TheVariants as played
 use Rattle.sl_play_schedule.specs.declared.replay.Played.{Played}
-use Rattle.sl_report.specs.Headline.{HeadersAreGood, MayHaveBeen, Of_nothing, ReplayHeadline, ReplayOf, ReplayOwed, SoundRun, is_whole_status}
-use Rattle.sl_report.specs.Languages.{Language, whole_language}
+use Rattle.sl_report.specs.Headline.{FrontOf, HeadersAreGood, MayHaveBeen, Of_nothing, ReplayHeadline, ReplayOf, ReplayOwed, SoundRun, is_whole_status}
+use Rattle.sl_report.specs.Languages.{whole_language}
+use Rattle.sl_report.specs.Reports.{end_line}
 use Rattle.sl_run_report.proofs.OneReport.{owed_is_headline, runs_have_one_report}
 use Rattle.sl_run_report.specs.Promises.{replay_status}
 use Rattle.sl_sector.proofs.WrittenBytes.{sha256_is_digest}
@@ -21,7 +22,7 @@ use Rattle.sl_top.specs.Runs.{Replays}
 use Rattle.sl_top.specs.Statuses.{code, status_of}
 use Rattle.sl_top.specs.declared.status.Status.TheVariants.{Done, NoMemory, ReadFault, WriteFault}
 use Rattle.sl_top.specs.declared.status.Status.{Status}
-use Rattle.std.proofs.Common.{List, None, Option, Some, [], append-nil, refl, subst, sym, true, ℕ, ◌++◌, ◌≡◌}
+use Rattle.std.proofs.Common.{Bool, List, None, Option, Some, [], append-nil, refl, subst, sym, true, ℕ, ◌++◌, ◌∷◌, ◌≡◌}
 use Rattle.std.specs.Int.{is_in_range}
 use Rattle.std.specs.Io.KnownBytes.{Appends, Consumes}
 use Rattle.std.specs.Prelude.{IsTrue, MatchBool, false}
@@ -77,29 +78,35 @@ write_fault_is played.NoMemory e = absurd cc
 -- ---- what is owed
 
 -- What was made is sound.
-sound_owed : (ended : _) (read written : List ℕ) (status : ℕ) → ReplayOwed (λ p h xs. MadeRun Serves p h xs) (played_language whole_commands) ended read written status
+sound_owed : (ended : Bool) (read written : List ℕ) (status : ℕ) → ReplayOwed (λ p h xs. MadeRun Serves p h xs) (played_language whole_commands) ended read written status
     → ReplayOwed SoundRun whole_language ended read written status
 sound_owed ended read written status owed =
     subst (λ l. ReplayOwed SoundRun l ended read written status) same_language
     (made_replays_are_sound Serves hosts_do due_is_lawful (played_language whole_commands) good_headers digest_of ended read written status owed)
 
 -- .. and served.
-served_owed : (ended : _) (read written : List ℕ) (status : ℕ) → ReplayOwed (λ p h xs. MadeRun Serves p h xs) (played_language whole_commands) ended read written status
+served_owed : (ended : Bool) (read written : List ℕ) (status : ℕ) → ReplayOwed (λ p h xs. MadeRun Serves p h xs) (played_language whole_commands) ended read written status
     → ReplayOwed ServedRun whole_language ended read written status
 served_owed ended read written status owed =
     subst (λ l. ReplayOwed ServedRun l ended read written status) same_language
     (made_replays_are_served Serves hosts_do due_is_lawful (played_language whole_commands) good_headers digest_of ended read written status owed)
 
+-- All of the report, where the status tells of all.
+whole_report : (ended : Bool) (read written : List ℕ) (status : ℕ) (whole : Bool)
+    → MatchBool whole ((source : List ℕ) → MayHaveBeen ended read source → ReplayOf SoundRun whole_language source written status)
+    (IsTrue (is_in_range 3 5 status) × ((source : List ℕ) → MayHaveBeen ended read source → FrontOf SoundRun whole_language source written))
+    → IsTrue whole → (source : List ℕ) → MayHaveBeen ended read source → ReplayOf SoundRun whole_language source written status
+whole_report ended read written status true owed tells = owed
+whole_report ended read written status false owed tells = absurd cc
+
 -- The status is the source's own.
-own_status : (ended : _) (read written : List ℕ) (status : ℕ) → ReplayOwed SoundRun whole_language ended read written status → IsTrue (is_whole_status status)
+own_status : (ended : Bool) (read written : List ℕ) (status : ℕ) → ReplayOwed SoundRun whole_language ended read written status → IsTrue (is_whole_status status)
     → (source : List ℕ) → MayHaveBeen ended read source → status ≡ replay_status whole_language source
 own_status ended read written status owed tells source may =
-    let whole : MatchBool true ((one : List ℕ) → MayHaveBeen ended read one → ReplayOf SoundRun whole_language one written status)
-    (IsTrue (is_in_range 3 5 status) × ((one : List ℕ) → MayHaveBeen ended read one → _)) =
-    subst (λ b. MatchBool b ((one : List ℕ) → MayHaveBeen ended read one → ReplayOf SoundRun whole_language one written status) _) tells owed in
-    runs_have_one_report.status whole_language whole_headers source written status (whole source may)
+    runs_have_one_report.status whole_language whole_headers source written status
+    (whole_report ended read written status (is_whole_status status) owed tells source may)
 
-served_headline : (ended : _) (read written : List ℕ) (status : ℕ) → ReplayOwed SoundRun whole_language ended read written status
+served_headline : (ended : Bool) (read written : List ℕ) (status : ℕ) → ReplayOwed SoundRun whole_language ended read written status
     → ReplayHeadline ServedRun whole_language ended read written status
 served_headline ended read written status owed =
     sound_replays_are_served whole_language whole_headers sha256_is_digest ended read written status
@@ -109,8 +116,8 @@ served_headline ended read written status owed =
 served_lines : (lines written : List ℕ) → ReportsLines (λ p h xs. MadeRun Serves p h xs) (played_language whole_commands) lines written
     → ReportsLines ServedRun whole_language lines written
 served_lines lines written (Of_events k replay) =
-    Of_events k (subst (λ l. ReplayOf ServedRun l lines _ 0) same_language
-    (made_reports_are_served Serves hosts_do due_is_lawful (played_language whole_commands) good_headers digest_of lines _ 0 replay))
+    Of_events k (subst (λ l. ReplayOf ServedRun l lines (written ++ as_bytes (end_line k ∷ [])) 0) same_language
+    (made_reports_are_served Serves hosts_do due_is_lawful (played_language whole_commands) good_headers digest_of lines (written ++ as_bytes (end_line k ∷ [])) 0 replay))
 served_lines lines written (Of_header ls r goes none) = Of_header ls r goes none
 
 served_complete : (read written : List ℕ) → ReportsComplete (λ p h xs. MadeRun Serves p h xs) (played_language whole_commands) read written

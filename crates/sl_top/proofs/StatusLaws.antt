@@ -11,7 +11,6 @@ use Rattle.sl_direct.specs.declared.action.Directed.{Directed}
 use Rattle.sl_report.specs.Headline.{MayHaveBeen, ReplayHeadline, is_whole_status}
 use Rattle.sl_report.specs.Languages.{whole_language}
 use Rattle.sl_run_report.proofs.OneReport.{accepted_schedules_end_well as accepted_runs}
-use Rattle.sl_run_report.specs.Followed.{IsAccepted}
 use Rattle.sl_run_report.specs.Promises.{replay_status}
 use Rattle.sl_sound.specs.Made.{ServedRun}
 use Rattle.sl_top.proofs.RunLaws.{whole_headers}
