@@ -21,28 +21,34 @@ use Rattle.std.proofs.Common.{ap, refl, subst, ◌∙◌}
 use Rattle.std.proofs.lemmas.List.{append_assoc}
 use Rattle.std.specs.Prelude.{Contains, List, Some, suc, ℕ, ◌++◌, ◌-◌, ◌≡◌}
 
-caused_before : (d e : Daemon) → DaemonGoes d e → IsCaused e.setting e.trace → IsCaused d.setting d.trace
-caused_before d e g law =
-    subst (λ st. IsCaused st d.trace) g.setting (each_entry-front (AnswersWell e.setting) g.trace.newer d.trace (subst (λ t. IsCaused e.setting t) g.trace.same law))
+-- What a trace keeps of what is said of a longer one.
+abbrev pub KeptByFronts : (Setting → Trace → Type 0) → Type 0
+KeptByFronts P = (st : Setting) (newer es : Trace) → P st (newer ++ es) → P st es
 
-pub caused_fronts : (p : Program) (h : Header) (now rest : List Happening) → IsRun (world_with p h) (now ++ rest) → EachDaemon IsCaused (world_at p h (now ++ rest))
-    → EachDaemon IsCaused (world_at p h now)
-caused_fronts p h now rest run each d has =
+front_before : (P : Setting → Trace → Type 0) → KeptByFronts P → (d e : Daemon) → DaemonGoes d e → P e.setting e.trace → P d.setting d.trace
+front_before P keeps d e g law = subst (λ st. P st d.trace) g.setting (keeps e.setting g.trace.newer d.trace (subst (λ t. P e.setting t) g.trace.same law))
+
+pub each_front : (P : Setting → Trace → Type 0) → KeptByFronts P → (p : Program) (h : Header) (now rest : List Happening) → IsRun (world_with p h) (now ++ rest)
+    → EachDaemon P (world_at p h (now ++ rest)) → EachDaemon P (world_at p h now)
+each_front P keeps p h now rest run each d has =
     let w : World = world_at p h now in
     let on = contains_flat daemons_on w.machines d has in
     let place = placed_at w.machines on.0 on.1 in
     let later = daemon_later p h now rest run (suc place.0) on.0 d (number_place w place.0 on.0 place.1) on.2 in
     let there = index (world_at p h (now ++ rest)) (suc place.0) later.machine later.at in
-    caused_before d later.daemon later.goes
+    front_before P keeps d later.daemon later.goes
     (each later.daemon (in_flat daemons_on (world_at p h (now ++ rest)).machines later.machine later.daemon
     (got_inside (world_at p h (now ++ rest)).machines (suc place.0 - 1) later.machine there.1) later.has))
+
+caused_front : KeptByFronts IsCaused
+caused_front st newer es h = each_entry-front (AnswersWell st) newer es h
 
 -- Each front of such a run is one.
 pub answered_front : (p : Program) (h : Header) (now rest : List Happening) → AnsweredRun p h (now ++ rest) → AnsweredRun p h now
 answered_front p h now rest r =
     record {
       run = fronts_are_lawful p h now rest r.run;
-      caused = caused_fronts p h now rest r.run.is_run r.caused;
+      caused = each_front IsCaused caused_front p h now rest r.run.is_run r.caused;
       reads = r.reads;
       fit = λ front more is. r.fit front (more ++ rest) (ap (λ xs. xs ++ rest) is ∙ append_assoc front more rest);
     }

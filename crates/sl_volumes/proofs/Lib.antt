@@ -8,3 +8,6 @@ pub mod Asked
 pub mod Caused
 pub mod Fronts
 pub mod Taken
+pub mod Due
+pub mod Names
+pub mod Reading

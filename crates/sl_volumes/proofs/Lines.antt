@@ -36,7 +36,7 @@ read_as x = Ok x
 ok_value : (x y : LvmLine) → read_as x ≡ read_as y → x ≡ y
 ok_value x y h = cc
 
-line_is : (o : Option LvmLine) (column : ℕ) (x : LvmLine) → line_or o column ≡ Ok x → o ≡ Some x
+pub line_is : (o : Option LvmLine) (column : ℕ) (x : LvmLine) → line_or o column ≡ Ok x → o ≡ Some x
 line_is None column x h = absurd cc
 line_is (Some y) column x h = ap (λ z. Some z) (ok_value y x h)
 

@@ -1,6 +1,9 @@
 //! What every lawful run promises of lvmlockd's locks.
 
+ghost use Rattle.sl_volumes.specs.Due.{DueCallsFit, DueRunsAreAnswered};
 ghost use Rattle.sl_volumes.specs.Few.{AsksAreFewInRuns};
+ghost use Rattle.sl_volumes.specs.Names.{LocksAreResources};
+ghost use Rattle.sl_volumes.specs.Reading.{LocksAreTakenWhenDue, WholeProgramReads};
 ghost use Rattle.sl_volumes.specs.Taken.{LocksAreTakenInRuns};
 
 /// An acquire is asked again for one line at most so often as the header has it.
@@ -11,4 +14,29 @@ pub fn asks_are_few()
 /// A lock that a line's ok reply says is taken is held by the daemon from then on, where replies have their causes.
 pub fn locks_are_taken()
     ensures { LocksAreTakenInRuns }
+{}
+
+/// A daemon that does what is due calls for a value where its job's command names one, and on that one.
+pub fn due_calls_fit()
+    ensures { DueCallsFit }
+{}
+
+/// So in a run of such daemons lvmlockd's locks are answered what they asked.
+pub fn due_runs_are_answered()
+    ensures { DueRunsAreAnswered }
+{}
+
+/// Each lock that a line names is a resource that a command may name.
+pub fn locks_are_resources()
+    ensures { LocksAreResources }
+{}
+
+/// The whole program reads each ask of the locks as the command that it spells.
+pub fn whole_program_reads()
+    ensures { WholeProgramReads }
+{}
+
+/// So a lock that a line takes is held from then on wherever its daemons do what is due.
+pub fn locks_are_taken_when_due()
+    ensures { LocksAreTakenWhenDue }
 {}
