@@ -1,2 +1,11 @@
 pub mod Counting
 pub mod Finding
+pub mod OfLines
+pub mod Taking
+pub mod Hosting
+pub mod Courses
+pub mod Instances
+pub mod Standing
+pub mod Lows
+pub mod Granted
+pub mod Made

@@ -1,2 +1,4 @@
 pub mod Open
 pub mod Starting
+pub mod Granted
+pub mod Made

@@ -22,6 +22,8 @@ use Rattle.sl_quiet.proofs.Along.Deciding.{course_decides}
 use Rattle.sl_quiet.proofs.Along.Leading.{course_ends}
 use Rattle.sl_quiet.proofs.Along.Calls.{call_there, of_the_job, CallThere}
 use Rattle.sl_due_law.proofs.Causes.CauseFactsHold.{entry_new}
+use Rattle.sl_due_law.proofs.Jobs.JobsAreNumbered.{command_stays}
+use Rattle.sl_trace.specs.declared.command.Command.TheVariants.{Acquire}
 use Rattle.sl_quiet.specs.Along.Leading.{GrantsNow, Hears, ShowsAt, decided_then}
 use Rattle.sl_run.specs.Quiet.{GrantsQuietly}
 use Rattle.sl_quiet.specs.Along.Answering.{CourseIsGranted, CourseIsQuiet, IsGrantedThere, heard_entry}
@@ -85,6 +87,7 @@ course_is_granted p h now x run well q stage line resource c quiet k to =
       daemon = with_entry e k.now c.daemon;
       at = (k.at, k.runs);
       place = length past;
+      command = command_stays st e past q.job (Acquire q.resource q.shared q.process q.persistent) (c.host).command;
       reply = reply_now past e q.job (record { at = length past; reply = Granted (q.leader.lver + 1) }) (c.host).runs grants.reply;
       grants = record {
         last = told;

@@ -295,10 +295,10 @@ still_room st past now ks rs ms gs s at early is =
 -- ---- all of it
 
 -- The trace before the input, by time alone.
-abbrev woken : Trace → ℕ → Trace
+abbrev pub woken : Trace → ℕ → Trace
 woken past now = stirred past now [] [] [] []
 
-joined_woken : (past : Trace) (now : ℕ) (s : Session) → is_joined (woken past now) s ≡ true → is_joined past s ≡ true
+pub joined_woken : (past : Trace) (now : ℕ) (s : Session) → is_joined (woken past now) s ≡ true → is_joined past s ≡ true
 joined_woken past now s = was_joined past now [] [] [] [] s (λ a there. absurd (contains_none a there))
 
 finds : (st : Setting) (past : Trace) (now : ℕ) (text : List ℕ) (r : ResourceArg) (shared : Bool) (p : ℕ) (persistent : Bool) (s : Session) → WholeTrace st past

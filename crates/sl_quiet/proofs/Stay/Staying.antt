@@ -64,7 +64,7 @@ call_by : (es : Trace) (e : Entry) (n : ℕ) (a : Answer) (m : Submitted) (b : B
 call_by es e n a m true = refl
 call_by es e n a m false = refl
 
-same_call : (es : Trace) (e : Entry) (n : ℕ) (a : Answer) (m : Submitted) → (answered_in es e n a m).call ≡ m.call
+pub same_call : (es : Trace) (e : Entry) (n : ℕ) (a : Answer) (m : Submitted) → (answered_in es e n a m).call ≡ m.call
 same_call es e n a m = call_by es e n a m (m.call.number == n)
 
 kept_by : (es : Trace) (e : Entry) (a : Answer) (m : Submitted) (b : Bool) → (b ≡ true → m.answer ≡ None → ⊥)

@@ -1,4 +1,5 @@
 -- A quiet event that answers the acquire's call: what the answer shows, and how the acquire goes on from it.
+use Rattle.sl_leases.specs.Jobs.{command_numbered}
 use Rattle.sl_quiet.specs.Along.Along.{Asked, OnCourse, Stage, stage_next}
 use Rattle.sl_quiet.specs.Along.Going.{IsHeard, IsLineOf, IsWellMade}
 use Rattle.sl_quiet.specs.Along.Leading.{Hears, ShowsAt}
@@ -6,9 +7,11 @@ use Rattle.sl_run.specs.Quiet.{GrantsQuietly, IsGrantedQuietly, QuietStep}
 use Rattle.sl_run.specs.Runs.{EachDaemon, Happening}
 use Rattle.sl_run.specs.Safety.{LawfulRun, world_at}
 use Rattle.sl_run.specs.Worlds.{Daemon, Machine, Program, World, machine_at, reading_now}
+use Rattle.sl_run.specs.declared.event.Event.TheVariants.{Crash, Reset}
 use Rattle.sl_run.specs.declared.header.Header.{Header}
 use Rattle.sl_run.specs.declared.header.ResourceLine.{ResourceLine}
 use Rattle.sl_trace.specs.Traces.{reply_to}
+use Rattle.sl_trace.specs.declared.command.Command.TheVariants.{Acquire}
 use Rattle.sl_trace.specs.declared.effects.Entry.{Entry}
 use Rattle.sl_trace.specs.declared.input.Input.TheVariants.{Answer as Told}
 use Rattle.sl_trace.specs.declared.reply.Reply.TheVariants.{Granted}
@@ -41,12 +44,19 @@ pub record IsGrantedThere (v : World) (q : Asked) : Type 0 where
   pub daemon : Daemon
   pub at : (machine_at v q.machine ≡ Some machine) × (machine.daemon ≡ Some daemon)
   pub place : ℕ
+  pub command : command_numbered daemon.setting daemon.trace q.job ≡ Some (Acquire q.resource q.shared q.process q.persistent)
   pub reply : reply_to daemon.trace q.job ≡ Some (record { at = place; reply = Granted (q.leader.lver + 1) })
   pub grants : GrantsQuietly daemon q.job place (q.leader.lver + 1) q.resource q.shared q.persistent q.process
 
 -- Or it is granted, after its last stage.
 abbrev pub CourseIsGranted : Type 0
 CourseIsGranted = OfAnswers (λ w v q stage c k. stage_next q.shared stage ≡ None → IsGrantedThere v q)
+
+-- The grant stays: the reply is given once, and a job that has its reply makes no other call.
+abbrev pub GrantsStay : Type 0
+GrantsStay =
+    (p : Program) (h : Header) (now : List Happening) (x : Happening) → LawfulRun p h (now ++ x ∷ []) → EachDaemon IsWellMade (world_at p h (now ++ x ∷ [])) → (q : Asked) → IsGrantedThere (world_at p h now) q
+    → (x.0 ≡ Crash q.machine → ⊥) → (x.0 ≡ Reset q.machine → ⊥) → IsGrantedThere (world_at p h (now ++ x ∷ [])) q
 
 -- While the acquire is at a call of its course it has no reply, and waits for an answer; once granted it has what is promised.
 pub record CourseIsQuiet : Type 0 where

@@ -4,10 +4,18 @@ use Rattle.sl_due.specs.DueLease.{read_area}
 use Rattle.sl_due.specs.Steps.{begin_step, seen, with_input}
 use Rattle.sl_law.specs.Lawful.{IsSetting}
 use Rattle.sl_leases.specs.Counts.{held_here, limit_met, may_act}
-use Rattle.sl_leases.specs.Leases.{open_on, spot_of}
+use Rattle.sl_leases.specs.Leases.{freed, known, lease_calls, open_on, spot_of}
 use Rattle.sl_quiet.specs.Step.Leading.{AsksQuietly, DoesAs, begun}
-use Rattle.sl_run.specs.Quiet.{QuietStart}
-use Rattle.sl_run.specs.Worlds.{World, reading_now}
+use Rattle.sl_quiet.specs.Along.Along.{Asked, OnCourse, Reads_area}
+use Rattle.sl_quiet.specs.Along.Going.{IsLineOf, IsWellMade}
+use Rattle.sl_run.specs.Events.{input_of, machine_of}
+use Rattle.sl_run.specs.Quiet.{QuietStart, QuietStep}
+use Rattle.sl_run.specs.Runs.{EachDaemon, Happening}
+use Rattle.sl_run.specs.Safety.{LawfulRun, world_at}
+use Rattle.sl_run.specs.Worlds.{Program, World, reading_now}
+use Rattle.sl_run.specs.declared.header.Header.{Header}
+use Rattle.sl_run.specs.declared.header.ResourceLine.{ResourceLine}
+use Rattle.sl_sector.specs.declared.sector.Block.{Block}
 use Rattle.sl_sessions.specs.Sessions.{is_active, session_named}
 use Rattle.sl_sessions.specs.declared.session.Session.{Session}
 use Rattle.sl_trace.specs.Traces.{Setting, Trace, next_job}
@@ -16,7 +24,7 @@ use Rattle.sl_trace.specs.declared.command.ResourceArg.{ResourceArg}
 use Rattle.sl_trace.specs.declared.effects.LeaseStep.TheVariants.{ReadArea}
 use Rattle.sl_trace.specs.declared.effects.Work.TheVariants.{ForJob}
 use Rattle.sl_trace.specs.declared.input.Input.TheVariants.{Line}
-use Rattle.std.specs.Prelude.{Bool, IsTrue, List, None, Ok, Some, [], false, ℕ, ◌≡◌}
+use Rattle.std.specs.Prelude.{Bool, IsTrue, List, None, Ok, Some, [], false, ℕ, ◌++◌, ◌+◌, ◌∷◌, ◌≡◌, ◌≤◌}
 
 -- What a daemon has where the line of a quiet acquire comes at this reading.
 pub record IsQuietBefore (st : Setting) (past : Trace) (now : ℕ) (text : List ℕ) (r : ResourceArg) (shared : Bool) (p : ℕ) (persistent : Bool) (s : Session) : Type 0 where
@@ -41,3 +49,39 @@ StartsReadTheArea =
     (w : World) (m : ℕ) (text : List ℕ) (r : ResourceArg) (shared : Bool) (p : ℕ) (q : QuietStart w m text r shared p) → IsSetting q.daemon.setting → IsHostTrace q.daemon.setting q.daemon.trace
     → DoesAs (due q.daemon.setting q.daemon.trace (reading_now q.machine) (Line text))
     (read_area q.session (spot_of r) (ForJob (next_job q.daemon.setting q.daemon.trace)) (ReadArea r.name) (with_input (Line text) (begun q.daemon.setting q.daemon.trace (reading_now q.machine))))
+
+-- The area is of a resource of the header, as a leader of these names stands there.
+abbrev pub StartsAreOfLines : Type 0
+StartsAreOfLines =
+    (p : Program) (h : Header) (xs : List Happening) → LawfulRun p h xs → EachDaemon IsWellMade (world_at p h xs) → (m n : ℕ) (text : List ℕ) (r : ResourceArg) (shared : Bool)
+    → QuietStart (world_at p h xs) m text r shared n → (line : ResourceLine) × IsLineOf h r line
+
+-- The own block that was submitted last, and what was freed, are of no later instance than the next, and nothing is accepted in that one.
+pub record IsLow (w : World) (m : ℕ) (text : List ℕ) (r : ResourceArg) (shared : Bool) (p : ℕ) (q : QuietStart w m text r shared p) : Type 0 where
+  pub own_low : (own : Block) → (known q.daemon.setting q.daemon.trace q.session (spot_of r)).own ≡ Some own → own.lver ≤ q.leader.lver + 1
+  pub unaccepted : (own : Block) → (known q.daemon.setting q.daemon.trace q.session (spot_of r)).own ≡ Some own → own.lver ≡ q.leader.lver + 1 → own.bal ≡ 0
+  pub freed_low : freed (lease_calls q.daemon.setting q.daemon.trace q.session (spot_of r)) ≤ q.leader.lver
+
+abbrev pub StartIsLow : Type 0
+StartIsLow =
+    (p : Program) (h : Header) (xs : List Happening) → LawfulRun p h xs → EachDaemon IsWellMade (world_at p h xs) → (m n : ℕ) (text : List ℕ) (r : ResourceArg) (shared : Bool) (line : ResourceLine) → IsLineOf h r line
+    → (q : QuietStart (world_at p h xs) m text r shared n) → IsLow (world_at p h xs) m text r shared n q
+
+-- The acquire that begins there.
+pub record IsAskedAt (w : World) (m : ℕ) (text : List ℕ) (r : ResourceArg) (shared : Bool) (p : ℕ) (start : QuietStart w m text r shared p) (q : Asked) : Type 0 where
+  pub machine : q.machine ≡ m
+  pub job : q.job ≡ next_job start.daemon.setting start.daemon.trace
+  pub process : q.process ≡ p
+  pub resource : q.resource ≡ r
+  pub mode : (q.shared ≡ shared) × (q.persistent ≡ start.persistent)
+  pub session : q.session ≡ start.session
+  pub leader : q.leader ≡ start.leader
+
+-- The event that brings the line makes the read of the area, and so begins the course.
+abbrev pub StartsBeginCourses : Type 0
+StartsBeginCourses =
+    (p : Program) (h : Header) (now : List Happening) (x : Happening) → LawfulRun p h (now ++ x ∷ []) → EachDaemon IsWellMade (world_at p h (now ++ x ∷ []))
+    → (m n : ℕ) (text : List ℕ) (r : ResourceArg) (shared : Bool) (line : ResourceLine) → IsLineOf h r line → (start : QuietStart (world_at p h now) m text r shared n) → IsLow (world_at p h now) m text r shared n start
+    → machine_of x.0 ≡ m → input_of (world_at p h now) x.0 ≡ Some (Line text)
+    → QuietStep (world_at p h now) x (world_at p h (now ++ x ∷ [])) m (next_job start.daemon.setting start.daemon.trace) r shared n start.session.number
+    → (q : Asked) × IsAskedAt (world_at p h now) m text r shared n start q × OnCourse (world_at p h (now ++ x ∷ [])) q Reads_area

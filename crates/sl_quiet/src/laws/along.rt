@@ -5,7 +5,7 @@
 //! stays on its course until it is granted.
 
 ghost use Rattle.sl_quiet.specs.Along.Along.{AreasShowOwn, OthersKeepCourse};
-ghost use Rattle.sl_quiet.specs.Along.Answering.{AnswersShow, CourseComesOn, CourseIsGranted, CourseIsQuiet};
+ghost use Rattle.sl_quiet.specs.Along.Answering.{AnswersShow, CourseComesOn, CourseIsGranted, CourseIsQuiet, GrantsStay};
 ghost use Rattle.sl_quiet.specs.Along.Events.{DaemonsRunOn};
 ghost use Rattle.sl_quiet.specs.Along.Going.{AreaGoesOn, CourseGoesOn, LandingsGoOn};
 ghost use Rattle.sl_quiet.specs.Along.Leading.{CourseDecides, CourseEnds, CourseLeads};
@@ -64,6 +64,11 @@ pub fn answers_show()
 /// After the last stage it grants the acquire, by so many calls as it needs.
 pub fn course_is_granted()
     ensures { CourseIsGranted }
+{}
+
+/// The grant stays: the reply is given once, and a job that has its reply makes no other call.
+pub fn grants_stay()
+    ensures { GrantsStay }
 {}
 
 /// While the acquire is at a call it waits for an answer, without a reply; granted it has what is promised.

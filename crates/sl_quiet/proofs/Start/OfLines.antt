@@ -1,0 +1,98 @@
+-- A leader stands on the areas of resources alone.
+use Rattle.sl_area.specs.Layouts.{record_in}
+use Rattle.sl_area.specs.Places.{in_area, is_base, leader_offset}
+use Rattle.sl_law.specs.Lawful.{IsSetting}
+use Rattle.sl_plain.proofs.Lists.{contains_first}
+use Rattle.sl_quiet.proofs.Along.Going.{made_well}
+use Rattle.sl_quiet.specs.Along.Going.{IsLineOf}
+use Rattle.sl_quiet.specs.Start.Starting.{StartsAreOfLines}
+use Rattle.sl_id_safety.proofs.Owning.{HasTop, newest_stands}
+use Rattle.sl_run.specs.Safety.{world_at}
+use Rattle.sl_run.specs.Worlds.{Landing, World, content, first_landing, history_of}
+use Rattle.sl_run.specs.declared.header.ResourceLine.{ResourceLine}
+use Rattle.sl_run_law.proofs.Course.Distinct.{running_has}
+use Rattle.sl_run_law.proofs.Course.Made.{daemons_are_of_world}
+use Rattle.sl_run_law.proofs.Place.Areas.{is_base_aligned, resource_aligned, same_base}
+use Rattle.sl_run_law.proofs.Place.Beginnings.{In_resource as First_in_resource, In_lockspace as First_in_lockspace, IsInitial}
+use Rattle.sl_run_law.proofs.Place.Checks.{shows_its_id}
+use Rattle.sl_run_law.proofs.Place.Proven.{nothing_lands_elsewhere}
+use Rattle.sl_run_law.proofs.Place.Reading.{in_history}
+use Rattle.sl_run_law.proofs.Place.Seats.{initial_in, sized_in}
+use Rattle.sl_run_law.proofs.Place.Sizes.{IsSized}
+use Rattle.sl_quiet.proofs.Along.Areas.{leader_within}
+use Rattle.sl_run_law.specs.Place.Homes.{In_lockspace, In_resource, IsAtHome}
+use Rattle.sl_sector.specs.Spelling.{leader_in}
+use Rattle.sl_sector.specs.declared.sector.Bad.{Bad}
+use Rattle.sl_sector.specs.declared.sector.Leader.{Leader}
+use Rattle.sl_sector.specs.declared.sector.Rec.TheVariants.{BlockIs, DeltaIs, LeaderIs, RequestIs, ValueIs}
+use Rattle.sl_sector.specs.declared.sector.Rec.{Rec}
+use Rattle.sl_trace.specs.declared.command.Command.TheVariants.{Acquire}
+use Rattle.sl_words.proofs.CaseLaws.{false_is_true, none_some, some_value}
+use Rattle.std.proofs.Common.{ap, inl, inr, refl, subst, sym, ◌∙◌}
+use Rattle.std.specs.Prelude.{Bool, Contains, Err, IsTrue, Ok, Result, Some, false, true, ℕ, ◌%◌, ◌≡◌, ◌⊎◌}
+
+-- What spells a leader.
+pub leader_in_is : (r : Result Rec Bad) (l : Leader) → leader_in r ≡ Some l → r ≡ Ok (LeaderIs l)
+leader_in_is (Ok (LeaderIs e)) l h = ap (λ x. Ok (LeaderIs x)) (some_value e l h)
+leader_in_is (Ok (DeltaIs e)) l h = absurd (none_some l h)
+leader_in_is (Ok (BlockIs e)) l h = absurd (none_some l h)
+leader_in_is (Ok (RequestIs e)) l h = absurd (none_some l h)
+leader_in_is (Ok (ValueIs e)) l h = absurd (none_some l h)
+leader_in_is (Err e) l h = absurd (none_some l h)
+
+abbrev is_leader_record : Rec → Bool
+is_leader_record (LeaderIs l) = true
+is_leader_record r = false
+
+pub starts_are_of_lines : StartsAreOfLines
+starts_are_of_lines p h xs run well m n text r shared q = by its.1 where
+  w : World
+  w = world_at p h xs
+
+  place : ℕ
+  place = leader_offset r.offset
+
+  setting : IsSetting (q.daemon).setting
+  setting = (made_well w m q.machine q.daemon well (q.runs).0 (q.runs).1).0
+
+  layout : ((q.daemon).setting).layout ≡ w.layout
+  layout = (daemons_are_of_world p h xs run m q.machine q.daemon (q.runs).0 (running_has q.machine q.daemon (q.runs).1)).layout
+
+  sized : IsSized h.geometry w.layout
+  sized = sized_in p h xs run
+
+  aligned : r.offset % (h.geometry).area ≡ 0
+  aligned = is_base_aligned w.layout r.offset sized (subst (λ g. IsTrue (is_base g r.offset)) layout ((setting.reads text (Acquire r shared n q.persistent) q.line).0).base)
+
+  inside : IsTrue (in_area w.layout r.offset r.offset)
+  inside = leader_within w.layout r.offset sized
+
+  top : HasTop (history_of w r.path place) (content w r.path place)
+  top = newest_stands w r.path place
+
+  its : (((top.top).path ≡ r.path) × ((top.top).offset ≡ place)) × (Contains w.landings top.top ⊎ (top.top ≡ first_landing w r.path place))
+  its = in_history w r.path place top.top (subst (λ ls. Contains ls top.top) (sym top.whole) (contains_first top.top top.below))
+
+  spells : record_in w.layout (top.top).bytes ≡ Ok (LeaderIs q.leader)
+  spells = ap (λ bs. record_in w.layout bs) (sym top.holds) ∙ leader_in_is (record_in w.layout (content w r.path place)) q.leader q.leader_spells
+
+  not_delta : (d : Rec) → LeaderIs q.leader ≡ d → is_leader_record d ≡ false → ⊥
+  not_delta d same other = false_is_true (sym other ∙ ap (λ x. is_leader_record x) (sym same))
+
+  found : (line : ResourceLine) → Contains h.resources line → line.path ≡ r.path → IsTrue (in_area w.layout line.offset r.offset) → (line : ResourceLine) × IsLineOf h r line
+  found line listed path within = (
+    line,
+    record { listed = listed; path = path; offset = same_base w.layout line.offset r.offset r.offset sized (resource_aligned h line run.header listed) aligned within inside },
+  )
+
+  landed : Contains w.landings top.top → IsAtHome h w top.top → (line : ResourceLine) × IsLineOf h r line
+  landed there (In_lockspace l listed path within) = (let d = shows_its_id p h xs run l listed top.top there path within (LeaderIs q.leader) spells in absurd (not_delta (DeltaIs d.0) d.1 refl))
+  landed there (In_resource line listed path within) = found line listed (sym path ∙ its.0.0) (subst (λ o. IsTrue (in_area w.layout line.offset o)) its.0.1 within)
+
+  first : IsInitial w.layout h r.path place (LeaderIs q.leader) → (line : ResourceLine) × IsLineOf h r line
+  first (First_in_lockspace l d listed path within few is names) = absurd (not_delta (DeltaIs d) is refl)
+  first (First_in_resource line listed path within is other fresh) = found line listed path within
+
+  by : Contains w.landings top.top ⊎ (top.top ≡ first_landing w r.path place) → (line : ResourceLine) × IsLineOf h r line
+  by (inl there) = landed there (nothing_lands_elsewhere p h xs run top.top there)
+  by (inr at_first) = first (initial_in p h xs run r.path place (LeaderIs q.leader) (subst (λ (l : Landing). record_in w.layout l.bytes ≡ Ok (LeaderIs q.leader)) at_first spells))
