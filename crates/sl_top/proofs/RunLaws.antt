@@ -1,5 +1,7 @@
--- What a replay owes: the run that was made is served, and what is written of it is the plain program's report.
+-- What a replay owes: the run that was made is as promised, and what is written of it is the plain program's report.
 use Rattle.sl_due_law.proofs.Due.{due_is_lawful}
+use Rattle.sl_headline.proofs.Promising.{made_replays_are_promised, made_reports_are_promised}
+use Rattle.sl_headline.specs.Promised.{IsPromised, PromisedRun}
 use Rattle.sl_header_law.proofs.Commands.{whole_language_may_play}
 use Rattle.sl_host_step.specs.Serving.{Serves, whole_commands}
 use Rattle.sl_play_schedule.proofs.Owing.{replays_are_owed}
@@ -10,12 +12,12 @@ use Rattle.sl_play_schedule.specs.declared.replay.Played.{Played}
 use Rattle.sl_report.specs.Headline.{FrontOf, HeadersAreGood, MayHaveBeen, Of_nothing, ReplayHeadline, ReplayOf, ReplayOwed, SoundRun, is_whole_status}
 use Rattle.sl_report.specs.Languages.{whole_language}
 use Rattle.sl_report.specs.Reports.{end_line}
-use Rattle.sl_run_report.proofs.OneReport.{owed_is_headline, runs_have_one_report}
+use Rattle.sl_run_report.proofs.OneReport.{runs_have_one_report}
 use Rattle.sl_run_report.specs.Promises.{replay_status}
 use Rattle.sl_sector.proofs.WrittenBytes.{sha256_is_digest}
 use Rattle.sl_sector.specs.Spelling.{IsDigest}
-use Rattle.sl_sound.proofs.Owing.{made_replays_are_served, made_replays_are_sound, made_reports_are_served, sound_replays_are_served}
-use Rattle.sl_sound.specs.Made.{MadeRun, ServedRun}
+use Rattle.sl_sound.proofs.Owing.{made_replays_are_sound}
+use Rattle.sl_sound.specs.Made.{MadeRun}
 use Rattle.sl_sound.specs.Promises.{DaemonsDoWhatIsDue}
 use Rattle.sl_text.specs.Forms.{as_bytes}
 use Rattle.sl_top.specs.Runs.{Replays}
@@ -84,12 +86,12 @@ sound_owed ended read written status owed =
     subst (λ l. ReplayOwed SoundRun l ended read written status) same_language
     (made_replays_are_sound Serves hosts_do due_is_lawful (played_language whole_commands) good_headers digest_of ended read written status owed)
 
--- .. and served.
-served_owed : (ended : Bool) (read written : List ℕ) (status : ℕ) → ReplayOwed (λ p h xs. MadeRun Serves p h xs) (played_language whole_commands) ended read written status
-    → ReplayOwed ServedRun whole_language ended read written status
-served_owed ended read written status owed =
-    subst (λ l. ReplayOwed ServedRun l ended read written status) same_language
-    (made_replays_are_served Serves hosts_do due_is_lawful (played_language whole_commands) good_headers digest_of ended read written status owed)
+-- .. and as it is promised.
+promised : (ended : Bool) (read written : List ℕ) (status : ℕ) → ReplayOwed (λ p h xs. MadeRun Serves p h xs) (played_language whole_commands) ended read written status
+    → IsPromised whole_language ended read written status
+promised ended read written status owed =
+    subst (λ l. IsPromised l ended read written status) same_language
+    (made_replays_are_promised Serves hosts_do due_is_lawful (played_language whole_commands) good_headers digest_of ended read written status owed)
 
 -- All of the report, where the status tells of all.
 whole_report : (ended : Bool) (read written : List ℕ) (status : ℕ) (whole : Bool)
@@ -106,30 +108,24 @@ own_status ended read written status owed tells source may =
     runs_have_one_report.status whole_language whole_headers source written status
     (whole_report ended read written status (is_whole_status status) owed tells source may)
 
-served_headline : (ended : Bool) (read written : List ℕ) (status : ℕ) → ReplayOwed SoundRun whole_language ended read written status
-    → ReplayHeadline ServedRun whole_language ended read written status
-served_headline ended read written status owed =
-    sound_replays_are_served whole_language whole_headers sha256_is_digest ended read written status
-    (owed_is_headline whole_language whole_headers ended read written status owed)
-
 -- Of the complete lines.
-served_lines : (lines written : List ℕ) → ReportsLines (λ p h xs. MadeRun Serves p h xs) (played_language whole_commands) lines written
-    → ReportsLines ServedRun whole_language lines written
-served_lines lines written (Of_events k replay) =
-    Of_events k (subst (λ l. ReplayOf ServedRun l lines (written ++ as_bytes (end_line k ∷ [])) 0) same_language
-    (made_reports_are_served Serves hosts_do due_is_lawful (played_language whole_commands) good_headers digest_of lines (written ++ as_bytes (end_line k ∷ [])) 0 replay))
-served_lines lines written (Of_header ls r goes none) = Of_header ls r goes none
+promised_lines : (lines written : List ℕ) → ReportsLines (λ p h xs. MadeRun Serves p h xs) (played_language whole_commands) lines written
+    → ReportsLines PromisedRun whole_language lines written
+promised_lines lines written (Of_events k replay) =
+    Of_events k (subst (λ l. ReplayOf PromisedRun l lines (written ++ as_bytes (end_line k ∷ [])) 0) same_language
+    (made_reports_are_promised Serves hosts_do due_is_lawful (played_language whole_commands) good_headers digest_of lines (written ++ as_bytes (end_line k ∷ [])) 0 replay))
+promised_lines lines written (Of_header ls r goes none) = Of_header ls r goes none
 
-served_complete : (read written : List ℕ) → ReportsComplete (λ p h xs. MadeRun Serves p h xs) (played_language whole_commands) read written
-    → ReportsComplete ServedRun whole_language read written
-served_complete read written c =
+promised_complete : (read written : List ℕ) → ReportsComplete (λ p h xs. MadeRun Serves p h xs) (played_language whole_commands) read written
+    → ReportsComplete PromisedRun whole_language read written
+promised_complete read written c =
     record {
       complete = c.complete;
       partial = c.partial;
       cut = c.cut;
       whole = c.whole;
       free = c.free;
-      report = served_lines c.complete written c.report;
+      report = promised_lines c.complete written c.report;
     }
 
 -- ---- a replay
@@ -140,6 +136,9 @@ module _ (left after taken now : Option (List ℕ)) (faults later sink_faults si
       let owed : ReplayOwed SoundRun whole_language o.moved.ended o.moved.read o.moved.written (code (status_of p)) =
       subst (λ n. ReplayOwed SoundRun whole_language o.moved.ended o.moved.read o.moved.written n) (same_code p)
       (sound_owed o.moved.ended o.moved.read o.moved.written (play.code p) o.owed) in
+      let all : IsPromised whole_language o.moved.ended o.moved.read o.moved.written (code (status_of p)) =
+      subst (λ n. IsPromised whole_language o.moved.ended o.moved.read o.moved.written n) (same_code p)
+      (promised o.moved.ended o.moved.read o.moved.written (play.code p) o.owed) in
       record {
         read = o.moved.read;
         ended = o.moved.ended;
@@ -147,12 +146,11 @@ module _ (left after taken now : Option (List ℕ)) (faults later sink_faults si
         reads = o.moved.reads;
         at_end = o.moved.at_end;
         writes = o.moved.writes;
-        owed = subst (λ n. ReplayOwed ServedRun whole_language o.moved.ended o.moved.read o.moved.written n) (same_code p)
-            (served_owed o.moved.ended o.moved.read o.moved.written (play.code p) o.owed);
-        headline = served_headline o.moved.ended o.moved.read o.moved.written (code (status_of p)) owed;
+        owed = all.owed;
+        headline = all.headline;
         own = own_status o.moved.ended o.moved.read o.moved.written (code (status_of p)) owed;
         to_end = λ e. o.to_end (done_is p e);
-        complete = λ e. served_complete o.moved.read o.moved.written (o.complete (read_fault_is p e));
+        complete = λ e. promised_complete o.moved.read o.moved.written (o.complete (read_fault_is p e));
         read_fault = λ e. o.read_fault (read_fault_is p e);
         write_fault = λ e. o.write_fault (write_fault_is p e);
       }

@@ -8,11 +8,11 @@ use Rattle.sl_direct.specs.declared.action.Action.TheVariants.{ReadLeader}
 use Rattle.sl_direct.specs.declared.action.Action.{Action}
 use Rattle.sl_direct.specs.declared.action.Directed.TheVariants as directed
 use Rattle.sl_direct.specs.declared.action.Directed.{Directed}
+use Rattle.sl_headline.specs.Promised.{PromisedRun}
 use Rattle.sl_report.specs.Headline.{MayHaveBeen, ReplayHeadline, is_whole_status}
 use Rattle.sl_report.specs.Languages.{whole_language}
 use Rattle.sl_run_report.proofs.OneReport.{accepted_schedules_end_well as accepted_runs}
 use Rattle.sl_run_report.specs.Promises.{replay_status}
-use Rattle.sl_sound.specs.Made.{ServedRun}
 use Rattle.sl_top.proofs.RunLaws.{whole_headers}
 use Rattle.sl_top.specs.Laws.{AcceptedSchedulesEndWell, CausesHaveStatuses, HasItsCause, IsNotTheLeader, NothingFailed, OthersAreRefused, StatusesHaveCauses, has_leader}
 use Rattle.sl_top.specs.Runs.{ActsOn, IsCutShort, IsWritten, Outside, PutsOut, Replays, bad_words_text}
@@ -63,9 +63,9 @@ bad_caused x y s put =
 -- ---- a replay
 
 -- No other status tells of a report.
-outside : (ended : Bool) (read written : List ℕ) (s t : Status) → ReplayHeadline ServedRun whole_language ended read written (code s) → s ≡ t
-    → (ReplayHeadline ServedRun whole_language ended read written (code t) → ⊥) → ⊥
-outside ended read written s t headline is never = never (subst (λ u. ReplayHeadline ServedRun whole_language ended read written (code u)) is headline)
+outside : (ended : Bool) (read written : List ℕ) (s t : Status) → ReplayHeadline PromisedRun whole_language ended read written (code s) → s ≡ t
+    → (ReplayHeadline PromisedRun whole_language ended read written (code t) → ⊥) → ⊥
+outside ended read written s t headline is never = never (subst (λ u. ReplayHeadline PromisedRun whole_language ended read written (code u)) is headline)
 
 replay_caused : (x y : Outside) (s : Status) → Replays x.left y.left x.source_faults y.source_faults x.taken y.taken x.sink_faults y.sink_faults s → HasItsCause (Some Replay) x y s
 replay_caused x y s run =

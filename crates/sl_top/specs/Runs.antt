@@ -10,7 +10,7 @@ use Rattle.sl_play_schedule.specs.Replaying.{ReportsComplete}
 use Rattle.sl_report.specs.Headline.{IsFrontOf, MayHaveBeen, ReplayHeadline, ReplayOwed, is_whole_status}
 use Rattle.sl_report.specs.Languages.{whole_language}
 use Rattle.sl_run_report.specs.Promises.{replay_status}
-use Rattle.sl_sound.specs.Made.{ServedRun}
+use Rattle.sl_headline.specs.Promised.{PromisedRun}
 use Rattle.sl_top.specs.Disks.{CountsBack, Disks, KeepsAllBut}
 use Rattle.sl_top.specs.Statuses.{code, status_after}
 use Rattle.sl_top.specs.declared.status.Status.TheVariants.{BadWords, Done, NoMemory, ReadFault, WriteFault}
@@ -52,17 +52,17 @@ pub record Replays (left after : Option (List ℕ)) (faults later : ℕ) (taken 
   pub reads : Consumes left after read
   pub at_end : IsTrue ended → IsAtEnd after
   pub writes : Appends taken now written
-  -- the bytes written are the report of a run that is served: its daemons do what is due, it is lawful, and no two holdings conflict in it; or,
-  -- by the status, a front of it
-  pub owed : ReplayOwed ServedRun whole_language ended read written (code s)
+  -- the bytes written are the report of a run as it is promised: its daemons do what is due, it is lawful, no two holdings conflict in it, and an
+  -- acquire that nothing stands in the way of is granted; or, by the status, a front of it
+  pub owed : ReplayOwed PromisedRun whole_language ended read written (code s)
   -- that report is the one that the plain program computes of the source
-  pub headline : ReplayHeadline ServedRun whole_language ended read written (code s)
+  pub headline : ReplayHeadline PromisedRun whole_language ended read written (code s)
   -- a status that tells of a whole report is the source's own
   pub own : IsTrue (is_whole_status (code s)) → (source : List ℕ) → MayHaveBeen ended read source → code s ≡ replay_status whole_language source
   -- at status 0 the source was read to its end
   pub to_end : s ≡ Done → ended ≡ true
   -- where a read failed, the report of the complete lines is written, and no more
-  pub complete : s ≡ ReadFault → ReportsComplete ServedRun whole_language read written
+  pub complete : s ≡ ReadFault → ReportsComplete PromisedRun whole_language read written
   -- a fault is told only where one was counted
   pub read_fault : s ≡ ReadFault → Rose faults later
   pub write_fault : s ≡ WriteFault → Rose sink_faults sink_later

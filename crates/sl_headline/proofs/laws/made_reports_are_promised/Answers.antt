@@ -1,0 +1,5 @@
+use Rattle.sl_headline.proofs.Promising.{made_reports_are_promised}
+use Rattle.sl_headline.proofs.laws.made_reports_are_promised.Goals as goal
+
+pub returns : goal.returns
+returns g c = made_reports_are_promised g.D.Daemon.stands
