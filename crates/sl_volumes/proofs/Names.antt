@@ -185,10 +185,10 @@ doubled_bytes [] h = refl
 doubled_bytes (c ∷ g) h =
     let both = and_true (is_name_byte c) (list_all is_name_byte g) h in
     by (c == 45) (doubled_bytes g both.1) (either (is_name_byte c) (c == 47) both.0) where
-  by : (t : Bool) → list_all is_path_byte (doubled g ++ codes "-lvmlock") ≡ true → is_path_byte c ≡ true
-      → list_all is_path_byte (((if t then 45 ∷ 45 ∷ [] else c ∷ []) ++ doubled g) ++ codes "-lvmlock") ≡ true
-  by true rest is = rest
-  by false rest is = both_true (is_path_byte c) (list_all is_path_byte (doubled g ++ codes "-lvmlock")) is rest
+      by : (t : Bool) → list_all is_path_byte (doubled g ++ codes "-lvmlock") ≡ true → is_path_byte c ≡ true
+          → list_all is_path_byte (((if t then 45 ∷ 45 ∷ [] else c ∷ []) ++ doubled g) ++ codes "-lvmlock") ≡ true
+      by true rest is = rest
+      by false rest is = both_true (is_path_byte c) (list_all is_path_byte (doubled g ++ codes "-lvmlock")) is rest
 
 room : (n k : ℕ) → n ≡ k + 8 → k ≤ 43 → nat_le (suc (suc (suc (suc (suc (suc (suc (suc (suc (suc (suc n))))))))))) 63 ≡ true
 room n k h less = grind (arith, nat_tests, h, less)
