@@ -5,3 +5,4 @@ pub mod Taken
 pub mod Due
 pub mod Names
 pub mod Reading
+pub mod Seen
