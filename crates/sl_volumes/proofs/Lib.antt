@@ -12,3 +12,4 @@ pub mod Due
 pub mod Names
 pub mod Reading
 pub mod Seen
+pub mod Once

@@ -85,7 +85,7 @@ new_by m r c t v (Wrote_none l was is) has = inl (others m l.group v (subst (λ 
 new_by m r c t v (Gave_up lock refused s was is) has = inl (subst (λ (y : Lvm × LvmOut). Contains y.0.seen v) is has)
 new_by m r c t v (Kept_on lock refused s was is) has = inl (subst (λ (y : Lvm × LvmOut). Contains y.0.seen v) is has)
 
-line_seen : (m : Lvm) (x : Result LvmLine ℕ) (t : Lvm × LvmOut) → LineTurn m x t → t.0.seen ≡ m.seen
+pub line_seen : (m : Lvm) (x : Result LvmLine ℕ) (t : Lvm × LvmOut) → LineTurn m x t → t.0.seen ≡ m.seen
 line_seen m x t (Line_told text is) = ap (λ (y : Lvm × LvmOut). y.0.seen) is
 line_seen m x t (Line_moves c is) = ap (λ (y : Lvm × LvmOut). y.0.seen) is
 line_seen m x t (Line_takes l mode read is) = ap (λ (y : Lvm × LvmOut). y.0.seen) is
@@ -93,7 +93,7 @@ line_seen m x t (Line_compares l mode read is) = ap (λ (y : Lvm × LvmOut). y.0
 line_seen m x t (Line_writes l read is) = ap (λ (y : Lvm × LvmOut). y.0.seen) is
 line_seen m x t (Line_gives l is) = ap (λ (y : Lvm × LvmOut). y.0.seen) is
 
-turn_lvm : (k : Locks) (m : Lvm) (o : LvmOut) → (after_turn k (m, o)).0.lvm ≡ m
+pub turn_lvm : (k : Locks) (m : Lvm) (o : LvmOut) → (after_turn k (m, o)).0.lvm ≡ m
 turn_lvm k m (Ask text) = refl
 turn_lvm k m (LineReply text) = refl
 turn_lvm k m Quiet = refl

@@ -6,3 +6,4 @@ pub mod Due
 pub mod Names
 pub mod Reading
 pub mod Seen
+pub mod Once

@@ -3,6 +3,7 @@
 ghost use Rattle.sl_volumes.specs.Due.{DueCallsFit, DueRunsAreAnswered};
 ghost use Rattle.sl_volumes.specs.Few.{AsksAreFewInRuns};
 ghost use Rattle.sl_volumes.specs.Names.{LocksAreResources};
+ghost use Rattle.sl_volumes.specs.Once.{VersionsAreKnownOnce};
 ghost use Rattle.sl_volumes.specs.Reading.{LocksAreTakenWhenDue, WholeProgramReads};
 ghost use Rattle.sl_volumes.specs.Seen.{VersionsWereTold};
 ghost use Rattle.sl_volumes.specs.Taken.{LocksAreTakenInRuns};
@@ -45,4 +46,9 @@ pub fn locks_are_taken_when_due()
 /// Each version of a group's value that the locks know was told them, by the host's reply to a read or a write of it that they asked.
 pub fn versions_were_told()
     ensures { VersionsWereTold }
+{}
+
+/// Of each group the locks know one version.
+pub fn versions_are_known_once()
+    ensures { VersionsAreKnownOnce }
 {}
