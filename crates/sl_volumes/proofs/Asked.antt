@@ -89,7 +89,8 @@ now_asked area retries st es now text fx k (Some ask) is holds same h =
       text,
       record { number = next_job st es; at = length es; reading = now; command = st.read text },
       subst (IsAskOf area c) (sym (same ask is)) (holds.asks c ask at is),
-      subst (λ m. job_numbered st (record { reading = now; input = Line text; effects = fx } ∷ es) m ≡ Some (record { number = next_job st es; at = length es; reading = now; command = st.read text }))
+      subst (λ m. job_numbered st (record { reading = now; input = Line text; effects = fx } ∷ es) m
+          ≡ Some (record { number = next_job st es; at = length es; reading = now; command = st.read text }))
           (some_value (next_job st es) n asked) (line_numbered st es now text fx),
       refl,
     )
@@ -98,7 +99,8 @@ now_asked area retries st es now text fx k (Some ask) is holds same h =
 abbrev pub GivesAsk : Input → Locks → Type 0
 GivesAsk i k = (text ask : List ℕ) → i ≡ Line text → k.due ≡ Some ask → text ≡ ask
 
-pub numbered_asked : (area retries : ℕ) (st : Setting) (es : Trace) (now : ℕ) (i : Input) (fx : Effects) (k : Locks) → LocksHold area retries k → GivesAsk i k → AskedHolds area st es k
+pub numbered_asked : (area retries : ℕ) (st : Setting) (es : Trace) (now : ℕ) (i : Input) (fx : Effects) (k : Locks) → LocksHold area retries k → GivesAsk i k
+    → AskedHolds area st es k
     → AskedHolds area st (record { reading = now; input = i; effects = fx } ∷ es) (numbered_locks (next_job st es) i k)
 numbered_asked area retries st es now (Line text) fx k holds gives h = now_asked area retries st es now text fx k k.due refl holds (λ ask is. gives text ask refl is) h
 numbered_asked area retries st es now (Number text) fx k holds gives h = still_asked area st (record { reading = now; input = Number text; effects = fx }) es k h
@@ -107,7 +109,8 @@ numbered_asked area retries st es now Wake fx k holds gives h = still_asked area
 numbered_asked area retries st es now (Exit p) fx k holds gives h = still_asked area st (record { reading = now; input = Exit p; effects = fx }) es k h
 numbered_asked area retries st es now (Spawned p ok) fx k holds gives h = still_asked area st (record { reading = now; input = Spawned p ok; effects = fx }) es k h
 
-turn_asked : (area : ℕ) (st : Setting) (es : Trace) (i : Input) (fx : Effects) (k : Locks) (q : Locks × Told) → LocksStep i fx k q → AskedHolds area st es k → AskedHolds area st es q.0
+turn_asked : (area : ℕ) (st : Setting) (es : Trace) (i : Input) (fx : Effects) (k : Locks) (q : Locks × Told) → LocksStep i fx k q → AskedHolds area st es k
+    → AskedHolds area st es q.0
 turn_asked area st es i fx k q (Line_given text t is turn same) h =
     subst (λ (p : Locks × Told). AskedHolds area st es p.0) (sym same) (λ c n at asked. absurd (line_asks_none k k.lvm _ t turn c n at asked))
 turn_asked area st es i fx k q (Reply_given n a c t asked found at turn same) h =
@@ -162,7 +165,8 @@ due_is_some o ask is none = true_is_false (sym (ap is_some is) ∙ none)
 line_given : (e : Event) (w : World) (a : Machine) (text ask : List ℕ) → may_happen w e ≡ true → machine_at w (machine_of e) ≡ Some a → input_at w e a ≡ Some (Line text)
     → a.locks.due ≡ Some ask → text ≡ ask
 unfolding event_tests
-line_given (GiveCommand m s) w a text ask may at h due = absurd (due_is_some a.locks.due ask due (no_or _ (is_some a.locks.due) (on_this w m _ a at (passes w (GiveCommand m s) may)).1.0))
+line_given (GiveCommand m s) w a text ask may at h due =
+    absurd (due_is_some a.locks.due ask due (no_or _ (is_some a.locks.due) (on_this w m _ a at (passes w (GiveCommand m s) may)).1.0))
 line_given (GiveAsk m) w a text ask may at h due =
     let s = then_value (λ t. if_running a (Line t)) a.locks.due (Line text) h in
     sym (given_text a s.0 text s.2) ∙ some_value s.0 ask (sym s.1 ∙ due)
@@ -242,7 +246,8 @@ number_is b d runs = ap (λ o. option_map_or (λ (x : Daemon). next_job x.settin
 took_asks : (h : Header) (now : Stamp) (i : Input) (fx : Effects) (b : Machine) (d : Daemon) → b.daemon ≡ Some d → MachineHolds h b → GivesAsk i b.locks → MachineAsks h b
     → MachineAsks h (after_step now i fx b)
 took_asks h now i fx b d runs holds gives k e is =
-    let entered : with_entry (entry_of i fx b) now d ≡ e = some_value (with_entry (entry_of i fx b) now d) e (sym (step_daemon now i fx b ∙ ap (option_map (with_entry (entry_of i fx b) now)) runs) ∙ is) in
+    let entered : with_entry (entry_of i fx b) now d ≡ e =
+    some_value (with_entry (entry_of i fx b) now d) e (sym (step_daemon now i fx b ∙ ap (option_map (with_entry (entry_of i fx b) now)) runs) ∙ is) in
     subst (λ (y : Daemon). AskedHolds h.geometry.area y.setting y.trace (after_step now i fx b).locks) entered
     (subst (AskedHolds h.geometry.area d.setting (entry_of i fx b ∷ d.trace)) (sym (step_locks now i fx b ∙ ap (λ n. (locks_after n i fx b.locks).0) (number_is b d runs)))
     (step_asked h.geometry.area h.retries d.setting d.trace (entry_of i fx b).reading i fx b.locks holds gives (k d runs)))

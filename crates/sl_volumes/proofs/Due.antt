@@ -4,28 +4,25 @@ use Rattle.sl_due_law.proofs.Due.{due_is_lawful}
 use Rattle.sl_due_law.proofs.Whole.TracesHold.{traces_hold}
 use Rattle.sl_due_law.specs.Facts.JobFacts.{FitsCommand, JobFacts}
 use Rattle.sl_due_law.specs.Whole.Kept.{Holds}
-use Rattle.sl_law.specs.Caused.{IsCaused}
 use Rattle.sl_law.specs.Lawful.{IsSetting}
 use Rattle.sl_leases.specs.Jobs.{command_numbered, command_of}
 use Rattle.sl_plain.proofs.Options.{some_of, then_value}
-use Rattle.sl_run.specs.Runs.{EachDaemon, Happening}
+use Rattle.sl_run.specs.Runs.{EachDaemon}
 use Rattle.sl_run.specs.Safety.{LawfulRun, world_at}
-use Rattle.sl_run.specs.Worlds.{Program}
-use Rattle.sl_run.specs.declared.header.Header.{Header}
 use Rattle.sl_sessions.specs.Sessions.{session_numbered}
 use Rattle.sl_sessions.specs.declared.session.Session.{Session}
 use Rattle.sl_trace.proofs.TraceFacts.{each_entry-front}
-use Rattle.sl_trace.specs.Traces.{FollowsTrace, Job, Setting, Submitted, Trace, job_numbered, job_of, submitted}
+use Rattle.sl_trace.specs.Traces.{FollowsTrace, Setting, Submitted, Trace, job_numbered, job_of, submitted}
 use Rattle.sl_trace.specs.declared.command.Command.TheVariants.{GetLvb, SetLvb}
 use Rattle.sl_trace.specs.declared.command.Command.{Command}
 use Rattle.sl_trace.specs.declared.effects.Purpose.TheVariants.{Joining, Lease, Leaving, Renewal, RequestRead, RequestWrite, SeeRequest, Survey, ValueRead, ValueWrite}
 use Rattle.sl_trace.specs.declared.effects.Purpose.{Purpose}
 use Rattle.sl_volumes.proofs.Fronts.{each_front}
 use Rattle.sl_volumes.specs.Due.{DueCallsFit, DueRunsAreAnswered}
-use Rattle.sl_volumes.specs.Fitting.{AnsweredRun, FitsValue, IsJobOf}
+use Rattle.sl_volumes.specs.Fitting.{FitsValue, IsJobOf}
 use Rattle.sl_words.proofs.CaseLaws.{none_some, some_value}
-use Rattle.std.proofs.Common.{ap, refl, subst, sym, ◌∙◌}
-use Rattle.std.specs.Prelude.{Contains, Err, List, None, Ok, Option, Result, Some, ℕ, ◌++◌, ◌≡◌}
+use Rattle.std.proofs.Common.{ap, refl, subst, ◌∙◌}
+use Rattle.std.specs.Prelude.{Contains, Err, None, Ok, Option, Result, Some, ℕ, ◌++◌, ◌≡◌}
 
 -- ---- commands
 

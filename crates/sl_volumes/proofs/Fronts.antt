@@ -64,7 +64,8 @@ on_machine P w m a d each at has = each d (in_flat daemons_on w.machines a d (go
 abbrev Reads : Program → Header → Daemon → Type 0
 Reads p h d = d.setting.read ≡ command_in (p.commands h)
 
-reads_kept : (p : Program) (h : Header) (now : List Happening) (x : Happening) (m : ℕ) (a c : Machine) → Goes_on p h now x m a c → Every (Reads p h) (daemons_on a) → Every (Reads p h) (daemons_on c)
+reads_kept : (p : Program) (h : Header) (now : List Happening) (x : Happening) (m : ℕ) (a c : Machine) → Goes_on p h now x m a c → Every (Reads p h) (daemons_on a)
+    → Every (Reads p h) (daemons_on c)
 reads_kept p h now x m a c g k =
     let w : World = world_at p h now in
     let goes = run_goes (world_with p h) now in
@@ -72,8 +73,10 @@ reads_kept p h now x m a c g k =
     ap (λ (q : Program). command_in (q.commands w.header)) goes.program ∙ ap (λ (y : Header). command_in (p.commands y)) goes.header in
     let b : Machine = g.becomes.middle in
     let before : Every (Reads p h) (daemons_on b) =
-    daemons_keep w m (Reads p h) a b (λ d new. ap (λ (y : Daemon). y.setting.read) new.is ∙ same) (λ d e s reading is. is) (turned_daemons w x.0 m a b g.settled g.becomes.turned) k in
-    daemons_keep w m (Reads p h) b c (λ d new. ap (λ (y : Daemon). y.setting.read) new.is ∙ same) (λ d e s reading is. is) (stepped_daemons w x.0 g.effects m b c g.becomes.stepped) before
+    daemons_keep w m (Reads p h) a b (λ d new. ap (λ (y : Daemon). y.setting.read) new.is ∙ same) (λ d e s reading is. is)
+    (turned_daemons w x.0 m a b g.settled g.becomes.turned) k in
+    daemons_keep w m (Reads p h) b c (λ d new. ap (λ (y : Daemon). y.setting.read) new.is ∙ same) (λ d e s reading is. is)
+    (stepped_daemons w x.0 g.effects m b c g.becomes.stepped) before
 
 pub daemon_reads : (p : Program) (h : Header) (xs : List Happening) → LawfulRun p h xs → (m : ℕ) (a : Machine) (d : Daemon) → machine_at (world_at p h xs) m ≡ Some a
     → Contains (daemons_on a) d → d.setting.read ≡ command_in (p.commands h)

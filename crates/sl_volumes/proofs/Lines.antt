@@ -21,7 +21,8 @@ AllMake P (f ∷ fs) = ((ws : List (List ℕ)) → P (f.make ws)) × AllMake P f
 made_so : (P : LvmLine → Type 0) (fs : List (Form LvmLine)) → AllMake P fs → (ws : List (List ℕ)) (x : LvmLine) → made_by fs ws ≡ Some x → P x
 made_so P [] all ws x h = absurd (none_some x h)
 made_so P (f ∷ fs) all ws x h = by (fits_whole f.words ws) (λ made. made_so P fs all.1 ws x made) h where
-  by : (t : Bool) → (made_by fs ws ≡ Some x → P x) → option_map (λ (g : Form LvmLine). g.make ws) (if t then Some f else find (λ (g : Form LvmLine). fits_whole g.words ws) fs) ≡ Some x → P x
+  by : (t : Bool) → (made_by fs ws ≡ Some x → P x)
+      → option_map (λ (g : Form LvmLine). g.make ws) (if t then Some f else find (λ (g : Form LvmLine). fits_whole g.words ws) fs) ≡ Some x → P x
   by true later made = subst P (some_value (f.make ws) x made) (all.0 ws)
   by false later made = later made
 

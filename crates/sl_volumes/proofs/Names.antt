@@ -1,14 +1,12 @@
 -- A lock that a line names is a resource that a command may name.
-use Rattle.sl_area.specs.Layouts.{IsGeometry, Sizes, layout_of}
-use Rattle.sl_lvm.specs.LockNames.{Lock, doubled, group_lockspace, group_path, is_group_name, is_volume_name, resource_of}
-use Rattle.sl_lvm.specs.LvmLines.{Deactivates, Gives, Gives_writing, Informs, LvmLine, Starts, Stops, Takes, Takes_comparing, is_area_word, is_volume_word, line_or, lvm_forms, lvm_line_in}
-use Rattle.sl_run.specs.Headers.{IsHeader}
-use Rattle.sl_run.specs.declared.header.Header.{Header}
+use Rattle.sl_area.specs.Layouts.{IsGeometry, Sizes}
+use Rattle.sl_lvm.specs.LockNames.{Lock, doubled, group_lockspace, group_path, is_group_name, is_volume_name}
+use Rattle.sl_lvm.specs.LvmLines.{Deactivates, Gives, Gives_writing, Informs, LvmLine, Starts, Stops, Takes, Takes_comparing, is_area_word, is_volume_word, lvm_forms, lvm_line_in}
 use Rattle.sl_text.specs.Forms.{Form, bad_column, exactly, fits_whole, fitting, made_by, pieces, word_at, words_of}
 use Rattle.sl_text.specs.Names.{is_name, is_name_byte, is_path}
 use Rattle.sl_text.specs.Numbers.{number_of}
 use Rattle.sl_volumes.proofs.Lines.{line_is}
-use Rattle.sl_volumes.specs.Asks.{IsNamedLock, lock_taken}
+use Rattle.sl_volumes.specs.Asks.{lock_taken}
 use Rattle.sl_volumes.specs.Names.{LocksAreResources}
 use Rattle.sl_words.proofs.CaseLaws.{false_is_true, none_some, some_value}
 use Rattle.sl_words.proofs.WordLaws.{and_true, or_true}
@@ -19,11 +17,12 @@ use Rattle.std.proofs.lemmas.List.Sums.{sum_by-cons}
 use Rattle.std.proofs.lemmas.List.{length-append}
 use Rattle.std.specs.Int.{is_in_range}
 use Rattle.std.specs.List.{list_all}
-use Rattle.std.specs.Prelude.{Bool, List, None, Ok, Option, Some, codes, cond, count_by, false, find, if◌then◌else◌, length, nat_le, nat_lt, option_map, slice_get, suc, true, zero, [], ℕ, ◌%◌, ◌&&◌, ◌*◌, ◌++◌, ◌+◌, ◌<◌, ◌==◌, ◌^◌, ◌||◌, ◌∷◌, ◌≡◌, ◌≤◌, ◌⊎◌}
+use Rattle.std.specs.Prelude.{Bool, List, Ok, Some, codes, cond, count_by, false, find, if◌then◌else◌, length, nat_le, nat_lt, option_map, slice_get, suc, true, zero, [], ℕ, ◌%◌, ◌&&◌, ◌*◌, ◌++◌, ◌+◌, ◌==◌, ◌^◌, ◌||◌, ◌∷◌, ◌≡◌, ◌≤◌, ◌⊎◌}
 
 -- ---- words that fit a form
 
-fits_parts : (t : Bool) (tests fit words : ℕ) → ((suc tests == suc words) && ((if t then 1 + fit else 0) == suc words)) ≡ true → (t ≡ true) × (((tests == words) && (fit == words)) ≡ true)
+fits_parts : (t : Bool) (tests fit words : ℕ) → ((suc tests == suc words) && ((if t then 1 + fit else 0) == suc words)) ≡ true
+    → (t ≡ true) × (((tests == words) && (fit == words)) ≡ true)
 fits_parts true tests fit words h = (refl, grind (arith, nat_tests))
 fits_parts false tests fit words h = absurd (grind (arith, nat_tests))
 
@@ -74,7 +73,8 @@ one_two = omega arith
 two_two : 2 ≤ 2
 two_two = omega arith
 
-group_word : (verb mode : List ℕ) (more : List (List ℕ → Bool)) (ws : List (List ℕ)) → fits_whole (exactly verb ∷ is_group_name ∷ exactly (codes "-m") ∷ exactly mode ∷ more) ws ≡ true
+group_word : (verb mode : List ℕ) (more : List (List ℕ → Bool)) (ws : List (List ℕ))
+    → fits_whole (exactly verb ∷ is_group_name ∷ exactly (codes "-m") ∷ exactly mode ∷ more) ws ≡ true
     → is_group_name (word_at ws 1) ≡ true
 group_word verb mode more ws fits = word_fits (exactly verb ∷ is_group_name ∷ exactly (codes "-m") ∷ exactly mode ∷ more) ws 1 is_group_name fits refl
 
@@ -84,7 +84,8 @@ activating area mode = exactly (codes "activate") ∷ is_volume_word ∷ exactly
 volume_words : (area : ℕ) (mode : List ℕ) (ws : List (List ℕ)) → fits_whole (activating area mode) ws ≡ true
     → FitsLock area (record { group = word_at (pieces 47 (word_at ws 1)) 0; name = word_at (pieces 47 (word_at ws 1)) 1; number = number_of (word_at ws 5) })
 volume_words area mode ws fits =
-    volume_fits area (word_at ws 1) (word_at ws 5) (word_fits (activating area mode) ws 1 is_volume_word fits refl) (word_fits (activating area mode) ws 5 (is_area_word area) fits refl)
+    volume_fits area (word_at ws 1) (word_at ws 5) (word_fits (activating area mode) ws 1 is_volume_word fits refl)
+    (word_fits (activating area mode) ws 5 (is_area_word area) fits refl)
 
 forms_fit : (area : ℕ) → AllFit (LineFits area) (lvm_forms area)
 unfolding lvm_forms

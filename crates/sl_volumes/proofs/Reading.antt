@@ -1,14 +1,13 @@
 -- The whole program reads each ask as the command that it spells: the text of a command is read as the command.
-use Rattle.sl_area.specs.Layouts.{Layout, layout_of}
+use Rattle.sl_area.specs.Layouts.{layout_of}
 use Rattle.sl_command.proofs.WrittenCommands.{command_of_text}
-use Rattle.sl_lvm.specs.LockNames.{Lock, resource_of}
+use Rattle.sl_lvm.specs.LockNames.{resource_of}
 use Rattle.sl_lvm.specs.Lvm.{Acquiring, Course, Moving, Reading, Releasing, Writing, lock_process}
 use Rattle.sl_run.specs.Headers.{IsHeader}
 use Rattle.sl_run.specs.Worlds.{whole_program}
 use Rattle.sl_run.specs.declared.header.Header.{Header}
 use Rattle.sl_run_law.proofs.Place.Sizes.{sized}
-use Rattle.sl_text.specs.Forms.{spaced}
-use Rattle.sl_trace.specs.Commands.{IsCommand, IsResourceArg, command_in, command_words, forms}
+use Rattle.sl_trace.specs.Commands.{IsCommand}
 use Rattle.sl_trace.specs.Traces.{is_shared}
 use Rattle.sl_trace.specs.declared.command.Command.TheVariants.{Acquire, GetLvb, SetLvb}
 use Rattle.sl_trace.specs.declared.command.Command.{Command}
@@ -19,7 +18,7 @@ use Rattle.sl_volumes.specs.Asks.{IsFairCourse, asked_command}
 use Rattle.sl_volumes.specs.Reading.{LocksAreTakenWhenDue, WholeProgramReads}
 use Rattle.sl_words.proofs.CaseLaws.{none_some, some_value}
 use Rattle.std.proofs.Common.{arith, refl, subst}
-use Rattle.std.specs.Prelude.{None, Ok, Some, false, [], ℕ, ◌<◌, ◌^◌, ◌∷◌, ◌≡◌, ◌≤◌}
+use Rattle.std.specs.Prelude.{Some, false, [], ℕ, ◌<◌, ◌^◌, ◌∷◌, ◌≡◌, ◌≤◌}
 
 few : (n : ℕ) → n ≤ 2000 → n < 2 ^ 64
 few n h = omega (arith, h)

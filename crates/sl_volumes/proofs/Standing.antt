@@ -76,7 +76,8 @@ pub record LocksAfter (number : ℕ) (i : Input) (fx : Effects) (k : Locks) : Ty
   pub same : (locks_after number i fx k).0 ≡ (if ends then emptied turn.0 else turn.0)
   pub told : (locks_after number i fx k).1 ≡ turn.1
 
-ended_by : (p : Locks × Told) (t : Bool) → elim t as (λ x. Locks × Told) [ false ↦ p | true ↦ ((after_turn p.0 (lvm_turn p.0.lvm Ended)).0, p.1) ] ≡ (if t then emptied p.0 else p.0, p.1)
+ended_by : (p : Locks × Told) (t : Bool)
+    → elim t as (λ x. Locks × Told) [ false ↦ p | true ↦ ((after_turn p.0 (lvm_turn p.0.lvm Ended)).0, p.1) ] ≡ (if t then emptied p.0 else p.0, p.1)
 unfolding lvm_turn
 ended_by p true = refl
 ended_by p false = refl
@@ -107,7 +108,8 @@ pub record LocksHold (area retries : ℕ) (k : Locks) : Type 0 where
   pub given : (n : ℕ) → k.asked ≡ Some n → k.due ≡ None
 
 -- Where an ask is made.
-asks_hold : (area retries : ℕ) (k : Locks) (m : Lvm) (c : Command) (course : Course) → m.area ≡ area → m.retries ≡ retries → is_some k.line ≡ true → IsFairCourse area retries course
+asks_hold : (area retries : ℕ) (k : Locks) (m : Lvm) (c : Command) (course : Course) → m.area ≡ area → m.retries ≡ retries → is_some k.line ≡ true
+    → IsFairCourse area retries course
     → IsAskOf area course (spaced (command_words c)) → LocksHold area retries (after_turn k (asks c course m)).0
 asks_hold area retries k m c course size most line fair ask =
     record {
@@ -160,7 +162,8 @@ named area size text x h same = subst (λ n. lvm_line_in n text ≡ Ok x) same h
 -- After the turn of a line.
 line_holds : (area retries : ℕ) (k : Locks) (text : List ℕ) (t : Lvm × LvmOut) → LocksHold area retries k → is_some k.line ≡ true
     → LineTurn k.lvm (lvm_line_in k.lvm.area text) t → LocksHold area retries (after_turn k t).0
-line_holds area retries k text t h line (Line_told told is) = subst (λ (y : Lvm × LvmOut). LocksHold area retries (after_turn k y).0) (sym is) (tells_hold area retries k k.lvm told h.area_is h.retries_are)
+line_holds area retries k text t h line (Line_told told is) =
+    subst (λ (y : Lvm × LvmOut). LocksHold area retries (after_turn k y).0) (sym is) (tells_hold area retries k k.lvm told h.area_is h.retries_are)
 line_holds area retries k text t h line (Line_moves c is) =
     subst (λ (y : Lvm × LvmOut). LocksHold area retries (after_turn k y).0) (sym is)
     (asks_hold area retries k k.lvm c Moving h.area_is h.retries_are line tt (λ d ask. no_ask (spaced (command_words c)) d ask))

@@ -202,7 +202,8 @@ area_is : (p : Program) (h : Header) (xs : List Happening) → (world_at p h xs)
 area_is p h xs = ap (λ (g : Layout). g.area) (layout_is p h xs)
 
 took : (p : Program) (h : Header) (now : List Happening) (x : Happening) (m : ℕ) (a c : Machine) → AnsweredRun p h (now ++ x ∷ []) → (g : Goes_on p h now x m a c) (i : Input)
-    → input_of (world_at p h now) x.0 ≡ Some i → m ≡ machine_of x.0 → c ≡ after_step (stamp_now (next_step (first_change x.0 (world_at p h now))) g.becomes.middle) i g.effects g.becomes.middle
+    → input_of (world_at p h now) x.0 ≡ Some i → m ≡ machine_of x.0
+    → c ≡ after_step (stamp_now (next_step (first_change x.0 (world_at p h now))) g.becomes.middle) i g.effects g.becomes.middle
     → (l : HeldLock) → Contains c.locks.lvm.held l → (Contains a.locks.lvm.held l → ⊥) → IsActiveVolume (world_at p h (now ++ x ∷ [])) c l.lock.group l.lock.number l.mode
 took p h now x m a c r g i has here is l there new =
     let w : World = world_at p h now in

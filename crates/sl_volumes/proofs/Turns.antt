@@ -198,7 +198,8 @@ host_turn m r (Reading l) = read m l r
 host_turn m r (Writing l) = wrote m l r
 host_turn m r (Releasing l refused) = released m l refused r (is_given_up r)
 
-host_by : (m : Lvm) (r : Reply) (c : Course) (o : Option Course) → m.course ≡ o → o ≡ Some c → HostTurn m r c (elim o as (λ x. Lvm × LvmOut) [ None ↦ (m, Quiet) | Some y ↦ goes_on_with m r y ])
+host_by : (m : Lvm) (r : Reply) (c : Course) (o : Option Course) → m.course ≡ o → o ≡ Some c
+    → HostTurn m r c (elim o as (λ x. Lvm × LvmOut) [ None ↦ (m, Quiet) | Some y ↦ goes_on_with m r y ])
 host_by m r c None is h = absurd (none_some c h)
 host_by m r c (Some y) is h = subst (λ z. HostTurn m r c (goes_on_with m r z)) (sym (some_value y c h)) (host_turn m r c)
 

@@ -5,3 +5,5 @@ pub mod Taken
 pub mod Due
 pub mod Names
 pub mod Reading
+pub mod Seen
+pub mod Once

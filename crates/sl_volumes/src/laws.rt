@@ -3,7 +3,9 @@
 ghost use Rattle.sl_volumes.specs.Due.{DueCallsFit, DueRunsAreAnswered};
 ghost use Rattle.sl_volumes.specs.Few.{AsksAreFewInRuns};
 ghost use Rattle.sl_volumes.specs.Names.{LocksAreResources};
+ghost use Rattle.sl_volumes.specs.Once.{VersionsAreKnownOnce};
 ghost use Rattle.sl_volumes.specs.Reading.{LocksAreTakenWhenDue, WholeProgramReads};
+ghost use Rattle.sl_volumes.specs.Seen.{VersionsWereTold};
 ghost use Rattle.sl_volumes.specs.Taken.{LocksAreTakenInRuns};
 
 /// An acquire is asked again for one line at most so often as the header has it.
@@ -39,4 +41,14 @@ pub fn whole_program_reads()
 /// So a lock that a line takes is held from then on wherever its daemons do what is due.
 pub fn locks_are_taken_when_due()
     ensures { LocksAreTakenWhenDue }
+{}
+
+/// Each version of a group's value that the locks know was told them, by the host's reply to a read or a write of it that they asked.
+pub fn versions_were_told()
+    ensures { VersionsWereTold }
+{}
+
+/// Of each group the locks know one version.
+pub fn versions_are_known_once()
+    ensures { VersionsAreKnownOnce }
 {}
