@@ -1,5 +1,5 @@
 pub mod Finishing
-mod Happening
+pub mod Happening
 pub mod Owing
 mod Playing
 mod Texts

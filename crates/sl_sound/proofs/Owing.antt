@@ -1,23 +1,21 @@
--- What is owed grows with what is promised: so what is owed of made runs is owed of sound ones, and of served ones.
+-- What is owed grows with what is promised: so what is owed of made runs is owed of sound ones.
 use Rattle.sl_report.specs.Headline.{FrontOf, HeadersAreGood, Promise, ReplayOf, SoundRun, In_events, In_header, MayHaveBeen, Of_events, Of_nothing, Of_report, is_whole_status}
-use Rattle.sl_report.specs.Host.{DueIsLawful}
 use Rattle.sl_report.specs.Languages.{Language}
 use Rattle.sl_run.specs.Headers.{IsHeader}
 use Rattle.sl_run.specs.Runs.{Happening}
 use Rattle.sl_run.specs.declared.header.Header.{Header}
-use Rattle.sl_sector.specs.Spelling.{IsDigest}
-use Rattle.sl_sound.proofs.Soundness.{made_runs_are_sound, sound_runs_are_served}
-use Rattle.sl_sound.specs.Made.{MadeRun, ServedRun}
-use Rattle.sl_sound.specs.Promises.{DaemonsDoWhatIsDue, MadeReplaysAreServed, MadeReplaysAreSound, MadeReportsAreServed, SoundReplaysAreServed}
+use Rattle.sl_sound.proofs.Soundness.{made_runs_are_sound}
+use Rattle.sl_sound.specs.Made.{MadeRun}
+use Rattle.sl_sound.specs.Promises.{MadeReplaysAreSound}
 use Rattle.sl_trace.specs.Traces.{Setting, Trace}
 use Rattle.std.specs.Int.{is_in_range}
 use Rattle.std.specs.Prelude.{Bool, IsTrue, List, MatchBool, false, true, ℕ}
 
 -- Each run of which the one is promised has the other too, for headers that a world may begin with.
-abbrev Grows : Promise → Promise → Language → Type 0
+abbrev pub Grows : Promise → Promise → Language → Type 0
 Grows less more lang = (h : Header) (xs : List Happening) → IsHeader h → less lang.program h xs → more lang.program h xs
 
-replay_grows : (less more : Promise) (lang : Language) → HeadersAreGood lang → Grows less more lang → (source written : List ℕ) (status : ℕ)
+pub replay_grows : (less more : Promise) (lang : Language) → HeadersAreGood lang → Grows less more lang → (source written : List ℕ) (status : ℕ)
     → ReplayOf less lang source written status → ReplayOf more lang source written status
 replay_grows less more lang good grows source written status (In_header number why read is) = In_header number why read is
 replay_grows less more lang good grows source written status (In_events h rest xs end read follows promised is told) =
@@ -31,7 +29,7 @@ front_grows less more lang good grows source written (Of_events h rest xs read f
 front_grows less more lang good grows source written (Of_report report status replay is) =
     Of_report report status (replay_grows less more lang good grows source report status replay) is
 
-owed_by : (less more : Promise) (lang : Language) → HeadersAreGood lang → Grows less more lang → (ended : Bool) (read written : List ℕ) (status : ℕ) (whole : Bool)
+pub owed_by : (less more : Promise) (lang : Language) → HeadersAreGood lang → Grows less more lang → (ended : Bool) (read written : List ℕ) (status : ℕ) (whole : Bool)
     → MatchBool whole ((source : List ℕ) → MayHaveBeen ended read source → ReplayOf less lang source written status)
     (IsTrue (is_in_range 3 5 status) × ((source : List ℕ) → MayHaveBeen ended read source → FrontOf less lang source written))
     → MatchBool whole ((source : List ℕ) → MayHaveBeen ended read source → ReplayOf more lang source written status)
@@ -43,28 +41,3 @@ pub made_replays_are_sound : {D : Type 0} (stands : D → Setting → Trace → 
 made_replays_are_sound {D} stands does lawful lang good digest ended read written status owed =
     owed_by (λ p h xs. MadeRun stands p h xs) SoundRun lang good (λ h xs header made. made_runs_are_sound stands does lawful lang.program h xs header digest made)
     ended read written status (is_whole_status status) owed
-
--- ---- what is served
-
-headline_by : (less more : Promise) (lang : Language) → HeadersAreGood lang → Grows less more lang → (ended : Bool) (read written : List ℕ) (status : ℕ) (whole : Bool) (Front : Type 0)
-    → MatchBool whole ((source : List ℕ) → MayHaveBeen ended read source → ReplayOf less lang source written status) Front
-    → MatchBool whole ((source : List ℕ) → MayHaveBeen ended read source → ReplayOf more lang source written status) Front
-headline_by less more lang good grows ended read written status true Front owed = λ source may. replay_grows less more lang good grows source written status (owed source may)
-headline_by less more lang good grows ended read written status false Front owed = owed
-
-pub sound_replays_are_served : SoundReplaysAreServed
-sound_replays_are_served lang good digest ended read written status headline =
-    headline_by SoundRun ServedRun lang good (λ h xs header sound. sound_runs_are_served lang.program h xs header digest sound) ended read written status (is_whole_status status) _ headline
-
-served_grow : {D : Type 0} (stands : D → Setting → Trace → Type 0) → DaemonsDoWhatIsDue stands → DueIsLawful → (lang : Language) → IsDigest lang.program.digest
-    → Grows (λ p h xs. MadeRun stands p h xs) ServedRun lang
-served_grow stands does lawful lang digest h xs header made =
-    sound_runs_are_served lang.program h xs header digest (made_runs_are_sound stands does lawful lang.program h xs header digest made)
-
-pub made_replays_are_served : {D : Type 0} (stands : D → Setting → Trace → Type 0) → MadeReplaysAreServed stands
-made_replays_are_served {D} stands does lawful lang good digest ended read written status owed =
-    owed_by (λ p h xs. MadeRun stands p h xs) ServedRun lang good (served_grow stands does lawful lang digest) ended read written status (is_whole_status status) owed
-
-pub made_reports_are_served : {D : Type 0} (stands : D → Setting → Trace → Type 0) → MadeReportsAreServed stands
-made_reports_are_served {D} stands does lawful lang good digest source written status replay =
-    replay_grows (λ p h xs. MadeRun stands p h xs) ServedRun lang good (served_grow stands does lawful lang digest) source written status replay

@@ -1,6 +1,6 @@
 -- What is promised of made runs, once daemons do what is due, and what is due is lawful.
 use Rattle.sl_due.specs.Due.{IsHostTrace}
-use Rattle.sl_report.specs.Headline.{HeadersAreGood, ReplayHeadline, ReplayOf, ReplayOwed, SoundRun}
+use Rattle.sl_report.specs.Headline.{HeadersAreGood, ReplayOwed, SoundRun}
 use Rattle.sl_report.specs.Host.{DueIsLawful}
 use Rattle.sl_report.specs.Languages.{Language}
 use Rattle.sl_report.specs.Reports.{no_counts, run_counts}
@@ -44,22 +44,3 @@ MadeReplaysAreSound stands =
     DaemonsDoWhatIsDue stands → DueIsLawful → (lang : Language) → HeadersAreGood lang → IsDigest lang.program.digest
     → (ended : Bool) (read written : List ℕ) (status : ℕ) → ReplayOwed (λ p h xs. MadeRun stands p h xs) lang ended read written status
     → ReplayOwed SoundRun lang ended read written status
-
--- .. and where the plain program's report is owed, of a sound run, it is owed of one that is served.
-abbrev pub SoundReplaysAreServed : Type 0
-SoundReplaysAreServed =
-    (lang : Language) → HeadersAreGood lang → IsDigest lang.program.digest
-    → (ended : Bool) (read written : List ℕ) (status : ℕ) → ReplayHeadline SoundRun lang ended read written status → ReplayHeadline ServedRun lang ended read written status
-
--- .. and so is what is owed of made runs, whole or a front of it.
-abbrev pub MadeReplaysAreServed : {D : Type 0} → (D → Setting → Trace → Type 0) → Type 0
-MadeReplaysAreServed stands =
-    DaemonsDoWhatIsDue stands → DueIsLawful → (lang : Language) → HeadersAreGood lang → IsDigest lang.program.digest
-    → (ended : Bool) (read written : List ℕ) (status : ℕ) → ReplayOwed (λ p h xs. MadeRun stands p h xs) lang ended read written status
-    → ReplayOwed ServedRun lang ended read written status
-
--- What is promised of a made run's whole report is so promised of a served one's.
-abbrev pub MadeReportsAreServed : {D : Type 0} → (D → Setting → Trace → Type 0) → Type 0
-MadeReportsAreServed stands =
-    DaemonsDoWhatIsDue stands → DueIsLawful → (lang : Language) → HeadersAreGood lang → IsDigest lang.program.digest
-    → (source written : List ℕ) (status : ℕ) → ReplayOf (λ p h xs. MadeRun stands p h xs) lang source written status → ReplayOf ServedRun lang source written status

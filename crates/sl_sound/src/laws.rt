@@ -1,6 +1,6 @@
 //! What is promised of made runs.
 
-ghost use Rattle.sl_sound.specs.Promises.{MadeReplaysAreServed, MadeReplaysAreSound, MadeReportsAreServed, MadeRunsAreSound, SafeRunsCountNone, SoundReplaysAreServed, SoundRunsAreServed};
+ghost use Rattle.sl_sound.specs.Promises.{MadeReplaysAreSound, MadeRunsAreSound, SafeRunsCountNone, SoundRunsAreServed};
 
 use sl_daemon::Daemon;
 
@@ -22,19 +22,4 @@ pub fn made_replays_are_sound<D: Daemon>()
 /// A sound run is a lawful one, so both invariants hold in it, values are the last, and volumes exclude each other.
 pub fn sound_runs_are_served()
     ensures { SoundRunsAreServed }
-{}
-
-/// What is owed of sound runs is owed of served ones.
-pub fn sound_replays_are_served()
-    ensures { SoundReplaysAreServed }
-{}
-
-/// So is what is owed of made runs, whole or a front of it.
-pub fn made_replays_are_served<D: Daemon>()
-    ensures { MadeReplaysAreServed D.stands }
-{}
-
-/// So is the whole report of a made run.
-pub fn made_reports_are_served<D: Daemon>()
-    ensures { MadeReportsAreServed D.stands }
 {}

@@ -1,5 +1,0 @@
-use Rattle.sl_sound.proofs.Owing.{made_reports_are_served}
-use Rattle.sl_sound.proofs.laws.made_reports_are_served.Goals as goal
-
-pub returns : goal.returns
-returns g c = made_reports_are_served g.D.Daemon.stands
