@@ -32,7 +32,7 @@ headline_by Promised Front Sound Plain false owed headline = headline
 
 module _ {D : Type 0} (stands : D → Setting → Trace → Type 0) (does : DaemonsDoWhatIsDue stands) (lawful : DueIsLawful) (lang : Language) (good : HeadersAreGood lang)
     (digest : IsDigest lang.program.digest) where
-  Made : Promise
+  abbrev Made : Promise
   Made p h xs = MadeRun stands p h xs
 
   promised_grow : Grows Made PromisedRun lang
