@@ -1,0 +1,9 @@
+pub mod Copies
+pub mod Rooms
+pub mod Seats
+pub mod Cells
+pub mod Stations
+pub mod Expected
+pub mod Audits
+pub mod Cases
+pub mod Idles
