@@ -4,3 +4,4 @@ pub mod Came
 pub mod First
 pub mod Versions
 pub mod Telling
+pub mod Unchanged

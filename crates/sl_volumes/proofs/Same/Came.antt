@@ -27,7 +27,7 @@ use Rattle.sl_trace.specs.declared.effects.Call.{Call}
 use Rattle.sl_trace.specs.declared.effects.Effects.{Effects}
 use Rattle.sl_trace.specs.declared.effects.Entry.{Entry}
 use Rattle.sl_trace_law.proofs.Sessions.Making.{answers_stay}
-use Rattle.sl_words.proofs.CaseLaws.{no_value, none_some, one_value, some_value}
+use Rattle.sl_words.proofs.CaseLaws.{no_value, none_some, one_value, some_value, true_is_false}
 use Rattle.sl_words.specs.Words.{some_is}
 use Rattle.std.proofs.Common.{ap, arith, inl, inr, refl, subst, sym, ◌∙◌}
 use Rattle.std.proofs.lemmas.Bool.{and_from, eq-eqb, or_left}
@@ -79,6 +79,34 @@ pub all_came : (p : Program) (h : Header) (xs : List Happening) → LawfulRun p 
 all_came p h xs run =
     run_keeps p h (AllCame p h)
     (record { first = λ m a c s at has is. absurd (contains_none c (subst (λ cs. Contains cs c) (begins_new p h m a at).calls has)); next = came_next p h }) xs run
+
+-- ---- what is done has an answer
+
+abbrev AllDone : Program → Header → List Happening → Type 0
+AllDone p h xs = (m : ℕ) (a : Machine) (c : Course) → machine_at (world_at p h xs) m ≡ Some a → Contains a.calls c → c.done ≡ true → (s : Stamp) × (c.answered ≡ Some s)
+
+done_next : (p : Program) (h : Header) (now : List Happening) (x : Happening) → LawfulRun p h (now ++ x ∷ []) → AllDone p h now → AllDone p h (now ++ x ∷ [])
+done_next p h now x run each m b d at has done =
+    let w : World = world_at p h now in
+    let last = last_event p h now x run in
+    let from = came w x.0 last.effects m b last.may (sym (ap (λ (v : World). machine_at v m) last.after) ∙ at) in
+    let q = from.passage in
+    elim (q.stepped.back d has) as (λ z. (s : Stamp) × (d.answered ≡ Some s)) [
+      | inl old ↦
+          let t = q.turned.back old.0 old.1 in
+          elim old.2.answer as (λ z. (s : Stamp) × (d.answered ≡ Some s)) [
+            | inl same ↦
+                let was = each m from.before t.0 from.at t.1 (sym t.2.done ∙ sym same.1 ∙ done) in
+                (was.0, same.0 ∙ t.2.answered ∙ was.1)
+            | inr told ↦ (_, told.answered)
+          ]
+      | inr made ↦ absurd (true_is_false (sym done ∙ ap (λ (c : Course). c.done) (sym made.is)))
+    ]
+
+pub all_done : (p : Program) (h : Header) (xs : List Happening) → LawfulRun p h xs → AllDone p h xs
+all_done p h xs run =
+    run_keeps p h (AllDone p h)
+    (record { first = λ m a c at has done. absurd (contains_none c (subst (λ cs. Contains cs c) (begins_new p h m a at).calls has)); next = done_next p h }) xs run
 
 -- ---- in flight before it
 
