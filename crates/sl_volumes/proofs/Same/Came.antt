@@ -2,6 +2,7 @@
 use Rattle.sl_history.proofs.Resources.Calls.{found_of, owned, owner_found, there_sent}
 use Rattle.sl_history.specs.Resources.Sending.{Sent, sender_of}
 use Rattle.sl_id_safety.proofs.Silence.{GoesOn, goes_on, old_stamp}
+use Rattle.sl_id_safety.proofs.State.Timing.{stamp_below}
 use Rattle.sl_plain.proofs.Lists.{contains_none, kept_inside}
 use Rattle.sl_run.specs.Events.{first_change, input_of, machine_of}
 use Rattle.sl_run.specs.Runs.{Happening}
@@ -17,6 +18,7 @@ use Rattle.sl_run_law.proofs.Landing.Listing.{one_call}
 use Rattle.sl_run_law.proofs.Landing.Passing.{world_first, world_then}
 use Rattle.sl_run_law.proofs.Landing.Stepping.{IsMade, Step, came}
 use Rattle.sl_run_law.proofs.Place.Finding.{partner_of}
+use Rattle.sl_run_law.specs.Moment.Orders.{Fall}
 use Rattle.sl_run_law.specs.Course.Stamping.{AnswersAgree, IsAnsweredAs, IsCourseOf, courses_of, stamp_in}
 use Rattle.sl_safety.proofs.Value.Coming.{WasThere}
 use Rattle.sl_safety.proofs.Value.Owning.{OwnCall, own_call}
@@ -210,3 +212,21 @@ open_then p h now rest run m a d at has s told late b =
     ] in
     subst (λ (z : Machine). is_open z c ≡ true) machine
     (and_from (is_none c.answered) (is_of_running g.machine c || may_land c) (ap (λ o. is_none o) none) (or_left (is_of_running g.machine c) (may_land c) runs))
+
+-- ---- an answer is of the past
+
+past_by : (w : World) (f : Found) (c : Course) (m : Submitted) (s : Stamp) → Fall w.step f.daemon.stamps → AnswersAgree f.daemon c m.answer → c.answered ≡ Some s → (o : Option Answered)
+    → m.answer ≡ o → s.step < w.step
+past_by w f c m s fall agrees told None is = absurd (no_value s c.answered told (subst (λ q. AnswersAgree f.daemon c q) is agrees))
+past_by w f c m s fall agrees told (Some a) is =
+    let ans : IsAnsweredAs f.daemon c a = subst (λ q. AnswersAgree f.daemon c q) is agrees in
+    subst (λ (y : Stamp). y.step < w.step) (some_value ans.stamp s (sym ans.answered ∙ told)) (stamp_below w.step f.daemon.stamps a.at ans.stamp fall ans.entry)
+
+pub answered_past : (p : Program) (h : Header) (xs : List Happening) → LawfulRun p h xs → (m : ℕ) (a : Machine) (c : Course) (s : Stamp) → machine_at (world_at p h xs) m ≡ Some a
+    → Contains a.calls c → c.answered ≡ Some s → s.step < (world_at p h xs).step
+answered_past p h xs run m a c s at has told =
+    let w : World = world_at p h xs in
+    let x : Sent = record { machine = m; course = c } in
+    let k = owned p h xs run x (there_sent w m a c at has) in
+    let o = own_call p h xs run (sender_of x) (found_of k) (owner_found w x k) c k.there.has (is_own c m) in
+    past_by w (found_of k) c o.call s o.known.stamps o.is.answers told o.call.answer refl

@@ -83,7 +83,7 @@ as_read c = Ok c
 ok_value : (c d : Command) → as_read c ≡ as_read d → c ≡ d
 ok_value c d h = cc
 
-one_command : (st : Setting) (es : Trace) (n : ℕ) (c d : Command) → IsJobOf st es n c → IsJobOf st es n d → c ≡ d
+pub one_command : (st : Setting) (es : Trace) (n : ℕ) (c d : Command) → IsJobOf st es n c → IsJobOf st es n d → c ≡ d
 one_command st es n c d (j, at, its) (k, there, other) =
     ok_value c d (sym its ∙ ap (λ (y : Job). y.command) (one_value j k (job_numbered st es n) at there) ∙ other)
 
