@@ -10,3 +10,4 @@ pub mod Spans
 pub mod ReadCommands
 pub mod RecordBytes
 pub mod SettingsMatter
+pub mod Quiet

@@ -1,5 +1,6 @@
 //! What the worked schedules show.
 
+ghost use Rattle.sl_examples.specs.QuietShown.{QuietPremisesTell};
 ghost use Rattle.sl_examples.specs.Settings.{SettingsMatter};
 ghost use Rattle.sl_examples.specs.Shown.{SchedulesReplay, TracesKeepLaws, LiteralTracesKeepLaws, RunsStaySafe, LinesAreRefused};
 
@@ -31,4 +32,10 @@ pub fn lines_are_refused()
 /// What is due is lawful only in the settings that a daemon may be made of: without that premise a first read within a sector is due.
 pub fn settings_matter()
     ensures { SettingsMatter }
+{}
+
+/// An acquire that nothing stands in the way of is granted by six calls, or eight where it is shared; and each of its premises tells: where that one
+/// alone is broken, it is refused.
+pub fn quiet_premises_tell()
+    ensures { QuietPremisesTell }
 {}

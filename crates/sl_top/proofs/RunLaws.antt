@@ -1,7 +1,7 @@
 -- What a replay owes: the run that was made is as promised, and what is written of it is the plain program's report.
 use Rattle.sl_due_law.proofs.Due.{due_is_lawful}
 use Rattle.sl_headline.proofs.Promising.{made_replays_are_promised, made_reports_are_promised}
-use Rattle.sl_headline.specs.Promised.{IsPromised, PromisedRun}
+use Rattle.sl_headline.specs.Promised.{AsksAreRead, IsPromised, PromisedRun}
 use Rattle.sl_header_law.proofs.Commands.{whole_language_may_play}
 use Rattle.sl_host_step.specs.Serving.{Serves, whole_commands}
 use Rattle.sl_play_schedule.proofs.Owing.{replays_are_owed}
@@ -10,7 +10,7 @@ use Rattle.sl_play_schedule.specs.Replaying as play
 use Rattle.sl_play_schedule.specs.declared.replay.Played.TheVariants as played
 use Rattle.sl_play_schedule.specs.declared.replay.Played.{Played}
 use Rattle.sl_report.specs.Headline.{FrontOf, HeadersAreGood, MayHaveBeen, Of_nothing, ReplayHeadline, ReplayOf, ReplayOwed, SoundRun, is_whole_status}
-use Rattle.sl_report.specs.Languages.{whole_language}
+use Rattle.sl_report.specs.Languages.{Language, whole_language}
 use Rattle.sl_report.specs.Reports.{end_line}
 use Rattle.sl_run_report.proofs.OneReport.{runs_have_one_report}
 use Rattle.sl_run_report.specs.Promises.{replay_status}
@@ -24,6 +24,7 @@ use Rattle.sl_top.specs.Runs.{Replays}
 use Rattle.sl_top.specs.Statuses.{code, status_of}
 use Rattle.sl_top.specs.declared.status.Status.TheVariants.{Done, NoMemory, ReadFault, WriteFault}
 use Rattle.sl_top.specs.declared.status.Status.{Status}
+use Rattle.sl_volumes.proofs.Reading.{whole_program_reads}
 use Rattle.std.proofs.Common.{Bool, List, None, Option, Some, [], append-nil, refl, subst, sym, true, ℕ, ◌++◌, ◌∷◌, ◌≡◌}
 use Rattle.std.specs.Int.{is_in_range}
 use Rattle.std.specs.Io.KnownBytes.{Appends, Consumes}
@@ -43,6 +44,10 @@ good_headers = whole_language_may_play.plays.headers
 
 pub whole_headers : HeadersAreGood whole_language
 whole_headers = subst HeadersAreGood same_language good_headers
+
+-- It reads what lvmlockd's locks ask.
+asks_read : AsksAreRead (played_language whole_commands).program
+asks_read = subst (λ (l : Language). AsksAreRead l.program) (sym same_language) whole_program_reads
 
 digest_of : IsDigest (played_language whole_commands).program.digest
 digest_of = sha256_is_digest
@@ -91,7 +96,7 @@ promised : (ended : Bool) (read written : List ℕ) (status : ℕ) → ReplayOwe
     → IsPromised whole_language ended read written status
 promised ended read written status owed =
     subst (λ l. IsPromised l ended read written status) same_language
-    (made_replays_are_promised Serves hosts_do due_is_lawful (played_language whole_commands) good_headers digest_of ended read written status owed)
+    (made_replays_are_promised Serves hosts_do due_is_lawful (played_language whole_commands) asks_read good_headers digest_of ended read written status owed)
 
 -- All of the report, where the status tells of all.
 whole_report : (ended : Bool) (read written : List ℕ) (status : ℕ) (whole : Bool)
@@ -113,7 +118,7 @@ promised_lines : (lines written : List ℕ) → ReportsLines (λ p h xs. MadeRun
     → ReportsLines PromisedRun whole_language lines written
 promised_lines lines written (Of_events k replay) =
     Of_events k (subst (λ l. ReplayOf PromisedRun l lines (written ++ as_bytes (end_line k ∷ [])) 0) same_language
-    (made_reports_are_promised Serves hosts_do due_is_lawful (played_language whole_commands) good_headers digest_of lines (written ++ as_bytes (end_line k ∷ [])) 0 replay))
+    (made_reports_are_promised Serves hosts_do due_is_lawful (played_language whole_commands) asks_read good_headers digest_of lines (written ++ as_bytes (end_line k ∷ [])) 0 replay))
 promised_lines lines written (Of_header ls r goes none) = Of_header ls r goes none
 
 promised_complete : (read written : List ℕ) → ReportsComplete (λ p h xs. MadeRun Serves p h xs) (played_language whole_commands) read written

@@ -52,8 +52,9 @@ pub record Replays (left after : Option (List ℕ)) (faults later : ℕ) (taken 
   pub reads : Consumes left after read
   pub at_end : IsTrue ended → IsAtEnd after
   pub writes : Appends taken now written
-  -- the bytes written are the report of a run as it is promised: its daemons do what is due, it is lawful, no two holdings conflict in it, and an
-  -- acquire that nothing stands in the way of is granted; or, by the status, a front of it
+  -- the bytes written are the report of a run as it is promised: its daemons do what is due, it is lawful, no two holdings conflict in it, an
+  -- acquire that nothing stands in the way of is granted, and lvmlockd's lines ask few times, take what they say they took, and tell `ok same`
+  -- only of an unchanged value; or, by the status, a front of it
   pub owed : ReplayOwed PromisedRun whole_language ended read written (code s)
   -- that report is the one that the plain program computes of the source
   pub headline : ReplayHeadline PromisedRun whole_language ended read written (code s)

@@ -20,7 +20,7 @@ use Rattle.std.specs.Prelude.{Bool, Err, List, Ok, Result, Some, false, true, �
 -- ---- commands
 
 -- What is said of a job's command, where it is known.
-of_command : (x : Answering) (P : Command → Type 0) (c : Command) → x.job.command ≡ Ok c → job_command x P → P c
+pub of_command : (x : Answering) (P : Command → Type 0) (c : Command) → x.job.command ≡ Ok c → job_command x P → P c
 of_command x P c is h = subst (λ (o : Result Command ℕ). elim o as (λ y. Type 0) [ Ok d ↦ P d | Err e ↦ ⊥ ]) is h
 
 abbrev as_read : Command → Result Command ℕ

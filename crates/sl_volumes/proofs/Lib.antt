@@ -13,3 +13,4 @@ pub mod Names
 pub mod Reading
 pub mod Seen
 pub mod Once
+pub mod Same

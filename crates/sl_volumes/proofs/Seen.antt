@@ -137,7 +137,7 @@ after_learns number i fx k v has =
 -- ---- what told them
 
 -- The job of the ask has its command.
-asked_job : (p : Program) (h : Header) → ReadsAsks p h → (st : Setting) (es : Trace) → st.read ≡ command_in (p.commands h) → (k : Locks)
+pub asked_job : (p : Program) (h : Header) → ReadsAsks p h → (st : Setting) (es : Trace) → st.read ≡ command_in (p.commands h) → (k : Locks)
     → LocksHold h.geometry.area h.retries k → AskedHolds h.geometry.area st es k → (course : Course) (n : ℕ) (c : Command) → k.lvm.course ≡ Some course → k.asked ≡ Some n
     → asked_command h.geometry.area course ≡ Some c → IsJobOf st es n c
 asked_job p h reads st es read k holds asks course n c at asked is =

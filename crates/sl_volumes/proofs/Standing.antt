@@ -76,7 +76,7 @@ pub record LocksAfter (number : ℕ) (i : Input) (fx : Effects) (k : Locks) : Ty
   pub same : (locks_after number i fx k).0 ≡ (if ends then emptied turn.0 else turn.0)
   pub told : (locks_after number i fx k).1 ≡ turn.1
 
-ended_by : (p : Locks × Told) (t : Bool)
+pub ended_by : (p : Locks × Told) (t : Bool)
     → elim t as (λ x. Locks × Told) [ false ↦ p | true ↦ ((after_turn p.0 (lvm_turn p.0.lvm Ended)).0, p.1) ] ≡ (if t then emptied p.0 else p.0, p.1)
 unfolding lvm_turn
 ended_by p true = refl

@@ -7,3 +7,4 @@ pub mod Names
 pub mod Reading
 pub mod Seen
 pub mod Once
+pub mod Same

@@ -5,6 +5,7 @@ ghost use Rattle.sl_volumes.specs.Few.{AsksAreFewInRuns};
 ghost use Rattle.sl_volumes.specs.Names.{LocksAreResources};
 ghost use Rattle.sl_volumes.specs.Once.{VersionsAreKnownOnce};
 ghost use Rattle.sl_volumes.specs.Reading.{LocksAreTakenWhenDue, WholeProgramReads};
+ghost use Rattle.sl_volumes.specs.Same.{SameIsUnchangedInRuns, VolumesAreSafeInRuns, VolumesAreSafeWhenDue};
 ghost use Rattle.sl_volumes.specs.Seen.{VersionsWereTold};
 ghost use Rattle.sl_volumes.specs.Taken.{LocksAreTakenInRuns};
 
@@ -51,4 +52,19 @@ pub fn versions_were_told()
 /// Of each group the locks know one version.
 pub fn versions_are_known_once()
     ensures { VersionsAreKnownOnce }
+{}
+
+/// Where a group's value is told to be the one that is known, no other machine's write of it was answered ok since it was told.
+pub fn same_is_unchanged()
+    ensures { SameIsUnchangedInRuns }
+{}
+
+/// So the locks keep to all that is said of them.
+pub fn volumes_are_safe()
+    ensures { VolumesAreSafeInRuns }
+{}
+
+/// .. in each lawful run of a program that reads their asks, where its daemons do what is due.
+pub fn volumes_are_safe_when_due()
+    ensures { VolumesAreSafeWhenDue }
 {}

@@ -1,0 +1,10 @@
+pub mod Seqs
+pub mod Came
+pub mod First
+pub mod Versions
+pub mod Telling
+pub mod Values
+pub mod Texts
+pub mod Unchanged
+pub mod Comparing
+pub mod Whole
