@@ -118,8 +118,8 @@ pub one_found : (es : List Entry) (k : ℕ) (e : Entry) (c : Call) → k < lengt
 one_found es k e c lt is there =
     let f : Entry → List Call = λ x. x.effects.calls in
     let whole : flat_map f es ≡ flat_map f (take k es) ++ (e.effects.calls ++ flat_map f (drop (k + 1) es)) =
-        ap (flat_map f) (sym (take-append-drop k es) ∙ ap (λ ys. take k es ++ ys) (drop_more es k e lt ∙ ap (λ x. x ∷ drop (k + 1) es) (sym is)))
-        ∙ flat_map-append f (take k es) (e ∷ drop (k + 1) es) in
+    ap (flat_map f) (sym (take-append-drop k es) ∙ ap (λ ys. take k es ++ ys) (drop_more es k e lt ∙ ap (λ x. x ∷ drop (k + 1) es) (sym is)))
+    ∙ flat_map-append f (take k es) (e ∷ drop (k + 1) es) in
     subst (λ xs. Contains xs c) (sym whole)
     (Contains-append_right (flat_map f (take k es)) (e.effects.calls ++ flat_map f (drop (k + 1) es)) c (Contains-append_left e.effects.calls (flat_map f (drop (k + 1) es)) c there))
 

@@ -236,7 +236,12 @@ fn tests_so(
 }
 
 /// What differs where a receipt is not its entry's, or one of two.
-fn differing_receipt(alloc: Global, history: &[Entry], number: usize, entry: &Entry) -> Result<Differ, AllocError>
+fn differing_receipt(
+    alloc: Global,
+    history: &[Entry],
+    number: usize,
+    entry: &Entry,
+) -> Result<Differ, AllocError>
     ensures { IfOk result (λ d. d ≡ told_of history.now (MadeOf.Applied number entry.now)) }
 {
     Ok(Differ::Entry {

@@ -183,7 +183,7 @@ is_read p h xs r m group lver seq t =
     let f1 = kept_inside (is_call_of lr.session) (submitted es) lr.call lr.of_session.0 in
     let inside : Contains (submitted d.trace) lr.call = subst (λ y. Contains (submitted y) lr.call) (sym t.whole) f1.0 in
     let fits = subst (λ y. FitsValue st y lr.call (ValueRead t.reply.job)) t.whole
-        (fits_at p h xs r m t.machine d t.at t.has lr.call inside (ValueRead t.reply.job) lr.of_session.1) in
+    (fits_at p h xs r m t.machine d t.at t.has lr.call inside (ValueRead t.reply.job) lr.of_session.1) in
     let resource : fits.0 ≡ resource_of area (group_lock group) =
     got_resource fits.0 (resource_of area (group_lock group)) fits.1 lock_process (one_command st es t.reply.job _ _ fits.2 t.job) in
     let spot : spot_of_call st.layout lr.call ≡ at = fits.3 ∙ ap (λ y. spot_of y) resource in
@@ -285,7 +285,7 @@ is_written p h xs r m group lver seq t =
     let f1 = kept_inside (is_call_of lr.session) (submitted es) lr.call lr.of_session.0 in
     let inside : Contains (submitted d.trace) lr.call = subst (λ y. Contains (submitted y) lr.call) (sym t.whole) f1.0 in
     let fits = subst (λ y. FitsValue st y lr.call (ValueWrite t.reply.job)) t.whole
-        (fits_at p h xs r m t.machine d t.at t.has lr.call inside (ValueWrite t.reply.job) lr.of_session.1) in
+    (fits_at p h xs r m t.machine d t.at t.has lr.call inside (ValueWrite t.reply.job) lr.of_session.1) in
     let resource : fits.0 ≡ resource_of area (group_lock group) =
     set_resource fits.0 (resource_of area (group_lock group)) fits.1 lock_process fits.2 (1 ∷ []) (one_command st es t.reply.job _ _ fits.3 t.job) in
     let spot : spot_of_call st.layout lr.call ≡ at = fits.4 ∙ ap (λ y. spot_of y) resource in

@@ -173,7 +173,7 @@ reader_bars p h now rest run at i f r v stamp R path offset came k d s l early l
     let w = flew p h front (came.rest ++ rest) more at k d s q b (below n stamp.step s.step came.step late) in
     let timed : r.made.step < stamp.step = (call_timed p h now R.own.run i.machine f.machine r R.own.known.there.at R.own.there).answered stamp R.answered in
     let c = there_then p h front came.rest mid i.machine f.machine r
-        (subst (λ ys. machine_at (world_at p h ys) i.machine ≡ Some f.machine) came.whole R.own.known.there.at) R.own.there stamp.step came.step timed in
+    (subst (λ ys. machine_at (world_at p h ys) i.machine ≡ Some f.machine) came.whole R.own.known.there.at) R.own.there stamp.step came.step timed in
     let t = reader_there p h now front came.rest at i f r v stamp R came.whole (made_then p h front first i.machine r c) (just n stamp.step came.step) in
     none_between holders_keep_values p h now front at i f r v stamp R t path offset (sender_of (record { machine = k; course = w.course })) w.found w.course w.writes
 
