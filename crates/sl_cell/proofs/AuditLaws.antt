@@ -128,8 +128,8 @@ applied_again m ms made number e r is can set so no_more_of =
     let most = at.1 in
     let back : number - 1 + 1 ≡ number = omega (arith, some) in
     let count : count_by (is_receipt number) ms ≡ 1 =
-        ap (λ n. count_by (is_receipt n) ms) (sym back) ∙ so.found (number - 1) (omega (arith, some, most))
-        ∙ ap (λ b. one_if b) (was_set (get_or m.found.items (number - 1) false) r set (said_no r no_more_of)) in
+    ap (λ n. count_by (is_receipt n) ms) (sym back) ∙ so.found (number - 1) (omega (arith, some, most))
+    ∙ ap (λ b. one_if b) (was_set (get_or m.found.items (number - 1) false) r set (said_no r no_more_of)) in
     subst (IsAgain ms) (sym is) (omega (arith, count))
 
 pub took_again : {E : Type 0} (m : Marks) (ms : List Made) (made : Made) (number : ℕ) (c : Call) (r : Bool) → made ≡ Took number c → r ≡ not (contains nat_eq m.taken c.number)

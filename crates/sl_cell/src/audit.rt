@@ -112,7 +112,8 @@ fn reach(
     front: usize,
 ) -> Result<(), AllocError>
     requires { (from ≤ front) × (front ≤ length history.now) }
-    ensures { (st : Setting) → Follows st history.now from connections.old.items → OnOk result (Follows st history.now front connections.new.items) }
+    ensures { (st : Setting) → Follows st history.now from connections.old.items
+        → OnOk result (Follows st history.now front connections.new.items) }
 {
     for index in from..front {
         advance(connections, &history[index])?;
@@ -236,7 +237,12 @@ fn tests_so(
 }
 
 /// What differs where a receipt is not its entry's, or one of two.
-fn differing_receipt(alloc: Global, history: &[Entry], number: usize, entry: &Entry) -> Result<Differ, AllocError>
+fn differing_receipt(
+    alloc: Global,
+    history: &[Entry],
+    number: usize,
+    entry: &Entry,
+) -> Result<Differ, AllocError>
     ensures { IfOk result (λ d. d ≡ told_of history.now (MadeOf.Applied number entry.now)) }
 {
     Ok(Differ::Entry {
