@@ -1,7 +1,7 @@
 -- Where seats and a history differ: what is found at one call is a case of all, and no case holds where they agree.
 use Rattle.sl_cell.proofs.AuditLaws.{placed}
 use Rattle.sl_cell.specs.Audits.{Agrees, AreIdleTrue, ContainsAt, IsIdleTrue, IsLater, IsMarked, IsMissing, IsTrueOf, Rises, StandsAt, all_calls, calls_before, is_left, is_receipt, is_take, one_if, sees}
-use Rattle.sl_cell.specs.Cases.{CallSeesLess, EntryDiffers, FaultAtIdle, FaultIn, IdleDiffers, IdleFault, IdleSeesLess, IsAgain, IsCase, IsCaseOfSome, IsFault, SeenDiffers, Stops, numbered, told_of}
+use Rattle.sl_cell.specs.Cases.{EntryDiffers, FaultAtIdle, FaultIn, IdleDiffers, IdleFault, IsAgain, IsCase, IsCaseOfSome, IsFault, SeenDiffers, Stops, numbered, told_of}
 use Rattle.sl_cell.specs.Seats.{SeatState, idle_of}
 use Rattle.sl_cell.specs.declared.audit.CloseError.TheVariants.{Differ as Differs, NoMemory}
 use Rattle.sl_cell.specs.declared.audit.CloseError.{CloseError}
@@ -18,14 +18,13 @@ use Rattle.sl_plain.proofs.Numbers.{number_itself, one_before}
 use Rattle.sl_trace.specs.Traces.{IsTrace, Setting}
 use Rattle.sl_trace.specs.declared.effects.Call.{Call}
 use Rattle.sl_trace.specs.declared.effects.Entry.{Entry}
-use Rattle.sl_trace.specs.declared.input.Input.{Input}
-use Rattle.std.proofs.Common.{All, List, ap, append_assoc, arith, drop, fold, inl, inr, length, refl, slice_index_or, subst, suc, sym, take, zero, ◌++◌, ◌+◌, ◌-◌, ◌<◌, ◌∙◌, ◌∷◌, ◌≡◌, ◌≤◌, ◌⊎◌, [], ℕ, rules}
+use Rattle.std.proofs.Common.{List, ap, append_assoc, arith, drop, fold, inl, inr, length, refl, slice_index_or, subst, suc, sym, take, zero, ◌++◌, ◌+◌, ◌-◌, ◌<◌, ◌∙◌, ◌∷◌, ◌≡◌, ◌≤◌, ◌⊎◌, [], ℕ, rules}
 use Rattle.std.proofs.lemmas.List.Concat.{flat_map-append}
 use Rattle.std.proofs.lemmas.List.Elements.{All-contains, Contains-append_right, Contains-get_or}
 use Rattle.std.proofs.lemmas.List.Sums.{sum_by-append, sum_by-cons}
 use Rattle.std.proofs.lemmas.List.{drop_more, take-append-drop}
 use Rattle.std.specs.List.{count_by}
-use Rattle.std.specs.Prelude.{Bool, Contains, Err, IfErr, IfSome, IsErrAnd, IsSome, None, Ok, OnOk, Option, Result, Some, cond, false, reverse, slice_get, true}
+use Rattle.std.specs.Prelude.{Bool, Contains, Err, IfErr, IfSome, IsErrAnd, IsSome, None, Ok, OnOk, Option, Result, Some, false, reverse, slice_get, true}
 
 -- ---- entries by number
 

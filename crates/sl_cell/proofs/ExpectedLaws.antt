@@ -1,7 +1,7 @@
 -- What a trace expects goes on entry by entry.
-use Rattle.sl_cell.specs.Expected.{are_open, is_due, is_told, opened_after, started_after}
+use Rattle.sl_cell.specs.Expected.{is_due, is_told, opened_after, started_after}
 use Rattle.sl_kept.specs.Steps.{is_spawned_by}
-use Rattle.sl_trace.specs.Traces.{Answered, Child, Setting, Submitted, Trace, answer_of, answered_in, child_after, child_numbered, children, is_answer_for, is_expected, is_starting, mark, new_call, new_child, outstanding, submitted}
+use Rattle.sl_trace.specs.Traces.{Answered, Child, Setting, Submitted, Trace, answer_of, answered_in, child_after, child_numbered, children, is_answer_for, is_expected, is_starting, mark, new_call, new_child, submitted}
 use Rattle.sl_trace.specs.declared.effects.Call.{Call}
 use Rattle.sl_trace.specs.declared.effects.Entry.{Entry}
 use Rattle.sl_trace.specs.declared.effects.Op.TheVariants.{ReadSectors, WriteRecord}

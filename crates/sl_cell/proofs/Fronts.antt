@@ -1,5 +1,5 @@
 -- Fronts of lists, one element longer at a time.
-use Rattle.std.proofs.Common.{All, ap, append_assoc, arith, length, refl, slice_index_or, suc, take, List, [], sym, subst, ℕ, ◌++◌, ◌+◌, ◌<◌, ◌∙◌, ◌∷◌, ◌≡◌, ◌≤◌}
+use Rattle.std.proofs.Common.{All, ap, arith, length, slice_index_or, suc, take, List, [], sym, subst, ℕ, ◌++◌, ◌+◌, ◌<◌, ◌∷◌, ◌≡◌, ◌≤◌}
 use Rattle.std.proofs.Math.Seq.{take-suc}
 use Rattle.std.proofs.lemmas.List.Elements.{All-append, All-cons}
 use Rattle.std.proofs.lemmas.List.Sums.{sum_by-append, sum_by-take-drop}

@@ -1,7 +1,7 @@
 -- What was taken, by sets of numbers and by lists of calls.
 use Rattle.indexmap.specs.IndexSet.{contains}
 use Rattle.sl_cell.proofs.Fronts.{take_next}
-use Rattle.sl_cell.specs.Audits.{IsIdleTrue, IsMarked, calls_before, is_left, is_take, one_if, sees}
+use Rattle.sl_cell.specs.Audits.{IsIdleTrue, IsMarked, calls_before, is_left, is_take, one_if}
 use Rattle.sl_cell.specs.Cases.{IdleFault}
 use Rattle.sl_cell.specs.Idles.{AreLater, IsIdle, is_left_of}
 use Rattle.sl_cell.specs.Seats.{SeatState, idle_of, is_of}
@@ -9,19 +9,19 @@ use Rattle.sl_cell.specs.declared.audit.Differ.TheVariants.{Idle as Left}
 use Rattle.sl_cell.specs.declared.idle.Later.{Later}
 use Rattle.sl_cell.specs.declared.marks.Marks.{Marks}
 use Rattle.sl_cell.specs.declared.seat.Idle.{Idle}
-use Rattle.sl_cell.specs.declared.seat.Made.TheVariants.{Applied, Tested, Took, Unasked}
+use Rattle.sl_cell.specs.declared.seat.Made.TheVariants.{Took}
 use Rattle.sl_cell.specs.declared.seat.Made.{Made}
 use Rattle.sl_cell.specs.declared.seat.Part.{Part}
 use Rattle.sl_trace.specs.declared.effects.Call.{Call}
 use Rattle.sl_trace.specs.declared.effects.Entry.{Entry}
-use Rattle.std.proofs.Common.{List, ap, ap₂, arith, drop, inr, length, refl, slice_index_or, subst, sym, take, ◌++◌, ◌+◌, ◌<◌, ◌∙◌, ◌∷◌, ◌≡◌, ◌≤◌, [], ℕ}
+use Rattle.std.proofs.Common.{List, ap, ap₂, arith, drop, inr, length, refl, slice_index_or, subst, sym, take, ◌++◌, ◌+◌, ◌<◌, ◌∙◌, ◌∷◌, ◌≡◌, [], ℕ}
 use Rattle.std.proofs.lemmas.List.Concat.{flat_map-append}
 use Rattle.std.proofs.lemmas.List.Elements.{Contains-append_left, Contains-append_right}
 use Rattle.std.proofs.lemmas.List.Folds.{list_any-append}
 use Rattle.std.proofs.lemmas.List.Sums.{sum_by-cons}
 use Rattle.std.proofs.lemmas.List.{append-nil, drop_more, take-append-drop}
 use Rattle.std.specs.List.{count_by, list_any}
-use Rattle.std.specs.Prelude.{Bool, Contains, IfSome, None, Option, Some, cond, false, flat_map, nat_eq, not, true, ◌&&◌, ◌==◌, ◌||◌}
+use Rattle.std.specs.Prelude.{Bool, Contains, IfSome, None, Some, cond, false, flat_map, nat_eq, not, true, ◌&&◌, ◌==◌, ◌||◌}
 
 or_nothing : (b : Bool) → (b || false) ≡ b
 or_nothing true = refl

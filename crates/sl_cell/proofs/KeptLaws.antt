@@ -23,7 +23,7 @@ use Rattle.sl_trace.specs.declared.input.Input.{Input}
 use Rattle.sl_trace.specs.declared.input.Numbers.{Numbers}
 use Rattle.sl_words.specs.Bounds.{moments}
 use Rattle.sl_words.specs.Words.{greatest}
-use Rattle.std.proofs.Common.{All, List, ap, ap₂, append_assoc, arith, filter, fold, if◌then◌else◌, length, map, max, refl, reverse, slice_index_or, subst, sym, take, true, ◌++◌, ◌+◌, ◌<◌, ◌∙◌, ◌∷◌, ◌≡◌, ◌≤◌, [], ℕ}
+use Rattle.std.proofs.Common.{All, List, ap, ap₂, append_assoc, arith, filter, fold, if◌then◌else◌, length, map, max, refl, reverse, slice_index_or, subst, sym, take, true, ◌++◌, ◌+◌, ◌<◌, ◌∙◌, ◌∷◌, ◌≡◌, [], ℕ}
 use Rattle.std.proofs.lemmas.List.Elements.{All-cons, All-nil}
 use Rattle.std.proofs.lemmas.List.{append-nil, map-append, reverse-append}
 use Rattle.std.specs.List.{AllByRecursion}

@@ -1,7 +1,7 @@
 -- A setting that is there, whatever it is.
-use Rattle.sl_area.specs.Layouts.{layout_of, program_digest}
+use Rattle.sl_area.specs.Layouts.{layout_of}
 use Rattle.sl_trace.specs.Traces.{Setting}
-use Rattle.std.specs.Prelude.{Err, [], ℕ}
+use Rattle.std.specs.Prelude.{Err, []}
 
 -- It is never read.
 abbrev pub any_setting : Setting

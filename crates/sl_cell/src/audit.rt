@@ -112,7 +112,8 @@ fn reach(
     front: usize,
 ) -> Result<(), AllocError>
     requires { (from ≤ front) × (front ≤ length history.now) }
-    ensures { (st : Setting) → Follows st history.now from connections.old.items → OnOk result (Follows st history.now front connections.new.items) }
+    ensures { (st : Setting) → Follows st history.now from connections.old.items
+        → OnOk result (Follows st history.now front connections.new.items) }
 {
     for index in from..front {
         advance(connections, &history[index])?;

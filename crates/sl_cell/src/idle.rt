@@ -114,7 +114,8 @@ fn first_left(part: Part, marks: &Marks, later: &Later, calls: &[Call]) -> Optio
 
 /// The first such call of these entries, if there is one.
 fn left_in(part: Part, marks: &Marks, later: &Later, entries: &[Entry]) -> Option<Call>
-    ensures { MatchOption result (list_any (is_left_of part marks.now later.now) (flat_map (λ (e : EntryOf). e.effects.calls) entries.now) ≡ false)
+    ensures { MatchOption result
+        (list_any (is_left_of part marks.now later.now) (flat_map (λ (e : EntryOf). e.effects.calls) entries.now) ≡ false)
         (λ c. Contains (flat_map (λ (e : EntryOf). e.effects.calls) entries.now) c × (is_left_of part marks.now later.now c ≡ true)) }
 {
     for entry in entries {

@@ -172,7 +172,8 @@ impl<D: Teller, J: Station> Core<D, J> {
         input: Input,
     ) -> Result<(Receipt, Effects), NotApplied>
         requires { now < moments }
-        ensures history { IfOk result (λ r. self.new.history ≡ self.old.history ++ made_entry J.setting self.old.history now input r.1 ∷ []) }
+        ensures history { IfOk result (λ r. self.new.history
+            ≡ self.old.history ++ made_entry J.setting self.old.history now input r.1 ∷ []) }
         ensures moves { IfOk result (λ r. length r.1.moves ≤ (D.Daemon.makes self.old.daemon).moves) }
         ensures calls { IfOk result (λ r. length r.1.calls ≤ (D.Daemon.makes self.old.daemon).calls) }
         ensures seat { IfOk result (λ r. Stepped J.setting self.old.history seat.old seat.new now input r) }
