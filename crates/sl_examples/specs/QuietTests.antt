@@ -51,8 +51,16 @@ try_spot t = spot_of t.resource
 -- What the command of a line to this daemon tries, if its session and the leader are there.
 abbrev pub tried_by : World → ℕ → Machine → Daemon → Result Command ℕ → Option Try
 tried_by w m a d (Ok (Acquire r shared p persistent)) =
-    option_and_then (λ s. option_map (λ l. record { machine = m; resource = r; shared = shared; process = p; persistent = persistent;
-        job = next_job d.setting d.trace; session = s; leader = l }) (leader_there w (spot_of r)))
+    option_and_then (λ s. option_map (λ l. record {
+      machine = m;
+      resource = r;
+      shared = shared;
+      process = p;
+      persistent = persistent;
+      job = next_job d.setting d.trace;
+      session = s;
+      leader = l;
+    }) (leader_there w (spot_of r)))
     (session_named d.setting (before_command d (reading_now a)) r.lockspace)
 tried_by w m a d c = None
 
@@ -91,8 +99,11 @@ start_tests w t =
     ∷ (codes "names", is_leader_of w.layout t.resource.lockspace t.resource.name t.leader)
     ∷ (codes "free", not t.leader.held)
     ∷ (codes "numbers", nat_lt (t.leader.lver + 1) record_numbers)
-    ∷ (codes "ballot", on_daemon w t (λ a d s. nat_lt (next_mbal w.layout.hosts s.id
-        (map (λ b. b.mbal) (in_instance (t.leader.lver + 1) (option_to_list (known d.setting d.trace s at).own)))) record_numbers))
+    ∷ (
+      codes "ballot",
+      on_daemon w t (λ a d s. nat_lt (next_mbal w.layout.hosts s.id
+          (map (λ b. b.mbal) (in_instance (t.leader.lver + 1) (option_to_list (known d.setting d.trace s at).own)))) record_numbers),
+    )
     ∷ (codes "request", is_some (request_there w at))
     ∷ (codes "blocks", list_all (λ host. some_is (λ b. nat_le b.lver t.leader.lver) (block_there w at host)) (hosts_of w))
     ∷ (codes "flights", list_all (λ b. list_all (λ c. not (is_write_course c && is_open b c && is_on w.layout at c.call)) b.calls) w.machines)
@@ -113,14 +124,19 @@ is_end_of t e = false
 -- What must be in each event; v is the world after it.
 abbrev pub step_tests : World → Try → Happening → World → List (List ℕ × Bool)
 step_tests w t x v =
-    let at : Spot = try_spot t in
-    (codes "modes", t.shared || list_all (λ host. host == t.session.id || on_daemon w t (λ a d s.
-        list_all (λ b. not b.shared || counts_over d.setting d.trace s host b.mode_gen) (option_to_list (block_there w at host)))) (hosts_of w))
+    let at : Spot = try_spot t in (
+      codes "modes",
+      t.shared || list_all (λ host. host == t.session.id || on_daemon w t (λ a d s.
+          list_all (λ b. not b.shared || counts_over d.setting d.trace s host b.mode_gen) (option_to_list (block_there w at host)))) (hosts_of w),
+    )
     ∷ (codes "writers", machine_of x.0 == t.machine || list_all (λ fx. list_all (λ c. not (is_write c.op && is_on w.layout at c)) fx.calls) x.1)
     ∷ (codes "active", on_daemon v t (λ a d s. is_active d.setting d.trace s))
     ∷ (codes "stays", not (is_end_of t x.0))
-    ∷ (codes "answers", on_daemon v t (λ a d s.
-        list_all (λ c. not (is_of_job t.job c) || in_time w.header.timing.io (reading_now a) c c.answer) (submitted d.trace)))
+    ∷ (
+      codes "answers",
+      on_daemon v t (λ a d s.
+          list_all (λ c. not (is_of_job t.job c) || in_time w.header.timing.io (reading_now a) c c.answer) (submitted d.trace)),
+    )
     ∷ []
 
 -- The tests that fail in these events.

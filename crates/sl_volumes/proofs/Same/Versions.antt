@@ -165,8 +165,7 @@ one_version p h xs run at c d u v x y lver seq =
     let too : OwnCall p h xs a.session a.found d = subst (λ z. OwnCall p h xs a.session z d) found (subst (λ j. OwnCall p h xs j b.found d) (sym same) b.own) in
     let paths = place_is c.call.path c.call.offset at.path _ x.place in
     let more = place_is d.call.path d.call.offset at.path _ y.place in
-    let area : area_of too ≡ area_of a.own = one_area p h xs a.session a.session a.found a.found d c too a.own (more.0 ∙ sym paths.0) (more.1 ∙ sym paths.1) in
-    (
+    let area : area_of too ≡ area_of a.own = one_area p h xs a.session a.session a.found a.found d c too a.own (more.0 ∙ sym paths.0) (more.1 ∙ sym paths.1) in (
       sym a.machine ∙ ap (λ (z : SessionId). z.machine) same ∙ b.machine,
       by_order p h xs a.session a.found c d a.own too u v x.value y.value area lver seq (order (submitted (trace_of a.found)) a.own.call too.call a.own.inside too.inside),
     )
