@@ -40,7 +40,7 @@ use Rattle.sl_trace.specs.Traces.{next_job, reply_to}
 use Rattle.sl_trace.specs.declared.reply.Reply.TheVariants.{Granted}
 use Rattle.sl_run.specs.Worlds.{reading_now}
 use Rattle.sl_sessions.specs.declared.session.Session.{Session}
-use Rattle.sl_witness.proofs.Quietness.{seek_quiet, seek_start}
+use Rattle.sl_witness.proofs.Quietness.{Ends, seek_ends, seek_quiet, seek_start}
 use Rattle.sl_witness.proofs.Seeking.{found, seek_for, seek_same, seek_some, ◌>>=◌}
 use Rattle.sl_witness.specs.Quietly.{IsQuietlyGranted, QuietAcquiresAreShown, exclusive_events, exclusive_text, quiet_resource, shared_events, shared_text}
 use Rattle.sl_witness.specs.Witness.{witness_header, witness_world}
@@ -101,15 +101,9 @@ exclusive_quiet : IsSome (seek_quiet world exclusive_run 1 1 quiet_resource fals
 unfolding after_answer after_answer_of after_end after_free after_input after_join_answer after_lease_answer after_renewal after_request_read after_see_request after_survey after_value_read area_next before_input begin_next begin_recoveries begin_recovery begins block_rules carry_decision carry_delta carry_lease checked_part count_event decided decoded delta_rules digits due due_step event_forms event_tests field_bytes fields_of finish finish_session first_change forms goes_on_with header_forms header_of header_tests initial_record instance_of join_on_wake kill_holders kills known leader_rules lease_next leave_holdings locks_after lvm_forms lvm_turn machine_of_header magic next_after_deciding next_after_first next_after_verify next_after_watch next_in_joining next_on_wake next_renewal on_exit on_line on_spawned on_wake padded_text pass_tests phase1_block phase2_block refuse renew_on_wake reply_words request_refusal request_rules see_requests settle settle_next settle_on_wake settlings signal_and_refuse spelling stop_of take_input time_out time_outs told_effects u32_at u32_bytes u64_at u64_bytes value_rules
 exclusive_quiet = refl
 
--- The daemon in the end, with its job.
-abbrev Exclusive_ends : Type 0
-Exclusive_ends =
-    (a : Machine) × (d : Daemon) × (machine_at exclusive_end 1 ≡ Some a) × (a.daemon ≡ Some d) × (length (job_calls d.trace 1) ≡ 6)
-    × (reply_to d.trace 1 ≡ Some (record { at = 6; reply = Granted 1 }))
-
-exclusive_ends : Exclusive_ends
+exclusive_ends : IsSome (seek_ends exclusive_end 1 1 6 1)
 unfolding after_answer after_answer_of after_end after_free after_input after_join_answer after_lease_answer after_renewal after_request_read after_see_request after_survey after_value_read area_next before_input begin_next begin_recoveries begin_recovery begins block_rules carry_decision carry_delta carry_lease checked_part count_event decided decoded delta_rules digits due due_step event_forms event_tests field_bytes fields_of finish finish_session first_change forms goes_on_with header_forms header_of header_tests initial_record instance_of join_on_wake kill_holders kills known leader_rules lease_next leave_holdings locks_after lvm_forms lvm_turn machine_of_header magic next_after_deciding next_after_first next_after_verify next_after_watch next_in_joining next_on_wake next_renewal on_exit on_line on_spawned on_wake padded_text pass_tests phase1_block phase2_block refuse renew_on_wake reply_words request_refusal request_rules see_requests settle settle_next settle_on_wake settlings signal_and_refuse spelling stop_of take_input time_out time_outs told_effects u32_at u32_bytes u64_at u64_bytes value_rules
-exclusive_ends = (_, _, refl, refl, refl, refl)
+exclusive_ends = refl
 
 exclusive_each : EachDaemon Lawful exclusive_end
 exclusive_each = found (seek_each_daemon exclusive_end) exclusive_laws
@@ -126,18 +120,17 @@ exclusive_is_lawful =
 exclusive_granted : IsQuietlyGranted exclusive_events exclusive_text false 6
 exclusive_granted =
     let start : QuietStart world 1 exclusive_text quiet_resource false 7 = found (seek_start world 1 exclusive_text quiet_resource false 7) exclusive_start in
+    let ends : Ends exclusive_end 1 1 6 1 = found (seek_ends exclusive_end 1 1 6 1) exclusive_ends in
     record {
-      lawful = exclusive_is_lawful;
-      each = exclusive_each;
       start = start;
       job = found (seek_for FirstJob (machine_at world 1) seek_job) job_found start.machine start.runs.0 start.daemon start.runs.1;
       session = found (seek_for FirstSession (machine_at world 1) seek_session) session_found start.machine start.runs.0 start.daemon start.runs.1 start.session start.named;
       stays = found (seek_quiet world exclusive_run 1 1 quiet_resource false 7 0) exclusive_quiet;
-      machine = exclusive_ends.0;
-      daemon = exclusive_ends.1;
-      after = (exclusive_ends.2, exclusive_ends.3);
-      count = exclusive_ends.4;
-      granted = exclusive_ends.5;
+      machine = ends.machine;
+      daemon = ends.daemon;
+      after = ends.after;
+      count = ends.count;
+      granted = ends.granted;
     }
 
 -- ---- shared
@@ -148,14 +141,6 @@ shared_run = due_run world shared_events
 abbrev shared_end : World
 shared_end = world_at cheap_program witness_header shared_run
 
-shared_is_run : IsSome (seek_run world shared_events)
-unfolding after_answer after_answer_of after_end after_free after_input after_join_answer after_lease_answer after_renewal after_request_read after_see_request after_survey after_value_read area_next before_input begin_next begin_recoveries begin_recovery begins block_rules carry_decision carry_delta carry_lease checked_part count_event decided decoded delta_rules digits due due_step event_forms event_tests field_bytes fields_of finish finish_session first_change forms goes_on_with header_forms header_of header_tests initial_record instance_of join_on_wake kill_holders kills known leader_rules lease_next leave_holdings locks_after lvm_forms lvm_turn machine_of_header magic next_after_deciding next_after_first next_after_verify next_after_watch next_in_joining next_on_wake next_renewal on_exit on_line on_spawned on_wake padded_text pass_tests phase1_block phase2_block refuse renew_on_wake reply_words request_refusal request_rules see_requests settle settle_next settle_on_wake settlings signal_and_refuse spelling stop_of take_input time_out time_outs told_effects u32_at u32_bytes u64_at u64_bytes value_rules
-shared_is_run = refl
-
-shared_laws : IsSome (seek_each_daemon shared_end)
-unfolding after_answer after_answer_of after_end after_free after_input after_join_answer after_lease_answer after_renewal after_request_read after_see_request after_survey after_value_read area_next before_input begin_next begin_recoveries begin_recovery begins block_rules carry_decision carry_delta carry_lease checked_part count_event decided decoded delta_rules digits due due_step event_forms event_tests field_bytes fields_of finish finish_session first_change forms goes_on_with header_forms header_of header_tests initial_record instance_of join_on_wake kill_holders kills known leader_rules lease_next leave_holdings locks_after lvm_forms lvm_turn machine_of_header magic next_after_deciding next_after_first next_after_verify next_after_watch next_in_joining next_on_wake next_renewal on_exit on_line on_spawned on_wake padded_text pass_tests phase1_block phase2_block refuse renew_on_wake reply_words request_refusal request_rules see_requests settle settle_next settle_on_wake settlings signal_and_refuse spelling stop_of take_input time_out time_outs told_effects u32_at u32_bytes u64_at u64_bytes value_rules
-shared_laws = refl
-
 shared_start : IsSome (seek_start world 1 shared_text quiet_resource true 7)
 unfolding after_answer after_answer_of after_end after_free after_input after_join_answer after_lease_answer after_renewal after_request_read after_see_request after_survey after_value_read area_next before_input begin_next begin_recoveries begin_recovery begins block_rules carry_decision carry_delta carry_lease checked_part count_event decided decoded delta_rules digits due due_step event_forms event_tests field_bytes fields_of finish finish_session first_change forms goes_on_with header_forms header_of header_tests initial_record instance_of join_on_wake kill_holders kills known leader_rules lease_next leave_holdings locks_after lvm_forms lvm_turn machine_of_header magic next_after_deciding next_after_first next_after_verify next_after_watch next_in_joining next_on_wake next_renewal on_exit on_line on_spawned on_wake padded_text pass_tests phase1_block phase2_block refuse renew_on_wake reply_words request_refusal request_rules see_requests settle settle_next settle_on_wake settlings signal_and_refuse spelling stop_of take_input time_out time_outs told_effects u32_at u32_bytes u64_at u64_bytes value_rules
 shared_start = refl
@@ -164,44 +149,25 @@ shared_quiet : IsSome (seek_quiet world shared_run 1 1 quiet_resource true 7 0)
 unfolding after_answer after_answer_of after_end after_free after_input after_join_answer after_lease_answer after_renewal after_request_read after_see_request after_survey after_value_read area_next before_input begin_next begin_recoveries begin_recovery begins block_rules carry_decision carry_delta carry_lease checked_part count_event decided decoded delta_rules digits due due_step event_forms event_tests field_bytes fields_of finish finish_session first_change forms goes_on_with header_forms header_of header_tests initial_record instance_of join_on_wake kill_holders kills known leader_rules lease_next leave_holdings locks_after lvm_forms lvm_turn machine_of_header magic next_after_deciding next_after_first next_after_verify next_after_watch next_in_joining next_on_wake next_renewal on_exit on_line on_spawned on_wake padded_text pass_tests phase1_block phase2_block refuse renew_on_wake reply_words request_refusal request_rules see_requests settle settle_next settle_on_wake settlings signal_and_refuse spelling stop_of take_input time_out time_outs told_effects u32_at u32_bytes u64_at u64_bytes value_rules
 shared_quiet = refl
 
--- The daemon in the end, with its job.
-abbrev Shared_ends : Type 0
-Shared_ends =
-    (a : Machine) × (d : Daemon) × (machine_at shared_end 1 ≡ Some a) × (a.daemon ≡ Some d) × (length (job_calls d.trace 1) ≡ 8)
-    × (reply_to d.trace 1 ≡ Some (record { at = 8; reply = Granted 1 }))
-
-shared_ends : Shared_ends
+shared_ends : IsSome (seek_ends shared_end 1 1 8 1)
 unfolding after_answer after_answer_of after_end after_free after_input after_join_answer after_lease_answer after_renewal after_request_read after_see_request after_survey after_value_read area_next before_input begin_next begin_recoveries begin_recovery begins block_rules carry_decision carry_delta carry_lease checked_part count_event decided decoded delta_rules digits due due_step event_forms event_tests field_bytes fields_of finish finish_session first_change forms goes_on_with header_forms header_of header_tests initial_record instance_of join_on_wake kill_holders kills known leader_rules lease_next leave_holdings locks_after lvm_forms lvm_turn machine_of_header magic next_after_deciding next_after_first next_after_verify next_after_watch next_in_joining next_on_wake next_renewal on_exit on_line on_spawned on_wake padded_text pass_tests phase1_block phase2_block refuse renew_on_wake reply_words request_refusal request_rules see_requests settle settle_next settle_on_wake settlings signal_and_refuse spelling stop_of take_input time_out time_outs told_effects u32_at u32_bytes u64_at u64_bytes value_rules
-shared_ends = (_, _, refl, refl, refl, refl)
-
-shared_each : EachDaemon Lawful shared_end
-shared_each = found (seek_each_daemon shared_end) shared_laws
-
-shared_is_lawful : LawfulRun cheap_program witness_header shared_run
-shared_is_lawful =
-    record {
-      header = found (seek_header witness_header) header_found;
-      digest = cheap_is_digest;
-      is_run = found (seek_run world shared_events) shared_is_run;
-      lawful = λ d has. (shared_each d has).orderly;
-    }
+shared_ends = refl
 
 shared_granted : IsQuietlyGranted shared_events shared_text true 8
 shared_granted =
     let start : QuietStart world 1 shared_text quiet_resource true 7 = found (seek_start world 1 shared_text quiet_resource true 7) shared_start in
+    let ends : Ends shared_end 1 1 8 1 = found (seek_ends shared_end 1 1 8 1) shared_ends in
     record {
-      lawful = shared_is_lawful;
-      each = shared_each;
       start = start;
       job = found (seek_for FirstJob (machine_at world 1) seek_job) job_found start.machine start.runs.0 start.daemon start.runs.1;
       session = found (seek_for FirstSession (machine_at world 1) seek_session) session_found start.machine start.runs.0 start.daemon start.runs.1 start.session start.named;
       stays = found (seek_quiet world shared_run 1 1 quiet_resource true 7 0) shared_quiet;
-      machine = shared_ends.0;
-      daemon = shared_ends.1;
-      after = (shared_ends.2, shared_ends.3);
-      count = shared_ends.4;
-      granted = shared_ends.5;
+      machine = ends.machine;
+      daemon = ends.daemon;
+      after = ends.after;
+      count = ends.count;
+      granted = ends.granted;
     }
 
 pub quiet_acquires_are_shown : QuietAcquiresAreShown
-quiet_acquires_are_shown = record { exclusive = exclusive_granted; shared = shared_granted }
+quiet_acquires_are_shown = record { lawful = exclusive_is_lawful; each = exclusive_each; exclusive = exclusive_granted; shared = shared_granted }

@@ -4,7 +4,7 @@ use Rattle.sl_leases.specs.Counts.{held_here, limit_met, may_act}
 use Rattle.sl_leases.specs.Leases.{is_leader_of, is_on, known, open_on, owed, spot_of}
 use Rattle.sl_plain.proofs.Lists.{got_inside}
 use Rattle.sl_run.specs.Events.{happens, machine_of}
-use Rattle.sl_run.specs.Quiet.{AnsweredInTime, QuietStart, QuietStep, StaysQuiet, before_command, leader_there, request_there}
+use Rattle.sl_run.specs.Quiet.{AnsweredInTime, QuietStart, QuietStep, StaysQuiet, before_command, job_calls, leader_there, request_there}
 use Rattle.sl_run.specs.Runs.{Happening}
 use Rattle.sl_run.specs.Safety.{block_there}
 use Rattle.sl_run.specs.Worlds.{Course, Daemon, Machine, World, is_open, is_write_course, machine_at, reading_now}
@@ -13,15 +13,17 @@ use Rattle.sl_run.specs.declared.event.Event.{Event}
 use Rattle.sl_sector.specs.declared.sector.Block.{Block}
 use Rattle.sl_sessions.specs.Sessions.{is_active, session_named, session_numbered}
 use Rattle.sl_sessions.specs.declared.session.Session.{Session}
-use Rattle.sl_trace.specs.Traces.{Answered, Submitted, is_of_job, is_ok_answer, submitted}
+use Rattle.sl_trace.specs.Traces.{Answered, Replied, Submitted, is_of_job, is_ok_answer, reply_to, submitted}
 use Rattle.sl_trace.specs.declared.command.Command.TheVariants.{Acquire}
 use Rattle.sl_trace.specs.declared.command.Command.{Command}
 use Rattle.sl_trace.specs.declared.command.ResourceArg.{ResourceArg}
+use Rattle.sl_trace.specs.declared.reply.Reply.TheVariants.{Granted}
+use Rattle.sl_trace.specs.declared.reply.Reply.{Reply}
 use Rattle.sl_witness.proofs.Seeking.{seek_all, seek_empty, seek_false, seek_for, seek_if, seek_lt, seek_le, seek_none, seek_same, seek_some, seek_text, seek_true, seek_up_to, ◌>>=◌}
 use Rattle.sl_words.proofs.CaseLaws.{none_some, true_is_false}
 use Rattle.sl_words.specs.Bounds.{record_numbers}
 use Rattle.std.proofs.Common.{ap, refl, sym, ◌∙◌}
-use Rattle.std.specs.Prelude.{Bool, Contains, Err, IsTrue, List, None, Ok, Option, Result, Some, false, is_some, map, option_to_list, slice_get, true, [], ℕ, ◌&&◌, ◌+◌, ◌-◌, ◌<◌, ◌==◌, ◌∷◌, ◌≡◌, ◌≤◌}
+use Rattle.std.specs.Prelude.{Bool, Contains, Err, IsTrue, List, None, Ok, Option, Result, Some, false, if◌then◌else◌, is_some, length, map, option_to_list, slice_get, true, [], ℕ, ◌&&◌, ◌+◌, ◌-◌, ◌<◌, ◌==◌, ◌∷◌, ◌≡◌, ◌≤◌}
 
 -- ---- the command
 
@@ -84,7 +86,7 @@ seek_grounded w r a =
       h ← seek_false (flies w r a c)
       Some (not_flying (flies w r a c) h)) a.calls
 
-on_list_by : (ms : List Machine) (k : ℕ) (a : Machine) (t : Bool) → (elim t as (λ z. Option Machine) [ true ↦ None | false ↦ slice_get ms k ]) ≡ Some a → Contains ms a
+on_list_by : (ms : List Machine) (k : ℕ) (a : Machine) (t : Bool) → (if t then None else slice_get ms k) ≡ Some a → Contains ms a
 on_list_by ms k a true h = absurd (none_some a h)
 on_list_by ms k a false h = got_inside ms k a h
 
@@ -219,3 +221,37 @@ seek_quiet w (x ∷ xs) m job r shared p number = do
   step ← seek_step w x (happens w x.0 x.1) m job r shared p number
   rest ← seek_quiet (happens w x.0 x.1) xs m job r shared p number
   Some (step, rest)
+
+-- ---- the end
+
+pub same_grant : (r : Replied) (k n lver : ℕ) → r.at ≡ n → r.reply ≡ Granted k → k ≡ lver → Some r ≡ Some (record { at = n; reply = Granted lver })
+same_grant r k n lver at reply same =
+    ap (λ y. let z : Replied = record r { at = y } in Some z) at ∙ ap (λ y. let z : Replied = record { at = n; reply = y } in Some z) (reply ∙ ap (λ y. Granted y) same)
+
+abbrev pub seek_grant : (r : Reply) → Option ((lver : ℕ) × (r ≡ Granted lver))
+seek_grant (Granted lver) = Some (lver, refl)
+seek_grant r = None
+
+abbrev pub seek_granted : (o : Option Replied) (n lver : ℕ) → Option (o ≡ Some (record { at = n; reply = Granted lver }))
+seek_granted None n lver = None
+seek_granted (Some r) n lver = do
+  at ← seek_same r.at n
+  reply ← seek_grant r.reply
+  same ← seek_same reply.0 lver
+  Some (same_grant r reply.0 n lver at reply.1 same)
+
+-- The daemon of a machine in the end, with what its job has made and was told.
+pub record Ends (w : World) (m job calls lver : ℕ) : Type 0 where
+  pub machine : Machine
+  pub daemon : Daemon
+  pub after : (machine_at w m ≡ Some machine) × (machine.daemon ≡ Some daemon)
+  pub count : length (job_calls daemon.trace job) ≡ calls
+  pub granted : reply_to daemon.trace job ≡ Some (record { at = calls; reply = Granted lver })
+
+abbrev pub seek_ends : (w : World) (m job calls lver : ℕ) → Option (Ends w m job calls lver)
+seek_ends w m job calls lver = do
+  a ← seek_some (machine_at w m)
+  d ← seek_some a.0.daemon
+  count ← seek_same (length (job_calls d.0.trace job)) calls
+  granted ← seek_granted (reply_to d.0.trace job) calls lver
+  Some (record { machine = a.0; daemon = d.0; after = (a.1, d.1); count = count; granted = granted })

@@ -8,7 +8,7 @@ pub fn takeover_is_lawful()
     ensures { TakeoverIsLawful }
 {}
 
-/// There are lawful runs in which an acquire that nothing stands in the way of is granted: an exclusive one by six calls, a shared one by eight.
+/// There is a lawful run in which an acquire that nothing stands in the way of is granted by six calls, and one with a shared acquire by eight.
 pub fn quiet_acquires_are_shown()
     ensures { QuietAcquiresAreShown }
 {}
