@@ -1,6 +1,6 @@
 -- What acquires show beside what may stand in their way: where nothing does they are granted, and without each of these premises alone one is
 -- not.
-use Rattle.sl_examples.specs.QuietRows.{alone_exclusive, alone_shared, answered_failed, answered_late, held_elsewhere, process_exits, second_writer, shared_elsewhere}
+use Rattle.sl_examples.specs.QuietRows.{alone_exclusive, alone_shared, answered_failed, answered_late, beside_leases, held_elsewhere, process_exits, second_writer, shared_elsewhere}
 use Rattle.sl_examples.specs.QuietTests.{granted_by, outcome_in, refused_but_for}
 use Rattle.std.specs.Prelude.{codes, ◌≡◌}
 
@@ -19,3 +19,5 @@ pub record QuietPremisesTell : Type 0 where
   pub left : outcome_in process_exits 0 ≡ refused_but_for (codes "stays") 2
   -- another host holds it exclusive
   pub taken : outcome_in held_elsewhere 7 ≡ refused_but_for (codes "free") 1
+  -- a limit is met: 256 resources, and one more
+  pub limited : beside_leases 256 ≡ refused_but_for (codes "limit") 0

@@ -29,7 +29,7 @@ use Rattle.sl_trace.specs.declared.reply.Reply.{Reply}
 use Rattle.sl_words.specs.Bounds.{record_numbers}
 use Rattle.sl_words.specs.Words.{first_of_list, is_empty, some_is}
 use Rattle.std.specs.List.{list_all, list_any, range_with_len}
-use Rattle.std.specs.Prelude.{Bool, Err, List, None, Ok, Option, Result, Some, bytes_eq, codes, drop, false, filter, flat_map, is_none, is_some, length, map, nat_le, nat_lt, not, option_and_then, option_map, option_to_list, take, true, [], ℕ, ◌&&◌, ◌++◌, ◌+◌, ◌==◌, ◌||◌, ◌∷◌}
+use Rattle.std.specs.Prelude.{Bool, List, None, Ok, Option, Result, Some, bytes_eq, codes, drop, false, filter, flat_map, is_none, is_some, length, map, nat_le, nat_lt, not, option_and_then, option_map, option_to_list, take, true, [], ℕ, ◌&&◌, ◌++◌, ◌+◌, ◌==◌, ◌||◌, ◌∷◌}
 
 -- ---- the acquire
 

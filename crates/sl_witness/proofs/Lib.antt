@@ -12,3 +12,5 @@ pub mod Traces
 pub mod Headers
 pub mod Running
 pub mod Taking
+pub mod Quietness
+pub mod Granted

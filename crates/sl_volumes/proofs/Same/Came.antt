@@ -4,10 +4,10 @@ use Rattle.sl_history.specs.Resources.Sending.{Sent, sender_of}
 use Rattle.sl_id_safety.proofs.Silence.{GoesOn, goes_on, old_stamp}
 use Rattle.sl_id_safety.proofs.State.Timing.{stamp_below}
 use Rattle.sl_plain.proofs.Lists.{contains_none, kept_inside}
-use Rattle.sl_run.specs.Events.{first_change, input_of, machine_of}
+use Rattle.sl_run.specs.Events.{first_change}
 use Rattle.sl_run.specs.Runs.{Happening}
 use Rattle.sl_run.specs.Safety.{Found, IsSession, LawfulRun, SessionId, is_course_of, session_of_world, trace_of, world_at}
-use Rattle.sl_run.specs.Worlds.{Course, Daemon, Machine, Program, Stamp, World, is_of_running, is_open, machine_at, may_land, world_with}
+use Rattle.sl_run.specs.Worlds.{Course, Daemon, Machine, Program, Stamp, World, is_of_running, is_open, machine_at, may_land}
 use Rattle.sl_run.specs.declared.header.Header.{Header}
 use Rattle.sl_run_law.proofs.Beginnings.{begins_new}
 use Rattle.sl_run_law.proofs.Course.Distinct.{each_distinct}
@@ -15,18 +15,16 @@ use Rattle.sl_run_law.proofs.Course.Matched.{courses_are_calls}
 use Rattle.sl_run_law.proofs.Front.Going.{fronts_are_lawful, last_event, run_keeps}
 use Rattle.sl_run_law.proofs.Going.{first_goes}
 use Rattle.sl_run_law.proofs.Landing.Listing.{one_call}
-use Rattle.sl_run_law.proofs.Landing.Passing.{world_first, world_then}
-use Rattle.sl_run_law.proofs.Landing.Stepping.{IsMade, Step, came}
+use Rattle.sl_run_law.proofs.Landing.Stepping.{came}
 use Rattle.sl_run_law.proofs.Place.Finding.{partner_of}
 use Rattle.sl_run_law.specs.Moment.Orders.{Fall}
-use Rattle.sl_run_law.specs.Course.Stamping.{AnswersAgree, IsAnsweredAs, IsCourseOf, courses_of, stamp_in}
+use Rattle.sl_run_law.specs.Course.Stamping.{AnswersAgree, IsAnsweredAs, IsCourseOf, courses_of}
 use Rattle.sl_safety.proofs.Value.Coming.{WasThere}
 use Rattle.sl_safety.proofs.Value.Owning.{OwnCall, own_call}
 use Rattle.sl_safety.proofs.Value.Reading.{is_own}
 use Rattle.sl_safety.proofs.Value.Replying.{answered_by}
 use Rattle.sl_trace.specs.Traces.{Answered, Submitted, Trace, submitted}
 use Rattle.sl_trace.specs.declared.effects.Call.{Call}
-use Rattle.sl_trace.specs.declared.effects.Effects.{Effects}
 use Rattle.sl_trace.specs.declared.effects.Entry.{Entry}
 use Rattle.sl_trace_law.proofs.Sessions.Making.{answers_stay}
 use Rattle.sl_words.proofs.CaseLaws.{no_value, none_some, one_value, some_value, true_is_false}
@@ -34,7 +32,7 @@ use Rattle.sl_words.specs.Words.{some_is}
 use Rattle.std.proofs.Common.{ap, arith, inl, inr, refl, subst, sym, ◌∙◌}
 use Rattle.std.proofs.lemmas.Bool.{and_from, eq-eqb, or_left}
 use Rattle.std.proofs.lemmas.List.{append_assoc}
-use Rattle.std.specs.Prelude.{Bool, Contains, List, None, Option, Some, [], is_none, length, suc, true, ℕ, ◌++◌, ◌+◌, ◌<◌, ◌==◌, ◌||◌, ◌∷◌, ◌≡◌, ◌≤◌, ◌⊎◌}
+use Rattle.std.specs.Prelude.{Contains, List, None, Option, Some, [], is_none, length, true, ℕ, ◌++◌, ◌+◌, ◌<◌, ◌==◌, ◌||◌, ◌∷◌, ◌≡◌}
 
 -- ---- the front before an answer
 

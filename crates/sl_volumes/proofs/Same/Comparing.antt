@@ -7,11 +7,11 @@ use Rattle.sl_lvm.specs.declared.turn.LvmOut.TheVariants.{Ask, Quiet, Reply as L
 use Rattle.sl_lvm.specs.declared.turn.LvmOut.{LvmOut}
 use Rattle.sl_plain.proofs.Lists.{contains_first, find_inside}
 use Rattle.sl_plain.proofs.Options.{mapped_value, then_value}
-use Rattle.sl_run.specs.Events.{after_step, event_tests, first_change, happens, if_running, input_at, input_of, machine_of, may_happen, next_step, number_of_step, ok_input, rest_sampled, sectors_left, take_step, with_entry}
+use Rattle.sl_run.specs.Events.{after_step, event_tests, first_change, happens, if_running, input_at, input_of, machine_of, may_happen, next_step, ok_input, rest_sampled, sectors_left, take_step, with_entry}
 use Rattle.sl_run.specs.Locks.{Locks, Told, after_turn, is_lock_exit, locks_after, numbered_locks, replied_locks, turned_locks}
 use Rattle.sl_run.specs.Reach.{TellsSame}
 use Rattle.sl_run.specs.Runs.{Happening}
-use Rattle.sl_run.specs.Safety.{LawfulRun, world_at}
+use Rattle.sl_run.specs.Safety.{world_at}
 use Rattle.sl_run.specs.Worlds.{Course as MadeCall, Daemon, Machine, Program, Stamp, World, daemons_on, machine_at, stamp_now, world_with}
 use Rattle.sl_run.specs.declared.event.Event.TheVariants.{AnswerCall, Crash, Do, DropWrite, ExitOf, GiveAsk, GiveCommand, GiveLvm, Land, Pass, Reset, Restart, Sample, SpawnedOf, StartDaemon, Tear, Test, WakeUp}
 use Rattle.sl_run.specs.declared.event.Event.{Event}
@@ -33,22 +33,21 @@ use Rattle.sl_trace.specs.declared.effects.Op.{Op}
 use Rattle.sl_trace.specs.declared.input.Answer.TheVariants.{Failed, Read, Written}
 use Rattle.sl_trace.specs.declared.input.Input.TheVariants.{Answer as Heard, Exit, Line, Number, Spawned, Wake}
 use Rattle.sl_trace.specs.declared.input.Input.{Input}
-use Rattle.sl_trace.specs.declared.reply.Reply.TheVariants.{Value}
 use Rattle.sl_trace.specs.declared.reply.Reply.{Reply}
 use Rattle.sl_volumes.proofs.Asked.{AskedHolds, GivesAsk, gives_ask, locks_stay, machines_ask, number_is, numbered_asked}
 use Rattle.sl_volumes.proofs.Fronts.{daemon_reads, on_machine}
 use Rattle.sl_volumes.proofs.Machines.{machines_hold}
 use Rattle.sl_volumes.proofs.Same.Telling.{TellsRead}
 use Rattle.sl_volumes.proofs.Same.Texts.{ReadSame, told_same}
-use Rattle.sl_volumes.proofs.Same.Values.{TellsValue, value_told}
+use Rattle.sl_volumes.proofs.Same.Values.{value_told}
 use Rattle.sl_volumes.proofs.Seen.{asked_job}
 use Rattle.sl_volumes.proofs.Standing.{LocksHold, ended_by, numbered_hold, numbered_lvm}
 use Rattle.sl_volumes.specs.Fitting.{AnsweredRun, IsJobOf}
-use Rattle.sl_words.proofs.CaseLaws.{false_is_true, none_some, one_value, some_value, true_is_false}
+use Rattle.sl_words.proofs.CaseLaws.{none_some, one_value, some_value, true_is_false}
 use Rattle.sl_words.proofs.WordLaws.{choose_some}
-use Rattle.std.proofs.Common.{ap, arith, inl, inr, refl, subst, sym, ◌∙◌}
+use Rattle.std.proofs.Common.{ap, arith, refl, subst, sym, ◌∙◌}
 use Rattle.std.proofs.lemmas.Bool.{eqb-true}
-use Rattle.std.specs.Prelude.{Bool, Contains, List, None, Ok, Option, Some, [], false, find, is_some, option_and_then, option_map, true, ℕ, ◌++◌, ◌+◌, ◌==◌, ◌∷◌, ◌≡◌}
+use Rattle.std.specs.Prelude.{Bool, Contains, List, None, Option, Some, [], false, find, is_some, option_and_then, option_map, true, ℕ, ◌++◌, ◌+◌, ◌==◌, ◌∷◌, ◌≡◌}
 
 -- ---- what the locks told
 

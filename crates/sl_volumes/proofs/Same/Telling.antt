@@ -1,5 +1,5 @@
 -- What told a version: the answer of a call on the group's value, which read it or wrote it.
-use Rattle.sl_area.specs.Layouts.{Layout, record_in}
+use Rattle.sl_area.specs.Layouts.{Layout}
 use Rattle.sl_area.specs.Places.{value_offset}
 use Rattle.sl_history.proofs.Resources.Alone.{head_pairs, tail_pairs}
 use Rattle.sl_id_safety.proofs.State.Keeping.{is_place}
@@ -8,14 +8,14 @@ use Rattle.sl_id_safety.proofs.State.Proven.{grounds}
 use Rattle.sl_law.specs.Caused.{AnswersWell, IsCaused}
 use Rattle.sl_law.specs.Lawful.{Orderly}
 use Rattle.sl_law.specs.Saying.{IsAnsweredAt}
-use Rattle.sl_leases.specs.Leases.{spot_of, spot_of_call, value_of_record, value_written}
+use Rattle.sl_leases.specs.Leases.{spot_of, spot_of_call, value_of_record}
 use Rattle.sl_lvm.specs.LockNames.{group_lock, resource_of}
 use Rattle.sl_lvm.specs.Lvm.{lock_process}
 use Rattle.sl_plain.proofs.Lists.{contains_cases, contains_none, kept_inside}
 use Rattle.sl_run.specs.Runs.{Happening}
 use Rattle.sl_run.specs.Safety.{world_at}
-use Rattle.sl_run.specs.Values.{IsGivenValue, IsSet}
-use Rattle.sl_run.specs.Worlds.{Course, Daemon, Machine, Program, Stamp, World, daemon_numbered, daemons_on, machine_at}
+use Rattle.sl_run.specs.Values.{IsGivenValue}
+use Rattle.sl_run.specs.Worlds.{Course, Daemon, Machine, Program, Stamp, World, daemons_on, machine_at}
 use Rattle.sl_run.specs.declared.header.Header.{Header}
 use Rattle.sl_run_law.proofs.Course.Matched.{courses_are_calls}
 use Rattle.sl_run_law.proofs.Course.Mirrored.{machines_mirror}
@@ -27,8 +27,7 @@ use Rattle.sl_run_law.specs.Course.Stamping.{AnswersAgree, IsAnsweredAs, IsCours
 use Rattle.sl_sector.specs.declared.sector.Rec.TheVariants.{BlockIs, DeltaIs, LeaderIs, RequestIs, ValueIs}
 use Rattle.sl_sector.specs.declared.sector.Rec.{Rec}
 use Rattle.sl_sector.specs.declared.sector.ValueRec.{ValueRec}
-use Rattle.sl_sessions.specs.Sessions.{calls_of, is_call_of, session_numbered}
-use Rattle.sl_sessions.specs.declared.session.Session.{Session}
+use Rattle.sl_sessions.specs.Sessions.{is_call_of, session_numbered}
 use Rattle.sl_trace.specs.Traces.{Answered, Job, Replied, Setting, Submitted, Trace, call_numbered, is_ok_answer, job_numbered, record_of, reply_in, reply_to, submitted}
 use Rattle.sl_trace.specs.declared.command.Command.TheVariants.{GetLvb, SetLvb}
 use Rattle.sl_trace.specs.declared.command.Command.{Command}
@@ -49,7 +48,7 @@ use Rattle.sl_words.proofs.CaseLaws.{none_some, one_value, some_value}
 use Rattle.std.proofs.Common.{ap, inl, inr, refl, subst, sym, ◌∙◌}
 use Rattle.std.proofs.lemmas.Bool.{eq-eqb, eqb-true}
 use Rattle.std.proofs.lemmas.List.{append-nil}
-use Rattle.std.specs.Prelude.{AllPairs, Bool, Contains, IsSomeAnd, List, None, Ok, Option, Result, Some, [], false, find, if◌then◌else◌, length, option_and_then, option_map, true, ℕ, ◌++◌, ◌==◌, ◌∷◌, ◌≡◌, ◌≢◌, ◌⊎◌}
+use Rattle.std.specs.Prelude.{AllPairs, Bool, Contains, IsSomeAnd, List, None, Ok, Option, Result, Some, [], false, find, if◌then◌else◌, length, option_and_then, option_map, true, ℕ, ◌==◌, ◌∷◌, ◌≡◌, ◌≢◌, ◌⊎◌}
 
 -- The place of a group's value.
 abbrev pub value_spot : ℕ → List ℕ → Spot

@@ -1,5 +1,5 @@
 -- A write of the group's value that was answered after a version was told came after the write of that version.
-use Rattle.sl_area.specs.Layouts.{Layout, record_in}
+use Rattle.sl_area.specs.Layouts.{Layout}
 use Rattle.sl_area.specs.Places.{value_offset}
 use Rattle.sl_history.proofs.Resources.Calls.{IsOwned, found_of, owned, owner_found, there_sent}
 use Rattle.sl_history.proofs.Resources.Steps.{call_timed}
@@ -7,10 +7,10 @@ use Rattle.sl_history.specs.Resources.Sending.{Sent, sender_of}
 use Rattle.sl_id_safety.proofs.State.Bridge.{falls_below}
 use Rattle.sl_id_safety.proofs.State.Keeping.{is_place}
 use Rattle.sl_id_safety.proofs.Steps.OtherSessions.{goes_has}
-use Rattle.sl_run.specs.Runs.{Happening, world_after}
+use Rattle.sl_run.specs.Runs.{Happening}
 use Rattle.sl_run.specs.Safety.{Found, LawfulRun, SessionId, world_at}
-use Rattle.sl_run.specs.Values.{IsSet, MayRead}
-use Rattle.sl_run.specs.Worlds.{Course, Daemon, Machine, Program, Stamp, World, first_landing, is_open, machine_at, world_with}
+use Rattle.sl_run.specs.Values.{IsSet}
+use Rattle.sl_run.specs.Worlds.{Course, Daemon, Machine, Program, Stamp, World, is_open, machine_at, world_with}
 use Rattle.sl_run.specs.declared.header.Header.{Header}
 use Rattle.sl_run_law.proofs.Front.Going.{fronts_are_lawful, run_after}
 use Rattle.sl_run_law.proofs.Moment.Ordering.{machines_ordered}
@@ -19,12 +19,11 @@ use Rattle.sl_run_law.proofs.Place.Reading.{layout_is}
 use Rattle.sl_run_law.proofs.Tracking.{run_tracks}
 use Rattle.sl_run_law.specs.Courses.{Continues}
 use Rattle.sl_safety.proofs.Value.Barring.{none_between}
-use Rattle.sl_safety.proofs.Value.Coming.{Comes, WasThere, calls_come}
+use Rattle.sl_safety.proofs.Value.Coming.{WasThere, calls_come}
 use Rattle.sl_safety.proofs.Value.Fronting.{reader_there}
 use Rattle.sl_safety.proofs.Value.Proven.{holders_keep_values, one_writes_value, values_are_last}
 use Rattle.sl_safety.proofs.Value.Reading.{Reader, given_to, is_own}
 use Rattle.sl_safety.specs.Value.Writing.{WritesValue}
-use Rattle.sl_sector.specs.Spelling.{value_in}
 use Rattle.sl_sector.specs.declared.sector.Rec.TheVariants.{ValueIs}
 use Rattle.sl_sector.specs.declared.sector.ValueRec.{ValueRec}
 use Rattle.sl_trace.specs.Traces.{Trace, record_of}
@@ -35,9 +34,9 @@ use Rattle.sl_volumes.proofs.Same.First.{first_is_unset}
 use Rattle.sl_volumes.proofs.Same.Telling.{IsRead, IsWritten, value_spot}
 use Rattle.sl_volumes.proofs.Same.Versions.{has_seq, one_version}
 use Rattle.sl_words.proofs.CaseLaws.{one_value, some_value}
-use Rattle.std.proofs.Common.{ap, arith, inl, inr, refl, subst, sym, ◌∙◌}
+use Rattle.std.proofs.Common.{ap, arith, inl, inr, subst, sym, ◌∙◌}
 use Rattle.std.proofs.lemmas.List.{append_assoc}
-use Rattle.std.specs.Prelude.{Contains, List, Some, [], true, ℕ, ◌++◌, ◌+◌, ◌<◌, ◌≡◌, ◌≤◌, ◌⊎◌}
+use Rattle.std.specs.Prelude.{Contains, List, Some, true, ℕ, ◌++◌, ◌+◌, ◌<◌, ◌≡◌, ◌≤◌}
 
 -- ---- calls later and before
 

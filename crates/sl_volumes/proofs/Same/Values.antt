@@ -1,9 +1,8 @@
 -- What an ok reply to the read of a value tells, by its cause: a value.
 use Rattle.sl_law.specs.Caused.{Answering, CausedBy, after_entry}
 use Rattle.sl_trace.specs.EffectTexts.{is_ok_reply}
-use Rattle.sl_trace.specs.Traces.{Job, job_numbered}
+use Rattle.sl_trace.specs.Traces.{job_numbered}
 use Rattle.sl_trace.specs.declared.command.Command.TheVariants.{AddLockspace, GetLvb, HostStatus, InqLockspace, RunProgram, SetLvb, Status}
-use Rattle.sl_trace.specs.declared.command.Command.{Command}
 use Rattle.sl_trace.specs.declared.command.LockspaceArg.{LockspaceArg}
 use Rattle.sl_trace.specs.declared.command.ResourceArg.{ResourceArg}
 use Rattle.sl_trace.specs.declared.reply.Reply.TheVariants.{Ahead, BadCommand as Misread, Busy, Done, Generation, Granted, Held, Hosts, IdHeld, IdLate, IdLost, IoFault, IoTimeout, Joined, Joining as StillJoining, Limit, NoOrphan, NoProcess, NoSession, NotHeld, Pending, Recovering, RequestOld, Rival, Sessions, Shared, SpawnFault, Started, TornBlock, TornDelta, TornLeader, Value, ValueSet, ValueTorn, WrongArea, WrongDelta}

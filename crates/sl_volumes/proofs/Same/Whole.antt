@@ -20,7 +20,7 @@ use Rattle.sl_run_law.proofs.Landing.Stepping.{event_makes}
 use Rattle.sl_run_law.proofs.Place.Finding.{place_is}
 use Rattle.sl_run_law.proofs.Place.Reading.{layout_is}
 use Rattle.sl_run_law.proofs.Watchdog.Stamps.{same_length}
-use Rattle.sl_run_law.specs.Course.Stamping.{IsStampOf, Pairwise, stamp_in}
+use Rattle.sl_run_law.specs.Course.Stamping.{stamp_in}
 use Rattle.sl_safety.proofs.Value.Proven.{values_are_last}
 use Rattle.sl_safety.proofs.Whole.{volumes_exclude}
 use Rattle.sl_sector.specs.declared.sector.Rec.TheVariants.{ValueIs}
@@ -28,7 +28,6 @@ use Rattle.sl_sector.specs.declared.sector.ValueRec.{ValueRec}
 use Rattle.sl_trace.specs.Traces.{Trace, record_of}
 use Rattle.sl_trace.specs.declared.command.Command.TheVariants.{GetLvb, SetLvb}
 use Rattle.sl_trace.specs.declared.effects.Call.{Call}
-use Rattle.sl_trace.specs.declared.effects.Entry.{Entry}
 use Rattle.sl_trace.specs.declared.effects.Spot.{Spot}
 use Rattle.sl_volumes.proofs.Due.{due_runs_are_answered}
 use Rattle.sl_volumes.proofs.Fronts.{answered_front}
@@ -36,20 +35,20 @@ use Rattle.sl_volumes.proofs.Machines.{asks_are_few}
 use Rattle.sl_volumes.proofs.Once.{versions_are_known_once}
 use Rattle.sl_volumes.proofs.Same.Came.{all_done, answered_past}
 use Rattle.sl_volumes.proofs.Same.Comparing.{compares}
-use Rattle.sl_volumes.proofs.Same.Telling.{TellsRead, TellsSet, is_read, is_written, value_spot}
+use Rattle.sl_volumes.proofs.Same.Telling.{is_read, is_written, value_spot}
 use Rattle.sl_volumes.proofs.Same.Unchanged.{AnsweredLate, read_bars, write_bars}
 use Rattle.sl_volumes.proofs.Seen.{versions_were_told}
 use Rattle.sl_volumes.proofs.Taken.{locks_are_taken}
 use Rattle.sl_volumes.specs.Fitting.{AnsweredRun, IsJobOf}
 use Rattle.sl_volumes.specs.Same.{SameIsUnchangedInRuns, VolumesAreSafeInRuns, VolumesAreSafeWhenDue}
-use Rattle.sl_volumes.specs.Seen.{IsTold, TellsVersion, WasTold}
+use Rattle.sl_volumes.specs.Seen.{IsTold, WasTold}
 use Rattle.sl_words.proofs.CaseLaws.{one_value, some_value}
 use Rattle.sl_words.proofs.WordLaws.{and_true}
 use Rattle.std.proofs.Common.{ap, arith, inl, inr, refl, subst, sym, ◌∙◌}
 use Rattle.std.proofs.lemmas.Bool.{cases_lt, eq-eqb, eqb-true}
 use Rattle.std.proofs.lemmas.List.{append-nil, append_assoc}
 use Rattle.std.proofs.lemmas.Slice.Eq.{bytes_eq-Decides}
-use Rattle.std.specs.Prelude.{Contains, IsSomeAnd, List, None, Option, Some, [], bytes_eq, false, length, suc, true, ℕ, ◌&&◌, ◌*◌, ◌++◌, ◌+◌, ◌<◌, ◌==◌, ◌∷◌, ◌≡◌, ◌≤◌, ◌⊎◌}
+use Rattle.std.specs.Prelude.{Contains, IsSomeAnd, List, Option, Some, [], bytes_eq, false, length, suc, true, ℕ, ◌&&◌, ◌*◌, ◌++◌, ◌+◌, ◌<◌, ◌==◌, ◌∷◌, ◌≡◌, ◌≤◌}
 
 -- ---- a call of another machine
 
