@@ -24,10 +24,6 @@ less_at f xs i c e = record {
   stands = map-append f (take i xs) (drop (suc i) xs);
 }
 
--- The same of the numbers themselves.
-pub one_less : (xs : List ℕ) (i : ℕ) (c : ℕ) → slice_get xs i ≡ Some c → IsLess c xs (remove xs i)
-one_less xs i c e = record { front = take i xs; rest = drop (suc i) xs; stood = cut_at xs i c e; stands = refl }
-
 -- ---- children in memory
 
 -- One is taken out.

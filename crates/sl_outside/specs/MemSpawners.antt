@@ -68,8 +68,8 @@ pub record SpawnerState : Type 0 where
   pub children : Roomy MemChild
   pub acts : Option (Roomy Act)
 
--- After how many polls the child of this start exits by itself: the lives are those of the starts in order, later starts go by the last one,
--- and without any none does.
+-- After how many polls the child of this start exits by itself: the lives are those of the starts in order, later starts go by the last
+-- one, and without any none does.
 abbrev pub life_of : List ℕ → ℕ → ℕ
 life_of lives start = unwrap_or (slice_get lives (min start (length lives) - 1)) (2 ^ 64 - 1)
 

@@ -49,12 +49,42 @@ impl<R: Processes> ChildSpawner<R> {
         self.faults.get()
     }
 
+    /// Where the first child of this number stands.
+    fn place_of(&self, process: u32) -> Option<usize>
+        ensures { IfSome result (λ at. at < length self.now.running) }
+    {
+        self.children
+            .iter()
+            .position(|child| child.process() == process)
+    }
+
+    /// Whether the child at a place has exited.
+    fn has_exited(&mut self, at: usize) -> bool
+        requires { at < length self.old.running }
+        ensures { self.new ≡ self.old }
+    {
+        self.children[at].has_exited()
+    }
+
+    /// Sends the child at a place a signal.
+    fn send(&mut self, at: usize, signal: Signal) -> bool
+        requires { at < length self.old.running }
+        ensures { self.new ≡ self.old }
+    {
+        self.children[at].send(&self.rt, self.alloc, signal).is_ok()
+    }
+
     /// Where the first child stands that has exited.
     fn exited_at(&mut self) -> Option<usize>
         ensures same { self.new ≡ self.old }
         ensures within { IfSome result (λ at. at < length self.new.running) }
     {
-        self.children.iter_mut().position(|child| child.has_exited())
+        for at in 0..self.children.len() {
+            if self.has_exited(at) {
+                return Some(at);
+            }
+        }
+        None
     }
 }
 
@@ -77,8 +107,8 @@ impl<R: Processes + Drop> Spawner for ChildSpawner<R> {
     }
 
     fn signal(&mut self, process: u32, signal: Signal) {
-        for child in self.children.iter_mut() {
-            if child.process() == process && child.send(&self.rt, self.alloc, signal).is_err() {
+        if let Some(at) = self.place_of(process) {
+            if !self.send(at, signal) {
                 self.faults.raise();
             }
         }

@@ -28,12 +28,12 @@ pub use act::Act;
 pub use child_spawner::ChildSpawner;
 pub use device::{Device, TimedDevice};
 pub use devices::Devices;
-pub use paths::disk_path;
 pub use file_devices::FileDevices;
 pub use gate::{Gate, OpenGate};
 pub use live_devices::LiveDevices;
 pub use mem_devices::{LentDisk, MemDevices, MemDisk};
 pub use mem_spawner::{MemPlan, MemSpawner};
+pub use paths::disk_path;
 pub use planned_spawner::PlannedSpawner;
 pub use real_clock::RealClock;
 pub use shared_area::SharedArea;
@@ -41,3 +41,6 @@ pub use shared_devices::{AreaPlan, SharedDevices, SharedPlan};
 pub use spawner::Spawner;
 pub use turn_gate::{Turn, TurnGate};
 pub use words::{MemWords, SystemWords, Words};
+
+#[cfg(test)]
+mod tests;

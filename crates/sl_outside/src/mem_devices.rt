@@ -12,10 +12,10 @@ ghost use Rattle.std.specs.Prelude.{IfSome, None, Some, [], option_map, ◌≡�
 
 use crate::device::TimedDevice;
 use crate::devices::Devices;
-use crate::paths::disk_path;
 use crate::gate::OpenGate;
 use crate::live_devices::LiveDevices;
 use crate::mem_spawner::MemSpawner;
+use crate::paths::disk_path;
 use crate::words::MemWords;
 use sl_area::{Area, MemArea, Place};
 use sl_io::{Failed, FaultCount};

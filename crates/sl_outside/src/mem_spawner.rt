@@ -26,8 +26,8 @@ pub struct MemPlan {
     pub children: u32,
     /// How many acts are noted.
     pub acts: u32,
-    /// At which poll after its start a child exits by itself, by the number of the start; the last goes for all later starts, and with none no
-    /// child exits by itself. A 0 stands for 1.
+    /// At which poll after its start a child exits by itself, by the number of the start; the last goes for all later starts, and with none
+    /// no child exits by itself. A 0 stands for 1.
     pub lives: Vec<u64>,
     /// Whether a term does nothing.
     pub deaf: bool,

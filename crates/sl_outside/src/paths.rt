@@ -3,7 +3,8 @@ ghost use Rattle.std.specs.Prelude.{IfOk, string_bytes, ◌++◌, ◌≡◌};
 
 use std::alloc::{AllocError, Global};
 
-/// The folder's text followed by the path: `make` makes the disk there, and `area` hands it out by this path. The only error is want of memory.
+/// The folder's text followed by the path: `make` makes the disk there, and `area` hands it out by this path. The only error is want of
+/// memory.
 pub fn disk_path(alloc: Global, folder: &str, path: &str) -> Result<String, AllocError>
     ensures { IfOk result (λ whole. string_bytes whole ≡ folder.now ++ path.now) }
 {

@@ -10,8 +10,8 @@ use std::time::Instant;
 /// What each reading is below.
 const MOMENTS: u64 = 1_000_000_000_000_000;
 
-/// A clock of the system. It counts from a start that all clocks of a run share, which is 0; where the system's clock can't be read it gives its
-/// last answer again. Contracts see its last answer alone, at first 0.
+/// A clock of the system. It counts from a start that all clocks of a run share, which is 0; where the system's clock can't be read it gives
+/// its last answer again. Contracts see its last answer alone, at first 0.
 #[derive(Drop)]
 pub struct RealClock<R> {
     rt: R,

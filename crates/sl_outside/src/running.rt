@@ -45,7 +45,12 @@ impl<P: OpenProcess> Running<P> {
     }
 
     /// Sends it a signal. Until it is told as exited nobody waits for it, so its system number is no other's.
-    pub(crate) fn send<R: Processes>(&mut self, rt: &R, alloc: Global, signal: Signal) -> io::Result<()>
+    pub(crate) fn send<R: Processes>(
+        &mut self,
+        rt: &R,
+        alloc: Global,
+        signal: Signal,
+    ) -> io::Result<()>
         ensures { self.new ≡ self.old }
     {
         match signal {
@@ -55,9 +60,13 @@ impl<P: OpenProcess> Running<P> {
     }
 }
 
-/// Starts the program at a path, with no argument. Its standard input and output are empty, since those of this program are its own; what it
-/// writes to standard error goes where this program's goes.
-pub(crate) fn start<R: Processes>(rt: &R, alloc: Global, path: &str) -> io::Result<Child<R::Started>> {
+/// Starts the program at a path, with no argument. Its standard input and output are empty, since those of this program are its own; what
+/// it writes to standard error goes where this program's goes.
+pub(crate) fn start<R: Processes>(
+    rt: &R,
+    alloc: Global,
+    path: &str,
+) -> io::Result<Child<R::Started>> {
     Command::new(alloc, path)?
         .stdin(Stdio::null())
         .stdout(Stdio::null())

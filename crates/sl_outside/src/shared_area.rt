@@ -28,11 +28,7 @@ impl<R> Model for SharedArea<R> {
 
 impl<R: Wait> SharedArea<R> {
     /// A share of the disk. The calls numbered in `failing` fail, counted from 1.
-    pub(crate) fn new(
-        rt: R,
-        disk: Option<Arc<Mutex<MemArea>>>,
-        failing: Vec<u64>,
-    ) -> SharedArea<R>
+    pub(crate) fn new(rt: R, disk: Option<Arc<Mutex<MemArea>>>, failing: Vec<u64>) -> SharedArea<R>
         ensures { result ≡ record { made = 0; failing = failing.items; faults = 0 } }
     {
         SharedArea {

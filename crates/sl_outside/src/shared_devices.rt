@@ -5,9 +5,9 @@ ghost use Rattle.std.specs.Prelude.{[], ◌≡◌};
 
 use crate::device::TimedDevice;
 use crate::devices::Devices;
-use crate::paths::disk_path;
 use crate::live_devices::LiveDevices;
 use crate::mem_spawner::MemSpawner;
+use crate::paths::disk_path;
 use crate::planned_spawner::PlannedSpawner;
 use crate::real_clock::RealClock;
 use crate::shared_area::SharedArea;
@@ -108,7 +108,10 @@ impl<R: Wait + Clock + Copy> SharedDevices<R> {
 
     /// A share of the disk at a path, if there is one.
     fn share(&self, path: &str) -> Option<Arc<Mutex<MemArea>>> {
-        let at = self.disks.iter().position(|disk| disk.path.as_str() == path)?;
+        let at = self
+            .disks
+            .iter()
+            .position(|disk| disk.path.as_str() == path)?;
         Arc::try_clone(&self.disks[at].disk).ok()
     }
 

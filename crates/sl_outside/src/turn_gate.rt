@@ -1,7 +1,7 @@
 //! A gate for tests: it holds one call until another one has left.
 //!
-//! So a test passes only where two calls are under way at once, of two workers or of two machines. The gate gives up after 6000 turns, each a
-//! sleep of a millisecond, and says so.
+//! So a test passes only where two calls are under way at once, of two workers or of two machines. The gate gives up after 6000 turns, each
+//! a sleep of a millisecond, and says so.
 
 use crate::gate::Gate;
 use std::alloc::{AllocError, Global};

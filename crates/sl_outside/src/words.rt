@@ -93,7 +93,9 @@ impl<R: Files + Clock> SystemWords<R> {
             },
             Err(_) => 0,
         };
-        nanos.wrapping_mul(1 << 32).wrapping_add(u128::from(self.machine))
+        nanos
+            .wrapping_mul(1 << 32)
+            .wrapping_add(u128::from(self.machine))
     }
 }
 
