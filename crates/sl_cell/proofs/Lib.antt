@@ -1,0 +1,6 @@
+pub mod Fronts
+pub mod Mapped
+pub mod CopyLaws
+pub mod KeptLaws
+pub mod ExpectedLaws
+pub mod AuditLaws

@@ -1,0 +1,7 @@
+pub mod Copies
+pub mod Rooms
+pub mod Seats
+pub mod Cells
+pub mod Stations
+pub mod Expected
+pub mod Audits
