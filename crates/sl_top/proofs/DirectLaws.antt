@@ -8,7 +8,7 @@ use Rattle.sl_direct.specs.declared.action.Action.{Action}
 use Rattle.sl_direct.specs.declared.action.Directed.TheVariants.{AreaFault, Done, NoMemory, NotTheLeader, WriteFault}
 use Rattle.sl_direct.specs.declared.action.Directed.{Directed}
 use Rattle.sl_top.proofs.RunLaws.{nothing_put}
-use Rattle.sl_top.specs.Disks.{CountsBack, Disks, HandsOut, KeepsAllBut, TakesBack}
+use Rattle.sl_outside.specs.Disks.{CountsBack, Disks, HandsOut, KeepsAllBut, TakesBack}
 use Rattle.sl_top.specs.Runs.{ActsOn}
 use Rattle.sl_top.specs.Statuses.{status_after}
 use Rattle.sl_top.specs.declared.status.Status.TheVariants as status

@@ -3,4 +3,3 @@ pub mod RunLaws
 pub mod DirectLaws
 pub mod OweLaws
 pub mod StatusLaws
-pub mod MemDiskLaws

@@ -1,5 +1,3 @@
 pub mod Statuses
-pub mod Disks
-pub mod MemDisks
 pub mod Runs
 pub mod Laws

@@ -11,7 +11,7 @@ use Rattle.sl_report.specs.Headline.{IsFrontOf, MayHaveBeen, ReplayHeadline, Rep
 use Rattle.sl_report.specs.Languages.{whole_language}
 use Rattle.sl_run_report.specs.Promises.{replay_status}
 use Rattle.sl_headline.specs.Promised.{PromisedRun}
-use Rattle.sl_top.specs.Disks.{CountsBack, Disks, KeepsAllBut}
+use Rattle.sl_outside.specs.Disks.{CountsBack, Disks, KeepsAllBut}
 use Rattle.sl_top.specs.Statuses.{code, status_after}
 use Rattle.sl_top.specs.declared.status.Status.TheVariants.{BadWords, Done, NoMemory, ReadFault, WriteFault}
 use Rattle.sl_top.specs.declared.status.Status.{Status}

@@ -1,5 +1,5 @@
-use Rattle.sl_top.proofs.MemDiskLaws.{none_found, one_found}
-use Rattle.sl_top.proofs.mem_devices.content_of.Goals as goal
+use Rattle.sl_outside.proofs.MemDiskLaws.{none_found, one_found}
+use Rattle.sl_outside.proofs.mem_devices.content_of.Goals as goal
 use Rattle.std.proofs.Common.{Some, ap, sym, ◌∙◌}
 use Rattle.std.specs.Prelude.{option_map}
 

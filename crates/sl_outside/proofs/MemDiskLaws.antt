@@ -1,7 +1,7 @@
 -- Disks in memory: where the one at a path stands, and what is told of all when another is put in its place.
-use Rattle.sl_top.specs.Disks.{Disks, HandsOut, KeepsAllBut, TakesBack, told_at}
-use Rattle.sl_top.specs.MemDisks.{content_at, is_at}
-use Rattle.sl_top.specs.declared.mem_devices.MemDisk.{MemDisk}
+use Rattle.sl_outside.specs.Disks.{Disks, HandsOut, KeepsAllBut, TakesBack, told_at}
+use Rattle.sl_outside.specs.MemDisks.{content_at, is_at}
+use Rattle.sl_outside.specs.declared.mem_devices.MemDisk.{MemDisk}
 use Rattle.std.proofs.Common.{Bool, List, None, Option, Some, ap, false, length, refl, slice_index_or, slice_set, subst, sym, true, ℕ, ◌∙◌, ◌≡◌, ◌≤◌}
 use Rattle.std.proofs.lemmas.Bool.{ltb-false}
 use Rattle.std.proofs.lemmas.List.Folds.{find-set, find_at, find_past}

@@ -1,6 +1,6 @@
 //! The devices of a run: the disks that an action is done to.
 
-ghost use Rattle.sl_top.specs.Disks.{CountsBack, HandsOut, TakesBack};
+ghost use Rattle.sl_outside.specs.Disks.{CountsBack, HandsOut, TakesBack};
 ghost use Rattle.std.specs.Prelude.{List, None, Option, ℕ, ◌≡◌};
 
 use sl_area::Area;

@@ -3,8 +3,8 @@
 //! A disk that is handed out is the disk itself, under a count of its own; an empty one stands in its place until it comes back. So one is
 //! out at a time. A path at which no disk stands gives an area each of whose calls fails, as a missing file does.
 ghost use Rattle.sl_io.specs.Faults.{one_more};
-ghost use Rattle.sl_top.specs.Disks.{CountsBack, HandsOut, TakesBack, told_at};
-ghost use Rattle.sl_top.specs.MemDisks.{content_at, is_at, lent_in};
+ghost use Rattle.sl_outside.specs.Disks.{CountsBack, HandsOut, TakesBack, told_at};
+ghost use Rattle.sl_outside.specs.MemDisks.{content_at, is_at, lent_in};
 ghost use Rattle.std.specs.List.{position};
 ghost use Rattle.std.specs.Prelude.{IfSome, None, Some, [], option_map, ◌≡◌};
 
@@ -73,7 +73,7 @@ pub struct MemDevices {
 }
 
 impl Model for MemDevices {
-    ghost use Rattle.sl_top.specs.MemDisks.{DevicesState};
+    ghost use Rattle.sl_outside.specs.MemDisks.{DevicesState};
 
     ghost Value = { DevicesState };
 

@@ -1,8 +1,8 @@
 use Rattle.sl_area.specs.MemArea.{AreaState}
-use Rattle.sl_top.proofs.MemDiskLaws.{none_found, nothing_put, one_found, path_found, put_there}
-use Rattle.sl_top.proofs.mem_devices.exchange.Goals as goal
-use Rattle.sl_top.specs.Disks.{TakesBack, told_at}
-use Rattle.sl_top.specs.MemDisks.{content_at}
+use Rattle.sl_outside.proofs.MemDiskLaws.{none_found, nothing_put, one_found, path_found, put_there}
+use Rattle.sl_outside.proofs.mem_devices.exchange.Goals as goal
+use Rattle.sl_outside.specs.Disks.{TakesBack, told_at}
+use Rattle.sl_outside.specs.MemDisks.{content_at}
 use Rattle.std.proofs.Common.{Some, ap, slice_index_or, slice_set, subst, sym, ◌∙◌}
 use Rattle.std.specs.Prelude.{option_map}
 

@@ -1,6 +1,6 @@
 -- Disks in memory, by their paths.
-use Rattle.sl_top.specs.Disks.{Disks, told_at}
-use Rattle.sl_top.specs.declared.mem_devices.MemDisk.{MemDisk}
+use Rattle.sl_outside.specs.Disks.{Disks, told_at}
+use Rattle.sl_outside.specs.declared.mem_devices.MemDisk.{MemDisk}
 use Rattle.std.specs.Prelude.{Bool, List, Option, bytes_eq, find, option_and_then, option_map, ℕ}
 
 -- What devices in memory have: their disks, the path of the one that is out, and their faults.

@@ -1,0 +1,20 @@
+//! What stands round every sector call of a worker. A test holds a call there; a run of the program does not.
+
+/// Is told of each sector call before it is made and after.
+pub trait Gate {
+    /// A worker of this machine is about to make this call.
+    fn enter(&self, machine: u32, call: u64);
+
+    /// It has made it.
+    fn left(&self, machine: u32, call: u64);
+}
+
+/// A gate that holds nothing.
+#[derive(Clone, Copy)]
+pub struct OpenGate;
+
+impl Gate for OpenGate {
+    fn enter(&self, _machine: u32, _call: u64) {}
+
+    fn left(&self, _machine: u32, _call: u64) {}
+}

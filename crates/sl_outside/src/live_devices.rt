@@ -1,0 +1,53 @@
+//! What a live run takes beside disks.
+ghost use Rattle.sl_words.specs.Causes.{HasCause};
+ghost use Rattle.std.specs.Prelude.{[], ◌≡◌};
+
+use crate::device::Device;
+use crate::devices::Devices;
+use crate::gate::Gate;
+use crate::spawner::Spawner;
+use crate::words::Words;
+use sl_io::Failed;
+use sl_time::Clock;
+
+/// Devices that hand out all that machines run on. What they hand out has counted no fault.
+pub trait LiveDevices: Devices {
+    type Clock: Clock + Send;
+
+    type Spawner: Spawner + Send;
+
+    type Device: Device + Send;
+
+    type Words: Words + Send;
+
+    type Gate: Gate + Drop + Send + Sync;
+
+    /// Makes the disk whose path is the folder's text followed by this path, of so many bytes, whose last sector is zeros. An old one is
+    /// emptied; folders below this folder that are missing are made.
+    fn make(&mut self, folder: &str, path: &str, size: u64) -> Result<(), Failed>
+        ensures cause { HasCause (Self.faults self.old) (Self.faults self.new) result };
+
+    /// A clock for a thread of a machine.
+    fn clock(&mut self, machine: u32, thread: u32) -> Self::Clock
+        ensures count { Self.faults self.new ≡ Self.faults self.old };
+
+    /// The spawner of a machine, of which no child runs yet.
+    fn spawner(&mut self, machine: u32) -> Self::Spawner
+        ensures fresh { Self.Spawner.faults result ≡ 0 }
+        ensures idle { Self.Spawner.running result ≡ [] }
+        ensures count { Self.faults self.new ≡ Self.faults self.old };
+
+    /// The watchdog device of a machine, which fires so many milliseconds after this reading if no keepalive comes.
+    fn device(&mut self, machine: u32, now: u64, fire: u64) -> Self::Device
+        ensures last { Self.Device.last result ≡ now }
+        ensures fire { Self.Device.fire result ≡ fire }
+        ensures count { Self.faults self.new ≡ Self.faults self.old };
+
+    /// Where the default name of a machine comes from.
+    fn words(&mut self, machine: u32) -> Self::Words
+        ensures count { Self.faults self.new ≡ Self.faults self.old };
+
+    /// The gate of the run: one for all machines.
+    fn gate(&mut self) -> Self::Gate
+        ensures count { Self.faults self.new ≡ Self.faults self.old };
+}
