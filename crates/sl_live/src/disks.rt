@@ -8,7 +8,7 @@ ghost use Rattle.sl_sector.specs.Records.{IsRecord};
 ghost use Rattle.sl_sector.specs.Spelling.{IsSectorSize};
 ghost use Rattle.sl_trace.specs.Traces.{Setting, is_answer_for};
 ghost use Rattle.sl_trace.specs.declared.effects.Op.TheVariants.{ReadSectors, WriteRecord};
-ghost use Rattle.std.specs.Prelude.{IfNone, IfOk, IfSome, IsTrue, OnErr, true, ◌≡◌, ◌↔◌};
+ghost use Rattle.std.specs.Prelude.{IfNone, IfOk, IfSome, IsTrue, None, OnErr, bytes_eq, true, ◌≡◌, ◌↔◌};
 
 use crate::records::is_record;
 use sl_area::{Area, Geometry, Place};
@@ -24,11 +24,18 @@ pub struct Disk<A: Area> {
     pub area: A,
 }
 
+/// Whether the disk has this path.
+fn has_path<A: Area>(disk: &Disk<A>, path: &FilePath) -> bool
+    ensures { result ≡ bytes_eq disk.now.path path.now }
+{
+    disk.path == *path
+}
+
 /// The disk with this path: the first, if there is one.
 fn disk_at<A: Area>(disks: &[Disk<A>], path: &FilePath) -> Option<usize>
     ensures { result ≡ disk_at path.now disks.now }
 {
-    disks.iter().position(|disk| disk.path == *path)
+    disks.iter().position(|disk| has_path(disk, path))
 }
 
 /// Whether what the operation writes, if it writes, is a record.
