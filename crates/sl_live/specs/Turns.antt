@@ -2,7 +2,7 @@
 use Rattle.sl_cell.specs.declared.seat.Made.TheVariants.{Applied, Tested, Took, Unasked}
 use Rattle.sl_cell.specs.declared.seat.Made.{Made}
 use Rattle.sl_live.specs.declared.children.Outcome.{Outcome}
-use Rattle.sl_outside.specs.Acts.{Grows}
+use Rattle.sl_outside.specs.Acts.{Grows, IsTold}
 use Rattle.sl_outside.specs.declared.act.Act.TheVariants.{Signalled, Started}
 use Rattle.sl_outside.specs.declared.act.Act.{Act}
 use Rattle.sl_trace.specs.declared.effects.Effects.{Effects}
@@ -14,8 +14,8 @@ use Rattle.sl_trace.specs.declared.input.Input.TheVariants.{Answer as Told, Exit
 use Rattle.sl_trace.specs.declared.input.Input.{Input}
 use Rattle.sl_trace.specs.declared.effects.Call.{Call}
 use Rattle.sl_words.specs.Causes.{Rose}
-use Rattle.std.specs.List.{count_by, flat_map}
-use Rattle.std.specs.Prelude.{All, Bool, Err, List, Ok, Option, Result, false, if◌then◌else◌, length, map, nat_le, true, [], ℕ, ◌&&◌, ◌++◌, ◌+◌, ◌<◌, ◌==◌, ◌∷◌, ◌≡◌, ◌≤◌}
+use Rattle.std.specs.List.{flat_map, position, remove}
+use Rattle.std.specs.Prelude.{All, Bool, Err, List, None, Ok, Option, Some, Result, false, if◌then◌else◌, length, map, nat_le, true, [], ℕ, ◌&&◌, ◌++◌, ◌+◌, ◌<◌, ◌==◌, ◌∷◌, ◌≡◌, ◌≤◌}
 
 -- ---- the machine's children
 
@@ -23,10 +23,6 @@ use Rattle.std.specs.Prelude.{All, Bool, Err, List, Ok, Option, Result, false, i
 pub record ChildrenState (P : Type 0) : Type 0 where
   pub spawner : P
   pub numbers : List ℕ
-
--- These are the same numbers, in any order.
-abbrev pub AreSame : List ℕ → List ℕ → Type 0
-AreSame ns ms = (n : ℕ) → count_by (λ k. k == n) ns ≡ count_by (λ k. k == n) ms
 
 -- ---- what a step asks of them
 
@@ -84,16 +80,32 @@ abbrev pub are_fine : List Act → Bool
 are_fine [] = true
 are_fine (a ∷ acts) = is_fine a && are_fine acts
 
--- A spawner did these acts: where it tells what it does, it told just these; and its faults rose where a start failed.
-pub record Does {P : Type 0} (told : P → Option (List Act)) (faults : P → ℕ) (before after : P) (acts : List Act) : Type 0 where
+-- A spawner did these acts: where it tells what it does, it told just these; its faults rose where a start failed; and those run that ran
+-- before and that were started.
+pub record Does {P : Type 0} (told : P → Option (List Act)) (faults : P → ℕ) (running : P → List ℕ) (before after : P) (acts : List Act) : Type 0 where
   pub grows : Grows (told before) (told after) acts
   pub later : faults before ≤ faults after
   pub failed : are_fine acts ≡ false → Rose (faults before) (faults after)
+  pub runs : running after ≡ running before ++ started_by acts
 
--- .. of a machine's children: those run that ran before, and those that were started.
-pub record DoesActs {P : Type 0} (told : P → Option (List Act)) (faults : P → ℕ) (before after : ChildrenState P) (acts : List Act) : Type 0 where
-  pub does : Does told faults before.spawner after.spawner acts
+-- Nothing was asked of it.
+pub record IsQuiet {P : Type 0} (told : P → Option (List Act)) (faults : P → ℕ) (before after : P) : Type 0 where
+  pub same : told after ≡ told before
+  pub later : faults before ≤ faults after
+
+-- .. of a machine's children, whose numbers are kept.
+pub record DoesActs {P : Type 0} (told : P → Option (List Act)) (faults : P → ℕ) (running : P → List ℕ) (before after : ChildrenState P) (acts : List Act) : Type 0 where
+  pub does : Does told faults running before.spawner after.spawner acts
   pub numbers : after.numbers ≡ before.numbers ++ started_by acts
+
+-- These programs were tried, in order: the numbers of those that started are kept, and what each came to waits to be told.
+pub record Begins {P : Type 0} (told : P → Option (List Act)) (faults : P → ℕ) (running : P → List ℕ) (before after : P) (ns ns' : List ℕ) (ws ws' : List Outcome)
+  (starts : List Start) : Type 0 where
+  pub begun : List Begun
+  pub starts_are : map start_of begun ≡ starts
+  pub does : Does told faults running before after (map act_of begun)
+  pub numbers : ns' ≡ ns ++ started_by (map act_of begun)
+  pub waits : ws' ≡ ws ++ map outcome_of begun
 
 -- ---- a turn
 
@@ -145,37 +157,80 @@ pub record LeavesOff (from to : ℕ) (i : Input) (calls : List Made) (acts : Lis
   pub few : length last ≤ 1
   pub later : now ≤ to
 
+-- A turn that goes on: what was given and done so far, and what waits to be told.
+pub record IsGoingOn {P : Type 0} (told : P → Option (List Act)) (faults : P → ℕ) (running : P → List ℕ) (from to : ℕ) (i : Input) (before after : ChildrenState P)
+  (had has : List Made) (waiting : List Outcome) : Type 0 where
+  pub calls : List Made
+  pub acts : List Act
+  pub whole : has ≡ had ++ calls
+  pub follows : Follows from (i ∷ []) calls acts to (map told_by waiting)
+  pub does : DoesActs told faults running before after acts
+
+-- A turn of this kind was made on children, and stands in a seat.
+pub record MakesTurn {P : Type 0} (told : P → Option (List Act)) (faults : P → ℕ) (running : P → List ℕ) (IsTurn : List Made → List Act → Type 0)
+  (before after : ChildrenState P) (had has : List Made) : Type 0 where
+  pub calls : List Made
+  pub acts : List Act
+  pub whole : has ≡ had ++ calls
+  pub turn : IsTurn calls acts
+  pub does : DoesActs told faults running before after acts
+
+-- One input was given, and what its step asks was done; what its starts came to waits behind the others.
+pub record GivesOne {P : Type 0} (told : P → Option (List Act)) (faults : P → ℕ) (running : P → List ℕ) (now : ℕ) (i : Input) (before after : ChildrenState P)
+  (had has : List Made) (ws ws' : List Outcome) : Type 0 where
+  pub made : Made
+  pub begun : List Begun
+  pub acts : List Act
+  pub whole : has ≡ had ++ made ∷ []
+  pub given : IsGiven now i made
+  pub carried : IsCarriedOut made begun acts
+  pub does : DoesActs told faults running before after acts
+  pub waits : ws' ≡ ws ++ map outcome_of begun
+
+-- Nothing was done, though a step may have been made.
+pub record GivesUp {C : Type 0} (before after : C) (had has : List Made) (ws ws' : List Outcome) : Type 0 where
+  pub last : List Made
+  pub whole : has ≡ had ++ last
+  pub few : length last ≤ 1
+  pub same : after ≡ before
+  pub waits : ws' ≡ ws
+
+-- All that a step asks of the children was done, and what its starts came to waits.
+pub record Carries {P : Type 0} (told : P → Option (List Act)) (faults : P → ℕ) (running : P → List ℕ) (fx : Effects) (before after : ChildrenState P) (ws ws' : List Outcome) : Type 0 where
+  pub begun : List Begun
+  pub acts : List Act
+  pub carried : CarriesOut fx begun acts
+  pub does : DoesActs told faults running before after acts
+  pub waits : ws' ≡ ws ++ map outcome_of begun
+
 -- ---- turns that begin otherwise
 
 -- These without the first of this number.
 abbrev pub without : ℕ → List ℕ → List ℕ
-without n [] = []
-without n (k ∷ ks) = if k == n then ks else k ∷ without n ks
+without n ns = elim (position (λ k. k == n) ns) [ None ↦ ns | Some place ↦ remove ns place ]
 
--- A child that ran has exited, and its exit is given in a turn of this kind.
-pub record TellsExit {P : Type 0} (told : P → Option (List Act)) (faults : P → ℕ) (IsTurn : Input → List Made → List Act → Type 0) (before after : ChildrenState P)
-  (had has : List Made) : Type 0 where
+-- A child has exited, as the spawner was found to tell, and its exit is given in a turn of this kind.
+pub record TellsExit {P : Type 0} (told : P → Option (List Act)) (faults : P → ℕ) (running : P → List ℕ) (IsTurn : Input → List Made → List Act → Type 0)
+  (before after : ChildrenState P) (had has : List Made) : Type 0 where
   pub process : ℕ
   pub polled : ChildrenState P
-  pub ran : 0 < count_by (λ k. k == process) before.numbers
+  pub gave : IsTold (Some process) (running before.spawner) (running polled.spawner)
   pub gone : polled.numbers ≡ without process before.numbers
-  pub quiet : Does told faults before.spawner polled.spawner []
-  pub calls : List Made
-  pub acts : List Act
-  pub whole : has ≡ had ++ calls
-  pub turn : IsTurn (Exit process) calls acts
-  pub does : DoesActs told faults polled after acts
+  pub quiet : IsQuiet told faults before.spawner polled.spawner
+  pub turn : MakesTurn told faults running (IsTurn (Exit process)) polled after had has
 
 -- No exit was found, and nothing was given.
-pub record IsIdleTurn {P : Type 0} (told : P → Option (List Act)) (faults : P → ℕ) (before after : ChildrenState P) (had has : List Made) : Type 0 where
-  pub does : DoesActs told faults before after []
+pub record IsIdleTurn {P : Type 0} (told : P → Option (List Act)) (faults : P → ℕ) (running : P → List ℕ) (before after : ChildrenState P) (had has : List Made) : Type 0 where
+  pub gave : IsTold None (running before.spawner) (running after.spawner)
+  pub numbers : after.numbers ≡ before.numbers
+  pub quiet : IsQuiet told faults before.spawner after.spawner
   pub calls : has ≡ had
 
 -- What a look for an exited child did, by whether it found one; for want of memory it left off.
-abbrev pub Looks : {P E : Type 0} → (P → Option (List Act)) → (P → ℕ) → ℕ → ℕ → ChildrenState P → ChildrenState P → List Made → List Made → Result Bool E → Type 0
-Looks told faults from to before after had has (Ok true) = TellsExit told faults (TurnsOn from to) before after had has
-Looks told faults from to before after had has (Ok false) = IsIdleTurn told faults before after had has
-Looks told faults from to before after had has (Err e) = TellsExit told faults (LeavesOff from to) before after had has
+abbrev pub Looks : {P E : Type 0} → (P → Option (List Act)) → (P → ℕ) → (P → List ℕ) → ℕ → ℕ → ChildrenState P → ChildrenState P → List Made → List Made → Result Bool E → Type 0
+Looks told faults running from to before after had has (Ok true) = TellsExit told faults running (TurnsOn from to) before after had has
+Looks told faults running from to before after had has (Ok false) = IsIdleTurn told faults running before after had has
+Looks told faults running from to before after had has (Err e) = TellsExit told faults running (LeavesOff from to) before after had has
 
 -- A device fires at this reading.
 abbrev pub is_lapsed : ℕ → ℕ → ℕ → Bool
@@ -183,9 +238,9 @@ is_lapsed last fire now = nat_le (last + fire) now
 
 -- A test at this reading: the device was kept from firing exactly where it held, and each child that runs was killed exactly where the
 -- device had fired.
-pub record Guards {P : Type 0} (told : P → Option (List Act)) (faults : P → ℕ) (now last last' fire : ℕ) (before after : ChildrenState P) (answer : Bool) : Type 0 where
+pub record Guards {P : Type 0} (told : P → Option (List Act)) (faults : P → ℕ) (running : P → List ℕ) (now last last' fire : ℕ) (before after : ChildrenState P) (answer : Bool) : Type 0 where
   pub kept : last' ≡ (if answer then now else last)
-  pub kills : Does told faults before.spawner after.spawner (if is_lapsed last' fire now then map kill_of before.numbers else [])
+  pub kills : Does told faults running before.spawner after.spawner (if is_lapsed last' fire now then map kill_of before.numbers else [])
   pub numbers : after.numbers ≡ before.numbers
 
 -- ---- a thread's seat: its turns, one after another

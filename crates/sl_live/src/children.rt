@@ -1,11 +1,10 @@
 //! A machine's children: its spawner, with the numbers of those that run.
 //!
-//! Invariant: the numbers are those of the children that the spawner started and did not yet tell as exited. So a kill of all of them
-//! reaches each child that runs, and no other.
+//! A number stands here from its start on until the spawner tells that the child has exited. So a kill of all of them reaches each child
+//! that runs.
 
-ghost use Rattle.sl_live.specs.Turns.{Begun, CarriesOut, ChildrenState, Does, DoesActs, act_of, kill_of, outcome_of, sent_by, start_of, started_by, started_in, without};
-ghost use Rattle.std.specs.List.{count_by};
-ghost use Rattle.sl_outside.specs.declared.act.Act.{Act};
+ghost use Rattle.sl_live.specs.Turns.{Begins, Carries, Does, IsQuiet, act_of, kill_of, sent_by, started_in, without};
+ghost use Rattle.sl_outside.specs.Acts.{IsTold};
 ghost use Rattle.std.specs.Prelude.{IfNone, IfSome, List, OnErr, OnOk, length, map, vec_capacity, vec_len, [], ◌++◌, ◌+◌, ◌<◌, ◌==◌, ◌∷◌, ◌≡◌, ◌≤◌};
 ghost use Rattle.std.specs.VecDeque.{deque_capacity, deque_len};
 
@@ -24,8 +23,7 @@ pub struct Outcome {
 
 /// Sends the signals of a step.
 fn send_all<P: Spawner>(spawner: &mut P, signals: &[Sent])
-    ensures does { Does P.acts P.faults spawner.old spawner.new (map sent_by signals.now) }
-    ensures running { P.running spawner.new ≡ P.running spawner.old }
+    ensures { Does P.acts P.faults P.running spawner.old spawner.new (map sent_by signals.now) }
 {
     for sent in signals {
         spawner.signal(sent.process, sent.signal);
@@ -34,8 +32,7 @@ fn send_all<P: Spawner>(spawner: &mut P, signals: &[Sent])
 
 /// Sends a kill to each of these.
 fn kill_all<P: Spawner>(spawner: &mut P, numbers: &[u32])
-    ensures does { Does P.acts P.faults spawner.old spawner.new (map kill_of numbers.now) }
-    ensures running { P.running spawner.new ≡ P.running spawner.old }
+    ensures { Does P.acts P.faults P.running spawner.old spawner.new (map kill_of numbers.now) }
 {
     for number in numbers {
         spawner.signal(*number, Signal::Kill);
@@ -45,9 +42,8 @@ fn kill_all<P: Spawner>(spawner: &mut P, numbers: &[u32])
 /// Starts a program, whose number is kept where that went well: whether it did.
 fn begin<P: Spawner>(spawner: &mut P, numbers: &mut Vec<u32>, start: &Start) -> bool
     requires { vec_len numbers.old < vec_capacity numbers.old }
-    ensures does { Does P.acts P.faults spawner.old spawner.new (act_of (record { start = start.now; ok = result }) ∷ []) }
+    ensures does { Does P.acts P.faults P.running spawner.old spawner.new (act_of (record { start = start.now; ok = result }) ∷ []) }
     ensures numbers { numbers.new.items ≡ numbers.old.items ++ started_in (act_of (record { start = start.now; ok = result })) }
-    ensures running { P.running spawner.new ≡ P.running spawner.old ++ started_in (act_of (record { start = start.now; ok = result })) }
     ensures capacity { vec_capacity numbers.new ≡ vec_capacity numbers.old }
     ensures longer { vec_len numbers.new ≤ vec_len numbers.old + 1 }
 {
@@ -69,10 +65,7 @@ fn begin_all<P: Spawner>(
 )
     requires numbers { vec_len numbers.old + length starts.now ≤ vec_capacity numbers.old }
     requires waiting { deque_len waiting.old + length starts.now ≤ deque_capacity waiting.old }
-    ensures { (begun : List Begun) × (map start_of begun ≡ starts.now) × Does P.acts P.faults spawner.old spawner.new (map act_of begun)
-        × (numbers.new.items ≡ numbers.old.items ++ started_by (map act_of begun))
-        × (P.running spawner.new ≡ P.running spawner.old ++ started_by (map act_of begun))
-        × (waiting.new.items ≡ waiting.old.items ++ map outcome_of begun) }
+    ensures { Begins P.acts P.faults P.running spawner.old spawner.new numbers.old.items numbers.new.items waiting.old.items waiting.new.items starts.now }
 {
     for start in starts {
         let ok = begin(spawner, numbers, start);
@@ -100,19 +93,16 @@ pub struct Children<P: Spawner> {
 }
 
 impl<P: Spawner> Model for Children<P> {
-    ghost use Rattle.sl_live.specs.Turns.{AreSame, ChildrenState};
+    ghost use Rattle.sl_live.specs.Turns.{ChildrenState};
 
     ghost Value = { ChildrenState P };
 
     ghost view = { λ c. record { spawner = c.spawner; numbers = c.numbers.items } };
-
-    ghost invariant = { λ c. AreSame c.numbers.items (P.running c.spawner) };
 }
 
 impl<P: Spawner> Children<P> {
     /// The children of a spawner that has started none.
     pub fn new(alloc: Global, spawner: P) -> Children<P>
-        requires { P.running spawner ≡ [] }
         ensures { result ≡ record { spawner = spawner; numbers = [] } }
     {
         Children {
@@ -141,8 +131,7 @@ impl<P: Spawner> Children<P> {
 
     /// Does all that a step asks of the children, and keeps what its starts came to. An `Err` is want of memory, and nothing was done.
     pub(crate) fn carry_out(&mut self, effects: &Effects, waiting: &mut VecDeque<Outcome>) -> Result<(), AllocError>
-        ensures ok { OnOk result ((begun : List Begun) × (acts : List Act) × CarriesOut effects.now begun acts
-            × DoesActs P.acts P.faults self.old self.new acts × (waiting.new.items ≡ waiting.old.items ++ map outcome_of begun)) }
+        ensures ok { OnOk result (Carries P.acts P.faults P.running effects.now self.old self.new waiting.old.items waiting.new.items) }
         ensures err { OnErr result ((self.new ≡ self.old) × (waiting.new.items ≡ waiting.old.items)) }
     {
         let starts = effects.starts.as_slice();
@@ -155,10 +144,10 @@ impl<P: Spawner> Children<P> {
 
     /// A child that has exited and was not told before, if there is one.
     pub(crate) fn poll(&mut self) -> Option<u32>
-        ensures ran { IfSome result (λ p. 0 < count_by (λ k. k == p) self.old.numbers) }
+        ensures told { IsTold result (P.running self.old.spawner) (P.running self.new.spawner) }
         ensures gone { IfSome result (λ p. self.new.numbers ≡ without p self.old.numbers) }
         ensures none { IfNone result (self.new.numbers ≡ self.old.numbers) }
-        ensures quiet { Does P.acts P.faults self.old.spawner self.new.spawner [] }
+        ensures quiet { IsQuiet P.acts P.faults self.old.spawner self.new.spawner }
     {
         let exited = self.spawner.poll();
         if let Some(number) = exited {
@@ -169,7 +158,7 @@ impl<P: Spawner> Children<P> {
 
     /// Sends a kill to each child that runs.
     pub(crate) fn kill(&mut self)
-        ensures does { Does P.acts P.faults self.old.spawner self.new.spawner (map kill_of self.old.numbers) }
+        ensures does { Does P.acts P.faults P.running self.old.spawner self.new.spawner (map kill_of self.old.numbers) }
         ensures numbers { self.new.numbers ≡ self.old.numbers }
     {
         kill_all(&mut self.spawner, &self.numbers);

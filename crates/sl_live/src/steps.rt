@@ -5,10 +5,8 @@
 //! when nothing is left to be told. The children are lent for the whole turn, so no exit comes before its start is told.
 
 ghost use Rattle.sl_cell.specs.Cells.{IsTested, KeepsIdle};
-ghost use Rattle.sl_cell.specs.declared.seat.Made.{Made};
-ghost use Rattle.sl_live.specs.Turns.{Begun, DoesActs, Guards, IsCarriedOut, IsGiven, LeavesOff, Looks, TurnsOn, outcome_of, told_by};
-ghost use Rattle.sl_outside.specs.declared.act.Act.{Act};
-ghost use Rattle.std.specs.Prelude.{Bool, List, OnErr, OnOk, length, map, [], ◌++◌, ◌∷◌, ◌≡◌, ◌≤◌};
+ghost use Rattle.sl_live.specs.Turns.{GivesOne, GivesUp, Guards, LeavesOff, Looks, MakesTurn, TurnsOn, told_by};
+ghost use Rattle.std.specs.Prelude.{Bool, OnErr, OnOk, ◌≡◌, ◌≤◌};
 
 use crate::children::{Children, Outcome};
 use sl_cell::{HostCell, NotApplied, Seat, Station, Teller};
@@ -40,11 +38,8 @@ fn give<D: Teller, J: Station, R: Wait, C: Clock, P: Spawner>(
     waiting: &mut VecDeque<Outcome>,
     input: Input,
 ) -> Result<(), AllocError>
-    ensures ok { OnOk result ((m : Made) × (begun : List Begun) × (acts : List Act) × (seat.new.calls ≡ seat.old.calls ++ m ∷ [])
-        × IsGiven (C.last clock.new) input m × IsCarriedOut m begun acts × DoesActs P.acts P.faults children.old children.new acts
-        × (waiting.new.items ≡ waiting.old.items ++ map outcome_of begun)) }
-    ensures err { OnErr result ((last : List Made) × (seat.new.calls ≡ seat.old.calls ++ last) × (length last ≤ 1)
-        × (children.new ≡ children.old) × (waiting.new.items ≡ waiting.old.items)) }
+    ensures ok { OnOk result (GivesOne P.acts P.faults P.running (C.last clock.new) input children.old children.new seat.old.calls seat.new.calls waiting.old.items waiting.new.items) }
+    ensures err { OnErr result (GivesUp children.old children.new seat.old.calls seat.new.calls waiting.old.items waiting.new.items) }
     ensures clock { C.last clock.old ≤ C.last clock.new }
     ensures idle { KeepsIdle seat.old seat.new }
 {
@@ -68,10 +63,8 @@ pub fn give_step<D: Teller, J: Station, R: Wait, C: Clock, P: Spawner>(
     children: &mut Children<P>,
     input: Input,
 ) -> Result<(), AllocError>
-    ensures ok { OnOk result ((calls : List Made) × (acts : List Act) × (seat.new.calls ≡ seat.old.calls ++ calls)
-        × TurnsOn (C.last clock.old) (C.last clock.new) input calls acts × DoesActs P.acts P.faults children.old children.new acts) }
-    ensures err { OnErr result ((calls : List Made) × (acts : List Act) × (seat.new.calls ≡ seat.old.calls ++ calls)
-        × LeavesOff (C.last clock.old) (C.last clock.new) input calls acts × DoesActs P.acts P.faults children.old children.new acts) }
+    ensures ok { OnOk result (MakesTurn P.acts P.faults P.running (TurnsOn (C.last clock.old) (C.last clock.new) input) children.old children.new seat.old.calls seat.new.calls) }
+    ensures err { OnErr result (MakesTurn P.acts P.faults P.running (LeavesOff (C.last clock.old) (C.last clock.new) input) children.old children.new seat.old.calls seat.new.calls) }
     ensures idle { KeepsIdle seat.old seat.new }
 {
     let mut waiting = VecDeque::new(alloc);
@@ -95,7 +88,7 @@ pub fn child_step<D: Teller, J: Station, R: Wait, C: Clock, P: Spawner>(
     clock: &mut C,
     children: &mut Children<P>,
 ) -> Result<bool, AllocError>
-    ensures looks { Looks P.acts P.faults (C.last clock.old) (C.last clock.new) children.old children.new seat.old.calls seat.new.calls result }
+    ensures looks { Looks P.acts P.faults P.running (C.last clock.old) (C.last clock.new) children.old children.new seat.old.calls seat.new.calls result }
     ensures idle { KeepsIdle seat.old seat.new }
 {
     match children.poll() {
@@ -118,7 +111,7 @@ pub fn device_step<D: Teller, J: Station, R: Wait, C: Clock, P: Spawner, V: Devi
     children: &mut Children<P>,
 ) -> Result<(), AllocError>
     ensures ok { OnOk result ((answer : Bool) × IsTested seat.old seat.new (C.last clock.new) answer
-        × Guards P.acts P.faults (C.last clock.new) (V.last device.old) (V.last device.new) (V.fire device.old) children.old children.new answer) }
+        × Guards P.acts P.faults P.running (C.last clock.new) (V.last device.old) (V.last device.new) (V.fire device.old) children.old children.new answer) }
     ensures err { OnErr result ((seat.new.calls ≡ seat.old.calls) × KeepsIdle seat.old seat.new × (children.new ≡ children.old) × (V.last device.new ≡ V.last device.old)) }
     ensures fire { V.fire device.new ≡ V.fire device.old }
     ensures clock { C.last clock.old ≤ C.last clock.new }
