@@ -1,6 +1,6 @@
 -- Acts one after another, and inputs given one after another.
 use Rattle.sl_cell.specs.declared.seat.Made.{Made}
-use Rattle.sl_live.specs.Turns.{Begins, Begun, ChildrenState, Does, DoesActs, Follows, Gives, IsCarriedOut, IsGiven, act_of, are_fine, is_fine, outcome_of, sent_by, start_of, started_by, started_in, told_by, told_of}
+use Rattle.sl_live.specs.Turns.{Begins, Begun, ChildrenState, Does, DoesActs, Follows, Gives, IsCarriedOut, IsGiven, act_of, are_fine, is_fine, outcome_of, sent_by, start_of, started_by, started_in, told_by, told_of, without}
 use Rattle.sl_live.specs.declared.children.Outcome.{Outcome}
 use Rattle.sl_outside.specs.Acts.{Grows}
 use Rattle.sl_outside.specs.declared.act.Act.TheVariants.{Signalled, Started}
@@ -13,8 +13,8 @@ use Rattle.sl_words.specs.Causes.{Rose}
 use Rattle.std.proofs.Common.{append_assoc, append-nil, ap, arith, inl, inr, refl, subst, sym, ◌∙◌}
 use Rattle.std.proofs.lemmas.List.Concat.{flat_map-append}
 use Rattle.std.proofs.lemmas.List.{map-append, map_more, take_all, take_more}
-use Rattle.std.specs.List.{flat_map}
-use Rattle.std.specs.Prelude.{Bool, List, None, Option, Some, drop, false, get_or, length, map, take, true, [], ℕ, ◌&&◌, ◌++◌, ◌+◌, ◌<◌, ◌∷◌, ◌≡◌, ◌≤◌, ◌⊎◌}
+use Rattle.std.specs.List.{flat_map, position, remove}
+use Rattle.std.specs.Prelude.{Bool, List, None, Option, Some, drop, false, get_or, length, map, take, true, [], ℕ, ◌&&◌, ◌++◌, ◌+◌, ◌<◌, ◌==◌, ◌∷◌, ◌≡◌, ◌≤◌, ◌⊎◌}
 
 -- ---- what a spawner tells
 
@@ -89,6 +89,12 @@ module _ {P : Type 0} (told : P → Option (List Act)) (faults : P → ℕ) (run
       let last : map f (take (i + 1) xs) ≡ map f (take i xs) ++ f x ∷ [] = map_more f xs i x below ∙ ap (λ y. map f (take i xs) ++ f y ∷ []) (sym is) in
       subst (λ zs. Does told faults running a c zs) (sym last) (does_on a b c (map f (take i xs)) (f x ∷ []) first then)
 
+  -- .. as it stands in the list
+  pub does_next : {X : Type 0} (f : X → Act) (a b c : P) (xs : List X) (i : ℕ) (d : X) → i < length xs
+      → Does told faults running a b (map f (take i xs)) → Does told faults running b c (f (get_or xs i d) ∷ []) → Does told faults running a c (map f (take (i + 1) xs))
+  does_next f a b c xs i d below first then =
+      subst (λ zs. Does told faults running a c zs) (sym (map_more f xs i d below)) (does_on a b c (map f (take i xs)) (f (get_or xs i d) ∷ []) first then)
+
   -- all of them
   pub does_all : {X : Type 0} (f : X → Act) (a b : P) (xs : List X) (i : ℕ) → length xs ≤ i → Does told faults running a b (map f (take i xs)) → Does told faults running a b (map f xs)
   does_all f a b xs i end d = subst (λ ys. Does told faults running a b (map f ys)) (take_all i xs end) d
@@ -140,6 +146,14 @@ module _ {P : Type 0} (told : P → Option (List Act)) (faults : P → ℕ) (run
     numbers = so.numbers ∙ ap (λ l. ns ++ l) (sym (flat_map-append started_in (map sent_by fx.signals) (map act_of so.begun)
         ∙ ap (λ l. l ++ started_by (map act_of so.begun)) (signals_start fx.signals)));
   }
+
+-- ---- numbers
+
+pub without_some : (n : ℕ) (ns : List ℕ) (k : ℕ) → Some k ≡ position (λ m. m == n) ns → remove ns k ≡ without n ns
+without_some n ns k is = subst (λ (o : Option ℕ). remove ns k ≡ elim o [ None ↦ ns | Some place ↦ remove ns place ]) is refl
+
+pub without_none : (n : ℕ) (ns : List ℕ) → None ≡ position (λ m. m == n) ns → ns ≡ without n ns
+without_none n ns is = subst (λ (o : Option ℕ). ns ≡ elim o [ None ↦ ns | Some place ↦ remove ns place ]) is refl
 
 -- ---- inputs one after another
 

@@ -5,7 +5,7 @@
 
 ghost use Rattle.sl_live.specs.Turns.{Begins, Carries, Does, IsQuiet, act_of, kill_of, sent_by, started_in, without};
 ghost use Rattle.sl_outside.specs.Acts.{IsTold};
-ghost use Rattle.std.specs.Prelude.{IfNone, IfSome, List, OnErr, OnOk, length, map, vec_capacity, vec_len, [], ◌++◌, ◌+◌, ◌<◌, ◌==◌, ◌∷◌, ◌≡◌, ◌≤◌};
+ghost use Rattle.std.specs.Prelude.{IfNone, IfSome, List, OnErr, OnOk, length, map, position, vec_capacity, vec_len, [], ◌++◌, ◌+◌, ◌<◌, ◌==◌, ◌∷◌, ◌≡◌, ◌≤◌};
 ghost use Rattle.std.specs.VecDeque.{deque_capacity, deque_len};
 
 use sl_outside::Spawner;
@@ -76,12 +76,23 @@ fn begin_all<P: Spawner>(
     }
 }
 
+/// The place of the first of this number.
+fn place_of(numbers: &[u32], number: u32) -> Option<usize>
+    ensures exact { result ≡ position (λ k. k == number) numbers.now }
+    ensures within { IfSome result (λ k. k < length numbers.now) }
+{
+    numbers.iter().position(|other| *other == number)
+}
+
 /// Takes the first of this number out of these.
 fn remove(numbers: &mut Vec<u32>, number: u32)
     ensures { numbers.new.items ≡ without number numbers.old.items }
 {
-    if let Some(place) = numbers.iter().position(|other| *other == number) {
-        numbers.remove(place);
+    match place_of(numbers, number) {
+        Some(place) => {
+            numbers.remove(place);
+        }
+        None => {}
     }
 }
 

@@ -1,8 +1,8 @@
-use Rattle.sl_live.proofs.TurnLaws.{does_all, does_more, does_same, signalled}
+use Rattle.sl_live.proofs.TurnLaws.{does_all, does_next, does_same, signalled}
 use Rattle.sl_live.proofs.children.kill_all.Goals as goal
 use Rattle.sl_live.specs.Turns.{kill_of}
 use Rattle.sl_trace.specs.declared.effects.Signal.TheVariants.{Kill}
-use Rattle.std.proofs.Common.{arith}
+use Rattle.std.proofs.Common.{arith, get_or}
 
 pub loop-number-init : goal.loop-number-init
 loop-number-init g c = does_same g.P.Spawner.acts g.P.Spawner.faults g.P.Spawner.running c.args.spawner.now
@@ -10,9 +10,10 @@ loop-number-init g c = does_same g.P.Spawner.acts g.P.Spawner.faults g.P.Spawner
 pub loop-number-preserved : goal.loop-number-preserved
 loop-number-preserved g c =
     let s = c.signal.ensures in
-    let one = signalled g.P.Spawner.acts g.P.Spawner.faults g.P.Spawner.running c.loop-number.spawner c.signal.new.self (record { process = c.number-item.result; signal = Kill }) s.running s.acts s.count in
-    does_more g.P.Spawner.acts g.P.Spawner.faults g.P.Spawner.running kill_of c.args.spawner.now c.loop-number.spawner c.signal.new.self c.args.numbers.now c.loop-number.number-index c.number-item.result
-    c.loop-number-test.true c.number-item.is c.loop-number.invariant one
+    let process = get_or c.args.numbers.now c.loop-number.number-index 0 in
+    let one = signalled g.P.Spawner.acts g.P.Spawner.faults g.P.Spawner.running c.loop-number.spawner c.signal.new.self (record { process = process; signal = Kill }) s.running s.acts s.count in
+    does_next g.P.Spawner.acts g.P.Spawner.faults g.P.Spawner.running kill_of c.args.spawner.now c.loop-number.spawner c.signal.new.self c.args.numbers.now c.loop-number.number-index 0
+    c.loop-number-test.true c.loop-number.invariant one
 
 pub returns : goal.returns
 returns g c =
