@@ -13,7 +13,11 @@ use Rattle.sl_outside.specs.declared.act.Act.{Act}
 use Rattle.sl_trace.specs.declared.effects.Effects.{Effects}
 use Rattle.sl_trace.specs.declared.input.Input.{Input}
 use Rattle.std.proofs.Common.{append_assoc, append-nil, ap, arith, refl, subst, sym, ◌∙◌}
-use Rattle.std.specs.Prelude.{Err, List, Ok, Option, map, [], ℕ, ◌++◌, ◌∷◌, ◌≡◌, ◌≤◌}
+use Rattle.std.specs.Prelude.{Err, List, Ok, OnErr, Option, Result, map, [], ℕ, ◌++◌, ◌∷◌, ◌≡◌, ◌≤◌}
+
+pub on_err : {A E M : Type 0} (r : Result A E) → M → OnErr r M
+on_err (Ok a) m = tt
+on_err (Err e) m = m
 
 pub idle_on : (a b c : SeatState) → KeepsIdle a b → KeepsIdle b c → KeepsIdle a c
 idle_on a b c first then = record { delta = then.delta ∙ first.delta; resource = then.resource ∙ first.resource }

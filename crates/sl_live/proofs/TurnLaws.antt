@@ -1,6 +1,6 @@
 -- Acts one after another, and inputs given one after another.
 use Rattle.sl_cell.specs.declared.seat.Made.{Made}
-use Rattle.sl_live.specs.Turns.{Begins, Begun, ChildrenState, Does, DoesActs, Follows, Gives, IsCarriedOut, IsGiven, act_of, are_fine, is_fine, outcome_of, sent_by, start_of, started_by, started_in, told_by, told_of, without}
+use Rattle.sl_live.specs.Turns.{Begins, Begun, Carries, ChildrenState, Does, DoesActs, Follows, Gives, IsCarriedOut, IsGiven, act_of, are_fine, is_fine, outcome_of, sent_by, start_of, started_by, started_in, told_by, told_of, without}
 use Rattle.sl_live.specs.declared.children.Outcome.{Outcome}
 use Rattle.sl_outside.specs.Acts.{Grows}
 use Rattle.sl_outside.specs.declared.act.Act.TheVariants.{Signalled, Started}
@@ -33,13 +33,14 @@ grows_on (Some a) (Some b) (Some c) xs ys first then = then ∙ ap (λ zs. zs ++
 
 -- ---- what it does
 
+fine_both : (b : Bool) (xs ys : List Act) (all : Bool) → (all ≡ false → (are_fine xs ≡ false) ⊎ (are_fine ys ≡ false)) → (b && all) ≡ false
+    → ((b && are_fine xs) ≡ false) ⊎ (are_fine ys ≡ false)
+fine_both true xs ys all more bad = more bad
+fine_both false xs ys all more bad = inl refl
+
 fine_on : (xs ys : List Act) → are_fine (xs ++ ys) ≡ false → (are_fine xs ≡ false) ⊎ (are_fine ys ≡ false)
-fine_on [] ys no = inr no
-fine_on (x ∷ xs) ys no = by (is_fine x) no
-  where
-  by : (b : Bool) → (b && are_fine (xs ++ ys)) ≡ false → ((b && are_fine xs) ≡ false) ⊎ (are_fine ys ≡ false)
-  by true more = fine_on xs ys more
-  by false more = inl refl
+fine_on [] ys bad = inr bad
+fine_on (x ∷ xs) ys bad = fine_both (is_fine x) xs ys (are_fine (xs ++ ys)) (fine_on xs ys) bad
 
 pub rose_before : (a b c : ℕ) → Rose a b → b ≤ c → Rose a c
 rose_before a b c rose later = omega arith
@@ -49,8 +50,8 @@ rose_after a b c later rose = omega arith
 
 failed_on : (a b c : ℕ) (xs ys : List Act) → a ≤ b → b ≤ c → (are_fine xs ≡ false → Rose a b) → (are_fine ys ≡ false → Rose b c)
     → (are_fine xs ≡ false) ⊎ (are_fine ys ≡ false) → Rose a c
-failed_on a b c xs ys first then one two (inl no) = rose_before a b c (one no) then
-failed_on a b c xs ys first then one two (inr no) = rose_after a b c first (two no)
+failed_on a b c xs ys first then one two (inl bad) = rose_before a b c (one bad) then
+failed_on a b c xs ys first then one two (inr bad) = rose_after a b c first (two bad)
 
 -- A signal starts nothing.
 pub signals_start : (ss : List Sent) → started_by (map sent_by ss) ≡ []
@@ -62,8 +63,8 @@ numbers_on ns ns' ns'' xs ys first then =
     then ∙ ap (λ l. l ++ started_by ys) first ∙ append_assoc ns (started_by xs) (started_by ys) ∙ ap (λ l. ns ++ l) (sym (flat_map-append started_in xs ys))
 
 one_fine : (ok : Bool) → (ok && true) ≡ false → ok ≡ false
-one_fine true no = no
-one_fine false no = refl
+one_fine true bad = bad
+one_fine false bad = refl
 
 started_more : (bs : List Begun) (x : Begun) → started_by (map act_of (bs ++ x ∷ [])) ≡ started_by (map act_of bs) ++ started_in (act_of x)
 started_more bs x =
@@ -72,13 +73,13 @@ started_more bs x =
 
 module _ {P : Type 0} (told : P → Option (List Act)) (faults : P → ℕ) (running : P → List ℕ) where
   pub does_same : (a : P) → Does told faults running a a []
-  does_same a = record { grows = grows_none (told a) (told a) refl; later = omega arith; failed = λ no. absurd cc; runs = sym (append-nil (running a)) }
+  does_same a = record { grows = grows_none (told a) (told a) refl; later = omega arith; failed = λ bad. absurd cc; runs = sym (append-nil (running a)) }
 
   pub does_on : (a b c : P) (xs ys : List Act) → Does told faults running a b xs → Does told faults running b c ys → Does told faults running a c (xs ++ ys)
   does_on a b c xs ys first then = record {
     grows = grows_on (told a) (told b) (told c) xs ys first.grows then.grows;
     later = omega (arith, first.later, then.later);
-    failed = λ no. failed_on (faults a) (faults b) (faults c) xs ys first.later then.later first.failed then.failed (fine_on xs ys no);
+    failed = λ bad. failed_on (faults a) (faults b) (faults c) xs ys first.later then.later first.failed then.failed (fine_on xs ys bad);
     runs = numbers_on (running a) (running b) (running c) xs ys first.runs then.runs;
   }
 
@@ -101,7 +102,7 @@ module _ {P : Type 0} (told : P → Option (List Act)) (faults : P → ℕ) (run
 
   -- a signal
   pub signalled : (a b : P) (s : Sent) → running b ≡ running a → Grows (told a) (told b) (sent_by s ∷ []) → faults a ≤ faults b → Does told faults running a b (sent_by s ∷ [])
-  signalled a b s same grows later = record { grows = grows; later = later; failed = λ no. absurd cc; runs = same ∙ sym (append-nil (running a)) }
+  signalled a b s same grows later = record { grows = grows; later = later; failed = λ bad. absurd cc; runs = same ∙ sym (append-nil (running a)) }
 
   -- a start
   pub tried : (a b : P) (x : Begun) → running b ≡ running a ++ started_in (act_of x) → Grows (told a) (told b) (act_of x ∷ []) → faults a ≤ faults b
@@ -109,7 +110,7 @@ module _ {P : Type 0} (told : P → Option (List Act)) (faults : P → ℕ) (run
   tried a b x runs grows later failed = record {
     grows = grows;
     later = later;
-    failed = λ no. failed (one_fine x.ok no);
+    failed = λ bad. failed (one_fine x.ok bad);
     runs = runs ∙ ap (λ ns. running a ++ ns) (sym (append-nil (started_in (act_of x))));
   }
 
@@ -138,14 +139,23 @@ module _ {P : Type 0} (told : P → Option (List Act)) (faults : P → ℕ) (run
   }
 
   -- a step's signals and then its starts
-  pub carried : (fx : Effects) (a b c : P) (ns ns' : List ℕ) (ws ws' : List Outcome) → Does told faults running a b (map sent_by fx.signals)
-      → (so : Begins told faults running b c ns ns' ws ws' fx.starts)
-      → DoesActs told faults running (record { spawner = a; numbers = ns }) (record { spawner = c; numbers = ns' }) (map sent_by fx.signals ++ map act_of so.begun)
-  carried fx a b c ns ns' ws ws' sent so = record {
-    does = does_on a b c (map sent_by fx.signals) (map act_of so.begun) sent so.does;
-    numbers = so.numbers ∙ ap (λ l. ns ++ l) (sym (flat_map-append started_in (map sent_by fx.signals) (map act_of so.begun)
-        ∙ ap (λ l. l ++ started_by (map act_of so.begun)) (signals_start fx.signals)));
-  }
+  pub carries : (fx : Effects) (a b c : P) (ns ns1 ns' : List ℕ) (ws ws1 ws' : List Outcome) (ss : List Sent) (starts : List Start) → ss ≡ fx.signals → starts ≡ fx.starts
+      → ns1 ≡ ns → ws1 ≡ ws → Does told faults running a b (map sent_by ss) → Begins told faults running b c ns1 ns' ws1 ws' starts
+      → Carries told faults running fx (record { spawner = a; numbers = ns }) (record { spawner = c; numbers = ns' }) ws ws'
+  carries fx a b c ns ns1 ns' ws ws1 ws' ss starts s_is t_is n_is w_is sent so =
+      let sent' : Does told faults running a b (map sent_by fx.signals) = subst (λ l. Does told faults running a b (map sent_by l)) s_is sent in
+      let none : started_by (map sent_by fx.signals ++ map act_of so.begun) ≡ started_by (map act_of so.begun) =
+          flat_map-append started_in (map sent_by fx.signals) (map act_of so.begun) ∙ ap (λ l. l ++ started_by (map act_of so.begun)) (signals_start fx.signals) in
+      record {
+        begun = so.begun;
+        acts = map sent_by fx.signals ++ map act_of so.begun;
+        carried = record { starts = so.starts_are ∙ t_is; acts_are = refl };
+        does = record {
+          does = does_on a b c (map sent_by fx.signals) (map act_of so.begun) sent' so.does;
+          numbers = so.numbers ∙ ap (λ l. l ++ started_by (map act_of so.begun)) n_is ∙ ap (λ l. ns ++ l) (sym none);
+        };
+        waits = so.waits ∙ ap (λ l. l ++ map outcome_of so.begun) w_is;
+      }
 
 -- ---- numbers
 

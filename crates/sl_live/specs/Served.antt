@@ -47,7 +47,7 @@ pub record IsServed (at : SectorPlace) (op : Op) (before after : Option (List �
 
 -- The disk with this path: the first of them.
 abbrev pub disk_at : {A : Type 0} → List ℕ → List (Disk A) → Option ℕ
-disk_at path disks = position (λ (d : Disk A). bytes_eq d.path path) disks
+disk_at path disks = position (λ d. bytes_eq d.path path) disks
 
 -- The call was made on disk k, and no other disk was touched.
 pub record IsMade {A : Type 0} (content : A → Option (List ℕ)) (faults : A → ℕ) (sector : ℕ) (c : Call) (k : ℕ) (disks later : List (Disk A)) (a : Answer) : Type 0 where

@@ -85,6 +85,7 @@ fn place_of(numbers: &[u32], number: u32) -> Option<usize>
 }
 
 /// Takes the first of this number out of these.
+#[tactic(auto, using(crate::proofs::TurnLaws::without_some, crate::proofs::TurnLaws::without_none))]
 fn remove(numbers: &mut Vec<u32>, number: u32)
     ensures { numbers.new.items ≡ without number numbers.old.items }
 {

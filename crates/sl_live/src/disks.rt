@@ -8,7 +8,7 @@ ghost use Rattle.sl_sector.specs.Records.{IsRecord};
 ghost use Rattle.sl_sector.specs.Spelling.{IsSectorSize};
 ghost use Rattle.sl_trace.specs.Traces.{Setting, is_answer_for};
 ghost use Rattle.sl_trace.specs.declared.effects.Op.TheVariants.{ReadSectors, WriteRecord};
-ghost use Rattle.std.specs.Prelude.{IfNone, IfOk, IfSome, IsTrue, None, OnErr, bytes_eq, true, ◌≡◌, ◌↔◌};
+ghost use Rattle.std.specs.Prelude.{IfNone, IfOk, IfSome, IsTrue, None, OnErr, bytes_eq, length, true, ◌<◌, ◌≡◌, ◌↔◌};
 
 use crate::records::is_record;
 use sl_area::{Area, Geometry, Place};
@@ -33,7 +33,8 @@ fn has_path<A: Area>(disk: &Disk<A>, path: &FilePath) -> bool
 
 /// The disk with this path: the first, if there is one.
 fn disk_at<A: Area>(disks: &[Disk<A>], path: &FilePath) -> Option<usize>
-    ensures { result ≡ disk_at path.now disks.now }
+    ensures exact { result ≡ disk_at path.now disks.now }
+    ensures within { IfSome result (λ k. k < length disks.now) }
 {
     disks.iter().position(|disk| has_path(disk, path))
 }
@@ -49,10 +50,13 @@ fn is_op(op: &Op) -> bool
 }
 
 /// Where the call begins, if it has its bytes.
+#[tactic(auto, using(crate::proofs::ServedLaws::sized_at))]
 fn place_of(geometry: &Geometry, call: &Call) -> Option<Place>
     ensures some { IfSome result (λ at. CanMake geometry.now.sector call.now × (at ≡ place_of geometry.now.sector call.now)) }
     ensures none { IfNone result (CanMake geometry.now.sector call.now → ⊥) }
+    ensures sized { IfSome result (λ at. IsSectorSize at.size) }
 {
+    let _size = geometry.sector();
     if is_op(&call.op) {
         geometry.place(call.offset)
     } else {

@@ -92,10 +92,10 @@ pub fn child_step<D: Teller, J: Station, R: Wait, C: Clock, P: Spawner>(
     ensures idle { KeepsIdle seat.old seat.new }
 {
     match children.poll() {
-        Some(process) => {
-            give_step(rt, alloc, cell, seat, clock, children, Input::Exit { process })?;
-            Ok(true)
-        }
+        Some(process) => match give_step(rt, alloc, cell, seat, clock, children, Input::Exit { process }) {
+            Ok(()) => Ok(true),
+            Err(error) => Err(error),
+        },
         None => Ok(false),
     }
 }

@@ -5,7 +5,7 @@ use Rattle.sl_live.specs.Turns.{IsGoingOn}
 -- what was given so far, and what is still due
 abbrev pub invariant-loop : goal.invariant-loop
 invariant-loop g l = record {
-  going : IsGoingOn g.P.Spawner.acts g.P.Spawner.faults g.P.Spawner.running (g.C.Clock.last l.fn.clock) (g.C.Clock.last l.clock) l.input l.fn.children l.children
+  going : IsGoingOn g.P.Spawner.acts g.P.Spawner.faults g.P.Spawner.running (g.C.Clock.last l.fn.clock) (g.C.Clock.last l.clock) l.fn.input l.fn.children l.children
       l.fn.seat.calls l.seat.calls l.waiting.items;
   idle : KeepsIdle l.fn.seat l.seat;
 }
