@@ -7,7 +7,7 @@ use Rattle.sl_cell.specs.declared.seat.Made.TheVariants.{Applied, Unasked}
 use Rattle.sl_cell.specs.declared.seat.Made.{Made}
 use Rattle.sl_daemon.specs.Daemons.{entry_of}
 use Rattle.sl_live.proofs.TurnLaws.{acts_none, acts_on, follows_on, gives_one}
-use Rattle.sl_live.specs.Turns.{Carries, ChildrenState, DoesActs, Follows, Gives, GivesOne, GivesUp, IsGoingOn, LeavesOff, MakesTurn, TurnsOn, outcome_of, told_by}
+use Rattle.sl_live.specs.Turns.{Carries, ChildrenState, DoesActs, Follows, Gives, GivesOne, GivesUp, IsGoingOn, LeavesOff, MakesTurn, TurnsOn, told_by}
 use Rattle.sl_live.specs.declared.children.Outcome.{Outcome}
 use Rattle.sl_outside.specs.declared.act.Act.{Act}
 use Rattle.sl_trace.specs.declared.effects.Effects.{Effects}

@@ -3,7 +3,6 @@ use Rattle.sl_cell.specs.declared.seat.Made.{Made}
 use Rattle.sl_live.specs.Turns.{Begins, Begun, Carries, ChildrenState, Does, DoesActs, Follows, Gives, IsCarriedOut, IsGiven, act_of, are_fine, is_fine, outcome_of, sent_by, start_of, started_by, started_in, told_by, told_of, without}
 use Rattle.sl_live.specs.declared.children.Outcome.{Outcome}
 use Rattle.sl_outside.specs.Acts.{Grows}
-use Rattle.sl_outside.specs.declared.act.Act.TheVariants.{Signalled, Started}
 use Rattle.sl_outside.specs.declared.act.Act.{Act}
 use Rattle.sl_trace.specs.declared.effects.Effects.{Effects}
 use Rattle.sl_trace.specs.declared.effects.Sent.{Sent}
@@ -13,7 +12,7 @@ use Rattle.sl_words.specs.Causes.{Rose}
 use Rattle.std.proofs.Common.{append_assoc, append-nil, ap, arith, inl, inr, refl, subst, sym, ◌∙◌}
 use Rattle.std.proofs.lemmas.List.Concat.{flat_map-append}
 use Rattle.std.proofs.lemmas.List.{map-append, map_more, take_all, take_more}
-use Rattle.std.specs.List.{flat_map, position, remove}
+use Rattle.std.specs.List.{position, remove}
 use Rattle.std.specs.Prelude.{Bool, List, None, Option, Some, drop, false, get_or, length, map, take, true, [], ℕ, ◌&&◌, ◌++◌, ◌+◌, ◌<◌, ◌==◌, ◌∷◌, ◌≡◌, ◌≤◌, ◌⊎◌}
 
 -- ---- what a spawner tells
@@ -145,7 +144,7 @@ module _ {P : Type 0} (told : P → Option (List Act)) (faults : P → ℕ) (run
   carries fx a b c ns ns1 ns' ws ws1 ws' ss starts s_is t_is n_is w_is sent so =
       let sent' : Does told faults running a b (map sent_by fx.signals) = subst (λ l. Does told faults running a b (map sent_by l)) s_is sent in
       let none : started_by (map sent_by fx.signals ++ map act_of so.begun) ≡ started_by (map act_of so.begun) =
-          flat_map-append started_in (map sent_by fx.signals) (map act_of so.begun) ∙ ap (λ l. l ++ started_by (map act_of so.begun)) (signals_start fx.signals) in
+      flat_map-append started_in (map sent_by fx.signals) (map act_of so.begun) ∙ ap (λ l. l ++ started_by (map act_of so.begun)) (signals_start fx.signals) in
       record {
         begun = so.begun;
         acts = map sent_by fx.signals ++ map act_of so.begun;

@@ -4,7 +4,6 @@ use Rattle.sl_area.specs.Sectors.{IsReadAt, KeepsOthers, Replaces, SectorPlace}
 use Rattle.sl_live.specs.declared.disks.Disk.{Disk}
 use Rattle.sl_sector.specs.Records.{IsRecord}
 use Rattle.sl_sector.specs.Spelling.{spelling}
-use Rattle.sl_sector.specs.declared.sector.Rec.{Rec}
 use Rattle.sl_trace.specs.declared.effects.Call.{Call}
 use Rattle.sl_trace.specs.declared.effects.Op.TheVariants.{ReadSectors, WriteRecord}
 use Rattle.sl_trace.specs.declared.effects.Op.{Op}
@@ -13,7 +12,7 @@ use Rattle.sl_trace.specs.declared.input.Answer.{Answer}
 use Rattle.sl_words.specs.Causes.{Rose}
 use Rattle.std.specs.Io.KnownBytes.{Keeps}
 use Rattle.std.specs.List.{slice_set}
-use Rattle.std.specs.Prelude.{Bool, List, None, Option, Some, bytes_eq, false, length, position, slice_get, true, ℕ, ◌%◌, ◌*◌, ◌<◌, ◌==◌, ◌^◌, ◌≡◌, ◌≤◌}
+use Rattle.std.specs.Prelude.{List, Option, Some, bytes_eq, length, position, slice_get, ℕ, ◌%◌, ◌*◌, ◌<◌, ◌^◌, ◌≡◌, ◌≤◌}
 
 -- What can be written: a record that keeps its rules.
 abbrev pub IsOp : Op → Type 0
@@ -50,7 +49,8 @@ abbrev pub disk_at : {A : Type 0} → List ℕ → List (Disk A) → Option ℕ
 disk_at path disks = position (λ d. bytes_eq d.path path) disks
 
 -- The call was made on disk k, and no other disk was touched.
-pub record IsMade {A : Type 0} (content : A → Option (List ℕ)) (faults : A → ℕ) (sector : ℕ) (c : Call) (k : ℕ) (disks later : List (Disk A)) (a : Answer) : Type 0 where
+pub record IsMade {A : Type 0} (content : A → Option (List ℕ)) (faults : A → ℕ) (sector : ℕ) (c : Call) (k : ℕ)
+    (disks later : List (Disk A)) (a : Answer) : Type 0 where
   pub before : Disk A
   pub after : Disk A
   pub there : slice_get disks k ≡ Some before

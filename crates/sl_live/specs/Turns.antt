@@ -10,12 +10,12 @@ use Rattle.sl_trace.specs.declared.effects.Sent.{Sent}
 use Rattle.sl_trace.specs.declared.effects.Signal.TheVariants.{Kill}
 use Rattle.sl_trace.specs.declared.effects.Start.{Start}
 use Rattle.sl_trace.specs.declared.input.Answer.{Answer}
-use Rattle.sl_trace.specs.declared.input.Input.TheVariants.{Answer as Told, Exit, Line, Number, Spawned, Wake}
+use Rattle.sl_trace.specs.declared.input.Input.TheVariants.{Answer as Told, Exit, Line, Spawned, Wake}
 use Rattle.sl_trace.specs.declared.input.Input.{Input}
 use Rattle.sl_trace.specs.declared.effects.Call.{Call}
 use Rattle.sl_words.specs.Causes.{Rose}
 use Rattle.std.specs.List.{flat_map, position, remove}
-use Rattle.std.specs.Prelude.{All, Bool, Err, List, None, Ok, Option, Some, Result, false, if◌then◌else◌, length, map, nat_le, true, [], ℕ, ◌&&◌, ◌++◌, ◌+◌, ◌<◌, ◌==◌, ◌∷◌, ◌≡◌, ◌≤◌}
+use Rattle.std.specs.Prelude.{All, Bool, Err, List, None, Ok, Option, Some, Result, false, if◌then◌else◌, length, map, nat_le, true, [], ℕ, ◌&&◌, ◌++◌, ◌+◌, ◌==◌, ◌∷◌, ◌≡◌, ◌≤◌}
 
 -- ---- the machine's children
 
@@ -82,7 +82,8 @@ are_fine (a ∷ acts) = is_fine a && are_fine acts
 
 -- A spawner did these acts: where it tells what it does, it told just these; its faults rose where a start failed; and those run that ran
 -- before and that were started.
-pub record Does {P : Type 0} (told : P → Option (List Act)) (faults : P → ℕ) (running : P → List ℕ) (before after : P) (acts : List Act) : Type 0 where
+pub record Does {P : Type 0} (told : P → Option (List Act)) (faults : P → ℕ) (running : P → List ℕ) (before after : P)
+    (acts : List Act) : Type 0 where
   pub grows : Grows (told before) (told after) acts
   pub later : faults before ≤ faults after
   pub failed : are_fine acts ≡ false → Rose (faults before) (faults after)
@@ -94,13 +95,15 @@ pub record IsQuiet {P : Type 0} (told : P → Option (List Act)) (faults : P →
   pub later : faults before ≤ faults after
 
 -- .. of a machine's children, whose numbers are kept.
-pub record DoesActs {P : Type 0} (told : P → Option (List Act)) (faults : P → ℕ) (running : P → List ℕ) (before after : ChildrenState P) (acts : List Act) : Type 0 where
+pub record DoesActs {P : Type 0} (told : P → Option (List Act)) (faults : P → ℕ) (running : P → List ℕ)
+    (before after : ChildrenState P) (acts : List Act) : Type 0 where
   pub does : Does told faults running before.spawner after.spawner acts
   pub numbers : after.numbers ≡ before.numbers ++ started_by acts
 
 -- These programs were tried, in order: the numbers of those that started are kept, and what each came to waits to be told.
-pub record Begins {P : Type 0} (told : P → Option (List Act)) (faults : P → ℕ) (running : P → List ℕ) (before after : P) (ns ns' : List ℕ) (ws ws' : List Outcome)
-  (starts : List Start) : Type 0 where
+pub record Begins {P : Type 0} (told : P → Option (List Act)) (faults : P → ℕ) (running : P → List ℕ) (before after : P)
+    (ns ns' : List ℕ) (ws ws' : List Outcome)
+    (starts : List Start) : Type 0 where
   pub begun : List Begun
   pub starts_are : map start_of begun ≡ starts
   pub does : Does told faults running before after (map act_of begun)
@@ -158,8 +161,9 @@ pub record LeavesOff (from to : ℕ) (i : Input) (calls : List Made) (acts : Lis
   pub later : now ≤ to
 
 -- A turn that goes on: what was given and done so far, and what waits to be told.
-pub record IsGoingOn {P : Type 0} (told : P → Option (List Act)) (faults : P → ℕ) (running : P → List ℕ) (from to : ℕ) (i : Input) (before after : ChildrenState P)
-  (had has : List Made) (waiting : List Outcome) : Type 0 where
+pub record IsGoingOn {P : Type 0} (told : P → Option (List Act)) (faults : P → ℕ) (running : P → List ℕ) (from to : ℕ)
+    (i : Input) (before after : ChildrenState P)
+    (had has : List Made) (waiting : List Outcome) : Type 0 where
   pub calls : List Made
   pub acts : List Act
   pub whole : has ≡ had ++ calls
@@ -167,8 +171,9 @@ pub record IsGoingOn {P : Type 0} (told : P → Option (List Act)) (faults : P �
   pub does : DoesActs told faults running before after acts
 
 -- A turn of this kind was made on children, and stands in a seat.
-pub record MakesTurn {P : Type 0} (told : P → Option (List Act)) (faults : P → ℕ) (running : P → List ℕ) (IsTurn : List Made → List Act → Type 0)
-  (before after : ChildrenState P) (had has : List Made) : Type 0 where
+pub record MakesTurn {P : Type 0} (told : P → Option (List Act)) (faults : P → ℕ) (running : P → List ℕ)
+    (IsTurn : List Made → List Act → Type 0)
+    (before after : ChildrenState P) (had has : List Made) : Type 0 where
   pub calls : List Made
   pub acts : List Act
   pub whole : has ≡ had ++ calls
@@ -176,8 +181,9 @@ pub record MakesTurn {P : Type 0} (told : P → Option (List Act)) (faults : P �
   pub does : DoesActs told faults running before after acts
 
 -- One input was given, and what its step asks was done; what its starts came to waits behind the others.
-pub record GivesOne {P : Type 0} (told : P → Option (List Act)) (faults : P → ℕ) (running : P → List ℕ) (now : ℕ) (i : Input) (before after : ChildrenState P)
-  (had has : List Made) (ws ws' : List Outcome) : Type 0 where
+pub record GivesOne {P : Type 0} (told : P → Option (List Act)) (faults : P → ℕ) (running : P → List ℕ) (now : ℕ) (i : Input)
+    (before after : ChildrenState P)
+    (had has : List Made) (ws ws' : List Outcome) : Type 0 where
   pub made : Made
   pub begun : List Begun
   pub acts : List Act
@@ -196,7 +202,8 @@ pub record GivesUp {C : Type 0} (before after : C) (had has : List Made) (ws ws'
   pub waits : ws' ≡ ws
 
 -- All that a step asks of the children was done, and what its starts came to waits.
-pub record Carries {P : Type 0} (told : P → Option (List Act)) (faults : P → ℕ) (running : P → List ℕ) (fx : Effects) (before after : ChildrenState P) (ws ws' : List Outcome) : Type 0 where
+pub record Carries {P : Type 0} (told : P → Option (List Act)) (faults : P → ℕ) (running : P → List ℕ) (fx : Effects)
+    (before after : ChildrenState P) (ws ws' : List Outcome) : Type 0 where
   pub begun : List Begun
   pub acts : List Act
   pub carried : CarriesOut fx begun acts
@@ -210,8 +217,9 @@ abbrev pub without : ℕ → List ℕ → List ℕ
 without n ns = elim (position (λ k. k == n) ns) [ None ↦ ns | Some place ↦ remove ns place ]
 
 -- A child has exited, as the spawner was found to tell, and its exit is given in a turn of this kind.
-pub record TellsExit {P : Type 0} (told : P → Option (List Act)) (faults : P → ℕ) (running : P → List ℕ) (IsTurn : Input → List Made → List Act → Type 0)
-  (before after : ChildrenState P) (had has : List Made) : Type 0 where
+pub record TellsExit {P : Type 0} (told : P → Option (List Act)) (faults : P → ℕ) (running : P → List ℕ)
+    (IsTurn : Input → List Made → List Act → Type 0)
+    (before after : ChildrenState P) (had has : List Made) : Type 0 where
   pub process : ℕ
   pub polled : ChildrenState P
   pub gave : IsTold (Some process) (running before.spawner) (running polled.spawner)
@@ -220,14 +228,16 @@ pub record TellsExit {P : Type 0} (told : P → Option (List Act)) (faults : P �
   pub turn : MakesTurn told faults running (IsTurn (Exit process)) polled after had has
 
 -- No exit was found, and nothing was given.
-pub record IsIdleTurn {P : Type 0} (told : P → Option (List Act)) (faults : P → ℕ) (running : P → List ℕ) (before after : ChildrenState P) (had has : List Made) : Type 0 where
+pub record IsIdleTurn {P : Type 0} (told : P → Option (List Act)) (faults : P → ℕ) (running : P → List ℕ)
+    (before after : ChildrenState P) (had has : List Made) : Type 0 where
   pub gave : IsTold None (running before.spawner) (running after.spawner)
   pub numbers : after.numbers ≡ before.numbers
   pub quiet : IsQuiet told faults before.spawner after.spawner
   pub calls : has ≡ had
 
 -- What a look for an exited child did, by whether it found one; for want of memory it left off.
-abbrev pub Looks : {P E : Type 0} → (P → Option (List Act)) → (P → ℕ) → (P → List ℕ) → ℕ → ℕ → ChildrenState P → ChildrenState P → List Made → List Made → Result Bool E → Type 0
+abbrev pub Looks : {P E : Type 0} → (P → Option (List Act)) → (P → ℕ) → (P → List ℕ) → ℕ → ℕ → ChildrenState P
+    → ChildrenState P → List Made → List Made → Result Bool E → Type 0
 Looks told faults running from to before after had has (Ok true) = TellsExit told faults running (TurnsOn from to) before after had has
 Looks told faults running from to before after had has (Ok false) = IsIdleTurn told faults running before after had has
 Looks told faults running from to before after had has (Err e) = TellsExit told faults running (LeavesOff from to) before after had has
@@ -238,7 +248,8 @@ is_lapsed last fire now = nat_le (last + fire) now
 
 -- A test at this reading: the device was kept from firing exactly where it held, and each child that runs was killed exactly where the
 -- device had fired.
-pub record Guards {P : Type 0} (told : P → Option (List Act)) (faults : P → ℕ) (running : P → List ℕ) (now last last' fire : ℕ) (before after : ChildrenState P) (answer : Bool) : Type 0 where
+pub record Guards {P : Type 0} (told : P → Option (List Act)) (faults : P → ℕ) (running : P → List ℕ) (now last last' fire : ℕ)
+    (before after : ChildrenState P) (answer : Bool) : Type 0 where
   pub kept : last' ≡ (if answer then now else last)
   pub kills : Does told faults running before.spawner after.spawner (if is_lapsed last' fire now then map kill_of before.numbers else [])
   pub numbers : after.numbers ≡ before.numbers

@@ -5,7 +5,8 @@
 
 ghost use Rattle.sl_live.specs.Turns.{Begins, Carries, Does, IsQuiet, act_of, kill_of, sent_by, started_in, without};
 ghost use Rattle.sl_outside.specs.Acts.{IsTold};
-ghost use Rattle.std.specs.Prelude.{IfNone, IfSome, List, OnErr, OnOk, length, map, position, vec_capacity, vec_len, [], ◌++◌, ◌+◌, ◌<◌, ◌==◌, ◌∷◌, ◌≡◌, ◌≤◌};
+ghost use Rattle.std.specs.Prelude.{IfNone, IfSome, OnErr, OnOk, length, map, position, vec_capacity, vec_len};
+ghost use Rattle.std.specs.Prelude.{[], ◌++◌, ◌+◌, ◌<◌, ◌==◌, ◌∷◌, ◌≡◌, ◌≤◌};
 ghost use Rattle.std.specs.VecDeque.{deque_capacity, deque_len};
 
 use sl_outside::Spawner;
@@ -65,7 +66,8 @@ fn begin_all<P: Spawner>(
 )
     requires numbers { vec_len numbers.old + length starts.now ≤ vec_capacity numbers.old }
     requires waiting { deque_len waiting.old + length starts.now ≤ deque_capacity waiting.old }
-    ensures { Begins P.acts P.faults P.running spawner.old spawner.new numbers.old.items numbers.new.items waiting.old.items waiting.new.items starts.now }
+    ensures { Begins P.acts P.faults P.running spawner.old spawner.new numbers.old.items numbers.new.items waiting.old.items
+        waiting.new.items starts.now }
 {
     for start in starts {
         let ok = begin(spawner, numbers, start);
@@ -142,7 +144,11 @@ impl<P: Spawner> Children<P> {
     }
 
     /// Does all that a step asks of the children, and keeps what its starts came to. An `Err` is want of memory, and nothing was done.
-    pub(crate) fn carry_out(&mut self, effects: &Effects, waiting: &mut VecDeque<Outcome>) -> Result<(), AllocError>
+    pub(crate) fn carry_out(
+        &mut self,
+        effects: &Effects,
+        waiting: &mut VecDeque<Outcome>,
+    ) -> Result<(), AllocError>
         ensures ok { OnOk result (Carries P.acts P.faults P.running effects.now self.old self.new waiting.old.items waiting.new.items) }
         ensures err { OnErr result ((self.new ≡ self.old) × (waiting.new.items ≡ waiting.old.items)) }
     {

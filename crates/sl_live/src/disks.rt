@@ -65,8 +65,14 @@ fn place_of(geometry: &Geometry, call: &Call) -> Option<Place>
 }
 
 /// Reads so many sectors. An `Err` is want of memory, and nothing was done.
-fn read_sectors<A: Area>(alloc: Global, at: Place, sectors: u32, area: &mut A) -> Result<Answer, AllocError>
-    ensures ok { IfOk result (λ a. IsServed at (ReadSectors sectors) (A.content area.old) (A.content area.new) (A.faults area.old) (A.faults area.new) a) }
+fn read_sectors<A: Area>(
+    alloc: Global,
+    at: Place,
+    sectors: u32,
+    area: &mut A,
+) -> Result<Answer, AllocError>
+    ensures ok { IfOk result (λ a. IsServed at (ReadSectors sectors) (A.content area.old) (A.content area.new)
+        (A.faults area.old) (A.faults area.new) a) }
     ensures err { OnErr result (area.new ≡ area.old) }
 {
     let mut buffer = vec![in alloc; 0; sectors as usize * at.size() as usize]?;
@@ -77,10 +83,16 @@ fn read_sectors<A: Area>(alloc: Global, at: Place, sectors: u32, area: &mut A) -
 }
 
 /// Writes a record's sector. An `Err` is want of memory, and nothing was done.
-fn write_record<A: Area>(alloc: Global, at: Place, written: &Rec, area: &mut A) -> Result<Answer, AllocError>
+fn write_record<A: Area>(
+    alloc: Global,
+    at: Place,
+    written: &Rec,
+    area: &mut A,
+) -> Result<Answer, AllocError>
     requires sized { IsSectorSize at.size }
     requires rules { IsRecord written.now }
-    ensures ok { IfOk result (λ a. IsServed at (WriteRecord written.now) (A.content area.old) (A.content area.new) (A.faults area.old) (A.faults area.new) a) }
+    ensures ok { IfOk result (λ a. IsServed at (WriteRecord written.now) (A.content area.old) (A.content area.new)
+        (A.faults area.old) (A.faults area.new) a) }
     ensures err { OnErr result (area.new ≡ area.old) }
 {
     let mut sector = vec![in alloc; 0; at.size() as usize]?;
@@ -95,7 +107,8 @@ fn write_record<A: Area>(alloc: Global, at: Place, written: &Rec, area: &mut A) 
 fn serve<A: Area>(alloc: Global, at: Place, op: &Op, area: &mut A) -> Result<Answer, AllocError>
     requires sized { IsSectorSize at.size }
     requires rules { IsOp op.now }
-    ensures ok { IfOk result (λ a. IsServed at op.now (A.content area.old) (A.content area.new) (A.faults area.old) (A.faults area.new) a) }
+    ensures ok { IfOk result (λ a. IsServed at op.now (A.content area.old) (A.content area.new)
+        (A.faults area.old) (A.faults area.new) a) }
     ensures err { OnErr result (area.new ≡ area.old) }
 {
     match op {

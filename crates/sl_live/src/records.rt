@@ -67,7 +67,8 @@ fn is_blank(bitmap: &[u8; 250]) -> bool
 
 /// Whether nothing is in it but its id, as in one that was never claimed.
 fn is_unclaimed(delta: &DeltaRec) -> bool
-    ensures { IsTrue result ↔ ((delta.now.state ≡ NobodysTurn) × (delta.now.seq ≡ 0) × (delta.now.stamp ≡ 0) × (delta.now.host ≡ None) × (delta.now.bitmap ≡ replicate 250 0)) }
+    ensures { IsTrue result ↔ ((delta.now.state ≡ NobodysTurn) × (delta.now.seq ≡ 0) × (delta.now.stamp ≡ 0) × (delta.now.host ≡ None)
+        × (delta.now.bitmap ≡ replicate 250 0)) }
 {
     delta.state == DeltaState::Free
         && delta.seq == 0

@@ -38,7 +38,8 @@ fn give<D: Teller, J: Station, R: Wait, C: Clock, P: Spawner>(
     waiting: &mut VecDeque<Outcome>,
     input: Input,
 ) -> Result<(), AllocError>
-    ensures ok { OnOk result (GivesOne P.acts P.faults P.running (C.last clock.new) input children.old children.new seat.old.calls seat.new.calls waiting.old.items waiting.new.items) }
+    ensures ok { OnOk result (GivesOne P.acts P.faults P.running (C.last clock.new) input children.old children.new
+        seat.old.calls seat.new.calls waiting.old.items waiting.new.items) }
     ensures err { OnErr result (GivesUp children.old children.new seat.old.calls seat.new.calls waiting.old.items waiting.new.items) }
     ensures clock { C.last clock.old ≤ C.last clock.new }
     ensures idle { KeepsIdle seat.old seat.new }
@@ -63,8 +64,10 @@ pub fn give_step<D: Teller, J: Station, R: Wait, C: Clock, P: Spawner>(
     children: &mut Children<P>,
     input: Input,
 ) -> Result<(), AllocError>
-    ensures ok { OnOk result (MakesTurn P.acts P.faults P.running (TurnsOn (C.last clock.old) (C.last clock.new) input) children.old children.new seat.old.calls seat.new.calls) }
-    ensures err { OnErr result (MakesTurn P.acts P.faults P.running (LeavesOff (C.last clock.old) (C.last clock.new) input) children.old children.new seat.old.calls seat.new.calls) }
+    ensures ok { OnOk result (MakesTurn P.acts P.faults P.running (TurnsOn (C.last clock.old) (C.last clock.new) input)
+        children.old children.new seat.old.calls seat.new.calls) }
+    ensures err { OnErr result (MakesTurn P.acts P.faults P.running (LeavesOff (C.last clock.old) (C.last clock.new) input)
+        children.old children.new seat.old.calls seat.new.calls) }
     ensures idle { KeepsIdle seat.old seat.new }
 {
     let mut waiting = VecDeque::new(alloc);
@@ -73,7 +76,15 @@ pub fn give_step<D: Teller, J: Station, R: Wait, C: Clock, P: Spawner>(
         let Some(outcome) = waiting.pop_front() else {
             break;
         };
-        give(rt, cell, seat, clock, children, &mut waiting, told_by(outcome))?;
+        give(
+            rt,
+            cell,
+            seat,
+            clock,
+            children,
+            &mut waiting,
+            told_by(outcome),
+        )?;
     }
     Ok(())
 }
@@ -88,11 +99,20 @@ pub fn child_step<D: Teller, J: Station, R: Wait, C: Clock, P: Spawner>(
     clock: &mut C,
     children: &mut Children<P>,
 ) -> Result<bool, AllocError>
-    ensures looks { Looks P.acts P.faults P.running (C.last clock.old) (C.last clock.new) children.old children.new seat.old.calls seat.new.calls result }
+    ensures looks { Looks P.acts P.faults P.running (C.last clock.old) (C.last clock.new) children.old children.new
+        seat.old.calls seat.new.calls result }
     ensures idle { KeepsIdle seat.old seat.new }
 {
     match children.poll() {
-        Some(process) => match give_step(rt, alloc, cell, seat, clock, children, Input::Exit { process }) {
+        Some(process) => match give_step(
+            rt,
+            alloc,
+            cell,
+            seat,
+            clock,
+            children,
+            Input::Exit { process },
+        ) {
             Ok(()) => Ok(true),
             Err(error) => Err(error),
         },
@@ -111,8 +131,10 @@ pub fn device_step<D: Teller, J: Station, R: Wait, C: Clock, P: Spawner, V: Devi
     children: &mut Children<P>,
 ) -> Result<(), AllocError>
     ensures ok { OnOk result ((answer : Bool) × IsTested seat.old seat.new (C.last clock.new) answer
-        × Guards P.acts P.faults P.running (C.last clock.new) (V.last device.old) (V.last device.new) (V.fire device.old) children.old children.new answer) }
-    ensures err { OnErr result ((seat.new.calls ≡ seat.old.calls) × KeepsIdle seat.old seat.new × (children.new ≡ children.old) × (V.last device.new ≡ V.last device.old)) }
+        × Guards P.acts P.faults P.running (C.last clock.new) (V.last device.old) (V.last device.new) (V.fire device.old)
+        children.old children.new answer) }
+    ensures err { OnErr result ((seat.new.calls ≡ seat.old.calls) × KeepsIdle seat.old seat.new × (children.new ≡ children.old)
+        × (V.last device.new ≡ V.last device.old)) }
     ensures fire { V.fire device.new ≡ V.fire device.old }
     ensures clock { C.last clock.old ≤ C.last clock.new }
 {

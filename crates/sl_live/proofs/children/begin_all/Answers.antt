@@ -34,4 +34,4 @@ pub returns : goal.returns
 returns g c =
     let whole = take_all c.loop-start.start-index c.args.starts.now c.loop-start-test.false in
     subst (λ ss. Begins g.P.Spawner.acts g.P.Spawner.faults g.P.Spawner.running c.args.spawner.now c.loop-start.spawner c.args.numbers.now.items c.loop-start.numbers.items
-        c.args.waiting.now.items c.loop-start.waiting.items ss) whole c.loop-start.invariant.begins
+    c.args.waiting.now.items c.loop-start.waiting.items ss) whole c.loop-start.invariant.begins

@@ -2,7 +2,7 @@ use Rattle.sl_live.proofs.TurnLaws.{does_all, does_next, does_same, signalled}
 use Rattle.sl_live.proofs.children.kill_all.Goals as goal
 use Rattle.sl_live.specs.Turns.{kill_of}
 use Rattle.sl_trace.specs.declared.effects.Signal.TheVariants.{Kill}
-use Rattle.std.proofs.Common.{arith, get_or}
+use Rattle.std.proofs.Common.{get_or}
 
 pub loop-number-init : goal.loop-number-init
 loop-number-init g c = does_same g.P.Spawner.acts g.P.Spawner.faults g.P.Spawner.running c.args.spawner.now
