@@ -2,13 +2,15 @@
 use Rattle.indexmap.specs.IndexSet.{contains}
 use Rattle.sl_cell.proofs.ExpectedLaws.{front_next}
 use Rattle.sl_cell.proofs.Fronts.{all_more, take_next}
-use Rattle.sl_cell.specs.Audits.{Agrees, Follows, IsLater, IsMarked, IsTrueOf, Rises, StandsAt, all_calls, is_receipt, is_take, one_if, past, sees}
+use Rattle.sl_cell.specs.Audits.{Agrees, AreIdleTrue, CanMark, Follows, IsLater, IsMarked, IsTrueOf, Rises, StandsAt, all_calls, is_receipt, is_take, one_if, past, sees}
+use Rattle.sl_cell.specs.Cases.{IsAgain}
 use Rattle.sl_cell.specs.Seats.{SeatState}
 use Rattle.sl_cell.specs.declared.marks.Marks.{Marks}
 use Rattle.sl_cell.specs.declared.seat.Made.TheVariants.{Applied, Tested, Took, Unasked}
 use Rattle.sl_cell.specs.declared.seat.Made.{Made}
 use Rattle.sl_plain.proofs.Lists.{got_index, there_is}
 use Rattle.sl_plain.proofs.Places.{count_push, position_none}
+use Rattle.sl_words.proofs.CaseLaws.{false_is_true}
 use Rattle.sl_trace.specs.Connections.{Connection, after_move, connections}
 use Rattle.sl_trace.specs.Traces.{Setting}
 use Rattle.sl_trace.specs.declared.effects.Call.{Call}
@@ -20,7 +22,7 @@ use Rattle.std.proofs.lemmas.List.Concat.{flat_map-append}
 use Rattle.std.proofs.lemmas.List.Elements.{All-append}
 use Rattle.std.proofs.lemmas.List.{append-nil}
 use Rattle.std.specs.List.{count_by, slice_set}
-use Rattle.std.specs.Prelude.{Bool, None, Some, false, nat_eq, not, position, slice_get, true}
+use Rattle.std.specs.Prelude.{Bool, None, Ok, Result, Some, false, nat_eq, not, position, slice_get, true}
 
 -- ---- marks
 
@@ -108,6 +110,33 @@ took_marked m m' ms number c was found taken so = record {
         let none : count_by (is_take n) ms ≡ 0 = so.taken n ∙ ap (λ b. one_if b) (ap (λ k. contains nat_eq m.taken k) (sym (eqb-true c.number n is)) ∙ was) in
         ap (λ k. k + 1) none
     go n false is = no_more (count_by (is_take n) ms) ∙ so.taken n
+
+-- ---- what is marked was said before
+
+said_no : {E : Type 0} (r : Bool) → ◌≡◌ {A = Result Bool E} (Ok r) (Ok false) → r ≡ false
+said_no r is = cc
+
+was_set : (b r : Bool) → r ≡ not b → r ≡ false → b ≡ true
+was_set true r set is = refl
+was_set false r set is = absurd (false_is_true (sym is ∙ set))
+
+pub applied_again : {E : Type 0} (m : Marks) (ms : List Made) (made : Made) (number : ℕ) (e : Entry) (r : Bool) → made ≡ Applied number e → CanMark m made
+    → r ≡ not (get_or m.found.items (number - 1) false) → IsMarked m ms → ◌≡◌ {A = Result Bool E} (Ok r) (Ok false) → IsAgain ms made
+applied_again m ms made number e r is can set so no_more_of =
+    let at : (0 < number) × (number ≤ length m.found.items) = subst (CanMark m) is can in
+    let some = at.0 in
+    let most = at.1 in
+    let back : number - 1 + 1 ≡ number = omega (arith, some) in
+    let count : count_by (is_receipt number) ms ≡ 1 =
+        ap (λ n. count_by (is_receipt n) ms) (sym back) ∙ so.found (number - 1) (omega (arith, some, most))
+        ∙ ap (λ b. one_if b) (was_set (get_or m.found.items (number - 1) false) r set (said_no r no_more_of)) in
+    subst (IsAgain ms) (sym is) (omega (arith, count))
+
+pub took_again : {E : Type 0} (m : Marks) (ms : List Made) (made : Made) (number : ℕ) (c : Call) (r : Bool) → made ≡ Took number c → r ≡ not (contains nat_eq m.taken c.number)
+    → IsMarked m ms → ◌≡◌ {A = Result Bool E} (Ok r) (Ok false) → IsAgain ms made
+took_again m ms made number c r is set so no_more_of =
+    let count = so.taken c.number ∙ ap (λ b. one_if b) (was_set (contains nat_eq m.taken c.number) r set (said_no r no_more_of)) in
+    subst (IsAgain ms) (sym is) (omega (arith, count))
 
 -- ---- connections along a history
 
@@ -204,8 +233,8 @@ seats_more st h m seats k s lt is trues rising marked here rises = (
 -- All is marked, so all is there once.
 pub agrees : (st : Setting) (h : List Entry) (m : Marks) (seats : List SeatState) → length m.found.items ≡ length h
     → All (λ b. b ≡ true) m.found.items → IsMarked m (all_calls seats) → All (IsTrueOf st h) (all_calls seats)
-    → All (λ (x : SeatState). Rises 0 x.calls) seats → Agrees st h seats
-agrees st h m seats len all marked trues rising = record {
+    → All (λ (x : SeatState). Rises 0 x.calls) seats → All (AreIdleTrue h (all_calls seats)) seats → Agrees st h seats
+agrees st h m seats len all marked trues rising idle = record {
   true_of = trues;
   rising = rising;
   once = (λ number some most.
@@ -213,19 +242,26 @@ agrees st h m seats len all marked trues rising = record {
       let is : number - 1 + 1 ≡ number = omega (arith, some) in
       ap (λ n. count_by (is_receipt n) (all_calls seats)) (sym is) ∙ marked.found (number - 1) below ∙ ap (λ b. one_if b) (all (number - 1) false below));
   taken = (λ number. at_most (contains nat_eq m.taken number) (count_by (is_take number) (all_calls seats)) (marked.taken number));
+  idle = idle;
 }
   where
     at_most : (b : Bool) (n : ℕ) → n ≡ one_if b → n ≤ 1
     at_most true n is = omega (arith, is)
     at_most false n is = omega (arith, is)
 
-pub agrees_at_end : (st : Setting) (h : List Entry) (m : Marks) (seats : List SeatState) (k : ℕ) → (k < length seats → ⊥) → length m.found.items ≡ length h
-    → All (λ b. b ≡ true) m.found.items → IsMarked m (all_calls (take k seats)) → All (IsTrueOf st h) (all_calls (take k seats))
-    → All (λ (x : SeatState). Rises 0 x.calls) (take k seats) → Agrees st h seats
-agrees_at_end st h m seats k past len all marked trues rising =
-    let whole : take k seats ≡ seats = take_past k seats past in
-    agrees st h m seats len all (subst (λ (xs : List SeatState). IsMarked m (all_calls xs)) whole marked)
-    (subst (λ (xs : List SeatState). All (IsTrueOf st h) (all_calls xs)) whole trues) (subst (All (λ (x : SeatState). Rises 0 x.calls)) whole rising)
+pub calls_at_end : (st : Setting) (h : List Entry) (m : Marks) (seats : List SeatState) (k : ℕ) → (k < length seats → ⊥)
+    → IsMarked m (all_calls (take k seats)) × All (IsTrueOf st h) (all_calls (take k seats)) × All (λ (x : SeatState). Rises 0 x.calls) (take k seats)
+    → IsMarked m (all_calls seats) × All (IsTrueOf st h) (all_calls seats) × All (λ (x : SeatState). Rises 0 x.calls) seats
+calls_at_end st h m seats k past so =
+    let whole : take k seats ≡ seats = take_past k seats past in (
+      subst (λ (xs : List SeatState). IsMarked m (all_calls xs)) whole so.0,
+      subst (λ (xs : List SeatState). All (IsTrueOf st h) (all_calls xs)) whole so.1,
+      subst (All (λ (x : SeatState). Rises 0 x.calls)) whole so.2,
+    )
+
+pub idles_at_end : (h : List Entry) (all : List Made) (seats : List SeatState) (k : ℕ) → (k < length seats → ⊥) → All (AreIdleTrue h all) (take k seats)
+    → All (AreIdleTrue h all) seats
+idles_at_end h all seats k past so = subst (All (AreIdleTrue h all)) (take_past k seats past) so
 
 pub seat_at_end : (st : Setting) (h : List Entry) (m : Marks) (ms items calls : List Made) (k : ℕ) → items ≡ calls → (k < length items → ⊥) → IsMarked m (ms ++ take k items)
     → All (IsTrueOf st h) (take k items) → Rises 0 (take k items) → IsMarked m (ms ++ calls) × All (IsTrueOf st h) calls × Rises 0 calls

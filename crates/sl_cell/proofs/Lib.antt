@@ -4,3 +4,5 @@ pub mod CopyLaws
 pub mod KeptLaws
 pub mod ExpectedLaws
 pub mod AuditLaws
+pub mod CaseLaws
+pub mod IdleLaws

@@ -1,17 +1,20 @@
 -- When the records of threads and a history agree.
-use Rattle.sl_cell.specs.Seats.{SeatState}
+use Rattle.sl_cell.specs.Seats.{SeatState, is_of}
 use Rattle.indexmap.specs.IndexSet.{contains}
 use Rattle.sl_cell.specs.declared.audit.Basis.{Basis}
 use Rattle.sl_cell.specs.declared.marks.Marks.{Marks}
+use Rattle.sl_cell.specs.declared.seat.Idle.{Idle}
 use Rattle.sl_cell.specs.declared.seat.Made.TheVariants.{Applied, Tested, Took, Unasked}
 use Rattle.sl_cell.specs.declared.seat.Made.{Made}
+use Rattle.sl_cell.specs.declared.seat.Part.TheVariants.{Delta, Resource}
+use Rattle.sl_cell.specs.declared.seat.Part.{Part}
 use Rattle.sl_trace.specs.Connections.{Connection, connections, test_holds}
 use Rattle.sl_trace.specs.Traces.{Setting, Trace, is_expected}
 use Rattle.sl_trace.specs.declared.effects.Call.{Call}
 use Rattle.sl_trace.specs.declared.effects.Entry.{Entry}
 use Rattle.sl_trace.specs.declared.input.Input.{Input}
-use Rattle.std.specs.List.{count_by}
-use Rattle.std.specs.Prelude.{All, Bool, Contains, List, Some, cond, false, flat_map, get_or, length, nat_eq, reverse, slice_get, take, [], ℕ, ◌+◌, ◌-◌, ◌<◌, ◌==◌, ◌∷◌, ◌≡◌, ◌≤◌}
+use Rattle.std.specs.List.{count_by, list_any}
+use Rattle.std.specs.Prelude.{All, Bool, Contains, IfSome, List, Some, cond, drop, false, flat_map, fold, get_or, length, nat_eq, not, reverse, slice_get, take, [], ℕ, ◌&&◌, ◌+◌, ◌-◌, ◌<◌, ◌==◌, ◌∷◌, ◌≡◌, ◌≤◌, ◌||◌}
 
 -- ---- what a call says of a history
 
@@ -86,12 +89,35 @@ is_take number (Unasked front i) = false
 is_take number (Took n c) = c.number == number
 is_take number (Tested now answer front) = false
 
+-- ---- where a part had no call left
+
+-- The calls of a history's first entries.
+abbrev pub calls_before : ℕ → List Entry → List Call
+calls_before front h = flat_map (λ (e : Entry). e.effects.calls) (take front h)
+
+-- Whether a call of the part was taken by none of these, or by one of those, which were made later.
+abbrev pub is_left : Part → List Made → List Made → Call → Bool
+is_left part all later c = is_of part c && (not (list_any (is_take c.number) all) || list_any (is_take c.number) later)
+
+-- A front is not below what the thread had seen, and each call of the part before it was taken by then, by this thread or another.
+pub record IsIdleTrue (h : List Entry) (all calls : List Made) (part : Part) (idle : Idle) : Type 0 where
+  pub seen : fold sees 0 (take idle.place calls) ≤ idle.front
+  pub taken : list_any (is_left part all (drop idle.place calls)) (calls_before idle.front h) ≡ false
+
+-- .. of each part of which a seat says it.
+pub record AreIdleTrue (h : List Entry) (all : List Made) (s : SeatState) : Type 0 where
+  pub delta : IfSome s.delta (IsIdleTrue h all s.calls Delta)
+  pub resource : IfSome s.resource (IsIdleTrue h all s.calls Resource)
+
+-- ---- agreement
+
 -- The seats have the history's entries, each once at its number, and what else they say of it is true.
 pub record Agrees (st : Setting) (h : List Entry) (seats : List SeatState) : Type 0 where
   pub true_of : All (IsTrueOf st h) (all_calls seats)
   pub rising : All (λ (s : SeatState). Rises 0 s.calls) seats
   pub once : (number : ℕ) → 0 < number → number ≤ length h → count_by (is_receipt number) (all_calls seats) ≡ 1
   pub taken : (number : ℕ) → count_by (is_take number) (all_calls seats) ≤ 1
+  pub idle : All (AreIdleTrue h (all_calls seats)) seats
 
 -- ---- what is kept along the calls
 
@@ -111,6 +137,12 @@ one_if b = cond b 1 0
 pub record IsMarked (m : Marks) (ms : List Made) : Type 0 where
   pub found : (place : ℕ) → place < length m.found.items → count_by (is_receipt (place + 1)) ms ≡ one_if (get_or m.found.items place false)
   pub taken : (number : ℕ) → count_by (is_take number) ms ≡ one_if (contains nat_eq m.taken number)
+
+-- The entry of this number has no mark.
+pub record IsMissing (m : Marks) (number : ℕ) : Type 0 where
+  pub some : 0 < number
+  pub within : number ≤ length m.found.items
+  pub none : get_or m.found.items (number - 1) false ≡ false
 
 -- There is a place for the mark of the call.
 abbrev pub CanMark : Marks → Made → Type 0

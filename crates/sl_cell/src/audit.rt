@@ -4,14 +4,19 @@
 //! compared, call by call. What a thread had seen only grows; so the connections that its tests are of are worked out along the history,
 //! once for each thread.
 
-ghost use Rattle.sl_cell.specs.Audits.{Agrees, AnswersNothing, ContainsAt, Follows, IsLater, IsMarked, IsOf, IsTrueOf, IsWithin, Rises, StandsAt, TestsSo, sees};
+ghost use Rattle.sl_cell.specs.Audits.{Agrees, AnswersNothing, AreIdleTrue, ContainsAt, Follows, IsLater, IsMarked, IsOf, IsTrueOf, IsWithin, Rises, StandsAt, TestsSo, all_calls, sees};
+ghost use Rattle.sl_cell.specs.Cases.{FaultIn, IsCase, IsFault, Stops, numbered, told_of};
+ghost use Rattle.sl_cell.specs.Seats.{SeatState};
+ghost use Rattle.sl_cell.specs.declared.audit.Differ.{Differ as DifferOf};
 ghost use Rattle.sl_cell.specs.declared.seat.Made.{Made as MadeOf};
 ghost use Rattle.sl_trace.specs.Connections.{after_move};
 ghost use Rattle.sl_trace.specs.Traces.{Setting};
-ghost use Rattle.std.specs.Prelude.{All, Contains, IfOk, IsTrue, List, OnOk, fold, length, [], ◌++◌, ◌<◌, ◌∷◌, ◌↔◌, ◌≡◌, ◌≤◌, ℕ};
+ghost use Rattle.std.specs.Prelude.{All, Contains, IfErr, IfOk, IsTrue, List, None, OnOk, fold, length, [], ◌++◌, ◌<◌, ◌∷◌, ◌↔◌, ◌≡◌, ◌≤◌, ℕ};
 
 use crate::connections::{Connection, make_moves, test_holds};
+use crate::entries::{copy_entry, copy_numbered};
 use crate::expected::is_expected;
+use crate::idle::check_idles;
 use crate::marks::Marks;
 use crate::seat::{Made, Seat};
 use crate::spare::copy_input;
@@ -22,9 +27,12 @@ use std::alloc::{AllocError, Global};
 /// Where seats and a history differ.
 #[derive(Drop)]
 pub enum Differ {
-    /// The entry of this number is not the one of its receipt, or it has not just one receipt.
+    /// The entry of this number is not that of its receipt, or there are two receipts of it, or there is none: the receipt, and the entry
+    /// that the history has there.
     Entry {
         number: usize,
+        receipt: Option<Entry>,
+        kept: Option<Entry>,
     },
     /// A receipt's number is not above what its seat had seen, or a front is below it.
     Seen {
@@ -39,6 +47,11 @@ pub enum Differ {
     /// The call is none of that entry, or was taken twice.
     Taken {
         number: usize,
+        call: Call,
+    },
+    /// A part had no call left after so many entries, but this call of one of them was taken by no thread, or by this one later.
+    Idle {
+        front: usize,
         call: Call,
     },
     /// After so many entries the connections' test has another answer, or there are not so many.
@@ -165,7 +178,7 @@ fn is_later(seen: usize, made: &Made) -> bool
 }
 
 /// How many entries are seen behind a call.
-fn sees(seen: usize, made: &Made) -> usize
+pub(crate) fn sees(seen: usize, made: &Made) -> usize
     ensures { result ≡ sees seen made.now }
 {
     match made {
@@ -222,22 +235,46 @@ fn tests_so(
     Ok(test_holds(&cursor.connections, now) == answer)
 }
 
-/// What differs where a call is not true.
-fn untrue(alloc: Global, made: &Made) -> CloseError {
+/// What differs where a receipt is not its entry's, or one of two.
+fn differing_receipt(alloc: Global, history: &[Entry], number: usize, entry: &Entry) -> Result<Differ, AllocError>
+    ensures { IfOk result (λ d. d ≡ told_of history.now (MadeOf.Applied number entry.now)) }
+{
+    Ok(Differ::Entry {
+        number,
+        receipt: Some(copy_entry(alloc, entry)?),
+        kept: copy_numbered(alloc, history, number)?,
+    })
+}
+
+/// Why there is no history where an entry has no receipt.
+fn unreceived(alloc: Global, history: &[Entry], number: usize) -> CloseError
+    ensures { Stops (λ d. d ≡ DifferOf.Entry number None (numbered history.now number)) result }
+{
+    match copy_numbered(alloc, history, number) {
+        Ok(kept) => CloseError::Differ(Differ::Entry {
+            number,
+            receipt: None,
+            kept,
+        }),
+        Err(_) => CloseError::NoMemory,
+    }
+}
+
+/// What differs where a call is not true of the history, or says again what was said. An `Err` is want of memory.
+fn differing_call(alloc: Global, history: &[Entry], made: &Made) -> Result<Differ, AllocError>
+    ensures { IfOk result (λ d. d ≡ told_of history.now made.now) }
+{
     match made {
-        Made::Applied { number, .. } => CloseError::Differ(Differ::Entry { number: *number }),
-        Made::Unasked { front, input } => match copy_input(alloc, input) {
-            Ok(input) => CloseError::Differ(Differ::Asked {
-                front: *front,
-                input,
-            }),
-            Err(_) => CloseError::NoMemory,
-        },
-        Made::Took { number, call } => CloseError::Differ(Differ::Taken {
+        Made::Applied { number, entry } => differing_receipt(alloc, history, *number, entry),
+        Made::Unasked { front, input } => Ok(Differ::Asked {
+            front: *front,
+            input: copy_input(alloc, input)?,
+        }),
+        Made::Took { number, call } => Ok(Differ::Taken {
             number: *number,
             call: *call,
         }),
-        Made::Tested { now, answer, front } => CloseError::Differ(Differ::Tested {
+        Made::Tested { now, answer, front } => Ok(Differ::Tested {
             front: *front,
             now: *now,
             answer: *answer,
@@ -245,7 +282,18 @@ fn untrue(alloc: Global, made: &Made) -> CloseError {
     }
 }
 
+/// Why there is no history where a call is not true of it, or says again what was said.
+fn untrue(alloc: Global, history: &[Entry], made: &Made) -> CloseError
+    ensures { Stops (λ d. d ≡ told_of history.now made.now) result }
+{
+    match differing_call(alloc, history, made) {
+        Ok(differ) => CloseError::Differ(differ),
+        Err(_) => CloseError::NoMemory,
+    }
+}
+
 /// Compares a call with the history: how many entries its seat has seen then.
+#[tactic(auto, using(crate::proofs::CaseLaws::less_here, crate::proofs::CaseLaws::untrue_here, crate::proofs::CaseLaws::again_here))]
 fn check_call(
     alloc: Global,
     basis: &Basis,
@@ -261,6 +309,9 @@ fn check_call(
         → Follows st history.now cursor.old.front cursor.old.connections.items
         → IfOk result (λ _. IsLater seen made.now × IsTrueOf st history.now made.now
         × IsMarked marks.new (ms ++ made.now ∷ []) × Follows st history.now cursor.new.front cursor.new.connections.items) }
+    ensures differ { (st : Setting) → (ms : List MadeOf) → IsOf st basis.now → IsMarked marks.old ms
+        → Follows st history.now cursor.old.front cursor.old.connections.items
+        → IfErr result (Stops (IsFault st history.now ms seen made.now)) }
     ensures seen { IfOk result (λ now. now ≡ sees seen made.now) }
     ensures cursor { IfOk result (λ now. cursor.new.front ≤ now) }
     ensures marks { length marks.new.found.items ≡ length history.now }
@@ -272,10 +323,10 @@ fn check_call(
         }));
     }
     if !is_true_of(basis, history, cursor, made)? {
-        return Err(untrue(alloc, made));
+        return Err(untrue(alloc, history, made));
     }
     if !marks.note(made)? {
-        return Err(untrue(alloc, made));
+        return Err(untrue(alloc, history, made));
     }
     Ok(sees(seen, made))
 }
@@ -291,6 +342,8 @@ fn check_seat(
     requires { length marks.old.found.items ≡ length history.now }
     ensures ok { (st : Setting) → (ms : List MadeOf) → IsOf st basis.now → IsMarked marks.old ms
         → OnOk result (IsMarked marks.new (ms ++ seat.now.calls) × All (IsTrueOf st history.now) seat.now.calls × Rises 0 seat.now.calls) }
+    ensures differ { (st : Setting) → (ms : List MadeOf) → IsOf st basis.now → IsMarked marks.old ms
+        → IfErr result (Stops (FaultIn st history.now ms seat.now.calls)) }
     ensures marks { length marks.new.found.items ≡ length history.now }
 {
     let mut cursor = Cursor {
@@ -304,6 +357,41 @@ fn check_seat(
     Ok(())
 }
 
+/// Compares the calls of all seats with the history. What they say is marked then.
+fn check_calls(
+    alloc: Global,
+    basis: &Basis,
+    history: &[Entry],
+    seats: &[Seat],
+) -> Result<Marks, CloseError>
+    ensures ok { (st : Setting) → IsOf st basis.now → IfOk result (λ m. IsMarked m (all_calls seats.now)
+        × All (IsTrueOf st history.now) (all_calls seats.now) × All (λ (s : SeatState). Rises 0 s.calls) seats.now) }
+    ensures differ { (st : Setting) → IsOf st basis.now → IfErr result (Stops (IsCase st history.now seats.now)) }
+    ensures len { IfOk result (λ m. length m.found.items ≡ length history.now) }
+{
+    let mut marks = Marks::new(alloc, history.len())?;
+    for seat in seats {
+        check_seat(alloc, basis, history, &mut marks, seat)?;
+    }
+    Ok(marks)
+}
+
+/// Compares where parts had no call left, as seats say, with what all of them took.
+fn check_all_idles(
+    alloc: Global,
+    history: &[Entry],
+    marks: &Marks,
+    seats: &[Seat],
+) -> Result<(), CloseError>
+    ensures ok { IsMarked marks.now (all_calls seats.now) → OnOk result (All (AreIdleTrue history.now (all_calls seats.now)) seats.now) }
+    ensures differ { (st : Setting) → IsMarked marks.now (all_calls seats.now) → IfErr result (Stops (IsCase st history.now seats.now)) }
+{
+    for seat in seats {
+        check_idles(alloc, history, marks, seat)?;
+    }
+    Ok(())
+}
+
 /// Compares all seats with the history.
 pub(crate) fn check_all(
     alloc: Global,
@@ -311,14 +399,12 @@ pub(crate) fn check_all(
     history: &[Entry],
     seats: &[Seat],
 ) -> Result<(), CloseError>
-    ensures { (st : Setting) → IsOf st basis.now → OnOk result (Agrees st history.now seats.now) }
+    ensures agrees { (st : Setting) → IsOf st basis.now → OnOk result (Agrees st history.now seats.now) }
+    ensures differ { (st : Setting) → IsOf st basis.now → IfErr result (Stops (IsCase st history.now seats.now)) }
 {
-    let mut marks = Marks::new(alloc, history.len())?;
-    for seat in seats {
-        check_seat(alloc, basis, history, &mut marks, seat)?;
-    }
+    let marks = check_calls(alloc, basis, history, seats)?;
     match marks.missing() {
-        Some(number) => Err(CloseError::Differ(Differ::Entry { number })),
-        None => Ok(()),
+        Some(number) => Err(unreceived(alloc, history, number)),
+        None => check_all_idles(alloc, history, &marks, seats),
     }
 }

@@ -1,15 +1,18 @@
 //! The cell: one machine's daemon under its lock, shared by the machine's threads.
 
 ghost use Rattle.sl_cell.specs.Audits.{Agrees, IsOf};
+ghost use Rattle.sl_cell.specs.Cases.{IsCase, IsCaseOfSome, Stops};
 ghost use Rattle.sl_cell.specs.Cells.{IsTaken, IsTested, IsTold, KeepsIdle};
+ghost use Rattle.sl_cell.specs.declared.audit.Differ.{Differ as DifferOf};
 ghost use Rattle.sl_daemon.specs.Daemons.{begun_with};
 ghost use Rattle.sl_law.specs.Lawful.{IsSetting};
 ghost use Rattle.sl_run.specs.Headers.{IsHeader};
+ghost use Rattle.sl_trace.specs.Connections.{given_connection};
 ghost use Rattle.sl_trace.specs.Traces.{IsTrace};
 ghost use Rattle.sl_words.specs.Bounds.{moments};
-ghost use Rattle.std.specs.Prelude.{IfOk, None, reverse, [], ◌<◌, ◌≡◌};
+ghost use Rattle.std.specs.Prelude.{IfErr, IfOk, None, map, reverse, [], ◌<◌, ◌≡◌};
 
-use crate::audit::{Basis, CloseError, check_all};
+use crate::audit::{Basis, CloseError};
 use crate::connections::given_connections;
 use crate::inner::{NotApplied, Receipt, Station};
 use crate::kept::Kept;
@@ -38,6 +41,8 @@ impl<D: Teller, J: Station> HostCell<D, J> {
         requires header { IsHeader header.now }
         requires setting { IsSetting J.setting }
         requires site { J.setting ≡ begun_with D.Daemon.commands header.now site }
+        ensures sector { IfOk result (λ c. c.basis.sector ≡ header.now.geometry.sector) }
+        ensures first { IfOk result (λ c. c.basis.first.items ≡ map (given_connection header.now.timing) site.given) }
     {
         let basis = Basis {
             sector: header.geometry.sector(),
@@ -91,14 +96,15 @@ impl<D: Teller, J: Station> HostCell<D, J> {
     }
 
     /// The history. It is the daemon's, and its entries are exactly what these seats applied, each once at its number; all else that
-    /// they say of it is true.
+    /// they say of it is true. Else a case in which these seats differ from a history that the daemon could have, or want of memory.
+    #[tactic(auto, using(crate::proofs::CaseLaws::no_case, crate::proofs::CaseLaws::case_of_some))]
     pub fn close(self, seats: Vec<Seat>) -> Result<Seq<Entry>, CloseError>
         ensures trace { IfOk result (λ h. IsTrace J.setting (reverse h)) }
         ensures agrees { IfOk result (λ h. Agrees J.setting h seats.items) }
+        ensures none { IfOk result (λ h. (d : DifferOf) → IsCase J.setting h seats.items d → ⊥) }
+        ensures differ { IfErr result (Stops (IsCaseOfSome J.setting seats.items)) }
     {
         let HostCell { alloc, basis, kept } = self;
-        let history = kept.into_inner().into_history();
-        check_all(alloc, &basis, &history, &seats)?;
-        Ok(Seq::new(history))
+        kept.into_inner().close(alloc, &basis, &seats)
     }
 }

@@ -1,5 +1,7 @@
 //! What lies under the lock: the daemon with its history, its connections, and its calls that nobody took.
 
+ghost use Rattle.sl_cell.specs.Audits.{Agrees, IsOf};
+ghost use Rattle.sl_cell.specs.Cases.{IsCase, Stops};
 ghost use Rattle.sl_cell.specs.Cells.{IsAnswered, IsTaken, IsTested, IsTold, KeepsIdle, Stepped, Takes, Tests, left_of, made_entry, with_entry, with_left};
 ghost use Rattle.sl_cell.specs.Seats.{is_of};
 ghost use Rattle.sl_daemon.specs.Daemons.{begun_with};
@@ -7,15 +9,17 @@ ghost use Rattle.sl_law.specs.Lawful.{IsSetting};
 ghost use Rattle.sl_run.specs.Headers.{IsHeader};
 ghost use Rattle.sl_trace.specs.Traces.{IsTrace};
 ghost use Rattle.sl_words.specs.Bounds.{moments};
-ghost use Rattle.std.specs.Prelude.{IfNone, IfOk, IfSome, MatchOption, OnErr, OnOk, Some, filter, length, map, option_map, reverse, [], ◌++◌, ◌+◌, ◌<◌, ◌∷◌, ◌≡◌, ◌≤◌};
+ghost use Rattle.std.specs.Prelude.{IfErr, IfNone, IfOk, IfSome, MatchOption, OnErr, OnOk, Some, filter, length, map, option_map, reverse, [], ◌++◌, ◌+◌, ◌<◌, ◌∷◌, ◌≡◌, ◌≤◌};
 ghost use Rattle.std.specs.VecDeque.{deque_capacity, deque_len};
 
+use crate::audit::{Basis, CloseError, check_all};
 use crate::connections::{Connection, given_connections, make_moves, test_holds};
 use crate::inner::{Core, NotApplied, Receipt, Station};
-use crate::seat::{Made, Part, Seat, part_of};
+use crate::seat::{Made, Part, Seat, is_of};
 use crate::teller::Teller;
 use sl_daemon::{Daemon, Site};
 use sl_run::Header;
+use sl_text::Seq;
 use sl_trace::{Call, Effects, Entry, Input};
 use std::alloc::{AllocError, Global};
 use std::collections::VecDeque;
@@ -53,18 +57,6 @@ fn queue(calls: &mut VecDeque<Numbered>, part: Part, number: usize, made: &[Call
                 call: *call,
             });
         }
-    }
-}
-
-/// Whether the call is of this part.
-fn is_of(part: Part, call: &Call) -> bool
-    ensures { result ≡ is_of part call.now }
-{
-    match (part, part_of(&call.purpose)) {
-        (Part::Delta, Part::Delta) => true,
-        (Part::Delta, Part::Resource) => false,
-        (Part::Resource, Part::Delta) => false,
-        (Part::Resource, Part::Resource) => true,
     }
 }
 
@@ -208,8 +200,26 @@ impl<D: Teller, J: Station> Kept<D, J> {
         answer
     }
 
+    /// The history, where these seats agree with it; else what differs.
+    pub(crate) fn close(
+        self,
+        alloc: Global,
+        basis: &Basis,
+        seats: &[Seat],
+    ) -> Result<Seq<Entry>, CloseError>
+        requires { IsOf J.setting basis.now }
+        ensures same { IfOk result (λ h. h ≡ self.history) }
+        ensures trace { IsTrace J.setting (reverse self.history) }
+        ensures agrees { OnOk result (Agrees J.setting self.history seats.now) }
+        ensures differ { IfErr result (Stops (IsCase J.setting self.history seats.now)) }
+    {
+        let history = self.into_history();
+        check_all(alloc, basis, &history, seats)?;
+        Ok(Seq::new(history))
+    }
+
     /// The history, out of the lock.
-    pub(crate) fn into_history(self) -> Vec<Entry>
+    fn into_history(self) -> Vec<Entry>
         ensures same { result.items ≡ self.history }
         ensures trace { IsTrace J.setting (reverse result.items) }
     {

@@ -1,9 +1,10 @@
 //! Which entries the threads' receipts are of, and which calls were taken.
 
 ghost use Rattle.indexmap.specs.IndexSet.{contains};
-ghost use Rattle.sl_cell.specs.Audits.{CanMark, IsMarked};
+ghost use Rattle.sl_cell.specs.Audits.{CanMark, IsMarked, IsMissing};
+ghost use Rattle.sl_cell.specs.Cases.{IsAgain};
 ghost use Rattle.sl_cell.specs.declared.seat.Made.{Made as MadeOf};
-ghost use Rattle.std.specs.Prelude.{All, IfNone, IfOk, IsFalse, IsTrue, List, Ok, false, get_or, length, nat_eq, not, true, vec_len, [], ◌++◌, ◌-◌, ◌<◌, ◌∷◌, ◌≡◌, ◌≤◌, ℕ};
+ghost use Rattle.std.specs.Prelude.{All, IfNone, IfOk, IfSome, IsFalse, IsTrue, List, Ok, false, get_or, length, nat_eq, not, true, vec_len, [], ◌++◌, ◌-◌, ◌<◌, ◌∷◌, ◌≡◌, ◌≤◌, ℕ};
 ghost use Rattle.std.specs.List.{slice_set};
 
 use crate::seat::Made;
@@ -49,6 +50,7 @@ impl Marks {
         requires { CanMark self.old made.now }
         ensures len { length self.new.found.items ≡ length self.old.found.items }
         ensures first { (ms : List MadeOf) → IsMarked self.old ms → result ≡ Ok true → IsMarked self.new (ms ++ made.now ∷ []) }
+        ensures again { (ms : List MadeOf) → IsMarked self.old ms → result ≡ Ok false → IsAgain ms made.now }
     {
         match made {
             Made::Applied { number, .. } => Ok(mark(&mut self.found, *number - 1)),
@@ -61,9 +63,17 @@ impl Marks {
     /// The least number of an entry that was not received, if there is one.
     #[tactic(auto, using(crate::proofs::AuditLaws::all_true))]
     pub(crate) fn missing(&self) -> Option<usize>
-        ensures { IfNone result (All (λ b. b ≡ true) self.now.found.items) }
+        ensures none { IfNone result (All (λ b. b ≡ true) self.now.found.items) }
+        ensures some { IfSome result (IsMissing self.now) }
     {
         let place = self.found.iter().position(|found| !*found)?;
         Some(place.saturating_add(1))
+    }
+
+    /// Whether the call of this number was taken.
+    pub(crate) fn has_taken(&self, number: u64) -> bool
+        ensures { result ≡ contains nat_eq self.now.taken number }
+    {
+        self.taken.contains(&number)
     }
 }

@@ -69,7 +69,7 @@ impl Blanks {
 }
 
 /// A copy of a reply.
-fn copy_reply(
+pub(crate) fn copy_reply(
     alloc: Global,
     states: &mut Blank<StateOf>,
     sessions: &mut Blank<SessionOf>,

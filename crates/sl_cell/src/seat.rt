@@ -1,7 +1,7 @@
 //! What one thread did on a cell.
 
 ghost use Rattle.sl_cell.specs.declared.seat.Part.{Part as PartOf};
-ghost use Rattle.sl_cell.specs.Seats.{SeatState, idle_of, part_of, with_idle};
+ghost use Rattle.sl_cell.specs.Seats.{SeatState, idle_of, is_of, part_of, with_idle};
 ghost use Rattle.std.specs.Prelude.{None, OnOk, Some, [], ◌++◌, ◌-◌, ◌<◌, ◌∷◌, ◌≡◌, ◌≤◌};
 
 use sl_trace::{Call, Entry, Input, Purpose};
@@ -128,7 +128,7 @@ impl Seat {
 }
 
 /// Of which part a call is.
-pub(crate) fn part_of(purpose: &Purpose) -> Part
+fn part_of(purpose: &Purpose) -> Part
     ensures { result ≡ part_of purpose.now }
 {
     match purpose {
@@ -142,5 +142,17 @@ pub(crate) fn part_of(purpose: &Purpose) -> Part
         Purpose::SeeRequest => Part::Resource,
         Purpose::ValueWrite { .. } => Part::Resource,
         Purpose::ValueRead { .. } => Part::Resource,
+    }
+}
+
+/// Whether the call is of this part.
+pub(crate) fn is_of(part: Part, call: &Call) -> bool
+    ensures { result ≡ is_of part call.now }
+{
+    match (part, part_of(&call.purpose)) {
+        (Part::Delta, Part::Delta) => true,
+        (Part::Delta, Part::Resource) => false,
+        (Part::Resource, Part::Delta) => false,
+        (Part::Resource, Part::Resource) => true,
     }
 }

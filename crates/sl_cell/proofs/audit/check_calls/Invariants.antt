@@ -1,4 +1,4 @@
-use Rattle.sl_cell.proofs.audit.check_all.Given as goal
+use Rattle.sl_cell.proofs.audit.check_calls.Given as goal
 use Rattle.sl_cell.specs.Audits.{IsMarked, IsOf, IsTrueOf, Rises, all_calls}
 use Rattle.sl_cell.specs.Seats.{SeatState}
 use Rattle.sl_trace.specs.Traces.{Setting}
