@@ -28,7 +28,7 @@ fn main(rt: HostRuntime) -> ExitCode {
     };
     let mut source = ReadSource::new(rt.stdin());
     let mut sink = WriteSink::new(rt.stdout());
-    let devices = FileDevices::new(rt);
+    let devices = FileDevices::new(rt, rt.alloc());
     let (status, _devices) = run(rt.alloc(), &words, &mut source, &mut sink, devices);
     let status = match sink.flush() {
         Ok(()) => status,

@@ -22,6 +22,7 @@ use std::alloc::{AllocError, Global};
 use std::io;
 use std::io::ErrorKind;
 use std::rt::Files;
+use std::time::Clock;
 
 /// Bytes of a disk in memory.
 const AREA: usize = 1_048_576;
@@ -39,12 +40,12 @@ fn disks(alloc: Global, call: u64) -> Result<MemDevices, AllocError> {
 }
 
 /// What is printed of a case.
-fn told<R: Files + AllocGlobal + Copy + Drop>(rt: R, line: &str) -> io::Result<Vec<u8>> {
+fn told<R: Files + Clock + AllocGlobal + Copy + Drop>(rt: R, line: &str) -> io::Result<Vec<u8>> {
     let alloc = rt.alloc();
     let case = read_case(&rt, line)?;
     let outcome = match case.memory {
         Some(call) => run_case(alloc, &case, disks(alloc, call)?)?,
-        None => run_case(alloc, &case, FileDevices::new(rt))?,
+        None => run_case(alloc, &case, FileDevices::new(rt, alloc))?,
     };
     let mut out = Vec::new(alloc);
     push_outcome(&mut out, line, &case, &outcome)?;

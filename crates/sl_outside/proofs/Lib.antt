@@ -1,1 +1,2 @@
 pub mod MemDiskLaws
+pub mod ChildLaws

@@ -19,3 +19,8 @@ pub record IsLess (process : ℕ) (before after : List ℕ) : Type 0 where
 abbrev pub IsTold : Option ℕ → List ℕ → List ℕ → Type 0
 IsTold None before after = after ≡ before
 IsTold (Some process) before after = IsLess process before after
+
+-- What is seen of child programs: their numbers, in the order of their starts, and the faults.
+pub record Children : Type 0 where
+  pub running : List ℕ
+  pub faults : ℕ

@@ -1,3 +1,6 @@
 pub mod Acts
 pub mod Disks
 pub mod MemDisks
+pub mod MemSpawners
+pub mod MemPlans
+pub mod MemBits

@@ -13,5 +13,8 @@ pub enum Act {
         ok: bool,
     },
     /// A signal was to be sent to a child.
-    Signalled { process: u32, signal: Signal },
+    Signalled {
+        process: u32,
+        signal: Signal,
+    },
 }

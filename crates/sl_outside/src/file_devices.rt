@@ -1,31 +1,80 @@
-//! Devices over files: the disk at a path is the file there.
+//! Devices over the system: the disk at a path is the file there, children are programs, the clock is the system's.
 //!
 //! Nothing is told of what is in a file, since others write there too.
 
 ghost use Rattle.std.specs.Prelude.{◌≡◌};
 
+use crate::child_spawner::ChildSpawner;
+use crate::device::TimedDevice;
 use crate::devices::Devices;
+use crate::gate::OpenGate;
+use crate::live_devices::LiveDevices;
+use crate::paths::disk_path;
+use crate::real_clock::RealClock;
+use crate::words::SystemWords;
 use sl_area::FileArea;
-use sl_io::FaultCount;
-use std::rt::Files;
+use sl_io::{Failed, FaultCount};
+use std::alloc::Global;
+use std::fs::{File, Files, OpenFile, create_dir};
+use std::io;
+use std::process::{OpenProcess, Processes};
+use std::time::{Clock, Instant};
 
-/// The files of the machine that the program runs on.
+/// The system that the program runs on.
 #[derive(Drop)]
 pub struct FileDevices<R> {
     rt: R,
+    alloc: Global,
+    start: Option<Instant>,
     faults: FaultCount,
 }
 
-impl<R: Files> FileDevices<R> {
-    /// The files that this handle opens, with no fault yet.
-    pub fn new(rt: R) -> FileDevices<R>
+impl<R: Files + Clock> FileDevices<R> {
+    /// What this handle opens and starts, with no fault yet. Clocks count from now on.
+    pub fn new(rt: R, alloc: Global) -> FileDevices<R>
         ensures { result.faults ≡ 0 }
     {
+        let start = Instant::now(&rt).ok();
         FileDevices {
             rt,
+            alloc,
+            start,
             faults: FaultCount::new(),
         }
     }
+}
+
+/// Makes a folder, if it is missing.
+fn make_folder<R: Files>(rt: &R, path: &str) -> io::Result<()> {
+    match create_dir(rt, path) {
+        Ok(()) => Ok(()),
+        Err(error) if error.kind() == io::ErrorKind::AlreadyExists => Ok(()),
+        Err(error) => Err(error),
+    }
+}
+
+/// Makes the folders that a path names from so many bytes on, if they are missing.
+fn make_folders<R: Files>(rt: &R, path: &str, from: usize) -> io::Result<()> {
+    for end in from..path.len() {
+        match path.split_at_checked(end) {
+            Some((folder, rest)) if end > from && rest.starts_with('/') => make_folder(rt, folder)?,
+            _ => {}
+        }
+    }
+    Ok(())
+}
+
+/// Makes a file of so many zeros at the folder's text followed by the path; the folder must be there.
+fn make_file<R: Files>(
+    rt: &R,
+    alloc: Global,
+    folder: &str,
+    path: &str,
+    size: u64,
+) -> io::Result<()> {
+    let whole = disk_path(alloc, folder, path)?;
+    make_folders(rt, whole.as_str(), folder.len())?;
+    File::create(rt, whole.as_str())?.set_len(size)
 }
 
 impl<R: Files + Drop> Devices for FileDevices<R> {
@@ -42,5 +91,50 @@ impl<R: Files + Drop> Devices for FileDevices<R> {
         if area.faults() > 0 {
             self.faults.raise();
         }
+    }
+}
+
+impl<R: Files + Processes + Clock + Copy + Drop + Send> LiveDevices for FileDevices<R>
+where
+    R::Started: Send,
+    <R::Started as OpenProcess>::Stdin: Send,
+    <R::Started as OpenProcess>::Stdout: Send,
+    <R::Started as OpenProcess>::Stderr: Send,
+{
+    type Clock = RealClock<R>;
+
+    type Spawner = ChildSpawner<R>;
+
+    type Device = TimedDevice;
+
+    type Words = SystemWords<R>;
+
+    type Gate = OpenGate;
+
+    fn make(&mut self, folder: &str, path: &str, size: u64) -> Result<(), Failed> {
+        match make_file(&self.rt, self.alloc, folder, path, size) {
+            Ok(()) => Ok(()),
+            Err(_) => Err(self.faults.raise()),
+        }
+    }
+
+    fn clock(&mut self, _machine: u32, _thread: u32) -> RealClock<R> {
+        RealClock::new(self.rt, self.start)
+    }
+
+    fn spawner(&mut self, _machine: u32) -> ChildSpawner<R> {
+        ChildSpawner::new(self.rt, self.alloc)
+    }
+
+    fn device(&mut self, _machine: u32, now: u64, fire: u64) -> TimedDevice {
+        TimedDevice::new(now, fire)
+    }
+
+    fn words(&mut self, machine: u32) -> SystemWords<R> {
+        SystemWords::new(self.rt, machine)
+    }
+
+    fn gate(&mut self) -> OpenGate {
+        OpenGate
     }
 }

@@ -18,3 +18,18 @@ impl Gate for OpenGate {
 
     fn left(&self, _machine: u32, _call: u64) {}
 }
+
+/// A gate that may be lacking; then nothing is held.
+impl<G: Gate> Gate for Option<G> {
+    fn enter(&self, machine: u32, call: u64) {
+        if let Some(gate) = self {
+            gate.enter(machine, call);
+        }
+    }
+
+    fn left(&self, machine: u32, call: u64) {
+        if let Some(gate) = self {
+            gate.left(machine, call);
+        }
+    }
+}

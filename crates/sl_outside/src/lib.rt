@@ -5,21 +5,42 @@
 #![tactic(auto)]
 
 mod act;
+mod child_spawner;
 mod device;
 mod devices;
 mod file_devices;
 mod gate;
 mod live_devices;
+mod mem_children;
 mod mem_devices;
+mod mem_spawner;
+mod paths;
+mod planned_spawner;
+mod real_clock;
+mod running;
+mod shared_area;
+mod shared_devices;
 mod spawner;
+mod turn_gate;
 mod words;
 
 pub use act::Act;
+pub use child_spawner::ChildSpawner;
 pub use device::{Device, TimedDevice};
 pub use devices::Devices;
 pub use file_devices::FileDevices;
 pub use gate::{Gate, OpenGate};
 pub use live_devices::LiveDevices;
 pub use mem_devices::{LentDisk, MemDevices, MemDisk};
+pub use mem_spawner::{MemPlan, MemSpawner};
+pub use paths::disk_path;
+pub use planned_spawner::PlannedSpawner;
+pub use real_clock::RealClock;
+pub use shared_area::SharedArea;
+pub use shared_devices::{AreaPlan, SharedDevices, SharedPlan};
 pub use spawner::Spawner;
-pub use words::Words;
+pub use turn_gate::{Turn, TurnGate};
+pub use words::{MemWords, SystemWords, Words};
+
+#[cfg(test)]
+mod tests;

@@ -2,16 +2,25 @@
 //!
 //! A disk that is handed out is the disk itself, under a count of its own; an empty one stands in its place until it comes back. So one is
 //! out at a time. A path at which no disk stands gives an area each of whose calls fails, as a missing file does.
+//!
+//! Their other parts are the forms in memory: clocks at 0, spawners with no room, a gate that is open.
 ghost use Rattle.sl_io.specs.Faults.{one_more};
 ghost use Rattle.sl_outside.specs.Disks.{CountsBack, HandsOut, TakesBack, told_at};
 ghost use Rattle.sl_outside.specs.MemDisks.{content_at, is_at, lent_in};
 ghost use Rattle.std.specs.List.{position};
 ghost use Rattle.std.specs.Prelude.{IfSome, None, Some, [], option_map, ◌≡◌};
 
+use crate::device::TimedDevice;
 use crate::devices::Devices;
+use crate::gate::OpenGate;
+use crate::live_devices::LiveDevices;
+use crate::mem_spawner::MemSpawner;
+use crate::paths::disk_path;
+use crate::words::MemWords;
 use sl_area::{Area, MemArea, Place};
 use sl_io::{Failed, FaultCount};
 use sl_text::FilePath;
+use sl_time::MemClock;
 use std::alloc::Global;
 use std::marker::Model;
 use std::mem;
@@ -171,5 +180,67 @@ impl Devices for MemDevices {
         if let Some(path) = self.out {
             let _ = exchange(&mut self.all, path.as_slice(), area.area);
         }
+    }
+}
+
+/// A disk of so many zeros at the folder's text followed by the path, if that is a disk's path and memory lasts.
+fn zeros(alloc: Global, folder: &str, path: &str, size: u64) -> Option<MemDisk> {
+    let whole = disk_path(alloc, folder, path).ok()?;
+    Some(MemDisk {
+        path: FilePath::new(whole.as_bytes())?,
+        area: MemArea::new(alloc, size as usize, Vec::new(alloc)).ok()?,
+    })
+}
+
+impl MemDevices {
+    /// Puts a disk before all others; false for want of memory.
+    fn put(&mut self, disk: MemDisk) -> bool
+        ensures { self.new.faults ≡ self.old.faults }
+    {
+        self.all.insert(0, disk).is_ok()
+    }
+}
+
+impl LiveDevices for MemDevices {
+    type Clock = MemClock;
+
+    type Spawner = MemSpawner;
+
+    type Device = TimedDevice;
+
+    type Words = MemWords;
+
+    type Gate = OpenGate;
+
+    fn make(&mut self, folder: &str, path: &str, size: u64) -> Result<(), Failed> {
+        let made = match zeros(self.alloc, folder, path, size) {
+            Some(disk) => self.put(disk),
+            None => false,
+        };
+        if made {
+            Ok(())
+        } else {
+            Err(self.faults.raise())
+        }
+    }
+
+    fn clock(&mut self, _machine: u32, _thread: u32) -> MemClock {
+        MemClock::new(Vec::new(self.alloc))
+    }
+
+    fn spawner(&mut self, _machine: u32) -> MemSpawner {
+        MemSpawner::idle(self.alloc)
+    }
+
+    fn device(&mut self, _machine: u32, now: u64, fire: u64) -> TimedDevice {
+        TimedDevice::new(now, fire)
+    }
+
+    fn words(&mut self, machine: u32) -> MemWords {
+        MemWords::new(Vec::new(self.alloc), u128::from(machine))
+    }
+
+    fn gate(&mut self) -> OpenGate {
+        OpenGate
     }
 }

@@ -2,22 +2,16 @@
 //!
 //! `run` does what the words say. `replay` reads the source line by line, plays it in a world of hosts and puts its report out to the sink;
 //! `direct` takes a disk of the devices, does its action there and gives the disk back; the help and the version are put out; words that say
-//! nothing are refused. `devices` says what
-//! devices are; `mem_devices` has them in memory, with what each disk holds told, `file_devices` over files.
+//! nothing are refused. What devices are is said in `sl_outside`, which has them in memory and over the system.
 //!
 //! The clause of `run` is one definition, `Owes` in specs/Runs.antt, by what the words say. `laws` reads the statuses off it: each comes
 //! only with its cause.
 #![tactic(auto)]
 
-mod devices;
-mod file_devices;
 pub mod laws;
-mod mem_devices;
 mod status;
 mod top;
 
-pub use devices::Devices;
-pub use file_devices::FileDevices;
-pub use mem_devices::{LentDisk, MemDevices, MemDisk};
+pub use sl_outside::{Devices, FileDevices, LentDisk, MemDevices, MemDisk};
 pub use status::Status;
 pub use top::{run, run_offline};

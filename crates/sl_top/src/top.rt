@@ -8,7 +8,6 @@ ghost use Rattle.sl_top.specs.Runs.{ActsOn, IsDirect, IsReplay, Owes, PutsOut, R
 ghost use Rattle.sl_top.specs.declared.status.Status.TheVariants.{WriteFault};
 ghost use Rattle.std.specs.Prelude.{◌≡◌, ◌≢◌};
 
-use crate::devices::Devices;
 use crate::status::{Status, status_after, status_of};
 use sl_area::Area;
 use sl_cli::{HELP, VERSION, Words, WordsError, read_words};
@@ -17,6 +16,7 @@ use sl_header_law::laws::whole_language_may_play;
 use sl_host_step::HostDaemon;
 use sl_io::{Sink, Source, write_all};
 use sl_locks::LvmLocks;
+use sl_outside::Devices;
 use sl_play_schedule::play_schedule;
 use std::alloc::Global;
 

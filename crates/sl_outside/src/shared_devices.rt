@@ -1,0 +1,211 @@
+//! Devices in memory for live machines: disks that all threads share, children and faults that come as planned, the clock of the system.
+//!
+//! Nothing is told of the disks: another thread may write at any time.
+ghost use Rattle.std.specs.Prelude.{[], ◌≡◌};
+
+use crate::device::TimedDevice;
+use crate::devices::Devices;
+use crate::live_devices::LiveDevices;
+use crate::mem_spawner::MemSpawner;
+use crate::paths::disk_path;
+use crate::planned_spawner::PlannedSpawner;
+use crate::real_clock::RealClock;
+use crate::shared_area::SharedArea;
+use crate::turn_gate::TurnGate;
+use crate::words::MemWords;
+use sl_area::MemArea;
+use sl_io::{Failed, PlannedFaults};
+use std::alloc::{AllocError, Global};
+use std::marker::Model;
+use std::sync::{Arc, Mutex, Wait};
+use std::time::{Clock, Instant};
+
+/// A disk in memory that areas share, and its path.
+#[derive(Drop)]
+struct SharedDisk {
+    path: String,
+    disk: Arc<Mutex<MemArea>>,
+}
+
+/// The calls of a worker's area that fail, counted from 1.
+#[derive(Drop)]
+pub struct AreaPlan {
+    pub machine: u32,
+    pub worker: u32,
+    pub failing: Vec<u64>,
+}
+
+/// What devices in memory are to do. A worker that no plan names has an area that fails at no planned call; a machine that none names has a
+/// spawner with no room.
+#[derive(Drop)]
+pub struct SharedPlan<R> {
+    pub areas: Vec<AreaPlan>,
+    pub spawners: Vec<PlannedSpawner>,
+    /// The calls of `make` that fail, counted from 1.
+    pub makes: Vec<u64>,
+    pub gate: Option<TurnGate<R>>,
+}
+
+/// Devices in memory. Contracts see the plan of `make`, with the faults.
+#[derive(Drop)]
+pub struct SharedDevices<R> {
+    rt: R,
+    alloc: Global,
+    start: Option<Instant>,
+    disks: Vec<SharedDisk>,
+    areas: Vec<AreaPlan>,
+    spawners: Vec<PlannedSpawner>,
+    gate: Option<TurnGate<R>>,
+    makes: PlannedFaults,
+}
+
+impl<R> Model for SharedDevices<R> {
+    ghost use Rattle.sl_io.specs.Planned.{Planned};
+
+    ghost Value = { Planned };
+
+    ghost view = { λ d. d.makes };
+}
+
+/// A disk of so many zeros at the folder's text followed by the path.
+fn zeros(alloc: Global, folder: &str, path: &str, size: u64) -> Result<SharedDisk, AllocError> {
+    let area = MemArea::new(alloc, size as usize, Vec::new(alloc))?;
+    Ok(SharedDisk {
+        path: disk_path(alloc, folder, path)?,
+        disk: Arc::new(alloc, Mutex::new(area))?,
+    })
+}
+
+impl<R: Wait + Clock + Copy> SharedDevices<R> {
+    /// Devices by this plan, with no disk yet. Clocks count from now on.
+    pub fn new(rt: R, alloc: Global, plan: SharedPlan<R>) -> SharedDevices<R>
+        ensures { result ≡ record { made = 0; failing = plan.makes.items; faults = 0 } }
+    {
+        let SharedPlan {
+            areas,
+            spawners,
+            makes,
+            gate,
+        } = plan;
+        SharedDevices {
+            rt,
+            alloc,
+            start: Instant::now(&rt).ok(),
+            disks: Vec::new(alloc),
+            areas,
+            spawners,
+            gate,
+            makes: PlannedFaults::new(makes),
+        }
+    }
+
+    /// The faults so far.
+    pub fn faults(&self) -> u64
+        ensures { result ≡ self.now.faults }
+    {
+        self.makes.faults()
+    }
+
+    /// A share of the disk at a path, if there is one.
+    fn share(&self, path: &str) -> Option<Arc<Mutex<MemArea>>> {
+        let at = self
+            .disks
+            .iter()
+            .position(|disk| disk.path.as_str() == path)?;
+        Arc::try_clone(&self.disks[at].disk).ok()
+    }
+
+    /// The calls that fail of a worker's area.
+    fn failing(&mut self, machine: u32, worker: u32) -> Vec<u64>
+        ensures { self.new ≡ self.old }
+    {
+        let of = |plan: &AreaPlan| plan.machine == machine && plan.worker == worker;
+        match self.areas.iter().position(of) {
+            Some(at) => self.areas.remove(at).failing,
+            None => Vec::new(self.alloc),
+        }
+    }
+
+    /// Puts a new disk in the place of the one at its path, or behind all others.
+    fn put(&mut self, disk: SharedDisk) -> Result<(), AllocError>
+        ensures { self.new ≡ self.old }
+    {
+        let path = disk.path.as_str();
+        match self.disks.iter().position(|old| old.path.as_str() == path) {
+            Some(at) => {
+                self.disks[at] = disk;
+                Ok(())
+            }
+            None => {
+                self.disks.reserve(1)?;
+                self.disks.push_reserved(disk);
+                Ok(())
+            }
+        }
+    }
+}
+
+impl<R: Wait + Clock + Copy + Drop> Devices for SharedDevices<R> {
+    type Area = SharedArea<R>;
+
+    ghost faults = { λ d. d.faults };
+
+    fn area(&mut self, machine: u32, worker: u32, path: &str) -> SharedArea<R> {
+        let failing = self.failing(machine, worker);
+        SharedArea::new(self.rt, self.share(path), failing)
+    }
+
+    fn back(&mut self, area: SharedArea<R>) {
+        if area.faults() > 0 {
+            self.makes.raise();
+        }
+    }
+}
+
+impl<R: Wait + Clock + Copy + Drop + Send + Sync> LiveDevices for SharedDevices<R> {
+    type Clock = RealClock<R>;
+
+    type Spawner = MemSpawner;
+
+    type Device = TimedDevice;
+
+    type Words = MemWords;
+
+    type Gate = Option<TurnGate<R>>;
+
+    fn make(&mut self, folder: &str, path: &str, size: u64) -> Result<(), Failed> {
+        self.makes.begin()?;
+        let made = match zeros(self.alloc, folder, path, size) {
+            Ok(disk) => self.put(disk).is_ok(),
+            Err(_) => false,
+        };
+        if made {
+            Ok(())
+        } else {
+            Err(self.makes.raise())
+        }
+    }
+
+    fn clock(&mut self, _machine: u32, _thread: u32) -> RealClock<R> {
+        RealClock::new(self.rt, self.start)
+    }
+
+    fn spawner(&mut self, machine: u32) -> MemSpawner {
+        match self.spawners.iter().position(|of| of.machine() == machine) {
+            Some(at) => self.spawners.remove(at).into_spawner(),
+            None => MemSpawner::idle(self.alloc),
+        }
+    }
+
+    fn device(&mut self, _machine: u32, now: u64, fire: u64) -> TimedDevice {
+        TimedDevice::new(now, fire)
+    }
+
+    fn words(&mut self, machine: u32) -> MemWords {
+        MemWords::new(Vec::new(self.alloc), u128::from(machine))
+    }
+
+    fn gate(&mut self) -> Option<TurnGate<R>> {
+        self.gate.take()
+    }
+}
