@@ -1,0 +1,4 @@
+pub mod TurnLaws
+pub mod GoingLaws
+pub mod RecordLaws
+pub mod ServedLaws

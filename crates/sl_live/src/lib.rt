@@ -1,0 +1,11 @@
+//! Hosts that run live: with threads over shared block files, and child programs as lease holders.
+#![tactic(auto)]
+
+mod children;
+mod disks;
+pub mod laws;
+mod records;
+mod steps;
+
+pub use children::Children;
+pub use disks::Disk;
