@@ -4,10 +4,7 @@ use Rattle.sl_quiet.proofs.Start.Made.{made_runs_are_quiet}
 use Rattle.sl_report.specs.Headline.{HeadersAreGood, Promise, ReplayHeadline, ReplayOf, ReplayOwed, SoundRun, is_whole_status}
 use Rattle.sl_report.specs.Host.{DueIsLawful}
 use Rattle.sl_report.specs.Languages.{Language}
-use Rattle.sl_run.specs.Headers.{IsHeader}
-use Rattle.sl_run.specs.Runs.{Happening}
 use Rattle.sl_run.specs.Safety.{LawfulRun}
-use Rattle.sl_run.specs.declared.header.Header.{Header}
 use Rattle.sl_run_report.proofs.OneReport.{owed_is_headline}
 use Rattle.sl_sector.specs.Spelling.{IsDigest}
 use Rattle.sl_sound.proofs.Owing.{Grows, made_replays_are_sound, owed_by, replay_grows}

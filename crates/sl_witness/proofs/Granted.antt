@@ -30,21 +30,20 @@ use Rattle.sl_examples.specs.Cheap.{cheap_program}
 use Rattle.sl_law.specs.Lawful.{Lawful}
 use Rattle.sl_report.specs.Replay.{due_run}
 use Rattle.sl_run.specs.Events.{event_tests, first_change, pass_tests}
-use Rattle.sl_run.specs.Quiet.{QuietStart, StaysQuiet, job_calls}
+use Rattle.sl_run.specs.Quiet.{QuietStart}
 use Rattle.sl_run.specs.Runs.{EachDaemon, Happening}
 use Rattle.sl_run.specs.Safety.{LawfulRun, world_at}
 use Rattle.sl_run.specs.Worlds.{Daemon, Machine, World, initial_record, machine_at, machine_of_header}
 use Rattle.sl_sessions.specs.Sessions.{session_named}
 use Rattle.sl_run.specs.Quiet.{before_command}
-use Rattle.sl_trace.specs.Traces.{next_job, reply_to}
-use Rattle.sl_trace.specs.declared.reply.Reply.TheVariants.{Granted}
+use Rattle.sl_trace.specs.Traces.{next_job}
 use Rattle.sl_run.specs.Worlds.{reading_now}
 use Rattle.sl_sessions.specs.declared.session.Session.{Session}
 use Rattle.sl_witness.proofs.Quietness.{Ends, seek_ends, seek_quiet, seek_start}
-use Rattle.sl_witness.proofs.Seeking.{found, seek_for, seek_same, seek_some, ◌>>=◌}
+use Rattle.sl_witness.proofs.Seeking.{found, seek_for, seek_same}
 use Rattle.sl_witness.specs.Quietly.{IsQuietlyGranted, QuietAcquiresAreShown, exclusive_events, exclusive_text, quiet_resource, shared_events, shared_text}
 use Rattle.sl_witness.specs.Witness.{witness_header, witness_world}
-use Rattle.std.specs.Prelude.{Bool, IsSome, List, Option, Some, false, length, refl, true, ℕ, ◌≡◌}
+use Rattle.std.specs.Prelude.{IsSome, List, Option, Some, false, refl, true, ◌≡◌}
 
 abbrev world : World
 world = witness_world

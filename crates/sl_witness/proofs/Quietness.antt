@@ -23,7 +23,7 @@ use Rattle.sl_witness.proofs.Seeking.{seek_all, seek_empty, seek_false, seek_for
 use Rattle.sl_words.proofs.CaseLaws.{none_some, true_is_false}
 use Rattle.sl_words.specs.Bounds.{record_numbers}
 use Rattle.std.proofs.Common.{ap, refl, sym, ◌∙◌}
-use Rattle.std.specs.Prelude.{Bool, Contains, Err, IsTrue, List, None, Ok, Option, Result, Some, false, if◌then◌else◌, is_some, length, map, option_to_list, slice_get, true, [], ℕ, ◌&&◌, ◌+◌, ◌-◌, ◌<◌, ◌==◌, ◌∷◌, ◌≡◌, ◌≤◌}
+use Rattle.std.specs.Prelude.{Bool, Contains, IsTrue, List, None, Ok, Option, Result, Some, false, if◌then◌else◌, is_some, length, map, option_to_list, slice_get, true, [], ℕ, ◌&&◌, ◌+◌, ◌-◌, ◌==◌, ◌∷◌, ◌≡◌, ◌≤◌}
 
 -- ---- the command
 

@@ -2,9 +2,9 @@
 use Rattle.sl_examples.specs.Cheap.{cheap_program}
 use Rattle.sl_report.specs.Replay.{due_run}
 use Rattle.sl_run.specs.Quiet.{QuietStart, StaysQuiet, job_calls}
-use Rattle.sl_run.specs.Runs.{EachDaemon, Happening}
+use Rattle.sl_run.specs.Runs.{EachDaemon}
 use Rattle.sl_run.specs.Safety.{LawfulRun, world_at}
-use Rattle.sl_run.specs.Worlds.{Daemon, Machine, World, machine_at}
+use Rattle.sl_run.specs.Worlds.{Daemon, Machine, machine_at}
 use Rattle.sl_run.specs.declared.event.Event.TheVariants.{Do, GiveCommand}
 use Rattle.sl_run.specs.declared.event.Event.{Event}
 use Rattle.sl_law.specs.Lawful.{Lawful}
