@@ -124,10 +124,25 @@ fn a_planned_spawner(rt: HostRuntime) -> Result<(), Fail> {
     Ok(())
 }
 
+/// Reads the first sector of a disk; false where that fails.
+fn read_first<A: Area>(area: &mut A, sector: &mut [u8; 512]) -> bool {
+    match Geometry::new(512, 1_048_576, 3) {
+        Ok(run) => area.read(run.delta_place(0, 1), 1, sector).is_ok(),
+        Err(_) => false,
+    }
+}
+
+/// Writes the first sector of a disk; false where that fails.
+fn write_first<A: Area>(area: &mut A, sector: &[u8; 512]) -> bool {
+    match Geometry::new(512, 1_048_576, 3) {
+        Ok(run) => area.write(run.delta_place(0, 1), sector).is_ok(),
+        Err(_) => false,
+    }
+}
+
 #[test]
 fn a_gate_and_a_disk_of_two_threads(rt: HostRuntime) -> Result<(), Fail> {
     let alloc = rt.alloc();
-    let run = Geometry::new(512, 1_048_576, 3)?;
     let held = Turn {
         machine: 1,
         call: 1,
@@ -153,23 +168,25 @@ fn a_gate_and_a_disk_of_two_threads(rt: HostRuntime) -> Result<(), Fail> {
     let gate = devices.gate();
     let mut first = devices.area(1, 1, "f/d");
     let mut second = devices.area(2, 1, "f/d");
-    let mut third = devices.area(1, 2, "f/d");
     let mut sector = [9; 512];
-    let mut call = || {
-        gate.enter(1, 1);
-        first.read(run.delta_place(0, 1), 1, &mut sector).is_ok()
-    };
-    let mut other = || {
-        let done = second.write(run.delta_place(0, 1), &[5; 512]).is_ok();
-        gate.left(2, 1);
-        done
-    };
-    let done = join_mut(&rt, &mut call, &mut other);
+    let done = join_mut(
+        &rt,
+        &mut || {
+            gate.enter(1, 1);
+            read_first(&mut first, &mut sector)
+        },
+        &mut || {
+            let done = write_first(&mut second, &[5; 512]);
+            gate.left(2, 1);
+            done
+        },
+    );
     assert_eq!(rt; done, (true, true));
     assert_eq!(rt; sector, [5; 512]);
     assert!(rt; seen.was_held() && !seen.gave_up());
-    assert!(rt; third.read(run.delta_place(0, 1), 1, &mut sector).is_err());
-    third.read(run.delta_place(0, 1), 1, &mut sector)?;
-    assert_eq!(rt; third.faults(), 1);
+    let mut planned = devices.area(1, 2, "f/d");
+    assert!(rt; !read_first(&mut planned, &mut sector));
+    assert!(rt; read_first(&mut planned, &mut sector));
+    assert_eq!(rt; planned.faults(), 1);
     Ok(())
 }
