@@ -1,0 +1,13 @@
+//! The lines of a live script, read one at a time.
+//!
+//! A live line is one of three: `command M TEXT` and `post M TEXT` give a text to machine M, `exits M P` waits for its child P. The texts
+//! and the numbers are those of a schedule: a line is read as the schedule's line with the verb that stands for its own, `command` for `post` and
+//! `exit` for `exits`. A text that names a process of a script, 1 to 999999, is refused: behind the commands of a live script stand real
+//! programs alone.
+#![tactic(auto)]
+
+mod line;
+mod reading;
+
+pub use line::{LiveLine, LiveLines, NoLine};
+pub use reading::{LiveRead, live_line};
