@@ -43,6 +43,16 @@ fn direct<'a>(alloc: Global) -> Result<Command<'a>, AllocError>
     with_option(alloc, command, "stretch", 'd')
 }
 
+/// `gen`, with its seed, its hosts and its events.
+fn generate<'a>(alloc: Global) -> Result<Command<'a>, AllocError>
+    ensures app { IfOk result (λ c. app_of c ≡ gen_app) }
+    ensures local { IfOk result (λ c. (fields_of c).has_globals ≡ false) }
+{
+    let command = Command::new(alloc, "gen").arg(Arg::new(alloc, "seed"))?;
+    let command = command.arg(Arg::new(alloc, "count"))?;
+    command.arg(Arg::new(alloc, "events"))
+}
+
 /// The program without its commands. Its words have no name in front, and no word asks the parser for help.
 fn bare<'a>(alloc: Global) -> Command<'a>
     ensures { app_of result ≡ record { top = bare_shape; subs = [] } }
@@ -60,5 +70,6 @@ pub(crate) fn command_line<'a>(alloc: Global) -> Result<Command<'a>, AllocError>
 {
     bare(alloc)
         .subcommand(Command::new(alloc, "replay"))?
+        .subcommand(generate(alloc)?)?
         .subcommand(direct(alloc)?)
 }

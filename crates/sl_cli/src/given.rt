@@ -8,6 +8,8 @@ ghost use Rattle.sl_cli.specs.Parses.{given_in, met_in};
 ghost use Rattle.std.specs.Prelude.{codes, option_map, ◌≡◌};
 
 use crate::arguments::{hosts_of, lockspace_of, resource_of, stretch_of};
+use crate::reading::Words;
+use sl_text::number::read_number_within;
 use clap::ArgMatches;
 use sl_direct::Action;
 use std::marker::Model;
@@ -122,10 +124,41 @@ impl<'a> Given<'a> {
     }
 }
 
+/// The words of a seed, of a number of hosts and of a number of events: each where it was given.
+#[derive(Drop)]
+pub(crate) struct Numbers<'a> {
+    seed: Option<&'a str>,
+    hosts: Option<&'a str>,
+    events: Option<&'a str>,
+}
+
+impl<'a> Numbers<'a> {
+    /// What they ask for.
+    pub(crate) fn words(&self) -> Option<Words>
+    {
+        Some(Words::Generate {
+            seed: read_number_within(self.seed?.as_bytes(), 0, u64::MAX)?,
+            hosts: read_number_within(self.hosts?.as_bytes(), 1, 16)? as u32,
+            events: read_number_within(self.events?.as_bytes(), 0, 1_000_000)?,
+        })
+    }
+
+    /// What the parser found.
+    pub(crate) fn new(matches: &ArgMatches<'a>) -> Numbers<'a>
+    {
+        Numbers {
+            seed: value_of(matches, "seed"),
+            hosts: value_of(matches, "count"),
+            events: value_of(matches, "events"),
+        }
+    }
+}
+
 /// The command that the parser met, with what was given to it.
 #[derive(Drop)]
 pub(crate) enum Met<'a> {
     Replay,
+    Generate(Numbers<'a>),
     Direct(Given<'a>),
 }
 
@@ -136,6 +169,8 @@ pub(crate) fn met_in<'a>(matches: &ArgMatches<'a>) -> Option<Met<'a>>
     let (name, matches) = matches.subcommand()?;
     if name == "replay" {
         Some(Met::Replay)
+    } else if name == "gen" {
+        Some(Met::Generate(Numbers::new(matches)))
     } else if name == "direct" {
         Some(Met::Direct(Given::new(matches)))
     } else {

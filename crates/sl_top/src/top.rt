@@ -13,6 +13,7 @@ use crate::status::{Status, status_after, status_of};
 use sl_area::Area;
 use sl_cli::{HELP, VERSION, Words, WordsError, read_words};
 use sl_direct::{Action, run_direct};
+use sl_generate::{Generated, generate};
 use sl_header_law::laws::whole_language_may_play;
 use sl_host_step::HostDaemon;
 use sl_io::{Sink, Source, write_all};
@@ -27,6 +28,22 @@ fn replay<S: Source, K: Sink>(alloc: Global, source: &mut S, sink: &mut K) -> St
 {
     whole_language_may_play();
     status_of(play_schedule::<S, K, HostDaemon, LvmLocks>(alloc, source, sink))
+}
+
+/// Makes a schedule of so many events from a seed, plays it in a world of hosts, and puts out its last line.
+fn generate_from<K: Sink>(
+    alloc: Global,
+    seed: u64,
+    hosts: u32,
+    events: u64,
+    sink: &mut K,
+) -> Status
+{
+    match generate::<K, HostDaemon, LvmLocks>(alloc, seed, hosts, events, sink) {
+        Generated::Done => Status::Done,
+        Generated::WriteFault => Status::WriteFault,
+        Generated::NoMemory => Status::NoMemory,
+    }
 }
 
 /// Puts out a text.
@@ -85,6 +102,11 @@ pub fn run_offline<S: Source, K: Sink, D: Devices>(
 {
     match read_words(alloc, words) {
         Ok(Words::Replay) => replay(alloc, source, sink),
+        Ok(Words::Generate {
+            seed,
+            hosts,
+            events,
+        }) => generate_from(alloc, seed, hosts, events, sink),
         Ok(Words::Direct(action)) => direct(alloc, &action, sink, devices),
         Ok(Words::Help) => tell(sink, HELP.as_bytes(), Status::Done),
         Ok(Words::Version) => tell(sink, VERSION.as_bytes(), Status::Done),

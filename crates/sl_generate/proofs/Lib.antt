@@ -1,0 +1,5 @@
+pub mod CandidateLaws
+pub mod DrawLaws
+pub mod Drawing
+pub mod HeadersRead
+pub mod Plain
