@@ -2,14 +2,11 @@
 //!
 //! A list of candidates is made from its end, so each comes to stand in front of those before which it is to be tried.
 
-ghost use Rattle.sl_generate.specs.Candidates.{call_candidates, life_candidates, rare_candidates, time_candidates, work_candidates};
+ghost use Rattle.sl_generate.specs.Candidates.{call_candidates, due_resets, life_candidates, rare_event, time_candidates, useful_tests, work_event};
 ghost use Rattle.sl_play.specs.Playing.{state_of};
 ghost use Rattle.sl_report.specs.Generator.{gen_host_name};
-ghost use Rattle.sl_run.specs.declared.event.Event.{Event as EventOf};
-ghost use Rattle.sl_run.specs.declared.event.Event.TheVariants.{Reset, Test};
-ghost use Rattle.sl_world_law.specs.Drawing.{candidates_in, is_useful_in, least_call_in, least_ended_in, starves_in};
-ghost use Rattle.std.specs.List.{range_with_len};
-ghost use Rattle.std.specs.Prelude.{IfOk, List, OnOk, Option, [], codes, decimal, filter, length, map, ◌++◌, ◌+◌, ◌<◌, ◌^◌, ◌≡◌, ◌≤◌, ℕ};
+ghost use Rattle.sl_world_law.specs.Drawing.{candidates_in, least_ended_in};
+ghost use Rattle.std.specs.Prelude.{IfOk, OnOk, [], codes, decimal, length, ◌++◌, ◌∷◌, ◌≡◌, ◌≤◌};
 
 use crate::draws::Draw;
 use crate::texts::{acquire_text, join_text, release_text};
@@ -30,7 +27,7 @@ fn add_resets<D: Daemon, L: LockTable>(
     play: &Play<D, L>,
     hosts: u32,
 ) -> Result<(), AllocError>
-    ensures { OnOk result (events.new.items ≡ map (λ m. Reset m) (filter (starves_in (state_of L.locks play.now).kept) (range_with_len 1 hosts)) ++ events.old.items) }
+    ensures { OnOk result (events.new.items ≡ due_resets (state_of L.locks play.now).kept hosts ++ events.old.items) }
 {
     let mut machine = hosts;
     while machine > 0 {
@@ -48,7 +45,7 @@ fn add_tests<D: Daemon, L: LockTable>(
     play: &Play<D, L>,
     hosts: u32,
 ) -> Result<(), AllocError>
-    ensures { OnOk result (events.new.items ≡ map (λ m. Test m) (filter (is_useful_in (state_of L.locks play.now).kept) (range_with_len 1 hosts)) ++ events.old.items) }
+    ensures { OnOk result (events.new.items ≡ useful_tests (state_of L.locks play.now).kept hosts ++ events.old.items) }
 {
     let mut machine = hosts;
     while machine > 0 {
@@ -100,7 +97,7 @@ fn of_time<D: Daemon, L: LockTable>(
 
 /// The name of a daemon that begins at the event of this number.
 fn daemon_name(alloc: Global, machine: u32, number: u64) -> Result<Name, AllocError>
-    requires { (machine ≤ 16) × (number < 2 ^ 64) }
+    requires { machine ≤ 16 }
     ensures { IfOk result (λ name. name ≡ gen_host_name machine ++ codes "_" ++ decimal number) }
 {
     let text = format!(in alloc; "h{machine}_{number}")?;
@@ -112,7 +109,7 @@ fn daemon_name(alloc: Global, machine: u32, number: u64) -> Result<Name, AllocEr
 
 /// A daemon that is woken, a machine that comes up, or a daemon that begins.
 fn of_life(alloc: Global, machine: u32, number: u64) -> Result<VecDeque<Event>, AllocError>
-    requires { (machine ≤ 16) × (number < 2 ^ 64) }
+    requires { machine ≤ 16 }
     ensures { IfOk result (λ events. events.items ≡ life_candidates machine number) }
 {
     let name = daemon_name(alloc, machine, number)?;

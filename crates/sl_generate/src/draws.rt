@@ -1,6 +1,6 @@
 //! Draws: numbers that follow from a seed.
 
-ghost use Rattle.sl_generate.specs.Drawn.{Draw as Drawn, draw_from};
+ghost use Rattle.sl_generate.specs.Drawn.{state_behind};
 ghost use Rattle.sl_report.specs.Generator.{draw_of, next_state};
 ghost use Rattle.std.specs.Prelude.{◌≡◌};
 
@@ -39,10 +39,10 @@ fn draw(state: &mut u64) -> u64
 
 /// The draws of the next event.
 pub(crate) fn draw_event(state: &mut u64) -> Draw
-    ensures state { state.new ≡ next_state (next_state (next_state state.old)) }
+    ensures state { state.new ≡ state_behind state.old }
     ensures a { result.a ≡ draw_of (next_state state.old) }
     ensures b { result.b ≡ draw_of (next_state (next_state state.old)) }
-    ensures c { result.c ≡ draw_of (next_state (next_state (next_state state.old))) }
+    ensures c { result.c ≡ draw_of (state_behind state.old) }
 {
     let a = draw(state);
     let b = draw(state);

@@ -1,5 +1,18 @@
 //! The schedule of a seed, played as it is drawn.
 
+ghost use Rattle.sl_daemon.specs.Daemons.{program_of};
+ghost use Rattle.sl_generate.specs.Candidates.{first_allowed};
+ghost use Rattle.sl_generate.specs.Drawn.{IsDrawn};
+ghost use Rattle.sl_generate.specs.Generating.{DrawsAll, Generates, IsDrawing, TakesDrawn};
+ghost use Rattle.sl_play.specs.Owing.{EachStood};
+ghost use Rattle.sl_play.specs.Playing.{StaysAs, state_of};
+ghost use Rattle.sl_play_schedule.specs.Replaying.{MayPlay};
+ghost use Rattle.sl_report.specs.Generator.{gen_header, gen_line};
+ghost use Rattle.sl_report.specs.Reports as reports;
+ghost use Rattle.sl_run.specs.Worlds.{world_with};
+ghost use Rattle.sl_text.specs.Forms.{as_bytes};
+ghost use Rattle.std.specs.Prelude.{IfOk, OnOk, [], ◌∷◌, ◌≡◌, ◌≤◌};
+
 use crate::candidates::candidates;
 use crate::draws::{Draw, draw_event};
 use crate::header::header;
@@ -23,11 +36,13 @@ pub enum Generated {
     NoMemory,
 }
 
-/// The first of the candidates that nothing refuses; where each is refused, time that does not pass.
+/// The first of the candidates that nothing refuses; where each is refused, time that does not pass. An `Err` is want of memory.
 fn first_allowed<D: Daemon, L: LockTable>(
     play: &mut Play<D, L>,
     candidates: VecDeque<Event>,
 ) -> Result<Event, AllocError>
+    ensures exact { IfOk result (λ event. event ≡ first_allowed D.commands (state_of L.locks play.old).kept candidates.items) }
+    ensures same { StaysAs (state_of L.locks play.old) (state_of L.locks play.new) }
 {
     let mut candidates = candidates;
     while let Some(event) = candidates.pop_front() {
@@ -49,6 +64,8 @@ fn take_event<D: Daemon, L: LockTable>(
     draw: Draw,
     number: u64,
 ) -> Result<(), PlayError>
+    requires { IsDrawing D.commands D.stands (state_of L.locks play.old) }
+    ensures { OnOk result (TakesDrawn D.commands D.stands (state_of L.locks play.old) draw.a draw.b draw.c number (state_of L.locks play.new)) }
 {
     let candidates = candidates(alloc, play, draw, number)?;
     let event = first_allowed(play, candidates)?;
@@ -66,25 +83,30 @@ fn take_events<D: Daemon, L: LockTable>(
     seed: u64,
     events: u64,
 ) -> Result<(), PlayError>
+    requires { IsDrawing D.commands D.stands (state_of L.locks play.old) }
+    ensures { OnOk result (DrawsAll D.commands D.stands (state_of L.locks play.old) seed events (state_of L.locks play.new)) }
 {
     let mut state = seed;
     let mut out = Vec::new(alloc);
     let mut number = 0;
     while number < events {
-        number += 1;
         let draw = draw_event(&mut state);
+        number += 1;
         take_event(alloc, play, &mut out, draw, number)?;
     }
     Ok(())
 }
 
-/// Plays the schedule of a seed, from its header on.
+/// Plays the schedule of a seed, from its header on; the answer is what its last line counts.
 fn play_seed<D: Daemon, L: LockTable>(
     alloc: Global,
     seed: u64,
     hosts: u32,
     events: u64,
 ) -> Result<Counts, PlayError>
+    requires hosts { (1 ≤ hosts) × (hosts ≤ 16) }
+    requires plays { MayPlay D.commands }
+    ensures { IfOk result (λ counts. IsDrawn (EachStood D.stands) hosts events 1 (world_with (program_of D.commands) (gen_header hosts)) seed reports.no_counts counts) }
 {
     let header = header(alloc, hosts)?;
     let mut play = Play::<D, L>::new(alloc, header)?;
@@ -92,7 +114,7 @@ fn play_seed<D: Daemon, L: LockTable>(
     Ok(*play.counts())
 }
 
-/// The two lines: what was generated, and what the last line of its report counts.
+/// The two lines: what was generated, and what the last line of its report counts. An `Err` is want of memory.
 fn both_lines(
     alloc: Global,
     seed: u64,
@@ -100,6 +122,7 @@ fn both_lines(
     events: u64,
     counts: &Counts,
 ) -> Result<Vec<u8>, AllocError>
+    ensures { IfOk result (λ text. text.items ≡ as_bytes (gen_line seed hosts events ∷ reports.end_line counts.now ∷ [])) }
 {
     let line = format!(in alloc; "gen {seed} {hosts} {events}\n")?;
     let mut text = Vec::from_slice(alloc, line.as_bytes())?;
@@ -116,6 +139,9 @@ pub fn generate<K: Sink, D: Daemon, L: LockTable>(
     events: u64,
     sink: &mut K,
 ) -> Generated
+    requires hosts { (1 ≤ hosts) × (hosts ≤ 16) }
+    requires plays { MayPlay D.commands }
+    ensures { Generates D.commands D.stands seed hosts events (K.taken sink.old) (K.taken sink.new) (K.faults sink.old) (K.faults sink.new) result }
 {
     let Ok(counts) = play_seed::<D, L>(alloc, seed, hosts, events) else {
         return Generated::NoMemory;

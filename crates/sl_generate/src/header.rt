@@ -1,8 +1,10 @@
 //! The header of the schedules that are generated.
 
-ghost use Rattle.sl_report.specs.Generator.{gen_header, gen_host_name, gen_path, gen_resource};
+ghost use Rattle.sl_generate.specs.HeaderLines.{gen_session};
+ghost use Rattle.sl_report.specs.Generator.{gen_header, gen_path, gen_resource};
+ghost use Rattle.sl_text.specs.Names.{is_name};
 ghost use Rattle.std.specs.List.{range_with_len};
-ghost use Rattle.std.specs.Prelude.{IfOk, codes, map, ◌++◌, ◌≡◌, ◌≤◌};
+ghost use Rattle.std.specs.Prelude.{IfOk, codes, decimal, map, true, [], ◌++◌, ◌∷◌, ◌≡◌, ◌≤◌};
 
 use sl_area::Geometry;
 use sl_run::{Disk, Header, LockspaceLine, ResourceLine, SessionLine};
@@ -40,7 +42,9 @@ fn lockspace() -> Name
 }
 
 /// A letter and a number, as a name.
-fn numbered(alloc: Global, letter: char, number: u64) -> Result<Name, AllocError>
+fn numbered(alloc: Global, letter: &str, number: u64) -> Result<Name, AllocError>
+    requires { is_name (letter.now ++ decimal number) ≡ true }
+    ensures { IfOk result (λ name. name ≡ letter.now ++ decimal number) }
 {
     let text = format!(in alloc; "{letter}{number}")?;
     match Name::new(text.as_bytes()) {
@@ -51,6 +55,7 @@ fn numbered(alloc: Global, letter: char, number: u64) -> Result<Name, AllocError
 
 /// The times of a run.
 fn timing() -> Timing
+    ensures { result ≡ record { io = 100; fire = 600; land = 100; rho = 0 } }
 {
     match Timing::new(100, 600, 100, 0) {
         Ok(timing) => timing,
@@ -60,6 +65,8 @@ fn timing() -> Timing
 
 /// The areas of a run of so many hosts, 1 to 16.
 fn geometry(hosts: u32) -> Geometry
+    requires { (1 ≤ hosts) × (hosts ≤ 16) }
+    ensures { result ≡ record { sector = 512; area = 1048576; hosts = hosts } }
 {
     match Geometry::new(SECTOR, AREA, hosts) {
         Ok(geometry) => geometry,
@@ -77,7 +84,7 @@ fn resources(alloc: Global) -> Result<Vec<ResourceLine>, AllocError>
         number += 1;
         lines.push(ResourceLine {
             lockspace: lockspace(),
-            name: numbered(alloc, 'r', number)?,
+            name: numbered(alloc, "r", number)?,
             path: path(),
             offset: number * AREA,
         })?;
@@ -87,6 +94,8 @@ fn resources(alloc: Global) -> Result<Vec<ResourceLine>, AllocError>
 
 /// The sessions: each machine has joined under its own number.
 fn sessions(alloc: Global, hosts: u32) -> Result<Vec<SessionLine>, AllocError>
+    requires { hosts ≤ 16 }
+    ensures { IfOk result (λ lines. lines.items ≡ map gen_session (range_with_len 1 hosts)) }
 {
     let mut lines = Vec::new(alloc);
     let mut machine = 0;
@@ -96,14 +105,16 @@ fn sessions(alloc: Global, hosts: u32) -> Result<Vec<SessionLine>, AllocError>
             machine,
             lockspace: lockspace(),
             id: machine,
-            name: numbered(alloc, 'h', u64::from(machine))?,
+            name: numbered(alloc, "h", u64::from(machine))?,
         })?;
     }
     Ok(lines)
 }
 
 /// One element, alone.
-fn alone<T: Drop>(alloc: Global, item: T) -> Result<Seq<T>, AllocError> {
+fn alone<T: Drop>(alloc: Global, item: T) -> Result<Seq<T>, AllocError>
+    ensures { IfOk result (λ items. items ≡ item ∷ []) }
+{
     let mut items = Vec::new(alloc);
     items.push(item)?;
     Ok(Seq::new(items))

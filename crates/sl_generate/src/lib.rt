@@ -10,6 +10,7 @@ mod candidates;
 mod draws;
 mod generate;
 mod header;
+pub mod laws;
 mod texts;
 
 pub use generate::{Generated, generate};

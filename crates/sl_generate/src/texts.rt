@@ -2,7 +2,7 @@
 
 ghost use Rattle.sl_report.specs.Generator.{gen_path, gen_resource_word};
 ghost use Rattle.sl_text.specs.Forms.{coloned, spaced};
-ghost use Rattle.std.specs.Prelude.{IfOk, codes, decimal, [], ◌∷◌, ◌<◌, ◌^◌, ◌≡◌};
+ghost use Rattle.std.specs.Prelude.{IfOk, codes, decimal, false, [], ◌*◌, ◌++◌, ◌∷◌, ◌<◌, ◌^◌, ◌≡◌};
 
 use sl_text::Bytes;
 use std::alloc::{AllocError, Global};
@@ -19,6 +19,7 @@ fn command_text(
     process: u64,
 ) -> Result<Bytes, AllocError>
     requires { k < 2 ^ 32 }
+    ensures { IfOk result (λ text. text ≡ verb.now ++ codes " -r ls:r" ++ decimal k ++ codes ":/d:" ++ decimal (k * 1048576) ++ mode.now ++ codes " -p " ++ decimal process) }
 {
     let offset = k * AREA;
     let text = format!(in alloc; "{verb} -r ls:r{k}:/d:{offset}{mode} -p {process}")?;
