@@ -3,13 +3,14 @@ use Rattle.sl_daemon.specs.Daemons.{program_of}
 use Rattle.sl_generate.specs.Drawn.{DrawsBack, IsDrawn}
 use Rattle.sl_generate.specs.declared.generate.Generated.TheVariants.{Done, NoMemory, WriteFault}
 use Rattle.sl_generate.specs.declared.generate.Generated.{Generated}
-use Rattle.sl_kept.specs.Sane.{WorldStands}
+use Rattle.sl_kept.specs.Sane.{ReadsCommands, WorldStands}
 use Rattle.sl_play.specs.Owing.{EachStood}
 use Rattle.sl_play.specs.Playing.{PlayState}
 use Rattle.sl_report.specs.Generator.{IsGenerated, gen_event, gen_header, gen_line}
 use Rattle.sl_report.specs.Headline.{IsFrontOf, Promise}
 use Rattle.sl_report.specs.Reports.{Counts, count_event, end_line, no_counts, run_counts}
 use Rattle.sl_run.specs.Events.{happens, may_happen}
+use Rattle.sl_run.specs.Headers.{IsHeader}
 use Rattle.sl_run.specs.Runs.{Happening, HasSteps}
 use Rattle.sl_run.specs.Worlds.{Program, World, world_with}
 use Rattle.sl_run.specs.declared.event.Event.{Event}
@@ -23,6 +24,13 @@ use Rattle.sl_trace.specs.declared.effects.Effects.{Effects}
 use Rattle.sl_words.specs.Causes.{Rose}
 use Rattle.std.specs.Io.KnownBytes.{Appends}
 use Rattle.std.specs.Prelude.{List, Option, length, true, [], ℕ, ◌+◌, ◌-◌, ◌∷◌, ◌≡◌}
+
+-- ---- the header
+
+-- A world may begin with the header for so many machines, and the commands of these daemons are then commands of its layout.
+pub record MayGenerate (commands : Header → List (Form Command)) (hosts : ℕ) : Type 0 where
+  pub header : IsHeader (gen_header hosts)
+  pub reads : ReadsCommands commands (gen_header hosts)
 
 -- ---- a world in which is drawn
 

@@ -3,15 +3,14 @@
 ghost use Rattle.sl_daemon.specs.Daemons.{program_of};
 ghost use Rattle.sl_generate.specs.Candidates.{first_allowed};
 ghost use Rattle.sl_generate.specs.Drawn.{IsDrawn};
-ghost use Rattle.sl_generate.specs.Generating.{DrawsAll, Generates, IsDrawing, TakesDrawn};
+ghost use Rattle.sl_generate.specs.Generating.{DrawsAll, Generates, IsDrawing, MayGenerate, TakesDrawn};
 ghost use Rattle.sl_play.specs.Owing.{EachStood};
 ghost use Rattle.sl_play.specs.Playing.{StaysAs, state_of};
-ghost use Rattle.sl_play_schedule.specs.Replaying.{MayPlay};
 ghost use Rattle.sl_report.specs.Generator.{gen_header, gen_line};
 ghost use Rattle.sl_report.specs.Reports as reports;
 ghost use Rattle.sl_run.specs.Worlds.{world_with};
 ghost use Rattle.sl_text.specs.Forms.{as_bytes};
-ghost use Rattle.std.specs.Prelude.{IfOk, OnOk, [], ◌∷◌, ◌≡◌, ◌≤◌};
+ghost use Rattle.std.specs.Prelude.{IfOk, OnOk, [], ◌∷◌, ◌≡◌};
 
 use crate::candidates::candidates;
 use crate::draws::{Draw, draw_event};
@@ -104,8 +103,7 @@ fn play_seed<D: Daemon, L: LockTable>(
     hosts: u32,
     events: u64,
 ) -> Result<Counts, PlayError>
-    requires hosts { (1 ≤ hosts) × (hosts ≤ 16) }
-    requires plays { MayPlay D.commands }
+    requires { MayGenerate D.commands hosts }
     ensures { IfOk result (λ counts. IsDrawn (EachStood D.stands) hosts events 1 (world_with (program_of D.commands) (gen_header hosts)) seed reports.no_counts counts) }
 {
     let header = header(alloc, hosts)?;
@@ -139,8 +137,7 @@ pub fn generate<K: Sink, D: Daemon, L: LockTable>(
     events: u64,
     sink: &mut K,
 ) -> Generated
-    requires hosts { (1 ≤ hosts) × (hosts ≤ 16) }
-    requires plays { MayPlay D.commands }
+    requires { MayGenerate D.commands hosts }
     ensures { Generates D.commands D.stands seed hosts events (K.taken sink.old) (K.taken sink.new) (K.faults sink.old) (K.faults sink.new) result }
 {
     let Ok(counts) = play_seed::<D, L>(alloc, seed, hosts, events) else {

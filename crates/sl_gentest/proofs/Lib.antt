@@ -1,1 +1,2 @@
 pub mod HeadersRead
+pub mod DrawLaws

@@ -1,6 +1,10 @@
 //! Test.
 #![tactic(auto)]
 
+mod draws;
+mod header;
+mod texts;
+
 ghost use Rattle.sl_gentest.specs.HeaderLines.{HeadersAreRead};
 
 /// Test.

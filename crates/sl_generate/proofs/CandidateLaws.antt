@@ -1,0 +1,2 @@
+-- Candidates, one kind of event after another.
+use Rattle.std.proofs.Common.{ℕ, ◌≡◌}
