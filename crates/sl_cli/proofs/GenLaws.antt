@@ -38,11 +38,27 @@ before (all_got s h e) ws = s ∷ h ∷ e ∷ ws
 abbrev row : Text → Text → Row
 row name v = row_for (use_of name v)
 
+-- The rows so far, the value that is being read, and the place of the next word.
+abbrev rows_at : Got → List Row
+rows_at none_got = []
+rows_at (one_got s) = []
+rows_at (two_got s h) = row (codes "seed") s ∷ []
+rows_at (all_got s h e) = row (codes "seed") s ∷ row (codes "hosts") h ∷ []
+
+abbrev pending_at : Got → Pending
+pending_at none_got = None
+pending_at (one_got s) = Some (codes "seed", s ∷ [])
+pending_at (two_got s h) = Some (codes "hosts", h ∷ [])
+pending_at (all_got s h e) = Some (codes "events", e ∷ [])
+
+abbrev place_at : Got → ℕ
+place_at none_got = 1
+place_at (one_got s) = 2
+place_at (two_got s h) = 3
+place_at (all_got s h e) = 4
+
 abbrev stand : Got → Bool → Walk
-stand none_got trailing = walk_at [] None idle 1 trailing
-stand (one_got s) trailing = walk_at [] (Some (codes "seed", s ∷ [])) idle 2 trailing
-stand (two_got s h) trailing = walk_at (row (codes "seed") s ∷ []) (Some (codes "hosts", h ∷ [])) idle 3 trailing
-stand (all_got s h e) trailing = walk_at (row (codes "seed") s ∷ row (codes "hosts") h ∷ []) (Some (codes "events", e ∷ [])) idle 4 trailing
+stand g trailing = walk_at (rows_at g) (pending_at g) idle (place_at g) trailing
 
 abbrev turn : Walk → Text → Kinds
 turn w word = turn_fault generate [] w word
@@ -185,32 +201,20 @@ value_agrees (all_got s h e) trailing word ws v later =
 
 -- ---- a word that looks like an option
 
-no_first : (b : Bool) (w : Words) → (if false && b then Some w else None) ≡ None
-no_first b w = refl
-
 and_false : (b : Bool) → (b && false) ≡ false
 and_false true = refl
 and_false false = refl
 
 -- It is no number.
-no_seed : (c : ℕ) (cs : Text) → is_seed (45 ∷ c ∷ cs) ≡ false
-no_seed c cs = refl
-
-no_hosts : (c : ℕ) (cs : Text) → is_machine_count (45 ∷ c ∷ cs) ≡ false
-no_hosts c cs = refl
-
-no_events : (c : ℕ) (cs : Text) → is_event_count (45 ∷ c ∷ cs) ≡ false
-no_events c cs = refl
-
 no_number : (g : Got) (c : ℕ) (cs : Text) (ws : List Text) → three_in (before g ((45 ∷ c ∷ cs) ∷ ws)) ≡ None
 no_number none_got c cs [] = refl
 no_number none_got c cs (x ∷ []) = refl
-no_number none_got c cs (x ∷ y ∷ []) = rw (no_seed c cs) refl
+no_number none_got c cs (x ∷ y ∷ []) = refl
 no_number none_got c cs (x ∷ y ∷ z ∷ ws) = refl
 no_number (one_got s) c cs [] = refl
-no_number (one_got s) c cs (x ∷ []) = rw (no_hosts c cs) (rw (and_false (is_seed s)) refl)
+no_number (one_got s) c cs (x ∷ []) = rw (and_false (is_seed s)) refl
 no_number (one_got s) c cs (x ∷ y ∷ ws) = refl
-no_number (two_got s h) c cs [] = rw (no_events c cs) (rw (and_false (is_machine_count h)) (rw (and_false (is_seed s)) refl))
+no_number (two_got s h) c cs [] = rw (and_false (is_machine_count h)) (rw (and_false (is_seed s)) refl)
 no_number (two_got s h) c cs (x ∷ ws) = refl
 no_number (all_got s h e) c cs ws = refl
 
@@ -220,29 +224,18 @@ hyphen_left c cs ws apart = rw apart refl
 
 -- `--` is taken once.
 dashes_agree : (g : Got) (ws : List Text) → Agree g true ws → Agree g false ((45 ∷ 45 ∷ []) ∷ ws)
-dashes_agree none_got ws later =
-    carried none_got none_got false true (45 ∷ 45 ∷ []) ws (dashes_turn [] None 1) (dashes_after [] None 1) refl later
-dashes_agree (one_got s) ws later = carried (one_got s) (one_got s) false true (45 ∷ 45 ∷ []) ws (dashes_turn _ _ 2) (dashes_after _ _ 2) refl later
-dashes_agree (two_got s h) ws later = carried (two_got s h) (two_got s h) false true (45 ∷ 45 ∷ []) ws (dashes_turn _ _ 3) (dashes_after _ _ 3) refl later
-dashes_agree (all_got s h e) ws later = carried (all_got s h e) (all_got s h e) false true (45 ∷ 45 ∷ []) ws (dashes_turn _ _ 4) (dashes_after _ _ 4) refl later
+dashes_agree g ws later =
+    carried g g false true (45 ∷ 45 ∷ []) ws (dashes_turn (rows_at g) (pending_at g) (place_at g)) (dashes_after (rows_at g) (pending_at g) (place_at g)) refl later
 
 long_agrees : (g : Got) (c : ℕ) (cs : Text) (ws : List Text) → Agree g false ((45 ∷ 45 ∷ c ∷ cs) ∷ ws)
-long_agrees none_got c cs ws = refused none_got false (45 ∷ 45 ∷ c ∷ cs) ws (long_fails _ _ 1 c cs) (no_number none_got 45 (c ∷ cs) (without_dashes ws))
-long_agrees (one_got s) c cs ws = refused (one_got s) false (45 ∷ 45 ∷ c ∷ cs) ws (long_fails _ _ 2 c cs) (no_number (one_got s) 45 (c ∷ cs) (without_dashes ws))
-long_agrees (two_got s h) c cs ws = refused (two_got s h) false (45 ∷ 45 ∷ c ∷ cs) ws (long_fails _ _ 3 c cs) (no_number (two_got s h) 45 (c ∷ cs) (without_dashes ws))
-long_agrees (all_got s h e) c cs ws = refused (all_got s h e) false (45 ∷ 45 ∷ c ∷ cs) ws (long_fails _ _ 4 c cs) (no_number (all_got s h e) 45 (c ∷ cs) (without_dashes ws))
+long_agrees g c cs ws =
+    refused g false (45 ∷ 45 ∷ c ∷ cs) ws (long_fails (rows_at g) (pending_at g) (place_at g) c cs) (no_number g 45 (c ∷ cs) (without_dashes ws))
 
 short_agrees : (g : Got) (c x : ℕ) (cs : Text) (ws : List Text) → eqb c 45 ≡ false → slice_get (chars (c ∷ cs)) 0 ≡ Some x → Agree g false ((45 ∷ c ∷ cs) ∷ ws)
 short_agrees g c x cs ws no_hyphen first =
     let none : three_in (before g (without_dashes ((45 ∷ c ∷ cs) ∷ ws))) ≡ None =
     ap (λ us. three_in (before g us)) (hyphen_left c cs ws (no_dashes c cs no_hyphen)) ∙ no_number g c cs (without_dashes ws) in
-    refused g false (45 ∷ c ∷ cs) ws (fails g) none
-  where
-    fails : (g : Got) → Fails (turn (stand g false) (45 ∷ c ∷ cs))
-    fails none_got = short_fails _ _ 1 c x cs no_hyphen first
-    fails (one_got s) = short_fails _ _ 2 c x cs no_hyphen first
-    fails (two_got s h) = short_fails _ _ 3 c x cs no_hyphen first
-    fails (all_got s h e) = short_fails _ _ 4 c x cs no_hyphen first
+    refused g false (45 ∷ c ∷ cs) ws (short_fails (rows_at g) (pending_at g) (place_at g) c x cs no_hyphen first) none
 
 two_hyphens : (g : Got) (cs : Text) (ws : List Text) → Agree g true ws → Agree g false ((45 ∷ 45 ∷ cs) ∷ ws)
 two_hyphens g [] ws later = dashes_agree g ws later

@@ -1,8 +1,8 @@
 -- A play while it draws, and what is owed of it.
 use Rattle.sl_daemon.specs.Daemons.{program_of}
 use Rattle.sl_generate.specs.Drawn.{DrawsBack, IsDrawn}
-use Rattle.sl_generate.specs.declared.generate.Generated.TheVariants.{Done, NoMemory, WriteFault}
-use Rattle.sl_generate.specs.declared.generate.Generated.{Generated}
+use Rattle.sl_generate.specs.declared.generator.Generated.TheVariants.{Done, NoMemory, WriteFault}
+use Rattle.sl_generate.specs.declared.generator.Generated.{Generated}
 use Rattle.sl_kept.specs.Sane.{ReadsCommands, WorldStands}
 use Rattle.sl_play.specs.Owing.{EachStood}
 use Rattle.sl_play.specs.Playing.{PlayState}

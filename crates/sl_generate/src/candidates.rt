@@ -8,7 +8,7 @@ ghost use Rattle.sl_report.specs.Generator.{gen_host_name};
 ghost use Rattle.sl_world_law.specs.Drawing.{candidates_in, least_ended_in};
 ghost use Rattle.std.specs.Prelude.{IfOk, OnOk, [], codes, decimal, length, ◌++◌, ◌∷◌, ◌≡◌, ◌≤◌};
 
-use crate::draws::Draw;
+use crate::draws::Draws;
 use crate::texts::{acquire_text, join_text, release_text};
 use sl_daemon::Daemon;
 use sl_machine::LockTable;
@@ -196,7 +196,7 @@ fn of_work(alloc: Global, machine: u32, kind: u64, c: u64) -> Result<Event, Allo
 pub(crate) fn candidates<D: Daemon, L: LockTable>(
     alloc: Global,
     play: &Play<D, L>,
-    draw: Draw,
+    draw: Draws,
     number: u64,
 ) -> Result<VecDeque<Event>, AllocError>
     requires { let k = (state_of L.locks play.now).kept in (length k.machines ≡ k.header.machines) × (1 ≤ k.header.machines) × (k.header.machines ≤ 16) }

@@ -9,7 +9,7 @@ const PART: u64 = 1 << 33;
 
 /// The draws of one event.
 #[derive(Clone, Copy)]
-pub(crate) struct Draw {
+pub(crate) struct Draws {
     /// For the machine.
     pub(crate) a: u64,
     /// For the kind of the event.
@@ -38,7 +38,7 @@ fn draw(state: &mut u64) -> u64
 }
 
 /// The draws of the next event.
-pub(crate) fn draw_event(state: &mut u64) -> Draw
+pub(crate) fn draw_event(state: &mut u64) -> Draws
     ensures state { state.new ≡ state_behind state.old }
     ensures a { result.a ≡ draw_of (next_state state.old) }
     ensures b { result.b ≡ draw_of (next_state (next_state state.old)) }
@@ -47,5 +47,5 @@ pub(crate) fn draw_event(state: &mut u64) -> Draw
     let a = draw(state);
     let b = draw(state);
     let c = draw(state);
-    Draw { a, b, c }
+    Draws { a, b, c }
 }

@@ -8,9 +8,9 @@
 
 mod candidates;
 mod draws;
-mod generate;
+mod generator;
 mod header;
 pub mod laws;
 mod texts;
 
-pub use generate::{Generated, generate};
+pub use generator::{Generated, generate};

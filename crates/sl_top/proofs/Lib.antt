@@ -1,6 +1,7 @@
 pub mod TopLaws
 pub mod RunLaws
 pub mod DirectLaws
+pub mod GenLaws
 pub mod OweLaws
 pub mod StatusLaws
 pub mod MemDiskLaws

@@ -1,19 +1,19 @@
 //! The top call.
 //!
 //! `replay` plays its source line by line, so where a read fails the report of the lines before it stands written; where a write fails or memory
-//! runs out, a front of the report. `direct` takes one disk of the devices, does its action there, and gives the disk back.
+//! runs out, a front of the report. `gen` reads nothing: it draws its events as it plays them. `direct` takes one disk of the devices, does its action there, and gives the disk back.
 
 ghost use Rattle.sl_direct.specs.Actions.{IsAction};
-ghost use Rattle.sl_top.specs.Runs.{ActsOn, IsDirect, IsReplay, Owes, PutsOut, Replays, said};
+ghost use Rattle.sl_top.specs.Runs.{ActsOn, Generates, IsDirect, IsReplay, Owes, PutsOut, Replays, said};
 ghost use Rattle.sl_top.specs.declared.status.Status.TheVariants.{WriteFault};
-ghost use Rattle.std.specs.Prelude.{◌≡◌, ◌≢◌};
+ghost use Rattle.std.specs.Prelude.{◌≡◌, ◌≢◌, ◌≤◌};
 
 use crate::devices::Devices;
-use crate::status::{Status, status_after, status_of};
+use crate::status::{Status, status_after, status_of, status_of_generated};
 use sl_area::Area;
 use sl_cli::{HELP, VERSION, Words, WordsError, read_words};
 use sl_direct::{Action, run_direct};
-use sl_generate::{Generated, generate};
+use sl_generate::generate;
 use sl_header_law::laws::whole_language_may_play;
 use sl_host_step::HostDaemon;
 use sl_io::{Sink, Source, write_all};
@@ -30,7 +30,7 @@ fn replay<S: Source, K: Sink>(alloc: Global, source: &mut S, sink: &mut K) -> St
     status_of(play_schedule::<S, K, HostDaemon, LvmLocks>(alloc, source, sink))
 }
 
-/// Makes a schedule of so many events from a seed, plays it in a world of hosts, and puts out its last line.
+/// Makes a schedule of so many events from a seed, plays it in a world of hosts, and puts out the last line of its report.
 fn generate_from<K: Sink>(
     alloc: Global,
     seed: u64,
@@ -38,12 +38,12 @@ fn generate_from<K: Sink>(
     events: u64,
     sink: &mut K,
 ) -> Status
+    requires { (1 ≤ hosts) × (hosts ≤ 16) }
+    ensures { Generates seed hosts events (K.taken sink.old) (K.taken sink.new) (K.faults sink.old) (K.faults sink.new) result }
 {
-    match generate::<K, HostDaemon, LvmLocks>(alloc, seed, hosts, events, sink) {
-        Generated::Done => Status::Done,
-        Generated::WriteFault => Status::WriteFault,
-        Generated::NoMemory => Status::NoMemory,
-    }
+    status_of_generated(generate::<K, HostDaemon, LvmLocks>(
+        alloc, seed, hosts, events, sink,
+    ))
 }
 
 /// Puts out a text.
@@ -77,7 +77,8 @@ fn direct<K: Sink, D: Devices>(
 
 /// Does what the words say (those behind the program's name), with no handle that waits: so it returns.
 ///
-/// `replay` reads a schedule from the source to its end, or to one byte past 1000000000, and puts out its report. `direct` does its action
+/// `replay` reads a schedule from the source to its end, or to one byte past 1000000000, and puts out its report. `gen` makes a schedule from a
+/// seed, plays it, and puts out what was generated and the last line of its report. `direct` does its action
 /// to the disk at the action's path, and puts out what that tells. The help and the version are put out as they are. Words that say none of
 /// these put out one line.
 ///

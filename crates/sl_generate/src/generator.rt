@@ -13,7 +13,7 @@ ghost use Rattle.sl_text.specs.Forms.{as_bytes};
 ghost use Rattle.std.specs.Prelude.{IfOk, OnOk, [], ◌∷◌, ◌≡◌};
 
 use crate::candidates::candidates;
-use crate::draws::{Draw, draw_event};
+use crate::draws::{Draws, draw_event};
 use crate::header::header;
 use sl_daemon::Daemon;
 use sl_io::{Sink, write_all};
@@ -60,7 +60,7 @@ fn take_event<D: Daemon, L: LockTable>(
     alloc: Global,
     play: &mut Play<D, L>,
     out: &mut Vec<u8>,
-    draw: Draw,
+    draw: Draws,
     number: u64,
 ) -> Result<(), PlayError>
     requires { IsDrawing D.commands D.stands (state_of L.locks play.old) }

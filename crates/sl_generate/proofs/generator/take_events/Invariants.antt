@@ -1,5 +1,5 @@
 -- So many events have come to pass, in each world that the play stood for.
-use Rattle.sl_generate.proofs.generate.take_events.Given as goal
+use Rattle.sl_generate.proofs.generator.take_events.Given as goal
 use Rattle.sl_generate.specs.Generating.{HaveDrawn}
 use Rattle.sl_play.specs.Playing.{state_of}
 use Rattle.std.proofs.Common.{ℕ, ◌-◌, ◌≤◌}
