@@ -275,6 +275,6 @@ gen_level ws =
 pub gen_read : (ws : List Text) → AreTexts ws
     → ((level generate ws ≡ []) × (says (rows_after gen_rules [] ws) ≡ three_in (without_dashes ws))) ⊎ (Fails (level generate ws) × (three_in (without_dashes ws) ≡ None))
 gen_read ws texts = elim (all_agree ws none_got texts) [
-  | inl both ↦ inl (gen_level ws ∙ both.0, ap says (no_defaults _ gen_rules refl) ∙ both.1)
+  | inl both ↦ inl (gen_level ws ∙ both.0, ap says (no_defaults (end_rows (stand none_got false) ws) gen_rules refl) ∙ both.1)
   | inr neither ↦ inr (λ none. neither.0 (sym (gen_level ws) ∙ none), neither.1)
 ]

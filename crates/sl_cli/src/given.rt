@@ -13,9 +13,9 @@ ghost use Rattle.std.specs.Prelude.{IfSome, codes, option_map, ◌≡◌, ◌≤
 
 use crate::arguments::{hosts_of, lockspace_of, resource_of, stretch_of};
 use crate::reading::Words;
-use sl_text::number::read_number_within;
 use clap::ArgMatches;
 use sl_direct::Action;
+use sl_text::number::read_number_within;
 use std::marker::Model;
 
 /// The word of the action, and the values of the options: each where it was given.

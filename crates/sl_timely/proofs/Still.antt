@@ -82,12 +82,14 @@ time_may_stand_still commands w sane timely =
   where
     no_more : (n : ℕ) → n < moments → n + 0 < moments
     no_more n h = omega (arith, h)
+
     kept_soon : (a : Machine) → IsTimely w.header.timing w.moment w.step a → (a.up && nat_lt (a.kept.moment + w.header.timing.fire) (w.moment + 0)) ≡ false
     kept_soon a t = go a.up t.fires
       where
         go : (up : Bool) → (up ≡ true → w.moment ≤ a.kept.moment + w.header.timing.fire) → (up && nat_lt (a.kept.moment + w.header.timing.fire) (w.moment + 0)) ≡ false
         go false fires = refl
         go true fires = let h = fires refl in not_above (a.kept.moment + w.header.timing.fire) (w.moment + 0) (omega (arith, h))
+
     lands_soon : (a : Machine) (c : Course) → Contains a.calls c → IsTimely w.header.timing w.moment w.step a
         → is_late_landing w.header.timing.land (w.moment + 0) a c ≡ false
     lands_soon a c there t = go (may_land c) (t.lands c there)

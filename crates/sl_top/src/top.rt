@@ -31,19 +31,11 @@ fn replay<S: Source, K: Sink>(alloc: Global, source: &mut S, sink: &mut K) -> St
 }
 
 /// Makes a schedule of so many events from a seed, plays it in a world of hosts, and puts out the last line of its report.
-fn generate_from<K: Sink>(
-    alloc: Global,
-    seed: u64,
-    hosts: u32,
-    events: u64,
-    sink: &mut K,
-) -> Status
+fn generate_from<K: Sink>(alloc: Global, seed: u64, hosts: u32, events: u64, sink: &mut K) -> Status
     requires { (1 ≤ hosts) × (hosts ≤ 16) }
     ensures { Generates seed hosts events (K.taken sink.old) (K.taken sink.new) (K.faults sink.old) (K.faults sink.new) result }
 {
-    status_of_generated(generate::<K, HostDaemon, LvmLocks>(
-        alloc, seed, hosts, events, sink,
-    ))
+    status_of_generated(generate::<K, HostDaemon, LvmLocks>(alloc, seed, hosts, events, sink))
 }
 
 /// Puts out a text.
@@ -103,11 +95,13 @@ pub fn run_offline<S: Source, K: Sink, D: Devices>(
 {
     match read_words(alloc, words) {
         Ok(Words::Replay) => replay(alloc, source, sink),
-        Ok(Words::Generate {
-            seed,
-            hosts,
-            events,
-        }) => generate_from(alloc, seed, hosts, events, sink),
+        Ok(
+            Words::Generate {
+                seed,
+                hosts,
+                events,
+            },
+        ) => generate_from(alloc, seed, hosts, events, sink),
         Ok(Words::Direct(action)) => direct(alloc, &action, sink, devices),
         Ok(Words::Help) => tell(sink, HELP.as_bytes(), Status::Done),
         Ok(Words::Version) => tell(sink, VERSION.as_bytes(), Status::Done),

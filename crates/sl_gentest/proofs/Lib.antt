@@ -1,2 +1,0 @@
-pub mod HeadersRead
-pub mod DrawLaws

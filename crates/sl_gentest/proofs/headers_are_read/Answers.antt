@@ -1,5 +1,0 @@
-use Rattle.sl_gentest.proofs.HeadersRead.{headers_are_read}
-use Rattle.sl_gentest.proofs.headers_are_read.Goals as goal
-
-pub returns : goal.returns
-returns c = headers_are_read

@@ -1,2 +1,0 @@
-pub mod HeaderLines
-pub mod Drawn
