@@ -1,19 +1,17 @@
 -- In a timely world a time of 0 may pass.
 use Rattle.sl_kept.specs.Sane.{IsSane}
-use Rattle.sl_plain.proofs.Lists.{got_inside}
-use Rattle.sl_run.specs.Events.{clock_after, drifts, event_tests, growth_of, is_late_landing, may_happen, pass_tests}
-use Rattle.sl_run.specs.Worlds.{Course, Machine, Stamp, World, first_that, machine_at, may_land, reading_now, resets_after}
-use Rattle.sl_run.specs.declared.event.Event.TheVariants.{Pass}
+use Rattle.sl_run.specs.Events.{clock_after, drifts, event_tests, growth_of, is_late_landing, pass_tests}
+use Rattle.sl_run.specs.Worlds.{Course, Machine, Stamp, World, first_that, machine_at, may_land, resets_after}
 use Rattle.sl_run.specs.declared.event.Refusal.TheVariants.{LimitMoment, PremiseDrift, PremiseLanding, PremiseWatchdog, Syntax}
 use Rattle.sl_run_law.proofs.Front.Going.{number_place}
 use Rattle.sl_run_law.proofs.Walking.{index}
-use Rattle.sl_time.specs.Times.{TimingNumbers, reading_of}
-use Rattle.sl_timely.specs.Timely.{AreTimely, IsTimely, TimeMayStandStill}
-use Rattle.sl_words.proofs.CaseLaws.{is_false, true_is_false}
+use Rattle.sl_time.specs.Times.{reading_of}
+use Rattle.sl_timely.specs.Timely.{IsTimely, TimeMayStandStill}
+use Rattle.sl_words.proofs.CaseLaws.{true_is_false}
 use Rattle.sl_words.specs.Bounds.{moments}
-use Rattle.std.proofs.Common.{ap, arith, refl, subst, sym, tests, ◌∙◌}
+use Rattle.std.proofs.Common.{arith, refl, tests}
 use Rattle.std.specs.List.{list_any, range_with_len}
-use Rattle.std.specs.Prelude.{Bool, Contains, List, None, Option, Some, [], false, is_none, nat_le, nat_lt, not, slice_get, suc, true, zero, ℕ, ◌&&◌, ◌*◌, ◌+◌, ◌-◌, ◌<◌, ◌||◌, ◌∷◌, ◌≡◌, ◌≤◌}
+use Rattle.std.specs.Prelude.{Bool, Contains, List, None, Option, Some, [], false, is_none, nat_le, nat_lt, not, slice_get, suc, true, ℕ, ◌&&◌, ◌*◌, ◌+◌, ◌-◌, ◌<◌, ◌||◌, ◌∷◌, ◌≡◌, ◌≤◌}
 use Rattle.sl_plain.proofs.Lists.{contains_first, contains_more}
 
 -- ---- tests of lists

@@ -5,7 +5,7 @@ use Rattle.sl_plain.proofs.Lists.{contains_cases, contains_none, got_inside, kep
 use Rattle.sl_plain.proofs.Truth.{second_is_false}
 use Rattle.sl_run.specs.Events.{after_effects, after_step, after_test, change_call, daemon_number, event_tests, fated, first_change, happens, input_of, is_late_landing, machine_of, may_happen, new_course, next_step, pass_tests, passed, sampled_more, sectors_left, take_step}
 use Rattle.sl_run.specs.Worlds.{Course, Dropped, Landed, Machine, Program, Stamp, Torn, World, machine_at, machine_of_header, may_land, reading_now, resets_after, stamp_now, world_with}
-use Rattle.sl_run.specs.declared.event.Event.TheVariants.{Do, DropWrite, Land, Pass, Sample, Tear}
+use Rattle.sl_run.specs.declared.event.Event.TheVariants.{Pass}
 use Rattle.sl_run.specs.declared.event.Event.{Event}
 use Rattle.sl_run.specs.declared.header.Header.{Header}
 use Rattle.sl_run_law.proofs.Front.Going.{was_there}
@@ -19,7 +19,7 @@ use Rattle.sl_run_law.proofs.Watchdog.Machines.{GoesOn, goes_mapped, goes_same}
 use Rattle.sl_run_law.specs.Going.{time_of}
 use Rattle.sl_run_law.specs.Machines.{EachMachine}
 use Rattle.sl_time.specs.Times.{TimingNumbers}
-use Rattle.sl_timely.specs.Timely.{AreTimely, EventsStayTimely, FirstWorldsAreTimely, IsTimely, IsTimelyBy}
+use Rattle.sl_timely.specs.Timely.{EventsStayTimely, FirstWorldsAreTimely, IsTimely, IsTimelyBy}
 use Rattle.sl_trace.specs.Connections.{test_holds}
 use Rattle.sl_trace.specs.Traces.{is_ok_answer}
 use Rattle.sl_trace.specs.declared.effects.Call.{Call}
@@ -30,7 +30,7 @@ use Rattle.sl_words.proofs.CaseLaws.{false_is_true, none_some, one_value, some_v
 use Rattle.std.proofs.Common.{ap, arith, inl, inr, refl, subst, sym, tests, ◌∙◌}
 use Rattle.std.proofs.lemmas.Bool.{ltb-false}
 use Rattle.std.specs.List.{list_any, range_with_len}
-use Rattle.std.specs.Prelude.{Bool, Contains, List, None, Option, Some, [], false, filter, fold, if◌then◌else◌, map, nat_lt, slice_get, suc, true, zero, ℕ, ◌&&◌, ◌+◌, ◌-◌, ◌<◌, ◌==◌, ◌∷◌, ◌≡◌, ◌≤◌, ◌⊎◌}
+use Rattle.std.specs.Prelude.{Bool, Contains, List, Option, Some, [], false, filter, fold, if◌then◌else◌, map, nat_lt, slice_get, suc, true, zero, ℕ, ◌&&◌, ◌+◌, ◌-◌, ◌<◌, ◌==◌, ◌∷◌, ◌≡◌, ◌≤◌, ◌⊎◌}
 
 -- ---- a machine, as steps go on
 
