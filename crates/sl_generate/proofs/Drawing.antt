@@ -7,7 +7,7 @@ use Rattle.sl_kept.specs.Refusing.{refusal_in}
 use Rattle.sl_kept.specs.Sane.{WorldStands}
 use Rattle.sl_play.specs.Owing.{EachStood}
 use Rattle.sl_play.specs.Playing.{Begins, HasHappened, IsBarred, PlayState, StaysAs}
-use Rattle.sl_report.specs.Generator.{IsGenerated, draw_of, gen_event, gen_header, gen_line, next_state}
+use Rattle.sl_report.specs.Generator.{IsGenerated, candidates, draw_of, gen_event, gen_header, gen_line, next_state}
 use Rattle.sl_report.specs.Reports.{Counts, count_event, end_line, no_counts, run_counts}
 use Rattle.sl_run.specs.Events.{happens, may_happen, refusal_of}
 use Rattle.sl_run.specs.Runs.{AfterEachFront, Happening, world_after}
@@ -45,7 +45,7 @@ passes_found p (x ∷ xs) d h = go (p x) refl (passes_found p xs d h)
 module _ {D : Type 0} (commands : Header → List (Form Command)) (stands : D → Setting → Trace → Type 0) where
   -- The event that is drawn may happen.
   may_drawn : (p : PlayState D) (w : World) → DrawsIn commands stands p w → (hosts a b c number : ℕ) → may_happen w (gen_event w hosts a b c number) ≡ true
-  may_drawn p w d hosts a b c number = passes_found (may_happen w) _ (Pass 0 None) (time_may_stand_still commands w d.stands_for.sane d.timely)
+  may_drawn p w d hosts a b c number = passes_found (may_happen w) (candidates w hosts a b c number) (Pass 0 None) (time_may_stand_still commands w d.stands_for.sane d.timely)
 
   -- It is the first that what is kept allows.
   is_drawn : (p : PlayState D) (w : World) → DrawsIn commands stands p w → (a b c number : ℕ)

@@ -99,5 +99,5 @@ headers_are_read p (suc (suc (suc (suc (suc (suc (suc (suc (suc (suc (suc (suc (
 headers_are_read p (suc (suc (suc (suc (suc (suc (suc (suc (suc (suc (suc (suc (suc (suc (suc (suc zero)))))))))))))))) low high = read_16 p
 headers_are_read p (suc (suc (suc (suc (suc (suc (suc (suc (suc (suc (suc (suc (suc (suc (suc (suc (suc n))))))))))))))))) low high = absurd (too_many n high)
   where
-    too_many : (n : ℕ) → 17 + n ≤ 16 → ⊥
+    too_many : (n : ℕ) → suc (suc (suc (suc (suc (suc (suc (suc (suc (suc (suc (suc (suc (suc (suc (suc (suc n)))))))))))))))) ≤ 16 → ⊥
     too_many n h = absurd (omega (arith, h))
