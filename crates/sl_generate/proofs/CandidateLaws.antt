@@ -1,50 +1,17 @@
 -- Candidates, one kind of event after another.
-use Rattle.sl_generate.specs.Candidates.{call_candidates, call_event, life_candidates, rare_event, time_candidates, work_event}
+use Rattle.sl_generate.specs.Candidates.{call_candidates, call_event, first_with, life_candidates, rare_event, time_candidates, work_event}
 use Rattle.sl_kept.specs.Kept.{KeptState, MachineState, machine_in}
 use Rattle.sl_report.specs.Generator.{with_call}
-use Rattle.sl_run.specs.declared.event.Event.TheVariants.{Test}
+use Rattle.sl_run.specs.declared.event.Event.TheVariants.{AnswerCall, Do, DropWrite, Test}
 use Rattle.sl_run.specs.declared.event.Event.{Event}
+use Rattle.sl_plain.proofs.Lists.{there_is}
 use Rattle.sl_words.proofs.CaseLaws.{none_some, some_value}
 use Rattle.sl_words.specs.Words.{first_of_list, least}
 use Rattle.sl_world_law.specs.Drawing.{candidates_in, ended_in, least_call_in}
-use Rattle.std.proofs.Common.{Bool, List, None, Option, Some, [], ap, ap₂, arith, cond, drop, false, map, refl, subst, suc, sym, true, zero, ℕ, ◌%◌, ◌++◌, ◌+◌, ◌-◌, ◌==◌, ◌≤◌, ◌∙◌, ◌∷◌, ◌≡◌}
-use Rattle.std.specs.List.{enumerate_from, range_with_len}
+use Rattle.std.proofs.Common.{Bool, List, None, Option, Some, [], ap, ap₂, arith, cond, drop, false, map, refl, subst, suc, sym, true, zero, ℕ, length, ◌%◌, ◌++◌, ◌+◌, ◌-◌, ◌<◌, ◌==◌, ◌≤◌, ◌∙◌, ◌∷◌, ◌≡◌}
+use Rattle.std.proofs.lemmas.Bool.{ne_eqb}
+use Rattle.std.specs.List.{enumerate_from}
 use Rattle.std.specs.Prelude.{filter, filter_map, nat_lt, not, option_and_then, option_map, slice_get}
-
--- ---- machines, from the last on
-
-range_back : (m n : ℕ) → 1 ≤ m → m ≤ n → range_with_len ((m - 1) + 1) (n - (m - 1)) ≡ m ∷ range_with_len (m + 1) (n - m)
-range_back m n low high =
-    let here : (m - 1) + 1 ≡ m = omega (arith, low) in
-    let more : n - (m - 1) ≡ suc (n - m) = omega (arith, low, high) in
-    ap₂ (λ a k. range_with_len a k) here more
-
--- One that passes stands in front of those behind it.
-pub one_kept : (f : ℕ → Event) (p : ℕ → Bool) (m n : ℕ) (out old now : List Event) → 1 ≤ m → m ≤ n → p m ≡ true → out ≡ map f (filter p (range_with_len (m + 1) (n - m))) ++ old
-    → now ≡ f m ∷ out → now ≡ map f (filter p (range_with_len ((m - 1) + 1) (n - (m - 1)))) ++ old
-one_kept f p m n out old now low high passes is added =
-    added ∙ ap (λ es. f m ∷ es) is
-    ∙ sym (ap (λ ns. map f (filter p ns) ++ old) (range_back m n low high) ∙ ap (λ b. map f (cond b (m ∷ filter p (range_with_len (m + 1) (n - m))) (filter p (range_with_len (m + 1) (n - m)))) ++ old) passes)
-
-pub one_left : (f : ℕ → Event) (p : ℕ → Bool) (m n : ℕ) (out old : List Event) → 1 ≤ m → m ≤ n → p m ≡ false → out ≡ map f (filter p (range_with_len (m + 1) (n - m))) ++ old
-    → out ≡ map f (filter p (range_with_len ((m - 1) + 1) (n - (m - 1)))) ++ old
-one_left f p m n out old low high fails is =
-    is
-    ∙ sym (ap (λ ns. map f (filter p ns) ++ old) (range_back m n low high) ∙ ap (λ b. map f (cond b (m ∷ filter p (range_with_len (m + 1) (n - m))) (filter p (range_with_len (m + 1) (n - m)))) ++ old) fails)
-
--- Where none is left all are looked at.
-pub all_kept : (f : ℕ → Event) (p : ℕ → Bool) (m n : ℕ) (out old : List Event) → m ≡ 0 → out ≡ map f (filter p (range_with_len (m + 1) (n - m))) ++ old
-    → out ≡ map f (filter p (range_with_len 1 n)) ++ old
-all_kept f p m n out old none is = is ∙ ap₂ (λ a k. map f (filter p (range_with_len a k)) ++ old) first whole
-  where
-    first : m + 1 ≡ 1
-    first = omega (arith, none)
-    whole : n - m ≡ n
-    whole = omega (arith, none)
-
--- At first none is.
-pub none_kept : (f : ℕ → Event) (p : ℕ → Bool) (n : ℕ) (old : List Event) → old ≡ map f (filter p (range_with_len (n + 1) (n - n))) ++ old
-none_kept f p n old = let none : n - n ≡ 0 = omega arith in sym (ap (λ k. map f (filter p (range_with_len (n + 1) k)) ++ old) none)
 
 -- ---- calls of ended daemons
 
@@ -56,11 +23,6 @@ drop_at (y ∷ ys) (suc i) x h = drop_at ys i x h
 -- The least of the machines from this one on.
 abbrev pub least_from : List MachineState → ℕ → Option (ℕ × ℕ)
 least_from ms m = first_of_list (filter_map ended_in (enumerate_from (m + 1) (drop m ms)))
-
--- The call of a machine, with it, or what was found behind.
-abbrev first_with : ℕ → Option ℕ → Option (ℕ × ℕ) → Option (ℕ × ℕ)
-first_with m None rest = rest
-first_with m (Some c) rest = Some (m, c)
 
 least_back : (ms : List MachineState) (m : ℕ) (s : MachineState) → slice_get ms (m - 1) ≡ Some s → 1 ≤ m
     → least_from ms (m - 1) ≡ first_with m (least (map (λ f. f.number) (filter (λ f. not f.own) s.flights))) (least_from ms m)
@@ -78,3 +40,48 @@ least_back ms m s at low =
     ]) ≡ first_with m o (least_from ms m)
     by None = refl
     by (Some c) = refl
+
+in_place : (k : KeptState) (m : ℕ) (s : MachineState) → 1 ≤ m → slice_get k.machines (m - 1) ≡ Some s → machine_in k m ≡ Some s
+in_place k m s low at = ap (λ b. cond b None (slice_get k.machines (m - 1))) (ne_eqb m 0 (λ none. omega (arith, low, none))) ∙ at
+
+-- One machine more is looked at.
+pub least_step : (k : KeptState) (m : ℕ) (found : Option ℕ) (behind now : Option (ℕ × ℕ)) → 1 ≤ m → m ≤ length k.machines
+    → found ≡ option_and_then (λ s. least (map (λ f. f.number) (filter (λ f. not f.own) s.flights))) (machine_in k m) → behind ≡ least_from k.machines m → now ≡ first_with m found behind
+    → now ≡ least_from k.machines (m - 1)
+least_step k m found behind now low high is rest made =
+    let within : m - 1 < length k.machines = omega (arith, low, high) in
+    let x = there_is k.machines (m - 1) within in
+    made
+    ∙ ap₂ (first_with m) (is ∙ ap (option_and_then (λ (s : MachineState). least (map (λ f. f.number) (filter (λ f. not f.own) s.flights)))) (in_place k m x.0 low x.1)) rest
+    ∙ sym (least_back k.machines m x.0 x.1 low)
+
+-- ---- the tests of a kind
+
+-- Time, or a daemon's life.
+pub of_time : (k : KeptState) (hosts a b c number : ℕ) → nat_lt (b % 16) 2 ≡ true → time_candidates k hosts ≡ candidates_in k hosts a b c number
+unfolding candidates_in
+of_time k hosts a b c number time = rw time refl
+
+pub of_life : (k : KeptState) (hosts a b c number : ℕ) → nat_lt (b % 16) 2 ≡ false → nat_lt (b % 16) 4 ≡ true → life_candidates (1 + a % hosts) number ≡ candidates_in k hosts a b c number
+unfolding candidates_in
+of_life k hosts a b c number no_time life = rw (no_time, life) refl
+
+pub of_test : (k : KeptState) (hosts a b c number : ℕ) → nat_lt (b % 16) 2 ≡ false → nat_lt (b % 16) 4 ≡ false → (b % 16 == 4) ≡ true → Test (1 + a % hosts) ∷ [] ≡ candidates_in k hosts a b c number
+unfolding candidates_in
+of_test k hosts a b c number no_time no_life test = rw (no_time, no_life, test) refl
+
+-- A call that is done, or one that fails.
+calls_done : (m : ℕ) (f : Option ℕ) → call_candidates m f true ≡ with_call f (λ n. Do m n) ++ with_call f (λ n. DropWrite m n)
+calls_done m None = refl
+calls_done m (Some n) = refl
+
+calls_fail : (m : ℕ) (f : Option ℕ) → call_candidates m f false ≡ with_call f (λ n. AnswerCall m n false) ++ with_call f (λ n. DropWrite m n)
+calls_fail m None = refl
+calls_fail m (Some n) = refl
+
+pub of_call : (k : KeptState) (hosts a b c number : ℕ) → nat_lt (b % 16) 2 ≡ false → nat_lt (b % 16) 4 ≡ false → (b % 16 == 4) ≡ false → (ok : Bool) → nat_lt (b % 16) 11 ≡ ok
+    → (ok ≡ false → (b % 16 == 11) ≡ true) → call_candidates (1 + a % hosts) (least_call_in k (1 + a % hosts)) ok ≡ candidates_in k hosts a b c number
+unfolding candidates_in
+of_call k hosts a b c number no_time no_life no_test true done last = rw (no_time, no_life, no_test, done) (calls_done (1 + a % hosts) (least_call_in k (1 + a % hosts)))
+of_call k hosts a b c number no_time no_life no_test false fails last =
+    let eleven = last refl in rw (no_time, no_life, no_test, fails, eleven) (calls_fail (1 + a % hosts) (least_call_in k (1 + a % hosts)))

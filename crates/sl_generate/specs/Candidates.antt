@@ -9,7 +9,7 @@ use Rattle.sl_text.specs.Forms.{Form, coloned, spaced}
 use Rattle.sl_trace.specs.declared.command.Command.{Command}
 use Rattle.sl_world_law.specs.Drawing.{is_useful_in, least_ended_in, starves_in}
 use Rattle.std.specs.List.{range_with_len}
-use Rattle.std.specs.Prelude.{Bool, List, None, Option, codes, decimal, false, filter, find, if◌then◌else◌, is_none, map, option_map, option_to_list, unwrap_or, [], ℕ, ◌%◌, ◌++◌, ◌+◌, ◌==◌, ◌∷◌}
+use Rattle.std.specs.Prelude.{Bool, List, None, Option, Some, codes, decimal, false, filter, find, if◌then◌else◌, is_none, map, option_map, option_to_list, unwrap_or, [], ℕ, ◌%◌, ◌++◌, ◌+◌, ◌==◌, ◌∷◌}
 
 -- Tests that would hold and move a keepalive.
 abbrev pub useful_tests : KeptState → ℕ → List Event
@@ -18,6 +18,11 @@ useful_tests k hosts = map (λ t. Test t) (filter (is_useful_in k) (range_with_l
 -- Resets of machines whose last keepalive is soon too old.
 abbrev pub due_resets : KeptState → ℕ → List Event
 due_resets k hosts = map (λ t. Reset t) (filter (starves_in k) (range_with_len 1 hosts))
+
+-- The call of a machine, with it, or what was found behind.
+abbrev pub first_with : ℕ → Option ℕ → Option (ℕ × ℕ) → Option (ℕ × ℕ)
+first_with m None rest = rest
+first_with m (Some c) rest = Some (m, c)
 
 -- The drop of a write of an ended daemon, where there is one.
 abbrev pub due_drops : Option (ℕ × ℕ) → List Event

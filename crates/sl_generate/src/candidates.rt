@@ -2,7 +2,7 @@
 //!
 //! A list of candidates is made from its end, so each comes to stand in front of those before which it is to be tried.
 
-ghost use Rattle.sl_generate.specs.Candidates.{call_candidates, due_resets, life_candidates, rare_event, time_candidates, useful_tests, work_event};
+ghost use Rattle.sl_generate.specs.Candidates.{call_candidates, due_resets, first_with, life_candidates, rare_event, time_candidates, useful_tests, work_event};
 ghost use Rattle.sl_play.specs.Playing.{state_of};
 ghost use Rattle.sl_report.specs.Generator.{gen_host_name};
 ghost use Rattle.sl_world_law.specs.Drawing.{candidates_in, least_ended_in};
@@ -57,6 +57,16 @@ fn add_tests<D: Daemon, L: LockTable>(
     Ok(())
 }
 
+/// The call of a machine, with it, if there is one; else what was found behind.
+fn least_with(machine: u32, call: Option<u64>, behind: Option<(u32, u64)>) -> Option<(u32, u64)>
+    ensures { result ≡ first_with machine call behind }
+{
+    match call {
+        Some(call) => Some((machine, call)),
+        None => behind,
+    }
+}
+
 /// The least machine with a call in flight of an ended daemon, and the least such call.
 fn least_ended<D: Daemon, L: LockTable>(play: &Play<D, L>, hosts: u32) -> Option<(u32, u64)>
     requires { length (state_of L.locks play.now).kept.machines ≡ hosts }
@@ -65,9 +75,7 @@ fn least_ended<D: Daemon, L: LockTable>(play: &Play<D, L>, hosts: u32) -> Option
     let mut least = None;
     let mut machine = hosts;
     while machine > 0 {
-        if let Some(call) = play.world().least_ended_on(machine) {
-            least = Some((machine, call));
-        }
+        least = least_with(machine, play.world().least_ended_on(machine), least);
         machine -= 1;
     }
     least

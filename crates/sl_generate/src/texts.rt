@@ -10,20 +10,28 @@ use std::alloc::{AllocError, Global};
 /// Bytes of an area: a mebibyte.
 const AREA: u64 = 1_048_576;
 
+/// Where the lockspace begins.
+const BASE: u64 = 0;
+
 /// The text of a command about resource `k` in a mode, for a process.
 fn command_text(
     alloc: Global,
-    verb: &str,
+    verb: &[u8],
     k: u64,
-    mode: &str,
+    mode: &[u8],
     process: u64,
 ) -> Result<Bytes, AllocError>
     requires { k < 2 ^ 32 }
     ensures { IfOk result (λ text. text ≡ verb.now ++ codes " -r ls:r" ++ decimal k ++ codes ":/d:" ++ decimal (k * 1048576) ++ mode.now ++ codes " -p " ++ decimal process) }
 {
     let offset = k * AREA;
-    let text = format!(in alloc; "{verb} -r ls:r{k}:/d:{offset}{mode} -p {process}")?;
-    Bytes::from_slice(alloc, text.as_bytes())
+    let front = format!(in alloc; " -r ls:r{k}:/d:{offset}")?;
+    let back = format!(in alloc; " -p {process}")?;
+    let mut text = Vec::from_slice(alloc, verb)?;
+    text.extend_from_slice(front.as_bytes())?;
+    text.extend_from_slice(mode)?;
+    text.extend_from_slice(back.as_bytes())?;
+    Ok(Bytes::new(text))
 }
 
 /// The acquire of resource `k` by a process, shared or exclusive. An `Err` is want of memory.
@@ -36,8 +44,11 @@ pub(crate) fn acquire_text(
     requires { k < 2 ^ 32 }
     ensures { IfOk result (λ text. text ≡ spaced (codes "acquire" ∷ codes "-r" ∷ gen_resource_word k shared ∷ codes "-p" ∷ decimal process ∷ [])) }
 {
-    let mode = if shared { ":SH" } else { "" };
-    command_text(alloc, "acquire", k, mode, process)
+    if shared {
+        command_text(alloc, b"acquire", k, b":SH", process)
+    } else {
+        command_text(alloc, b"acquire", k, b"", process)
+    }
 }
 
 /// The release of resource `k` by a process. An `Err` is want of memory.
@@ -45,13 +56,13 @@ pub(crate) fn release_text(alloc: Global, k: u64, process: u64) -> Result<Bytes,
     requires { k < 2 ^ 32 }
     ensures { IfOk result (λ text. text ≡ spaced (codes "release" ∷ codes "-r" ∷ gen_resource_word k false ∷ codes "-p" ∷ decimal process ∷ [])) }
 {
-    command_text(alloc, "release", k, "", process)
+    command_text(alloc, b"release", k, b"", process)
 }
 
 /// The joining of a machine under its own number. An `Err` is want of memory.
 pub(crate) fn join_text(alloc: Global, machine: u32) -> Result<Bytes, AllocError>
     ensures { IfOk result (λ text. text ≡ spaced (codes "add_lockspace" ∷ codes "-s" ∷ coloned (codes "ls" ∷ decimal machine ∷ gen_path ∷ decimal 0 ∷ []) ∷ [])) }
 {
-    let text = format!(in alloc; "add_lockspace -s ls:{machine}:/d:0")?;
+    let text = format!(in alloc; "add_lockspace -s ls:{machine}:/d:{BASE}")?;
     Bytes::from_slice(alloc, text.as_bytes())
 }
