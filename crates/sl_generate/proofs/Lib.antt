@@ -2,4 +2,5 @@ pub mod CandidateLaws
 pub mod DrawLaws
 pub mod Drawing
 pub mod HeadersRead
+pub mod NameLaws
 pub mod Plain
