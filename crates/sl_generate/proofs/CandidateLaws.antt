@@ -34,7 +34,7 @@ least_back ms m s at low =
     here = omega (arith, low)
     next : suc (m - 1) ≡ m
     next = omega (arith, low)
-    by : (o : Option ℕ) → first_of_list (elim (option_map (λ c. (m, c)) o) as (λ z. List (ℕ × ℕ)) [
+    by : (o : Option ℕ) → first_of_list (elim (option_map {T = ℕ} {U = ℕ × ℕ} (λ c. (m, c)) o) as (λ z. List (ℕ × ℕ)) [
       | None ↦ filter_map ended_in (enumerate_from (m + 1) (drop m ms))
       | Some q ↦ q ∷ filter_map ended_in (enumerate_from (m + 1) (drop m ms))
     ]) ≡ first_with m o (least_from ms m)

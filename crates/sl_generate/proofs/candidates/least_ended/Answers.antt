@@ -15,8 +15,8 @@ loop-machine-preserved g c =
       found =
           let h = c.loop-machine.invariant.within in
           let r = c.requires in
-          least_step (state_of g.L.LockTable.locks c.args.play.now).kept c.loop-machine.machine c.least_ended_on.result c.loop-machine.least c.least_with.result
+          least_step (state_of g.L.LockTable.locks c.args.play.now).kept c.loop-machine.machine c.least_ended_on.result c.loop-machine.least c.least_with-least.result
           (let t = c.loop-machine-test.true in omega (arith, t)) (omega (arith, h, r))
           (c.least_ended_on.ensures ∙ ap (λ x. option_and_then (λ s. least (map (λ f. f.number) (filter (λ f. not f.own) s.flights))) (machine_in (kept_state g.L.LockTable.locks x.kept) c.loop-machine.machine)) c.world.ensures)
-          c.loop-machine.invariant.found c.least_with.ensures;
+          c.loop-machine.invariant.found c.least_with-least.ensures;
     }
