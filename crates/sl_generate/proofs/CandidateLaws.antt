@@ -1,5 +1,5 @@
 -- Candidates, one kind of event after another.
-use Rattle.sl_generate.specs.Candidates.{call_candidates, call_event, first_with, life_candidates, rare_event, time_candidates, work_event}
+use Rattle.sl_generate.specs.Candidates.{call_candidates, first_with, life_candidates, time_candidates, work_event}
 use Rattle.sl_kept.specs.Kept.{KeptState, MachineState, machine_in}
 use Rattle.sl_report.specs.Generator.{with_call}
 use Rattle.sl_run.specs.declared.event.Event.TheVariants.{AnswerCall, Do, DropWrite, Test}
@@ -8,10 +8,10 @@ use Rattle.sl_plain.proofs.Lists.{there_is}
 use Rattle.sl_words.proofs.CaseLaws.{none_some, some_value}
 use Rattle.sl_words.specs.Words.{first_of_list, least}
 use Rattle.sl_world_law.specs.Drawing.{candidates_in, ended_in, least_call_in}
-use Rattle.std.proofs.Common.{Bool, List, None, Option, Some, [], ap, ap₂, arith, cond, drop, false, map, refl, subst, suc, sym, true, zero, ℕ, length, ◌%◌, ◌++◌, ◌+◌, ◌-◌, ◌<◌, ◌==◌, ◌≤◌, ◌∙◌, ◌∷◌, ◌≡◌}
+use Rattle.std.proofs.Common.{Bool, List, None, Option, Some, [], ap, ap₂, arith, cond, drop, false, map, refl, suc, sym, true, zero, ℕ, length, ◌%◌, ◌++◌, ◌+◌, ◌-◌, ◌<◌, ◌==◌, ◌≤◌, ◌∙◌, ◌∷◌, ◌≡◌}
 use Rattle.std.proofs.lemmas.Bool.{ne_eqb}
-use Rattle.std.specs.List.{enumerate_from}
-use Rattle.std.specs.Prelude.{filter, filter_map, nat_lt, not, option_and_then, option_map, slice_get}
+use Rattle.std.specs.List.{cons_option, enumerate_from}
+use Rattle.std.specs.Prelude.{if◌then◌else◌, filter, filter_map, nat_lt, not, option_and_then, option_map, slice_get}
 
 -- ---- calls of ended daemons
 
@@ -28,18 +28,17 @@ least_back : (ms : List MachineState) (m : ℕ) (s : MachineState) → slice_get
     → least_from ms (m - 1) ≡ first_with m (least (map (λ f. f.number) (filter (λ f. not f.own) s.flights))) (least_from ms m)
 least_back ms m s at low =
     ap₂ (λ a xs. first_of_list (filter_map ended_in (enumerate_from a xs))) here (drop_at ms (m - 1) s at ∙ ap (λ i. s ∷ drop i ms) next)
-    ∙ by (least (map (λ f. f.number) (filter (λ f. not f.own) s.flights)))
+    ∙ by (least (map (λ f. f.number) (filter (λ f. not f.own) s.flights))) (filter_map ended_in (enumerate_from (m + 1) (drop m ms)))
   where
     here : (m - 1) + 1 ≡ m
     here = omega (arith, low)
+
     next : suc (m - 1) ≡ m
     next = omega (arith, low)
-    by : (o : Option ℕ) → first_of_list (elim (option_map {T = ℕ} {U = ℕ × ℕ} (λ c. (m, c)) o) as (λ z. List (ℕ × ℕ)) [
-      | None ↦ filter_map ended_in (enumerate_from (m + 1) (drop m ms))
-      | Some q ↦ q ∷ filter_map ended_in (enumerate_from (m + 1) (drop m ms))
-    ]) ≡ first_with m o (least_from ms m)
-    by None = refl
-    by (Some c) = refl
+
+    by : (o : Option ℕ) (rest : List (ℕ × ℕ)) → first_of_list (cons_option (option_map {T = ℕ} {U = ℕ × ℕ} (λ c. (m, c)) o) rest) ≡ first_with m o (first_of_list rest)
+    by None rest = refl
+    by (Some c) rest = refl
 
 in_place : (k : KeptState) (m : ℕ) (s : MachineState) → 1 ≤ m → slice_get k.machines (m - 1) ≡ Some s → machine_in k m ≡ Some s
 in_place k m s low at = ap (λ b. cond b None (slice_get k.machines (m - 1))) (ne_eqb m 0 (λ none. omega (arith, low, none))) ∙ at
@@ -85,3 +84,21 @@ unfolding candidates_in
 of_call k hosts a b c number no_time no_life no_test true done last = rw (no_time, no_life, no_test, done) (calls_done (1 + a % hosts) (least_call_in k (1 + a % hosts)))
 of_call k hosts a b c number no_time no_life no_test false fails last =
     let eleven = last refl in rw (no_time, no_life, no_test, fails, eleven) (calls_fail (1 + a % hosts) (least_call_in k (1 + a % hosts)))
+
+-- One event, alone, by its tests.
+alone : (t u v x y z : Bool) (a b c d e f g : Event)
+    → (if t then a else (if u then b else (if v then c else (if x then d else (if y then e else (if z then f else g)))))) ∷ []
+    ≡ (if t then a ∷ [] else (if u then b ∷ [] else (if v then c ∷ [] else (if x then d ∷ [] else (if y then e ∷ [] else (if z then f ∷ [] else g ∷ []))))))
+alone true u v x y z a b c d e f g = refl
+alone false true v x y z a b c d e f g = refl
+alone false false true x y z a b c d e f g = refl
+alone false false false true y z a b c d e f g = refl
+alone false false false false true z a b c d e f g = refl
+alone false false false false false true a b c d e f g = refl
+alone false false false false false false a b c d e f g = refl
+
+pub of_work : (k : KeptState) (hosts a b c number : ℕ) → nat_lt (b % 16) 2 ≡ false → nat_lt (b % 16) 4 ≡ false → (b % 16 == 4) ≡ false → nat_lt (b % 16) 11 ≡ false → (b % 16 == 11) ≡ false
+    → work_event (1 + a % hosts) (b % 16) c ∷ [] ≡ candidates_in k hosts a b c number
+unfolding candidates_in
+of_work k hosts a b c number no_time no_life no_test no_done no_fail =
+    rw (no_time, no_life, no_test, no_done, no_fail) (alone (b % 16 == 12) (b % 16 == 13) (b % 16 == 14) (c % 32 == 0) (c % 32 == 1) (c % 32 == 2) _ _ _ _ _ _ _)

@@ -2,14 +2,13 @@
 use Rattle.sl_daemon.specs.Daemons.{program_of}
 use Rattle.sl_generate.specs.Candidates.{first_allowed}
 use Rattle.sl_generate.specs.Drawn.{IsDrawn, state_behind}
-use Rattle.sl_generate.specs.Generating.{DrawsAll, DrawsIn, Generates, HasDrawn, HasTaken, HaveDrawn, All, IsDrawing, MadeOf, Part, TakesDrawn}
-use Rattle.sl_kept.specs.Refusing.{refusal_in}
+use Rattle.sl_generate.specs.Generating.{DrawsAll, DrawsIn, HasTaken, HaveDrawn, IsDrawing, MadeOf, TakesDrawn}
 use Rattle.sl_kept.specs.Sane.{WorldStands}
 use Rattle.sl_play.specs.Owing.{EachStood}
 use Rattle.sl_play.specs.Playing.{Begins, HasHappened, IsBarred, PlayState, StaysAs}
 use Rattle.sl_report.specs.Generator.{IsGenerated, candidates, draw_of, gen_event, gen_header, gen_line, next_state}
 use Rattle.sl_report.specs.Reports.{Counts, count_event, end_line, no_counts, run_counts}
-use Rattle.sl_run.specs.Events.{happens, may_happen, refusal_of}
+use Rattle.sl_run.specs.Events.{happens, may_happen}
 use Rattle.sl_run.specs.Runs.{AfterEachFront, Happening, world_after}
 use Rattle.sl_run.specs.Worlds.{World, world_with}
 use Rattle.sl_run.specs.declared.event.Event.TheVariants.{Pass}
@@ -27,8 +26,8 @@ use Rattle.sl_plain.proofs.Lists.{head_is, tail_is}
 use Rattle.sl_words.proofs.CaseLaws.{false_is_true}
 use Rattle.sl_world_law.proofs.Drawn.{draws_are_kept}
 use Rattle.sl_world_law.proofs.FirstStanding.{each_stood}
-use Rattle.sl_world_law.specs.Drawing.{candidates_in, gen_event_in}
-use Rattle.std.proofs.Common.{Bool, List, None, Option, Some, [], ap, arith, cond, length, refl, subst, suc, sym, true, ℕ, ◌++◌, ◌+◌, ◌-◌, ◌<◌, ◌≤◌, ◌∙◌, ◌∷◌, ◌≡◌}
+use Rattle.sl_world_law.specs.Drawing.{candidates_in}
+use Rattle.std.proofs.Common.{Bool, List, None, Some, [], ap, arith, cond, length, refl, subst, suc, sym, true, ℕ, ◌++◌, ◌+◌, ◌-◌, ◌<◌, ◌≤◌, ◌∙◌, ◌∷◌, ◌≡◌}
 use Rattle.std.specs.Prelude.{false, find, is_none, unwrap_or}
 
 -- ---- the event that is drawn

@@ -7,7 +7,7 @@ use Rattle.sl_report.specs.Schedules.{Header_read, numbered_lines, read_header}
 use Rattle.sl_run.specs.Worlds.{Program}
 use Rattle.sl_text.specs.Forms.{as_bytes}
 use Rattle.std.specs.Fmt.{digits}
-use Rattle.std.proofs.Common.{[], arith, refl, suc, zero, ℕ, ◌+◌, ◌≡◌, ◌≤◌}
+use Rattle.std.proofs.Common.{[], arith, refl, suc, zero, ℕ, ◌≡◌, ◌≤◌}
 
 abbrev IsRead : Program → ℕ → Type 0
 IsRead p hosts = read_header (language_of p) [] 1 (numbered_lines (as_bytes (header_lines hosts))) ≡ Header_read (gen_header hosts) []

@@ -1,5 +1,4 @@
 -- A drawn run in which each daemon does what is due is the one that the plain program computes.
-use Rattle.sl_generate.specs.Generating.{GeneratedOf}
 use Rattle.sl_generate.specs.Plain.{GeneratedIsPlain}
 use Rattle.sl_report.specs.Generator.{IsGenerated, draw_of, gen_event, gen_header, gen_line, gen_run, next_state}
 use Rattle.sl_report.specs.Replay.{effects_of}
@@ -12,7 +11,7 @@ use Rattle.sl_run_report.proofs.Stepping.{does_from}
 use Rattle.sl_run_report.specs.Followed.{DoesWhatIsDue}
 use Rattle.sl_text.specs.Forms.{as_bytes}
 use Rattle.sl_trace.specs.declared.effects.Effects.{Effects}
-use Rattle.std.proofs.Common.{ap, arith, refl, subst, sym, ◌∙◌}
+use Rattle.std.proofs.Common.{ap, arith, refl, sym, ◌∙◌}
 use Rattle.std.specs.Prelude.{List, [], length, suc, zero, ℕ, ◌+◌, ◌∷◌, ◌≡◌}
 
 one_less : (m n : ℕ) → suc m ≡ suc n → m ≡ n

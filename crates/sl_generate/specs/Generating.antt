@@ -8,7 +8,7 @@ use Rattle.sl_play.specs.Owing.{EachStood}
 use Rattle.sl_play.specs.Playing.{PlayState}
 use Rattle.sl_report.specs.Generator.{IsGenerated, gen_event, gen_header, gen_line}
 use Rattle.sl_report.specs.Headline.{IsFrontOf, Promise}
-use Rattle.sl_report.specs.Reports.{Counts, count_event, end_line, no_counts, run_counts}
+use Rattle.sl_report.specs.Reports.{count_event, end_line, no_counts, run_counts}
 use Rattle.sl_run.specs.Events.{happens, may_happen}
 use Rattle.sl_run.specs.Headers.{IsHeader}
 use Rattle.sl_run.specs.Runs.{Happening, HasSteps}

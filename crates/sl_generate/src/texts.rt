@@ -2,7 +2,7 @@
 
 ghost use Rattle.sl_report.specs.Generator.{gen_path, gen_resource_word};
 ghost use Rattle.sl_text.specs.Forms.{coloned, spaced};
-ghost use Rattle.std.specs.Prelude.{IfOk, codes, decimal, false, [], ◌*◌, ◌++◌, ◌∷◌, ◌<◌, ◌^◌, ◌≡◌};
+ghost use Rattle.std.specs.Prelude.{IfOk, OnOk, codes, decimal, false, [], ◌*◌, ◌++◌, ◌∷◌, ◌<◌, ◌^◌, ◌≡◌};
 
 use sl_text::Bytes;
 use std::alloc::{AllocError, Global};
@@ -12,6 +12,13 @@ const AREA: u64 = 1_048_576;
 
 /// Where the lockspace begins.
 const BASE: u64 = 0;
+
+/// Adds a text.
+fn push_text(out: &mut Vec<u8>, text: &[u8]) -> Result<(), AllocError>
+    ensures { OnOk result (out.new.items ≡ out.old.items ++ text.now) }
+{
+    out.extend_from_slice(text)
+}
 
 /// The text of a command about resource `k` in a mode, for a process.
 fn command_text(
@@ -27,10 +34,11 @@ fn command_text(
     let offset = k * AREA;
     let front = format!(in alloc; " -r ls:r{k}:/d:{offset}")?;
     let back = format!(in alloc; " -p {process}")?;
-    let mut text = Vec::from_slice(alloc, verb)?;
-    text.extend_from_slice(front.as_bytes())?;
-    text.extend_from_slice(mode)?;
-    text.extend_from_slice(back.as_bytes())?;
+    let mut text = Vec::new(alloc);
+    push_text(&mut text, verb)?;
+    push_text(&mut text, front.as_bytes())?;
+    push_text(&mut text, mode)?;
+    push_text(&mut text, back.as_bytes())?;
     Ok(Bytes::new(text))
 }
 

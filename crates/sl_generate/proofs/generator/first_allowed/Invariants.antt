@@ -2,7 +2,7 @@
 use Rattle.sl_generate.proofs.generator.first_allowed.Given as goal
 use Rattle.sl_generate.specs.Candidates.{first_allowed}
 use Rattle.sl_play.specs.Playing.{StaysAs, state_of}
-use Rattle.std.proofs.Common.{length, ℕ, ◌≡◌}
+use Rattle.std.proofs.Common.{length, ◌≡◌}
 
 abbrev pub invariant-loop-event : goal.invariant-loop-event
 invariant-loop-event g l = record {

@@ -2,7 +2,7 @@
 use Rattle.sl_generate.proofs.generator.take_events.Given as goal
 use Rattle.sl_generate.specs.Generating.{HaveDrawn}
 use Rattle.sl_play.specs.Playing.{state_of}
-use Rattle.std.proofs.Common.{ℕ, ◌-◌, ◌≤◌}
+use Rattle.std.proofs.Common.{◌-◌, ◌≤◌}
 
 abbrev pub invariant-loop-number : goal.invariant-loop-number
 invariant-loop-number g l = record {

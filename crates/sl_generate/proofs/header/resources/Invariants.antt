@@ -1,7 +1,7 @@
 -- The lines of so many resources stand.
 use Rattle.sl_generate.proofs.header.resources.Given as goal
 use Rattle.sl_report.specs.Generator.{gen_resource}
-use Rattle.std.proofs.Common.{map, ℕ, ◌-◌, ◌≡◌, ◌≤◌}
+use Rattle.std.proofs.Common.{map, ◌-◌, ◌≡◌, ◌≤◌}
 use Rattle.std.specs.List.{range_with_len}
 
 abbrev pub invariant-loop-number : goal.invariant-loop-number

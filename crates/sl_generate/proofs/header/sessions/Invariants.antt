@@ -1,7 +1,7 @@
 -- The lines of so many machines stand.
 use Rattle.sl_generate.proofs.header.sessions.Given as goal
 use Rattle.sl_generate.specs.HeaderLines.{gen_session}
-use Rattle.std.proofs.Common.{map, ℕ, ◌-◌, ◌≡◌, ◌≤◌}
+use Rattle.std.proofs.Common.{map, ◌-◌, ◌≡◌, ◌≤◌}
 use Rattle.std.specs.List.{range_with_len}
 
 abbrev pub invariant-loop-machine : goal.invariant-loop-machine
