@@ -64,3 +64,10 @@ pub no_second : {A B : Type 0} (a b : Bool) (x : A) (y : B) → choose b x ≡ N
 no_second true true x y h = absurd cc
 no_second true false x y h = refl
 no_second false b x y h = refl
+
+-- Of three tests the third fails.
+pub no_third : {A B : Type 0} (a b c : Bool) (x : A) (y : B) → choose c x ≡ None → choose (a && (b && c)) y ≡ None
+no_third true true true x y h = absurd cc
+no_third true true false x y h = refl
+no_third true false c x y h = refl
+no_third false b c x y h = refl

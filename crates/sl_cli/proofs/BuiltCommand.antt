@@ -85,11 +85,18 @@ direct = built_shape (codes "direct") rules
 abbrev pub replay : Shape
 replay = built_shape (codes "replay") []
 
+-- The words of `gen`: each by its place.
+abbrev pub gen_rules : List Rule
+gen_rules = rule_with (codes "seed") None (Some 1) ∷ rule_with (codes "hosts") None (Some 2) ∷ rule_with (codes "events") None (Some 3) ∷ []
+
+abbrev pub generate : Shape
+generate = built_shape (codes "gen") gen_rules
+
 -- The program, built.
 abbrev pub program : App
 program = record {
   top = record (built_shape (codes "sanlock") []) { is_leaf = false; subcommand_required = true };
-  subs = replay ∷ direct ∷ [];
+  subs = replay ∷ generate ∷ direct ∷ [];
 }
 
 pub program_is : built command_line ≡ program

@@ -7,8 +7,9 @@ use Rattle.clap.specs.Kinds.{Kinds}
 use Rattle.clap.specs.Simple.{App, entered, names_of, subcommand_of}
 use Rattle.clap.specs.Walk.{Names, Row, Text, Walk, idle, nothing_held, rows_after, stop_after, subcommand_met, walk, walk_from}
 use Rattle.sl_cli.proofs.BareCommands.{bare_walk, dashes_walk, level, or_nothing}
-use Rattle.sl_cli.proofs.BuiltCommand.{direct, no_faults, program, program_is, replay, rules}
+use Rattle.sl_cli.proofs.BuiltCommand.{direct, gen_rules, generate, no_faults, program, program_is, replay, rules}
 use Rattle.sl_cli.proofs.DirectLaws.{Read, direct_level, direct_read, direct_rows, given_rows}
+use Rattle.sl_cli.proofs.GenLaws.{gen_read}
 use Rattle.sl_cli.proofs.Steps.{AreTexts}
 use Rattle.sl_cli.proofs.Turns.{Fails, fails_with, first_fails}
 use Rattle.sl_cli.specs.Actions.{action_in}
@@ -56,6 +57,20 @@ replay_named ws = ap (λ (w : Walk). entered program w.stopped) (replay_walk ws)
 
 replay_fault : (ws : List Text) → fault (codes "replay" ∷ ws) ≡ level replay ws
 replay_fault ws = rw (replay_passes ws, replay_walk ws) (rw (no_faults [] [] refl) (or_nothing (level replay ws)))
+
+gen_walk : (ws : List Text) → walk [] names nothing_held (codes "gen" ∷ ws) ≡ record (walk_from nothing_held) { stopped = Some (codes "gen", ws) }
+unfolding clap_on_literals
+gen_walk ws = sym (walk_stopped [] names (walk_from nothing_held) (codes "gen") [] ws)
+
+gen_passes : (ws : List Text) → walk_fault program.top names (walk_from nothing_held) (codes "gen" ∷ ws) ≡ []
+unfolding clap_on_literals
+gen_passes ws = stopped_fault program.top names (walk_from nothing_held) (codes "gen", []) ws
+
+gen_named : (ws : List Text) → named (codes "gen" ∷ ws) ≡ Some (codes "gen", rows_after gen_rules [] ws)
+gen_named ws = ap (λ (w : Walk). entered program w.stopped) (gen_walk ws)
+
+gen_fault : (ws : List Text) → fault (codes "gen" ∷ ws) ≡ level generate ws
+gen_fault ws = rw (gen_passes ws, gen_walk ws) (rw (no_faults [] [] refl) (or_nothing (level generate ws)))
 
 direct_walk : (ws : List Text) → walk [] names nothing_held (codes "direct" ∷ ws) ≡ record (walk_from nothing_held) { stopped = Some (codes "direct", ws) }
 unfolding clap_on_literals
@@ -120,6 +135,14 @@ direct_by ws (Some us) e h = inl (
 direct_agrees : (ws : List Text) → AreTexts ws → Agrees (codes "direct" ∷ ws)
 direct_agrees ws texts = direct_by ws (uses_from nothing_taken ws) refl (direct_read ws texts)
 
+-- ---- `gen`
+
+gen_agrees : (ws : List Text) → AreTexts ws → Agrees (codes "gen" ∷ ws)
+gen_agrees ws texts = elim (gen_read ws texts) [
+  | inl both ↦ inl (gen_fault ws ∙ both.0, ap (λ o. option_and_then said_by (met_in o)) (gen_named ws) ∙ both.1)
+  | inr neither ↦ inr (λ none. neither.0 (sym (gen_fault ws) ∙ none), neither.1)
+]
+
 -- ---- any other word
 
 -- No word fails, for a command is wanted.
@@ -138,8 +161,9 @@ other_fails w (v ∷ ws) true none e =
     subst (λ w. Fails (fault (w ∷ v ∷ ws))) (sym ((bytes_eq-Decides w (codes "--")).0 e))
     (first_fails (walk_fault program.top names (walk_from nothing_held) (codes "--" ∷ v ∷ ws)) _ (dashes_walk program.top names v ws refl))
 
-other_agrees : (w : Text) (ws : List Text) → bytes_eq (codes "replay") w ≡ false → bytes_eq (codes "direct") w ≡ false → Agrees (w ∷ ws)
-other_agrees w ws no_replay no_direct = inr (other_fails w ws (bytes_eq w (codes "--")) (rw (no_replay, no_direct) refl) refl, rw (no_replay, no_direct) refl)
+other_agrees : (w : Text) (ws : List Text) → bytes_eq (codes "replay") w ≡ false → bytes_eq (codes "gen") w ≡ false → bytes_eq (codes "direct") w ≡ false → Agrees (w ∷ ws)
+other_agrees w ws no_replay no_gen no_direct =
+    inr (other_fails w ws (bytes_eq w (codes "--")) (rw (no_replay, no_gen, no_direct) refl) refl, rw (no_replay, no_gen, no_direct) refl)
 
 -- ---- all words
 
@@ -147,9 +171,12 @@ agrees : (ws : List Text) → AreTexts ws → Agrees ws
 agrees [] texts = inr (none_fails, refl)
 agrees (w ∷ ws) texts = elim (cases_Bool (bytes_eq (codes "replay") w)) [
   | inl e ↦ subst (λ w. Agrees (w ∷ ws)) ((bytes_eq-Decides (codes "replay") w).0 e) (replay_agrees ws)
-  | inr no_replay ↦ elim (cases_Bool (bytes_eq (codes "direct") w)) [
-    | inl e ↦ subst (λ w. Agrees (w ∷ ws)) ((bytes_eq-Decides (codes "direct") w).0 e) (direct_agrees ws texts.1)
-    | inr no_direct ↦ other_agrees w ws no_replay no_direct
+  | inr no_replay ↦ elim (cases_Bool (bytes_eq (codes "gen") w)) [
+    | inl e ↦ subst (λ w. Agrees (w ∷ ws)) ((bytes_eq-Decides (codes "gen") w).0 e) (gen_agrees ws texts.1)
+    | inr no_gen ↦ elim (cases_Bool (bytes_eq (codes "direct") w)) [
+      | inl e ↦ subst (λ w. Agrees (w ∷ ws)) ((bytes_eq-Decides (codes "direct") w).0 e) (direct_agrees ws texts.1)
+      | inr no_direct ↦ other_agrees w ws no_replay no_gen no_direct
+    ]
   ]
 ]
 

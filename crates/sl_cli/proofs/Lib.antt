@@ -5,6 +5,7 @@ pub mod BareCommands
 pub mod BuiltCommand
 pub mod CommandLaws
 pub mod DirectLaws
+pub mod GenLaws
 pub mod Letters
 pub mod OptionSteps
 pub mod SpellingLaws

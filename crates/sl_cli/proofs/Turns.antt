@@ -201,13 +201,13 @@ char_cut : (c : ℕ) (cs : Text) → c < 128 → drop (length (encode_utf8 c)) (
 char_cut c cs small = ap (λ (bs : Text). drop (length bs) (c ∷ cs)) (encode_ascii c small)
 
 -- The word of an option looks like one.
-no_dashes : (c : ℕ) (cs : Text) → (c == 45) ≡ false → bytes_eq (45 ∷ c ∷ cs) (45 ∷ 45 ∷ []) ≡ false
+pub no_dashes : (c : ℕ) (cs : Text) → (c == 45) ≡ false → bytes_eq (45 ∷ c ∷ cs) (45 ∷ 45 ∷ []) ≡ false
 no_dashes c cs h = rw h refl
 
-no_long : (c : ℕ) (cs : Text) → (c == 45) ≡ false → long_of (45 ∷ c ∷ cs) ≡ None
+pub no_long : (c : ℕ) (cs : Text) → (c == 45) ≡ false → long_of (45 ∷ c ∷ cs) ≡ None
 no_long c cs h = rw h refl
 
-is_short : (c : ℕ) (cs : Text) → (c == 45) ≡ false → short_of (45 ∷ c ∷ cs) ≡ Some (c ∷ cs)
+pub is_short : (c : ℕ) (cs : Text) → (c == 45) ≡ false → short_of (45 ∷ c ∷ cs) ≡ Some (c ∷ cs)
 is_short c cs h = rw h refl
 
 -- Where the parser stands behind an option, with its value or without.

@@ -13,6 +13,10 @@ direct_app =
     with_rule (with_rule (with_rule (with_rule (with_rule (new_app (codes "direct")) (new_rule (codes "action")))
     (option_rule (codes "lockspace") 115)) (option_rule (codes "resource") 114)) (option_rule (codes "hosts") 110)) (option_rule (codes "stretch") 100)
 
+-- `gen SEED HOSTS EVENTS`.
+abbrev pub gen_app : App
+gen_app = with_rule (with_rule (with_rule (new_app (codes "gen")) (new_rule (codes "seed"))) (new_rule (codes "hosts"))) (new_rule (codes "events"))
+
 -- The program, without a name in front of its words, and without what the parser would add of its own.
 abbrev pub bare_shape : Shape
 bare_shape =
@@ -20,4 +24,5 @@ bare_shape =
 
 -- The whole command.
 abbrev pub command_line : App
-command_line = with_subcommand (with_subcommand (record { top = bare_shape; subs = [] }) (new_shape (codes "replay"))) direct_app.top
+command_line =
+    with_subcommand (with_subcommand (with_subcommand (record { top = bare_shape; subs = [] }) (new_shape (codes "replay"))) gen_app.top) direct_app.top

@@ -1,10 +1,12 @@
 -- How the words of the command line are read, from the left.
 use Rattle.sl_cli.specs.Actions.{Given, action_in}
-use Rattle.sl_cli.specs.declared.reading.Words.TheVariants.{Direct, Help, Replay, Version}
+use Rattle.sl_cli.specs.declared.reading.Words.TheVariants.{Direct, Generate, Help, Replay, Version}
 use Rattle.sl_cli.specs.declared.reading.Words.{Words}
+use Rattle.sl_text.specs.Numbers.{is_number_that, number_of}
 use Rattle.sl_words.specs.Words.{choose, is_empty}
+use Rattle.std.specs.Int.{is_in_range}
 use Rattle.std.specs.List.{list_any}
-use Rattle.std.specs.Prelude.{Bool, List, None, Option, Some, bytes_eq, codes, drop, false, find, if◌then◌else◌, is_some, not, option_and_then, option_map, true, [], ℕ, ◌++◌, ◌==◌, ◌||◌, ◌∷◌}
+use Rattle.std.specs.Prelude.{Bool, List, None, Option, Some, bytes_eq, codes, drop, false, find, if◌then◌else◌, is_some, not, option_and_then, option_map, true, [], ℕ, ◌&&◌, ◌++◌, ◌-◌, ◌==◌, ◌^◌, ◌||◌, ◌∷◌}
 
 -- ---- what is given to `direct`
 
@@ -98,6 +100,45 @@ given_by uses = record {
   stretch = value_of (codes "stretch") uses;
 }
 
+-- ---- what is given to `gen`
+
+-- The word of a seed: below 2^64.
+abbrev pub is_seed : List ℕ → Bool
+is_seed w = is_number_that (is_in_range 0 (2 ^ 64 - 1)) w
+
+-- .. of how many hosts there are.
+abbrev pub is_machine_count : List ℕ → Bool
+is_machine_count w = is_number_that (is_in_range 1 16) w
+
+-- .. of how many events.
+abbrev pub is_event_count : List ℕ → Bool
+is_event_count w = is_number_that (is_in_range 0 1000000) w
+
+-- The words of all three, each where it was given.
+pub record Seeding : Type 0 where
+  pub seed : Option (List ℕ)
+  pub hosts : Option (List ℕ)
+  pub events : Option (List ℕ)
+
+-- What they ask for.
+abbrev pub seeding_in : Option (List ℕ) → Option (List ℕ) → Option (List ℕ) → Option Words
+seeding_in (Some s) (Some h) (Some e) = choose (is_seed s && (is_machine_count h && is_event_count e)) (Generate (number_of s) (number_of h) (number_of e))
+seeding_in s h e = None
+
+-- Three words, and no more.
+abbrev pub three_in : List (List ℕ) → Option Words
+three_in (s ∷ h ∷ e ∷ []) = seeding_in (Some s) (Some h) (Some e)
+three_in ws = None
+
+-- The words without the first `--`.
+abbrev pub without_dashes : List (List ℕ) → List (List ℕ)
+without_dashes [] = []
+without_dashes (w ∷ ws) = if bytes_eq w (codes "--") then ws else w ∷ without_dashes ws
+
+-- What the words behind `gen` say.
+abbrev pub gen_in : List (List ℕ) → Option Words
+gen_in ws = three_in (without_dashes ws)
+
 -- ---- the whole line
 
 -- The words are one of these two, alone.
@@ -121,6 +162,7 @@ abbrev pub command_in : List (List ℕ) → Option Words
 command_in [] = None
 command_in (w ∷ ws) =
     if bytes_eq (codes "replay") w then choose (ends_here ws) Replay
+    else if bytes_eq (codes "gen") w then gen_in ws
     else if bytes_eq (codes "direct") w then direct_in ws
     else None
 

@@ -4,6 +4,7 @@ use Rattle.clap.specs.Simple.{subcommand_of}
 use Rattle.clap.specs.Walk.{Row, Text, first_of}
 use Rattle.sl_cli.specs.Actions.{Given, action_in}
 use Rattle.sl_cli.specs.CommandLine.{command_line}
+use Rattle.sl_cli.specs.CommandWords.{Seeding, seeding_in}
 use Rattle.sl_cli.specs.declared.given.Met.{Met}
 use Rattle.sl_cli.specs.declared.reading.Words.TheVariants.{Direct, Replay}
 use Rattle.sl_cli.specs.declared.reading.Words.{Words}
@@ -19,10 +20,15 @@ given_in rows = record {
   stretch = first_of (codes "stretch") rows;
 }
 
+-- The words of a seed, of hosts and of events, by what was found.
+abbrev pub seeding_of : List Row → Seeding
+seeding_of rows = record { seed = first_of (codes "seed") rows; hosts = first_of (codes "hosts") rows; events = first_of (codes "events") rows }
+
 -- The command of this name that was met, with what was given to it.
 abbrev pub named_met : Text → List Row → Option Met
 named_met name rows =
     if bytes_eq name (codes "replay") then Some Met.Replay
+    else if bytes_eq name (codes "gen") then Some (Met.Generate (seeding_of rows))
     else if bytes_eq name (codes "direct") then Some (Met.Direct (given_in rows))
     else None
 
@@ -34,6 +40,7 @@ met_in (Some p) = named_met p.0 p.1
 -- What it says.
 abbrev pub said_by : Met → Option Words
 said_by Met.Replay = Some Replay
+said_by (Met.Generate s) = seeding_in s.seed s.hosts s.events
 said_by (Met.Direct given) = option_map (λ a. Direct a) (action_in given)
 
 -- The parser takes the words, and meets this command.

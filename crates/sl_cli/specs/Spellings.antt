@@ -2,7 +2,7 @@
 use Rattle.sl_cli.specs.Actions.{Given, action_in}
 use Rattle.sl_cli.specs.Arguments.{areas, is_stretch_size, is_stretch_start}
 use Rattle.sl_cli.specs.CommandWords.{Use, given_by, is_given, is_plain, nothing_taken, options, said_in, uses_from}
-use Rattle.sl_cli.specs.declared.reading.Words.TheVariants.{Direct}
+use Rattle.sl_cli.specs.declared.reading.Words.TheVariants.{Direct, Generate}
 use Rattle.sl_cli.specs.declared.reading.Words.{Words}
 use Rattle.sl_direct.specs.Actions.{IsAction}
 use Rattle.sl_direct.specs.declared.action.Action.TheVariants.{Dump, InitLockspace, InitResource, ReadLeader}
@@ -14,7 +14,7 @@ use Rattle.sl_trace.specs.Commands.{IsResourceArg, lockspace_word, moded_word}
 use Rattle.sl_trace.specs.declared.command.LockspaceArg.{LockspaceArg}
 use Rattle.std.specs.Int.{is_in_range}
 use Rattle.std.specs.List.{list_all}
-use Rattle.std.specs.Prelude.{Bool, IsTrue, List, None, Option, Some, bytes_eq, codes, decimal, false, find, flat_map, if◌then◌else◌, is_some, not, option_map, true, [], ℕ, ◌&&◌, ◌++◌, ◌||◌, ◌≡◌, ◌∷◌, ◌↔◌}
+use Rattle.std.specs.Prelude.{Bool, IsTrue, List, None, Option, Some, bytes_eq, codes, decimal, false, find, flat_map, if◌then◌else◌, is_some, not, option_map, true, [], ℕ, ◌&&◌, ◌++◌, ◌||◌, ◌≡◌, ◌≤◌, ◌∷◌, ◌↔◌}
 
 -- ---- what may be asked for
 
@@ -46,6 +46,7 @@ IsAsked (Dump path offset size) = IsStretchArg path offset size
 -- Words that say what can be done.
 abbrev pub CanBeDone : Words → Type 0
 CanBeDone (Direct a) = IsAction a
+CanBeDone (Generate seed hosts events) = (1 ≤ hosts) × (hosts ≤ 16) × (events ≤ 1000000)
 CanBeDone w = Unit {0}
 
 -- ---- its words

@@ -3,7 +3,7 @@
 ghost use Rattle.clap.specs.Walk.{rule_of};
 ghost use Rattle.clap.specs.Simple.{app_of, new_rule, new_shape, with_rule};
 ghost use Rattle.clap.specs.declared.builder.command.Command.TheViews.{out-Command as fields_of};
-ghost use Rattle.sl_cli.specs.CommandLine.{bare_shape, command_line, direct_app, option_rule};
+ghost use Rattle.sl_cli.specs.CommandLine.{bare_shape, command_line, direct_app, gen_app, option_rule};
 ghost use Rattle.std.specs.Prelude.{IfOk, [], codes, false, ◌≡◌};
 
 use clap::{Arg, Command};
@@ -43,6 +43,37 @@ fn direct<'a>(alloc: Global) -> Result<Command<'a>, AllocError>
     with_option(alloc, command, "stretch", 'd')
 }
 
+/// `gen`, with its seed.
+fn bare_gen<'a>(alloc: Global) -> Result<Command<'a>, AllocError>
+    ensures app { IfOk result (λ c. app_of c ≡ with_rule (record { top = new_shape (codes "gen"); subs = [] }) (new_rule (codes "seed"))) }
+    ensures local { IfOk result (λ c. (fields_of c).has_globals ≡ false) }
+{
+    Command::new(alloc, "gen").arg(Arg::new(alloc, "seed"))
+}
+
+/// The command with one more word that is no option.
+fn with_word<'a>(
+    alloc: Global,
+    command: Command<'a>,
+    id: &'a str,
+) -> Result<Command<'a>, AllocError>
+    requires { (fields_of command).has_globals ≡ false }
+    ensures app { IfOk result (λ c. app_of c ≡ with_rule (app_of command.entry) (new_rule id.entry.now)) }
+    ensures local { IfOk result (λ c. (fields_of c).has_globals ≡ false) }
+{
+    command.arg(Arg::new(alloc, id))
+}
+
+/// `gen`, with its seed, its hosts and its events.
+fn generate<'a>(alloc: Global) -> Result<Command<'a>, AllocError>
+    ensures app { IfOk result (λ c. app_of c ≡ gen_app) }
+    ensures local { IfOk result (λ c. (fields_of c).has_globals ≡ false) }
+{
+    let command = bare_gen(alloc)?;
+    let command = with_word(alloc, command, "hosts")?;
+    with_word(alloc, command, "events")
+}
+
 /// The program without its commands. Its words have no name in front, and no word asks the parser for help.
 fn bare<'a>(alloc: Global) -> Command<'a>
     ensures { app_of result ≡ record { top = bare_shape; subs = [] } }
@@ -60,5 +91,6 @@ pub(crate) fn command_line<'a>(alloc: Global) -> Result<Command<'a>, AllocError>
 {
     bare(alloc)
         .subcommand(Command::new(alloc, "replay"))?
+        .subcommand(generate(alloc)?)?
         .subcommand(direct(alloc)?)
 }

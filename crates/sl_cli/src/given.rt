@@ -4,12 +4,18 @@ ghost use Rattle.clap.specs.Matches.{found_of};
 ghost use Rattle.clap.specs.Simple.{subcommand_rows_of};
 ghost use Rattle.clap.specs.Walk.{first_of, rows_of};
 ghost use Rattle.sl_cli.specs.Actions.{action_in, dump_in, init_in, read_leader_in};
-ghost use Rattle.sl_cli.specs.Parses.{given_in, met_in};
-ghost use Rattle.std.specs.Prelude.{codes, option_map, ◌≡◌};
+ghost use Rattle.sl_cli.specs.CommandWords.{is_event_count, is_machine_count, is_seed, seeding_in};
+ghost use Rattle.sl_cli.specs.Parses.{given_in, met_in, seeding_of};
+ghost use Rattle.sl_cli.specs.Spellings.{CanBeDone};
+ghost use Rattle.sl_text.specs.Numbers.{number_of};
+ghost use Rattle.sl_words.specs.Words.{choose};
+ghost use Rattle.std.specs.Prelude.{IfSome, codes, option_map, ◌≡◌, ◌≤◌};
 
 use crate::arguments::{hosts_of, lockspace_of, resource_of, stretch_of};
+use crate::reading::Words;
 use clap::ArgMatches;
 use sl_direct::Action;
+use sl_text::number::read_number_within;
 use std::marker::Model;
 
 /// The word of the action, and the values of the options: each where it was given.
@@ -122,10 +128,85 @@ impl<'a> Given<'a> {
     }
 }
 
+/// The words of a seed, of a number of hosts and of a number of events: each where it was given.
+#[derive(Drop)]
+pub(crate) struct Seeding<'a> {
+    seed: Option<&'a str>,
+    hosts: Option<&'a str>,
+    events: Option<&'a str>,
+}
+
+impl<'a> Model for Seeding<'a> {
+    ghost use Rattle.sl_cli.specs.CommandWords as words;
+    ghost use Rattle.std.specs.Prelude.{option_map};
+
+    ghost Value = { words.Seeding };
+
+    ghost view = { λ s. record {
+      seed = option_map (λ w. w.now) s.seed;
+      hosts = option_map (λ w. w.now) s.hosts;
+      events = option_map (λ w. w.now) s.events;
+    } };
+}
+
+/// The seed that a word says, if it says one.
+fn seed_of(word: &str) -> Option<u64>
+    ensures { result ≡ choose (is_seed word.now) (number_of word.now) }
+{
+    read_number_within(word.as_bytes(), 0, u64::MAX)
+}
+
+/// How many hosts a word says, 1 to 16, if it says so.
+fn machines_of(word: &str) -> Option<u32>
+    ensures exact { result ≡ choose (is_machine_count word.now) (number_of word.now) }
+    ensures few { IfSome result (λ hosts. (1 ≤ hosts) × (hosts ≤ 16)) }
+{
+    let hosts = read_number_within(word.as_bytes(), 1, 16)?;
+    Some(hosts as u32)
+}
+
+/// How many events a word says, at most a million, if it says so.
+fn events_of(word: &str) -> Option<u64>
+    ensures exact { result ≡ choose (is_event_count word.now) (number_of word.now) }
+    ensures few { IfSome result (λ events. events ≤ 1000000) }
+{
+    read_number_within(word.as_bytes(), 0, 1_000_000)
+}
+
+impl<'a> Seeding<'a> {
+    /// What the parser found.
+    pub(crate) fn new(matches: &ArgMatches<'a>) -> Seeding<'a>
+        ensures { result ≡ seeding_of (rows_of (found_of matches.now)) }
+    {
+        Seeding {
+            seed: value_of(matches, "seed"),
+            hosts: value_of(matches, "hosts"),
+            events: value_of(matches, "events"),
+        }
+    }
+
+    /// What is asked for, if all three are given and each has its form.
+    #[tactic(auto, using(crate::proofs::ArgumentLaws::no_second, crate::proofs::ArgumentLaws::no_third))]
+    pub(crate) fn words(&self) -> Option<Words>
+        ensures exact { result ≡ seeding_in self.now.seed self.now.hosts self.now.events }
+        ensures can { IfSome result CanBeDone }
+    {
+        match (self.seed, self.hosts, self.events) {
+            (Some(seed), Some(hosts), Some(events)) => Some(Words::Generate {
+                seed: seed_of(seed)?,
+                hosts: machines_of(hosts)?,
+                events: events_of(events)?,
+            }),
+            _ => None,
+        }
+    }
+}
+
 /// The command that the parser met, with what was given to it.
 #[derive(Drop)]
 pub(crate) enum Met<'a> {
     Replay,
+    Generate(Seeding<'a>),
     Direct(Given<'a>),
 }
 
@@ -136,6 +217,8 @@ pub(crate) fn met_in<'a>(matches: &ArgMatches<'a>) -> Option<Met<'a>>
     let (name, matches) = matches.subcommand()?;
     if name == "replay" {
         Some(Met::Replay)
+    } else if name == "gen" {
+        Some(Met::Generate(Seeding::new(matches)))
     } else if name == "direct" {
         Some(Met::Direct(Given::new(matches)))
     } else {

@@ -19,6 +19,8 @@ use std::alloc::{AllocError, Global};
 pub enum Words {
     /// Run a schedule, and report it.
     Replay,
+    /// Make a schedule of so many events (0 to 1000000) for so many hosts (1 to 16) from a seed, and run it.
+    Generate { seed: u64, hosts: u32, events: u64 },
     /// Do this to an area.
     Direct(Action),
     /// Put out the help.
@@ -71,6 +73,7 @@ fn said(met: Met<'_>) -> Option<Words>
 {
     match met {
         Met::Replay => Some(Words::Replay),
+        Met::Generate(given) => given.words(),
         Met::Direct(given) => Some(Words::Direct(given.action()?)),
     }
 }

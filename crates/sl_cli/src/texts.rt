@@ -5,6 +5,8 @@ pub const HELP: &str = "\
 usage: sanlock COMMAND
 
   replay                   run the schedule on standard input, print its report
+  gen SEED HOSTS EVENTS    run the schedule of a seed, print the last line of its
+                           report
   direct init -s LOCKSPACE -n N
                            write the sectors of a lockspace for N hosts
   direct init -r RESOURCE -n N
@@ -18,7 +20,8 @@ usage: sanlock COMMAND
 
 LOCKSPACE is NAME:0:PATH:OFFSET, RESOURCE is LOCKSPACE_NAME:NAME:PATH:OFFSET,
 with OFFSET a multiple of 1048576. In a dump OFFSET and SIZE are multiples of
-512. Offsets are below 10^12. N is 1 to 2000. Options come in any order.
+512. Offsets are below 10^12. N is 1 to 2000. Options come in any order. SEED
+is below 2^64, HOSTS 1 to 16, EVENTS at most 1000000.
 
 Status: 0 done; 1 a line was refused; 2 bad words; 3 a read and 4 a write
 failed; 5 no memory; 6 a read or a write of an area failed; 7 not the leader.

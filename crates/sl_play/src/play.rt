@@ -5,9 +5,10 @@
 //! due. After an `Err` a play is at its end: its world stands, but what was counted and written may lack the last event.
 
 ghost use Rattle.sl_kept.specs.Sane.{ReadsCommands, WorldStands};
+ghost use Rattle.sl_kept.specs.Refusing.{refusal_in};
 ghost use Rattle.sl_machine.specs.Keeping.{kept_state};
 ghost use Rattle.sl_machine.specs.Testing.{is_tear};
-ghost use Rattle.sl_play.specs.Playing.{Answers, Begins, PassesCounts, StandsFor, after_error, state_of, test_told};
+ghost use Rattle.sl_play.specs.Playing.{Answers, Begins, PassesCounts, StandsFor, StaysAs, after_error, state_of, test_told};
 ghost use Rattle.sl_play.specs.Telling.{AreCounted, counts_with, tests_told, told_view};
 ghost use Rattle.sl_play.specs.declared.counting.PlayError.TheVariants.{NoMemory, TooMany};
 ghost use Rattle.sl_report.specs.Reports as reports;
@@ -17,7 +18,7 @@ ghost use Rattle.sl_run.specs.Worlds as worlds;
 ghost use Rattle.sl_run.specs.declared.event.Refusal.{Refusal as RefusalOf};
 ghost use Rattle.sl_text.specs.Forms.{as_bytes};
 ghost use Rattle.sl_world.specs.Counting.{conflicts_left};
-ghost use Rattle.std.specs.Prelude.{Err, IfOk, Ok, OnErr, OnOk, Some, length, true, ◌++◌, ◌≡◌, ◌⊎◌};
+ghost use Rattle.std.specs.Prelude.{Err, IfOk, Ok, OnErr, OnOk, Some, is_none, length, true, ◌++◌, ◌≡◌, ◌⊎◌};
 
 use crate::counting::{PlayError, counted, no_counts};
 use crate::telling::push_event;
@@ -115,6 +116,22 @@ impl<D: Daemon, L: LockTable> Play<D, L> {
             world: World::new(alloc, header)?,
             counts: no_counts(),
         })
+    }
+
+    /// The world, to be asked.
+    pub fn world(&self) -> &World<D, L>
+        ensures { result.now ≡ self.now.world }
+    {
+        &self.world
+    }
+
+    /// Whether nothing refuses the event. An `Err` is want of memory, at a tear alone. Nothing that is seen changes.
+    pub fn allows(&mut self, event: &Event) -> Result<bool, AllocError>
+        ensures exact { IfOk result (λ b. b ≡ is_none (refusal_in D.commands (state_of L.locks self.old).kept event.now)) }
+        ensures total { OnErr result (is_tear event.now ≡ true) }
+        ensures same { StaysAs (state_of L.locks self.old) (state_of L.locks self.new) }
+    {
+        self.world.allows(event)
     }
 
     /// What was counted so far.

@@ -1,5 +1,6 @@
 pub mod TopLaws
 pub mod RunLaws
 pub mod DirectLaws
+pub mod GenLaws
 pub mod OweLaws
 pub mod StatusLaws

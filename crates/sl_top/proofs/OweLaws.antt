@@ -1,11 +1,14 @@
 -- What a run owes where there was no memory for its words: nothing was read, and nothing written.
-use Rattle.sl_cli.specs.declared.reading.Words.TheVariants.{Direct, Help, Replay, Version}
+use Rattle.sl_cli.specs.declared.reading.Words.TheVariants.{Direct, Generate, Help, Replay, Version}
 use Rattle.sl_cli.specs.declared.reading.Words.{Words}
+use Rattle.sl_report.specs.Generator.{gen_lines}
+use Rattle.sl_run.specs.Worlds.{whole_program}
+use Rattle.sl_text.specs.Forms.{as_bytes}
 use Rattle.sl_top.proofs.DirectLaws.{not_begun}
 use Rattle.sl_top.proofs.RunLaws.{nothing_put, unread}
 use Rattle.sl_top.proofs.TopLaws.{none_written}
-use Rattle.sl_top.specs.Runs.{Outside, Owes, PutsOut, bad_words_text}
-use Rattle.sl_top.specs.declared.status.Status.TheVariants.{NoMemory}
+use Rattle.sl_top.specs.Runs.{Generates, Outside, Owes, PutsOut, bad_words_text}
+use Rattle.sl_top.specs.declared.status.Status.TheVariants.{Done, NoMemory}
 use Rattle.sl_top.specs.declared.status.Status.{Status}
 use Rattle.std.proofs.Common.{List, None, Option, Some, [], inr, refl, ℕ}
 
@@ -13,10 +16,19 @@ nothing_told : (taken : Option (List ℕ)) (faults : ℕ) (text : List ℕ) (who
 nothing_told taken faults text whole =
     record { written = []; appends = nothing_put taken; text_is = inr (none_written [] text refl, inr refl); cause = λ e. absurd cc }
 
+none_generated : (seed hosts events : ℕ) (taken : Option (List ℕ)) (faults : ℕ) → Generates seed hosts events taken taken faults faults NoMemory
+none_generated seed hosts events taken faults =
+    record {
+      puts = nothing_told taken faults (as_bytes (gen_lines whole_program seed hosts events)) Done;
+      promised = λ e. absurd cc;
+      headline = (refl, λ report of. none_written [] report refl);
+    }
+
 -- For want of memory, whatever the words say.
 pub nothing_done : (w : Option Words) (x : Outside) → Owes w x x NoMemory
 nothing_done None x = nothing_told x.taken x.sink_faults bad_words_text _
 nothing_done (Some Replay) x = unread x.left x.source_faults x.taken x.sink_faults
+nothing_done (Some (Generate seed hosts events)) x = none_generated seed hosts events x.taken x.sink_faults
 nothing_done (Some (Direct a)) x = not_begun a x.disks x.device_faults x.taken x.sink_faults
 nothing_done (Some Help) x = nothing_told x.taken x.sink_faults _ _
 nothing_done (Some Version) x = nothing_told x.taken x.sink_faults _ _

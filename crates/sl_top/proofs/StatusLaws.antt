@@ -1,5 +1,5 @@
 -- Which statuses a run may end with, by what its words say, and why.
-use Rattle.sl_cli.specs.declared.reading.Words.TheVariants.{Direct, Help, Replay, Version}
+use Rattle.sl_cli.specs.declared.reading.Words.TheVariants.{Direct, Generate, Help, Replay, Version}
 use Rattle.sl_cli.specs.declared.reading.Words.{Words}
 use Rattle.sl_cli.specs.declared.texts.TheConstants.{HELP, VERSION}
 use Rattle.sl_direct.proofs.AreaLaws.{leader_is_told}
@@ -162,6 +162,7 @@ direct_caused a x y s run =
 pub statuses_have_causes : StatusesHaveCauses
 statuses_have_causes None x y s h = bad_caused x y s h
 statuses_have_causes (Some Replay) x y s h = replay_caused x y s h
+statuses_have_causes (Some (Generate seed hosts events)) x y s h = done_caused (Some (Generate seed hosts events)) x y _ s h.puts
 statuses_have_causes (Some (Direct a)) x y s h = direct_caused a x y s h
 statuses_have_causes (Some Help) x y s h = done_caused (Some Help) x y HELP.now s h
 statuses_have_causes (Some Version) x y s h = done_caused (Some Version) x y VERSION.now s h

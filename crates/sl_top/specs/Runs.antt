@@ -1,17 +1,21 @@
 -- What a run of the program owes: by what its words say, what it read and wrote, what it left on the disks, and its status.
 use Rattle.sl_cli.specs.CommandWords.{said_in}
-use Rattle.sl_cli.specs.declared.reading.Words.TheVariants.{Direct, Help, Replay, Version}
+use Rattle.sl_cli.specs.declared.reading.Words.TheVariants.{Direct, Generate, Help, Replay, Version}
 use Rattle.sl_cli.specs.declared.reading.Words.{Words}
 use Rattle.sl_cli.specs.declared.texts.TheConstants.{HELP, VERSION}
 use Rattle.sl_direct.specs.Actions.{Directs, path_of}
 use Rattle.sl_direct.specs.declared.action.Action.{Action}
 use Rattle.sl_direct.specs.declared.action.Directed.{Directed}
 use Rattle.sl_play_schedule.specs.Replaying.{ReportsComplete}
-use Rattle.sl_report.specs.Headline.{IsFrontOf, MayHaveBeen, ReplayHeadline, ReplayOwed, is_whole_status}
+use Rattle.sl_generate.specs.Generating.{GeneratedOf}
+use Rattle.sl_report.specs.Generator.{gen_lines}
+use Rattle.sl_report.specs.Headline.{GenHeadline, IsFrontOf, MayHaveBeen, ReplayHeadline, ReplayOwed, is_whole_status}
 use Rattle.sl_report.specs.Languages.{whole_language}
 use Rattle.sl_run_report.specs.Promises.{replay_status}
 use Rattle.sl_headline.specs.Promised.{PromisedRun}
 use Rattle.sl_outside.specs.Disks.{CountsBack, Disks, KeepsAllBut}
+use Rattle.sl_run.specs.Worlds.{whole_program}
+use Rattle.sl_text.specs.Forms.{as_bytes}
 use Rattle.sl_top.specs.Statuses.{code, status_after}
 use Rattle.sl_top.specs.declared.status.Status.TheVariants.{BadWords, Done, NoMemory, ReadFault, WriteFault}
 use Rattle.sl_top.specs.declared.status.Status.{Status}
@@ -68,6 +72,14 @@ pub record Replays (left after : Option (List ℕ)) (faults later : ℕ) (taken 
   pub read_fault : s ≡ ReadFault → Rose faults later
   pub write_fault : s ≡ WriteFault → Rose sink_faults sink_later
 
+-- What a generation owes: the two lines of the plain program, or, by the status, a front of them.
+pub record Generates (seed hosts events : ℕ) (taken now : Option (List ℕ)) (faults later : ℕ) (s : Status) : Type 0 where
+  pub puts : PutsOut taken now faults later (as_bytes (gen_lines whole_program seed hosts events)) Done s
+  -- the run of which the last line is written is the seed's, with as many events, and as it is promised
+  pub promised : s ≡ Done → GeneratedOf PromisedRun whole_program seed hosts events puts.written
+  -- .. so it is a good one; and what is written begins whatever tells of one
+  pub headline : GenHeadline whole_program seed hosts events puts.written (code s)
+
 -- What an action owes, which is done to the disk at its path.
 pub record ActsOn (a : Action) (before now : Disks) (faults later : ℕ) (taken put : Option (List ℕ)) (sink_faults sink_later : ℕ) (s : Status) : Type 0 where
   -- how it went, and the faults that its area counted
@@ -98,6 +110,7 @@ Tells text whole x y s = PutsOut x.taken y.taken x.sink_faults y.sink_faults tex
 abbrev pub Owes : Option Words → Outside → Outside → Status → Type 0
 Owes None x y s = Tells bad_words_text BadWords x y s
 Owes (Some Replay) x y s = Replays x.left y.left x.source_faults y.source_faults x.taken y.taken x.sink_faults y.sink_faults s
+Owes (Some (Generate seed hosts events)) x y s = Generates seed hosts events x.taken y.taken x.sink_faults y.sink_faults s
 Owes (Some (Direct a)) x y s = ActsOn a x.disks y.disks x.device_faults y.device_faults x.taken y.taken x.sink_faults y.sink_faults s
 Owes (Some Help) x y s = Tells HELP.now Done x y s
 Owes (Some Version) x y s = Tells VERSION.now Done x y s

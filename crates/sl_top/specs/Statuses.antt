@@ -1,6 +1,8 @@
 -- The numbers of statuses.
 use Rattle.sl_direct.specs.declared.action.Directed.TheVariants as directed
 use Rattle.sl_direct.specs.declared.action.Directed.{Directed}
+use Rattle.sl_generate.specs.declared.generator.Generated.TheVariants as generated
+use Rattle.sl_generate.specs.declared.generator.Generated.{Generated}
 use Rattle.sl_play_schedule.specs.declared.replay.Played.TheVariants as played
 use Rattle.sl_play_schedule.specs.declared.replay.Played.{Played}
 use Rattle.sl_top.specs.declared.status.Status.TheVariants.{AreaFault, BadWords, Done, NoMemory, NotTheLeader, ReadFault, Refused, WriteFault}
@@ -33,3 +35,9 @@ status_after directed.WriteFault = WriteFault
 status_after directed.NoMemory = NoMemory
 status_after directed.AreaFault = AreaFault
 status_after directed.NotTheLeader = NotTheLeader
+
+-- The status of a generation that ended so.
+abbrev pub status_of_generated : Generated → Status
+status_of_generated generated.Done = Done
+status_of_generated generated.WriteFault = WriteFault
+status_of_generated generated.NoMemory = NoMemory

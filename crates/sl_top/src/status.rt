@@ -1,15 +1,16 @@
 //! What the program ends with.
 
-ghost use Rattle.sl_top.specs.Statuses.{code, status_after, status_of};
+ghost use Rattle.sl_top.specs.Statuses.{code, status_after, status_of, status_of_generated};
 ghost use Rattle.std.specs.Prelude.{◌≡◌};
 
 use sl_direct::Directed;
+use sl_generate::Generated;
 use sl_play_schedule::Played;
 
 /// How a run of the program ended.
 #[derive(Clone, Copy, Debug, PartialEq, Eq)]
 pub enum Status {
-    /// The source was read to its end and each line was accepted, or an action was done; the output is whole.
+    /// The source was read to its end and each line was accepted, or each event of a seed happened, or an action was done; the output is whole.
     Done,
     /// A line can't be read, or isn't allowed; the output ends with its refusal.
     Refused,
@@ -68,5 +69,16 @@ pub(crate) fn status_after(directed: Directed) -> Status
         Directed::NoMemory => Status::NoMemory,
         Directed::AreaFault => Status::AreaFault,
         Directed::NotTheLeader => Status::NotTheLeader,
+    }
+}
+
+/// The status of a generation that ended so.
+pub(crate) fn status_of_generated(generated: Generated) -> Status
+    ensures { result ≡ status_of_generated generated }
+{
+    match generated {
+        Generated::Done => Status::Done,
+        Generated::WriteFault => Status::WriteFault,
+        Generated::NoMemory => Status::NoMemory,
     }
 }

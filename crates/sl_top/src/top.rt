@@ -1,17 +1,18 @@
 //! The top call.
 //!
 //! `replay` plays its source line by line, so where a read fails the report of the lines before it stands written; where a write fails or memory
-//! runs out, a front of the report. `direct` takes one disk of the devices, does its action there, and gives the disk back.
+//! runs out, a front of the report. `gen` reads nothing: it draws its events as it plays them. `direct` takes one disk of the devices, does its action there, and gives the disk back.
 
 ghost use Rattle.sl_direct.specs.Actions.{IsAction};
-ghost use Rattle.sl_top.specs.Runs.{ActsOn, IsDirect, IsReplay, Owes, PutsOut, Replays, said};
+ghost use Rattle.sl_top.specs.Runs.{ActsOn, Generates, IsDirect, IsReplay, Owes, PutsOut, Replays, said};
 ghost use Rattle.sl_top.specs.declared.status.Status.TheVariants.{WriteFault};
-ghost use Rattle.std.specs.Prelude.{◌≡◌, ◌≢◌};
+ghost use Rattle.std.specs.Prelude.{◌≡◌, ◌≢◌, ◌≤◌};
 
-use crate::status::{Status, status_after, status_of};
+use crate::status::{Status, status_after, status_of, status_of_generated};
 use sl_area::Area;
 use sl_cli::{HELP, VERSION, Words, WordsError, read_words};
 use sl_direct::{Action, run_direct};
+use sl_generate::generate;
 use sl_header_law::laws::whole_language_may_play;
 use sl_host_step::HostDaemon;
 use sl_io::{Sink, Source, write_all};
@@ -27,6 +28,14 @@ fn replay<S: Source, K: Sink>(alloc: Global, source: &mut S, sink: &mut K) -> St
 {
     whole_language_may_play();
     status_of(play_schedule::<S, K, HostDaemon, LvmLocks>(alloc, source, sink))
+}
+
+/// Makes a schedule of so many events from a seed, plays it in a world of hosts, and puts out the last line of its report.
+fn generate_from<K: Sink>(alloc: Global, seed: u64, hosts: u32, events: u64, sink: &mut K) -> Status
+    requires { (1 ≤ hosts) × (hosts ≤ 16) }
+    ensures { Generates seed hosts events (K.taken sink.old) (K.taken sink.new) (K.faults sink.old) (K.faults sink.new) result }
+{
+    status_of_generated(generate::<K, HostDaemon, LvmLocks>(alloc, seed, hosts, events, sink))
 }
 
 /// Puts out a text.
@@ -60,7 +69,8 @@ fn direct<K: Sink, D: Devices>(
 
 /// Does what the words say (those behind the program's name), with no handle that waits: so it returns.
 ///
-/// `replay` reads a schedule from the source to its end, or to one byte past 1000000000, and puts out its report. `direct` does its action
+/// `replay` reads a schedule from the source to its end, or to one byte past 1000000000, and puts out its report. `gen` makes a schedule from a
+/// seed, plays it, and puts out what was generated and the last line of its report. `direct` does its action
 /// to the disk at the action's path, and puts out what that tells. The help and the version are put out as they are. Words that say none of
 /// these put out one line.
 ///
@@ -85,6 +95,13 @@ pub fn run_offline<S: Source, K: Sink, D: Devices>(
 {
     match read_words(alloc, words) {
         Ok(Words::Replay) => replay(alloc, source, sink),
+        Ok(
+            Words::Generate {
+                seed,
+                hosts,
+                events,
+            },
+        ) => generate_from(alloc, seed, hosts, events, sink),
         Ok(Words::Direct(action)) => direct(alloc, &action, sink, devices),
         Ok(Words::Help) => tell(sink, HELP.as_bytes(), Status::Done),
         Ok(Words::Version) => tell(sink, VERSION.as_bytes(), Status::Done),

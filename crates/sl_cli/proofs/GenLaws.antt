@@ -1,0 +1,280 @@
+-- The parser takes the words behind `gen` that the reader takes, and finds in them what the reader finds: up to three words that are no options,
+-- one behind the other, and a first `--` anywhere.
+use Rattle.clap.proofs.OnLiterals.{clap_on_literals}
+use Rattle.clap.specs.Faults.{check_fault, settle_fault, turn_fault, walk_fault}
+use Rattle.clap.specs.Kinds.{Kinds, or_else}
+use Rattle.clap.specs.Lexer.{long_of, short_of}
+use Rattle.clap.specs.Walk.{Held, Row, Text, Walk, finished, first_of, idle, nothing_held, rows_after, settled, settled_rows, walk_from, walked}
+use Rattle.sl_cli.proofs.BareCommands.{level, or_nothing}
+use Rattle.sl_cli.proofs.BuiltCommand.{gen_rules, generate, no_defaults, no_faults, row_for}
+use Rattle.sl_cli.proofs.Letters.{behind, first_char}
+use Rattle.sl_cli.proofs.Steps.{AreTexts, word_cases}
+use Rattle.sl_cli.proofs.Turns.{Fails, Pending, Plain, fails_with, first_fails, is_short, no_dashes, no_long, walk_at}
+use Rattle.sl_cli.specs.CommandWords.{is_event_count, is_machine_count, is_seed, seeding_in, three_in, use_of, without_dashes}
+use Rattle.sl_cli.specs.Parses.{seeding_of}
+use Rattle.sl_cli.specs.declared.reading.Words.{Words}
+use Rattle.std.proofs.Common.{Bool, List, None, Option, Some, [], ap, eqb, false, inl, inr, refl, subst, sym, true, ℕ, ◌&&◌, ◌≡◌, ◌∙◌, ◌∷◌, ◌⊎◌}
+use Rattle.std.proofs.lemmas.Bool.{cases_Bool, eqb-true}
+use Rattle.std.specs.List.{fold}
+use Rattle.std.specs.Prelude.{bytes_eq, codes, if◌then◌else◌, slice_get}
+use Rattle.std.specs.Str.{IsUtf8, chars}
+
+-- ---- where the parser stands
+
+-- The words that were taken.
+data Got : Type 0 where
+  none_got : Got
+  one_got : Text → Got
+  two_got : Text → Text → Got
+  all_got : Text → Text → Text → Got
+
+-- They stand before what is left.
+abbrev before : Got → List Text → List Text
+before none_got ws = ws
+before (one_got s) ws = s ∷ ws
+before (two_got s h) ws = s ∷ h ∷ ws
+before (all_got s h e) ws = s ∷ h ∷ e ∷ ws
+
+abbrev row : Text → Text → Row
+row name v = row_for (use_of name v)
+
+-- The rows so far, the value that is being read, and the place of the next word.
+abbrev rows_at : Got → List Row
+rows_at none_got = []
+rows_at (one_got s) = []
+rows_at (two_got s h) = row (codes "seed") s ∷ []
+rows_at (all_got s h e) = row (codes "seed") s ∷ row (codes "hosts") h ∷ []
+
+abbrev pending_at : Got → Pending
+pending_at none_got = None
+pending_at (one_got s) = Some (codes "seed", s ∷ [])
+pending_at (two_got s h) = Some (codes "hosts", h ∷ [])
+pending_at (all_got s h e) = Some (codes "events", e ∷ [])
+
+abbrev place_at : Got → ℕ
+place_at none_got = 1
+place_at (one_got s) = 2
+place_at (two_got s h) = 3
+place_at (all_got s h e) = 4
+
+abbrev stand : Got → Bool → Walk
+stand g trailing = walk_at (rows_at g) (pending_at g) idle (place_at g) trailing
+
+abbrev turn : Walk → Text → Kinds
+turn w word = turn_fault generate [] w word
+
+abbrev after : Walk → Text → Walk
+after w word = walked gen_rules [] w word
+
+abbrev held_after : Walk → List Text → Held
+held_after w ws = (fold (walked gen_rules []) w ws).held
+
+abbrev rest : Walk → List Text → Kinds
+rest w ws = or_else (walk_fault generate [] w ws) (settle_fault gen_rules false (held_after w ws))
+
+abbrev end_rows : Walk → List Text → List Row
+end_rows w ws = settled_rows gen_rules (held_after w ws).pending (held_after w ws).rows
+
+-- What the rows ask for.
+abbrev says : List Row → Option Words
+says rows = seeding_in (seeding_of rows).seed (seeding_of rows).hosts (seeding_of rows).events
+
+-- ---- one word
+
+-- It is one more value, behind `--` in any case.
+abbrev IsValue : Bool → Text → Type 0
+IsValue true word = Unit {0}
+IsValue false word = Plain word
+
+one_more : (word : Text) (trailing : Bool) → IsValue trailing word
+    → (turn (stand none_got trailing) word ≡ []) × (after (stand none_got trailing) word ≡ stand (one_got word) trailing)
+unfolding clap_on_literals
+one_more word true v = (refl, refl)
+one_more word false p = (rw (p.no_dashes, p.no_long, p.no_short) refl, rw (p.no_dashes, p.no_long, p.no_short) refl)
+
+two_more : (s word : Text) (trailing : Bool) → IsValue trailing word
+    → (turn (stand (one_got s) trailing) word ≡ []) × (after (stand (one_got s) trailing) word ≡ stand (two_got s word) trailing)
+unfolding clap_on_literals
+two_more s word true v = (refl, refl)
+two_more s word false p = (rw (p.no_dashes, p.no_long, p.no_short) refl, rw (p.no_dashes, p.no_long, p.no_short) refl)
+
+three_more : (s h word : Text) (trailing : Bool) → IsValue trailing word
+    → (turn (stand (two_got s h) trailing) word ≡ []) × (after (stand (two_got s h) trailing) word ≡ stand (all_got s h word) trailing)
+unfolding clap_on_literals
+three_more s h word true v = (refl, refl)
+three_more s h word false p = (rw (p.no_dashes, p.no_long, p.no_short) refl, rw (p.no_dashes, p.no_long, p.no_short) refl)
+
+-- A fourth is too many.
+too_many : (s h e word : Text) (trailing : Bool) → IsValue trailing word → Fails (turn (stand (all_got s h e) trailing) word)
+unfolding clap_on_literals
+too_many s h e word true v = fails_with _ _
+too_many s h e word false p = rw (p.no_dashes, p.no_long, p.no_short) (fails_with _ _)
+
+dashes_turn : (rows : List Row) (pending : Pending) (position : ℕ) → turn (walk_at rows pending idle position false) (45 ∷ 45 ∷ []) ≡ []
+dashes_turn rows pending position = refl
+
+dashes_after : (rows : List Row) (pending : Pending) (position : ℕ) → after (walk_at rows pending idle position false) (45 ∷ 45 ∷ []) ≡ walk_at rows pending idle position true
+unfolding clap_on_literals
+dashes_after rows pending position = refl
+
+-- No option is known.
+long_fails : (rows : List Row) (pending : Pending) (position c : ℕ) (cs : Text) → Fails (turn (walk_at rows pending idle position false) (45 ∷ 45 ∷ c ∷ cs))
+long_fails rows pending position c cs = fails_with _ _
+
+short_fails : (rows : List Row) (pending : Pending) (position c x : ℕ) (cs : Text) → eqb c 45 ≡ false → slice_get (chars (c ∷ cs)) 0 ≡ Some x
+    → Fails (turn (walk_at rows pending idle position false) (45 ∷ c ∷ cs))
+unfolding clap_on_literals
+short_fails rows pending position c x cs no_hyphen first =
+    rw (no_dashes c cs no_hyphen, no_long c cs no_hyphen, is_short c cs no_hyphen) (rw first (fails_with _ _))
+
+-- ---- from word to word
+
+turn_fails : (w : Walk) (word : Text) (ws : List Text) → Fails (turn w word) → Fails (rest w (word ∷ ws))
+unfolding clap_on_literals
+turn_fails w word ws h = first_fails _ _ (first_fails (turn w word) _ h)
+
+turn_passes : (w v : Walk) (word : Text) (ws : List Text) → turn w word ≡ [] → after w word ≡ v → rest w (word ∷ ws) ≡ rest v ws
+unfolding clap_on_literals
+turn_passes w v word ws h is = rw h (ap (λ u. rest u ws) is)
+
+rows_pass : (w v : Walk) (word : Text) (ws : List Text) → after w word ≡ v → end_rows w (word ∷ ws) ≡ end_rows v ws
+rows_pass w v word ws is = ap (λ u. end_rows u ws) is
+
+-- What is left of the words, as the reader takes them.
+abbrev left_of : Bool → List Text → List Text
+left_of true ws = ws
+left_of false ws = without_dashes ws
+
+-- Both take the words and say the same, or neither does.
+abbrev Agree : Got → Bool → List Text → Type 0
+Agree g trailing ws =
+    ((rest (stand g trailing) ws ≡ []) × (says (end_rows (stand g trailing) ws) ≡ three_in (before g (left_of trailing ws))))
+    ⊎ (Fails (rest (stand g trailing) ws) × (three_in (before g (left_of trailing ws)) ≡ None))
+
+value_left : (word : Text) (ws : List Text) (trailing : Bool) → IsValue trailing word → left_of trailing (word ∷ ws) ≡ word ∷ left_of trailing ws
+value_left word ws true v = refl
+value_left word ws false p = rw p.no_dashes refl
+
+-- Behind a word that is taken the rest decides.
+carried : (g n : Got) (trailing behind : Bool) (word : Text) (ws : List Text) → turn (stand g trailing) word ≡ [] → after (stand g trailing) word ≡ stand n behind
+    → before g (left_of trailing (word ∷ ws)) ≡ before n (left_of behind ws) → Agree n behind ws → Agree g trailing (word ∷ ws)
+carried g n trailing behind word ws passes goes same (inl both) = inl (
+  turn_passes (stand g trailing) (stand n behind) word ws passes goes ∙ both.0,
+  ap says (rows_pass (stand g trailing) (stand n behind) word ws goes) ∙ both.1 ∙ ap three_in (sym same),
+)
+carried g n trailing behind word ws passes goes same (inr neither) = inr (
+  λ none. neither.0 (sym (turn_passes (stand g trailing) (stand n behind) word ws passes goes) ∙ none),
+  ap three_in same ∙ neither.1,
+)
+
+refused : (g : Got) (trailing : Bool) (word : Text) (ws : List Text) → Fails (turn (stand g trailing) word) → three_in (before g (left_of trailing (word ∷ ws))) ≡ None
+    → Agree g trailing (word ∷ ws)
+refused g trailing word ws fails says_none = inr (turn_fails (stand g trailing) word ws fails, says_none)
+
+-- ---- the end
+
+at_end : (g : Got) (trailing : Bool) → Agree g trailing []
+unfolding clap_on_literals
+at_end none_got true = inl (refl, refl)
+at_end none_got false = inl (refl, refl)
+at_end (one_got s) true = inl (refl, refl)
+at_end (one_got s) false = inl (refl, refl)
+at_end (two_got s h) true = inl (refl, refl)
+at_end (two_got s h) false = inl (refl, refl)
+at_end (all_got s h e) true = inl (refl, refl)
+at_end (all_got s h e) false = inl (refl, refl)
+
+-- ---- a value
+
+value_agrees : (g : Got) (trailing : Bool) (word : Text) (ws : List Text) → IsValue trailing word → ((n : Got) → Agree n trailing ws) → Agree g trailing (word ∷ ws)
+value_agrees none_got trailing word ws v later =
+    let more = one_more word trailing v in
+    carried none_got (one_got word) trailing trailing word ws more.0 more.1 (value_left word ws trailing v) (later (one_got word))
+value_agrees (one_got s) trailing word ws v later =
+    let more = two_more s word trailing v in
+    carried (one_got s) (two_got s word) trailing trailing word ws more.0 more.1 (ap (λ us. s ∷ us) (value_left word ws trailing v)) (later (two_got s word))
+value_agrees (two_got s h) trailing word ws v later =
+    let more = three_more s h word trailing v in
+    carried (two_got s h) (all_got s h word) trailing trailing word ws more.0 more.1 (ap (λ us. s ∷ h ∷ us) (value_left word ws trailing v)) (later (all_got s h word))
+value_agrees (all_got s h e) trailing word ws v later =
+    refused (all_got s h e) trailing word ws (too_many s h e word trailing v) (ap (λ us. three_in (s ∷ h ∷ e ∷ us)) (value_left word ws trailing v))
+
+-- ---- a word that looks like an option
+
+and_false : (b : Bool) → (b && false) ≡ false
+and_false true = refl
+and_false false = refl
+
+-- It is no number.
+no_number : (g : Got) (c : ℕ) (cs : Text) (ws : List Text) → three_in (before g ((45 ∷ c ∷ cs) ∷ ws)) ≡ None
+no_number none_got c cs [] = refl
+no_number none_got c cs (x ∷ []) = refl
+no_number none_got c cs (x ∷ y ∷ []) = refl
+no_number none_got c cs (x ∷ y ∷ z ∷ ws) = refl
+no_number (one_got s) c cs [] = refl
+no_number (one_got s) c cs (x ∷ []) = rw (and_false (is_seed s)) refl
+no_number (one_got s) c cs (x ∷ y ∷ ws) = refl
+no_number (two_got s h) c cs [] = rw (and_false (is_machine_count h)) (rw (and_false (is_seed s)) refl)
+no_number (two_got s h) c cs (x ∷ ws) = refl
+no_number (all_got s h e) c cs ws = refl
+
+-- It stays where it is.
+hyphen_left : (c : ℕ) (cs : Text) (ws : List Text) → bytes_eq (45 ∷ c ∷ cs) (45 ∷ 45 ∷ []) ≡ false → without_dashes ((45 ∷ c ∷ cs) ∷ ws) ≡ (45 ∷ c ∷ cs) ∷ without_dashes ws
+hyphen_left c cs ws apart = rw apart refl
+
+-- `--` is taken once.
+dashes_agree : (g : Got) (ws : List Text) → Agree g true ws → Agree g false ((45 ∷ 45 ∷ []) ∷ ws)
+dashes_agree g ws later =
+    carried g g false true (45 ∷ 45 ∷ []) ws (dashes_turn (rows_at g) (pending_at g) (place_at g)) (dashes_after (rows_at g) (pending_at g) (place_at g)) refl later
+
+long_agrees : (g : Got) (c : ℕ) (cs : Text) (ws : List Text) → Agree g false ((45 ∷ 45 ∷ c ∷ cs) ∷ ws)
+long_agrees g c cs ws =
+    refused g false (45 ∷ 45 ∷ c ∷ cs) ws (long_fails (rows_at g) (pending_at g) (place_at g) c cs) (no_number g 45 (c ∷ cs) (without_dashes ws))
+
+short_agrees : (g : Got) (c x : ℕ) (cs : Text) (ws : List Text) → eqb c 45 ≡ false → slice_get (chars (c ∷ cs)) 0 ≡ Some x → Agree g false ((45 ∷ c ∷ cs) ∷ ws)
+short_agrees g c x cs ws no_hyphen first =
+    let none : three_in (before g (without_dashes ((45 ∷ c ∷ cs) ∷ ws))) ≡ None =
+    ap (λ us. three_in (before g us)) (hyphen_left c cs ws (no_dashes c cs no_hyphen)) ∙ no_number g c cs (without_dashes ws) in
+    refused g false (45 ∷ c ∷ cs) ws (short_fails (rows_at g) (pending_at g) (place_at g) c x cs no_hyphen first) none
+
+two_hyphens : (g : Got) (cs : Text) (ws : List Text) → Agree g true ws → Agree g false ((45 ∷ 45 ∷ cs) ∷ ws)
+two_hyphens g [] ws later = dashes_agree g ws later
+two_hyphens g (c ∷ cs) ws later = long_agrees g c cs ws
+
+hyphen_agrees : (g : Got) (c : ℕ) (cs : Text) (ws : List Text) → IsUtf8 (45 ∷ c ∷ cs) → Agree g true ws → Agree g false ((45 ∷ c ∷ cs) ∷ ws)
+hyphen_agrees g c cs ws u later = elim (cases_Bool (eqb c 45)) [
+  | inl hyphen ↦ subst (λ d. Agree g false ((45 ∷ d ∷ cs) ∷ ws)) (sym (eqb-true c 45 hyphen)) (two_hyphens g cs ws later)
+  | inr no_hyphen ↦ let first = first_char c cs (behind (c ∷ cs) u) in short_agrees g c first.0 cs ws no_hyphen first.1.char
+]
+
+-- ---- all words
+
+trailing_agree : (ws : List Text) (g : Got) → Agree g true ws
+trailing_agree [] g = at_end g true
+trailing_agree (word ∷ ws) g = value_agrees g true word ws tt (trailing_agree ws)
+
+all_agree : (ws : List Text) (g : Got) → AreTexts ws → Agree g false ws
+all_agree [] g texts = at_end g false
+all_agree (word ∷ ws) g texts = elim (word_cases word) [
+  | inl plain ↦ value_agrees g false word ws plain.1 (λ n. all_agree ws n texts.1)
+  | inr hyphened ↦ subst (λ w. Agree g false (w ∷ ws)) (sym hyphened.2)
+      (hyphen_agrees g hyphened.0 hyphened.1 ws (subst IsUtf8 hyphened.2 texts.0) (trailing_agree ws g))
+]
+
+-- ---- the command `gen`
+
+pub gen_level : (ws : List Text) → level generate ws ≡ rest (walk_from nothing_held) ws
+gen_level ws =
+    let end : Held = held_after (walk_from nothing_held) ws in
+    let open_values : Kinds = settle_fault gen_rules false end in
+    ap (λ ks. or_else (walk_fault generate [] (walk_from nothing_held) ws) (or_else open_values (or_else ks (check_fault generate (finished gen_rules end) false))))
+    (no_faults (settled gen_rules end).rows gen_rules refl)
+    ∙ ap (or_else (walk_fault generate [] (walk_from nothing_held) ws)) (or_nothing open_values)
+
+-- The level's faults and rows against what the reader says.
+pub gen_read : (ws : List Text) → AreTexts ws
+    → ((level generate ws ≡ []) × (says (rows_after gen_rules [] ws) ≡ three_in (without_dashes ws))) ⊎ (Fails (level generate ws) × (three_in (without_dashes ws) ≡ None))
+gen_read ws texts = elim (all_agree ws none_got texts) [
+  | inl both ↦ inl (gen_level ws ∙ both.0, ap says (no_defaults (end_rows (stand none_got false) ws) gen_rules refl) ∙ both.1)
+  | inr neither ↦ inr (λ none. neither.0 (sym (gen_level ws) ∙ none), neither.1)
+]

@@ -1,0 +1,9 @@
+pub mod CandidateLaws
+pub mod DrawLaws
+pub mod Drawing
+pub mod HeaderLaws
+pub mod HeadersRead
+pub mod NameLaws
+pub mod Plain
+pub mod TextLaws
+pub mod Written

@@ -1,0 +1,18 @@
+-- The machines behind this one are looked at.
+use Rattle.sl_generate.proofs.candidates.add_tests.Given as goal
+use Rattle.sl_play.specs.Playing.{state_of}
+use Rattle.sl_run.specs.declared.event.Event.TheVariants.{Test}
+use Rattle.sl_world_law.specs.Drawing.{is_useful_in}
+use Rattle.std.proofs.Common.{map, ◌++◌, ◌+◌, ◌-◌, ◌≡◌, ◌≤◌}
+use Rattle.std.specs.List.{range_with_len}
+use Rattle.std.specs.Prelude.{filter}
+
+abbrev pub invariant-loop-machine : goal.invariant-loop-machine
+invariant-loop-machine g l = record {
+  within : l.machine ≤ l.hosts;
+  added : l.events.items
+      ≡ map (λ t. Test t) (filter (is_useful_in (state_of g.L.LockTable.locks l.play).kept) (range_with_len (l.machine + 1) (l.hosts - l.machine))) ++ l.fn.events.items;
+}
+
+abbrev pub decreases-loop-machine : goal.decreases-loop-machine
+decreases-loop-machine g l = l.machine

@@ -1,0 +1,153 @@
+//! The schedule of a seed, played as it is drawn.
+
+ghost use Rattle.sl_daemon.specs.Daemons.{program_of};
+ghost use Rattle.sl_generate.specs.Candidates.{first_allowed};
+ghost use Rattle.sl_generate.specs.Drawn.{IsDrawn};
+ghost use Rattle.sl_generate.specs.Generating.{DrawsAll, Generates, IsDrawing, MayGenerate, TakesDrawn};
+ghost use Rattle.sl_play.specs.Owing.{EachStood};
+ghost use Rattle.sl_play.specs.Playing.{StaysAs, state_of};
+ghost use Rattle.sl_report.specs.Generator.{gen_header, gen_line};
+ghost use Rattle.sl_report.specs.Reports as reports;
+ghost use Rattle.sl_run.specs.Worlds.{world_with};
+ghost use Rattle.sl_text.specs.Forms.{as_bytes};
+ghost use Rattle.std.specs.Prelude.{IfOk, OnOk, [], ◌∷◌, ◌≡◌};
+
+use crate::candidates::candidates;
+use crate::draws::{Draws, draw_event};
+use crate::header::header;
+use sl_daemon::Daemon;
+use sl_io::{Sink, write_all};
+use sl_machine::LockTable;
+use sl_play::{Play, PlayError};
+use sl_run::Event;
+use sl_schedule::{Counts, push_end_line};
+use std::alloc::{AllocError, Global};
+use std::collections::VecDeque;
+
+/// How a generation ended.
+#[derive(Clone, Copy, Debug, PartialEq, Eq)]
+pub enum Generated {
+    /// Each event happened; both lines are written.
+    Done,
+    /// A write failed. What is written begins the two lines.
+    WriteFault,
+    /// There was no memory, or no number for a call, a job or a count. Nothing is written.
+    NoMemory,
+}
+
+/// The first of the candidates that nothing refuses; where each is refused, time that does not pass. An `Err` is want of memory.
+fn first_allowed<D: Daemon, L: LockTable>(
+    play: &mut Play<D, L>,
+    candidates: VecDeque<Event>,
+) -> Result<Event, AllocError>
+    ensures exact { IfOk result (λ event. event ≡ first_allowed D.commands (state_of L.locks play.old).kept candidates.items) }
+    ensures same { StaysAs (state_of L.locks play.old) (state_of L.locks play.new) }
+{
+    let mut candidates = candidates;
+    while let Some(event) = candidates.pop_front() {
+        if play.allows(&event)? {
+            return Ok(event);
+        }
+    }
+    Ok(Event::Pass {
+        time: 0,
+        growths: None,
+    })
+}
+
+/// The event of these draws comes to pass; its lines are written into `out`.
+fn take_event<D: Daemon, L: LockTable>(
+    alloc: Global,
+    play: &mut Play<D, L>,
+    out: &mut Vec<u8>,
+    draw: Draws,
+    number: u64,
+) -> Result<(), PlayError>
+    requires { IsDrawing D.commands D.stands (state_of L.locks play.old) }
+    ensures { OnOk result (TakesDrawn D.commands D.stands (state_of L.locks play.old) draw.a draw.b draw.c number (state_of L.locks play.new)) }
+{
+    let candidates = candidates(alloc, play, draw, number)?;
+    let event = first_allowed(play, candidates)?;
+    out.clear();
+    match play.happen(out, event)? {
+        None => Ok(()),
+        Some(_) => unreachable!(),
+    }
+}
+
+/// So many events of a seed come to pass, one after another.
+fn take_events<D: Daemon, L: LockTable>(
+    alloc: Global,
+    play: &mut Play<D, L>,
+    seed: u64,
+    events: u64,
+) -> Result<(), PlayError>
+    requires { IsDrawing D.commands D.stands (state_of L.locks play.old) }
+    ensures { OnOk result (DrawsAll D.commands D.stands (state_of L.locks play.old) seed events (state_of L.locks play.new)) }
+{
+    let mut state = seed;
+    let mut out = Vec::new(alloc);
+    let mut number = 0;
+    while number < events {
+        let draw = draw_event(&mut state);
+        number += 1;
+        take_event(alloc, play, &mut out, draw, number)?;
+    }
+    Ok(())
+}
+
+/// Plays the schedule of a seed, from its header on; the answer is what its last line counts.
+fn play_seed<D: Daemon, L: LockTable>(
+    alloc: Global,
+    seed: u64,
+    hosts: u32,
+    events: u64,
+) -> Result<Counts, PlayError>
+    requires { MayGenerate D.commands hosts }
+    ensures { IfOk result (λ counts. IsDrawn (EachStood D.stands) hosts events 1 (world_with (program_of D.commands) (gen_header hosts)) seed reports.no_counts counts) }
+{
+    let header = header(alloc, hosts)?;
+    let mut play = Play::<D, L>::new(alloc, header)?;
+    take_events(alloc, &mut play, seed, events)?;
+    Ok(*play.counts())
+}
+
+/// The two lines: what was generated, and what the last line of its report counts. An `Err` is want of memory.
+fn both_lines(
+    alloc: Global,
+    seed: u64,
+    hosts: u32,
+    events: u64,
+    counts: &Counts,
+) -> Result<Vec<u8>, AllocError>
+    ensures { IfOk result (λ text. text.items ≡ as_bytes (gen_line seed hosts events ∷ reports.end_line counts.now ∷ [])) }
+{
+    let line = format!(in alloc; "gen {seed} {hosts} {events}\n")?;
+    let mut text = Vec::from_slice(alloc, line.as_bytes())?;
+    push_end_line(&mut text, counts)?;
+    Ok(text)
+}
+
+/// Draws a schedule of so many events for 1 to 16 hosts from the seed, plays it as it is drawn, and puts out the line
+/// `gen SEED HOSTS EVENTS` and the last line of its report.
+pub fn generate<K: Sink, D: Daemon, L: LockTable>(
+    alloc: Global,
+    seed: u64,
+    hosts: u32,
+    events: u64,
+    sink: &mut K,
+) -> Generated
+    requires { MayGenerate D.commands hosts }
+    ensures { Generates D.commands D.stands seed hosts events (K.taken sink.old) (K.taken sink.new) (K.faults sink.old) (K.faults sink.new) result }
+{
+    let Ok(counts) = play_seed::<D, L>(alloc, seed, hosts, events) else {
+        return Generated::NoMemory;
+    };
+    let Ok(text) = both_lines(alloc, seed, hosts, events, &counts) else {
+        return Generated::NoMemory;
+    };
+    match write_all(sink, &text) {
+        Ok(()) => Generated::Done,
+        Err(_) => Generated::WriteFault,
+    }
+}

@@ -1,0 +1,4 @@
+//! Time may always stand still.
+#![tactic(auto)]
+
+pub mod laws;
