@@ -22,6 +22,3 @@ pub use inner::{NotApplied, Receipt, Station};
 pub use kept::Kept;
 pub use seat::{Idle, Made, Part, Seat};
 pub use teller::Teller;
-
-#[cfg(test)]
-mod tests;

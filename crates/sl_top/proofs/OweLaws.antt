@@ -17,6 +17,7 @@ nothing_told taken faults text whole =
     record { written = []; appends = nothing_put taken; text_is = inr (none_written [] text refl, inr refl); cause = λ e. absurd cc }
 
 none_generated : (seed hosts events : ℕ) (taken : Option (List ℕ)) (faults : ℕ) → Generates seed hosts events taken taken faults faults NoMemory
+unfolding nothing_told
 none_generated seed hosts events taken faults =
     record {
       puts = nothing_told taken faults (as_bytes (gen_lines whole_program seed hosts events)) Done;
