@@ -5,9 +5,9 @@ use crate::word::{number_at, number_of, part, short_at, short_of, word};
 use sl_ballot::{
     Ballot, BallotStep, Limit, ballot_run, instance_of, next_mbal, stop_of, value_after_read,
 };
-use sl_leases::{Instance, Stop};
 use sl_sector::{Block, Leader, Owner};
 use sl_text::Name;
+use sl_trace::{Instance, Stop};
 use std::alloc::{AllocError, Global};
 
 /// A block without a mode, whose value is of generation 1 where bal isn't 0.

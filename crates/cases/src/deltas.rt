@@ -7,10 +7,9 @@ use sl_area::Geometry;
 use sl_delta::{DeltaCall, DeltaIn, DeltaLease, DeltaOut, Outcome};
 use sl_request::Bitmap;
 use sl_sector::{DeltaRec, DeltaState};
-use sl_sessions::Stage;
 use sl_text::{Bytes, Name};
 use sl_time::Timing;
-use sl_trace::{Answer, JoinStep, Move, Reply};
+use sl_trace::{Answer, JoinStep, Move, Reply, Stage};
 use std::alloc::{AllocError, Global};
 
 /// What each reading is below.

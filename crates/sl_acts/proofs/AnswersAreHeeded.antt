@@ -15,11 +15,11 @@ use Rattle.sl_due.specs.DueInputs.{take_input}
 use Rattle.sl_due.specs.DueLease.{after_lease_answer, carry_lease, goes_on, next_of_lease, with_command}
 use Rattle.sl_due.specs.DueRequests.{after_request_read, after_see_request, after_value_read, signal_of_request}
 use Rattle.sl_due.specs.Steps.{Step, add_reply, begin_step, seen, when, with_input, with_some}
-use Rattle.sl_leases.specs.Jobs.{aim_of, command_numbered}
-use Rattle.sl_leases.specs.Leases.{exclusive_on, lease_spots, spot_of_call}
-use Rattle.sl_sessions.specs.Deltas.{delta_of_session, next_in_joining}
-use Rattle.sl_sessions.specs.Sessions.{calls_of, generation_of, is_joined, is_present, recovery_of, session_numbered}
-use Rattle.sl_sessions.specs.declared.session.Session.{Session}
+use Rattle.sl_trace.specs.Jobs.{aim_of, command_numbered}
+use Rattle.sl_trace.specs.Leases.{exclusive_on, lease_spots, spot_of_call}
+use Rattle.sl_trace.specs.Deltas.{delta_of_session, next_in_joining}
+use Rattle.sl_trace.specs.Sessions.{calls_of, generation_of, is_joined, is_present, recovery_of, session_numbered}
+use Rattle.sl_trace.specs.declared.session.Session.{Session}
 use Rattle.sl_trace.specs.Traces.{Setting, Submitted, Trace, bytes_given, call_numbered, is_expected, is_orphan, is_running}
 use Rattle.sl_trace.specs.declared.effects.JoinStep.{JoinStep}
 use Rattle.sl_trace.specs.declared.effects.LeaseStep.{LeaseStep}

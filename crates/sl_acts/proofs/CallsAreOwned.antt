@@ -18,8 +18,8 @@ use Rattle.sl_due.specs.declared.decision.Decision.TheVariants.{Joins}
 use Rattle.sl_plain.proofs.Lists.{contains_cases, contains_none}
 use Rattle.sl_plain.proofs.Options.{some_of}
 use Rattle.sl_plain.proofs.Places.{last_there}
-use Rattle.sl_sessions.specs.Sessions.{added, is_join_call, joining_session, session_numbered, sessions}
-use Rattle.sl_sessions.specs.declared.session.Session.{Session}
+use Rattle.sl_trace.specs.Sessions.{added, is_join_call, joining_session, session_numbered, sessions}
+use Rattle.sl_trace.specs.declared.session.Session.{Session}
 use Rattle.sl_trace.specs.TraceLaws.{with_call}
 use Rattle.sl_trace.specs.Traces.{EachEntry, FollowsTrace, Setting, Trace, next_call, next_job}
 use Rattle.sl_trace.specs.declared.command.Command.TheVariants.{AddLockspace}

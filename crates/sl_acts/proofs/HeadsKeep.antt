@@ -8,8 +8,8 @@ use Rattle.sl_due.specs.DueFirst.{is_overdue, kill_holders, kills, kills_holders
 use Rattle.sl_due.specs.Steps.{Step, add_move, add_reply, seen, when}
 use Rattle.sl_plain.proofs.Lists.{contains_cases, contains_first, contains_more, contains_none, kept_inside}
 use Rattle.sl_plain.proofs.Numbers.{less_is_other}
-use Rattle.sl_sessions.specs.Sessions.{has_open_write, holders_of, present_sessions, refused_after, session_of_job}
-use Rattle.sl_sessions.specs.declared.session.Session.{Session}
+use Rattle.sl_trace.specs.Sessions.{has_open_write, holders_of, present_sessions, refused_after, session_of_job}
+use Rattle.sl_trace.specs.declared.session.Session.{Session}
 use Rattle.sl_trace.specs.Connections.{is_registered}
 use Rattle.sl_trace.specs.Traces.{Job, Replied, Setting, Submitted, Trace, is_running, jobs, line_in, next_job, numbers_taken, reply_to, running_jobs, takes_number, waiting_call}
 use Rattle.sl_trace.specs.declared.effects.JobReply.{JobReply}

@@ -15,12 +15,12 @@ use Rattle.sl_due.specs.DueRequests.{after_request_read, after_see_request, afte
 use Rattle.sl_due.specs.Steps.{Step, add_end, add_reply, add_signal, add_start, seen, when, with_input, with_some}
 use Rattle.sl_due.specs.declared.decision.Decision.TheVariants.{Replies}
 use Rattle.sl_due.specs.declared.decision.Decision.{Decision}
-use Rattle.sl_leases.specs.Counts.{stopper_of}
-use Rattle.sl_leases.specs.Jobs.{aim_of, command_numbered, job_of_start, jobs_of_session}
-use Rattle.sl_leases.specs.Leases.{exclusive_on, lease_spots, spot_of_call}
-use Rattle.sl_sessions.specs.Deltas.{delta_of_session, next_in_joining}
-use Rattle.sl_sessions.specs.Sessions.{calls_of, generation_of, holders_of, is_joined, is_present, last_renewal, recovery_of, session_numbered}
-use Rattle.sl_sessions.specs.declared.session.Session.{Session}
+use Rattle.sl_trace.specs.Counts.{stopper_of}
+use Rattle.sl_trace.specs.Jobs.{aim_of, command_numbered, job_of_start, jobs_of_session}
+use Rattle.sl_trace.specs.Leases.{exclusive_on, lease_spots, spot_of_call}
+use Rattle.sl_trace.specs.Deltas.{delta_of_session, next_in_joining}
+use Rattle.sl_trace.specs.Sessions.{calls_of, generation_of, holders_of, is_joined, is_present, last_renewal, recovery_of, session_numbered}
+use Rattle.sl_trace.specs.declared.session.Session.{Session}
 use Rattle.sl_trace.specs.Traces.{Submitted, call_numbered, end_of, holdings, is_orphan, is_running, next_child, next_job, no_process, stands_for}
 use Rattle.sl_trace.specs.declared.command.Command.{Command}
 use Rattle.sl_trace.specs.declared.effects.JoinStep.{JoinStep}

@@ -16,12 +16,12 @@ use Rattle.sl_due.specs.DueRequests.{after_request_read, after_value_read, owner
 use Rattle.sl_due.specs.Steps.{Step, add_end, add_grant, add_reply, seen, with_input}
 use Rattle.sl_due.specs.declared.decision.Decision.TheVariants.{ConvertsTo, GetsValue, GivesUp, Joins, Leaves, ReadsArea, Replies, Requests, SetsValue, Shares, TakesOver}
 use Rattle.sl_due.specs.declared.decision.Decision.{Decision}
-use Rattle.sl_leases.specs.Jobs.{is_job_of_process, job_of_start}
-use Rattle.sl_leases.specs.LeaseWork.{convert_next, lease_place, release_next}
-use Rattle.sl_leases.specs.Leases.{holdings_on, known, spot_of}
+use Rattle.sl_trace.specs.Jobs.{is_job_of_process, job_of_start}
+use Rattle.sl_trace.specs.LeaseWork.{convert_next, lease_place, release_next}
+use Rattle.sl_trace.specs.Leases.{holdings_on, known, spot_of}
 use Rattle.sl_sector.specs.declared.sector.Rec.TheVariants.{RequestIs, ValueIs}
-use Rattle.sl_sessions.specs.Sessions.{is_join_call, sessions}
-use Rattle.sl_sessions.specs.declared.session.Session.{Session}
+use Rattle.sl_trace.specs.Sessions.{is_join_call, sessions}
+use Rattle.sl_trace.specs.declared.session.Session.{Session}
 use Rattle.sl_trace.specs.Traces.{end_of, holdings, is_running, next_job, orphans_left, running_jobs, spot_of_grant}
 use Rattle.sl_trace.specs.declared.command.Command.TheVariants.{Request}
 use Rattle.sl_trace.specs.declared.command.Command.{Command}

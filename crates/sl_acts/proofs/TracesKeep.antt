@@ -16,7 +16,7 @@ use Rattle.sl_due.specs.DueInputs.{leave_holdings, on_exit, refuse_jobs_of, take
 use Rattle.sl_due.specs.DueWake.{on_wake}
 use Rattle.sl_due.specs.Steps.{Step, begin_step, seen, with_input}
 use Rattle.sl_due.specs.declared.decision.Decision.{Decision}
-use Rattle.sl_sessions.specs.Sessions.{is_present}
+use Rattle.sl_trace.specs.Sessions.{is_present}
 use Rattle.sl_trace.specs.Traces.{FollowsTrace, Setting, Trace, is_expected, next_job, no_process}
 use Rattle.sl_trace.specs.declared.command.Command.{Command}
 use Rattle.sl_trace.specs.declared.effects.Effects.{Effects}

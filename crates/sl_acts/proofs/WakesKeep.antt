@@ -9,14 +9,14 @@ use Rattle.sl_due.specs.DueLease.{carry_lease, settle}
 use Rattle.sl_due.specs.DueRequests.{bits_due}
 use Rattle.sl_due.specs.DueWake.{end_if_done, finish, finish_session, for_sessions, free_if_done, join_on_wake, on_wake, renew_on_wake, settle_on_wake, settlings}
 use Rattle.sl_due.specs.Steps.{Step, for_each, seen, when}
-use Rattle.sl_leases.specs.LeaseWork.{lease_place, settle_next}
-use Rattle.sl_leases.specs.Leases.{is_lease_call, is_spot_before, known, lease_spots, open_on, spot_of_call, spots_in, with_spot}
-use Rattle.sl_leases.specs.declared.lease.LeaseNext.TheVariants.{AnswerJob, BecomeExclusive, BecomeShared, GrantJob, Nothing, ReadFor, WriteBlock, WriteLeader}
-use Rattle.sl_leases.specs.declared.lease.LeaseNext.{LeaseNext}
+use Rattle.sl_trace.specs.LeaseWork.{lease_place, settle_next}
+use Rattle.sl_trace.specs.Leases.{is_lease_call, is_spot_before, known, lease_spots, open_on, spot_of_call, spots_in, with_spot}
+use Rattle.sl_trace.specs.declared.lease.LeaseNext.TheVariants.{AnswerJob, BecomeExclusive, BecomeShared, GrantJob, Nothing, ReadFor, WriteBlock, WriteLeader}
+use Rattle.sl_trace.specs.declared.lease.LeaseNext.{LeaseNext}
 use Rattle.sl_plain.proofs.Lists.{contains_cases, contains_first, contains_more, contains_none, kept_inside}
-use Rattle.sl_sessions.specs.Deltas.{delta_known, delta_of_session, next_free, next_on_wake, next_renewal}
-use Rattle.sl_sessions.specs.Sessions.{calls_of, has_open_write, holdings_of, is_active, is_joined, is_present, open_calls_of, present_sessions, recovery_of, session_numbered, sessions}
-use Rattle.sl_sessions.specs.declared.session.Session.{Session}
+use Rattle.sl_trace.specs.Deltas.{delta_known, delta_of_session, next_free, next_on_wake, next_renewal}
+use Rattle.sl_trace.specs.Sessions.{calls_of, has_open_write, holdings_of, is_active, is_joined, is_present, open_calls_of, present_sessions, recovery_of, session_numbered, sessions}
+use Rattle.sl_trace.specs.declared.session.Session.{Session}
 use Rattle.sl_area.specs.Layouts.{Layout}
 use Rattle.sl_trace.specs.Traces.{Setting, Submitted, is_running, same_spot}
 use Rattle.sl_trace.specs.declared.effects.LeaseStep.TheVariants.{ReadArea, ReadBeforeFree}

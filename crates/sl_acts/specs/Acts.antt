@@ -9,13 +9,13 @@ use Rattle.sl_due.specs.DueRequests.{after_request_read, after_value_read, bits_
 use Rattle.sl_due.specs.Steps.{Step, add_reply, add_signal, seen, with_input}
 use Rattle.sl_due.specs.declared.decision.Decision.TheVariants.{Replies}
 use Rattle.sl_due.specs.declared.decision.Decision.{Decision}
-use Rattle.sl_leases.specs.Jobs.{aim_of, command_numbered, job_of_start}
-use Rattle.sl_leases.specs.LeaseWork.{lease_place, settle_next}
-use Rattle.sl_leases.specs.Leases.{exclusive_on, known, open_on, spot_of_call}
-use Rattle.sl_leases.specs.declared.lease.Aim.{Aim}
-use Rattle.sl_sessions.specs.Deltas.{delta_known, delta_of_session, next_after_free, next_after_renewal, next_free, next_in_joining, next_on_wake, next_renewal}
-use Rattle.sl_sessions.specs.Sessions.{calls_of, generation_of, has_open_write, holdings_of, is_active, is_joined, is_present, open_calls_of, recovery_of, session_numbered}
-use Rattle.sl_sessions.specs.declared.session.Session.{Session}
+use Rattle.sl_trace.specs.Jobs.{aim_of, command_numbered, job_of_start}
+use Rattle.sl_trace.specs.LeaseWork.{lease_place, settle_next}
+use Rattle.sl_trace.specs.Leases.{exclusive_on, known, open_on, spot_of_call}
+use Rattle.sl_trace.specs.declared.lease.Aim.{Aim}
+use Rattle.sl_trace.specs.Deltas.{delta_known, delta_of_session, next_after_free, next_after_renewal, next_free, next_in_joining, next_on_wake, next_renewal}
+use Rattle.sl_trace.specs.Sessions.{calls_of, generation_of, has_open_write, holdings_of, is_active, is_joined, is_present, open_calls_of, recovery_of, session_numbered}
+use Rattle.sl_trace.specs.declared.session.Session.{Session}
 use Rattle.sl_trace.specs.Traces.{Submitted, bytes_given, call_numbered, is_expected, is_orphan, is_running, next_job, no_process, stands_for, waiting_call}
 use Rattle.sl_trace.specs.declared.command.Command.{Command}
 use Rattle.sl_trace.specs.declared.effects.Grant.{Grant}

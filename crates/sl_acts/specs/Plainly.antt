@@ -3,7 +3,7 @@ use Rattle.sl_acts.specs.Acts.{Has}
 use Rattle.sl_due.specs.DueCommands.{carry_decision, decided}
 use Rattle.sl_due.specs.Steps.{Step, add_call_of, add_end, add_grant, add_move, add_reply, add_signal, add_start, seen, with_input}
 use Rattle.sl_due.specs.declared.decision.Decision.TheVariants.{Joins}
-use Rattle.sl_sessions.specs.declared.session.Session.{Session}
+use Rattle.sl_trace.specs.declared.session.Session.{Session}
 use Rattle.sl_trace.specs.Traces.{next_job}
 use Rattle.sl_trace.specs.declared.command.Command.{Command}
 use Rattle.sl_trace.specs.declared.command.LockspaceArg.{LockspaceArg}

@@ -1,6 +1,6 @@
 -- What holds at each moment of a step: the trace so far is orderly, as if nothing more came.
 use Rattle.sl_due.specs.Steps.{Step, seen}
-use Rattle.sl_law.specs.Lawful.{Orderly}
+use Rattle.sl_run.specs.Lawful.{Orderly}
 use Rattle.sl_trace.specs.declared.effects.Entry.{Entry}
 
 -- The entry of a step in progress.

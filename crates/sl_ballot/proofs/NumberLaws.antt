@@ -1,6 +1,6 @@
 -- The greatest of numbers, as it is found one by one.
 use Rattle.sl_ballot.specs.Phases.{mbal_in, top_mbal, top_of}
-use Rattle.sl_leases.specs.Ballots.{in_instance, next_mbal, number_above}
+use Rattle.sl_trace.specs.Ballots.{in_instance, next_mbal, number_above}
 use Rattle.sl_sector.specs.declared.sector.Block.{Block}
 use Rattle.sl_words.specs.Words.{greatest}
 use Rattle.std.proofs.Common.{Bool, List, [], ap, arith, cond, map, max, refl, sym, true, false, ◌==◌, ◌∙◌, ◌∷◌, ◌≡◌, ℕ}

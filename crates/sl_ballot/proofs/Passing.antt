@@ -3,7 +3,7 @@ use Rattle.sl_ballot.specs.Laws.{IsStoppedBy, Passes}
 use Rattle.sl_ballot.specs.Machine.{unless_stopped}
 use Rattle.sl_ballot.specs.declared.ballot.BallotStep.TheVariants.{Ahead, Rival}
 use Rattle.sl_ballot.specs.declared.ballot.BallotStep.{BallotStep}
-use Rattle.sl_leases.specs.Ballots.{block_ahead, block_rival}
+use Rattle.sl_trace.specs.Ballots.{block_ahead, block_rival}
 use Rattle.sl_sector.specs.declared.sector.Block.{Block}
 use Rattle.sl_words.proofs.WordLaws.{and_true}
 use Rattle.std.proofs.Common.{All, Bool, Contains, List, None, Option, Some, [], arith, cond, false, find, inl, inr, nat_lt, refl, suc, true, ◌&&◌, ◌==◌, ◌∷◌, ◌≡◌, ◌≤◌, ◌⊎◌}

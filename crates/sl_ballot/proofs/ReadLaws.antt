@@ -1,6 +1,6 @@
 -- The blocks of a read, by hosts and by places.
 use Rattle.sl_ballot.specs.Reads.{is_torn_at, known_at, known_blocks}
-use Rattle.sl_leases.specs.Ballots.{ballot_blocks, known_block, torn_host, whole_blocks, with_own}
+use Rattle.sl_trace.specs.Ballots.{ballot_blocks, known_block, torn_host, whole_blocks, with_own}
 use Rattle.sl_sector.specs.declared.sector.Block.{Block}
 use Rattle.std.proofs.Common.{List, None, Option, Some, [], ap, cond, filter_map, option_map, position, is_none, refl, sym, ℕ, ◌+◌, ◌∙◌, ◌∷◌, ◌≡◌}
 use Rattle.std.proofs.lemmas.Iterator.Adapters.{position_from-zero}

@@ -2,7 +2,7 @@
 use Rattle.sl_ballot.proofs.RiseLaws.{numbers_rise}
 use Rattle.sl_ballot.proofs.ValueLaws.{values_are_kept}
 use Rattle.sl_ballot.specs.Laws.{BlocksAreRecords, IsBelowIn, IsMode, IsOwner}
-use Rattle.sl_leases.specs.Ballots.{phase1_block, phase2_block, value_of, value_to_write}
+use Rattle.sl_trace.specs.Ballots.{phase1_block, phase2_block, value_of, value_to_write}
 use Rattle.sl_sector.specs.Records.{Fits, IsBlock}
 use Rattle.sl_sector.specs.declared.sector.Block.{Block}
 use Rattle.sl_sector.specs.declared.sector.Owner.{Owner}

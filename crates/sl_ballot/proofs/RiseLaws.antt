@@ -1,7 +1,7 @@
 -- The number of phase 1.
 use Rattle.sl_ballot.specs.Laws.{IsBelowIn, NumbersRise}
-use Rattle.sl_leases.proofs.NumberFacts.{numbers_are_least}
-use Rattle.sl_leases.specs.Ballots.{in_instance, next_mbal, phase1_block}
+use Rattle.sl_trace.proofs.NumberFacts.{numbers_are_least}
+use Rattle.sl_trace.specs.Ballots.{in_instance, next_mbal, phase1_block}
 use Rattle.sl_sector.specs.declared.sector.Block.{Block}
 use Rattle.sl_words.specs.Words.{greatest}
 use Rattle.std.proofs.Common.{All, List, [], arith, cond, false, map, refl, true, ◌*◌, ◌+◌, ◌<◌, ◌==◌, ◌∷◌, ◌≡◌, ℕ}

@@ -6,7 +6,7 @@ use Rattle.sl_ballot.specs.declared.ballot.BallotStep.TheVariants.{Ahead, Go, Lo
 use Rattle.sl_ballot.specs.declared.ballot.BallotStep.{BallotStep}
 use Rattle.sl_ballot.specs.declared.ballot.Phase.TheVariants.{Ended, Phase1Read, Phase1Write, Phase2Read, Phase2Write}
 use Rattle.sl_ballot.specs.declared.ballot.Phase.{Phase}
-use Rattle.sl_leases.specs.Ballots.{phase2_block, same_owner, value_of}
+use Rattle.sl_trace.specs.Ballots.{phase2_block, same_owner, value_of}
 use Rattle.sl_sector.specs.declared.sector.Block.{Block}
 use Rattle.sl_sector.specs.declared.sector.Owner.{Owner}
 use Rattle.sl_words.proofs.CaseLaws.{true_is_false}

@@ -1,6 +1,6 @@
 -- The value of the greatest bal.
 use Rattle.sl_ballot.specs.Laws.{IsBestIn, ValuesAreKept}
-use Rattle.sl_leases.specs.Ballots.{greater_bal, in_instance, phase1_block, value_of}
+use Rattle.sl_trace.specs.Ballots.{greater_bal, in_instance, phase1_block, value_of}
 use Rattle.sl_sector.specs.declared.sector.Block.{Block}
 use Rattle.sl_sector.specs.declared.sector.Owner.{Owner}
 use Rattle.sl_words.specs.Words.{choose}

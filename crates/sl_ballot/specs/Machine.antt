@@ -5,7 +5,7 @@ use Rattle.sl_ballot.specs.declared.ballot.BallotStep.{BallotStep}
 use Rattle.sl_ballot.specs.declared.ballot.Phase.TheVariants.{Ended, Phase1Read, Phase1Write, Phase2Read, Phase2Write}
 use Rattle.sl_ballot.specs.declared.ballot.Phase.{Phase}
 use Rattle.sl_ballot.specs.declared.number.Limit.{Limit}
-use Rattle.sl_leases.specs.Ballots.{block_ahead, block_rival, phase2_block, same_owner, value_of}
+use Rattle.sl_trace.specs.Ballots.{block_ahead, block_rival, phase2_block, same_owner, value_of}
 use Rattle.sl_sector.specs.declared.sector.Block.{Block}
 use Rattle.sl_sector.specs.declared.sector.Owner.{Owner}
 use Rattle.sl_words.specs.Bounds.{is_number}

@@ -1,5 +1,5 @@
 -- The blocks of a ballot's phases, in parts.
-use Rattle.sl_leases.specs.Ballots.{in_instance}
+use Rattle.sl_trace.specs.Ballots.{in_instance}
 use Rattle.sl_sector.specs.declared.sector.Block.{Block}
 use Rattle.sl_sector.specs.declared.sector.Owner.{Owner}
 use Rattle.std.specs.Prelude.{Bool, List, fold, if◌then◌else◌, map, max, ℕ, ◌==◌}

@@ -1,5 +1,5 @@
 -- Going over the blocks of a read by their places.
-use Rattle.sl_leases.specs.Ballots.{known_block}
+use Rattle.sl_trace.specs.Ballots.{known_block}
 use Rattle.sl_sector.specs.declared.sector.Block.{Block}
 use Rattle.std.specs.List.{enumerate_from}
 use Rattle.std.specs.Prelude.{Bool, List, Option, filter_map, is_none, ℕ, ◌+◌}

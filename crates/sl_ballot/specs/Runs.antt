@@ -3,7 +3,7 @@ use Rattle.sl_ballot.specs.Machine.{phase2_step, unless_stopped}
 use Rattle.sl_ballot.specs.Limits.{limited}
 use Rattle.sl_ballot.specs.declared.ballot.BallotStep.{BallotStep}
 use Rattle.sl_ballot.specs.declared.number.Limit.{Limit}
-use Rattle.sl_leases.specs.Ballots.{phase1_block, phase2_block}
+use Rattle.sl_trace.specs.Ballots.{phase1_block, phase2_block}
 use Rattle.sl_sector.specs.declared.sector.Block.{Block}
 use Rattle.sl_sector.specs.declared.sector.Owner.{Owner}
 use Rattle.sl_words.specs.Bounds.{is_number}

@@ -10,7 +10,7 @@
 //!   a greater number could not have learned of it.
 ghost use Rattle.sl_ballot.specs.Machine.{after_step, begun, ends_with, is_reading, phase_written, step_of, unless_stopped};
 ghost use Rattle.sl_ballot.specs.Runs.{ballot_run};
-ghost use Rattle.sl_leases.specs.Ballots.{phase1_block};
+ghost use Rattle.sl_trace.specs.Ballots.{phase1_block};
 ghost use Rattle.std.specs.Prelude.{IsTrue, ◌<◌, ◌^◌, ◌≡◌, ◌≤◌};
 
 use crate::blocks::{block_ahead, block_rival, same_owner, value_of};

@@ -4,12 +4,12 @@
 //! The value is that of the greatest `bal`, so that a value once chosen is written by each later ballot of its instance; a ballot that
 //! took the last one it saw, or its own, could choose a second.
 ghost use Rattle.sl_ballot.specs.Stops.{stop_by};
-ghost use Rattle.sl_leases.specs.Ballots.{block_ahead, block_rival, greater_bal, in_instance, same_owner, stop_among, value_of, value_to_write};
+ghost use Rattle.sl_trace.specs.Ballots.{block_ahead, block_rival, greater_bal, in_instance, same_owner, stop_among, value_of, value_to_write};
 ghost use Rattle.std.specs.Option.{option_map_or};
 ghost use Rattle.std.specs.Prelude.{None, fold, nat_lt, ◌&&◌, ◌==◌, ◌≡◌};
 
-use sl_leases::Stop;
 use sl_sector::{Block, Owner};
+use sl_trace::Stop;
 
 /// Whether two owners are one session: the same id in the same generation.
 pub fn same_owner(a: Owner, b: Owner) -> bool

@@ -3,12 +3,12 @@
 //! A resource's instances are granted one after another, and the leader tells of the last one whose winner wrote it. Where a block shows
 //! a later instance, that one is still being decided, and the acquire joins it. Else a new one begins only where the last is over: it was
 //! freed, or its owner is. A session that began the next instance beside a holder that lives would share the resource with it.
-ghost use Rattle.sl_leases.specs.Ballots.{counted_lver, instance_of, is_counted_free, owner_of};
+ghost use Rattle.sl_trace.specs.Ballots.{counted_lver, instance_of, is_counted_free, owner_of};
 ghost use Rattle.std.specs.Prelude.{◌+◌, ◌<◌, ◌^◌, ◌≡◌};
 
 use crate::blocks::same_owner;
-use sl_leases::Instance;
 use sl_sector::{Leader, Owner};
+use sl_trace::Instance;
 
 /// The session that a leader names as its owner.
 pub fn owner_of(leader: &Leader) -> Owner
@@ -36,7 +36,7 @@ fn is_counted_free(leader: &Leader, freed: u64) -> bool
 
 /// The instance that a session's acquire begins, or who holds the resource. `is_over` says whether the leader's owner counts as over;
 /// `freed` is the greatest instance of which the session submitted a free, 0 if of none; `top` is the greatest lver of a block.
-#[tactic(auto, unfolding(sl_leases::specs::Ballots::instance_of))]
+#[tactic(auto, unfolding(sl_trace::specs::Ballots::instance_of))]
 pub fn instance_of(is_over: bool, me: Owner, leader: &Leader, freed: u64, top: u64) -> Instance
     requires { counted_lver leader.now freed + 1 < 2 ^ 64 }
     ensures { result ≡ instance_of is_over me leader.now freed top }

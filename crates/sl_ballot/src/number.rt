@@ -6,7 +6,7 @@
 //! stopped at once, or would stand twice for one host.
 ghost use Rattle.sl_ballot.specs.Limits.{limited_number};
 ghost use Rattle.sl_ballot.specs.Phases.{top_of};
-ghost use Rattle.sl_leases.specs.Ballots.{next_mbal, number_above};
+ghost use Rattle.sl_trace.specs.Ballots.{next_mbal, number_above};
 ghost use Rattle.std.specs.Prelude.{◌≡◌, ◌≤◌};
 
 use thiserror::Error;

@@ -5,7 +5,7 @@
 //! greatest bal that was read. The mode that stands in a block is no part of the ballot, and goes with it unchanged.
 ghost use Rattle.sl_ballot.specs.Limits.{limited_block};
 ghost use Rattle.sl_ballot.specs.Phases.{mbal_in, numbered_block, top_mbal};
-ghost use Rattle.sl_leases.specs.Ballots.{ballot_blocks, moded_block, number_above, phase1_block, phase2_block, proposing};
+ghost use Rattle.sl_trace.specs.Ballots.{ballot_blocks, moded_block, number_above, phase1_block, phase2_block, proposing};
 ghost use Rattle.sl_words.specs.Words.{present};
 ghost use Rattle.std.specs.Prelude.{max, ◌≡◌, ◌≤◌};
 
@@ -89,7 +89,7 @@ fn begun_block(
 
 /// The block of phase 1 of a ballot in instance `n`, with this mode. Its number is the least k*N + id, of N = `hosts` and the session's
 /// id, above each mbal in `n` of the own block and of those seen. The error comes exactly where that is 2^63 or more.
-#[tactic(auto, using(crate::proofs::NumberRules::above_seen), unfolding(sl_leases::specs::Ballots::phase1_block))]
+#[tactic(auto, using(crate::proofs::NumberRules::above_seen), unfolding(sl_trace::specs::Ballots::phase1_block))]
 pub fn phase1_block(
     me: Owner,
     hosts: u32,
@@ -106,7 +106,7 @@ pub fn phase1_block(
 }
 
 /// The same where the blocks seen are those of a read; torn ones are passed over.
-#[tactic(auto, using(crate::proofs::NumberRules::above_seen), unfolding(sl_leases::specs::Ballots::phase1_block))]
+#[tactic(auto, using(crate::proofs::NumberRules::above_seen), unfolding(sl_trace::specs::Ballots::phase1_block))]
 pub fn phase1_after_read(
     me: Owner,
     hosts: u32,
@@ -136,7 +136,7 @@ pub fn proposing(own: &Block, value: Owner) -> Block
 
 /// The block of phase 2 after that of phase 1, by the blocks that were read in between, the own one among them: with the value of the
 /// greatest bal in its instance, or the session itself where there is none.
-#[tactic(auto, unfolding(sl_leases::specs::Ballots::phase2_block))]
+#[tactic(auto, unfolding(sl_trace::specs::Ballots::phase2_block))]
 pub fn phase2_block(me: Owner, own: &Block, blocks: &[Block]) -> Block
     ensures { result ≡ phase2_block me own.now blocks.now }
 {
@@ -144,7 +144,7 @@ pub fn phase2_block(me: Owner, own: &Block, blocks: &[Block]) -> Block
 }
 
 /// The same by a read of the blocks of hosts 1, 2 ..; the own one is taken as submitted where it is torn.
-#[tactic(auto, unfolding(sl_leases::specs::Ballots::phase2_block))]
+#[tactic(auto, unfolding(sl_trace::specs::Ballots::phase2_block))]
 pub fn phase2_after_read(me: Owner, own: &Block, read: &[Option<Block>]) -> Block
     ensures { result ≡ phase2_block me own.now (ballot_blocks own.now read.now) }
 {

@@ -3,13 +3,13 @@
 //! A torn block may hide a greater number or an accepted value, so it stops the ballot. The own block is the exception: its host alone
 //! writes it, so whatever a read shows of it, what was submitted last is what it will be, and it is taken as that.
 ghost use Rattle.sl_ballot.specs.Reads.{is_torn_at, known_blocks};
-ghost use Rattle.sl_leases.specs.Ballots.{ballot_blocks, block_ahead, block_rival, greater_bal, in_instance, known_block, stop_of, torn_host, value_to_write, with_own};
+ghost use Rattle.sl_trace.specs.Ballots.{ballot_blocks, block_ahead, block_rival, greater_bal, in_instance, known_block, stop_of, torn_host, value_to_write, with_own};
 ghost use Rattle.std.specs.List.{enumerate_from};
 ghost use Rattle.std.specs.Prelude.{IfSome, None, fold, length, position, ◌+◌, ◌<◌, ◌^◌, ◌≡◌};
 
 use crate::blocks::{greater_bal, is_ahead, is_rival, stop_by, value_or};
-use sl_leases::Stop;
 use sl_sector::{Block, Owner};
+use sl_trace::Stop;
 
 /// A host's block as it was read; the own one is taken as submitted where it is torn.
 fn known_block(own: &Block, seen: Option<Block>, host: usize) -> Option<Block>
@@ -72,7 +72,7 @@ fn best_in(n: u64, own: &Block, read: &[Option<Block>]) -> Option<Block>
 
 /// What stops the ballot of this own block in a read of the blocks of hosts 1, 2 ..: the least host whose block is torn, but for the own
 /// one; else the least in a later instance; else the least with a greater number in its own.
-#[tactic(auto, using(crate::proofs::ReadRules::by_place), unfolding(sl_leases::specs::Ballots::stop_of))]
+#[tactic(auto, using(crate::proofs::ReadRules::by_place), unfolding(sl_trace::specs::Ballots::stop_of))]
 pub fn stop_of(own: &Block, read: &[Option<Block>]) -> Option<Stop>
     requires { length read.now < 2 ^ 32 }
     ensures { result ≡ stop_of own.now read.now }

@@ -9,7 +9,7 @@ use Rattle.sl_daemon.specs.Daemons.{IsNumbered, IsStep, MayCome, begun_with, ent
 use Rattle.sl_daemon.specs.declared.daemon.Most.{Most}
 use Rattle.sl_daemon.specs.declared.daemon.Site.{Site}
 use Rattle.sl_kept_law.proofs.NextNumbers.{calls_next, jobs_next}
-use Rattle.sl_law.specs.Lawful.{IsGiven, IsSetting}
+use Rattle.sl_run.specs.Lawful.{IsGiven, IsSetting}
 use Rattle.sl_run.specs.declared.header.Header.{Header}
 use Rattle.sl_text.specs.Forms.{Form}
 use Rattle.sl_trace.specs.Connections.{Connection, after_move, connections}

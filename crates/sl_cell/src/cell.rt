@@ -5,7 +5,7 @@ ghost use Rattle.sl_cell.specs.Cases.{IsCase, IsCaseOfSome, Stops};
 ghost use Rattle.sl_cell.specs.Cells.{IsTaken, IsTested, IsTold, KeepsIdle};
 ghost use Rattle.sl_cell.specs.declared.audit.Differ.{Differ as DifferOf};
 ghost use Rattle.sl_daemon.specs.Daemons.{begun_with};
-ghost use Rattle.sl_law.specs.Lawful.{IsSetting};
+ghost use Rattle.sl_run.specs.Lawful.{IsSetting};
 ghost use Rattle.sl_run.specs.Headers.{IsHeader};
 ghost use Rattle.sl_trace.specs.Connections.{given_connection};
 ghost use Rattle.sl_trace.specs.Traces.{IsTrace};

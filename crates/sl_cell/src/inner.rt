@@ -1,7 +1,7 @@
 //! A daemon with the history that led to it.
 
 ghost use Rattle.sl_cell.specs.Cells.{HasNumbers, IsAnswered, IsTold, KeepsIdle, Stepped, made_entry};
-ghost use Rattle.sl_law.specs.Lawful.{IsSetting};
+ghost use Rattle.sl_run.specs.Lawful.{IsSetting};
 ghost use Rattle.sl_daemon.specs.Daemons.{begun_with};
 ghost use Rattle.sl_daemon.specs.declared.daemon.Most.{Most};
 ghost use Rattle.sl_run.specs.Headers.{IsHeader};

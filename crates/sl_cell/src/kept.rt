@@ -5,7 +5,7 @@ ghost use Rattle.sl_cell.specs.Cases.{IsCase, Stops};
 ghost use Rattle.sl_cell.specs.Cells.{IsAnswered, IsTaken, IsTested, IsTold, KeepsIdle, Stepped, Takes, Tests, left_of, made_entry, with_entry, with_left};
 ghost use Rattle.sl_cell.specs.Seats.{is_of};
 ghost use Rattle.sl_daemon.specs.Daemons.{begun_with};
-ghost use Rattle.sl_law.specs.Lawful.{IsSetting};
+ghost use Rattle.sl_run.specs.Lawful.{IsSetting};
 ghost use Rattle.sl_run.specs.Headers.{IsHeader};
 ghost use Rattle.sl_trace.specs.Traces.{IsTrace};
 ghost use Rattle.sl_words.specs.Bounds.{moments};

@@ -2,7 +2,7 @@
 use Rattle.sl_area.specs.Layouts.{layout_of, program_digest}
 use Rattle.sl_daemon.specs.declared.daemon.Most.{Most}
 use Rattle.sl_daemon.specs.declared.daemon.Site.{Site}
-use Rattle.sl_law.specs.Lawful.{IsSetting}
+use Rattle.sl_run.specs.Lawful.{IsSetting}
 use Rattle.sl_run.specs.Events.{is_for_locks, sectors_of}
 use Rattle.sl_run.specs.Worlds.{Program, setting_of}
 use Rattle.sl_run.specs.declared.header.Header.{Header}

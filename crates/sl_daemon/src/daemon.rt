@@ -1,7 +1,7 @@
 //! The trait of a daemon, and what one is begun with.
 
 ghost use Rattle.sl_daemon.specs.Daemons.{IsNumbered, IsStep, MayCome, begun_with, entry_of, read_of, text_for_locks};
-ghost use Rattle.sl_law.specs.Lawful.{IsSetting};
+ghost use Rattle.sl_run.specs.Lawful.{IsSetting};
 ghost use Rattle.sl_run.specs.Headers.{IsHeader};
 ghost use Rattle.sl_run.specs.declared.header.Header.{Header as HeaderOf};
 ghost use Rattle.sl_text.specs.Forms.{Form};

@@ -6,7 +6,7 @@ use Rattle.sl_due.specs.declared.decision.Decision.TheVariants.{GetsValue, Gives
 use Rattle.sl_due.specs.declared.decision.Decision.{Decision}
 use Rattle.sl_host_law.specs.Decisions.Deciding.{acquire_decision, add_decision, busy_refused, convert_decision, decision_of, held_of, holder_decision, holds_there, joined_refused, leave_decision, limit_refused, member_acquires, member_named, member_of, member_refusal, member_sets, orphan_at, orphan_decision, other_at, pending_refused, process_refused, report_decision, request_decision, serving_holding, take_over_decision, value_seq, with_member}
 use Rattle.sl_host_state.specs.Kept.{HostKept, HostState, MemberState, state_of}
-use Rattle.sl_leases.specs.Leases.{spot_of}
+use Rattle.sl_trace.specs.Leases.{spot_of}
 use Rattle.sl_trace.specs.Commands.{IsResourceArg}
 use Rattle.sl_trace.specs.Limits.{most_lockspaces}
 use Rattle.sl_trace.specs.Traces.{is_orphan, is_shared, no_process}

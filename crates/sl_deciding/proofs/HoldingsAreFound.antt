@@ -2,7 +2,7 @@
 use Rattle.sl_deciding.specs.Refusing.{shared_beside}
 use Rattle.sl_due.specs.declared.decision.Decision.TheVariants.{ReadsArea, Shares}
 use Rattle.sl_due.specs.declared.decision.Decision.{Decision}
-use Rattle.sl_sessions.specs.declared.session.Session.{Session}
+use Rattle.sl_trace.specs.declared.session.Session.{Session}
 use Rattle.sl_tables.specs.Holdings.{fits, is_holder, is_in_mode}
 use Rattle.sl_tables.specs.declared.holdings.Holder.TheVariants.{Anyone, Is}
 use Rattle.sl_tables.specs.declared.holdings.Holder.{Holder}

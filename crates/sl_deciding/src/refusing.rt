@@ -2,7 +2,7 @@
 
 ghost use Rattle.sl_host_law.specs.Decisions.Deciding.{member_named, member_refusal, pending_refused, process_refused};
 ghost use Rattle.sl_deciding.specs.Refusing.{first_refusal, refused_or};
-ghost use Rattle.sl_leases.specs.Leases.{spot_of};
+ghost use Rattle.sl_trace.specs.Leases.{spot_of};
 ghost use Rattle.sl_trace.specs.declared.reply.Reply.TheVariants.{NotHeld};
 ghost use Rattle.sl_host.specs.Asking.{state_in};
 ghost use Rattle.sl_words.specs.Words.{choose};

@@ -5,11 +5,11 @@ use Rattle.sl_delta.specs.Own.{OwnState, OwnStands, after_answer, after_call, ca
 use Rattle.sl_host_state.specs.declared.kept.JoinCall.{JoinCall}
 use Rattle.sl_host_state.specs.Makes.{joining_calling}
 use Rattle.sl_host_state.specs.Stands.{JoinStands}
-use Rattle.sl_sessions.specs.Deltas.{DeltaLease, join_step_of, next_after_deciding, next_after_join_read, next_after_join_write, next_after_verify, next_after_watch, next_by_time, next_in_joining, next_on_wake}
-use Rattle.sl_sessions.specs.Sessions.{delta_written, generation_in, is_join_call}
-use Rattle.sl_sessions.specs.declared.delta.DeltaNext.TheVariants.{Nothing}
-use Rattle.sl_sessions.specs.declared.delta.DeltaNext.{DeltaNext}
-use Rattle.sl_sessions.specs.declared.session.Session.{Session}
+use Rattle.sl_trace.specs.Deltas.{DeltaLease, join_step_of, next_after_deciding, next_after_join_read, next_after_join_write, next_after_verify, next_after_watch, next_by_time, next_in_joining, next_on_wake}
+use Rattle.sl_trace.specs.Sessions.{delta_written, generation_in, is_join_call}
+use Rattle.sl_trace.specs.declared.delta.DeltaNext.TheVariants.{Nothing}
+use Rattle.sl_trace.specs.declared.delta.DeltaNext.{DeltaNext}
+use Rattle.sl_trace.specs.declared.session.Session.{Session}
 use Rattle.sl_trace.specs.Traces.{Answered, Submitted}
 use Rattle.sl_trace.specs.declared.effects.JoinStep.TheVariants.{ClaimWrite, DecidingRead, FirstRead, FirstRenewal, VerifyRead, WatchRead}
 use Rattle.sl_trace.specs.declared.effects.JoinStep.{JoinStep}

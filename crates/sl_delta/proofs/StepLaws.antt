@@ -8,9 +8,9 @@ use Rattle.sl_delta.specs.declared.lease.Standing.TheVariants.{Declined, Gone, H
 use Rattle.sl_delta.specs.declared.lease.Standing.{Standing}
 use Rattle.sl_delta.specs.declared.steps.DeltaOut.{DeltaOut}
 use Rattle.sl_sector.specs.Spelling.{IsSectorSize}
-use Rattle.sl_sessions.specs.Sessions.{is_join_call, is_survey_purpose}
-use Rattle.sl_sessions.specs.declared.delta.DeltaNext.TheVariants.{Nothing}
-use Rattle.sl_sessions.specs.declared.delta.DeltaNext.{DeltaNext}
+use Rattle.sl_trace.specs.Sessions.{is_join_call, is_survey_purpose}
+use Rattle.sl_trace.specs.declared.delta.DeltaNext.TheVariants.{Nothing}
+use Rattle.sl_trace.specs.declared.delta.DeltaNext.{DeltaNext}
 use Rattle.sl_trace.specs.declared.effects.JoinStep.TheVariants.{ClaimWrite, DecidingRead, FirstRead, FirstRenewal, VerifyRead, WatchRead}
 use Rattle.sl_trace.specs.declared.effects.JoinStep.{JoinStep}
 use Rattle.sl_trace.specs.declared.effects.Purpose.TheVariants.{Joining, Lease, Leaving, Renewal, RequestRead, RequestWrite, SeeRequest, Survey, ValueRead, ValueWrite}

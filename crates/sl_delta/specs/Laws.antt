@@ -10,9 +10,9 @@ use Rattle.sl_host_state.specs.Hears.{joining_hearing}
 use Rattle.sl_host_state.specs.Kept.{HostState, JoinState}
 use Rattle.sl_host_state.specs.declared.kept.OpenCall.{OpenCall}
 use Rattle.sl_host_state.specs.Makes.{joining_calling, known_calling}
-use Rattle.sl_sessions.specs.Deltas.{next_in_joining, next_on_wake}
-use Rattle.sl_sessions.specs.Sessions.{delta_written, generation_in, given_number}
-use Rattle.sl_sessions.specs.declared.session.Session.{Session}
+use Rattle.sl_trace.specs.Deltas.{next_in_joining, next_on_wake}
+use Rattle.sl_trace.specs.Sessions.{delta_written, generation_in, given_number}
+use Rattle.sl_trace.specs.declared.session.Session.{Session}
 use Rattle.sl_time.specs.Times.{TimingNumbers}
 use Rattle.sl_trace.specs.Traces.{Submitted}
 use Rattle.sl_trace.specs.declared.effects.JoinStep.{JoinStep}

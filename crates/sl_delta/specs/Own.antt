@@ -9,10 +9,10 @@ use Rattle.sl_host_state.specs.New.{new_joining}
 use Rattle.sl_host_state.specs.Stands.{JoinStands}
 use Rattle.sl_sector.specs.Records.{Fits, IsDelta}
 use Rattle.sl_sector.specs.declared.sector.DeltaRec.{DeltaRec}
-use Rattle.sl_sessions.specs.Deltas.{DeltaLease, join_step_of}
-use Rattle.sl_sessions.specs.Sessions.{delta_written, free_write, generation_in, is_delta_purpose, is_free_purpose, is_join_call, is_renewal, renewal_in, seq_in}
-use Rattle.sl_sessions.specs.declared.delta.DeltaKnown.{DeltaKnown}
-use Rattle.sl_sessions.specs.declared.session.Session.{Session}
+use Rattle.sl_trace.specs.Deltas.{DeltaLease, join_step_of}
+use Rattle.sl_trace.specs.Sessions.{delta_written, free_write, generation_in, is_delta_purpose, is_free_purpose, is_join_call, is_renewal, renewal_in, seq_in}
+use Rattle.sl_trace.specs.declared.delta.DeltaKnown.{DeltaKnown}
+use Rattle.sl_trace.specs.declared.session.Session.{Session}
 use Rattle.sl_text.specs.Names.{is_name}
 use Rattle.sl_time.specs.Times.{TimingNumbers}
 use Rattle.sl_trace.specs.Traces.{Answered, Submitted, bytes_given}

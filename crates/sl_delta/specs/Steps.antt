@@ -14,12 +14,12 @@ use Rattle.sl_delta.specs.declared.steps.Outcome.TheVariants.{Joined, Left, NotJ
 use Rattle.sl_delta.specs.declared.steps.Outcome.{Outcome}
 use Rattle.sl_sector.specs.Spelling.{IsSectorSize}
 use Rattle.sl_sector.specs.declared.sector.DeltaRec.{DeltaRec}
-use Rattle.sl_sessions.specs.Deltas.{next_after_free, next_after_renewal, next_free, next_renewal}
-use Rattle.sl_sessions.specs.Sessions.{is_survey_purpose, stage_after}
-use Rattle.sl_sessions.specs.declared.stage.Stage.TheVariants.{Ended as EndedStage, Freeing, Looking, Refused as RefusedStage, Standing as Stands}
-use Rattle.sl_sessions.specs.declared.stage.Stage.{Stage}
-use Rattle.sl_sessions.specs.declared.delta.DeltaNext.TheVariants.{Disconnect, EndLeaving, Join, MoveConnection, Nothing, ReadOwn, RefuseJoin, RegisterAndRead, WriteClaim, WriteFirst, WriteFree, WriteRenewal}
-use Rattle.sl_sessions.specs.declared.delta.DeltaNext.{DeltaNext}
+use Rattle.sl_trace.specs.Deltas.{next_after_free, next_after_renewal, next_free, next_renewal}
+use Rattle.sl_trace.specs.Sessions.{is_survey_purpose, stage_after}
+use Rattle.sl_trace.specs.declared.stage.Stage.TheVariants.{Ended as EndedStage, Freeing, Looking, Refused as RefusedStage, Standing as Stands}
+use Rattle.sl_trace.specs.declared.stage.Stage.{Stage}
+use Rattle.sl_trace.specs.declared.delta.DeltaNext.TheVariants.{Disconnect, EndLeaving, Join, MoveConnection, Nothing, ReadOwn, RefuseJoin, RegisterAndRead, WriteClaim, WriteFirst, WriteFree, WriteRenewal}
+use Rattle.sl_trace.specs.declared.delta.DeltaNext.{DeltaNext}
 use Rattle.sl_time.specs.Times.{fail}
 use Rattle.sl_trace.specs.declared.effects.JoinStep.TheVariants.{ClaimWrite, DecidingRead, FirstRead, FirstRenewal, VerifyRead, WatchRead}
 use Rattle.sl_trace.specs.declared.effects.JoinStep.{JoinStep}

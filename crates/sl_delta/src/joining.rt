@@ -6,10 +6,10 @@
 ghost use Rattle.sl_area.specs.Layouts.{layout_of, sector_with};
 ghost use Rattle.sl_delta.specs.Decides.{IsFitNext, after_deciding, after_join, after_join_read, after_join_write, after_verify, after_watch, claim_next, claim_waited, first_renewal, first_spelled, is_over_since, on_wake, time_next, watch_next, watched_in};
 ghost use Rattle.sl_delta.specs.Own.{IsOwnRecord, answer_in, lease_of};
-ghost use Rattle.sl_sessions.specs.Deltas.{claim_on, id_held, id_lost, next_after_first};
+ghost use Rattle.sl_trace.specs.Deltas.{claim_on, id_held, id_lost, next_after_first};
 ghost use Rattle.sl_words.specs.Bounds.{moments};
 ghost use Rattle.sl_sector.specs.declared.sector.Rec.TheVariants.{DeltaIs};
-ghost use Rattle.sl_sessions.specs.declared.delta.DeltaNext.TheVariants.{RefuseJoin};
+ghost use Rattle.sl_trace.specs.declared.delta.DeltaNext.TheVariants.{RefuseJoin};
 ghost use Rattle.sl_trace.specs.declared.reply.Reply.TheVariants.{Limit as LimitReached};
 ghost use Rattle.std.specs.Prelude.{bytes_eq, ◌<◌, ◌≡◌};
 
@@ -20,10 +20,9 @@ use crate::reads::{delta_of, is_free, owner_in, version_in};
 use sl_request::Bitmap;
 use sl_sector::{DeltaRec, DeltaState, Rec};
 use sl_sectors::Image;
-use sl_sessions::DeltaNext;
 use sl_text::Name;
 use sl_time::Timing;
-use sl_trace::{DeltaOwner, DeltaVersion, JoinStep, Limited, Reply};
+use sl_trace::{DeltaNext, DeltaOwner, DeltaVersion, JoinStep, Limited, Reply};
 
 /// The refusal for want of a further number.
 fn limit(which: Limited) -> DeltaNext
@@ -98,7 +97,7 @@ fn by_time(timing: &Timing, now: u64, made: u64, answered: u64, step: JoinStep) 
 
 impl OwnSector {
     /// After the first read: a torn sector or another lockspace's refuses; a free record needs no watch.
-    #[tactic(auto, unfolding(sl_sessions::specs::Deltas::next_after_first))]
+    #[tactic(auto, unfolding(sl_trace::specs::Deltas::next_after_first))]
     fn after_first(&self, sector: &Image) -> DeltaNext
         ensures exact { result ≡ next_after_first (lease_of self.now) sector.now }
         ensures fit { IsFitNext result }

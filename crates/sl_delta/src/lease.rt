@@ -10,7 +10,7 @@ ghost use Rattle.sl_delta.specs.Steps.{IsFitAnswer, IsFitInput, IsWholeRead, aft
 ghost use Rattle.sl_delta.specs.declared.lease.Standing.TheVariants.{Holds};
 ghost use Rattle.sl_delta.specs.declared.steps.DeltaIn.TheVariants.{Answered as Told, Leave, Wake};
 ghost use Rattle.sl_sector.specs.Records.{Fits};
-ghost use Rattle.sl_sessions.specs.Sessions.{is_survey_purpose};
+ghost use Rattle.sl_trace.specs.Sessions.{is_survey_purpose};
 ghost use Rattle.sl_text.specs.Names.{is_name};
 ghost use Rattle.sl_trace.specs.declared.effects.Move.TheVariants.{Unregister};
 ghost use Rattle.sl_trace.specs.declared.effects.Purpose.TheVariants.{Survey};
@@ -27,10 +27,9 @@ use crate::steps::{DeltaCall, DeltaIn, DeltaOut, Outcome};
 use sl_area::Geometry;
 use sl_request::Bitmap;
 use sl_sector::DeltaRec;
-use sl_sessions::{DeltaNext, Stage};
 use sl_text::Name;
 use sl_time::Timing;
-use sl_trace::{Answer, JoinStep, Move, Purpose};
+use sl_trace::{Answer, DeltaNext, JoinStep, Move, Purpose, Stage};
 use std::alloc::{AllocError, Global};
 use std::marker::Model;
 

@@ -1,7 +1,7 @@
 //! A session's lease on an id: what it keeps of its calls on the id's sector, and what it does there next.
 //!
 //! An id is had by who writes its sector anew, again and again (Chockler and Malkhi, *Light-weight leases for storage-centric
-//! coordination*, on one disk). A session comes to it in the stages of `sl_sessions`:
+//! coordination*, on one disk). A session comes to it in the stages of `sl_trace`:
 //!
 //! ```text
 //! Looking --> Deciding --> Claiming --> Waiting --> Verifying --> FirstRenewing --> Standing --> Freeing --> Ended

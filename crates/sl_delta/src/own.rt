@@ -3,8 +3,8 @@
 ghost use Rattle.sl_delta.specs.Own.{HasMoments, IsMade, IsOwnRecord, IsTold, OwnStands, after_answer, after_call, answer_in, heard, known_with, newest_made, newest_told, without_calls};
 ghost use Rattle.sl_host_state.specs.Hears.{answered_at};
 ghost use Rattle.sl_sector.specs.Records.{Fits};
-ghost use Rattle.sl_sessions.specs.Sessions.{given_number, is_join_call};
-ghost use Rattle.sl_sessions.specs.declared.session.Session.{Session};
+ghost use Rattle.sl_trace.specs.Sessions.{given_number, is_join_call};
+ghost use Rattle.sl_trace.specs.declared.session.Session.{Session};
 ghost use Rattle.sl_text.specs.Names.{is_name};
 ghost use Rattle.sl_trace.specs.Traces.{Answered, Submitted};
 ghost use Rattle.sl_trace.specs.declared.effects.JoinStep.TheVariants.{FirstRead};
@@ -22,10 +22,9 @@ use sl_area::Geometry;
 use sl_host_state::JoinCall;
 use sl_sector::DeltaRec;
 use sl_sectors::Image;
-use sl_sessions::DeltaKnown;
 use sl_text::Name;
 use sl_time::Timing;
-use sl_trace::Purpose;
+use sl_trace::{DeltaKnown, Purpose};
 use std::marker::Model;
 use std::sync::Arc;
 

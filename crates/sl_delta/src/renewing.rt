@@ -3,7 +3,7 @@
 ghost use Rattle.sl_delta.specs.Decides.{IsFitNext};
 ghost use Rattle.sl_delta.specs.Own.{answer_in, known_with, lease_of};
 ghost use Rattle.sl_sector.specs.Records.{Fits};
-ghost use Rattle.sl_sessions.specs.Deltas.{has_seq_left, is_renewal_due, next_after_free, next_after_renewal, next_free, next_renewal};
+ghost use Rattle.sl_trace.specs.Deltas.{has_seq_left, is_renewal_due, next_after_free, next_after_renewal, next_free, next_renewal};
 ghost use Rattle.sl_words.specs.Bounds.{moments};
 ghost use Rattle.std.specs.Prelude.{Bool, IsTrue, ◌+◌, ◌<◌, ◌≡◌, ◌≤◌};
 
@@ -12,8 +12,7 @@ use crate::numbers::{has_next, has_two_next};
 use crate::own::OwnSector;
 use sl_request::Bitmap;
 use sl_sector::DeltaState;
-use sl_sessions::DeltaNext;
-use sl_trace::Reply;
+use sl_trace::{DeltaNext, Reply};
 
 impl OwnSector {
     /// Whether a seq is left: in a leaving also for the free, which ends renewals.
@@ -38,7 +37,7 @@ impl OwnSector {
 
     /// The renewal that is due on a wake of a joined session, with these bits; `recovering` says whether recovery has begun, `leaving` for
     /// which job it leaves. What is written is a record.
-    #[tactic(auto, unfolding(sl_sessions::specs::Deltas::next_renewal))]
+    #[tactic(auto, unfolding(sl_trace::specs::Deltas::next_renewal))]
     pub fn renewal(
         &self,
         now: u64,

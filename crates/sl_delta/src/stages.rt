@@ -2,12 +2,11 @@
 
 ghost use Rattle.sl_delta.specs.Decides.{IsFitNext};
 ghost use Rattle.sl_delta.specs.Steps.{joining_wake, stage_holding, stage_joining};
-ghost use Rattle.sl_sessions.specs.Sessions.{stage_after};
+ghost use Rattle.sl_trace.specs.Sessions.{stage_after};
 ghost use Rattle.std.specs.Prelude.{◌≡◌};
 
 use crate::own::OwnSector;
-use sl_sessions::{DeltaNext, Stage};
-use sl_trace::JoinStep;
+use sl_trace::{DeltaNext, JoinStep, Stage};
 
 /// The stage of a joining after this step, its call answered or not.
 fn stage_after(step: JoinStep, done: bool) -> Stage

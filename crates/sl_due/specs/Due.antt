@@ -3,7 +3,7 @@ use Rattle.sl_due.specs.DueFirst.{begin_recoveries, kills, time_outs}
 use Rattle.sl_due.specs.DueInputs.{take_input}
 use Rattle.sl_due.specs.DueWake.{finish, is_wake, on_wake}
 use Rattle.sl_due.specs.Steps.{Step, begin_step, when}
-use Rattle.sl_sessions.specs.Sessions.{calls_of, leaving_job, session_of_job, sessions}
+use Rattle.sl_trace.specs.Sessions.{calls_of, leaving_job, session_of_job, sessions}
 use Rattle.sl_trace.specs.Traces.{EachEntry, IsTrace, Job, Setting, Submitted, Trace, children, is_answered_ok, running_jobs, waiting_call}
 use Rattle.sl_trace.specs.declared.effects.Effects.{Effects}
 use Rattle.sl_trace.specs.declared.effects.Entry.{Entry}

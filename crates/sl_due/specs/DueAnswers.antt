@@ -3,9 +3,9 @@ use Rattle.sl_due.specs.DueDelta.{after_free, after_join_answer, after_renewal, 
 use Rattle.sl_due.specs.DueLease.{after_lease_answer, with_command}
 use Rattle.sl_due.specs.DueRequests.{after_request_read, after_see_request, after_value_read}
 use Rattle.sl_due.specs.Steps.{Step, add_reply, seen, when, with_some}
-use Rattle.sl_leases.specs.Leases.{value_written}
-use Rattle.sl_sessions.specs.Sessions.{session_numbered}
-use Rattle.sl_sessions.specs.declared.session.Session.{Session}
+use Rattle.sl_trace.specs.Leases.{value_written}
+use Rattle.sl_trace.specs.Sessions.{session_numbered}
+use Rattle.sl_trace.specs.declared.session.Session.{Session}
 use Rattle.sl_trace.specs.Traces.{Submitted, bytes_given, call_numbered, is_running}
 use Rattle.sl_trace.specs.declared.effects.Purpose.TheVariants.{RequestRead, RequestWrite, Joining, Lease, Leaving, Renewal, SeeRequest, Survey, ValueRead, ValueWrite}
 use Rattle.sl_trace.specs.declared.effects.Purpose.{Purpose}

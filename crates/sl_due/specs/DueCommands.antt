@@ -5,14 +5,14 @@ use Rattle.sl_due.specs.DueLease.{carry_lease, grant_for, read_area}
 use Rattle.sl_due.specs.Steps.{Step, add_call_at, add_call_of, add_end, add_reply, seen, with_input}
 use Rattle.sl_due.specs.declared.decision.Decision.TheVariants.{ConvertsTo, GetsValue, GivesUp, Joins, Leaves, ReadsArea, Replies, Requests, SetsValue, Shares, TakesOver}
 use Rattle.sl_due.specs.declared.decision.Decision.{Decision}
-use Rattle.sl_leases.specs.Counts.{busy_process, holds_already, is_killpath_limit, limit_met, may_act, next_value_seq, other_holder, pending_call}
-use Rattle.sl_leases.specs.Jobs.{wanted_mode}
-use Rattle.sl_leases.specs.LeaseWork.{convert_next, lease_place, release_next}
-use Rattle.sl_leases.specs.Leases.{holdings_on, known, orphan_on, shared_on, spot_of}
+use Rattle.sl_trace.specs.Counts.{busy_process, holds_already, is_killpath_limit, limit_met, may_act, next_value_seq, other_holder, pending_call}
+use Rattle.sl_trace.specs.Jobs.{wanted_mode}
+use Rattle.sl_trace.specs.LeaseWork.{convert_next, lease_place, release_next}
+use Rattle.sl_trace.specs.Leases.{holdings_on, known, orphan_on, shared_on, spot_of}
 use Rattle.sl_sector.specs.declared.sector.Rec.TheVariants.{ValueIs}
-use Rattle.sl_sessions.specs.Sessions.{generation_of, holdings_of, is_active, is_joined, is_session_arg, last_renewal, last_seq, present_sessions, session_named, sessions}
-use Rattle.sl_sessions.specs.Watching.{sessions_seen, states_seen}
-use Rattle.sl_sessions.specs.declared.session.Session.{Session}
+use Rattle.sl_trace.specs.Sessions.{generation_of, holdings_of, is_active, is_joined, is_session_arg, last_renewal, last_seq, present_sessions, session_named, sessions}
+use Rattle.sl_trace.specs.Watching.{sessions_seen, states_seen}
+use Rattle.sl_trace.specs.declared.session.Session.{Session}
 use Rattle.sl_trace.specs.Limits.{most_lockspaces}
 use Rattle.sl_trace.specs.Traces.{Setting, Trace, end_of, is_orphan, is_shared, next_job, no_process, spot_of_grant}
 use Rattle.sl_trace.specs.declared.command.Command.TheVariants.{Acquire, AddLockspace, Convert, GetLvb, HostStatus, InqLockspace, Release, ReleaseOrphan, RemLockspace, Request, RunProgram, SetKillpath, SetLvb, Status, TakeOver}

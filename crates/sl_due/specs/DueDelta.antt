@@ -2,16 +2,16 @@
 use Rattle.sl_area.specs.Places.{delta_of, request_offset}
 use Rattle.sl_due.specs.DueFirst.{refuse, remove_connection, remove_of_refused, signal_and_refuse}
 use Rattle.sl_due.specs.Steps.{Step, add_call, add_call_at, add_move, add_reply, for_each, seen, when, with_some}
-use Rattle.sl_leases.specs.Leases.{exclusive_on, lease_spots}
+use Rattle.sl_trace.specs.Leases.{exclusive_on, lease_spots}
 use Rattle.sl_sector.specs.Bitmaps.{is_bit_set}
 use Rattle.sl_sector.specs.declared.sector.DeltaRec.{DeltaRec}
 use Rattle.sl_sector.specs.declared.sector.Rec.TheVariants.{DeltaIs}
-use Rattle.sl_sessions.specs.Deltas.{delta_of_session, next_after_free, next_after_renewal, next_in_joining, own_offset}
-use Rattle.sl_sessions.specs.Sessions.{calls_of, generation_of, is_joined, recovery_of}
-use Rattle.sl_sessions.specs.declared.delta.DeltaNext.TheVariants.{Disconnect, Join, EndLeaving, MoveConnection, ReadOwn, RegisterAndRead, RefuseJoin, Nothing, WriteClaim, WriteFirst, WriteFree, WriteRenewal}
-use Rattle.sl_sessions.specs.declared.delta.DeltaNext.{DeltaNext}
-use Rattle.sl_sessions.specs.declared.session.Begun.{Begun}
-use Rattle.sl_sessions.specs.declared.session.Session.{Session}
+use Rattle.sl_trace.specs.Deltas.{delta_of_session, next_after_free, next_after_renewal, next_in_joining, own_offset}
+use Rattle.sl_trace.specs.Sessions.{calls_of, generation_of, is_joined, recovery_of}
+use Rattle.sl_trace.specs.declared.delta.DeltaNext.TheVariants.{Disconnect, Join, EndLeaving, MoveConnection, ReadOwn, RegisterAndRead, RefuseJoin, Nothing, WriteClaim, WriteFirst, WriteFree, WriteRenewal}
+use Rattle.sl_trace.specs.declared.delta.DeltaNext.{DeltaNext}
+use Rattle.sl_trace.specs.declared.session.Begun.{Begun}
+use Rattle.sl_trace.specs.declared.session.Session.{Session}
 use Rattle.sl_time.specs.Times.{fail}
 use Rattle.sl_trace.specs.Traces.{Setting, Submitted, Trace, is_running}
 use Rattle.sl_trace.specs.declared.effects.Grant.{Grant}

@@ -1,10 +1,10 @@
 -- What a step does before its input: recovery that is due, kills whose grace has passed, calls that took too long.
 use Rattle.sl_due.specs.Steps.{Step, add_move, add_reply, add_signal, add_start, for_each, seen, when, with_some}
-use Rattle.sl_leases.specs.Counts.{stopper_of}
-use Rattle.sl_leases.specs.Jobs.{jobs_of_session}
-use Rattle.sl_sessions.specs.Sessions.{has_open_write, holders_of, is_joined, last_renewal, leaving_of, present_sessions, recovery_of, refused_after, session_of_job}
-use Rattle.sl_sessions.specs.declared.session.Begun.{Begun}
-use Rattle.sl_sessions.specs.declared.session.Session.{Session}
+use Rattle.sl_trace.specs.Counts.{stopper_of}
+use Rattle.sl_trace.specs.Jobs.{jobs_of_session}
+use Rattle.sl_trace.specs.Sessions.{has_open_write, holders_of, is_joined, last_renewal, leaving_of, present_sessions, recovery_of, refused_after, session_of_job}
+use Rattle.sl_trace.specs.declared.session.Begun.{Begun}
+use Rattle.sl_trace.specs.declared.session.Session.{Session}
 use Rattle.sl_trace.specs.Connections.{is_registered}
 use Rattle.sl_trace.specs.Traces.{Job, Setting, Submitted, Trace, last_reading, next_child, running_jobs, waiting_call}
 use Rattle.sl_trace.specs.declared.effects.Move.TheVariants.{Unregister}

@@ -2,8 +2,8 @@
 use Rattle.sl_due.specs.DueAnswers.{after_answer}
 use Rattle.sl_due.specs.DueCommands.{on_line}
 use Rattle.sl_due.specs.Steps.{Step, add_end, add_grant, add_reply, add_signal, for_each, seen, when, with_input, with_some}
-use Rattle.sl_leases.specs.Jobs.{is_job_of_process, job_of_start}
-use Rattle.sl_sessions.specs.Sessions.{is_present}
+use Rattle.sl_trace.specs.Jobs.{is_job_of_process, job_of_start}
+use Rattle.sl_trace.specs.Sessions.{is_present}
 use Rattle.sl_trace.specs.Traces.{Trace, end_of, holdings, is_running, no_process, orphans_left, running_jobs, stands_for}
 use Rattle.sl_trace.specs.declared.effects.Signal.TheVariants.{Term}
 use Rattle.sl_trace.specs.declared.input.Input.TheVariants.{Answer as Told, Exit, Line, Number, Spawned, Wake}

@@ -1,17 +1,17 @@
 -- How a session does what one of its leases decided.
 use Rattle.sl_area.specs.Places.{block_offset, leader_offset}
 use Rattle.sl_due.specs.Steps.{Step, add_call_at, add_end, add_grant, add_reply, add_start, seen, with_some}
-use Rattle.sl_leases.specs.Jobs.{aim_of, command_numbered, process_named}
-use Rattle.sl_leases.specs.LeaseWork.{lease_next, lease_place, settle_next}
-use Rattle.sl_leases.specs.Leases.{holdings_on, known, lver_written, spot_of_call}
-use Rattle.sl_leases.specs.declared.lease.Aim.{Aim}
-use Rattle.sl_leases.specs.declared.lease.LeaseNext.TheVariants.{AnswerJob, BecomeExclusive, BecomeShared, GrantJob, ReadFor, Nothing, WriteBlock, WriteLeader}
-use Rattle.sl_leases.specs.declared.lease.LeaseNext.{LeaseNext}
+use Rattle.sl_trace.specs.Jobs.{aim_of, command_numbered, process_named}
+use Rattle.sl_trace.specs.LeaseWork.{lease_next, lease_place, settle_next}
+use Rattle.sl_trace.specs.Leases.{holdings_on, known, lver_written, spot_of_call}
+use Rattle.sl_trace.specs.declared.lease.Aim.{Aim}
+use Rattle.sl_trace.specs.declared.lease.LeaseNext.TheVariants.{AnswerJob, BecomeExclusive, BecomeShared, GrantJob, ReadFor, Nothing, WriteBlock, WriteLeader}
+use Rattle.sl_trace.specs.declared.lease.LeaseNext.{LeaseNext}
 use Rattle.sl_sector.specs.declared.sector.Block.{Block}
 use Rattle.sl_sector.specs.declared.sector.Leader.{Leader}
 use Rattle.sl_sector.specs.declared.sector.Rec.TheVariants.{BlockIs, LeaderIs}
-use Rattle.sl_sessions.specs.Sessions.{is_active}
-use Rattle.sl_sessions.specs.declared.session.Session.{Session}
+use Rattle.sl_trace.specs.Sessions.{is_active}
+use Rattle.sl_trace.specs.declared.session.Session.{Session}
 use Rattle.sl_trace.specs.Traces.{Setting, Submitted, Trace, end_of, is_running, is_shared, next_child, work_job}
 use Rattle.sl_trace.specs.declared.command.Command.TheVariants.{Acquire, RunProgram, TakeOver}
 use Rattle.sl_trace.specs.declared.command.Command.{Command}

@@ -4,10 +4,10 @@ use Rattle.sl_due.specs.DueFirst.{remove_connection}
 use Rattle.sl_due.specs.DueLease.{settle}
 use Rattle.sl_due.specs.DueRequests.{bits_due}
 use Rattle.sl_due.specs.Steps.{Step, for_each, seen, when}
-use Rattle.sl_leases.specs.Leases.{lease_spots, open_on}
-use Rattle.sl_sessions.specs.Deltas.{delta_known, delta_of_session, next_free, next_on_wake, next_renewal}
-use Rattle.sl_sessions.specs.Sessions.{calls_of, has_open_write, holdings_of, is_active, is_joined, open_calls_of, present_sessions, recovery_of}
-use Rattle.sl_sessions.specs.declared.session.Session.{Session}
+use Rattle.sl_trace.specs.Leases.{lease_spots, open_on}
+use Rattle.sl_trace.specs.Deltas.{delta_known, delta_of_session, next_free, next_on_wake, next_renewal}
+use Rattle.sl_trace.specs.Sessions.{calls_of, has_open_write, holdings_of, is_active, is_joined, open_calls_of, present_sessions, recovery_of}
+use Rattle.sl_trace.specs.declared.session.Session.{Session}
 use Rattle.sl_trace.specs.Traces.{is_running}
 use Rattle.sl_trace.specs.declared.effects.Spot.{Spot}
 use Rattle.sl_trace.specs.declared.input.Input.TheVariants.{Wake}

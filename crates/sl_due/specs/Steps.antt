@@ -1,6 +1,6 @@
 -- A step in progress: what came before, and the effects so far. What has happened up to here is again a trace, with the step as
 -- its newest entry, so each part of the step asks that one trace. Before the input is looked at the step counts as a wake.
-use Rattle.sl_sessions.specs.declared.session.Session.{Session}
+use Rattle.sl_trace.specs.declared.session.Session.{Session}
 use Rattle.sl_trace.specs.Traces.{Setting, Trace, next_call, no_effects}
 use Rattle.sl_trace.specs.declared.effects.Effects.{Effects}
 use Rattle.sl_trace.specs.declared.effects.End.{End}

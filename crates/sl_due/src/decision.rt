@@ -1,8 +1,7 @@
 //! What a command comes to.
 
 use sl_sector::ValueRec;
-use sl_sessions::Session;
-use sl_trace::{Grant, LockspaceArg, Mode, Reply, ResourceArg, Spot};
+use sl_trace::{Grant, LockspaceArg, Mode, Reply, ResourceArg, Session, Spot};
 
 /// What a command comes to.
 #[derive(Drop)]

@@ -12,11 +12,11 @@ use Rattle.sl_due.specs.DueRequests.{after_request_read, after_see_request, afte
 use Rattle.sl_due.specs.DueWake.{finish, finish_session, join_on_wake, on_wake, renew_on_wake, settle_on_wake, settlings}
 use Rattle.sl_examples.specs.Making.{block, broken_by, bytes_of, grant, leader, quiet_entry, reads, with_calls, with_grants, with_moves, with_replies, writes}
 use Rattle.sl_examples.specs.Rows.{two_machines}
-use Rattle.sl_leases.specs.Ballots.{instance_of, phase1_block, phase2_block, stop_of}
-use Rattle.sl_leases.specs.LeaseWork.{area_next, begin_next, lease_next, settle_next}
-use Rattle.sl_leases.specs.Leases.{known}
-use Rattle.sl_lvm.specs.Lvm.{begins, goes_on_with, lvm_turn}
-use Rattle.sl_lvm.specs.LvmLines.{lvm_forms}
+use Rattle.sl_trace.specs.Ballots.{instance_of, phase1_block, phase2_block, stop_of}
+use Rattle.sl_trace.specs.LeaseWork.{area_next, begin_next, lease_next, settle_next}
+use Rattle.sl_trace.specs.Leases.{known}
+use Rattle.sl_run.specs.Lvm.{begins, goes_on_with, lvm_turn}
+use Rattle.sl_run.specs.LvmLines.{lvm_forms}
 use Rattle.sl_report.specs.Reports.{count_event}
 use Rattle.sl_report.specs.ScheduleLines.{event_forms, header_forms, header_of, header_tests}
 use Rattle.sl_run.specs.Events.{event_tests, first_change, pass_tests}
@@ -27,7 +27,7 @@ use Rattle.sl_sector.specs.Fields.{u32_at, u32_bytes, u64_at, u64_bytes}
 use Rattle.sl_sector.specs.Spelling.{block_rules, checked_part, decoded, delta_rules, field_bytes, fields_of, leader_rules, magic, request_rules, spelling, value_rules}
 use Rattle.sl_sector.specs.declared.sector.DeltaState.TheVariants.{Live}
 use Rattle.sl_sector.specs.declared.sector.Rec.TheVariants.{DeltaIs, RequestIs, ValueIs}
-use Rattle.sl_sessions.specs.Deltas.{next_after_deciding, next_after_first, next_after_verify, next_after_watch, next_in_joining, next_on_wake, next_renewal}
+use Rattle.sl_trace.specs.Deltas.{next_after_deciding, next_after_first, next_after_verify, next_after_watch, next_in_joining, next_on_wake, next_renewal}
 use Rattle.sl_text.specs.Names.{padded_text}
 use Rattle.sl_trace.specs.Commands.{forms}
 use Rattle.sl_trace.specs.EffectTexts.{reply_words}

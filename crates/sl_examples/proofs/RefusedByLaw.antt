@@ -12,15 +12,15 @@ use Rattle.sl_due.specs.DueRequests.{after_request_read, after_see_request, afte
 use Rattle.sl_due.specs.DueWake.{finish, finish_session, join_on_wake, on_wake, renew_on_wake, settle_on_wake, settlings}
 use Rattle.sl_examples.specs.Cheap.{cheap_digest}
 use Rattle.sl_examples.specs.Making.{block, leader, quiet_entry, reads, with_calls, with_moves, writes}
-use Rattle.sl_law.specs.LawfulArea.{LawfulArea, open_block_work}
-use Rattle.sl_law.specs.LawfulDelta.{LawfulDelta, LawfulRenewal}
-use Rattle.sl_law.specs.LawfulParting.{LawfulParting, MayPart}
-use Rattle.sl_law.specs.Saying.{cut_at}
-use Rattle.sl_leases.specs.Ballots.{instance_of, phase1_block, phase2_block, stop_of}
-use Rattle.sl_leases.specs.LeaseWork.{area_next, begin_next, lease_next, settle_next}
-use Rattle.sl_leases.specs.Leases.{known}
-use Rattle.sl_lvm.specs.Lvm.{begins, goes_on_with, lvm_turn}
-use Rattle.sl_lvm.specs.LvmLines.{lvm_forms}
+use Rattle.sl_run.specs.LawfulArea.{LawfulArea, open_block_work}
+use Rattle.sl_run.specs.LawfulDelta.{LawfulDelta, LawfulRenewal}
+use Rattle.sl_run.specs.LawfulParting.{LawfulParting, MayPart}
+use Rattle.sl_run.specs.Saying.{cut_at}
+use Rattle.sl_trace.specs.Ballots.{instance_of, phase1_block, phase2_block, stop_of}
+use Rattle.sl_trace.specs.LeaseWork.{area_next, begin_next, lease_next, settle_next}
+use Rattle.sl_trace.specs.Leases.{known}
+use Rattle.sl_run.specs.Lvm.{begins, goes_on_with, lvm_turn}
+use Rattle.sl_run.specs.LvmLines.{lvm_forms}
 use Rattle.sl_report.specs.Reports.{count_event}
 use Rattle.sl_report.specs.ScheduleLines.{event_forms, header_forms, header_of, header_tests}
 use Rattle.sl_run.specs.Events.{event_tests, first_change, pass_tests}
@@ -32,8 +32,8 @@ use Rattle.sl_sector.specs.Spelling.{block_rules, checked_part, decoded, delta_r
 use Rattle.sl_sector.specs.declared.sector.DeltaRec.{DeltaRec}
 use Rattle.sl_sector.specs.declared.sector.DeltaState.TheVariants.{Live}
 use Rattle.sl_sector.specs.declared.sector.Rec.TheVariants.{DeltaIs, RequestIs}
-use Rattle.sl_sessions.specs.Deltas.{next_after_deciding, next_after_first, next_after_verify, next_after_watch, next_in_joining, next_on_wake, next_renewal}
-use Rattle.sl_sessions.specs.declared.session.Session.{Session}
+use Rattle.sl_trace.specs.Deltas.{next_after_deciding, next_after_first, next_after_verify, next_after_watch, next_in_joining, next_on_wake, next_renewal}
+use Rattle.sl_trace.specs.declared.session.Session.{Session}
 use Rattle.sl_text.specs.Names.{padded_text}
 use Rattle.sl_trace.specs.Commands.{command_in, forms}
 use Rattle.sl_trace.specs.EffectTexts.{reply_words}

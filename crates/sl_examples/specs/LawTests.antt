@@ -1,21 +1,21 @@
 -- The laws once more, as tests that compute, for trying them on runs and on literal traces. Each test mirrors one field of a law.
 use Rattle.sl_area.specs.Layouts.{record_in, sector_with}
 use Rattle.sl_area.specs.Places.{area_blocks, block_offset, is_base, leader_of, value_offset}
-use Rattle.sl_law.specs.LawfulArea.{is_area_work, is_block_work, is_delta_record, leaders_read, open_block_work, record_offset}
-use Rattle.sl_law.specs.LawfulCalls.{may_submit}
-use Rattle.sl_law.specs.LawfulDelta.{is_on_own_sector}
-use Rattle.sl_law.specs.LawfulEnd.{gives_up, takes_over}
-use Rattle.sl_law.specs.LawfulLeader.{holds_under, open_writes_on}
-use Rattle.sl_law.specs.LawfulModes.{shared_since}
-use Rattle.sl_law.specs.LawfulParting.{is_leaving_write}
-use Rattle.sl_law.specs.LawfulRecovery.{was_killed}
-use Rattle.sl_law.specs.LawfulValue.{held_since, writes_since}
-use Rattle.sl_law.specs.LawfulWatchdog.{acts_until, is_covered}
-use Rattle.sl_law.specs.Saying.{cut_at, newest_moves, older}
-use Rattle.sl_leases.specs.Ballots.{ballot_blocks, moded_block, owner_of, phase1_block, phase2_block, same_owner, stop_of}
-use Rattle.sl_leases.specs.Counts.{next_value_seq}
-use Rattle.sl_leases.specs.Jobs.{jobs_of_session}
-use Rattle.sl_leases.specs.Leases.{block_of_host, block_written, blocks_given, ended_ballot, ended_ballots, exclusive_on, freed, has_shared_on, holdings_on, is_area_read, is_at, is_block_read, is_free_write, is_leader_of, last_blocks, Leader_freed, Leader_taken, leader_written, lease_calls, lease_step, Mode_set, own_block, Phase1_read, Phase1_write, Phase2_read, Phase2_write, spot_of_call, value_written}
+use Rattle.sl_run.specs.LawfulArea.{is_area_work, is_block_work, is_delta_record, leaders_read, open_block_work, record_offset}
+use Rattle.sl_run.specs.LawfulCalls.{may_submit}
+use Rattle.sl_run.specs.LawfulDelta.{is_on_own_sector}
+use Rattle.sl_run.specs.LawfulEnd.{gives_up, takes_over}
+use Rattle.sl_run.specs.LawfulLeader.{holds_under, open_writes_on}
+use Rattle.sl_run.specs.LawfulModes.{shared_since}
+use Rattle.sl_run.specs.LawfulParting.{is_leaving_write}
+use Rattle.sl_run.specs.LawfulRecovery.{was_killed}
+use Rattle.sl_run.specs.LawfulValue.{held_since, writes_since}
+use Rattle.sl_run.specs.LawfulWatchdog.{acts_until, is_covered}
+use Rattle.sl_run.specs.Saying.{cut_at, newest_moves, older}
+use Rattle.sl_trace.specs.Ballots.{ballot_blocks, moded_block, owner_of, phase1_block, phase2_block, same_owner, stop_of}
+use Rattle.sl_trace.specs.Counts.{next_value_seq}
+use Rattle.sl_trace.specs.Jobs.{jobs_of_session}
+use Rattle.sl_trace.specs.Leases.{block_of_host, block_written, blocks_given, ended_ballot, ended_ballots, exclusive_on, freed, has_shared_on, holdings_on, is_area_read, is_at, is_block_read, is_free_write, is_leader_of, last_blocks, Leader_freed, Leader_taken, leader_written, lease_calls, lease_step, Mode_set, own_block, Phase1_read, Phase1_write, Phase2_read, Phase2_write, spot_of_call, value_written}
 use Rattle.sl_run.specs.Runs.{daemons_of}
 use Rattle.sl_run.specs.Worlds.{World}
 use Rattle.sl_sector.specs.Bitmaps.{no_bits}
@@ -27,13 +27,13 @@ use Rattle.sl_sector.specs.declared.sector.Leader.{Leader}
 use Rattle.sl_sector.specs.declared.sector.Rec.TheVariants.{BlockIs, DeltaIs}
 use Rattle.sl_sector.specs.declared.sector.Rec.{Rec}
 use Rattle.sl_sector.specs.declared.sector.ValueRec.{ValueRec}
-use Rattle.sl_sessions.specs.Deltas.{claim_of, delta_of_session, delta_record, first_answered, first_bytes}
-use Rattle.sl_sessions.specs.Sessions.{calls_of, delta_written, free_write, generation_of, has_open_delta, has_open_write, holders_of, holdings_of, is_active, is_delta_purpose, is_join_call, is_joined, is_leaving, is_present, is_recovering, is_survey_purpose, join_call, joined_after, last_seq, leaving_job, leaving_of, me, open_calls_of, recovery_of, session_named, session_numbered, sessions, stage_of}
-use Rattle.sl_sessions.specs.Watching.{counted_over, is_free_state}
-use Rattle.sl_sessions.specs.declared.session.Begun.{Begun}
-use Rattle.sl_sessions.specs.declared.session.Session.{Session}
-use Rattle.sl_sessions.specs.declared.stage.Stage.TheVariants.{Claiming, Deciding, Ended, FirstRenewing, Freeing, Looking, Refused, Standing, Verifying, Waiting}
-use Rattle.sl_sessions.specs.declared.stage.Stage.{Stage}
+use Rattle.sl_trace.specs.Deltas.{claim_of, delta_of_session, delta_record, first_answered, first_bytes}
+use Rattle.sl_trace.specs.Sessions.{calls_of, delta_written, free_write, generation_of, has_open_delta, has_open_write, holders_of, holdings_of, is_active, is_delta_purpose, is_join_call, is_joined, is_leaving, is_present, is_recovering, is_survey_purpose, join_call, joined_after, last_seq, leaving_job, leaving_of, me, open_calls_of, recovery_of, session_named, session_numbered, sessions, stage_of}
+use Rattle.sl_trace.specs.Watching.{counted_over, is_free_state}
+use Rattle.sl_trace.specs.declared.session.Begun.{Begun}
+use Rattle.sl_trace.specs.declared.session.Session.{Session}
+use Rattle.sl_trace.specs.declared.stage.Stage.TheVariants.{Claiming, Deciding, Ended, FirstRenewing, Freeing, Looking, Refused, Standing, Verifying, Waiting}
+use Rattle.sl_trace.specs.declared.stage.Stage.{Stage}
 use Rattle.sl_time.specs.Times.{dead, fail, join_max, take_over}
 use Rattle.sl_trace.specs.Connections.{connection_named, connections, is_registered, registers, registers_with, unregisters}
 use Rattle.sl_trace.specs.EffectTexts.{is_ok_reply}

@@ -2,9 +2,9 @@
 -- acquire is granted by as many calls as it needs. (They mirror `QuietStart`, `QuietStep` and `IsGrantedQuietly` field by field.)
 use Rattle.sl_examples.specs.Cheap.{cheap_language, cheap_program}
 use Rattle.sl_examples.specs.WorldTests.{read_events}
-use Rattle.sl_leases.specs.Ballots.{in_instance, next_mbal}
-use Rattle.sl_leases.specs.Counts.{held_here, limit_met, may_act}
-use Rattle.sl_leases.specs.Leases.{is_leader_of, is_on, known, open_on, owed, spot_of}
+use Rattle.sl_trace.specs.Ballots.{in_instance, next_mbal}
+use Rattle.sl_trace.specs.Counts.{held_here, limit_met, may_act}
+use Rattle.sl_trace.specs.Leases.{is_leader_of, is_on, known, open_on, owed, spot_of}
 use Rattle.sl_report.specs.Replay.{allowed, due_run}
 use Rattle.sl_report.specs.Schedules.{Header_read, Header_refused, event_lines_of, numbered_lines, read_header}
 use Rattle.sl_run.specs.Events.{happens, machine_of}
@@ -15,9 +15,9 @@ use Rattle.sl_run.specs.Worlds.{Daemon, Machine, World, is_open, is_write_course
 use Rattle.sl_run.specs.declared.event.Event.TheVariants.{Crash, ExitOf, GiveCommand, Reset}
 use Rattle.sl_run.specs.declared.event.Event.{Event}
 use Rattle.sl_sector.specs.declared.sector.Leader.{Leader}
-use Rattle.sl_sessions.specs.Sessions.{is_active, session_named, session_numbered}
-use Rattle.sl_sessions.specs.Watching.{counts_over}
-use Rattle.sl_sessions.specs.declared.session.Session.{Session}
+use Rattle.sl_trace.specs.Sessions.{is_active, session_named, session_numbered}
+use Rattle.sl_trace.specs.Watching.{counts_over}
+use Rattle.sl_trace.specs.declared.session.Session.{Session}
 use Rattle.sl_text.specs.Forms.{as_bytes}
 use Rattle.sl_trace.specs.Traces.{Answered, Replied, Submitted, Trace, entry_at, is_of_job, is_ok_answer, is_shared, is_write, next_job, reply_to, same_place, submitted, waiting_call}
 use Rattle.sl_trace.specs.declared.command.Command.TheVariants.{Acquire}

@@ -2,7 +2,7 @@
 use Rattle.sl_area.specs.Layouts.{layout_with}
 use Rattle.sl_due.specs.Due.{IsHostTrace, due}
 use Rattle.sl_examples.specs.Cheap.{cheap_digest}
-use Rattle.sl_law.specs.Lawful.{Lawful}
+use Rattle.sl_run.specs.Lawful.{Lawful}
 use Rattle.sl_trace.specs.Traces.{Setting, Trace}
 use Rattle.sl_trace.specs.declared.command.Command.TheVariants.{AddLockspace}
 use Rattle.sl_trace.specs.declared.effects.Entry.{Entry}

@@ -4,8 +4,8 @@ use Rattle.sl_examples.specs.Cheap.{cheap_language, cheap_program, replay_cheap}
 use Rattle.sl_examples.specs.LawTests.{broken_in_world}
 use Rattle.sl_examples.specs.RefusedLines.{LastLine}
 use Rattle.sl_examples.specs.Rows.{Row, same_lines}
-use Rattle.sl_leases.specs.Ballots.{same_owner}
-use Rattle.sl_leases.specs.Leases.{holdings_on}
+use Rattle.sl_trace.specs.Ballots.{same_owner}
+use Rattle.sl_trace.specs.Leases.{holdings_on}
 use Rattle.sl_report.specs.Languages.{whole_language}
 use Rattle.sl_report.specs.Replay.{allowed, due_run}
 use Rattle.sl_report.specs.Schedules.{EventLine, Header_read, Header_refused, event_lines_of, numbered_lines, read_header, replay_lines}
@@ -18,9 +18,9 @@ use Rattle.sl_run.specs.declared.event.Event.{Event}
 use Rattle.sl_run.specs.declared.header.Header.{Header}
 use Rattle.sl_sector.specs.Spelling.{delta_in}
 use Rattle.sl_sector.specs.declared.sector.Owner.{Owner}
-use Rattle.sl_sessions.specs.Deltas.{own_offset}
-use Rattle.sl_sessions.specs.Sessions.{is_join_call, joined_after, sessions}
-use Rattle.sl_sessions.specs.Watching.{counts_over}
+use Rattle.sl_trace.specs.Deltas.{own_offset}
+use Rattle.sl_trace.specs.Sessions.{is_join_call, joined_after, sessions}
+use Rattle.sl_trace.specs.Watching.{counts_over}
 use Rattle.sl_text.specs.Forms.{as_bytes}
 use Rattle.sl_trace.specs.Connections.{connection_named}
 use Rattle.sl_trace.specs.Traces.{is_shared}

@@ -19,11 +19,11 @@ use Rattle.sl_member.specs.Members.{IsKnown, RunOf, lease_changed, own_told}
 use Rattle.sl_member.specs.Together.{AreApart, changed_member, member_with, side_with}
 use Rattle.sl_sector.specs.declared.sector.Block.{Block}
 use Rattle.sl_sector.specs.declared.sector.Leader.{Leader}
-use Rattle.sl_sessions.specs.Sessions.{is_renewal, is_survey_purpose, shows_other_in}
-use Rattle.sl_sessions.specs.declared.session.Begun.{Begun}
+use Rattle.sl_trace.specs.Sessions.{is_renewal, is_survey_purpose, shows_other_in}
+use Rattle.sl_trace.specs.declared.session.Begun.{Begun}
 use Rattle.sl_tables.specs.Jobs.{changed}
 use Rattle.sl_time.specs.Times.{fail}
-use Rattle.sl_leases.specs.Leases.{is_spot_before, lease_step}
+use Rattle.sl_trace.specs.Leases.{is_spot_before, lease_step}
 use Rattle.sl_trace.specs.Traces.{bytes_given, job_of, same_spot}
 use Rattle.sl_trace.specs.declared.command.Command.{Command}
 use Rattle.sl_trace.specs.declared.effects.LeaseStep.{LeaseStep}

@@ -11,8 +11,8 @@ use Rattle.sl_plain.proofs.Lists.{contains_cases, contains_first, contains_more,
 use Rattle.sl_sector.specs.Spelling.{block_in}
 use Rattle.sl_sector.specs.declared.sector.Block.{Block}
 use Rattle.sl_sector.specs.declared.sector.Leader.{Leader}
-use Rattle.sl_sessions.specs.Sessions.{is_join_call, same_join_step}
-use Rattle.sl_sessions.specs.declared.session.Begun.{Begun}
+use Rattle.sl_trace.specs.Sessions.{is_join_call, same_join_step}
+use Rattle.sl_trace.specs.declared.session.Begun.{Begun}
 use Rattle.sl_trace.specs.declared.effects.JoinStep.TheVariants.{ClaimWrite, DecidingRead, FirstRead, FirstRenewal, VerifyRead, WatchRead}
 use Rattle.sl_trace.specs.declared.effects.JoinStep.{JoinStep}
 use Rattle.sl_trace.specs.declared.effects.LeaseStep.TheVariants.{ClearMode, FreeLeader, Phase1Read, Phase1Write, Phase2Read, Phase2Write, ReadArea, ReadBeforeFree, SetMode, TakeLeader}

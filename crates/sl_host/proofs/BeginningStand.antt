@@ -3,8 +3,8 @@ use Rattle.sl_host_state.specs.Kept.{MemberState}
 use Rattle.sl_host_state.specs.Makes.{with_member}
 use Rattle.sl_member.specs.Members.{RunOf, blank_member}
 use Rattle.sl_member.specs.Together.{member_with}
-use Rattle.sl_sessions.specs.Sessions.{given_session}
-use Rattle.sl_sessions.specs.declared.session.Session.{Session}
+use Rattle.sl_trace.specs.Sessions.{given_session}
+use Rattle.sl_trace.specs.declared.session.Session.{Session}
 use Rattle.sl_trace.specs.declared.input.Given.{Given}
 use Rattle.sl_host.proofs.PassingStands.{front_all, front_more}
 use Rattle.sl_host.specs.Beginning.{MayBeGiven, members_given, sessions_given}

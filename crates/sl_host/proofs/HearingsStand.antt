@@ -2,7 +2,7 @@
 use Rattle.sl_host_state.specs.Hears.{begun, counted, member_begun, with_renewing}
 use Rattle.sl_host_state.specs.Kept.{HostState, MemberState}
 use Rattle.sl_member.specs.Together.{begun_by, late_by}
-use Rattle.sl_sessions.specs.declared.session.Renewing.{Renewing}
+use Rattle.sl_trace.specs.declared.session.Renewing.{Renewing}
 use Rattle.sl_trace.specs.declared.command.Command.{Command}
 use Rattle.sl_host.specs.Books.{BooksState, books_counting, host_of}
 use Rattle.std.proofs.Common.{ap, arith, refl, ◌∙◌}

@@ -4,8 +4,8 @@ use Rattle.sl_host_state.specs.Kept.{HostState, MemberState}
 use Rattle.sl_host_state.specs.Makes.{lowered}
 use Rattle.sl_member.specs.Members.{leaving_begun}
 use Rattle.sl_member.specs.Together.{left_by}
-use Rattle.sl_sessions.specs.Sessions.{is_session_arg}
-use Rattle.sl_sessions.specs.declared.session.Begun.{Begun}
+use Rattle.sl_trace.specs.Sessions.{is_session_arg}
+use Rattle.sl_trace.specs.declared.session.Begun.{Begun}
 use Rattle.sl_trace.specs.Traces.{KillProgram}
 use Rattle.sl_trace.specs.declared.command.Command.TheVariants.{Acquire, AddLockspace, Convert, GetLvb, HostStatus, InqLockspace, Release, ReleaseOrphan, RemLockspace, Request, RunProgram, SetKillpath, SetLvb, Status, TakeOver}
 use Rattle.sl_trace.specs.declared.command.Command.{Command}

@@ -4,7 +4,7 @@ use Rattle.sl_host_state.specs.Makes.{with_reply}
 use Rattle.sl_host_state.specs.Stands.{is_joining}
 use Rattle.sl_host_state.specs.declared.kept.OpenCall.{OpenCall}
 use Rattle.sl_member.specs.Together.{AreApart, changed_member, is_joining_by, member_with}
-use Rattle.sl_sessions.specs.Sessions.{is_join_done}
+use Rattle.sl_trace.specs.Sessions.{is_join_done}
 use Rattle.sl_time.specs.Times.{TimingNumbers, fail}
 use Rattle.sl_trace.specs.declared.command.Command.{Command}
 use Rattle.sl_trace.specs.declared.reply.Reply.TheVariants.{Generation}

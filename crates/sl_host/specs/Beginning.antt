@@ -2,8 +2,8 @@
 use Rattle.sl_area.specs.Layouts.{Sizes, layout_of}
 use Rattle.sl_host_state.specs.Kept.{HostKept, Made, MemberState}
 use Rattle.sl_member.specs.Members.{RunOf, blank_member}
-use Rattle.sl_sessions.specs.Sessions.{given_session}
-use Rattle.sl_sessions.specs.declared.session.Session.{Session}
+use Rattle.sl_trace.specs.Sessions.{given_session}
+use Rattle.sl_trace.specs.declared.session.Session.{Session}
 use Rattle.sl_text.specs.Names.{is_name}
 use Rattle.sl_trace.specs.Traces.{Setting, no_effects}
 use Rattle.sl_trace.specs.declared.command.Command.{Command}

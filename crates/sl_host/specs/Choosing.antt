@@ -1,7 +1,7 @@
 -- Which jobs a pass goes over.
 use Rattle.sl_host_law.specs.Questions.Jobs.{is_of_process_in}
 use Rattle.sl_host_state.specs.declared.kept.JobState.{JobState}
-use Rattle.sl_leases.specs.Jobs.{lockspace_named, process_named}
+use Rattle.sl_trace.specs.Jobs.{lockspace_named, process_named}
 use Rattle.sl_trace.specs.declared.command.Command.{Command}
 use Rattle.sl_host.specs.declared.passing.Chosen.TheVariants.{All, OfLockspace, OfProcess}
 use Rattle.sl_host.specs.declared.passing.Chosen.{Chosen}

@@ -7,13 +7,13 @@ use Rattle.sl_host_state.specs.Stands.{is_kept_of}
 use Rattle.sl_host_state.specs.declared.kept.JobState.{JobState}
 use Rattle.sl_host_state.specs.declared.kept.LeaseCall.{LeaseCall}
 use Rattle.sl_host_state.specs.declared.kept.OpenCall.{OpenCall}
-use Rattle.sl_leases.specs.Leases.{lease_step}
+use Rattle.sl_trace.specs.Leases.{lease_step}
 use Rattle.sl_member.specs.Laws.{IsAwaited, IsWaitingFor, area_of_call}
 use Rattle.sl_member.specs.Members.{IsKnown, RunOf, own_told, renewing_told}
 use Rattle.sl_member.specs.Seen.{shows_other_by}
 use Rattle.sl_member.specs.Together.{told_survey}
 use Rattle.sl_area.specs.Layouts.{layout_of}
-use Rattle.sl_sessions.specs.declared.session.Begun.{Begun}
+use Rattle.sl_trace.specs.declared.session.Begun.{Begun}
 use Rattle.sl_trace.specs.declared.effects.LeaseStep.TheVariants.{ReadArea, ReadBeforeFree}
 use Rattle.sl_trace.specs.declared.effects.LeaseStep.{LeaseStep}
 use Rattle.sl_trace.specs.declared.effects.Purpose.TheVariants.{Joining, Leaving, Renewal, RequestRead, RequestWrite, SeeRequest, Survey, ValueRead, ValueWrite}

@@ -3,7 +3,7 @@ use Rattle.sl_host_state.specs.Hears.{new_job}
 use Rattle.sl_host_state.specs.Kept.{HostState}
 use Rattle.sl_host_state.specs.Makes.{lowered}
 use Rattle.sl_member.specs.Together.{left_by}
-use Rattle.sl_sessions.specs.Sessions.{is_session_arg}
+use Rattle.sl_trace.specs.Sessions.{is_session_arg}
 use Rattle.sl_trace.specs.Traces.{KillProgram}
 use Rattle.sl_trace.specs.declared.command.Command.TheVariants.{RemLockspace}
 use Rattle.sl_trace.specs.declared.command.Command.{Command}

@@ -8,7 +8,7 @@ ghost use Rattle.sl_host_state.specs.Makes.{with_member};
 ghost use Rattle.sl_host_state.specs.New.{new_host};
 ghost use Rattle.sl_member.specs.Members.{blank_member};
 ghost use Rattle.sl_member.specs.Together.{MembersState, member_with};
-ghost use Rattle.sl_sessions.specs.Sessions.{given_session};
+ghost use Rattle.sl_trace.specs.Sessions.{given_session};
 ghost use Rattle.sl_text.specs.Names.{is_name};
 ghost use Rattle.sl_trace.specs.Limits.{most_lockspaces};
 ghost use Rattle.sl_host.specs.Beginning.{MayBeGiven, books_begun, kept_begun, members_given, setting_begun};
@@ -22,9 +22,8 @@ use crate::books::{Books, Config};
 use crate::buffers::Buffers;
 use crate::host::Host;
 use sl_member::{Member, Members};
-use sl_sessions::Session;
 use sl_tables::{Children, Connections, Holdings, Jobs, OpenCalls, Programs};
-use sl_trace::{Given, Numbers};
+use sl_trace::{Given, Numbers, Session};
 use std::alloc::{AllocError, Global};
 
 /// Lockspaces of a machine.

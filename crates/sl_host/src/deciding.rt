@@ -2,7 +2,7 @@
 
 ghost use Rattle.sl_host_law.specs.Decisions.Deciding.{busy_refused, holds_there, killpath_decision, other_at, pending_refused, process_refused};
 ghost use Rattle.sl_host_state.specs.Asks.{ungranted_in};
-ghost use Rattle.sl_leases.specs.Jobs.{is_asking_lease, is_program};
+ghost use Rattle.sl_trace.specs.Jobs.{is_asking_lease, is_program};
 ghost use Rattle.sl_trace.specs.Limits.{most_children, most_holders};
 ghost use Rattle.sl_trace.specs.Traces.{is_orphan};
 ghost use Rattle.sl_host.specs.Asking.{held_under, state_in};

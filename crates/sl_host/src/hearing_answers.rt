@@ -9,7 +9,7 @@ ghost use Rattle.sl_delta.specs.Own.{answer_in};
 ghost use Rattle.sl_host_state.specs.Hears.{heard_answer, job_hearing};
 ghost use Rattle.sl_lease.specs.Asked.{leader_given, read_given};
 ghost use Rattle.sl_sector.specs.Records.{IsBlock, IsLeader};
-ghost use Rattle.sl_sessions.specs.Sessions.{is_renewal};
+ghost use Rattle.sl_trace.specs.Sessions.{is_renewal};
 ghost use Rattle.sl_time.specs.Times.{fail};
 ghost use Rattle.sl_trace.specs.Traces.{job_of};
 ghost use Rattle.sl_member.specs.Laws.{area_of_call};
@@ -37,9 +37,8 @@ use sl_host_state::OpenCall;
 use sl_lease::{Blocks, Sectors};
 use sl_member::Members;
 use sl_sector::Leader;
-use sl_sessions::Begun;
 use sl_tables::Jobs;
-use sl_trace::{LeaseStep, Purpose, Spot, Work};
+use sl_trace::{Begun, LeaseStep, Purpose, Spot, Work};
 
 /// The job of a call waits no more.
 fn let_go(jobs: &mut Jobs, call: &OpenCall)

@@ -10,10 +10,9 @@ ghost use Rattle.std.specs.Prelude.{Err, Ok, cond, min, option_map, ◌+◌, ◌
 
 use crate::books::Books;
 use crate::host::Host;
-use sl_sessions::Begun;
 use sl_tables::Programs;
 use sl_text::FilePath;
-use sl_trace::{Command, JobReply, LockspaceArg, Reply};
+use sl_trace::{Begun, Command, JobReply, LockspaceArg, Reply};
 
 /// The lockspace that a line leaves.
 fn lockspace_left(command: &Command) -> Option<LockspaceArg>

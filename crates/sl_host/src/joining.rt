@@ -3,7 +3,7 @@
 ghost use Rattle.sl_host_state.specs.Makes.{with_joining};
 ghost use Rattle.sl_member.specs.Members.{IsOwnCall, blank_member};
 ghost use Rattle.sl_member.specs.Together.{member_with};
-ghost use Rattle.sl_sessions.specs.Sessions.{joining_session};
+ghost use Rattle.sl_trace.specs.Sessions.{joining_session};
 ghost use Rattle.sl_text.specs.Names.{is_name};
 ghost use Rattle.sl_trace.specs.Limits.{most_lockspaces};
 ghost use Rattle.sl_trace.specs.Traces.{new_call};
@@ -18,8 +18,7 @@ ghost use Rattle.std.specs.Prelude.{IfOk, IsTrue, None, length, ℕ, ◌+◌, �
 use crate::books::Books;
 use crate::host::{Host, WithinCall};
 use sl_member::Member;
-use sl_sessions::Session;
-use sl_trace::{Call, JoinStep, LockspaceArg, Op, Purpose};
+use sl_trace::{Call, JoinStep, LockspaceArg, Op, Purpose, Session};
 use std::alloc::{AllocError, Global};
 
 /// The session of this number that a job begins.

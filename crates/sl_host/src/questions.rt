@@ -2,8 +2,8 @@
 
 ghost use Rattle.sl_host_law.specs.Decisions.Deciding.{busy_refused, held_at, holds_there, is_running_child, killpath_decision, other_at, pending_refused, process_refused};
 ghost use Rattle.sl_host_state.specs.Asks.{stopper_in, ungranted_in};
-ghost use Rattle.sl_leases.specs.Counts.{busy_among};
-ghost use Rattle.sl_leases.specs.Jobs.{is_asking_lease, is_program};
+ghost use Rattle.sl_trace.specs.Counts.{busy_among};
+ghost use Rattle.sl_trace.specs.Jobs.{is_asking_lease, is_program};
 ghost use Rattle.sl_tables.specs.Holdings.{fits};
 ghost use Rattle.sl_trace.specs.Limits.{most_children, most_holders};
 ghost use Rattle.sl_trace.specs.Traces.{is_orphan, is_shared};

@@ -2,7 +2,7 @@
 
 ghost use Rattle.sl_host_state.specs.Makes.{with_reply};
 ghost use Rattle.sl_member.specs.Together.{AreApart, is_joining_by};
-ghost use Rattle.sl_sessions.specs.Sessions.{is_join_done};
+ghost use Rattle.sl_trace.specs.Sessions.{is_join_done};
 ghost use Rattle.sl_trace.specs.declared.reply.Reply.TheVariants.{Generation};
 ghost use Rattle.sl_host.specs.Host.{Becomes, SameRun};
 ghost use Rattle.sl_host.specs.Replying.{HasClaims, joined_by, moments_by, refused_at, refused_by, writes_in};

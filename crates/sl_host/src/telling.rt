@@ -9,7 +9,7 @@ ghost use Rattle.sl_member.specs.Leases.{AreByPlace};
 ghost use Rattle.sl_member.specs.Members.{own_told};
 ghost use Rattle.sl_member.specs.Together.{AreApart, changed_member, member_with};
 ghost use Rattle.sl_sector.specs.Records.{IsBlock, IsLeader};
-ghost use Rattle.sl_sessions.specs.Sessions.{is_join_call, is_renewal};
+ghost use Rattle.sl_trace.specs.Sessions.{is_join_call, is_renewal};
 ghost use Rattle.sl_trace.specs.declared.effects.JoinStep.TheVariants.{FirstRead};
 ghost use Rattle.sl_trace.specs.declared.effects.Purpose.TheVariants.{Survey};
 ghost use Rattle.sl_trace.specs.declared.input.Answer.TheVariants.{Failed};
@@ -24,9 +24,8 @@ use sl_host_state::OpenCall;
 use sl_lease::{Blocks, Sectors, leader_of};
 use sl_member::{Member, Members};
 use sl_sector::Leader;
-use sl_sessions::Begun;
 use sl_tables::OpenCalls;
-use sl_trace::{JoinStep, LeaseStep, Purpose};
+use sl_trace::{Begun, JoinStep, LeaseStep, Purpose};
 
 // ---- refused members
 

@@ -15,7 +15,7 @@ use Rattle.sl_host_state.specs.declared.kept.OpenCall.{OpenCall}
 use Rattle.sl_lease.specs.Asked.{read_given}
 use Rattle.sl_member.specs.Together.{member_with}
 use Rattle.sl_plain.proofs.Lists.{find_inside}
-use Rattle.sl_sessions.specs.Sessions.{is_survey_purpose}
+use Rattle.sl_trace.specs.Sessions.{is_survey_purpose}
 use Rattle.sl_trace.specs.declared.command.Command.{Command}
 use Rattle.sl_trace.specs.declared.effects.JoinStep.{JoinStep}
 use Rattle.sl_trace.specs.declared.effects.LeaseStep.TheVariants.{ClearMode, FreeLeader, Phase1Read, Phase1Write, Phase2Read, Phase2Write, ReadArea, ReadBeforeFree, SetMode, TakeLeader}

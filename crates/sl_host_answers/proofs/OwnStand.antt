@@ -7,10 +7,10 @@ use Rattle.sl_host_law.specs.Steps.Passes.{at_member, member_numbered}
 use Rattle.sl_host_state.specs.Kept.{HostKept, HostState, MemberState}
 use Rattle.sl_host_state.specs.declared.kept.OpenCall.{OpenCall}
 use Rattle.sl_member.specs.Members.{MemberKept, RunOf, own_of}
-use Rattle.sl_sessions.specs.Deltas.{next_after_renewal}
-use Rattle.sl_sessions.specs.declared.delta.DeltaNext.TheVariants.{MoveConnection}
-use Rattle.sl_sessions.specs.declared.delta.DeltaNext.{DeltaNext}
-use Rattle.sl_sessions.specs.declared.session.Session.{Session}
+use Rattle.sl_trace.specs.Deltas.{next_after_renewal}
+use Rattle.sl_trace.specs.declared.delta.DeltaNext.TheVariants.{MoveConnection}
+use Rattle.sl_trace.specs.declared.delta.DeltaNext.{DeltaNext}
+use Rattle.sl_trace.specs.declared.session.Session.{Session}
 use Rattle.sl_trace.specs.declared.effects.JoinStep.{JoinStep}
 use Rattle.sl_trace.specs.declared.input.Answer.TheVariants.{Written}
 use Rattle.sl_trace.specs.declared.input.Answer.{Answer}

@@ -6,12 +6,12 @@ use Rattle.sl_host_answers.specs.Requests.{owner_by, refusal_by}
 use Rattle.sl_host_law.specs.Answers.Requests.{requesting, writing_request}
 use Rattle.sl_host_state.specs.Kept.{HostState}
 use Rattle.sl_host_state.specs.Makes.{with_reply}
-use Rattle.sl_leases.specs.Leases.{is_leader_of}
+use Rattle.sl_trace.specs.Leases.{is_leader_of}
 use Rattle.sl_request.specs.Requests.{check_request}
 use Rattle.sl_sector.specs.Spelling.{request_in}
 use Rattle.sl_sector.specs.declared.sector.Leader.{Leader}
 use Rattle.sl_sector.specs.declared.sector.Request.{Request}
-use Rattle.sl_sessions.specs.declared.session.Session.{Session}
+use Rattle.sl_trace.specs.declared.session.Session.{Session}
 use Rattle.sl_trace.specs.declared.command.Command.TheVariants.{Request as Requests}
 use Rattle.sl_trace.specs.declared.command.ResourceArg.{ResourceArg}
 use Rattle.sl_trace.specs.declared.reply.Reply.TheVariants.{RequestOld, TornLeader, WrongArea}

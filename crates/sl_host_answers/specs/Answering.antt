@@ -22,8 +22,8 @@ use Rattle.sl_lease.specs.Asked.{read_given}
 use Rattle.sl_lease.specs.Bounds.{IsInstance}
 use Rattle.sl_lease.specs.Steps.{is_read_step}
 use Rattle.sl_member.specs.Together.{member_with}
-use Rattle.sl_sessions.specs.Deltas.{next_after_free, next_after_renewal}
-use Rattle.sl_sessions.specs.Sessions.{is_survey_purpose}
+use Rattle.sl_trace.specs.Deltas.{next_after_free, next_after_renewal}
+use Rattle.sl_trace.specs.Sessions.{is_survey_purpose}
 use Rattle.sl_trace.specs.declared.command.Command.{Command}
 use Rattle.sl_trace.specs.declared.effects.LeaseStep.{LeaseStep}
 use Rattle.sl_trace.specs.declared.effects.Purpose.TheVariants.{Joining, Lease, Leaving, Renewal, RequestRead, RequestWrite, SeeRequest, Survey, ValueRead, ValueWrite}

@@ -8,7 +8,7 @@ use Rattle.sl_host_work.specs.Asking.{IsNamedFor, MayAsk}
 use Rattle.sl_host_work.specs.Placed.{IsArea, IsPlaced}
 use Rattle.sl_member.specs.Together.{member_with}
 use Rattle.sl_sector.specs.declared.sector.Block.{Block}
-use Rattle.sl_sessions.specs.declared.delta.DeltaNext.TheVariants.{Join}
+use Rattle.sl_trace.specs.declared.delta.DeltaNext.TheVariants.{Join}
 use Rattle.sl_trace.specs.Commands.{IsCommand}
 use Rattle.sl_trace.specs.declared.command.Command.{Command}
 use Rattle.sl_trace.specs.declared.effects.Grant.{Grant}

@@ -7,7 +7,7 @@ use Rattle.sl_host_law.specs.Steps.Answers.{joining_next}
 use Rattle.sl_host_state.specs.Kept.{HostState, MemberState}
 use Rattle.sl_host_state.specs.Makes.{has_write_open}
 use Rattle.sl_host_state.specs.declared.kept.OpenCall.{OpenCall}
-use Rattle.sl_sessions.specs.declared.session.Session.{Session}
+use Rattle.sl_trace.specs.declared.session.Session.{Session}
 use Rattle.sl_trace.specs.declared.effects.JoinStep.{JoinStep}
 use Rattle.sl_trace.specs.declared.input.Answer.{Answer}
 use Rattle.std.specs.Prelude.{Bool, cond, not, ℕ, ◌&&◌}

@@ -7,7 +7,7 @@
 ghost use Rattle.sl_delta.specs.Own.{answer_in};
 ghost use Rattle.sl_due.specs.DueRequests.{value_reply};
 ghost use Rattle.sl_host_answers.specs.Answering.{CanAnswer, FitsHeard, FitsSectors, MayAnswer, answer_of, calls_for, calls_of, effects_for, effects_of, is_job_call, is_joining_purpose, is_writing, joined_on};
-ghost use Rattle.sl_sessions.specs.Sessions.{is_survey_purpose};
+ghost use Rattle.sl_trace.specs.Sessions.{is_survey_purpose};
 ghost use Rattle.sl_host_answers.specs.Facts.{JoinKnown};
 ghost use Rattle.sl_host_answers.specs.Surveys.{leases_of};
 ghost use Rattle.sl_host_answers.specs.declared.own.JoinAnswer.{JoinAnswer as JoinAnswerOf};

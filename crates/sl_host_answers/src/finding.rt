@@ -13,9 +13,8 @@ use sl_host::Host;
 use sl_host_state::OpenCall;
 use sl_lease::Sectors;
 use sl_sector::{Bad, Rec};
-use sl_sessions::Session;
 use sl_tables::Holder;
-use sl_trace::{Grant, Mode, Spot};
+use sl_trace::{Grant, Mode, Session, Spot};
 
 /// The session of this number, if a member is.
 pub(crate) fn session_of(host: &Host, number: u64) -> Option<Session>

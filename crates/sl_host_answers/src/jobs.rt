@@ -3,7 +3,7 @@
 ghost use Rattle.sl_host_law.specs.Answers.Requests.{answering_job};
 ghost use Rattle.sl_host_law.specs.Questions.Answers.{set_reply_in};
 ghost use Rattle.sl_host_state.specs.Makes.{with_reply};
-ghost use Rattle.sl_sessions.specs.Sessions.{is_join_done};
+ghost use Rattle.sl_trace.specs.Sessions.{is_join_done};
 ghost use Rattle.sl_trace.specs.declared.input.Answer.TheVariants.{Failed, Written};
 ghost use Rattle.sl_trace.specs.declared.reply.Reply.TheVariants.{Done};
 ghost use Rattle.sl_host.specs.Host.{Becomes, SameRun, Spends};

@@ -13,7 +13,7 @@ ghost use Rattle.sl_host_work.specs.Asking.{IsShown};
 ghost use Rattle.sl_host_work.specs.Next.{IsFit};
 ghost use Rattle.sl_host_work.specs.Placed.{IsArea, IsPlaced};
 ghost use Rattle.sl_lease.specs.Bounds.{IsInstance};
-ghost use Rattle.sl_leases.specs.Jobs.{aim_of_command};
+ghost use Rattle.sl_trace.specs.Jobs.{aim_of_command};
 ghost use Rattle.sl_sector.specs.Records.{IsBlock, IsLeader};
 ghost use Rattle.sl_trace.specs.declared.input.Answer.TheVariants.{Failed, Read, Written};
 ghost use Rattle.sl_host.specs.Asking.{state_in};
@@ -25,11 +25,9 @@ use crate::finding::area_of;
 use sl_host::Host;
 use sl_host_state::OpenCall;
 use sl_host_work::{carry_lease, next_after_failure, next_after_read, next_after_write};
-use sl_leases::{Aim, LeaseNext};
 use sl_member::Member;
 use sl_sector::{Block, Leader};
-use sl_sessions::Session;
-use sl_trace::{Command, LeaseStep, Mode, Spot, Work};
+use sl_trace::{Aim, Command, LeaseNext, LeaseStep, Mode, Session, Spot, Work};
 
 // ---- where the work goes on
 

@@ -12,9 +12,9 @@ ghost use Rattle.sl_host_work.specs.Next.{IsPlain};
 ghost use Rattle.sl_host_work.specs.Placed.{IsPlaced};
 ghost use Rattle.sl_host_work.specs.Waking.{ArePlaced};
 ghost use Rattle.sl_member.specs.Together.{member_with};
-ghost use Rattle.sl_sessions.specs.Deltas.{next_after_free, next_after_renewal};
-ghost use Rattle.sl_sessions.specs.Sessions.{is_join_done};
-ghost use Rattle.sl_sessions.specs.declared.delta.DeltaNext.TheVariants.{EndLeaving};
+ghost use Rattle.sl_trace.specs.Deltas.{next_after_free, next_after_renewal};
+ghost use Rattle.sl_trace.specs.Sessions.{is_join_done};
+ghost use Rattle.sl_trace.specs.declared.delta.DeltaNext.TheVariants.{EndLeaving};
 ghost use Rattle.sl_trace.specs.declared.input.Answer.TheVariants.{Failed, Written};
 ghost use Rattle.sl_host.specs.Asking.{state_in};
 ghost use Rattle.sl_host.specs.Host.{Becomes, SameRun, Spends};
@@ -26,8 +26,7 @@ use sl_host::Host;
 use sl_host_state::OpenCall;
 use sl_host_work::{carry, remove_connection};
 use sl_member::Member;
-use sl_sessions::{DeltaNext, Session};
-use sl_trace::{JoinStep, Reply};
+use sl_trace::{DeltaNext, JoinStep, Reply, Session};
 
 // ---- joinings
 

@@ -10,10 +10,10 @@ ghost use Rattle.sl_host_law.specs.Answers.Requests.{answering_job, requesting, 
 ghost use Rattle.sl_host_law.specs.Steps.Passes.{at_member};
 ghost use Rattle.sl_host_state.specs.Makes.{with_reply};
 ghost use Rattle.sl_host_work.specs.Placed.{IsArea};
-ghost use Rattle.sl_leases.specs.Leases.{is_leader_of};
+ghost use Rattle.sl_trace.specs.Leases.{is_leader_of};
 ghost use Rattle.sl_request.specs.Requests.{check_request};
 ghost use Rattle.sl_sector.specs.Spelling.{request_in};
-ghost use Rattle.sl_sessions.specs.Sessions.{is_join_done};
+ghost use Rattle.sl_trace.specs.Sessions.{is_join_done};
 ghost use Rattle.sl_trace.specs.Commands.{IsCommand};
 ghost use Rattle.sl_trace.specs.declared.command.Command.TheVariants.{Request as Requests};
 ghost use Rattle.sl_trace.specs.declared.input.Answer.TheVariants.{Read};
@@ -28,9 +28,8 @@ use sl_host_state::OpenCall;
 use sl_lease::{Sectors, leader_of};
 use sl_request::check_request;
 use sl_sector::{Leader, Rec, Request, request_in, value_in};
-use sl_sessions::Session;
 use sl_text::Name;
-use sl_trace::{Command, Op, Purpose, Reply, ResourceArg};
+use sl_trace::{Command, Op, Purpose, Reply, ResourceArg, Session};
 
 // ---- a value is read
 

@@ -22,8 +22,7 @@ use sl_host_state::OpenCall;
 use sl_host_work::{Stopped, stop};
 use sl_lease::Sectors;
 use sl_member::{Leases, Member};
-use sl_sessions::{Begun, Session};
-use sl_trace::{Grant, Op, Purpose, Spot};
+use sl_trace::{Begun, Grant, Op, Purpose, Session, Spot};
 
 // ---- what it shows
 

@@ -9,8 +9,8 @@ use Rattle.sl_host_state.specs.Kept.{HostKept, HostState, MemberState}
 use Rattle.sl_host_state.specs.Makes.{with_end, with_reply}
 use Rattle.sl_host_work.specs.Asking.{MayAsk}
 use Rattle.sl_lease.specs.Bounds.{IsInstance}
-use Rattle.sl_leases.specs.declared.lease.LeaseNext.{LeaseNext}
-use Rattle.sl_sessions.specs.declared.session.Session.{Session}
+use Rattle.sl_trace.specs.declared.lease.LeaseNext.{LeaseNext}
+use Rattle.sl_trace.specs.declared.session.Session.{Session}
 use Rattle.sl_tables.specs.Holdings.{fits}
 use Rattle.sl_tables.specs.declared.holdings.Holder.TheVariants.{Anyone}
 use Rattle.sl_trace.specs.Traces.{end_of, is_shared, same_place, spot_of_grant}

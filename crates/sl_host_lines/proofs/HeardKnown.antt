@@ -11,9 +11,9 @@ use Rattle.sl_lease.specs.Asked.{TopStands}
 use Rattle.sl_lease.specs.Bounds.{IsInstance}
 use Rattle.sl_lease.specs.Side.{is_named}
 use Rattle.sl_member.specs.Together.{member_with}
-use Rattle.sl_sessions.specs.declared.delta.DeltaKnown.{DeltaKnown}
-use Rattle.sl_sessions.specs.declared.session.Begun.{Begun}
-use Rattle.sl_sessions.specs.declared.session.Session.{Session}
+use Rattle.sl_trace.specs.declared.delta.DeltaKnown.{DeltaKnown}
+use Rattle.sl_trace.specs.declared.session.Begun.{Begun}
+use Rattle.sl_trace.specs.declared.session.Session.{Session}
 use Rattle.sl_trace.specs.Traces.{is_shared, same_place, spot_of_grant}
 use Rattle.sl_trace.specs.declared.command.Command.{Command}
 use Rattle.sl_trace.specs.declared.effects.End.{End}

@@ -7,7 +7,7 @@ use Rattle.sl_host_lines.specs.Seats.{IsSeat}
 use Rattle.sl_host_state.specs.Hears.{heard_line}
 use Rattle.sl_host_state.specs.Kept.{HostState, Made}
 use Rattle.sl_member.specs.Members.{MemberKept, blank_member}
-use Rattle.sl_sessions.specs.Sessions.{joining_session}
+use Rattle.sl_trace.specs.Sessions.{joining_session}
 use Rattle.sl_trace.specs.Limits.{most_lockspaces}
 use Rattle.sl_trace.specs.declared.command.Command.TheVariants.{AddLockspace}
 use Rattle.sl_trace.specs.declared.command.Command.{Command}

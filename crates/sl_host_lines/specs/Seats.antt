@@ -1,6 +1,6 @@
 -- The member that a line joins with is made before the line is taken, with all its memory.
 use Rattle.sl_member.specs.Members.{MemberKept, blank_member}
-use Rattle.sl_sessions.specs.Sessions.{joining_session}
+use Rattle.sl_trace.specs.Sessions.{joining_session}
 use Rattle.sl_trace.specs.declared.command.Command.TheVariants.{AddLockspace}
 use Rattle.sl_trace.specs.declared.command.Command.{Command}
 use Rattle.sl_trace.specs.declared.command.LockspaceArg.{LockspaceArg}

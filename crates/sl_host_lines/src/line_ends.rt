@@ -11,7 +11,7 @@ ghost use Rattle.sl_host_lines.specs.Ending.{freed_next, freed_of, giving, gone_
 ghost use Rattle.sl_host_lines.specs.LineFacts.{IsTimely, MayConvert, MayConvertAt, MayRelease, MayReleaseAt};
 ghost use Rattle.sl_host_work.specs.Next.{IsFit};
 ghost use Rattle.sl_host_work.specs.Placed.{IsArea, IsPlaced};
-ghost use Rattle.sl_leases.specs.Leases.{spot_of};
+ghost use Rattle.sl_trace.specs.Leases.{spot_of};
 ghost use Rattle.sl_member.specs.Together.{member_with};
 ghost use Rattle.sl_trace.specs.Traces.{spot_of_grant};
 ghost use Rattle.sl_host.specs.Asking.{state_in};
@@ -24,12 +24,10 @@ use crate::line_grants::end_of;
 use crate::lines::begin;
 use sl_host::Host;
 use sl_host_work::{carry_lease, converting_next, releasing_next};
-use sl_leases::LeaseNext;
 use sl_member::Member;
-use sl_sessions::Session;
 use sl_tables::Holder;
 use sl_text::Name;
-use sl_trace::{Command, Grant, Mode, Reply, ResourceArg, Spot, Work};
+use sl_trace::{Command, Grant, LeaseNext, Mode, Reply, ResourceArg, Session, Spot, Work};
 
 /// The area of a holding.
 fn spot_of_grant(grant: &Grant) -> Spot

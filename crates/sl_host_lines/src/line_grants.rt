@@ -10,8 +10,7 @@ ghost use Rattle.std.specs.Prelude.{◌+◌, ◌≡◌, ◌≤◌};
 use crate::lines::begin;
 use sl_host::Host;
 use sl_host_work::grant_for;
-use sl_sessions::Session;
-use sl_trace::{Command, End, Grant, Mode};
+use sl_trace::{Command, End, Grant, Mode, Session};
 
 /// The end of a holding.
 pub(crate) fn end_of(grant: &Grant) -> End

@@ -21,8 +21,7 @@ use crate::lines::begin;
 use sl_host::{Host, Notes};
 use sl_host_work::{Stopped, stop};
 use sl_member::Member;
-use sl_sessions::Session;
-use sl_trace::{Command, LockspaceArg, Op};
+use sl_trace::{Command, LockspaceArg, Op, Session};
 
 /// What of a member is stopped.
 fn stopped(member: &Member) -> Stopped

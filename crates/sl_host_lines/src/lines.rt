@@ -11,8 +11,7 @@ ghost use Rattle.std.specs.Prelude.{Err, IsTrue, ◌+◌, ◌≡◌, ◌≤◌};
 
 use sl_host::Host;
 use sl_sector::{Rec, ValueRec};
-use sl_sessions::Session;
-use sl_trace::{Command, LeaseStep, Op, Purpose, Reply, ResourceArg, Spot, Work};
+use sl_trace::{Command, LeaseStep, Op, Purpose, Reply, ResourceArg, Session, Spot, Work};
 
 /// A line that says no command: the column of the first word that doesn't fit is told.
 pub fn misread(host: &mut Host, column: u64)

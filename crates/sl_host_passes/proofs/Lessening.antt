@@ -7,11 +7,11 @@ use Rattle.sl_host_state.specs.Makes.{calling, has_write_open, is_ended_by_move,
 use Rattle.sl_host_state.specs.Stands.{is_joining, pair_of}
 use Rattle.sl_host_state.specs.declared.kept.JobState.{JobState}
 use Rattle.sl_host_state.specs.declared.kept.TopNumber.{TopNumber}
-use Rattle.sl_leases.specs.Leases.{is_lease_call, is_on, spot_of_call, value_written}
+use Rattle.sl_trace.specs.Leases.{is_lease_call, is_on, spot_of_call, value_written}
 use Rattle.sl_plain.proofs.Lists.{contains_cases, contains_first, contains_more, contains_none}
 use Rattle.sl_plain.proofs.Numbers.{refl_le, trans_le}
-use Rattle.sl_sessions.specs.Sessions.{is_join_done}
-use Rattle.sl_sessions.specs.declared.session.Session.{Session}
+use Rattle.sl_trace.specs.Sessions.{is_join_done}
+use Rattle.sl_trace.specs.declared.session.Session.{Session}
 use Rattle.sl_trace.specs.Traces.{Submitted}
 use Rattle.sl_trace.specs.declared.effects.Grant.{Grant}
 use Rattle.sl_trace.specs.declared.effects.Move.{Move}

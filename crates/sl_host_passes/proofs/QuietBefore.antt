@@ -16,7 +16,7 @@ use Rattle.sl_host_state.specs.Stands.{IsQuiet, job_moments, kill_moment, recove
 use Rattle.sl_host_state.specs.declared.kept.JobState.{JobState}
 use Rattle.sl_host_state.specs.declared.kept.WaitingCall.{WaitingCall}
 use Rattle.sl_plain.proofs.Lists.{contains_first, contains_more, find_inside}
-use Rattle.sl_sessions.specs.declared.session.Begun.{Begun}
+use Rattle.sl_trace.specs.declared.session.Begun.{Begun}
 use Rattle.sl_trace.specs.declared.effects.Signal.TheVariants.{Kill}
 use Rattle.sl_trace.specs.declared.reply.Reply.TheVariants.{IoTimeout}
 use Rattle.std.proofs.Common.{ap, arith, inl, inr, refl, subst, sym, ◌∙◌}

@@ -26,20 +26,20 @@ use Rattle.sl_host_work.specs.Placed.{IsArea, IsPlaced}
 use Rattle.sl_host_work.specs.Waking.{MaySettle}
 use Rattle.sl_lease.specs.Asked.{TopStands}
 use Rattle.sl_lease.specs.Bounds.{IsInstance}
-use Rattle.sl_leases.specs.Ballots.{moded_block, phase1_block}
-use Rattle.sl_leases.specs.LeaseWork.{LeasePlace, begin_next, phase1_next, settle_next, settle_owed}
-use Rattle.sl_leases.specs.Leases.{LeaseKnown, Phase2_write, StepKind, block_written, is_at, is_lease_call, is_spot_before, kind_of_step, mode_gen_of, owed, own_known, same_kind, spot_of_call}
-use Rattle.sl_leases.specs.declared.lease.Aim.TheVariants.{Settles}
-use Rattle.sl_leases.specs.declared.lease.LeaseNext.TheVariants.{AnswerJob, BecomeExclusive, BecomeShared, GrantJob, Nothing, ReadFor, WriteBlock, WriteLeader}
-use Rattle.sl_leases.specs.declared.lease.LeaseNext.{LeaseNext}
-use Rattle.sl_leases.specs.declared.lease.Owed.TheVariants.{BallotOwed, FreeOwed, ModeOwed}
-use Rattle.sl_leases.specs.declared.lease.Owed.{Owed}
+use Rattle.sl_trace.specs.Ballots.{moded_block, phase1_block}
+use Rattle.sl_trace.specs.LeaseWork.{LeasePlace, begin_next, phase1_next, settle_next, settle_owed}
+use Rattle.sl_trace.specs.Leases.{LeaseKnown, Phase2_write, StepKind, block_written, is_at, is_lease_call, is_spot_before, kind_of_step, mode_gen_of, owed, own_known, same_kind, spot_of_call}
+use Rattle.sl_trace.specs.declared.lease.Aim.TheVariants.{Settles}
+use Rattle.sl_trace.specs.declared.lease.LeaseNext.TheVariants.{AnswerJob, BecomeExclusive, BecomeShared, GrantJob, Nothing, ReadFor, WriteBlock, WriteLeader}
+use Rattle.sl_trace.specs.declared.lease.LeaseNext.{LeaseNext}
+use Rattle.sl_trace.specs.declared.lease.Owed.TheVariants.{BallotOwed, FreeOwed, ModeOwed}
+use Rattle.sl_trace.specs.declared.lease.Owed.{Owed}
 use Rattle.sl_member.specs.Together.{member_with}
 use Rattle.sl_plain.proofs.Lists.{any_of, contains_cases, contains_first, contains_map, contains_none, find_inside, in_map, kept_inside}
 use Rattle.sl_sector.specs.declared.sector.Block.{Block}
 use Rattle.sl_sector.specs.declared.sector.Leader.{Leader}
 use Rattle.sl_sector.specs.declared.sector.Rec.TheVariants.{BlockIs, LeaderIs}
-use Rattle.sl_sessions.specs.declared.session.Session.{Session}
+use Rattle.sl_trace.specs.declared.session.Session.{Session}
 use Rattle.sl_trace.specs.Traces.{Submitted, is_shared, same_place, same_spot}
 use Rattle.sl_trace.specs.declared.effects.Grant.{Grant}
 use Rattle.sl_trace.specs.declared.effects.LeaseStep.TheVariants.{ClearMode, FreeLeader, Phase1Write, ReadBeforeFree}

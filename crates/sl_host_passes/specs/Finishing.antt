@@ -5,10 +5,10 @@ use Rattle.sl_host_law.specs.Parts.Wakes.{delta_in}
 use Rattle.sl_host_law.specs.Questions.Members.{has_call_open}
 use Rattle.sl_host_state.specs.Kept.{HostState, MemberState}
 use Rattle.sl_host_state.specs.Makes.{has_write_open}
-use Rattle.sl_sessions.specs.Deltas.{next_free}
-use Rattle.sl_sessions.specs.declared.delta.DeltaNext.TheVariants.{Disconnect, Nothing, WriteFree}
-use Rattle.sl_sessions.specs.declared.delta.DeltaNext.{DeltaNext}
-use Rattle.sl_sessions.specs.declared.session.Session.{Session}
+use Rattle.sl_trace.specs.Deltas.{next_free}
+use Rattle.sl_trace.specs.declared.delta.DeltaNext.TheVariants.{Disconnect, Nothing, WriteFree}
+use Rattle.sl_trace.specs.declared.delta.DeltaNext.{DeltaNext}
+use Rattle.sl_trace.specs.declared.session.Session.{Session}
 use Rattle.sl_words.specs.Words.{is_empty}
 use Rattle.std.specs.Prelude.{None, Option, Some, cond, is_some, not, ◌&&◌}
 

@@ -13,7 +13,7 @@ ghost use Rattle.std.specs.Prelude.{find, flat_map, length, min, nat_le, ◌+◌
 use sl_host::{Chosen, Host, Notes};
 use sl_host_state::JobState;
 use sl_member::Member;
-use sl_sessions::Begun;
+use sl_trace::Begun;
 
 /// The earlier of a moment and one so much after a reading.
 fn sooner(next: u64, since: u64, time: u64) -> u64

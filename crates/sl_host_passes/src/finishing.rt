@@ -10,7 +10,7 @@ ghost use Rattle.sl_host_passes.specs.Finishing.{IsLast, ending_next, freeing_ne
 ghost use Rattle.sl_host_passes.specs.Knowing.{FinishKnown};
 ghost use Rattle.sl_host_work.specs.Placed.{IsPlaced};
 ghost use Rattle.sl_sector.specs.Records.{Fits};
-ghost use Rattle.sl_sessions.specs.Deltas.{next_free};
+ghost use Rattle.sl_trace.specs.Deltas.{next_free};
 ghost use Rattle.sl_host.specs.Asking.{held_under, state_in};
 ghost use Rattle.sl_host.specs.Host.{Becomes, SameRun, Spends};
 ghost use Rattle.sl_host.specs.Notes.{NotesState};
@@ -21,7 +21,7 @@ ghost use Rattle.std.specs.Prelude.{IfSome, Some, false, length, true, ℕ, ◌*
 use sl_host::{Host, Notes};
 use sl_host_work::carry;
 use sl_member::Member;
-use sl_sessions::{DeltaNext, Session};
+use sl_trace::{DeltaNext, Session};
 
 /// Whether nothing is held under the session: by no process, and no orphan.
 #[tactic(auto, using(crate::proofs::Finishes::nothing_held))]

@@ -5,7 +5,7 @@ ghost use Rattle.sl_host_law.specs.Parts.Spawns.{replying_if, spawning, started_
 ghost use Rattle.sl_host_law.specs.Steps.Inputs.{starting};
 ghost use Rattle.sl_host_state.specs.Hears.{heard_exit};
 ghost use Rattle.sl_host_work.specs.Ending.{HoldsOnce};
-ghost use Rattle.sl_sessions.specs.Sessions.{is_join_done};
+ghost use Rattle.sl_trace.specs.Sessions.{is_join_done};
 ghost use Rattle.sl_tables.specs.Children.{child_of};
 ghost use Rattle.sl_trace.specs.Traces.{no_process};
 ghost use Rattle.sl_host.specs.Asking.{state_in};

@@ -4,9 +4,9 @@ use Rattle.sl_due.specs.Steps.{Step, seen}
 use Rattle.sl_host_state.specs.Asks.{QuestionsAreAnswered, is_kill_due_in, stopper_in, ungranted_in}
 use Rattle.sl_host_state.specs.Kept.{Config, HostState, JobState}
 use Rattle.sl_host_state.specs.Stands.{Stands, kept_job}
-use Rattle.sl_leases.specs.Counts.{busy_among, child_count, holder_count, stopper_of, ungranted}
-use Rattle.sl_leases.specs.Jobs.{is_asking_lease, is_program}
-use Rattle.sl_sessions.specs.declared.session.Begun.{Begun}
+use Rattle.sl_trace.specs.Counts.{busy_among, child_count, holder_count, stopper_of, ungranted}
+use Rattle.sl_trace.specs.Jobs.{is_asking_lease, is_program}
+use Rattle.sl_trace.specs.declared.session.Begun.{Begun}
 use Rattle.sl_trace.specs.Connections.{Connection, connections}
 use Rattle.sl_trace.specs.Limits.{most_children}
 use Rattle.sl_trace.specs.Traces.{KillProgram, kill_programs, last_reading, running_jobs, same_place}

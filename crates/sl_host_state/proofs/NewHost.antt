@@ -2,8 +2,8 @@
 use Rattle.sl_host_state.specs.Kept.{Config, MemberState}
 use Rattle.sl_host_state.specs.New.{IsOfProgram, given_sessions, new_host, new_joining, new_member, sizes_in}
 use Rattle.sl_host_state.specs.Stands.{AskedStands, HostStands, JoinStands, Keeps, MemberStands, WatchKeeps, config_of}
-use Rattle.sl_sessions.specs.Sessions.{given_session, is_present}
-use Rattle.sl_sessions.specs.declared.session.Session.{Session}
+use Rattle.sl_trace.specs.Sessions.{given_session, is_present}
+use Rattle.sl_trace.specs.declared.session.Session.{Session}
 use Rattle.sl_trace.specs.Connections.{given_connection}
 use Rattle.sl_trace.specs.Traces.{Setting}
 use Rattle.sl_trace.specs.declared.input.Given.{Given}

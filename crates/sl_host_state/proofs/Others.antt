@@ -5,12 +5,12 @@ use Rattle.sl_host_state.specs.Effects.{EffectsAreTaken}
 use Rattle.sl_host_state.specs.Kept.{HostState, MemberState}
 use Rattle.sl_host_state.specs.Makes.{with_end, with_grant, with_signal}
 use Rattle.sl_host_state.specs.Stands.{AskedStands, WatchKeeps, AreInTurn, JoinStands, Keeps, LeaseStands, MemberStands, Stands, Takes, kept_call, kept_waiting, newest_value}
-use Rattle.sl_leases.specs.Counts.{values_on}
-use Rattle.sl_leases.specs.Jobs.{child_of_job, command_of}
-use Rattle.sl_leases.specs.Leases.{is_lease_call, is_on, spots_in, value_written}
-use Rattle.sl_sessions.specs.Sessions.{calls_of, ended_after, free_write, generation_in, is_call_of, is_delta_purpose, joined_after, leaving_job, recovery_of, renewal_in, seq_in, sessions}
-use Rattle.sl_sessions.specs.declared.delta.DeltaKnown.{DeltaKnown}
-use Rattle.sl_sessions.specs.declared.session.Session.{Session}
+use Rattle.sl_trace.specs.Counts.{values_on}
+use Rattle.sl_trace.specs.Jobs.{child_of_job, command_of}
+use Rattle.sl_trace.specs.Leases.{is_lease_call, is_on, spots_in, value_written}
+use Rattle.sl_trace.specs.Sessions.{calls_of, ended_after, free_write, generation_in, is_call_of, is_delta_purpose, joined_after, leaving_job, recovery_of, renewal_in, seq_in, sessions}
+use Rattle.sl_trace.specs.declared.delta.DeltaKnown.{DeltaKnown}
+use Rattle.sl_trace.specs.declared.session.Session.{Session}
 use Rattle.sl_trace.specs.Traces.{Submitted, Trace, children, holdings, is_ended_by, is_of_job, is_write, job_numbered, job_of, mark, new_call, running_jobs, same_place, submitted, unanswered}
 use Rattle.sl_trace.specs.declared.effects.Call.{Call}
 use Rattle.sl_trace.specs.declared.effects.Effects.{Effects}

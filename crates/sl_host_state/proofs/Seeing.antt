@@ -1,7 +1,7 @@
 -- What is seen and asked stays where the looks and the requests are the same.
 use Rattle.sl_due.specs.DueRequests.{is_asked}
 use Rattle.sl_host_state.specs.Stands.{AskedStands, WatchKeeps}
-use Rattle.sl_sessions.specs.Watching.{seen_records, sightings}
+use Rattle.sl_trace.specs.Watching.{seen_records, sightings}
 use Rattle.sl_trace.specs.Traces.{Setting, Submitted}
 use Rattle.sl_watch.proofs.TellingLaws.{same_seen}
 use Rattle.sl_watch.specs.Watches.{Watched}

@@ -3,9 +3,9 @@ use Rattle.sl_due.specs.DueFirst.{begins_now, is_kill_due}
 use Rattle.sl_due.specs.Steps.{Step, seen}
 use Rattle.sl_host_state.specs.Kept.{HostState}
 use Rattle.sl_host_state.specs.Stands.{Stands}
-use Rattle.sl_leases.specs.Counts.{busy_among, busy_process, child_count, holder_count, stopper_of}
-use Rattle.sl_leases.specs.Jobs.{is_asking_lease, is_program}
-use Rattle.sl_sessions.specs.declared.session.Begun.{Begun}
+use Rattle.sl_trace.specs.Counts.{busy_among, busy_process, child_count, holder_count, stopper_of}
+use Rattle.sl_trace.specs.Jobs.{is_asking_lease, is_program}
+use Rattle.sl_trace.specs.declared.session.Begun.{Begun}
 use Rattle.sl_trace.specs.Connections.{is_registered}
 use Rattle.sl_trace.specs.Limits.{most_children}
 use Rattle.sl_trace.specs.Traces.{same_place}

@@ -5,15 +5,15 @@ use Rattle.sl_area.specs.Places.{area_blocks, blocks_in, leader_of}
 use Rattle.sl_host_state.specs.Kept.{HostState, JobState, JoinCall, JoinState, LeaseState, MemberState, OpenCall, TopNumber}
 use Rattle.sl_host_state.specs.Makes.{has_write_open, lowered}
 use Rattle.sl_host_state.specs.Stands.{is_there, top_mbal}
-use Rattle.sl_leases.specs.Ballots.{is_ahead, same_owner, stop_of, value_of}
-use Rattle.sl_leases.specs.Leases.{is_leader_of, name_sought, shows_settled}
-use Rattle.sl_leases.specs.declared.lease.Stop.{Stop}
+use Rattle.sl_trace.specs.Ballots.{is_ahead, same_owner, stop_of, value_of}
+use Rattle.sl_trace.specs.Leases.{is_leader_of, name_sought, shows_settled}
+use Rattle.sl_trace.specs.declared.lease.Stop.{Stop}
 use Rattle.sl_sector.specs.declared.sector.Block.{Block}
 use Rattle.sl_sector.specs.declared.sector.Owner.{Owner}
-use Rattle.sl_sessions.specs.Deltas.{join_step_of}
-use Rattle.sl_sessions.specs.Sessions.{is_delta_purpose, is_join_call, is_renewal, is_session_arg, is_survey_purpose, shows_other_in}
-use Rattle.sl_sessions.specs.declared.delta.DeltaKnown.{DeltaKnown}
-use Rattle.sl_sessions.specs.declared.session.Renewing.{Renewing}
+use Rattle.sl_trace.specs.Deltas.{join_step_of}
+use Rattle.sl_trace.specs.Sessions.{is_delta_purpose, is_join_call, is_renewal, is_session_arg, is_survey_purpose, shows_other_in}
+use Rattle.sl_trace.specs.declared.delta.DeltaKnown.{DeltaKnown}
+use Rattle.sl_trace.specs.declared.session.Renewing.{Renewing}
 use Rattle.sl_due.specs.DueRequests.{owner_asked}
 use Rattle.sl_time.specs.Times.{fail}
 use Rattle.sl_trace.specs.Traces.{Child, KillProgram, Setting, bytes_given, child_after, is_done, is_ok_answer, job_of, kill_program_in, no_effects, with_program, without_program}

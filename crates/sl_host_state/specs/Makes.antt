@@ -4,9 +4,9 @@ use Rattle.sl_area.specs.Layouts.{Layout}
 use Rattle.sl_host_state.specs.Kept.{HostState, JobState, JoinState, LeaseCall, LeaseState, MemberState}
 use Rattle.sl_host_state.specs.New.{new_member}
 use Rattle.sl_host_state.specs.Stands.{free_written, is_joining, kept_call, kept_waiting, newest_of, no_pair, pair_of}
-use Rattle.sl_leases.specs.Leases.{block_written, freed_by, is_at, is_lease_call, is_on, is_spot_before, lease_step, spot_of_call, value_written, Phase2_write}
-use Rattle.sl_sessions.specs.Sessions.{delta_written, is_delta_purpose, is_free_purpose, is_join_call, is_join_done, is_renewal, joining_session}
-use Rattle.sl_sessions.specs.declared.delta.DeltaKnown.{DeltaKnown}
+use Rattle.sl_trace.specs.Leases.{block_written, freed_by, is_at, is_lease_call, is_on, is_spot_before, lease_step, spot_of_call, value_written, Phase2_write}
+use Rattle.sl_trace.specs.Sessions.{delta_written, is_delta_purpose, is_free_purpose, is_join_call, is_join_done, is_renewal, joining_session}
+use Rattle.sl_trace.specs.declared.delta.DeltaKnown.{DeltaKnown}
 use Rattle.sl_time.specs.Times.{fail}
 use Rattle.sl_trace.specs.Traces.{Submitted, is_of_job, job_of, new_call, new_child, same_place, same_spot}
 use Rattle.sl_trace.specs.declared.command.LockspaceArg.{LockspaceArg}

@@ -2,8 +2,8 @@
 use Rattle.sl_area.specs.Layouts.{Layout, Sizes, layout_of}
 use Rattle.sl_host_state.specs.Kept.{Config, HostState, JoinState, MemberState}
 use Rattle.sl_host_state.specs.Stands.{HostStands, config_of}
-use Rattle.sl_sessions.specs.Sessions.{given_number, given_session}
-use Rattle.sl_sessions.specs.declared.session.Session.{Session}
+use Rattle.sl_trace.specs.Sessions.{given_number, given_session}
+use Rattle.sl_trace.specs.declared.session.Session.{Session}
 use Rattle.sl_trace.specs.Traces.{Setting, last_reading, no_effects}
 use Rattle.sl_watch.specs.Telling.{blank_watch}
 use Rattle.sl_words.specs.Orders.{in_order, is_text_before}

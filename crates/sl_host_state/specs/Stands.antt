@@ -18,18 +18,18 @@ use Rattle.sl_due.specs.Due.{IsHostTrace}
 use Rattle.sl_due.specs.DueRequests.{is_asked}
 use Rattle.sl_due.specs.Steps.{Step, seen}
 use Rattle.sl_host_state.specs.Kept.{Config, HostState, JobState, JoinCall, JoinState, LeaseCall, LeaseState, MemberState, OpenCall, PairState, TopNumber, ValuePair, WaitingCall}
-use Rattle.sl_leases.specs.Ballots.{in_instance}
-use Rattle.sl_leases.specs.Counts.{values_on}
-use Rattle.sl_leases.specs.Jobs.{child_of_job, command_of}
-use Rattle.sl_leases.specs.Leases.{block_submitted, block_written, free_left, freed, is_on, last_blocks, leader_written, lease_calls, lease_spots, lease_step, lver_written, may_show_shared, open_ballot, value_written, verified_name}
+use Rattle.sl_trace.specs.Ballots.{in_instance}
+use Rattle.sl_trace.specs.Counts.{values_on}
+use Rattle.sl_trace.specs.Jobs.{child_of_job, command_of}
+use Rattle.sl_trace.specs.Leases.{block_submitted, block_written, free_left, freed, is_on, last_blocks, leader_written, lease_calls, lease_spots, lease_step, lver_written, may_show_shared, open_ballot, value_written, verified_name}
 use Rattle.sl_sector.specs.Bitmaps.{bitmap_of}
 use Rattle.sl_sector.specs.declared.sector.Block.{Block}
 use Rattle.sl_sector.specs.declared.sector.Owner.{Owner}
 use Rattle.sl_sector.specs.declared.sector.ValueRec.{ValueRec}
-use Rattle.sl_sessions.specs.Deltas.{claim_of, delta_known, first_answered, first_bytes, join_step_of}
-use Rattle.sl_sessions.specs.Sessions.{calls_of, is_delta_purpose, is_joined, leaving_of, me, present_sessions, refused_after, renewing, sessions}
-use Rattle.sl_sessions.specs.Watching.{seen_records, sightings}
-use Rattle.sl_sessions.specs.declared.session.Begun.{Begun}
+use Rattle.sl_trace.specs.Deltas.{claim_of, delta_known, first_answered, first_bytes, join_step_of}
+use Rattle.sl_trace.specs.Sessions.{calls_of, is_delta_purpose, is_joined, leaving_of, me, present_sessions, refused_after, renewing, sessions}
+use Rattle.sl_trace.specs.Watching.{seen_records, sightings}
+use Rattle.sl_trace.specs.declared.session.Begun.{Begun}
 use Rattle.sl_time.specs.Times.{fail}
 use Rattle.sl_trace.specs.Connections.{connections}
 use Rattle.sl_trace.specs.Traces.{Child, Job, Setting, Submitted, Trace, children, first_child, holdings, job_numbered, job_of, kill_programs, last_reading, next_call, next_job, no_effects, outstanding, reply_to, running_jobs, submitted, waiting_call}

@@ -10,7 +10,7 @@ use Rattle.sl_host_step.specs.Expecting.{expected_in}
 use Rattle.sl_host_step.specs.Moments.{HasStepped, StepComes}
 use Rattle.sl_host_step.specs.Rooms.{most_of}
 use Rattle.sl_host_step.specs.Serving.{IsIdle, Serves, whole_commands}
-use Rattle.sl_law.specs.Lawful.{IsGiven, IsSetting}
+use Rattle.sl_run.specs.Lawful.{IsGiven, IsSetting}
 use Rattle.sl_run.specs.Headers.{IsHeader}
 use Rattle.sl_run.specs.declared.header.Header.{Header}
 use Rattle.sl_host_law.specs.Steps.Sound.{IsSound}

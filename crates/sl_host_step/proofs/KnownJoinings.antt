@@ -17,11 +17,11 @@ use Rattle.sl_member.specs.Together.{member_with}
 use Rattle.sl_plain.proofs.Lists.{find_inside, in_map, kept_inside}
 use Rattle.sl_sector.specs.Spelling.{delta_in}
 use Rattle.sl_sector.specs.declared.sector.DeltaRec.{DeltaRec}
-use Rattle.sl_sessions.specs.Deltas.{next_after_first}
-use Rattle.sl_sessions.specs.Watching.{is_free_state}
-use Rattle.sl_sessions.specs.declared.delta.DeltaNext.TheVariants.{Join, Nothing, RefuseJoin, RegisterAndRead}
-use Rattle.sl_sessions.specs.declared.delta.DeltaNext.{DeltaNext}
-use Rattle.sl_sessions.specs.declared.session.Session.{Session}
+use Rattle.sl_trace.specs.Deltas.{next_after_first}
+use Rattle.sl_trace.specs.Watching.{is_free_state}
+use Rattle.sl_trace.specs.declared.delta.DeltaNext.TheVariants.{Join, Nothing, RefuseJoin, RegisterAndRead}
+use Rattle.sl_trace.specs.declared.delta.DeltaNext.{DeltaNext}
+use Rattle.sl_trace.specs.declared.session.Session.{Session}
 use Rattle.sl_step_law.proofs.JoiningsClaim.{joinings_claim}
 use Rattle.sl_step_law.proofs.PlacesAreKnown.{places_are_known}
 use Rattle.sl_trace.specs.declared.effects.JoinStep.TheVariants.{ClaimWrite, DecidingRead, FirstRead, FirstRenewal, VerifyRead, WatchRead}

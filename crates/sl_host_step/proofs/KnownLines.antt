@@ -6,7 +6,7 @@ use Rattle.sl_host_lines.specs.LineFacts.{DecisionKnown, IsTimely, LeaseReady as
 use Rattle.sl_host_state.specs.Kept.{HostKept, HostState, MemberState, state_of}
 use Rattle.sl_host_step.proofs.Comes.{IsAtInput}
 use Rattle.sl_host_work.specs.Placed.{IsPlaced}
-use Rattle.sl_leases.specs.Leases.{spot_of}
+use Rattle.sl_trace.specs.Leases.{spot_of}
 use Rattle.sl_member.specs.Together.{member_with}
 use Rattle.sl_plain.proofs.Lists.{find_inside}
 use Rattle.sl_step_law.proofs.DecisionsAreKnown.{decisions_are_known}

@@ -20,7 +20,7 @@ use Rattle.sl_host_step.specs.Telling.{joins_at}
 use Rattle.sl_lease.specs.Steps.{is_read_step}
 use Rattle.sl_member.specs.Together.{member_with}
 use Rattle.sl_plain.proofs.Lists.{find_inside}
-use Rattle.sl_sessions.specs.Sessions.{is_survey_purpose}
+use Rattle.sl_trace.specs.Sessions.{is_survey_purpose}
 use Rattle.sl_sector.specs.Spelling.{IsSectorSize}
 use Rattle.sl_step_law.proofs.AnswersAreKnown.{answers_are_known, sector_size}
 use Rattle.sl_step_law.proofs.CallsAsk.{calls_ask}

@@ -11,7 +11,7 @@ use Rattle.sl_host_step.specs.Rooms.{EndsWith, HasLeft}
 use Rattle.sl_host_step.specs.Seating.{HasPlace, MayBeSeated}
 use Rattle.sl_command.specs.Verbs.{answered}
 use Rattle.sl_member.specs.Members.{MemberKept, blank_member}
-use Rattle.sl_sessions.specs.Sessions.{joining_session}
+use Rattle.sl_trace.specs.Sessions.{joining_session}
 use Rattle.sl_trace.specs.declared.command.BadCommand.{BadCommand}
 use Rattle.sl_host.specs.Joining.{run_in}
 use Rattle.sl_text.specs.Names.{is_name}

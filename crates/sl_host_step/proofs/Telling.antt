@@ -11,7 +11,7 @@ use Rattle.sl_host_step.proofs.KnownWholeAnswers as known
 use Rattle.sl_host_step.specs.Moments.{AtInput}
 use Rattle.sl_host_step.specs.Rooms.{EndsWith, HasLeft, ScratchState, Suffices}
 use Rattle.sl_member.specs.Together.{member_with}
-use Rattle.sl_sessions.specs.Sessions.{is_survey_purpose}
+use Rattle.sl_trace.specs.Sessions.{is_survey_purpose}
 use Rattle.sl_trace.specs.declared.input.Answer.{Answer}
 use Rattle.sl_trace.specs.declared.input.Input.TheVariants.{Answer as Told}
 use Rattle.sl_host.specs.Asking.{state_in}

@@ -3,7 +3,7 @@ use Rattle.sl_area.specs.Layouts.{layout_of}
 use Rattle.sl_host_state.specs.Kept.{HostKept}
 use Rattle.sl_host_step.specs.Rooms.{calls_for}
 use Rattle.sl_member.specs.Members.{MemberKept, blank_member}
-use Rattle.sl_sessions.specs.Sessions.{joining_session}
+use Rattle.sl_trace.specs.Sessions.{joining_session}
 use Rattle.sl_text.specs.Names.{is_name}
 use Rattle.sl_trace.specs.Commands.{IsCommand}
 use Rattle.sl_trace.specs.declared.command.Command.TheVariants.{AddLockspace}

@@ -3,7 +3,7 @@ use Rattle.sl_area.specs.Layouts.{layout_of}
 use Rattle.sl_host_law.specs.Steps.Sound.{IsSound}
 use Rattle.sl_host_state.specs.Kept.{HostKept, state_of}
 use Rattle.sl_host_state.specs.Stands.{HostStands}
-use Rattle.sl_law.specs.Lawful.{IsSetting}
+use Rattle.sl_run.specs.Lawful.{IsSetting}
 use Rattle.sl_run.specs.declared.header.Header.{Header}
 use Rattle.sl_text.specs.Forms.{Form}
 use Rattle.sl_trace.specs.Commands.{command_in, forms}

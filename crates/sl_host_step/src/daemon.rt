@@ -3,7 +3,7 @@
 ghost use Rattle.sl_daemon.specs.Daemons.{begun_with};
 ghost use Rattle.sl_host_step.specs.Rooms.{most_of};
 ghost use Rattle.sl_host_step.specs.Serving.{Serves, whole_commands};
-ghost use Rattle.sl_law.specs.Lawful.{IsSetting};
+ghost use Rattle.sl_run.specs.Lawful.{IsSetting};
 ghost use Rattle.sl_run.specs.Events.{is_for_locks};
 ghost use Rattle.sl_run.specs.Headers.{IsHeader};
 ghost use Rattle.std.specs.Prelude.{IfOk, Ok, [], ◌≡◌};

@@ -16,11 +16,11 @@ use Rattle.sl_lease.specs.Side.{is_named, known_with, place_of}
 use Rattle.sl_lease.specs.Steps.{IsFitNext, is_first_step, is_read_step}
 use Rattle.sl_lease.specs.declared.evidence.Held.{Held}
 use Rattle.sl_lease.specs.declared.side.Side.{Side}
-use Rattle.sl_leases.specs.LeaseWork.{LeasePlace, after_write, area_next, convert_next, lease_next, named_area_next, release_next, settle_next}
-use Rattle.sl_leases.specs.Leases.{LeaseKnown, is_leader_of}
-use Rattle.sl_leases.specs.declared.lease.Aim.{Aim}
-use Rattle.sl_leases.specs.declared.lease.LeaseNext.TheVariants.{AnswerJob, BecomeExclusive, BecomeShared, GrantJob, Nothing, ReadFor, WriteBlock, WriteLeader}
-use Rattle.sl_leases.specs.declared.lease.LeaseNext.{LeaseNext}
+use Rattle.sl_trace.specs.LeaseWork.{LeasePlace, after_write, area_next, convert_next, lease_next, named_area_next, release_next, settle_next}
+use Rattle.sl_trace.specs.Leases.{LeaseKnown, is_leader_of}
+use Rattle.sl_trace.specs.declared.lease.Aim.{Aim}
+use Rattle.sl_trace.specs.declared.lease.LeaseNext.TheVariants.{AnswerJob, BecomeExclusive, BecomeShared, GrantJob, Nothing, ReadFor, WriteBlock, WriteLeader}
+use Rattle.sl_trace.specs.declared.lease.LeaseNext.{LeaseNext}
 use Rattle.sl_member.specs.Members.{MemberKept, owner_in, seen_in, side_in}
 use Rattle.sl_member.specs.Seen.{SeenBy, over_by}
 use Rattle.sl_sector.specs.declared.sector.Block.{Block}

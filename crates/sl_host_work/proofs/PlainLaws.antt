@@ -9,10 +9,10 @@ use Rattle.sl_sector.specs.Spelling.{delta_in}
 use Rattle.sl_sector.specs.declared.sector.DeltaRec.{DeltaRec}
 use Rattle.sl_sector.specs.declared.sector.DeltaState.TheVariants.{Claimed, Live}
 use Rattle.sl_sector.specs.declared.sector.Rec.TheVariants.{DeltaIs}
-use Rattle.sl_sessions.specs.Deltas.{DeltaLease, claim_on, delta_record, id_held, id_lost, next_after_first, next_after_free, next_after_renewal, where_watched}
-use Rattle.sl_sessions.specs.Watching.{is_free_state}
-use Rattle.sl_sessions.specs.declared.delta.DeltaNext.TheVariants.{Nothing, ReadOwn, RefuseJoin, RegisterAndRead, WriteClaim, WriteFirst}
-use Rattle.sl_sessions.specs.declared.delta.DeltaNext.{DeltaNext}
+use Rattle.sl_trace.specs.Deltas.{DeltaLease, claim_on, delta_record, id_held, id_lost, next_after_first, next_after_free, next_after_renewal, where_watched}
+use Rattle.sl_trace.specs.Watching.{is_free_state}
+use Rattle.sl_trace.specs.declared.delta.DeltaNext.TheVariants.{Nothing, ReadOwn, RefuseJoin, RegisterAndRead, WriteClaim, WriteFirst}
+use Rattle.sl_trace.specs.declared.delta.DeltaNext.{DeltaNext}
 use Rattle.sl_time.specs.Times.{TimingNumbers, dead, join_max, renew}
 use Rattle.sl_trace.specs.declared.effects.JoinStep.TheVariants.{ClaimWrite, DecidingRead, FirstRead, FirstRenewal, VerifyRead, WatchRead}
 use Rattle.sl_trace.specs.declared.effects.JoinStep.{JoinStep}

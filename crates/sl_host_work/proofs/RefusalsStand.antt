@@ -13,7 +13,7 @@ use Rattle.sl_host_state.specs.declared.kept.JobState.{JobState}
 use Rattle.sl_host_state.specs.declared.kept.WaitingCall.{WaitingCall}
 use Rattle.sl_host_work.specs.Stopping.{overdue_of, parted_with, recovering_of, refusing_by, stopped_of, stopping, stopping_cost}
 use Rattle.sl_host_work.specs.declared.recoveries.Stopped.{Stopped}
-use Rattle.sl_leases.specs.Jobs.{lockspace_named}
+use Rattle.sl_trace.specs.Jobs.{lockspace_named}
 use Rattle.sl_plain.proofs.Lists.{filter_both, find_inside}
 use Rattle.sl_trace.specs.declared.effects.Signal.TheVariants.{Term}
 use Rattle.sl_trace.specs.declared.reply.Reply.TheVariants.{IoTimeout, Recovering}

@@ -3,8 +3,8 @@ use Rattle.sl_host_law.specs.Answers.Carrying.{for_job_of}
 use Rattle.sl_host_law.specs.Answers.Leasing.{converting}
 use Rattle.sl_host_state.specs.Kept.{HostState}
 use Rattle.sl_host_work.specs.Leasing.{converting_under, otherwise_under}
-use Rattle.sl_leases.specs.Jobs.{process_named}
-use Rattle.sl_sessions.specs.declared.session.Session.{Session}
+use Rattle.sl_trace.specs.Jobs.{process_named}
+use Rattle.sl_trace.specs.declared.session.Session.{Session}
 use Rattle.sl_trace.specs.declared.command.Command.{Command}
 use Rattle.sl_trace.specs.declared.effects.Grant.{Grant}
 use Rattle.sl_trace.specs.declared.effects.Mode.{Mode}

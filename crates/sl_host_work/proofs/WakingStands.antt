@@ -11,7 +11,7 @@ use Rattle.sl_host_law.specs.Steps.Leases.{settling_next}
 use Rattle.sl_host_law.specs.Steps.Wakes.{settling_here}
 use Rattle.sl_host_state.specs.declared.kept.JoinCall.{JoinCall}
 use Rattle.sl_host_state.specs.declared.kept.OpenCall.{OpenCall}
-use Rattle.sl_leases.specs.declared.lease.LeaseNext.{LeaseNext}
+use Rattle.sl_trace.specs.declared.lease.LeaseNext.{LeaseNext}
 use Rattle.sl_host_law.specs.Steps.Passes.{at_member, member_numbered}
 use Rattle.sl_area.specs.Layouts.{layout_of}
 use Rattle.sl_host_state.specs.Kept.{HostKept, HostState, MemberState}
@@ -21,11 +21,11 @@ use Rattle.sl_host.specs.Asking.{state_in}
 use Rattle.sl_host_work.specs.Waking.{joining_of, joining_on, renewal_of, renewal_written, renewing_by, settling_of, written_in}
 use Rattle.sl_sector.specs.declared.sector.DeltaRec.{DeltaRec}
 use Rattle.sl_sector.specs.declared.sector.DeltaState.TheVariants.{Live}
-use Rattle.sl_sessions.specs.Deltas.{DeltaLease, delta_record, is_renewal_due, next_by_time, next_renewal}
-use Rattle.sl_sessions.specs.declared.delta.DeltaKnown.{DeltaKnown}
-use Rattle.sl_sessions.specs.declared.delta.DeltaNext.TheVariants.{Nothing, WriteRenewal}
-use Rattle.sl_sessions.specs.declared.delta.DeltaNext.{DeltaNext}
-use Rattle.sl_sessions.specs.declared.session.Session.{Session}
+use Rattle.sl_trace.specs.Deltas.{DeltaLease, delta_record, is_renewal_due, next_by_time, next_renewal}
+use Rattle.sl_trace.specs.declared.delta.DeltaKnown.{DeltaKnown}
+use Rattle.sl_trace.specs.declared.delta.DeltaNext.TheVariants.{Nothing, WriteRenewal}
+use Rattle.sl_trace.specs.declared.delta.DeltaNext.{DeltaNext}
+use Rattle.sl_trace.specs.declared.session.Session.{Session}
 use Rattle.sl_trace.specs.declared.effects.JoinStep.TheVariants.{ClaimWrite, DecidingRead, FirstRead, FirstRenewal, VerifyRead, WatchRead}
 use Rattle.sl_trace.specs.declared.effects.JoinStep.{JoinStep}
 use Rattle.sl_trace.specs.declared.effects.Spot.{Spot}

@@ -2,8 +2,8 @@
 use Rattle.sl_host_law.specs.Answers.Leasing.{converting, for_command_of, for_work_of}
 use Rattle.sl_host_state.specs.Kept.{HostState}
 use Rattle.sl_lease.specs.declared.evidence.Held.{Held}
-use Rattle.sl_leases.specs.Jobs.{process_named}
-use Rattle.sl_sessions.specs.declared.session.Session.{Session}
+use Rattle.sl_trace.specs.Jobs.{process_named}
+use Rattle.sl_trace.specs.declared.session.Session.{Session}
 use Rattle.sl_trace.specs.Traces.{is_shared, same_place}
 use Rattle.sl_trace.specs.declared.command.Command.{Command}
 use Rattle.sl_trace.specs.declared.effects.Grant.{Grant}

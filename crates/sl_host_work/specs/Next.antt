@@ -2,16 +2,16 @@
 use Rattle.sl_delta.specs.Decides.{after_join, on_wake}
 use Rattle.sl_delta.specs.Own.{OwnState}
 use Rattle.sl_lease.specs.Bounds.{IsBegun}
-use Rattle.sl_leases.specs.LeaseWork.{LeasePlace, convert_next, lease_next, release_next, settle_next}
-use Rattle.sl_leases.specs.Leases.{LeaseKnown}
-use Rattle.sl_leases.specs.declared.lease.Aim.{Aim}
-use Rattle.sl_leases.specs.declared.lease.LeaseNext.TheVariants.{AnswerJob, BecomeExclusive, BecomeShared, WriteBlock, WriteLeader}
-use Rattle.sl_leases.specs.declared.lease.LeaseNext.{LeaseNext}
+use Rattle.sl_trace.specs.LeaseWork.{LeasePlace, convert_next, lease_next, release_next, settle_next}
+use Rattle.sl_trace.specs.Leases.{LeaseKnown}
+use Rattle.sl_trace.specs.declared.lease.Aim.{Aim}
+use Rattle.sl_trace.specs.declared.lease.LeaseNext.TheVariants.{AnswerJob, BecomeExclusive, BecomeShared, WriteBlock, WriteLeader}
+use Rattle.sl_trace.specs.declared.lease.LeaseNext.{LeaseNext}
 use Rattle.sl_sector.specs.Records.{Fits}
-use Rattle.sl_sessions.specs.Deltas.{next_after_free, next_after_renewal}
-use Rattle.sl_sessions.specs.Sessions.{is_join_done}
-use Rattle.sl_sessions.specs.declared.delta.DeltaNext.TheVariants.{EndLeaving, RefuseJoin}
-use Rattle.sl_sessions.specs.declared.delta.DeltaNext.{DeltaNext}
+use Rattle.sl_trace.specs.Deltas.{next_after_free, next_after_renewal}
+use Rattle.sl_trace.specs.Sessions.{is_join_done}
+use Rattle.sl_trace.specs.declared.delta.DeltaNext.TheVariants.{EndLeaving, RefuseJoin}
+use Rattle.sl_trace.specs.declared.delta.DeltaNext.{DeltaNext}
 use Rattle.sl_trace.specs.declared.effects.JoinStep.{JoinStep}
 use Rattle.sl_trace.specs.declared.effects.LeaseStep.{LeaseStep}
 use Rattle.sl_trace.specs.declared.effects.Mode.{Mode}

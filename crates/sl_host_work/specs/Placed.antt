@@ -1,7 +1,7 @@
 -- Where sectors stand, and what may be written.
 use Rattle.sl_area.specs.Layouts.{Sizes, layout_of}
 use Rattle.sl_area.specs.Places.{is_base}
-use Rattle.sl_sessions.specs.declared.session.Session.{Session}
+use Rattle.sl_trace.specs.declared.session.Session.{Session}
 use Rattle.std.specs.Prelude.{IsTrue, ℕ, ◌≤◌}
 
 -- The session's area stands at a base, and its id is one of the run's.

@@ -6,14 +6,14 @@ use Rattle.sl_host_law.specs.Answers.Carrying.{carrying, writing_own}
 use Rattle.sl_host_state.specs.Kept.{HostKept, HostState, MemberState}
 use Rattle.sl_host_work.specs.Asking.{MayAsk}
 use Rattle.sl_host_work.specs.Placed.{IsPlaced}
-use Rattle.sl_leases.specs.declared.lease.LeaseNext.{LeaseNext}
+use Rattle.sl_trace.specs.declared.lease.LeaseNext.{LeaseNext}
 use Rattle.sl_member.specs.Together.{member_with}
 use Rattle.sl_sector.specs.declared.sector.DeltaRec.{DeltaRec}
 use Rattle.sl_sector.specs.declared.sector.DeltaState.TheVariants.{Live}
-use Rattle.sl_sessions.specs.Deltas.{delta_record, is_renewal_due}
-use Rattle.sl_sessions.specs.declared.delta.DeltaNext.TheVariants.{WriteRenewal}
-use Rattle.sl_sessions.specs.declared.delta.DeltaNext.{DeltaNext}
-use Rattle.sl_sessions.specs.declared.session.Session.{Session}
+use Rattle.sl_trace.specs.Deltas.{delta_record, is_renewal_due}
+use Rattle.sl_trace.specs.declared.delta.DeltaNext.TheVariants.{WriteRenewal}
+use Rattle.sl_trace.specs.declared.delta.DeltaNext.{DeltaNext}
+use Rattle.sl_trace.specs.declared.session.Session.{Session}
 use Rattle.sl_trace.specs.declared.effects.Spot.{Spot}
 use Rattle.sl_trace.specs.declared.effects.Purpose.TheVariants.{Renewal}
 use Rattle.sl_host.specs.Asking.{state_in}

@@ -13,12 +13,12 @@ ghost use Rattle.sl_host_law.specs.Questions.Jobs.{running_in};
 ghost use Rattle.sl_host_state.specs.Makes.{with_reply};
 ghost use Rattle.sl_host_work.specs.Next.{IsPlain};
 ghost use Rattle.sl_host_work.specs.Placed.{IsPlaced};
-ghost use Rattle.sl_sessions.specs.Sessions.{is_join_done};
+ghost use Rattle.sl_trace.specs.Sessions.{is_join_done};
 ghost use Rattle.sl_time.specs.Times.{fail};
 ghost use Rattle.sl_trace.specs.declared.effects.JoinStep.TheVariants.{ClaimWrite, FirstRenewal};
 ghost use Rattle.sl_trace.specs.declared.effects.Purpose.TheVariants.{Joining};
 ghost use Rattle.sl_trace.specs.declared.reply.Reply.TheVariants.{Generation};
-ghost use Rattle.sl_sessions.specs.declared.delta.DeltaNext.TheVariants.{Join};
+ghost use Rattle.sl_trace.specs.declared.delta.DeltaNext.TheVariants.{Join};
 ghost use Rattle.sl_host.specs.Replying.{HasClaims};
 ghost use Rattle.sl_host.specs.Host.{Becomes, SameRun, Spends};
 ghost use Rattle.sl_words.specs.Bounds.{moments};
@@ -28,8 +28,7 @@ use crate::ends::remove_connection;
 use crate::refusing::refuse;
 use sl_host::Host;
 use sl_sector::{DeltaRec, Rec};
-use sl_sessions::{DeltaNext, Session};
-use sl_trace::{JoinStep, Move, Op, Purpose, Reply};
+use sl_trace::{DeltaNext, JoinStep, Move, Op, Purpose, Reply, Session};
 
 /// Where the session's own sector stands.
 fn own_sector(host: &Host, who: &Session) -> u64

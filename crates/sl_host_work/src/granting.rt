@@ -4,18 +4,17 @@ ghost use Rattle.sl_due.specs.DueLease.{grant_of};
 ghost use Rattle.sl_host_law.specs.Answers.Leasing.{converting, for_command_of, for_work_of, granting_for, starting};
 ghost use Rattle.sl_host_state.specs.Makes.{with_grant, with_reply};
 ghost use Rattle.sl_host_work.specs.Leasing.{converted_under, converting_under, otherwise_under};
-ghost use Rattle.sl_leases.specs.Jobs.{process_named};
-ghost use Rattle.sl_sessions.specs.Sessions.{is_join_done};
+ghost use Rattle.sl_trace.specs.Jobs.{process_named};
+ghost use Rattle.sl_trace.specs.Sessions.{is_join_done};
 ghost use Rattle.sl_trace.specs.Traces.{end_of, is_shared, work_job};
 ghost use Rattle.sl_trace.specs.declared.reply.Reply.TheVariants.{Granted};
 ghost use Rattle.sl_host.specs.Host.{Becomes, SameRun, Spends};
 ghost use Rattle.std.specs.Prelude.{false, not, ◌≡◌, ◌≤◌};
 
 use sl_host::Host;
-use sl_sessions::Session;
 use sl_tables::Holder;
 use sl_text::FilePath;
-use sl_trace::{Command, End, Grant, Mode, Reply, ResourceArg, Spot, Start, Work};
+use sl_trace::{Command, End, Grant, Mode, Reply, ResourceArg, Session, Spot, Start, Work};
 
 /// A grant under the session, with the names of the command.
 fn grant_of(

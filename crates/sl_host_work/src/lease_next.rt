@@ -23,12 +23,11 @@ ghost use Rattle.std.specs.Prelude.{All, IfSome, IsTrue, List, Some, find, lengt
 use sl_host::Host;
 use sl_host_state::OpenCall;
 use sl_lease::{Held, Lease, after_failure};
-use sl_leases::{Aim, LeaseNext};
 use sl_member::Member;
 use sl_sector::{Block, Leader};
 use sl_tables::Holder;
 use sl_text::Name;
-use sl_trace::{Grant, LeaseStep, Mode, Spot};
+use sl_trace::{Aim, Grant, LeaseNext, LeaseStep, Mode, Spot};
 
 /// The first holding under the session of this number on an area, in this mode.
 fn held_in(host: &Host, session: u64, at: &Spot, mode: Mode) -> Option<Grant>
@@ -162,7 +161,7 @@ pub fn next_after_write(
 }
 
 /// What comes next after this call has failed.
-#[tactic(auto, unfolding(sl_leases::specs::LeaseWork::lease_next))]
+#[tactic(auto, unfolding(sl_trace::specs::LeaseWork::lease_next))]
 pub fn next_after_failure(aim: Aim, call: &OpenCall) -> LeaseNext
     ensures exact { (h : HostState) (m : MemberState) (at : Spot) (step : LeaseStep) → result ≡ answered_next h m at call.now aim step Failed }
     ensures fit { IsFit result }

@@ -21,10 +21,8 @@ ghost use Rattle.std.specs.Prelude.{◌<◌, ◌≡◌, ◌≤◌};
 
 use crate::granting::{answer_job, converted, grant_job};
 use sl_host::Host;
-use sl_leases::LeaseNext;
 use sl_sector::{Block, Leader, Rec};
-use sl_sessions::Session;
-use sl_trace::{LeaseStep, Mode, Op, Purpose, Spot, Work};
+use sl_trace::{LeaseNext, LeaseStep, Mode, Op, Purpose, Session, Spot, Work};
 
 /// Where the own block of a session stands, in the resource's area at this base.
 fn own_block(host: &Host, who: &Session, at: &Spot) -> u64

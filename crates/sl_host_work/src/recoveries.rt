@@ -15,9 +15,8 @@ use crate::signals::signal_holders;
 use sl_host::Host;
 use sl_host_state::WaitingCall;
 use sl_member::Member;
-use sl_sessions::Begun;
 use sl_text::Name;
-use sl_trace::Signal;
+use sl_trace::{Begun, Signal};
 
 /// Whether so much time has passed since a reading.
 fn has_passed(since: u64, time: u64, now: u64) -> bool

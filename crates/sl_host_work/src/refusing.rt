@@ -10,7 +10,7 @@ ghost use Rattle.sl_host_work.specs.Stopping.{parted_with, recovering_of, refusi
 ghost use Rattle.sl_host_law.specs.Parts.Exits.{refusing_of};
 ghost use Rattle.sl_member.specs.Together.{member_with};
 ghost use Rattle.sl_host_work.specs.Refused.{reply_of};
-ghost use Rattle.sl_sessions.specs.Sessions.{is_join_done};
+ghost use Rattle.sl_trace.specs.Sessions.{is_join_done};
 ghost use Rattle.sl_host.specs.Choosing.{chosen_among};
 ghost use Rattle.sl_host.specs.Host.{Becomes, SameRun, Spends};
 ghost use Rattle.sl_host.specs.Notes.{NotesState};

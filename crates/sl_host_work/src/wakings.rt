@@ -21,11 +21,9 @@ use crate::delta::{carry, write_own};
 use crate::lease_next::settling_next;
 use crate::leasing::carry_lease;
 use sl_host::Host;
-use sl_leases::LeaseNext;
 use sl_member::Member;
 use sl_sector::DeltaRec;
-use sl_sessions::{DeltaNext, Session};
-use sl_trace::{Purpose, Spot, Work};
+use sl_trace::{DeltaNext, LeaseNext, Purpose, Session, Spot, Work};
 
 /// What a renewal writes.
 fn renewal_written(next: &DeltaNext) -> Option<DeltaRec>

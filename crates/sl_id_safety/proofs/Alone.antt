@@ -29,7 +29,7 @@ use Rattle.sl_run.specs.Runs.{Happening}
 use Rattle.sl_run.specs.Safety.{CameBeforeClaim, Found, HasJoined, IsOwnLanding, IsSession, LawfulRun, SessionId, is_course_of, is_over, landed_in_own, setting_in, world_at}
 use Rattle.sl_run.specs.Worlds.{Course, Landing, Machine, Program, World, first_landing, history_of, landed_at, machine_at}
 use Rattle.sl_run.specs.declared.header.Header.{Header}
-use Rattle.sl_sessions.specs.Sessions.{is_join_call}
+use Rattle.sl_trace.specs.Sessions.{is_join_call}
 use Rattle.sl_trace.specs.Traces.{same_place}
 use Rattle.sl_trace.specs.declared.effects.JoinStep.TheVariants.{ClaimWrite}
 use Rattle.sl_words.proofs.CaseLaws.{one_value, true_is_false}

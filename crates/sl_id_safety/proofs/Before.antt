@@ -8,8 +8,8 @@ use Rattle.sl_id_safety.proofs.State.FindingFrames.{found_on, session_with}
 use Rattle.sl_id_safety.proofs.State.LaterFrames.{numbered_found}
 use Rattle.sl_id_safety.proofs.State.Living.{begun_if_joined}
 use Rattle.sl_id_safety.proofs.State.Proven.{grounds}
-use Rattle.sl_law.proofs.LawFacts.{orderly-front}
-use Rattle.sl_law.specs.Lawful.{Orderly}
+use Rattle.sl_run.proofs.LawFacts.{orderly-front}
+use Rattle.sl_run.specs.Lawful.{Orderly}
 use Rattle.sl_plain.proofs.Lists.{contains_cases, contains_first, contains_more}
 use Rattle.sl_run.specs.Runs.{Happening}
 use Rattle.sl_run.specs.Safety.{Found, IsSession, LawfulRun, SessionId, setting_in, trace_of, world_at}
@@ -20,8 +20,8 @@ use Rattle.sl_run_law.specs.Daemons.{IsSettled}
 use Rattle.sl_trace_law.proofs.Sessions.Owning.{sessions_stay}
 use Rattle.sl_trace_law.proofs.Sessions.Staying.{joined_more, marks_stay}
 use Rattle.sl_trace_law.specs.Sessions.Promises.{IsSession as IsSessionOf}
-use Rattle.sl_sessions.specs.Sessions.{given_session, joined_after, session_numbered}
-use Rattle.sl_sessions.specs.declared.session.Session.{Session}
+use Rattle.sl_trace.specs.Sessions.{given_session, joined_after, session_numbered}
+use Rattle.sl_trace.specs.declared.session.Session.{Session}
 use Rattle.sl_trace.specs.Traces.{Setting, Trace}
 use Rattle.sl_trace.specs.declared.effects.Entry.{Entry}
 use Rattle.sl_trace.specs.declared.input.Given.{Given}

@@ -38,7 +38,7 @@ use Rattle.sl_run_law.proofs.Sample.Proven.{samples_are_landings}
 use Rattle.sl_run_law.specs.Sample.Samples.{IsSampleOf, numbered_landing, sector_place}
 use Rattle.sl_trace_law.proofs.Sessions.Making.{answers_stay}
 use Rattle.sl_trace_law.specs.Sessions.Promises.{IsSession as IsSessionOf}
-use Rattle.sl_sessions.specs.Sessions.{calls_of, is_call_of, is_join_call, is_survey_purpose, session_numbered}
+use Rattle.sl_trace.specs.Sessions.{calls_of, is_call_of, is_join_call, is_survey_purpose, session_numbered}
 use Rattle.sl_trace.specs.Traces.{Submitted, new_call, same_place, submitted}
 use Rattle.sl_trace.specs.declared.effects.Call.{Call}
 use Rattle.sl_trace.specs.declared.effects.JoinStep.TheVariants.{ClaimWrite, FirstRenewal, VerifyRead}

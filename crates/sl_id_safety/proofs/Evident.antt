@@ -33,9 +33,9 @@ use Rattle.sl_run_law.specs.Sample.Samples.{sector_place}
 use Rattle.sl_sector.specs.declared.sector.DeltaRec.{DeltaRec}
 use Rattle.sl_sector.specs.declared.sector.DeltaState.TheVariants.{Claimed, Free, Live}
 use Rattle.sl_sector.specs.declared.sector.DeltaState.{DeltaState}
-use Rattle.sl_sessions.specs.Sessions.{calls_of, generation_of, joined_after}
-use Rattle.sl_sessions.specs.Watching.{current_run, evidence_in, is_free_among, is_free_state, is_silent, newest_of, seen_records, silence}
-use Rattle.sl_sessions.specs.declared.sighting.Run.{Run}
+use Rattle.sl_trace.specs.Sessions.{calls_of, generation_of, joined_after}
+use Rattle.sl_trace.specs.Watching.{current_run, evidence_in, is_free_among, is_free_state, is_silent, newest_of, seen_records, silence}
+use Rattle.sl_trace.specs.declared.sighting.Run.{Run}
 use Rattle.sl_time.specs.Times.{TimingNumbers}
 use Rattle.sl_trace.specs.declared.reply.Evidence.TheVariants.{Freed as FreedIs, Newer as NewerIs, Silent as SilentIs}
 use Rattle.sl_trace.specs.declared.reply.Evidence.{Evidence as TheEvidence}

@@ -3,9 +3,9 @@ use Rattle.sl_id_safety.proofs.State.Keeping.{lawful_call}
 use Rattle.sl_id_safety.proofs.State.Listing.{stands, stands_there, tail_at}
 use Rattle.sl_id_safety.proofs.State.Tails.{AreMade, IsLater, IsMadeAfter, all_made, front_at}
 use Rattle.sl_id_safety.proofs.State.Timing.{longer}
-use Rattle.sl_law.specs.Lawful.{Orderly}
-use Rattle.sl_law.specs.LawfulCalls.{may_submit}
-use Rattle.sl_law.specs.LawfulDelta.{LawfulDeltaCall, LawfulFree}
+use Rattle.sl_run.specs.Lawful.{Orderly}
+use Rattle.sl_run.specs.LawfulCalls.{may_submit}
+use Rattle.sl_run.specs.LawfulDelta.{LawfulDeltaCall, LawfulFree}
 use Rattle.sl_run_law.proofs.Place.Finding.{finds, partner}
 use Rattle.sl_run_law.proofs.Place.Looks.{made_below, stands as standing_joined}
 use Rattle.sl_plain.proofs.Lists.{contains_cases, contains_none, ends, find_inside, kept, kept_inside}
@@ -14,10 +14,10 @@ use Rattle.sl_trace_law.proofs.Sessions.Joining.{stage_for}
 use Rattle.sl_trace_law.proofs.Sessions.Silence.{stage_by}
 use Rattle.sl_trace_law.proofs.Sessions.Staying.{marks_stay}
 use Rattle.sl_trace_law.specs.Sessions.Promises.{IsSession as IsSessionOf}
-use Rattle.sl_sessions.specs.Sessions.{calls_of, free_write, is_call_of, is_free_purpose, joined_after, open_calls_of, refused_after, removed_after, stage_after, stage_in, stage_of}
-use Rattle.sl_sessions.specs.declared.session.Session.{Session}
-use Rattle.sl_sessions.specs.declared.stage.Stage.TheVariants.{Standing}
-use Rattle.sl_sessions.specs.declared.stage.Stage.{Stage}
+use Rattle.sl_trace.specs.Sessions.{calls_of, free_write, is_call_of, is_free_purpose, joined_after, open_calls_of, refused_after, removed_after, stage_after, stage_in, stage_of}
+use Rattle.sl_trace.specs.declared.session.Session.{Session}
+use Rattle.sl_trace.specs.declared.stage.Stage.TheVariants.{Standing}
+use Rattle.sl_trace.specs.declared.stage.Stage.{Stage}
 use Rattle.sl_trace.specs.Traces.{Answered, Setting, Submitted, Trace, is_answered_ok, new_call, submitted}
 use Rattle.sl_trace.specs.declared.effects.Call.{Call}
 use Rattle.sl_trace.specs.declared.effects.JoinStep.TheVariants.{ClaimWrite, DecidingRead, FirstRead, FirstRenewal, VerifyRead, WatchRead}

@@ -2,15 +2,15 @@
 use Rattle.sl_id_safety.proofs.State.Beside.{filter_pairs}
 use Rattle.sl_id_safety.proofs.State.Listing.{find_pairs}
 use Rattle.sl_id_safety.proofs.State.Tails.{AreLater, IsLater, all_again, all_still, marked_later}
-use Rattle.sl_law.proofs.LawFacts.{orderly-front}
-use Rattle.sl_law.specs.Lawful.{Orderly}
+use Rattle.sl_run.proofs.LawFacts.{orderly-front}
+use Rattle.sl_run.specs.Lawful.{Orderly}
 use Rattle.sl_trace_law.proofs.Sessions.Freeing.{freed_are_silent}
 use Rattle.sl_trace_law.proofs.Sessions.Owning.{sessions_stay}
 use Rattle.sl_trace_law.proofs.Sessions.Silence.{ended_are_silent}
 use Rattle.sl_trace_law.proofs.Sessions.Staying.{marks_stay}
 use Rattle.sl_trace_law.specs.Sessions.Promises.{IsSession as IsSessionOf}
-use Rattle.sl_sessions.specs.Sessions.{calls_of, ended_after, free_write, is_call_of, is_free_purpose, joined_after}
-use Rattle.sl_sessions.specs.declared.session.Session.{Session}
+use Rattle.sl_trace.specs.Sessions.{calls_of, ended_after, free_write, is_call_of, is_free_purpose, joined_after}
+use Rattle.sl_trace.specs.declared.session.Session.{Session}
 use Rattle.sl_trace.specs.Traces.{Setting, Submitted, Trace, mark, new_call, submitted}
 use Rattle.sl_trace.specs.declared.effects.Call.{Call}
 use Rattle.sl_trace.specs.declared.effects.Entry.{Entry}

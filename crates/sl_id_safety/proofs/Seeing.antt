@@ -10,7 +10,7 @@ use Rattle.sl_id_safety.proofs.State.Proven.{grounds}
 use Rattle.sl_id_safety.proofs.State.Tails.{front_at}
 use Rattle.sl_id_safety.specs.State.IdStates.{content_of, own_courses, said_by}
 use Rattle.sl_run_law.proofs.Landing.Listing.{one_call}
-use Rattle.sl_law.specs.LawfulDelta.{LawfulDeltaCall, LawfulSurvey}
+use Rattle.sl_run.specs.LawfulDelta.{LawfulDeltaCall, LawfulSurvey}
 use Rattle.sl_run_law.proofs.Place.Finding.{given_by, partner_of}
 use Rattle.sl_run_law.proofs.Place.Proven.{promised}
 use Rattle.sl_run_law.proofs.Place.Reading.{read_of}
@@ -23,10 +23,10 @@ use Rattle.sl_run.specs.Worlds.{Course, Program, Sampling, Stamp, World}
 use Rattle.sl_run.specs.declared.header.Header.{Header}
 use Rattle.sl_sector.specs.Spelling.{delta_in}
 use Rattle.sl_sector.specs.declared.sector.DeltaRec.{DeltaRec}
-use Rattle.sl_sessions.specs.Sessions.{calls_of, is_call_of, is_survey_purpose}
-use Rattle.sl_sessions.specs.Watching.{look_of, seen_records, sighted}
-use Rattle.sl_sessions.specs.declared.session.Session.{Session}
-use Rattle.sl_sessions.specs.declared.sighting.Sighting.{Sighting}
+use Rattle.sl_trace.specs.Sessions.{calls_of, is_call_of, is_survey_purpose}
+use Rattle.sl_trace.specs.Watching.{look_of, seen_records, sighted}
+use Rattle.sl_trace.specs.declared.session.Session.{Session}
+use Rattle.sl_trace.specs.declared.sighting.Sighting.{Sighting}
 use Rattle.sl_time.specs.Times.{reading_of}
 use Rattle.sl_trace.specs.Traces.{Answered, Setting, Submitted, Trace, bytes_given, gave, new_call, submitted}
 use Rattle.sl_trace.specs.declared.effects.Call.{Call}

@@ -15,7 +15,7 @@ use Rattle.sl_run.specs.Runs.{Happening}
 use Rattle.sl_run.specs.Safety.{Found, LawfulRun, SessionId, free_landed, has_write_in_flight, is_over, setting_in, trace_of, was_reset, world_at}
 use Rattle.sl_run.specs.Worlds.{Course, Daemon, Program, Stamp, World, is_write_course, may_land}
 use Rattle.sl_run.specs.declared.header.Header.{Header}
-use Rattle.sl_sessions.specs.Sessions.{calls_of, ended_after, free_write, is_call_of, is_free_purpose}
+use Rattle.sl_trace.specs.Sessions.{calls_of, ended_after, free_write, is_call_of, is_free_purpose}
 use Rattle.sl_trace.specs.Traces.{Answered, Submitted, is_write, submitted}
 use Rattle.sl_trace.specs.declared.effects.Call.{Call}
 use Rattle.sl_run_law.proofs.Watchdog.Joins.{answered_within}

@@ -13,7 +13,7 @@ use Rattle.sl_id_safety.proofs.State.Proven.{grounds}
 use Rattle.sl_id_safety.proofs.State.Tails.{AreLater, IsLater, all_still}
 use Rattle.sl_id_safety.proofs.State.Timing.{stamp_below}
 use Rattle.sl_id_safety.specs.State.IdStates.{own_courses}
-use Rattle.sl_law.specs.Lawful.{Orderly}
+use Rattle.sl_run.specs.Lawful.{Orderly}
 use Rattle.sl_run_law.specs.Moment.Orders.{Fall}
 use Rattle.sl_run_law.proofs.Place.Finding.{partner}
 use Rattle.sl_run_law.proofs.Place.Looks.{made_below}
@@ -24,7 +24,7 @@ use Rattle.sl_run.specs.Runs.{Happening}
 use Rattle.sl_run.specs.Safety.{Found, HasJoined, IsSession, LawfulRun, SessionId, free_landed, has_write_in_flight, is_over, session_of_world, setting_in, trace_of, was_reset, world_at}
 use Rattle.sl_run.specs.Worlds.{Daemon, Machine, Program, Stamp, daemon_numbered, daemons_on, resets_after}
 use Rattle.sl_run.specs.declared.header.Header.{Header}
-use Rattle.sl_sessions.specs.Sessions.{calls_of, ended_after, free_write, is_call_of, joined_after}
+use Rattle.sl_trace.specs.Sessions.{calls_of, ended_after, free_write, is_call_of, joined_after}
 use Rattle.sl_trace.specs.Traces.{Submitted, Trace, submitted}
 use Rattle.sl_run_law.proofs.Watchdog.Stamps.{same_length}
 use Rattle.sl_words.proofs.CaseLaws.{none_some, one_value, some_value, true_is_false}

@@ -34,9 +34,9 @@ use Rattle.sl_run_law.specs.Sample.Samples.{IsSampleOf, sector_place}
 use Rattle.sl_sector.specs.declared.sector.DeltaRec.{DeltaRec}
 use Rattle.sl_sector.specs.declared.sector.DeltaState.TheVariants.{Claimed, Free, Live}
 use Rattle.sl_sector.specs.declared.sector.DeltaState.{DeltaState}
-use Rattle.sl_sessions.specs.Watching.{is_live_state, is_silent, span}
-use Rattle.sl_sessions.specs.declared.sighting.Run.{Run}
-use Rattle.sl_sessions.specs.declared.sighting.Sighting.{Sighting}
+use Rattle.sl_trace.specs.Watching.{is_live_state, is_silent, span}
+use Rattle.sl_trace.specs.declared.sighting.Run.{Run}
+use Rattle.sl_trace.specs.declared.sighting.Sighting.{Sighting}
 use Rattle.sl_time.specs.Times.{TimingNumbers, dead, gone}
 use Rattle.sl_words.proofs.CaseLaws.{true_is_false}
 use Rattle.sl_words.proofs.WordLaws.{and_true}

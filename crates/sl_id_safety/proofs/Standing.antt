@@ -19,9 +19,9 @@ use Rattle.sl_id_safety.specs.State.IdStates.{blank, claim_bytes, deciding_sampl
 use Rattle.sl_id_safety.specs.State.Promises.{IsIdPlace}
 use Rattle.sl_id_safety.proofs.Steps.Alive.{joins_at as joins, not_claim}
 use Rattle.sl_ids.specs.State.{Session as IdSession}
-use Rattle.sl_law.specs.Lawful.{Orderly}
-use Rattle.sl_law.specs.LawfulDelta.{LawfulJoin}
-use Rattle.sl_law.specs.Saying.{cut_at}
+use Rattle.sl_run.specs.Lawful.{Orderly}
+use Rattle.sl_run.specs.LawfulDelta.{LawfulJoin}
+use Rattle.sl_run.specs.Saying.{cut_at}
 use Rattle.sl_run_law.proofs.Place.Areas.{lockspace_aligned}
 use Rattle.sl_run_law.proofs.Place.Finding.{partner_of, place_is}
 use Rattle.sl_run_law.proofs.Place.Homing.{at_home}
@@ -41,8 +41,8 @@ use Rattle.sl_sector.specs.declared.sector.Rec.TheVariants.{DeltaIs}
 use Rattle.sl_sector.specs.declared.sector.Rec.{Rec}
 use Rattle.sl_trace_law.proofs.Sessions.Owning.{session_more}
 use Rattle.sl_trace_law.specs.Sessions.Promises.{IsSession as IsSessionOf}
-use Rattle.sl_sessions.specs.Sessions.{calls_of, delta_of_record, delta_written, given_number, is_call_of, is_join_call, is_join_done, joined_after, last_delta, session_numbered, sessions}
-use Rattle.sl_sessions.specs.declared.session.Session.{Session}
+use Rattle.sl_trace.specs.Sessions.{calls_of, delta_of_record, delta_written, given_number, is_call_of, is_join_call, is_join_done, joined_after, last_delta, session_numbered, sessions}
+use Rattle.sl_trace.specs.declared.session.Session.{Session}
 use Rattle.sl_trace.specs.Traces.{Setting, Submitted, Trace, new_call, record_of, reply_to, submitted}
 use Rattle.sl_trace.specs.declared.effects.Call.{Call}
 use Rattle.sl_trace.specs.declared.effects.JoinStep.TheVariants.{ClaimWrite, DecidingRead, FirstRenewal, VerifyRead}

@@ -5,9 +5,9 @@ use Rattle.sl_plain.proofs.Lists.{contains_first, contains_more}
 use Rattle.sl_plain.proofs.Options.{mapped_value}
 use Rattle.sl_sector.specs.Spelling.{delta_in}
 use Rattle.sl_sector.specs.declared.sector.DeltaRec.{DeltaRec}
-use Rattle.sl_sessions.specs.Watching.{current_run, has_seen, new_run, run_with, sighted}
-use Rattle.sl_sessions.specs.declared.sighting.Run.{Run}
-use Rattle.sl_sessions.specs.declared.sighting.Sighting.{Sighting}
+use Rattle.sl_trace.specs.Watching.{current_run, has_seen, new_run, run_with, sighted}
+use Rattle.sl_trace.specs.declared.sighting.Run.{Run}
+use Rattle.sl_trace.specs.declared.sighting.Sighting.{Sighting}
 use Rattle.sl_words.proofs.CaseLaws.{none_some}
 use Rattle.sl_words.specs.Words.{choose}
 use Rattle.std.proofs.Common.{ap, refl, subst, sym, ◌∙◌}

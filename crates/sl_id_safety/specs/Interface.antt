@@ -4,10 +4,10 @@ use Rattle.sl_run.specs.Runs.{Happening}
 use Rattle.sl_run.specs.Safety.{DeltaInvariant, EvidenceIsTrue, Found, GenerationsRise, HasJoined, IsSession, LawfulRun, OneForEachId, OwnSectorIsAlone, OwnSectorStands, ReadsNoOther, SameId, SessionId, found_generation, is_over, same_lockspace, setting_in, trace_of, world_at}
 use Rattle.sl_run.specs.Worlds.{Course, Program, Stamp, World, is_write_course}
 use Rattle.sl_run.specs.declared.header.Header.{Header}
-use Rattle.sl_sessions.specs.Sessions.{calls_of, is_free_purpose}
-use Rattle.sl_sessions.specs.Watching.{counts_over, current_run, is_silent, sightings}
-use Rattle.sl_sessions.specs.declared.sighting.Run.{Run}
-use Rattle.sl_sessions.specs.declared.sighting.Sighting.{Sighting}
+use Rattle.sl_trace.specs.Sessions.{calls_of, is_free_purpose}
+use Rattle.sl_trace.specs.Watching.{counts_over, current_run, is_silent, sightings}
+use Rattle.sl_trace.specs.declared.sighting.Run.{Run}
+use Rattle.sl_trace.specs.declared.sighting.Sighting.{Sighting}
 use Rattle.std.specs.Prelude.{Contains, IsTrue, List, Some, false, true, ℕ, ◌++◌, ◌<◌, ◌≡◌}
 
 -- What is said of each lawful run.

@@ -6,11 +6,11 @@ use Rattle.sl_lease.specs.Asked.{IsLastRead, TopStands, area_asked, leader_given
 use Rattle.sl_lease.specs.Side.{known_with, layout_in, place_of}
 use Rattle.sl_lease.specs.declared.evidence.Held.{Held}
 use Rattle.sl_lease.specs.declared.side.Side.{Side}
-use Rattle.sl_leases.specs.LeaseWork.{LeasePlace, after_write, area_next, lease_next, named_area_next}
-use Rattle.sl_leases.specs.Leases.{LeaseKnown, is_leader_of, known_of, last_blocks}
-use Rattle.sl_leases.specs.declared.lease.Aim.{Aim}
-use Rattle.sl_leases.specs.declared.lease.LeaseNext.TheVariants.{AnswerJob}
-use Rattle.sl_leases.specs.declared.lease.LeaseNext.{LeaseNext}
+use Rattle.sl_trace.specs.LeaseWork.{LeasePlace, after_write, area_next, lease_next, named_area_next}
+use Rattle.sl_trace.specs.Leases.{LeaseKnown, is_leader_of, known_of, last_blocks}
+use Rattle.sl_trace.specs.declared.lease.Aim.{Aim}
+use Rattle.sl_trace.specs.declared.lease.LeaseNext.TheVariants.{AnswerJob}
+use Rattle.sl_trace.specs.declared.lease.LeaseNext.{LeaseNext}
 use Rattle.sl_sector.specs.declared.sector.Block.{Block}
 use Rattle.sl_sector.specs.declared.sector.Leader.{Leader}
 use Rattle.sl_trace.specs.Traces.{Submitted}

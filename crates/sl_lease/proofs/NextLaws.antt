@@ -6,13 +6,13 @@ use Rattle.sl_lease.specs.Asked.{TopStands, begin_above, block_showing, gen_with
 use Rattle.sl_lease.specs.Side.{known_with, place_of}
 use Rattle.sl_lease.specs.declared.evidence.Held.{Held}
 use Rattle.sl_lease.specs.declared.side.Side.{Side}
-use Rattle.sl_leases.specs.Ballots.{in_instance, number_above, phase1_block}
-use Rattle.sl_leases.specs.LeaseWork.{LeasePlace, begin_next, phase1_next}
-use Rattle.sl_leases.specs.Leases.{LeaseKnown, mode_gen_of, own_known, own_or_read}
-use Rattle.sl_leases.specs.declared.lease.Aim.{Aim}
-use Rattle.sl_leases.specs.declared.lease.Aim.TheVariants.{Settles}
-use Rattle.sl_leases.specs.declared.lease.LeaseNext.TheVariants.{Nothing}
-use Rattle.sl_leases.specs.declared.lease.LeaseNext.{LeaseNext}
+use Rattle.sl_trace.specs.Ballots.{in_instance, number_above, phase1_block}
+use Rattle.sl_trace.specs.LeaseWork.{LeasePlace, begin_next, phase1_next}
+use Rattle.sl_trace.specs.Leases.{LeaseKnown, mode_gen_of, own_known, own_or_read}
+use Rattle.sl_trace.specs.declared.lease.Aim.{Aim}
+use Rattle.sl_trace.specs.declared.lease.Aim.TheVariants.{Settles}
+use Rattle.sl_trace.specs.declared.lease.LeaseNext.TheVariants.{Nothing}
+use Rattle.sl_trace.specs.declared.lease.LeaseNext.{LeaseNext}
 use Rattle.sl_sector.specs.declared.sector.Block.{Block}
 use Rattle.sl_sector.specs.declared.sector.Owner.{Owner}
 use Rattle.sl_words.specs.Words.{greatest, present}

@@ -3,9 +3,9 @@ use Rattle.sl_ballot.proofs.RecordLaws.{blocks_are_records}
 use Rattle.sl_ballot.proofs.RiseLaws.{numbers_rise}
 use Rattle.sl_ballot.specs.Laws.{IsMode, IsOwner}
 use Rattle.sl_ballot.specs.Limits.{limited, limited_block}
-use Rattle.sl_leases.specs.Ballots.{ballot_blocks, counted_lver, instance_of, is_counted_free, known_block, moded_block, owner_of, phase1_block, phase2_block, same_owner, whole_blocks, with_own}
-use Rattle.sl_leases.specs.declared.lease.Instance.TheVariants.{Begins, HeldAlready}
-use Rattle.sl_leases.specs.declared.lease.Instance.{Instance}
+use Rattle.sl_trace.specs.Ballots.{ballot_blocks, counted_lver, instance_of, is_counted_free, known_block, moded_block, owner_of, phase1_block, phase2_block, same_owner, whole_blocks, with_own}
+use Rattle.sl_trace.specs.declared.lease.Instance.TheVariants.{Begins, HeldAlready}
+use Rattle.sl_trace.specs.declared.lease.Instance.{Instance}
 use Rattle.sl_area.specs.Layouts.{IsGeometry, Sizes}
 use Rattle.sl_lease.specs.Bounds.{IsBegun, IsSession}
 use Rattle.sl_sector.specs.Records.{Fits, IsBlock, IsLeader}

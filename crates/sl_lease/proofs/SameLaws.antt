@@ -11,9 +11,9 @@ use Rattle.sl_lease.specs.Changes.{after_block, after_failure, after_leader, aft
 use Rattle.sl_lease.specs.Laws.{HostsKeepTheSame, at_step, open_at_step}
 use Rattle.sl_lease.specs.Side.{layout_in}
 use Rattle.sl_lease.specs.declared.side.Side.{Side}
-use Rattle.sl_leases.specs.Ballots.{same_owner, stop_of, value_of}
-use Rattle.sl_leases.specs.Leases.{is_leader_of, name_sought}
-use Rattle.sl_leases.specs.declared.lease.Stop.{Stop}
+use Rattle.sl_trace.specs.Ballots.{same_owner, stop_of, value_of}
+use Rattle.sl_trace.specs.Leases.{is_leader_of, name_sought}
+use Rattle.sl_trace.specs.declared.lease.Stop.{Stop}
 use Rattle.sl_sector.specs.declared.sector.Block.{Block}
 use Rattle.sl_sector.specs.declared.sector.Leader.{Leader}
 use Rattle.sl_sector.specs.declared.sector.Owner.{Owner}

@@ -4,7 +4,7 @@ use Rattle.sl_host_state.specs.Kept.{LeaseState}
 use Rattle.sl_host_state.specs.declared.kept.TopNumber.{TopNumber}
 use Rattle.sl_lease.specs.Changes.{name_told, read_told, settles_read, stop_told, top_told}
 use Rattle.sl_lease.specs.declared.side.Side.{Side}
-use Rattle.sl_leases.specs.declared.lease.Stop.{Stop}
+use Rattle.sl_trace.specs.declared.lease.Stop.{Stop}
 use Rattle.sl_sector.specs.declared.sector.Block.{Block}
 use Rattle.sl_sector.specs.declared.sector.Leader.{Leader}
 use Rattle.sl_trace.specs.declared.effects.LeaseStep.{LeaseStep}

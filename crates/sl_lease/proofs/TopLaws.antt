@@ -2,7 +2,7 @@
 use Rattle.sl_host_state.specs.Stands.{top_mbal}
 use Rattle.sl_lease.specs.Asked.{tops_found}
 use Rattle.sl_lease.specs.Changes.{mbals_found}
-use Rattle.sl_leases.specs.Leases.{top_lver}
+use Rattle.sl_trace.specs.Leases.{top_lver}
 use Rattle.sl_sector.specs.declared.sector.Block.{Block}
 use Rattle.sl_words.specs.Words.{greatest, present}
 use Rattle.std.proofs.Common.{List, Option, [], arith, filter, map, max, ◌==◌, ◌∷◌, ◌≡◌, ◌∙◌, ℕ}

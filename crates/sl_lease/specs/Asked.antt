@@ -6,12 +6,12 @@ use Rattle.sl_host_state.specs.Stands.{top_mbal}
 use Rattle.sl_host_state.specs.declared.kept.TopNumber.{TopNumber}
 use Rattle.sl_lease.specs.declared.evidence.Held.{Held}
 use Rattle.sl_lease.specs.declared.side.Side.{Side}
-use Rattle.sl_leases.specs.Ballots.{ballot_blocks, moded_block, phase1_block, phase2_block, stop_of}
-use Rattle.sl_leases.specs.LeaseWork.{LeasePlace, after_phase1, after_phase2, begin_next, leader_for, named_area_next, phase1_next}
-use Rattle.sl_leases.specs.Leases.{LeaseKnown, is_leader_of, last_blocks, owed_free}
-use Rattle.sl_leases.specs.declared.lease.Aim.{Aim}
-use Rattle.sl_leases.specs.declared.lease.LeaseNext.TheVariants.{AnswerJob, BecomeExclusive, BecomeShared, Nothing, WriteBlock, WriteLeader}
-use Rattle.sl_leases.specs.declared.lease.LeaseNext.{LeaseNext}
+use Rattle.sl_trace.specs.Ballots.{ballot_blocks, moded_block, phase1_block, phase2_block, stop_of}
+use Rattle.sl_trace.specs.LeaseWork.{LeasePlace, after_phase1, after_phase2, begin_next, leader_for, named_area_next, phase1_next}
+use Rattle.sl_trace.specs.Leases.{LeaseKnown, is_leader_of, last_blocks, owed_free}
+use Rattle.sl_trace.specs.declared.lease.Aim.{Aim}
+use Rattle.sl_trace.specs.declared.lease.LeaseNext.TheVariants.{AnswerJob, BecomeExclusive, BecomeShared, Nothing, WriteBlock, WriteLeader}
+use Rattle.sl_trace.specs.declared.lease.LeaseNext.{LeaseNext}
 use Rattle.sl_sector.specs.declared.sector.Block.{Block}
 use Rattle.sl_sector.specs.declared.sector.Leader.{Leader}
 use Rattle.sl_sector.specs.declared.sector.Owner.{Owner}

@@ -7,9 +7,9 @@ use Rattle.sl_host_state.specs.declared.kept.TopNumber.{TopNumber}
 use Rattle.sl_host_state.specs.declared.kept.ValuePair.{ValuePair}
 use Rattle.sl_lease.specs.Side.{layout_in}
 use Rattle.sl_lease.specs.declared.side.Side.{Side}
-use Rattle.sl_leases.specs.Ballots.{stop_of}
-use Rattle.sl_leases.specs.Leases.{is_free_of, is_leader_of}
-use Rattle.sl_leases.specs.declared.lease.Stop.{Stop}
+use Rattle.sl_trace.specs.Ballots.{stop_of}
+use Rattle.sl_trace.specs.Leases.{is_free_of, is_leader_of}
+use Rattle.sl_trace.specs.declared.lease.Stop.{Stop}
 use Rattle.sl_sector.specs.declared.sector.Block.{Block}
 use Rattle.sl_sector.specs.declared.sector.Leader.{Leader}
 use Rattle.sl_sector.specs.declared.sector.Owner.{Owner}

@@ -3,8 +3,8 @@ use Rattle.sl_area.specs.Layouts.{Layout, layout_of}
 use Rattle.sl_host_state.specs.Kept.{LeaseState}
 use Rattle.sl_lease.specs.declared.evidence.Held.{Held}
 use Rattle.sl_lease.specs.declared.side.Side.{Side}
-use Rattle.sl_leases.specs.LeaseWork.{LeasePlace}
-use Rattle.sl_leases.specs.Leases.{LeaseKnown}
+use Rattle.sl_trace.specs.LeaseWork.{LeasePlace}
+use Rattle.sl_trace.specs.Leases.{LeaseKnown}
 use Rattle.sl_sector.specs.declared.sector.Block.{Block}
 use Rattle.sl_words.specs.Words.{is_empty}
 use Rattle.std.specs.Prelude.{Bool, List, Option, not, ℕ}

@@ -7,9 +7,9 @@ ghost use Rattle.sl_lease.specs.Asked.{TopStands, area_asked, owner_over, tops_f
 ghost use Rattle.sl_lease.specs.Bounds.{IsRead};
 ghost use Rattle.sl_lease.specs.Side.{known_with, place_of};
 ghost use Rattle.sl_lease.specs.Steps.{IsFitNext};
-ghost use Rattle.sl_leases.specs.LeaseWork.{named_area_next, whole_area_next};
-ghost use Rattle.sl_leases.specs.Leases.{instance_for, top_lver};
-ghost use Rattle.sl_leases.specs.declared.lease.Instance.TheVariants.{Begins};
+ghost use Rattle.sl_trace.specs.LeaseWork.{named_area_next, whole_area_next};
+ghost use Rattle.sl_trace.specs.Leases.{instance_for, top_lver};
+ghost use Rattle.sl_trace.specs.declared.lease.Instance.TheVariants.{Begins};
 ghost use Rattle.sl_sector.specs.Records.{IsLeader};
 ghost use Rattle.std.specs.Prelude.{IfSome, is_none, length, not, option_map, position, ◌+◌, ◌<◌, ◌==◌, ◌^◌, ◌≡◌, ◌≤◌, ℕ};
 
@@ -18,10 +18,9 @@ use crate::evidence::{Evidence, Held};
 use crate::lease::Lease;
 use crate::side::Side;
 use sl_ballot::instance_of;
-use sl_leases::{Aim, Instance, LeaseNext};
 use sl_sector::{Block, Leader};
 use sl_text::Name;
-use sl_trace::Reply;
+use sl_trace::{Aim, Instance, LeaseNext, Reply};
 
 /// Whether a block is of another host than the own one.
 fn is_of_other(own: &Block, block: &Block) -> bool

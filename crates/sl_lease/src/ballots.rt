@@ -9,9 +9,9 @@ ghost use Rattle.sl_lease.specs.Bounds.{IsBegun, IsGranted, IsInstance, IsRead, 
 ghost use Rattle.sl_lease.specs.Side.{is_named, known_with, place_of};
 ghost use Rattle.sl_lease.specs.Steps.{IsFitNext, is_leader_step};
 ghost use Rattle.sl_lease.specs.declared.evidence.Held.{Held};
-ghost use Rattle.sl_leases.specs.LeaseWork.{after_phase1, after_phase2, ended_next, looks_for_shared, lost_next, stop_reply, stopped_next, unstopped_next, won_next};
-ghost use Rattle.sl_leases.specs.Leases.{shared_elsewhere};
-ghost use Rattle.sl_leases.specs.declared.lease.LeaseNext.TheVariants.{WriteLeader};
+ghost use Rattle.sl_trace.specs.LeaseWork.{after_phase1, after_phase2, ended_next, looks_for_shared, lost_next, stop_reply, stopped_next, unstopped_next, won_next};
+ghost use Rattle.sl_trace.specs.Leases.{shared_elsewhere};
+ghost use Rattle.sl_trace.specs.declared.lease.LeaseNext.TheVariants.{WriteLeader};
 ghost use Rattle.sl_sector.specs.declared.sector.Block.{Block};
 ghost use Rattle.sl_words.specs.Words.{present};
 ghost use Rattle.std.specs.Prelude.{Bool, IsTrue, List, Option, find, length, ℕ, ◌<◌, ◌^◌, ◌≡◌};
@@ -22,10 +22,9 @@ use crate::lease::Lease;
 use crate::owed::mode_gen;
 use crate::side::Side;
 use sl_ballot::{moded_block, phase2_after_read, same_owner, value_of};
-use sl_leases::{Aim, LeaseNext, Stop};
 use sl_sector::{Block, Leader, Owner};
 use sl_text::Name;
-use sl_trace::{LeaseStep, Mode, Reply};
+use sl_trace::{Aim, LeaseNext, LeaseStep, Mode, Reply, Stop};
 
 /// The refusal by what a read of the blocks shows.
 fn stop_reply(stop: Stop) -> Reply

@@ -4,8 +4,8 @@ ghost use Rattle.sl_host_state.specs.Hears.{concludes_at, is_last_phase, is_phas
 ghost use Rattle.sl_host_state.specs.Stands.{top_mbal};
 ghost use Rattle.sl_lease.specs.Bounds.{IsBegun, IsInstance};
 ghost use Rattle.sl_lease.specs.Changes.{ballot_over, is_phase2_write, is_settled_by, mbals_found, name_found, name_told, settles_read, shows_blocks, stop_told, top_told};
-ghost use Rattle.sl_leases.specs.Ballots.{is_ahead};
-ghost use Rattle.sl_leases.specs.Leases.{is_free_of, is_leader_of};
+ghost use Rattle.sl_trace.specs.Ballots.{is_ahead};
+ghost use Rattle.sl_trace.specs.Leases.{is_free_of, is_leader_of};
 ghost use Rattle.sl_words.specs.Words.{choose, present, some_is};
 ghost use Rattle.std.specs.List.{list_any};
 ghost use Rattle.std.specs.Prelude.{IfSome, None, cond, if◌then◌else◌, length, nat_lt, not, option_and_then, unwrap_or, [], ◌&&◌, ◌<◌, ◌==◌, ◌^◌, ◌||◌, ◌≡◌, ◌⊎◌};
@@ -14,10 +14,9 @@ use crate::side::Side;
 use sl_area::Geometry;
 use sl_ballot::{owner_of, same_owner, stop_of, value_of};
 use sl_host_state::TopNumber;
-use sl_leases::Stop;
 use sl_sector::{Block, Leader, Owner};
 use sl_text::Name;
-use sl_trace::LeaseStep;
+use sl_trace::{LeaseStep, Stop};
 
 /// Whether the step writes the block of phase 2.
 pub(crate) fn is_phase2_write(step: &LeaseStep) -> bool

@@ -13,8 +13,8 @@ ghost use Rattle.sl_lease.specs.Bounds.{IsBegun, IsInstance, IsRead, IsSession};
 ghost use Rattle.sl_lease.specs.Side.{is_named, known_with, layout_in, place_of};
 ghost use Rattle.sl_lease.specs.Steps.{IsFitNext, is_first_step, makes_call};
 ghost use Rattle.sl_lease.specs.declared.evidence.Held.{Held};
-ghost use Rattle.sl_leases.specs.LeaseWork.{after_clearing, after_freeing, after_moding, after_take, after_write, convert_next, lease_next, refuses, release_next, settle_next};
-ghost use Rattle.sl_leases.specs.Leases.{known_of};
+ghost use Rattle.sl_trace.specs.LeaseWork.{after_clearing, after_freeing, after_moding, after_take, after_write, convert_next, lease_next, refuses, release_next, settle_next};
+ghost use Rattle.sl_trace.specs.Leases.{known_of};
 ghost use Rattle.sl_sector.specs.Records.{IsLeader};
 ghost use Rattle.sl_sector.specs.declared.sector.Block.{Block};
 ghost use Rattle.sl_trace.specs.Traces.{Submitted};
@@ -28,10 +28,9 @@ use crate::lease::Lease;
 use crate::owed::refuses;
 use crate::side::Side;
 use sl_ballot::{moded_block, stop_of};
-use sl_leases::{Aim, LeaseNext};
 use sl_sector::{Block, Leader};
 use sl_text::Name;
-use sl_trace::{LeaseStep, Mode, Reply};
+use sl_trace::{Aim, LeaseNext, LeaseStep, Mode, Reply};
 
 impl Lease {
     /// The free that is owed is written.

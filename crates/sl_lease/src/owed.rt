@@ -10,13 +10,13 @@ ghost use Rattle.sl_lease.specs.Asked.{TopStands, begin_above, block_showing, ge
 ghost use Rattle.sl_lease.specs.Bounds.{IsBegun, IsInstance, IsSession};
 ghost use Rattle.sl_lease.specs.Side.{known_with, place_of};
 ghost use Rattle.sl_lease.specs.Steps.{IsFitNext};
-ghost use Rattle.sl_leases.specs.Ballots.{moded_block, phase1_block};
-ghost use Rattle.sl_leases.specs.LeaseWork.{begin_next, phase1_next, refuses, settle_next};
-ghost use Rattle.sl_leases.specs.Leases.{block_of_host, mode_gen_of, owed, own_or_read};
+ghost use Rattle.sl_trace.specs.Ballots.{moded_block, phase1_block};
+ghost use Rattle.sl_trace.specs.LeaseWork.{begin_next, phase1_next, refuses, settle_next};
+ghost use Rattle.sl_trace.specs.Leases.{block_of_host, mode_gen_of, owed, own_or_read};
 ghost use Rattle.sl_lease.specs.declared.side.Side.{Side};
-ghost use Rattle.sl_leases.specs.declared.lease.Aim.TheVariants.{Settles};
-ghost use Rattle.sl_leases.specs.declared.lease.LeaseNext.TheVariants.{Nothing, WriteBlock};
-ghost use Rattle.sl_leases.specs.declared.lease.Owed.TheVariants.{BallotOwed};
+ghost use Rattle.sl_trace.specs.declared.lease.Aim.TheVariants.{Settles};
+ghost use Rattle.sl_trace.specs.declared.lease.LeaseNext.TheVariants.{Nothing, WriteBlock};
+ghost use Rattle.sl_trace.specs.declared.lease.Owed.TheVariants.{BallotOwed};
 ghost use Rattle.sl_sector.specs.Records.{Fits, IsBlock};
 ghost use Rattle.sl_sector.specs.declared.sector.Block.{Block};
 ghost use Rattle.sl_trace.specs.declared.effects.LeaseStep.TheVariants.{ClearMode};
@@ -28,9 +28,8 @@ use crate::evidence::Held;
 use crate::lease::Lease;
 use crate::side::Side;
 use sl_ballot::{Limit, moded_block, phase1_after_read, phase1_block};
-use sl_leases::{Aim, LeaseNext, Owed};
 use sl_sector::Block;
-use sl_trace::{LeaseStep, Limited, Reply};
+use sl_trace::{Aim, LeaseNext, LeaseStep, Limited, Owed, Reply};
 
 /// A job is refused; a settling stops until a later wake.
 pub(crate) fn refuses(aim: Aim, reply: Reply) -> LeaseNext
@@ -130,7 +129,7 @@ impl Lease {
     }
 
     /// A ballot in `n` begins after a read: its number is above all that the session knows of the instance.
-    #[tactic(auto, unfolding(sl_leases::specs::LeaseWork::begin_next, sl_leases::specs::Ballots::phase1_block))]
+    #[tactic(auto, unfolding(sl_trace::specs::LeaseWork::begin_next, sl_trace::specs::Ballots::phase1_block))]
     pub(crate) fn begin(
         &self,
         side: &Side,
@@ -214,7 +213,7 @@ impl Lease {
     }
 
     /// A settling does what is owed first.
-    #[tactic(auto, unfolding(sl_leases::specs::LeaseWork::settle_next))]
+    #[tactic(auto, unfolding(sl_trace::specs::LeaseWork::settle_next))]
     pub(crate) fn settle_known(&self, side: &Side, held: Held) -> LeaseNext
         requires { IsSession side.now.geometry side.now.me }
         ensures exact { (over : ℕ → ℕ → Bool) (read : List (Option Block)) → TopStands self.now read

@@ -1,5 +1,5 @@
 -- What a line of a live script says, and why it is refused.
-use Rattle.sl_leases.specs.Jobs.{process_named}
+use Rattle.sl_trace.specs.Jobs.{process_named}
 use Rattle.sl_live_lines.specs.declared.line.LiveLine.TheVariants.{Command, Exits, Lvm, Post}
 use Rattle.sl_live_lines.specs.declared.line.LiveLine.{LiveLine}
 use Rattle.sl_area.specs.Layouts.{layout_of}

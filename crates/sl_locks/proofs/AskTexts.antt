@@ -1,8 +1,8 @@
 -- The texts of asks, as they are written from left to right.
 use Rattle.sl_locks.specs.Asks.{ask_text, lock_word, process_text, space_word}
 use Rattle.sl_locks.specs.declared.ask.Ask.TheVariants.{Acquire as AskAcquire, Join, Leave, ReadValue, Release as AskRelease, WriteValue}
-use Rattle.sl_lvm.specs.LockNames.{Lock, group_lockspace, group_path}
-use Rattle.sl_lvm.specs.Lvm.{lock_process}
+use Rattle.sl_run.specs.LockNames.{Lock, group_lockspace, group_path}
+use Rattle.sl_run.specs.Lvm.{lock_process}
 use Rattle.sl_trace.specs.Traces.{is_shared}
 use Rattle.sl_trace.specs.declared.effects.Mode.TheVariants.{Shared}
 use Rattle.sl_trace.specs.declared.effects.Mode.{Mode}

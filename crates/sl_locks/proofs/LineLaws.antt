@@ -1,8 +1,8 @@
 -- What is read behind a verb is what the verb's forms make, and fails at the same column.
 use Rattle.sl_command.proofs.SharedTests.{behind_test, behind_word, map_some, next_as-value, read_by-shared, some_go_on}
 use Rattle.sl_locks.specs.Lines.{VolumeName, flag_read, global_ways, group_ways, id_read, id_tests, volume_named, volume_read, volume_ways, ways_read, with_id}
-use Rattle.sl_lvm.specs.LockNames.{global_lock, group_lock, is_group_name}
-use Rattle.sl_lvm.specs.LvmLines.{Deactivates, Gives, Gives_writing, Informs, LvmLine, Starts, Stops, Takes, Takes_comparing, is_area_word, is_volume_word, line_or, lvm_forms, lvm_line_in, volume_of}
+use Rattle.sl_run.specs.LockNames.{global_lock, group_lock, is_group_name}
+use Rattle.sl_run.specs.LvmLines.{Deactivates, Gives, Gives_writing, Informs, LvmLine, Starts, Stops, Takes, Takes_comparing, is_area_word, is_volume_word, line_or, lvm_forms, lvm_line_in, volume_of}
 use Rattle.sl_text.proofs.FormLaws.{read_by-other, read_by-verb, read_by-verbs, read_each-map, read_from-is}
 use Rattle.sl_text.specs.Forms.{Form, bad_column, exactly, made_by, word_at, words_of}
 use Rattle.sl_text.specs.Numbers.{number_of}

@@ -1,7 +1,7 @@
 -- Words behind a first one, each behind a space.
 use Rattle.sl_command.proofs.LineLaws.{spaced-cons, written_behind}
 use Rattle.sl_locks.specs.Replies.{held_words}
-use Rattle.sl_lvm.specs.Lvm.{HeldLock, held_lock_word}
+use Rattle.sl_run.specs.Lvm.{HeldLock, held_lock_word}
 use Rattle.sl_text.specs.Forms.{spaced}
 use Rattle.std.proofs.Common.{List, ap, codes, map, ℕ, ◌++◌, ◌≡◌, ◌∙◌, ◌∷◌}
 use Rattle.std.proofs.lemmas.List.Folds.{flat_map-map}

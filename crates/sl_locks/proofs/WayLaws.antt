@@ -1,7 +1,7 @@
 -- The ways that go on behind `-m`: which of them the next word takes.
 use Rattle.sl_locks.specs.Lines.{VolumeName, area_read, giving_ways, global_ways, group_ways, volume_ways}
-use Rattle.sl_lvm.specs.LockNames.{global_lock, group_lock, volume_lock}
-use Rattle.sl_lvm.specs.LvmLines.{Gives, Gives_writing, Takes, Takes_comparing, is_area_word}
+use Rattle.sl_run.specs.LockNames.{global_lock, group_lock, volume_lock}
+use Rattle.sl_run.specs.LvmLines.{Gives, Gives_writing, Takes, Takes_comparing, is_area_word}
 use Rattle.sl_text.proofs.FormLaws.{read_by-other, read_by-verb, read_by-verbs, read_each-map}
 use Rattle.sl_text.specs.Forms.{exactly, word_at}
 use Rattle.sl_text.specs.Numbers.{number_of}

@@ -1,8 +1,8 @@
 -- What the host is asked, as a command of its language.
 use Rattle.sl_locks.specs.declared.ask.Ask.TheVariants.{Acquire as AskAcquire, Join, Leave, ReadValue, Release as AskRelease, WriteValue}
 use Rattle.sl_locks.specs.declared.ask.Ask.{Ask}
-use Rattle.sl_lvm.specs.LockNames.{Lock, lockspace_of, resource_of}
-use Rattle.sl_lvm.specs.Lvm.{lock_process}
+use Rattle.sl_run.specs.LockNames.{Lock, lockspace_of, resource_of}
+use Rattle.sl_run.specs.Lvm.{lock_process}
 use Rattle.sl_text.specs.Forms.{spaced}
 use Rattle.sl_trace.specs.Commands.{command_words, lockspace_word, moded_word}
 use Rattle.sl_trace.specs.Traces.{is_shared}

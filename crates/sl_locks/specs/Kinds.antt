@@ -1,7 +1,7 @@
 -- What a kind of line says.
 use Rattle.sl_locks.specs.declared.line.Kind.TheVariants.{Compare, Deactivate, Give, Inform, Start, Stop, Take, Write}
 use Rattle.sl_locks.specs.declared.line.Kind.{Kind}
-use Rattle.sl_lvm.specs.LvmLines.{Deactivates, Gives, Gives_writing, Informs, LvmLine, Starts, Stops, Takes, Takes_comparing}
+use Rattle.sl_run.specs.LvmLines.{Deactivates, Gives, Gives_writing, Informs, LvmLine, Starts, Stops, Takes, Takes_comparing}
 
 abbrev pub line_of : Kind → LvmLine
 line_of (Start group id) = Starts group id

@@ -1,6 +1,6 @@
 -- What stands behind the verb of a line, as it is read.
-use Rattle.sl_lvm.specs.LockNames.{global_lock, group_lock, is_group_name, is_volume_name, volume_lock}
-use Rattle.sl_lvm.specs.LvmLines.{Gives, Gives_writing, LvmLine, Takes, Takes_comparing, is_area_word, is_volume_word}
+use Rattle.sl_run.specs.LockNames.{global_lock, group_lock, is_group_name, is_volume_name, volume_lock}
+use Rattle.sl_run.specs.LvmLines.{Gives, Gives_writing, LvmLine, Takes, Takes_comparing, is_area_word, is_volume_word}
 use Rattle.sl_text.specs.Forms.{Form, exactly, pieces, word_at}
 use Rattle.sl_text.specs.Numbers.{is_number_that, number_of}
 use Rattle.sl_text.specs.Walks.{Unread, next_as, past_word, read_by, read_each}

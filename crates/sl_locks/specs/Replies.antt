@@ -1,7 +1,7 @@
 -- What a line is answered.
 use Rattle.sl_locks.specs.declared.reply.LineReply.TheVariants.{Compared, Locks as HeldLocks, Passed}
 use Rattle.sl_locks.specs.declared.reply.LineReply.{LineReply}
-use Rattle.sl_lvm.specs.Lvm.{HeldLock, comparison, held_lock_word}
+use Rattle.sl_run.specs.Lvm.{HeldLock, comparison, held_lock_word}
 use Rattle.sl_run.specs.Locks.{Told}
 use Rattle.sl_text.specs.Forms.{spaced}
 use Rattle.sl_trace.specs.EffectTexts.{reply_text}

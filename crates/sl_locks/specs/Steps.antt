@@ -2,8 +2,8 @@
 use Rattle.sl_locks.specs.declared.step.LockInput.TheVariants.{Exit as LockExit, Line as LockLine, Nothing, Number as LockNumber}
 use Rattle.sl_locks.specs.declared.step.LockInput.{LockInput}
 use Rattle.sl_locks.specs.declared.table.LvmLocks.{LvmLocks}
-use Rattle.sl_lvm.specs.Lvm.{lvm_turn}
-use Rattle.sl_lvm.specs.declared.turn.LvmIn.TheVariants.{Line as TextLine, Reply as HostReply}
+use Rattle.sl_run.specs.Lvm.{lvm_turn}
+use Rattle.sl_run.specs.declared.turn.LvmIn.TheVariants.{Line as TextLine, Reply as HostReply}
 use Rattle.sl_run.specs.Locks.{Locks, Told, after_turn}
 use Rattle.sl_trace.specs.declared.effects.JobReply.{JobReply}
 use Rattle.sl_trace.specs.declared.input.Input.TheVariants.{Exit, Line, Number, Wake}

@@ -5,9 +5,9 @@ use Rattle.sl_locks.specs.declared.reply.LineReply.{LineReply}
 use Rattle.sl_locks.specs.declared.table.LvmLocks.{LvmLocks}
 use Rattle.sl_locks.specs.declared.table.Stage.TheVariants.{Acquiring as AcquiringStage, Moving as MovingStage, Reading as ReadingStage, Releasing as ReleasingStage, Writing as WritingStage}
 use Rattle.sl_locks.specs.declared.table.Stage.{Stage}
-use Rattle.sl_lvm.specs.LockNames.{Lock, lockspace_of, resource_of}
-use Rattle.sl_lvm.specs.Lvm.{Acquiring, Course, Lvm, Moving, Reading, Releasing, Writing, asks, asks_release, first_held, has_volume, held_lock_word, lock_process, passes_on, tells, where_held}
-use Rattle.sl_lvm.specs.declared.turn.LvmOut.{LvmOut}
+use Rattle.sl_run.specs.LockNames.{Lock, lockspace_of, resource_of}
+use Rattle.sl_run.specs.Lvm.{Acquiring, Course, Lvm, Moving, Reading, Releasing, Writing, asks, asks_release, first_held, has_volume, held_lock_word, lock_process, passes_on, tells, where_held}
+use Rattle.sl_run.specs.declared.turn.LvmOut.{LvmOut}
 use Rattle.sl_run.specs.Locks.{Locks, Told}
 use Rattle.sl_text.specs.Forms.{spaced}
 use Rattle.sl_trace.specs.declared.command.Command.TheVariants.{RemLockspace, SetLvb}

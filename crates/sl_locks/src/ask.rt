@@ -3,7 +3,7 @@
 //! An ask is kept as what it names; its text is made where somebody wants it.
 
 ghost use Rattle.sl_locks.specs.Asks.{ask_text, lock_word, process_text, space_word};
-ghost use Rattle.sl_lvm.specs.LockNames.{doubled, group_path};
+ghost use Rattle.sl_run.specs.LockNames.{doubled, group_path};
 ghost use Rattle.sl_trace.specs.Traces.{is_shared};
 ghost use Rattle.std.specs.Prelude.{OnErr, OnOk, codes, false, if◌then◌else◌, [], ◌++◌, ◌==◌, ◌∷◌, ◌≡◌};
 

@@ -5,9 +5,9 @@
 
 ghost use Rattle.sl_locks.specs.Kinds as kinds;
 ghost use Rattle.sl_locks.specs.Lines as lines;
-ghost use Rattle.sl_lvm.specs.LockNames as names;
-ghost use Rattle.sl_lvm.specs.LvmLines.{is_area_word, is_volume_word, lvm_forms, lvm_line_in};
-ghost use Rattle.sl_lvm.specs.LvmLines as lvm;
+ghost use Rattle.sl_run.specs.LockNames as names;
+ghost use Rattle.sl_run.specs.LvmLines.{is_area_word, is_volume_word, lvm_forms, lvm_line_in};
+ghost use Rattle.sl_run.specs.LvmLines as lvm;
 ghost use Rattle.sl_text.specs.Numbers.{number_of};
 ghost use Rattle.sl_text.specs.Walks.{left_after, next_as, read_by};
 ghost use Rattle.sl_words.specs.Words.{choose};
@@ -53,7 +53,7 @@ pub struct LockLine {
 }
 
 impl Model for LockLine {
-    ghost use Rattle.sl_lvm.specs.LvmLines.{LvmLine};
+    ghost use Rattle.sl_run.specs.LvmLines.{LvmLine};
     ghost use Rattle.sl_locks.specs.Kinds.{line_of};
 
     ghost Value = { LvmLine };

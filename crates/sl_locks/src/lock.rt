@@ -1,6 +1,6 @@
 //! Locks: which lease each is, and what is kept of those that are held.
 
-ghost use Rattle.sl_lvm.specs.LockNames as names;
+ghost use Rattle.sl_run.specs.LockNames as names;
 ghost use Rattle.std.specs.Prelude.{bytes_eq, ◌&&◌, ◌==◌, ◌≡◌};
 
 use sl_text::Name;
@@ -20,7 +20,7 @@ pub struct Lock {
 }
 
 impl Model for Lock {
-    ghost use Rattle.sl_lvm.specs.LockNames.{Lock as LockOf};
+    ghost use Rattle.sl_run.specs.LockNames.{Lock as LockOf};
     ghost use Rattle.std.specs.Prelude.{refl};
 
     ghost Value = { LockOf };
@@ -63,7 +63,7 @@ pub struct HeldLock {
 }
 
 impl Model for HeldLock {
-    ghost use Rattle.sl_lvm.specs.Lvm.{HeldLock as HeldLockOf};
+    ghost use Rattle.sl_run.specs.Lvm.{HeldLock as HeldLockOf};
     ghost use Rattle.std.specs.Prelude.{refl};
 
     ghost Value = { HeldLockOf };
@@ -84,7 +84,7 @@ pub struct SeenValue {
 }
 
 impl Model for SeenValue {
-    ghost use Rattle.sl_lvm.specs.Lvm.{SeenValue as SeenValueOf};
+    ghost use Rattle.sl_run.specs.Lvm.{SeenValue as SeenValueOf};
     ghost use Rattle.std.specs.Prelude.{refl};
 
     ghost Value = { SeenValueOf };

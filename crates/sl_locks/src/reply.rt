@@ -1,7 +1,7 @@
 //! What a line is answered, and its text.
 
 ghost use Rattle.sl_locks.specs.Replies.{held_words, line_text};
-ghost use Rattle.sl_lvm.specs.Lvm.{held_lock_word};
+ghost use Rattle.sl_run.specs.Lvm.{held_lock_word};
 ghost use Rattle.sl_text.specs.Forms.{spaced};
 ghost use Rattle.sl_trace.specs.EffectTexts as texts;
 ghost use Rattle.std.specs.Prelude.{OnErr, OnOk, codes, map, ◌++◌, ◌∷◌, ◌≡◌};

@@ -5,8 +5,8 @@
 //! of what is held, so that `info` takes no memory.
 
 ghost use Rattle.sl_locks.specs.Tables.{has_room, locks_of, lvm_of};
-ghost use Rattle.sl_lvm.specs.LockNames.{same_lock};
-ghost use Rattle.sl_lvm.specs.Lvm as lvm;
+ghost use Rattle.sl_run.specs.LockNames.{same_lock};
+ghost use Rattle.sl_run.specs.Lvm as lvm;
 ghost use Rattle.sl_run.specs.Locks.{fresh_locks};
 ghost use Rattle.std.specs.Option.{option_copied, option_map};
 ghost use Rattle.std.specs.Prelude.{IfOk, OnOk, None, Some, bytes_eq, filter, is_some, length, not, true, [], ◌++◌, ◌<◌, ◌∷◌, ◌≡◌, ◌≤◌};

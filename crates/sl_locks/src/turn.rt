@@ -3,8 +3,8 @@
 //! Each function is one case of a turn and says which: what is kept and told afterwards is what `after_turn` makes of that case. A line ends in
 //! `ask` or in `tell`; an acquire that lost against a rival is asked again, `retries` times at most, and every other refusal is told at once.
 
-ghost use Rattle.sl_lvm.specs.Lvm as lvm;
-ghost use Rattle.sl_lvm.specs.declared.turn.LvmIn.TheVariants.{Ended, Line as TextLine, Reply as HostReply};
+ghost use Rattle.sl_run.specs.Lvm as lvm;
+ghost use Rattle.sl_run.specs.declared.turn.LvmIn.TheVariants.{Ended, Line as TextLine, Reply as HostReply};
 ghost use Rattle.sl_locks.specs.Kinds.{line_of};
 ghost use Rattle.sl_locks.specs.Tables.{course_of, deactivates, gives, gives_writing, has_room, informs, left_by, locks_of, lvm_of, stops};
 ghost use Rattle.sl_run.specs.Locks.{after_turn};
@@ -142,7 +142,7 @@ impl LvmLocks {
     }
 
     /// What a line begins with.
-    #[tactic(auto, unfolding(sl_lvm::specs::Lvm::begins))]
+    #[tactic(auto, unfolding(sl_run::specs::Lvm::begins))]
     fn begin(&mut self, kind: Kind) -> Answer
         requires { has_room self.old ≡ true }
         ensures { left_by self.new result ≡ after_turn (locks_of self.old) (lvm.begins (lvm_of self.old) (line_of kind)) }
@@ -160,7 +160,7 @@ impl LvmLocks {
     }
 
     /// A line comes.
-    #[tactic(auto, unfolding(sl_lvm::specs::Lvm::lvm_turn))]
+    #[tactic(auto, unfolding(sl_run::specs::Lvm::lvm_turn))]
     pub(crate) fn take_line(&mut self, text: &[u8]) -> Answer
         requires { has_room self.old ≡ true }
         ensures { left_by self.new result ≡ after_turn (locks_of self.old) (lvm.lvm_turn (lvm_of self.old) (TextLine text.now)) }
@@ -252,7 +252,7 @@ impl LvmLocks {
     }
 
     /// After the host's reply, by how far the line has come.
-    #[tactic(auto, unfolding(sl_lvm::specs::Lvm::goes_on_with))]
+    #[tactic(auto, unfolding(sl_run::specs::Lvm::goes_on_with))]
     fn go_on(&mut self, stage: Stage, reply: Reply) -> Answer
         requires { has_room self.old ≡ true }
         ensures { left_by self.new result ≡ after_turn (locks_of self.old) (lvm.goes_on_with (lvm_of self.old) reply (course_of self.old.refused stage)) }
@@ -272,7 +272,7 @@ impl LvmLocks {
     }
 
     /// The host's reply to the ask comes.
-    #[tactic(auto, unfolding(sl_lvm::specs::Lvm::lvm_turn))]
+    #[tactic(auto, unfolding(sl_run::specs::Lvm::lvm_turn))]
     pub(crate) fn take_reply(&mut self, reply: Reply) -> Answer
         requires { has_room self.old ≡ true }
         ensures { left_by self.new result ≡ after_turn (locks_of self.old) (lvm.lvm_turn (lvm_of self.old) (HostReply reply)) }
@@ -284,7 +284,7 @@ impl LvmLocks {
     }
 
     /// lvmlockd has ended: it holds nothing and knows nothing, and a line goes on as it was.
-    #[tactic(auto, unfolding(sl_lvm::specs::Lvm::lvm_turn))]
+    #[tactic(auto, unfolding(sl_run::specs::Lvm::lvm_turn))]
     pub(crate) fn end(&mut self)
         ensures { locks_of self.new ≡ (after_turn (locks_of self.old) (lvm.lvm_turn (lvm_of self.old) Ended)).0 }
     {

@@ -8,7 +8,7 @@ use Rattle.sl_host_state.specs.declared.kept.ValuePair.{ValuePair}
 use Rattle.sl_lease.proofs.SameLaws.{hosts_keep_the_same}
 use Rattle.sl_lease.specs.Changes.{after_value}
 use Rattle.sl_lease.specs.Laws.{at_step}
-use Rattle.sl_leases.specs.Leases.{is_on, is_spot_before, lease_step, spot_of_call, value_written}
+use Rattle.sl_trace.specs.Leases.{is_on, is_spot_before, lease_step, spot_of_call, value_written}
 use Rattle.sl_member.proofs.Places.{called_stays, none_changed}
 use Rattle.sl_member.proofs.SpotOrder.{same_itself}
 use Rattle.sl_member.specs.Leases.{AreByPlace, LeasesState, changed_at, lease_called, leases_after, value_set, with_lease}

@@ -3,7 +3,7 @@ use Rattle.sl_host_state.specs.Kept.{MemberState}
 use Rattle.sl_member.proofs.Numbered.{members_as, states}
 use Rattle.sl_member.specs.Members.{MemberKept, RunOf, leaving_begun, recovery_begun}
 use Rattle.sl_member.specs.Together.{AreApart, AreMembers, AreRoomier, MembersState, begins_leaving, begun_by, begun_in, begun_kept, late_by, left_by, left_kept, member_with, number_of}
-use Rattle.sl_sessions.specs.declared.session.Begun.{Begun}
+use Rattle.sl_trace.specs.declared.session.Begun.{Begun}
 use Rattle.sl_trace.specs.declared.command.LockspaceArg.{LockspaceArg}
 use Rattle.sl_words.proofs.CaseLaws.{none_some, some_value}
 use Rattle.sl_words.specs.Orders.{is_text_before, put_in}

@@ -10,13 +10,13 @@ use Rattle.sl_lease.specs.Asked.{leader_given, read_given}
 use Rattle.sl_lease.specs.Changes.{after_failure, after_read, after_write, read_told, write_told}
 use Rattle.sl_lease.specs.Laws.{open_at_step}
 use Rattle.sl_lease.specs.declared.side.Side.{Side}
-use Rattle.sl_leases.specs.Leases.{lease_step}
+use Rattle.sl_trace.specs.Leases.{lease_step}
 use Rattle.sl_member.specs.Laws.{HostsKeepTheSame, IsAwaited, IsAwaitedAt, IsWaitingFor, area_of_call, heard_by_parts, leases_told, waits_for}
 use Rattle.sl_member.specs.Leases.{changed_at}
 use Rattle.sl_member.specs.Members.{RunOf, leaving_begun, own_told, recovery_begun}
 use Rattle.sl_member.specs.Together.{begun_by, begun_in, late_by, side_with}
 use Rattle.sl_sector.specs.declared.sector.Owner.{Owner}
-use Rattle.sl_sessions.specs.declared.delta.DeltaKnown.{DeltaKnown}
+use Rattle.sl_trace.specs.declared.delta.DeltaKnown.{DeltaKnown}
 use Rattle.sl_trace.specs.declared.effects.LeaseStep.{LeaseStep}
 use Rattle.sl_trace.specs.declared.effects.Purpose.{Purpose}
 use Rattle.sl_trace.specs.declared.effects.Work.{Work}

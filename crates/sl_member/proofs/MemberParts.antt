@@ -2,8 +2,8 @@
 use Rattle.sl_area.specs.Layouts.{Sizes, layout_of}
 use Rattle.sl_delta.specs.Own.{OwnState, after_answer, lease_of}
 use Rattle.sl_member.specs.Members.{IsMember}
-use Rattle.sl_sessions.specs.Deltas.{DeltaLease}
-use Rattle.sl_sessions.specs.declared.session.Session.{Session}
+use Rattle.sl_trace.specs.Deltas.{DeltaLease}
+use Rattle.sl_trace.specs.declared.session.Session.{Session}
 use Rattle.sl_time.specs.Times.{TimingNumbers}
 use Rattle.sl_trace.specs.declared.effects.Purpose.{Purpose}
 use Rattle.sl_trace.specs.declared.input.Answer.{Answer}

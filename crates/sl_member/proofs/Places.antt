@@ -4,7 +4,7 @@ use Rattle.sl_host_state.specs.Makes.{is_lease_on, new_lease}
 use Rattle.sl_host_state.specs.declared.kept.LeaseCall.{LeaseCall}
 use Rattle.sl_lease.specs.Changes.{after_read, after_write, read_told, write_told}
 use Rattle.sl_lease.specs.declared.side.Side.{Side}
-use Rattle.sl_leases.specs.Leases.{is_spot_before}
+use Rattle.sl_trace.specs.Leases.{is_spot_before}
 use Rattle.sl_member.proofs.SpotOrder.{same_itself, spot_apart, spot_asym, spot_is, spot_past, spot_same, spot_trans}
 use Rattle.sl_member.specs.Leases.{AreByPlace, IsFound, IsGap, IsPlaceOf, IsThere, LeasesState, changed_at, lease_called, with_lease}
 use Rattle.sl_sector.specs.declared.sector.Block.{Block}

@@ -1,5 +1,5 @@
 -- Areas are in a strict order by path and base, in which any two that are apart compare.
-use Rattle.sl_leases.specs.Leases.{is_spot_before}
+use Rattle.sl_trace.specs.Leases.{is_spot_before}
 use Rattle.sl_trace.specs.Traces.{same_spot}
 use Rattle.sl_trace.specs.declared.effects.Spot.{Spot}
 use Rattle.sl_words.proofs.CaseLaws.{false_is_true, true_is_false}

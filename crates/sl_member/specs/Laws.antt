@@ -7,15 +7,15 @@ use Rattle.sl_host_state.specs.declared.kept.LeaseCall.{LeaseCall}
 use Rattle.sl_host_state.specs.declared.kept.OpenCall.{OpenCall}
 use Rattle.sl_lease.specs.Asked.{leader_given, read_given}
 use Rattle.sl_lease.specs.Changes.{after_failure, after_read, after_write}
-use Rattle.sl_leases.specs.Leases.{lease_step}
+use Rattle.sl_trace.specs.Leases.{lease_step}
 use Rattle.sl_member.specs.Leases.{changed_at}
 use Rattle.sl_member.specs.Members.{IsKnown, RunOf, lease_changed, leaving_begun, member_called, own_told, renewing_told}
 use Rattle.sl_member.specs.Seen.{shows_other_by}
 use Rattle.sl_member.specs.Together.{begun_by, changed_member, side_with}
-use Rattle.sl_sessions.specs.Sessions.{is_delta_purpose}
-use Rattle.sl_sessions.specs.declared.delta.DeltaKnown.{DeltaKnown}
+use Rattle.sl_trace.specs.Sessions.{is_delta_purpose}
+use Rattle.sl_trace.specs.declared.delta.DeltaKnown.{DeltaKnown}
 use Rattle.sl_trace.specs.Traces.{Submitted}
-use Rattle.sl_sessions.specs.declared.session.Begun.{Begun}
+use Rattle.sl_trace.specs.declared.session.Begun.{Begun}
 use Rattle.sl_trace.specs.declared.effects.JoinStep.{JoinStep}
 use Rattle.sl_trace.specs.declared.effects.LeaseStep.{LeaseStep}
 use Rattle.sl_trace.specs.declared.effects.Purpose.TheVariants.{Joining, Lease, Leaving, Renewal, RequestRead, RequestWrite, SeeRequest, Survey, ValueRead, ValueWrite}

@@ -6,7 +6,7 @@ use Rattle.sl_host_state.specs.Makes.{is_lease_on, leases_calling, new_lease}
 use Rattle.sl_host_state.specs.declared.kept.ValuePair.{ValuePair}
 use Rattle.sl_lease.specs.Bounds.{IsBegun}
 use Rattle.sl_lease.specs.Changes.{after_block, after_leader, after_reading, after_value}
-use Rattle.sl_leases.specs.Leases.{is_lease_call, is_spot_before, spot_of_call}
+use Rattle.sl_trace.specs.Leases.{is_lease_call, is_spot_before, spot_of_call}
 use Rattle.sl_sector.specs.Records.{Fits}
 use Rattle.sl_sector.specs.declared.sector.Rec.TheVariants.{BlockIs, LeaderIs}
 use Rattle.sl_trace.specs.Traces.{Submitted}

@@ -5,8 +5,8 @@ use Rattle.sl_host_state.specs.Stands.{is_joining}
 use Rattle.sl_lease.specs.declared.side.Side.{Side}
 use Rattle.sl_member.specs.Leases.{begins_lease}
 use Rattle.sl_member.specs.Members.{MemberKept, RunOf, leaving_begun, owner_in, recovery_begun}
-use Rattle.sl_sessions.specs.Sessions.{is_session_arg}
-use Rattle.sl_sessions.specs.declared.session.Begun.{Begun}
+use Rattle.sl_trace.specs.Sessions.{is_session_arg}
+use Rattle.sl_trace.specs.declared.session.Begun.{Begun}
 use Rattle.sl_time.specs.Times.{TimingNumbers, fail}
 use Rattle.sl_trace.specs.Traces.{Submitted}
 use Rattle.sl_trace.specs.declared.command.LockspaceArg.{LockspaceArg}

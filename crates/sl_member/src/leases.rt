@@ -6,7 +6,7 @@
 
 ghost use Rattle.sl_host_state.specs.Makes.{is_lease_on};
 ghost use Rattle.sl_lease.specs.Changes.{after_failure, after_read, after_write};
-ghost use Rattle.sl_leases.specs.Leases.{is_spot_before};
+ghost use Rattle.sl_trace.specs.Leases.{is_spot_before};
 ghost use Rattle.sl_area.specs.Layouts.{layout_of};
 ghost use Rattle.sl_trace.specs.Traces.{new_call};
 ghost use Rattle.sl_member.specs.Leases.{AreByPlace, IsFound, IsGap, IsKeepable, IsPlaceOf, begins_lease, changed_at, lease_called, leases_after, value_set, with_lease};

@@ -23,8 +23,8 @@ ghost use Rattle.sl_member.specs.Members.{IsKnown, IsOwnCall, RunOf, blank_membe
 ghost use Rattle.sl_member.specs.Seen.{is_asked_by, shows_other_by};
 ghost use Rattle.sl_member.specs.Together.{late_by};
 ghost use Rattle.sl_sector.specs.Records.{Fits};
-ghost use Rattle.sl_sessions.specs.Deltas.{next_free, next_renewal};
-ghost use Rattle.sl_sessions.specs.Sessions.{given_number, is_join_call};
+ghost use Rattle.sl_trace.specs.Deltas.{next_free, next_renewal};
+ghost use Rattle.sl_trace.specs.Sessions.{given_number, is_join_call};
 ghost use Rattle.sl_text.specs.Names.{is_name};
 ghost use Rattle.sl_trace.specs.Traces.{new_call};
 ghost use Rattle.sl_trace.specs.declared.effects.JoinStep.TheVariants.{FirstRead};
@@ -46,10 +46,11 @@ use sl_delta::{OwnSector, SectorAnswer};
 use sl_lease::{Lease, Sectors, Side};
 use sl_request::Bitmap;
 use sl_sector::{Block, HostId, Leader, Owner};
-use sl_sessions::{Begun, DeltaKnown, DeltaNext, Renewing, Session};
 use sl_text::Name;
 use sl_time::Timing;
-use sl_trace::{Call, HostState, JoinStep, Purpose, Spot};
+use sl_trace::{
+    Begun, Call, DeltaKnown, DeltaNext, HostState, JoinStep, Purpose, Renewing, Session, Spot,
+};
 use sl_watch::Watch;
 use std::alloc::{AllocError, Global};
 use std::marker::Model;

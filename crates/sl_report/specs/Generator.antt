@@ -9,7 +9,7 @@ use Rattle.sl_run.specs.declared.event.Event.TheVariants.{AnswerCall, Crash, Do,
 use Rattle.sl_run.specs.declared.event.Event.{Event}
 use Rattle.sl_run.specs.declared.header.Header.{Header}
 use Rattle.sl_run.specs.declared.header.ResourceLine.{ResourceLine}
-use Rattle.sl_sessions.specs.Sessions.{sessions}
+use Rattle.sl_trace.specs.Sessions.{sessions}
 use Rattle.sl_text.specs.Forms.{coloned, spaced}
 use Rattle.sl_trace.specs.Commands.{moded_word}
 use Rattle.sl_trace.specs.Connections.{test_holds}

@@ -1,7 +1,7 @@
 -- What the program promises of the bytes that it reads and writes.
 use Rattle.sl_due.specs.Due.{IsHostTrace, NoIdleJob}
-use Rattle.sl_law.specs.Caused.{IsCaused}
-use Rattle.sl_law.specs.Lawful.{Lawful}
+use Rattle.sl_run.specs.Caused.{IsCaused}
+use Rattle.sl_run.specs.Lawful.{Lawful}
 use Rattle.sl_report.specs.Generator.{IsGenerated, gen_header, gen_line, gen_lines}
 use Rattle.sl_report.specs.Languages.{Language}
 use Rattle.sl_report.specs.Reports.{end_line, no_counts, run_counts, run_lines}

@@ -1,7 +1,7 @@
 -- What may happen, and what it changes.
 use Rattle.sl_area.specs.Layouts.{record_in, sector_with}
-use Rattle.sl_leases.specs.Jobs.{process_named}
-use Rattle.sl_lvm.specs.Lvm.{lock_process}
+use Rattle.sl_trace.specs.Jobs.{process_named}
+use Rattle.sl_run.specs.Lvm.{lock_process}
 use Rattle.sl_run.specs.Locks.{fresh_locks, locks_after}
 use Rattle.sl_run.specs.Worlds.{Course, Daemon, Dropped, Fate, In_flight, Landed, Machine, Sampling, Stamp, Torn, World, change_machine, content, daemons_on, first_that, flight_of, is_in_flight, is_landed, is_of_running, is_torn_fate, is_write_course, landed_at, machine_at, may_land, mebibyte, names_of, new_daemon, next_numbers, reading_now, resets_after, sector_size, setting_of, stamp_now}
 use Rattle.sl_run.specs.declared.event.Event.TheVariants.{AnswerCall, Crash, Do, DropWrite, ExitOf, GiveAsk, GiveCommand, GiveLvm, Land, Pass, Reset, Restart, Sample, SpawnedOf, StartDaemon, Tear, Test, WakeUp}

@@ -1,9 +1,9 @@
 -- lvmlockd on a machine: its locks, and how its lines become steps of the daemon. A line is one step that takes a number; then each ask
 -- is a step of its own, at the same reading, until the line is answered or an ask waits.
-use Rattle.sl_lvm.specs.Lvm.{Lvm, lock_process, lvm_turn, no_locks}
-use Rattle.sl_lvm.specs.declared.turn.LvmIn.TheVariants.{Ended, Line as TextLine, Reply as HostReply}
-use Rattle.sl_lvm.specs.declared.turn.LvmOut.TheVariants.{Ask, Quiet, Reply as LineReply}
-use Rattle.sl_lvm.specs.declared.turn.LvmOut.{LvmOut}
+use Rattle.sl_run.specs.Lvm.{Lvm, lock_process, lvm_turn, no_locks}
+use Rattle.sl_run.specs.declared.turn.LvmIn.TheVariants.{Ended, Line as TextLine, Reply as HostReply}
+use Rattle.sl_run.specs.declared.turn.LvmOut.TheVariants.{Ask, Quiet, Reply as LineReply}
+use Rattle.sl_run.specs.declared.turn.LvmOut.{LvmOut}
 use Rattle.sl_run.specs.declared.header.Header.{Header}
 use Rattle.sl_trace.specs.declared.effects.Effects.{Effects}
 use Rattle.sl_trace.specs.declared.input.Input.TheVariants.{Exit, Line, Number}

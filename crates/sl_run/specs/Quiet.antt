@@ -1,9 +1,9 @@
 -- An acquire that nothing stands in the way of: it is granted.
 use Rattle.sl_area.specs.Layouts.{record_in}
 use Rattle.sl_area.specs.Places.{leader_offset, request_offset}
-use Rattle.sl_leases.specs.Ballots.{in_instance, next_mbal}
-use Rattle.sl_leases.specs.Counts.{held_here, limit_met, may_act}
-use Rattle.sl_leases.specs.Leases.{is_leader_of, is_on, known, open_on, owed, spot_of}
+use Rattle.sl_trace.specs.Ballots.{in_instance, next_mbal}
+use Rattle.sl_trace.specs.Counts.{held_here, limit_met, may_act}
+use Rattle.sl_trace.specs.Leases.{is_leader_of, is_on, known, open_on, owed, spot_of}
 use Rattle.sl_run.specs.Events.{happens, input_of, machine_of}
 use Rattle.sl_run.specs.Runs.{Happening, world_after}
 use Rattle.sl_run.specs.Safety.{block_there}
@@ -13,9 +13,9 @@ use Rattle.sl_sector.specs.Spelling.{leader_in, request_in}
 use Rattle.sl_sector.specs.declared.sector.Block.{Block}
 use Rattle.sl_sector.specs.declared.sector.Leader.{Leader}
 use Rattle.sl_sector.specs.declared.sector.Request.{Request}
-use Rattle.sl_sessions.specs.Sessions.{is_active, session_named, session_numbered}
-use Rattle.sl_sessions.specs.Watching.{counts_over}
-use Rattle.sl_sessions.specs.declared.session.Session.{Session}
+use Rattle.sl_trace.specs.Sessions.{is_active, session_named, session_numbered}
+use Rattle.sl_trace.specs.Watching.{counts_over}
+use Rattle.sl_trace.specs.declared.session.Session.{Session}
 use Rattle.sl_trace.specs.Traces.{Answered, Submitted, Trace, entry_at, is_of_job, is_ok_answer, is_shared, is_write, next_job, no_effects, reply_to, same_place, submitted, waiting_call}
 use Rattle.sl_trace.specs.declared.command.Command.TheVariants.{Acquire}
 use Rattle.sl_trace.specs.declared.command.ResourceArg.{ResourceArg}

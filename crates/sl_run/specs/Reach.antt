@@ -1,10 +1,10 @@
 -- What holds of holdings over time, beside safety.
 use Rattle.sl_area.specs.Places.{value_offset}
-use Rattle.sl_law.specs.Caused.{IsCaused}
-use Rattle.sl_law.specs.Lawful.{Lawful}
-use Rattle.sl_law.specs.LawfulEnd.{gives_up, takes_over}
-use Rattle.sl_lvm.specs.LockNames.{Lock, group_lock, group_path}
-use Rattle.sl_lvm.specs.Lvm.{Acquiring, HeldLock, Reading, comparison, is_seen, lock_process}
+use Rattle.sl_run.specs.Caused.{IsCaused}
+use Rattle.sl_run.specs.Lawful.{Lawful}
+use Rattle.sl_run.specs.LawfulEnd.{gives_up, takes_over}
+use Rattle.sl_run.specs.LockNames.{Lock, group_lock, group_path}
+use Rattle.sl_run.specs.Lvm.{Acquiring, HeldLock, Reading, comparison, is_seen, lock_process}
 use Rattle.sl_run.specs.Events.{happens, input_of, machine_of, number_of_step}
 use Rattle.sl_run.specs.Locks.{locks_after}
 use Rattle.sl_run.specs.Runs.{AfterEachFront, EachDaemon, Happening}

@@ -21,7 +21,7 @@ use Rattle.sl_run_report.specs.Asking.{AsksEnd, AsksOn, EventsAskFew, IsFair, Is
 use Rattle.sl_trace.specs.declared.effects.Effects.{Effects}
 use Rattle.sl_trace.specs.declared.input.Input.TheVariants.{Line}
 use Rattle.sl_trace.specs.declared.input.Input.{Input}
-use Rattle.sl_lvm.specs.Lvm.{Acquiring, Course, Moving, Reading, Releasing, Writing}
+use Rattle.sl_run.specs.Lvm.{Acquiring, Course, Moving, Reading, Releasing, Writing}
 use Rattle.sl_words.proofs.CaseLaws.{false_is_true, none_some, one_value, some_value}
 use Rattle.std.proofs.Common.{ap, arith, inl, inr, refl, subst, sym, tests, ◌∙◌}
 use Rattle.std.specs.List.{enumerate_from}

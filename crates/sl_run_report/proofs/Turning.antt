@@ -1,10 +1,10 @@
 -- What a turn of the locks leaves of a line: each ask leaves fewer, and how often an acquire is asked again stays.
-use Rattle.sl_lvm.specs.LockNames.{Lock, lockspace_of, resource_of}
-use Rattle.sl_lvm.specs.Lvm.{Acquiring, Course, HeldLock, Lvm, Moving, Reading, Releasing, Writing, after_reading, after_writing, asks, asks_lock, asks_release, begins, begins_line, first_held, goes_on_with, has_volume, is_given_up, is_held, is_lost, lock_process, lvm_turn, passes_on, tells, with_lock, without_lock}
-use Rattle.sl_lvm.specs.LvmLines.{Deactivates, Gives, Gives_writing, Informs, LvmLine, Starts, Stops, Takes, Takes_comparing, lvm_line_in}
-use Rattle.sl_lvm.specs.declared.turn.LvmIn.TheVariants.{Ended, Line as TextLine, Reply as HostReply}
-use Rattle.sl_lvm.specs.declared.turn.LvmOut.TheVariants.{Ask, Quiet, Reply as LineReply}
-use Rattle.sl_lvm.specs.declared.turn.LvmOut.{LvmOut}
+use Rattle.sl_run.specs.LockNames.{Lock, lockspace_of, resource_of}
+use Rattle.sl_run.specs.Lvm.{Acquiring, Course, HeldLock, Lvm, Moving, Reading, Releasing, Writing, after_reading, after_writing, asks, asks_lock, asks_release, begins, begins_line, first_held, goes_on_with, has_volume, is_given_up, is_held, is_lost, lock_process, lvm_turn, passes_on, tells, with_lock, without_lock}
+use Rattle.sl_run.specs.LvmLines.{Deactivates, Gives, Gives_writing, Informs, LvmLine, Starts, Stops, Takes, Takes_comparing, lvm_line_in}
+use Rattle.sl_run.specs.declared.turn.LvmIn.TheVariants.{Ended, Line as TextLine, Reply as HostReply}
+use Rattle.sl_run.specs.declared.turn.LvmOut.TheVariants.{Ask, Quiet, Reply as LineReply}
+use Rattle.sl_run.specs.declared.turn.LvmOut.{LvmOut}
 use Rattle.sl_plain.proofs.Numbers.{zero_least}
 use Rattle.sl_run.specs.Locks.{Locks, Told, after_turn, is_lock_exit, locks_after, numbered_locks, replied_locks}
 use Rattle.sl_run_report.specs.Asking.{asks_left, left_of}

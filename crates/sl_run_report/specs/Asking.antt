@@ -1,5 +1,5 @@
 -- How many asks may follow an event: of a machine's locks, and of a world.
-use Rattle.sl_lvm.specs.Lvm.{Acquiring, Course, Moving, Reading, Releasing, Writing}
+use Rattle.sl_run.specs.Lvm.{Acquiring, Course, Moving, Reading, Releasing, Writing}
 use Rattle.sl_report.specs.Schedules.{NoAsk}
 use Rattle.sl_run.specs.Events.{asking, happens, may_happen}
 use Rattle.sl_run.specs.Locks.{Locks}

@@ -11,7 +11,7 @@ use Rattle.sl_ballots.specs.Ballots.{BallotEnded}
 use Rattle.sl_ballots.specs.History.{Owner as Holder}
 use Rattle.sl_safety.proofs.Grant.Kept.{came_at}
 use Rattle.sl_safety.specs.Grant.Granted.{ResourceAt}
-use Rattle.sl_leases.specs.Leases.{ended_ballots, lease_calls}
+use Rattle.sl_trace.specs.Leases.{ended_ballots, lease_calls}
 use Rattle.sl_run_law.proofs.Place.Areas.{one_resource}
 use Rattle.sl_plain.proofs.Lists.{contains_none}
 use Rattle.sl_history.proofs.Resources.Shown.{holder_is}
@@ -25,7 +25,7 @@ use Rattle.sl_run.specs.declared.header.ResourceLine.{ResourceLine}
 use Rattle.sl_safety.proofs.Lawful.{are_lawful}
 use Rattle.sl_sector.specs.declared.sector.Owner.{Owner}
 use Rattle.sl_history.proofs.Sessions.Named.{joined_are_hosts, names_are_apart}
-use Rattle.sl_sessions.specs.Sessions.{me}
+use Rattle.sl_trace.specs.Sessions.{me}
 use Rattle.sl_trace.specs.Traces.{Trace}
 use Rattle.sl_trace.specs.declared.effects.Spot.{Spot}
 use Rattle.std.proofs.Common.{ap, refl, subst, sym, ◌∙◌}

@@ -12,7 +12,7 @@ use Rattle.sl_safety.specs.Grant.Granted.{SharedThere}
 use Rattle.sl_holdings.proofs.Holding.{marks_come}
 use Rattle.sl_id_safety.proofs.Silence.{GoesOn, goes_on}
 use Rattle.sl_id_safety.proofs.State.LaterFrames.{found_later}
-use Rattle.sl_leases.specs.Leases.{Phase1_write, block_written, is_at, is_on, lease_calls}
+use Rattle.sl_trace.specs.Leases.{Phase1_write, block_written, is_at, is_on, lease_calls}
 use Rattle.sl_run_law.proofs.Moment.Following.{kept_past}
 use Rattle.sl_run_law.proofs.Moment.Stamps.{answer_is_stamp}
 use Rattle.sl_run_law.specs.Moment.Moments.{Of_stamp}

@@ -7,7 +7,7 @@ use Rattle.sl_safety.specs.Holding.Holders.{HeldBy}
 use Rattle.sl_holdings.specs.Holdings.{ExclusiveGrant, IsGrantedExclusive, IsKept, IsSharedTo, SharedGrant}
 use Rattle.sl_id_safety.proofs.State.Keeping.{is_place}
 use Rattle.sl_id_safety.proofs.Steps.RenewalCalls.{contains_filtered}
-use Rattle.sl_leases.specs.Leases.{has_shared_on, holdings_on}
+use Rattle.sl_trace.specs.Leases.{has_shared_on, holdings_on}
 use Rattle.sl_run_law.proofs.Place.Areas.{one_resource}
 use Rattle.sl_plain.proofs.Lists.{contains_cases, contains_none}
 use Rattle.sl_history.specs.Resources.Promises.{history_of_line, spot_of_line}
@@ -19,7 +19,7 @@ use Rattle.sl_run.specs.Safety.{LawfulRun, SessionId, trace_of, world_at}
 use Rattle.sl_run.specs.Worlds.{Program, World}
 use Rattle.sl_run.specs.declared.header.Header.{Header}
 use Rattle.sl_run.specs.declared.header.ResourceLine.{ResourceLine}
-use Rattle.sl_sessions.specs.Sessions.{holdings_of}
+use Rattle.sl_trace.specs.Sessions.{holdings_of}
 use Rattle.sl_trace.specs.Traces.{is_shared, same_place, spot_of_grant}
 use Rattle.sl_trace.specs.declared.effects.Grant.{Grant}
 use Rattle.sl_trace.specs.declared.effects.Spot.{Spot}

@@ -12,7 +12,7 @@ use Rattle.sl_id_safety.proofs.Owning.{newest_stands}
 use Rattle.sl_id_safety.proofs.State.Keeping.{is_place}
 use Rattle.sl_run_law.proofs.Landing.Proven.{landings_are_written}
 use Rattle.sl_run_law.specs.Landing.Landings.{HasWriter}
-use Rattle.sl_leases.specs.Leases.{block_of_record}
+use Rattle.sl_trace.specs.Leases.{block_of_record}
 use Rattle.sl_run_law.proofs.Place.Proven.{promised}
 use Rattle.sl_run_law.proofs.Place.Reading.{layout_is, reads_back}
 use Rattle.sl_run_law.proofs.Place.Seats.{sized_in}

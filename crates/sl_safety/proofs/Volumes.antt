@@ -1,7 +1,7 @@
 -- Of two machines on which a logical volume is active both have it shared: the holdings of its lock are of one place, and don't conflict.
 use Rattle.sl_run_law.proofs.Front.Having.{in_flat}
 use Rattle.sl_safety.proofs.Holding.Places.{is_place, place_is}
-use Rattle.sl_lvm.specs.LockNames.{group_path}
+use Rattle.sl_run.specs.LockNames.{group_path}
 use Rattle.sl_plain.proofs.Lists.{any_of, contains_first, contains_map, contains_more}
 use Rattle.sl_run.specs.Conflicts.{Holding, IsExclusive, conflicts, world_holdings}
 use Rattle.sl_run.specs.Reach.{VolumesAreExclusive}

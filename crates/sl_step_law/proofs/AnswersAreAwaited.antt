@@ -13,12 +13,12 @@ use Rattle.sl_host_state.specs.Makes.{is_lease_on}
 use Rattle.sl_host_state.specs.Stands.{IsWaiting, LeaseStands, free_written, kept_call, sectors_of}
 use Rattle.sl_host_state.specs.declared.kept.LeaseCall.{LeaseCall}
 use Rattle.sl_host_state.specs.declared.kept.OpenCall.{OpenCall}
-use Rattle.sl_leases.specs.Leases.{block_written, is_lease_call, is_on, lease_calls, lease_step, spot_of_call}
+use Rattle.sl_trace.specs.Leases.{block_written, is_lease_call, is_on, lease_calls, lease_step, spot_of_call}
 use Rattle.sl_member.specs.Laws.{IsAwaited, area_of_call, waits_for}
 use Rattle.sl_plain.proofs.Lists.{any_found, contains_cases, contains_first, contains_map, contains_more, find_inside, kept as kept_in, kept_inside}
 use Rattle.sl_sector.specs.declared.sector.Block.{Block}
-use Rattle.sl_sessions.specs.Sessions.{calls_of, is_call_of, is_delta_purpose, me}
-use Rattle.sl_sessions.specs.declared.delta.DeltaKnown.{DeltaKnown}
+use Rattle.sl_trace.specs.Sessions.{calls_of, is_call_of, is_delta_purpose, me}
+use Rattle.sl_trace.specs.declared.delta.DeltaKnown.{DeltaKnown}
 use Rattle.sl_step_law.proofs.CallsOfMembers.{IsMembers, members_call}
 use Rattle.sl_step_law.specs.Awaiting.{AnswersAreAwaited, IsLeasesCall, IsMembersCall}
 use Rattle.sl_step_law.specs.Ready.{IsReady}

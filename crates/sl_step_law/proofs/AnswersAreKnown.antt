@@ -12,7 +12,7 @@ use Rattle.sl_host_state.specs.Kept.{Config, HostState}
 use Rattle.sl_host_state.specs.New.{sizes_in}
 use Rattle.sl_host_state.specs.Stands.{sectors_of}
 use Rattle.sl_host_state.specs.declared.kept.OpenCall.{OpenCall}
-use Rattle.sl_law.specs.LawfulDelta.{LawfulDeltaCall}
+use Rattle.sl_run.specs.LawfulDelta.{LawfulDeltaCall}
 use Rattle.sl_plain.proofs.Lists.{kept_inside}
 use Rattle.sl_plain.proofs.Options.{some_of}
 use Rattle.sl_sector.proofs.ByteLaws.{bytes_from_test}
@@ -23,7 +23,7 @@ use Rattle.sl_sector.specs.declared.sector.Bad.{Bad}
 use Rattle.sl_sector.specs.declared.sector.DeltaRec.{DeltaRec}
 use Rattle.sl_sector.specs.declared.sector.Rec.TheVariants.{BlockIs, DeltaIs, LeaderIs, RequestIs, ValueIs}
 use Rattle.sl_sector.specs.declared.sector.Rec.{Rec}
-use Rattle.sl_sessions.specs.Sessions.{is_survey_purpose, session_numbered}
+use Rattle.sl_trace.specs.Sessions.{is_survey_purpose, session_numbered}
 use Rattle.sl_step_law.proofs.CallsOfMembers.{calls_are_theirs}
 use Rattle.sl_step_law.specs.Answers.{AnswersAreKnown, IsOfBytes}
 use Rattle.sl_step_law.specs.Ready.{IsReady}

@@ -15,20 +15,20 @@ use Rattle.sl_due.specs.declared.decision.Decision.TheVariants.{ConvertsTo, Gets
 use Rattle.sl_due_law.proofs.Jobs.EffectsAreAllowed.{Allows, DecisionAllowed, DeltaAllowed, GrantAllowed, LeaseAllowed, ReadAllowed, RequestAllowed, decision, delta, ended, exited, lease, left, refusal, removal_of_refused, requested, said, sent, stopped}
 use Rattle.sl_due_law.proofs.Jobs.NearlyPlainActs.{AnyMove, AnyStart, Anything}
 use Rattle.sl_due_law.proofs.Jobs.RepliesComeAfter.{on_bool, on_option}
-use Rattle.sl_leases.specs.Jobs.{job_of_start}
-use Rattle.sl_leases.specs.LeaseWork.{convert_next, lease_place, release_next, settle_next}
-use Rattle.sl_leases.specs.Leases.{known, spot_of, spot_of_call}
-use Rattle.sl_leases.specs.declared.lease.LeaseNext.{LeaseNext}
-use Rattle.sl_leases.specs.declared.lease.LeaseNext.TheVariants.{AnswerJob, BecomeExclusive, BecomeShared, GrantJob, Nothing as No_lease, ReadFor, WriteBlock, WriteLeader}
+use Rattle.sl_trace.specs.Jobs.{job_of_start}
+use Rattle.sl_trace.specs.LeaseWork.{convert_next, lease_place, release_next, settle_next}
+use Rattle.sl_trace.specs.Leases.{known, spot_of, spot_of_call}
+use Rattle.sl_trace.specs.declared.lease.LeaseNext.{LeaseNext}
+use Rattle.sl_trace.specs.declared.lease.LeaseNext.TheVariants.{AnswerJob, BecomeExclusive, BecomeShared, GrantJob, Nothing as No_lease, ReadFor, WriteBlock, WriteLeader}
 use Rattle.sl_plain.proofs.Lists.{contains_none}
 use Rattle.sl_sector.specs.Bitmaps.{no_bits}
 use Rattle.sl_sector.specs.declared.sector.DeltaState.TheVariants.{Free, Live}
-use Rattle.sl_sessions.specs.Deltas.{DeltaLease, delta_known, delta_of_session, delta_record, is_renewal_due, next_after_free, next_after_renewal, next_free, next_in_joining, next_on_wake, next_renewal}
-use Rattle.sl_sessions.specs.Sessions.{calls_of, generation_of, holders_of, recovery_of}
-use Rattle.sl_sessions.specs.declared.delta.DeltaKnown.{DeltaKnown}
-use Rattle.sl_sessions.specs.declared.delta.DeltaNext.{DeltaNext}
-use Rattle.sl_sessions.specs.declared.delta.DeltaNext.TheVariants.{Disconnect, EndLeaving, Join, MoveConnection, Nothing, ReadOwn, RefuseJoin, RegisterAndRead, WriteClaim, WriteFirst, WriteFree, WriteRenewal}
-use Rattle.sl_sessions.specs.declared.session.Session.{Session}
+use Rattle.sl_trace.specs.Deltas.{DeltaLease, delta_known, delta_of_session, delta_record, is_renewal_due, next_after_free, next_after_renewal, next_free, next_in_joining, next_on_wake, next_renewal}
+use Rattle.sl_trace.specs.Sessions.{calls_of, generation_of, holders_of, recovery_of}
+use Rattle.sl_trace.specs.declared.delta.DeltaKnown.{DeltaKnown}
+use Rattle.sl_trace.specs.declared.delta.DeltaNext.{DeltaNext}
+use Rattle.sl_trace.specs.declared.delta.DeltaNext.TheVariants.{Disconnect, EndLeaving, Join, MoveConnection, Nothing, ReadOwn, RefuseJoin, RegisterAndRead, WriteClaim, WriteFirst, WriteFree, WriteRenewal}
+use Rattle.sl_trace.specs.declared.session.Session.{Session}
 use Rattle.sl_trace.specs.Connections.{is_registered}
 use Rattle.sl_trace.specs.Traces.{end_of, next_call, next_job, spot_of_grant}
 use Rattle.sl_trace.specs.declared.command.Command.{Command}

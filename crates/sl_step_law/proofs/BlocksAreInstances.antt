@@ -5,15 +5,15 @@ use Rattle.sl_due_law.proofs.Whole.LeaderWrites.{named_well}
 use Rattle.sl_due_law.proofs.Ways.NewestCall.{block_is, leader_is_no_block, read_writes_no_block, submitted_here, submitted_passed}
 use Rattle.sl_due_law.proofs.Ways.WayNumbers.{Doing, Frees, Reads, Takes, Writes_ballot, Writes_mode, doing, is_verified}
 use Rattle.sl_due_law.specs.Facts.WayFacts.{WayContext, Ways, way_context}
-use Rattle.sl_law.specs.Lawful.{Orderly}
+use Rattle.sl_run.specs.Lawful.{Orderly}
 use Rattle.sl_lease.specs.Bounds.{IsInstance}
-use Rattle.sl_leases.specs.Leases.{block_of_record, block_submitted, block_written, is_lease_call, is_on, lease_calls, verified_name}
+use Rattle.sl_trace.specs.Leases.{block_of_record, block_submitted, block_written, is_lease_call, is_on, lease_calls, verified_name}
 use Rattle.sl_plain.proofs.Lists.{contains_cases, contains_none, kept_inside}
 use Rattle.sl_plain.proofs.Options.{some_of}
 use Rattle.sl_sector.specs.declared.sector.Block.{Block}
 use Rattle.sl_sector.specs.declared.sector.Rec.TheVariants.{BlockIs, DeltaIs, LeaderIs, RequestIs, ValueIs}
-use Rattle.sl_sessions.specs.Sessions.{calls_of, is_call_of}
-use Rattle.sl_sessions.specs.declared.session.Session.{Session}
+use Rattle.sl_trace.specs.Sessions.{calls_of, is_call_of}
+use Rattle.sl_trace.specs.declared.session.Session.{Session}
 use Rattle.sl_text.specs.Names.{is_name}
 use Rattle.sl_trace.specs.Traces.{Setting, Submitted, Trace, record_of, submitted}
 use Rattle.sl_trace.specs.declared.effects.Op.TheVariants.{ReadSectors, WriteRecord}

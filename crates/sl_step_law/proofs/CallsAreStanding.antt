@@ -10,7 +10,7 @@ use Rattle.sl_due_law.proofs.Whole.AllIsKept.{all_begins, all_is_kept}
 use Rattle.sl_due_law.proofs.Whole.TracesHold.{traces_hold}
 use Rattle.sl_due_law.specs.Whole.Kept.{Kept}
 use Rattle.sl_host_state.specs.Kept.{HostState}
-use Rattle.sl_law.specs.Lawful.{IsSetting}
+use Rattle.sl_run.specs.Lawful.{IsSetting}
 use Rattle.sl_plain.proofs.Lists.{contains_none}
 use Rattle.sl_step_law.proofs.LeasesStandOn.{Known}
 use Rattle.sl_step_law.proofs.StandingIsKept.{standing_is_kept}

@@ -8,16 +8,16 @@ use Rattle.sl_host_law.proofs.Plain.SessionNumbers.{placed_by_number}
 use Rattle.sl_host_state.specs.Kept.{Config}
 use Rattle.sl_host_state.specs.Stands.{sectors_of}
 use Rattle.sl_host_state.specs.declared.kept.OpenCall.{OpenCall}
-use Rattle.sl_law.specs.LawfulArea.{IsRightRead, LawfulArea}
-use Rattle.sl_law.specs.LawfulCalls.{LawfulCalls}
-use Rattle.sl_law.specs.LawfulDelta.{LawfulDeltaCall}
-use Rattle.sl_law.specs.Lawful.{Orderly}
-use Rattle.sl_leases.specs.Leases.{spot_of_call}
+use Rattle.sl_run.specs.LawfulArea.{IsRightRead, LawfulArea}
+use Rattle.sl_run.specs.LawfulCalls.{LawfulCalls}
+use Rattle.sl_run.specs.LawfulDelta.{LawfulDeltaCall}
+use Rattle.sl_run.specs.Lawful.{Orderly}
+use Rattle.sl_trace.specs.Leases.{spot_of_call}
 use Rattle.sl_plain.proofs.Lists.{got_inside, kept_inside}
 use Rattle.sl_plain.proofs.Options.{some_of}
 use Rattle.sl_sector.specs.declared.sector.DeltaRec.{DeltaRec}
-use Rattle.sl_sessions.specs.Sessions.{delta_written, session_numbered}
-use Rattle.sl_sessions.specs.declared.session.Session.{Session}
+use Rattle.sl_trace.specs.Sessions.{delta_written, session_numbered}
+use Rattle.sl_trace.specs.declared.session.Session.{Session}
 use Rattle.sl_step_law.proofs.AsksAreKept.{AllAsk, asks_are_kept, bare_ask}
 use Rattle.sl_step_law.specs.Asking.{AsksLone, CallsAsk, sectors_asked}
 use Rattle.sl_trace.specs.Traces.{EachEntry, Setting, Submitted, Trace, is_write, new_call, submitted}

@@ -5,17 +5,17 @@ use Rattle.sl_due_law.proofs.Ways.WayNumbers.{EndsBy, ends_by}
 use Rattle.sl_due_law.proofs.Ways.WayStages.{prior_inside, step_way, way_behind}
 use Rattle.sl_due_law.specs.Facts.WayFacts.{CallWay, Comes, Phase1Way, Phase2Way, StepWay, TakeWay, WayContext, Ways, way_context}
 use Rattle.sl_host_state.specs.Stands.{sectors_of}
-use Rattle.sl_law.specs.Lawful.{Orderly}
+use Rattle.sl_run.specs.Lawful.{Orderly}
 use Rattle.sl_lease.specs.Bounds.{IsInstance}
 use Rattle.sl_lease.specs.Steps.{is_first_step}
-use Rattle.sl_leases.specs.Leases.{block_submitted, block_written, ended_ballot, ended_ballots, is_lease_call, is_on, lease_calls, lver_written}
+use Rattle.sl_trace.specs.Leases.{block_submitted, block_written, ended_ballot, ended_ballots, is_lease_call, is_on, lease_calls, lver_written}
 use Rattle.sl_plain.proofs.Lists.{contains_cases, contains_none, kept_inside}
 use Rattle.sl_sector.specs.declared.sector.Block.{Block}
 use Rattle.sl_sector.specs.declared.sector.Leader.{Leader}
 use Rattle.sl_sector.specs.declared.sector.Owner.{Owner}
 use Rattle.sl_sector.specs.declared.sector.Rec.TheVariants.{BlockIs, LeaderIs}
-use Rattle.sl_sessions.specs.Sessions.{calls_of, is_call_of}
-use Rattle.sl_sessions.specs.declared.session.Session.{Session}
+use Rattle.sl_trace.specs.Sessions.{calls_of, is_call_of}
+use Rattle.sl_trace.specs.declared.session.Session.{Session}
 use Rattle.sl_step_law.proofs.BlocksAreInstances.{block_instance, own_above, written_above}
 use Rattle.sl_step_law.proofs.LooksAreOwed.{ended_wrote}
 use Rattle.sl_step_law.specs.Standing.{is_look}

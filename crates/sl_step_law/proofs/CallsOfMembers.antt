@@ -10,15 +10,15 @@ use Rattle.sl_host_law.specs.Steps.Taking.{CallsAreTheirs, IsCallOf}
 use Rattle.sl_host_state.specs.Kept.{HostState, LeaseState, MemberState}
 use Rattle.sl_host_state.specs.Stands.{MemberStands, kept_call}
 use Rattle.sl_host_state.specs.declared.kept.OpenCall.{OpenCall}
-use Rattle.sl_law.specs.Lawful.{Orderly}
-use Rattle.sl_leases.specs.Jobs.{command_numbered}
-use Rattle.sl_leases.specs.Leases.{is_lease_call, lease_step, spot_of_call, spots_in, with_spot}
+use Rattle.sl_run.specs.Lawful.{Orderly}
+use Rattle.sl_trace.specs.Jobs.{command_numbered}
+use Rattle.sl_trace.specs.Leases.{is_lease_call, lease_step, spot_of_call, spots_in, with_spot}
 use Rattle.sl_plain.proofs.Lists.{contains_first, contains_more, kept as kept_in, kept_inside}
 use Rattle.sl_plain.proofs.Options.{some_of}
 use Rattle.sl_area.specs.Layouts.{Layout}
-use Rattle.sl_sessions.specs.Sessions.{calls_of, free_write, is_call_of, is_free_purpose, is_joined, is_present, joined_after, leaving_job, refused_after, removed_after, sessions}
-use Rattle.sl_sessions.specs.declared.session.Begun.{Begun}
-use Rattle.sl_sessions.specs.declared.session.Session.{Session}
+use Rattle.sl_trace.specs.Sessions.{calls_of, free_write, is_call_of, is_free_purpose, is_joined, is_present, joined_after, leaving_job, refused_after, removed_after, sessions}
+use Rattle.sl_trace.specs.declared.session.Begun.{Begun}
+use Rattle.sl_trace.specs.declared.session.Session.{Session}
 use Rattle.sl_step_law.specs.Ready.{IsReady}
 use Rattle.sl_trace.specs.Traces.{Job, Submitted, Trace, job_of, submitted}
 use Rattle.sl_trace.specs.declared.effects.JoinStep.{JoinStep}
@@ -31,7 +31,7 @@ use Rattle.sl_words.proofs.CaseLaws.{none_some, not_both, true_is_false}
 use Rattle.sl_words.specs.Words.{is_empty}
 use Rattle.std.proofs.Common.{ap, refl, subst, sym, ◌∙◌}
 use Rattle.std.specs.Prelude.{Bool, Contains, List, None, Option, Some, false, is_none, is_some, map, option_map, slice_get, true, [], ℕ, ◌+◌, ◌==◌, ◌&&◌, ◌∷◌, ◌≡◌, ◌||◌}
-use Rattle.sl_sessions.specs.Sessions.{has_open_write, session_numbered}
+use Rattle.sl_trace.specs.Sessions.{has_open_write, session_numbered}
 use Rattle.sl_trace.specs.Traces.{is_write}
 
 -- ---- a call

@@ -6,13 +6,13 @@ use Rattle.sl_due.specs.Steps.{Step, add_call_of, seen}
 use Rattle.sl_due_law.proofs.Jobs.EffectsAreAllowed.{Allows, DeltaAllowed}
 use Rattle.sl_due_law.proofs.Jobs.NearlyPlainActs.{AnyMove, AnyStart, Anything}
 use Rattle.sl_due_law.specs.Whole.Kept.{Kept}
-use Rattle.sl_leases.specs.Leases.{lease_step}
+use Rattle.sl_trace.specs.Leases.{lease_step}
 use Rattle.sl_plain.proofs.Lists.{got_inside}
-use Rattle.sl_sessions.specs.Deltas.{own_offset}
-use Rattle.sl_sessions.specs.Sessions.{sessions}
-use Rattle.sl_sessions.specs.declared.delta.DeltaNext.{DeltaNext}
-use Rattle.sl_sessions.specs.declared.delta.DeltaNext.TheVariants.{Disconnect, EndLeaving, Join, MoveConnection, Nothing, ReadOwn, RefuseJoin, RegisterAndRead, WriteClaim, WriteFirst, WriteFree, WriteRenewal}
-use Rattle.sl_sessions.specs.declared.session.Session.{Session}
+use Rattle.sl_trace.specs.Deltas.{own_offset}
+use Rattle.sl_trace.specs.Sessions.{sessions}
+use Rattle.sl_trace.specs.declared.delta.DeltaNext.{DeltaNext}
+use Rattle.sl_trace.specs.declared.delta.DeltaNext.TheVariants.{Disconnect, EndLeaving, Join, MoveConnection, Nothing, ReadOwn, RefuseJoin, RegisterAndRead, WriteClaim, WriteFirst, WriteFree, WriteRenewal}
+use Rattle.sl_trace.specs.declared.session.Session.{Session}
 use Rattle.sl_step_law.proofs.CallsAsk.{made_by}
 use Rattle.sl_step_law.proofs.OffsetsAreWhole.{base_at_sector, delta_whole}
 use Rattle.sl_step_law.proofs.PlacesAreKnown.{IsAt, session_at}

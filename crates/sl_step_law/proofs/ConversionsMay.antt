@@ -21,10 +21,10 @@ use Rattle.sl_host_state.specs.Kept.{Config, HostState, LeaseState, MemberState}
 use Rattle.sl_host_state.specs.Makes.{is_lease_on, member_answered, member_replying, next_submitted}
 use Rattle.sl_host_state.specs.declared.kept.JobState.{JobState}
 use Rattle.sl_host_state.specs.declared.kept.OpenCall.{OpenCall}
-use Rattle.sl_leases.specs.Jobs.{process_named}
-use Rattle.sl_leases.specs.declared.lease.Aim.{Aim}
-use Rattle.sl_leases.specs.declared.lease.LeaseNext.TheVariants.{AnswerJob, BecomeExclusive, BecomeShared, GrantJob, Nothing, ReadFor, WriteBlock, WriteLeader}
-use Rattle.sl_leases.specs.declared.lease.LeaseNext.{LeaseNext}
+use Rattle.sl_trace.specs.Jobs.{process_named}
+use Rattle.sl_trace.specs.declared.lease.Aim.{Aim}
+use Rattle.sl_trace.specs.declared.lease.LeaseNext.TheVariants.{AnswerJob, BecomeExclusive, BecomeShared, GrantJob, Nothing, ReadFor, WriteBlock, WriteLeader}
+use Rattle.sl_trace.specs.declared.lease.LeaseNext.{LeaseNext}
 use Rattle.sl_plain.proofs.Lists.{contains_first, contains_map, find_inside, got_inside}
 use Rattle.sl_sector.specs.declared.sector.Block.{Block}
 use Rattle.sl_sector.specs.declared.sector.Leader.{Leader}

@@ -17,11 +17,11 @@ use Rattle.sl_host_law.proofs.Questions.MembersAnswer.{members_answer}
 use Rattle.sl_host_law.proofs.Replies.PlainNumbers.{same_number}
 use Rattle.sl_host_law.specs.Decisions.Deciding.{decision_of, held_of}
 use Rattle.sl_host_state.specs.Kept.{Config, HostState, MemberState}
-use Rattle.sl_leases.specs.Jobs.{resource_named}
-use Rattle.sl_leases.specs.Leases.{holdings_on, spot_of}
+use Rattle.sl_trace.specs.Jobs.{resource_named}
+use Rattle.sl_trace.specs.Leases.{holdings_on, spot_of}
 use Rattle.sl_plain.proofs.Lists.{kept_inside}
-use Rattle.sl_sessions.specs.Sessions.{holdings_of, is_active, is_present, session_numbered, sessions}
-use Rattle.sl_sessions.specs.declared.session.Session.{Session}
+use Rattle.sl_trace.specs.Sessions.{holdings_of, is_active, is_present, session_numbered, sessions}
+use Rattle.sl_trace.specs.declared.session.Session.{Session}
 use Rattle.sl_step_law.proofs.HostsAreKnown.{hosts_are_known}
 use Rattle.sl_step_law.proofs.LastValues.{last_values_are_enough}
 use Rattle.sl_step_law.proofs.LeasesAreKnown.{leases_are_known}

@@ -9,7 +9,7 @@ use Rattle.sl_host_law.specs.Steps.Stepping.{effects_of}
 use Rattle.sl_host_law.specs.Steps.Whole.{entry_at}
 use Rattle.sl_host_state.specs.Kept.{HostState}
 use Rattle.sl_host_state.specs.Stands.{sectors_of}
-use Rattle.sl_law.specs.Lawful.{Lawful}
+use Rattle.sl_run.specs.Lawful.{Lawful}
 use Rattle.sl_plain.proofs.Lists.{tail_is}
 use Rattle.sl_sector.specs.Records.{IsRecord}
 use Rattle.sl_sector.specs.declared.sector.Rec.{Rec}

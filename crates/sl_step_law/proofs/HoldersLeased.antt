@@ -12,13 +12,13 @@ use Rattle.sl_host_law.specs.Steps.Lining.{IsLeased}
 use Rattle.sl_host_state.specs.Kept.{HostState, LeaseState, MemberState}
 use Rattle.sl_host_state.specs.Makes.{is_lease_on}
 use Rattle.sl_host_state.specs.Stands.{MemberStands}
-use Rattle.sl_law.specs.LawfulGrant.{LawfulGrant}
-use Rattle.sl_law.specs.LawfulModes.{LawfulExclusiveGrant, LawfulModes, LawfulSharedGrant}
-use Rattle.sl_leases.specs.Leases.{is_lease_call, is_on, lease_calls, lease_step, spot_of_call}
+use Rattle.sl_run.specs.LawfulGrant.{LawfulGrant}
+use Rattle.sl_run.specs.LawfulModes.{LawfulExclusiveGrant, LawfulModes, LawfulSharedGrant}
+use Rattle.sl_trace.specs.Leases.{is_lease_call, is_on, lease_calls, lease_step, spot_of_call}
 use Rattle.sl_plain.proofs.Lists.{any_found, contains_map, contains_more, contains_none, kept as kept_in, kept_inside}
 use Rattle.sl_plain.proofs.Options.{some_of}
-use Rattle.sl_sessions.specs.Sessions.{calls_of, holdings_of, is_call_of, session_numbered}
-use Rattle.sl_sessions.specs.declared.session.Session.{Session}
+use Rattle.sl_trace.specs.Sessions.{calls_of, holdings_of, is_call_of, session_numbered}
+use Rattle.sl_trace.specs.declared.session.Session.{Session}
 use Rattle.sl_step_law.proofs.HeldOnce.{held_once}
 use Rattle.sl_step_law.specs.Holdings.{HoldingsAreKnown, HoldsOnce}
 use Rattle.sl_step_law.specs.Ready.{IsReady}

@@ -3,14 +3,14 @@ use Rattle.sl_due_law.proofs.Holdings.LeaseConversions.{spot_is}
 use Rattle.sl_host_law.proofs.Plain.PlainLists.{in_either}
 use Rattle.sl_host_law.proofs.Plain.SessionNumbers.{placed_by_number}
 use Rattle.sl_host_law.proofs.Replies.PlainNumbers.{same_number}
-use Rattle.sl_law.specs.LawfulGrant.{LawfulGrant}
-use Rattle.sl_law.specs.LawfulModes.{LawfulExclusiveGrant, LawfulModes, LawfulSharedGrant}
-use Rattle.sl_leases.specs.Leases.{block_of_record, block_written, is_lease_call, is_on, lease_calls, lease_step}
+use Rattle.sl_run.specs.LawfulGrant.{LawfulGrant}
+use Rattle.sl_run.specs.LawfulModes.{LawfulExclusiveGrant, LawfulModes, LawfulSharedGrant}
+use Rattle.sl_trace.specs.Leases.{block_of_record, block_written, is_lease_call, is_on, lease_calls, lease_step}
 use Rattle.sl_plain.proofs.Lists.{contains_none, kept_inside}
 use Rattle.sl_plain.proofs.Options.{some_of}
 use Rattle.sl_sector.specs.declared.sector.Block.{Block}
-use Rattle.sl_sessions.specs.Sessions.{calls_of, holdings_of, is_call_of, session_numbered}
-use Rattle.sl_sessions.specs.declared.session.Session.{Session}
+use Rattle.sl_trace.specs.Sessions.{calls_of, holdings_of, is_call_of, session_numbered}
+use Rattle.sl_trace.specs.declared.session.Session.{Session}
 use Rattle.sl_step_law.proofs.HoldersLeased.{folded, marked}
 use Rattle.sl_trace.specs.Traces.{EachEntry, Setting, Submitted, Trace, holdings, is_ended_by, is_shared, mark, record_of, same_place, spot_of_grant, submitted}
 use Rattle.sl_trace.specs.declared.effects.Call.{Call}

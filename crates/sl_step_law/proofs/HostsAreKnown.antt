@@ -14,10 +14,10 @@ use Rattle.sl_member.specs.Together.{AreApart}
 use Rattle.sl_plain.proofs.Lists.{contains_first, contains_more, find_inside, in_map, kept_inside}
 use Rattle.sl_plain.proofs.Options.{then_value}
 use Rattle.sl_sector.specs.Records.{Fits}
-use Rattle.sl_sessions.specs.Sessions.{calls_of, free_write, leaving_job}
-use Rattle.sl_sessions.specs.declared.delta.DeltaKnown.{DeltaKnown}
-use Rattle.sl_sessions.specs.declared.session.Begun.{Begun}
-use Rattle.sl_sessions.specs.declared.session.Renewing.{Renewing}
+use Rattle.sl_trace.specs.Sessions.{calls_of, free_write, leaving_job}
+use Rattle.sl_trace.specs.declared.delta.DeltaKnown.{DeltaKnown}
+use Rattle.sl_trace.specs.declared.session.Begun.{Begun}
+use Rattle.sl_trace.specs.declared.session.Renewing.{Renewing}
 use Rattle.sl_step_law.specs.Knowing.{HostsAreKnown}
 use Rattle.sl_step_law.specs.Moments.{IsMoment}
 use Rattle.sl_step_law.specs.Ready.{IsReady}

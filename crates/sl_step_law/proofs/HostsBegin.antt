@@ -6,10 +6,10 @@ use Rattle.sl_host_law.proofs.Steps.NewHostsAreSound.{new_hosts_are_sound}
 use Rattle.sl_host_law.specs.Steps.NewHosts.{IsFitSetting}
 use Rattle.sl_host_state.proofs.NewHost.{new_host_stands}
 use Rattle.sl_host_state.specs.New.{IsOfProgram, given_sessions, sizes_in}
-use Rattle.sl_law.specs.Lawful.{IsGiven, IsSetting}
+use Rattle.sl_run.specs.Lawful.{IsGiven, IsSetting}
 use Rattle.sl_plain.proofs.Lists.{got_index, got_inside, in_map}
-use Rattle.sl_sessions.specs.Sessions.{given_session}
-use Rattle.sl_sessions.specs.declared.session.Session.{Session}
+use Rattle.sl_trace.specs.Sessions.{given_session}
+use Rattle.sl_trace.specs.declared.session.Session.{Session}
 use Rattle.sl_step_law.specs.Whole.{HostsBegin}
 use Rattle.sl_trace.specs.Traces.{Setting}
 use Rattle.sl_trace.specs.declared.command.Command.TheVariants.{AddLockspace}

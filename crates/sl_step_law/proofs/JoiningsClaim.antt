@@ -3,14 +3,14 @@ use Rattle.sl_due.specs.Steps.{Step, seen}
 use Rattle.sl_due_law.proofs.Sessions.JoinedNumbers.{spelled_of}
 use Rattle.sl_host_state.specs.Kept.{HostState, MemberState}
 use Rattle.sl_host_state.specs.declared.kept.OpenCall.{OpenCall}
-use Rattle.sl_law.specs.LawfulDelta.{LawfulDeltaCall, LawfulFirstRenewal}
+use Rattle.sl_run.specs.LawfulDelta.{LawfulDeltaCall, LawfulFirstRenewal}
 use Rattle.sl_plain.proofs.Lists.{contains_cases, contains_none, find_inside, kept_inside}
 use Rattle.sl_sector.specs.Records.{IsDelta}
 use Rattle.sl_sector.specs.declared.sector.DeltaRec.{DeltaRec}
 use Rattle.sl_sector.specs.declared.sector.DeltaState.TheVariants.{Free, Live}
 use Rattle.sl_sector.specs.declared.sector.Rec.TheVariants.{BlockIs, DeltaIs, LeaderIs, RequestIs, ValueIs}
-use Rattle.sl_sessions.specs.Sessions.{calls_of, delta_of_record, delta_written, given_number, is_call_of, joined_after, last_delta}
-use Rattle.sl_sessions.specs.declared.delta.DeltaKnown.{DeltaKnown}
+use Rattle.sl_trace.specs.Sessions.{calls_of, delta_of_record, delta_written, given_number, is_call_of, joined_after, last_delta}
+use Rattle.sl_trace.specs.declared.delta.DeltaKnown.{DeltaKnown}
 use Rattle.sl_step_law.proofs.CallsOfMembers.{IsMembers, joined_still, members_call}
 use Rattle.sl_step_law.proofs.MembersAreKnown.{members_are_known}
 use Rattle.sl_step_law.specs.Awaiting.{IsMembersCall}

@@ -14,10 +14,10 @@ use Rattle.sl_host_law.specs.Steps.Stepping.{before_taking}
 use Rattle.sl_host_state.specs.Hears.{begun}
 use Rattle.sl_host_state.specs.Kept.{HostState, MemberState}
 use Rattle.sl_host_state.specs.Makes.{is_lease_on}
-use Rattle.sl_leases.specs.Counts.{values_on}
-use Rattle.sl_leases.specs.Leases.{spot_of}
+use Rattle.sl_trace.specs.Counts.{values_on}
+use Rattle.sl_trace.specs.Leases.{spot_of}
 use Rattle.sl_plain.proofs.Lists.{find_inside, kept_inside}
-use Rattle.sl_sessions.specs.Sessions.{calls_of}
+use Rattle.sl_trace.specs.Sessions.{calls_of}
 use Rattle.sl_step_law.proofs.HoldersLeased.{holdings_are_known}
 use Rattle.sl_step_law.proofs.HostsAreReady.{hosts_are_ready}
 use Rattle.sl_step_law.proofs.LinesMay.{lines_may}

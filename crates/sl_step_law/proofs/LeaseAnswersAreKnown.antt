@@ -9,7 +9,7 @@ use Rattle.sl_host_law.proofs.Calls.Calls.SpotsMore.{one_spot}
 use Rattle.sl_host_law.proofs.Plain.PlainLists.{at_some, found_some}
 use Rattle.sl_host_law.proofs.Plain.SessionNumbers.{placed_by_number}
 use Rattle.sl_host_law.proofs.Replies.PlainNumbers.{same_number}
-use Rattle.sl_sessions.specs.Sessions.{session_numbered, sessions}
+use Rattle.sl_trace.specs.Sessions.{session_numbered, sessions}
 use Rattle.sl_words.specs.Bounds.{moments}
 use Rattle.sl_host_law.proofs.Steps.InputsFollow.{joined_stays}
 use Rattle.sl_host_law.specs.Answers.Answering.{IsAnswerTo}
@@ -29,12 +29,12 @@ use Rattle.sl_lease.specs.Asked.{TopStands, read_given}
 use Rattle.sl_lease.specs.Bounds.{IsInstance}
 use Rattle.sl_lease.specs.Side.{is_named}
 use Rattle.sl_lease.specs.Steps.{is_first_step, is_read_step}
-use Rattle.sl_leases.specs.Leases.{block_submitted, block_written, is_lease_call, is_on, lease_calls, lease_step, spot_of_call}
+use Rattle.sl_trace.specs.Leases.{block_submitted, block_written, is_lease_call, is_on, lease_calls, lease_step, spot_of_call}
 use Rattle.sl_member.specs.Laws.{area_of_call}
 use Rattle.sl_plain.proofs.Lists.{find_inside, got_inside, in_map, kept as kept_in, kept_inside}
 use Rattle.sl_plain.proofs.Options.{none_is, some_of}
 use Rattle.sl_sector.specs.declared.sector.Block.{Block}
-use Rattle.sl_sessions.specs.Sessions.{calls_of, is_call_of}
+use Rattle.sl_trace.specs.Sessions.{calls_of, is_call_of}
 use Rattle.sl_step_law.proofs.AnswersAreAwaited.{answers_are_awaited}
 use Rattle.sl_step_law.proofs.BlocksAreInstances.{written_above}
 use Rattle.sl_step_law.proofs.CallsAsk.{calls_ask, made_by}

@@ -25,10 +25,10 @@ use Rattle.sl_words.specs.Words.{greatest}
 use Rattle.sl_lease.specs.Asked.{TopStands}
 use Rattle.sl_lease.specs.Bounds.{IsInstance}
 use Rattle.sl_lease.specs.Side.{is_named}
-use Rattle.sl_leases.specs.Leases.{block_submitted, is_lease_call, is_on, lease_calls, spot_of_call, spots_in, with_spot}
+use Rattle.sl_trace.specs.Leases.{block_submitted, is_lease_call, is_on, lease_calls, spot_of_call, spots_in, with_spot}
 use Rattle.sl_plain.proofs.Lists.{any_found, contains_first, contains_map, contains_more, contains_none, find_inside, got_inside, kept as kept_in, kept_inside}
-use Rattle.sl_sessions.specs.Sessions.{calls_of, is_call_of, me, sessions}
-use Rattle.sl_sessions.specs.declared.session.Session.{Session}
+use Rattle.sl_trace.specs.Sessions.{calls_of, is_call_of, me, sessions}
+use Rattle.sl_trace.specs.declared.session.Session.{Session}
 use Rattle.sl_step_law.proofs.BlocksAreInstances.{block_instance, name_verified}
 use Rattle.sl_step_law.proofs.CallsOnPast.{standing}
 use Rattle.sl_step_law.proofs.HoldersWrote.{WroteIn, holders_wrote}

@@ -7,15 +7,15 @@ use Rattle.sl_due_law.proofs.Jobs.EffectsAreAllowed.{LeaseAllowed, ReadAllowed, 
 use Rattle.sl_due_law.proofs.Jobs.NearlyPlainActs.{AnyMove, AnyStart, Anything, grant_plain}
 use Rattle.sl_due_law.proofs.Jobs.RepliesComeAfter.{mapped_or}
 use Rattle.sl_due_law.specs.Whole.Kept.{Kept}
-use Rattle.sl_leases.specs.Ballots.{moded_block}
-use Rattle.sl_leases.specs.Jobs.{command_numbered, process_named}
-use Rattle.sl_leases.specs.LeaseWork.{LeasePlace, convert_next, release_next}
-use Rattle.sl_leases.specs.Leases.{LeaseKnown}
-use Rattle.sl_leases.specs.declared.lease.LeaseNext.{LeaseNext}
-use Rattle.sl_leases.specs.declared.lease.LeaseNext.TheVariants.{AnswerJob, BecomeExclusive, BecomeShared, GrantJob, Nothing as No_lease, ReadFor, WriteBlock, WriteLeader}
+use Rattle.sl_trace.specs.Ballots.{moded_block}
+use Rattle.sl_trace.specs.Jobs.{command_numbered, process_named}
+use Rattle.sl_trace.specs.LeaseWork.{LeasePlace, convert_next, release_next}
+use Rattle.sl_trace.specs.Leases.{LeaseKnown}
+use Rattle.sl_trace.specs.declared.lease.LeaseNext.{LeaseNext}
+use Rattle.sl_trace.specs.declared.lease.LeaseNext.TheVariants.{AnswerJob, BecomeExclusive, BecomeShared, GrantJob, Nothing as No_lease, ReadFor, WriteBlock, WriteLeader}
 use Rattle.sl_sector.specs.declared.sector.Rec.TheVariants.{BlockIs}
-use Rattle.sl_sessions.specs.Sessions.{sessions}
-use Rattle.sl_sessions.specs.declared.session.Session.{Session}
+use Rattle.sl_trace.specs.Sessions.{sessions}
+use Rattle.sl_trace.specs.declared.session.Session.{Session}
 use Rattle.sl_step_law.proofs.OffsetsAreWhole.{base_at_sector, base_in, block_in, block_whole}
 use Rattle.sl_step_law.proofs.PlacesAreKnown.{IsAt, session_at}
 use Rattle.sl_step_law.specs.Standing.{WroteBlock, looks_before_free}

@@ -10,16 +10,16 @@ use Rattle.sl_due_law.proofs.Holdings.LeaseCallers.{heard_call, spot_aligned}
 use Rattle.sl_due_law.proofs.Jobs.CallsStandInAreas.{at_base}
 use Rattle.sl_due_law.proofs.Ways.Kept.LinesReady.{none_open}
 use Rattle.sl_due_law.specs.Whole.Kept.{Kept}
-use Rattle.sl_law.specs.Lawful.{IsSetting}
-use Rattle.sl_leases.specs.LeaseWork.{LeasePlace, lease_place, settle_next}
-use Rattle.sl_leases.specs.Leases.{block_written, exclusive_on, is_lease_call, is_on, known, known_of, lease_calls, lease_step, open_on, spot_of_call}
-use Rattle.sl_leases.specs.declared.lease.Aim.{Aim}
-use Rattle.sl_leases.specs.declared.lease.LeaseNext.{LeaseNext}
-use Rattle.sl_leases.specs.declared.lease.LeaseNext.TheVariants.{AnswerJob, BecomeExclusive, BecomeShared, GrantJob, Nothing as No_lease, ReadFor, WriteBlock, WriteLeader}
+use Rattle.sl_run.specs.Lawful.{IsSetting}
+use Rattle.sl_trace.specs.LeaseWork.{LeasePlace, lease_place, settle_next}
+use Rattle.sl_trace.specs.Leases.{block_written, exclusive_on, is_lease_call, is_on, known, known_of, lease_calls, lease_step, open_on, spot_of_call}
+use Rattle.sl_trace.specs.declared.lease.Aim.{Aim}
+use Rattle.sl_trace.specs.declared.lease.LeaseNext.{LeaseNext}
+use Rattle.sl_trace.specs.declared.lease.LeaseNext.TheVariants.{AnswerJob, BecomeExclusive, BecomeShared, GrantJob, Nothing as No_lease, ReadFor, WriteBlock, WriteLeader}
 use Rattle.sl_plain.proofs.Lists.{contains_first, got_inside, kept_inside}
 use Rattle.sl_sector.specs.declared.sector.Owner.{Owner}
-use Rattle.sl_sessions.specs.Sessions.{calls_of, is_call_of, sessions}
-use Rattle.sl_sessions.specs.declared.session.Session.{Session}
+use Rattle.sl_trace.specs.Sessions.{calls_of, is_call_of, sessions}
+use Rattle.sl_trace.specs.declared.session.Session.{Session}
 use Rattle.sl_step_law.proofs.LooksAreOwed.{LooksOwed, answers_look, settlings_look, won_writer}
 use Rattle.sl_step_law.specs.Standing.{CallsStand, WroteBlock}
 use Rattle.sl_trace.specs.Traces.{Setting, Submitted, mark, new_call, submitted}
@@ -41,9 +41,9 @@ use Rattle.std.proofs.Common.{ap, inl, inr, refl, subst, sym, ◌∙◌}
 use Rattle.std.specs.Prelude.{Bool, Contains, IsTrue, List, Option, Some, [], is_some, true, ℕ, ◌%◌, ◌&&◌, ◌∷◌, ◌≡◌, ◌⊎◌}
 use Rattle.sl_step_law.proofs.CallsOnPast.{OnPast, finish, made_as, standing}
 use Rattle.sl_step_law.proofs.LeasesOnPast.{Owes, carried}
-use Rattle.sl_leases.specs.Leases.{free_left, has_shared_on, lver_written}
-use Rattle.sl_sessions.specs.Sessions.{me}
-use Rattle.sl_sessions.specs.Watching.{counts_over}
+use Rattle.sl_trace.specs.Leases.{free_left, has_shared_on, lver_written}
+use Rattle.sl_trace.specs.Sessions.{me}
+use Rattle.sl_trace.specs.Watching.{counts_over}
 use Rattle.std.specs.Prelude.{length, option_map, slice_get}
 
 abbrev pub Known : Step → Type 0

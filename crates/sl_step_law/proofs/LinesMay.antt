@@ -31,20 +31,20 @@ use Rattle.sl_host_state.specs.Passes.{whos}
 use Rattle.sl_host_state.specs.Stands.{IsWaiting, LeaseStands}
 use Rattle.sl_host_state.specs.declared.kept.JobState.{JobState}
 use Rattle.sl_host_state.specs.declared.kept.LeaseCall.{LeaseCall}
-use Rattle.sl_leases.specs.Jobs.{resource_named}
-use Rattle.sl_leases.specs.LeaseWork.{convert_next, release_next}
-use Rattle.sl_leases.specs.Leases.{LeaseKnown, holdings_on, is_lease_call, is_on, lease_calls, open_on, spot_of}
-use Rattle.sl_leases.specs.Ballots.{moded_block}
-use Rattle.sl_leases.specs.declared.lease.LeaseNext.TheVariants.{Nothing, WriteBlock}
-use Rattle.sl_leases.specs.LeaseWork.{LeasePlace}
+use Rattle.sl_trace.specs.Jobs.{resource_named}
+use Rattle.sl_trace.specs.LeaseWork.{convert_next, release_next}
+use Rattle.sl_trace.specs.Leases.{LeaseKnown, holdings_on, is_lease_call, is_on, lease_calls, open_on, spot_of}
+use Rattle.sl_trace.specs.Ballots.{moded_block}
+use Rattle.sl_trace.specs.declared.lease.LeaseNext.TheVariants.{Nothing, WriteBlock}
+use Rattle.sl_trace.specs.LeaseWork.{LeasePlace}
 use Rattle.sl_plain.proofs.Lists.{any_of, contains_first, contains_map, contains_none, find_inside, got_inside, in_map, kept as kept_in, kept_inside}
 use Rattle.sl_sector.specs.declared.sector.Block.{Block}
 use Rattle.sl_sector.specs.declared.sector.Leader.{Leader}
 use Rattle.sl_sector.specs.declared.sector.Rec.TheVariants.{BlockIs, LeaderIs, ValueIs}
-use Rattle.sl_sessions.specs.Sessions.{calls_of, holdings_of, is_call_of, me}
-use Rattle.sl_sessions.specs.declared.delta.DeltaKnown.{DeltaKnown}
-use Rattle.sl_sessions.specs.declared.session.Begun.{Begun}
-use Rattle.sl_sessions.specs.declared.session.Session.{Session}
+use Rattle.sl_trace.specs.Sessions.{calls_of, holdings_of, is_call_of, me}
+use Rattle.sl_trace.specs.declared.delta.DeltaKnown.{DeltaKnown}
+use Rattle.sl_trace.specs.declared.session.Begun.{Begun}
+use Rattle.sl_trace.specs.declared.session.Session.{Session}
 use Rattle.sl_step_law.proofs.HoldersLeased.{holdings_are_known}
 use Rattle.sl_step_law.specs.Lines.{LinesMay}
 use Rattle.sl_step_law.specs.Ready.{IsReady}

@@ -3,18 +3,18 @@ use Rattle.sl_area.specs.Layouts.{Layout}
 use Rattle.sl_area.specs.Places.{area_blocks, blocks_in, leader_of}
 use Rattle.sl_due_law.proofs.Ways.NextsFit.WritesFit.{left_is_won}
 use Rattle.sl_due_law.proofs.Ways.WayNumbers.{ends_by}
-use Rattle.sl_leases.specs.Ballots.{is_ahead, moded_block, phase1_block, same_owner, stop_of, value_of}
-use Rattle.sl_leases.specs.LeaseWork.{LeasePlace, after_clearing, after_freeing, after_moding, after_phase1, after_phase2, after_read, after_take, after_write, area_next, begin_next, begin_or_refuse, leader_for, lease_next, looks_for_shared, lost_next, named_area_next, phase1_next, phase2_next, refuses, settle_next, settle_owed, stopped_next, unstopped_next, whole_area_next, won_next}
-use Rattle.sl_leases.specs.Leases.{LeaseKnown, block_submitted, block_written, ended_ballot, ended_ballots, free_left, instance_for, is_leader_of, mode_gen_of, owed_free, own_known, shared_elsewhere}
-use Rattle.sl_leases.specs.declared.lease.Aim.TheVariants.{Acquires, Converts, Releases, Settles}
-use Rattle.sl_leases.specs.declared.lease.Aim.{Aim}
-use Rattle.sl_leases.specs.declared.lease.Instance.TheVariants.{Begins, HeldAlready}
-use Rattle.sl_leases.specs.declared.lease.Instance.{Instance}
-use Rattle.sl_leases.specs.declared.lease.LeaseNext.TheVariants.{AnswerJob, BecomeExclusive, BecomeShared, Nothing, ReadFor, WriteBlock, WriteLeader}
-use Rattle.sl_leases.specs.declared.lease.LeaseNext.{LeaseNext}
-use Rattle.sl_leases.specs.declared.lease.Owed.TheVariants.{BallotOwed, FreeOwed, ModeOwed}
-use Rattle.sl_leases.specs.declared.lease.Owed.{Owed}
-use Rattle.sl_leases.specs.declared.lease.Stop.{Stop}
+use Rattle.sl_trace.specs.Ballots.{is_ahead, moded_block, phase1_block, same_owner, stop_of, value_of}
+use Rattle.sl_trace.specs.LeaseWork.{LeasePlace, after_clearing, after_freeing, after_moding, after_phase1, after_phase2, after_read, after_take, after_write, area_next, begin_next, begin_or_refuse, leader_for, lease_next, looks_for_shared, lost_next, named_area_next, phase1_next, phase2_next, refuses, settle_next, settle_owed, stopped_next, unstopped_next, whole_area_next, won_next}
+use Rattle.sl_trace.specs.Leases.{LeaseKnown, block_submitted, block_written, ended_ballot, ended_ballots, free_left, instance_for, is_leader_of, mode_gen_of, owed_free, own_known, shared_elsewhere}
+use Rattle.sl_trace.specs.declared.lease.Aim.TheVariants.{Acquires, Converts, Releases, Settles}
+use Rattle.sl_trace.specs.declared.lease.Aim.{Aim}
+use Rattle.sl_trace.specs.declared.lease.Instance.TheVariants.{Begins, HeldAlready}
+use Rattle.sl_trace.specs.declared.lease.Instance.{Instance}
+use Rattle.sl_trace.specs.declared.lease.LeaseNext.TheVariants.{AnswerJob, BecomeExclusive, BecomeShared, Nothing, ReadFor, WriteBlock, WriteLeader}
+use Rattle.sl_trace.specs.declared.lease.LeaseNext.{LeaseNext}
+use Rattle.sl_trace.specs.declared.lease.Owed.TheVariants.{BallotOwed, FreeOwed, ModeOwed}
+use Rattle.sl_trace.specs.declared.lease.Owed.{Owed}
+use Rattle.sl_trace.specs.declared.lease.Stop.{Stop}
 use Rattle.sl_plain.proofs.Lists.{contains_cases, contains_first, contains_more, contains_none}
 use Rattle.sl_plain.proofs.Options.{some_of, then_value}
 use Rattle.sl_sector.specs.declared.sector.Block.{Block}

@@ -18,10 +18,10 @@ use Rattle.sl_host_law.specs.Steps.Whole.{entry_at}
 use Rattle.sl_host_state.specs.Kept.{HostState, MemberState}
 use Rattle.sl_host_state.specs.Stands.{MemberStands, Stands}
 use Rattle.sl_plain.proofs.Lists.{find_inside}
-use Rattle.sl_sessions.specs.Sessions.{calls_of, free_write, is_joined, leaving_job, sessions}
-use Rattle.sl_sessions.specs.declared.delta.DeltaKnown.{DeltaKnown}
-use Rattle.sl_sessions.specs.declared.session.Begun.{Begun}
-use Rattle.sl_sessions.specs.declared.session.Renewing.{Renewing}
+use Rattle.sl_trace.specs.Sessions.{calls_of, free_write, is_joined, leaving_job, sessions}
+use Rattle.sl_trace.specs.declared.delta.DeltaKnown.{DeltaKnown}
+use Rattle.sl_trace.specs.declared.session.Begun.{Begun}
+use Rattle.sl_trace.specs.declared.session.Renewing.{Renewing}
 use Rattle.sl_step_law.specs.Members.{MemberIsKnown, MembersAreKnown, StepsAreKept}
 use Rattle.sl_step_law.specs.Ready.{InputComes}
 use Rattle.sl_trace.specs.Traces.{Job, Setting, Submitted, Trace}

@@ -11,15 +11,15 @@ use Rattle.sl_host_law.proofs.Plain.PlainLists.{at_some, each_of}
 use Rattle.sl_host_law.proofs.Steps.LeasesAreKnown.{kept_tops}
 use Rattle.sl_host_state.specs.Kept.{Config, HostState, MemberState}
 use Rattle.sl_host_state.specs.Stands.{Stands}
-use Rattle.sl_law.specs.Lawful.{IsGiven, IsSetting}
+use Rattle.sl_run.specs.Lawful.{IsGiven, IsSetting}
 use Rattle.sl_lease.specs.Bounds.{IsInstance}
-use Rattle.sl_leases.specs.Leases.{is_lease_call, is_on, leader_of_record}
+use Rattle.sl_trace.specs.Leases.{is_lease_call, is_on, leader_of_record}
 use Rattle.sl_plain.proofs.Lists.{kept_inside}
 use Rattle.sl_sector.specs.Records.{Fits}
 use Rattle.sl_sector.specs.declared.sector.Leader.{Leader}
 use Rattle.sl_sector.specs.declared.sector.Rec.TheVariants.{BlockIs, DeltaIs, LeaderIs, RequestIs, ValueIs}
-use Rattle.sl_sessions.specs.Sessions.{calls_of, is_call_of, sessions}
-use Rattle.sl_sessions.specs.declared.session.Session.{Session}
+use Rattle.sl_trace.specs.Sessions.{calls_of, is_call_of, sessions}
+use Rattle.sl_trace.specs.declared.session.Session.{Session}
 use Rattle.sl_step_law.specs.Placed.{PlacesAreKnown}
 use Rattle.sl_trace.specs.Commands.{IsLockspaceArg}
 use Rattle.sl_trace.specs.Traces.{Setting, Submitted, Trace, holdings, is_shared, record_of, spot_of_grant, submitted}

@@ -16,14 +16,14 @@ use Rattle.sl_due_law.proofs.Jobs.JobsAreNumbered.{command_is_read}
 use Rattle.sl_due_law.proofs.Jobs.NearlyPlainActs.{AnyMove, AnyStart, Anything, grant_plain}
 use Rattle.sl_due_law.proofs.Ways.Kept.LinesReady.{named_base}
 use Rattle.sl_due_law.specs.Whole.Kept.{Kept}
-use Rattle.sl_law.specs.Lawful.{IsSetting}
-use Rattle.sl_leases.specs.Jobs.{job_of_start, resource_named}
-use Rattle.sl_leases.specs.LeaseWork.{lease_place}
-use Rattle.sl_leases.specs.Leases.{exclusive_on, holdings_on, known, spot_of}
+use Rattle.sl_run.specs.Lawful.{IsSetting}
+use Rattle.sl_trace.specs.Jobs.{job_of_start, resource_named}
+use Rattle.sl_trace.specs.LeaseWork.{lease_place}
+use Rattle.sl_trace.specs.Leases.{exclusive_on, holdings_on, known, spot_of}
 use Rattle.sl_plain.proofs.Lists.{find_inside, got_inside, kept_inside}
-use Rattle.sl_sessions.specs.Sessions.{holdings_of, is_present, sessions}
-use Rattle.sl_sessions.specs.declared.delta.DeltaNext.{DeltaNext}
-use Rattle.sl_sessions.specs.declared.session.Session.{Session}
+use Rattle.sl_trace.specs.Sessions.{holdings_of, is_present, sessions}
+use Rattle.sl_trace.specs.declared.delta.DeltaNext.{DeltaNext}
+use Rattle.sl_trace.specs.declared.session.Session.{Session}
 use Rattle.sl_step_law.proofs.OffsetsAreWhole.{base_at_sector, delta_whole, request_whole, value_whole}
 use Rattle.sl_step_law.specs.Standing.{CallsStand}
 use Rattle.sl_trace.specs.Commands.{IsCommand, IsLockspaceArg}

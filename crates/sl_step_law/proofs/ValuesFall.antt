@@ -16,16 +16,16 @@ use Rattle.sl_due_law.specs.Whole.Kept.{Holds, Kept}
 use Rattle.sl_host_law.proofs.Plain.PlainLists.{at_some}
 use Rattle.sl_host_law.proofs.Replies.PlainNumbers.{same_number}
 use Rattle.sl_host_law.specs.Decisions.Promises.{AreFalling}
-use Rattle.sl_law.specs.Lawful.{IsSetting}
-use Rattle.sl_law.specs.LawfulValue.{LawfulValue, LawfulValueWrite}
-use Rattle.sl_law.specs.Saying.{cut_at}
-use Rattle.sl_leases.specs.Counts.{values_on}
-use Rattle.sl_leases.specs.Leases.{block_of_record, block_submitted, block_written, holdings_on, is_lease_call, is_on, lease_calls, lease_step, value_of_record, value_written}
+use Rattle.sl_run.specs.Lawful.{IsSetting}
+use Rattle.sl_run.specs.LawfulValue.{LawfulValue, LawfulValueWrite}
+use Rattle.sl_run.specs.Saying.{cut_at}
+use Rattle.sl_trace.specs.Counts.{values_on}
+use Rattle.sl_trace.specs.Leases.{block_of_record, block_submitted, block_written, holdings_on, is_lease_call, is_on, lease_calls, lease_step, value_of_record, value_written}
 use Rattle.sl_plain.proofs.Lists.{contains_first, contains_more, find_inside, got_inside, kept_inside}
 use Rattle.sl_sector.specs.declared.sector.Block.{Block}
 use Rattle.sl_sector.specs.declared.sector.ValueRec.{ValueRec}
-use Rattle.sl_sessions.specs.Sessions.{calls_of, holdings_of, is_call_of, session_numbered, sessions}
-use Rattle.sl_sessions.specs.declared.session.Session.{Session}
+use Rattle.sl_trace.specs.Sessions.{calls_of, holdings_of, is_call_of, session_numbered, sessions}
+use Rattle.sl_trace.specs.declared.session.Session.{Session}
 use Rattle.sl_trace.specs.Traces.{Setting, Submitted, Trace, answered_in, holdings, is_shared, mark, new_call, record_of, same_place, spot_of_grant, submitted}
 use Rattle.sl_trace.specs.declared.effects.Call.{Call}
 use Rattle.sl_trace.specs.declared.effects.Entry.{Entry}

@@ -5,7 +5,7 @@ use Rattle.sl_host_state.specs.Kept.{HostState, LeaseState, MemberState}
 use Rattle.sl_host_state.specs.Makes.{is_lease_on}
 use Rattle.sl_host_state.specs.declared.kept.LeaseCall.{LeaseCall}
 use Rattle.sl_host_state.specs.declared.kept.OpenCall.{OpenCall}
-use Rattle.sl_leases.specs.Leases.{lease_step}
+use Rattle.sl_trace.specs.Leases.{lease_step}
 use Rattle.sl_member.specs.Laws.{IsAwaited, IsWaitingFor, area_of_call}
 use Rattle.sl_step_law.specs.Ready.{IsReady}
 use Rattle.std.specs.Prelude.{Contains, None, Some, false, find, is_some, true, ℕ, ◌==◌, ◌≡◌}

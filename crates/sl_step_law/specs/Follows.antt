@@ -4,7 +4,7 @@ use Rattle.sl_host_law.specs.Steps.Sound.{IsSound}
 use Rattle.sl_host_law.specs.Steps.Whole.{entry_at}
 use Rattle.sl_host_state.specs.Kept.{HostState}
 use Rattle.sl_host_state.specs.Stands.{HostStands}
-use Rattle.sl_law.specs.Lawful.{IsSetting}
+use Rattle.sl_run.specs.Lawful.{IsSetting}
 use Rattle.sl_step_law.specs.Ready.{InputComes}
 use Rattle.sl_trace.specs.Traces.{FollowsTrace, Setting, Trace, is_expected, last_reading}
 use Rattle.sl_trace.specs.declared.input.Input.{Input}

@@ -12,10 +12,10 @@ use Rattle.sl_host_state.specs.Stands.{HostStands}
 use Rattle.sl_lease.specs.Asked.{TopStands}
 use Rattle.sl_lease.specs.Bounds.{IsInstance}
 use Rattle.sl_lease.specs.Side.{is_named}
-use Rattle.sl_leases.specs.Leases.{spot_of}
+use Rattle.sl_trace.specs.Leases.{spot_of}
 use Rattle.sl_member.specs.Together.{AreApart}
 use Rattle.sl_sector.specs.Records.{Fits}
-use Rattle.sl_sessions.specs.declared.session.Begun.{Begun}
+use Rattle.sl_trace.specs.declared.session.Begun.{Begun}
 use Rattle.sl_step_law.specs.Moments.{IsMoment}
 use Rattle.sl_step_law.specs.Ready.{IsReady}
 use Rattle.sl_trace.specs.Commands.{IsCommand}

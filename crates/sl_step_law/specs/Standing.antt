@@ -3,8 +3,8 @@
 use Rattle.sl_area.specs.Places.{is_base}
 use Rattle.sl_due.specs.Due.{IsHostTrace}
 use Rattle.sl_due.specs.Steps.{Step, seen}
-use Rattle.sl_law.specs.Lawful.{IsSetting}
-use Rattle.sl_leases.specs.Leases.{block_written, is_lease_call, lease_step, spot_of_call}
+use Rattle.sl_run.specs.Lawful.{IsSetting}
+use Rattle.sl_trace.specs.Leases.{block_written, is_lease_call, lease_step, spot_of_call}
 use Rattle.sl_step_law.specs.Ready.{IsReady}
 use Rattle.sl_host_state.specs.Kept.{HostState}
 use Rattle.sl_trace.specs.Traces.{EachEntry, Setting, Submitted, Trace, new_call, submitted}

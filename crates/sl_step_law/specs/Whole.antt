@@ -9,7 +9,7 @@ use Rattle.sl_host_state.specs.Hears.{begun}
 use Rattle.sl_host_state.specs.Kept.{HostState}
 use Rattle.sl_host_state.specs.New.{IsOfProgram, new_host}
 use Rattle.sl_host_state.specs.Stands.{HostStands}
-use Rattle.sl_law.specs.Lawful.{IsSetting}
+use Rattle.sl_run.specs.Lawful.{IsSetting}
 use Rattle.sl_step_law.specs.Answers.{IsOfBytes}
 use Rattle.sl_step_law.specs.Ready.{InputComes}
 use Rattle.sl_trace.specs.Traces.{Setting, Trace}

@@ -1,7 +1,7 @@
 //! The running jobs, by number, and how many of them may come to a holding or a child.
 
 ghost use Rattle.sl_host_state.specs.declared.kept.JobState.{JobState as JobStateOf};
-ghost use Rattle.sl_leases.specs.Jobs.{is_asking_lease, is_program};
+ghost use Rattle.sl_trace.specs.Jobs.{is_asking_lease, is_program};
 ghost use Rattle.sl_tables.specs.Jobs.{changed, ungranted, weight};
 ghost use Rattle.std.specs.Option.{option_or};
 ghost use Rattle.std.specs.Prelude.{OnErr, OnOk, Some, cond, filter, find, length, map, max, not, option_map, slice_get, [], ◌+◌, ◌++◌, ◌-◌, ◌<◌, ◌==◌, ◌^◌, ◌∷◌, ◌≡◌, ◌≤◌};
@@ -70,7 +70,7 @@ pub struct Jobs {
 }
 
 impl Model for Jobs {
-    ghost use Rattle.sl_leases.specs.Jobs.{is_asking_lease, is_program};
+    ghost use Rattle.sl_trace.specs.Jobs.{is_asking_lease, is_program};
     ghost use Rattle.sl_tables.specs.Jobs.{AreJobs, JobsState, weight};
     ghost use Rattle.sl_tables.specs.Totals.{total};
     ghost use Rattle.std.specs.Map.{values_of};

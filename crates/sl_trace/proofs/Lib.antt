@@ -1,2 +1,4 @@
 pub mod Comparing
 pub mod TraceFacts
+pub mod EvidenceFacts
+pub mod NumberFacts

@@ -1,8 +1,8 @@
 -- The ask that has no reply yet is a job of the daemon, whose line is the text of the ask.
 use Rattle.sl_area.specs.Layouts.{layout_with}
-use Rattle.sl_lvm.specs.Lvm.{Course, Lvm}
-use Rattle.sl_lvm.specs.declared.turn.LvmOut.{LvmOut}
-use Rattle.sl_lvm.specs.LvmLines.{LvmLine}
+use Rattle.sl_run.specs.Lvm.{Course, Lvm}
+use Rattle.sl_run.specs.declared.turn.LvmOut.{LvmOut}
+use Rattle.sl_run.specs.LvmLines.{LvmLine}
 use Rattle.sl_plain.proofs.Options.{mapped_value, then_value}
 use Rattle.sl_run.specs.Events.{after_step, event_tests, first_change, if_running, input_at, input_of, machine_of, may_happen, next_step, number_of_step, ok_input, rest_sampled, sectors_left, with_entry}
 use Rattle.sl_run.specs.Locks.{Locks, Told, after_turn, locks_after, numbered_locks}

@@ -1,5 +1,5 @@
 -- What an ok reply to an acquire tells, by its cause: the lock was granted in its entry.
-use Rattle.sl_law.specs.Caused.{Answering, CausedBy, GrantsTo, IsGrantedFor, after_entry, job_command}
+use Rattle.sl_run.specs.Caused.{Answering, CausedBy, GrantsTo, IsGrantedFor, after_entry, job_command}
 use Rattle.sl_trace.specs.EffectTexts.{is_ok_reply}
 use Rattle.sl_trace.specs.Traces.{Job, Setting, Trace, job_numbered}
 use Rattle.sl_trace.specs.declared.command.Command.TheVariants.{Acquire, AddLockspace, GetLvb, HostStatus, InqLockspace, RunProgram, SetLvb, Status}

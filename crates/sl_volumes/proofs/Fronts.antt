@@ -1,5 +1,5 @@
 -- What is said of each entry of each daemon's trace is said of it at each front of the run.
-use Rattle.sl_law.specs.Caused.{AnswersWell, IsCaused}
+use Rattle.sl_run.specs.Caused.{AnswersWell, IsCaused}
 use Rattle.sl_plain.proofs.Lists.{got_inside}
 use Rattle.sl_run.specs.Runs.{EachDaemon, Happening, IsRun}
 use Rattle.sl_run.specs.Safety.{LawfulRun, world_at}

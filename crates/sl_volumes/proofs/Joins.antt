@@ -2,8 +2,8 @@
 use Rattle.sl_plain.proofs.Lists.{contains_cases, contains_none, find_inside, in_map}
 use Rattle.sl_plain.proofs.Options.{then_value}
 use Rattle.sl_run_law.proofs.Front.Having.{contains_append}
-use Rattle.sl_sessions.specs.Sessions.{added, added_by, begun_in, given_session, is_join_call, joining_session, session_of_job, sessions}
-use Rattle.sl_sessions.specs.declared.session.Session.{Session}
+use Rattle.sl_trace.specs.Sessions.{added, added_by, begun_in, given_session, is_join_call, joining_session, session_of_job, sessions}
+use Rattle.sl_trace.specs.declared.session.Session.{Session}
 use Rattle.sl_trace.specs.Traces.{Setting, Trace, job_numbered, line_in, next_job}
 use Rattle.sl_trace.specs.declared.command.Command.TheVariants.{AddLockspace}
 use Rattle.sl_trace.specs.declared.command.Command.{Command}

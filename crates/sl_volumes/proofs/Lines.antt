@@ -1,6 +1,6 @@
 -- Only the lock of a group has its value read or written by a line.
-use Rattle.sl_lvm.specs.LockNames.{Lock, group_lock}
-use Rattle.sl_lvm.specs.LvmLines.{Gives_writing, LvmLine, Takes_comparing, line_or, lvm_forms, lvm_line_in}
+use Rattle.sl_run.specs.LockNames.{Lock, group_lock}
+use Rattle.sl_run.specs.LvmLines.{Gives_writing, LvmLine, Takes_comparing, line_or, lvm_forms, lvm_line_in}
 use Rattle.sl_text.specs.Forms.{Form, bad_column, fits_whole, made_by, words_of}
 use Rattle.sl_trace.specs.declared.effects.Mode.{Mode}
 use Rattle.sl_words.proofs.CaseLaws.{none_some, some_value}

@@ -1,7 +1,7 @@
 -- A lock that a line names is a resource that a command may name.
 use Rattle.sl_area.specs.Layouts.{IsGeometry, Sizes}
-use Rattle.sl_lvm.specs.LockNames.{Lock, doubled, group_lockspace, group_path, is_group_name, is_volume_name}
-use Rattle.sl_lvm.specs.LvmLines.{Deactivates, Gives, Gives_writing, Informs, LvmLine, Starts, Stops, Takes, Takes_comparing, is_area_word, is_volume_word, lvm_forms, lvm_line_in}
+use Rattle.sl_run.specs.LockNames.{Lock, doubled, group_lockspace, group_path, is_group_name, is_volume_name}
+use Rattle.sl_run.specs.LvmLines.{Deactivates, Gives, Gives_writing, Informs, LvmLine, Starts, Stops, Takes, Takes_comparing, is_area_word, is_volume_word, lvm_forms, lvm_line_in}
 use Rattle.sl_text.specs.Forms.{Form, bad_column, exactly, fits_whole, fitting, made_by, pieces, word_at, words_of}
 use Rattle.sl_text.specs.Names.{is_name, is_name_byte, is_path}
 use Rattle.sl_text.specs.Numbers.{number_of}

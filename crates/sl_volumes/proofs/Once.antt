@@ -1,7 +1,7 @@
 -- A version takes the place of any other of its group.
 use Rattle.sl_area.specs.Layouts.{layout_with}
-use Rattle.sl_lvm.specs.Lvm.{Course, Lvm, SeenValue}
-use Rattle.sl_lvm.specs.declared.turn.LvmOut.{LvmOut}
+use Rattle.sl_run.specs.Lvm.{Course, Lvm, SeenValue}
+use Rattle.sl_run.specs.declared.turn.LvmOut.{LvmOut}
 use Rattle.sl_plain.proofs.Lists.{contains_cases, contains_none, kept_inside}
 use Rattle.sl_run.specs.Events.{first_change, next_step, number_of_step}
 use Rattle.sl_run.specs.Locks.{Locks, Told, locks_after, numbered_locks}

@@ -1,8 +1,8 @@
 -- The whole program reads each ask as the command that it spells: the text of a command is read as the command.
 use Rattle.sl_area.specs.Layouts.{layout_of}
 use Rattle.sl_command.proofs.WrittenCommands.{command_of_text}
-use Rattle.sl_lvm.specs.LockNames.{resource_of}
-use Rattle.sl_lvm.specs.Lvm.{Acquiring, Course, Moving, Reading, Releasing, Writing, lock_process}
+use Rattle.sl_run.specs.LockNames.{resource_of}
+use Rattle.sl_run.specs.Lvm.{Acquiring, Course, Moving, Reading, Releasing, Writing, lock_process}
 use Rattle.sl_run.specs.Headers.{IsHeader}
 use Rattle.sl_run.specs.Worlds.{whole_program}
 use Rattle.sl_run.specs.declared.header.Header.{Header}

@@ -1,9 +1,9 @@
 -- A version becomes known by the host's reply to a read or a write of a group's value.
-use Rattle.sl_lvm.specs.LockNames.{Lock, group_lock, resource_of}
-use Rattle.sl_lvm.specs.Lvm.{Course, Lvm, Reading, SeenValue, Writing, lock_process}
-use Rattle.sl_lvm.specs.LvmLines.{LvmLine}
-use Rattle.sl_lvm.specs.declared.turn.LvmOut.TheVariants.{Ask, Quiet, Reply as LineReply}
-use Rattle.sl_lvm.specs.declared.turn.LvmOut.{LvmOut}
+use Rattle.sl_run.specs.LockNames.{Lock, group_lock, resource_of}
+use Rattle.sl_run.specs.Lvm.{Course, Lvm, Reading, SeenValue, Writing, lock_process}
+use Rattle.sl_run.specs.LvmLines.{LvmLine}
+use Rattle.sl_run.specs.declared.turn.LvmOut.TheVariants.{Ask, Quiet, Reply as LineReply}
+use Rattle.sl_run.specs.declared.turn.LvmOut.{LvmOut}
 use Rattle.sl_plain.proofs.Lists.{contains_cases, contains_first, contains_none, find_inside, kept_inside, next_before}
 use Rattle.sl_run.specs.Events.{after_step, first_change, input_of, machine_of, next_step, number_of_step, with_entry}
 use Rattle.sl_run.specs.Locks.{Locks, Told, after_turn, locks_after, numbered_locks}

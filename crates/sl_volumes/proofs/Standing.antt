@@ -1,9 +1,9 @@
 -- What holds of the locks of a machine at each moment: how far a line has come is fair, and what is asked is its ask.
-use Rattle.sl_lvm.specs.LockNames.{Lock, resource_of}
-use Rattle.sl_lvm.specs.Lvm.{Acquiring, Course, Lvm, Moving, Reading, Releasing, Writing, asks, comparison, is_seen, lock_process, lvm_turn, tells, with_lock, with_seen, without_lock, without_seen}
-use Rattle.sl_lvm.specs.LvmLines.{Gives_writing, LvmLine, Takes, Takes_comparing, lvm_line_in}
-use Rattle.sl_lvm.specs.declared.turn.LvmIn.TheVariants.{Ended, Line as TextLine, Reply as HostReply}
-use Rattle.sl_lvm.specs.declared.turn.LvmOut.{LvmOut}
+use Rattle.sl_run.specs.LockNames.{Lock, resource_of}
+use Rattle.sl_run.specs.Lvm.{Acquiring, Course, Lvm, Moving, Reading, Releasing, Writing, asks, comparison, is_seen, lock_process, lvm_turn, tells, with_lock, with_seen, without_lock, without_seen}
+use Rattle.sl_run.specs.LvmLines.{Gives_writing, LvmLine, Takes, Takes_comparing, lvm_line_in}
+use Rattle.sl_run.specs.declared.turn.LvmIn.TheVariants.{Ended, Line as TextLine, Reply as HostReply}
+use Rattle.sl_run.specs.declared.turn.LvmOut.{LvmOut}
 use Rattle.sl_run.specs.Locks.{Locks, Told, after_turn, is_lock_exit, locks_after, numbered_locks, replied_locks, turned_locks}
 use Rattle.sl_text.specs.Forms.{spaced}
 use Rattle.sl_trace.specs.Commands.{command_words}

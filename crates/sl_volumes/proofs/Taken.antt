@@ -1,11 +1,11 @@
 -- A lock that a line takes is held: it is taken by an ok reply to an acquire, whose cause is the grant.
 use Rattle.sl_area.specs.Layouts.{Layout}
-use Rattle.sl_law.specs.Caused.{Answering, AnswersWell, CausedBy, IsCaused}
-use Rattle.sl_lvm.specs.LockNames.{Lock, group_path, resource_of, same_lock}
-use Rattle.sl_lvm.specs.Lvm.{Acquiring, Course, HeldLock, Lvm, lock_process}
-use Rattle.sl_lvm.specs.LvmLines.{LvmLine}
-use Rattle.sl_lvm.specs.declared.turn.LvmOut.TheVariants.{Ask, Quiet, Reply as LineReply}
-use Rattle.sl_lvm.specs.declared.turn.LvmOut.{LvmOut}
+use Rattle.sl_run.specs.Caused.{Answering, AnswersWell, CausedBy, IsCaused}
+use Rattle.sl_run.specs.LockNames.{Lock, group_path, resource_of, same_lock}
+use Rattle.sl_run.specs.Lvm.{Acquiring, Course, HeldLock, Lvm, lock_process}
+use Rattle.sl_run.specs.LvmLines.{LvmLine}
+use Rattle.sl_run.specs.declared.turn.LvmOut.TheVariants.{Ask, Quiet, Reply as LineReply}
+use Rattle.sl_run.specs.declared.turn.LvmOut.{LvmOut}
 use Rattle.sl_plain.proofs.Lists.{contains_cases, contains_first, contains_none, find_inside, kept_inside, next_before}
 use Rattle.sl_run.specs.Events.{after_step, first_change, happens, input_of, machine_of, next_step, number_of_step, with_entry}
 use Rattle.sl_run.specs.Locks.{Locks, Told, after_turn, locks_after, numbered_locks}

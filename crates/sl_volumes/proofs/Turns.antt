@@ -1,10 +1,10 @@
 -- What a turn of the locks comes to: every turn is one of these.
-use Rattle.sl_lvm.specs.LockNames.{Lock, lockspace_of, resource_of}
-use Rattle.sl_lvm.specs.Lvm.{Acquiring, Course, HeldLock, Lvm, Moving, Reading, Releasing, Writing, after_reading, after_writing, asks, asks_lock, asks_release, begins, begins_line, comparison, first_held, goes_on_with, has_volume, held_lock_word, is_given_up, is_held, is_lost, is_seen, lock_process, lvm_turn, passes_on, tells, with_lock, with_seen, without_lock, without_seen}
-use Rattle.sl_lvm.specs.LvmLines.{Deactivates, Gives, Gives_writing, Informs, LvmLine, Starts, Stops, Takes, Takes_comparing, lvm_line_in}
-use Rattle.sl_lvm.specs.declared.turn.LvmIn.TheVariants.{Line as TextLine, Reply as HostReply}
-use Rattle.sl_lvm.specs.declared.turn.LvmOut.TheVariants.{Quiet}
-use Rattle.sl_lvm.specs.declared.turn.LvmOut.{LvmOut}
+use Rattle.sl_run.specs.LockNames.{Lock, lockspace_of, resource_of}
+use Rattle.sl_run.specs.Lvm.{Acquiring, Course, HeldLock, Lvm, Moving, Reading, Releasing, Writing, after_reading, after_writing, asks, asks_lock, asks_release, begins, begins_line, comparison, first_held, goes_on_with, has_volume, held_lock_word, is_given_up, is_held, is_lost, is_seen, lock_process, lvm_turn, passes_on, tells, with_lock, with_seen, without_lock, without_seen}
+use Rattle.sl_run.specs.LvmLines.{Deactivates, Gives, Gives_writing, Informs, LvmLine, Starts, Stops, Takes, Takes_comparing, lvm_line_in}
+use Rattle.sl_run.specs.declared.turn.LvmIn.TheVariants.{Line as TextLine, Reply as HostReply}
+use Rattle.sl_run.specs.declared.turn.LvmOut.TheVariants.{Quiet}
+use Rattle.sl_run.specs.declared.turn.LvmOut.{LvmOut}
 use Rattle.sl_text.specs.Forms.{spaced}
 use Rattle.sl_trace.specs.EffectTexts.{is_ok_reply, reply_text}
 use Rattle.sl_trace.specs.declared.command.Command.TheVariants.{AddLockspace, GetLvb, RemLockspace, SetLvb}

@@ -1,7 +1,7 @@
 -- What the locks of a machine ask: how far a line has come names its ask, and a lock is one that a line has named.
-use Rattle.sl_lvm.specs.LockNames.{Lock, group_lock, resource_of}
-use Rattle.sl_lvm.specs.Lvm.{Acquiring, Course, Moving, Reading, Releasing, Writing, lock_process}
-use Rattle.sl_lvm.specs.LvmLines.{Gives_writing, LvmLine, Takes, Takes_comparing, lvm_line_in}
+use Rattle.sl_run.specs.LockNames.{Lock, group_lock, resource_of}
+use Rattle.sl_run.specs.Lvm.{Acquiring, Course, Moving, Reading, Releasing, Writing, lock_process}
+use Rattle.sl_run.specs.LvmLines.{Gives_writing, LvmLine, Takes, Takes_comparing, lvm_line_in}
 use Rattle.sl_text.specs.Forms.{spaced}
 use Rattle.sl_trace.specs.Commands.{command_words}
 use Rattle.sl_trace.specs.Traces.{is_shared}

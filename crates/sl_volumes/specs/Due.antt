@@ -1,6 +1,6 @@
 -- Daemons that do what is due answer lvmlockd's locks what they asked.
 use Rattle.sl_due.specs.Due.{IsHostTrace}
-use Rattle.sl_law.specs.Lawful.{IsSetting}
+use Rattle.sl_run.specs.Lawful.{IsSetting}
 use Rattle.sl_run.specs.Runs.{EachDaemon, Happening}
 use Rattle.sl_run.specs.Safety.{LawfulRun, world_at}
 use Rattle.sl_run.specs.Worlds.{Program}

@@ -1,8 +1,8 @@
 -- What is asked of a run beside the laws of safety, so that an answer to lvmlockd's locks is an answer to what they asked: the program reads
 -- their asks as the commands that they spell, each reply has its cause, and a call for a value is made for a command on that value.
-use Rattle.sl_law.specs.Caused.{IsCaused}
-use Rattle.sl_leases.specs.Leases.{spot_of, spot_of_call}
-use Rattle.sl_lvm.specs.Lvm.{Course}
+use Rattle.sl_run.specs.Caused.{IsCaused}
+use Rattle.sl_trace.specs.Leases.{spot_of, spot_of_call}
+use Rattle.sl_run.specs.Lvm.{Course}
 use Rattle.sl_run.specs.Runs.{AfterEachFront, EachDaemon, Happening}
 use Rattle.sl_run.specs.Safety.{LawfulRun, world_at}
 use Rattle.sl_run.specs.Worlds.{Program}

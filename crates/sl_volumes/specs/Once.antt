@@ -1,5 +1,5 @@
 -- Of each group one version is known.
-use Rattle.sl_lvm.specs.Lvm.{Lvm, SeenValue}
+use Rattle.sl_run.specs.Lvm.{Lvm, SeenValue}
 use Rattle.sl_run.specs.Runs.{Happening}
 use Rattle.sl_run.specs.Safety.{LawfulRun, world_at}
 use Rattle.sl_run.specs.Worlds.{Machine, Program, machine_at}

@@ -1,6 +1,6 @@
 -- The whole program reads what lvmlockd's locks ask, so they hold what they take wherever its daemons do what is due.
 use Rattle.sl_due.specs.Due.{IsHostTrace}
-use Rattle.sl_law.specs.Lawful.{IsSetting}
+use Rattle.sl_run.specs.Lawful.{IsSetting}
 use Rattle.sl_run.specs.Headers.{IsHeader}
 use Rattle.sl_run.specs.Reach.{LocksAreTaken}
 use Rattle.sl_run.specs.Runs.{EachDaemon, Happening}

@@ -5,7 +5,7 @@ use Rattle.sl_run.specs.Safety.{LawfulRun, world_at}
 use Rattle.sl_run.specs.Worlds.{Program}
 use Rattle.sl_run.specs.declared.header.Header.{Header}
 use Rattle.sl_due.specs.Due.{IsHostTrace}
-use Rattle.sl_law.specs.Lawful.{IsSetting}
+use Rattle.sl_run.specs.Lawful.{IsSetting}
 use Rattle.sl_volumes.specs.Fitting.{AnsweredRun, ReadsAsks}
 use Rattle.std.specs.Prelude.{List}
 

@@ -1,6 +1,6 @@
 -- What lvmlockd's locks know of a group's value: a version that the host told them, by its reply to a read or a write that they asked.
-use Rattle.sl_lvm.specs.LockNames.{group_lock, resource_of}
-use Rattle.sl_lvm.specs.Lvm.{SeenValue, lock_process}
+use Rattle.sl_run.specs.LockNames.{group_lock, resource_of}
+use Rattle.sl_run.specs.Lvm.{SeenValue, lock_process}
 use Rattle.sl_run.specs.Runs.{Happening}
 use Rattle.sl_run.specs.Safety.{world_at}
 use Rattle.sl_run.specs.Worlds.{Daemon, Machine, Program, World, machine_at}

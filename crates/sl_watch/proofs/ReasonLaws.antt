@@ -3,13 +3,13 @@ use Rattle.sl_area.specs.Layouts.{Sizes, layout_of}
 use Rattle.sl_sector.specs.declared.sector.DeltaRec.{DeltaRec}
 use Rattle.sl_sector.specs.declared.sector.DeltaState.TheVariants.{Claimed, Free, Live}
 use Rattle.sl_sector.specs.declared.sector.DeltaState.{DeltaState}
-use Rattle.sl_sessions.specs.Watching.{evidence, is_free_among, is_free_state, is_live_state, is_silent, newest_of, silence, span}
-use Rattle.sl_sessions.specs.declared.sighting.Run.{Run}
+use Rattle.sl_trace.specs.Watching.{evidence, is_free_among, is_free_state, is_live_state, is_silent, newest_of, silence, span}
+use Rattle.sl_trace.specs.declared.sighting.Run.{Run}
 use Rattle.sl_time.specs.Times.{TimingNumbers, dead}
 use Rattle.sl_trace.specs.declared.reply.Evidence.TheVariants.{Freed, Newer, Silent}
 use Rattle.sl_trace.specs.declared.reply.Evidence.{Evidence}
 use Rattle.sl_watch.specs.Reasons.{IsFirstReason, IsStill, SawFree, SawNewer, StoodStill, records_of, run_of}
-use Rattle.sl_sessions.specs.declared.sighting.Sighting.{Sighting}
+use Rattle.sl_trace.specs.declared.sighting.Sighting.{Sighting}
 use Rattle.sl_words.proofs.CaseLaws.{false_is_true}
 use Rattle.sl_words.proofs.WordLaws.{or_true}
 use Rattle.sl_words.specs.Words.{choose}

@@ -9,9 +9,9 @@ use Rattle.sl_sector.specs.declared.sector.DeltaState.TheVariants.{Claimed, Free
 use Rattle.sl_sector.specs.declared.sector.DeltaState.{DeltaState}
 use Rattle.sl_sector.specs.declared.sector.Rec.TheVariants.{DeltaIs}
 use Rattle.sl_sector.specs.declared.sector.Rec.{Rec}
-use Rattle.sl_sessions.specs.Watching.{new_run, run_with}
-use Rattle.sl_sessions.specs.declared.sighting.Run.{Run}
-use Rattle.sl_sessions.specs.declared.sighting.Sighting.{Sighting}
+use Rattle.sl_trace.specs.Watching.{new_run, run_with}
+use Rattle.sl_trace.specs.declared.sighting.Run.{Run}
+use Rattle.sl_trace.specs.declared.sighting.Sighting.{Sighting}
 use Rattle.sl_watch.proofs.WatchLaws.{told_stands}
 use Rattle.sl_watch.specs.Seen.{seen_with}
 use Rattle.sl_watch.specs.Summaries.{IsKept, IsKeptRun, IsSeen, IsSpelledBy, RunStands, Summary, bytes_with, freed_with, nothing_seen, summary_of, summary_with}

@@ -5,9 +5,9 @@ use Rattle.sl_sector.specs.Spelling.{IsSectorSize, Spells}
 use Rattle.sl_sector.specs.declared.sector.DeltaRec.{DeltaRec}
 use Rattle.sl_sector.specs.declared.sector.DeltaState.TheVariants.{Claimed}
 use Rattle.sl_sector.specs.declared.sector.Rec.TheVariants.{DeltaIs}
-use Rattle.sl_sessions.specs.Watching.{current_run, evidence, host_state, new_run, seen_records, sighted, unchanged}
-use Rattle.sl_sessions.specs.declared.sighting.Run.{Run}
-use Rattle.sl_sessions.specs.declared.sighting.Sighting.{Sighting}
+use Rattle.sl_trace.specs.Watching.{current_run, evidence, host_state, new_run, seen_records, sighted, unchanged}
+use Rattle.sl_trace.specs.declared.sighting.Run.{Run}
+use Rattle.sl_trace.specs.declared.sighting.Sighting.{Sighting}
 use Rattle.sl_time.specs.Times.{TimingNumbers}
 use Rattle.sl_trace.specs.declared.reply.Evidence.TheVariants.{Silent}
 use Rattle.sl_trace.specs.declared.reply.HostState.TheVariants.{Unknown}

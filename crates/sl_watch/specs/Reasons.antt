@@ -2,12 +2,12 @@
 use Rattle.sl_area.specs.Layouts.{Sizes, layout_of}
 use Rattle.sl_sector.specs.declared.sector.DeltaRec.{DeltaRec}
 use Rattle.sl_sector.specs.declared.sector.DeltaState.TheVariants.{Free, Live}
-use Rattle.sl_sessions.specs.Watching.{current_run, seen_records, span}
-use Rattle.sl_sessions.specs.declared.sighting.Run.{Run}
+use Rattle.sl_trace.specs.Watching.{current_run, seen_records, span}
+use Rattle.sl_trace.specs.declared.sighting.Run.{Run}
 use Rattle.sl_time.specs.Times.{TimingNumbers, dead}
 use Rattle.sl_trace.specs.declared.reply.Evidence.TheVariants.{Freed, Newer, Silent}
 use Rattle.sl_trace.specs.declared.reply.Evidence.{Evidence}
-use Rattle.sl_sessions.specs.declared.sighting.Sighting.{Sighting}
+use Rattle.sl_trace.specs.declared.sighting.Sighting.{Sighting}
 use Rattle.std.specs.List.{All, Any}
 use Rattle.std.specs.Option.{IsSomeAnd}
 use Rattle.std.specs.Prelude.{List, Option, ℕ, ◌<◌, ◌≡◌, ◌≤◌}

@@ -2,7 +2,7 @@
 use Rattle.sl_area.specs.Layouts.{program_digest}
 use Rattle.sl_sector.specs.Spelling.{decoded, delta_in}
 use Rattle.sl_sector.specs.declared.sector.DeltaRec.{DeltaRec}
-use Rattle.sl_sessions.specs.declared.sighting.Sighting.{Sighting}
+use Rattle.sl_trace.specs.declared.sighting.Sighting.{Sighting}
 use Rattle.sl_words.specs.Words.{choose}
 use Rattle.std.specs.Prelude.{List, Option, false, filter_map, option_and_then, true, ℕ, ◌==◌, ◌∷◌}
 

@@ -7,7 +7,7 @@ use Rattle.sl_sector.specs.Spelling.{delta_in}
 use Rattle.sl_sector.specs.declared.sector.Bad.{Bad}
 use Rattle.sl_sector.specs.declared.sector.DeltaRec.{DeltaRec}
 use Rattle.sl_sector.specs.declared.sector.Rec.{Rec}
-use Rattle.sl_sessions.specs.declared.sighting.Sighting.{Sighting}
+use Rattle.sl_trace.specs.declared.sighting.Sighting.{Sighting}
 use Rattle.sl_time.specs.Times.{TimingNumbers}
 use Rattle.sl_area.specs.Layouts.{Sizes}
 use Rattle.sl_watch.specs.Summaries.{freed_with, nothing_seen}

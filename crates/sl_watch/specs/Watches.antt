@@ -2,7 +2,7 @@
 use Rattle.sl_area.specs.Layouts.{Sizes, layout_of, program_digest}
 use Rattle.sl_sector.specs.Spelling.{decoded, spelling}
 use Rattle.sl_sector.specs.declared.sector.Rec.{Rec}
-use Rattle.sl_sessions.specs.declared.sighting.Sighting.{Sighting}
+use Rattle.sl_trace.specs.declared.sighting.Sighting.{Sighting}
 use Rattle.sl_time.specs.Times.{TimingNumbers}
 use Rattle.sl_watch.specs.Seen.{Seen, sightings_of}
 use Rattle.sl_watch.specs.Summaries.{IsKept, nothing_seen, summary_of}

@@ -17,8 +17,8 @@ ghost use Rattle.std.specs.Prelude.{IfOk, IfSome, IsSome, List, length, [], â—Œâ
 ghost use Rattle.std.specs.Option.{option_map_or};
 ghost use Rattle.sl_area.specs.Layouts.{layout_of, program_digest};
 ghost use Rattle.sl_sector.specs.Spelling.{decoded};
-ghost use Rattle.sl_sessions.specs.Watching.{evidence, host_state, span, unchanged};
-ghost use Rattle.sl_sessions.specs.declared.sighting.Sighting.{Sighting};
+ghost use Rattle.sl_trace.specs.Watching.{evidence, host_state, span, unchanged};
+ghost use Rattle.sl_trace.specs.declared.sighting.Sighting.{Sighting};
 ghost use Rattle.sl_watch.specs.Reasons.{IsFirstReason, SawFree, SawNewer, StoodStill};
 ghost use Rattle.sl_watch.specs.Seen.{Seen, seen_at, seen_with, spelled_for};
 ghost use Rattle.sl_watch.specs.Summaries.{bare, evidence_by, nothing_seen, state_by};

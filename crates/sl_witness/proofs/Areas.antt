@@ -1,11 +1,11 @@
 -- A search for the law of work on areas, in a run without requests and values.
 use Rattle.sl_area.specs.Places.{block_offset}
-use Rattle.sl_law.specs.LawfulArea.{HasVerified, IsAreaRead, IsBlockRead, IsLeaseRead, IsRightRead, LawfulArea, LawfulAreaWrite, LawfulLeaseRead, is_area_work, is_block_work, is_delta_record, leaders_read, open_block_work, record_offset}
-use Rattle.sl_leases.specs.Leases.{is_leader_of, spot_of_call}
+use Rattle.sl_run.specs.LawfulArea.{HasVerified, IsAreaRead, IsBlockRead, IsLeaseRead, IsRightRead, LawfulArea, LawfulAreaWrite, LawfulLeaseRead, is_area_work, is_block_work, is_delta_record, leaders_read, open_block_work, record_offset}
+use Rattle.sl_trace.specs.Leases.{is_leader_of, spot_of_call}
 use Rattle.sl_sector.specs.declared.sector.Leader.{Leader}
 use Rattle.sl_sector.specs.declared.sector.Rec.{Rec}
-use Rattle.sl_sessions.specs.Sessions.{is_active, joined_after}
-use Rattle.sl_sessions.specs.declared.session.Session.{Session}
+use Rattle.sl_trace.specs.Sessions.{is_active, joined_after}
+use Rattle.sl_trace.specs.declared.session.Session.{Session}
 use Rattle.sl_trace.specs.Traces.{Setting, Submitted, Trace, is_write, record_of}
 use Rattle.sl_trace.specs.declared.effects.Entry.{Entry}
 use Rattle.sl_trace.specs.declared.effects.LeaseStep.TheVariants.{ClearMode, FreeLeader, Phase1Read, Phase1Write, Phase2Read, Phase2Write, ReadArea, ReadBeforeFree, SetMode, TakeLeader}

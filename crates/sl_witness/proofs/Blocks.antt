@@ -1,13 +1,13 @@
 -- A search for the law of block writing, with the one reason that the run needs: the leader before is free, or its owner is over.
 use Rattle.sl_area.specs.Places.{area_blocks, leader_of}
-use Rattle.sl_law.specs.LawfulBlock.{BeginReason, Leader_before, LawfulBlock, LawfulBlockStep, LawfulBlockWrite, LawfulPhase1, LawfulPhase2, LawfulPhase2Read, ReadAfter}
-use Rattle.sl_leases.specs.Ballots.{ballot_blocks, moded_block, phase1_block, phase2_block, stop_of}
-use Rattle.sl_leases.specs.Leases.{Phase1_read, Phase1_write, Phase2_read, Phase2_write, block_written, blocks_given, freed, is_area_read, is_at, is_leader_of, last_blocks, lease_calls, lease_step, own_block, spot_of_call}
+use Rattle.sl_run.specs.LawfulBlock.{BeginReason, Leader_before, LawfulBlock, LawfulBlockStep, LawfulBlockWrite, LawfulPhase1, LawfulPhase2, LawfulPhase2Read, ReadAfter}
+use Rattle.sl_trace.specs.Ballots.{ballot_blocks, moded_block, phase1_block, phase2_block, stop_of}
+use Rattle.sl_trace.specs.Leases.{Phase1_read, Phase1_write, Phase2_read, Phase2_write, block_written, blocks_given, freed, is_area_read, is_at, is_leader_of, last_blocks, lease_calls, lease_step, own_block, spot_of_call}
 use Rattle.sl_sector.specs.declared.sector.Block.{Block}
 use Rattle.sl_sector.specs.declared.sector.Leader.{Leader}
-use Rattle.sl_sessions.specs.Sessions.{me}
-use Rattle.sl_sessions.specs.Watching.{counted_over}
-use Rattle.sl_sessions.specs.declared.session.Session.{Session}
+use Rattle.sl_trace.specs.Sessions.{me}
+use Rattle.sl_trace.specs.Watching.{counted_over}
+use Rattle.sl_trace.specs.declared.session.Session.{Session}
 use Rattle.sl_trace.specs.Traces.{Setting, Submitted, Trace, gave}
 use Rattle.sl_trace.specs.declared.effects.Entry.{Entry}
 use Rattle.sl_trace.specs.declared.effects.LeaseStep.TheVariants.{Phase1Write, Phase2Write}

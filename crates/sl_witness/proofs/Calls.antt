@@ -1,12 +1,12 @@
 -- A search for the law of calls: what is written has a spelling.
-use Rattle.sl_law.specs.LawfulCalls.{LawfulCalls, may_submit}
+use Rattle.sl_run.specs.LawfulCalls.{LawfulCalls, may_submit}
 use Rattle.sl_sector.specs.Records.{AreBytes, IsBlock, IsDelta, IsLeader, IsRecord}
 use Rattle.sl_sector.specs.declared.sector.Block.{Block}
 use Rattle.sl_sector.specs.declared.sector.DeltaRec.{DeltaRec}
 use Rattle.sl_sector.specs.declared.sector.Leader.{Leader}
 use Rattle.sl_sector.specs.declared.sector.Rec.TheVariants.{BlockIs, DeltaIs, LeaderIs, RequestIs, ValueIs}
 use Rattle.sl_sector.specs.declared.sector.Rec.{Rec}
-use Rattle.sl_sessions.specs.Sessions.{session_numbered, stage_of}
+use Rattle.sl_trace.specs.Sessions.{session_numbered, stage_of}
 use Rattle.sl_text.specs.Names.{is_name}
 use Rattle.sl_trace.specs.Traces.{Setting, Trace, record_of}
 use Rattle.sl_trace.specs.declared.effects.Call.{Call}

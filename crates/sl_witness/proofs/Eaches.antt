@@ -1,7 +1,7 @@
 -- Searches for what is said of each entry of a trace, of each call of an entry, of each session, and that a list is a trace.
-use Rattle.sl_law.specs.Saying.{EachCall, EachSession, cut_at}
-use Rattle.sl_sessions.specs.Sessions.{session_numbered, sessions}
-use Rattle.sl_sessions.specs.declared.session.Session.{Session}
+use Rattle.sl_run.specs.Saying.{EachCall, EachSession, cut_at}
+use Rattle.sl_trace.specs.Sessions.{session_numbered, sessions}
+use Rattle.sl_trace.specs.declared.session.Session.{Session}
 use Rattle.sl_trace.specs.Traces.{EachEntry, FollowsTrace, Setting, Submitted, Trace, is_expected, last_reading, new_call, next_call}
 use Rattle.sl_trace.specs.declared.effects.Call.{Call}
 use Rattle.sl_trace.specs.declared.effects.Entry.{Entry}

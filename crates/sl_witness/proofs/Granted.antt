@@ -8,17 +8,17 @@ use Rattle.sl_due.specs.DueInputs.{leave_holdings, on_exit, on_spawned, take_inp
 use Rattle.sl_due.specs.DueLease.{after_lease_answer, carry_lease, settle}
 use Rattle.sl_due.specs.DueRequests.{after_request_read, after_see_request, after_value_read, request_refusal}
 use Rattle.sl_due.specs.DueWake.{finish, finish_session, join_on_wake, on_wake, renew_on_wake, settle_on_wake, settlings}
-use Rattle.sl_leases.specs.Ballots.{instance_of, phase1_block, phase2_block, stop_of}
-use Rattle.sl_leases.specs.LeaseWork.{area_next, begin_next, lease_next, settle_next}
-use Rattle.sl_leases.specs.Leases.{known}
-use Rattle.sl_lvm.specs.Lvm.{begins, goes_on_with, lvm_turn}
-use Rattle.sl_lvm.specs.LvmLines.{lvm_forms}
+use Rattle.sl_trace.specs.Ballots.{instance_of, phase1_block, phase2_block, stop_of}
+use Rattle.sl_trace.specs.LeaseWork.{area_next, begin_next, lease_next, settle_next}
+use Rattle.sl_trace.specs.Leases.{known}
+use Rattle.sl_run.specs.Lvm.{begins, goes_on_with, lvm_turn}
+use Rattle.sl_run.specs.LvmLines.{lvm_forms}
 use Rattle.sl_report.specs.Reports.{count_event}
 use Rattle.sl_report.specs.ScheduleLines.{event_forms, header_forms, header_of, header_tests}
 use Rattle.sl_run.specs.Locks.{locks_after, told_effects}
 use Rattle.sl_sector.specs.Fields.{u32_at, u32_bytes, u64_at, u64_bytes}
 use Rattle.sl_sector.specs.Spelling.{block_rules, checked_part, decoded, delta_rules, field_bytes, fields_of, leader_rules, magic, request_rules, spelling, value_rules}
-use Rattle.sl_sessions.specs.Deltas.{next_after_deciding, next_after_first, next_after_verify, next_after_watch, next_in_joining, next_on_wake, next_renewal}
+use Rattle.sl_trace.specs.Deltas.{next_after_deciding, next_after_first, next_after_verify, next_after_watch, next_in_joining, next_on_wake, next_renewal}
 use Rattle.sl_text.specs.Names.{padded_text}
 use Rattle.sl_trace.specs.Commands.{forms}
 use Rattle.sl_trace.specs.EffectTexts.{reply_words}
@@ -27,18 +27,18 @@ use Rattle.sl_witness.proofs.Running.{cheap_is_digest, seek_run}
 use Rattle.sl_witness.proofs.Traces.{seek_each_daemon}
 use Rattle.std.specs.Fmt.{digits}
 use Rattle.sl_examples.specs.Cheap.{cheap_program}
-use Rattle.sl_law.specs.Lawful.{Lawful}
+use Rattle.sl_run.specs.Lawful.{Lawful}
 use Rattle.sl_report.specs.Replay.{due_run}
 use Rattle.sl_run.specs.Events.{event_tests, first_change, pass_tests}
 use Rattle.sl_run.specs.Quiet.{QuietStart}
 use Rattle.sl_run.specs.Runs.{EachDaemon, Happening}
 use Rattle.sl_run.specs.Safety.{LawfulRun, world_at}
 use Rattle.sl_run.specs.Worlds.{Daemon, Machine, World, initial_record, machine_at, machine_of_header}
-use Rattle.sl_sessions.specs.Sessions.{session_named}
+use Rattle.sl_trace.specs.Sessions.{session_named}
 use Rattle.sl_run.specs.Quiet.{before_command}
 use Rattle.sl_trace.specs.Traces.{next_job}
 use Rattle.sl_run.specs.Worlds.{reading_now}
-use Rattle.sl_sessions.specs.declared.session.Session.{Session}
+use Rattle.sl_trace.specs.declared.session.Session.{Session}
 use Rattle.sl_witness.proofs.Quietness.{Ends, seek_ends, seek_quiet, seek_start}
 use Rattle.sl_witness.proofs.Seeking.{found, seek_for, seek_same}
 use Rattle.sl_witness.specs.Quietly.{IsQuietlyGranted, QuietAcquiresAreShown, exclusive_events, exclusive_text, quiet_resource, shared_events, shared_text}

@@ -1,12 +1,12 @@
 -- A search for the law of leader writing, in a run in which none is freed.
-use Rattle.sl_law.specs.LawfulArea.{HasVerified, leaders_read}
-use Rattle.sl_law.specs.LawfulLeader.{HasWon, LawfulFreeLeader, LawfulLeader, LawfulLeaderWrite, LawfulTake}
-use Rattle.sl_leases.specs.Ballots.{owner_of, same_owner}
-use Rattle.sl_leases.specs.Leases.{Leader_taken, ended_ballots, freed, is_at, is_leader_of, leader_written, lease_calls, spot_of_call}
+use Rattle.sl_run.specs.LawfulArea.{HasVerified, leaders_read}
+use Rattle.sl_run.specs.LawfulLeader.{HasWon, LawfulFreeLeader, LawfulLeader, LawfulLeaderWrite, LawfulTake}
+use Rattle.sl_trace.specs.Ballots.{owner_of, same_owner}
+use Rattle.sl_trace.specs.Leases.{Leader_taken, ended_ballots, freed, is_at, is_leader_of, leader_written, lease_calls, spot_of_call}
 use Rattle.sl_sector.specs.declared.sector.Leader.{Leader}
 use Rattle.sl_sector.specs.declared.sector.Owner.{Owner}
-use Rattle.sl_sessions.specs.Sessions.{me}
-use Rattle.sl_sessions.specs.declared.session.Session.{Session}
+use Rattle.sl_trace.specs.Sessions.{me}
+use Rattle.sl_trace.specs.declared.session.Session.{Session}
 use Rattle.sl_trace.specs.Traces.{Setting, Submitted, Trace}
 use Rattle.sl_trace.specs.declared.effects.Entry.{Entry}
 use Rattle.sl_trace.specs.declared.effects.Spot.{Spot}

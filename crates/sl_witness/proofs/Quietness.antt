@@ -1,7 +1,7 @@
 -- Searches for what a quiet acquire is to have: at its start, and in each event.
-use Rattle.sl_leases.specs.Ballots.{in_instance, next_mbal}
-use Rattle.sl_leases.specs.Counts.{held_here, limit_met, may_act}
-use Rattle.sl_leases.specs.Leases.{is_leader_of, is_on, known, open_on, owed, spot_of}
+use Rattle.sl_trace.specs.Ballots.{in_instance, next_mbal}
+use Rattle.sl_trace.specs.Counts.{held_here, limit_met, may_act}
+use Rattle.sl_trace.specs.Leases.{is_leader_of, is_on, known, open_on, owed, spot_of}
 use Rattle.sl_plain.proofs.Lists.{got_inside}
 use Rattle.sl_run.specs.Events.{happens, machine_of}
 use Rattle.sl_run.specs.Quiet.{AnsweredInTime, QuietStart, QuietStep, StaysQuiet, before_command, job_calls, leader_there, request_there}
@@ -11,8 +11,8 @@ use Rattle.sl_run.specs.Worlds.{Course, Daemon, Machine, World, is_open, is_writ
 use Rattle.sl_run.specs.declared.event.Event.TheVariants.{Crash, Do, ExitOf, GiveCommand, Reset}
 use Rattle.sl_run.specs.declared.event.Event.{Event}
 use Rattle.sl_sector.specs.declared.sector.Block.{Block}
-use Rattle.sl_sessions.specs.Sessions.{is_active, session_named, session_numbered}
-use Rattle.sl_sessions.specs.declared.session.Session.{Session}
+use Rattle.sl_trace.specs.Sessions.{is_active, session_named, session_numbered}
+use Rattle.sl_trace.specs.declared.session.Session.{Session}
 use Rattle.sl_trace.specs.Traces.{Answered, Replied, Submitted, is_of_job, is_ok_answer, reply_to, submitted}
 use Rattle.sl_trace.specs.declared.command.Command.TheVariants.{Acquire}
 use Rattle.sl_trace.specs.declared.command.Command.{Command}

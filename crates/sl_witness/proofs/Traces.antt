@@ -1,18 +1,18 @@
 -- A search for all laws of a trace.
-use Rattle.sl_law.specs.Lawful.{Lawful, Orderly}
-use Rattle.sl_law.specs.LawfulArea.{LawfulArea}
-use Rattle.sl_law.specs.LawfulBlock.{LawfulBlock}
-use Rattle.sl_law.specs.LawfulCalls.{LawfulCalls}
-use Rattle.sl_law.specs.LawfulDelta.{LawfulDelta}
-use Rattle.sl_law.specs.LawfulEnd.{LawfulEnd}
-use Rattle.sl_law.specs.LawfulExit.{LawfulExit}
-use Rattle.sl_law.specs.LawfulGrant.{LawfulGrant}
-use Rattle.sl_law.specs.LawfulLeader.{LawfulLeader}
-use Rattle.sl_law.specs.LawfulModes.{LawfulModes}
-use Rattle.sl_law.specs.LawfulParting.{LawfulParting}
-use Rattle.sl_law.specs.LawfulRecovery.{LawfulRecovery}
-use Rattle.sl_law.specs.LawfulValue.{LawfulValue}
-use Rattle.sl_law.specs.LawfulWatchdog.{LawfulWatchdog}
+use Rattle.sl_run.specs.Lawful.{Lawful, Orderly}
+use Rattle.sl_run.specs.LawfulArea.{LawfulArea}
+use Rattle.sl_run.specs.LawfulBlock.{LawfulBlock}
+use Rattle.sl_run.specs.LawfulCalls.{LawfulCalls}
+use Rattle.sl_run.specs.LawfulDelta.{LawfulDelta}
+use Rattle.sl_run.specs.LawfulEnd.{LawfulEnd}
+use Rattle.sl_run.specs.LawfulExit.{LawfulExit}
+use Rattle.sl_run.specs.LawfulGrant.{LawfulGrant}
+use Rattle.sl_run.specs.LawfulLeader.{LawfulLeader}
+use Rattle.sl_run.specs.LawfulModes.{LawfulModes}
+use Rattle.sl_run.specs.LawfulParting.{LawfulParting}
+use Rattle.sl_run.specs.LawfulRecovery.{LawfulRecovery}
+use Rattle.sl_run.specs.LawfulValue.{LawfulValue}
+use Rattle.sl_run.specs.LawfulWatchdog.{LawfulWatchdog}
 use Rattle.sl_run.specs.Runs.{EachDaemon, daemons_of}
 use Rattle.sl_run.specs.Worlds.{World}
 use Rattle.sl_trace.specs.Traces.{FollowsTrace, Setting, Trace}

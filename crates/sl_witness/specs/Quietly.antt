@@ -7,7 +7,7 @@ use Rattle.sl_run.specs.Safety.{LawfulRun, world_at}
 use Rattle.sl_run.specs.Worlds.{Daemon, Machine, machine_at}
 use Rattle.sl_run.specs.declared.event.Event.TheVariants.{Do, GiveCommand}
 use Rattle.sl_run.specs.declared.event.Event.{Event}
-use Rattle.sl_law.specs.Lawful.{Lawful}
+use Rattle.sl_run.specs.Lawful.{Lawful}
 use Rattle.sl_trace.specs.Traces.{next_job, reply_to}
 use Rattle.sl_trace.specs.declared.command.ResourceArg.{ResourceArg}
 use Rattle.sl_trace.specs.declared.reply.Reply.TheVariants.{Granted}

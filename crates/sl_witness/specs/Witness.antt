@@ -3,7 +3,7 @@
 -- what is due. What is proved of lawful runs is proved of this one, so it is no empty talk.
 use Rattle.sl_examples.specs.Cheap.{cheap_language, cheap_program}
 use Rattle.sl_examples.specs.Rows.{owner_reset_then_taken_over}
-use Rattle.sl_law.specs.Lawful.{Lawful}
+use Rattle.sl_run.specs.Lawful.{Lawful}
 use Rattle.sl_report.specs.Replay.{due_run}
 use Rattle.sl_report.specs.Schedules.{Header_read, NumberedLine, event_lines_of, numbered_lines, read_header}
 use Rattle.sl_run.specs.Conflicts.{world_holdings}

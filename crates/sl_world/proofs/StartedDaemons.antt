@@ -7,7 +7,7 @@ use Rattle.sl_kept.specs.Kept.{KeptState, MachineState, change_machine_in, machi
 use Rattle.sl_kept.specs.Refusing.{refusal_in, tests_in}
 use Rattle.sl_kept.specs.Steps.{stepped_kept}
 use Rattle.sl_kept_law.proofs.Allowed.{open_test}
-use Rattle.sl_law.specs.Lawful.{IsSetting}
+use Rattle.sl_run.specs.Lawful.{IsSetting}
 use Rattle.sl_machine.specs.Keeping.{kept_state}
 use Rattle.sl_machine.specs.Machines.{machine_state}
 use Rattle.sl_machine.specs.declared.kept.Kept.{Kept}

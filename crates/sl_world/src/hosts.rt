@@ -4,7 +4,7 @@
 
 ghost use Rattle.sl_daemon.specs.Daemons.{begun_with, read_of};
 ghost use Rattle.sl_kept.specs.Sane.{ReadsCommands};
-ghost use Rattle.sl_law.specs.Lawful.{IsSetting};
+ghost use Rattle.sl_run.specs.Lawful.{IsSetting};
 ghost use Rattle.sl_run.specs.Headers.{IsHeader};
 ghost use Rattle.sl_world.specs.Hosting.{HostBegun, HostStepped, MayStepAt};
 ghost use Rattle.sl_world_law.specs.Standing.{HaveBegun, HasBegun};

@@ -3,7 +3,7 @@ use Rattle.sl_area.specs.Layouts.{Layout, layout_of}
 use Rattle.sl_area.specs.Places.{is_base}
 use Rattle.sl_daemon.specs.Daemons.{begun_with}
 use Rattle.sl_kept.specs.FirstKept.{given_to}
-use Rattle.sl_law.specs.Lawful.{IsGiven}
+use Rattle.sl_run.specs.Lawful.{IsGiven}
 use Rattle.sl_plain.proofs.Lists.{find_inside}
 use Rattle.sl_plain.proofs.Options.{mapped_value}
 use Rattle.sl_run.specs.Headers.{GoTogether, IsArea, IsHeader}

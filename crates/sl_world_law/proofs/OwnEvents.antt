@@ -10,7 +10,7 @@ use Rattle.sl_kept_law.proofs.Allowed.{allowed, machine_found}
 use Rattle.sl_kept_law.proofs.GivenInputs.{inputs_are_kept, own_effects_are_kept}
 use Rattle.sl_kept_law.proofs.Lookups.{machine_place, machine_shown}
 use Rattle.sl_kept_law.proofs.WholeEvents.{events_are_kept}
-use Rattle.sl_law.specs.Lawful.{IsSetting}
+use Rattle.sl_run.specs.Lawful.{IsSetting}
 use Rattle.sl_plain.proofs.Options.{mapped_value}
 use Rattle.sl_run.specs.Events.{event_tests, first_change, happens, input_of, machine_of, may_happen, needs_daemon, next_step, take_step}
 use Rattle.sl_run.specs.Headers.{IsHeader}

@@ -9,7 +9,7 @@ use Rattle.sl_kept.specs.Kept.{KeptState, MachineState, machine_in}
 use Rattle.sl_kept.specs.Refusing.{refusal_in}
 use Rattle.sl_kept.specs.Sane.{ReadsCommands, WorldStands}
 use Rattle.sl_kept.specs.Steps.{stepped_kept}
-use Rattle.sl_law.specs.Lawful.{IsSetting}
+use Rattle.sl_run.specs.Lawful.{IsSetting}
 use Rattle.sl_run.specs.Events.{happens, machine_of, may_happen, refusal_of}
 use Rattle.sl_run.specs.Headers.{IsHeader}
 use Rattle.sl_run.specs.Runs.{EachDaemon, HasSteps}

@@ -17,21 +17,21 @@ use Rattle.sl_due_law.specs.Causes.Makings.{By_answer, By_line, FromJob, MadeSoF
 use Rattle.sl_due_law.specs.Facts.Heard.{heard_by}
 use Rattle.sl_due_law.specs.Facts.Whole.{Whole}
 use Rattle.sl_due_law.specs.Holdings.Moments.{Known}
-use Rattle.sl_law.specs.Caused.{IsAccepted}
-use Rattle.sl_leases.specs.Jobs.{aim_of, aim_of_command, command_numbered, command_of, process_named}
-use Rattle.sl_leases.specs.LeaseWork.{lease_place}
-use Rattle.sl_leases.specs.Leases.{holdings_on, is_leader_of, known, lver_written, spot_of_call}
-use Rattle.sl_leases.specs.declared.lease.Aim.{Aim}
-use Rattle.sl_leases.specs.declared.lease.Aim.TheVariants.{Acquires}
-use Rattle.sl_leases.specs.declared.lease.LeaseNext.{LeaseNext}
-use Rattle.sl_leases.specs.declared.lease.LeaseNext.TheVariants.{AnswerJob, BecomeExclusive, BecomeShared, GrantJob, Nothing as No_lease, ReadFor, WriteBlock, WriteLeader}
+use Rattle.sl_run.specs.Caused.{IsAccepted}
+use Rattle.sl_trace.specs.Jobs.{aim_of, aim_of_command, command_numbered, command_of, process_named}
+use Rattle.sl_trace.specs.LeaseWork.{lease_place}
+use Rattle.sl_trace.specs.Leases.{holdings_on, is_leader_of, known, lver_written, spot_of_call}
+use Rattle.sl_trace.specs.declared.lease.Aim.{Aim}
+use Rattle.sl_trace.specs.declared.lease.Aim.TheVariants.{Acquires}
+use Rattle.sl_trace.specs.declared.lease.LeaseNext.{LeaseNext}
+use Rattle.sl_trace.specs.declared.lease.LeaseNext.TheVariants.{AnswerJob, BecomeExclusive, BecomeShared, GrantJob, Nothing as No_lease, ReadFor, WriteBlock, WriteLeader}
 use Rattle.sl_plain.proofs.Lists.{find_inside}
 use Rattle.sl_request.specs.Requests.{check_request}
 use Rattle.sl_sector.specs.Spelling.{request_in}
 use Rattle.sl_sector.specs.declared.sector.Leader.{Leader}
 use Rattle.sl_sector.specs.declared.sector.Rec.TheVariants.{BlockIs, LeaderIs}
 use Rattle.sl_sector.specs.declared.sector.Request.{Request as RequestRec}
-use Rattle.sl_sessions.specs.declared.session.Session.{Session}
+use Rattle.sl_trace.specs.declared.session.Session.{Session}
 use Rattle.sl_trace.specs.Traces.{Job, Submitted, is_shared, jobs, line_in, next_job}
 use Rattle.sl_trace.specs.declared.command.Command.{Command}
 use Rattle.sl_trace.specs.declared.command.Command.TheVariants.{Acquire, AddLockspace, Convert, GetLvb, HostStatus, InqLockspace, Release, ReleaseOrphan, RemLockspace, Request, RunProgram, SetKillpath, SetLvb, Status, TakeOver}

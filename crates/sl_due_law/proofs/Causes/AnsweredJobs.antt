@@ -8,13 +8,13 @@ use Rattle.sl_due_law.proofs.Holdings.LeaseCallers.{heard_answered, heard_call}
 use Rattle.sl_due_law.specs.Holdings.Moments.{Known}
 use Rattle.sl_due_law.proofs.Jobs.JobFactsGrow.{contains_right}
 use Rattle.sl_due_law.proofs.Jobs.JobsAreNumbered.{command_read}
-use Rattle.sl_law.specs.Caused.{AnswersCall, Answering, WithSpot, job_command}
-use Rattle.sl_law.specs.Saying.{IsAnsweredAt}
-use Rattle.sl_leases.specs.Jobs.{command_numbered, command_of, resource_named}
-use Rattle.sl_leases.specs.Leases.{spot_of}
+use Rattle.sl_run.specs.Caused.{AnswersCall, Answering, WithSpot, job_command}
+use Rattle.sl_run.specs.Saying.{IsAnsweredAt}
+use Rattle.sl_trace.specs.Jobs.{command_numbered, command_of, resource_named}
+use Rattle.sl_trace.specs.Leases.{spot_of}
 use Rattle.sl_plain.proofs.Lists.{find_inside}
 use Rattle.sl_plain.proofs.Numbers.{number_itself}
-use Rattle.sl_sessions.specs.declared.session.Session.{Session}
+use Rattle.sl_trace.specs.declared.session.Session.{Session}
 use Rattle.sl_trace.specs.Traces.{Job, Replied, Setting, Submitted, Trace, is_running, job_numbered, job_of, jobs, no_effects, reply_in, reply_to, submitted}
 use Rattle.sl_trace.specs.declared.command.Command.{Command}
 use Rattle.sl_trace.specs.declared.command.ResourceArg.{ResourceArg}

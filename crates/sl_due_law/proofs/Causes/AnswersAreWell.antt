@@ -25,7 +25,7 @@ use Rattle.sl_due_law.specs.Causes.LineCauses.{at_its_line}
 use Rattle.sl_due_law.specs.Causes.Promises.{TracesAreCaused}
 use Rattle.sl_due_law.specs.Holdings.Moments.{Known}
 use Rattle.sl_due_law.specs.Whole.Kept.{Holds, Kept}
-use Rattle.sl_law.specs.Caused.{AnswersWell, CausedBy}
+use Rattle.sl_run.specs.Caused.{AnswersWell, CausedBy}
 use Rattle.sl_plain.proofs.Lists.{contains_first, contains_none, head_is}
 use Rattle.sl_plain.proofs.Numbers.{number_itself}
 use Rattle.sl_trace.specs.Traces.{FollowsTrace, Job, Setting, Trace, job_numbered, next_job}

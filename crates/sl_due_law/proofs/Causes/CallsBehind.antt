@@ -7,13 +7,13 @@ use Rattle.sl_due_law.specs.Causes.CauseFacts.{CauseFacts, StandsBehind, StandsB
 use Rattle.sl_due_law.specs.Causes.Makings.{AskedBy, LookedSoFar, MadeFor, MadeSoFar, SetBy}
 use Rattle.sl_due_law.specs.Facts.Heard.{heard_by}
 use Rattle.sl_due_law.specs.Whole.Kept.{Holds}
-use Rattle.sl_leases.specs.Jobs.{command_numbered}
-use Rattle.sl_leases.specs.Leases.{value_of_record}
+use Rattle.sl_trace.specs.Jobs.{command_numbered}
+use Rattle.sl_trace.specs.Leases.{value_of_record}
 use Rattle.sl_plain.proofs.Lists.{contains_map, got_inside, in_map, kept}
 use Rattle.sl_plain.proofs.Numbers.{number_itself}
 use Rattle.sl_plain.proofs.Options.{some_of, then_value}
-use Rattle.sl_sessions.specs.Sessions.{calls_of, is_call_of, is_join_call, sessions}
-use Rattle.sl_sessions.specs.declared.session.Session.{Session}
+use Rattle.sl_trace.specs.Sessions.{calls_of, is_call_of, is_join_call, sessions}
+use Rattle.sl_trace.specs.declared.session.Session.{Session}
 use Rattle.sl_trace.specs.Traces.{Answered, Setting, Submitted, Trace, answer_of, answered_in, bytes_given, gave, job_of, mark, new_call, record_of, submitted}
 use Rattle.sl_trace.specs.declared.command.Command.{Command}
 use Rattle.sl_trace.specs.declared.command.Command.TheVariants.{Request, SetLvb}

@@ -10,10 +10,10 @@ use Rattle.sl_due_law.proofs.Jobs.JobsAreNumbered.{found_after, numbered_stays}
 use Rattle.sl_due_law.proofs.Whole.TracesHold.{traces_hold}
 use Rattle.sl_due_law.specs.Causes.CauseFacts.{CauseFacts, EndedAsAsked, HasEnded}
 use Rattle.sl_due_law.specs.Whole.Kept.{Holds}
-use Rattle.sl_law.specs.Lawful.{IsSetting}
+use Rattle.sl_run.specs.Lawful.{IsSetting}
 use Rattle.sl_plain.proofs.Lists.{contains_none, in_map}
-use Rattle.sl_sessions.specs.Sessions.{given_session}
-use Rattle.sl_sessions.specs.declared.session.Session.{Session}
+use Rattle.sl_trace.specs.Sessions.{given_session}
+use Rattle.sl_trace.specs.declared.session.Session.{Session}
 use Rattle.sl_trace.specs.Traces.{FollowsTrace, Job, Setting, Trace, entry_at, is_running, job_in, job_numbered, jobs, line_in, next_job, no_process}
 use Rattle.sl_trace.specs.declared.command.Command.{Command}
 use Rattle.sl_trace.specs.declared.command.Command.TheVariants.{Release, ReleaseOrphan}

@@ -38,28 +38,28 @@ use Rattle.sl_due_law.proofs.Jobs.RepliesComeAfter.{IsLateLease, joining_late, m
 use Rattle.sl_due_law.proofs.Jobs.SessionsArePresent.{present_is, session_has}
 use Rattle.sl_due_law.proofs.Jobs.SessionsStand.{recovery_joined}
 use Rattle.sl_due_law.proofs.Jobs.CallsHaveFacts.{sessions_bare}
-use Rattle.sl_leases.specs.Jobs.{aim_of, is_job_of_process, command_numbered, job_of_start, resource_named}
-use Rattle.sl_leases.specs.LeaseWork.{LeasePlace, convert_next, lease_place, release_next, settle_next}
-use Rattle.sl_leases.specs.Leases.{LeaseKnown, known, lease_step, lver_written, spot_of, spot_of_call}
-use Rattle.sl_leases.specs.declared.lease.Aim.{Aim}
-use Rattle.sl_leases.specs.declared.lease.LeaseNext.TheVariants.{AnswerJob, BecomeExclusive, BecomeShared, GrantJob, Nothing as No_lease, ReadFor, WriteBlock, WriteLeader}
-use Rattle.sl_leases.specs.declared.lease.LeaseNext.{LeaseNext}
+use Rattle.sl_trace.specs.Jobs.{aim_of, is_job_of_process, command_numbered, job_of_start, resource_named}
+use Rattle.sl_trace.specs.LeaseWork.{LeasePlace, convert_next, lease_place, release_next, settle_next}
+use Rattle.sl_trace.specs.Leases.{LeaseKnown, known, lease_step, lver_written, spot_of, spot_of_call}
+use Rattle.sl_trace.specs.declared.lease.Aim.{Aim}
+use Rattle.sl_trace.specs.declared.lease.LeaseNext.TheVariants.{AnswerJob, BecomeExclusive, BecomeShared, GrantJob, Nothing as No_lease, ReadFor, WriteBlock, WriteLeader}
+use Rattle.sl_trace.specs.declared.lease.LeaseNext.{LeaseNext}
 use Rattle.sl_due_law.proofs.Jobs.JobFactsGrow.{contains_left}
 use Rattle.sl_due_law.proofs.Jobs.JobsAreNumbered.{line_is, next_before}
-use Rattle.sl_law.specs.Caused.{CausedBy}
+use Rattle.sl_run.specs.Caused.{CausedBy}
 use Rattle.sl_trace.specs.declared.effects.Effects.{Effects}
 use Rattle.sl_plain.proofs.Lists.{contains_none, got_inside}
 use Rattle.sl_sector.specs.Bitmaps.{no_bits}
 use Rattle.sl_sector.specs.declared.sector.DeltaState.TheVariants.{Free, Live}
 use Rattle.sl_sector.specs.declared.sector.Rec.TheVariants.{DeltaIs}
 use Rattle.sl_sector.specs.declared.sector.DeltaRec.{DeltaRec}
-use Rattle.sl_sessions.specs.Deltas.{DeltaLease, delta_record, is_renewal_due, own_offset, delta_known, delta_of_session, next_after_free, next_after_renewal, next_free, next_in_joining, next_on_wake, next_renewal}
-use Rattle.sl_sessions.specs.Sessions.{is_joined, is_present, renewed_by, begun_in, calls_of, generation_of, joining_session, last_renewal, last_seq, present_sessions, recovery_of, sessions}
-use Rattle.sl_sessions.specs.declared.delta.DeltaNext.TheVariants.{MoveConnection, Nothing, WriteFree, WriteRenewal}
-use Rattle.sl_sessions.specs.declared.delta.DeltaKnown.{DeltaKnown}
-use Rattle.sl_sessions.specs.declared.delta.DeltaNext.{DeltaNext}
-use Rattle.sl_sessions.specs.declared.session.Begun.{Begun}
-use Rattle.sl_sessions.specs.declared.session.Session.{Session}
+use Rattle.sl_trace.specs.Deltas.{DeltaLease, delta_record, is_renewal_due, own_offset, delta_known, delta_of_session, next_after_free, next_after_renewal, next_free, next_in_joining, next_on_wake, next_renewal}
+use Rattle.sl_trace.specs.Sessions.{is_joined, is_present, renewed_by, begun_in, calls_of, generation_of, joining_session, last_renewal, last_seq, present_sessions, recovery_of, sessions}
+use Rattle.sl_trace.specs.declared.delta.DeltaNext.TheVariants.{MoveConnection, Nothing, WriteFree, WriteRenewal}
+use Rattle.sl_trace.specs.declared.delta.DeltaKnown.{DeltaKnown}
+use Rattle.sl_trace.specs.declared.delta.DeltaNext.{DeltaNext}
+use Rattle.sl_trace.specs.declared.session.Begun.{Begun}
+use Rattle.sl_trace.specs.declared.session.Session.{Session}
 use Rattle.sl_due_law.specs.Facts.Whole.{WholeTrace}
 use Rattle.sl_due_law.specs.Facts.Heard.{heard_by}
 use Rattle.sl_due_law.specs.Facts.JobFacts.{FitsCommand}

@@ -14,8 +14,8 @@ use Rattle.sl_due_law.specs.Causes.CauseFacts.{CauseFacts, ChildFacts, HoldsAsAs
 use Rattle.sl_due_law.specs.Causes.Makings.{By_answer, By_line, FromJob, GivenTo, MadeFor, MadeSoFar, Says, StartedFor}
 use Rattle.sl_due_law.specs.Facts.Heard.{heard_by}
 use Rattle.sl_due_law.specs.Whole.Kept.{Holds}
-use Rattle.sl_law.specs.LawfulEnd.{Converted, EndReason, Exited, Given_up, LawfulEnding, Not_started, Taken_over, gives_up, takes_over}
-use Rattle.sl_leases.specs.Jobs.{child_of_job, command_numbered, command_of, process_named}
+use Rattle.sl_run.specs.LawfulEnd.{Converted, EndReason, Exited, Given_up, LawfulEnding, Not_started, Taken_over, gives_up, takes_over}
+use Rattle.sl_trace.specs.Jobs.{child_of_job, command_numbered, command_of, process_named}
 use Rattle.sl_plain.proofs.Lists.{any_found, contains_first, contains_none, find_fails, find_inside, head_is, in_map, kept_inside}
 use Rattle.sl_plain.proofs.Numbers.{number_itself}
 use Rattle.sl_plain.proofs.Options.{some_of, then_value}

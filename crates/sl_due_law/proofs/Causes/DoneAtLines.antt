@@ -28,12 +28,12 @@ use Rattle.sl_due_law.proofs.Jobs.SessionsArePresent.{present_is}
 use Rattle.sl_due_law.specs.Causes.LineCauses.{DoneAtLines, IsBeforeInput, at_its_line}
 use Rattle.sl_due_law.specs.Facts.Whole.{WholeTrace}
 use Rattle.sl_due_law.specs.Holdings.DecisionGrounds.{GiveUpGrounds, HasGrounds, Releases}
-use Rattle.sl_law.specs.Caused.{Answering, CausedBy, IsDoneFor, IsReleased, after_entry}
-use Rattle.sl_leases.specs.Jobs.{lockspace_named, resource_named}
-use Rattle.sl_leases.specs.Leases.{holdings_on, known, spot_of}
+use Rattle.sl_run.specs.Caused.{Answering, CausedBy, IsDoneFor, IsReleased, after_entry}
+use Rattle.sl_trace.specs.Jobs.{lockspace_named, resource_named}
+use Rattle.sl_trace.specs.Leases.{holdings_on, known, spot_of}
 use Rattle.sl_plain.proofs.Lists.{find_inside, kept_inside}
-use Rattle.sl_sessions.specs.Sessions.{holdings_of, is_joined, leaving_job, present_sessions, recovery_of, sessions}
-use Rattle.sl_sessions.specs.declared.session.Session.{Session}
+use Rattle.sl_trace.specs.Sessions.{holdings_of, is_joined, leaving_job, present_sessions, recovery_of, sessions}
+use Rattle.sl_trace.specs.declared.session.Session.{Session}
 use Rattle.sl_trace.specs.Traces.{Job, Setting, Trace, end_of, entry_at, holdings, is_before_input, is_ended_by, job_numbered, next_job, no_process, same_place, spot_of_grant}
 use Rattle.sl_trace.specs.declared.command.Command.{Command}
 use Rattle.sl_trace.specs.declared.command.Command.TheVariants.{Acquire, Release, ReleaseOrphan, RunProgram, TakeOver}

@@ -18,13 +18,13 @@ use Rattle.sl_due.specs.declared.decision.Decision.TheVariants.{ConvertsTo, Gets
 use Rattle.sl_due.specs.declared.decision.Decision.{Decision}
 use Rattle.sl_due_law.proofs.Jobs.JobsAreNumbered.{next_before}
 use Rattle.sl_due_law.proofs.Jobs.SessionsArePresent.{present_is}
-use Rattle.sl_law.specs.Caused.{Answering, CausedBy, GrantsTo, IsGrantedFor, before_entry, the_session}
-use Rattle.sl_leases.specs.Jobs.{lockspace_named}
-use Rattle.sl_leases.specs.Counts.{holds_already}
-use Rattle.sl_leases.specs.Leases.{holdings_on, known, orphan_on, spot_of}
+use Rattle.sl_run.specs.Caused.{Answering, CausedBy, GrantsTo, IsGrantedFor, before_entry, the_session}
+use Rattle.sl_trace.specs.Jobs.{lockspace_named}
+use Rattle.sl_trace.specs.Counts.{holds_already}
+use Rattle.sl_trace.specs.Leases.{holdings_on, known, orphan_on, spot_of}
 use Rattle.sl_plain.proofs.Lists.{contains_first, find_inside}
-use Rattle.sl_sessions.specs.Sessions.{is_joined, leaving_job, present_sessions, recovery_of, session_named, sessions}
-use Rattle.sl_sessions.specs.declared.session.Session.{Session}
+use Rattle.sl_trace.specs.Sessions.{is_joined, leaving_job, present_sessions, recovery_of, session_named, sessions}
+use Rattle.sl_trace.specs.declared.session.Session.{Session}
 use Rattle.sl_trace.specs.Traces.{Job, Setting, Trace, end_of, holdings, is_orphan, is_shared, same_place, is_before_input, job_numbered, next_job, spot_of_grant}
 use Rattle.sl_trace.specs.declared.command.Command.TheVariants.{Acquire, RunProgram, TakeOver}
 use Rattle.sl_trace.specs.declared.command.Command.{Command}
@@ -47,7 +47,7 @@ use Rattle.std.specs.Option.{option_map_or}
 use Rattle.std.specs.Prelude.{Bool, Contains, Err, IsTrue, List, None, Ok, Option, Result, Some, [], bytes_eq, false, filter, is_none, is_some, length, option_and_then, option_map, true, ℕ, ◌++◌, ◌==◌, ◌∷◌, ◌≡◌, ◌⊎◌}
 use Rattle.sl_due_law.proofs.Causes.LeavingsRefuse.{Refused, Says, ending, first_of, joined_past, line_reads, refusals}
 use Rattle.sl_due_law.proofs.Holdings.PlainPlaces.{one_place}
-use Rattle.sl_leases.specs.Jobs.{wants_shared}
+use Rattle.sl_trace.specs.Jobs.{wants_shared}
 use Rattle.sl_due_law.proofs.Causes.AnsweredJobs.{with_command}
 use Rattle.sl_due_law.proofs.Causes.Leases.GrantCauses.{held_early, held_past}
 use Rattle.sl_due_law.specs.Holdings.DecisionGrounds.{AsksLease, HasGrounds, IsReady, SharesGrounds, TakeOverGrounds}

@@ -15,17 +15,17 @@ use Rattle.sl_due_law.proofs.Holdings.PlainPlaces.{text_is}
 use Rattle.sl_due_law.proofs.Jobs.JobsAreNumbered.{below, jobs_before}
 use Rattle.sl_due_law.proofs.Jobs.SessionsArePresent.{present_inside}
 use Rattle.sl_due_law.proofs.Parts.CallsGrow.{any_more}
-use Rattle.sl_leases.specs.Counts.{stopper_of}
-use Rattle.sl_leases.specs.Jobs.{jobs_of_session}
+use Rattle.sl_trace.specs.Counts.{stopper_of}
+use Rattle.sl_trace.specs.Jobs.{jobs_of_session}
 use Rattle.sl_plain.proofs.Lists.{contains_none, find_inside, kept_inside}
 use Rattle.sl_sector.specs.Bitmaps.{no_bits}
 use Rattle.sl_sector.specs.declared.sector.DeltaState.TheVariants.{Free}
-use Rattle.sl_sessions.specs.Deltas.{delta_known, delta_of_session, delta_record, next_free}
-use Rattle.sl_sessions.specs.declared.delta.DeltaKnown.{DeltaKnown}
-use Rattle.sl_sessions.specs.declared.delta.DeltaNext.TheVariants.{Nothing, WriteFree}
-use Rattle.sl_sessions.specs.declared.delta.DeltaNext.{DeltaNext}
-use Rattle.sl_sessions.specs.Sessions.{has_open_write, holders_of, holdings_of, is_joined, last_renewal, open_calls_of, present_sessions, recovery_of, refused_after, session_of_job, sessions}
-use Rattle.sl_sessions.specs.declared.session.Session.{Session}
+use Rattle.sl_trace.specs.Deltas.{delta_known, delta_of_session, delta_record, next_free}
+use Rattle.sl_trace.specs.declared.delta.DeltaKnown.{DeltaKnown}
+use Rattle.sl_trace.specs.declared.delta.DeltaNext.TheVariants.{Nothing, WriteFree}
+use Rattle.sl_trace.specs.declared.delta.DeltaNext.{DeltaNext}
+use Rattle.sl_trace.specs.Sessions.{has_open_write, holders_of, holdings_of, is_joined, last_renewal, open_calls_of, present_sessions, recovery_of, refused_after, session_of_job, sessions}
+use Rattle.sl_trace.specs.declared.session.Session.{Session}
 use Rattle.sl_due_law.specs.Facts.Whole.{WholeTrace}
 use Rattle.sl_trace.specs.Connections.{is_registered, unregisters}
 use Rattle.sl_trace.specs.Traces.{Job, Setting, Trace, is_before_input, is_running, jobs, next_child, next_job, running_jobs, waiting_call}

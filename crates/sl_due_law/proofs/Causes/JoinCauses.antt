@@ -26,8 +26,8 @@ use Rattle.sl_due_law.specs.Causes.CauseFacts.{CauseFacts}
 use Rattle.sl_due_law.specs.Causes.CausedSoFar.{IsCarried, IsConcluded, StaysCaused, answering}
 use Rattle.sl_due_law.specs.Facts.Whole.{WholeTrace}
 use Rattle.sl_due_law.specs.Holdings.Moments.{Known}
-use Rattle.sl_law.specs.Caused.{Answering, CausedBy, JoinRead}
-use Rattle.sl_leases.specs.Leases.{lease_step}
+use Rattle.sl_run.specs.Caused.{Answering, CausedBy, JoinRead}
+use Rattle.sl_trace.specs.Leases.{lease_step}
 use Rattle.sl_plain.proofs.Lists.{contains_cases, contains_none, find_fails, find_inside, got_inside, kept, kept_inside}
 use Rattle.sl_plain.proofs.Numbers.{number_itself}
 use Rattle.sl_sector.specs.Bitmaps.{no_bits}
@@ -35,12 +35,12 @@ use Rattle.sl_sector.specs.Spelling.{delta_in}
 use Rattle.sl_sector.specs.declared.sector.DeltaRec.{DeltaRec}
 use Rattle.sl_sector.specs.declared.sector.DeltaState.TheVariants.{Claimed, Live}
 use Rattle.sl_sector.specs.declared.sector.Rec.TheVariants.{DeltaIs}
-use Rattle.sl_sessions.specs.Deltas.{DeltaLease, claim_of, claim_on, delta_of_session, delta_record, first_bytes, id_held, id_lost, is_watched_out, next_after_deciding, next_after_first, next_after_verify, next_after_watch, next_in_joining, version_in, version_of, watched, where_watched}
-use Rattle.sl_sessions.specs.Sessions.{calls_of, delta_of_record, delta_written, generation_in, generation_of, given_number, is_call_of, is_join_call, join_call, joined_after, last_delta, same_join_step, session_numbered, session_of_job, sessions}
-use Rattle.sl_sessions.specs.Watching.{is_free_state}
-use Rattle.sl_sessions.specs.declared.delta.DeltaNext.{DeltaNext}
-use Rattle.sl_sessions.specs.declared.delta.DeltaNext.TheVariants.{Disconnect, EndLeaving, Join, MoveConnection, Nothing, ReadOwn, RefuseJoin, RegisterAndRead, WriteClaim, WriteFirst, WriteFree, WriteRenewal}
-use Rattle.sl_sessions.specs.declared.session.Session.{Session}
+use Rattle.sl_trace.specs.Deltas.{DeltaLease, claim_of, claim_on, delta_of_session, delta_record, first_bytes, id_held, id_lost, is_watched_out, next_after_deciding, next_after_first, next_after_verify, next_after_watch, next_in_joining, version_in, version_of, watched, where_watched}
+use Rattle.sl_trace.specs.Sessions.{calls_of, delta_of_record, delta_written, generation_in, generation_of, given_number, is_call_of, is_join_call, join_call, joined_after, last_delta, same_join_step, session_numbered, session_of_job, sessions}
+use Rattle.sl_trace.specs.Watching.{is_free_state}
+use Rattle.sl_trace.specs.declared.delta.DeltaNext.{DeltaNext}
+use Rattle.sl_trace.specs.declared.delta.DeltaNext.TheVariants.{Disconnect, EndLeaving, Join, MoveConnection, Nothing, ReadOwn, RefuseJoin, RegisterAndRead, WriteClaim, WriteFirst, WriteFree, WriteRenewal}
+use Rattle.sl_trace.specs.declared.session.Session.{Session}
 use Rattle.sl_trace.specs.Traces.{Answered, Job, Setting, Submitted, Trace, answer_of, answered_in, bytes_given, call_numbered, gave, is_answer_for, is_ok_answer, is_running, is_write, job_numbered, job_of, record_of, submitted}
 use Rattle.sl_trace.specs.declared.effects.Call.{Call}
 use Rattle.sl_trace.specs.declared.effects.Effects.{Effects}

@@ -26,20 +26,20 @@ use Rattle.sl_due_law.specs.Causes.CausedSoFar.{IsLater, StaysCaused, answering}
 use Rattle.sl_due_law.specs.Facts.JobFacts.{FitsCommand}
 use Rattle.sl_due_law.specs.Facts.Whole.{Whole, WholeTrace}
 use Rattle.sl_due_law.specs.Holdings.Moments.{Known}
-use Rattle.sl_law.specs.Caused.{Answering, AnswersCall, AnswersWrite, CausedBy, IsDoneFor, IsReleased, before_entry}
-use Rattle.sl_law.specs.LawfulEnd.{Converted, EndReason, Exited, Given_up, Not_started, Taken_over}
-use Rattle.sl_leases.specs.Jobs.{aim_of, aim_of_command, command_numbered, command_of, job_of_start, wanted_mode}
-use Rattle.sl_leases.specs.LeaseWork.{lease_place}
-use Rattle.sl_leases.specs.Leases.{Leader_freed, Mode_cleared, StepKind, holdings_on, is_at, kind_of_step, known, lease_step, lver_written, same_kind, spot_of, spot_of_call, value_of_record, value_written}
-use Rattle.sl_leases.specs.declared.lease.Aim.{Aim}
-use Rattle.sl_leases.specs.declared.lease.Aim.TheVariants.{Acquires, Converts, Releases, Settles}
-use Rattle.sl_leases.specs.declared.lease.LeaseNext.TheVariants.{AnswerJob}
+use Rattle.sl_run.specs.Caused.{Answering, AnswersCall, AnswersWrite, CausedBy, IsDoneFor, IsReleased, before_entry}
+use Rattle.sl_run.specs.LawfulEnd.{Converted, EndReason, Exited, Given_up, Not_started, Taken_over}
+use Rattle.sl_trace.specs.Jobs.{aim_of, aim_of_command, command_numbered, command_of, job_of_start, wanted_mode}
+use Rattle.sl_trace.specs.LeaseWork.{lease_place}
+use Rattle.sl_trace.specs.Leases.{Leader_freed, Mode_cleared, StepKind, holdings_on, is_at, kind_of_step, known, lease_step, lver_written, same_kind, spot_of, spot_of_call, value_of_record, value_written}
+use Rattle.sl_trace.specs.declared.lease.Aim.{Aim}
+use Rattle.sl_trace.specs.declared.lease.Aim.TheVariants.{Acquires, Converts, Releases, Settles}
+use Rattle.sl_trace.specs.declared.lease.LeaseNext.TheVariants.{AnswerJob}
 use Rattle.sl_plain.proofs.Lists.{any_found, contains_none, find_inside, got_inside, kept}
 use Rattle.sl_plain.proofs.Numbers.{number_itself}
 use Rattle.sl_plain.proofs.Options.{some_of, then_value}
 use Rattle.sl_sector.specs.declared.sector.ValueRec.{ValueRec}
-use Rattle.sl_sessions.specs.Sessions.{holdings_of, is_joined, session_numbered, sessions}
-use Rattle.sl_sessions.specs.declared.session.Session.{Session}
+use Rattle.sl_trace.specs.Sessions.{holdings_of, is_joined, session_numbered, sessions}
+use Rattle.sl_trace.specs.declared.session.Session.{Session}
 use Rattle.sl_trace.specs.Traces.{Child, Job, Submitted, child_numbered, entry_at, holdings, is_before_input, is_ended_by, is_expected, is_running, is_shared, is_starting, job_numbered, job_of, line_in, no_process, record_of, same_place, submitted}
 use Rattle.sl_trace.specs.declared.command.Command.{Command}
 use Rattle.sl_trace.specs.declared.command.Command.TheVariants.{Acquire, AddLockspace, Convert, GetLvb, HostStatus, InqLockspace, Release, ReleaseOrphan, RemLockspace, Request, RunProgram, SetKillpath, SetLvb, Status, TakeOver}

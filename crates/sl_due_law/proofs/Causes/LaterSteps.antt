@@ -5,12 +5,12 @@ use Rattle.sl_area.specs.Layouts.{Layout}
 use Rattle.sl_area.specs.Places.{sector_of}
 use Rattle.sl_due_law.proofs.Jobs.JobFactsGrow.{contains_left, contains_right}
 use Rattle.sl_due_law.proofs.Jobs.SessionsStand.{running_before}
-use Rattle.sl_leases.specs.Leases.{is_on, lease_step}
+use Rattle.sl_trace.specs.Leases.{is_on, lease_step}
 use Rattle.sl_due_law.proofs.Parts.CallsGrow.{mine_more, others_stay}
 use Rattle.sl_sector.specs.declared.sector.DeltaRec.{DeltaRec}
-use Rattle.sl_sessions.specs.Sessions.{calls_of, delta_of_record, generation_in, generation_of, given_number, is_call_of, is_survey_purpose, last_delta, sessions}
-use Rattle.sl_sessions.specs.Watching.{evidence, evidence_in, look_of, sightings}
-use Rattle.sl_sessions.specs.declared.sighting.Sighting.{Sighting}
+use Rattle.sl_trace.specs.Sessions.{calls_of, delta_of_record, generation_in, generation_of, given_number, is_call_of, is_survey_purpose, last_delta, sessions}
+use Rattle.sl_trace.specs.Watching.{evidence, evidence_in, look_of, sightings}
+use Rattle.sl_trace.specs.declared.sighting.Sighting.{Sighting}
 use Rattle.sl_due_law.specs.Facts.Heard.{heard_by}
 use Rattle.sl_due_law.specs.Facts.Whole.{WholeTrace}
 use Rattle.sl_words.proofs.CaseLaws.{false_is_true, is_false, not_both, true_or_false}
@@ -22,7 +22,7 @@ use Rattle.sl_due.specs.Steps.{Step, with_effects, add_call_of, add_end, add_gra
 use Rattle.sl_due_law.proofs.Jobs.CallsStay.{IsLate, calls_stay}
 use Rattle.sl_due_law.proofs.Jobs.EffectsAreAllowed.{Allows}
 use Rattle.sl_plain.proofs.Numbers.{number_itself}
-use Rattle.sl_sessions.specs.declared.session.Session.{Session}
+use Rattle.sl_trace.specs.declared.session.Session.{Session}
 use Rattle.sl_trace.proofs.TraceFacts.{submitted-push}
 use Rattle.sl_trace.specs.Traces.{Answered, Replied, Setting, Submitted, Trace, reply_to, bytes_given, is_running, new_call, next_call, record_of, submitted}
 use Rattle.sl_trace.specs.declared.effects.Call.{Call}

@@ -26,16 +26,16 @@ use Rattle.sl_due.specs.declared.decision.Decision.{Decision}
 use Rattle.sl_due_law.proofs.Jobs.DecisionsFit.{DecisionFits, decisions_fit}
 use Rattle.sl_due_law.proofs.Jobs.JobsAreNumbered.{next_before}
 use Rattle.sl_due_law.proofs.Jobs.SessionsArePresent.{present_is}
-use Rattle.sl_law.specs.Caused.{Answering, CausedBy, after_entry, before_entry}
-use Rattle.sl_leases.specs.Ballots.{moded_block}
-use Rattle.sl_leases.specs.Jobs.{is_command_that, jobs_of_session, lockspace_named}
-use Rattle.sl_leases.specs.LeaseWork.{LeasePlace, lease_place, release_next}
-use Rattle.sl_leases.specs.Leases.{LeaseKnown, holdings_on, known, spot_of}
-use Rattle.sl_leases.specs.declared.lease.LeaseNext.TheVariants.{Nothing, WriteBlock}
+use Rattle.sl_run.specs.Caused.{Answering, CausedBy, after_entry, before_entry}
+use Rattle.sl_trace.specs.Ballots.{moded_block}
+use Rattle.sl_trace.specs.Jobs.{is_command_that, jobs_of_session, lockspace_named}
+use Rattle.sl_trace.specs.LeaseWork.{LeasePlace, lease_place, release_next}
+use Rattle.sl_trace.specs.Leases.{LeaseKnown, holdings_on, known, spot_of}
+use Rattle.sl_trace.specs.declared.lease.LeaseNext.TheVariants.{Nothing, WriteBlock}
 use Rattle.sl_plain.proofs.Lists.{contains_first, contains_more, find_inside, kept_inside}
 use Rattle.sl_sector.specs.declared.sector.Block.{Block}
-use Rattle.sl_sessions.specs.Sessions.{holders_of, is_active, is_joined, joined_after, last_renewal, leaves, leaving_in, leaving_job, present_sessions, recovery_of, removed_after, renewing, sessions}
-use Rattle.sl_sessions.specs.declared.session.Session.{Session}
+use Rattle.sl_trace.specs.Sessions.{holders_of, is_active, is_joined, joined_after, last_renewal, leaves, leaving_in, leaving_job, present_sessions, recovery_of, removed_after, renewing, sessions}
+use Rattle.sl_trace.specs.declared.session.Session.{Session}
 use Rattle.sl_due_law.specs.Facts.Whole.{WholeTrace}
 use Rattle.sl_trace.specs.Traces.{Job, Setting, Trace, end_of, is_before_input, is_running, job_numbered, jobs, line_in, next_job, running_jobs, spot_of_grant}
 use Rattle.sl_trace.specs.declared.command.Command.TheVariants.{Acquire, RunProgram, TakeOver}

@@ -8,12 +8,12 @@ use Rattle.sl_due.specs.Steps.{seen}
 use Rattle.sl_due.specs.declared.decision.Decision.{Decision}
 use Rattle.sl_due_law.proofs.Holdings.PlainPlaces.{text_is}
 use Rattle.sl_due_law.proofs.Jobs.SessionsArePresent.{present_is}
-use Rattle.sl_law.specs.Caused.{Answering, CausedBy, after_entry, before_entry, the_session}
-use Rattle.sl_leases.specs.Jobs.{lockspace_named}
+use Rattle.sl_run.specs.Caused.{Answering, CausedBy, after_entry, before_entry, the_session}
+use Rattle.sl_trace.specs.Jobs.{lockspace_named}
 use Rattle.sl_plain.proofs.Lists.{find_inside}
 use Rattle.sl_plain.proofs.Options.{then_value}
-use Rattle.sl_sessions.specs.Sessions.{is_active, is_joined, last_renewal, present_sessions, session_named, sessions}
-use Rattle.sl_sessions.specs.declared.session.Session.{Session}
+use Rattle.sl_trace.specs.Sessions.{is_active, is_joined, last_renewal, present_sessions, session_named, sessions}
+use Rattle.sl_trace.specs.declared.session.Session.{Session}
 use Rattle.sl_trace.specs.declared.command.Command.{Command}
 use Rattle.sl_trace.specs.declared.reply.Reply.TheVariants.{Recovering}
 use Rattle.std.proofs.lemmas.List.{append-nil}

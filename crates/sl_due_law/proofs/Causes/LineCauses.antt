@@ -11,17 +11,17 @@ use Rattle.sl_due.specs.declared.decision.Decision.TheVariants.{ConvertsTo, Gets
 use Rattle.sl_due.specs.declared.decision.Decision.{Decision}
 use Rattle.sl_due_law.proofs.Holdings.HoldingFactsBegin.{none_ended}
 use Rattle.sl_due_law.proofs.Holdings.LeaseConversions.{spot_is}
-use Rattle.sl_law.specs.Caused.{Answering, CausedBy, IsDoneFor, IsGrantedFor, IsLimit, MeetsLimit, WithSession, WithSpot, after_entry, before_entry, is_holders_command, is_joining_command, is_orphan_command, is_taking_over, job_command, lockspace_arg, the_session}
-use Rattle.sl_leases.specs.Counts.{busy_process, holds_already, is_killpath_limit, limit_met, may_act, next_value_seq, other_holder, pending_call}
-use Rattle.sl_leases.specs.Jobs.{is_asking_lease, is_program, lockspace_named, process_named, resource_named, wanted_mode, wants_shared}
-use Rattle.sl_leases.specs.Leases.{exclusive_on, holdings_on, orphan_on, shared_on, spot_of}
+use Rattle.sl_run.specs.Caused.{Answering, CausedBy, IsDoneFor, IsGrantedFor, IsLimit, MeetsLimit, WithSession, WithSpot, after_entry, before_entry, is_holders_command, is_joining_command, is_orphan_command, is_taking_over, job_command, lockspace_arg, the_session}
+use Rattle.sl_trace.specs.Counts.{busy_process, holds_already, is_killpath_limit, limit_met, may_act, next_value_seq, other_holder, pending_call}
+use Rattle.sl_trace.specs.Jobs.{is_asking_lease, is_program, lockspace_named, process_named, resource_named, wanted_mode, wants_shared}
+use Rattle.sl_trace.specs.Leases.{exclusive_on, holdings_on, orphan_on, shared_on, spot_of}
 use Rattle.sl_plain.proofs.Lists.{find_fails, find_inside, kept_inside}
 use Rattle.sl_plain.proofs.Numbers.{number_itself}
 use Rattle.sl_plain.proofs.Options.{mapped_value, then_value}
-use Rattle.sl_sessions.specs.Sessions.{generation_of, holdings_of, is_active, is_join_done, is_joined, is_session_arg, joined_after, last_renewal, last_seq, leaving_in, leaving_job, present_sessions, recovery_of, session_named, sessions}
-use Rattle.sl_sessions.specs.Watching.{states_seen}
-use Rattle.sl_sessions.specs.declared.session.Begun.{Begun}
-use Rattle.sl_sessions.specs.declared.session.Session.{Session}
+use Rattle.sl_trace.specs.Sessions.{generation_of, holdings_of, is_active, is_join_done, is_joined, is_session_arg, joined_after, last_renewal, last_seq, leaving_in, leaving_job, present_sessions, recovery_of, session_named, sessions}
+use Rattle.sl_trace.specs.Watching.{states_seen}
+use Rattle.sl_trace.specs.declared.session.Begun.{Begun}
+use Rattle.sl_trace.specs.declared.session.Session.{Session}
 use Rattle.sl_trace.specs.Limits.{most_lockspaces}
 use Rattle.sl_trace.specs.Traces.{Job, Replied, Setting, Trace, holdings, is_before_input, is_ended_by, is_orphan, is_shared, reply_to, same_place, spot_of_grant}
 use Rattle.sl_trace.specs.declared.command.Command.TheVariants.{Acquire, AddLockspace, Convert, GetLvb, HostStatus, InqLockspace, Release, ReleaseOrphan, RemLockspace, Request, RunProgram, SetKillpath, SetLvb, Status, TakeOver}

@@ -23,7 +23,7 @@ use Rattle.sl_due_law.proofs.Jobs.QuietFactsAreKept.{loop_stops}
 use Rattle.sl_due_law.specs.Causes.CauseFacts.{IsTold}
 use Rattle.sl_due_law.specs.Causes.LineCauses.{IsBeforeInput}
 use Rattle.sl_due_law.specs.Facts.Whole.{WholeTrace}
-use Rattle.sl_leases.specs.Jobs.{child_of_job, is_command_that, is_job_of_process, process_named}
+use Rattle.sl_trace.specs.Jobs.{child_of_job, is_command_that, is_job_of_process, process_named}
 use Rattle.sl_plain.proofs.Lists.{contains_none, find_inside, kept}
 use Rattle.sl_plain.proofs.Numbers.{number_itself}
 use Rattle.sl_trace.specs.Traces.{Child, Job, Setting, Trace, child_after, children, is_running, job_numbered, jobs, new_child, next_job, no_effects, no_process, running_jobs}

@@ -16,16 +16,16 @@ use Rattle.sl_due_law.proofs.Jobs.RepliesComeAfter.{mapped_or}
 use Rattle.sl_due_law.specs.Causes.CauseFacts.{IsTold}
 use Rattle.sl_due_law.specs.Causes.Makings.{By_line, FromJob, GivenTo, MadeFor, MadeSoFar, Says, StartedFor}
 use Rattle.sl_due_law.specs.Holdings.DecisionGrounds.{HasGrounds}
-use Rattle.sl_leases.specs.Counts.{next_value_seq}
-use Rattle.sl_leases.specs.Jobs.{process_named, wants_shared}
-use Rattle.sl_leases.specs.LeaseWork.{LeasePlace, convert_next, lease_place, release_next}
-use Rattle.sl_leases.specs.Leases.{LeaseKnown, holdings_on, known, spot_of}
-use Rattle.sl_leases.specs.declared.lease.LeaseNext.{LeaseNext}
-use Rattle.sl_leases.specs.declared.lease.LeaseNext.TheVariants.{AnswerJob, BecomeExclusive, BecomeShared, GrantJob, Nothing as No_lease, ReadFor, WriteBlock, WriteLeader}
+use Rattle.sl_trace.specs.Counts.{next_value_seq}
+use Rattle.sl_trace.specs.Jobs.{process_named, wants_shared}
+use Rattle.sl_trace.specs.LeaseWork.{LeasePlace, convert_next, lease_place, release_next}
+use Rattle.sl_trace.specs.Leases.{LeaseKnown, holdings_on, known, spot_of}
+use Rattle.sl_trace.specs.declared.lease.LeaseNext.{LeaseNext}
+use Rattle.sl_trace.specs.declared.lease.LeaseNext.TheVariants.{AnswerJob, BecomeExclusive, BecomeShared, GrantJob, Nothing as No_lease, ReadFor, WriteBlock, WriteLeader}
 use Rattle.sl_plain.proofs.Lists.{contains_none}
 use Rattle.sl_sector.specs.declared.sector.Rec.TheVariants.{ValueIs}
-use Rattle.sl_sessions.specs.Sessions.{session_named}
-use Rattle.sl_sessions.specs.declared.session.Session.{Session}
+use Rattle.sl_trace.specs.Sessions.{session_named}
+use Rattle.sl_trace.specs.declared.session.Session.{Session}
 use Rattle.sl_trace.specs.Traces.{Setting, Trace, child_after, children, end_of, is_shared, new_child, next_call, next_child, next_job, spot_of_grant}
 use Rattle.sl_trace.specs.declared.command.Command.{Command}
 use Rattle.sl_trace.specs.declared.command.Command.TheVariants.{Acquire, AddLockspace, Convert, GetLvb, HostStatus, InqLockspace, Release, ReleaseOrphan, RemLockspace, Request, RunProgram, SetKillpath, SetLvb, Status, TakeOver}

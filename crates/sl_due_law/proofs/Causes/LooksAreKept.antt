@@ -19,8 +19,8 @@ use Rattle.sl_due_law.proofs.Parts.CallsGrow.{same_sessions}
 use Rattle.sl_due_law.specs.Causes.Makings.{LookedSoFar}
 use Rattle.sl_due_law.specs.Facts.Whole.{Whole}
 use Rattle.sl_plain.proofs.Lists.{contains_first, kept_inside}
-use Rattle.sl_sessions.specs.Sessions.{calls_of, is_call_of, is_join_call, joining_session, present_sessions, recovery_of, sessions}
-use Rattle.sl_sessions.specs.declared.session.Session.{Session}
+use Rattle.sl_trace.specs.Sessions.{calls_of, is_call_of, is_join_call, joining_session, present_sessions, recovery_of, sessions}
+use Rattle.sl_trace.specs.declared.session.Session.{Session}
 use Rattle.sl_trace.specs.Traces.{Setting, Submitted, Trace, next_call, next_job, submitted}
 use Rattle.sl_trace.specs.declared.command.Command.{Command}
 use Rattle.sl_trace.specs.declared.command.LockspaceArg.{LockspaceArg}

@@ -14,16 +14,16 @@ use Rattle.sl_due_law.proofs.Jobs.CallsHaveFacts.{find_mapped}
 use Rattle.sl_due_law.proofs.Jobs.CallsStay.{late}
 use Rattle.sl_due_law.proofs.Jobs.JobsAreNumbered.{found_before}
 use Rattle.sl_due_law.proofs.Jobs.EffectsAreAllowed.{DeltaAllowed}
-use Rattle.sl_law.specs.Caused.{Answering, AnswersRead, CausedBy, IsDoneFor}
-use Rattle.sl_leases.specs.Jobs.{command_numbered, job_of_start}
-use Rattle.sl_leases.specs.Leases.{is_leader_of}
+use Rattle.sl_run.specs.Caused.{Answering, AnswersRead, CausedBy, IsDoneFor}
+use Rattle.sl_trace.specs.Jobs.{command_numbered, job_of_start}
+use Rattle.sl_trace.specs.Leases.{is_leader_of}
 use Rattle.sl_request.specs.Requests.{check_request}
 use Rattle.sl_sector.specs.Spelling.{request_in, value_in}
 use Rattle.sl_sector.specs.declared.sector.Leader.{Leader}
 use Rattle.sl_sector.specs.declared.sector.Request.{Request as RequestRec}
 use Rattle.sl_sector.specs.declared.sector.ValueRec.{ValueRec}
-use Rattle.sl_sessions.specs.Deltas.{next_after_free}
-use Rattle.sl_sessions.specs.declared.session.Session.{Session}
+use Rattle.sl_trace.specs.Deltas.{next_after_free}
+use Rattle.sl_trace.specs.declared.session.Session.{Session}
 use Rattle.sl_due_law.specs.Facts.JobFacts.{FitsCommand}
 use Rattle.sl_trace.specs.Traces.{Child, Submitted, child_after, child_numbered, children, is_expected, is_starting, job_of, new_child, submitted}
 use Rattle.sl_trace.specs.declared.command.Command.TheVariants.{RemLockspace, Request}

@@ -7,14 +7,14 @@ use Rattle.sl_due.specs.Steps.{Step, seen}
 use Rattle.sl_due_law.proofs.Holdings.PlainPlaces.{text_is}
 use Rattle.sl_due_law.proofs.Jobs.JobsAreNumbered.{command_read, found_after, numbered_stays}
 use Rattle.sl_due_law.proofs.Jobs.JobsAreNumbered.{next_is_new}
-use Rattle.sl_law.specs.Caused.{Answering, CausedBy, after_entry, before_entry}
-use Rattle.sl_leases.specs.Jobs.{command_of, is_command_that, jobs_of_session, lockspace_named}
+use Rattle.sl_run.specs.Caused.{Answering, CausedBy, after_entry, before_entry}
+use Rattle.sl_trace.specs.Jobs.{command_of, is_command_that, jobs_of_session, lockspace_named}
 use Rattle.sl_plain.proofs.Lists.{contains_cases, contains_none, kept_inside}
 use Rattle.sl_plain.proofs.Numbers.{number_itself}
-use Rattle.sl_sessions.specs.Sessions.{has_open_write, is_active, is_joined, is_present, joined_after, refused_after, removed_after, removed_in, last_renewal, leaving_job, recovers, recovery_of, renewed_by, renewing, renewing_after, sessions, shows_other}
-use Rattle.sl_sessions.specs.declared.session.Begun.{Begun}
-use Rattle.sl_sessions.specs.declared.session.Renewing.{Renewing}
-use Rattle.sl_sessions.specs.declared.session.Session.{Session}
+use Rattle.sl_trace.specs.Sessions.{has_open_write, is_active, is_joined, is_present, joined_after, refused_after, removed_after, removed_in, last_renewal, leaving_job, recovers, recovery_of, renewed_by, renewing, renewing_after, sessions, shows_other}
+use Rattle.sl_trace.specs.declared.session.Begun.{Begun}
+use Rattle.sl_trace.specs.declared.session.Renewing.{Renewing}
+use Rattle.sl_trace.specs.declared.session.Session.{Session}
 use Rattle.sl_due_law.specs.Facts.Whole.{WholeTrace}
 use Rattle.sl_time.specs.Times.{fail}
 use Rattle.sl_trace.specs.Traces.{Job, Setting, Trace, is_running, job_in, job_numbered, jobs, line_in, next_job, no_effects, running_jobs}

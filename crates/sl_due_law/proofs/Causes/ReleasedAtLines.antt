@@ -17,15 +17,15 @@ use Rattle.sl_due_law.proofs.Jobs.JobFactsGrow.{contains_right}
 use Rattle.sl_due_law.specs.Causes.CauseFacts.{EndedAsAsked, HasEnded}
 use Rattle.sl_due_law.specs.Facts.Whole.{WholeTrace}
 use Rattle.sl_due_law.specs.Holdings.DecisionGrounds.{GiveUpGrounds, HasGrounds, Releases}
-use Rattle.sl_leases.specs.Ballots.{moded_block}
-use Rattle.sl_leases.specs.LeaseWork.{LeasePlace, lease_place, release_next}
-use Rattle.sl_leases.specs.Leases.{LeaseKnown, holdings_on, known, spot_of}
-use Rattle.sl_leases.specs.declared.lease.LeaseNext.TheVariants.{Nothing as No_lease, WriteBlock}
+use Rattle.sl_trace.specs.Ballots.{moded_block}
+use Rattle.sl_trace.specs.LeaseWork.{LeasePlace, lease_place, release_next}
+use Rattle.sl_trace.specs.Leases.{LeaseKnown, holdings_on, known, spot_of}
+use Rattle.sl_trace.specs.declared.lease.LeaseNext.TheVariants.{Nothing as No_lease, WriteBlock}
 use Rattle.sl_plain.proofs.Lists.{contains_first, kept_inside}
 use Rattle.sl_plain.proofs.Numbers.{number_itself}
 use Rattle.sl_sector.specs.declared.sector.Block.{Block}
-use Rattle.sl_sessions.specs.Sessions.{holdings_of, session_named}
-use Rattle.sl_sessions.specs.declared.session.Session.{Session}
+use Rattle.sl_trace.specs.Sessions.{holdings_of, session_named}
+use Rattle.sl_trace.specs.declared.session.Session.{Session}
 use Rattle.sl_trace.specs.Traces.{Job, Setting, Trace, end_of, entry_at, is_running, next_job, no_process, same_place, spot_of_grant}
 use Rattle.sl_trace.specs.declared.command.Command.{Command}
 use Rattle.sl_trace.specs.declared.command.Command.TheVariants.{Release, ReleaseOrphan}

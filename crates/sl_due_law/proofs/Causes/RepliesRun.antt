@@ -25,21 +25,21 @@ use Rattle.sl_due_law.proofs.Jobs.JobsAreAllowed.{caller_numbered, numbered_of, 
 use Rattle.sl_due_law.proofs.Jobs.JobsAreNumbered.{below, next_is_new, numbered_seen}
 use Rattle.sl_due_law.proofs.Jobs.LinesAreAllowed.{new_numbered}
 use Rattle.sl_due_law.proofs.Jobs.RepliesComeAfter.{IsLateDelta, joining_late, wake_late}
-use Rattle.sl_leases.specs.Jobs.{command_numbered, is_command_that, is_job_of_process, job_of_start, jobs_of_session, lockspace_named, process_named}
-use Rattle.sl_leases.specs.LeaseWork.{convert_next, lease_place, release_next, settle_next}
-use Rattle.sl_leases.specs.Leases.{holdings_on, known, spot_of, spot_of_call}
-use Rattle.sl_leases.specs.declared.lease.LeaseNext.TheVariants.{AnswerJob, BecomeExclusive, BecomeShared, GrantJob, Nothing as No_lease, ReadFor, WriteBlock, WriteLeader}
-use Rattle.sl_leases.specs.declared.lease.LeaseNext.{LeaseNext}
+use Rattle.sl_trace.specs.Jobs.{command_numbered, is_command_that, is_job_of_process, job_of_start, jobs_of_session, lockspace_named, process_named}
+use Rattle.sl_trace.specs.LeaseWork.{convert_next, lease_place, release_next, settle_next}
+use Rattle.sl_trace.specs.Leases.{holdings_on, known, spot_of, spot_of_call}
+use Rattle.sl_trace.specs.declared.lease.LeaseNext.TheVariants.{AnswerJob, BecomeExclusive, BecomeShared, GrantJob, Nothing as No_lease, ReadFor, WriteBlock, WriteLeader}
+use Rattle.sl_trace.specs.declared.lease.LeaseNext.{LeaseNext}
 use Rattle.sl_plain.proofs.Lists.{contains_first, contains_more, contains_none, find_fails, find_inside, got_index, got_inside, kept_inside, there_is}
 use Rattle.sl_plain.proofs.Numbers.{number_itself}
 use Rattle.sl_plain.proofs.Options.{some_of}
 use Rattle.sl_acts.proofs.Additions.{contains_last}
-use Rattle.sl_sessions.specs.Deltas.{delta_record, is_renewal_due, delta_known, delta_of_session, next_after_free, next_after_renewal, next_free, next_in_joining, next_on_wake, next_renewal}
-use Rattle.sl_sessions.specs.Sessions.{calls_of, generation_of, last_renewal, last_seq, present_sessions, recovery_of, session_of_job, sessions}
-use Rattle.sl_sessions.specs.declared.delta.DeltaNext.TheVariants.{Disconnect, EndLeaving, Join, MoveConnection, Nothing, ReadOwn, RefuseJoin, RegisterAndRead, WriteClaim, WriteFirst, WriteFree, WriteRenewal}
-use Rattle.sl_sessions.specs.declared.delta.DeltaNext.{DeltaNext}
+use Rattle.sl_trace.specs.Deltas.{delta_record, is_renewal_due, delta_known, delta_of_session, next_after_free, next_after_renewal, next_free, next_in_joining, next_on_wake, next_renewal}
+use Rattle.sl_trace.specs.Sessions.{calls_of, generation_of, last_renewal, last_seq, present_sessions, recovery_of, session_of_job, sessions}
+use Rattle.sl_trace.specs.declared.delta.DeltaNext.TheVariants.{Disconnect, EndLeaving, Join, MoveConnection, Nothing, ReadOwn, RefuseJoin, RegisterAndRead, WriteClaim, WriteFirst, WriteFree, WriteRenewal}
+use Rattle.sl_trace.specs.declared.delta.DeltaNext.{DeltaNext}
 use Rattle.sl_trace.specs.Connections.{is_registered}
-use Rattle.sl_sessions.specs.declared.session.Session.{Session}
+use Rattle.sl_trace.specs.declared.session.Session.{Session}
 use Rattle.sl_due_law.specs.Facts.Whole.{Whole}
 use Rattle.sl_trace.specs.Traces.{Job, Replied, is_of_job, outstanding, submitted, waiting_call, Setting, Submitted, Trace, end_of, holdings, is_running, job_numbered, job_of, jobs, line_in, next_job, reply_to, running_jobs, spot_of_grant, work_job}
 use Rattle.sl_trace.specs.declared.command.Command.TheVariants.{Acquire, AddLockspace, Convert, GetLvb, HostStatus, InqLockspace, Release, ReleaseOrphan, RemLockspace, Request, RunProgram, SetKillpath, SetLvb, Status, TakeOver}

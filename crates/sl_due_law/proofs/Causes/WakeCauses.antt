@@ -8,11 +8,11 @@ use Rattle.sl_due.specs.DueFirst.{is_overdue}
 use Rattle.sl_due.specs.Steps.{Step, seen}
 use Rattle.sl_due_law.proofs.Jobs.CallsHaveFacts.{calls_before}
 use Rattle.sl_plain.proofs.Lists.{contains_cases, contains_first, contains_more, contains_none, head_is}
-use Rattle.sl_sessions.specs.Deltas.{DeltaLease, delta_of_session, join_step_of, next_by_time, next_on_wake}
-use Rattle.sl_sessions.specs.Sessions.{calls_of, is_call_of, is_join_call, join_call, session_of_job, sessions}
-use Rattle.sl_sessions.specs.declared.delta.DeltaNext.TheVariants.{Nothing, ReadOwn, RefuseJoin, RegisterAndRead}
-use Rattle.sl_sessions.specs.declared.delta.DeltaNext.{DeltaNext}
-use Rattle.sl_sessions.specs.declared.session.Session.{Session}
+use Rattle.sl_trace.specs.Deltas.{DeltaLease, delta_of_session, join_step_of, next_by_time, next_on_wake}
+use Rattle.sl_trace.specs.Sessions.{calls_of, is_call_of, is_join_call, join_call, session_of_job, sessions}
+use Rattle.sl_trace.specs.declared.delta.DeltaNext.TheVariants.{Nothing, ReadOwn, RefuseJoin, RegisterAndRead}
+use Rattle.sl_trace.specs.declared.delta.DeltaNext.{DeltaNext}
+use Rattle.sl_trace.specs.declared.session.Session.{Session}
 use Rattle.sl_time.specs.Times.{dead, join_max, renew}
 use Rattle.sl_trace.specs.Traces.{Answered, Submitted, is_of_job, mark, new_call, submitted, unanswered, waiting_call}
 use Rattle.sl_trace.specs.declared.effects.Call.{Call}

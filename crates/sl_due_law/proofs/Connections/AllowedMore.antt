@@ -6,14 +6,14 @@ use Rattle.sl_due.specs.declared.decision.Decision.{Decision}
 use Rattle.sl_due_law.proofs.Jobs.EffectsAreAllowed.{DecisionAllowed, GrantAllowed, LeaseAllowed, ReadAllowed, RequestAllowed}
 use Rattle.sl_due_law.proofs.Jobs.LinesAreAllowed.{IsBegun}
 use Rattle.sl_due_law.proofs.Jobs.NearlyPlainActs.{AnyStart}
-use Rattle.sl_leases.specs.Jobs.{jobs_of_session}
-use Rattle.sl_leases.specs.LeaseWork.{convert_next, lease_place, release_next}
-use Rattle.sl_leases.specs.Leases.{known, spot_of}
-use Rattle.sl_leases.specs.declared.lease.LeaseNext.TheVariants.{AnswerJob, BecomeExclusive, BecomeShared, GrantJob, Nothing as No_lease, ReadFor, WriteBlock, WriteLeader}
-use Rattle.sl_leases.specs.declared.lease.LeaseNext.{LeaseNext}
+use Rattle.sl_trace.specs.Jobs.{jobs_of_session}
+use Rattle.sl_trace.specs.LeaseWork.{convert_next, lease_place, release_next}
+use Rattle.sl_trace.specs.Leases.{known, spot_of}
+use Rattle.sl_trace.specs.declared.lease.LeaseNext.TheVariants.{AnswerJob, BecomeExclusive, BecomeShared, GrantJob, Nothing as No_lease, ReadFor, WriteBlock, WriteLeader}
+use Rattle.sl_trace.specs.declared.lease.LeaseNext.{LeaseNext}
 use Rattle.sl_due_law.proofs.Sessions.NamesAreAllowed.{is_joining}
-use Rattle.sl_sessions.specs.Sessions.{last_renewal}
-use Rattle.sl_sessions.specs.declared.session.Session.{Session}
+use Rattle.sl_trace.specs.Sessions.{last_renewal}
+use Rattle.sl_trace.specs.declared.session.Session.{Session}
 use Rattle.sl_trace.specs.Traces.{Job, end_of, spot_of_grant, work_job}
 use Rattle.sl_trace.specs.declared.command.Command.TheVariants.{Acquire, AddLockspace, Convert, GetLvb, HostStatus, InqLockspace, Release, ReleaseOrphan, RemLockspace, Request, RunProgram, SetKillpath, SetLvb, Status, TakeOver}
 use Rattle.sl_trace.specs.declared.command.Command.{Command}

@@ -4,7 +4,7 @@ use Rattle.sl_acts.specs.SoFar.{entry_of}
 use Rattle.sl_due.specs.DueFirst.{remove_connection}
 use Rattle.sl_due.specs.Steps.{Step, add_call_of, add_move, add_reply, seen, when}
 use Rattle.sl_due_law.proofs.Jobs.CallsStay.{IsLate, calls_stay}
-use Rattle.sl_law.specs.LawfulWatchdog.{is_covered}
+use Rattle.sl_run.specs.LawfulWatchdog.{is_covered}
 use Rattle.sl_due_law.proofs.Parts.CallsGrow.{any_more, others_stay, same_sessions}
 use Rattle.sl_due_law.proofs.Parts.EffectsAreTold.{effects_are_told}
 use Rattle.sl_due_law.proofs.Parts.JoinedCallsKeepOrder.{one_number}
@@ -16,8 +16,8 @@ use Rattle.sl_due_law.proofs.Connections.ConnectionsNamed.{connected, register_o
 use Rattle.sl_due_law.proofs.Connections.SessionParts.{SameSession, same_itself, same_then}
 use Rattle.sl_due_law.specs.Connections.Promises.{HasConnectionFacts}
 use Rattle.sl_due_law.proofs.Sessions.NameEffects.{call_present, joined_of, move_present, refused_of, reply_joins_more, reply_present}
-use Rattle.sl_sessions.specs.Sessions.{calls_of, is_call_of, is_join_call, is_join_done, joined_after, refused_after, removed_after, sessions}
-use Rattle.sl_sessions.specs.declared.session.Session.{Session}
+use Rattle.sl_trace.specs.Sessions.{calls_of, is_call_of, is_join_call, is_join_done, joined_after, refused_after, removed_after, sessions}
+use Rattle.sl_trace.specs.declared.session.Session.{Session}
 use Rattle.sl_due_law.specs.Facts.Heard.{IsOpen, heard_by}
 use Rattle.sl_due_law.specs.Facts.SessionFacts.{ConnectionFacts}
 use Rattle.sl_trace.specs.Connections.{Connection, after_move, connection_named, connections, is_registered, last_registering, registers, unregisters}

@@ -21,12 +21,12 @@ use Rattle.sl_due_law.proofs.Jobs.NearlyPlainActs.{AnyStart}
 use Rattle.sl_due_law.proofs.Jobs.RepliesComeAfter.{IsLateLease, lease_late, on_bool, on_option, set_late, value_late}
 use Rattle.sl_due_law.proofs.Jobs.SessionsArePresent.{joined_present, present_is, session_has}
 use Rattle.sl_due_law.proofs.Jobs.SessionsStand.{joined_then, leaving_joined, recovery_joined}
-use Rattle.sl_law.specs.LawfulWatchdog.{is_covered}
-use Rattle.sl_leases.specs.Jobs.{is_job_of_process, job_of_start}
-use Rattle.sl_leases.specs.LeaseWork.{lease_place, settle_next}
-use Rattle.sl_leases.specs.Leases.{holdings_on, known, lver_written, spot_of_call}
-use Rattle.sl_leases.specs.declared.lease.LeaseNext.TheVariants.{AnswerJob}
-use Rattle.sl_leases.specs.declared.lease.LeaseNext.{LeaseNext}
+use Rattle.sl_run.specs.LawfulWatchdog.{is_covered}
+use Rattle.sl_trace.specs.Jobs.{is_job_of_process, job_of_start}
+use Rattle.sl_trace.specs.LeaseWork.{lease_place, settle_next}
+use Rattle.sl_trace.specs.Leases.{holdings_on, known, lver_written, spot_of_call}
+use Rattle.sl_trace.specs.declared.lease.LeaseNext.TheVariants.{AnswerJob}
+use Rattle.sl_trace.specs.declared.lease.LeaseNext.{LeaseNext}
 use Rattle.sl_due_law.proofs.Parts.JoinedCallsKeepOrder.{joined_is_covered}
 use Rattle.sl_plain.proofs.Lists.{find_fails, find_inside, got_inside, kept_inside}
 use Rattle.sl_plain.proofs.Options.{not_some, some_of, some_there}
@@ -52,13 +52,13 @@ use Rattle.sl_due_law.proofs.Sessions.NameFactsAreKept.{joined_on_wake, names_wa
 use Rattle.sl_due_law.proofs.Sessions.NamesAreAllowed.{NameCall, NameReply, heard_joined, heard_mine, is_joining, joined_unrefused, lease_named, request_named}
 use Rattle.sl_due_law.proofs.Sessions.NamesGrow.{input_names}
 use Rattle.sl_due_law.specs.Sessions.Promises.{HasNameFacts}
-use Rattle.sl_sessions.specs.Deltas.{DeltaLease}
-use Rattle.sl_sessions.specs.Sessions.{calls_of, free_write, generation_of, holdings_of, is_free_purpose, is_join_call, is_joined, is_renewal, joined_after, last_renewal, leaving_job, present_sessions, recovery_of, refused_after, removed_after, session_numbered, sessions}
-use Rattle.sl_sessions.specs.declared.delta.DeltaKnown.{DeltaKnown}
-use Rattle.sl_sessions.specs.declared.delta.DeltaNext.TheVariants.{MoveConnection, Nothing, WriteFree, WriteRenewal}
-use Rattle.sl_sessions.specs.declared.delta.DeltaNext.{DeltaNext}
-use Rattle.sl_sessions.specs.declared.session.Begun.{Begun}
-use Rattle.sl_sessions.specs.declared.session.Session.{Session}
+use Rattle.sl_trace.specs.Deltas.{DeltaLease}
+use Rattle.sl_trace.specs.Sessions.{calls_of, free_write, generation_of, holdings_of, is_free_purpose, is_join_call, is_joined, is_renewal, joined_after, last_renewal, leaving_job, present_sessions, recovery_of, refused_after, removed_after, session_numbered, sessions}
+use Rattle.sl_trace.specs.declared.delta.DeltaKnown.{DeltaKnown}
+use Rattle.sl_trace.specs.declared.delta.DeltaNext.TheVariants.{MoveConnection, Nothing, WriteFree, WriteRenewal}
+use Rattle.sl_trace.specs.declared.delta.DeltaNext.{DeltaNext}
+use Rattle.sl_trace.specs.declared.session.Begun.{Begun}
+use Rattle.sl_trace.specs.declared.session.Session.{Session}
 use Rattle.sl_due_law.specs.Facts.Heard.{IsOpen, heard_by}
 use Rattle.sl_due_law.specs.Facts.SessionFacts.{ConnectionFacts}
 use Rattle.sl_due_law.specs.Facts.Whole.{Whole}
@@ -88,7 +88,7 @@ use Rattle.std.proofs.Common.{ap, ap₂, inl, inr, refl, subst, sym, ◌∙◌}
 use Rattle.std.proofs.lemmas.Bool.{eqb-true}
 use Rattle.std.specs.List.{list_any}
 use Rattle.std.specs.Prelude.{Bool, Contains, List, None, Option, Some, [], false, filter, is_none, is_some, length, not, true, ℕ, ◌&&◌, ◌++◌, ◌+◌, ◌==◌, ◌∷◌, ◌≡◌}
-use Rattle.sl_sessions.specs.Deltas.{delta_known, delta_of_session, delta_record, is_renewal_due, next_after_free, next_after_renewal, next_free, next_in_joining, next_on_wake, next_renewal, own_offset}
+use Rattle.sl_trace.specs.Deltas.{delta_known, delta_of_session, delta_record, is_renewal_due, next_after_free, next_after_renewal, next_free, next_in_joining, next_on_wake, next_renewal, own_offset}
 use Rattle.sl_plain.proofs.Numbers.{equal_is_most}
 use Rattle.sl_due_law.proofs.Jobs.AnsweredCallsFit.{at, both_of}
 

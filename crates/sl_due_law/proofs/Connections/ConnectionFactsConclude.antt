@@ -20,10 +20,10 @@ use Rattle.sl_due_law.proofs.Jobs.SessionsArePresent.{session_has}
 use Rattle.sl_due_law.proofs.Jobs.SessionsHaveJobs.{one_session}
 use Rattle.sl_due_law.proofs.Jobs.SessionsStand.{recovery_joined}
 use Rattle.sl_due_law.specs.Jobs.Promises.{HasCallFacts}
-use Rattle.sl_law.specs.LawfulWatchdog.{is_covered}
-use Rattle.sl_leases.specs.LeaseWork.{lease_place}
-use Rattle.sl_leases.specs.Leases.{holdings_on, known, lver_written, spot_of_call}
-use Rattle.sl_leases.specs.declared.lease.LeaseNext.{LeaseNext}
+use Rattle.sl_run.specs.LawfulWatchdog.{is_covered}
+use Rattle.sl_trace.specs.LeaseWork.{lease_place}
+use Rattle.sl_trace.specs.Leases.{holdings_on, known, lver_written, spot_of_call}
+use Rattle.sl_trace.specs.declared.lease.LeaseNext.{LeaseNext}
 use Rattle.sl_plain.proofs.Lists.{any_found, any_of, contains_map, contains_more, find_fails, find_inside, got_inside, kept, kept_inside}
 use Rattle.sl_plain.proofs.Numbers.{number_itself}
 use Rattle.sl_plain.proofs.Options.{some_of, some_there}
@@ -45,11 +45,11 @@ use Rattle.sl_due_law.proofs.Sessions.NameFactsConclude.{fitting}
 use Rattle.sl_due_law.proofs.Sessions.NamesAreAllowed.{NameCall, NameReply, caller_joined, freed_named, heard_joined, heard_mine, is_joining, lease_named, renewed_named, request_named}
 use Rattle.sl_due_law.proofs.Sessions.NamesAtEnd.{Growing, below_of, growing_itself, grows, grows_joining}
 use Rattle.sl_due_law.specs.Sessions.Promises.{HasNameFacts}
-use Rattle.sl_sessions.specs.Sessions.{calls_of, generation_of, has_open_write, is_call_of, is_join_call, is_join_done, is_joined, is_present, joined_after, last_renewal, open_calls_of, recovery_of, refused_after, removed_after, session_numbered, session_of_job, sessions}
-use Rattle.sl_sessions.specs.declared.delta.DeltaKnown.{DeltaKnown}
-use Rattle.sl_sessions.specs.declared.delta.DeltaNext.TheVariants.{Nothing, WriteFree}
-use Rattle.sl_sessions.specs.declared.delta.DeltaNext.{DeltaNext}
-use Rattle.sl_sessions.specs.declared.session.Session.{Session}
+use Rattle.sl_trace.specs.Sessions.{calls_of, generation_of, has_open_write, is_call_of, is_join_call, is_join_done, is_joined, is_present, joined_after, last_renewal, open_calls_of, recovery_of, refused_after, removed_after, session_numbered, session_of_job, sessions}
+use Rattle.sl_trace.specs.declared.delta.DeltaKnown.{DeltaKnown}
+use Rattle.sl_trace.specs.declared.delta.DeltaNext.TheVariants.{Nothing, WriteFree}
+use Rattle.sl_trace.specs.declared.delta.DeltaNext.{DeltaNext}
+use Rattle.sl_trace.specs.declared.session.Session.{Session}
 use Rattle.sl_due_law.specs.Facts.Heard.{IsOpen, heard_by}
 use Rattle.sl_due_law.specs.Facts.SessionFacts.{IsHeardWriter}
 use Rattle.sl_due_law.specs.Facts.Whole.{Whole}
@@ -83,7 +83,7 @@ use Rattle.std.proofs.Common.{ap, ap₂, inl, inr, refl, subst, sym, ◌∙◌}
 use Rattle.std.proofs.lemmas.Bool.{eqb-true}
 use Rattle.std.specs.List.{list_any}
 use Rattle.std.specs.Prelude.{Bool, Contains, IsTrue, List, None, Option, Some, [], false, filter, fold, if◌then◌else◌, is_none, is_some, length, not, option_and_then, true, ℕ, ◌&&◌, ◌+◌, ◌<◌, ◌==◌, ◌||◌, ◌∷◌, ◌≡◌, ◌⊎◌}
-use Rattle.sl_sessions.specs.Deltas.{delta_known, delta_of_session, delta_record, next_after_free, next_after_renewal, next_free, next_in_joining, own_offset}
+use Rattle.sl_trace.specs.Deltas.{delta_known, delta_of_session, delta_record, next_after_free, next_after_renewal, next_free, next_in_joining, own_offset}
 use Rattle.sl_due_law.proofs.Jobs.AnsweredCallsFit.{at, both_of}
 
 -- ---- what an act leaves of calls and sessions

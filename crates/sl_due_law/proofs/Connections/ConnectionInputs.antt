@@ -7,8 +7,8 @@ use Rattle.sl_due_law.proofs.Jobs.CallsHaveFacts.{calls_before, sessions_bare, s
 use Rattle.sl_due_law.proofs.Jobs.JobFactsGrow.{was_unanswered}
 use Rattle.sl_due_law.proofs.Jobs.JobsAreAllowed.{is_told}
 use Rattle.sl_due_law.proofs.Jobs.SessionsArePresent.{session_has}
-use Rattle.sl_law.specs.LawfulDelta.{LawfulClaim}
-use Rattle.sl_law.specs.LawfulWatchdog.{is_covered}
+use Rattle.sl_run.specs.LawfulDelta.{LawfulClaim}
+use Rattle.sl_run.specs.LawfulWatchdog.{is_covered}
 use Rattle.sl_due_law.proofs.Parts.JoinedCallsKeepOrder.{joined_is_covered}
 use Rattle.sl_plain.proofs.Lists.{any_found, any_of, contains_first, contains_map, find_inside, in_map, kept, kept_inside}
 use Rattle.sl_plain.proofs.Numbers.{trans_le}
@@ -22,11 +22,11 @@ use Rattle.sl_due_law.proofs.Connections.SessionParts.{covered_at_work, covered_
 use Rattle.sl_due_law.specs.Connections.Promises.{HasConnectionFacts}
 use Rattle.sl_due_law.proofs.Sessions.JoiningsGoOn.{law_of}
 use Rattle.sl_due_law.proofs.Sessions.NamesGrow.{calls_of_told, input_present, write_then}
-use Rattle.sl_sessions.specs.Deltas.{delta_of_session, delta_record}
-use Rattle.sl_sessions.specs.Sessions.{calls_of, delta_of_record, has_open_write, is_call_of, is_covered_stage, is_join_call, is_present, joined_after, last_renewal, open_calls_of, refused_after, removed_after, session_numbered, sessions, stage_after, stage_in}
-use Rattle.sl_sessions.specs.declared.session.Session.{Session}
-use Rattle.sl_sessions.specs.declared.stage.Stage.TheVariants.{Looking}
-use Rattle.sl_sessions.specs.declared.stage.Stage.{Stage}
+use Rattle.sl_trace.specs.Deltas.{delta_of_session, delta_record}
+use Rattle.sl_trace.specs.Sessions.{calls_of, delta_of_record, has_open_write, is_call_of, is_covered_stage, is_join_call, is_present, joined_after, last_renewal, open_calls_of, refused_after, removed_after, session_numbered, sessions, stage_after, stage_in}
+use Rattle.sl_trace.specs.declared.session.Session.{Session}
+use Rattle.sl_trace.specs.declared.stage.Stage.TheVariants.{Looking}
+use Rattle.sl_trace.specs.declared.stage.Stage.{Stage}
 use Rattle.sl_due_law.specs.Facts.Heard.{IsOpen, heard_by}
 use Rattle.sl_due_law.specs.Facts.SessionFacts.{ConnectionFacts, IsHeardWriter}
 use Rattle.sl_due_law.specs.Facts.Whole.{Whole}

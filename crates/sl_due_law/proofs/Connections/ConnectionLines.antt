@@ -20,8 +20,8 @@ use Rattle.sl_due_law.proofs.Jobs.LinesAreAllowed.{IsBegun, late_on_line}
 use Rattle.sl_due_law.proofs.Jobs.NearlyPlainActs.{AnyStart}
 use Rattle.sl_due_law.proofs.Jobs.SessionsArePresent.{joined_present}
 use Rattle.sl_due_law.proofs.Jobs.SessionsHaveJobs.{number_taken}
-use Rattle.sl_law.specs.LawfulWatchdog.{is_covered}
-use Rattle.sl_leases.specs.Jobs.{is_command_that, jobs_of_session, lockspace_named}
+use Rattle.sl_run.specs.LawfulWatchdog.{is_covered}
+use Rattle.sl_trace.specs.Jobs.{is_command_that, jobs_of_session, lockspace_named}
 use Rattle.sl_due_law.proofs.Parts.CallsGrow.{mine_more, others_stay}
 use Rattle.sl_plain.proofs.Lists.{any_of, contains_cases, got_inside, kept, kept_inside}
 use Rattle.sl_plain.proofs.Numbers.{number_itself}
@@ -40,8 +40,8 @@ use Rattle.sl_due_law.proofs.Sessions.NamesAreAllowed.{Holds, NameCall, NameRepl
 use Rattle.sl_due_law.proofs.Sessions.NamesAtEnd.{running_unjoined}
 use Rattle.sl_due_law.proofs.Sessions.NamesGrow.{input_names, input_present}
 use Rattle.sl_due_law.specs.Sessions.Promises.{HasNameFacts}
-use Rattle.sl_sessions.specs.Sessions.{calls_of, has_open_write, is_active, is_call_of, is_covered_stage, is_joined, is_present, joined_after, joining_session, last_renewal, leaving_job, open_calls_of, recovery_of, refused_after, removed_after, session_named, session_numbered, sessions, stage_in}
-use Rattle.sl_sessions.specs.declared.session.Session.{Session}
+use Rattle.sl_trace.specs.Sessions.{calls_of, has_open_write, is_active, is_call_of, is_covered_stage, is_joined, is_present, joined_after, joining_session, last_renewal, leaving_job, open_calls_of, recovery_of, refused_after, removed_after, session_named, session_numbered, sessions, stage_in}
+use Rattle.sl_trace.specs.declared.session.Session.{Session}
 use Rattle.sl_due_law.specs.Facts.Heard.{IsOpen}
 use Rattle.sl_due_law.specs.Facts.SessionFacts.{ConnectionFacts, IsHeardWriter}
 use Rattle.sl_due_law.specs.Facts.Whole.{Whole}

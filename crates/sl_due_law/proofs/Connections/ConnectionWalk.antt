@@ -7,7 +7,7 @@ use Rattle.sl_due_law.proofs.Jobs.EffectsAreAllowed.{Allows}
 use Rattle.sl_due_law.proofs.Jobs.NearlyPlainActs.{AnyStart}
 use Rattle.sl_due_law.proofs.Jobs.SessionsArePresent.{joined_present, present_inside}
 use Rattle.sl_due_law.proofs.Jobs.SessionsStand.{joined_then, running_before}
-use Rattle.sl_law.specs.LawfulWatchdog.{is_covered}
+use Rattle.sl_run.specs.LawfulWatchdog.{is_covered}
 use Rattle.sl_due_law.proofs.Parts.JoinedCallsKeepOrder.{joined_is_covered}
 use Rattle.sl_plain.proofs.Lists.{got_inside}
 use Rattle.sl_plain.proofs.Options.{some_there}
@@ -16,8 +16,8 @@ use Rattle.sl_due_law.proofs.Connections.ConnectionsChange.{IsAlone, altered_sti
 use Rattle.sl_due_law.specs.Connections.Promises.{HasConnectionFacts}
 use Rattle.sl_due_law.proofs.Sessions.NameEffects.{reply_joins_more, reply_present}
 use Rattle.sl_due_law.proofs.Sessions.NamesAreAllowed.{is_joining, joined_unrefused}
-use Rattle.sl_sessions.specs.Sessions.{is_join_call, is_joined, is_present, joined_after, removed_after, sessions}
-use Rattle.sl_sessions.specs.declared.session.Session.{Session}
+use Rattle.sl_trace.specs.Sessions.{is_join_call, is_joined, is_present, joined_after, removed_after, sessions}
+use Rattle.sl_trace.specs.declared.session.Session.{Session}
 use Rattle.sl_due_law.specs.Facts.Heard.{heard_by}
 use Rattle.sl_due_law.specs.Facts.SessionFacts.{ConnectionFacts, NameFacts}
 use Rattle.sl_trace.specs.Traces.{Submitted, is_before_input, is_running, job_of, jobs, submitted}

@@ -1,10 +1,10 @@
 -- What an act that is of one session, its calls, its job and its name, leaves of what is known of connections.
 use Rattle.sl_due_law.proofs.Jobs.SessionsArePresent.{joined_present}
-use Rattle.sl_law.specs.LawfulWatchdog.{is_covered}
+use Rattle.sl_run.specs.LawfulWatchdog.{is_covered}
 use Rattle.sl_due_law.proofs.Connections.ConnectionsNamed.{connected}
 use Rattle.sl_due_law.proofs.Connections.SessionParts.{SameSession, covered_present, same_covered, same_is_joined, same_present}
-use Rattle.sl_sessions.specs.Sessions.{calls_of, is_joined, is_present, joined_after, last_renewal, sessions}
-use Rattle.sl_sessions.specs.declared.session.Session.{Session}
+use Rattle.sl_trace.specs.Sessions.{calls_of, is_joined, is_present, joined_after, last_renewal, sessions}
+use Rattle.sl_trace.specs.declared.session.Session.{Session}
 use Rattle.sl_due_law.specs.Facts.Heard.{IsOpen}
 use Rattle.sl_due_law.specs.Facts.SessionFacts.{ConnectionFacts, IsHeardWriter}
 use Rattle.sl_time.specs.Times.{fail}

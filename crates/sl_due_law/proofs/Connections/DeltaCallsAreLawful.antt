@@ -7,8 +7,8 @@ use Rattle.sl_due.specs.Steps.{Step, seen}
 use Rattle.sl_due_law.proofs.Jobs.EffectsAreAllowed.{DeltaAllowed}
 use Rattle.sl_due_law.proofs.Jobs.JobsAreAllowed.{heard_answered}
 use Rattle.sl_due_law.proofs.Jobs.NearlyPlainActs.{AnyMove}
-use Rattle.sl_law.specs.LawfulCalls.{may_submit}
-use Rattle.sl_law.specs.LawfulDelta.{Gave, LawfulDeciding}
+use Rattle.sl_run.specs.LawfulCalls.{may_submit}
+use Rattle.sl_run.specs.LawfulDelta.{Gave, LawfulDeciding}
 use Rattle.sl_plain.proofs.Lists.{find_inside, kept, kept_inside}
 use Rattle.sl_plain.proofs.Numbers.{number_itself}
 use Rattle.sl_plain.proofs.Options.{not_some, then_value}
@@ -25,14 +25,14 @@ use Rattle.sl_due_law.proofs.Sessions.DeltaGrow.{DeltaCall, DeltaReply}
 use Rattle.sl_due_law.proofs.Sessions.JoiningsGoOn.{AtWork, law_of, one_first}
 use Rattle.sl_due_law.proofs.Sessions.NameFactsConclude.{heard_answer}
 use Rattle.sl_due_law.proofs.Sessions.NamesAreAllowed.{heard_mine}
-use Rattle.sl_sessions.specs.Deltas.{DeltaLease}
-use Rattle.sl_sessions.specs.Sessions.{calls_of, free_write, generation_of, has_open_delta, holdings_of, is_call_of, is_delta_purpose, is_join_call, is_joined, join_call, joined_after, last_seq, leaving_job, open_calls_of, recovery_of, refused_after, removed_after, stage_after, stage_in, stage_of}
-use Rattle.sl_sessions.specs.declared.delta.DeltaKnown.{DeltaKnown}
-use Rattle.sl_sessions.specs.declared.delta.DeltaNext.TheVariants.{Nothing, RefuseJoin, WriteClaim, WriteFirst, WriteFree, WriteRenewal}
-use Rattle.sl_sessions.specs.declared.delta.DeltaNext.{DeltaNext}
-use Rattle.sl_sessions.specs.declared.session.Session.{Session}
-use Rattle.sl_sessions.specs.declared.stage.Stage.TheVariants.{Deciding, Standing, Verifying}
-use Rattle.sl_sessions.specs.declared.stage.Stage.{Stage}
+use Rattle.sl_trace.specs.Deltas.{DeltaLease}
+use Rattle.sl_trace.specs.Sessions.{calls_of, free_write, generation_of, has_open_delta, holdings_of, is_call_of, is_delta_purpose, is_join_call, is_joined, join_call, joined_after, last_seq, leaving_job, open_calls_of, recovery_of, refused_after, removed_after, stage_after, stage_in, stage_of}
+use Rattle.sl_trace.specs.declared.delta.DeltaKnown.{DeltaKnown}
+use Rattle.sl_trace.specs.declared.delta.DeltaNext.TheVariants.{Nothing, RefuseJoin, WriteClaim, WriteFirst, WriteFree, WriteRenewal}
+use Rattle.sl_trace.specs.declared.delta.DeltaNext.{DeltaNext}
+use Rattle.sl_trace.specs.declared.session.Session.{Session}
+use Rattle.sl_trace.specs.declared.stage.Stage.TheVariants.{Deciding, Standing, Verifying}
+use Rattle.sl_trace.specs.declared.stage.Stage.{Stage}
 use Rattle.sl_due_law.specs.Facts.Whole.{Whole}
 use Rattle.sl_time.specs.Times.{renew}
 use Rattle.sl_trace.specs.Traces.{Answered, Job, Setting, Submitted, Trace, bytes_given, gave, is_answered_ok, is_running, same_place, submitted, unanswered}
@@ -59,7 +59,7 @@ use Rattle.std.proofs.lemmas.Slice.Eq.{bytes_eq-Decides}
 use Rattle.std.specs.List.{list_any}
 use Rattle.std.specs.Prelude.{Bool, Contains, List, None, Option, Some, [], bytes_eq, false, if◌then◌else◌, is_none, is_some, nat_le, not, option_and_then, option_map, true, unwrap_or, ℕ, ◌&&◌, ◌+◌, ◌==◌, ◌∷◌, ◌≡◌}
 use Rattle.sl_due_law.specs.Connections.DeltaCalls.{DeltaLawful, own_write}
-use Rattle.sl_sessions.specs.Deltas.{claim_of, claim_on, delta_known, delta_of_session, delta_record, is_renewal_due, next_after_deciding, next_after_verify, next_free, next_renewal, own_offset, has_seq_left, id_held, id_lost, watched}
+use Rattle.sl_trace.specs.Deltas.{claim_of, claim_on, delta_known, delta_of_session, delta_record, is_renewal_due, next_after_deciding, next_after_verify, next_free, next_renewal, own_offset, has_seq_left, id_held, id_lost, watched}
 
 -- ---- what every write of the own sector keeps to
 

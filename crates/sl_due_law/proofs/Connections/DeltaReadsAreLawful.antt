@@ -6,11 +6,11 @@ use Rattle.sl_due.specs.DueDelta.{move_connection, register}
 use Rattle.sl_due.specs.Steps.{Step, add_reply, seen}
 use Rattle.sl_due_law.proofs.Jobs.CallsStay.{calls_stay, late_join}
 use Rattle.sl_due_law.proofs.Jobs.SessionsArePresent.{present_inside}
-use Rattle.sl_law.proofs.LawFacts.{orderly-front}
-use Rattle.sl_law.specs.Lawful.{Orderly}
-use Rattle.sl_law.specs.LawfulCalls.{may_submit}
-use Rattle.sl_law.specs.LawfulWatchdog.{is_covered}
-use Rattle.sl_law.specs.Saying.{cut_at}
+use Rattle.sl_run.proofs.LawFacts.{orderly-front}
+use Rattle.sl_run.specs.Lawful.{Orderly}
+use Rattle.sl_run.specs.LawfulCalls.{may_submit}
+use Rattle.sl_run.specs.LawfulWatchdog.{is_covered}
+use Rattle.sl_run.specs.Saying.{cut_at}
 use Rattle.sl_plain.proofs.Lists.{any_found, contains_cases, contains_first, contains_none, got_inside, in_map, kept, kept_inside}
 use Rattle.sl_plain.proofs.Numbers.{number_itself}
 use Rattle.sl_plain.proofs.Options.{none_is}
@@ -27,11 +27,11 @@ use Rattle.sl_due_law.proofs.Connections.SessionParts.{at_work_is_present, cover
 use Rattle.sl_due_law.proofs.Sessions.DeltaConditions.{heard_unfreed, unjoined_unfreed}
 use Rattle.sl_due_law.proofs.Sessions.NameActs.{joined_by_reply}
 use Rattle.sl_due_law.proofs.Sessions.NamesAreAllowed.{heard_mine}
-use Rattle.sl_sessions.specs.Sessions.{calls_of, free_write, has_open_delta, is_call_of, is_covered_stage, is_delta_purpose, is_free_purpose, is_join_call, is_joined, join_call, joined_after, open_calls_of, refused_after, removed_after, session_numbered, sessions, stage_after, stage_in, stage_of}
-use Rattle.sl_sessions.specs.declared.delta.DeltaNext.TheVariants.{Nothing, RefuseJoin, RegisterAndRead}
-use Rattle.sl_sessions.specs.declared.delta.DeltaNext.{DeltaNext}
-use Rattle.sl_sessions.specs.declared.session.Session.{Session}
-use Rattle.sl_sessions.specs.declared.stage.Stage.TheVariants.{Looking, Standing, Waiting}
+use Rattle.sl_trace.specs.Sessions.{calls_of, free_write, has_open_delta, is_call_of, is_covered_stage, is_delta_purpose, is_free_purpose, is_join_call, is_joined, join_call, joined_after, open_calls_of, refused_after, removed_after, session_numbered, sessions, stage_after, stage_in, stage_of}
+use Rattle.sl_trace.specs.declared.delta.DeltaNext.TheVariants.{Nothing, RefuseJoin, RegisterAndRead}
+use Rattle.sl_trace.specs.declared.delta.DeltaNext.{DeltaNext}
+use Rattle.sl_trace.specs.declared.session.Session.{Session}
+use Rattle.sl_trace.specs.declared.stage.Stage.TheVariants.{Looking, Standing, Waiting}
 use Rattle.sl_due_law.specs.Facts.Heard.{heard_by}
 use Rattle.sl_due_law.specs.Facts.SessionFacts.{ConnectionFacts, IsHeardWriter, NameFacts}
 use Rattle.sl_due_law.specs.Facts.Whole.{Whole}
@@ -64,7 +64,7 @@ use Rattle.std.specs.Prelude.{Bool, Contains, List, None, Option, Some, [], cond
 use Rattle.std.proofs.lemmas.Bool.{eqb-true, leb-true, ltb-false}
 use Rattle.sl_due_law.proofs.Connections.MovesAreKept.{answered_before, unjoined_before, unrefused_before, woken_inside}
 use Rattle.sl_due_law.specs.Connections.DeltaCalls.{DeltaLawful, own_read, survey_read}
-use Rattle.sl_sessions.specs.Deltas.{delta_of_session, next_after_claim}
+use Rattle.sl_trace.specs.Deltas.{delta_of_session, next_after_claim}
 
 -- ---- one call on a delta sector is open
 

@@ -32,13 +32,13 @@ use Rattle.sl_due_law.proofs.Jobs.SessionsArePresent.{joined_present, present_is
 use Rattle.sl_due_law.proofs.Jobs.SessionsHaveJobs.{one_session}
 use Rattle.sl_due_law.proofs.Jobs.SessionsStand.{no_members}
 use Rattle.sl_due_law.specs.Jobs.Promises.{BeginsWith}
-use Rattle.sl_law.specs.LawfulDelta.{Gave, IsRegistering, LawfulDeltaCall, LawfulJoinStep, WatchOver}
-use Rattle.sl_law.specs.Saying.{EachCall, cut_at, older}
-use Rattle.sl_leases.specs.Jobs.{job_of_start}
-use Rattle.sl_leases.specs.LeaseWork.{convert_next, lease_place, release_next, settle_next}
-use Rattle.sl_leases.specs.Leases.{known, spot_of, spot_of_call}
-use Rattle.sl_leases.specs.declared.lease.LeaseNext.TheVariants.{AnswerJob, BecomeExclusive, BecomeShared, GrantJob, Nothing as No_lease, ReadFor, WriteBlock, WriteLeader}
-use Rattle.sl_leases.specs.declared.lease.LeaseNext.{LeaseNext}
+use Rattle.sl_run.specs.LawfulDelta.{Gave, IsRegistering, LawfulDeltaCall, LawfulJoinStep, WatchOver}
+use Rattle.sl_run.specs.Saying.{EachCall, cut_at, older}
+use Rattle.sl_trace.specs.Jobs.{job_of_start}
+use Rattle.sl_trace.specs.LeaseWork.{convert_next, lease_place, release_next, settle_next}
+use Rattle.sl_trace.specs.Leases.{known, spot_of, spot_of_call}
+use Rattle.sl_trace.specs.declared.lease.LeaseNext.TheVariants.{AnswerJob, BecomeExclusive, BecomeShared, GrantJob, Nothing as No_lease, ReadFor, WriteBlock, WriteLeader}
+use Rattle.sl_trace.specs.declared.lease.LeaseNext.{LeaseNext}
 use Rattle.sl_due_law.proofs.Parts.CallsGrow.{LastPlace, OldPlace, each_more, old_or_last}
 use Rattle.sl_due_law.proofs.Parts.JoinedCallsKeepOrder.{one_number}
 use Rattle.sl_plain.proofs.Lists.{contains_cases, contains_first, contains_none, find_inside, got_inside, kept, kept_inside}
@@ -66,15 +66,15 @@ use Rattle.sl_due_law.specs.Connections.WatchFacts.{HasWatchFacts}
 use Rattle.sl_due_law.proofs.Sessions.HoldingsOfSessions.{end_held, held_itself}
 use Rattle.sl_due_law.proofs.Sessions.NameEffects.{move_present, reply_present}
 use Rattle.sl_due_law.proofs.Sessions.NamesAtEnd.{running_unjoined}
-use Rattle.sl_sessions.specs.Deltas.{DeltaLease, claim_of, claim_on, delta_known, delta_of_session, delta_record, id_held, id_lost, is_renewal_due, is_watched_out, join_step_of, next_after_claim, next_after_deciding, next_after_first, next_after_free, next_after_renewal, next_after_verify, next_after_watch, next_by_time, next_free, next_in_joining, next_in_watch, next_on_wake, next_renewal, own_offset, watched}
-use Rattle.sl_sessions.specs.Sessions.{calls_of, delta_of_record, delta_written, free_write, generation_in, generation_of, has_open_write, holders_of, holdings_of, is_call_of, is_delta_purpose, is_join_call, is_joined, is_present, is_survey_purpose, join_call, joined_after, joining_session, last_seq, leaves, leaving_in, leaving_job, open_calls_of, present_sessions, recovery_of, refused_after, removed_after, seq_in, session_named, session_numbered, session_of_job, sessions, stage_in, stage_of}
-use Rattle.sl_sessions.specs.Watching.{is_free_state}
-use Rattle.sl_sessions.specs.declared.delta.DeltaKnown.{DeltaKnown}
-use Rattle.sl_sessions.specs.declared.delta.DeltaNext.TheVariants.{Disconnect, EndLeaving, Join, MoveConnection, Nothing, ReadOwn, RefuseJoin, RegisterAndRead, WriteClaim, WriteFirst, WriteFree, WriteRenewal}
-use Rattle.sl_sessions.specs.declared.delta.DeltaNext.{DeltaNext}
-use Rattle.sl_sessions.specs.declared.session.Session.{Session}
-use Rattle.sl_sessions.specs.declared.stage.Stage.TheVariants.{Deciding, Ended, Freeing, Looking, Refused, Standing, Verifying, Waiting}
-use Rattle.sl_sessions.specs.declared.stage.Stage.{Stage}
+use Rattle.sl_trace.specs.Deltas.{DeltaLease, claim_of, claim_on, delta_known, delta_of_session, delta_record, id_held, id_lost, is_renewal_due, is_watched_out, join_step_of, next_after_claim, next_after_deciding, next_after_first, next_after_free, next_after_renewal, next_after_verify, next_after_watch, next_by_time, next_free, next_in_joining, next_in_watch, next_on_wake, next_renewal, own_offset, watched}
+use Rattle.sl_trace.specs.Sessions.{calls_of, delta_of_record, delta_written, free_write, generation_in, generation_of, has_open_write, holders_of, holdings_of, is_call_of, is_delta_purpose, is_join_call, is_joined, is_present, is_survey_purpose, join_call, joined_after, joining_session, last_seq, leaves, leaving_in, leaving_job, open_calls_of, present_sessions, recovery_of, refused_after, removed_after, seq_in, session_named, session_numbered, session_of_job, sessions, stage_in, stage_of}
+use Rattle.sl_trace.specs.Watching.{is_free_state}
+use Rattle.sl_trace.specs.declared.delta.DeltaKnown.{DeltaKnown}
+use Rattle.sl_trace.specs.declared.delta.DeltaNext.TheVariants.{Disconnect, EndLeaving, Join, MoveConnection, Nothing, ReadOwn, RefuseJoin, RegisterAndRead, WriteClaim, WriteFirst, WriteFree, WriteRenewal}
+use Rattle.sl_trace.specs.declared.delta.DeltaNext.{DeltaNext}
+use Rattle.sl_trace.specs.declared.session.Session.{Session}
+use Rattle.sl_trace.specs.declared.stage.Stage.TheVariants.{Deciding, Ended, Freeing, Looking, Refused, Standing, Verifying, Waiting}
+use Rattle.sl_trace.specs.declared.stage.Stage.{Stage}
 use Rattle.sl_due_law.specs.Facts.SessionFacts.{ConnectionFacts, NameFacts}
 use Rattle.sl_due_law.specs.Facts.Whole.{Whole}
 use Rattle.sl_time.specs.Times.{dead, fail, join_max, renew}

@@ -12,10 +12,10 @@ use Rattle.sl_plain.proofs.Options.{mapped_value, none_is, some_there}
 use Rattle.sl_due_law.proofs.Sessions.NameFactsConclude.{heard_answer}
 use Rattle.sl_due_law.proofs.Sessions.NamesAreAllowed.{heard_mine}
 use Rattle.sl_due_law.proofs.Sessions.NamesGrow.{calls_of_told}
-use Rattle.sl_sessions.specs.Sessions.{calls_of, is_call_of, is_joined, is_renewal, joined_after, last_renewal, recovers, recovery_of, renewed_by, renewing, session_numbered, shows_other}
-use Rattle.sl_sessions.specs.declared.session.Begun.{Begun}
-use Rattle.sl_sessions.specs.declared.session.Renewing.{Renewing}
-use Rattle.sl_sessions.specs.declared.session.Session.{Session}
+use Rattle.sl_trace.specs.Sessions.{calls_of, is_call_of, is_joined, is_renewal, joined_after, last_renewal, recovers, recovery_of, renewed_by, renewing, session_numbered, shows_other}
+use Rattle.sl_trace.specs.declared.session.Begun.{Begun}
+use Rattle.sl_trace.specs.declared.session.Renewing.{Renewing}
+use Rattle.sl_trace.specs.declared.session.Session.{Session}
 use Rattle.sl_due_law.specs.Facts.Whole.{Whole}
 use Rattle.sl_time.specs.Times.{fail}
 use Rattle.sl_trace.specs.Traces.{Answered, Setting, Submitted, Trace, answered_in, call_numbered, is_answer_for, is_answered_ok, is_expected, is_ok_answer, outstanding, submitted}

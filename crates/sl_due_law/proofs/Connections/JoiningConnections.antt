@@ -9,7 +9,7 @@ use Rattle.sl_due_law.proofs.Jobs.CallsStay.{IsLate, calls_stay}
 use Rattle.sl_due_law.proofs.Jobs.JobsAreAllowed.{calls_heard}
 use Rattle.sl_due_law.proofs.Jobs.SessionsArePresent.{session_has}
 use Rattle.sl_due_law.proofs.Jobs.SessionsHaveJobs.{one_session}
-use Rattle.sl_law.specs.LawfulWatchdog.{is_covered}
+use Rattle.sl_run.specs.LawfulWatchdog.{is_covered}
 use Rattle.sl_due_law.proofs.Parts.EffectsAreTold.{effects_are_told}
 use Rattle.sl_plain.proofs.Lists.{any_found, contains_map, find_fails, find_inside, got_inside, kept, kept_inside}
 use Rattle.sl_plain.proofs.Numbers.{number_itself}
@@ -22,8 +22,8 @@ use Rattle.sl_due_law.specs.Connections.Promises.{HasConnectionFacts}
 use Rattle.sl_due_law.proofs.Sessions.NameActs.{running_unrefused}
 use Rattle.sl_due_law.proofs.Sessions.NameEffects.{refused_of}
 use Rattle.sl_due_law.proofs.Sessions.NamesAtEnd.{running_unjoined}
-use Rattle.sl_sessions.specs.Sessions.{calls_of, has_open_write, is_call_of, is_join_done, is_present, joined_after, open_calls_of, refused_after, removed_after, session_of_job, sessions}
-use Rattle.sl_sessions.specs.declared.session.Session.{Session}
+use Rattle.sl_trace.specs.Sessions.{calls_of, has_open_write, is_call_of, is_join_done, is_present, joined_after, open_calls_of, refused_after, removed_after, session_of_job, sessions}
+use Rattle.sl_trace.specs.declared.session.Session.{Session}
 use Rattle.sl_due_law.specs.Facts.Heard.{IsOpen, heard_by}
 use Rattle.sl_due_law.specs.Facts.SessionFacts.{NameFacts}
 use Rattle.sl_trace.specs.Connections.{is_registered}

@@ -7,7 +7,7 @@ use Rattle.sl_due_law.proofs.Jobs.AnsweredCallsFit.{both_of}
 use Rattle.sl_due_law.proofs.Jobs.CallsOfJobsFit.{joining_of}
 use Rattle.sl_due_law.proofs.Jobs.JobsAreAllowed.{is_told}
 use Rattle.sl_due_law.proofs.Jobs.RepliesComeAfter.{on_bool, on_option}
-use Rattle.sl_law.specs.LawfulWatchdog.{is_covered}
+use Rattle.sl_run.specs.LawfulWatchdog.{is_covered}
 use Rattle.sl_plain.proofs.Lists.{contains_first, find_inside, got_inside, kept_inside}
 use Rattle.sl_sector.specs.Bitmaps.{no_bits}
 use Rattle.sl_sector.specs.Spelling.{delta_in}
@@ -18,14 +18,14 @@ use Rattle.sl_due_law.proofs.Connections.HeardCalls.{heard_ok, newest_heard, ren
 use Rattle.sl_due_law.proofs.Connections.JoiningConnections.{Working, working_turn, working_unjoined, working_unrefused}
 use Rattle.sl_due_law.proofs.Connections.JoiningSteps.{JoinsConnection, NoHeardWriter}
 use Rattle.sl_due_law.proofs.Connections.SessionParts.{covered_at_work}
-use Rattle.sl_sessions.specs.Deltas.{DeltaLease, claim_of, claim_on, delta_of_session, delta_record, id_held, id_lost, is_watched_out, join_step_of, next_after_deciding, next_after_first, next_after_verify, next_after_watch, next_by_time, next_in_joining, next_in_watch, next_on_wake, watched}
-use Rattle.sl_sessions.specs.Sessions.{calls_of, generation_of, is_call_of, is_covered_stage, is_renewal, last_renewal, session_numbered, sessions, stage_after, stage_in}
-use Rattle.sl_sessions.specs.Watching.{is_free_state}
-use Rattle.sl_sessions.specs.declared.delta.DeltaNext.TheVariants.{Nothing, ReadOwn, RefuseJoin, RegisterAndRead, WriteClaim, WriteFirst}
-use Rattle.sl_sessions.specs.declared.delta.DeltaNext.{DeltaNext}
-use Rattle.sl_sessions.specs.declared.session.Session.{Session}
-use Rattle.sl_sessions.specs.declared.stage.Stage.TheVariants.{Looking}
-use Rattle.sl_sessions.specs.declared.stage.Stage.{Stage}
+use Rattle.sl_trace.specs.Deltas.{DeltaLease, claim_of, claim_on, delta_of_session, delta_record, id_held, id_lost, is_watched_out, join_step_of, next_after_deciding, next_after_first, next_after_verify, next_after_watch, next_by_time, next_in_joining, next_in_watch, next_on_wake, watched}
+use Rattle.sl_trace.specs.Sessions.{calls_of, generation_of, is_call_of, is_covered_stage, is_renewal, last_renewal, session_numbered, sessions, stage_after, stage_in}
+use Rattle.sl_trace.specs.Watching.{is_free_state}
+use Rattle.sl_trace.specs.declared.delta.DeltaNext.TheVariants.{Nothing, ReadOwn, RefuseJoin, RegisterAndRead, WriteClaim, WriteFirst}
+use Rattle.sl_trace.specs.declared.delta.DeltaNext.{DeltaNext}
+use Rattle.sl_trace.specs.declared.session.Session.{Session}
+use Rattle.sl_trace.specs.declared.stage.Stage.TheVariants.{Looking}
+use Rattle.sl_trace.specs.declared.stage.Stage.{Stage}
 use Rattle.sl_due_law.specs.Facts.Heard.{heard_by}
 use Rattle.sl_due_law.specs.Facts.Whole.{Whole}
 use Rattle.sl_time.specs.Times.{dead, join_max, renew}

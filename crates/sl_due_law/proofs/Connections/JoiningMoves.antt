@@ -6,7 +6,7 @@ use Rattle.sl_due.specs.Steps.{Step, add_call_of, add_move, add_reply, seen, whe
 use Rattle.sl_due_law.proofs.Jobs.CallsStay.{IsLate, calls_stay, late, late_join}
 use Rattle.sl_due_law.proofs.Jobs.SessionsArePresent.{session_has}
 use Rattle.sl_due_law.proofs.Jobs.SessionsHaveJobs.{one_session}
-use Rattle.sl_law.specs.LawfulWatchdog.{is_covered}
+use Rattle.sl_run.specs.LawfulWatchdog.{is_covered}
 use Rattle.sl_due_law.proofs.Parts.CallsGrow.{any_more}
 use Rattle.sl_due_law.proofs.Parts.JoinedCallsKeepOrder.{joined_is_covered}
 use Rattle.sl_plain.proofs.Lists.{find_fails, find_inside}
@@ -24,11 +24,11 @@ use Rattle.sl_due_law.proofs.Connections.SessionParts.{present_joined}
 use Rattle.sl_due_law.proofs.Connections.SteadyActs.{steady_allow, steady_itself}
 use Rattle.sl_due_law.proofs.Sessions.NameActs.{joined_by_reply}
 use Rattle.sl_due_law.proofs.Sessions.NamesAreAllowed.{joined_unrefused}
-use Rattle.sl_sessions.specs.Sessions.{calls_of, has_open_write, is_call_of, is_join_call, is_join_done, is_present, joined_after, refused_after, removed_after, session_of_job, sessions, stage_in}
-use Rattle.sl_sessions.specs.declared.delta.DeltaNext.TheVariants.{Disconnect, EndLeaving, Join, MoveConnection, Nothing, ReadOwn, RefuseJoin, RegisterAndRead, WriteClaim, WriteFirst, WriteFree, WriteRenewal}
-use Rattle.sl_sessions.specs.declared.delta.DeltaNext.{DeltaNext}
-use Rattle.sl_sessions.specs.declared.session.Session.{Session}
-use Rattle.sl_sessions.specs.declared.stage.Stage.TheVariants.{Waiting}
+use Rattle.sl_trace.specs.Sessions.{calls_of, has_open_write, is_call_of, is_join_call, is_join_done, is_present, joined_after, refused_after, removed_after, session_of_job, sessions, stage_in}
+use Rattle.sl_trace.specs.declared.delta.DeltaNext.TheVariants.{Disconnect, EndLeaving, Join, MoveConnection, Nothing, ReadOwn, RefuseJoin, RegisterAndRead, WriteClaim, WriteFirst, WriteFree, WriteRenewal}
+use Rattle.sl_trace.specs.declared.delta.DeltaNext.{DeltaNext}
+use Rattle.sl_trace.specs.declared.session.Session.{Session}
+use Rattle.sl_trace.specs.declared.stage.Stage.TheVariants.{Waiting}
 use Rattle.sl_due_law.specs.Facts.Heard.{heard_by}
 use Rattle.sl_due_law.specs.Facts.Whole.{Whole}
 use Rattle.sl_time.specs.Times.{fail}
@@ -53,7 +53,7 @@ use Rattle.std.proofs.lemmas.Slice.Eq.{bytes_eq-Decides}
 use Rattle.std.specs.List.{list_any}
 use Rattle.std.specs.Prelude.{Bool, Contains, List, None, Option, Some, [], bytes_eq, false, filter, is_none, is_some, not, true, ℕ, ◌&&◌, ◌++◌, ◌+◌, ◌==◌, ◌||◌, ◌∷◌, ◌≡◌, ◌⊎◌}
 use Rattle.sl_due_law.specs.Connections.MovedSoFar.{IsClosed, MovedSoFar}
-use Rattle.sl_sessions.specs.Deltas.{own_offset}
+use Rattle.sl_trace.specs.Deltas.{own_offset}
 
 -- ---- one move more
 

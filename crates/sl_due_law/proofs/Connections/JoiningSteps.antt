@@ -5,7 +5,7 @@ use Rattle.sl_due.specs.DueFirst.{refuse}
 use Rattle.sl_due.specs.Steps.{Step, add_call_of, add_move, add_reply, seen, with_some}
 use Rattle.sl_due_law.proofs.Jobs.CallsStay.{is_special, late, late_join}
 use Rattle.sl_due_law.proofs.Jobs.SessionsHaveJobs.{one_session}
-use Rattle.sl_law.specs.LawfulWatchdog.{is_covered}
+use Rattle.sl_run.specs.LawfulWatchdog.{is_covered}
 use Rattle.sl_due_law.proofs.Parts.CallsGrow.{mine_more}
 use Rattle.sl_due_law.proofs.Parts.JoinedCallsKeepOrder.{joined_is_covered}
 use Rattle.sl_plain.proofs.Numbers.{number_itself}
@@ -19,12 +19,12 @@ use Rattle.sl_due_law.proofs.Connections.SessionParts.{covered_at_work, covered_
 use Rattle.sl_due_law.specs.Connections.Promises.{HasConnectionFacts}
 use Rattle.sl_due_law.proofs.Sessions.NameActs.{joined_by_reply}
 use Rattle.sl_due_law.proofs.Sessions.NamesAreAllowed.{joined_unrefused}
-use Rattle.sl_sessions.specs.Deltas.{own_offset}
-use Rattle.sl_sessions.specs.Sessions.{calls_of, is_covered_stage, is_join_call, is_join_done, is_joined, joined_after, last_renewal, refused_after, removed_after, removed_in, same_join_step, sessions, stage_after, stage_in}
-use Rattle.sl_sessions.specs.declared.delta.DeltaNext.TheVariants.{Disconnect, EndLeaving, Join, MoveConnection, Nothing, ReadOwn, RefuseJoin, RegisterAndRead, WriteClaim, WriteFirst, WriteFree, WriteRenewal}
-use Rattle.sl_sessions.specs.declared.delta.DeltaNext.{DeltaNext}
-use Rattle.sl_sessions.specs.declared.session.Session.{Session}
-use Rattle.sl_sessions.specs.declared.stage.Stage.TheVariants.{Waiting}
+use Rattle.sl_trace.specs.Deltas.{own_offset}
+use Rattle.sl_trace.specs.Sessions.{calls_of, is_covered_stage, is_join_call, is_join_done, is_joined, joined_after, last_renewal, refused_after, removed_after, removed_in, same_join_step, sessions, stage_after, stage_in}
+use Rattle.sl_trace.specs.declared.delta.DeltaNext.TheVariants.{Disconnect, EndLeaving, Join, MoveConnection, Nothing, ReadOwn, RefuseJoin, RegisterAndRead, WriteClaim, WriteFirst, WriteFree, WriteRenewal}
+use Rattle.sl_trace.specs.declared.delta.DeltaNext.{DeltaNext}
+use Rattle.sl_trace.specs.declared.session.Session.{Session}
+use Rattle.sl_trace.specs.declared.stage.Stage.TheVariants.{Waiting}
 use Rattle.sl_due_law.specs.Facts.Heard.{heard_by}
 use Rattle.sl_due_law.specs.Facts.SessionFacts.{IsHeardWriter}
 use Rattle.sl_time.specs.Times.{fail}

@@ -20,8 +20,8 @@ use Rattle.sl_due_law.proofs.Jobs.JobsAreNumbered.{next_is_new}
 use Rattle.sl_due_law.proofs.Jobs.RepliesComeAfter.{on_bool}
 use Rattle.sl_due_law.proofs.Jobs.SessionsHaveJobs.{one_session}
 use Rattle.sl_due_law.specs.Jobs.Promises.{BeginsWith}
-use Rattle.sl_law.specs.Lawful.{Orderly}
-use Rattle.sl_law.specs.LawfulDelta.{LawfulJoin}
+use Rattle.sl_run.specs.Lawful.{Orderly}
+use Rattle.sl_run.specs.LawfulDelta.{LawfulJoin}
 use Rattle.sl_due_law.proofs.Parts.CallsGrow.{mine_more, others_stay, same_sessions}
 use Rattle.sl_due_law.proofs.Parts.EffectsAreTold.{effects_are_told}
 use Rattle.sl_due_law.proofs.Parts.JoinedCallsKeepOrder.{one_number}
@@ -44,11 +44,11 @@ use Rattle.sl_due_law.proofs.Sessions.NameFactsAreKept.{joined_on_wake}
 use Rattle.sl_due_law.proofs.Sessions.NameFactsConclude.{heard_answer}
 use Rattle.sl_due_law.proofs.Sessions.NamesAtEnd.{running_unjoined}
 use Rattle.sl_due_law.proofs.Sessions.NamesGrow.{calls_of_told}
-use Rattle.sl_sessions.specs.Deltas.{delta_of_session, next_after_free, next_after_renewal, next_in_joining, next_on_wake, own_offset}
-use Rattle.sl_sessions.specs.Sessions.{calls_of, generation_of, given_session, has_open_write, is_call_of, is_join_call, is_join_done, join_call, joined_after, joining_session, recovery_of, refused_after, same_join_step, session_of_job, sessions}
-use Rattle.sl_sessions.specs.declared.delta.DeltaNext.TheVariants.{Disconnect, EndLeaving, Join, MoveConnection, Nothing, ReadOwn, RefuseJoin, RegisterAndRead, WriteClaim, WriteFirst, WriteFree, WriteRenewal}
-use Rattle.sl_sessions.specs.declared.delta.DeltaNext.{DeltaNext}
-use Rattle.sl_sessions.specs.declared.session.Session.{Session}
+use Rattle.sl_trace.specs.Deltas.{delta_of_session, next_after_free, next_after_renewal, next_in_joining, next_on_wake, own_offset}
+use Rattle.sl_trace.specs.Sessions.{calls_of, generation_of, given_session, has_open_write, is_call_of, is_join_call, is_join_done, join_call, joined_after, joining_session, recovery_of, refused_after, same_join_step, session_of_job, sessions}
+use Rattle.sl_trace.specs.declared.delta.DeltaNext.TheVariants.{Disconnect, EndLeaving, Join, MoveConnection, Nothing, ReadOwn, RefuseJoin, RegisterAndRead, WriteClaim, WriteFirst, WriteFree, WriteRenewal}
+use Rattle.sl_trace.specs.declared.delta.DeltaNext.{DeltaNext}
+use Rattle.sl_trace.specs.declared.session.Session.{Session}
 use Rattle.sl_due_law.specs.Facts.Whole.{Whole}
 use Rattle.sl_time.specs.Times.{fail}
 use Rattle.sl_trace.specs.Connections.{is_registered}

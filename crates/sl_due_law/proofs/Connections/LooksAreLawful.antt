@@ -12,8 +12,8 @@ use Rattle.sl_due_law.proofs.Jobs.JobsAreNumbered.{finds_none, next_is_new}
 use Rattle.sl_due_law.proofs.Jobs.SessionsArePresent.{present_is}
 use Rattle.sl_due_law.proofs.Jobs.SessionsHaveJobs.{contains_only}
 use Rattle.sl_due_law.proofs.Jobs.SessionsStand.{no_members}
-use Rattle.sl_law.specs.LawfulCalls.{may_submit}
-use Rattle.sl_law.specs.LawfulDelta.{Gave, WatchOver}
+use Rattle.sl_run.specs.LawfulCalls.{may_submit}
+use Rattle.sl_run.specs.LawfulDelta.{Gave, WatchOver}
 use Rattle.sl_plain.proofs.Lists.{contains_cases, contains_none, find_inside, kept_inside}
 use Rattle.sl_plain.proofs.Numbers.{number_itself}
 use Rattle.sl_plain.proofs.Options.{some_of}
@@ -31,12 +31,12 @@ use Rattle.sl_due_law.proofs.Sessions.NameActs.{running_unrefused}
 use Rattle.sl_due_law.proofs.Sessions.NamesAreAllowed.{heard_mine}
 use Rattle.sl_due_law.proofs.Sessions.NamesAtEnd.{running_unjoined}
 use Rattle.sl_due_law.proofs.Sessions.NamesGrow.{input_present}
-use Rattle.sl_sessions.specs.Sessions.{calls_of, free_write, is_call_of, is_delta_purpose, is_join_call, join_call, joined_after, joining_session, present_sessions, refused_after, removed_after, session_named, session_numbered, sessions, stage_after, stage_in, stage_of}
-use Rattle.sl_sessions.specs.Watching.{is_free_state}
-use Rattle.sl_sessions.specs.declared.delta.DeltaNext.TheVariants.{Nothing, RefuseJoin, RegisterAndRead}
-use Rattle.sl_sessions.specs.declared.delta.DeltaNext.{DeltaNext}
-use Rattle.sl_sessions.specs.declared.session.Session.{Session}
-use Rattle.sl_sessions.specs.declared.stage.Stage.TheVariants.{Looking}
+use Rattle.sl_trace.specs.Sessions.{calls_of, free_write, is_call_of, is_delta_purpose, is_join_call, join_call, joined_after, joining_session, present_sessions, refused_after, removed_after, session_named, session_numbered, sessions, stage_after, stage_in, stage_of}
+use Rattle.sl_trace.specs.Watching.{is_free_state}
+use Rattle.sl_trace.specs.declared.delta.DeltaNext.TheVariants.{Nothing, RefuseJoin, RegisterAndRead}
+use Rattle.sl_trace.specs.declared.delta.DeltaNext.{DeltaNext}
+use Rattle.sl_trace.specs.declared.session.Session.{Session}
+use Rattle.sl_trace.specs.declared.stage.Stage.TheVariants.{Looking}
 use Rattle.sl_due_law.specs.Facts.Heard.{heard_by}
 use Rattle.sl_due_law.specs.Facts.Whole.{Whole}
 use Rattle.sl_time.specs.Times.{fail, take_over}
@@ -70,7 +70,7 @@ use Rattle.std.specs.List.{list_any}
 use Rattle.std.specs.Prelude.{Bool, Contains, List, None, Ok, Option, Some, [], bytes_eq, false, length, nat_le, option_and_then, option_map, true, unwrap_or, ℕ, ◌&&◌, ◌+◌, ◌<◌, ◌==◌, ◌∷◌, ◌≡◌}
 use Rattle.sl_due_law.specs.Connections.DeltaCalls.{DeltaLawful, own_read}
 use Rattle.sl_due_law.specs.Connections.WatchFacts.{HasRead, HasWatchFacts}
-use Rattle.sl_sessions.specs.Deltas.{delta_of_session, is_watched_out, next_after_first, next_after_watch, id_held, watched}
+use Rattle.sl_trace.specs.Deltas.{delta_of_session, is_watched_out, next_after_first, next_after_watch, id_held, watched}
 use Rattle.std.proofs.lemmas.Bool.{eqb-true, leb-true}
 
 -- ---- a first read

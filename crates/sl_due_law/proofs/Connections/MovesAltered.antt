@@ -3,7 +3,7 @@ use Rattle.sl_due_law.specs.Connections.MovedSoFar.{IsClosed, MovedSoFar}
 use Rattle.sl_acts.specs.SoFar.{SoFar, entry_of}
 use Rattle.sl_due.specs.Steps.{Step, seen, with_input}
 use Rattle.sl_due_law.proofs.Jobs.SessionsArePresent.{joined_present, present_inside, session_has}
-use Rattle.sl_law.specs.LawfulWatchdog.{is_covered}
+use Rattle.sl_run.specs.LawfulWatchdog.{is_covered}
 use Rattle.sl_plain.proofs.Lists.{any_found, any_of, kept, kept_inside}
 use Rattle.sl_plain.proofs.Options.{none_is}
 use Rattle.sl_run_law.proofs.Front.Having.{contains_left}
@@ -12,9 +12,9 @@ use Rattle.sl_due_law.proofs.Connections.ConnectionsChange.{Alters, IsAlone}
 use Rattle.sl_due_law.proofs.Connections.SessionParts.{SameSession, covered_at_work, covered_present, same_present, unjoined_not}
 use Rattle.sl_due_law.proofs.Connections.SteadyActs.{Steady}
 use Rattle.sl_due_law.proofs.Sessions.NamesGrow.{input_present, write_then}
-use Rattle.sl_sessions.specs.Sessions.{begun_in, calls_of, has_open_write, is_covered_stage, is_joined, is_present, joined_after, open_calls_of, refused_after, removed_after, sessions, stage_in}
-use Rattle.sl_sessions.specs.declared.session.Session.{Session}
-use Rattle.sl_sessions.specs.declared.stage.Stage.TheVariants.{Waiting}
+use Rattle.sl_trace.specs.Sessions.{begun_in, calls_of, has_open_write, is_covered_stage, is_joined, is_present, joined_after, open_calls_of, refused_after, removed_after, sessions, stage_in}
+use Rattle.sl_trace.specs.declared.session.Session.{Session}
+use Rattle.sl_trace.specs.declared.stage.Stage.TheVariants.{Waiting}
 use Rattle.sl_due_law.specs.Facts.Heard.{IsOpen, heard_by}
 use Rattle.sl_due_law.specs.Facts.SessionFacts.{NameFacts}
 use Rattle.sl_trace.specs.Connections.{registers, unregisters}

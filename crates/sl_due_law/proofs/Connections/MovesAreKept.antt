@@ -18,7 +18,7 @@ use Rattle.sl_due_law.proofs.Jobs.SessionsArePresent.{joined_present}
 use Rattle.sl_due_law.proofs.Jobs.SessionsHaveJobs.{contains_either}
 use Rattle.sl_due_law.proofs.Jobs.SessionsStand.{joined_then, leaving_joined, recovery_joined}
 use Rattle.sl_due_law.specs.Jobs.Promises.{BeginsWith}
-use Rattle.sl_law.specs.LawfulWatchdog.{is_covered}
+use Rattle.sl_run.specs.LawfulWatchdog.{is_covered}
 use Rattle.sl_due_law.proofs.Parts.CallsGrow.{any_more, others_stay}
 use Rattle.sl_due_law.proofs.Parts.JoinedCallsKeepOrder.{joined_is_covered}
 use Rattle.sl_plain.proofs.Lists.{any_found, contains_first, contains_map, contains_none, find_fails, find_inside, got_inside, head_is, in_map, kept_inside}
@@ -36,12 +36,12 @@ use Rattle.sl_due_law.proofs.Connections.SteadyActs.{all_acts, steady_allow, ste
 use Rattle.sl_due_law.proofs.Sessions.DeltaConditions.{heard_at}
 use Rattle.sl_due_law.proofs.Sessions.NameEffects.{move_present}
 use Rattle.sl_due_law.proofs.Sessions.NamesAreAllowed.{heard_mine, joined_unrefused}
-use Rattle.sl_sessions.specs.Deltas.{DeltaLease, join_step_of, next_by_time}
-use Rattle.sl_sessions.specs.Sessions.{added_by, begun_in, calls_of, free_write, generation_of, has_open_write, is_call_of, is_covered_stage, is_free_purpose, is_join_call, is_joined, is_present, joined_after, joining_session, leaving_job, open_calls_of, recovery_of, refused_after, sessions, stage_in}
-use Rattle.sl_sessions.specs.declared.delta.DeltaNext.TheVariants.{MoveConnection, Nothing}
-use Rattle.sl_sessions.specs.declared.delta.DeltaNext.{DeltaNext}
-use Rattle.sl_sessions.specs.declared.session.Session.{Session}
-use Rattle.sl_sessions.specs.declared.stage.Stage.TheVariants.{Waiting}
+use Rattle.sl_trace.specs.Deltas.{DeltaLease, join_step_of, next_by_time}
+use Rattle.sl_trace.specs.Sessions.{added_by, begun_in, calls_of, free_write, generation_of, has_open_write, is_call_of, is_covered_stage, is_free_purpose, is_join_call, is_joined, is_present, joined_after, joining_session, leaving_job, open_calls_of, recovery_of, refused_after, sessions, stage_in}
+use Rattle.sl_trace.specs.declared.delta.DeltaNext.TheVariants.{MoveConnection, Nothing}
+use Rattle.sl_trace.specs.declared.delta.DeltaNext.{DeltaNext}
+use Rattle.sl_trace.specs.declared.session.Session.{Session}
+use Rattle.sl_trace.specs.declared.stage.Stage.TheVariants.{Waiting}
 use Rattle.sl_due_law.specs.Facts.Heard.{heard_by}
 use Rattle.sl_due_law.specs.Facts.Whole.{Whole}
 use Rattle.sl_time.specs.Times.{fail}
@@ -74,7 +74,7 @@ use Rattle.std.specs.Prelude.{Bool, Contains, List, None, Option, Some, [], byte
 use Rattle.sl_due_law.proofs.Connections.MovesAltered.{absent_closed, closed_same, closed_unjoined, moves_one, moves_seen, moves_steady, there_now}
 use Rattle.sl_due_law.proofs.Connections.JoiningMoves.{UncoveredBefore, any_split, closed_refused, closed_removed, joining_moves, refuse_moves, same_text}
 use Rattle.sl_due_law.specs.Connections.MovedSoFar.{IsClosed, MovedSoFar}
-use Rattle.sl_sessions.specs.Deltas.{delta_of_session, next_after_free, next_after_renewal, next_in_joining, next_on_wake}
+use Rattle.sl_trace.specs.Deltas.{delta_of_session, next_after_free, next_after_renewal, next_in_joining, next_on_wake}
 
 -- ---- a joining at work was there before
 

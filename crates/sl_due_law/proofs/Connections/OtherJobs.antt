@@ -4,7 +4,7 @@ use Rattle.sl_due.specs.Steps.{Step, seen}
 use Rattle.sl_due_law.proofs.Jobs.JobsAreNumbered.{found_after, found_before, next_is_new}
 use Rattle.sl_due_law.proofs.Jobs.SessionsHaveJobs.{contains_either, contains_only}
 use Rattle.sl_due_law.specs.Jobs.Promises.{HasJobFacts}
-use Rattle.sl_leases.specs.Jobs.{child_of_job, command_numbered, command_of, is_command_that, is_job_of_process, job_of_start, jobs_of_session, lockspace_named, process_named, resource_named}
+use Rattle.sl_trace.specs.Jobs.{child_of_job, command_numbered, command_of, is_command_that, is_job_of_process, job_of_start, jobs_of_session, lockspace_named, process_named, resource_named}
 use Rattle.sl_plain.proofs.Lists.{contains_none, find_inside, kept_inside}
 use Rattle.sl_plain.proofs.Numbers.{number_itself}
 use Rattle.sl_plain.proofs.Options.{some_of, then_value}
@@ -14,8 +14,8 @@ use Rattle.sl_due_law.proofs.Connections.SessionParts.{at_work_is_present, unjoi
 use Rattle.sl_due_law.proofs.Sessions.NameActs.{running_unrefused}
 use Rattle.sl_due_law.proofs.Sessions.NamesAreAllowed.{is_joining}
 use Rattle.sl_due_law.proofs.Sessions.NamesAtEnd.{running_unjoined}
-use Rattle.sl_sessions.specs.Sessions.{is_joined, joined_after, joining_session, session_numbered}
-use Rattle.sl_sessions.specs.declared.session.Session.{Session}
+use Rattle.sl_trace.specs.Sessions.{is_joined, joined_after, joining_session, session_numbered}
+use Rattle.sl_trace.specs.declared.session.Session.{Session}
 use Rattle.sl_due_law.specs.Facts.JobFacts.{FitsCommand}
 use Rattle.sl_due_law.specs.Facts.Whole.{Whole}
 use Rattle.sl_trace.specs.Traces.{Child, Job, Setting, Submitted, Trace, child_numbered, children, is_running, job_in, job_numbered, job_of, jobs, line_in, next_job, running_jobs, submitted}

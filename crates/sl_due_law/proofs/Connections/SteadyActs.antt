@@ -28,11 +28,11 @@ use Rattle.sl_due_law.proofs.Jobs.NearlyPlainActs.{AnyStart}
 use Rattle.sl_due_law.proofs.Jobs.RepliesComeAfter.{IsLateLease, lease_late, on_bool, on_option, set_late, value_late}
 use Rattle.sl_due_law.proofs.Jobs.SessionsArePresent.{joined_present}
 use Rattle.sl_due_law.proofs.Jobs.SessionsStand.{joined_then, running_before}
-use Rattle.sl_leases.specs.Jobs.{is_command_that, is_job_of_process, job_of_start, jobs_of_session, lockspace_named}
-use Rattle.sl_leases.specs.LeaseWork.{lease_place, settle_next}
-use Rattle.sl_leases.specs.Leases.{holdings_on, known, lver_written, spot_of_call}
-use Rattle.sl_leases.specs.declared.lease.LeaseNext.TheVariants.{AnswerJob}
-use Rattle.sl_leases.specs.declared.lease.LeaseNext.{LeaseNext}
+use Rattle.sl_trace.specs.Jobs.{is_command_that, is_job_of_process, job_of_start, jobs_of_session, lockspace_named}
+use Rattle.sl_trace.specs.LeaseWork.{lease_place, settle_next}
+use Rattle.sl_trace.specs.Leases.{holdings_on, known, lver_written, spot_of_call}
+use Rattle.sl_trace.specs.declared.lease.LeaseNext.TheVariants.{AnswerJob}
+use Rattle.sl_trace.specs.declared.lease.LeaseNext.{LeaseNext}
 use Rattle.sl_due_law.proofs.Parts.CallsGrow.{mine_more, others_stay, same_sessions}
 use Rattle.sl_due_law.proofs.Parts.JoinedCallsKeepOrder.{one_number}
 use Rattle.sl_plain.proofs.Lists.{find_inside, got_inside, kept, kept_inside}
@@ -49,11 +49,11 @@ use Rattle.sl_due_law.proofs.Connections.OtherJobs.{other_heard, other_of_proces
 use Rattle.sl_due_law.proofs.Sessions.NamesAreAllowed.{Holds, NameCall, NameReply, decision_named, is_joining, lease_named, request_named}
 use Rattle.sl_due_law.proofs.Sessions.NamesGrow.{input_names}
 use Rattle.sl_due_law.specs.Sessions.Promises.{HasNameFacts}
-use Rattle.sl_sessions.specs.Deltas.{DeltaLease}
-use Rattle.sl_sessions.specs.Sessions.{calls_of, generation_of, has_open_write, holdings_of, is_joined, join_call, joined_after, last_renewal, recovery_of, refused_after, removed_after, sessions}
-use Rattle.sl_sessions.specs.declared.delta.DeltaKnown.{DeltaKnown}
-use Rattle.sl_sessions.specs.declared.delta.DeltaNext.TheVariants.{Nothing, WriteFree, WriteRenewal}
-use Rattle.sl_sessions.specs.declared.session.Session.{Session}
+use Rattle.sl_trace.specs.Deltas.{DeltaLease}
+use Rattle.sl_trace.specs.Sessions.{calls_of, generation_of, has_open_write, holdings_of, is_joined, join_call, joined_after, last_renewal, recovery_of, refused_after, removed_after, sessions}
+use Rattle.sl_trace.specs.declared.delta.DeltaKnown.{DeltaKnown}
+use Rattle.sl_trace.specs.declared.delta.DeltaNext.TheVariants.{Nothing, WriteFree, WriteRenewal}
+use Rattle.sl_trace.specs.declared.session.Session.{Session}
 use Rattle.sl_due_law.specs.Facts.Whole.{Whole}
 use Rattle.sl_trace.specs.Traces.{Job, Submitted, is_before_input, is_running, is_shared, job_of, jobs, new_call, next_call, next_job, running_jobs, submitted, work_job}
 use Rattle.sl_trace.specs.declared.command.Command.{Command}
@@ -78,7 +78,7 @@ use Rattle.sl_words.proofs.CaseLaws.{is_false, none_some, not_both}
 use Rattle.sl_words.specs.Words.{some_is}
 use Rattle.std.proofs.Common.{ap, inl, inr, refl, subst, sym, ◌∙◌}
 use Rattle.std.specs.Prelude.{Bool, Contains, List, None, Ok, Some, [], bytes_eq, cond, false, filter, is_some, length, not, true, ℕ, ◌+◌, ◌==◌, ◌≡◌, ◌⊎◌}
-use Rattle.sl_sessions.specs.Deltas.{delta_known, delta_of_session, delta_record, is_renewal_due, next_after_free, next_after_renewal, next_free, next_in_joining, next_on_wake, next_renewal, own_offset}
+use Rattle.sl_trace.specs.Deltas.{delta_known, delta_of_session, delta_record, is_renewal_due, next_after_free, next_after_renewal, next_free, next_in_joining, next_on_wake, next_renewal, own_offset}
 use Rattle.sl_due_law.proofs.Jobs.AnsweredCallsFit.{at, both_of}
 
 -- ---- what such an act leaves

@@ -18,9 +18,9 @@ use Rattle.sl_due_law.proofs.Connections.SessionParts.{present_joined}
 use Rattle.sl_due_law.proofs.Connections.SteadyActs.{Steady, job_steady, steady_allow, steady_itself}
 use Rattle.sl_due_law.proofs.Sessions.NameFactsAreKept.{joined_on_wake, names_wake}
 use Rattle.sl_due_law.specs.Sessions.Promises.{HasNameFacts}
-use Rattle.sl_sessions.specs.Sessions.{is_joined, joined_after, last_renewal, present_sessions, recovery_of}
-use Rattle.sl_sessions.specs.declared.session.Begun.{Begun}
-use Rattle.sl_sessions.specs.declared.session.Session.{Session}
+use Rattle.sl_trace.specs.Sessions.{is_joined, joined_after, last_renewal, present_sessions, recovery_of}
+use Rattle.sl_trace.specs.declared.session.Begun.{Begun}
+use Rattle.sl_trace.specs.declared.session.Session.{Session}
 use Rattle.sl_due_law.specs.Facts.Whole.{WholeTrace}
 use Rattle.sl_trace.specs.Traces.{Setting, Trace}
 use Rattle.sl_trace.specs.declared.reply.Reply.TheVariants.{Recovering}

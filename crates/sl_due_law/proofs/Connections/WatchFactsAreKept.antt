@@ -25,8 +25,8 @@ use Rattle.sl_plain.proofs.Options.{some_of}
 use Rattle.sl_sector.specs.Spelling.{delta_in}
 use Rattle.sl_sector.specs.declared.sector.DeltaRec.{DeltaRec}
 use Rattle.sl_due_law.proofs.Sessions.NamesGrow.{calls_of_told, unheard_inside}
-use Rattle.sl_sessions.specs.Sessions.{calls_of, is_call_of, is_join_call, joining_session, present_sessions, recovery_of, session_numbered, sessions}
-use Rattle.sl_sessions.specs.declared.session.Session.{Session}
+use Rattle.sl_trace.specs.Sessions.{calls_of, is_call_of, is_join_call, joining_session, present_sessions, recovery_of, session_numbered, sessions}
+use Rattle.sl_trace.specs.declared.session.Session.{Session}
 use Rattle.sl_due_law.specs.Facts.Heard.{heard_by}
 use Rattle.sl_due_law.specs.Facts.Whole.{Whole}
 use Rattle.sl_trace.proofs.TraceFacts.{submitted-push}

@@ -20,9 +20,9 @@ use Rattle.sl_due_law.proofs.Jobs.RepliesComeAfter.{IsLateDelta, IsLateLease, jo
 use Rattle.sl_due_law.proofs.Jobs.SessionsArePresent.{session_has}
 use Rattle.sl_due_law.proofs.Jobs.SessionsHaveJobs.{contains_only}
 use Rattle.sl_due_law.specs.Jobs.Promises.{HasCallFacts}
-use Rattle.sl_leases.specs.LeaseWork.{lease_place}
-use Rattle.sl_leases.specs.Leases.{known, lver_written, spot_of_call}
-use Rattle.sl_leases.specs.declared.lease.LeaseNext.{LeaseNext}
+use Rattle.sl_trace.specs.LeaseWork.{lease_place}
+use Rattle.sl_trace.specs.Leases.{known, lver_written, spot_of_call}
+use Rattle.sl_trace.specs.declared.lease.LeaseNext.{LeaseNext}
 use Rattle.sl_due_law.proofs.Parts.CallsGrow.{same_sessions}
 use Rattle.sl_plain.proofs.Lists.{contains_cases, find_inside, kept, kept_inside}
 use Rattle.sl_plain.proofs.Numbers.{number_itself}
@@ -44,12 +44,12 @@ use Rattle.sl_due_law.proofs.Sessions.NameActs.{running_unrefused}
 use Rattle.sl_due_law.proofs.Sessions.NameFactsConclude.{heard_answer}
 use Rattle.sl_due_law.proofs.Sessions.NamesAreAllowed.{NameCall, NameReply, freed_named, heard_joined, is_joining, lease_named, renewed_named, request_named}
 use Rattle.sl_due_law.proofs.Sessions.NamesAtEnd.{Growing, growing_itself, grows, grows_joining, running_unjoined}
-use Rattle.sl_sessions.specs.Sessions.{calls_of, generation_of, is_call_of, is_join_call, is_present, join_call, joined_after, last_renewal, recovery_of, same_join_step, session_numbered, sessions}
-use Rattle.sl_sessions.specs.Watching.{is_free_state}
-use Rattle.sl_sessions.specs.declared.delta.DeltaKnown.{DeltaKnown}
-use Rattle.sl_sessions.specs.declared.delta.DeltaNext.TheVariants.{Nothing, RefuseJoin, RegisterAndRead, WriteFree}
-use Rattle.sl_sessions.specs.declared.delta.DeltaNext.{DeltaNext}
-use Rattle.sl_sessions.specs.declared.session.Session.{Session}
+use Rattle.sl_trace.specs.Sessions.{calls_of, generation_of, is_call_of, is_join_call, is_present, join_call, joined_after, last_renewal, recovery_of, same_join_step, session_numbered, sessions}
+use Rattle.sl_trace.specs.Watching.{is_free_state}
+use Rattle.sl_trace.specs.declared.delta.DeltaKnown.{DeltaKnown}
+use Rattle.sl_trace.specs.declared.delta.DeltaNext.TheVariants.{Nothing, RefuseJoin, RegisterAndRead, WriteFree}
+use Rattle.sl_trace.specs.declared.delta.DeltaNext.{DeltaNext}
+use Rattle.sl_trace.specs.declared.session.Session.{Session}
 use Rattle.sl_due_law.specs.Facts.Concluding.{Concludes}
 use Rattle.sl_due_law.specs.Facts.Heard.{heard_by}
 use Rattle.sl_due_law.specs.Facts.Whole.{Whole}
@@ -82,7 +82,7 @@ use Rattle.std.proofs.lemmas.Bool.{eqb-true}
 use Rattle.std.proofs.lemmas.Slice.Eq.{bytes_eq-Decides}
 use Rattle.std.specs.Prelude.{Bool, Contains, List, None, Option, Some, [], bytes_eq, false, is_some, length, option_and_then, true, unwrap_or, ℕ, ◌&&◌, ◌+◌, ◌==◌, ◌∷◌, ◌≡◌, ◌⊎◌}
 use Rattle.sl_due_law.specs.Connections.WatchFacts.{HasRead, HasWatchFacts, HasWatchesPlainly}
-use Rattle.sl_sessions.specs.Deltas.{delta_known, delta_of_session, delta_record, is_watched_out, next_after_first, next_after_free, next_after_renewal, next_after_watch, next_free, next_in_joining, own_offset, id_held, watched}
+use Rattle.sl_trace.specs.Deltas.{delta_known, delta_of_session, delta_record, is_watched_out, next_after_first, next_after_free, next_after_renewal, next_after_watch, next_free, next_in_joining, own_offset, id_held, watched}
 use Rattle.sl_due_law.proofs.Jobs.AnsweredCallsFit.{at, both_of}
 
 -- ---- what an act leaves of answered calls

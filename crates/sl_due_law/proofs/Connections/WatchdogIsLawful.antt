@@ -4,13 +4,13 @@ use Rattle.sl_acts.specs.SoFar.{entry_of}
 use Rattle.sl_due.specs.Steps.{Step, seen}
 use Rattle.sl_due_law.proofs.Jobs.SessionsArePresent.{session_has}
 use Rattle.sl_due_law.proofs.Jobs.SessionsStand.{no_members}
-use Rattle.sl_law.specs.LawfulWatchdog.{CoveredBy, LawfulWatchdog, acts_until, is_covered}
+use Rattle.sl_run.specs.LawfulWatchdog.{CoveredBy, LawfulWatchdog, acts_until, is_covered}
 use Rattle.sl_plain.proofs.Lists.{kept_inside}
 use Rattle.sl_plain.proofs.Options.{some_there}
 use Rattle.sl_due_law.proofs.Connections.SessionParts.{covered_present, joined_and_covered}
 use Rattle.sl_due_law.specs.Connections.Promises.{HasConnectionFacts}
-use Rattle.sl_sessions.specs.Sessions.{holdings_of, is_joined, joined_after, last_renewal, session_numbered, sessions}
-use Rattle.sl_sessions.specs.declared.session.Session.{Session}
+use Rattle.sl_trace.specs.Sessions.{holdings_of, is_joined, joined_after, last_renewal, session_numbered, sessions}
+use Rattle.sl_trace.specs.declared.session.Session.{Session}
 use Rattle.sl_due_law.specs.Facts.Heard.{heard_by}
 use Rattle.sl_due_law.specs.Facts.HoldingFacts.{HoldingFacts}
 use Rattle.sl_time.specs.Times.{fail}

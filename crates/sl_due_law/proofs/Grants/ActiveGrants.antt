@@ -32,23 +32,23 @@ use Rattle.sl_due_law.specs.Holdings.Moments.{Known}
 use Rattle.sl_due_law.specs.Holdings.Promises.{HasHoldingFacts}
 use Rattle.sl_due_law.proofs.Jobs.QuietLines.{active_parts}
 use Rattle.sl_due_law.proofs.Jobs.SessionsArePresent.{joined_present, present_inside}
-use Rattle.sl_law.specs.LawfulArea.{is_area_work}
+use Rattle.sl_run.specs.LawfulArea.{is_area_work}
 use Rattle.sl_due_law.proofs.Leases.LawsStay.{joined_more, moves_carry, three}
 use Rattle.sl_due_law.proofs.Leases.TurnsStay.{replied_active, turned_by}
 use Rattle.sl_due_law.proofs.Leases.WorkIsActive.{work_is_active}
 use Rattle.sl_due_law.proofs.Ways.Kept.EffectsLeave.{made_call, there_has}
 use Rattle.sl_due_law.proofs.Ways.Kept.HeardStands.{heard_has}
-use Rattle.sl_leases.specs.Jobs.{command_numbered}
-use Rattle.sl_leases.specs.Leases.{known, spot_of, spot_of_call}
-use Rattle.sl_leases.specs.declared.lease.LeaseNext.{LeaseNext}
-use Rattle.sl_leases.specs.declared.lease.LeaseNext.TheVariants.{AnswerJob, BecomeExclusive, BecomeShared, GrantJob, Nothing, ReadFor, WriteBlock, WriteLeader}
+use Rattle.sl_trace.specs.Jobs.{command_numbered}
+use Rattle.sl_trace.specs.Leases.{known, spot_of, spot_of_call}
+use Rattle.sl_trace.specs.declared.lease.LeaseNext.{LeaseNext}
+use Rattle.sl_trace.specs.declared.lease.LeaseNext.TheVariants.{AnswerJob, BecomeExclusive, BecomeShared, GrantJob, Nothing, ReadFor, WriteBlock, WriteLeader}
 use Rattle.sl_due_law.proofs.Parts.CallsGrow.{same_sessions}
 use Rattle.sl_due_law.specs.Parts.Parts.{with_reply}
 use Rattle.sl_plain.proofs.Lists.{contains_none}
 use Rattle.sl_sector.specs.declared.sector.Rec.TheVariants.{BlockIs, DeltaIs, LeaderIs}
-use Rattle.sl_sessions.specs.Deltas.{own_offset}
-use Rattle.sl_sessions.specs.Sessions.{holders_of, is_active, is_join_call, is_joined, joined_after, leaves, leaving_job, recovery_of, removed_after, session_numbered, sessions}
-use Rattle.sl_sessions.specs.declared.session.Session.{Session}
+use Rattle.sl_trace.specs.Deltas.{own_offset}
+use Rattle.sl_trace.specs.Sessions.{holders_of, is_active, is_join_call, is_joined, joined_after, leaves, leaving_job, recovery_of, removed_after, session_numbered, sessions}
+use Rattle.sl_trace.specs.declared.session.Session.{Session}
 use Rattle.sl_trace.specs.Connections.{is_registered, unregisters}
 use Rattle.sl_trace.specs.Traces.{Job, Setting, Submitted, Trace, end_of, holdings, is_orphan, job_of, leaves_orphan, next_child, next_job, orphan_of, spot_of_grant, work_job}
 use Rattle.sl_trace.specs.declared.command.Command.{Command}

@@ -4,12 +4,12 @@ use Rattle.sl_due.specs.Steps.{Step, seen}
 use Rattle.sl_sector.specs.Bitmaps.{no_bits}
 use Rattle.sl_sector.specs.declared.sector.DeltaRec.{DeltaRec}
 use Rattle.sl_sector.specs.declared.sector.DeltaState.TheVariants.{Free, Live}
-use Rattle.sl_sessions.specs.Deltas.{DeltaLease, delta_known, delta_of_session, delta_record, is_renewal_due, next_free, next_renewal}
-use Rattle.sl_sessions.specs.Sessions.{calls_of, free_write, generation_of, last_seq, leaving_job}
-use Rattle.sl_sessions.specs.declared.delta.DeltaKnown.{DeltaKnown}
-use Rattle.sl_sessions.specs.declared.delta.DeltaNext.{DeltaNext}
-use Rattle.sl_sessions.specs.declared.delta.DeltaNext.TheVariants.{Nothing, WriteFree, WriteRenewal}
-use Rattle.sl_sessions.specs.declared.session.Session.{Session}
+use Rattle.sl_trace.specs.Deltas.{DeltaLease, delta_known, delta_of_session, delta_record, is_renewal_due, next_free, next_renewal}
+use Rattle.sl_trace.specs.Sessions.{calls_of, free_write, generation_of, last_seq, leaving_job}
+use Rattle.sl_trace.specs.declared.delta.DeltaKnown.{DeltaKnown}
+use Rattle.sl_trace.specs.declared.delta.DeltaNext.{DeltaNext}
+use Rattle.sl_trace.specs.declared.delta.DeltaNext.TheVariants.{Nothing, WriteFree, WriteRenewal}
+use Rattle.sl_trace.specs.declared.session.Session.{Session}
 use Rattle.sl_trace.specs.Traces.{Job}
 use Rattle.sl_trace.specs.declared.effects.Purpose.TheVariants.{Leaving, Renewal}
 use Rattle.std.specs.Prelude.{Bool, List, None, Option, Some, false, is_some, option_map, true, ℕ, ◌+◌}

@@ -20,20 +20,20 @@ use Rattle.sl_due_law.proofs.Holdings.MomentsAreKept.{delta_ungranting, refused_
 use Rattle.sl_due_law.proofs.Holdings.PlainPlaces.{one_place, place_turned}
 use Rattle.sl_due_law.specs.Holdings.DecisionGrounds.{GiveUpGrounds, HasGrounds, Releases, TakeOverGrounds}
 use Rattle.sl_due_law.specs.Holdings.Moments.{Known}
-use Rattle.sl_law.specs.LawfulEnd.{Converted, EndReason, Exited, Given_up, LawfulEnding, Not_started, Taken_over, gives_up, takes_over}
-use Rattle.sl_leases.specs.Ballots.{moded_block}
-use Rattle.sl_leases.specs.Jobs.{command_numbered, is_job_of_process, job_of_start, jobs_of_session, process_named}
-use Rattle.sl_leases.specs.LeaseWork.{convert_next, lease_place, release_next, settle_next}
-use Rattle.sl_leases.specs.Leases.{holdings_on, known, spot_of, spot_of_call}
-use Rattle.sl_leases.specs.declared.lease.LeaseNext.TheVariants.{AnswerJob, BecomeExclusive, BecomeShared, GrantJob, Nothing, ReadFor, WriteBlock, WriteLeader}
-use Rattle.sl_leases.specs.declared.lease.LeaseNext.{LeaseNext}
+use Rattle.sl_run.specs.LawfulEnd.{Converted, EndReason, Exited, Given_up, LawfulEnding, Not_started, Taken_over, gives_up, takes_over}
+use Rattle.sl_trace.specs.Ballots.{moded_block}
+use Rattle.sl_trace.specs.Jobs.{command_numbered, is_job_of_process, job_of_start, jobs_of_session, process_named}
+use Rattle.sl_trace.specs.LeaseWork.{convert_next, lease_place, release_next, settle_next}
+use Rattle.sl_trace.specs.Leases.{holdings_on, known, spot_of, spot_of_call}
+use Rattle.sl_trace.specs.declared.lease.LeaseNext.TheVariants.{AnswerJob, BecomeExclusive, BecomeShared, GrantJob, Nothing, ReadFor, WriteBlock, WriteLeader}
+use Rattle.sl_trace.specs.declared.lease.LeaseNext.{LeaseNext}
 use Rattle.sl_plain.proofs.Lists.{contains_cases, contains_first, contains_none, find_inside, kept_inside}
 use Rattle.sl_plain.proofs.Numbers.{number_itself}
 use Rattle.sl_sector.specs.declared.sector.Block.{Block}
-use Rattle.sl_sessions.specs.Deltas.{delta_known, delta_of_session, next_after_free, next_after_renewal, next_free, next_in_joining, next_on_wake, next_renewal}
-use Rattle.sl_sessions.specs.Sessions.{calls_of, generation_of, holdings_of, last_renewal, present_sessions, recovery_of, refused_after, has_open_write}
-use Rattle.sl_sessions.specs.declared.delta.DeltaNext.{DeltaNext}
-use Rattle.sl_sessions.specs.declared.session.Session.{Session}
+use Rattle.sl_trace.specs.Deltas.{delta_known, delta_of_session, next_after_free, next_after_renewal, next_free, next_in_joining, next_on_wake, next_renewal}
+use Rattle.sl_trace.specs.Sessions.{calls_of, generation_of, holdings_of, last_renewal, present_sessions, recovery_of, refused_after, has_open_write}
+use Rattle.sl_trace.specs.declared.delta.DeltaNext.{DeltaNext}
+use Rattle.sl_trace.specs.declared.session.Session.{Session}
 use Rattle.sl_trace.specs.Traces.{Job, Setting, end_of, holdings, is_ended_by, is_orphan, is_running, next_job, no_process, orphans_left, running_jobs, same_place, spot_of_grant, line_in}
 use Rattle.sl_trace.specs.declared.command.Command.TheVariants.{Acquire, AddLockspace, Convert, GetLvb, HostStatus, InqLockspace, Release, ReleaseOrphan, RemLockspace, Request, RunProgram, SetKillpath, SetLvb, Status, TakeOver}
 use Rattle.sl_trace.specs.declared.command.Command.{Command}

@@ -18,14 +18,14 @@ use Rattle.sl_due_law.proofs.Grants.WorksByLines.{held_before}
 use Rattle.sl_due_law.specs.Grants.GrantPromises.{ExitsAreLawful, ExitsBegin, ExitsSoFar}
 use Rattle.sl_due_law.proofs.Holdings.MomentsAreKept.{carried, delta_ungranting, input_effects, refused_alike, removal_alike, said_input, same, signalled_alike, told_acts}
 use Rattle.sl_due_law.proofs.Holdings.PlainPlaces.{one_place}
-use Rattle.sl_leases.specs.Jobs.{is_job_of_process, job_of_start}
-use Rattle.sl_leases.specs.LeaseWork.{lease_place, settle_next}
-use Rattle.sl_leases.specs.Leases.{known, spot_of_call}
+use Rattle.sl_trace.specs.Jobs.{is_job_of_process, job_of_start}
+use Rattle.sl_trace.specs.LeaseWork.{lease_place, settle_next}
+use Rattle.sl_trace.specs.Leases.{known, spot_of_call}
 use Rattle.sl_plain.proofs.Lists.{any_found, any_of, contains_cases, contains_map, contains_none, kept}
 use Rattle.sl_plain.proofs.Numbers.{number_itself}
-use Rattle.sl_sessions.specs.Deltas.{delta_known, delta_of_session, next_after_free, next_after_renewal, next_free, next_in_joining, next_on_wake, next_renewal}
-use Rattle.sl_sessions.specs.Sessions.{calls_of, generation_of, present_sessions, recovery_of}
-use Rattle.sl_sessions.specs.declared.delta.DeltaNext.{DeltaNext}
+use Rattle.sl_trace.specs.Deltas.{delta_known, delta_of_session, next_after_free, next_after_renewal, next_free, next_in_joining, next_on_wake, next_renewal}
+use Rattle.sl_trace.specs.Sessions.{calls_of, generation_of, present_sessions, recovery_of}
+use Rattle.sl_trace.specs.declared.delta.DeltaNext.{DeltaNext}
 use Rattle.sl_trace.specs.Traces.{end_of, has_orphan_of, holdings, is_ended_by, is_orphan, leaves_orphan, next_job, no_process, orphan_of, orphans_left, running_jobs, same_place}
 use Rattle.sl_trace.specs.declared.effects.End.{End}
 use Rattle.sl_trace.specs.declared.effects.Grant.{Grant}

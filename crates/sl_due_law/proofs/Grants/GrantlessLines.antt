@@ -2,12 +2,12 @@
 use Rattle.sl_due.specs.DueCommands.{after_end}
 use Rattle.sl_due.specs.DueLease.{carry_lease}
 use Rattle.sl_due.specs.Steps.{Step, add_reply, seen}
-use Rattle.sl_leases.specs.Ballots.{moded_block}
-use Rattle.sl_leases.specs.LeaseWork.{convert_next, lease_place, release_next}
-use Rattle.sl_leases.specs.Leases.{LeaseKnown, holdings_on, known}
-use Rattle.sl_leases.specs.declared.lease.LeaseNext.TheVariants.{Nothing, WriteBlock}
+use Rattle.sl_trace.specs.Ballots.{moded_block}
+use Rattle.sl_trace.specs.LeaseWork.{convert_next, lease_place, release_next}
+use Rattle.sl_trace.specs.Leases.{LeaseKnown, holdings_on, known}
+use Rattle.sl_trace.specs.declared.lease.LeaseNext.TheVariants.{Nothing, WriteBlock}
 use Rattle.sl_sector.specs.declared.sector.Block.{Block}
-use Rattle.sl_sessions.specs.declared.session.Session.{Session}
+use Rattle.sl_trace.specs.declared.session.Session.{Session}
 use Rattle.sl_trace.specs.Traces.{spot_of_grant}
 use Rattle.sl_trace.specs.declared.effects.Grant.{Grant}
 use Rattle.sl_trace.specs.declared.effects.LeaseStep.TheVariants.{ClearMode, SetMode}

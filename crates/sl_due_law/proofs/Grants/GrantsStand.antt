@@ -1,6 +1,6 @@
 -- What the facts of holdings say of a grant: it is held, for what ends in an entry ends before its grants.
 use Rattle.sl_acts.specs.SoFar.{entry_of}
-use Rattle.sl_sessions.specs.Sessions.{session_numbered}
+use Rattle.sl_trace.specs.Sessions.{session_numbered}
 use Rattle.sl_due_law.specs.Facts.Heard.{heard_by}
 use Rattle.sl_words.proofs.CaseLaws.{one_value}
 use Rattle.sl_due_law.specs.Grants.GrantPromises.{GrantsAreLawful, GrantsStand, StandsGranted}

@@ -14,16 +14,16 @@ use Rattle.sl_due_law.proofs.Holdings.LeaseNexts.{settling_fits}
 use Rattle.sl_due_law.proofs.Holdings.MomentsAreKept.{delta_ungranting, no_grants, refused_alike, removal_alike, said_grants, same, sent_alike, settling_ungranting, signalled_alike}
 use Rattle.sl_due_law.specs.Holdings.Moments.{Known}
 use Rattle.sl_due_law.specs.Holdings.Promises.{Begins}
-use Rattle.sl_leases.specs.Jobs.{aim_of, job_of_start, jobs_of_session}
-use Rattle.sl_leases.specs.LeaseWork.{lease_place, settle_next}
-use Rattle.sl_leases.specs.Leases.{exclusive_on, known, spot_of_call}
-use Rattle.sl_leases.specs.declared.lease.Aim.{Aim}
-use Rattle.sl_leases.specs.declared.lease.LeaseNext.{LeaseNext}
+use Rattle.sl_trace.specs.Jobs.{aim_of, job_of_start, jobs_of_session}
+use Rattle.sl_trace.specs.LeaseWork.{lease_place, settle_next}
+use Rattle.sl_trace.specs.Leases.{exclusive_on, known, spot_of_call}
+use Rattle.sl_trace.specs.declared.lease.Aim.{Aim}
+use Rattle.sl_trace.specs.declared.lease.LeaseNext.{LeaseNext}
 use Rattle.sl_plain.proofs.Lists.{kept}
-use Rattle.sl_sessions.specs.Deltas.{delta_known, delta_of_session, next_after_free, next_after_renewal, next_free, next_in_joining, next_on_wake, next_renewal}
-use Rattle.sl_sessions.specs.Sessions.{calls_of, generation_of, has_open_write, holdings_of, is_joined, last_renewal, open_calls_of, present_sessions, recovery_of, refused_after}
-use Rattle.sl_sessions.specs.declared.delta.DeltaNext.{DeltaNext}
-use Rattle.sl_sessions.specs.declared.session.Session.{Session}
+use Rattle.sl_trace.specs.Deltas.{delta_known, delta_of_session, next_after_free, next_after_renewal, next_free, next_in_joining, next_on_wake, next_renewal}
+use Rattle.sl_trace.specs.Sessions.{calls_of, generation_of, has_open_write, holdings_of, is_joined, last_renewal, open_calls_of, present_sessions, recovery_of, refused_after}
+use Rattle.sl_trace.specs.declared.delta.DeltaNext.{DeltaNext}
+use Rattle.sl_trace.specs.declared.session.Session.{Session}
 use Rattle.sl_trace.specs.Traces.{Job, Submitted, next_job, no_process}
 use Rattle.sl_trace.specs.declared.command.Command.{Command}
 use Rattle.sl_trace.specs.declared.command.Command.TheVariants.{Acquire, AddLockspace, Convert, GetLvb, HostStatus, InqLockspace, Release, ReleaseOrphan, RemLockspace, Request, RunProgram, SetKillpath, SetLvb, Status, TakeOver}

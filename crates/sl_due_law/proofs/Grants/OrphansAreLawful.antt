@@ -19,18 +19,18 @@ use Rattle.sl_due_law.proofs.Holdings.LeaseCallers.{commands_fit}
 use Rattle.sl_due_law.proofs.Holdings.LeaseConversions.{converted, otherwise}
 use Rattle.sl_due_law.proofs.Holdings.MomentsAreKept.{delta_ungranting, removal_alike, same, signalled_alike}
 use Rattle.sl_due_law.specs.Holdings.Moments.{Known}
-use Rattle.sl_law.specs.Lawful.{IsSetting}
-use Rattle.sl_law.specs.LawfulGrant.{LawfulOrphan}
-use Rattle.sl_leases.specs.Jobs.{command_numbered, is_job_of_process, process_named}
-use Rattle.sl_leases.specs.LeaseWork.{convert_next, lease_place, release_next}
-use Rattle.sl_leases.specs.Leases.{holdings_on, known, spot_of, spot_of_call}
-use Rattle.sl_leases.specs.declared.lease.LeaseNext.TheVariants.{AnswerJob, BecomeExclusive, BecomeShared, GrantJob, Nothing, ReadFor, WriteBlock, WriteLeader}
-use Rattle.sl_leases.specs.declared.lease.LeaseNext.{LeaseNext}
+use Rattle.sl_run.specs.Lawful.{IsSetting}
+use Rattle.sl_run.specs.LawfulGrant.{LawfulOrphan}
+use Rattle.sl_trace.specs.Jobs.{command_numbered, is_job_of_process, process_named}
+use Rattle.sl_trace.specs.LeaseWork.{convert_next, lease_place, release_next}
+use Rattle.sl_trace.specs.Leases.{holdings_on, known, spot_of, spot_of_call}
+use Rattle.sl_trace.specs.declared.lease.LeaseNext.TheVariants.{AnswerJob, BecomeExclusive, BecomeShared, GrantJob, Nothing, ReadFor, WriteBlock, WriteLeader}
+use Rattle.sl_trace.specs.declared.lease.LeaseNext.{LeaseNext}
 use Rattle.sl_plain.proofs.Lists.{contains_none, in_map, kept_inside}
 use Rattle.sl_sector.proofs.RuleLaws.{in_range}
-use Rattle.sl_sessions.specs.Deltas.{delta_known, delta_of_session, next_free}
-use Rattle.sl_sessions.specs.declared.delta.DeltaNext.{DeltaNext}
-use Rattle.sl_sessions.specs.declared.session.Session.{Session}
+use Rattle.sl_trace.specs.Deltas.{delta_known, delta_of_session, next_free}
+use Rattle.sl_trace.specs.declared.delta.DeltaNext.{DeltaNext}
+use Rattle.sl_trace.specs.declared.session.Session.{Session}
 use Rattle.sl_trace.specs.Commands.{IsCommand}
 use Rattle.sl_trace.specs.Limits.{most_children, most_processes}
 use Rattle.sl_trace.specs.Traces.{children, end_of, first_child, has_orphan_of, holdings, is_orphan, leaves_orphan, next_child, next_job, no_process, orphan_of, orphans_left, running_jobs, spot_of_grant}

@@ -8,16 +8,16 @@ use Rattle.sl_due.specs.DueLease.{grant_for, grant_of}
 use Rattle.sl_due.specs.Steps.{Step, add_call_of, add_grant, add_move, add_reply, add_signal, add_start, seen, when, with_some}
 use Rattle.sl_due_law.proofs.Holdings.HoldingsByEffects.{SameCalls, later_same}
 use Rattle.sl_due_law.proofs.Holdings.HoldingsByLoops.{AnswersNoJob, jobless_same}
-use Rattle.sl_law.specs.LawfulArea.{is_area_work}
+use Rattle.sl_run.specs.LawfulArea.{is_area_work}
 use Rattle.sl_due_law.proofs.Ways.Kept.PlainWalks.{DeltaFits}
-use Rattle.sl_leases.specs.Counts.{stopper_of}
-use Rattle.sl_leases.specs.Jobs.{jobs_of_session}
+use Rattle.sl_trace.specs.Counts.{stopper_of}
+use Rattle.sl_trace.specs.Jobs.{jobs_of_session}
 use Rattle.sl_sector.specs.declared.sector.Rec.TheVariants.{DeltaIs}
-use Rattle.sl_sessions.specs.Deltas.{own_offset}
-use Rattle.sl_sessions.specs.Sessions.{has_open_write, holders_of, is_join_call, last_renewal, refused_after, same_join_step, session_of_job}
-use Rattle.sl_sessions.specs.declared.delta.DeltaNext.{DeltaNext}
-use Rattle.sl_sessions.specs.declared.delta.DeltaNext.TheVariants.{Disconnect, EndLeaving, Join, MoveConnection, Nothing, ReadOwn, RefuseJoin, RegisterAndRead, WriteClaim, WriteFirst, WriteFree, WriteRenewal}
-use Rattle.sl_sessions.specs.declared.session.Session.{Session}
+use Rattle.sl_trace.specs.Deltas.{own_offset}
+use Rattle.sl_trace.specs.Sessions.{has_open_write, holders_of, is_join_call, last_renewal, refused_after, same_join_step, session_of_job}
+use Rattle.sl_trace.specs.declared.delta.DeltaNext.{DeltaNext}
+use Rattle.sl_trace.specs.declared.delta.DeltaNext.TheVariants.{Disconnect, EndLeaving, Join, MoveConnection, Nothing, ReadOwn, RefuseJoin, RegisterAndRead, WriteClaim, WriteFirst, WriteFree, WriteRenewal}
+use Rattle.sl_trace.specs.declared.session.Session.{Session}
 use Rattle.sl_time.specs.Times.{fail}
 use Rattle.sl_trace.specs.Connections.{is_registered}
 use Rattle.sl_trace.specs.Traces.{Job, is_before_input, is_running, next_child}

@@ -11,13 +11,13 @@ use Rattle.sl_due_law.specs.Grants.GrantPromises.{WorkFactsBegin}
 use Rattle.sl_due_law.proofs.Holdings.HoldingFactsBegin.{children_fresh, fresh, held_fresh, wake_effects, waking_answers_none}
 use Rattle.sl_due_law.proofs.Jobs.JobFactsBegin.{running_then}
 use Rattle.sl_due_law.proofs.Jobs.JobsAreNumbered.{numbered_before}
-use Rattle.sl_law.specs.LawfulModes.{shared_since}
-use Rattle.sl_leases.specs.Jobs.{command_of}
-use Rattle.sl_leases.specs.Leases.{has_shared_on, spot_of_call}
-use Rattle.sl_leases.specs.declared.lease.Aim.TheVariants.{Acquires}
+use Rattle.sl_run.specs.LawfulModes.{shared_since}
+use Rattle.sl_trace.specs.Jobs.{command_of}
+use Rattle.sl_trace.specs.Leases.{has_shared_on, spot_of_call}
+use Rattle.sl_trace.specs.declared.lease.Aim.TheVariants.{Acquires}
 use Rattle.sl_plain.proofs.Options.{some_of}
-use Rattle.sl_sessions.specs.Sessions.{present_sessions, recovery_of, session_numbered}
-use Rattle.sl_sessions.specs.declared.session.Session.{Session}
+use Rattle.sl_trace.specs.Sessions.{present_sessions, recovery_of, session_numbered}
+use Rattle.sl_trace.specs.declared.session.Session.{Session}
 use Rattle.sl_due_law.specs.Facts.CallFacts.{CallFacts}
 use Rattle.sl_due_law.specs.Facts.WorkFacts.{IsAtWork, IsWaiting, WorkFacts}
 use Rattle.sl_trace.specs.Traces.{Setting, Submitted, Trace, first_child, no_effects}

@@ -14,21 +14,21 @@ use Rattle.sl_due_law.proofs.Holdings.LeaseCallers.{heard_answered, heard_call, 
 use Rattle.sl_due_law.proofs.Holdings.LeaseConversions.{converted, otherwise, spot_is}
 use Rattle.sl_due_law.proofs.Holdings.LeaseNexts.{IsFitNext, next_fits}
 use Rattle.sl_due_law.proofs.Holdings.LeasePlaces.{base_on, block_on, ids_within, one_area}
-use Rattle.sl_law.specs.Lawful.{IsSetting}
-use Rattle.sl_law.specs.LawfulArea.{is_area_work}
-use Rattle.sl_law.specs.LawfulModes.{shared_since}
-use Rattle.sl_leases.specs.Jobs.{aim_of_command, command_numbered, process_named, resource_named}
-use Rattle.sl_leases.specs.LeaseWork.{LeasePlace, leader_for, lease_next, lease_place}
-use Rattle.sl_leases.specs.Leases.{LeaseKnown, has_shared_on, is_on, known, lver_written, spot_of, spot_of_call}
-use Rattle.sl_leases.specs.declared.lease.Aim.TheVariants.{Acquires, Converts, Releases, Settles}
-use Rattle.sl_leases.specs.declared.lease.Aim.{Aim}
-use Rattle.sl_leases.specs.declared.lease.LeaseNext.TheVariants.{AnswerJob, BecomeExclusive, BecomeShared, GrantJob, Nothing, ReadFor, WriteBlock, WriteLeader}
-use Rattle.sl_leases.specs.declared.lease.LeaseNext.{LeaseNext}
+use Rattle.sl_run.specs.Lawful.{IsSetting}
+use Rattle.sl_run.specs.LawfulArea.{is_area_work}
+use Rattle.sl_run.specs.LawfulModes.{shared_since}
+use Rattle.sl_trace.specs.Jobs.{aim_of_command, command_numbered, process_named, resource_named}
+use Rattle.sl_trace.specs.LeaseWork.{LeasePlace, leader_for, lease_next, lease_place}
+use Rattle.sl_trace.specs.Leases.{LeaseKnown, has_shared_on, is_on, known, lver_written, spot_of, spot_of_call}
+use Rattle.sl_trace.specs.declared.lease.Aim.TheVariants.{Acquires, Converts, Releases, Settles}
+use Rattle.sl_trace.specs.declared.lease.Aim.{Aim}
+use Rattle.sl_trace.specs.declared.lease.LeaseNext.TheVariants.{AnswerJob, BecomeExclusive, BecomeShared, GrantJob, Nothing, ReadFor, WriteBlock, WriteLeader}
+use Rattle.sl_trace.specs.declared.lease.LeaseNext.{LeaseNext}
 use Rattle.sl_plain.proofs.Lists.{got_inside}
 use Rattle.sl_plain.proofs.Numbers.{below_suc, trans_le}
 use Rattle.sl_sector.specs.declared.sector.Rec.TheVariants.{BlockIs, LeaderIs}
-use Rattle.sl_sessions.specs.Sessions.{session_numbered, sessions}
-use Rattle.sl_sessions.specs.declared.session.Session.{Session}
+use Rattle.sl_trace.specs.Sessions.{session_numbered, sessions}
+use Rattle.sl_trace.specs.declared.session.Session.{Session}
 use Rattle.sl_due_law.specs.Facts.WorkFacts.{MayBeHeld}
 use Rattle.sl_trace.specs.Traces.{Setting, Submitted, Trace, end_of, is_before_input, job_of, new_call, next_child, same_place, spot_of_grant, submitted, work_job}
 use Rattle.sl_trace.specs.declared.command.Command.TheVariants.{Acquire, AddLockspace, Convert, GetLvb, HostStatus, InqLockspace, Release, ReleaseOrphan, RemLockspace, Request, RunProgram, SetKillpath, SetLvb, Status, TakeOver}

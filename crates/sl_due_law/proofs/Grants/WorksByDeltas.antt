@@ -5,13 +5,13 @@ use Rattle.sl_due.specs.DueDelta.{carry_delta}
 use Rattle.sl_due.specs.DueInputs.{end_holdings}
 use Rattle.sl_due.specs.Steps.{Step, add_call_of, add_end, seen}
 use Rattle.sl_due_law.proofs.Grants.OthersGoOn.{BeginsNone, CallsOn, GoesOn, delta_on, next_start}
-use Rattle.sl_law.specs.LawfulArea.{is_area_work}
+use Rattle.sl_run.specs.LawfulArea.{is_area_work}
 use Rattle.sl_due_law.proofs.Grants.WorksByEffects.{CallsOwned, WorksAt, call_works, end_works, move_works, not_work, reply_works, signal_works, start_works}
 use Rattle.sl_due_law.proofs.Holdings.HoldingsByCalls.{call_added}
 use Rattle.sl_due_law.proofs.Holdings.HoldingsByEffects.{SameCalls}
-use Rattle.sl_sessions.specs.declared.delta.DeltaNext.TheVariants.{EndLeaving, RefuseJoin}
-use Rattle.sl_sessions.specs.declared.delta.DeltaNext.{DeltaNext}
-use Rattle.sl_sessions.specs.declared.session.Session.{Session}
+use Rattle.sl_trace.specs.declared.delta.DeltaNext.TheVariants.{EndLeaving, RefuseJoin}
+use Rattle.sl_trace.specs.declared.delta.DeltaNext.{DeltaNext}
+use Rattle.sl_trace.specs.declared.session.Session.{Session}
 use Rattle.sl_trace.specs.Traces.{end_of, holdings, is_before_input}
 use Rattle.sl_trace.specs.declared.effects.Op.{Op}
 use Rattle.sl_trace.specs.declared.effects.Purpose.TheVariants.{Lease}

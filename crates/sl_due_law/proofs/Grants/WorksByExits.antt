@@ -8,18 +8,18 @@ use Rattle.sl_due_law.proofs.Holdings.HoldingsByEffects.{end_inside, is_told, un
 use Rattle.sl_due_law.proofs.Holdings.HoldingsByGrants.{old_or_granted}
 use Rattle.sl_due_law.proofs.Holdings.LeaseCallers.{commands_fit}
 use Rattle.sl_due_law.proofs.Jobs.QuietFactsAreKept.{loop_stops}
-use Rattle.sl_law.specs.Lawful.{IsSetting}
-use Rattle.sl_law.specs.LawfulModes.{shared_since}
-use Rattle.sl_leases.specs.Jobs.{aim_of_command, child_of_job, command_numbered, command_of, is_job_of_process, process_named}
-use Rattle.sl_leases.specs.Leases.{spot_of_call}
-use Rattle.sl_leases.specs.declared.lease.Aim.TheVariants.{Acquires, Converts, Releases, Settles}
-use Rattle.sl_leases.specs.declared.lease.Aim.{Aim}
+use Rattle.sl_run.specs.Lawful.{IsSetting}
+use Rattle.sl_run.specs.LawfulModes.{shared_since}
+use Rattle.sl_trace.specs.Jobs.{aim_of_command, child_of_job, command_numbered, command_of, is_job_of_process, process_named}
+use Rattle.sl_trace.specs.Leases.{spot_of_call}
+use Rattle.sl_trace.specs.declared.lease.Aim.TheVariants.{Acquires, Converts, Releases, Settles}
+use Rattle.sl_trace.specs.declared.lease.Aim.{Aim}
 use Rattle.sl_plain.proofs.Lists.{find_inside, in_map, kept, kept_inside}
 use Rattle.sl_plain.proofs.Numbers.{lt_then_le, number_itself, refl_le}
 use Rattle.sl_plain.proofs.Options.{then_value}
 use Rattle.sl_sector.proofs.RuleLaws.{in_range}
-use Rattle.sl_sessions.specs.Sessions.{session_numbered}
-use Rattle.sl_sessions.specs.declared.session.Session.{Session}
+use Rattle.sl_trace.specs.Sessions.{session_numbered}
+use Rattle.sl_trace.specs.declared.session.Session.{Session}
 use Rattle.sl_due_law.specs.Facts.Heard.{heard_by}
 use Rattle.sl_due_law.specs.Facts.WorkFacts.{IsAtWork, IsWaiting, MayBeHeld, WorkFacts}
 use Rattle.sl_trace.specs.Commands.{IsCommand}

@@ -3,9 +3,9 @@ use Rattle.sl_due.specs.Steps.{Step, add_grant, seen}
 use Rattle.sl_due_law.proofs.Grants.WorksByEffects.{WorksAt}
 use Rattle.sl_due_law.proofs.Holdings.HoldingsByCalls.{not_last}
 use Rattle.sl_due_law.proofs.Holdings.HoldingsByGrants.{old_or_granted}
-use Rattle.sl_leases.specs.Jobs.{aim_of_command}
-use Rattle.sl_leases.specs.Leases.{spot_of_call}
-use Rattle.sl_leases.specs.declared.lease.Aim.{Aim}
+use Rattle.sl_trace.specs.Jobs.{aim_of_command}
+use Rattle.sl_trace.specs.Leases.{spot_of_call}
+use Rattle.sl_trace.specs.declared.lease.Aim.{Aim}
 use Rattle.sl_due_law.specs.Facts.Heard.{heard_by}
 use Rattle.sl_due_law.specs.Facts.WorkFacts.{IsAtWork, IsWaiting, MayBeHeld}
 use Rattle.sl_trace.specs.Traces.{Submitted, holdings, same_place, submitted}

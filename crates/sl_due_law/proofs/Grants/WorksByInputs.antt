@@ -5,7 +5,7 @@ use Rattle.sl_due.specs.Steps.{Step, seen, with_input}
 use Rattle.sl_due_law.proofs.Grants.WorksByEffects.{WorksAt, works_on}
 use Rattle.sl_due_law.proofs.Holdings.HoldingsByInputs.{answers_open, calls_stay, calls_told, children_seen, is_no_answer, sessions_seen_still}
 use Rattle.sl_due_law.proofs.Jobs.JobsAreNumbered.{numbered_seen}
-use Rattle.sl_leases.specs.Jobs.{command_numbered, command_of}
+use Rattle.sl_trace.specs.Jobs.{command_numbered, command_of}
 use Rattle.sl_plain.proofs.Lists.{in_map}
 use Rattle.sl_plain.proofs.Options.{some_of, then_value}
 use Rattle.sl_due_law.specs.Facts.CallFacts.{CallFacts}

@@ -30,22 +30,22 @@ use Rattle.sl_due_law.specs.Holdings.DecisionGrounds.{AsksLease, ConvertGrounds,
 use Rattle.sl_due_law.specs.Holdings.Moments.{Known}
 use Rattle.sl_due_law.proofs.Jobs.JobsAreNumbered.{next_is_new}
 use Rattle.sl_due_law.proofs.Jobs.LinesAreAllowed.{new_command}
-use Rattle.sl_law.specs.LawfulModes.{shared_since}
-use Rattle.sl_leases.specs.Ballots.{moded_block}
-use Rattle.sl_leases.specs.Counts.{held_here, may_act}
-use Rattle.sl_leases.specs.Jobs.{aim_of_command, command_numbered, command_of, process_named, resource_named, wanted_mode, wants_shared}
-use Rattle.sl_leases.specs.LeaseWork.{convert_next, leader_for, lease_place, release_next}
-use Rattle.sl_leases.specs.Leases.{has_shared_on, holdings_on, is_on, known, shared_on, spot_of, spot_of_call}
-use Rattle.sl_leases.specs.declared.lease.Aim.TheVariants.{Acquires, Converts, Releases}
-use Rattle.sl_leases.specs.declared.lease.Aim.{Aim}
-use Rattle.sl_leases.specs.declared.lease.LeaseNext.TheVariants.{Nothing, ReadFor, WriteBlock}
+use Rattle.sl_run.specs.LawfulModes.{shared_since}
+use Rattle.sl_trace.specs.Ballots.{moded_block}
+use Rattle.sl_trace.specs.Counts.{held_here, may_act}
+use Rattle.sl_trace.specs.Jobs.{aim_of_command, command_numbered, command_of, process_named, resource_named, wanted_mode, wants_shared}
+use Rattle.sl_trace.specs.LeaseWork.{convert_next, leader_for, lease_place, release_next}
+use Rattle.sl_trace.specs.Leases.{has_shared_on, holdings_on, is_on, known, shared_on, spot_of, spot_of_call}
+use Rattle.sl_trace.specs.declared.lease.Aim.TheVariants.{Acquires, Converts, Releases}
+use Rattle.sl_trace.specs.declared.lease.Aim.{Aim}
+use Rattle.sl_trace.specs.declared.lease.LeaseNext.TheVariants.{Nothing, ReadFor, WriteBlock}
 use Rattle.sl_plain.proofs.Lists.{contains_cases, contains_none, find_fails, find_inside, got_inside, kept, kept_inside}
 use Rattle.sl_plain.proofs.Numbers.{lt_then_le, number_itself, refl_le}
 use Rattle.sl_plain.proofs.Options.{some_of, then_value}
 use Rattle.sl_sector.specs.declared.sector.Block.{Block}
 use Rattle.sl_sector.specs.declared.sector.Rec.TheVariants.{BlockIs, LeaderIs, ValueIs}
-use Rattle.sl_sessions.specs.Sessions.{holdings_of, session_numbered, sessions}
-use Rattle.sl_sessions.specs.declared.session.Session.{Session}
+use Rattle.sl_trace.specs.Sessions.{holdings_of, session_numbered, sessions}
+use Rattle.sl_trace.specs.declared.session.Session.{Session}
 use Rattle.sl_due_law.specs.Facts.Heard.{heard_by}
 use Rattle.sl_due_law.specs.Facts.JobFacts.{JobFacts}
 use Rattle.sl_due_law.specs.Facts.WorkFacts.{MayBeHeld}

@@ -6,8 +6,8 @@ use Rattle.sl_due_law.proofs.Holdings.PlainPlaces.{text_is}
 use Rattle.sl_plain.proofs.Lists.{contains_cases, contains_first, contains_more, contains_none, got_inside, kept}
 use Rattle.sl_plain.proofs.Numbers.{number_itself}
 use Rattle.sl_plain.proofs.Options.{none_is}
-use Rattle.sl_sessions.specs.Sessions.{calls_of, ended_after, has_open_write, holdings_of, is_joined, is_present, joined_after, present_sessions, refused_after, removed_after, session_numbered, sessions}
-use Rattle.sl_sessions.specs.declared.session.Session.{Session}
+use Rattle.sl_trace.specs.Sessions.{calls_of, ended_after, has_open_write, holdings_of, is_joined, is_present, joined_after, present_sessions, refused_after, removed_after, session_numbered, sessions}
+use Rattle.sl_trace.specs.declared.session.Session.{Session}
 use Rattle.sl_due_law.specs.Facts.Heard.{IsOpen, heard_by}
 use Rattle.sl_due_law.specs.Facts.SessionFacts.{ConnectionFacts, NameFacts}
 use Rattle.sl_trace.specs.Connections.{is_registered}

@@ -27,22 +27,22 @@ use Rattle.sl_due_law.specs.Holdings.Moments.{Known}
 use Rattle.sl_due_law.specs.Holdings.Promises.{HoldingFactsAreKept}
 use Rattle.sl_due_law.proofs.Jobs.CallsStay.{is_special}
 use Rattle.sl_due_law.proofs.Jobs.RepliesComeAfter.{IsLateDelta, joining_late, request_late, set_late, value_late, wake_late}
-use Rattle.sl_law.specs.Lawful.{Orderly}
-use Rattle.sl_leases.specs.Jobs.{command_numbered, job_of_start}
-use Rattle.sl_leases.specs.LeaseWork.{lease_place, settle_next}
-use Rattle.sl_leases.specs.Leases.{known}
-use Rattle.sl_leases.specs.declared.lease.LeaseNext.TheVariants.{AnswerJob, BecomeExclusive, BecomeShared, GrantJob, Nothing, ReadFor, WriteBlock, WriteLeader}
-use Rattle.sl_leases.specs.declared.lease.LeaseNext.{LeaseNext}
+use Rattle.sl_run.specs.Lawful.{Orderly}
+use Rattle.sl_trace.specs.Jobs.{command_numbered, job_of_start}
+use Rattle.sl_trace.specs.LeaseWork.{lease_place, settle_next}
+use Rattle.sl_trace.specs.Leases.{known}
+use Rattle.sl_trace.specs.declared.lease.LeaseNext.TheVariants.{AnswerJob, BecomeExclusive, BecomeShared, GrantJob, Nothing, ReadFor, WriteBlock, WriteLeader}
+use Rattle.sl_trace.specs.declared.lease.LeaseNext.{LeaseNext}
 use Rattle.sl_plain.proofs.Lists.{any_found, contains_map, contains_none, find_fails, got_inside, kept, kept_inside}
 use Rattle.sl_plain.proofs.Numbers.{number_itself}
 use Rattle.sl_plain.proofs.Options.{none_is, some_of}
 use Rattle.sl_plain.proofs.Truth.{left_is_false, or_false}
 use Rattle.sl_sector.specs.declared.sector.Rec.TheVariants.{RequestIs}
-use Rattle.sl_sessions.specs.Deltas.{delta_of_session, next_after_free, next_in_joining, next_on_wake}
-use Rattle.sl_sessions.specs.Sessions.{calls_of, free_write, generation_of, has_open_write, holdings_of, is_call_of, is_free_purpose, is_join_done, is_joined, joined_after, open_calls_of, recovery_of, refused_after, removed_after, sessions}
-use Rattle.sl_sessions.specs.declared.delta.DeltaNext.TheVariants.{RefuseJoin}
-use Rattle.sl_sessions.specs.declared.delta.DeltaNext.{DeltaNext}
-use Rattle.sl_sessions.specs.declared.session.Session.{Session}
+use Rattle.sl_trace.specs.Deltas.{delta_of_session, next_after_free, next_in_joining, next_on_wake}
+use Rattle.sl_trace.specs.Sessions.{calls_of, free_write, generation_of, has_open_write, holdings_of, is_call_of, is_free_purpose, is_join_done, is_joined, joined_after, open_calls_of, recovery_of, refused_after, removed_after, sessions}
+use Rattle.sl_trace.specs.declared.delta.DeltaNext.TheVariants.{RefuseJoin}
+use Rattle.sl_trace.specs.declared.delta.DeltaNext.{DeltaNext}
+use Rattle.sl_trace.specs.declared.session.Session.{Session}
 use Rattle.sl_due_law.specs.Facts.CallFacts.{CallFacts}
 use Rattle.sl_due_law.specs.Facts.Heard.{IsOpen, heard_by}
 use Rattle.sl_due_law.specs.Facts.JobFacts.{FitsCommand}

@@ -9,9 +9,9 @@ use Rattle.sl_due_law.proofs.Holdings.HoldingsByLoops.{AnswersNoJob, stopped_hel
 use Rattle.sl_due_law.proofs.Holdings.StandsGrow.{stands_same}
 use Rattle.sl_due_law.specs.Holdings.Promises.{HoldingFactsBegin}
 use Rattle.sl_plain.proofs.Numbers.{refl_le}
-use Rattle.sl_sessions.specs.Sessions.{is_joined, joined_after, present_sessions, recovery_of, removed_after}
-use Rattle.sl_sessions.specs.Watching.{counted_over, counts_over}
-use Rattle.sl_sessions.specs.declared.session.Session.{Session}
+use Rattle.sl_trace.specs.Sessions.{is_joined, joined_after, present_sessions, recovery_of, removed_after}
+use Rattle.sl_trace.specs.Watching.{counted_over, counts_over}
+use Rattle.sl_trace.specs.declared.session.Session.{Session}
 use Rattle.sl_due_law.specs.Facts.Heard.{IsOpen}
 use Rattle.sl_due_law.specs.Facts.HoldingFacts.{HoldingFacts}
 use Rattle.sl_trace.specs.Traces.{Child, Setting, Submitted, Trace, child_after, children, first_child, held_by, holdings, is_ended_by, next_child, no_effects, spot_of_grant}

@@ -13,20 +13,20 @@ use Rattle.sl_due_law.proofs.Holdings.LeaseGrants.{IsNewThere, PlaceFor, granted
 use Rattle.sl_due_law.proofs.Holdings.LeaseNexts.{IsFitNext, IsGrantOf, next_fits}
 use Rattle.sl_due_law.proofs.Holdings.PlainPlaces.{one_place}
 use Rattle.sl_due_law.specs.Holdings.Moments.{Known}
-use Rattle.sl_leases.specs.Ballots.{moded_block}
-use Rattle.sl_leases.specs.Jobs.{aim_of, aim_of_command, command_numbered, process_named, resource_named}
-use Rattle.sl_leases.specs.LeaseWork.{LeasePlace, leader_for, lease_next, lease_place}
-use Rattle.sl_leases.specs.Leases.{LeaseKnown, block_submitted, exclusive_on, holdings_on, known, lease_calls, lver_written, spot_of, spot_of_call}
-use Rattle.sl_leases.specs.declared.lease.Aim.TheVariants.{Acquires, Converts, Releases, Settles}
-use Rattle.sl_leases.specs.declared.lease.Aim.{Aim}
-use Rattle.sl_leases.specs.declared.lease.LeaseNext.TheVariants.{AnswerJob, BecomeExclusive, BecomeShared, GrantJob, Nothing, ReadFor, WriteBlock, WriteLeader}
-use Rattle.sl_leases.specs.declared.lease.LeaseNext.{LeaseNext}
+use Rattle.sl_trace.specs.Ballots.{moded_block}
+use Rattle.sl_trace.specs.Jobs.{aim_of, aim_of_command, command_numbered, process_named, resource_named}
+use Rattle.sl_trace.specs.LeaseWork.{LeasePlace, leader_for, lease_next, lease_place}
+use Rattle.sl_trace.specs.Leases.{LeaseKnown, block_submitted, exclusive_on, holdings_on, known, lease_calls, lver_written, spot_of, spot_of_call}
+use Rattle.sl_trace.specs.declared.lease.Aim.TheVariants.{Acquires, Converts, Releases, Settles}
+use Rattle.sl_trace.specs.declared.lease.Aim.{Aim}
+use Rattle.sl_trace.specs.declared.lease.LeaseNext.TheVariants.{AnswerJob, BecomeExclusive, BecomeShared, GrantJob, Nothing, ReadFor, WriteBlock, WriteLeader}
+use Rattle.sl_trace.specs.declared.lease.LeaseNext.{LeaseNext}
 use Rattle.sl_plain.proofs.Lists.{find_inside, kept_inside}
 use Rattle.sl_plain.proofs.Options.{mapped_value, then_value}
 use Rattle.sl_sector.specs.declared.sector.Block.{Block}
 use Rattle.sl_sector.specs.declared.sector.Leader.{Leader}
-use Rattle.sl_sessions.specs.Sessions.{holdings_of}
-use Rattle.sl_sessions.specs.declared.session.Session.{Session}
+use Rattle.sl_trace.specs.Sessions.{holdings_of}
+use Rattle.sl_trace.specs.declared.session.Session.{Session}
 use Rattle.sl_due_law.specs.Facts.GrantGrounds.{IsDoneWork}
 use Rattle.sl_due_law.specs.Facts.Heard.{heard_by}
 use Rattle.sl_due_law.specs.Facts.HoldingFacts.{StandsExclusive}

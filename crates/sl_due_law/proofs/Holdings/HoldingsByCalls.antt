@@ -7,13 +7,13 @@ use Rattle.sl_acts.specs.SoFar.{entry_of}
 use Rattle.sl_due.specs.Steps.{Step, add_call_of, seen}
 use Rattle.sl_due_law.proofs.Holdings.HoldingsByEffects.{HoldsAt, counted_now, counted_on, upheld}
 use Rattle.sl_due_law.proofs.Holdings.StandsGrow.{IsBeside, stands_more, stands_same}
-use Rattle.sl_leases.specs.Leases.{is_lease_call, is_on, lease_calls}
+use Rattle.sl_trace.specs.Leases.{is_lease_call, is_on, lease_calls}
 use Rattle.sl_due_law.proofs.Parts.CallsGrow.{mine_more, others_stay}
 use Rattle.sl_plain.proofs.Numbers.{refl_le}
-use Rattle.sl_sessions.specs.Sessions.{calls_of, generation_in, generation_of, is_survey_purpose, joined_after, session_numbered}
-use Rattle.sl_sessions.specs.Watching.{counted_over, counts_over, evidence, evidence_in, look_of, sightings}
-use Rattle.sl_sessions.specs.declared.session.Session.{Session}
-use Rattle.sl_sessions.specs.declared.sighting.Sighting.{Sighting}
+use Rattle.sl_trace.specs.Sessions.{calls_of, generation_in, generation_of, is_survey_purpose, joined_after, session_numbered}
+use Rattle.sl_trace.specs.Watching.{counted_over, counts_over, evidence, evidence_in, look_of, sightings}
+use Rattle.sl_trace.specs.declared.session.Session.{Session}
+use Rattle.sl_trace.specs.declared.sighting.Sighting.{Sighting}
 use Rattle.sl_due_law.specs.Facts.Heard.{IsOpen, heard_by}
 use Rattle.sl_due_law.specs.Facts.HoldingFacts.{StandsExclusive}
 use Rattle.sl_trace.specs.TraceLaws.{with_call}

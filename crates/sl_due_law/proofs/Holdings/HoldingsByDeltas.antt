@@ -9,17 +9,17 @@ use Rattle.sl_due_law.proofs.Holdings.HoldersSpared.{IsJoining, NoneHeldOf, join
 use Rattle.sl_due_law.proofs.Holdings.HoldingsByCalls.{CallSpares, call_added, call_held}
 use Rattle.sl_due_law.proofs.Holdings.HoldingsByEffects.{HoldsAt, SameCalls, later_same, move_held, reply_held}
 use Rattle.sl_due_law.proofs.Jobs.RepliesComeAfter.{IsLateDelta}
-use Rattle.sl_leases.specs.Leases.{is_lease_call, is_on}
+use Rattle.sl_trace.specs.Leases.{is_lease_call, is_on}
 use Rattle.sl_plain.proofs.Lists.{find_inside, got_inside}
 use Rattle.sl_sector.specs.Bitmaps.{no_bits}
 use Rattle.sl_sector.specs.declared.sector.DeltaRec.{DeltaRec}
 use Rattle.sl_sector.specs.declared.sector.DeltaState.TheVariants.{Free, Live}
 use Rattle.sl_sector.specs.declared.sector.Rec.TheVariants.{DeltaIs}
-use Rattle.sl_sessions.specs.Deltas.{delta_known, delta_of_session, delta_record, is_renewal_due, next_after_free, next_after_renewal, next_free, next_renewal, own_offset}
-use Rattle.sl_sessions.specs.Sessions.{calls_of, delta_written, free_write, generation_of, given_number, has_open_write, is_joined, last_delta, last_seq, leaving_job, refused_after, session_numbered, session_of_job, sessions}
-use Rattle.sl_sessions.specs.declared.delta.DeltaNext.TheVariants.{Disconnect, EndLeaving, Join, MoveConnection, Nothing, ReadOwn, RefuseJoin, RegisterAndRead, WriteClaim, WriteFirst, WriteFree, WriteRenewal}
-use Rattle.sl_sessions.specs.declared.delta.DeltaNext.{DeltaNext}
-use Rattle.sl_sessions.specs.declared.session.Session.{Session}
+use Rattle.sl_trace.specs.Deltas.{delta_known, delta_of_session, delta_record, is_renewal_due, next_after_free, next_after_renewal, next_free, next_renewal, own_offset}
+use Rattle.sl_trace.specs.Sessions.{calls_of, delta_written, free_write, generation_of, given_number, has_open_write, is_joined, last_delta, last_seq, leaving_job, refused_after, session_numbered, session_of_job, sessions}
+use Rattle.sl_trace.specs.declared.delta.DeltaNext.TheVariants.{Disconnect, EndLeaving, Join, MoveConnection, Nothing, ReadOwn, RefuseJoin, RegisterAndRead, WriteClaim, WriteFirst, WriteFree, WriteRenewal}
+use Rattle.sl_trace.specs.declared.delta.DeltaNext.{DeltaNext}
+use Rattle.sl_trace.specs.declared.session.Session.{Session}
 use Rattle.sl_due_law.specs.Facts.Heard.{heard_by}
 use Rattle.sl_due_law.specs.Facts.SessionFacts.{NameFacts}
 use Rattle.sl_time.specs.Times.{fail}

@@ -6,13 +6,13 @@ use Rattle.sl_due_law.proofs.Holdings.StandsGrow.{stands_same}
 use Rattle.sl_due_law.proofs.Holdings.PlainPlaces.{fewer_kept, kept_counted, one_place}
 use Rattle.sl_due_law.proofs.Parts.EffectsAreTold.{effects_are_told}
 use Rattle.sl_due_law.specs.Parts.Parts.{with_end, with_move, with_reply, with_start}
-use Rattle.sl_leases.specs.Leases.{is_lease_call, is_on}
+use Rattle.sl_trace.specs.Leases.{is_lease_call, is_on}
 use Rattle.sl_plain.proofs.Lists.{contains_cases, contains_none, kept_inside}
 use Rattle.sl_plain.proofs.Numbers.{number_itself, refl_le, lt_then_le}
 use Rattle.sl_plain.proofs.Options.{mapped_value, some_there, then_value}
-use Rattle.sl_sessions.specs.Sessions.{calls_of, generation_in, generation_of, is_call_of, is_join_done, is_joined, joined_after, removed_after, session_numbered}
-use Rattle.sl_sessions.specs.Watching.{counted_over, counts_over, evidence_in}
-use Rattle.sl_sessions.specs.declared.session.Session.{Session}
+use Rattle.sl_trace.specs.Sessions.{calls_of, generation_in, generation_of, is_call_of, is_join_done, is_joined, joined_after, removed_after, session_numbered}
+use Rattle.sl_trace.specs.Watching.{counted_over, counts_over, evidence_in}
+use Rattle.sl_trace.specs.declared.session.Session.{Session}
 use Rattle.sl_due_law.specs.Facts.Heard.{heard_by}
 use Rattle.sl_due_law.specs.Facts.HoldingFacts.{HoldingFacts, StandsExclusive}
 use Rattle.sl_trace.specs.Connections.{unregisters}

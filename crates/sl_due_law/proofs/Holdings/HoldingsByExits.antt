@@ -13,8 +13,8 @@ use Rattle.sl_due_law.proofs.Parts.EffectsAreTold.{effects_are_told}
 use Rattle.sl_due_law.specs.Parts.Parts.{with_end}
 use Rattle.sl_plain.proofs.Lists.{any_of, contains_cases, contains_first, contains_more, contains_none, in_map, kept, kept_inside}
 use Rattle.sl_plain.proofs.Numbers.{above_zero, number_itself}
-use Rattle.sl_sessions.specs.Sessions.{is_joined, session_numbered}
-use Rattle.sl_sessions.specs.declared.session.Session.{Session}
+use Rattle.sl_trace.specs.Sessions.{is_joined, session_numbered}
+use Rattle.sl_trace.specs.declared.session.Session.{Session}
 use Rattle.sl_due_law.specs.Facts.Heard.{heard_by}
 use Rattle.sl_due_law.specs.Facts.HoldingFacts.{StandsExclusive}
 use Rattle.sl_trace.specs.Traces.{Trace, end_of, has_orphan_of, held_by, holdings, is_ended_by, is_orphan, is_shared, leaves_orphan, next_child, no_process, orphan_of, orphans_left, same_place, spot_of_grant}

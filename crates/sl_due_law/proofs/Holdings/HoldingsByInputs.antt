@@ -6,14 +6,14 @@ use Rattle.sl_acts.specs.SoFar.{entry_of}
 use Rattle.sl_due.specs.Steps.{Step, seen, with_input}
 use Rattle.sl_due_law.proofs.Holdings.HoldingsByEffects.{HoldsAt, counted_now, counted_on, upheld}
 use Rattle.sl_due_law.proofs.Holdings.StandsGrow.{stands_marked, stands_same}
-use Rattle.sl_leases.specs.Leases.{is_lease_call, is_on, lease_calls}
+use Rattle.sl_trace.specs.Leases.{is_lease_call, is_on, lease_calls}
 use Rattle.sl_plain.proofs.Lists.{any_found, contains_map, in_map, kept_inside}
 use Rattle.sl_plain.proofs.Numbers.{lt_then_le, refl_le}
 use Rattle.sl_plain.proofs.Options.{none_is}
 use Rattle.sl_sector.specs.declared.sector.DeltaRec.{DeltaRec}
-use Rattle.sl_sessions.specs.Sessions.{calls_of, delta_written, generation_in, generation_of, given_number, is_call_of, is_join_call, joined_after, last_delta, session_numbered, sessions}
-use Rattle.sl_sessions.specs.Watching.{counted_over, counts_over, evidence_in}
-use Rattle.sl_sessions.specs.declared.session.Session.{Session}
+use Rattle.sl_trace.specs.Sessions.{calls_of, delta_written, generation_in, generation_of, given_number, is_call_of, is_join_call, joined_after, last_delta, session_numbered, sessions}
+use Rattle.sl_trace.specs.Watching.{counted_over, counts_over, evidence_in}
+use Rattle.sl_trace.specs.declared.session.Session.{Session}
 use Rattle.sl_due_law.specs.Facts.CallFacts.{CallFacts}
 use Rattle.sl_due_law.specs.Facts.Heard.{IsOpen, heard_by}
 use Rattle.sl_due_law.specs.Facts.HoldingFacts.{StandsExclusive}

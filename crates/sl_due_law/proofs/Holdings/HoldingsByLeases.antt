@@ -11,18 +11,18 @@ use Rattle.sl_due_law.proofs.Holdings.HoldingsByEffects.{HoldsAt, later_same, re
 use Rattle.sl_due_law.proofs.Holdings.LeaseBeside.{DoesBeside, is_ballot_step}
 use Rattle.sl_due_law.proofs.Holdings.LeasePlaces.{base_on, block_on, ids_within, one_area}
 use Rattle.sl_due_law.proofs.Holdings.StandsGrow.{IsBeside}
-use Rattle.sl_law.specs.Lawful.{IsSetting}
-use Rattle.sl_leases.specs.Leases.{block_written, freed, freed_by, is_lease_call, is_on, lease_calls}
-use Rattle.sl_leases.specs.declared.lease.LeaseNext.TheVariants.{AnswerJob, BecomeExclusive, BecomeShared, GrantJob, Nothing, ReadFor, WriteBlock, WriteLeader}
-use Rattle.sl_leases.specs.declared.lease.LeaseNext.{LeaseNext}
+use Rattle.sl_run.specs.Lawful.{IsSetting}
+use Rattle.sl_trace.specs.Leases.{block_written, freed, freed_by, is_lease_call, is_on, lease_calls}
+use Rattle.sl_trace.specs.declared.lease.LeaseNext.TheVariants.{AnswerJob, BecomeExclusive, BecomeShared, GrantJob, Nothing, ReadFor, WriteBlock, WriteLeader}
+use Rattle.sl_trace.specs.declared.lease.LeaseNext.{LeaseNext}
 use Rattle.sl_plain.proofs.Lists.{got_inside}
 use Rattle.sl_plain.proofs.Numbers.{above_zero, trans_le}
 use Rattle.sl_sector.specs.declared.sector.Block.{Block}
 use Rattle.sl_sector.specs.declared.sector.DeltaRec.{DeltaRec}
 use Rattle.sl_sector.specs.declared.sector.Leader.{Leader}
 use Rattle.sl_sector.specs.declared.sector.Rec.TheVariants.{BlockIs, LeaderIs}
-use Rattle.sl_sessions.specs.Sessions.{calls_of, delta_written, given_number, last_delta, session_numbered, sessions}
-use Rattle.sl_sessions.specs.declared.session.Session.{Session}
+use Rattle.sl_trace.specs.Sessions.{calls_of, delta_written, given_number, last_delta, session_numbered, sessions}
+use Rattle.sl_trace.specs.declared.session.Session.{Session}
 use Rattle.sl_due_law.specs.Facts.Heard.{heard_by}
 use Rattle.sl_due_law.specs.Facts.HoldingFacts.{StandsExclusive, is_ballot_call}
 use Rattle.sl_trace.specs.Traces.{Submitted, holdings, is_before_input, is_shared, new_call, spot_of_grant, work_job}

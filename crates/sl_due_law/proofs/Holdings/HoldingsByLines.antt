@@ -24,19 +24,19 @@ use Rattle.sl_due_law.proofs.Holdings.LeaseGrants.{IsNewThere, PlaceFor, granted
 use Rattle.sl_due_law.proofs.Holdings.PlainPlaces.{one_place, place_turned, text_is}
 use Rattle.sl_due_law.proofs.Holdings.StandsGrow.{stands_same}
 use Rattle.sl_due_law.specs.Holdings.DecisionGrounds.{AcquireGrounds, AsksLease, ConvertGrounds, HasGrounds, IsFreeFor, SharesGrounds, TakeOverGrounds}
-use Rattle.sl_law.specs.Lawful.{IsSetting}
-use Rattle.sl_leases.specs.Ballots.{moded_block}
-use Rattle.sl_leases.specs.Counts.{held_here, may_act}
-use Rattle.sl_leases.specs.Jobs.{process_named, resource_named, wants_shared}
-use Rattle.sl_leases.specs.LeaseWork.{LeasePlace, convert_next, lease_place, release_next}
-use Rattle.sl_leases.specs.Leases.{LeaseKnown, block_submitted, holdings_on, known, lease_calls, spot_of}
-use Rattle.sl_leases.specs.declared.lease.LeaseNext.TheVariants.{Nothing, ReadFor, WriteBlock}
+use Rattle.sl_run.specs.Lawful.{IsSetting}
+use Rattle.sl_trace.specs.Ballots.{moded_block}
+use Rattle.sl_trace.specs.Counts.{held_here, may_act}
+use Rattle.sl_trace.specs.Jobs.{process_named, resource_named, wants_shared}
+use Rattle.sl_trace.specs.LeaseWork.{LeasePlace, convert_next, lease_place, release_next}
+use Rattle.sl_trace.specs.Leases.{LeaseKnown, block_submitted, holdings_on, known, lease_calls, spot_of}
+use Rattle.sl_trace.specs.declared.lease.LeaseNext.TheVariants.{Nothing, ReadFor, WriteBlock}
 use Rattle.sl_plain.proofs.Lists.{any_of, contains_none, find_inside, kept, kept_inside}
 use Rattle.sl_plain.proofs.Numbers.{lt_then_le, number_itself}
 use Rattle.sl_sector.specs.declared.sector.Block.{Block}
 use Rattle.sl_sector.specs.declared.sector.Rec.TheVariants.{ValueIs}
-use Rattle.sl_sessions.specs.Sessions.{holdings_of, is_active, is_joined, leaving_job, present_sessions, recovery_of, session_named, session_numbered, sessions}
-use Rattle.sl_sessions.specs.declared.session.Session.{Session}
+use Rattle.sl_trace.specs.Sessions.{holdings_of, is_active, is_joined, leaving_job, present_sessions, recovery_of, session_named, session_numbered, sessions}
+use Rattle.sl_trace.specs.declared.session.Session.{Session}
 use Rattle.sl_due_law.specs.Facts.Heard.{heard_by}
 use Rattle.sl_due_law.specs.Facts.HoldingFacts.{StandsExclusive}
 use Rattle.sl_trace.specs.Commands.{IsCommand, IsResourceArg}

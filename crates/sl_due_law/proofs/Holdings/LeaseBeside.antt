@@ -2,21 +2,21 @@
 use Rattle.sl_area.specs.Layouts.{Layout}
 use Rattle.sl_due_law.proofs.Holdings.HoldingsByEffects.{HoldsAt}
 use Rattle.sl_due_law.proofs.Holdings.PlainPlaces.{one_place}
-use Rattle.sl_leases.specs.Ballots.{moded_block, same_owner}
-use Rattle.sl_leases.specs.LeaseWork.{LeasePlace, leader_for, lease_next, settle_next, settle_owed}
-use Rattle.sl_leases.specs.Leases.{LeaseKnown, ended_ballot, ended_ballots, exclusive_on, free_left, holdings_on, known, lease_calls, owed_free, settles_free, won_by}
-use Rattle.sl_leases.specs.declared.lease.Aim.TheVariants.{Settles}
-use Rattle.sl_leases.specs.declared.lease.LeaseNext.TheVariants.{BecomeExclusive, BecomeShared, GrantJob, Nothing, ReadFor, WriteBlock, WriteLeader}
-use Rattle.sl_leases.specs.declared.lease.LeaseNext.{LeaseNext}
-use Rattle.sl_leases.specs.declared.lease.Owed.TheVariants.{BallotOwed, FreeOwed, ModeOwed}
-use Rattle.sl_leases.specs.declared.lease.Owed.{Owed}
+use Rattle.sl_trace.specs.Ballots.{moded_block, same_owner}
+use Rattle.sl_trace.specs.LeaseWork.{LeasePlace, leader_for, lease_next, settle_next, settle_owed}
+use Rattle.sl_trace.specs.Leases.{LeaseKnown, ended_ballot, ended_ballots, exclusive_on, free_left, holdings_on, known, lease_calls, owed_free, settles_free, won_by}
+use Rattle.sl_trace.specs.declared.lease.Aim.TheVariants.{Settles}
+use Rattle.sl_trace.specs.declared.lease.LeaseNext.TheVariants.{BecomeExclusive, BecomeShared, GrantJob, Nothing, ReadFor, WriteBlock, WriteLeader}
+use Rattle.sl_trace.specs.declared.lease.LeaseNext.{LeaseNext}
+use Rattle.sl_trace.specs.declared.lease.Owed.TheVariants.{BallotOwed, FreeOwed, ModeOwed}
+use Rattle.sl_trace.specs.declared.lease.Owed.{Owed}
 use Rattle.sl_plain.proofs.Lists.{contains_first, contains_more, find_fails, find_inside, kept, kept_inside}
 use Rattle.sl_plain.proofs.Numbers.{number_itself}
 use Rattle.sl_plain.proofs.Options.{then_value}
 use Rattle.sl_sector.specs.declared.sector.Block.{Block}
 use Rattle.sl_sector.specs.declared.sector.Owner.{Owner}
-use Rattle.sl_sessions.specs.Sessions.{holdings_of, me}
-use Rattle.sl_sessions.specs.declared.session.Session.{Session}
+use Rattle.sl_trace.specs.Sessions.{holdings_of, me}
+use Rattle.sl_trace.specs.declared.session.Session.{Session}
 use Rattle.sl_due_law.specs.Facts.Heard.{heard_by}
 use Rattle.sl_due_law.specs.Facts.HoldingFacts.{StandsExclusive}
 use Rattle.sl_due.specs.Steps.{Step, seen}

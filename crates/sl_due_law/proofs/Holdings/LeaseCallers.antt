@@ -7,15 +7,15 @@ use Rattle.sl_area.specs.Places.{in_area}
 use Rattle.sl_due.specs.Steps.{Step, seen, with_input}
 use Rattle.sl_due_law.proofs.Holdings.HoldingsByInputs.{calls_marked}
 use Rattle.sl_due_law.proofs.Holdings.LeasePlaces.{area_is}
-use Rattle.sl_law.specs.Lawful.{IsSetting, Orderly}
-use Rattle.sl_law.specs.Saying.{IsAnsweredAt}
-use Rattle.sl_leases.specs.Jobs.{command_numbered, command_of}
-use Rattle.sl_leases.specs.Leases.{is_lease_call, is_on, lease_calls, lease_step, spot_of_call}
+use Rattle.sl_run.specs.Lawful.{IsSetting, Orderly}
+use Rattle.sl_run.specs.Saying.{IsAnsweredAt}
+use Rattle.sl_trace.specs.Jobs.{command_numbered, command_of}
+use Rattle.sl_trace.specs.Leases.{is_lease_call, is_on, lease_calls, lease_step, spot_of_call}
 use Rattle.sl_plain.proofs.Lists.{any_found, contains_cases, contains_map, contains_none, find_inside, kept, kept_inside}
 use Rattle.sl_plain.proofs.Numbers.{number_itself}
 use Rattle.sl_plain.proofs.Options.{none_is, then_value}
-use Rattle.sl_sessions.specs.Sessions.{calls_of, has_open_write, is_call_of, is_joined, is_present, joined_after, refused_after, removed_after}
-use Rattle.sl_sessions.specs.declared.session.Session.{Session}
+use Rattle.sl_trace.specs.Sessions.{calls_of, has_open_write, is_call_of, is_joined, is_present, joined_after, refused_after, removed_after}
+use Rattle.sl_trace.specs.declared.session.Session.{Session}
 use Rattle.sl_due_law.specs.Facts.CallFacts.{CallFacts}
 use Rattle.sl_due_law.specs.Facts.Heard.{IsOpen, heard_by}
 use Rattle.sl_due_law.specs.Facts.WorkFacts.{IsWaiting}

@@ -9,17 +9,17 @@ use Rattle.sl_due_law.proofs.Holdings.HoldingsByGrants.{grant_held, old_or_grant
 use Rattle.sl_due_law.proofs.Holdings.HoldingsByLeases.{IsAligned, carried_held}
 use Rattle.sl_due_law.proofs.Holdings.PlainPlaces.{one_place, place_is, place_turned}
 use Rattle.sl_due_law.proofs.Holdings.StandsGrow.{stands_same}
-use Rattle.sl_law.specs.Lawful.{IsSetting}
-use Rattle.sl_leases.specs.Ballots.{moded_block}
-use Rattle.sl_leases.specs.Jobs.{command_numbered, process_named}
-use Rattle.sl_leases.specs.Leases.{block_submitted, exclusive_on, holdings_on, is_lease_call, is_on, lease_calls}
-use Rattle.sl_leases.specs.declared.lease.LeaseNext.TheVariants.{BecomeExclusive, BecomeShared, WriteBlock, WriteLeader}
+use Rattle.sl_run.specs.Lawful.{IsSetting}
+use Rattle.sl_trace.specs.Ballots.{moded_block}
+use Rattle.sl_trace.specs.Jobs.{command_numbered, process_named}
+use Rattle.sl_trace.specs.Leases.{block_submitted, exclusive_on, holdings_on, is_lease_call, is_on, lease_calls}
+use Rattle.sl_trace.specs.declared.lease.LeaseNext.TheVariants.{BecomeExclusive, BecomeShared, WriteBlock, WriteLeader}
 use Rattle.sl_plain.proofs.Lists.{find_fails, find_inside, kept_inside}
 use Rattle.sl_plain.proofs.Numbers.{number_itself}
 use Rattle.sl_sector.specs.declared.sector.Block.{Block}
 use Rattle.sl_sector.specs.declared.sector.Leader.{Leader}
-use Rattle.sl_sessions.specs.Sessions.{holdings_of, is_call_of, is_joined, session_numbered}
-use Rattle.sl_sessions.specs.declared.session.Session.{Session}
+use Rattle.sl_trace.specs.Sessions.{holdings_of, is_call_of, is_joined, session_numbered}
+use Rattle.sl_trace.specs.declared.session.Session.{Session}
 use Rattle.sl_due_law.specs.Facts.Heard.{heard_by}
 use Rattle.sl_due_law.specs.Facts.HoldingFacts.{StandsExclusive}
 use Rattle.sl_trace.specs.Traces.{end_of, holdings, is_ended_by, is_shared, same_place, spot_of_grant, submitted}

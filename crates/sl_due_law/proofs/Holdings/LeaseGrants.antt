@@ -7,10 +7,10 @@ use Rattle.sl_due.specs.Steps.{Step, add_grant, add_reply, add_start, seen}
 use Rattle.sl_due_law.proofs.Holdings.HoldingsByEffects.{HoldsAt, later_same, next_less, reply_held, start_held}
 use Rattle.sl_due_law.proofs.Holdings.HoldingsByGrants.{MayGrant, grant_held}
 use Rattle.sl_due_law.proofs.Holdings.StandsGrow.{stands_same}
-use Rattle.sl_leases.specs.Jobs.{process_named, resource_named}
-use Rattle.sl_leases.specs.Leases.{spot_of}
-use Rattle.sl_sessions.specs.Sessions.{is_joined}
-use Rattle.sl_sessions.specs.declared.session.Session.{Session}
+use Rattle.sl_trace.specs.Jobs.{process_named, resource_named}
+use Rattle.sl_trace.specs.Leases.{spot_of}
+use Rattle.sl_trace.specs.Sessions.{is_joined}
+use Rattle.sl_trace.specs.declared.session.Session.{Session}
 use Rattle.sl_due_law.specs.Facts.Heard.{heard_by}
 use Rattle.sl_due_law.specs.Facts.HoldingFacts.{StandsExclusive}
 use Rattle.sl_trace.specs.Traces.{holdings, is_shared, next_child, same_place}

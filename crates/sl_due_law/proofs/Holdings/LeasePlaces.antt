@@ -2,14 +2,14 @@
 use Rattle.sl_area.proofs.SizeLaws.{HasRoom, has_room}
 use Rattle.sl_area.specs.Layouts.{Layout}
 use Rattle.sl_area.specs.Places.{block_offset, in_area}
-use Rattle.sl_law.specs.Lawful.{IsGiven, IsSetting}
-use Rattle.sl_leases.specs.Leases.{is_on, spot_of_call}
+use Rattle.sl_run.specs.Lawful.{IsGiven, IsSetting}
+use Rattle.sl_trace.specs.Leases.{is_on, spot_of_call}
 use Rattle.sl_plain.proofs.Lists.{contains_cases, contains_first, contains_more, contains_none, in_map}
 use Rattle.sl_plain.proofs.Numbers.{none_off}
 use Rattle.sl_plain.proofs.Options.{then_value}
 use Rattle.sl_sector.proofs.RuleLaws.{in_range}
-use Rattle.sl_sessions.specs.Sessions.{added, added_by, begun_in, given_session, is_join_call, joining_session, sessions}
-use Rattle.sl_sessions.specs.declared.session.Session.{Session}
+use Rattle.sl_trace.specs.Sessions.{added, added_by, begun_in, given_session, is_join_call, joining_session, sessions}
+use Rattle.sl_trace.specs.declared.session.Session.{Session}
 use Rattle.sl_trace.specs.Commands.{IsLockspaceArg}
 use Rattle.sl_trace.specs.Traces.{Setting, Submitted, Trace, line_in, new_call, next_job}
 use Rattle.sl_trace.specs.declared.command.Command.TheVariants.{Acquire, AddLockspace, Convert, GetLvb, HostStatus, InqLockspace, Release, ReleaseOrphan, RemLockspace, Request, RunProgram, SetKillpath, SetLvb, Status, TakeOver}

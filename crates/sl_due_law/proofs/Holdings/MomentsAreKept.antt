@@ -17,22 +17,22 @@ use Rattle.sl_due_law.proofs.Holdings.HoldingsByCalls.{call_added}
 use Rattle.sl_due_law.proofs.Holdings.LeaseNexts.{IsPlainNext, settling_fits}
 use Rattle.sl_due_law.specs.Holdings.Moments.{Moment}
 use Rattle.sl_due_law.specs.Holdings.Promises.{MomentsAreKept}
-use Rattle.sl_leases.specs.Counts.{stopper_of}
-use Rattle.sl_leases.specs.Jobs.{job_of_start}
-use Rattle.sl_leases.specs.LeaseWork.{lease_place, settle_next}
-use Rattle.sl_leases.specs.Leases.{LeaseKnown, known}
-use Rattle.sl_leases.specs.declared.lease.LeaseNext.TheVariants.{AnswerJob, BecomeExclusive, BecomeShared, GrantJob, Nothing as No_lease, ReadFor, WriteBlock, WriteLeader}
-use Rattle.sl_leases.specs.declared.lease.LeaseNext.{LeaseNext}
+use Rattle.sl_trace.specs.Counts.{stopper_of}
+use Rattle.sl_trace.specs.Jobs.{job_of_start}
+use Rattle.sl_trace.specs.LeaseWork.{lease_place, settle_next}
+use Rattle.sl_trace.specs.Leases.{LeaseKnown, known}
+use Rattle.sl_trace.specs.declared.lease.LeaseNext.TheVariants.{AnswerJob, BecomeExclusive, BecomeShared, GrantJob, Nothing as No_lease, ReadFor, WriteBlock, WriteLeader}
+use Rattle.sl_trace.specs.declared.lease.LeaseNext.{LeaseNext}
 use Rattle.sl_plain.proofs.Lists.{contains_cases, contains_none}
 use Rattle.sl_sector.specs.Bitmaps.{no_bits}
 use Rattle.sl_sector.specs.declared.sector.DeltaRec.{DeltaRec}
 use Rattle.sl_sector.specs.declared.sector.DeltaState.TheVariants.{Free}
 use Rattle.sl_sector.specs.declared.sector.Rec.TheVariants.{DeltaIs}
-use Rattle.sl_sessions.specs.Deltas.{delta_known, delta_of_session, delta_record, next_free, next_on_wake, next_renewal, own_offset}
-use Rattle.sl_sessions.specs.Sessions.{calls_of, free_write, generation_of, has_open_write, holders_of, last_seq, leaving_job, refused_after, session_of_job}
-use Rattle.sl_sessions.specs.declared.delta.DeltaNext.TheVariants.{Disconnect, EndLeaving, Join, MoveConnection, Nothing, ReadOwn, RefuseJoin, RegisterAndRead, WriteClaim, WriteFirst, WriteFree, WriteRenewal}
-use Rattle.sl_sessions.specs.declared.delta.DeltaNext.{DeltaNext}
-use Rattle.sl_sessions.specs.declared.session.Session.{Session}
+use Rattle.sl_trace.specs.Deltas.{delta_known, delta_of_session, delta_record, next_free, next_on_wake, next_renewal, own_offset}
+use Rattle.sl_trace.specs.Sessions.{calls_of, free_write, generation_of, has_open_write, holders_of, last_seq, leaving_job, refused_after, session_of_job}
+use Rattle.sl_trace.specs.declared.delta.DeltaNext.TheVariants.{Disconnect, EndLeaving, Join, MoveConnection, Nothing, ReadOwn, RefuseJoin, RegisterAndRead, WriteClaim, WriteFirst, WriteFree, WriteRenewal}
+use Rattle.sl_trace.specs.declared.delta.DeltaNext.{DeltaNext}
+use Rattle.sl_trace.specs.declared.session.Session.{Session}
 use Rattle.sl_trace.specs.Connections.{is_registered}
 use Rattle.sl_trace.specs.Traces.{Job, end_of, holdings, is_running, next_child, next_job}
 use Rattle.sl_trace.specs.declared.command.Command.{Command}

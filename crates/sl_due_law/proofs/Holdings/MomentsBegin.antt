@@ -5,9 +5,9 @@ use Rattle.sl_due.specs.Steps.{Step, add_reply, begin_step, seen}
 use Rattle.sl_due_law.proofs.Holdings.MomentsAreKept.{alike, signalled_alike}
 use Rattle.sl_due_law.specs.Holdings.Moments.{Moment}
 use Rattle.sl_due_law.specs.Holdings.Promises.{MomentsBegin}
-use Rattle.sl_leases.specs.Jobs.{jobs_of_session}
-use Rattle.sl_sessions.specs.Sessions.{last_renewal, present_sessions, recovery_of}
-use Rattle.sl_sessions.specs.declared.session.Session.{Session}
+use Rattle.sl_trace.specs.Jobs.{jobs_of_session}
+use Rattle.sl_trace.specs.Sessions.{last_renewal, present_sessions, recovery_of}
+use Rattle.sl_trace.specs.declared.session.Session.{Session}
 use Rattle.sl_plain.proofs.Lists.{contains_none}
 use Rattle.sl_trace.specs.Traces.{Job}
 use Rattle.sl_trace.specs.declared.effects.Signal.TheVariants.{Term}

@@ -1,16 +1,16 @@
 -- What stands behind an exclusive holding goes on where its lease's calls tell no less of it.
-use Rattle.sl_law.specs.LawfulBlock.{ReadAfter}
-use Rattle.sl_law.specs.LawfulGrant.{HasTaken}
-use Rattle.sl_law.specs.LawfulModes.{LawfulExclusiveGrant}
-use Rattle.sl_leases.specs.Leases.{block_submitted, block_written, blocks_given, ended_ballots, freed, is_area_read, is_phase_read, lease_calls, open_ballot}
+use Rattle.sl_run.specs.LawfulBlock.{ReadAfter}
+use Rattle.sl_run.specs.LawfulGrant.{HasTaken}
+use Rattle.sl_run.specs.LawfulModes.{LawfulExclusiveGrant}
+use Rattle.sl_trace.specs.Leases.{block_submitted, block_written, blocks_given, ended_ballots, freed, is_area_read, is_phase_read, lease_calls, open_ballot}
 use Rattle.sl_area.specs.Layouts.{Layout}
 use Rattle.sl_area.specs.Places.{area_blocks, blocks_in}
 use Rattle.sl_plain.proofs.Options.{then_value}
 use Rattle.sl_sector.specs.declared.sector.Block.{Block}
 use Rattle.sl_sector.specs.declared.sector.Owner.{Owner}
-use Rattle.sl_sessions.specs.Sessions.{generation_of, me}
-use Rattle.sl_sessions.specs.Watching.{counted_over}
-use Rattle.sl_sessions.specs.declared.session.Session.{Session}
+use Rattle.sl_trace.specs.Sessions.{generation_of, me}
+use Rattle.sl_trace.specs.Watching.{counted_over}
+use Rattle.sl_trace.specs.declared.session.Session.{Session}
 use Rattle.sl_due_law.specs.Facts.Heard.{IsOpen}
 use Rattle.sl_due_law.specs.Facts.HoldingFacts.{StandsExclusive, is_ballot_call}
 use Rattle.sl_trace.specs.Traces.{Answered, Setting, Submitted, Trace, bytes_given, gave, is_ok_answer}

@@ -1,14 +1,14 @@
 -- How a lease's calls change: not at all, by an answer, by one more call. What stands behind an exclusive holding goes on by each of them.
 use Rattle.sl_area.specs.Layouts.{Layout}
 use Rattle.sl_due_law.proofs.Holdings.StandsCarried.{WasWritten, stands_on}
-use Rattle.sl_leases.specs.Ballots.{is_ahead, stop_of}
-use Rattle.sl_leases.specs.Leases.{StepKind, Area_read, Phase1_read, Phase1_write, Phase2_read, Phase2_write, ballot_after, block_submitted, block_written, blocks_given, concludes, ended_ballot, ended_ballots, freed, freed_by, is_at, is_phase_read, lease_calls, open_ballot, value_in_end}
+use Rattle.sl_trace.specs.Ballots.{is_ahead, stop_of}
+use Rattle.sl_trace.specs.Leases.{StepKind, Area_read, Phase1_read, Phase1_write, Phase2_read, Phase2_write, ballot_after, block_submitted, block_written, blocks_given, concludes, ended_ballot, ended_ballots, freed, freed_by, is_at, is_phase_read, lease_calls, open_ballot, value_in_end}
 use Rattle.sl_plain.proofs.Lists.{contains_cases, contains_first, contains_map, contains_more, in_map}
 use Rattle.sl_sector.specs.declared.sector.Block.{Block}
 use Rattle.sl_sector.specs.declared.sector.Owner.{Owner}
-use Rattle.sl_sessions.specs.Sessions.{generation_of}
-use Rattle.sl_sessions.specs.Watching.{counted_over}
-use Rattle.sl_sessions.specs.declared.session.Session.{Session}
+use Rattle.sl_trace.specs.Sessions.{generation_of}
+use Rattle.sl_trace.specs.Watching.{counted_over}
+use Rattle.sl_trace.specs.declared.session.Session.{Session}
 use Rattle.sl_due_law.specs.Facts.Heard.{IsOpen}
 use Rattle.sl_due_law.specs.Facts.HoldingFacts.{StandsExclusive, is_ballot_call}
 use Rattle.sl_trace.specs.Traces.{Answered, Setting, Submitted, Trace, answer_of, answered_in, is_heeded}

@@ -15,11 +15,11 @@ use Rattle.sl_due_law.proofs.Jobs.LeaseCallsFit.{Works, asks_late, session_host,
 use Rattle.sl_due_law.proofs.Jobs.RepliesComeAfter.{IsLateLease, on_bool, request_late}
 use Rattle.sl_due_law.proofs.Jobs.SessionsArePresent.{joined_present, present_inside, session_has}
 use Rattle.sl_due_law.proofs.Jobs.SessionsHaveJobs.{LeftBy, joined_by, left_by}
-use Rattle.sl_law.specs.LawfulDelta.{LawfulDeltaCall, LawfulFree}
-use Rattle.sl_leases.specs.Jobs.{aim_of, aim_of_command, command_numbered, command_of, resource_named}
-use Rattle.sl_leases.specs.Leases.{spot_of, spot_of_call}
-use Rattle.sl_leases.specs.declared.lease.Aim.{Aim}
-use Rattle.sl_leases.specs.declared.lease.LeaseNext.{LeaseNext}
+use Rattle.sl_run.specs.LawfulDelta.{LawfulDeltaCall, LawfulFree}
+use Rattle.sl_trace.specs.Jobs.{aim_of, aim_of_command, command_numbered, command_of, resource_named}
+use Rattle.sl_trace.specs.Leases.{spot_of, spot_of_call}
+use Rattle.sl_trace.specs.declared.lease.Aim.{Aim}
+use Rattle.sl_trace.specs.declared.lease.LeaseNext.{LeaseNext}
 use Rattle.sl_plain.proofs.Lists.{any_of, contains_none, find_inside, got_inside, kept}
 use Rattle.sl_plain.proofs.Numbers.{number_itself}
 use Rattle.sl_plain.proofs.Options.{mapped_value, some_of, some_there, then_value}
@@ -28,12 +28,12 @@ use Rattle.sl_sector.specs.declared.sector.DeltaRec.{DeltaRec}
 use Rattle.sl_sector.specs.declared.sector.DeltaState.TheVariants.{Free, Live}
 use Rattle.sl_sector.specs.declared.sector.Rec.{Rec}
 use Rattle.sl_sector.specs.declared.sector.Rec.TheVariants.{DeltaIs}
-use Rattle.sl_sessions.specs.Deltas.{DeltaLease, delta_of_session, delta_record, is_renewal_due, next_after_free, next_after_renewal, next_free, next_renewal, own_offset}
-use Rattle.sl_sessions.specs.Sessions.{calls_of, delta_of_record, generation_of, has_open_write, is_call_of, is_joined, is_session_arg, joined_after, last_seq, leaving_job, open_calls_of, removed_after, session_numbered, sessions}
-use Rattle.sl_sessions.specs.declared.delta.DeltaKnown.{DeltaKnown}
-use Rattle.sl_sessions.specs.declared.delta.DeltaNext.{DeltaNext}
-use Rattle.sl_sessions.specs.declared.delta.DeltaNext.TheVariants.{MoveConnection, Nothing, WriteFree, WriteRenewal}
-use Rattle.sl_sessions.specs.declared.session.Session.{Session}
+use Rattle.sl_trace.specs.Deltas.{DeltaLease, delta_of_session, delta_record, is_renewal_due, next_after_free, next_after_renewal, next_free, next_renewal, own_offset}
+use Rattle.sl_trace.specs.Sessions.{calls_of, delta_of_record, generation_of, has_open_write, is_call_of, is_joined, is_session_arg, joined_after, last_seq, leaving_job, open_calls_of, removed_after, session_numbered, sessions}
+use Rattle.sl_trace.specs.declared.delta.DeltaKnown.{DeltaKnown}
+use Rattle.sl_trace.specs.declared.delta.DeltaNext.{DeltaNext}
+use Rattle.sl_trace.specs.declared.delta.DeltaNext.TheVariants.{MoveConnection, Nothing, WriteFree, WriteRenewal}
+use Rattle.sl_trace.specs.declared.session.Session.{Session}
 use Rattle.sl_due_law.specs.Facts.JobFacts.{FitsCommand, IsOfResource}
 use Rattle.sl_due_law.specs.Facts.Whole.{Whole}
 use Rattle.sl_trace.specs.Traces.{Job, Submitted, is_write, job_of, record_of, same_place, submitted}

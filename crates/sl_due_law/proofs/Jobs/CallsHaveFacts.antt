@@ -7,8 +7,8 @@ use Rattle.sl_due_law.specs.Jobs.Promises.{HasCallFacts}
 use Rattle.sl_plain.proofs.Lists.{any_found, contains_cases, contains_none, in_map, kept_inside}
 use Rattle.sl_plain.proofs.Numbers.{below_itself_suc, less_than_suc, number_itself}
 use Rattle.sl_plain.proofs.Options.{some_of}
-use Rattle.sl_sessions.specs.Sessions.{is_join_call, session_numbered, sessions}
-use Rattle.sl_sessions.specs.declared.session.Session.{Session}
+use Rattle.sl_trace.specs.Sessions.{is_join_call, session_numbered, sessions}
+use Rattle.sl_trace.specs.declared.session.Session.{Session}
 use Rattle.sl_trace.proofs.TraceFacts.{submitted-push}
 use Rattle.sl_trace.specs.Traces.{Answered, Setting, Submitted, Trace, answer_of, answered_in, call_numbered, is_answer_for, is_expected, mark, new_call, next_call, outstanding, submitted}
 use Rattle.sl_trace.specs.declared.effects.Call.{Call}

@@ -9,15 +9,15 @@ use Rattle.sl_due_law.proofs.Jobs.JobFactsGrow.{Both, CallFits, IsFree, IsNumber
 use Rattle.sl_due_law.proofs.Jobs.JobsAreAllowed.{MayCall, MayMove, MayReply, free_when_heard, numbered_of}
 use Rattle.sl_due_law.proofs.Jobs.RepliesComeAfter.{IsLateDelta}
 use Rattle.sl_due_law.proofs.Jobs.SessionsHaveJobs.{joined_by, one_session}
-use Rattle.sl_leases.specs.Jobs.{command_numbered}
+use Rattle.sl_trace.specs.Jobs.{command_numbered}
 use Rattle.sl_plain.proofs.Lists.{contains_cases, contains_none, find_inside, got_inside, kept}
 use Rattle.sl_plain.proofs.Numbers.{number_itself}
 use Rattle.sl_plain.proofs.Options.{none_is, some_of}
-use Rattle.sl_sessions.specs.Deltas.{own_offset}
-use Rattle.sl_sessions.specs.Sessions.{calls_of, is_call_of, is_join_done, joined_after, session_numbered, sessions}
-use Rattle.sl_sessions.specs.declared.delta.DeltaNext.{DeltaNext}
-use Rattle.sl_sessions.specs.declared.delta.DeltaNext.TheVariants.{Disconnect, EndLeaving, Join, MoveConnection, Nothing, ReadOwn, RefuseJoin, RegisterAndRead, WriteClaim, WriteFirst, WriteFree, WriteRenewal}
-use Rattle.sl_sessions.specs.declared.session.Session.{Session}
+use Rattle.sl_trace.specs.Deltas.{own_offset}
+use Rattle.sl_trace.specs.Sessions.{calls_of, is_call_of, is_join_done, joined_after, session_numbered, sessions}
+use Rattle.sl_trace.specs.declared.delta.DeltaNext.{DeltaNext}
+use Rattle.sl_trace.specs.declared.delta.DeltaNext.TheVariants.{Disconnect, EndLeaving, Join, MoveConnection, Nothing, ReadOwn, RefuseJoin, RegisterAndRead, WriteClaim, WriteFirst, WriteFree, WriteRenewal}
+use Rattle.sl_trace.specs.declared.session.Session.{Session}
 use Rattle.sl_due_law.specs.Facts.JobFacts.{FitsCommand}
 use Rattle.sl_trace.specs.Traces.{Replied, Submitted, is_running, job_of, reply_to, submitted}
 use Rattle.sl_trace.specs.declared.command.Command.{Command}

@@ -2,8 +2,8 @@
 use Rattle.sl_area.proofs.SizeLaws.{HasRoom, has_room}
 use Rattle.sl_area.specs.Layouts.{Layout, Sizes}
 use Rattle.sl_area.specs.Places.{is_base}
-use Rattle.sl_law.specs.Lawful.{IsSetting}
-use Rattle.sl_leases.specs.Leases.{spot_of_call}
+use Rattle.sl_run.specs.Lawful.{IsSetting}
+use Rattle.sl_trace.specs.Leases.{spot_of_call}
 use Rattle.sl_plain.proofs.Numbers.{plus_zero}
 use Rattle.sl_trace.specs.Traces.{Setting, Submitted}
 use Rattle.sl_trace.specs.declared.effects.Spot.{Spot}

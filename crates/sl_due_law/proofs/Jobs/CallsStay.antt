@@ -4,7 +4,7 @@ use Rattle.sl_due.specs.Steps.{Step, add_reply, seen}
 use Rattle.sl_due_law.proofs.Parts.CallsGrow.{any_more}
 use Rattle.sl_plain.proofs.Lists.{contains_first, contains_more}
 use Rattle.sl_plain.proofs.Truth.{left_is_false}
-use Rattle.sl_sessions.specs.Sessions.{is_join_done}
+use Rattle.sl_trace.specs.Sessions.{is_join_done}
 use Rattle.sl_trace.specs.Traces.{Answered, Submitted, answer_of, answered_in, is_before_input, is_going_on, is_running, job_of, mark, new_call, submitted}
 use Rattle.sl_trace.specs.declared.effects.JobReply.{JobReply}
 use Rattle.sl_trace.specs.declared.input.Answer.{Answer}

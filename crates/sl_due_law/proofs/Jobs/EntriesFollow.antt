@@ -14,8 +14,8 @@ use Rattle.sl_due_law.proofs.Jobs.NearlyPlainActs.{AnyMove, AnyStart, Anything, 
 use Rattle.sl_due_law.specs.Jobs.Promises.{BeginsWith, FollowsSoFar}
 use Rattle.sl_due_law.proofs.Parts.CallsGrow.{next_more}
 use Rattle.sl_plain.proofs.Lists.{head_is, tail_is}
-use Rattle.sl_sessions.specs.Sessions.{joining_session, present_sessions, recovery_of}
-use Rattle.sl_sessions.specs.declared.session.Session.{Session}
+use Rattle.sl_trace.specs.Sessions.{joining_session, present_sessions, recovery_of}
+use Rattle.sl_trace.specs.declared.session.Session.{Session}
 use Rattle.sl_due_law.specs.Facts.Whole.{Whole}
 use Rattle.sl_trace.specs.Traces.{next_call, next_job}
 use Rattle.sl_trace.specs.declared.command.Command.{Command}

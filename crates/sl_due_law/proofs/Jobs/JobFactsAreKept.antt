@@ -28,17 +28,17 @@ use Rattle.sl_due_law.proofs.Jobs.JobsAreNumbered.{next_before}
 use Rattle.sl_due_law.proofs.Jobs.LeaseCallsFit.{settling_allowed}
 use Rattle.sl_due_law.proofs.Jobs.LinesAreAllowed.{IsBegun, decision_allowed, late_on_line, new_command, new_free, new_numbered}
 use Rattle.sl_due_law.proofs.Jobs.RepliesComeAfter.{joining_late, lease_late, set_late, value_late, wake_late}
-use Rattle.sl_leases.specs.Jobs.{job_of_start}
-use Rattle.sl_leases.specs.LeaseWork.{lease_place, settle_next}
-use Rattle.sl_leases.specs.Leases.{known, lver_written, spot_of_call}
-use Rattle.sl_leases.specs.declared.lease.LeaseNext.{LeaseNext}
+use Rattle.sl_trace.specs.Jobs.{job_of_start}
+use Rattle.sl_trace.specs.LeaseWork.{lease_place, settle_next}
+use Rattle.sl_trace.specs.Leases.{known, lver_written, spot_of_call}
+use Rattle.sl_trace.specs.declared.lease.LeaseNext.{LeaseNext}
 use Rattle.sl_plain.proofs.Lists.{find_inside, got_before, kept_inside}
 use Rattle.sl_plain.proofs.Places.{last_there}
-use Rattle.sl_sessions.specs.Deltas.{delta_known, delta_of_session, join_step_of, next_after_free, next_after_renewal, next_by_time, next_free, next_in_joining, next_on_wake, next_renewal}
-use Rattle.sl_sessions.specs.Sessions.{added, calls_of, generation_of, is_join_call, joining_session, recovery_of, sessions}
-use Rattle.sl_sessions.specs.declared.delta.DeltaNext.{DeltaNext}
-use Rattle.sl_sessions.specs.declared.delta.DeltaNext.TheVariants.{Nothing}
-use Rattle.sl_sessions.specs.declared.session.Session.{Session}
+use Rattle.sl_trace.specs.Deltas.{delta_known, delta_of_session, join_step_of, next_after_free, next_after_renewal, next_by_time, next_free, next_in_joining, next_on_wake, next_renewal}
+use Rattle.sl_trace.specs.Sessions.{added, calls_of, generation_of, is_join_call, joining_session, recovery_of, sessions}
+use Rattle.sl_trace.specs.declared.delta.DeltaNext.{DeltaNext}
+use Rattle.sl_trace.specs.declared.delta.DeltaNext.TheVariants.{Nothing}
+use Rattle.sl_trace.specs.declared.session.Session.{Session}
 use Rattle.sl_due_law.specs.Facts.Whole.{Whole}
 use Rattle.sl_trace.specs.TraceLaws.{with_call}
 use Rattle.sl_trace.specs.Traces.{Answered, Setting, Submitted, is_of_job, is_running, job_of, next_call, next_job, outstanding, submitted, waiting_call}

@@ -10,8 +10,8 @@ use Rattle.sl_due_law.proofs.Jobs.JobsAreAllowed.{MayCall, MayMove, MayReply, Ma
 use Rattle.sl_due_law.proofs.Jobs.JobsAreNumbered.{numbered_before}
 use Rattle.sl_due_law.proofs.Jobs.SessionsHaveJobs.{joined_by}
 use Rattle.sl_due_law.specs.Jobs.Promises.{BeginsWith}
-use Rattle.sl_leases.specs.Jobs.{command_numbered, command_of}
-use Rattle.sl_sessions.specs.Sessions.{present_sessions, recovery_of, sessions}
+use Rattle.sl_trace.specs.Jobs.{command_numbered, command_of}
+use Rattle.sl_trace.specs.Sessions.{present_sessions, recovery_of, sessions}
 use Rattle.sl_due_law.specs.Facts.CallFacts.{CallFacts}
 use Rattle.sl_due_law.specs.Facts.Heard.{IsOpen}
 use Rattle.sl_due_law.specs.Facts.JobFacts.{JobFacts}

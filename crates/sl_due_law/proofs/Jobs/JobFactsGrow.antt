@@ -8,13 +8,13 @@ use Rattle.sl_due_law.proofs.Jobs.CallsStay.{IsLate, calls_stay}
 use Rattle.sl_due_law.proofs.Jobs.JobsAreNumbered.{numbered_seen}
 use Rattle.sl_due_law.proofs.Jobs.SessionsHaveJobs.{contains_either, joined_by}
 use Rattle.sl_due_law.specs.Jobs.Promises.{HasCallFacts, HasJobFacts}
-use Rattle.sl_leases.specs.Jobs.{command_numbered, command_of}
-use Rattle.sl_leases.specs.Leases.{spot_of_call}
+use Rattle.sl_trace.specs.Jobs.{command_numbered, command_of}
+use Rattle.sl_trace.specs.Leases.{spot_of_call}
 use Rattle.sl_due_law.proofs.Parts.EffectsAreTold.{effects_are_told}
 use Rattle.sl_plain.proofs.Lists.{any_found, contains_cases, contains_first, contains_map, contains_more, contains_none, in_map, kept_inside}
 use Rattle.sl_plain.proofs.Options.{none_is, some_of, then_value}
-use Rattle.sl_sessions.specs.Sessions.{joining_session, session_numbered, sessions}
-use Rattle.sl_sessions.specs.declared.session.Session.{Session}
+use Rattle.sl_trace.specs.Sessions.{joining_session, session_numbered, sessions}
+use Rattle.sl_trace.specs.declared.session.Session.{Session}
 use Rattle.sl_due_law.specs.Facts.Heard.{IsOpen, heard_by}
 use Rattle.sl_due_law.specs.Facts.JobFacts.{FitsCommand}
 use Rattle.sl_trace.proofs.TraceFacts.{submitted-push}

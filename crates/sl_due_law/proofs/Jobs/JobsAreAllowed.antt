@@ -8,12 +8,12 @@ use Rattle.sl_due_law.proofs.Jobs.CallsStay.{IsLate, calls_stay}
 use Rattle.sl_due_law.proofs.Jobs.EffectsAreAllowed.{Allows}
 use Rattle.sl_due_law.proofs.Jobs.JobFactsGrow.{Both, CallFits, IsFree, IsNumbered, Since, call_kept, late_since, numbered_since, reply_kept, start_kept}
 use Rattle.sl_due_law.specs.Jobs.Promises.{HasCallFacts}
-use Rattle.sl_leases.specs.Jobs.{command_numbered, command_of, is_command_that, job_of_start, jobs_of_session, lockspace_named}
+use Rattle.sl_trace.specs.Jobs.{command_numbered, command_of, is_command_that, job_of_start, jobs_of_session, lockspace_named}
 use Rattle.sl_plain.proofs.Lists.{contains_map, find_fails, find_inside, in_map, kept_inside}
 use Rattle.sl_plain.proofs.Numbers.{number_itself}
 use Rattle.sl_plain.proofs.Options.{some_of, then_value}
-use Rattle.sl_sessions.specs.Sessions.{last_renewal, session_numbered}
-use Rattle.sl_sessions.specs.declared.session.Session.{Session}
+use Rattle.sl_trace.specs.Sessions.{last_renewal, session_numbered}
+use Rattle.sl_trace.specs.declared.session.Session.{Session}
 use Rattle.sl_due_law.specs.Facts.Heard.{heard_by}
 use Rattle.sl_due_law.specs.Facts.JobFacts.{FitsCommand}
 use Rattle.sl_trace.specs.Traces.{Answered, Child, Job, Submitted, answer_of, answered_in, call_numbered, child_numbered, children, is_running, job_numbered, job_of, jobs, mark, new_call, next_call, running_jobs, submitted}

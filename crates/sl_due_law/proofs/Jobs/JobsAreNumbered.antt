@@ -1,7 +1,7 @@
 -- Jobs are numbered in order: a job's number is below the next line's, and what a number names stays.
 use Rattle.sl_acts.proofs.Additions.{contains_last}
 use Rattle.sl_due.specs.Steps.{Step, seen, with_input}
-use Rattle.sl_leases.specs.Jobs.{command_numbered, command_of}
+use Rattle.sl_trace.specs.Jobs.{command_numbered, command_of}
 use Rattle.sl_plain.proofs.Lists.{contains_first, contains_more, contains_none, find_inside}
 use Rattle.sl_plain.proofs.Numbers.{less_is_other, number_itself}
 use Rattle.sl_plain.proofs.Options.{then_value}

@@ -11,15 +11,15 @@ use Rattle.sl_due_law.proofs.Jobs.JobsAreAllowed.{MayCall, MayReply, MayStart, n
 use Rattle.sl_due_law.proofs.Jobs.JobsAreNumbered.{command_is_read}
 use Rattle.sl_due_law.proofs.Jobs.RepliesComeAfter.{IsLateLease, IsNoSearch}
 use Rattle.sl_due_law.proofs.Jobs.SessionsHaveJobs.{given_one, joined_by}
-use Rattle.sl_law.specs.Lawful.{IsGiven, IsSetting}
-use Rattle.sl_leases.specs.Jobs.{aim_of_command, command_numbered, resource_named}
-use Rattle.sl_leases.specs.Leases.{spot_of}
-use Rattle.sl_leases.specs.declared.lease.LeaseNext.{LeaseNext}
-use Rattle.sl_leases.specs.declared.lease.LeaseNext.TheVariants.{AnswerJob, BecomeExclusive, BecomeShared, GrantJob, Nothing as No_lease, ReadFor, WriteBlock, WriteLeader}
+use Rattle.sl_run.specs.Lawful.{IsGiven, IsSetting}
+use Rattle.sl_trace.specs.Jobs.{aim_of_command, command_numbered, resource_named}
+use Rattle.sl_trace.specs.Leases.{spot_of}
+use Rattle.sl_trace.specs.declared.lease.LeaseNext.{LeaseNext}
+use Rattle.sl_trace.specs.declared.lease.LeaseNext.TheVariants.{AnswerJob, BecomeExclusive, BecomeShared, GrantJob, Nothing as No_lease, ReadFor, WriteBlock, WriteLeader}
 use Rattle.sl_plain.proofs.Lists.{contains_cases, contains_none}
 use Rattle.sl_plain.proofs.Numbers.{plus_zero}
-use Rattle.sl_sessions.specs.Sessions.{sessions}
-use Rattle.sl_sessions.specs.declared.session.Session.{Session}
+use Rattle.sl_trace.specs.Sessions.{sessions}
+use Rattle.sl_trace.specs.declared.session.Session.{Session}
 use Rattle.sl_due_law.specs.Facts.JobFacts.{SeeksResource}
 use Rattle.sl_trace.specs.Commands.{IsLockspaceArg}
 use Rattle.sl_trace.specs.Traces.{Setting, Trace, job_of}

@@ -16,19 +16,19 @@ use Rattle.sl_due_law.proofs.Jobs.JobsAreAllowed.{MayCall, MayReply, MayStart, M
 use Rattle.sl_due_law.proofs.Jobs.JobsAreNumbered.{line_seen, next_is_new}
 use Rattle.sl_due_law.proofs.Jobs.LeaseCallsFit.{AsksFor, Works, asks_late, grant_allowed, session_host, work_allowed}
 use Rattle.sl_due_law.proofs.Jobs.RepliesComeAfter.{mapped_or, release_late}
-use Rattle.sl_law.specs.Lawful.{IsSetting}
-use Rattle.sl_leases.specs.Ballots.{moded_block}
-use Rattle.sl_leases.specs.Jobs.{aim_of_command, command_numbered, command_of, resource_named}
-use Rattle.sl_leases.specs.LeaseWork.{convert_next, lease_place, release_next}
-use Rattle.sl_leases.specs.Leases.{LeaseKnown, holdings_on, known, spot_of}
-use Rattle.sl_leases.specs.declared.lease.LeaseNext.{LeaseNext}
-use Rattle.sl_leases.specs.declared.lease.LeaseNext.TheVariants.{Nothing as No_lease, ReadFor, WriteBlock}
+use Rattle.sl_run.specs.Lawful.{IsSetting}
+use Rattle.sl_trace.specs.Ballots.{moded_block}
+use Rattle.sl_trace.specs.Jobs.{aim_of_command, command_numbered, command_of, resource_named}
+use Rattle.sl_trace.specs.LeaseWork.{convert_next, lease_place, release_next}
+use Rattle.sl_trace.specs.Leases.{LeaseKnown, holdings_on, known, spot_of}
+use Rattle.sl_trace.specs.declared.lease.LeaseNext.{LeaseNext}
+use Rattle.sl_trace.specs.declared.lease.LeaseNext.TheVariants.{Nothing as No_lease, ReadFor, WriteBlock}
 use Rattle.sl_plain.proofs.Lists.{find_inside, got_inside, kept_inside}
 use Rattle.sl_plain.proofs.Numbers.{plus_zero}
 use Rattle.sl_plain.proofs.Options.{some_of}
 use Rattle.sl_sector.specs.declared.sector.Rec.TheVariants.{ValueIs}
-use Rattle.sl_sessions.specs.Sessions.{holdings_of, present_sessions, session_named, sessions}
-use Rattle.sl_sessions.specs.declared.session.Session.{Session}
+use Rattle.sl_trace.specs.Sessions.{holdings_of, present_sessions, session_named, sessions}
+use Rattle.sl_trace.specs.declared.session.Session.{Session}
 use Rattle.sl_due_law.specs.Facts.JobFacts.{FitsCommand, IsOfResource}
 use Rattle.sl_trace.specs.Commands.{IsCommand}
 use Rattle.sl_trace.specs.Traces.{Setting, Submitted, Trace, end_of, job_numbered, job_of, next_job, same_place, spot_of_grant, submitted}

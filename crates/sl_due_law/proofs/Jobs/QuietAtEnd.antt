@@ -13,12 +13,12 @@ use Rattle.sl_due_law.proofs.Jobs.QuietFactsConclude.{plain_at, plain_heard, pla
 use Rattle.sl_due_law.proofs.Jobs.RepliesComeAfter.{joining_late}
 use Rattle.sl_due_law.proofs.Jobs.SessionsArePresent.{joined_present}
 use Rattle.sl_due_law.specs.Jobs.Promises.{IsQuiet, QuietFactsConclude}
-use Rattle.sl_leases.specs.Leases.{spot_of_call}
+use Rattle.sl_trace.specs.Leases.{spot_of_call}
 use Rattle.sl_plain.proofs.Lists.{find_inside}
 use Rattle.sl_plain.proofs.Options.{some_of}
-use Rattle.sl_sessions.specs.Deltas.{delta_known, delta_of_session, next_after_free, next_after_renewal, next_free, next_in_joining}
-use Rattle.sl_sessions.specs.Sessions.{calls_of, generation_of, is_joined, is_present, is_survey_purpose, recovery_of, session_numbered}
-use Rattle.sl_sessions.specs.declared.session.Session.{Session}
+use Rattle.sl_trace.specs.Deltas.{delta_known, delta_of_session, next_after_free, next_after_renewal, next_free, next_in_joining}
+use Rattle.sl_trace.specs.Sessions.{calls_of, generation_of, is_joined, is_present, is_survey_purpose, recovery_of, session_numbered}
+use Rattle.sl_trace.specs.declared.session.Session.{Session}
 use Rattle.sl_due_law.specs.Facts.Whole.{Whole}
 use Rattle.sl_trace.specs.Traces.{Submitted, bytes_given, call_numbered, submitted}
 use Rattle.sl_trace.specs.declared.effects.Op.TheVariants.{ReadSectors}

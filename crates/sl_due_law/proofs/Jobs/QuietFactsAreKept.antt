@@ -23,12 +23,12 @@ use Rattle.sl_due_law.proofs.Jobs.SessionsArePresent.{joined_present, present_in
 use Rattle.sl_due_law.proofs.Jobs.SessionsHaveJobs.{contains_either, contains_only}
 use Rattle.sl_due_law.proofs.Jobs.SessionsStand.{leaving_joined, move_joined, no_members, recovery_joined, reply_joined, reply_leaving, reply_stops, running_before, stopped_stays}
 use Rattle.sl_due_law.specs.Jobs.Promises.{HasQuietFacts}
-use Rattle.sl_leases.specs.Jobs.{is_command_that, jobs_of_session, lockspace_named, resource_named}
+use Rattle.sl_trace.specs.Jobs.{is_command_that, jobs_of_session, lockspace_named, resource_named}
 use Rattle.sl_due_law.proofs.Parts.CallsGrow.{same_sessions}
 use Rattle.sl_plain.proofs.Lists.{contains_cases, contains_none, find_inside, kept, kept_inside}
 use Rattle.sl_plain.proofs.Options.{some_of, some_there}
-use Rattle.sl_sessions.specs.Sessions.{is_active, is_join_done, is_joined, is_recovering, is_session_arg, joined_after, joining_session, last_renewal, leaving_job, present_sessions, recovery_of, session_named, sessions}
-use Rattle.sl_sessions.specs.declared.session.Session.{Session}
+use Rattle.sl_trace.specs.Sessions.{is_active, is_join_done, is_joined, is_recovering, is_session_arg, joined_after, joining_session, last_renewal, leaving_job, present_sessions, recovery_of, session_named, sessions}
+use Rattle.sl_trace.specs.declared.session.Session.{Session}
 use Rattle.sl_due_law.specs.Facts.Heard.{heard_by}
 use Rattle.sl_due_law.specs.Facts.Whole.{Whole}
 use Rattle.sl_trace.specs.Traces.{Job, Replied, Setting, Trace, is_running, job_numbered, jobs, next_call, next_job, reply_in, reply_to, running_jobs}

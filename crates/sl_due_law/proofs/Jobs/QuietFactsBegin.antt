@@ -11,14 +11,14 @@ use Rattle.sl_due_law.proofs.Jobs.QuietFactsAreKept.{Stopping, job_at_stop, stop
 use Rattle.sl_due_law.proofs.Jobs.SessionsArePresent.{joined_present, present_inside}
 use Rattle.sl_due_law.proofs.Jobs.SessionsStand.{leaving_joined, no_members, recovery_joined}
 use Rattle.sl_due_law.specs.Jobs.Promises.{BeginsWith, HasQuietFacts}
-use Rattle.sl_leases.specs.Jobs.{is_command_that, jobs_of_session}
+use Rattle.sl_trace.specs.Jobs.{is_command_that, jobs_of_session}
 use Rattle.sl_plain.proofs.Lists.{contains_cases, contains_none, kept, kept_inside}
 use Rattle.sl_plain.proofs.Numbers.{number_itself}
 use Rattle.sl_plain.proofs.Options.{some_there}
-use Rattle.sl_sessions.specs.Sessions.{is_joined, is_recovering, joined_after, leaving_job, present_sessions, recovers, recovery_of, removed_after, removed_in, renewed_by, renewing, renewing_after, sessions, shows_other}
-use Rattle.sl_sessions.specs.declared.session.Begun.{Begun}
-use Rattle.sl_sessions.specs.declared.session.Renewing.{Renewing}
-use Rattle.sl_sessions.specs.declared.session.Session.{Session}
+use Rattle.sl_trace.specs.Sessions.{is_joined, is_recovering, joined_after, leaving_job, present_sessions, recovers, recovery_of, removed_after, removed_in, renewed_by, renewing, renewing_after, sessions, shows_other}
+use Rattle.sl_trace.specs.declared.session.Begun.{Begun}
+use Rattle.sl_trace.specs.declared.session.Renewing.{Renewing}
+use Rattle.sl_trace.specs.declared.session.Session.{Session}
 use Rattle.sl_time.specs.Times.{fail}
 use Rattle.sl_trace.specs.Traces.{Job, Setting, Trace, is_running, jobs, no_effects, running_jobs}
 use Rattle.sl_trace.specs.declared.input.Input.TheVariants.{Wake}

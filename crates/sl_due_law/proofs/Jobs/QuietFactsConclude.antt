@@ -10,13 +10,13 @@ use Rattle.sl_due_law.proofs.Jobs.QuietFactsAreKept.{Stopping, job_at_stop, stop
 use Rattle.sl_due_law.proofs.Jobs.SessionsArePresent.{session_has}
 use Rattle.sl_due_law.proofs.Jobs.SessionsStand.{leaving_joined, no_members, recovery_joined}
 use Rattle.sl_due_law.specs.Jobs.Promises.{IsQuiet}
-use Rattle.sl_leases.specs.Jobs.{jobs_of_session}
+use Rattle.sl_trace.specs.Jobs.{jobs_of_session}
 use Rattle.sl_plain.proofs.Lists.{contains_map, contains_none, find_inside}
 use Rattle.sl_plain.proofs.Options.{some_there}
-use Rattle.sl_sessions.specs.Sessions.{generation_of, is_call_of, is_joined, is_recovering, is_survey_purpose, leaving_job, recovers, recovery_of, renewed_by, renewing, renewing_after, session_numbered, sessions, shows_other, shows_other_in}
-use Rattle.sl_sessions.specs.declared.session.Begun.{Begun}
-use Rattle.sl_sessions.specs.declared.session.Renewing.{Renewing}
-use Rattle.sl_sessions.specs.declared.session.Session.{Session}
+use Rattle.sl_trace.specs.Sessions.{generation_of, is_call_of, is_joined, is_recovering, is_survey_purpose, leaving_job, recovers, recovery_of, renewed_by, renewing, renewing_after, session_numbered, sessions, shows_other, shows_other_in}
+use Rattle.sl_trace.specs.declared.session.Begun.{Begun}
+use Rattle.sl_trace.specs.declared.session.Renewing.{Renewing}
+use Rattle.sl_trace.specs.declared.session.Session.{Session}
 use Rattle.sl_due_law.specs.Facts.Heard.{heard_by}
 use Rattle.sl_due_law.specs.Facts.Whole.{Whole}
 use Rattle.sl_time.specs.Times.{fail}

@@ -16,13 +16,13 @@ use Rattle.sl_due_law.proofs.Jobs.SessionsArePresent.{joined_present, present_in
 use Rattle.sl_due_law.proofs.Jobs.SessionsHaveJobs.{leaves_is, left_in, left_unanswered}
 use Rattle.sl_due_law.proofs.Jobs.SessionsStand.{leaving_joined, no_members, recovery_joined, reply_joined, reply_stops}
 use Rattle.sl_due_law.specs.Jobs.Promises.{HasQuietFacts}
-use Rattle.sl_leases.specs.Jobs.{command_of, is_command_that, jobs_of_session, lockspace_named, resource_named}
+use Rattle.sl_trace.specs.Jobs.{command_of, is_command_that, jobs_of_session, lockspace_named, resource_named}
 use Rattle.sl_plain.proofs.Lists.{contains_none, find_inside, kept, kept_inside}
 use Rattle.sl_plain.proofs.Numbers.{number_itself}
 use Rattle.sl_plain.proofs.Options.{none_is, some_there}
-use Rattle.sl_sessions.specs.Sessions.{is_active, is_joined, is_recovering, is_session_arg, leaving_in, leaving_job, present_sessions, recovery_of, session_named, sessions}
-use Rattle.sl_sessions.specs.declared.session.Begun.{Begun}
-use Rattle.sl_sessions.specs.declared.session.Session.{Session}
+use Rattle.sl_trace.specs.Sessions.{is_active, is_joined, is_recovering, is_session_arg, leaving_in, leaving_job, present_sessions, recovery_of, session_named, sessions}
+use Rattle.sl_trace.specs.declared.session.Begun.{Begun}
+use Rattle.sl_trace.specs.declared.session.Session.{Session}
 use Rattle.sl_due_law.specs.Facts.Heard.{heard_by}
 use Rattle.sl_due_law.specs.Facts.SessionFacts.{QuietFacts}
 use Rattle.sl_due_law.specs.Facts.Whole.{Whole}

@@ -7,10 +7,10 @@ use Rattle.sl_due_law.proofs.Parts.EffectsAreTold.{effects_are_told}
 use Rattle.sl_plain.proofs.Lists.{contains_first}
 use Rattle.sl_plain.proofs.Numbers.{number_itself}
 use Rattle.sl_plain.proofs.Options.{none_is, some_there}
-use Rattle.sl_sessions.specs.Sessions.{is_joined, joined_after, leaves, leaving_in, leaving_job, recovers, recovery_of, removed_after, renewed_by, renewing, renewing_after, shows_other}
-use Rattle.sl_sessions.specs.declared.session.Begun.{Begun}
-use Rattle.sl_sessions.specs.declared.session.Renewing.{Renewing}
-use Rattle.sl_sessions.specs.declared.session.Session.{Session}
+use Rattle.sl_trace.specs.Sessions.{is_joined, joined_after, leaves, leaving_in, leaving_job, recovers, recovery_of, removed_after, renewed_by, renewing, renewing_after, shows_other}
+use Rattle.sl_trace.specs.declared.session.Begun.{Begun}
+use Rattle.sl_trace.specs.declared.session.Renewing.{Renewing}
+use Rattle.sl_trace.specs.declared.session.Session.{Session}
 use Rattle.sl_time.specs.Times.{fail}
 use Rattle.sl_trace.specs.Connections.{unregisters}
 use Rattle.sl_trace.specs.Traces.{Job, Replied, Setting, Trace, is_running, line_in, next_job, reply_in, reply_to}

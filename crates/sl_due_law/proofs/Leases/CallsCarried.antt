@@ -1,18 +1,18 @@
 -- What the laws of areas, blocks and leaders ask of a call stands where its session has the same calls, is as active as it was, and holds
 -- and counts no less.
 use Rattle.sl_area.specs.Places.{leader_of}
-use Rattle.sl_law.specs.LawfulBlock.{AreaRead, BeginReason, Block_above, Freed_before, LawfulBlockStep, Leader_before, Leader_own, Lost_before, Own_block}
-use Rattle.sl_law.specs.LawfulLeader.{LawfulFreeLeader, LawfulTake, holds_under}
+use Rattle.sl_run.specs.LawfulBlock.{AreaRead, BeginReason, Block_above, Freed_before, LawfulBlockStep, Leader_before, Leader_own, Lost_before, Own_block}
+use Rattle.sl_run.specs.LawfulLeader.{LawfulFreeLeader, LawfulTake, holds_under}
 use Rattle.sl_due_law.specs.Leases.LeaseLawful.{LeaseLawful}
-use Rattle.sl_leases.specs.Ballots.{ballot_blocks, moded_block, owner_of, phase1_block, phase2_block, same_owner}
-use Rattle.sl_leases.specs.Leases.{block_written, ended_ballots, freed, is_lease_call, is_on, last_blocks, lease_calls, lease_step, own_block, spot_of_call}
-use Rattle.sl_law.specs.LawfulArea.{HasVerified, is_area_work, is_block_work, is_leader_read}
+use Rattle.sl_trace.specs.Ballots.{ballot_blocks, moded_block, owner_of, phase1_block, phase2_block, same_owner}
+use Rattle.sl_trace.specs.Leases.{block_written, ended_ballots, freed, is_lease_call, is_on, last_blocks, lease_calls, lease_step, own_block, spot_of_call}
+use Rattle.sl_run.specs.LawfulArea.{HasVerified, is_area_work, is_block_work, is_leader_read}
 use Rattle.sl_sector.specs.declared.sector.Block.{Block}
 use Rattle.sl_sector.specs.declared.sector.Leader.{Leader}
 use Rattle.sl_sector.specs.declared.sector.Owner.{Owner}
-use Rattle.sl_sessions.specs.Sessions.{calls_of, generation_in, is_active, joined_after, me}
-use Rattle.sl_sessions.specs.Watching.{counted_over}
-use Rattle.sl_sessions.specs.declared.session.Session.{Session}
+use Rattle.sl_trace.specs.Sessions.{calls_of, generation_in, is_active, joined_after, me}
+use Rattle.sl_trace.specs.Watching.{counted_over}
+use Rattle.sl_trace.specs.declared.session.Session.{Session}
 use Rattle.sl_trace.specs.Traces.{Setting, Submitted, Trace, gave, is_write, unanswered}
 use Rattle.sl_trace.specs.declared.effects.LeaseStep.TheVariants.{ClearMode, FreeLeader, Phase1Read, Phase1Write, Phase2Read, Phase2Write, ReadArea, ReadBeforeFree, SetMode, TakeLeader}
 use Rattle.sl_trace.specs.declared.effects.LeaseStep.{LeaseStep}

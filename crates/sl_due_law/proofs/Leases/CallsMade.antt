@@ -1,8 +1,8 @@
 -- Each call that a lease makes keeps the laws of areas, blocks and leaders where it is made.
 use Rattle.sl_area.specs.Places.{block_offset, leader_offset}
-use Rattle.sl_law.specs.LawfulArea.{HasVerified, IsRightRead, LawfulAreaWrite, is_area_work, open_block_work}
-use Rattle.sl_law.specs.LawfulBlock.{LawfulBlockStep, LawfulBlockWrite, LawfulPhase2Read}
-use Rattle.sl_law.specs.LawfulLeader.{LawfulFreeLeader, LawfulLeaderWrite, LawfulTake, holds_under}
+use Rattle.sl_run.specs.LawfulArea.{HasVerified, IsRightRead, LawfulAreaWrite, is_area_work, open_block_work}
+use Rattle.sl_run.specs.LawfulBlock.{LawfulBlockStep, LawfulBlockWrite, LawfulPhase2Read}
+use Rattle.sl_run.specs.LawfulLeader.{LawfulFreeLeader, LawfulLeaderWrite, LawfulTake, holds_under}
 use Rattle.sl_due_law.proofs.Leases.NamesVerified.{ended_wrote, has_verified}
 use Rattle.sl_due_law.specs.Leases.LeaseLawful.{LeaseLawful}
 use Rattle.sl_due_law.specs.Leases.Made.{IsCallAt, MayCall, read_place}
@@ -11,14 +11,14 @@ use Rattle.sl_due_law.proofs.Ways.NewestCall.{block_is, block_is_no_leader, lead
 use Rattle.sl_due_law.proofs.Ways.WayNumbers.{is_verified}
 use Rattle.sl_due_law.proofs.Ways.WayStages.{clear_own, is_at_in}
 use Rattle.sl_due_law.specs.Ways.Nexts.{BlockIsNext, LeaderIsOwn, Moment, NextIs, StepIs, calls_at, context_at, read_op}
-use Rattle.sl_leases.specs.Ballots.{owner_of, same_owner}
-use Rattle.sl_leases.specs.Leases.{Leader_freed, Leader_taken, Phase2_read, block_submitted, block_written, ended_ballots, freed, is_at, known, leader_written, lease_step, spot_of_call, verified_name}
-use Rattle.sl_leases.specs.declared.lease.LeaseNext.TheVariants.{ReadFor, WriteBlock, WriteLeader}
+use Rattle.sl_trace.specs.Ballots.{owner_of, same_owner}
+use Rattle.sl_trace.specs.Leases.{Leader_freed, Leader_taken, Phase2_read, block_submitted, block_written, ended_ballots, freed, is_at, known, leader_written, lease_step, spot_of_call, verified_name}
+use Rattle.sl_trace.specs.declared.lease.LeaseNext.TheVariants.{ReadFor, WriteBlock, WriteLeader}
 use Rattle.sl_sector.specs.declared.sector.Block.{Block}
 use Rattle.sl_sector.specs.declared.sector.Leader.{Leader}
 use Rattle.sl_sector.specs.declared.sector.Rec.TheVariants.{BlockIs, LeaderIs}
 use Rattle.sl_sector.specs.declared.sector.Rec.{Rec}
-use Rattle.sl_sessions.specs.Sessions.{me}
+use Rattle.sl_trace.specs.Sessions.{me}
 use Rattle.sl_due_law.specs.Facts.WayFacts.{ClearWay, FreeWay, IsVerified, ModeWay, Phase2Way, StepWay, TakeWay}
 use Rattle.sl_trace.specs.Traces.{Setting, Submitted, is_write, record_of}
 use Rattle.sl_trace.specs.declared.effects.LeaseStep.TheVariants.{ClearMode, FreeLeader, Phase1Read, Phase1Write, Phase2Read, Phase2Write, ReadArea, ReadBeforeFree, SetMode, TakeLeader}

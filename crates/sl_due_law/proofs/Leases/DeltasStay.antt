@@ -6,8 +6,8 @@ use Rattle.sl_acts.specs.SoFar.{entry_of}
 use Rattle.sl_due.specs.DueDelta.{carry_delta, for_joining, move_connection, read_own_sector, register, survey, write_own_sector}
 use Rattle.sl_due.specs.DueFirst.{refuse, remove_connection, remove_of_refused}
 use Rattle.sl_due.specs.Steps.{Step, add_call_of, add_move, add_reply, seen}
-use Rattle.sl_law.specs.LawfulArea.{is_area_work, is_delta_record}
-use Rattle.sl_law.specs.Saying.{cut_at}
+use Rattle.sl_run.specs.LawfulArea.{is_area_work, is_delta_record}
+use Rattle.sl_run.specs.Saying.{cut_at}
 use Rattle.sl_due_law.proofs.Leases.LawsStay.{A_wake, Spares, calls_stay, moves_stay, replies_stay}
 use Rattle.sl_due_law.proofs.Leases.OthersKeep.{IsOther, LawfulSoFar, Others, other_is_lawful, other_more}
 use Rattle.sl_due_law.proofs.Ways.Kept.EffectsLeave.{made_call, there_has}
@@ -17,14 +17,14 @@ use Rattle.sl_due_law.proofs.Parts.CallsGrow.{same_sessions}
 use Rattle.sl_sector.specs.declared.sector.DeltaRec.{DeltaRec}
 use Rattle.sl_sector.specs.declared.sector.Rec.TheVariants.{DeltaIs}
 use Rattle.sl_sector.specs.declared.sector.Rec.{Rec}
-use Rattle.sl_sessions.specs.Deltas.{DeltaLease, delta_record, is_renewal_due, next_free, next_renewal, own_offset}
-use Rattle.sl_sessions.specs.Sessions.{has_open_write, is_join_call, is_join_done, leaving_job, is_joined, is_present, joined_after, present_sessions, recovery_of, refused_after, removed_after, session_numbered, session_of_job, sessions}
-use Rattle.sl_sessions.specs.declared.delta.DeltaNext.TheVariants.{Disconnect, EndLeaving, Join, MoveConnection, Nothing, ReadOwn, RefuseJoin, RegisterAndRead, WriteClaim, WriteFirst, WriteFree, WriteRenewal}
-use Rattle.sl_sessions.specs.declared.delta.DeltaNext.{DeltaNext}
+use Rattle.sl_trace.specs.Deltas.{DeltaLease, delta_record, is_renewal_due, next_free, next_renewal, own_offset}
+use Rattle.sl_trace.specs.Sessions.{has_open_write, is_join_call, is_join_done, leaving_job, is_joined, is_present, joined_after, present_sessions, recovery_of, refused_after, removed_after, session_numbered, session_of_job, sessions}
+use Rattle.sl_trace.specs.declared.delta.DeltaNext.TheVariants.{Disconnect, EndLeaving, Join, MoveConnection, Nothing, ReadOwn, RefuseJoin, RegisterAndRead, WriteClaim, WriteFirst, WriteFree, WriteRenewal}
+use Rattle.sl_trace.specs.declared.delta.DeltaNext.{DeltaNext}
 use Rattle.sl_sector.specs.Bitmaps.{no_bits}
-use Rattle.sl_sessions.specs.declared.session.Begun.{Begun}
-use Rattle.sl_sessions.specs.declared.session.Session.{Session}
-use Rattle.sl_sessions.specs.declared.delta.DeltaKnown.{DeltaKnown}
+use Rattle.sl_trace.specs.declared.session.Begun.{Begun}
+use Rattle.sl_trace.specs.declared.session.Session.{Session}
+use Rattle.sl_trace.specs.declared.delta.DeltaKnown.{DeltaKnown}
 use Rattle.sl_due_law.specs.Facts.SessionFacts.{NameFacts}
 use Rattle.sl_due_law.specs.Facts.Heard.{heard_by}
 use Rattle.sl_time.specs.Times.{fail}

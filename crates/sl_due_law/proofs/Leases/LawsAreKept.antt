@@ -7,7 +7,7 @@ use Rattle.sl_due.specs.DueInputs.{end_holdings, leave_holdings, started_reply}
 use Rattle.sl_due.specs.DueLease.{carry_lease, goes_on, next_of_lease}
 use Rattle.sl_due.specs.DueRequests.{after_value_read, value_reply}
 use Rattle.sl_due.specs.Steps.{Step, add_end, add_reply, seen, with_input}
-use Rattle.sl_law.specs.LawfulArea.{is_area_work}
+use Rattle.sl_run.specs.LawfulArea.{is_area_work}
 use Rattle.sl_due_law.proofs.Leases.DeltasStay.{delta_by, frees_stay, IsSpared, joining_spares, others_by_delta, parting_stays, renewals_stay, spared_by_delta}
 use Rattle.sl_due_law.proofs.Leases.LawsStay.{A_start, all_ends_stay, calls_stay, kills_stay, replies_stay, said_stays, signals_stay}
 use Rattle.sl_due_law.proofs.Leases.LeaseCallsStay.{LeaseMay}
@@ -25,16 +25,16 @@ use Rattle.sl_due_law.proofs.Ways.Kept.PlainWalks.{exited, left, refusal, remova
 use Rattle.sl_due_law.proofs.Ways.Kept.UnjoinedHaveNone.{its_joining, joins_still}
 use Rattle.sl_due_law.proofs.Ways.NextsFit.AnswersFit.{answers_fit}
 use Rattle.sl_due_law.specs.Ways.Nexts.{NextIs}
-use Rattle.sl_leases.specs.Jobs.{aim_of, aim_of_command, command_numbered, job_of_start, process_named}
-use Rattle.sl_leases.specs.LeaseWork.{lease_place}
-use Rattle.sl_leases.specs.Leases.{exclusive_on, holdings_on, known, lver_written, spot_of_call}
-use Rattle.sl_leases.specs.declared.lease.Aim.TheVariants.{Acquires, Converts, Releases, Settles}
-use Rattle.sl_leases.specs.declared.lease.Aim.{Aim}
-use Rattle.sl_leases.specs.declared.lease.LeaseNext.TheVariants.{AnswerJob, BecomeExclusive, BecomeShared, GrantJob, Nothing, ReadFor, WriteBlock, WriteLeader}
-use Rattle.sl_leases.specs.declared.lease.LeaseNext.{LeaseNext}
-use Rattle.sl_sessions.specs.Deltas.{delta_known, delta_of_session}
-use Rattle.sl_sessions.specs.Sessions.{calls_of, generation_of, holdings_of, is_active, is_joined, joined_after, recovery_of, removed_after, session_numbered}
-use Rattle.sl_sessions.specs.declared.session.Session.{Session}
+use Rattle.sl_trace.specs.Jobs.{aim_of, aim_of_command, command_numbered, job_of_start, process_named}
+use Rattle.sl_trace.specs.LeaseWork.{lease_place}
+use Rattle.sl_trace.specs.Leases.{exclusive_on, holdings_on, known, lver_written, spot_of_call}
+use Rattle.sl_trace.specs.declared.lease.Aim.TheVariants.{Acquires, Converts, Releases, Settles}
+use Rattle.sl_trace.specs.declared.lease.Aim.{Aim}
+use Rattle.sl_trace.specs.declared.lease.LeaseNext.TheVariants.{AnswerJob, BecomeExclusive, BecomeShared, GrantJob, Nothing, ReadFor, WriteBlock, WriteLeader}
+use Rattle.sl_trace.specs.declared.lease.LeaseNext.{LeaseNext}
+use Rattle.sl_trace.specs.Deltas.{delta_known, delta_of_session}
+use Rattle.sl_trace.specs.Sessions.{calls_of, generation_of, holdings_of, is_active, is_joined, joined_after, recovery_of, removed_after, session_numbered}
+use Rattle.sl_trace.specs.declared.session.Session.{Session}
 use Rattle.sl_due_law.specs.Facts.Whole.{Whole}
 use Rattle.sl_trace.specs.Traces.{Submitted, end_of, holdings, is_running, is_shared, job_of, next_job, same_place}
 use Rattle.sl_trace.specs.declared.command.Command.{Command}

@@ -6,9 +6,9 @@ use Rattle.sl_acts.specs.SoFar.{entry_of}
 use Rattle.sl_due.specs.DueFirst.{send, signal_holders}
 use Rattle.sl_due.specs.DueInputs.{end_holdings, when_running}
 use Rattle.sl_due.specs.Steps.{Step, add_call_of, add_end, add_move, add_reply, add_signal, seen}
-use Rattle.sl_law.specs.LawfulArea.{is_area_work, is_block_work, is_delta_record}
-use Rattle.sl_law.specs.LawfulLeader.{holds_under}
-use Rattle.sl_law.specs.Saying.{cut_at}
+use Rattle.sl_run.specs.LawfulArea.{is_area_work, is_block_work, is_delta_record}
+use Rattle.sl_run.specs.LawfulLeader.{holds_under}
+use Rattle.sl_run.specs.Saying.{cut_at}
 use Rattle.sl_due_law.proofs.Leases.CallsCarried.{Carried, lawful_carried}
 use Rattle.sl_due_law.proofs.Leases.OthersKeep.{LawfulSoFar, plain_at}
 use Rattle.sl_due_law.specs.Leases.LeaseLawful.{LeaseLawful}
@@ -17,14 +17,14 @@ use Rattle.sl_due_law.proofs.Ways.Kept.EffectsLeave.{made_call}
 use Rattle.sl_due_law.proofs.Ways.Kept.PlacesStand.{either_list}
 use Rattle.sl_sector.specs.declared.sector.Rec.TheVariants.{BlockIs, DeltaIs, LeaderIs, RequestIs, ValueIs}
 use Rattle.sl_sector.specs.declared.sector.Rec.{Rec}
-use Rattle.sl_leases.specs.Leases.{holdings_on, leader_of_record, lease_step, spot_of_call}
-use Rattle.sl_law.specs.LawfulBlock.{LawfulBlockStep}
+use Rattle.sl_trace.specs.Leases.{holdings_on, leader_of_record, lease_step, spot_of_call}
+use Rattle.sl_run.specs.LawfulBlock.{LawfulBlockStep}
 use Rattle.sl_due_law.proofs.Parts.CallsGrow.{any_more, each_more}
 use Rattle.sl_due_law.specs.Parts.Parts.{with_end, with_move, with_reply}
 use Rattle.sl_sector.specs.declared.sector.Block.{Block}
 use Rattle.sl_sector.specs.declared.sector.Leader.{Leader}
-use Rattle.sl_sessions.specs.Sessions.{holders_of, holdings_of, is_join_call, joined_after, leaving_job, recovery_of, removed_after, session_numbered}
-use Rattle.sl_sessions.specs.declared.session.Session.{Session}
+use Rattle.sl_trace.specs.Sessions.{holders_of, holdings_of, is_join_call, joined_after, leaving_job, recovery_of, removed_after, session_numbered}
+use Rattle.sl_trace.specs.declared.session.Session.{Session}
 use Rattle.sl_trace.specs.Connections.{unregisters}
 use Rattle.sl_trace.specs.Traces.{Setting, Submitted, Trace, end_of, holdings, is_ended_by, is_running, is_shared, new_call, record_of, same_place}
 use Rattle.sl_trace.specs.declared.effects.Call.{Call}

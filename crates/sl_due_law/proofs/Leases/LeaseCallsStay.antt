@@ -2,8 +2,8 @@
 use Rattle.sl_area.specs.Places.{block_offset, in_area, leader_offset}
 use Rattle.sl_due.specs.DueLease.{read_for, write_block, write_leader}
 use Rattle.sl_due.specs.Steps.{Step, add_call_of, seen}
-use Rattle.sl_law.specs.LawfulArea.{is_area_work, is_block_work, open_block_work}
-use Rattle.sl_law.specs.LawfulLeader.{holds_under, open_writes_on}
+use Rattle.sl_run.specs.LawfulArea.{is_area_work, is_block_work, open_block_work}
+use Rattle.sl_run.specs.LawfulLeader.{holds_under, open_writes_on}
 use Rattle.sl_due_law.proofs.Leases.CallsMade.{blocks_are_lawful, leaders_are_lawful, reads_are_lawful}
 use Rattle.sl_due_law.proofs.Leases.LawsStay.{calls_stay}
 use Rattle.sl_due_law.proofs.Leases.OthersKeep.{LawfulSoFar}
@@ -12,14 +12,14 @@ use Rattle.sl_due_law.proofs.Ways.Kept.EffectsLeave.{made_call, there_has}
 use Rattle.sl_due_law.proofs.Ways.Kept.LeaseNextsLeave.{LeaseReady, moment_of}
 use Rattle.sl_due_law.proofs.Ways.Kept.PlacesStand.{id_in_range, place_is_on, placed_on, spot_is}
 use Rattle.sl_due_law.specs.Ways.Nexts.{NextIs, read_op}
-use Rattle.sl_leases.specs.Leases.{is_on, lease_calls}
-use Rattle.sl_leases.specs.declared.lease.LeaseNext.TheVariants.{ReadFor, WriteBlock, WriteLeader}
+use Rattle.sl_trace.specs.Leases.{is_on, lease_calls}
+use Rattle.sl_trace.specs.declared.lease.LeaseNext.TheVariants.{ReadFor, WriteBlock, WriteLeader}
 use Rattle.sl_area.specs.Roles.{block, leader}
 use Rattle.sl_sector.specs.declared.sector.Block.{Block}
 use Rattle.sl_sector.specs.declared.sector.Leader.{Leader}
 use Rattle.sl_sector.specs.declared.sector.Rec.TheVariants.{BlockIs, LeaderIs}
-use Rattle.sl_sessions.specs.Sessions.{calls_of, is_active, is_call_of, open_calls_of}
-use Rattle.sl_sessions.specs.declared.session.Session.{Session}
+use Rattle.sl_trace.specs.Sessions.{calls_of, is_active, is_call_of, open_calls_of}
+use Rattle.sl_trace.specs.declared.session.Session.{Session}
 use Rattle.sl_due_law.specs.Facts.WayFacts.{Ways, way_context}
 use Rattle.sl_trace.specs.Traces.{Submitted, is_write, new_call, submitted}
 use Rattle.sl_trace.specs.declared.effects.LeaseStep.TheVariants.{ClearMode, FreeLeader, Phase1Read, Phase1Write, Phase2Read, Phase2Write, ReadArea, ReadBeforeFree, SetMode, TakeLeader}

@@ -12,7 +12,7 @@ use Rattle.sl_due.specs.DueRequests.{after_request_read, owner_read, request_ref
 use Rattle.sl_due.specs.Steps.{Step, add_call_of, add_end, add_reply, seen, with_input}
 use Rattle.sl_due.specs.declared.decision.Decision.TheVariants.{ConvertsTo, GetsValue, GivesUp, Joins, Leaves, ReadsArea, Replies, Requests, SetsValue, Shares, TakesOver}
 use Rattle.sl_due.specs.declared.decision.Decision.{Decision}
-use Rattle.sl_law.specs.LawfulArea.{HasVerified, IsRightRead, LawfulAreaWrite, is_area_work, is_leader_read, open_block_work}
+use Rattle.sl_run.specs.LawfulArea.{HasVerified, IsRightRead, LawfulAreaWrite, is_area_work, is_leader_read, open_block_work}
 use Rattle.sl_due_law.proofs.Leases.DeltasStay.{first_other}
 use Rattle.sl_due_law.proofs.Leases.LawsStay.{calls_stay}
 use Rattle.sl_due_law.proofs.Leases.LeaseCallsStay.{LeaseMay, reads_stay, works_clear}
@@ -34,19 +34,19 @@ use Rattle.sl_due_law.proofs.Ways.Kept.PlainWalks.{granting, stopped}
 use Rattle.sl_due_law.proofs.Ways.NextsFit.AnswersFit.{conversions_fit, releases_fit}
 use Rattle.sl_due_law.proofs.Ways.WayNumbers.{is_verified}
 use Rattle.sl_due_law.proofs.Ways.WayStages.{is_at_in}
-use Rattle.sl_leases.specs.Ballots.{moded_block}
-use Rattle.sl_leases.specs.Jobs.{aim_of, aim_of_command, command_numbered, resource_named}
-use Rattle.sl_leases.specs.LeaseWork.{convert_next, lease_place, release_next}
-use Rattle.sl_leases.specs.Leases.{Phase2_read, block_of_record, block_submitted, holdings_on, is_lease_call, is_leader_of, is_on, kind_of_step, same_kind, known, lease_calls, lease_step, leader_of_record, spot_of, spot_of_call, verified_name}
-use Rattle.sl_leases.specs.declared.lease.Aim.TheVariants.{Converts, Releases}
-use Rattle.sl_leases.specs.declared.lease.LeaseNext.TheVariants.{Nothing, WriteBlock}
-use Rattle.sl_leases.specs.declared.lease.LeaseNext.{LeaseNext}
+use Rattle.sl_trace.specs.Ballots.{moded_block}
+use Rattle.sl_trace.specs.Jobs.{aim_of, aim_of_command, command_numbered, resource_named}
+use Rattle.sl_trace.specs.LeaseWork.{convert_next, lease_place, release_next}
+use Rattle.sl_trace.specs.Leases.{Phase2_read, block_of_record, block_submitted, holdings_on, is_lease_call, is_leader_of, is_on, kind_of_step, same_kind, known, lease_calls, lease_step, leader_of_record, spot_of, spot_of_call, verified_name}
+use Rattle.sl_trace.specs.declared.lease.Aim.TheVariants.{Converts, Releases}
+use Rattle.sl_trace.specs.declared.lease.LeaseNext.TheVariants.{Nothing, WriteBlock}
+use Rattle.sl_trace.specs.declared.lease.LeaseNext.{LeaseNext}
 use Rattle.sl_sector.specs.declared.sector.Block.{Block}
 use Rattle.sl_sector.specs.declared.sector.Leader.{Leader}
 use Rattle.sl_sector.specs.declared.sector.Rec.TheVariants.{ValueIs}
 use Rattle.sl_sector.specs.declared.sector.Rec.{Rec}
-use Rattle.sl_sessions.specs.Sessions.{calls_of, is_active, is_call_of, is_join_call, is_joined, joined_after, leaves, leaving_in, leaving_job, recovery_of, removed_after, session_numbered}
-use Rattle.sl_sessions.specs.declared.session.Session.{Session}
+use Rattle.sl_trace.specs.Sessions.{calls_of, is_active, is_call_of, is_join_call, is_joined, joined_after, leaves, leaving_in, leaving_job, recovery_of, removed_after, session_numbered}
+use Rattle.sl_trace.specs.declared.session.Session.{Session}
 use Rattle.sl_due_law.specs.Facts.Heard.{heard_by}
 use Rattle.sl_due_law.specs.Facts.HoldingFacts.{StandsExclusive}
 use Rattle.sl_due_law.specs.Facts.WayFacts.{way_context}

@@ -1,15 +1,15 @@
 -- The name that a lease writes is one that the session has read on the area.
 use Rattle.sl_area.specs.Layouts.{Layout}
 use Rattle.sl_area.specs.Places.{leader_of}
-use Rattle.sl_law.specs.LawfulArea.{HasVerified, is_leader_read}
+use Rattle.sl_run.specs.LawfulArea.{HasVerified, is_leader_read}
 use Rattle.sl_due_law.proofs.Ways.NewestCall.{submitted_here, submitted_passed}
 use Rattle.sl_due_law.proofs.Ways.WayNumbers.{EndsBy, ends_by}
-use Rattle.sl_leases.specs.Leases.{block_submitted, block_written, ended_ballot, ended_ballots, is_lease_call, is_leader_of, is_on, lease_calls, name_sought, verified_by, verified_name}
+use Rattle.sl_trace.specs.Leases.{block_submitted, block_written, ended_ballot, ended_ballots, is_lease_call, is_leader_of, is_on, lease_calls, name_sought, verified_by, verified_name}
 use Rattle.sl_sector.specs.declared.sector.Block.{Block}
 use Rattle.sl_sector.specs.declared.sector.Leader.{Leader}
 use Rattle.sl_sector.specs.declared.sector.Owner.{Owner}
-use Rattle.sl_sessions.specs.Sessions.{calls_of}
-use Rattle.sl_sessions.specs.declared.session.Session.{Session}
+use Rattle.sl_trace.specs.Sessions.{calls_of}
+use Rattle.sl_trace.specs.declared.session.Session.{Session}
 use Rattle.sl_due_law.specs.Facts.WayFacts.{IsVerified, way_context}
 use Rattle.sl_trace.specs.Traces.{Setting, Submitted, Trace, gave}
 use Rattle.sl_trace.specs.declared.effects.LeaseStep.TheVariants.{ClearMode, FreeLeader, Phase1Read, Phase1Write, Phase2Read, Phase2Write, ReadArea, ReadBeforeFree, SetMode, TakeLeader}

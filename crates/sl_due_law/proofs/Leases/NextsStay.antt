@@ -4,8 +4,8 @@ use Rattle.sl_acts.specs.Acts.{Has, Hears}
 use Rattle.sl_area.specs.Places.{area_blocks, blocks_in, leader_of}
 use Rattle.sl_due.specs.DueLease.{carry_lease, goes_on, next_of_lease}
 use Rattle.sl_due.specs.Steps.{Step, add_reply, seen}
-use Rattle.sl_law.specs.LawfulArea.{is_area_work}
-use Rattle.sl_law.specs.LawfulLeader.{holds_under}
+use Rattle.sl_run.specs.LawfulArea.{is_area_work}
+use Rattle.sl_run.specs.LawfulLeader.{holds_under}
 use Rattle.sl_due_law.proofs.Leases.LeaseCallsStay.{LeaseMay, blocks_stay, leaders_stay, reads_stay}
 use Rattle.sl_due_law.proofs.Leases.OthersKeep.{Any, LawfulSoFar, no_others, others_are_lawful}
 use Rattle.sl_due_law.proofs.Ways.Kept.EffectsLeave.{there_has}
@@ -15,23 +15,23 @@ use Rattle.sl_due_law.proofs.Ways.Kept.LinesReady.{none_open}
 use Rattle.sl_due_law.proofs.Ways.Kept.PlainWalks.{ByPlain, granted}
 use Rattle.sl_due_law.proofs.Ways.NextsFit.AnswersFit.{answers_fit, settlings_fit}
 use Rattle.sl_due_law.specs.Ways.Nexts.{NextIs}
-use Rattle.sl_leases.specs.Ballots.{is_ahead, moded_block, phase1_block, same_owner, stop_of, value_of}
-use Rattle.sl_leases.specs.Jobs.{aim_of, aim_of_command, command_numbered}
-use Rattle.sl_leases.specs.LeaseWork.{LeasePlace, begin_or_refuse, leader_for, looks_for_shared, named_area_next, phase1_next, phase2_next, after_phase1, after_phase2, after_read, after_write, area_next, begin_next, lease_next, lease_place, refuses, settle_next, settle_owed, stopped_next, whole_area_next}
-use Rattle.sl_leases.specs.Leases.{LeaseKnown, Phase2_read, exclusive_on, holdings_on, instance_for, Area_read, Phase1_read, Phase1_write, Phase2_write, free_left, is_leader_of, known, lease_calls, lease_step, lver_written, mode_gen_of, open_on, owed, owed_free, own_known, shared_elsewhere, spot_of_call}
-use Rattle.sl_leases.specs.declared.lease.Aim.TheVariants.{Acquires, Converts, Releases, Settles}
-use Rattle.sl_leases.specs.declared.lease.Aim.{Aim}
-use Rattle.sl_leases.specs.declared.lease.Instance.TheVariants.{Begins, HeldAlready}
-use Rattle.sl_leases.specs.declared.lease.Instance.{Instance}
-use Rattle.sl_leases.specs.declared.lease.LeaseNext.TheVariants.{AnswerJob, BecomeExclusive, BecomeShared, GrantJob, Nothing, ReadFor, WriteBlock, WriteLeader}
-use Rattle.sl_leases.specs.declared.lease.LeaseNext.{LeaseNext}
-use Rattle.sl_leases.specs.declared.lease.Owed.TheVariants.{BallotOwed, FreeOwed, ModeOwed}
-use Rattle.sl_leases.specs.declared.lease.Owed.{Owed}
-use Rattle.sl_leases.specs.declared.lease.Stop.{Stop}
+use Rattle.sl_trace.specs.Ballots.{is_ahead, moded_block, phase1_block, same_owner, stop_of, value_of}
+use Rattle.sl_trace.specs.Jobs.{aim_of, aim_of_command, command_numbered}
+use Rattle.sl_trace.specs.LeaseWork.{LeasePlace, begin_or_refuse, leader_for, looks_for_shared, named_area_next, phase1_next, phase2_next, after_phase1, after_phase2, after_read, after_write, area_next, begin_next, lease_next, lease_place, refuses, settle_next, settle_owed, stopped_next, whole_area_next}
+use Rattle.sl_trace.specs.Leases.{LeaseKnown, Phase2_read, exclusive_on, holdings_on, instance_for, Area_read, Phase1_read, Phase1_write, Phase2_write, free_left, is_leader_of, known, lease_calls, lease_step, lver_written, mode_gen_of, open_on, owed, owed_free, own_known, shared_elsewhere, spot_of_call}
+use Rattle.sl_trace.specs.declared.lease.Aim.TheVariants.{Acquires, Converts, Releases, Settles}
+use Rattle.sl_trace.specs.declared.lease.Aim.{Aim}
+use Rattle.sl_trace.specs.declared.lease.Instance.TheVariants.{Begins, HeldAlready}
+use Rattle.sl_trace.specs.declared.lease.Instance.{Instance}
+use Rattle.sl_trace.specs.declared.lease.LeaseNext.TheVariants.{AnswerJob, BecomeExclusive, BecomeShared, GrantJob, Nothing, ReadFor, WriteBlock, WriteLeader}
+use Rattle.sl_trace.specs.declared.lease.LeaseNext.{LeaseNext}
+use Rattle.sl_trace.specs.declared.lease.Owed.TheVariants.{BallotOwed, FreeOwed, ModeOwed}
+use Rattle.sl_trace.specs.declared.lease.Owed.{Owed}
+use Rattle.sl_trace.specs.declared.lease.Stop.{Stop}
 use Rattle.sl_sector.specs.declared.sector.Block.{Block}
 use Rattle.sl_sector.specs.declared.sector.Leader.{Leader}
-use Rattle.sl_sessions.specs.Sessions.{holdings_of, me, is_active, session_numbered}
-use Rattle.sl_sessions.specs.declared.session.Session.{Session}
+use Rattle.sl_trace.specs.Sessions.{holdings_of, me, is_active, session_numbered}
+use Rattle.sl_trace.specs.declared.session.Session.{Session}
 use Rattle.sl_due_law.specs.Facts.Heard.{heard_by}
 use Rattle.sl_due_law.specs.Facts.HoldingFacts.{HoldingFacts, StandsExclusive}
 use Rattle.sl_due_law.specs.Facts.Whole.{Whole}

@@ -1,17 +1,17 @@
 -- Calls that are no work on an area keep the laws of areas, blocks and leaders wherever they are made; a step that makes no other keeps them.
 use Rattle.sl_acts.specs.SoFar.{entry_of}
 use Rattle.sl_due.specs.Steps.{Step, add_call_of}
-use Rattle.sl_law.specs.LawfulArea.{IsRightRead, is_area_work, is_block_work, is_delta_record}
-use Rattle.sl_law.specs.Saying.{EachCall}
+use Rattle.sl_run.specs.LawfulArea.{IsRightRead, is_area_work, is_block_work, is_delta_record}
+use Rattle.sl_run.specs.Saying.{EachCall}
 use Rattle.sl_due_law.specs.Leases.LeaseLawful.{LeaseLaws, LeaseLawful}
 use Rattle.sl_due_law.proofs.Ways.Kept.EffectsLeave.{made_call}
 use Rattle.sl_due_law.proofs.Ways.Kept.PlacesStand.{either_list}
 use Rattle.sl_due_law.proofs.Ways.Kept.PlainWalks.{ByPlain}
 use Rattle.sl_due_law.proofs.Ways.WayStages.{is_at_in}
-use Rattle.sl_leases.specs.Leases.{Phase2_read, block_of_record, block_written, leader_of_record, leader_written, spot_of_call}
+use Rattle.sl_trace.specs.Leases.{Phase2_read, block_of_record, block_written, leader_of_record, leader_written, spot_of_call}
 use Rattle.sl_sector.specs.declared.sector.Rec.TheVariants.{BlockIs, DeltaIs, LeaderIs, RequestIs, ValueIs}
 use Rattle.sl_sector.specs.declared.sector.Rec.{Rec}
-use Rattle.sl_sessions.specs.declared.session.Session.{Session}
+use Rattle.sl_trace.specs.declared.session.Session.{Session}
 use Rattle.sl_trace.specs.Traces.{Setting, Submitted, Trace, record_of}
 use Rattle.sl_trace.specs.declared.effects.Call.{Call}
 use Rattle.sl_trace.specs.declared.effects.Op.{Op}

@@ -6,10 +6,10 @@ use Rattle.sl_due.specs.Steps.{Step, seen}
 use Rattle.sl_due_law.proofs.Ways.Kept.HeardStands.{heard_calls}
 use Rattle.sl_due_law.proofs.Ways.Kept.InputsLeave.{same_call}
 use Rattle.sl_plain.proofs.Lists.{contains_map, find_inside}
-use Rattle.sl_sessions.specs.Sessions.{generation_of, is_call_of, is_joined, is_survey_purpose, recovers, recovery_of, renewed_by, renewing, renewing_after, shows_other, shows_other_in}
-use Rattle.sl_sessions.specs.declared.session.Begun.{Begun}
-use Rattle.sl_sessions.specs.declared.session.Renewing.{Renewing}
-use Rattle.sl_sessions.specs.declared.session.Session.{Session}
+use Rattle.sl_trace.specs.Sessions.{generation_of, is_call_of, is_joined, is_survey_purpose, recovers, recovery_of, renewed_by, renewing, renewing_after, shows_other, shows_other_in}
+use Rattle.sl_trace.specs.declared.session.Begun.{Begun}
+use Rattle.sl_trace.specs.declared.session.Renewing.{Renewing}
+use Rattle.sl_trace.specs.declared.session.Session.{Session}
 use Rattle.sl_due_law.specs.Facts.Whole.{Whole}
 use Rattle.sl_time.specs.Times.{fail}
 use Rattle.sl_trace.specs.Traces.{Setting, Submitted, Trace, answered_in, call_numbered, submitted}

@@ -2,7 +2,7 @@
 use Rattle.sl_acts.specs.SoFar.{entry_of}
 use Rattle.sl_due.specs.DueLease.{carry_lease, convert_for, convert_holding, for_work, held_otherwise, with_command, write_block, write_leader}
 use Rattle.sl_due.specs.Steps.{Step, add_end, add_grant, seen, with_some}
-use Rattle.sl_law.specs.LawfulLeader.{holds_under}
+use Rattle.sl_run.specs.LawfulLeader.{holds_under}
 use Rattle.sl_due_law.proofs.Leases.LawsStay.{joined_more, three}
 use Rattle.sl_due_law.proofs.Leases.LeaseCallsStay.{LeaseMay, blocks_stay, leaders_stay}
 use Rattle.sl_due_law.proofs.Leases.NextsStay.{HeldThere, bare_lawful, held_there, not_true, unheld_if}
@@ -14,14 +14,14 @@ use Rattle.sl_due_law.proofs.Ways.Kept.LeaseNextsLeave.{HasEnded, moment_of}
 use Rattle.sl_due_law.proofs.Ways.Kept.PlacesStand.{either_list}
 use Rattle.sl_due_law.specs.Ways.Kept.{LeasesStand}
 use Rattle.sl_due_law.specs.Ways.Nexts.{LeaderIsOwn, NextIs}
-use Rattle.sl_leases.specs.Ballots.{moded_block}
-use Rattle.sl_leases.specs.Jobs.{command_numbered, process_named}
-use Rattle.sl_leases.specs.Leases.{block_submitted, ended_ballots, exclusive_on, holdings_on, is_lease_call, is_on, known, lease_calls, open_ballot, verified_name}
-use Rattle.sl_leases.specs.declared.lease.LeaseNext.TheVariants.{BecomeExclusive, BecomeShared}
+use Rattle.sl_trace.specs.Ballots.{moded_block}
+use Rattle.sl_trace.specs.Jobs.{command_numbered, process_named}
+use Rattle.sl_trace.specs.Leases.{block_submitted, ended_ballots, exclusive_on, holdings_on, is_lease_call, is_on, known, lease_calls, open_ballot, verified_name}
+use Rattle.sl_trace.specs.declared.lease.LeaseNext.TheVariants.{BecomeExclusive, BecomeShared}
 use Rattle.sl_sector.specs.declared.sector.Block.{Block}
 use Rattle.sl_sector.specs.declared.sector.Leader.{Leader}
-use Rattle.sl_sessions.specs.Sessions.{generation_in, is_active, is_call_of, joined_after, leaving_job, me, recovery_of, removed_after}
-use Rattle.sl_sessions.specs.declared.session.Session.{Session}
+use Rattle.sl_trace.specs.Sessions.{generation_in, is_active, is_call_of, joined_after, leaving_job, me, recovery_of, removed_after}
+use Rattle.sl_trace.specs.declared.session.Session.{Session}
 use Rattle.sl_due_law.specs.Facts.Heard.{heard_by}
 use Rattle.sl_due_law.specs.Facts.HoldingFacts.{HoldingFacts}
 use Rattle.sl_due_law.specs.Facts.WayFacts.{In_settling}

@@ -1,7 +1,7 @@
 -- Work of a running job on an area, whose answer is heard, is of an active session.
 use Rattle.sl_acts.specs.Acts.{Hears}
 use Rattle.sl_due.specs.Steps.{Step, seen, with_input}
-use Rattle.sl_law.specs.LawfulArea.{is_area_work}
+use Rattle.sl_run.specs.LawfulArea.{is_area_work}
 use Rattle.sl_due.specs.DueDelta.{begins_by_read}
 use Rattle.sl_due_law.proofs.Leases.RecoveriesBegin.{not_by_read}
 use Rattle.sl_due_law.specs.Facts.Heard.{heard_by}
@@ -9,10 +9,10 @@ use Rattle.sl_due_law.proofs.Ways.Kept.EffectsLeave.{there_has}
 use Rattle.sl_due_law.proofs.Ways.Kept.HeardStands.{heard_call, heard_has}
 use Rattle.sl_due_law.proofs.Ways.Kept.LinesKeep.{find_last, jobs_below}
 use Rattle.sl_due_law.proofs.Ways.Kept.UnjoinedHaveNone.{no_area_work}
-use Rattle.sl_leases.specs.Jobs.{command_numbered, command_of, is_command_that, jobs_of_session, lockspace_named, resource_named}
-use Rattle.sl_sessions.specs.Sessions.{has_open_write, is_active, is_call_of, is_joined, is_survey_purpose, joined_after, leaves, leaving_in, leaving_job, recovery_of, refused_after, removed_after, sessions}
-use Rattle.sl_sessions.specs.declared.session.Begun.{Begun}
-use Rattle.sl_sessions.specs.declared.session.Session.{Session}
+use Rattle.sl_trace.specs.Jobs.{command_numbered, command_of, is_command_that, jobs_of_session, lockspace_named, resource_named}
+use Rattle.sl_trace.specs.Sessions.{has_open_write, is_active, is_call_of, is_joined, is_survey_purpose, joined_after, leaves, leaving_in, leaving_job, recovery_of, refused_after, removed_after, sessions}
+use Rattle.sl_trace.specs.declared.session.Begun.{Begun}
+use Rattle.sl_trace.specs.declared.session.Session.{Session}
 use Rattle.sl_due_law.specs.Facts.JobFacts.{FitsCommand}
 use Rattle.sl_due_law.specs.Facts.Whole.{Whole}
 use Rattle.sl_trace.specs.Traces.{Job, Setting, Submitted, Trace, is_running, job_in, job_numbered, job_of, jobs, line_in, next_job, running_jobs, submitted}

@@ -1,8 +1,8 @@
 -- One more call at the end of an entry: what is said of each call is said of it too; it is the first of its session's calls.
 use Rattle.sl_acts.proofs.Additions.{begun_by}
-use Rattle.sl_law.specs.Saying.{EachCall, cut_at}
-use Rattle.sl_sessions.specs.Sessions.{calls_of, is_call_of, is_join_call, session_numbered, sessions}
-use Rattle.sl_sessions.specs.declared.session.Session.{Session}
+use Rattle.sl_run.specs.Saying.{EachCall, cut_at}
+use Rattle.sl_trace.specs.Sessions.{calls_of, is_call_of, is_join_call, session_numbered, sessions}
+use Rattle.sl_trace.specs.declared.session.Session.{Session}
 use Rattle.sl_trace.proofs.TraceFacts.{submitted-push}
 use Rattle.sl_trace.specs.TraceLaws.{with_call}
 use Rattle.sl_trace.specs.Traces.{Setting, Submitted, Trace, answered_in, mark, new_call, next_call, submitted}

@@ -1,18 +1,18 @@
 -- A joined session makes one more call, which is no step of a joining: what was lawful so far stays so.
 use Rattle.sl_acts.proofs.Additions.{contains_at, contains_last}
-use Rattle.sl_law.specs.Lawful.{Orderly}
-use Rattle.sl_law.specs.LawfulArea.{LawfulAreaWrite, LawfulLeaseRead, is_area_work, is_block_work, is_delta_record, open_block_work}
-use Rattle.sl_law.specs.LawfulBlock.{LawfulBlockWrite, LawfulPhase2Read}
-use Rattle.sl_law.specs.LawfulCalls.{may_submit}
-use Rattle.sl_law.specs.LawfulDelta.{LawfulDeltaCall, LawfulJoin, is_on_own_sector}
-use Rattle.sl_law.specs.LawfulEnd.{Converted, EndReason, Exited, Given_up, Not_started, Taken_over}
-use Rattle.sl_law.specs.LawfulLeader.{LawfulLeaderWrite}
-use Rattle.sl_law.specs.LawfulModes.{LawfulMode}
-use Rattle.sl_law.specs.LawfulParting.{MayPart, is_leaving_write}
-use Rattle.sl_law.specs.LawfulValue.{LawfulValueRead, LawfulValueWrite}
-use Rattle.sl_law.specs.LawfulWatchdog.{CoveredBy, LawfulWatchdog, is_covered}
-use Rattle.sl_law.specs.Saying.{EachCall}
-use Rattle.sl_leases.specs.Leases.{Phase2_read, block_written, is_at, leader_written, spot_of_call, value_written}
+use Rattle.sl_run.specs.Lawful.{Orderly}
+use Rattle.sl_run.specs.LawfulArea.{LawfulAreaWrite, LawfulLeaseRead, is_area_work, is_block_work, is_delta_record, open_block_work}
+use Rattle.sl_run.specs.LawfulBlock.{LawfulBlockWrite, LawfulPhase2Read}
+use Rattle.sl_run.specs.LawfulCalls.{may_submit}
+use Rattle.sl_run.specs.LawfulDelta.{LawfulDeltaCall, LawfulJoin, is_on_own_sector}
+use Rattle.sl_run.specs.LawfulEnd.{Converted, EndReason, Exited, Given_up, Not_started, Taken_over}
+use Rattle.sl_run.specs.LawfulLeader.{LawfulLeaderWrite}
+use Rattle.sl_run.specs.LawfulModes.{LawfulMode}
+use Rattle.sl_run.specs.LawfulParting.{MayPart, is_leaving_write}
+use Rattle.sl_run.specs.LawfulValue.{LawfulValueRead, LawfulValueWrite}
+use Rattle.sl_run.specs.LawfulWatchdog.{CoveredBy, LawfulWatchdog, is_covered}
+use Rattle.sl_run.specs.Saying.{EachCall}
+use Rattle.sl_trace.specs.Leases.{Phase2_read, block_written, is_at, leader_written, spot_of_call, value_written}
 use Rattle.sl_due_law.proofs.Parts.CallsGrow.{each_more, mine_more, next_more, others_stay, same_sessions}
 use Rattle.sl_due_law.specs.Parts.CallIsLawful.{CallIsLawful}
 use Rattle.sl_due_law.specs.Parts.Parts.{JoinedCall}
@@ -22,9 +22,9 @@ use Rattle.sl_sector.specs.declared.sector.Block.{Block}
 use Rattle.sl_sector.specs.declared.sector.Leader.{Leader}
 use Rattle.sl_sector.specs.declared.sector.Rec.{Rec}
 use Rattle.sl_sector.specs.declared.sector.ValueRec.{ValueRec}
-use Rattle.sl_sessions.specs.Sessions.{begun_in, calls_of, free_write, has_open_delta, has_open_write, is_active, is_covered_stage, is_delta_purpose, is_join_call, is_joined, is_leaving, is_recovering, is_survey_purpose, join_call, joined_after, refused_after, removed_after, session_numbered, sessions, stage_in, stage_of}
-use Rattle.sl_sessions.specs.declared.session.Session.{Session}
-use Rattle.sl_sessions.specs.declared.stage.Stage.{Stage}
+use Rattle.sl_trace.specs.Sessions.{begun_in, calls_of, free_write, has_open_delta, has_open_write, is_active, is_covered_stage, is_delta_purpose, is_join_call, is_joined, is_leaving, is_recovering, is_survey_purpose, join_call, joined_after, refused_after, removed_after, session_numbered, sessions, stage_in, stage_of}
+use Rattle.sl_trace.specs.declared.session.Session.{Session}
+use Rattle.sl_trace.specs.declared.stage.Stage.{Stage}
 use Rattle.sl_trace.specs.Connections.{unregisters}
 use Rattle.sl_trace.specs.TraceLaws.{with_call}
 use Rattle.sl_trace.specs.Traces.{FollowsTrace, Setting, Submitted, Trace, is_write, new_call, next_call, record_of, unanswered}

@@ -1,17 +1,17 @@
 -- A reply to another's job, on a wake, that comes after a call changes nothing that the laws say of the call.
 use Rattle.sl_acts.proofs.Additions.{found_more}
-use Rattle.sl_law.specs.LawfulBlock.{AreaRead, BeginReason, Block_above, Freed_before, LawfulBlockStep, Leader_before, Leader_own, Lost_before, Own_block}
-use Rattle.sl_law.specs.LawfulCalls.{may_submit}
-use Rattle.sl_law.specs.LawfulDelta.{LawfulDeltaCall, LawfulJoinStep}
-use Rattle.sl_law.specs.LawfulLeader.{LawfulFreeLeader, LawfulTake}
-use Rattle.sl_leases.specs.Leases.{lease_step, spot_of_call}
+use Rattle.sl_run.specs.LawfulBlock.{AreaRead, BeginReason, Block_above, Freed_before, LawfulBlockStep, Leader_before, Leader_own, Lost_before, Own_block}
+use Rattle.sl_run.specs.LawfulCalls.{may_submit}
+use Rattle.sl_run.specs.LawfulDelta.{LawfulDeltaCall, LawfulJoinStep}
+use Rattle.sl_run.specs.LawfulLeader.{LawfulFreeLeader, LawfulTake}
+use Rattle.sl_trace.specs.Leases.{lease_step, spot_of_call}
 use Rattle.sl_due_law.specs.Parts.CallIsLawful.{CallIsLawful}
 use Rattle.sl_due_law.specs.Parts.Parts.{with_reply}
 use Rattle.sl_sector.specs.declared.sector.Block.{Block}
 use Rattle.sl_sector.specs.declared.sector.Leader.{Leader}
-use Rattle.sl_sessions.specs.Sessions.{calls_of, free_write, generation_of, is_active, is_join_call, is_join_done, joined_after, leaving_job, recovery_of, refused_after, removed_after, stage_in, stage_of}
-use Rattle.sl_sessions.specs.Watching.{counted_over, evidence_in}
-use Rattle.sl_sessions.specs.declared.session.Session.{Session}
+use Rattle.sl_trace.specs.Sessions.{calls_of, free_write, generation_of, is_active, is_join_call, is_join_done, joined_after, leaving_job, recovery_of, refused_after, removed_after, stage_in, stage_of}
+use Rattle.sl_trace.specs.Watching.{counted_over, evidence_in}
+use Rattle.sl_trace.specs.declared.session.Session.{Session}
 use Rattle.sl_trace.specs.Traces.{Replied, Setting, Submitted, Trace, reply_to}
 use Rattle.sl_trace.specs.declared.effects.Effects.{Effects}
 use Rattle.sl_trace.specs.declared.effects.Entry.{Entry}

@@ -17,9 +17,9 @@ use Rattle.sl_due_law.proofs.Jobs.NearlyPlainActs.{AnyMove, AnyStart, Anything, 
 use Rattle.sl_due_law.proofs.Jobs.RepliesComeAfter.{joining_late}
 use Rattle.sl_due_law.proofs.Jobs.SessionsArePresent.{joined_present, session_has}
 use Rattle.sl_due_law.proofs.Jobs.SessionsStand.{joined_then, reply_joined}
-use Rattle.sl_law.specs.LawfulDelta.{LawfulDeltaCall, LawfulFree}
-use Rattle.sl_leases.specs.Leases.{spot_of_call}
-use Rattle.sl_leases.specs.declared.lease.LeaseNext.{LeaseNext}
+use Rattle.sl_run.specs.LawfulDelta.{LawfulDeltaCall, LawfulFree}
+use Rattle.sl_trace.specs.Leases.{spot_of_call}
+use Rattle.sl_trace.specs.declared.lease.LeaseNext.{LeaseNext}
 use Rattle.sl_plain.proofs.Lists.{any_found, contains_map, find_inside, got_inside, kept_inside}
 use Rattle.sl_plain.proofs.Options.{some_of, then_value}
 use Rattle.sl_due_law.proofs.Recovery.FinishEnds.{gone_stays, joined_registered}
@@ -30,10 +30,10 @@ use Rattle.sl_due_law.specs.Recovery.Stops.{FreeTold, FreesEnd}
 use Rattle.sl_sector.specs.Bitmaps.{no_bits}
 use Rattle.sl_sector.specs.declared.sector.DeltaState.TheVariants.{Free}
 use Rattle.sl_sector.specs.declared.sector.Rec.{Rec}
-use Rattle.sl_sessions.specs.Deltas.{delta_known, delta_of_session, delta_record, next_after_free, next_after_renewal, next_free, next_in_joining}
-use Rattle.sl_sessions.specs.Sessions.{calls_of, delta_of_record, generation_of, is_call_of, is_free_purpose, is_joined, is_present, last_seq, recovery_of, session_numbered, sessions}
-use Rattle.sl_sessions.specs.declared.delta.DeltaNext.{DeltaNext}
-use Rattle.sl_sessions.specs.declared.session.Session.{Session}
+use Rattle.sl_trace.specs.Deltas.{delta_known, delta_of_session, delta_record, next_after_free, next_after_renewal, next_free, next_in_joining}
+use Rattle.sl_trace.specs.Sessions.{calls_of, delta_of_record, generation_of, is_call_of, is_free_purpose, is_joined, is_present, last_seq, recovery_of, session_numbered, sessions}
+use Rattle.sl_trace.specs.declared.delta.DeltaNext.{DeltaNext}
+use Rattle.sl_trace.specs.declared.session.Session.{Session}
 use Rattle.sl_due_law.specs.Facts.Concluding.{Concludes}
 use Rattle.sl_due_law.specs.Facts.Heard.{heard_by}
 use Rattle.sl_due_law.specs.Facts.Whole.{Whole}

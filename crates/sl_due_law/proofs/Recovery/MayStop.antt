@@ -4,13 +4,13 @@ use Rattle.sl_due.specs.DueFirst.{signal_and_refuse}
 use Rattle.sl_due.specs.Steps.{Step, seen}
 use Rattle.sl_due_law.proofs.Jobs.JobFactsGrow.{contains_left}
 use Rattle.sl_due_law.proofs.Jobs.QuietEffects.{names_it}
-use Rattle.sl_law.specs.LawfulRecovery.{StopsSession}
-use Rattle.sl_leases.specs.Jobs.{is_command_that, jobs_of_session}
+use Rattle.sl_run.specs.LawfulRecovery.{StopsSession}
+use Rattle.sl_trace.specs.Jobs.{is_command_that, jobs_of_session}
 use Rattle.sl_plain.proofs.Lists.{find_inside, kept, kept_inside}
 use Rattle.sl_plain.proofs.Options.{none_is}
 use Rattle.sl_due_law.proofs.Recovery.HoldersAre.{holders_stay}
 use Rattle.sl_due_law.proofs.Recovery.StopsDone.{IsRefusedIn, KeepsPrograms, stopped_session}
-use Rattle.sl_sessions.specs.declared.session.Session.{Session}
+use Rattle.sl_trace.specs.declared.session.Session.{Session}
 use Rattle.sl_trace.specs.EffectTexts.{is_ok_reply}
 use Rattle.sl_trace.specs.Traces.{Job, KillProgram, Replied, exited_by, holdings, is_done, is_ended_by, is_running, job_in, jobs, kill_program_in, kill_programs, next_job, program_set_in, reply_in, reply_to, running_jobs, with_program, without_program}
 use Rattle.sl_trace.specs.declared.command.Command.TheVariants.{RemLockspace}

@@ -8,11 +8,11 @@ use Rattle.sl_due_law.proofs.Jobs.QuietEffects.{is_recovering_parts}
 use Rattle.sl_due_law.proofs.Jobs.QuietLines.{active_parts}
 use Rattle.sl_due_law.proofs.Jobs.SessionsArePresent.{joined_present, session_has}
 use Rattle.sl_due_law.proofs.Jobs.SessionsStand.{joined_then}
-use Rattle.sl_law.specs.LawfulArea.{LawfulArea, is_area_work, is_delta_record}
-use Rattle.sl_law.specs.LawfulDelta.{LawfulDelta, LawfulDeltaCall, LawfulJoinStep}
-use Rattle.sl_law.specs.LawfulParting.{LawfulParting, MayPart, is_leaving_write}
-use Rattle.sl_law.specs.LawfulWatchdog.{LawfulWatchdog}
-use Rattle.sl_law.specs.Saying.{IsAnsweredAt, cut_at}
+use Rattle.sl_run.specs.LawfulArea.{LawfulArea, is_area_work, is_delta_record}
+use Rattle.sl_run.specs.LawfulDelta.{LawfulDelta, LawfulDeltaCall, LawfulJoinStep}
+use Rattle.sl_run.specs.LawfulParting.{LawfulParting, MayPart, is_leaving_write}
+use Rattle.sl_run.specs.LawfulWatchdog.{LawfulWatchdog}
+use Rattle.sl_run.specs.Saying.{IsAnsweredAt, cut_at}
 use Rattle.sl_plain.proofs.Lists.{any_found, contains_first, contains_map, contains_more, find_inside, kept_inside}
 use Rattle.sl_plain.proofs.Options.{none_is, some_there}
 use Rattle.sl_due_law.proofs.Recovery.PartingsAreKept.{PartsWell, find_kept}
@@ -20,10 +20,10 @@ use Rattle.sl_due_law.proofs.Recovery.RecoveriesStart.{removed_if, removed_is_no
 use Rattle.sl_due_law.proofs.Recovery.StopsConclude.{old_session}
 use Rattle.sl_due_law.specs.Recovery.Stops.{FreeTold, Partings}
 use Rattle.sl_sector.specs.declared.sector.Rec.{Rec}
-use Rattle.sl_sessions.specs.Sessions.{calls_of, delta_of_record, free_write, is_active, is_call_of, is_free_purpose, is_joined, joined_after, leaving_job, recovery_of, refused_after, removed_after, session_numbered, sessions, stage_in, stage_of}
-use Rattle.sl_sessions.specs.declared.session.Session.{Session}
-use Rattle.sl_sessions.specs.declared.stage.Stage.{Stage}
-use Rattle.sl_sessions.specs.declared.stage.Stage.TheVariants.{Ended, Freeing, Refused, Standing}
+use Rattle.sl_trace.specs.Sessions.{calls_of, delta_of_record, free_write, is_active, is_call_of, is_free_purpose, is_joined, joined_after, leaving_job, recovery_of, refused_after, removed_after, session_numbered, sessions, stage_in, stage_of}
+use Rattle.sl_trace.specs.declared.session.Session.{Session}
+use Rattle.sl_trace.specs.declared.stage.Stage.{Stage}
+use Rattle.sl_trace.specs.declared.stage.Stage.TheVariants.{Ended, Freeing, Refused, Standing}
 use Rattle.sl_due_law.specs.Facts.CallFacts.{CallFacts}
 use Rattle.sl_trace.specs.Connections.{unregisters}
 use Rattle.sl_trace.specs.Traces.{FollowsTrace, Setting, Submitted, Trace, answer_of, answered_in, call_numbered, is_answer_for, is_expected, is_write, mark, new_call, outstanding, record_of, submitted}

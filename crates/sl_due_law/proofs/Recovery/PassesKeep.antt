@@ -17,12 +17,12 @@ use Rattle.sl_due.specs.Steps.{Step, add_end, add_reply, add_signal, begin_step,
 use Rattle.sl_due_law.proofs.Jobs.CallsHaveFacts.{find_mapped}
 use Rattle.sl_due_law.proofs.Jobs.JobFactsGrow.{contains_left, contains_right}
 use Rattle.sl_due_law.proofs.Jobs.JobsAreNumbered.{found_before}
-use Rattle.sl_leases.specs.Jobs.{job_of_start}
+use Rattle.sl_trace.specs.Jobs.{job_of_start}
 use Rattle.sl_plain.proofs.Lists.{contains_cases, contains_first, contains_none}
 use Rattle.sl_plain.proofs.Options.{then_value}
 use Rattle.sl_due_law.proofs.Recovery.StopsBegin.{begun_says}
-use Rattle.sl_sessions.specs.Sessions.{holders_of, present_sessions}
-use Rattle.sl_sessions.specs.declared.session.Session.{Session}
+use Rattle.sl_trace.specs.Sessions.{holders_of, present_sessions}
+use Rattle.sl_trace.specs.declared.session.Session.{Session}
 use Rattle.sl_trace.specs.Traces.{Child, Setting, Trace, child_after, child_numbered, children, end_of, holdings, is_running, new_child, stands_for}
 use Rattle.sl_trace.specs.declared.effects.Effects.{Effects}
 use Rattle.sl_trace.specs.declared.effects.Grant.{Grant}

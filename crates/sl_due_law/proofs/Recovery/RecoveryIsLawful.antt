@@ -15,10 +15,10 @@ use Rattle.sl_due_law.proofs.Jobs.JobFactsGrow.{contains_left}
 use Rattle.sl_due_law.proofs.Jobs.QuietEffects.{recovery_told}
 use Rattle.sl_due_law.proofs.Jobs.SessionsArePresent.{joined_present, present_inside, session_has}
 use Rattle.sl_due_law.proofs.Jobs.SessionsHaveJobs.{contains_either, left_in}
-use Rattle.sl_law.specs.LawfulGrant.{LawfulGrant}
-use Rattle.sl_law.specs.LawfulParting.{MayPart}
-use Rattle.sl_law.specs.LawfulRecovery.{IsSent, LawfulRecovery, StopsSession, was_killed}
-use Rattle.sl_law.specs.Saying.{IsAnsweredAt}
+use Rattle.sl_run.specs.LawfulGrant.{LawfulGrant}
+use Rattle.sl_run.specs.LawfulParting.{MayPart}
+use Rattle.sl_run.specs.LawfulRecovery.{IsSent, LawfulRecovery, StopsSession, was_killed}
+use Rattle.sl_run.specs.Saying.{IsAnsweredAt}
 use Rattle.sl_plain.proofs.Lists.{any_of, find_inside, got_before, got_inside, head_is, in_map, kept_inside}
 use Rattle.sl_plain.proofs.Numbers.{number_itself}
 use Rattle.sl_plain.proofs.Options.{mapped_value}
@@ -32,9 +32,9 @@ use Rattle.sl_due_law.proofs.Recovery.StopsBegin.{IsDenial, Says, begun_says, wi
 use Rattle.sl_due_law.proofs.Recovery.StopsConclude.{old_session}
 use Rattle.sl_due_law.specs.Recovery.KillFacts.{KillFacts, KilledAfter}
 use Rattle.sl_due_law.specs.Recovery.Stops.{FreeTold, FreesEnd, Stops}
-use Rattle.sl_sessions.specs.Sessions.{begun_in, calls_of, free_write, has_open_write, holders_of, holdings_of, is_active, is_call_of, is_free_purpose, is_joined, leaving_in, leaving_job, leaving_of, present_sessions, recovery_of, session_numbered, sessions}
-use Rattle.sl_sessions.specs.declared.session.Begun.{Begun}
-use Rattle.sl_sessions.specs.declared.session.Session.{Session}
+use Rattle.sl_trace.specs.Sessions.{begun_in, calls_of, free_write, has_open_write, holders_of, holdings_of, is_active, is_call_of, is_free_purpose, is_joined, leaving_in, leaving_job, leaving_of, present_sessions, recovery_of, session_numbered, sessions}
+use Rattle.sl_trace.specs.declared.session.Begun.{Begun}
+use Rattle.sl_trace.specs.declared.session.Session.{Session}
 use Rattle.sl_due_law.specs.Facts.HoldingFacts.{HoldingFacts}
 use Rattle.sl_due_law.specs.Facts.Whole.{WholeTrace}
 use Rattle.sl_trace.specs.Connections.{is_registered}

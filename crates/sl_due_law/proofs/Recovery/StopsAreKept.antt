@@ -20,17 +20,17 @@ use Rattle.sl_due_law.proofs.Jobs.QuietEffects.{by_input, names_it, recovery_tol
 use Rattle.sl_due_law.proofs.Jobs.QuietFactsAreKept.{IsLeft, Stopping, left_or_not, stop_stopping}
 use Rattle.sl_due_law.proofs.Jobs.QuietLines.{answered_leaving, new_leaving}
 use Rattle.sl_due_law.proofs.Jobs.SessionsArePresent.{joined_present, present_inside, session_has}
-use Rattle.sl_law.specs.LawfulRecovery.{StopsSession}
-use Rattle.sl_leases.specs.Jobs.{is_command_that, jobs_of_session, lockspace_named}
+use Rattle.sl_run.specs.LawfulRecovery.{StopsSession}
+use Rattle.sl_trace.specs.Jobs.{is_command_that, jobs_of_session, lockspace_named}
 use Rattle.sl_plain.proofs.Lists.{find_inside, kept, kept_inside}
 use Rattle.sl_due_law.proofs.Recovery.HoldersAre.{HeldBy, held_by_one}
 use Rattle.sl_due_law.proofs.Recovery.MayStop.{MayStop, held_then, programs_when_left, stop_done}
 use Rattle.sl_due_law.proofs.Recovery.StopsBegin.{Says, stop_only_says, stopped_nearly}
 use Rattle.sl_due_law.proofs.Recovery.StopsGrow.{itself_grown, reply_grown, stops_effects}
 use Rattle.sl_due_law.specs.Recovery.Stops.{Denies, Stops}
-use Rattle.sl_sessions.specs.Sessions.{holders_of, is_joined, is_session_arg, leaving_job, present_sessions, session_named, session_numbered, sessions}
-use Rattle.sl_sessions.specs.declared.session.Begun.{Begun}
-use Rattle.sl_sessions.specs.declared.session.Session.{Session}
+use Rattle.sl_trace.specs.Sessions.{holders_of, is_joined, is_session_arg, leaving_job, present_sessions, session_named, session_numbered, sessions}
+use Rattle.sl_trace.specs.declared.session.Begun.{Begun}
+use Rattle.sl_trace.specs.declared.session.Session.{Session}
 use Rattle.sl_due_law.specs.Facts.Heard.{heard_by}
 use Rattle.sl_trace.specs.Traces.{Job, Setting, Trace, next_job, running_jobs}
 use Rattle.sl_trace.specs.declared.command.Command.{Command}

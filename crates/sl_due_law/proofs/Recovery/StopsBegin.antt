@@ -10,18 +10,18 @@ use Rattle.sl_due_law.proofs.Jobs.NearlyPlainActs.{AnyMove, AnyStart, Anything, 
 use Rattle.sl_due_law.proofs.Jobs.QuietFactsBegin.{leaving_wake}
 use Rattle.sl_due_law.proofs.Jobs.SessionsArePresent.{joined_present, present_inside}
 use Rattle.sl_due_law.specs.Jobs.Promises.{BeginsWith}
-use Rattle.sl_law.specs.LawfulRecovery.{StopsSession}
-use Rattle.sl_leases.specs.Counts.{stopper_of}
-use Rattle.sl_leases.specs.Jobs.{jobs_of_session}
+use Rattle.sl_run.specs.LawfulRecovery.{StopsSession}
+use Rattle.sl_trace.specs.Counts.{stopper_of}
+use Rattle.sl_trace.specs.Jobs.{jobs_of_session}
 use Rattle.sl_plain.proofs.Lists.{contains_cases, contains_none}
 use Rattle.sl_plain.proofs.Numbers.{number_itself}
 use Rattle.sl_due_law.proofs.Recovery.MayStop.{MayStop, programs_on_wake, stop_done}
 use Rattle.sl_due_law.proofs.Recovery.RecoveriesStart.{joined_unless, leaving_before, starts_at}
 use Rattle.sl_due_law.proofs.Recovery.StopsGrow.{itself_grown, reply_grown, signal_grown, start_grown}
 use Rattle.sl_due_law.specs.Recovery.Stops.{Stops}
-use Rattle.sl_sessions.specs.Sessions.{holders_of, is_joined, last_renewal, present_sessions, recovery_of, sessions}
-use Rattle.sl_sessions.specs.declared.session.Begun.{Begun}
-use Rattle.sl_sessions.specs.declared.session.Session.{Session}
+use Rattle.sl_trace.specs.Sessions.{holders_of, is_joined, last_renewal, present_sessions, recovery_of, sessions}
+use Rattle.sl_trace.specs.declared.session.Begun.{Begun}
+use Rattle.sl_trace.specs.declared.session.Session.{Session}
 use Rattle.sl_due_law.specs.Facts.Heard.{heard_by}
 use Rattle.sl_trace.specs.EffectTexts.{is_ok_reply}
 use Rattle.sl_trace.specs.Traces.{Job, Setting, Trace, next_child}

@@ -15,8 +15,8 @@ use Rattle.sl_due_law.proofs.Jobs.QuietFactsAreKept.{Stopping, stop_stopping}
 use Rattle.sl_due_law.proofs.Jobs.QuietFactsConclude.{ReadBy, read_by}
 use Rattle.sl_due_law.proofs.Jobs.RepliesComeAfter.{joining_late}
 use Rattle.sl_due_law.proofs.Jobs.SessionsArePresent.{joined_present, session_has}
-use Rattle.sl_law.specs.LawfulRecovery.{StopsSession}
-use Rattle.sl_leases.specs.Leases.{spot_of_call}
+use Rattle.sl_run.specs.LawfulRecovery.{StopsSession}
+use Rattle.sl_trace.specs.Leases.{spot_of_call}
 use Rattle.sl_plain.proofs.Lists.{find_inside}
 use Rattle.sl_plain.proofs.Numbers.{number_itself}
 use Rattle.sl_plain.proofs.Options.{some_of, some_there}
@@ -26,11 +26,11 @@ use Rattle.sl_due_law.proofs.Recovery.StopsAreKept.{HasStops, WithStops}
 use Rattle.sl_due_law.proofs.Recovery.StopsBegin.{Says, stop_only_says, stopped_nearly, with_said}
 use Rattle.sl_due_law.proofs.Recovery.StopsGrow.{stops_effects}
 use Rattle.sl_due_law.specs.Recovery.Stops.{Denies, FreeTold, JustHeard, Partings, Stops}
-use Rattle.sl_sessions.specs.Deltas.{delta_known, delta_of_session, next_after_free, next_after_renewal, next_free, next_in_joining}
-use Rattle.sl_sessions.specs.Sessions.{begun_in, calls_of, generation_of, is_joined, is_present, is_survey_purpose, leaving_job, recovers, recovery_of, renewed_by, renewing, renewing_after, session_numbered, sessions, shows_other}
-use Rattle.sl_sessions.specs.declared.session.Begun.{Begun}
-use Rattle.sl_sessions.specs.declared.session.Renewing.{Renewing}
-use Rattle.sl_sessions.specs.declared.session.Session.{Session}
+use Rattle.sl_trace.specs.Deltas.{delta_known, delta_of_session, next_after_free, next_after_renewal, next_free, next_in_joining}
+use Rattle.sl_trace.specs.Sessions.{begun_in, calls_of, generation_of, is_joined, is_present, is_survey_purpose, leaving_job, recovers, recovery_of, renewed_by, renewing, renewing_after, session_numbered, sessions, shows_other}
+use Rattle.sl_trace.specs.declared.session.Begun.{Begun}
+use Rattle.sl_trace.specs.declared.session.Renewing.{Renewing}
+use Rattle.sl_trace.specs.declared.session.Session.{Session}
 use Rattle.sl_due_law.specs.Facts.Concluding.{Concludes}
 use Rattle.sl_due_law.specs.Facts.Heard.{heard_by}
 use Rattle.sl_time.specs.Times.{fail}

@@ -5,13 +5,13 @@ use Rattle.sl_due.specs.DueFirst.{send, signal_and_refuse, signal_holders}
 use Rattle.sl_due.specs.Steps.{Step, add_reply, add_signal, add_start, for_each, seen}
 use Rattle.sl_due_law.proofs.Jobs.EffectsAreAllowed.{stopped}
 use Rattle.sl_due_law.proofs.Jobs.JobFactsGrow.{contains_left, contains_right}
-use Rattle.sl_law.specs.LawfulRecovery.{IsToldToStop, StopsSession}
-use Rattle.sl_leases.specs.Counts.{child_count, stopper_of}
-use Rattle.sl_leases.specs.Jobs.{jobs_of_session}
+use Rattle.sl_run.specs.LawfulRecovery.{IsToldToStop, StopsSession}
+use Rattle.sl_trace.specs.Counts.{child_count, stopper_of}
+use Rattle.sl_trace.specs.Jobs.{jobs_of_session}
 use Rattle.sl_plain.proofs.Lists.{contains_cases, contains_first, contains_none, kept}
 use Rattle.sl_plain.proofs.Options.{then_value}
-use Rattle.sl_sessions.specs.Sessions.{holders_of, last_renewal}
-use Rattle.sl_sessions.specs.declared.session.Session.{Session}
+use Rattle.sl_trace.specs.Sessions.{holders_of, last_renewal}
+use Rattle.sl_trace.specs.declared.session.Session.{Session}
 use Rattle.sl_trace.specs.EffectTexts.{is_ok_reply}
 use Rattle.sl_trace.specs.Limits.{most_children}
 use Rattle.sl_trace.specs.Traces.{Job, Setting, Trace, kill_program_of, next_child}

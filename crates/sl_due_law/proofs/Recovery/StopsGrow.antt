@@ -4,9 +4,9 @@ use Rattle.sl_due.specs.Steps.{Step, add_call_of, add_end, add_grant, add_move, 
 use Rattle.sl_due_law.proofs.Jobs.JobFactsGrow.{contains_left}
 use Rattle.sl_due_law.proofs.Jobs.NearlyPlainActs.{Nearly}
 use Rattle.sl_due_law.proofs.Jobs.SessionsStand.{reply_leaving}
-use Rattle.sl_law.specs.LawfulRecovery.{IsToldToStop, StopsSession}
+use Rattle.sl_run.specs.LawfulRecovery.{IsToldToStop, StopsSession}
 use Rattle.sl_due_law.specs.Recovery.Stops.{Stops}
-use Rattle.sl_sessions.specs.declared.session.Session.{Session}
+use Rattle.sl_trace.specs.declared.session.Session.{Session}
 use Rattle.sl_trace.specs.EffectTexts.{is_ok_reply}
 use Rattle.sl_trace.specs.Traces.{Setting, Trace}
 use Rattle.sl_trace.specs.declared.effects.Entry.{Entry}

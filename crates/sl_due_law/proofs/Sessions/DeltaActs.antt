@@ -23,11 +23,11 @@ use Rattle.sl_due_law.proofs.Sessions.HoldingsOfSessions.{HeldBy}
 use Rattle.sl_due_law.proofs.Sessions.JoinedNumbers.{HasNumbers, JoinsNot}
 use Rattle.sl_due_law.proofs.Sessions.NamesAtEnd.{running_unjoined}
 use Rattle.sl_due_law.specs.Sessions.Promises.{HasDeltaFacts}
-use Rattle.sl_sessions.specs.Deltas.{own_offset}
-use Rattle.sl_sessions.specs.Sessions.{calls_of, free_write, generation_in, holdings_of, is_call_of, is_free_purpose, is_join_call, is_join_done, is_joined, joined_after, leaving_job, removed_after, seq_in, session_numbered, sessions}
-use Rattle.sl_sessions.specs.declared.delta.DeltaNext.{DeltaNext}
-use Rattle.sl_sessions.specs.declared.delta.DeltaNext.TheVariants.{Disconnect, EndLeaving, Join, MoveConnection, Nothing, ReadOwn, RefuseJoin, RegisterAndRead, WriteClaim, WriteFirst, WriteFree, WriteRenewal}
-use Rattle.sl_sessions.specs.declared.session.Session.{Session}
+use Rattle.sl_trace.specs.Deltas.{own_offset}
+use Rattle.sl_trace.specs.Sessions.{calls_of, free_write, generation_in, holdings_of, is_call_of, is_free_purpose, is_join_call, is_join_done, is_joined, joined_after, leaving_job, removed_after, seq_in, session_numbered, sessions}
+use Rattle.sl_trace.specs.declared.delta.DeltaNext.{DeltaNext}
+use Rattle.sl_trace.specs.declared.delta.DeltaNext.TheVariants.{Disconnect, EndLeaving, Join, MoveConnection, Nothing, ReadOwn, RefuseJoin, RegisterAndRead, WriteClaim, WriteFirst, WriteFree, WriteRenewal}
+use Rattle.sl_trace.specs.declared.session.Session.{Session}
 use Rattle.sl_due_law.specs.Facts.SessionFacts.{DeltaFacts}
 use Rattle.sl_due_law.specs.Facts.Whole.{Whole}
 use Rattle.sl_time.specs.Times.{fail}

@@ -13,9 +13,9 @@ use Rattle.sl_due_law.proofs.Jobs.JobsAreAllowed.{calls_heard}
 use Rattle.sl_due_law.proofs.Jobs.NearlyPlainActs.{AnyMove, AnyStart}
 use Rattle.sl_due_law.proofs.Jobs.QuietLines.{active_parts}
 use Rattle.sl_due_law.proofs.Jobs.RepliesComeAfter.{on_bool, request_late}
-use Rattle.sl_leases.specs.Leases.{holdings_on}
-use Rattle.sl_leases.specs.declared.lease.LeaseNext.{LeaseNext}
-use Rattle.sl_leases.specs.declared.lease.LeaseNext.TheVariants.{AnswerJob, BecomeExclusive, BecomeShared, GrantJob, Nothing as No_lease, ReadFor, WriteBlock, WriteLeader}
+use Rattle.sl_trace.specs.Leases.{holdings_on}
+use Rattle.sl_trace.specs.declared.lease.LeaseNext.{LeaseNext}
+use Rattle.sl_trace.specs.declared.lease.LeaseNext.TheVariants.{AnswerJob, BecomeExclusive, BecomeShared, GrantJob, Nothing as No_lease, ReadFor, WriteBlock, WriteLeader}
 use Rattle.sl_plain.proofs.Lists.{any_found, contains_map, contains_none, find_inside, got_inside, in_map, kept_inside}
 use Rattle.sl_plain.proofs.Options.{none_is, not_some, some_of}
 use Rattle.sl_sector.specs.declared.sector.DeltaRec.{DeltaRec}
@@ -23,12 +23,12 @@ use Rattle.sl_sector.specs.declared.sector.DeltaState.TheVariants.{Live}
 use Rattle.sl_sector.specs.declared.sector.Rec.TheVariants.{BlockIs, LeaderIs, RequestIs}
 use Rattle.sl_due_law.proofs.Sessions.DeltaGrow.{DeltaCall, DeltaPart, DeltaReply, FreedBefore, GoodDelta}
 use Rattle.sl_due_law.proofs.Sessions.NamesAreAllowed.{caller_joined, heard_mine}
-use Rattle.sl_sessions.specs.Deltas.{DeltaLease, delta_known, delta_of_session, delta_record, has_seq_left, is_renewal_due, next_after_free, next_after_renewal, next_renewal}
-use Rattle.sl_sessions.specs.Sessions.{calls_of, delta_of_record, free_write, generation_of, holdings_of, is_active, is_call_of, is_free_purpose, is_join_call, is_join_done, is_joined, joined_after, last_seq, leaves, leaving_in, leaving_job, sessions}
-use Rattle.sl_sessions.specs.declared.delta.DeltaKnown.{DeltaKnown}
-use Rattle.sl_sessions.specs.declared.delta.DeltaNext.{DeltaNext}
-use Rattle.sl_sessions.specs.declared.delta.DeltaNext.TheVariants.{MoveConnection, Nothing, WriteRenewal}
-use Rattle.sl_sessions.specs.declared.session.Session.{Session}
+use Rattle.sl_trace.specs.Deltas.{DeltaLease, delta_known, delta_of_session, delta_record, has_seq_left, is_renewal_due, next_after_free, next_after_renewal, next_renewal}
+use Rattle.sl_trace.specs.Sessions.{calls_of, delta_of_record, free_write, generation_of, holdings_of, is_active, is_call_of, is_free_purpose, is_join_call, is_join_done, is_joined, joined_after, last_seq, leaves, leaving_in, leaving_job, sessions}
+use Rattle.sl_trace.specs.declared.delta.DeltaKnown.{DeltaKnown}
+use Rattle.sl_trace.specs.declared.delta.DeltaNext.{DeltaNext}
+use Rattle.sl_trace.specs.declared.delta.DeltaNext.TheVariants.{MoveConnection, Nothing, WriteRenewal}
+use Rattle.sl_trace.specs.declared.session.Session.{Session}
 use Rattle.sl_due_law.specs.Facts.SessionFacts.{DeltaFacts}
 use Rattle.sl_due_law.specs.Facts.Whole.{Whole}
 use Rattle.sl_time.specs.Times.{renew}

@@ -24,11 +24,11 @@ use Rattle.sl_due_law.proofs.Sessions.HoldingsOfSessions.{HeldBy, held_itself}
 use Rattle.sl_due_law.proofs.Sessions.JoinedNumbers.{HasNumbers}
 use Rattle.sl_due_law.proofs.Sessions.NamesGrow.{calls_of_told}
 use Rattle.sl_due_law.specs.Sessions.Promises.{HasDeltaFacts}
-use Rattle.sl_sessions.specs.Deltas.{delta_known, delta_of_session, delta_record, next_free, own_offset}
-use Rattle.sl_sessions.specs.Sessions.{calls_of, free_write, generation_in, generation_of, holdings_of, is_call_of, is_joined, last_seq, leaving_job, open_calls_of, seq_in, session_numbered, sessions}
-use Rattle.sl_sessions.specs.declared.delta.DeltaNext.{DeltaNext}
-use Rattle.sl_sessions.specs.declared.delta.DeltaNext.TheVariants.{Nothing, WriteFree}
-use Rattle.sl_sessions.specs.declared.session.Session.{Session}
+use Rattle.sl_trace.specs.Deltas.{delta_known, delta_of_session, delta_record, next_free, own_offset}
+use Rattle.sl_trace.specs.Sessions.{calls_of, free_write, generation_in, generation_of, holdings_of, is_call_of, is_joined, last_seq, leaving_job, open_calls_of, seq_in, session_numbered, sessions}
+use Rattle.sl_trace.specs.declared.delta.DeltaNext.{DeltaNext}
+use Rattle.sl_trace.specs.declared.delta.DeltaNext.TheVariants.{Nothing, WriteFree}
+use Rattle.sl_trace.specs.declared.session.Session.{Session}
 use Rattle.sl_due_law.specs.Facts.SessionFacts.{DeltaFacts}
 use Rattle.sl_due_law.specs.Facts.Whole.{Whole}
 use Rattle.sl_trace.specs.Traces.{Answered, Job, Submitted, line_in, new_call, next_call, submitted, unanswered}

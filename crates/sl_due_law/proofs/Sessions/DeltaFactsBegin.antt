@@ -18,8 +18,8 @@ use Rattle.sl_due_law.proofs.Sessions.DeltaIsAllowed.{delta_at}
 use Rattle.sl_due_law.proofs.Sessions.HoldingsOfSessions.{HeldBy, held_itself, held_stop}
 use Rattle.sl_due_law.proofs.Sessions.NameFactsAreKept.{joined_on_wake, removed_on_wake}
 use Rattle.sl_due_law.specs.Sessions.Promises.{DeltaFactsBegin}
-use Rattle.sl_sessions.specs.Sessions.{holdings_of, is_joined, last_renewal, present_sessions, recovery_of, sessions}
-use Rattle.sl_sessions.specs.declared.session.Session.{Session}
+use Rattle.sl_trace.specs.Sessions.{holdings_of, is_joined, last_renewal, present_sessions, recovery_of, sessions}
+use Rattle.sl_trace.specs.declared.session.Session.{Session}
 use Rattle.sl_due_law.specs.Facts.SessionFacts.{DeltaFacts}
 use Rattle.sl_trace.specs.Traces.{Setting, Trace, holdings, is_ended_by}
 use Rattle.sl_trace.specs.declared.effects.Grant.{Grant}

@@ -31,11 +31,11 @@ use Rattle.sl_due_law.proofs.Jobs.QuietFactsAreKept.{IsLeft, left_or_not}
 use Rattle.sl_due_law.proofs.Jobs.RepliesComeAfter.{IsLateLease, joining_late, lease_late, set_late, settle_late, value_late, wake_late}
 use Rattle.sl_due_law.proofs.Jobs.SessionsArePresent.{joined_present, present_inside}
 use Rattle.sl_due_law.proofs.Jobs.SessionsStand.{joined_then, no_members}
-use Rattle.sl_leases.specs.Counts.{stopper_of}
-use Rattle.sl_leases.specs.Jobs.{is_job_of_process, job_of_start}
-use Rattle.sl_leases.specs.LeaseWork.{lease_place, settle_next}
-use Rattle.sl_leases.specs.Leases.{holdings_on, known, lver_written, spot_of_call}
-use Rattle.sl_leases.specs.declared.lease.LeaseNext.{LeaseNext}
+use Rattle.sl_trace.specs.Counts.{stopper_of}
+use Rattle.sl_trace.specs.Jobs.{is_job_of_process, job_of_start}
+use Rattle.sl_trace.specs.LeaseWork.{lease_place, settle_next}
+use Rattle.sl_trace.specs.Leases.{holdings_on, known, lver_written, spot_of_call}
+use Rattle.sl_trace.specs.declared.lease.LeaseNext.{LeaseNext}
 use Rattle.sl_due_law.proofs.Parts.CallsGrow.{mine_more, others_stay}
 use Rattle.sl_plain.proofs.Lists.{find_inside, got_inside, kept_inside}
 use Rattle.sl_plain.proofs.Numbers.{number_itself}
@@ -50,10 +50,10 @@ use Rattle.sl_due_law.proofs.Sessions.HoldingsOfSessions.{HeldBy, held_delta, he
 use Rattle.sl_due_law.proofs.Sessions.JoinedNumbers.{HasNumbers, JoinsNot, joined_numbers, joins_or_not, wake_not}
 use Rattle.sl_due_law.proofs.Sessions.NamesAtEnd.{running_unjoined}
 use Rattle.sl_due_law.specs.Sessions.Promises.{DeltaFactsAreKept, HasDeltaFacts}
-use Rattle.sl_sessions.specs.Deltas.{delta_known, delta_of_session, next_after_free, next_after_renewal, next_in_joining, next_on_wake, next_renewal}
-use Rattle.sl_sessions.specs.Sessions.{calls_of, free_write, generation_in, generation_of, holders_of, holdings_of, is_active, is_call_of, is_free_purpose, is_joined, is_session_arg, joined_after, joining_session, last_renewal, last_seq, leaving_job, present_sessions, recovery_of, seq_in, session_numbered, sessions}
-use Rattle.sl_sessions.specs.declared.delta.DeltaNext.{DeltaNext}
-use Rattle.sl_sessions.specs.declared.session.Session.{Session}
+use Rattle.sl_trace.specs.Deltas.{delta_known, delta_of_session, next_after_free, next_after_renewal, next_in_joining, next_on_wake, next_renewal}
+use Rattle.sl_trace.specs.Sessions.{calls_of, free_write, generation_in, generation_of, holders_of, holdings_of, is_active, is_call_of, is_free_purpose, is_joined, is_session_arg, joined_after, joining_session, last_renewal, last_seq, leaving_job, present_sessions, recovery_of, seq_in, session_numbered, sessions}
+use Rattle.sl_trace.specs.declared.delta.DeltaNext.{DeltaNext}
+use Rattle.sl_trace.specs.declared.session.Session.{Session}
 use Rattle.sl_due_law.specs.Facts.SessionFacts.{DeltaFacts}
 use Rattle.sl_due_law.specs.Facts.Whole.{Whole}
 use Rattle.sl_trace.specs.Connections.{is_registered}

@@ -9,8 +9,8 @@ use Rattle.sl_due_law.proofs.Parts.EffectsAreTold.{effects_are_told}
 use Rattle.sl_plain.proofs.Options.{some_of}
 use Rattle.sl_sector.specs.declared.sector.DeltaRec.{DeltaRec}
 use Rattle.sl_due_law.proofs.Sessions.NameEffects.{joined_of, reply_kept_to}
-use Rattle.sl_sessions.specs.Sessions.{calls_of, delta_of_record, free_write, generation_in, generation_of, given_number, is_free_purpose, is_join_call, is_join_done, is_joined, joined_after, last_delta, last_seq, leaving_in, leaving_job, seq_in, session_numbered, sessions}
-use Rattle.sl_sessions.specs.declared.session.Session.{Session}
+use Rattle.sl_trace.specs.Sessions.{calls_of, delta_of_record, free_write, generation_in, generation_of, given_number, is_free_purpose, is_join_call, is_join_done, is_joined, joined_after, last_delta, last_seq, leaving_in, leaving_job, seq_in, session_numbered, sessions}
+use Rattle.sl_trace.specs.declared.session.Session.{Session}
 use Rattle.sl_trace.specs.Traces.{Answered, Job, Replied, Setting, Submitted, Trace, new_call, next_call, record_of, reply_to, submitted, unanswered}
 use Rattle.sl_trace.specs.declared.effects.Call.{Call}
 use Rattle.sl_trace.specs.declared.effects.Entry.{Entry}

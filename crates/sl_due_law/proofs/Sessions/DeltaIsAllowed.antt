@@ -12,8 +12,8 @@ use Rattle.sl_sector.specs.declared.sector.DeltaRec.{DeltaRec}
 use Rattle.sl_due_law.proofs.Sessions.DeltaGrow.{DeltaCall, DeltaPart, DeltaReply, DeltaSince, FreedBefore, GoodDelta, JoinsNone, call_delta, leaving_goes_on, reply_joins_none}
 use Rattle.sl_due_law.proofs.Sessions.NameEffects.{reply_joins_more}
 use Rattle.sl_due_law.proofs.Sessions.NamesGrow.{calls_of_told}
-use Rattle.sl_sessions.specs.Sessions.{calls_of, delta_of_record, delta_written, free_write, generation_in, given_number, is_call_of, is_free_purpose, is_join_done, is_joined, joined_after, last_delta, last_seq, leaving_job, removed_after, seq_in, sessions}
-use Rattle.sl_sessions.specs.declared.session.Session.{Session}
+use Rattle.sl_trace.specs.Sessions.{calls_of, delta_of_record, delta_written, free_write, generation_in, given_number, is_call_of, is_free_purpose, is_join_done, is_joined, joined_after, last_delta, last_seq, leaving_job, removed_after, seq_in, sessions}
+use Rattle.sl_trace.specs.declared.session.Session.{Session}
 use Rattle.sl_trace.specs.Traces.{Answered, Job, Submitted, Trace, answer_of, answered_in, is_before_input, job_of, mark, record_of, submitted, unanswered}
 use Rattle.sl_trace.specs.declared.effects.Call.{Call}
 use Rattle.sl_trace.specs.declared.effects.Entry.{Entry}

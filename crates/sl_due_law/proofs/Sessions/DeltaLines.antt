@@ -20,11 +20,11 @@ use Rattle.sl_due_law.proofs.Jobs.QuietLines.{answered_leaving, new_leaving}
 use Rattle.sl_due_law.proofs.Jobs.RepliesComeAfter.{IsLateLease, release_late}
 use Rattle.sl_due_law.proofs.Jobs.SessionsHaveJobs.{number_taken}
 use Rattle.sl_due_law.proofs.Jobs.SessionsStand.{joined_then}
-use Rattle.sl_leases.specs.Ballots.{moded_block}
-use Rattle.sl_leases.specs.LeaseWork.{convert_next, lease_place, release_next}
-use Rattle.sl_leases.specs.Leases.{LeaseKnown, holdings_on, known, spot_of}
-use Rattle.sl_leases.specs.declared.lease.LeaseNext.{LeaseNext}
-use Rattle.sl_leases.specs.declared.lease.LeaseNext.TheVariants.{AnswerJob, Nothing as No_lease, WriteBlock}
+use Rattle.sl_trace.specs.Ballots.{moded_block}
+use Rattle.sl_trace.specs.LeaseWork.{convert_next, lease_place, release_next}
+use Rattle.sl_trace.specs.Leases.{LeaseKnown, holdings_on, known, spot_of}
+use Rattle.sl_trace.specs.declared.lease.LeaseNext.{LeaseNext}
+use Rattle.sl_trace.specs.declared.lease.LeaseNext.TheVariants.{AnswerJob, Nothing as No_lease, WriteBlock}
 use Rattle.sl_plain.proofs.Lists.{got_inside}
 use Rattle.sl_sector.specs.declared.sector.Block.{Block}
 use Rattle.sl_sector.specs.declared.sector.Rec.TheVariants.{ValueIs}
@@ -33,8 +33,8 @@ use Rattle.sl_due_law.proofs.Sessions.DeltaFactsAreKept.{part, woken_line}
 use Rattle.sl_due_law.proofs.Sessions.DeltaGrow.{DeltaCall, DeltaPart, DeltaReply, DeltaSince, FreedBefore, leaving_goes_on, reply_joins_none}
 use Rattle.sl_due_law.proofs.Sessions.DeltaIsAllowed.{input_delta}
 use Rattle.sl_due_law.proofs.Sessions.HoldingsOfSessions.{HeldBy, end_held, held_grant, held_itself, held_lease, held_stop}
-use Rattle.sl_sessions.specs.Sessions.{calls_of, free_write, generation_in, is_active, is_call_of, is_joined, is_session_arg, joined_after, last_renewal, last_seq, leaving_job, removed_after, seq_in, sessions}
-use Rattle.sl_sessions.specs.declared.session.Session.{Session}
+use Rattle.sl_trace.specs.Sessions.{calls_of, free_write, generation_in, is_active, is_call_of, is_joined, is_session_arg, joined_after, last_renewal, last_seq, leaving_job, removed_after, seq_in, sessions}
+use Rattle.sl_trace.specs.declared.session.Session.{Session}
 use Rattle.sl_due_law.specs.Facts.SessionFacts.{DeltaFacts}
 use Rattle.sl_due_law.specs.Facts.Whole.{Whole}
 use Rattle.sl_trace.specs.Traces.{Job, end_of, next_job, spot_of_grant, submitted}

@@ -9,17 +9,17 @@ use Rattle.sl_due.specs.DueLease.{carry_lease, convert_for, convert_holding, for
 use Rattle.sl_due.specs.Steps.{Step, add_end, add_grant, add_move, add_reply, add_signal, add_start, seen, with_some}
 use Rattle.sl_due_law.proofs.Jobs.JobFactsGrow.{contains_left, contains_right}
 use Rattle.sl_due_law.proofs.Jobs.SessionsHaveJobs.{contains_either}
-use Rattle.sl_leases.specs.Counts.{stopper_of}
-use Rattle.sl_leases.specs.Jobs.{command_numbered, jobs_of_session, process_named}
-use Rattle.sl_leases.specs.Leases.{holdings_on}
-use Rattle.sl_leases.specs.declared.lease.LeaseNext.{LeaseNext}
-use Rattle.sl_leases.specs.declared.lease.LeaseNext.TheVariants.{AnswerJob, BecomeExclusive, BecomeShared, GrantJob, Nothing as No_lease, ReadFor, WriteBlock, WriteLeader}
+use Rattle.sl_trace.specs.Counts.{stopper_of}
+use Rattle.sl_trace.specs.Jobs.{command_numbered, jobs_of_session, process_named}
+use Rattle.sl_trace.specs.Leases.{holdings_on}
+use Rattle.sl_trace.specs.declared.lease.LeaseNext.{LeaseNext}
+use Rattle.sl_trace.specs.declared.lease.LeaseNext.TheVariants.{AnswerJob, BecomeExclusive, BecomeShared, GrantJob, Nothing as No_lease, ReadFor, WriteBlock, WriteLeader}
 use Rattle.sl_due_law.proofs.Parts.EffectsAreTold.{effects_are_told}
 use Rattle.sl_plain.proofs.Lists.{find_inside, in_map, kept_inside}
-use Rattle.sl_sessions.specs.Sessions.{has_open_write, holders_of, holdings_of, last_renewal, refused_after, session_of_job}
-use Rattle.sl_sessions.specs.declared.delta.DeltaNext.{DeltaNext}
-use Rattle.sl_sessions.specs.declared.delta.DeltaNext.TheVariants.{Disconnect, EndLeaving, Join, MoveConnection, Nothing, ReadOwn, RefuseJoin, RegisterAndRead, WriteClaim, WriteFirst, WriteFree, WriteRenewal}
-use Rattle.sl_sessions.specs.declared.session.Session.{Session}
+use Rattle.sl_trace.specs.Sessions.{has_open_write, holders_of, holdings_of, last_renewal, refused_after, session_of_job}
+use Rattle.sl_trace.specs.declared.delta.DeltaNext.{DeltaNext}
+use Rattle.sl_trace.specs.declared.delta.DeltaNext.TheVariants.{Disconnect, EndLeaving, Join, MoveConnection, Nothing, ReadOwn, RefuseJoin, RegisterAndRead, WriteClaim, WriteFirst, WriteFree, WriteRenewal}
+use Rattle.sl_trace.specs.declared.session.Session.{Session}
 use Rattle.sl_trace.specs.Connections.{is_registered}
 use Rattle.sl_trace.specs.Traces.{Job, end_of, holdings, is_ended_by, is_running, is_shared, leaves_orphan, next_child, orphan_of, orphans_left, same_place, work_job}
 use Rattle.sl_trace.specs.declared.command.Command.{Command}

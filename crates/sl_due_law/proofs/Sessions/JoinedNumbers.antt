@@ -2,9 +2,9 @@
 use Rattle.sl_area.specs.Layouts.{record_in, sector_with}
 use Rattle.sl_due.specs.Steps.{Step, seen}
 use Rattle.sl_due_law.proofs.Jobs.RepliesComeAfter.{on_bool, on_option}
-use Rattle.sl_law.specs.Lawful.{Orderly}
-use Rattle.sl_law.specs.LawfulCalls.{LawfulCalls}
-use Rattle.sl_law.specs.LawfulDelta.{LawfulFirstRenewal}
+use Rattle.sl_run.specs.Lawful.{Orderly}
+use Rattle.sl_run.specs.LawfulCalls.{LawfulCalls}
+use Rattle.sl_run.specs.LawfulDelta.{LawfulFirstRenewal}
 use Rattle.sl_plain.proofs.Lists.{contains_cases, contains_none, got_inside, kept}
 use Rattle.sl_plain.proofs.Numbers.{number_itself}
 use Rattle.sl_plain.proofs.Options.{then_value}
@@ -17,12 +17,12 @@ use Rattle.sl_sector.specs.declared.sector.Rec.{Rec}
 use Rattle.sl_sector.specs.declared.sector.Rec.TheVariants.{BlockIs, DeltaIs, LeaderIs, RequestIs, ValueIs}
 use Rattle.sl_due_law.proofs.Sessions.DeltaConditions.{nat_low}
 use Rattle.sl_due_law.proofs.Sessions.JoiningsGoOn.{AtWork, law_of}
-use Rattle.sl_sessions.specs.Deltas.{DeltaLease, claim_of, claim_on, delta_of_session, delta_record, id_held, id_lost, is_watched_out, join_step_of, next_after_deciding, next_after_first, next_after_join_read, next_after_verify, next_after_watch, next_by_time, next_in_joining, next_on_wake, watched}
-use Rattle.sl_sessions.specs.Sessions.{calls_of, delta_of_record, generation_of, given_number, is_call_of, is_join_call, last_delta, last_seq}
-use Rattle.sl_sessions.specs.Watching.{is_free_state}
-use Rattle.sl_sessions.specs.declared.delta.DeltaNext.{DeltaNext}
-use Rattle.sl_sessions.specs.declared.delta.DeltaNext.TheVariants.{Join, Nothing, ReadOwn, RefuseJoin, RegisterAndRead, WriteClaim, WriteFirst}
-use Rattle.sl_sessions.specs.declared.session.Session.{Session}
+use Rattle.sl_trace.specs.Deltas.{DeltaLease, claim_of, claim_on, delta_of_session, delta_record, id_held, id_lost, is_watched_out, join_step_of, next_after_deciding, next_after_first, next_after_join_read, next_after_verify, next_after_watch, next_by_time, next_in_joining, next_on_wake, watched}
+use Rattle.sl_trace.specs.Sessions.{calls_of, delta_of_record, generation_of, given_number, is_call_of, is_join_call, last_delta, last_seq}
+use Rattle.sl_trace.specs.Watching.{is_free_state}
+use Rattle.sl_trace.specs.declared.delta.DeltaNext.{DeltaNext}
+use Rattle.sl_trace.specs.declared.delta.DeltaNext.TheVariants.{Join, Nothing, ReadOwn, RefuseJoin, RegisterAndRead, WriteClaim, WriteFirst}
+use Rattle.sl_trace.specs.declared.session.Session.{Session}
 use Rattle.sl_time.specs.Times.{dead, join_max, renew}
 use Rattle.sl_trace.proofs.TraceFacts.{each_entry-front}
 use Rattle.sl_trace.specs.Traces.{EachEntry, Setting, Submitted, Trace, record_of, submitted}

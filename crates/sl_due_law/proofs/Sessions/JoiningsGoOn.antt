@@ -11,7 +11,7 @@ use Rattle.sl_due_law.proofs.Jobs.AnsweredCallsFit.{record_writes}
 use Rattle.sl_due_law.proofs.Jobs.RepliesComeAfter.{on_bool}
 use Rattle.sl_due_law.proofs.Jobs.SessionsHaveJobs.{contains_only}
 use Rattle.sl_due_law.proofs.Jobs.SessionsStand.{reply_stops}
-use Rattle.sl_law.specs.LawfulDelta.{LawfulClaim, LawfulDeciding, LawfulDeltaCall, LawfulFirstRenewal, LawfulJoinStep, LawfulVerify}
+use Rattle.sl_run.specs.LawfulDelta.{LawfulClaim, LawfulDeciding, LawfulDeltaCall, LawfulFirstRenewal, LawfulJoinStep, LawfulVerify}
 use Rattle.sl_due_law.proofs.Parts.CallsGrow.{mine_more}
 use Rattle.sl_plain.proofs.Lists.{contains_cases, contains_none, find_fails, find_inside, head_is, kept, kept_inside}
 use Rattle.sl_plain.proofs.Numbers.{number_itself}
@@ -21,11 +21,11 @@ use Rattle.sl_sector.specs.Spelling.{delta_in}
 use Rattle.sl_sector.specs.declared.sector.DeltaRec.{DeltaRec}
 use Rattle.sl_sector.specs.declared.sector.DeltaState.TheVariants.{Claimed, Live}
 use Rattle.sl_sector.specs.declared.sector.Rec.TheVariants.{DeltaIs}
-use Rattle.sl_sessions.specs.Deltas.{DeltaLease, claim_of, claim_on, delta_of_session, delta_record, id_held, id_lost, next_after_deciding, next_after_verify, next_in_joining, own_offset, watched}
-use Rattle.sl_sessions.specs.Sessions.{calls_of, delta_of_record, delta_written, has_open_write, is_call_of, is_join_call, join_call, joined_after, refused_after, session_of_job, stage_after}
-use Rattle.sl_sessions.specs.declared.delta.DeltaNext.{DeltaNext}
-use Rattle.sl_sessions.specs.declared.delta.DeltaNext.TheVariants.{Join, Nothing, RefuseJoin, WriteClaim, WriteFirst}
-use Rattle.sl_sessions.specs.declared.session.Session.{Session}
+use Rattle.sl_trace.specs.Deltas.{DeltaLease, claim_of, claim_on, delta_of_session, delta_record, id_held, id_lost, next_after_deciding, next_after_verify, next_in_joining, own_offset, watched}
+use Rattle.sl_trace.specs.Sessions.{calls_of, delta_of_record, delta_written, has_open_write, is_call_of, is_join_call, join_call, joined_after, refused_after, session_of_job, stage_after}
+use Rattle.sl_trace.specs.declared.delta.DeltaNext.{DeltaNext}
+use Rattle.sl_trace.specs.declared.delta.DeltaNext.TheVariants.{Join, Nothing, RefuseJoin, WriteClaim, WriteFirst}
+use Rattle.sl_trace.specs.declared.session.Session.{Session}
 use Rattle.sl_trace.specs.Connections.{is_registered}
 use Rattle.sl_trace.specs.Traces.{Answered, Submitted, bytes_given, gave, is_answer_for, is_ok_answer, is_running, is_write, new_call, next_call, record_of, submitted}
 use Rattle.sl_trace.specs.declared.effects.Call.{Call}

@@ -27,11 +27,11 @@ use Rattle.sl_due_law.proofs.Sessions.NameEffects.{joined_of, present_by, refuse
 use Rattle.sl_due_law.proofs.Sessions.NamesAreAllowed.{Holds, NameCall, NameReply, begin_at, joined_unrefused, names_allow}
 use Rattle.sl_due_law.proofs.Sessions.NamesGrow.{call_names, input_names, input_present, move_names, reply_names}
 use Rattle.sl_due_law.specs.Sessions.Promises.{HasNameFacts}
-use Rattle.sl_sessions.specs.Deltas.{own_offset}
-use Rattle.sl_sessions.specs.Sessions.{calls_of, is_call_of, is_join_done, is_present, joined_after, joining_session, present_sessions, refused_after, removed_after, session_named, session_numbered, sessions}
-use Rattle.sl_sessions.specs.declared.delta.DeltaNext.{DeltaNext}
-use Rattle.sl_sessions.specs.declared.delta.DeltaNext.TheVariants.{Disconnect, EndLeaving, Join, MoveConnection, Nothing, ReadOwn, RefuseJoin, RegisterAndRead, WriteClaim, WriteFirst, WriteFree, WriteRenewal}
-use Rattle.sl_sessions.specs.declared.session.Session.{Session}
+use Rattle.sl_trace.specs.Deltas.{own_offset}
+use Rattle.sl_trace.specs.Sessions.{calls_of, is_call_of, is_join_done, is_present, joined_after, joining_session, present_sessions, refused_after, removed_after, session_named, session_numbered, sessions}
+use Rattle.sl_trace.specs.declared.delta.DeltaNext.{DeltaNext}
+use Rattle.sl_trace.specs.declared.delta.DeltaNext.TheVariants.{Disconnect, EndLeaving, Join, MoveConnection, Nothing, ReadOwn, RefuseJoin, RegisterAndRead, WriteClaim, WriteFirst, WriteFree, WriteRenewal}
+use Rattle.sl_trace.specs.declared.session.Session.{Session}
 use Rattle.sl_due_law.specs.Facts.Heard.{heard_by}
 use Rattle.sl_time.specs.Times.{fail}
 use Rattle.sl_trace.specs.Traces.{Answered, Replied, Submitted, Trace, is_ok_answer, is_running, is_write, new_call, next_call, next_job, reply_to, submitted, unanswered}

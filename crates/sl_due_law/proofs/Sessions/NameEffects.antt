@@ -5,8 +5,8 @@ use Rattle.sl_due_law.proofs.Jobs.SessionsStand.{move_joined}
 use Rattle.sl_due_law.proofs.Parts.CallsGrow.{others_stay}
 use Rattle.sl_plain.proofs.Options.{then_value}
 use Rattle.sl_plain.proofs.Truth.{or_false}
-use Rattle.sl_sessions.specs.Sessions.{calls_of, has_open_write, is_call_of, is_join_done, is_joined, is_present, joined_after, refused_after, removed_after}
-use Rattle.sl_sessions.specs.declared.session.Session.{Session}
+use Rattle.sl_trace.specs.Sessions.{calls_of, has_open_write, is_call_of, is_join_done, is_joined, is_present, joined_after, refused_after, removed_after}
+use Rattle.sl_trace.specs.declared.session.Session.{Session}
 use Rattle.sl_trace.specs.Traces.{Replied, Submitted, Trace, is_write, next_call, reply_in, reply_to, submitted, unanswered}
 use Rattle.sl_trace.specs.declared.effects.Call.{Call}
 use Rattle.sl_trace.specs.declared.effects.JobReply.{JobReply}

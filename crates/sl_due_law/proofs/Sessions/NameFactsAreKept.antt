@@ -27,20 +27,20 @@ use Rattle.sl_due_law.proofs.Jobs.NearlyPlainActs.{AnyMove, AnyStart}
 use Rattle.sl_due_law.proofs.Jobs.RepliesComeAfter.{IsLateLease, joining_late, lease_late, set_late, value_late, wake_late}
 use Rattle.sl_due_law.proofs.Jobs.SessionsArePresent.{present_inside, present_is}
 use Rattle.sl_due_law.proofs.Jobs.SessionsStand.{joined_then}
-use Rattle.sl_leases.specs.Jobs.{job_of_start}
-use Rattle.sl_leases.specs.LeaseWork.{lease_place, settle_next}
-use Rattle.sl_leases.specs.Leases.{holdings_on, known, lver_written, spot_of_call}
-use Rattle.sl_leases.specs.declared.lease.LeaseNext.{LeaseNext}
+use Rattle.sl_trace.specs.Jobs.{job_of_start}
+use Rattle.sl_trace.specs.LeaseWork.{lease_place, settle_next}
+use Rattle.sl_trace.specs.Leases.{holdings_on, known, lver_written, spot_of_call}
+use Rattle.sl_trace.specs.declared.lease.LeaseNext.{LeaseNext}
 use Rattle.sl_plain.proofs.Lists.{find_inside, kept_inside}
 use Rattle.sl_due_law.proofs.Sessions.NameActs.{begun_named, joining_named}
 use Rattle.sl_due_law.proofs.Sessions.NameEffects.{present_by}
 use Rattle.sl_due_law.proofs.Sessions.NamesAreAllowed.{Holds, NameCall, NameReply, active_joined, begin_at, decision_named, free_named, freed_named, heard_joined, joined_unrefused, lease_named, names_allow, renewal_named, renewed_named, request_named}
 use Rattle.sl_due_law.proofs.Sessions.NamesGrow.{call_names, input_names, reply_names}
 use Rattle.sl_due_law.specs.Sessions.Promises.{HasNameFacts, NameFactsAreKept, NameFactsBegin}
-use Rattle.sl_sessions.specs.Deltas.{delta_known, delta_of_session, next_after_free, next_after_renewal, next_free, next_in_joining, next_on_wake, next_renewal}
-use Rattle.sl_sessions.specs.Sessions.{calls_of, generation_of, has_open_write, holdings_of, is_join_done, is_joined, is_present, joined_after, last_renewal, present_sessions, recovery_of, refused_after, removed_after, session_numbered, sessions}
-use Rattle.sl_sessions.specs.declared.delta.DeltaNext.{DeltaNext}
-use Rattle.sl_sessions.specs.declared.session.Session.{Session}
+use Rattle.sl_trace.specs.Deltas.{delta_known, delta_of_session, next_after_free, next_after_renewal, next_free, next_in_joining, next_on_wake, next_renewal}
+use Rattle.sl_trace.specs.Sessions.{calls_of, generation_of, has_open_write, holdings_of, is_join_done, is_joined, is_present, joined_after, last_renewal, present_sessions, recovery_of, refused_after, removed_after, session_numbered, sessions}
+use Rattle.sl_trace.specs.declared.delta.DeltaNext.{DeltaNext}
+use Rattle.sl_trace.specs.declared.session.Session.{Session}
 use Rattle.sl_due_law.specs.Facts.Heard.{heard_by}
 use Rattle.sl_due_law.specs.Facts.SessionFacts.{NameFacts}
 use Rattle.sl_due_law.specs.Facts.Whole.{Whole}

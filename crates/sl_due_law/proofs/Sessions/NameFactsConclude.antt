@@ -20,9 +20,9 @@ use Rattle.sl_due_law.proofs.Jobs.NearlyPlainActs.{AnyMove, AnyStart}
 use Rattle.sl_due_law.proofs.Jobs.RepliesComeAfter.{IsLateDelta, IsLateLease, joining_late, lease_late, on_bool, on_option, set_late, value_late}
 use Rattle.sl_due_law.proofs.Jobs.SessionsArePresent.{session_has}
 use Rattle.sl_due_law.proofs.Jobs.SessionsStand.{joined_then}
-use Rattle.sl_leases.specs.LeaseWork.{lease_place}
-use Rattle.sl_leases.specs.Leases.{holdings_on, known, lver_written, spot_of_call}
-use Rattle.sl_leases.specs.declared.lease.LeaseNext.{LeaseNext}
+use Rattle.sl_trace.specs.LeaseWork.{lease_place}
+use Rattle.sl_trace.specs.Leases.{holdings_on, known, lver_written, spot_of_call}
+use Rattle.sl_trace.specs.declared.lease.LeaseNext.{LeaseNext}
 use Rattle.sl_plain.proofs.Lists.{any_found, contains_first, contains_map, find_inside, kept_inside}
 use Rattle.sl_plain.proofs.Options.{none_is, some_of}
 use Rattle.sl_sector.specs.Bitmaps.{no_bits}
@@ -37,12 +37,12 @@ use Rattle.sl_due_law.proofs.Sessions.NamesAreAllowed.{NameCall, NameReply, free
 use Rattle.sl_due_law.proofs.Sessions.NamesAtEnd.{Growing, Grown, HeardJoining, below_of, growing_itself, grown, grows, grows_joining, grows_named, heard_is, plain_names, plain_other, running_unjoined}
 use Rattle.sl_due_law.proofs.Sessions.NamesGrow.{call_names, move_names, reply_names}
 use Rattle.sl_due_law.specs.Sessions.Promises.{HasNameFacts, HasNamesPlainly, NameFactsConclude}
-use Rattle.sl_sessions.specs.Deltas.{delta_known, delta_of_session, delta_record, next_after_free, next_after_renewal, next_free, next_in_joining, own_offset}
-use Rattle.sl_sessions.specs.Sessions.{calls_of, generation_of, has_open_write, is_call_of, is_join_call, is_joined, is_present, joined_after, last_renewal, recovery_of, refused_after, removed_after, session_numbered}
-use Rattle.sl_sessions.specs.declared.delta.DeltaKnown.{DeltaKnown}
-use Rattle.sl_sessions.specs.declared.delta.DeltaNext.{DeltaNext}
-use Rattle.sl_sessions.specs.declared.delta.DeltaNext.TheVariants.{Nothing, WriteFree}
-use Rattle.sl_sessions.specs.declared.session.Session.{Session}
+use Rattle.sl_trace.specs.Deltas.{delta_known, delta_of_session, delta_record, next_after_free, next_after_renewal, next_free, next_in_joining, own_offset}
+use Rattle.sl_trace.specs.Sessions.{calls_of, generation_of, has_open_write, is_call_of, is_join_call, is_joined, is_present, joined_after, last_renewal, recovery_of, refused_after, removed_after, session_numbered}
+use Rattle.sl_trace.specs.declared.delta.DeltaKnown.{DeltaKnown}
+use Rattle.sl_trace.specs.declared.delta.DeltaNext.{DeltaNext}
+use Rattle.sl_trace.specs.declared.delta.DeltaNext.TheVariants.{Nothing, WriteFree}
+use Rattle.sl_trace.specs.declared.session.Session.{Session}
 use Rattle.sl_due_law.specs.Facts.Heard.{heard_by}
 use Rattle.sl_due_law.specs.Facts.Whole.{Whole}
 use Rattle.sl_trace.specs.Connections.{is_registered}

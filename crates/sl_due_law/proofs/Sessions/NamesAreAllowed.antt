@@ -13,11 +13,11 @@ use Rattle.sl_due_law.proofs.Jobs.LinesAreAllowed.{IsBegun, late_on_line}
 use Rattle.sl_due_law.proofs.Jobs.NearlyPlainActs.{AnyMove, AnyStart}
 use Rattle.sl_due_law.proofs.Jobs.RepliesComeAfter.{on_bool, on_option, request_late}
 use Rattle.sl_due_law.proofs.Jobs.SessionsStand.{joined_then}
-use Rattle.sl_law.specs.Lawful.{Orderly}
-use Rattle.sl_leases.specs.LeaseWork.{convert_next, lease_place, release_next}
-use Rattle.sl_leases.specs.Leases.{known, spot_of}
-use Rattle.sl_leases.specs.declared.lease.LeaseNext.{LeaseNext}
-use Rattle.sl_leases.specs.declared.lease.LeaseNext.TheVariants.{AnswerJob, BecomeExclusive, BecomeShared, GrantJob, Nothing as No_lease, ReadFor, WriteBlock, WriteLeader}
+use Rattle.sl_run.specs.Lawful.{Orderly}
+use Rattle.sl_trace.specs.LeaseWork.{convert_next, lease_place, release_next}
+use Rattle.sl_trace.specs.Leases.{known, spot_of}
+use Rattle.sl_trace.specs.declared.lease.LeaseNext.{LeaseNext}
+use Rattle.sl_trace.specs.declared.lease.LeaseNext.TheVariants.{AnswerJob, BecomeExclusive, BecomeShared, GrantJob, Nothing as No_lease, ReadFor, WriteBlock, WriteLeader}
 use Rattle.sl_plain.proofs.Lists.{contains_cases, contains_none, find_inside, kept}
 use Rattle.sl_plain.proofs.Numbers.{number_itself}
 use Rattle.sl_plain.proofs.Options.{some_there}
@@ -26,11 +26,11 @@ use Rattle.sl_sector.specs.declared.sector.DeltaState.TheVariants.{Free, Live}
 use Rattle.sl_due_law.proofs.Sessions.NameEffects.{reply_joins_more}
 use Rattle.sl_due_law.proofs.Sessions.NamesGrow.{call_names, move_names, reply_names}
 use Rattle.sl_due_law.specs.Sessions.Promises.{HasNameFacts}
-use Rattle.sl_sessions.specs.Deltas.{DeltaLease, delta_record, is_renewal_due, next_after_free, next_after_renewal, next_free, next_renewal}
-use Rattle.sl_sessions.specs.Sessions.{calls_of, is_active, is_call_of, is_join_call, is_joined, joined_after, last_renewal, leaving_job, recovery_of, refused_after, session_numbered}
-use Rattle.sl_sessions.specs.declared.delta.DeltaKnown.{DeltaKnown}
-use Rattle.sl_sessions.specs.declared.delta.DeltaNext.TheVariants.{Nothing, MoveConnection, WriteFree, WriteRenewal}
-use Rattle.sl_sessions.specs.declared.session.Session.{Session}
+use Rattle.sl_trace.specs.Deltas.{DeltaLease, delta_record, is_renewal_due, next_after_free, next_after_renewal, next_free, next_renewal}
+use Rattle.sl_trace.specs.Sessions.{calls_of, is_active, is_call_of, is_join_call, is_joined, joined_after, last_renewal, leaving_job, recovery_of, refused_after, session_numbered}
+use Rattle.sl_trace.specs.declared.delta.DeltaKnown.{DeltaKnown}
+use Rattle.sl_trace.specs.declared.delta.DeltaNext.TheVariants.{Nothing, MoveConnection, WriteFree, WriteRenewal}
+use Rattle.sl_trace.specs.declared.session.Session.{Session}
 use Rattle.sl_due_law.specs.Facts.Heard.{heard_by}
 use Rattle.sl_due_law.specs.Facts.Whole.{Whole}
 use Rattle.sl_trace.specs.Traces.{Setting, Submitted, Trace, end_of, is_before_input, is_write, job_of, next_job, spot_of_grant, submitted}

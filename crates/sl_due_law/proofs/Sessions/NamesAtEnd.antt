@@ -17,10 +17,10 @@ use Rattle.sl_plain.proofs.Options.{none_is}
 use Rattle.sl_due_law.proofs.Sessions.NameEffects.{joined_of}
 use Rattle.sl_due_law.proofs.Sessions.NamesAreAllowed.{NameCall, NameReply, caller_joined, is_joining}
 use Rattle.sl_due_law.specs.Sessions.Promises.{HasNameFacts, HasNamesPlainly}
-use Rattle.sl_sessions.specs.Sessions.{calls_of, is_call_of, is_join_call, is_join_done, joined_after, sessions}
-use Rattle.sl_sessions.specs.declared.delta.DeltaNext.{DeltaNext}
-use Rattle.sl_sessions.specs.declared.delta.DeltaNext.TheVariants.{Disconnect, EndLeaving, Join, MoveConnection, Nothing, ReadOwn, RefuseJoin, RegisterAndRead, WriteClaim, WriteFirst, WriteFree, WriteRenewal}
-use Rattle.sl_sessions.specs.declared.session.Session.{Session}
+use Rattle.sl_trace.specs.Sessions.{calls_of, is_call_of, is_join_call, is_join_done, joined_after, sessions}
+use Rattle.sl_trace.specs.declared.delta.DeltaNext.{DeltaNext}
+use Rattle.sl_trace.specs.declared.delta.DeltaNext.TheVariants.{Disconnect, EndLeaving, Join, MoveConnection, Nothing, ReadOwn, RefuseJoin, RegisterAndRead, WriteClaim, WriteFirst, WriteFree, WriteRenewal}
+use Rattle.sl_trace.specs.declared.session.Session.{Session}
 use Rattle.sl_due_law.specs.Facts.Heard.{heard_by}
 use Rattle.sl_due_law.specs.Facts.Whole.{Whole}
 use Rattle.sl_trace.proofs.TraceFacts.{submitted-push}

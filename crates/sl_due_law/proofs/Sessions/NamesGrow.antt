@@ -12,8 +12,8 @@ use Rattle.sl_plain.proofs.Lists.{any_found, any_of, contains_cases, contains_fi
 use Rattle.sl_plain.proofs.Options.{none_is}
 use Rattle.sl_due_law.proofs.Sessions.NameEffects.{call_present, move_present, present_by, reply_present}
 use Rattle.sl_due_law.specs.Sessions.Promises.{HasNameFacts}
-use Rattle.sl_sessions.specs.Sessions.{calls_of, has_open_write, is_call_of, is_join_call, is_present, joined_after, present_sessions, refused_after, removed_after, session_numbered, sessions}
-use Rattle.sl_sessions.specs.declared.session.Session.{Session}
+use Rattle.sl_trace.specs.Sessions.{calls_of, has_open_write, is_call_of, is_join_call, is_present, joined_after, present_sessions, refused_after, removed_after, session_numbered, sessions}
+use Rattle.sl_trace.specs.declared.session.Session.{Session}
 use Rattle.sl_due_law.specs.Facts.Heard.{heard_by}
 use Rattle.sl_due_law.specs.Facts.SessionFacts.{NameFacts}
 use Rattle.sl_trace.specs.Traces.{Answered, Submitted, Trace, answer_of, answered_in, is_ok_answer, is_running, is_write, mark, new_call, next_call, submitted, unanswered}

@@ -1,9 +1,9 @@
 -- Why an instance begins, in numbers.
 use Rattle.sl_due_law.specs.Ways.Instances.{Block_leads, One_is_done, Own_goes_on, WhyInstance}
-use Rattle.sl_leases.specs.Ballots.{counted_lver, instance_of, is_counted_free, owner_of, same_owner}
-use Rattle.sl_leases.specs.Leases.{LeaseKnown, instance_for, is_over_owner, top_lver}
-use Rattle.sl_leases.specs.declared.lease.Instance.TheVariants.{Begins, HeldAlready}
-use Rattle.sl_leases.specs.declared.lease.Instance.{Instance}
+use Rattle.sl_trace.specs.Ballots.{counted_lver, instance_of, is_counted_free, owner_of, same_owner}
+use Rattle.sl_trace.specs.Leases.{LeaseKnown, instance_for, is_over_owner, top_lver}
+use Rattle.sl_trace.specs.declared.lease.Instance.TheVariants.{Begins, HeldAlready}
+use Rattle.sl_trace.specs.declared.lease.Instance.{Instance}
 use Rattle.sl_sector.specs.declared.sector.Block.{Block}
 use Rattle.sl_sector.specs.declared.sector.Leader.{Leader}
 use Rattle.sl_sector.specs.declared.sector.Owner.{Owner}

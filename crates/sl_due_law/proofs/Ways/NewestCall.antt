@@ -1,7 +1,7 @@
 -- What the newest call adds to what is asked of a lease's calls.
 use Rattle.sl_area.specs.Layouts.{Layout}
 use Rattle.sl_plain.proofs.Lists.{contains_first, contains_more}
-use Rattle.sl_leases.specs.Leases.{block_of_record, block_submitted, block_written, ended_ballot, ended_ballots, freed, leader_of_record, leader_written, lver_written}
+use Rattle.sl_trace.specs.Leases.{block_of_record, block_submitted, block_written, ended_ballot, ended_ballots, freed, leader_of_record, leader_written, lver_written}
 use Rattle.sl_sector.specs.declared.sector.Block.{Block}
 use Rattle.sl_sector.specs.declared.sector.Leader.{Leader}
 use Rattle.sl_sector.specs.declared.sector.Owner.{Owner}

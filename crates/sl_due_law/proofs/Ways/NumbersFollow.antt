@@ -2,9 +2,9 @@
 use Rattle.sl_due_law.proofs.Ways.Lawful.BallotLaws.{own_is}
 use Rattle.sl_due_law.proofs.Ways.WayNumbers.{IsOpened, freed_below, is_opened, lver_of, own_lver}
 use Rattle.sl_due_law.specs.Ways.Promises.{NumbersFollow}
-use Rattle.sl_leases.specs.Leases.{block_submitted, freed, lease_calls, own_block}
+use Rattle.sl_trace.specs.Leases.{block_submitted, freed, lease_calls, own_block}
 use Rattle.sl_sector.specs.declared.sector.Block.{Block}
-use Rattle.sl_sessions.specs.declared.session.Session.{Session}
+use Rattle.sl_trace.specs.declared.session.Session.{Session}
 use Rattle.sl_due_law.specs.Facts.WayFacts.{Ways, way_context}
 use Rattle.sl_trace.specs.Traces.{Setting, Submitted, Trace}
 use Rattle.sl_trace.specs.declared.effects.Spot.{Spot}

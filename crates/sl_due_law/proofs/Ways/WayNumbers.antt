@@ -3,9 +3,9 @@
 use Rattle.sl_area.specs.Layouts.{Layout}
 use Rattle.sl_due_law.proofs.Ways.NewestCall.{block_is, block_is_no_leader, freed_held, freed_passed, leader_is, leader_is_no_block, read_writes_no_block, read_writes_no_leader, submitted_here, submitted_passed}
 use Rattle.sl_due_law.proofs.Ways.WayStages.{clear_freed, clear_own, is_at_in, proposed, proposed_lver}
-use Rattle.sl_leases.specs.Leases.{Phase1_read, Phase2_read, Phase2_write, block_submitted, block_written, blocks_given, concludes, ended_ballot, ended_ballots, freed, is_at, is_phase_read, leader_written, open_ballot, stop_in, value_in_end}
-use Rattle.sl_leases.specs.Ballots.{is_ahead, stop_of, value_of}
-use Rattle.sl_leases.specs.declared.lease.Stop.{Stop}
+use Rattle.sl_trace.specs.Leases.{Phase1_read, Phase2_read, Phase2_write, block_submitted, block_written, blocks_given, concludes, ended_ballot, ended_ballots, freed, is_at, is_phase_read, leader_written, open_ballot, stop_in, value_in_end}
+use Rattle.sl_trace.specs.Ballots.{is_ahead, stop_of, value_of}
+use Rattle.sl_trace.specs.declared.lease.Stop.{Stop}
 use Rattle.sl_sector.specs.declared.sector.Block.{Block}
 use Rattle.sl_sector.specs.declared.sector.Leader.{Leader}
 use Rattle.sl_sector.specs.declared.sector.Owner.{Owner}

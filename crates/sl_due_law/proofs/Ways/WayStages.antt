@@ -1,8 +1,8 @@
 -- What stands behind each step of a ballot, by the ways of the calls before it.
 use Rattle.sl_due_law.proofs.Ways.NewestCall.{block_is, block_is_no_leader, freed_passed, last_here, last_passed, last_write_of, read_writes_no_block, read_writes_no_leader, submitted_here, submitted_passed}
-use Rattle.sl_leases.specs.Ballots.{ballot_blocks, moded_block, phase2_block}
-use Rattle.sl_leases.specs.Leases.{block_submitted, freed, is_at, kind_of_step, lease_step, same_kind}
-use Rattle.sl_leases.specs.Leases.{StepKind}
+use Rattle.sl_trace.specs.Ballots.{ballot_blocks, moded_block, phase2_block}
+use Rattle.sl_trace.specs.Leases.{block_submitted, freed, is_at, kind_of_step, lease_step, same_kind}
+use Rattle.sl_trace.specs.Leases.{StepKind}
 use Rattle.sl_sector.specs.declared.sector.Block.{Block}
 use Rattle.sl_due_law.specs.Facts.WayFacts.{CallWay, Comes, Phase1ReadWay, Phase1Way, Phase2ReadWay, Phase2Way, PurposeWay, StepWay, WayContext, Ways}
 use Rattle.sl_trace.specs.Traces.{Submitted}

@@ -5,13 +5,13 @@ use Rattle.sl_due_law.proofs.Whole.BusyKept.{HoldsWaiting, traces_wait}
 use Rattle.sl_due_law.specs.Facts.JobFacts.{FitsCommand, JobFacts}
 use Rattle.sl_due_law.specs.Jobs.Acquires.{AcquiresKeepToTheirs, IsAcquire, IsCallerOf}
 use Rattle.sl_due_law.specs.Whole.Kept.{Holds}
-use Rattle.sl_leases.specs.Jobs.{child_of_job, command_numbered, command_of, resource_named}
-use Rattle.sl_leases.specs.Leases.{is_lease_call, is_on, lease_calls, lease_step, spot_of, spot_of_call}
+use Rattle.sl_trace.specs.Jobs.{child_of_job, command_numbered, command_of, resource_named}
+use Rattle.sl_trace.specs.Leases.{is_lease_call, is_on, lease_calls, lease_step, spot_of, spot_of_call}
 use Rattle.sl_plain.proofs.Lists.{find_inside, got_inside, kept}
 use Rattle.sl_plain.proofs.Numbers.{number_itself}
 use Rattle.sl_plain.proofs.Options.{none_is, some_of}
-use Rattle.sl_sessions.specs.Sessions.{calls_of, is_call_of, session_numbered, sessions}
-use Rattle.sl_sessions.specs.declared.session.Session.{Session}
+use Rattle.sl_trace.specs.Sessions.{calls_of, is_call_of, session_numbered, sessions}
+use Rattle.sl_trace.specs.declared.session.Session.{Session}
 use Rattle.sl_trace.specs.Traces.{Child, Setting, Submitted, Trace, children, is_of_job, is_running, job_numbered, job_of, next_job, reply_to, submitted}
 use Rattle.sl_trace.specs.declared.command.Command.TheVariants.{Acquire, AddLockspace, GetLvb, RemLockspace, Request, RunProgram, SetLvb}
 use Rattle.sl_trace.specs.declared.command.Command.{Command}

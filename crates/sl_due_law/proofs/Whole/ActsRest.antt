@@ -19,10 +19,10 @@ use Rattle.sl_due_law.proofs.Jobs.LinesAreAllowed.{IsBegun}
 use Rattle.sl_due_law.proofs.Jobs.NearlyPlainActs.{AnyMove, AnyStart, Anything, Nearly, NoLook, decision_plain, joining_plain, lease_plain, renewal_plain}
 use Rattle.sl_due_law.proofs.Jobs.RepliesComeAfter.{wake_late}
 use Rattle.sl_due_law.specs.Jobs.Promises.{IsQuiet}
-use Rattle.sl_leases.specs.Jobs.{job_of_start}
-use Rattle.sl_leases.specs.LeaseWork.{lease_place, settle_next}
-use Rattle.sl_leases.specs.Leases.{known}
-use Rattle.sl_leases.specs.declared.lease.LeaseNext.{LeaseNext}
+use Rattle.sl_trace.specs.Jobs.{job_of_start}
+use Rattle.sl_trace.specs.LeaseWork.{lease_place, settle_next}
+use Rattle.sl_trace.specs.Leases.{known}
+use Rattle.sl_trace.specs.declared.lease.LeaseNext.{LeaseNext}
 use Rattle.sl_due_law.proofs.Recovery.FreesConclude.{frees_conclude, none_ends, signals_leave_ended, untold}
 use Rattle.sl_due_law.proofs.Recovery.StopsConclude.{just_heard, stops_conclude}
 use Rattle.sl_due_law.proofs.Recovery.StopsGrow.{stops_effects}
@@ -34,10 +34,10 @@ use Rattle.sl_due_law.specs.Connections.Promises.{HasConnectionsPlainly}
 use Rattle.sl_due_law.specs.Connections.WatchFacts.{HasRead, HasWatchFacts, HasWatchesPlainly, WatchFacts}
 use Rattle.sl_due_law.proofs.Sessions.NameFactsConclude.{name_facts_conclude}
 use Rattle.sl_due_law.specs.Sessions.Promises.{HasNamesPlainly}
-use Rattle.sl_sessions.specs.Deltas.{delta_known, delta_of_session, next_on_wake, next_renewal}
-use Rattle.sl_sessions.specs.Sessions.{calls_of, holders_of}
-use Rattle.sl_sessions.specs.declared.delta.DeltaNext.{DeltaNext}
-use Rattle.sl_sessions.specs.declared.session.Session.{Session}
+use Rattle.sl_trace.specs.Deltas.{delta_known, delta_of_session, next_on_wake, next_renewal}
+use Rattle.sl_trace.specs.Sessions.{calls_of, holders_of}
+use Rattle.sl_trace.specs.declared.delta.DeltaNext.{DeltaNext}
+use Rattle.sl_trace.specs.declared.session.Session.{Session}
 use Rattle.sl_due_law.specs.Facts.Concluding.{Concludes}
 use Rattle.sl_due_law.specs.Facts.Heard.{heard_by}
 use Rattle.sl_due_law.specs.Facts.SessionFacts.{ConnectionFacts, NameFacts, QuietFacts}

@@ -14,7 +14,7 @@ use Rattle.sl_due_law.proofs.Jobs.SessionsHaveJobs.{contains_either, contains_on
 use Rattle.sl_due_law.proofs.Jobs.SessionsStand.{reply_stops}
 use Rattle.sl_plain.proofs.Lists.{contains_map, find_inside}
 use Rattle.sl_plain.proofs.Numbers.{number_itself}
-use Rattle.sl_sessions.specs.Sessions.{leaving_in, leaving_job}
+use Rattle.sl_trace.specs.Sessions.{leaving_in, leaving_job}
 use Rattle.sl_due_law.specs.Facts.Heard.{heard_by}
 use Rattle.sl_trace.specs.Traces.{Child, Job, Submitted, answer_of, answered_in, child_after, child_numbered, children, is_running, job_of, jobs, new_child, next_job, submitted}
 use Rattle.sl_trace.specs.declared.effects.Call.{Call}

@@ -52,21 +52,21 @@ use Rattle.sl_due_law.proofs.Jobs.LinesAreAllowed.{IsBegun}
 use Rattle.sl_due_law.proofs.Jobs.NearlyPlainActs.{AnyMove, AnyStart, Anything, NoLook, decision_plain, free_plain, freed_plain, joining_plain, lease_plain, renewal_plain, renewed_plain}
 use Rattle.sl_due_law.proofs.Jobs.RepliesComeAfter.{joining_late, wake_late}
 use Rattle.sl_due_law.proofs.Jobs.SessionsStand.{reply_stops}
-use Rattle.sl_law.specs.Caused.{IsCaused}
-use Rattle.sl_law.specs.Lawful.{IsSetting}
-use Rattle.sl_leases.specs.Jobs.{command_numbered, job_of_start}
-use Rattle.sl_leases.specs.LeaseWork.{lease_place, settle_next}
-use Rattle.sl_leases.specs.Leases.{known, spot_of_call}
-use Rattle.sl_leases.specs.declared.lease.LeaseNext.{LeaseNext}
+use Rattle.sl_run.specs.Caused.{IsCaused}
+use Rattle.sl_run.specs.Lawful.{IsSetting}
+use Rattle.sl_trace.specs.Jobs.{command_numbered, job_of_start}
+use Rattle.sl_trace.specs.LeaseWork.{lease_place, settle_next}
+use Rattle.sl_trace.specs.Leases.{known, spot_of_call}
+use Rattle.sl_trace.specs.declared.lease.LeaseNext.{LeaseNext}
 use Rattle.sl_plain.proofs.Lists.{contains_none, find_inside, head_is}
 use Rattle.sl_plain.proofs.Options.{some_of}
 use Rattle.sl_due_law.proofs.Recovery.FreesConclude.{free_written}
 use Rattle.sl_due_law.proofs.Recovery.StopsBegin.{IsDenial, Says, begun_says, with_said}
 use Rattle.sl_due_law.proofs.Recovery.StopsConclude.{old_session}
-use Rattle.sl_sessions.specs.Deltas.{delta_known, delta_of_session, next_after_free, next_after_renewal, next_free, next_in_joining, next_on_wake, next_renewal}
-use Rattle.sl_sessions.specs.Sessions.{calls_of, generation_of, is_present, recovery_of, session_numbered, sessions}
-use Rattle.sl_sessions.specs.declared.delta.DeltaNext.{DeltaNext}
-use Rattle.sl_sessions.specs.declared.session.Session.{Session}
+use Rattle.sl_trace.specs.Deltas.{delta_known, delta_of_session, next_after_free, next_after_renewal, next_free, next_in_joining, next_on_wake, next_renewal}
+use Rattle.sl_trace.specs.Sessions.{calls_of, generation_of, is_present, recovery_of, session_numbered, sessions}
+use Rattle.sl_trace.specs.declared.delta.DeltaNext.{DeltaNext}
+use Rattle.sl_trace.specs.declared.session.Session.{Session}
 use Rattle.sl_due_law.specs.Facts.Heard.{heard_by}
 use Rattle.sl_due_law.specs.Facts.JobFacts.{FitsCommand}
 use Rattle.sl_due_law.specs.Facts.Whole.{Whole}

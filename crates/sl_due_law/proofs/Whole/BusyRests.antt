@@ -11,8 +11,8 @@ use Rattle.sl_due_law.proofs.Jobs.NearlyPlainActs.{Nearly}
 use Rattle.sl_due_law.proofs.Jobs.SessionsStand.{reply_stops}
 use Rattle.sl_plain.proofs.Lists.{contains_first, got_inside}
 use Rattle.sl_sector.specs.declared.sector.Rec.TheVariants.{RequestIs}
-use Rattle.sl_sessions.specs.Sessions.{is_join_call, sessions}
-use Rattle.sl_sessions.specs.declared.session.Session.{Session}
+use Rattle.sl_trace.specs.Sessions.{is_join_call, sessions}
+use Rattle.sl_trace.specs.declared.session.Session.{Session}
 use Rattle.sl_due_law.specs.Facts.Heard.{heard_by}
 use Rattle.sl_due_law.specs.Facts.Whole.{Whole}
 use Rattle.sl_trace.proofs.TraceFacts.{submitted-push}

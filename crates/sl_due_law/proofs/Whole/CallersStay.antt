@@ -14,21 +14,21 @@ use Rattle.sl_due_law.specs.Facts.JobFacts.{FitsCommand, JobFacts}
 use Rattle.sl_due_law.specs.Recovery.Stops.{FreeTold, Stops}
 use Rattle.sl_due_law.specs.Whole.JobLore.{CallersPresent}
 use Rattle.sl_due_law.specs.Whole.Kept.{Holds, Kept}
-use Rattle.sl_law.specs.LawfulCalls.{may_submit}
-use Rattle.sl_law.specs.LawfulParting.{MayPart}
-use Rattle.sl_law.specs.LawfulRecovery.{StopsSession}
-use Rattle.sl_law.specs.Saying.{cut_at}
-use Rattle.sl_leases.specs.Jobs.{command_numbered, lockspace_named}
+use Rattle.sl_run.specs.LawfulCalls.{may_submit}
+use Rattle.sl_run.specs.LawfulParting.{MayPart}
+use Rattle.sl_run.specs.LawfulRecovery.{StopsSession}
+use Rattle.sl_run.specs.Saying.{cut_at}
+use Rattle.sl_trace.specs.Jobs.{command_numbered, lockspace_named}
 use Rattle.sl_plain.proofs.Lists.{contains_none, find_fails, got_inside, in_map, kept}
 use Rattle.sl_plain.proofs.Numbers.{number_itself}
 use Rattle.sl_plain.proofs.Options.{some_of}
-use Rattle.sl_sessions.specs.Sessions.{calls_of, is_call_of, is_joined, is_present, joined_after, recovery_of, refused_after, removed_after, renewing, renewing_after, session_numbered, sessions, stage_in, stage_of}
-use Rattle.sl_sessions.specs.Sessions.{free_write, has_open_write, recovers, renewed_by, shows_other}
-use Rattle.sl_sessions.specs.declared.session.Begun.{Begun}
-use Rattle.sl_sessions.specs.declared.session.Renewing.{Renewing}
-use Rattle.sl_sessions.specs.declared.session.Session.{Session}
-use Rattle.sl_sessions.specs.declared.stage.Stage.TheVariants.{Ended, Freeing, Refused, Standing}
-use Rattle.sl_sessions.specs.declared.stage.Stage.{Stage}
+use Rattle.sl_trace.specs.Sessions.{calls_of, is_call_of, is_joined, is_present, joined_after, recovery_of, refused_after, removed_after, renewing, renewing_after, session_numbered, sessions, stage_in, stage_of}
+use Rattle.sl_trace.specs.Sessions.{free_write, has_open_write, recovers, renewed_by, shows_other}
+use Rattle.sl_trace.specs.declared.session.Begun.{Begun}
+use Rattle.sl_trace.specs.declared.session.Renewing.{Renewing}
+use Rattle.sl_trace.specs.declared.session.Session.{Session}
+use Rattle.sl_trace.specs.declared.stage.Stage.TheVariants.{Ended, Freeing, Refused, Standing}
+use Rattle.sl_trace.specs.declared.stage.Stage.{Stage}
 use Rattle.sl_time.specs.Times.{fail}
 use Rattle.sl_trace.specs.Traces.{Answered, Replied, Setting, Submitted, Trace, answered_in, is_running, job_of, mark, reply_in, reply_to, same_place, submitted}
 use Rattle.sl_trace.specs.declared.command.Command.{Command}

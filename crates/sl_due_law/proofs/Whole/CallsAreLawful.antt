@@ -4,15 +4,15 @@ use Rattle.sl_acts.specs.SoFar.{entry_of}
 use Rattle.sl_due.specs.Steps.{Step, seen}
 use Rattle.sl_due_law.specs.Whole.Promises.{LonesSoFar, SpelledSoFar, is_lone_read}
 use Rattle.sl_due_law.proofs.Jobs.QuietLines.{active_parts}
-use Rattle.sl_law.specs.LawfulArea.{LawfulArea, is_area_work}
-use Rattle.sl_law.specs.LawfulCalls.{LawfulCalls, may_submit}
-use Rattle.sl_law.specs.LawfulDelta.{LawfulDelta, LawfulDeltaCall, LawfulJoinStep}
-use Rattle.sl_law.specs.Saying.{cut_at}
+use Rattle.sl_run.specs.LawfulArea.{LawfulArea, is_area_work}
+use Rattle.sl_run.specs.LawfulCalls.{LawfulCalls, may_submit}
+use Rattle.sl_run.specs.LawfulDelta.{LawfulDelta, LawfulDeltaCall, LawfulJoinStep}
+use Rattle.sl_run.specs.Saying.{cut_at}
 use Rattle.sl_plain.proofs.Lists.{contains_cases, contains_first, contains_none, find_fails, find_inside, got_inside, kept, kept_inside}
-use Rattle.sl_sessions.specs.Sessions.{calls_of, free_write, is_active, is_call_of, is_free_purpose, is_joined, joined_after, leaving_job, recovery_of, refused_after, removed_after, sessions, stage_in, stage_of}
-use Rattle.sl_sessions.specs.declared.session.Session.{Session}
-use Rattle.sl_sessions.specs.declared.stage.Stage.{Stage}
-use Rattle.sl_sessions.specs.declared.stage.Stage.TheVariants.{Deciding, Ended, Freeing, Looking, Refused, Standing, Verifying, Waiting}
+use Rattle.sl_trace.specs.Sessions.{calls_of, free_write, is_active, is_call_of, is_free_purpose, is_joined, joined_after, leaving_job, recovery_of, refused_after, removed_after, sessions, stage_in, stage_of}
+use Rattle.sl_trace.specs.declared.session.Session.{Session}
+use Rattle.sl_trace.specs.declared.stage.Stage.{Stage}
+use Rattle.sl_trace.specs.declared.stage.Stage.TheVariants.{Deciding, Ended, Freeing, Looking, Refused, Standing, Verifying, Waiting}
 use Rattle.sl_due_law.specs.Facts.CallFacts.{CallFacts}
 use Rattle.sl_due_law.specs.Facts.SessionFacts.{DeltaFacts}
 use Rattle.sl_trace.specs.Traces.{Setting, Submitted, Trace, mark, new_call, submitted}

@@ -19,9 +19,9 @@ use Rattle.sl_due_law.proofs.Parts.EffectsAreTold.{effects_are_told}
 use Rattle.sl_due_law.specs.Facts.JobFacts.{JobFacts}
 use Rattle.sl_due_law.specs.Facts.Heard.{heard_by}
 use Rattle.sl_due_law.specs.Whole.JobLore.{Converting, HoldsThere}
-use Rattle.sl_law.specs.LawfulArea.{is_area_work}
-use Rattle.sl_leases.specs.Jobs.{command_numbered, is_job_of_process}
-use Rattle.sl_leases.specs.Leases.{spot_of_call}
+use Rattle.sl_run.specs.LawfulArea.{is_area_work}
+use Rattle.sl_trace.specs.Jobs.{command_numbered, is_job_of_process}
+use Rattle.sl_trace.specs.Leases.{spot_of_call}
 use Rattle.sl_plain.proofs.Lists.{contains_cases, find_inside, in_map, kept_inside}
 use Rattle.sl_trace.proofs.TraceFacts.{submitted-push}
 use Rattle.sl_trace.specs.Traces.{Child, FollowsTrace, Setting, Submitted, Trace, answered_in, child_after, child_numbered, children, end_of, first_child, holdings, is_running, job_of, new_call, new_child, orphans_left, running_jobs, same_place, spot_of_grant, submitted}

@@ -35,22 +35,22 @@ use Rattle.sl_due_law.proofs.Ways.Kept.LeaseNextsLeave.{IsLate}
 use Rattle.sl_due_law.proofs.Ways.Kept.PlainWalks.{DeltaFits}
 use Rattle.sl_due_law.proofs.Ways.Kept.UnjoinedHaveNone.{its_joining, joins_still}
 use Rattle.sl_due_law.specs.Holdings.DecisionGrounds.{AsksLease, ConvertGrounds, GiveUpGrounds, HasGrounds}
-use Rattle.sl_leases.specs.Ballots.{moded_block}
-use Rattle.sl_leases.specs.Counts.{may_act}
-use Rattle.sl_leases.specs.Jobs.{job_of_start, command_numbered, process_named, resource_named}
-use Rattle.sl_leases.specs.LeaseWork.{lease_place, settle_next, leader_for, convert_next, release_next}
-use Rattle.sl_leases.specs.Leases.{known, is_on, lver_written, spot_of, spot_of_call, holdings_on}
-use Rattle.sl_leases.specs.declared.lease.Aim.{Aim}
-use Rattle.sl_leases.specs.declared.lease.LeaseNext.{LeaseNext}
-use Rattle.sl_leases.specs.declared.lease.LeaseNext.TheVariants.{AnswerJob, BecomeExclusive, BecomeShared, GrantJob, ReadFor, WriteBlock, WriteLeader, Nothing}
+use Rattle.sl_trace.specs.Ballots.{moded_block}
+use Rattle.sl_trace.specs.Counts.{may_act}
+use Rattle.sl_trace.specs.Jobs.{job_of_start, command_numbered, process_named, resource_named}
+use Rattle.sl_trace.specs.LeaseWork.{lease_place, settle_next, leader_for, convert_next, release_next}
+use Rattle.sl_trace.specs.Leases.{known, is_on, lver_written, spot_of, spot_of_call, holdings_on}
+use Rattle.sl_trace.specs.declared.lease.Aim.{Aim}
+use Rattle.sl_trace.specs.declared.lease.LeaseNext.{LeaseNext}
+use Rattle.sl_trace.specs.declared.lease.LeaseNext.TheVariants.{AnswerJob, BecomeExclusive, BecomeShared, GrantJob, ReadFor, WriteBlock, WriteLeader, Nothing}
 use Rattle.sl_plain.proofs.Lists.{got_inside, find_inside, kept_inside}
 use Rattle.sl_plain.proofs.Numbers.{trans_le}
 use Rattle.sl_sector.specs.declared.sector.Block.{Block}
 use Rattle.sl_sector.specs.declared.sector.Rec.TheVariants.{BlockIs, DeltaIs, LeaderIs, RequestIs, ValueIs}
-use Rattle.sl_sessions.specs.Deltas.{delta_known, delta_of_session, next_after_free, next_after_renewal, next_in_joining, next_on_wake, own_offset}
-use Rattle.sl_sessions.specs.Sessions.{calls_of, generation_of, recovery_of, sessions, holdings_of}
-use Rattle.sl_sessions.specs.declared.delta.DeltaNext.{DeltaNext}
-use Rattle.sl_sessions.specs.declared.session.Session.{Session}
+use Rattle.sl_trace.specs.Deltas.{delta_known, delta_of_session, next_after_free, next_after_renewal, next_in_joining, next_on_wake, own_offset}
+use Rattle.sl_trace.specs.Sessions.{calls_of, generation_of, recovery_of, sessions, holdings_of}
+use Rattle.sl_trace.specs.declared.delta.DeltaNext.{DeltaNext}
+use Rattle.sl_trace.specs.declared.session.Session.{Session}
 use Rattle.sl_trace.specs.Commands.{IsCommand}
 use Rattle.sl_trace.specs.Traces.{is_before_input, next_job, Setting, Submitted, Trace, end_of, job_of, new_call, same_place, spot_of_grant, holdings}
 use Rattle.sl_trace.specs.declared.command.Command.{Command}
@@ -86,8 +86,8 @@ use Rattle.sl_due_law.proofs.Grants.WorksByAnswers.{new_spot, nobody_there, one_
 use Rattle.sl_due_law.proofs.Grants.WorksByLines.{Lined, nobody_waits}
 use Rattle.sl_due_law.proofs.Grants.WorksByDeltas.{is_lease_purpose}
 use Rattle.sl_due_law.proofs.Grants.WorksByLines.{held_before}
-use Rattle.sl_leases.specs.Counts.{may_act}
-use Rattle.sl_leases.specs.Ballots.{moded_block}
+use Rattle.sl_trace.specs.Counts.{may_act}
+use Rattle.sl_trace.specs.Ballots.{moded_block}
 use Rattle.sl_trace.specs.Limits.{most_processes}
 use Rattle.sl_trace.specs.Traces.{Child, child_numbered, first_child, is_child}
 use Rattle.sl_due_law.proofs.Grants.OthersGoOn.{delta_on, granted_on}
@@ -95,7 +95,7 @@ use Rattle.sl_acts.specs.Acts.{Acts}
 use Rattle.std.proofs.lemmas.Bool.{leb-true}
 use Rattle.sl_due.specs.DueCommands.{carry_decision, decided}
 use Rattle.sl_trace.specs.Traces.{is_orphan}
-use Rattle.sl_leases.specs.Leases.{holdings_on}
+use Rattle.sl_trace.specs.Leases.{holdings_on}
 use Rattle.sl_sector.specs.declared.sector.Rec.TheVariants.{ValueIs, RequestIs, DeltaIs}
 use Rattle.sl_sector.specs.declared.sector.Block.{Block}
 use Rattle.sl_words.proofs.WordLaws.{some_is_true}

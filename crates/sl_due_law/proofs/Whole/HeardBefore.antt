@@ -7,7 +7,7 @@ use Rattle.sl_due_law.proofs.Jobs.JobsAreAllowed.{calls_heard}
 use Rattle.sl_due_law.proofs.Jobs.JobsAreNumbered.{command_stays}
 use Rattle.sl_due_law.specs.Facts.JobFacts.{JobFacts}
 use Rattle.sl_due_law.specs.Whole.Kept.{Kept}
-use Rattle.sl_leases.specs.Jobs.{command_numbered}
+use Rattle.sl_trace.specs.Jobs.{command_numbered}
 use Rattle.sl_plain.proofs.Lists.{find_inside, in_map}
 use Rattle.sl_plain.proofs.Options.{some_of}
 use Rattle.sl_trace.specs.Traces.{Replied, Setting, Submitted, Trace, answered_in, is_expected, is_running, job_of, reply_in, reply_to, submitted}
@@ -18,7 +18,7 @@ use Rattle.sl_trace.specs.declared.input.Answer.{Answer}
 use Rattle.sl_trace.specs.declared.input.Input.{Input}
 use Rattle.sl_trace_law.proofs.Sessions.Making.{same_answered}
 use Rattle.sl_words.proofs.CaseLaws.{false_is_true, one_value}
-use Rattle.sl_sessions.specs.declared.session.Session.{Session}
+use Rattle.sl_trace.specs.declared.session.Session.{Session}
 use Rattle.std.proofs.Common.{ap, refl, subst, sym, ◌∙◌}
 use Rattle.std.proofs.lemmas.Bool.{eqb-true}
 use Rattle.std.specs.Prelude.{Contains, IsTrue, None, Option, Some, is_none, true, ℕ, ◌==◌, ◌∷◌, ◌≡◌}

@@ -9,9 +9,9 @@ use Rattle.sl_due_law.specs.Facts.Whole.{Whole}
 use Rattle.sl_due_law.specs.Whole.JobLore.{AllSuit, OpFits}
 use Rattle.sl_due_law.specs.Whole.Kept.{Kept}
 use Rattle.sl_due_law.specs.Whole.Promises.{MayRest}
-use Rattle.sl_leases.specs.Jobs.{aim_of_command, command_numbered}
+use Rattle.sl_trace.specs.Jobs.{aim_of_command, command_numbered}
 use Rattle.sl_plain.proofs.Options.{some_of}
-use Rattle.sl_sessions.specs.declared.session.Session.{Session}
+use Rattle.sl_trace.specs.declared.session.Session.{Session}
 use Rattle.sl_trace.specs.Traces.{Submitted, bytes_given, is_answer_for, is_running, is_write, job_of}
 use Rattle.sl_trace.specs.declared.command.Command.{Command}
 use Rattle.sl_trace.specs.declared.effects.Purpose.TheVariants.{Joining, Lease, Leaving, Renewal, RequestRead, RequestWrite, SeeRequest, Survey, ValueRead, ValueWrite}

@@ -21,8 +21,8 @@ use Rattle.sl_trace.specs.declared.effects.Call.{Call}
 use Rattle.sl_due_law.specs.Whole.Kept.{Kept}
 use Rattle.sl_due_law.proofs.Jobs.CallsHaveFacts.{calls_before}
 use Rattle.sl_plain.proofs.Lists.{find_inside, in_map}
-use Rattle.sl_sessions.specs.Sessions.{is_present, session_numbered}
-use Rattle.sl_sessions.specs.declared.session.Session.{Session}
+use Rattle.sl_trace.specs.Sessions.{is_present, session_numbered}
+use Rattle.sl_trace.specs.declared.session.Session.{Session}
 use Rattle.sl_due_law.specs.Facts.Heard.{heard_by}
 use Rattle.sl_trace.specs.Traces.{Submitted, answered_in, call_numbered, is_running, job_of, submitted}
 use Rattle.sl_trace.specs.declared.input.Answer.{Answer}

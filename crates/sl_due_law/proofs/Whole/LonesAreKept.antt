@@ -20,22 +20,22 @@ use Rattle.sl_due_law.proofs.Jobs.JobsAreNumbered.{next_is_new}
 use Rattle.sl_due_law.proofs.Jobs.LinesAreAllowed.{IsBegun}
 use Rattle.sl_due_law.proofs.Jobs.NearlyPlainActs.{AnyMove, AnyStart, Anything, grant_plain}
 use Rattle.sl_due_law.proofs.Jobs.RepliesComeAfter.{IsLateDelta, joining_late, on_bool, on_option, wake_late}
-use Rattle.sl_leases.specs.Jobs.{job_of_start}
-use Rattle.sl_leases.specs.LeaseWork.{convert_next, lease_place, release_next, settle_next}
-use Rattle.sl_leases.specs.Leases.{exclusive_on, holdings_on, known, spot_of, spot_of_call}
-use Rattle.sl_leases.specs.declared.lease.LeaseNext.{LeaseNext}
-use Rattle.sl_leases.specs.declared.lease.LeaseNext.TheVariants.{AnswerJob, BecomeExclusive, BecomeShared, GrantJob, Nothing as No_lease, ReadFor, WriteBlock, WriteLeader}
+use Rattle.sl_trace.specs.Jobs.{job_of_start}
+use Rattle.sl_trace.specs.LeaseWork.{convert_next, lease_place, release_next, settle_next}
+use Rattle.sl_trace.specs.Leases.{exclusive_on, holdings_on, known, spot_of, spot_of_call}
+use Rattle.sl_trace.specs.declared.lease.LeaseNext.{LeaseNext}
+use Rattle.sl_trace.specs.declared.lease.LeaseNext.TheVariants.{AnswerJob, BecomeExclusive, BecomeShared, GrantJob, Nothing as No_lease, ReadFor, WriteBlock, WriteLeader}
 use Rattle.sl_plain.proofs.Lists.{contains_none, find_inside, kept_inside}
 use Rattle.sl_plain.proofs.Options.{some_of}
 use Rattle.sl_sector.specs.Bitmaps.{no_bits}
 use Rattle.sl_sector.specs.declared.sector.DeltaState.TheVariants.{Free, Live}
 use Rattle.sl_sector.specs.declared.sector.Rec.TheVariants.{DeltaIs}
-use Rattle.sl_sessions.specs.Deltas.{DeltaLease, delta_known, delta_of_session, delta_record, is_renewal_due, next_after_free, next_after_renewal, next_free, next_in_joining, next_on_wake, next_renewal, own_offset}
-use Rattle.sl_sessions.specs.Sessions.{calls_of, generation_of, holders_of, holdings_of, is_join_call, recovery_of}
-use Rattle.sl_sessions.specs.declared.delta.DeltaKnown.{DeltaKnown}
-use Rattle.sl_sessions.specs.declared.delta.DeltaNext.{DeltaNext}
-use Rattle.sl_sessions.specs.declared.delta.DeltaNext.TheVariants.{Disconnect, EndLeaving, Join, MoveConnection, Nothing, ReadOwn, RefuseJoin, RegisterAndRead, WriteClaim, WriteFirst, WriteFree, WriteRenewal}
-use Rattle.sl_sessions.specs.declared.session.Session.{Session}
+use Rattle.sl_trace.specs.Deltas.{DeltaLease, delta_known, delta_of_session, delta_record, is_renewal_due, next_after_free, next_after_renewal, next_free, next_in_joining, next_on_wake, next_renewal, own_offset}
+use Rattle.sl_trace.specs.Sessions.{calls_of, generation_of, holders_of, holdings_of, is_join_call, recovery_of}
+use Rattle.sl_trace.specs.declared.delta.DeltaKnown.{DeltaKnown}
+use Rattle.sl_trace.specs.declared.delta.DeltaNext.{DeltaNext}
+use Rattle.sl_trace.specs.declared.delta.DeltaNext.TheVariants.{Disconnect, EndLeaving, Join, MoveConnection, Nothing, ReadOwn, RefuseJoin, RegisterAndRead, WriteClaim, WriteFirst, WriteFree, WriteRenewal}
+use Rattle.sl_trace.specs.declared.session.Session.{Session}
 use Rattle.sl_due_law.specs.Facts.Heard.{heard_by}
 use Rattle.sl_due_law.specs.Facts.Whole.{Whole}
 use Rattle.sl_trace.specs.Connections.{is_registered}

@@ -4,18 +4,18 @@ use Rattle.sl_due.specs.Steps.{Step, seen}
 use Rattle.sl_due_law.proofs.Whole.CallsAreLawful.{front_unfreed, joined_may, new_inside}
 use Rattle.sl_due_law.specs.Whole.Lones.{LoneCall, Lones, Looks_first, Plain_call, Sees_request, sees_request}
 use Rattle.sl_due_law.specs.Whole.Promises.{LonesSoFar, is_lone_read}
-use Rattle.sl_law.specs.LawfulCalls.{may_submit}
-use Rattle.sl_law.specs.Saying.{cut_at}
-use Rattle.sl_leases.specs.Jobs.{command_numbered}
+use Rattle.sl_run.specs.LawfulCalls.{may_submit}
+use Rattle.sl_run.specs.Saying.{cut_at}
+use Rattle.sl_trace.specs.Jobs.{command_numbered}
 use Rattle.sl_plain.proofs.Lists.{contains_none, got_inside, kept}
 use Rattle.sl_plain.proofs.Numbers.{number_itself}
 use Rattle.sl_plain.proofs.Options.{some_of}
 use Rattle.sl_due_law.proofs.Sessions.NameActs.{running_unrefused}
 use Rattle.sl_due_law.proofs.Sessions.NamesAtEnd.{running_unjoined}
-use Rattle.sl_sessions.specs.Sessions.{calls_of, free_write, is_join_call, is_joined, joined_after, refused_after, removed_after, session_numbered, sessions, stage_after, stage_in, stage_of}
-use Rattle.sl_sessions.specs.declared.session.Session.{Session}
-use Rattle.sl_sessions.specs.declared.stage.Stage.{Stage}
-use Rattle.sl_sessions.specs.declared.stage.Stage.TheVariants.{Ended, Freeing, Looking, Refused, Standing}
+use Rattle.sl_trace.specs.Sessions.{calls_of, free_write, is_join_call, is_joined, joined_after, refused_after, removed_after, session_numbered, sessions, stage_after, stage_in, stage_of}
+use Rattle.sl_trace.specs.declared.session.Session.{Session}
+use Rattle.sl_trace.specs.declared.stage.Stage.{Stage}
+use Rattle.sl_trace.specs.declared.stage.Stage.TheVariants.{Ended, Freeing, Looking, Refused, Standing}
 use Rattle.sl_due_law.specs.Facts.Heard.{heard_by}
 use Rattle.sl_due_law.specs.Facts.HoldingFacts.{HoldingFacts}
 use Rattle.sl_due_law.specs.Facts.JobFacts.{FitsCommand, JobFacts}

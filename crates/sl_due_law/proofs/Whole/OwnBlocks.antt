@@ -13,12 +13,12 @@ use Rattle.sl_due_law.proofs.Whole.BallotWrites.{phase1_own}
 use Rattle.sl_due_law.proofs.Whole.LeasesGoOn.{is_behind_block}
 use Rattle.sl_due_law.specs.Facts.WayFacts.{Phase2ReadWay, Phase2Way, PurposeWay, TakeWay, WayContext, Ways, way_context}
 use Rattle.sl_due_law.specs.Facts.Whole.{Whole}
-use Rattle.sl_leases.specs.Leases.{block_of_host, block_submitted, blocks_given, known, last_blocks, lease_calls, lease_step, own_known, own_or_read, spot_of_call}
+use Rattle.sl_trace.specs.Leases.{block_of_host, block_submitted, blocks_given, known, last_blocks, lease_calls, lease_step, own_known, own_or_read, spot_of_call}
 use Rattle.sl_plain.proofs.Lists.{there_is}
 use Rattle.sl_plain.proofs.Places.{position_none}
 use Rattle.sl_area.specs.Layouts.{Layout}
 use Rattle.sl_sector.specs.declared.sector.Block.{Block}
-use Rattle.sl_sessions.specs.declared.session.Session.{Session}
+use Rattle.sl_trace.specs.declared.session.Session.{Session}
 use Rattle.sl_trace.specs.Traces.{Answered, Submitted, bytes_given, gave}
 use Rattle.sl_trace.specs.declared.effects.LeaseStep.TheVariants.{ClearMode, FreeLeader, Phase1Read, Phase1Write, Phase2Read, Phase2Write, ReadArea, ReadBeforeFree, SetMode, TakeLeader}
 use Rattle.sl_trace.specs.declared.effects.LeaseStep.{LeaseStep}

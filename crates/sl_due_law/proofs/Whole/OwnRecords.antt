@@ -2,16 +2,16 @@
 use Rattle.sl_area.specs.Layouts.{IsGeometry, Sizes}
 use Rattle.sl_due_law.proofs.Jobs.JobsAreNumbered.{command_is_read}
 use Rattle.sl_due_law.proofs.Jobs.SessionsHaveJobs.{given_one, joined_by}
-use Rattle.sl_law.specs.Lawful.{IsGiven, IsSetting}
+use Rattle.sl_run.specs.Lawful.{IsGiven, IsSetting}
 use Rattle.sl_due_law.proofs.Ways.Kept.PlacesStand.{id_in_range}
 use Rattle.sl_plain.proofs.Lists.{contains_cases, contains_none}
 use Rattle.sl_request.proofs.BitmapFacts.{listed_are_set, none_is_set}
 use Rattle.sl_sector.specs.Bitmaps.{bitmap_of, no_bits}
 use Rattle.sl_sector.specs.Records.{AreBytes, Fits, IsDelta, IsRequest}
 use Rattle.sl_sector.specs.declared.sector.DeltaState.{DeltaState}
-use Rattle.sl_sessions.specs.Deltas.{delta_of_session, delta_record}
-use Rattle.sl_sessions.specs.Sessions.{sessions}
-use Rattle.sl_sessions.specs.declared.session.Session.{Session}
+use Rattle.sl_trace.specs.Deltas.{delta_of_session, delta_record}
+use Rattle.sl_trace.specs.Sessions.{sessions}
+use Rattle.sl_trace.specs.declared.session.Session.{Session}
 use Rattle.sl_text.specs.Names.{is_name}
 use Rattle.sl_trace.specs.Commands.{IsLockspaceArg, IsRequestArg}
 use Rattle.sl_trace.specs.Traces.{Setting, Trace}

@@ -15,15 +15,15 @@ use Rattle.std.proofs.lemmas.Bool.{eqb-true}
 use Rattle.sl_due.specs.Steps.{Step, add_end, seen, with_input}
 use Rattle.sl_due_law.proofs.Whole.ValueWrites.{held_lver, own_is_record}
 use Rattle.sl_due_law.specs.Whole.Writes.{LeaseWrites}
-use Rattle.sl_leases.specs.Ballots.{moded_block}
-use Rattle.sl_leases.specs.LeaseWork.{leader_for, lease_place, release_next}
-use Rattle.sl_leases.specs.Leases.{block_submitted, is_lease_call, is_on, known, lease_calls, spot_of, verified_name}
-use Rattle.sl_leases.specs.declared.lease.LeaseNext.TheVariants.{Nothing, WriteBlock}
+use Rattle.sl_trace.specs.Ballots.{moded_block}
+use Rattle.sl_trace.specs.LeaseWork.{leader_for, lease_place, release_next}
+use Rattle.sl_trace.specs.Leases.{block_submitted, is_lease_call, is_on, known, lease_calls, spot_of, verified_name}
+use Rattle.sl_trace.specs.declared.lease.LeaseNext.TheVariants.{Nothing, WriteBlock}
 use Rattle.sl_sector.specs.Records.{IsBlock, IsLeader}
 use Rattle.sl_sector.specs.declared.sector.Block.{Block}
 use Rattle.sl_due_law.proofs.Sessions.DeltaLines.{calls_lined}
-use Rattle.sl_sessions.specs.Sessions.{generation_in, holdings_of, is_call_of, present_sessions, session_numbered, sessions}
-use Rattle.sl_sessions.specs.declared.session.Session.{Session}
+use Rattle.sl_trace.specs.Sessions.{generation_in, holdings_of, is_call_of, present_sessions, session_numbered, sessions}
+use Rattle.sl_trace.specs.declared.session.Session.{Session}
 use Rattle.sl_due_law.specs.Facts.Whole.{Whole}
 use Rattle.sl_trace.specs.Traces.{Submitted, end_of, holdings, is_shared, same_place, spot_of_grant}
 use Rattle.sl_trace.specs.declared.effects.Grant.{Grant}

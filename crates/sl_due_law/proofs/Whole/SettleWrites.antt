@@ -9,21 +9,21 @@ use Rattle.sl_due_law.proofs.Whole.ValueWrites.{own_is_record}
 use Rattle.sl_due_law.specs.Whole.Writes.{LeaseWrites}
 use Rattle.sl_due_law.proofs.Ways.Kept.EffectsLeave.{there_has}
 use Rattle.sl_due_law.proofs.Ways.Kept.PlacesStand.{id_in_range}
-use Rattle.sl_leases.specs.Ballots.{moded_block, phase1_block}
-use Rattle.sl_leases.specs.LeaseWork.{LeasePlace, begin_next, lease_place, phase1_next, refuses, settle_next, settle_owed}
-use Rattle.sl_leases.specs.Leases.{LeaseKnown, known, mode_gen_of, owed_free, own_known, own_or_read}
-use Rattle.sl_leases.specs.declared.lease.Aim.TheVariants.{Acquires, Converts, Releases, Settles}
-use Rattle.sl_leases.specs.declared.lease.Aim.{Aim}
-use Rattle.sl_leases.specs.declared.lease.LeaseNext.TheVariants.{Nothing, WriteBlock}
-use Rattle.sl_leases.specs.declared.lease.LeaseNext.{LeaseNext}
-use Rattle.sl_leases.specs.declared.lease.Owed.TheVariants.{BallotOwed, FreeOwed, ModeOwed}
-use Rattle.sl_leases.specs.declared.lease.Owed.{Owed}
+use Rattle.sl_trace.specs.Ballots.{moded_block, phase1_block}
+use Rattle.sl_trace.specs.LeaseWork.{LeasePlace, begin_next, lease_place, phase1_next, refuses, settle_next, settle_owed}
+use Rattle.sl_trace.specs.Leases.{LeaseKnown, known, mode_gen_of, owed_free, own_known, own_or_read}
+use Rattle.sl_trace.specs.declared.lease.Aim.TheVariants.{Acquires, Converts, Releases, Settles}
+use Rattle.sl_trace.specs.declared.lease.Aim.{Aim}
+use Rattle.sl_trace.specs.declared.lease.LeaseNext.TheVariants.{Nothing, WriteBlock}
+use Rattle.sl_trace.specs.declared.lease.LeaseNext.{LeaseNext}
+use Rattle.sl_trace.specs.declared.lease.Owed.TheVariants.{BallotOwed, FreeOwed, ModeOwed}
+use Rattle.sl_trace.specs.declared.lease.Owed.{Owed}
 use Rattle.sl_sector.specs.Records.{Fits, IsBlock}
 use Rattle.sl_sector.specs.declared.sector.Block.{Block}
 use Rattle.sl_due_law.proofs.Connections.ConnectionLines.{active_is_joined}
 use Rattle.sl_due_law.proofs.Sessions.JoinedNumbers.{HasNumbers}
-use Rattle.sl_sessions.specs.Sessions.{generation_of, is_active, sessions}
-use Rattle.sl_sessions.specs.declared.session.Session.{Session}
+use Rattle.sl_trace.specs.Sessions.{generation_of, is_active, sessions}
+use Rattle.sl_trace.specs.declared.session.Session.{Session}
 use Rattle.sl_due_law.specs.Facts.WayFacts.{IsAligned}
 use Rattle.sl_due_law.specs.Facts.Whole.{Whole}
 use Rattle.sl_trace.specs.declared.effects.LeaseStep.TheVariants.{ClearMode, Phase1Write}

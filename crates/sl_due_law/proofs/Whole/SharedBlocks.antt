@@ -1,15 +1,15 @@
 -- Whoever holds a resource shared has submitted a block of its own there.
 use Rattle.sl_due_law.proofs.Holdings.LeaseConversions.{spot_is}
 use Rattle.sl_due_law.proofs.Ways.NewestCall.{submitted_here, submitted_passed}
-use Rattle.sl_law.specs.Lawful.{Orderly}
-use Rattle.sl_law.specs.LawfulGrant.{LawfulGrant}
-use Rattle.sl_law.specs.LawfulModes.{LawfulExclusiveGrant, LawfulModes, LawfulSharedGrant}
-use Rattle.sl_leases.specs.Leases.{block_submitted, block_written, is_lease_call, is_on, lease_calls}
+use Rattle.sl_run.specs.Lawful.{Orderly}
+use Rattle.sl_run.specs.LawfulGrant.{LawfulGrant}
+use Rattle.sl_run.specs.LawfulModes.{LawfulExclusiveGrant, LawfulModes, LawfulSharedGrant}
+use Rattle.sl_trace.specs.Leases.{block_submitted, block_written, is_lease_call, is_on, lease_calls}
 use Rattle.sl_plain.proofs.Lists.{contains_cases, contains_map, contains_none, kept, kept_inside}
 use Rattle.sl_plain.proofs.Options.{some_of}
 use Rattle.sl_sector.specs.declared.sector.Block.{Block}
-use Rattle.sl_sessions.specs.Sessions.{calls_of, holdings_of, is_call_of, session_numbered}
-use Rattle.sl_sessions.specs.declared.session.Session.{Session}
+use Rattle.sl_trace.specs.Sessions.{calls_of, holdings_of, is_call_of, session_numbered}
+use Rattle.sl_trace.specs.declared.session.Session.{Session}
 use Rattle.sl_trace.specs.Traces.{EachEntry, Setting, Submitted, Trace, answered_in, holdings, is_ended_by, is_shared, mark, same_place, spot_of_grant, submitted}
 use Rattle.sl_trace.specs.declared.effects.Call.{Call}
 use Rattle.sl_trace.specs.declared.effects.Entry.{Entry}

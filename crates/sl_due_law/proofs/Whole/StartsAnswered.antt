@@ -17,11 +17,11 @@ use Rattle.sl_due_law.proofs.Jobs.SessionsStand.{reply_stops, stopped_stays}
 use Rattle.sl_due_law.specs.Causes.LineCauses.{IsBeforeInput}
 use Rattle.sl_due_law.specs.Whole.Busy.{told_by}
 use Rattle.sl_due_law.specs.Whole.Kept.{Holds}
-use Rattle.sl_leases.specs.Jobs.{job_of_start}
+use Rattle.sl_trace.specs.Jobs.{job_of_start}
 use Rattle.sl_plain.proofs.Lists.{head_is}
-use Rattle.sl_sessions.specs.Deltas.{delta_known, delta_of_session, next_free}
-use Rattle.sl_sessions.specs.Sessions.{has_open_write, holdings_of, is_joined, open_calls_of, present_sessions, recovery_of}
-use Rattle.sl_sessions.specs.declared.session.Session.{Session}
+use Rattle.sl_trace.specs.Deltas.{delta_known, delta_of_session, next_free}
+use Rattle.sl_trace.specs.Sessions.{has_open_write, holdings_of, is_joined, open_calls_of, present_sessions, recovery_of}
+use Rattle.sl_trace.specs.declared.session.Session.{Session}
 use Rattle.sl_trace.specs.Traces.{Child, FollowsTrace, Setting, Trace, child_after, child_numbered, children, is_expected, is_running, new_child, stands_for}
 use Rattle.sl_trace.specs.declared.effects.Entry.{Entry}
 use Rattle.sl_trace.specs.declared.effects.Signal.TheVariants.{Term}

@@ -11,8 +11,8 @@ use Rattle.sl_due_law.proofs.Whole.AllIsKept.{all_begins}
 use Rattle.sl_due_law.proofs.Whole.FirstFacts.{facts_at_first, grounds_rest}
 use Rattle.sl_due_law.specs.Whole.Kept.{Holds, Kept, Rests}
 use Rattle.sl_due_law.specs.Whole.Promises.{TracesAreLawful, TracesHold}
-use Rattle.sl_law.specs.Lawful.{Lawful, Orderly}
-use Rattle.sl_law.specs.LawfulExit.{LawfulExit}
+use Rattle.sl_run.specs.Lawful.{Lawful, Orderly}
+use Rattle.sl_run.specs.LawfulExit.{LawfulExit}
 use Rattle.sl_due_law.proofs.Ways.Kept.StepsBegin.{turns_rest}
 use Rattle.sl_plain.proofs.Lists.{head_is}
 use Rattle.sl_due_law.proofs.Recovery.RecoveryIsLawful.{kill_facts_end, recovery_is_lawful}
@@ -20,7 +20,7 @@ use Rattle.sl_due_law.proofs.Recovery.StopsBegin.{begun_says}
 use Rattle.sl_due_law.specs.Recovery.KillFacts.{KillFacts}
 use Rattle.sl_due_law.proofs.Connections.DeltaPromises.{nothing_was_read}
 use Rattle.sl_due_law.specs.Connections.WatchFacts.{WatchFacts}
-use Rattle.sl_sessions.specs.declared.session.Session.{Session}
+use Rattle.sl_trace.specs.declared.session.Session.{Session}
 use Rattle.sl_due_law.specs.Facts.Heard.{IsOpen, heard_by}
 use Rattle.sl_due_law.specs.Facts.HoldingFacts.{HoldingFacts, StandsExclusive}
 use Rattle.sl_due_law.specs.Facts.JobFacts.{JobFacts}

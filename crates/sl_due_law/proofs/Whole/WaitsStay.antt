@@ -9,8 +9,8 @@ use Rattle.sl_due_law.proofs.Jobs.SessionsStand.{reply_stops, running_before}
 use Rattle.sl_due_law.proofs.Parts.CallsGrow.{any_more, same_sessions}
 use Rattle.sl_due_law.proofs.Parts.EffectsAreTold.{effects_are_told}
 use Rattle.sl_plain.proofs.Lists.{contains_first, contains_map, contains_more, contains_none, got_inside, in_map}
-use Rattle.sl_sessions.specs.Sessions.{is_joined, leaves, leaving_in, leaving_job, sessions}
-use Rattle.sl_sessions.specs.declared.session.Session.{Session}
+use Rattle.sl_trace.specs.Sessions.{is_joined, leaves, leaving_in, leaving_job, sessions}
+use Rattle.sl_trace.specs.declared.session.Session.{Session}
 use Rattle.sl_trace.proofs.TraceFacts.{submitted-push}
 use Rattle.sl_trace.specs.Traces.{Answered, Child, Job, Setting, Submitted, Trace, answer_of, answered_in, children, is_running, jobs, line_in, mark, new_call, new_child, next_call, next_job, submitted}
 use Rattle.sl_trace.specs.declared.effects.Call.{Call}

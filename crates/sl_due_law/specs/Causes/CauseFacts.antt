@@ -1,14 +1,14 @@
 -- What the causes of later replies stand on, of a trace at the end of an entry: what stands behind the calls of requests and values, what a
 -- release has ended, what a joining looked at first, and what a child to be started holds.
 use Rattle.sl_due_law.specs.Connections.WatchFacts.{WatchFacts}
-use Rattle.sl_law.specs.Caused.{IsAccepted}
-use Rattle.sl_leases.specs.Jobs.{command_numbered, process_named}
-use Rattle.sl_leases.specs.Leases.{value_written}
+use Rattle.sl_run.specs.Caused.{IsAccepted}
+use Rattle.sl_trace.specs.Jobs.{command_numbered, process_named}
+use Rattle.sl_trace.specs.Leases.{value_written}
 use Rattle.sl_sector.specs.declared.sector.Rec.TheVariants.{RequestIs}
 use Rattle.sl_sector.specs.declared.sector.Request.{Request as RequestRec}
 use Rattle.sl_sector.specs.declared.sector.ValueRec.{ValueRec}
-use Rattle.sl_sessions.specs.Sessions.{calls_of, is_join_call, sessions}
-use Rattle.sl_sessions.specs.declared.session.Session.{Session}
+use Rattle.sl_trace.specs.Sessions.{calls_of, is_join_call, sessions}
+use Rattle.sl_trace.specs.declared.session.Session.{Session}
 use Rattle.sl_trace.specs.Limits.{most_processes}
 use Rattle.sl_trace.specs.Traces.{Child, Job, Setting, Submitted, Trace, child_numbered, children, entry_at, gave, holdings, is_running, is_shared, job_numbered, job_of, no_process, record_of, same_place, submitted}
 use Rattle.sl_trace.specs.declared.command.Command.{Command}

@@ -1,11 +1,11 @@
 -- The causes of the replies of a step so far.
 use Rattle.sl_acts.specs.SoFar.{entry_of}
 use Rattle.sl_due.specs.Steps.{Step, seen}
-use Rattle.sl_law.specs.Caused.{Answering, CausedBy}
-use Rattle.sl_leases.specs.Leases.{is_lease_call, is_on}
-use Rattle.sl_sessions.specs.Sessions.{calls_of, generation_in, sessions}
-use Rattle.sl_sessions.specs.Watching.{evidence_in}
-use Rattle.sl_sessions.specs.declared.session.Session.{Session}
+use Rattle.sl_run.specs.Caused.{Answering, CausedBy}
+use Rattle.sl_trace.specs.Leases.{is_lease_call, is_on}
+use Rattle.sl_trace.specs.Sessions.{calls_of, generation_in, sessions}
+use Rattle.sl_trace.specs.Watching.{evidence_in}
+use Rattle.sl_trace.specs.declared.session.Session.{Session}
 use Rattle.sl_due_law.specs.Causes.CauseFacts.{CauseFacts}
 use Rattle.sl_due_law.specs.Facts.Heard.{heard_by}
 use Rattle.sl_due_law.specs.Facts.Whole.{WholeTrace}

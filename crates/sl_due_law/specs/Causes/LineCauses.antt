@@ -6,9 +6,9 @@ use Rattle.sl_due.specs.DueWake.{finish}
 use Rattle.sl_due.specs.declared.decision.Decision.TheVariants.{Replies}
 use Rattle.sl_due.specs.declared.decision.Decision.{Decision}
 use Rattle.sl_due.specs.Steps.{Step, begin_step, seen}
-use Rattle.sl_law.specs.Caused.{Answering, CausedBy, IsAtCommand, before_entry}
-use Rattle.sl_sessions.specs.Sessions.{is_joined, sessions}
-use Rattle.sl_sessions.specs.declared.session.Session.{Session}
+use Rattle.sl_run.specs.Caused.{Answering, CausedBy, IsAtCommand, before_entry}
+use Rattle.sl_trace.specs.Sessions.{is_joined, sessions}
+use Rattle.sl_trace.specs.declared.session.Session.{Session}
 use Rattle.sl_due_law.specs.Facts.Whole.{WholeTrace}
 use Rattle.sl_trace.specs.Connections.{unregisters}
 use Rattle.sl_trace.specs.Traces.{Job, Setting, Trace, is_before_input, job_numbered, next_job, no_effects}

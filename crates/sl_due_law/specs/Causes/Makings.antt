@@ -4,13 +4,13 @@ use Rattle.sl_due.specs.DueLease.{grant_of}
 use Rattle.sl_due.specs.Steps.{Step, seen}
 use Rattle.sl_due_law.specs.Causes.CauseFacts.{IsTold, WaitsFor}
 use Rattle.sl_due_law.specs.Facts.Heard.{heard_by}
-use Rattle.sl_law.specs.Caused.{IsAccepted}
-use Rattle.sl_leases.specs.Jobs.{command_numbered, process_named}
+use Rattle.sl_run.specs.Caused.{IsAccepted}
+use Rattle.sl_trace.specs.Jobs.{command_numbered, process_named}
 use Rattle.sl_sector.specs.declared.sector.Rec.TheVariants.{RequestIs, ValueIs}
 use Rattle.sl_sector.specs.declared.sector.Request.{Request as RequestRec}
 use Rattle.sl_sector.specs.declared.sector.ValueRec.{ValueRec}
-use Rattle.sl_sessions.specs.Sessions.{is_join_call, sessions}
-use Rattle.sl_sessions.specs.declared.session.Session.{Session}
+use Rattle.sl_trace.specs.Sessions.{is_join_call, sessions}
+use Rattle.sl_trace.specs.declared.session.Session.{Session}
 use Rattle.sl_trace.specs.Traces.{Setting, Submitted, Trace, is_shared, next_child, next_job, no_process, record_of, submitted}
 use Rattle.sl_trace.specs.declared.command.Command.{Command}
 use Rattle.sl_trace.specs.declared.command.Command.TheVariants.{Request, RunProgram, SetLvb}

@@ -3,14 +3,14 @@ use Rattle.sl_acts.specs.Acts.{Acts, Hears}
 use Rattle.sl_due_law.specs.Causes.CausedSoFar.{CausedSoFar, RepliedSoFar, StaysCaused}
 use Rattle.sl_due.specs.Due.{IsHostTrace}
 use Rattle.sl_due.specs.DueFirst.{begin_recoveries}
-use Rattle.sl_law.specs.Caused.{IsCaused}
-use Rattle.sl_law.specs.Lawful.{IsSetting}
+use Rattle.sl_run.specs.Caused.{IsCaused}
+use Rattle.sl_run.specs.Lawful.{IsSetting}
 use Rattle.sl_due.specs.Steps.{Step, begin_step}
 use Rattle.sl_due_law.specs.Causes.CauseFacts.{CauseFacts}
 use Rattle.sl_due_law.specs.Facts.Whole.{WholeTrace}
 use Rattle.sl_due_law.specs.Holdings.Moments.{Known}
 use Rattle.sl_due_law.specs.Holdings.Promises.{Begins}
-use Rattle.sl_sessions.specs.declared.session.Session.{Session}
+use Rattle.sl_trace.specs.declared.session.Session.{Session}
 use Rattle.sl_trace.specs.Traces.{FollowsTrace, Setting, Submitted, Trace}
 use Rattle.sl_trace.specs.declared.effects.Entry.{Entry}
 use Rattle.sl_trace.specs.declared.effects.Purpose.TheVariants.{Leaving}

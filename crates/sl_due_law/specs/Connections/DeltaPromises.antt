@@ -5,15 +5,15 @@ use Rattle.sl_due.specs.DueDelta.{move_connection, register}
 use Rattle.sl_due.specs.Steps.{Step, add_reply, seen, with_input}
 use Rattle.sl_due.specs.declared.decision.Decision.TheVariants.{Joins}
 use Rattle.sl_due_law.specs.Jobs.Promises.{BeginsWith}
-use Rattle.sl_law.specs.LawfulDelta.{LawfulJoin}
-use Rattle.sl_law.specs.Saying.{EachSession}
+use Rattle.sl_run.specs.LawfulDelta.{LawfulJoin}
+use Rattle.sl_run.specs.Saying.{EachSession}
 use Rattle.sl_sector.specs.declared.sector.DeltaRec.{DeltaRec}
 use Rattle.sl_due_law.specs.Connections.DeltaCalls.{DeltaLawful, own_read, own_write, survey_read}
 use Rattle.sl_due_law.specs.Connections.WatchFacts.{HasWatchFacts, HasWatchesPlainly, WatchFacts}
-use Rattle.sl_sessions.specs.Deltas.{delta_known, delta_of_session, next_after_claim, next_after_deciding, next_after_first, next_after_verify, next_after_watch, next_free, next_renewal}
-use Rattle.sl_sessions.specs.Sessions.{calls_of, holdings_of, is_joined, joined_after, joining_session, open_calls_of, recovery_of}
-use Rattle.sl_sessions.specs.declared.delta.DeltaNext.TheVariants.{RegisterAndRead, WriteClaim, WriteFirst, WriteFree, WriteRenewal}
-use Rattle.sl_sessions.specs.declared.session.Session.{Session}
+use Rattle.sl_trace.specs.Deltas.{delta_known, delta_of_session, next_after_claim, next_after_deciding, next_after_first, next_after_verify, next_after_watch, next_free, next_renewal}
+use Rattle.sl_trace.specs.Sessions.{calls_of, holdings_of, is_joined, joined_after, joining_session, open_calls_of, recovery_of}
+use Rattle.sl_trace.specs.declared.delta.DeltaNext.TheVariants.{RegisterAndRead, WriteClaim, WriteFirst, WriteFree, WriteRenewal}
+use Rattle.sl_trace.specs.declared.session.Session.{Session}
 use Rattle.sl_due_law.specs.Facts.Concluding.{Concludes}
 use Rattle.sl_due_law.specs.Facts.SessionFacts.{ConnectionFacts, NameFacts}
 use Rattle.sl_due_law.specs.Facts.Whole.{Whole}

@@ -3,11 +3,11 @@ use Rattle.sl_acts.specs.Acts.{Acts}
 use Rattle.sl_acts.specs.SoFar.{entry_of}
 use Rattle.sl_due.specs.Steps.{Step}
 use Rattle.sl_due_law.specs.Jobs.Promises.{BeginsWith}
-use Rattle.sl_law.specs.LawfulDelta.{LawfulDeltaCall, is_on_own_sector}
-use Rattle.sl_law.specs.Saying.{EachCall}
+use Rattle.sl_run.specs.LawfulDelta.{LawfulDeltaCall, is_on_own_sector}
+use Rattle.sl_run.specs.Saying.{EachCall}
 use Rattle.sl_due_law.specs.Connections.WatchFacts.{HasWatchFacts}
-use Rattle.sl_sessions.specs.Sessions.{has_open_delta, is_delta_purpose, is_join_call, is_survey_purpose, joined_after, recovery_of}
-use Rattle.sl_sessions.specs.declared.session.Session.{Session}
+use Rattle.sl_trace.specs.Sessions.{has_open_delta, is_delta_purpose, is_join_call, is_survey_purpose, joined_after, recovery_of}
+use Rattle.sl_trace.specs.declared.session.Session.{Session}
 use Rattle.sl_due_law.specs.Facts.SessionFacts.{ConnectionFacts, NameFacts}
 use Rattle.sl_due_law.specs.Facts.Whole.{Whole}
 use Rattle.sl_trace.specs.Traces.{Setting, Submitted, Trace}

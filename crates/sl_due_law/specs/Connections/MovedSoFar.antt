@@ -1,9 +1,9 @@
 -- What the moves of an entry so far say of the sessions that were there before it.
 use Rattle.sl_due.specs.Steps.{Step, seen}
-use Rattle.sl_law.specs.LawfulWatchdog.{is_covered}
-use Rattle.sl_sessions.specs.Sessions.{calls_of, has_open_write, is_present, joined_after, refused_after, sessions, stage_in}
-use Rattle.sl_sessions.specs.declared.session.Session.{Session}
-use Rattle.sl_sessions.specs.declared.stage.Stage.TheVariants.{Waiting}
+use Rattle.sl_run.specs.LawfulWatchdog.{is_covered}
+use Rattle.sl_trace.specs.Sessions.{calls_of, has_open_write, is_present, joined_after, refused_after, sessions, stage_in}
+use Rattle.sl_trace.specs.declared.session.Session.{Session}
+use Rattle.sl_trace.specs.declared.stage.Stage.TheVariants.{Waiting}
 use Rattle.sl_due_law.specs.Facts.SessionFacts.{NameFacts}
 use Rattle.sl_trace.specs.Connections.{registers, unregisters}
 use Rattle.sl_trace.specs.declared.input.Input.TheVariants.{Wake}

@@ -3,7 +3,7 @@ use Rattle.sl_acts.specs.Acts.{Acts}
 use Rattle.sl_acts.specs.SoFar.{entry_of}
 use Rattle.sl_due.specs.Steps.{Step, seen}
 use Rattle.sl_due_law.specs.Jobs.Promises.{BeginsWith}
-use Rattle.sl_law.specs.LawfulWatchdog.{LawfulWatchdog}
+use Rattle.sl_run.specs.LawfulWatchdog.{LawfulWatchdog}
 use Rattle.sl_due_law.specs.Connections.MovedSoFar.{MovedSoFar}
 use Rattle.sl_due_law.specs.Facts.Concluding.{Concludes}
 use Rattle.sl_due_law.specs.Facts.Heard.{heard_by}

@@ -1,5 +1,5 @@
 -- What is known of calls.
-use Rattle.sl_sessions.specs.Sessions.{session_numbered}
+use Rattle.sl_trace.specs.Sessions.{session_numbered}
 use Rattle.sl_trace.specs.Traces.{Answered, Setting, Submitted, Trace, call_numbered, is_answer_for, next_call, submitted}
 use Rattle.std.specs.Prelude.{Contains, IsSome, IsTrue, Some, length, ◌<◌, ◌≡◌}
 

@@ -1,12 +1,12 @@
 -- What grants ask of a lease's calls: when the answer to the last call of an acquire or a conversion has been heard, and what it makes due
 -- is still to come, this stands behind it.
-use Rattle.sl_law.specs.LawfulModes.{AllShared, IsDone}
-use Rattle.sl_leases.specs.Jobs.{aim_of_command}
-use Rattle.sl_leases.specs.Leases.{block_written, ended_ballot, is_free_write, lease_calls, lver_written, spot_of_call}
-use Rattle.sl_leases.specs.declared.lease.Aim.TheVariants.{Acquires, Converts}
+use Rattle.sl_run.specs.LawfulModes.{AllShared, IsDone}
+use Rattle.sl_trace.specs.Jobs.{aim_of_command}
+use Rattle.sl_trace.specs.Leases.{block_written, ended_ballot, is_free_write, lease_calls, lver_written, spot_of_call}
+use Rattle.sl_trace.specs.declared.lease.Aim.TheVariants.{Acquires, Converts}
 use Rattle.sl_sector.specs.declared.sector.Block.{Block}
-use Rattle.sl_sessions.specs.Sessions.{generation_of, me, session_numbered}
-use Rattle.sl_sessions.specs.declared.session.Session.{Session}
+use Rattle.sl_trace.specs.Sessions.{generation_of, me, session_numbered}
+use Rattle.sl_trace.specs.declared.session.Session.{Session}
 use Rattle.sl_due_law.specs.Facts.Heard.{newest_calls}
 use Rattle.sl_due_law.specs.Facts.HoldingFacts.{StandsExclusive}
 use Rattle.sl_due_law.specs.Facts.WorkFacts.{IsAtWork}

@@ -1,12 +1,12 @@
 -- What is known of holdings: whose they are, that they stand apart, and what stands behind an exclusive one as long as it is held.
 use Rattle.sl_area.specs.Places.{is_base}
-use Rattle.sl_law.specs.LawfulGrant.{HasTaken}
-use Rattle.sl_law.specs.LawfulModes.{LawfulExclusiveGrant}
-use Rattle.sl_leases.specs.Leases.{Area_read, Phase1_read, Phase1_write, Phase2_read, Phase2_write, block_submitted, ended_ballots, freed, is_at, lease_calls, open_ballot}
+use Rattle.sl_run.specs.LawfulGrant.{HasTaken}
+use Rattle.sl_run.specs.LawfulModes.{LawfulExclusiveGrant}
+use Rattle.sl_trace.specs.Leases.{Area_read, Phase1_read, Phase1_write, Phase2_read, Phase2_write, block_submitted, ended_ballots, freed, is_at, lease_calls, open_ballot}
 use Rattle.sl_sector.specs.declared.sector.Block.{Block}
 use Rattle.sl_sector.specs.declared.sector.Owner.{Owner}
-use Rattle.sl_sessions.specs.Sessions.{is_joined, session_numbered}
-use Rattle.sl_sessions.specs.declared.session.Session.{Session}
+use Rattle.sl_trace.specs.Sessions.{is_joined, session_numbered}
+use Rattle.sl_trace.specs.declared.session.Session.{Session}
 use Rattle.sl_due_law.specs.Facts.Heard.{IsOpen}
 use Rattle.sl_trace.specs.Traces.{Child, Setting, Submitted, Trace, children, held_by, holdings, is_shared, next_child, same_place, spot_of_grant}
 use Rattle.sl_trace.specs.declared.effects.Grant.{Grant}

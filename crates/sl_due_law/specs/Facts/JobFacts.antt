@@ -1,8 +1,8 @@
 -- What is known of jobs: whose they are, and what their calls have to do with their commands.
-use Rattle.sl_leases.specs.Jobs.{aim_of_command, command_numbered, resource_named}
-use Rattle.sl_leases.specs.Leases.{spot_of, spot_of_call}
-use Rattle.sl_sessions.specs.Sessions.{is_session_arg, joining_session, session_numbered, sessions}
-use Rattle.sl_sessions.specs.declared.session.Session.{Session}
+use Rattle.sl_trace.specs.Jobs.{aim_of_command, command_numbered, resource_named}
+use Rattle.sl_trace.specs.Leases.{spot_of, spot_of_call}
+use Rattle.sl_trace.specs.Sessions.{is_session_arg, joining_session, session_numbered, sessions}
+use Rattle.sl_trace.specs.declared.session.Session.{Session}
 use Rattle.sl_due_law.specs.Facts.Heard.{IsOpen}
 use Rattle.sl_trace.specs.Traces.{Child, Setting, Submitted, Trace, children, is_running, job_numbered, job_of, submitted}
 use Rattle.sl_trace.specs.declared.command.Command.TheVariants.{AddLockspace, GetLvb, RemLockspace, Request, RunProgram, SetLvb}

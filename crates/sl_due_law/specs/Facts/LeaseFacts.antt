@@ -1,9 +1,9 @@
 -- What is known of leases: whose turn it is on an area, and the instances of frees and ballots.
-use Rattle.sl_law.specs.LawfulArea.{is_area_work}
-use Rattle.sl_leases.specs.Leases.{block_submitted, freed, is_lease_call, lease_calls, open_ballot, own_block, spot_of_call}
+use Rattle.sl_run.specs.LawfulArea.{is_area_work}
+use Rattle.sl_trace.specs.Leases.{block_submitted, freed, is_lease_call, lease_calls, open_ballot, own_block, spot_of_call}
 use Rattle.sl_sector.specs.declared.sector.Block.{Block}
-use Rattle.sl_sessions.specs.Sessions.{session_numbered, sessions}
-use Rattle.sl_sessions.specs.declared.session.Session.{Session}
+use Rattle.sl_trace.specs.Sessions.{session_numbered, sessions}
+use Rattle.sl_trace.specs.declared.session.Session.{Session}
 use Rattle.sl_due_law.specs.Facts.Heard.{IsOpen}
 use Rattle.sl_due_law.specs.Facts.WayFacts.{IsAligned}
 use Rattle.sl_trace.specs.Traces.{Setting, Submitted, Trace, submitted}

@@ -1,9 +1,9 @@
 -- What a read of a value tells.
-use Rattle.sl_law.specs.LawfulValue.{held_since, writes_since}
-use Rattle.sl_leases.specs.Jobs.{command_numbered}
-use Rattle.sl_leases.specs.Leases.{holdings_on, spot_of_call}
-use Rattle.sl_sessions.specs.Sessions.{session_numbered}
-use Rattle.sl_sessions.specs.declared.session.Session.{Session}
+use Rattle.sl_run.specs.LawfulValue.{held_since, writes_since}
+use Rattle.sl_trace.specs.Jobs.{command_numbered}
+use Rattle.sl_trace.specs.Leases.{holdings_on, spot_of_call}
+use Rattle.sl_trace.specs.Sessions.{session_numbered}
+use Rattle.sl_trace.specs.declared.session.Session.{Session}
 use Rattle.sl_due_law.specs.Facts.Heard.{IsOpen}
 use Rattle.sl_trace.specs.Traces.{Child, Setting, Submitted, Trace, child_numbered, children, first_child, is_running, submitted}
 use Rattle.sl_trace.specs.declared.command.Command.TheVariants.{GetLvb}

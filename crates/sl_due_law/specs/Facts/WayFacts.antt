@@ -1,19 +1,19 @@
 -- Why each call of a session's lease was made. A way speaks of the calls before it alone, the newest first: it knows neither what is due
 -- nor how a step goes on.
 use Rattle.sl_area.specs.Layouts.{Layout}
-use Rattle.sl_leases.specs.Ballots.{ballot_blocks, moded_block, phase2_block, stop_of}
-use Rattle.sl_leases.specs.Jobs.{aim_of}
-use Rattle.sl_leases.specs.LeaseWork.{looks_for_shared}
-use Rattle.sl_leases.specs.Leases.{block_submitted, blocks_given, ended_ballot, ended_ballots, freed, lease_calls, lver_written, open_ballot, verified_by}
-use Rattle.sl_leases.specs.declared.lease.Aim.TheVariants.{Acquires, Converts, Releases, Settles}
-use Rattle.sl_leases.specs.declared.lease.Aim.{Aim}
+use Rattle.sl_trace.specs.Ballots.{ballot_blocks, moded_block, phase2_block, stop_of}
+use Rattle.sl_trace.specs.Jobs.{aim_of}
+use Rattle.sl_trace.specs.LeaseWork.{looks_for_shared}
+use Rattle.sl_trace.specs.Leases.{block_submitted, blocks_given, ended_ballot, ended_ballots, freed, lease_calls, lver_written, open_ballot, verified_by}
+use Rattle.sl_trace.specs.declared.lease.Aim.TheVariants.{Acquires, Converts, Releases, Settles}
+use Rattle.sl_trace.specs.declared.lease.Aim.{Aim}
 use Rattle.sl_sector.specs.declared.sector.Block.{Block}
 use Rattle.sl_sector.specs.declared.sector.Leader.{Leader}
 use Rattle.sl_sector.specs.declared.sector.Owner.{Owner}
 use Rattle.sl_sector.specs.declared.sector.Rec.TheVariants.{BlockIs, LeaderIs}
-use Rattle.sl_sessions.specs.Sessions.{me, sessions}
-use Rattle.sl_sessions.specs.Watching.{counted_over}
-use Rattle.sl_sessions.specs.declared.session.Session.{Session}
+use Rattle.sl_trace.specs.Sessions.{me, sessions}
+use Rattle.sl_trace.specs.Watching.{counted_over}
+use Rattle.sl_trace.specs.declared.session.Session.{Session}
 use Rattle.sl_trace.specs.Traces.{Answered, Setting, Submitted, Trace}
 use Rattle.sl_trace.specs.declared.effects.Call.{Call}
 use Rattle.sl_trace.specs.declared.effects.LeaseStep.TheVariants.{ClearMode, FreeLeader, Phase1Read, Phase1Write, Phase2Read, Phase2Write, ReadArea, ReadBeforeFree, SetMode, TakeLeader}

@@ -1,7 +1,7 @@
 -- All that is known together: at each moment of a step, and of a trace at the end of an entry.
 use Rattle.sl_acts.specs.SoFar.{SoFar}
 use Rattle.sl_due.specs.Steps.{Step, seen}
-use Rattle.sl_law.specs.Lawful.{IsSetting, Lawful}
+use Rattle.sl_run.specs.Lawful.{IsSetting, Lawful}
 use Rattle.sl_due_law.specs.Facts.CallFacts.{CallFacts}
 use Rattle.sl_due_law.specs.Facts.Heard.{heard_by}
 use Rattle.sl_due_law.specs.Facts.JobFacts.{JobFacts}

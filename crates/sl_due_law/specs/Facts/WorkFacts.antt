@@ -1,12 +1,12 @@
 -- What may be held on an area while a job works on a lease there. From its line on no other command has come in between, for its call
 -- is open.
-use Rattle.sl_law.specs.LawfulModes.{shared_since}
-use Rattle.sl_leases.specs.Jobs.{aim_of_command, command_numbered, process_named}
-use Rattle.sl_leases.specs.Leases.{spot_of_call}
-use Rattle.sl_leases.specs.declared.lease.Aim.TheVariants.{Acquires, Converts, Releases, Settles}
-use Rattle.sl_leases.specs.declared.lease.Aim.{Aim}
-use Rattle.sl_sessions.specs.Sessions.{session_numbered}
-use Rattle.sl_sessions.specs.declared.session.Session.{Session}
+use Rattle.sl_run.specs.LawfulModes.{shared_since}
+use Rattle.sl_trace.specs.Jobs.{aim_of_command, command_numbered, process_named}
+use Rattle.sl_trace.specs.Leases.{spot_of_call}
+use Rattle.sl_trace.specs.declared.lease.Aim.TheVariants.{Acquires, Converts, Releases, Settles}
+use Rattle.sl_trace.specs.declared.lease.Aim.{Aim}
+use Rattle.sl_trace.specs.Sessions.{session_numbered}
+use Rattle.sl_trace.specs.declared.session.Session.{Session}
 use Rattle.sl_due_law.specs.Facts.Heard.{newest_calls}
 use Rattle.sl_trace.specs.Traces.{Setting, Submitted, Trace, holdings, is_running, is_shared, next_child, same_place, submitted}
 use Rattle.sl_trace.specs.declared.command.Command.{Command}

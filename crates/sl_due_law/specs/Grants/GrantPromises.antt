@@ -5,13 +5,13 @@ use Rattle.sl_area.specs.Places.{is_base}
 use Rattle.sl_due.specs.Steps.{Step, seen}
 use Rattle.sl_due_law.specs.Holdings.Moments.{Known}
 use Rattle.sl_due_law.specs.Holdings.Promises.{Begins}
-use Rattle.sl_law.specs.LawfulEnd.{LawfulEnd}
-use Rattle.sl_law.specs.LawfulExit.{LawfulExit}
-use Rattle.sl_law.specs.LawfulGrant.{HasTaken, LawfulGrant, LawfulOrphan}
-use Rattle.sl_law.specs.LawfulModes.{LawfulExclusiveGrant}
-use Rattle.sl_leases.specs.Leases.{freed, lease_calls}
-use Rattle.sl_sessions.specs.Sessions.{is_active, session_numbered}
-use Rattle.sl_sessions.specs.declared.session.Session.{Session}
+use Rattle.sl_run.specs.LawfulEnd.{LawfulEnd}
+use Rattle.sl_run.specs.LawfulExit.{LawfulExit}
+use Rattle.sl_run.specs.LawfulGrant.{HasTaken, LawfulGrant, LawfulOrphan}
+use Rattle.sl_run.specs.LawfulModes.{LawfulExclusiveGrant}
+use Rattle.sl_trace.specs.Leases.{freed, lease_calls}
+use Rattle.sl_trace.specs.Sessions.{is_active, session_numbered}
+use Rattle.sl_trace.specs.declared.session.Session.{Session}
 use Rattle.sl_due_law.specs.Facts.Heard.{heard_by}
 use Rattle.sl_due_law.specs.Facts.HoldingFacts.{HoldingFacts}
 use Rattle.sl_due_law.specs.Facts.WorkFacts.{WorkFacts}

@@ -4,7 +4,7 @@ use Rattle.sl_acts.specs.SoFar.{entry_of}
 use Rattle.sl_due.specs.Steps.{Step}
 use Rattle.sl_due_law.specs.Holdings.Moments.{Known}
 use Rattle.sl_due_law.specs.Holdings.Promises.{Begins}
-use Rattle.sl_law.specs.LawfulModes.{LawfulModes}
+use Rattle.sl_run.specs.LawfulModes.{LawfulModes}
 
 -- What was granted and written so far has what stands behind its mode.
 abbrev pub ModesSoFar : Step → Type 0

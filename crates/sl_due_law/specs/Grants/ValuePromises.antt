@@ -4,7 +4,7 @@ use Rattle.sl_acts.specs.SoFar.{entry_of}
 use Rattle.sl_due.specs.Steps.{Step, seen}
 use Rattle.sl_due_law.specs.Holdings.Moments.{Known}
 use Rattle.sl_due_law.specs.Holdings.Promises.{Begins}
-use Rattle.sl_law.specs.LawfulValue.{LawfulValue}
+use Rattle.sl_run.specs.LawfulValue.{LawfulValue}
 use Rattle.sl_due_law.specs.Facts.Heard.{heard_by}
 use Rattle.sl_due_law.specs.Facts.ValueFacts.{ValueFacts}
 

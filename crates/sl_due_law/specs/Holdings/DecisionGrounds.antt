@@ -2,12 +2,12 @@
 use Rattle.sl_due.specs.DueCommands.{decided, holding_of}
 use Rattle.sl_due.specs.declared.decision.Decision.TheVariants.{ConvertsTo, GetsValue, GivesUp, Joins, Leaves, ReadsArea, Replies, Requests, SetsValue, Shares, TakesOver}
 use Rattle.sl_due.specs.declared.decision.Decision.{Decision}
-use Rattle.sl_leases.specs.Counts.{held_here, holds_already, may_act, next_value_seq, other_holder}
-use Rattle.sl_leases.specs.Jobs.{process_named, wanted_mode, wants_shared}
-use Rattle.sl_leases.specs.Leases.{holdings_on, open_on, orphan_on, shared_on, spot_of}
+use Rattle.sl_trace.specs.Counts.{held_here, holds_already, may_act, next_value_seq, other_holder}
+use Rattle.sl_trace.specs.Jobs.{process_named, wanted_mode, wants_shared}
+use Rattle.sl_trace.specs.Leases.{holdings_on, open_on, orphan_on, shared_on, spot_of}
 use Rattle.sl_sector.specs.declared.sector.ValueRec.{ValueRec}
-use Rattle.sl_sessions.specs.Sessions.{holdings_of, is_active, session_named}
-use Rattle.sl_sessions.specs.declared.session.Session.{Session}
+use Rattle.sl_trace.specs.Sessions.{holdings_of, is_active, session_named}
+use Rattle.sl_trace.specs.declared.session.Session.{Session}
 use Rattle.sl_trace.specs.Traces.{Setting, Trace, is_orphan, is_shared}
 use Rattle.sl_trace.specs.declared.command.Command.TheVariants.{Acquire, Convert, GetLvb, Release, ReleaseOrphan, RemLockspace, RunProgram, SetLvb, TakeOver}
 use Rattle.sl_trace.specs.declared.command.Command.{Command}

@@ -1,9 +1,9 @@
 -- What an acquire's job does, in any trace of a host.
 use Rattle.sl_due.specs.Due.{IsHostTrace}
-use Rattle.sl_law.specs.Lawful.{IsSetting}
-use Rattle.sl_leases.specs.Jobs.{child_of_job, command_numbered}
-use Rattle.sl_leases.specs.Leases.{lease_calls, spot_of}
-use Rattle.sl_sessions.specs.declared.session.Session.{Session}
+use Rattle.sl_run.specs.Lawful.{IsSetting}
+use Rattle.sl_trace.specs.Jobs.{child_of_job, command_numbered}
+use Rattle.sl_trace.specs.Leases.{lease_calls, spot_of}
+use Rattle.sl_trace.specs.declared.session.Session.{Session}
 use Rattle.sl_trace.specs.Traces.{Setting, Submitted, Trace, is_of_job, next_job, reply_to, submitted}
 use Rattle.sl_trace.specs.declared.command.Command.TheVariants.{Acquire}
 use Rattle.sl_trace.specs.declared.command.ResourceArg.{ResourceArg}

@@ -1,15 +1,15 @@
 -- What the laws of areas, blocks and leaders ask of one call, at the trace as it stood where the call was made.
 use Rattle.sl_acts.specs.SoFar.{entry_of}
 use Rattle.sl_due.specs.Steps.{Step}
-use Rattle.sl_law.specs.LawfulArea.{LawfulArea, LawfulAreaWrite, LawfulLeaseRead, is_area_work, is_block_work, is_delta_record, open_block_work}
-use Rattle.sl_law.specs.LawfulBlock.{LawfulBlock, LawfulBlockWrite, LawfulPhase2Read}
-use Rattle.sl_law.specs.LawfulLeader.{LawfulLeader, LawfulLeaderWrite}
-use Rattle.sl_leases.specs.Leases.{Phase2_read, block_written, is_at, leader_written, spot_of_call}
+use Rattle.sl_run.specs.LawfulArea.{LawfulArea, LawfulAreaWrite, LawfulLeaseRead, is_area_work, is_block_work, is_delta_record, open_block_work}
+use Rattle.sl_run.specs.LawfulBlock.{LawfulBlock, LawfulBlockWrite, LawfulPhase2Read}
+use Rattle.sl_run.specs.LawfulLeader.{LawfulLeader, LawfulLeaderWrite}
+use Rattle.sl_trace.specs.Leases.{Phase2_read, block_written, is_at, leader_written, spot_of_call}
 use Rattle.sl_sector.specs.declared.sector.Block.{Block}
 use Rattle.sl_sector.specs.declared.sector.Leader.{Leader}
 use Rattle.sl_sector.specs.declared.sector.Rec.{Rec}
-use Rattle.sl_sessions.specs.Sessions.{is_active, joined_after}
-use Rattle.sl_sessions.specs.declared.session.Session.{Session}
+use Rattle.sl_trace.specs.Sessions.{is_active, joined_after}
+use Rattle.sl_trace.specs.declared.session.Session.{Session}
 use Rattle.sl_trace.specs.Traces.{Setting, Submitted, Trace, record_of}
 use Rattle.sl_trace.specs.declared.effects.Purpose.TheVariants.{SeeRequest}
 use Rattle.std.specs.Prelude.{IsFalse, IsTrue, Some, is_some, [], ◌&&◌, ◌≡◌}

@@ -1,10 +1,10 @@
 -- Where a lease makes a call, and what the call is.
 use Rattle.sl_area.specs.Places.{block_offset}
-use Rattle.sl_law.specs.LawfulArea.{open_block_work}
-use Rattle.sl_law.specs.LawfulLeader.{open_writes_on}
+use Rattle.sl_run.specs.LawfulArea.{open_block_work}
+use Rattle.sl_run.specs.LawfulLeader.{open_writes_on}
 use Rattle.sl_due_law.specs.Ways.Nexts.{Moment, calls_at, context_at}
-use Rattle.sl_leases.specs.Leases.{spot_of_call}
-use Rattle.sl_sessions.specs.Sessions.{is_active}
+use Rattle.sl_trace.specs.Leases.{spot_of_call}
+use Rattle.sl_trace.specs.Sessions.{is_active}
 use Rattle.sl_due_law.specs.Facts.WayFacts.{Ways}
 use Rattle.sl_trace.specs.Traces.{Submitted}
 use Rattle.sl_trace.specs.declared.effects.LeaseStep.TheVariants.{ReadArea, ReadBeforeFree}

@@ -1,11 +1,11 @@
 -- What is shown of the laws of areas, blocks and leaders: each call that a lease makes keeps them, and so does each act.
 use Rattle.sl_acts.specs.Acts.{Acts}
 use Rattle.sl_area.specs.Places.{block_offset, leader_offset}
-use Rattle.sl_law.specs.LawfulLeader.{holds_under}
+use Rattle.sl_run.specs.LawfulLeader.{holds_under}
 use Rattle.sl_due_law.specs.Leases.LeaseLawful.{LeaseLawful, LeaseLaws}
 use Rattle.sl_due_law.specs.Leases.Made.{IsCallAt, MayCall, read_place}
 use Rattle.sl_due_law.specs.Ways.Nexts.{Moment, NextIs, read_op}
-use Rattle.sl_leases.specs.declared.lease.LeaseNext.TheVariants.{ReadFor, WriteBlock, WriteLeader}
+use Rattle.sl_trace.specs.declared.lease.LeaseNext.TheVariants.{ReadFor, WriteBlock, WriteLeader}
 use Rattle.sl_sector.specs.declared.sector.Block.{Block}
 use Rattle.sl_sector.specs.declared.sector.Leader.{Leader}
 use Rattle.sl_sector.specs.declared.sector.Rec.TheVariants.{BlockIs, LeaderIs}

@@ -1,19 +1,19 @@
 -- What every law asks of one call, at the trace as it stood where the call was made.
-use Rattle.sl_law.specs.LawfulArea.{LawfulAreaWrite, LawfulLeaseRead, is_area_work, is_block_work, is_delta_record, open_block_work}
-use Rattle.sl_law.specs.LawfulBlock.{LawfulBlockWrite, LawfulPhase2Read}
-use Rattle.sl_law.specs.LawfulCalls.{may_submit}
-use Rattle.sl_law.specs.LawfulDelta.{LawfulDeltaCall, is_on_own_sector}
-use Rattle.sl_law.specs.LawfulLeader.{LawfulLeaderWrite}
-use Rattle.sl_law.specs.LawfulModes.{LawfulMode}
-use Rattle.sl_law.specs.LawfulParting.{is_leaving_write}
-use Rattle.sl_law.specs.LawfulValue.{LawfulValueRead, LawfulValueWrite}
-use Rattle.sl_leases.specs.Leases.{Phase2_read, block_written, is_at, leader_written, spot_of_call, value_written}
+use Rattle.sl_run.specs.LawfulArea.{LawfulAreaWrite, LawfulLeaseRead, is_area_work, is_block_work, is_delta_record, open_block_work}
+use Rattle.sl_run.specs.LawfulBlock.{LawfulBlockWrite, LawfulPhase2Read}
+use Rattle.sl_run.specs.LawfulCalls.{may_submit}
+use Rattle.sl_run.specs.LawfulDelta.{LawfulDeltaCall, is_on_own_sector}
+use Rattle.sl_run.specs.LawfulLeader.{LawfulLeaderWrite}
+use Rattle.sl_run.specs.LawfulModes.{LawfulMode}
+use Rattle.sl_run.specs.LawfulParting.{is_leaving_write}
+use Rattle.sl_run.specs.LawfulValue.{LawfulValueRead, LawfulValueWrite}
+use Rattle.sl_trace.specs.Leases.{Phase2_read, block_written, is_at, leader_written, spot_of_call, value_written}
 use Rattle.sl_sector.specs.declared.sector.Block.{Block}
 use Rattle.sl_sector.specs.declared.sector.Leader.{Leader}
 use Rattle.sl_sector.specs.declared.sector.Rec.{Rec}
 use Rattle.sl_sector.specs.declared.sector.ValueRec.{ValueRec}
-use Rattle.sl_sessions.specs.Sessions.{has_open_delta, is_active, is_delta_purpose, is_leaving, is_recovering, is_survey_purpose, joined_after, stage_of}
-use Rattle.sl_sessions.specs.declared.session.Session.{Session}
+use Rattle.sl_trace.specs.Sessions.{has_open_delta, is_active, is_delta_purpose, is_leaving, is_recovering, is_survey_purpose, joined_after, stage_of}
+use Rattle.sl_trace.specs.declared.session.Session.{Session}
 use Rattle.sl_trace.specs.Traces.{Setting, Submitted, Trace, is_write, record_of}
 use Rattle.sl_trace.specs.declared.effects.Purpose.TheVariants.{SeeRequest, ValueRead}
 use Rattle.std.specs.Prelude.{IsFalse, IsTrue, Some, false, is_some, not, true, [], ℕ, ◌&&◌, ◌≡◌}

@@ -1,10 +1,10 @@
 -- What each question to a trace becomes by one more effect, what an effect that comes after a call leaves of its laws, and what one more
 -- call leaves of all laws.
-use Rattle.sl_law.specs.Lawful.{Orderly}
+use Rattle.sl_run.specs.Lawful.{Orderly}
 use Rattle.sl_due_law.specs.Parts.CallIsLawful.{CallIsLawful}
 use Rattle.sl_due_law.specs.Parts.Parts.{JoinedCall, with_end, with_grant, with_move, with_reply, with_start}
-use Rattle.sl_sessions.specs.Sessions.{calls_of, is_join_call, sessions}
-use Rattle.sl_sessions.specs.declared.session.Session.{Session}
+use Rattle.sl_trace.specs.Sessions.{calls_of, is_join_call, sessions}
+use Rattle.sl_trace.specs.declared.session.Session.{Session}
 use Rattle.sl_trace.specs.Connections.{after_move, connections, unregisters}
 use Rattle.sl_trace.specs.TraceLaws.{with_call}
 use Rattle.sl_trace.specs.Traces.{Setting, Submitted, Trace, children, holdings, is_ended_by, is_running, new_call, new_child, next_call, reply_to}

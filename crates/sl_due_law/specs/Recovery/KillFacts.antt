@@ -1,8 +1,8 @@
 -- What is known of kills at the end of an entry.
-use Rattle.sl_law.specs.LawfulRecovery.{was_killed}
-use Rattle.sl_sessions.specs.Sessions.{holders_of, leaving_of, recovery_of, sessions}
-use Rattle.sl_sessions.specs.declared.session.Begun.{Begun}
-use Rattle.sl_sessions.specs.declared.session.Session.{Session}
+use Rattle.sl_run.specs.LawfulRecovery.{was_killed}
+use Rattle.sl_trace.specs.Sessions.{holders_of, leaving_of, recovery_of, sessions}
+use Rattle.sl_trace.specs.declared.session.Begun.{Begun}
+use Rattle.sl_trace.specs.declared.session.Session.{Session}
 use Rattle.sl_trace.specs.Traces.{Setting, Trace, last_reading}
 use Rattle.std.specs.Prelude.{Contains, IsTrue, Some, length, ℕ, ◌+◌, ◌<◌, ◌≡◌, ◌≤◌}
 

@@ -5,12 +5,12 @@ use Rattle.sl_due.specs.Due.{IsDue, due_step}
 use Rattle.sl_due.specs.Steps.{Step, seen, with_input}
 use Rattle.sl_due_law.specs.Holdings.Moments.{Known}
 use Rattle.sl_due_law.specs.Holdings.Promises.{Begins}
-use Rattle.sl_law.specs.LawfulArea.{LawfulArea}
-use Rattle.sl_law.specs.LawfulDelta.{LawfulDelta}
-use Rattle.sl_law.specs.LawfulGrant.{LawfulGrant}
-use Rattle.sl_law.specs.LawfulParting.{LawfulParting}
-use Rattle.sl_law.specs.LawfulRecovery.{LawfulRecovery}
-use Rattle.sl_law.specs.LawfulWatchdog.{LawfulWatchdog}
+use Rattle.sl_run.specs.LawfulArea.{LawfulArea}
+use Rattle.sl_run.specs.LawfulDelta.{LawfulDelta}
+use Rattle.sl_run.specs.LawfulGrant.{LawfulGrant}
+use Rattle.sl_run.specs.LawfulParting.{LawfulParting}
+use Rattle.sl_run.specs.LawfulRecovery.{LawfulRecovery}
+use Rattle.sl_run.specs.LawfulWatchdog.{LawfulWatchdog}
 use Rattle.sl_due_law.specs.Recovery.KillFacts.{KillFacts}
 use Rattle.sl_due_law.specs.Recovery.Stops.{Denies, FreesEnd, JustHeard, Partings, Stops}
 use Rattle.sl_due_law.specs.Facts.CallFacts.{CallFacts}

@@ -1,17 +1,17 @@
 -- What a lease decides fits the calls before it: the call that it makes has its way, and its block or leader is the one that the laws ask.
-use Rattle.sl_law.specs.LawfulBlock.{LawfulPhase1}
-use Rattle.sl_leases.specs.Ballots.{moded_block}
-use Rattle.sl_leases.specs.LeaseWork.{LeasePlace, leader_for, lease_place}
-use Rattle.sl_leases.specs.Leases.{LeaseKnown, block_submitted, exclusive_on, has_shared_on, known, lease_calls}
-use Rattle.sl_leases.specs.Jobs.{aim_of}
-use Rattle.sl_leases.specs.declared.lease.Aim.{Aim}
-use Rattle.sl_leases.specs.declared.lease.LeaseNext.TheVariants.{AnswerJob, BecomeExclusive, BecomeShared, GrantJob, Nothing, ReadFor, WriteBlock, WriteLeader}
-use Rattle.sl_leases.specs.declared.lease.LeaseNext.{LeaseNext}
+use Rattle.sl_run.specs.LawfulBlock.{LawfulPhase1}
+use Rattle.sl_trace.specs.Ballots.{moded_block}
+use Rattle.sl_trace.specs.LeaseWork.{LeasePlace, leader_for, lease_place}
+use Rattle.sl_trace.specs.Leases.{LeaseKnown, block_submitted, exclusive_on, has_shared_on, known, lease_calls}
+use Rattle.sl_trace.specs.Jobs.{aim_of}
+use Rattle.sl_trace.specs.declared.lease.Aim.{Aim}
+use Rattle.sl_trace.specs.declared.lease.LeaseNext.TheVariants.{AnswerJob, BecomeExclusive, BecomeShared, GrantJob, Nothing, ReadFor, WriteBlock, WriteLeader}
+use Rattle.sl_trace.specs.declared.lease.LeaseNext.{LeaseNext}
 use Rattle.sl_sector.specs.declared.sector.Block.{Block}
 use Rattle.sl_sector.specs.declared.sector.Leader.{Leader}
 use Rattle.sl_sector.specs.declared.sector.Rec.TheVariants.{BlockIs, LeaderIs}
-use Rattle.sl_sessions.specs.Sessions.{generation_of}
-use Rattle.sl_sessions.specs.declared.session.Session.{Session}
+use Rattle.sl_trace.specs.Sessions.{generation_of}
+use Rattle.sl_trace.specs.declared.session.Session.{Session}
 use Rattle.sl_due_law.specs.Facts.WayFacts.{IsVerified, StepWay, WayContext, Ways, way_context}
 use Rattle.sl_trace.specs.Traces.{Answered, Setting, Submitted, Trace, is_before_input}
 use Rattle.sl_trace.specs.declared.effects.Call.{Call}

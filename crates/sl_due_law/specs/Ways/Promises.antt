@@ -2,19 +2,19 @@
 use Rattle.sl_acts.specs.Acts.{Acts}
 use Rattle.sl_due.specs.DueFirst.{begin_recoveries}
 use Rattle.sl_due.specs.Steps.{begin_step}
-use Rattle.sl_law.specs.LawfulBlock.{LawfulModeWrite, LawfulPhase2, LawfulPhase2Read}
-use Rattle.sl_law.specs.LawfulLeader.{HasWon}
+use Rattle.sl_run.specs.LawfulBlock.{LawfulModeWrite, LawfulPhase2, LawfulPhase2Read}
+use Rattle.sl_run.specs.LawfulLeader.{HasWon}
 use Rattle.sl_due_law.specs.Ways.Kept.{HasGrantGrounds, HasNumberFacts, HasTurnFacts, HasWayFacts}
 use Rattle.sl_due_law.specs.Ways.Nexts.{IsHeard, Moment, NextIs, calls_at, context_at, known_at, place_at}
-use Rattle.sl_leases.specs.Jobs.{aim_of}
-use Rattle.sl_leases.specs.LeaseWork.{convert_next, lease_next, release_next, settle_next}
-use Rattle.sl_leases.specs.Leases.{block_written, ended_ballots, freed, leader_written, lease_calls, lver_written, open_ballot}
-use Rattle.sl_leases.specs.declared.lease.Aim.TheVariants.{Converts, Releases, Settles}
-use Rattle.sl_leases.specs.declared.lease.Aim.{Aim}
+use Rattle.sl_trace.specs.Jobs.{aim_of}
+use Rattle.sl_trace.specs.LeaseWork.{convert_next, lease_next, release_next, settle_next}
+use Rattle.sl_trace.specs.Leases.{block_written, ended_ballots, freed, leader_written, lease_calls, lver_written, open_ballot}
+use Rattle.sl_trace.specs.declared.lease.Aim.TheVariants.{Converts, Releases, Settles}
+use Rattle.sl_trace.specs.declared.lease.Aim.{Aim}
 use Rattle.sl_sector.specs.declared.sector.Block.{Block}
 use Rattle.sl_sector.specs.declared.sector.Leader.{Leader}
-use Rattle.sl_sessions.specs.Sessions.{me}
-use Rattle.sl_sessions.specs.declared.session.Session.{Session}
+use Rattle.sl_trace.specs.Sessions.{me}
+use Rattle.sl_trace.specs.declared.session.Session.{Session}
 use Rattle.sl_due_law.specs.Facts.LeaseFacts.{NumberFacts, TurnFacts}
 use Rattle.sl_due_law.specs.Facts.WayFacts.{ClearWay, ModeWay, Phase2ReadWay, Phase2Way, TakeWay, WayFacts, Ways, way_context}
 use Rattle.sl_due_law.specs.Facts.GrantGrounds.{GrantGrounds}

@@ -1,6 +1,6 @@
 -- What a running job waits for.
-use Rattle.sl_sessions.specs.Sessions.{leaving_job, sessions}
-use Rattle.sl_sessions.specs.declared.session.Session.{Session}
+use Rattle.sl_trace.specs.Sessions.{leaving_job, sessions}
+use Rattle.sl_trace.specs.declared.session.Session.{Session}
 use Rattle.sl_trace.specs.Traces.{Child, Job, Setting, Submitted, Trace, child_numbered, is_running, job_of, jobs, submitted}
 use Rattle.sl_trace.specs.declared.input.Input.TheVariants.{Spawned}
 use Rattle.sl_trace.specs.declared.input.Input.{Input}

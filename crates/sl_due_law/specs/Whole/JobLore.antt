@@ -1,12 +1,12 @@
 -- What is carried from entry to entry of jobs: their calls suit what they are for and are of one session, what a conversion converts is still
 -- held, and their callers are present.
 use Rattle.sl_due.specs.Steps.{Step, seen}
-use Rattle.sl_leases.specs.Jobs.{aim_of_command, command_numbered}
-use Rattle.sl_leases.specs.Leases.{spot_of_call}
-use Rattle.sl_leases.specs.declared.lease.Aim.TheVariants.{Acquires, Converts, Releases, Settles}
-use Rattle.sl_leases.specs.declared.lease.Aim.{Aim}
-use Rattle.sl_sessions.specs.Sessions.{is_present, session_numbered}
-use Rattle.sl_sessions.specs.declared.session.Session.{Session}
+use Rattle.sl_trace.specs.Jobs.{aim_of_command, command_numbered}
+use Rattle.sl_trace.specs.Leases.{spot_of_call}
+use Rattle.sl_trace.specs.declared.lease.Aim.TheVariants.{Acquires, Converts, Releases, Settles}
+use Rattle.sl_trace.specs.declared.lease.Aim.{Aim}
+use Rattle.sl_trace.specs.Sessions.{is_present, session_numbered}
+use Rattle.sl_trace.specs.declared.session.Session.{Session}
 use Rattle.sl_trace.specs.Traces.{Child, Setting, Submitted, Trace, child_numbered, first_child, holdings, is_running, is_write, job_of, same_place, submitted}
 use Rattle.sl_trace.specs.declared.command.Command.{Command}
 use Rattle.sl_trace.specs.declared.command.Command.TheVariants.{Convert}

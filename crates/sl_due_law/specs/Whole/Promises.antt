@@ -4,14 +4,14 @@ use Rattle.sl_due.specs.Due.{IsDue, IsHostTrace, NoIdleJob}
 use Rattle.sl_due.specs.Steps.{Step, seen}
 use Rattle.sl_due_law.specs.Whole.Busy.{Waits}
 use Rattle.sl_due_law.specs.Whole.Kept.{Holds}
-use Rattle.sl_law.specs.Caused.{AnswersWell, IsCaused}
-use Rattle.sl_law.specs.Lawful.{IsSetting, Lawful}
-use Rattle.sl_law.specs.LawfulCalls.{may_submit}
-use Rattle.sl_law.specs.LawfulDelta.{LawfulDelta}
-use Rattle.sl_law.specs.Saying.{EachCall}
+use Rattle.sl_run.specs.Caused.{AnswersWell, IsCaused}
+use Rattle.sl_run.specs.Lawful.{IsSetting, Lawful}
+use Rattle.sl_run.specs.LawfulCalls.{may_submit}
+use Rattle.sl_run.specs.LawfulDelta.{LawfulDelta}
+use Rattle.sl_run.specs.Saying.{EachCall}
 use Rattle.sl_sector.specs.Records.{IsRecord}
 use Rattle.sl_sector.specs.declared.sector.Rec.{Rec}
-use Rattle.sl_sessions.specs.Sessions.{stage_of}
+use Rattle.sl_trace.specs.Sessions.{stage_of}
 use Rattle.sl_due_law.specs.Facts.Whole.{Facts}
 use Rattle.sl_trace.specs.Traces.{FollowsTrace, Setting, Trace, is_running, record_of}
 use Rattle.sl_trace.specs.declared.effects.Call.{Call}

@@ -2,13 +2,13 @@
 use Rattle.sl_area.specs.Layouts.{Layout}
 use Rattle.sl_run_law.specs.Course.Stamping.{stamp_in}
 use Rattle.sl_run_law.proofs.Front.Having.{contains_right}
-use Rattle.sl_law.specs.LawfulArea.{is_area_work}
+use Rattle.sl_run.specs.LawfulArea.{is_area_work}
 use Rattle.sl_trace_law.proofs.Leases.ComingLaws.{blocks_come}
 use Rattle.sl_trace_law.proofs.Leases.NumberLaws.{number_is_place}
 use Rattle.sl_trace_law.proofs.Leases.TurnLaws.{one_at_a_time}
 use Rattle.sl_trace_law.specs.Leases.Promises.{WasAnsweredBy}
 use Rattle.sl_trace_law.specs.Leases.Ways.{BlockComes, FoundIn, Of_mode, Of_phase1, Of_phase2, Way, lease_among}
-use Rattle.sl_leases.specs.Leases.{block_of_host, block_submitted, blocks_given, is_area_read, is_block_read, is_lease_call, is_on, is_phase_read, spot_of_call}
+use Rattle.sl_trace.specs.Leases.{block_of_host, block_submitted, blocks_given, is_area_read, is_block_read, is_lease_call, is_on, is_phase_read, spot_of_call}
 use Rattle.sl_run_law.proofs.Place.Areas.{resource_aligned}
 use Rattle.sl_run_law.proofs.Place.Daemons.{daemons_are_fine, stamp_order}
 use Rattle.sl_run_law.proofs.Place.Seats.{sized_in}
@@ -28,8 +28,8 @@ use Rattle.sl_run.specs.Worlds.{Program, Stamp, World}
 use Rattle.sl_run.specs.declared.header.Header.{Header}
 use Rattle.sl_run.specs.declared.header.ResourceLine.{ResourceLine}
 use Rattle.sl_sector.specs.declared.sector.Block.{Block}
-use Rattle.sl_sessions.specs.Sessions.{is_call_of, session_numbered}
-use Rattle.sl_sessions.specs.declared.session.Session.{Session}
+use Rattle.sl_trace.specs.Sessions.{is_call_of, session_numbered}
+use Rattle.sl_trace.specs.declared.session.Session.{Session}
 use Rattle.sl_trace.specs.Traces.{Answered, Setting, Submitted, submitted}
 use Rattle.sl_trace.specs.declared.effects.Spot.{Spot}
 use Rattle.sl_words.proofs.CaseLaws.{none_some, one_value}

@@ -1,7 +1,7 @@
 -- Of one lockspace at most one session of a daemon stands: joined, and not removed.
-use Rattle.sl_law.specs.Lawful.{Orderly}
-use Rattle.sl_law.specs.LawfulDelta.{Gave, LawfulClaim, LawfulDeltaCall, LawfulFirstRenewal, LawfulJoin, LawfulJoinStep, LawfulVerify}
-use Rattle.sl_law.specs.Saying.{cut_at}
+use Rattle.sl_run.specs.Lawful.{Orderly}
+use Rattle.sl_run.specs.LawfulDelta.{Gave, LawfulClaim, LawfulDeltaCall, LawfulFirstRenewal, LawfulJoin, LawfulJoinStep, LawfulVerify}
+use Rattle.sl_run.specs.Saying.{cut_at}
 use Rattle.sl_run_law.proofs.Place.Daemons.{daemons_are_fine}
 use Rattle.sl_run_law.proofs.Place.Finding.{given_by}
 use Rattle.sl_run_law.proofs.Place.Looks.{heard, joins_at}
@@ -21,8 +21,8 @@ use Rattle.sl_trace_law.proofs.Sessions.Fronts.{front_answers_stay}
 use Rattle.sl_trace_law.proofs.Sessions.Owning.{calls_were_lawful, session_more, sessions_stay}
 use Rattle.sl_trace_law.proofs.Sessions.Staying.{ended_more, stays}
 use Rattle.sl_trace_law.specs.Sessions.Promises.{IsMade, IsSession, WasLawful, front_of, made_as}
-use Rattle.sl_sessions.specs.Sessions.{begun_in, calls_of, ended_after, is_join_call, is_present, join_call, joined_after, refused_after, removed_after, session_numbered, sessions}
-use Rattle.sl_sessions.specs.declared.session.Session.{Session}
+use Rattle.sl_trace.specs.Sessions.{begun_in, calls_of, ended_after, is_join_call, is_present, join_call, joined_after, refused_after, removed_after, session_numbered, sessions}
+use Rattle.sl_trace.specs.declared.session.Session.{Session}
 use Rattle.sl_trace.specs.Traces.{Answered, Setting, Submitted, Trace, submitted}
 use Rattle.sl_trace.specs.declared.effects.Entry.{Entry}
 use Rattle.sl_trace.specs.declared.effects.JoinStep.TheVariants.{ClaimWrite, FirstRead, FirstRenewal, VerifyRead}

@@ -1,7 +1,7 @@
 -- The block of a write's base is the own block that the law of blocks speaks of; so no ballot goes below it.
 use Rattle.sl_ballots.specs.History.{History}
 use Rattle.sl_trace_law.specs.Leases.Ways.{Of_mode, Of_phase1, Of_phase2, Way, lease_among}
-use Rattle.sl_leases.specs.Leases.{block_submitted, is_on}
+use Rattle.sl_trace.specs.Leases.{block_submitted, is_on}
 use Rattle.sl_run_law.proofs.Place.Seats.{sized_in}
 use Rattle.sl_plain.proofs.Numbers.{equal_is_least, zero_is_least}
 use Rattle.sl_history.proofs.Resources.Above.{comes_at, line_aligned, told_spot, written_at}
@@ -22,8 +22,8 @@ use Rattle.sl_run.specs.Worlds.{Landing, Program, World}
 use Rattle.sl_run.specs.declared.header.Header.{Header}
 use Rattle.sl_run.specs.declared.header.ResourceLine.{ResourceLine}
 use Rattle.sl_sector.specs.declared.sector.Block.{Block}
-use Rattle.sl_sessions.specs.Sessions.{session_numbered}
-use Rattle.sl_sessions.specs.declared.session.Session.{Session}
+use Rattle.sl_trace.specs.Sessions.{session_numbered}
+use Rattle.sl_trace.specs.declared.session.Session.{Session}
 use Rattle.sl_trace.specs.Traces.{Submitted}
 use Rattle.sl_trace.specs.declared.effects.Spot.{Spot}
 use Rattle.sl_words.specs.Words.{some_is}

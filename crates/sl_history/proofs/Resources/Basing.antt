@@ -1,19 +1,19 @@
 -- The own block of a session's first write: what its last read shows of its host.
-use Rattle.sl_law.specs.LawfulBlock.{LawfulBlockStep}
-use Rattle.sl_law.specs.Saying.{cut_at}
+use Rattle.sl_run.specs.LawfulBlock.{LawfulBlockStep}
+use Rattle.sl_run.specs.Saying.{cut_at}
 use Rattle.sl_trace_law.proofs.Leases.AgeLaws.{aged_block, aged_lease}
 use Rattle.sl_trace_law.proofs.Leases.ComingLaws.{at_step}
 use Rattle.sl_trace_law.proofs.Leases.WayLaws.{by_mode, by_phase1}
 use Rattle.sl_trace_law.specs.Leases.Fronts.{AllAged, Submission}
 use Rattle.sl_trace_law.specs.Leases.Ways.{ByMode, ByPhase1, Of_mode, Of_phase1, Way, lease_among}
-use Rattle.sl_leases.specs.Leases.{Mode_cleared, Mode_set, Phase1_write, block_of_host, block_submitted, block_written, freed, last_blocks, lease_calls, lease_step, own_or_read, spot_of_call}
+use Rattle.sl_trace.specs.Leases.{Mode_cleared, Mode_set, Phase1_write, block_of_host, block_submitted, block_written, freed, last_blocks, lease_calls, lease_step, own_or_read, spot_of_call}
 use Rattle.sl_history.proofs.Resources.Owning.{front_at}
 use Rattle.sl_history.proofs.Resources.Standing.{Standing}
 use Rattle.sl_history.specs.Resources.Sending.{Sent, block_of_course}
 use Rattle.sl_run.specs.Worlds.{World}
 use Rattle.sl_sector.specs.declared.sector.Block.{Block}
-use Rattle.sl_sessions.specs.Sessions.{me}
-use Rattle.sl_sessions.specs.declared.session.Session.{Session}
+use Rattle.sl_trace.specs.Sessions.{me}
+use Rattle.sl_trace.specs.declared.session.Session.{Session}
 use Rattle.sl_trace.specs.Traces.{Setting, Submitted, Trace, new_call, submitted}
 use Rattle.sl_trace.specs.declared.effects.LeaseStep.TheVariants.{ClearMode, FreeLeader, Phase1Read, Phase1Write, Phase2Read, Phase2Write, ReadArea, ReadBeforeFree, SetMode, TakeLeader}
 use Rattle.sl_trace.specs.declared.effects.LeaseStep.{LeaseStep}

@@ -6,11 +6,11 @@ use Rattle.sl_run_law.proofs.Course.Distinct.{each_distinct}
 use Rattle.sl_run_law.specs.Course.Stamping.{AnswersAgree, IsAnsweredAs, IsCourseOf}
 use Rattle.sl_run_law.proofs.Front.Having.{contains_flat, in_flat}
 use Rattle.sl_run_law.proofs.Landing.Listing.{one_call}
-use Rattle.sl_law.specs.Lawful.{Orderly}
-use Rattle.sl_law.specs.LawfulArea.{LawfulAreaWrite, is_area_work, is_block_work, is_delta_record}
+use Rattle.sl_run.specs.Lawful.{Orderly}
+use Rattle.sl_run.specs.LawfulArea.{LawfulAreaWrite, is_area_work, is_block_work, is_delta_record}
 use Rattle.sl_trace_law.proofs.Leases.TurnLaws.{one_at_a_time}
 use Rattle.sl_trace_law.specs.Leases.Promises.{WasAnsweredBy}
-use Rattle.sl_leases.specs.Leases.{block_of_record, is_block_read, is_on, leader_of_record, spot_of_call}
+use Rattle.sl_trace.specs.Leases.{block_of_record, is_block_read, is_on, leader_of_record, spot_of_call}
 use Rattle.sl_run_law.proofs.Moment.Ordering.{entries_ordered, fall_front}
 use Rattle.sl_run_law.proofs.Place.Areas.{base_aligned, base_around, one_resource, resource_aligned, same_base}
 use Rattle.sl_run_law.proofs.Place.Daemons.{daemons_are_fine, stamp_order}
@@ -41,8 +41,8 @@ use Rattle.sl_sector.specs.declared.sector.Rec.{Rec}
 use Rattle.sl_trace_law.proofs.Sessions.Making.{calls_are_made}
 use Rattle.sl_trace_law.proofs.Sessions.Staying.{joined_more, stays}
 use Rattle.sl_trace_law.specs.Sessions.Promises.{IsMade, IsSession, front_of, made_as}
-use Rattle.sl_sessions.specs.Sessions.{is_active, joined_after, leaving_job, recovery_of, removed_after, session_numbered, sessions}
-use Rattle.sl_sessions.specs.declared.session.Session.{Session}
+use Rattle.sl_trace.specs.Sessions.{is_active, joined_after, leaving_job, recovery_of, removed_after, session_numbered, sessions}
+use Rattle.sl_trace.specs.declared.session.Session.{Session}
 use Rattle.sl_trace.specs.Traces.{Setting, Submitted, Trace, is_write, new_call, record_of, submitted}
 use Rattle.sl_trace.specs.declared.effects.Call.{Call}
 use Rattle.sl_trace.specs.declared.effects.Op.TheVariants.{ReadSectors, WriteRecord}

@@ -1,7 +1,7 @@
 -- What stops no ballot: no block that the ballot goes by is torn, of a later instance, or of a greater number.
-use Rattle.sl_leases.specs.Ballots.{ballot_blocks, block_ahead, block_rival, known_block, stop_among, stop_of, torn_host, whole_blocks, with_own}
-use Rattle.sl_leases.specs.declared.lease.Stop.{Stop}
-use Rattle.sl_leases.specs.declared.lease.Stop.TheVariants.{BlockAhead, BlockRival, BlockTorn}
+use Rattle.sl_trace.specs.Ballots.{ballot_blocks, block_ahead, block_rival, known_block, stop_among, stop_of, torn_host, whole_blocks, with_own}
+use Rattle.sl_trace.specs.declared.lease.Stop.{Stop}
+use Rattle.sl_trace.specs.declared.lease.Stop.TheVariants.{BlockAhead, BlockRival, BlockTorn}
 use Rattle.sl_plain.proofs.Lists.{contains_first, contains_more, find_fails}
 use Rattle.sl_sector.specs.declared.sector.Block.{Block}
 use Rattle.sl_words.proofs.CaseLaws.{none_some, some_value}

@@ -1,7 +1,7 @@
 -- Answers fit their calls: a read is answered ok by bytes.
 use Rattle.sl_run_law.proofs.Course.Distinct.{mark_length}
-use Rattle.sl_law.specs.Lawful.{Orderly}
-use Rattle.sl_law.proofs.LawFacts.{orderly-front}
+use Rattle.sl_run.specs.Lawful.{Orderly}
+use Rattle.sl_run.proofs.LawFacts.{orderly-front}
 use Rattle.sl_plain.proofs.Lists.{any_found, contains_cases, contains_none, in_map, kept_inside}
 use Rattle.sl_trace_law.proofs.Sessions.Making.{old_or_new, same_answered}
 use Rattle.sl_trace.specs.Traces.{Answered, Setting, Submitted, Trace, answer_of, answered_in, is_answer_for, is_expected, mark, new_call, outstanding, submitted}

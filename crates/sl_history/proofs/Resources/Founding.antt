@@ -2,7 +2,7 @@
 use Rattle.sl_ballots.specs.Ballots.{IsFoundBlock, IsLastWrite}
 use Rattle.sl_ballots.specs.History.{History}
 use Rattle.sl_trace_law.specs.Leases.Ways.{lease_among}
-use Rattle.sl_leases.specs.Leases.{block_submitted}
+use Rattle.sl_trace.specs.Leases.{block_submitted}
 use Rattle.sl_history.proofs.Resources.Above.{WrittenAt, written_at}
 use Rattle.sl_history.proofs.Resources.Bases.{Shown, Written, based, look_base, own_host}
 use Rattle.sl_history.proofs.Resources.Calls.{block_at_step, read_at_step, worker_joined}

@@ -4,10 +4,10 @@ use Rattle.sl_run_law.specs.Course.Stamping.{AnswersAgree, IsAnsweredAs, IsCours
 use Rattle.sl_run_law.proofs.Front.Having.{placed_at}
 use Rattle.sl_run_law.proofs.Landing.Listing.{one_call}
 use Rattle.sl_run_law.proofs.Landing.Proven.{writes_land_once}
-use Rattle.sl_law.specs.Lawful.{Orderly}
+use Rattle.sl_run.specs.Lawful.{Orderly}
 use Rattle.sl_trace_law.proofs.Leases.TurnLaws.{one_at_a_time}
 use Rattle.sl_trace_law.specs.Leases.Promises.{WasAnsweredBy}
-use Rattle.sl_leases.specs.Leases.{is_on}
+use Rattle.sl_trace.specs.Leases.{is_on}
 use Rattle.sl_run_law.proofs.Place.Daemons.{daemons_are_fine, stamp_order}
 use Rattle.sl_plain.proofs.Lists.{got_index}
 use Rattle.sl_plain.proofs.Numbers.{below_itself_suc, less_than_suc, lt_then_le, trans_lt, zero_least}
@@ -23,12 +23,12 @@ use Rattle.sl_run.specs.Worlds.{Course, Daemon, Landing, Machine, Program, Stamp
 use Rattle.sl_run.specs.declared.header.Header.{Header}
 use Rattle.sl_run.specs.declared.header.ResourceLine.{ResourceLine}
 use Rattle.sl_trace_law.proofs.Sessions.Staying.{joined_more, stays}
-use Rattle.sl_sessions.specs.Sessions.{is_join_done, joined_after}
-use Rattle.sl_sessions.specs.declared.session.Session.{Session}
+use Rattle.sl_trace.specs.Sessions.{is_join_done, joined_after}
+use Rattle.sl_trace.specs.declared.session.Session.{Session}
 use Rattle.sl_trace.specs.Traces.{Replied, Submitted, Trace, reply_in, reply_to, submitted}
 use Rattle.sl_trace.specs.declared.effects.Call.{Call}
 use Rattle.sl_trace.specs.declared.effects.Entry.{Entry}
-use Rattle.sl_law.specs.LawfulArea.{is_area_work}
+use Rattle.sl_run.specs.LawfulArea.{is_area_work}
 use Rattle.sl_trace.specs.declared.effects.JobReply.{JobReply}
 use Rattle.sl_trace.specs.declared.effects.Spot.{Spot}
 use Rattle.sl_words.proofs.CaseLaws.{none_some, one_value, some_value}

@@ -1,7 +1,7 @@
 -- The block that a session last submitted, in its trace and among its machine's calls.
 use Rattle.sl_run_law.specs.Course.Stamping.{IsCourseOf, Pairwise}
 use Rattle.sl_trace_law.specs.Leases.Ways.{lease_among}
-use Rattle.sl_leases.specs.Leases.{block_of_record, block_submitted, is_lease_call, is_on}
+use Rattle.sl_trace.specs.Leases.{block_of_record, block_submitted, is_lease_call, is_on}
 use Rattle.sl_run_law.specs.Moment.Orders.{CallsFall}
 use Rattle.sl_plain.proofs.Lists.{contains_cases, contains_first, contains_more, contains_none}
 use Rattle.sl_plain.proofs.Numbers.{below_next, refl_le}
@@ -9,8 +9,8 @@ use Rattle.sl_history.proofs.Resources.Latest.{calls_below}
 use Rattle.sl_history.specs.Resources.Sending.{block_of_course, writes_block}
 use Rattle.sl_run.specs.Worlds.{Course, Daemon}
 use Rattle.sl_sector.specs.declared.sector.Block.{Block}
-use Rattle.sl_sessions.specs.Sessions.{is_call_of}
-use Rattle.sl_sessions.specs.declared.session.Session.{Session}
+use Rattle.sl_trace.specs.Sessions.{is_call_of}
+use Rattle.sl_trace.specs.declared.session.Session.{Session}
 use Rattle.sl_trace.specs.Traces.{Setting, Submitted, new_call, record_of}
 use Rattle.sl_trace.specs.declared.effects.Call.{Call}
 use Rattle.sl_trace.specs.declared.effects.Spot.{Spot}

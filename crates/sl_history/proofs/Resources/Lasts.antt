@@ -1,6 +1,6 @@
 -- The last block that a session sent before a step is the last: a machine's calls stand by their steps, the newest first.
 use Rattle.sl_run_law.proofs.Front.Having.{contains_append, contains_flat, placed_at}
-use Rattle.sl_leases.specs.Leases.{is_on}
+use Rattle.sl_trace.specs.Leases.{is_on}
 use Rattle.sl_run_law.proofs.Moment.Ordering.{machines_ordered}
 use Rattle.sl_run_law.specs.Moment.Orders.{CallsFall}
 use Rattle.sl_run_law.proofs.Place.Finding.{finds}

@@ -1,9 +1,9 @@
 -- A read of blocks that was answered: the blocks that it gave were written on the area before, or are fresh.
 use Rattle.sl_area.specs.Layouts.{Layout, record_in}
 use Rattle.sl_area.specs.Places.{area_blocks, block_offset, blocks_in, read_at, sector_of}
-use Rattle.sl_law.specs.Lawful.{Orderly}
-use Rattle.sl_law.specs.LawfulArea.{IsAreaRead, IsBlockRead}
-use Rattle.sl_leases.specs.Leases.{blocks_given, is_area_read, is_phase_read, spot_of_call}
+use Rattle.sl_run.specs.Lawful.{Orderly}
+use Rattle.sl_run.specs.LawfulArea.{IsAreaRead, IsBlockRead}
+use Rattle.sl_trace.specs.Leases.{blocks_given, is_area_read, is_phase_read, spot_of_call}
 use Rattle.sl_run_law.proofs.Place.Proven.{promised}
 use Rattle.sl_run_law.proofs.Place.Reading.{IsRead, IsShown, call_law, read_of, sector_shown}
 use Rattle.sl_run_law.proofs.Place.Seats.{sized_in}
@@ -18,7 +18,7 @@ use Rattle.sl_sector.specs.Spelling.{block_in}
 use Rattle.sl_sector.specs.declared.sector.Block.{Block}
 use Rattle.sl_trace_law.proofs.Sessions.Making.{calls_are_made}
 use Rattle.sl_trace_law.specs.Sessions.Promises.{IsSession, made_as}
-use Rattle.sl_sessions.specs.declared.session.Session.{Session}
+use Rattle.sl_trace.specs.declared.session.Session.{Session}
 use Rattle.sl_trace.specs.Traces.{Submitted, gave, submitted}
 use Rattle.sl_trace.specs.declared.effects.Op.TheVariants.{ReadSectors}
 use Rattle.sl_trace.specs.declared.effects.Spot.{Spot}

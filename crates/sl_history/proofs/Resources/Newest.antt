@@ -6,8 +6,8 @@ use Rattle.sl_run_law.proofs.Landing.Ordering.{come_in_order}
 use Rattle.sl_run_law.proofs.Landing.Proven.{done_writes_have_landed, landings_are_written}
 use Rattle.sl_run_law.proofs.Landing.Remaining.{landed_are_there}
 use Rattle.sl_run_law.specs.Landing.Landings.{HasWriter}
-use Rattle.sl_law.specs.LawfulArea.{LawfulAreaWrite}
-use Rattle.sl_leases.specs.Leases.{is_on, spot_of_call}
+use Rattle.sl_run.specs.LawfulArea.{LawfulAreaWrite}
+use Rattle.sl_trace.specs.Leases.{is_on, spot_of_call}
 use Rattle.sl_run_law.proofs.Place.Finding.{numbered_inside, same_text}
 use Rattle.sl_run_law.proofs.Place.Reading.{call_law}
 use Rattle.sl_plain.proofs.Lists.{contains_cases, contains_first, contains_more, contains_none, kept, kept_inside}

@@ -1,6 +1,6 @@
 -- The number of a ballot is of its host's remainder.
 use Rattle.sl_ballots.specs.Residues.{host_by_remainder}
-use Rattle.sl_leases.specs.Ballots.{in_instance, number_above, phase1_block}
+use Rattle.sl_trace.specs.Ballots.{in_instance, number_above, phase1_block}
 use Rattle.sl_sector.specs.declared.sector.Block.{Block}
 use Rattle.sl_sector.specs.declared.sector.Owner.{Owner}
 use Rattle.sl_words.specs.Words.{greatest}

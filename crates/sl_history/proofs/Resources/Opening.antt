@@ -2,10 +2,10 @@
 use Rattle.sl_ballots.specs.Ballots.{IsPhase1, KeepsBallot}
 use Rattle.sl_ballots.specs.History.{History}
 use Rattle.sl_ballots.specs.Residues.{host_by_remainder}
-use Rattle.sl_law.specs.LawfulBlock.{LawfulBlockStep, LawfulPhase1}
-use Rattle.sl_law.specs.Saying.{cut_at}
+use Rattle.sl_run.specs.LawfulBlock.{LawfulBlockStep, LawfulPhase1}
+use Rattle.sl_run.specs.Saying.{cut_at}
 use Rattle.sl_trace_law.specs.Leases.Ways.{ByMode, ByPhase1}
-use Rattle.sl_leases.specs.Leases.{Phase1_write, is_at, kind_of_step, last_blocks, lease_calls, lease_step, same_kind, spot_of_call}
+use Rattle.sl_trace.specs.Leases.{Phase1_write, is_at, kind_of_step, last_blocks, lease_calls, lease_step, same_kind, spot_of_call}
 use Rattle.sl_history.proofs.Resources.Above.{WrittenAt}
 use Rattle.sl_history.proofs.Resources.Bases.{Based, own_host}
 use Rattle.sl_history.proofs.Resources.Founding.{writer_is}
@@ -22,8 +22,8 @@ use Rattle.sl_run.specs.Worlds.{Program, World}
 use Rattle.sl_run.specs.declared.header.Header.{Header}
 use Rattle.sl_run.specs.declared.header.ResourceLine.{ResourceLine}
 use Rattle.sl_sector.specs.declared.sector.Block.{Block}
-use Rattle.sl_sessions.specs.Sessions.{me}
-use Rattle.sl_sessions.specs.declared.session.Session.{Session}
+use Rattle.sl_trace.specs.Sessions.{me}
+use Rattle.sl_trace.specs.declared.session.Session.{Session}
 use Rattle.sl_trace.specs.Traces.{Setting, Submitted, Trace, new_call}
 use Rattle.sl_trace.specs.declared.effects.LeaseStep.TheVariants.{ClearMode, FreeLeader, Phase1Read, Phase1Write, Phase2Read, Phase2Write, ReadArea, ReadBeforeFree, SetMode, TakeLeader}
 use Rattle.sl_trace.specs.declared.effects.LeaseStep.{LeaseStep}

@@ -2,15 +2,15 @@
 use Rattle.sl_area.specs.Layouts.{Layout}
 use Rattle.sl_run_law.specs.Course.Stamping.{AnswersAgree, IsAnsweredAs, IsCourseOf, Pairwise, courses_of}
 use Rattle.sl_run_law.proofs.Front.Having.{contains_right}
-use Rattle.sl_law.specs.LawfulArea.{is_area_work, is_block_work}
-use Rattle.sl_law.specs.LawfulBlock.{LawfulBlockStep}
-use Rattle.sl_law.specs.Saying.{cut_at}
+use Rattle.sl_run.specs.LawfulArea.{is_area_work, is_block_work}
+use Rattle.sl_run.specs.LawfulBlock.{LawfulBlockStep}
+use Rattle.sl_run.specs.Saying.{cut_at}
 use Rattle.sl_trace_law.proofs.Leases.RestLaws.{blocks_have_fronts}
 use Rattle.sl_trace_law.proofs.Leases.SpotLaws.{areas_are_apart}
 use Rattle.sl_trace_law.proofs.Leases.TurnLaws.{one_at_a_time}
 use Rattle.sl_trace_law.specs.Leases.Promises.{WasAnsweredBy}
 use Rattle.sl_trace_law.specs.Leases.Ways.{BlockFront, lease_among}
-use Rattle.sl_leases.specs.Leases.{block_of_record, block_submitted, block_written, is_block_read, is_lease_call, is_on, lease_step, spot_of_call}
+use Rattle.sl_trace.specs.Leases.{block_of_record, block_submitted, block_written, is_block_read, is_lease_call, is_on, lease_step, spot_of_call}
 use Rattle.sl_run_law.specs.Moment.Orders.{CallsFall, IsTimed}
 use Rattle.sl_run_law.proofs.Place.Daemons.{daemons_are_fine, stamp_order}
 use Rattle.sl_run_law.proofs.Place.Finding.{finds}
@@ -28,8 +28,8 @@ use Rattle.sl_run.specs.Safety.{LawfulRun, SessionId, world_at}
 use Rattle.sl_run.specs.Worlds.{Course, Machine, Program, World, machine_at}
 use Rattle.sl_run.specs.declared.header.Header.{Header}
 use Rattle.sl_sector.specs.declared.sector.Block.{Block}
-use Rattle.sl_sessions.specs.Sessions.{is_call_of}
-use Rattle.sl_sessions.specs.declared.session.Session.{Session}
+use Rattle.sl_trace.specs.Sessions.{is_call_of}
+use Rattle.sl_trace.specs.declared.session.Session.{Session}
 use Rattle.sl_trace.specs.Traces.{Setting, Submitted, Trace, is_write, new_call, record_of, submitted}
 use Rattle.sl_trace.specs.declared.effects.Call.{Call}
 use Rattle.sl_trace.specs.declared.effects.Op.TheVariants.{ReadSectors, WriteRecord}

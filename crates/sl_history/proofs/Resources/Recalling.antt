@@ -3,7 +3,7 @@ use Rattle.sl_area.specs.Layouts.{Layout}
 use Rattle.sl_run_law.specs.Course.Stamping.{IsCourseOf, Pairwise}
 use Rattle.sl_trace_law.proofs.Leases.ComingLaws.{none_there}
 use Rattle.sl_trace_law.specs.Leases.Fronts.{Aged, AllAged}
-use Rattle.sl_leases.specs.Leases.{block_of_host, blocks_given, last_blocks}
+use Rattle.sl_trace.specs.Leases.{block_of_host, blocks_given, last_blocks}
 use Rattle.sl_run_law.specs.Moment.Orders.{CallsFall}
 use Rattle.sl_plain.proofs.Lists.{contains_cases, contains_first, contains_more}
 use Rattle.sl_plain.proofs.Numbers.{below_next, refl_le}

@@ -1,6 +1,6 @@
 -- A resource's blocks are registers.
 use Rattle.sl_ballots.specs.Disk.{Wrote}
-use Rattle.sl_leases.specs.Leases.{is_on}
+use Rattle.sl_trace.specs.Leases.{is_on}
 use Rattle.sl_plain.proofs.Lists.{find_inside}
 use Rattle.sl_plain.proofs.Numbers.{trans_lt}
 use Rattle.sl_plain.proofs.Options.{some_there}

@@ -11,8 +11,8 @@ use Rattle.sl_run_law.proofs.Place.Sizes.{sector_fits}
 use Rattle.sl_plain.proofs.Lists.{contains_first, there_is}
 use Rattle.sl_plain.proofs.Numbers.{back_again}
 use Rattle.sl_history.proofs.Resources.Registers.{not_at_first}
-use Rattle.sl_sessions.specs.Sessions.{session_numbered}
-use Rattle.sl_leases.specs.Leases.{block_of_record, blocks_given, is_area_read, is_on, spot_of_call}
+use Rattle.sl_trace.specs.Sessions.{session_numbered}
+use Rattle.sl_trace.specs.Leases.{block_of_record, blocks_given, is_area_read, is_on, spot_of_call}
 use Rattle.sl_run_law.proofs.Place.Finding.{same_read, same_text}
 use Rattle.sl_run_law.proofs.Place.Reading.{digest_is, writes_record}
 use Rattle.sl_run_law.proofs.Place.Seats.{sized_in}

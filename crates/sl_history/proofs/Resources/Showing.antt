@@ -2,8 +2,8 @@
 use Rattle.sl_area.specs.Layouts.{Layout, Sizes, layout_with, record_in, sector_with}
 use Rattle.sl_area.specs.Places.{block_offset, fresh_block, fresh_leader, in_area, no_request, no_value}
 use Rattle.sl_run_law.proofs.Landing.Initial.{initial_is_record}
-use Rattle.sl_law.specs.LawfulArea.{IsAreaRead, IsBlockRead, IsLeaseRead, IsRightRead}
-use Rattle.sl_leases.specs.Leases.{block_of_record, is_area_read, is_on, is_phase_read}
+use Rattle.sl_run.specs.LawfulArea.{IsAreaRead, IsBlockRead, IsLeaseRead, IsRightRead}
+use Rattle.sl_trace.specs.Leases.{block_of_record, is_area_read, is_on, is_phase_read}
 use Rattle.sl_run_law.proofs.Place.Areas.{is_within}
 use Rattle.sl_run_law.proofs.Place.Beginnings.{zeros_at}
 use Rattle.sl_run_law.proofs.Place.Finding.{same_read}

@@ -5,8 +5,8 @@ use Rattle.sl_run_law.proofs.Course.Distinct.{each_distinct}
 use Rattle.sl_run_law.proofs.Front.Having.{contains_append}
 use Rattle.sl_run_law.proofs.Landing.Listing.{one_call}
 use Rattle.sl_run_law.specs.Landing.Landings.{LeftBy}
-use Rattle.sl_law.specs.LawfulArea.{IsAreaRead, IsBlockRead, IsRightRead, record_offset}
-use Rattle.sl_leases.specs.Leases.{block_of_record, is_area_read, is_block_read, is_on, spot_of_call}
+use Rattle.sl_run.specs.LawfulArea.{IsAreaRead, IsBlockRead, IsRightRead, record_offset}
+use Rattle.sl_trace.specs.Leases.{block_of_record, is_area_read, is_block_read, is_on, spot_of_call}
 use Rattle.sl_run_law.proofs.Place.Areas.{is_within}
 use Rattle.sl_run_law.proofs.Place.Checks.{behind, placed_in_world, same_block}
 use Rattle.sl_run_law.proofs.Place.Finding.{numbered_inside, place_is, same_text}
@@ -32,7 +32,7 @@ use Rattle.sl_sector.specs.declared.sector.Block.{Block}
 use Rattle.sl_sector.specs.declared.sector.Rec.TheVariants.{BlockIs, DeltaIs, LeaderIs, RequestIs, ValueIs}
 use Rattle.sl_sector.specs.declared.sector.Rec.{Rec}
 use Rattle.sl_trace_law.specs.Sessions.Promises.{made_as}
-use Rattle.sl_sessions.specs.declared.session.Session.{Session}
+use Rattle.sl_trace.specs.declared.session.Session.{Session}
 use Rattle.sl_trace.specs.Traces.{Setting, Submitted, new_call, record_of, same_place}
 use Rattle.sl_trace.specs.declared.effects.Call.{Call}
 use Rattle.sl_trace.specs.declared.effects.LeaseStep.TheVariants.{ClearMode, FreeLeader, Phase1Read, Phase1Write, Phase2Read, Phase2Write, ReadArea, ReadBeforeFree, SetMode, TakeLeader}

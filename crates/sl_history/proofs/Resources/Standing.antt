@@ -2,7 +2,7 @@
 use Rattle.sl_run_law.proofs.Course.Matched.{courses_are_calls}
 use Rattle.sl_run_law.specs.Course.Stamping.{IsCourseOf, Pairwise, courses_of}
 use Rattle.sl_run_law.proofs.Front.Having.{contains_flat, contains_right, in_flat}
-use Rattle.sl_law.specs.Lawful.{Orderly}
+use Rattle.sl_run.specs.Lawful.{Orderly}
 use Rattle.sl_run_law.proofs.Moment.Ordering.{calls_more, machines_ordered}
 use Rattle.sl_run_law.specs.Moment.Orders.{CallsFall, IsTimed}
 use Rattle.sl_run_law.proofs.Place.Proven.{promised}
@@ -17,8 +17,8 @@ use Rattle.sl_run.specs.Safety.{LawfulRun, world_at}
 use Rattle.sl_run.specs.Worlds.{Course, Daemon, Machine, Program, World, daemon_numbered, daemons_on, machine_at}
 use Rattle.sl_run.specs.declared.header.Header.{Header}
 use Rattle.sl_run_law.proofs.Walking.{index}
-use Rattle.sl_sessions.specs.Sessions.{session_numbered}
-use Rattle.sl_sessions.specs.declared.session.Session.{Session}
+use Rattle.sl_trace.specs.Sessions.{session_numbered}
+use Rattle.sl_trace.specs.declared.session.Session.{Session}
 use Rattle.sl_trace.specs.Traces.{submitted}
 use Rattle.sl_words.proofs.CaseLaws.{none_some, some_value}
 use Rattle.std.proofs.Common.{ap, arith, inl, inr, refl, subst, sym, tests, ◌∙◌}

@@ -1,5 +1,5 @@
 -- The value that a phase 2 proposes: that of the greatest ballot accepted in the instance, or the session itself, where none was.
-use Rattle.sl_leases.specs.Ballots.{greater_bal, in_instance, value_of, value_to_write}
+use Rattle.sl_trace.specs.Ballots.{greater_bal, in_instance, value_of, value_to_write}
 use Rattle.sl_plain.proofs.Lists.{contains_cases, contains_first, contains_more, contains_none, kept, kept_inside}
 use Rattle.sl_plain.proofs.Numbers.{equal_is_most, lt_up_to, trans_le, zero_is_least}
 use Rattle.sl_sector.specs.declared.sector.Block.{Block}

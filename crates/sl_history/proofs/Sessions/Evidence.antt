@@ -37,11 +37,11 @@ use Rattle.sl_history.proofs.Sessions.OrderedTraces.{begun_end, joined_end, join
 use Rattle.sl_history.specs.Sessions.Promises.{HistoriesHaveTrueEvidence}
 use Rattle.sl_trace_law.proofs.Sessions.Staying.{marks_stay}
 use Rattle.sl_trace_law.specs.Sessions.Promises.{IsSession as IsSessionOf}
-use Rattle.sl_sessions.specs.Sessions.{joined_after}
-use Rattle.sl_sessions.specs.Watching.{counts_over}
-use Rattle.sl_sessions.specs.declared.session.Session.{Session}
+use Rattle.sl_trace.specs.Sessions.{joined_after}
+use Rattle.sl_trace.specs.Watching.{counts_over}
+use Rattle.sl_trace.specs.declared.session.Session.{Session}
 use Rattle.sl_trace.specs.Traces.{Setting, Trace, same_place}
-use Rattle.sl_law.specs.Lawful.{Orderly}
+use Rattle.sl_run.specs.Lawful.{Orderly}
 use Rattle.sl_words.proofs.CaseLaws.{one_value, true_is_false}
 use Rattle.sl_words.proofs.WordLaws.{some_is_true}
 use Rattle.sl_words.specs.Words.{some_is}

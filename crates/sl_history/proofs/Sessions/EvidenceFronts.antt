@@ -5,8 +5,8 @@ use Rattle.sl_run_law.proofs.Front.Going.{fronts_are_lawful}
 use Rattle.sl_id_safety.proofs.Silence.{stamp_before}
 use Rattle.sl_id_safety.proofs.State.Bridge.{IsKnown, known}
 use Rattle.sl_id_safety.proofs.State.Proven.{grounds}
-use Rattle.sl_law.proofs.LawFacts.{orderly-front}
-use Rattle.sl_law.specs.Lawful.{Orderly}
+use Rattle.sl_run.proofs.LawFacts.{orderly-front}
+use Rattle.sl_run.specs.Lawful.{Orderly}
 use Rattle.sl_run_law.proofs.Moment.Ordering.{entries_ordered, fall_front, fall_step}
 use Rattle.sl_run_law.specs.Moment.Orders.{Fall}
 use Rattle.sl_run_law.proofs.Place.Daemons.{daemons_are_fine, stamp_order}
@@ -25,9 +25,9 @@ use Rattle.sl_history.proofs.Sessions.OrderedStood.{Behind, behind}
 use Rattle.sl_history.proofs.Sessions.OrderedTraces.{begun_end, same_length, stamp_newer, stamp_of}
 use Rattle.sl_trace_law.proofs.Sessions.Owning.{sessions_stay}
 use Rattle.sl_trace_law.specs.Sessions.Promises.{IsSession as IsSessionOf}
-use Rattle.sl_sessions.specs.Sessions.{calls_of, generation_of, is_call_of, joined_after, session_numbered}
-use Rattle.sl_sessions.specs.Watching.{counted_over, counts_over, evidence_in}
-use Rattle.sl_sessions.specs.declared.session.Session.{Session}
+use Rattle.sl_trace.specs.Sessions.{calls_of, generation_of, is_call_of, joined_after, session_numbered}
+use Rattle.sl_trace.specs.Watching.{counted_over, counts_over, evidence_in}
+use Rattle.sl_trace.specs.declared.session.Session.{Session}
 use Rattle.sl_trace.specs.Traces.{Setting, Submitted, Trace, submitted}
 use Rattle.sl_trace.specs.declared.effects.Entry.{Entry}
 use Rattle.sl_trace.specs.declared.reply.Evidence.TheVariants.{Newer}

@@ -15,7 +15,7 @@ use Rattle.sl_id_safety.proofs.State.Proven.{grounds}
 use Rattle.sl_id_safety.proofs.State.Tails.{AreMade, IsMadeAfter, all_made, front_at}
 use Rattle.sl_id_safety.specs.State.IdStates.{own_courses}
 use Rattle.sl_run_law.proofs.Landing.Listing.{one_call}
-use Rattle.sl_law.specs.Lawful.{Orderly}
+use Rattle.sl_run.specs.Lawful.{Orderly}
 use Rattle.sl_run_law.proofs.Place.Daemons.{daemons_are_fine, stamp_order}
 use Rattle.sl_run_law.proofs.Place.Finding.{partner_of}
 use Rattle.sl_run_law.proofs.Place.Looks.{stands as standing_joined}
@@ -31,8 +31,8 @@ use Rattle.sl_history.proofs.Sessions.OrderedOver.{IsNew, free_stands, new_flies
 use Rattle.sl_history.proofs.Sessions.OrderedTraces.{joined_within, joins_kept}
 use Rattle.sl_trace_law.proofs.Sessions.Staying.{marks_stay}
 use Rattle.sl_trace_law.specs.Sessions.Promises.{IsSession as IsSessionOf}
-use Rattle.sl_sessions.specs.Sessions.{calls_of, ended_after, free_write, is_free_purpose, joined_after, refused_after, removed_after}
-use Rattle.sl_sessions.specs.declared.session.Session.{Session}
+use Rattle.sl_trace.specs.Sessions.{calls_of, ended_after, free_write, is_free_purpose, joined_after, refused_after, removed_after}
+use Rattle.sl_trace.specs.declared.session.Session.{Session}
 use Rattle.sl_trace.specs.Traces.{Setting, Submitted, Trace}
 use Rattle.sl_trace.specs.declared.effects.Call.{Call}
 use Rattle.sl_trace.specs.declared.effects.Entry.{Entry}

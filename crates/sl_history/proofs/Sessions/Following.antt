@@ -13,7 +13,7 @@ use Rattle.sl_run.specs.Safety.{Found, HasJoined, IsSession, LawfulRun, SameId, 
 use Rattle.sl_run.specs.Worlds.{Program}
 use Rattle.sl_run.specs.declared.header.Header.{Header}
 use Rattle.sl_history.proofs.Sessions.FollowingJoins.{FirstJoined, HasEntry, NotJoined, first_joined, joined_early}
-use Rattle.sl_sessions.specs.declared.session.Session.{Session}
+use Rattle.sl_trace.specs.declared.session.Session.{Session}
 use Rattle.sl_trace.specs.Traces.{same_place}
 use Rattle.sl_words.proofs.CaseLaws.{some_value}
 use Rattle.std.proofs.Common.{ap, arith, inl, inr, refl, subst, sym, ◌∙◌}

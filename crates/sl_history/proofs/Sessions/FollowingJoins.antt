@@ -19,8 +19,8 @@ use Rattle.sl_run.specs.Safety.{Found, HasJoined, IsSession, LawfulRun, SessionI
 use Rattle.sl_run.specs.Worlds.{Machine, Program, Stamp, daemons_on}
 use Rattle.sl_run.specs.declared.header.Header.{Header}
 use Rattle.sl_trace_law.proofs.Sessions.Staying.{marks_stay}
-use Rattle.sl_sessions.specs.Sessions.{given_session, is_join_done, joined_after, session_numbered}
-use Rattle.sl_sessions.specs.declared.session.Session.{Session}
+use Rattle.sl_trace.specs.Sessions.{given_session, is_join_done, joined_after, session_numbered}
+use Rattle.sl_trace.specs.declared.session.Session.{Session}
 use Rattle.sl_trace.specs.Traces.{Replied, Setting, Trace, reply_in, reply_to}
 use Rattle.sl_trace.specs.declared.effects.Entry.{Entry}
 use Rattle.sl_trace.specs.declared.effects.JobReply.{JobReply}

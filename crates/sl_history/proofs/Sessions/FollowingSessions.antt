@@ -2,7 +2,7 @@
 -- over where the other joins, and nothing lands of one that is over.
 use Rattle.sl_ballots.specs.History.{Owner as Holder}
 use Rattle.sl_id_safety.proofs.Acting.{lockspaces_are_areas}
-use Rattle.sl_law.specs.LawfulArea.{is_area_work}
+use Rattle.sl_run.specs.LawfulArea.{is_area_work}
 use Rattle.sl_history.proofs.Resources.Calls.{IsWork, block_works, sent_there, worker_joined}
 use Rattle.sl_history.proofs.Resources.Landed.{landed_block}
 use Rattle.sl_history.proofs.Resources.Shown.{writes_is}
@@ -18,7 +18,7 @@ use Rattle.sl_history.proofs.Sessions.Following.{IsOverWhenJoins, Sequel, sequel
 use Rattle.sl_history.proofs.Sessions.Named.{IsMember, joined_are_hosts, member_name, member_of}
 use Rattle.sl_history.proofs.Sessions.Settled.{over_lands_not}
 use Rattle.sl_history.specs.Sessions.Following.{SessionsFollow}
-use Rattle.sl_sessions.specs.Sessions.{is_free_purpose}
+use Rattle.sl_trace.specs.Sessions.{is_free_purpose}
 use Rattle.sl_trace.specs.declared.effects.Purpose.TheVariants.{Leaving}
 use Rattle.sl_trace.specs.declared.effects.Purpose.{Purpose}
 use Rattle.sl_words.proofs.CaseLaws.{false_is_true}

@@ -13,7 +13,7 @@ use Rattle.sl_run.specs.declared.header.Header.{Header}
 use Rattle.sl_history.proofs.Sessions.OrderedFronts.{front_at, fronts_nest}
 use Rattle.sl_history.proofs.Sessions.OrderedNames.{is_over_as, joined_as, joined_at, joined_since}
 use Rattle.sl_history.specs.Sessions.Promises.{HistoriesEndEarlier}
-use Rattle.sl_sessions.specs.declared.session.Session.{Session}
+use Rattle.sl_trace.specs.declared.session.Session.{Session}
 use Rattle.sl_trace.specs.Traces.{same_place}
 use Rattle.sl_words.specs.Words.{some_is}
 use Rattle.std.proofs.Common.{ap, arith, subst, sym, ◌∙◌}

@@ -9,7 +9,7 @@ use Rattle.sl_run.specs.Safety.{Found, HasJoined, IsSession, SessionId, session_
 use Rattle.sl_run.specs.Worlds.{World}
 use Rattle.sl_ballots.specs.History.{Owner as Holder}
 use Rattle.sl_history.specs.Sessions.Promises.{JoinedAreHosts, NamesAreApart}
-use Rattle.sl_sessions.specs.Sessions.{joined_after}
+use Rattle.sl_trace.specs.Sessions.{joined_after}
 use Rattle.sl_words.proofs.WordLaws.{and_true, some_is_true}
 use Rattle.std.proofs.Common.{ap, arith, subst, sym, ◌∙◌}
 use Rattle.std.proofs.lemmas.Bool.Decides.{nat_tests}

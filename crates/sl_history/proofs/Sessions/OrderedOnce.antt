@@ -11,8 +11,8 @@ use Rattle.sl_id_safety.proofs.Silence.{goes_on}
 use Rattle.sl_id_safety.proofs.State.Bridge.{IsKnown, is_there, known}
 use Rattle.sl_id_safety.proofs.State.Proven.{grounds}
 use Rattle.sl_run_law.proofs.Landing.Passing.{first_later, world_first}
-use Rattle.sl_law.proofs.LawFacts.{orderly-front}
-use Rattle.sl_law.specs.Lawful.{Orderly}
+use Rattle.sl_run.proofs.LawFacts.{orderly-front}
+use Rattle.sl_run.specs.Lawful.{Orderly}
 use Rattle.sl_run_law.proofs.Moment.Ordering.{entries_ordered, fall_step}
 use Rattle.sl_plain.proofs.Lists.{contains_first, contains_none}
 use Rattle.sl_history.proofs.Resources.Alone.{Differ, Stands, given_differ, one_stands}
@@ -28,8 +28,8 @@ use Rattle.sl_history.proofs.Sessions.OrderedDaemons.{Came, IsOfEvent, event_com
 use Rattle.sl_history.proofs.Sessions.OrderedStood.{At_first, By_entry, JoinedWhen, joined_stood, joined_when}
 use Rattle.sl_history.proofs.Sessions.OrderedTraces.{begun_end, joined_end, joins_kept}
 use Rattle.sl_trace_law.specs.Sessions.Promises.{IsSession as IsSessionOf}
-use Rattle.sl_sessions.specs.Sessions.{generation_of, given_number, joined_after}
-use Rattle.sl_sessions.specs.declared.session.Session.{Session}
+use Rattle.sl_trace.specs.Sessions.{generation_of, given_number, joined_after}
+use Rattle.sl_trace.specs.declared.session.Session.{Session}
 use Rattle.sl_trace.specs.Traces.{Setting, Trace}
 use Rattle.sl_trace.specs.declared.effects.Entry.{Entry}
 use Rattle.sl_run_law.proofs.Watchdog.Stamps.{stamp_there}

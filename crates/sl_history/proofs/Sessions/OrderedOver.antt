@@ -14,8 +14,8 @@ use Rattle.sl_id_safety.proofs.State.Tails.{AreMade, IsMadeAfter, all_made, fron
 use Rattle.sl_id_safety.specs.State.IdStates.{own_courses}
 use Rattle.sl_run_law.proofs.Landing.Making.{run_made_before}
 use Rattle.sl_run_law.proofs.Landing.Stepping.{came}
-use Rattle.sl_law.specs.Lawful.{Orderly}
-use Rattle.sl_law.specs.LawfulDelta.{LawfulDeltaCall}
+use Rattle.sl_run.specs.Lawful.{Orderly}
+use Rattle.sl_run.specs.LawfulDelta.{LawfulDeltaCall}
 use Rattle.sl_run_law.proofs.Place.Finding.{partner}
 use Rattle.sl_run_law.proofs.Place.Looks.{stands as standing_joined}
 use Rattle.sl_plain.proofs.Lists.{any_of, find_inside, kept_inside}
@@ -25,9 +25,9 @@ use Rattle.sl_run.specs.Worlds.{Course, Dropped, Fate, In_flight, Landed, Machin
 use Rattle.sl_run.specs.declared.header.Header.{Header}
 use Rattle.sl_trace_law.proofs.Sessions.Staying.{marks_stay, refused_apart}
 use Rattle.sl_trace_law.specs.Sessions.Promises.{IsSession as IsSessionOf}
-use Rattle.sl_sessions.specs.Sessions.{calls_of, ended_after, free_write, is_free_purpose, joined_after, refused_after, removed_after, stage_of}
-use Rattle.sl_sessions.specs.declared.session.Session.{Session}
-use Rattle.sl_sessions.specs.declared.stage.Stage.TheVariants.{Standing}
+use Rattle.sl_trace.specs.Sessions.{calls_of, ended_after, free_write, is_free_purpose, joined_after, refused_after, removed_after, stage_of}
+use Rattle.sl_trace.specs.declared.session.Session.{Session}
+use Rattle.sl_trace.specs.declared.stage.Stage.TheVariants.{Standing}
 use Rattle.sl_trace.specs.Traces.{Setting, Submitted, Trace}
 use Rattle.sl_trace.specs.declared.effects.Call.{Call}
 use Rattle.sl_trace.specs.declared.effects.Purpose.TheVariants.{Leaving}

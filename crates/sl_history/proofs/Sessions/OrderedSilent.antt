@@ -17,7 +17,7 @@ use Rattle.sl_run.specs.declared.header.Header.{Header}
 use Rattle.sl_history.proofs.Sessions.OrderedFronts.{Ended, Ends, Nothing, ended, some_steps}
 use Rattle.sl_history.proofs.Sessions.OrderedOver.{over_none_new}
 use Rattle.sl_history.proofs.Sessions.OrderedTraces.{same_length}
-use Rattle.sl_sessions.specs.Sessions.{calls_of, is_call_of, is_free_purpose}
+use Rattle.sl_trace.specs.Sessions.{calls_of, is_call_of, is_free_purpose}
 use Rattle.sl_trace.specs.Traces.{is_write, submitted}
 use Rattle.sl_trace.specs.declared.effects.Call.{Call}
 use Rattle.sl_run_law.proofs.Watchdog.Stamps.{stamp_there}

@@ -8,7 +8,7 @@ use Rattle.sl_id_safety.proofs.State.Bridge.{IsKnown, known}
 use Rattle.sl_id_safety.proofs.State.FindingFrames.{found_on, session_with}
 use Rattle.sl_id_safety.proofs.State.LaterFrames.{numbered_found}
 use Rattle.sl_id_safety.proofs.State.Proven.{grounds}
-use Rattle.sl_law.specs.Lawful.{Orderly}
+use Rattle.sl_run.specs.Lawful.{Orderly}
 use Rattle.sl_history.specs.Resources.Histories.{joined_step}
 use Rattle.sl_run.specs.Runs.{Happening}
 use Rattle.sl_run.specs.Safety.{Found, HasJoined, IsSession, LawfulRun, SessionId, setting_in, trace_of, world_at}
@@ -19,8 +19,8 @@ use Rattle.sl_history.proofs.Sessions.OrderedFronts.{nothing_more, steps_grow}
 use Rattle.sl_history.proofs.Sessions.OrderedTraces.{begun_end, joined_end, joined_first, joined_within, same_length, stamp_newer, stamp_of}
 use Rattle.sl_trace_law.proofs.Sessions.Staying.{marks_stay}
 use Rattle.sl_trace_law.specs.Sessions.Promises.{IsSession as IsSessionOf}
-use Rattle.sl_sessions.specs.Sessions.{given_session, joined_after, session_numbered}
-use Rattle.sl_sessions.specs.declared.session.Session.{Session}
+use Rattle.sl_trace.specs.Sessions.{given_session, joined_after, session_numbered}
+use Rattle.sl_trace.specs.declared.session.Session.{Session}
 use Rattle.sl_trace.specs.Traces.{Setting, Trace}
 use Rattle.sl_trace.specs.declared.input.Given.{Given}
 use Rattle.sl_words.proofs.CaseLaws.{none_some, one_value, some_value}

@@ -2,14 +2,14 @@
 -- stamps are of which entries.
 use Rattle.sl_run_law.specs.Course.Stamping.{IsStampOf, Pairwise, stamp_in}
 use Rattle.sl_id_safety.proofs.State.Living.{begun_if_joined}
-use Rattle.sl_law.proofs.LawFacts.{orderly-front}
-use Rattle.sl_law.specs.Lawful.{Orderly}
+use Rattle.sl_run.proofs.LawFacts.{orderly-front}
+use Rattle.sl_run.specs.Lawful.{Orderly}
 use Rattle.sl_plain.proofs.Lists.{contains_first, contains_more}
 use Rattle.sl_run.specs.Worlds.{Stamp}
 use Rattle.sl_trace_law.proofs.Sessions.Staying.{joined_more, marks_stay}
 use Rattle.sl_trace_law.specs.Sessions.Promises.{IsSession as IsSessionOf}
-use Rattle.sl_sessions.specs.Sessions.{is_join_done, joined_after, removed_after}
-use Rattle.sl_sessions.specs.declared.session.Session.{Session}
+use Rattle.sl_trace.specs.Sessions.{is_join_done, joined_after, removed_after}
+use Rattle.sl_trace.specs.declared.session.Session.{Session}
 use Rattle.sl_trace.specs.Connections.{unregisters}
 use Rattle.sl_trace.specs.Traces.{Replied, Setting, Trace, reply_in, reply_to}
 use Rattle.sl_trace.specs.declared.effects.Entry.{Entry}

@@ -1,7 +1,7 @@
 -- Work on the blocks of a resource: its session had joined before, and has a name in the history.
 use Rattle.sl_id_safety.specs.State.IdStates.{own_courses}
-use Rattle.sl_law.specs.Lawful.{Orderly}
-use Rattle.sl_law.specs.LawfulArea.{is_area_work}
+use Rattle.sl_run.specs.Lawful.{Orderly}
+use Rattle.sl_run.specs.LawfulArea.{is_area_work}
 use Rattle.sl_run_law.proofs.Place.Daemons.{daemons_are_fine, stamp_order}
 use Rattle.sl_run_law.proofs.Place.Reading.{call_law}
 use Rattle.sl_plain.proofs.Lists.{kept}
@@ -18,8 +18,8 @@ use Rattle.sl_history.proofs.Sessions.OrderedStood.{At_first, By_entry, JoinedWh
 use Rattle.sl_history.proofs.Sessions.OrderedTraces.{joined_within}
 use Rattle.sl_trace_law.proofs.Sessions.Staying.{marks_stay}
 use Rattle.sl_trace_law.specs.Sessions.Promises.{IsMade, IsSession as IsSessionOf, front_of}
-use Rattle.sl_sessions.specs.Sessions.{is_active, is_free_purpose, joined_after, leaving_job, recovery_of, removed_after}
-use Rattle.sl_sessions.specs.declared.session.Session.{Session}
+use Rattle.sl_trace.specs.Sessions.{is_active, is_free_purpose, joined_after, leaving_job, recovery_of, removed_after}
+use Rattle.sl_trace.specs.declared.session.Session.{Session}
 use Rattle.sl_trace.specs.Traces.{Setting, Submitted, Trace}
 use Rattle.sl_trace.specs.declared.effects.Call.{Call}
 use Rattle.sl_trace.specs.declared.effects.Purpose.TheVariants.{Leaving}

@@ -4,7 +4,7 @@
 use Rattle.sl_ballots.specs.Disk.{Wrote}
 use Rattle.sl_id_safety.proofs.Silence.{over_are_silent}
 use Rattle.sl_id_safety.specs.State.IdStates.{own_courses}
-use Rattle.sl_leases.specs.Leases.{is_on}
+use Rattle.sl_trace.specs.Leases.{is_on}
 use Rattle.sl_plain.proofs.Lists.{kept}
 use Rattle.sl_history.proofs.Resources.Calls.{IsWork, block_works, found_of, owner_found, read_works}
 use Rattle.sl_history.proofs.Resources.Landed.{joined_then}

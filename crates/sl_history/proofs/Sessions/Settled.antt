@@ -28,7 +28,7 @@ use Rattle.sl_run.specs.declared.header.Header.{Header}
 use Rattle.sl_run_law.specs.Courses.{Continues}
 use Rattle.sl_history.proofs.Sessions.Following.{IsOverBy, fronts_compare, steps_rise, append_apart}
 use Rattle.sl_history.proofs.Sessions.FollowingJoins.{append_more}
-use Rattle.sl_sessions.specs.Sessions.{calls_of, ended_after, free_write, is_free_purpose}
+use Rattle.sl_trace.specs.Sessions.{calls_of, ended_after, free_write, is_free_purpose}
 use Rattle.sl_trace.specs.Traces.{Answered}
 use Rattle.sl_trace.specs.declared.effects.Call.{Call}
 use Rattle.sl_words.proofs.CaseLaws.{no_value, none_some, one_value, some_value, true_is_false}

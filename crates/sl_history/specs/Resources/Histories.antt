@@ -6,7 +6,7 @@ use Rattle.sl_area.specs.Places.{block_offset}
 use Rattle.sl_ballots.specs.History.{Block as HistoryBlock, History, Leader as HistoryLeader, Owner as Holder}
 use Rattle.sl_ballots.specs.Residues.{host_by_remainder}
 use Rattle.sl_run_law.specs.Course.Stamping.{stamp_in}
-use Rattle.sl_leases.specs.Leases.{is_area_read}
+use Rattle.sl_trace.specs.Leases.{is_area_read}
 use Rattle.sl_history.specs.Resources.Sending.{Sent, block_of_course, holder_of, last_block_before, last_look_before, leader_of_course, nobody, read_at, sender_of, sent_at, session_of_holder, step_of, writes_block, writes_leader}
 use Rattle.sl_run.specs.Events.{happens}
 use Rattle.sl_run.specs.Runs.{Happening}
@@ -16,8 +16,8 @@ use Rattle.sl_run.specs.declared.header.Header.{Header}
 use Rattle.sl_run_law.specs.Sample.Samples.{numbered_landing}
 use Rattle.sl_sector.specs.declared.sector.Block.{Block}
 use Rattle.sl_sector.specs.declared.sector.Leader.{Leader}
-use Rattle.sl_sessions.specs.Sessions.{joined_after}
-use Rattle.sl_sessions.specs.Watching.{counted_over}
+use Rattle.sl_trace.specs.Sessions.{joined_after}
+use Rattle.sl_trace.specs.Watching.{counted_over}
 use Rattle.sl_trace.specs.Traces.{Trace, new_call}
 use Rattle.sl_trace.specs.declared.effects.Spot.{Spot}
 use Rattle.sl_words.specs.Words.{some_is}

@@ -1,6 +1,6 @@
 -- The order in which the blocks of a host land: that in which they were submitted. The register lemma rests on it.
 use Rattle.sl_area.specs.Places.{block_offset}
-use Rattle.sl_leases.specs.Leases.{is_on}
+use Rattle.sl_trace.specs.Leases.{is_on}
 use Rattle.sl_history.specs.Resources.Histories.{is_host, joined_step, landing_shown, step_of_landing}
 use Rattle.sl_history.specs.Resources.Promises.{spot_of_line}
 use Rattle.sl_history.specs.Resources.Sending.{Sent, all_sent, holder_of, reads_blocks, sender_of, step_of, writes_block}

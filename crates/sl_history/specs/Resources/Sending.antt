@@ -1,12 +1,12 @@
 -- What was sent to the area of a resource, by which session, and when. A call is named by the step of the entry that made it: on one area
 -- at most one write, one read, one leader and one grant in each mode come at a step.
 use Rattle.sl_ballots.specs.History.{Owner as Holder}
-use Rattle.sl_leases.specs.Leases.{block_of_record, is_block_read, is_on, leader_of_record}
+use Rattle.sl_trace.specs.Leases.{block_of_record, is_block_read, is_on, leader_of_record}
 use Rattle.sl_run.specs.Safety.{Found, SessionId, found_generation, session_of_world, trace_of}
 use Rattle.sl_run.specs.Worlds.{Course, Daemon, World, daemons_on}
 use Rattle.sl_sector.specs.declared.sector.Block.{Block}
 use Rattle.sl_sector.specs.declared.sector.Leader.{Leader}
-use Rattle.sl_sessions.specs.Sessions.{joined_after, sessions}
+use Rattle.sl_trace.specs.Sessions.{joined_after, sessions}
 use Rattle.sl_trace.specs.Traces.{new_call, record_of}
 use Rattle.sl_trace.specs.declared.effects.Spot.{Spot}
 use Rattle.sl_words.specs.Words.{some_is}

@@ -17,7 +17,7 @@ use Rattle.sl_host_law.specs.Questions.Jobs.{running_in}
 use Rattle.sl_host_law.proofs.Replies.Answers.AnswerFindsItsCall.{in_reversed}
 use Rattle.sl_host_law.proofs.Replies.Answers.JobsHearAnswer.{IsOneOrNone, one_of_job}
 use Rattle.sl_host_law.proofs.Replies.PlainNumbers.{same_number}
-use Rattle.sl_sessions.specs.Sessions.{calls_of, is_call_of, is_delta_purpose}
+use Rattle.sl_trace.specs.Sessions.{calls_of, is_call_of, is_delta_purpose}
 use Rattle.sl_trace.specs.Traces.{Setting, Submitted, Trace, is_of_job, outstanding, running_jobs, submitted}
 use Rattle.sl_trace.specs.declared.input.Answer.{Answer}
 use Rattle.sl_words.proofs.CaseLaws.{is_false, not_both, true_is_false}

@@ -21,8 +21,8 @@ use Rattle.sl_host_law.specs.Replies.Moves.{EndsBegun}
 use Rattle.sl_host_law.specs.Replies.Replies.{LeavesHeed, LeavesLine, MayReply}
 use Rattle.sl_sector.specs.declared.sector.DeltaRec.{DeltaRec}
 use Rattle.sl_sector.specs.declared.sector.Rec.TheVariants.{DeltaIs}
-use Rattle.sl_sessions.specs.declared.delta.DeltaNext.TheVariants.{Disconnect, Join, EndLeaving, MoveConnection, ReadOwn, RegisterAndRead, RefuseJoin, Nothing, WriteClaim, WriteFirst, WriteFree, WriteRenewal}
-use Rattle.sl_sessions.specs.declared.session.Session.{Session}
+use Rattle.sl_trace.specs.declared.delta.DeltaNext.TheVariants.{Disconnect, Join, EndLeaving, MoveConnection, ReadOwn, RegisterAndRead, RefuseJoin, Nothing, WriteClaim, WriteFirst, WriteFree, WriteRenewal}
+use Rattle.sl_trace.specs.declared.session.Session.{Session}
 use Rattle.sl_time.specs.Times.{fail}
 use Rattle.sl_trace.specs.Connections.{is_registered}
 use Rattle.sl_trace.specs.Traces.{is_running}

@@ -15,10 +15,10 @@ use Rattle.sl_host_state.specs.Kept.{Config, HostState, MemberState}
 use Rattle.sl_host_state.specs.Makes.{with_reply}
 use Rattle.sl_host_state.specs.Stands.{Stands}
 use Rattle.sl_host_state.specs.declared.kept.JobState.{JobState}
-use Rattle.sl_leases.specs.LeaseWork.{convert_next, lease_place, release_next}
-use Rattle.sl_leases.specs.Leases.{holdings_on, known, spot_of}
-use Rattle.sl_leases.specs.declared.lease.LeaseNext.TheVariants.{GrantJob}
-use Rattle.sl_leases.specs.declared.lease.LeaseNext.{LeaseNext}
+use Rattle.sl_trace.specs.LeaseWork.{convert_next, lease_place, release_next}
+use Rattle.sl_trace.specs.Leases.{holdings_on, known, spot_of}
+use Rattle.sl_trace.specs.declared.lease.LeaseNext.TheVariants.{GrantJob}
+use Rattle.sl_trace.specs.declared.lease.LeaseNext.{LeaseNext}
 use Rattle.sl_host_law.proofs.Parts.LinesAreTaken.{carried, heard, member_at}
 use Rattle.sl_host_law.specs.Answers.Grants.{GrantsAreTaken, after_giving, ended, given_up}
 use Rattle.sl_host_law.specs.Parts.Lines.{HeardBy, LineComes}
@@ -30,7 +30,7 @@ use Rattle.sl_host_law.specs.Questions.Jobs.{command_in, running_in}
 use Rattle.sl_host_law.specs.Questions.Members.{IsMemberAt, MemberAnswers}
 use Rattle.sl_host_law.proofs.Replies.Replies.RepliesAreTaken.{replies_are_taken}
 use Rattle.sl_host_law.specs.Replies.Replies.{MayReply, is_plain_line}
-use Rattle.sl_sessions.specs.declared.session.Session.{Session}
+use Rattle.sl_trace.specs.declared.session.Session.{Session}
 use Rattle.sl_trace.specs.Traces.{end_of, spot_of_grant}
 use Rattle.sl_trace.specs.declared.command.Command.{Command}
 use Rattle.sl_trace.specs.declared.command.ResourceArg.{ResourceArg}

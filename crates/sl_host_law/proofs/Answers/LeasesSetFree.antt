@@ -19,7 +19,7 @@ use Rattle.sl_host_state.specs.Stands.{IsWaiting, Keeps, LeaseStands, kept_call,
 use Rattle.sl_host_state.specs.declared.kept.LeaseCall.{LeaseCall}
 use Rattle.sl_host_state.specs.declared.kept.OpenCall.{OpenCall}
 use Rattle.sl_host_state.specs.declared.kept.TopNumber.{TopNumber}
-use Rattle.sl_leases.specs.Leases.{Phase2_write, is_at, is_lease_call, is_on, lease_calls, lease_step, spot_of_call}
+use Rattle.sl_trace.specs.Leases.{Phase2_write, is_at, is_lease_call, is_on, lease_calls, lease_step, spot_of_call}
 use Rattle.sl_plain.proofs.Lists.{any_found, contains_cases, contains_map, find_inside, in_map, kept, kept_inside}
 use Rattle.sl_plain.proofs.Numbers.{number_itself}
 use Rattle.sl_plain.proofs.Options.{none_is}
@@ -27,7 +27,7 @@ use Rattle.sl_host_law.specs.Questions.Answers.{spot_in}
 use Rattle.sl_host_law.specs.Questions.Jobs.{goes_on_in}
 use Rattle.sl_sector.specs.declared.sector.Block.{Block}
 use Rattle.sl_sector.specs.declared.sector.Rec.TheVariants.{BlockIs, DeltaIs, LeaderIs, RequestIs, ValueIs}
-use Rattle.sl_sessions.specs.Sessions.{calls_of, is_call_of, me}
+use Rattle.sl_trace.specs.Sessions.{calls_of, is_call_of, me}
 use Rattle.sl_trace.specs.Traces.{Submitted, job_of, same_spot, submitted}
 use Rattle.sl_trace.specs.declared.effects.LeaseStep.TheVariants.{Phase1Read}
 use Rattle.sl_trace.specs.declared.effects.LeaseStep.{LeaseStep}

@@ -19,7 +19,7 @@ use Rattle.sl_host_law.specs.Questions.Parts.{time_out_of}
 use Rattle.sl_host_law.proofs.Replies.Replies.RepliesAreTaken.{replies_are_taken}
 use Rattle.sl_host_law.specs.Replies.Moves.{EndsBegun}
 use Rattle.sl_host_law.specs.Replies.Replies.{MayReply}
-use Rattle.sl_sessions.specs.Sessions.{is_join_done}
+use Rattle.sl_trace.specs.Sessions.{is_join_done}
 use Rattle.sl_trace.specs.declared.effects.Move.TheVariants.{Register, Renew, Unregister}
 use Rattle.sl_trace.specs.declared.effects.Move.{Move}
 use Rattle.sl_trace.specs.declared.input.Input.TheVariants.{Wake}

@@ -16,7 +16,7 @@ use Rattle.sl_host_state.specs.Makes.{with_reply}
 use Rattle.sl_host_state.specs.Stands.{Stands}
 use Rattle.sl_host_state.specs.declared.kept.OpenCall.{OpenCall}
 use Rattle.sl_host_state.specs.declared.kept.ValuePair.{ValuePair}
-use Rattle.sl_leases.specs.Leases.{is_leader_of}
+use Rattle.sl_trace.specs.Leases.{is_leader_of}
 use Rattle.sl_host_law.proofs.Parts.SignalsAreTaken.{signals_are_taken}
 use Rattle.sl_host_law.specs.Parts.Signals.{sending}
 use Rattle.sl_plain.proofs.Numbers.{number_itself}

@@ -9,14 +9,14 @@ use Rattle.sl_host_law.proofs.Plain.PlainLists.{filter_none, none_any}
 use Rattle.sl_host_state.specs.Kept.{HostState, LeaseState, MemberState}
 use Rattle.sl_host_state.specs.Makes.{is_lease_on, next_submitted}
 use Rattle.sl_host_state.specs.declared.kept.OpenCall.{OpenCall}
-use Rattle.sl_leases.specs.Ballots.{moded_block, phase1_block}
-use Rattle.sl_leases.specs.LeaseWork.{LeasePlace, begin_next, phase1_next, settle_next, settle_owed}
-use Rattle.sl_leases.specs.Leases.{LeaseKnown, Phase2_write, is_at, mode_gen_of, owed, own_known}
-use Rattle.sl_leases.specs.declared.lease.Aim.TheVariants.{Settles}
-use Rattle.sl_leases.specs.declared.lease.LeaseNext.TheVariants.{Nothing, ReadFor, WriteBlock}
-use Rattle.sl_leases.specs.declared.lease.LeaseNext.{LeaseNext}
-use Rattle.sl_leases.specs.declared.lease.Owed.TheVariants.{BallotOwed, FreeOwed, ModeOwed}
-use Rattle.sl_leases.specs.declared.lease.Owed.{Owed}
+use Rattle.sl_trace.specs.Ballots.{moded_block, phase1_block}
+use Rattle.sl_trace.specs.LeaseWork.{LeasePlace, begin_next, phase1_next, settle_next, settle_owed}
+use Rattle.sl_trace.specs.Leases.{LeaseKnown, Phase2_write, is_at, mode_gen_of, owed, own_known}
+use Rattle.sl_trace.specs.declared.lease.Aim.TheVariants.{Settles}
+use Rattle.sl_trace.specs.declared.lease.LeaseNext.TheVariants.{Nothing, ReadFor, WriteBlock}
+use Rattle.sl_trace.specs.declared.lease.LeaseNext.{LeaseNext}
+use Rattle.sl_trace.specs.declared.lease.Owed.TheVariants.{BallotOwed, FreeOwed, ModeOwed}
+use Rattle.sl_trace.specs.declared.lease.Owed.{Owed}
 use Rattle.sl_host_law.proofs.Parts.LinesAreTaken.{lines_are_taken}
 use Rattle.sl_host_law.specs.Parts.Wakes.{is_free_at}
 use Rattle.sl_host_law.specs.Questions.Answers.{known_in, place_in}

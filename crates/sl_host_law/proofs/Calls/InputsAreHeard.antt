@@ -12,7 +12,7 @@ use Rattle.sl_host_state.specs.Hears.{answered_line, children_after, heard_exit,
 use Rattle.sl_host_state.specs.Kept.{HostState}
 use Rattle.sl_host_state.specs.Stands.{Keeps, Stands, is_there, kept_waiting}
 use Rattle.sl_host_state.specs.declared.kept.JobState.{JobState}
-use Rattle.sl_leases.specs.Jobs.{command_of}
+use Rattle.sl_trace.specs.Jobs.{command_of}
 use Rattle.sl_plain.proofs.Numbers.{refl_le}
 use Rattle.sl_trace.specs.Traces.{Child, Job, KillProgram, Setting, Trace, child_after, children, first_child, is_before_input, kill_programs, new_child, next_job, numbers_taken, running_jobs, waiting_call, without_program}
 use Rattle.sl_trace.specs.declared.command.Command.{Command}

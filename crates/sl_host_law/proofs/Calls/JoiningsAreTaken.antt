@@ -21,8 +21,8 @@ use Rattle.sl_host_state.specs.Stands.{IsQuiet, Keeps, MemberStands, Stands, mem
 use Rattle.sl_plain.proofs.Lists.{contains_none, got_inside}
 use Rattle.sl_plain.proofs.Numbers.{number_itself}
 use Rattle.sl_plain.proofs.Options.{none_is}
-use Rattle.sl_sessions.specs.Sessions.{added, added_by, has_open_write, is_join_call, is_present, joined_after, joining_session, present_sessions, refused_after, removed_after, sessions}
-use Rattle.sl_sessions.specs.declared.session.Session.{Session}
+use Rattle.sl_trace.specs.Sessions.{added, added_by, has_open_write, is_join_call, is_present, joined_after, joining_session, present_sessions, refused_after, removed_after, sessions}
+use Rattle.sl_trace.specs.declared.session.Session.{Session}
 use Rattle.sl_trace.proofs.TraceFacts.{fold-push}
 use Rattle.sl_trace.specs.Traces.{Setting, next_job, numbers_taken, reply_to, takes_number}
 use Rattle.sl_trace.specs.declared.command.Command.TheVariants.{AddLockspace}

@@ -12,11 +12,11 @@ use Rattle.sl_host_state.specs.Kept.{HostState, MemberState}
 use Rattle.sl_host_state.specs.Makes.{job_starting, with_start}
 use Rattle.sl_host_state.specs.Stands.{AreInTurn, AskedStands, IsQuiet, JoinStands, Keeps, LeaseStands, MemberStands, WatchKeeps, is_there, job_moments, kept_call, kept_waiting, newest_value}
 use Rattle.sl_host_state.specs.declared.kept.JobState.{JobState}
-use Rattle.sl_leases.specs.Counts.{values_on}
-use Rattle.sl_leases.specs.Jobs.{command_of}
-use Rattle.sl_leases.specs.Leases.{spots_in}
+use Rattle.sl_trace.specs.Counts.{values_on}
+use Rattle.sl_trace.specs.Jobs.{command_of}
+use Rattle.sl_trace.specs.Leases.{spots_in}
 use Rattle.sl_plain.proofs.Lists.{in_map}
-use Rattle.sl_sessions.specs.Sessions.{calls_of, ended_after, is_call_of, is_delta_purpose, joined_after, leaving_job, recovery_of, sessions}
+use Rattle.sl_trace.specs.Sessions.{calls_of, ended_after, is_call_of, is_delta_purpose, joined_after, leaving_job, recovery_of, sessions}
 use Rattle.sl_trace.specs.Traces.{Child, Job, Submitted, child_after, children, first_child, is_of_job, is_write, job_numbered, job_of, mark, new_call, new_child, running_jobs, submitted, unanswered}
 use Rattle.sl_trace.specs.declared.effects.Call.{Call}
 use Rattle.sl_trace.specs.declared.effects.Effects.{Effects}

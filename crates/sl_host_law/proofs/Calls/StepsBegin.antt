@@ -10,7 +10,7 @@ use Rattle.sl_host_state.specs.Hears.{beginning, begun, counted, is_late, member
 use Rattle.sl_host_state.specs.Kept.{HostState, MemberState}
 use Rattle.sl_host_state.specs.Stands.{HostStands, IsQuiet, Keeps, MemberStands, Stands, Takes, is_there, kept_waiting}
 use Rattle.sl_host_state.specs.declared.kept.JobState.{JobState}
-use Rattle.sl_leases.specs.Jobs.{command_of}
+use Rattle.sl_trace.specs.Jobs.{command_of}
 use Rattle.sl_trace.specs.Traces.{Child, Job, Setting, Trace, children, first_child, job_of, jobs, running_jobs, submitted, waiting_call}
 use Rattle.sl_trace.specs.declared.input.Input.TheVariants.{Wake}
 use Rattle.std.proofs.Common.{ap, arith, refl, subst, suc, sym, ◌∙◌}

@@ -8,14 +8,14 @@ use Rattle.sl_due.specs.declared.decision.Decision.TheVariants.{GetsValue, Gives
 use Rattle.sl_due.specs.declared.decision.Decision.{Decision}
 use Rattle.sl_host_state.specs.Kept.{HostState, MemberState}
 use Rattle.sl_host_state.specs.Stands.{MemberStands, Stands}
-use Rattle.sl_leases.specs.Counts.{holds_already, next_value_seq, other_holder}
-use Rattle.sl_leases.specs.Jobs.{wanted_mode}
-use Rattle.sl_leases.specs.Leases.{spot_of}
+use Rattle.sl_trace.specs.Counts.{holds_already, next_value_seq, other_holder}
+use Rattle.sl_trace.specs.Jobs.{wanted_mode}
+use Rattle.sl_trace.specs.Leases.{spot_of}
 use Rattle.sl_plain.proofs.Lists.{find_inside}
-use Rattle.sl_sessions.specs.Sessions.{generation_of, present_sessions, sessions}
-use Rattle.sl_sessions.specs.Watching.{states_seen}
-use Rattle.sl_sessions.specs.declared.delta.DeltaKnown.{DeltaKnown}
-use Rattle.sl_sessions.specs.declared.session.Session.{Session}
+use Rattle.sl_trace.specs.Sessions.{generation_of, present_sessions, sessions}
+use Rattle.sl_trace.specs.Watching.{states_seen}
+use Rattle.sl_trace.specs.declared.delta.DeltaKnown.{DeltaKnown}
+use Rattle.sl_trace.specs.declared.session.Session.{Session}
 use Rattle.sl_trace.specs.Limits.{most_killpaths, most_lockspaces}
 use Rattle.sl_trace.specs.Traces.{KillProgram, Trace, is_orphan, is_shared, kill_programs, no_process, same_place}
 use Rattle.sl_trace.specs.declared.command.Command.TheVariants.{Acquire, AddLockspace, Convert, GetLvb, HostStatus, InqLockspace, Release, ReleaseOrphan, RemLockspace, Request, RunProgram, SetKillpath, SetLvb, Status, TakeOver}

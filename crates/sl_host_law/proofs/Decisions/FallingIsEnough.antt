@@ -8,12 +8,12 @@ use Rattle.sl_host_state.specs.Kept.{LeaseState, MemberState}
 use Rattle.sl_host_state.specs.Makes.{is_lease_on}
 use Rattle.sl_host_state.specs.Stands.{MemberStands, newest_value}
 use Rattle.sl_host_state.specs.declared.kept.ValuePair.{ValuePair}
-use Rattle.sl_leases.specs.Counts.{next_value_seq, values_on}
-use Rattle.sl_leases.specs.Leases.{spot_of}
+use Rattle.sl_trace.specs.Counts.{next_value_seq, values_on}
+use Rattle.sl_trace.specs.Leases.{spot_of}
 use Rattle.sl_plain.proofs.Lists.{find_inside}
 use Rattle.sl_plain.proofs.Options.{some_of}
 use Rattle.sl_sector.specs.declared.sector.ValueRec.{ValueRec}
-use Rattle.sl_sessions.specs.Sessions.{calls_of}
+use Rattle.sl_trace.specs.Sessions.{calls_of}
 use Rattle.sl_trace.specs.Traces.{Setting, Trace, same_spot}
 use Rattle.sl_trace.specs.declared.effects.Spot.{Spot}
 use Rattle.sl_words.proofs.WordLaws.{and_true}

@@ -12,17 +12,17 @@ use Rattle.sl_host_state.specs.Kept.{Config, HostState, LeaseState, MemberState}
 use Rattle.sl_host_state.specs.Makes.{is_lease_on}
 use Rattle.sl_host_state.specs.Stands.{Keeps, MemberStands, Stands, is_there, kept_call}
 use Rattle.sl_host_state.specs.declared.kept.OpenCall.{OpenCall}
-use Rattle.sl_leases.specs.Counts.{child_count, holder_count, pending_call, resource_count}
-use Rattle.sl_leases.specs.Jobs.{is_asking_lease}
-use Rattle.sl_leases.specs.Leases.{lease_spots}
+use Rattle.sl_trace.specs.Counts.{child_count, holder_count, pending_call, resource_count}
+use Rattle.sl_trace.specs.Jobs.{is_asking_lease}
+use Rattle.sl_trace.specs.Leases.{lease_spots}
 use Rattle.sl_plain.proofs.Lists.{filter_both, find_inside}
 use Rattle.sl_plain.proofs.Options.{then_value}
-use Rattle.sl_sessions.specs.Sessions.{calls_of, generation_of, has_open_write, is_joined, is_present, is_session_arg, joined_after, leaving_job, present_sessions, refused_after, removed_after, renewing, session_named, sessions}
-use Rattle.sl_sessions.specs.Watching.{host_state, sessions_seen, sightings, states_seen}
-use Rattle.sl_sessions.specs.declared.delta.DeltaKnown.{DeltaKnown}
-use Rattle.sl_sessions.specs.declared.session.Begun.{Begun}
-use Rattle.sl_sessions.specs.declared.session.Renewing.{Renewing}
-use Rattle.sl_sessions.specs.declared.session.Session.{Session}
+use Rattle.sl_trace.specs.Sessions.{calls_of, generation_of, has_open_write, is_joined, is_present, is_session_arg, joined_after, leaving_job, present_sessions, refused_after, removed_after, renewing, session_named, sessions}
+use Rattle.sl_trace.specs.Watching.{host_state, sessions_seen, sightings, states_seen}
+use Rattle.sl_trace.specs.declared.delta.DeltaKnown.{DeltaKnown}
+use Rattle.sl_trace.specs.declared.session.Begun.{Begun}
+use Rattle.sl_trace.specs.declared.session.Renewing.{Renewing}
+use Rattle.sl_trace.specs.declared.session.Session.{Session}
 use Rattle.sl_trace.specs.Limits.{most_children, most_holders, most_processes, most_resources}
 use Rattle.sl_trace.specs.Traces.{Child, Job, Setting, Submitted, Trace, children, first_child, outstanding, same_spot}
 use Rattle.sl_trace.specs.declared.command.LockspaceArg.{LockspaceArg}

@@ -5,7 +5,7 @@ use Rattle.sl_host_state.proofs.Others.{effects_are_taken}
 use Rattle.sl_host_state.specs.Kept.{HostState}
 use Rattle.sl_host_state.specs.Makes.{with_end, with_grant}
 use Rattle.sl_host_state.specs.Stands.{Stands, Takes, kept_job}
-use Rattle.sl_leases.specs.Jobs.{is_job_of_process}
+use Rattle.sl_trace.specs.Jobs.{is_job_of_process}
 use Rattle.sl_host_law.proofs.Parts.RefusalsAreTaken.{by_number, some_jobs}
 use Rattle.sl_host_law.proofs.Parts.SignalsAreTaken.{each_taken}
 use Rattle.sl_host_law.specs.Parts.Exits.{ExitsAreTaken, ending, exiting, leaving, refusing_of}

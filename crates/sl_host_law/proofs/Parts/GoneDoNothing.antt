@@ -8,16 +8,16 @@ use Rattle.sl_due.specs.DueWake.{end_if_done, finish_session, free_if_done, join
 use Rattle.sl_due.specs.Steps.{Step, for_each, seen, when, with_some}
 use Rattle.sl_host_law.proofs.Plain.PlainOrders.{inside_ordered}
 use Rattle.sl_host_state.specs.Kept.{HostState, MemberState}
-use Rattle.sl_leases.specs.Leases.{lease_spots}
+use Rattle.sl_trace.specs.Leases.{lease_spots}
 use Rattle.sl_host_law.specs.Parts.Recoveries.{GoneDoNothing, IsGone}
 use Rattle.sl_plain.proofs.Lists.{any_of, got_inside, in_map, kept}
 use Rattle.sl_host_law.proofs.Questions.OneJoining.{joining_present}
 use Rattle.sl_host_law.proofs.Replies.NotJoinedNotBegun.{not_before}
-use Rattle.sl_sessions.specs.Deltas.{delta_known, delta_of_session, next_on_wake, next_renewal}
-use Rattle.sl_sessions.specs.Sessions.{calls_of, is_joined, is_present, joined_after, leaving_job, leaving_of, present_sessions, recovers, recovery_of, removed_after, renewed_by, renewing, sessions, shows_other}
-use Rattle.sl_sessions.specs.declared.session.Begun.{Begun}
-use Rattle.sl_sessions.specs.declared.session.Renewing.{Renewing}
-use Rattle.sl_sessions.specs.declared.session.Session.{Session}
+use Rattle.sl_trace.specs.Deltas.{delta_known, delta_of_session, next_on_wake, next_renewal}
+use Rattle.sl_trace.specs.Sessions.{calls_of, is_joined, is_present, joined_after, leaving_job, leaving_of, present_sessions, recovers, recovery_of, removed_after, renewed_by, renewing, sessions, shows_other}
+use Rattle.sl_trace.specs.declared.session.Begun.{Begun}
+use Rattle.sl_trace.specs.declared.session.Renewing.{Renewing}
+use Rattle.sl_trace.specs.declared.session.Session.{Session}
 use Rattle.sl_time.specs.Times.{fail}
 use Rattle.sl_trace.specs.Connections.{unregisters}
 use Rattle.sl_trace.specs.Traces.{Setting, Trace, is_running}

@@ -24,7 +24,7 @@ use Rattle.sl_host_state.specs.New.{IsOfProgram}
 use Rattle.sl_host_state.specs.Stands.{IsWaiting, LeaseStands, Stands}
 use Rattle.sl_host_state.specs.declared.kept.JobState.{JobState}
 use Rattle.sl_host_state.specs.declared.kept.LeaseCall.{LeaseCall}
-use Rattle.sl_leases.specs.Leases.{is_lease_call, is_on, lease_calls, open_on}
+use Rattle.sl_trace.specs.Leases.{is_lease_call, is_on, lease_calls, open_on}
 use Rattle.sl_host_law.proofs.Parts.RefusalsAreTaken.{refusals_are_taken}
 use Rattle.sl_host_law.specs.Parts.Lines.{HeardBy, LineComes, LinesAreTaken}
 use Rattle.sl_host_law.specs.Parts.Refusals.{jobs_but, numbers_of, signalling_and_refusing}
@@ -32,8 +32,8 @@ use Rattle.sl_plain.proofs.Lists.{contains_first, contains_none, find_inside, in
 use Rattle.sl_host_law.specs.Questions.Members.{IsMemberAt, jobs_in}
 use Rattle.sl_sector.specs.declared.sector.Rec.TheVariants.{ValueIs}
 use Rattle.sl_sector.specs.declared.sector.ValueRec.{ValueRec}
-use Rattle.sl_sessions.specs.Sessions.{calls_of, is_call_of, me}
-use Rattle.sl_sessions.specs.declared.session.Session.{Session}
+use Rattle.sl_trace.specs.Sessions.{calls_of, is_call_of, me}
+use Rattle.sl_trace.specs.declared.session.Session.{Session}
 use Rattle.sl_trace.specs.Traces.{Submitted, next_job, outstanding, submitted}
 use Rattle.sl_trace.specs.declared.command.Command.{Command}
 use Rattle.sl_trace.specs.declared.command.LockspaceArg.{LockspaceArg}

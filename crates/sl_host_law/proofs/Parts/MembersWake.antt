@@ -14,8 +14,8 @@ use Rattle.sl_host_state.specs.Hears.{setting_of}
 use Rattle.sl_host_state.specs.Kept.{Config, HostState, MemberState}
 use Rattle.sl_host_state.specs.Makes.{has_write_open}
 use Rattle.sl_host_state.specs.Stands.{Keeps, MemberStands, bits_of, is_joining, kept_call, newest_of}
-use Rattle.sl_leases.specs.LeaseWork.{lease_place, settle_next}
-use Rattle.sl_leases.specs.Leases.{is_on, known, lease_spots, open_on}
+use Rattle.sl_trace.specs.LeaseWork.{lease_place, settle_next}
+use Rattle.sl_trace.specs.Leases.{is_on, known, lease_spots, open_on}
 use Rattle.sl_host_law.specs.Parts.Wakes.{MembersWake, bits_in, delta_in, is_free_at, next_by_newest}
 use Rattle.sl_plain.proofs.Lists.{any_found, any_of, contains_first, kept, kept_inside}
 use Rattle.sl_plain.proofs.Options.{none_is}
@@ -23,12 +23,12 @@ use Rattle.sl_host_law.proofs.Questions.MembersAnswer.{members_answer}
 use Rattle.sl_host_law.specs.Questions.Answers.{known_in, place_in}
 use Rattle.sl_host_law.specs.Questions.Jobs.{running_in}
 use Rattle.sl_host_law.specs.Questions.Members.{IsMemberAt, MemberAnswers, has_call_open}
-use Rattle.sl_sessions.specs.Deltas.{DeltaLease, delta_known, delta_of_session, join_step_of, next_by_time, next_free, next_on_wake, next_renewal}
-use Rattle.sl_sessions.specs.Sessions.{added, begun_in, calls_of, given_session, has_open_write, is_join_call, is_join_done, joining_session, open_calls_of, recovery_of, removed_after, sessions}
-use Rattle.sl_sessions.specs.declared.delta.DeltaNext.TheVariants.{Nothing}
-use Rattle.sl_sessions.specs.declared.delta.DeltaNext.{DeltaNext}
-use Rattle.sl_sessions.specs.declared.session.Begun.{Begun}
-use Rattle.sl_sessions.specs.declared.session.Session.{Session}
+use Rattle.sl_trace.specs.Deltas.{DeltaLease, delta_known, delta_of_session, join_step_of, next_by_time, next_free, next_on_wake, next_renewal}
+use Rattle.sl_trace.specs.Sessions.{added, begun_in, calls_of, given_session, has_open_write, is_join_call, is_join_done, joining_session, open_calls_of, recovery_of, removed_after, sessions}
+use Rattle.sl_trace.specs.declared.delta.DeltaNext.TheVariants.{Nothing}
+use Rattle.sl_trace.specs.declared.delta.DeltaNext.{DeltaNext}
+use Rattle.sl_trace.specs.declared.session.Begun.{Begun}
+use Rattle.sl_trace.specs.declared.session.Session.{Session}
 use Rattle.sl_trace.specs.Traces.{Answered, Job, Replied, Setting, Submitted, Trace, is_running, job_in, jobs, line_in, next_job, outstanding, reply_to, running_jobs}
 use Rattle.sl_trace.specs.declared.command.LockspaceArg.{LockspaceArg}
 use Rattle.sl_trace.specs.declared.effects.Entry.{Entry}

@@ -9,7 +9,7 @@ use Rattle.sl_host_state.specs.Kept.{Config, HostState, MemberState}
 use Rattle.sl_host_state.specs.Makes.{with_reply}
 use Rattle.sl_host_state.specs.Stands.{Keeps, Stands, kept_job}
 use Rattle.sl_host_state.specs.declared.kept.JobState.{JobState}
-use Rattle.sl_leases.specs.Jobs.{jobs_of_session, lockspace_named}
+use Rattle.sl_trace.specs.Jobs.{jobs_of_session, lockspace_named}
 use Rattle.sl_host_law.proofs.Parts.SignalsAreTaken.{holders, holders_past, signalling_same}
 use Rattle.sl_host_law.specs.Parts.Refusals.{MayRefuse, RefusalsAreTaken, jobs_but, numbers_of, refusing_jobs, replying_to, signalling_and_refusing}
 use Rattle.sl_host_law.specs.Parts.Signals.{signalling}

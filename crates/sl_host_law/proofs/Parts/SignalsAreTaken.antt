@@ -8,7 +8,7 @@ use Rattle.sl_host_state.specs.Asks.{stopper_in}
 use Rattle.sl_host_state.specs.Kept.{HostState, MemberState}
 use Rattle.sl_host_state.specs.Makes.{with_signal, with_start}
 use Rattle.sl_host_state.specs.Stands.{Stands, Takes}
-use Rattle.sl_leases.specs.Counts.{stopper_of}
+use Rattle.sl_trace.specs.Counts.{stopper_of}
 use Rattle.sl_host_law.specs.Parts.Signals.{SignalsAreTaken, over, sending, signalling, telling}
 use Rattle.sl_host_law.proofs.Questions.MembersAnswer.{members_answer}
 use Rattle.sl_host_law.specs.Questions.Members.{IsMemberAt, holders_in}

@@ -6,8 +6,8 @@ use Rattle.sl_host_state.specs.Stands.{Keeps, MemberStands, kept_job}
 use Rattle.sl_host_state.specs.declared.kept.JobState.{JobState}
 use Rattle.sl_plain.proofs.Lists.{any_found, kept_inside}
 use Rattle.sl_plain.proofs.Options.{mapped_value}
-use Rattle.sl_sessions.specs.Sessions.{leaving_job}
-use Rattle.sl_sessions.specs.declared.delta.DeltaKnown.{DeltaKnown}
+use Rattle.sl_trace.specs.Sessions.{leaving_job}
+use Rattle.sl_trace.specs.declared.delta.DeltaKnown.{DeltaKnown}
 use Rattle.sl_trace.specs.Traces.{Job, Setting, Trace, is_running, job_numbered, jobs, running_jobs}
 use Rattle.sl_words.proofs.WordLaws.{some_is_true}
 use Rattle.sl_words.specs.Words.{some_is}

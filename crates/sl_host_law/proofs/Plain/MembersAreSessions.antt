@@ -6,8 +6,8 @@ use Rattle.sl_host_law.specs.Plain.Promises.{MembersAreSessions, NumbersAreApart
 use Rattle.sl_host_state.specs.Kept.{HostState, MemberState}
 use Rattle.sl_host_state.specs.Stands.{Keeps}
 use Rattle.sl_plain.proofs.Lists.{got_inside, kept_inside}
-use Rattle.sl_sessions.specs.Sessions.{is_present, present_sessions, sessions}
-use Rattle.sl_sessions.specs.declared.session.Session.{Session}
+use Rattle.sl_trace.specs.Sessions.{is_present, present_sessions, sessions}
+use Rattle.sl_trace.specs.declared.session.Session.{Session}
 use Rattle.sl_trace.specs.Traces.{Setting, Trace}
 use Rattle.sl_words.specs.Orders.{is_text_before}
 use Rattle.std.proofs.Common.{ap, ◌∙◌}

@@ -3,7 +3,7 @@ use Rattle.sl_host_law.proofs.Plain.PlainLists.{all_back, all_front, each_of}
 use Rattle.sl_host_law.proofs.Plain.SessionNumbers.{numbered_below}
 use Rattle.sl_host_state.specs.Kept.{HostState}
 use Rattle.sl_host_state.specs.Stands.{Keeps}
-use Rattle.sl_leases.specs.Jobs.{child_of_job}
+use Rattle.sl_trace.specs.Jobs.{child_of_job}
 use Rattle.sl_plain.proofs.Lists.{contains_cases, contains_first, contains_more, contains_none, find_inside, kept_inside}
 use Rattle.sl_trace.specs.Traces.{Child, Replied, Setting, Submitted, Trace, children, is_of_job, job_numbered, job_of, reply_in, reply_to, submitted, unanswered, waiting_call}
 use Rattle.sl_trace.specs.declared.effects.Entry.{Entry}

@@ -5,8 +5,8 @@ use Rattle.sl_host_law.proofs.Plain.PlainOrders.{AreApart}
 use Rattle.sl_plain.proofs.Lists.{contains_first, find_inside}
 use Rattle.sl_plain.proofs.Numbers.{lt_then_le, number_itself}
 use Rattle.sl_plain.proofs.Options.{some_there, then_value}
-use Rattle.sl_sessions.specs.Sessions.{added, added_by, begun_in, given_session, is_join_call, is_joined, joining_session, leaves, leaving_in, leaving_job, session_numbered, sessions}
-use Rattle.sl_sessions.specs.declared.session.Session.{Session}
+use Rattle.sl_trace.specs.Sessions.{added, added_by, begun_in, given_session, is_join_call, is_joined, joining_session, leaves, leaving_in, leaving_job, session_numbered, sessions}
+use Rattle.sl_trace.specs.declared.session.Session.{Session}
 use Rattle.sl_trace.specs.Traces.{Job, Setting, Trace, job_in, job_numbered, jobs, line_in, next_job, numbers_taken, takes_number}
 use Rattle.sl_trace.specs.declared.command.LockspaceArg.{LockspaceArg}
 use Rattle.sl_trace.specs.declared.effects.Entry.{Entry}

@@ -10,8 +10,8 @@ use Rattle.sl_plain.proofs.Lists.{find_inside}
 use Rattle.sl_host_law.specs.Questions.Answers.{AnswersAreTheirs}
 use Rattle.sl_host_law.proofs.Replies.Answers.AnswersAreHeard.{answers_are_heard}
 use Rattle.sl_host_law.specs.Replies.Answers.{IsOpen}
-use Rattle.sl_sessions.specs.Sessions.{added_by, is_join_call, is_present, joining_session, session_numbered, sessions}
-use Rattle.sl_sessions.specs.declared.session.Session.{Session}
+use Rattle.sl_trace.specs.Sessions.{added_by, is_join_call, is_present, joining_session, session_numbered, sessions}
+use Rattle.sl_trace.specs.declared.session.Session.{Session}
 use Rattle.sl_trace.specs.Traces.{Submitted, call_numbered, next_job, submitted}
 use Rattle.sl_trace.specs.declared.effects.Call.{Call}
 use Rattle.sl_trace.specs.declared.effects.Effects.{Effects}

@@ -9,20 +9,20 @@ use Rattle.sl_due.specs.Steps.{Step, add_reply, seen, when, with_some}
 use Rattle.sl_host_state.specs.Kept.{Config, HostState, MemberState}
 use Rattle.sl_host_state.specs.Stands.{config_of, kept_call, pair_of}
 use Rattle.sl_host_state.specs.declared.kept.OpenCall.{OpenCall}
-use Rattle.sl_leases.specs.Jobs.{aim_of}
-use Rattle.sl_leases.specs.LeaseWork.{LeasePlace, lease_next, lease_place}
-use Rattle.sl_leases.specs.Leases.{LeaseKnown, exclusive_on, known, lease_step, lver_written, spot_of_call, value_written}
-use Rattle.sl_leases.specs.declared.lease.Aim.{Aim}
+use Rattle.sl_trace.specs.Jobs.{aim_of}
+use Rattle.sl_trace.specs.LeaseWork.{LeasePlace, lease_next, lease_place}
+use Rattle.sl_trace.specs.Leases.{LeaseKnown, exclusive_on, known, lease_step, lver_written, spot_of_call, value_written}
+use Rattle.sl_trace.specs.declared.lease.Aim.{Aim}
 use Rattle.sl_host_law.proofs.Questions.JobsAnswer.{jobs_answer, work_goes_on}
 use Rattle.sl_host_law.proofs.Questions.MembersAnswer.{members_answer}
 use Rattle.sl_host_law.specs.Questions.Answers.{AnswerDecides, AnswersDecide, IsCallOf, for_job_in, joining_in_step, known_in, lease_in_step, place_in, seen_request_in, set_reply_in, spot_in, survey_in_step}
 use Rattle.sl_host_law.specs.Questions.Jobs.{JobAnswers, aim_in, command_in, goes_on_in, running_in}
 use Rattle.sl_host_law.specs.Questions.Members.{MemberAnswers, begins_by_read_in, exclusive_at}
 use Rattle.sl_sector.specs.declared.sector.ValueRec.{ValueRec}
-use Rattle.sl_sessions.specs.Deltas.{delta_of_session, next_after_free, next_after_renewal, next_in_joining}
-use Rattle.sl_sessions.specs.Sessions.{calls_of, generation_of, recovery_of}
+use Rattle.sl_trace.specs.Deltas.{delta_of_session, next_after_free, next_after_renewal, next_in_joining}
+use Rattle.sl_trace.specs.Sessions.{calls_of, generation_of, recovery_of}
 use Rattle.sl_sector.specs.declared.sector.Owner.{Owner}
-use Rattle.sl_sessions.specs.declared.session.Begun.{Begun}
+use Rattle.sl_trace.specs.declared.session.Begun.{Begun}
 use Rattle.sl_trace.specs.Traces.{Submitted, is_orphan, is_running, job_of}
 use Rattle.sl_trace.specs.declared.command.Command.{Command}
 use Rattle.sl_trace.specs.declared.effects.Grant.{Grant}

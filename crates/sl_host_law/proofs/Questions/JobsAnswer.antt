@@ -9,8 +9,8 @@ use Rattle.sl_host_law.proofs.Plain.PlainOrders.{inside_ordered}
 use Rattle.sl_host_state.specs.Kept.{Config, HostState, MemberState}
 use Rattle.sl_host_state.specs.Stands.{Keeps, Stands, kept_job, kept_waiting}
 use Rattle.sl_host_state.specs.declared.kept.JobState.{JobState}
-use Rattle.sl_leases.specs.Jobs.{aim_of, aim_of_command, child_of_job, command_numbered, command_of}
-use Rattle.sl_leases.specs.Leases.{lease_step}
+use Rattle.sl_trace.specs.Jobs.{aim_of, aim_of_command, child_of_job, command_numbered, command_of}
+use Rattle.sl_trace.specs.Leases.{lease_step}
 use Rattle.sl_plain.proofs.Lists.{find_fails, find_inside, in_map, kept}
 use Rattle.sl_host_law.proofs.Questions.MembersAnswer.{members_answer}
 use Rattle.sl_host_law.proofs.Questions.OneJoining.{joining_present, one_joining}
@@ -18,8 +18,8 @@ use Rattle.sl_host_law.specs.Questions.Jobs.{JobAnswers, JobsAnswer, WorkGoesOn,
 use Rattle.sl_host_law.proofs.Replies.JobsRun.{runs_among}
 use Rattle.sl_host_law.proofs.Replies.PlainFilters.{filter_mapped, found_kept}
 use Rattle.sl_host_law.proofs.Replies.PlainNumbers.{same_number}
-use Rattle.sl_sessions.specs.Sessions.{is_present, session_of_job, sessions}
-use Rattle.sl_sessions.specs.declared.session.Session.{Session}
+use Rattle.sl_trace.specs.Sessions.{is_present, session_of_job, sessions}
+use Rattle.sl_trace.specs.declared.session.Session.{Session}
 use Rattle.sl_trace.specs.Traces.{Child, Job, Setting, Submitted, children, is_running, job_numbered, job_of, jobs, running_jobs, submitted, waiting_call, work_job}
 use Rattle.sl_trace.specs.declared.effects.LeaseStep.{LeaseStep}
 use Rattle.sl_trace.specs.declared.effects.Purpose.TheVariants.{Joining, Lease, Leaving, Renewal, RequestRead, RequestWrite, SeeRequest, Survey, ValueRead, ValueWrite}

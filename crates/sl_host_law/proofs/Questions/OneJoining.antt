@@ -2,8 +2,8 @@
 use Rattle.sl_host_law.proofs.Plain.PlainLists.{each_of, in_either}
 use Rattle.sl_host_law.proofs.Plain.SessionNumbers.{HasJobBelow, session_jobs_below}
 use Rattle.sl_plain.proofs.Lists.{contains_cases, contains_none}
-use Rattle.sl_sessions.specs.Sessions.{added_by, begun_in, given_session, has_open_write, is_join_call, is_join_done, is_present, joining_session, refused_after, removed_after, sessions}
-use Rattle.sl_sessions.specs.declared.session.Session.{Session}
+use Rattle.sl_trace.specs.Sessions.{added_by, begun_in, given_session, has_open_write, is_join_call, is_join_done, is_present, joining_session, refused_after, removed_after, sessions}
+use Rattle.sl_trace.specs.declared.session.Session.{Session}
 use Rattle.sl_trace.specs.Traces.{Replied, Setting, Trace, is_running, next_job, reply_to}
 use Rattle.sl_trace.specs.declared.command.LockspaceArg.{LockspaceArg}
 use Rattle.sl_trace.specs.declared.effects.Entry.{Entry}

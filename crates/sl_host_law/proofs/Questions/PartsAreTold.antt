@@ -8,15 +8,15 @@ use Rattle.sl_host_state.specs.Asks.{begins_in, is_kill_due_in, stopper_in}
 use Rattle.sl_host_state.specs.Kept.{HostState, MemberState}
 use Rattle.sl_host_state.specs.Stands.{Stands, kept_job}
 use Rattle.sl_host_state.specs.declared.kept.JobState.{JobState}
-use Rattle.sl_leases.specs.Jobs.{is_job_of_process, jobs_of_session}
+use Rattle.sl_trace.specs.Jobs.{is_job_of_process, jobs_of_session}
 use Rattle.sl_host_law.proofs.Questions.JobsAnswer.{jobs_answer}
 use Rattle.sl_host_law.proofs.Questions.MembersAnswer.{members_answer}
 use Rattle.sl_host_law.specs.Questions.Jobs.{JobAnswers, is_of_process_in, time_out_in}
 use Rattle.sl_host_law.specs.Questions.Members.{IsMemberAt, MemberAnswers, jobs_in}
 use Rattle.sl_host_law.specs.Questions.Parts.{HostParts, HostsPart, MemberParts, MembersPart, time_out_of}
 use Rattle.sl_host_law.proofs.Replies.PlainFilters.{filter_mapped}
-use Rattle.sl_sessions.specs.Sessions.{leaving_of, recovery_of}
-use Rattle.sl_sessions.specs.declared.session.Begun.{Begun}
+use Rattle.sl_trace.specs.Sessions.{leaving_of, recovery_of}
+use Rattle.sl_trace.specs.declared.session.Begun.{Begun}
 use Rattle.sl_trace.specs.Traces.{Job, Trace, end_of, first_child, next_child, orphans_left, running_jobs}
 use Rattle.sl_trace.specs.declared.effects.Grant.{Grant}
 use Rattle.sl_trace.specs.declared.effects.Move.TheVariants.{Unregister}

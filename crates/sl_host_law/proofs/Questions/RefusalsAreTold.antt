@@ -17,8 +17,8 @@ use Rattle.sl_host_law.proofs.Replies.OpenCallsAreKept.{open_write_is}
 use Rattle.sl_host_law.proofs.Replies.Replies.ReplyEndsJob.{calls_stay, own_joining}
 use Rattle.sl_host_law.specs.Replies.Answers.{FitsCall, IsOpen}
 use Rattle.sl_host_law.specs.Replies.Replies.{LeavesHeed, MayReply}
-use Rattle.sl_sessions.specs.Sessions.{has_open_write, is_call_of, is_join_done}
-use Rattle.sl_sessions.specs.declared.session.Session.{Session}
+use Rattle.sl_trace.specs.Sessions.{has_open_write, is_call_of, is_join_done}
+use Rattle.sl_trace.specs.declared.session.Session.{Session}
 use Rattle.sl_trace.specs.Traces.{is_running, is_write, unanswered}
 use Rattle.sl_trace.specs.declared.input.Answer.{Answer}
 use Rattle.sl_trace.specs.declared.input.Input.TheVariants.{Answer as Told, Wake}

@@ -5,7 +5,7 @@ use Rattle.sl_host_law.proofs.Plain.PlainOrders.{inside_ordered}
 use Rattle.sl_host_state.specs.Kept.{HostState, MemberState}
 use Rattle.sl_host_state.specs.Makes.{is_ended_by_move, names_moved, with_move}
 use Rattle.sl_host_state.specs.Stands.{IsQuiet, Keeps, MemberStands, kept_call, kept_job, kept_waiting}
-use Rattle.sl_leases.specs.Jobs.{child_of_job, command_of}
+use Rattle.sl_trace.specs.Jobs.{child_of_job, command_of}
 use Rattle.sl_plain.proofs.Lists.{got_inside, in_map, kept, kept_inside}
 use Rattle.sl_plain.proofs.Numbers.{refl_le}
 use Rattle.sl_host_law.proofs.Replies.Answers.JobsHearAnswer.{job_with}
@@ -15,10 +15,10 @@ use Rattle.sl_host_law.proofs.Replies.PlainFilters.{filter_mapped, map_where}
 use Rattle.sl_host_law.proofs.Replies.PresentInOrder.{present_kept}
 use Rattle.sl_host_law.proofs.Replies.MomentsAreLater.{job_from, member_from, quiet_where}
 use Rattle.sl_host_law.specs.Replies.Moves.{EndsBegun, MovesAreTaken}
-use Rattle.sl_sessions.specs.Sessions.{has_open_write, is_call_of, is_joined, is_present, joined_after, leaving_job, refused_after, removed_after, sessions}
-use Rattle.sl_sessions.specs.declared.session.Begun.{Begun}
-use Rattle.sl_sessions.specs.declared.session.Renewing.{Renewing}
-use Rattle.sl_sessions.specs.declared.session.Session.{Session}
+use Rattle.sl_trace.specs.Sessions.{has_open_write, is_call_of, is_joined, is_present, joined_after, leaving_job, refused_after, removed_after, sessions}
+use Rattle.sl_trace.specs.declared.session.Begun.{Begun}
+use Rattle.sl_trace.specs.declared.session.Renewing.{Renewing}
+use Rattle.sl_trace.specs.declared.session.Session.{Session}
 use Rattle.sl_trace.specs.Connections.{Connection, after_move, connections, renewed_connection, unregisters}
 use Rattle.sl_trace.specs.Traces.{Job, Setting, Submitted, Trace, children, is_of_job, is_write, job_numbered, job_of, mark, new_call, running_jobs, submitted, unanswered}
 use Rattle.sl_trace.specs.declared.effects.Call.{Call}

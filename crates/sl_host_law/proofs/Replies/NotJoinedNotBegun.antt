@@ -1,8 +1,8 @@
 -- A session that has not joined is not removed, in recovery or leaving: each of these begins of one that was joined before.
-use Rattle.sl_sessions.specs.Sessions.{is_join_done, is_joined, joined_after, leaves, leaving_job, leaving_in, recovers, removed_after, removed_in, renewed_by, renewing, shows_other}
-use Rattle.sl_sessions.specs.declared.session.Begun.{Begun}
-use Rattle.sl_sessions.specs.declared.session.Renewing.{Renewing}
-use Rattle.sl_sessions.specs.declared.session.Session.{Session}
+use Rattle.sl_trace.specs.Sessions.{is_join_done, is_joined, joined_after, leaves, leaving_job, leaving_in, recovers, removed_after, removed_in, renewed_by, renewing, shows_other}
+use Rattle.sl_trace.specs.declared.session.Begun.{Begun}
+use Rattle.sl_trace.specs.declared.session.Renewing.{Renewing}
+use Rattle.sl_trace.specs.declared.session.Session.{Session}
 use Rattle.sl_time.specs.Times.{fail}
 use Rattle.sl_trace.specs.Connections.{unregisters}
 use Rattle.sl_trace.specs.Traces.{Job, Replied, Setting, Trace, line_in, next_job, reply_in, reply_to}

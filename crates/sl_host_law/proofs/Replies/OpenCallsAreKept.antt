@@ -3,8 +3,8 @@ use Rattle.sl_host_law.proofs.Plain.PlainLists.{any_as, any_mapped}
 use Rattle.sl_host_state.specs.Stands.{kept_call, sectors_of}
 use Rattle.sl_host_state.specs.declared.kept.OpenCall.{OpenCall}
 use Rattle.sl_host_law.proofs.Replies.PlainFilters.{any_kept, any_reversed, filters_turned}
-use Rattle.sl_sessions.specs.Sessions.{has_open_delta, has_open_write, is_call_of, is_delta_purpose}
-use Rattle.sl_sessions.specs.declared.session.Session.{Session}
+use Rattle.sl_trace.specs.Sessions.{has_open_delta, has_open_write, is_call_of, is_delta_purpose}
+use Rattle.sl_trace.specs.declared.session.Session.{Session}
 use Rattle.sl_trace.specs.Traces.{Submitted, Trace, is_write, outstanding, submitted}
 use Rattle.sl_trace.specs.declared.effects.Op.TheVariants.{ReadSectors, WriteRecord}
 use Rattle.sl_trace.specs.declared.effects.Op.{Op}

@@ -3,8 +3,8 @@ use Rattle.sl_host_law.proofs.Plain.PlainLists.{filter_where}
 use Rattle.sl_plain.proofs.Lists.{filter_both}
 use Rattle.sl_host_law.proofs.Replies.PlainOrderKept.{IsStrict, order_filtered}
 use Rattle.sl_host_law.proofs.Replies.PlainTextOrder.{text_asym, text_weak}
-use Rattle.sl_sessions.specs.Sessions.{is_present, present_sessions, sessions}
-use Rattle.sl_sessions.specs.declared.session.Session.{Session}
+use Rattle.sl_trace.specs.Sessions.{is_present, present_sessions, sessions}
+use Rattle.sl_trace.specs.declared.session.Session.{Session}
 use Rattle.sl_trace.specs.Traces.{Setting, Trace}
 use Rattle.sl_words.specs.Orders.{in_order, is_text_before}
 use Rattle.std.proofs.Common.{ap, sym, ◌∙◌}

@@ -8,8 +8,8 @@ use Rattle.sl_host_law.specs.Steps.Sound.{NamesApart}
 use Rattle.sl_due.specs.Steps.{Step, seen}
 use Rattle.sl_plain.proofs.Lists.{contains_map, find_inside, got_inside}
 use Rattle.sl_host_law.specs.Questions.Jobs.{running_in}
-use Rattle.sl_sessions.specs.Sessions.{is_join_done, removed_after}
-use Rattle.sl_sessions.specs.declared.session.Session.{Session}
+use Rattle.sl_trace.specs.Sessions.{is_join_done, removed_after}
+use Rattle.sl_trace.specs.declared.session.Session.{Session}
 use Rattle.sl_trace.specs.Traces.{Replied, Setting, Trace, is_running, reply_to}
 use Rattle.sl_trace.specs.declared.input.Input.{Input}
 use Rattle.sl_plain.proofs.Options.{none_is}

@@ -19,17 +19,17 @@ use Rattle.sl_host_state.specs.declared.kept.LeaseCall.{LeaseCall}
 use Rattle.sl_host_state.specs.declared.kept.OpenCall.{OpenCall}
 use Rattle.sl_host_law.proofs.Steps.LeasesAreKnown.{kept_tops, known_is, lease_is, read_tops, settles_alike}
 use Rattle.sl_host_law.specs.Steps.Leases.{answered_next, blocks_at, kept_blocks, known_by}
-use Rattle.sl_leases.specs.LeaseWork.{lease_next, settle_next}
-use Rattle.sl_leases.specs.Leases.{Area_read, Phase1_read, Phase2_read, Read_before_free, blocks_given, is_lease_call, is_on, kind_of_step, last_blocks, lease_calls, lease_step, same_kind, spot_of_call}
-use Rattle.sl_leases.specs.declared.lease.Aim.TheVariants.{Acquires, Converts, Settles}
-use Rattle.sl_leases.specs.declared.lease.Aim.{Aim}
+use Rattle.sl_trace.specs.LeaseWork.{lease_next, settle_next}
+use Rattle.sl_trace.specs.Leases.{Area_read, Phase1_read, Phase2_read, Read_before_free, blocks_given, is_lease_call, is_on, kind_of_step, last_blocks, lease_calls, lease_step, same_kind, spot_of_call}
+use Rattle.sl_trace.specs.declared.lease.Aim.TheVariants.{Acquires, Converts, Settles}
+use Rattle.sl_trace.specs.declared.lease.Aim.{Aim}
 use Rattle.sl_plain.proofs.Lists.{contains_cases, find_inside, in_map, kept}
 use Rattle.sl_host_law.specs.Questions.Answers.{known_in, place_in, spot_in}
 use Rattle.sl_host_law.specs.Questions.Members.{IsMemberAt}
 use Rattle.sl_host_law.proofs.Replies.Answers.AnswerMarksOneCall.{hear, hear_by, picked, same_call, told}
 use Rattle.sl_sector.specs.declared.sector.Block.{Block}
-use Rattle.sl_sessions.specs.Sessions.{calls_of, me}
-use Rattle.sl_sessions.specs.declared.session.Session.{Session}
+use Rattle.sl_trace.specs.Sessions.{calls_of, me}
+use Rattle.sl_trace.specs.declared.session.Session.{Session}
 use Rattle.sl_trace.specs.Traces.{Submitted, answer_of, bytes_given, gave, submitted}
 use Rattle.sl_trace.specs.declared.effects.Call.{Call}
 use Rattle.sl_trace.specs.declared.effects.Effects.{Effects}

@@ -25,10 +25,10 @@ use Rattle.sl_host_law.specs.Steps.Leases.{answered_next}
 use Rattle.sl_host_law.specs.Steps.Passes.{member_numbered}
 use Rattle.sl_host_law.specs.Steps.Sound.{IsSound}
 use Rattle.sl_area.specs.Layouts.{record_in}
-use Rattle.sl_leases.specs.Jobs.{process_named}
-use Rattle.sl_leases.specs.declared.lease.Aim.{Aim}
-use Rattle.sl_leases.specs.declared.lease.LeaseNext.TheVariants.{AnswerJob, BecomeExclusive, BecomeShared, GrantJob, Nothing as NoLease, ReadFor, WriteBlock, WriteLeader}
-use Rattle.sl_leases.specs.declared.lease.LeaseNext.{LeaseNext}
+use Rattle.sl_trace.specs.Jobs.{process_named}
+use Rattle.sl_trace.specs.declared.lease.Aim.{Aim}
+use Rattle.sl_trace.specs.declared.lease.LeaseNext.TheVariants.{AnswerJob, BecomeExclusive, BecomeShared, GrantJob, Nothing as NoLease, ReadFor, WriteBlock, WriteLeader}
+use Rattle.sl_trace.specs.declared.lease.LeaseNext.{LeaseNext}
 use Rattle.sl_host_law.specs.Parts.Ends.{removing}
 use Rattle.sl_plain.proofs.Lists.{find_inside, in_map, kept_inside}
 use Rattle.sl_host_law.specs.Questions.Answers.{set_reply_in, spot_in}
@@ -36,12 +36,12 @@ use Rattle.sl_host_law.specs.Questions.Jobs.{aim_in, command_in, goes_on_in, run
 use Rattle.sl_host_law.specs.Questions.Members.{begins_by_read_in, exclusive_at, otherwise_at}
 use Rattle.sl_sector.specs.Spelling.{delta_in}
 use Rattle.sl_sector.specs.declared.sector.DeltaRec.{DeltaRec}
-use Rattle.sl_sessions.specs.Deltas.{next_after_first, next_after_free, next_after_renewal}
-use Rattle.sl_sessions.specs.Sessions.{is_delta_purpose}
-use Rattle.sl_sessions.specs.Watching.{is_free_state}
-use Rattle.sl_sessions.specs.declared.delta.DeltaNext.TheVariants.{Disconnect, EndLeaving, Join, MoveConnection, Nothing, ReadOwn, RefuseJoin, RegisterAndRead, WriteClaim, WriteFirst, WriteFree, WriteRenewal}
-use Rattle.sl_sessions.specs.declared.delta.DeltaNext.{DeltaNext}
-use Rattle.sl_sessions.specs.declared.session.Session.{Session}
+use Rattle.sl_trace.specs.Deltas.{next_after_first, next_after_free, next_after_renewal}
+use Rattle.sl_trace.specs.Sessions.{is_delta_purpose}
+use Rattle.sl_trace.specs.Watching.{is_free_state}
+use Rattle.sl_trace.specs.declared.delta.DeltaNext.TheVariants.{Disconnect, EndLeaving, Join, MoveConnection, Nothing, ReadOwn, RefuseJoin, RegisterAndRead, WriteClaim, WriteFirst, WriteFree, WriteRenewal}
+use Rattle.sl_trace.specs.declared.delta.DeltaNext.{DeltaNext}
+use Rattle.sl_trace.specs.declared.session.Session.{Session}
 use Rattle.sl_time.specs.Times.{fail}
 use Rattle.sl_trace.specs.Traces.{bytes_given, is_orphan, job_of, work_job}
 use Rattle.sl_trace.specs.declared.command.Command.TheVariants.{Acquire, AddLockspace, Convert, GetLvb, HostStatus, InqLockspace, Release, ReleaseOrphan, RemLockspace, Request, RunProgram, SetKillpath, SetLvb, Status, TakeOver}

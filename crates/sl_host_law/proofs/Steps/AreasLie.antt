@@ -9,7 +9,7 @@ use Rattle.sl_host_state.specs.New.{sizes_in}
 use Rattle.sl_host_state.specs.Passes.{whos}
 use Rattle.sl_host_law.specs.Steps.Sound.{IsLaidOut}
 use Rattle.sl_host_law.specs.Questions.Members.{IsMemberAt}
-use Rattle.sl_sessions.specs.Sessions.{calls_of}
+use Rattle.sl_trace.specs.Sessions.{calls_of}
 use Rattle.sl_trace.specs.declared.effects.LeaseStep.TheVariants.{ClearMode, FreeLeader, Phase1Read, Phase1Write, Phase2Read, Phase2Write, ReadArea, ReadBeforeFree, SetMode, TakeLeader}
 use Rattle.sl_trace.specs.declared.effects.LeaseStep.{LeaseStep}
 use Rattle.sl_trace.specs.declared.effects.Spot.{Spot}

@@ -34,8 +34,8 @@ use Rattle.sl_plain.proofs.Lists.{any_found, any_of, contains_first, contains_ma
 use Rattle.sl_host_law.proofs.Questions.PartsAreTold.{hosts_part}
 use Rattle.sl_host_law.specs.Questions.Jobs.{is_overdue_in, joining_in, running_in}
 use Rattle.sl_host_law.specs.Questions.Parts.{time_out_of}
-use Rattle.sl_sessions.specs.Sessions.{recovery_of}
-use Rattle.sl_sessions.specs.declared.session.Session.{Session}
+use Rattle.sl_trace.specs.Sessions.{recovery_of}
+use Rattle.sl_trace.specs.declared.session.Session.{Session}
 use Rattle.sl_trace.specs.Traces.{Setting, Trace, is_before_input}
 use Rattle.sl_trace.specs.declared.effects.Effects.{Effects}
 use Rattle.sl_trace.specs.declared.effects.Move.TheVariants.{Unregister}

@@ -16,8 +16,8 @@ use Rattle.sl_host_law.specs.Parts.Signals.{over, sending, signalling, telling}
 use Rattle.sl_plain.proofs.Lists.{contains_cases, contains_map, contains_none, in_map, kept_inside}
 use Rattle.sl_host_law.specs.Questions.Jobs.{is_overdue_in, joining_in}
 use Rattle.sl_host_law.specs.Questions.Members.{holders_in}
-use Rattle.sl_sessions.specs.Sessions.{is_join_done}
-use Rattle.sl_sessions.specs.declared.session.Session.{Session}
+use Rattle.sl_trace.specs.Sessions.{is_join_done}
+use Rattle.sl_trace.specs.declared.session.Session.{Session}
 use Rattle.sl_trace.specs.Traces.{first_child, is_before_input}
 use Rattle.sl_trace.specs.declared.effects.Move.TheVariants.{Unregister}
 use Rattle.sl_trace.specs.declared.effects.Move.{Move}

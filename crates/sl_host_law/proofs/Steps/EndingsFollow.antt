@@ -34,10 +34,10 @@ use Rattle.sl_sector.specs.Bitmaps.{no_bits}
 use Rattle.sl_sector.specs.declared.sector.DeltaRec.{DeltaRec}
 use Rattle.sl_sector.specs.declared.sector.DeltaState.TheVariants.{Free}
 use Rattle.sl_sector.specs.declared.sector.Rec.TheVariants.{DeltaIs}
-use Rattle.sl_sessions.specs.Deltas.{delta_known, delta_of_session, delta_record, next_free, next_renewal}
-use Rattle.sl_sessions.specs.Sessions.{calls_of, has_open_write, holdings_of, is_joined, open_calls_of, recovery_of}
-use Rattle.sl_sessions.specs.declared.session.Begun.{Begun}
-use Rattle.sl_sessions.specs.declared.session.Session.{Session}
+use Rattle.sl_trace.specs.Deltas.{delta_known, delta_of_session, delta_record, next_free, next_renewal}
+use Rattle.sl_trace.specs.Sessions.{calls_of, has_open_write, holdings_of, is_joined, open_calls_of, recovery_of}
+use Rattle.sl_trace.specs.declared.session.Begun.{Begun}
+use Rattle.sl_trace.specs.declared.session.Session.{Session}
 use Rattle.sl_trace.specs.declared.effects.Move.TheVariants.{Unregister}
 use Rattle.sl_trace.specs.declared.effects.Op.TheVariants.{WriteRecord}
 use Rattle.sl_trace.specs.declared.effects.Purpose.TheVariants.{Leaving}

@@ -44,8 +44,8 @@ use Rattle.sl_plain.proofs.Lists.{any_found, any_of, contains_map, find_fails, f
 use Rattle.sl_host_law.proofs.Questions.AnswersAreTheirs.{answers_are_theirs}
 use Rattle.sl_host_law.specs.Questions.Jobs.{aim_in, goes_on_in, is_of_process_in, running_in}
 use Rattle.sl_host_law.specs.Replies.Moves.{EndsBegun}
-use Rattle.sl_sessions.specs.Sessions.{calls_of, is_join_done, is_present, removed_after}
-use Rattle.sl_sessions.specs.declared.session.Session.{Session}
+use Rattle.sl_trace.specs.Sessions.{calls_of, is_join_done, is_present, removed_after}
+use Rattle.sl_trace.specs.declared.session.Session.{Session}
 use Rattle.sl_trace.specs.Traces.{Child, Replied, end_of, is_expected, no_process, orphans_left, reply_to}
 use Rattle.sl_trace.specs.declared.effects.Signal.TheVariants.{Term}
 use Rattle.sl_trace.specs.declared.input.Answer.{Answer}
@@ -59,7 +59,7 @@ use Rattle.sl_host_law.proofs.Replies.Answers.AnswersAreHeard.{answers_are_heard
 use Rattle.sl_host_state.specs.declared.kept.JobState.{JobState}
 use Rattle.sl_host_state.specs.declared.kept.WaitingCall.{WaitingCall}
 use Rattle.sl_host_law.proofs.Steps.JoiningDecides.{joining_decides}
-use Rattle.sl_leases.specs.declared.lease.Aim.{Aim}
+use Rattle.sl_trace.specs.declared.lease.Aim.{Aim}
 use Rattle.sl_host_law.specs.Parts.Ends.{removing}
 use Rattle.sl_trace.specs.declared.effects.JoinStep.{JoinStep}
 use Rattle.sl_trace.specs.declared.effects.LeaseStep.{LeaseStep}

@@ -31,12 +31,12 @@ use Rattle.sl_plain.proofs.Options.{none_is}
 use Rattle.sl_host_law.specs.Questions.Jobs.{joining_in, running_in}
 use Rattle.sl_host_law.specs.Questions.Members.{IsMemberAt}
 use Rattle.sl_host_law.proofs.Replies.OpenCallsAreKept.{open_delta_is}
-use Rattle.sl_sessions.specs.Deltas.{DeltaLease, delta_of_session, join_step_of, next_by_time, next_on_wake}
-use Rattle.sl_sessions.specs.Sessions.{calls_of, has_open_delta, is_delta_purpose, is_join_done, open_calls_of}
-use Rattle.sl_sessions.specs.declared.delta.DeltaKnown.{DeltaKnown}
-use Rattle.sl_sessions.specs.declared.delta.DeltaNext.TheVariants.{Disconnect, EndLeaving, Join, MoveConnection, Nothing, ReadOwn, RefuseJoin, RegisterAndRead, WriteClaim, WriteFirst, WriteFree, WriteRenewal}
-use Rattle.sl_sessions.specs.declared.delta.DeltaNext.{DeltaNext}
-use Rattle.sl_sessions.specs.declared.session.Session.{Session}
+use Rattle.sl_trace.specs.Deltas.{DeltaLease, delta_of_session, join_step_of, next_by_time, next_on_wake}
+use Rattle.sl_trace.specs.Sessions.{calls_of, has_open_delta, is_delta_purpose, is_join_done, open_calls_of}
+use Rattle.sl_trace.specs.declared.delta.DeltaKnown.{DeltaKnown}
+use Rattle.sl_trace.specs.declared.delta.DeltaNext.TheVariants.{Disconnect, EndLeaving, Join, MoveConnection, Nothing, ReadOwn, RefuseJoin, RegisterAndRead, WriteClaim, WriteFirst, WriteFree, WriteRenewal}
+use Rattle.sl_trace.specs.declared.delta.DeltaNext.{DeltaNext}
+use Rattle.sl_trace.specs.declared.session.Session.{Session}
 use Rattle.sl_time.specs.Times.{fail}
 use Rattle.sl_trace.specs.Traces.{Answered, Replied, Setting, Submitted, Trace, is_of_job, is_running, outstanding, reply_to, running_jobs, waiting_call}
 use Rattle.sl_trace.specs.declared.effects.JoinStep.{JoinStep}

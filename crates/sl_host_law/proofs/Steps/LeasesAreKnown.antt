@@ -13,11 +13,11 @@ use Rattle.sl_lease.proofs.NextLaws.{begins_again}
 use Rattle.sl_lease.specs.Asked.{TopStands, begin_above}
 use Rattle.sl_lease.specs.declared.evidence.Held.{Held}
 use Rattle.sl_lease.specs.declared.side.Side.{Side}
-use Rattle.sl_leases.specs.LeaseWork.{begin_next, convert_next, release_next, settle_next, settle_owed}
-use Rattle.sl_leases.specs.Leases.{LeaseKnown, last_blocks, lease_calls, owed_free}
-use Rattle.sl_leases.specs.declared.lease.Owed.TheVariants.{BallotOwed, FreeOwed, ModeOwed}
-use Rattle.sl_leases.specs.declared.lease.Owed.{Owed}
-use Rattle.sl_leases.specs.declared.lease.Aim.TheVariants.{Settles}
+use Rattle.sl_trace.specs.LeaseWork.{begin_next, convert_next, release_next, settle_next, settle_owed}
+use Rattle.sl_trace.specs.Leases.{LeaseKnown, last_blocks, lease_calls, owed_free}
+use Rattle.sl_trace.specs.declared.lease.Owed.TheVariants.{BallotOwed, FreeOwed, ModeOwed}
+use Rattle.sl_trace.specs.declared.lease.Owed.{Owed}
+use Rattle.sl_trace.specs.declared.lease.Aim.TheVariants.{Settles}
 use Rattle.sl_plain.proofs.Lists.{find_inside}
 use Rattle.sl_host_law.proofs.Questions.MembersAnswer.{members_answer}
 use Rattle.sl_host_law.specs.Questions.Answers.{known_in, place_in}
@@ -25,7 +25,7 @@ use Rattle.sl_host_law.specs.Questions.Members.{IsMemberAt, exclusive_at, me_in,
 use Rattle.sl_host_law.proofs.Replies.Answers.OpenBallotsAreOwn.{IsOwn, open_is_own}
 use Rattle.sl_sector.specs.declared.sector.Block.{Block}
 use Rattle.sl_sector.specs.declared.sector.Owner.{Owner}
-use Rattle.sl_sessions.specs.Sessions.{me}
+use Rattle.sl_trace.specs.Sessions.{me}
 use Rattle.sl_trace.specs.Traces.{Submitted}
 use Rattle.sl_trace.specs.declared.effects.Mode.TheVariants.{Exclusive, Shared}
 use Rattle.sl_trace.specs.declared.effects.Mode.{Mode}

@@ -34,16 +34,16 @@ use Rattle.sl_host_law.specs.Steps.Leases.{converting_next, releasing_next}
 use Rattle.sl_host_law.specs.Steps.Lines.{deciding, lining}
 use Rattle.sl_host_law.specs.Steps.Passes.{at_member, member_numbered}
 use Rattle.sl_host_law.specs.Steps.Sound.{IsSound}
-use Rattle.sl_leases.specs.Leases.{spot_of}
-use Rattle.sl_leases.specs.declared.lease.LeaseNext.{LeaseNext}
+use Rattle.sl_trace.specs.Leases.{spot_of}
+use Rattle.sl_trace.specs.declared.lease.LeaseNext.{LeaseNext}
 use Rattle.sl_host_law.specs.Parts.Refusals.{signalling_and_refusing}
 use Rattle.sl_plain.proofs.Lists.{contains_map, find_fails, in_map, kept_inside}
 use Rattle.sl_plain.proofs.Numbers.{number_itself}
 use Rattle.sl_host_law.specs.Replies.Replies.{is_plain_line}
-use Rattle.sl_sessions.specs.Sessions.{is_delta_purpose, is_session_arg, joining_session, sessions}
-use Rattle.sl_sessions.specs.declared.delta.DeltaKnown.{DeltaKnown}
-use Rattle.sl_sessions.specs.declared.session.Begun.{Begun}
-use Rattle.sl_sessions.specs.declared.session.Session.{Session}
+use Rattle.sl_trace.specs.Sessions.{is_delta_purpose, is_session_arg, joining_session, sessions}
+use Rattle.sl_trace.specs.declared.delta.DeltaKnown.{DeltaKnown}
+use Rattle.sl_trace.specs.declared.session.Begun.{Begun}
+use Rattle.sl_trace.specs.declared.session.Session.{Session}
 use Rattle.sl_trace.specs.Limits.{most_lockspaces}
 use Rattle.sl_trace.specs.Traces.{Child, Submitted, children, job_numbered, job_of, next_job, same_place, spot_of_grant, submitted}
 use Rattle.sl_trace.specs.declared.command.Command.TheVariants.{AddLockspace, RemLockspace}

@@ -26,17 +26,17 @@ use Rattle.sl_host_law.specs.Steps.Lines.{deciding, lining}
 use Rattle.sl_host_law.specs.Steps.Lining.{LineMay, LinesFollow, MayDecide}
 use Rattle.sl_host_law.specs.Steps.Passes.{at_member, member_numbered}
 use Rattle.sl_host_law.specs.Steps.Sound.{IsEarly, IsSound}
-use Rattle.sl_leases.specs.Leases.{spot_of}
+use Rattle.sl_trace.specs.Leases.{spot_of}
 use Rattle.sl_host_law.proofs.Parts.LinesAreTaken.{lines_are_taken}
 use Rattle.sl_host_law.specs.Parts.Lines.{HeardBy, LineComes}
 use Rattle.sl_host_law.specs.Parts.Refusals.{signalling_and_refusing}
 use Rattle.sl_plain.proofs.Lists.{contains_map, find_fails, find_inside, in_map}
 use Rattle.sl_host_law.specs.Questions.Members.{IsMemberAt}
 use Rattle.sl_sector.specs.declared.sector.Rec.TheVariants.{ValueIs}
-use Rattle.sl_sessions.specs.Sessions.{session_numbered}
-use Rattle.sl_sessions.specs.declared.delta.DeltaKnown.{DeltaKnown}
-use Rattle.sl_sessions.specs.declared.session.Begun.{Begun}
-use Rattle.sl_sessions.specs.declared.session.Session.{Session}
+use Rattle.sl_trace.specs.Sessions.{session_numbered}
+use Rattle.sl_trace.specs.declared.delta.DeltaKnown.{DeltaKnown}
+use Rattle.sl_trace.specs.declared.session.Begun.{Begun}
+use Rattle.sl_trace.specs.declared.session.Session.{Session}
 use Rattle.sl_trace.specs.Traces.{end_of, spot_of_grant}
 use Rattle.sl_trace.specs.declared.command.Command.{Command}
 use Rattle.sl_trace.specs.declared.effects.LeaseStep.TheVariants.{ReadArea}

@@ -6,8 +6,8 @@ use Rattle.sl_host_state.specs.Passes.{whos}
 use Rattle.sl_host_state.specs.Stands.{config_of}
 use Rattle.sl_host_law.specs.Steps.NewHosts.{NewHostsAreSound}
 use Rattle.sl_plain.proofs.Lists.{contains_none, in_map}
-use Rattle.sl_sessions.specs.Sessions.{given_session}
-use Rattle.sl_sessions.specs.declared.session.Session.{Session}
+use Rattle.sl_trace.specs.Sessions.{given_session}
+use Rattle.sl_trace.specs.declared.session.Session.{Session}
 use Rattle.sl_trace.specs.Traces.{Setting}
 use Rattle.sl_words.proofs.CaseLaws.{none_some}
 use Rattle.sl_words.specs.Orders.{is_text_before}

@@ -13,8 +13,8 @@ use Rattle.sl_host_law.specs.Parts.Signals.{over}
 use Rattle.sl_acts.proofs.WakesKeep.{present_has}
 use Rattle.sl_plain.proofs.Lists.{contains_first, contains_more, find_fails, find_inside}
 use Rattle.sl_host_law.specs.Questions.Members.{IsMemberAt}
-use Rattle.sl_sessions.specs.Sessions.{present_sessions, session_numbered}
-use Rattle.sl_sessions.specs.declared.session.Session.{Session}
+use Rattle.sl_trace.specs.Sessions.{present_sessions, session_numbered}
+use Rattle.sl_trace.specs.declared.session.Session.{Session}
 use Rattle.sl_trace.specs.declared.input.Input.{Input}
 use Rattle.sl_words.proofs.CaseLaws.{is_false, some_value, true_is_false}
 use Rattle.std.proofs.Common.{ap, refl, subst, sym, ◌∙◌}

@@ -26,10 +26,10 @@ use Rattle.sl_host_law.specs.Steps.Passes.{at_member, for_members, member_number
 use Rattle.sl_host_law.specs.Steps.Sound.{IsSound}
 use Rattle.sl_host_law.specs.Steps.Wakes.{settling_all, settling_here, waking}
 use Rattle.sl_host_law.specs.Steps.Waking.{WakesFollow}
-use Rattle.sl_leases.specs.LeaseWork.{settle_next, lease_place}
-use Rattle.sl_leases.specs.Leases.{is_lease_call, is_on, is_spot_before, known, lease_spots, open_on, spot_of_call, value_written}
-use Rattle.sl_leases.specs.declared.lease.LeaseNext.TheVariants.{AnswerJob, BecomeExclusive, BecomeShared, GrantJob, Nothing, ReadFor, WriteBlock, WriteLeader}
-use Rattle.sl_leases.specs.declared.lease.LeaseNext.{LeaseNext}
+use Rattle.sl_trace.specs.LeaseWork.{settle_next, lease_place}
+use Rattle.sl_trace.specs.Leases.{is_lease_call, is_on, is_spot_before, known, lease_spots, open_on, spot_of_call, value_written}
+use Rattle.sl_trace.specs.declared.lease.LeaseNext.TheVariants.{AnswerJob, BecomeExclusive, BecomeShared, GrantJob, Nothing, ReadFor, WriteBlock, WriteLeader}
+use Rattle.sl_trace.specs.declared.lease.LeaseNext.{LeaseNext}
 use Rattle.sl_host_law.proofs.Parts.EndsAreTaken.{ends_are_taken}
 use Rattle.sl_host_law.proofs.Parts.GoneDoNothing.{gone_do_nothing}
 use Rattle.sl_host_law.proofs.Parts.MembersWake.{members_wake}
@@ -42,11 +42,11 @@ use Rattle.sl_host_law.specs.Questions.Members.{IsMemberAt}
 use Rattle.sl_sector.specs.declared.sector.DeltaRec.{DeltaRec}
 use Rattle.sl_sector.specs.declared.sector.DeltaState.TheVariants.{Live}
 use Rattle.sl_sector.specs.declared.sector.Rec.TheVariants.{DeltaIs}
-use Rattle.sl_sessions.specs.Deltas.{delta_known, delta_of_session, delta_record, is_renewal_due, next_renewal}
-use Rattle.sl_sessions.specs.Sessions.{calls_of, is_active, is_joined}
+use Rattle.sl_trace.specs.Deltas.{delta_known, delta_of_session, delta_record, is_renewal_due, next_renewal}
+use Rattle.sl_trace.specs.Sessions.{calls_of, is_active, is_joined}
 use Rattle.sl_due.specs.DueDelta.{carry_delta}
 use Rattle.sl_due.specs.DueRequests.{bits_due}
-use Rattle.sl_sessions.specs.declared.session.Session.{Session}
+use Rattle.sl_trace.specs.declared.session.Session.{Session}
 use Rattle.sl_trace.specs.Traces.{Submitted, job_of, same_spot}
 use Rattle.sl_trace.specs.declared.effects.LeaseStep.{LeaseStep}
 use Rattle.sl_trace.specs.declared.effects.Op.TheVariants.{WriteRecord}

@@ -10,8 +10,8 @@ use Rattle.sl_host_state.specs.declared.kept.OpenCall.{OpenCall}
 use Rattle.sl_host_law.specs.Steps.Sound.{IsLaidOut, IsSound}
 use Rattle.sl_host_law.specs.Parts.Ends.{removing}
 use Rattle.sl_plain.proofs.Lists.{contains_cases, contains_map, contains_none, in_map, kept_inside}
-use Rattle.sl_sessions.specs.Sessions.{is_delta_purpose, is_join_done}
-use Rattle.sl_sessions.specs.declared.session.Session.{Session}
+use Rattle.sl_trace.specs.Sessions.{is_delta_purpose, is_join_done}
+use Rattle.sl_trace.specs.declared.session.Session.{Session}
 use Rattle.sl_trace.specs.Traces.{Submitted}
 use Rattle.sl_trace.specs.declared.effects.Move.TheVariants.{Unregister}
 use Rattle.sl_trace.specs.declared.effects.Move.{Move}

@@ -9,13 +9,13 @@ use Rattle.sl_host_state.specs.Hears.{heard_line}
 use Rattle.sl_host_state.specs.Kept.{HostState, MemberState}
 use Rattle.sl_host_state.specs.Makes.{with_end, with_reply}
 use Rattle.sl_host_state.specs.Stands.{Stands}
-use Rattle.sl_leases.specs.LeaseWork.{convert_next, release_next}
-use Rattle.sl_leases.specs.Leases.{spot_of}
-use Rattle.sl_leases.specs.declared.lease.LeaseNext.{LeaseNext}
+use Rattle.sl_trace.specs.LeaseWork.{convert_next, release_next}
+use Rattle.sl_trace.specs.Leases.{spot_of}
+use Rattle.sl_trace.specs.declared.lease.LeaseNext.{LeaseNext}
 use Rattle.sl_host_law.specs.Parts.Lines.{HeardBy, LineComes}
 use Rattle.sl_host_law.specs.Questions.Answers.{known_in, place_in}
 use Rattle.sl_host_law.specs.Replies.Replies.{is_plain_line}
-use Rattle.sl_sessions.specs.declared.session.Session.{Session}
+use Rattle.sl_trace.specs.declared.session.Session.{Session}
 use Rattle.sl_trace.specs.Traces.{end_of, spot_of_grant}
 use Rattle.sl_trace.specs.declared.command.Command.{Command}
 use Rattle.sl_trace.specs.declared.command.ResourceArg.{ResourceArg}

@@ -13,9 +13,9 @@ use Rattle.sl_host_state.specs.declared.kept.OpenCall.{OpenCall}
 use Rattle.sl_host_law.specs.Parts.Ends.{removing}
 use Rattle.sl_host_law.specs.Questions.Jobs.{running_in}
 use Rattle.sl_host_law.specs.Replies.Moves.{EndsBegun}
-use Rattle.sl_sessions.specs.Deltas.{delta_of_session, next_in_joining}
-use Rattle.sl_sessions.specs.Sessions.{calls_of}
-use Rattle.sl_sessions.specs.declared.delta.DeltaNext.{DeltaNext}
+use Rattle.sl_trace.specs.Deltas.{delta_of_session, next_in_joining}
+use Rattle.sl_trace.specs.Sessions.{calls_of}
+use Rattle.sl_trace.specs.declared.delta.DeltaNext.{DeltaNext}
 use Rattle.sl_trace.specs.Traces.{Submitted}
 use Rattle.sl_trace.specs.declared.effects.JoinStep.{JoinStep}
 use Rattle.sl_trace.specs.declared.effects.Move.TheVariants.{Unregister}

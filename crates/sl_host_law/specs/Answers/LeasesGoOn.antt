@@ -9,10 +9,10 @@ use Rattle.sl_due.specs.Steps.{Step, with_input}
 use Rattle.sl_host_state.specs.Hears.{heard_answer, member_hearing}
 use Rattle.sl_host_state.specs.Kept.{HostState, MemberState}
 use Rattle.sl_host_state.specs.declared.kept.OpenCall.{OpenCall}
-use Rattle.sl_leases.specs.LeaseWork.{lease_next, settle_next}
-use Rattle.sl_leases.specs.declared.lease.Aim.{Aim}
-use Rattle.sl_leases.specs.declared.lease.LeaseNext.TheVariants.{BecomeExclusive, BecomeShared}
-use Rattle.sl_leases.specs.declared.lease.LeaseNext.{LeaseNext}
+use Rattle.sl_trace.specs.LeaseWork.{lease_next, settle_next}
+use Rattle.sl_trace.specs.declared.lease.Aim.{Aim}
+use Rattle.sl_trace.specs.declared.lease.LeaseNext.TheVariants.{BecomeExclusive, BecomeShared}
+use Rattle.sl_trace.specs.declared.lease.LeaseNext.{LeaseNext}
 use Rattle.sl_host_law.specs.Parts.Wakes.{is_free_at}
 use Rattle.sl_host_law.specs.Questions.Answers.{known_in, place_in}
 use Rattle.sl_host_law.specs.Questions.Jobs.{aim_in, goes_on_in}

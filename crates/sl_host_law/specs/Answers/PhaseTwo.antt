@@ -1,8 +1,8 @@
 -- The second phase of a ballot follows the read of the first: a lease decides on it by no other answer, and in the own block's instance.
-use Rattle.sl_leases.specs.LeaseWork.{LeasePlace, lease_next}
-use Rattle.sl_leases.specs.Leases.{LeaseKnown}
-use Rattle.sl_leases.specs.declared.lease.Aim.{Aim}
-use Rattle.sl_leases.specs.declared.lease.LeaseNext.TheVariants.{AnswerJob, WriteBlock}
+use Rattle.sl_trace.specs.LeaseWork.{LeasePlace, lease_next}
+use Rattle.sl_trace.specs.Leases.{LeaseKnown}
+use Rattle.sl_trace.specs.declared.lease.Aim.{Aim}
+use Rattle.sl_trace.specs.declared.lease.LeaseNext.TheVariants.{AnswerJob, WriteBlock}
 use Rattle.sl_sector.specs.declared.sector.Block.{Block}
 use Rattle.sl_trace.specs.Traces.{is_before_input}
 use Rattle.sl_trace.specs.declared.effects.LeaseStep.TheVariants.{Phase1Read, Phase2Write}

@@ -10,7 +10,7 @@ use Rattle.sl_host_law.specs.Questions.Jobs.{is_overdue_in, joining_in}
 use Rattle.sl_host_law.specs.Questions.Parts.{time_out_of}
 use Rattle.sl_host_law.specs.Replies.Moves.{EndsBegun}
 use Rattle.sl_host_law.specs.Replies.Replies.{MayReply}
-use Rattle.sl_sessions.specs.Sessions.{is_join_done}
+use Rattle.sl_trace.specs.Sessions.{is_join_done}
 use Rattle.sl_trace.specs.declared.effects.Move.TheVariants.{Unregister}
 use Rattle.sl_trace.specs.declared.input.Input.TheVariants.{Wake}
 use Rattle.sl_trace.specs.declared.input.Input.{Input}

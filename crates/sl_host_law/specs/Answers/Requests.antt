@@ -14,8 +14,8 @@ use Rattle.sl_host_law.specs.Questions.Answers.{set_reply_in, spot_in}
 use Rattle.sl_host_law.specs.Questions.Jobs.{command_in, running_in}
 use Rattle.sl_host_law.specs.Questions.Members.{exclusive_at}
 use Rattle.sl_sector.specs.declared.sector.Rec.TheVariants.{RequestIs}
-use Rattle.sl_sessions.specs.Sessions.{is_present}
-use Rattle.sl_sessions.specs.declared.session.Session.{Session}
+use Rattle.sl_trace.specs.Sessions.{is_present}
+use Rattle.sl_trace.specs.declared.session.Session.{Session}
 use Rattle.sl_trace.specs.Traces.{bytes_given, is_orphan}
 use Rattle.sl_trace.specs.declared.command.Command.TheVariants.{Request}
 use Rattle.sl_trace.specs.declared.command.Command.{Command}

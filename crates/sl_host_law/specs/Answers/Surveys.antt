@@ -12,7 +12,7 @@ use Rattle.sl_host_law.specs.Parts.Signals.{over}
 use Rattle.sl_due.specs.Steps.{Step}
 use Rattle.sl_host_law.specs.Questions.Members.{begins_by_read_in}
 use Rattle.sl_sector.specs.Bitmaps.{is_bit_set}
-use Rattle.sl_sessions.specs.declared.session.Session.{Session}
+use Rattle.sl_trace.specs.declared.session.Session.{Session}
 use Rattle.sl_trace.specs.Traces.{is_shared, same_place}
 use Rattle.sl_trace.specs.declared.effects.Grant.{Grant}
 use Rattle.sl_trace.specs.declared.effects.Op.TheVariants.{ReadSectors}

@@ -8,8 +8,8 @@ use Rattle.sl_due.specs.Steps.{Step}
 use Rattle.sl_host_state.specs.Kept.{HostState, MemberState}
 use Rattle.sl_host_state.specs.Stands.{Stands}
 use Rattle.sl_host_state.specs.declared.kept.JoinCall.{JoinCall}
-use Rattle.sl_leases.specs.LeaseWork.{settle_next}
-use Rattle.sl_leases.specs.declared.lease.LeaseNext.{LeaseNext}
+use Rattle.sl_trace.specs.LeaseWork.{settle_next}
+use Rattle.sl_trace.specs.declared.lease.LeaseNext.{LeaseNext}
 use Rattle.sl_host_law.specs.Parts.Wakes.{delta_in, is_free_at, next_by_newest}
 use Rattle.sl_host_law.specs.Questions.Answers.{known_in, place_in}
 use Rattle.sl_host_law.specs.Questions.Jobs.{running_in}

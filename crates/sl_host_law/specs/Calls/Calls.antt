@@ -4,8 +4,8 @@ use Rattle.sl_due.specs.Steps.{add_call_of}
 use Rattle.sl_host_state.specs.Kept.{HostState, LeaseState, MemberState}
 use Rattle.sl_host_state.specs.Makes.{is_lease_on, next_submitted, with_call}
 use Rattle.sl_host_state.specs.Stands.{Takes, is_kept_of}
-use Rattle.sl_leases.specs.Leases.{Phase2_write, block_written, is_at, is_lease_call, is_on, spot_of_call, value_written}
-use Rattle.sl_sessions.specs.Sessions.{delta_written, is_delta_purpose, is_join_call}
+use Rattle.sl_trace.specs.Leases.{Phase2_write, block_written, is_at, is_lease_call, is_on, spot_of_call, value_written}
+use Rattle.sl_trace.specs.Sessions.{delta_written, is_delta_purpose, is_join_call}
 use Rattle.sl_trace.specs.Traces.{Submitted, job_of}
 use Rattle.sl_trace.specs.declared.effects.JoinStep.TheVariants.{FirstRead}
 use Rattle.sl_trace.specs.declared.effects.Op.{Op}

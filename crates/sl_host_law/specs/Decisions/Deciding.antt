@@ -8,10 +8,10 @@ use Rattle.sl_host_state.specs.Asks.{ungranted_in}
 use Rattle.sl_host_state.specs.Kept.{HostState, MemberState}
 use Rattle.sl_host_state.specs.Makes.{is_lease_on}
 use Rattle.sl_host_state.specs.declared.kept.OpenCall.{OpenCall}
-use Rattle.sl_leases.specs.Counts.{busy_among}
-use Rattle.sl_leases.specs.Jobs.{is_asking_lease, is_program, wanted_mode}
-use Rattle.sl_leases.specs.Leases.{spot_of}
-use Rattle.sl_sessions.specs.Sessions.{is_session_arg}
+use Rattle.sl_trace.specs.Counts.{busy_among}
+use Rattle.sl_trace.specs.Jobs.{is_asking_lease, is_program, wanted_mode}
+use Rattle.sl_trace.specs.Leases.{spot_of}
+use Rattle.sl_trace.specs.Sessions.{is_session_arg}
 use Rattle.sl_trace.specs.Limits.{most_children, most_holders, most_killpaths, most_lockspaces, most_processes, most_resources}
 use Rattle.sl_trace.specs.Traces.{is_orphan, is_shared, no_process, same_place}
 use Rattle.sl_trace.specs.declared.command.Command.TheVariants.{Acquire, AddLockspace, Convert, GetLvb, HostStatus, InqLockspace, Release, ReleaseOrphan, RemLockspace, Request, RunProgram, SetKillpath, SetLvb, Status, TakeOver}

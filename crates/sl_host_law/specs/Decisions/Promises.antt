@@ -5,15 +5,15 @@ use Rattle.sl_due.specs.Steps.{Step, seen}
 use Rattle.sl_host_state.specs.Kept.{HostState, MemberState}
 use Rattle.sl_host_state.specs.Makes.{is_lease_on}
 use Rattle.sl_host_state.specs.Stands.{Stands}
-use Rattle.sl_leases.specs.Counts.{next_value_seq, values_on}
+use Rattle.sl_trace.specs.Counts.{next_value_seq, values_on}
 use Rattle.sl_sector.specs.declared.sector.ValueRec.{ValueRec}
-use Rattle.sl_sessions.specs.Sessions.{calls_of}
+use Rattle.sl_trace.specs.Sessions.{calls_of}
 use Rattle.sl_trace.specs.Traces.{is_shared}
 use Rattle.sl_trace.specs.declared.command.Command.TheVariants.{SetLvb}
 use Rattle.sl_trace.specs.declared.command.Command.{Command}
 use Rattle.sl_trace.specs.declared.command.ResourceArg.{ResourceArg}
 use Rattle.sl_trace.specs.declared.effects.Grant.{Grant}
-use Rattle.sl_leases.specs.Leases.{spot_of}
+use Rattle.sl_trace.specs.Leases.{spot_of}
 use Rattle.sl_trace.specs.declared.input.Input.{Input}
 use Rattle.std.specs.Prelude.{Contains, IsSome, List, Some, false, find, [], ℕ, ◌∷◌, ◌≡◌, ◌≤◌}
 

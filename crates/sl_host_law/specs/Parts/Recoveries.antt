@@ -9,8 +9,8 @@ use Rattle.sl_host_law.specs.Parts.Refusals.{signalling_and_refusing}
 use Rattle.sl_host_law.specs.Parts.Signals.{over, signalling}
 use Rattle.sl_due.specs.DueFirst.{kills}
 use Rattle.sl_host_law.specs.Questions.Members.{IsMemberAt}
-use Rattle.sl_sessions.specs.Sessions.{session_numbered}
-use Rattle.sl_sessions.specs.declared.session.Session.{Session}
+use Rattle.sl_trace.specs.Sessions.{session_numbered}
+use Rattle.sl_trace.specs.declared.session.Session.{Session}
 use Rattle.sl_trace.specs.declared.effects.Signal.TheVariants.{Kill}
 use Rattle.sl_trace.specs.declared.input.Input.TheVariants.{Wake}
 use Rattle.sl_trace.specs.declared.input.Input.{Input}

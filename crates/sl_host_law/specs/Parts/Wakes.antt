@@ -10,13 +10,13 @@ use Rattle.sl_host_state.specs.Kept.{HostState, MemberState}
 use Rattle.sl_host_state.specs.Makes.{has_write_open}
 use Rattle.sl_host_state.specs.Stands.{bits_of}
 use Rattle.sl_host_state.specs.declared.kept.JoinCall.{JoinCall}
-use Rattle.sl_leases.specs.LeaseWork.{settle_next}
+use Rattle.sl_trace.specs.LeaseWork.{settle_next}
 use Rattle.sl_host_law.specs.Questions.Answers.{known_in, place_in}
 use Rattle.sl_host_law.specs.Questions.Jobs.{running_in}
 use Rattle.sl_host_law.specs.Questions.Members.{IsMemberAt, has_call_open}
-use Rattle.sl_sessions.specs.Deltas.{DeltaLease, next_by_time, next_free, next_renewal}
-use Rattle.sl_sessions.specs.declared.delta.DeltaNext.TheVariants.{Nothing}
-use Rattle.sl_sessions.specs.declared.delta.DeltaNext.{DeltaNext}
+use Rattle.sl_trace.specs.Deltas.{DeltaLease, next_by_time, next_free, next_renewal}
+use Rattle.sl_trace.specs.declared.delta.DeltaNext.TheVariants.{Nothing}
+use Rattle.sl_trace.specs.declared.delta.DeltaNext.{DeltaNext}
 use Rattle.sl_trace.specs.declared.effects.Spot.{Spot}
 use Rattle.sl_trace.specs.declared.effects.Work.TheVariants.{Settling}
 use Rattle.sl_trace.specs.declared.input.Input.{Input}

@@ -1,7 +1,7 @@
 -- Who the members of a host are.
 use Rattle.sl_host_state.specs.Kept.{HostState, MemberState}
 use Rattle.sl_host_state.specs.Stands.{Keeps}
-use Rattle.sl_sessions.specs.Sessions.{is_present, session_numbered}
+use Rattle.sl_trace.specs.Sessions.{is_present, session_numbered}
 use Rattle.sl_trace.specs.Traces.{Setting, Trace}
 use Rattle.std.specs.Prelude.{Some, slice_get, true, ℕ, ◌≡◌}
 

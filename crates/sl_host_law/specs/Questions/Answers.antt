@@ -11,13 +11,13 @@ use Rattle.sl_host_law.specs.Plain.AtInput.{IsAtInput}
 use Rattle.sl_host_state.specs.Kept.{HostState, MemberState}
 use Rattle.sl_host_state.specs.Stands.{Stands, kept_call}
 use Rattle.sl_host_state.specs.declared.kept.OpenCall.{OpenCall}
-use Rattle.sl_leases.specs.LeaseWork.{LeasePlace, lease_next}
-use Rattle.sl_leases.specs.Leases.{LeaseKnown, known_of, lease_calls, lease_step}
+use Rattle.sl_trace.specs.LeaseWork.{LeasePlace, lease_next}
+use Rattle.sl_trace.specs.Leases.{LeaseKnown, known_of, lease_calls, lease_step}
 use Rattle.sl_host_law.specs.Questions.Jobs.{aim_in, command_in, goes_on_in, running_in}
 use Rattle.sl_host_law.specs.Questions.Members.{IsMemberAt, begins_by_read_in, exclusive_at, me_in, over_in, shared_at}
 use Rattle.sl_host_law.specs.Replies.Answers.{IsOpen}
-use Rattle.sl_sessions.specs.Deltas.{delta_of_session, next_after_free, next_after_renewal, next_in_joining}
-use Rattle.sl_sessions.specs.Sessions.{calls_of, is_present}
+use Rattle.sl_trace.specs.Deltas.{delta_of_session, next_after_free, next_after_renewal, next_in_joining}
+use Rattle.sl_trace.specs.Sessions.{calls_of, is_present}
 use Rattle.sl_trace.specs.Traces.{Submitted, is_orphan, job_of, submitted}
 use Rattle.sl_trace.specs.declared.effects.JoinStep.{JoinStep}
 use Rattle.sl_trace.specs.declared.effects.LeaseStep.{LeaseStep}

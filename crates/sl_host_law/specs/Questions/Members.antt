@@ -8,18 +8,18 @@ use Rattle.sl_host_state.specs.Kept.{HostState, MemberState}
 use Rattle.sl_host_state.specs.Makes.{has_write_open}
 use Rattle.sl_host_state.specs.Stands.{Stands, bits_of, kept_job}
 use Rattle.sl_host_state.specs.declared.kept.JobState.{JobState}
-use Rattle.sl_leases.specs.Jobs.{jobs_of_session, lockspace_named}
-use Rattle.sl_leases.specs.Leases.{exclusive_on, has_shared_on, holdings_on, known, known_of, lease_calls, lease_spots, orphan_on, shared_on}
+use Rattle.sl_trace.specs.Jobs.{jobs_of_session, lockspace_named}
+use Rattle.sl_trace.specs.Leases.{exclusive_on, has_shared_on, holdings_on, known, known_of, lease_calls, lease_spots, orphan_on, shared_on}
 use Rattle.sl_sector.specs.declared.sector.Owner.{Owner}
-use Rattle.sl_sessions.specs.Sessions.{calls_of, has_open_write, holders_of, holdings_of, is_active, is_joined, is_leaving, is_recovering, last_renewal, me, open_calls_of, recovery_of}
-use Rattle.sl_sessions.specs.Watching.{counts_over, evidence_in}
+use Rattle.sl_trace.specs.Sessions.{calls_of, has_open_write, holders_of, holdings_of, is_active, is_joined, is_leaving, is_recovering, last_renewal, me, open_calls_of, recovery_of}
+use Rattle.sl_trace.specs.Watching.{counts_over, evidence_in}
 use Rattle.sl_trace.specs.Traces.{is_orphan, is_shared}
 use Rattle.sl_trace.specs.declared.effects.Grant.{Grant}
 use Rattle.sl_trace.specs.declared.effects.Mode.{Mode}
 use Rattle.sl_trace.specs.declared.effects.Spot.{Spot}
 use Rattle.sl_trace.specs.declared.input.Input.{Input}
 use Rattle.sl_trace.specs.declared.reply.Evidence.{Evidence}
-use Rattle.sl_sessions.specs.declared.session.Begun.{Begun}
+use Rattle.sl_trace.specs.declared.session.Begun.{Begun}
 use Rattle.sl_words.specs.Orders.{rising}
 use Rattle.sl_words.specs.Words.{is_empty, same_truth, some_is}
 use Rattle.sl_watch.specs.Summaries.{bare, evidence_by}

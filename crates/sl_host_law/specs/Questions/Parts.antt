@@ -14,7 +14,7 @@ use Rattle.sl_host_law.specs.Questions.Members.{IsMemberAt, holders_in, jobs_in}
 use Rattle.sl_host_law.specs.Replies.Answers.{FitsCall, IsOpen}
 use Rattle.sl_host_law.specs.Replies.Replies.{MayReply}
 use Rattle.sl_host_state.specs.declared.kept.OpenCall.{OpenCall}
-use Rattle.sl_sessions.specs.Sessions.{is_join_done}
+use Rattle.sl_trace.specs.Sessions.{is_join_done}
 use Rattle.sl_trace.specs.Traces.{end_of, first_child, orphans_left, waiting_call}
 use Rattle.sl_trace.specs.declared.effects.Move.TheVariants.{Unregister}
 use Rattle.sl_trace.specs.declared.effects.Signal.TheVariants.{Kill, Term}

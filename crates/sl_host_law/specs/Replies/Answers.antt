@@ -8,8 +8,8 @@ use Rattle.sl_host_state.specs.Kept.{HostState}
 use Rattle.sl_host_state.specs.New.{sizes_in}
 use Rattle.sl_host_state.specs.Stands.{Stands, is_kept_of, kept_call}
 use Rattle.sl_host_state.specs.declared.kept.OpenCall.{OpenCall}
-use Rattle.sl_sessions.specs.Sessions.{is_present, is_survey_purpose, session_numbered}
-use Rattle.sl_sessions.specs.declared.session.Session.{Session}
+use Rattle.sl_trace.specs.Sessions.{is_present, is_survey_purpose, session_numbered}
+use Rattle.sl_trace.specs.declared.session.Session.{Session}
 use Rattle.sl_trace.specs.Traces.{Submitted, Trace, call_numbered, is_of_job, submitted}
 use Rattle.sl_trace.specs.declared.input.Answer.TheVariants.{Failed, Read, Written}
 use Rattle.sl_trace.specs.declared.input.Answer.{Answer}

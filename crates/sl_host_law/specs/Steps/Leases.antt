@@ -5,10 +5,10 @@ use Rattle.sl_host_state.specs.Kept.{HostState, LeaseState, MemberState}
 use Rattle.sl_host_state.specs.Makes.{is_lease_on, new_lease}
 use Rattle.sl_host_state.specs.declared.kept.OpenCall.{OpenCall}
 use Rattle.sl_host_state.specs.declared.kept.TopNumber.{TopNumber}
-use Rattle.sl_leases.specs.LeaseWork.{convert_next, lease_next, release_next, settle_next}
-use Rattle.sl_leases.specs.Leases.{LeaseKnown}
-use Rattle.sl_leases.specs.declared.lease.Aim.{Aim}
-use Rattle.sl_leases.specs.declared.lease.LeaseNext.{LeaseNext}
+use Rattle.sl_trace.specs.LeaseWork.{convert_next, lease_next, release_next, settle_next}
+use Rattle.sl_trace.specs.Leases.{LeaseKnown}
+use Rattle.sl_trace.specs.declared.lease.Aim.{Aim}
+use Rattle.sl_trace.specs.declared.lease.LeaseNext.{LeaseNext}
 use Rattle.sl_host_law.specs.Questions.Answers.{place_in}
 use Rattle.sl_host_law.specs.Questions.Members.{exclusive_at, me_in, over_in, shared_at}
 use Rattle.sl_sector.specs.declared.sector.Block.{Block}

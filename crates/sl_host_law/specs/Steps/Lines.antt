@@ -10,7 +10,7 @@ use Rattle.sl_host_state.specs.Kept.{HostState}
 use Rattle.sl_host_state.specs.Makes.{with_call, with_joining}
 use Rattle.sl_host_law.specs.Steps.Leases.{converting_next, releasing_next}
 use Rattle.sl_host_law.specs.Steps.Passes.{at_member}
-use Rattle.sl_leases.specs.Leases.{spot_of}
+use Rattle.sl_trace.specs.Leases.{spot_of}
 use Rattle.sl_host_law.specs.Parts.Refusals.{signalling_and_refusing}
 use Rattle.sl_sector.specs.declared.sector.Rec.TheVariants.{ValueIs}
 use Rattle.sl_trace.specs.Traces.{spot_of_grant}

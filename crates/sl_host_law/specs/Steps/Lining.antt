@@ -16,7 +16,7 @@ use Rattle.sl_host_state.specs.Stands.{Stands}
 use Rattle.sl_host_law.specs.Steps.Inputs.{taking}
 use Rattle.sl_host_law.specs.Steps.Leases.{converting_next, releasing_next}
 use Rattle.sl_host_law.specs.Steps.Sound.{IsEarly, IsSound}
-use Rattle.sl_leases.specs.Leases.{spot_of}
+use Rattle.sl_trace.specs.Leases.{spot_of}
 use Rattle.sl_host_law.specs.Parts.Lines.{HeardBy}
 use Rattle.sl_sector.specs.declared.sector.Rec.TheVariants.{ValueIs}
 use Rattle.sl_trace.specs.Traces.{spot_of_grant}

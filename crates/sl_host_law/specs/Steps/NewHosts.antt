@@ -2,7 +2,7 @@
 use Rattle.sl_area.specs.Layouts.{IsGeometry}
 use Rattle.sl_host_state.specs.New.{IsOfProgram, given_sessions, new_host, sizes_in}
 use Rattle.sl_host_law.specs.Steps.Sound.{IsSound}
-use Rattle.sl_sessions.specs.declared.session.Session.{Session}
+use Rattle.sl_trace.specs.declared.session.Session.{Session}
 use Rattle.sl_trace.specs.Traces.{Setting}
 use Rattle.sl_trace.specs.declared.command.Command.TheVariants.{AddLockspace}
 use Rattle.sl_trace.specs.declared.command.LockspaceArg.{LockspaceArg}

@@ -6,8 +6,8 @@ use Rattle.sl_host_state.specs.New.{IsOfProgram, sizes_in}
 use Rattle.sl_host_state.specs.Passes.{whos}
 use Rattle.sl_host_state.specs.Stands.{is_kept_of}
 use Rattle.sl_host_state.specs.declared.kept.OpenCall.{OpenCall}
-use Rattle.sl_sessions.specs.Sessions.{is_delta_purpose}
-use Rattle.sl_sessions.specs.declared.session.Session.{Session}
+use Rattle.sl_trace.specs.Sessions.{is_delta_purpose}
+use Rattle.sl_trace.specs.declared.session.Session.{Session}
 use Rattle.sl_trace.specs.declared.command.Command.TheVariants.{AddLockspace}
 use Rattle.sl_trace.specs.declared.command.LockspaceArg.{LockspaceArg}
 use Rattle.std.specs.Prelude.{Contains, List, Ok, Some, true, [], ℕ, ◌==◌, ◌≡◌, ◌≤◌}

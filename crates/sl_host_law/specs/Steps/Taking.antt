@@ -11,7 +11,7 @@ use Rattle.sl_host_law.specs.Questions.Jobs.{aim_in, goes_on_in}
 use Rattle.sl_host_law.specs.Steps.Inputs.{taking}
 use Rattle.sl_host_law.specs.Steps.Leases.{answered_next}
 use Rattle.sl_host_law.specs.Steps.Sound.{IsEarly, IsSound}
-use Rattle.sl_leases.specs.declared.lease.Aim.{Aim}
+use Rattle.sl_trace.specs.declared.lease.Aim.{Aim}
 use Rattle.sl_host_law.specs.Replies.Answers.{FitsCall, IsOpen}
 use Rattle.sl_trace.specs.Traces.{is_expected}
 use Rattle.sl_trace.specs.declared.effects.LeaseStep.{LeaseStep}

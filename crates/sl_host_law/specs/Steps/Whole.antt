@@ -9,7 +9,7 @@ use Rattle.sl_host_law.specs.Steps.Lining.{LineMay}
 use Rattle.sl_host_law.specs.Steps.Sound.{IsSound}
 use Rattle.sl_host_law.specs.Steps.Stepping.{before_taking, effects_of, stepped}
 use Rattle.sl_host_law.specs.Steps.Taking.{CallsAreTheirs, LeaseMay}
-use Rattle.sl_leases.specs.declared.lease.Aim.{Aim}
+use Rattle.sl_trace.specs.declared.lease.Aim.{Aim}
 use Rattle.sl_host_law.specs.Replies.Answers.{FitsCall, IsOpen}
 use Rattle.sl_trace.specs.Traces.{FollowsTrace, Setting, Trace}
 use Rattle.sl_trace.specs.declared.command.Command.{Command}

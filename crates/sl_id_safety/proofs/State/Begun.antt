@@ -9,10 +9,10 @@ use Rattle.sl_plain.proofs.Options.{some_of}
 use Rattle.sl_run_law.proofs.Watchdog.Numbering.{begun_is, either_place}
 use Rattle.std.proofs.lemmas.Bool.{cases_lt, eqb-true}
 use Rattle.std.proofs.lemmas.Option.{slice_get_within}
-use Rattle.sl_law.proofs.LawFacts.{orderly-front}
-use Rattle.sl_law.specs.Lawful.{Orderly}
-use Rattle.sl_law.specs.LawfulCalls.{may_submit}
-use Rattle.sl_law.specs.Saying.{cut_at}
+use Rattle.sl_run.proofs.LawFacts.{orderly-front}
+use Rattle.sl_run.specs.Lawful.{Orderly}
+use Rattle.sl_run.specs.LawfulCalls.{may_submit}
+use Rattle.sl_run.specs.Saying.{cut_at}
 use Rattle.sl_trace_law.proofs.Sessions.Growing.{other_next, to_all, to_cut}
 use Rattle.sl_trace_law.proofs.Sessions.Making.{IsNewCall, old_or_new}
 use Rattle.sl_trace_law.proofs.Sessions.Naming.{absent}
@@ -21,8 +21,8 @@ use Rattle.sl_trace_law.proofs.Sessions.Parting.{not_removed}
 use Rattle.sl_trace_law.proofs.Sessions.Silence.{no_more}
 use Rattle.sl_trace_law.proofs.Sessions.Staying.{marks_stay}
 use Rattle.sl_trace_law.specs.Sessions.Promises.{IsSession as IsSessionOf}
-use Rattle.sl_sessions.specs.Sessions.{added_by, begun_in, calls_of, ended_after, has_open_write, is_call_of, is_join_call, is_present, joined_after, joining_session, refused_after, removed_after, session_named, session_numbered, sessions, stage_of}
-use Rattle.sl_sessions.specs.declared.session.Session.{Session}
+use Rattle.sl_trace.specs.Sessions.{added_by, begun_in, calls_of, ended_after, has_open_write, is_call_of, is_join_call, is_present, joined_after, joining_session, refused_after, removed_after, session_named, session_numbered, sessions, stage_of}
+use Rattle.sl_trace.specs.declared.session.Session.{Session}
 use Rattle.sl_trace.specs.Traces.{Answered, Setting, Submitted, Trace, is_write, mark, new_call, next_job, submitted, unanswered}
 use Rattle.sl_trace.specs.declared.command.LockspaceArg.{LockspaceArg}
 use Rattle.sl_trace.specs.declared.effects.Call.{Call}

@@ -6,7 +6,7 @@ use Rattle.sl_run_law.specs.Course.Stamping.{AreCalls, IsCourseOf, Pairwise, cou
 use Rattle.sl_run_law.proofs.Front.Having.{in_flat}
 use Rattle.sl_id_safety.proofs.State.FindingFrames.{on_machine}
 use Rattle.sl_id_safety.specs.State.IdStates.{join_course, own_courses}
-use Rattle.sl_law.specs.Lawful.{Orderly}
+use Rattle.sl_run.specs.Lawful.{Orderly}
 use Rattle.sl_plain.proofs.Lists.{filter_both, got_inside}
 use Rattle.sl_run.specs.Runs.{Happening}
 use Rattle.sl_run.specs.Safety.{Found, IsSession as IsSessionOf, LawfulRun, SessionId, trace_of, world_at}
@@ -14,8 +14,8 @@ use Rattle.sl_run.specs.Worlds.{Course, Daemon, Machine, Program, World, daemon_
 use Rattle.sl_run.specs.declared.header.Header.{Header}
 use Rattle.sl_run_law.proofs.Walking.{index}
 use Rattle.sl_trace_law.specs.Sessions.Promises.{IsSession}
-use Rattle.sl_sessions.specs.Sessions.{calls_of, has_open_write, is_call_of, is_join_call, join_call, session_numbered}
-use Rattle.sl_sessions.specs.declared.session.Session.{Session}
+use Rattle.sl_trace.specs.Sessions.{calls_of, has_open_write, is_call_of, is_join_call, join_call, session_numbered}
+use Rattle.sl_trace.specs.declared.session.Session.{Session}
 use Rattle.sl_trace.specs.Traces.{Submitted, is_write, submitted}
 use Rattle.sl_trace.specs.declared.effects.Call.{Call}
 use Rattle.sl_trace.specs.declared.effects.JoinStep.{JoinStep}

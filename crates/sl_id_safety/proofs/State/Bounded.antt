@@ -8,7 +8,7 @@ use Rattle.sl_id_safety.specs.State.IdStates.{blank, claim_bytes, claim_may_land
 use Rattle.sl_id_safety.specs.State.Promises.{IdsAreBounded}
 use Rattle.sl_ids.proofs.DerivedLaws.{watchdogs}
 use Rattle.sl_ids.specs.State.{Session as IdSession}
-use Rattle.sl_law.specs.LawfulWatchdog.{is_covered}
+use Rattle.sl_run.specs.LawfulWatchdog.{is_covered}
 use Rattle.sl_plain.proofs.Lists.{any_found, any_of, find_inside, kept, kept_inside}
 use Rattle.sl_plain.proofs.Options.{none_is, not_some, some_there}
 use Rattle.sl_run.specs.Runs.{Happening}
@@ -17,9 +17,9 @@ use Rattle.sl_run.specs.Worlds.{Course, Program, Sampling, Stamp, World, is_in_f
 use Rattle.sl_run.specs.declared.header.Header.{Header}
 use Rattle.sl_trace_law.proofs.Sessions.Ordering.{joinings_are_ordered, open_stage}
 use Rattle.sl_trace_law.proofs.Sessions.Silence.{stage_by}
-use Rattle.sl_sessions.specs.Sessions.{calls_of, ended_after, free_write, has_open_write, is_covered_stage, is_join_call, joined_after, refused_after, removed_after, stage_in, stage_of}
-use Rattle.sl_sessions.specs.declared.session.Session.{Session}
-use Rattle.sl_sessions.specs.declared.stage.Stage.{Stage}
+use Rattle.sl_trace.specs.Sessions.{calls_of, ended_after, free_write, has_open_write, is_covered_stage, is_join_call, joined_after, refused_after, removed_after, stage_in, stage_of}
+use Rattle.sl_trace.specs.declared.session.Session.{Session}
+use Rattle.sl_trace.specs.declared.stage.Stage.{Stage}
 use Rattle.sl_trace.specs.Traces.{Submitted, Trace}
 use Rattle.sl_trace.specs.declared.effects.JoinStep.TheVariants.{ClaimWrite, DecidingRead, VerifyRead}
 use Rattle.sl_run_law.proofs.Watchdog.Proven.{covered_are_connected, writers_may_act}

@@ -7,9 +7,9 @@ use Rattle.sl_run_law.specs.Course.Stamping.{IsCourseOf, stamp_in}
 use Rattle.sl_id_safety.proofs.State.Beside.{IsBeside}
 use Rattle.sl_id_safety.proofs.State.Registered.{registered, registering_call}
 use Rattle.sl_id_safety.specs.State.IdStates.{runs_still}
-use Rattle.sl_law.specs.Lawful.{Orderly}
-use Rattle.sl_law.specs.LawfulDelta.{LawfulDeciding, LawfulDeltaCall, LawfulFirstRenewal}
-use Rattle.sl_law.specs.LawfulWatchdog.{is_covered}
+use Rattle.sl_run.specs.Lawful.{Orderly}
+use Rattle.sl_run.specs.LawfulDelta.{LawfulDeciding, LawfulDeltaCall, LawfulFirstRenewal}
+use Rattle.sl_run.specs.LawfulWatchdog.{is_covered}
 use Rattle.sl_run_law.specs.Moment.Moments.{point_of}
 use Rattle.sl_plain.proofs.Lists.{find_fails, find_inside, got_inside}
 use Rattle.sl_run.specs.Safety.{Found, SessionId, trace_of, was_reset}
@@ -20,10 +20,10 @@ use Rattle.sl_trace_law.proofs.Sessions.Fronts.{front_answers_stay}
 use Rattle.sl_trace_law.proofs.Sessions.Owning.{calls_were_lawful}
 use Rattle.sl_trace_law.proofs.Sessions.Silence.{stage_by}
 use Rattle.sl_trace_law.specs.Sessions.Promises.{IsMade, IsSession, front_of, made_as}
-use Rattle.sl_sessions.specs.Sessions.{calls_of, free_write, is_join_call, join_call, joined_after, refused_after, removed_after, sessions, stage_in}
-use Rattle.sl_sessions.specs.declared.session.Session.{Session}
-use Rattle.sl_sessions.specs.declared.stage.Stage.TheVariants.{Looking}
-use Rattle.sl_sessions.specs.declared.stage.Stage.{Stage}
+use Rattle.sl_trace.specs.Sessions.{calls_of, free_write, is_join_call, join_call, joined_after, refused_after, removed_after, sessions, stage_in}
+use Rattle.sl_trace.specs.declared.session.Session.{Session}
+use Rattle.sl_trace.specs.declared.stage.Stage.TheVariants.{Looking}
+use Rattle.sl_trace.specs.declared.stage.Stage.{Stage}
 use Rattle.sl_time.specs.Times.{TimingNumbers}
 use Rattle.sl_trace.specs.Traces.{Answered, Setting, Submitted, Trace, bytes_given}
 use Rattle.sl_trace.specs.declared.effects.JoinStep.TheVariants.{DecidingRead, FirstRenewal, VerifyRead}

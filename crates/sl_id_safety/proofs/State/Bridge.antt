@@ -10,7 +10,7 @@ use Rattle.sl_run_law.proofs.Place.Numbering.{session_number}
 use Rattle.sl_id_safety.proofs.State.Tails.{IsMadeAfter, all_made}
 use Rattle.sl_id_safety.specs.State.IdStates.{join_course, own_courses}
 use Rattle.sl_run_law.specs.Landing.Landings.{DoneWritesHaveLanded}
-use Rattle.sl_law.specs.Lawful.{Orderly}
+use Rattle.sl_run.specs.Lawful.{Orderly}
 use Rattle.sl_run_law.proofs.Moment.Ordering.{calls_more, entries_ordered, fall_front, machines_ordered}
 use Rattle.sl_run_law.specs.Moment.Orders.{CallsFall, Fall, IsTimed}
 use Rattle.sl_plain.proofs.Lists.{contains_cases, contains_none, find_inside}
@@ -21,8 +21,8 @@ use Rattle.sl_run.specs.Worlds.{Course, Daemon, Machine, Program, World, daemon_
 use Rattle.sl_run.specs.declared.header.Header.{Header}
 use Rattle.sl_run_law.specs.Sample.Samples.{DoneReadsAreWhole, SampledAreSectors, SamplesAreLandings}
 use Rattle.sl_trace_law.specs.Sessions.Promises.{IsSession as IsSessionOf}
-use Rattle.sl_sessions.specs.Sessions.{calls_of, is_join_call, join_call, session_numbered}
-use Rattle.sl_sessions.specs.declared.session.Session.{Session}
+use Rattle.sl_trace.specs.Sessions.{calls_of, is_join_call, join_call, session_numbered}
+use Rattle.sl_trace.specs.declared.session.Session.{Session}
 use Rattle.sl_trace.specs.Traces.{Submitted}
 use Rattle.sl_trace.specs.declared.effects.Call.{Call}
 use Rattle.sl_trace.specs.declared.effects.JoinStep.{JoinStep}

@@ -12,7 +12,7 @@ use Rattle.sl_run_law.proofs.Coursing.{changed_if}
 use Rattle.sl_run_law.specs.Fates.{AreDistinct}
 use Rattle.sl_run_law.proofs.Sample.Numbering.{number_stays}
 use Rattle.sl_run_law.specs.Sample.Samples.{numbered_landing}
-use Rattle.sl_sessions.specs.Sessions.{given_number}
+use Rattle.sl_trace.specs.Sessions.{given_number}
 use Rattle.sl_trace.specs.declared.effects.JoinStep.TheVariants.{ClaimWrite}
 use Rattle.sl_words.proofs.CaseLaws.{is_false, true_is_false}
 use Rattle.sl_words.proofs.OrderLaws.{same_or_apart}

@@ -16,7 +16,7 @@ use Rattle.sl_id_safety.proofs.State.Steps.{IsSampled, answered_before, before_r
 use Rattle.sl_id_safety.specs.State.Facts.{ClaimsHaveDecided, HasDecided, WritesOwn, is_reading_step}
 use Rattle.sl_id_safety.specs.State.IdStates.{content_of, generation_above, generation_by, is_sector_of, sample_showing, watched_bytes}
 use Rattle.sl_id_safety.proofs.State.Tails.{front_at}
-use Rattle.sl_law.specs.LawfulDelta.{Gave}
+use Rattle.sl_run.specs.LawfulDelta.{Gave}
 use Rattle.sl_ids.specs.State.{Content}
 use Rattle.sl_run.specs.Runs.{Happening}
 use Rattle.sl_run.specs.Safety.{Found, LawfulRun, SessionId, is_course_of, setting_in, world_at}
@@ -31,8 +31,8 @@ use Rattle.sl_sector.specs.declared.sector.DeltaState.{DeltaState}
 use Rattle.sl_sector.specs.declared.sector.Rec.TheVariants.{DeltaIs}
 use Rattle.sl_sector.specs.declared.sector.Rec.{Rec}
 use Rattle.sl_trace_law.specs.Sessions.Promises.{all_done, fits, fits_as, has_reply}
-use Rattle.sl_sessions.specs.Deltas.{delta_of_session, delta_record}
-use Rattle.sl_sessions.specs.Sessions.{delta_of_record, is_delta_purpose, is_join_call, is_survey_purpose}
+use Rattle.sl_trace.specs.Deltas.{delta_of_session, delta_record}
+use Rattle.sl_trace.specs.Sessions.{delta_of_record, is_delta_purpose, is_join_call, is_survey_purpose}
 use Rattle.sl_trace.specs.Traces.{Submitted, is_ok_answer, is_write, record_of}
 use Rattle.sl_trace.specs.declared.effects.Call.{Call}
 use Rattle.sl_trace.specs.declared.effects.JoinStep.TheVariants.{ClaimWrite, DecidingRead, FirstRead, FirstRenewal, VerifyRead, WatchRead}

@@ -23,8 +23,8 @@ use Rattle.sl_run.specs.declared.header.LockspaceLine.{LockspaceLine}
 use Rattle.sl_run.specs.declared.header.SessionLine.{SessionLine}
 use Rattle.sl_trace_law.proofs.Sessions.Owning.{session_more, sessions_stay}
 use Rattle.sl_trace_law.proofs.Sessions.Staying.{marks_stay}
-use Rattle.sl_sessions.specs.Sessions.{ended_after, given_session, session_numbered, sessions}
-use Rattle.sl_sessions.specs.declared.session.Session.{Session}
+use Rattle.sl_trace.specs.Sessions.{ended_after, given_session, session_numbered, sessions}
+use Rattle.sl_trace.specs.declared.session.Session.{Session}
 use Rattle.sl_trace.specs.Traces.{Answered, Setting, Trace, is_write}
 use Rattle.sl_trace.specs.declared.effects.Call.{Call}
 use Rattle.sl_trace.specs.declared.effects.Entry.{Entry}

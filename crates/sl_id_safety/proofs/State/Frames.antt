@@ -5,8 +5,8 @@ use Rattle.sl_id_safety.specs.State.IdStates.{claim_may_land, deciding_sample, c
 use Rattle.sl_ids.specs.State.{Session as IdSession}
 use Rattle.sl_run.specs.Safety.{Found, SessionId, free_landed, has_write_in_flight, is_course_of, is_over, trace_of, was_reset}
 use Rattle.sl_run.specs.Worlds.{Course, Daemon, Machine, Sampling, Stamp, World, history_of, is_landed, is_open, is_write_course, may_land}
-use Rattle.sl_sessions.specs.Sessions.{calls_of, ended_after, free_write, given_number, is_join_call, joined_after, refused_after}
-use Rattle.sl_sessions.specs.declared.session.Session.{Session}
+use Rattle.sl_trace.specs.Sessions.{calls_of, ended_after, free_write, given_number, is_join_call, joined_after, refused_after}
+use Rattle.sl_trace.specs.declared.session.Session.{Session}
 use Rattle.sl_trace.specs.Traces.{Setting, Submitted, Trace, record_of}
 use Rattle.sl_trace.specs.declared.effects.JoinStep.{JoinStep}
 use Rattle.sl_trace.specs.declared.effects.JoinStep.TheVariants.{ClaimWrite, DecidingRead, FirstRead, VerifyRead}

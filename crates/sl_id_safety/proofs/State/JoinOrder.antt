@@ -2,7 +2,7 @@
 use Rattle.sl_id_safety.proofs.State.Registered.{is_registering, registering_call}
 use Rattle.sl_trace_law.proofs.Sessions.Joining.{stage_for}
 use Rattle.sl_trace_law.specs.Sessions.Promises.{is_ordered, may_come, may_follow}
-use Rattle.sl_sessions.specs.Sessions.{is_covered_stage, is_join_call, join_call, stage_in}
+use Rattle.sl_trace.specs.Sessions.{is_covered_stage, is_join_call, join_call, stage_in}
 use Rattle.sl_trace.specs.Traces.{Submitted, is_answered_ok}
 use Rattle.sl_trace.specs.declared.effects.JoinStep.TheVariants.{ClaimWrite, DecidingRead, FirstRead, FirstRenewal, VerifyRead, WatchRead}
 use Rattle.sl_trace.specs.declared.effects.Purpose.TheVariants.{Joining, Lease, Leaving, Renewal, RequestRead, RequestWrite, SeeRequest, Survey, ValueRead, ValueWrite}

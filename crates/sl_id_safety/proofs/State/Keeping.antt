@@ -6,18 +6,18 @@ use Rattle.sl_id_safety.specs.State.Facts.{JoinReadsAreOwn, ReadsOwn, is_reading
 use Rattle.sl_id_safety.specs.State.IdStates.{is_sector_of, own_courses}
 use Rattle.sl_area.specs.Layouts.{Layout}
 use Rattle.sl_area.specs.Places.{delta_offset}
-use Rattle.sl_law.proofs.LawFacts.{orderly-front}
-use Rattle.sl_law.specs.Lawful.{Orderly}
-use Rattle.sl_law.specs.LawfulCalls.{may_submit}
-use Rattle.sl_law.specs.LawfulDelta.{LawfulDeltaCall, LawfulJoinStep, is_on_own_sector}
+use Rattle.sl_run.proofs.LawFacts.{orderly-front}
+use Rattle.sl_run.specs.Lawful.{Orderly}
+use Rattle.sl_run.specs.LawfulCalls.{may_submit}
+use Rattle.sl_run.specs.LawfulDelta.{LawfulDeltaCall, LawfulJoinStep, is_on_own_sector}
 use Rattle.sl_run_law.proofs.Place.Looks.{joins_at as step_is}
 use Rattle.sl_run.specs.Safety.{Found, SessionId, setting_in, trace_of, world_at}
 use Rattle.sl_run.specs.Worlds.{Course, World}
 use Rattle.sl_trace_law.proofs.Sessions.Owning.{owned}
 use Rattle.sl_trace_law.specs.Sessions.Promises.{IsSession as IsSessionOf}
-use Rattle.sl_sessions.specs.Deltas.{own_offset}
-use Rattle.sl_sessions.specs.Sessions.{has_open_delta, is_delta_purpose, is_join_call, is_survey_purpose, same_join_step, session_numbered, stage_of}
-use Rattle.sl_sessions.specs.declared.session.Session.{Session}
+use Rattle.sl_trace.specs.Deltas.{own_offset}
+use Rattle.sl_trace.specs.Sessions.{has_open_delta, is_delta_purpose, is_join_call, is_survey_purpose, same_join_step, session_numbered, stage_of}
+use Rattle.sl_trace.specs.declared.session.Session.{Session}
 use Rattle.sl_trace.specs.Traces.{Setting, Submitted, Trace, new_call, same_place}
 use Rattle.sl_trace.specs.declared.effects.Call.{Call}
 use Rattle.sl_trace.specs.declared.effects.JoinStep.TheVariants.{ClaimWrite, DecidingRead, FirstRead, FirstRenewal, VerifyRead, WatchRead}

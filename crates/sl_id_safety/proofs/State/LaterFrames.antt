@@ -12,8 +12,8 @@ use Rattle.sl_run_law.proofs.Tracking.{run_tracks}
 use Rattle.sl_run_law.specs.Courses.{Continues, Tracks}
 use Rattle.sl_run_law.specs.Daemons.{DaemonGoes}
 use Rattle.sl_trace_law.proofs.Sessions.Owning.{sessions_stay}
-use Rattle.sl_sessions.specs.Sessions.{session_numbered}
-use Rattle.sl_sessions.specs.declared.session.Session.{Session}
+use Rattle.sl_trace.specs.Sessions.{session_numbered}
+use Rattle.sl_trace.specs.declared.session.Session.{Session}
 use Rattle.sl_run_law.proofs.Watchdog.Stepping.{number_below}
 use Rattle.sl_words.proofs.CaseLaws.{one_value}
 use Rattle.std.proofs.Common.{ap, arith, inl, inr, refl, subst, sym, tests, ◌∙◌}

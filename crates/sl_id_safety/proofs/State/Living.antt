@@ -5,11 +5,11 @@ use Rattle.sl_run_law.specs.Fates.{Every}
 use Rattle.sl_run_law.proofs.Watchdog.Numbering.{begun_is, either_place}
 use Rattle.sl_id_safety.proofs.State.Listing.{EveryTail}
 use Rattle.sl_id_safety.proofs.State.Tails.{AreLater, IsLater, marked_later}
-use Rattle.sl_law.proofs.LawFacts.{orderly-front}
-use Rattle.sl_law.specs.Lawful.{Orderly}
-use Rattle.sl_law.specs.LawfulCalls.{may_submit}
-use Rattle.sl_law.specs.LawfulDelta.{LawfulDeltaCall, LawfulJoin}
-use Rattle.sl_law.specs.Saying.{cut_at}
+use Rattle.sl_run.proofs.LawFacts.{orderly-front}
+use Rattle.sl_run.specs.Lawful.{Orderly}
+use Rattle.sl_run.specs.LawfulCalls.{may_submit}
+use Rattle.sl_run.specs.LawfulDelta.{LawfulDeltaCall, LawfulJoin}
+use Rattle.sl_run.specs.Saying.{cut_at}
 use Rattle.sl_trace_law.proofs.Sessions.Covering.{joinings_are_in_turn}
 use Rattle.sl_trace_law.proofs.Sessions.Growing.{mine_marked, mine_next, other_next, to_all}
 use Rattle.sl_trace_law.proofs.Sessions.Making.{WasOpen, old_or_new, was_marked}
@@ -18,10 +18,10 @@ use Rattle.sl_trace_law.proofs.Sessions.Ordering.{begun_before, joinings_are_ord
 use Rattle.sl_trace_law.proofs.Sessions.Owning.{owned, session_more}
 use Rattle.sl_trace_law.proofs.Sessions.Silence.{stage_by}
 use Rattle.sl_trace_law.specs.Sessions.Promises.{IsSession as IsSessionOf, all_done, fits, fits_as, has_reply, is_in_turn, is_ordered, may_come, may_follow}
-use Rattle.sl_sessions.specs.Sessions.{begun_in, calls_of, free_write, has_open_write, is_call_of, is_join_call, joined_after, refused_after, removed_after, session_named, session_numbered, sessions, stage_in, stage_of}
-use Rattle.sl_sessions.specs.declared.session.Session.{Session}
-use Rattle.sl_sessions.specs.declared.stage.Stage.TheVariants.{Deciding, Ended, Freeing, Looking, Standing, Verifying, Waiting}
-use Rattle.sl_sessions.specs.declared.stage.Stage.{Stage}
+use Rattle.sl_trace.specs.Sessions.{begun_in, calls_of, free_write, has_open_write, is_call_of, is_join_call, joined_after, refused_after, removed_after, session_named, session_numbered, sessions, stage_in, stage_of}
+use Rattle.sl_trace.specs.declared.session.Session.{Session}
+use Rattle.sl_trace.specs.declared.stage.Stage.TheVariants.{Deciding, Ended, Freeing, Looking, Standing, Verifying, Waiting}
+use Rattle.sl_trace.specs.declared.stage.Stage.{Stage}
 use Rattle.sl_trace.specs.Traces.{Answered, Setting, Submitted, Trace, is_write, mark, new_call, submitted}
 use Rattle.sl_trace.specs.declared.effects.Call.{Call}
 use Rattle.sl_trace.specs.declared.effects.Entry.{Entry}

@@ -11,8 +11,8 @@ use Rattle.sl_run.specs.Worlds.{Daemon, Machine, Program, clock_reading, daemons
 use Rattle.sl_run.specs.declared.header.Header.{Header}
 use Rattle.sl_run.specs.declared.header.LockspaceLine.{LockspaceLine}
 use Rattle.sl_run.specs.declared.header.SessionLine.{SessionLine}
-use Rattle.sl_sessions.specs.Sessions.{given_session, session_numbered}
-use Rattle.sl_sessions.specs.declared.session.Session.{Session}
+use Rattle.sl_trace.specs.Sessions.{given_session, session_numbered}
+use Rattle.sl_trace.specs.declared.session.Session.{Session}
 use Rattle.sl_trace.specs.declared.input.Given.{Given}
 use Rattle.sl_words.proofs.CaseLaws.{none_some, some_value}
 use Rattle.std.proofs.Common.{ap, arith, refl, subst, sym, ◌∙◌}

@@ -17,8 +17,8 @@ use Rattle.sl_id_safety.proofs.State.Tails.{AreMade, IsMadeAfter, all_made, fron
 use Rattle.sl_id_safety.proofs.State.Verifying.{written_there}
 use Rattle.sl_id_safety.specs.State.Facts.{HasVerified, RenewalsHaveVerified}
 use Rattle.sl_id_safety.specs.State.IdStates.{claim_bytes, deciding_sample, generation_by, is_sector_of, own_courses, sample_showing, verifying_sample, watched_bytes}
-use Rattle.sl_law.specs.Lawful.{Orderly}
-use Rattle.sl_law.specs.Saying.{cut_at}
+use Rattle.sl_run.specs.Lawful.{Orderly}
+use Rattle.sl_run.specs.Saying.{cut_at}
 use Rattle.sl_run.specs.Events.{write_bytes}
 use Rattle.sl_run.specs.Runs.{Happening}
 use Rattle.sl_run.specs.Safety.{Found, LawfulRun, SessionId, setting_in, trace_of, world_at}
@@ -29,8 +29,8 @@ use Rattle.sl_sector.specs.declared.sector.Rec.TheVariants.{DeltaIs}
 use Rattle.sl_sector.specs.declared.sector.Rec.{Rec}
 use Rattle.sl_trace_law.proofs.Sessions.Owning.{session_more}
 use Rattle.sl_trace_law.specs.Sessions.Promises.{IsSession as IsSessionOf}
-use Rattle.sl_sessions.specs.Sessions.{calls_of, delta_of_record, delta_written, is_join_call, is_join_done, joined_after, session_numbered, sessions}
-use Rattle.sl_sessions.specs.declared.session.Session.{Session}
+use Rattle.sl_trace.specs.Sessions.{calls_of, delta_of_record, delta_written, is_join_call, is_join_done, joined_after, session_numbered, sessions}
+use Rattle.sl_trace.specs.declared.session.Session.{Session}
 use Rattle.sl_trace.specs.Traces.{Setting, Submitted, Trace, new_call, record_of, reply_to}
 use Rattle.sl_trace.specs.declared.effects.Call.{Call}
 use Rattle.sl_trace.specs.declared.effects.JoinStep.TheVariants.{ClaimWrite, DecidingRead, FirstRenewal, VerifyRead}

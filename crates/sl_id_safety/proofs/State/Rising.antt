@@ -11,19 +11,19 @@ use Rattle.sl_run_law.proofs.Place.Finding.{partner_of}
 use Rattle.sl_id_safety.proofs.State.Living.{InPlace, Precede, answered_old, rank, rank_at}
 use Rattle.sl_id_safety.proofs.State.Steps.{ranks_of, twice}
 use Rattle.sl_id_safety.proofs.State.Tails.{AreLater, AreMade, all_made, IsLater, IsMadeAfter, front_at, marked_later}
-use Rattle.sl_law.specs.Lawful.{Orderly}
-use Rattle.sl_law.specs.LawfulDelta.{LawfulDeltaCall, LawfulFirstRenewal, LawfulJoin}
-use Rattle.sl_law.specs.Saying.{cut_at}
+use Rattle.sl_run.specs.Lawful.{Orderly}
+use Rattle.sl_run.specs.LawfulDelta.{LawfulDeltaCall, LawfulFirstRenewal, LawfulJoin}
+use Rattle.sl_run.specs.Saying.{cut_at}
 use Rattle.sl_sector.specs.Bitmaps.{no_bits}
 use Rattle.sl_sector.specs.declared.sector.DeltaRec.{DeltaRec}
 use Rattle.sl_sector.specs.declared.sector.DeltaState.TheVariants.{Free, Live}
 use Rattle.sl_sector.specs.declared.sector.DeltaState.{DeltaState}
 use Rattle.sl_trace_law.proofs.Sessions.Growing.{mine_marked, mine_next, other_next, to_cut}
 use Rattle.sl_trace_law.specs.Sessions.Promises.{IsSession as IsSessionOf, fits_as}
-use Rattle.sl_sessions.specs.Deltas.{claim_of, delta_of_session, delta_record}
-use Rattle.sl_sessions.specs.Sessions.{calls_of, delta_of_record, delta_written, generation_in, generation_of, given_number, is_call_of, is_delta_purpose, is_free_purpose, is_join_call, is_survey_purpose, join_call, last_delta, last_seq, seq_in, sessions, stage_of}
-use Rattle.sl_sessions.specs.declared.session.Session.{Session}
-use Rattle.sl_sessions.specs.declared.stage.Stage.TheVariants.{Standing}
+use Rattle.sl_trace.specs.Deltas.{claim_of, delta_of_session, delta_record}
+use Rattle.sl_trace.specs.Sessions.{calls_of, delta_of_record, delta_written, generation_in, generation_of, given_number, is_call_of, is_delta_purpose, is_free_purpose, is_join_call, is_survey_purpose, join_call, last_delta, last_seq, seq_in, sessions, stage_of}
+use Rattle.sl_trace.specs.declared.session.Session.{Session}
+use Rattle.sl_trace.specs.declared.stage.Stage.TheVariants.{Standing}
 use Rattle.sl_trace.specs.Traces.{Setting, Submitted, Trace, is_write, mark, new_call, record_of, submitted}
 use Rattle.sl_trace.specs.declared.effects.Call.{Call}
 use Rattle.sl_trace.specs.declared.effects.Entry.{Entry}

@@ -13,8 +13,8 @@ use Rattle.sl_run.specs.Worlds.{Course, Machine, Program, Sampling, World, histo
 use Rattle.sl_run.specs.declared.header.Header.{Header}
 use Rattle.sl_run_law.proofs.Sample.Numbering.{number_below}
 use Rattle.sl_run_law.specs.Sample.Samples.{IsSampleOf, SamplesAreLandings, sector_place}
-use Rattle.sl_sessions.specs.Sessions.{is_join_call}
-use Rattle.sl_sessions.specs.declared.session.Session.{Session}
+use Rattle.sl_trace.specs.Sessions.{is_join_call}
+use Rattle.sl_trace.specs.declared.session.Session.{Session}
 use Rattle.sl_trace.specs.declared.effects.JoinStep.TheVariants.{DecidingRead, VerifyRead}
 use Rattle.sl_trace.specs.declared.effects.JoinStep.{JoinStep}
 use Rattle.sl_trace.specs.declared.effects.Purpose.TheVariants.{Joining}

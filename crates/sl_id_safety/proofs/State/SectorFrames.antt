@@ -7,7 +7,7 @@ use Rattle.sl_run.specs.Safety.{Found, SessionId, session_of_world}
 use Rattle.sl_run.specs.Worlds.{Landing, Sampling, World, first_landing, history_of, landed_at}
 use Rattle.sl_run_law.specs.Fates.{Every}
 use Rattle.sl_run_law.specs.Sample.Samples.{numbered_landing}
-use Rattle.sl_sessions.specs.Sessions.{given_number}
+use Rattle.sl_trace.specs.Sessions.{given_number}
 use Rattle.sl_trace.specs.Traces.{same_place}
 use Rattle.sl_trace.specs.declared.effects.JoinStep.TheVariants.{ClaimWrite}
 use Rattle.sl_words.proofs.CaseLaws.{none_some, some_value}

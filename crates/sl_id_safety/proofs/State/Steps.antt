@@ -24,7 +24,7 @@ use Rattle.sl_run.specs.Worlds.{Course, Machine, Program, Sampling, Stamp, World
 use Rattle.sl_run.specs.declared.header.Header.{Header}
 use Rattle.sl_area.specs.Places.{sector_of}
 use Rattle.sl_run_law.specs.Sample.Samples.{IsSampleOf}
-use Rattle.sl_sessions.specs.Sessions.{calls_of, is_call_of, is_join_call, refused_after}
+use Rattle.sl_trace.specs.Sessions.{calls_of, is_call_of, is_join_call, refused_after}
 use Rattle.sl_time.specs.Times.{reading_of}
 use Rattle.sl_trace.specs.Traces.{Answered, Submitted, is_write, submitted}
 use Rattle.sl_trace.specs.declared.effects.Call.{Call}

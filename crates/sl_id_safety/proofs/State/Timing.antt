@@ -1,8 +1,8 @@
 -- When what a trace tells came about: answers and readings of a front are of its past, a refusal is of later, and stamps are in order.
 use Rattle.sl_run_law.proofs.Course.Matching.{found_below}
 use Rattle.sl_run_law.specs.Course.Stamping.{stamp_in}
-use Rattle.sl_law.specs.LawfulCalls.{may_submit}
-use Rattle.sl_law.specs.Saying.{cut_at}
+use Rattle.sl_run.specs.LawfulCalls.{may_submit}
+use Rattle.sl_run.specs.Saying.{cut_at}
 use Rattle.sl_run_law.specs.Moment.Orders.{Fall}
 use Rattle.sl_plain.proofs.Lists.{contains_none}
 use Rattle.sl_plain.proofs.Options.{mapped_value, then_value}
@@ -10,8 +10,8 @@ use Rattle.sl_run.specs.Worlds.{Stamp}
 use Rattle.sl_trace_law.proofs.Sessions.Making.{IsNewCall, old_or_new, was_marked}
 use Rattle.sl_trace_law.proofs.Sessions.Silence.{no_more}
 use Rattle.sl_trace_law.proofs.Sessions.Staying.{refused_apart, refused_more}
-use Rattle.sl_sessions.specs.Sessions.{is_join_done, refused_after, removed_after, stage_of}
-use Rattle.sl_sessions.specs.declared.session.Session.{Session}
+use Rattle.sl_trace.specs.Sessions.{is_join_done, refused_after, removed_after, stage_of}
+use Rattle.sl_trace.specs.declared.session.Session.{Session}
 use Rattle.sl_trace.specs.Traces.{IsTrace, Replied, Setting, Submitted, Trace, last_reading, mark, reply_in, reply_to, submitted}
 use Rattle.sl_trace.specs.declared.effects.Entry.{Entry}
 use Rattle.sl_trace.specs.declared.effects.JobReply.{JobReply}

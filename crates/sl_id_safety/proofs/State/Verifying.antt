@@ -9,7 +9,7 @@ use Rattle.sl_id_safety.proofs.State.Steps.{answered_before, only, reading_made}
 use Rattle.sl_id_safety.proofs.State.Tails.{IsLater, front_at}
 use Rattle.sl_id_safety.proofs.State.Timing.{stamps_order}
 use Rattle.sl_id_safety.specs.State.Facts.{DeltaWritesComeInTurn, HasClaimed, VerifyReadsHaveClaimed}
-use Rattle.sl_law.specs.LawfulDelta.{LawfulDeltaCall, LawfulJoinStep}
+use Rattle.sl_run.specs.LawfulDelta.{LawfulDeltaCall, LawfulJoinStep}
 use Rattle.sl_run.specs.Runs.{Happening}
 use Rattle.sl_run.specs.Safety.{Found, LawfulRun, SessionId, is_course_of, setting_in, world_at}
 use Rattle.sl_run.specs.Worlds.{Course, Program, Stamp, World}
@@ -17,11 +17,11 @@ use Rattle.sl_run.specs.declared.header.Header.{Header}
 use Rattle.sl_sector.specs.Bitmaps.{no_bits}
 use Rattle.sl_sector.specs.declared.sector.DeltaRec.{DeltaRec}
 use Rattle.sl_sector.specs.declared.sector.DeltaState.TheVariants.{Claimed}
-use Rattle.sl_sessions.specs.Deltas.{delta_of_session, delta_record}
+use Rattle.sl_trace.specs.Deltas.{delta_of_session, delta_record}
 use Rattle.sl_sector.specs.declared.sector.Rec.TheVariants.{DeltaIs}
 use Rattle.sl_sector.specs.declared.sector.Rec.{Rec}
-use Rattle.sl_sessions.specs.Sessions.{calls_of, delta_of_record, delta_written, has_open_delta, is_call_of, is_delta_purpose, is_join_call}
-use Rattle.sl_sessions.specs.declared.session.Session.{Session}
+use Rattle.sl_trace.specs.Sessions.{calls_of, delta_of_record, delta_written, has_open_delta, is_call_of, is_delta_purpose, is_join_call}
+use Rattle.sl_trace.specs.declared.session.Session.{Session}
 use Rattle.sl_time.specs.Times.{dead, join_max}
 use Rattle.sl_trace.specs.Traces.{Answered, Setting, Submitted, Trace, is_write, new_call, record_of, submitted, unanswered}
 use Rattle.sl_trace.specs.declared.effects.Call.{Call}

@@ -8,7 +8,7 @@ use Rattle.sl_id_safety.proofs.State.Keeping.{IsOwnCall, own_call, step_law}
 use Rattle.sl_id_safety.proofs.State.Steps.{answered_before, only, read_before}
 use Rattle.sl_id_safety.proofs.State.Tails.{front_at}
 use Rattle.sl_id_safety.specs.State.Facts.{DecidingReadsHaveWatched, HasWatched}
-use Rattle.sl_law.specs.LawfulDelta.{WatchOver}
+use Rattle.sl_run.specs.LawfulDelta.{WatchOver}
 use Rattle.sl_run_law.specs.Moment.Moments.{point_of}
 use Rattle.sl_run.specs.Safety.{Found, SessionId, setting_in, world_at}
 use Rattle.sl_run.specs.Worlds.{Course, Stamp, World}
@@ -16,7 +16,7 @@ use Rattle.sl_run.specs.declared.header.Header.{Header}
 use Rattle.sl_sector.specs.Spelling.{delta_in}
 use Rattle.sl_sector.specs.declared.sector.DeltaRec.{DeltaRec}
 use Rattle.sl_sector.specs.declared.sector.DeltaState.TheVariants.{Free}
-use Rattle.sl_sessions.specs.Sessions.{is_join_call}
+use Rattle.sl_trace.specs.Sessions.{is_join_call}
 use Rattle.sl_time.specs.Times.{TimingNumbers, reading_of, take_over}
 use Rattle.sl_trace.specs.Traces.{Answered, Submitted, is_ok_answer}
 use Rattle.sl_trace.specs.declared.effects.Call.{Call}

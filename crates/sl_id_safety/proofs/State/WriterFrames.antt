@@ -13,8 +13,8 @@ use Rattle.sl_run.specs.declared.header.Header.{Header}
 use Rattle.sl_run_law.specs.Courses.{Continues, Follow, ListGoes}
 use Rattle.sl_run_law.specs.Fates.{AreDistinct, EachDistinct, Every}
 use Rattle.sl_run_law.specs.Machines.{EachMachine}
-use Rattle.sl_sessions.specs.Sessions.{sessions}
-use Rattle.sl_sessions.specs.declared.session.Session.{Session}
+use Rattle.sl_trace.specs.Sessions.{sessions}
+use Rattle.sl_trace.specs.declared.session.Session.{Session}
 use Rattle.sl_trace.specs.Traces.{same_place}
 use Rattle.sl_words.proofs.CaseLaws.{none_some, some_value, true_is_false}
 use Rattle.sl_words.specs.Words.{first_given}

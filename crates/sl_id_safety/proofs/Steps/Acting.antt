@@ -24,7 +24,7 @@ use Rattle.sl_run.specs.Safety.{Found, SessionId, is_over, world_at}
 use Rattle.sl_run.specs.Worlds.{Course, Fate, Landing, Program, World}
 use Rattle.sl_run.specs.declared.header.Header.{Header}
 use Rattle.sl_sector.specs.declared.sector.DeltaState.TheVariants.{Free, Live}
-use Rattle.sl_sessions.specs.Sessions.{is_free_purpose, is_join_call}
+use Rattle.sl_trace.specs.Sessions.{is_free_purpose, is_join_call}
 use Rattle.sl_trace.specs.declared.effects.JoinStep.TheVariants.{ClaimWrite}
 use Rattle.sl_words.proofs.CaseLaws.{is_false, not_both}
 use Rattle.sl_words.proofs.WordLaws.{and_true}

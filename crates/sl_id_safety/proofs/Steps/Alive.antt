@@ -21,8 +21,8 @@ use Rattle.sl_id_safety.proofs.State.Steps.{ranks_of}
 use Rattle.sl_id_safety.proofs.State.Tails.{front_at}
 use Rattle.sl_id_safety.proofs.State.Timing.{refused_by, stamp_below}
 use Rattle.sl_id_safety.specs.State.IdStates.{comes_before, own_courses, refused_stamp, runs_still, verifying_sample}
-use Rattle.sl_law.specs.Lawful.{Orderly}
-use Rattle.sl_law.specs.LawfulDelta.{LawfulDeltaCall, LawfulJoin}
+use Rattle.sl_run.specs.Lawful.{Orderly}
+use Rattle.sl_run.specs.LawfulDelta.{LawfulDeltaCall, LawfulJoin}
 use Rattle.sl_plain.proofs.Lists.{got_inside, kept_inside}
 use Rattle.sl_run.specs.Runs.{Happening}
 use Rattle.sl_run.specs.Safety.{Found, LawfulRun, SessionId, free_landed, has_write_in_flight, is_course_of, is_over, session_of_world, trace_of, was_reset, world_at}
@@ -33,8 +33,8 @@ use Rattle.sl_sector.specs.declared.sector.DeltaRec.{DeltaRec}
 use Rattle.sl_sector.specs.declared.sector.Rec.TheVariants.{DeltaIs}
 use Rattle.sl_trace_law.proofs.Sessions.Staying.{refused_more}
 use Rattle.sl_trace_law.specs.Sessions.Promises.{IsSession as IsSessionOf}
-use Rattle.sl_sessions.specs.Sessions.{calls_of, delta_written, free_write, is_free_purpose, is_join_call, joined_after, refused_after, removed_after, sessions}
-use Rattle.sl_sessions.specs.declared.session.Session.{Session}
+use Rattle.sl_trace.specs.Sessions.{calls_of, delta_written, free_write, is_free_purpose, is_join_call, joined_after, refused_after, removed_after, sessions}
+use Rattle.sl_trace.specs.declared.session.Session.{Session}
 use Rattle.sl_trace.specs.Traces.{Setting, Submitted, Trace, new_call, record_of}
 use Rattle.sl_trace.specs.declared.effects.Call.{Call}
 use Rattle.sl_trace.specs.declared.effects.JoinStep.TheVariants.{ClaimWrite, FirstRenewal}

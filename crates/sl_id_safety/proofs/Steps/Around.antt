@@ -22,8 +22,8 @@ use Rattle.sl_run.specs.declared.header.Header.{Header}
 use Rattle.sl_run_law.specs.Fates.{Every}
 use Rattle.sl_run_law.proofs.Sample.Numbering.{newest_number, number_below, number_stays}
 use Rattle.sl_run_law.specs.Sample.Samples.{numbered_landing}
-use Rattle.sl_sessions.specs.Sessions.{given_number}
-use Rattle.sl_sessions.specs.declared.session.Session.{Session}
+use Rattle.sl_trace.specs.Sessions.{given_number}
+use Rattle.sl_trace.specs.declared.session.Session.{Session}
 use Rattle.sl_words.proofs.CaseLaws.{is_false, not_both, true_is_false}
 use Rattle.sl_words.proofs.WordLaws.{and_true}
 use Rattle.sl_words.specs.Words.{greatest, some_is}

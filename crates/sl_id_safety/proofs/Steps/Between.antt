@@ -12,7 +12,7 @@ use Rattle.sl_ids.specs.Guards.{terms_of}
 use Rattle.sl_ids.specs.Runs.{IsBounded}
 use Rattle.sl_ids.specs.Terms.{Terms}
 use Rattle.sl_run_law.proofs.Landing.Running.{own_by as no_calls_by}
-use Rattle.sl_law.specs.Lawful.{Orderly}
+use Rattle.sl_run.specs.Lawful.{Orderly}
 use Rattle.sl_plain.proofs.Lists.{got_inside}
 use Rattle.sl_run.specs.Events.{add_landing, after_effects, change_call, event_tests, fated, first_change, flight_at, happens, input_of, is_placed, is_read_course, is_shaped, machine_of, on_flight, on_machine, may_happen, next_input, next_step, sampled_more, sectors_left, take_step, write_bytes}
 use Rattle.sl_run.specs.Runs.{EachDaemon, Happening, HasSteps, IsRun, daemons_of, own_effects_of, world_after}

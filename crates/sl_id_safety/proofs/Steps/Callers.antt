@@ -24,8 +24,8 @@ use Rattle.sl_run.specs.declared.header.Header.{Header}
 use Rattle.sl_run_law.proofs.Coursing.{changed_if}
 use Rattle.sl_run_law.specs.Fates.{AreDistinct}
 use Rattle.sl_run_law.specs.Sample.Samples.{SamplesAreLandings}
-use Rattle.sl_sessions.specs.Sessions.{session_numbered}
-use Rattle.sl_sessions.specs.declared.session.Session.{Session}
+use Rattle.sl_trace.specs.Sessions.{session_numbered}
+use Rattle.sl_trace.specs.declared.session.Session.{Session}
 use Rattle.sl_trace.specs.declared.effects.Call.{Call}
 use Rattle.sl_trace.specs.declared.effects.JoinStep.TheVariants.{ClaimWrite}
 use Rattle.sl_words.proofs.CaseLaws.{is_false, not_both, one_value}

@@ -11,7 +11,7 @@ use Rattle.sl_id_safety.proofs.Steps.OwnCalls.{Through, knows}
 use Rattle.sl_id_safety.proofs.Steps.RenewalCalls.{HasLeft, IsNumbered, IsRenewalCall, lesser, not_claim, wrote_it}
 use Rattle.sl_id_safety.proofs.Steps.Seeing.{first_there, verifying_stays}
 use Rattle.sl_run_law.proofs.Landing.Ordering.{come_in_order}
-use Rattle.sl_law.specs.LawfulDelta.{LawfulDeltaCall}
+use Rattle.sl_run.specs.LawfulDelta.{LawfulDeltaCall}
 use Rattle.sl_plain.proofs.Lists.{kept_inside}
 use Rattle.sl_plain.proofs.Options.{then_value}
 use Rattle.sl_run.specs.Runs.{Happening}
@@ -21,10 +21,10 @@ use Rattle.sl_run.specs.declared.header.Header.{Header}
 use Rattle.sl_sector.specs.declared.sector.DeltaRec.{DeltaRec}
 use Rattle.sl_sector.specs.declared.sector.Rec.TheVariants.{DeltaIs}
 use Rattle.sl_trace_law.proofs.Sessions.Silence.{stage_by}
-use Rattle.sl_sessions.specs.Sessions.{calls_of, delta_of_record, delta_written, free_write, is_join_call, is_renewal, joined_after, refused_after, removed_after, stage_in}
-use Rattle.sl_sessions.specs.declared.session.Session.{Session}
-use Rattle.sl_sessions.specs.declared.stage.Stage.TheVariants.{Deciding}
-use Rattle.sl_sessions.specs.declared.stage.Stage.{Stage}
+use Rattle.sl_trace.specs.Sessions.{calls_of, delta_of_record, delta_written, free_write, is_join_call, is_renewal, joined_after, refused_after, removed_after, stage_in}
+use Rattle.sl_trace.specs.declared.session.Session.{Session}
+use Rattle.sl_trace.specs.declared.stage.Stage.TheVariants.{Deciding}
+use Rattle.sl_trace.specs.declared.stage.Stage.{Stage}
 use Rattle.sl_trace.specs.Traces.{Setting, Submitted, Trace, new_call, record_of, same_place}
 use Rattle.sl_trace.specs.declared.effects.JoinStep.TheVariants.{ClaimWrite, FirstRenewal, VerifyRead}
 use Rattle.sl_trace.specs.declared.effects.Purpose.TheVariants.{Joining, Renewal}

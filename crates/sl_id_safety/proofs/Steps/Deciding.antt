@@ -28,7 +28,7 @@ use Rattle.sl_run.specs.declared.header.Header.{Header}
 use Rattle.sl_run_law.proofs.Sample.Numbering.{number_below}
 use Rattle.sl_run_law.specs.Sample.Samples.{numbered_landing}
 use Rattle.sl_sector.specs.declared.sector.DeltaState.TheVariants.{Free}
-use Rattle.sl_sessions.specs.Sessions.{joined_after, refused_after}
+use Rattle.sl_trace.specs.Sessions.{joined_after, refused_after}
 use Rattle.sl_time.specs.Times.{take_over}
 use Rattle.sl_trace.specs.declared.effects.JoinStep.TheVariants.{ClaimWrite, DecidingRead, FirstRead, VerifyRead}
 use Rattle.sl_run_law.specs.Watchdog.Acting.{acting_stamp}

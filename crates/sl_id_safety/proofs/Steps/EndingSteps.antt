@@ -33,7 +33,7 @@ use Rattle.sl_run.specs.declared.event.Refusal.TheVariants.{MissingUp}
 use Rattle.sl_run.specs.declared.header.Header.{Header}
 use Rattle.sl_run_law.proofs.Going.{event_goes}
 use Rattle.sl_run_law.specs.Going.{Goes, time_of}
-use Rattle.sl_sessions.specs.Sessions.{sessions}
+use Rattle.sl_trace.specs.Sessions.{sessions}
 use Rattle.sl_words.proofs.CaseLaws.{is_false, not_both, one_value, true_is_false}
 use Rattle.sl_words.proofs.OrderLaws.{same_or_apart}
 use Rattle.sl_words.specs.Words.{is_empty, some_is}

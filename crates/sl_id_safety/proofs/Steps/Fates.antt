@@ -9,7 +9,7 @@ use Rattle.sl_run.specs.Safety.{Found, SessionId, free_landed, has_write_in_flig
 use Rattle.sl_run.specs.Worlds.{Course, Fate, In_flight, Machine, World, history_of, is_in_flight, is_landed, is_write_course, may_land}
 use Rattle.sl_run_law.proofs.Coursing.{changed_if}
 use Rattle.sl_run_law.specs.Fates.{Every}
-use Rattle.sl_sessions.specs.Sessions.{calls_of, ended_after, free_write, refused_after}
+use Rattle.sl_trace.specs.Sessions.{calls_of, ended_after, free_write, refused_after}
 use Rattle.sl_trace.specs.Traces.{Submitted}
 use Rattle.sl_trace.specs.declared.effects.JoinStep.TheVariants.{ClaimWrite}
 use Rattle.sl_words.proofs.CaseLaws.{is_false, not_both, true_is_false}

@@ -7,7 +7,7 @@ use Rattle.sl_run.specs.Events.{fated, write_bytes}
 use Rattle.sl_run.specs.Safety.{Found, SessionId, is_over, trace_of}
 use Rattle.sl_run.specs.Worlds.{Course, Fate, Machine, Sampling, World, history_of, is_landed}
 use Rattle.sl_run_law.proofs.Coursing.{changed_if}
-use Rattle.sl_sessions.specs.Sessions.{given_number, is_join_call, joined_after}
+use Rattle.sl_trace.specs.Sessions.{given_number, is_join_call, joined_after}
 use Rattle.sl_trace.specs.Traces.{record_of}
 use Rattle.sl_trace.specs.declared.effects.JoinStep.TheVariants.{ClaimWrite, DecidingRead, FirstRead, VerifyRead}
 use Rattle.sl_trace.specs.declared.effects.JoinStep.{JoinStep}

@@ -13,8 +13,8 @@ use Rattle.sl_run.specs.Safety.{Found, SessionId, free_landed, has_write_in_flig
 use Rattle.sl_run.specs.Worlds.{Course, Program, World, is_in_flight, is_write_course, may_land}
 use Rattle.sl_run.specs.declared.header.Header.{Header}
 use Rattle.sl_trace_law.proofs.Sessions.Staying.{ended_more, refused_apart, refused_more}
-use Rattle.sl_sessions.specs.Sessions.{ended_after, is_join_call, joined_after, refused_after, removed_after}
-use Rattle.sl_sessions.specs.declared.session.Session.{Session}
+use Rattle.sl_trace.specs.Sessions.{ended_after, is_join_call, joined_after, refused_after, removed_after}
+use Rattle.sl_trace.specs.declared.session.Session.{Session}
 use Rattle.sl_trace.specs.Traces.{Trace}
 use Rattle.sl_trace.specs.declared.effects.JoinStep.TheVariants.{ClaimWrite}
 use Rattle.sl_words.proofs.CaseLaws.{is_false, none_some, not_both, true_is_false}

@@ -29,7 +29,7 @@ use Rattle.sl_run.specs.Safety.{Found, LawfulRun, SessionId, is_over, trace_of, 
 use Rattle.sl_run.specs.Worlds.{Course, Fate, Program, World, is_in_flight, is_landed}
 use Rattle.sl_run.specs.declared.header.Header.{Header}
 use Rattle.sl_run_law.specs.Sample.Samples.{SamplesAreLandings}
-use Rattle.sl_sessions.specs.Sessions.{joined_after}
+use Rattle.sl_trace.specs.Sessions.{joined_after}
 use Rattle.sl_trace.specs.Traces.{same_place}
 use Rattle.sl_trace.specs.declared.effects.JoinStep.TheVariants.{ClaimWrite}
 use Rattle.sl_id_safety.proofs.State.Keeping.{is_place}

@@ -15,7 +15,7 @@ use Rattle.sl_run_law.specs.Fates.{AreDistinct, Every}
 use Rattle.sl_run_law.proofs.Sample.Flying.{IsOne, all_one}
 use Rattle.sl_run_law.proofs.Sample.Numbering.{newest_number}
 use Rattle.sl_run_law.specs.Sample.Samples.{numbered_landing}
-use Rattle.sl_sessions.specs.Sessions.{is_join_call}
+use Rattle.sl_trace.specs.Sessions.{is_join_call}
 use Rattle.sl_trace.specs.declared.effects.JoinStep.TheVariants.{ClaimWrite, DecidingRead, FirstRead, VerifyRead}
 use Rattle.sl_trace.specs.declared.effects.JoinStep.{JoinStep}
 use Rattle.sl_trace.specs.Traces.{same_place}

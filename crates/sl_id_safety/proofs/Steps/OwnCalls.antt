@@ -18,8 +18,8 @@ use Rattle.sl_run.specs.declared.header.Header.{Header}
 use Rattle.sl_run_law.proofs.Coursing.{changed_if}
 use Rattle.sl_run_law.proofs.Tracking.{told}
 use Rattle.sl_run_law.specs.Fates.{Every}
-use Rattle.sl_sessions.specs.Sessions.{calls_of, ended_after, free_write, is_join_call, joined_after, session_numbered}
-use Rattle.sl_sessions.specs.declared.session.Session.{Session}
+use Rattle.sl_trace.specs.Sessions.{calls_of, ended_after, free_write, is_join_call, joined_after, session_numbered}
+use Rattle.sl_trace.specs.declared.session.Session.{Session}
 use Rattle.sl_trace.specs.Traces.{Submitted, is_ok_answer}
 use Rattle.sl_trace.specs.declared.effects.Call.{Call}
 use Rattle.sl_trace.specs.declared.effects.Effects.{Effects}

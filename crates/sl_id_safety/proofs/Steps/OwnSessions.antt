@@ -27,7 +27,7 @@ use Rattle.sl_run.specs.Runs.{Happening}
 use Rattle.sl_run.specs.Safety.{Found, LawfulRun, SessionId, is_over, session_of_world, trace_of, world_at}
 use Rattle.sl_run.specs.Worlds.{Program, World}
 use Rattle.sl_run.specs.declared.header.Header.{Header}
-use Rattle.sl_sessions.specs.Sessions.{joined_after}
+use Rattle.sl_trace.specs.Sessions.{joined_after}
 use Rattle.sl_words.proofs.CaseLaws.{is_false, not_both, true_is_false}
 use Rattle.sl_words.proofs.WordLaws.{and_true}
 use Rattle.std.proofs.Common.{ap, refl, subst, sym, ◌∙◌}

@@ -34,10 +34,10 @@ use Rattle.sl_sector.specs.declared.sector.Rec.TheVariants.{DeltaIs}
 use Rattle.sl_trace_law.proofs.Sessions.Covering.{joinings_are_in_turn}
 use Rattle.sl_trace_law.proofs.Sessions.Silence.{stage_by}
 use Rattle.sl_trace_law.specs.Sessions.Promises.{all_done, fits, fits_as, is_in_turn}
-use Rattle.sl_sessions.specs.Sessions.{calls_of, delta_of_record, delta_written, free_write, given_number, is_delta_purpose, is_free_purpose, is_join_call, joined_after, last_delta, refused_after, removed_after, seq_in, stage_in, stage_of}
-use Rattle.sl_sessions.specs.declared.session.Session.{Session}
-use Rattle.sl_sessions.specs.declared.stage.Stage.TheVariants.{Standing}
-use Rattle.sl_sessions.specs.declared.stage.Stage.{Stage}
+use Rattle.sl_trace.specs.Sessions.{calls_of, delta_of_record, delta_written, free_write, given_number, is_delta_purpose, is_free_purpose, is_join_call, joined_after, last_delta, refused_after, removed_after, seq_in, stage_in, stage_of}
+use Rattle.sl_trace.specs.declared.session.Session.{Session}
+use Rattle.sl_trace.specs.declared.stage.Stage.TheVariants.{Standing}
+use Rattle.sl_trace.specs.declared.stage.Stage.{Stage}
 use Rattle.sl_trace.specs.Traces.{Submitted, Trace, is_write, new_call, record_of}
 use Rattle.sl_trace.specs.declared.effects.Call.{Call}
 use Rattle.sl_trace.specs.declared.effects.JoinStep.TheVariants.{ClaimWrite, DecidingRead, FirstRead, FirstRenewal, VerifyRead, WatchRead}

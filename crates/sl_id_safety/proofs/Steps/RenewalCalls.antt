@@ -20,7 +20,7 @@ use Rattle.sl_run.specs.declared.header.Header.{Header}
 use Rattle.sl_run_law.proofs.Sample.Numbering.{newest_number, number_stays}
 use Rattle.sl_run_law.specs.Sample.Samples.{numbered_landing}
 use Rattle.sl_trace_law.proofs.Sessions.Making.{old_stays, same_answered}
-use Rattle.sl_sessions.specs.Sessions.{calls_of, is_delta_purpose, is_join_call, is_renewal, is_survey_purpose}
+use Rattle.sl_trace.specs.Sessions.{calls_of, is_delta_purpose, is_join_call, is_renewal, is_survey_purpose}
 use Rattle.sl_trace.specs.Traces.{Answered, Submitted, Trace, answer_of, answered_in, is_write, mark, same_place, submitted}
 use Rattle.sl_trace.specs.declared.effects.Entry.{Entry}
 use Rattle.sl_trace.specs.declared.effects.JoinStep.TheVariants.{ClaimWrite, FirstRenewal}

@@ -17,9 +17,9 @@ use Rattle.sl_id_safety.proofs.Steps.Renewals.{CountedRenew, lawful_on, since_in
 use Rattle.sl_id_safety.proofs.Steps.Standing.{index_stays}
 use Rattle.sl_id_safety.specs.Steps.Parts.{between}
 use Rattle.sl_run_law.proofs.Landing.Proven.{landings_are_written}
-use Rattle.sl_law.proofs.LawFacts.{orderly-front}
-use Rattle.sl_law.specs.Lawful.{Orderly}
-use Rattle.sl_law.specs.LawfulParting.{MayPart}
+use Rattle.sl_run.proofs.LawFacts.{orderly-front}
+use Rattle.sl_run.specs.Lawful.{Orderly}
+use Rattle.sl_run.specs.LawfulParting.{MayPart}
 use Rattle.sl_plain.proofs.Lists.{find_fails, find_inside, got_inside}
 use Rattle.sl_run.specs.Runs.{Happening}
 use Rattle.sl_run.specs.Safety.{Found, SessionId, free_landed, has_write_in_flight, is_over, trace_of, world_at}
@@ -28,10 +28,10 @@ use Rattle.sl_run.specs.declared.header.Header.{Header}
 use Rattle.sl_run_law.specs.Sample.Samples.{numbered_landing}
 use Rattle.sl_trace_law.proofs.Sessions.Making.{WasOpen, old_or_new, was_marked}
 use Rattle.sl_trace_law.specs.Sessions.Promises.{IsSession}
-use Rattle.sl_sessions.specs.Sessions.{calls_of, ended_after, free_write, is_free_purpose, is_joined, joined_after, recovery_of, refused_after, removed_after, removed_in, renewed_by, renewing, sessions, shows_other}
-use Rattle.sl_sessions.specs.declared.session.Begun.{Begun}
-use Rattle.sl_sessions.specs.declared.session.Renewing.{Renewing}
-use Rattle.sl_sessions.specs.declared.session.Session.{Session}
+use Rattle.sl_trace.specs.Sessions.{calls_of, ended_after, free_write, is_free_purpose, is_joined, joined_after, recovery_of, refused_after, removed_after, removed_in, renewed_by, renewing, sessions, shows_other}
+use Rattle.sl_trace.specs.declared.session.Begun.{Begun}
+use Rattle.sl_trace.specs.declared.session.Renewing.{Renewing}
+use Rattle.sl_trace.specs.declared.session.Session.{Session}
 use Rattle.sl_time.specs.Times.{fail}
 use Rattle.sl_trace.specs.Traces.{Setting, Submitted, Trace, mark, submitted}
 use Rattle.sl_trace.specs.Connections.{unregisters}

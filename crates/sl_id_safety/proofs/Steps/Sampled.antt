@@ -11,7 +11,7 @@ use Rattle.sl_run.specs.Safety.{Found, SessionId, free_landed, has_write_in_flig
 use Rattle.sl_run.specs.Worlds.{Course, Sampling, World, history_of, is_landed, is_write_course, may_land}
 use Rattle.sl_run_law.proofs.Coursing.{changed_if}
 use Rattle.sl_run_law.specs.Sample.Samples.{numbered_landing}
-use Rattle.sl_sessions.specs.Sessions.{calls_of, ended_after, free_write, is_join_call, joined_after, refused_after}
+use Rattle.sl_trace.specs.Sessions.{calls_of, ended_after, free_write, is_join_call, joined_after, refused_after}
 use Rattle.sl_trace.specs.Traces.{Submitted}
 use Rattle.sl_trace.specs.declared.effects.JoinStep.TheVariants.{ClaimWrite, DecidingRead, VerifyRead}
 use Rattle.sl_trace.specs.declared.effects.JoinStep.{JoinStep}

@@ -38,7 +38,7 @@ use Rattle.sl_run.specs.declared.event.Event.{Event}
 use Rattle.sl_run.specs.declared.header.Header.{Header}
 use Rattle.sl_run_law.specs.Fates.{AreDistinct, EachDistinct}
 use Rattle.sl_run_law.proofs.Sample.Proven.{sampled_are_sectors}
-use Rattle.sl_sessions.specs.Sessions.{is_join_call}
+use Rattle.sl_trace.specs.Sessions.{is_join_call}
 use Rattle.sl_trace.specs.declared.effects.JoinStep.TheVariants.{DecidingRead, VerifyRead}
 use Rattle.sl_trace.specs.declared.effects.JoinStep.{JoinStep}
 use Rattle.std.proofs.Common.{ap, inl, inr, refl, subst, sym, ◌∙◌}

@@ -15,7 +15,7 @@ use Rattle.sl_run.specs.Safety.{Found, SessionId}
 use Rattle.sl_run.specs.Worlds.{Fate, Landing, World, first_landing, history_of, landed_at}
 use Rattle.sl_run_law.proofs.Sample.Numbering.{newest_number, number_below, number_stays}
 use Rattle.sl_run_law.specs.Sample.Samples.{numbered_landing}
-use Rattle.sl_sessions.specs.Sessions.{given_number}
+use Rattle.sl_trace.specs.Sessions.{given_number}
 use Rattle.sl_words.proofs.CaseLaws.{none_some, one_value, true_is_false}
 use Rattle.sl_words.proofs.WordLaws.{and_true, some_is_true}
 use Rattle.sl_words.specs.Words.{greatest, some_is}

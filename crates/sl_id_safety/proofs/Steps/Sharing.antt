@@ -28,7 +28,7 @@ use Rattle.sl_run_law.specs.Sample.Samples.{IsSampleOf, numbered_landing, sector
 use Rattle.sl_sector.specs.Spelling.{delta_in}
 use Rattle.sl_sector.specs.declared.sector.DeltaRec.{DeltaRec}
 use Rattle.sl_sector.specs.declared.sector.Rec.TheVariants.{DeltaIs}
-use Rattle.sl_sessions.specs.Sessions.{sessions}
+use Rattle.sl_trace.specs.Sessions.{sessions}
 use Rattle.sl_trace.specs.Traces.{same_place}
 use Rattle.sl_trace.specs.declared.effects.JoinStep.TheVariants.{DecidingRead, FirstRead}
 use Rattle.sl_words.proofs.WordLaws.{and_true, or_true}

@@ -21,7 +21,7 @@ use Rattle.sl_run.specs.Runs.{Happening}
 use Rattle.sl_run.specs.Safety.{Found, SessionId, is_course_of, is_over, trace_of, world_at}
 use Rattle.sl_run.specs.Worlds.{Course, In_flight, Landing, Program, Sampling, World, first_landing, history_of, is_in_flight, is_landed, landed_at, machine_at}
 use Rattle.sl_run.specs.declared.header.Header.{Header}
-use Rattle.sl_sessions.specs.Sessions.{calls_of, free_write, given_number, is_join_call, joined_after, refused_after, removed_after, stage_in}
+use Rattle.sl_trace.specs.Sessions.{calls_of, free_write, given_number, is_join_call, joined_after, refused_after, removed_after, stage_in}
 use Rattle.sl_trace.specs.Traces.{Trace, same_place}
 use Rattle.sl_trace.specs.declared.effects.JoinStep.TheVariants.{ClaimWrite, DecidingRead}
 use Rattle.sl_words.proofs.CaseLaws.{is_false, one_value, true_is_false}

@@ -21,7 +21,7 @@ use Rattle.sl_run_law.proofs.Walking.{Asked, each_first}
 use Rattle.sl_run_law.specs.Fates.{Every}
 use Rattle.sl_run_law.specs.Machines.{EachMachine}
 use Rattle.sl_trace_law.proofs.Sessions.Owning.{session_more}
-use Rattle.sl_sessions.specs.Sessions.{session_numbered}
+use Rattle.sl_trace.specs.Sessions.{session_numbered}
 use Rattle.sl_trace.specs.declared.effects.Call.{Call}
 use Rattle.sl_trace.specs.declared.effects.Effects.{Effects}
 use Rattle.sl_trace.specs.declared.input.Input.TheVariants.{Answer as Told, Exit, Line, Number, Spawned, Wake}

@@ -10,8 +10,8 @@ use Rattle.sl_run.specs.Safety.{Found, SessionId, is_course_of, session_of_world
 use Rattle.sl_run.specs.Worlds.{Daemon, Landing, Machine, World, daemon_numbered, daemons_on, history_of, machine_at}
 use Rattle.sl_run_law.specs.Fates.{Every}
 use Rattle.sl_run_law.specs.Machines.{EachMachine}
-use Rattle.sl_sessions.specs.Sessions.{given_session, session_numbered, sessions}
-use Rattle.sl_sessions.specs.declared.session.Session.{Session}
+use Rattle.sl_trace.specs.Sessions.{given_session, session_numbered, sessions}
+use Rattle.sl_trace.specs.declared.session.Session.{Session}
 use Rattle.sl_run_law.proofs.Watchdog.Stepping.{number_below}
 use Rattle.sl_words.proofs.CaseLaws.{none_some, true_is_false}
 use Rattle.sl_trace.specs.declared.input.Given.{Given}

@@ -5,18 +5,18 @@ use Rattle.sl_id_safety.proofs.State.Living.{InPlace, in_place, is_joining}
 use Rattle.sl_id_safety.proofs.State.Tails.{IsLater, IsMadeAfter, all_made, front_at}
 use Rattle.sl_id_safety.proofs.Steps.Frees.{is_standing, joining_stage}
 use Rattle.sl_id_safety.proofs.Steps.RenewalCalls.{contains_filtered}
-use Rattle.sl_law.specs.Lawful.{Orderly}
-use Rattle.sl_law.specs.LawfulDelta.{LawfulDeltaCall}
+use Rattle.sl_run.specs.Lawful.{Orderly}
+use Rattle.sl_run.specs.LawfulDelta.{LawfulDeltaCall}
 use Rattle.sl_run_law.proofs.Place.Finding.{partner}
 use Rattle.sl_plain.proofs.Lists.{contains_cases, contains_none, find_fails, find_inside}
 use Rattle.sl_trace_law.proofs.Sessions.Parting.{not_removed}
 use Rattle.sl_trace_law.proofs.Sessions.Silence.{stage_by}
 use Rattle.sl_trace_law.proofs.Sessions.Staying.{refused_apart, refused_more}
 use Rattle.sl_trace_law.specs.Sessions.Promises.{IsSession, all_done, fits, fits_as, has_reply}
-use Rattle.sl_sessions.specs.Sessions.{calls_of, ended_after, free_write, is_free_purpose, is_renewal, joined_after, open_calls_of, refused_after, removed_after, stage_in, stage_of}
-use Rattle.sl_sessions.specs.declared.session.Session.{Session}
-use Rattle.sl_sessions.specs.declared.stage.Stage.TheVariants.{Standing}
-use Rattle.sl_sessions.specs.declared.stage.Stage.{Stage}
+use Rattle.sl_trace.specs.Sessions.{calls_of, ended_after, free_write, is_free_purpose, is_renewal, joined_after, open_calls_of, refused_after, removed_after, stage_in, stage_of}
+use Rattle.sl_trace.specs.declared.session.Session.{Session}
+use Rattle.sl_trace.specs.declared.stage.Stage.TheVariants.{Standing}
+use Rattle.sl_trace.specs.declared.stage.Stage.{Stage}
 use Rattle.sl_trace.specs.Traces.{Answered, Setting, Submitted, Trace, is_write, new_call}
 use Rattle.sl_trace.specs.declared.effects.Entry.{Entry}
 use Rattle.sl_trace.specs.declared.effects.JoinStep.TheVariants.{FirstRenewal}

@@ -24,7 +24,7 @@ use Rattle.sl_run.specs.Runs.{Happening}
 use Rattle.sl_run.specs.Safety.{Found, LawfulRun, SessionId, is_over, session_of_world, trace_of, world_at}
 use Rattle.sl_run.specs.Worlds.{Course, Program, Sampling, World, history_of, is_landed, landed_at}
 use Rattle.sl_run.specs.declared.header.Header.{Header}
-use Rattle.sl_sessions.specs.Sessions.{joined_after}
+use Rattle.sl_trace.specs.Sessions.{joined_after}
 use Rattle.sl_trace.specs.declared.effects.JoinStep.TheVariants.{ClaimWrite, VerifyRead}
 use Rattle.sl_run_law.specs.Watchdog.Acting.{acting_stamp}
 use Rattle.sl_words.proofs.CaseLaws.{none_some}

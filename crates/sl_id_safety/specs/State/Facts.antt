@@ -11,7 +11,7 @@ use Rattle.sl_sector.specs.Spelling.{delta_in}
 use Rattle.sl_sector.specs.declared.sector.DeltaRec.{DeltaRec}
 use Rattle.sl_sector.specs.declared.sector.DeltaState.TheVariants.{Claimed, Free, Live}
 use Rattle.sl_sector.specs.declared.sector.Rec.TheVariants.{DeltaIs}
-use Rattle.sl_sessions.specs.Sessions.{is_free_purpose, is_join_call}
+use Rattle.sl_trace.specs.Sessions.{is_free_purpose, is_join_call}
 use Rattle.sl_time.specs.Times.{dead, join_max, take_over}
 use Rattle.sl_trace.specs.Traces.{record_of}
 use Rattle.sl_trace.specs.declared.effects.JoinStep.TheVariants.{ClaimWrite, DecidingRead, FirstRead, FirstRenewal, VerifyRead}

@@ -6,15 +6,15 @@ use Rattle.sl_quiet.specs.Along.Leading.{ShowsAt, known_then, mode_of, told_call
 use Rattle.sl_quiet.specs.Course.Course.{Same, known_with}
 use Rattle.sl_trace.specs.declared.input.Input.TheVariants.{Answer as Told}
 use Rattle.sl_quiet.proofs.Stay.Staying.{left_alone}
-use Rattle.sl_sessions.specs.Watching.{counts_over, evidence_in, look_of, evidence, sightings}
+use Rattle.sl_trace.specs.Watching.{counts_over, evidence_in, look_of, evidence, sightings}
 use Rattle.sl_words.proofs.WordLaws.{choose_some}
 use Rattle.sl_sector.specs.Spelling.{block_in}
 use Rattle.sl_quiet.proofs.Step.Beginning.{bare_heard}
 use Rattle.sl_quiet.specs.Course.Quietly.{all_whole, NoneShared}
 use Rattle.sl_due.specs.Steps.{Step, seen}
-use Rattle.sl_sessions.specs.declared.sighting.Sighting.{Sighting}
-use Rattle.sl_sessions.specs.declared.session.Session.{Session}
-use Rattle.sl_leases.specs.Leases.{LeaseKnown, is_shared_by_other, spot_of}
+use Rattle.sl_trace.specs.declared.sighting.Sighting.{Sighting}
+use Rattle.sl_trace.specs.declared.session.Session.{Session}
+use Rattle.sl_trace.specs.Leases.{LeaseKnown, is_shared_by_other, spot_of}
 use Rattle.sl_quiet.specs.Step.Leading.{IsBare, heard}
 use Rattle.sl_sector.specs.declared.sector.Rec.TheVariants.{BlockIs, DeltaIs, LeaderIs, RequestIs, ValueIs}
 use Rattle.sl_sector.specs.declared.sector.Block.{Block}
@@ -44,7 +44,7 @@ use Rattle.std.specs.Option.{option_or}
 use Rattle.sl_trace_law.proofs.Sessions.Making.{old_stays}
 use Rattle.sl_plain.proofs.Numbers.{number_itself, at_least_first}
 use Rattle.sl_quiet.proofs.Along.Going.{made_well}
-use Rattle.sl_sessions.specs.Sessions.{is_active, calls_of, generation_of, is_call_of, is_survey_purpose, joined_after}
+use Rattle.sl_trace.specs.Sessions.{is_active, calls_of, generation_of, is_call_of, is_survey_purpose, joined_after}
 use Rattle.sl_run_law.proofs.Front.Going.{fronts_are_lawful}
 use Rattle.sl_words.proofs.CaseLaws.{false_is_true, one_value, is_false, none_some, some_value, true_is_false}
 use Rattle.sl_run_law.proofs.Course.Made.{daemons_are_of_world, last_goes}
@@ -56,9 +56,9 @@ use Rattle.sl_trace.specs.Traces.{Setting, Submitted, Trace, answer_of, answered
 use Rattle.sl_run.specs.declared.header.ResourceLine.{ResourceLine}
 use Rattle.sl_sector.specs.declared.sector.Rec.{Rec}
 use Rattle.sl_trace.specs.declared.effects.Op.TheVariants.{ReadSectors, WriteRecord}
-use Rattle.sl_leases.specs.LeaseWork.{LeasePlace}
+use Rattle.sl_trace.specs.LeaseWork.{LeasePlace}
 use Rattle.sl_run.specs.Safety.{LawfulRun, world_at, block_there}
-use Rattle.sl_law.specs.Lawful.{IsSetting}
+use Rattle.sl_run.specs.Lawful.{IsSetting}
 use Rattle.sl_run_law.specs.Course.Mirrors.{IsOfWorld}
 use Rattle.sl_due.specs.Due.{IsHostTrace}
 use Rattle.sl_quiet.specs.Along.Going.{IsHeard, IsLineOf, IsWellMade}

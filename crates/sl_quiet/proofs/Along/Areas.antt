@@ -6,8 +6,8 @@ use Rattle.sl_area.specs.Layouts.{Layout, Sizes, record_in}
 use Rattle.sl_area.specs.Places.{block_offset, in_area}
 use Rattle.sl_trace_law.proofs.Sessions.Naming.{same_name}
 use Rattle.sl_history.specs.Resources.Promises.{spot_of_line}
-use Rattle.sl_leases.specs.LeaseWork.{LeasePlace}
-use Rattle.sl_leases.specs.Leases.{is_on, spot_of}
+use Rattle.sl_trace.specs.LeaseWork.{LeasePlace}
+use Rattle.sl_trace.specs.Leases.{is_on, spot_of}
 use Rattle.sl_plain.proofs.Lists.{contains_cases, find_inside}
 use Rattle.sl_plain.proofs.Numbers.{at_least_first, refl_le}
 use Rattle.sl_quiet.proofs.Along.Calls.{CallThere, call_there}

@@ -1,12 +1,12 @@
 -- The call at which an acquire is, in its daemon's trace.
-use Rattle.sl_leases.specs.Leases.{is_lease_call, is_on, spot_of}
+use Rattle.sl_trace.specs.Leases.{is_lease_call, is_on, spot_of}
 use Rattle.sl_plain.proofs.Lists.{contains_first, contains_map, kept_inside}
 use Rattle.sl_plain.proofs.Numbers.{number_itself}
 use Rattle.sl_quiet.proofs.Stay.Staying.{left_alone, lease_is_work}
 use Rattle.sl_quiet.specs.Stay.Staying.{IsOfOthers}
 use Rattle.sl_quiet.specs.Along.Along.{Asked, DaemonOnCourse, IsCallAt, Stage}
-use Rattle.sl_law.specs.LawfulArea.{is_area_work}
-use Rattle.sl_sessions.specs.Sessions.{calls_of, is_call_of}
+use Rattle.sl_run.specs.LawfulArea.{is_area_work}
+use Rattle.sl_trace.specs.Sessions.{calls_of, is_call_of}
 use Rattle.sl_trace.specs.Traces.{Setting, Submitted, Trace, answered_in, is_of_job, job_of, mark, submitted}
 use Rattle.sl_trace.specs.declared.effects.Entry.{Entry}
 use Rattle.sl_trace.specs.declared.input.Input.TheVariants.{Answer as Told, Exit, Line, Number, Spawned, Wake}

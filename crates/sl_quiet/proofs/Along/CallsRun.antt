@@ -25,19 +25,19 @@ use Rattle.sl_due_law.proofs.Whole.CallsSuit.{no_lease, work_of}
 use Rattle.sl_due_law.proofs.Whole.TracesHold.{traces_hold}
 use Rattle.sl_due_law.specs.Facts.Whole.{Whole}
 use Rattle.sl_due_law.specs.Whole.Kept.{Kept}
-use Rattle.sl_law.specs.Lawful.{IsSetting}
-use Rattle.sl_leases.specs.Jobs.{job_of_start}
-use Rattle.sl_leases.specs.LeaseWork.{convert_next, lease_place, release_next, settle_next}
-use Rattle.sl_leases.specs.Leases.{known, spot_of, spot_of_call}
-use Rattle.sl_leases.specs.declared.lease.LeaseNext.TheVariants.{AnswerJob, BecomeExclusive, BecomeShared, GrantJob, Nothing as No_lease, ReadFor, WriteBlock, WriteLeader}
-use Rattle.sl_leases.specs.declared.lease.LeaseNext.{LeaseNext}
+use Rattle.sl_run.specs.Lawful.{IsSetting}
+use Rattle.sl_trace.specs.Jobs.{job_of_start}
+use Rattle.sl_trace.specs.LeaseWork.{convert_next, lease_place, release_next, settle_next}
+use Rattle.sl_trace.specs.Leases.{known, spot_of, spot_of_call}
+use Rattle.sl_trace.specs.declared.lease.LeaseNext.TheVariants.{AnswerJob, BecomeExclusive, BecomeShared, GrantJob, Nothing as No_lease, ReadFor, WriteBlock, WriteLeader}
+use Rattle.sl_trace.specs.declared.lease.LeaseNext.{LeaseNext}
 use Rattle.sl_plain.proofs.Lists.{contains_none, head_is}
 use Rattle.sl_plain.proofs.Options.{some_of}
-use Rattle.sl_sessions.specs.Deltas.{delta_known, delta_of_session, next_after_free, next_after_renewal, next_free, next_in_joining, next_on_wake, next_renewal}
-use Rattle.sl_sessions.specs.Sessions.{calls_of, generation_of, recovery_of}
-use Rattle.sl_sessions.specs.declared.delta.DeltaNext.TheVariants.{Disconnect, EndLeaving, Join, MoveConnection, Nothing, ReadOwn, RefuseJoin, RegisterAndRead, WriteClaim, WriteFirst, WriteFree, WriteRenewal}
-use Rattle.sl_sessions.specs.declared.delta.DeltaNext.{DeltaNext}
-use Rattle.sl_sessions.specs.declared.session.Session.{Session}
+use Rattle.sl_trace.specs.Deltas.{delta_known, delta_of_session, next_after_free, next_after_renewal, next_free, next_in_joining, next_on_wake, next_renewal}
+use Rattle.sl_trace.specs.Sessions.{calls_of, generation_of, recovery_of}
+use Rattle.sl_trace.specs.declared.delta.DeltaNext.TheVariants.{Disconnect, EndLeaving, Join, MoveConnection, Nothing, ReadOwn, RefuseJoin, RegisterAndRead, WriteClaim, WriteFirst, WriteFree, WriteRenewal}
+use Rattle.sl_trace.specs.declared.delta.DeltaNext.{DeltaNext}
+use Rattle.sl_trace.specs.declared.session.Session.{Session}
 use Rattle.sl_trace.specs.Traces.{Replied, Setting, Trace, end_of, is_running, job_numbered, job_of, next_call, next_job, reply_in, reply_to, spot_of_grant}
 use Rattle.sl_trace.specs.declared.command.Command.TheVariants.{Acquire, AddLockspace, Convert, GetLvb, HostStatus, InqLockspace, Release, ReleaseOrphan, RemLockspace, Request, RunProgram, SetKillpath, SetLvb, Status, TakeOver}
 use Rattle.sl_trace.specs.declared.command.Command.{Command}

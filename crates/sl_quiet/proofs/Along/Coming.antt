@@ -1,8 +1,8 @@
 -- From an answer a quiet acquire comes to its next stage.
-use Rattle.sl_leases.specs.LeaseWork.{LeasePlace}
+use Rattle.sl_trace.specs.LeaseWork.{LeasePlace}
 use Rattle.sl_run.specs.Events.{with_entry}
 use Rattle.sl_quiet.proofs.Along.Hearing.{told_is}
-use Rattle.sl_leases.specs.Leases.{spot_of, verified_by, name_sought, is_leader_of}
+use Rattle.sl_trace.specs.Leases.{spot_of, verified_by, name_sought, is_leader_of}
 use Rattle.sl_sector.proofs.PublicLaws.{spelled_is_read}
 use Rattle.std.proofs.lemmas.Option.{slice_get_within}
 use Rattle.sl_run_law.proofs.Place.Seats.{sized_in}

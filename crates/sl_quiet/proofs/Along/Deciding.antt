@@ -1,28 +1,28 @@
 -- What the lease of a quiet acquire decides at each answer.
 use Rattle.sl_words.proofs.CaseLaws.{none_some, some_value}
 use Rattle.sl_quiet.proofs.Along.Leading.{NotFirst, name_more, unnamed}
-use Rattle.sl_leases.specs.declared.lease.LeaseNext.{LeaseNext}
+use Rattle.sl_trace.specs.declared.lease.LeaseNext.{LeaseNext}
 use Rattle.sl_trace.specs.declared.effects.Purpose.TheVariants.{Lease}
-use Rattle.sl_leases.specs.declared.lease.LeaseNext.TheVariants.{GrantJob, ReadFor, WriteBlock, WriteLeader}
+use Rattle.sl_trace.specs.declared.lease.LeaseNext.TheVariants.{GrantJob, ReadFor, WriteBlock, WriteLeader}
 use Rattle.sl_trace.specs.declared.input.Input.TheVariants.{Answer as Told}
 use Rattle.sl_due.specs.Steps.{seen}
 use Rattle.sl_words.specs.Bounds.{record_numbers}
 use Rattle.std.specs.Option.{option_map_or, option_or}
 use Rattle.sl_plain.proofs.Numbers.{number_itself}
-use Rattle.sl_leases.specs.Ballots.{in_instance, next_mbal}
+use Rattle.sl_trace.specs.Ballots.{in_instance, next_mbal}
 use Rattle.sl_quiet.proofs.Along.Hearing.{heard_facts, same_then, told_is}
 use Rattle.sl_quiet.specs.Step.Leading.{heard}
 use Rattle.sl_quiet.proofs.Course.Decisions.{first_of, quiet_decisions}
 use Rattle.sl_quiet.proofs.Course.Known.{course_decisions}
-use Rattle.sl_leases.specs.Leases.{block_of_record, block_submitted, is_leader_of, known, leader_of_record, lver_written, own_or_read, spot_of, LeaseKnown, name_sought, verified_by, verified_name}
+use Rattle.sl_trace.specs.Leases.{block_of_record, block_submitted, is_leader_of, known, leader_of_record, lver_written, own_or_read, spot_of, LeaseKnown, name_sought, verified_by, verified_name}
 use Rattle.sl_quiet.proofs.Step.Beginning.{bare_heard}
 use Rattle.sl_trace.specs.declared.effects.Op.TheVariants.{ReadSectors, WriteRecord}
 use Rattle.sl_trace.specs.declared.effects.LeaseStep.TheVariants.{ReadArea, FreeLeader, Phase1Read, Phase2Read, SetMode, TakeLeader}
 use Rattle.sl_trace.specs.declared.input.Answer.TheVariants.{Read, Written}
 use Rattle.std.specs.Prelude.{List, None, Option, Some, false, map, option_and_then, true, ◌<◌, ◌++◌, ◌+◌, ◌≡◌, ◌∷◌, [], ℕ, Bool, ◌⊎◌}
-use Rattle.sl_leases.specs.LeaseWork.{LeasePlace, lease_next, lease_place, leader_for}
+use Rattle.sl_trace.specs.LeaseWork.{LeasePlace, lease_next, lease_place, leader_for}
 use Rattle.sl_sector.specs.declared.sector.Leader.{Leader}
-use Rattle.sl_law.specs.Lawful.{IsSetting}
+use Rattle.sl_run.specs.Lawful.{IsSetting}
 use Rattle.sl_due.specs.Due.{IsHostTrace}
 use Rattle.sl_quiet.specs.Course.Quietly.{IsFirstOf, all_whole, NoneShared}
 use Rattle.sl_trace.specs.declared.effects.Work.TheVariants.{ForJob}
@@ -34,7 +34,7 @@ use Rattle.sl_quiet.specs.Course.Course.{Begins, ReadCall, Same, known_with}
 use Rattle.sl_trace.specs.Traces.{Answered, Setting, Submitted, Trace, answer_of, answered_in, bytes_given, record_of, gave}
 use Rattle.sl_trace.specs.declared.input.Answer.{Answer}
 use Rattle.sl_quiet.specs.Along.Along.{AllDone, Asked, DaemonOnCourse, IsAskedOf, IsCallAt, Reads_area, Stage, Writes_first, first_of_asked, step_at, Frees_leader, Reads_first, Reads_second, Sets_mode, Takes_leader, Writes_second, leader_of_asked, op_at, second_of_asked, stage_next, stages_before, third_of_asked}
-use Rattle.sl_leases.specs.declared.lease.Aim.TheVariants.{Acquires}
+use Rattle.sl_trace.specs.declared.lease.Aim.TheVariants.{Acquires}
 use Rattle.sl_quiet.specs.Along.Leading.{CourseDecides, ShowsAt, decided_then, decision_at, known_then, mode_of, told_call}
 use Rattle.std.proofs.Common.{ap, ap₂, inl, inr, refl, subst, sym, ◌∙◌}
 

@@ -1,7 +1,7 @@
 -- A quiet event leaves an acquire at its call, or answers it.
-use Rattle.sl_law.specs.Lawful.{IsSetting}
+use Rattle.sl_run.specs.Lawful.{IsSetting}
 use Rattle.sl_due.specs.Due.{IsHostTrace}
-use Rattle.sl_leases.specs.Leases.{spot_of}
+use Rattle.sl_trace.specs.Leases.{spot_of}
 use Rattle.sl_plain.proofs.Lists.{got_inside}
 use Rattle.sl_plain.proofs.Options.{mapped_value, then_value}
 use Rattle.sl_plain.proofs.Numbers.{number_itself}

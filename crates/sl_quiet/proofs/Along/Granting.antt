@@ -9,10 +9,10 @@ use Rattle.sl_run.specs.Quiet.{calls_needed, job_calls}
 use Rattle.std.proofs.Common.{ap, arith, refl, subst, sym, ◌∙◌}
 use Rattle.sl_run.specs.Worlds.{World, reading_now}
 use Rattle.sl_trace.specs.declared.reply.Reply.{Reply}
-use Rattle.sl_law.specs.Lawful.{IsSetting}
+use Rattle.sl_run.specs.Lawful.{IsSetting}
 use Rattle.sl_due.specs.Due.{IsHostTrace}
 use Rattle.sl_trace.specs.declared.reply.Reply.TheVariants.{Granted}
-use Rattle.sl_leases.specs.declared.lease.LeaseNext.TheVariants.{GrantJob}
+use Rattle.sl_trace.specs.declared.lease.LeaseNext.TheVariants.{GrantJob}
 use Rattle.sl_trace.specs.declared.effects.Entry.{Entry}
 use Rattle.std.specs.Prelude.{Bool, Contains, IsSome, IsSomeAnd, List, None, Option, Some, false, find, is_none, length, true, ◌+◌, ◌∷◌, ◌≤◌, ◌++◌, ◌≡◌, suc, ℕ, []}
 use Rattle.sl_trace.specs.Traces.{Answered, Replied, Setting, Submitted, Trace, answer_of, answered_in, is_of_job, reply_in, reply_to, waiting_call, outstanding, submitted}

@@ -3,7 +3,7 @@ use Rattle.sl_due_law.specs.Facts.WorkFacts.{IsAtWork}
 use Rattle.sl_trace.specs.declared.command.Command.TheVariants.{Acquire}
 use Rattle.sl_trace.specs.Connections.{unregisters}
 use Rattle.sl_due_law.specs.Causes.LineCauses.{IsBeforeInput}
-use Rattle.sl_leases.specs.declared.lease.Aim.TheVariants.{Acquires}
+use Rattle.sl_trace.specs.declared.lease.Aim.TheVariants.{Acquires}
 use Rattle.sl_trace.specs.declared.effects.Mode.TheVariants.{Shared, Exclusive}
 use Rattle.sl_trace.specs.declared.effects.Work.TheVariants.{ForJob}
 use Rattle.sl_due_law.specs.Facts.Whole.{Facts}
@@ -19,10 +19,10 @@ use Rattle.sl_due.specs.Steps.{Step, begin_step, seen}
 use Rattle.sl_due_law.proofs.Causes.HeadsAreEarly.{heads_are_early}
 use Rattle.sl_due_law.proofs.Jobs.SessionsArePresent.{joined_present}
 use Rattle.sl_due_law.proofs.Whole.TracesHold.{traces_hold}
-use Rattle.sl_law.specs.Lawful.{IsSetting}
-use Rattle.sl_leases.specs.Jobs.{aim_of, command_numbered, command_of, aim_of_command}
-use Rattle.sl_leases.specs.LeaseWork.{lease_place, LeasePlace}
-use Rattle.sl_leases.specs.Leases.{holdings_on, is_lease_call, is_on, known, known_of, lease_calls, spot_of, spot_of_call, lease_step, LeaseKnown}
+use Rattle.sl_run.specs.Lawful.{IsSetting}
+use Rattle.sl_trace.specs.Jobs.{aim_of, command_numbered, command_of, aim_of_command}
+use Rattle.sl_trace.specs.LeaseWork.{lease_place, LeasePlace}
+use Rattle.sl_trace.specs.Leases.{holdings_on, is_lease_call, is_on, known, known_of, lease_calls, spot_of, spot_of_call, lease_step, LeaseKnown}
 use Rattle.sl_plain.proofs.Lists.{contains_first, contains_more, kept_inside, got_inside}
 use Rattle.sl_quiet.proofs.Along.Calls.{CallThere, call_there}
 use Rattle.sl_quiet.proofs.Along.Timely.{joined_there}
@@ -35,9 +35,9 @@ use Rattle.sl_quiet.specs.Along.Leading.{mode_of, told_call}
 use Rattle.sl_quiet.specs.Course.Course.{Same, known_with}
 use Rattle.sl_quiet.specs.Step.Leading.{Answers, IsBare, WasThere, heard}
 use Rattle.sl_run_law.proofs.Course.Pairing.{filter_changed}
-use Rattle.sl_sessions.specs.Sessions.{calls_of, is_call_of, me, session_numbered, sessions, begun_in, last_delta, delta_of_record, generation_in, is_join_call, delta_written, given_number, is_joined, holdings_of}
-use Rattle.sl_sessions.specs.Watching.{counts_over}
-use Rattle.sl_sessions.specs.declared.session.Session.{Session}
+use Rattle.sl_trace.specs.Sessions.{calls_of, is_call_of, me, session_numbered, sessions, begun_in, last_delta, delta_of_record, generation_in, is_join_call, delta_written, given_number, is_joined, holdings_of}
+use Rattle.sl_trace.specs.Watching.{counts_over}
+use Rattle.sl_trace.specs.declared.session.Session.{Session}
 use Rattle.sl_trace.specs.Traces.{Answered, Setting, Submitted, Trace, answered_in, call_numbered, holdings, is_ended_by, new_call, submitted, answer_of, is_answered_ok, Job, record_of, is_ok_answer, jobs, is_shared, same_place}
 use Rattle.sl_trace.specs.declared.effects.Call.{Call}
 use Rattle.sl_trace.specs.declared.effects.Effects.{Effects}

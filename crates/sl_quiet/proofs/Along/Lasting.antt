@@ -4,8 +4,8 @@ use Rattle.sl_due_law.proofs.Causes.CauseFactsHold.{entry_stays}
 use Rattle.sl_due_law.proofs.Jobs.JobsAreNumbered.{command_stays}
 use Rattle.sl_due_law.proofs.Whole.AcquiresKeep.{acquires_keep_to_theirs}
 use Rattle.sl_due_law.specs.Jobs.Acquires.{AcquireFacts}
-use Rattle.sl_law.specs.Lawful.{IsSetting}
-use Rattle.sl_leases.specs.Jobs.{command_numbered}
+use Rattle.sl_run.specs.Lawful.{IsSetting}
+use Rattle.sl_trace.specs.Jobs.{command_numbered}
 use Rattle.sl_quiet.proofs.Along.CallsRun.{new_calls_run}
 use Rattle.sl_quiet.proofs.Along.Going.{made_well}
 use Rattle.sl_quiet.proofs.Along.Others.{job_calls_are, new_inside}
@@ -20,7 +20,7 @@ use Rattle.sl_run.specs.Safety.{world_at}
 use Rattle.sl_run.specs.Worlds.{Daemon, Stamp, World, reading_now}
 use Rattle.sl_run_law.proofs.Course.Distinct.{map_length}
 use Rattle.sl_run_law.proofs.Course.Pairing.{filter_changed}
-use Rattle.sl_sessions.specs.declared.session.Session.{Session}
+use Rattle.sl_trace.specs.declared.session.Session.{Session}
 use Rattle.sl_trace.specs.Traces.{Answered, Replied, Setting, Submitted, Trace, answered_in, is_of_job, job_of, mark, new_call, reply_in, reply_to, submitted}
 use Rattle.sl_trace.specs.declared.command.Command.TheVariants.{Acquire}
 use Rattle.sl_trace.specs.declared.effects.Call.{Call}

@@ -13,7 +13,7 @@ use Rattle.sl_quiet.proofs.Along.Calls.{of_the_job, call_there}
 use Rattle.sl_plain.proofs.Numbers.{number_itself}
 use Rattle.sl_quiet.proofs.Along.Others.{new_inside}
 use Rattle.sl_run.specs.Quiet.{job_calls}
-use Rattle.sl_sessions.specs.Sessions.{is_call_of, joined_after, me, removed_after, session_numbered}
+use Rattle.sl_trace.specs.Sessions.{is_call_of, joined_after, me, removed_after, session_numbered}
 use Rattle.sl_safety.proofs.Ballot.ReasonNames.{generation_stays}
 use Rattle.sl_run_law.proofs.Course.Pairing.{filter_changed}
 use Rattle.sl_due_law.proofs.Jobs.JobsAreNumbered.{command_stays, found_after}
@@ -27,8 +27,8 @@ use Rattle.sl_trace.specs.declared.input.Input.TheVariants.{Answer as Told}
 use Rattle.sl_words.specs.Words.{choose, some_is}
 use Rattle.std.proofs.lemmas.Bool.{eqb-true}
 use Rattle.sl_quiet.proofs.Denied.NoCause.{nothing_is_caused}
-use Rattle.sl_leases.specs.LeaseWork.{lease_next, lease_place, LeasePlace}
-use Rattle.sl_leases.specs.Leases.{is_leader_of, known, lease_step, lver_written, name_sought, spot_of, spot_of_call, verified_by, is_lease_call, is_on, lease_calls, verified_name}
+use Rattle.sl_trace.specs.LeaseWork.{lease_next, lease_place, LeasePlace}
+use Rattle.sl_trace.specs.Leases.{is_leader_of, known, lease_step, lver_written, name_sought, spot_of, spot_of_call, verified_by, is_lease_call, is_on, lease_calls, verified_name}
 use Rattle.sl_words.proofs.CaseLaws.{false_is_true, none_some, one_value, some_value, true_is_false}
 use Rattle.sl_due_law.proofs.Due.{due_is_lawful}
 use Rattle.sl_plain.proofs.Lists.{contains_cases, contains_none, find_inside, head_is, tail_is, contains_first, contains_more, filter_both, kept_inside, contains_map}
@@ -37,7 +37,7 @@ use Rattle.sl_area.specs.Places.{block_offset, leader_of, in_area}
 use Rattle.sl_quiet.proofs.Step.Beginning.{bare_heard}
 use Rattle.sl_quiet.proofs.Step.Leading.{answers_lead_on}
 use Rattle.sl_due.specs.Steps.{Step, seen, with_some}
-use Rattle.sl_sessions.specs.declared.session.Session.{Session}
+use Rattle.sl_trace.specs.declared.session.Session.{Session}
 use Rattle.sl_trace.specs.declared.effects.Op.TheVariants.{ReadSectors, WriteRecord}
 use Rattle.sl_trace.specs.declared.effects.Purpose.{Purpose}
 use Rattle.sl_trace.specs.declared.effects.Op.{Op}
@@ -47,7 +47,7 @@ use Rattle.sl_area.specs.Layouts.{Layout, Sizes}
 use Rattle.sl_quiet.proofs.Along.Timely.{JobThere, job_there, joined_there}
 use Rattle.sl_trace.specs.declared.effects.JobReply.{JobReply}
 use Rattle.sl_trace.specs.Traces.{Job, Replied, Setting, Submitted, Trace, is_before_input, is_running, job_numbered, new_call, next_call, reply_to, gave, Answered, answer_of, answered_in, is_answered_ok, is_of_job, is_ok_answer, job_of, mark, reply_in, submitted, is_shared}
-use Rattle.sl_law.specs.Lawful.{IsSetting, Lawful}
+use Rattle.sl_run.specs.Lawful.{IsSetting, Lawful}
 use Rattle.sl_due.specs.Due.{IsHostTrace, due}
 use Rattle.sl_quiet.proofs.Along.Hearing.{HeardFacts, heard_facts, told_is, done_stay, have_answers}
 use Rattle.sl_trace.specs.declared.effects.LeaseStep.TheVariants.{FreeLeader, Phase1Read, Phase1Write, Phase2Read, Phase2Write, SetMode, TakeLeader}
@@ -55,15 +55,15 @@ use Rattle.sl_trace.specs.declared.effects.Work.TheVariants.{ForJob}
 use Rattle.sl_trace.specs.declared.effects.Entry.{Entry}
 use Rattle.sl_trace.specs.declared.effects.Effects.{Effects}
 use Rattle.sl_quiet.specs.Step.Leading.{DoesAs, IsBare, heard, lease_part, led_on}
-use Rattle.sl_law.specs.Caused.{CausedBy, IsCaused}
+use Rattle.sl_run.specs.Caused.{CausedBy, IsCaused}
 use Rattle.sl_trace.specs.declared.effects.Call.{Call}
 use Rattle.std.specs.Prelude.{Bool, Contains, List, None, Option, Some, false, filter, find, fold, is_none, is_some, length, option_and_then, option_map, true, ◌==◌, ◌⊎◌, ◌++◌, ◌∷◌, ◌≡◌, cond, ℕ, map, ◌&&◌, [], IsTrue, bytes_eq, ◌≤◌}
 use Rattle.sl_sector.specs.declared.sector.Rec.TheVariants.{BlockIs, LeaderIs}
 use Rattle.sl_quiet.specs.Along.Along.{Asked, DaemonOnCourse, Frees_leader, IsAskedOf, IsCallAt, Reads_area, Reads_first, Reads_second, Sets_mode, Stage, Takes_leader, Writes_first, Writes_second, first_of_asked, leader_of_asked, second_of_asked, stage_next, stages_before, step_at, third_of_asked, AllDone, offset_at, IsOfMode}
 use Rattle.sl_trace.specs.declared.input.Answer.{Answer}
 use Rattle.std.specs.List.{AllByRecursion}
-use Rattle.sl_leases.specs.declared.lease.Aim.{Aim}
-use Rattle.sl_leases.specs.declared.lease.Aim.TheVariants.{Acquires}
+use Rattle.sl_trace.specs.declared.lease.Aim.{Aim}
+use Rattle.sl_trace.specs.declared.lease.Aim.TheVariants.{Acquires}
 use Rattle.sl_quiet.specs.Along.Leading.{CourseEnds, CourseLeads, Hears, decided_then, decision_at, mode_of, told_call}
 use Rattle.std.proofs.Common.{ap, inl, inr, refl, subst, sym, ◌∙◌}
 

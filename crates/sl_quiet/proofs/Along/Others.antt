@@ -8,11 +8,11 @@ use Rattle.sl_due_law.specs.Facts.Whole.{Facts}
 use Rattle.sl_due_law.specs.Jobs.Acquires.{AcquireFacts}
 use Rattle.sl_due_law.specs.Whole.Kept.{Holds}
 use Rattle.sl_due_law.proofs.Due.{due_is_lawful}
-use Rattle.sl_law.specs.Caused.{AnswersCall, Answering, CausedBy, IsCaused, the_session}
-use Rattle.sl_law.specs.Lawful.{Lawful}
-use Rattle.sl_law.specs.LawfulArea.{is_block_work}
-use Rattle.sl_leases.specs.Jobs.{child_of_job, command_numbered, command_of}
-use Rattle.sl_leases.specs.Leases.{is_block_read, is_lease_call, is_on, lease_calls, spot_of, spot_of_call}
+use Rattle.sl_run.specs.Caused.{AnswersCall, Answering, CausedBy, IsCaused, the_session}
+use Rattle.sl_run.specs.Lawful.{Lawful}
+use Rattle.sl_run.specs.LawfulArea.{is_block_work}
+use Rattle.sl_trace.specs.Jobs.{child_of_job, command_numbered, command_of}
+use Rattle.sl_trace.specs.Leases.{is_block_read, is_lease_call, is_on, lease_calls, spot_of, spot_of_call}
 use Rattle.sl_plain.proofs.Lists.{contains_cases, contains_first, contains_more, contains_none, find_fails, find_inside, got_inside, kept, kept_inside}
 use Rattle.sl_plain.proofs.Numbers.{number_itself}
 use Rattle.sl_plain.proofs.Options.{none_is, some_there, then_value}
@@ -24,8 +24,8 @@ use Rattle.sl_quiet.specs.Denied.Denying.{IsLeftAlone}
 use Rattle.sl_quiet.specs.Stay.Staying.{IsAtWork}
 use Rattle.sl_run.specs.Quiet.{job_calls}
 use Rattle.sl_safety.proofs.Ballot.ReasonNames.{generation_stays}
-use Rattle.sl_sessions.specs.Sessions.{calls_of, is_active, is_call_of, is_joined, joined_after, leaving_job, me, recovery_of, removed_after, session_numbered, sessions}
-use Rattle.sl_sessions.specs.declared.session.Session.{Session}
+use Rattle.sl_trace.specs.Sessions.{calls_of, is_active, is_call_of, is_joined, joined_after, leaving_job, me, recovery_of, removed_after, session_numbered, sessions}
+use Rattle.sl_trace.specs.declared.session.Session.{Session}
 use Rattle.sl_trace.specs.Traces.{Answered, Child, Job, Replied, Setting, Submitted, Trace, is_of_job, is_ok_answer, is_write, child_numbered, children, job_in, job_numbered, job_of, jobs, line_in, mark, new_call, next_job, outstanding, reply_to, submitted, waiting_call}
 use Rattle.sl_trace.specs.declared.command.Command.TheVariants.{Acquire, AddLockspace, RunProgram}
 use Rattle.sl_trace.specs.declared.command.Command.{Command}

@@ -1,5 +1,5 @@
 -- What a later read of the blocks finds.
-use Rattle.sl_leases.specs.Leases.{spot_of}
+use Rattle.sl_trace.specs.Leases.{spot_of}
 use Rattle.sl_plain.proofs.Lists.{contains_cases, contains_none}
 use Rattle.sl_quiet.specs.Along.Along.{AreaOnCourse, AreasShowOwn, Asked, Stage, own_at}
 use Rattle.sl_quiet.specs.Course.Quietly.{StandsAlone, all_whole}

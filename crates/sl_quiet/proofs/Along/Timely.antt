@@ -3,17 +3,17 @@ use Rattle.sl_due.specs.Due.{IsHostTrace}
 use Rattle.sl_due_law.proofs.Causes.NamesBefore.{session_then}
 use Rattle.sl_due_law.proofs.Jobs.JobsAreNumbered.{command_read, command_stays}
 use Rattle.sl_due_law.proofs.Whole.TracesHold.{traces_hold}
-use Rattle.sl_law.specs.Caused.{Answering, the_session}
-use Rattle.sl_law.specs.Lawful.{IsSetting}
-use Rattle.sl_leases.specs.Jobs.{command_of}
+use Rattle.sl_run.specs.Caused.{Answering, the_session}
+use Rattle.sl_run.specs.Lawful.{IsSetting}
+use Rattle.sl_trace.specs.Jobs.{command_of}
 use Rattle.sl_plain.proofs.Lists.{contains_cases, find_fails, find_inside, got_inside, kept, kept_inside}
 use Rattle.sl_plain.proofs.Options.{none_is, then_value}
 use Rattle.sl_quiet.proofs.Along.Calls.{CallThere, call_there, of_the_job}
 use Rattle.sl_quiet.proofs.Along.Others.{has_answer}
 use Rattle.sl_quiet.specs.Along.Along.{Asked, DaemonOnCourse, IsAskedOf, Stage, stages_before}
 use Rattle.sl_quiet.specs.Denied.Denying.{IsTimely}
-use Rattle.sl_sessions.specs.Sessions.{is_active, is_joined, leaving_job, recovery_of, sessions}
-use Rattle.sl_sessions.specs.declared.session.Session.{Session}
+use Rattle.sl_trace.specs.Sessions.{is_active, is_joined, leaving_job, recovery_of, sessions}
+use Rattle.sl_trace.specs.declared.session.Session.{Session}
 use Rattle.sl_trace.specs.Traces.{Job, Setting, Submitted, Trace, is_of_job, job_numbered, jobs, outstanding, submitted, waiting_call}
 use Rattle.sl_trace.specs.declared.command.Command.TheVariants.{Acquire}
 use Rattle.sl_trace.specs.declared.effects.Entry.{Entry}

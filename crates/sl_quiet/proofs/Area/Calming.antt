@@ -22,8 +22,8 @@ use Rattle.sl_words.specs.Words.{some_is}
 use Rattle.std.proofs.lemmas.Bool.{eqb-true}
 use Rattle.sl_due_law.proofs.Whole.TracesHold.{traces_hold}
 use Rattle.sl_history.specs.Resources.Promises.{spot_of_line}
-use Rattle.sl_law.specs.LawfulArea.{is_area_work}
-use Rattle.sl_leases.specs.Leases.{is_on, spot_of_call}
+use Rattle.sl_run.specs.LawfulArea.{is_area_work}
+use Rattle.sl_trace.specs.Leases.{is_on, spot_of_call}
 use Rattle.sl_quiet.proofs.Area.Opening.{open_calls_go_on}
 use Rattle.sl_quiet.proofs.Area.Working.{writes_are_work}
 use Rattle.sl_quiet.specs.Area.Calm.{CalmGoesOn, IsMadeNow, IsWriteFor, OneWriteInFlight, WasOpen}

@@ -3,8 +3,8 @@
 use Rattle.sl_area.specs.Layouts.{Layout}
 use Rattle.sl_area.specs.Places.{delta_offset, in_area}
 use Rattle.sl_history.specs.Resources.Promises.{spot_of_line}
-use Rattle.sl_law.specs.LawfulArea.{is_area_work, is_delta_record}
-use Rattle.sl_leases.specs.Leases.{is_on}
+use Rattle.sl_run.specs.LawfulArea.{is_area_work, is_delta_record}
+use Rattle.sl_trace.specs.Leases.{is_on}
 use Rattle.sl_plain.proofs.Lists.{got_inside}
 use Rattle.sl_quiet.specs.Area.Calm.{IsWriteFor, WritesAreWork}
 use Rattle.sl_run.specs.Safety.{world_at}
@@ -22,8 +22,8 @@ use Rattle.sl_run_law.proofs.Place.Sizes.{IsSized}
 use Rattle.sl_sector.specs.declared.sector.DeltaRec.{DeltaRec}
 use Rattle.sl_sector.specs.declared.sector.Rec.TheVariants.{BlockIs, DeltaIs, LeaderIs, RequestIs, ValueIs}
 use Rattle.sl_sector.specs.declared.sector.Rec.{Rec}
-use Rattle.sl_sessions.specs.Sessions.{delta_of_record, delta_written, session_numbered, sessions}
-use Rattle.sl_sessions.specs.declared.session.Session.{Session}
+use Rattle.sl_trace.specs.Sessions.{delta_of_record, delta_written, session_numbered, sessions}
+use Rattle.sl_trace.specs.declared.session.Session.{Session}
 use Rattle.sl_trace.specs.Traces.{Setting, Submitted, Trace, is_write, record_of}
 use Rattle.sl_trace.specs.declared.effects.Call.{Call}
 use Rattle.sl_trace.specs.declared.effects.Op.TheVariants.{ReadSectors, WriteRecord}

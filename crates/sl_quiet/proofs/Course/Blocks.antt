@@ -1,8 +1,8 @@
 -- Lists of blocks that all spell.
-use Rattle.sl_leases.specs.Ballots.{ballot_blocks, block_ahead, block_rival, greater_bal, in_instance, known_block, stop_among, stop_of, torn_host, value_of, value_to_write, whole_blocks, with_own}
-use Rattle.sl_leases.specs.declared.lease.Stop.TheVariants.{BlockAhead, BlockRival, BlockTorn}
-use Rattle.sl_leases.specs.declared.lease.Stop.{Stop}
-use Rattle.sl_leases.specs.Leases.{top_lver}
+use Rattle.sl_trace.specs.Ballots.{ballot_blocks, block_ahead, block_rival, greater_bal, in_instance, known_block, stop_among, stop_of, torn_host, value_of, value_to_write, whole_blocks, with_own}
+use Rattle.sl_trace.specs.declared.lease.Stop.TheVariants.{BlockAhead, BlockRival, BlockTorn}
+use Rattle.sl_trace.specs.declared.lease.Stop.{Stop}
+use Rattle.sl_trace.specs.Leases.{top_lver}
 use Rattle.sl_quiet.specs.Course.Quietly.{StandsAlone, all_whole}
 use Rattle.sl_sector.specs.declared.sector.Block.{Block}
 use Rattle.sl_sector.specs.declared.sector.Owner.{Owner}

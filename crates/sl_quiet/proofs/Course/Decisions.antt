@@ -1,13 +1,13 @@
 -- The decisions.
 use Rattle.sl_area.specs.Places.{area_blocks, blocks_in}
-use Rattle.sl_leases.specs.Ballots.{in_instance, instance_of, moded_block, next_mbal, owner_of, phase1_block, phase2_block, proposing, same_owner, stop_of, value_of, value_to_write}
-use Rattle.sl_leases.specs.LeaseWork.{LeasePlace, after_phase1, after_phase2, area_next, begin_next, begin_or_refuse, leader_for, lease_next, lost_next, won_next, named_area_next, phase1_next, phase2_next, refuses, unstopped_next, whole_area_next}
-use Rattle.sl_leases.specs.Leases.{LeaseKnown, instance_for, is_leader_of, is_over_owner, is_shared_by_other, mode_gen_of, own_known, shared_elsewhere, top_lver}
-use Rattle.sl_leases.specs.declared.lease.Aim.TheVariants.{Acquires}
-use Rattle.sl_leases.specs.declared.lease.Aim.{Aim}
-use Rattle.sl_leases.specs.declared.lease.Instance.TheVariants.{Begins, HeldAlready}
-use Rattle.sl_leases.specs.declared.lease.LeaseNext.TheVariants.{AnswerJob, Nothing, WriteBlock, WriteLeader}
-use Rattle.sl_leases.specs.declared.lease.LeaseNext.{LeaseNext}
+use Rattle.sl_trace.specs.Ballots.{in_instance, instance_of, moded_block, next_mbal, owner_of, phase1_block, phase2_block, proposing, same_owner, stop_of, value_of, value_to_write}
+use Rattle.sl_trace.specs.LeaseWork.{LeasePlace, after_phase1, after_phase2, area_next, begin_next, begin_or_refuse, leader_for, lease_next, lost_next, won_next, named_area_next, phase1_next, phase2_next, refuses, unstopped_next, whole_area_next}
+use Rattle.sl_trace.specs.Leases.{LeaseKnown, instance_for, is_leader_of, is_over_owner, is_shared_by_other, mode_gen_of, own_known, shared_elsewhere, top_lver}
+use Rattle.sl_trace.specs.declared.lease.Aim.TheVariants.{Acquires}
+use Rattle.sl_trace.specs.declared.lease.Aim.{Aim}
+use Rattle.sl_trace.specs.declared.lease.Instance.TheVariants.{Begins, HeldAlready}
+use Rattle.sl_trace.specs.declared.lease.LeaseNext.TheVariants.{AnswerJob, Nothing, WriteBlock, WriteLeader}
+use Rattle.sl_trace.specs.declared.lease.LeaseNext.{LeaseNext}
 use Rattle.sl_quiet.proofs.Course.Blocks.{ballot_whole, none_torn, only_own, own_value, present_whole, top_least, unstopped}
 use Rattle.sl_quiet.specs.Course.Quietly.{FindsFree, FindsOwn, NoneShared, QuietDecisions, StandsAlone, IsFirstOf, all_whole, quiet_phase1, quiet_phase2}
 use Rattle.sl_sector.specs.declared.sector.Block.{Block}

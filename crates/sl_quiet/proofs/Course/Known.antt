@@ -1,7 +1,7 @@
 -- What is known of the lease with one more call.
 use Rattle.sl_area.specs.Layouts.{Layout}
 use Rattle.sl_area.specs.Places.{area_blocks, blocks_in}
-use Rattle.sl_leases.specs.Leases.{block_of_record, block_submitted, freed, is_area_read, is_phase_read, last_blocks, leader_of_record, lease_step, own_or_read, same_kind, kind_of_step, Area_read, Read_before_free}
+use Rattle.sl_trace.specs.Leases.{block_of_record, block_submitted, freed, is_area_read, is_phase_read, last_blocks, leader_of_record, lease_step, own_or_read, same_kind, kind_of_step, Area_read, Read_before_free}
 use Rattle.sl_quiet.proofs.Course.Decisions.{first_of, quiet_decisions}
 use Rattle.sl_quiet.specs.Course.Course.{Begins, BlockCall, CourseDecisions, LeaderCall, ReadCall, Same, ShowsOwn, known_with, second_block}
 use Rattle.sl_quiet.specs.Course.Quietly.{FindsFree, FindsOwn, all_whole}

@@ -1,10 +1,10 @@
 -- A quiet acquire is not refused, nor answered at another time than its last call's: each cause of a reply is one that it hasn't.
-use Rattle.sl_law.specs.Caused.{AnswersCall, AnswersRead, AnswersWrite, Answering, CausedBy, IsDoneFor, IsExited, IsGrantedFor, IsLimit, ReadsBlocks, after_entry, job_command, the_session}
-use Rattle.sl_leases.specs.Jobs.{child_of_job, command_of, is_command_that, process_named}
+use Rattle.sl_run.specs.Caused.{AnswersCall, AnswersRead, AnswersWrite, Answering, CausedBy, IsDoneFor, IsExited, IsGrantedFor, IsLimit, ReadsBlocks, after_entry, job_command, the_session}
+use Rattle.sl_trace.specs.Jobs.{child_of_job, command_of, is_command_that, process_named}
 use Rattle.sl_quiet.specs.Denied.Denying.{IsLeftAlone, IsTimely, NothingIsCaused}
 use Rattle.sl_sector.specs.declared.sector.Block.{Block}
-use Rattle.sl_sessions.specs.declared.session.Session.{Session}
-use Rattle.sl_sessions.specs.Sessions.{is_active, session_of_job}
+use Rattle.sl_trace.specs.declared.session.Session.{Session}
+use Rattle.sl_trace.specs.Sessions.{is_active, session_of_job}
 use Rattle.sl_trace.specs.Traces.{Submitted, is_before_input, waiting_call}
 use Rattle.sl_trace.specs.declared.command.Command.TheVariants.{Acquire}
 use Rattle.sl_trace.specs.declared.command.Command.{Command}

@@ -7,10 +7,10 @@ use Rattle.sl_due.specs.Steps.{with_input}
 use Rattle.sl_due_law.proofs.Holdings.LeasePlaces.{ids_within}
 use Rattle.sl_due_law.proofs.Holdings.PlainPlaces.{text_is}
 use Rattle.sl_due_law.proofs.Jobs.SessionsArePresent.{present_is, session_has}
-use Rattle.sl_law.specs.Lawful.{IsSetting}
-use Rattle.sl_leases.specs.Ballots.{in_instance, next_mbal}
-use Rattle.sl_leases.specs.LeaseWork.{lease_place}
-use Rattle.sl_leases.specs.Leases.{block_of_host, block_submitted, is_lease_call, is_leader_of, is_on, known, lease_calls, own_or_read, spot_of}
+use Rattle.sl_run.specs.Lawful.{IsSetting}
+use Rattle.sl_trace.specs.Ballots.{in_instance, next_mbal}
+use Rattle.sl_trace.specs.LeaseWork.{lease_place}
+use Rattle.sl_trace.specs.Leases.{block_of_host, block_submitted, is_lease_call, is_leader_of, is_on, known, lease_calls, own_or_read, spot_of}
 use Rattle.sl_plain.proofs.Lists.{contains_cases, contains_first, contains_map, contains_more, contains_none, find_inside, kept, kept_inside}
 use Rattle.sl_quiet.proofs.Along.Going.{made_well}
 use Rattle.sl_quiet.proofs.Area.Calming.{calm_goes_on}
@@ -43,8 +43,8 @@ use Rattle.sl_run_law.specs.Course.Stamping.{stamp_in}
 use Rattle.sl_run_law.specs.Moment.Moments.{Of_landing}
 use Rattle.sl_sector.specs.Spelling.{block_in, leader_in}
 use Rattle.sl_sector.specs.declared.sector.Block.{Block}
-use Rattle.sl_sessions.specs.Sessions.{calls_of, is_call_of, is_joined, leaving_job, me, present_sessions, recovery_of, session_numbered, sessions}
-use Rattle.sl_sessions.specs.declared.session.Session.{Session}
+use Rattle.sl_trace.specs.Sessions.{calls_of, is_call_of, is_joined, leaving_job, me, present_sessions, recovery_of, session_numbered, sessions}
+use Rattle.sl_trace.specs.declared.session.Session.{Session}
 use Rattle.sl_trace.specs.Traces.{Setting, Submitted, Trace, next_job, outstanding, submitted}
 use Rattle.sl_trace.specs.declared.command.Command.TheVariants.{Acquire}
 use Rattle.sl_trace.specs.declared.command.ResourceArg.{ResourceArg}

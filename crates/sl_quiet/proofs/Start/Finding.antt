@@ -8,9 +8,9 @@ use Rattle.sl_due_law.proofs.Jobs.SessionsArePresent.{joined_present, present_in
 use Rattle.sl_due_law.proofs.Whole.TracesHold.{traces_hold}
 use Rattle.sl_due_law.specs.Causes.LineCauses.{IsBeforeInput, stirred_entry}
 use Rattle.sl_due_law.specs.Facts.Whole.{WholeTrace}
-use Rattle.sl_leases.specs.Counts.{held_here, holder_count, limit_met, may_act, resource_count, ungranted}
-use Rattle.sl_leases.specs.Jobs.{is_asking_lease, is_command_that, is_granted_job}
-use Rattle.sl_leases.specs.Leases.{lease_spots, open_on, spot_of}
+use Rattle.sl_trace.specs.Counts.{held_here, holder_count, limit_met, may_act, resource_count, ungranted}
+use Rattle.sl_trace.specs.Jobs.{is_asking_lease, is_command_that, is_granted_job}
+use Rattle.sl_trace.specs.Leases.{lease_spots, open_on, spot_of}
 use Rattle.sl_plain.proofs.Lists.{contains_none, find_fails, find_inside}
 use Rattle.sl_quiet.proofs.Start.Counting.{all_pass, all_same, count_of_fewer, found_before, sum_of_fewer}
 use Rattle.sl_due.specs.DueLease.{read_area}
@@ -20,8 +20,8 @@ use Rattle.sl_run.specs.Worlds.{reading_now}
 use Rattle.sl_trace.specs.declared.effects.LeaseStep.TheVariants.{ReadArea}
 use Rattle.sl_trace.specs.declared.effects.Work.TheVariants.{ForJob}
 use Rattle.sl_quiet.specs.Step.Leading.{AsksQuietly, DoesAs, begun}
-use Rattle.sl_sessions.specs.Sessions.{has_open_write, is_active, is_join_done, is_joined, is_present, joined_after, leaving_job, present_sessions, recovery_of, refused_after, removed_after, session_named, sessions}
-use Rattle.sl_sessions.specs.declared.session.Session.{Session}
+use Rattle.sl_trace.specs.Sessions.{has_open_write, is_active, is_join_done, is_joined, is_present, joined_after, leaving_job, present_sessions, recovery_of, refused_after, removed_after, session_named, sessions}
+use Rattle.sl_trace.specs.declared.session.Session.{Session}
 use Rattle.sl_trace.specs.Connections.{unregisters}
 use Rattle.sl_trace.specs.Limits.{most_holders, most_processes, most_resources}
 use Rattle.sl_trace.specs.Traces.{Child, Job, Replied, Setting, Trace, child_after, children, holdings, is_before_input, is_child, is_ended_by, is_running, jobs, new_child, next_job, reply_in, reply_to, same_place, same_spot}

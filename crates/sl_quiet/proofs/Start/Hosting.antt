@@ -12,10 +12,10 @@ use Rattle.sl_due_law.proofs.Whole.TracesHold.{traces_hold}
 use Rattle.sl_due_law.specs.Causes.LineCauses.{IsBeforeInput}
 use Rattle.sl_due_law.specs.Facts.Whole.{Facts}
 use Rattle.sl_due_law.specs.Jobs.Acquires.{AcquireFacts}
-use Rattle.sl_law.specs.Lawful.{IsSetting, Lawful}
-use Rattle.sl_leases.specs.Jobs.{command_numbered, command_of}
-use Rattle.sl_leases.specs.LeaseWork.{LeasePlace, lease_place}
-use Rattle.sl_leases.specs.Leases.{is_lease_call, is_on, lease_calls, lease_step, spot_of}
+use Rattle.sl_run.specs.Lawful.{IsSetting, Lawful}
+use Rattle.sl_trace.specs.Jobs.{command_numbered, command_of}
+use Rattle.sl_trace.specs.LeaseWork.{LeasePlace, lease_place}
+use Rattle.sl_trace.specs.Leases.{is_lease_call, is_on, lease_calls, lease_step, spot_of}
 use Rattle.sl_plain.proofs.Lists.{contains_first, contains_more, filter_both, kept_inside}
 use Rattle.sl_plain.proofs.Numbers.{number_itself}
 use Rattle.sl_plain.proofs.Options.{some_of, some_there}
@@ -30,8 +30,8 @@ use Rattle.sl_run.specs.Quiet.{job_calls}
 use Rattle.sl_run_law.proofs.Place.Sizes.{IsSized, sized}
 use Rattle.sl_safety.proofs.Ballot.ReasonNames.{generation_stays}
 use Rattle.sl_sector.specs.declared.sector.Owner.{Owner}
-use Rattle.sl_sessions.specs.Sessions.{is_active, is_call_of, is_joined, joined_after, me, removed_after, session_numbered}
-use Rattle.sl_sessions.specs.declared.session.Session.{Session}
+use Rattle.sl_trace.specs.Sessions.{is_active, is_call_of, is_joined, joined_after, me, removed_after, session_numbered}
+use Rattle.sl_trace.specs.declared.session.Session.{Session}
 use Rattle.sl_trace.specs.Traces.{Replied, Setting, Submitted, Trace, is_of_job, is_running, job_numbered, job_of, mark, new_call, next_call, next_job, reply_in, reply_to, submitted}
 use Rattle.sl_trace.specs.declared.command.Command.TheVariants.{Acquire}
 use Rattle.sl_trace.specs.declared.command.Command.{Command}

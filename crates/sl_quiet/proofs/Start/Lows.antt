@@ -4,7 +4,7 @@ use Rattle.sl_history.proofs.Resources.Calls.{block_at_step, leader_at_step, the
 use Rattle.sl_history.specs.Resources.Histories.{history_block, history_leader, no_leader}
 use Rattle.sl_history.specs.Resources.Promises.{history_of_line, spot_of_line}
 use Rattle.sl_history.specs.Resources.Sending.{Sent, all_sent, block_of_course, leader_of_course, sent_at, step_of, writes_leader}
-use Rattle.sl_leases.specs.Leases.{block_of_record, block_submitted, block_written, freed, freed_by, is_lease_call, is_on, known, leader_of_record, leader_written, lease_calls, spot_of}
+use Rattle.sl_trace.specs.Leases.{block_of_record, block_submitted, block_written, freed, freed_by, is_lease_call, is_on, known, leader_of_record, leader_written, lease_calls, spot_of}
 use Rattle.sl_plain.proofs.Lists.{contains_first, contains_more, kept_inside}
 use Rattle.sl_quiet.proofs.Start.Instances.{OkAreLow, blocks_are_low, leaders_are_low, none_is_accepted}
 use Rattle.sl_quiet.proofs.Start.Standing.{block_shown, ok_are_low}
@@ -19,8 +19,8 @@ use Rattle.sl_run_law.specs.Course.Stamping.{IsCourseOf, courses_of}
 use Rattle.sl_safety.proofs.Lawful.{are_lawful, keep_instances}
 use Rattle.sl_sector.specs.declared.sector.Block.{Block}
 use Rattle.sl_sector.specs.declared.sector.Leader.{Leader}
-use Rattle.sl_sessions.specs.Sessions.{calls_of, is_call_of}
-use Rattle.sl_sessions.specs.declared.session.Session.{Session}
+use Rattle.sl_trace.specs.Sessions.{calls_of, is_call_of}
+use Rattle.sl_trace.specs.declared.session.Session.{Session}
 use Rattle.sl_trace.specs.Traces.{Setting, Submitted, Trace, record_of, submitted}
 use Rattle.sl_trace.specs.declared.effects.Call.{Call}
 use Rattle.sl_trace.specs.declared.effects.Spot.{Spot}

@@ -1,7 +1,7 @@
 -- A leader stands on the areas of resources alone.
 use Rattle.sl_area.specs.Layouts.{record_in}
 use Rattle.sl_area.specs.Places.{in_area, is_base, leader_offset}
-use Rattle.sl_law.specs.Lawful.{IsSetting}
+use Rattle.sl_run.specs.Lawful.{IsSetting}
 use Rattle.sl_plain.proofs.Lists.{contains_first}
 use Rattle.sl_quiet.proofs.Along.Going.{made_well}
 use Rattle.sl_quiet.specs.Along.Going.{IsLineOf}

@@ -17,7 +17,7 @@ use Rattle.sl_history.specs.Resources.Orders.{BlockSent, LandedAt}
 use Rattle.sl_history.specs.Resources.Promises.{history_of_line, spot_of_line}
 use Rattle.sl_history.specs.Resources.Sending.{Sent, all_sent, block_of_course, holder_of, sender_of, sent_at, step_of, writes_block}
 use Rattle.sl_id_safety.proofs.Owning.{HasTop, newest_stands}
-use Rattle.sl_leases.specs.Leases.{block_of_record, is_on}
+use Rattle.sl_trace.specs.Leases.{block_of_record, is_on}
 use Rattle.sl_plain.proofs.Lists.{contains_cases, contains_first, kept}
 use Rattle.sl_plain.proofs.Numbers.{number_itself}
 use Rattle.sl_quiet.proofs.Start.Instances.{OkAreLow}

@@ -1,15 +1,15 @@
 -- A lease's calls stay while one of them is unanswered.
 use Rattle.sl_area.specs.Layouts.{Layout}
-use Rattle.sl_law.specs.Lawful.{Lawful}
-use Rattle.sl_law.specs.LawfulArea.{IsLeaseRead, IsRightRead, LawfulLeaseRead, is_area_work, is_block_work, open_block_work}
-use Rattle.sl_law.specs.Saying.{cut_at}
+use Rattle.sl_run.specs.Lawful.{Lawful}
+use Rattle.sl_run.specs.LawfulArea.{IsLeaseRead, IsRightRead, LawfulLeaseRead, is_area_work, is_block_work, open_block_work}
+use Rattle.sl_run.specs.Saying.{cut_at}
 use Rattle.sl_trace_law.proofs.Leases.SpotLaws.{areas_are_apart}
-use Rattle.sl_leases.specs.Leases.{is_block_read, is_lease_call, is_on, lease_calls, lease_step, spot_of_call}
+use Rattle.sl_trace.specs.Leases.{is_block_read, is_lease_call, is_on, lease_calls, lease_step, spot_of_call}
 use Rattle.sl_plain.proofs.Lists.{contains_first, contains_map, contains_more, contains_none, kept, kept_inside, contains_cases}
 use Rattle.sl_quiet.specs.Stay.Staying.{IsAtWork, IsOfOthers, LeasesStay}
 use Rattle.sl_trace_law.proofs.Sessions.Making.{old_stays}
-use Rattle.sl_sessions.specs.declared.session.Session.{Session}
-use Rattle.sl_sessions.specs.Sessions.{calls_of, is_call_of, open_calls_of, session_numbered}
+use Rattle.sl_trace.specs.declared.session.Session.{Session}
+use Rattle.sl_trace.specs.Sessions.{calls_of, is_call_of, open_calls_of, session_numbered}
 use Rattle.sl_trace.specs.Traces.{Answered, Setting, Submitted, Trace, answer_of, answered_in, is_write, mark, new_call, submitted}
 use Rattle.sl_trace.specs.declared.effects.Call.{Call}
 use Rattle.sl_trace.specs.declared.effects.Entry.{Entry}

@@ -3,22 +3,22 @@ use Rattle.sl_due.specs.DueDelta.{carry_delta}
 use Rattle.sl_due.specs.DueFirst.{remove_connection}
 use Rattle.sl_due.specs.DueWake.{end_if_done, finish, finish_session, free_if_done}
 use Rattle.sl_due.specs.Steps.{Step, add_move, seen}
-use Rattle.sl_leases.specs.Leases.{lease_step}
+use Rattle.sl_trace.specs.Leases.{lease_step}
 use Rattle.sl_quiet.proofs.Step.Beginning.{each_keeps, when_keeps}
 use Rattle.sl_quiet.specs.Step.Leading.{lease_part}
 use Rattle.sl_sector.specs.declared.sector.DeltaRec.{DeltaRec}
-use Rattle.sl_sessions.specs.declared.delta.DeltaKnown.{DeltaKnown}
-use Rattle.sl_sessions.specs.Deltas.{DeltaLease, delta_known, delta_of_session, delta_record, next_free, own_offset}
+use Rattle.sl_trace.specs.declared.delta.DeltaKnown.{DeltaKnown}
+use Rattle.sl_trace.specs.Deltas.{DeltaLease, delta_known, delta_of_session, delta_record, next_free, own_offset}
 use Rattle.sl_sector.specs.Bitmaps.{no_bits}
 use Rattle.sl_sector.specs.declared.sector.DeltaState.TheVariants.{Free}
 use Rattle.sl_sector.specs.declared.sector.Rec.TheVariants.{DeltaIs}
 use Rattle.sl_trace.specs.declared.effects.Op.TheVariants.{WriteRecord}
 use Rattle.sl_trace.specs.declared.effects.Purpose.TheVariants.{Leaving}
 use Rattle.sl_trace.specs.Traces.{next_call}
-use Rattle.sl_sessions.specs.declared.session.Session.{Session}
-use Rattle.sl_sessions.specs.Sessions.{has_open_write, holdings_of, is_joined, open_calls_of, present_sessions, recovery_of}
-use Rattle.sl_sessions.specs.declared.delta.DeltaNext.TheVariants.{Nothing, WriteFree}
-use Rattle.sl_sessions.specs.declared.delta.DeltaNext.{DeltaNext}
+use Rattle.sl_trace.specs.declared.session.Session.{Session}
+use Rattle.sl_trace.specs.Sessions.{has_open_write, holdings_of, is_joined, open_calls_of, present_sessions, recovery_of}
+use Rattle.sl_trace.specs.declared.delta.DeltaNext.TheVariants.{Nothing, WriteFree}
+use Rattle.sl_trace.specs.declared.delta.DeltaNext.{DeltaNext}
 use Rattle.sl_trace.specs.Connections.{is_registered}
 use Rattle.sl_trace.specs.declared.effects.Call.{Call}
 use Rattle.sl_trace.specs.declared.effects.Move.TheVariants.{Unregister}

@@ -5,14 +5,14 @@ use Rattle.sl_due.specs.DueInputs.{take_input}
 use Rattle.sl_due.specs.DueLease.{after_lease_answer, carry_lease, next_of_lease}
 use Rattle.sl_due.specs.DueWake.{finish}
 use Rattle.sl_due.specs.Steps.{Step, begin_step, seen, when, with_some}
-use Rattle.sl_leases.specs.Jobs.{aim_of}
-use Rattle.sl_leases.specs.Leases.{spot_of_call}
-use Rattle.sl_leases.specs.declared.lease.Aim.{Aim}
+use Rattle.sl_trace.specs.Jobs.{aim_of}
+use Rattle.sl_trace.specs.Leases.{spot_of_call}
+use Rattle.sl_trace.specs.declared.lease.Aim.{Aim}
 use Rattle.sl_quiet.proofs.Step.Beginning.{bare_heard, early}
 use Rattle.sl_quiet.proofs.Step.Ending.{KeepsLeases, finish_keeps}
 use Rattle.sl_quiet.specs.Step.Leading.{Answers, AnswersLeadOn, DoesAs, IsBare, WasThere, heard, led_on}
-use Rattle.sl_sessions.specs.declared.session.Session.{Session}
-use Rattle.sl_sessions.specs.Sessions.{is_present, session_numbered}
+use Rattle.sl_trace.specs.declared.session.Session.{Session}
+use Rattle.sl_trace.specs.Sessions.{is_present, session_numbered}
 use Rattle.sl_trace.specs.Traces.{Setting, Submitted, Trace, is_running, mark, new_call, submitted}
 use Rattle.sl_trace.specs.declared.effects.LeaseStep.{LeaseStep}
 use Rattle.sl_trace.specs.declared.effects.Work.TheVariants.{ForJob}

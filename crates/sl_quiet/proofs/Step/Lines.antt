@@ -7,12 +7,12 @@ use Rattle.sl_due.specs.DueInputs.{take_input}
 use Rattle.sl_due.specs.DueLease.{read_area}
 use Rattle.sl_due.specs.DueWake.{finish}
 use Rattle.sl_due.specs.Steps.{Step, seen, with_input}
-use Rattle.sl_leases.specs.Counts.{busy_among, held_here}
-use Rattle.sl_leases.specs.Leases.{spot_of}
+use Rattle.sl_trace.specs.Counts.{busy_among, held_here}
+use Rattle.sl_trace.specs.Leases.{spot_of}
 use Rattle.sl_quiet.proofs.Step.Ending.{KeepsLeases, finish_keeps}
 use Rattle.sl_quiet.specs.Step.Leading.{AsksQuietly, DoesAs, LinesBegin, begun}
-use Rattle.sl_sessions.specs.declared.session.Session.{Session}
-use Rattle.sl_sessions.specs.Sessions.{is_active, last_renewal}
+use Rattle.sl_trace.specs.declared.session.Session.{Session}
+use Rattle.sl_trace.specs.Sessions.{is_active, last_renewal}
 use Rattle.sl_trace.specs.Traces.{Setting, Submitted, Trace, holdings, is_shared, next_job, same_place}
 use Rattle.sl_trace.specs.declared.command.Command.TheVariants.{Acquire}
 use Rattle.sl_trace.specs.declared.command.Command.{Command}

@@ -1,11 +1,11 @@
 -- What is carried from event to event of a quiet acquire: at which call of its course it is, what that call is, and what the area holds.
 use Rattle.sl_area.specs.Places.{block_offset, in_area, is_base, leader_offset}
 use Rattle.sl_due.specs.Due.{IsHostTrace}
-use Rattle.sl_law.specs.Lawful.{IsSetting}
-use Rattle.sl_leases.specs.Ballots.{in_instance, moded_block, next_mbal}
-use Rattle.sl_leases.specs.Jobs.{command_numbered}
-use Rattle.sl_leases.specs.LeaseWork.{lease_place}
-use Rattle.sl_leases.specs.Leases.{block_submitted, freed, is_leader_of, lease_calls, own_or_read, spot_of, verified_name}
+use Rattle.sl_run.specs.Lawful.{IsSetting}
+use Rattle.sl_trace.specs.Ballots.{in_instance, moded_block, next_mbal}
+use Rattle.sl_trace.specs.Jobs.{command_numbered}
+use Rattle.sl_trace.specs.LeaseWork.{lease_place}
+use Rattle.sl_trace.specs.Leases.{block_submitted, freed, is_leader_of, lease_calls, own_or_read, spot_of, verified_name}
 use Rattle.sl_quiet.specs.Area.Calm.{IsCalm}
 use Rattle.sl_quiet.specs.Course.Course.{Same, first_block, second_block}
 use Rattle.sl_quiet.specs.Course.Quietly.{StandsAlone, all_whole}
@@ -18,8 +18,8 @@ use Rattle.sl_run_law.specs.Course.Stamping.{stamp_in}
 use Rattle.sl_sector.specs.declared.sector.Block.{Block}
 use Rattle.sl_sector.specs.declared.sector.Leader.{Leader}
 use Rattle.sl_sector.specs.declared.sector.Rec.TheVariants.{BlockIs, LeaderIs}
-use Rattle.sl_sessions.specs.declared.session.Session.{Session}
-use Rattle.sl_sessions.specs.Sessions.{is_active, me, session_numbered}
+use Rattle.sl_trace.specs.declared.session.Session.{Session}
+use Rattle.sl_trace.specs.Sessions.{is_active, me, session_numbered}
 use Rattle.sl_trace.specs.Traces.{Setting, Submitted, Trace, is_answered_ok, reply_to}
 use Rattle.sl_trace.specs.declared.command.Command.TheVariants.{Acquire}
 use Rattle.sl_trace.specs.declared.command.ResourceArg.{ResourceArg}

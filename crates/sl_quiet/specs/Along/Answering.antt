@@ -1,5 +1,5 @@
 -- A quiet event that answers the acquire's call: what the answer shows, and how the acquire goes on from it.
-use Rattle.sl_leases.specs.Jobs.{command_numbered}
+use Rattle.sl_trace.specs.Jobs.{command_numbered}
 use Rattle.sl_quiet.specs.Along.Along.{Asked, OnCourse, Stage, stage_next}
 use Rattle.sl_quiet.specs.Along.Going.{IsHeard, IsLineOf, IsWellMade}
 use Rattle.sl_quiet.specs.Along.Leading.{Hears, ShowsAt}

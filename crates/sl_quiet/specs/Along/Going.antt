@@ -1,7 +1,7 @@
 -- How the area of a quiet acquire goes on over an event.
 use Rattle.sl_due.specs.Due.{IsHostTrace}
-use Rattle.sl_law.specs.Lawful.{IsSetting}
-use Rattle.sl_leases.specs.Leases.{spot_of}
+use Rattle.sl_run.specs.Lawful.{IsSetting}
+use Rattle.sl_trace.specs.Leases.{spot_of}
 use Rattle.sl_quiet.specs.Along.Along.{AreaOnCourse, Asked, DaemonOnCourse, IsAskedOf, OnCourse, Stage}
 use Rattle.sl_quiet.specs.Area.Calm.{LeavesCalm}
 use Rattle.sl_run.specs.Events.{with_entry}

@@ -5,16 +5,16 @@ use Rattle.sl_trace.specs.declared.input.Answer.TheVariants.{Read, Written}
 use Rattle.sl_quiet.specs.Course.Quietly.{StandsAlone, NoneShared, all_whole}
 use Rattle.sl_due.specs.Due.{IsHostTrace}
 use Rattle.sl_due.specs.Steps.{seen}
-use Rattle.sl_law.specs.Lawful.{IsSetting}
-use Rattle.sl_leases.specs.LeaseWork.{lease_next, lease_place}
-use Rattle.sl_leases.specs.Leases.{known, lver_written, spot_of, verified_by, LeaseKnown}
-use Rattle.sl_leases.specs.declared.lease.Aim.TheVariants.{Acquires}
-use Rattle.sl_leases.specs.declared.lease.LeaseNext.TheVariants.{GrantJob, Nothing, ReadFor, WriteBlock, WriteLeader}
-use Rattle.sl_leases.specs.declared.lease.LeaseNext.{LeaseNext}
+use Rattle.sl_run.specs.Lawful.{IsSetting}
+use Rattle.sl_trace.specs.LeaseWork.{lease_next, lease_place}
+use Rattle.sl_trace.specs.Leases.{known, lver_written, spot_of, verified_by, LeaseKnown}
+use Rattle.sl_trace.specs.declared.lease.Aim.TheVariants.{Acquires}
+use Rattle.sl_trace.specs.declared.lease.LeaseNext.TheVariants.{GrantJob, Nothing, ReadFor, WriteBlock, WriteLeader}
+use Rattle.sl_trace.specs.declared.lease.LeaseNext.{LeaseNext}
 use Rattle.sl_quiet.specs.Along.Along.{Asked, DaemonOnCourse, Frees_leader, IsAskedOf, Reads_area, Reads_first, Reads_second, Sets_mode, Stage, Takes_leader, Writes_first, Writes_second, first_of_asked, leader_of_asked, second_of_asked, stage_next, step_at, third_of_asked}
 use Rattle.sl_quiet.specs.Step.Leading.{heard}
 use Rattle.sl_run.specs.Quiet.{job_calls}
-use Rattle.sl_sessions.specs.Sessions.{is_active}
+use Rattle.sl_trace.specs.Sessions.{is_active}
 use Rattle.sl_trace.specs.Traces.{Setting, Submitted, Trace, answered_in, is_ok_answer, is_shared, reply_in, same_place}
 use Rattle.sl_trace.specs.declared.effects.Entry.{Entry}
 use Rattle.sl_trace.specs.declared.effects.Grant.{Grant}

@@ -1,9 +1,9 @@
 -- Which writes are in flight on the area of a quiet acquire: the running daemon's alone, and of it the job's alone.
 use Rattle.sl_due.specs.Due.{IsHostTrace}
 use Rattle.sl_history.specs.Resources.Promises.{spot_of_line}
-use Rattle.sl_law.specs.Lawful.{IsSetting}
-use Rattle.sl_law.specs.LawfulArea.{is_area_work}
-use Rattle.sl_leases.specs.Leases.{is_on}
+use Rattle.sl_run.specs.Lawful.{IsSetting}
+use Rattle.sl_run.specs.LawfulArea.{is_area_work}
+use Rattle.sl_trace.specs.Leases.{is_on}
 use Rattle.sl_run.specs.Events.{input_of, machine_of}
 use Rattle.sl_run.specs.Runs.{Happening}
 use Rattle.sl_run.specs.Safety.{LawfulRun, world_at}
@@ -11,8 +11,8 @@ use Rattle.sl_run.specs.Worlds.{Course, Daemon, Machine, Program, World, daemon_
 use Rattle.sl_run.specs.declared.event.Event.TheVariants.{Crash, Reset}
 use Rattle.sl_run.specs.declared.header.Header.{Header}
 use Rattle.sl_run.specs.declared.header.ResourceLine.{ResourceLine}
-use Rattle.sl_sessions.specs.Sessions.{session_numbered}
-use Rattle.sl_sessions.specs.declared.session.Session.{Session}
+use Rattle.sl_trace.specs.Sessions.{session_numbered}
+use Rattle.sl_trace.specs.declared.session.Session.{Session}
 use Rattle.sl_trace.specs.Traces.{Submitted, is_write, submitted}
 use Rattle.sl_trace.specs.declared.effects.Call.{Call}
 use Rattle.sl_trace.specs.declared.effects.Effects.{Effects}

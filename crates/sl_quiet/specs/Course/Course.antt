@@ -1,11 +1,11 @@
 -- The course of a quiet acquire on the lease's own list of calls, the newest first: what is known of the lease when each call is
 -- answered follows from the calls themselves.
 use Rattle.sl_area.specs.Places.{area_blocks, blocks_in, leader_of}
-use Rattle.sl_leases.specs.Ballots.{in_instance, moded_block, next_mbal}
-use Rattle.sl_leases.specs.LeaseWork.{LeasePlace, leader_for, lease_next}
-use Rattle.sl_leases.specs.Leases.{LeaseKnown, block_submitted, freed, is_leader_of, known_of, own_or_read}
-use Rattle.sl_leases.specs.declared.lease.Aim.TheVariants.{Acquires}
-use Rattle.sl_leases.specs.declared.lease.LeaseNext.TheVariants.{WriteBlock, WriteLeader}
+use Rattle.sl_trace.specs.Ballots.{in_instance, moded_block, next_mbal}
+use Rattle.sl_trace.specs.LeaseWork.{LeasePlace, leader_for, lease_next}
+use Rattle.sl_trace.specs.Leases.{LeaseKnown, block_submitted, freed, is_leader_of, known_of, own_or_read}
+use Rattle.sl_trace.specs.declared.lease.Aim.TheVariants.{Acquires}
+use Rattle.sl_trace.specs.declared.lease.LeaseNext.TheVariants.{WriteBlock, WriteLeader}
 use Rattle.sl_quiet.specs.Course.Quietly.{NoneShared, StandsAlone, all_whole, quiet_phase1}
 use Rattle.sl_sector.specs.declared.sector.Block.{Block}
 use Rattle.sl_sector.specs.declared.sector.Leader.{Leader}

@@ -1,8 +1,8 @@
 -- What an acquire's job is not answered by: each reply has its cause, and a quiet acquire has none of them.
-use Rattle.sl_law.specs.Caused.{AnswersCall, Answering, CausedBy, after_entry, the_session}
-use Rattle.sl_leases.specs.Jobs.{child_of_job, job_of_start}
-use Rattle.sl_sessions.specs.declared.session.Session.{Session}
-use Rattle.sl_sessions.specs.Sessions.{is_active, session_of_job}
+use Rattle.sl_run.specs.Caused.{AnswersCall, Answering, CausedBy, after_entry, the_session}
+use Rattle.sl_trace.specs.Jobs.{child_of_job, job_of_start}
+use Rattle.sl_trace.specs.declared.session.Session.{Session}
+use Rattle.sl_trace.specs.Sessions.{is_active, session_of_job}
 use Rattle.sl_trace.specs.Traces.{Submitted, is_before_input, waiting_call}
 use Rattle.sl_trace.specs.declared.command.Command.TheVariants.{Acquire}
 use Rattle.sl_trace.specs.declared.command.ResourceArg.{ResourceArg}

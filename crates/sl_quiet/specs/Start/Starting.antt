@@ -2,9 +2,9 @@
 use Rattle.sl_due.specs.Due.{IsHostTrace, due}
 use Rattle.sl_due.specs.DueLease.{read_area}
 use Rattle.sl_due.specs.Steps.{begin_step, seen, with_input}
-use Rattle.sl_law.specs.Lawful.{IsSetting}
-use Rattle.sl_leases.specs.Counts.{held_here, limit_met, may_act}
-use Rattle.sl_leases.specs.Leases.{freed, known, lease_calls, open_on, spot_of}
+use Rattle.sl_run.specs.Lawful.{IsSetting}
+use Rattle.sl_trace.specs.Counts.{held_here, limit_met, may_act}
+use Rattle.sl_trace.specs.Leases.{freed, known, lease_calls, open_on, spot_of}
 use Rattle.sl_quiet.specs.Step.Leading.{AsksQuietly, DoesAs, begun}
 use Rattle.sl_quiet.specs.Along.Along.{Asked, OnCourse, Reads_area}
 use Rattle.sl_quiet.specs.Along.Going.{IsLineOf, IsWellMade}
@@ -16,8 +16,8 @@ use Rattle.sl_run.specs.Worlds.{Program, World, reading_now}
 use Rattle.sl_run.specs.declared.header.Header.{Header}
 use Rattle.sl_run.specs.declared.header.ResourceLine.{ResourceLine}
 use Rattle.sl_sector.specs.declared.sector.Block.{Block}
-use Rattle.sl_sessions.specs.Sessions.{is_active, session_named}
-use Rattle.sl_sessions.specs.declared.session.Session.{Session}
+use Rattle.sl_trace.specs.Sessions.{is_active, session_named}
+use Rattle.sl_trace.specs.declared.session.Session.{Session}
 use Rattle.sl_trace.specs.Traces.{Setting, Trace, next_job}
 use Rattle.sl_trace.specs.declared.command.Command.TheVariants.{Acquire}
 use Rattle.sl_trace.specs.declared.command.ResourceArg.{ResourceArg}

@@ -3,12 +3,12 @@
 use Rattle.sl_due.specs.Due.{before_input, due}
 use Rattle.sl_due.specs.DueLease.{carry_lease, next_of_lease, read_area}
 use Rattle.sl_due.specs.Steps.{Step, begin_step, seen, with_input}
-use Rattle.sl_leases.specs.Jobs.{aim_of}
-use Rattle.sl_leases.specs.Counts.{held_here, limit_met, may_act}
-use Rattle.sl_leases.specs.Leases.{lease_step, open_on, spot_of, spot_of_call}
-use Rattle.sl_leases.specs.declared.lease.Aim.{Aim}
-use Rattle.sl_sessions.specs.declared.session.Session.{Session}
-use Rattle.sl_sessions.specs.Sessions.{is_active, is_joined, is_present, session_named, session_numbered}
+use Rattle.sl_trace.specs.Jobs.{aim_of}
+use Rattle.sl_trace.specs.Counts.{held_here, limit_met, may_act}
+use Rattle.sl_trace.specs.Leases.{lease_step, open_on, spot_of, spot_of_call}
+use Rattle.sl_trace.specs.declared.lease.Aim.{Aim}
+use Rattle.sl_trace.specs.declared.session.Session.{Session}
+use Rattle.sl_trace.specs.Sessions.{is_active, is_joined, is_present, session_named, session_numbered}
 use Rattle.sl_trace.specs.Traces.{Setting, Submitted, Trace, call_numbered, is_before_input, is_running, mark, next_job, submitted}
 use Rattle.sl_trace.specs.declared.effects.Call.{Call}
 use Rattle.sl_trace.specs.declared.effects.Effects.{Effects}

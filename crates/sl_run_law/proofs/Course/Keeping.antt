@@ -3,7 +3,7 @@ use Rattle.sl_area.specs.Layouts.{layout_with}
 use Rattle.sl_run_law.proofs.Course.Turning.{Becomes, becomes}
 use Rattle.sl_run_law.proofs.Front.Going.{last_event, run_after, run_keeps, settled_later, was_there}
 use Rattle.sl_run_law.proofs.Front.Having.{in_flat}
-use Rattle.sl_law.specs.Lawful.{Orderly}
+use Rattle.sl_run.specs.Lawful.{Orderly}
 use Rattle.sl_plain.proofs.Lists.{got_inside}
 use Rattle.sl_run.specs.Events.{input_of, may_happen}
 use Rattle.sl_run.specs.Runs.{EachDaemon, Happening, own_effects_of}

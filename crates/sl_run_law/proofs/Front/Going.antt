@@ -1,8 +1,8 @@
 -- Runs go on from their fronts, and what each event of lawful runs keeps is kept.
 use Rattle.sl_run_law.proofs.Front.Having.{contains_flat, contains_right, in_flat, placed_at}
 use Rattle.sl_run_law.specs.Front.Fronts.{EventsHaveOneStep, FrontsAreLawful, HasOneStep}
-use Rattle.sl_law.proofs.LawFacts.{orderly-front}
-use Rattle.sl_law.specs.Lawful.{Orderly}
+use Rattle.sl_run.proofs.LawFacts.{orderly-front}
+use Rattle.sl_run.specs.Lawful.{Orderly}
 use Rattle.sl_plain.proofs.Lists.{contains_cases, contains_first, contains_more, contains_none, got_inside, next_before, same_place_in}
 use Rattle.sl_plain.proofs.Numbers.{one_before}
 use Rattle.sl_plain.proofs.Options.{else_some}

@@ -4,7 +4,7 @@ use Rattle.sl_run_law.proofs.Front.Having.{in_flat}
 use Rattle.sl_run_law.proofs.Landing.Passing.{world_first, world_keeps, world_then}
 use Rattle.sl_run_law.proofs.Landing.Running.{HasEntry, has_entry, own_makes_none}
 use Rattle.sl_run_law.proofs.Landing.Stepping.{IsMade, came}
-use Rattle.sl_law.specs.Lawful.{Orderly}
+use Rattle.sl_run.specs.Lawful.{Orderly}
 use Rattle.sl_plain.proofs.Lists.{contains_none, got_inside}
 use Rattle.sl_run.specs.Events.{input_of, machine_of, may_happen, with_entry}
 use Rattle.sl_run.specs.Runs.{EachDaemon, Happening, own_effects_of}

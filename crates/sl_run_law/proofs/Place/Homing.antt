@@ -2,9 +2,9 @@
 use Rattle.sl_area.specs.Layouts.{Layout}
 use Rattle.sl_area.specs.Places.{delta_offset, in_area}
 use Rattle.sl_run_law.specs.Landing.Landings.{HasWriter, IsWrittenBy}
-use Rattle.sl_law.specs.LawfulArea.{HasVerified, LawfulAreaWrite, is_delta_record, record_offset}
-use Rattle.sl_law.specs.LawfulLeader.{LawfulLeaderWrite}
-use Rattle.sl_leases.specs.Leases.{leader_of_record, leader_written, spot_of_call}
+use Rattle.sl_run.specs.LawfulArea.{HasVerified, LawfulAreaWrite, is_delta_record, record_offset}
+use Rattle.sl_run.specs.LawfulLeader.{LawfulLeaderWrite}
+use Rattle.sl_trace.specs.Leases.{leader_of_record, leader_written, spot_of_call}
 use Rattle.sl_run_law.proofs.Place.Areas.{base_around, lockspace_aligned, never_both, one_lockspace, one_resource, resource_aligned, same_base}
 use Rattle.sl_run_law.proofs.Place.Leased.{IsLeased, verified_leased}
 use Rattle.sl_run_law.proofs.Place.Looks.{IsOwnDelta, delta_is_own}
@@ -26,8 +26,8 @@ use Rattle.sl_sector.specs.declared.sector.Rec.TheVariants.{BlockIs, DeltaIs, Le
 use Rattle.sl_sector.specs.declared.sector.Rec.{Rec}
 use Rattle.sl_trace_law.proofs.Sessions.Making.{calls_are_made}
 use Rattle.sl_trace_law.specs.Sessions.Promises.{IsMade, IsSession, front_of, made_as}
-use Rattle.sl_sessions.specs.Sessions.{delta_of_record, delta_written, session_numbered, sessions}
-use Rattle.sl_sessions.specs.declared.session.Session.{Session}
+use Rattle.sl_trace.specs.Sessions.{delta_of_record, delta_written, session_numbered, sessions}
+use Rattle.sl_trace.specs.declared.session.Session.{Session}
 use Rattle.sl_trace.specs.Traces.{Setting, Submitted, record_of}
 use Rattle.sl_trace.specs.declared.effects.Spot.{Spot}
 use Rattle.sl_words.proofs.CaseLaws.{none_some}

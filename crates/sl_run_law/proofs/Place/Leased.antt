@@ -2,8 +2,8 @@
 use Rattle.sl_area.specs.Layouts.{Layout, record_in}
 use Rattle.sl_area.specs.Places.{in_area, leader_of, sector_of}
 use Rattle.sl_run_law.specs.Course.Stamping.{stamp_in}
-use Rattle.sl_law.specs.Lawful.{Orderly}
-use Rattle.sl_law.specs.LawfulArea.{HasVerified, IsRightRead, is_leader_read, leaders_read}
+use Rattle.sl_run.specs.Lawful.{Orderly}
+use Rattle.sl_run.specs.LawfulArea.{HasVerified, IsRightRead, is_leader_read, leaders_read}
 use Rattle.sl_run_law.proofs.Place.Areas.{base_aligned, resource_aligned, same_base}
 use Rattle.sl_run_law.proofs.Place.Beginnings.{In_lockspace, In_resource, IsInitial}
 use Rattle.sl_run_law.proofs.Place.Daemons.{daemons_are_fine, stamp_order}
@@ -11,7 +11,7 @@ use Rattle.sl_run_law.proofs.Place.Finding.{given_by, same_text}
 use Rattle.sl_run_law.proofs.Place.Looks.{Heard, heard}
 use Rattle.sl_run_law.proofs.Place.Reading.{IsPromised, IsShown, call_law, read_of, reads_back, sector_shown}
 use Rattle.sl_run_law.proofs.Place.Seats.{Delta_home, HomeBefore, IsHome, Lease_home, home_early, initial_in, sized_in}
-use Rattle.sl_leases.specs.Leases.{is_leader_of, is_on, spot_of_call}
+use Rattle.sl_trace.specs.Leases.{is_leader_of, is_on, spot_of_call}
 use Rattle.sl_run_law.proofs.Place.Sizes.{IsSized, sector_fits}
 use Rattle.sl_plain.proofs.Lists.{kept_inside}
 use Rattle.sl_plain.proofs.Numbers.{no_times_more}
@@ -30,8 +30,8 @@ use Rattle.sl_sector.specs.declared.sector.Rec.TheVariants.{BlockIs, DeltaIs, Le
 use Rattle.sl_sector.specs.declared.sector.Rec.{Rec}
 use Rattle.sl_trace_law.proofs.Sessions.Making.{calls_are_made}
 use Rattle.sl_trace_law.specs.Sessions.Promises.{IsMade, IsSession, front_of, made_as}
-use Rattle.sl_sessions.specs.Sessions.{calls_of}
-use Rattle.sl_sessions.specs.declared.session.Session.{Session}
+use Rattle.sl_trace.specs.Sessions.{calls_of}
+use Rattle.sl_trace.specs.declared.session.Session.{Session}
 use Rattle.sl_trace.specs.Traces.{Setting, Submitted, Trace, gave, submitted}
 use Rattle.sl_trace.specs.declared.effects.LeaseStep.TheVariants.{ClearMode, FreeLeader, Phase1Read, Phase1Write, Phase2Read, Phase2Write, ReadArea, ReadBeforeFree, SetMode, TakeLeader}
 use Rattle.sl_trace.specs.declared.effects.LeaseStep.{LeaseStep}

@@ -1,8 +1,8 @@
 -- A session that writes its sector was given, or had looked at the sector before: its first read gave a record of its lockspace and id.
 use Rattle.sl_area.specs.Layouts.{record_in}
 use Rattle.sl_area.specs.Places.{is_base}
-use Rattle.sl_law.specs.Lawful.{Orderly}
-use Rattle.sl_law.specs.LawfulDelta.{Gave, LawfulClaim, LawfulDeciding, LawfulDeltaCall, LawfulFirstRenewal, LawfulJoin, LawfulJoinStep, LawfulLook, LawfulVerify, is_on_own_sector}
+use Rattle.sl_run.specs.Lawful.{Orderly}
+use Rattle.sl_run.specs.LawfulDelta.{Gave, LawfulClaim, LawfulDeciding, LawfulDeltaCall, LawfulFirstRenewal, LawfulJoin, LawfulJoinStep, LawfulLook, LawfulVerify, is_on_own_sector}
 use Rattle.sl_run_law.proofs.Place.Finding.{place_is}
 use Rattle.sl_run_law.proofs.Place.Reading.{answer_gave, call_law}
 use Rattle.sl_plain.proofs.Lists.{contains_none, find_inside, got_inside, in_map, kept_inside}
@@ -15,11 +15,11 @@ use Rattle.sl_trace_law.proofs.Sessions.Making.{answers_stay, calls_are_made, ol
 use Rattle.sl_trace_law.proofs.Sessions.Owning.{calls_were_lawful}
 use Rattle.sl_trace_law.proofs.Sessions.Silence.{stage_by}
 use Rattle.sl_trace_law.specs.Sessions.Promises.{IsMade, IsSession, WasLawful, front_of, made_as}
-use Rattle.sl_sessions.specs.Deltas.{DeltaLease, delta_of_session, delta_record, own_offset}
-use Rattle.sl_sessions.specs.Sessions.{calls_of, delta_of_record, delta_written, free_write, is_call_of, is_delta_purpose, is_join_call, is_survey_purpose, join_call, joined_after, refused_after, removed_after, same_join_step, sessions, stage_after, stage_in, stage_of}
-use Rattle.sl_sessions.specs.declared.session.Session.{Session}
-use Rattle.sl_sessions.specs.declared.stage.Stage.TheVariants.{Looking, Standing}
-use Rattle.sl_sessions.specs.declared.stage.Stage.{Stage}
+use Rattle.sl_trace.specs.Deltas.{DeltaLease, delta_of_session, delta_record, own_offset}
+use Rattle.sl_trace.specs.Sessions.{calls_of, delta_of_record, delta_written, free_write, is_call_of, is_delta_purpose, is_join_call, is_survey_purpose, join_call, joined_after, refused_after, removed_after, same_join_step, sessions, stage_after, stage_in, stage_of}
+use Rattle.sl_trace.specs.declared.session.Session.{Session}
+use Rattle.sl_trace.specs.declared.stage.Stage.TheVariants.{Looking, Standing}
+use Rattle.sl_trace.specs.declared.stage.Stage.{Stage}
 use Rattle.sl_trace.specs.Traces.{Answered, Setting, Submitted, Trace, answer_of, answered_in, gave, is_answered_ok, mark, record_of, submitted}
 use Rattle.sl_trace.specs.declared.effects.Entry.{Entry}
 use Rattle.sl_trace.specs.declared.effects.JoinStep.TheVariants.{ClaimWrite, DecidingRead, FirstRead, FirstRenewal, VerifyRead, WatchRead}

@@ -1,8 +1,8 @@
 -- A session has the number of its place, and is given by the setting or begun by a command.
 use Rattle.sl_plain.proofs.Lists.{contains_cases, contains_first, contains_more, contains_none}
 use Rattle.sl_run_law.proofs.Front.Having.{contains_append}
-use Rattle.sl_sessions.specs.Sessions.{added_by, begun_in, given_session, is_join_call, joining_session, session_numbered, sessions}
-use Rattle.sl_sessions.specs.declared.session.Session.{Session}
+use Rattle.sl_trace.specs.Sessions.{added_by, begun_in, given_session, is_join_call, joining_session, session_numbered, sessions}
+use Rattle.sl_trace.specs.declared.session.Session.{Session}
 use Rattle.sl_trace.specs.Traces.{Setting, Trace, next_job}
 use Rattle.sl_trace.specs.declared.command.LockspaceArg.{LockspaceArg}
 use Rattle.sl_trace.specs.declared.effects.JoinStep.TheVariants.{FirstRead}

@@ -6,8 +6,8 @@ use Rattle.sl_run_law.specs.Course.Promises.{CoursesAreCalls, CoursesHaveDaemons
 use Rattle.sl_run_law.specs.Course.Stamping.{AnswersAgree, IsAnsweredAs, IsCourseOf, courses_of, stamp_in}
 use Rattle.sl_run_law.proofs.Front.Having.{contains_append, in_flat}
 use Rattle.sl_run_law.specs.Landing.Landings.{IsWrittenBy, LandingsAreWritten, LeftBy}
-use Rattle.sl_law.proofs.LawFacts.{orderly-front}
-use Rattle.sl_law.specs.Lawful.{Orderly}
+use Rattle.sl_run.proofs.LawFacts.{orderly-front}
+use Rattle.sl_run.specs.Lawful.{Orderly}
 use Rattle.sl_run_law.proofs.Place.Finding.{finds, numbered_inside, partner, partner_of, place_is, same_read}
 use Rattle.sl_run_law.proofs.Place.Numbering.{session_number}
 use Rattle.sl_plain.proofs.Lists.{contains_cases, contains_none, find_inside, got_inside, kept, kept_inside, there_is}
@@ -29,8 +29,8 @@ use Rattle.sl_trace_law.proofs.Sessions.Growing.{all_of_it}
 use Rattle.sl_trace_law.proofs.Sessions.Making.{calls_are_made}
 use Rattle.sl_trace_law.proofs.Sessions.Owning.{owned, sessions_stay}
 use Rattle.sl_trace_law.specs.Sessions.Promises.{IsMade, IsSession}
-use Rattle.sl_sessions.specs.Sessions.{session_numbered}
-use Rattle.sl_sessions.specs.declared.session.Session.{Session}
+use Rattle.sl_trace.specs.Sessions.{session_numbered}
+use Rattle.sl_trace.specs.declared.session.Session.{Session}
 use Rattle.sl_trace.specs.Traces.{Answered, Setting, Submitted, Trace, bytes_given, gave, is_ok_answer, is_write, record_of, same_place, submitted}
 use Rattle.sl_trace.specs.declared.effects.Op.TheVariants.{ReadSectors}
 use Rattle.sl_trace.specs.declared.effects.Op.{Op}

@@ -2,7 +2,7 @@
 use Rattle.sl_area.specs.Layouts.{Layout, Sizes, record_in}
 use Rattle.sl_area.specs.Places.{delta_offset, in_area, is_base, sector_of}
 use Rattle.sl_run_law.specs.Course.Stamping.{stamp_in}
-use Rattle.sl_law.specs.LawfulArea.{is_delta_record}
+use Rattle.sl_run.specs.LawfulArea.{is_delta_record}
 use Rattle.sl_run_law.proofs.Place.Areas.{is_base_aligned, is_within, lockspace_aligned, same_base}
 use Rattle.sl_run_law.proofs.Place.Beginnings.{In_lockspace, In_resource, IsInitial, read_first}
 use Rattle.sl_run_law.proofs.Place.Daemons.{daemons_are_fine, stamp_order}
@@ -28,8 +28,8 @@ use Rattle.sl_sector.specs.declared.sector.Bad.{Bad}
 use Rattle.sl_sector.specs.declared.sector.DeltaRec.{DeltaRec}
 use Rattle.sl_sector.specs.declared.sector.Rec.TheVariants.{BlockIs, DeltaIs, LeaderIs, RequestIs, ValueIs}
 use Rattle.sl_sector.specs.declared.sector.Rec.{Rec}
-use Rattle.sl_sessions.specs.Sessions.{sessions}
-use Rattle.sl_sessions.specs.declared.session.Session.{Session}
+use Rattle.sl_trace.specs.Sessions.{sessions}
+use Rattle.sl_trace.specs.declared.session.Session.{Session}
 use Rattle.sl_trace.specs.Traces.{Setting}
 use Rattle.sl_trace.specs.declared.input.Given.{Given}
 use Rattle.sl_words.proofs.CaseLaws.{none_some, some_value}

@@ -1,8 +1,8 @@
 -- What is in a list, and what a test finds there.
 use Rattle.sl_plain.proofs.Lists.{any_found, any_of, kept, kept_inside}
 use Rattle.sl_plain.proofs.Options.{none_is}
-use Rattle.sl_sessions.specs.Sessions.{calls_of, has_open_delta, has_open_write, is_call_of, is_delta_purpose}
-use Rattle.sl_sessions.specs.declared.session.Session.{Session}
+use Rattle.sl_trace.specs.Sessions.{calls_of, has_open_delta, has_open_write, is_call_of, is_delta_purpose}
+use Rattle.sl_trace.specs.declared.session.Session.{Session}
 use Rattle.sl_trace.specs.Traces.{Submitted, Trace, is_write, submitted}
 use Rattle.sl_words.proofs.CaseLaws.{is_false, true_is_false}
 use Rattle.std.proofs.Common.{ap, sym, ◌∙◌}

@@ -1,16 +1,16 @@
 -- What keeps the reading of the last keepalive below that until which a session may act.
-use Rattle.sl_law.proofs.LawFacts.{orderly-front}
-use Rattle.sl_law.specs.Lawful.{Orderly}
-use Rattle.sl_law.specs.LawfulWatchdog.{acts_until, is_covered}
+use Rattle.sl_run.proofs.LawFacts.{orderly-front}
+use Rattle.sl_run.specs.Lawful.{Orderly}
+use Rattle.sl_run.specs.LawfulWatchdog.{acts_until, is_covered}
 use Rattle.sl_plain.proofs.Lists.{contains_first, contains_more, find_inside, got_inside}
 use Rattle.sl_trace_law.proofs.Sessions.Joining.{joined_before}
 use Rattle.sl_trace_law.proofs.Sessions.Silence.{stage_by}
 use Rattle.sl_trace_law.proofs.Sessions.Staying.{refused_apart, removed_more}
 use Rattle.sl_trace_law.specs.Sessions.Promises.{IsSession}
-use Rattle.sl_sessions.specs.Sessions.{calls_of, free_write, has_open_write, is_covered_stage, joined_after, last_renewal, refused_after, removed_after, session_numbered, sessions, stage_in}
-use Rattle.sl_sessions.specs.declared.session.Session.{Session}
-use Rattle.sl_sessions.specs.declared.stage.Stage.TheVariants.{Looking}
-use Rattle.sl_sessions.specs.declared.stage.Stage.{Stage}
+use Rattle.sl_trace.specs.Sessions.{calls_of, free_write, has_open_write, is_covered_stage, joined_after, last_renewal, refused_after, removed_after, session_numbered, sessions, stage_in}
+use Rattle.sl_trace.specs.declared.session.Session.{Session}
+use Rattle.sl_trace.specs.declared.stage.Stage.TheVariants.{Looking}
+use Rattle.sl_trace.specs.declared.stage.Stage.{Stage}
 use Rattle.sl_time.specs.Times.{IsTiming, TimingNumbers, fail}
 use Rattle.sl_trace.specs.Connections.{Connection, connections, given_connection, last_registering, registers, test_holds}
 use Rattle.sl_trace.specs.Traces.{Setting, Submitted, Trace}

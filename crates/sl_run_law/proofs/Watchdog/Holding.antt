@@ -1,14 +1,14 @@
 -- The connection of a session that needs it stands, on a machine that is up.
 use Rattle.sl_clocks.specs.Points.{Precedes}
 use Rattle.sl_run_law.specs.Course.Mirrors.{since_restart}
-use Rattle.sl_law.specs.LawfulWatchdog.{is_covered}
+use Rattle.sl_run.specs.LawfulWatchdog.{is_covered}
 use Rattle.sl_run_law.proofs.Moment.Stamps.{kept_is_stamp}
 use Rattle.sl_run_law.specs.Moment.Moments.{point_of, stamps_on}
 use Rattle.sl_run_law.proofs.Front.Having.{contains_left, contains_right, in_flat}
 use Rattle.sl_plain.proofs.Lists.{contains_more}
 use Rattle.sl_run.specs.Worlds.{Course, Daemon, Machine, Stamp, daemons_on}
 use Rattle.sl_trace_law.specs.Sessions.Promises.{IsSession}
-use Rattle.sl_sessions.specs.declared.session.Session.{Session}
+use Rattle.sl_trace.specs.declared.session.Session.{Session}
 use Rattle.sl_time.specs.Times.{TimingNumbers, fail}
 use Rattle.sl_run_law.proofs.Watchdog.Knowing.{IsKnown}
 use Rattle.sl_run_law.proofs.Watchdog.Machines.{IsHeld, IsWatched, first_by, first_there}

@@ -1,14 +1,14 @@
 -- A session joins by the answer of its first renewal: from that entry on the renewal counts.
-use Rattle.sl_law.proofs.LawFacts.{orderly-front}
-use Rattle.sl_law.specs.Lawful.{Orderly}
+use Rattle.sl_run.proofs.LawFacts.{orderly-front}
+use Rattle.sl_run.specs.Lawful.{Orderly}
 use Rattle.sl_plain.proofs.Lists.{contains_cases, contains_first, contains_more, contains_none, find_inside, got_inside}
 use Rattle.sl_trace_law.proofs.Sessions.Joining.{joined_before}
 use Rattle.sl_trace_law.proofs.Sessions.Making.{SameCall, old_or_new, same_answered}
 use Rattle.sl_trace_law.specs.Sessions.Promises.{IsSession}
-use Rattle.sl_sessions.specs.Sessions.{calls_of, is_call_of, is_join_call, is_join_done, is_joined, is_renewal, joined_after, last_renewal, recovery_of, removed_after, renewed_by, renewing, sessions, shows_other}
-use Rattle.sl_sessions.specs.declared.session.Begun.{Begun}
-use Rattle.sl_sessions.specs.declared.session.Renewing.{Renewing}
-use Rattle.sl_sessions.specs.declared.session.Session.{Session}
+use Rattle.sl_trace.specs.Sessions.{calls_of, is_call_of, is_join_call, is_join_done, is_joined, is_renewal, joined_after, last_renewal, recovery_of, removed_after, renewed_by, renewing, sessions, shows_other}
+use Rattle.sl_trace.specs.declared.session.Begun.{Begun}
+use Rattle.sl_trace.specs.declared.session.Renewing.{Renewing}
+use Rattle.sl_trace.specs.declared.session.Session.{Session}
 use Rattle.sl_time.specs.Times.{fail}
 use Rattle.sl_trace.specs.Traces.{Answered, Replied, Setting, Submitted, Trace, answer_of, answered_in, call_numbered, mark, reply_in, reply_to, submitted}
 use Rattle.sl_trace.specs.declared.effects.Entry.{Entry}

@@ -5,7 +5,7 @@ use Rattle.sl_run_law.specs.Course.Promises.{DaemonsAreOfWorld, EntriesAreStampe
 use Rattle.sl_run_law.specs.Course.Stamping.{IsStamped}
 use Rattle.sl_run_law.proofs.Front.Going.{settled_later}
 use Rattle.sl_run_law.proofs.Front.Having.{in_flat}
-use Rattle.sl_law.specs.Lawful.{Orderly}
+use Rattle.sl_run.specs.Lawful.{Orderly}
 use Rattle.sl_run_law.specs.Moment.Moments.{StampsDrift, point_of, stamps_on}
 use Rattle.sl_plain.proofs.Lists.{got_inside}
 use Rattle.sl_run.specs.Runs.{Happening}

@@ -5,8 +5,8 @@ use Rattle.sl_run_law.specs.Moment.Moments.{point_of}
 use Rattle.sl_plain.proofs.Lists.{contains_cases, contains_first, contains_more, contains_none}
 use Rattle.sl_run.specs.Worlds.{Course, Daemon, Machine, Stamp, daemons_on, may_land, resets_after}
 use Rattle.sl_trace_law.specs.Sessions.Promises.{IsSession}
-use Rattle.sl_sessions.specs.Sessions.{has_open_write}
-use Rattle.sl_sessions.specs.declared.session.Session.{Session}
+use Rattle.sl_trace.specs.Sessions.{has_open_write}
+use Rattle.sl_trace.specs.declared.session.Session.{Session}
 use Rattle.sl_time.specs.Times.{TimingNumbers, reading_of}
 use Rattle.sl_run_law.proofs.Watchdog.Freshness.{IsFresh}
 use Rattle.sl_run_law.proofs.Watchdog.Stamps.{GivenNow}

@@ -3,8 +3,8 @@ use Rattle.sl_plain.proofs.Lists.{any_found, contains_cases, contains_none, head
 use Rattle.sl_plain.proofs.Options.{none_is}
 use Rattle.sl_trace_law.proofs.Sessions.Making.{same_answered}
 use Rattle.sl_trace_law.proofs.Sessions.Owning.{session_more}
-use Rattle.sl_sessions.specs.Sessions.{added_by, begun_in, given_session, is_join_call, joining_session, session_numbered, sessions}
-use Rattle.sl_sessions.specs.declared.session.Session.{Session}
+use Rattle.sl_trace.specs.Sessions.{added_by, begun_in, given_session, is_join_call, joining_session, session_numbered, sessions}
+use Rattle.sl_trace.specs.declared.session.Session.{Session}
 use Rattle.sl_trace.specs.Traces.{IsTrace, Setting, Submitted, Trace, answered_in, call_numbered, is_answer_for, is_expected, mark, new_call, next_call, next_job, outstanding, submitted}
 use Rattle.sl_trace.specs.declared.command.LockspaceArg.{LockspaceArg}
 use Rattle.sl_trace.specs.declared.effects.Call.{Call}

@@ -3,8 +3,8 @@ use Rattle.sl_clocks.specs.Watchdog.{Connected, Lately_reset}
 use Rattle.sl_run_law.specs.Course.Mirrors.{AreNumbered, since_restart}
 use Rattle.sl_run_law.specs.Course.Promises.{CoursesAreCalls, CoursesHaveDaemons, DaemonsAreOfWorld, EntriesAreStamped, MachinesMirror}
 use Rattle.sl_run_law.specs.Course.Stamping.{AnswersAgree, AreCalls, IsCourseOf, Pairwise, courses_of}
-use Rattle.sl_law.proofs.LawFacts.{orderly-front}
-use Rattle.sl_law.specs.Lawful.{Orderly}
+use Rattle.sl_run.proofs.LawFacts.{orderly-front}
+use Rattle.sl_run.specs.Lawful.{Orderly}
 use Rattle.sl_run_law.specs.Moment.Moments.{StampsDrift, point_of}
 use Rattle.sl_plain.proofs.Lists.{any_found, contains_cases, contains_first, contains_more, contains_none, find_inside, got_inside, kept}
 use Rattle.sl_plain.proofs.Options.{mapped_value, none_is, some_of, then_value}
@@ -16,8 +16,8 @@ use Rattle.sl_trace_law.proofs.Sessions.Covering.{writes_are_covered}
 use Rattle.sl_trace_law.proofs.Sessions.Making.{calls_are_made}
 use Rattle.sl_trace_law.proofs.Sessions.Owning.{sessions_stay}
 use Rattle.sl_trace_law.specs.Sessions.Promises.{IsSession}
-use Rattle.sl_sessions.specs.Sessions.{has_open_write, session_numbered}
-use Rattle.sl_sessions.specs.declared.session.Session.{Session}
+use Rattle.sl_trace.specs.Sessions.{has_open_write, session_numbered}
+use Rattle.sl_trace.specs.declared.session.Session.{Session}
 use Rattle.sl_time.specs.Times.{TimingNumbers}
 use Rattle.sl_trace.specs.Connections.{connection_named}
 use Rattle.sl_trace.specs.Traces.{Answered, Setting, Submitted, Trace, is_write, submitted}

@@ -1,10 +1,10 @@
 -- Nothing in a trace has a later reading than its newest entry.
 use Rattle.sl_plain.proofs.Lists.{contains_none, find_inside}
 use Rattle.sl_trace_law.proofs.Sessions.Making.{old_or_new, was_marked}
-use Rattle.sl_sessions.specs.Sessions.{begun_in, is_call_of, is_joined, is_renewal, last_renewal, recovers, renewed_by, renewing, session_numbered, sessions, shows_other}
-use Rattle.sl_sessions.specs.declared.session.Begun.{Begun}
-use Rattle.sl_sessions.specs.declared.session.Renewing.{Renewing}
-use Rattle.sl_sessions.specs.declared.session.Session.{Session}
+use Rattle.sl_trace.specs.Sessions.{begun_in, is_call_of, is_joined, is_renewal, last_renewal, recovers, renewed_by, renewing, session_numbered, sessions, shows_other}
+use Rattle.sl_trace.specs.declared.session.Begun.{Begun}
+use Rattle.sl_trace.specs.declared.session.Renewing.{Renewing}
+use Rattle.sl_trace.specs.declared.session.Session.{Session}
 use Rattle.sl_time.specs.Times.{fail}
 use Rattle.sl_trace.specs.Connections.{last_registering, registers}
 use Rattle.sl_trace.specs.Traces.{IsTrace, Setting, Submitted, Trace, call_numbered, last_reading, mark, submitted}

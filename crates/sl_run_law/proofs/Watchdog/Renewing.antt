@@ -1,14 +1,14 @@
 -- Renewals: one is open at a time, so the last that counts moves on.
-use Rattle.sl_law.proofs.LawFacts.{orderly-front}
-use Rattle.sl_law.specs.Lawful.{Orderly}
-use Rattle.sl_law.specs.Saying.{cut_at}
+use Rattle.sl_run.proofs.LawFacts.{orderly-front}
+use Rattle.sl_run.specs.Lawful.{Orderly}
+use Rattle.sl_run.specs.Saying.{cut_at}
 use Rattle.sl_plain.proofs.Lists.{contains_cases, contains_none, got_inside}
 use Rattle.sl_trace_law.proofs.Sessions.Growing.{mine_marked, mine_next, other_next, to_all}
 use Rattle.sl_trace_law.proofs.Sessions.Making.{old_or_new, was_marked}
 use Rattle.sl_trace_law.proofs.Sessions.Owning.{is_the_one, session_more}
 use Rattle.sl_trace_law.specs.Sessions.Promises.{IsSession}
-use Rattle.sl_sessions.specs.Sessions.{calls_of, is_delta_purpose, is_renewal, last_renewal, session_numbered}
-use Rattle.sl_sessions.specs.declared.session.Session.{Session}
+use Rattle.sl_trace.specs.Sessions.{calls_of, is_delta_purpose, is_renewal, last_renewal, session_numbered}
+use Rattle.sl_trace.specs.declared.session.Session.{Session}
 use Rattle.sl_trace.specs.Traces.{Setting, Submitted, Trace, call_numbered, is_answer_for, is_write, mark, new_call, submitted}
 use Rattle.sl_trace.specs.declared.effects.Call.{Call}
 use Rattle.sl_trace.specs.declared.effects.Entry.{Entry}

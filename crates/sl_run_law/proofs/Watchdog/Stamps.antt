@@ -1,16 +1,16 @@
 -- The stamp from which a session's connection counts, and its reading.
 use Rattle.sl_run_law.proofs.Course.Matching.{newest_stamp, stamp_stays}
 use Rattle.sl_run_law.specs.Course.Stamping.{IsStampOf, IsStamped, Pairwise, stamp_in}
-use Rattle.sl_law.proofs.LawFacts.{orderly-front}
-use Rattle.sl_law.specs.Lawful.{Orderly}
-use Rattle.sl_law.specs.LawfulWatchdog.{acts_until, is_covered}
+use Rattle.sl_run.proofs.LawFacts.{orderly-front}
+use Rattle.sl_run.specs.Lawful.{Orderly}
+use Rattle.sl_run.specs.LawfulWatchdog.{acts_until, is_covered}
 use Rattle.sl_plain.proofs.Lists.{contains_first, contains_more, contains_none, find_inside}
 use Rattle.sl_run.specs.Worlds.{Daemon, Stamp}
 use Rattle.sl_trace_law.proofs.Sessions.Joining.{joined_before}
 use Rattle.sl_trace_law.proofs.Sessions.Making.{old_or_new, was_marked}
 use Rattle.sl_trace_law.specs.Sessions.Promises.{IsSession}
-use Rattle.sl_sessions.specs.Sessions.{joined_after, last_renewal}
-use Rattle.sl_sessions.specs.declared.session.Session.{Session}
+use Rattle.sl_trace.specs.Sessions.{joined_after, last_renewal}
+use Rattle.sl_trace.specs.declared.session.Session.{Session}
 use Rattle.sl_time.specs.Times.{fail, reading_of}
 use Rattle.sl_trace.specs.Connections.{last_registering, registers}
 use Rattle.sl_trace.specs.Traces.{Setting, Submitted, Trace, mark, submitted}

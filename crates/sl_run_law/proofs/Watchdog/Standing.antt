@@ -1,7 +1,7 @@
 -- A session's connection stands while a write of it is unanswered, and nothing registers its name meanwhile.
-use Rattle.sl_law.proofs.LawFacts.{orderly-front}
-use Rattle.sl_law.specs.Lawful.{Orderly}
-use Rattle.sl_law.specs.LawfulWatchdog.{is_covered}
+use Rattle.sl_run.proofs.LawFacts.{orderly-front}
+use Rattle.sl_run.specs.Lawful.{Orderly}
+use Rattle.sl_run.specs.LawfulWatchdog.{is_covered}
 use Rattle.sl_plain.proofs.Lists.{contains_none, got_inside}
 use Rattle.sl_trace_law.proofs.Sessions.Covering.{by_stage, covered_in}
 use Rattle.sl_trace_law.proofs.Sessions.Joining.{in_turn}
@@ -9,8 +9,8 @@ use Rattle.sl_trace_law.proofs.Sessions.Making.{old_or_new, was_marked}
 use Rattle.sl_trace_law.proofs.Sessions.Ordering.{begun_before}
 use Rattle.sl_trace_law.proofs.Sessions.Parting.{not_removed}
 use Rattle.sl_trace_law.specs.Sessions.Promises.{IsSession}
-use Rattle.sl_sessions.specs.Sessions.{calls_of, free_write, has_open_write, is_covered_stage, joined_after, refused_after, removed_after, session_numbered, sessions, stage_in, stage_of}
-use Rattle.sl_sessions.specs.declared.session.Session.{Session}
+use Rattle.sl_trace.specs.Sessions.{calls_of, free_write, has_open_write, is_covered_stage, joined_after, refused_after, removed_after, session_numbered, sessions, stage_in, stage_of}
+use Rattle.sl_trace.specs.declared.session.Session.{Session}
 use Rattle.sl_trace.specs.Connections.{last_registering, registers, unregisters}
 use Rattle.sl_trace.specs.Traces.{Setting, Submitted, Trace, is_write, mark, submitted}
 use Rattle.sl_trace.specs.declared.effects.Entry.{Entry}

@@ -1,6 +1,6 @@
 -- A step of a machine's daemon, or of the machine itself, leaves it watched.
 use Rattle.sl_run_law.specs.Course.Mirrors.{AreNumbered, since_restart}
-use Rattle.sl_law.specs.Lawful.{Orderly}
+use Rattle.sl_run.specs.Lawful.{Orderly}
 use Rattle.sl_plain.proofs.Lists.{contains_cases, contains_first, contains_none, kept_inside}
 use Rattle.sl_run.specs.Events.{after_effects, after_step, daemon_number, new_course, with_entry}
 use Rattle.sl_run.specs.Locks.{Locks}

@@ -3,7 +3,7 @@
 -- could be taken for one of this.
 use Rattle.sl_area.specs.Places.{delta_offset, in_area}
 use Rattle.sl_run_law.specs.Landing.Landings.{IsWrittenBy}
-use Rattle.sl_law.specs.LawfulArea.{is_delta_record, record_offset}
+use Rattle.sl_run.specs.LawfulArea.{is_delta_record, record_offset}
 use Rattle.sl_run.specs.Runs.{Happening}
 use Rattle.sl_run.specs.Safety.{Found, IsSession, LawfulRun, SessionId, is_course_of, setting_in, world_at}
 use Rattle.sl_run.specs.Worlds.{Landing, Program, World}

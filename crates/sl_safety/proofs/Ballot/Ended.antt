@@ -14,12 +14,12 @@ use Rattle.sl_safety.specs.Ballot.Endings.{HostsJoin, holder_as}
 use Rattle.sl_ballots.specs.Ballots.{BallotEnded, IsClean}
 use Rattle.sl_ballots.specs.History.{History}
 use Rattle.sl_run_law.specs.Course.Stamping.{stamp_in}
-use Rattle.sl_law.specs.LawfulArea.{is_area_work}
-use Rattle.sl_law.specs.LawfulBlock.{ReadAfter}
+use Rattle.sl_run.specs.LawfulArea.{is_area_work}
+use Rattle.sl_run.specs.LawfulBlock.{ReadAfter}
 use Rattle.sl_trace_law.proofs.Leases.RestLaws.{phase2_is_read}
 use Rattle.sl_trace_law.specs.Leases.Ways.{Phase2ReadRests, lease_among}
-use Rattle.sl_leases.specs.Ballots.{stop_of, value_of}
-use Rattle.sl_leases.specs.Leases.{Phase2_read, Phase2_write, block_submitted, block_written, blocks_given, is_at, is_lease_call, is_on, spot_of_call}
+use Rattle.sl_trace.specs.Ballots.{stop_of, value_of}
+use Rattle.sl_trace.specs.Leases.{Phase2_read, Phase2_write, block_submitted, block_written, blocks_given, is_at, is_lease_call, is_on, spot_of_call}
 use Rattle.sl_run_law.proofs.Place.Proven.{promised}
 use Rattle.sl_run_law.proofs.Place.Reading.{lawful_daemon, session_inside}
 use Rattle.sl_history.proofs.Resources.Above.{line_aligned, reads_work}
@@ -36,8 +36,8 @@ use Rattle.sl_run.specs.Worlds.{Daemon, Program, Stamp, World}
 use Rattle.sl_run.specs.declared.header.Header.{Header}
 use Rattle.sl_run.specs.declared.header.ResourceLine.{ResourceLine}
 use Rattle.sl_sector.specs.declared.sector.Block.{Block}
-use Rattle.sl_sessions.specs.Sessions.{session_numbered}
-use Rattle.sl_sessions.specs.declared.session.Session.{Session}
+use Rattle.sl_trace.specs.Sessions.{session_numbered}
+use Rattle.sl_trace.specs.declared.session.Session.{Session}
 use Rattle.sl_trace.specs.Traces.{Answered, Setting, Submitted, Trace, new_call, submitted}
 use Rattle.sl_trace.specs.declared.effects.Call.{Call}
 use Rattle.sl_trace.specs.declared.effects.Spot.{Spot}

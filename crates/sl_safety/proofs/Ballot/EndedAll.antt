@@ -8,8 +8,8 @@ use Rattle.sl_run_law.specs.Course.Stamping.{Pairwise}
 use Rattle.sl_trace_law.proofs.Leases.AnswerLaws.{answers_within}
 use Rattle.sl_trace_law.proofs.Leases.EndLaws.{ended}
 use Rattle.sl_trace_law.specs.Leases.Ways.{Ended, lease_among}
-use Rattle.sl_leases.specs.Ballots.{value_of}
-use Rattle.sl_leases.specs.Leases.{Phase2_read, block_submitted, blocks_given, is_at, is_lease_call, is_on, lease_calls}
+use Rattle.sl_trace.specs.Ballots.{value_of}
+use Rattle.sl_trace.specs.Leases.{Phase2_read, block_submitted, blocks_given, is_at, is_lease_call, is_on, lease_calls}
 use Rattle.sl_run_law.proofs.Place.Daemons.{daemons_are_fine, stamp_order}
 use Rattle.sl_run_law.proofs.Place.Reading.{answer_gave, session_inside}
 use Rattle.sl_plain.proofs.Numbers.{below_suc}
@@ -22,8 +22,8 @@ use Rattle.sl_run.specs.Safety.{Found, setting_in, trace_of, world_at}
 use Rattle.sl_run.specs.Worlds.{World}
 use Rattle.sl_sector.specs.declared.sector.Block.{Block}
 use Rattle.sl_sector.specs.declared.sector.Owner.{Owner}
-use Rattle.sl_sessions.specs.Sessions.{calls_of, is_call_of}
-use Rattle.sl_sessions.specs.declared.session.Session.{Session}
+use Rattle.sl_trace.specs.Sessions.{calls_of, is_call_of}
+use Rattle.sl_trace.specs.declared.session.Session.{Session}
 use Rattle.sl_trace.specs.Traces.{Answered, Setting, Submitted, Trace, new_call, submitted}
 use Rattle.sl_trace.specs.declared.effects.Call.{Call}
 use Rattle.sl_trace.specs.declared.effects.Spot.{Spot}

@@ -2,10 +2,10 @@
 -- had one.
 use Rattle.sl_run_law.specs.Course.Stamping.{Pairwise}
 use Rattle.sl_trace_law.specs.Leases.Ways.{lease_among}
-use Rattle.sl_leases.specs.Leases.{block_of_record, block_submitted, block_written}
+use Rattle.sl_trace.specs.Leases.{block_of_record, block_submitted, block_written}
 use Rattle.sl_history.proofs.Resources.Lasting.{kept_calls, lease_kept, of_lease}
 use Rattle.sl_trace_law.proofs.Sessions.Making.{same_answered}
-use Rattle.sl_sessions.specs.declared.session.Session.{Session}
+use Rattle.sl_trace.specs.declared.session.Session.{Session}
 use Rattle.sl_trace.specs.Traces.{Answered, Setting, Submitted, Trace, answer_of, answered_in, mark, new_call, record_of, submitted}
 use Rattle.sl_trace.specs.declared.effects.Call.{Call}
 use Rattle.sl_trace.specs.declared.effects.Entry.{Entry}

@@ -6,10 +6,10 @@ use Rattle.sl_safety.proofs.Ballot.EndedAll.{ends_in}
 use Rattle.sl_safety.proofs.Ballot.Phase2Hosts.{written_in}
 use Rattle.sl_safety.proofs.Ballot.Phase2Stands.{stands_at}
 use Rattle.sl_safety.specs.Ballot.Enders.{EndersAreJoined}
-use Rattle.sl_law.specs.LawfulArea.{LawfulAreaWrite}
+use Rattle.sl_run.specs.LawfulArea.{LawfulAreaWrite}
 use Rattle.sl_trace_law.proofs.Leases.EndLaws.{ended}
 use Rattle.sl_trace_law.specs.Leases.Ways.{lease_among}
-use Rattle.sl_leases.specs.Leases.{block_of_record, is_on, lease_calls, spot_of_call}
+use Rattle.sl_trace.specs.Leases.{block_of_record, is_on, lease_calls, spot_of_call}
 use Rattle.sl_run_law.proofs.Place.Homing.{at_home}
 use Rattle.sl_run_law.proofs.Place.Leased.{IsLeased, verified_leased}
 use Rattle.sl_run_law.proofs.Place.Proven.{promised}
@@ -28,8 +28,8 @@ use Rattle.sl_run.specs.declared.header.ResourceLine.{ResourceLine}
 use Rattle.sl_sector.specs.declared.sector.Block.{Block}
 use Rattle.sl_sector.specs.declared.sector.Rec.TheVariants.{BlockIs}
 use Rattle.sl_trace_law.specs.Sessions.Promises.{front_of, made_as}
-use Rattle.sl_sessions.specs.Sessions.{session_numbered}
-use Rattle.sl_sessions.specs.declared.session.Session.{Session}
+use Rattle.sl_trace.specs.Sessions.{session_numbered}
+use Rattle.sl_trace.specs.declared.session.Session.{Session}
 use Rattle.sl_trace.specs.Traces.{Setting, Submitted, Trace, record_of, submitted}
 use Rattle.sl_trace.specs.declared.effects.Call.{Call}
 use Rattle.sl_trace.specs.declared.effects.Spot.{Spot}

@@ -5,7 +5,7 @@ use Rattle.sl_safety.specs.Ballot.Reasons.{HistoriesKeepTheirBallots}
 use Rattle.sl_ballots.specs.Ballots.{IsPhase2, Mode_only, Phase, Phase_1, Phase_2}
 use Rattle.sl_ballots.specs.History.{History}
 use Rattle.sl_trace_law.specs.Leases.Ways.{Of_mode, Of_phase1, Of_phase2, Way}
-use Rattle.sl_leases.specs.Leases.{Phase1_write, Phase2_write, StepKind, is_at}
+use Rattle.sl_trace.specs.Leases.{Phase1_write, Phase2_write, StepKind, is_at}
 use Rattle.sl_history.proofs.Resources.Above.{WrittenAt, written_at}
 use Rattle.sl_history.proofs.Resources.Bases.{Based, based, own_host}
 use Rattle.sl_history.proofs.Resources.Calls.{worker_joined}

@@ -7,11 +7,11 @@ use Rattle.sl_safety.specs.Ballot.Endings.{HostsJoin, holder_as}
 use Rattle.sl_safety.specs.Ballot.Leading.{LeadersFollowBallots}
 use Rattle.sl_ballots.specs.Ballots.{BallotEnded}
 use Rattle.sl_ballots.specs.History.{History, Owner as Holder}
-use Rattle.sl_law.specs.Saying.{cut_at}
+use Rattle.sl_run.specs.Saying.{cut_at}
 use Rattle.sl_trace_law.proofs.Leases.EndLaws.{leaders_follow}
 use Rattle.sl_trace_law.specs.Leases.Ways.{Ended, LeaderRests, lease_among}
-use Rattle.sl_leases.specs.Ballots.{owner_of, same_owner, value_of}
-use Rattle.sl_leases.specs.Leases.{block_submitted, is_lease_call, is_on, leader_of_record}
+use Rattle.sl_trace.specs.Ballots.{owner_of, same_owner, value_of}
+use Rattle.sl_trace.specs.Leases.{block_submitted, is_lease_call, is_on, leader_of_record}
 use Rattle.sl_plain.proofs.Lists.{contains_first}
 use Rattle.sl_plain.proofs.Options.{some_there}
 use Rattle.sl_history.proofs.Resources.Above.{IsAmong, answer_step, answered_before, line_aligned, reads_work, told_spot}
@@ -29,8 +29,8 @@ use Rattle.sl_sector.specs.declared.sector.Block.{Block}
 use Rattle.sl_sector.specs.declared.sector.Leader.{Leader}
 use Rattle.sl_sector.specs.declared.sector.Owner.{Owner}
 use Rattle.sl_run_law.proofs.Front.Having.{contains_right}
-use Rattle.sl_sessions.specs.Sessions.{is_call_of, me}
-use Rattle.sl_sessions.specs.declared.session.Session.{Session}
+use Rattle.sl_trace.specs.Sessions.{is_call_of, me}
+use Rattle.sl_trace.specs.declared.session.Session.{Session}
 use Rattle.sl_trace.specs.Traces.{Setting, Submitted, record_of, submitted}
 use Rattle.sl_trace.specs.declared.effects.Call.{Call}
 use Rattle.sl_trace.specs.declared.effects.Spot.{Spot}

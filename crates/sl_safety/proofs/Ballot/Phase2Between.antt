@@ -2,8 +2,8 @@
 -- session's last.
 use Rattle.sl_safety.proofs.Ballot.Phase2Last.{OwnLast, one_block}
 use Rattle.sl_run_law.specs.Course.Stamping.{AnswersAgree, IsAnsweredAs, IsCourseOf, stamp_in}
-use Rattle.sl_law.specs.LawfulBlock.{ReadAfter}
-use Rattle.sl_leases.specs.Leases.{is_on}
+use Rattle.sl_run.specs.LawfulBlock.{ReadAfter}
+use Rattle.sl_trace.specs.Leases.{is_on}
 use Rattle.sl_run_law.proofs.Place.Daemons.{daemons_are_fine, stamp_order}
 use Rattle.sl_run_law.proofs.Place.Finding.{finds}
 use Rattle.sl_plain.proofs.Lists.{find_inside}

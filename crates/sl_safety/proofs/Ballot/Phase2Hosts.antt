@@ -1,10 +1,10 @@
 -- Each block names the host of its session: it comes from phase 1, or from a block of the session, or from one that a read showed at the
 -- host's place.
-use Rattle.sl_law.specs.Lawful.{Orderly}
+use Rattle.sl_run.specs.Lawful.{Orderly}
 use Rattle.sl_trace_law.proofs.Leases.ComingLaws.{blocks_come}
 use Rattle.sl_trace_law.proofs.Leases.NumberLaws.{number_is_place}
 use Rattle.sl_trace_law.specs.Leases.Ways.{BlockComes, Of_mode, Of_phase1, Of_phase2, Way, lease_among}
-use Rattle.sl_leases.specs.Leases.{block_of_host, block_submitted, block_written, blocks_given, spot_of_call}
+use Rattle.sl_trace.specs.Leases.{block_of_host, block_submitted, block_written, blocks_given, spot_of_call}
 use Rattle.sl_run_law.proofs.Place.Seats.{sized_in}
 use Rattle.sl_plain.proofs.Lists.{contains_cases, contains_first, contains_more, contains_none}
 use Rattle.sl_plain.proofs.Numbers.{back_again}
@@ -21,8 +21,8 @@ use Rattle.sl_run.specs.Worlds.{Daemon, Machine, Program, World}
 use Rattle.sl_run.specs.declared.header.Header.{Header}
 use Rattle.sl_sector.specs.declared.sector.Block.{Block}
 use Rattle.sl_run_law.proofs.Front.Having.{contains_right}
-use Rattle.sl_sessions.specs.Sessions.{session_numbered}
-use Rattle.sl_sessions.specs.declared.session.Session.{Session}
+use Rattle.sl_trace.specs.Sessions.{session_numbered}
+use Rattle.sl_trace.specs.declared.session.Session.{Session}
 use Rattle.sl_trace.specs.Traces.{Setting, Submitted, Trace, submitted}
 use Rattle.sl_words.proofs.CaseLaws.{none_some}
 use Rattle.sl_words.proofs.WordLaws.{and_true}

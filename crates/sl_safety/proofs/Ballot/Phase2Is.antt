@@ -14,13 +14,13 @@ use Rattle.sl_safety.specs.Ballot.Endings.{HostsJoin, holder_as}
 use Rattle.sl_ballots.specs.Ballots.{IsClean, IsPhase1, IsPhase2, ProposesItself, ProposesSeen}
 use Rattle.sl_ballots.specs.History.{History}
 use Rattle.sl_run_law.specs.Course.Stamping.{AnswersAgree, IsAnsweredAs, IsCourseOf}
-use Rattle.sl_law.specs.LawfulArea.{is_area_work}
-use Rattle.sl_law.specs.Saying.{cut_at}
+use Rattle.sl_run.specs.LawfulArea.{is_area_work}
+use Rattle.sl_run.specs.Saying.{cut_at}
 use Rattle.sl_trace_law.proofs.Leases.NumberLaws.{number_is_place}
 use Rattle.sl_trace_law.proofs.Leases.RestLaws.{phase2_follows}
 use Rattle.sl_trace_law.specs.Leases.Ways.{Phase2Rests}
-use Rattle.sl_leases.specs.Ballots.{ballot_blocks, moded_block, phase2_block, value_to_write}
-use Rattle.sl_leases.specs.Leases.{Phase1_write, Phase2_write, blocks_given, is_at, is_on}
+use Rattle.sl_trace.specs.Ballots.{ballot_blocks, moded_block, phase2_block, value_to_write}
+use Rattle.sl_trace.specs.Leases.{Phase1_write, Phase2_write, blocks_given, is_at, is_on}
 use Rattle.sl_plain.proofs.Numbers.{lt_then_le}
 use Rattle.sl_history.proofs.Resources.Above.{IsAmong, WrittenAt, answer_step, answered_before, is_among, line_aligned, reads_work, told_spot, written_at}
 use Rattle.sl_history.proofs.Resources.Bases.{own_host}
@@ -39,7 +39,7 @@ use Rattle.sl_run.specs.declared.header.Header.{Header}
 use Rattle.sl_run.specs.declared.header.ResourceLine.{ResourceLine}
 use Rattle.sl_sector.specs.declared.sector.Block.{Block}
 use Rattle.sl_sector.specs.declared.sector.Owner.{Owner}
-use Rattle.sl_sessions.specs.Sessions.{me, session_numbered}
+use Rattle.sl_trace.specs.Sessions.{me, session_numbered}
 use Rattle.sl_trace.specs.Traces.{Answered, Setting, Submitted, Trace, new_call, submitted}
 use Rattle.sl_trace.specs.declared.effects.Call.{Call}
 use Rattle.sl_trace.specs.declared.effects.Spot.{Spot}

@@ -1,8 +1,8 @@
 -- The block that a session wrote last before a call of its lease, in its trace and in the history: they are one.
 use Rattle.sl_run_law.specs.Course.Stamping.{IsCourseOf, Pairwise}
-use Rattle.sl_law.specs.LawfulArea.{is_area_work}
+use Rattle.sl_run.specs.LawfulArea.{is_area_work}
 use Rattle.sl_trace_law.specs.Leases.Ways.{lease_among}
-use Rattle.sl_leases.specs.Leases.{block_of_record, block_written, is_lease_call, is_on}
+use Rattle.sl_trace.specs.Leases.{block_of_record, block_written, is_lease_call, is_on}
 use Rattle.sl_run_law.specs.Moment.Orders.{CallsFall}
 use Rattle.sl_run_law.proofs.Place.Finding.{finds}
 use Rattle.sl_plain.proofs.Lists.{contains_cases, contains_first, contains_more, find_inside}
@@ -20,7 +20,7 @@ use Rattle.sl_run.specs.Safety.{LawfulRun, world_at}
 use Rattle.sl_run.specs.Worlds.{Course, Daemon, Program, World}
 use Rattle.sl_run.specs.declared.header.Header.{Header}
 use Rattle.sl_run.specs.declared.header.ResourceLine.{ResourceLine}
-use Rattle.sl_sessions.specs.Sessions.{is_call_of}
+use Rattle.sl_trace.specs.Sessions.{is_call_of}
 use Rattle.sl_trace.specs.Traces.{Submitted, is_write, new_call, record_of}
 use Rattle.sl_trace.specs.declared.effects.Call.{Call}
 use Rattle.sl_trace.specs.declared.effects.Spot.{Spot}

@@ -6,7 +6,7 @@ use Rattle.sl_safety.proofs.Ballot.Phase2Hosts.{block_host}
 use Rattle.sl_run_law.proofs.Course.Distinct.{nothing_more}
 use Rattle.sl_run_law.specs.Course.Stamping.{AnswersAgree, IsAnsweredAs}
 use Rattle.sl_run_law.specs.Landing.Landings.{LeftBy}
-use Rattle.sl_leases.specs.Leases.{block_of_record, blocks_given, is_area_read, is_block_read, is_on}
+use Rattle.sl_trace.specs.Leases.{block_of_record, blocks_given, is_area_read, is_block_read, is_on}
 use Rattle.sl_run_law.proofs.Place.Reading.{answer_gave, digest_is, writes_record}
 use Rattle.sl_run_law.proofs.Place.Seats.{sized_in}
 use Rattle.sl_run_law.proofs.Place.Sizes.{sector_fits}

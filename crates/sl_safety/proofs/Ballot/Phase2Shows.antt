@@ -3,8 +3,8 @@
 use Rattle.sl_safety.proofs.Ballot.Phase2Reads.{given_at, not_torn, read_told}
 use Rattle.sl_ballots.specs.Ballots.{IsClean}
 use Rattle.sl_ballots.specs.History.{History}
-use Rattle.sl_leases.specs.Ballots.{ballot_blocks, known_block, stop_of, with_own}
-use Rattle.sl_leases.specs.Leases.{blocks_given, is_on}
+use Rattle.sl_trace.specs.Ballots.{ballot_blocks, known_block, stop_of, with_own}
+use Rattle.sl_trace.specs.Leases.{blocks_given, is_on}
 use Rattle.sl_plain.proofs.Numbers.{one_again, zero_is_least}
 use Rattle.sl_history.proofs.Resources.Bases.{own_host}
 use Rattle.sl_history.proofs.Resources.Calls.{read_at_step}

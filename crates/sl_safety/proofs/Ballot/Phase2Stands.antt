@@ -2,7 +2,7 @@
 use Rattle.sl_run_law.proofs.Course.Matched.{courses_are_calls}
 use Rattle.sl_run_law.specs.Course.Stamping.{IsCourseOf, Pairwise, courses_of}
 use Rattle.sl_run_law.proofs.Front.Having.{contains_right}
-use Rattle.sl_law.specs.Lawful.{Orderly}
+use Rattle.sl_run.specs.Lawful.{Orderly}
 use Rattle.sl_run_law.specs.Moment.Orders.{CallsFall}
 use Rattle.sl_plain.proofs.Lists.{contains_first, kept_inside}
 use Rattle.sl_history.proofs.Resources.Latest.{sent_as}
@@ -13,8 +13,8 @@ use Rattle.sl_run.specs.Runs.{Happening}
 use Rattle.sl_run.specs.Safety.{LawfulRun, world_at}
 use Rattle.sl_run.specs.Worlds.{Course, Daemon, Machine, Program, World, daemon_numbered, daemons_on, machine_at}
 use Rattle.sl_run.specs.declared.header.Header.{Header}
-use Rattle.sl_sessions.specs.Sessions.{session_numbered}
-use Rattle.sl_sessions.specs.declared.session.Session.{Session}
+use Rattle.sl_trace.specs.Sessions.{session_numbered}
+use Rattle.sl_trace.specs.declared.session.Session.{Session}
 use Rattle.sl_trace.specs.Traces.{Submitted, submitted}
 use Rattle.sl_words.proofs.CaseLaws.{one_value}
 use Rattle.std.proofs.Common.{ap, refl, subst, sym, ◌∙◌}

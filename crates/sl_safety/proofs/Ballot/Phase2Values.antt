@@ -6,7 +6,7 @@ use Rattle.sl_safety.proofs.Ballot.Phase2Shows.{OwnRead, host_shown, none_shown}
 use Rattle.sl_safety.specs.Ballot.Endings.{holder_as}
 use Rattle.sl_ballots.specs.Ballots.{ProposesItself, ProposesSeen}
 use Rattle.sl_ballots.specs.History.{History}
-use Rattle.sl_leases.specs.Ballots.{ballot_blocks, value_to_write, whole_blocks, with_own}
+use Rattle.sl_trace.specs.Ballots.{ballot_blocks, value_to_write, whole_blocks, with_own}
 use Rattle.sl_plain.proofs.Lists.{contains_cases, contains_none}
 use Rattle.sl_plain.proofs.Numbers.{both_next, zero_is_least, zero_less}
 use Rattle.sl_history.proofs.Resources.Looking.{By_area, By_phase, Gave}

@@ -10,13 +10,13 @@ use Rattle.sl_safety.specs.Ballot.Endings.{EndedBallotsEnd, HostsJoin, holder_as
 use Rattle.sl_ballots.specs.Ballots.{BeginReason, Begun, Freed_before, LeaderSubmitted, Leads_itself, Lost_before, Never_led, Owner_over}
 use Rattle.sl_ballots.specs.History.{History, Owner as Holder}
 use Rattle.sl_run_law.specs.Course.Stamping.{stamp_in}
-use Rattle.sl_law.specs.LawfulArea.{is_area_work}
-use Rattle.sl_law.specs.LawfulBlock.{Block_above, Freed_before as Freed_in_trace, Leader_before, Leader_own, Lost_before as Lost_in_trace, Own_block}
-use Rattle.sl_law.specs.LawfulBlock.{BeginReason as TraceReason}
-use Rattle.sl_law.specs.Saying.{cut_at}
+use Rattle.sl_run.specs.LawfulArea.{is_area_work}
+use Rattle.sl_run.specs.LawfulBlock.{Block_above, Freed_before as Freed_in_trace, Leader_before, Leader_own, Lost_before as Lost_in_trace, Own_block}
+use Rattle.sl_run.specs.LawfulBlock.{BeginReason as TraceReason}
+use Rattle.sl_run.specs.Saying.{cut_at}
 use Rattle.sl_trace_law.specs.Leases.Fronts.{Submission}
-use Rattle.sl_leases.specs.Ballots.{owner_of, same_owner}
-use Rattle.sl_leases.specs.Leases.{ended_ballots, is_on, lease_calls, spot_of_call}
+use Rattle.sl_trace.specs.Ballots.{owner_of, same_owner}
+use Rattle.sl_trace.specs.Leases.{ended_ballots, is_on, lease_calls, spot_of_call}
 use Rattle.sl_plain.proofs.Numbers.{refl_le}
 use Rattle.sl_history.proofs.Resources.Above.{line_aligned}
 use Rattle.sl_history.proofs.Resources.Calls.{block_at_step}
@@ -36,8 +36,8 @@ use Rattle.sl_run.specs.declared.header.ResourceLine.{ResourceLine}
 use Rattle.sl_sector.specs.declared.sector.Block.{Block}
 use Rattle.sl_sector.specs.declared.sector.Leader.{Leader}
 use Rattle.sl_sector.specs.declared.sector.Owner.{Owner}
-use Rattle.sl_sessions.specs.Sessions.{me}
-use Rattle.sl_sessions.specs.Watching.{counted_over}
+use Rattle.sl_trace.specs.Sessions.{me}
+use Rattle.sl_trace.specs.Watching.{counted_over}
 use Rattle.sl_trace.specs.Traces.{Setting, Trace}
 use Rattle.sl_words.proofs.CaseLaws.{true_is_false}
 use Rattle.sl_words.proofs.WordLaws.{and_true}

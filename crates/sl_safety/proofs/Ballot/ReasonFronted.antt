@@ -4,9 +4,9 @@ use Rattle.sl_safety.proofs.Ballot.ReasonEvidence.{found_of_standing}
 use Rattle.sl_safety.proofs.Ballot.ReasonNames.{cut_keeps, generation_stays}
 use Rattle.sl_safety.specs.Ballot.Endings.{holder_as}
 use Rattle.sl_ballots.specs.History.{Owner as Holder}
-use Rattle.sl_law.specs.Lawful.{Orderly}
-use Rattle.sl_law.specs.LawfulArea.{is_area_work}
-use Rattle.sl_law.specs.Saying.{cut_at}
+use Rattle.sl_run.specs.Lawful.{Orderly}
+use Rattle.sl_run.specs.LawfulArea.{is_area_work}
+use Rattle.sl_run.specs.Saying.{cut_at}
 use Rattle.sl_trace_law.proofs.Leases.FrontLaws.{lawful_there}
 use Rattle.sl_trace_law.proofs.Leases.NumberLaws.{number_is_place}
 use Rattle.sl_trace_law.specs.Leases.Fronts.{Submission}
@@ -17,8 +17,8 @@ use Rattle.sl_history.specs.Resources.Sending.{Sent, holder_of, sender_of}
 use Rattle.sl_run.specs.Worlds.{World}
 use Rattle.sl_trace_law.proofs.Sessions.Owning.{owned}
 use Rattle.sl_trace_law.specs.Sessions.Promises.{IsSession}
-use Rattle.sl_sessions.specs.Sessions.{generation_of, is_active, joined_after, leaving_job, me, recovery_of, removed_after, session_numbered}
-use Rattle.sl_sessions.specs.declared.session.Session.{Session}
+use Rattle.sl_trace.specs.Sessions.{generation_of, is_active, joined_after, leaving_job, me, recovery_of, removed_after, session_numbered}
+use Rattle.sl_trace.specs.declared.session.Session.{Session}
 use Rattle.sl_trace.specs.Traces.{Setting, Trace}
 use Rattle.sl_words.proofs.WordLaws.{and_true}
 use Rattle.std.proofs.Common.{ap, subst, sym, ◌∙◌}

@@ -5,8 +5,8 @@ use Rattle.sl_safety.specs.Ballot.Endings.{EndedBallotsEnd}
 use Rattle.sl_safety.specs.Ballot.Reasons.{InstancesHaveReasons}
 use Rattle.sl_ballots.specs.Ballots.{BeginReason}
 use Rattle.sl_ballots.specs.History.{History}
-use Rattle.sl_law.specs.LawfulBlock.{LawfulPhase1}
-use Rattle.sl_leases.specs.Leases.{Phase1_write, freed, is_at, lease_calls, lease_step, spot_of_call}
+use Rattle.sl_run.specs.LawfulBlock.{LawfulPhase1}
+use Rattle.sl_trace.specs.Leases.{Phase1_write, freed, is_at, lease_calls, lease_step, spot_of_call}
 use Rattle.sl_plain.proofs.Numbers.{above_zero}
 use Rattle.sl_history.proofs.Resources.Above.{block_by, line_aligned, told_spot}
 use Rattle.sl_history.proofs.Resources.Calls.{found_at, worker_joined}

@@ -2,8 +2,8 @@
 use Rattle.sl_area.specs.Layouts.{Layout, layout_with, record_in, sector_with}
 use Rattle.sl_area.specs.Places.{fresh_block, fresh_leader, in_area, leader_of, no_request, no_value, sector_of}
 use Rattle.sl_run_law.proofs.Landing.Initial.{initial_is_record}
-use Rattle.sl_law.specs.LawfulArea.{IsAreaRead}
-use Rattle.sl_leases.specs.Leases.{is_area_read, is_on, leader_of_record, spot_of_call}
+use Rattle.sl_run.specs.LawfulArea.{IsAreaRead}
+use Rattle.sl_trace.specs.Leases.{is_area_read, is_on, leader_of_record, spot_of_call}
 use Rattle.sl_run_law.proofs.Place.Areas.{is_within}
 use Rattle.sl_run_law.proofs.Place.Beginnings.{zeros_at}
 use Rattle.sl_run_law.proofs.Place.Finding.{same_read}

@@ -1,10 +1,10 @@
 -- The own block of a session, where it writes one: it wrote it before, or a read gave it; so it was submitted before, or is fresh.
-use Rattle.sl_law.specs.LawfulArea.{is_area_work}
+use Rattle.sl_run.specs.LawfulArea.{is_area_work}
 use Rattle.sl_trace_law.proofs.Leases.AgeLaws.{aged_block, aged_lease, found_stays}
 use Rattle.sl_trace_law.proofs.Leases.ComingLaws.{found_read}
 use Rattle.sl_trace_law.specs.Leases.Fronts.{AllAged}
 use Rattle.sl_trace_law.specs.Leases.Ways.{lease_among}
-use Rattle.sl_leases.specs.Leases.{block_submitted, is_on, last_blocks, lease_calls, own_block, own_or_read, spot_of_call}
+use Rattle.sl_trace.specs.Leases.{block_submitted, is_on, last_blocks, lease_calls, own_block, own_or_read, spot_of_call}
 use Rattle.sl_history.proofs.Resources.Above.{found_seen}
 use Rattle.sl_history.proofs.Resources.Owning.{own_written, works}
 use Rattle.sl_history.proofs.Resources.Showing.{Once, Seen}

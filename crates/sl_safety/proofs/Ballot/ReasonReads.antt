@@ -4,11 +4,11 @@ use Rattle.sl_area.specs.Layouts.{Layout}
 use Rattle.sl_area.specs.Places.{area_blocks, blocks_in}
 use Rattle.sl_safety.proofs.Ballot.ReasonLeaders.{LeaderSeen, Led, Unled, leader_looked}
 use Rattle.sl_run_law.proofs.Front.Having.{placed_at}
-use Rattle.sl_law.specs.LawfulArea.{is_area_work}
-use Rattle.sl_law.specs.LawfulBlock.{AreaRead}
+use Rattle.sl_run.specs.LawfulArea.{is_area_work}
+use Rattle.sl_run.specs.LawfulBlock.{AreaRead}
 use Rattle.sl_trace_law.proofs.Leases.AgeLaws.{aged_lease, answer_stays, became}
 use Rattle.sl_trace_law.specs.Leases.Fronts.{Aged, AllAged}
-use Rattle.sl_leases.specs.Leases.{blocks_given, is_area_read, is_on, is_phase_read, spot_of_call}
+use Rattle.sl_trace.specs.Leases.{blocks_given, is_area_read, is_on, is_phase_read, spot_of_call}
 use Rattle.sl_run_law.proofs.Place.Finding.{given_by}
 use Rattle.sl_run_law.proofs.Place.Reading.{answer_gave}
 use Rattle.sl_plain.proofs.Numbers.{lt_then_le}

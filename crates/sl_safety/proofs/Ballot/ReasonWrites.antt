@@ -3,10 +3,10 @@
 use Rattle.sl_ballots.specs.Ballots.{LeaderSubmitted}
 use Rattle.sl_ballots.specs.History.{History, Leader as HistoryLeader, Owner as Holder}
 use Rattle.sl_run_law.specs.Course.Stamping.{IsCourseOf}
-use Rattle.sl_law.specs.LawfulArea.{is_area_work}
+use Rattle.sl_run.specs.LawfulArea.{is_area_work}
 use Rattle.sl_trace_law.proofs.Leases.AgeLaws.{aged_lease, became}
 use Rattle.sl_trace_law.specs.Leases.Fronts.{AllAged}
-use Rattle.sl_leases.specs.Leases.{is_block_read, is_free_write, is_lease_call, is_on, leader_of_record, leader_written, lease_calls}
+use Rattle.sl_trace.specs.Leases.{is_block_read, is_free_write, is_lease_call, is_on, leader_of_record, leader_written, lease_calls}
 use Rattle.sl_run_law.proofs.Place.Finding.{partner_of}
 use Rattle.sl_history.proofs.Resources.Above.{is_among}
 use Rattle.sl_history.proofs.Resources.Calls.{leader_at_step}

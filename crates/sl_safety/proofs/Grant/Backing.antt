@@ -9,19 +9,19 @@ use Rattle.sl_safety.proofs.Holding.Sharing.{was_session}
 use Rattle.sl_safety.proofs.Holding.Unfreed.{exclusives_are_unfreed}
 use Rattle.sl_safety.specs.Holding.Granting.{GrantedIn}
 use Rattle.sl_area.specs.Layouts.{Layout}
-use Rattle.sl_law.proofs.LawFacts.{orderly-front}
-use Rattle.sl_law.specs.Lawful.{Orderly}
-use Rattle.sl_law.specs.LawfulLeader.{HasWon}
-use Rattle.sl_law.specs.LawfulModes.{AllShared, IsDone, LawfulExclusiveGrant, LawfulSharedGrant, SharedByBallot, SharedByConversion}
-use Rattle.sl_leases.specs.Leases.{block_written, ended_ballot, ended_ballots, holdings_on, is_free_write, lease_calls}
+use Rattle.sl_run.proofs.LawFacts.{orderly-front}
+use Rattle.sl_run.specs.Lawful.{Orderly}
+use Rattle.sl_run.specs.LawfulLeader.{HasWon}
+use Rattle.sl_run.specs.LawfulModes.{AllShared, IsDone, LawfulExclusiveGrant, LawfulSharedGrant, SharedByBallot, SharedByConversion}
+use Rattle.sl_trace.specs.Leases.{block_written, ended_ballot, ended_ballots, holdings_on, is_free_write, lease_calls}
 use Rattle.sl_plain.proofs.Lists.{contains_first, contains_more, find_inside}
 use Rattle.sl_plain.proofs.Numbers.{never_below, trans_le}
 use Rattle.sl_plain.proofs.Options.{some_of}
 use Rattle.sl_sector.specs.declared.sector.Block.{Block}
 use Rattle.sl_sector.specs.declared.sector.Owner.{Owner}
 use Rattle.sl_trace_law.proofs.Sessions.Owning.{sessions_stay}
-use Rattle.sl_sessions.specs.Sessions.{me, session_numbered}
-use Rattle.sl_sessions.specs.declared.session.Session.{Session}
+use Rattle.sl_trace.specs.Sessions.{me, session_numbered}
+use Rattle.sl_trace.specs.declared.session.Session.{Session}
 use Rattle.sl_trace.specs.Traces.{Answered, Setting, Submitted, Trace, is_shared, new_call, spot_of_grant}
 use Rattle.sl_trace.specs.declared.effects.Call.{Call}
 use Rattle.sl_trace.specs.declared.effects.Entry.{Entry}

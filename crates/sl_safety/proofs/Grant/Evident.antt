@@ -18,7 +18,7 @@ use Rattle.sl_run.specs.Safety.{Found, IsSession, LawfulRun, SessionId, session_
 use Rattle.sl_run.specs.Worlds.{Program, Stamp, World}
 use Rattle.sl_run.specs.declared.header.Header.{Header}
 use Rattle.sl_run.specs.declared.header.ResourceLine.{ResourceLine}
-use Rattle.sl_sessions.specs.Watching.{counted_over}
+use Rattle.sl_trace.specs.Watching.{counted_over}
 use Rattle.sl_trace.specs.Traces.{Trace}
 use Rattle.sl_trace.specs.declared.effects.Entry.{Entry}
 use Rattle.sl_run_law.proofs.Watchdog.Stamps.{stamp_there}

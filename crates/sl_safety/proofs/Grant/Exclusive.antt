@@ -13,10 +13,10 @@ use Rattle.sl_safety.proofs.Grant.Stepping.{IsAt, LookThere, block_there, look_t
 use Rattle.sl_safety.proofs.Grant.Telling.{IsFront, IsTold, LeaseWas, OfLease, before_in, in_lease, in_order, lease_was, of_lease, told_answer, told_made, whole_of}
 use Rattle.sl_safety.specs.Grant.Granted.{ExclusiveGrantsAre, GrantedThere, ResourceAt}
 use Rattle.sl_safety.proofs.Holding.Unfreed.{exclusive_is}
-use Rattle.sl_law.specs.LawfulBlock.{ReadAfter}
-use Rattle.sl_law.specs.LawfulModes.{LawfulExclusiveGrant, NoneShared}
+use Rattle.sl_run.specs.LawfulBlock.{ReadAfter}
+use Rattle.sl_run.specs.LawfulModes.{LawfulExclusiveGrant, NoneShared}
 use Rattle.sl_trace_law.proofs.Leases.GrantLaws.{exclusive_follows}
-use Rattle.sl_leases.specs.Leases.{block_of_host, blocks_given, freed, is_free_write, lease_calls}
+use Rattle.sl_trace.specs.Leases.{block_of_host, blocks_given, freed, is_free_write, lease_calls}
 use Rattle.sl_run_law.proofs.Place.Looks.{answered_below}
 use Rattle.sl_plain.proofs.Numbers.{below_suc, less_than_suc, lt_up_to, never_below, refl_le}
 use Rattle.sl_plain.proofs.Options.{some_of}
@@ -33,7 +33,7 @@ use Rattle.sl_run.specs.declared.header.Header.{Header}
 use Rattle.sl_run.specs.declared.header.ResourceLine.{ResourceLine}
 use Rattle.sl_sector.specs.declared.sector.Block.{Block}
 use Rattle.sl_history.specs.Sessions.Promises.{JoinedAreHosts, NamesAreApart}
-use Rattle.sl_sessions.specs.Sessions.{me, session_numbered}
+use Rattle.sl_trace.specs.Sessions.{me, session_numbered}
 use Rattle.sl_trace.specs.Traces.{Setting, Submitted, Trace, is_shared, new_call, spot_of_grant}
 use Rattle.sl_trace.specs.declared.effects.Call.{Call}
 use Rattle.sl_trace.specs.declared.effects.Entry.{Entry}

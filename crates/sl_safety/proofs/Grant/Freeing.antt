@@ -6,10 +6,10 @@ use Rattle.sl_ballots.specs.History.{Leader as HistoryLeader, Owner as Holder}
 use Rattle.sl_run_law.specs.Course.Stamping.{stamp_in}
 use Rattle.sl_safety.proofs.Grant.Names.{name_of_sent}
 use Rattle.sl_safety.proofs.Grant.Telling.{OfLease}
-use Rattle.sl_law.specs.LawfulArea.{is_area_work}
-use Rattle.sl_law.specs.LawfulLeader.{LawfulFreeLeader, LawfulTake}
-use Rattle.sl_leases.specs.Ballots.{owner_of as named_by, same_owner}
-use Rattle.sl_leases.specs.Leases.{Leader_freed, StepKind, freed, freed_by, is_free_write, is_lease_call, is_on, kind_of_step, leader_of_record, leader_written, lease_step, same_kind, spot_of_call}
+use Rattle.sl_run.specs.LawfulArea.{is_area_work}
+use Rattle.sl_run.specs.LawfulLeader.{LawfulFreeLeader, LawfulTake}
+use Rattle.sl_trace.specs.Ballots.{owner_of as named_by, same_owner}
+use Rattle.sl_trace.specs.Leases.{Leader_freed, StepKind, freed, freed_by, is_free_write, is_lease_call, is_on, kind_of_step, leader_of_record, leader_written, lease_step, same_kind, spot_of_call}
 use Rattle.sl_run_law.proofs.Place.Reading.{call_law}
 use Rattle.sl_plain.proofs.Lists.{contains_cases, contains_none}
 use Rattle.sl_plain.proofs.Options.{some_there}
@@ -25,8 +25,8 @@ use Rattle.sl_run.specs.declared.header.ResourceLine.{ResourceLine}
 use Rattle.sl_sector.specs.declared.sector.Leader.{Leader}
 use Rattle.sl_sector.specs.declared.sector.Owner.{Owner}
 use Rattle.sl_trace_law.specs.Sessions.Promises.{front_of, made_as}
-use Rattle.sl_sessions.specs.Sessions.{me}
-use Rattle.sl_sessions.specs.declared.session.Session.{Session}
+use Rattle.sl_trace.specs.Sessions.{me}
+use Rattle.sl_trace.specs.declared.session.Session.{Session}
 use Rattle.sl_trace.specs.Traces.{Setting, Submitted, Trace, record_of}
 use Rattle.sl_trace.specs.declared.effects.Call.{Call}
 use Rattle.sl_trace.specs.declared.effects.LeaseStep.{LeaseStep}

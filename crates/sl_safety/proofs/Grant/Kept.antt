@@ -16,7 +16,7 @@ use Rattle.sl_safety.proofs.Holding.Places.{HeldOn, held_on, on_held}
 use Rattle.sl_safety.proofs.Holding.Unfreed.{exclusives_are_unfreed}
 use Rattle.sl_holdings.specs.Holdings.{IsKept}
 use Rattle.sl_id_safety.proofs.Steps.Alive.{stamp_there}
-use Rattle.sl_leases.specs.Leases.{holdings_on}
+use Rattle.sl_trace.specs.Leases.{holdings_on}
 use Rattle.sl_history.specs.Resources.Promises.{history_of_line, spot_of_line}
 use Rattle.sl_run.specs.Runs.{Happening}
 use Rattle.sl_run.specs.Safety.{Found, IsSession, LawfulRun, SessionId, is_over, setting_in, trace_of, world_at}

@@ -5,7 +5,7 @@ use Rattle.sl_area.specs.Places.{sector_of}
 use Rattle.sl_ballots.specs.History.{History}
 use Rattle.sl_safety.proofs.Grant.Stepping.{IsAt, LookThere}
 use Rattle.sl_safety.proofs.Grant.Telling.{whole_of}
-use Rattle.sl_leases.specs.Leases.{block_of_host, blocks_given}
+use Rattle.sl_trace.specs.Leases.{block_of_host, blocks_given}
 use Rattle.sl_plain.proofs.Lists.{contains_first, contains_more}
 use Rattle.sl_history.proofs.Resources.Above.{own_there}
 use Rattle.sl_history.proofs.Resources.Bases.{shown_none, shown_whole}

@@ -9,10 +9,10 @@ use Rattle.sl_safety.proofs.Grant.Names.{StoodAt, stood_at}
 use Rattle.sl_safety.proofs.Grant.Owned.{BlockTold, ends_within}
 use Rattle.sl_safety.proofs.Grant.Stepping.{IsAt}
 use Rattle.sl_safety.proofs.Grant.Telling.{IsFront, OfLease, in_lease, lease_was, whole_of}
-use Rattle.sl_law.specs.Saying.{cut_at}
+use Rattle.sl_run.specs.Saying.{cut_at}
 use Rattle.sl_trace_law.proofs.Leases.GrantLaws.{modes_follow}
 use Rattle.sl_trace_law.specs.Leases.Holding.{ModeRests}
-use Rattle.sl_leases.specs.Leases.{Mode_set, block_of_record, has_shared_on, is_at, spot_of_call}
+use Rattle.sl_trace.specs.Leases.{Mode_set, block_of_record, has_shared_on, is_at, spot_of_call}
 use Rattle.sl_history.proofs.Resources.Above.{line_aligned}
 use Rattle.sl_history.proofs.Resources.Calls.{split}
 use Rattle.sl_history.proofs.Resources.Owning.{spot_is}
@@ -24,8 +24,8 @@ use Rattle.sl_run.specs.Worlds.{Program}
 use Rattle.sl_run.specs.declared.header.Header.{Header}
 use Rattle.sl_run.specs.declared.header.ResourceLine.{ResourceLine}
 use Rattle.sl_sector.specs.declared.sector.Block.{Block}
-use Rattle.sl_sessions.specs.Sessions.{session_numbered}
-use Rattle.sl_sessions.specs.declared.session.Session.{Session}
+use Rattle.sl_trace.specs.Sessions.{session_numbered}
+use Rattle.sl_trace.specs.declared.session.Session.{Session}
 use Rattle.sl_trace.specs.Traces.{Setting, Submitted, Trace, record_of, submitted}
 use Rattle.sl_trace.specs.declared.effects.Call.{Call}
 use Rattle.sl_trace.specs.declared.effects.Entry.{Entry}

@@ -3,7 +3,7 @@ use Rattle.sl_area.specs.Layouts.{Layout}
 use Rattle.sl_run_law.specs.Course.Stamping.{stamp_in}
 use Rattle.sl_safety.proofs.Grant.Telling.{OfLease}
 use Rattle.sl_trace_law.proofs.Leases.AgeLaws.{writes}
-use Rattle.sl_leases.specs.Leases.{block_of_record, block_written, is_lease_call, is_on}
+use Rattle.sl_trace.specs.Leases.{block_of_record, block_written, is_lease_call, is_on}
 use Rattle.sl_plain.proofs.Lists.{head_is, tail_is}
 use Rattle.sl_history.proofs.Resources.Above.{written_at}
 use Rattle.sl_history.proofs.Resources.Calls.{block_works, found_of, owner_found, owner_layout, worker_joined}

@@ -5,7 +5,7 @@ use Rattle.sl_area.specs.Places.{in_area, is_base}
 use Rattle.sl_safety.proofs.Grant.Telling.{IsFront, of_lease, told, told_block, told_on, whole_of}
 use Rattle.sl_safety.specs.Grant.Granted.{ResourceAt}
 use Rattle.sl_id_safety.proofs.State.Bridge.{placed}
-use Rattle.sl_leases.specs.Leases.{block_written, is_on, lease_calls}
+use Rattle.sl_trace.specs.Leases.{block_written, is_on, lease_calls}
 use Rattle.sl_run_law.proofs.Place.Areas.{base_aligned, base_around, is_base_aligned, same_base}
 use Rattle.sl_run_law.proofs.Place.Finding.{same_text}
 use Rattle.sl_run_law.proofs.Place.Homing.{at_home}

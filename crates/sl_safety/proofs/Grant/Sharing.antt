@@ -22,9 +22,9 @@ use Rattle.sl_safety.proofs.Holding.Places.{held_on, on_held, the_shared}
 use Rattle.sl_safety.proofs.Holding.Sharing.{shared_holdings_begin}
 use Rattle.sl_safety.specs.Holding.Granting.{SharedRun}
 use Rattle.sl_holdings.specs.Holdings.{IsSharedTo, SharedGrant}
-use Rattle.sl_law.proofs.LawFacts.{orderly-front}
-use Rattle.sl_law.specs.Lawful.{Orderly}
-use Rattle.sl_leases.specs.Leases.{has_shared_on, is_free_write}
+use Rattle.sl_run.proofs.LawFacts.{orderly-front}
+use Rattle.sl_run.specs.Lawful.{Orderly}
+use Rattle.sl_trace.specs.Leases.{has_shared_on, is_free_write}
 use Rattle.sl_run_law.proofs.Place.Looks.{answered_below}
 use Rattle.sl_plain.proofs.Numbers.{below_suc, equal_is_most, less_is_most, trans_le}
 use Rattle.sl_plain.proofs.Options.{some_of}
@@ -36,7 +36,7 @@ use Rattle.sl_run.specs.Safety.{Found, IsSession, LawfulRun, SessionId, is_over,
 use Rattle.sl_run.specs.Worlds.{Program, Stamp, World}
 use Rattle.sl_run.specs.declared.header.Header.{Header}
 use Rattle.sl_run.specs.declared.header.ResourceLine.{ResourceLine}
-use Rattle.sl_sessions.specs.Sessions.{me, session_numbered}
+use Rattle.sl_trace.specs.Sessions.{me, session_numbered}
 use Rattle.sl_trace.specs.Traces.{Setting, Submitted, Trace, holdings, new_call}
 use Rattle.sl_trace.specs.declared.effects.Call.{Call}
 use Rattle.sl_trace.specs.declared.effects.Grant.{Grant}

@@ -2,12 +2,12 @@
 use Rattle.sl_safety.proofs.Holding.Granted.{held_or_given}
 use Rattle.sl_safety.proofs.Holding.Places.{place_turned}
 use Rattle.sl_safety.specs.Holding.Granting.{OneDaemonAgrees}
-use Rattle.sl_law.proofs.LawFacts.{orderly-front}
-use Rattle.sl_law.specs.Lawful.{Orderly}
+use Rattle.sl_run.proofs.LawFacts.{orderly-front}
+use Rattle.sl_run.specs.Lawful.{Orderly}
 use Rattle.sl_plain.proofs.Lists.{contains_none}
 use Rattle.sl_plain.proofs.Options.{some_of}
-use Rattle.sl_sessions.specs.Sessions.{session_numbered}
-use Rattle.sl_sessions.specs.declared.session.Session.{Session}
+use Rattle.sl_trace.specs.Sessions.{session_numbered}
+use Rattle.sl_trace.specs.declared.session.Session.{Session}
 use Rattle.sl_trace.specs.Traces.{Setting, Trace, holdings, is_shared, same_place}
 use Rattle.sl_trace.specs.declared.effects.Entry.{Entry}
 use Rattle.sl_trace.specs.declared.effects.Grant.{Grant}

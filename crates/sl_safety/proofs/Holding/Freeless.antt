@@ -1,12 +1,12 @@
 -- A session that isn't leaving has written no free: the law of the free asks for a leaving, and a leaving stays.
-use Rattle.sl_law.specs.Lawful.{Orderly}
-use Rattle.sl_law.specs.LawfulDelta.{LawfulDeltaCall, LawfulFree}
+use Rattle.sl_run.specs.Lawful.{Orderly}
+use Rattle.sl_run.specs.LawfulDelta.{LawfulDeltaCall, LawfulFree}
 use Rattle.sl_plain.proofs.Lists.{find_inside}
 use Rattle.sl_plain.proofs.Options.{some_there}
 use Rattle.sl_trace_law.proofs.Sessions.Owning.{calls_were_lawful}
 use Rattle.sl_trace_law.specs.Sessions.Promises.{IsSession, WasLawful, front_of, made_as}
-use Rattle.sl_sessions.specs.Sessions.{calls_of, free_write, is_free_purpose, is_joined, leaving_job}
-use Rattle.sl_sessions.specs.declared.session.Session.{Session}
+use Rattle.sl_trace.specs.Sessions.{calls_of, free_write, is_free_purpose, is_joined, leaving_job}
+use Rattle.sl_trace.specs.declared.session.Session.{Session}
 use Rattle.sl_trace.specs.Traces.{Job, Setting, Submitted, Trace, submitted}
 use Rattle.sl_trace.specs.declared.effects.Entry.{Entry}
 use Rattle.sl_trace.specs.declared.effects.Purpose.TheVariants.{Joining, Lease, Leaving, Renewal, RequestRead, RequestWrite, SeeRequest, Survey, ValueRead, ValueWrite}

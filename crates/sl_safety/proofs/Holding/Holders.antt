@@ -8,7 +8,7 @@ use Rattle.sl_safety.proofs.Holding.Agreeing.{one_daemon_agrees}
 use Rattle.sl_safety.proofs.Holding.Standing.{held_of, holders_stand}
 use Rattle.sl_safety.specs.Holding.Granting.{HeldUnder}
 use Rattle.sl_safety.specs.Holding.Holders.{HeldBy, HoldingsAreHeld, OneMachineAgrees, RestsOn}
-use Rattle.sl_law.specs.Lawful.{Orderly}
+use Rattle.sl_run.specs.Lawful.{Orderly}
 use Rattle.sl_trace_law.proofs.Leases.NumberLaws.{number_is_place}
 use Rattle.sl_plain.proofs.Lists.{contains_cases, contains_none, got_inside, in_map}
 use Rattle.sl_plain.proofs.Numbers.{one_less}
@@ -18,8 +18,8 @@ use Rattle.sl_run.specs.Runs.{Happening}
 use Rattle.sl_run.specs.Safety.{Found, LawfulRun, SessionId, free_landed, has_write_in_flight, is_course_of, is_over, session_of_world, was_reset, world_at}
 use Rattle.sl_run.specs.Worlds.{Daemon, Machine, Program, World, daemon_numbered, daemons_on, is_landed, machine_at, resets_after}
 use Rattle.sl_run.specs.declared.header.Header.{Header}
-use Rattle.sl_sessions.specs.Sessions.{calls_of, ended_after, free_write, is_joined, joined_after, refused_after, removed_after, session_numbered}
-use Rattle.sl_sessions.specs.declared.session.Session.{Session}
+use Rattle.sl_trace.specs.Sessions.{calls_of, ended_after, free_write, is_joined, joined_after, refused_after, removed_after, session_numbered}
+use Rattle.sl_trace.specs.declared.session.Session.{Session}
 use Rattle.sl_trace.specs.Traces.{Setting, Submitted, Trace, holdings, is_shared, no_process, same_place}
 use Rattle.sl_trace.specs.declared.effects.Grant.{Grant}
 use Rattle.sl_run_law.proofs.Watchdog.Promising.{itself}

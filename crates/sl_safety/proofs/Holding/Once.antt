@@ -10,8 +10,8 @@ use Rattle.sl_run_law.proofs.Course.Daemons.{daemons_are, entry_of, step_daemon}
 use Rattle.sl_run_law.specs.Course.Mirrors.{Mirrors}
 use Rattle.sl_run_law.proofs.Front.Having.{contains_append}
 use Rattle.sl_safety.proofs.Holding.Places.{is_place, place_is}
-use Rattle.sl_law.proofs.LawFacts.{orderly-front}
-use Rattle.sl_law.specs.Lawful.{Orderly}
+use Rattle.sl_run.proofs.LawFacts.{orderly-front}
+use Rattle.sl_run.specs.Lawful.{Orderly}
 use Rattle.sl_plain.proofs.Lists.{any_of, contains_cases, contains_first, contains_more, contains_none, in_map, kept_inside, next_before}
 use Rattle.sl_plain.proofs.Options.{some_of}
 use Rattle.sl_run.specs.Events.{first_change, next_step, own_effects, with_entry}
@@ -21,7 +21,7 @@ use Rattle.sl_run.specs.Safety.{LawfulRun, world_at}
 use Rattle.sl_run.specs.Worlds.{Daemon, Machine, Program, World, daemons_on, machine_at, machine_of_header, stamp_now}
 use Rattle.sl_run.specs.declared.event.Event.{Event}
 use Rattle.sl_run.specs.declared.header.Header.{Header}
-use Rattle.sl_sessions.specs.Sessions.{session_numbered}
+use Rattle.sl_trace.specs.Sessions.{session_numbered}
 use Rattle.sl_trace.specs.Traces.{Setting, Trace, has_orphan_of, held_after, holdings, is_ended_by, is_orphan, leaves_orphan, no_effects, no_process, orphan_of, orphans_left, same_place}
 use Rattle.sl_trace.specs.declared.effects.Effects.{Effects}
 use Rattle.sl_trace.specs.declared.effects.Entry.{Entry}

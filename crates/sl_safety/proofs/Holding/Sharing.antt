@@ -5,15 +5,15 @@ use Rattle.sl_safety.proofs.Holding.Granted.{held_or_given, stands_first, stands
 use Rattle.sl_safety.proofs.Holding.Places.{HeldOn, held_on, shared_there, the_shared}
 use Rattle.sl_safety.proofs.Holding.Standing.{stands_behind}
 use Rattle.sl_safety.specs.Holding.Granting.{SharedHoldingsBegin, SharedRun, SharedRunUnder, SharedRunsBegin}
-use Rattle.sl_law.proofs.LawFacts.{orderly-front}
-use Rattle.sl_law.specs.Lawful.{Orderly}
-use Rattle.sl_law.specs.LawfulModes.{HoldsSharedUnder, LawfulExclusiveGrant, LawfulSharedGrant, SharedByBallot, SharedByConversion}
+use Rattle.sl_run.proofs.LawFacts.{orderly-front}
+use Rattle.sl_run.specs.Lawful.{Orderly}
+use Rattle.sl_run.specs.LawfulModes.{HoldsSharedUnder, LawfulExclusiveGrant, LawfulSharedGrant, SharedByBallot, SharedByConversion}
 use Rattle.sl_plain.proofs.Lists.{contains_none}
 use Rattle.sl_trace_law.proofs.Sessions.Owning.{session_more}
 use Rattle.sl_trace_law.specs.Sessions.Promises.{IsSession}
-use Rattle.sl_sessions.specs.Sessions.{session_numbered}
-use Rattle.sl_leases.specs.Leases.{has_shared_on}
-use Rattle.sl_sessions.specs.declared.session.Session.{Session}
+use Rattle.sl_trace.specs.Sessions.{session_numbered}
+use Rattle.sl_trace.specs.Leases.{has_shared_on}
+use Rattle.sl_trace.specs.declared.session.Session.{Session}
 use Rattle.sl_trace.specs.Traces.{Setting, Trace, holdings, is_shared, spot_of_grant}
 use Rattle.sl_trace.specs.declared.effects.Entry.{Entry}
 use Rattle.sl_trace.specs.declared.effects.Grant.{Grant}

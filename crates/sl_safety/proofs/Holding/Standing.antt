@@ -3,12 +3,12 @@
 use Rattle.sl_safety.proofs.Holding.Freeless.{HasNoFree, free_law, nothing_freed, staying_is_freeless}
 use Rattle.sl_safety.proofs.Holding.Granted.{held_or_given}
 use Rattle.sl_safety.specs.Holding.Granting.{HoldersStand}
-use Rattle.sl_law.proofs.LawFacts.{orderly-front}
-use Rattle.sl_law.specs.Lawful.{Orderly}
-use Rattle.sl_law.specs.LawfulDelta.{LawfulFree}
-use Rattle.sl_law.specs.LawfulGrant.{LawfulGrantTo, LawfulOrphan}
-use Rattle.sl_law.specs.LawfulParting.{MayPart}
-use Rattle.sl_law.specs.Saying.{cut_at}
+use Rattle.sl_run.proofs.LawFacts.{orderly-front}
+use Rattle.sl_run.specs.Lawful.{Orderly}
+use Rattle.sl_run.specs.LawfulDelta.{LawfulFree}
+use Rattle.sl_run.specs.LawfulGrant.{LawfulGrantTo, LawfulOrphan}
+use Rattle.sl_run.specs.LawfulParting.{MayPart}
+use Rattle.sl_run.specs.Saying.{cut_at}
 use Rattle.sl_trace_law.proofs.Leases.NumberLaws.{number_is_place}
 use Rattle.sl_area.specs.Places.{is_base}
 use Rattle.sl_plain.proofs.Lists.{contains_none, got_inside, kept}
@@ -16,8 +16,8 @@ use Rattle.sl_plain.proofs.Options.{none_is, some_of}
 use Rattle.sl_trace_law.proofs.Sessions.Making.{IsNewCall, old_or_new, was_marked}
 use Rattle.sl_trace_law.proofs.Sessions.Owning.{session_more}
 use Rattle.sl_trace_law.specs.Sessions.Promises.{IsSession}
-use Rattle.sl_sessions.specs.Sessions.{calls_of, free_write, holdings_of, is_free_purpose, is_joined, leaving_job, recovery_of, session_numbered, sessions}
-use Rattle.sl_sessions.specs.declared.session.Session.{Session}
+use Rattle.sl_trace.specs.Sessions.{calls_of, free_write, holdings_of, is_free_purpose, is_joined, leaving_job, recovery_of, session_numbered, sessions}
+use Rattle.sl_trace.specs.declared.session.Session.{Session}
 use Rattle.sl_trace.specs.Traces.{Setting, Submitted, Trace, holdings, is_orphan, mark, new_call, orphan_of, submitted}
 use Rattle.sl_trace.specs.declared.effects.Entry.{Entry}
 use Rattle.sl_trace.specs.declared.effects.Grant.{Grant}

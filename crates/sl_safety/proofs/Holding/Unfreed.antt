@@ -5,20 +5,20 @@ use Rattle.sl_safety.proofs.Holding.Granted.{held_or_given}
 use Rattle.sl_safety.proofs.Holding.Places.{HeldOn, held_on, on_held, spot_is}
 use Rattle.sl_safety.proofs.Holding.Standing.{stands_behind}
 use Rattle.sl_safety.specs.Holding.Granting.{ExclusivesAreUnfreed}
-use Rattle.sl_law.proofs.LawFacts.{orderly-front}
-use Rattle.sl_law.specs.Lawful.{Orderly}
-use Rattle.sl_law.specs.LawfulGrant.{LawfulGrantTo}
-use Rattle.sl_law.specs.LawfulLeader.{LawfulFreeLeader, LawfulLeaderWrite, LawfulTake}
-use Rattle.sl_law.specs.Saying.{cut_at}
+use Rattle.sl_run.proofs.LawFacts.{orderly-front}
+use Rattle.sl_run.specs.Lawful.{Orderly}
+use Rattle.sl_run.specs.LawfulGrant.{LawfulGrantTo}
+use Rattle.sl_run.specs.LawfulLeader.{LawfulFreeLeader, LawfulLeaderWrite, LawfulTake}
+use Rattle.sl_run.specs.Saying.{cut_at}
 use Rattle.sl_trace_law.proofs.Leases.NumberLaws.{number_is_place}
-use Rattle.sl_leases.specs.Leases.{freed, freed_by, holdings_on, is_free_write, is_lease_call, is_on, leader_written, lease_calls, spot_of_call}
+use Rattle.sl_trace.specs.Leases.{freed, freed_by, holdings_on, is_free_write, is_lease_call, is_on, leader_written, lease_calls, spot_of_call}
 use Rattle.sl_plain.proofs.Lists.{any_of, contains_cases, contains_none, kept, kept_inside}
 use Rattle.sl_sector.specs.declared.sector.Leader.{Leader}
 use Rattle.sl_trace_law.proofs.Sessions.Making.{IsNewCall, old_or_new, was_marked}
 use Rattle.sl_trace_law.proofs.Sessions.Owning.{session_more}
 use Rattle.sl_trace_law.specs.Sessions.Promises.{IsSession}
-use Rattle.sl_sessions.specs.Sessions.{calls_of, session_numbered}
-use Rattle.sl_sessions.specs.declared.session.Session.{Session}
+use Rattle.sl_trace.specs.Sessions.{calls_of, session_numbered}
+use Rattle.sl_trace.specs.declared.session.Session.{Session}
 use Rattle.sl_trace.specs.Traces.{Setting, Submitted, Trace, holdings, is_shared, mark, new_call, spot_of_grant, submitted}
 use Rattle.sl_trace.specs.declared.effects.Entry.{Entry}
 use Rattle.sl_trace.specs.declared.effects.Grant.{Grant}

@@ -5,14 +5,14 @@ use Rattle.sl_area.specs.Places.{value_offset}
 use Rattle.sl_run_law.proofs.Front.Having.{contains_right}
 use Rattle.sl_safety.proofs.Grant.Growing.{calls_grow}
 use Rattle.sl_id_safety.proofs.State.Keeping.{is_place}
-use Rattle.sl_law.specs.LawfulArea.{is_area_work}
-use Rattle.sl_law.specs.LawfulLeader.{open_writes_on}
-use Rattle.sl_law.specs.LawfulValue.{writes_since}
-use Rattle.sl_law.specs.Saying.{cut_at}
+use Rattle.sl_run.specs.LawfulArea.{is_area_work}
+use Rattle.sl_run.specs.LawfulLeader.{open_writes_on}
+use Rattle.sl_run.specs.LawfulValue.{writes_since}
+use Rattle.sl_run.specs.Saying.{cut_at}
 use Rattle.sl_trace_law.proofs.Leases.FrontLaws.{each_was_submitted, lawful_there}
 use Rattle.sl_trace_law.proofs.Leases.HavingLaws.{Has, was_among}
 use Rattle.sl_trace_law.specs.Leases.Fronts.{Aged}
-use Rattle.sl_leases.specs.Leases.{is_on, spot_of_call}
+use Rattle.sl_trace.specs.Leases.{is_on, spot_of_call}
 use Rattle.sl_run_law.proofs.Place.Finding.{place_is}
 use Rattle.sl_run_law.proofs.Place.Looks.{made_below}
 use Rattle.sl_run_law.proofs.Place.Reading.{layout_is}
@@ -26,8 +26,8 @@ use Rattle.sl_run.specs.declared.header.Header.{Header}
 use Rattle.sl_sector.specs.declared.sector.Rec.TheVariants.{ValueIs}
 use Rattle.sl_sector.specs.declared.sector.Rec.{Rec}
 use Rattle.sl_sector.specs.declared.sector.ValueRec.{ValueRec}
-use Rattle.sl_sessions.specs.Sessions.{calls_of, is_call_of, session_numbered}
-use Rattle.sl_sessions.specs.declared.session.Session.{Session}
+use Rattle.sl_trace.specs.Sessions.{calls_of, is_call_of, session_numbered}
+use Rattle.sl_trace.specs.declared.session.Session.{Session}
 use Rattle.sl_trace.specs.Traces.{Answered, Setting, Submitted, Trace, is_write, new_call, record_of, submitted}
 use Rattle.sl_trace.specs.declared.effects.Call.{Call}
 use Rattle.sl_trace.specs.declared.effects.Op.TheVariants.{ReadSectors}

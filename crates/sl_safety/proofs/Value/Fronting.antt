@@ -6,8 +6,8 @@ use Rattle.sl_run_law.proofs.Front.Going.{fronts_are_lawful}
 use Rattle.sl_safety.proofs.Grant.Growing.{calls_grow}
 use Rattle.sl_safety.proofs.Holding.Freeless.{staying_is_freeless}
 use Rattle.sl_id_safety.proofs.Silence.{GoesOn, goes_on, old_stamp, over_is_quiet, stamp_before}
-use Rattle.sl_law.specs.LawfulValue.{held_since}
-use Rattle.sl_leases.specs.Leases.{holdings_on}
+use Rattle.sl_run.specs.LawfulValue.{held_since}
+use Rattle.sl_trace.specs.Leases.{holdings_on}
 use Rattle.sl_run_law.proofs.Place.Looks.{made_below}
 use Rattle.sl_plain.proofs.Lists.{contains_first, find_inside, kept_inside}
 use Rattle.sl_history.proofs.Resources.Calls.{IsOwned, found_of, owned, owner_found, there_sent}
@@ -20,8 +20,8 @@ use Rattle.sl_run.specs.Worlds.{Course, Program, Stamp, World}
 use Rattle.sl_run.specs.declared.header.Header.{Header}
 use Rattle.sl_sector.specs.declared.sector.ValueRec.{ValueRec}
 use Rattle.sl_trace_law.proofs.Sessions.Staying.{marks_stay}
-use Rattle.sl_sessions.specs.Sessions.{calls_of, ended_after, is_active, is_call_of, is_free_purpose, is_joined, joined_after, leaving_job, recovery_of, refused_after, removed_after}
-use Rattle.sl_sessions.specs.declared.session.Session.{Session}
+use Rattle.sl_trace.specs.Sessions.{calls_of, ended_after, is_active, is_call_of, is_free_purpose, is_joined, joined_after, leaving_job, recovery_of, refused_after, removed_after}
+use Rattle.sl_trace.specs.declared.session.Session.{Session}
 use Rattle.sl_trace.specs.Traces.{Setting, Submitted, Trace, submitted}
 use Rattle.sl_trace.specs.declared.effects.Call.{Call}
 use Rattle.sl_trace.specs.declared.effects.Grant.{Grant}

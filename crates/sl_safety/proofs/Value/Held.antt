@@ -2,10 +2,10 @@
 use Rattle.sl_area.specs.Places.{value_offset}
 use Rattle.sl_safety.proofs.Holding.Granted.{holdings_are_granted}
 use Rattle.sl_safety.proofs.Holding.Places.{HeldOn, held_on}
-use Rattle.sl_law.specs.LawfulArea.{is_area_work}
-use Rattle.sl_law.specs.LawfulLeader.{open_writes_on}
-use Rattle.sl_law.specs.Saying.{cut_at}
-use Rattle.sl_leases.specs.Leases.{holdings_on, spot_of_call, value_of_record}
+use Rattle.sl_run.specs.LawfulArea.{is_area_work}
+use Rattle.sl_run.specs.LawfulLeader.{open_writes_on}
+use Rattle.sl_run.specs.Saying.{cut_at}
+use Rattle.sl_trace.specs.Leases.{holdings_on, spot_of_call, value_of_record}
 use Rattle.sl_plain.proofs.Lists.{find_inside}
 use Rattle.sl_run.specs.Runs.{Happening}
 use Rattle.sl_run.specs.Safety.{Found, SessionId, setting_in, trace_of}

@@ -12,10 +12,10 @@ use Rattle.sl_safety.proofs.Holding.Places.{on_held}
 use Rattle.sl_safety.proofs.Holding.Standing.{holders_stand}
 use Rattle.sl_safety.proofs.Holding.Unfreed.{exclusives_are_unfreed}
 use Rattle.sl_holdings.specs.Holdings.{IsKept}
-use Rattle.sl_law.proofs.LawFacts.{orderly-front}
-use Rattle.sl_law.specs.LawfulArea.{is_area_work}
+use Rattle.sl_run.proofs.LawFacts.{orderly-front}
+use Rattle.sl_run.specs.LawfulArea.{is_area_work}
 use Rattle.sl_trace_law.specs.Leases.Promises.{WasAnsweredBy}
-use Rattle.sl_leases.specs.Leases.{is_block_read, is_free_write, is_on, leader_of_record}
+use Rattle.sl_trace.specs.Leases.{is_block_read, is_free_write, is_on, leader_of_record}
 use Rattle.sl_history.proofs.Resources.Calls.{holder_named, order, write_is}
 use Rattle.sl_history.proofs.Resources.Owning.{lease_is_work}
 use Rattle.sl_history.proofs.Resources.Steps.{call_timed}
@@ -34,7 +34,7 @@ use Rattle.sl_sector.specs.declared.sector.ValueRec.{ValueRec}
 use Rattle.sl_history.proofs.Sessions.Following.{append_apart}
 use Rattle.sl_history.proofs.Sessions.Named.{names_are_apart}
 use Rattle.sl_trace_law.proofs.Sessions.Owning.{sessions_stay}
-use Rattle.sl_sessions.specs.Sessions.{is_free_purpose, session_numbered}
+use Rattle.sl_trace.specs.Sessions.{is_free_purpose, session_numbered}
 use Rattle.sl_trace.specs.Traces.{Setting, Submitted, holdings, is_write, record_of, submitted}
 use Rattle.sl_trace.specs.declared.effects.Call.{Call}
 use Rattle.sl_trace.specs.declared.effects.Grant.{Grant}

@@ -9,8 +9,8 @@ use Rattle.sl_safety.specs.Grant.Granted.{ExclusiveGrantsAre, ExclusivesAreKept,
 use Rattle.sl_safety.proofs.Holding.Places.{held_on, shared_there}
 use Rattle.sl_holdings.proofs.Holding.{none_shares_beside, one_is_kept}
 use Rattle.sl_run_law.proofs.Landing.Listing.{one_call}
-use Rattle.sl_law.specs.LawfulArea.{is_area_work, is_block_work}
-use Rattle.sl_leases.specs.Leases.{is_block_read, is_on}
+use Rattle.sl_run.specs.LawfulArea.{is_area_work, is_block_work}
+use Rattle.sl_trace.specs.Leases.{is_block_read, is_on}
 use Rattle.sl_run_law.proofs.Place.Areas.{one_resource}
 use Rattle.sl_run_law.proofs.Place.Finding.{place_is}
 use Rattle.sl_run_law.proofs.Place.Seats.{sized_in}

@@ -3,7 +3,7 @@ use Rattle.sl_run_law.specs.Course.Stamping.{AnswersAgree, IsCourseOf}
 use Rattle.sl_id_safety.proofs.State.Bridge.{IsKnown, known}
 use Rattle.sl_id_safety.proofs.State.Proven.{grounds}
 use Rattle.sl_id_safety.specs.State.IdStates.{own_courses}
-use Rattle.sl_law.specs.Lawful.{Orderly}
+use Rattle.sl_run.specs.Lawful.{Orderly}
 use Rattle.sl_run_law.proofs.Place.Finding.{partner}
 use Rattle.sl_run_law.proofs.Place.Reading.{call_law}
 use Rattle.sl_plain.proofs.Lists.{kept, kept_inside}
@@ -13,7 +13,7 @@ use Rattle.sl_run.specs.Worlds.{Course, Program}
 use Rattle.sl_run.specs.declared.header.Header.{Header}
 use Rattle.sl_trace_law.proofs.Sessions.Making.{calls_are_made}
 use Rattle.sl_trace_law.specs.Sessions.Promises.{IsMade}
-use Rattle.sl_sessions.specs.Sessions.{calls_of, is_call_of, session_numbered}
+use Rattle.sl_trace.specs.Sessions.{calls_of, is_call_of, session_numbered}
 use Rattle.sl_trace.specs.Traces.{Answered, Submitted, submitted}
 use Rattle.sl_words.proofs.CaseLaws.{no_value, none_some}
 use Rattle.std.proofs.lemmas.Bool.{eqb-true}

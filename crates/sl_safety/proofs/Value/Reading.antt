@@ -6,10 +6,10 @@ use Rattle.sl_run_law.proofs.Course.Distinct.{each_distinct}
 use Rattle.sl_run_law.proofs.Course.Matched.{courses_are_calls}
 use Rattle.sl_run_law.specs.Course.Stamping.{AnswersAgree, IsAnsweredAs, IsCourseOf, courses_of, stamp_in}
 use Rattle.sl_run_law.proofs.Landing.Listing.{one_call}
-use Rattle.sl_law.proofs.LawFacts.{orderly-front}
-use Rattle.sl_law.specs.Lawful.{Orderly}
-use Rattle.sl_law.specs.LawfulValue.{held_since, writes_since}
-use Rattle.sl_leases.specs.Leases.{spot_of_call}
+use Rattle.sl_run.proofs.LawFacts.{orderly-front}
+use Rattle.sl_run.specs.Lawful.{Orderly}
+use Rattle.sl_run.specs.LawfulValue.{held_since, writes_since}
+use Rattle.sl_trace.specs.Leases.{spot_of_call}
 use Rattle.sl_run_law.proofs.Place.Finding.{partner_of, place_is}
 use Rattle.sl_plain.proofs.Lists.{find_inside, kept_inside}
 use Rattle.sl_history.proofs.Resources.Calls.{found_of, owned, owner_found, there_sent}
@@ -24,8 +24,8 @@ use Rattle.sl_sector.specs.Spelling.{value_in}
 use Rattle.sl_sector.specs.declared.sector.ValueRec.{ValueRec}
 use Rattle.sl_trace_law.proofs.Sessions.Making.{answers_stay}
 use Rattle.sl_trace_law.proofs.Sessions.Owning.{sessions_stay}
-use Rattle.sl_sessions.specs.Sessions.{is_active, is_call_of, session_numbered}
-use Rattle.sl_sessions.specs.declared.session.Session.{Session}
+use Rattle.sl_trace.specs.Sessions.{is_active, is_call_of, session_numbered}
+use Rattle.sl_trace.specs.declared.session.Session.{Session}
 use Rattle.sl_trace.specs.Traces.{Answered, Setting, Submitted, Trace, call_numbered, is_ok_answer, reply_to, submitted}
 use Rattle.sl_trace.specs.declared.effects.Call.{Call}
 use Rattle.sl_trace.specs.declared.effects.Entry.{Entry}

@@ -6,7 +6,7 @@ use Rattle.sl_run.specs.Runs.{Happening}
 use Rattle.sl_run.specs.Safety.{Found, SessionId, free_landed, has_write_in_flight, is_course_of, is_over, setting_in, trace_of, was_reset}
 use Rattle.sl_run.specs.Worlds.{Course, Program, is_of_running, is_open, is_write_course, may_land}
 use Rattle.sl_run.specs.declared.header.Header.{Header}
-use Rattle.sl_sessions.specs.Sessions.{calls_of, ended_after, free_write, is_free_purpose}
+use Rattle.sl_trace.specs.Sessions.{calls_of, ended_after, free_write, is_free_purpose}
 use Rattle.sl_trace.specs.declared.effects.Call.{Call}
 use Rattle.sl_safety.proofs.Value.Owning.{OwnCall, unanswered}
 use Rattle.sl_words.proofs.CaseLaws.{false_is_true, true_is_false}

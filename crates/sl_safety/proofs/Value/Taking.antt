@@ -1,11 +1,11 @@
 -- Two calls of a session that write on one area: the older was answered by the time that the newer was made.
 use Rattle.sl_area.specs.Layouts.{Layout}
 use Rattle.sl_area.specs.Places.{in_area}
-use Rattle.sl_law.specs.LawfulArea.{is_area_work, is_block_work}
+use Rattle.sl_run.specs.LawfulArea.{is_area_work, is_block_work}
 use Rattle.sl_trace_law.proofs.Leases.SpotLaws.{areas_are_apart}
 use Rattle.sl_trace_law.proofs.Leases.TurnLaws.{one_at_a_time}
 use Rattle.sl_trace_law.specs.Leases.Promises.{WasAnsweredBy}
-use Rattle.sl_leases.specs.Leases.{is_on, spot_of_call}
+use Rattle.sl_trace.specs.Leases.{is_on, spot_of_call}
 use Rattle.sl_run_law.proofs.Place.Areas.{base_around}
 use Rattle.sl_run_law.proofs.Place.Seats.{sized_in}
 use Rattle.sl_history.proofs.Resources.Calls.{Newer, Older, Order, Same, text_same}

@@ -2,7 +2,7 @@
 use Rattle.sl_ballots.specs.Ballots.{BallotEnded}
 use Rattle.sl_ballots.specs.History.{Owner as Holder}
 use Rattle.sl_run_law.specs.Course.Stamping.{stamp_in}
-use Rattle.sl_leases.specs.Leases.{ended_ballots, lease_calls}
+use Rattle.sl_trace.specs.Leases.{ended_ballots, lease_calls}
 use Rattle.sl_history.specs.Resources.Histories.{is_host}
 use Rattle.sl_history.specs.Resources.Promises.{NamesDiffer, history_of_line, spot_of_line}
 use Rattle.sl_history.specs.Resources.Sending.{holder_of, is_joined_there}

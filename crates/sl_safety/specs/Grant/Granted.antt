@@ -2,7 +2,7 @@
 use Rattle.sl_safety.specs.Ballot.Endings.{IsEntryAt}
 use Rattle.sl_ballots.specs.History.{History}
 use Rattle.sl_holdings.specs.Holdings.{ExclusiveGrant, IsGrantedExclusive, IsKept, IsSharedTo, SharedGrant}
-use Rattle.sl_leases.specs.Leases.{has_shared_on, holdings_on}
+use Rattle.sl_trace.specs.Leases.{has_shared_on, holdings_on}
 use Rattle.sl_history.specs.Resources.Promises.{history_of_line, spot_of_line}
 use Rattle.sl_history.specs.Resources.Sending.{holder_of, is_joined_there}
 use Rattle.sl_run.specs.Runs.{Happening}

@@ -1,9 +1,9 @@
 -- How a holding of a trace came about: by a grant, after which it stood without a gap.
-use Rattle.sl_law.specs.Lawful.{Orderly}
-use Rattle.sl_law.specs.LawfulModes.{SharedByBallot, SharedByConversion}
-use Rattle.sl_leases.specs.Leases.{has_shared_on, holdings_on, is_free_write, lease_calls}
-use Rattle.sl_sessions.specs.Sessions.{calls_of, free_write, is_joined, session_numbered}
-use Rattle.sl_sessions.specs.declared.session.Session.{Session}
+use Rattle.sl_run.specs.Lawful.{Orderly}
+use Rattle.sl_run.specs.LawfulModes.{SharedByBallot, SharedByConversion}
+use Rattle.sl_trace.specs.Leases.{has_shared_on, holdings_on, is_free_write, lease_calls}
+use Rattle.sl_trace.specs.Sessions.{calls_of, free_write, is_joined, session_numbered}
+use Rattle.sl_trace.specs.declared.session.Session.{Session}
 use Rattle.sl_trace.specs.Traces.{Setting, Submitted, Trace, holdings, is_shared, same_place}
 use Rattle.sl_trace.specs.declared.effects.Entry.{Entry}
 use Rattle.sl_trace.specs.declared.effects.Grant.{Grant}

@@ -5,7 +5,7 @@ use Rattle.sl_run.specs.Runs.{Happening}
 use Rattle.sl_run.specs.Safety.{Found, HasJoined, IsSession, LawfulRun, SessionId, is_over, trace_of, world_at}
 use Rattle.sl_run.specs.Worlds.{Program, World}
 use Rattle.sl_run.specs.declared.header.Header.{Header}
-use Rattle.sl_sessions.specs.Sessions.{holdings_of}
+use Rattle.sl_trace.specs.Sessions.{holdings_of}
 use Rattle.sl_trace.specs.Traces.{orphan_of}
 use Rattle.std.specs.Prelude.{Contains, IsFalse, List, Some, ◌≡◌, ◌⊎◌}
 

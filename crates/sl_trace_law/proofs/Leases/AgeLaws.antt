@@ -1,12 +1,12 @@
 -- What stays of calls as they age.
 use Rattle.sl_area.specs.Layouts.{Layout}
-use Rattle.sl_law.specs.LawfulBlock.{ReadAfter}
+use Rattle.sl_run.specs.LawfulBlock.{ReadAfter}
 use Rattle.sl_trace_law.specs.Leases.Fronts.{Aged, AllAged}
 use Rattle.sl_trace_law.specs.Leases.Ways.{FoundIn, lease_among}
-use Rattle.sl_leases.specs.Leases.{StepKind, block_submitted, block_written, is_at, is_lease_call, is_on, blocks_given}
+use Rattle.sl_trace.specs.Leases.{StepKind, block_submitted, block_written, is_at, is_lease_call, is_on, blocks_given}
 use Rattle.sl_sector.specs.declared.sector.Block.{Block}
-use Rattle.sl_sessions.specs.Sessions.{is_call_of}
-use Rattle.sl_sessions.specs.declared.session.Session.{Session}
+use Rattle.sl_trace.specs.Sessions.{is_call_of}
+use Rattle.sl_trace.specs.declared.session.Session.{Session}
 use Rattle.sl_trace.specs.Traces.{Setting, Submitted, new_call, Answered}
 use Rattle.sl_trace.specs.declared.effects.Call.{Call}
 use Rattle.sl_trace.specs.declared.effects.Spot.{Spot}

@@ -1,21 +1,21 @@
 -- Ballots that ended, and the leaders that follow them.
 use Rattle.sl_area.specs.Layouts.{Layout}
-use Rattle.sl_law.specs.Lawful.{Orderly}
-use Rattle.sl_law.specs.LawfulLeader.{HasWon, LawfulFreeLeader, LawfulLeaderWrite, LawfulTake}
-use Rattle.sl_law.specs.Saying.{cut_at}
+use Rattle.sl_run.specs.Lawful.{Orderly}
+use Rattle.sl_run.specs.LawfulLeader.{HasWon, LawfulFreeLeader, LawfulLeaderWrite, LawfulTake}
+use Rattle.sl_run.specs.Saying.{cut_at}
 use Rattle.sl_trace_law.proofs.Leases.AgeLaws.{aged_block, aged_lease, blocks_stay, kind_stays}
 use Rattle.sl_trace_law.proofs.Leases.FrontLaws.{each_was_submitted, lawful_there}
 use Rattle.sl_trace_law.specs.Leases.Fronts.{AllAged, LawfulSubmission, Submission}
 use Rattle.sl_trace_law.specs.Leases.Promises.{LeadersFollow}
 use Rattle.sl_trace_law.specs.Leases.Ways.{Ended, LeaderRests, lease_among}
-use Rattle.sl_leases.specs.Ballots.{stop_of, value_of}
-use Rattle.sl_leases.specs.Leases.{Phase2_read, block_submitted, blocks_given, ended_ballot, ended_ballots, freed, freed_by, is_at, leader_written, lease_calls, spot_of_call, value_in_end}
-use Rattle.sl_leases.specs.declared.lease.Stop.{Stop}
+use Rattle.sl_trace.specs.Ballots.{stop_of, value_of}
+use Rattle.sl_trace.specs.Leases.{Phase2_read, block_submitted, blocks_given, ended_ballot, ended_ballots, freed, freed_by, is_at, leader_written, lease_calls, spot_of_call, value_in_end}
+use Rattle.sl_trace.specs.declared.lease.Stop.{Stop}
 use Rattle.sl_sector.specs.declared.sector.Block.{Block}
 use Rattle.sl_sector.specs.declared.sector.Leader.{Leader}
 use Rattle.sl_sector.specs.declared.sector.Owner.{Owner}
-use Rattle.sl_sessions.specs.Sessions.{me, session_numbered}
-use Rattle.sl_sessions.specs.declared.session.Session.{Session}
+use Rattle.sl_trace.specs.Sessions.{me, session_numbered}
+use Rattle.sl_trace.specs.declared.session.Session.{Session}
 use Rattle.sl_trace.specs.Traces.{Setting, Submitted, Trace, new_call, submitted}
 use Rattle.sl_trace.specs.declared.effects.Call.{Call}
 use Rattle.sl_trace.specs.declared.effects.Spot.{Spot}

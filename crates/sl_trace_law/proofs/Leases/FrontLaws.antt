@@ -1,13 +1,13 @@
 -- Each call of a trace has its front.
-use Rattle.sl_law.proofs.LawFacts.{orderly-front}
-use Rattle.sl_law.specs.Lawful.{Orderly}
-use Rattle.sl_law.specs.Saying.{cut_at}
+use Rattle.sl_run.proofs.LawFacts.{orderly-front}
+use Rattle.sl_run.specs.Lawful.{Orderly}
+use Rattle.sl_run.specs.Saying.{cut_at}
 use Rattle.sl_trace_law.specs.Leases.Fronts.{Aged, AllAged, LawfulSubmission, Submission}
 use Rattle.sl_trace_law.specs.Leases.Promises.{EachWasSubmitted}
 use Rattle.sl_plain.proofs.Lists.{got_before, got_inside, head_is, tail_is}
 use Rattle.sl_plain.proofs.Options.{some_of}
-use Rattle.sl_sessions.specs.Sessions.{begun_in, session_numbered, sessions}
-use Rattle.sl_sessions.specs.declared.session.Session.{Session}
+use Rattle.sl_trace.specs.Sessions.{begun_in, session_numbered, sessions}
+use Rattle.sl_trace.specs.declared.session.Session.{Session}
 use Rattle.sl_trace.specs.Traces.{Answered, Setting, Submitted, Trace, answer_of, answered_in, mark, new_call, submitted}
 use Rattle.sl_trace.specs.declared.effects.Call.{Call}
 use Rattle.sl_trace.specs.declared.effects.Entry.{Entry}

@@ -1,19 +1,19 @@
 -- Modes and grants.
-use Rattle.sl_law.proofs.LawFacts.{orderly-front}
-use Rattle.sl_law.specs.Lawful.{Orderly}
-use Rattle.sl_law.specs.LawfulModes.{LawfulExclusiveGrant, LawfulMode, LawfulSharedGrant}
-use Rattle.sl_law.specs.Saying.{cut_at}
+use Rattle.sl_run.proofs.LawFacts.{orderly-front}
+use Rattle.sl_run.specs.Lawful.{Orderly}
+use Rattle.sl_run.specs.LawfulModes.{LawfulExclusiveGrant, LawfulMode, LawfulSharedGrant}
+use Rattle.sl_run.specs.Saying.{cut_at}
 use Rattle.sl_trace_law.proofs.Leases.AgeLaws.{writes}
 use Rattle.sl_trace_law.proofs.Leases.EndLaws.{ended}
 use Rattle.sl_trace_law.proofs.Leases.FrontLaws.{each_was_submitted, lawful_there, session_stays}
 use Rattle.sl_trace_law.specs.Leases.Fronts.{LawfulSubmission, Submission}
 use Rattle.sl_trace_law.specs.Leases.Holding.{ExclusiveRests, ModeRests}
 use Rattle.sl_trace_law.specs.Leases.Promises.{ExclusiveFollows, ModesFollow, SharedFollows}
-use Rattle.sl_leases.specs.Leases.{Mode_set, has_shared_on, is_at, lease_calls, spot_of_call}
+use Rattle.sl_trace.specs.Leases.{Mode_set, has_shared_on, is_at, lease_calls, spot_of_call}
 use Rattle.sl_plain.proofs.Options.{some_of}
 use Rattle.sl_sector.specs.declared.sector.Block.{Block}
-use Rattle.sl_sessions.specs.Sessions.{me, session_numbered}
-use Rattle.sl_sessions.specs.declared.session.Session.{Session}
+use Rattle.sl_trace.specs.Sessions.{me, session_numbered}
+use Rattle.sl_trace.specs.declared.session.Session.{Session}
 use Rattle.sl_trace.specs.Traces.{Setting, Submitted, Trace, is_shared, new_call, spot_of_grant}
 use Rattle.sl_trace.specs.declared.effects.Call.{Call}
 use Rattle.sl_trace.specs.declared.effects.Entry.{Entry}

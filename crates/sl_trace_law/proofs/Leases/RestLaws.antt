@@ -1,16 +1,16 @@
 -- What phase 2 and its read rest on, as it stands now.
-use Rattle.sl_law.specs.Lawful.{Orderly}
-use Rattle.sl_law.specs.LawfulBlock.{LawfulBlockStep, LawfulBlockWrite, LawfulPhase2, LawfulPhase2Read}
-use Rattle.sl_law.specs.Saying.{cut_at}
+use Rattle.sl_run.specs.Lawful.{Orderly}
+use Rattle.sl_run.specs.LawfulBlock.{LawfulBlockStep, LawfulBlockWrite, LawfulPhase2, LawfulPhase2Read}
+use Rattle.sl_run.specs.Saying.{cut_at}
 use Rattle.sl_trace_law.proofs.Leases.AgeLaws.{Became, BecameLast, after_stays, aged_lease, became, became_last, block_stays, blocks_stay, kind_stays, writes}
 use Rattle.sl_trace_law.proofs.Leases.FrontLaws.{each_was_submitted, lawful_there}
 use Rattle.sl_trace_law.specs.Leases.Fronts.{AllAged, LawfulSubmission, Submission}
 use Rattle.sl_trace_law.specs.Leases.Promises.{BlocksHaveFronts, Phase2Follows, Phase2IsRead}
 use Rattle.sl_trace_law.specs.Leases.Ways.{BlockFront, Phase2ReadRests, Phase2Rests, lease_among}
-use Rattle.sl_leases.specs.Leases.{Phase1_read, Phase1_write, Phase2_read, Phase2_write, block_written, is_at, kind_of_step, lease_calls, lease_step, same_kind, spot_of_call}
+use Rattle.sl_trace.specs.Leases.{Phase1_read, Phase1_write, Phase2_read, Phase2_write, block_written, is_at, kind_of_step, lease_calls, lease_step, same_kind, spot_of_call}
 use Rattle.sl_sector.specs.declared.sector.Block.{Block}
-use Rattle.sl_sessions.specs.Sessions.{session_numbered}
-use Rattle.sl_sessions.specs.declared.session.Session.{Session}
+use Rattle.sl_trace.specs.Sessions.{session_numbered}
+use Rattle.sl_trace.specs.declared.session.Session.{Session}
 use Rattle.sl_trace.specs.Traces.{Setting, Submitted, Trace, new_call, submitted}
 use Rattle.sl_trace.specs.declared.effects.Call.{Call}
 use Rattle.sl_trace.specs.declared.effects.LeaseStep.TheVariants.{ClearMode, FreeLeader, Phase1Read, Phase1Write, Phase2Read, Phase2Write, ReadArea, ReadBeforeFree, SetMode, TakeLeader}

@@ -1,16 +1,16 @@
 -- A session's calls on an area take turns.
-use Rattle.sl_law.specs.LawfulArea.{is_area_work, is_block_work, open_block_work}
-use Rattle.sl_law.specs.Lawful.{Orderly}
-use Rattle.sl_law.specs.Saying.{cut_at}
+use Rattle.sl_run.specs.LawfulArea.{is_area_work, is_block_work, open_block_work}
+use Rattle.sl_run.specs.Lawful.{Orderly}
+use Rattle.sl_run.specs.Saying.{cut_at}
 use Rattle.sl_trace_law.proofs.Leases.AnswerLaws.{answers_within}
 use Rattle.sl_trace_law.proofs.Leases.FrontLaws.{each_was_submitted, lawful_there}
 use Rattle.sl_trace_law.proofs.Leases.HavingLaws.{Has, WasAmong, has_kept, has_none, was_among}
 use Rattle.sl_trace_law.proofs.Leases.NumberLaws.{number_is_place}
 use Rattle.sl_trace_law.specs.Leases.Fronts.{Aged, LawfulSubmission, Submission}
 use Rattle.sl_trace_law.specs.Leases.Promises.{OneAtATime, WasAnsweredBy}
-use Rattle.sl_leases.specs.Leases.{is_on, spot_of_call}
-use Rattle.sl_sessions.specs.Sessions.{calls_of, is_call_of, open_calls_of}
-use Rattle.sl_sessions.specs.declared.session.Session.{Session}
+use Rattle.sl_trace.specs.Leases.{is_on, spot_of_call}
+use Rattle.sl_trace.specs.Sessions.{calls_of, is_call_of, open_calls_of}
+use Rattle.sl_trace.specs.declared.session.Session.{Session}
 use Rattle.sl_trace.specs.Traces.{Answered, Setting, Submitted, Trace, new_call, submitted}
 use Rattle.sl_trace.specs.declared.effects.Call.{Call}
 use Rattle.sl_trace.specs.declared.effects.Spot.{Spot}

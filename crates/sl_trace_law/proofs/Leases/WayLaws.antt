@@ -1,10 +1,10 @@
 -- The three ways, of blocks alone.
 use Rattle.sl_trace_law.specs.Leases.Ways.{ByMode, ByPhase1, ByPhase2}
-use Rattle.sl_leases.specs.Ballots.{in_instance, moded_block, next_mbal, number_above, phase1_block, phase2_block}
+use Rattle.sl_trace.specs.Ballots.{in_instance, moded_block, next_mbal, number_above, phase1_block, phase2_block}
 use Rattle.sl_plain.proofs.Numbers.{less_is_other}
 use Rattle.sl_sector.specs.declared.sector.Block.{Block}
 use Rattle.sl_sector.specs.declared.sector.Owner.{Owner}
-use Rattle.sl_sessions.specs.declared.session.Session.{Session}
+use Rattle.sl_trace.specs.declared.session.Session.{Session}
 use Rattle.sl_words.specs.Words.{greatest}
 use Rattle.std.proofs.Common.{ap, arith, refl, subst, sym}
 use Rattle.std.proofs.lemmas.Bool.Decides.{nat_tests}

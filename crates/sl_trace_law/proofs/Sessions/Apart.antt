@@ -1,10 +1,10 @@
 -- Sessions of one lockspace name follow one another.
-use Rattle.sl_law.specs.LawfulDelta.{LawfulDeltaCall}
+use Rattle.sl_run.specs.LawfulDelta.{LawfulDeltaCall}
 use Rattle.sl_trace_law.proofs.Sessions.Naming.{absent}
 use Rattle.sl_trace_law.proofs.Sessions.Parting.{not_removed}
 use Rattle.sl_trace_law.specs.Sessions.Promises.{NamesAreApart, WritersStay, front_of, made_as}
-use Rattle.sl_sessions.specs.Sessions.{is_join_call, is_present, session_named}
-use Rattle.sl_sessions.specs.declared.session.Session.{Session}
+use Rattle.sl_trace.specs.Sessions.{is_join_call, is_present, session_named}
+use Rattle.sl_trace.specs.declared.session.Session.{Session}
 use Rattle.sl_trace.specs.Traces.{Setting, Submitted, Trace}
 use Rattle.sl_trace.specs.declared.effects.JoinStep.TheVariants.{ClaimWrite, DecidingRead, FirstRead, FirstRenewal, VerifyRead, WatchRead}
 use Rattle.sl_trace.specs.declared.effects.Purpose.TheVariants.{RequestRead, RequestWrite, Joining, Lease, Leaving, Renewal, SeeRequest, Survey, ValueRead, ValueWrite}

@@ -1,16 +1,16 @@
 -- The connection stands while a write is unanswered.
-use Rattle.sl_law.specs.LawfulWatchdog.{CoveredBy, is_covered}
-use Rattle.sl_law.specs.Lawful.{Orderly}
+use Rattle.sl_run.specs.LawfulWatchdog.{CoveredBy, is_covered}
+use Rattle.sl_run.specs.Lawful.{Orderly}
 use Rattle.sl_plain.proofs.Lists.{got_inside}
 use Rattle.sl_plain.proofs.Truth.{or_false}
 use Rattle.sl_trace_law.proofs.Sessions.Joining.{done_unanswered, in_turn}
 use Rattle.sl_trace_law.proofs.Sessions.Parting.{not_removed}
 use Rattle.sl_trace_law.proofs.Sessions.Silence.{stage_by}
 use Rattle.sl_trace_law.specs.Sessions.Promises.{IsSession, JoiningsAreInTurn, WritesAreCovered, all_done, fits, fits_as, is_in_turn}
-use Rattle.sl_sessions.specs.Sessions.{calls_of, free_write, has_open_write, is_covered_stage, joined_after, refused_after, removed_after, sessions, stage_after, stage_in, stage_of}
-use Rattle.sl_sessions.specs.declared.session.Session.{Session}
-use Rattle.sl_sessions.specs.declared.stage.Stage.TheVariants.{Looking}
-use Rattle.sl_sessions.specs.declared.stage.Stage.{Stage}
+use Rattle.sl_trace.specs.Sessions.{calls_of, free_write, has_open_write, is_covered_stage, joined_after, refused_after, removed_after, sessions, stage_after, stage_in, stage_of}
+use Rattle.sl_trace.specs.declared.session.Session.{Session}
+use Rattle.sl_trace.specs.declared.stage.Stage.TheVariants.{Looking}
+use Rattle.sl_trace.specs.declared.stage.Stage.{Stage}
 use Rattle.sl_trace.specs.Traces.{Answered, Setting, Submitted, Trace, is_ok_answer, is_write, unanswered}
 use Rattle.sl_trace.specs.declared.effects.JoinStep.TheVariants.{ClaimWrite, DecidingRead, FirstRead, FirstRenewal, VerifyRead, WatchRead}
 use Rattle.sl_trace.specs.declared.effects.Purpose.TheVariants.{RequestRead, RequestWrite, Joining, Lease, Leaving, Renewal, SeeRequest, Survey, ValueRead, ValueWrite}

@@ -1,6 +1,6 @@
 -- After its free a session submits nothing more; a request seen in a joining sets it back.
-use Rattle.sl_law.specs.LawfulCalls.{may_submit}
-use Rattle.sl_law.specs.Saying.{cut_at}
+use Rattle.sl_run.specs.LawfulCalls.{may_submit}
+use Rattle.sl_run.specs.Saying.{cut_at}
 use Rattle.sl_trace_law.proofs.Sessions.Growing.{mine_marked, mine_next, other_next, to_cut}
 use Rattle.sl_trace_law.proofs.Sessions.Joining.{stage_for}
 use Rattle.sl_trace_law.proofs.Sessions.Making.{same_answered}
@@ -8,9 +8,9 @@ use Rattle.sl_trace_law.proofs.Sessions.Ordering.{open_stage}
 use Rattle.sl_trace_law.proofs.Sessions.Silence.{stage_by}
 use Rattle.sl_trace_law.proofs.Sessions.Staying.{joined_more}
 use Rattle.sl_trace_law.specs.Sessions.Promises.{FreedAreSilent, SeeingSetsBack}
-use Rattle.sl_sessions.specs.Sessions.{calls_of, free_write, is_call_of, is_free_purpose, joined_after, refused_after, removed_after, session_numbered, stage_in}
-use Rattle.sl_sessions.specs.declared.session.Session.{Session}
-use Rattle.sl_sessions.specs.declared.stage.Stage.{Stage}
+use Rattle.sl_trace.specs.Sessions.{calls_of, free_write, is_call_of, is_free_purpose, joined_after, refused_after, removed_after, session_numbered, stage_in}
+use Rattle.sl_trace.specs.declared.session.Session.{Session}
+use Rattle.sl_trace.specs.declared.stage.Stage.{Stage}
 use Rattle.sl_trace.proofs.TraceFacts.{submitted-push}
 use Rattle.sl_trace.specs.TraceLaws.{with_call}
 use Rattle.sl_trace.specs.Traces.{Submitted, Trace, answered_in, mark, new_call}

@@ -1,5 +1,5 @@
 -- What was answered where a call was made stays answered; a request seen in a joining sets it back.
-use Rattle.sl_law.specs.Saying.{cut_at}
+use Rattle.sl_run.specs.Saying.{cut_at}
 use Rattle.sl_plain.proofs.Lists.{contains_more}
 use Rattle.sl_trace_law.proofs.Sessions.Making.{answers_stay, old_stays}
 use Rattle.sl_trace_law.specs.Sessions.Promises.{FrontAnswersStay}

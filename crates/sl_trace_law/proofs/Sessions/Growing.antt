@@ -1,8 +1,8 @@
 -- A trace grows by the answer of an entry, and then by its calls, one by one.
-use Rattle.sl_law.specs.Saying.{cut_at}
+use Rattle.sl_run.specs.Saying.{cut_at}
 use Rattle.sl_trace_law.proofs.Sessions.Making.{same_answered}
-use Rattle.sl_sessions.specs.Sessions.{calls_of, is_call_of}
-use Rattle.sl_sessions.specs.declared.session.Session.{Session}
+use Rattle.sl_trace.specs.Sessions.{calls_of, is_call_of}
+use Rattle.sl_trace.specs.declared.session.Session.{Session}
 use Rattle.sl_trace.proofs.TraceFacts.{fold-push}
 use Rattle.sl_trace.specs.Traces.{Submitted, Trace, answered_in, mark, new_call, submitted}
 use Rattle.sl_trace.specs.declared.effects.Call.{Call}

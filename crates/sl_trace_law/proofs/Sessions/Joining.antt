@@ -1,9 +1,9 @@
 -- The calls of a joining: each is answered before the next is made, and only its claim and its first renewal write.
-use Rattle.sl_law.proofs.LawFacts.{orderly-front}
-use Rattle.sl_law.specs.Lawful.{Orderly}
-use Rattle.sl_law.specs.LawfulArea.{is_area_work}
-use Rattle.sl_law.specs.LawfulDelta.{LawfulDeltaCall}
-use Rattle.sl_law.specs.Saying.{cut_at}
+use Rattle.sl_run.proofs.LawFacts.{orderly-front}
+use Rattle.sl_run.specs.Lawful.{Orderly}
+use Rattle.sl_run.specs.LawfulArea.{is_area_work}
+use Rattle.sl_run.specs.LawfulDelta.{LawfulDeltaCall}
+use Rattle.sl_run.specs.Saying.{cut_at}
 use Rattle.sl_plain.proofs.Lists.{got_inside}
 use Rattle.sl_trace_law.proofs.Sessions.Growing.{mine_marked, mine_next, other_next, to_all}
 use Rattle.sl_trace_law.proofs.Sessions.Making.{same_answered}
@@ -11,10 +11,10 @@ use Rattle.sl_trace_law.proofs.Sessions.Owning.{is_the_one, session_more}
 use Rattle.sl_trace_law.proofs.Sessions.Silence.{stage_by}
 use Rattle.sl_trace_law.proofs.Sessions.Staying.{joined_more}
 use Rattle.sl_trace_law.specs.Sessions.Promises.{all_done, fits, fits_as, has_reply, is_in_turn}
-use Rattle.sl_sessions.specs.Sessions.{calls_of, is_active, is_delta_purpose, is_joined, joined_after, leaving_job, recovery_of, refused_after, removed_after, session_numbered, stage_after, stage_in, stage_of, free_write}
-use Rattle.sl_sessions.specs.declared.session.Session.{Session}
-use Rattle.sl_sessions.specs.declared.stage.Stage.TheVariants.{Looking, Standing}
-use Rattle.sl_sessions.specs.declared.stage.Stage.{Stage}
+use Rattle.sl_trace.specs.Sessions.{calls_of, is_active, is_delta_purpose, is_joined, joined_after, leaving_job, recovery_of, refused_after, removed_after, session_numbered, stage_after, stage_in, stage_of, free_write}
+use Rattle.sl_trace.specs.declared.session.Session.{Session}
+use Rattle.sl_trace.specs.declared.stage.Stage.TheVariants.{Looking, Standing}
+use Rattle.sl_trace.specs.declared.stage.Stage.{Stage}
 use Rattle.sl_trace.specs.Traces.{Answered, Setting, Submitted, Trace, answer_of, answered_in, is_answered_ok, is_write, mark, new_call, unanswered}
 use Rattle.sl_trace.specs.declared.effects.Call.{Call}
 use Rattle.sl_trace.specs.declared.effects.Entry.{Entry}

@@ -1,7 +1,7 @@
 -- A present session has its lockspace's name.
 use Rattle.sl_plain.proofs.Lists.{contains_cases, contains_first, contains_more, contains_none, kept}
-use Rattle.sl_sessions.specs.Sessions.{has_open_write, is_present, joined_after, present_sessions, refused_after, removed_after, session_named, sessions}
-use Rattle.sl_sessions.specs.declared.session.Session.{Session}
+use Rattle.sl_trace.specs.Sessions.{has_open_write, is_present, joined_after, present_sessions, refused_after, removed_after, session_named, sessions}
+use Rattle.sl_trace.specs.declared.session.Session.{Session}
 use Rattle.sl_trace.specs.Traces.{Setting, Trace}
 use Rattle.sl_words.proofs.CaseLaws.{none_some, no_value, true_is_false}
 use Rattle.sl_words.specs.Orders.{is_text_before, put_in}

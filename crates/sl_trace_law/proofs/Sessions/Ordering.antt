@@ -1,9 +1,9 @@
 -- The calls of a joining come in its order.
-use Rattle.sl_law.proofs.LawFacts.{orderly-front}
-use Rattle.sl_law.specs.Lawful.{Orderly}
-use Rattle.sl_law.specs.LawfulCalls.{may_submit}
-use Rattle.sl_law.specs.LawfulDelta.{LawfulDeltaCall}
-use Rattle.sl_law.specs.Saying.{cut_at}
+use Rattle.sl_run.proofs.LawFacts.{orderly-front}
+use Rattle.sl_run.specs.Lawful.{Orderly}
+use Rattle.sl_run.specs.LawfulCalls.{may_submit}
+use Rattle.sl_run.specs.LawfulDelta.{LawfulDeltaCall}
+use Rattle.sl_run.specs.Saying.{cut_at}
 use Rattle.sl_plain.proofs.Lists.{contains_cases, contains_first, contains_more, contains_none, got_inside}
 use Rattle.sl_trace_law.proofs.Sessions.Growing.{mine_marked, mine_next, other_next, to_all}
 use Rattle.sl_trace_law.proofs.Sessions.Joining.{fits_delta, fits_new, joined_before, stage_for, turn_call, turn_done, turn_marked}
@@ -12,9 +12,9 @@ use Rattle.sl_trace_law.proofs.Sessions.Naming.{named}
 use Rattle.sl_trace_law.proofs.Sessions.Owning.{is_the_one, session_more, sessions_stay}
 use Rattle.sl_trace_law.proofs.Sessions.Silence.{stage_by}
 use Rattle.sl_trace_law.specs.Sessions.Promises.{JoiningsAreOrdered, all_done, fits, fits_as, has_reply, is_in_turn, is_ordered, leads_to, looks, may_come, may_follow}
-use Rattle.sl_sessions.specs.Sessions.{calls_of, free_write, is_call_of, joined_after, refused_after, removed_after, session_named, session_numbered, sessions, stage_in, stage_of}
-use Rattle.sl_sessions.specs.declared.session.Session.{Session}
-use Rattle.sl_sessions.specs.declared.stage.Stage.{Stage}
+use Rattle.sl_trace.specs.Sessions.{calls_of, free_write, is_call_of, joined_after, refused_after, removed_after, session_named, session_numbered, sessions, stage_in, stage_of}
+use Rattle.sl_trace.specs.declared.session.Session.{Session}
+use Rattle.sl_trace.specs.declared.stage.Stage.{Stage}
 use Rattle.sl_trace.specs.Traces.{Setting, Submitted, Trace, answered_in, is_answered_ok, is_write, mark, new_call, submitted}
 use Rattle.sl_trace.specs.declared.effects.Call.{Call}
 use Rattle.sl_trace.specs.declared.effects.Entry.{Entry}

@@ -1,11 +1,11 @@
 -- Whose a call is.
-use Rattle.sl_law.proofs.LawFacts.{orderly-front}
-use Rattle.sl_law.specs.Lawful.{Orderly}
+use Rattle.sl_run.proofs.LawFacts.{orderly-front}
+use Rattle.sl_run.specs.Lawful.{Orderly}
 use Rattle.sl_plain.proofs.Lists.{got_before, got_inside}
 use Rattle.sl_trace_law.proofs.Sessions.Making.{calls_are_made}
 use Rattle.sl_trace_law.specs.Sessions.Promises.{CallsWereLawful, IsMade, IsSession, SessionsStay, WasLawful}
-use Rattle.sl_sessions.specs.Sessions.{begun_in, session_numbered, sessions}
-use Rattle.sl_sessions.specs.declared.session.Session.{Session}
+use Rattle.sl_trace.specs.Sessions.{begun_in, session_numbered, sessions}
+use Rattle.sl_trace.specs.declared.session.Session.{Session}
 use Rattle.sl_trace.specs.Traces.{Setting, Submitted, Trace}
 use Rattle.sl_trace.specs.declared.effects.Call.{Call}
 use Rattle.sl_trace.specs.declared.effects.Entry.{Entry}

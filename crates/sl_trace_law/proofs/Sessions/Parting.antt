@@ -1,8 +1,8 @@
 -- A session whose write is unanswered is not removed.
-use Rattle.sl_law.proofs.LawFacts.{orderly-front}
-use Rattle.sl_law.specs.Lawful.{Orderly}
-use Rattle.sl_law.specs.LawfulCalls.{may_submit}
-use Rattle.sl_law.specs.Saying.{cut_at}
+use Rattle.sl_run.proofs.LawFacts.{orderly-front}
+use Rattle.sl_run.specs.Lawful.{Orderly}
+use Rattle.sl_run.specs.LawfulCalls.{may_submit}
+use Rattle.sl_run.specs.Saying.{cut_at}
 use Rattle.sl_plain.proofs.Lists.{any_found, any_of, got_inside, kept, kept_inside}
 use Rattle.sl_plain.proofs.Options.{none_is, some_there}
 use Rattle.sl_trace_law.proofs.Sessions.Making.{IsNewCall, old_or_new, was_marked}
@@ -10,8 +10,8 @@ use Rattle.sl_trace_law.proofs.Sessions.Ordering.{begun_before}
 use Rattle.sl_trace_law.proofs.Sessions.Silence.{no_more}
 use Rattle.sl_trace_law.proofs.Sessions.Staying.{joined_more}
 use Rattle.sl_trace_law.specs.Sessions.Promises.{IsSession}
-use Rattle.sl_sessions.specs.Sessions.{calls_of, has_open_write, is_call_of, joined_after, refused_after, removed_after, removed_in, session_numbered, sessions, stage_of}
-use Rattle.sl_sessions.specs.declared.session.Session.{Session}
+use Rattle.sl_trace.specs.Sessions.{calls_of, has_open_write, is_call_of, joined_after, refused_after, removed_after, removed_in, session_numbered, sessions, stage_of}
+use Rattle.sl_trace.specs.declared.session.Session.{Session}
 use Rattle.sl_trace.specs.Connections.{unregisters}
 use Rattle.sl_trace.specs.Traces.{Setting, Submitted, Trace, is_write, mark, submitted}
 use Rattle.sl_trace.specs.declared.effects.Entry.{Entry}

@@ -1,12 +1,12 @@
 -- A session that is over submits nothing.
-use Rattle.sl_law.specs.LawfulCalls.{may_submit}
-use Rattle.sl_law.specs.Saying.{cut_at}
+use Rattle.sl_run.specs.LawfulCalls.{may_submit}
+use Rattle.sl_run.specs.Saying.{cut_at}
 use Rattle.sl_trace_law.proofs.Sessions.Staying.{ended_more}
 use Rattle.sl_trace_law.specs.Sessions.Promises.{EndedAreSilent}
-use Rattle.sl_sessions.specs.Sessions.{calls_of, ended_after, free_write, joined_after, refused_after, removed_after, session_numbered, stage_in, stage_of}
-use Rattle.sl_sessions.specs.declared.session.Session.{Session}
-use Rattle.sl_sessions.specs.declared.stage.Stage.TheVariants.{Ended, Freeing, Refused, Standing}
-use Rattle.sl_sessions.specs.declared.stage.Stage.{Stage}
+use Rattle.sl_trace.specs.Sessions.{calls_of, ended_after, free_write, joined_after, refused_after, removed_after, session_numbered, stage_in, stage_of}
+use Rattle.sl_trace.specs.declared.session.Session.{Session}
+use Rattle.sl_trace.specs.declared.stage.Stage.TheVariants.{Ended, Freeing, Refused, Standing}
+use Rattle.sl_trace.specs.declared.stage.Stage.{Stage}
 use Rattle.sl_trace.specs.Traces.{Submitted, Trace}
 use Rattle.sl_words.proofs.CaseLaws.{none_some, true_is_false}
 use Rattle.std.proofs.Common.{ap, refl, sym, ◌∙◌}

@@ -1,7 +1,7 @@
 -- Marks of a session stay.
 use Rattle.sl_trace_law.specs.Sessions.Promises.{MarksStay, Stays}
-use Rattle.sl_sessions.specs.Sessions.{ended_after, is_join_done, joined_after, refused_after, removed_after}
-use Rattle.sl_sessions.specs.declared.session.Session.{Session}
+use Rattle.sl_trace.specs.Sessions.{ended_after, is_join_done, joined_after, refused_after, removed_after}
+use Rattle.sl_trace.specs.declared.session.Session.{Session}
 use Rattle.sl_trace.proofs.TraceFacts.{reply_to-more}
 use Rattle.sl_trace.specs.Traces.{Replied, Trace, reply_to}
 use Rattle.sl_trace.specs.declared.effects.Entry.{Entry}

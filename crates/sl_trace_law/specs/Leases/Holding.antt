@@ -1,12 +1,12 @@
 -- What stands where a session writes a mode and where it is granted a resource.
-use Rattle.sl_law.specs.LawfulModes.{LawfulExclusiveGrant}
-use Rattle.sl_law.specs.Saying.{cut_at}
+use Rattle.sl_run.specs.LawfulModes.{LawfulExclusiveGrant}
+use Rattle.sl_run.specs.Saying.{cut_at}
 use Rattle.sl_trace_law.specs.Leases.Fronts.{Submission}
 use Rattle.sl_trace_law.specs.Leases.Ways.{Ended}
-use Rattle.sl_leases.specs.Leases.{Mode_set, freed, has_shared_on, is_at, lease_calls}
+use Rattle.sl_trace.specs.Leases.{Mode_set, freed, has_shared_on, is_at, lease_calls}
 use Rattle.sl_sector.specs.declared.sector.Block.{Block}
-use Rattle.sl_sessions.specs.Sessions.{generation_of, me}
-use Rattle.sl_sessions.specs.declared.session.Session.{Session}
+use Rattle.sl_trace.specs.Sessions.{generation_of, me}
+use Rattle.sl_trace.specs.declared.session.Session.{Session}
 use Rattle.sl_trace.specs.Traces.{Setting, Submitted, Trace}
 use Rattle.sl_trace.specs.declared.effects.Grant.{Grant}
 use Rattle.sl_trace.specs.declared.effects.Spot.{Spot}

@@ -11,17 +11,17 @@
 -- What reads show (IsRegister.submitted, earlier; ShowsNewest) and that sessions come in order are no facts of one trace. ShowsNewest
 -- rests on one of them: that a session has one block write in flight.
 use Rattle.sl_area.specs.Layouts.{Layout}
-use Rattle.sl_law.specs.Lawful.{Orderly}
-use Rattle.sl_law.specs.LawfulArea.{is_area_work, is_block_work}
-use Rattle.sl_law.specs.LawfulModes.{LawfulSharedGrant}
+use Rattle.sl_run.specs.Lawful.{Orderly}
+use Rattle.sl_run.specs.LawfulArea.{is_area_work, is_block_work}
+use Rattle.sl_run.specs.LawfulModes.{LawfulSharedGrant}
 use Rattle.sl_trace_law.specs.Leases.Fronts.{LawfulSubmission}
 use Rattle.sl_trace_law.specs.Leases.Holding.{ExclusiveRests, ModeRests}
 use Rattle.sl_trace_law.specs.Leases.Ways.{BlockComes, BlockFront, LeaderRests, Phase2ReadRests, Phase2Rests}
 use Rattle.sl_sector.specs.declared.sector.Block.{Block}
 use Rattle.sl_sector.specs.declared.sector.Leader.{Leader}
-use Rattle.sl_sessions.specs.Sessions.{session_numbered}
-use Rattle.sl_leases.specs.Leases.{Phase2_read, Phase2_write, block_written, is_at, is_on, leader_written, spot_of_call}
-use Rattle.sl_sessions.specs.declared.session.Session.{Session}
+use Rattle.sl_trace.specs.Sessions.{session_numbered}
+use Rattle.sl_trace.specs.Leases.{Phase2_read, Phase2_write, block_written, is_at, is_on, leader_written, spot_of_call}
+use Rattle.sl_trace.specs.declared.session.Session.{Session}
 use Rattle.sl_trace.specs.Traces.{Answered, Setting, Submitted, Trace, spot_of_grant, submitted}
 use Rattle.sl_trace.specs.declared.effects.Entry.{Entry}
 use Rattle.sl_trace.specs.declared.effects.Grant.{Grant}

@@ -1,15 +1,15 @@
 -- How a block that a session writes comes from its own block before.
-use Rattle.sl_law.specs.LawfulBlock.{LawfulBlockWrite, ReadAfter}
-use Rattle.sl_law.specs.Saying.{cut_at}
+use Rattle.sl_run.specs.LawfulBlock.{LawfulBlockWrite, ReadAfter}
+use Rattle.sl_run.specs.Saying.{cut_at}
 use Rattle.sl_trace_law.specs.Leases.Fronts.{Submission}
-use Rattle.sl_leases.specs.Ballots.{ballot_blocks, moded_block, owner_of, phase2_block, same_owner, stop_of, value_of}
-use Rattle.sl_leases.specs.Leases.{Mode_cleared, Mode_set, Phase1_read, Phase1_write, Phase2_read, Phase2_write, block_of_host, block_submitted, block_written, blocks_given, freed, is_at, is_lease_call, is_on}
+use Rattle.sl_trace.specs.Ballots.{ballot_blocks, moded_block, owner_of, phase2_block, same_owner, stop_of, value_of}
+use Rattle.sl_trace.specs.Leases.{Mode_cleared, Mode_set, Phase1_read, Phase1_write, Phase2_read, Phase2_write, block_of_host, block_submitted, block_written, blocks_given, freed, is_at, is_lease_call, is_on}
 use Rattle.sl_area.specs.Layouts.{Layout}
 use Rattle.sl_sector.specs.declared.sector.Block.{Block}
 use Rattle.sl_sector.specs.declared.sector.Leader.{Leader}
 use Rattle.sl_sector.specs.declared.sector.Owner.{Owner}
-use Rattle.sl_sessions.specs.Sessions.{is_call_of, me}
-use Rattle.sl_sessions.specs.declared.session.Session.{Session}
+use Rattle.sl_trace.specs.Sessions.{is_call_of, me}
+use Rattle.sl_trace.specs.declared.session.Session.{Session}
 use Rattle.sl_trace.specs.Traces.{Setting, Submitted, Trace, new_call}
 use Rattle.sl_trace.specs.declared.effects.Spot.{Spot}
 use Rattle.std.specs.Prelude.{Contains, IsTrue, List, None, Option, Some, filter, find, is_some, length, true, ℕ, ◌&&◌, ◌++◌, ◌<◌, ◌∷◌, ◌≡◌, ◌≤◌, ◌⊎◌}

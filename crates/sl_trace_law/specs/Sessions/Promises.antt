@@ -7,14 +7,14 @@
 --   a time (its `alone`); nothing after the free (FreedAreSilent).
 -- End: nothing is submitted from there on (EndedAreSilent); marks don't change (MarksStay).
 -- Bounds: a write in flight has its connection, with a bounded expiry (WritesAreCovered, WritersStay).
-use Rattle.sl_law.specs.Lawful.{Orderly}
-use Rattle.sl_law.specs.LawfulDelta.{LawfulDeltaCall, is_on_own_sector}
-use Rattle.sl_law.specs.LawfulWatchdog.{CoveredBy}
-use Rattle.sl_law.specs.Saying.{cut_at}
-use Rattle.sl_sessions.specs.Sessions.{calls_of, ended_after, free_write, has_open_delta, has_open_write, is_delta_purpose, is_join_call, is_present, is_survey_purpose, joined_after, refused_after, removed_after, same_join_step, session_numbered, sessions, stage_after, stage_of}
-use Rattle.sl_sessions.specs.declared.session.Session.{Session}
-use Rattle.sl_sessions.specs.declared.stage.Stage.TheVariants.{Deciding, Looking, Verifying, Waiting}
-use Rattle.sl_sessions.specs.declared.stage.Stage.{Stage}
+use Rattle.sl_run.specs.Lawful.{Orderly}
+use Rattle.sl_run.specs.LawfulDelta.{LawfulDeltaCall, is_on_own_sector}
+use Rattle.sl_run.specs.LawfulWatchdog.{CoveredBy}
+use Rattle.sl_run.specs.Saying.{cut_at}
+use Rattle.sl_trace.specs.Sessions.{calls_of, ended_after, free_write, has_open_delta, has_open_write, is_delta_purpose, is_join_call, is_present, is_survey_purpose, joined_after, refused_after, removed_after, same_join_step, session_numbered, sessions, stage_after, stage_of}
+use Rattle.sl_trace.specs.declared.session.Session.{Session}
+use Rattle.sl_trace.specs.declared.stage.Stage.TheVariants.{Deciding, Looking, Verifying, Waiting}
+use Rattle.sl_trace.specs.declared.stage.Stage.{Stage}
 use Rattle.sl_trace.specs.TraceLaws.{with_call}
 use Rattle.sl_trace.specs.Traces.{Answered, Setting, Submitted, Trace, is_write, new_call, submitted}
 use Rattle.sl_trace.specs.declared.effects.Call.{Call}

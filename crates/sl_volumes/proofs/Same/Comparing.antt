@@ -1,10 +1,10 @@
 -- The event that tells a group's value to be the one that was seen: its step reads the version that was seen.
-use Rattle.sl_law.specs.Caused.{Answering, CausedBy, IsCaused}
-use Rattle.sl_lvm.specs.LockNames.{Lock, group_lock, resource_of}
-use Rattle.sl_lvm.specs.Lvm.{Course, Lvm, Reading, after_reading, comparison, goes_on_with, is_seen, lock_process, lvm_turn}
-use Rattle.sl_lvm.specs.declared.turn.LvmIn.TheVariants.{Reply as HostReply}
-use Rattle.sl_lvm.specs.declared.turn.LvmOut.TheVariants.{Ask, Quiet, Reply as LineReply}
-use Rattle.sl_lvm.specs.declared.turn.LvmOut.{LvmOut}
+use Rattle.sl_run.specs.Caused.{Answering, CausedBy, IsCaused}
+use Rattle.sl_run.specs.LockNames.{Lock, group_lock, resource_of}
+use Rattle.sl_run.specs.Lvm.{Course, Lvm, Reading, after_reading, comparison, goes_on_with, is_seen, lock_process, lvm_turn}
+use Rattle.sl_run.specs.declared.turn.LvmIn.TheVariants.{Reply as HostReply}
+use Rattle.sl_run.specs.declared.turn.LvmOut.TheVariants.{Ask, Quiet, Reply as LineReply}
+use Rattle.sl_run.specs.declared.turn.LvmOut.{LvmOut}
 use Rattle.sl_plain.proofs.Lists.{contains_first, find_inside}
 use Rattle.sl_plain.proofs.Options.{mapped_value, then_value}
 use Rattle.sl_run.specs.Events.{after_step, event_tests, first_change, happens, if_running, input_at, input_of, machine_of, may_happen, next_step, ok_input, rest_sampled, sectors_left, take_step, with_entry}

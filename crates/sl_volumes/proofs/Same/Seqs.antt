@@ -1,14 +1,14 @@
 -- Of the values that a session submits on an area under one instance each has a greater seq than those before it.
 use Rattle.sl_area.specs.Layouts.{Layout}
-use Rattle.sl_law.specs.Lawful.{Orderly}
-use Rattle.sl_law.specs.LawfulValue.{LawfulValueWrite}
-use Rattle.sl_law.specs.Saying.{cut_at}
-use Rattle.sl_leases.specs.Counts.{next_value_seq, values_on}
-use Rattle.sl_leases.specs.Leases.{is_on, spot_of_call, value_written}
+use Rattle.sl_run.specs.Lawful.{Orderly}
+use Rattle.sl_run.specs.LawfulValue.{LawfulValueWrite}
+use Rattle.sl_run.specs.Saying.{cut_at}
+use Rattle.sl_trace.specs.Counts.{next_value_seq, values_on}
+use Rattle.sl_trace.specs.Leases.{is_on, spot_of_call, value_written}
 use Rattle.sl_plain.proofs.Lists.{contains_cases, contains_first, contains_more, contains_none}
 use Rattle.sl_sector.specs.declared.sector.ValueRec.{ValueRec}
-use Rattle.sl_sessions.specs.Sessions.{is_call_of, session_numbered}
-use Rattle.sl_sessions.specs.declared.session.Session.{Session}
+use Rattle.sl_trace.specs.Sessions.{is_call_of, session_numbered}
+use Rattle.sl_trace.specs.declared.session.Session.{Session}
 use Rattle.sl_trace.specs.Traces.{Setting, Submitted, Trace, new_call, submitted}
 use Rattle.sl_trace.specs.declared.effects.Call.{Call}
 use Rattle.sl_trace.specs.declared.effects.Spot.{Spot}

@@ -5,12 +5,12 @@ use Rattle.sl_history.proofs.Resources.Alone.{head_pairs, tail_pairs}
 use Rattle.sl_id_safety.proofs.State.Keeping.{is_place}
 use Rattle.sl_id_safety.proofs.State.LaterFrames.{numbered_found}
 use Rattle.sl_id_safety.proofs.State.Proven.{grounds}
-use Rattle.sl_law.specs.Caused.{AnswersWell, IsCaused}
-use Rattle.sl_law.specs.Lawful.{Orderly}
-use Rattle.sl_law.specs.Saying.{IsAnsweredAt}
-use Rattle.sl_leases.specs.Leases.{spot_of, spot_of_call, value_of_record}
-use Rattle.sl_lvm.specs.LockNames.{group_lock, resource_of}
-use Rattle.sl_lvm.specs.Lvm.{lock_process}
+use Rattle.sl_run.specs.Caused.{AnswersWell, IsCaused}
+use Rattle.sl_run.specs.Lawful.{Orderly}
+use Rattle.sl_run.specs.Saying.{IsAnsweredAt}
+use Rattle.sl_trace.specs.Leases.{spot_of, spot_of_call, value_of_record}
+use Rattle.sl_run.specs.LockNames.{group_lock, resource_of}
+use Rattle.sl_run.specs.Lvm.{lock_process}
 use Rattle.sl_plain.proofs.Lists.{contains_cases, contains_none, kept_inside}
 use Rattle.sl_run.specs.Runs.{Happening}
 use Rattle.sl_run.specs.Safety.{world_at}
@@ -27,7 +27,7 @@ use Rattle.sl_run_law.specs.Course.Stamping.{AnswersAgree, IsAnsweredAs, IsCours
 use Rattle.sl_sector.specs.declared.sector.Rec.TheVariants.{BlockIs, DeltaIs, LeaderIs, RequestIs, ValueIs}
 use Rattle.sl_sector.specs.declared.sector.Rec.{Rec}
 use Rattle.sl_sector.specs.declared.sector.ValueRec.{ValueRec}
-use Rattle.sl_sessions.specs.Sessions.{is_call_of, session_numbered}
+use Rattle.sl_trace.specs.Sessions.{is_call_of, session_numbered}
 use Rattle.sl_trace.specs.Traces.{Answered, Job, Replied, Setting, Submitted, Trace, call_numbered, is_ok_answer, job_numbered, record_of, reply_in, reply_to, submitted}
 use Rattle.sl_trace.specs.declared.command.Command.TheVariants.{GetLvb, SetLvb}
 use Rattle.sl_trace.specs.declared.command.Command.{Command}

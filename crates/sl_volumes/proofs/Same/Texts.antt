@@ -1,7 +1,7 @@
 -- What is told of a value that was read: a refusal's text is none that begins with ok, so only a comparison tells that it is the one that was seen.
-use Rattle.sl_lvm.specs.LockNames.{Lock}
-use Rattle.sl_lvm.specs.Lvm.{Lvm, after_reading, comparison, is_seen}
-use Rattle.sl_lvm.specs.declared.turn.LvmOut.TheVariants.{Reply as LineReply}
+use Rattle.sl_run.specs.LockNames.{Lock}
+use Rattle.sl_run.specs.Lvm.{Lvm, after_reading, comparison, is_seen}
+use Rattle.sl_run.specs.declared.turn.LvmOut.TheVariants.{Reply as LineReply}
 use Rattle.sl_trace.specs.EffectTexts.{is_ok_reply, reply_text, reply_words}
 use Rattle.sl_trace.specs.declared.reply.Limited.TheVariants.{Children, Gen as GenLimit, Holders, Killpaths, Lockspaces, Lver as LverLimit, Mbal as MbalLimit, Resources, Seq as SeqLimit}
 use Rattle.sl_trace.specs.declared.reply.Reply.TheVariants.{Ahead, BadCommand as Misread, Busy, Done, Generation, Granted, Held, Hosts, IdHeld, IdLate, IdLost, IoFault, IoTimeout, Joined, Joining as StillJoining, Limit, NoOrphan, NoProcess, NoSession, NotHeld, Pending, Recovering, RequestOld, Rival, Sessions, Shared, SpawnFault, Started, TornBlock, TornDelta, TornLeader, Value, ValueSet, ValueTorn, WrongArea, WrongDelta}

@@ -1,5 +1,5 @@
 -- What an ok reply to the read of a value tells, by its cause: a value.
-use Rattle.sl_law.specs.Caused.{Answering, CausedBy, after_entry}
+use Rattle.sl_run.specs.Caused.{Answering, CausedBy, after_entry}
 use Rattle.sl_trace.specs.EffectTexts.{is_ok_reply}
 use Rattle.sl_trace.specs.Traces.{job_numbered}
 use Rattle.sl_trace.specs.declared.command.Command.TheVariants.{AddLockspace, GetLvb, HostStatus, InqLockspace, RunProgram, SetLvb, Status}

@@ -5,7 +5,7 @@ use Rattle.sl_history.proofs.Resources.Calls.{Newer, Older, Order, Same, found_o
 use Rattle.sl_history.proofs.Sessions.Named.{names_are_apart}
 use Rattle.sl_history.specs.Resources.Promises.{history_of_line, spot_of_line}
 use Rattle.sl_history.specs.Resources.Sending.{Sent, holder_of, is_joined_there, sender_of}
-use Rattle.sl_leases.specs.Leases.{holdings_on, is_on, value_of_record}
+use Rattle.sl_trace.specs.Leases.{holdings_on, is_on, value_of_record}
 use Rattle.sl_plain.proofs.Lists.{find_inside}
 use Rattle.sl_run.specs.Runs.{Happening}
 use Rattle.sl_run.specs.Safety.{Found, IsSession, LawfulRun, SessionId, session_of_world, setting_in, trace_of, world_at}

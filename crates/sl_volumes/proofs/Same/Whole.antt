@@ -3,8 +3,8 @@ use Rattle.sl_area.specs.Layouts.{Layout}
 use Rattle.sl_area.specs.Places.{value_offset}
 use Rattle.sl_history.proofs.Sessions.OrderedFronts.{steps_grow}
 use Rattle.sl_id_safety.proofs.State.Keeping.{is_place}
-use Rattle.sl_lvm.specs.LockNames.{group_lock, group_path, resource_of}
-use Rattle.sl_lvm.specs.Lvm.{Lvm, SeenValue, is_seen, lock_process}
+use Rattle.sl_run.specs.LockNames.{group_lock, group_path, resource_of}
+use Rattle.sl_run.specs.Lvm.{Lvm, SeenValue, is_seen, lock_process}
 use Rattle.sl_plain.proofs.Lists.{any_found, contains_first, next_before}
 use Rattle.sl_run.specs.Events.{machine_of}
 use Rattle.sl_run.specs.Reach.{HasSeen, IsSetElsewhere, TellsSame}

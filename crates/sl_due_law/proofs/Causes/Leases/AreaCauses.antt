@@ -3,19 +3,19 @@ use Rattle.sl_area.specs.Places.{area_blocks, leader_of}
 use Rattle.sl_due_law.proofs.Causes.AnsweredJobs.{with_spot}
 use Rattle.sl_due_law.proofs.Causes.Leases.Hearing.{IsWell, LeaseHeard, area_given, at_step, knows, reads, reads_blocks}
 use Rattle.sl_due_law.proofs.Causes.Leases.Limits.{begin_well}
-use Rattle.sl_law.specs.Caused.{Answering, AnswersRead, EndsWith, ShowsInstance, after_entry}
-use Rattle.sl_leases.specs.Jobs.{resource_named}
-use Rattle.sl_leases.specs.LeaseWork.{area_next, begin_or_refuse, lease_place, named_area_next, whole_area_next}
-use Rattle.sl_leases.specs.Leases.{Area_read, instance_for, is_at, is_leader_of, last_blocks, own_known}
-use Rattle.sl_leases.specs.declared.lease.Aim.{Aim}
-use Rattle.sl_leases.specs.declared.lease.Instance.TheVariants.{Begins, HeldAlready}
-use Rattle.sl_leases.specs.declared.lease.Instance.{Instance}
-use Rattle.sl_leases.specs.declared.lease.LeaseNext.TheVariants.{AnswerJob, Nothing}
-use Rattle.sl_leases.specs.declared.lease.LeaseNext.{LeaseNext}
+use Rattle.sl_run.specs.Caused.{Answering, AnswersRead, EndsWith, ShowsInstance, after_entry}
+use Rattle.sl_trace.specs.Jobs.{resource_named}
+use Rattle.sl_trace.specs.LeaseWork.{area_next, begin_or_refuse, lease_place, named_area_next, whole_area_next}
+use Rattle.sl_trace.specs.Leases.{Area_read, instance_for, is_at, is_leader_of, last_blocks, own_known}
+use Rattle.sl_trace.specs.declared.lease.Aim.{Aim}
+use Rattle.sl_trace.specs.declared.lease.Instance.TheVariants.{Begins, HeldAlready}
+use Rattle.sl_trace.specs.declared.lease.Instance.{Instance}
+use Rattle.sl_trace.specs.declared.lease.LeaseNext.TheVariants.{AnswerJob, Nothing}
+use Rattle.sl_trace.specs.declared.lease.LeaseNext.{LeaseNext}
 use Rattle.sl_sector.specs.declared.sector.Block.{Block}
 use Rattle.sl_sector.specs.declared.sector.Leader.{Leader}
-use Rattle.sl_sessions.specs.Watching.{counts_over}
-use Rattle.sl_sessions.specs.declared.session.Session.{Session}
+use Rattle.sl_trace.specs.Watching.{counts_over}
+use Rattle.sl_trace.specs.declared.session.Session.{Session}
 use Rattle.sl_trace.specs.Traces.{Submitted}
 use Rattle.sl_trace.specs.declared.command.Command.{Command}
 use Rattle.sl_trace.specs.declared.command.ResourceArg.{ResourceArg}

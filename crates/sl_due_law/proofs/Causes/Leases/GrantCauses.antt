@@ -18,20 +18,20 @@ use Rattle.sl_area.specs.Layouts.{Layout}
 use Rattle.sl_area.specs.Places.{block_offset, leader_offset}
 use Rattle.sl_due_law.proofs.Jobs.EffectsAreAllowed.{grants_for}
 use Rattle.sl_due_law.proofs.Jobs.CallsStay.{late}
-use Rattle.sl_law.specs.Caused.{Answering, GrantsTo, IsGrantedFor, WroteAt, before_entry, converting_step, the_session}
-use Rattle.sl_leases.specs.Jobs.{aim_of, aim_of_command, command_numbered}
-use Rattle.sl_leases.specs.LeaseWork.{lease_place}
-use Rattle.sl_leases.specs.Leases.{block_of_record, block_submitted, leader_of_record, Leader_freed, Leader_taken, Mode_set, StepKind, block_written, exclusive_on, holdings_on, kind_of_step, known, lease_calls, lease_step, lver_written, same_kind, spot_of, spot_of_call}
-use Rattle.sl_leases.specs.declared.lease.Aim.TheVariants.{Acquires, Converts, Releases, Settles}
-use Rattle.sl_leases.specs.declared.lease.Aim.{Aim}
-use Rattle.sl_leases.specs.declared.lease.LeaseNext.TheVariants.{BecomeExclusive, BecomeShared, GrantJob}
+use Rattle.sl_run.specs.Caused.{Answering, GrantsTo, IsGrantedFor, WroteAt, before_entry, converting_step, the_session}
+use Rattle.sl_trace.specs.Jobs.{aim_of, aim_of_command, command_numbered}
+use Rattle.sl_trace.specs.LeaseWork.{lease_place}
+use Rattle.sl_trace.specs.Leases.{block_of_record, block_submitted, leader_of_record, Leader_freed, Leader_taken, Mode_set, StepKind, block_written, exclusive_on, holdings_on, kind_of_step, known, lease_calls, lease_step, lver_written, same_kind, spot_of, spot_of_call}
+use Rattle.sl_trace.specs.declared.lease.Aim.TheVariants.{Acquires, Converts, Releases, Settles}
+use Rattle.sl_trace.specs.declared.lease.Aim.{Aim}
+use Rattle.sl_trace.specs.declared.lease.LeaseNext.TheVariants.{BecomeExclusive, BecomeShared, GrantJob}
 use Rattle.sl_due_law.proofs.Jobs.JobFactsGrow.{contains_right}
 use Rattle.sl_plain.proofs.Lists.{contains_first, find_inside, got_inside, kept_inside}
 use Rattle.sl_plain.proofs.Options.{then_value}
 use Rattle.sl_sector.specs.declared.sector.Block.{Block}
 use Rattle.sl_sector.specs.declared.sector.Leader.{Leader}
-use Rattle.sl_sessions.specs.Sessions.{holdings_of, is_joined, session_numbered, sessions}
-use Rattle.sl_sessions.specs.declared.session.Session.{Session}
+use Rattle.sl_trace.specs.Sessions.{holdings_of, is_joined, session_numbered, sessions}
+use Rattle.sl_trace.specs.declared.session.Session.{Session}
 use Rattle.sl_due_law.specs.Facts.JobFacts.{FitsCommand}
 use Rattle.sl_due_law.specs.Facts.WayFacts.{After_mode, After_take, FreeReason, In_conversion, In_release, In_settling, ModeReason, ModeWay, PurposeWay, StepWay, Ways, way_context}
 use Rattle.sl_due_law.specs.Facts.Whole.{WholeTrace}
@@ -62,7 +62,7 @@ use Rattle.sl_trace.specs.declared.reply.Reply.TheVariants.{Granted}
 use Rattle.sl_trace.specs.declared.reply.Reply.{Reply}
 use Rattle.sl_words.proofs.CaseLaws.{one_value, false_is_true, none_some, not_both, some_value}
 use Rattle.sl_acts.proofs.Additions.{not_is}
-use Rattle.sl_leases.specs.Ballots.{moded_block}
+use Rattle.sl_trace.specs.Ballots.{moded_block}
 use Rattle.sl_words.specs.Words.{same_truth, some_is}
 use Rattle.std.proofs.lemmas.Bool.{eqb-true}
 use Rattle.std.proofs.lemmas.List.{append-nil}

@@ -2,14 +2,14 @@
 use Rattle.sl_area.specs.Layouts.{Layout}
 use Rattle.sl_area.specs.Places.{area_blocks, blocks_in}
 use Rattle.sl_due_law.proofs.Causes.NamesBefore.{with_session}
-use Rattle.sl_law.specs.Caused.{Answering, AnswersCall, AnswersRead, CausedBy, ReadsBlocks, after_entry, known_here, the_session}
-use Rattle.sl_leases.specs.Leases.{Area_read, LeaseKnown, Phase1_read, Phase2_read, Read_before_free, StepKind, blocks_given, instance_for, is_at, is_phase_read, kind_of_step, known_of, lease_calls, lease_step, own_block, same_kind, shared_elsewhere, spot_of_call}
-use Rattle.sl_leases.specs.declared.lease.LeaseNext.TheVariants.{AnswerJob, BecomeExclusive, BecomeShared, GrantJob, Nothing, ReadFor, WriteBlock, WriteLeader}
-use Rattle.sl_leases.specs.declared.lease.LeaseNext.{LeaseNext}
+use Rattle.sl_run.specs.Caused.{Answering, AnswersCall, AnswersRead, CausedBy, ReadsBlocks, after_entry, known_here, the_session}
+use Rattle.sl_trace.specs.Leases.{Area_read, LeaseKnown, Phase1_read, Phase2_read, Read_before_free, StepKind, blocks_given, instance_for, is_at, is_phase_read, kind_of_step, known_of, lease_calls, lease_step, own_block, same_kind, shared_elsewhere, spot_of_call}
+use Rattle.sl_trace.specs.declared.lease.LeaseNext.TheVariants.{AnswerJob, BecomeExclusive, BecomeShared, GrantJob, Nothing, ReadFor, WriteBlock, WriteLeader}
+use Rattle.sl_trace.specs.declared.lease.LeaseNext.{LeaseNext}
 use Rattle.sl_sector.specs.declared.sector.Block.{Block}
 use Rattle.sl_sector.specs.declared.sector.Leader.{Leader}
-use Rattle.sl_sessions.specs.Watching.{counts_over}
-use Rattle.sl_sessions.specs.declared.session.Session.{Session}
+use Rattle.sl_trace.specs.Watching.{counts_over}
+use Rattle.sl_trace.specs.declared.session.Session.{Session}
 use Rattle.sl_trace.specs.Traces.{Submitted, bytes_given, gave}
 use Rattle.sl_trace.specs.declared.command.Command.{Command}
 use Rattle.sl_trace.specs.declared.effects.LeaseStep.TheVariants.{Phase1Read, Phase2Read, ReadArea}

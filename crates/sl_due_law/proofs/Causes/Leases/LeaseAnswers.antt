@@ -17,25 +17,25 @@ use Rattle.sl_due_law.proofs.Jobs.CallsHaveFacts.{sessions_bare}
 use Rattle.sl_due_law.proofs.Jobs.CallsStay.{IsLate, calls_stay}
 use Rattle.sl_due_law.proofs.Jobs.JobsAreAllowed.{calls_heard}
 use Rattle.sl_due_law.proofs.Jobs.RepliesComeAfter.{mapped_or}
-use Rattle.sl_law.specs.Caused.{Answering, CausedBy}
-use Rattle.sl_law.specs.Saying.{IsAnsweredAt}
-use Rattle.sl_leases.specs.Ballots.{instance_of}
-use Rattle.sl_leases.specs.Jobs.{aim_of, aim_of_command, command_numbered, lockspace_named, resource_named}
-use Rattle.sl_leases.specs.LeaseWork.{after_take, lease_next, lease_place}
-use Rattle.sl_leases.specs.Leases.{LeaseKnown, lease_step, exclusive_on, freed, has_shared_on, known, known_of, lease_calls, lver_written, owed_free, spot_of_call, top_lver}
-use Rattle.sl_leases.specs.declared.lease.Aim.TheVariants.{Acquires, Converts, Releases, Settles}
-use Rattle.sl_leases.specs.declared.lease.Aim.{Aim}
-use Rattle.sl_leases.specs.declared.lease.Instance.{Instance}
-use Rattle.sl_leases.specs.declared.lease.LeaseNext.TheVariants.{AnswerJob, Nothing}
+use Rattle.sl_run.specs.Caused.{Answering, CausedBy}
+use Rattle.sl_run.specs.Saying.{IsAnsweredAt}
+use Rattle.sl_trace.specs.Ballots.{instance_of}
+use Rattle.sl_trace.specs.Jobs.{aim_of, aim_of_command, command_numbered, lockspace_named, resource_named}
+use Rattle.sl_trace.specs.LeaseWork.{after_take, lease_next, lease_place}
+use Rattle.sl_trace.specs.Leases.{LeaseKnown, lease_step, exclusive_on, freed, has_shared_on, known, known_of, lease_calls, lver_written, owed_free, spot_of_call, top_lver}
+use Rattle.sl_trace.specs.declared.lease.Aim.TheVariants.{Acquires, Converts, Releases, Settles}
+use Rattle.sl_trace.specs.declared.lease.Aim.{Aim}
+use Rattle.sl_trace.specs.declared.lease.Instance.{Instance}
+use Rattle.sl_trace.specs.declared.lease.LeaseNext.TheVariants.{AnswerJob, Nothing}
 use Rattle.sl_plain.proofs.Lists.{got_inside, in_map, kept}
 use Rattle.sl_plain.proofs.Numbers.{number_itself}
 use Rattle.sl_plain.proofs.Options.{then_value}
 use Rattle.sl_sector.specs.declared.sector.Block.{Block}
 use Rattle.sl_sector.specs.declared.sector.Leader.{Leader}
 use Rattle.sl_sector.specs.declared.sector.Owner.{Owner}
-use Rattle.sl_sessions.specs.Sessions.{calls_of, generation_of, removed_in, is_call_of, is_joined, joined_after, me, removed_after, session_numbered, sessions}
-use Rattle.sl_sessions.specs.Watching.{counts_over, evidence_in}
-use Rattle.sl_sessions.specs.declared.session.Session.{Session}
+use Rattle.sl_trace.specs.Sessions.{calls_of, generation_of, removed_in, is_call_of, is_joined, joined_after, me, removed_after, session_numbered, sessions}
+use Rattle.sl_trace.specs.Watching.{counts_over, evidence_in}
+use Rattle.sl_trace.specs.declared.session.Session.{Session}
 use Rattle.sl_due_law.specs.Facts.JobFacts.{FitsCommand, SeeksResource}
 use Rattle.sl_due_law.specs.Facts.Whole.{WholeTrace}
 use Rattle.sl_trace.specs.Traces.{Answered, Job, Setting, is_done, Submitted, Trace, answered_in, is_write, bytes_given, job_numbered, job_of, submitted}

@@ -1,15 +1,15 @@
 -- Why a ballot does not begin: its instance or its number would pass the limit.
 use Rattle.sl_due_law.proofs.Causes.Leases.Hearing.{IsWell, LeaseHeard, knows, reads_blocks}
-use Rattle.sl_law.specs.Caused.{Answering, BeginsAt, CausedBy, next_number}
-use Rattle.sl_leases.specs.Ballots.{in_instance, next_mbal, phase1_block}
-use Rattle.sl_leases.specs.LeaseWork.{begin_next, lease_place, phase1_next, refuses}
-use Rattle.sl_leases.specs.Leases.{LeaseKnown, blocks_given, mode_gen_of, own_block}
-use Rattle.sl_leases.specs.declared.lease.Aim.TheVariants.{Acquires, Converts, Releases, Settles}
-use Rattle.sl_leases.specs.declared.lease.Aim.{Aim}
-use Rattle.sl_leases.specs.declared.lease.LeaseNext.TheVariants.{Nothing, WriteBlock}
-use Rattle.sl_leases.specs.declared.lease.LeaseNext.{LeaseNext}
+use Rattle.sl_run.specs.Caused.{Answering, BeginsAt, CausedBy, next_number}
+use Rattle.sl_trace.specs.Ballots.{in_instance, next_mbal, phase1_block}
+use Rattle.sl_trace.specs.LeaseWork.{begin_next, lease_place, phase1_next, refuses}
+use Rattle.sl_trace.specs.Leases.{LeaseKnown, blocks_given, mode_gen_of, own_block}
+use Rattle.sl_trace.specs.declared.lease.Aim.TheVariants.{Acquires, Converts, Releases, Settles}
+use Rattle.sl_trace.specs.declared.lease.Aim.{Aim}
+use Rattle.sl_trace.specs.declared.lease.LeaseNext.TheVariants.{Nothing, WriteBlock}
+use Rattle.sl_trace.specs.declared.lease.LeaseNext.{LeaseNext}
 use Rattle.sl_sector.specs.declared.sector.Block.{Block}
-use Rattle.sl_sessions.specs.declared.session.Session.{Session}
+use Rattle.sl_trace.specs.declared.session.Session.{Session}
 use Rattle.sl_trace.specs.Traces.{Setting, Submitted}
 use Rattle.sl_trace.specs.declared.command.Command.{Command}
 use Rattle.sl_trace.specs.declared.effects.LeaseStep.TheVariants.{Phase1Write}

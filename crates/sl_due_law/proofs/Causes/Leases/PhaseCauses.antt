@@ -3,21 +3,21 @@ use Rattle.sl_area.specs.Places.{blocks_in}
 use Rattle.sl_due_law.proofs.Causes.AnsweredJobs.{with_command}
 use Rattle.sl_due_law.proofs.Causes.Leases.Hearing.{IsWell, LeaseHeard, at_step, knows, phase1_given, phase2_given, phase_step, reads_blocks}
 use Rattle.sl_due_law.proofs.Causes.Leases.Limits.{begin_well}
-use Rattle.sl_law.specs.Caused.{Answering, CausedBy, EndsWith, IsStopRead, ShowsInstance, after_entry, job_command, known_here}
-use Rattle.sl_leases.specs.Ballots.{same_owner, stop_of, value_of}
-use Rattle.sl_leases.specs.Jobs.{aim_of_command, wants_shared}
-use Rattle.sl_leases.specs.LeaseWork.{after_phase1, after_phase2, begin_next, lease_place, looks_for_shared, lost_next, phase2_next, stop_reply, stopped_next, won_next}
-use Rattle.sl_leases.specs.Leases.{Phase1_read, Phase2_read, block_submitted, blocks_given, is_at, is_phase_read, last_blocks, own_block, own_or_read, shared_elsewhere}
-use Rattle.sl_leases.specs.declared.lease.Aim.TheVariants.{Acquires, Converts, Releases, Settles}
-use Rattle.sl_leases.specs.declared.lease.Aim.{Aim}
-use Rattle.sl_leases.specs.declared.lease.Instance.TheVariants.{HeldAlready}
-use Rattle.sl_leases.specs.declared.lease.LeaseNext.TheVariants.{AnswerJob, Nothing}
-use Rattle.sl_leases.specs.declared.lease.LeaseNext.{LeaseNext}
-use Rattle.sl_leases.specs.declared.lease.Stop.TheVariants.{BlockAhead, BlockRival, BlockTorn}
-use Rattle.sl_leases.specs.declared.lease.Stop.{Stop}
+use Rattle.sl_run.specs.Caused.{Answering, CausedBy, EndsWith, IsStopRead, ShowsInstance, after_entry, job_command, known_here}
+use Rattle.sl_trace.specs.Ballots.{same_owner, stop_of, value_of}
+use Rattle.sl_trace.specs.Jobs.{aim_of_command, wants_shared}
+use Rattle.sl_trace.specs.LeaseWork.{after_phase1, after_phase2, begin_next, lease_place, looks_for_shared, lost_next, phase2_next, stop_reply, stopped_next, won_next}
+use Rattle.sl_trace.specs.Leases.{Phase1_read, Phase2_read, block_submitted, blocks_given, is_at, is_phase_read, last_blocks, own_block, own_or_read, shared_elsewhere}
+use Rattle.sl_trace.specs.declared.lease.Aim.TheVariants.{Acquires, Converts, Releases, Settles}
+use Rattle.sl_trace.specs.declared.lease.Aim.{Aim}
+use Rattle.sl_trace.specs.declared.lease.Instance.TheVariants.{HeldAlready}
+use Rattle.sl_trace.specs.declared.lease.LeaseNext.TheVariants.{AnswerJob, Nothing}
+use Rattle.sl_trace.specs.declared.lease.LeaseNext.{LeaseNext}
+use Rattle.sl_trace.specs.declared.lease.Stop.TheVariants.{BlockAhead, BlockRival, BlockTorn}
+use Rattle.sl_trace.specs.declared.lease.Stop.{Stop}
 use Rattle.sl_sector.specs.declared.sector.Block.{Block}
-use Rattle.sl_sessions.specs.Watching.{counts_over}
-use Rattle.sl_sessions.specs.declared.session.Session.{Session}
+use Rattle.sl_trace.specs.Watching.{counts_over}
+use Rattle.sl_trace.specs.declared.session.Session.{Session}
 use Rattle.sl_trace.specs.Traces.{Submitted, is_shared}
 use Rattle.sl_trace.specs.declared.command.Command.TheVariants.{Acquire, AddLockspace, Convert, GetLvb, HostStatus, InqLockspace, Release, ReleaseOrphan, RemLockspace, Request, RunProgram, SetKillpath, SetLvb, Status, TakeOver}
 use Rattle.sl_trace.specs.declared.command.Command.{Command}

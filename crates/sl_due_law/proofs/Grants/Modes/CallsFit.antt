@@ -24,8 +24,8 @@ use Rattle.sl_due_law.proofs.Holdings.LeaseNexts.{next_fits, settling_fits}
 use Rattle.sl_due_law.specs.Holdings.DecisionGrounds.{GetGrounds, HasGrounds, SetGrounds}
 use Rattle.sl_due_law.specs.Holdings.Moments.{Known}
 use Rattle.sl_due_law.specs.Holdings.Promises.{Begins}
-use Rattle.sl_law.specs.LawfulArea.{is_area_work}
-use Rattle.sl_law.specs.LawfulValue.{LawfulValueRead, LawfulValueWrite}
+use Rattle.sl_run.specs.LawfulArea.{is_area_work}
+use Rattle.sl_run.specs.LawfulValue.{LawfulValueRead, LawfulValueWrite}
 use Rattle.sl_due_law.proofs.Leases.DeltasStay.{delta_by, first_other, others_by_delta}
 use Rattle.sl_due_law.proofs.Leases.LawsAreKept.{laws_are_kept}
 use Rattle.sl_due_law.proofs.Leases.LawsStay.{A_start}
@@ -45,20 +45,20 @@ use Rattle.sl_due_law.proofs.Ways.Kept.PlacesStand.{place_is_on}
 use Rattle.sl_due_law.proofs.Ways.Kept.PlainWalks.{ByPlain, ended, exited, granting, left, refusal, removal_of_refused, said, sent, stopped}
 use Rattle.sl_due_law.proofs.Ways.Kept.UnjoinedHaveNone.{its_joining, joins_still}
 use Rattle.sl_due_law.proofs.Ways.WayStages.{is_at_in}
-use Rattle.sl_leases.specs.Ballots.{moded_block}
-use Rattle.sl_leases.specs.Jobs.{aim_of, aim_of_command, command_numbered, job_of_start}
-use Rattle.sl_leases.specs.LeaseWork.{convert_next, leader_for, lease_place, release_next, settle_next}
-use Rattle.sl_leases.specs.Leases.{Mode_set, block_of_record, exclusive_on, has_shared_on, holdings_on, known, lver_written, open_on, spot_of, spot_of_call, value_of_record}
-use Rattle.sl_leases.specs.declared.lease.Aim.{Aim}
-use Rattle.sl_leases.specs.declared.lease.Aim.TheVariants.{Converts}
-use Rattle.sl_leases.specs.declared.lease.LeaseNext.TheVariants.{Nothing, WriteBlock}
+use Rattle.sl_trace.specs.Ballots.{moded_block}
+use Rattle.sl_trace.specs.Jobs.{aim_of, aim_of_command, command_numbered, job_of_start}
+use Rattle.sl_trace.specs.LeaseWork.{convert_next, leader_for, lease_place, release_next, settle_next}
+use Rattle.sl_trace.specs.Leases.{Mode_set, block_of_record, exclusive_on, has_shared_on, holdings_on, known, lver_written, open_on, spot_of, spot_of_call, value_of_record}
+use Rattle.sl_trace.specs.declared.lease.Aim.{Aim}
+use Rattle.sl_trace.specs.declared.lease.Aim.TheVariants.{Converts}
+use Rattle.sl_trace.specs.declared.lease.LeaseNext.TheVariants.{Nothing, WriteBlock}
 use Rattle.sl_plain.proofs.Lists.{contains_none, find_inside, kept_inside}
 use Rattle.sl_sector.specs.declared.sector.Block.{Block}
 use Rattle.sl_sector.specs.declared.sector.Rec.TheVariants.{DeltaIs, ValueIs}
 use Rattle.sl_sector.specs.declared.sector.ValueRec.{ValueRec}
-use Rattle.sl_sessions.specs.Deltas.{delta_known, delta_of_session, own_offset}
-use Rattle.sl_sessions.specs.Sessions.{calls_of, generation_of, holders_of, holdings_of, is_call_of, is_join_call, present_sessions, recovery_of}
-use Rattle.sl_sessions.specs.declared.session.Session.{Session}
+use Rattle.sl_trace.specs.Deltas.{delta_known, delta_of_session, own_offset}
+use Rattle.sl_trace.specs.Sessions.{calls_of, generation_of, holders_of, holdings_of, is_call_of, is_join_call, present_sessions, recovery_of}
+use Rattle.sl_trace.specs.declared.session.Session.{Session}
 use Rattle.sl_due_law.specs.Facts.Heard.{heard_by}
 use Rattle.sl_due_law.specs.Facts.HoldingFacts.{HoldingFacts}
 use Rattle.sl_due_law.specs.Facts.Whole.{Whole}

@@ -3,16 +3,16 @@ use Rattle.sl_acts.specs.Acts.{Has}
 use Rattle.sl_acts.specs.SoFar.{entry_of}
 use Rattle.sl_due.specs.Steps.{Step, add_call_of, add_move, add_reply, add_signal, seen}
 use Rattle.sl_due_law.specs.Holdings.Moments.{Known}
-use Rattle.sl_law.specs.LawfulArea.{is_area_work, is_delta_record}
-use Rattle.sl_law.specs.LawfulModes.{LawfulMode}
-use Rattle.sl_law.specs.LawfulValue.{LawfulValueRead, LawfulValueWrite}
-use Rattle.sl_law.specs.Saying.{EachCall, cut_at}
+use Rattle.sl_run.specs.LawfulArea.{is_area_work, is_delta_record}
+use Rattle.sl_run.specs.LawfulModes.{LawfulMode}
+use Rattle.sl_run.specs.LawfulValue.{LawfulValueRead, LawfulValueWrite}
+use Rattle.sl_run.specs.Saying.{EachCall, cut_at}
 use Rattle.sl_due_law.proofs.Leases.DeltasStay.{ByDelta}
 use Rattle.sl_due_law.proofs.Leases.LawsStay.{A_start, A_wake, IsPlainInput}
 use Rattle.sl_due_law.proofs.Leases.OthersKeep.{IsOther, LawfulSoFar, Others, no_others}
 use Rattle.sl_due_law.proofs.Ways.Kept.EffectsLeave.{made_call}
-use Rattle.sl_leases.specs.Counts.{values_on}
-use Rattle.sl_leases.specs.Leases.{Mode_set, block_of_record, block_written, has_shared_on, is_at, is_on, lease_step, spot_of_call, value_of_record, value_written}
+use Rattle.sl_trace.specs.Counts.{values_on}
+use Rattle.sl_trace.specs.Leases.{Mode_set, block_of_record, block_written, has_shared_on, is_at, is_on, lease_step, spot_of_call, value_of_record, value_written}
 use Rattle.sl_due_law.proofs.Parts.CallsGrow.{each_more}
 use Rattle.sl_due_law.specs.Parts.Parts.{with_reply}
 use Rattle.sl_plain.proofs.Lists.{got_inside}
@@ -21,8 +21,8 @@ use Rattle.sl_sector.specs.declared.sector.DeltaRec.{DeltaRec}
 use Rattle.sl_sector.specs.declared.sector.Rec.{Rec}
 use Rattle.sl_sector.specs.declared.sector.Rec.TheVariants.{BlockIs, DeltaIs, LeaderIs, RequestIs, ValueIs}
 use Rattle.sl_sector.specs.declared.sector.ValueRec.{ValueRec}
-use Rattle.sl_sessions.specs.Sessions.{calls_of, generation_in, is_free_purpose, is_join_call, session_numbered}
-use Rattle.sl_sessions.specs.declared.session.Session.{Session}
+use Rattle.sl_trace.specs.Sessions.{calls_of, generation_in, is_free_purpose, is_join_call, session_numbered}
+use Rattle.sl_trace.specs.declared.session.Session.{Session}
 use Rattle.sl_trace.specs.Traces.{Setting, Submitted, Trace, holdings, is_shared, is_write, new_call, record_of, same_place, unanswered}
 use Rattle.sl_trace.specs.declared.effects.Call.{Call}
 use Rattle.sl_trace.specs.declared.effects.Entry.{Entry}

@@ -9,7 +9,7 @@ use Rattle.sl_due.specs.Steps.{Step, add_reply, seen}
 use Rattle.sl_due_law.proofs.Grants.Modes.FitsHolding.{FittingSoFar, bare_fits, call_fits, of_lease, plain_call}
 use Rattle.sl_due_law.proofs.Holdings.LeaseConversions.{OfOneProcess, converted, only_converted, otherwise}
 use Rattle.sl_due_law.proofs.Holdings.LeaseNexts.{HasRightMode, IsFitNext, IsPlainNext}
-use Rattle.sl_law.specs.LawfulModes.{LawfulMode}
+use Rattle.sl_run.specs.LawfulModes.{LawfulMode}
 use Rattle.sl_due_law.proofs.Leases.NextsStay.{bare_by}
 use Rattle.sl_due_law.proofs.Leases.OthersKeep.{Any}
 use Rattle.sl_due_law.proofs.Leases.TurnsStay.{turned_by}
@@ -19,20 +19,20 @@ use Rattle.sl_due_law.proofs.Ways.Kept.LeaseNextsLeave.{LeaseReady}
 use Rattle.sl_due_law.proofs.Ways.Kept.PlacesStand.{id_in_range, place_is_on, placed_on, spot_is}
 use Rattle.sl_due_law.proofs.Ways.Kept.PlainWalks.{converted as converted_keeps, granted}
 use Rattle.sl_due_law.proofs.Ways.WayStages.{is_at_in}
-use Rattle.sl_leases.specs.Ballots.{moded_block}
-use Rattle.sl_leases.specs.Jobs.{aim_of, aim_of_command, command_numbered, process_named}
-use Rattle.sl_leases.specs.Leases.{Mode_set, has_shared_on, holdings_on, is_at, known, spot_of_call}
-use Rattle.sl_leases.specs.declared.lease.Aim.{Aim}
-use Rattle.sl_leases.specs.declared.lease.Aim.TheVariants.{Converts, Settles}
-use Rattle.sl_leases.specs.declared.lease.LeaseNext.{LeaseNext}
-use Rattle.sl_leases.specs.declared.lease.LeaseNext.TheVariants.{AnswerJob, BecomeExclusive, BecomeShared, GrantJob, Nothing, ReadFor, WriteBlock, WriteLeader}
+use Rattle.sl_trace.specs.Ballots.{moded_block}
+use Rattle.sl_trace.specs.Jobs.{aim_of, aim_of_command, command_numbered, process_named}
+use Rattle.sl_trace.specs.Leases.{Mode_set, has_shared_on, holdings_on, is_at, known, spot_of_call}
+use Rattle.sl_trace.specs.declared.lease.Aim.{Aim}
+use Rattle.sl_trace.specs.declared.lease.Aim.TheVariants.{Converts, Settles}
+use Rattle.sl_trace.specs.declared.lease.LeaseNext.{LeaseNext}
+use Rattle.sl_trace.specs.declared.lease.LeaseNext.TheVariants.{AnswerJob, BecomeExclusive, BecomeShared, GrantJob, Nothing, ReadFor, WriteBlock, WriteLeader}
 use Rattle.sl_plain.proofs.Lists.{find_fails}
 use Rattle.sl_plain.proofs.Numbers.{number_itself}
 use Rattle.sl_sector.specs.declared.sector.Block.{Block}
 use Rattle.sl_sector.specs.declared.sector.Leader.{Leader}
 use Rattle.sl_sector.specs.declared.sector.Rec.TheVariants.{BlockIs, LeaderIs}
-use Rattle.sl_sessions.specs.Sessions.{generation_of}
-use Rattle.sl_sessions.specs.declared.session.Session.{Session}
+use Rattle.sl_trace.specs.Sessions.{generation_of}
+use Rattle.sl_trace.specs.declared.session.Session.{Session}
 use Rattle.sl_trace.specs.Traces.{Setting, Submitted, Trace, holdings, is_shared, new_call, same_place, work_job}
 use Rattle.sl_trace.specs.declared.command.Command.{Command}
 use Rattle.sl_trace.specs.declared.effects.Grant.{Grant}

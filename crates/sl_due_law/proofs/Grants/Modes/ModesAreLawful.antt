@@ -14,9 +14,9 @@ use Rattle.sl_due_law.proofs.Holdings.HoldingFactsAreKept.{holding_facts_are_kep
 use Rattle.sl_due_law.proofs.Holdings.HoldingFactsBegin.{holding_facts_begin}
 use Rattle.sl_due_law.specs.Holdings.Moments.{Known}
 use Rattle.sl_due_law.specs.Holdings.Promises.{HasHoldingFacts}
-use Rattle.sl_law.specs.LawfulModes.{LawfulExclusiveGrant, LawfulModeGrant, LawfulSharedGrant}
-use Rattle.sl_sessions.specs.Sessions.{session_numbered}
-use Rattle.sl_sessions.specs.declared.session.Session.{Session}
+use Rattle.sl_run.specs.LawfulModes.{LawfulExclusiveGrant, LawfulModeGrant, LawfulSharedGrant}
+use Rattle.sl_trace.specs.Sessions.{session_numbered}
+use Rattle.sl_trace.specs.declared.session.Session.{Session}
 use Rattle.sl_due_law.specs.Facts.Heard.{heard_by}
 use Rattle.sl_trace.specs.Traces.{is_shared, spot_of_grant}
 use Rattle.sl_trace.specs.declared.effects.Grant.{Grant}

@@ -20,20 +20,20 @@ use Rattle.sl_due_law.proofs.Holdings.MomentsAreKept.{same}
 use Rattle.sl_due_law.specs.Holdings.DecisionGrounds.{HasGrounds}
 use Rattle.sl_due_law.specs.Holdings.Moments.{Known}
 use Rattle.sl_due_law.specs.Holdings.Promises.{Begins}
-use Rattle.sl_law.specs.LawfulModes.{SharedByBallot, SharedByConversion}
-use Rattle.sl_law.specs.Saying.{IsAnsweredAt}
+use Rattle.sl_run.specs.LawfulModes.{SharedByBallot, SharedByConversion}
+use Rattle.sl_run.specs.Saying.{IsAnsweredAt}
 use Rattle.sl_due_law.proofs.Leases.NextsStay.{HeldThere, at_work, held_there, not_true}
 use Rattle.sl_due_law.proofs.Leases.TurnsStay.{turned_by}
 use Rattle.sl_due_law.proofs.Ways.Kept.CallsSame.{reply_leaves}
 use Rattle.sl_due_law.proofs.Ways.Kept.EffectsLeave.{made_call}
 use Rattle.sl_due_law.proofs.Ways.Kept.HeardStands.{heard_has, heard_number, spot_same}
-use Rattle.sl_leases.specs.Jobs.{aim_of, aim_of_command, command_numbered, resource_named}
-use Rattle.sl_leases.specs.LeaseWork.{lease_place}
-use Rattle.sl_leases.specs.Leases.{block_submitted, block_written, exclusive_on, holdings_on, is_lease_call, is_on, known, lease_calls, lease_step, lver_written, spot_of, spot_of_call}
-use Rattle.sl_leases.specs.declared.lease.Aim.{Aim}
-use Rattle.sl_leases.specs.declared.lease.Aim.TheVariants.{Acquires, Converts}
-use Rattle.sl_leases.specs.declared.lease.LeaseNext.{LeaseNext}
-use Rattle.sl_leases.specs.declared.lease.LeaseNext.TheVariants.{AnswerJob, BecomeExclusive, BecomeShared, GrantJob, Nothing, ReadFor, WriteBlock, WriteLeader}
+use Rattle.sl_trace.specs.Jobs.{aim_of, aim_of_command, command_numbered, resource_named}
+use Rattle.sl_trace.specs.LeaseWork.{lease_place}
+use Rattle.sl_trace.specs.Leases.{block_submitted, block_written, exclusive_on, holdings_on, is_lease_call, is_on, known, lease_calls, lease_step, lver_written, spot_of, spot_of_call}
+use Rattle.sl_trace.specs.declared.lease.Aim.{Aim}
+use Rattle.sl_trace.specs.declared.lease.Aim.TheVariants.{Acquires, Converts}
+use Rattle.sl_trace.specs.declared.lease.LeaseNext.{LeaseNext}
+use Rattle.sl_trace.specs.declared.lease.LeaseNext.TheVariants.{AnswerJob, BecomeExclusive, BecomeShared, GrantJob, Nothing, ReadFor, WriteBlock, WriteLeader}
 use Rattle.sl_due_law.proofs.Parts.CallsGrow.{mine_more, same_sessions}
 use Rattle.sl_plain.proofs.Lists.{contains_cases, contains_first, contains_more, contains_none, find_inside, kept, kept_inside}
 use Rattle.sl_plain.proofs.Numbers.{number_itself}
@@ -41,9 +41,9 @@ use Rattle.sl_plain.proofs.Options.{mapped_value}
 use Rattle.sl_sector.specs.declared.sector.Block.{Block}
 use Rattle.sl_sector.specs.declared.sector.Leader.{Leader}
 use Rattle.sl_sector.specs.declared.sector.Rec.TheVariants.{BlockIs, DeltaIs, LeaderIs}
-use Rattle.sl_sessions.specs.Deltas.{own_offset}
-use Rattle.sl_sessions.specs.Sessions.{calls_of, generation_in, generation_of, holders_of, holdings_of, is_call_of, session_numbered}
-use Rattle.sl_sessions.specs.declared.session.Session.{Session}
+use Rattle.sl_trace.specs.Deltas.{own_offset}
+use Rattle.sl_trace.specs.Sessions.{calls_of, generation_in, generation_of, holders_of, holdings_of, is_call_of, session_numbered}
+use Rattle.sl_trace.specs.declared.session.Session.{Session}
 use Rattle.sl_due_law.specs.Facts.GrantGrounds.{FreedForJob, IsDoneWork, ModedForJob}
 use Rattle.sl_due_law.specs.Facts.Heard.{heard_by}
 use Rattle.sl_due_law.specs.Facts.HoldingFacts.{HoldingFacts, StandsExclusive}

@@ -19,18 +19,18 @@ use Rattle.sl_due_law.proofs.Holdings.MomentsAreKept.{same}
 use Rattle.sl_due_law.proofs.Holdings.PlainPlaces.{one_place}
 use Rattle.sl_due_law.specs.Holdings.DecisionGrounds.{HasGrounds}
 use Rattle.sl_due_law.specs.Holdings.Moments.{Known}
-use Rattle.sl_law.specs.LawfulModes.{AllShared, HoldsSharedUnder, LawfulExclusiveGrant, LawfulSharedGrant, SharedByBallot, SharedByConversion}
+use Rattle.sl_run.specs.LawfulModes.{AllShared, HoldsSharedUnder, LawfulExclusiveGrant, LawfulSharedGrant, SharedByBallot, SharedByConversion}
 use Rattle.sl_due_law.proofs.Ways.Kept.CallsSame.{reply_leaves}
 use Rattle.sl_due_law.proofs.Ways.Kept.EffectsLeave.{made_call}
-use Rattle.sl_leases.specs.Jobs.{resource_named}
-use Rattle.sl_leases.specs.Leases.{exclusive_on, holdings_on, is_lease_call, is_on, known, lease_calls, lease_step, spot_of}
+use Rattle.sl_trace.specs.Jobs.{resource_named}
+use Rattle.sl_trace.specs.Leases.{exclusive_on, holdings_on, is_lease_call, is_on, known, lease_calls, lease_step, spot_of}
 use Rattle.sl_due_law.proofs.Parts.CallsGrow.{mine_more, others_stay, same_sessions}
 use Rattle.sl_plain.proofs.Lists.{contains_none, find_inside, kept}
 use Rattle.sl_plain.proofs.Numbers.{number_itself}
 use Rattle.sl_sector.specs.declared.sector.DeltaRec.{DeltaRec}
 use Rattle.sl_sector.specs.declared.sector.Owner.{Owner}
-use Rattle.sl_sessions.specs.Sessions.{calls_of, delta_of_record, generation_in, generation_of, given_number, holdings_of, is_call_of, is_join_call, last_delta, session_numbered}
-use Rattle.sl_sessions.specs.declared.session.Session.{Session}
+use Rattle.sl_trace.specs.Sessions.{calls_of, delta_of_record, generation_in, generation_of, given_number, holdings_of, is_call_of, is_join_call, last_delta, session_numbered}
+use Rattle.sl_trace.specs.declared.session.Session.{Session}
 use Rattle.sl_trace.specs.Traces.{Setting, Submitted, Trace, end_of, holdings, is_orphan, is_shared, leaves_orphan, new_call, next_child, orphan_of, record_of, same_place, spot_of_grant, submitted}
 use Rattle.sl_trace.specs.declared.command.Command.{Command}
 use Rattle.sl_trace.specs.declared.command.Command.TheVariants.{Acquire, AddLockspace, Convert, GetLvb, HostStatus, InqLockspace, Release, ReleaseOrphan, RemLockspace, Request, RunProgram, SetKillpath, SetLvb, Status, TakeOver}

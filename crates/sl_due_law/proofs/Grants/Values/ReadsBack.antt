@@ -7,16 +7,16 @@ use Rattle.sl_due_law.specs.Grants.ValuePromises.{HasValueFacts}
 use Rattle.sl_due_law.proofs.Holdings.HoldingsByCalls.{call_added, not_last}
 use Rattle.sl_due_law.proofs.Holdings.HoldingsByEffects.{SameCalls, next_less}
 use Rattle.sl_due_law.specs.Holdings.Moments.{Known}
-use Rattle.sl_law.specs.LawfulArea.{is_area_work}
-use Rattle.sl_law.specs.LawfulValue.{held_since, writes_since}
-use Rattle.sl_leases.specs.Jobs.{command_numbered}
-use Rattle.sl_leases.specs.Leases.{holdings_on, is_on, spot_of_call}
+use Rattle.sl_run.specs.LawfulArea.{is_area_work}
+use Rattle.sl_run.specs.LawfulValue.{held_since, writes_since}
+use Rattle.sl_trace.specs.Jobs.{command_numbered}
+use Rattle.sl_trace.specs.Leases.{holdings_on, is_on, spot_of_call}
 use Rattle.sl_due_law.proofs.Parts.CallsGrow.{same_sessions}
 use Rattle.sl_due_law.proofs.Parts.EffectsAreTold.{effects_are_told}
 use Rattle.sl_plain.proofs.Lists.{contains_cases, contains_none, kept, kept_inside}
 use Rattle.sl_plain.proofs.Options.{some_of}
-use Rattle.sl_sessions.specs.Sessions.{holdings_of, is_call_of, is_join_call, session_numbered}
-use Rattle.sl_sessions.specs.declared.session.Session.{Session}
+use Rattle.sl_trace.specs.Sessions.{holdings_of, is_call_of, is_join_call, session_numbered}
+use Rattle.sl_trace.specs.declared.session.Session.{Session}
 use Rattle.sl_due_law.specs.Facts.Heard.{IsOpen, heard_by}
 use Rattle.sl_due_law.specs.Facts.JobFacts.{FitsCommand}
 use Rattle.sl_due_law.specs.Facts.ValueFacts.{IsReading, ValueFacts}

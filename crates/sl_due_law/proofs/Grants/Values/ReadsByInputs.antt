@@ -12,13 +12,13 @@ use Rattle.sl_due_law.specs.Grants.ValuePromises.{HasValueFacts}
 use Rattle.sl_due_law.proofs.Holdings.HoldingsByInputs.{answers_open, calls_stay, calls_told, children_seen, is_no_answer, sessions_seen_still}
 use Rattle.sl_due_law.specs.Holdings.Moments.{Known}
 use Rattle.sl_due_law.proofs.Jobs.JobsAreNumbered.{numbered_seen}
-use Rattle.sl_leases.specs.Jobs.{command_numbered, command_of, is_job_of_process, job_of_start}
-use Rattle.sl_leases.specs.Leases.{spot_of_call}
+use Rattle.sl_trace.specs.Jobs.{command_numbered, command_of, is_job_of_process, job_of_start}
+use Rattle.sl_trace.specs.Leases.{spot_of_call}
 use Rattle.sl_plain.proofs.Lists.{find_inside, in_map, kept_inside}
 use Rattle.sl_plain.proofs.Numbers.{number_itself}
 use Rattle.sl_plain.proofs.Options.{none_is, then_value}
-use Rattle.sl_sessions.specs.Sessions.{session_numbered}
-use Rattle.sl_sessions.specs.declared.session.Session.{Session}
+use Rattle.sl_trace.specs.Sessions.{session_numbered}
+use Rattle.sl_trace.specs.declared.session.Session.{Session}
 use Rattle.sl_due_law.specs.Facts.Heard.{IsOpen, heard_by}
 use Rattle.sl_due_law.specs.Facts.ValueFacts.{IsReading}
 use Rattle.sl_trace.specs.Traces.{Child, FollowsTrace, Setting, Submitted, Trace, answered_in, child_after, child_numbered, children, end_of, first_child, holdings, is_expected, is_running, is_starting, job_numbered, job_of, new_call, new_child, next_child, orphans_left, running_jobs, same_place, submitted}

@@ -11,20 +11,20 @@ use Rattle.sl_due_law.proofs.Holdings.HoldingsByCalls.{call_added}
 use Rattle.sl_due_law.proofs.Holdings.HoldingsByEffects.{later_same}
 use Rattle.sl_due_law.proofs.Holdings.LeaseCallers.{spot_aligned}
 use Rattle.sl_due_law.proofs.Holdings.LeaseConversions.{otherwise}
-use Rattle.sl_law.specs.Lawful.{IsSetting}
-use Rattle.sl_law.specs.LawfulArea.{is_area_work}
+use Rattle.sl_run.specs.Lawful.{IsSetting}
+use Rattle.sl_run.specs.LawfulArea.{is_area_work}
 use Rattle.sl_due_law.proofs.Leases.TurnsStay.{turned_by}
 use Rattle.sl_due_law.proofs.Ways.Kept.HeardStands.{spot_same}
 use Rattle.sl_due_law.proofs.Ways.Kept.PlacesStand.{place_is_on, placed_on, spot_is}
-use Rattle.sl_leases.specs.Jobs.{command_numbered}
-use Rattle.sl_leases.specs.Leases.{is_on, lease_step, spot_of_call}
-use Rattle.sl_leases.specs.declared.lease.LeaseNext.{LeaseNext}
-use Rattle.sl_leases.specs.declared.lease.LeaseNext.TheVariants.{AnswerJob, BecomeExclusive, BecomeShared, GrantJob, Nothing, ReadFor, WriteBlock, WriteLeader}
+use Rattle.sl_trace.specs.Jobs.{command_numbered}
+use Rattle.sl_trace.specs.Leases.{is_on, lease_step, spot_of_call}
+use Rattle.sl_trace.specs.declared.lease.LeaseNext.{LeaseNext}
+use Rattle.sl_trace.specs.declared.lease.LeaseNext.TheVariants.{AnswerJob, BecomeExclusive, BecomeShared, GrantJob, Nothing, ReadFor, WriteBlock, WriteLeader}
 use Rattle.sl_sector.specs.declared.sector.Block.{Block}
 use Rattle.sl_sector.specs.declared.sector.Leader.{Leader}
 use Rattle.sl_sector.specs.declared.sector.Rec.TheVariants.{BlockIs, LeaderIs}
-use Rattle.sl_sessions.specs.Sessions.{is_join_call}
-use Rattle.sl_sessions.specs.declared.session.Session.{Session}
+use Rattle.sl_trace.specs.Sessions.{is_join_call}
+use Rattle.sl_trace.specs.declared.session.Session.{Session}
 use Rattle.sl_trace.specs.Traces.{Setting, Submitted, end_of, is_before_input, is_write, new_call, same_place, spot_of_grant, work_job}
 use Rattle.sl_trace.specs.declared.effects.Call.{Call}
 use Rattle.sl_trace.specs.declared.effects.Grant.{Grant}

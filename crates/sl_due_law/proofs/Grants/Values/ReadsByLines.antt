@@ -26,26 +26,26 @@ use Rattle.sl_due_law.proofs.Holdings.PlainPlaces.{one_place}
 use Rattle.sl_due_law.specs.Holdings.DecisionGrounds.{GetGrounds, GiveUpGrounds, HasGrounds, IsReady, Releases as ReleasesIt}
 use Rattle.sl_due_law.specs.Holdings.Moments.{Known}
 use Rattle.sl_due_law.proofs.Jobs.CallsHaveFacts.{calls_before}
-use Rattle.sl_law.specs.LawfulArea.{is_area_work}
-use Rattle.sl_law.specs.LawfulValue.{held_since, writes_since}
+use Rattle.sl_run.specs.LawfulArea.{is_area_work}
+use Rattle.sl_run.specs.LawfulValue.{held_since, writes_since}
 use Rattle.sl_due_law.proofs.Ways.Kept.EffectsLeave.{there_has}
 use Rattle.sl_due_law.proofs.Ways.Kept.HeardStands.{spot_same}
 use Rattle.sl_due_law.proofs.Ways.Kept.LinesKeep.{line_command}
 use Rattle.sl_due_law.proofs.Ways.Kept.LinesReady.{none_open}
 use Rattle.sl_due_law.proofs.Ways.Kept.PlacesStand.{id_in_range, place_is_on, placed_on, spot_is}
-use Rattle.sl_leases.specs.Ballots.{moded_block}
-use Rattle.sl_leases.specs.Jobs.{command_numbered, resource_named}
-use Rattle.sl_leases.specs.LeaseWork.{LeasePlace, convert_next, lease_place, release_next}
-use Rattle.sl_leases.specs.Leases.{LeaseKnown, holdings_on, is_on, known, spot_of, spot_of_call}
-use Rattle.sl_leases.specs.declared.lease.LeaseNext.{LeaseNext}
-use Rattle.sl_leases.specs.declared.lease.LeaseNext.TheVariants.{AnswerJob, Nothing, WriteBlock}
+use Rattle.sl_trace.specs.Ballots.{moded_block}
+use Rattle.sl_trace.specs.Jobs.{command_numbered, resource_named}
+use Rattle.sl_trace.specs.LeaseWork.{LeasePlace, convert_next, lease_place, release_next}
+use Rattle.sl_trace.specs.Leases.{LeaseKnown, holdings_on, is_on, known, spot_of, spot_of_call}
+use Rattle.sl_trace.specs.declared.lease.LeaseNext.{LeaseNext}
+use Rattle.sl_trace.specs.declared.lease.LeaseNext.TheVariants.{AnswerJob, Nothing, WriteBlock}
 use Rattle.sl_due_law.proofs.Parts.CallsGrow.{same_sessions}
 use Rattle.sl_plain.proofs.Lists.{contains_cases, contains_first, contains_more, contains_none, find_inside, in_map, kept_inside}
 use Rattle.sl_plain.proofs.Numbers.{refl_le}
 use Rattle.sl_sector.specs.declared.sector.Block.{Block}
 use Rattle.sl_sector.specs.declared.sector.Rec.TheVariants.{ValueIs}
-use Rattle.sl_sessions.specs.Sessions.{calls_of, holdings_of, is_call_of, session_numbered}
-use Rattle.sl_sessions.specs.declared.session.Session.{Session}
+use Rattle.sl_trace.specs.Sessions.{calls_of, holdings_of, is_call_of, session_numbered}
+use Rattle.sl_trace.specs.declared.session.Session.{Session}
 use Rattle.sl_due_law.specs.Facts.Heard.{IsOpen, heard_by}
 use Rattle.sl_due_law.specs.Facts.ValueFacts.{IsReading}
 use Rattle.sl_trace.specs.Commands.{IsCommand, IsResourceArg}

@@ -34,7 +34,7 @@ use Rattle.sl_due_law.specs.Holdings.Moments.{Known}
 use Rattle.sl_due_law.proofs.Jobs.JobFactsBegin.{running_then}
 use Rattle.sl_due_law.proofs.Jobs.JobsAreNumbered.{numbered_before}
 use Rattle.sl_due_law.proofs.Jobs.RepliesComeAfter.{request_late, set_late, value_late}
-use Rattle.sl_law.specs.LawfulArea.{is_area_work}
+use Rattle.sl_run.specs.LawfulArea.{is_area_work}
 use Rattle.sl_due_law.proofs.Ways.Kept.ActsKeep.{asked_of}
 use Rattle.sl_due_law.proofs.Ways.Kept.DeltasFit.{freed_fits, joining_fits, renewed_fits, wake_fits}
 use Rattle.sl_due_law.proofs.Ways.Kept.EffectsLeave.{there_has}
@@ -44,18 +44,18 @@ use Rattle.sl_due_law.proofs.Ways.Kept.LinesReady.{none_open}
 use Rattle.sl_due_law.proofs.Ways.Kept.PlacesStand.{id_in_range, place_is_on, placed_on}
 use Rattle.sl_due_law.proofs.Ways.Kept.PlainWalks.{DeltaFits}
 use Rattle.sl_due_law.proofs.Ways.Kept.UnjoinedHaveNone.{its_joining, joins_still}
-use Rattle.sl_leases.specs.Jobs.{command_numbered, command_of, job_of_start}
-use Rattle.sl_leases.specs.LeaseWork.{lease_place, settle_next}
-use Rattle.sl_leases.specs.Leases.{known, lver_written, open_on, spot_of, spot_of_call}
-use Rattle.sl_leases.specs.declared.lease.Aim.{Aim}
-use Rattle.sl_leases.specs.declared.lease.LeaseNext.{LeaseNext}
+use Rattle.sl_trace.specs.Jobs.{command_numbered, command_of, job_of_start}
+use Rattle.sl_trace.specs.LeaseWork.{lease_place, settle_next}
+use Rattle.sl_trace.specs.Leases.{known, lver_written, open_on, spot_of, spot_of_call}
+use Rattle.sl_trace.specs.declared.lease.Aim.{Aim}
+use Rattle.sl_trace.specs.declared.lease.LeaseNext.{LeaseNext}
 use Rattle.sl_plain.proofs.Lists.{kept_inside}
 use Rattle.sl_plain.proofs.Options.{some_of}
 use Rattle.sl_sector.specs.declared.sector.Rec.TheVariants.{DeltaIs, RequestIs}
-use Rattle.sl_sessions.specs.Deltas.{delta_known, delta_of_session, next_after_free, next_after_renewal, next_in_joining, next_on_wake, own_offset}
-use Rattle.sl_sessions.specs.Sessions.{calls_of, generation_of, holders_of, holdings_of, present_sessions, recovery_of, session_numbered}
-use Rattle.sl_sessions.specs.declared.delta.DeltaNext.{DeltaNext}
-use Rattle.sl_sessions.specs.declared.session.Session.{Session}
+use Rattle.sl_trace.specs.Deltas.{delta_known, delta_of_session, next_after_free, next_after_renewal, next_in_joining, next_on_wake, own_offset}
+use Rattle.sl_trace.specs.Sessions.{calls_of, generation_of, holders_of, holdings_of, present_sessions, recovery_of, session_numbered}
+use Rattle.sl_trace.specs.declared.delta.DeltaNext.{DeltaNext}
+use Rattle.sl_trace.specs.declared.session.Session.{Session}
 use Rattle.sl_due_law.specs.Facts.Heard.{IsOpen, heard_by}
 use Rattle.sl_due_law.specs.Facts.JobFacts.{FitsCommand}
 use Rattle.sl_due_law.specs.Facts.ValueFacts.{IsReading}

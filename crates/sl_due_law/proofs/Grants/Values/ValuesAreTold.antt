@@ -33,24 +33,24 @@ use Rattle.sl_due_law.specs.Holdings.Promises.{Begins}
 use Rattle.sl_due_law.proofs.Jobs.CallsStay.{is_special}
 use Rattle.sl_due_law.proofs.Jobs.EffectsAreAllowed.{DeltaAllowed, decision, delta, ended, exited, lease, left, refusal, removal_of_refused, requested, said, sent, stopped}
 use Rattle.sl_due_law.proofs.Jobs.RepliesComeAfter.{IsApartLease, joining_apart, lease_apart, second_off, set_late, settle_apart, tells_value, value_late, wake_apart}
-use Rattle.sl_law.specs.LawfulArea.{is_area_work}
-use Rattle.sl_law.specs.LawfulValue.{LawfulSetReply, LawfulValueReply}
+use Rattle.sl_run.specs.LawfulArea.{is_area_work}
+use Rattle.sl_run.specs.LawfulValue.{LawfulSetReply, LawfulValueReply}
 use Rattle.sl_due_law.proofs.Leases.WorkIsActive.{work_is_active}
 use Rattle.sl_due_law.proofs.Ways.Kept.EffectsLeave.{there_has}
-use Rattle.sl_leases.specs.Jobs.{job_of_start}
-use Rattle.sl_leases.specs.LeaseWork.{lease_place, settle_next}
-use Rattle.sl_leases.specs.Leases.{is_on, known, lver_written, spot_of_call, value_written}
-use Rattle.sl_leases.specs.declared.lease.LeaseNext.{LeaseNext}
-use Rattle.sl_leases.specs.declared.lease.LeaseNext.TheVariants.{AnswerJob}
+use Rattle.sl_trace.specs.Jobs.{job_of_start}
+use Rattle.sl_trace.specs.LeaseWork.{lease_place, settle_next}
+use Rattle.sl_trace.specs.Leases.{is_on, known, lver_written, spot_of_call, value_written}
+use Rattle.sl_trace.specs.declared.lease.LeaseNext.{LeaseNext}
+use Rattle.sl_trace.specs.declared.lease.LeaseNext.TheVariants.{AnswerJob}
 use Rattle.sl_due_law.proofs.Parts.CallsGrow.{mine_more, others_stay, same_sessions}
 use Rattle.sl_plain.proofs.Lists.{contains_more, contains_none}
 use Rattle.sl_sector.specs.Spelling.{value_in}
 use Rattle.sl_sector.specs.declared.sector.Rec.TheVariants.{DeltaIs}
 use Rattle.sl_sector.specs.declared.sector.ValueRec.{ValueRec}
-use Rattle.sl_sessions.specs.Deltas.{delta_known, delta_of_session, next_after_free, next_after_renewal, next_in_joining, next_on_wake, own_offset}
-use Rattle.sl_sessions.specs.Sessions.{calls_of, generation_of, holders_of, is_active, is_call_of, is_join_call, is_joined, present_sessions, recovery_of}
-use Rattle.sl_sessions.specs.declared.delta.DeltaNext.{DeltaNext}
-use Rattle.sl_sessions.specs.declared.session.Session.{Session}
+use Rattle.sl_trace.specs.Deltas.{delta_known, delta_of_session, next_after_free, next_after_renewal, next_in_joining, next_on_wake, own_offset}
+use Rattle.sl_trace.specs.Sessions.{calls_of, generation_of, holders_of, is_active, is_call_of, is_join_call, is_joined, present_sessions, recovery_of}
+use Rattle.sl_trace.specs.declared.delta.DeltaNext.{DeltaNext}
+use Rattle.sl_trace.specs.declared.session.Session.{Session}
 use Rattle.sl_due_law.specs.Facts.Heard.{heard_by}
 use Rattle.sl_due_law.specs.Facts.ValueFacts.{IsReading}
 use Rattle.sl_trace.specs.Connections.{is_registered}

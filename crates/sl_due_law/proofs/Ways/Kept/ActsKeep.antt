@@ -10,10 +10,10 @@ use Rattle.sl_due.specs.DueInputs.{end_holdings, leave_holdings, started_reply}
 use Rattle.sl_due.specs.DueLease.{carry_lease, goes_on, next_of_lease}
 use Rattle.sl_due.specs.DueRequests.{after_request_read, after_value_read, owner_read, request_refusal, value_reply, write_request}
 use Rattle.sl_due.specs.Steps.{Step, add_reply, seen, with_input}
-use Rattle.sl_law.specs.LawfulArea.{is_area_work}
-use Rattle.sl_leases.specs.Jobs.{aim_of, command_numbered, job_of_start, resource_named}
-use Rattle.sl_leases.specs.LeaseWork.{lease_place, settle_next}
-use Rattle.sl_leases.specs.Leases.{is_leader_of, known, open_on, spot_of, spot_of_call, value_written}
+use Rattle.sl_run.specs.LawfulArea.{is_area_work}
+use Rattle.sl_trace.specs.Jobs.{aim_of, command_numbered, job_of_start, resource_named}
+use Rattle.sl_trace.specs.LeaseWork.{lease_place, settle_next}
+use Rattle.sl_trace.specs.Leases.{is_leader_of, known, open_on, spot_of, spot_of_call, value_written}
 use Rattle.sl_due_law.proofs.Ways.Kept.AreaCallsLeave.{area_calls_leave}
 use Rattle.sl_due_law.proofs.Ways.Kept.CallsSame.{HeardNoJob}
 use Rattle.sl_due_law.proofs.Ways.Kept.DeltasFit.{free_fits, freed_fits, joining_fits, renewal_fits, renewed_fits, wake_fits}
@@ -29,16 +29,16 @@ use Rattle.sl_due_law.proofs.Ways.Kept.UnjoinedHaveNone.{its_joining, joins_stil
 use Rattle.sl_due_law.proofs.Ways.NextsFit.AnswersFit.{answers_fit, settlings_fit}
 use Rattle.sl_due_law.specs.Ways.Kept.{LeasesStand}
 use Rattle.sl_due_law.specs.Ways.Nexts.{NextIs}
-use Rattle.sl_leases.specs.declared.lease.Aim.{Aim}
-use Rattle.sl_leases.specs.declared.lease.LeaseNext.TheVariants.{BecomeShared}
-use Rattle.sl_leases.specs.declared.lease.LeaseNext.{LeaseNext}
+use Rattle.sl_trace.specs.declared.lease.Aim.{Aim}
+use Rattle.sl_trace.specs.declared.lease.LeaseNext.TheVariants.{BecomeShared}
+use Rattle.sl_trace.specs.declared.lease.LeaseNext.{LeaseNext}
 use Rattle.sl_sector.specs.Spelling.{request_in, value_in}
 use Rattle.sl_sector.specs.declared.sector.Leader.{Leader}
 use Rattle.sl_sector.specs.declared.sector.Request.{Request as RequestRec}
 use Rattle.sl_sector.specs.declared.sector.ValueRec.{ValueRec}
-use Rattle.sl_sessions.specs.Deltas.{delta_of_session}
-use Rattle.sl_sessions.specs.Sessions.{calls_of, generation_of, recovery_of}
-use Rattle.sl_sessions.specs.declared.session.Session.{Session}
+use Rattle.sl_trace.specs.Deltas.{delta_of_session}
+use Rattle.sl_trace.specs.Sessions.{calls_of, generation_of, recovery_of}
+use Rattle.sl_trace.specs.declared.session.Session.{Session}
 use Rattle.sl_due_law.specs.Facts.Heard.{heard_by}
 use Rattle.sl_due_law.specs.Facts.JobFacts.{FitsCommand}
 use Rattle.sl_due_law.specs.Facts.Whole.{Whole}

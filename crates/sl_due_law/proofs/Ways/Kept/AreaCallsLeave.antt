@@ -2,15 +2,15 @@
 use Rattle.sl_acts.specs.Acts.{Has}
 use Rattle.sl_acts.specs.SoFar.{entry_of}
 use Rattle.sl_due.specs.Steps.{Step, add_call_of, seen}
-use Rattle.sl_law.specs.LawfulArea.{is_area_work}
+use Rattle.sl_run.specs.LawfulArea.{is_area_work}
 use Rattle.sl_due_law.proofs.Ways.Kept.EffectsLeave.{further_grows, made_call, not_empty, one_session, other_grows, still_open}
 use Rattle.sl_due_law.proofs.Ways.Kept.PlacesStand.{spot_is}
 use Rattle.sl_due_law.proofs.Ways.Kept.WaysGrow.{ways_grow}
 use Rattle.sl_due_law.specs.Ways.Kept.{LeasesStand}
-use Rattle.sl_leases.specs.Leases.{is_lease_call, is_on, lease_calls, lease_step, spot_of_call}
+use Rattle.sl_trace.specs.Leases.{is_lease_call, is_on, lease_calls, lease_step, spot_of_call}
 use Rattle.sl_due_law.proofs.Parts.CallsGrow.{mine_more, others_stay, same_sessions}
-use Rattle.sl_sessions.specs.Sessions.{calls_of, delta_of_record, is_call_of, is_join_call, session_numbered, sessions}
-use Rattle.sl_sessions.specs.declared.session.Session.{Session}
+use Rattle.sl_trace.specs.Sessions.{calls_of, delta_of_record, is_call_of, is_join_call, session_numbered, sessions}
+use Rattle.sl_trace.specs.declared.session.Session.{Session}
 use Rattle.sl_due_law.specs.Facts.Heard.{IsOpen, heard_by}
 use Rattle.sl_due_law.specs.Facts.WayFacts.{CallWay, IsAligned, PurposeWay, Ways, way_context}
 use Rattle.sl_trace.proofs.TraceFacts.{submitted-push}

@@ -2,9 +2,9 @@
 use Rattle.sl_due.specs.Steps.{Step, add_reply, seen}
 use Rattle.sl_due_law.proofs.Parts.CallsGrow.{any_more}
 use Rattle.sl_due_law.specs.Parts.Parts.{with_reply}
-use Rattle.sl_sessions.specs.Sessions.{calls_of, generation_in, generation_of, is_join_done, joined_after}
-use Rattle.sl_sessions.specs.Watching.{counted_over, counts_over, evidence_in}
-use Rattle.sl_sessions.specs.declared.session.Session.{Session}
+use Rattle.sl_trace.specs.Sessions.{calls_of, generation_in, generation_of, is_join_done, joined_after}
+use Rattle.sl_trace.specs.Watching.{counted_over, counts_over, evidence_in}
+use Rattle.sl_trace.specs.declared.session.Session.{Session}
 use Rattle.sl_trace.specs.Traces.{Replied, Setting, Submitted, Trace, answer_of, answered_in, is_before_input, is_going_on, is_running, job_of, mark, new_call, reply_in, reply_to, submitted}
 use Rattle.sl_trace.specs.declared.effects.Entry.{Entry}
 use Rattle.sl_trace.specs.declared.effects.JobReply.{JobReply}

@@ -4,11 +4,11 @@ use Rattle.sl_due_law.proofs.Ways.Kept.PlainWalks.{DeltaFits}
 use Rattle.sl_due.specs.Steps.{Step, seen}
 use Rattle.sl_sector.specs.declared.sector.DeltaRec.{DeltaRec}
 use Rattle.sl_sector.specs.declared.sector.Rec.TheVariants.{DeltaIs}
-use Rattle.sl_sessions.specs.Deltas.{DeltaLease, claim_of, claim_on, delta_known, delta_of_session, delta_record, id_held, id_lost, is_renewal_due, is_watched_out, join_step_of, next_after_deciding, next_after_first, next_after_free, next_after_renewal, next_after_verify, next_after_watch, next_by_time, next_free, next_in_joining, next_on_wake, next_renewal, where_watched, watched}
-use Rattle.sl_sessions.specs.Sessions.{generation_of, last_seq}
-use Rattle.sl_sessions.specs.declared.delta.DeltaNext.TheVariants.{Nothing, ReadOwn, RefuseJoin, RegisterAndRead, WriteClaim, WriteFirst, WriteFree, WriteRenewal}
-use Rattle.sl_sessions.specs.declared.delta.DeltaNext.{DeltaNext}
-use Rattle.sl_sessions.specs.declared.session.Session.{Session}
+use Rattle.sl_trace.specs.Deltas.{DeltaLease, claim_of, claim_on, delta_known, delta_of_session, delta_record, id_held, id_lost, is_renewal_due, is_watched_out, join_step_of, next_after_deciding, next_after_first, next_after_free, next_after_renewal, next_after_verify, next_after_watch, next_by_time, next_free, next_in_joining, next_on_wake, next_renewal, where_watched, watched}
+use Rattle.sl_trace.specs.Sessions.{generation_of, last_seq}
+use Rattle.sl_trace.specs.declared.delta.DeltaNext.TheVariants.{Nothing, ReadOwn, RefuseJoin, RegisterAndRead, WriteClaim, WriteFirst, WriteFree, WriteRenewal}
+use Rattle.sl_trace.specs.declared.delta.DeltaNext.{DeltaNext}
+use Rattle.sl_trace.specs.declared.session.Session.{Session}
 use Rattle.sl_trace.specs.Traces.{Answered, Submitted, is_before_input}
 use Rattle.sl_trace.specs.declared.effects.JoinStep.TheVariants.{ClaimWrite, DecidingRead, FirstRead, FirstRenewal, VerifyRead, WatchRead}
 use Rattle.sl_trace.specs.declared.effects.JoinStep.{JoinStep}
@@ -19,7 +19,7 @@ use Rattle.sl_trace.specs.declared.reply.Reply.TheVariants.{Done, IdLate, IoFaul
 use Rattle.sl_trace.specs.declared.reply.Reply.{Reply}
 use Rattle.sl_area.specs.Layouts.{record_in}
 use Rattle.sl_sector.specs.Spelling.{delta_in}
-use Rattle.sl_sessions.specs.Watching.{is_free_state}
+use Rattle.sl_trace.specs.Watching.{is_free_state}
 use Rattle.sl_sector.specs.Bitmaps.{no_bits}
 use Rattle.sl_sector.specs.declared.sector.DeltaState.TheVariants.{Claimed}
 use Rattle.sl_sector.specs.declared.sector.DeltaState.TheVariants.{Live}

@@ -2,20 +2,20 @@
 use Rattle.sl_acts.specs.Acts.{Has}
 use Rattle.sl_acts.specs.SoFar.{entry_of}
 use Rattle.sl_due.specs.Steps.{Step, add_call_of, add_end, add_grant, add_move, add_reply, add_signal, add_start, seen}
-use Rattle.sl_law.specs.LawfulArea.{is_area_work}
+use Rattle.sl_run.specs.LawfulArea.{is_area_work}
 use Rattle.sl_due_law.proofs.Ways.Kept.CallsSame.{Leaves, counted_more, counts_more, joined_stays, reply_leaves, reply_stays}
 use Rattle.sl_due_law.proofs.Ways.Kept.WaysGrow.{Grows, ways_grow}
 use Rattle.sl_due_law.specs.Ways.Kept.{LeasesStand}
-use Rattle.sl_leases.specs.Jobs.{aim_of}
-use Rattle.sl_leases.specs.Leases.{is_lease_call, is_on, lease_calls, lease_step, spot_of_call}
-use Rattle.sl_leases.specs.declared.lease.Aim.{Aim}
+use Rattle.sl_trace.specs.Jobs.{aim_of}
+use Rattle.sl_trace.specs.Leases.{is_lease_call, is_on, lease_calls, lease_step, spot_of_call}
+use Rattle.sl_trace.specs.declared.lease.Aim.{Aim}
 use Rattle.sl_due_law.proofs.Parts.CallsGrow.{mine_more, others_stay, same_sessions}
 use Rattle.sl_due_law.specs.Parts.Parts.{with_reply}
-use Rattle.sl_sessions.specs.Sessions.{calls_of, delta_of_record, generation_in, generation_of, given_number, is_call_of, is_join_call, is_survey_purpose, joined_after, last_delta, session_numbered, sessions}
+use Rattle.sl_trace.specs.Sessions.{calls_of, delta_of_record, generation_in, generation_of, given_number, is_call_of, is_join_call, is_survey_purpose, joined_after, last_delta, session_numbered, sessions}
 use Rattle.sl_area.specs.Places.{sector_of}
-use Rattle.sl_sessions.specs.Watching.{evidence, look_of, sightings}
-use Rattle.sl_sessions.specs.declared.sighting.Sighting.{Sighting}
-use Rattle.sl_sessions.specs.declared.session.Session.{Session}
+use Rattle.sl_trace.specs.Watching.{evidence, look_of, sightings}
+use Rattle.sl_trace.specs.declared.sighting.Sighting.{Sighting}
+use Rattle.sl_trace.specs.declared.session.Session.{Session}
 use Rattle.sl_sector.specs.declared.sector.DeltaRec.{DeltaRec}
 use Rattle.sl_due_law.specs.Facts.Heard.{IsOpen, heard_by}
 use Rattle.sl_due_law.specs.Facts.WayFacts.{WayFacts, Ways, way_context}

@@ -3,17 +3,17 @@ use Rattle.sl_acts.specs.Acts.{Has, Hears}
 use Rattle.sl_acts.specs.SoFar.{entry_of}
 use Rattle.sl_due.specs.DueLease.{goes_on}
 use Rattle.sl_due.specs.Steps.{Step, seen}
-use Rattle.sl_law.specs.LawfulArea.{is_area_work}
+use Rattle.sl_run.specs.LawfulArea.{is_area_work}
 use Rattle.sl_due_law.proofs.Ways.Places.{spot_aligned}
 use Rattle.sl_due_law.proofs.Ways.Kept.EffectsLeave.{there_has}
 use Rattle.sl_due_law.proofs.Ways.Kept.InputsLeave.{same_call}
 use Rattle.sl_due_law.proofs.Ways.Kept.LeaseNextsLeave.{HasEnded, LeaseReady, moment_of}
 use Rattle.sl_due_law.specs.Ways.Nexts.{IsHeard}
-use Rattle.sl_leases.specs.Jobs.{aim_of}
-use Rattle.sl_leases.specs.Leases.{exclusive_on, holdings_on, is_lease_call, lease_step, spot_of_call}
-use Rattle.sl_leases.specs.declared.lease.Aim.{Aim}
-use Rattle.sl_sessions.specs.Sessions.{holdings_of, session_numbered, sessions}
-use Rattle.sl_sessions.specs.declared.session.Session.{Session}
+use Rattle.sl_trace.specs.Jobs.{aim_of}
+use Rattle.sl_trace.specs.Leases.{exclusive_on, holdings_on, is_lease_call, lease_step, spot_of_call}
+use Rattle.sl_trace.specs.declared.lease.Aim.{Aim}
+use Rattle.sl_trace.specs.Sessions.{holdings_of, session_numbered, sessions}
+use Rattle.sl_trace.specs.declared.session.Session.{Session}
 use Rattle.sl_due_law.specs.Facts.CallFacts.{CallFacts}
 use Rattle.sl_due_law.specs.Facts.Heard.{IsOpen, heard_by}
 use Rattle.sl_due_law.specs.Facts.HoldingFacts.{HoldingFacts, StandsExclusive}

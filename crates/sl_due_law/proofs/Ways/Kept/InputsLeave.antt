@@ -7,15 +7,15 @@ use Rattle.sl_due_law.proofs.Ways.Kept.EffectsLeave.{Carries, same_grows, ways_c
 use Rattle.sl_due_law.proofs.Ways.Kept.WaysGrow.{Grows, ways_answered, ways_grow}
 use Rattle.sl_due_law.proofs.Ways.Lawful.BallotsBegin.{counted_now}
 use Rattle.sl_due_law.specs.Ways.Kept.{LeasesStand}
-use Rattle.sl_leases.specs.Jobs.{aim_of, aim_of_command, command_numbered, command_of}
-use Rattle.sl_law.specs.LawfulArea.{is_area_work}
-use Rattle.sl_leases.specs.Leases.{is_lease_call, is_on, lease_calls, lease_step, spot_of_call}
-use Rattle.sl_leases.specs.declared.lease.Aim.{Aim}
+use Rattle.sl_trace.specs.Jobs.{aim_of, aim_of_command, command_numbered, command_of}
+use Rattle.sl_run.specs.LawfulArea.{is_area_work}
+use Rattle.sl_trace.specs.Leases.{is_lease_call, is_on, lease_calls, lease_step, spot_of_call}
+use Rattle.sl_trace.specs.declared.lease.Aim.{Aim}
 use Rattle.sl_sector.specs.declared.sector.DeltaRec.{DeltaRec}
 use Rattle.sl_sector.specs.declared.sector.Owner.{Owner}
-use Rattle.sl_sessions.specs.Sessions.{calls_of, delta_of_record, delta_written, generation_in, generation_of, given_number, is_call_of, is_join_call, joined_after, last_delta, session_numbered, sessions}
-use Rattle.sl_sessions.specs.Watching.{counted_over, counts_over, evidence_in}
-use Rattle.sl_sessions.specs.declared.session.Session.{Session}
+use Rattle.sl_trace.specs.Sessions.{calls_of, delta_of_record, delta_written, generation_in, generation_of, given_number, is_call_of, is_join_call, joined_after, last_delta, session_numbered, sessions}
+use Rattle.sl_trace.specs.Watching.{counted_over, counts_over, evidence_in}
+use Rattle.sl_trace.specs.declared.session.Session.{Session}
 use Rattle.sl_due_law.specs.Facts.CallFacts.{CallFacts}
 use Rattle.sl_due_law.specs.Facts.Heard.{IsOpen, heard_by}
 use Rattle.sl_due_law.specs.Facts.WayFacts.{Ways, way_context}

@@ -2,15 +2,15 @@
 use Rattle.sl_acts.proofs.SessionsStay.{numbered_more}
 use Rattle.sl_acts.specs.SoFar.{entry_of}
 use Rattle.sl_due.specs.Steps.{Step, add_call_of, seen, with_input}
-use Rattle.sl_law.specs.LawfulArea.{is_area_work}
+use Rattle.sl_run.specs.LawfulArea.{is_area_work}
 use Rattle.sl_due_law.proofs.Ways.Kept.EffectsLeave.{calls_left, has_there, made_call, old_call, other_grows, still_open}
 use Rattle.sl_due_law.proofs.Ways.Kept.InputsLeave.{input_sessions, quiet_inputs_leave, quiet_same}
 use Rattle.sl_due_law.proofs.Ways.Kept.PlacesStand.{either_list}
 use Rattle.sl_due_law.proofs.Ways.Kept.WaysGrow.{ways_grow}
 use Rattle.sl_due_law.specs.Ways.Kept.{LeasesStand}
-use Rattle.sl_leases.specs.Leases.{is_lease_call, is_on, lease_calls, lease_step, spot_of_call}
-use Rattle.sl_sessions.specs.Sessions.{added_by, begun_in, is_call_of, is_join_call, joining_session, session_numbered, sessions}
-use Rattle.sl_sessions.specs.declared.session.Session.{Session}
+use Rattle.sl_trace.specs.Leases.{is_lease_call, is_on, lease_calls, lease_step, spot_of_call}
+use Rattle.sl_trace.specs.Sessions.{added_by, begun_in, is_call_of, is_join_call, joining_session, session_numbered, sessions}
+use Rattle.sl_trace.specs.declared.session.Session.{Session}
 use Rattle.sl_due_law.specs.Facts.CallFacts.{CallFacts}
 use Rattle.sl_due_law.specs.Facts.Heard.{IsOpen}
 use Rattle.sl_due_law.specs.Facts.WayFacts.{IsAligned, Ways, way_context}

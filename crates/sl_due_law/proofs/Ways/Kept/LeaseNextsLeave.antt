@@ -4,9 +4,9 @@ use Rattle.sl_area.specs.Places.{block_offset, in_area, leader_offset}
 use Rattle.sl_area.specs.Roles.{block, leader}
 use Rattle.sl_due.specs.DueLease.{carry_lease, convert_for, for_work, read_for, with_command, write_block}
 use Rattle.sl_due.specs.Steps.{Step, add_reply, seen}
-use Rattle.sl_law.specs.Lawful.{IsSetting}
-use Rattle.sl_law.specs.LawfulArea.{is_area_work}
-use Rattle.sl_law.specs.LawfulBlock.{LawfulPhase1}
+use Rattle.sl_run.specs.Lawful.{IsSetting}
+use Rattle.sl_run.specs.LawfulArea.{is_area_work}
+use Rattle.sl_run.specs.LawfulBlock.{LawfulPhase1}
 use Rattle.sl_due_law.proofs.Ways.Kept.AreaCallsLeave.{MayWork, area_calls_leave}
 use Rattle.sl_due_law.proofs.Ways.Kept.CallsSame.{reply_leaves}
 use Rattle.sl_due_law.proofs.Ways.Kept.EffectsLeave.{Carries, ends_leave, grants_leave, made_call, moves_leave, replies_leave, reply_carries, reply_grows, signals_leave, starts_leave, there_has}
@@ -16,15 +16,15 @@ use Rattle.sl_due_law.proofs.Ways.Kept.WaysGrow.{way_grows}
 use Rattle.sl_due_law.proofs.Ways.Lawful.BallotLaws.{own_is}
 use Rattle.sl_due_law.specs.Ways.Kept.{LeasesStand}
 use Rattle.sl_due_law.specs.Ways.Nexts.{Moment, NextIs, calls_at, context_at}
-use Rattle.sl_leases.specs.Ballots.{phase1_block}
-use Rattle.sl_leases.specs.Leases.{ended_ballots, lease_calls, open_ballot, spot_of_call}
-use Rattle.sl_leases.specs.declared.lease.LeaseNext.TheVariants.{AnswerJob, BecomeExclusive, BecomeShared, GrantJob, Nothing, ReadFor, WriteBlock, WriteLeader}
-use Rattle.sl_leases.specs.declared.lease.LeaseNext.{LeaseNext}
+use Rattle.sl_trace.specs.Ballots.{phase1_block}
+use Rattle.sl_trace.specs.Leases.{ended_ballots, lease_calls, open_ballot, spot_of_call}
+use Rattle.sl_trace.specs.declared.lease.LeaseNext.TheVariants.{AnswerJob, BecomeExclusive, BecomeShared, GrantJob, Nothing, ReadFor, WriteBlock, WriteLeader}
+use Rattle.sl_trace.specs.declared.lease.LeaseNext.{LeaseNext}
 use Rattle.sl_sector.specs.declared.sector.Block.{Block}
 use Rattle.sl_sector.specs.declared.sector.Leader.{Leader}
 use Rattle.sl_sector.specs.declared.sector.Rec.TheVariants.{BlockIs, LeaderIs}
-use Rattle.sl_sessions.specs.Sessions.{delta_of_record, me}
-use Rattle.sl_sessions.specs.declared.session.Session.{Session}
+use Rattle.sl_trace.specs.Sessions.{delta_of_record, me}
+use Rattle.sl_trace.specs.declared.session.Session.{Session}
 use Rattle.sl_due_law.specs.Facts.WayFacts.{In_settling, IsAligned, IsVerified, Phase1Way, PurposeWay, StepWay, way_context}
 use Rattle.sl_trace.specs.Traces.{Submitted, is_before_input, next_call, record_of, submitted, work_job}
 use Rattle.sl_trace.specs.declared.effects.Call.{Call}

@@ -10,7 +10,7 @@ use Rattle.sl_due.specs.DueLease.{carry_lease}
 use Rattle.sl_due.specs.Steps.{Step, add_end, add_reply, seen, with_input}
 use Rattle.sl_due.specs.declared.decision.Decision.TheVariants.{ConvertsTo, GetsValue, GivesUp, Joins, Leaves, ReadsArea, Replies, Requests, SetsValue, Shares, TakesOver}
 use Rattle.sl_due.specs.declared.decision.Decision.{Decision}
-use Rattle.sl_law.specs.LawfulArea.{is_area_work}
+use Rattle.sl_run.specs.LawfulArea.{is_area_work}
 use Rattle.sl_due_law.proofs.Ways.Kept.AreaCallsLeave.{MayWork, area_calls_leave}
 use Rattle.sl_due_law.proofs.Ways.Kept.CallsSame.{HeardNoJob}
 use Rattle.sl_due_law.proofs.Ways.Kept.DecisionsAreClear.{DecidedOn, decisions_are_clear}
@@ -24,17 +24,17 @@ use Rattle.sl_due_law.proofs.Ways.Kept.PlacesStand.{either_list, place_is_on, pl
 use Rattle.sl_due_law.proofs.Ways.Kept.PlainWalks.{ByPlain, granting, stopped}
 use Rattle.sl_due_law.proofs.Ways.NextsFit.AnswersFit.{conversions_fit, releases_fit}
 use Rattle.sl_due_law.specs.Ways.Kept.{LeasesStand}
-use Rattle.sl_leases.specs.Ballots.{moded_block}
-use Rattle.sl_leases.specs.Jobs.{aim_of, aim_of_command, command_numbered, command_of}
-use Rattle.sl_leases.specs.LeaseWork.{LeasePlace, convert_next, lease_place, release_next}
-use Rattle.sl_leases.specs.Leases.{LeaseKnown, ended_ballots, holdings_on, is_lease_call, is_on, known, lease_step, open_ballot, spot_of}
-use Rattle.sl_leases.specs.declared.lease.Aim.TheVariants.{Releases}
-use Rattle.sl_leases.specs.declared.lease.LeaseNext.TheVariants.{AnswerJob, BecomeExclusive, BecomeShared, GrantJob, Nothing, ReadFor, WriteBlock, WriteLeader}
-use Rattle.sl_leases.specs.declared.lease.LeaseNext.{LeaseNext}
+use Rattle.sl_trace.specs.Ballots.{moded_block}
+use Rattle.sl_trace.specs.Jobs.{aim_of, aim_of_command, command_numbered, command_of}
+use Rattle.sl_trace.specs.LeaseWork.{LeasePlace, convert_next, lease_place, release_next}
+use Rattle.sl_trace.specs.Leases.{LeaseKnown, ended_ballots, holdings_on, is_lease_call, is_on, known, lease_step, open_ballot, spot_of}
+use Rattle.sl_trace.specs.declared.lease.Aim.TheVariants.{Releases}
+use Rattle.sl_trace.specs.declared.lease.LeaseNext.TheVariants.{AnswerJob, BecomeExclusive, BecomeShared, GrantJob, Nothing, ReadFor, WriteBlock, WriteLeader}
+use Rattle.sl_trace.specs.declared.lease.LeaseNext.{LeaseNext}
 use Rattle.sl_sector.specs.declared.sector.Block.{Block}
 use Rattle.sl_sector.specs.declared.sector.Leader.{Leader}
-use Rattle.sl_sessions.specs.Sessions.{delta_of_record, generation_in, holdings_of, is_call_of, session_numbered}
-use Rattle.sl_sessions.specs.declared.session.Session.{Session}
+use Rattle.sl_trace.specs.Sessions.{delta_of_record, generation_in, holdings_of, is_call_of, session_numbered}
+use Rattle.sl_trace.specs.declared.session.Session.{Session}
 use Rattle.sl_due_law.specs.Facts.HoldingFacts.{HoldingFacts, StandsExclusive}
 use Rattle.sl_due_law.specs.Facts.Heard.{heard_by}
 use Rattle.sl_due_law.specs.Facts.Whole.{Whole}

@@ -3,15 +3,15 @@ use Rattle.sl_acts.specs.Acts.{Has}
 use Rattle.sl_area.specs.Places.{is_base}
 use Rattle.sl_area.specs.Roles.{leader}
 use Rattle.sl_due.specs.Steps.{Step, seen, with_input}
-use Rattle.sl_law.specs.Lawful.{IsSetting}
+use Rattle.sl_run.specs.Lawful.{IsSetting}
 use Rattle.sl_due_law.proofs.Ways.Kept.DecisionsAreClear.{IsAsked}
 use Rattle.sl_due_law.proofs.Ways.Kept.InputsLeave.{quiet_same}
 use Rattle.sl_due_law.proofs.Ways.Kept.LeaseNextsLeave.{LeaseReady}
 use Rattle.sl_due_law.proofs.Ways.Kept.PlacesStand.{place_is_on, placed_on}
-use Rattle.sl_leases.specs.Counts.{pending_call}
-use Rattle.sl_leases.specs.Jobs.{resource_named}
-use Rattle.sl_leases.specs.Leases.{is_on, open_on, spot_of, spot_of_call}
-use Rattle.sl_sessions.specs.declared.session.Session.{Session}
+use Rattle.sl_trace.specs.Counts.{pending_call}
+use Rattle.sl_trace.specs.Jobs.{resource_named}
+use Rattle.sl_trace.specs.Leases.{is_on, open_on, spot_of, spot_of_call}
+use Rattle.sl_trace.specs.declared.session.Session.{Session}
 use Rattle.sl_due_law.specs.Facts.CallFacts.{CallFacts}
 use Rattle.sl_area.specs.Layouts.{Layout}
 use Rattle.sl_trace.specs.Commands.{IsCommand, IsResourceArg}

@@ -2,12 +2,12 @@
 use Rattle.sl_area.proofs.SizeLaws.{places_lie_in_area}
 use Rattle.sl_area.specs.Layouts.{Layout, Sizes, layout_with}
 use Rattle.sl_area.specs.Places.{in_area}
-use Rattle.sl_leases.specs.Leases.{is_on, spot_of_call}
+use Rattle.sl_trace.specs.Leases.{is_on, spot_of_call}
 use Rattle.sl_trace_law.proofs.Leases.SpotLaws.{areas_are_apart}
 use Rattle.sl_area.specs.Roles.{IsRole, Role, role_offset}
-use Rattle.sl_law.specs.Lawful.{IsGiven, IsSetting}
-use Rattle.sl_sessions.specs.Sessions.{added, added_by, begun_in, given_session, is_join_call, joining_session, sessions}
-use Rattle.sl_sessions.specs.declared.session.Session.{Session}
+use Rattle.sl_run.specs.Lawful.{IsGiven, IsSetting}
+use Rattle.sl_trace.specs.Sessions.{added, added_by, begun_in, given_session, is_join_call, joining_session, sessions}
+use Rattle.sl_trace.specs.declared.session.Session.{Session}
 use Rattle.sl_trace.specs.Traces.{Setting, Submitted, Trace, line_in, new_call, next_job}
 use Rattle.sl_trace.specs.declared.effects.Call.{Call}
 use Rattle.sl_trace.specs.declared.effects.Spot.{Spot}

@@ -9,9 +9,9 @@ use Rattle.sl_due_law.proofs.Ways.Kept.InputsLeave.{answers, counted_then}
 use Rattle.sl_due_law.proofs.Ways.Kept.LinesKeep.{Anything, by_any}
 use Rattle.sl_due_law.proofs.Ways.Kept.PlainWalks.{stopped}
 use Rattle.sl_due_law.specs.Ways.Kept.{LeasesStand}
-use Rattle.sl_leases.specs.Jobs.{aim_of, aim_of_command, command_of}
-use Rattle.sl_leases.specs.declared.lease.Aim.{Aim}
-use Rattle.sl_sessions.specs.Sessions.{present_sessions, recovery_of, sessions}
+use Rattle.sl_trace.specs.Jobs.{aim_of, aim_of_command, command_of}
+use Rattle.sl_trace.specs.declared.lease.Aim.{Aim}
+use Rattle.sl_trace.specs.Sessions.{present_sessions, recovery_of, sessions}
 use Rattle.sl_due_law.specs.Facts.Heard.{IsOpen}
 use Rattle.sl_due_law.specs.Facts.LeaseFacts.{TurnFacts}
 use Rattle.sl_due_law.specs.Facts.WayFacts.{WayFacts}

@@ -4,11 +4,11 @@ use Rattle.sl_due.specs.Steps.{Step, seen}
 use Rattle.sl_due_law.proofs.Ways.Kept.DeltasFit.{IsJoining}
 use Rattle.sl_due_law.proofs.Ways.Kept.HeardStands.{HeardCall, heard_call}
 use Rattle.sl_due_law.proofs.Ways.Kept.LeaseNextsLeave.{IsLate}
-use Rattle.sl_leases.specs.Jobs.{command_numbered}
-use Rattle.sl_law.specs.LawfulArea.{is_area_work}
-use Rattle.sl_leases.specs.Leases.{is_lease_call, is_on, lease_calls, lease_step}
-use Rattle.sl_sessions.specs.Sessions.{calls_of, is_join_done, joined_after}
-use Rattle.sl_sessions.specs.declared.session.Session.{Session}
+use Rattle.sl_trace.specs.Jobs.{command_numbered}
+use Rattle.sl_run.specs.LawfulArea.{is_area_work}
+use Rattle.sl_trace.specs.Leases.{is_lease_call, is_on, lease_calls, lease_step}
+use Rattle.sl_trace.specs.Sessions.{calls_of, is_join_done, joined_after}
+use Rattle.sl_trace.specs.declared.session.Session.{Session}
 use Rattle.sl_due_law.specs.Facts.JobFacts.{FitsCommand}
 use Rattle.sl_due_law.specs.Facts.Whole.{Whole}
 use Rattle.sl_trace.specs.Traces.{Replied, Submitted, is_running, is_write, job_of, reply_to}

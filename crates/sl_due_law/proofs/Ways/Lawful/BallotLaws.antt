@@ -1,17 +1,17 @@
 -- What a ballot's steps, modes and leaders ask of the calls before them, they have by their ways.
-use Rattle.sl_law.specs.LawfulBlock.{LawfulModeWrite, LawfulPhase2, LawfulPhase2Read, ReadAfter}
-use Rattle.sl_law.specs.LawfulLeader.{HasWon}
+use Rattle.sl_run.specs.LawfulBlock.{LawfulModeWrite, LawfulPhase2, LawfulPhase2Read, ReadAfter}
+use Rattle.sl_run.specs.LawfulLeader.{HasWon}
 use Rattle.sl_due_law.specs.Ways.Promises.{WaysAreLawful}
 use Rattle.sl_due_law.proofs.Ways.NewestCall.{block_is, ended_here, freed_passed, leader_is, leader_is_no_block, read_writes_no_block, read_writes_no_leader, submitted_here, submitted_passed}
 use Rattle.sl_due_law.proofs.Ways.WayNumbers.{Doing, EndsBy, Frees, Reads, Takes, Writes_ballot, Writes_mode, doing, ended_concludes, ends_by}
 use Rattle.sl_due_law.proofs.Ways.WayStages.{asked2_freed, asked2_last, asked2_own, begun1, begun1_own, clear_last, prior_at, prior_inside, proposed, proposed2, read1, rest_behind, way_behind}
-use Rattle.sl_leases.specs.Ballots.{ballot_blocks, moded_block, phase2_block}
-use Rattle.sl_leases.specs.Leases.{Phase1_read, Phase1_write, Phase2_write, block_submitted, block_written, ended_ballots, freed, last_blocks, leader_written, lease_calls, open_ballot, own_block, own_or_read}
+use Rattle.sl_trace.specs.Ballots.{ballot_blocks, moded_block, phase2_block}
+use Rattle.sl_trace.specs.Leases.{Phase1_read, Phase1_write, Phase2_write, block_submitted, block_written, ended_ballots, freed, last_blocks, leader_written, lease_calls, open_ballot, own_block, own_or_read}
 use Rattle.sl_sector.specs.declared.sector.Block.{Block}
 use Rattle.sl_sector.specs.declared.sector.Leader.{Leader}
 use Rattle.sl_sector.specs.declared.sector.Rec.TheVariants.{BlockIs}
-use Rattle.sl_sessions.specs.Sessions.{me}
-use Rattle.sl_sessions.specs.declared.session.Session.{Session}
+use Rattle.sl_trace.specs.Sessions.{me}
+use Rattle.sl_trace.specs.declared.session.Session.{Session}
 use Rattle.sl_due_law.specs.Facts.WayFacts.{ClearWay, IsWrittenBy, ModeWay, Phase2ReadWay, Phase2Way, TakeWay, WayContext, Ways, way_context}
 use Rattle.sl_words.specs.Words.{some_is}
 use Rattle.sl_trace.specs.Traces.{Answered, Setting, Submitted, Trace}

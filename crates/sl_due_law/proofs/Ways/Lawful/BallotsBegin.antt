@@ -1,20 +1,20 @@
 -- Why a ballot may begin: after a read of the area, after one that was lost to an owner who is over, or where it is still open.
 use Rattle.sl_area.specs.Places.{area_blocks}
-use Rattle.sl_law.specs.LawfulBlock.{AreaRead, BeginReason, Block_above, Freed_before, Leader_before, Leader_own, LawfulPhase1, Lost_before, Own_block}
+use Rattle.sl_run.specs.LawfulBlock.{AreaRead, BeginReason, Block_above, Freed_before, Leader_before, Leader_own, LawfulPhase1, Lost_before, Own_block}
 use Rattle.sl_due_law.proofs.Ways.GreatestFrees.{freed_among, greatest_among}
 use Rattle.sl_due_law.proofs.Ways.InstancesBegin.{not_below_own, own_below_top, why_instance}
 use Rattle.sl_due_law.proofs.Ways.Lawful.BallotLaws.{own_is}
 use Rattle.sl_due_law.proofs.Ways.WayNumbers.{IsOpened, freed_below, lver_of, own_lver}
 use Rattle.sl_due_law.specs.Ways.Instances.{Block_leads, One_is_done, Own_goes_on, WhyInstance}
-use Rattle.sl_leases.specs.Ballots.{counted_lver, is_counted_free, owner_of, phase1_block, same_owner, value_of}
-use Rattle.sl_leases.specs.Leases.{block_submitted, ended_ballots, freed, instance_for, is_over_owner, known, last_blocks, lease_calls, own_block, top_lver}
-use Rattle.sl_leases.specs.declared.lease.Instance.TheVariants.{Begins}
+use Rattle.sl_trace.specs.Ballots.{counted_lver, is_counted_free, owner_of, phase1_block, same_owner, value_of}
+use Rattle.sl_trace.specs.Leases.{block_submitted, ended_ballots, freed, instance_for, is_over_owner, known, last_blocks, lease_calls, own_block, top_lver}
+use Rattle.sl_trace.specs.declared.lease.Instance.TheVariants.{Begins}
 use Rattle.sl_sector.specs.Records.{IsLeader}
 use Rattle.sl_sector.specs.declared.sector.Block.{Block}
 use Rattle.sl_sector.specs.declared.sector.Leader.{Leader}
-use Rattle.sl_sessions.specs.Sessions.{me}
-use Rattle.sl_sessions.specs.Watching.{counted_over, counts_over}
-use Rattle.sl_sessions.specs.declared.session.Session.{Session}
+use Rattle.sl_trace.specs.Sessions.{me}
+use Rattle.sl_trace.specs.Watching.{counted_over, counts_over}
+use Rattle.sl_trace.specs.declared.session.Session.{Session}
 use Rattle.sl_due_law.specs.Facts.WayFacts.{Ways, way_context}
 use Rattle.sl_trace.specs.Traces.{Setting, Submitted, Trace}
 use Rattle.sl_trace.specs.declared.effects.Spot.{Spot}

@@ -1,10 +1,10 @@
 -- What a clear read of the blocks shows of other hosts: each of their blocks is whole.
 use Rattle.sl_area.specs.Layouts.{Layout}
 use Rattle.sl_area.specs.Places.{area_blocks, blocks_in}
-use Rattle.sl_leases.specs.Ballots.{ballot_blocks, known_block, stop_among, stop_of, torn_host, with_own}
-use Rattle.sl_leases.specs.Leases.{block_of_host, blocks_given, is_area_read, is_phase_read}
-use Rattle.sl_leases.specs.declared.lease.Stop.TheVariants.{BlockTorn}
-use Rattle.sl_leases.specs.declared.lease.Stop.{Stop}
+use Rattle.sl_trace.specs.Ballots.{ballot_blocks, known_block, stop_among, stop_of, torn_host, with_own}
+use Rattle.sl_trace.specs.Leases.{block_of_host, blocks_given, is_area_read, is_phase_read}
+use Rattle.sl_trace.specs.declared.lease.Stop.TheVariants.{BlockTorn}
+use Rattle.sl_trace.specs.declared.lease.Stop.{Stop}
 use Rattle.sl_sector.specs.declared.sector.Block.{Block}
 use Rattle.sl_trace.specs.Traces.{Submitted, gave}
 use Rattle.sl_words.proofs.CaseLaws.{none_some, some_value}

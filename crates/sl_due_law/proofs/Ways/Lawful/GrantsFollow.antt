@@ -1,23 +1,23 @@
 -- What grants ask of a lease's calls follows from their ways.
-use Rattle.sl_law.specs.LawfulBlock.{ReadAfter}
-use Rattle.sl_law.specs.LawfulModes.{IsDone, LawfulExclusiveGrant, NoneShared}
+use Rattle.sl_run.specs.LawfulBlock.{ReadAfter}
+use Rattle.sl_run.specs.LawfulModes.{IsDone, LawfulExclusiveGrant, NoneShared}
 use Rattle.sl_due_law.proofs.Ways.Lawful.BallotLaws.{before2, block_same, read2, read_after, take_concludes, take_freed, take_won, won_own}
 use Rattle.sl_due_law.proofs.Ways.Lawful.ClearReads.{given_long, no_other_torn}
 use Rattle.sl_due_law.proofs.Ways.NewestCall.{block_is, block_is_no_leader, ended_before, freed_held, freed_passed, leader_is, leader_is_no_block, lver_is, read_writes_no_block, submitted_passed}
 use Rattle.sl_due_law.proofs.Ways.NextsFit.WritesFit.{no_phase2, stays_closed}
 use Rattle.sl_due_law.proofs.Ways.WayNumbers.{ended_below, lver_of, own_lver}
 use Rattle.sl_due_law.proofs.Ways.WayStages.{asked2_own, begun1, begun1_own, is_at_in, prior_at, prior_inside, proposed, proposed_lver, proposed_mbal, read1, rest1, rest2, rest_inside, step_way, way_behind, ways_behind, write2}
-use Rattle.sl_leases.specs.Ballots.{moded_block, stop_of}
-use Rattle.sl_leases.specs.Jobs.{aim_of, aim_of_command, command_numbered}
-use Rattle.sl_leases.specs.LeaseWork.{looks_for_shared}
-use Rattle.sl_leases.specs.Leases.{Area_read, Phase1_read, Phase1_write, Phase2_read, Phase2_write, block_submitted, block_written, blocks_given, ended_ballots, freed, freed_by, is_area_read, is_at, is_block_read, is_free_write, leader_written, lease_calls, lease_step, lver_written, open_ballot, spot_of_call}
-use Rattle.sl_leases.specs.declared.lease.Aim.TheVariants.{Acquires, Converts, Releases, Settles}
-use Rattle.sl_leases.specs.declared.lease.Aim.{Aim}
+use Rattle.sl_trace.specs.Ballots.{moded_block, stop_of}
+use Rattle.sl_trace.specs.Jobs.{aim_of, aim_of_command, command_numbered}
+use Rattle.sl_trace.specs.LeaseWork.{looks_for_shared}
+use Rattle.sl_trace.specs.Leases.{Area_read, Phase1_read, Phase1_write, Phase2_read, Phase2_write, block_submitted, block_written, blocks_given, ended_ballots, freed, freed_by, is_area_read, is_at, is_block_read, is_free_write, leader_written, lease_calls, lease_step, lver_written, open_ballot, spot_of_call}
+use Rattle.sl_trace.specs.declared.lease.Aim.TheVariants.{Acquires, Converts, Releases, Settles}
+use Rattle.sl_trace.specs.declared.lease.Aim.{Aim}
 use Rattle.sl_sector.specs.declared.sector.Block.{Block}
 use Rattle.sl_sector.specs.declared.sector.Leader.{Leader}
 use Rattle.sl_sector.specs.declared.sector.Owner.{Owner}
-use Rattle.sl_sessions.specs.Sessions.{generation_of, me, sessions}
-use Rattle.sl_sessions.specs.declared.session.Session.{Session}
+use Rattle.sl_trace.specs.Sessions.{generation_of, me, sessions}
+use Rattle.sl_trace.specs.declared.session.Session.{Session}
 use Rattle.sl_due_law.specs.Facts.GrantGrounds.{FreedForJob, GrantGrounds, IsDoneWork, ModedForJob}
 use Rattle.sl_due_law.specs.Facts.Heard.{IsOpen}
 use Rattle.sl_due_law.specs.Facts.HoldingFacts.{StandsExclusive, is_ballot_call}

@@ -5,12 +5,12 @@ use Rattle.sl_due_law.proofs.Ways.NextsFit.SettlingsFit.{refusal_is, settling_is
 use Rattle.sl_due_law.proofs.Ways.NextsFit.WritesFit.{before_free_is, clearing_is, freeing_is, moding_is, take_is}
 use Rattle.sl_due_law.specs.Ways.Nexts.{IsHeard, Moment, NextIs, calls_at, context_at, known_at, place_at}
 use Rattle.sl_due_law.specs.Ways.Promises.{AnswersFit, ConversionsFit, ReleasesFit, SettlingsFit}
-use Rattle.sl_leases.specs.Ballots.{moded_block}
-use Rattle.sl_leases.specs.LeaseWork.{lease_next}
-use Rattle.sl_leases.specs.Leases.{block_submitted, known, lver_written}
-use Rattle.sl_leases.specs.declared.lease.Aim.TheVariants.{Converts}
-use Rattle.sl_leases.specs.declared.lease.Aim.{Aim}
-use Rattle.sl_leases.specs.declared.lease.LeaseNext.TheVariants.{Nothing, WriteBlock}
+use Rattle.sl_trace.specs.Ballots.{moded_block}
+use Rattle.sl_trace.specs.LeaseWork.{lease_next}
+use Rattle.sl_trace.specs.Leases.{block_submitted, known, lver_written}
+use Rattle.sl_trace.specs.declared.lease.Aim.TheVariants.{Converts}
+use Rattle.sl_trace.specs.declared.lease.Aim.{Aim}
+use Rattle.sl_trace.specs.declared.lease.LeaseNext.TheVariants.{Nothing, WriteBlock}
 use Rattle.sl_sector.specs.declared.sector.Block.{Block}
 use Rattle.sl_due_law.specs.Facts.WayFacts.{In_conversion, In_release}
 use Rattle.sl_trace.specs.declared.effects.LeaseStep.TheVariants.{ClearMode, FreeLeader, Phase1Read, Phase1Write, Phase2Read, Phase2Write, ReadArea, ReadBeforeFree, SetMode, TakeLeader}

@@ -1,18 +1,18 @@
 -- What is decided after a read of the area fits.
 use Rattle.sl_area.specs.Places.{area_blocks, leader_of}
-use Rattle.sl_law.specs.LawfulBlock.{AreaRead}
+use Rattle.sl_run.specs.LawfulBlock.{AreaRead}
 use Rattle.sl_due_law.proofs.Ways.Decoding.{leader_read}
 use Rattle.sl_due_law.proofs.Ways.Lawful.BallotsBegin.{MayBegin, begins_after_read, none_torn}
 use Rattle.sl_due_law.proofs.Ways.NextsFit.SettlingsFit.{begin_is}
 use Rattle.sl_due_law.proofs.Ways.WayStages.{is_at_in}
 use Rattle.sl_due_law.specs.Ways.Nexts.{IsHeard, Moment, NextIs, calls_at, context_at, known_at, place_at}
-use Rattle.sl_leases.specs.LeaseWork.{area_next, begin_or_refuse, named_area_next, whole_area_next}
-use Rattle.sl_leases.specs.Leases.{Area_read, Read_before_free, instance_for, is_area_read, is_leader_of, known, name_sought, own_block, verified_by}
-use Rattle.sl_leases.specs.declared.lease.Aim.{Aim}
-use Rattle.sl_leases.specs.declared.lease.Instance.TheVariants.{Begins, HeldAlready}
-use Rattle.sl_leases.specs.declared.lease.Instance.{Instance}
-use Rattle.sl_leases.specs.declared.lease.LeaseNext.TheVariants.{AnswerJob, Nothing}
-use Rattle.sl_leases.specs.declared.lease.LeaseNext.{LeaseNext}
+use Rattle.sl_trace.specs.LeaseWork.{area_next, begin_or_refuse, named_area_next, whole_area_next}
+use Rattle.sl_trace.specs.Leases.{Area_read, Read_before_free, instance_for, is_area_read, is_leader_of, known, name_sought, own_block, verified_by}
+use Rattle.sl_trace.specs.declared.lease.Aim.{Aim}
+use Rattle.sl_trace.specs.declared.lease.Instance.TheVariants.{Begins, HeldAlready}
+use Rattle.sl_trace.specs.declared.lease.Instance.{Instance}
+use Rattle.sl_trace.specs.declared.lease.LeaseNext.TheVariants.{AnswerJob, Nothing}
+use Rattle.sl_trace.specs.declared.lease.LeaseNext.{LeaseNext}
 use Rattle.sl_sector.specs.declared.sector.Block.{Block}
 use Rattle.sl_sector.specs.declared.sector.Leader.{Leader}
 use Rattle.sl_due_law.specs.Facts.WayFacts.{IsVerified}

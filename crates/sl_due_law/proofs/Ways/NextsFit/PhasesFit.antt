@@ -8,19 +8,19 @@ use Rattle.sl_due_law.proofs.Ways.NextsFit.SettlingsFit.{begin_is, settling_is}
 use Rattle.sl_due_law.proofs.Ways.WayNumbers.{ended_concludes, is_verified}
 use Rattle.sl_due_law.proofs.Ways.WayStages.{is_at_in, step_way}
 use Rattle.sl_due_law.specs.Ways.Nexts.{IsHeard, Moment, NextIs, calls_at, context_at, known_at, place_at}
-use Rattle.sl_leases.specs.Ballots.{is_ahead, phase2_block, same_owner, stop_of, value_of}
-use Rattle.sl_leases.specs.LeaseWork.{after_phase1, after_phase2, begin_next, leader_for, looks_for_shared, lost_next, phase2_next, settle_next, stop_reply, stopped_next, won_next}
-use Rattle.sl_leases.specs.Leases.{Area_read, Phase1_read, Phase2_read, Read_before_free, block_submitted, block_written, blocks_given, ended_ballot, ended_ballots, is_shared_by_other, known, mode_gen_of, open_ballot, shared_elsewhere, value_in_end}
-use Rattle.sl_leases.specs.declared.lease.Aim.TheVariants.{Acquires, Converts, Releases, Settles}
-use Rattle.sl_leases.specs.declared.lease.Aim.{Aim}
-use Rattle.sl_leases.specs.declared.lease.LeaseNext.TheVariants.{AnswerJob, Nothing}
-use Rattle.sl_leases.specs.declared.lease.LeaseNext.{LeaseNext}
-use Rattle.sl_leases.specs.declared.lease.Stop.TheVariants.{BlockAhead, BlockRival, BlockTorn}
-use Rattle.sl_leases.specs.declared.lease.Stop.{Stop}
+use Rattle.sl_trace.specs.Ballots.{is_ahead, phase2_block, same_owner, stop_of, value_of}
+use Rattle.sl_trace.specs.LeaseWork.{after_phase1, after_phase2, begin_next, leader_for, looks_for_shared, lost_next, phase2_next, settle_next, stop_reply, stopped_next, won_next}
+use Rattle.sl_trace.specs.Leases.{Area_read, Phase1_read, Phase2_read, Read_before_free, block_submitted, block_written, blocks_given, ended_ballot, ended_ballots, is_shared_by_other, known, mode_gen_of, open_ballot, shared_elsewhere, value_in_end}
+use Rattle.sl_trace.specs.declared.lease.Aim.TheVariants.{Acquires, Converts, Releases, Settles}
+use Rattle.sl_trace.specs.declared.lease.Aim.{Aim}
+use Rattle.sl_trace.specs.declared.lease.LeaseNext.TheVariants.{AnswerJob, Nothing}
+use Rattle.sl_trace.specs.declared.lease.LeaseNext.{LeaseNext}
+use Rattle.sl_trace.specs.declared.lease.Stop.TheVariants.{BlockAhead, BlockRival, BlockTorn}
+use Rattle.sl_trace.specs.declared.lease.Stop.{Stop}
 use Rattle.sl_sector.specs.declared.sector.Block.{Block}
 use Rattle.sl_sector.specs.declared.sector.Owner.{Owner}
-use Rattle.sl_sessions.specs.Sessions.{me}
-use Rattle.sl_sessions.specs.Watching.{counts_over}
+use Rattle.sl_trace.specs.Sessions.{me}
+use Rattle.sl_trace.specs.Watching.{counts_over}
 use Rattle.sl_due_law.specs.Facts.WayFacts.{Comes, In_settling, IsHeededBy, IsWrittenBy, NoOtherShared, Phase1ReadWay, Phase2ReadWay, StepWay, Ways}
 use Rattle.sl_trace.specs.Traces.{Answered, Submitted, gave, is_heeded}
 use Rattle.sl_trace.specs.declared.effects.LeaseStep.TheVariants.{Phase1Read, Phase2Read}

@@ -2,15 +2,15 @@
 use Rattle.sl_due_law.proofs.Ways.Lawful.BallotsBegin.{MayBegin, begins_again, phase1_is_lawful}
 use Rattle.sl_due_law.proofs.Ways.WayNumbers.{IsOpened, is_opened, is_verified}
 use Rattle.sl_due_law.specs.Ways.Nexts.{Moment, NextIs, calls_at, context_at, known_at, place_at}
-use Rattle.sl_leases.specs.Ballots.{moded_block, phase1_block}
-use Rattle.sl_leases.specs.LeaseWork.{begin_next, phase1_next, refuses, settle_next, settle_owed}
-use Rattle.sl_leases.specs.Leases.{block_submitted, known, last_blocks, mode_gen_of, open_ballot, owed_free}
-use Rattle.sl_leases.specs.declared.lease.Aim.TheVariants.{Acquires, Converts, Releases, Settles}
-use Rattle.sl_leases.specs.declared.lease.Aim.{Aim}
-use Rattle.sl_leases.specs.declared.lease.LeaseNext.TheVariants.{Nothing, WriteBlock}
-use Rattle.sl_leases.specs.declared.lease.LeaseNext.{LeaseNext}
-use Rattle.sl_leases.specs.declared.lease.Owed.TheVariants.{BallotOwed, FreeOwed, ModeOwed}
-use Rattle.sl_leases.specs.declared.lease.Owed.{Owed}
+use Rattle.sl_trace.specs.Ballots.{moded_block, phase1_block}
+use Rattle.sl_trace.specs.LeaseWork.{begin_next, phase1_next, refuses, settle_next, settle_owed}
+use Rattle.sl_trace.specs.Leases.{block_submitted, known, last_blocks, mode_gen_of, open_ballot, owed_free}
+use Rattle.sl_trace.specs.declared.lease.Aim.TheVariants.{Acquires, Converts, Releases, Settles}
+use Rattle.sl_trace.specs.declared.lease.Aim.{Aim}
+use Rattle.sl_trace.specs.declared.lease.LeaseNext.TheVariants.{Nothing, WriteBlock}
+use Rattle.sl_trace.specs.declared.lease.LeaseNext.{LeaseNext}
+use Rattle.sl_trace.specs.declared.lease.Owed.TheVariants.{BallotOwed, FreeOwed, ModeOwed}
+use Rattle.sl_trace.specs.declared.lease.Owed.{Owed}
 use Rattle.sl_sector.specs.declared.sector.Block.{Block}
 use Rattle.sl_due_law.specs.Facts.WayFacts.{IsVerified, Ways}
 use Rattle.sl_trace.specs.Traces.{is_before_input}

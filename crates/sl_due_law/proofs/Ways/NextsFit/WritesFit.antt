@@ -6,12 +6,12 @@ use Rattle.sl_due_law.proofs.Ways.NextsFit.PhasesFit.{heard_comes, heard_done, h
 use Rattle.sl_due_law.proofs.Ways.NextsFit.SettlingsFit.{settling_is}
 use Rattle.sl_due_law.proofs.Ways.WayStages.{asked2_own, is_at_in, rest_behind, way_behind}
 use Rattle.sl_due_law.specs.Ways.Nexts.{IsHeard, Moment, NextIs, calls_at, context_at, known_at, place_at}
-use Rattle.sl_leases.specs.Ballots.{moded_block, same_owner}
-use Rattle.sl_leases.specs.LeaseWork.{after_clearing, after_freeing, after_moding, after_take, leader_for}
-use Rattle.sl_leases.specs.Leases.{Phase2_write, block_submitted, block_written, concludes, ended_ballot, ended_ballots, exclusive_on, free_left, is_at, known, leader_written, lver_written, open_ballot, owed_free, settles_free, won_by}
-use Rattle.sl_leases.specs.declared.lease.Aim.TheVariants.{Acquires, Converts, Releases, Settles}
-use Rattle.sl_leases.specs.declared.lease.Aim.{Aim}
-use Rattle.sl_leases.specs.declared.lease.LeaseNext.TheVariants.{BecomeExclusive, BecomeShared, Nothing, WriteBlock, WriteLeader}
+use Rattle.sl_trace.specs.Ballots.{moded_block, same_owner}
+use Rattle.sl_trace.specs.LeaseWork.{after_clearing, after_freeing, after_moding, after_take, leader_for}
+use Rattle.sl_trace.specs.Leases.{Phase2_write, block_submitted, block_written, concludes, ended_ballot, ended_ballots, exclusive_on, free_left, is_at, known, leader_written, lver_written, open_ballot, owed_free, settles_free, won_by}
+use Rattle.sl_trace.specs.declared.lease.Aim.TheVariants.{Acquires, Converts, Releases, Settles}
+use Rattle.sl_trace.specs.declared.lease.Aim.{Aim}
+use Rattle.sl_trace.specs.declared.lease.LeaseNext.TheVariants.{BecomeExclusive, BecomeShared, Nothing, WriteBlock, WriteLeader}
 use Rattle.sl_sector.specs.declared.sector.Block.{Block}
 use Rattle.sl_sector.specs.declared.sector.Owner.{Owner}
 use Rattle.sl_due_law.specs.Facts.WayFacts.{After_mode, After_take, In_conversion, In_settling, ModeReason, ModeWay, ReadBeforeWay, TakeWay, WayContext, Ways}

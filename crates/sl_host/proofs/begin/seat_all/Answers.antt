@@ -1,6 +1,6 @@
 use Rattle.sl_host_state.specs.Makes.{with_member}
 use Rattle.sl_member.specs.Members.{blank_member}
-use Rattle.sl_sessions.specs.Sessions.{given_session}
+use Rattle.sl_trace.specs.Sessions.{given_session}
 use Rattle.sl_host.proofs.BeginningStand.{said_at, seated_more}
 use Rattle.sl_host.proofs.begin.seat_all.Goals as goal
 use Rattle.sl_host.specs.Beginning.{MayBeGiven}

@@ -1,5 +1,5 @@
 use Rattle.sl_host_state.specs.Kept.{MemberState}
-use Rattle.sl_sessions.specs.declared.session.Session.{Session}
+use Rattle.sl_trace.specs.declared.session.Session.{Session}
 use Rattle.sl_host.proofs.Scanning.{find_here, find_more, find_none}
 use Rattle.sl_host.proofs.telling.over_number.Goals as goal
 use Rattle.sl_host.specs.Hearing.{is_over_in}

@@ -1,9 +1,9 @@
 use Rattle.sl_host_answers.proofs.leases.member_next_read.Goals as goal
 use Rattle.sl_host_law.specs.Steps.Leases.{answered_next}
 use Rattle.sl_host_work.specs.Placed.{IsPlaced}
-use Rattle.sl_leases.specs.declared.lease.Aim.{Aim}
-use Rattle.sl_leases.specs.declared.lease.LeaseNext.{LeaseNext}
-use Rattle.sl_sessions.specs.declared.session.Session.{Session}
+use Rattle.sl_trace.specs.declared.lease.Aim.{Aim}
+use Rattle.sl_trace.specs.declared.lease.LeaseNext.{LeaseNext}
+use Rattle.sl_trace.specs.declared.session.Session.{Session}
 use Rattle.sl_trace.specs.declared.input.Answer.TheVariants.{Read}
 use Rattle.sl_host.specs.Asking.{state_in}
 use Rattle.std.proofs.Common.{ap, refl, subst, sym, ◌∙◌}

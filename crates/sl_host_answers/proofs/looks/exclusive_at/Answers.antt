@@ -1,6 +1,6 @@
 use Rattle.sl_host_answers.proofs.looks.exclusive_at.Goals as goal
 use Rattle.sl_host_answers.specs.Looks.{exclusive_under}
-use Rattle.sl_sessions.specs.declared.session.Session.{Session}
+use Rattle.sl_trace.specs.declared.session.Session.{Session}
 use Rattle.std.proofs.Common.{ap, ◌∙◌}
 
 pub returns : goal.returns

@@ -1,7 +1,7 @@
 use Rattle.sl_host_answers.proofs.OwnStand.{ending_by, ends}
 use Rattle.sl_host_answers.proofs.own.end_leaving.Goals as goal
 use Rattle.sl_host_state.specs.Kept.{state_of}
-use Rattle.sl_sessions.specs.declared.delta.DeltaNext.TheVariants.{EndLeaving}
+use Rattle.sl_trace.specs.declared.delta.DeltaNext.TheVariants.{EndLeaving}
 use Rattle.std.proofs.Common.{ap, ◌∙◌}
 
 pub returns-in-Some-clause-state : goal.returns-in-Some-clause-state

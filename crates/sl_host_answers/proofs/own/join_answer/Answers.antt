@@ -2,8 +2,8 @@ use Rattle.sl_delta.specs.Own.{answer_in}
 use Rattle.sl_host_answers.proofs.OwnStand.{joins_next}
 use Rattle.sl_host_answers.proofs.own.join_answer.Goals as goal
 use Rattle.sl_host_answers.specs.declared.own.JoinAnswer.{JoinAnswer}
-use Rattle.sl_sessions.specs.declared.delta.DeltaNext.{DeltaNext}
-use Rattle.sl_sessions.specs.declared.session.Session.{Session}
+use Rattle.sl_trace.specs.declared.delta.DeltaNext.{DeltaNext}
+use Rattle.sl_trace.specs.declared.session.Session.{Session}
 use Rattle.std.specs.Prelude.{Bool}
 
 pub returns-clause-exact : goal.returns-clause-exact

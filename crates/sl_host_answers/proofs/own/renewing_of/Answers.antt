@@ -1,7 +1,7 @@
 use Rattle.sl_host_answers.proofs.own.renewing_of.Goals as goal
 use Rattle.sl_host_work.specs.Placed.{IsPlaced}
 use Rattle.sl_member.specs.Together.{member_with}
-use Rattle.sl_sessions.specs.declared.session.Session.{Session}
+use Rattle.sl_trace.specs.declared.session.Session.{Session}
 use Rattle.std.proofs.Common.{ap, subst, sym, ◌∙◌}
 
 pub returns-in-Some-clause-placed : goal.returns-in-Some-clause-placed

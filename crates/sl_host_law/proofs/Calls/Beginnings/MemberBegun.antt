@@ -4,11 +4,11 @@ use Rattle.sl_host_law.proofs.Calls.Calls.KnownMore.{known_by}
 use Rattle.sl_host_state.specs.Hears.{beginning, counted, is_late, member_begun, with_renewing}
 use Rattle.sl_host_state.specs.Kept.{Config, HostState, MemberState}
 use Rattle.sl_host_state.specs.Stands.{Keeps, MemberStands}
-use Rattle.sl_sessions.specs.Deltas.{delta_known}
-use Rattle.sl_sessions.specs.Sessions.{calls_of, leaving_job, recovers, renewing, renewing_after}
-use Rattle.sl_sessions.specs.declared.delta.DeltaKnown.{DeltaKnown}
-use Rattle.sl_sessions.specs.declared.session.Begun.{Begun}
-use Rattle.sl_sessions.specs.declared.session.Renewing.{Renewing}
+use Rattle.sl_trace.specs.Deltas.{delta_known}
+use Rattle.sl_trace.specs.Sessions.{calls_of, leaving_job, recovers, renewing, renewing_after}
+use Rattle.sl_trace.specs.declared.delta.DeltaKnown.{DeltaKnown}
+use Rattle.sl_trace.specs.declared.session.Begun.{Begun}
+use Rattle.sl_trace.specs.declared.session.Renewing.{Renewing}
 use Rattle.sl_time.specs.Times.{TimingNumbers, fail}
 use Rattle.sl_trace.specs.Traces.{Job, Setting, Trace}
 use Rattle.std.proofs.Common.{ap, arith, refl, sym, ◌∙◌}

@@ -11,10 +11,10 @@ use Rattle.sl_host_state.specs.Hears.{beginning, counted, with_renewing}
 use Rattle.sl_host_state.specs.Kept.{Config, HostState, MemberState}
 use Rattle.sl_host_state.specs.Stands.{HostStands, MemberStands, job_moments, kept_job, kept_waiting, kill_moment, recovery_moment}
 use Rattle.sl_plain.proofs.Lists.{contains_first, contains_map, contains_more, in_map}
-use Rattle.sl_sessions.specs.Sessions.{is_joined, leaving_of, present_sessions, recovers, recovery_of, renewed_by, renewing, shows_other}
-use Rattle.sl_sessions.specs.declared.session.Begun.{Begun}
-use Rattle.sl_sessions.specs.declared.session.Renewing.{Renewing}
-use Rattle.sl_sessions.specs.declared.session.Session.{Session}
+use Rattle.sl_trace.specs.Sessions.{is_joined, leaving_of, present_sessions, recovers, recovery_of, renewed_by, renewing, shows_other}
+use Rattle.sl_trace.specs.declared.session.Begun.{Begun}
+use Rattle.sl_trace.specs.declared.session.Renewing.{Renewing}
+use Rattle.sl_trace.specs.declared.session.Session.{Session}
 use Rattle.sl_time.specs.Times.{fail}
 use Rattle.sl_trace.specs.Traces.{Job, Setting, Submitted, Trace, last_reading, running_jobs, waiting_call}
 use Rattle.sl_trace.specs.declared.effects.Signal.TheVariants.{Kill}

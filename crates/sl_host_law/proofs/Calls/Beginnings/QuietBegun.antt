@@ -8,7 +8,7 @@ use Rattle.sl_host_state.specs.Makes.{lowered}
 use Rattle.sl_host_state.specs.Stands.{IsQuiet, kill_moment, member_moments, recovery_moment}
 use Rattle.sl_plain.proofs.Lists.{any_found, any_of, contains_cases, contains_first, contains_more, contains_none, in_map}
 use Rattle.sl_plain.proofs.Numbers.{equal_is_most, trans_le}
-use Rattle.sl_sessions.specs.declared.session.Begun.{Begun}
+use Rattle.sl_trace.specs.declared.session.Begun.{Begun}
 use Rattle.sl_time.specs.Times.{fail}
 use Rattle.sl_words.proofs.CaseLaws.{false_is_true, is_false, true_is_false}
 use Rattle.sl_words.proofs.WordLaws.{and_true}

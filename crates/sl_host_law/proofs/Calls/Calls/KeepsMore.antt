@@ -6,10 +6,10 @@ use Rattle.sl_host_state.specs.Makes.{calling, job_calling}
 use Rattle.sl_host_state.specs.Stands.{AreSingle, Keeps, MemberStands, is_kept_of, kept_call, kept_job, kept_waiting}
 use Rattle.sl_host_state.specs.declared.kept.JobState.{JobState}
 use Rattle.sl_host_state.specs.declared.kept.OpenCall.{OpenCall}
-use Rattle.sl_leases.specs.Jobs.{child_of_job, command_of}
+use Rattle.sl_trace.specs.Jobs.{child_of_job, command_of}
 use Rattle.sl_due.specs.Steps.{Step, seen}
 use Rattle.sl_plain.proofs.Numbers.{number_turned}
-use Rattle.sl_sessions.specs.Sessions.{present_sessions, sessions}
+use Rattle.sl_trace.specs.Sessions.{present_sessions, sessions}
 use Rattle.sl_trace.specs.Traces.{Job, Submitted, Trace, children, is_of_job, job_numbered, job_of, next_call, running_jobs, submitted, unanswered}
 use Rattle.sl_trace.specs.declared.effects.Call.{Call}
 use Rattle.sl_words.proofs.CaseLaws.{true_is_false}

@@ -7,11 +7,11 @@ use Rattle.sl_host_state.specs.Makes.{joining_calling, known_calling}
 use Rattle.sl_host_state.specs.Stands.{AreInTurn, JoinStands}
 use Rattle.sl_plain.proofs.Lists.{kept, kept_inside}
 use Rattle.sl_sector.specs.declared.sector.DeltaRec.{DeltaRec}
-use Rattle.sl_sessions.specs.Sessions.{delta_written, free_write, generation_in, given_number, is_delta_purpose, is_free_purpose, is_join_call, is_renewal, is_survey_purpose, join_call, last_delta, renewal_in, seq_in}
-use Rattle.sl_sessions.specs.Watching.{sightings}
-use Rattle.sl_sessions.specs.declared.delta.DeltaKnown.{DeltaKnown}
-use Rattle.sl_sessions.specs.declared.session.Session.{Session}
-use Rattle.sl_sessions.specs.declared.sighting.Sighting.{Sighting}
+use Rattle.sl_trace.specs.Sessions.{delta_written, free_write, generation_in, given_number, is_delta_purpose, is_free_purpose, is_join_call, is_renewal, is_survey_purpose, join_call, last_delta, renewal_in, seq_in}
+use Rattle.sl_trace.specs.Watching.{sightings}
+use Rattle.sl_trace.specs.declared.delta.DeltaKnown.{DeltaKnown}
+use Rattle.sl_trace.specs.declared.session.Session.{Session}
+use Rattle.sl_trace.specs.declared.sighting.Sighting.{Sighting}
 use Rattle.sl_trace.specs.Traces.{Answered, Setting, Submitted, gave, new_call, unanswered}
 use Rattle.sl_trace.specs.declared.effects.Call.{Call}
 use Rattle.sl_trace.specs.declared.effects.JoinStep.TheVariants.{ClaimWrite, FirstRead}

@@ -4,7 +4,7 @@ use Rattle.sl_host_state.specs.Kept.{LeaseState}
 use Rattle.sl_host_state.specs.declared.kept.TopNumber.{TopNumber}
 use Rattle.sl_host_state.specs.Makes.{ballot_calling, kept_lease_call, lease_calling}
 use Rattle.sl_host_state.specs.Stands.{IsWaiting, LeaseStands, free_written}
-use Rattle.sl_leases.specs.Leases.{Phase2_write, Read_before_free, ballot_after, block_submitted, block_written, free_left, freed_by, is_at, is_free_write, is_lease_call, lease_step, may_show_shared, name_sought, open_ballot, settles_free, verified_name}
+use Rattle.sl_trace.specs.Leases.{Phase2_write, Read_before_free, ballot_after, block_submitted, block_written, free_left, freed_by, is_at, is_free_write, is_lease_call, lease_step, may_show_shared, name_sought, open_ballot, settles_free, verified_name}
 use Rattle.sl_sector.specs.declared.sector.Block.{Block}
 use Rattle.sl_sector.specs.declared.sector.Owner.{Owner}
 use Rattle.sl_trace.specs.Traces.{Submitted, new_call}

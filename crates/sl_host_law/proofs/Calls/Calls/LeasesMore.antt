@@ -11,7 +11,7 @@ use Rattle.sl_host_state.specs.Kept.{LeaseState, MemberState}
 use Rattle.sl_host_state.specs.Makes.{is_lease_on, lease_calling, leases_calling, leases_working, new_lease, value_calling}
 use Rattle.sl_host_state.specs.Stands.{LeaseStands, pair_of}
 use Rattle.sl_host_state.specs.declared.kept.TopNumber.{TopNumber}
-use Rattle.sl_leases.specs.Leases.{Phase2_write, block_written, is_at, is_lease_call, is_on, is_spot_before, spot_of_call, spots_in, value_written}
+use Rattle.sl_trace.specs.Leases.{Phase2_write, block_written, is_at, is_lease_call, is_on, is_spot_before, spot_of_call, spots_in, value_written}
 use Rattle.sl_plain.proofs.Lists.{contains_map, in_map}
 use Rattle.sl_sector.specs.declared.sector.Block.{Block}
 use Rattle.sl_sector.specs.declared.sector.Owner.{Owner}

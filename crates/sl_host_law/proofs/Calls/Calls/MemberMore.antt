@@ -11,14 +11,14 @@ use Rattle.sl_host_state.specs.Kept.{LeaseState, MemberState}
 use Rattle.sl_host_state.specs.Makes.{joining_calling, known_calling, leases_calling}
 use Rattle.sl_host_state.proofs.Seeing.{askings_stay, looks_stay}
 use Rattle.sl_host_state.specs.Stands.{AreInTurn, AskedStands, JoinStands, LeaseStands, MemberStands, WatchKeeps, newest_value}
-use Rattle.sl_leases.specs.Counts.{values_on}
-use Rattle.sl_leases.specs.Leases.{spots_in}
+use Rattle.sl_trace.specs.Counts.{values_on}
+use Rattle.sl_trace.specs.Leases.{spots_in}
 use Rattle.sl_plain.proofs.Lists.{contains_none, got_inside}
 use Rattle.sl_sector.specs.declared.sector.DeltaRec.{DeltaRec}
 use Rattle.sl_sector.specs.declared.sector.Owner.{Owner}
-use Rattle.sl_sessions.specs.Sessions.{calls_of, delta_written, generation_in, given_number, is_call_of, is_delta_purpose, last_delta, leaving_job, recovery_of}
-use Rattle.sl_sessions.specs.declared.delta.DeltaKnown.{DeltaKnown}
-use Rattle.sl_sessions.specs.declared.session.Session.{Session}
+use Rattle.sl_trace.specs.Sessions.{calls_of, delta_written, generation_in, given_number, is_call_of, is_delta_purpose, last_delta, leaving_job, recovery_of}
+use Rattle.sl_trace.specs.declared.delta.DeltaKnown.{DeltaKnown}
+use Rattle.sl_trace.specs.declared.session.Session.{Session}
 use Rattle.sl_trace.proofs.TraceFacts.{submitted-push}
 use Rattle.sl_trace.specs.Traces.{Submitted, new_call, submitted, unanswered}
 use Rattle.sl_trace.specs.declared.effects.Call.{Call}

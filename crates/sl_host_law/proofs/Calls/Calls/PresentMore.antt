@@ -3,8 +3,8 @@ use Rattle.sl_host_law.proofs.Calls.Calls.MemberMore.{more, others_stay, own_mor
 use Rattle.sl_due.specs.Steps.{Step, seen}
 use Rattle.sl_host_law.proofs.Plain.PlainLists.{filter_where}
 use Rattle.sl_host_law.proofs.Plain.SessionNumbers.{found_by_number}
-use Rattle.sl_sessions.specs.Sessions.{added_by, calls_of, ended_after, is_join_call, is_present, joined_after, joining_session, present_sessions, session_numbered, sessions}
-use Rattle.sl_sessions.specs.declared.session.Session.{Session}
+use Rattle.sl_trace.specs.Sessions.{added_by, calls_of, ended_after, is_join_call, is_present, joined_after, joining_session, present_sessions, session_numbered, sessions}
+use Rattle.sl_trace.specs.declared.session.Session.{Session}
 use Rattle.sl_trace.specs.Traces.{Submitted, is_write, next_job, unanswered}
 use Rattle.sl_trace.specs.declared.effects.Call.{Call}
 use Rattle.sl_trace.specs.declared.effects.JoinStep.TheVariants.{FirstRead}

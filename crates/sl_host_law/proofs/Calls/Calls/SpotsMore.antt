@@ -5,7 +5,7 @@ use Rattle.sl_host_law.proofs.Plain.PlainOrders.{put_first, put_inside, put_mapp
 use Rattle.sl_host_state.specs.Kept.{LeaseState}
 use Rattle.sl_host_state.specs.Makes.{is_lease_on, lease_calling, leases_calling, leases_working, new_lease, value_calling}
 use Rattle.sl_host_state.specs.Stands.{pair_of}
-use Rattle.sl_leases.specs.Leases.{is_lease_call, is_on, is_spot_before, spot_of_call, spots_in, value_written, with_spot}
+use Rattle.sl_trace.specs.Leases.{is_lease_call, is_on, is_spot_before, spot_of_call, spots_in, value_written, with_spot}
 use Rattle.sl_plain.proofs.Lists.{any_found, any_of, contains_cases, contains_first, contains_map, contains_more, contains_none}
 use Rattle.sl_trace.specs.Traces.{Submitted, same_spot}
 use Rattle.sl_trace.specs.declared.effects.Spot.{Spot}

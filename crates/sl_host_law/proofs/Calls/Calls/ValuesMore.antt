@@ -7,8 +7,8 @@ use Rattle.sl_host_law.proofs.Plain.PlainOrders.{put_inside}
 use Rattle.sl_host_state.specs.Kept.{LeaseState, MemberState}
 use Rattle.sl_host_state.specs.Makes.{is_lease_on, lease_calling, leases_calling, leases_working, new_lease, value_calling}
 use Rattle.sl_host_state.specs.Stands.{newest_value, pair_of}
-use Rattle.sl_leases.specs.Counts.{values_on}
-use Rattle.sl_leases.specs.Leases.{is_lease_call, is_on, is_spot_before, spot_of_call, spots_in, value_written}
+use Rattle.sl_trace.specs.Counts.{values_on}
+use Rattle.sl_trace.specs.Leases.{is_lease_call, is_on, is_spot_before, spot_of_call, spots_in, value_written}
 use Rattle.sl_plain.proofs.Lists.{any_found, any_of, contains_first, contains_more, in_map, kept_inside}
 use Rattle.sl_sector.specs.declared.sector.ValueRec.{ValueRec}
 use Rattle.sl_trace.specs.Traces.{Submitted, new_call, same_spot}

@@ -8,15 +8,15 @@ use Rattle.sl_host_law.proofs.Plain.PlainLists.{all_as}
 use Rattle.sl_host_state.specs.Kept.{HostState, MemberState}
 use Rattle.sl_host_state.specs.Stands.{AreInTurn, AskedStands, JoinStands, Keeps, LeaseStands, MemberStands, WatchKeeps, is_there, kept_call, kept_job, newest_value}
 use Rattle.sl_host_state.specs.declared.kept.JobState.{JobState}
-use Rattle.sl_leases.specs.Counts.{values_on}
-use Rattle.sl_leases.specs.Leases.{spots_in}
+use Rattle.sl_trace.specs.Counts.{values_on}
+use Rattle.sl_trace.specs.Leases.{spots_in}
 use Rattle.sl_plain.proofs.Numbers.{trans_le}
-use Rattle.sl_sessions.specs.Deltas.{delta_known}
-use Rattle.sl_sessions.specs.Sessions.{calls_of, ended_after, is_call_of, is_delta_purpose, joined_after, leaving_job, leaving_of, recovery_of, renewing, sessions}
-use Rattle.sl_sessions.specs.declared.delta.DeltaKnown.{DeltaKnown}
-use Rattle.sl_sessions.specs.declared.session.Begun.{Begun}
-use Rattle.sl_sessions.specs.declared.session.Renewing.{Renewing}
-use Rattle.sl_sessions.specs.declared.session.Session.{Session}
+use Rattle.sl_trace.specs.Deltas.{delta_known}
+use Rattle.sl_trace.specs.Sessions.{calls_of, ended_after, is_call_of, is_delta_purpose, joined_after, leaving_job, leaving_of, recovery_of, renewing, sessions}
+use Rattle.sl_trace.specs.declared.delta.DeltaKnown.{DeltaKnown}
+use Rattle.sl_trace.specs.declared.session.Begun.{Begun}
+use Rattle.sl_trace.specs.declared.session.Renewing.{Renewing}
+use Rattle.sl_trace.specs.declared.session.Session.{Session}
 use Rattle.sl_trace.specs.Traces.{Child, Job, KillProgram, Setting, Submitted, Trace, children, first_child, is_write, job_numbered, job_of, kill_programs, next_job, running_jobs, submitted, unanswered}
 use Rattle.sl_trace.specs.declared.effects.Effects.{Effects}
 use Rattle.sl_trace.specs.declared.effects.Entry.{Entry}

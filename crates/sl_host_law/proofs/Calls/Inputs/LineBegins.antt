@@ -5,10 +5,10 @@ use Rattle.sl_host_state.specs.Hears.{leaves_member, member_leaving}
 use Rattle.sl_host_state.specs.Kept.{HostState, MemberState}
 use Rattle.sl_host_state.specs.Stands.{Keeps, MemberStands}
 use Rattle.sl_plain.proofs.Lists.{find_inside}
-use Rattle.sl_sessions.specs.Sessions.{has_open_write, is_join_done, is_joined, is_present, joined_after, leaves, leaving_job, refused_after, removed_after}
-use Rattle.sl_sessions.specs.declared.delta.DeltaKnown.{DeltaKnown}
-use Rattle.sl_sessions.specs.declared.session.Begun.{Begun}
-use Rattle.sl_sessions.specs.declared.session.Session.{Session}
+use Rattle.sl_trace.specs.Sessions.{has_open_write, is_join_done, is_joined, is_present, joined_after, leaves, leaving_job, refused_after, removed_after}
+use Rattle.sl_trace.specs.declared.delta.DeltaKnown.{DeltaKnown}
+use Rattle.sl_trace.specs.declared.session.Begun.{Begun}
+use Rattle.sl_trace.specs.declared.session.Session.{Session}
 use Rattle.sl_trace.specs.Connections.{unregisters}
 use Rattle.sl_trace.specs.Traces.{Job, Replied, Setting, Trace, is_before_input, next_job, reply_in, reply_to}
 use Rattle.sl_trace.specs.declared.command.Command.TheVariants.{RemLockspace}

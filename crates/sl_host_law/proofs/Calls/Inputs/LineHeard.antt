@@ -10,14 +10,14 @@ use Rattle.sl_host_state.specs.Kept.{Config, HostState, MemberState}
 use Rattle.sl_host_state.specs.Makes.{lowered}
 use Rattle.sl_host_state.specs.Stands.{IsQuiet, Keeps, MemberStands, job_moments, kept_job, kept_waiting, kill_moment, member_moments, recovery_moment}
 use Rattle.sl_host_state.specs.declared.kept.JobState.{JobState}
-use Rattle.sl_leases.specs.Jobs.{child_of_job, command_of}
+use Rattle.sl_trace.specs.Jobs.{child_of_job, command_of}
 use Rattle.sl_host_law.proofs.Calls.Beginnings.QuietBegun.{moments_cases, moments_have}
 use Rattle.sl_plain.proofs.Lists.{any_of, contains_cases, contains_none, in_map}
 use Rattle.sl_plain.proofs.Numbers.{equal_is_most, trans_le}
-use Rattle.sl_sessions.specs.Sessions.{added_by, is_join_call, joining_session, sessions}
-use Rattle.sl_sessions.specs.declared.delta.DeltaKnown.{DeltaKnown}
-use Rattle.sl_sessions.specs.declared.session.Begun.{Begun}
-use Rattle.sl_sessions.specs.declared.session.Session.{Session}
+use Rattle.sl_trace.specs.Sessions.{added_by, is_join_call, joining_session, sessions}
+use Rattle.sl_trace.specs.declared.delta.DeltaKnown.{DeltaKnown}
+use Rattle.sl_trace.specs.declared.session.Begun.{Begun}
+use Rattle.sl_trace.specs.declared.session.Session.{Session}
 use Rattle.sl_trace.specs.Traces.{Job, KillProgram, Setting, Trace, is_before_input, is_done, is_running, jobs, kill_program_in, kill_programs, next_job, numbers_taken, reply_in, reply_to, running_jobs, waiting_call, with_program, without_program}
 use Rattle.sl_trace.specs.declared.command.Command.{Command}
 use Rattle.sl_trace.specs.declared.effects.Call.{Call}

@@ -4,13 +4,13 @@ use Rattle.sl_host_state.proofs.NewHost.{new_asked, new_watch}
 use Rattle.sl_host_state.specs.New.{IsOfProgram, new_joining, new_member, sizes_in}
 use Rattle.sl_watch.specs.Telling.{blank_watch}
 use Rattle.sl_host_state.specs.Stands.{AreInTurn, AskedStands, JoinStands, MemberStands, WatchKeeps, config_of}
-use Rattle.sl_leases.specs.Leases.{spots_in, value_written}
+use Rattle.sl_trace.specs.Leases.{spots_in, value_written}
 use Rattle.sl_plain.proofs.Lists.{contains_none, find_inside, kept}
-use Rattle.sl_sessions.specs.Sessions.{begun_in, calls_of, free_write, generation_in, is_call_of, is_delta_purpose, is_join_done, is_joined, is_renewal, joined_after, leaves, leaving_in, leaving_job, recovers, recovery_of, refused_after, removed_after, renewal_in, renewed_by, renewing, renewing_after, seq_in, sessions, shows_other}
-use Rattle.sl_sessions.specs.declared.delta.DeltaKnown.{DeltaKnown}
-use Rattle.sl_sessions.specs.declared.session.Begun.{Begun}
-use Rattle.sl_sessions.specs.declared.session.Renewing.{Renewing}
-use Rattle.sl_sessions.specs.declared.session.Session.{Session}
+use Rattle.sl_trace.specs.Sessions.{begun_in, calls_of, free_write, generation_in, is_call_of, is_delta_purpose, is_join_done, is_joined, is_renewal, joined_after, leaves, leaving_in, leaving_job, recovers, recovery_of, refused_after, removed_after, renewal_in, renewed_by, renewing, renewing_after, seq_in, sessions, shows_other}
+use Rattle.sl_trace.specs.declared.delta.DeltaKnown.{DeltaKnown}
+use Rattle.sl_trace.specs.declared.session.Begun.{Begun}
+use Rattle.sl_trace.specs.declared.session.Renewing.{Renewing}
+use Rattle.sl_trace.specs.declared.session.Session.{Session}
 use Rattle.sl_time.specs.Times.{fail}
 use Rattle.sl_trace.specs.Traces.{Job, Replied, Setting, Submitted, Trace, call_numbered, line_in, next_job, reply_in, reply_to, submitted, unanswered}
 use Rattle.sl_trace.specs.declared.effects.Entry.{Entry}

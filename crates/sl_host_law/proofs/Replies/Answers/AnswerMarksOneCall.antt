@@ -1,11 +1,11 @@
 -- What an answer makes of a list of calls: the call that it answers has it, every other is as it was. What is asked of calls and not of
 -- their answers stays.
 use Rattle.sl_host_law.proofs.Plain.PlainLists.{kept_if}
-use Rattle.sl_leases.specs.Leases.{is_lease_call, spot_of_call, spots_in, with_spot}
+use Rattle.sl_trace.specs.Leases.{is_lease_call, spot_of_call, spots_in, with_spot}
 use Rattle.sl_area.specs.Layouts.{Layout}
 use Rattle.sl_sector.specs.declared.sector.DeltaRec.{DeltaRec}
-use Rattle.sl_sessions.specs.Sessions.{delta_written, free_write, generation_in, given_number, is_free_purpose, is_renewal, last_delta, renewal_in, seq_in}
-use Rattle.sl_sessions.specs.declared.session.Session.{Session}
+use Rattle.sl_trace.specs.Sessions.{delta_written, free_write, generation_in, given_number, is_free_purpose, is_renewal, last_delta, renewal_in, seq_in}
+use Rattle.sl_trace.specs.declared.session.Session.{Session}
 use Rattle.sl_trace.specs.Traces.{Answered, Submitted, Trace, answer_of, answered_in, unanswered}
 use Rattle.sl_trace.specs.declared.effects.Call.{Call}
 use Rattle.sl_trace.specs.declared.effects.Effects.{Effects}

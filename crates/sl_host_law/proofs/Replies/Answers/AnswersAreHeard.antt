@@ -9,7 +9,7 @@ use Rattle.sl_host_state.specs.Hears.{heard_answer, hearing, is_over_with, job_h
 use Rattle.sl_host_state.specs.Kept.{HostState, MemberState}
 use Rattle.sl_host_state.specs.Stands.{Keeps, MemberStands, Stands, is_kept_of, kept_call, kept_job, kept_waiting}
 use Rattle.sl_host_state.specs.declared.kept.OpenCall.{OpenCall}
-use Rattle.sl_leases.specs.Jobs.{child_of_job, command_of}
+use Rattle.sl_trace.specs.Jobs.{child_of_job, command_of}
 use Rattle.sl_plain.proofs.Lists.{find_inside, got_inside, in_map, kept, kept_inside}
 use Rattle.sl_plain.proofs.Numbers.{number_itself}
 use Rattle.sl_host_law.proofs.Replies.Answers.AnswerFindsItsCall.{IsOr, IsTheCall, the_call}
@@ -22,8 +22,8 @@ use Rattle.sl_host_law.proofs.Replies.PlainNumbers.{same_number}
 use Rattle.sl_host_law.proofs.Replies.Answers.PresentAfterAnswer.{present_heard}
 use Rattle.sl_host_law.proofs.Replies.Answers.QuietAfterAnswer.{quiet_heard}
 use Rattle.sl_host_law.specs.Replies.Answers.{AnswersAreHeard, FitsCall, IsOfOther, IsOpen}
-use Rattle.sl_sessions.specs.Sessions.{is_present, session_numbered, sessions}
-use Rattle.sl_sessions.specs.declared.session.Session.{Session}
+use Rattle.sl_trace.specs.Sessions.{is_present, session_numbered, sessions}
+use Rattle.sl_trace.specs.declared.session.Session.{Session}
 use Rattle.sl_trace.specs.Traces.{Child, Job, Setting, Submitted, Trace, call_numbered, children, is_before_input, is_of_job, job_numbered, job_of, outstanding, running_jobs, submitted}
 use Rattle.sl_trace.specs.declared.effects.Effects.{Effects}
 use Rattle.sl_trace.specs.declared.input.Answer.{Answer}

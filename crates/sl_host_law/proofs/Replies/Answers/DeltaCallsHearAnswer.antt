@@ -16,10 +16,10 @@ use Rattle.sl_host_law.proofs.Replies.Answers.AnswerFindsItsCall.{IsOr}
 use Rattle.sl_host_law.proofs.Replies.Answers.AnswerMarksOneCall.{all_answered, answered_still, found_heard, hear, hear_by, not_its, picked, same_call, told}
 use Rattle.sl_host_law.specs.Replies.Answers.{AreIdSectors, FitsCall}
 use Rattle.sl_host_law.proofs.Replies.PlainFilters.{found_kept, given_kept}
-use Rattle.sl_sessions.specs.Deltas.{claim_of, join_step_of}
-use Rattle.sl_sessions.specs.Sessions.{delta_written, is_delta_purpose, is_join_call, is_survey_purpose, join_call}
-use Rattle.sl_sessions.specs.Watching.{look_of, seen_records, sightings}
-use Rattle.sl_sessions.specs.declared.sighting.Sighting.{Sighting}
+use Rattle.sl_trace.specs.Deltas.{claim_of, join_step_of}
+use Rattle.sl_trace.specs.Sessions.{delta_written, is_delta_purpose, is_join_call, is_survey_purpose, join_call}
+use Rattle.sl_trace.specs.Watching.{look_of, seen_records, sightings}
+use Rattle.sl_trace.specs.declared.sighting.Sighting.{Sighting}
 use Rattle.sl_time.specs.Times.{fail}
 use Rattle.sl_trace.specs.Traces.{Answered, Setting, Submitted, Trace, answer_of, bytes_given, gave, is_ok_answer}
 use Rattle.sl_trace.specs.declared.effects.Call.{Call}

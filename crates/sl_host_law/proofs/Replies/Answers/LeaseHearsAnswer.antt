@@ -7,9 +7,9 @@ use Rattle.sl_host_state.specs.Stands.{LeaseStands, free_written, top_mbal}
 use Rattle.sl_host_state.specs.declared.kept.LeaseCall.{LeaseCall}
 use Rattle.sl_host_state.specs.declared.kept.OpenCall.{OpenCall}
 use Rattle.sl_host_state.specs.declared.kept.TopNumber.{TopNumber}
-use Rattle.sl_leases.specs.Ballots.{is_ahead, same_owner, stop_of, value_of}
-use Rattle.sl_leases.specs.Leases.{Area_read, Phase1_read, Phase2_read, Phase2_write, Read_before_free, StepKind, block_of_record, block_submitted, block_written, blocks_given, concludes, ended_ballot, free_left, is_area_read, is_at, is_free_write, is_leader_of, is_phase_read, kind_of_step, last_blocks, leader_of_record, leader_written, lease_step, may_show_shared, name_sought, open_ballot, same_kind, settles_free, shows_settled, stop_in, value_in_end, verified_name, won_by}
-use Rattle.sl_leases.specs.declared.lease.Stop.{Stop}
+use Rattle.sl_trace.specs.Ballots.{is_ahead, same_owner, stop_of, value_of}
+use Rattle.sl_trace.specs.Leases.{Area_read, Phase1_read, Phase2_read, Phase2_write, Read_before_free, StepKind, block_of_record, block_submitted, block_written, blocks_given, concludes, ended_ballot, free_left, is_area_read, is_at, is_free_write, is_leader_of, is_phase_read, kind_of_step, last_blocks, leader_of_record, leader_written, lease_step, may_show_shared, name_sought, open_ballot, same_kind, settles_free, shows_settled, stop_in, value_in_end, verified_name, won_by}
+use Rattle.sl_trace.specs.declared.lease.Stop.{Stop}
 use Rattle.sl_plain.proofs.Options.{mapped_value}
 use Rattle.sl_host_law.proofs.Replies.PlainNumbers.{same_number}
 use Rattle.sl_host_law.proofs.Replies.Answers.OpenBallotsAreOwn.{open_is_own}

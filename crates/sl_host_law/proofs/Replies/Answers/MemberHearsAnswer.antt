@@ -6,8 +6,8 @@ use Rattle.sl_host_state.specs.Kept.{Config, HostState, LeaseState, MemberState}
 use Rattle.sl_host_state.specs.Stands.{AreInTurn, AskedStands, IsWaiting, JoinStands, Keeps, LeaseStands, MemberStands, WatchKeeps, free_written, kept_call, newest_value, sectors_of}
 use Rattle.sl_host_state.specs.declared.kept.LeaseCall.{LeaseCall}
 use Rattle.sl_host_state.specs.declared.kept.OpenCall.{OpenCall}
-use Rattle.sl_leases.specs.Counts.{values_on}
-use Rattle.sl_leases.specs.Leases.{block_written, is_lease_call, is_on, lease_calls, lease_step, spots_in, value_written}
+use Rattle.sl_trace.specs.Counts.{values_on}
+use Rattle.sl_trace.specs.Leases.{block_written, is_lease_call, is_on, lease_calls, lease_step, spots_in, value_written}
 use Rattle.sl_plain.proofs.Lists.{find_inside, kept, kept_inside}
 use Rattle.sl_plain.proofs.Numbers.{number_itself}
 use Rattle.sl_host_law.proofs.Replies.Answers.AnswerFindsItsCall.{IsOr, IsTheCall}
@@ -19,11 +19,11 @@ use Rattle.sl_host_law.proofs.Replies.OpenCallsAreKept.{open_delta_is}
 use Rattle.sl_host_law.proofs.Replies.PlainFilters.{all_kept}
 use Rattle.sl_host_law.proofs.Replies.Answers.RenewingHearsAnswer.{renewing_other, renewing_own}
 use Rattle.sl_host_law.specs.Replies.Answers.{FitsCall}
-use Rattle.sl_sessions.specs.Deltas.{delta_known}
-use Rattle.sl_sessions.specs.Sessions.{calls_of, free_write, generation_in, generation_of, has_open_delta, is_call_of, is_delta_purpose, is_present, leaving_job, me, renewal_in, renewing, seq_in}
-use Rattle.sl_sessions.specs.declared.delta.DeltaKnown.{DeltaKnown}
-use Rattle.sl_sessions.specs.declared.session.Renewing.{Renewing}
-use Rattle.sl_sessions.specs.declared.session.Session.{Session}
+use Rattle.sl_trace.specs.Deltas.{delta_known}
+use Rattle.sl_trace.specs.Sessions.{calls_of, free_write, generation_in, generation_of, has_open_delta, is_call_of, is_delta_purpose, is_present, leaving_job, me, renewal_in, renewing, seq_in}
+use Rattle.sl_trace.specs.declared.delta.DeltaKnown.{DeltaKnown}
+use Rattle.sl_trace.specs.declared.session.Renewing.{Renewing}
+use Rattle.sl_trace.specs.declared.session.Session.{Session}
 use Rattle.sl_trace.specs.Traces.{Setting, Submitted, Trace, bytes_given, is_before_input, is_going_on, job_of, new_call, outstanding, record_of, submitted, unanswered}
 use Rattle.sl_trace.specs.declared.effects.Effects.{Effects}
 use Rattle.sl_trace.specs.declared.effects.Op.TheVariants.{ReadSectors, WriteRecord}

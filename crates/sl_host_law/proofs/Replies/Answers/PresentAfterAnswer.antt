@@ -9,8 +9,8 @@ use Rattle.sl_host_law.proofs.Replies.Answers.AnswerMarksOneCall.{told}
 use Rattle.sl_host_law.proofs.Replies.OpenCallsAreKept.{open_write_is}
 use Rattle.sl_host_law.proofs.Replies.PlainFilters.{any_kept, filter_mapped}
 use Rattle.sl_host_law.proofs.Replies.PresentInOrder.{present_kept}
-use Rattle.sl_sessions.specs.Sessions.{has_open_write, is_join_done, is_present, joined_after, present_sessions, refused_after, removed_after}
-use Rattle.sl_sessions.specs.declared.session.Session.{Session}
+use Rattle.sl_trace.specs.Sessions.{has_open_write, is_join_done, is_present, joined_after, present_sessions, refused_after, removed_after}
+use Rattle.sl_trace.specs.declared.session.Session.{Session}
 use Rattle.sl_trace.specs.Traces.{Replied, Setting, Trace, outstanding, reply_to}
 use Rattle.sl_trace.specs.declared.effects.Effects.{Effects}
 use Rattle.sl_trace.specs.declared.input.Answer.{Answer}

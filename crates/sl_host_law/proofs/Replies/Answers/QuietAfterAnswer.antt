@@ -9,9 +9,9 @@ use Rattle.sl_host_state.specs.declared.kept.OpenCall.{OpenCall}
 use Rattle.sl_host_state.specs.declared.kept.WaitingCall.{WaitingCall}
 use Rattle.sl_host_law.proofs.Replies.MomentsAreLater.{AllFrom, from_both, from_none, job_from, member_from, one_moment, quiet_where}
 use Rattle.sl_plain.proofs.Lists.{any_of, contains_first, contains_none, in_map, kept_inside}
-use Rattle.sl_sessions.specs.Sessions.{is_renewal}
-use Rattle.sl_sessions.specs.declared.session.Begun.{Begun}
-use Rattle.sl_sessions.specs.declared.session.Renewing.{Renewing}
+use Rattle.sl_trace.specs.Sessions.{is_renewal}
+use Rattle.sl_trace.specs.declared.session.Begun.{Begun}
+use Rattle.sl_trace.specs.declared.session.Renewing.{Renewing}
 use Rattle.sl_time.specs.Times.{fail}
 use Rattle.sl_trace.specs.declared.input.Answer.TheVariants.{Failed, Read, Written}
 use Rattle.sl_trace.specs.declared.input.Answer.{Answer}

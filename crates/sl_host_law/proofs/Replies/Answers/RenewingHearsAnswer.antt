@@ -5,10 +5,10 @@ use Rattle.sl_host_state.specs.Kept.{Config, HostState, MemberState}
 use Rattle.sl_host_state.specs.Stands.{config_of, kept_call}
 use Rattle.sl_host_law.proofs.Replies.Answers.AnswerIsHeeded.{waking}
 use Rattle.sl_host_law.proofs.Replies.Answers.AnswerMarksOneCall.{told}
-use Rattle.sl_sessions.specs.Sessions.{generation_of, has_open_write, is_call_of, is_join_done, is_joined, is_present, is_renewal, is_survey_purpose, joined_after, refused_after, removed_after, removed_in, renewed_by, renewing, shows_other, shows_other_in}
-use Rattle.sl_sessions.specs.declared.session.Begun.{Begun}
-use Rattle.sl_sessions.specs.declared.session.Renewing.{Renewing}
-use Rattle.sl_sessions.specs.declared.session.Session.{Session}
+use Rattle.sl_trace.specs.Sessions.{generation_of, has_open_write, is_call_of, is_join_done, is_joined, is_present, is_renewal, is_survey_purpose, joined_after, refused_after, removed_after, removed_in, renewed_by, renewing, shows_other, shows_other_in}
+use Rattle.sl_trace.specs.declared.session.Begun.{Begun}
+use Rattle.sl_trace.specs.declared.session.Renewing.{Renewing}
+use Rattle.sl_trace.specs.declared.session.Session.{Session}
 use Rattle.sl_sector.specs.declared.sector.DeltaRec.{DeltaRec}
 use Rattle.sl_time.specs.Times.{fail}
 use Rattle.sl_trace.specs.Traces.{Replied, Setting, Submitted, Trace, call_numbered, is_before_input, reply_in, reply_to}

@@ -7,8 +7,8 @@ use Rattle.sl_host_state.specs.declared.kept.JobState.{JobState}
 use Rattle.sl_host_law.proofs.Plain.PlainLists.{in_flat}
 use Rattle.sl_plain.proofs.Lists.{contains_cases, contains_map, contains_none, kept, kept_inside}
 use Rattle.sl_host_law.proofs.Replies.MomentsAreLater.{AllFrom, job_from, member_from, one_moment, quiet_where}
-use Rattle.sl_sessions.specs.Sessions.{is_join_done}
-use Rattle.sl_sessions.specs.declared.session.Begun.{Begun}
+use Rattle.sl_trace.specs.Sessions.{is_join_done}
+use Rattle.sl_trace.specs.declared.session.Begun.{Begun}
 use Rattle.sl_time.specs.Times.{fail}
 use Rattle.sl_trace.specs.declared.reply.Reply.{Reply}
 use Rattle.sl_words.specs.Words.{some_is}

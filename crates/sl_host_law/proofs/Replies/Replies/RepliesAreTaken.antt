@@ -7,7 +7,7 @@ use Rattle.sl_host_state.specs.Kept.{Config, HostState, MemberState}
 use Rattle.sl_host_state.specs.Makes.{has_write_open, member_answered, member_replying, with_reply}
 use Rattle.sl_host_state.specs.Stands.{Keeps, MemberStands, Stands, is_joining, kept_call, kept_job, kept_waiting}
 use Rattle.sl_host_state.specs.declared.kept.JobState.{JobState}
-use Rattle.sl_leases.specs.Jobs.{child_of_job, command_of}
+use Rattle.sl_trace.specs.Jobs.{child_of_job, command_of}
 use Rattle.sl_plain.proofs.Lists.{contains_cases, contains_first, contains_more, contains_none, filter_both, got_inside}
 use Rattle.sl_host_law.proofs.Replies.Answers.JobsHearAnswer.{job_with}
 use Rattle.sl_host_law.proofs.Replies.MembersKeepCalls.{AreSame, member_stays}
@@ -18,9 +18,9 @@ use Rattle.sl_host_law.proofs.Replies.PresentInOrder.{present_kept}
 use Rattle.sl_host_law.proofs.Replies.Replies.QuietAfterReply.{quiet_replied}
 use Rattle.sl_host_law.proofs.Replies.Replies.ReplyEndsJob.{IsOwnJoining, LeavesText, calls_stay, is_its, joined_stays, leaving_stays, own_joining, programs_stay, refused_stays, replied, reply_stays, runs_still, unsaid}
 use Rattle.sl_host_law.specs.Replies.Replies.{LeavesHeed, LeavesLine, RepliesAreTaken, is_plain_line}
-use Rattle.sl_sessions.specs.Sessions.{has_open_write, is_call_of, is_join_done, is_present, joined_after, refused_after, removed_after}
-use Rattle.sl_sessions.specs.declared.session.Renewing.{Renewing}
-use Rattle.sl_sessions.specs.declared.session.Session.{Session}
+use Rattle.sl_trace.specs.Sessions.{has_open_write, is_call_of, is_join_done, is_present, joined_after, refused_after, removed_after}
+use Rattle.sl_trace.specs.declared.session.Renewing.{Renewing}
+use Rattle.sl_trace.specs.declared.session.Session.{Session}
 use Rattle.sl_trace.specs.Traces.{Job, Setting, Submitted, Trace, children, is_of_job, is_running, is_write, job_numbered, job_of, jobs, next_job, numbers_taken, running_jobs, submitted, takes_number, unanswered}
 use Rattle.sl_trace.specs.declared.effects.Effects.{Effects}
 use Rattle.sl_trace.specs.declared.input.Input.{Input}

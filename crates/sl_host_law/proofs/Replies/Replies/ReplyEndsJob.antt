@@ -6,8 +6,8 @@ use Rattle.sl_host_law.proofs.Replies.PlainFilters.{map_where}
 use Rattle.sl_host_law.proofs.Replies.PlainNumbers.{number_apart, same_number}
 use Rattle.sl_host_law.specs.Replies.Answers.{IsOfOther}
 use Rattle.sl_host_law.specs.Replies.Replies.{LeavesHeed, is_plain_line}
-use Rattle.sl_sessions.specs.Sessions.{is_join_done, is_joined, joined_after, leaves, leaving_in, leaving_job, refused_after}
-use Rattle.sl_sessions.specs.declared.session.Session.{Session}
+use Rattle.sl_trace.specs.Sessions.{is_join_done, is_joined, joined_after, leaves, leaving_in, leaving_job, refused_after}
+use Rattle.sl_trace.specs.declared.session.Session.{Session}
 use Rattle.sl_trace.specs.Traces.{Job, KillProgram, Replied, Setting, Submitted, Trace, answered_in, exited_by, is_before_input, is_done, is_going_on, is_of_job, is_running, job_of, kill_program_in, kill_programs, mark, new_call, next_job, program_set_in, reply_to, submitted, with_program, without_program}
 use Rattle.sl_trace.specs.declared.command.Command.TheVariants.{RemLockspace, SetKillpath}
 use Rattle.sl_trace.specs.declared.command.Command.{Command}

@@ -5,7 +5,7 @@ use Rattle.sl_host_lines.specs.Ending.{turning}
 use Rattle.sl_host_lines.specs.LineFacts.{MayConvertAt}
 use Rattle.sl_host_state.specs.Hears.{heard_line}
 use Rattle.sl_host_state.specs.Kept.{HostState, state_of}
-use Rattle.sl_leases.specs.Leases.{spot_of}
+use Rattle.sl_trace.specs.Leases.{spot_of}
 use Rattle.sl_trace.specs.declared.effects.Spot.{Spot}
 use Rattle.std.proofs.Common.{ap, subst, sym, ℕ, ◌∙◌}
 

@@ -1,6 +1,6 @@
 use Rattle.sl_host_lines.proofs.EndsStand.{bare_found}
 use Rattle.sl_host_lines.proofs.line_ends.is_bare.Goals as goal
-use Rattle.sl_sessions.specs.declared.session.Session.{Session}
+use Rattle.sl_trace.specs.declared.session.Session.{Session}
 use Rattle.std.proofs.Common.{ap}
 
 pub returns : goal.returns

@@ -2,7 +2,7 @@ use Rattle.sl_host_law.specs.Answers.Leasing.{carrying_lease, for_command_of, fo
 use Rattle.sl_host_state.specs.Kept.{HostState, state_of}
 use Rattle.sl_host_work.proofs.leasing.carry_lease.Goals as goal
 use Rattle.sl_host_work.specs.Leasing.{converted_under}
-use Rattle.sl_sessions.specs.declared.session.Session.{Session}
+use Rattle.sl_trace.specs.declared.session.Session.{Session}
 use Rattle.sl_trace.specs.declared.effects.LeaseStep.TheVariants.{ClearMode, FreeLeader}
 use Rattle.sl_trace.specs.declared.effects.Mode.TheVariants.{Exclusive, Shared}
 use Rattle.sl_trace.specs.declared.effects.Work.TheVariants.{Settling}

@@ -1,6 +1,6 @@
 use Rattle.sl_lease.proofs.RecordFacts.{hosts_few, phase2_begun}
 use Rattle.sl_lease.proofs.ballots.phase2.Goals as goal
-use Rattle.sl_leases.specs.Ballots.{ballot_blocks, moded_block, phase2_block}
+use Rattle.sl_trace.specs.Ballots.{ballot_blocks, moded_block, phase2_block}
 use Rattle.std.proofs.Common.{cond, refl, rules, ◌≡◌}
 
 pub returns-clause-fit : goal.returns-clause-fit

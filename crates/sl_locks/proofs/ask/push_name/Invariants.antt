@@ -1,5 +1,5 @@
 use Rattle.sl_locks.proofs.ask.push_name.Given as goal
-use Rattle.sl_lvm.specs.LockNames.{doubled}
+use Rattle.sl_run.specs.LockNames.{doubled}
 use Rattle.std.proofs.Common.{take, ◌++◌, ◌≡◌}
 
 -- the characters before this one are written

@@ -1,6 +1,6 @@
 use Rattle.sl_locks.proofs.AskTexts.{three}
 use Rattle.sl_locks.proofs.ask.push_path.Goals as goal
-use Rattle.sl_lvm.specs.LockNames.{doubled}
+use Rattle.sl_run.specs.LockNames.{doubled}
 use Rattle.std.proofs.Common.{ap, codes, ◌++◌, ◌∙◌}
 
 pub returns : goal.returns

@@ -3,7 +3,7 @@ use Rattle.sl_host_state.specs.Kept.{HostState, MemberState, state_of}
 use Rattle.sl_host_state.specs.Makes.{with_joining, with_member}
 use Rattle.sl_member.specs.Members.{IsOwnCall, RunOf, blank_member, member_called}
 use Rattle.sl_member.specs.Together.{changed_member, member_with}
-use Rattle.sl_sessions.specs.Sessions.{joining_session}
+use Rattle.sl_trace.specs.Sessions.{joining_session}
 use Rattle.sl_trace.specs.Limits.{most_lockspaces}
 use Rattle.sl_trace.specs.Traces.{Submitted, new_call}
 use Rattle.sl_trace.specs.declared.effects.Call.{Call}

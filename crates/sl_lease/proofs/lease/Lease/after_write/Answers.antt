@@ -1,7 +1,7 @@
 use Rattle.sl_lease.proofs.KnownLaws.{write_decides}
 use Rattle.sl_lease.proofs.lease.Lease.after_write.Goals as goal
 use Rattle.sl_lease.specs.Side.{layout_in}
-use Rattle.sl_leases.specs.Leases.{last_blocks}
+use Rattle.sl_trace.specs.Leases.{last_blocks}
 
 pub returns-clause-decides : goal.returns-clause-decides
 returns-clause-decides c =

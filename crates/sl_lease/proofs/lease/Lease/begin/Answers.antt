@@ -4,7 +4,7 @@ use Rattle.sl_lease.proofs.RecordFacts.{hosts_few, phase1_begun}
 use Rattle.sl_lease.proofs.lease.Lease.begin.Goals as goal
 use Rattle.sl_lease.specs.Bounds.{IsBegun}
 use Rattle.sl_lease.specs.Side.{known_with, place_of}
-use Rattle.sl_leases.specs.Ballots.{phase1_block}
+use Rattle.sl_trace.specs.Ballots.{phase1_block}
 use Rattle.sl_words.specs.Words.{present}
 use Rattle.std.proofs.Common.{IfOk, cond, rules, subst, sym, ◌∙◌, ◌≡◌}
 

@@ -1,6 +1,6 @@
 use Rattle.sl_locks.proofs.table.LvmLocks.go_on.Goals as goal
 use Rattle.sl_locks.specs.Tables.{course_of, locks_of, lvm_of}
-use Rattle.sl_lvm.specs.Lvm.{goes_on_with}
+use Rattle.sl_run.specs.Lvm.{goes_on_with}
 use Rattle.sl_run.specs.Locks.{after_turn}
 use Rattle.std.proofs.Common.{ap, sym, ◌∙◌}
 

@@ -7,7 +7,7 @@ use Rattle.sl_member.specs.Leases.{LeasesState, leases_after}
 use Rattle.sl_member.specs.Members.{MemberKept, kept_called}
 use Rattle.sl_member.specs.contracts.member.Member.{the_view}
 use Rattle.sl_member.specs.declared.member.Member.TheInside.{Inside}
-use Rattle.sl_sessions.specs.Sessions.{delta_written}
+use Rattle.sl_trace.specs.Sessions.{delta_written}
 use Rattle.sl_trace.specs.Traces.{Submitted, new_call}
 use Rattle.std.proofs.Common.{ap, refl, sym, ◌∙◌}
 

@@ -3,7 +3,7 @@ use Rattle.sl_member.proofs.Gathered.{any_state}
 use Rattle.sl_member.proofs.members.Members.is_left.Goals as goal
 use Rattle.sl_member.specs.Members.{MemberKept}
 use Rattle.sl_member.specs.Together.{MembersState}
-use Rattle.sl_sessions.specs.Sessions.{is_session_arg}
+use Rattle.sl_trace.specs.Sessions.{is_session_arg}
 use Rattle.std.proofs.Common.{Bool, List, ap, ◌&&◌, ◌∙◌}
 use Rattle.std.specs.List.{list_any}
 

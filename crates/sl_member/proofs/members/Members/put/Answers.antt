@@ -5,7 +5,7 @@ use Rattle.sl_member.proofs.Numbered.{members_as, states}
 use Rattle.sl_member.proofs.members.Members.put.Goals as goal
 use Rattle.sl_member.specs.Members.{MemberKept, RunOf}
 use Rattle.sl_member.specs.Together.{AreMembers, MembersState}
-use Rattle.sl_sessions.specs.declared.session.Session.{Session}
+use Rattle.sl_trace.specs.declared.session.Session.{Session}
 use Rattle.sl_words.specs.Orders.{is_text_before}
 use Rattle.std.specs.List.{insert}
 use Rattle.std.proofs.Common.{List, ap, arith, length, min, position, subst, sym, unwrap_or, ℕ, ◌<◌, ◌∙◌}

@@ -1,4 +1,4 @@
-use Rattle.sl_leases.specs.Jobs.{is_asking_lease}
+use Rattle.sl_trace.specs.Jobs.{is_asking_lease}
 use Rattle.sl_tables.proofs.TotalsGo.{total_counts}
 use Rattle.sl_tables.proofs.jobs.Jobs.asking.Goals as goal
 use Rattle.sl_tables.specs.Jobs.{is_ungranted, ungranted}

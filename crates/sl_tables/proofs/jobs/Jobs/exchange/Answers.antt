@@ -1,4 +1,4 @@
-use Rattle.sl_leases.specs.Jobs.{is_asking_lease, is_program}
+use Rattle.sl_trace.specs.Jobs.{is_asking_lease, is_program}
 use Rattle.sl_tables.proofs.JobsChange.{state_is, there}
 use Rattle.sl_tables.proofs.SlotsStand.{replaced}
 use Rattle.sl_tables.proofs.NumbersName.{own_replaced, values_set}

@@ -1,4 +1,4 @@
-use Rattle.sl_leases.specs.Jobs.{is_asking_lease, is_program}
+use Rattle.sl_trace.specs.Jobs.{is_asking_lease, is_program}
 use Rattle.sl_tables.proofs.NumbersName.{own_push}
 use Rattle.sl_tables.proofs.TotalsGo.{total_few, total_push, weight_few}
 use Rattle.sl_tables.proofs.jobs.Jobs.put.Goals as goal

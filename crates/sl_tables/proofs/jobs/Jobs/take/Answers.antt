@@ -1,4 +1,4 @@
-use Rattle.sl_leases.specs.Jobs.{is_asking_lease, is_program}
+use Rattle.sl_trace.specs.Jobs.{is_asking_lease, is_program}
 use Rattle.sl_tables.proofs.NumbersName.{found_by_number, own_left, values_left}
 use Rattle.sl_tables.proofs.TotalsGo.{total_less}
 use Rattle.sl_tables.proofs.jobs.Jobs.take.Goals as goal

@@ -1,6 +1,6 @@
 use Rattle.sl_area.specs.Layouts.{layout_of}
-use Rattle.sl_sessions.specs.Watching.{evidence}
-use Rattle.sl_sessions.specs.declared.sighting.Sighting.{Sighting}
+use Rattle.sl_trace.specs.Watching.{evidence}
+use Rattle.sl_trace.specs.declared.sighting.Sighting.{Sighting}
 use Rattle.sl_watch.proofs.ReasonLaws.{evidence_if, evidence_names}
 use Rattle.sl_watch.proofs.SummaryLaws.{evidence_read}
 use Rattle.sl_watch.proofs.watch.Watch.over.Goals as goal

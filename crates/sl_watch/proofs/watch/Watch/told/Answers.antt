@@ -1,4 +1,4 @@
-use Rattle.sl_sessions.specs.declared.sighting.Sighting.{Sighting}
+use Rattle.sl_trace.specs.declared.sighting.Sighting.{Sighting}
 use Rattle.sl_watch.proofs.WatchLaws.{Adds, told_stands}
 use Rattle.sl_watch.proofs.watch.Watch.told.Goals as goal
 use Rattle.sl_watch.specs.Seen.{seen_with}

@@ -1,5 +1,0 @@
-use Rattle.sl_law.proofs.LawFacts.{caused-front}
-use Rattle.sl_law.proofs.laws.fronts_are_caused.Goals as goal
-
-pub returns : goal.returns
-returns c = caused-front

@@ -1,5 +1,0 @@
-use Rattle.sl_law.proofs.LawFacts.{lawful-front}
-use Rattle.sl_law.proofs.laws.fronts_are_lawful.Goals as goal
-
-pub returns : goal.returns
-returns c = lawful-front

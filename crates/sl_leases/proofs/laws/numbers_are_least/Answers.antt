@@ -1,5 +1,0 @@
-use Rattle.sl_leases.proofs.NumberFacts.{numbers_are_least}
-use Rattle.sl_leases.proofs.laws.numbers_are_least.Goals as goal
-
-pub returns : goal.returns
-returns c = numbers_are_least

@@ -1,3 +1,0 @@
-pub mod LockNames
-pub mod LvmLines
-pub mod Lvm

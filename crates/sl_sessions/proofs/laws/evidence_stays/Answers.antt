@@ -1,5 +1,0 @@
-use Rattle.sl_sessions.proofs.EvidenceFacts.{counted_over-more}
-use Rattle.sl_sessions.proofs.laws.evidence_stays.Goals as goal
-
-pub returns : goal.returns
-returns c = counted_over-more

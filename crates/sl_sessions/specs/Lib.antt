@@ -1,4 +1,0 @@
-pub mod Sessions
-pub mod Watching
-pub mod Deltas
-pub mod EvidenceLaws
