@@ -1,4 +1,4 @@
-//! The world at moment 0.
+//! The world at moment 0; and what is lawful has been lawful all along.
 
 ghost use Rattle.sl_run.specs.RunLaws.{NothingIsHeldAtFirst, NothingIsARun};
 ghost use Rattle.sl_run.specs.LawLaws.{FrontsAreOrderly, FrontsAreLawful, FrontsAreCaused};

@@ -1,4 +1,5 @@
-//! How the questions to a trace change as it grows.
+//! How the questions to a trace change as it grows; what was shown once stays shown; and numbers of ballots (Gafni and Lamport, *Disk
+//! Paxos*: numbers of different processors are disjoint).
 
 ghost use Rattle.sl_trace.specs.TraceLaws.{CallsGrow, CallsStay, RepliesStay, TracesHaveFronts};
 ghost use Rattle.sl_trace.specs.EvidenceLaws.{EvidenceStays, EvidenceCounts};
