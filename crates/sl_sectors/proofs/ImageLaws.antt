@@ -2,7 +2,7 @@
 use Rattle.sha2.specs.Sha256.{sha256}
 use Rattle.sl_sector.proofs.PublicLaws.{spelled_is_read}
 use Rattle.sl_sector.proofs.SpellingLaws.{length-spelling}
-use Rattle.sl_sector.proofs.WrittenBytes.{sha256_is_digest}
+use Rattle.sl_sector.proofs.WrittenBytes.{sha256_is_digest, spelling_is_bytes}
 use Rattle.sl_sector.specs.Spelling.{Spells, decoded, spelling}
 use Rattle.sl_sector.specs.declared.sector.Bad.{Bad}
 use Rattle.sl_sector.specs.declared.sector.Rec.{Rec}
@@ -12,7 +12,8 @@ use Rattle.sl_sectors.specs.declared.image.Content.{Content}
 use Rattle.std.proofs.Common.{ap, refl, subst, sym, ◌∙◌}
 use Rattle.std.proofs.lemmas.Slice.Eq.{bytes_eq-Decides}
 use Rattle.std.specs.Bool.{Decides}
-use Rattle.std.specs.Prelude.{Bool, Err, IfOk, IsTrue, Ok, Result, bytes_eq, false, length, true, ℕ, ◌↔◌, ◌≡◌}
+use Rattle.std.specs.List.{list_all}
+use Rattle.std.specs.Prelude.{Bool, Err, IfOk, IsTrue, Ok, Result, bytes_eq, false, length, nat_lt, true, ℕ, ◌↔◌, ◌≡◌}
 
 abbrev as_found : Rec → Result Rec Bad
 as_found r = Ok r
@@ -32,6 +33,10 @@ is_spelled size (Raw bytes found) is = is.content.2
 pub is_long : (size : ℕ) (c : Content) → IsImage size c → length (bytes_of size c) ≡ size
 is_long size (Spelled r) is = length-spelling sha256 sha256_is_digest size r is.sized is.content
 is_long size (Raw bytes found) is = is.content.0
+
+-- The sector of a record is bytes.
+pub are_spelled_bytes : (size : ℕ) (r : Rec) → IsImage size (Spelled r) → IsTrue (list_all (λ b. nat_lt b 256) (spelling sha256 size r))
+are_spelled_bytes size r is = (spelling_is_bytes sha256 sha256_is_digest size r is.sized is.content).1
 
 -- ---- the same bytes
 

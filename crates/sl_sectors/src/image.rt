@@ -4,7 +4,8 @@ ghost use Rattle.sha2.specs.Sha256.{sha256};
 ghost use Rattle.sl_sector.specs.Records.{IsRecord};
 ghost use Rattle.sl_sector.specs.Spelling.{IsSectorSize, Spells, decoded, spelling};
 ghost use Rattle.sl_sectors.specs.Images.{IsSameFound, found_of, raw_of};
-ghost use Rattle.std.specs.Prelude.{bytes_eq, length, IfOk, IsTrue, OnErr, OnOk, ◌++◌, ◌↔◌, ◌≡◌};
+ghost use Rattle.std.specs.List.{list_all};
+ghost use Rattle.std.specs.Prelude.{bytes_eq, length, nat_lt, IfOk, IsTrue, OnErr, OnOk, ◌++◌, ◌↔◌, ◌≡◌};
 
 use sl_sector::{Bad, Rec, decode, same_record};
 use sl_text::Bytes;
@@ -99,6 +100,17 @@ impl Image {
         }
     }
 
+    /// Its bytes are numbers below 256, whatever it is kept as. It takes no memory.
+    #[tactic(auto, using(crate::proofs::ImageLaws::are_spelled_bytes))]
+    pub fn is_bytes(&self)
+        ensures { IsTrue (list_all (λ b. nat_lt b 256) self.now) }
+    {
+        match &self.content {
+            Content::Spelled(_) => {}
+            Content::Raw { bytes, found: _ } => are_bytes(bytes.as_slice()),
+        }
+    }
+
     /// Whether two sectors have the same bytes. Nothing is hashed: sectors of one size that spell a record are the same where the
     /// records are, and only where neither spells one are bytes compared.
     pub fn is_same(&self, other: &Image) -> bool
@@ -106,6 +118,13 @@ impl Image {
     {
         is_same_sector(self.size, &self.content, other.size, &other.content)
     }
+}
+
+/// Bytes are below 256.
+fn are_bytes(bytes: &[u8])
+    ensures { IsTrue (list_all (λ b. nat_lt b 256) bytes.now) }
+{
+    let _size = bytes.len();
 }
 
 /// What a sector spells.
