@@ -50,17 +50,17 @@ world = witness_world
 
 -- ---- numbers
 
-abbrev FirstJob : Machine → Type 0
+abbrev pub FirstJob : Machine → Type 0
 FirstJob a = (d : Daemon) → a.daemon ≡ Some d → next_job d.setting d.trace ≡ 1
 
-abbrev seek_job : (a : Machine) → Option (FirstJob a)
+abbrev pub seek_job : (a : Machine) → Option (FirstJob a)
 seek_job a = seek_for (λ d. next_job d.setting d.trace ≡ 1) a.daemon (λ d. seek_same (next_job d.setting d.trace) 1)
 
-abbrev FirstSession : Machine → Type 0
+abbrev pub FirstSession : Machine → Type 0
 FirstSession a =
     (d : Daemon) → a.daemon ≡ Some d → (s : Session) → session_named d.setting (before_command d (reading_now a)) quiet_resource.lockspace ≡ Some s → s.number ≡ 0
 
-abbrev seek_session : (a : Machine) → Option (FirstSession a)
+abbrev pub seek_session : (a : Machine) → Option (FirstSession a)
 seek_session a =
     seek_for (λ d. (s : Session) → session_named d.setting (before_command d (reading_now a)) quiet_resource.lockspace ≡ Some s → s.number ≡ 0) a.daemon
     (λ d. seek_for (λ s. s.number ≡ 0) (session_named d.setting (before_command d (reading_now a)) quiet_resource.lockspace) (λ s. seek_same s.number 0))

@@ -1,0 +1,3 @@
+pub mod Sufficing
+pub mod Seeking
+pub mod Telling
