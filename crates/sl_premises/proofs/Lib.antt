@@ -1,3 +1,4 @@
 pub mod Sufficing
 pub mod Seeking
+pub mod Crowded
 pub mod Telling

@@ -42,15 +42,22 @@ start_under asked w m text r shared p q =
       calm = q.calm;
     }
 
-step_under : (w : World) (x : Happening) (v : World) (m job : ℕ) (r : ResourceArg) (shared : Bool) (p number : ℕ) → QuietStep w x v m job r shared p number
-    → StepUnder all_premises w x v m job r shared p number
-step_under w x v m job r shared p number s = record { modes = s.modes; calm = s.calm; active = s.active; stays = s.stays; answers = s.answers }
+step_under : (asked : Premises) (w : World) (x : Happening) (v : World) (m job : ℕ) (r : ResourceArg) (shared : Bool) (p number : ℕ) → QuietStep w x v m job r shared p number
+    → StepUnder asked w x v m job r shared p number
+step_under asked w x v m job r shared p number s =
+    record {
+      modes = if_asked _ asked.modes_over s.modes;
+      calm = if_asked _ asked.sole_writer s.calm;
+      active = s.active;
+      stays = s.stays;
+      answers = if_asked _ asked.in_time s.answers;
+    }
 
-stays_under : (w : World) (xs : List Happening) (m job : ℕ) (r : ResourceArg) (shared : Bool) (p number : ℕ) → StaysQuiet w xs m job r shared p number
-    → StaysUnder all_premises w xs m job r shared p number
-stays_under w [] m job r shared p number s = tt
-stays_under w (x ∷ xs) m job r shared p number s =
-    (step_under w x (happens w x.0 x.1) m job r shared p number s.0, stays_under (happens w x.0 x.1) xs m job r shared p number s.1)
+stays_under : (asked : Premises) (w : World) (xs : List Happening) (m job : ℕ) (r : ResourceArg) (shared : Bool) (p number : ℕ) → StaysQuiet w xs m job r shared p number
+    → StaysUnder asked w xs m job r shared p number
+stays_under asked w [] m job r shared p number s = tt
+stays_under asked w (x ∷ xs) m job r shared p number s =
+    (step_under asked w x (happens w x.0 x.1) m job r shared p number s.0, stays_under asked (happens w x.0 x.1) xs m job r shared p number s.1)
 
 abbrev quiet_start : (w : World) (m : ℕ) (text : List ℕ) (r : ResourceArg) (shared : Bool) (p : ℕ) → StartUnder all_premises w m text r shared p → QuietStart w m text r shared p
 quiet_start w m text r shared p q =
@@ -97,14 +104,14 @@ granted_under start xs law before during rest m p text r shared x q is same give
     let s : QuietStart w m text r shared p = quiet_start w m text r shared p q in
     law before during rest m p text r shared x s is same given (stays_quiet w (x ∷ during) m _ r shared p _ stays)
 
-granted_quietly : (start : World) (xs : List Happening) → GrantedUnder all_premises start xs → QuietIsGranted start xs
-granted_quietly start xs law before during rest m p text r shared x q is same given stays =
+granted_quietly : (asked : Premises) (start : World) (xs : List Happening) → GrantedUnder asked start xs → QuietIsGranted start xs
+granted_quietly asked start xs law before during rest m p text r shared x q is same given stays =
     let w : World = world_after start before in
-    let s : StartUnder all_premises w m text r shared p = start_under all_premises w m text r shared p q in
-    law before during rest m p text r shared x s is same given (stays_under w (x ∷ during) m _ r shared p _ stays)
+    let s : StartUnder asked w m text r shared p = start_under asked w m text r shared p q in
+    law before during rest m p text r shared x s is same given (stays_under asked w (x ∷ during) m _ r shared p _ stays)
 
 pub all_are_the_law : AllAreTheLaw
-all_are_the_law start xs = (granted_under start xs, granted_quietly start xs)
+all_are_the_law start xs = (granted_under start xs, granted_quietly all_premises start xs)
 
 pub premises_suffice : PremisesSuffice all_premises
 premises_suffice p h xs run made = granted_under (world_with p h) xs (quiet_acquires_are_granted p h xs run made)

@@ -25,12 +25,12 @@ use Rattle.sl_trace.specs.EffectTexts.{reply_words}
 use Rattle.std.specs.Fmt.{digits}
 use Rattle.sl_run.specs.Events.{event_tests, first_change, pass_tests}
 use Rattle.sl_examples.specs.Cheap.{cheap_program}
-use Rattle.sl_premises.proofs.Seeking.{Refuses, fails, seek_refuses, seek_stays}
-use Rattle.sl_premises.specs.Premises.{GrantedUnder, Premises, StaysUnder}
+use Rattle.sl_premises.proofs.Crowded.{crowded_fails}
+use Rattle.sl_premises.proofs.Seeking.{Refuses, fails, seek_refuses, seek_start_under, seek_stays}
+use Rattle.sl_premises.specs.Premises.{GrantedUnder, Premises, StartUnder, StaysUnder}
 use Rattle.sl_premises.specs.Telling.{FailsIn, PremisesTell, asking_events, late_events, rival_events, sharing_events}
 use Rattle.sl_report.specs.Replay.{due_run}
 use Rattle.sl_run.specs.Lawful.{Lawful}
-use Rattle.sl_run.specs.Quiet.{QuietStart}
 use Rattle.sl_run.specs.Runs.{EachDaemon, world_after}
 use Rattle.sl_run.specs.Safety.{LawfulRun, world_at}
 use Rattle.sl_run.specs.Worlds.{Machine, World, initial_record, machine_at, machine_of_header}
@@ -38,7 +38,6 @@ use Rattle.sl_run.specs.declared.event.Event.TheVariants.{AnswerCall, Do, GiveCo
 use Rattle.sl_run.specs.declared.event.Event.{Event}
 use Rattle.sl_witness.proofs.Granted.{FirstJob, FirstSession, seek_job, seek_session}
 use Rattle.sl_witness.proofs.Headers.{seek_header}
-use Rattle.sl_witness.proofs.Quietness.{seek_start}
 use Rattle.sl_witness.proofs.Running.{cheap_is_digest, seek_run}
 use Rattle.sl_witness.proofs.Seeking.{found, seek_for}
 use Rattle.sl_witness.proofs.Traces.{seek_each_daemon}
@@ -57,7 +56,7 @@ lawful_by es runs each =
     }
 
 -- Behind these events machine 1's first job is the acquire; it begins with nothing in its way, goes on under these premises, and is refused.
-refused_behind : (asked : Premises) (before during : List Event) → (q : QuietStart (world_after witness_world (due_run witness_world before)) 1 exclusive_text quiet_resource false 7)
+refused_behind : (asked : Premises) (before during : List Event) → (q : StartUnder asked (world_after witness_world (due_run witness_world before)) 1 exclusive_text quiet_resource false 7)
     → ((a : Machine) → machine_at (world_after witness_world (due_run witness_world before)) 1 ≡ Some a → FirstJob a)
     → ((a : Machine) → machine_at (world_after witness_world (due_run witness_world before)) 1 ≡ Some a → FirstSession a)
     → StaysUnder asked (world_after witness_world (due_run witness_world before))
@@ -90,7 +89,7 @@ late_laws : IsSome (seek_each_daemon (world_at cheap_program witness_header (due
 unfolding after_answer after_answer_of after_end after_free after_input after_join_answer after_lease_answer after_renewal after_request_read after_see_request after_survey after_value_read area_next before_input begin_next begin_recoveries begin_recovery begins block_rules carry_decision carry_delta carry_lease checked_part count_event decided decoded delta_rules digits due due_step event_forms event_tests field_bytes fields_of finish finish_session first_change forms goes_on_with header_forms header_of header_tests initial_record instance_of join_on_wake kill_holders kills known leader_rules lease_next leave_holdings locks_after lvm_forms lvm_turn machine_of_header magic next_after_deciding next_after_first next_after_verify next_after_watch next_in_joining next_on_wake next_renewal on_exit on_line on_spawned on_wake padded_text pass_tests phase1_block phase2_block refuse renew_on_wake reply_words request_refusal request_rules see_requests settle settle_next settle_on_wake settlings signal_and_refuse spelling stop_of take_input time_out time_outs told_effects u32_at u32_bytes u64_at u64_bytes value_rules
 late_laws = refl
 
-late_start : IsSome (seek_start late_world 1 exclusive_text quiet_resource false 7)
+late_start : IsSome (seek_start_under late_asked late_world 1 exclusive_text quiet_resource false 7)
 unfolding after_answer after_answer_of after_end after_free after_input after_join_answer after_lease_answer after_renewal after_request_read after_see_request after_survey after_value_read area_next before_input begin_next begin_recoveries begin_recovery begins block_rules carry_decision carry_delta carry_lease checked_part count_event decided decoded delta_rules digits due due_step event_forms event_tests field_bytes fields_of finish finish_session first_change forms goes_on_with header_forms header_of header_tests initial_record instance_of join_on_wake kill_holders kills known leader_rules lease_next leave_holdings locks_after lvm_forms lvm_turn machine_of_header magic next_after_deciding next_after_first next_after_verify next_after_watch next_in_joining next_on_wake next_renewal on_exit on_line on_spawned on_wake padded_text pass_tests phase1_block phase2_block refuse renew_on_wake reply_words request_refusal request_rules see_requests settle settle_next settle_on_wake settlings signal_and_refuse spelling stop_of take_input time_out time_outs told_effects u32_at u32_bytes u64_at u64_bytes value_rules
 late_start = refl
 
@@ -110,11 +109,11 @@ late_refuses : IsSome (seek_refuses (world_after late_world (due_run late_world 
 unfolding after_answer after_answer_of after_end after_free after_input after_join_answer after_lease_answer after_renewal after_request_read after_see_request after_survey after_value_read area_next before_input begin_next begin_recoveries begin_recovery begins block_rules carry_decision carry_delta carry_lease checked_part count_event decided decoded delta_rules digits due due_step event_forms event_tests field_bytes fields_of finish finish_session first_change forms goes_on_with header_forms header_of header_tests initial_record instance_of join_on_wake kill_holders kills known leader_rules lease_next leave_holdings locks_after lvm_forms lvm_turn machine_of_header magic next_after_deciding next_after_first next_after_verify next_after_watch next_in_joining next_on_wake next_renewal on_exit on_line on_spawned on_wake padded_text pass_tests phase1_block phase2_block refuse renew_on_wake reply_words request_refusal request_rules see_requests settle settle_next settle_on_wake settlings signal_and_refuse spelling stop_of take_input time_out time_outs told_effects u32_at u32_bytes u64_at u64_bytes value_rules
 late_refuses = refl
 
-late_fails : FailsIn late_asked late_events
+late_fails : FailsIn late_asked (due_run witness_world late_events)
 late_fails =
     record {
       lawful = lawful_by late_events late_is_run (found (seek_each_daemon (world_at cheap_program witness_header (due_run witness_world late_events))) late_laws);
-      fails = refused_behind late_asked late_before late_during (found (seek_start late_world 1 exclusive_text quiet_resource false 7) late_start)
+      fails = refused_behind late_asked late_before late_during (found (seek_start_under late_asked late_world 1 exclusive_text quiet_resource false 7) late_start)
           (found (seek_for FirstJob (machine_at late_world 1) seek_job) late_job) (found (seek_for FirstSession (machine_at late_world 1) seek_session) late_session)
           (found (seek_stays late_asked late_world (due_run late_world (GiveCommand 1 exclusive_text ∷ late_during)) 1 1 quiet_resource false 7 0) late_stays)
           (found (seek_refuses (world_after late_world (due_run late_world (GiveCommand 1 exclusive_text ∷ late_during))) 1 1) late_refuses);
@@ -143,7 +142,7 @@ rival_laws : IsSome (seek_each_daemon (world_at cheap_program witness_header (du
 unfolding after_answer after_answer_of after_end after_free after_input after_join_answer after_lease_answer after_renewal after_request_read after_see_request after_survey after_value_read area_next before_input begin_next begin_recoveries begin_recovery begins block_rules carry_decision carry_delta carry_lease checked_part count_event decided decoded delta_rules digits due due_step event_forms event_tests field_bytes fields_of finish finish_session first_change forms goes_on_with header_forms header_of header_tests initial_record instance_of join_on_wake kill_holders kills known leader_rules lease_next leave_holdings locks_after lvm_forms lvm_turn machine_of_header magic next_after_deciding next_after_first next_after_verify next_after_watch next_in_joining next_on_wake next_renewal on_exit on_line on_spawned on_wake padded_text pass_tests phase1_block phase2_block refuse renew_on_wake reply_words request_refusal request_rules see_requests settle settle_next settle_on_wake settlings signal_and_refuse spelling stop_of take_input time_out time_outs told_effects u32_at u32_bytes u64_at u64_bytes value_rules
 rival_laws = refl
 
-rival_start : IsSome (seek_start rival_world 1 exclusive_text quiet_resource false 7)
+rival_start : IsSome (seek_start_under rival_asked rival_world 1 exclusive_text quiet_resource false 7)
 unfolding after_answer after_answer_of after_end after_free after_input after_join_answer after_lease_answer after_renewal after_request_read after_see_request after_survey after_value_read area_next before_input begin_next begin_recoveries begin_recovery begins block_rules carry_decision carry_delta carry_lease checked_part count_event decided decoded delta_rules digits due due_step event_forms event_tests field_bytes fields_of finish finish_session first_change forms goes_on_with header_forms header_of header_tests initial_record instance_of join_on_wake kill_holders kills known leader_rules lease_next leave_holdings locks_after lvm_forms lvm_turn machine_of_header magic next_after_deciding next_after_first next_after_verify next_after_watch next_in_joining next_on_wake next_renewal on_exit on_line on_spawned on_wake padded_text pass_tests phase1_block phase2_block refuse renew_on_wake reply_words request_refusal request_rules see_requests settle settle_next settle_on_wake settlings signal_and_refuse spelling stop_of take_input time_out time_outs told_effects u32_at u32_bytes u64_at u64_bytes value_rules
 rival_start = refl
 
@@ -163,11 +162,11 @@ rival_refuses : IsSome (seek_refuses (world_after rival_world (due_run rival_wor
 unfolding after_answer after_answer_of after_end after_free after_input after_join_answer after_lease_answer after_renewal after_request_read after_see_request after_survey after_value_read area_next before_input begin_next begin_recoveries begin_recovery begins block_rules carry_decision carry_delta carry_lease checked_part count_event decided decoded delta_rules digits due due_step event_forms event_tests field_bytes fields_of finish finish_session first_change forms goes_on_with header_forms header_of header_tests initial_record instance_of join_on_wake kill_holders kills known leader_rules lease_next leave_holdings locks_after lvm_forms lvm_turn machine_of_header magic next_after_deciding next_after_first next_after_verify next_after_watch next_in_joining next_on_wake next_renewal on_exit on_line on_spawned on_wake padded_text pass_tests phase1_block phase2_block refuse renew_on_wake reply_words request_refusal request_rules see_requests settle settle_next settle_on_wake settlings signal_and_refuse spelling stop_of take_input time_out time_outs told_effects u32_at u32_bytes u64_at u64_bytes value_rules
 rival_refuses = refl
 
-rival_fails : FailsIn rival_asked rival_events
+rival_fails : FailsIn rival_asked (due_run witness_world rival_events)
 rival_fails =
     record {
       lawful = lawful_by rival_events rival_is_run (found (seek_each_daemon (world_at cheap_program witness_header (due_run witness_world rival_events))) rival_laws);
-      fails = refused_behind rival_asked rival_before rival_during (found (seek_start rival_world 1 exclusive_text quiet_resource false 7) rival_start)
+      fails = refused_behind rival_asked rival_before rival_during (found (seek_start_under rival_asked rival_world 1 exclusive_text quiet_resource false 7) rival_start)
           (found (seek_for FirstJob (machine_at rival_world 1) seek_job) rival_job) (found (seek_for FirstSession (machine_at rival_world 1) seek_session) rival_session)
           (found (seek_stays rival_asked rival_world (due_run rival_world (GiveCommand 1 exclusive_text ∷ rival_during)) 1 1 quiet_resource false 7 0) rival_stays)
           (found (seek_refuses (world_after rival_world (due_run rival_world (GiveCommand 1 exclusive_text ∷ rival_during))) 1 1) rival_refuses);
@@ -195,7 +194,7 @@ sharing_laws : IsSome (seek_each_daemon (world_at cheap_program witness_header (
 unfolding after_answer after_answer_of after_end after_free after_input after_join_answer after_lease_answer after_renewal after_request_read after_see_request after_survey after_value_read area_next before_input begin_next begin_recoveries begin_recovery begins block_rules carry_decision carry_delta carry_lease checked_part count_event decided decoded delta_rules digits due due_step event_forms event_tests field_bytes fields_of finish finish_session first_change forms goes_on_with header_forms header_of header_tests initial_record instance_of join_on_wake kill_holders kills known leader_rules lease_next leave_holdings locks_after lvm_forms lvm_turn machine_of_header magic next_after_deciding next_after_first next_after_verify next_after_watch next_in_joining next_on_wake next_renewal on_exit on_line on_spawned on_wake padded_text pass_tests phase1_block phase2_block refuse renew_on_wake reply_words request_refusal request_rules see_requests settle settle_next settle_on_wake settlings signal_and_refuse spelling stop_of take_input time_out time_outs told_effects u32_at u32_bytes u64_at u64_bytes value_rules
 sharing_laws = refl
 
-sharing_start : IsSome (seek_start sharing_world 1 exclusive_text quiet_resource false 7)
+sharing_start : IsSome (seek_start_under sharing_asked sharing_world 1 exclusive_text quiet_resource false 7)
 unfolding after_answer after_answer_of after_end after_free after_input after_join_answer after_lease_answer after_renewal after_request_read after_see_request after_survey after_value_read area_next before_input begin_next begin_recoveries begin_recovery begins block_rules carry_decision carry_delta carry_lease checked_part count_event decided decoded delta_rules digits due due_step event_forms event_tests field_bytes fields_of finish finish_session first_change forms goes_on_with header_forms header_of header_tests initial_record instance_of join_on_wake kill_holders kills known leader_rules lease_next leave_holdings locks_after lvm_forms lvm_turn machine_of_header magic next_after_deciding next_after_first next_after_verify next_after_watch next_in_joining next_on_wake next_renewal on_exit on_line on_spawned on_wake padded_text pass_tests phase1_block phase2_block refuse renew_on_wake reply_words request_refusal request_rules see_requests settle settle_next settle_on_wake settlings signal_and_refuse spelling stop_of take_input time_out time_outs told_effects u32_at u32_bytes u64_at u64_bytes value_rules
 sharing_start = refl
 
@@ -215,15 +214,15 @@ sharing_refuses : IsSome (seek_refuses (world_after sharing_world (due_run shari
 unfolding after_answer after_answer_of after_end after_free after_input after_join_answer after_lease_answer after_renewal after_request_read after_see_request after_survey after_value_read area_next before_input begin_next begin_recoveries begin_recovery begins block_rules carry_decision carry_delta carry_lease checked_part count_event decided decoded delta_rules digits due due_step event_forms event_tests field_bytes fields_of finish finish_session first_change forms goes_on_with header_forms header_of header_tests initial_record instance_of join_on_wake kill_holders kills known leader_rules lease_next leave_holdings locks_after lvm_forms lvm_turn machine_of_header magic next_after_deciding next_after_first next_after_verify next_after_watch next_in_joining next_on_wake next_renewal on_exit on_line on_spawned on_wake padded_text pass_tests phase1_block phase2_block refuse renew_on_wake reply_words request_refusal request_rules see_requests settle settle_next settle_on_wake settlings signal_and_refuse spelling stop_of take_input time_out time_outs told_effects u32_at u32_bytes u64_at u64_bytes value_rules
 sharing_refuses = refl
 
-sharing_fails : FailsIn sharing_asked (sharing_events ++ asking_events)
+sharing_fails : FailsIn sharing_asked (due_run witness_world (sharing_events ++ asking_events))
 sharing_fails =
     record {
       lawful = lawful_by (sharing_events ++ asking_events) sharing_is_run (found (seek_each_daemon (world_at cheap_program witness_header (due_run witness_world (sharing_events ++ asking_events)))) sharing_laws);
-      fails = refused_behind sharing_asked sharing_before sharing_during (found (seek_start sharing_world 1 exclusive_text quiet_resource false 7) sharing_start)
+      fails = refused_behind sharing_asked sharing_before sharing_during (found (seek_start_under sharing_asked sharing_world 1 exclusive_text quiet_resource false 7) sharing_start)
           (found (seek_for FirstJob (machine_at sharing_world 1) seek_job) sharing_job) (found (seek_for FirstSession (machine_at sharing_world 1) seek_session) sharing_session)
           (found (seek_stays sharing_asked sharing_world (due_run sharing_world (GiveCommand 1 exclusive_text ∷ sharing_during)) 1 1 quiet_resource false 7 0) sharing_stays)
           (found (seek_refuses (world_after sharing_world (due_run sharing_world (GiveCommand 1 exclusive_text ∷ sharing_during))) 1 1) sharing_refuses);
     }
 
 pub premises_tell : PremisesTell
-premises_tell = record { in_time = late_fails; sole_writer = rival_fails; modes_over = sharing_fails }
+premises_tell = record { in_time = late_fails; sole_writer = rival_fails; modes_over = sharing_fails; no_limit = crowded_fails }

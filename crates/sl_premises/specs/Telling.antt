@@ -1,13 +1,19 @@
 -- For each premise a run in which an acquire has all others and is refused.
 use Rattle.sl_examples.specs.Cheap.{cheap_program}
+use Rattle.sl_examples.specs.QuietRows.{asked_area}
 use Rattle.sl_premises.specs.Premises.{GrantedUnder, Premises}
 use Rattle.sl_report.specs.Replay.{due_run}
+use Rattle.sl_run.specs.Events.{happens}
+use Rattle.sl_run.specs.Runs.{Happening}
 use Rattle.sl_run.specs.Safety.{LawfulRun}
-use Rattle.sl_run.specs.declared.event.Event.TheVariants.{AnswerCall, Do, GiveCommand, Land, Pass, Sample}
+use Rattle.sl_run.specs.declared.event.Event.TheVariants.{AnswerCall, Do, GiveCommand, Land, Pass, Sample, WakeUp}
 use Rattle.sl_run.specs.declared.event.Event.{Event}
+use Rattle.sl_trace.specs.Traces.{no_effects}
+use Rattle.sl_trace.specs.declared.effects.Effects.{Effects}
 use Rattle.sl_witness.specs.Quietly.{exclusive_text, shared_text}
 use Rattle.sl_witness.specs.Witness.{witness_header, witness_world}
-use Rattle.std.specs.Prelude.{List, None, codes, false, true, [], ◌++◌, ◌∷◌}
+use Rattle.std.specs.List.{range_with_len}
+use Rattle.std.specs.Prelude.{List, None, codes, false, map, true, [], ◌++◌, ◌∷◌}
 
 -- The third call of machine 1's acquire is answered after io.
 abbrev pub late_events : List Event
@@ -27,12 +33,22 @@ sharing_events = GiveCommand 2 shared_text ∷ Do 2 1 ∷ Do 2 2 ∷ Do 2 3 ∷ 
 abbrev pub asking_events : List Event
 asking_events = GiveCommand 1 exclusive_text ∷ Do 1 1 ∷ Do 1 2 ∷ Do 1 3 ∷ []
 
--- Under these premises the law fails in the run of these events, each daemon doing what is due.
-pub record FailsIn (asked : Premises) (es : List Event) : Type 0 where
-  pub lawful : LawfulRun cheap_program witness_header (due_run witness_world es)
-  pub fails : GrantedUnder asked witness_world (due_run witness_world es) → ⊥
+-- Machine 1 reads 256 other areas at once, each for an acquire: so many resources are counted until its session ends.
+abbrev pub crowd : Effects
+crowd = let fx : Effects = no_effects in record fx { calls = map asked_area (range_with_len 1 256) }
 
+-- Then it asks for the resource, and does what is due. (A host asks for so many one after another; but its first step is lawful too.)
+abbrev pub crowded_run : List Happening
+crowded_run = (WakeUp 1, crowd ∷ []) ∷ due_run (happens witness_world (WakeUp 1) (crowd ∷ [])) (GiveCommand 1 exclusive_text ∷ [])
+
+-- Under these premises the law fails in this run, which is lawful.
+pub record FailsIn (asked : Premises) (xs : List Happening) : Type 0 where
+  pub lawful : LawfulRun cheap_program witness_header xs
+  pub fails : GrantedUnder asked witness_world xs → ⊥
+
+-- In three of them each daemon does what is due.
 pub record PremisesTell : Type 0 where
-  pub in_time : FailsIn (record { in_time = false; sole_writer = true; modes_over = true; no_limit = true }) late_events
-  pub sole_writer : FailsIn (record { in_time = true; sole_writer = false; modes_over = true; no_limit = true }) rival_events
-  pub modes_over : FailsIn (record { in_time = true; sole_writer = true; modes_over = false; no_limit = true }) (sharing_events ++ asking_events)
+  pub in_time : FailsIn (record { in_time = false; sole_writer = true; modes_over = true; no_limit = true }) (due_run witness_world late_events)
+  pub sole_writer : FailsIn (record { in_time = true; sole_writer = false; modes_over = true; no_limit = true }) (due_run witness_world rival_events)
+  pub modes_over : FailsIn (record { in_time = true; sole_writer = true; modes_over = false; no_limit = true }) (due_run witness_world (sharing_events ++ asking_events))
+  pub no_limit : FailsIn (record { in_time = true; sole_writer = true; modes_over = true; no_limit = false }) crowded_run
