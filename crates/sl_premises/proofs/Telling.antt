@@ -26,12 +26,13 @@ use Rattle.std.specs.Fmt.{digits}
 use Rattle.sl_run.specs.Events.{event_tests, first_change, pass_tests}
 use Rattle.sl_examples.specs.Cheap.{cheap_program}
 use Rattle.sl_premises.proofs.Crowded.{crowded_fails}
+use Rattle.sl_premises.proofs.Due.{IsRedone, IsSet, made_by}
 use Rattle.sl_premises.proofs.Seeking.{Refuses, fails, seek_refuses, seek_start_under, seek_stays}
 use Rattle.sl_premises.specs.Premises.{GrantedUnder, Premises, StartUnder, StaysUnder}
-use Rattle.sl_premises.specs.Telling.{FailsIn, PremisesTell, asking_events, late_events, rival_events, sharing_events}
+use Rattle.sl_premises.specs.Telling.{AreTooFew, FailsIn, PremisesTell, asking_events, late_events, rival_events, sharing_events}
 use Rattle.sl_report.specs.Replay.{due_run}
 use Rattle.sl_run.specs.Lawful.{Lawful}
-use Rattle.sl_run.specs.Runs.{EachDaemon, world_after}
+use Rattle.sl_run.specs.Runs.{EachDaemon, Happening, world_after}
 use Rattle.sl_run.specs.Safety.{LawfulRun, world_at}
 use Rattle.sl_run.specs.Worlds.{Machine, World, initial_record, machine_at, machine_of_header}
 use Rattle.sl_run.specs.declared.event.Event.TheVariants.{AnswerCall, Do, GiveCommand, Land, Pass, Sample}
@@ -66,6 +67,10 @@ refused_behind : (asked : Premises) (before during : List Event) → (q : StartU
 refused_behind asked before during q job session stays refuses =
     fails asked witness_world before during exclusive_text quiet_resource false 7 1 0 q (job q.machine q.runs.0 q.daemon q.runs.1)
     (session q.machine q.runs.0 q.daemon q.runs.1 q.session q.named) stays refuses
+
+-- Where it fails in a run whose daemons do what is due, the premises do not suffice.
+too_few_by : (asked : Premises) (xs : List Happening) → FailsIn asked xs → IsRedone (world_at cheap_program witness_header xs) → IsSet (world_at cheap_program witness_header xs) → AreTooFew asked xs
+too_few_by asked xs f redone set = record { in_run = f; too_few = λ suffices. f.fails (suffices cheap_program witness_header xs f.lawful (made_by xs f.lawful redone set)) }
 
 -- ---- late
 
@@ -109,6 +114,14 @@ late_refuses : IsSome (seek_refuses (world_after late_world (due_run late_world 
 unfolding after_answer after_answer_of after_end after_free after_input after_join_answer after_lease_answer after_renewal after_request_read after_see_request after_survey after_value_read area_next before_input begin_next begin_recoveries begin_recovery begins block_rules carry_decision carry_delta carry_lease checked_part count_event decided decoded delta_rules digits due due_step event_forms event_tests field_bytes fields_of finish finish_session first_change forms goes_on_with header_forms header_of header_tests initial_record instance_of join_on_wake kill_holders kills known leader_rules lease_next leave_holdings locks_after lvm_forms lvm_turn machine_of_header magic next_after_deciding next_after_first next_after_verify next_after_watch next_in_joining next_on_wake next_renewal on_exit on_line on_spawned on_wake padded_text pass_tests phase1_block phase2_block refuse renew_on_wake reply_words request_refusal request_rules see_requests settle settle_next settle_on_wake settlings signal_and_refuse spelling stop_of take_input time_out time_outs told_effects u32_at u32_bytes u64_at u64_bytes value_rules
 late_refuses = refl
 
+late_redone : IsRedone (world_at cheap_program witness_header (due_run witness_world late_events))
+unfolding after_answer after_answer_of after_end after_free after_input after_join_answer after_lease_answer after_renewal after_request_read after_see_request after_survey after_value_read area_next before_input begin_next begin_recoveries begin_recovery begins block_rules carry_decision carry_delta carry_lease checked_part count_event decided decoded delta_rules digits due due_step event_forms event_tests field_bytes fields_of finish finish_session first_change forms goes_on_with header_forms header_of header_tests initial_record instance_of join_on_wake kill_holders kills known leader_rules lease_next leave_holdings locks_after lvm_forms lvm_turn machine_of_header magic next_after_deciding next_after_first next_after_verify next_after_watch next_in_joining next_on_wake next_renewal on_exit on_line on_spawned on_wake padded_text pass_tests phase1_block phase2_block refuse renew_on_wake reply_words request_refusal request_rules see_requests settle settle_next settle_on_wake settlings signal_and_refuse spelling stop_of take_input time_out time_outs told_effects u32_at u32_bytes u64_at u64_bytes value_rules
+late_redone = refl
+
+late_set : IsSet (world_at cheap_program witness_header (due_run witness_world late_events))
+unfolding after_answer after_answer_of after_end after_free after_input after_join_answer after_lease_answer after_renewal after_request_read after_see_request after_survey after_value_read area_next before_input begin_next begin_recoveries begin_recovery begins block_rules carry_decision carry_delta carry_lease checked_part count_event decided decoded delta_rules digits due due_step event_forms event_tests field_bytes fields_of finish finish_session first_change forms goes_on_with header_forms header_of header_tests initial_record instance_of join_on_wake kill_holders kills known leader_rules lease_next leave_holdings locks_after lvm_forms lvm_turn machine_of_header magic next_after_deciding next_after_first next_after_verify next_after_watch next_in_joining next_on_wake next_renewal on_exit on_line on_spawned on_wake padded_text pass_tests phase1_block phase2_block refuse renew_on_wake reply_words request_refusal request_rules see_requests settle settle_next settle_on_wake settlings signal_and_refuse spelling stop_of take_input time_out time_outs told_effects u32_at u32_bytes u64_at u64_bytes value_rules
+late_set = refl
+
 late_fails : FailsIn late_asked (due_run witness_world late_events)
 late_fails =
     record {
@@ -118,6 +131,9 @@ late_fails =
           (found (seek_stays late_asked late_world (due_run late_world (GiveCommand 1 exclusive_text ∷ late_during)) 1 1 quiet_resource false 7 0) late_stays)
           (found (seek_refuses (world_after late_world (due_run late_world (GiveCommand 1 exclusive_text ∷ late_during))) 1 1) late_refuses);
     }
+
+late_too_few : AreTooFew late_asked (due_run witness_world late_events)
+late_too_few = too_few_by late_asked (due_run witness_world late_events) late_fails late_redone late_set
 
 -- ---- rival
 
@@ -162,6 +178,14 @@ rival_refuses : IsSome (seek_refuses (world_after rival_world (due_run rival_wor
 unfolding after_answer after_answer_of after_end after_free after_input after_join_answer after_lease_answer after_renewal after_request_read after_see_request after_survey after_value_read area_next before_input begin_next begin_recoveries begin_recovery begins block_rules carry_decision carry_delta carry_lease checked_part count_event decided decoded delta_rules digits due due_step event_forms event_tests field_bytes fields_of finish finish_session first_change forms goes_on_with header_forms header_of header_tests initial_record instance_of join_on_wake kill_holders kills known leader_rules lease_next leave_holdings locks_after lvm_forms lvm_turn machine_of_header magic next_after_deciding next_after_first next_after_verify next_after_watch next_in_joining next_on_wake next_renewal on_exit on_line on_spawned on_wake padded_text pass_tests phase1_block phase2_block refuse renew_on_wake reply_words request_refusal request_rules see_requests settle settle_next settle_on_wake settlings signal_and_refuse spelling stop_of take_input time_out time_outs told_effects u32_at u32_bytes u64_at u64_bytes value_rules
 rival_refuses = refl
 
+rival_redone : IsRedone (world_at cheap_program witness_header (due_run witness_world rival_events))
+unfolding after_answer after_answer_of after_end after_free after_input after_join_answer after_lease_answer after_renewal after_request_read after_see_request after_survey after_value_read area_next before_input begin_next begin_recoveries begin_recovery begins block_rules carry_decision carry_delta carry_lease checked_part count_event decided decoded delta_rules digits due due_step event_forms event_tests field_bytes fields_of finish finish_session first_change forms goes_on_with header_forms header_of header_tests initial_record instance_of join_on_wake kill_holders kills known leader_rules lease_next leave_holdings locks_after lvm_forms lvm_turn machine_of_header magic next_after_deciding next_after_first next_after_verify next_after_watch next_in_joining next_on_wake next_renewal on_exit on_line on_spawned on_wake padded_text pass_tests phase1_block phase2_block refuse renew_on_wake reply_words request_refusal request_rules see_requests settle settle_next settle_on_wake settlings signal_and_refuse spelling stop_of take_input time_out time_outs told_effects u32_at u32_bytes u64_at u64_bytes value_rules
+rival_redone = refl
+
+rival_set : IsSet (world_at cheap_program witness_header (due_run witness_world rival_events))
+unfolding after_answer after_answer_of after_end after_free after_input after_join_answer after_lease_answer after_renewal after_request_read after_see_request after_survey after_value_read area_next before_input begin_next begin_recoveries begin_recovery begins block_rules carry_decision carry_delta carry_lease checked_part count_event decided decoded delta_rules digits due due_step event_forms event_tests field_bytes fields_of finish finish_session first_change forms goes_on_with header_forms header_of header_tests initial_record instance_of join_on_wake kill_holders kills known leader_rules lease_next leave_holdings locks_after lvm_forms lvm_turn machine_of_header magic next_after_deciding next_after_first next_after_verify next_after_watch next_in_joining next_on_wake next_renewal on_exit on_line on_spawned on_wake padded_text pass_tests phase1_block phase2_block refuse renew_on_wake reply_words request_refusal request_rules see_requests settle settle_next settle_on_wake settlings signal_and_refuse spelling stop_of take_input time_out time_outs told_effects u32_at u32_bytes u64_at u64_bytes value_rules
+rival_set = refl
+
 rival_fails : FailsIn rival_asked (due_run witness_world rival_events)
 rival_fails =
     record {
@@ -171,6 +195,9 @@ rival_fails =
           (found (seek_stays rival_asked rival_world (due_run rival_world (GiveCommand 1 exclusive_text ∷ rival_during)) 1 1 quiet_resource false 7 0) rival_stays)
           (found (seek_refuses (world_after rival_world (due_run rival_world (GiveCommand 1 exclusive_text ∷ rival_during))) 1 1) rival_refuses);
     }
+
+rival_too_few : AreTooFew rival_asked (due_run witness_world rival_events)
+rival_too_few = too_few_by rival_asked (due_run witness_world rival_events) rival_fails rival_redone rival_set
 
 -- ---- sharing
 
@@ -214,6 +241,14 @@ sharing_refuses : IsSome (seek_refuses (world_after sharing_world (due_run shari
 unfolding after_answer after_answer_of after_end after_free after_input after_join_answer after_lease_answer after_renewal after_request_read after_see_request after_survey after_value_read area_next before_input begin_next begin_recoveries begin_recovery begins block_rules carry_decision carry_delta carry_lease checked_part count_event decided decoded delta_rules digits due due_step event_forms event_tests field_bytes fields_of finish finish_session first_change forms goes_on_with header_forms header_of header_tests initial_record instance_of join_on_wake kill_holders kills known leader_rules lease_next leave_holdings locks_after lvm_forms lvm_turn machine_of_header magic next_after_deciding next_after_first next_after_verify next_after_watch next_in_joining next_on_wake next_renewal on_exit on_line on_spawned on_wake padded_text pass_tests phase1_block phase2_block refuse renew_on_wake reply_words request_refusal request_rules see_requests settle settle_next settle_on_wake settlings signal_and_refuse spelling stop_of take_input time_out time_outs told_effects u32_at u32_bytes u64_at u64_bytes value_rules
 sharing_refuses = refl
 
+sharing_redone : IsRedone (world_at cheap_program witness_header (due_run witness_world (sharing_events ++ asking_events)))
+unfolding after_answer after_answer_of after_end after_free after_input after_join_answer after_lease_answer after_renewal after_request_read after_see_request after_survey after_value_read area_next before_input begin_next begin_recoveries begin_recovery begins block_rules carry_decision carry_delta carry_lease checked_part count_event decided decoded delta_rules digits due due_step event_forms event_tests field_bytes fields_of finish finish_session first_change forms goes_on_with header_forms header_of header_tests initial_record instance_of join_on_wake kill_holders kills known leader_rules lease_next leave_holdings locks_after lvm_forms lvm_turn machine_of_header magic next_after_deciding next_after_first next_after_verify next_after_watch next_in_joining next_on_wake next_renewal on_exit on_line on_spawned on_wake padded_text pass_tests phase1_block phase2_block refuse renew_on_wake reply_words request_refusal request_rules see_requests settle settle_next settle_on_wake settlings signal_and_refuse spelling stop_of take_input time_out time_outs told_effects u32_at u32_bytes u64_at u64_bytes value_rules
+sharing_redone = refl
+
+sharing_set : IsSet (world_at cheap_program witness_header (due_run witness_world (sharing_events ++ asking_events)))
+unfolding after_answer after_answer_of after_end after_free after_input after_join_answer after_lease_answer after_renewal after_request_read after_see_request after_survey after_value_read area_next before_input begin_next begin_recoveries begin_recovery begins block_rules carry_decision carry_delta carry_lease checked_part count_event decided decoded delta_rules digits due due_step event_forms event_tests field_bytes fields_of finish finish_session first_change forms goes_on_with header_forms header_of header_tests initial_record instance_of join_on_wake kill_holders kills known leader_rules lease_next leave_holdings locks_after lvm_forms lvm_turn machine_of_header magic next_after_deciding next_after_first next_after_verify next_after_watch next_in_joining next_on_wake next_renewal on_exit on_line on_spawned on_wake padded_text pass_tests phase1_block phase2_block refuse renew_on_wake reply_words request_refusal request_rules see_requests settle settle_next settle_on_wake settlings signal_and_refuse spelling stop_of take_input time_out time_outs told_effects u32_at u32_bytes u64_at u64_bytes value_rules
+sharing_set = refl
+
 sharing_fails : FailsIn sharing_asked (due_run witness_world (sharing_events ++ asking_events))
 sharing_fails =
     record {
@@ -224,5 +259,8 @@ sharing_fails =
           (found (seek_refuses (world_after sharing_world (due_run sharing_world (GiveCommand 1 exclusive_text ∷ sharing_during))) 1 1) sharing_refuses);
     }
 
+sharing_too_few : AreTooFew sharing_asked (due_run witness_world (sharing_events ++ asking_events))
+sharing_too_few = too_few_by sharing_asked (due_run witness_world (sharing_events ++ asking_events)) sharing_fails sharing_redone sharing_set
+
 pub premises_tell : PremisesTell
-premises_tell = record { in_time = late_fails; sole_writer = rival_fails; modes_over = sharing_fails; no_limit = crowded_fails }
+premises_tell = record { in_time = late_too_few; sole_writer = rival_too_few; modes_over = sharing_too_few; no_limit = crowded_fails }

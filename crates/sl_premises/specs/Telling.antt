@@ -1,7 +1,7 @@
 -- For each premise a run in which an acquire has all others and is refused.
 use Rattle.sl_examples.specs.Cheap.{cheap_program}
 use Rattle.sl_examples.specs.QuietRows.{asked_area}
-use Rattle.sl_premises.specs.Premises.{GrantedUnder, Premises}
+use Rattle.sl_premises.specs.Premises.{GrantedUnder, Premises, PremisesSuffice}
 use Rattle.sl_report.specs.Replay.{due_run}
 use Rattle.sl_run.specs.Events.{happens}
 use Rattle.sl_run.specs.Runs.{Happening}
@@ -46,9 +46,13 @@ pub record FailsIn (asked : Premises) (xs : List Happening) : Type 0 where
   pub lawful : LawfulRun cheap_program witness_header xs
   pub fails : GrantedUnder asked witness_world xs → ⊥
 
--- In three of them each daemon does what is due.
+-- .. and each daemon does what is due: so they do not suffice.
+pub record AreTooFew (asked : Premises) (xs : List Happening) : Type 0 where
+  pub in_run : FailsIn asked xs
+  pub too_few : PremisesSuffice asked → ⊥
+
 pub record PremisesTell : Type 0 where
-  pub in_time : FailsIn (record { in_time = false; sole_writer = true; modes_over = true; no_limit = true }) (due_run witness_world late_events)
-  pub sole_writer : FailsIn (record { in_time = true; sole_writer = false; modes_over = true; no_limit = true }) (due_run witness_world rival_events)
-  pub modes_over : FailsIn (record { in_time = true; sole_writer = true; modes_over = false; no_limit = true }) (due_run witness_world (sharing_events ++ asking_events))
+  pub in_time : AreTooFew (record { in_time = false; sole_writer = true; modes_over = true; no_limit = true }) (due_run witness_world late_events)
+  pub sole_writer : AreTooFew (record { in_time = true; sole_writer = false; modes_over = true; no_limit = true }) (due_run witness_world rival_events)
+  pub modes_over : AreTooFew (record { in_time = true; sole_writer = true; modes_over = false; no_limit = true }) (due_run witness_world (sharing_events ++ asking_events))
   pub no_limit : FailsIn (record { in_time = true; sole_writer = true; modes_over = true; no_limit = false }) crowded_run
