@@ -70,8 +70,8 @@ seek_lease_read st at c Phase2Read = seek_block_read st at c
 seek_lease_read st at c Phase1Write = seek_true (is_write c.call.op)
 seek_lease_read st at c Phase2Write = seek_true (is_write c.call.op)
 seek_lease_read st at c TakeLeader = seek_true (is_write c.call.op)
-seek_lease_read st at c SetMode = None
-seek_lease_read st at c FreeLeader = None
+seek_lease_read st at c SetMode = seek_true (is_write c.call.op)
+seek_lease_read st at c FreeLeader = seek_true (is_write c.call.op)
 seek_lease_read st at c ClearMode = None
 
 abbrev pub seek_right_read : (st : Setting) (at : Spot) (c : Submitted) (p : Purpose) → Option (IsRightRead st at c p)

@@ -1,6 +1,6 @@
--- A search for the law of block writing, with the one reason that the run needs: the leader before is free, or its owner is over.
+-- A search for the law of block writing, with the one reason that the runs need: the leader before is free, or its owner is over.
 use Rattle.sl_area.specs.Places.{area_blocks, leader_of}
-use Rattle.sl_run.specs.LawfulBlock.{BeginReason, Leader_before, LawfulBlock, LawfulBlockStep, LawfulBlockWrite, LawfulPhase1, LawfulPhase2, LawfulPhase2Read, ReadAfter}
+use Rattle.sl_run.specs.LawfulBlock.{BeginReason, Leader_before, LawfulBlock, LawfulBlockStep, LawfulBlockWrite, LawfulModeWrite, LawfulPhase1, LawfulPhase2, LawfulPhase2Read, ReadAfter}
 use Rattle.sl_trace.specs.Ballots.{ballot_blocks, moded_block, phase1_block, phase2_block, stop_of}
 use Rattle.sl_trace.specs.Leases.{Phase1_read, Phase1_write, Phase2_read, Phase2_write, block_written, blocks_given, freed, is_area_read, is_at, is_leader_of, last_blocks, lease_calls, lease_step, own_block, spot_of_call}
 use Rattle.sl_sector.specs.declared.sector.Block.{Block}
@@ -10,7 +10,7 @@ use Rattle.sl_trace.specs.Watching.{counted_over}
 use Rattle.sl_trace.specs.declared.session.Session.{Session}
 use Rattle.sl_trace.specs.Traces.{Setting, Submitted, Trace, gave}
 use Rattle.sl_trace.specs.declared.effects.Entry.{Entry}
-use Rattle.sl_trace.specs.declared.effects.LeaseStep.TheVariants.{Phase1Write, Phase2Write}
+use Rattle.sl_trace.specs.declared.effects.LeaseStep.TheVariants.{Phase1Write, Phase2Write, SetMode}
 use Rattle.sl_trace.specs.declared.effects.LeaseStep.{LeaseStep}
 use Rattle.sl_trace.specs.declared.effects.Spot.{Spot}
 use Rattle.sl_trace.specs.declared.effects.Work.{Work}
@@ -132,12 +132,21 @@ seek_phase2_read st es s at c = do
   ordered ← seek_read_after write.0 c
   Some (record { write = write.0; last = write.1; is_phase2 = second; ordered = ordered })
 
+-- A write of the mode alone.
+abbrev pub seek_mode_write : (st : Setting) (es : Trace) (s : Session) (at : Spot) (b : Block) → Option (LawfulModeWrite st es s at b)
+seek_mode_write st es s at b = do
+  own ← seek_some (own_block st.layout s.id (lease_calls st es s at))
+  begun ← seek_le 1 own.0.lver
+  written ← seek_block b (moded_block own.0 b.shared b.mode_gen)
+  Some (record { own = own.0; known = own.1; begun = begun; written = written })
+
 -- ---- the law
 
 abbrev pub seek_block_step : (st : Setting) (es : Trace) (s : Session) (at : Spot) (c : Submitted) (b : Block) (step : LeaseStep)
     → Option (LawfulBlockStep st es s at c b step)
 seek_block_step st es s at c b Phase1Write = seek_phase1 st es s at c b
 seek_block_step st es s at c b Phase2Write = seek_phase2 st es s at c b
+seek_block_step st es s at c b SetMode = seek_mode_write st es s at b
 seek_block_step st es s at c b step = None
 
 abbrev pub seek_block_of : (st : Setting) (es : Trace) (s : Session) (at : Spot) (c : Submitted) (b : Block) (p : Option (Work × LeaseStep))

@@ -12,11 +12,12 @@ use Rattle.sl_trace.specs.Traces.{Setting, Trace, record_of}
 use Rattle.sl_trace.specs.declared.effects.Call.{Call}
 use Rattle.sl_trace.specs.declared.effects.Entry.{Entry}
 use Rattle.sl_witness.proofs.Eaches.{seek_each_call}
-use Rattle.sl_witness.proofs.Seeking.{seek_all, seek_false, seek_for, seek_le, seek_lt, seek_same, seek_true, ◌>>=◌}
+use Rattle.sl_witness.proofs.Seeking.{seek_all, seek_for, seek_le, seek_lt, seek_same, seek_true, ◌>>=◌}
+use Rattle.sl_words.proofs.CaseLaws.{true_is_false}
 use Rattle.sl_words.specs.Bounds.{moments, most_hosts, record_numbers}
-use Rattle.std.proofs.Common.{refl}
+use Rattle.std.proofs.Common.{refl, sym, ◌∙◌}
 use Rattle.std.specs.List.{list_all}
-use Rattle.std.specs.Prelude.{Bool, Contains, IsSome, IsSomeAnd, IsTrue, List, None, Option, Some, false, is_some, length, nat_lt, suc, zero, ℕ, ◌<◌, ◌↔◌, ◌∷◌, ◌≡◌}
+use Rattle.std.specs.Prelude.{Bool, Contains, IsSome, IsSomeAnd, IsTrue, List, None, Option, Some, false, is_some, length, nat_lt, suc, true, zero, ℕ, ◌<◌, ◌↔◌, ◌∷◌, ◌≡◌}
 use native.Mathlib.Omega.{arith}
 
 -- ---- numbers that are 0 together
@@ -101,6 +102,17 @@ seek_is_leader l = do
 pub no_mode : (b : Bool) (n : ℕ) → b ≡ false → n ≡ 0 → b ≡ false ↔ n ≡ 0
 no_mode b n p q = (λ h. q, λ h. p)
 
+pub a_mode : (b : Bool) (n : ℕ) → b ≡ true → 0 < n → b ≡ false ↔ n ≡ 0
+a_mode b n p q = (λ h. absurd (true_is_false (sym p ∙ h)), λ h. absurd (omega (arith, h, q)))
+
+abbrev pub seek_block_mode : (b : Bool) (n : ℕ) → Option (b ≡ false ↔ n ≡ 0)
+seek_block_mode true n = do
+  begun ← seek_lt 0 n
+  Some (a_mode true n refl begun)
+seek_block_mode false n = do
+  none ← seek_same n 0
+  Some (no_mode false n refl none)
+
 abbrev pub seek_is_block : (b : Block) → Option (IsBlock b)
 seek_is_block b = do
   low ← seek_le 1 b.host
@@ -114,8 +126,7 @@ seek_is_block b = do
   inp ← seek_le b.inp most_hosts
   first ← seek_zeros b.bal b.inp_gen
   second ← seek_zeros b.bal b.inp
-  exclusive ← seek_false b.shared
-  no_generation ← seek_same b.mode_gen 0
+  mode ← seek_block_mode b.shared b.mode_gen
   Some (record {
     host = (low, high);
     lver = lver;
@@ -124,7 +135,7 @@ seek_is_block b = do
     generations = (inp_gen, mode_gen);
     inp = inp;
     value = (first, second);
-    mode = no_mode b.shared b.mode_gen exclusive no_generation;
+    mode = mode;
     unused = not_zero _ b.lver begun;
   })
 

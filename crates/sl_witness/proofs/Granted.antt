@@ -50,17 +50,17 @@ world = witness_world
 
 -- ---- numbers
 
-abbrev FirstJob : Machine → Type 0
+abbrev pub FirstJob : Machine → Type 0
 FirstJob a = (d : Daemon) → a.daemon ≡ Some d → next_job d.setting d.trace ≡ 1
 
-abbrev seek_job : (a : Machine) → Option (FirstJob a)
+abbrev pub seek_job : (a : Machine) → Option (FirstJob a)
 seek_job a = seek_for (λ d. next_job d.setting d.trace ≡ 1) a.daemon (λ d. seek_same (next_job d.setting d.trace) 1)
 
-abbrev FirstSession : Machine → Type 0
+abbrev pub FirstSession : Machine → Type 0
 FirstSession a =
     (d : Daemon) → a.daemon ≡ Some d → (s : Session) → session_named d.setting (before_command d (reading_now a)) quiet_resource.lockspace ≡ Some s → s.number ≡ 0
 
-abbrev seek_session : (a : Machine) → Option (FirstSession a)
+abbrev pub seek_session : (a : Machine) → Option (FirstSession a)
 seek_session a =
     seek_for (λ d. (s : Session) → session_named d.setting (before_command d (reading_now a)) quiet_resource.lockspace ≡ Some s → s.number ≡ 0) a.daemon
     (λ d. seek_for (λ s. s.number ≡ 0) (session_named d.setting (before_command d (reading_now a)) quiet_resource.lockspace) (λ s. seek_same s.number 0))
@@ -121,6 +121,8 @@ exclusive_granted =
     let start : QuietStart world 1 exclusive_text quiet_resource false 7 = found (seek_start world 1 exclusive_text quiet_resource false 7) exclusive_start in
     let ends : Ends exclusive_end 1 1 6 1 = found (seek_ends exclusive_end 1 1 6 1) exclusive_ends in
     record {
+      lawful = exclusive_is_lawful;
+      each = exclusive_each;
       start = start;
       job = found (seek_for FirstJob (machine_at world 1) seek_job) job_found start.machine start.runs.0 start.daemon start.runs.1;
       session = found (seek_for FirstSession (machine_at world 1) seek_session) session_found start.machine start.runs.0 start.daemon start.runs.1 start.session start.named;
@@ -140,6 +142,14 @@ shared_run = due_run world shared_events
 abbrev shared_end : World
 shared_end = world_at cheap_program witness_header shared_run
 
+shared_is_run : IsSome (seek_run world shared_events)
+unfolding after_answer after_answer_of after_end after_free after_input after_join_answer after_lease_answer after_renewal after_request_read after_see_request after_survey after_value_read area_next before_input begin_next begin_recoveries begin_recovery begins block_rules carry_decision carry_delta carry_lease checked_part count_event decided decoded delta_rules digits due due_step event_forms event_tests field_bytes fields_of finish finish_session first_change forms goes_on_with header_forms header_of header_tests initial_record instance_of join_on_wake kill_holders kills known leader_rules lease_next leave_holdings locks_after lvm_forms lvm_turn machine_of_header magic next_after_deciding next_after_first next_after_verify next_after_watch next_in_joining next_on_wake next_renewal on_exit on_line on_spawned on_wake padded_text pass_tests phase1_block phase2_block refuse renew_on_wake reply_words request_refusal request_rules see_requests settle settle_next settle_on_wake settlings signal_and_refuse spelling stop_of take_input time_out time_outs told_effects u32_at u32_bytes u64_at u64_bytes value_rules
+shared_is_run = refl
+
+shared_laws : IsSome (seek_each_daemon shared_end)
+unfolding after_answer after_answer_of after_end after_free after_input after_join_answer after_lease_answer after_renewal after_request_read after_see_request after_survey after_value_read area_next before_input begin_next begin_recoveries begin_recovery begins block_rules carry_decision carry_delta carry_lease checked_part count_event decided decoded delta_rules digits due due_step event_forms event_tests field_bytes fields_of finish finish_session first_change forms goes_on_with header_forms header_of header_tests initial_record instance_of join_on_wake kill_holders kills known leader_rules lease_next leave_holdings locks_after lvm_forms lvm_turn machine_of_header magic next_after_deciding next_after_first next_after_verify next_after_watch next_in_joining next_on_wake next_renewal on_exit on_line on_spawned on_wake padded_text pass_tests phase1_block phase2_block refuse renew_on_wake reply_words request_refusal request_rules see_requests settle settle_next settle_on_wake settlings signal_and_refuse spelling stop_of take_input time_out time_outs told_effects u32_at u32_bytes u64_at u64_bytes value_rules
+shared_laws = refl
+
 shared_start : IsSome (seek_start world 1 shared_text quiet_resource true 7)
 unfolding after_answer after_answer_of after_end after_free after_input after_join_answer after_lease_answer after_renewal after_request_read after_see_request after_survey after_value_read area_next before_input begin_next begin_recoveries begin_recovery begins block_rules carry_decision carry_delta carry_lease checked_part count_event decided decoded delta_rules digits due due_step event_forms event_tests field_bytes fields_of finish finish_session first_change forms goes_on_with header_forms header_of header_tests initial_record instance_of join_on_wake kill_holders kills known leader_rules lease_next leave_holdings locks_after lvm_forms lvm_turn machine_of_header magic next_after_deciding next_after_first next_after_verify next_after_watch next_in_joining next_on_wake next_renewal on_exit on_line on_spawned on_wake padded_text pass_tests phase1_block phase2_block refuse renew_on_wake reply_words request_refusal request_rules see_requests settle settle_next settle_on_wake settlings signal_and_refuse spelling stop_of take_input time_out time_outs told_effects u32_at u32_bytes u64_at u64_bytes value_rules
 shared_start = refl
@@ -152,11 +162,25 @@ shared_ends : IsSome (seek_ends shared_end 1 1 8 1)
 unfolding after_answer after_answer_of after_end after_free after_input after_join_answer after_lease_answer after_renewal after_request_read after_see_request after_survey after_value_read area_next before_input begin_next begin_recoveries begin_recovery begins block_rules carry_decision carry_delta carry_lease checked_part count_event decided decoded delta_rules digits due due_step event_forms event_tests field_bytes fields_of finish finish_session first_change forms goes_on_with header_forms header_of header_tests initial_record instance_of join_on_wake kill_holders kills known leader_rules lease_next leave_holdings locks_after lvm_forms lvm_turn machine_of_header magic next_after_deciding next_after_first next_after_verify next_after_watch next_in_joining next_on_wake next_renewal on_exit on_line on_spawned on_wake padded_text pass_tests phase1_block phase2_block refuse renew_on_wake reply_words request_refusal request_rules see_requests settle settle_next settle_on_wake settlings signal_and_refuse spelling stop_of take_input time_out time_outs told_effects u32_at u32_bytes u64_at u64_bytes value_rules
 shared_ends = refl
 
+shared_each : EachDaemon Lawful shared_end
+shared_each = found (seek_each_daemon shared_end) shared_laws
+
+shared_is_lawful : LawfulRun cheap_program witness_header shared_run
+shared_is_lawful =
+    record {
+      header = found (seek_header witness_header) header_found;
+      digest = cheap_is_digest;
+      is_run = found (seek_run world shared_events) shared_is_run;
+      lawful = λ d has. (shared_each d has).orderly;
+    }
+
 shared_granted : IsQuietlyGranted shared_events shared_text true 8
 shared_granted =
     let start : QuietStart world 1 shared_text quiet_resource true 7 = found (seek_start world 1 shared_text quiet_resource true 7) shared_start in
     let ends : Ends shared_end 1 1 8 1 = found (seek_ends shared_end 1 1 8 1) shared_ends in
     record {
+      lawful = shared_is_lawful;
+      each = shared_each;
       start = start;
       job = found (seek_for FirstJob (machine_at world 1) seek_job) job_found start.machine start.runs.0 start.daemon start.runs.1;
       session = found (seek_for FirstSession (machine_at world 1) seek_session) session_found start.machine start.runs.0 start.daemon start.runs.1 start.session start.named;
@@ -169,4 +193,4 @@ shared_granted =
     }
 
 pub quiet_acquires_are_shown : QuietAcquiresAreShown
-quiet_acquires_are_shown = record { lawful = exclusive_is_lawful; each = exclusive_each; exclusive = exclusive_granted; shared = shared_granted }
+quiet_acquires_are_shown = record { exclusive = exclusive_granted; shared = shared_granted }

@@ -6,6 +6,7 @@ pub mod Calls
 pub mod Deltas
 pub mod Areas
 pub mod Leaders
+pub mod Shares
 pub mod Modes
 pub mod Watches
 pub mod Traces

@@ -1,4 +1,4 @@
--- A search for the laws of modes and of grants, in a run in which all is exclusive.
+-- A search for the laws of modes and of grants.
 use Rattle.sl_area.specs.Places.{is_base}
 use Rattle.sl_run.specs.LawfulBlock.{ReadAfter}
 use Rattle.sl_run.specs.LawfulGrant.{HasTaken, LawfulGrant, LawfulGrantTo, LawfulOrphan}
@@ -7,7 +7,7 @@ use Rattle.sl_run.specs.LawfulModes.{LawfulExclusiveGrant, LawfulMode, LawfulMod
 use Rattle.sl_trace.specs.Leases.{Mode_set, Phase1_write, block_of_host, block_written, blocks_given, freed, has_shared_on, is_at, is_block_read, leader_written, lease_calls, spot_of_call}
 use Rattle.sl_sector.specs.declared.sector.Block.{Block}
 use Rattle.sl_sector.specs.declared.sector.Leader.{Leader}
-use Rattle.sl_trace.specs.Sessions.{is_active, session_numbered}
+use Rattle.sl_trace.specs.Sessions.{generation_of, is_active, session_numbered}
 use Rattle.sl_trace.specs.Watching.{counted_over}
 use Rattle.sl_trace.specs.declared.session.Session.{Session}
 use Rattle.sl_trace.specs.Traces.{Setting, Submitted, Trace, held_by, holdings, is_answered_ok, is_orphan, is_shared, same_place, spot_of_grant}
@@ -17,6 +17,8 @@ use Rattle.sl_trace.specs.declared.effects.Spot.{Spot}
 use Rattle.sl_witness.proofs.Blocks.{seek_read_after}
 use Rattle.sl_witness.proofs.Eaches.{seek_each_call}
 use Rattle.sl_witness.proofs.Leaders.{seek_won}
+use Rattle.sl_witness.proofs.Sames.{seek_where_exclusive}
+use Rattle.sl_witness.proofs.Shares.{seek_shared_grant}
 use Rattle.sl_witness.proofs.Seeking.{seek_all, seek_any, seek_by, seek_false, seek_for, seek_lt, seek_same, seek_some, seek_text, seek_true, seek_up_to, ◌>>=◌}
 use Rattle.sl_words.proofs.CaseLaws.{not_both}
 use Rattle.sl_words.specs.Words.{present}
@@ -120,7 +122,7 @@ seek_exclusive_grant st es s at n = do
 abbrev pub seek_mode_grant : (st : Setting) (past es : Trace) (s : Session) (g : Grant) → Option (LawfulModeGrant st past es s g)
 seek_mode_grant st past es s g =
     seek_by {P = LawfulSharedGrant st past es s (spot_of_grant g) g.lver} {Q = LawfulExclusiveGrant st es s (spot_of_grant g) g.lver}
-    (is_shared g.mode) None (seek_exclusive_grant st es s (spot_of_grant g) g.lver)
+    (is_shared g.mode) (seek_shared_grant st past es s (spot_of_grant g) g.lver) (seek_exclusive_grant st es s (spot_of_grant g) g.lver)
 
 -- ---- the mode of a block
 
@@ -131,11 +133,24 @@ no_mode_by st es s c b none nor = record {
   own = λ h. absurd (not_both b.shared h none);
 }
 
-abbrev pub seek_mode : (st : Setting) (es : Trace) (s : Session) (c : Submitted) (b : Block) → Option (LawfulMode st es s c b)
-seek_mode st es s c b = do
+pub mode_by : (st : Setting) (es : Trace) (s : Session) (c : Submitted) (b : Block) → IsTrue b.shared
+    → IsTrue (has_shared_on es s (spot_of_call st.layout c) || is_at Mode_set c) → b.mode_gen ≡ generation_of es s → LawfulMode st es s c b
+mode_by st es s c b is so own = record { exact = (λ h. so, λ h. is); own = λ h. own }
+
+abbrev pub seek_no_mode : (st : Setting) (es : Trace) (s : Session) (c : Submitted) (b : Block) → Option (LawfulMode st es s c b)
+seek_no_mode st es s c b = do
   none ← seek_false b.shared
   nor ← seek_false (has_shared_on es s (spot_of_call st.layout c) || is_at Mode_set c)
   Some (no_mode_by st es s c b none nor)
+
+abbrev pub seek_mode : (st : Setting) (es : Trace) (s : Session) (c : Submitted) (b : Block) → Option (LawfulMode st es s c b)
+seek_mode st es s c b = elim (seek_true b.shared) [
+  | None ↦ seek_no_mode st es s c b
+  | Some is ↦ do
+    so ← seek_true (has_shared_on es s (spot_of_call st.layout c) || is_at Mode_set c)
+    own ← seek_same b.mode_gen (generation_of es s)
+    Some (mode_by st es s c b is so own)
+]
 
 -- ---- the laws
 
@@ -196,16 +211,16 @@ seek_grant_to st es s g = do
   placed ← seek_true (is_base st.layout g.offset)
   alone ← seek_all (GoesBeside g) (seek_beside g) (holdings es)
   single ← seek_same (length (held_by (holdings es) g.process g.path g.offset)) 1
-  taken ← seek_taken st es s (spot_of_grant g) g.lver
-  not_freed ← seek_lt (freed (lease_calls st es s (spot_of_grant g))) g.lver
+  taken ← seek_where_exclusive g.mode (seek_taken st es s (spot_of_grant g) g.lver)
+  not_freed ← seek_where_exclusive g.mode (seek_lt (freed (lease_calls st es s (spot_of_grant g))) g.lver)
   Some (record {
     active = λ other. active;
     lockspace = lockspace;
     placed = placed;
     alone = alone;
     single = single;
-    taken = λ h. taken;
-    not_freed = λ h. not_freed;
+    taken = taken;
+    not_freed = not_freed;
   })
 
 -- The grant is no orphan.

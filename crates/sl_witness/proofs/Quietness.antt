@@ -8,15 +8,17 @@ use Rattle.sl_run.specs.Quiet.{AnsweredInTime, QuietStart, QuietStep, StaysQuiet
 use Rattle.sl_run.specs.Runs.{Happening}
 use Rattle.sl_run.specs.Safety.{block_there}
 use Rattle.sl_run.specs.Worlds.{Course, Daemon, Machine, World, is_open, is_write_course, machine_at, reading_now}
-use Rattle.sl_run.specs.declared.event.Event.TheVariants.{Crash, Do, ExitOf, GiveCommand, Reset}
+use Rattle.sl_run.specs.declared.event.Event.TheVariants.{AnswerCall, Crash, Do, ExitOf, GiveCommand, Land, Pass, Reset, Sample}
 use Rattle.sl_run.specs.declared.event.Event.{Event}
 use Rattle.sl_sector.specs.declared.sector.Block.{Block}
 use Rattle.sl_trace.specs.Sessions.{is_active, session_named, session_numbered}
 use Rattle.sl_trace.specs.declared.session.Session.{Session}
-use Rattle.sl_trace.specs.Traces.{Answered, Replied, Submitted, is_of_job, is_ok_answer, reply_to, submitted}
+use Rattle.sl_trace.specs.Traces.{Answered, Replied, Submitted, is_of_job, is_ok_answer, is_write, reply_to, submitted}
 use Rattle.sl_trace.specs.declared.command.Command.TheVariants.{Acquire}
 use Rattle.sl_trace.specs.declared.command.Command.{Command}
 use Rattle.sl_trace.specs.declared.command.ResourceArg.{ResourceArg}
+use Rattle.sl_trace.specs.declared.effects.Call.{Call}
+use Rattle.sl_trace.specs.declared.effects.Effects.{Effects}
 use Rattle.sl_trace.specs.declared.reply.Reply.TheVariants.{Granted}
 use Rattle.sl_trace.specs.declared.reply.Reply.{Reply}
 use Rattle.sl_witness.proofs.Seeking.{seek_all, seek_empty, seek_false, seek_for, seek_if, seek_lt, seek_le, seek_none, seek_same, seek_some, seek_text, seek_true, seek_up_to, ◌>>=◌}
@@ -166,9 +168,25 @@ command_goes_on k text m p = (λ h. cc, λ h. cc, λ h. cc)
 pub do_goes_on : (k c : ℕ) (m p : ℕ) → Goes_on (Do k c) m p
 do_goes_on k c m p = (λ h. cc, λ h. cc, λ h. cc)
 
+pub pass_goes_on : (d : ℕ) (growths : Option (List ℕ)) (m p : ℕ) → Goes_on (Pass d growths) m p
+pass_goes_on d growths m p = (λ h. cc, λ h. cc, λ h. cc)
+
+pub sample_goes_on : (k c n : ℕ) (m p : ℕ) → Goes_on (Sample k c n) m p
+sample_goes_on k c n m p = (λ h. cc, λ h. cc, λ h. cc)
+
+pub answer_goes_on : (k c : ℕ) (ok : Bool) (m p : ℕ) → Goes_on (AnswerCall k c ok) m p
+answer_goes_on k c ok m p = (λ h. cc, λ h. cc, λ h. cc)
+
+pub land_goes_on : (k c : ℕ) (m p : ℕ) → Goes_on (Land k c) m p
+land_goes_on k c m p = (λ h. cc, λ h. cc, λ h. cc)
+
 abbrev pub seek_goes_on : (e : Event) (m p : ℕ) → Option (Goes_on e m p)
 seek_goes_on (GiveCommand k text) m p = Some (command_goes_on k text m p)
 seek_goes_on (Do k c) m p = Some (do_goes_on k c m p)
+seek_goes_on (Pass d growths) m p = Some (pass_goes_on d growths m p)
+seek_goes_on (Sample k c n) m p = Some (sample_goes_on k c n m p)
+seek_goes_on (AnswerCall k c ok) m p = Some (answer_goes_on k c ok m p)
+seek_goes_on (Land k c) m p = Some (land_goes_on k c m p)
 seek_goes_on e m p = None
 
 abbrev pub ActiveIn : ℕ → Machine → Type 0
@@ -200,16 +218,48 @@ seek_answers io job a =
 pub not_shared : (b : Block) → b.shared ≡ false → b.shared ≡ true → ⊥
 not_shared b none is = true_is_false (sym is ∙ none)
 
+-- What is said of each call of the event: it is no write on the area.
+abbrev pub NoWrite : World → ResourceArg → Call → Type 0
+NoWrite w r c = IsTrue (is_write c.op) → IsTrue (is_on w.layout (spot_of r) c) → ⊥
+
+pub not_written : (a b : Bool) → (a && b) ≡ false → IsTrue a → IsTrue b → ⊥
+not_written true true h is on = true_is_false h
+not_written true false h is on = true_is_false (sym on)
+not_written false b h is on = true_is_false (sym is)
+
+abbrev pub seek_no_write : (w : World) (r : ResourceArg) (c : Call) → Option (NoWrite w r c)
+seek_no_write w r c = do
+  h ← seek_false (is_write c.op && is_on w.layout (spot_of r) c)
+  Some (not_written (is_write c.op) (is_on w.layout (spot_of r) c) h)
+
+-- No other daemon submits a write on the area.
+abbrev pub NoOther : World → Happening → ℕ → ResourceArg → Type 0
+NoOther w x m r = (fx : Effects) (c : Call) → Contains x.1 fx → Contains fx.calls c → (machine_of x.0 ≡ m → ⊥) → NoWrite w r c
+
+pub own_alone : (w : World) (x : Happening) (m : ℕ) (r : ResourceArg) → machine_of x.0 ≡ m → NoOther w x m r
+own_alone w x m r same fx c has called other = absurd (other same)
+
+pub none_written : (w : World) (x : Happening) (m : ℕ) (r : ResourceArg) → ((fx : Effects) → Contains x.1 fx → (c : Call) → Contains fx.calls c → NoWrite w r c) → NoOther w x m r
+none_written w x m r none fx c has called other = none fx has c called
+
+abbrev pub seek_no_other : (w : World) (x : Happening) (m : ℕ) (r : ResourceArg) → Option (NoOther w x m r)
+seek_no_other w x m r = elim (seek_same (machine_of x.0) m) [
+  | Some same ↦ Some (own_alone w x m r same)
+  | None ↦ do
+    none ← seek_all (λ (fx : Effects). (c : Call) → Contains fx.calls c → NoWrite w r c) (λ fx. seek_all (NoWrite w r) (seek_no_write w r) fx.calls) x.1
+    Some (none_written w x m r none)
+]
+
 abbrev pub seek_step : (w : World) (x : Happening) (v : World) (m job : ℕ) (r : ResourceArg) (shared : Bool) (p number : ℕ) → Option (QuietStep w x v m job r shared p number)
 seek_step w x v m job r shared p number = do
   modes ← seek_modes w r shared
-  same ← seek_same (machine_of x.0) m
+  calm ← seek_no_other w x m r
   active ← seek_for (ActiveIn number) (machine_at v m) (seek_active number)
   stays ← seek_goes_on x.0 m p
   answers ← seek_for (AnswersIn w.header.timing.io job) (machine_at v m) (seek_answers w.header.timing.io job)
   Some (record {
     modes = λ exclusive host b a d s low high other at runs its spells is. absurd (not_shared b (modes exclusive host low high b spells) is);
-    calm = λ fx c has called other writes on. other same;
+    calm = calm;
     active = λ a d s at runs its. active a at d runs s its;
     stays = stays;
     answers = λ a d c at runs has of. answers a at d runs c has of;

@@ -3,13 +3,13 @@ use Rattle.sl_examples.specs.Cheap.{cheap_digest}
 use Rattle.sl_run_report.proofs.Reported.{has_steps}
 use Rattle.sl_report.specs.Replay.{due_run, effects_of}
 use Rattle.sl_run.specs.Events.{happens, may_happen}
-use Rattle.sl_run.specs.Runs.{IsRun}
+use Rattle.sl_run.specs.Runs.{IsRun, world_after}
 use Rattle.sl_run.specs.Worlds.{World}
 use Rattle.sl_run.specs.declared.event.Event.{Event}
 use Rattle.sl_sector.specs.Fields.{u32_bytes}
 use Rattle.sl_sector.specs.Spelling.{IsDigest}
 use Rattle.sl_witness.proofs.Seeking.{seek_true, ◌>>=◌}
-use Rattle.std.proofs.Common.{arith, lt-ltb, mod-lt, refl}
+use Rattle.std.proofs.Common.{ap, arith, lt-ltb, mod-lt, refl}
 use Rattle.std.specs.List.{list_all}
 use Rattle.std.specs.Prelude.{IsTrue, List, Option, Some, length, nat_lt, replicate, sum, true, [], ℕ, ◌%◌, ◌++◌, ◌/◌, ◌∷◌, ◌≡◌}
 
@@ -19,6 +19,11 @@ seek_run w (e ∷ es) = do
   may ← seek_true (may_happen w e)
   rest ← seek_run (happens w e (effects_of w e)) es
   Some (may, has_steps w e, rest)
+
+-- The run of more events goes on from where that of the first ends.
+pub due_run-append : (w : World) (es fs : List Event) → due_run w (es ++ fs) ≡ due_run w es ++ due_run (world_after w (due_run w es)) fs
+due_run-append w [] fs = refl
+due_run-append w (e ∷ es) fs = ap (λ xs. (e, effects_of w e) ∷ xs) (due_run-append (happens w e (effects_of w e)) es fs)
 
 -- ---- the digest
 

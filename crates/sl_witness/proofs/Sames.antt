@@ -126,6 +126,16 @@ abbrev pub seek_exclusive : (m : Mode) → Option (m ≡ Exclusive)
 seek_exclusive Exclusive = Some refl
 seek_exclusive Shared = None
 
+pub not_exclusive : {P : Type 0} → Shared ≡ Exclusive → P
+not_exclusive h = absurd cc
+
+-- What is said where the mode is exclusive.
+abbrev pub seek_where_exclusive : {P : Type 0} (m : Mode) → Option P → Option (m ≡ Exclusive → P)
+seek_where_exclusive Shared f = Some not_exclusive
+seek_where_exclusive Exclusive f = do
+  h ← f
+  Some (λ is. h)
+
 abbrev pub seek_written : (a : Answer) → Option (a ≡ Written)
 seek_written Written = Some refl
 seek_written a = None

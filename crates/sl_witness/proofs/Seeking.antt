@@ -2,11 +2,11 @@
 -- proof has proved its claim; the leaves are lemmas that stay closed, so that nothing of a proof is computed but that it is there.
 use Rattle.sl_plain.proofs.Lists.{contains_cases, contains_first, contains_more, contains_none}
 use Rattle.sl_words.proofs.CaseLaws.{false_is_true, none_some}
-use Rattle.std.proofs.Common.{eq-or-lt_of_le, eqb-true, inl, inr, leb-true, ltb-true, refl, subst, sym}
+use Rattle.std.proofs.Common.{ap, eq-or-lt_of_le, eqb-true, inl, inr, le-leb, leb-true, ltb-true, refl, subst, sym}
 use Rattle.std.proofs.lemmas.List.Elements.{All-cons, All-nil}
 use Rattle.std.proofs.lemmas.List.Kept.{AllPairs-cons}
 use Rattle.std.proofs.lemmas.Slice.Eq.{bytes_eq-Decides}
-use Rattle.std.specs.Prelude.{All, AllPairs, Bool, Contains, IsFalse, IsSome, IsTrue, List, MatchBool, None, Option, Some, bytes_eq, false, nat_le, nat_lt, slice_get, suc, true, zero, [], ℕ, ◌<◌, ◌==◌, ◌∷◌, ◌≡◌, ◌≤◌}
+use Rattle.std.specs.Prelude.{All, AllPairs, Bool, Contains, IsFalse, IsSome, IsTrue, List, MatchBool, None, Option, Some, bytes_eq, false, nat_le, nat_lt, slice_get, suc, true, zero, [], ℕ, ◌++◌, ◌<◌, ◌==◌, ◌∷◌, ◌≡◌, ◌≤◌}
 use native.Mathlib.Omega.{arith}
 
 infixl 10 ◌>>=◌
@@ -84,6 +84,15 @@ seek_if true f = do
   h ← f
   Some (λ is. h)
 
+pub from_there : {P : Type 0} (a b : ℕ) → (IsTrue (nat_le a b) → P) → a ≤ b → P
+from_there a b f h = f (le-leb a b h)
+
+-- What is said from this number on.
+abbrev pub seek_from : {P : Type 0} (a b : ℕ) → Option P → Option (a ≤ b → P)
+seek_from a b f = do
+  h ← seek_if (nat_le a b) f
+  Some (from_there a b h)
+
 -- What is said where the test holds, or fails.
 abbrev pub seek_by : {P Q : Type 0} (b : Bool) → Option P → Option Q → Option (MatchBool b P Q)
 seek_by true f g = f
@@ -114,6 +123,30 @@ seek_any P f (x ∷ xs) = elim (f x) [
   | None ↦ do
     later ← seek_any P f xs
     Some (later.0, contains_more x xs later.0 later.1, later.2)
+]
+
+-- An element of a list, of which so much is said with those behind it.
+pub record Split {A : Type 0} (P : A → List A → Type 0) (xs : List A) : Type 0 where
+  pub after : List A
+  pub one : A
+  pub before : List A
+  pub split : xs ≡ after ++ one ∷ before
+  pub is : P one before
+
+abbrev pub split_here : {A : Type 0} (P : A → List A → Type 0) (x : A) (xs : List A) → P x xs → Split P (x ∷ xs)
+split_here P x xs p = record { after = []; one = x; before = xs; split = refl; is = p }
+
+abbrev pub split_later : {A : Type 0} (P : A → List A → Type 0) (x : A) (xs : List A) → Split P xs → Split P (x ∷ xs)
+split_later P x xs s = record { after = x ∷ s.after; one = s.one; before = s.before; split = ap (λ ys. x ∷ ys) s.split; is = s.is }
+
+-- The first element of which it is said.
+abbrev pub seek_split : {A : Type 0} (P : A → List A → Type 0) → ((a : A) (before : List A) → Option (P a before)) → (xs : List A) → Option (Split P xs)
+seek_split P f [] = None
+seek_split P f (x ∷ xs) = elim (f x xs) [
+  | Some p ↦ Some (split_here P x xs p)
+  | None ↦ do
+    later ← seek_split P f xs
+    Some (split_later P x xs later)
 ]
 
 pub at_none : {A : Type 0} (P : ℕ → A → Type 0) (k : ℕ) (a : A) → slice_get [] k ≡ Some a → P k a

@@ -23,11 +23,10 @@ use Rattle.sl_report.specs.Schedules.{HeaderReading, Header_read, Header_refused
 use Rattle.sl_run.specs.Conflicts.{world_holdings}
 use Rattle.sl_run.specs.Events.{event_tests, first_change, happens, pass_tests}
 use Rattle.sl_run.specs.Locks.{locks_after, told_effects}
-use Rattle.sl_run.specs.Runs.{EachDaemon, Happening, world_after}
+use Rattle.sl_run.specs.Runs.{EachDaemon, Happening}
 use Rattle.sl_run.specs.Safety.{LawfulRun, world_at}
 use Rattle.sl_run.specs.Worlds.{World, initial_record, machine_of_header}
 use Rattle.sl_run.specs.declared.event.Event.TheVariants.{Reset}
-use Rattle.sl_run.specs.declared.event.Event.{Event}
 use Rattle.sl_sector.specs.Fields.{u32_at, u32_bytes, u64_at, u64_bytes}
 use Rattle.sl_sector.specs.Spelling.{block_rules, checked_part, decoded, delta_rules, field_bytes, fields_of, leader_rules, magic, request_rules, spelling, value_rules}
 use Rattle.sl_trace.specs.Deltas.{next_after_deciding, next_after_first, next_after_verify, next_after_watch, next_in_joining, next_on_wake, next_renewal}
@@ -38,13 +37,12 @@ use Rattle.sl_trace.specs.EffectTexts.{reply_words}
 use Rattle.sl_trace.specs.declared.effects.Grant.{Grant}
 use Rattle.sl_trace.specs.declared.effects.Mode.TheVariants.{Exclusive}
 use Rattle.sl_witness.proofs.Headers.{seek_header}
-use Rattle.sl_witness.proofs.Running.{cheap_is_digest, seek_run}
+use Rattle.sl_witness.proofs.Running.{cheap_is_digest, due_run-append, seek_run}
 use Rattle.sl_witness.proofs.Seeking.{found}
 use Rattle.sl_witness.proofs.Traces.{seek_each_daemon}
 use Rattle.sl_witness.specs.Witness.{HoldsAlone, IsOfTheSchedule, PassesOver, TakeoverIsLawful, owning_events, taking_events, witness_events, witness_header, witness_run, witness_world}
 use Rattle.std.specs.Fmt.{digits}
-use Rattle.std.proofs.Common.{ap}
-use Rattle.std.specs.Prelude.{IsSome, List, Ok, codes, false, map, refl, [], ℕ, ◌++◌, ◌∷◌, ◌≡◌}
+use Rattle.std.specs.Prelude.{IsSome, List, Ok, codes, false, map, refl, [], ℕ, ◌∷◌, ◌≡◌}
 
 -- ---- the schedule
 
@@ -122,11 +120,6 @@ owner_holds = refl
 taker_holds : world_holdings (world_at cheap_program witness_header witness_run) ≡ record { machine = 1; held = grant 7 2 } ∷ []
 unfolding after_answer after_answer_of after_end after_free after_input after_join_answer after_lease_answer after_renewal after_request_read after_see_request after_survey after_value_read area_next before_input begin_next begin_recoveries begin_recovery begins block_rules carry_decision carry_delta carry_lease checked_part count_event decided decoded delta_rules digits due due_step event_forms event_tests field_bytes fields_of finish finish_session first_change forms goes_on_with header_forms header_of header_tests initial_record instance_of join_on_wake kill_holders kills known leader_rules lease_next leave_holdings locks_after lvm_forms lvm_turn machine_of_header magic next_after_deciding next_after_first next_after_verify next_after_watch next_in_joining next_on_wake next_renewal on_exit on_line on_spawned on_wake padded_text pass_tests phase1_block phase2_block refuse renew_on_wake reply_words request_refusal request_rules see_requests settle settle_next settle_on_wake settlings signal_and_refuse spelling stop_of take_input time_out time_outs told_effects u32_at u32_bytes u64_at u64_bytes value_rules
 taker_holds = refl
-
--- The run of more events goes on from where that of the first ends.
-due_run-append : (w : World) (es fs : List Event) → due_run w (es ++ fs) ≡ due_run w es ++ due_run (world_after w (due_run w es)) fs
-due_run-append w [] fs = refl
-due_run-append w (e ∷ es) fs = ap (λ xs. (e, effects_of w e) ∷ xs) (due_run-append (happens w e (effects_of w e)) es fs)
 
 holds_alone : (w : World) (machine process lver : ℕ) → world_holdings w ≡ record { machine = machine; held = grant process lver } ∷ [] → HoldsAlone w machine lver
 holds_alone w machine process lver only =

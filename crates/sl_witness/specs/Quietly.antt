@@ -31,9 +31,11 @@ exclusive_events = GiveCommand 1 exclusive_text ∷ Do 1 1 ∷ Do 1 2 ∷ Do 1 3
 abbrev pub shared_events : List Event
 shared_events = GiveCommand 1 shared_text ∷ Do 1 1 ∷ Do 1 2 ∷ Do 1 3 ∷ Do 1 4 ∷ Do 1 5 ∷ Do 1 6 ∷ Do 1 7 ∷ Do 1 8 ∷ []
 
--- These events from the header's world on, each daemon doing what is due: the acquire begins quietly and stays so, and by its first job, with so
--- many calls, it is granted under instance 1.
+-- These events from the header's world on, each daemon doing what is due: the run is lawful; the acquire begins quietly and stays so, and by its
+-- first job, with so many calls, it is granted under instance 1.
 pub record IsQuietlyGranted (es : List Event) (text : List ℕ) (shared : Bool) (calls : ℕ) : Type 0 where
+  pub lawful : LawfulRun cheap_program witness_header (due_run witness_world es)
+  pub each : EachDaemon Lawful (world_at cheap_program witness_header (due_run witness_world es))
   pub start : QuietStart witness_world 1 text quiet_resource shared 7
   pub job : next_job start.daemon.setting start.daemon.trace ≡ 1
   pub session : start.session.number ≡ 0
@@ -45,9 +47,7 @@ pub record IsQuietlyGranted (es : List Event) (text : List ℕ) (shared : Bool) 
   -- in the entry that brought the answer to the last of them
   pub granted : reply_to daemon.trace 1 ≡ Some (record { at = calls; reply = Granted 1 })
 
--- An exclusive acquire by six calls, in a lawful run; a shared one by eight.
+-- An exclusive acquire by six calls; a shared one by eight.
 pub record QuietAcquiresAreShown : Type 0 where
-  pub lawful : LawfulRun cheap_program witness_header (due_run witness_world exclusive_events)
-  pub each : EachDaemon Lawful (world_at cheap_program witness_header (due_run witness_world exclusive_events))
   pub exclusive : IsQuietlyGranted exclusive_events exclusive_text false 6
   pub shared : IsQuietlyGranted shared_events shared_text true 8

@@ -1,0 +1,5 @@
+pub mod Sufficing
+pub mod Seeking
+pub mod Due
+pub mod Crowded
+pub mod Telling
