@@ -36,3 +36,6 @@ mod looks;
 
 pub use action::{Action, Directed};
 pub use direct::run_direct;
+
+/// Bytes of the longest sector.
+const LONGEST_SECTOR: usize = 4096;

@@ -7,7 +7,7 @@ use Rattle.std.proofs.KnownBytes.{Keeps-trans}
 pub loop-number-preserved : goal.loop-number-preserved
 loop-number-preserved g c =
     record {
-      told = one_told _ _ c.args.offset c.loop-number.number _ _ _ c.loop-number.invariant.kept (omega arith) c.loop-number.invariant.told c.in_ok-tell_sector.ensures.ok;
+      told = one_told _ _ c.args.geometry.sector c.args.offset c.loop-number.number _ _ _ c.loop-number.invariant.kept (omega arith) c.loop-number.invariant.told c.in_ok-tell_sector.ensures.ok;
       kept = Keeps-trans _ _ _ c.loop-number.invariant.kept c.in_ok-tell_sector.ensures.kept;
       later = search rules;
     }
