@@ -220,9 +220,11 @@ resource_apart g space name base is a b =
     let request : Write = request_write layout base in
     let is_leader : IsRecord (LeaderIs (fresh_leader layout space name)) = fresh_leader_is g space name is a b in
     let is_block : (k : ℕ) → 1 ≤ k → k < 1 + g.hosts → IsRecord (BlockIs (fresh_block k)) = λ k low high. fresh_block_is k low (omega (arith, high, room.hosts.1)) in
-    let last : AllApart (value ∷ leader ∷ []) =
-    (All-cons (IsApartFrom value) leader []
-    (sectors_apart size _ _ (ValueIs no_value) (LeaderIs (fresh_leader layout space name)) sized no_value_is is_leader (inr (first_one base size g.hosts g.area room.room))) (All-nil _), (All-nil _, tt)) in
+    let last : AllApart (value ∷ leader ∷ []) = (
+      All-cons (IsApartFrom value) leader []
+          (sectors_apart size _ _ (ValueIs no_value) (LeaderIs (fresh_leader layout space name)) sized no_value_is is_leader (inr (first_one base size g.hosts g.area room.room))) (All-nil _),
+      (All-nil _, tt),
+    ) in
     let blocks : AllApart (block_writes layout base) =
     apart_in_range block 1 g.hosts
     (λ i j low less high.

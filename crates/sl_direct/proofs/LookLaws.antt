@@ -8,7 +8,7 @@ use Rattle.sl_direct.specs.declared.action.Action.TheVariants.{ReadLeader}
 use Rattle.sl_direct.specs.declared.action.Directed.TheVariants.{Done, NotTheLeader}
 use Rattle.sl_text.specs.Forms.{as_bytes}
 use Rattle.sl_trace.specs.declared.command.ResourceArg.{ResourceArg}
-use Rattle.std.proofs.Common.{Bool, List, None, Option, Some, [], ap, append_assoc, arith, false, length, refl, suc, subst, sym, true, zero, ℕ, ◌%◌, ◌*◌, ◌++◌, ◌+◌, ◌/◌, ◌<◌, ◌∙◌, ◌∷◌, ◌≡◌, ◌≤◌}
+use Rattle.std.proofs.Common.{Bool, List, None, Option, Some, [], ap, append_assoc, arith, false, length, refl, suc, subst, sym, true, zero, ℕ, ◌*◌, ◌++◌, ◌+◌, ◌∙◌, ◌∷◌, ◌≡◌}
 use Rattle.std.proofs.lemmas.List.{append-nil, flat_map_more, length-append}
 use Rattle.std.specs.Io.KnownBytes.{Keeps}
 use Rattle.std.specs.Prelude.{◌&&◌}
@@ -23,21 +23,21 @@ pub one_line : (old out line : List ℕ) → old ≡ [] → out ≡ old ++ line 
 one_line old out line none is = is ∙ ap (λ xs. xs ++ line ++ 10 ∷ []) none ∙ sym (append-nil (line ++ 10 ∷ []))
 
 -- The sector was told, and is of the resource's leader.
-pub leader_told : (r : ResourceArg) (g : Sizes) (a b : Option (List ℕ)) (sector old out : List ℕ) (right : Bool) → Keeps a b → length sector ≡ g.sector → IsReadAt a r.offset sector → old ≡ []
+pub leader_told : (r : ResourceArg) (g : Sizes) (a b : Option (List ℕ)) (at : ℕ) (sector old out : List ℕ) (right : Bool) → Keeps a b → length sector ≡ g.sector → at ≡ r.offset → IsReadAt a at sector → old ≡ []
     → out ≡ old ++ leader_line r sector ++ 10 ∷ [] → right ≡ true → right ≡ is_its_leader r (leader_in_sector sector) → HasActed (ReadLeader r g) a b out Done
-leader_told r g a b sector old out right kept long read none told test is = (
+leader_told r g a b at sector old out right kept long here read none told test is = (
   leader_line r sector ∷ [],
   one_line old out (leader_line r sector) none told,
-  record { kept = kept; sectors = sector ∷ []; read = (long, read, tt); told = refl; ended = (refl, and_nothing (is_its_leader r (leader_in_sector sector)) ∙ sym is ∙ test) },
+  record { kept = kept; sectors = sector ∷ []; read = (long, subst (λ (k : ℕ). IsReadAt a k sector) here read, tt); told = refl; ended = (refl, and_nothing (is_its_leader r (leader_in_sector sector)) ∙ sym is ∙ test) },
 )
 
 -- It was told, and is not.
-pub other_told : (r : ResourceArg) (g : Sizes) (a b : Option (List ℕ)) (sector old out : List ℕ) (right : Bool) → Keeps a b → length sector ≡ g.sector → IsReadAt a r.offset sector → old ≡ []
+pub other_told : (r : ResourceArg) (g : Sizes) (a b : Option (List ℕ)) (at : ℕ) (sector old out : List ℕ) (right : Bool) → Keeps a b → length sector ≡ g.sector → at ≡ r.offset → IsReadAt a at sector → old ≡ []
     → out ≡ old ++ leader_line r sector ++ 10 ∷ [] → right ≡ false → right ≡ is_its_leader r (leader_in_sector sector) → HasActed (ReadLeader r g) a b out NotTheLeader
-other_told r g a b sector old out right kept long read none told test is = (
+other_told r g a b at sector old out right kept long here read none told test is = (
   leader_line r sector ∷ [],
   one_line old out (leader_line r sector) none told,
-  record { kept = kept; sectors = sector ∷ []; read = (long, read, tt); told = refl; ended = (refl, and_nothing (is_its_leader r (leader_in_sector sector)) ∙ sym is ∙ test) },
+  record { kept = kept; sectors = sector ∷ []; read = (long, subst (λ (k : ℕ). IsReadAt a k sector) here read, tt); told = refl; ended = (refl, and_nothing (is_its_leader r (leader_in_sector sector)) ∙ sym is ∙ test) },
 )
 
 -- ---- sectors, one behind another
@@ -85,13 +85,3 @@ one_told a b size offset k at out later kept place all next =
           ∙ ap (λ xs. xs ++ (line ++ 10 ∷ [])) all.told ∙ flat_map_more (λ l. l ++ 10 ∷ []) [] (dump_lines size offset all.sectors) line
           ∙ sym (ap as_bytes (lines_more size offset all.sectors next.sector));
     }
-
--- ---- where sectors begin
-
--- A sector further on.
-pub further_whole : (size at k : ℕ) → at % size ≡ 0 → (at + size * k) % size ≡ 0
-further_whole size at k whole = grind (arith)
-
--- It ends in the stretch.
-pub within_stretch : (size long k : ℕ) → k < long / size → size * k ≤ long
-within_stretch size long k less = grind (arith)

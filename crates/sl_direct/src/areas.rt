@@ -181,7 +181,7 @@ pub(crate) fn init_lockspace<A: Area>(
     ensures cause { result ≡ AreaFault → Rose (A.faults area.old) (A.faults area.new) }
     ensures later { A.faults area.old ≤ A.faults area.new }
 {
-    match push_lockspace_line(out, lockspace, geometry.hosts()) {
+    match push_lockspace_line(out, lockspace, geometry) {
         Ok(()) => match write_lockspace(area, geometry, lockspace.name, lockspace.offset) {
             Ok(()) => Directed::Done,
             Err(_) => {
@@ -206,7 +206,7 @@ pub(crate) fn init_resource<A: Area>(
     ensures cause { result ≡ AreaFault → Rose (A.faults area.old) (A.faults area.new) }
     ensures later { A.faults area.old ≤ A.faults area.new }
 {
-    match push_resource_line(out, resource, geometry.hosts()) {
+    match push_resource_line(out, resource, geometry) {
         Ok(()) => {
             match write_resource(
                 area,
