@@ -1,13 +1,13 @@
 //! Words that stand for something: sizes, the area that a new lockspace or a resource gets, its hosts, and a stretch of a file.
 
-ghost use Rattle.sl_area.specs.Layouts.{IsGeometry, layout_of};
+ghost use Rattle.sl_area.specs.Layouts.{layout_of};
 ghost use Rattle.sl_cli.specs.Arguments.{for_hosts, is_host_count, is_new_lockspace, is_stretch, is_stretch_size, is_stretch_start, new_lockspace, sizes_of, sizes_said, stretch_of};
 ghost use Rattle.sl_cli.specs.Readings.{lockspace_read, stretch_read};
 ghost use Rattle.sl_text.specs.Numbers.{is_number_that, number_of};
 ghost use Rattle.sl_text.specs.Walks.{left_after, next_as};
 ghost use Rattle.sl_trace.specs.Commands as commands;
 ghost use Rattle.sl_words.specs.Words.{choose};
-ghost use Rattle.std.specs.Prelude.{option_map, ◌<◌, ◌≡◌};
+ghost use Rattle.std.specs.Prelude.{option_map, ◌≡◌};
 
 use sl_area::Geometry;
 use sl_command::arguments;
@@ -60,7 +60,7 @@ fn sizes_of(word: &str) -> Option<Geometry>
 
 /// The sizes that a word says, or those that need no word.
 pub(crate) fn sizes_said(word: Option<&str>) -> Option<Geometry>
-    ensures { result ≡ sizes_said (option_map (λ w. w.now) word) }
+    ensures { result ≡ sizes_said (option_map (λ w. w.now) word.entry) }
 {
     match word {
         Some(word) => sizes_of(word),
@@ -108,12 +108,11 @@ pub(crate) fn sizes_for(word: &str, most: &Geometry) -> Option<Geometry>
 }
 
 /// Where a stretch of sectors begins, if a word says so.
-fn read_start(word: &[u8], sector: u64) -> Option<u64>
-    requires { 0 < sector }
-    ensures { result ≡ choose (is_number_that (is_stretch_start sector) word.now) (number_of word.now) }
+fn read_start(word: &[u8], most: &Geometry) -> Option<u64>
+    ensures { result ≡ choose (is_number_that (is_stretch_start most.now.sector) word.now) (number_of word.now) }
 {
     let start = read_number_within(word, 0, OFFSETS - 1)?;
-    if start % sector == 0 {
+    if start % u64::from(most.sector()) == 0 {
         Some(start)
     } else {
         None
@@ -121,12 +120,11 @@ fn read_start(word: &[u8], sector: u64) -> Option<u64>
 }
 
 /// How long a stretch of sectors is, if a word says so.
-fn read_size(word: &[u8], sector: u64) -> Option<u64>
-    requires { 0 < sector }
-    ensures { result ≡ choose (is_number_that (is_stretch_size sector) word.now) (number_of word.now) }
+fn read_size(word: &[u8], most: &Geometry) -> Option<u64>
+    ensures { result ≡ choose (is_number_that (is_stretch_size most.now.sector) word.now) (number_of word.now) }
 {
     let size = read_number_within(word, 1, MEBIBYTE)?;
-    if size % sector == 0 {
+    if size % u64::from(most.sector()) == 0 {
         Some(size)
     } else {
         None
@@ -134,39 +132,28 @@ fn read_size(word: &[u8], sector: u64) -> Option<u64>
 }
 
 /// Reads the next part as a stretch's start.
-fn start_part(parts: &mut Parts<'_>, sector: u64) -> Result<u64, usize>
-    requires { 0 < sector }
-    ensures exact { result ≡ next_as (is_number_that (is_stretch_start sector)) number_of parts.old }
+fn start_part(parts: &mut Parts<'_>, most: &Geometry) -> Result<u64, usize>
+    ensures exact { result ≡ next_as (is_number_that (is_stretch_start most.now.sector)) number_of parts.old }
     ensures left { parts.new ≡ left_after result parts.old }
 {
-    let start = match parts.peek() {
-        Some(word) => read_start(word, sector),
-        None => None,
-    };
-    parts.accept(start)
+    parts.accept(parts.peek().and_then(|part| read_start(part, most)))
 }
 
 /// Reads the next part as a stretch's size.
-fn size_part(parts: &mut Parts<'_>, sector: u64) -> Result<u64, usize>
-    requires { 0 < sector }
-    ensures exact { result ≡ next_as (is_number_that (is_stretch_size sector)) number_of parts.old }
+fn size_part(parts: &mut Parts<'_>, most: &Geometry) -> Result<u64, usize>
+    ensures exact { result ≡ next_as (is_number_that (is_stretch_size most.now.sector)) number_of parts.old }
     ensures left { parts.new ≡ left_after result parts.old }
 {
-    let size = match parts.peek() {
-        Some(word) => read_size(word, sector),
-        None => None,
-    };
-    parts.accept(size)
+    parts.accept(parts.peek().and_then(|part| read_size(part, most)))
 }
 
 /// Reads the parts of a stretch's word.
-fn stretch_parts(parts: &mut Parts<'_>, sector: u64) -> Result<Stretch, usize>
-    requires { 0 < sector }
-    ensures { result ≡ stretch_read sector parts.old }
+fn stretch_parts(parts: &mut Parts<'_>, most: &Geometry) -> Result<Stretch, usize>
+    ensures { result ≡ stretch_read most.now.sector parts.old }
 {
     let path = parts.path()?;
-    let offset = start_part(parts, sector)?;
-    let size = size_part(parts, sector)?;
+    let offset = start_part(parts, most)?;
+    let size = size_part(parts, most)?;
     parts.finish()?;
     Ok(Stretch { path, offset, size })
 }
@@ -175,5 +162,5 @@ fn stretch_parts(parts: &mut Parts<'_>, sector: u64) -> Result<Stretch, usize>
 pub(crate) fn stretch_of(word: &str, most: &Geometry) -> Option<Stretch>
     ensures { result ≡ choose (is_stretch most.now.sector word.now) (stretch_of word.now) }
 {
-    stretch_parts(&mut Parts::new(word.as_bytes()), u64::from(most.sector())).ok()
+    stretch_parts(&mut Parts::new(word.as_bytes()), most).ok()
 }
