@@ -57,7 +57,7 @@ lockspace_is says most s n said h =
     let lockspace = lockspace_read most s both.0 in
     let hosts = hosts_read most n (few_hosts most said.row) both.1 in (
       (lockspace_for most (number_of n) (new_lockspace s) lockspace.0, geometry_for most said.row (number_of n) hosts.0),
-      (same_says says most (number_of n) said.says, λ i. given_as says (codes "init") (Some (sym lockspace.1 i)) None (Some (sym hosts.1 i)) None),
+      (same_says says most (number_of n) said.by, λ i. given_as says (codes "init") (Some (sym lockspace.1 i)) None (Some (sym hosts.1 i)) None),
     )
 
 resource_is : (says : Option (List ℕ)) (most : Sizes) (r n : List ℕ) → IsSaid says most → (is_resource_word (layout_of most) r && is_host_count most n) ≡ true
@@ -67,20 +67,20 @@ resource_is says most r n said h =
     let resource = resource_read (layout_of most) r both.0 in
     let hosts = hosts_read most n (few_hosts most said.row) both.1 in (
       (resource_for most (number_of n) (resource_of_word r) resource.0, geometry_for most said.row (number_of n) hosts.0),
-      (same_says says most (number_of n) said.says, λ i. given_as says (codes "init") None (Some (sym resource.1 i)) (Some (sym hosts.1 i)) None),
+      (same_says says most (number_of n) said.by, λ i. given_as says (codes "init") None (Some (sym resource.1 i)) (Some (sym hosts.1 i)) None),
     )
 
 leader_is : (says : Option (List ℕ)) (most : Sizes) (r : List ℕ) → IsSaid says most → is_resource_word (layout_of most) r ≡ true
     → Reads says (codes "read_leader") None (Some r) None None (ReadLeader (resource_of_word r) most)
 leader_is says most r said h =
     let resource = resource_read (layout_of most) r h in
-    ((resource.0, said.row), (said.says, λ i. given_as says (codes "read_leader") None (Some (sym resource.1 i)) None None))
+    ((resource.0, said.row), (said.by, λ i. given_as says (codes "read_leader") None (Some (sym resource.1 i)) None None))
 
 stretch_is : (says : Option (List ℕ)) (most : Sizes) (d : List ℕ) → IsSaid says most → is_stretch most.sector d ≡ true
     → Reads says (codes "dump") None None None (Some d) (Dump (stretch_of d).path (stretch_of d).offset (stretch_of d).size most)
 stretch_is says most d said h =
     let stretch = stretch_read most.sector d h in
-    ((stretch.0, said.row), (said.says, λ i. given_as says (codes "dump") None None None (Some (sym stretch.1 i))))
+    ((stretch.0, said.row), (said.by, λ i. given_as says (codes "dump") None None None (Some (sym stretch.1 i))))
 
 -- What was chosen passed its test.
 chosen : (b : Bool) (made a : Action) (P : Action → Type 0) → choose b made ≡ Some a → (b ≡ true → P made) → P a
@@ -166,13 +166,14 @@ stretch_asked g path offset size is =
 given_read : (a : Action) (says : Option (List ℕ)) → IsAsked a → SaysSizes says (sizes_in a) → action_in (given_for says a) ≡ Some a
 given_read (InitLockspace l g) says is said =
     let row = row_of g is.1 in
-    row_read says row.0 (codes "init") _ _ _ _ (InitLockspace l g) (row_written_for says g row.0 row.1 said) (lockspace_asked g row.0 l row.1 is.0)
+    row_read says row.0 (codes "init") (Some (lockspace_word l)) None (Some (decimal g.hosts)) None (InitLockspace l g) (row_written_for says g row.0 row.1 said) (lockspace_asked g row.0 l row.1 is.0)
 given_read (InitResource r g) says is said =
     let row = row_of g is.1 in
-    row_read says row.0 (codes "init") _ _ _ _ (InitResource r g) (row_written_for says g row.0 row.1 said) (resource_asked g row.0 r row.1 is.0)
-given_read (ReadLeader r g) says is said = row_read says g (codes "read_leader") _ _ _ _ (ReadLeader r g) (said_written says g is.1 said) (leader_asked g r is.0)
+    row_read says row.0 (codes "init") None (Some (moded_word r false)) (Some (decimal g.hosts)) None (InitResource r g) (row_written_for says g row.0 row.1 said) (resource_asked g row.0 r row.1 is.0)
+given_read (ReadLeader r g) says is said =
+    row_read says g (codes "read_leader") None (Some (moded_word r false)) None None (ReadLeader r g) (said_written says g is.1 said) (leader_asked g r is.0)
 given_read (Dump path offset size g) says is said =
-    row_read says g (codes "dump") _ _ _ _ (Dump path offset size g) (said_written says g is.1 said) (stretch_asked g path offset size is.0)
+    row_read says g (codes "dump") None None None (Some (stretch_word path offset size)) (Dump path offset size g) (said_written says g is.1 said) (stretch_asked g path offset size is.0)
 
 -- ---- both ways
 
@@ -204,3 +205,25 @@ asked_can (Dump path offset size g) is = (row_geometry g is.1, stretch_can g.sec
 
 pub given_can : (g : Given) (a : Action) → action_in g ≡ Some a → IsAction a
 given_can g a h = asked_can a ((actions_have_one_text g a).0 h).0
+
+-- ---- both words of an `init` are read
+
+both_chosen : {A B C : Type 0} (a b : Bool) (x v : A) (y w : B) (f : A → B → C) → choose a x ≡ Some v → choose b y ≡ Some w → Some (f v w) ≡ choose (a && b) (f x y)
+both_chosen a b x v y w f h k =
+    let one = choose_some a x v h in
+    let two = choose_some b y w k in
+    rw (one.0, two.0) (λ i. Some (f (sym one.1 i) (sym two.1 i)))
+
+pub lockspace_init : (most : Sizes) (s r n d : Option (List ℕ)) (space hosts : List ℕ) (l : LockspaceArg) (g : Sizes) → s ≡ Some space → r ≡ None → n ≡ Some hosts → d ≡ None
+    → choose (is_new_lockspace most space) (new_lockspace space) ≡ Some l → choose (is_host_count most hosts) (for_hosts most (number_of hosts)) ≡ Some g
+    → Some (InitLockspace l g) ≡ init_in most s r n d
+lockspace_init most s r n d space hosts l g is_s is_r is_n is_d named sized =
+    let words : init_in most s r n d ≡ init_in most (Some space) None (Some hosts) None = λ i. init_in most (is_s i) (is_r i) (is_n i) (is_d i) in
+    both_chosen (is_new_lockspace most space) (is_host_count most hosts) (new_lockspace space) l (for_hosts most (number_of hosts)) g (λ l g. InitLockspace l g) named sized ∙ sym words
+
+pub resource_init : (most : Sizes) (s r n d : Option (List ℕ)) (resource hosts : List ℕ) (a : ResourceArg) (g : Sizes) → s ≡ None → r ≡ Some resource → n ≡ Some hosts → d ≡ None
+    → choose (is_resource_word (layout_of most) resource) (resource_of_word resource) ≡ Some a → choose (is_host_count most hosts) (for_hosts most (number_of hosts)) ≡ Some g
+    → Some (InitResource a g) ≡ init_in most s r n d
+resource_init most s r n d resource hosts a g is_s is_r is_n is_d named sized =
+    let words : init_in most s r n d ≡ init_in most None (Some resource) (Some hosts) None = λ i. init_in most (is_s i) (is_r i) (is_n i) (is_d i) in
+    both_chosen (is_resource_word (layout_of most) resource) (is_host_count most hosts) (resource_of_word resource) a (for_hosts most (number_of hosts)) g (λ a g. InitResource a g) named sized ∙ sym words

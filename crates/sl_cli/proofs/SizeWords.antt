@@ -140,12 +140,12 @@ word_eight = joined 4096 8 (codes "4096") (codes "8") large_sector eight
 -- What says sizes, or needs not, says those of a row.
 pub record IsSaid (says : Option (List ℕ)) (most : Sizes) : Type 0 where
   pub row : IsRow most
-  pub says : SaysSizes says most
+  pub by : SaysSizes says most
 
 word_said : (w known : List ℕ) (s most : Sizes) → bytes_eq w known ≡ true → IsRow s → sizes_word s ≡ known → Some s ≡ Some most → IsSaid (Some w) most
 word_said w known s most e row word is =
     let same : s ≡ most = cc in
-    subst (IsSaid (Some w)) same (record { row = row; says = (bytes_eq-Decides w known).0 e ∙ sym word })
+    subst (IsSaid (Some w)) same (record { row = row; by = (bytes_eq-Decides w known).0 e ∙ sym word })
 
 word_read : (w : List ℕ) (most : Sizes) → sizes_of w ≡ Some most → IsSaid (Some w) most
 word_read w most h = elim (cases_Bool (bytes_eq w (codes "512:1"))) [
@@ -166,7 +166,7 @@ word_read w most h = elim (cases_Bool (bytes_eq w (codes "512:1"))) [
 ]
 
 pub said_read : (says : Option (List ℕ)) (most : Sizes) → sizes_said says ≡ Some most → IsSaid says most
-said_read None most h = let same : usual_sizes ≡ most = cc in subst (IsSaid None) same (record { row = refl; says = (refl, refl) })
+said_read None most h = let same : usual_sizes ≡ most = cc in subst (IsSaid None) same (record { row = refl; by = (refl, refl) })
 said_read (Some w) most h = word_read w most h
 
 -- The word of a row says it.
@@ -174,13 +174,13 @@ row_written : (g : Sizes) → IsRow g → sizes_of (sizes_word g) ≡ Some g
 row_written =
     by_row (λ g. sizes_of (sizes_word g) ≡ Some g) (ap sizes_of usual_word) (ap sizes_of word_one) (ap sizes_of word_two) (ap sizes_of word_four) (ap sizes_of word_eight)
 
-not_usual : {A : Type 0} → 4096 ≡ 512 → A
-not_usual h = absurd (omega (arith, h))
+not_usual : {A : Type 0} (n : ℕ) → n ≡ 4096 → n ≡ 512 → A
+not_usual n is h = absurd (omega (arith, is, h))
 
 usual_written : (g : Sizes) → IsRow g → g.sector ≡ 512 → g.area ≡ 1048576 → Some usual_sizes ≡ Some g
 usual_written =
-    by_row (λ g. g.sector ≡ 512 → g.area ≡ 1048576 → Some usual_sizes ≡ Some g) (λ s a. refl) (λ s a. not_usual s) (λ s a. not_usual s) (λ s a. not_usual s)
-    (λ s a. not_usual s)
+    by_row (λ g. g.sector ≡ 512 → g.area ≡ 1048576 → Some usual_sizes ≡ Some g) (λ s a. refl) (λ s a. not_usual 4096 refl s) (λ s a. not_usual 4096 refl s) (λ s a. not_usual 4096 refl s)
+    (λ s a. not_usual 4096 refl s)
 
 pub said_written : (says : Option (List ℕ)) (g : Sizes) → IsRow g → SaysSizes says g → sizes_said says ≡ Some g
 said_written None g row is = usual_written g row is.0 is.1
