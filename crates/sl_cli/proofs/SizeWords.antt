@@ -40,7 +40,7 @@ by_row P a b c d e g is = elim (or_true _ _ is) [
       | inl h ↦ at_row P 4096 2097152 500 g c h
       | inr is ↦ elim (or_true _ _ is) [
         | inl h ↦ at_row P 4096 4194304 1000 g d h
-        | inr is ↦ elim (or_true _ _ is) [ | inl h ↦ at_row P 4096 8388608 2000 g e h | inr h ↦ nothing_holds h ]
+        | inr is ↦ elim (or_true _ _ is) [ inl h ↦ at_row P 4096 8388608 2000 g e h | inr h ↦ nothing_holds h ]
       ]
     ]
   ]
@@ -62,7 +62,7 @@ by_geometry P a b c d e g is = elim (or_true _ _ is) [
       | inl h ↦ in_row P 4096 2097152 500 g c h
       | inr is ↦ elim (or_true _ _ is) [
         | inl h ↦ in_row P 4096 4194304 1000 g d h
-        | inr is ↦ elim (or_true _ _ is) [ | inl h ↦ in_row P 4096 8388608 2000 g e h | inr h ↦ nothing_holds h ]
+        | inr is ↦ elim (or_true _ _ is) [ inl h ↦ in_row P 4096 8388608 2000 g e h | inr h ↦ nothing_holds h ]
       ]
     ]
   ]
