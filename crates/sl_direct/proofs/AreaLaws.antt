@@ -1,6 +1,6 @@
 -- What stands after an initialising, in the words of records; and what a look then tells.
 use Rattle.sha2.specs.Sha256.{sha256}
-use Rattle.sl_area.specs.Layouts.{IsGeometry, Layout, Sizes, layout_of}
+use Rattle.sl_area.specs.Layouts.{Layout, Sizes, layout_of}
 use Rattle.sl_area.specs.Places.{block_offset, delta_offset, fresh_block, fresh_delta, fresh_leader, no_request, no_value, request_offset, value_offset}
 use Rattle.sl_area.specs.Sectors.{Apart}
 use Rattle.sl_direct.proofs.DiskLaws.{AllApart, all_left, all_right, front_apart}
