@@ -1,6 +1,7 @@
 -- Words of several parts: what is read of the parts one by one is what the whole word stands for.
 use Rattle.sl_area.specs.Places.{is_base}
-use Rattle.sl_cli.specs.Arguments.{areas, is_new_lockspace, is_stretch, is_stretch_size, is_stretch_start, new_lockspace, stretch_of}
+use Rattle.sl_area.specs.Layouts.{Sizes, layout_of}
+use Rattle.sl_cli.specs.Arguments.{is_new_lockspace, is_stretch, is_stretch_size, is_stretch_start, new_lockspace, stretch_of}
 use Rattle.sl_cli.specs.Readings.{lockspace_read, no_host, number_part, stretch_read, text_part, three_read}
 use Rattle.sl_text.proofs.PartLaws.{four_read-is}
 use Rattle.sl_text.specs.Forms.{word_at}
@@ -14,9 +15,9 @@ use Rattle.std.specs.Prelude.{Err, None, Ok, Result, if◌then◌else◌}
 use Rattle.std.specs.Result.{result_ok}
 
 -- A lockspace's word.
-pub lockspace_read-is : (w : List ℕ) → result_ok (lockspace_read (unread 58 w)) ≡ choose (is_new_lockspace w) (new_lockspace w)
-lockspace_read-is w =
-    four_read-is (text_part is_name) no_host (text_part is_path) (number_part (is_base areas))
+pub lockspace_read-is : (most : Sizes) (w : List ℕ) → result_ok (lockspace_read most (unread 58 w)) ≡ choose (is_new_lockspace most w) (new_lockspace w)
+lockspace_read-is most w =
+    four_read-is (text_part is_name) no_host (text_part is_path) (number_part (is_base (layout_of most)))
     (λ name id path offset. record { name = name; id = 0; path = path; offset = offset }) (unread 58 w)
 
 -- A step behind which nothing is read.
@@ -54,9 +55,9 @@ three_parts p q r make column (a ∷ b ∷ c ∷ d ∷ ws) =
     ∙ sym (ap (λ t. choose (t && p.passes a && q.passes b && r.passes c) (make (p.value a) (q.value b) (r.value c))) (ne_eqb (length (a ∷ b ∷ c ∷ d ∷ ws)) 3 (λ same. omega arith)))
 
 -- A stretch's word.
-pub stretch_read-is : (w : List ℕ) → result_ok (stretch_read (unread 58 w)) ≡ choose (is_stretch w) (stretch_of w)
-stretch_read-is w =
-    three_parts (text_part is_path) (number_part is_stretch_start) (number_part is_stretch_size)
+pub stretch_read-is : (sector : ℕ) (w : List ℕ) → result_ok (stretch_read sector (unread 58 w)) ≡ choose (is_stretch sector w) (stretch_of w)
+stretch_read-is sector w =
+    three_parts (text_part is_path) (number_part (is_stretch_start sector)) (number_part (is_stretch_size sector))
     (λ path offset size. record { path = path; offset = offset; size = size }) (unread 58 w).column (unread 58 w).words
 
 -- Of two tests the second fails.

@@ -26,6 +26,7 @@ pub data Key : Type 0 where
   resource : Key
   hosts : Key
   stretch : Key
+  geometry : Key
 
 -- Its name.
 abbrev pub name_of : Key → Text
@@ -34,6 +35,7 @@ name_of lockspace = codes "lockspace"
 name_of resource = codes "resource"
 name_of hosts = codes "hosts"
 name_of stretch = codes "stretch"
+name_of geometry = codes "geometry"
 
 -- An argument with one value, filled in.
 abbrev pub rule_with : Text → Option ℕ → Option ℕ → Rule
@@ -52,6 +54,7 @@ letter_of lockspace = Some 115
 letter_of resource = Some 114
 letter_of hosts = Some 110
 letter_of stretch = Some 100
+letter_of geometry = Some 103
 
 -- Its place, if it is none.
 abbrev pub place_of : Key → Option ℕ
@@ -60,6 +63,7 @@ place_of lockspace = None
 place_of resource = None
 place_of hosts = None
 place_of stretch = None
+place_of geometry = None
 
 -- Its argument.
 abbrev pub rule_for : Key → Rule
@@ -67,7 +71,7 @@ rule_for k = rule_with (name_of k) (letter_of k) (place_of k)
 
 -- All arguments of `direct`.
 abbrev pub rules : List Rule
-rules = rule_for action ∷ rule_for lockspace ∷ rule_for resource ∷ rule_for hosts ∷ rule_for stretch ∷ []
+rules = rule_for action ∷ rule_for lockspace ∷ rule_for resource ∷ rule_for hosts ∷ rule_for stretch ∷ rule_for geometry ∷ []
 
 -- A command of the program, built.
 abbrev pub built_shape : Text → List Rule → Shape

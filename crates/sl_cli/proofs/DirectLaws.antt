@@ -91,4 +91,5 @@ given_rows us = λ i. record {
   resource = first_of-rows (codes "resource") us i;
   hosts = first_of-rows (codes "hosts") us i;
   stretch = first_of-rows (codes "stretch") us i;
+  geometry = first_of-rows (codes "geometry") us i;
 }

@@ -3,20 +3,19 @@
 use Rattle.clap.proofs.OnLiterals.{clap_on_literals}
 use Rattle.clap.specs.Faults.{check_fault, settle_fault, turn_fault, walk_fault}
 use Rattle.clap.specs.Kinds.{Kinds, or_else}
-use Rattle.clap.specs.Lexer.{long_of, short_of}
-use Rattle.clap.specs.Walk.{Held, Row, Text, Walk, finished, first_of, idle, nothing_held, rows_after, settled, settled_rows, walk_from, walked}
+use Rattle.clap.specs.Walk.{Held, Row, Text, Walk, finished, idle, nothing_held, rows_after, settled, settled_rows, walk_from, walked}
 use Rattle.sl_cli.proofs.BareCommands.{level, or_nothing}
 use Rattle.sl_cli.proofs.BuiltCommand.{gen_rules, generate, no_defaults, no_faults, row_for}
 use Rattle.sl_cli.proofs.Letters.{behind, first_char}
 use Rattle.sl_cli.proofs.Steps.{AreTexts, word_cases}
 use Rattle.sl_cli.proofs.Turns.{Fails, Pending, Plain, fails_with, first_fails, is_short, no_dashes, no_long, walk_at}
-use Rattle.sl_cli.specs.CommandWords.{is_event_count, is_machine_count, is_seed, seeding_in, three_in, use_of, without_dashes}
+use Rattle.sl_cli.specs.CommandWords.{is_machine_count, is_seed, seeding_in, three_in, use_of, without_dashes}
 use Rattle.sl_cli.specs.Parses.{seeding_of}
 use Rattle.sl_cli.specs.declared.reading.Words.{Words}
 use Rattle.std.proofs.Common.{Bool, List, None, Option, Some, [], ap, eqb, false, inl, inr, refl, subst, sym, true, ℕ, ◌&&◌, ◌≡◌, ◌∙◌, ◌∷◌, ◌⊎◌}
 use Rattle.std.proofs.lemmas.Bool.{cases_Bool, eqb-true}
 use Rattle.std.specs.List.{fold}
-use Rattle.std.specs.Prelude.{bytes_eq, codes, if◌then◌else◌, slice_get}
+use Rattle.std.specs.Prelude.{bytes_eq, codes, slice_get}
 use Rattle.std.specs.Str.{IsUtf8, chars}
 
 -- ---- where the parser stands

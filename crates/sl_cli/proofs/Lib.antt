@@ -8,6 +8,7 @@ pub mod DirectLaws
 pub mod GenLaws
 pub mod Letters
 pub mod OptionSteps
+pub mod SizeWords
 pub mod SpellingLaws
 pub mod Steps
 pub mod Turns

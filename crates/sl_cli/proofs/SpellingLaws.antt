@@ -1,5 +1,5 @@
 -- Words in any order are read, and no others are.
-use Rattle.sl_cli.proofs.ActionTexts.{actions_have_one_text, given_read}
+use Rattle.sl_cli.proofs.ActionTexts.{actions_have_one_text}
 use Rattle.sl_cli.specs.Actions.{action_in}
 use Rattle.sl_cli.specs.CommandWords.{Taken, Use, command_in, ends_here, given_by, is_event_count, is_given, is_machine_count, is_only, is_plain, is_seed, nothing_taken, option_named, three_in, use_of, uses_from, with_use, without_dashes}
 use Rattle.sl_cli.specs.Spellings.{AsksFor, IsAsked, OnlyItsWordsAskForAnAction, OptionsComeInAnyOrder, are_apart, is_use, letter_named, option_words, spelled, use_words}
@@ -61,7 +61,10 @@ name_cases name = elim (cases_Bool (bytes_eq (codes "lockspace") name)) [
       | inl e ↦ inl (110, option_at name (codes "hosts") 110 e (record { known = refl; named = refl; no_hyphen = refl }))
       | inr n ↦ elim (cases_Bool (bytes_eq (codes "stretch") name)) [
         | inl e ↦ inl (100, option_at name (codes "stretch") 100 e (record { known = refl; named = refl; no_hyphen = refl }))
-        | inr d ↦ inr (rw (s, r, n, d) refl)
+        | inr d ↦ elim (cases_Bool (bytes_eq (codes "geometry") name)) [
+          | inl e ↦ inl (103, option_at name (codes "geometry") 103 e (record { known = refl; named = refl; no_hyphen = refl }))
+          | inr g ↦ inr (rw (s, r, n, d, g) refl)
+        ]
       ]
     ]
   ]
@@ -97,7 +100,7 @@ pub options_come_in_any_order : OptionsComeInAnyOrder
 options_come_in_any_order us a are gives is =
     rw (not_help (spelled us))
     (ap (option_and_then (λ uses. option_map (λ x. Direct x) (action_in (given_by uses)))) (uses_read us [] are.0 are.1)
-    ∙ ap (λ g. option_map (λ x. Direct x) (action_in g)) gives ∙ ap (option_map (λ x. Direct x)) (given_read a is))
+    ∙ ap (option_map (λ x. Direct x)) ((actions_have_one_text (given_by us) a).1 (is, gives)))
 
 -- ---- no other words
 

@@ -18,6 +18,7 @@ given_in rows = record {
   resource = first_of (codes "resource") rows;
   hosts = first_of (codes "hosts") rows;
   stretch = first_of (codes "stretch") rows;
+  geometry = first_of (codes "geometry") rows;
 }
 
 -- The words of a seed, of hosts and of events, by what was found.

@@ -1,6 +1,7 @@
 -- Words of several parts, read part by part.
+use Rattle.sl_area.specs.Layouts.{Sizes, layout_of}
 use Rattle.sl_area.specs.Places.{is_base}
-use Rattle.sl_cli.specs.Arguments.{Stretch, areas, is_stretch_size, is_stretch_start}
+use Rattle.sl_cli.specs.Arguments.{Stretch, is_stretch_size, is_stretch_start}
 use Rattle.sl_text.specs.Forms.{exactly}
 use Rattle.sl_text.specs.Names.{is_name, is_path}
 use Rattle.sl_text.specs.Numbers.{is_number_that, number_of}
@@ -22,9 +23,9 @@ abbrev pub no_host : Part (Unit {0})
 no_host = record { passes = exactly (codes "0"); value = λ w. tt }
 
 -- A lockspace's parts, read one by one.
-abbrev pub lockspace_read : Unread → Result LockspaceArg ℕ
-lockspace_read u =
-    four_read (text_part is_name) no_host (text_part is_path) (number_part (is_base areas))
+abbrev pub lockspace_read : Sizes → Unread → Result LockspaceArg ℕ
+lockspace_read most u =
+    four_read (text_part is_name) no_host (text_part is_path) (number_part (is_base (layout_of most)))
     (λ name id path offset. record { name = name; id = 0; path = path; offset = offset }) u
 
 -- Three parts and no more, read one by one.
@@ -37,7 +38,7 @@ three_read p q r make u = do
   Ok (make a b c)
 
 -- A stretch's parts, read one by one.
-abbrev pub stretch_read : Unread → Result Stretch ℕ
-stretch_read u =
-    three_read (text_part is_path) (number_part is_stretch_start) (number_part is_stretch_size)
+abbrev pub stretch_read : ℕ → Unread → Result Stretch ℕ
+stretch_read sector u =
+    three_read (text_part is_path) (number_part (is_stretch_start sector)) (number_part (is_stretch_size sector))
     (λ path offset size. record { path = path; offset = offset; size = size }) u

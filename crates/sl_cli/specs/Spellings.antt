@@ -1,6 +1,7 @@
 -- The words of an action: each has one spelling, and options may come in any order.
+use Rattle.sl_area.specs.Layouts.{IsGeometry, Sizes, geometries, layout_of}
 use Rattle.sl_cli.specs.Actions.{Given, action_in}
-use Rattle.sl_cli.specs.Arguments.{areas, is_stretch_size, is_stretch_start}
+use Rattle.sl_cli.specs.Arguments.{is_stretch_size, is_stretch_start}
 use Rattle.sl_cli.specs.CommandWords.{Use, given_by, is_given, is_plain, nothing_taken, options, said_in, uses_from}
 use Rattle.sl_cli.specs.declared.reading.Words.TheVariants.{Direct, Generate}
 use Rattle.sl_cli.specs.declared.reading.Words.{Words}
@@ -12,36 +13,35 @@ use Rattle.sl_text.specs.Forms.{coloned}
 use Rattle.sl_text.specs.Names.{is_name, is_path}
 use Rattle.sl_trace.specs.Commands.{IsResourceArg, lockspace_word, moded_word}
 use Rattle.sl_trace.specs.declared.command.LockspaceArg.{LockspaceArg}
-use Rattle.std.specs.Int.{is_in_range}
-use Rattle.std.specs.List.{list_all}
-use Rattle.std.specs.Prelude.{Bool, IsTrue, List, None, Option, Some, bytes_eq, codes, decimal, false, find, flat_map, if◌then◌else◌, is_some, not, option_map, true, [], ℕ, ◌&&◌, ◌++◌, ◌||◌, ◌≡◌, ◌≤◌, ◌∷◌, ◌↔◌}
+use Rattle.std.specs.List.{list_all, list_any}
+use Rattle.std.specs.Prelude.{Bool, IsTrue, List, None, Option, Some, bytes_eq, codes, decimal, false, find, flat_map, if◌then◌else◌, is_some, not, option_map, true, [], ℕ, ◌&&◌, ◌++◌, ◌/◌, ◌==◌, ◌||◌, ◌≡◌, ◌≤◌, ◌∷◌, ◌↔◌}
 
 -- ---- what may be asked for
 
 -- A lockspace that may be made.
-pub record IsNewLockspace (l : LockspaceArg) : Type 0 where
+pub record IsNewLockspace (g : Sizes) (l : LockspaceArg) : Type 0 where
   pub named : IsTrue (is_name l.name)
   -- no host of it is meant
   pub no_host : l.id ≡ 0
   pub disk : IsTrue (is_path l.path)
-  pub base : IsTrue (is_base areas l.offset)
+  pub base : IsTrue (is_base (layout_of g) l.offset)
 
--- Hosts that an area may be for.
-abbrev pub IsHosts : ℕ → Type 0
-IsHosts hosts = IsTrue (is_in_range 1 2000 hosts)
-
--- A stretch that may be told.
-pub record IsStretchArg (path : List ℕ) (offset size : ℕ) : Type 0 where
+-- A stretch of sectors of so many bytes that may be told.
+pub record IsStretchArg (sector : ℕ) (path : List ℕ) (offset size : ℕ) : Type 0 where
   pub disk : IsTrue (is_path path)
-  pub start : IsTrue (is_stretch_start offset)
-  pub long : IsTrue (is_stretch_size size)
+  pub start : IsTrue (is_stretch_start sector offset)
+  pub long : IsTrue (is_stretch_size sector size)
 
--- An action that may be asked for.
+-- A row of the table of sizes: areas for the most hosts.
+abbrev pub IsRow : Sizes → Type 0
+IsRow g = IsTrue (list_any (λ row. row.0 == g.sector && row.1 == g.area && row.2 == g.hosts) geometries)
+
+-- An action that may be asked for. A look has no hosts of its own.
 abbrev pub IsAsked : Action → Type 0
-IsAsked (InitLockspace l hosts) = IsNewLockspace l × IsHosts hosts
-IsAsked (InitResource r hosts) = IsResourceArg areas r × IsHosts hosts
-IsAsked (ReadLeader r) = IsResourceArg areas r
-IsAsked (Dump path offset size) = IsStretchArg path offset size
+IsAsked (InitLockspace l g) = IsNewLockspace g l × IsGeometry g
+IsAsked (InitResource r g) = IsResourceArg (layout_of g) r × IsGeometry g
+IsAsked (ReadLeader r g) = IsResourceArg (layout_of g) r × IsRow g
+IsAsked (Dump path offset size g) = IsStretchArg g.sector path offset size × IsRow g
 
 -- Words that say what can be done.
 abbrev pub CanBeDone : Words → Type 0
@@ -55,20 +55,64 @@ CanBeDone w = Unit {0}
 abbrev pub stretch_word : List ℕ → ℕ → ℕ → List ℕ
 stretch_word path offset size = coloned (path ∷ decimal offset ∷ decimal size ∷ [])
 
--- All that is given for an action.
-abbrev pub given_for : Action → Given
-given_for (InitLockspace l hosts) =
-    record { action = Some (codes "init"); lockspace = Some (lockspace_word l); resource = None; hosts = Some (decimal hosts); stretch = None }
-given_for (InitResource r hosts) =
-    record { action = Some (codes "init"); lockspace = None; resource = Some (moded_word r false); hosts = Some (decimal hosts); stretch = None }
-given_for (ReadLeader r) =
-    record { action = Some (codes "read_leader"); lockspace = None; resource = Some (moded_word r false); hosts = None; stretch = None }
-given_for (Dump path offset size) =
-    record { action = Some (codes "dump"); lockspace = None; resource = None; hosts = None; stretch = Some (stretch_word path offset size) }
+-- The word of sizes: the bytes of a sector, and the mebibytes of an area.
+abbrev pub sizes_word : Sizes → List ℕ
+sizes_word g = coloned (decimal g.sector ∷ decimal (g.area / 1048576) ∷ [])
 
--- What was given asks for an action exactly where the action may be asked for and its words were given, and no others.
+-- It says these sizes: no word does so of sectors of 512 bytes in areas of one mebibyte.
+abbrev pub SaysSizes : Option (List ℕ) → Sizes → Type 0
+SaysSizes None g = (g.sector ≡ 512) × (g.area ≡ 1048576)
+SaysSizes (Some w) g = w ≡ sizes_word g
+
+-- The sizes of an action's area.
+abbrev pub sizes_in : Action → Sizes
+sizes_in (InitLockspace l g) = g
+sizes_in (InitResource r g) = g
+sizes_in (ReadLeader r g) = g
+sizes_in (Dump path offset size g) = g
+
+-- All that is given for an action, where this says its sizes.
+abbrev pub given_for : Option (List ℕ) → Action → Given
+given_for says (InitLockspace l g) = record {
+  action = Some (codes "init");
+  lockspace = Some (lockspace_word l);
+  resource = None;
+  hosts = Some (decimal g.hosts);
+  stretch = None;
+  geometry = says;
+}
+given_for says (InitResource r g) = record {
+  action = Some (codes "init");
+  lockspace = None;
+  resource = Some (moded_word r false);
+  hosts = Some (decimal g.hosts);
+  stretch = None;
+  geometry = says;
+}
+given_for says (ReadLeader r g) = record {
+  action = Some (codes "read_leader");
+  lockspace = None;
+  resource = Some (moded_word r false);
+  hosts = None;
+  stretch = None;
+  geometry = says;
+}
+given_for says (Dump path offset size g) = record {
+  action = Some (codes "dump");
+  lockspace = None;
+  resource = None;
+  hosts = None;
+  stretch = Some (stretch_word path offset size);
+  geometry = says;
+}
+
+-- The words of the action were given, and no others.
+abbrev pub IsGivenFor : Action → Given → Type 0
+IsGivenFor a g = SaysSizes g.geometry (sizes_in a) × (g ≡ given_for g.geometry a)
+
+-- What was given asks for an action exactly where the action may be asked for and its words were given.
 abbrev pub ActionsHaveOneText : Type 0
-ActionsHaveOneText = (g : Given) (a : Action) → (action_in g ≡ Some a) ↔ (IsAsked a × (g ≡ given_for a))
+ActionsHaveOneText = (g : Given) (a : Action) → (action_in g ≡ Some a) ↔ (IsAsked a × IsGivenFor a g)
 
 -- ---- in any order
 
@@ -103,14 +147,14 @@ AreUses us = IsTrue (list_all is_use us) × IsTrue (are_apart [] us)
 
 -- Words that give what an action needs, in whatever order, ask for the action.
 abbrev pub OptionsComeInAnyOrder : Type 0
-OptionsComeInAnyOrder = (us : List Use) (a : Action) → AreUses us → given_by us ≡ given_for a → IsAsked a
+OptionsComeInAnyOrder = (us : List Use) (a : Action) → AreUses us → IsGivenFor a (given_by us) → IsAsked a
     → said_in (codes "direct" ∷ spelled us) ≡ Some (Direct a)
 
 -- The words behind `direct` give what the action needs, and no more.
 pub record AsksFor (a : Action) (ws : List (List ℕ)) : Type 0 where
   pub uses : List Use
   pub read : uses_from nothing_taken ws ≡ Some uses
-  pub given : given_by uses ≡ given_for a
+  pub given : IsGivenFor a (given_by uses)
 
 -- Words that ask for an action begin with `direct`, and give what it needs.
 abbrev pub OnlyItsWordsAskForAnAction : Type 0

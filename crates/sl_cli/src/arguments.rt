@@ -1,13 +1,13 @@
-//! Words that stand for something: the area that a new lockspace or a resource gets, its hosts, and a stretch of a file.
+//! Words that stand for something: sizes, the area that a new lockspace or a resource gets, its hosts, and a stretch of a file.
 
-ghost use Rattle.sl_area.specs.Layouts.{sizes};
-ghost use Rattle.sl_cli.specs.Arguments.{areas, is_host_count, is_new_lockspace, is_stretch, is_stretch_size, is_stretch_start, new_lockspace, stretch_of};
+ghost use Rattle.sl_area.specs.Layouts.{layout_of};
+ghost use Rattle.sl_cli.specs.Arguments.{for_hosts, is_host_count, is_new_lockspace, is_stretch, is_stretch_size, is_stretch_start, new_lockspace, sizes_of, sizes_said, stretch_of};
 ghost use Rattle.sl_cli.specs.Readings.{lockspace_read, stretch_read};
 ghost use Rattle.sl_text.specs.Numbers.{is_number_that, number_of};
 ghost use Rattle.sl_text.specs.Walks.{left_after, next_as};
 ghost use Rattle.sl_trace.specs.Commands as commands;
 ghost use Rattle.sl_words.specs.Words.{choose};
-ghost use Rattle.std.specs.Prelude.{◌≡◌};
+ghost use Rattle.std.specs.Prelude.{option_map, ◌≡◌};
 
 use sl_area::Geometry;
 use sl_command::arguments;
@@ -17,14 +17,8 @@ use sl_text::words::Parts;
 use sl_trace::{LockspaceArg, ResourceArg};
 use std::marker::Model;
 
-/// Bytes of a sector.
-const SECTOR: u64 = 512;
-
-/// Bytes of an area, and of the longest stretch.
-const AREA: u64 = 1_048_576;
-
-/// The most hosts of an area.
-const MOST_HOSTS: u32 = 2000;
+/// Bytes of the smallest area, and of the longest stretch.
+const MEBIBYTE: u64 = 1_048_576;
 
 /// Offsets stay below this one.
 const OFFSETS: u64 = 1_000_000_000_000;
@@ -45,24 +39,43 @@ impl Model for Stretch {
     ghost view = { λ s. record { path = s.path; offset = s.offset; size = s.size } };
 }
 
-/// The areas that there are.
-fn areas() -> Geometry
-    ensures { result ≡ sizes 512 1048576 2000 }
+/// The sizes that a word says, for the most hosts, if it says some.
+fn sizes_of(word: &str) -> Option<Geometry>
+    ensures { result ≡ sizes_of word.now }
 {
-    match Geometry::new(512, AREA, MOST_HOSTS) {
-        Ok(areas) => areas,
-        Err(_) => unreachable!(),
+    if word == "512:1" {
+        Geometry::new(512, MEBIBYTE, 2000).ok()
+    } else if word == "4096:1" {
+        Geometry::new(4096, MEBIBYTE, 250).ok()
+    } else if word == "4096:2" {
+        Geometry::new(4096, 2 * MEBIBYTE, 500).ok()
+    } else if word == "4096:4" {
+        Geometry::new(4096, 4 * MEBIBYTE, 1000).ok()
+    } else if word == "4096:8" {
+        Geometry::new(4096, 8 * MEBIBYTE, 2000).ok()
+    } else {
+        None
+    }
+}
+
+/// The sizes that a word says, or those that need no word.
+pub(crate) fn sizes_said(word: Option<&str>) -> Option<Geometry>
+    ensures { result ≡ sizes_said (option_map (λ w. w.now) word.entry) }
+{
+    match word {
+        Some(word) => sizes_of(word),
+        None => Geometry::new(512, MEBIBYTE, 2000).ok(),
     }
 }
 
 /// Reads the parts of a new lockspace's word.
-fn lockspace_parts(parts: &mut Parts<'_>) -> Result<LockspaceArg, usize>
-    ensures { result ≡ lockspace_read parts.old }
+fn lockspace_parts(parts: &mut Parts<'_>, most: &Geometry) -> Result<LockspaceArg, usize>
+    ensures { result ≡ lockspace_read most.now parts.old }
 {
     let name = parts.name()?;
     parts.expect(b"0")?;
     let path = parts.path()?;
-    let offset = arguments::base_part(parts, &areas())?;
+    let offset = arguments::base_part(parts, most)?;
     parts.finish()?;
     Ok(LockspaceArg {
         name,
@@ -73,71 +86,81 @@ fn lockspace_parts(parts: &mut Parts<'_>) -> Result<LockspaceArg, usize>
 }
 
 /// The new lockspace that a word names, if it names one.
-pub(crate) fn lockspace_of(word: &str) -> Option<LockspaceArg>
-    ensures { result ≡ choose (is_new_lockspace word.now) (new_lockspace word.now) }
+pub(crate) fn lockspace_of(word: &str, most: &Geometry) -> Option<LockspaceArg>
+    ensures { result ≡ choose (is_new_lockspace most.now word.now) (new_lockspace word.now) }
 {
-    lockspace_parts(&mut Parts::new(word.as_bytes())).ok()
+    lockspace_parts(&mut Parts::new(word.as_bytes()), most).ok()
 }
 
 /// The resource that a word names, if it names one.
-pub(crate) fn resource_of(word: &str) -> Option<ResourceArg>
-    ensures { result ≡ choose (commands.is_resource_word areas word.now) (commands.resource_of_word word.now) }
+pub(crate) fn resource_of(word: &str, most: &Geometry) -> Option<ResourceArg>
+    ensures { result ≡ choose (commands.is_resource_word (layout_of most.now) word.now) (commands.resource_of_word word.now) }
 {
-    arguments::resource_of(word.as_bytes(), &areas())
+    arguments::resource_of(word.as_bytes(), most)
 }
 
-/// How many hosts a word says, if it says so.
-pub(crate) fn hosts_of(word: &str) -> Option<u32>
-    ensures { result ≡ choose (is_host_count word.now) (number_of word.now) }
+/// The sizes for as many hosts as a word says, if it says so.
+pub(crate) fn sizes_for(word: &str, most: &Geometry) -> Option<Geometry>
+    ensures { result ≡ choose (is_host_count most.now word.now) (for_hosts most.now (number_of word.now)) }
 {
-    let hosts = read_number_within(word.as_bytes(), 1, u64::from(MOST_HOSTS))?;
-    Some(hosts as u32)
+    let hosts = read_number_within(word.as_bytes(), 1, u64::from(most.hosts()))?;
+    Geometry::new(most.sector(), most.area(), hosts as u32).ok()
 }
 
-/// Where a stretch begins, if a word says so.
-fn read_start(word: &[u8]) -> Option<u64>
-    ensures { result ≡ choose (is_number_that is_stretch_start word.now) (number_of word.now) }
+/// Where a stretch of sectors begins, if a word says so.
+fn read_start(word: &[u8], most: &Geometry) -> Option<u64>
+    ensures { result ≡ choose (is_number_that (is_stretch_start most.now.sector) word.now) (number_of word.now) }
 {
-    read_number_within(word, 0, OFFSETS - 1).filter(|start| *start % SECTOR == 0)
+    let start = read_number_within(word, 0, OFFSETS - 1)?;
+    if start % u64::from(most.sector()) == 0 {
+        Some(start)
+    } else {
+        None
+    }
 }
 
-/// How long a stretch is, if a word says so.
-fn read_size(word: &[u8]) -> Option<u64>
-    ensures { result ≡ choose (is_number_that is_stretch_size word.now) (number_of word.now) }
+/// How long a stretch of sectors is, if a word says so.
+fn read_size(word: &[u8], most: &Geometry) -> Option<u64>
+    ensures { result ≡ choose (is_number_that (is_stretch_size most.now.sector) word.now) (number_of word.now) }
 {
-    read_number_within(word, 1, AREA).filter(|size| *size % SECTOR == 0)
+    let size = read_number_within(word, 1, MEBIBYTE)?;
+    if size % u64::from(most.sector()) == 0 {
+        Some(size)
+    } else {
+        None
+    }
 }
 
 /// Reads the next part as a stretch's start.
-fn start_part(parts: &mut Parts<'_>) -> Result<u64, usize>
-    ensures exact { result ≡ next_as (is_number_that is_stretch_start) number_of parts.old }
+fn start_part(parts: &mut Parts<'_>, most: &Geometry) -> Result<u64, usize>
+    ensures exact { result ≡ next_as (is_number_that (is_stretch_start most.now.sector)) number_of parts.old }
     ensures left { parts.new ≡ left_after result parts.old }
 {
-    parts.accept(parts.peek().and_then(read_start))
+    parts.accept(parts.peek().and_then(|part| read_start(part, most)))
 }
 
 /// Reads the next part as a stretch's size.
-fn size_part(parts: &mut Parts<'_>) -> Result<u64, usize>
-    ensures exact { result ≡ next_as (is_number_that is_stretch_size) number_of parts.old }
+fn size_part(parts: &mut Parts<'_>, most: &Geometry) -> Result<u64, usize>
+    ensures exact { result ≡ next_as (is_number_that (is_stretch_size most.now.sector)) number_of parts.old }
     ensures left { parts.new ≡ left_after result parts.old }
 {
-    parts.accept(parts.peek().and_then(read_size))
+    parts.accept(parts.peek().and_then(|part| read_size(part, most)))
 }
 
 /// Reads the parts of a stretch's word.
-fn stretch_parts(parts: &mut Parts<'_>) -> Result<Stretch, usize>
-    ensures { result ≡ stretch_read parts.old }
+fn stretch_parts(parts: &mut Parts<'_>, most: &Geometry) -> Result<Stretch, usize>
+    ensures { result ≡ stretch_read most.now.sector parts.old }
 {
     let path = parts.path()?;
-    let offset = start_part(parts)?;
-    let size = size_part(parts)?;
+    let offset = start_part(parts, most)?;
+    let size = size_part(parts, most)?;
     parts.finish()?;
     Ok(Stretch { path, offset, size })
 }
 
 /// The stretch that a word names, if it names one.
-pub(crate) fn stretch_of(word: &str) -> Option<Stretch>
-    ensures { result ≡ choose (is_stretch word.now) (stretch_of word.now) }
+pub(crate) fn stretch_of(word: &str, most: &Geometry) -> Option<Stretch>
+    ensures { result ≡ choose (is_stretch most.now.sector word.now) (stretch_of word.now) }
 {
-    stretch_parts(&mut Parts::new(word.as_bytes())).ok()
+    stretch_parts(&mut Parts::new(word.as_bytes()), most).ok()
 }

@@ -40,7 +40,8 @@ fn direct<'a>(alloc: Global) -> Result<Command<'a>, AllocError>
     let command = with_option(alloc, command, "lockspace", 's')?;
     let command = with_option(alloc, command, "resource", 'r')?;
     let command = with_option(alloc, command, "hosts", 'n')?;
-    with_option(alloc, command, "stretch", 'd')
+    let command = with_option(alloc, command, "stretch", 'd')?;
+    with_option(alloc, command, "geometry", 'g')
 }
 
 /// `gen`, with its seed.

@@ -11,9 +11,10 @@ ghost use Rattle.sl_text.specs.Numbers.{number_of};
 ghost use Rattle.sl_words.specs.Words.{choose};
 ghost use Rattle.std.specs.Prelude.{IfSome, codes, option_map, ◌≡◌, ◌≤◌};
 
-use crate::arguments::{hosts_of, lockspace_of, resource_of, stretch_of};
+use crate::arguments::{lockspace_of, resource_of, sizes_for, sizes_said, stretch_of};
 use crate::reading::Words;
 use clap::ArgMatches;
+use sl_area::Geometry;
 use sl_direct::Action;
 use sl_text::number::read_number_within;
 use std::marker::Model;
@@ -26,6 +27,7 @@ pub(crate) struct Given<'a> {
     resource: Option<&'a str>,
     hosts: Option<&'a str>,
     stretch: Option<&'a str>,
+    geometry: Option<&'a str>,
 }
 
 impl<'a> Model for Given<'a> {
@@ -40,6 +42,7 @@ impl<'a> Model for Given<'a> {
       resource = option_map (λ w. w.now) g.resource;
       hosts = option_map (λ w. w.now) g.hosts;
       stretch = option_map (λ w. w.now) g.stretch;
+      geometry = option_map (λ w. w.now) g.geometry;
     } };
 }
 
@@ -61,50 +64,53 @@ impl<'a> Given<'a> {
             resource: value_of(matches, "resource"),
             hosts: value_of(matches, "hosts"),
             stretch: value_of(matches, "stretch"),
+            geometry: value_of(matches, "geometry"),
         }
     }
 
     /// A new lockspace or a new resource, for so many hosts.
     #[tactic(auto, using(crate::proofs::ArgumentLaws::no_second))]
-    fn init(&self) -> Option<Action>
-        ensures { result ≡ init_in self.now.lockspace self.now.resource self.now.hosts self.now.stretch }
+    fn init(&self, most: &Geometry) -> Option<Action>
+        ensures { result ≡ init_in most.now self.now.lockspace self.now.resource self.now.hosts self.now.stretch }
     {
         match (self.lockspace, self.resource, self.hosts, self.stretch) {
             (Some(lockspace), None, Some(hosts), None) => Some(Action::InitLockspace {
-                lockspace: lockspace_of(lockspace)?,
-                hosts: hosts_of(hosts)?,
+                lockspace: lockspace_of(lockspace, most)?,
+                geometry: sizes_for(hosts, most)?,
             }),
             (None, Some(resource), Some(hosts), None) => Some(Action::InitResource {
-                resource: resource_of(resource)?,
-                hosts: hosts_of(hosts)?,
+                resource: resource_of(resource, most)?,
+                geometry: sizes_for(hosts, most)?,
             }),
             _ => None,
         }
     }
 
     /// The leader of a resource.
-    fn read_leader(&self) -> Option<Action>
-        ensures { result ≡ read_leader_in self.now.lockspace self.now.resource self.now.hosts self.now.stretch }
+    fn read_leader(&self, most: &Geometry) -> Option<Action>
+        ensures { result ≡ read_leader_in most.now self.now.lockspace self.now.resource self.now.hosts self.now.stretch }
     {
         match (self.lockspace, self.resource, self.hosts, self.stretch) {
             (None, Some(resource), None, None) => Some(Action::ReadLeader {
-                resource: resource_of(resource)?,
+                resource: resource_of(resource, most)?,
+                geometry: *most,
             }),
             _ => None,
         }
     }
 
     /// The sectors of a stretch.
-    fn dump(&self) -> Option<Action>
-        ensures { result ≡ dump_in self.now.lockspace self.now.resource self.now.hosts self.now.stretch }
+    fn dump(&self, most: &Geometry) -> Option<Action>
+        ensures { result ≡ dump_in most.now self.now.lockspace self.now.resource self.now.hosts self.now.stretch }
     {
         match (self.lockspace, self.resource, self.hosts, self.stretch) {
             (None, None, None, Some(stretch)) => {
-                let stretch = stretch_of(stretch)?;
+                let stretch = stretch_of(stretch, most)?;
                 Some(Action::Dump {
                     path: stretch.path,
                     offset: stretch.offset,
                     size: stretch.size,
+                    geometry: *most,
                 })
             }
             _ => None,
@@ -116,12 +122,13 @@ impl<'a> Given<'a> {
         ensures { result ≡ action_in self.now }
     {
         let name = self.action?;
+        let most = sizes_said(self.geometry)?;
         if name == "init" {
-            self.init()
+            self.init(&most)
         } else if name == "read_leader" {
-            self.read_leader()
+            self.read_leader(&most)
         } else if name == "dump" {
-            self.dump()
+            self.dump(&most)
         } else {
             None
         }

@@ -3,6 +3,7 @@
 ghost use Rattle.sl_cli.specs.Spellings.{ActionsHaveOneText, OnlyItsWordsAskForAnAction, OptionsComeInAnyOrder};
 
 /// What is given to `direct` asks for an action exactly where it is what the action needs: each word in its one spelling, and no other.
+/// Only the word of sizes may be left out, of sectors of 512 bytes in areas of one mebibyte.
 pub fn actions_have_one_text()
     ensures { ActionsHaveOneText }
 {}

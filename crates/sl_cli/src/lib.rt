@@ -2,14 +2,15 @@
 //!
 //! A line's words say `replay`, or `direct` with an action and its options, or ask for the help or the version; all other words say
 //! nothing. `command_line` tells the argument parser, the kit's `clap`, which commands and options there are. `given` takes what the
-//! parser found for each option and makes the action of it; `arguments` reads the words that stand for something: an area, its hosts, a
-//! stretch of a file. `reading` puts these together: it is all that the rest of the program knows of words. `texts` has what the program
-//! says of itself.
+//! parser found for each option and makes the action of it; `arguments` reads the words that stand for something: sizes, an area, its
+//! hosts, a stretch of a file. `reading` puts these together: it is all that the rest of the program knows of words. `texts` has what the
+//! program says of itself.
 //!
 //! What words say is a definition of a page, `specs/CommandWords.antt`, in which the parser does not occur: options are taken from the
 //! left, in two words or in one, and nothing is given twice. The proof that the parser takes the same words and finds the same in them
 //! goes word by word through the parser's own definition (`proofs/Turns.antt` to `proofs/CommandLaws.antt`). `laws` says of the
-//! definition that each action has one text, that its words may come in any order, and that no other words ask for it.
+//! definition that each action has one text (the usual sizes need no word), that its words may come in any order, and that no other words
+//! ask for it.
 #![tactic(auto)]
 
 mod arguments;

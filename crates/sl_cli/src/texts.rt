@@ -7,21 +7,24 @@ usage: sanlock COMMAND
   replay                   run the schedule on standard input, print its report
   gen SEED HOSTS EVENTS    run the schedule of a seed, print the last line of its
                            report
-  direct init -s LOCKSPACE -n N
+  direct init -s LOCKSPACE -n N [-g GEOMETRY]
                            write the sectors of a lockspace for N hosts
-  direct init -r RESOURCE -n N
+  direct init -r RESOURCE -n N [-g GEOMETRY]
                            write the sectors of a resource for N hosts
-  direct read_leader -r RESOURCE
+  direct read_leader -r RESOURCE [-g GEOMETRY]
                            print who holds a resource
-  direct dump -d PATH:OFFSET:SIZE
+  direct dump -d PATH:OFFSET:SIZE [-g GEOMETRY]
                            print each sector of a part of a file
   --help, -h               print this
   --version, -V            print the version
 
 LOCKSPACE is NAME:0:PATH:OFFSET, RESOURCE is LOCKSPACE_NAME:NAME:PATH:OFFSET,
-with OFFSET a multiple of 1048576. In a dump OFFSET and SIZE are multiples of
-512. Offsets are below 10^12. N is 1 to 2000. Options come in any order. SEED
-is below 2^64, HOSTS 1 to 16, EVENTS at most 1000000.
+with OFFSET a multiple of an area's size. In a dump OFFSET and SIZE are
+multiples of a sector's, SIZE at most 1048576. Offsets are below 10^12.
+GEOMETRY is SECTOR:MIB, the bytes of a sector and the mebibytes of an area:
+512:1, which holds without -g, for N of 1 to 2000, 4096:1 for at most 250,
+4096:2 for 500, 4096:4 for 1000, 4096:8 for 2000. Options come in any order.
+SEED is below 2^64, HOSTS 1 to 16, EVENTS at most 1000000.
 
 Status: 0 done; 1 a line was refused; 2 bad words; 3 a read and 4 a write
 failed; 5 no memory; 6 a read or a write of an area failed; 7 not the leader.

@@ -75,10 +75,10 @@ acted_as a b content after out d is acted = subst (λ (x : Action). HasActed x c
 
 -- No action ends by the sink.
 no_write_fault : (a : Action) (content after : Option (List ℕ)) (lines : List (List ℕ)) → Acts a content after lines WriteFault → ⊥
-no_write_fault (InitLockspace l hosts) content after lines acts = acts
-no_write_fault (InitResource r hosts) content after lines acts = acts
-no_write_fault (ReadLeader r) content after lines acts = acts.ended
-no_write_fault (Dump path offset size) content after lines acts = acts.ended
+no_write_fault (InitLockspace l g) content after lines acts = acts
+no_write_fault (InitResource r g) content after lines acts = acts
+no_write_fault (ReadLeader r g) content after lines acts = acts.ended
+no_write_fault (Dump path offset size g) content after lines acts = acts.ended
 
 fault_counted : (a : Action) (content after : Option (List ℕ)) (lines : List (List ℕ)) (put output : List ℕ) (went d : Directed) (faults later : ℕ) → Acts a content after lines went
     → (((put ≡ output) × (d ≡ went)) ⊎ (IsFront put output × (d ≡ WriteFault) × Rose faults later)) → d ≡ WriteFault → Rose faults later

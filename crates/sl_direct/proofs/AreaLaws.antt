@@ -1,13 +1,15 @@
 -- What stands after an initialising, in the words of records; and what a look then tells.
 use Rattle.sha2.specs.Sha256.{sha256}
+use Rattle.sl_area.specs.Layouts.{Layout, Sizes, layout_of}
 use Rattle.sl_area.specs.Places.{block_offset, delta_offset, fresh_block, fresh_delta, fresh_leader, no_request, no_value, request_offset, value_offset}
 use Rattle.sl_area.specs.Sectors.{Apart}
 use Rattle.sl_direct.proofs.DiskLaws.{AllApart, all_left, all_right, front_apart}
+use Rattle.sl_area.proofs.SizeLaws.{has_room}
 use Rattle.sl_direct.proofs.FreshLaws.{fresh_block_is, fresh_delta_is, fresh_leader_is, length-sector, no_request_is, no_value_is, resource_apart, sector_size}
 use Rattle.sl_direct.proofs.LookLaws.{and_nothing}
 use Rattle.sl_direct.specs.Actions.{Acts, AreReadAt, Directs, IsAction, IsFront}
 use Rattle.sl_direct.specs.Disks.{HoldsFront, IsInitialised, IsOutside, Stands}
-use Rattle.sl_direct.specs.FreshAreas.{Write, block_write, block_writes, delta_write, layout_for, leader_write, place_of, request_write, resource_writes, value_write, write_of}
+use Rattle.sl_direct.specs.FreshAreas.{Write, block_write, block_writes, delta_write, leader_write, place_of, request_write, resource_writes, value_write, write_of}
 use Rattle.sl_direct.specs.Laws.{InitialisedIsFound, IsFreshResource, LeaderIsLast, LeaderIsTold, LockspaceStands, ResourceStands, has_its_leader, sector_at, spelled_at}
 use Rattle.sl_direct.specs.Lines.{is_its_leader, leader_found, leader_in_sector}
 use Rattle.sl_direct.specs.declared.action.Action.TheVariants.{Dump, InitLockspace, InitResource, ReadLeader}
@@ -17,7 +19,7 @@ use Rattle.sl_direct.specs.declared.action.Directed.{Directed}
 use Rattle.sl_sector.proofs.SpellingLaws.{read_again}
 use Rattle.sl_sector.proofs.WrittenBytes.{sha256_is_digest}
 use Rattle.sl_sector.specs.Records.{IsRecord}
-use Rattle.sl_sector.specs.Spelling.{decoded, spelling}
+use Rattle.sl_sector.specs.Spelling.{IsSectorSize, decoded, spelling}
 use Rattle.sl_sector.specs.declared.sector.Rec.TheVariants.{BlockIs, DeltaIs, LeaderIs, RequestIs, ValueIs}
 use Rattle.sl_sector.specs.declared.sector.Rec.{Rec}
 use Rattle.sl_trace.specs.declared.command.ResourceArg.{ResourceArg}
@@ -33,10 +35,10 @@ use Rattle.std.specs.Prelude.{bytes_eq, min, ◌&&◌}
 
 -- ---- what stands is read
 
-stands_spelled : (content : List ℕ) (at : ℕ) (r : Rec) → IsRecord r → Stands content (write_of at r) → spelled_at at content ≡ Ok r
-stands_spelled content at r is stands =
-    let here : sector_at at content ≡ spelling sha256 512 r = ap (λ (n : ℕ). take n (drop at content)) (sym (length-sector r is)) ∙ stands.1 in
-    ap (decoded sha256) here ∙ read_again sha256 sha256_is_digest 512 r sector_size is
+stands_spelled : (size : ℕ) (content : List ℕ) (at : ℕ) (r : Rec) → IsSectorSize size → IsRecord r → Stands content (write_of size at r) → spelled_at size at content ≡ Ok r
+stands_spelled size content at r sized is stands =
+    let here : sector_at size at content ≡ spelling sha256 size r = ap (λ (n : ℕ). take n (drop at content)) (sym (length-sector size r sized is)) ∙ stands.1 in
+    ap (decoded sha256) here ∙ read_again sha256 sha256_is_digest size r sized is
 
 of_range : (P : Write → Type 0) (f : ℕ → Write) (n id : ℕ) → 1 ≤ id → id ≤ n → All P (map f (range_with_len 1 n)) → P (f id)
 of_range P f n id low high all =
@@ -47,26 +49,31 @@ of_range P f n id low high all =
     in_range f n id low high = rw (length-map-range_with_len f 1 n) (omega (arith, low, high))
 
 pub lockspace_stands : LockspaceStands
-lockspace_stands hosts name base before after count named holds id low high =
-    stands_spelled after (delta_offset (layout_for hosts) base id) (DeltaIs (fresh_delta name id)) (fresh_delta_is name id named low (omega (arith, high, count.1)))
-    (of_range (Stands after) (delta_write (layout_for hosts) name base) hosts id low high holds.each)
+lockspace_stands g name base before after is named holds id low high =
+    let layout : Layout = layout_of g in
+    stands_spelled g.sector after (delta_offset layout base id) (DeltaIs (fresh_delta name id)) (sector_size g is)
+    (fresh_delta_is name id named low (omega (arith, high, (has_room g is).hosts.1)))
+    (of_range (Stands after) (delta_write layout name base) g.hosts id low high holds.each)
 
 pub resource_stands : ResourceStands
-resource_stands hosts space name base before after count a b holds =
-    let g = layout_for hosts in
+resource_stands g space name base before after is a b holds =
+    let layout : Layout = layout_of g in
     let stands = Stands after in
-    let request : Write = request_write g base in
-    let value : Write = value_write g base in
-    let leader : Write = leader_write g space name base in
-    let rest : All stands (block_writes g base ++ value ∷ leader ∷ []) = All-tail stands request (block_writes g base ++ value ∷ leader ∷ []) holds.each in
-    let last : All stands (value ∷ leader ∷ []) = all_right stands (block_writes g base) (value ∷ leader ∷ []) rest in
+    let sized : IsSectorSize g.sector = sector_size g is in
+    let request : Write = request_write layout base in
+    let value : Write = value_write layout base in
+    let leader : Write = leader_write layout space name base in
+    let rest : All stands (block_writes layout base ++ value ∷ leader ∷ []) = All-tail stands request (block_writes layout base ++ value ∷ leader ∷ []) holds.each in
+    let last : All stands (value ∷ leader ∷ []) = all_right stands (block_writes layout base) (value ∷ leader ∷ []) rest in
     record {
-      leader = stands_spelled after base (LeaderIs (fresh_leader g space name)) (fresh_leader_is hosts space name count a b) (All-head stands leader [] (All-tail stands value (leader ∷ []) last));
-      request = stands_spelled after (request_offset g base) (RequestIs no_request) no_request_is (All-head stands request (block_writes g base ++ value ∷ leader ∷ []) holds.each);
+      leader = stands_spelled g.sector after base (LeaderIs (fresh_leader layout space name)) sized (fresh_leader_is g space name is a b)
+          (All-head stands leader [] (All-tail stands value (leader ∷ []) last));
+      request = stands_spelled g.sector after (request_offset layout base) (RequestIs no_request) sized no_request_is
+          (All-head stands request (block_writes layout base ++ value ∷ leader ∷ []) holds.each);
       blocks = λ id low high.
-          stands_spelled after (block_offset g base id) (BlockIs (fresh_block id)) (fresh_block_is id low (omega (arith, high, count.1)))
-          (of_range stands (block_write g base) hosts id low high (all_left stands (block_writes g base) (value ∷ leader ∷ []) rest));
-      value = stands_spelled after (value_offset g base) (ValueIs no_value) no_value_is (All-head stands value (leader ∷ []) last);
+          stands_spelled g.sector after (block_offset layout base id) (BlockIs (fresh_block id)) sized (fresh_block_is id low (omega (arith, high, (has_room g is).hosts.1)))
+          (of_range stands (block_write layout base) g.hosts id low high (all_left stands (block_writes layout base) (value ∷ leader ∷ []) rest));
+      value = stands_spelled g.sector after (value_offset layout base) (ValueIs no_value) sized no_value_is (All-head stands value (leader ∷ []) last);
     }
 
 -- ---- the leader stands last
@@ -97,39 +104,41 @@ apart_outside : (w leader : Write) (at i : ℕ) → at ≡ leader.offset + i →
 apart_outside w leader at i is less (inl le) = inr (omega (arith, le, is))
 apart_outside w leader at i is less (inr le) = inl (omega (arith, le, is, less))
 
-same_sector : (before after : List ℕ) (ws : List Write) (leader : Write) → length leader.sector ≡ 512 → length after ≡ length before
+same_sector : (bytes : ℕ) (before after : List ℕ) (ws : List Write) (leader : Write) → length leader.sector ≡ bytes → length after ≡ length before
     → ((at : ℕ) → All (IsOutside at) ws → get_or after at 0 ≡ get_or before at 0) → All (λ w. Apart (place_of w) (place_of leader)) ws
-    → sector_at leader.offset after ≡ sector_at leader.offset before
-same_sector before after ws leader size long others apart =
+    → sector_at bytes leader.offset after ≡ sector_at bytes leader.offset before
+same_sector bytes before after ws leader size long others apart =
     let base : ℕ = leader.offset in
-    let count : (xs : List ℕ) → length (sector_at base xs) ≡ min 512 (length xs - base) =
-    λ (xs : List ℕ). length-take 512 (drop base xs) ∙ ap (min 512) (length-drop base xs) in
-    let byte : (xs : List ℕ) (i : ℕ) → i < 512 → get_or (sector_at base xs) i 0 ≡ get_or xs (base + i) 0 =
-    λ (xs : List ℕ) (i : ℕ) (less : i < 512). get_or-take 512 (drop base xs) i 0 less ∙ get_or-drop base xs i 0 in
-    ext_get_or 0 (sector_at base after) (sector_at base before) (count after ∙ ap (λ (n : ℕ). min 512 (n - base)) long ∙ sym (count before))
+    let count : (xs : List ℕ) → length (sector_at bytes base xs) ≡ min bytes (length xs - base) =
+    λ (xs : List ℕ). length-take bytes (drop base xs) ∙ ap (min bytes) (length-drop base xs) in
+    let byte : (xs : List ℕ) (i : ℕ) → i < bytes → get_or (sector_at bytes base xs) i 0 ≡ get_or xs (base + i) 0 =
+    λ (xs : List ℕ) (i : ℕ) (less : i < bytes). get_or-take bytes (drop base xs) i 0 less ∙ get_or-drop base xs i 0 in
+    ext_get_or 0 (sector_at bytes base after) (sector_at bytes base before) (count after ∙ ap (λ (n : ℕ). min bytes (n - base)) long ∙ sym (count before))
     (λ i within.
-    let less : i < 512 = omega (arith, within, count after) in
+    let less : i < bytes = omega (arith, within, count after) in
     let outside : All (IsOutside (base + i)) ws =
     All-weaker (λ w. Apart (place_of w) (place_of leader)) (IsOutside (base + i)) (λ w. apart_outside w leader (base + i) i refl (omega (arith, less, size))) ws apart in
     byte after i less ∙ others (base + i) outside ∙ sym (byte before i less))
 
 pub leader_is_last : LeaderIsLast
-leader_is_last hosts space name base before after count a b front =
-    let g = layout_for hosts in
-    let leader : Write = leader_write g space name base in
-    let others : List Write = request_write g base ∷ (block_writes g base ++ value_write g base ∷ []) in
-    let whole : resource_writes g space name base ≡ others ++ leader ∷ [] =
-    ap (λ ws. request_write g base ∷ ws) (sym (append_assoc (block_writes g base) (value_write g base ∷ []) (leader ∷ []))) in
+leader_is_last g space name base before after is a b front =
+    let layout : Layout = layout_of g in
+    let leader : Write = leader_write layout space name base in
+    let others : List Write = request_write layout base ∷ (block_writes layout base ++ value_write layout base ∷ []) in
+    let whole : resource_writes layout space name base ≡ others ++ leader ∷ [] =
+    ap (λ ws. request_write layout base ∷ ws) (sym (append_assoc (block_writes layout base) (value_write layout base ∷ []) (leader ∷ []))) in
     let apart : All (λ w. Apart (place_of w) (place_of leader)) others =
-    (front_apart others leader [] (subst AllApart whole (resource_apart hosts space name base count a b))).1 in
-    last_by before after front leader others (length-sector (LeaderIs (fresh_leader g space name)) (fresh_leader_is hosts space name count a b))
+    (front_apart others leader [] (subst AllApart whole (resource_apart g space name base is a b))).1 in
+    last_by g.sector before after front leader others
+    (length-sector g.sector (LeaderIs (fresh_leader layout space name)) (sector_size g is) (fresh_leader_is g space name is a b))
     (before_or_last (λ w. Apart (place_of w) (place_of leader)) front.done front.next front.rest others leader (sym front.split ∙ whole) apart)
   where
-    last_by : {ws : List Write} (before after : List ℕ) (front : HoldsFront ws before after) (leader : Write) (others : List Write) → length leader.sector ≡ 512
+    last_by : {ws : List Write} (bytes : ℕ) (before after : List ℕ) (front : HoldsFront ws before after) (leader : Write) (others : List Write) → length leader.sector ≡ bytes
         → (All (λ w. Apart (place_of w) (place_of leader)) (front.done ++ front.next ∷ []) ⊎ (front.next ≡ leader))
-        → (sector_at leader.offset after ≡ sector_at leader.offset before) ⊎ (front.next ≡ leader)
-    last_by before after front leader others size (inl apart) = inl (same_sector before after (front.done ++ front.next ∷ []) leader size front.long front.others apart)
-    last_by before after front leader others size (inr is) = inr is
+        → (sector_at bytes leader.offset after ≡ sector_at bytes leader.offset before) ⊎ (front.next ≡ leader)
+    last_by bytes before after front leader others size (inl apart) =
+        inl (same_sector bytes before after (front.done ++ front.next ∷ []) leader size front.long front.others apart)
+    last_by bytes before after front leader others size (inr is) = inr is
 
 -- ---- what a look tells
 
@@ -160,38 +169,38 @@ no_such_length n e = omega (arith, e)
 none_is_not_one : zero ≡ suc zero → ⊥
 none_is_not_one e = omega (arith, e)
 
-sector_seen : (content : List ℕ) (offset : ℕ) (ss : List (List ℕ)) → AreReadAt (Some content) offset ss → length ss ≡ 1 → ss ≡ sector_at offset content ∷ []
-sector_seen content offset [] read one = absurd (none_is_not_one one)
-sector_seen content offset (s ∷ []) read one =
+sector_seen : (content : List ℕ) (size offset : ℕ) (ss : List (List ℕ)) → AreReadAt (Some content) size offset ss → length ss ≡ 1 → ss ≡ sector_at size offset content ∷ []
+sector_seen content size offset [] read one = absurd (none_is_not_one one)
+sector_seen content size offset (s ∷ []) read one =
     ap (λ (x : List ℕ). x ∷ []) (read.1.1 ∙ ap (λ (n : ℕ). take n (drop offset content)) read.0)
-sector_seen content offset (s ∷ t ∷ u) read one = absurd (no_such_length (length u) one)
+sector_seen content size offset (s ∷ t ∷ u) read one = absurd (no_such_length (length u) one)
 
-right_of_one : (r : ResourceArg) (content : List ℕ) (ss : List (List ℕ)) → ss ≡ sector_at r.offset content ∷ []
-    → list_all (λ s. is_its_leader r (leader_in_sector s)) ss ≡ is_its_leader r (leader_in_sector (sector_at r.offset content))
-right_of_one r content ss is =
-    ap (list_all (λ s. is_its_leader r (leader_in_sector s))) is ∙ and_nothing (is_its_leader r (leader_in_sector (sector_at r.offset content)))
+right_of_one : (r : ResourceArg) (size : ℕ) (content : List ℕ) (ss : List (List ℕ)) → ss ≡ sector_at size r.offset content ∷ []
+    → list_all (λ s. is_its_leader r (leader_in_sector s)) ss ≡ is_its_leader r (leader_in_sector (sector_at size r.offset content))
+right_of_one r size content ss is =
+    ap (list_all (λ s. is_its_leader r (leader_in_sector s))) is ∙ and_nothing (is_its_leader r (leader_in_sector (sector_at size r.offset content)))
 
-told_right : (r : ResourceArg) (content : List ℕ) (after : Option (List ℕ)) (faults later : ℕ) (taken now : Option (List ℕ)) (sink_faults sink_later : ℕ)
-    → Directs (ReadLeader r) (Some content) after faults later taken now sink_faults sink_later Done → has_its_leader r content
-told_right r content after faults later taken now sink_faults sink_later run =
-    let acts = (acted_done (ReadLeader r) (Some content) after faults later taken now sink_faults sink_later run).1 in
-    sym (right_of_one r content acts.sectors (sector_seen content r.offset acts.sectors acts.read acts.ended.0)) ∙ acts.ended.1
+told_right : (r : ResourceArg) (g : Sizes) (content : List ℕ) (after : Option (List ℕ)) (faults later : ℕ) (taken now : Option (List ℕ)) (sink_faults sink_later : ℕ)
+    → Directs (ReadLeader r g) (Some content) after faults later taken now sink_faults sink_later Done → has_its_leader r g.sector content
+told_right r g content after faults later taken now sink_faults sink_later run =
+    let acts = (acted_done (ReadLeader r g) (Some content) after faults later taken now sink_faults sink_later run).1 in
+    sym (right_of_one r g.sector content acts.sectors (sector_seen content g.sector r.offset acts.sectors acts.read acts.ended.0)) ∙ acts.ended.1
 
-told_wrong : (r : ResourceArg) (content : List ℕ) (after : Option (List ℕ)) (faults later : ℕ) (taken now : Option (List ℕ)) (sink_faults sink_later : ℕ)
-    → Directs (ReadLeader r) (Some content) after faults later taken now sink_faults sink_later NotTheLeader
-    → is_its_leader r (leader_in_sector (sector_at r.offset content)) ≡ false
-told_wrong r content after faults later taken now sink_faults sink_later run =
-    let acts = (acted_refused (ReadLeader r) (Some content) after faults later taken now sink_faults sink_later run).1 in
-    sym (right_of_one r content acts.sectors (sector_seen content r.offset acts.sectors acts.read acts.ended.0)) ∙ acts.ended.1
+told_wrong : (r : ResourceArg) (g : Sizes) (content : List ℕ) (after : Option (List ℕ)) (faults later : ℕ) (taken now : Option (List ℕ)) (sink_faults sink_later : ℕ)
+    → Directs (ReadLeader r g) (Some content) after faults later taken now sink_faults sink_later NotTheLeader
+    → is_its_leader r (leader_in_sector (sector_at g.sector r.offset content)) ≡ false
+told_wrong r g content after faults later taken now sink_faults sink_later run =
+    let acts = (acted_refused (ReadLeader r g) (Some content) after faults later taken now sink_faults sink_later run).1 in
+    sym (right_of_one r g.sector content acts.sectors (sector_seen content g.sector r.offset acts.sectors acts.read acts.ended.0)) ∙ acts.ended.1
 
-refused_look : (a : Action) (content after : Option (List ℕ)) (lines : List (List ℕ)) → Acts a content after lines NotTheLeader → (r : ResourceArg) × (a ≡ ReadLeader r)
-refused_look (InitLockspace l hosts) content after lines acts = absurd acts
-refused_look (InitResource r hosts) content after lines acts = absurd acts
-refused_look (ReadLeader r) content after lines acts = (r, refl)
-refused_look (Dump path offset size) content after lines acts = absurd (true_is_false acts.ended.1)
+refused_look : (a : Action) (content after : Option (List ℕ)) (lines : List (List ℕ)) → Acts a content after lines NotTheLeader → (r : ResourceArg) × (g : Sizes) × (a ≡ ReadLeader r g)
+refused_look (InitLockspace l g) content after lines acts = absurd acts
+refused_look (InitResource r g) content after lines acts = absurd acts
+refused_look (ReadLeader r g) content after lines acts = (r, g, refl)
+refused_look (Dump path offset size g) content after lines acts = absurd (true_is_false acts.ended.1)
 
 told_other : (a : Action) (content after : Option (List ℕ)) (faults later : ℕ) (taken now : Option (List ℕ)) (sink_faults sink_later : ℕ)
-    → Directs a content after faults later taken now sink_faults sink_later NotTheLeader → (r : ResourceArg) × (a ≡ ReadLeader r)
+    → Directs a content after faults later taken now sink_faults sink_later NotTheLeader → (r : ResourceArg) × (g : Sizes) × (a ≡ ReadLeader r g)
 told_other a content after faults later taken now sink_faults sink_later run =
     let acted = acted_refused a content after faults later taken now sink_faults sink_later run in
     refused_look a content after acted.0 acted.1
@@ -207,22 +216,22 @@ same_bytes xs = (bytes_eq-Decides xs xs).1 refl
 both : (a b : Bool) → a ≡ true → b ≡ true → (a && b) ≡ true
 both a b first second = ap (λ x. x && b) first ∙ second
 
-its_own : (r : ResourceArg) (hosts : ℕ) (content : List ℕ) → IsFreshResource hosts r.lockspace r.name r.offset content → has_its_leader r content
-its_own r hosts content fresh =
+its_own : (r : ResourceArg) (g : Sizes) (content : List ℕ) → IsFreshResource g r.lockspace r.name r.offset content → has_its_leader r g.sector content
+its_own r g content fresh =
     ap (λ x. is_its_leader r (leader_found x)) fresh.leader ∙ both (bytes_eq r.lockspace r.lockspace) (bytes_eq r.name r.name) (same_bytes r.lockspace) (same_bytes r.name)
 
-found_after : (r : ResourceArg) (hosts : ℕ) (before : List ℕ) (between : Option (List ℕ)) → IsAction (InitResource r hosts)
-    → IsInitialised (resource_writes (layout_for hosts) r.lockspace r.name r.offset) (Some before) between
-    → (content : List ℕ) × (between ≡ Some content) × has_its_leader r content
-found_after r hosts before None action stands = absurd stands
-found_after r hosts before (Some content) action stands =
-    (content, refl, its_own r hosts content (resource_stands hosts r.lockspace r.name r.offset before content action.3 action.0 action.1 stands))
+found_after : (r : ResourceArg) (g : Sizes) (before : List ℕ) (between : Option (List ℕ)) → IsAction (InitResource r g)
+    → IsInitialised (resource_writes (layout_of g) r.lockspace r.name r.offset) (Some before) between
+    → (content : List ℕ) × (between ≡ Some content) × has_its_leader r g.sector content
+found_after r g before None action stands = absurd stands
+found_after r g before (Some content) action stands =
+    (content, refl, its_own r g content (resource_stands g r.lockspace r.name r.offset before content action.0 action.1 action.2 stands))
 
 pub initialised_is_found : InitialisedIsFound
-initialised_is_found r hosts before between after f g h t u v p q s d action first second refused =
-    let acts = acted_done (InitResource r hosts) (Some before) between f g t u p q first in
-    let found = found_after r hosts before between action acts.1.0 in
-    let look : Directs (ReadLeader r) (Some found.0) after g h u v q s NotTheLeader =
-    subst (λ (e : Directed). Directs (ReadLeader r) (Some found.0) after g h u v q s e) refused
-    (subst (λ (o : Option (List ℕ)). Directs (ReadLeader r) o after g h u v q s d) found.1 second) in
-    not_both _ found.2 (told_wrong r found.0 after g h u v q s look)
+initialised_is_found r g look before between after e f h t u v p q s d action same first second refused =
+    let acts = acted_done (InitResource r g) (Some before) between e f t u p q first in
+    let found = found_after r g before between action acts.1.0 in
+    let told : Directs (ReadLeader r look) (Some found.0) after f h u v q s NotTheLeader =
+    subst (λ (x : Directed). Directs (ReadLeader r look) (Some found.0) after f h u v q s x) refused
+    (subst (λ (o : Option (List ℕ)). Directs (ReadLeader r look) o after f h u v q s d) found.1 second) in
+    not_both _ (subst (λ (n : ℕ). has_its_leader r n found.0) (sym same) found.2) (told_wrong r look found.0 after f h u v q s told)

@@ -1,11 +1,11 @@
--- The sectors of an area that is initialised: each is of 512 bytes, and no two share one.
+-- The sectors of an area that is initialised: each is of the geometry's bytes, and no two share one.
 use Rattle.sha2.specs.Sha256.{sha256}
-use Rattle.sl_area.specs.Layouts.{Layout}
+use Rattle.sl_area.proofs.SizeLaws.{HasRoom, has_room}
+use Rattle.sl_area.specs.Layouts.{IsGeometry, Layout, Sizes, layout_of}
 use Rattle.sl_area.specs.Places.{fresh_block, fresh_delta, fresh_leader, no_request, no_value}
 use Rattle.sl_area.specs.Sectors.{Apart, KeepsOthers}
 use Rattle.sl_direct.proofs.DiskLaws.{AllApart, BrokeOff-behind, BrokeOff-front, Wrote-append, broke_first}
-use Rattle.sl_direct.specs.Actions.{IsHostCount}
-use Rattle.sl_direct.specs.FreshAreas.{Write, block_write, block_writes, delta_write, layout_for, leader_write, lockspace_writes, place_of, request_write, resource_writes, value_write, write_of}
+use Rattle.sl_direct.specs.FreshAreas.{Write, block_write, block_writes, delta_write, leader_write, lockspace_writes, place_of, request_write, resource_writes, value_write, write_of}
 use Rattle.sl_direct.specs.Steps.{BrokeOff, Wrote}
 use Rattle.sl_sector.proofs.SpellingLaws.{length-spelling}
 use Rattle.sl_sector.proofs.WrittenBytes.{sha256_is_digest}
@@ -14,24 +14,24 @@ use Rattle.sl_sector.specs.Spelling.{IsSectorSize, spelling}
 use Rattle.sl_sector.specs.declared.sector.Rec.TheVariants.{BlockIs, DeltaIs, LeaderIs, RequestIs, ValueIs}
 use Rattle.sl_sector.specs.declared.sector.Rec.{Rec}
 use Rattle.sl_text.specs.Names.{is_name}
-use Rattle.std.proofs.Common.{All, Err, IsTrue, List, Ok, Option, Result, [], arith, inl, inr, length, map, refl, subst, suc, sym, zero, ℕ, ◌++◌, ◌+◌, ◌<◌, ◌^◌, ◌∙◌, ◌∷◌, ◌≡◌, ◌≤◌, ◌⊎◌}
+use Rattle.std.proofs.Common.{All, Err, IsTrue, List, Ok, Option, Result, [], arith, inl, inr, length, map, refl, subst, suc, sym, zero, ℕ, ◌*◌, ◌++◌, ◌+◌, ◌-◌, ◌<◌, ◌^◌, ◌∷◌, ◌≡◌, ◌≤◌, ◌⊎◌}
 use Rattle.std.proofs.lemmas.List.Elements.{All-append, All-cons, All-head, All-nil, All-tail}
 use Rattle.std.specs.List.{range_with_len}
 use Rattle.std.specs.Prelude.{OnErr}
 
 -- ---- sectors
 
-pub sector_size : IsSectorSize 512
-sector_size = (omega arith, omega arith)
+pub sector_size : (g : Sizes) → IsGeometry g → IsSectorSize g.sector
+sector_size g is = (has_room g is).sector
 
-pub length-sector : (r : Rec) → IsRecord r → length (spelling sha256 512 r) ≡ 512
-length-sector r is = length-spelling sha256 sha256_is_digest 512 r sector_size is
+pub length-sector : (size : ℕ) (r : Rec) → IsSectorSize size → IsRecord r → length (spelling sha256 size r) ≡ size
+length-sector size r sized is = length-spelling sha256 sha256_is_digest size r sized is
 
 -- A write that failed is the first of its own.
-pub write_failed : {E : Type 0} (result : Result (Unit {0}) E) (at size : ℕ) (r : Rec) (a b : Option (List ℕ)) → size ≡ 512 → IsRecord r
-    → OnErr result (KeepsOthers a b (record { offset = at; size = size })) → OnErr result (BrokeOff (write_of at r ∷ []) a b)
-write_failed (Ok x) at size r a b long is kept = tt
-write_failed (Err e) at size r a b long is kept = broke_first (write_of at r) size a b (long ∙ sym (length-sector r is)) kept
+pub write_failed : {E : Type 0} (result : Result (Unit {0}) E) (at size : ℕ) (r : Rec) (a b : Option (List ℕ)) → IsSectorSize size → IsRecord r
+    → OnErr result (KeepsOthers a b (record { offset = at; size = size })) → OnErr result (BrokeOff (write_of size at r ∷ []) a b)
+write_failed (Ok x) at size r a b sized is kept = tt
+write_failed (Err e) at size r a b sized is kept = broke_first (write_of size at r) size a b (sym (length-sector size r sized is)) kept
 
 -- ---- a resource's writes, one behind another
 
@@ -91,14 +91,14 @@ fresh_delta_is name id named low high =
       used = λ h. absurd (nothing_less h);
     }
 
-pub fresh_leader_is : (hosts : ℕ) (space name : List ℕ) → IsHostCount hosts → IsTrue (is_name space) → IsTrue (is_name name)
-    → IsRecord (LeaderIs (fresh_leader (layout_for hosts) space name))
-fresh_leader_is hosts space name count a b =
+pub fresh_leader_is : (g : Sizes) (space name : List ℕ) → IsGeometry g → IsTrue (is_name space) → IsTrue (is_name name)
+    → IsRecord (LeaderIs (fresh_leader (layout_of g) space name))
+fresh_leader_is g space name is a b =
     record {
-      hosts = count;
+      hosts = (has_room g is).hosts;
       lver = no_number;
       generation = no_number;
-      owner = at_least_none hosts;
+      owner = at_least_none g.hosts;
       lockspace = a;
       resource = b;
       same = ((λ h. refl, λ h. refl), (λ h. refl, λ h. refl));
@@ -131,9 +131,51 @@ abbrev IsApartFrom : Write → Write → Type 0
 IsApartFrom w v = Apart (place_of w) (place_of v)
 
 -- Two sectors of which one begins where the other has ended.
-sectors_apart : (a b : ℕ) (r s : Rec) → IsRecord r → IsRecord s → ((a + 512 ≤ b) ⊎ (b + 512 ≤ a)) → IsApartFrom (write_of a r) (write_of b s)
-sectors_apart a b r s first second (inl le) = inl (subst (λ (n : ℕ). a + n ≤ b) (sym (length-sector r first)) le)
-sectors_apart a b r s first second (inr le) = inr (subst (λ (n : ℕ). b + n ≤ a) (sym (length-sector s second)) le)
+sectors_apart : (size a b : ℕ) (r s : Rec) → IsSectorSize size → IsRecord r → IsRecord s → ((a + size ≤ b) ⊎ (b + size ≤ a))
+    → IsApartFrom (write_of size a r) (write_of size b s)
+sectors_apart size a b r s sized first second (inl le) = inl (subst (λ (n : ℕ). a + n ≤ b) (sym (length-sector size r sized first)) le)
+sectors_apart size a b r s sized first second (inr le) = inr (subst (λ (n : ℕ). b + n ≤ a) (sym (length-sector size s sized second)) le)
+
+-- A sector ends where one of a greater number begins, or before.
+numbered_apart : (base sector i j : ℕ) → i < j → base + sector * i + sector ≤ base + sector * j
+numbered_apart base sector i j less =
+    let last : sector * (i + 1) ≤ sector * j = grind (arith) in
+    let next : sector * (i + 1) ≡ sector * i + sector = grind (arith) in
+    omega (arith, last, next)
+
+-- Two ids.
+ids_apart : (base sector i j : ℕ) → 1 ≤ i → i < j → base + sector * (i - 1) + sector ≤ base + sector * (j - 1)
+ids_apart base sector i j some less = numbered_apart base sector (i - 1) (j - 1) (omega (arith, some, less))
+
+-- The request, behind which the blocks stand.
+behind_request : (base sector k : ℕ) → 1 ≤ k → base + sector + sector ≤ base + sector * (k + 1)
+behind_request base sector k some =
+    let first : sector * 1 ≡ sector = omega arith in
+    let apart = numbered_apart base sector 1 (k + 1) (omega (arith, some)) in
+    omega (arith, first, apart)
+
+-- The leader, behind which they stand too.
+behind_leader : (base sector k : ℕ) → base + sector ≤ base + sector * (k + 1)
+behind_leader base sector k =
+    let first : sector * 0 ≡ 0 = omega arith in
+    let apart = numbered_apart base sector 0 (k + 1) (omega arith) in
+    omega (arith, first, apart)
+
+-- A block, behind which the value stands.
+before_value : (base sector k hosts area : ℕ) → k ≤ hosts → sector * (hosts + 3) ≤ area → base + sector * (k + 1) + sector ≤ base + area - sector
+before_value base sector k hosts area below room =
+    let most : sector * (k + 3) ≤ sector * (hosts + 3) = grind (arith) in
+    let ends : sector * (k + 3) ≡ sector * (k + 1) + sector + sector = grind (arith) in
+    omega (arith, room, most, ends)
+
+-- The first two sectors, behind which it stands too.
+first_two : (base sector hosts area : ℕ) → sector * (hosts + 3) ≤ area → base + sector + sector ≤ base + area - sector
+first_two base sector hosts area room =
+    let most : sector * 3 ≤ sector * (hosts + 3) = grind (arith) in
+    omega (arith, room, most)
+
+first_one : (base sector hosts area : ℕ) → sector * (hosts + 3) ≤ area → base + sector ≤ base + area - sector
+first_one base sector hosts area room = let two = first_two base sector hosts area room in omega (arith, two)
 
 all_of_range : (P : Write → Type 0) (f : ℕ → Write) (a n : ℕ) → ((k : ℕ) → a ≤ k → k < a + n → P (f k)) → All P (map f (range_with_len a n))
 all_of_range P f a zero each = All-nil P
@@ -156,41 +198,52 @@ apart_joined (x ∷ xs) ys first second across = (
 )
 
 -- A lockspace's.
-pub lockspace_apart : (hosts : ℕ) (name : List ℕ) (base : ℕ) → IsHostCount hosts → IsTrue (is_name name) → AllApart (lockspace_writes (layout_for hosts) name base)
-lockspace_apart hosts name base count named =
-    apart_in_range (delta_write (layout_for hosts) name base) 1 hosts
+pub lockspace_apart : (g : Sizes) (name : List ℕ) (base : ℕ) → IsGeometry g → IsTrue (is_name name) → AllApart (lockspace_writes (layout_of g) name base)
+lockspace_apart g name base is named =
+    let room : HasRoom g = has_room g is in
+    apart_in_range (delta_write (layout_of g) name base) 1 g.hosts
     (λ i j low less high.
-    sectors_apart _ _ (DeltaIs (fresh_delta name i)) (DeltaIs (fresh_delta name j)) (fresh_delta_is name i named low (omega (arith, low, less, high, count.1)))
-    (fresh_delta_is name j named (omega (arith, low, less)) (omega (arith, high, count.1))) (inl (omega (arith, low, less))))
+    sectors_apart g.sector _ _ (DeltaIs (fresh_delta name i)) (DeltaIs (fresh_delta name j)) room.sector (fresh_delta_is name i named low (omega (arith, low, less, high, room.hosts.1)))
+    (fresh_delta_is name j named (omega (arith, low, less)) (omega (arith, high, room.hosts.1))) (inl (ids_apart base g.sector i j low less)))
 
 -- A resource's.
-pub resource_apart : (hosts : ℕ) (space name : List ℕ) (base : ℕ) → IsHostCount hosts → IsTrue (is_name space) → IsTrue (is_name name)
-    → AllApart (resource_writes (layout_for hosts) space name base)
-resource_apart hosts space name base count a b =
-    let g : Layout = layout_for hosts in
-    let block = λ (k : ℕ). block_write g base k in
-    let value : Write = value_write g base in
-    let leader : Write = leader_write g space name base in
-    let request : Write = request_write g base in
-    let is_leader : IsRecord (LeaderIs (fresh_leader g space name)) = fresh_leader_is hosts space name count a b in
-    let is_block : (k : ℕ) → 1 ≤ k → k < 1 + hosts → IsRecord (BlockIs (fresh_block k)) = λ k low high. fresh_block_is k low (omega (arith, high, count.1)) in
-    let last : AllApart (value ∷ leader ∷ []) =
-    (All-cons (IsApartFrom value) leader [] (sectors_apart _ _ (ValueIs no_value) (LeaderIs (fresh_leader g space name)) no_value_is is_leader (inr (omega arith))) (All-nil _), (All-nil _, tt)) in
-    let blocks : AllApart (block_writes g base) =
-    apart_in_range block 1 hosts
+pub resource_apart : (g : Sizes) (space name : List ℕ) (base : ℕ) → IsGeometry g → IsTrue (is_name space) → IsTrue (is_name name)
+    → AllApart (resource_writes (layout_of g) space name base)
+resource_apart g space name base is a b =
+    let room : HasRoom g = has_room g is in
+    let size : ℕ = g.sector in
+    let sized : IsSectorSize size = room.sector in
+    let layout : Layout = layout_of g in
+    let block = λ (k : ℕ). block_write layout base k in
+    let value : Write = value_write layout base in
+    let leader : Write = leader_write layout space name base in
+    let request : Write = request_write layout base in
+    let is_leader : IsRecord (LeaderIs (fresh_leader layout space name)) = fresh_leader_is g space name is a b in
+    let is_block : (k : ℕ) → 1 ≤ k → k < 1 + g.hosts → IsRecord (BlockIs (fresh_block k)) = λ k low high. fresh_block_is k low (omega (arith, high, room.hosts.1)) in
+    let last : AllApart (value ∷ leader ∷ []) = (
+      All-cons (IsApartFrom value) leader []
+          (sectors_apart size _ _ (ValueIs no_value) (LeaderIs (fresh_leader layout space name)) sized no_value_is is_leader (inr (first_one base size g.hosts g.area room.room))) (All-nil _),
+      (All-nil _, tt),
+    ) in
+    let blocks : AllApart (block_writes layout base) =
+    apart_in_range block 1 g.hosts
     (λ i j low less high.
-    sectors_apart _ _ (BlockIs (fresh_block i)) (BlockIs (fresh_block j)) (is_block i low (omega (arith, less, high))) (is_block j (omega (arith, low, less)) high) (inl (omega (arith, less)))) in
-    let across : All (λ x. All (IsApartFrom x) (value ∷ leader ∷ [])) (block_writes g base) =
-    all_of_range (λ x. All (IsApartFrom x) (value ∷ leader ∷ [])) block 1 hosts
+    sectors_apart size _ _ (BlockIs (fresh_block i)) (BlockIs (fresh_block j)) sized (is_block i low (omega (arith, less, high))) (is_block j (omega (arith, low, less)) high)
+    (inl (numbered_apart base size (i + 1) (j + 1) (omega (arith, less))))) in
+    let across : All (λ x. All (IsApartFrom x) (value ∷ leader ∷ [])) (block_writes layout base) =
+    all_of_range (λ x. All (IsApartFrom x) (value ∷ leader ∷ [])) block 1 g.hosts
     (λ k low high.
-    All-cons (IsApartFrom (block k)) value (leader ∷ []) (sectors_apart _ _ (BlockIs (fresh_block k)) (ValueIs no_value) (is_block k low high) no_value_is (inl (omega (arith, high, count.1))))
+    All-cons (IsApartFrom (block k)) value (leader ∷ [])
+    (sectors_apart size _ _ (BlockIs (fresh_block k)) (ValueIs no_value) sized (is_block k low high) no_value_is
+    (inl (before_value base size k g.hosts g.area (omega (arith, high)) room.room)))
     (All-cons (IsApartFrom (block k)) leader []
-    (sectors_apart _ _ (BlockIs (fresh_block k)) (LeaderIs (fresh_leader g space name)) (is_block k low high) is_leader (inr (omega (arith, low)))) (All-nil _))) in (
-      All-append (IsApartFrom request) (block_writes g base) (value ∷ leader ∷ [])
-          (all_of_range (IsApartFrom request) block 1 hosts
-          (λ k low high. sectors_apart _ _ (RequestIs no_request) (BlockIs (fresh_block k)) no_request_is (is_block k low high) (inl (omega (arith, low)))))
-          (All-cons (IsApartFrom request) value (leader ∷ []) (sectors_apart _ _ (RequestIs no_request) (ValueIs no_value) no_request_is no_value_is (inl (omega arith)))
+    (sectors_apart size _ _ (BlockIs (fresh_block k)) (LeaderIs (fresh_leader layout space name)) sized (is_block k low high) is_leader (inr (behind_leader base size k))) (All-nil _))) in (
+      All-append (IsApartFrom request) (block_writes layout base) (value ∷ leader ∷ [])
+          (all_of_range (IsApartFrom request) block 1 g.hosts
+          (λ k low high. sectors_apart size _ _ (RequestIs no_request) (BlockIs (fresh_block k)) sized no_request_is (is_block k low high) (inl (behind_request base size k low))))
+          (All-cons (IsApartFrom request) value (leader ∷ [])
+          (sectors_apart size _ _ (RequestIs no_request) (ValueIs no_value) sized no_request_is no_value_is (inl (first_two base size g.hosts g.area room.room)))
           (All-cons (IsApartFrom request) leader []
-          (sectors_apart _ _ (RequestIs no_request) (LeaderIs (fresh_leader g space name)) no_request_is is_leader (inr (omega arith))) (All-nil _))),
-      apart_joined (block_writes g base) (value ∷ leader ∷ []) blocks last across,
+          (sectors_apart size _ _ (RequestIs no_request) (LeaderIs (fresh_leader layout space name)) sized no_request_is is_leader (inr (omega arith))) (All-nil _))),
+      apart_joined (block_writes layout base) (value ∷ leader ∷ []) blocks last across,
     )

@@ -1,8 +1,9 @@
 -- What an action on an area owes: by what it found there, what it leaves there, what it prints, and how it ended.
-use Rattle.sl_area.specs.Places.{is_base}
+use Rattle.sl_area.specs.Layouts.{IsGeometry, layout_of}
+use Rattle.sl_area.specs.Roles.{IsBase}
 use Rattle.sl_area.specs.Sectors.{IsReadAt}
 use Rattle.sl_direct.specs.Disks.{IsBrokenOff, IsInitialised}
-use Rattle.sl_direct.specs.FreshAreas.{Write, layout_for, lockspace_writes, resource_writes}
+use Rattle.sl_direct.specs.FreshAreas.{Write, lockspace_writes, resource_writes}
 use Rattle.sl_direct.specs.Lines.{dump_lines, fault_line, is_its_leader, leader_in_sector, leader_line, lockspace_line, resource_line}
 use Rattle.sl_direct.specs.declared.action.Action.TheVariants.{Dump, InitLockspace, InitResource, ReadLeader}
 use Rattle.sl_direct.specs.declared.action.Action.{Action}
@@ -18,33 +19,25 @@ use Rattle.std.specs.Prelude.{Bool, IsTrue, List, Option, false, length, map, tr
 
 -- ---- what an action may name
 
--- Hosts of an area.
-abbrev pub IsHostCount : ℕ → Type 0
-IsHostCount hosts = (1 ≤ hosts) × (hosts ≤ 2000)
-
--- An area may begin there: at a multiple of its size, below 10^12.
-abbrev pub IsAreaBase : ℕ → Type 0
-IsAreaBase offset = IsTrue (is_base (layout_for 2000) offset)
-
--- Whole sectors, from a sector's start on.
-pub record IsStretch (offset size : ℕ) : Type 0 where
-  pub start : (offset % 512 ≡ 0) × (offset < 10 ^ 12)
-  pub whole : size % 512 ≡ 0
+-- Whole sectors of so many bytes, from a sector's start on.
+pub record IsStretch (sector offset size : ℕ) : Type 0 where
+  pub start : (offset % sector ≡ 0) × (offset < 10 ^ 12)
+  pub whole : size % sector ≡ 0
   pub some : (0 < size) × (size ≤ 1048576)
 
--- What an action may name. No path is looked at: the area is the file itself.
+-- What an action may name, with sizes of the table. No path is looked at: the area is the file itself.
 abbrev pub IsAction : Action → Type 0
-IsAction (InitLockspace l hosts) = IsTrue (is_name l.name) × IsAreaBase l.offset × IsHostCount hosts
-IsAction (InitResource r hosts) = IsTrue (is_name r.lockspace) × IsTrue (is_name r.name) × IsAreaBase r.offset × IsHostCount hosts
-IsAction (ReadLeader r) = IsAreaBase r.offset
-IsAction (Dump path offset size) = IsStretch offset size
+IsAction (InitLockspace l g) = IsGeometry g × IsTrue (is_name l.name) × IsBase g l.offset
+IsAction (InitResource r g) = IsGeometry g × IsTrue (is_name r.lockspace) × IsTrue (is_name r.name) × IsBase g r.offset
+IsAction (ReadLeader r g) = IsGeometry g × IsBase g r.offset
+IsAction (Dump path offset size g) = IsGeometry g × IsStretch g.sector offset size
 
 -- The path of the file that an action is done to.
 abbrev pub path_of : Action → List ℕ
-path_of (InitLockspace l hosts) = l.path
-path_of (InitResource r hosts) = r.path
-path_of (ReadLeader r) = r.path
-path_of (Dump path offset size) = path
+path_of (InitLockspace l g) = l.path
+path_of (InitResource r g) = r.path
+path_of (ReadLeader r g) = r.path
+path_of (Dump path offset size g) = path
 
 -- ---- an action that writes
 
@@ -57,14 +50,15 @@ Writes ws line content after lines d = ⊥
 
 -- ---- an action that reads
 
--- These sectors were read one behind another, from an offset on; where the content is told, they are its own.
-abbrev pub AreReadAt : Option (List ℕ) → ℕ → List (List ℕ) → Type 0
-AreReadAt content at [] = ⊤
-AreReadAt content at (s ∷ ss) = (length s ≡ 512) × IsReadAt content at s × AreReadAt content (at + 512) ss
+-- These sectors of so many bytes were read one behind another, from an offset on; where the content is told, they are its own.
+abbrev pub AreReadAt : Option (List ℕ) → ℕ → ℕ → List (List ℕ) → Type 0
+AreReadAt content size at [] = ⊤
+AreReadAt content size at (s ∷ ss) = (length s ≡ size) × IsReadAt content at s × AreReadAt content size (at + size) ss
 
 -- What is to be read, and what is told of it.
 pub record Look : Type 0 where
-  -- from where on, and how many sectors
+  -- the bytes of a sector, from where on, and how many sectors
+  pub sector : ℕ
   pub offset : ℕ
   pub count : ℕ
   -- the lines for the sectors that were read
@@ -72,18 +66,20 @@ pub record Look : Type 0 where
   -- whether they are what was asked for
   pub is_right : List (List ℕ) → Bool
 
--- The look at a resource's leader.
-abbrev pub leader_look : ResourceArg → Look
-leader_look r = record {
+-- The look at a resource's leader, in a sector of so many bytes.
+abbrev pub leader_look : ResourceArg → ℕ → Look
+leader_look r sector = record {
+  sector = sector;
   offset = r.offset;
   count = 1;
   lines = map (leader_line r);
   is_right = list_all (λ s. is_its_leader r (leader_in_sector s));
 }
 
--- The look at each sector of a stretch.
-abbrev pub dump_look : ℕ → ℕ → Look
-dump_look offset size = record { offset = offset; count = size / 512; lines = dump_lines offset; is_right = λ ss. true }
+-- The look at each sector, of so many bytes, of a stretch.
+abbrev pub dump_look : ℕ → ℕ → ℕ → Look
+dump_look offset size sector =
+    record { sector = sector; offset = offset; count = size / sector; lines = dump_lines sector offset; is_right = λ ss. true }
 
 -- How it may end, with the sectors that it read: all of them, and they are right or not; or the next read failed; or there was no memory
 -- for the lines of more.
@@ -98,7 +94,7 @@ Ended count right read WriteFault = ⊥
 pub record Reads (k : Look) (content after : Option (List ℕ)) (lines : List (List ℕ)) (d : Directed) : Type 0 where
   pub kept : Keeps content after
   pub sectors : List (List ℕ)
-  pub read : AreReadAt content k.offset sectors
+  pub read : AreReadAt content k.sector k.offset sectors
   pub told : lines ≡ k.lines sectors
   pub ended : Ended k.count (k.is_right sectors) (length sectors) d
 
@@ -106,10 +102,10 @@ pub record Reads (k : Look) (content after : Option (List ℕ)) (lines : List (L
 
 -- How an action may go on an area: what it leaves there, and the lines that it has to print.
 abbrev pub Acts : Action → Option (List ℕ) → Option (List ℕ) → List (List ℕ) → Directed → Type 0
-Acts (InitLockspace l hosts) = Writes (lockspace_writes (layout_for hosts) l.name l.offset) (lockspace_line l hosts)
-Acts (InitResource r hosts) = Writes (resource_writes (layout_for hosts) r.lockspace r.name r.offset) (resource_line r hosts)
-Acts (ReadLeader r) = Reads (leader_look r)
-Acts (Dump path offset size) = Reads (dump_look offset size)
+Acts (InitLockspace l g) = Writes (lockspace_writes (layout_of g) l.name l.offset) (lockspace_line l g.hosts)
+Acts (InitResource r g) = Writes (resource_writes (layout_of g) r.lockspace r.name r.offset) (resource_line r g.hosts)
+Acts (ReadLeader r g) = Reads (leader_look r g.sector)
+Acts (Dump path offset size g) = Reads (dump_look offset size g.sector)
 
 -- The line that is printed behind all others where the area failed.
 abbrev pub last_lines : Directed → List (List ℕ)

@@ -1,6 +1,6 @@
 -- What is written to the area of a lockspace or of a resource that is initialised, in the order in which it is written.
 use Rattle.sha2.specs.Sha256.{sha256}
-use Rattle.sl_area.specs.Layouts.{Layout, layout_of, sizes}
+use Rattle.sl_area.specs.Layouts.{Layout}
 use Rattle.sl_area.specs.Places.{block_offset, delta_offset, fresh_block, fresh_delta, fresh_leader, leader_offset, no_request, no_value, request_offset, value_offset}
 use Rattle.sl_area.specs.Sectors.{SectorPlace}
 use Rattle.sl_sector.specs.Spelling.{spelling}
@@ -8,10 +8,6 @@ use Rattle.sl_sector.specs.declared.sector.Rec.TheVariants.{BlockIs, DeltaIs, Le
 use Rattle.sl_sector.specs.declared.sector.Rec.{Rec}
 use Rattle.std.specs.List.{range_with_len}
 use Rattle.std.specs.Prelude.{List, length, map, [], ℕ, ◌++◌, ◌∷◌}
-
--- Sectors of 512 bytes, in areas of one mebibyte, for so many hosts.
-abbrev pub layout_for : ℕ → Layout
-layout_for hosts = layout_of (sizes 512 1048576 hosts)
 
 -- A sector that is written: where it begins, and its bytes.
 pub record Write : Type 0 where
@@ -22,13 +18,13 @@ pub record Write : Type 0 where
 abbrev pub place_of : Write → SectorPlace
 place_of w = record { offset = w.offset; size = length w.sector }
 
--- The write of a record, in a sector that ends with the SHA-256 of its other bytes.
-abbrev pub write_of : ℕ → Rec → Write
-write_of offset r = record { offset = offset; sector = spelling sha256 512 r }
+-- The write of a record, in a sector of so many bytes that ends with the SHA-256 of its other bytes.
+abbrev pub write_of : ℕ → ℕ → Rec → Write
+write_of size offset r = record { offset = offset; sector = spelling sha256 size r }
 
 -- An id's record that was never claimed, in its place.
 abbrev pub delta_write : Layout → List ℕ → ℕ → ℕ → Write
-delta_write g lockspace base id = write_of (delta_offset g base id) (DeltaIs (fresh_delta lockspace id))
+delta_write g lockspace base id = write_of g.sector (delta_offset g base id) (DeltaIs (fresh_delta lockspace id))
 
 -- A lockspace: the record of each id.
 abbrev pub lockspace_writes : Layout → List ℕ → ℕ → List Write
@@ -36,19 +32,19 @@ lockspace_writes g lockspace base = map (delta_write g lockspace base) (range_wi
 
 -- The cleared request, in its place.
 abbrev pub request_write : Layout → ℕ → Write
-request_write g base = write_of (request_offset g base) (RequestIs no_request)
+request_write g base = write_of g.sector (request_offset g base) (RequestIs no_request)
 
 -- A host's block that has no ballot, in its place.
 abbrev pub block_write : Layout → ℕ → ℕ → Write
-block_write g base id = write_of (block_offset g base id) (BlockIs (fresh_block id))
+block_write g base id = write_of g.sector (block_offset g base id) (BlockIs (fresh_block id))
 
 -- The value without a byte, in its place.
 abbrev pub value_write : Layout → ℕ → Write
-value_write g base = write_of (value_offset g base) (ValueIs no_value)
+value_write g base = write_of g.sector (value_offset g base) (ValueIs no_value)
 
 -- The leader that was never held, in its place.
 abbrev pub leader_write : Layout → List ℕ → List ℕ → ℕ → Write
-leader_write g lockspace resource base = write_of (leader_offset base) (LeaderIs (fresh_leader g lockspace resource))
+leader_write g lockspace resource base = write_of g.sector (leader_offset base) (LeaderIs (fresh_leader g lockspace resource))
 
 -- The blocks of all hosts.
 abbrev pub block_writes : Layout → ℕ → List Write

@@ -72,10 +72,10 @@ found_words (Err bad) = bad_words bad
 abbrev pub sector_line : ℕ → List ℕ → List ℕ
 sector_line at sector = spaced (decimal at ∷ found_words (decoded sha256 sector))
 
--- Sectors that stand one behind another.
-abbrev pub dump_lines : ℕ → List (List ℕ) → List (List ℕ)
-dump_lines at [] = []
-dump_lines at (s ∷ ss) = sector_line at s ∷ dump_lines (at + 512) ss
+-- Sectors of so many bytes that stand one behind another, from an offset on.
+abbrev pub dump_lines : ℕ → ℕ → List (List ℕ) → List (List ℕ)
+dump_lines size at [] = []
+dump_lines size at (s ∷ ss) = sector_line at s ∷ dump_lines size (at + size) ss
 
 -- ---- a fault
 

@@ -45,17 +45,17 @@ BrokeOff ws (Some before) (Some after) = WroteFront ws before after
 
 -- ---- sectors that are told
 
--- So many of them were read, and each was told in a line of its own.
-pub record AreTold (content : Option (List ℕ)) (offset count : ℕ) (out : List ℕ) : Type 0 where
+-- So many of them were read, each of `size` bytes, and each was told in a line of its own.
+pub record AreTold (content : Option (List ℕ)) (size offset count : ℕ) (out : List ℕ) : Type 0 where
   pub sectors : List (List ℕ)
   pub long : length sectors ≡ count
-  pub read : AreReadAt content offset sectors
-  pub told : out ≡ as_bytes (dump_lines offset sectors)
+  pub read : AreReadAt content size offset sectors
+  pub told : out ≡ as_bytes (dump_lines size offset sectors)
 
 -- One more was.
-pub record IsToldAt (content : Option (List ℕ)) (at : ℕ) (out later : List ℕ) : Type 0 where
+pub record IsToldAt (content : Option (List ℕ)) (size at : ℕ) (out later : List ℕ) : Type 0 where
   pub sector : List ℕ
-  pub long : length sector ≡ 512
+  pub long : length sector ≡ size
   pub read : IsReadAt content at sector
   pub told : later ≡ out ++ sector_line at sector ++ 10 ∷ []
 

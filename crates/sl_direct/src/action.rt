@@ -3,31 +3,35 @@
 ghost use Rattle.sl_direct.specs.Actions.{path_of};
 ghost use Rattle.std.specs.Prelude.{◌≡◌};
 
+use sl_area::Geometry;
 use sl_text::FilePath;
 use sl_trace::{LockspaceArg, ResourceArg};
 
-/// An action on an area. Paths name the file that is acted on; offsets are bytes from its start.
+/// An action on an area. Paths name the file that is acted on; offsets are bytes from its start. The geometry says how long a sector and
+/// an area are; its hosts are looked at only where an area is written.
 #[derive(Clone, Copy)]
 pub enum Action {
-    /// Writes the sectors of a lockspace for so many hosts. The id of the argument is not looked at.
+    /// Writes the sectors of a lockspace. The id of the argument is not looked at.
     InitLockspace {
         lockspace: LockspaceArg,
-        hosts: u32,
+        geometry: Geometry,
     },
-    /// Writes the sectors of a resource for so many hosts.
+    /// Writes the sectors of a resource.
     InitResource {
         resource: ResourceArg,
-        hosts: u32,
+        geometry: Geometry,
     },
     /// Tells the resource's leader.
     ReadLeader {
         resource: ResourceArg,
+        geometry: Geometry,
     },
     /// Tells each sector of so many bytes from an offset on.
     Dump {
         path: FilePath,
         offset: u64,
         size: u64,
+        geometry: Geometry,
     },
 }
 
@@ -39,14 +43,21 @@ impl Action {
         match self {
             Action::InitLockspace {
                 lockspace,
-                hosts: _,
+                geometry: _,
             } => lockspace.path,
-            Action::InitResource { resource, hosts: _ } => resource.path,
-            Action::ReadLeader { resource } => resource.path,
+            Action::InitResource {
+                resource,
+                geometry: _,
+            } => resource.path,
+            Action::ReadLeader {
+                resource,
+                geometry: _,
+            } => resource.path,
             Action::Dump {
                 path,
                 offset: _,
                 size: _,
+                geometry: _,
             } => *path,
         }
     }

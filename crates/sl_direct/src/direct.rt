@@ -22,10 +22,20 @@ fn act<A: Area>(area: &mut A, action: &Action, out: &mut Vec<u8>) -> Directed
     ensures later { A.faults area.old ≤ A.faults area.new }
 {
     match action {
-        Action::InitLockspace { lockspace, hosts } => init_lockspace(area, lockspace, *hosts, out),
-        Action::InitResource { resource, hosts } => init_resource(area, resource, *hosts, out),
-        Action::ReadLeader { resource } => read_leader(area, resource, out),
-        Action::Dump { path, offset, size } => dump(area, *path, *offset, *size, out),
+        Action::InitLockspace {
+            lockspace,
+            geometry,
+        } => init_lockspace(area, lockspace, *geometry, out),
+        Action::InitResource { resource, geometry } => {
+            init_resource(area, resource, *geometry, out)
+        }
+        Action::ReadLeader { resource, geometry } => read_leader(area, resource, *geometry, out),
+        Action::Dump {
+            path,
+            offset,
+            size,
+            geometry,
+        } => dump(area, *path, *offset, *size, *geometry, out),
     }
 }
 

@@ -1,24 +1,12 @@
-//! Records that were never used, and the geometry of the areas that get them.
+//! Records that were never used.
 
-ghost use Rattle.sl_area.specs.Layouts.{layout_of, sizes};
+ghost use Rattle.sl_area.specs.Layouts.{layout_of};
 ghost use Rattle.sl_area.specs.Places.{fresh_block, fresh_delta, fresh_leader, no_request, no_value};
-ghost use Rattle.sl_direct.specs.Actions.{IsHostCount};
 ghost use Rattle.std.specs.Prelude.{[], ◌≡◌};
 
 use sl_area::Geometry;
 use sl_sector::{Block, DeltaRec, DeltaState, Leader, Request, ValueRec};
 use sl_text::{Data, Name};
-
-/// The geometry of areas for so many hosts.
-pub(crate) fn geometry_for(hosts: u32) -> Geometry
-    requires { IsHostCount hosts }
-    ensures { result ≡ sizes 512 1048576 hosts }
-{
-    match Geometry::new(512, 1_048_576, hosts) {
-        Ok(geometry) => geometry,
-        Err(_) => unreachable!(),
-    }
-}
 
 /// An id's record that was never claimed.
 pub(crate) fn fresh_delta(lockspace: Name, id: u32) -> DeltaRec

@@ -2,8 +2,8 @@
 //!
 //! A disk of zeros spells no record, so to every host it is torn: nobody can join a lockspace or take a resource there before somebody has
 //! initialised its area. `run_direct` does that, and lets a person look at what a disk has. It takes the area and a sink, and no file:
-//! what it leaves and prints can so be said byte by byte. That no session runs on an area that is initialised is the caller's to see to:
-//! nothing on the disk tells it.
+//! what it leaves and prints can so be said byte by byte, for sectors and areas of any size that there is. That no session runs on an area
+//! that is initialised is the caller's to see to: nothing on the disk tells it.
 //!
 //! An initialising writes each sector of the area once: of a lockspace the record of each id, of a resource the request, the blocks,
 //! the value and last the leader. Every host reads the leader before it asks for the resource. So on a disk where none stood, an area
@@ -36,3 +36,6 @@ mod looks;
 
 pub use action::{Action, Directed};
 pub use direct::run_direct;
+
+/// Bytes of the longest sector.
+const LONGEST_SECTOR: usize = 4096;

@@ -6,6 +6,7 @@ ghost use Rattle.sl_sector.specs.Spelling.{IsSectorSize, decoded};
 ghost use Rattle.sl_text.specs.Forms.{spaced};
 ghost use Rattle.std.specs.Prelude.{IfOk, OnErr, OnOk, [], length, string_bytes, false, true, ◌++◌, ◌∷◌, ◌≡◌};
 
+use sl_area::Geometry;
 use sl_sector::{Bad, Leader, Rec, decode, push_bad_text, push_record_text};
 use sl_text::write::push_line;
 use sl_trace::{LockspaceArg, ResourceArg};
@@ -15,11 +16,12 @@ use std::alloc::{AllocError, Global};
 pub(crate) fn push_lockspace_line(
     out: &mut Vec<u8>,
     lockspace: &LockspaceArg,
-    hosts: u32,
+    geometry: Geometry,
 ) -> Result<(), AllocError>
-    ensures ok { OnOk result (out.new.items ≡ out.old.items ++ texts.lockspace_line lockspace.now hosts ++ 10 ∷ []) }
+    ensures ok { OnOk result (out.new.items ≡ out.old.items ++ texts.lockspace_line lockspace.now geometry.hosts ++ 10 ∷ []) }
     ensures err { OnErr result (out.new.items ≡ out.old.items) }
 {
+    let hosts = geometry.hosts();
     let line = format!(in *out.allocator(); "init {} {hosts}", lockspace.name)?;
     push_line(out, line.as_bytes())
 }
@@ -28,11 +30,12 @@ pub(crate) fn push_lockspace_line(
 pub(crate) fn push_resource_line(
     out: &mut Vec<u8>,
     resource: &ResourceArg,
-    hosts: u32,
+    geometry: Geometry,
 ) -> Result<(), AllocError>
-    ensures ok { OnOk result (out.new.items ≡ out.old.items ++ texts.resource_line resource.now hosts ++ 10 ∷ []) }
+    ensures ok { OnOk result (out.new.items ≡ out.old.items ++ texts.resource_line resource.now geometry.hosts ++ 10 ∷ []) }
     ensures err { OnErr result (out.new.items ≡ out.old.items) }
 {
+    let hosts = geometry.hosts();
     let line = format!(in *out.allocator();
         "init {}:{} {hosts}",
         resource.lockspace, resource.name

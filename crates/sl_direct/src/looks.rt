@@ -1,54 +1,38 @@
 //! Sectors of an area that are read and told.
-ghost use Rattle.sl_area.specs.Sectors.{IsReadAt};
-ghost use Rattle.sl_direct.specs.Actions.{IsAreaBase, IsStretch};
+ghost use Rattle.sl_area.specs.Layouts.{IsGeometry};
+ghost use Rattle.sl_area.specs.Roles.{IsBase, place_at};
+ghost use Rattle.sl_direct.specs.Actions.{IsStretch};
 ghost use Rattle.sl_direct.specs.Lines as texts;
 ghost use Rattle.sl_direct.specs.Steps.{AreTold, HasActed, IsStopped, IsToldAt};
 ghost use Rattle.sl_direct.specs.declared.action.Action.TheVariants.{Dump, ReadLeader};
 ghost use Rattle.sl_direct.specs.declared.action.Directed.TheVariants.{AreaFault};
-ghost use Rattle.sl_words.specs.Causes.{HasCause, Rose};
+ghost use Rattle.sl_sector.specs.Spelling.{IsSectorSize};
+ghost use Rattle.sl_words.specs.Causes.{Rose};
 ghost use Rattle.std.specs.Io.KnownBytes.{Keeps};
 ghost use Rattle.std.specs.Prelude.{IfErr, IfOk, OnErr, OnOk, [], length, ℕ, ◌%◌, ◌*◌, ◌++◌, ◌/◌, ◌<◌, ◌^◌, ◌∷◌, ◌≡◌, ◌≤◌};
 
+use crate::LONGEST_SECTOR;
 use crate::action::Directed;
-use crate::fresh::geometry_for;
 use crate::lines::{is_its_leader, leader_in_sector, push_leader_line, push_sector_line};
-use sl_area::{Area, Place};
-use sl_io::Failed;
+use sl_area::{Area, Geometry, Place};
 use sl_text::FilePath;
 use sl_trace::ResourceArg;
 use std::alloc::AllocError;
 
-/// The most hosts of an area. Where a sector begins does not rest on their number.
-const MOST_HOSTS: u32 = 2000;
-
-/// Bytes of a sector.
-const SECTOR_SIZE: u64 = 512;
-
 /// The sector that begins at an offset.
-fn sector_place(offset: u64) -> Place
-    requires { (offset % 512 ≡ 0) × (offset < 2 ^ 63) }
-    ensures { result ≡ record { offset = offset; size = 512 } }
+fn sector_place(geometry: Geometry, offset: u64) -> Place
+    requires { (offset % geometry.sector ≡ 0) × (offset < 2 ^ 63) }
+    ensures { result ≡ place_at geometry offset }
 {
-    match geometry_for(MOST_HOSTS).place(offset) {
+    match geometry.place(offset) {
         Some(place) => place,
         None => unreachable!(),
     }
 }
 
-/// Reads the sector that begins at an offset.
-fn read_sector<A: Area>(area: &mut A, at: u64, sector: &mut [u8]) -> Result<(), Failed>
-    requires place { (at % 512 ≡ 0) × (at < 2 ^ 63) }
-    requires size { length sector.old ≡ 512 }
-    ensures kept { Keeps (A.content area.old) (A.content area.new) }
-    ensures bytes { OnOk result (IsReadAt (A.content area.old) at sector.new) }
-    ensures cause { HasCause (A.faults area.old) (A.faults area.new) result }
-{
-    area.read(sector_place(at), 1, sector)
-}
-
 /// Adds the line of the leader that a sector spells, or of none; whether it is the resource's.
 fn tell_leader(resource: &ResourceArg, sector: &[u8], out: &mut Vec<u8>) -> Result<bool, AllocError>
-    requires { length sector.now ≡ 512 }
+    requires { IsSectorSize (length sector.now) }
     ensures ok { OnOk result (out.new.items ≡ out.old.items ++ texts.leader_line resource.now sector.now ++ 10 ∷ []) }
     ensures right { IfOk result (λ right. right ≡ texts.is_its_leader resource.now (texts.leader_in_sector sector.now)) }
     ensures err { OnErr result (out.new.items ≡ out.old.items) }
@@ -62,17 +46,20 @@ fn tell_leader(resource: &ResourceArg, sector: &[u8], out: &mut Vec<u8>) -> Resu
 pub(crate) fn read_leader<A: Area>(
     area: &mut A,
     resource: &ResourceArg,
+    geometry: Geometry,
     out: &mut Vec<u8>,
 ) -> Directed
-    requires base { IsAreaBase resource.now.offset }
+    requires sizes { IsGeometry geometry }
+    requires base { IsBase geometry resource.now.offset }
     requires first { out.old.items ≡ [] }
-    ensures acted { HasActed (ReadLeader resource.now) (A.content area.old) (A.content area.new) out.new.items result }
+    ensures acted { HasActed (ReadLeader resource.now geometry) (A.content area.old) (A.content area.new) out.new.items result }
     ensures cause { result ≡ AreaFault → Rose (A.faults area.old) (A.faults area.new) }
     ensures later { A.faults area.old ≤ A.faults area.new }
 {
-    let mut sector = [0; 512];
-    match read_sector(area, resource.offset, &mut sector) {
-        Ok(()) => match tell_leader(resource, &sector, out) {
+    let mut longest = [0; LONGEST_SECTOR];
+    let sector = &mut longest[..geometry.sector() as usize];
+    match area.read(geometry.leader_place(resource.offset), 1, sector) {
+        Ok(()) => match tell_leader(resource, sector, out) {
             Ok(true) => Directed::Done,
             Ok(false) => Directed::NotTheLeader,
             Err(_) => Directed::NoMemory,
@@ -82,17 +69,24 @@ pub(crate) fn read_leader<A: Area>(
 }
 
 /// Reads the sector at an offset, and adds its line.
-fn tell_sector<A: Area>(area: &mut A, at: u64, out: &mut Vec<u8>) -> Result<(), Directed>
-    requires { (at % 512 ≡ 0) × (at < 2 ^ 63) }
+fn tell_sector<A: Area>(
+    area: &mut A,
+    geometry: Geometry,
+    at: u64,
+    out: &mut Vec<u8>,
+) -> Result<(), Directed>
+    requires sizes { IsGeometry geometry }
+    requires place { (at % geometry.sector ≡ 0) × (at < 2 ^ 63) }
     ensures kept { Keeps (A.content area.old) (A.content area.new) }
-    ensures ok { OnOk result (IsToldAt (A.content area.old) at out.old.items out.new.items) }
+    ensures ok { OnOk result (IsToldAt (A.content area.old) geometry.sector at out.old.items out.new.items) }
     ensures err { OnErr result (out.new.items ≡ out.old.items) }
     ensures stopped { IfErr result (λ d. IsStopped (A.faults area.old) (A.faults area.new) d) }
     ensures later { A.faults area.old ≤ A.faults area.new }
 {
-    let mut sector = [0; 512];
-    match read_sector(area, at, &mut sector) {
-        Ok(()) => match push_sector_line(out, at, &sector) {
+    let mut longest = [0; LONGEST_SECTOR];
+    let sector = &mut longest[..geometry.sector() as usize];
+    match area.read(sector_place(geometry, at), 1, sector) {
+        Ok(()) => match push_sector_line(out, at, sector) {
             Ok(()) => Ok(()),
             Err(_) => Err(Directed::NoMemory),
         },
@@ -105,18 +99,21 @@ fn tell_sectors<A: Area>(
     area: &mut A,
     offset: u64,
     size: u64,
+    geometry: Geometry,
     out: &mut Vec<u8>,
 ) -> Result<(), Directed>
-    requires stretch { IsStretch offset size }
+    requires sizes { IsGeometry geometry }
+    requires stretch { IsStretch geometry.sector offset size }
     requires first { out.old.items ≡ [] }
     ensures kept { Keeps (A.content area.old) (A.content area.new) }
-    ensures ok { OnOk result (AreTold (A.content area.old) offset (size / 512) out.new.items) }
-    ensures err { OnErr result ((count : ℕ) × (count < size / 512) × AreTold (A.content area.old) offset count out.new.items) }
+    ensures ok { OnOk result (AreTold (A.content area.old) geometry.sector offset (size / geometry.sector) out.new.items) }
+    ensures err { OnErr result ((count : ℕ) × (count < size / geometry.sector) × AreTold (A.content area.old) geometry.sector offset count out.new.items) }
     ensures stopped { IfErr result (λ d. IsStopped (A.faults area.old) (A.faults area.new) d) }
     ensures later { A.faults area.old ≤ A.faults area.new }
 {
-    for number in 0..size / SECTOR_SIZE {
-        tell_sector(area, offset + SECTOR_SIZE * number, out)?;
+    let sector = u64::from(geometry.sector());
+    for number in 0..size / sector {
+        tell_sector(area, geometry, offset + sector * number, out)?;
     }
     Ok(())
 }
@@ -127,15 +124,17 @@ pub(crate) fn dump<A: Area>(
     path: FilePath,
     offset: u64,
     size: u64,
+    geometry: Geometry,
     out: &mut Vec<u8>,
 ) -> Directed
-    requires stretch { IsStretch offset size }
+    requires sizes { IsGeometry geometry }
+    requires stretch { IsStretch geometry.sector offset size }
     requires first { out.old.items ≡ [] }
-    ensures acted { HasActed (Dump path offset size) (A.content area.old) (A.content area.new) out.new.items result }
+    ensures acted { HasActed (Dump path offset size geometry) (A.content area.old) (A.content area.new) out.new.items result }
     ensures cause { result ≡ AreaFault → Rose (A.faults area.old) (A.faults area.new) }
     ensures later { A.faults area.old ≤ A.faults area.new }
 {
-    match tell_sectors(area, offset, size, out) {
+    match tell_sectors(area, offset, size, geometry, out) {
         Ok(()) => Directed::Done,
         Err(stopped) => stopped,
     }

@@ -1,7 +1,8 @@
 -- What an action owes: a disk is handed out, the action is done to the area, and the area goes back. Where the devices don't tell what the
 -- disk has, nothing of it is owed, so what the area tells is forgotten; where they do, the area has what the disk had.
+use Rattle.sl_area.specs.Layouts.{layout_of}
 use Rattle.sl_direct.specs.Actions.{Acts, AreReadAt, Directs, Look, Reads, Writes, dump_look, leader_look, path_of}
-use Rattle.sl_direct.specs.FreshAreas.{Write, layout_for, lockspace_writes, resource_writes}
+use Rattle.sl_direct.specs.FreshAreas.{Write, lockspace_writes, resource_writes}
 use Rattle.sl_direct.specs.Lines.{lockspace_line, resource_line}
 use Rattle.sl_direct.specs.declared.action.Action.TheVariants.{Dump, InitLockspace, InitResource, ReadLeader}
 use Rattle.sl_direct.specs.declared.action.Action.{Action}
@@ -19,9 +20,9 @@ use Rattle.std.specs.Prelude.{option_map}
 
 -- ---- what isn't told
 
-sectors_untold : (content : Option (List ℕ)) (at : ℕ) (ss : List (List ℕ)) → AreReadAt content at ss → AreReadAt None at ss
-sectors_untold content at [] h = tt
-sectors_untold content at (s ∷ ss) h = (h.0, tt, sectors_untold content (at + 512) ss h.2)
+sectors_untold : (content : Option (List ℕ)) (size at : ℕ) (ss : List (List ℕ)) → AreReadAt content size at ss → AreReadAt None size at ss
+sectors_untold content size at [] h = tt
+sectors_untold content size at (s ∷ ss) h = (h.0, tt, sectors_untold content size (at + size) ss h.2)
 
 writes_untold : (ws : List Write) (line : List ℕ) (content left after : Option (List ℕ)) (lines : List (List ℕ)) (d : Directed) → Writes ws line content left lines d
     → Writes ws line None after lines d
@@ -33,13 +34,13 @@ writes_untold ws line content left after lines NotTheLeader h = h
 
 reads_untold : (k : Look) (content left after : Option (List ℕ)) (lines : List (List ℕ)) (d : Directed) → Reads k content left lines d → Reads k None after lines d
 reads_untold k content left after lines d h =
-    record { kept = tt; sectors = h.sectors; read = sectors_untold content k.offset h.sectors h.read; told = h.told; ended = h.ended }
+    record { kept = tt; sectors = h.sectors; read = sectors_untold content k.sector k.offset h.sectors h.read; told = h.told; ended = h.ended }
 
 acts_untold : (a : Action) (content left after : Option (List ℕ)) (lines : List (List ℕ)) (d : Directed) → Acts a content left lines d → Acts a None after lines d
-acts_untold (InitLockspace l hosts) = writes_untold (lockspace_writes (layout_for hosts) l.name l.offset) (lockspace_line l hosts)
-acts_untold (InitResource r hosts) = writes_untold (resource_writes (layout_for hosts) r.lockspace r.name r.offset) (resource_line r hosts)
-acts_untold (ReadLeader r) = reads_untold (leader_look r)
-acts_untold (Dump path offset size) = reads_untold (dump_look offset size)
+acts_untold (InitLockspace l g) = writes_untold (lockspace_writes (layout_of g) l.name l.offset) (lockspace_line l g.hosts)
+acts_untold (InitResource r g) = writes_untold (resource_writes (layout_of g) r.lockspace r.name r.offset) (resource_line r g.hosts)
+acts_untold (ReadLeader r g) = reads_untold (leader_look r g.sector)
+acts_untold (Dump path offset size g) = reads_untold (dump_look offset size g.sector)
 
 directs_untold : (a : Action) (content left after : Option (List ℕ)) (faults later : ℕ) (taken now : Option (List ℕ)) (sink_faults sink_later : ℕ) (d : Directed)
     → Directs a content left faults later taken now sink_faults sink_later d → Directs a None after faults later taken now sink_faults sink_later d
@@ -109,10 +110,10 @@ keeps_same None = tt
 keeps_same (Some c) = refl
 
 nothing_acted : (a : Action) (content : Option (List ℕ)) → Acts a content content [] NoMemory
-nothing_acted (InitLockspace l hosts) content = (keeps_same content, refl)
-nothing_acted (InitResource r hosts) content = (keeps_same content, refl)
-nothing_acted (ReadLeader r) content = record { kept = keeps_same content; sectors = []; read = tt; told = refl; ended = omega arith }
-nothing_acted (Dump path offset size) content = record { kept = keeps_same content; sectors = []; read = tt; told = refl; ended = omega arith }
+nothing_acted (InitLockspace l g) content = (keeps_same content, refl)
+nothing_acted (InitResource r g) content = (keeps_same content, refl)
+nothing_acted (ReadLeader r g) content = record { kept = keeps_same content; sectors = []; read = tt; told = refl; ended = omega arith }
+nothing_acted (Dump path offset size g) content = record { kept = keeps_same content; sectors = []; read = tt; told = refl; ended = omega arith }
 
 -- For want of memory.
 pub not_begun : (a : Action) (disks : Disks) (faults : ℕ) (taken : Option (List ℕ)) (sink_faults : ℕ) → ActsOn a disks disks faults faults taken taken sink_faults sink_faults status.NoMemory

@@ -1,4 +1,5 @@
 -- Which statuses a run may end with, by what its words say, and why.
+use Rattle.sl_area.specs.Layouts.{Sizes}
 use Rattle.sl_cli.specs.declared.reading.Words.TheVariants.{Direct, Generate, Help, Replay, Version}
 use Rattle.sl_cli.specs.declared.reading.Words.{Words}
 use Rattle.sl_cli.specs.declared.texts.TheConstants.{HELP, VERSION}
@@ -125,25 +126,26 @@ other_leader directed.NotTheLeader e = refl
 some_fault : (n : ℕ) → Rose 0 n → 0 < n
 some_fault n rose = omega (arith, rose)
 
-leader_cause : (a : Action) (x : Outside) (now : Option (List ℕ)) (counted : ℕ) (taken put : Option (List ℕ)) (sink_faults sink_later : ℕ) (r : ResourceArg) → a ≡ ReadLeader r
-    → Directs (ReadLeader r) (x.disks r.path) now 0 counted taken put sink_faults sink_later directed.NotTheLeader → IsNotTheLeader (Some (Direct a)) x
-leader_cause a x now counted taken put sink_faults sink_later r is h =
+leader_cause : (a : Action) (x : Outside) (now : Option (List ℕ)) (counted : ℕ) (taken put : Option (List ℕ)) (sink_faults sink_later : ℕ) (r : ResourceArg) (g : Sizes) → a ≡ ReadLeader r g
+    → Directs (ReadLeader r g) (x.disks r.path) now 0 counted taken put sink_faults sink_later directed.NotTheLeader → IsNotTheLeader (Some (Direct a)) x
+leader_cause a x now counted taken put sink_faults sink_later r g is h =
     record {
       resource = r;
+      geometry = g;
       asked = ap (λ b. Some (Direct b)) is;
       other = λ content told.
-          leader_is_told.wrong r content now 0 counted taken put sink_faults sink_later
-          (subst (λ c. Directs (ReadLeader r) c now 0 counted taken put sink_faults sink_later directed.NotTheLeader) told h);
+          leader_is_told.wrong r g content now 0 counted taken put sink_faults sink_later
+          (subst (λ c. Directs (ReadLeader r g) c now 0 counted taken put sink_faults sink_later directed.NotTheLeader) told h);
     }
 
 leader_caused : (a : Action) (x y : Outside) (s : Status) → (run : ActsOn a x.disks y.disks x.device_faults y.device_faults x.taken y.taken x.sink_faults y.sink_faults s)
     → run.ended ≡ directed.NotTheLeader → IsNotTheLeader (Some (Direct a)) x
 leader_caused a x y s run is =
     let h = subst (λ d. Directs a (x.disks (path_of a)) (y.disks (path_of a)) 0 run.counted x.taken y.taken x.sink_faults y.sink_faults d) is run.directs in
-    let found : (r : ResourceArg) × (a ≡ ReadLeader r) =
+    let found : (r : ResourceArg) × (g : Sizes) × (a ≡ ReadLeader r g) =
     leader_is_told.other a (x.disks (path_of a)) (y.disks (path_of a)) 0 run.counted x.taken y.taken x.sink_faults y.sink_faults h in
-    leader_cause a x (y.disks found.0.path) run.counted x.taken y.taken x.sink_faults y.sink_faults found.0 found.1
-    (subst (λ b. Directs b (x.disks (path_of b)) (y.disks (path_of b)) 0 run.counted x.taken y.taken x.sink_faults y.sink_faults directed.NotTheLeader) found.1 h)
+    leader_cause a x (y.disks found.0.path) run.counted x.taken y.taken x.sink_faults y.sink_faults found.0 found.1 found.2
+    (subst (λ b. Directs b (x.disks (path_of b)) (y.disks (path_of b)) 0 run.counted x.taken y.taken x.sink_faults y.sink_faults directed.NotTheLeader) found.2 h)
 
 direct_caused : (a : Action) (x y : Outside) (s : Status) → ActsOn a x.disks y.disks x.device_faults y.device_faults x.taken y.taken x.sink_faults y.sink_faults s
     → HasItsCause (Some (Direct a)) x y s
@@ -170,24 +172,24 @@ statuses_have_causes (Some Version) x y s h = done_caused (Some Version) x y VER
 -- ---- where its cause stands
 
 -- A look that is done found the leader.
-leader_found : (r : ResourceArg) (content : List ℕ) (now : Option (List ℕ)) (counted : ℕ) (taken put : Option (List ℕ)) (sink_faults sink_later : ℕ) (d : Directed) (s : Status)
-    → Directs (ReadLeader r) (Some content) now 0 counted taken put sink_faults sink_later d → s ≡ status_after d → has_leader r content ≡ false
+leader_found : (r : ResourceArg) (g : Sizes) (content : List ℕ) (now : Option (List ℕ)) (counted : ℕ) (taken put : Option (List ℕ)) (sink_faults sink_later : ℕ) (d : Directed) (s : Status)
+    → Directs (ReadLeader r g) (Some content) now 0 counted taken put sink_faults sink_later d → s ≡ status_after d → has_leader r g.sector content ≡ false
     → (s ≡ NotTheLeader) ⊎ (s ≡ AreaFault) ⊎ IsCutShort s
-leader_found r content now counted taken put sink_faults sink_later directed.Done s h is other =
-    let right : IsTrue (has_leader r content) = leader_is_told.right r content now 0 counted taken put sink_faults sink_later h in
+leader_found r g content now counted taken put sink_faults sink_later directed.Done s h is other =
+    let right : IsTrue (has_leader r g.sector content) = leader_is_told.right r g content now 0 counted taken put sink_faults sink_later h in
     let no : false ≡ true = sym other ∙ right in absurd cc
-leader_found r content now counted taken put sink_faults sink_later directed.WriteFault s h is other = inr (inr (inl is))
-leader_found r content now counted taken put sink_faults sink_later directed.NoMemory s h is other = inr (inr (inr is))
-leader_found r content now counted taken put sink_faults sink_later directed.AreaFault s h is other = inr (inl is)
-leader_found r content now counted taken put sink_faults sink_later directed.NotTheLeader s h is other = inl is
+leader_found r g content now counted taken put sink_faults sink_later directed.WriteFault s h is other = inr (inr (inl is))
+leader_found r g content now counted taken put sink_faults sink_later directed.NoMemory s h is other = inr (inr (inr is))
+leader_found r g content now counted taken put sink_faults sink_later directed.AreaFault s h is other = inr (inl is)
+leader_found r g content now counted taken put sink_faults sink_later directed.NotTheLeader s h is other = inl is
 
 pub causes_have_statuses : CausesHaveStatuses
 causes_have_statuses =
     record {
       bad_words = λ x y s put. put_status bad_words_text put.written BadWords s put.text_is;
-      not_the_leader = λ r content x y s run told other.
-          leader_found r content (y.disks r.path) run.counted x.taken y.taken x.sink_faults y.sink_faults run.ended s
-          (subst (λ c. Directs (ReadLeader r) c (y.disks r.path) 0 run.counted x.taken y.taken x.sink_faults y.sink_faults run.ended) told run.directs) run.status other;
+      not_the_leader = λ r g content x y s run told other.
+          leader_found r g content (y.disks r.path) run.counted x.taken y.taken x.sink_faults y.sink_faults run.ended s
+          (subst (λ c. Directs (ReadLeader r g) c (y.disks r.path) 0 run.counted x.taken y.taken x.sink_faults y.sink_faults run.ended) told run.directs) run.status other;
     }
 
 -- ---- accepted schedules

@@ -1,4 +1,5 @@
 -- What each status tells of a run.
+use Rattle.sl_area.specs.Layouts.{Sizes}
 use Rattle.sl_cli.specs.declared.reading.Words.TheVariants.{Direct, Replay}
 use Rattle.sl_cli.specs.declared.reading.Words.{Words}
 use Rattle.sl_direct.specs.Laws.{sector_at}
@@ -13,15 +14,16 @@ use Rattle.sl_trace.specs.declared.command.ResourceArg.{ResourceArg}
 use Rattle.sl_words.specs.Causes.{Rose}
 use Rattle.std.specs.Prelude.{Bool, List, None, Option, Some, false, ℕ, ◌≡◌, ◌⊎◌}
 
--- Whether the disk's sector at a resource's offset spells its leader.
-abbrev pub has_leader : ResourceArg → List ℕ → Bool
-has_leader r content = is_its_leader r (leader_in_sector (sector_at r.offset content))
+-- Whether the disk's sector of so many bytes at a resource's offset spells its leader.
+abbrev pub has_leader : ResourceArg → ℕ → List ℕ → Bool
+has_leader r size content = is_its_leader r (leader_in_sector (sector_at size r.offset content))
 
 -- A leader was to be read, and the sector was not the resource's leader, where the disk is told.
 pub record IsNotTheLeader (w : Option Words) (x : Outside) : Type 0 where
   pub resource : ResourceArg
-  pub asked : w ≡ Some (Direct (ReadLeader resource))
-  pub other : (content : List ℕ) → x.disks resource.path ≡ Some content → has_leader resource content ≡ false
+  pub geometry : Sizes
+  pub asked : w ≡ Some (Direct (ReadLeader resource geometry))
+  pub other : (content : List ℕ) → x.disks resource.path ≡ Some content → has_leader resource geometry.sector content ≡ false
 
 -- Each status but 0 and want of memory comes only with its cause.
 pub record HasItsCause (w : Option Words) (x y : Outside) (s : Status) : Type 0 where
@@ -38,8 +40,8 @@ StatusesHaveCauses = (w : Option Words) (x y : Outside) (s : Status) → Owes w 
 -- And where its cause stands, the status comes, if nothing cut the run short.
 pub record CausesHaveStatuses : Type 0 where
   pub bad_words : (x y : Outside) (s : Status) → Owes None x y s → (s ≡ BadWords) ⊎ IsCutShort s
-  pub not_the_leader : (r : ResourceArg) (content : List ℕ) (x y : Outside) (s : Status) → Owes (Some (Direct (ReadLeader r))) x y s → x.disks r.path ≡ Some content
-      → has_leader r content ≡ false → (s ≡ NotTheLeader) ⊎ (s ≡ AreaFault) ⊎ IsCutShort s
+  pub not_the_leader : (r : ResourceArg) (g : Sizes) (content : List ℕ) (x y : Outside) (s : Status) → Owes (Some (Direct (ReadLeader r g))) x y s
+      → x.disks r.path ≡ Some content → has_leader r g.sector content ≡ false → (s ≡ NotTheLeader) ⊎ (s ≡ AreaFault) ⊎ IsCutShort s
 
 -- Nothing failed: neither the source nor the sink counts more faults than before.
 pub record NothingFailed (x y : Outside) : Type 0 where

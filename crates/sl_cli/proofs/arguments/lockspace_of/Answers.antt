@@ -8,4 +8,4 @@ use Rattle.std.proofs.Common.{ap, ◌∙◌}
 pub returns : goal.returns
 returns c =
     let w = c.args.word.now in
-    taken lockspace_read w _ _ _ _ (c.new.ensures ∙ ap (unread 58) c.as_bytes.ensures.value) c.lockspace_parts.ensures c.ok.ensures.value (lockspace_read-is w)
+    taken (lockspace_read c.args.most.now) w _ _ _ _ (c.new.ensures ∙ ap (unread 58) c.as_bytes.ensures.value) c.lockspace_parts.ensures c.ok.ensures.value (lockspace_read-is c.args.most.now w)

@@ -8,4 +8,4 @@ use Rattle.std.proofs.Common.{ap, ◌∙◌}
 pub returns : goal.returns
 returns c =
     let w = c.args.word.now in
-    taken stretch_read w _ _ _ _ (c.new.ensures ∙ ap (unread 58) c.as_bytes.ensures.value) c.stretch_parts.ensures c.ok.ensures.value (stretch_read-is w)
+    taken (stretch_read c.args.most.now.sector) w _ _ _ _ (c.new.ensures ∙ ap (unread 58) c.as_bytes.ensures.value) c.stretch_parts.ensures c.ok.ensures.value (stretch_read-is c.args.most.now.sector w)

@@ -6,7 +6,7 @@ use Rattle.std.specs.Io.KnownBytes.{Keeps}
 
 abbrev pub invariant-loop-number : goal.invariant-loop-number
 invariant-loop-number g l = record {
-  told : AreTold (g.A.Area.content l.fn.area) l.offset l.number l.out.items;
+  told : AreTold (g.A.Area.content l.fn.area) l.geometry.sector l.offset l.number l.out.items;
   kept : Keeps (g.A.Area.content l.fn.area) (g.A.Area.content l.area);
   later : g.A.Area.faults l.fn.area ≤ g.A.Area.faults l.area;
 }
