@@ -2,7 +2,6 @@
 use Rattle.sl_kept.specs.Changes.{first_kept, reset_machine}
 use Rattle.sl_kept.specs.Inputs.{input_in}
 use Rattle.sl_kept.specs.Kept.{KeptState, MachineState, machine_in}
-use Rattle.sl_kept.specs.Sane.{IsSane}
 use Rattle.sl_kept.specs.Showing.{Tells, shown}
 use Rattle.sl_kept.specs.Steps.{owned_machine, stepped_kept, stepped_machine, taken_kept}
 use Rattle.sl_kept_law.proofs.Lookups.{machine_shown}
@@ -13,22 +12,19 @@ use Rattle.sl_machine.specs.declared.kept.Kept.{Kept}
 use Rattle.sl_machine.specs.declared.machine.Machine.{Machine as KeptMachine}
 use Rattle.sl_plain.proofs.Lists.{set_here}
 use Rattle.sl_run.specs.Conflicts.{Holding, has_conflict}
-use Rattle.sl_run.specs.Events.{happens, machine_of, may_happen}
+use Rattle.sl_run.specs.Events.{machine_of}
 use Rattle.sl_run.specs.Locks.{Locks}
 use Rattle.sl_run.specs.Runs.{HasSteps}
 use Rattle.sl_run.specs.Worlds.{Machine, World, machine_at}
 use Rattle.sl_run.specs.declared.event.Event.TheVariants.{Reset}
 use Rattle.sl_run.specs.declared.event.Event.{Event}
-use Rattle.sl_run.specs.declared.header.Header.{Header}
-use Rattle.sl_text.specs.Forms.{Form}
 use Rattle.sl_trace.specs.Traces.{held_after, is_ended_by}
-use Rattle.sl_trace.specs.declared.command.Command.{Command}
 use Rattle.sl_trace.specs.declared.effects.Effects.{Effects}
 use Rattle.sl_trace.specs.declared.effects.Grant.{Grant}
 use Rattle.sl_trace.specs.declared.input.Input.{Input}
 use Rattle.sl_words.proofs.CaseLaws.{false_is_true}
 use Rattle.sl_world.proofs.Fewer.{Within, all_from, all_within, conflict_within, here_within, kept_within, within_both, within_filter, within_left, within_right}
-use Rattle.sl_world.proofs.LeftGrants.{all_by, at_if, by_reset, changed, first_helds, front_of, held_by, held_is, helds, if_open, is_one_reset, is_reset, nowhere, number_there, others_by, others_set, stepped_helds, taken_helds}
+use Rattle.sl_world.proofs.LeftGrants.{all_by, at_if, changed, first_helds, front_of, held_by, held_is, helds, if_open, is_one_reset, is_reset, nowhere, number_there, others_by, others_set, stepped_helds, taken_helds}
 use Rattle.sl_world.specs.Counting.{all_held, held_before, holding, holdings_with}
 use Rattle.sl_world.specs.Leaving.{CalmAfter, CalmBefore}
 use Rattle.sl_world_law.specs.Telling.{held_in, holdings_in, others_in}

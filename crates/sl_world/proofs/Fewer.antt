@@ -1,9 +1,8 @@
 -- Where no two of some holdings conflict, no two of fewer do.
-use Rattle.sl_plain.proofs.Numbers.{number_itself}
 use Rattle.sl_run.specs.Conflicts.{Holding, conflicts, has_conflict}
 use Rattle.sl_trace.specs.declared.effects.Grant.{Grant}
 use Rattle.sl_words.proofs.CaseLaws.{false_is_true, some_value}
-use Rattle.std.proofs.Common.{ap, ap₂, arith, refl, subst, sym, ◌∙◌}
+use Rattle.std.proofs.Common.{ap, ap₂, arith, refl, sym, ◌∙◌}
 use Rattle.std.proofs.lemmas.Bool.Decides.{nat_tests}
 use Rattle.std.proofs.lemmas.List.Elements.{filter-append}
 use Rattle.std.proofs.lemmas.List.Folds.{list_any-append}

@@ -3,7 +3,7 @@ use Rattle.sl_kept.specs.Changes.{change_flight, completed_in, crashed_machine, 
 use Rattle.sl_kept.specs.Refusing.{left_in, torn_in}
 use Rattle.sl_kept.specs.Inputs.{input_in}
 use Rattle.sl_kept.specs.Kept.{FlightState, KeptState, MachineState, Place, change_machine_in, flight_of_machine, machine_in}
-use Rattle.sl_kept.specs.Showing.{Tells, shown}
+use Rattle.sl_kept.specs.Showing.{shown}
 use Rattle.sl_kept.specs.Steps.{owned_machine, stepped_kept, stepped_machine, taken_kept}
 use Rattle.sl_kept_law.proofs.Lookups.{machine_shown}
 use Rattle.sl_kept_law.proofs.WholeEvents.{events_are_kept}

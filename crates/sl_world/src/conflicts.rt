@@ -12,7 +12,7 @@ ghost use Rattle.sl_run.specs.Conflicts as conflicts;
 ghost use Rattle.sl_trace.specs.Traces as traces;
 ghost use Rattle.sl_world.specs.Counting.{all_with, any_beside, any_there, conflicts_left, conflicts_with, held_before, holding, holdings_with, others_from};
 ghost use Rattle.sl_world_law.specs.Telling.{held_in};
-ghost use Rattle.std.specs.Prelude.{drop, false, if◌then◌else◌, length, map, not, take, true, ◌&&◌, ◌==◌, ◌≡◌, ◌≤◌};
+ghost use Rattle.std.specs.Prelude.{drop, false, if◌then◌else◌, length, map, not, take, true, ◌&&◌, ◌+◌, ◌<◌, ◌==◌, ◌≡◌, ◌≤◌};
 
 use crate::world::World;
 use sl_daemon::Daemon;
@@ -115,6 +115,37 @@ pub struct Conflicts {
     pub calm: bool,
 }
 
+/// Whether two holdings conflict, where one machine holds this, and it may be known that none do.
+fn are_in_conflict<L: LockTable>(
+    machines: &[Machine<L>],
+    owner: usize,
+    mine: &[Grant],
+    calm: bool,
+) -> bool
+    requires { calm ≡ true → conflicts.has_conflict (all_with owner (map (machine_state L.locks) machines.now) mine.now) ≡ false }
+    ensures { result ≡ conflicts.has_conflict (all_with owner (map (machine_state L.locks) machines.now) mine.now) }
+{
+    if calm {
+        return false;
+    }
+    has_conflict(machines, owner, mine)
+}
+
+/// Whether two holdings conflict, where one machine holds the first of this, and one more of it than those of which it is said.
+fn has_one_more<L: LockTable>(
+    machines: &[Machine<L>],
+    owner: usize,
+    held: &[Grant],
+    at: usize,
+    before: bool,
+) -> bool
+    requires there { at < length held.now }
+    requires known { before ≡ conflicts.has_conflict (all_with owner (map (machine_state L.locks) machines.now) (take at held.now)) }
+    ensures { result ≡ conflicts.has_conflict (all_with owner (map (machine_state L.locks) machines.now) (take (at + 1) held.now)) }
+{
+    before || conflicts_with_any(machines, owner, &held[..at], owner, &held[at])
+}
+
 /// How many of the last grants of a machine left a conflict, given in turn behind the first, and whether none is left; where it is said
 /// whether there was one before.
 fn count_conflicts<L: LockTable>(
@@ -124,8 +155,8 @@ fn count_conflicts<L: LockTable>(
     first: usize,
     before: bool,
 ) -> Conflicts
-    requires { first ≤ length held.now }
-    requires { before ≡ conflicts.has_conflict (all_with owner (map (machine_state L.locks) machines.now) (take first held.now)) }
+    requires there { first ≤ length held.now }
+    requires known { before ≡ conflicts.has_conflict (all_with owner (map (machine_state L.locks) machines.now) (take first held.now)) }
     ensures count { result.count ≡ conflicts_after (others_from 1 owner (map (machine_state L.locks) machines.now)) owner (take first held.now) (drop first held.now) }
     ensures calm { result.calm ≡ not (conflicts.has_conflict (all_with owner (map (machine_state L.locks) machines.now) held.now)) }
 {
@@ -133,7 +164,7 @@ fn count_conflicts<L: LockTable>(
     let mut clash = before;
     let mut at = first;
     while at < held.len() {
-        clash = clash || conflicts_with_any(machines, owner, &held[..at], owner, &held[at]);
+        clash = has_one_more(machines, owner, held, at, clash);
         at += 1;
         if clash {
             count += 1;
@@ -147,7 +178,7 @@ fn count_conflicts<L: LockTable>(
 
 impl<D: Daemon, L: LockTable> World<D, L> {
     /// What a machine holds; nothing where there is none.
-    #[tactic(auto, unfolding(Rattle::sl_machine::specs::Machines::machine_state))]
+    #[tactic(auto, using(crate::proofs::HeldThere::held_on))]
     fn held_on(&self, machine: u32) -> &[Grant]
         ensures { result.now ≡ held_in (kept_state L.locks self.now.kept) machine }
     {
@@ -171,7 +202,7 @@ impl<D: Daemon, L: LockTable> World<D, L> {
         let first = held.len().saturating_sub(granted);
         let machines = self.kept.machines.as_slice();
         let owner = machine as usize;
-        let before = !calm && has_conflict(machines, owner, &held[..first]);
+        let before = are_in_conflict(machines, owner, &held[..first], calm);
         count_conflicts(machines, owner, held, first, before)
     }
 }
