@@ -6,7 +6,7 @@
 
 ghost use Rattle.sl_world.specs.Counting.{IsCalm};
 
-use crate::counting::{PlayError, counted, no_counts};
+use crate::counting::{PlayError, counted, granted, no_counts};
 use crate::events::{after_error, is_ask, machine_of};
 use crate::telling::push_event;
 use sl_daemon::Daemon;
@@ -130,7 +130,7 @@ impl<D: Daemon, L: LockTable> Play<D, L> {
             Ok(told) => {
                 let left = self
                     .world
-                    .conflicts_left(machine, told.effects.grants.len(), self.calm);
+                    .conflicts_left(machine, granted(&told), self.calm);
                 self.calm = left.calm;
                 self.tell(out, machine, ask, test, &told, left.count)?;
                 Ok(None)
