@@ -4,7 +4,7 @@ use Rattle.sl_kept.specs.Kept.{KeptState, MachineState, machine_in}
 use Rattle.sl_kept.specs.Sane.{WorldStands}
 use Rattle.sl_locks.specs.declared.step.StepTold.{StepTold}
 use Rattle.sl_machine.specs.Keeping.{kept_state}
-use Rattle.sl_play.specs.Playing.{Answers, Happened, HasHappened, PassesCounts, PlayState, StandsFor, after_error, test_told}
+use Rattle.sl_play.specs.Playing.{Answers, HasHappened, PassesCounts, PlayState, StandsFor, after_error, test_told}
 use Rattle.sl_play.specs.Telling.{AreCounted, counts_with, told_view, tests_told}
 use Rattle.sl_play.specs.declared.counting.PlayError.TheVariants.{NoMemory, TooMany}
 use Rattle.sl_play.specs.declared.counting.PlayError.{PlayError}
