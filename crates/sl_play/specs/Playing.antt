@@ -37,7 +37,7 @@ pub record PlayState (D : Type 0) : Type 0 where
   pub hosts : List (Option D)
   pub counts : Counts
 
-abbrev pub state_of : {D L : Type 0} → (L → Locks) → Play D L → PlayState D
+abbrev pub state_of : {D L : Type 0} → {d : _} → {l : _} → (L → Locks) → Play D L d l → PlayState D
 state_of locks p = record { kept = kept_state locks p.world.kept; hosts = p.world.hosts; counts = p.counts }
 
 -- It stands for some world.

@@ -117,6 +117,13 @@ fn refusals(alloc: Global, told: &StepTold) -> Result<u64, AllocError>
     }
 }
 
+/// How many leases a step granted.
+pub(crate) fn granted(told: &StepTold) -> usize
+    ensures { result ≡ length told.now.effects.grants }
+{
+    told.effects.grants.len()
+}
+
 /// The counts with these; None where one is too great.
 fn added(
     counts: &Counts,

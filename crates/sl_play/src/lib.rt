@@ -7,6 +7,7 @@
 #![tactic(auto)]
 
 mod counting;
+mod events;
 pub mod laws;
 mod lines;
 mod play;

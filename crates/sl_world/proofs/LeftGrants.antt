@@ -3,7 +3,7 @@ use Rattle.sl_kept.specs.Changes.{change_flight, completed_in, crashed_machine, 
 use Rattle.sl_kept.specs.Refusing.{left_in, torn_in}
 use Rattle.sl_kept.specs.Inputs.{input_in}
 use Rattle.sl_kept.specs.Kept.{FlightState, KeptState, MachineState, Place, change_machine_in, flight_of_machine, machine_in}
-use Rattle.sl_kept.specs.Showing.{Tells, shown}
+use Rattle.sl_kept.specs.Showing.{shown}
 use Rattle.sl_kept.specs.Steps.{owned_machine, stepped_kept, stepped_machine, taken_kept}
 use Rattle.sl_kept_law.proofs.Lookups.{machine_shown}
 use Rattle.sl_kept_law.proofs.WholeEvents.{events_are_kept}
@@ -33,26 +33,26 @@ use Rattle.std.specs.Option.{option_map_or}
 use Rattle.std.specs.Prelude.{Bool, IsSome, List, None, Option, Some, cond, drop, false, filter, flat_map, if◌then◌else◌, length, map, not, option_and_then, option_map, slice_get, slice_set, suc, take, true, unwrap_or, zero, [], ℕ, ◌++◌, ◌+◌, ◌-◌, ◌<◌, ◌==◌, ◌∷◌, ◌≡◌, ◌≤◌}
 
 -- Whether the event is a reset.
-abbrev is_reset : Event → Bool
+abbrev pub is_reset : Event → Bool
 is_reset (Reset m) = true
 is_reset e = false
 
 -- ---- what each machine holds
 
-abbrev helds : List MachineState → List (List Grant)
+abbrev pub helds : List MachineState → List (List Grant)
 helds ss = map (λ (s : MachineState). s.held) ss
 
-abbrev others_by : ℕ → ℕ → List (List Grant) → List Holding
+abbrev pub others_by : ℕ → ℕ → List (List Grant) → List Holding
 others_by i m hs = filter (λ (h : Holding). not (h.machine == m)) (flat_map (λ (p : ℕ × List Grant). map (holding p.0) p.1) (enumerate_from i hs))
 
-abbrev held_by : ℕ → List (List Grant) → List Grant
+abbrev pub held_by : ℕ → List (List Grant) → List Grant
 held_by m hs = option_map_or (λ (x : List Grant). x) (if m == 0 then None else slice_get hs (m - 1)) []
 
 abbrev left_by : List (List Grant) → ℕ → ℕ → ℕ
 left_by hs m n =
     conflicts_after (others_by 1 m hs) m (take (length (held_by m hs) - n) (held_by m hs)) (drop (length (held_by m hs) - n) (held_by m hs))
 
-all_by : (i : ℕ) (ss : List MachineState)
+pub all_by : (i : ℕ) (ss : List MachineState)
     → flat_map (λ (p : ℕ × MachineState). map (holding p.0) p.1.held) (enumerate_from i ss) ≡ flat_map (λ (p : ℕ × List Grant). map (holding p.0) p.1) (enumerate_from i (helds ss))
 all_by i [] = refl
 all_by i (s ∷ ss) = ap (λ hs. map (holding i) s.held ++ hs) (all_by (i + 1) ss)
@@ -66,7 +66,7 @@ held_if false ss j = by (slice_get ss j) ∙ ap (λ (o : Option (List Grant)). o
     by None = refl
     by (Some s) = refl
 
-held_is : (k : KeptState) (m : ℕ) → held_in k m ≡ held_by m (helds k.machines)
+pub held_is : (k : KeptState) (m : ℕ) → held_in k m ≡ held_by m (helds k.machines)
 held_is k m = held_if (m == 0) k.machines (m - 1)
 
 left_is : (k : KeptState) (m n : ℕ) → conflicts_left k m n ≡ left_by (helds k.machines) m n
@@ -75,7 +75,7 @@ left_is k m n =
 
 -- ---- a machine changes
 
-at_if : {A : Type 0} (b : Bool) (o : Option A) (a : A) → (if b then None else o) ≡ Some a → (b ≡ false) × (o ≡ Some a)
+pub at_if : {A : Type 0} (b : Bool) (o : Option A) (a : A) → (if b then None else o) ≡ Some a → (b ≡ false) × (o ≡ Some a)
 at_if true o a h = absurd cc
 at_if false o a h = (refl, h)
 
@@ -84,7 +84,7 @@ set_held [] j s v at same = refl
 set_held (x ∷ ss) zero s v at same = ap (λ h. h ∷ helds ss) (same ∙ ap (λ (o : Option MachineState). option_map_or (λ (y : MachineState). y.held) o []) (sym at))
 set_held (x ∷ ss) (suc j) s v at same = ap (λ hs. x.held ∷ hs) (set_held ss j s v at same)
 
-abbrev changed : ℕ → (MachineState → MachineState) → KeptState → Option MachineState → KeptState
+abbrev pub changed : ℕ → (MachineState → MachineState) → KeptState → Option MachineState → KeptState
 changed m f k o = elim o as (λ z. KeptState) [ None ↦ k | Some s ↦ record k { machines = slice_set k.machines (m - 1) (f s) } ]
 
 change_helds : (m : ℕ) (f : MachineState → MachineState) (k : KeptState) → ((s : MachineState) → (f s).held ≡ s.held) → helds (change_machine_in m f k).machines ≡ helds k.machines
@@ -149,7 +149,7 @@ completed_helds m c k = go (flight_of_machine k m c)
     go (Some f) = written f f.write
 
 -- Before its effects an event leaves all that is held, but a reset.
-first_helds : (e : Event) (k : KeptState) → is_reset e ≡ false → helds (first_kept e k).machines ≡ helds k.machines
+pub first_helds : (e : Event) (k : KeptState) → is_reset e ≡ false → helds (first_kept e k).machines ≡ helds k.machines
 unfolding first_kept
 first_helds (Pass d gs) k stays = later_helds d gs 1 k.machines
 first_helds (Sample m c n) k stays = change_helds m (change_flight c (sampled_flight k n)) k (λ s. refl)
@@ -171,7 +171,7 @@ first_helds (ExitOf m p) k stays = refl
 first_helds (SpawnedOf m p ok) k stays = refl
 
 -- A step, or what the machine does itself.
-taken_helds : (m : ℕ) (o : Option Input) (fx : Effects) (k : KeptState) (s : MachineState) → machine_in k m ≡ Some s
+pub taken_helds : (m : ℕ) (o : Option Input) (fx : Effects) (k : KeptState) (s : MachineState) → machine_in k m ≡ Some s
     → helds (taken_kept m o fx k).machines ≡ slice_set (helds k.machines) (m - 1) (held_after fx s.held)
 taken_helds m None fx k s at =
     ap (λ (x : Option MachineState). helds (changed m (owned_machine fx) k x).machines) at ∙ map-set (λ (y : MachineState). y.held) k.machines (m - 1) (owned_machine fx s)
@@ -185,11 +185,11 @@ kept_at : (o : Option MachineState) (h : List Grant) → option_map (λ (s : Mac
 kept_at None h is = absurd cc
 kept_at (Some s) h is = (s, refl, ap (λ (o : Option (List Grant)). option_map_or (λ (x : List Grant). x) o []) is)
 
-if_open : {A : Type 0} (b : Bool) (o : Option A) (a : A) → b ≡ false → o ≡ Some a → (if b then None else o) ≡ Some a
+pub if_open : {A : Type 0} (b : Bool) (o : Option A) (a : A) → b ≡ false → o ≡ Some a → (if b then None else o) ≡ Some a
 if_open true o a stays at = absurd cc
 if_open false o a stays at = at
 
-held_there : (k v : KeptState) (m : ℕ) (s : MachineState) → helds v.machines ≡ helds k.machines → machine_in k m ≡ Some s
+pub held_there : (k v : KeptState) (m : ℕ) (s : MachineState) → helds v.machines ≡ helds k.machines → machine_in k m ≡ Some s
     → (x : MachineState) × (machine_in v m ≡ Some x) × (x.held ≡ s.held)
 held_there k v m s same at =
     let here = at_if (m == 0) (slice_get k.machines (m - 1)) s at in
@@ -198,7 +198,7 @@ held_there k v m s same at =
     ∙ slice_get-map (λ (y : MachineState). y.held) k.machines (m - 1) ∙ ap (option_map (λ (y : MachineState). y.held)) here.1) in
     (found.0, if_open (m == 0) (slice_get v.machines (m - 1)) found.0 here.0 found.1, found.2)
 
-stepped_helds : (e : Event) (fx : Effects) (k : KeptState) (s : MachineState) → is_reset e ≡ false → machine_in k (machine_of e) ≡ Some s
+pub stepped_helds : (e : Event) (fx : Effects) (k : KeptState) (s : MachineState) → is_reset e ≡ false → machine_in k (machine_of e) ≡ Some s
     → helds (stepped_kept e fx k).machines ≡ slice_set (helds k.machines) (machine_of e - 1) (held_after fx s.held)
 stepped_helds e fx k s stays at =
     let same = first_helds e k stays in
@@ -218,7 +218,7 @@ others_cons : (i m : ℕ) (h : List Grant) (hs : List (List Grant)) → others_b
 others_cons i m h hs =
     filter-append (λ (x : Holding). not (x.machine == m)) (map (holding i) h) (flat_map (λ (p : ℕ × List Grant). map (holding p.0) p.1) (enumerate_from (i + 1) hs))
 
-others_set : (i j m : ℕ) (hs : List (List Grant)) (h : List Grant) → i + j ≡ m → others_by i m (slice_set hs j h) ≡ others_by i m hs
+pub others_set : (i j m : ℕ) (hs : List (List Grant)) (h : List Grant) → i + j ≡ m → others_by i m (slice_set hs j h) ≡ others_by i m hs
 others_set i j m [] h is = refl
 others_set i zero m (x ∷ hs) h is =
     let here : i ≡ m = omega (arith, is) in
@@ -232,7 +232,7 @@ others_set i (suc j) m (x ∷ hs) h is =
 cut : (xs ys : List Grant) → length (xs ++ ys) - length ys ≡ length xs
 cut xs ys = omega (arith, length-append xs ys)
 
-front_of : (xs ys : List Grant) → take (length (xs ++ ys) - length ys) (xs ++ ys) ≡ xs
+pub front_of : (xs ys : List Grant) → take (length (xs ++ ys) - length ys) (xs ++ ys) ≡ xs
 front_of xs ys = ap (λ n. take n (xs ++ ys)) (cut xs ys) ∙ take_front xs ys
   where
     take_front : (ks bs : List Grant) → take (length ks) (ks ++ bs) ≡ ks
@@ -246,7 +246,7 @@ back_of xs ys = ap (λ n. drop n (xs ++ ys)) (cut xs ys) ∙ drop_front xs ys
     drop_front [] bs = refl
     drop_front (a ∷ ks) bs = drop_front ks bs
 
-number_there : (m : ℕ) → (m == 0) ≡ false → 1 + (m - 1) ≡ m
+pub number_there : (m : ℕ) → (m == 0) ≡ false → 1 + (m - 1) ≡ m
 number_there zero stays = absurd cc
 number_there (suc m) stays = omega arith
 
@@ -294,7 +294,7 @@ alone_grants w e fx none steps = go (input_of w e) none steps
     go None is has = ap (λ (fxs : List Effects). elim fxs as (λ z. Effects) [ [] ↦ fx | x ∷ xs ↦ x ]) has
     go (Some i) is has = absurd cc
 
-by_reset : (w : World) (m : ℕ) (fx : Effects) → HasSteps w (Reset m) (fx ∷ []) → fx.grants ≡ []
+pub by_reset : (w : World) (m : ℕ) (fx : Effects) → HasSteps w (Reset m) (fx ∷ []) → fx.grants ≡ []
 by_reset w m fx steps = ap (λ (x : Effects). x.grants) (alone_grants w (Reset m) fx (nothing (machine_at w m)) steps) ∙ ends (machine_at w m)
   where
     nothing : (o : Option Machine) → option_and_then (input_at w (Reset m)) o ≡ None
@@ -305,11 +305,11 @@ by_reset w m fx steps = ap (λ (x : Effects). x.grants) (alone_grants w (Reset m
     ends None = refl
     ends (Some a) = refl
 
-nowhere : (w : World) (e : Event) (fx : Effects) → machine_at w (machine_of e) ≡ None → HasSteps w e (fx ∷ []) → fx.grants ≡ []
+pub nowhere : (w : World) (e : Event) (fx : Effects) → machine_at w (machine_of e) ≡ None → HasSteps w e (fx ∷ []) → fx.grants ≡ []
 nowhere w e fx none steps =
     ap (λ (x : Effects). x.grants) (alone_grants w e fx (ap (option_and_then (input_at w e)) none) steps ∙ ap (λ o. option_map_or (own_effects w e) o no_effects) none)
 
-is_one_reset : (e : Event) → is_reset e ≡ true → (m : ℕ) × (e ≡ Reset m)
+pub is_one_reset : (e : Event) → is_reset e ≡ true → (m : ℕ) × (e ≡ Reset m)
 is_one_reset (Reset m) resets = (m, refl)
 is_one_reset e resets = absurd (false_is_true resets)
 

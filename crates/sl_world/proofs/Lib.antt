@@ -9,3 +9,5 @@ pub mod Refused
 pub mod HeldThere
 pub mod LeftGrants
 pub mod DueAsks
+pub mod Fewer
+pub mod CalmLeft

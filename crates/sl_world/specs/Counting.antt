@@ -2,11 +2,11 @@
 use Rattle.sl_kept.specs.Kept.{KeptState, MachineState}
 use Rattle.sl_machine.specs.declared.machine.Machine.{Machine}
 use Rattle.sl_report.specs.Reports.{conflicts_after}
-use Rattle.sl_run.specs.Conflicts.{Holding, conflicts}
+use Rattle.sl_run.specs.Conflicts.{Holding, conflicts, has_conflict}
 use Rattle.sl_trace.specs.declared.effects.Grant.{Grant}
 use Rattle.sl_world_law.specs.Telling.{held_in, others_in}
 use Rattle.std.specs.List.{enumerate_from, list_any}
-use Rattle.std.specs.Prelude.{Bool, List, drop, filter, flat_map, length, map, not, take, ℕ, ◌&&◌, ◌++◌, ◌+◌, ◌-◌, ◌==◌}
+use Rattle.std.specs.Prelude.{Bool, List, drop, false, filter, flat_map, length, map, not, take, true, ℕ, ◌&&◌, ◌++◌, ◌+◌, ◌-◌, ◌==◌, ◌≡◌}
 
 -- A holding of machine m.
 abbrev pub holding : ℕ → Grant → Holding
@@ -37,3 +37,19 @@ abbrev pub conflicts_left : KeptState → ℕ → ℕ → ℕ
 conflicts_left k m granted =
     let held : List Grant = held_in k m in
     conflicts_after (others_in k m) m (take (length held - granted) held) (drop (length held - granted) held)
+
+-- What was held before these were granted.
+abbrev pub held_before : KeptState → ℕ → ℕ → List Holding
+held_before k m granted = others_in k m ++ map (holding m) (take (length (held_in k m) - granted) (held_in k m))
+
+-- All holdings, with those of machine m last.
+abbrev pub holdings_with : KeptState → ℕ → List Holding
+holdings_with k m = others_in k m ++ map (holding m) (held_in k m)
+
+-- All holdings of machines as they are kept.
+abbrev pub all_held : {L : Type 0} → List (Machine L) → List Holding
+all_held machines = flat_map (λ p. map (holding p.0) p.1.held.items) (enumerate_from 1 machines)
+
+-- No two of them conflict, where that is known.
+abbrev pub IsCalm : {L : Type 0} → Bool → List (Machine L) → Type 0
+IsCalm calm machines = calm ≡ true → has_conflict (all_held machines) ≡ false

@@ -1,15 +1,18 @@
 //! How many grants of a step left a conflict.
 //!
-//! It is asked when the step is done: the grants of a step are the last that its machine holds, and the other machines hold what they held. Each grant
-//! costs a test of each two holdings of the world; where nothing is granted nothing is looked at. Nothing is allocated.
+//! It is asked when the step is done: the grants of a step are the last that its machine holds, and the other machines hold what they held. A
+//! grant conflicts with a holding before it or adds no conflict, so where it is known that no two holdings conflicted before the step, each
+//! grant costs one test of each holding. Whether none do is known again behind it. Only where it isn't known each two holdings are tested,
+//! once a step; and where nothing is granted nothing is looked at. Nothing is allocated.
 
 ghost use Rattle.sl_machine.specs.Keeping.{kept_state};
 ghost use Rattle.sl_machine.specs.Machines.{machine_state};
 ghost use Rattle.sl_report.specs.Reports.{conflicts_after};
 ghost use Rattle.sl_run.specs.Conflicts as conflicts;
 ghost use Rattle.sl_trace.specs.Traces as traces;
-ghost use Rattle.sl_world.specs.Counting.{all_with, any_beside, any_there, conflicts_left, conflicts_with, holding, others_from};
-ghost use Rattle.std.specs.Prelude.{drop, length, map, take, ◌&&◌, ◌≡◌, ◌≤◌};
+ghost use Rattle.sl_world.specs.Counting.{all_with, any_beside, any_there, conflicts_left, conflicts_with, held_before, holding, holdings_with, others_from};
+ghost use Rattle.sl_world_law.specs.Telling.{held_in};
+ghost use Rattle.std.specs.Prelude.{drop, false, if◌then◌else◌, length, map, not, take, true, ◌&&◌, ◌+◌, ◌<◌, ◌==◌, ◌≡◌, ◌≤◌};
 
 use crate::world::World;
 use sl_daemon::Daemon;
@@ -103,47 +106,103 @@ fn has_conflict<L: LockTable>(machines: &[Machine<L>], owner: usize, mine: &[Gra
     some_conflict_beside(machines, owner, mine) || some_conflict(machines, owner, mine, owner, mine)
 }
 
-/// How many of the last grants of a machine left a conflict, given in turn behind the first.
+/// What the grants of a step left of conflicts.
+#[derive(Clone, Copy, Debug, PartialEq, Eq)]
+pub struct Conflicts {
+    /// How many of the grants left one.
+    pub count: u64,
+    /// Whether it is known that no two holdings conflict then.
+    pub calm: bool,
+}
+
+/// Whether two holdings conflict, where one machine holds this, and it may be known that none do.
+fn are_in_conflict<L: LockTable>(
+    machines: &[Machine<L>],
+    owner: usize,
+    mine: &[Grant],
+    calm: bool,
+) -> bool
+    requires { calm ≡ true → conflicts.has_conflict (all_with owner (map (machine_state L.locks) machines.now) mine.now) ≡ false }
+    ensures { result ≡ conflicts.has_conflict (all_with owner (map (machine_state L.locks) machines.now) mine.now) }
+{
+    if calm {
+        return false;
+    }
+    has_conflict(machines, owner, mine)
+}
+
+/// Whether two holdings conflict, where one machine holds the first of this, and one more of it than those of which it is said.
+fn has_one_more<L: LockTable>(
+    machines: &[Machine<L>],
+    owner: usize,
+    held: &[Grant],
+    at: usize,
+    before: bool,
+) -> bool
+    requires there { at < length held.now }
+    requires known { before ≡ conflicts.has_conflict (all_with owner (map (machine_state L.locks) machines.now) (take at held.now)) }
+    ensures { result ≡ conflicts.has_conflict (all_with owner (map (machine_state L.locks) machines.now) (take (at + 1) held.now)) }
+{
+    before || conflicts_with_any(machines, owner, &held[..at], owner, &held[at])
+}
+
+/// How many of the last grants of a machine left a conflict, given in turn behind the first, and whether none is left; where it is said
+/// whether there was one before.
 fn count_conflicts<L: LockTable>(
     machines: &[Machine<L>],
     owner: usize,
     held: &[Grant],
     first: usize,
-) -> u64
-    requires { first ≤ length held.now }
-    ensures { result ≡ conflicts_after (others_from 1 owner (map (machine_state L.locks) machines.now)) owner (take first held.now) (drop first held.now) }
+    before: bool,
+) -> Conflicts
+    requires there { first ≤ length held.now }
+    requires known { before ≡ conflicts.has_conflict (all_with owner (map (machine_state L.locks) machines.now) (take first held.now)) }
+    ensures count { result.count ≡ conflicts_after (others_from 1 owner (map (machine_state L.locks) machines.now)) owner (take first held.now) (drop first held.now) }
+    ensures calm { result.calm ≡ not (conflicts.has_conflict (all_with owner (map (machine_state L.locks) machines.now) held.now)) }
 {
     let mut count: u64 = 0;
+    let mut clash = before;
     let mut at = first;
     while at < held.len() {
+        clash = has_one_more(machines, owner, held, at, clash);
         at += 1;
-        if has_conflict(machines, owner, &held[..at]) {
+        if clash {
             count += 1;
         }
     }
-    count
+    Conflicts {
+        count,
+        calm: !clash,
+    }
 }
 
 impl<D: Daemon, L: LockTable> World<D, L> {
-    /// How many of the last `granted` holdings of a machine left a conflict when they were granted, one behind the other.
-    #[tactic(auto, using(crate::proofs::HeldThere::left_at))]
-    pub fn conflicts_left(&self, machine: u32, granted: usize) -> u64
-        ensures { result ≡ conflicts_left (kept_state L.locks self.now.kept) machine granted }
+    /// What a machine holds; nothing where there is none.
+    #[tactic(auto, using(crate::proofs::HeldThere::held_on))]
+    fn held_on(&self, machine: u32) -> &[Grant]
+        ensures { result.now ≡ held_in (kept_state L.locks self.now.kept) machine }
+    {
+        match self.kept.machine(machine) {
+            None => &[],
+            Some(found) => found.held.as_slice(),
+        }
+    }
+
+    /// How many of the last `granted` holdings of a machine left a conflict when they were granted, one behind the other; where `calm` says
+    /// that no two holdings conflicted before them.
+    pub fn conflicts_left(&self, machine: u32, granted: usize, calm: bool) -> Conflicts
+        requires { calm ≡ true → conflicts.has_conflict (held_before (kept_state L.locks self.now.kept) machine granted) ≡ false }
+        ensures count { result.count ≡ conflicts_left (kept_state L.locks self.now.kept) machine granted }
+        ensures calm { result.calm ≡ (if granted == 0 then calm else not (conflicts.has_conflict (holdings_with (kept_state L.locks self.now.kept) machine))) }
     {
         if granted == 0 {
-            return 0;
+            return Conflicts { count: 0, calm };
         }
-        match self.kept.machine(machine) {
-            None => 0,
-            Some(found) => {
-                let first = found.held.len().saturating_sub(granted);
-                count_conflicts(
-                    self.kept.machines.as_slice(),
-                    machine as usize,
-                    found.held.as_slice(),
-                    first,
-                )
-            }
-        }
+        let held = self.held_on(machine);
+        let first = held.len().saturating_sub(granted);
+        let machines = self.kept.machines.as_slice();
+        let owner = machine as usize;
+        let before = are_in_conflict(machines, owner, &held[..first], calm);
+        count_conflicts(machines, owner, held, first, before)
     }
 }

@@ -22,6 +22,7 @@ mod tearing;
 mod world;
 
 pub use apply::ApplyError;
+pub use conflicts::Conflicts;
 pub use hosts::Hosts;
 pub use sites::{first_site, session_of};
 pub use world::World;
