@@ -104,6 +104,7 @@ impl Daemon for HostDaemon {
         }
     }
 
+    #[tactic(auto, using(crate::proofs::Resting::rests_without))]
     fn begin(alloc: Global, header: &Header, site: Site) -> Result<HostDaemon, AllocError> {
         let host = host_at(alloc, header, &site)?;
         let scratch = Scratch::new(alloc, &header.geometry)?;
