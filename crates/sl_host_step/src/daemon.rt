@@ -135,6 +135,7 @@ impl Daemon for HostDaemon {
 
     #[tactic(auto, using(crate::proofs::Begins::comes_so, crate::proofs::Begins::steps_so, crate::proofs::Begins::is_step_so, crate::proofs::Begins::sizes_so, crate::proofs::Resting::is_standing, crate::proofs::Resting::rests_on, crate::proofs::Resting::spent))]
     fn step(&mut self, now: u64, input: Input) -> Result<Effects, AllocError>
+        requires { (st : Setting) × (es : Trace) × Serves self.old st es × MayCome st es now input }
         ensures stays { (st : Setting) → (es : Trace) → Serves self.old st es → MayCome st es now input
             → IfOk result (λ fx. Serves self.new st (entry_of now input fx ∷ es) × IsNumbered st es fx) }
         ensures sound { (st : Setting) → (es : Trace) → Serves self.old st es → MayCome st es now input → IfOk result (IsStep st (most_of self.old)) }
@@ -149,6 +150,7 @@ impl Daemon for HostDaemon {
 
     #[tactic(auto, using(crate::proofs::Begins::comes_so, crate::proofs::Begins::steps_so, crate::proofs::Begins::is_step_so, crate::proofs::Begins::sizes_so, crate::proofs::Resting::is_standing, crate::proofs::Resting::rests_on, crate::proofs::Resting::spent))]
     fn read(&mut self, now: u64, call: u64, sectors: &Images) -> Result<Effects, AllocError>
+        requires { (st : Setting) × (es : Trace) × Serves self.old st es × MayCome st es now (read_of call sectors.now) }
         ensures stays { (st : Setting) → (es : Trace) → Serves self.old st es → MayCome st es now (read_of call sectors.now)
             → IfOk result (λ fx. Serves self.new st (entry_of now (read_of call sectors.now) fx ∷ es) × IsNumbered st es fx) }
         ensures sound { (st : Setting) → (es : Trace) → Serves self.old st es → MayCome st es now (read_of call sectors.now)
