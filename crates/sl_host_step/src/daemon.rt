@@ -83,6 +83,7 @@ impl HostDaemon {
     pub fn reserve(&mut self) -> Result<(), AllocError>
         requires { (st : Setting) × (es : Trace) × Serves self.old st es }
         ensures ok { OnOk result (spare_of self.new ≡ 1) }
+        ensures kept { self.new.kept ≡ self.old.kept }
         ensures serves { (st : Setting) (es : Trace) → Serves self.old st es → Serves self.new st es }
         ensures err { OnErr result (self.new ≡ self.old) }
     {
