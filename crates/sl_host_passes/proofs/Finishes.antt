@@ -125,6 +125,11 @@ free_done l now k is =
       by None = refl
       by (Some j) = refl
 
+-- Where nothing is written, the test whether something is held says nothing.
+pub nothing_either : (free : Bool) (next : DeltaNext) → next ≡ Nothing → Nothing ≡ cond free next Nothing
+nothing_either true next is = sym is
+nothing_either false next is = refl
+
 abbrev lease_by : RunOf → MemberState → DeltaLease
 lease_by r m = record { timing = r.timing; layout = layout_of r.sizes; host = r.host; lockspace = m.who.lockspace; id = m.who.id }
 

@@ -62,7 +62,9 @@ fn free_of(host: &Host, member: &Member) -> DeltaNext
     }
 }
 
-/// What comes last of a session that is not in recovery.
+/// What comes last of a session that is not in recovery. What it holds is looked at only where it leaves, so that a step costs the same however much
+/// is held.
+#[tactic(auto, using(crate::proofs::Finishes::nothing_either))]
 fn freeing(host: &Host, member: &Member) -> DeltaNext
     requires run { member.now.run ≡ record { timing = host.now.kept.config.timing; sizes = host.now.kept.config.sizes; host = host.now.kept.config.name } }
     requires moment { host.now.kept.reading < moments }
@@ -71,9 +73,13 @@ fn freeing(host: &Host, member: &Member) -> DeltaNext
     ensures exact { result ≡ freeing_next (state_in host.now.kept) member.now.state }
     ensures last { IsFitNext result × IsLast result }
 {
+    let next = free_of(host, member);
+    if let DeltaNext::Nothing = next {
+        return DeltaNext::Nothing;
+    }
     let number = member.who().number;
     if holds_nothing(host, number) && !host.has_call_open(number) {
-        free_of(host, member)
+        next
     } else {
         DeltaNext::Nothing
     }

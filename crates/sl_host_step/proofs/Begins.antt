@@ -9,7 +9,7 @@ use Rattle.sl_host_step.proofs.ServesOn.{are_numbered, calls_sound, keeps_on}
 use Rattle.sl_host_step.specs.Expecting.{expected_in}
 use Rattle.sl_host_step.specs.Moments.{HasStepped, StepComes}
 use Rattle.sl_host_step.specs.Rooms.{most_of}
-use Rattle.sl_host_step.specs.Serving.{IsIdle, Serves, whole_commands}
+use Rattle.sl_host_step.specs.Serving.{Serves, whole_commands}
 use Rattle.sl_run.specs.Lawful.{IsGiven, IsSetting}
 use Rattle.sl_run.specs.Headers.{IsHeader}
 use Rattle.sl_run.specs.declared.header.Header.{Header}
@@ -41,31 +41,29 @@ may_be_given h s is = by s.given is.each where
 pub begins_serving : (h : Header) (s : Site) (v : HostView) → IsHeader h → IsSetting (begun_with whole_commands h s)
     → ((read : List ℕ → Result Command ℕ) → state_of read v.kept
     ≡ new_host (setting_begun (record { timing = h.timing; grace = h.grace; sizes = h.geometry; machine = s.machine; name = s.name }) s.first s.given read))
-    → v.kept.config ≡ record { timing = h.timing; grace = h.grace; sizes = h.geometry; machine = s.machine; name = s.name } → IsIdle v → Serves v (begun_with whole_commands h s) []
-begins_serving h s v header is state config idle =
+    → v.kept.config ≡ record { timing = h.timing; grace = h.grace; sizes = h.geometry; machine = s.machine; name = s.name } → Serves v (begun_with whole_commands h s) []
+begins_serving h s v header is state config =
     let st : Setting = begun_with whole_commands h s in
-    let program : IsOfProgram st.layout = refl in (
-      record {
-        setting = is;
-        reads = λ text. subst (λ (m : Made). st.read text ≡ command_in (forms (layout_of m.sizes)) text) (sym config) refl;
-        stands = subst (λ g. HostStands g st []) (sym (state st.read)) (hosts_begin.stands st program);
-        sound = subst IsSound (sym (state st.read)) (hosts_begin.sound st is program);
-        grace = subst (λ (m : Made). m.grace ≤ 600000) (sym config) header.grace;
-      },
-      idle,
-    )
+    let program : IsOfProgram st.layout = refl in
+    record {
+      setting = is;
+      reads = λ text. subst (λ (m : Made). st.read text ≡ command_in (forms (layout_of m.sizes)) text) (sym config) refl;
+      stands = subst (λ g. HostStands g st []) (sym (state st.read)) (hosts_begin.stands st program);
+      sound = subst IsSound (sym (state st.read)) (hosts_begin.sound st is program);
+      grace = subst (λ (m : Made). m.grace ≤ 600000) (sym config) header.grace;
+    }
 
 -- ---- what may come
 
 pub expected_of : (v : HostView) (st : Setting) (es : Trace) (i : Input) → Serves v st es → expected_in (state_in v.kept) i ≡ is_expected st es i
-expected_of v st es i serves = expected_by_kept (state_of st.read v.kept) st es i serves.0.stands
+expected_of v st es i serves = expected_by_kept (state_of st.read v.kept) st es i serves.stands
 
 -- ---- a step
 
 pub steps : (now : ℕ) (i : Input) (old new : HostView) (fx : Effects) (st : Setting) (es : Trace) → Serves old st es → MayCome st es now i → IsByteInput i → HasStepped now i old new fx
     → Serves new st (entry_of now i fx ∷ es) × IsNumbered st es fx
 steps now i old new fx st es serves may bytes stepped =
-    ((keeps_on now i old.kept new.kept fx st es serves.0 may bytes stepped.over, stepped.idle), are_numbered now i old.kept new.kept fx st es serves.0 may bytes stepped.over)
+    (keeps_on now i old.kept new.kept fx st es serves may bytes stepped.over, are_numbered now i old.kept new.kept fx st es serves may bytes stepped.over)
 
 pub is_step : (now : ℕ) (i : Input) (old new : HostView) (fx : Effects) (st : Setting) (es : Trace) → Serves old st es → MayCome st es now i → IsByteInput i → HasStepped now i old new fx
     → IsStep st (most_of old) fx
@@ -78,12 +76,12 @@ is_step now i old new fx st es serves may bytes stepped =
       starts = stepped.few.of_starts;
       replies = stepped.few.of_replies;
       few = stepped.few.of_calls;
-      calls = λ c there. calls_sound now i old.kept new.kept fx st es serves.0 may bytes stepped.over c there;
+      calls = λ c there. calls_sound now i old.kept new.kept fx st es serves may bytes stepped.over c there;
     }
 
 -- So of what a step gives, where it gives effects.
 pub comes_so : (now : ℕ) (i : Input) (k : HostView) (st : Setting) (es : Trace) → Serves k st es → MayCome st es now i → IsByteInput i → StepComes now i k.kept
-comes_so now i k st es serves may bytes = record { setting = st; past = es; keeps = serves.0; may = may; bytes = bytes }
+comes_so now i k st es serves may bytes = record { setting = st; past = es; keeps = serves; may = may; bytes = bytes }
 
 pub steps_so : {E : Type 0} (now : ℕ) (i : Input) (old new : HostView) (r : Result Effects E) (st : Setting) (es : Trace) → IsByteInput i → IfOk r (λ fx. HasStepped now i old new fx) → Serves old st es
     → MayCome st es now i → IfOk r (λ fx. Serves new st (entry_of now i fx ∷ es) × IsNumbered st es fx)

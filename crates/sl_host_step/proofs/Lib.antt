@@ -14,3 +14,4 @@ pub mod RoomsStand
 pub mod ServesOn
 pub mod Telling
 pub mod SpelledBytes
+pub mod Resting

@@ -4,3 +4,4 @@ pub mod Rooms
 pub mod Moments
 pub mod Seating
 pub mod Telling
+pub mod Resting

@@ -36,13 +36,14 @@ counts_of v = record { jobs = length v.kept.jobs; holdings = length v.kept.holdi
 abbrev pub are_many : Counts → Bool
 are_many c = nat_le room_end c.jobs || nat_le room_end c.holdings || nat_le room_end c.leases || nat_le room_end c.seats
 
--- For how much there is memory in the lists that a step goes by.
+-- For how much there is memory in the lists that a step goes by, and whether room for a step stands by.
 pub record ScratchState : Type 0 where
   pub members : ℕ
   pub jobs : ℕ
   pub spots : ℕ
   pub orphans : ℕ
   pub blocks : ℕ
+  pub spare : Bool
 
 -- It is enough for what is kept, in a host with so many seats.
 pub record Suffices (s : ScratchState) (v : HostView) : Type 0 where

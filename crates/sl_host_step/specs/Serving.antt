@@ -33,4 +33,4 @@ pub record Keeping (k : HostKept) (st : Setting) (es : Trace) : Type 0 where
   pub grace : k.config.grace ≤ 600000
 
 abbrev pub Serves : HostView → Setting → Trace → Type 0
-Serves v st es = Keeping v.kept st es × IsIdle v
+Serves v st es = Keeping v.kept st es

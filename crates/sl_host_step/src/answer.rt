@@ -9,7 +9,7 @@ ghost use Rattle.sl_host_state.specs.Kept.{HostKept};
 ghost use Rattle.sl_host_state.specs.declared.kept.OpenCall.{OpenCall as OpenCallOf};
 ghost use Rattle.sl_host_step.specs.Moments.{AtEnd, AtInput, HasStepped, StepComes};
 ghost use Rattle.sl_host_step.specs.Rooms.{EndsWith, HasLeft, ScratchState, Suffices};
-ghost use Rattle.sl_host_step.specs.Serving.{IsIdle};
+ghost use Rattle.sl_host_step.specs.Resting.{Rests, takes_more};
 ghost use Rattle.sl_host_step.specs.Telling.{joins_at};
 ghost use Rattle.sl_sector.specs.Spelling.{IsSectorSize};
 ghost use Rattle.sl_trace.specs.declared.input.Answer.TheVariants.{Failed as FailedOf, Read as ReadOf, Written as WrittenOf};
@@ -17,7 +17,7 @@ ghost use Rattle.sl_trace.specs.declared.input.Input.TheVariants.{Answer as Told
 ghost use Rattle.sl_host.specs.Asking.{state_in};
 ghost use Rattle.sl_host.specs.Host.{HostView};
 ghost use Rattle.std.specs.Arc.{arc_value};
-ghost use Rattle.std.specs.Prelude.{IfOk, OnErr, length, ℕ, ◌==◌, ◌≡◌, ◌≤◌};
+ghost use Rattle.std.specs.Prelude.{IfOk, IsOk, OnErr, OnOk, false, length, true, ℕ, ◌==◌, ◌≡◌, ◌≤◌};
 
 use crate::rooms::Scratch;
 use crate::step::{conclude, start};
@@ -55,6 +55,7 @@ fn take_answer<S: Sectors>(host: &mut Host, scratch: &mut Scratch, number: u64, 
     ensures left { (first : HostView) → HasLeft first host.old → EndsWith first host.new }
     ensures lists { host.new.seats ≤ scratch.new.members }
     ensures blocks { scratch.new.blocks ≡ scratch.old.blocks }
+    ensures spare { scratch.new.spare ≡ scratch.old.spare }
 {
     answer(
         host,
@@ -78,10 +79,13 @@ fn step_heard<S: Sectors>(
 ) -> Result<Effects, AllocError>
     requires comes { StepComes now (Told number (answer_of S.bytes heard)) host.old.kept }
     requires fits { (c : OpenCallOf) → IsOpen (state_in host.old.kept) number c → FitsHeard S.bytes S.is_cut host.old.kept.config.sizes c heard }
-    requires idle { IsIdle host.old }
+    requires rests { Rests scratch.old host.old }
     requires blocks { scratch.old.blocks ≡ host.old.kept.config.sizes.hosts }
     ensures ok { IfOk result (λ fx. HasStepped now (Told number (answer_of S.bytes heard.entry)) host.old host.new fx) }
     ensures err { OnErr result (host.new ≡ host.old) }
+    ensures rests { OnErr result (Rests scratch.new host.new) }
+    ensures used { OnOk result (scratch.new.spare ≡ false) }
+    ensures spared { scratch.old.spare ≡ true → IsOk result }
     ensures blocks { scratch.new.blocks ≡ scratch.old.blocks }
 {
     let begun = start(alloc, host, scratch, now)?;
@@ -100,10 +104,13 @@ fn step_bytes(
     bytes: Bytes,
 ) -> Result<Effects, AllocError>
     requires comes { StepComes now (Told number (ReadOf bytes)) host.old.kept }
-    requires idle { IsIdle host.old }
+    requires rests { Rests scratch.old host.old }
     requires blocks { scratch.old.blocks ≡ host.old.kept.config.sizes.hosts }
     ensures ok { IfOk result (λ fx. HasStepped now (Told number (ReadOf bytes)) host.old host.new fx) }
     ensures err { OnErr result (host.new ≡ host.old) }
+    ensures rests { OnErr result (Rests scratch.new host.new) }
+    ensures used { OnOk result (scratch.new.spare ≡ false) }
+    ensures spared { scratch.old.spare ≡ true → joins_at host.old.kept number ≡ false → IsOk result }
     ensures blocks { scratch.new.blocks ≡ scratch.old.blocks }
 {
     if is_joining(host, number) {
@@ -133,10 +140,13 @@ pub(crate) fn step_answer(
     answer: Answer,
 ) -> Result<Effects, AllocError>
     requires comes { StepComes now (Told number answer) host.old.kept }
-    requires idle { IsIdle host.old }
+    requires rests { Rests scratch.old host.old }
     requires blocks { scratch.old.blocks ≡ host.old.kept.config.sizes.hosts }
     ensures ok { IfOk result (λ fx. HasStepped now (Told number answer) host.old host.new fx) }
     ensures err { OnErr result (host.new ≡ host.old) }
+    ensures rests { OnErr result (Rests scratch.new host.new) }
+    ensures used { OnOk result (scratch.new.spare ≡ false) }
+    ensures spared { scratch.old.spare ≡ true → takes_more host.old.kept (Told number answer) ≡ false → IsOk result }
     ensures blocks { scratch.new.blocks ≡ scratch.old.blocks }
 {
     match answer {
@@ -189,10 +199,12 @@ fn step_copied(
     sectors: &Images,
 ) -> Result<Effects, AllocError>
     requires comes { StepComes now (read_of number sectors.now) host.old.kept }
-    requires idle { IsIdle host.old }
+    requires rests { Rests scratch.old host.old }
     requires blocks { scratch.old.blocks ≡ host.old.kept.config.sizes.hosts }
     ensures ok { IfOk result (λ fx. HasStepped now (read_of number sectors.now) host.old host.new fx) }
     ensures err { OnErr result (host.new ≡ host.old) }
+    ensures rests { OnErr result (Rests scratch.new host.new) }
+    ensures used { OnOk result (scratch.new.spare ≡ false) }
     ensures blocks { scratch.new.blocks ≡ scratch.old.blocks }
 {
     let mut bytes = Vec::new(alloc);
@@ -211,10 +223,13 @@ pub(crate) fn step_images(
     sectors: &Images,
 ) -> Result<Effects, AllocError>
     requires comes { StepComes now (read_of number sectors.now) host.old.kept }
-    requires idle { IsIdle host.old }
+    requires rests { Rests scratch.old host.old }
     requires blocks { scratch.old.blocks ≡ host.old.kept.config.sizes.hosts }
     ensures ok { IfOk result (λ fx. HasStepped now (read_of number sectors.now) host.old host.new fx) }
     ensures err { OnErr result (host.new ≡ host.old) }
+    ensures rests { OnErr result (Rests scratch.new host.new) }
+    ensures used { OnOk result (scratch.new.spare ≡ false) }
+    ensures spared { scratch.old.spare ≡ true → sectors.now.size ≡ host.old.kept.config.sizes.sector → joins_at host.old.kept number ≡ false → IsOk result }
     ensures blocks { scratch.new.blocks ≡ scratch.old.blocks }
 {
     if !is_cut_so(host, sectors) {

@@ -1,16 +1,19 @@
 //! A host is a daemon of a world.
 
-ghost use Rattle.sl_daemon.specs.Daemons.{begun_with};
+ghost use Rattle.sl_daemon.specs.Daemons.{IsNumbered, IsStep, MayCome, begun_with, entry_of, read_of};
+ghost use Rattle.sl_host_step.specs.Resting.{spare_of, takes_more};
 ghost use Rattle.sl_host_step.specs.Rooms.{most_of};
-ghost use Rattle.sl_host_step.specs.Serving.{Serves, whole_commands};
+ghost use Rattle.sl_host_step.specs.Serving.{IsIdle, Serves, whole_commands};
+ghost use Rattle.sl_host_step.specs.Telling.{joins_at};
+ghost use Rattle.sl_trace.specs.Traces.{Setting, Trace};
 ghost use Rattle.sl_run.specs.Lawful.{IsSetting};
 ghost use Rattle.sl_run.specs.Events.{is_for_locks};
 ghost use Rattle.sl_run.specs.Headers.{IsHeader};
-ghost use Rattle.std.specs.Prelude.{IfOk, Ok, [], ◌≡◌};
+ghost use Rattle.std.specs.Prelude.{IfOk, IsOk, Ok, OnErr, OnOk, false, [], ◌∷◌, ◌≡◌, ◌≤◌};
 
 use crate::bytes::{are_byte_sectors, is_byte_input};
 use crate::expecting::is_expected;
-use crate::rooms::{Scratch, calls_for, left_for};
+use crate::rooms::{Scratch, calls_for, left_for, stand_by};
 use crate::whole::{step_at, step_read};
 use sl_command::parse_command;
 use sl_daemon::{Daemon, Most, Site};
@@ -40,6 +43,7 @@ fn acts_for_locks(command: &Command) -> bool
 fn host_at(alloc: Global, header: &Header, site: &Site) -> Result<Host, AllocError>
     requires { IsHeader header.now × IsSetting (begun_with whole_commands header.now site.now) }
     ensures serves { IfOk result (λ h. Serves h (begun_with whole_commands header.now site.now) []) }
+    ensures idle { IfOk result (λ h. IsIdle h) }
     ensures sizes { IfOk result (λ h. h.kept.config.sizes ≡ header.now.geometry) }
 {
     let config = Config {
@@ -52,7 +56,7 @@ fn host_at(alloc: Global, header: &Header, site: &Site) -> Result<Host, AllocErr
     Host::new(alloc, config, site.first, site.given.as_slice())
 }
 
-/// A host, with the lists that its steps go by.
+/// A host, with the lists that its steps go by. Between two steps it may have the room of one step more (`reserve`).
 #[derive(Drop)]
 pub struct HostDaemon {
     alloc: Global,
@@ -62,13 +66,29 @@ pub struct HostDaemon {
 
 impl Model for HostDaemon {
     ghost use Rattle.sl_host.specs.Host.{HostView};
+    ghost use Rattle.sl_host_step.specs.Resting.{Rests};
     ghost use Rattle.std.specs.Prelude.{◌≡◌};
 
     ghost Value = { HostView };
 
     ghost view = { λ d. d.host };
 
-    ghost invariant = { λ d. d.scratch.blocks ≡ d.host.kept.config.sizes.hosts };
+    ghost invariant = { λ d. (d.scratch.blocks ≡ d.host.kept.config.sizes.hosts) × Rests d.scratch d.host };
+}
+
+impl HostDaemon {
+    /// Sees that there is room for one step more, so that a wake, an exit or the answer of a renewal can't want memory. It changes nothing that a
+    /// later step does. An `Err` is want of memory, or of numbers of calls, jobs, children or steps, and changes nothing.
+    #[tactic(auto, using(crate::proofs::Resting::stands_by, crate::proofs::Resting::serves_still, crate::proofs::Resting::nothing_made))]
+    pub fn reserve(&mut self) -> Result<(), AllocError>
+        requires { (st : Setting) × (es : Trace) × Serves self.old st es }
+        ensures ok { OnOk result (spare_of self.new ≡ 1) }
+        ensures kept { self.new.kept ≡ self.old.kept }
+        ensures serves { (st : Setting) (es : Trace) → Serves self.old st es → Serves self.new st es }
+        ensures err { OnErr result (self.new ≡ self.old) }
+    {
+        stand_by(self.alloc, &mut self.host, &mut self.scratch)
+    }
 }
 
 impl Daemon for HostDaemon {
@@ -85,6 +105,7 @@ impl Daemon for HostDaemon {
         }
     }
 
+    #[tactic(auto, using(crate::proofs::Resting::rests_without))]
     fn begin(alloc: Global, header: &Header, site: Site) -> Result<HostDaemon, AllocError> {
         let host = host_at(alloc, header, &site)?;
         let scratch = Scratch::new(alloc, &header.geometry)?;
@@ -113,15 +134,34 @@ impl Daemon for HostDaemon {
         }
     }
 
-    #[tactic(auto, using(crate::proofs::Begins::comes_so, crate::proofs::Begins::steps_so, crate::proofs::Begins::is_step_so, crate::proofs::Begins::sizes_so))]
-    fn step(&mut self, now: u64, input: Input) -> Result<Effects, AllocError> {
+    #[tactic(auto, using(crate::proofs::Begins::comes_so, crate::proofs::Begins::steps_so, crate::proofs::Begins::is_step_so, crate::proofs::Begins::sizes_so, crate::proofs::Resting::is_standing, crate::proofs::Resting::rests_on, crate::proofs::Resting::spent))]
+    fn step(&mut self, now: u64, input: Input) -> Result<Effects, AllocError>
+        requires { (st : Setting) × (es : Trace) × Serves self.old st es × MayCome st es now input }
+        ensures stays { (st : Setting) → (es : Trace) → Serves self.old st es → MayCome st es now input
+            → IfOk result (λ fx. Serves self.new st (entry_of now input fx ∷ es) × IsNumbered st es fx) }
+        ensures sound { (st : Setting) → (es : Trace) → Serves self.old st es → MayCome st es now input → IfOk result (IsStep st (most_of self.old)) }
+        ensures err { OnErr result (self.new ≡ self.old) }
+        // with room standing by it is done, and at most that room is used
+        ensures spared { spare_of self.old ≡ 1 → takes_more self.old.kept input ≡ false → IsOk result }
+        ensures spent { spare_of self.new ≤ spare_of self.old }
+    {
         is_byte_input(&input);
         step_at(self.alloc, &mut self.host, &mut self.scratch, now, input)
     }
 
-    #[tactic(auto, using(crate::proofs::Begins::comes_so, crate::proofs::Begins::steps_so, crate::proofs::Begins::is_step_so, crate::proofs::Begins::sizes_so))]
-    fn read(&mut self, now: u64, call: u64, sectors: &Images) -> Result<Effects, AllocError> {
-        are_byte_sectors(self.alloc, sectors)?;
+    #[tactic(auto, using(crate::proofs::Begins::comes_so, crate::proofs::Begins::steps_so, crate::proofs::Begins::is_step_so, crate::proofs::Begins::sizes_so, crate::proofs::Resting::is_standing, crate::proofs::Resting::rests_on, crate::proofs::Resting::spent))]
+    fn read(&mut self, now: u64, call: u64, sectors: &Images) -> Result<Effects, AllocError>
+        requires { (st : Setting) × (es : Trace) × Serves self.old st es × MayCome st es now (read_of call sectors.now) }
+        ensures stays { (st : Setting) → (es : Trace) → Serves self.old st es → MayCome st es now (read_of call sectors.now)
+            → IfOk result (λ fx. Serves self.new st (entry_of now (read_of call sectors.now) fx ∷ es) × IsNumbered st es fx) }
+        ensures sound { (st : Setting) → (es : Trace) → Serves self.old st es → MayCome st es now (read_of call sectors.now)
+            → IfOk result (IsStep st (most_of self.old)) }
+        ensures err { OnErr result (self.new ≡ self.old) }
+        // as above, of sectors that are cut as the host's
+        ensures spared { spare_of self.old ≡ 1 → sectors.now.size ≡ self.old.kept.config.sizes.sector → joins_at self.old.kept call ≡ false → IsOk result }
+        ensures spent { spare_of self.new ≤ spare_of self.old }
+    {
+        are_byte_sectors(sectors);
         step_read(
             self.alloc,
             &mut self.host,

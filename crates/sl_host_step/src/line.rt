@@ -7,11 +7,11 @@ ghost use Rattle.sl_host_state.specs.Kept.{HostKept};
 ghost use Rattle.sl_host_step.specs.Moments.{AtEnd, AtInput, HasStepped, StepComes};
 ghost use Rattle.sl_host_step.specs.Rooms.{EndsWith, HasLeft, ScratchState, Suffices};
 ghost use Rattle.sl_host_step.specs.Seating.{HasPlace, MayBeSeated};
-ghost use Rattle.sl_host_step.specs.Serving.{IsIdle};
+ghost use Rattle.sl_host_step.specs.Resting.{Rests};
 ghost use Rattle.sl_trace.specs.Commands.{command_in, forms};
 ghost use Rattle.sl_trace.specs.declared.input.Input.TheVariants.{Line as LineOf};
 ghost use Rattle.sl_host.specs.Host.{HostView};
-ghost use Rattle.std.specs.Prelude.{Err, IfOk, List, Ok, OnErr, ℕ, ◌≡◌, ◌≤◌};
+ghost use Rattle.std.specs.Prelude.{Err, IfOk, List, Ok, OnErr, OnOk, false, ℕ, ◌≡◌, ◌≤◌};
 
 use crate::rooms::{Scratch, calls_for};
 use crate::step::{conclude, start};
@@ -54,6 +54,7 @@ fn take_command(
     ensures left { (first : HostView) → HasLeft first host.old → EndsWith first host.new }
     ensures lists { host.new.seats ≤ scratch.new.members }
     ensures blocks { scratch.new.blocks ≡ scratch.old.blocks }
+    ensures spare { scratch.new.spare ≡ scratch.old.spare }
 {
     take_line(host, &mut scratch.jobs, seat, lists, Ok(command));
 }
@@ -82,10 +83,12 @@ fn step_misread(
     column: u64,
 ) -> Result<Effects, AllocError>
     requires comes { (text : List ℕ) × StepComes now (LineOf text) host.old.kept × (command_in (forms (layout_of host.old.kept.config.sizes)) text ≡ Err column) }
-    requires idle { IsIdle host.old }
+    requires rests { Rests scratch.old host.old }
     ensures ok { (text : List ℕ) → StepComes now (LineOf text) host.old.kept → command_in (forms (layout_of host.old.kept.config.sizes)) text ≡ Err column
         → IfOk result (λ fx. HasStepped now (LineOf text) host.old host.new fx) }
     ensures err { OnErr result (host.new ≡ host.old) }
+    ensures rests { OnErr result (Rests scratch.new host.new) }
+    ensures used { OnOk result (scratch.new.spare ≡ false) }
     ensures blocks { scratch.new.blocks ≡ scratch.old.blocks }
 {
     let begun = start(alloc, host, scratch, now)?;
@@ -103,10 +106,12 @@ fn step_command(
     command: Command,
 ) -> Result<Effects, AllocError>
     requires comes { (text : List ℕ) × StepComes now (LineOf text) host.old.kept × (command_in (forms (layout_of host.old.kept.config.sizes)) text ≡ Ok command) }
-    requires idle { IsIdle host.old }
+    requires rests { Rests scratch.old host.old }
     ensures ok { (text : List ℕ) → StepComes now (LineOf text) host.old.kept → command_in (forms (layout_of host.old.kept.config.sizes)) text ≡ Ok command
         → IfOk result (λ fx. HasStepped now (LineOf text) host.old host.new fx) }
     ensures err { OnErr result (host.new ≡ host.old) }
+    ensures rests { OnErr result (Rests scratch.new host.new) }
+    ensures used { OnOk result (scratch.new.spare ≡ false) }
     ensures blocks { scratch.new.blocks ≡ scratch.old.blocks }
 {
     let lists = Lists::of(alloc, &host.config().geometry, host.seats(), &command)?;
@@ -126,9 +131,11 @@ pub(crate) fn step_line(
     text: &[u8],
 ) -> Result<Effects, AllocError>
     requires comes { StepComes now (LineOf text.now) host.old.kept }
-    requires idle { IsIdle host.old }
+    requires rests { Rests scratch.old host.old }
     ensures ok { IfOk result (λ fx. HasStepped now (LineOf text.now) host.old host.new fx) }
     ensures err { OnErr result (host.new ≡ host.old) }
+    ensures rests { OnErr result (Rests scratch.new host.new) }
+    ensures used { OnOk result (scratch.new.spare ≡ false) }
     ensures blocks { scratch.new.blocks ≡ scratch.old.blocks }
 {
     match parse_command(text, &host.config().geometry) {

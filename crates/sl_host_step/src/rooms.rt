@@ -2,12 +2,15 @@
 //!
 //! A step may have to do with each job, holding, lease and session: so much it has room for, of effects and of calls. The lists that it goes by
 //! keep their memory from step to step.
+//!
+//! The room of one step more can be taken ahead. It then stands by, so that a recovery still kills whom it must where no memory is left.
 
+ghost use Rattle.sl_host_step.specs.Resting.{Rests};
 ghost use Rattle.sl_host_step.specs.Rooms.{HasRoom, ScratchState, Suffices, are_many, calls_for, calls_within, counts_of, effects_within, left_for, room_end};
 ghost use Rattle.sl_host_step.specs.Serving.{IsIdle};
 ghost use Rattle.sl_trace.specs.Traces.{no_effects};
 ghost use Rattle.sl_host.specs.Asking.{leases_in};
-ghost use Rattle.std.specs.Prelude.{IfOk, OnErr, OnOk, length, min, ◌<◌, ◌≡◌, ◌≤◌};
+ghost use Rattle.std.specs.Prelude.{IfOk, IsOk, OnErr, OnOk, false, length, min, true, ◌<◌, ◌≡◌, ◌≤◌};
 
 use sl_area::Geometry;
 use sl_host::{Buffers, Host, Notes};
@@ -22,7 +25,8 @@ const ROOM_END: usize = 0x8000_0000;
 /// A host counts no more steps.
 const LAST_ENTRY: u64 = 0x8000_0000_0000_0000;
 
-/// Lists that a step goes by: numbers of members and jobs, areas, orphans, and the blocks of a read.
+/// Lists that a step goes by: numbers of members and jobs, areas, orphans, and the blocks of a read. Where the host has the room of a step
+/// already, `spare` is what is to stand in the place of that step's effects.
 #[derive(Drop)]
 pub(crate) struct Scratch {
     pub(crate) members: Notes<u64>,
@@ -31,23 +35,26 @@ pub(crate) struct Scratch {
     pub(crate) orphans: Notes<Grant>,
     pub(crate) blocks: Blocks,
     job_room: usize,
+    spare: Option<Buffers>,
 }
 
 impl Model for Scratch {
     ghost use Rattle.sl_host_step.specs.Rooms.{ScratchState};
-    ghost use Rattle.std.specs.Prelude.{length, ◌≤◌};
+    ghost use Rattle.sl_trace.specs.Traces.{no_effects};
+    ghost use Rattle.std.specs.Prelude.{IfSome, is_some, length, ◌≡◌, ◌≤◌};
 
     ghost Value = { ScratchState };
 
-    ghost view = { λ s. record { members = s.members.most; jobs = s.jobs.most; spots = s.spots.most; orphans = s.orphans.most; blocks = length s.blocks } };
+    ghost view = { λ s. record { members = s.members.most; jobs = s.jobs.most; spots = s.spots.most; orphans = s.orphans.most; blocks = length s.blocks; spare = is_some s.spare } };
 
-    ghost invariant = { λ s. s.job_room ≤ s.jobs.most };
+    ghost invariant = { λ s. (s.job_room ≤ s.jobs.most) × IfSome s.spare (λ none. none ≡ record { made = no_effects; left = 0; calls = 0; most = 0; most_calls = 0 }) };
 }
 
 impl Scratch {
     /// Empty lists, and one block of each host. An `Err` is want of memory.
     pub(crate) fn new(alloc: Global, geometry: &Geometry) -> Result<Scratch, AllocError>
-        ensures { IfOk result (λ s. s.blocks ≡ geometry.now.hosts) }
+        ensures blocks { IfOk result (λ s. s.blocks ≡ geometry.now.hosts) }
+        ensures spare { IfOk result (λ s. s.spare ≡ false) }
     {
         Ok(Scratch {
             members: Notes::new(alloc),
@@ -56,6 +63,7 @@ impl Scratch {
             orphans: Notes::new(alloc),
             blocks: Blocks::new(alloc, geometry.hosts())?,
             job_room: 0,
+            spare: None,
         })
     }
 
@@ -65,6 +73,7 @@ impl Scratch {
         requires leases { leases_in host.now.kept.members ≤ leases }
         ensures ok { OnOk result (Suffices self.new host.now) }
         ensures blocks { self.new.blocks ≡ self.old.blocks }
+        ensures spare { self.new.spare ≡ self.old.spare }
     {
         let jobs = host.job_count() + 1;
         self.members.reserve(host.seats())?;
@@ -152,17 +161,14 @@ pub(crate) fn calls_for(host: &Host) -> usize
 
 /// Takes the memory of a step, and makes what stands in the place of its effects once they are taken out. An `Err` is want of memory, or of
 /// numbers of calls, jobs, children or steps, and changes nothing.
-pub(crate) fn take_room(
-    alloc: Global,
-    host: &mut Host,
-    scratch: &mut Scratch,
-) -> Result<Buffers, AllocError>
+fn take_room(alloc: Global, host: &mut Host, scratch: &mut Scratch) -> Result<Buffers, AllocError>
     requires idle { IsIdle host.old }
     requires made { host.old.kept.made ≡ no_effects }
     ensures none { IfOk result (λ none. none ≡ record { made = no_effects; left = 0; calls = 0; most = 0; most_calls = 0 }) }
     ensures ok { OnOk result (HasRoom host.old host.new × Suffices scratch.new host.old) }
     ensures err { OnErr result (host.new ≡ host.old) }
     ensures blocks { scratch.new.blocks ≡ scratch.old.blocks }
+    ensures spare { scratch.new.spare ≡ scratch.old.spare }
 {
     let counts = Counts::of(host);
     let (left, calls) = (counts.effects(), counts.calls());
@@ -173,4 +179,50 @@ pub(crate) fn take_room(
     scratch.reserve(host, counts.leases)?;
     host.reserve(alloc, left, calls)?;
     Ok(none)
+}
+
+/// The room of a step: what stands by, or memory that is taken now. An `Err` is as above, and never comes where room stands by.
+#[tactic(auto, using(crate::proofs::Resting::rests_without))]
+pub(crate) fn room(
+    alloc: Global,
+    host: &mut Host,
+    scratch: &mut Scratch,
+) -> Result<Buffers, AllocError>
+    requires rests { Rests scratch.old host.old }
+    requires made { host.old.kept.made ≡ no_effects }
+    ensures none { IfOk result (λ none. none ≡ record { made = no_effects; left = 0; calls = 0; most = 0; most_calls = 0 }) }
+    ensures ok { OnOk result (HasRoom host.old host.new × Suffices scratch.new host.old) }
+    ensures used { OnOk result (scratch.new.spare ≡ false) }
+    ensures err { OnErr result (host.new ≡ host.old) }
+    ensures rests { OnErr result (Rests scratch.new host.new) }
+    ensures blocks { scratch.new.blocks ≡ scratch.old.blocks }
+    ensures spared { scratch.old.spare ≡ true → IsOk result }
+{
+    match scratch.spare.take() {
+        Some(none) => Ok(none),
+        None => take_room(alloc, host, scratch),
+    }
+}
+
+/// Sees that the room of one step stands by. An `Err` is as above.
+#[tactic(auto, using(crate::proofs::Resting::rests_with, crate::proofs::Resting::rests_without))]
+pub(crate) fn stand_by(
+    alloc: Global,
+    host: &mut Host,
+    scratch: &mut Scratch,
+) -> Result<(), AllocError>
+    requires rests { Rests scratch.old host.old }
+    requires made { host.old.kept.made ≡ no_effects }
+    ensures ok { OnOk result (scratch.new.spare ≡ true) }
+    ensures rests { Rests scratch.new host.new }
+    ensures kept { host.new.kept ≡ host.old.kept }
+    ensures err { OnErr result (host.new ≡ host.old) }
+    ensures blocks { scratch.new.blocks ≡ scratch.old.blocks }
+{
+    if scratch.spare.is_some() {
+        return Ok(());
+    }
+    let none = take_room(alloc, host, scratch)?;
+    scratch.spare = Some(none);
+    Ok(())
 }

@@ -9,15 +9,16 @@ ghost use Rattle.sl_host_passes.specs.Fewer.{IsNoMore};
 ghost use Rattle.sl_host_state.specs.Kept.{HostKept};
 ghost use Rattle.sl_host_step.specs.Moments.{AllDone, AtEnd, AtInput, HasStepped, IsCalmed, IsOver, StepComes};
 ghost use Rattle.sl_host_step.specs.Rooms.{EndsWith, HasLeft, HasRoom, ScratchState, Suffices};
+ghost use Rattle.sl_host_step.specs.Resting.{Rests};
 ghost use Rattle.sl_host_step.specs.Serving.{IsIdle};
 ghost use Rattle.sl_trace.specs.Traces.{no_effects};
 ghost use Rattle.sl_trace.specs.declared.input.Input.TheVariants.{Exit as ExitOf, Number as NumberOf, Spawned as SpawnedOf, Wake as WakeOf};
 ghost use Rattle.sl_trace.specs.declared.input.Input.{Input as InputOf};
 ghost use Rattle.sl_host.specs.Books.{AreFew};
 ghost use Rattle.sl_host.specs.Host.{HostView, SameRun};
-ghost use Rattle.std.specs.Prelude.{IfOk, List, OnErr, length, ℕ, ◌*◌, ◌<◌, ◌^◌, ◌≡◌, ◌≤◌};
+ghost use Rattle.std.specs.Prelude.{IfOk, IsOk, List, OnErr, OnOk, false, length, true, ℕ, ◌*◌, ◌<◌, ◌^◌, ◌≡◌, ◌≤◌};
 
-use crate::rooms::{Scratch, take_room};
+use crate::rooms::{Scratch, room};
 use sl_host::{Buffers, Host};
 use sl_host_passes::{begin_step, calm, exit, finish, spawned, wake};
 use sl_trace::Effects;
@@ -33,6 +34,7 @@ fn begin(host: &mut Host, scratch: &mut Scratch, now: u64)
     ensures left { (first : HostView) → HasRoom first host.old → HasLeft first host.new }
     ensures lists { Suffices scratch.new host.new }
     ensures blocks { scratch.new.blocks ≡ scratch.old.blocks }
+    ensures spare { scratch.new.spare ≡ scratch.old.spare }
 {
     host.seats();
     begin_step(host, &mut scratch.members, &mut scratch.jobs, now);
@@ -49,6 +51,7 @@ fn take_wake(host: &mut Host, scratch: &mut Scratch)
     ensures left { (first : HostView) → HasLeft first host.old → EndsWith first host.new }
     ensures lists { host.new.seats ≤ scratch.new.members }
     ensures blocks { scratch.new.blocks ≡ scratch.old.blocks }
+    ensures spare { scratch.new.spare ≡ scratch.old.spare }
 {
     host.seats();
     wake(host, &mut scratch.members, &mut scratch.spots);
@@ -64,6 +67,7 @@ fn take_exit(host: &mut Host, scratch: &mut Scratch, process: u32)
     ensures left { (first : HostView) → HasLeft first host.old → EndsWith first host.new }
     ensures lists { host.new.seats ≤ scratch.new.members }
     ensures blocks { scratch.new.blocks ≡ scratch.old.blocks }
+    ensures spare { scratch.new.spare ≡ scratch.old.spare }
 {
     exit(host, &mut scratch.orphans, &mut scratch.jobs, process);
 }
@@ -78,6 +82,7 @@ fn take_start(host: &mut Host, scratch: &mut Scratch, process: u32, ok: bool)
     ensures left { (first : HostView) → HasLeft first host.old → EndsWith first host.new }
     ensures lists { host.new.seats ≤ scratch.new.members }
     ensures blocks { scratch.new.blocks ≡ scratch.old.blocks }
+    ensures spare { scratch.new.spare ≡ scratch.old.spare }
 {
     spawned(host, &mut scratch.orphans, process, ok);
 }
@@ -102,6 +107,7 @@ fn end(host: &mut Host, scratch: &mut Scratch)
     ensures done { (now : ℕ) (i : InputOf) (first : HostKept) → AtEnd now i first host.old.kept → AllDone now i first host.new.kept }
     ensures most { (host.new.most ≡ host.old.most) × (host.new.most_calls ≡ host.old.most_calls) × (host.new.seats ≡ host.old.seats) }
     ensures blocks { scratch.new.blocks ≡ scratch.old.blocks }
+    ensures spare { scratch.new.spare ≡ scratch.old.spare }
 {
     host.seats();
     finish(host, &mut scratch.members);
@@ -114,6 +120,7 @@ fn grow_calm(host: &mut Host, scratch: &mut Scratch, is_loud: bool)
     ensures calm { IsCalmed host.old.kept host.new.kept }
     ensures run { SameRun host.old host.new }
     ensures blocks { scratch.new.blocks ≡ scratch.old.blocks }
+    ensures spare { scratch.new.spare ≡ scratch.old.spare }
 {
     if is_loud && host.job_count() <= scratch.job_room() {
         calm(host, &mut scratch.jobs);
@@ -146,6 +153,7 @@ pub(crate) fn conclude(
     requires none { none ≡ record { made = no_effects; left = 0; calls = 0; most = 0; most_calls = 0 } }
     ensures stepped { (now : ℕ) (i : InputOf) (first : HostView) → AtEnd now i first.kept host.old.kept → EndsWith first host.old → HasStepped now i first host.new result }
     ensures blocks { scratch.new.blocks ≡ scratch.old.blocks }
+    ensures spare { scratch.new.spare ≡ scratch.old.spare }
 {
     end(host, scratch);
     grow_calm(host, scratch, is_loud);
@@ -167,15 +175,18 @@ pub(crate) fn start(
     now: u64,
 ) -> Result<Begun, AllocError>
     requires comes { (i : InputOf) × StepComes now i host.old.kept }
-    requires idle { IsIdle host.old }
+    requires rests { Rests scratch.old host.old }
     ensures none { IfOk result (λ b. b.none ≡ record { made = no_effects; left = 0; calls = 0; most = 0; most_calls = 0 }) }
     ensures at { (i : InputOf) → StepComes now i host.old.kept → IfOk result (λ b. AtInput now i host.old.kept host.new.kept) }
     ensures left { IfOk result (λ b. HasLeft host.old host.new × Suffices scratch.new host.new) }
     ensures err { OnErr result (host.new ≡ host.old) }
+    ensures rests { OnErr result (Rests scratch.new host.new) }
+    ensures used { OnOk result (scratch.new.spare ≡ false) }
+    ensures spared { scratch.old.spare ≡ true → IsOk result }
     ensures blocks { scratch.new.blocks ≡ scratch.old.blocks }
 {
     let is_loud = host.quiet_until() <= now;
-    let none = take_room(alloc, host, scratch)?;
+    let none = room(alloc, host, scratch)?;
     begin(host, scratch, now);
     Ok(Begun { none, is_loud })
 }
@@ -188,9 +199,12 @@ pub(crate) fn step_wake(
     now: u64,
 ) -> Result<Effects, AllocError>
     requires comes { StepComes now WakeOf host.old.kept }
-    requires idle { IsIdle host.old }
+    requires rests { Rests scratch.old host.old }
     ensures ok { IfOk result (λ fx. HasStepped now WakeOf host.old host.new fx) }
     ensures err { OnErr result (host.new ≡ host.old) }
+    ensures rests { OnErr result (Rests scratch.new host.new) }
+    ensures used { OnOk result (scratch.new.spare ≡ false) }
+    ensures spared { scratch.old.spare ≡ true → IsOk result }
     ensures blocks { scratch.new.blocks ≡ scratch.old.blocks }
 {
     let begun = start(alloc, host, scratch, now)?;
@@ -207,9 +221,12 @@ pub(crate) fn step_exit(
     process: u32,
 ) -> Result<Effects, AllocError>
     requires comes { StepComes now (ExitOf process) host.old.kept }
-    requires idle { IsIdle host.old }
+    requires rests { Rests scratch.old host.old }
     ensures ok { IfOk result (λ fx. HasStepped now (ExitOf process) host.old host.new fx) }
     ensures err { OnErr result (host.new ≡ host.old) }
+    ensures rests { OnErr result (Rests scratch.new host.new) }
+    ensures used { OnOk result (scratch.new.spare ≡ false) }
+    ensures spared { scratch.old.spare ≡ true → IsOk result }
     ensures blocks { scratch.new.blocks ≡ scratch.old.blocks }
 {
     let begun = start(alloc, host, scratch, now)?;
@@ -227,9 +244,12 @@ pub(crate) fn step_start(
     ok: bool,
 ) -> Result<Effects, AllocError>
     requires comes { StepComes now (SpawnedOf process ok) host.old.kept }
-    requires idle { IsIdle host.old }
+    requires rests { Rests scratch.old host.old }
     ensures ok { IfOk result (λ fx. HasStepped now (SpawnedOf process ok) host.old host.new fx) }
     ensures err { OnErr result (host.new ≡ host.old) }
+    ensures rests { OnErr result (Rests scratch.new host.new) }
+    ensures used { OnOk result (scratch.new.spare ≡ false) }
+    ensures spared { scratch.old.spare ≡ true → IsOk result }
     ensures blocks { scratch.new.blocks ≡ scratch.old.blocks }
 {
     let begun = start(alloc, host, scratch, now)?;
@@ -245,9 +265,12 @@ pub(crate) fn step_number(
     now: u64,
 ) -> Result<Effects, AllocError>
     requires comes { (text : List ℕ) × StepComes now (NumberOf text) host.old.kept }
-    requires idle { IsIdle host.old }
+    requires rests { Rests scratch.old host.old }
     ensures ok { (text : List ℕ) → StepComes now (NumberOf text) host.old.kept → IfOk result (λ fx. HasStepped now (NumberOf text) host.old host.new fx) }
     ensures err { OnErr result (host.new ≡ host.old) }
+    ensures rests { OnErr result (Rests scratch.new host.new) }
+    ensures used { OnOk result (scratch.new.spare ≡ false) }
+    ensures spared { scratch.old.spare ≡ true → IsOk result }
     ensures blocks { scratch.new.blocks ≡ scratch.old.blocks }
 {
     let begun = start(alloc, host, scratch, now)?;

@@ -3,9 +3,10 @@
 ghost use Rattle.sl_daemon.specs.Daemons.{read_of};
 ghost use Rattle.sl_host_step.specs.Moments.{HasStepped, StepComes};
 ghost use Rattle.sl_host_step.specs.Rooms.{ScratchState};
-ghost use Rattle.sl_host_step.specs.Serving.{IsIdle};
+ghost use Rattle.sl_host_step.specs.Telling.{joins_at};
+ghost use Rattle.sl_host_step.specs.Resting.{Rests, takes_more};
 ghost use Rattle.sl_host.specs.Host.{HostView};
-ghost use Rattle.std.specs.Prelude.{IfOk, OnErr, ◌≡◌};
+ghost use Rattle.std.specs.Prelude.{IfOk, IsOk, OnErr, OnOk, false, true, ◌≡◌};
 
 use crate::answer::{step_answer, step_images};
 use crate::line::step_line;
@@ -25,10 +26,13 @@ pub(crate) fn step_at(
     input: Input,
 ) -> Result<Effects, AllocError>
     requires comes { StepComes now input host.old.kept }
-    requires idle { IsIdle host.old }
+    requires rests { Rests scratch.old host.old }
     requires blocks { scratch.old.blocks ≡ host.old.kept.config.sizes.hosts }
     ensures ok { IfOk result (λ fx. HasStepped now input host.old host.new fx) }
     ensures err { OnErr result (host.new ≡ host.old) }
+    ensures rests { OnErr result (Rests scratch.new host.new) }
+    ensures used { OnOk result (scratch.new.spare ≡ false) }
+    ensures spared { scratch.old.spare ≡ true → takes_more host.old.kept input ≡ false → IsOk result }
     ensures blocks { scratch.new.blocks ≡ scratch.old.blocks }
 {
     match input {
@@ -51,10 +55,13 @@ pub(crate) fn step_read(
     sectors: &Images,
 ) -> Result<Effects, AllocError>
     requires comes { StepComes now (read_of call sectors.now) host.old.kept }
-    requires idle { IsIdle host.old }
+    requires rests { Rests scratch.old host.old }
     requires blocks { scratch.old.blocks ≡ host.old.kept.config.sizes.hosts }
     ensures ok { IfOk result (λ fx. HasStepped now (read_of call sectors.now) host.old host.new fx) }
     ensures err { OnErr result (host.new ≡ host.old) }
+    ensures rests { OnErr result (Rests scratch.new host.new) }
+    ensures used { OnOk result (scratch.new.spare ≡ false) }
+    ensures spared { scratch.old.spare ≡ true → sectors.now.size ≡ host.old.kept.config.sizes.sector → joins_at host.old.kept call ≡ false → IsOk result }
     ensures blocks { scratch.new.blocks ≡ scratch.old.blocks }
 {
     step_images(alloc, host, scratch, now, call, sectors)
