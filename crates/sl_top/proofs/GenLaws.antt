@@ -30,7 +30,7 @@ use Rattle.std.specs.Io.KnownBytes.{Appends}
 
 -- A host does what is due.
 hosts_do : DaemonsDoWhatIsDue Serves
-hosts_do d st es s = s.0.stands.past
+hosts_do d st es s = s.stands.past
 
 -- ---- the header
 

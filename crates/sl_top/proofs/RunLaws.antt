@@ -34,7 +34,7 @@ use Rattle.std.specs.Prelude.{IsTrue, MatchBool, false}
 
 -- A host does what is due.
 hosts_do : DaemonsDoWhatIsDue Serves
-hosts_do d st es s = s.0.stands.past
+hosts_do d st es s = s.stands.past
 
 same_language : played_language whole_commands ≡ whole_language
 same_language = whole_language_may_play.whole
