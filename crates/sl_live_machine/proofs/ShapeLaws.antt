@@ -90,3 +90,8 @@ idle_calls Resource front had has is = ap (λ (s : SeatState). s.calls) is
 -- no call was left
 pub works_none : (part : Part) (had has : SeatState) → IsTaken part had has None → IsWorker had.calls → IsWorker has.calls
 works_none part had has idle so = turns_same IsWorkTurn had.calls has.calls (idle_calls part idle.0 had has idle.1) so
+
+pub ok_tests : {A E : Type 0} (r : Result A E) (now : ℕ) (had has : SeatState) (Rest : Bool → Type 0) → OnOk r ((answer : Bool) × IsTested had has now answer × Rest answer)
+    → OnOk r (IsDeviceThread had.calls → IsDeviceThread has.calls)
+ok_tests (Ok x) now had has Rest so = tests_on now so.0 had has so.1
+ok_tests (Err e) now had has Rest so = tt

@@ -28,6 +28,7 @@ enum Found {
 }
 
 /// Tells the exit of one child, if one has exited. An `Err` is want of memory.
+#[tactic(auto, using(crate::proofs::ShapeLaws::exits_on, crate::proofs::ShapeLaws::exits_none))]
 fn look<D: Teller, J: Station, R: Wait, C: Clock, P: Spawner>(
     rt: &R,
     room: &Room<D, J, P>,
@@ -69,6 +70,7 @@ fn wait<R: Wait + time::Clock>(
 }
 
 /// Tells exits until the machine ends. An `Err` is want of memory.
+#[tactic(auto, using(crate::proofs::ShapeLaws::no_turns))]
 pub(crate) fn tell_exits<D: Teller, J: Station, R: Wait + time::Clock, C: Clock, P: Spawner>(
     rt: &R,
     room: &Room<D, J, P>,

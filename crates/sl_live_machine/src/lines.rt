@@ -16,6 +16,7 @@ use std::alloc::AllocError;
 use std::sync::Wait;
 
 /// Gives a line. An `Err` is want of memory.
+#[tactic(auto, using(crate::proofs::ShapeLaws::lines_on))]
 fn give_line<D: Teller, J: Station, R: Wait, C: Clock, P: Spawner>(
     rt: &R,
     room: &Room<D, J, P>,
@@ -32,6 +33,7 @@ fn give_line<D: Teller, J: Station, R: Wait, C: Clock, P: Spawner>(
 }
 
 /// Gives the lines until no more come, or the machine ends. An `Err` is want of memory.
+#[tactic(auto, using(crate::proofs::ShapeLaws::no_turns))]
 pub(crate) fn give_lines<D: Teller, J: Station, R: Wait, C: Clock, P: Spawner>(
     rt: &R,
     room: &Room<D, J, P>,

@@ -8,7 +8,7 @@ ghost use Rattle.sl_run.specs.Lawful.{IsSetting};
 ghost use Rattle.std.specs.Prelude.{IfErr, IfOk, ◌≡◌};
 
 use crate::room::{Pace, Room};
-use crate::threads::{Clocks, Stand, run_threads};
+use crate::threads::{Clocks, Stand, Threaded, run_threads};
 use sl_area::Area;
 use sl_cell::{CloseError, HostCell, Seat, Station, Teller};
 use sl_daemon::Site;
@@ -54,6 +54,7 @@ fn pace_of(header: &Header) -> Pace {
 
 /// Closes the cell of a machine whose threads have ended. Where there was no memory, no child goes on: one may have been started behind the kill of
 /// the child thread.
+#[tactic(auto, using(crate::proofs::RunLaws::ok_run, crate::proofs::RunLaws::err_run))]
 fn close<D: Teller, J: Station, P: Spawner>(
     room: Room<D, J, P>,
     failed: bool,
@@ -135,11 +136,15 @@ pub fn run_machine<
         cell,
         children: Mutex::new(Children::new(alloc, spawner)),
     };
-    let threaded = run_threads(rt, &room, stand, gate, clocks, device, delta, resource);
+    let Threaded {
+        seats,
+        delta,
+        resource,
+    } = run_threads(rt, &room, stand, gate, clocks, device, delta, resource);
     let failed = stand.post.has_failed(rt);
     Ran {
-        history: close(room, failed, threaded.seats),
-        delta: threaded.delta,
-        resource: threaded.resource,
+        history: close(room, failed, seats),
+        delta,
+        resource,
     }
 }

@@ -307,6 +307,7 @@ struct Ended {
 }
 
 /// The seats of all threads, if none ended for want of memory, and there is memory for the list.
+#[tactic(auto, using(crate::proofs::RunLaws::are_seats))]
 fn gather(alloc: Global, ended: Ended) -> Result<Vec<Seat>, AllocError>
     requires ticks { IfOk ended.ticks (λ s. IsTicker s.calls) }
     requires delta { IfOk ended.delta (λ s. IsWorker s.calls) }
@@ -382,17 +383,25 @@ pub(crate) fn run_threads<
         || workers(rt, room, stand, gate, delta, resource),
         || others(rt, room, stand, ticks, lines, exits, tests, device),
     );
+    let Worked {
+        seat: delta,
+        disks: delta_disks,
+    } = delta;
+    let Worked {
+        seat: resource,
+        disks: resource_disks,
+    } = resource;
     let ended = Ended {
         ticks,
-        delta: delta.seat,
-        resource: resource.seat,
+        delta,
+        resource,
         exits,
         tests,
         lines,
     };
     Threaded {
         seats: gather(room.alloc, ended),
-        delta: delta.disks,
-        resource: resource.disks,
+        delta: delta_disks,
+        resource: resource_disks,
     }
 }

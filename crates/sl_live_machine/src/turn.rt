@@ -13,6 +13,7 @@ use std::alloc::AllocError;
 use std::sync::Wait;
 
 /// Gives an input with all that follows of it. An `Err` is want of memory.
+#[tactic(auto, using(crate::proofs::ShapeLaws::ok_gave))]
 pub(crate) fn give<D: Teller, J: Station, R: Wait, C: Clock, P: Spawner>(
     rt: &R,
     room: &Room<D, J, P>,

@@ -30,6 +30,7 @@ fn make<D: Teller, J: Station, P: Spawner, A: Area, G: Gate>(
 }
 
 /// Takes a call, if there is one, makes it, and gives its answer: whether there was one. An `Err` is want of memory.
+#[tactic(auto, using(crate::proofs::ShapeLaws::works_on, crate::proofs::ShapeLaws::works_none))]
 fn serve<D: Teller, J: Station, R: Wait, C: Clock, P: Spawner, A: Area, G: Gate>(
     rt: &R,
     room: &Room<D, J, P>,
@@ -55,6 +56,7 @@ fn serve<D: Teller, J: Station, R: Wait, C: Clock, P: Spawner, A: Area, G: Gate>
 }
 
 /// Makes calls until the machine ends. An `Err` is want of memory.
+#[tactic(auto, using(crate::proofs::ShapeLaws::no_turns))]
 pub(crate) fn work<D: Teller, J: Station, R: Wait, C: Clock, P: Spawner, A: Area, G: Gate>(
     rt: &R,
     room: &Room<D, J, P>,
