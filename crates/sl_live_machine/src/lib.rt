@@ -10,7 +10,6 @@ mod children;
 mod device;
 mod lines;
 mod machine;
-mod machines;
 mod post;
 mod roll;
 mod room;
@@ -20,7 +19,6 @@ mod turn;
 mod worker;
 
 pub use machine::{Parts, Ran, run_machine};
-pub use machines::{Machine, run_all};
 pub use post::Post;
 pub use roll::Roll;
 pub use threads::{Clocks, Stand};

@@ -5,6 +5,7 @@
 ghost use Rattle.sl_live.specs.Turns.{IsChildThread, IsDeviceThread, IsLineThread, IsTicker, IsWorker};
 ghost use Rattle.sl_live_machine.specs.Shapes.{AreSeats};
 ghost use Rattle.std.specs.Prelude.{IfOk, ◌≡◌};
+ghost use denote.Param.Send.{IsSend, IsSync};
 
 use crate::children::tell_exits;
 use crate::device::keep_alive;
@@ -380,7 +381,9 @@ pub(crate) fn run_threads<
     };
     let ((delta, resource), (ticks, lines, exits, tests)) = join(
         rt,
-        || workers(rt, room, stand, gate, delta, resource),
+        ||
+            requires { IsSend D.row × IsSend J.row × IsSync J.row × IsSync R.row × IsSend C.row × IsSend P.row × IsSend A.row × IsSync G.row }
+        { workers(rt, room, stand, gate, delta, resource) },
         || others(rt, room, stand, ticks, lines, exits, tests, device),
     );
     let Worked {
