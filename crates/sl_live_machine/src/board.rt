@@ -133,13 +133,7 @@ impl Board {
                 self.turns = self.turns.wrapping_add(1);
                 Next::Line(line)
             }
-            None => {
-                if self.closed {
-                    Next::End
-                } else {
-                    Next::Wait
-                }
-            }
+            None => { if self.closed { Next::End } else { Next::Wait } }
         }
     }
 

@@ -17,6 +17,7 @@ use std::time::Duration;
 
 /// The shortest interval, in milliseconds, and the longest.
 const SHORTEST: u64 = 1;
+
 const LONGEST: u64 = 16;
 
 /// What a look for an exited child has found.
@@ -48,13 +49,7 @@ fn look<D: Teller, J: Station, R: Wait, C: Clock, P: Spawner>(
 }
 
 /// Waits for the next look, after one that found this: the interval behind that.
-fn wait<R: Wait + time::Clock>(
-    rt: &R,
-    post: &Post,
-    seen: u64,
-    found: Found,
-    interval: u64,
-) -> u64 {
+fn wait<R: Wait + time::Clock>(rt: &R, post: &Post, seen: u64, found: Found, interval: u64) -> u64 {
     match found {
         Found::Exited => SHORTEST,
         Found::AllRun => {

@@ -62,11 +62,7 @@ impl<'a> Stand<'a> {
     }
 
     /// What a thread ended with. Where there was no memory, all threads are to end.
-    fn ended<R: Wait>(
-        &self,
-        rt: &R,
-        seat: Result<Seat, AllocError>,
-    ) -> Result<Seat, AllocError>
+    fn ended<R: Wait>(&self, rt: &R, seat: Result<Seat, AllocError>) -> Result<Seat, AllocError>
         ensures { result ≡ seat }
     {
         if seat.is_err() {
@@ -120,14 +116,7 @@ fn child_thread<D: Teller, J: Station, R: Wait + time::Clock, C: Clock, P: Spawn
 }
 
 /// The device thread.
-fn device_thread<
-    D: Teller,
-    J: Station,
-    R: Wait + time::Clock,
-    C: Clock,
-    P: Spawner,
-    V: Device,
->(
+fn device_thread<D: Teller, J: Station, R: Wait + time::Clock, C: Clock, P: Spawner, V: Device>(
     rt: &R,
     room: &Room<D, J, P>,
     stand: &Stand<'_>,
@@ -156,15 +145,7 @@ pub(crate) struct Tools<C: Clock, A: Area> {
 }
 
 /// A worker.
-fn worker<
-    D: Teller,
-    J: Station,
-    R: Wait + time::Clock,
-    C: Clock,
-    P: Spawner,
-    A: Area,
-    G: Gate,
->(
+fn worker<D: Teller, J: Station, R: Wait + time::Clock, C: Clock, P: Spawner, A: Area, G: Gate>(
     rt: &R,
     room: &Room<D, J, P>,
     stand: &Stand<'_>,
@@ -179,7 +160,10 @@ fn worker<
         mut disks,
     } = tools;
     let seat = match stand.enter(rt) {
-        Ok(()) => stand.ended(rt, work(rt, room, stand.post, gate, part, clock, &mut disks)),
+        Ok(()) => stand.ended(
+            rt,
+            work(rt, room, stand.post, gate, part, clock, &mut disks),
+        ),
         Err(error) => Err(error),
     };
     Worked { seat, disks }
