@@ -56,7 +56,7 @@ impl<'a> Stand<'a> {
     }
 
     /// The machine's threads won't come: all are to end.
-    pub(crate) fn give_up<R: Wait>(&self, rt: &R) {
+    pub fn give_up<R: Wait>(&self, rt: &R) {
         self.roll.give_up(rt);
         fail_all(rt, self.posts);
     }
