@@ -175,7 +175,7 @@ impl<P: Spawner> Children<P> {
     }
 
     /// Sends a kill to each child that runs.
-    pub(crate) fn kill(&mut self)
+    pub fn kill(&mut self)
         ensures does { Does P.acts P.faults P.running self.old.spawner self.new.spawner (map kill_of self.old.numbers) }
         ensures numbers { self.new.numbers ≡ self.old.numbers }
     {

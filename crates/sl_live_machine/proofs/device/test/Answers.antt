@@ -1,0 +1,5 @@
+use Rattle.sl_live_machine.proofs.ShapeLaws.{ok_tests}
+use Rattle.sl_live_machine.proofs.device.test.Goals as goal
+
+pub returns : goal.returns
+returns g c = ok_tests _ _ _ _ _ c.device_step.ensures.ok

@@ -1,0 +1,248 @@
+//! What the threads of a machine tell one another: lines to be given, what turns have made, and whether the machine ends.
+
+use sl_cell::{Made, Part};
+use sl_text::Bytes;
+use sl_trace::{Entry, Input, JobReply, Purpose};
+use std::alloc::{AllocError, Global};
+use std::collections::VecDeque;
+
+/// How far a machine is.
+#[derive(Clone, Copy, PartialEq, Eq)]
+pub(crate) enum Stage {
+    /// Its threads make turns.
+    Runs,
+    /// Nothing is left to be done.
+    Over,
+    /// There was no memory.
+    Failed,
+}
+
+/// What a thread that gives lines is to do next.
+#[derive(Drop)]
+pub(crate) enum Next {
+    Line(Bytes),
+    /// None is there yet.
+    Wait,
+    End,
+}
+
+/// For whom there is news.
+#[derive(Clone, Copy)]
+pub(crate) struct News {
+    pub delta: bool,
+    pub resource: bool,
+    pub children: bool,
+    pub script: bool,
+    pub ticker: bool,
+}
+
+impl News {
+    /// For none.
+    fn none() -> News {
+        News {
+            delta: false,
+            resource: false,
+            children: false,
+            script: false,
+            ticker: false,
+        }
+    }
+}
+
+/// What the threads tell one another.
+#[derive(Drop)]
+pub(crate) struct Board {
+    /// Lines to be given.
+    lines: VecDeque<Bytes>,
+    /// No line comes any more.
+    closed: bool,
+    /// The number of the next line's job.
+    next_job: u64,
+    /// The job whose reply the script waits for.
+    awaited: Option<u64>,
+    /// Turns that are under way.
+    turns: u64,
+    /// Calls that were made, and that were answered.
+    made: u64,
+    answered: u64,
+    /// The children that run.
+    running: Vec<u32>,
+    stage: Stage,
+}
+
+impl Board {
+    /// Nothing was done yet. The next line is of this job.
+    pub(crate) fn new(alloc: Global, next_job: u64) -> Board {
+        Board {
+            lines: VecDeque::new(alloc),
+            closed: false,
+            next_job,
+            awaited: None,
+            turns: 0,
+            made: 0,
+            answered: 0,
+            running: Vec::new(alloc),
+            stage: Stage::Runs,
+        }
+    }
+
+    /// How far the machine is.
+    pub(crate) fn stage(&self) -> Stage {
+        self.stage
+    }
+
+    /// Whether the script waits for a reply.
+    pub(crate) fn is_awaiting(&self) -> bool {
+        self.awaited.is_some()
+    }
+
+    /// Whether this child runs.
+    pub(crate) fn is_running(&self, process: u32) -> bool {
+        self.running.contains(&process)
+    }
+
+    /// A line to be given, for whose reply the script waits or does not. An `Err` is want of memory.
+    pub(crate) fn put(&mut self, line: Bytes, awaits: bool) -> Result<(), AllocError> {
+        self.lines.reserve(1)?;
+        self.lines.push_back_reserved(line);
+        if awaits {
+            self.awaited = Some(self.next_job);
+        }
+        self.next_job = self.next_job.wrapping_add(1);
+        Ok(())
+    }
+
+    /// No line comes any more: whether nothing is left to be done.
+    pub(crate) fn close(&mut self) -> bool {
+        self.closed = true;
+        self.is_quiet()
+    }
+
+    /// There was no memory.
+    pub(crate) fn fail(&mut self) {
+        self.stage = Stage::Failed;
+    }
+
+    /// The next line, whose turn begins.
+    pub(crate) fn next_line(&mut self) -> Next {
+        if self.stage != Stage::Runs {
+            return Next::End;
+        }
+        match self.lines.pop_front() {
+            Some(line) => {
+                self.turns = self.turns.wrapping_add(1);
+                Next::Line(line)
+            }
+            None => { if self.closed { Next::End } else { Next::Wait } }
+        }
+    }
+
+    /// A turn begins, if the machine runs: whether it does.
+    pub(crate) fn begin_turn(&mut self) -> bool {
+        let runs = self.stage == Stage::Runs;
+        if runs {
+            self.turns = self.turns.wrapping_add(1);
+        }
+        runs
+    }
+
+    /// A turn that wakes the daemon begins, if the machine runs and something is left to be done: whether it does. Else the machine is over.
+    pub(crate) fn begin_wake(&mut self) -> bool {
+        if self.stage == Stage::Runs && self.is_quiet() {
+            self.stage = Stage::Over;
+        }
+        self.begin_turn()
+    }
+
+    /// A turn has ended that made these calls of the cell: for whom there is news. An `Err` is want of memory.
+    pub(crate) fn end_turn(&mut self, calls: &[Made]) -> Result<News, AllocError> {
+        let mut news = News::none();
+        for made in calls {
+            self.note(&mut news, made)?;
+        }
+        self.turns = self.turns.wrapping_sub(1);
+        news.ticker = self.is_quiet();
+        Ok(news)
+    }
+
+    /// Whether no turn is under way and none is left but to wake the daemon: no line, no call, no child.
+    fn is_quiet(&self) -> bool {
+        self.closed
+            && self.lines.is_empty()
+            && self.turns == 0
+            && self.made == self.answered
+            && self.running.is_empty()
+    }
+
+    /// Notes a call of the cell.
+    fn note(&mut self, news: &mut News, made: &Made) -> Result<(), AllocError> {
+        match made {
+            Made::Applied { number: _, entry } => {
+                self.note_input(news, &entry.input)?;
+                self.note_calls(news, entry);
+                self.note_replies(news, entry.effects.replies.as_slice());
+                Ok(())
+            }
+            Made::Unasked { front: _, input } => self.note_input(news, input),
+            Made::Took { .. } => Ok(()),
+            Made::Tested { .. } => Ok(()),
+        }
+    }
+
+    /// Notes an answer, a child that has started, or one that has exited.
+    fn note_input(&mut self, news: &mut News, input: &Input) -> Result<(), AllocError> {
+        match input {
+            Input::Answer { .. } => {
+                self.answered = self.answered.wrapping_add(1);
+                Ok(())
+            }
+            Input::Spawned { process, ok } => {
+                if *ok {
+                    news.children = true;
+                    self.running.push(*process)?;
+                }
+                Ok(())
+            }
+            Input::Exit { process } => {
+                news.script = true;
+                self.running.retain(|running| *running != *process);
+                Ok(())
+            }
+            Input::Line(_) => Ok(()),
+            Input::Number(_) => Ok(()),
+            Input::Wake => Ok(()),
+        }
+    }
+
+    /// Notes the calls that were made.
+    fn note_calls(&mut self, news: &mut News, entry: &Entry) {
+        for call in entry.effects.calls.as_slice() {
+            self.made = self.made.wrapping_add(1);
+            match part_of(&call.purpose) {
+                Part::Delta => news.delta = true,
+                Part::Resource => news.resource = true,
+            }
+        }
+    }
+
+    /// Notes the replies.
+    fn note_replies(&mut self, news: &mut News, replies: &[JobReply]) {
+        for reply in replies {
+            if self.awaited == Some(reply.job) {
+                self.awaited = None;
+                news.script = true;
+            }
+        }
+    }
+}
+
+/// Of which part a call is.
+fn part_of(purpose: &Purpose) -> Part {
+    match purpose {
+        Purpose::Joining { .. } => Part::Delta,
+        Purpose::Renewal => Part::Delta,
+        Purpose::Survey => Part::Delta,
+        Purpose::Leaving { .. } => Part::Delta,
+        _ => Part::Resource,
+    }
+}

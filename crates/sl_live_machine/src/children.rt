@@ -1,0 +1,90 @@
+//! The thread that tells the daemon which children have exited. No wait of the system's is for any one of several children, so it asks at
+//! intervals while one runs: each twice as long as the one before, from 1 to 16 milliseconds, and the shortest again once a child has exited.
+
+ghost use Rattle.sl_live.specs.Turns.{IsChildThread};
+ghost use Rattle.std.specs.Prelude.{IfOk, OnOk};
+
+use crate::post::Post;
+use crate::room::Room;
+use sl_cell::{Seat, Station, Teller};
+use sl_live::laws::child_step;
+use sl_outside::Spawner;
+use sl_time::Clock;
+use std::alloc::AllocError;
+use std::sync::Wait;
+use std::time;
+use std::time::Duration;
+
+/// The shortest interval, in milliseconds, and the longest.
+const SHORTEST: u64 = 1;
+
+const LONGEST: u64 = 16;
+
+/// What a look for an exited child has found.
+#[derive(Clone, Copy)]
+enum Found {
+    Exited,
+    AllRun,
+    NoneRuns,
+}
+
+/// Tells the exit of one child, if one has exited. An `Err` is want of memory.
+#[tactic(auto, using(crate::proofs::ShapeLaws::exits_on, crate::proofs::ShapeLaws::exits_none))]
+fn look<D: Teller, J: Station, R: Wait, C: Clock, P: Spawner>(
+    rt: &R,
+    room: &Room<D, J, P>,
+    seat: &mut Seat,
+    clock: &mut C,
+) -> Result<Found, AllocError>
+    ensures { OnOk result (IsChildThread seat.old.calls → IsChildThread seat.new.calls) }
+{
+    let mut children = room.children.lock(rt);
+    if child_step(rt, room.alloc, &room.cell, seat, clock, &mut *children)? {
+        Ok(Found::Exited)
+    } else if children.is_idle() {
+        Ok(Found::NoneRuns)
+    } else {
+        Ok(Found::AllRun)
+    }
+}
+
+/// Waits for the next look, after one that found this: the interval behind that.
+fn wait<R: Wait + time::Clock>(rt: &R, post: &Post, seen: u64, found: Found, interval: u64) -> u64 {
+    match found {
+        Found::Exited => SHORTEST,
+        Found::AllRun => {
+            let most = Duration::from_millis(interval);
+            post.children.wait_at_most(rt, seen, most);
+            interval.saturating_mul(2).min(LONGEST)
+        }
+        Found::NoneRuns => {
+            post.children.wait_past(rt, seen);
+            SHORTEST
+        }
+    }
+}
+
+/// Tells exits until the machine ends. An `Err` is want of memory.
+#[tactic(auto, using(crate::proofs::ShapeLaws::no_turns))]
+pub(crate) fn tell_exits<D: Teller, J: Station, R: Wait + time::Clock, C: Clock, P: Spawner>(
+    rt: &R,
+    room: &Room<D, J, P>,
+    post: &Post,
+    mut clock: C,
+) -> Result<Seat, AllocError>
+    ensures { IfOk result (λ s. IsChildThread s.calls) }
+{
+    let mut seat = room.cell.seat();
+    let mut interval = SHORTEST;
+    for _ in rt.forever() {
+        let seen = post.children.moves(rt);
+        if !post.begin_turn(rt) {
+            break;
+        }
+        let from = seat.calls().len();
+        let found = look(rt, room, &mut seat, &mut clock)?;
+        post.end_turn(rt, seat.calls(), from)?;
+        interval = wait(rt, post, seen, found, interval);
+    }
+    Ok(seat)
+}

@@ -1,0 +1,59 @@
+//! The thread that tests the machine's connections and keeps its watchdog device from firing while they hold.
+
+ghost use Rattle.sl_live.specs.Turns.{IsDeviceThread};
+ghost use Rattle.std.specs.Prelude.{IfOk, OnOk};
+
+use crate::post::Post;
+use crate::room::Room;
+use sl_cell::{Seat, Station, Teller};
+use sl_live::laws::device_step;
+use sl_outside::{Device, Spawner};
+use sl_time::Clock;
+use std::alloc::AllocError;
+use std::sync::Wait;
+use std::time;
+
+/// Tests once. An `Err` is want of memory.
+#[tactic(auto, using(crate::proofs::ShapeLaws::ok_tests))]
+fn test<D: Teller, J: Station, R: Wait, C: Clock, P: Spawner, V: Device>(
+    rt: &R,
+    room: &Room<D, J, P>,
+    seat: &mut Seat,
+    clock: &mut C,
+    device: &mut V,
+) -> Result<(), AllocError>
+    ensures { OnOk result (IsDeviceThread seat.old.calls → IsDeviceThread seat.new.calls) }
+{
+    let mut children = room.children.lock(rt);
+    device_step(rt, &room.cell, seat, clock, device, &mut *children)
+}
+
+/// Tests again and again until the machine ends. An `Err` is want of memory.
+#[tactic(auto, using(crate::proofs::ShapeLaws::no_turns))]
+pub(crate) fn keep_alive<
+    D: Teller,
+    J: Station,
+    R: Wait + time::Clock,
+    C: Clock,
+    P: Spawner,
+    V: Device,
+>(
+    rt: &R,
+    room: &Room<D, J, P>,
+    post: &Post,
+    mut clock: C,
+    mut device: V,
+) -> Result<Seat, AllocError>
+    ensures { IfOk result (λ s. IsDeviceThread s.calls) }
+{
+    let mut seat = room.cell.seat();
+    for _ in rt.forever() {
+        let seen = post.device.moves(rt);
+        if !post.runs(rt) {
+            break;
+        }
+        test(rt, room, &mut seat, &mut clock, &mut device)?;
+        post.device.wait_at_most(rt, seen, room.pace.test);
+    }
+    Ok(seat)
+}

@@ -1,0 +1,24 @@
+//! A live machine: the threads over one daemon's cell, what they tell one another, and the history that is closed when they have ended.
+//!
+//! A thread is a loop that waits, makes a turn and notes what came of it. What a turn does is a step of its own module of laws, with a whole
+//! contract; what a thread has done is its seat, whose shape is the thread's contract. Nothing is claimed of waiting.
+#![tactic(auto)]
+
+mod bell;
+mod board;
+mod children;
+mod device;
+mod lines;
+mod machine;
+mod post;
+mod roll;
+mod room;
+mod threads;
+mod ticker;
+mod turn;
+mod worker;
+
+pub use machine::{Parts, Ran, run_machine};
+pub use post::Post;
+pub use roll::Roll;
+pub use threads::{Clocks, Stand};

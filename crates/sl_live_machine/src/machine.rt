@@ -1,0 +1,150 @@
+//! A machine's run: its cell is made, its threads run beside each other, and the cell is closed with their seats.
+
+ghost use Rattle.sl_cell.specs.Cases.{Stops};
+ghost use Rattle.sl_daemon.specs.Daemons.{begun_with};
+ghost use Rattle.sl_live_machine.specs.Shapes.{AreSeats, IsCaseOfRun, IsRun};
+ghost use Rattle.sl_run.specs.Headers.{IsHeader};
+ghost use Rattle.sl_run.specs.Lawful.{IsSetting};
+ghost use Rattle.std.specs.Prelude.{IfErr, IfOk, ◌≡◌};
+
+use crate::room::{Pace, Room};
+use crate::threads::{Clocks, Stand, Threaded, run_threads};
+use sl_area::Area;
+use sl_cell::{CloseError, HostCell, Seat, Station, Teller};
+use sl_daemon::Site;
+use sl_live::{Children, Disk};
+use sl_outside::{Device, Gate, Spawner};
+use sl_run::Header;
+use sl_text::Seq;
+use sl_time::Clock;
+use sl_trace::Entry;
+use std::alloc::{AllocError, Global};
+use std::sync::{Mutex, Wait};
+use std::thread::Threads;
+use std::time;
+use std::time::Duration;
+
+/// What a machine runs on. Each worker has an area of its own of each disk.
+#[derive(Drop)]
+pub struct Parts<C: Clock, P: Spawner, V: Device, A: Area> {
+    pub clocks: Clocks<C>,
+    pub spawner: P,
+    pub device: V,
+    pub delta: Vec<Disk<A>>,
+    pub resource: Vec<Disk<A>>,
+}
+
+/// What is left of a machine's run: its history, or why there is none, and the workers' disks.
+#[derive(Drop)]
+pub struct Ran<A: Area> {
+    pub history: Result<Seq<Entry>, CloseError>,
+    pub delta: Vec<Disk<A>>,
+    pub resource: Vec<Disk<A>>,
+}
+
+/// How often the threads of a machine look by themselves: at least a millisecond lies between.
+fn pace_of(header: &Header) -> Pace {
+    let wake = (header.timing.io() / 4).max(1);
+    let test = (header.timing.fire() / 6).max(1);
+    Pace {
+        wake: Duration::from_millis(wake),
+        test: Duration::from_millis(test),
+    }
+}
+
+/// Closes the cell of a machine whose threads have ended. Where there was no memory, no child goes on: one may have been started behind the kill of
+/// the child thread.
+#[tactic(auto, using(crate::proofs::RunLaws::ok_run, crate::proofs::RunLaws::err_run))]
+fn close<D: Teller, J: Station, P: Spawner>(
+    room: Room<D, J, P>,
+    failed: bool,
+    seats: Result<Vec<Seat>, AllocError>,
+) -> Result<Seq<Entry>, CloseError>
+    requires { IfOk seats (λ v. AreSeats v.items) }
+    ensures ok { IfOk result (λ h. IsRun J.setting h) }
+    ensures differ { IfErr result (Stops (IsCaseOfRun J.setting)) }
+{
+    let Room {
+        alloc: _,
+        machine: _,
+        geometry: _,
+        pace: _,
+        cell,
+        children,
+    } = room;
+    if failed {
+        children.into_inner().kill();
+    }
+    match seats {
+        Ok(seats) => cell.close(seats),
+        Err(_) => Err(CloseError::NoMemory),
+    }
+}
+
+/// Runs a machine until its script's end: six threads over one cell, which are all joined before the cell is closed.
+///
+/// An `Ok` has the history of the daemon of this setting, whose entries are exactly what the machine's threads applied. Else a case in which their
+/// seats differ from a history that the daemon could have, or want of memory: there, and where threads can't be made, all machines end.
+pub fn run_machine<
+    D: Teller + Send,
+    J: Station + Send + Sync,
+    R: Threads + Wait + time::Clock + Sync,
+    C: Clock + Send,
+    P: Spawner + Send,
+    V: Device + Send,
+    A: Area + Send,
+    G: Gate + Sync,
+>(
+    rt: &R,
+    alloc: Global,
+    header: &Header,
+    site: Site,
+    parts: Parts<C, P, V, A>,
+    gate: &G,
+    stand: &Stand<'_>,
+) -> Ran<A>
+    requires header { IsHeader header.now }
+    requires setting { IsSetting J.setting }
+    requires site { J.setting ≡ begun_with D.Daemon.commands header.now site }
+    ensures ok { IfOk result.history (λ h. IsRun J.setting h) }
+    ensures differ { IfErr result.history (Stops (IsCaseOfRun J.setting)) }
+{
+    let Parts {
+        clocks,
+        spawner,
+        device,
+        delta,
+        resource,
+    } = parts;
+    let machine = site.machine;
+    let cell: HostCell<D, J> = match HostCell::new(alloc, header, site) {
+        Ok(cell) => cell,
+        Err(_) => {
+            stand.give_up(rt);
+            return Ran {
+                history: Err(CloseError::NoMemory),
+                delta,
+                resource,
+            };
+        }
+    };
+    let room = Room {
+        alloc,
+        machine,
+        geometry: header.geometry,
+        pace: pace_of(header),
+        cell,
+        children: Mutex::new(Children::new(alloc, spawner)),
+    };
+    let Threaded {
+        seats,
+        delta,
+        resource,
+    } = run_threads(rt, &room, stand, gate, clocks, device, delta, resource);
+    let failed = stand.post.has_failed(rt);
+    Ran {
+        history: close(room, failed, seats),
+        delta,
+        resource,
+    }
+}

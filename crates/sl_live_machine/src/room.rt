@@ -1,0 +1,31 @@
+//! What the threads of a machine work on together.
+//!
+//! The order of locks is: children, then the cell, then the post. None is held while a sector call is made.
+
+use sl_area::Geometry;
+use sl_cell::{HostCell, Station, Teller};
+use sl_live::Children;
+use sl_outside::Spawner;
+use std::alloc::Global;
+use std::sync::Mutex;
+use std::time::Duration;
+
+/// How often a machine's threads look by themselves.
+#[derive(Clone, Copy)]
+pub(crate) struct Pace {
+    /// Between two wakes: a quarter of an io timeout.
+    pub wake: Duration,
+    /// Between two tests: a sixth of the time after which the device fires.
+    pub test: Duration,
+}
+
+/// A machine's cell and children.
+#[derive(Drop)]
+pub(crate) struct Room<D: Teller, J: Station, P: Spawner> {
+    pub alloc: Global,
+    pub machine: u32,
+    pub geometry: Geometry,
+    pub pace: Pace,
+    pub cell: HostCell<D, J>,
+    pub children: Mutex<Children<P>>,
+}

@@ -1,0 +1,394 @@
+//! A machine's threads beside each other, by nested joins.
+//!
+//! None begins before all threads of the run are there. One that ends for want of memory ends all of them, on every machine.
+
+ghost use Rattle.sl_live.specs.Turns.{IsChildThread, IsDeviceThread, IsLineThread, IsTicker, IsWorker};
+ghost use Rattle.sl_live_machine.specs.Shapes.{AreSeats};
+ghost use Rattle.std.specs.Prelude.{IfOk, ◌≡◌};
+ghost use denote.Param.Send.{IsSend, IsSync};
+
+use crate::children::tell_exits;
+use crate::device::keep_alive;
+use crate::lines::give_lines;
+use crate::post::{Post, fail_all};
+use crate::roll::Roll;
+use crate::room::Room;
+use crate::ticker::tick;
+use crate::worker::work;
+use sl_area::Area;
+use sl_cell::{Part, Seat, Station, Teller};
+use sl_live::Disk;
+use sl_outside::{Device, Gate, Spawner};
+use sl_time::Clock;
+use std::alloc::{AllocError, Global};
+use std::sync::Wait;
+use std::thread::{Threads, join};
+use std::time;
+
+/// The clocks of a machine's threads.
+#[derive(Drop)]
+pub struct Clocks<C: Clock> {
+    pub ticks: C,
+    pub delta: C,
+    pub resource: C,
+    pub exits: C,
+    pub tests: C,
+    pub lines: C,
+}
+
+/// Where a machine stands in its run: the roll of all threads, the posts of all machines, and its own post.
+#[derive(Clone, Copy)]
+pub struct Stand<'a> {
+    pub roll: &'a Roll,
+    pub posts: &'a [Post],
+    pub post: &'a Post,
+}
+
+impl<'a> Stand<'a> {
+    /// Waits for all threads. An `Err` is for threads that can't be made: then all are to end.
+    fn enter<R: Wait + time::Clock>(&self, rt: &R) -> Result<(), AllocError> {
+        if self.roll.enter(rt) {
+            Ok(())
+        } else {
+            fail_all(rt, self.posts);
+            Err(AllocError)
+        }
+    }
+
+    /// The machine's threads won't come: all are to end.
+    pub fn give_up<R: Wait>(&self, rt: &R) {
+        self.roll.give_up(rt);
+        fail_all(rt, self.posts);
+    }
+
+    /// What a thread ended with. Where there was no memory, all threads are to end.
+    fn ended<R: Wait>(&self, rt: &R, seat: Result<Seat, AllocError>) -> Result<Seat, AllocError>
+        ensures { result ≡ seat }
+    {
+        if seat.is_err() {
+            fail_all(rt, self.posts);
+        }
+        seat
+    }
+}
+
+/// The ticker.
+fn ticker<D: Teller, J: Station, R: Wait + time::Clock, C: Clock, P: Spawner>(
+    rt: &R,
+    room: &Room<D, J, P>,
+    stand: &Stand<'_>,
+    clock: C,
+) -> Result<Seat, AllocError>
+    ensures { IfOk result (λ s. IsTicker s.calls) }
+{
+    stand.enter(rt)?;
+    stand.ended(rt, tick(rt, room, stand.post, clock))
+}
+
+/// The line thread.
+fn line_thread<D: Teller, J: Station, R: Wait + time::Clock, C: Clock, P: Spawner>(
+    rt: &R,
+    room: &Room<D, J, P>,
+    stand: &Stand<'_>,
+    clock: C,
+) -> Result<Seat, AllocError>
+    ensures { IfOk result (λ s. IsLineThread s.calls) }
+{
+    stand.enter(rt)?;
+    stand.ended(rt, give_lines(rt, room, stand.post, clock))
+}
+
+/// The child thread. Where there was no memory, it kills the children that run.
+fn child_thread<D: Teller, J: Station, R: Wait + time::Clock, C: Clock, P: Spawner>(
+    rt: &R,
+    room: &Room<D, J, P>,
+    stand: &Stand<'_>,
+    clock: C,
+) -> Result<Seat, AllocError>
+    ensures { IfOk result (λ s. IsChildThread s.calls) }
+{
+    stand.enter(rt)?;
+    let seat = stand.ended(rt, tell_exits(rt, room, stand.post, clock));
+    if stand.post.has_failed(rt) {
+        room.children.lock(rt).kill();
+    }
+    seat
+}
+
+/// The device thread.
+fn device_thread<D: Teller, J: Station, R: Wait + time::Clock, C: Clock, P: Spawner, V: Device>(
+    rt: &R,
+    room: &Room<D, J, P>,
+    stand: &Stand<'_>,
+    clock: C,
+    device: V,
+) -> Result<Seat, AllocError>
+    ensures { IfOk result (λ s. IsDeviceThread s.calls) }
+{
+    stand.enter(rt)?;
+    stand.ended(rt, keep_alive(rt, room, stand.post, clock, device))
+}
+
+/// A worker's seat, and its disks back.
+#[derive(Drop)]
+pub(crate) struct Worked<A: Area> {
+    pub seat: Result<Seat, AllocError>,
+    pub disks: Vec<Disk<A>>,
+}
+
+/// A worker of a part, with its clock and its disks.
+#[derive(Drop)]
+pub(crate) struct Tools<C: Clock, A: Area> {
+    pub part: Part,
+    pub clock: C,
+    pub disks: Vec<Disk<A>>,
+}
+
+/// A worker.
+fn worker<D: Teller, J: Station, R: Wait + time::Clock, C: Clock, P: Spawner, A: Area, G: Gate>(
+    rt: &R,
+    room: &Room<D, J, P>,
+    stand: &Stand<'_>,
+    gate: &G,
+    tools: Tools<C, A>,
+) -> Worked<A>
+    ensures { IfOk result.seat (λ s. IsWorker s.calls) }
+{
+    let Tools {
+        part,
+        clock,
+        mut disks,
+    } = tools;
+    let seat = match stand.enter(rt) {
+        Ok(()) => stand.ended(
+            rt,
+            work(rt, room, stand.post, gate, part, clock, &mut disks),
+        ),
+        Err(error) => Err(error),
+    };
+    Worked { seat, disks }
+}
+
+/// Both workers.
+fn workers<
+    D: Teller + Send,
+    J: Station + Send + Sync,
+    R: Threads + Wait + time::Clock + Sync,
+    C: Clock + Send,
+    P: Spawner + Send,
+    A: Area + Send,
+    G: Gate + Sync,
+>(
+    rt: &R,
+    room: &Room<D, J, P>,
+    stand: &Stand<'_>,
+    gate: &G,
+    delta: Tools<C, A>,
+    resource: Tools<C, A>,
+) -> (Worked<A>, Worked<A>)
+    ensures delta { IfOk result.0.seat (λ s. IsWorker s.calls) }
+    ensures resource { IfOk result.1.seat (λ s. IsWorker s.calls) }
+{
+    join(
+        rt,
+        || worker(rt, room, stand, gate, delta),
+        || worker(rt, room, stand, gate, resource),
+    )
+}
+
+/// The threads that give what the clock and the script give.
+fn givers<
+    D: Teller + Send,
+    J: Station + Send + Sync,
+    R: Threads + Wait + time::Clock + Sync,
+    C: Clock + Send,
+    P: Spawner + Send,
+>(
+    rt: &R,
+    room: &Room<D, J, P>,
+    stand: &Stand<'_>,
+    ticks: C,
+    lines: C,
+) -> (Result<Seat, AllocError>, Result<Seat, AllocError>)
+    ensures ticks { IfOk result.0 (λ s. IsTicker s.calls) }
+    ensures lines { IfOk result.1 (λ s. IsLineThread s.calls) }
+{
+    join(
+        rt,
+        || ticker(rt, room, stand, ticks),
+        || line_thread(rt, room, stand, lines),
+    )
+}
+
+/// The threads that look after the children.
+fn watchers<
+    D: Teller + Send,
+    J: Station + Send + Sync,
+    R: Threads + Wait + time::Clock + Sync,
+    C: Clock + Send,
+    P: Spawner + Send,
+    V: Device + Send,
+>(
+    rt: &R,
+    room: &Room<D, J, P>,
+    stand: &Stand<'_>,
+    exits: C,
+    tests: C,
+    device: V,
+) -> (Result<Seat, AllocError>, Result<Seat, AllocError>)
+    ensures exits { IfOk result.0 (λ s. IsChildThread s.calls) }
+    ensures tests { IfOk result.1 (λ s. IsDeviceThread s.calls) }
+{
+    join(
+        rt,
+        || child_thread(rt, room, stand, exits),
+        || device_thread(rt, room, stand, tests, device),
+    )
+}
+
+/// What a thread that is no worker ends with.
+type Ending = Result<Seat, AllocError>;
+
+/// All threads but the workers.
+fn others<
+    D: Teller + Send,
+    J: Station + Send + Sync,
+    R: Threads + Wait + time::Clock + Sync,
+    C: Clock + Send,
+    P: Spawner + Send,
+    V: Device + Send,
+>(
+    rt: &R,
+    room: &Room<D, J, P>,
+    stand: &Stand<'_>,
+    ticks: C,
+    lines: C,
+    exits: C,
+    tests: C,
+    device: V,
+) -> (Ending, Ending, Ending, Ending)
+    ensures ticks { IfOk result.0 (λ s. IsTicker s.calls) }
+    ensures lines { IfOk result.1 (λ s. IsLineThread s.calls) }
+    ensures exits { IfOk result.2 (λ s. IsChildThread s.calls) }
+    ensures tests { IfOk result.3 (λ s. IsDeviceThread s.calls) }
+{
+    let ((ticks, lines), (exits, tests)) = join(
+        rt,
+        || givers(rt, room, stand, ticks, lines),
+        || watchers(rt, room, stand, exits, tests, device),
+    );
+    (ticks, lines, exits, tests)
+}
+
+/// The seats of a machine's threads.
+#[derive(Drop)]
+struct Ended {
+    ticks: Result<Seat, AllocError>,
+    delta: Result<Seat, AllocError>,
+    resource: Result<Seat, AllocError>,
+    exits: Result<Seat, AllocError>,
+    tests: Result<Seat, AllocError>,
+    lines: Result<Seat, AllocError>,
+}
+
+/// The seats of all threads, if none ended for want of memory, and there is memory for the list.
+#[tactic(auto, using(crate::proofs::RunLaws::are_seats))]
+fn gather(alloc: Global, ended: Ended) -> Result<Vec<Seat>, AllocError>
+    requires ticks { IfOk ended.ticks (λ s. IsTicker s.calls) }
+    requires delta { IfOk ended.delta (λ s. IsWorker s.calls) }
+    requires resource { IfOk ended.resource (λ s. IsWorker s.calls) }
+    requires exits { IfOk ended.exits (λ s. IsChildThread s.calls) }
+    requires tests { IfOk ended.tests (λ s. IsDeviceThread s.calls) }
+    requires lines { IfOk ended.lines (λ s. IsLineThread s.calls) }
+    ensures { IfOk result (λ v. AreSeats v.items) }
+{
+    let Ended {
+        ticks,
+        delta,
+        resource,
+        exits,
+        tests,
+        lines,
+    } = ended;
+    let (ticks, delta, resource) = (ticks?, delta?, resource?);
+    let (exits, tests, lines) = (exits?, tests?, lines?);
+    Ok(vec![in alloc; ticks, delta, resource, exits, tests, lines]?)
+}
+
+/// What the threads of a machine have left: their seats, and the workers' disks.
+#[derive(Drop)]
+pub(crate) struct Threaded<A: Area> {
+    pub seats: Result<Vec<Seat>, AllocError>,
+    pub delta: Vec<Disk<A>>,
+    pub resource: Vec<Disk<A>>,
+}
+
+/// Runs the threads of a machine until all have ended.
+pub(crate) fn run_threads<
+    D: Teller + Send,
+    J: Station + Send + Sync,
+    R: Threads + Wait + time::Clock + Sync,
+    C: Clock + Send,
+    P: Spawner + Send,
+    V: Device + Send,
+    A: Area + Send,
+    G: Gate + Sync,
+>(
+    rt: &R,
+    room: &Room<D, J, P>,
+    stand: &Stand<'_>,
+    gate: &G,
+    clocks: Clocks<C>,
+    device: V,
+    delta: Vec<Disk<A>>,
+    resource: Vec<Disk<A>>,
+) -> Threaded<A>
+    ensures { IfOk result.seats (λ v. AreSeats v.items) }
+{
+    let Clocks {
+        ticks,
+        delta: delta_clock,
+        resource: resource_clock,
+        exits,
+        tests,
+        lines,
+    } = clocks;
+    let delta = Tools {
+        part: Part::Delta,
+        clock: delta_clock,
+        disks: delta,
+    };
+    let resource = Tools {
+        part: Part::Resource,
+        clock: resource_clock,
+        disks: resource,
+    };
+    let ((delta, resource), (ticks, lines, exits, tests)) = join(
+        rt,
+        ||
+            requires { IsSend D.row × IsSend J.row × IsSync J.row × IsSync R.row × IsSend C.row × IsSend P.row × IsSend A.row × IsSync G.row }
+        { workers(rt, room, stand, gate, delta, resource) },
+        || others(rt, room, stand, ticks, lines, exits, tests, device),
+    );
+    let Worked {
+        seat: delta,
+        disks: delta_disks,
+    } = delta;
+    let Worked {
+        seat: resource,
+        disks: resource_disks,
+    } = resource;
+    let ended = Ended {
+        ticks,
+        delta,
+        resource,
+        exits,
+        tests,
+        lines,
+    };
+    Threaded {
+        seats: gather(room.alloc, ended),
+        delta: delta_disks,
+        resource: resource_disks,
+    }
+}

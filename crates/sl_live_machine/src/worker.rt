@@ -1,0 +1,86 @@
+//! A worker: it takes the calls of its part one after another, makes each, and gives its answer.
+
+ghost use Rattle.sl_live.specs.Turns.{IsWorker};
+ghost use Rattle.std.specs.Prelude.{IfOk, OnOk};
+
+use crate::post::Post;
+use crate::room::Room;
+use crate::turn::give;
+use sl_area::Area;
+use sl_cell::{Part, Seat, Station, Teller};
+use sl_live::Disk;
+use sl_live::laws::sector_step;
+use sl_outside::{Gate, Spawner};
+use sl_time::Clock;
+use sl_trace::{Answer, Call, Input};
+use std::alloc::AllocError;
+use std::sync::Wait;
+
+/// Makes a call, with the gate round it. An `Err` is want of memory.
+fn make<D: Teller, J: Station, P: Spawner, A: Area, G: Gate>(
+    room: &Room<D, J, P>,
+    gate: &G,
+    call: &Call,
+    disks: &mut [Disk<A>],
+) -> Result<Answer, AllocError> {
+    gate.enter(room.machine, call.number);
+    let answer = sector_step(room.alloc, &room.geometry, call, disks);
+    gate.left(room.machine, call.number);
+    answer
+}
+
+/// Takes a call, if there is one, makes it, and gives its answer: whether there was one. An `Err` is want of memory.
+#[tactic(auto, using(crate::proofs::ShapeLaws::works_on, crate::proofs::ShapeLaws::works_none))]
+fn serve<D: Teller, J: Station, R: Wait, C: Clock, P: Spawner, A: Area, G: Gate>(
+    rt: &R,
+    room: &Room<D, J, P>,
+    gate: &G,
+    part: Part,
+    seat: &mut Seat,
+    clock: &mut C,
+    disks: &mut [Disk<A>],
+) -> Result<bool, AllocError>
+    ensures { OnOk result (IsWorker seat.old.calls → IsWorker seat.new.calls) }
+{
+    seat.reserve(1)?;
+    let Some(call) = room.cell.take(rt, seat, part) else {
+        return Ok(false);
+    };
+    let answer = make(room, gate, &call, disks)?;
+    let input = Input::Answer {
+        call: call.number,
+        answer,
+    };
+    give(rt, room, seat, clock, input)?;
+    Ok(true)
+}
+
+/// Makes calls until the machine ends. An `Err` is want of memory.
+#[tactic(auto, using(crate::proofs::ShapeLaws::no_turns))]
+pub(crate) fn work<D: Teller, J: Station, R: Wait, C: Clock, P: Spawner, A: Area, G: Gate>(
+    rt: &R,
+    room: &Room<D, J, P>,
+    post: &Post,
+    gate: &G,
+    part: Part,
+    mut clock: C,
+    disks: &mut [Disk<A>],
+) -> Result<Seat, AllocError>
+    ensures { IfOk result (λ s. IsWorker s.calls) }
+{
+    let mut seat = room.cell.seat();
+    let bell = post.worker(part);
+    for _ in rt.forever() {
+        let seen = bell.moves(rt);
+        if !post.begin_turn(rt) {
+            break;
+        }
+        let from = seat.calls().len();
+        let served = serve(rt, room, gate, part, &mut seat, &mut clock, disks)?;
+        post.end_turn(rt, seat.calls(), from)?;
+        if !served {
+            bell.wait_past(rt, seen);
+        }
+    }
+    Ok(seat)
+}
