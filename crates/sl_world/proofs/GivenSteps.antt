@@ -20,7 +20,7 @@ use Rattle.sl_trace.specs.declared.command.Command.{Command}
 use Rattle.sl_trace.specs.declared.effects.Effects.{Effects}
 use Rattle.sl_trace.specs.declared.input.Input.TheVariants.{Answer as Told, Exit, Line, Number, Spawned, Wake}
 use Rattle.sl_trace.specs.declared.input.Input.{Input}
-use Rattle.sl_world.specs.Allowing.{LeavesAt}
+use Rattle.sl_world.specs.Allowing.{LacksAt, LeavesAt}
 use Rattle.sl_world.specs.Giving.{IsGiven}
 use Rattle.sl_world.specs.Hosting.{HostStepped}
 use Rattle.sl_words.proofs.CaseLaws.{one_value, true_is_false}
@@ -30,7 +30,7 @@ use Rattle.std.proofs.Common.{ap, arith, refl, subst, sym, ◌∙◌}
 use Rattle.std.proofs.lemmas.Bool.Decides.{nat_tests}
 use Rattle.std.proofs.lemmas.Option.{slice_get-map}
 use Rattle.std.specs.List.{range_with_len}
-use Rattle.std.specs.Prelude.{Bool, Err, IfOk, List, None, Ok, OnOk, Option, Result, Some, false, if◌then◌else◌, length, map, nat_lt, not, option_map, slice_get, slice_set, true, ℕ, ◌-◌, ◌<◌, ◌^◌, ◌≡◌}
+use Rattle.std.specs.Prelude.{Bool, Err, IfOk, List, None, Ok, OnOk, Option, Result, Some, false, if◌then◌else◌, length, map, nat_lt, not, option_map, slice_get, slice_set, true, ℕ, ◌-◌, ◌<◌, ◌^◌, ◌≡◌, ◌≤◌}
 use Rattle.std.specs.Vec.{vec_len}
 
 -- ---- machines by their places
@@ -146,6 +146,23 @@ numbers_there locks k m a at call job s there =
       subst (λ n. n < 9223372036854773760) (sym (next_kept locks a).0 ∙ ap (λ (z : MachineState). z.next.call) one) call,
       subst (λ n. n < 9223372036854773760) (sym (next_kept locks a).1 ∙ ap (λ (z : MachineState). z.next.job) one) (below_test a.job 9223372036854773760 job),
     )
+
+-- Or they are not, where one of the two is not below the bound.
+pub numbers_lack : {L : Type 0} (locks : L → Locks) (k : Kept L) (m : ℕ) (a : Machine L) → machine_in (kept_state locks k) m ≡ Some (machine_state locks a)
+    → (a.flights.next < 9223372036854773760 → a.job < 9223372036854773760 → ⊥) → LacksAt (kept_state locks k) m
+numbers_lack locks k m a at none s there has =
+    let one = one_value s (machine_state locks a) (machine_in (kept_state locks k) m) there at in
+    none (subst (λ n. n < 9223372036854773760) (ap (λ (z : MachineState). z.next.call) one ∙ (next_kept locks a).0) has.0)
+    (subst (λ n. n < 9223372036854773760) (ap (λ (z : MachineState). z.next.job) one ∙ (next_kept locks a).1) has.1)
+
+is_below : (n m : ℕ) → n < m → nat_lt n m ≡ true
+is_below n m less = grind (arith, nat_tests, less)
+
+pub not_below : (n m : ℕ) → nat_lt n m ≡ false → n < m → ⊥
+not_below n m h less = true_is_false (sym (is_below n m less) ∙ h)
+
+pub none_below : (m n : ℕ) → m ≤ n → n < m → ⊥
+none_below m n most less = omega (arith, most, less)
 
 pub not_false : (b : Bool) → not b ≡ false → b ≡ true
 not_false true h = refl

@@ -33,6 +33,10 @@ AllCome commands stands k hosts e after running fx = (w : World) → WorldStands
 abbrev pub LeavesAt : KeptState → ℕ → Type 0
 LeavesAt k m = (s : MachineState) → machine_in k m ≡ Some s → HasNumbers s.next
 
+-- Or some number is not left.
+abbrev pub LacksAt : KeptState → ℕ → Type 0
+LacksAt k m = (s : MachineState) → machine_in k m ≡ Some s → HasNumbers s.next → ⊥
+
 -- While they are, this may come to the daemon of machine m.
 pub record MayGive {D : Type 0} (stands : D → Setting → Trace → Type 0) (k : KeptState) (hosts : List (Option D)) (m : ℕ) (i : Input) : Type 0 where
   pub ready : LeavesAt k m → IsReady stands k hosts m i

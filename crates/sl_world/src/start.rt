@@ -7,7 +7,7 @@ ghost use Rattle.sl_trace.specs.Traces.{no_effects};
 ghost use Rattle.sl_world.specs.Allowing.{AllCome, IsAllowed};
 ghost use Rattle.sl_world.specs.Giving.{IsSame};
 ghost use Rattle.sl_world_law.specs.Standing.{new_site};
-ghost use Rattle.std.specs.Prelude.{IfOk, OnErr, OnOk, Some, ◌≡◌};
+ghost use Rattle.std.specs.Prelude.{IfOk, None, OnErr, OnOk, Some, ◌≡◌};
 
 use crate::world::World;
 use sl_daemon::{Daemon, Site};
@@ -18,7 +18,8 @@ use std::alloc::AllocError;
 
 /// With what a daemon begins on a machine. An `Err` is of no machine.
 fn site_of<L: LockTable>(kept: &Kept<L>, machine: u32, name: Name) -> Result<Site, AllocError>
-    ensures { IfOk result (λ site. (s : MachineState) → machine_in (kept_state L.locks kept.now) machine ≡ Some s → site ≡ new_site machine name s) }
+    ensures site { IfOk result (λ site. (s : MachineState) → machine_in (kept_state L.locks kept.now) machine ≡ Some s → site ≡ new_site machine name s) }
+    ensures none { OnErr result (machine_in (kept_state L.locks kept.now) machine ≡ None) }
 {
     let alloc = *kept.machines.allocator();
     match kept.machine(machine) {

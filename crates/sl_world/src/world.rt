@@ -7,10 +7,10 @@
 ghost use Rattle.sl_kept.specs.Kept.{MachineState, machine_in};
 ghost use Rattle.sl_machine.specs.Keeping.{kept_state};
 ghost use Rattle.sl_time.specs.Times.{reading_of};
-ghost use Rattle.sl_world.specs.Allowing.{LeavesAt, MayGive};
+ghost use Rattle.sl_world.specs.Allowing.{LacksAt, LeavesAt, MayGive};
 ghost use Rattle.sl_world.specs.Giving.{IsSame};
 ghost use Rattle.sl_world.specs.Telling.{GivesTold};
-ghost use Rattle.std.specs.Prelude.{IfOk, OnErr, Some, true, ◌≡◌};
+ghost use Rattle.std.specs.Prelude.{IfOk, OnErr, Some, false, true, ◌≡◌};
 
 use crate::hosts::Hosts;
 use sl_daemon::Daemon;
@@ -41,7 +41,8 @@ const LEFT: u64 = (1 << 63) - 2048;
 
 /// Whether numbers are left for a step on a machine.
 pub(crate) fn has_numbers<L: LockTable>(kept: &Kept<L>, machine: u32) -> bool
-    ensures { result ≡ true → LeavesAt (kept_state L.locks kept.now) machine }
+    ensures left { result ≡ true → LeavesAt (kept_state L.locks kept.now) machine }
+    ensures lacks { result ≡ false → LacksAt (kept_state L.locks kept.now) machine }
 {
     match kept.machine(machine) {
         Some(found) => found.flights.next() < LEFT && found.job < LEFT,

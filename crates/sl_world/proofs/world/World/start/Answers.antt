@@ -20,7 +20,7 @@ start-requires-clause-place g c =
 pub start-requires-clause-site : goal.start-requires-clause-site
 start-requires-clause-site g c =
     setting_there g.D.Daemon.commands g.D.Daemon.stands (kept_state g.L.LockTable.locks c.args.self.now.kept) c.args.self.now.hosts c.args.machine c.args.name c.header.result.now c.in_ok-site-in-Some.site c.requires
-    (subst (λ n. IsTrue (is_name n)) c.as_slice.ensures c.in-Some.ensures.found.1) (c.header.ensures.exact ∙ ap (λ (z : KeptState). z.header) c.reserve_name.ensures.same) c.in_ok-site-in-Some.ensures
+    (subst (λ n. IsTrue (is_name n)) c.as_slice.ensures c.in-Some.ensures.found.1) (c.header.ensures.exact ∙ ap (λ (z : KeptState). z.header) c.reserve_name.ensures.same) c.in_ok-site-in-Some.ensures.site
 
 pub start-requires-in-Some-clause-new : goal.start-requires-in-Some-clause-new
 start-requires-in-Some-clause-new g c =
@@ -30,5 +30,5 @@ start-requires-in-Some-clause-new g c =
 pub returns-in_ok-start-in-Some-clause-ok : goal.returns-in_ok-start-in-Some-clause-ok
 returns-in_ok-start-in-Some-clause-ok g c =
     started_comes g.D.Daemon.commands g.D.Daemon.stands (kept_state g.L.LockTable.locks c.args.self.now.kept) c.args.self.now.hosts c.start.new.self c.args.machine c.args.name c.header.result.now c.in_ok-site-in-Some.site
-    (kept_state g.L.LockTable.locks c.start-in-Some.new.self) c.requires (subst (λ n. IsTrue (is_name n)) c.as_slice.ensures c.in-Some.ensures.found.1) (c.header.ensures.exact ∙ ap (λ (z : KeptState). z.header) c.reserve_name.ensures.same) c.in_ok-site-in-Some.ensures c.in_ok-start-in-Some.ensures.ok
+    (kept_state g.L.LockTable.locks c.start-in-Some.new.self) c.requires (subst (λ n. IsTrue (is_name n)) c.as_slice.ensures c.in-Some.ensures.found.1) (c.header.ensures.exact ∙ ap (λ (z : KeptState). z.header) c.reserve_name.ensures.same) c.in_ok-site-in-Some.ensures.site c.in_ok-start-in-Some.ensures.ok
     (c.start-in-Some.ensures ∙ started_kept g.L.LockTable.locks c.args.self.now.kept c.reserve_name.new.self c.args.machine c.args.name c.reserve_name.ensures.same)
