@@ -1,0 +1,91 @@
+//! A gate that holds a call of one thread until another's has left, and a disk in memory that both share.
+
+use crate::areas::small;
+use sl_area::Area;
+use sl_outside::{AreaPlan, Devices, Gate, LiveDevices, SharedDevices, SharedPlan, Turn, TurnGate};
+use std::alloc::Global;
+use std::io;
+use std::sync::Wait;
+use std::thread::{Threads, join_mut};
+use std::time::Clock;
+
+/// Reads the first sector of a disk; false where that fails.
+fn read_first<A: Area>(area: &mut A, sector: &mut [u8; 512]) -> bool {
+    match small() {
+        Ok(run) => area.read(run.delta_place(0, 1), 1, sector).is_ok(),
+        Err(_) => false,
+    }
+}
+
+/// Writes the first sector of a disk; false where that fails.
+fn write_first<A: Area>(area: &mut A, sector: &[u8; 512]) -> bool {
+    match small() {
+        Ok(run) => area.write(run.delta_place(0, 1), sector).is_ok(),
+        Err(_) => false,
+    }
+}
+
+/// Devices with a disk, a gate, and an area of the first machine's second worker whose first call fails.
+fn devices<R: Wait + Clock + Copy + Drop + Send + Sync>(
+    rt: &R,
+    alloc: Global,
+    gate: TurnGate<R>,
+) -> io::Result<SharedDevices<R>> {
+    let failing = AreaPlan {
+        machine: 1,
+        worker: 2,
+        failing: vec![in alloc; 1]?,
+    };
+    let plan = SharedPlan {
+        areas: vec![in alloc; failing]?,
+        spawners: Vec::new(alloc),
+        makes: Vec::new(alloc),
+        gate: Some(gate),
+    };
+    Ok(SharedDevices::new(*rt, alloc, plan))
+}
+
+/// The call of machine 1 is held until that of machine 2 has left. Whether its read and the other's write went well; whether it read what was
+/// written; whether the gate held it, and gave up; how two reads of an area went whose first call fails, and its faults.
+pub fn two_threads<R: Wait + Threads + Clock + Copy + Drop + Send + Sync>(
+    rt: &R,
+    alloc: Global,
+) -> io::Result<String> {
+    let held = Turn {
+        machine: 1,
+        call: 1,
+    };
+    let awaited = Turn {
+        machine: 2,
+        call: 1,
+    };
+    let seen = TurnGate::new(*rt, alloc, held, awaited)?;
+    let mut devices = devices(rt, alloc, seen.share()?)?;
+    let made = devices.make("f", "/d", 2048).is_ok();
+    let gate = devices.gate();
+    let mut first = devices.area(1, 1, "f/d");
+    let mut second = devices.area(2, 1, "f/d");
+    let mut sector = [9; 512];
+    let (read, written) = join_mut(
+        rt,
+        &mut || {
+            gate.enter(1, 1);
+            read_first(&mut first, &mut sector)
+        },
+        &mut || {
+            let done = write_first(&mut second, &[5; 512]);
+            gate.left(2, 1);
+            done
+        },
+    );
+    let same = sector == [5; 512];
+    let mut planned = devices.area(1, 2, "f/d");
+    let fails = read_first(&mut planned, &mut sector);
+    let again = read_first(&mut planned, &mut sector);
+    Ok(format!(in alloc;
+        "{made} {read} {written} {same} {} {} {fails} {again} {}",
+        seen.was_held(),
+        seen.gave_up(),
+        planned.faults()
+    )?)
+}
