@@ -1,19 +1,20 @@
 //! The lines of live machines. After want of memory a text is as it was.
 
-ghost use Rattle.sl_live_report.specs.LiveTexts.{count_replies, history_lines, last_lines, live_line, live_text, machine_lines, reply_lines};
-ghost use Rattle.sl_text.specs.Forms.{as_bytes};
-ghost use Rattle.sl_trace.specs.EffectTexts.{answer_words, machine_line};
+ghost use Rattle.sl_command.specs.Lines.{line_text};
+ghost use Rattle.sl_live_report.specs.LiveTexts.{count_replies, history_text, last_text, live_line, live_text, machine_texts, step_text};
+ghost use Rattle.sl_trace.specs.EffectTexts.{answer_words, reply_text};
 ghost use Rattle.std.specs.Prelude.{IfSome, OnErr, OnOk, sum_by, [], ◌++◌, ◌+◌, ◌∷◌, ◌≡◌};
 
 use sl_command::push_reply_text;
 use sl_run::Refusal;
 use sl_schedule::push_refusal_line;
 use sl_text::Seq;
-use sl_trace::{Entry, JobReply};
+use sl_text::write::push_line;
+use sl_trace::{Entry, JobReply, Reply};
 use std::alloc::AllocError;
 
 /// How a live script ended.
-#[derive(Clone, Copy, Debug, PartialEq, Eq)]
+#[derive(Clone, Copy)]
 pub enum Ending {
     /// It was read to its end.
     Whole,
@@ -23,20 +24,29 @@ pub enum Ending {
     Cut,
 }
 
-/// Adds the line of a reply.
-fn push_reply(out: &mut Vec<u8>, machine: usize, answer: &JobReply) -> Result<(), AllocError>
-    ensures { OnOk result (out.new.items ≡ out.old.items ++ as_bytes (machine_line machine (answer_words answer.now) ∷ [])) }
+/// Adds a space and the text of a reply.
+fn push_behind(out: &mut Vec<u8>, reply: &Reply) -> Result<(), AllocError>
+    ensures { OnOk result (out.new.items ≡ out.old.items ++ 32 ∷ reply_text reply.now) }
 {
-    let front = format!(in *out.allocator(); "{machine} reply {} ", answer.job)?;
+    out.push(b' ')?;
+    push_reply_text(out, reply)
+}
+
+/// Adds the line of a reply.
+#[tactic(auto, using(crate::proofs::LiveLaws::replies))]
+fn push_reply(out: &mut Vec<u8>, machine: usize, answer: &JobReply) -> Result<(), AllocError>
+    ensures { OnOk result (out.new.items ≡ out.old.items ++ line_text machine (answer_words answer.now)) }
+{
+    let front = format!(in *out.allocator(); "{machine} reply {}", answer.job)?;
     out.extend_from_slice(front.as_bytes())?;
-    push_reply_text(out, &answer.reply)?;
+    push_behind(out, &answer.reply)?;
     out.push(b'\n')?;
     Ok(())
 }
 
 /// Adds the lines of a step's replies.
 fn push_step(out: &mut Vec<u8>, machine: usize, entry: &Entry) -> Result<(), AllocError>
-    ensures { OnOk result (out.new.items ≡ out.old.items ++ as_bytes (reply_lines machine entry.now)) }
+    ensures { OnOk result (out.new.items ≡ out.old.items ++ step_text machine entry.now) }
 {
     for answer in entry.effects.replies.as_slice() {
         push_reply(out, machine, answer)?;
@@ -46,7 +56,7 @@ fn push_step(out: &mut Vec<u8>, machine: usize, entry: &Entry) -> Result<(), All
 
 /// Adds the lines of a history's replies.
 fn push_history(out: &mut Vec<u8>, machine: usize, history: &[Entry]) -> Result<(), AllocError>
-    ensures { OnOk result (out.new.items ≡ out.old.items ++ as_bytes (history_lines machine history.now)) }
+    ensures { OnOk result (out.new.items ≡ out.old.items ++ history_text machine history.now) }
 {
     for entry in history {
         push_step(out, machine, entry)?;
@@ -56,10 +66,12 @@ fn push_history(out: &mut Vec<u8>, machine: usize, history: &[Entry]) -> Result<
 
 /// Adds the lines of the histories of all machines, in order.
 fn push_machines(out: &mut Vec<u8>, histories: &[Seq<Entry>]) -> Result<(), AllocError>
-    ensures { OnOk result (out.new.items ≡ out.old.items ++ as_bytes (machine_lines 0 histories.now)) }
+    ensures { OnOk result (out.new.items ≡ out.old.items ++ machine_texts 0 histories.now) }
 {
-    for (before, history) in histories.iter().enumerate() {
-        push_history(out, before + 1, history.as_slice())?;
+    let mut before = 0usize;
+    for history in histories {
+        before += 1;
+        push_history(out, before, history.as_slice())?;
     }
     Ok(())
 }
@@ -88,19 +100,19 @@ fn count_all(histories: &[Seq<Entry>]) -> Option<u64>
 
 /// Adds the last line.
 fn push_live_line(out: &mut Vec<u8>, histories: &[Seq<Entry>]) -> Result<(), AllocError>
-    ensures { OnOk result (out.new.items ≡ out.old.items ++ as_bytes (live_line histories.now ∷ [])) }
+    ensures { OnOk result (out.new.items ≡ out.old.items ++ live_line histories.now ++ 10 ∷ []) }
 {
     let Some(replies) = count_all(histories) else {
         return Err(AllocError);
     };
     let machines = histories.len();
-    let line = format!(in *out.allocator(); "live machines {machines} replies {replies}\n")?;
-    out.extend_from_slice(line.as_bytes())
+    let line = format!(in *out.allocator(); "live machines {machines} replies {replies}")?;
+    push_line(out, line.as_bytes())
 }
 
 /// Adds what stands at the end, by how the script ended.
 fn push_last(out: &mut Vec<u8>, histories: &[Seq<Entry>], ending: Ending) -> Result<(), AllocError>
-    ensures { OnOk result (out.new.items ≡ out.old.items ++ as_bytes (last_lines histories.now ending)) }
+    ensures { OnOk result (out.new.items ≡ out.old.items ++ last_text histories.now ending) }
 {
     match ending {
         Ending::Whole => push_live_line(out, histories),
