@@ -1,0 +1,4 @@
+pub mod Clocks
+pub mod Areas
+pub mod Grounds
+pub mod Laws
