@@ -48,15 +48,15 @@ pub record IsReady {C P D A : Type 0} (last : C → ℕ) (running : P → List �
   pub parts : RunsOn last running since fire content h m p
 
 -- Each is ready, by its place.
-abbrev pub AreReady : {V C P D A : Type 0} → (C → ℕ) → (P → List ℕ) → (D → ℕ) → (D → ℕ) → (A → Option (List ℕ)) → Header → List (Prepared V C P D A) → Type 0
-AreReady {V} {C} {P} {D} {A} last running since fire content h ps =
-    (k : ℕ) (p : Prepared V C P D A) → slice_get ps k ≡ Some p → IsReady last running since fire content h (k + 1) p.site p.parts
+abbrev pub AreReady : {V C P D W G A : Type 0} → (C → ℕ) → (P → List ℕ) → (D → ℕ) → (D → ℕ) → (A → Option (List ℕ)) → Header → List (Prepared V C P D W G A) → Type 0
+AreReady {V} {C} {P} {D} {W} {G} {A} last running since fire content h ps =
+    (k : ℕ) (p : Prepared V C P D W G A) → slice_get ps k ≡ Some p → IsReady last running since fire content h (k + 1) p.site p.parts
 
 -- ---- all of them
 
 -- The header is the given one but for its clocks, and a header still; and each of its machines is ready.
-pub record IsGroundOf {V C P D A G : Type 0} (last : C → ℕ) (running : P → List ℕ) (since fire : D → ℕ) (content : A → Option (List ℕ))
-    (h : Header) (g : Ground V C P D A G) : Type 0 where
+pub record IsGroundOf {V C P D W G A : Type 0} (last : C → ℕ) (running : P → List ℕ) (since fire : D → ℕ) (content : A → Option (List ℕ))
+    (h : Header) (g : Ground V C P D W G A) : Type 0 where
   pub lawful : IsHeader g.header
   pub same : g.header ≡ record h { clocks = g.header.clocks }
   pub counted : length g.machines.items ≡ h.machines

@@ -1,3 +1,4 @@
+pub mod Causes
 pub mod Clocks
 pub mod Areas
 pub mod Grounds

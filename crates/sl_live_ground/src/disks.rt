@@ -2,11 +2,12 @@
 
 ghost use Rattle.sl_direct.specs.Steps.{Wrote};
 ghost use Rattle.sl_live_ground.specs.Areas.{AreLent, faults_in, first_writes};
+ghost use Rattle.sl_live_ground.specs.Causes.{Explains};
 ghost use Rattle.sl_live_ground.specs.declared.ground.NoGround.TheVariants.{AreaFault};
 ghost use Rattle.sl_outside.specs.Disks.{CountsBack};
 ghost use Rattle.sl_run.specs.Headers.{IsHeader};
-ghost use Rattle.sl_words.specs.Causes.{HasCause, Rose};
-ghost use Rattle.std.specs.Prelude.{Err, IfOk, [], ◌<◌, ◌+◌, ◌≡◌, ◌≤◌};
+ghost use Rattle.sl_words.specs.Causes.{HasCause};
+ghost use Rattle.std.specs.Prelude.{Err, IfErr, IfOk, OnOk, [], ◌<◌, ◌+◌, ◌≡◌, ◌≤◌};
 
 use crate::ground::NoGround;
 use crate::initial::{write_lockspaces, write_resources};
@@ -83,8 +84,8 @@ fn lend_each<V: LiveDevices>(
 ) -> Result<(), NoGround>
     requires header { IsHeader header.now }
     requires first { disks.old.items ≡ [] }
-    ensures ok { OnOk result (AreLent V.Devices.Area.content (first_writes header.now machine part) header.now.disks disks.new.items) }
-    ensures fault { result ≡ Err AreaFault → 0 < faults_in V.Devices.Area.faults disks.new.items }
+    ensures ok { OnOk result (AreLent V.Area.content (first_writes header.now machine part) header.now.disks disks.new.items) }
+    ensures fault { result ≡ Err AreaFault → 0 < faults_in V.Area.faults disks.new.items }
     ensures count { V.Devices.faults devices.new ≡ V.Devices.faults devices.old }
 {
     for disk in header.disks.as_slice() {
@@ -111,8 +112,8 @@ pub(crate) fn lend<V: LiveDevices>(
     devices: &mut V,
 ) -> Result<Vec<Disk<V::Area>>, NoGround>
     requires { IsHeader header.now }
-    ensures ok { IfOk result (λ disks. AreLent V.Devices.Area.content (first_writes header.now machine part) header.now.disks disks.items) }
-    ensures fault { result ≡ Err AreaFault → Rose (V.Devices.faults devices.old) (V.Devices.faults devices.new) }
+    ensures ok { IfOk result (λ disks. AreLent V.Area.content (first_writes header.now machine part) header.now.disks disks.items) }
+    ensures err { IfErr result (Explains (V.Devices.faults devices.old) (V.Devices.faults devices.new)) }
     ensures later { V.Devices.faults devices.old ≤ V.Devices.faults devices.new }
 {
     let mut disks = Vec::new(alloc);

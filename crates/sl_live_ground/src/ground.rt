@@ -1,10 +1,9 @@
 //! What a live run begins with.
 
+ghost use Rattle.sl_live_ground.specs.Causes.{Explains};
 ghost use Rattle.sl_live_ground.specs.Grounds.{IsGroundOf};
-ghost use Rattle.sl_live_ground.specs.declared.ground.NoGround.TheVariants.{AreaFault};
 ghost use Rattle.sl_run.specs.Headers.{IsHeader};
-ghost use Rattle.sl_words.specs.Causes.{Rose};
-ghost use Rattle.std.specs.Prelude.{Err, IfOk, ◌≡◌, ◌≤◌};
+ghost use Rattle.std.specs.Prelude.{IfErr, IfOk, ◌≤◌};
 
 use crate::clocks::{start_clocks, with_readings};
 use crate::disks::make_disks;
@@ -76,8 +75,8 @@ pub fn prepare<V: LiveDevices>(
     devices: &mut V,
 ) -> Result<Ground<V>, NoGround>
     requires { IsHeader header }
-    ensures ok { IfOk result (IsGroundOf V.Clock.last V.Spawner.running V.Device.last V.Device.fire V.Devices.Area.content header) }
-    ensures fault { result ≡ Err AreaFault → Rose (V.Devices.faults devices.old) (V.Devices.faults devices.new) }
+    ensures ok { IfOk result (IsGroundOf V.Clock.last V.Spawner.running V.Device.last V.Device.fire V.Area.content header) }
+    ensures err { IfErr result (Explains (V.Devices.faults devices.old) (V.Devices.faults devices.new)) }
     ensures later { V.Devices.faults devices.old ≤ V.Devices.faults devices.new }
 {
     make_disks(&header, folder, devices)?;

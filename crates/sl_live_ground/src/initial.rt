@@ -6,7 +6,7 @@ ghost use Rattle.sl_direct.specs.Steps.{Wrote};
 ghost use Rattle.sl_live_ground.specs.Areas.{delta_write, delta_writes, lockspace_writes_at, lockspaces_on, resource_writes_at, resources_on};
 ghost use Rattle.sl_run.specs.Headers.{IsHeader};
 ghost use Rattle.sl_words.specs.Causes.{HasCause};
-ghost use Rattle.std.specs.Prelude.{Contains, OnOk, [], ◌∷◌, ◌×◌, ◌≤◌};
+ghost use Rattle.std.specs.Prelude.{Contains, OnOk, [], ◌∷◌, ◌≤◌};
 
 use sl_area::Area;
 use sl_direct::{write_record, write_resource};

@@ -4,15 +4,14 @@
 //! that has none begins with no session, under a name that was drawn for it.
 
 ghost use Rattle.sl_live_ground.specs.Areas.{AreLent, first_writes};
+ghost use Rattle.sl_live_ground.specs.Causes.{Explains};
 ghost use Rattle.sl_live_ground.specs.Clocks.{AreTicks, as_first};
 ghost use Rattle.sl_live_ground.specs.Grounds.{AreReady, IsReady, IsSiteOf, RunsOn, drawn_site};
-ghost use Rattle.sl_live_ground.specs.declared.ground.NoGround.TheVariants.{AreaFault};
 ghost use Rattle.sl_cell.specs.declared.seat.Part.TheVariants.{Delta, Resource};
 ghost use Rattle.sl_kept.specs.FirstKept as first_kept;
 ghost use Rattle.sl_run.specs.Headers.{IsHeader};
 ghost use Rattle.sl_run.specs.Worlds.{clock_reading};
-ghost use Rattle.sl_words.specs.Causes.{Rose};
-ghost use Rattle.std.specs.Prelude.{Err, IfOk, OnOk, [], length, ℕ, ◌≡◌, ◌≤◌};
+ghost use Rattle.std.specs.Prelude.{IfErr, IfOk, OnOk, [], length, ◌≡◌, ◌≤◌};
 
 use crate::clocks::TICKS;
 use crate::disks::{give_back, lend, take_back};
@@ -31,12 +30,10 @@ use sl_world::{first_site, session_of};
 use std::alloc::{AllocError, Global};
 use std::collections::VecDeque;
 
-/// The daemon of a machine without a session: its name is drawn.
-fn drawn_site<V: LiveDevices>(alloc: Global, machine: u32, devices: &mut V) -> Site
-    ensures site { (bits : ℕ) × (result ≡ drawn_site machine bits) }
-    ensures count { V.Devices.faults devices.new ≡ V.Devices.faults devices.old }
+/// With what the daemon of a machine without a session begins: under the name that these bits give.
+fn drawn_site(alloc: Global, machine: u32, bits: u128) -> Site
+    ensures { result ≡ drawn_site machine bits }
 {
-    let bits = devices.words(machine).bits();
     Site {
         machine,
         name: default_name(bits),
@@ -57,7 +54,10 @@ fn site_of<V: LiveDevices>(
 {
     match session_of(header, machine) {
         Some(session) => first_site(alloc, header, machine, session),
-        None => Ok(drawn_site(alloc, machine, devices)),
+        None => {
+            let bits = devices.words(machine).bits();
+            Ok(drawn_site(alloc, machine, bits))
+        }
     }
 }
 
@@ -71,9 +71,9 @@ fn parts_of<V: LiveDevices>(
     devices: &mut V,
 ) -> Parts<V::Clock, V::Spawner, V::Device, V::Area>
     requires ticks { clock_reading header.now machine ≡ as_first (V.Clock.last ticks) }
-    requires delta { AreLent V.Devices.Area.content (first_writes header.now machine Delta) header.now.disks delta.items }
-    requires resource { AreLent V.Devices.Area.content (first_writes header.now machine Resource) header.now.disks resource.items }
-    ensures runs { RunsOn V.Clock.last V.Spawner.running V.Device.last V.Device.fire V.Devices.Area.content header.now machine result }
+    requires delta { AreLent V.Area.content (first_writes header.now machine Delta) header.now.disks delta.items }
+    requires resource { AreLent V.Area.content (first_writes header.now machine Resource) header.now.disks resource.items }
+    ensures runs { RunsOn V.Clock.last V.Spawner.running V.Device.last V.Device.fire V.Area.content header.now machine result }
     ensures count { V.Devices.faults devices.new ≡ V.Devices.faults devices.old }
 {
     let now = clock_reading(header, machine);
@@ -104,9 +104,9 @@ fn prepare_machine<V: LiveDevices>(
 ) -> Result<Prepared<V>, NoGround>
     requires header { IsHeader header.now }
     requires ticks { clock_reading header.now machine ≡ as_first (V.Clock.last ticks) }
-    ensures ok { IfOk result (λ p. IsReady V.Clock.last V.Spawner.running V.Device.last V.Device.fire V.Devices.Area.content header.now machine
+    ensures ok { IfOk result (λ p. IsReady V.Clock.last V.Spawner.running V.Device.last V.Device.fire V.Area.content header.now machine
         p.site p.parts) }
-    ensures fault { result ≡ Err AreaFault → Rose (V.Devices.faults devices.old) (V.Devices.faults devices.new) }
+    ensures err { IfErr result (Explains (V.Devices.faults devices.old) (V.Devices.faults devices.new)) }
     ensures later { V.Devices.faults devices.old ≤ V.Devices.faults devices.new }
 {
     let site = site_of(alloc, header, machine, devices)?;
@@ -137,8 +137,8 @@ fn prepare_each<V: LiveDevices>(
     requires each { length clocks.items ≡ header.now.machines }
     requires first { machines.old.items ≡ [] }
     ensures each { OnOk result (length machines.new.items ≡ header.now.machines) }
-    ensures ready { OnOk result (AreReady V.Clock.last V.Spawner.running V.Device.last V.Device.fire V.Devices.Area.content header.now machines.new.items) }
-    ensures fault { result ≡ Err AreaFault → Rose (V.Devices.faults devices.old) (V.Devices.faults devices.new) }
+    ensures ready { OnOk result (AreReady V.Clock.last V.Spawner.running V.Device.last V.Device.fire V.Area.content header.now machines.new.items) }
+    ensures err { IfErr result (Explains (V.Devices.faults devices.old) (V.Devices.faults devices.new)) }
     ensures later { V.Devices.faults devices.old ≤ V.Devices.faults devices.new }
 {
     let mut clocks = clocks;
@@ -183,8 +183,8 @@ pub(crate) fn prepare_all<V: LiveDevices>(
     requires ticks { AreTicks V.Clock.last header.now 1 clocks.items }
     requires each { length clocks.items ≡ header.now.machines }
     ensures each { IfOk result (λ machines. length machines.items ≡ header.now.machines) }
-    ensures ready { IfOk result (λ machines. AreReady V.Clock.last V.Spawner.running V.Device.last V.Device.fire V.Devices.Area.content header.now machines.items) }
-    ensures fault { result ≡ Err AreaFault → Rose (V.Devices.faults devices.old) (V.Devices.faults devices.new) }
+    ensures ready { IfOk result (λ machines. AreReady V.Clock.last V.Spawner.running V.Device.last V.Device.fire V.Area.content header.now machines.items) }
+    ensures err { IfErr result (Explains (V.Devices.faults devices.old) (V.Devices.faults devices.new)) }
     ensures later { V.Devices.faults devices.old ≤ V.Devices.faults devices.new }
 {
     let mut machines = Vec::new(alloc);
