@@ -125,11 +125,10 @@ ticks_from : {C : Type 0} (last : C → ℕ) (h : Header) (m : ℕ) (cs : List C
 ticks_from last h m [] same = tt
 ticks_from last h m (c ∷ cs) same =
     let here : found m h.clocks ≡ Some (reading_of last m c) =
-    same m (refl_le m) ∙ first_found (m == m) (reading_of last m c) (found m (readings_from last (m + 1) cs)) (number_itself m) in
-    (
+    same m (refl_le m) ∙ first_found (m == m) (reading_of last m c) (found m (readings_from last (m + 1) cs)) (number_itself m) in (
       ap (λ o. option_map_or (λ (r : FirstReading). r.reading) o 0) here,
       ticks_from last h (m + 1) cs (λ k le.
-      same k (omega (arith, le)) ∙ not_found (m == k) (reading_of last m c) (found k (readings_from last (m + 1) cs)) (is_other m k le)),
+          same k (omega (arith, le)) ∙ not_found (m == k) (reading_of last m c) (found k (readings_from last (m + 1) cs)) (is_other m k le)),
     )
 
 pub ticks_with : {C : Type 0} (last : C → ℕ) (cs : List C) (h : Header) → AreTicks last (with_readings (readings_from last 1 cs) h) 1 cs

@@ -34,11 +34,7 @@ fn write_delta<A: Area>(
 }
 
 /// Writes the records of all ids.
-fn write_deltas<A: Area>(
-    header: &Header,
-    line: &LockspaceLine,
-    area: &mut A,
-) -> Result<(), Failed>
+fn write_deltas<A: Area>(header: &Header, line: &LockspaceLine, area: &mut A) -> Result<(), Failed>
     requires header { IsHeader header.now }
     requires line { Contains header.now.lockspaces line.now }
     ensures ok { OnOk result (Wrote (delta_writes header.now line.now) (A.content area.old) (A.content area.new)) }
@@ -98,7 +94,13 @@ fn write_resource_at<A: Area>(
     ensures cause { HasCause (A.faults area.old) (A.faults area.new) result }
 {
     if line.path == path {
-        write_resource(area, header.geometry, line.lockspace, line.name, line.offset)
+        write_resource(
+            area,
+            header.geometry,
+            line.lockspace,
+            line.name,
+            line.offset,
+        )
     } else {
         Ok(())
     }

@@ -18,8 +18,8 @@ loop-before-init g c =
 pub returns-in_err-reserve-clause-err : goal.returns-in_err-reserve-clause-err
 returns-in_err-reserve-clause-err g c = handed_on c.from_residual.result NoMemory _ _ c.from_residual.ensures.1 tt
 
-pub prepare_machine-machine-requires-clause-ticks : goal.prepare_machine-machine-requires-clause-ticks
-prepare_machine-machine-requires-clause-ticks g c =
+pub prepare_machine-requires-clause-ticks : goal.prepare_machine-requires-clause-ticks
+prepare_machine-requires-clause-ticks g c lives within =
     (ticks_first g.V.Clock.Clock.last c.args.header.now (c.loop-before.before + 1) c.loop-before.clocks.items c.in-Some.ticks c.pop_front.new.self.items c.in-Some.ensures.items
     c.loop-before.invariant.left).0
 
@@ -27,8 +27,8 @@ pub returns-in_err-machine-clause-err : goal.returns-in_err-machine-clause-err
 returns-in_err-machine-clause-err g c =
     let why = c.in_err-machine.field-0.0 in
     handed_on c.from_residual-in_err-machine.result why _ _ c.from_residual-in_err-machine.ensures.1
-    (explains_between why (g.V.Devices.faults c.args.devices.now) (g.V.Devices.faults c.loop-before.devices) (g.V.Devices.faults c.prepare_machine-machine.new.devices)
-    (g.V.Devices.faults c.prepare_machine-machine.new.devices) c.loop-before.invariant.later c.in_err-machine.ensures.err (refl_le _))
+    (explains_between why (g.V.Devices.faults c.args.devices.now) (g.V.Devices.faults c.loop-before.devices) (g.V.Devices.faults c.prepare_machine.new.devices)
+    (g.V.Devices.faults c.prepare_machine.new.devices) c.loop-before.invariant.later c.in_err-machine.ensures.err (refl_le _))
 
 pub loop-before-preserved : goal.loop-before-preserved
 loop-before-preserved g c =
@@ -37,7 +37,7 @@ loop-before-preserved g c =
     let each = i.each in
     let some = i.some in
     let before = i.later in
-    let later = c.prepare_machine-machine.ensures.later in
+    let later = c.prepare_machine.ensures.later in
     record {
       left = (ticks_first g.V.Clock.Clock.last c.args.header.now (c.loop-before.before + 1) c.loop-before.clocks.items c.in-Some.ticks c.pop_front.new.self.items c.in-Some.ensures.items
           i.left).1;

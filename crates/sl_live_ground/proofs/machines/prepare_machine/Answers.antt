@@ -11,10 +11,10 @@ returns-in_err-site-clause-err g c = handed_on c.from_residual.result NoMemory _
 pub returns-in_err-delta-clause-err : goal.returns-in_err-delta-clause-err
 returns-in_err-delta-clause-err g c =
     let why = c.in_err-delta.field-0.0 in
-    let same = c.site_of-site.ensures.count in
+    let same = c.site_of.ensures.count in
     handed_on c.from_residual-in_err-delta.result why _ _ c.from_residual-in_err-delta.ensures.1
-    (explains_between why (g.V.Devices.faults c.args.devices.now) (g.V.Devices.faults c.site_of-site.new.devices) (g.V.Devices.faults c.lend-delta.new.devices)
-    (g.V.Devices.faults c.lend-delta.new.devices) (omega (arith, same)) c.in_err-delta.ensures.err (refl_le _))
+    (explains_between why (g.V.Devices.faults c.args.devices.now) (g.V.Devices.faults c.site_of.new.devices) (g.V.Devices.faults c.lend.new.devices)
+    (g.V.Devices.faults c.lend.new.devices) (omega (arith, same)) c.in_err-delta.ensures.err (refl_le _))
 
 pub returns-in-Ok-clause-ok : goal.returns-in-Ok-clause-ok
 returns-in-Ok-clause-ok g c =
@@ -26,7 +26,7 @@ returns-in-Ok-clause-ok g c =
 
 pub returns-in-Err-clause-err : goal.returns-in-Err-clause-err
 returns-in-Err-clause-err g c =
-    let same = c.site_of-site.ensures.count in
-    let later = c.lend-delta.ensures.later in
-    explains_between c.in-Err.why (g.V.Devices.faults c.args.devices.now) (g.V.Devices.faults c.lend-delta.new.devices) (g.V.Devices.faults c.lend.new.devices)
+    let same = c.site_of.ensures.count in
+    let later = c.lend.ensures.later in
+    explains_between c.in-Err.why (g.V.Devices.faults c.args.devices.now) (g.V.Devices.faults c.lend.new.devices) (g.V.Devices.faults c.lend-2.new.devices)
     (g.V.Devices.faults c.take_back.new.devices) (omega (arith, same, later)) c.in-Err.ensures.err c.take_back.ensures.later
