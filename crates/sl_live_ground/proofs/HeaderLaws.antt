@@ -3,7 +3,6 @@ use Rattle.sl_live_ground.specs.Clocks.{AreTicks, as_first, readings_from, with_
 use Rattle.sl_plain.proofs.Lists.{contains_cases, contains_none}
 use Rattle.sl_plain.proofs.Numbers.{number_itself, one_further, plus_zero, refl_le}
 use Rattle.sl_run.specs.Headers.{IsArea, IsHeader}
-use Rattle.sl_run.specs.Worlds.{clock_reading}
 use Rattle.sl_run.specs.declared.header.FirstReading.{FirstReading}
 use Rattle.sl_run.specs.declared.header.Header.{Header}
 use Rattle.std.proofs.Common.{ap, arith, inl, inr, refl, subst, sym, ◌∙◌}
@@ -11,7 +10,7 @@ use Rattle.std.proofs.lemmas.Bool.Decides.{nat_tests}
 use Rattle.std.proofs.lemmas.List.Elements.{Contains-get_or}
 use Rattle.std.proofs.lemmas.List.Kept.{AllPairs-cons}
 use Rattle.std.specs.Option.{option_map_or}
-use Rattle.std.specs.Prelude.{All, AllPairs, Bool, Contains, List, None, Option, Some, false, find, if◌then◌else◌, length, suc, true, [], ℕ, ◌++◌, ◌+◌, ◌<◌, ◌==◌, ◌^◌, ◌∷◌, ◌≡◌, ◌≢◌, ◌≤◌, ◌⊎◌}
+use Rattle.std.specs.Prelude.{AllPairs, Bool, Contains, List, Option, Some, false, find, if◌then◌else◌, length, suc, true, [], ℕ, ◌++◌, ◌+◌, ◌<◌, ◌==◌, ◌^◌, ◌∷◌, ◌≡◌, ◌≢◌, ◌≤◌, ◌⊎◌}
 
 -- ---- readings
 
