@@ -1,0 +1,5 @@
+pub mod Told
+pub mod Fresh
+pub mod Hosts
+pub mod Whole
+pub mod Given
