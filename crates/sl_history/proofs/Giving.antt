@@ -3,3 +3,5 @@ pub mod Fresh
 pub mod Hosts
 pub mod Whole
 pub mod Given
+pub mod Stood
+pub mod Proven

@@ -139,7 +139,7 @@ says_by p h xs run r k l own read (By_call b is) =
 
 -- ---- what is given
 
-abbrev given_if : World → Option Landing → Option (Option Sent)
+abbrev pub given_if : World → Option Landing → Option (Option Sent)
 given_if w o = option_and_then (λ (l : Landing). choose l.whole (left_by w l)) o
 
 -- What a read gives of a host.
