@@ -9,7 +9,7 @@ use Rattle.sl_history.proofs.Giving.Told.{given_at, read_told}
 use Rattle.sl_history.proofs.Giving.Whole.{not_torn}
 use Rattle.sl_history.proofs.Resources.Calls.{found_read, owned}
 use Rattle.sl_history.proofs.Resources.Newest.{reads_show_newest}
-use Rattle.sl_history.proofs.Resources.Registers.{IsReadAt, answer_of_read, read_found}
+use Rattle.sl_history.proofs.Resources.AtSteps.{IsReadAt, answer_of_read, read_found}
 use Rattle.sl_history.proofs.Resources.Shown.{IsBlockLanding, IsShownOf, host_range, shown_of, writes_is}
 use Rattle.sl_history.specs.Resources.Histories.{counts_own, is_host, landing_shown, own_before, sector_number, shown_by, shows_by, step_of_landing}
 use Rattle.sl_history.specs.Resources.Orders.{BlockSent, Follows, ReadSent}

@@ -8,7 +8,7 @@ use Rattle.sl_run_law.proofs.Place.Proven.{promised}
 use Rattle.sl_run_law.proofs.Place.Reading.{IsRead, IsShown, call_law, read_of, sector_shown}
 use Rattle.sl_run_law.proofs.Place.Seats.{sized_in}
 use Rattle.sl_plain.proofs.Numbers.{both_next, one_further, plus_zero, zero_less}
-use Rattle.sl_history.proofs.Resources.Showing.{Seen, area_right, phase_right, sector_seen}
+use Rattle.sl_history.proofs.Resources.Showing.{area_right, phase_right}
 use Rattle.sl_run.specs.Events.{sectors_of}
 use Rattle.sl_run.specs.Runs.{Happening}
 use Rattle.sl_run.specs.Safety.{LawfulRun, world_at}
@@ -185,12 +185,3 @@ pub looked : (p : Program) (h : Header) (xs : List Happening) (m : ℕ) (a : Mac
 looked p h xs m a d q k bs given j b there =
     looked_by p h xs m a d q k bs
     (given_blocks (world_at p h xs).layout q bs (ap (λ g. blocks_given g q) (sym (look_layout p h xs m a d q k)) ∙ given)) j b there
-
--- It was written on the area before the answer, or is fresh.
-pub look_seen : (p : Program) (h : Header) (xs : List Happening) (m : ℕ) (a : Machine) (d : Daemon) (q : Submitted) (k : IsLook p h xs m a d q) (j : ℕ) (b : Block)
-    → (l : Looked p h xs m a d q j b) → Seen (world_at p h xs) (spot_of_call (world_at p h xs).layout q) b l.read.stamp.step
-look_seen p h xs m a d q k j b l =
-    let w : World = world_at p h xs in
-    sector_seen p h xs k.run (spot_of_call w.layout q) j (sector_of w.layout l.bytes l.sector) l.read.stamp.step b l.below l.spells
-    (subst (λ o. IsShown w q.call.path o (sector_of w.layout l.bytes l.sector) l.read.stamp.step) l.place
-    (sector_shown promised p h xs k.run m a d k.at q l.bytes l.read l.sector l.within))

@@ -104,11 +104,6 @@ first_fresh p h xs run path offset b read =
 
 -- ---- what a landing spells
 
--- A block that was written on the area before a step, or that never was.
-pub data Seen (w : World) (at : Spot) (b : Block) (n : ℕ) : Type 0 where
-  Never : history_block b ≡ no_block → Seen w at b n
-  Once : (z : Sent) → Contains (all_sent w) z → is_on w.layout at z.course.call ≡ true → block_of_course z.course ≡ Some b → step_of z < n → Seen w at b n
-
 pub block_in_is : (host : ℕ) (r : Result Rec Bad) (b : Block) → block_in host r ≡ Some b → (r ≡ Ok (BlockIs b)) × (b.host ≡ host)
 block_in_is host (Ok (DeltaIs e)) b h = absurd (none_some b h)
 block_in_is host (Ok (LeaderIs e)) b h = absurd (none_some b h)
@@ -130,33 +125,6 @@ pub block_inside : {s : Sizes} (g : Layout) (base j : ℕ) → IsSized s g → j
 block_inside g base j z lt =
     is_within g base (block_offset g base (j + 1)) (low_block base g.sector j)
     (slot_below g.sector base (j + 1 + 1) g.hosts g.area (sector_has_bytes g z) (two_above j g.hosts lt) z.room)
-
-wrote_it : (c : Course) (b : Block) (r : Rec) → record_of c.call.op ≡ Some r → r ≡ BlockIs b → block_of_course c ≡ Some b
-wrote_it c b r is same = ap (λ o. option_and_then block_of_record o) (is ∙ ap (λ x. Some x) same)
-
--- What a sector of a host shows is one of these.
-pub sector_seen : (p : Program) (h : Header) (xs : List Happening) → LawfulRun p h xs → (at : Spot) (j : ℕ) (bytes : List ℕ) (n : ℕ) (b : Block)
-    → j < (world_at p h xs).layout.hosts → block_in (j + 1) (record_in (world_at p h xs).layout bytes) ≡ Some b
-    → IsShown (world_at p h xs) at.path (block_offset (world_at p h xs).layout at.base (j + 1)) bytes n → Seen (world_at p h xs) at b n
-sector_seen p h xs run at j bytes n b lt spells s =
-    let w : World = world_at p h xs in
-    let z = sized_in p h xs run in
-    let read : record_in w.layout s.landing.bytes ≡ Ok (BlockIs b) =
-    subst (λ bs. record_in w.layout bs ≡ Ok (BlockIs b)) s.shows (block_in_is (j + 1) (record_in w.layout bytes) b spells).0 in
-    elim s.from as (λ y. Seen w at b n) [
-      | inl landed ↦
-          let k = promised.written p h xs run s.landing landed in
-          let back = reads_back promised p h xs run (sector_fits w.layout z) s.landing k.machine k.call k.wrote (BlockIs b) read in
-          let path : k.wrote.course.call.path ≡ at.path = k.wrote.place.0 ∙ s.place.0 in
-          let offset : block_offset w.layout at.base (j + 1) ≡ k.wrote.course.call.offset = sym s.place.1 ∙ sym k.wrote.place.1 in
-          Once (sent_as k.machine k.wrote.course) (sent_there w k.machine k.wrote.machine k.wrote.course k.wrote.at k.wrote.has)
-          (and_from _ _ ((bytes_eq-Decides k.wrote.course.call.path at.path).1 path)
-          (subst (λ o. in_area w.layout at.base o ≡ true) offset (block_inside w.layout at.base j z lt)))
-          (wrote_it k.wrote.course b k.wrote.record_written k.wrote.writes back)
-          (trans_lt k.wrote.course.made.step s.landing.step n k.wrote.after.0 s.early)
-      | inr first ↦
-          Never (first_fresh p h xs run at.path (block_offset w.layout at.base (j + 1)) b (subst (λ (y : Landing). record_in w.layout y.bytes ≡ Ok (BlockIs b)) first read))
-    ]
 
 -- ---- a read is at its place
 

@@ -11,7 +11,7 @@ use Rattle.sl_history.proofs.Resources.Landed.{joined_then}
 use Rattle.sl_history.proofs.Resources.Latest.{newest}
 use Rattle.sl_history.proofs.Resources.Newest.{reads_show_newest}
 use Rattle.sl_history.proofs.Resources.Owning.{same_is}
-use Rattle.sl_history.proofs.Resources.Registers.{IsBlockAt, IsReadAt, block_at, found_before, ok_is, read_found}
+use Rattle.sl_history.proofs.Resources.AtSteps.{IsBlockAt, IsReadAt, block_at, found_before, ok_is, read_found}
 use Rattle.sl_history.proofs.Resources.Standing.{standing}
 use Rattle.sl_history.proofs.Resources.Steps.{call_timed}
 use Rattle.sl_history.specs.Resources.Histories.{counts_own, is_host, landing_shown, own_before, shown_by, shows_by, shows_whole, step_of_landing}
