@@ -14,7 +14,7 @@ use Rattle.sl_history.proofs.Resources.Shown.{IsBlockLanding, IsShownOf, host_ra
 use Rattle.sl_history.specs.Resources.Histories.{counts_own, is_host, landing_shown, own_before, sector_number, shown_by, shows_by, step_of_landing}
 use Rattle.sl_history.specs.Resources.Orders.{BlockSent, Follows, ReadSent}
 use Rattle.sl_history.specs.Resources.Promises.{history_of_line, spot_of_line}
-use Rattle.sl_history.specs.Resources.Reads.{AgreesOn, Block_of, Nothing, ReadBlocks, ReadsAreGiven, step_given}
+use Rattle.sl_history.specs.Resources.Reads.{AgreesOn, Block_of, Nothing, ReadBlocks, ReadsAreGiven, shown_given, shows_given, step_given}
 use Rattle.sl_history.specs.Resources.Sending.{Sent, is_counted_read, read_at, reads_blocks, sender_of, step_of}
 use Rattle.sl_run.specs.Runs.{Happening}
 use Rattle.sl_run.specs.Safety.{LawfulRun, world_at}
@@ -131,48 +131,42 @@ agrees_at p h xs run r there n k host bs t =
 
 -- ---- as the history has it
 
-abbrev shows_of : World → ResourceLine → ℕ → Sent → Bool → Bool
-shows_of w r k z given = if given then true else counts_own w (spot_of_line r) z k
-
 shows_if : (w : World) (r : ResourceLine) (k : ℕ) (z : Sent) (o : Option Landing) → (if some_is (λ (l : Landing). l.whole) o then true else counts_own w (spot_of_line r) z k)
-    ≡ (if is_some (given_if w o) then true else counts_own w (spot_of_line r) z k)
+    ≡ shows_given w r k z (given_if w o)
 shows_if w r k z None = refl
 shows_if w r k z (Some l) = by l.whole where
-  by : (b : Bool) → (if b then true else counts_own w (spot_of_line r) z k) ≡ (if is_some (choose b (left_by w l)) then true else counts_own w (spot_of_line r) z k)
+  by : (b : Bool) → (if b then true else counts_own w (spot_of_line r) z k) ≡ shows_given w r k z (choose b (left_by w l))
   by true = refl
   by false = refl
 
-abbrev shown_as : World → ResourceLine → Sent → Option (Option Sent) → ℕ
-shown_as w r z o = elim o as (λ y. ℕ) [ Some from ↦ step_given from | None ↦ option_map_or step_of (own_before w (spot_of_line r) z) 0 ]
-
 shown_if : (w : World) (r : ResourceLine) (z : Sent) (o : Option Landing)
     → (if some_is (λ (l : Landing). l.whole) o then option_map_or (step_of_landing w) o 0 else option_map_or step_of (own_before w (spot_of_line r) z) 0)
-    ≡ shown_as w r z (given_if w o)
+    ≡ shown_given w r z (given_if w o)
 shown_if w r z None = refl
 shown_if w r z (Some l) = by l.whole where
-  by : (b : Bool) → (if b then step_of_landing w l else option_map_or step_of (own_before w (spot_of_line r) z) 0) ≡ shown_as w r z (choose b (left_by w l))
+  by : (b : Bool) → (if b then step_of_landing w l else option_map_or step_of (own_before w (spot_of_line r) z) 0) ≡ shown_given w r z (choose b (left_by w l))
   by true = left_step w l
   by false = refl
 
 shows_at : (p : Program) (h : Header) (xs : List Happening) (r : ResourceLine) (n k : ℕ) → is_host (world_at p h xs) k ≡ true → (z : Sent)
     → read_at (world_at p h xs) (spot_of_line r) r.lockspace n ≡ Some z
-    → (history_of_line p h xs r).shows n k ≡ shows_of (world_at p h xs) r k z (is_some (given_in (world_at p h xs) r n k))
+    → (history_of_line p h xs r).shows n k ≡ shows_given (world_at p h xs) r k z (given_in (world_at p h xs) r n k)
 shows_at p h xs r n k host z found =
     let w : World = world_at p h xs in
     let o : Option Landing = landing_shown w (spot_of_line r) z.course k in
     ap (λ q. some_is (shows_by w (spot_of_line r) k) q) found
     ∙ ap (λ b. if b then (if some_is (λ (l : Landing). l.whole) o then true else counts_own w (spot_of_line r) z k) else true) host ∙ shows_if w r k z o
-    ∙ ap (λ g. shows_of w r k z (is_some g)) (sym (given_found w r n k z found))
+    ∙ ap (shows_given w r k z) (sym (given_found w r n k z found))
 
 shown_at : (p : Program) (h : Header) (xs : List Happening) (r : ResourceLine) (n k : ℕ) → is_host (world_at p h xs) k ≡ true → (z : Sent)
     → read_at (world_at p h xs) (spot_of_line r) r.lockspace n ≡ Some z
-    → (history_of_line p h xs r).shown n k ≡ shown_as (world_at p h xs) r z (given_in (world_at p h xs) r n k)
+    → (history_of_line p h xs r).shown n k ≡ shown_given (world_at p h xs) r z (given_in (world_at p h xs) r n k)
 shown_at p h xs r n k host z found =
     let w : World = world_at p h xs in
     let o : Option Landing = landing_shown w (spot_of_line r) z.course k in
     ap (λ q. option_map_or (shown_by w (spot_of_line r) k) q 0) found
     ∙ ap (λ b. if b then (if some_is (λ (l : Landing). l.whole) o then option_map_or (step_of_landing w) o 0 else option_map_or step_of (own_before w (spot_of_line r) z) 0) else 0) host
-    ∙ shown_if w r z o ∙ ap (shown_as w r z) (sym (given_found w r n k z found))
+    ∙ shown_if w r z o ∙ ap (shown_given w r z) (sym (given_found w r n k z found))
 
 -- ---- all of it
 

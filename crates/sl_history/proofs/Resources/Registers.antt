@@ -7,7 +7,7 @@ use Rattle.sl_history.proofs.Resources.Shows.{has_none}
 use Rattle.sl_history.specs.Resources.Histories.{counts_own, history_block, is_host, no_block, own_before}
 use Rattle.sl_history.specs.Resources.Orders.{BlockSent}
 use Rattle.sl_history.specs.Resources.Promises.{HistoriesAreRegisters, history_of_line, spot_of_line}
-use Rattle.sl_history.specs.Resources.Reads.{ReadsGive, step_given}
+use Rattle.sl_history.specs.Resources.Reads.{ReadsGive, shown_given, shows_given}
 use Rattle.sl_history.specs.Resources.Sending.{Sent, all_sent, block_of_course, holder_of, sender_of, sent_at, step_of, writes_block}
 use Rattle.sl_run.specs.Runs.{Happening}
 use Rattle.sl_run.specs.Safety.{LawfulRun, world_at}
@@ -37,16 +37,10 @@ own_shows w r k x before late counts (Some y) is =
     let host = eqb-true (holder_of w (sender_of x)).id k (and_true ((holder_of w (sender_of x)).id == k) (is_some (own_before w (spot_of_line r) x)) counts).0 in
     Of_sent y b.sent b.on b.block (ap (λ i. (holder_of w i).id) (sym b.sender) ∙ host) refl (trans_lt (step_of y) (step_of x) before b.early late)
 
-abbrev shows_if : World → ResourceLine → ℕ → Sent → Option (Option Sent) → Bool
-shows_if w r k z given = if is_some given then true else counts_own w (spot_of_line r) z k
-
-abbrev shown_if : World → ResourceLine → Sent → Option (Option Sent) → ℕ
-shown_if w r z given = elim given as (λ y. ℕ) [ Some from ↦ step_given from | None ↦ option_map_or step_of (own_before w (spot_of_line r) z) 0 ]
-
 -- By what it was given of the host.
 given_shows : (p : Program) (h : Header) (xs : List Happening) (r : ResourceLine) (g : ReadsGive p h xs r) (n k : ℕ) (b : IsReadAt (world_at p h xs) r n)
     → n < (history_of_line p h xs r).answer n → is_host (world_at p h xs) k ≡ true → (o : Option (Option Sent)) → g.given n k ≡ o
-    → shows_if (world_at p h xs) r k b.sent o ≡ true → Showing (world_at p h xs) r k (shown_if (world_at p h xs) r b.sent o) ((history_of_line p h xs r).answer n)
+    → shows_given (world_at p h xs) r k b.sent o ≡ true → Showing (world_at p h xs) r k (shown_given (world_at p h xs) r b.sent o) ((history_of_line p h xs r).answer n)
 given_shows p h xs r g n k b late host None is counts =
     let w : World = world_at p h xs in
     own_shows w r k b.sent ((history_of_line p h xs r).answer n) (subst (λ m. m < (history_of_line p h xs r).answer n) (sym b.is.step_is) late) counts

@@ -4,7 +4,7 @@ use Rattle.sl_history.proofs.Resources.Above.{block_of_none, block_of_step}
 use Rattle.sl_history.specs.Resources.Histories.{counts_own, history_block, is_host, landing_shown, no_block, own_before, shown_by, shows_by, shows_whole, step_of_landing}
 use Rattle.sl_history.specs.Resources.Orders.{BlockSent}
 use Rattle.sl_history.specs.Resources.Promises.{history_of_line, spot_of_line}
-use Rattle.sl_history.specs.Resources.Reads.{AgreesOn, Block_of, Nothing, ReadBlocks, ReadsGive, Says, step_given}
+use Rattle.sl_history.specs.Resources.Reads.{AgreesOn, Block_of, Nothing, ReadBlocks, ReadsGive, Says, shown_given, shows_given, step_given}
 use Rattle.sl_history.specs.Resources.Sending.{Sent, all_sent, block_of_course, holder_of, read_at, sender_of, step_of}
 use Rattle.sl_run.specs.Runs.{Happening}
 use Rattle.sl_run.specs.Safety.{LawfulRun, world_at}
@@ -65,12 +65,6 @@ says_seen p h xs r n k bs o b (Some x) is says =
     let s : BlockSent (world_at p h xs) r k x = o.give.submitted n k reads o.host x is in
     Once x s.sent s.on says (o.give.earlier n k reads o.host x is)
 
-abbrev shows_of : World → ResourceLine → ℕ → Sent → Option (Option Sent) → Bool
-shows_of w r k z given = if is_some given then true else counts_own w (spot_of_line r) z k
-
-abbrev shown_as : World → ResourceLine → Sent → Option (Option Sent) → ℕ
-shown_as w r z given = elim given as (λ y. ℕ) [ Some from ↦ step_given from | None ↦ option_map_or step_of (own_before w (spot_of_line r) z) 0 ]
-
 has_block_by : (p : Program) (h : Header) (xs : List Happening) (r : ResourceLine) (n k : ℕ) (bs : List (Option Block)) (o : IsOf p h xs r n k bs) (b : Block)
     → slice_get bs (k - 1) ≡ Some (Some b) → AgreesOn k bs (o.give.given n k) → HasBlock p h xs r n k b
 has_block_by p h xs r n k bs o b taken (Nothing none given) = absurd (none_some b (some_value None (Some b) (sym none ∙ taken)))
@@ -79,8 +73,8 @@ has_block_by p h xs r n k bs o b taken (Block_of c from there given says host) =
     let same : c ≡ b = some_value c b (some_value (Some c) (Some b) (sym there ∙ taken)) in
     let says_it : Says from b = subst (λ y. Says from y) same says in
     record {
-      shows = o.give.shows n k o.host o.read.sent o.read.found ∙ ap (shows_of w r k o.read.sent) given;
-      block = ap (λ e. (history_of_line p h xs r).block e) (o.give.shown n k o.host o.read.sent o.read.found ∙ ap (shown_as w r o.read.sent) given)
+      shows = o.give.shows n k o.host o.read.sent o.read.found ∙ ap (shows_given w r k o.read.sent) given;
+      block = ap (λ e. (history_of_line p h xs r).block e) (o.give.shown n k o.host o.read.sent o.read.found ∙ ap (shown_given w r o.read.sent) given)
           ∙ says_block p h xs r n k bs o b from given says_it;
       host = subst (λ (y : Block). y.host ≡ k) same host;
       seen = says_seen p h xs r n k bs o b from given says_it;
@@ -104,9 +98,9 @@ has_own_by p h xs r n k bs o none own y last (Nothing taken given) =
     let w : World = world_at p h xs in
     let z : Sent = o.read.sent in
     record {
-      shows = o.give.shows n k o.host z o.read.found ∙ ap (shows_of w r k z) given
+      shows = o.give.shows n k o.host z o.read.found ∙ ap (shows_given w r k z) given
           ∙ and_from _ _ (eq-eqb (holder_of w (sender_of z)).id k own) (ap (λ q. is_some q) last);
-      shown = o.give.shown n k o.host z o.read.found ∙ ap (shown_as w r z) given ∙ ap (λ q. option_map_or step_of q 0) last;
+      shown = o.give.shown n k o.host z o.read.found ∙ ap (shown_given w r z) given ∙ ap (λ q. option_map_or step_of q 0) last;
     }
 
 pub has_own : (p : Program) (h : Header) (xs : List Happening) (r : ResourceLine) (n k : ℕ) (bs : List (Option Block)) (o : IsOf p h xs r n k bs) → slice_get bs (k - 1) ≡ Some None

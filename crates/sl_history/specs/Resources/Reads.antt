@@ -18,7 +18,7 @@ use Rattle.sl_sector.specs.declared.sector.Block.{Block}
 use Rattle.sl_trace.specs.Leases.{blocks_given}
 use Rattle.sl_trace.specs.Traces.{Submitted, submitted}
 use Rattle.std.specs.Option.{option_map_or}
-use Rattle.std.specs.Prelude.{Contains, List, None, Option, Some, if◌then◌else◌, is_some, slice_get, true, ℕ, ◌++◌, ◌-◌, ◌<◌, ◌≡◌, ◌≤◌}
+use Rattle.std.specs.Prelude.{Bool, Contains, List, None, Option, Some, if◌then◌else◌, is_some, slice_get, true, ℕ, ◌++◌, ◌-◌, ◌<◌, ◌≡◌, ◌≤◌}
 
 -- ---- blocks by their senders
 
@@ -51,6 +51,16 @@ pub record ReadBlocks (w : World) (r : ResourceLine) (n : ℕ) (bs : List (Optio
 pub data AgreesOn (k : ℕ) (bs : List (Option Block)) (given : Option (Option Sent)) : Type 0 where
   Nothing : slice_get bs (k - 1) ≡ Some None → given ≡ None → AgreesOn k bs given
   Block_of : (b : Block) (from : Option Sent) → slice_get bs (k - 1) ≡ Some (Some b) → given ≡ Some from → Says from b → b.host ≡ k → AgreesOn k bs given
+
+-- ---- a read in the history
+
+-- What the history shows of a host by what the read gave of it: where that is nothing, the block that the reader submitted last, if the
+-- host is its own.
+abbrev pub shows_given : World → ResourceLine → ℕ → Sent → Option (Option Sent) → Bool
+shows_given w r k z given = if is_some given then true else counts_own w (spot_of_line r) z k
+
+abbrev pub shown_given : World → ResourceLine → Sent → Option (Option Sent) → ℕ
+shown_given w r z given = elim given as (λ o. ℕ) [ Some from ↦ step_given from | None ↦ option_map_or step_of (own_before w (spot_of_line r) z) 0 ]
 
 -- ---- what stands
 
@@ -89,14 +99,11 @@ pub record ReadsGive (p : Program) (h : Header) (xs : List Happening) (r : Resou
       → ((y : Sent) → BlockSent (world_at p h xs) r k y → Follows (world_at p h xs) r k (sender_of x) (sender_of y)) → step_of x ≤ step_given from
   -- its trace has the same
   pub agrees : (n k : ℕ) → is_host (world_at p h xs) k ≡ true → (bs : List (Option Block)) → ReadBlocks (world_at p h xs) r n bs → AgreesOn k bs (given n k)
-  -- and so has the history; of its own host a reader to whom nothing was given goes by the block that it submitted last
+  -- and so has the history
   pub shows : (n k : ℕ) → is_host (world_at p h xs) k ≡ true → (z : Sent) → read_at (world_at p h xs) (spot_of_line r) r.lockspace n ≡ Some z
-      → (history_of_line p h xs r).shows n k ≡ (if is_some (given n k) then true else counts_own (world_at p h xs) (spot_of_line r) z k)
+      → (history_of_line p h xs r).shows n k ≡ shows_given (world_at p h xs) r k z (given n k)
   pub shown : (n k : ℕ) → is_host (world_at p h xs) k ≡ true → (z : Sent) → read_at (world_at p h xs) (spot_of_line r) r.lockspace n ≡ Some z
-      → (history_of_line p h xs r).shown n k ≡ elim (given n k) as (λ o. ℕ) [
-        | Some from ↦ step_given from
-        | None ↦ option_map_or step_of (own_before (world_at p h xs) (spot_of_line r) z) 0
-      ]
+      → (history_of_line p h xs r).shown n k ≡ shown_given (world_at p h xs) r z (given n k)
   -- what stands at a host's place
   pub stands : (now rest : List Happening) → xs ≡ now ++ rest → StandsSince p h xs r now
 
