@@ -66,9 +66,9 @@ machine_step p None = refl
 machine_step p (Some a) = call_step p.0 (find (λ (c : Course). c.call.number == p.1) a.calls)
 
 writer_step : (w : World) (o : Option (ℕ × ℕ)) → elim o as (λ z. ℕ) [
-      | None ↦ 0
-      | Some p ↦ option_map_or (λ (c : Course). c.made.step) (option_and_then (λ (a : Machine). find (λ (c : Course). c.call.number == p.1) a.calls) (machine_at w p.0)) 0
-    ] ≡ step_given (option_and_then (sender_in w) o)
+  | None ↦ 0
+  | Some p ↦ option_map_or (λ (c : Course). c.made.step) (option_and_then (λ (a : Machine). find (λ (c : Course). c.call.number == p.1) a.calls) (machine_at w p.0)) 0
+] ≡ step_given (option_and_then (sender_in w) o)
 writer_step w None = refl
 writer_step w (Some p) = machine_step p (machine_at w p.0)
 

@@ -3,19 +3,19 @@
 use Rattle.sl_area.specs.Layouts.{record_in}
 use Rattle.sl_area.specs.Places.{sector_of}
 use Rattle.sl_plain.proofs.Numbers.{trans_lt}
-use Rattle.sl_history.proofs.Giving.Given.{At_first, By_call, GivenBy, LeftAt, gives_block, given_by, given_found, given_if, given_in, is_given, left_at, left_by, left_step}
+use Rattle.sl_history.proofs.Giving.Given.{At_first, By_call, GivenBy, LeftAt, gives_block, given_found, given_if, given_in, is_given, left_at, left_by, left_step}
 use Rattle.sl_history.proofs.Giving.Stood.{stands_since}
 use Rattle.sl_history.proofs.Giving.Told.{given_at, read_told}
 use Rattle.sl_history.proofs.Giving.Whole.{not_torn}
-use Rattle.sl_history.proofs.Resources.Calls.{found_read, owned}
+use Rattle.sl_history.proofs.Resources.Calls.{owned}
 use Rattle.sl_history.proofs.Resources.Newest.{reads_show_newest}
 use Rattle.sl_history.proofs.Resources.AtSteps.{IsReadAt, answer_of_read, read_found}
-use Rattle.sl_history.proofs.Resources.Shown.{IsBlockLanding, IsShownOf, host_range, shown_of, writes_is}
+use Rattle.sl_history.proofs.Resources.Shown.{IsShownOf, host_range, shown_of, writes_is}
 use Rattle.sl_history.specs.Resources.Histories.{counts_own, is_host, landing_shown, own_before, sector_number, shown_by, shows_by, step_of_landing}
 use Rattle.sl_history.specs.Resources.Orders.{BlockSent, Follows, ReadSent}
 use Rattle.sl_history.specs.Resources.Promises.{history_of_line, spot_of_line}
 use Rattle.sl_history.specs.Resources.Reads.{AgreesOn, Block_of, Nothing, ReadBlocks, ReadsAreGiven, shown_given, shows_given, step_given}
-use Rattle.sl_history.specs.Resources.Sending.{Sent, is_counted_read, read_at, reads_blocks, sender_of, step_of}
+use Rattle.sl_history.specs.Resources.Sending.{Sent, read_at, sender_of, step_of}
 use Rattle.sl_run.specs.Runs.{Happening}
 use Rattle.sl_run.specs.Safety.{LawfulRun, world_at}
 use Rattle.sl_run.specs.Worlds.{Landing, Program, Stamp, World}

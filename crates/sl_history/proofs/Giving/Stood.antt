@@ -24,10 +24,10 @@ use Rattle.sl_history.proofs.Resources.Newest.{Descends, HasCome, has_come, hist
 use Rattle.sl_history.proofs.Resources.Showing.{block_in_is}
 use Rattle.sl_history.proofs.Resources.Shown.{IsBlockLanding, block_landing, in_history, writes_is}
 use Rattle.sl_history.specs.Resources.Histories.{is_host}
-use Rattle.sl_history.specs.Resources.Orders.{BlockSent, Follows, LandedAt}
+use Rattle.sl_history.specs.Resources.Orders.{BlockSent, LandedAt}
 use Rattle.sl_history.specs.Resources.Promises.{spot_of_line}
 use Rattle.sl_history.specs.Resources.Reads.{BlocksFollow, SentSince, StandsSince}
-use Rattle.sl_history.specs.Resources.Sending.{Sent, block_of_course, sender_of, step_of}
+use Rattle.sl_history.specs.Resources.Sending.{Sent, block_of_course, step_of}
 use Rattle.sl_run.specs.Runs.{Happening}
 use Rattle.sl_run.specs.Safety.{LawfulRun, block_there, world_at}
 use Rattle.sl_run.specs.Worlds.{Landing, Program, Stamp, World, content, first_landing, history_of, landed_at, world_with}

@@ -7,8 +7,8 @@ use Rattle.sl_trace_law.proofs.Leases.ComingLaws.{blocks_come}
 use Rattle.sl_trace_law.proofs.Leases.NumberLaws.{number_is_place}
 use Rattle.sl_trace_law.proofs.Leases.TurnLaws.{one_at_a_time}
 use Rattle.sl_trace_law.specs.Leases.Promises.{WasAnsweredBy}
-use Rattle.sl_trace_law.specs.Leases.Ways.{BlockComes, FoundIn, Of_mode, Of_phase1, Of_phase2, Way, lease_among}
-use Rattle.sl_trace.specs.Leases.{block_of_host, block_submitted, blocks_given, is_area_read, is_block_read, is_lease_call, is_on, is_phase_read, spot_of_call}
+use Rattle.sl_trace_law.specs.Leases.Ways.{BlockComes, lease_among}
+use Rattle.sl_trace.specs.Leases.{block_of_host, blocks_given, is_area_read, is_block_read, is_lease_call, is_on, is_phase_read, spot_of_call}
 use Rattle.sl_run_law.proofs.Place.Areas.{resource_aligned}
 use Rattle.sl_run_law.proofs.Place.Daemons.{daemons_are_fine, stamp_order}
 use Rattle.sl_run_law.proofs.Place.Seats.{sized_in}
@@ -16,8 +16,8 @@ use Rattle.sl_plain.proofs.Lists.{contains_more, kept_inside}
 use Rattle.sl_plain.proofs.Options.{some_there}
 use Rattle.sl_history.proofs.Resources.Calls.{found_at}
 use Rattle.sl_history.proofs.Resources.Looking.{By_area, By_phase, Gave, IsLook, given_blocks}
-use Rattle.sl_history.proofs.Resources.Owning.{block_is_lease, block_told, block_works, layout_at, lease_is_work, number_at, own_written, spot_is, works, written}
-use Rattle.sl_history.proofs.Resources.Standing.{Standing, parts, standing}
+use Rattle.sl_history.proofs.Resources.Owning.{block_told, layout_at, lease_is_work, number_at, spot_is, works, written}
+use Rattle.sl_history.proofs.Resources.Standing.{Standing, parts}
 use Rattle.sl_history.specs.Resources.Histories.{history_block, no_block}
 use Rattle.sl_history.specs.Resources.Promises.{history_of_line, spot_of_line}
 use Rattle.sl_history.specs.Resources.Sending.{Sent, all_sent, block_of_course, sent_at, step_of, writes_block}
@@ -32,12 +32,11 @@ use Rattle.sl_trace.specs.declared.session.Session.{Session}
 use Rattle.sl_trace.specs.Traces.{Answered, Setting, Submitted, submitted}
 use Rattle.sl_trace.specs.declared.effects.Spot.{Spot}
 use Rattle.sl_words.proofs.CaseLaws.{none_some, one_value}
-use Rattle.sl_words.proofs.OrderLaws.{by_smaller}
 use Rattle.sl_words.proofs.WordLaws.{and_true}
-use Rattle.std.proofs.Common.{ap, arith, refl, subst, sym, ◌∙◌}
+use Rattle.std.proofs.Common.{ap, refl, subst, sym, ◌∙◌}
 use Rattle.std.proofs.lemmas.Bool.{eqb-true, or_left, or_right}
 use Rattle.std.specs.Option.{option_map_or}
-use Rattle.std.specs.Prelude.{Contains, List, None, Option, Some, filter, is_some, option_and_then, slice_get, true, unwrap_or, ℕ, ◌%◌, ◌&&◌, ◌++◌, ◌-◌, ◌<◌, ◌∷◌, ◌≡◌, ◌≤◌}
+use Rattle.std.specs.Prelude.{Contains, List, None, Option, Some, filter, is_some, option_and_then, slice_get, true, unwrap_or, ℕ, ◌%◌, ◌&&◌, ◌++◌, ◌-◌, ◌∷◌, ◌≡◌, ◌≤◌}
 use Rattle.sl_history.proofs.Resources.AtSteps.{not_at_first}
 use Rattle.sl_history.proofs.Resources.Calls.{block_at_step}
 

@@ -2,28 +2,24 @@
 use Rattle.sl_ballots.specs.Disk.{Wrote}
 use Rattle.sl_trace.specs.Leases.{is_on}
 use Rattle.sl_plain.proofs.Lists.{find_inside}
-use Rattle.sl_plain.proofs.Numbers.{trans_lt}
 use Rattle.sl_plain.proofs.Options.{some_there}
 use Rattle.sl_history.proofs.Resources.Calls.{IsOwned, IsSentTo, block_at_step, found_at, found_read, owned}
 use Rattle.sl_history.proofs.Resources.Doing.{done_closed, made_since}
 use Rattle.sl_history.proofs.Resources.Owning.{same_is}
-use Rattle.sl_history.proofs.Resources.Shown.{IsShownOf, shown_of, stands_there, writes_is}
 use Rattle.sl_history.proofs.Resources.Steps.{call_timed}
-use Rattle.sl_history.specs.Resources.Histories.{counts_own, history_block, is_host, landing_shown, no_block, own_before, shown_by, shows_by, shows_whole, step_of_landing}
-use Rattle.sl_history.specs.Resources.Promises.{HistoriesAreRegisters, history_of_line, spot_of_line}
-use Rattle.sl_history.specs.Resources.Sending.{Sent, all_sent, block_of_course, holder_of, is_block_before, is_counted_read, is_joined_there, nobody, read_at, reads_blocks, same_session, sender_of, sent_at, step_of, writes_block}
+use Rattle.sl_history.specs.Resources.Promises.{history_of_line, spot_of_line}
+use Rattle.sl_history.specs.Resources.Sending.{Sent, all_sent, holder_of, is_block_before, is_counted_read, is_joined_there, nobody, read_at, reads_blocks, same_session, sender_of, sent_at, step_of, writes_block}
 use Rattle.sl_run.specs.Runs.{Happening}
 use Rattle.sl_run.specs.Safety.{LawfulRun, SessionId, world_at}
-use Rattle.sl_run.specs.Worlds.{Course, Landing, Program, Stamp, World}
+use Rattle.sl_run.specs.Worlds.{Course, Program, Stamp, World}
 use Rattle.sl_run.specs.declared.header.Header.{Header}
 use Rattle.sl_run.specs.declared.header.ResourceLine.{ResourceLine}
 use Rattle.sl_words.proofs.CaseLaws.{none_some, some_value}
-use Rattle.sl_words.proofs.WordLaws.{and_true, some_is_true}
-use Rattle.sl_words.specs.Words.{some_is}
-use Rattle.std.proofs.Common.{ap, arith, inl, inr, refl, subst, sym, ◌∙◌}
-use Rattle.std.proofs.lemmas.Bool.{eqb-true, ltb-true}
+use Rattle.sl_words.proofs.WordLaws.{and_true}
+use Rattle.std.proofs.Common.{ap, arith, refl, subst, sym, ◌∙◌}
+use Rattle.std.proofs.lemmas.Bool.{ltb-true}
 use Rattle.std.specs.Option.{option_map_or}
-use Rattle.std.specs.Prelude.{Bool, Contains, List, None, Option, Some, false, find, if◌then◌else◌, is_some, nat_lt, option_and_then, option_map, true, ℕ, ◌&&◌, ◌<◌, ◌==◌, ◌≡◌, ◌⊎◌}
+use Rattle.std.specs.Prelude.{Bool, Contains, List, None, Option, Some, false, find, is_some, nat_lt, option_and_then, option_map, true, ℕ, ◌&&◌, ◌<◌, ◌≡◌}
 
 -- ---- what the history says of one step
 

@@ -7,31 +7,27 @@ use Rattle.sl_plain.proofs.Numbers.{equal_is_least, zero_is_least}
 use Rattle.sl_history.proofs.Resources.Above.{block_of_none, block_of_step, comes_at, line_aligned, told_spot, written_at}
 use Rattle.sl_history.proofs.Resources.Basing.{read_front}
 use Rattle.sl_history.proofs.Resources.Calls.{block_works as block_is_work}
-use Rattle.sl_history.proofs.Resources.Calls.{in_world, worker_joined}
+use Rattle.sl_history.proofs.Resources.Calls.{worker_joined}
 use Rattle.sl_history.proofs.Resources.Owning.{OwnWritten, base_by, block_is_lease, block_works, last_is_none, layout_at, lease_is_work, own_written}
 use Rattle.sl_history.proofs.Resources.Recalled.{IsWrite, LookFound, look_found}
 use Rattle.sl_history.proofs.Giving.Hosts.{own_host}
 use Rattle.sl_history.proofs.Resources.Reading.{look_at, look_has}
 use Rattle.sl_history.proofs.Resources.Shows.{has_none}
-use Rattle.sl_history.proofs.Resources.Shown.{holder_is}
 use Rattle.sl_history.proofs.Resources.Standing.{Standing, standing}
-use Rattle.sl_history.specs.Resources.Histories.{base_of, history_block, is_host, landing_shown, own_before, shown_by, shows_whole, step_of_landing}
+use Rattle.sl_history.specs.Resources.Histories.{base_of, history_block, is_host, shown_by}
 use Rattle.sl_history.specs.Resources.Promises.{HistoriesGoUp, history_of_line, spot_of_line}
 use Rattle.sl_history.specs.Resources.Sending.{Sent, all_sent, block_of_course, holder_of, is_joined_there, sender_of, step_of}
 use Rattle.sl_run.specs.Runs.{Happening}
-use Rattle.sl_run.specs.Safety.{Found, LawfulRun, world_at}
-use Rattle.sl_run.specs.Worlds.{Landing, Program, World}
+use Rattle.sl_run.specs.Safety.{LawfulRun, world_at}
+use Rattle.sl_run.specs.Worlds.{Program, World}
 use Rattle.sl_run.specs.declared.header.Header.{Header}
 use Rattle.sl_run.specs.declared.header.ResourceLine.{ResourceLine}
 use Rattle.sl_sector.specs.declared.sector.Block.{Block}
-use Rattle.sl_trace.specs.Sessions.{session_numbered}
 use Rattle.sl_trace.specs.declared.session.Session.{Session}
 use Rattle.sl_trace.specs.Traces.{Submitted}
-use Rattle.sl_trace.specs.declared.effects.Spot.{Spot}
-use Rattle.sl_words.specs.Words.{some_is}
 use Rattle.std.proofs.Common.{ap, inl, inr, refl, subst, sym, ◌∙◌}
 use Rattle.std.specs.Option.{option_map_or}
-use Rattle.std.specs.Prelude.{Bool, Contains, List, None, Option, Some, false, if◌then◌else◌, is_some, true, ℕ, ◌≡◌, ◌≤◌, ◌⊎◌}
+use Rattle.std.specs.Prelude.{Bool, Contains, List, None, Option, Some, false, is_some, true, ℕ, ◌≡◌, ◌≤◌, ◌⊎◌}
 
 -- ---- the base
 

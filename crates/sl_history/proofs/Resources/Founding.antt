@@ -6,28 +6,26 @@ use Rattle.sl_trace.specs.Leases.{block_submitted}
 use Rattle.sl_history.proofs.Resources.Above.{WrittenAt, written_at}
 use Rattle.sl_history.proofs.Giving.Hosts.{own_host}
 use Rattle.sl_history.proofs.Resources.Bases.{Shown, Written, based, look_base}
-use Rattle.sl_history.proofs.Resources.Calls.{block_at_step, read_at_step, worker_joined}
+use Rattle.sl_history.proofs.Resources.Calls.{block_at_step, worker_joined}
 use Rattle.sl_history.proofs.Resources.Calls.{block_works as block_is_work}
 use Rattle.sl_history.proofs.Resources.Owning.{OwnWritten, none_before}
 use Rattle.sl_history.proofs.Resources.Recalled.{LookFound}
 use Rattle.sl_history.proofs.Resources.Reading.{look_at, look_has}
 use Rattle.sl_history.proofs.Resources.Shows.{has_none}
 use Rattle.sl_history.proofs.Resources.Standing.{Standing, standing}
-use Rattle.sl_history.specs.Resources.Histories.{base_of, counts_own, is_host, shown_by, shows_by, shows_whole}
+use Rattle.sl_history.specs.Resources.Histories.{base_of, is_host}
 use Rattle.sl_history.specs.Resources.Promises.{NamesDiffer, history_of_line, spot_of_line}
-use Rattle.sl_history.specs.Resources.Sending.{Sent, holder_of, is_counted_read, is_joined_there, nobody, read_at, sender_of, sent_at, step_of, writes_block}
+use Rattle.sl_history.specs.Resources.Sending.{Sent, holder_of, is_joined_there, nobody, read_at, sender_of, sent_at, step_of, writes_block}
 use Rattle.sl_run.specs.Runs.{Happening}
 use Rattle.sl_run.specs.Safety.{LawfulRun, world_at}
-use Rattle.sl_run.specs.Worlds.{Landing, Program, Stamp, World}
+use Rattle.sl_run.specs.Worlds.{Program, Stamp, World}
 use Rattle.sl_run.specs.declared.header.Header.{Header}
 use Rattle.sl_run.specs.declared.header.ResourceLine.{ResourceLine}
 use Rattle.sl_sector.specs.declared.sector.Block.{Block}
 use Rattle.sl_trace.specs.declared.effects.Spot.{Spot}
-use Rattle.sl_words.specs.Words.{some_is}
 use Rattle.std.proofs.Common.{ap, inl, inr, refl, subst, sym, ◌∙◌}
-use Rattle.std.proofs.lemmas.Bool.{and_from}
 use Rattle.std.specs.Option.{option_map_or}
-use Rattle.std.specs.Prelude.{Bool, Contains, List, None, Some, false, if◌then◌else◌, is_some, option_and_then, true, ℕ, ◌<◌, ◌≡◌, ◌≤◌, ◌⊎◌}
+use Rattle.std.specs.Prelude.{Bool, Contains, List, None, Some, false, is_some, option_and_then, true, ℕ, ◌<◌, ◌≡◌, ◌≤◌, ◌⊎◌}
 
 -- ---- the writer of a step
 

@@ -5,8 +5,7 @@ use Rattle.sl_run.specs.Lawful.{Orderly}
 use Rattle.sl_run.specs.LawfulArea.{IsAreaRead, IsBlockRead}
 use Rattle.sl_trace.specs.Leases.{blocks_given, is_area_read, is_phase_read, spot_of_call}
 use Rattle.sl_run_law.proofs.Place.Proven.{promised}
-use Rattle.sl_run_law.proofs.Place.Reading.{IsRead, IsShown, call_law, read_of, sector_shown}
-use Rattle.sl_run_law.proofs.Place.Seats.{sized_in}
+use Rattle.sl_run_law.proofs.Place.Reading.{IsRead, call_law, read_of}
 use Rattle.sl_plain.proofs.Numbers.{both_next, one_further, plus_zero, zero_less}
 use Rattle.sl_history.proofs.Resources.Showing.{area_right, phase_right}
 use Rattle.sl_run.specs.Events.{sectors_of}

@@ -1,45 +1,24 @@
 -- Numbers of ballots are above 0: a block of an instance has a number, since it comes from phase 1, or from a block that has one.
-use Rattle.sl_area.specs.Layouts.{Layout}
-use Rattle.sl_run_law.specs.Course.Stamping.{stamp_in}
-use Rattle.sl_run_law.proofs.Front.Having.{contains_right}
-use Rattle.sl_run.specs.LawfulArea.{is_area_work}
-use Rattle.sl_trace_law.proofs.Leases.ComingLaws.{blocks_come}
-use Rattle.sl_trace_law.proofs.Leases.NumberLaws.{number_is_place}
-use Rattle.sl_trace_law.proofs.Leases.TurnLaws.{one_at_a_time}
-use Rattle.sl_trace_law.specs.Leases.Promises.{WasAnsweredBy}
 use Rattle.sl_trace_law.specs.Leases.Ways.{BlockComes, FoundIn, Of_mode, Of_phase1, Of_phase2, Way, lease_among}
-use Rattle.sl_trace.specs.Leases.{block_of_host, block_submitted, blocks_given, is_area_read, is_block_read, is_lease_call, is_on, is_phase_read, spot_of_call}
-use Rattle.sl_run_law.proofs.Place.Areas.{resource_aligned}
-use Rattle.sl_run_law.proofs.Place.Daemons.{daemons_are_fine, stamp_order}
-use Rattle.sl_run_law.proofs.Place.Seats.{sized_in}
-use Rattle.sl_plain.proofs.Lists.{contains_more, kept_inside}
-use Rattle.sl_plain.proofs.Options.{some_there}
-use Rattle.sl_history.proofs.Resources.Calls.{found_at}
-use Rattle.sl_history.proofs.Resources.Looking.{By_area, By_phase, Gave, IsLook, given_blocks, looked}
-use Rattle.sl_history.proofs.Resources.Owning.{block_is_lease, block_told, block_works, layout_at, lease_is_work, number_at, own_written, spot_is, works, written}
+use Rattle.sl_trace.specs.Leases.{block_submitted, is_on}
+use Rattle.sl_history.proofs.Resources.Owning.{own_written}
 use Rattle.sl_history.proofs.Resources.Shows.{Never, Once, Seen}
 use Rattle.sl_history.proofs.Resources.Reading.{IsWriter, seen_before, writer_of}
-use Rattle.sl_history.proofs.Resources.Standing.{Standing, parts, standing}
-use Rattle.sl_history.specs.Resources.Histories.{history_block, no_block}
-use Rattle.sl_history.specs.Resources.Promises.{HistoriesNumberAbove, history_of_line, spot_of_line}
-use Rattle.sl_history.specs.Resources.Sending.{Sent, all_sent, block_of_course, sent_at, step_of, writes_block}
+use Rattle.sl_history.proofs.Resources.Standing.{Standing, standing}
+use Rattle.sl_history.specs.Resources.Promises.{HistoriesNumberAbove, spot_of_line}
+use Rattle.sl_history.specs.Resources.Sending.{Sent, all_sent, block_of_course, step_of}
 use Rattle.sl_run.specs.Runs.{Happening}
 use Rattle.sl_run.specs.Safety.{LawfulRun, world_at}
-use Rattle.sl_run.specs.Worlds.{Program, Stamp, World}
+use Rattle.sl_run.specs.Worlds.{Program, World}
 use Rattle.sl_run.specs.declared.header.Header.{Header}
 use Rattle.sl_run.specs.declared.header.ResourceLine.{ResourceLine}
 use Rattle.sl_sector.specs.declared.sector.Block.{Block}
-use Rattle.sl_trace.specs.Sessions.{is_call_of, session_numbered}
 use Rattle.sl_trace.specs.declared.session.Session.{Session}
-use Rattle.sl_trace.specs.Traces.{Answered, Setting, Submitted, submitted}
+use Rattle.sl_trace.specs.Traces.{Submitted}
 use Rattle.sl_trace.specs.declared.effects.Spot.{Spot}
-use Rattle.sl_words.proofs.CaseLaws.{none_some, one_value}
 use Rattle.sl_words.proofs.OrderLaws.{by_smaller}
-use Rattle.sl_words.proofs.WordLaws.{and_true}
 use Rattle.std.proofs.Common.{ap, arith, refl, subst, sym, ◌∙◌}
-use Rattle.std.proofs.lemmas.Bool.{eqb-true, or_left, or_right}
-use Rattle.std.specs.Option.{option_map_or}
-use Rattle.std.specs.Prelude.{Contains, List, None, Option, Some, filter, option_and_then, slice_get, true, unwrap_or, ℕ, ◌%◌, ◌&&◌, ◌++◌, ◌-◌, ◌<◌, ◌∷◌, ◌≡◌, ◌≤◌}
+use Rattle.std.specs.Prelude.{Contains, List, None, Option, Some, true, ℕ, ◌-◌, ◌<◌, ◌≡◌}
 use Rattle.sl_history.proofs.Resources.Above.{comes_at, is_among, line_aligned, own_there, written_at}
 
 -- ---- the own block

@@ -2,7 +2,6 @@
 use Rattle.sl_area.specs.Layouts.{Layout}
 use Rattle.sl_run_law.proofs.Place.Finding.{partner_of}
 use Rattle.sl_run_law.specs.Course.Stamping.{IsCourseOf}
-use Rattle.sl_plain.proofs.Numbers.{back_again}
 use Rattle.sl_run.specs.LawfulArea.{is_area_work}
 use Rattle.sl_run_law.proofs.Front.Having.{contains_right}
 use Rattle.sl_plain.proofs.Lists.{contains_first}
@@ -20,7 +19,7 @@ use Rattle.sl_history.proofs.Resources.Standing.{Standing, sent_there}
 use Rattle.sl_history.specs.Resources.Histories.{is_host}
 use Rattle.sl_history.specs.Resources.Promises.{history_of_line, spot_of_line}
 use Rattle.sl_history.specs.Resources.Reads.{ReadBlocks}
-use Rattle.sl_history.specs.Resources.Sending.{Sent, all_sent, block_of_course, holder_of, is_counted_read, is_joined_there, nobody, read_at, sender_of, step_of}
+use Rattle.sl_history.specs.Resources.Sending.{Sent, all_sent, block_of_course, is_counted_read, is_joined_there, read_at, sender_of, step_of}
 use Rattle.sl_run.specs.Runs.{Happening}
 use Rattle.sl_run.specs.Safety.{LawfulRun, world_at}
 use Rattle.sl_run.specs.Worlds.{Course, Program, Stamp, World, machine_at}
@@ -33,7 +32,7 @@ use Rattle.sl_trace.specs.declared.effects.Call.{Call}
 use Rattle.std.proofs.Common.{ap, arith, refl, subst, sym, ◌∙◌}
 use Rattle.std.proofs.lemmas.Bool.{and_from, le-leb}
 use Rattle.std.specs.Option.{option_map_or}
-use Rattle.std.specs.Prelude.{Bool, Contains, List, Option, Some, is_some, nat_le, option_and_then, slice_get, true, ℕ, ◌&&◌, ◌+◌, ◌-◌, ◌<◌, ◌≡◌, ◌≤◌}
+use Rattle.std.specs.Prelude.{Contains, List, Option, Some, is_some, option_and_then, slice_get, true, ℕ, ◌+◌, ◌-◌, ◌<◌, ◌≡◌, ◌≤◌}
 
 -- ---- the read by itself
 

@@ -2,7 +2,7 @@
 use Rattle.sl_ballots.specs.Disk.{Wrote}
 use Rattle.sl_plain.proofs.Numbers.{trans_lt}
 use Rattle.sl_history.proofs.Giving.Proven.{reads_are_given}
-use Rattle.sl_history.proofs.Resources.AtSteps.{IsAnswerOf, IsReadAt, answer_of_read, answered, block_at, found_before, not_at_first, read_found, since, wrote}
+use Rattle.sl_history.proofs.Resources.AtSteps.{IsReadAt, answer_of_read, answered, block_at, found_before, not_at_first, read_found, since, wrote}
 use Rattle.sl_history.proofs.Resources.Shows.{has_none}
 use Rattle.sl_history.specs.Resources.Histories.{counts_own, history_block, is_host, no_block, own_before}
 use Rattle.sl_history.specs.Resources.Orders.{BlockSent}
@@ -19,7 +19,7 @@ use Rattle.sl_words.proofs.WordLaws.{and_true}
 use Rattle.std.proofs.Common.{ap, arith, inl, inr, refl, subst, sym, ◌∙◌}
 use Rattle.std.proofs.lemmas.Bool.{eqb-true}
 use Rattle.std.specs.Option.{option_map_or}
-use Rattle.std.specs.Prelude.{Bool, Contains, List, None, Option, Some, false, if◌then◌else◌, is_some, option_and_then, true, ℕ, ◌<◌, ◌==◌, ◌≡◌, ◌⊎◌}
+use Rattle.std.specs.Prelude.{Bool, Contains, List, None, Option, Some, false, is_some, option_and_then, true, ℕ, ◌<◌, ◌==◌, ◌≡◌, ◌⊎◌}
 
 -- ---- what a read shows
 

@@ -3,23 +3,17 @@ use Rattle.sl_area.specs.Layouts.{Layout, Sizes, layout_with, record_in, sector_
 use Rattle.sl_area.specs.Places.{block_offset, fresh_block, fresh_leader, in_area, no_request, no_value}
 use Rattle.sl_run_law.proofs.Landing.Initial.{initial_is_record}
 use Rattle.sl_run.specs.LawfulArea.{IsAreaRead, IsBlockRead, IsLeaseRead, IsRightRead}
-use Rattle.sl_trace.specs.Leases.{block_of_record, is_area_read, is_on, is_phase_read}
+use Rattle.sl_trace.specs.Leases.{is_area_read, is_phase_read}
 use Rattle.sl_run_law.proofs.Place.Areas.{is_within}
 use Rattle.sl_run_law.proofs.Place.Beginnings.{zeros_at}
 use Rattle.sl_run_law.proofs.Place.Finding.{same_read}
-use Rattle.sl_run_law.proofs.Place.Proven.{promised}
-use Rattle.sl_run_law.proofs.Place.Reading.{IsShown, header_is, layout_is, reads_back}
-use Rattle.sl_run_law.proofs.Place.Seats.{sized_in}
+use Rattle.sl_run_law.proofs.Place.Reading.{header_is, layout_is}
 use Rattle.sl_run_law.proofs.Place.Sizes.{IsSized, sector_fits, sector_has_bytes, sized, slot_below}
-use Rattle.sl_plain.proofs.Numbers.{trans_lt}
-use Rattle.sl_history.proofs.Resources.Latest.{sent_as}
-use Rattle.sl_history.proofs.Resources.Standing.{sent_there}
 use Rattle.sl_history.specs.Resources.Histories.{history_block, no_block}
-use Rattle.sl_history.specs.Resources.Sending.{Sent, all_sent, block_of_course, step_of}
 use Rattle.sl_run.specs.Headers.{IsHeader}
 use Rattle.sl_run.specs.Runs.{Happening}
 use Rattle.sl_run.specs.Safety.{LawfulRun, world_at}
-use Rattle.sl_run.specs.Worlds.{Course, Landing, Program, World, first_landing, initial_bytes, initial_of_lockspace, initial_of_resource, initial_record}
+use Rattle.sl_run.specs.Worlds.{Program, World, first_landing, initial_bytes, initial_of_lockspace, initial_of_resource, initial_record}
 use Rattle.sl_run.specs.declared.header.Header.{Header}
 use Rattle.sl_run.specs.declared.header.LockspaceLine.{LockspaceLine}
 use Rattle.sl_run.specs.declared.header.ResourceLine.{ResourceLine}
@@ -29,7 +23,7 @@ use Rattle.sl_sector.specs.declared.sector.Block.{Block}
 use Rattle.sl_sector.specs.declared.sector.Rec.TheVariants.{BlockIs, DeltaIs, LeaderIs, RequestIs, ValueIs}
 use Rattle.sl_sector.specs.declared.sector.Rec.{Rec}
 use Rattle.sl_sector.specs.declared.sector.Bad.{Bad}
-use Rattle.sl_trace.specs.Traces.{Setting, Submitted, new_call, record_of}
+use Rattle.sl_trace.specs.Traces.{Setting, Submitted, new_call}
 use Rattle.sl_trace.specs.declared.effects.LeaseStep.TheVariants.{ClearMode, FreeLeader, Phase1Read, Phase1Write, Phase2Read, Phase2Write, ReadArea, ReadBeforeFree, SetMode, TakeLeader}
 use Rattle.sl_trace.specs.declared.effects.LeaseStep.{LeaseStep}
 use Rattle.sl_trace.specs.declared.effects.Op.TheVariants.{ReadSectors}
@@ -40,10 +34,9 @@ use Rattle.sl_trace.specs.declared.effects.Work.{Work}
 use Rattle.sl_words.proofs.CaseLaws.{false_is_true, none_some, some_value}
 use Rattle.sl_words.proofs.WordLaws.{choose_some}
 use Rattle.sl_words.specs.Words.{choose}
-use Rattle.std.proofs.Common.{ap, arith, inl, inr, refl, subst, sym, ◌∙◌}
-use Rattle.std.proofs.lemmas.Bool.{and_from, eqb-true}
-use Rattle.std.proofs.lemmas.Slice.Eq.{bytes_eq-Decides}
-use Rattle.std.specs.Prelude.{Bool, Contains, List, None, Ok, Err, Option, Result, Some, bytes_eq, false, find, if◌then◌else◌, nat_lt, option_and_then, replicate, true, [], ℕ, ◌&&◌, ◌*◌, ◌+◌, ◌-◌, ◌/◌, ◌<◌, ◌==◌, ◌≡◌, ◌≤◌}
+use Rattle.std.proofs.Common.{ap, arith, refl, subst, sym, ◌∙◌}
+use Rattle.std.proofs.lemmas.Bool.{eqb-true}
+use Rattle.std.specs.Prelude.{Bool, List, None, Ok, Err, Option, Result, Some, bytes_eq, false, find, if◌then◌else◌, nat_lt, replicate, true, [], ℕ, ◌&&◌, ◌*◌, ◌+◌, ◌-◌, ◌/◌, ◌<◌, ◌==◌, ◌≡◌, ◌≤◌}
 
 -- ---- what stood there at first
 

@@ -16,10 +16,10 @@ use Rattle.sl_trace.specs.Leases.{is_on}
 use Rattle.sl_trace.specs.declared.effects.Spot.{Spot}
 use Rattle.sl_words.proofs.CaseLaws.{none_some, some_value}
 use Rattle.sl_words.specs.Words.{some_is}
-use Rattle.std.proofs.Common.{ap, arith, refl, subst, sym, ◌∙◌}
+use Rattle.std.proofs.Common.{ap, arith, subst, sym, ◌∙◌}
 use Rattle.std.proofs.lemmas.Bool.{and_from, eq-eqb}
 use Rattle.std.specs.Option.{option_map_or}
-use Rattle.std.specs.Prelude.{Bool, Contains, List, None, Option, Some, false, if◌then◌else◌, is_some, slice_get, true, ℕ, ◌-◌, ◌<◌, ◌==◌, ◌≡◌, ◌≤◌}
+use Rattle.std.specs.Prelude.{Contains, List, None, Option, Some, false, if◌then◌else◌, is_some, slice_get, true, ℕ, ◌-◌, ◌<◌, ◌≡◌, ◌≤◌}
 
 -- A block that was written on the area before a step, or that never was.
 pub data Seen (w : World) (at : Spot) (b : Block) (n : ℕ) : Type 0 where

@@ -15,26 +15,25 @@ use Rattle.sl_history.proofs.Resources.Owning.{same_is}
 use Rattle.sl_history.proofs.Resources.AtSteps.{IsBlockAt, IsReadAt, block_at, found_before, ok_is, read_found}
 use Rattle.sl_history.proofs.Resources.Standing.{standing}
 use Rattle.sl_history.proofs.Resources.Steps.{call_timed}
-use Rattle.sl_history.specs.Resources.Histories.{counts_own, is_host, landing_shown, own_before, shown_by, shows_by, shows_whole, step_of_landing}
-use Rattle.sl_history.specs.Resources.Orders.{BlockSent, ReadSent}
+use Rattle.sl_history.specs.Resources.Histories.{is_host, own_before}
+use Rattle.sl_history.specs.Resources.Orders.{BlockSent}
 use Rattle.sl_history.specs.Resources.Promises.{history_of_line, spot_of_line}
-use Rattle.sl_history.specs.Resources.Sending.{Sent, all_sent, holder_of, is_block_before, nobody, read_at, same_session, sender_of, step_of, writes_block}
+use Rattle.sl_history.specs.Resources.Sending.{Sent, all_sent, holder_of, is_block_before, nobody, same_session, sender_of, step_of, writes_block}
 use Rattle.sl_run.specs.Runs.{Happening}
 use Rattle.sl_run.specs.Safety.{Found, IsSession, LawfulRun, SessionId, is_course_of, world_at}
-use Rattle.sl_run.specs.Worlds.{Landing, Program, Stamp, World}
+use Rattle.sl_run.specs.Worlds.{Program, Stamp, World}
 use Rattle.sl_run.specs.declared.header.Header.{Header}
 use Rattle.sl_run.specs.declared.header.ResourceLine.{ResourceLine}
 use Rattle.sl_history.proofs.Sessions.Following.{IsOverBy, IsOverWhenJoins, Sequel}
 use Rattle.sl_history.proofs.Sessions.FollowingSessions.{host_sequel, sent_own, sessions_follow, worker_is_host, worker_of_host}
 use Rattle.sl_history.specs.Sessions.Promises.{HistoriesShowNewest}
 use Rattle.sl_words.proofs.CaseLaws.{true_is_false}
-use Rattle.sl_words.proofs.WordLaws.{and_true, some_is_true}
-use Rattle.sl_words.specs.Words.{some_is}
+use Rattle.sl_words.proofs.WordLaws.{and_true}
 use Rattle.std.proofs.Common.{ap, arith, inl, inr, refl, subst, sym, ◌∙◌}
 use Rattle.std.proofs.lemmas.Bool.{and_from, eq-eqb, eqb-true}
 use Rattle.std.proofs.lemmas.Bool.Decides.{nat_tests}
 use Rattle.std.specs.Option.{option_map_or}
-use Rattle.std.specs.Prelude.{Bool, Contains, List, None, Option, Some, false, find, if◌then◌else◌, is_some, nat_lt, true, ℕ, ◌&&◌, ◌+◌, ◌<◌, ◌==◌, ◌≡◌, ◌≤◌}
+use Rattle.std.specs.Prelude.{Contains, List, None, Option, Some, find, is_some, nat_lt, true, ℕ, ◌&&◌, ◌+◌, ◌<◌, ◌==◌, ◌≡◌, ◌≤◌}
 
 -- ---- a session that is over sends nothing
 
