@@ -36,17 +36,21 @@ use Rattle.std.specs.Prelude.{Contains, List, Option, Some, is_some, option_and_
 
 -- ---- the read by itself
 
--- A counted read is a read of the history.
+-- A read of blocks that a joined session was given is a read of the history.
+pub counted_at : (p : Program) (h : Header) (xs : List Happening) → LawfulRun p h xs → (r : ResourceLine) → Contains h.resources r → (z : Sent) → Contains (all_sent (world_at p h xs)) z
+    → (s : Standing (world_at p h xs) z) → is_on (world_at p h xs).layout (spot_of_line r) z.course.call ≡ true → is_joined_there (world_at p h xs) r.lockspace (sender_of z) ≡ true
+    → (bs : List (Option Block)) → blocks_given s.daemon.setting.layout s.told.one ≡ Some bs → read_at (world_at p h xs) (spot_of_line r) r.lockspace (step_of z) ≡ Some z
+counted_at p h xs run r there z has s on joined bs given =
+    let t = read_told s.daemon z.course s.told.one bs s.told.pair given in
+    read_at_step p h xs run r there z has on (and_from _ _ (and_from _ _ t.reads t.done) joined)
+
 pub counted_reads : (p : Program) (h : Header) (xs : List Happening) → LawfulRun p h xs → (r : ResourceLine) → Contains h.resources r → (z : Sent) → Contains (all_sent (world_at p h xs)) z
     → (s : Standing (world_at p h xs) z) → is_on (world_at p h xs).layout (spot_of_line r) z.course.call ≡ true → is_joined_there (world_at p h xs) r.lockspace (sender_of z) ≡ true
     → (bs : List (Option Block)) → blocks_given s.daemon.setting.layout s.told.one ≡ Some bs → ReadBlocks (world_at p h xs) r (step_of z) bs
 counted_reads p h xs run r there z has s on joined bs given =
-    let w : World = world_at p h xs in
-    let t = read_told s.daemon z.course s.told.one bs s.told.pair given in
-    let counted : is_counted_read w r.lockspace z ≡ true = and_from _ _ (and_from _ _ t.reads t.done) joined in
     record {
       sent = z;
-      found = read_at_step p h xs run r there z has on counted;
+      found = counted_at p h xs run r there z has s on joined bs given;
       machine = s.machine;
       at = s.at;
       inside = s.inside;

@@ -91,21 +91,21 @@ pub record HasOwn (p : Program) (h : Header) (xs : List Happening) (r : Resource
   pub shown : (history_of_line p h xs r).shown n k ≡ step_of y
 
 has_own_by : (p : Program) (h : Header) (xs : List Happening) (r : ResourceLine) (n k : ℕ) (bs : List (Option Block)) (o : IsOf p h xs r n k bs) → slice_get bs (k - 1) ≡ Some None
-    → (holder_of (world_at p h xs) (sender_of o.read.sent)).id ≡ k → (y : Sent) → own_before (world_at p h xs) (spot_of_line r) o.read.sent ≡ Some y
-    → AgreesOn k bs (o.give.given n k) → HasOwn p h xs r n k y
-has_own_by p h xs r n k bs o none own y last (Block_of c from there given says host) = absurd (none_some c (some_value None (Some c) (sym none ∙ there)))
-has_own_by p h xs r n k bs o none own y last (Nothing taken given) =
+    → (z : Sent) → read_at (world_at p h xs) (spot_of_line r) r.lockspace n ≡ Some z → (holder_of (world_at p h xs) (sender_of z)).id ≡ k
+    → (y : Sent) → own_before (world_at p h xs) (spot_of_line r) z ≡ Some y → AgreesOn k bs (o.give.given n k) → HasOwn p h xs r n k y
+has_own_by p h xs r n k bs o none z found own y last (Block_of c from there given says host) = absurd (none_some c (some_value None (Some c) (sym none ∙ there)))
+has_own_by p h xs r n k bs o none z found own y last (Nothing taken given) =
     let w : World = world_at p h xs in
-    let z : Sent = o.read.sent in
     record {
-      shows = o.give.shows n k o.host z o.read.found ∙ ap (shows_given w r k z) given
+      shows = o.give.shows n k o.host z found ∙ ap (shows_given w r k z) given
           ∙ and_from _ _ (eq-eqb (holder_of w (sender_of z)).id k own) (ap (λ q. is_some q) last);
-      shown = o.give.shown n k o.host z o.read.found ∙ ap (shown_given w r z) given ∙ ap (λ q. option_map_or step_of q 0) last;
+      shown = o.give.shown n k o.host z found ∙ ap (shown_given w r z) given ∙ ap (λ q. option_map_or step_of q 0) last;
     }
 
 pub has_own : (p : Program) (h : Header) (xs : List Happening) (r : ResourceLine) (n k : ℕ) (bs : List (Option Block)) (o : IsOf p h xs r n k bs) → slice_get bs (k - 1) ≡ Some None
-    → (holder_of (world_at p h xs) (sender_of o.read.sent)).id ≡ k → (y : Sent) → own_before (world_at p h xs) (spot_of_line r) o.read.sent ≡ Some y → HasOwn p h xs r n k y
-has_own p h xs r n k bs o none own y last = has_own_by p h xs r n k bs o none own y last (o.give.agrees n k o.host bs o.read)
+    → (z : Sent) → read_at (world_at p h xs) (spot_of_line r) r.lockspace n ≡ Some z → (holder_of (world_at p h xs) (sender_of z)).id ≡ k
+    → (y : Sent) → own_before (world_at p h xs) (spot_of_line r) z ≡ Some y → HasOwn p h xs r n k y
+has_own p h xs r n k bs o none z found own y last = has_own_by p h xs r n k bs o none z found own y last (o.give.agrees n k o.host bs o.read)
 
 -- ---- each host has a place among the blocks
 

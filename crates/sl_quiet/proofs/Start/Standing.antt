@@ -8,7 +8,7 @@ use Rattle.sl_history.proofs.Resources.Above.{block_by}
 use Rattle.sl_history.proofs.Resources.Calls.{block_at_step, block_works, there_sent, worker_joined}
 use Rattle.sl_history.proofs.Resources.Landed.{in_order, landed_block, one_sent}
 use Rattle.sl_history.proofs.Resources.Newest.{Descends, HasCome, has_come, history_descends}
-use Rattle.sl_history.proofs.Resources.Registers.{IsBlockAt, block_at, ok_is, wrote}
+use Rattle.sl_history.proofs.Resources.AtSteps.{IsBlockAt, block_at, ok_is, wrote}
 use Rattle.sl_history.proofs.Resources.Shown.{IsBlockLanding}
 use Rattle.sl_history.proofs.Sessions.FollowingSessions.{sessions_follow}
 use Rattle.sl_history.proofs.Sessions.Named.{joined_are_hosts}

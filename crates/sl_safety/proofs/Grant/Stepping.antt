@@ -7,7 +7,7 @@ use Rattle.sl_run_law.proofs.Place.Reading.{answer_gave}
 use Rattle.sl_history.proofs.Resources.Calls.{block_at_step, read_at_step}
 use Rattle.sl_history.proofs.Resources.Founding.{writer_is, writes_at}
 use Rattle.sl_history.proofs.Resources.Looking.{By_area, By_phase, Gave, given_blocks}
-use Rattle.sl_history.proofs.Resources.Rising.{block_of_step}
+use Rattle.sl_history.proofs.Resources.Above.{block_of_step}
 use Rattle.sl_history.specs.Resources.Histories.{history_block}
 use Rattle.sl_history.specs.Resources.Promises.{history_of_line, spot_of_line}
 use Rattle.sl_history.specs.Resources.Sending.{Sent, holder_of, is_counted_read, is_joined_there, read_at, sender_of, sent_at, step_of, writes_block}
