@@ -11,7 +11,7 @@ use Rattle.sl_history.proofs.Resources.Calls.{owned}
 use Rattle.sl_history.proofs.Resources.Newest.{reads_show_newest}
 use Rattle.sl_history.proofs.Resources.AtSteps.{IsReadAt, answer_of_read, read_found}
 use Rattle.sl_history.proofs.Resources.Shown.{IsShownOf, host_range, shown_of, writes_is}
-use Rattle.sl_history.specs.Resources.Histories.{counts_own, is_host, landing_shown, own_before, sector_number, shown_by, shows_by, step_of_landing}
+use Rattle.sl_history.specs.Resources.Histories.{counts_own, is_host, landing_shown, own_before, sector_number, shown_by, shows_by, shows_whole, step_of_landing}
 use Rattle.sl_history.specs.Resources.Orders.{BlockSent, Follows, ReadSent}
 use Rattle.sl_history.specs.Resources.Promises.{history_of_line, spot_of_line}
 use Rattle.sl_history.specs.Resources.Reads.{AgreesOn, Block_of, Nothing, ReadBlocks, ReadsAreGiven, shown_given, shows_given, step_given}
@@ -168,6 +168,23 @@ shown_at p h xs r n k host z found =
     ∙ ap (λ b. if b then (if some_is (λ (l : Landing). l.whole) o then option_map_or (step_of_landing w) o 0 else option_map_or step_of (own_before w (spot_of_line r) z) 0) else 0) host
     ∙ shown_if w r z o ∙ ap (shown_given w r z) (sym (given_found w r n k z found))
 
+abbrev host_shows : World → ResourceLine → ℕ → Sent → Bool → Bool
+host_shows w r k z host = if host then (if shows_whole w (spot_of_line r) k z then true else counts_own w (spot_of_line r) z k) else true
+
+abbrev host_shown : World → ResourceLine → ℕ → Sent → Bool → ℕ
+host_shown w r k z host =
+    if host then (if shows_whole w (spot_of_line r) k z then option_map_or (step_of_landing w) (landing_shown w (spot_of_line r) z.course k) 0
+    else option_map_or step_of (own_before w (spot_of_line r) z) 0) else 0
+
+others_at : (p : Program) (h : Header) (xs : List Happening) (r : ResourceLine) (n k : ℕ) → (history_of_line p h xs r).reads n ≡ true → is_host (world_at p h xs) k ≡ false
+    → ((history_of_line p h xs r).shows n k ≡ true) × ((history_of_line p h xs r).shown n k ≡ 0)
+others_at p h xs r n k reads host =
+    let w : World = world_at p h xs in
+    let b : IsReadAt w r n = read_found w r n reads in (
+      ap (λ q. some_is (shows_by w (spot_of_line r) k) q) b.found ∙ ap (host_shows w r k b.sent) host,
+      ap (λ q. option_map_or (shown_by w (spot_of_line r) k) q 0) b.found ∙ ap (host_shown w r k b.sent) host,
+    )
+
 -- ---- all of it
 
 pub reads_are_given : ReadsAreGiven
@@ -181,5 +198,6 @@ reads_are_given p h xs r run there =
       agrees = agrees_at p h xs run r there;
       shows = shows_at p h xs r;
       shown = shown_at p h xs r;
+      others = others_at p h xs r;
       stands = stands_since p h xs run r there;
     }

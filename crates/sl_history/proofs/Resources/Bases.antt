@@ -12,7 +12,7 @@ use Rattle.sl_history.proofs.Resources.Owning.{OwnWritten, base_by, block_is_lea
 use Rattle.sl_history.proofs.Resources.Recalled.{IsWrite, LookFound, look_found}
 use Rattle.sl_history.proofs.Giving.Hosts.{own_host}
 use Rattle.sl_history.proofs.Resources.Reading.{look_at, look_has}
-use Rattle.sl_history.proofs.Resources.Shows.{has_none}
+use Rattle.sl_history.proofs.Giving.Proven.{reads_are_given}
 use Rattle.sl_history.proofs.Resources.Standing.{Standing, standing}
 use Rattle.sl_history.specs.Resources.Histories.{base_of, history_block, is_host, shown_by}
 use Rattle.sl_history.specs.Resources.Promises.{HistoriesGoUp, history_of_line, spot_of_line}
@@ -95,7 +95,7 @@ base_block : (p : Program) (h : Header) (xs : List Happening) → LawfulRun p h 
 base_block p h xs run r there x s own f joined true host n is =
     inl (ap (λ k. (history_of_line p h xs r).block k) is ∙ (look_has p h xs run r there x s own f joined host).block)
 base_block p h xs run r there x s own f joined false host n is =
-    inr (is ∙ (has_none p h xs r (step_of f.sent) s.session.id f.sent (look_at p h xs run r there x s own f joined) host).shown, refl)
+    inr (is ∙ ((reads_are_given p h xs r run there).others (step_of f.sent) s.session.id (ap (λ o. is_some o) (look_at p h xs run r there x s own f joined)) host).1, refl)
 
 pub block_of_base : (p : Program) (h : Header) (xs : List Happening) → LawfulRun p h xs → (r : ResourceLine) → Contains h.resources r → (x : Sent) (s : Standing (world_at p h xs) x) (own : Block)
     → BaseIs p h xs r x s own

@@ -11,7 +11,7 @@ use Rattle.sl_history.proofs.Resources.Calls.{block_works as block_is_work}
 use Rattle.sl_history.proofs.Resources.Owning.{OwnWritten, none_before}
 use Rattle.sl_history.proofs.Resources.Recalled.{LookFound}
 use Rattle.sl_history.proofs.Resources.Reading.{look_at, look_has}
-use Rattle.sl_history.proofs.Resources.Shows.{has_none}
+use Rattle.sl_history.proofs.Giving.Proven.{reads_are_given}
 use Rattle.sl_history.proofs.Resources.Standing.{Standing, standing}
 use Rattle.sl_history.specs.Resources.Histories.{base_of, is_host}
 use Rattle.sl_history.specs.Resources.Promises.{NamesDiffer, history_of_line, spot_of_line}
@@ -82,7 +82,7 @@ found_shows : (p : Program) (h : Header) (xs : List Happening) → LawfulRun p h
     → is_host (world_at p h xs) s.session.id ≡ b → (history_of_line p h xs r).shows (step_of f.sent) s.session.id ≡ true
 found_shows p h xs run r there x s own f joined true host = (look_has p h xs run r there x s own f joined host).shows
 found_shows p h xs run r there x s own f joined false host =
-    (has_none p h xs r (step_of f.sent) s.session.id f.sent (look_at p h xs run r there x s own f joined) host).shows
+    ((reads_are_given p h xs r run there).others (step_of f.sent) s.session.id (ap (λ o. is_some o) (look_at p h xs run r there x s own f joined)) host).0
 
 pub is_found : (p : Program) (h : Header) (xs : List Happening) → LawfulRun p h xs → (r : ResourceLine) → Contains h.resources r → NamesDiffer (world_at p h xs) r.lockspace
     → (e : ℕ) (x : WrittenAt p h xs r e) (s : Standing (world_at p h xs) x.sent) (own : Block) → (f : LookFound (world_at p h xs) (spot_of_line r) x.sent s own)

@@ -3,7 +3,6 @@ use Rattle.sl_ballots.specs.Disk.{Wrote}
 use Rattle.sl_plain.proofs.Numbers.{trans_lt}
 use Rattle.sl_history.proofs.Giving.Proven.{reads_are_given}
 use Rattle.sl_history.proofs.Resources.AtSteps.{IsReadAt, answer_of_read, answered, block_at, found_before, not_at_first, read_found, since, wrote}
-use Rattle.sl_history.proofs.Resources.Shows.{has_none}
 use Rattle.sl_history.specs.Resources.Histories.{counts_own, history_block, is_host, no_block, own_before}
 use Rattle.sl_history.specs.Resources.Orders.{BlockSent}
 use Rattle.sl_history.specs.Resources.Promises.{HistoriesAreRegisters, history_of_line, spot_of_line}
@@ -55,7 +54,7 @@ given_shows p h xs r g n k b late host (Some (Some x)) is counts =
 shown_by_read : (p : Program) (h : Header) (xs : List Happening) (r : ResourceLine) (g : ReadsGive p h xs r) (n k : ℕ) (b : IsReadAt (world_at p h xs) r n)
     → n < (history_of_line p h xs r).answer n → (t : Bool) → is_host (world_at p h xs) k ≡ t → (history_of_line p h xs r).shows n k ≡ true
     → Showing (world_at p h xs) r k ((history_of_line p h xs r).shown n k) ((history_of_line p h xs r).answer n)
-shown_by_read p h xs r g n k b late false host shows = At_first (has_none p h xs r n k b.sent b.found host).shown
+shown_by_read p h xs r g n k b late false host shows = At_first (g.others n k (ap (λ q. is_some q) b.found) host).1
 shown_by_read p h xs r g n k b late true host shows =
     subst (λ m. Showing (world_at p h xs) r k m ((history_of_line p h xs r).answer n)) (sym (g.shown n k host b.sent b.found))
     (given_shows p h xs r g n k b late host (g.given n k) refl (sym (g.shows n k host b.sent b.found) ∙ shows))

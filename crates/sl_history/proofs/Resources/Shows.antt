@@ -1,7 +1,7 @@
 -- What follows of the record of reads: a block that a trace has of a host the history shows there, and it was submitted before the read was
 -- answered, or is fresh; and of its own host, where nothing was given, the reader goes by the block that it submitted last.
 use Rattle.sl_history.proofs.Resources.Above.{block_of_none, block_of_step}
-use Rattle.sl_history.specs.Resources.Histories.{counts_own, history_block, is_host, landing_shown, no_block, own_before, shown_by, shows_by, shows_whole, step_of_landing}
+use Rattle.sl_history.specs.Resources.Histories.{history_block, is_host, no_block, own_before}
 use Rattle.sl_history.specs.Resources.Orders.{BlockSent}
 use Rattle.sl_history.specs.Resources.Promises.{history_of_line, spot_of_line}
 use Rattle.sl_history.specs.Resources.Reads.{AgreesOn, Block_of, Nothing, ReadBlocks, ReadsGive, Says, shown_given, shows_given, step_given}
@@ -15,11 +15,10 @@ use Rattle.sl_sector.specs.declared.sector.Block.{Block}
 use Rattle.sl_trace.specs.Leases.{is_on}
 use Rattle.sl_trace.specs.declared.effects.Spot.{Spot}
 use Rattle.sl_words.proofs.CaseLaws.{none_some, some_value}
-use Rattle.sl_words.specs.Words.{some_is}
 use Rattle.std.proofs.Common.{ap, arith, subst, sym, ◌∙◌}
 use Rattle.std.proofs.lemmas.Bool.{and_from, eq-eqb}
 use Rattle.std.specs.Option.{option_map_or}
-use Rattle.std.specs.Prelude.{Contains, List, None, Option, Some, false, if◌then◌else◌, is_some, slice_get, true, ℕ, ◌-◌, ◌<◌, ◌≡◌, ◌≤◌}
+use Rattle.std.specs.Prelude.{Contains, List, None, Option, Some, is_some, slice_get, true, ℕ, ◌-◌, ◌<◌, ◌≡◌, ◌≤◌}
 
 -- A block that was written on the area before a step, or that never was.
 pub data Seen (w : World) (at : Spot) (b : Block) (n : ℕ) : Type 0 where
@@ -116,21 +115,3 @@ listed_by k bs given (Block_of b from there is says host) = (Some b, there)
 pub listed : (p : Program) (h : Header) (xs : List Happening) (r : ResourceLine) (n k : ℕ) (bs : List (Option Block)) → IsOf p h xs r n k bs
     → (o : Option Block) × (slice_get bs (k - 1) ≡ Some o)
 listed p h xs r n k bs o = listed_by k bs (o.give.given n k) (o.give.agrees n k o.host bs o.read)
-
--- ---- of no host
-
--- Of a number that is no host's it shows what stood there at first.
-pub record HasNone (p : Program) (h : Header) (xs : List Happening) (r : ResourceLine) (n k : ℕ) : Type 0 where
-  pub shows : (history_of_line p h xs r).shows n k ≡ true
-  pub shown : (history_of_line p h xs r).shown n k ≡ 0
-
-pub has_none : (p : Program) (h : Header) (xs : List Happening) (r : ResourceLine) (n k : ℕ) (z : Sent) → read_at (world_at p h xs) (spot_of_line r) r.lockspace n ≡ Some z
-    → is_host (world_at p h xs) k ≡ false → HasNone p h xs r n k
-has_none p h xs r n k z found host =
-    let w : World = world_at p h xs in
-    record {
-      shows = ap (λ q. some_is (shows_by w (spot_of_line r) k) q) found ∙ ap (λ b. if b then (if shows_whole w (spot_of_line r) k z then true else counts_own w (spot_of_line r) z k) else true) host;
-      shown = ap (λ q. option_map_or (shown_by w (spot_of_line r) k) q 0) found
-          ∙ ap (λ b. if b then (if shows_whole w (spot_of_line r) k z then option_map_or (step_of_landing w) (landing_shown w (spot_of_line r) z.course k) 0
-          else option_map_or step_of (own_before w (spot_of_line r) z) 0) else 0) host;
-    }

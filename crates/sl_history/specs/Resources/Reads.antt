@@ -18,7 +18,7 @@ use Rattle.sl_sector.specs.declared.sector.Block.{Block}
 use Rattle.sl_trace.specs.Leases.{blocks_given}
 use Rattle.sl_trace.specs.Traces.{Submitted, submitted}
 use Rattle.std.specs.Option.{option_map_or}
-use Rattle.std.specs.Prelude.{Bool, Contains, List, None, Option, Some, if◌then◌else◌, is_some, slice_get, true, ℕ, ◌++◌, ◌-◌, ◌<◌, ◌≡◌, ◌≤◌}
+use Rattle.std.specs.Prelude.{Bool, Contains, List, None, Option, Some, false, if◌then◌else◌, is_some, slice_get, true, ℕ, ◌++◌, ◌-◌, ◌<◌, ◌≡◌, ◌≤◌}
 
 -- ---- blocks by their senders
 
@@ -104,6 +104,9 @@ pub record ReadsGive (p : Program) (h : Header) (xs : List Happening) (r : Resou
       → (history_of_line p h xs r).shows n k ≡ shows_given (world_at p h xs) r k z (given n k)
   pub shown : (n k : ℕ) → is_host (world_at p h xs) k ≡ true → (z : Sent) → read_at (world_at p h xs) (spot_of_line r) r.lockspace n ≡ Some z
       → (history_of_line p h xs r).shown n k ≡ shown_given (world_at p h xs) r z (given n k)
+  -- .. which shows of no host what stood there at first
+  pub others : (n k : ℕ) → (history_of_line p h xs r).reads n ≡ true → is_host (world_at p h xs) k ≡ false
+      → ((history_of_line p h xs r).shows n k ≡ true) × ((history_of_line p h xs r).shown n k ≡ 0)
   -- what stands at a host's place
   pub stands : (now rest : List Happening) → xs ≡ now ++ rest → StandsSince p h xs r now
 

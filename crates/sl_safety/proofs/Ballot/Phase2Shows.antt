@@ -9,7 +9,7 @@ use Rattle.sl_history.proofs.Giving.Hosts.{own_host}
 use Rattle.sl_history.proofs.Giving.Proven.{reads_are_given}
 use Rattle.sl_history.proofs.Resources.Above.{block_of_none, block_of_step}
 use Rattle.sl_history.proofs.Resources.Reading.{counted_at, counted_reads}
-use Rattle.sl_history.proofs.Resources.Shows.{IsOf, has_block, has_none, has_own, listed}
+use Rattle.sl_history.proofs.Resources.Shows.{IsOf, has_block, has_own, listed}
 use Rattle.sl_history.specs.Resources.Reads.{ReadBlocks}
 use Rattle.sl_history.proofs.Resources.Clear.{IsClear, IsWhole, all_whole, is_clear, taken_at}
 use Rattle.sl_history.proofs.Resources.Shown.{host_range}
@@ -141,8 +141,8 @@ pub record NoneShown (h : History) (read k : ℕ) : Type 0 where
 pub none_shown : (p : Program) (h : Header) (xs : List Happening) → LawfulRun p h xs → (r : ResourceLine) → Contains h.resources r → (z : Sent) (own : Block) (bs : List (Option Block))
     → OwnRead (world_at p h xs) r z own bs → (k : ℕ) → is_host (world_at p h xs) k ≡ false → NoneShown (history_of_line p h xs r) (step_of z) k
 none_shown p h xs run r there z own bs o k host =
-    let f = has_none p h xs r (step_of z) k z (read_is p h xs run r there z own bs o) host in
-    record { shows = f.shows; shown = ap (λ n. (history_of_line p h xs r).block n) f.shown ∙ block_of_none p h xs run r }
+    let f = (reads_are_given p h xs r run there).others (step_of z) k (ap (λ q. is_some q) (read_is p h xs run r there z own bs o)) host in
+    record { shows = f.0; shown = ap (λ n. (history_of_line p h xs r).block n) f.1 ∙ block_of_none p h xs run r }
 
 -- ---- nothing stops the ballot
 

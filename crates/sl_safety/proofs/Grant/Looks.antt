@@ -6,7 +6,7 @@ use Rattle.sl_trace.specs.Leases.{block_of_host, blocks_given}
 use Rattle.sl_plain.proofs.Lists.{contains_first, contains_more}
 use Rattle.sl_history.proofs.Giving.Proven.{reads_are_given}
 use Rattle.sl_history.proofs.Resources.Above.{block_of_none, own_there}
-use Rattle.sl_history.proofs.Resources.Shows.{HasBlock, IsOf, has_block, has_none}
+use Rattle.sl_history.proofs.Resources.Shows.{HasBlock, IsOf, has_block}
 use Rattle.sl_history.specs.Resources.Reads.{ReadBlocks}
 use Rattle.sl_history.specs.Resources.Histories.{is_host, no_block}
 use Rattle.sl_history.specs.Resources.Promises.{history_of_line}
@@ -72,5 +72,6 @@ pub look_shows_nothing : (p : Program) (h : Header) (xs : List Happening) (r : R
     → ((history_of_line p h xs r).shows (step_of l.sent.sent) k ≡ true)
     × ((history_of_line p h xs r).block ((history_of_line p h xs r).shown (step_of l.sent.sent) k) ≡ no_block)
 look_shows_nothing p h xs r i f front at c bs l k host =
-    let n = has_none p h xs r (step_of l.sent.sent) k l.sent.sent l.found host in
-    (n.shows, ap (λ e. (history_of_line p h xs r).block e) n.shown ∙ block_of_none p h xs at.front_is.run r)
+    let run = at.front_is.run in
+    let n = (reads_are_given p h xs r run at.there).others (step_of l.sent.sent) k l.reads host in
+    (n.0, ap (λ e. (history_of_line p h xs r).block e) n.1 ∙ block_of_none p h xs run r)
