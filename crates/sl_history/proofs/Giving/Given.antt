@@ -192,16 +192,18 @@ gives_block p h xs run r there n bs t on k host own taken =
     let w : World = world_at p h xs in
     let c : Course = t.sent.course in
     let q = t.call in
-    let call : q.call ≡ c.call = t.pair.call in
+    let ends : t.last ≡ c = sym t.ends in
+    let inside : Contains t.machine.calls c = subst (λ (y : Course). Contains t.machine.calls y) ends t.inside in
+    let call : q.call ≡ c.call = t.pair.call ∙ ap (λ (y : Course). y.call) ends in
     let j : ℕ = k - 1 in
     let on_id : j + 1 ≡ k = back_again k (host_range w k host).0 in
     let l = looked p h xs t.sent.machine t.machine t.daemon q (look_of p h xs run r n bs t) bs t.given j own taken in
     let same : l.read.course ≡ c =
-    one_call t.machine.calls l.read.course c (each_distinct p h xs run t.sent.machine t.machine t.at) l.read.has t.inside
+    one_call t.machine.calls l.read.course c (each_distinct p h xs run t.sent.machine t.machine t.at) l.read.has inside
     (eq-eqb l.read.course.call.number c.call.number (ap (λ (y : Call). y.number) (sym l.read.is.call ∙ call))) in
     let long : length c.samples ≡ sectors_of q.call.op = ap (λ (y : Course). length y.samples) (sym same) ∙ l.read.whole in
     let some = there_is c.samples l.sector (subst (λ n. l.sector < n) (sym long) l.within) in
-    let i : IsSampleOf w c l.sector some.0 = samples_are_landings p h xs run t.sent.machine t.machine c l.sector some.0 t.at t.inside some.1 in
+    let i : IsSampleOf w c l.sector some.0 = samples_are_landings p h xs run t.sent.machine t.machine c l.sector some.0 t.at inside some.1 in
     let path : c.call.path ≡ r.path = same_text c.call.path r.path (and_true (bytes_eq c.call.path r.path) (in_area w.layout r.offset c.call.offset) on).0 in
     let spot : spot_of_call w.layout q ≡ spot_of_line r =
     spot_is w.layout (spot_of_line r) q (line_aligned p h xs run r there) (ap (λ (y : Call). is_on w.layout (spot_of_line r) y) call ∙ on) in

@@ -18,10 +18,11 @@ use Rattle.sl_history.specs.Resources.Reads.{AgreesOn, Block_of, Nothing, ReadBl
 use Rattle.sl_history.specs.Resources.Sending.{Sent, read_at, sender_of, step_of}
 use Rattle.sl_run.specs.Runs.{Happening}
 use Rattle.sl_run.specs.Safety.{LawfulRun, world_at}
-use Rattle.sl_run.specs.Worlds.{Landing, Program, Stamp, World}
+use Rattle.sl_run.specs.Worlds.{Course, Landing, Program, Stamp, World}
 use Rattle.sl_run.specs.declared.header.Header.{Header}
 use Rattle.sl_run.specs.declared.header.ResourceLine.{ResourceLine}
 use Rattle.sl_run_law.proofs.Place.Proven.{promised}
+use Rattle.sl_run_law.specs.Course.Stamping.{IsCourseOf}
 use Rattle.sl_sector.specs.Spelling.{block_in}
 use Rattle.sl_sector.specs.declared.sector.Block.{Block}
 use Rattle.sl_words.proofs.CaseLaws.{none_some, some_value}
@@ -125,9 +126,10 @@ agrees_at p h xs run r there n k host bs t =
     let b : IsReadAt w r n = read_found w r n (ap (λ o. is_some o) t.found) in
     let same : b.sent ≡ t.sent = some_value b.sent t.sent (sym b.found ∙ t.found) in
     let range = host_range w k host in
-    let told = read_told t.daemon t.sent.course t.call bs t.pair t.given in
+    let pair : IsCourseOf t.daemon t.sent.course t.call = subst (λ (c : Course). IsCourseOf t.daemon c t.call) (sym t.ends) t.pair in
+    let told = read_told t.daemon t.sent.course t.call bs pair t.given in
     let layout = (promised.of_world p h xs run t.sent.machine t.machine t.daemon t.at t.has).layout in
-    agrees_by p h xs run r there n k host bs t b same (given_at w.layout t.daemon t.sent.course t.call bs layout t.pair told k range.0 range.1) _ refl
+    agrees_by p h xs run r there n k host bs t b same (given_at w.layout t.daemon t.sent.course t.call bs layout pair told k range.0 range.1) _ refl
 
 -- ---- as the history has it
 

@@ -6,7 +6,7 @@
 -- proof of this record.
 use Rattle.sl_run.specs.Runs.{Happening}
 use Rattle.sl_run.specs.Safety.{LawfulRun, block_there, world_at}
-use Rattle.sl_run.specs.Worlds.{Daemon, Machine, Program, Stamp, World, daemons_on, machine_at}
+use Rattle.sl_run.specs.Worlds.{Course, Daemon, Machine, Program, Stamp, World, daemons_on, machine_at}
 use Rattle.sl_run.specs.declared.header.Header.{Header}
 use Rattle.sl_run.specs.declared.header.ResourceLine.{ResourceLine}
 use Rattle.sl_run_law.specs.Course.Stamping.{IsCourseOf}
@@ -33,18 +33,26 @@ Says (Some x) b = block_of_course x.course ≡ Some b
 
 -- ---- a read in its trace
 
--- The read of the history at a step, with the call that its trace has of it, and the blocks that the trace was given.
+-- How a read that begins with the first call ends with the other: it is one call. (One that is read again would end with another.)
+abbrev pub EndsWith : Course → Course → Type 0
+EndsWith first last = first ≡ last
+
+-- The read of the history at a step, and the call of its trace that gave its blocks.
 pub record ReadBlocks (w : World) (r : ResourceLine) (n : ℕ) (bs : List (Option Block)) : Type 0 where
+  -- the call by which it began
   pub sent : Sent
   pub found : read_at w (spot_of_line r) r.lockspace n ≡ Some sent
   pub machine : Machine
   pub at : machine_at w sent.machine ≡ Some machine
-  pub inside : Contains machine.calls sent.course
   pub daemon : Daemon
   pub has : Contains (daemons_on machine) daemon
+  -- the call with which it ended
+  pub last : Course
+  pub ends : EndsWith sent.course last
+  pub inside : Contains machine.calls last
   pub call : Submitted
   pub told : Contains (submitted daemon.trace) call
-  pub pair : IsCourseOf daemon sent.course call
+  pub pair : IsCourseOf daemon last call
   pub given : blocks_given daemon.setting.layout call ≡ Some bs
 
 -- Of a host the trace has a block where one was given, and that names the host; and it has nothing where nothing was given.
