@@ -26,7 +26,7 @@ use Rattle.sl_sector.specs.declared.sector.Block.{Block}
 use Rattle.sl_words.proofs.CaseLaws.{none_some, some_value}
 use Rattle.std.proofs.Common.{ap, refl, subst, sym, ◌∙◌}
 use Rattle.std.proofs.lemmas.Bool.{eqb-true}
-use Rattle.std.specs.Prelude.{Bool, Contains, List, None, Option, Some, false, if◌then◌else◌, slice_get, true, unwrap_or, ℕ, ◌-◌, ◌==◌, ◌≡◌, ◌≤◌}
+use Rattle.std.specs.Prelude.{Bool, Contains, List, None, Option, Some, false, if◌then◌else◌, is_some, slice_get, true, unwrap_or, ℕ, ◌-◌, ◌==◌, ◌≡◌, ◌≤◌}
 
 -- A read of a session with the blocks that it gave, and the block that the session wrote last before.
 pub record OwnRead (w : World) (r : ResourceLine) (z : Sent) (own : Block) (bs : List (Option Block)) : Type 0 where
