@@ -1,3 +1,8 @@
+pub mod Shown
+pub mod Landed
+pub mod Newest
+pub mod First
+pub mod Looked
 pub mod Told
 pub mod Fresh
 pub mod Hosts

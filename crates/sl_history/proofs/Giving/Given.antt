@@ -14,10 +14,12 @@ use Rattle.sl_plain.proofs.Lists.{there_is}
 use Rattle.sl_plain.proofs.Numbers.{back_again}
 use Rattle.sl_history.proofs.Resources.Above.{line_aligned}
 use Rattle.sl_history.proofs.Resources.Calls.{finds_it, owned, sent_is, sent_there}
-use Rattle.sl_history.proofs.Resources.Looking.{IsLook, looked}
+use Rattle.sl_history.proofs.Giving.Looked.{looked}
+use Rattle.sl_history.proofs.Resources.Looking.{IsLook}
 use Rattle.sl_history.proofs.Resources.Owning.{spot_is}
-use Rattle.sl_history.proofs.Resources.Showing.{block_in_is, block_or, first_fresh}
-use Rattle.sl_history.proofs.Resources.Shown.{IsBlockLanding, host_range, stands_there}
+use Rattle.sl_history.proofs.Giving.First.{block_in_is, block_or, first_fresh}
+use Rattle.sl_history.proofs.Giving.Shown.{IsBlockLanding, stands_there}
+use Rattle.sl_history.proofs.Resources.Calls.{host_range}
 use Rattle.sl_history.specs.Resources.Histories.{is_host, landing_shown, sector_number, step_of_landing}
 use Rattle.sl_history.specs.Resources.Promises.{spot_of_line}
 use Rattle.sl_history.specs.Resources.Reads.{ReadBlocks, Says, step_given}

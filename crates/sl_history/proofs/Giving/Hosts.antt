@@ -9,12 +9,13 @@ use Rattle.sl_run_law.proofs.Place.Seats.{sized_in}
 use Rattle.sl_plain.proofs.Lists.{contains_cases, contains_first, contains_more, contains_none}
 use Rattle.sl_plain.proofs.Numbers.{back_again}
 use Rattle.sl_history.proofs.Resources.Above.{is_among, own_there}
-use Rattle.sl_history.proofs.Resources.Looking.{IsLook, looked}
+use Rattle.sl_history.proofs.Giving.Looked.{looked}
+use Rattle.sl_history.proofs.Resources.Looking.{IsLook}
 use Rattle.sl_history.proofs.Resources.Owning.{block_told, layout_at}
-use Rattle.sl_history.proofs.Resources.Showing.{block_in_is}
+use Rattle.sl_history.proofs.Giving.First.{block_in_is}
 use Rattle.sl_history.proofs.Resources.Standing.{Standing}
 use Rattle.sl_history.proofs.Resources.Calls.{in_world}
-use Rattle.sl_history.proofs.Resources.Shown.{holder_is}
+use Rattle.sl_history.proofs.Resources.Calls.{holder_is}
 use Rattle.sl_history.specs.Resources.Histories.{is_host}
 use Rattle.sl_history.specs.Resources.Sending.{Sent, block_of_course, holder_of, sender_of}
 use Rattle.sl_run.specs.Runs.{Happening}

@@ -8,9 +8,10 @@ use Rattle.sl_history.proofs.Giving.Stood.{stands_since}
 use Rattle.sl_history.proofs.Giving.Told.{given_at, read_told}
 use Rattle.sl_history.proofs.Giving.Whole.{not_torn}
 use Rattle.sl_history.proofs.Resources.Calls.{owned}
-use Rattle.sl_history.proofs.Resources.Newest.{reads_show_newest}
+use Rattle.sl_history.proofs.Giving.Newest.{reads_show_newest}
 use Rattle.sl_history.proofs.Resources.AtSteps.{IsReadAt, answer_of_read, read_found}
-use Rattle.sl_history.proofs.Resources.Shown.{IsShownOf, host_range, shown_of, writes_is}
+use Rattle.sl_history.proofs.Giving.Shown.{IsShownOf, shown_of}
+use Rattle.sl_history.proofs.Resources.Calls.{host_range, writes_is}
 use Rattle.sl_history.specs.Resources.Histories.{counts_own, is_host, landing_shown, own_before, sector_number, shown_by, shows_by, shows_whole, step_of_landing}
 use Rattle.sl_history.specs.Resources.Orders.{BlockSent, Follows, ReadSent}
 use Rattle.sl_history.specs.Resources.Promises.{history_of_line, spot_of_line}

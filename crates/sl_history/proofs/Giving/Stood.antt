@@ -19,10 +19,11 @@ use Rattle.sl_run_law.proofs.Place.Seats.{sized_in}
 use Rattle.sl_run_law.proofs.Place.Sizes.{sector_fits}
 use Rattle.sl_plain.proofs.Lists.{contains_cases, contains_first, kept}
 use Rattle.sl_history.proofs.Resources.Calls.{there_sent}
-use Rattle.sl_history.proofs.Resources.Landed.{Name, in_order, name_of, one_sent}
-use Rattle.sl_history.proofs.Resources.Newest.{Descends, HasCome, has_come, history_descends}
-use Rattle.sl_history.proofs.Resources.Showing.{block_in_is}
-use Rattle.sl_history.proofs.Resources.Shown.{IsBlockLanding, block_landing, in_history, writes_is}
+use Rattle.sl_history.proofs.Giving.Landed.{in_order}
+use Rattle.sl_history.proofs.Resources.Calls.{Name, name_of, one_sent, writes_is}
+use Rattle.sl_history.proofs.Giving.Newest.{Descends, HasCome, has_come, history_descends}
+use Rattle.sl_history.proofs.Giving.First.{block_in_is}
+use Rattle.sl_history.proofs.Giving.Shown.{IsBlockLanding, block_landing, in_history}
 use Rattle.sl_history.specs.Resources.Histories.{is_host}
 use Rattle.sl_history.specs.Resources.Orders.{BlockSent, LandedAt}
 use Rattle.sl_history.specs.Resources.Promises.{spot_of_line}

@@ -9,7 +9,7 @@ use Rattle.sl_run_law.specs.Sample.Samples.{numbered_landing}
 use Rattle.sl_history.proofs.Giving.Fresh.{fresh_at_first}
 use Rattle.sl_history.proofs.Giving.Hosts.{block_host, own_host}
 use Rattle.sl_history.proofs.Resources.Calls.{owned}
-use Rattle.sl_history.proofs.Resources.Shown.{IsShownOf, shown_of, stands_there}
+use Rattle.sl_history.proofs.Giving.Shown.{IsShownOf, shown_of, stands_there}
 use Rattle.sl_history.proofs.Resources.Standing.{standing}
 use Rattle.sl_history.specs.Resources.Histories.{is_host, landing_shown, sector_number}
 use Rattle.sl_history.specs.Resources.Orders.{ReadSent}

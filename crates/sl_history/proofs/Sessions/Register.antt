@@ -7,7 +7,7 @@ use Rattle.sl_id_safety.specs.State.IdStates.{own_courses}
 use Rattle.sl_trace.specs.Leases.{is_on}
 use Rattle.sl_plain.proofs.Lists.{kept}
 use Rattle.sl_history.proofs.Resources.Calls.{IsWork, block_works, found_of, owner_found, read_works}
-use Rattle.sl_history.proofs.Resources.Landed.{joined_then}
+use Rattle.sl_history.proofs.Resources.Joining.{joined_then}
 use Rattle.sl_history.proofs.Resources.Latest.{newest}
 use Rattle.sl_history.proofs.Giving.Proven.{reads_are_given}
 use Rattle.sl_history.specs.Resources.Reads.{ReadsGive, shown_given, shows_given}

@@ -12,7 +12,7 @@ use Rattle.sl_history.proofs.Resources.Reading.{counted_at, counted_reads}
 use Rattle.sl_history.proofs.Resources.Shows.{IsOf, has_block, has_own, listed}
 use Rattle.sl_history.specs.Resources.Reads.{ReadBlocks}
 use Rattle.sl_history.proofs.Resources.Clear.{IsClear, IsWhole, all_whole, is_clear, taken_at}
-use Rattle.sl_history.proofs.Resources.Shown.{host_range}
+use Rattle.sl_history.proofs.Resources.Calls.{host_range}
 use Rattle.sl_history.proofs.Resources.Standing.{Standing}
 use Rattle.sl_history.specs.Resources.Histories.{history_block, is_host, no_block, own_before}
 use Rattle.sl_history.specs.Resources.Promises.{history_of_line, spot_of_line}

@@ -21,7 +21,7 @@ use Rattle.sl_run_law.proofs.Place.Looks.{answered_below}
 use Rattle.sl_plain.proofs.Numbers.{below_suc, less_than_suc, lt_up_to, never_below, refl_le}
 use Rattle.sl_plain.proofs.Options.{some_of}
 use Rattle.sl_history.proofs.Resources.Above.{own_there}
-use Rattle.sl_history.proofs.Resources.Shown.{holder_is}
+use Rattle.sl_history.proofs.Resources.Calls.{holder_is}
 use Rattle.sl_history.proofs.Resources.Steps.{call_timed}
 use Rattle.sl_history.specs.Resources.Histories.{is_host, no_block}
 use Rattle.sl_history.specs.Resources.Promises.{NamesDiffer, history_of_line, spot_of_line}

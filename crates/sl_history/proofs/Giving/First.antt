@@ -1,14 +1,11 @@
--- What a read of blocks shows: each block that it gives was written before, or is a fresh one.
-use Rattle.sl_area.specs.Layouts.{Layout, Sizes, layout_with, record_in, sector_with}
-use Rattle.sl_area.specs.Places.{block_offset, fresh_block, fresh_leader, in_area, no_request, no_value}
+-- What stood at first at a place spells no block that a ballot has written; and what it is that spells a host's block.
+use Rattle.sl_area.specs.Layouts.{Layout, layout_with, record_in, sector_with}
+use Rattle.sl_area.specs.Places.{fresh_block, fresh_leader, in_area, no_request, no_value}
 use Rattle.sl_run_law.proofs.Landing.Initial.{initial_is_record}
-use Rattle.sl_run.specs.LawfulArea.{IsAreaRead, IsBlockRead, IsLeaseRead, IsRightRead}
-use Rattle.sl_trace.specs.Leases.{is_area_read, is_phase_read}
-use Rattle.sl_run_law.proofs.Place.Areas.{is_within}
 use Rattle.sl_run_law.proofs.Place.Beginnings.{zeros_at}
 use Rattle.sl_run_law.proofs.Place.Finding.{same_read}
 use Rattle.sl_run_law.proofs.Place.Reading.{header_is, layout_is}
-use Rattle.sl_run_law.proofs.Place.Sizes.{IsSized, sector_fits, sector_has_bytes, sized, slot_below}
+use Rattle.sl_run_law.proofs.Place.Sizes.{sector_fits, sized}
 use Rattle.sl_history.specs.Resources.Histories.{history_block, no_block}
 use Rattle.sl_run.specs.Headers.{IsHeader}
 use Rattle.sl_run.specs.Runs.{Happening}
@@ -23,20 +20,12 @@ use Rattle.sl_sector.specs.declared.sector.Block.{Block}
 use Rattle.sl_sector.specs.declared.sector.Rec.TheVariants.{BlockIs, DeltaIs, LeaderIs, RequestIs, ValueIs}
 use Rattle.sl_sector.specs.declared.sector.Rec.{Rec}
 use Rattle.sl_sector.specs.declared.sector.Bad.{Bad}
-use Rattle.sl_trace.specs.Traces.{Setting, Submitted, new_call}
-use Rattle.sl_trace.specs.declared.effects.LeaseStep.TheVariants.{ClearMode, FreeLeader, Phase1Read, Phase1Write, Phase2Read, Phase2Write, ReadArea, ReadBeforeFree, SetMode, TakeLeader}
-use Rattle.sl_trace.specs.declared.effects.LeaseStep.{LeaseStep}
-use Rattle.sl_trace.specs.declared.effects.Op.TheVariants.{ReadSectors}
-use Rattle.sl_trace.specs.declared.effects.Purpose.TheVariants.{Joining, Lease, Leaving, Renewal, RequestRead, RequestWrite, SeeRequest, Survey, ValueRead, ValueWrite}
-use Rattle.sl_trace.specs.declared.effects.Purpose.{Purpose}
-use Rattle.sl_trace.specs.declared.effects.Spot.{Spot}
-use Rattle.sl_trace.specs.declared.effects.Work.{Work}
-use Rattle.sl_words.proofs.CaseLaws.{false_is_true, none_some, some_value}
+use Rattle.sl_words.proofs.CaseLaws.{none_some, some_value}
 use Rattle.sl_words.proofs.WordLaws.{choose_some}
 use Rattle.sl_words.specs.Words.{choose}
-use Rattle.std.proofs.Common.{ap, arith, refl, subst, sym, ◌∙◌}
+use Rattle.std.proofs.Common.{ap, refl, subst, sym, ◌∙◌}
 use Rattle.std.proofs.lemmas.Bool.{eqb-true}
-use Rattle.std.specs.Prelude.{Bool, List, None, Ok, Err, Option, Result, Some, bytes_eq, false, find, if◌then◌else◌, nat_lt, replicate, true, [], ℕ, ◌&&◌, ◌*◌, ◌+◌, ◌-◌, ◌/◌, ◌<◌, ◌==◌, ◌≡◌, ◌≤◌}
+use Rattle.std.specs.Prelude.{Bool, List, None, Ok, Err, Option, Result, Some, bytes_eq, false, find, if◌then◌else◌, nat_lt, replicate, true, ℕ, ◌&&◌, ◌*◌, ◌+◌, ◌-◌, ◌/◌, ◌==◌, ◌≡◌}
 
 -- ---- what stood there at first
 
@@ -106,68 +95,3 @@ block_in_is host (Ok (BlockIs e)) b h =
 block_in_is host (Ok (RequestIs e)) b h = absurd (none_some b h)
 block_in_is host (Ok (ValueIs e)) b h = absurd (none_some b h)
 block_in_is host (Err bad) b h = absurd (none_some b h)
-
-low_block : (base s j : ℕ) → base ≤ base + s * (j + 1 + 1)
-low_block base s j = let k : ℕ = s * (j + 1 + 1) in omega arith
-
-two_above : (j n : ℕ) → j < n → j + 1 + 1 ≤ n + 2
-two_above j n lt = omega (arith, lt)
-
--- A block's place is in its area.
-pub block_inside : {s : Sizes} (g : Layout) (base j : ℕ) → IsSized s g → j < g.hosts → in_area g base (block_offset g base (j + 1)) ≡ true
-block_inside g base j z lt =
-    is_within g base (block_offset g base (j + 1)) (low_block base g.sector j)
-    (slot_below g.sector base (j + 1 + 1) g.hosts g.area (sector_has_bytes g z) (two_above j g.hosts lt) z.room)
-
--- ---- a read is at its place
-
-abbrev purposed : Purpose → Submitted
-purposed p = new_call 0 0 (record { number = 0; session = 0; path = []; offset = 0; op = ReadSectors 0; purpose = p })
-
-area_step : (st : Setting) (at : Spot) (c : Submitted) (work : Work) (step : LeaseStep) → is_area_read (purposed (Lease work step)) ≡ true → IsLeaseRead st at c step → IsAreaRead st at c
-area_step st at c work (ReadArea name) h law = law
-area_step st at c work ReadBeforeFree h law = law
-area_step st at c work Phase1Write h law = absurd (false_is_true h)
-area_step st at c work Phase1Read h law = absurd (false_is_true h)
-area_step st at c work Phase2Write h law = absurd (false_is_true h)
-area_step st at c work Phase2Read h law = absurd (false_is_true h)
-area_step st at c work TakeLeader h law = absurd (false_is_true h)
-area_step st at c work SetMode h law = absurd (false_is_true h)
-area_step st at c work FreeLeader h law = absurd (false_is_true h)
-area_step st at c work ClearMode h law = absurd (false_is_true h)
-
-pub area_right : (st : Setting) (at : Spot) (c : Submitted) (p : Purpose) → is_area_read (purposed p) ≡ true → IsRightRead st at c p → IsAreaRead st at c
-area_right st at c (Lease work step) h law = area_step st at c work step h law
-area_right st at c (Joining j step) h law = absurd (false_is_true h)
-area_right st at c Renewal h law = absurd (false_is_true h)
-area_right st at c Survey h law = absurd (false_is_true h)
-area_right st at c (Leaving j) h law = absurd (false_is_true h)
-area_right st at c (RequestRead j) h law = absurd (false_is_true h)
-area_right st at c (RequestWrite j o) h law = absurd (false_is_true h)
-area_right st at c SeeRequest h law = absurd (false_is_true h)
-area_right st at c (ValueWrite j) h law = absurd (false_is_true h)
-area_right st at c (ValueRead j) h law = absurd (false_is_true h)
-
-phase_step : (st : Setting) (at : Spot) (c : Submitted) (work : Work) (step : LeaseStep) → is_phase_read (purposed (Lease work step)) ≡ true → IsLeaseRead st at c step → IsBlockRead st at c
-phase_step st at c work (ReadArea name) h law = absurd (false_is_true h)
-phase_step st at c work ReadBeforeFree h law = absurd (false_is_true h)
-phase_step st at c work Phase1Write h law = absurd (false_is_true h)
-phase_step st at c work Phase1Read h law = law
-phase_step st at c work Phase2Write h law = absurd (false_is_true h)
-phase_step st at c work Phase2Read h law = law
-phase_step st at c work TakeLeader h law = absurd (false_is_true h)
-phase_step st at c work SetMode h law = absurd (false_is_true h)
-phase_step st at c work FreeLeader h law = absurd (false_is_true h)
-phase_step st at c work ClearMode h law = absurd (false_is_true h)
-
-pub phase_right : (st : Setting) (at : Spot) (c : Submitted) (p : Purpose) → is_phase_read (purposed p) ≡ true → IsRightRead st at c p → IsBlockRead st at c
-phase_right st at c (Lease work step) h law = phase_step st at c work step h law
-phase_right st at c (Joining j step) h law = absurd (false_is_true h)
-phase_right st at c Renewal h law = absurd (false_is_true h)
-phase_right st at c Survey h law = absurd (false_is_true h)
-phase_right st at c (Leaving j) h law = absurd (false_is_true h)
-phase_right st at c (RequestRead j) h law = absurd (false_is_true h)
-phase_right st at c (RequestWrite j o) h law = absurd (false_is_true h)
-phase_right st at c SeeRequest h law = absurd (false_is_true h)
-phase_right st at c (ValueWrite j) h law = absurd (false_is_true h)
-phase_right st at c (ValueRead j) h law = absurd (false_is_true h)
