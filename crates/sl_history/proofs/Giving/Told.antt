@@ -2,12 +2,9 @@
 use Rattle.sl_area.specs.Layouts.{Layout, record_in}
 use Rattle.sl_area.specs.Places.{blocks_in, read_at as sector_read, sector_of}
 use Rattle.sl_run_law.proofs.Course.Distinct.{nothing_more}
-use Rattle.sl_run_law.proofs.Place.Reading.{answer_gave}
 use Rattle.sl_run_law.specs.Course.Stamping.{AnswersAgree, IsAnsweredAs, IsCourseOf}
 use Rattle.sl_plain.proofs.Numbers.{both_next, one_again, one_further, zero_less}
-use Rattle.sl_history.proofs.Resources.Above.{reads_by}
-use Rattle.sl_history.proofs.Resources.Looking.{By_area, By_phase, Gave, given_blocks}
-use Rattle.sl_history.proofs.Resources.Recalled.{found_bytes}
+use Rattle.sl_history.proofs.Resources.Looking.{By_area, By_phase, Gave, given_blocks, given_told}
 use Rattle.sl_history.specs.Resources.Histories.{sector_number}
 use Rattle.sl_history.specs.Resources.Sending.{reads_blocks}
 use Rattle.sl_run.specs.Worlds.{Course, Daemon}
@@ -38,20 +35,18 @@ pub record ReadTold (d : Daemon) (c : Course) (q : Submitted) (bs : List (Option
 
 pub read_told : (d : Daemon) (c : Course) (q : Submitted) (bs : List (Option Block)) → IsCourseOf d c q → blocks_given d.setting.layout q ≡ Some bs → ReadTold d c q bs
 read_told d c q bs pair given =
-    let by = given_blocks d.setting.layout q bs given in
-    let bytes = found_bytes d.setting.layout q bs by in
-    let a = answer_gave q.answer bytes.0 bytes.1 in
-    let heard : IsAnsweredAs d c a.0 = subst (λ o. AnswersAgree d c o) a.1 pair.answers in
+    let a = given_told d.setting.layout q bs given in
+    let heard : IsAnsweredAs d c a.answered = subst (λ o. AnswersAgree d c o) a.is pair.answers in
     record {
-      bytes = bytes.0;
-      gave_is = bytes.1;
-      by = by;
-      answer = a.0;
-      its = a.1;
+      bytes = a.bytes;
+      gave_is = a.gave_is;
+      by = given_blocks d.setting.layout q bs given;
+      answer = a.answered;
+      its = a.is;
       answered = heard;
-      done = heard.done ∙ ap (λ x. is_ok_answer x) a.2;
-      sampled = heard.gives bytes.0 a.2;
-      reads = ap (λ (y : Call). is_block_read (new_call 0 0 y)) (sym pair.call) ∙ reads_by d.setting.layout q bs by;
+      done = heard.done ∙ ap (λ x. is_ok_answer x) a.read;
+      sampled = heard.gives a.bytes a.read;
+      reads = ap (λ (y : Call). is_block_read (new_call 0 0 y)) (sym pair.call) ∙ a.reads;
     }
 
 -- ---- what was given of a host
@@ -117,7 +112,10 @@ ranged_below f a zero j y h = absurd (none_some y h)
 ranged_below f a (suc n) zero y h = zero_less n
 ranged_below f a (suc n) (suc j) y h = both_next j n (ranged_below f (a + 1) n j y h)
 
+below_by : (g : Layout) (q : Submitted) (bs : List (Option Block)) (j : ℕ) (o : Option Block) → Gave g q bs → slice_get bs j ≡ Some o → j < g.hosts
+below_by g q bs j o (By_area bytes told is same) at = ranged_below (λ k. block_in k (sector_read g _ (k - 1))) 1 g.hosts j o (ap (λ l. slice_get l j) (sym same) ∙ at)
+below_by g q bs j o (By_phase bytes told alone is same) at = ranged_below (λ k. block_in k (sector_read g bytes (k - 1))) 1 g.hosts j o (ap (λ l. slice_get l j) (sym same) ∙ at)
+
 -- Each place among the blocks is a host's.
-pub given_below : (g : Layout) (q : Submitted) (bs : List (Option Block)) (j : ℕ) (o : Option Block) → Gave g q bs → slice_get bs j ≡ Some o → j < g.hosts
-given_below g q bs j o (By_area bytes told is same) at = ranged_below (λ k. block_in k (sector_read g _ (k - 1))) 1 g.hosts j o (ap (λ l. slice_get l j) (sym same) ∙ at)
-given_below g q bs j o (By_phase bytes told alone is same) at = ranged_below (λ k. block_in k (sector_read g bytes (k - 1))) 1 g.hosts j o (ap (λ l. slice_get l j) (sym same) ∙ at)
+pub given_below : (g : Layout) (q : Submitted) (bs : List (Option Block)) (j : ℕ) (o : Option Block) → blocks_given g q ≡ Some bs → slice_get bs j ≡ Some o → j < g.hosts
+given_below g q bs j o given at = below_by g q bs j o (given_blocks g q bs given) at

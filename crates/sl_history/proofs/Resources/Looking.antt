@@ -1,4 +1,10 @@
 -- A read of blocks that was answered: what it gave, and that it was made at its place.
+use Rattle.sl_run_law.proofs.Place.Reading.{answer_gave}
+use Rattle.sl_trace.specs.Leases.{is_block_read}
+use Rattle.sl_trace.specs.Traces.{Answered}
+use Rattle.sl_trace.specs.declared.input.Answer.TheVariants.{Read}
+use Rattle.std.proofs.lemmas.Bool.{or_left, or_right}
+use Rattle.std.specs.Prelude.{◌||◌}
 use Rattle.sl_area.specs.Layouts.{Layout}
 use Rattle.sl_area.specs.Places.{area_blocks, blocks_in}
 use Rattle.sl_run.specs.Lawful.{Orderly}
@@ -18,7 +24,7 @@ use Rattle.sl_trace.specs.Traces.{Submitted, gave, submitted, Setting, new_call}
 use Rattle.sl_trace.specs.declared.effects.Op.TheVariants.{ReadSectors}
 use Rattle.sl_trace.specs.declared.effects.Spot.{Spot}
 use Rattle.sl_words.proofs.CaseLaws.{none_some, some_value, false_is_true}
-use Rattle.std.proofs.Common.{refl, sym}
+use Rattle.std.proofs.Common.{ap, refl, sym, ◌∙◌}
 use Rattle.std.specs.Prelude.{Bool, Contains, List, None, Option, Some, false, true, ℕ, ◌≡◌, []}
 use Rattle.sl_trace.specs.declared.effects.LeaseStep.TheVariants.{ClearMode, FreeLeader, Phase1Read, Phase1Write, Phase2Read, Phase2Write, ReadArea, ReadBeforeFree, SetMode, TakeLeader}
 use Rattle.sl_trace.specs.declared.effects.LeaseStep.{LeaseStep}
@@ -47,6 +53,65 @@ gave_by g q bs (Some bytes) false false told one two h = absurd (none_some bs h)
 
 pub given_blocks : (g : Layout) (q : Submitted) (bs : List (Option Block)) → blocks_given g q ≡ Some bs → Gave g q bs
 given_blocks g q bs h = gave_by g q bs (gave q) (is_area_read q) (is_phase_read q) refl refl refl h
+
+-- It is a read of blocks that was answered with bytes.
+pub record GivenBy (q : Submitted) : Type 0 where
+  pub answered : Answered
+  pub is : q.answer ≡ Some answered
+  pub bytes : List ℕ
+  pub read : answered.answer ≡ Read bytes
+  pub gave_is : gave q ≡ Some bytes
+  pub reads : is_block_read q ≡ true
+
+given_with : (q : Submitted) (bytes : List ℕ) → gave q ≡ Some bytes → is_block_read q ≡ true → GivenBy q
+given_with q bytes told reads = let a = answer_gave q.answer bytes told in record { answered = a.0; is = a.1; bytes = bytes; read = a.2; gave_is = told; reads = reads }
+
+given_way : (g : Layout) (q : Submitted) (bs : List (Option Block)) → Gave g q bs → GivenBy q
+given_way g q bs (By_area bytes told is same) = given_with q bytes told (or_left (is_area_read q) (is_phase_read q) is)
+given_way g q bs (By_phase bytes told alone is same) = given_with q bytes told (or_right (is_area_read q) (is_phase_read q) is)
+
+pub given_told : (g : Layout) (q : Submitted) (bs : List (Option Block)) → blocks_given g q ≡ Some bs → GivenBy q
+given_told g q bs h = given_way g q bs (given_blocks g q bs h)
+
+-- ---- what gives blocks
+
+pub gives_area : (g : Layout) (q : Submitted) (bytes : List ℕ) → gave q ≡ Some bytes → is_area_read q ≡ true → blocks_given g q ≡ Some (area_blocks g bytes)
+gives_area g q bytes told is =
+    ap (λ o. elim o as (λ z. Option (List (Option Block))) [
+      | None ↦ None
+      | Some bs ↦ elim (is_area_read q) as (λ z. Option (List (Option Block))) [
+        | true ↦ Some (area_blocks g bs)
+        | false ↦ elim (is_phase_read q) as (λ z. Option (List (Option Block))) [ true ↦ Some (blocks_in g bs) | false ↦ None ]
+      ]
+    ]) told
+    ∙ ap (λ b. elim b as (λ z. Option (List (Option Block))) [
+      | true ↦ Some (area_blocks g bytes)
+      | false ↦ elim (is_phase_read q) as (λ z. Option (List (Option Block))) [ true ↦ Some (blocks_in g bytes) | false ↦ None ]
+    ]) is
+
+gives_by : (g : Layout) (q : Submitted) (bytes : List ℕ) (a b : Bool) → (a || b) ≡ true
+    → elim (Some bytes) as (λ z. Option (List (Option Block))) [
+      | None ↦ None
+      | Some bytes ↦ elim a as (λ z. Option (List (Option Block))) [
+        | true ↦ Some (area_blocks g bytes)
+        | false ↦ elim b as (λ z. Option (List (Option Block))) [ true ↦ Some (blocks_in g bytes) | false ↦ None ]
+      ]
+    ] ≡ None → ⊥
+gives_by g q bytes true b h none = none_some (area_blocks g bytes) (sym none)
+gives_by g q bytes false true h none = none_some (blocks_in g bytes) (sym none)
+gives_by g q bytes false false h none = false_is_true h
+
+-- A read that gave bytes gave blocks.
+pub gives_blocks : (g : Layout) (q : Submitted) (bytes : List ℕ) → gave q ≡ Some bytes → is_block_read q ≡ true → blocks_given g q ≡ None → ⊥
+gives_blocks g q bytes told reads none =
+    gives_by g q bytes (is_area_read q) (is_phase_read q) reads
+    (ap (λ o. elim o as (λ z. Option (List (Option Block))) [
+      | None ↦ None
+      | Some bytes ↦ elim (is_area_read q) as (λ z. Option (List (Option Block))) [
+        | true ↦ Some (area_blocks g bytes)
+        | false ↦ elim (is_phase_read q) as (λ z. Option (List (Option Block))) [ true ↦ Some (blocks_in g bytes) | false ↦ None ]
+      ]
+    ]) (sym told) ∙ none)
 
 -- ---- at its place, by the law of reads
 

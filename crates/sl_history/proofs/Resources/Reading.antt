@@ -11,7 +11,6 @@ use Rattle.sl_history.proofs.Resources.Above.{IsAmong, answer_step, answered_bef
 use Rattle.sl_history.proofs.Resources.Calls.{block_works as block_is_work}
 use Rattle.sl_history.proofs.Resources.Calls.{read_at_step, worker_joined}
 use Rattle.sl_history.proofs.Resources.Latest.{sent_as}
-use Rattle.sl_history.proofs.Resources.Looking.{given_blocks}
 use Rattle.sl_history.proofs.Resources.Owning.{block_is_lease, block_works, is_behind, layout_at, lease_is_work, number_at, session_as, works}
 use Rattle.sl_history.proofs.Resources.Recalled.{LookFound}
 use Rattle.sl_history.proofs.Resources.Shows.{HasBlock, IsOf, Seen, has_block, seen_by}
@@ -153,7 +152,7 @@ seen_before p h xs r x s k q among bs given j b taken =
     let w : World = world_at p h xs in
     let f = read_before p h xs r x s k q among bs given in
     let g : Layout = s.daemon.setting.layout in
-    let below : j < w.layout.hosts = subst (λ y. j < y.hosts) (layout_at p h xs k.run x s) (given_below g q bs j (Some b) (given_blocks g q bs given) taken) in
+    let below : j < w.layout.hosts = subst (λ y. j < y.hosts) (layout_at p h xs k.run x s) (given_below g q bs j (Some b) given taken) in
     let range = one_on j w.layout.hosts below in
     let host : is_host w (j + 1) ≡ true = and_from _ _ (le-leb 1 (j + 1) range.0) (le-leb (j + 1) w.layout.hosts range.1) in
     let o : IsOf p h xs r f.step (j + 1) bs = record { run = k.run; there = k.there; give = reads_are_given p h xs r k.run k.there; read = f.blocks; host = host } in

@@ -29,7 +29,7 @@ use Rattle.sl_trace.specs.Leases.{is_on}
 use Rattle.std.proofs.Common.{ap, arith, inl, inr, refl, subst, sym, ◌∙◌}
 use Rattle.std.proofs.lemmas.Bool.{cases_lt}
 use Rattle.std.proofs.lemmas.List.{append-nil}
-use Rattle.std.specs.Prelude.{Contains, List, Some, is_some, true, [], ℕ, ◌<◌, ◌×◌, ◌≡◌, ◌≤◌, ◌⊎◌}
+use Rattle.std.specs.Prelude.{Contains, List, Some, is_some, true, [], ℕ, ◌<◌, ◌≡◌, ◌≤◌, ◌⊎◌}
 
 -- A block that the history has, as its call says.
 pub block_shown : (p : Program) (h : Header) (xs : List Happening) → LawfulRun p h xs → (r : ResourceLine) → Contains h.resources r → (x : Sent) (b : Block) → Contains (all_sent (world_at p h xs)) x

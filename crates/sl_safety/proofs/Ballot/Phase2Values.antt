@@ -8,7 +8,6 @@ use Rattle.sl_ballots.specs.History.{History}
 use Rattle.sl_trace.specs.Ballots.{ballot_blocks, value_to_write, whole_blocks, with_own}
 use Rattle.sl_plain.proofs.Lists.{contains_cases, contains_none}
 use Rattle.sl_plain.proofs.Numbers.{zero_is_least}
-use Rattle.sl_history.proofs.Resources.Looking.{given_blocks}
 use Rattle.sl_history.proofs.Resources.Owning.{layout_at}
 use Rattle.sl_history.proofs.Resources.Values.{Another, Itself, Proposes, proposes}
 use Rattle.sl_history.specs.Resources.Histories.{history_block, is_host}
@@ -76,7 +75,7 @@ of_host p h xs run r there z own bs o b has =
     let read = read_there own 1 bs f.index f.pair f.at in
     let g : Layout = o.stands.daemon.setting.layout in
     let below : f.index < w.layout.hosts =
-    subst (λ y. f.index < y.hosts) (layout_at p h xs run z o.stands) (given_below g o.stands.told.one bs f.index read.0 (given_blocks g o.stands.told.one bs o.given) read.1) in
+    subst (λ y. f.index < y.hosts) (layout_at p h xs run z o.stands) (given_below g o.stands.told.one bs f.index read.0 o.given read.1) in
     let range = one_on f.index w.layout.hosts below in
     let host : is_host w (1 + f.index) ≡ true = and_from _ _ (le-leb 1 (1 + f.index) range.0) (le-leb (1 + f.index) w.layout.hosts range.1) in
     let s = host_shown p h xs run r there z own bs o (1 + f.index) host in

@@ -15,6 +15,7 @@ use Rattle.sl_history.proofs.Resources.Above.{IsAmong, answer_step, answered_bef
 use Rattle.sl_history.proofs.Resources.Reading.{IsWriter, seen_before}
 use Rattle.sl_history.specs.Resources.Promises.{spot_of_line}
 use Rattle.sl_run.specs.declared.header.ResourceLine.{ResourceLine}
+use Rattle.sl_history.proofs.Resources.Looking.{gives_area}
 use Rattle.sl_history.proofs.Resources.Owning.{layout_at, spot_is}
 use Rattle.sl_history.proofs.Resources.Shows.{Seen}
 use Rattle.sl_history.proofs.Resources.Standing.{Standing}
@@ -43,20 +44,6 @@ gave_stays : (n : ℕ) (was is : Submitted) (bytes : List ℕ) → Aged n was is
 gave_stays n was is bytes aged told =
     let a = answer_gave was.answer bytes told in
     ap (λ o. option_and_then (λ (z : Answered). bytes_given z.answer) o) (answer_stays n was is a.0 aged a.1 ∙ sym a.1) ∙ told
-
-gives_area : (g : Layout) (q : Submitted) (bytes : List ℕ) → gave q ≡ Some bytes → is_area_read q ≡ true → blocks_given g q ≡ Some (area_blocks g bytes)
-gives_area g q bytes told is =
-    ap (λ o. elim o as (λ z. Option (List (Option Block))) [
-      | None ↦ None
-      | Some bs ↦ elim (is_area_read q) as (λ z. Option (List (Option Block))) [
-        | true ↦ Some (area_blocks g bs)
-        | false ↦ elim (is_phase_read q) as (λ z. Option (List (Option Block))) [ true ↦ Some (blocks_in g bs) | false ↦ None ]
-      ]
-    ]) told
-    ∙ ap (λ b. elim b as (λ z. Option (List (Option Block))) [
-      | true ↦ Some (area_blocks g bytes)
-      | false ↦ elim (is_phase_read q) as (λ z. Option (List (Option Block))) [ true ↦ Some (blocks_in g bytes) | false ↦ None ]
-    ]) is
 
 -- ---- what a read of the area gave
 
