@@ -2,3 +2,4 @@ pub mod Sending
 pub mod Histories
 pub mod Promises
 pub mod Orders
+pub mod Reads

@@ -14,7 +14,7 @@ use Rattle.sl_safety.specs.Grant.Granted.{ResourceAt}
 use Rattle.sl_trace.specs.Leases.{ended_ballots, lease_calls}
 use Rattle.sl_run_law.proofs.Place.Areas.{one_resource}
 use Rattle.sl_plain.proofs.Lists.{contains_none}
-use Rattle.sl_history.proofs.Resources.Shown.{holder_is}
+use Rattle.sl_history.proofs.Resources.Calls.{holder_is}
 use Rattle.sl_history.specs.Resources.Promises.{history_of_line, spot_of_line}
 use Rattle.sl_history.specs.Resources.Sending.{holder_of, is_joined_there}
 use Rattle.sl_run.specs.Runs.{Happening}

@@ -11,9 +11,6 @@ pub mod ReasonGiven
 pub mod KeptBallots
 pub mod Phase2Stands
 pub mod Phase2Last
-pub mod Phase2Hosts
-pub mod Phase2First
-pub mod Phase2Reads
 pub mod Phase2Shows
 pub mod Phase2Values
 pub mod Phase2Apart

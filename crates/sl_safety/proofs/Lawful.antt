@@ -4,7 +4,7 @@
 -- sessions that act one follows another.
 use Rattle.sl_safety.proofs.Ballot.KeptProven.{histories_keep_their_ballots}
 use Rattle.sl_safety.proofs.Ballot.Led.{leaders_follow_ballots}
-use Rattle.sl_history.proofs.Resources.Above.{number_above}
+use Rattle.sl_history.proofs.Resources.Positive.{number_above}
 use Rattle.sl_history.proofs.Resources.Bases.{go_up}
 use Rattle.sl_history.proofs.Resources.Registers.{are_registers}
 use Rattle.sl_safety.specs.Histories.{HistoriesAreLawful, HistoriesKeepInstances}

@@ -9,8 +9,8 @@ use Rattle.sl_holdings.specs.Holdings.{IsSharedTo, SharedGrant}
 use Rattle.sl_run_law.proofs.Landing.Making.{run_made_before}
 use Rattle.sl_history.proofs.Resources.Calls.{sent_there}
 use Rattle.sl_history.proofs.Resources.Founding.{writer_is}
-use Rattle.sl_history.proofs.Resources.Registers.{block_at, ok_is, wrote}
-use Rattle.sl_history.proofs.Resources.Rising.{block_of_step}
+use Rattle.sl_history.proofs.Resources.AtSteps.{block_at, ok_is, wrote}
+use Rattle.sl_history.proofs.Resources.Above.{block_of_step}
 use Rattle.sl_history.specs.Resources.Histories.{is_host}
 use Rattle.sl_history.specs.Resources.Orders.{BlockSent}
 use Rattle.sl_history.specs.Resources.Promises.{history_of_line, spot_of_line}
@@ -21,10 +21,11 @@ use Rattle.sl_run.specs.Worlds.{Program, Stamp, World}
 use Rattle.sl_run.specs.declared.header.Header.{Header}
 use Rattle.sl_run.specs.declared.header.ResourceLine.{ResourceLine}
 use Rattle.sl_safety.proofs.Lawful.{are_lawful}
-use Rattle.sl_safety.proofs.Standing.{SentSince, block_stands}
+use Rattle.sl_history.proofs.Giving.Proven.{reads_are_given}
+use Rattle.sl_history.specs.Resources.Reads.{SentSince}
 use Rattle.sl_sector.specs.declared.sector.Block.{Block}
 use Rattle.sl_history.proofs.Sessions.FollowingSessions.{sessions_follow}
-use Rattle.std.proofs.Common.{ap, arith, subst, sym, ◌∙◌}
+use Rattle.std.proofs.Common.{ap, arith, refl, subst, sym, ◌∙◌}
 use Rattle.std.specs.Prelude.{Contains, List, Some, true, ℕ, ◌++◌, ◌<◌, ◌≡◌, ◌≤◌}
 
 -- ---- the mark
@@ -98,6 +99,6 @@ mode_stands p h now rest run r there s host is early b spells =
     let w : World = world_at p h (now ++ rest) in
     let m : MarkSent w r s is.ack = mark_sent p h (now ++ rest) r s w.step is in
     let y : SentSince w r s.holder.id b m.sent =
-    block_stands p h now rest run r there s.holder.id host (sessions_follow p h (now ++ rest) r run there s.holder.id) m.sent m.block m.done m.stamp
+    (reads_are_given p h (now ++ rest) r run there).stands now rest refl s.holder.id host (sessions_follow p h (now ++ rest) r run there s.holder.id) m.sent m.block m.done m.stamp
     m.answered (subst (λ (n : ℕ). n ≤ (world_at p h now).step) (sym m.at) early) b spells in
     says_shared p h (now ++ rest) run r there s is y.sent y.block b y.says (subst (λ (n : ℕ). n ≤ step_of y.sent) m.step y.since)

@@ -19,8 +19,8 @@ use Rattle.sl_run_law.specs.Moment.Moments.{Of_stamp}
 use Rattle.sl_plain.proofs.Lists.{any_found}
 use Rattle.sl_history.proofs.Resources.Calls.{block_at_step, sent_there}
 use Rattle.sl_history.proofs.Resources.Founding.{writes_at}
-use Rattle.sl_history.proofs.Resources.Rising.{block_of_step}
-use Rattle.sl_history.proofs.Resources.Shown.{holder_is}
+use Rattle.sl_history.proofs.Resources.Above.{block_of_step}
+use Rattle.sl_history.proofs.Resources.Calls.{holder_is}
 use Rattle.sl_history.specs.Resources.Histories.{is_host}
 use Rattle.sl_history.specs.Resources.Promises.{history_of_line, spot_of_line}
 use Rattle.sl_history.specs.Resources.Sending.{Sent, all_sent, block_of_course, step_of}

@@ -1,4 +1,4 @@
--- Numbers of ballots are above 0: a block of an instance has a number, since it comes from phase 1, or from a block that has one.
+-- A write of a lease, with the calls of the lease before it, and where its block comes from; and the history's block of a step.
 use Rattle.sl_area.specs.Layouts.{Layout}
 use Rattle.sl_run_law.specs.Course.Stamping.{stamp_in}
 use Rattle.sl_run_law.proofs.Front.Having.{contains_right}
@@ -7,20 +7,19 @@ use Rattle.sl_trace_law.proofs.Leases.ComingLaws.{blocks_come}
 use Rattle.sl_trace_law.proofs.Leases.NumberLaws.{number_is_place}
 use Rattle.sl_trace_law.proofs.Leases.TurnLaws.{one_at_a_time}
 use Rattle.sl_trace_law.specs.Leases.Promises.{WasAnsweredBy}
-use Rattle.sl_trace_law.specs.Leases.Ways.{BlockComes, FoundIn, Of_mode, Of_phase1, Of_phase2, Way, lease_among}
-use Rattle.sl_trace.specs.Leases.{block_of_host, block_submitted, blocks_given, is_area_read, is_block_read, is_lease_call, is_on, is_phase_read, spot_of_call}
+use Rattle.sl_trace_law.specs.Leases.Ways.{BlockComes, lease_among}
+use Rattle.sl_trace.specs.Leases.{block_of_host, blocks_given, is_block_read, is_lease_call, is_on, spot_of_call}
 use Rattle.sl_run_law.proofs.Place.Areas.{resource_aligned}
 use Rattle.sl_run_law.proofs.Place.Daemons.{daemons_are_fine, stamp_order}
 use Rattle.sl_run_law.proofs.Place.Seats.{sized_in}
 use Rattle.sl_plain.proofs.Lists.{contains_more, kept_inside}
 use Rattle.sl_plain.proofs.Options.{some_there}
 use Rattle.sl_history.proofs.Resources.Calls.{found_at}
-use Rattle.sl_history.proofs.Resources.Looking.{By_area, By_phase, Gave, IsLook, given_blocks, look_seen, looked}
-use Rattle.sl_history.proofs.Resources.Owning.{block_is_lease, block_told, block_works, layout_at, lease_is_work, number_at, own_written, spot_is, works, written}
-use Rattle.sl_history.proofs.Resources.Showing.{Never, Once, Seen}
-use Rattle.sl_history.proofs.Resources.Standing.{Standing, parts, standing}
+use Rattle.sl_history.proofs.Resources.Looking.{IsLook, given_told}
+use Rattle.sl_history.proofs.Resources.Owning.{block_told, layout_at, lease_is_work, number_at, spot_is, works, written}
+use Rattle.sl_history.proofs.Resources.Standing.{Standing, parts}
 use Rattle.sl_history.specs.Resources.Histories.{history_block, no_block}
-use Rattle.sl_history.specs.Resources.Promises.{HistoriesNumberAbove, history_of_line, spot_of_line}
+use Rattle.sl_history.specs.Resources.Promises.{history_of_line, spot_of_line}
 use Rattle.sl_history.specs.Resources.Sending.{Sent, all_sent, block_of_course, sent_at, step_of, writes_block}
 use Rattle.sl_run.specs.Runs.{Happening}
 use Rattle.sl_run.specs.Safety.{LawfulRun, world_at}
@@ -33,12 +32,13 @@ use Rattle.sl_trace.specs.declared.session.Session.{Session}
 use Rattle.sl_trace.specs.Traces.{Answered, Setting, Submitted, submitted}
 use Rattle.sl_trace.specs.declared.effects.Spot.{Spot}
 use Rattle.sl_words.proofs.CaseLaws.{none_some, one_value}
-use Rattle.sl_words.proofs.OrderLaws.{by_smaller}
 use Rattle.sl_words.proofs.WordLaws.{and_true}
-use Rattle.std.proofs.Common.{ap, arith, refl, subst, sym, ◌∙◌}
-use Rattle.std.proofs.lemmas.Bool.{eqb-true, or_left, or_right}
+use Rattle.std.proofs.Common.{ap, refl, subst, sym, ◌∙◌}
+use Rattle.std.proofs.lemmas.Bool.{eqb-true, or_right}
 use Rattle.std.specs.Option.{option_map_or}
-use Rattle.std.specs.Prelude.{Contains, List, None, Option, Some, filter, option_and_then, slice_get, true, unwrap_or, ℕ, ◌%◌, ◌&&◌, ◌++◌, ◌-◌, ◌<◌, ◌∷◌, ◌≡◌, ◌≤◌}
+use Rattle.std.specs.Prelude.{Contains, List, None, Option, Some, filter, is_some, option_and_then, slice_get, true, unwrap_or, ℕ, ◌%◌, ◌&&◌, ◌++◌, ◌-◌, ◌∷◌, ◌≡◌, ◌≤◌}
+use Rattle.sl_history.proofs.Resources.AtSteps.{not_at_first}
+use Rattle.sl_history.proofs.Resources.Calls.{block_at_step}
 
 -- ---- a resource's area
 
@@ -62,13 +62,9 @@ is_among st s at older q has =
     let both = and_true (is_lease_call q) (is_on st.layout at q.call) one.1 in
     record { has = two.0; session = eqb-true q.call.session s.number two.1; lease = both.0; on = both.1 }
 
-pub reads_by : (g : Layout) (q : Submitted) (bs : List (Option Block)) → Gave g q bs → is_block_read q ≡ true
-reads_by g q bs (By_area bytes told is same) = or_left (is_area_read q) (is_phase_read q) is
-reads_by g q bs (By_phase bytes told alone is same) = or_right (is_area_read q) (is_phase_read q) is
-
 -- What gave blocks is a read of blocks.
 pub reads_work : (g : Layout) (q : Submitted) (bs : List (Option Block)) → blocks_given g q ≡ Some bs → works q.call ≡ true
-reads_work g q bs h = or_right _ (is_block_read q) (reads_by g q bs (given_blocks g q bs h))
+reads_work g q bs h = or_right _ (is_block_read q) (given_told g q bs h).reads
 
 -- A call of the lease before was answered by then.
 pub answered_before : (p : Program) (h : Header) (xs : List Happening) → LawfulRun p h xs → (x : Sent) (s : Standing (world_at p h xs) x) → works x.course.call ≡ true
@@ -117,28 +113,6 @@ host_there bs k b (Some y) is h = is ∙ ap (λ z. Some z) h
 pub own_there : (bs : List (Option Block)) (host : ℕ) (b : Block) → block_of_host bs host ≡ Some b → slice_get bs (host - 1) ≡ Some (Some b)
 own_there bs host b h = host_there bs (host - 1) b (slice_get bs (host - 1)) refl h
 
-pub seen_by : (w : World) (at : Spot) (b : Block) (n k : ℕ) → n ≤ k → Seen w at b n → Seen w at b k
-seen_by w at b n k le (Never h) = Never h
-seen_by w at b n k le (Once z has on is less) = Once z has on is (omega (arith, less, le))
-
--- A block that was found in a read before was written before, or is fresh.
-pub found_seen : (p : Program) (h : Header) (xs : List Happening) → LawfulRun p h xs → (at : Spot) → at.base % (world_at p h xs).layout.area ≡ 0 → (x : Sent)
-    → (s : Standing (world_at p h xs) x) → works x.course.call ≡ true → is_area_work x.course.call.purpose ≡ true
-    → spot_of_call s.daemon.setting.layout s.told.one ≡ at → (own : Block) → FoundIn s.daemon.setting.layout s.session.id (lease_among s.daemon.setting s.session at s.told.older) own
-    → Seen (world_at p h xs) at own (step_of x)
-found_seen p h xs run at zero x s work area spot own f =
-    let w : World = world_at p h xs in
-    let layout = layout_at p h xs run x s in
-    let among = is_among s.daemon.setting s.session at s.told.older f.read f.has in
-    let k = older_look p h xs run x s at f.read among in
-    let l = looked p h xs x.machine s.machine s.daemon f.read k f.blocks f.given (s.session.id - 1) own (own_there f.blocks s.session.id own f.block) in
-    let seen = look_seen p h xs x.machine s.machine s.daemon f.read k (s.session.id - 1) own l in
-    let by = answered_before p h xs run x s work area f.read (subst (λ a. IsAmong s.daemon.setting s.session a s.told.older f.read) (sym spot) among)
-    (reads_work s.daemon.setting.layout f.read f.blocks f.given) in
-    let early = answer_step p h xs run x s f.read by l.read.answered l.read.its l.read.stamp l.read.entry in
-    let place : spot_of_call w.layout f.read ≡ at = spot_is w.layout at f.read zero (ap (λ g. is_on g at f.read.call) (sym layout) ∙ among.on) in
-    seen_by w at own l.read.stamp.step (step_of x) early (subst (λ a. Seen w a own l.read.stamp.step) place seen)
-
 -- ---- where a block comes from
 
 pub told_spot : (p : Program) (h : Header) (xs : List Happening) → LawfulRun p h xs → (at : Spot) → at.base % (world_at p h xs).layout.area ≡ 0 → (x : Sent)
@@ -155,48 +129,6 @@ comes_at p h xs run at zero x s on b is =
     let some : 1 ≤ s.daemon.setting.layout.hosts = subst (λ (g : Layout). 1 ≤ g.hosts) (sym (layout_at p h xs run x s)) (sized_in p h xs run).hosts.0 in
     subst (λ a. BlockComes s.daemon.setting s.session a s.told.older s.told.one b) (told_spot p h xs run at zero x s on)
     (blocks_come s.daemon.setting s.daemon.trace s.lawful some s.told.newer s.told.older s.told.one b s.told.is (block_told (world_at p h xs) x s b is) s.session s.known)
-
--- The own block of a write was written before, or is fresh.
-pub own_seen : (p : Program) (h : Header) (xs : List Happening) → LawfulRun p h xs → (at : Spot) → at.base % (world_at p h xs).layout.area ≡ 0 → (x : Sent)
-    → Contains (all_sent (world_at p h xs)) x → (s : Standing (world_at p h xs) x) → is_on (world_at p h xs).layout at x.course.call ≡ true → (b : Block)
-    → block_of_course x.course ≡ Some b → (c : BlockComes s.daemon.setting s.session at s.told.older s.told.one b) → (o : Option Block)
-    → block_submitted (lease_among s.daemon.setting s.session at s.told.older) ≡ o → Seen (world_at p h xs) at c.own (step_of x)
-own_seen p h xs run at zero x has s on b is c None found =
-    let w : World = world_at p h xs in
-    found_seen p h xs run at zero x s (block_works x.course b is) (lease_is_work x.course.call.purpose (block_is_lease w x s b is)) (told_spot p h xs run at zero x s on) c.own (c.found found)
-own_seen p h xs run at zero x has s on b is c (Some d) found =
-    let o = own_written p h xs run at zero x has s on b is c.own (found ∙ ap (λ y. Some y) (c.last d found)) in
-    Once o.sent o.has o.on o.block o.before
-
--- ---- numbers
-
-abbrev Numbered : World → Spot → ℕ → Type 0
-Numbered w at n = (z : Sent) (b : Block) → Contains (all_sent w) z → is_on w.layout at z.course.call ≡ true → block_of_course z.course ≡ Some b → step_of z ≡ n → 0 < b.lver → 0 < b.mbal
-
-by_own : (lver mbal lver' mbal' : ℕ) → lver' ≡ lver → mbal' ≡ mbal → (0 < lver → 0 < mbal) → 0 < lver' → 0 < mbal'
-by_own lver mbal lver' mbal' p q h some = let more = h (subst (λ n. 0 < n) p some) in subst (λ n. 0 < n) (sym q) more
-
-pub nothing_above : (a : ℕ) → a ≡ 0 → 0 < a → ⊥
-nothing_above a h k = omega (arith, h, k)
-
-seen_numbered : (w : World) (at : Spot) (own : Block) (n : ℕ) → ((k : ℕ) → k < n → Numbered w at k) → Seen w at own n → 0 < own.lver → 0 < own.mbal
-seen_numbered w at own n before (Never h) some = absurd (nothing_above own.lver (ap (λ x. x.lver) h) some)
-seen_numbered w at own n before (Once z has on is less) some = before (step_of z) less z own has on is refl some
-
-by_way : (s : Session) (c : Submitted) (own b : Block) → Way s c own b → (0 < own.lver → 0 < own.mbal) → 0 < b.lver → 0 < b.mbal
-by_way s c own b (Of_phase1 at h) above some = h.positive
-by_way s c own b (Of_phase2 at h) above some = by_own own.lver own.mbal b.lver b.mbal h.lver h.mbal above some
-by_way s c own b (Of_mode at h) above some = by_own own.lver own.mbal b.lver b.mbal h.lver h.mbal above some
-
--- Each block of an instance has a number.
-pub blocks_numbered : (p : Program) (h : Header) (xs : List Happening) → LawfulRun p h xs → (at : Spot) → at.base % (world_at p h xs).layout.area ≡ 0 → (n : ℕ)
-    → ((k : ℕ) → k < n → Numbered (world_at p h xs) at k) → Numbered (world_at p h xs) at n
-blocks_numbered p h xs run at zero n before x b has on is here some =
-    let w : World = world_at p h xs in
-    let s = standing p h xs run x has in
-    let c = comes_at p h xs run at zero x s on b is in
-    let seen = own_seen p h xs run at zero x has s on b is c (block_submitted (lease_among s.daemon.setting s.session at s.told.older)) refl in
-    by_way s.session s.told.one c.own b c.way (seen_numbered w at c.own n before (subst (λ k. Seen w at c.own k) here seen)) some
 
 -- ---- the history's block of a step
 
@@ -233,9 +165,16 @@ written_at p h xs r e writes =
       shown = block_by (sent_at w (spot_of_line r) writes_block e) x.0 b.0 x.1 b.1;
     }
 
-pub number_above : HistoriesNumberAbove
-number_above p h xs r run there differ e writes one =
-    let x = written_at p h xs r e writes in
-    let all = by_smaller (λ n. Numbered (world_at p h xs) (spot_of_line r) n) (λ n before. blocks_numbered p h xs run (spot_of_line r) (line_aligned p h xs run r there) n before) in
-    let some : 0 < x.block.lver = subst (λ y. 0 < y.lver) x.shown one.instance in
-    subst (λ y. 0 < y.mbal) (sym x.shown) (all e x.sent x.block x.has x.on x.wrote x.step_is some)
+-- At a step of a block of the resource the history has that block.
+pub block_of_step : (p : Program) (h : Header) (xs : List Happening) → LawfulRun p h xs → (r : ResourceLine) → Contains h.resources r → (z : Sent) (b : Block)
+    → Contains (all_sent (world_at p h xs)) z → is_on (world_at p h xs).layout (spot_of_line r) z.course.call ≡ true → block_of_course z.course ≡ Some b
+    → (history_of_line p h xs r).block (step_of z) ≡ history_block b
+block_of_step p h xs run r there z b has on is =
+    let w : World = world_at p h xs in
+    block_by (sent_at w (spot_of_line r) writes_block (step_of z)) z b (block_at_step p h xs run r there z has on (ap (λ o. is_some o) is)) is
+
+-- At step 0 it has none.
+pub block_of_none : (p : Program) (h : Header) (xs : List Happening) → LawfulRun p h xs → (r : ResourceLine) → (history_of_line p h xs r).block 0 ≡ no_block
+block_of_none p h xs run r =
+    ap (λ q. option_map_or history_block (option_and_then (λ y. block_of_course y.course) q) no_block)
+    (not_at_first p h xs run r (sent_at (world_at p h xs) (spot_of_line r) writes_block 0) refl)

@@ -4,55 +4,30 @@ use Rattle.sl_trace_law.specs.Leases.Ways.{Of_mode, Of_phase1, Of_phase2, Way, l
 use Rattle.sl_trace.specs.Leases.{block_submitted, is_on}
 use Rattle.sl_run_law.proofs.Place.Seats.{sized_in}
 use Rattle.sl_plain.proofs.Numbers.{equal_is_least, zero_is_least}
-use Rattle.sl_history.proofs.Resources.Above.{comes_at, line_aligned, told_spot, written_at}
+use Rattle.sl_history.proofs.Resources.Above.{block_of_none, block_of_step, comes_at, line_aligned, told_spot, written_at}
 use Rattle.sl_history.proofs.Resources.Basing.{read_front}
 use Rattle.sl_history.proofs.Resources.Calls.{block_works as block_is_work}
-use Rattle.sl_history.proofs.Resources.Calls.{in_world, worker_joined}
+use Rattle.sl_history.proofs.Resources.Calls.{worker_joined}
 use Rattle.sl_history.proofs.Resources.Owning.{OwnWritten, base_by, block_is_lease, block_works, last_is_none, layout_at, lease_is_work, own_written}
 use Rattle.sl_history.proofs.Resources.Recalled.{IsWrite, LookFound, look_found}
-use Rattle.sl_history.proofs.Resources.Rising.{block_of_none, block_of_step, look_shows}
-use Rattle.sl_history.proofs.Resources.Shown.{holder_is}
+use Rattle.sl_history.proofs.Giving.Hosts.{own_host}
+use Rattle.sl_history.proofs.Resources.Reading.{look_at, look_has}
+use Rattle.sl_history.proofs.Giving.Proven.{reads_are_given}
 use Rattle.sl_history.proofs.Resources.Standing.{Standing, standing}
-use Rattle.sl_history.specs.Resources.Histories.{base_of, history_block, is_host, landing_shown, own_before, shown_by, shows_whole, step_of_landing}
+use Rattle.sl_history.specs.Resources.Histories.{base_of, history_block, is_host, shown_by}
 use Rattle.sl_history.specs.Resources.Promises.{HistoriesGoUp, history_of_line, spot_of_line}
-use Rattle.sl_history.specs.Resources.Sending.{Sent, all_sent, block_of_course, holder_of, sender_of, step_of}
+use Rattle.sl_history.specs.Resources.Sending.{Sent, all_sent, block_of_course, holder_of, is_joined_there, sender_of, step_of}
 use Rattle.sl_run.specs.Runs.{Happening}
-use Rattle.sl_run.specs.Safety.{Found, LawfulRun, world_at}
-use Rattle.sl_run.specs.Worlds.{Landing, Program, World}
+use Rattle.sl_run.specs.Safety.{LawfulRun, world_at}
+use Rattle.sl_run.specs.Worlds.{Program, World}
 use Rattle.sl_run.specs.declared.header.Header.{Header}
 use Rattle.sl_run.specs.declared.header.ResourceLine.{ResourceLine}
 use Rattle.sl_sector.specs.declared.sector.Block.{Block}
-use Rattle.sl_trace.specs.Sessions.{session_numbered}
 use Rattle.sl_trace.specs.declared.session.Session.{Session}
 use Rattle.sl_trace.specs.Traces.{Submitted}
-use Rattle.sl_trace.specs.declared.effects.Spot.{Spot}
-use Rattle.sl_words.specs.Words.{some_is}
 use Rattle.std.proofs.Common.{ap, inl, inr, refl, subst, sym, ◌∙◌}
 use Rattle.std.specs.Option.{option_map_or}
-use Rattle.std.specs.Prelude.{Bool, Contains, List, None, Option, Some, false, if◌then◌else◌, is_some, true, ℕ, ◌≡◌, ◌≤◌, ◌⊎◌}
-
--- The holder of a call's session has the session's id.
-pub own_host : (w : World) (x : Sent) (s : Standing w x) → (holder_of w (sender_of x)).id ≡ s.session.id
-own_host w x s =
-    let f : Found = record { machine = s.machine; daemon = s.daemon; session = s.session } in
-    ap (λ o. o.id)
-    (holder_is w (sender_of x) f
-    (in_world w (sender_of x) s.machine s.daemon s.session s.at s.numbered
-    (ap (λ c. session_numbered s.daemon.setting s.daemon.trace c.session) (sym s.told.pair.call) ∙ s.known)))
-
--- ---- what a look shows of the own host, as a step
-
-pub shown_whole : (w : World) (at : Spot) (k : ℕ) (z : Sent) (l : Landing) → is_host w k ≡ true → landing_shown w at z.course k ≡ Some l → l.whole ≡ true
-    → shown_by w at k z ≡ step_of_landing w l
-shown_whole w at k z l host shown whole =
-    let all : shows_whole w at k z ≡ true = ap (λ o. some_is (λ (y : Landing). y.whole) o) shown ∙ whole in
-    ap (λ b. if b then (if shows_whole w at k z then option_map_or (step_of_landing w) (landing_shown w at z.course k) 0 else option_map_or step_of (own_before w at z) 0) else 0) host
-    ∙ ap (λ b. if b then option_map_or (step_of_landing w) (landing_shown w at z.course k) 0 else option_map_or step_of (own_before w at z) 0) all
-    ∙ ap (λ o. option_map_or (step_of_landing w) o 0) shown
-
-pub shown_none : (w : World) (at : Spot) (k : ℕ) (z : Sent) → is_host w k ≡ false → shown_by w at k z ≡ 0
-shown_none w at k z host =
-    ap (λ b. if b then (if shows_whole w at k z then option_map_or (step_of_landing w) (landing_shown w at z.course k) 0 else option_map_or step_of (own_before w at z) 0) else 0) host
+use Rattle.std.specs.Prelude.{Bool, Contains, List, None, Option, Some, false, is_some, true, ℕ, ◌≡◌, ◌≤◌, ◌⊎◌}
 
 -- ---- the base
 
@@ -61,7 +36,7 @@ pub data BaseIs (p : Program) (h : Header) (xs : List Happening) (r : ResourceLi
   -- the block that the session submitted last
   Written : OwnWritten (world_at p h xs) (spot_of_line r) x own → BaseIs p h xs r x s own
   -- or what its last look shows of its host
-  Shown : LookFound (world_at p h xs) (spot_of_line r) x s own
+  Shown : LookFound (world_at p h xs) (spot_of_line r) x s own → is_joined_there (world_at p h xs) r.lockspace (sender_of x) ≡ true
       → block_submitted (lease_among s.daemon.setting s.session (spot_of_line r) s.told.older) ≡ None → BaseIs p h xs r x s own
 
 pub record Based (p : Program) (h : Header) (xs : List Happening) (r : ResourceLine) (x : Sent) (s : Standing (world_at p h xs) x) (b : Block) : Type 0 where
@@ -83,7 +58,7 @@ based_by p h xs run r there x has s on b is None found =
     let joined = worker_joined p h xs r x (block_is_work p h xs run r there x has on (ap (λ o. is_some o) is)) in
     let k : IsWrite p h xs (spot_of_line r) x s =
     record { run = run; work = block_works x.course b is; area = lease_is_work x.course.call.purpose (block_is_lease w x s b is); spot = spot } in
-    record { own = f.read.own; call = f.call; same = f.same; way = f.read.way; base = Shown (look_found p h xs r there x s joined k b f) found }
+    record { own = f.read.own; call = f.call; same = f.same; way = f.read.way; base = Shown (look_found p h xs r there x s joined k b f) joined found }
 based_by p h xs run r there x has s on b is (Some d) found =
     let zero = line_aligned p h xs run r there in
     let c = comes_at p h xs run (spot_of_line r) zero x s on b is in
@@ -101,26 +76,26 @@ based p h xs run r there x has s on b is =
     based_by p h xs run r there x has s on b is (block_submitted (lease_among s.daemon.setting s.session (spot_of_line r) s.told.older)) refl
 
 -- The base of a first write is what its last look shows of its host.
-pub look_base : (p : Program) (h : Header) (xs : List Happening) → LawfulRun p h xs → (r : ResourceLine) (x : Sent) (s : Standing (world_at p h xs) x) (own : Block)
-    → (f : LookFound (world_at p h xs) (spot_of_line r) x s own)
+pub look_base : (p : Program) (h : Header) (xs : List Happening) → LawfulRun p h xs → (r : ResourceLine) → Contains h.resources r → (x : Sent) (s : Standing (world_at p h xs) x) (own : Block)
+    → (f : LookFound (world_at p h xs) (spot_of_line r) x s own) → is_joined_there (world_at p h xs) r.lockspace (sender_of x) ≡ true
     → block_submitted (lease_among s.daemon.setting s.session (spot_of_line r) s.told.older) ≡ None
-    → base_of (world_at p h xs) (spot_of_line r) x ≡ shown_by (world_at p h xs) (spot_of_line r) s.session.id f.sent
-look_base p h xs run r x s own f none =
+    → base_of (world_at p h xs) (spot_of_line r) x ≡ (history_of_line p h xs r).shown (step_of f.sent) s.session.id
+look_base p h xs run r there x s own f joined none =
     let w : World = world_at p h xs in
     ap (base_by w (spot_of_line r) x) (last_is_none p h xs run (spot_of_line r) x s none)
     ∙ ap (λ o. option_map_or (shown_by w (spot_of_line r) (holder_of w (sender_of x)).id) o 0) f.last
     ∙ ap (λ n. shown_by w (spot_of_line r) n f.sent) (own_host w x s)
+    ∙ sym (ap (λ o. option_map_or (shown_by w (spot_of_line r) s.session.id) o 0) (look_at p h xs run r there x s own f joined))
 
 -- Its block is the own block, or the session has no host's id.
 base_block : (p : Program) (h : Header) (xs : List Happening) → LawfulRun p h xs → (r : ResourceLine) → Contains h.resources r → (x : Sent) (s : Standing (world_at p h xs) x) (own : Block)
-    → (f : LookFound (world_at p h xs) (spot_of_line r) x s own) → (b : Bool) → is_host (world_at p h xs) s.session.id ≡ b → (n : ℕ)
-    → n ≡ shown_by (world_at p h xs) (spot_of_line r) s.session.id f.sent
+    → (f : LookFound (world_at p h xs) (spot_of_line r) x s own) → is_joined_there (world_at p h xs) r.lockspace (sender_of x) ≡ true
+    → (b : Bool) → is_host (world_at p h xs) s.session.id ≡ b → (n : ℕ) → n ≡ (history_of_line p h xs r).shown (step_of f.sent) s.session.id
     → ((history_of_line p h xs r).block n ≡ history_block own) ⊎ ((n ≡ 0) × (b ≡ false))
-base_block p h xs run r there x s own f true host n is =
-    let w : World = world_at p h xs in
-    let q = look_shows p h xs run r there x s own f host in
-    inl (ap (λ k. (history_of_line p h xs r).block k) (is ∙ shown_whole w (spot_of_line r) s.session.id f.sent q.landing host q.shown q.whole) ∙ q.block)
-base_block p h xs run r there x s own f false host n is = inr (is ∙ shown_none (world_at p h xs) (spot_of_line r) s.session.id f.sent host, refl)
+base_block p h xs run r there x s own f joined true host n is =
+    inl (ap (λ k. (history_of_line p h xs r).block k) is ∙ (look_has p h xs run r there x s own f joined host).block)
+base_block p h xs run r there x s own f joined false host n is =
+    inr (is ∙ ((reads_are_given p h xs r run there).others (step_of f.sent) s.session.id (ap (λ o. is_some o) (look_at p h xs run r there x s own f joined)) host).1, refl)
 
 pub block_of_base : (p : Program) (h : Header) (xs : List Happening) → LawfulRun p h xs → (r : ResourceLine) → Contains h.resources r → (x : Sent) (s : Standing (world_at p h xs) x) (own : Block)
     → BaseIs p h xs r x s own
@@ -128,9 +103,9 @@ pub block_of_base : (p : Program) (h : Header) (xs : List Happening) → LawfulR
     ⊎ ((base_of (world_at p h xs) (spot_of_line r) x ≡ 0) × (is_host (world_at p h xs) s.session.id ≡ false))
 block_of_base p h xs run r there x s own (Written o) =
     inl (ap (λ k. (history_of_line p h xs r).block k) o.base ∙ block_of_step p h xs run r there o.sent own o.has o.on o.block)
-block_of_base p h xs run r there x s own (Shown f none) =
-    base_block p h xs run r there x s own f (is_host (world_at p h xs) s.session.id) refl (base_of (world_at p h xs) (spot_of_line r) x)
-    (look_base p h xs run r x s own f none)
+block_of_base p h xs run r there x s own (Shown f joined none) =
+    base_block p h xs run r there x s own f joined (is_host (world_at p h xs) s.session.id) refl (base_of (world_at p h xs) (spot_of_line r) x)
+    (look_base p h xs run r there x s own f joined none)
 
 -- ---- no ballot goes below
 

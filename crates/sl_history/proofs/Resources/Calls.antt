@@ -27,7 +27,7 @@ use Rattle.sl_plain.proofs.Options.{else_some}
 use Rattle.sl_history.proofs.Resources.Alone.{Stands, given_differ, one_stands}
 use Rattle.sl_history.proofs.Resources.Steps.{call_timed, calls_apart, one_daemon, one_entry}
 use Rattle.sl_history.specs.Resources.Promises.{NamesDiffer, spot_of_line}
-use Rattle.sl_history.specs.Resources.Sending.{Sent, all_names, all_sent, holder_of, is_counted_read, is_joined_there, names_in, read_at, reads_blocks, same_holder, sender_of, sent_at, session_of_holder, step_of, writes_block, writes_leader}
+use Rattle.sl_history.specs.Resources.Sending.{Sent, all_names, all_sent, holder_of, is_counted_read, is_joined_there, names_in, read_at, reads_blocks, same_holder, sender_of, sent_at, session_of_holder, step_of, writes_block, writes_leader, holder_of_found, nobody}
 use Rattle.sl_run.specs.Runs.{Happening}
 use Rattle.sl_run.specs.Safety.{Found, LawfulRun, SessionId, session_of_world, trace_of, world_at}
 use Rattle.sl_run.specs.Worlds.{Course, Daemon, Machine, Program, World, daemon_numbered, daemons_on, machine_at}
@@ -54,11 +54,13 @@ use Rattle.sl_words.proofs.CaseLaws.{false_is_true, none_some, one_value, some_v
 use Rattle.sl_words.proofs.WordLaws.{and_true, some_is_true}
 use Rattle.sl_words.specs.Words.{some_is}
 use Rattle.std.proofs.Common.{ap, arith, inl, inr, refl, subst, sym, tests, ◌∙◌}
-use Rattle.std.proofs.lemmas.Bool.{and_from, eq-eqb, eqb-true, or_left, or_right}
+use Rattle.std.proofs.lemmas.Bool.{and_from, eq-eqb, eqb-true, or_left, or_right, leb-true}
 use Rattle.std.proofs.lemmas.List.{length-append}
 use Rattle.std.proofs.lemmas.Slice.Eq.{bytes_eq-Decides}
 use Rattle.std.specs.List.{enumerate_from}
-use Rattle.std.specs.Prelude.{Bool, Contains, IsTrue, List, None, Option, Some, [], bytes_eq, false, find, flat_map, is_none, is_some, length, map, option_and_then, option_map, slice_get, suc, true, zero, ℕ, ◌%◌, ◌&&◌, ◌++◌, ◌+◌, ◌-◌, ◌<◌, ◌==◌, ◌∷◌, ◌≡◌, ◌≤◌, ◌⊎◌}
+use Rattle.std.specs.Prelude.{Bool, Contains, IsTrue, List, None, Option, Some, [], bytes_eq, false, find, flat_map, is_none, is_some, length, map, option_and_then, option_map, slice_get, suc, true, zero, ℕ, ◌%◌, ◌&&◌, ◌++◌, ◌+◌, ◌-◌, ◌<◌, ◌==◌, ◌∷◌, ◌≡◌, ◌≤◌, ◌⊎◌, nat_le}
+use Rattle.sl_history.specs.Resources.Histories.{is_host}
+use Rattle.std.specs.Option.{option_map_or}
 
 -- ---- all that was sent
 
@@ -639,3 +641,35 @@ holder_named w lockspace differ i is =
     (λ k inside passes.
     let both = and_true (is_joined_there w lockspace k) (same_holder (holder_of w k) (holder_of w i)) passes in
     differ k i both.0 is (holders_are (holder_of w k) (holder_of w i) both.1))
+
+-- ---- numbers, and names
+
+-- A host's number is in its range.
+pub host_range : (w : World) (k : ℕ) → is_host w k ≡ true → (1 ≤ k) × (k ≤ w.layout.hosts)
+host_range w k h = let both = and_true (nat_le 1 k) (nat_le k w.layout.hosts) h in (leb-true 1 k both.0, leb-true k w.layout.hosts both.1)
+
+-- A call that writes a block record writes a block.
+pub writes_is : (c : Course) (b : Block) → record_of c.call.op ≡ Some (BlockIs b) → writes_block c ≡ true
+writes_is c b h = ap (λ o. is_some (option_and_then block_of_record o)) h
+
+-- The holder of a session that is found.
+pub holder_is : (w : World) (i : SessionId) (f : Found) → session_of_world w i ≡ Some f → holder_of w i ≡ holder_of_found f
+holder_is w i f h = ap (λ o. option_map_or holder_of_found o nobody) h
+
+abbrev pub Name : Type 0
+Name = ℕ × ℕ
+
+abbrev pub name_of : Sent → Name
+name_of x = (x.machine, x.course.call.number)
+
+-- Two calls of one machine and one number are one.
+pub one_sent : (p : Program) (h : Header) (xs : List Happening) → LawfulRun p h xs → (x y : Sent) → Contains (all_sent (world_at p h xs)) x → Contains (all_sent (world_at p h xs)) y
+    → x.machine ≡ y.machine → x.course.call.number ≡ y.course.call.number → x ≡ y
+one_sent p h xs run x y this that machine number =
+    let w : World = world_at p h xs in
+    let k : IsThere w x = sent_there w x this in
+    let j : IsThere w y = sent_there w y that in
+    let same : j.machine ≡ k.machine = one_value j.machine k.machine (machine_at w x.machine) (ap (machine_at w) machine ∙ j.at) k.at in
+    sent_is x y machine
+    (one_call k.machine.calls x.course y.course (each_distinct p h xs run x.machine k.machine k.at) k.has (subst (λ a. Contains a.calls y.course) same j.has)
+    (eq-eqb x.course.call.number y.course.call.number number))

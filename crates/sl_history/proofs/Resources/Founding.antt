@@ -4,28 +4,28 @@ use Rattle.sl_ballots.specs.History.{History}
 use Rattle.sl_trace_law.specs.Leases.Ways.{lease_among}
 use Rattle.sl_trace.specs.Leases.{block_submitted}
 use Rattle.sl_history.proofs.Resources.Above.{WrittenAt, written_at}
-use Rattle.sl_history.proofs.Resources.Bases.{Shown, Written, based, look_base, own_host}
-use Rattle.sl_history.proofs.Resources.Calls.{block_at_step, read_at_step, worker_joined}
+use Rattle.sl_history.proofs.Giving.Hosts.{own_host}
+use Rattle.sl_history.proofs.Resources.Bases.{Shown, Written, based, look_base}
+use Rattle.sl_history.proofs.Resources.Calls.{block_at_step, worker_joined}
 use Rattle.sl_history.proofs.Resources.Calls.{block_works as block_is_work}
 use Rattle.sl_history.proofs.Resources.Owning.{OwnWritten, none_before}
 use Rattle.sl_history.proofs.Resources.Recalled.{LookFound}
-use Rattle.sl_history.proofs.Resources.Rising.{look_shows}
+use Rattle.sl_history.proofs.Resources.Reading.{look_at, look_has}
+use Rattle.sl_history.proofs.Giving.Proven.{reads_are_given}
 use Rattle.sl_history.proofs.Resources.Standing.{Standing, standing}
-use Rattle.sl_history.specs.Resources.Histories.{base_of, counts_own, is_host, shown_by, shows_by, shows_whole}
+use Rattle.sl_history.specs.Resources.Histories.{base_of, is_host}
 use Rattle.sl_history.specs.Resources.Promises.{NamesDiffer, history_of_line, spot_of_line}
-use Rattle.sl_history.specs.Resources.Sending.{Sent, holder_of, is_counted_read, is_joined_there, nobody, read_at, sender_of, sent_at, step_of, writes_block}
+use Rattle.sl_history.specs.Resources.Sending.{Sent, holder_of, is_joined_there, nobody, read_at, sender_of, sent_at, step_of, writes_block}
 use Rattle.sl_run.specs.Runs.{Happening}
 use Rattle.sl_run.specs.Safety.{LawfulRun, world_at}
-use Rattle.sl_run.specs.Worlds.{Landing, Program, Stamp, World}
+use Rattle.sl_run.specs.Worlds.{Program, Stamp, World}
 use Rattle.sl_run.specs.declared.header.Header.{Header}
 use Rattle.sl_run.specs.declared.header.ResourceLine.{ResourceLine}
 use Rattle.sl_sector.specs.declared.sector.Block.{Block}
 use Rattle.sl_trace.specs.declared.effects.Spot.{Spot}
-use Rattle.sl_words.specs.Words.{some_is}
 use Rattle.std.proofs.Common.{ap, inl, inr, refl, subst, sym, ◌∙◌}
-use Rattle.std.proofs.lemmas.Bool.{and_from}
 use Rattle.std.specs.Option.{option_map_or}
-use Rattle.std.specs.Prelude.{Bool, Contains, List, None, Some, false, if◌then◌else◌, is_some, option_and_then, true, ℕ, ◌<◌, ◌≡◌, ◌≤◌, ◌⊎◌}
+use Rattle.std.specs.Prelude.{Bool, Contains, List, None, Some, false, is_some, option_and_then, true, ℕ, ◌<◌, ◌≡◌, ◌≤◌, ◌⊎◌}
 
 -- ---- the writer of a step
 
@@ -76,22 +76,23 @@ is_last p h xs run r there differ e x own o =
 
 -- ---- the own block that was read
 
-pub shows_if : (w : World) (at : Spot) (k : ℕ) (z : Sent) (b : Bool) → is_host w k ≡ b → (b ≡ true → shows_whole w at k z ≡ true) → shows_by w at k z ≡ true
-shows_if w at k z true host whole =
-    ap (λ b. if b then (if shows_whole w at k z then true else counts_own w at z k) else true) host ∙ ap (λ b. if b then true else counts_own w at z k) (whole refl)
-shows_if w at k z false host whole = ap (λ b. if b then (if shows_whole w at k z then true else counts_own w at z k) else true) host
+-- What the last look shows of the writer's id, whole.
+found_shows : (p : Program) (h : Header) (xs : List Happening) → LawfulRun p h xs → (r : ResourceLine) → Contains h.resources r → (x : Sent) (s : Standing (world_at p h xs) x) (own : Block)
+    → (f : LookFound (world_at p h xs) (spot_of_line r) x s own) → is_joined_there (world_at p h xs) r.lockspace (sender_of x) ≡ true → (b : Bool)
+    → is_host (world_at p h xs) s.session.id ≡ b → (history_of_line p h xs r).shows (step_of f.sent) s.session.id ≡ true
+found_shows p h xs run r there x s own f joined true host = (look_has p h xs run r there x s own f joined host).shows
+found_shows p h xs run r there x s own f joined false host =
+    ((reads_are_given p h xs r run there).others (step_of f.sent) s.session.id (ap (λ o. is_some o) (look_at p h xs run r there x s own f joined)) host).0
 
 pub is_found : (p : Program) (h : Header) (xs : List Happening) → LawfulRun p h xs → (r : ResourceLine) → Contains h.resources r → NamesDiffer (world_at p h xs) r.lockspace
     → (e : ℕ) (x : WrittenAt p h xs r e) (s : Standing (world_at p h xs) x.sent) (own : Block) → (f : LookFound (world_at p h xs) (spot_of_line r) x.sent s own)
+    → is_joined_there (world_at p h xs) r.lockspace (sender_of x.sent) ≡ true
     → block_submitted (lease_among s.daemon.setting s.session (spot_of_line r) s.told.older) ≡ None → IsFoundBlock (history_of_line p h xs r) e
-is_found p h xs run r there differ e x s own f none =
+is_found p h xs run r there differ e x s own f joined none =
     let w : World = world_at p h xs in
     let at : Spot = spot_of_line r in
     let H : History = history_of_line p h xs r in
-    let joined = worker_joined p h xs r x.sent (block_is_work p h xs run r there x.sent x.has x.on (ap (λ o. is_some o) x.wrote)) in
-    let counted : is_counted_read w r.lockspace f.sent ≡ true =
-    and_from _ _ (and_from _ _ f.look.reads f.look.done) (ap (λ i. is_joined_there w r.lockspace i) f.look.sender ∙ joined) in
-    let found : read_at w at r.lockspace (step_of f.sent) ≡ Some f.sent = read_at_step p h xs run r there f.sent f.has f.look.on counted in
+    let found : read_at w at r.lockspace (step_of f.sent) ≡ Some f.sent = (look_at p h xs run r there x.sent s own f joined) in
     let writer : H.writer e ≡ holder_of w (sender_of x.sent) = writer_is p h xs r e x.sent x.is in
     let id : (H.writer e).id ≡ s.session.id = ap (λ o. o.id) writer ∙ own_host w x.sent s in
     record {
@@ -102,11 +103,8 @@ is_found p h xs run r there differ e x s own f none =
           (sym (ap (λ o. option_map_or (λ (q : Stamp). q.step) (option_and_then (λ (y : Sent). y.course.answered) o) 0) found
           ∙ ap (λ o. option_map_or (λ (q : Stamp). q.step) o 0) f.look.closed))
           (subst (λ n. f.look.stamp.step ≤ n) x.step_is f.look.early);
-      whole = ap (λ k. H.shows (step_of f.sent) k) id ∙ ap (λ o. some_is (shows_by w at s.session.id) o) found
-          ∙ shows_if w at s.session.id f.sent (is_host w s.session.id) refl
-          (λ host. let q = look_shows p h xs run r there x.sent s own f host in ap (λ o. some_is (λ (l : Landing). l.whole) o) q.shown ∙ q.whole);
-      shown = ap (λ k. H.shown (step_of f.sent) k) id ∙ ap (λ o. option_map_or (shown_by w at s.session.id) o 0) found
-          ∙ sym (base_step p h xs r e x ∙ look_base p h xs run r x.sent s own f none);
+      whole = ap (λ k. H.shows (step_of f.sent) k) id ∙ found_shows p h xs run r there x.sent s own f joined (is_host w s.session.id) refl;
+      shown = ap (λ k. H.shown (step_of f.sent) k) id ∙ sym (base_step p h xs r e x ∙ look_base p h xs run r there x.sent s own f joined none);
       first = λ d writes same less.
           let y = written_at p h xs r d writes in
           let early : step_of y.sent < step_of x.sent = subst (λ n. n < step_of x.sent) (sym y.step_is) (subst (λ n. d < n) (sym x.step_is) less) in
@@ -122,5 +120,5 @@ have_bases p h xs r run there differ e writes =
     let b = based p h xs run r there x.sent x.has s x.on x.block x.wrote in
     elim b.base as (λ z. IsLastWrite (history_of_line p h xs r) e ⊎ IsFoundBlock (history_of_line p h xs r) e) [
       | Written o ↦ inl (is_last p h xs run r there differ e x b.own o)
-      | Shown f none ↦ inr (is_found p h xs run r there differ e x s b.own f none)
+      | Shown f joined none ↦ inr (is_found p h xs run r there differ e x s b.own f joined none)
     ]

@@ -1,59 +1,36 @@
--- A read of blocks that was answered: the blocks that it gave were written on the area before, or are fresh.
-use Rattle.sl_area.specs.Layouts.{Layout, record_in}
-use Rattle.sl_area.specs.Places.{area_blocks, block_offset, blocks_in, read_at, sector_of}
+-- A read of blocks that was answered: what it gave, and that it was made at its place.
+use Rattle.sl_run_law.proofs.Place.Reading.{answer_gave}
+use Rattle.sl_trace.specs.Leases.{is_block_read}
+use Rattle.sl_trace.specs.Traces.{Answered}
+use Rattle.sl_trace.specs.declared.input.Answer.TheVariants.{Read}
+use Rattle.std.proofs.lemmas.Bool.{or_left, or_right}
+use Rattle.std.specs.Prelude.{◌||◌}
+use Rattle.sl_area.specs.Layouts.{Layout}
+use Rattle.sl_area.specs.Places.{area_blocks, blocks_in}
 use Rattle.sl_run.specs.Lawful.{Orderly}
-use Rattle.sl_run.specs.LawfulArea.{IsAreaRead, IsBlockRead}
+use Rattle.sl_run.specs.LawfulArea.{IsAreaRead, IsBlockRead, IsLeaseRead, IsRightRead}
 use Rattle.sl_trace.specs.Leases.{blocks_given, is_area_read, is_phase_read, spot_of_call}
 use Rattle.sl_run_law.proofs.Place.Proven.{promised}
-use Rattle.sl_run_law.proofs.Place.Reading.{IsRead, IsShown, call_law, read_of, sector_shown}
-use Rattle.sl_run_law.proofs.Place.Seats.{sized_in}
-use Rattle.sl_plain.proofs.Numbers.{both_next, one_further, plus_zero, zero_less}
-use Rattle.sl_history.proofs.Resources.Showing.{Seen, area_right, phase_right, sector_seen}
-use Rattle.sl_run.specs.Events.{sectors_of}
+use Rattle.sl_run_law.proofs.Place.Reading.{call_law}
 use Rattle.sl_run.specs.Runs.{Happening}
 use Rattle.sl_run.specs.Safety.{LawfulRun, world_at}
-use Rattle.sl_run.specs.Worlds.{Daemon, Machine, Program, World, daemons_on, machine_at}
+use Rattle.sl_run.specs.Worlds.{Daemon, Machine, Program, daemons_on, machine_at}
 use Rattle.sl_run.specs.declared.header.Header.{Header}
-use Rattle.sl_sector.specs.Spelling.{block_in}
 use Rattle.sl_sector.specs.declared.sector.Block.{Block}
 use Rattle.sl_trace_law.proofs.Sessions.Making.{calls_are_made}
 use Rattle.sl_trace_law.specs.Sessions.Promises.{IsSession, made_as}
 use Rattle.sl_trace.specs.declared.session.Session.{Session}
-use Rattle.sl_trace.specs.Traces.{Submitted, gave, submitted}
+use Rattle.sl_trace.specs.Traces.{Submitted, gave, submitted, Setting, new_call}
 use Rattle.sl_trace.specs.declared.effects.Op.TheVariants.{ReadSectors}
 use Rattle.sl_trace.specs.declared.effects.Spot.{Spot}
-use Rattle.sl_words.proofs.CaseLaws.{none_some, some_value}
-use Rattle.std.proofs.Common.{ap, arith, refl, subst, sym, ◌∙◌}
-use Rattle.std.proofs.lemmas.List.{drop-drop}
-use Rattle.std.specs.List.{range_with_len}
-use Rattle.std.specs.Prelude.{Bool, Contains, List, None, Option, Some, drop, false, if◌then◌else◌, map, slice_get, suc, take, true, zero, ℕ, ◌*◌, ◌+◌, ◌-◌, ◌<◌, ◌≡◌}
-
--- ---- the blocks of a list of bytes
-
-ranged : {A : Type 0} (f : ℕ → A) (a n j : ℕ) (y : A) → slice_get (map f (range_with_len a n)) j ≡ Some y → (j < n) × (f (a + j) ≡ y)
-ranged f a zero j y h = absurd (none_some y h)
-ranged f a (suc n) zero y h = (zero_less n, ap f (sym (plus_zero a)) ∙ some_value (f a) y h)
-ranged f a (suc n) (suc j) y h = let r = ranged f (a + 1) n j y h in (both_next j n r.0, ap f (sym (one_further a j)) ∙ r.1)
-
-one_on : (j : ℕ) → 1 + j ≡ j + 1
-one_on j = omega arith
-
-one_back : (j : ℕ) → j + 1 - 1 ≡ j
-one_back j = omega arith
-
-block_there : (g : Layout) (bytes : List ℕ) (j : ℕ) (b : Block) → slice_get (blocks_in g bytes) j ≡ Some (Some b)
-    → (j < g.hosts) × (block_in (j + 1) (record_in g (sector_of g bytes j)) ≡ Some b)
-block_there g bytes j b h =
-    let r = ranged (λ k. block_in k (read_at g bytes (k - 1))) 1 g.hosts j (Some b) h in (
-      r.0,
-      ap (λ k. block_in (j + 1) (record_in g (sector_of g bytes k))) (sym (one_back j)) ∙ ap (λ k. block_in k (read_at g bytes (k - 1))) (sym (one_on j)) ∙ r.1,
-    )
-
-two_on : (s j : ℕ) → 2 * s + j * s ≡ (j + 2) * s
-two_on s j = grind arith
-
-behind_two : (g : Layout) (bytes : List ℕ) (j : ℕ) → sector_of g (drop (2 * g.sector) bytes) j ≡ sector_of g bytes (j + 2)
-behind_two g bytes j = ap (λ l. take g.sector l) (drop-drop (j * g.sector) (2 * g.sector) bytes ∙ ap (λ n. drop n bytes) (two_on g.sector j))
+use Rattle.sl_words.proofs.CaseLaws.{none_some, some_value, false_is_true}
+use Rattle.std.proofs.Common.{ap, refl, sym, ◌∙◌}
+use Rattle.std.specs.Prelude.{Bool, Contains, List, None, Option, Some, false, true, ℕ, ◌≡◌, []}
+use Rattle.sl_trace.specs.declared.effects.LeaseStep.TheVariants.{ClearMode, FreeLeader, Phase1Read, Phase1Write, Phase2Read, Phase2Write, ReadArea, ReadBeforeFree, SetMode, TakeLeader}
+use Rattle.sl_trace.specs.declared.effects.LeaseStep.{LeaseStep}
+use Rattle.sl_trace.specs.declared.effects.Purpose.TheVariants.{Joining, Lease, Leaving, Renewal, RequestRead, RequestWrite, SeeRequest, Survey, ValueRead, ValueWrite}
+use Rattle.sl_trace.specs.declared.effects.Purpose.{Purpose}
+use Rattle.sl_trace.specs.declared.effects.Work.{Work}
 
 -- ---- what a read gave
 
@@ -77,7 +54,117 @@ gave_by g q bs (Some bytes) false false told one two h = absurd (none_some bs h)
 pub given_blocks : (g : Layout) (q : Submitted) (bs : List (Option Block)) → blocks_given g q ≡ Some bs → Gave g q bs
 given_blocks g q bs h = gave_by g q bs (gave q) (is_area_read q) (is_phase_read q) refl refl refl h
 
--- ---- at its place
+-- It is a read of blocks that was answered with bytes.
+pub record GivenBy (q : Submitted) : Type 0 where
+  pub answered : Answered
+  pub is : q.answer ≡ Some answered
+  pub bytes : List ℕ
+  pub read : answered.answer ≡ Read bytes
+  pub gave_is : gave q ≡ Some bytes
+  pub reads : is_block_read q ≡ true
+
+given_with : (q : Submitted) (bytes : List ℕ) → gave q ≡ Some bytes → is_block_read q ≡ true → GivenBy q
+given_with q bytes told reads = let a = answer_gave q.answer bytes told in record { answered = a.0; is = a.1; bytes = bytes; read = a.2; gave_is = told; reads = reads }
+
+given_way : (g : Layout) (q : Submitted) (bs : List (Option Block)) → Gave g q bs → GivenBy q
+given_way g q bs (By_area bytes told is same) = given_with q bytes told (or_left (is_area_read q) (is_phase_read q) is)
+given_way g q bs (By_phase bytes told alone is same) = given_with q bytes told (or_right (is_area_read q) (is_phase_read q) is)
+
+pub given_told : (g : Layout) (q : Submitted) (bs : List (Option Block)) → blocks_given g q ≡ Some bs → GivenBy q
+given_told g q bs h = given_way g q bs (given_blocks g q bs h)
+
+-- ---- what gives blocks
+
+pub gives_area : (g : Layout) (q : Submitted) (bytes : List ℕ) → gave q ≡ Some bytes → is_area_read q ≡ true → blocks_given g q ≡ Some (area_blocks g bytes)
+gives_area g q bytes told is =
+    ap (λ o. elim o as (λ z. Option (List (Option Block))) [
+      | None ↦ None
+      | Some bs ↦ elim (is_area_read q) as (λ z. Option (List (Option Block))) [
+        | true ↦ Some (area_blocks g bs)
+        | false ↦ elim (is_phase_read q) as (λ z. Option (List (Option Block))) [ true ↦ Some (blocks_in g bs) | false ↦ None ]
+      ]
+    ]) told
+    ∙ ap (λ b. elim b as (λ z. Option (List (Option Block))) [
+      | true ↦ Some (area_blocks g bytes)
+      | false ↦ elim (is_phase_read q) as (λ z. Option (List (Option Block))) [ true ↦ Some (blocks_in g bytes) | false ↦ None ]
+    ]) is
+
+gives_by : (g : Layout) (q : Submitted) (bytes : List ℕ) (a b : Bool) → (a || b) ≡ true
+    → elim (Some bytes) as (λ z. Option (List (Option Block))) [
+      | None ↦ None
+      | Some bytes ↦ elim a as (λ z. Option (List (Option Block))) [
+        | true ↦ Some (area_blocks g bytes)
+        | false ↦ elim b as (λ z. Option (List (Option Block))) [ true ↦ Some (blocks_in g bytes) | false ↦ None ]
+      ]
+    ] ≡ None → ⊥
+gives_by g q bytes true b h none = none_some (area_blocks g bytes) (sym none)
+gives_by g q bytes false true h none = none_some (blocks_in g bytes) (sym none)
+gives_by g q bytes false false h none = false_is_true h
+
+-- A read that gave bytes gave blocks.
+pub gives_blocks : (g : Layout) (q : Submitted) (bytes : List ℕ) → gave q ≡ Some bytes → is_block_read q ≡ true → blocks_given g q ≡ None → ⊥
+gives_blocks g q bytes told reads none =
+    gives_by g q bytes (is_area_read q) (is_phase_read q) reads
+    (ap (λ o. elim o as (λ z. Option (List (Option Block))) [
+      | None ↦ None
+      | Some bytes ↦ elim (is_area_read q) as (λ z. Option (List (Option Block))) [
+        | true ↦ Some (area_blocks g bytes)
+        | false ↦ elim (is_phase_read q) as (λ z. Option (List (Option Block))) [ true ↦ Some (blocks_in g bytes) | false ↦ None ]
+      ]
+    ]) (sym told) ∙ none)
+
+-- ---- at its place, by the law of reads
+
+abbrev purposed : Purpose → Submitted
+purposed p = new_call 0 0 (record { number = 0; session = 0; path = []; offset = 0; op = ReadSectors 0; purpose = p })
+
+area_step : (st : Setting) (at : Spot) (c : Submitted) (work : Work) (step : LeaseStep) → is_area_read (purposed (Lease work step)) ≡ true → IsLeaseRead st at c step → IsAreaRead st at c
+area_step st at c work (ReadArea name) h law = law
+area_step st at c work ReadBeforeFree h law = law
+area_step st at c work Phase1Write h law = absurd (false_is_true h)
+area_step st at c work Phase1Read h law = absurd (false_is_true h)
+area_step st at c work Phase2Write h law = absurd (false_is_true h)
+area_step st at c work Phase2Read h law = absurd (false_is_true h)
+area_step st at c work TakeLeader h law = absurd (false_is_true h)
+area_step st at c work SetMode h law = absurd (false_is_true h)
+area_step st at c work FreeLeader h law = absurd (false_is_true h)
+area_step st at c work ClearMode h law = absurd (false_is_true h)
+
+area_right : (st : Setting) (at : Spot) (c : Submitted) (p : Purpose) → is_area_read (purposed p) ≡ true → IsRightRead st at c p → IsAreaRead st at c
+area_right st at c (Lease work step) h law = area_step st at c work step h law
+area_right st at c (Joining j step) h law = absurd (false_is_true h)
+area_right st at c Renewal h law = absurd (false_is_true h)
+area_right st at c Survey h law = absurd (false_is_true h)
+area_right st at c (Leaving j) h law = absurd (false_is_true h)
+area_right st at c (RequestRead j) h law = absurd (false_is_true h)
+area_right st at c (RequestWrite j o) h law = absurd (false_is_true h)
+area_right st at c SeeRequest h law = absurd (false_is_true h)
+area_right st at c (ValueWrite j) h law = absurd (false_is_true h)
+area_right st at c (ValueRead j) h law = absurd (false_is_true h)
+
+phase_step : (st : Setting) (at : Spot) (c : Submitted) (work : Work) (step : LeaseStep) → is_phase_read (purposed (Lease work step)) ≡ true → IsLeaseRead st at c step → IsBlockRead st at c
+phase_step st at c work (ReadArea name) h law = absurd (false_is_true h)
+phase_step st at c work ReadBeforeFree h law = absurd (false_is_true h)
+phase_step st at c work Phase1Write h law = absurd (false_is_true h)
+phase_step st at c work Phase1Read h law = law
+phase_step st at c work Phase2Write h law = absurd (false_is_true h)
+phase_step st at c work Phase2Read h law = law
+phase_step st at c work TakeLeader h law = absurd (false_is_true h)
+phase_step st at c work SetMode h law = absurd (false_is_true h)
+phase_step st at c work FreeLeader h law = absurd (false_is_true h)
+phase_step st at c work ClearMode h law = absurd (false_is_true h)
+
+phase_right : (st : Setting) (at : Spot) (c : Submitted) (p : Purpose) → is_phase_read (purposed p) ≡ true → IsRightRead st at c p → IsBlockRead st at c
+phase_right st at c (Lease work step) h law = phase_step st at c work step h law
+phase_right st at c (Joining j step) h law = absurd (false_is_true h)
+phase_right st at c Renewal h law = absurd (false_is_true h)
+phase_right st at c Survey h law = absurd (false_is_true h)
+phase_right st at c (Leaving j) h law = absurd (false_is_true h)
+phase_right st at c (RequestRead j) h law = absurd (false_is_true h)
+phase_right st at c (RequestWrite j o) h law = absurd (false_is_true h)
+phase_right st at c SeeRequest h law = absurd (false_is_true h)
+phase_right st at c (ValueWrite j) h law = absurd (false_is_true h)
+phase_right st at c (ValueRead j) h law = absurd (false_is_true h)
 
 abbrev pub own_spot : Layout → Submitted → Spot
 own_spot g q = spot_of_call g q
@@ -112,85 +199,3 @@ phase_place p h xs m a d q k is =
     let law = call_law d.setting d.trace k.session q made k.lawful k.its k.mine in
     let right = phase_right d.setting (spot_of_call d.setting.layout q) (made_as made) q.call.purpose is (law.0.area.0.reads made.index q.call k.session made.call law.1) in
     (right.0, right.1)
-
--- What was read of a host: its sector, and the landing that it shows.
-pub record Looked (p : Program) (h : Header) (xs : List Happening) (m : ℕ) (a : Machine) (d : Daemon) (q : Submitted) (j : ℕ) (b : Block) : Type 0 where
-  pub bytes : List ℕ
-  pub read : IsRead a d q bytes
-  pub sector : ℕ
-  pub below : j < (world_at p h xs).layout.hosts
-  pub spells : block_in (j + 1) (record_in (world_at p h xs).layout (sector_of (world_at p h xs).layout bytes sector)) ≡ Some b
-  pub number : sector ≡ (if is_area_read q then j + 1 + 1 else j + 1 - 1)
-  pub within : sector < sectors_of q.call.op
-  pub place : q.call.offset + sector * (world_at p h xs).layout.sector
-      ≡ block_offset (world_at p h xs).layout (spot_of_call (world_at p h xs).layout q).base (j + 1)
-
-two_further : (base s j : ℕ) → base + (j + 2) * s ≡ base + s * (j + 1 + 1)
-two_further base s j = grind arith
-
-area_offset : (o base s j : ℕ) → o ≡ base → o + (j + 2) * s ≡ base + s * (j + 1 + 1)
-area_offset o base s j e = ap (λ n. n + (j + 2) * s) e ∙ two_further base s j
-
-behind_first : (base s j : ℕ) → base + s * (1 + 1) + j * s ≡ base + s * (j + 1 + 1)
-behind_first base s j = grind arith
-
-phase_offset : (o base s j : ℕ) → o ≡ base + s * (1 + 1) → o + j * s ≡ base + s * (j + 1 + 1)
-phase_offset o base s j e = ap (λ n. n + j * s) e ∙ behind_first base s j
-
-two_of : (j : ℕ) → j + 2 ≡ j + 1 + 1
-two_of j = omega arith
-
-two_more : (j n : ℕ) → j < n → j + 2 < n + 2
-two_more j n h = omega (arith, h)
-
-looked_by : (p : Program) (h : Header) (xs : List Happening) (m : ℕ) (a : Machine) (d : Daemon) (q : Submitted) (k : IsLook p h xs m a d q) (bs : List (Option Block))
-    → Gave (world_at p h xs).layout q bs → (j : ℕ) (b : Block) → slice_get bs j ≡ Some (Some b) → Looked p h xs m a d q j b
-looked_by p h xs m a d q k bs (By_area bytes told is same) j b there =
-    let w : World = world_at p h xs in
-    let layout = look_layout p h xs m a d q k in
-    let right : IsAreaRead d.setting (spot_of_call d.setting.layout q) q = area_place p h xs m a d q k is in
-    let op : q.call.op ≡ ReadSectors (w.layout.hosts + 2) = right.1 ∙ ap (λ g. ReadSectors (g.hosts + 2)) layout in
-    let offset : q.call.offset ≡ (spot_of_call w.layout q).base = right.0 ∙ ap (λ g. (spot_of_call g q).base) layout in
-    let t = block_there w.layout (drop (2 * w.layout.sector) bytes) j b (subst (λ l. slice_get l j ≡ Some (Some b)) same there) in
-    record {
-      bytes = bytes;
-      read = read_of promised p h xs k.run m a d k.at k.has q k.there (w.layout.hosts + 2) op bytes told;
-      sector = j + 2;
-      number = two_of j ∙ ap (λ (b : Bool). if b then j + 1 + 1 else j + 1 - 1) (sym is);
-      below = t.0;
-      spells = ap (λ l. block_in (j + 1) (record_in w.layout l)) (sym (behind_two w.layout bytes j)) ∙ t.1;
-      within = subst (λ o. j + 2 < sectors_of o) (sym op) (two_more j w.layout.hosts t.0);
-      place = area_offset q.call.offset (spot_of_call w.layout q).base w.layout.sector j offset;
-    }
-looked_by p h xs m a d q k bs (By_phase bytes told alone is same) j b there =
-    let w : World = world_at p h xs in
-    let layout = look_layout p h xs m a d q k in
-    let right : IsBlockRead d.setting (spot_of_call d.setting.layout q) q = phase_place p h xs m a d q k is in
-    let op : q.call.op ≡ ReadSectors w.layout.hosts = right.1 ∙ ap (λ g. ReadSectors g.hosts) layout in
-    let offset : q.call.offset ≡ block_offset w.layout (spot_of_call w.layout q).base 1 = right.0 ∙ ap (λ g. block_offset g (spot_of_call g q).base 1) layout in
-    let t = block_there w.layout bytes j b (subst (λ l. slice_get l j ≡ Some (Some b)) same there) in
-    record {
-      bytes = bytes;
-      read = read_of promised p h xs k.run m a d k.at k.has q k.there w.layout.hosts op bytes told;
-      sector = j;
-      number = sym (one_back j) ∙ ap (λ (b : Bool). if b then j + 1 + 1 else j + 1 - 1) (sym alone);
-      below = t.0;
-      spells = t.1;
-      within = subst (λ o. j < sectors_of o) (sym op) t.0;
-      place = phase_offset q.call.offset (spot_of_call w.layout q).base w.layout.sector j offset;
-    }
-
-pub looked : (p : Program) (h : Header) (xs : List Happening) (m : ℕ) (a : Machine) (d : Daemon) (q : Submitted) (k : IsLook p h xs m a d q) (bs : List (Option Block))
-    → blocks_given d.setting.layout q ≡ Some bs → (j : ℕ) (b : Block) → slice_get bs j ≡ Some (Some b) → Looked p h xs m a d q j b
-looked p h xs m a d q k bs given j b there =
-    looked_by p h xs m a d q k bs
-    (given_blocks (world_at p h xs).layout q bs (ap (λ g. blocks_given g q) (sym (look_layout p h xs m a d q k)) ∙ given)) j b there
-
--- It was written on the area before the answer, or is fresh.
-pub look_seen : (p : Program) (h : Header) (xs : List Happening) (m : ℕ) (a : Machine) (d : Daemon) (q : Submitted) (k : IsLook p h xs m a d q) (j : ℕ) (b : Block)
-    → (l : Looked p h xs m a d q j b) → Seen (world_at p h xs) (spot_of_call (world_at p h xs).layout q) b l.read.stamp.step
-look_seen p h xs m a d q k j b l =
-    let w : World = world_at p h xs in
-    sector_seen p h xs k.run (spot_of_call w.layout q) j (sector_of w.layout l.bytes l.sector) l.read.stamp.step b l.below l.spells
-    (subst (λ o. IsShown w q.call.path o (sector_of w.layout l.bytes l.sector) l.read.stamp.step) l.place
-    (sector_shown promised p h xs k.run m a d k.at q l.bytes l.read l.sector l.within))

@@ -7,7 +7,8 @@ use Rattle.sl_run.specs.Saying.{cut_at}
 use Rattle.sl_trace_law.specs.Leases.Ways.{ByMode, ByPhase1}
 use Rattle.sl_trace.specs.Leases.{Phase1_write, is_at, kind_of_step, last_blocks, lease_calls, lease_step, same_kind, spot_of_call}
 use Rattle.sl_history.proofs.Resources.Above.{WrittenAt}
-use Rattle.sl_history.proofs.Resources.Bases.{Based, own_host}
+use Rattle.sl_history.proofs.Giving.Hosts.{own_host}
+use Rattle.sl_history.proofs.Resources.Bases.{Based}
 use Rattle.sl_history.proofs.Resources.Founding.{writer_is}
 use Rattle.sl_history.proofs.Resources.Numbers.{phase1_of_host}
 use Rattle.sl_history.proofs.Resources.Owning.{front_at, layout_at}

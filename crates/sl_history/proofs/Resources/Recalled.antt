@@ -1,6 +1,5 @@
 -- The last read of blocks that a session's first write rests on is the last look of the history.
 use Rattle.sl_area.specs.Layouts.{Layout}
-use Rattle.sl_area.specs.Places.{area_blocks, blocks_in}
 use Rattle.sl_run_law.specs.Course.Stamping.{AnswersAgree, IsAnsweredAs, IsCourseOf}
 use Rattle.sl_run.specs.LawfulArea.{is_area_work}
 use Rattle.sl_trace_law.proofs.Leases.AgeLaws.{blocks_stay}
@@ -8,15 +7,14 @@ use Rattle.sl_trace_law.specs.Leases.Fronts.{Aged}
 use Rattle.sl_trace_law.specs.Leases.Promises.{WasAnsweredBy}
 use Rattle.sl_trace.specs.Leases.{Area_read, Phase1_read, Phase2_read, Read_before_free, block_of_host, blocks_given, is_area_read, is_block_read, is_lease_call, is_on, is_phase_read, kind_of_step, last_blocks, lease_step, same_kind, spot_of_call}
 use Rattle.sl_run_law.proofs.Place.Finding.{finds}
-use Rattle.sl_run_law.proofs.Place.Reading.{answer_gave}
 use Rattle.sl_plain.proofs.Lists.{find_inside}
 use Rattle.sl_plain.proofs.Numbers.{both_ways, lt_then_le}
-use Rattle.sl_history.proofs.Resources.Above.{IsAmong, answer_step, answered_before, in_older, older_look, reads_by}
+use Rattle.sl_history.proofs.Resources.Above.{IsAmong, answer_step, answered_before, in_older, older_look}
 use Rattle.sl_history.proofs.Resources.Basing.{ReadFront}
 use Rattle.sl_history.proofs.Resources.Calls.{read_at_step}
 use Rattle.sl_history.proofs.Resources.Fitting.{answers_fit}
 use Rattle.sl_history.proofs.Resources.Lasting.{kept_calls, lease_kept}
-use Rattle.sl_history.proofs.Resources.Looking.{By_area, By_phase, Gave, area_place, given_blocks, phase_place}
+use Rattle.sl_history.proofs.Resources.Looking.{area_place, given_told, gives_blocks, phase_place}
 use Rattle.sl_history.proofs.Resources.Latest.{newest, sent_as}
 use Rattle.sl_history.proofs.Resources.Owning.{behind, is_behind, layout_at, lease_test, number_at, same_is, same_itself, session_as, works}
 use Rattle.sl_history.proofs.Resources.Recalling.{LastRead, last_read}
@@ -30,7 +28,7 @@ use Rattle.sl_run.specs.declared.header.Header.{Header}
 use Rattle.sl_run.specs.declared.header.ResourceLine.{ResourceLine}
 use Rattle.sl_sector.specs.declared.sector.Block.{Block}
 use Rattle.sl_trace.specs.Sessions.{is_call_of}
-use Rattle.sl_trace.specs.Traces.{Answered, Setting, Submitted, bytes_given, gave, is_answer_for, is_ok_answer, new_call, submitted}
+use Rattle.sl_trace.specs.Traces.{Answered, Setting, Submitted, bytes_given, is_answer_for, is_ok_answer, new_call, submitted}
 use Rattle.sl_trace.specs.declared.effects.Call.{Call}
 use Rattle.sl_trace.specs.declared.effects.LeaseStep.{LeaseStep}
 use Rattle.sl_trace.specs.declared.effects.Op.TheVariants.{ReadSectors}
@@ -39,12 +37,12 @@ use Rattle.sl_trace.specs.declared.effects.Spot.{Spot}
 use Rattle.sl_trace.specs.declared.effects.Work.{Work}
 use Rattle.sl_trace.specs.declared.input.Answer.TheVariants.{Failed, Read, Written}
 use Rattle.sl_trace.specs.declared.input.Answer.{Answer}
-use Rattle.sl_words.proofs.CaseLaws.{false_is_true, no_value, none_some, one_value, some_value}
+use Rattle.sl_words.proofs.CaseLaws.{false_is_true, no_value, one_value, some_value}
 use Rattle.sl_words.proofs.WordLaws.{and_true, or_true}
 use Rattle.sl_words.specs.Words.{some_is}
 use Rattle.std.proofs.Common.{ap, arith, inl, inr, refl, subst, sym, ◌∙◌}
 use Rattle.std.proofs.lemmas.Bool.{and_from, eq-eqb, eqb-true, le-leb, leb-true, or_right}
-use Rattle.std.specs.Prelude.{Bool, Contains, List, None, Option, Some, false, is_some, length, nat_le, option_and_then, true, ℕ, ◌&&◌, ◌+◌, ◌<◌, ◌||◌, ◌≡◌, ◌≤◌, ◌⊎◌}
+use Rattle.std.specs.Prelude.{Bool, Contains, List, None, Option, Some, is_some, length, nat_le, option_and_then, true, ℕ, ◌&&◌, ◌+◌, ◌<◌, ◌||◌, ◌≡◌, ◌≤◌, ◌⊎◌}
 
 -- ---- reads of blocks
 
@@ -65,30 +63,6 @@ read_answer : (st : Setting) (a : Answer) (o : Op) (n : ℕ) → o ≡ ReadSecto
 read_answer st (Read bytes) o n op fits ok = (bytes, refl)
 read_answer st Written o n op fits ok = absurd (false_is_true (sym (ap (λ k. is_answer_for st Written k) op) ∙ fits))
 read_answer st Failed o n op fits ok = absurd (false_is_true ok)
-
-gives_by : (g : Layout) (q : Submitted) (bytes : List ℕ) (a b : Bool) → (a || b) ≡ true
-    → elim (Some bytes) as (λ z. Option (List (Option Block))) [
-      | None ↦ None
-      | Some bytes ↦ elim a as (λ z. Option (List (Option Block))) [
-        | true ↦ Some (area_blocks g bytes)
-        | false ↦ elim b as (λ z. Option (List (Option Block))) [ true ↦ Some (blocks_in g bytes) | false ↦ None ]
-      ]
-    ] ≡ None → ⊥
-gives_by g q bytes true b h none = none_some (area_blocks g bytes) (sym none)
-gives_by g q bytes false true h none = none_some (blocks_in g bytes) (sym none)
-gives_by g q bytes false false h none = false_is_true h
-
--- A read that gave bytes gave blocks.
-gives_blocks : (g : Layout) (q : Submitted) (bytes : List ℕ) → gave q ≡ Some bytes → is_block_read q ≡ true → blocks_given g q ≡ None → ⊥
-gives_blocks g q bytes told reads none =
-    gives_by g q bytes (is_area_read q) (is_phase_read q) reads
-    (ap (λ o. elim o as (λ z. Option (List (Option Block))) [
-      | None ↦ None
-      | Some bytes ↦ elim (is_area_read q) as (λ z. Option (List (Option Block))) [
-        | true ↦ Some (area_blocks g bytes)
-        | false ↦ elim (is_phase_read q) as (λ z. Option (List (Option Block))) [ true ↦ Some (blocks_in g bytes) | false ↦ None ]
-      ]
-    ]) (sym told) ∙ none)
 
 -- ---- looks
 
@@ -205,10 +179,6 @@ pub record LookFound (w : World) (at : Spot) (x : Sent) (s : Standing w x) (own 
   pub given : blocks_given s.daemon.setting.layout told ≡ Some blocks
   pub block : block_of_host blocks s.session.id ≡ Some own
 
-pub found_bytes : (g : Layout) (q : Submitted) (bs : List (Option Block)) → Gave g q bs → (bytes : List ℕ) × (gave q ≡ Some bytes)
-found_bytes g q bs (By_area bytes told is same) = (bytes, told)
-found_bytes g q bs (By_phase bytes told alone is same) = (bytes, told)
-
 -- The course of the last read is a look before.
 course_looks : (p : Program) (h : Header) (xs : List Happening) (at : Spot) (x : Sent) (s : Standing (world_at p h xs) x) → IsWrite p h xs at x s → (n : ℕ) (T : Call → Bool) (bs : List (Option Block))
     → (l : LastRead s.daemon.setting.layout s.daemon n s.told.older T s.before bs) → T ≡ lease_test s at → IsLookBefore (world_at p h xs) at x (sent_as x.machine l.course)
@@ -218,18 +188,17 @@ course_looks p h xs at x s k n T bs l test =
     let passes : lease_test s at l.course.call ≡ true = ap (λ (f : Call → Bool). f l.course.call) (sym test) ∙ l.passes in
     let among = among_is p h xs at x s l.told l.inside (ap (λ c. lease_test s at c) l.pair.call ∙ passes) in
     let now : blocks_given g l.told ≡ Some bs = blocks_stay g n l.was l.told bs l.aged l.given in
-    let reads : is_block_read l.told ≡ true = reads_by g l.told bs (given_blocks g l.told bs now) in
-    let bytes = found_bytes g l.told bs (given_blocks g l.told bs now) in
-    let a = answer_gave l.told.answer bytes.0 bytes.1 in
-    let as_answered : IsAnsweredAs s.daemon l.course a.0 = subst (λ o. AnswersAgree s.daemon l.course o) a.1 l.pair.answers in
+    let t = given_told g l.told bs now in
+    let reads : is_block_read l.told ≡ true = t.reads in
+    let as_answered : IsAnsweredAs s.daemon l.course t.answered = subst (λ o. AnswersAgree s.daemon l.course o) t.is l.pair.answers in
     let by = turn_is p h xs at x s k l.told among reads in
     let i = is_behind w x s l.course l.has in
     let session : l.course.call.session ≡ x.course.call.session = ap (λ c. c.session) (sym l.pair.call) ∙ among.session ∙ number_at w x s in
     record {
       stamp = as_answered.stamp;
       closed = as_answered.answered;
-      early = answer_step p h xs k.run x s l.told by a.0 a.1 as_answered.stamp as_answered.entry;
-      done = as_answered.done ∙ ap (λ z. is_ok_answer z) a.2;
+      early = answer_step p h xs k.run x s l.told by t.answered t.is as_answered.stamp as_answered.entry;
+      done = as_answered.done ∙ ap (λ z. is_ok_answer z) t.read;
       reads = ap (λ c. is_block_read (new_call 0 0 c)) (sym l.pair.call) ∙ reads;
       on = ap (λ q. is_on q at l.course.call) (sym (layout_at p h xs k.run x s)) ∙ ap (λ c. is_on g at c) (sym l.pair.call) ∙ among.on;
       sender = session_as x.machine l.course.daemon l.course.call.session x.machine x.course.daemon x.course.call.session refl i.1 session;

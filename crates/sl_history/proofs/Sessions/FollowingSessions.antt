@@ -4,8 +4,8 @@ use Rattle.sl_ballots.specs.History.{Owner as Holder}
 use Rattle.sl_id_safety.proofs.Acting.{lockspaces_are_areas}
 use Rattle.sl_run.specs.LawfulArea.{is_area_work}
 use Rattle.sl_history.proofs.Resources.Calls.{IsWork, block_works, sent_there, worker_joined}
-use Rattle.sl_history.proofs.Resources.Landed.{landed_block}
-use Rattle.sl_history.proofs.Resources.Shown.{writes_is}
+use Rattle.sl_history.proofs.Giving.Landed.{landed_block}
+use Rattle.sl_history.proofs.Resources.Calls.{writes_is}
 use Rattle.sl_history.specs.Resources.Histories.{is_host}
 use Rattle.sl_history.specs.Resources.Orders.{BlockSent, Follows, LandsBefore}
 use Rattle.sl_history.specs.Resources.Sending.{Sent, holder_of, sender_of}

@@ -1,39 +1,39 @@
--- The register lemma. What a read shows whole is a landing, and that is of a block at least as late. Where the reader's own block is torn it
--- counts as the one that the reader last submitted; a block of its host that was answered ok before is its own, or of a session that was
--- over where the reader joined: one that finds the reader over joined after the read.
+-- The register lemma. What a read was given is no older than what was answered ok before. Where it was given nothing of its own host the
+-- block counts that the reader last submitted; a block of its host that was answered ok before is its own, or of a session that was over
+-- where the reader joined: one that finds the reader over joined after the read.
 use Rattle.sl_ballots.specs.Disk.{Wrote}
 use Rattle.sl_id_safety.proofs.Silence.{over_are_silent}
 use Rattle.sl_id_safety.specs.State.IdStates.{own_courses}
 use Rattle.sl_trace.specs.Leases.{is_on}
 use Rattle.sl_plain.proofs.Lists.{kept}
 use Rattle.sl_history.proofs.Resources.Calls.{IsWork, block_works, found_of, owner_found, read_works}
-use Rattle.sl_history.proofs.Resources.Landed.{joined_then}
+use Rattle.sl_history.proofs.Resources.Joining.{joined_then}
 use Rattle.sl_history.proofs.Resources.Latest.{newest}
-use Rattle.sl_history.proofs.Resources.Newest.{reads_show_newest}
+use Rattle.sl_history.proofs.Giving.Proven.{reads_are_given}
+use Rattle.sl_history.specs.Resources.Reads.{ReadsGive, shown_given, shows_given}
 use Rattle.sl_history.proofs.Resources.Owning.{same_is}
-use Rattle.sl_history.proofs.Resources.Registers.{IsBlockAt, IsReadAt, block_at, found_before, ok_is, read_found}
+use Rattle.sl_history.proofs.Resources.AtSteps.{IsBlockAt, IsReadAt, block_at, found_before, ok_is, read_found}
 use Rattle.sl_history.proofs.Resources.Standing.{standing}
 use Rattle.sl_history.proofs.Resources.Steps.{call_timed}
-use Rattle.sl_history.specs.Resources.Histories.{counts_own, is_host, landing_shown, own_before, shown_by, shows_by, shows_whole, step_of_landing}
-use Rattle.sl_history.specs.Resources.Orders.{BlockSent, ReadSent}
+use Rattle.sl_history.specs.Resources.Histories.{is_host, own_before}
+use Rattle.sl_history.specs.Resources.Orders.{BlockSent}
 use Rattle.sl_history.specs.Resources.Promises.{history_of_line, spot_of_line}
-use Rattle.sl_history.specs.Resources.Sending.{Sent, all_sent, holder_of, is_block_before, nobody, read_at, same_session, sender_of, step_of, writes_block}
+use Rattle.sl_history.specs.Resources.Sending.{Sent, all_sent, holder_of, is_block_before, nobody, same_session, sender_of, step_of, writes_block}
 use Rattle.sl_run.specs.Runs.{Happening}
 use Rattle.sl_run.specs.Safety.{Found, IsSession, LawfulRun, SessionId, is_course_of, world_at}
-use Rattle.sl_run.specs.Worlds.{Landing, Program, Stamp, World}
+use Rattle.sl_run.specs.Worlds.{Program, Stamp, World}
 use Rattle.sl_run.specs.declared.header.Header.{Header}
 use Rattle.sl_run.specs.declared.header.ResourceLine.{ResourceLine}
 use Rattle.sl_history.proofs.Sessions.Following.{IsOverBy, IsOverWhenJoins, Sequel}
 use Rattle.sl_history.proofs.Sessions.FollowingSessions.{host_sequel, sent_own, sessions_follow, worker_is_host, worker_of_host}
 use Rattle.sl_history.specs.Sessions.Promises.{HistoriesShowNewest}
 use Rattle.sl_words.proofs.CaseLaws.{true_is_false}
-use Rattle.sl_words.proofs.WordLaws.{and_true, some_is_true}
-use Rattle.sl_words.specs.Words.{some_is}
+use Rattle.sl_words.proofs.WordLaws.{and_true}
 use Rattle.std.proofs.Common.{ap, arith, inl, inr, refl, subst, sym, ◌∙◌}
 use Rattle.std.proofs.lemmas.Bool.{and_from, eq-eqb, eqb-true}
 use Rattle.std.proofs.lemmas.Bool.Decides.{nat_tests}
 use Rattle.std.specs.Option.{option_map_or}
-use Rattle.std.specs.Prelude.{Bool, Contains, List, None, Option, Some, false, find, if◌then◌else◌, is_some, nat_lt, true, ℕ, ◌&&◌, ◌+◌, ◌<◌, ◌==◌, ◌≡◌, ◌≤◌}
+use Rattle.std.specs.Prelude.{Contains, List, None, Option, Some, find, is_some, nat_lt, true, ℕ, ◌&&◌, ◌+◌, ◌<◌, ◌==◌, ◌≡◌, ◌≤◌}
 
 -- ---- a session that is over sends nothing
 
@@ -118,19 +118,8 @@ record Earlier (p : Program) (h : Header) (xs : List Happening) (r : ResourceLin
   done : x.course.done ≡ true
   stamp : Stamp
   answered : x.course.answered ≡ Some stamp
-  read : ReadSent (world_at p h xs) r z
   works : IsWork (world_at p h xs) r z
   late : stamp.step ≤ step_of z
-
-shown_whole : (p : Program) (h : Header) (xs : List Happening) → LawfulRun p h xs → (r : ResourceLine) → Contains h.resources r → (k : ℕ) → is_host (world_at p h xs) k ≡ true
-    → (x z : Sent) → Earlier p h xs r k x z → shows_whole (world_at p h xs) (spot_of_line r) k z ≡ true
-    → step_of x ≤ option_map_or (step_of_landing (world_at p h xs)) (landing_shown (world_at p h xs) (spot_of_line r) z.course k) 0
-shown_whole p h xs run r there k host x z e whole =
-    let w : World = world_at p h xs in
-    let l = some_is_true (λ (m : Landing). m.whole) (landing_shown w (spot_of_line r) z.course k) whole in
-    subst (λ o. step_of x ≤ option_map_or (step_of_landing w) o 0) (sym l.1)
-    (reads_show_newest p h xs r run there k host x e.block e.done e.stamp e.answered z e.read e.late l.0 l.1
-    (λ y b. sessions_follow p h xs r run there k x y e.block b))
 
 own_by : (p : Program) (h : Header) (xs : List Happening) → LawfulRun p h xs → (r : ResourceLine) → Contains h.resources r → (k : ℕ) → (x z : Sent) → Earlier p h xs r k x z
     → IsWork (world_at p h xs) r x → (holder_of (world_at p h xs) (sender_of z)).id ≡ k → (o : Option Sent) → own_before (world_at p h xs) (spot_of_line r) z ≡ o → is_some o ≡ true
@@ -141,20 +130,17 @@ own_by p h xs run r there k x z e work host (Some y) last is =
     ((call_timed p h xs run x.machine work.owned.there.machine x.course work.owned.there.at work.owned.there.has).answered e.stamp e.answered) e.late last
     (host_sequel p h xs run r k (sender_of x) (sender_of z) (worker_of_host p h xs r k x work e.block.host) (worker_of_host p h xs r k z e.works host))
 
-abbrev shown_if : Bool → Bool → Option Landing → (Landing → ℕ) → Option Sent → ℕ
-shown_if host whole l f own = if host then (if whole then option_map_or f l 0 else option_map_or step_of own 0) else 0
-
-shown_at_least : (p : Program) (h : Header) (xs : List Happening) → LawfulRun p h xs → (r : ResourceLine) → Contains h.resources r → (k : ℕ) → (x z : Sent) → Earlier p h xs r k x z
-    → IsWork (world_at p h xs) r x → (host whole : Bool) → is_host (world_at p h xs) k ≡ host → shows_whole (world_at p h xs) (spot_of_line r) k z ≡ whole
-    → (if host then (if whole then true else counts_own (world_at p h xs) (spot_of_line r) z k) else true) ≡ true
-    → step_of x ≤ shown_if host whole (landing_shown (world_at p h xs) (spot_of_line r) z.course k) (step_of_landing (world_at p h xs)) (own_before (world_at p h xs) (spot_of_line r) z)
-shown_at_least p h xs run r there k x z e work false whole is was shows =
-    absurd (true_is_false (sym (worker_is_host p h xs run r there k x work e.block.host) ∙ is))
-shown_at_least p h xs run r there k x z e work true true is was shows = shown_whole p h xs run r there k is x z e was
-shown_at_least p h xs run r there k x z e work true false is was shows =
+-- By what the read was given.
+given_at_least : (p : Program) (h : Header) (xs : List Happening) → LawfulRun p h xs → (r : ResourceLine) → Contains h.resources r → (g : ReadsGive p h xs r) → (n k : ℕ)
+    → is_host (world_at p h xs) k ≡ true → (x : Sent) (z : IsReadAt (world_at p h xs) r n) → Earlier p h xs r k x z.sent → IsWork (world_at p h xs) r x → (o : Option (Option Sent))
+    → g.given n k ≡ o → shows_given (world_at p h xs) r k z.sent o ≡ true → step_of x ≤ shown_given (world_at p h xs) r z.sent o
+given_at_least p h xs run r there g n k host x z e work (Some from) is shows =
+    g.newest n k (ap (λ o. is_some o) z.found) host from is x e.block e.done e.stamp e.answered (subst (λ m. e.stamp.step ≤ m) z.is.step_is e.late)
+    (λ y b. sessions_follow p h xs r run there k x y e.block b)
+given_at_least p h xs run r there g n k host x z e work None is shows =
     let w : World = world_at p h xs in
-    let both = and_true ((holder_of w (sender_of z)).id == k) (is_some (own_before w (spot_of_line r) z)) shows in
-    own_by p h xs run r there k x z e work (eqb-true (holder_of w (sender_of z)).id k both.0) (own_before w (spot_of_line r) z) refl both.1
+    let both = and_true ((holder_of w (sender_of z.sent)).id == k) (is_some (own_before w (spot_of_line r) z.sent)) shows in
+    own_by p h xs run r there k x z.sent e work (eqb-true (holder_of w (sender_of z.sent)).id k both.0) (own_before w (spot_of_line r) z.sent) refl both.1
 
 -- ---- the law
 
@@ -183,11 +169,11 @@ show_newest p h xs r run there n k e a reads shows wrote ok late =
       done = told.0;
       stamp = told.1;
       answered = told.2;
-      read = record { sent = z.is.sent; on = z.is.on; reads = z.reads };
       works = read_works p h xs run r z.sent z.is.sent z.is.on z.counted;
       late = subst (λ m. told.1.step ≤ m) (sym z.is.step_is) (subst (λ m. m ≤ n) (sym told.3) late);
     } in
-    let whole = shown_at_least p h xs run r there k x.sent z.sent earlier (block_works p h xs run r there x.sent x.is.sent x.is.on x.block) (is_host w k)
-    (shows_whole w (spot_of_line r) k z.sent) refl refl (ap (λ (o : Option Sent). some_is (shows_by w (spot_of_line r) k) o) (sym z.found) ∙ shows) in
-    subst (λ m. m ≤ option_map_or (shown_by w (spot_of_line r) k) (read_at w (spot_of_line r) r.lockspace n) 0) x.is.step_is
-    (subst (λ o. step_of x.sent ≤ option_map_or (shown_by w (spot_of_line r) k) o 0) (sym z.found) whole)
+    let work = block_works p h xs run r there x.sent x.is.sent x.is.on x.block in
+    let host : is_host w k ≡ true = worker_is_host p h xs run r there k x.sent work block.host in
+    let g = reads_are_given p h xs r run there in
+    let whole = given_at_least p h xs run r there g n k host x.sent z earlier work (g.given n k) refl (sym (g.shows n k host z.sent z.found) ∙ shows) in
+    subst (λ m. m ≤ (history_of_line p h xs r).shown n k) x.is.step_is (subst (λ m. step_of x.sent ≤ m) (sym (g.shown n k host z.sent z.found)) whole)

@@ -2,6 +2,7 @@
 
 ghost use Rattle.sl_history.specs.Resources.Orders.{BlocksLandInOrder, ReadsShowNewest};
 ghost use Rattle.sl_history.specs.Resources.Promises.{HistoriesAreRegisters, HistoriesGoUp, HistoriesNumberAbove};
+ghost use Rattle.sl_history.specs.Resources.Reads.{ReadsAreGiven};
 
 /// Its blocks are registers.
 pub fn histories_are_registers()
@@ -26,4 +27,9 @@ pub fn histories_go_up()
 /// Numbers of ballots are above 0.
 pub fn histories_number_above()
     ensures { HistoriesNumberAbove }
+{}
+
+/// What its reads give of each host is a register's content, and what their traces have: all that is known of disks above.
+pub fn reads_are_given()
+    ensures { ReadsAreGiven }
 {}

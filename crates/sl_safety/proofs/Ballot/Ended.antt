@@ -3,11 +3,11 @@
 use Rattle.sl_safety.proofs.Ballot.EndedGrown.{found_block}
 use Rattle.sl_safety.proofs.Ballot.Phase2Apart.{host_there}
 use Rattle.sl_safety.proofs.Ballot.Phase2Between.{Acked, acked_by, ok_is}
-use Rattle.sl_safety.proofs.Ballot.Phase2Hosts.{block_host}
+use Rattle.sl_history.proofs.Giving.Hosts.{block_host}
 use Rattle.sl_safety.proofs.Ballot.Phase2Is.{phases_2_are}
 use Rattle.sl_safety.proofs.Ballot.Phase2Last.{OwnLast, own_last}
 use Rattle.sl_safety.proofs.Ballot.Phase2Ones.{last_wrote, written_there}
-use Rattle.sl_safety.proofs.Ballot.Phase2Reads.{read_told}
+use Rattle.sl_history.proofs.Giving.Told.{read_told}
 use Rattle.sl_safety.proofs.Ballot.Phase2Shows.{OwnRead, is_clean, read_is}
 use Rattle.sl_safety.proofs.Ballot.Phase2Stands.{StandsAt, stands_at}
 use Rattle.sl_safety.specs.Ballot.Endings.{HostsJoin, holder_as}
@@ -23,7 +23,7 @@ use Rattle.sl_trace.specs.Leases.{Phase2_read, Phase2_write, block_submitted, bl
 use Rattle.sl_run_law.proofs.Place.Proven.{promised}
 use Rattle.sl_run_law.proofs.Place.Reading.{lawful_daemon, session_inside}
 use Rattle.sl_history.proofs.Resources.Above.{line_aligned, reads_work}
-use Rattle.sl_history.proofs.Resources.Bases.{own_host}
+use Rattle.sl_history.proofs.Giving.Hosts.{own_host}
 use Rattle.sl_history.proofs.Resources.Calls.{numbers_meant}
 use Rattle.sl_history.proofs.Resources.Founding.{writer_is, writes_at}
 use Rattle.sl_history.proofs.Resources.Owning.{lease_is_work, session_as, spot_is, works}
@@ -162,7 +162,7 @@ ballot_ended p h xs r run there differ hosts i f its joined own bs k step by =
     let y : Sent = s.y.sent in
     let o = end_read p h xs run r hosts i f joined own bs k s in
     let v = written_there p h xs run r there z s.z.stands s.write s.y own s.wrote in
-    let t = read_told w z s.z.stands bs s.given in
+    let t = read_told s.z.stands.daemon z.course s.z.stands.told.one bs s.z.stands.told.pair s.given in
     let found = read_is p h xs run r there z own bs o in
     let clean = is_clean p h xs run r there z own bs o in
     let told : k.read.answer ≡ Some t.answer = ap (λ (m : Submitted). m.answer) (sym s.z.one) ∙ t.its in

@@ -11,10 +11,9 @@ use Rattle.sl_trace_law.specs.Leases.Ways.{Ended, lease_among}
 use Rattle.sl_trace.specs.Ballots.{value_of}
 use Rattle.sl_trace.specs.Leases.{Phase2_read, block_submitted, blocks_given, is_at, is_lease_call, is_on, lease_calls}
 use Rattle.sl_run_law.proofs.Place.Daemons.{daemons_are_fine, stamp_order}
-use Rattle.sl_run_law.proofs.Place.Reading.{answer_gave, session_inside}
+use Rattle.sl_run_law.proofs.Place.Reading.{session_inside}
 use Rattle.sl_plain.proofs.Numbers.{below_suc}
-use Rattle.sl_history.proofs.Resources.Looking.{given_blocks}
-use Rattle.sl_history.proofs.Resources.Recalled.{found_bytes}
+use Rattle.sl_history.proofs.Resources.Looking.{given_told}
 use Rattle.sl_history.proofs.Resources.Standing.{pair_parts}
 use Rattle.sl_history.specs.Resources.Promises.{history_of_line, spot_of_line}
 use Rattle.sl_history.specs.Resources.Sending.{holder_of}
@@ -47,13 +46,6 @@ given_by g was is bs k (Some a) told gives = ap (λ c. given_with g c is.answer)
 pub given_stays : (g : Layout) (was is : Submitted) (bs : List (Option Block)) → Alike was is → blocks_given g was ≡ Some bs → blocks_given g is ≡ Some bs
 given_stays g was is bs k gives = given_by g was is bs k was.answer refl gives
 
--- A call that gave blocks was answered.
-pub given_answered : (g : Layout) (q : Submitted) (bs : List (Option Block)) → blocks_given g q ≡ Some bs → (a : Answered) × (q.answer ≡ Some a)
-given_answered g q bs gives =
-    let bytes = found_bytes g q bs (given_blocks g q bs gives) in
-    let a = answer_gave q.answer bytes.0 bytes.1 in
-    (a.0, a.1)
-
 -- ---- in the whole trace
 
 -- The ending read at a front, in the whole.
@@ -75,7 +67,7 @@ ends_in f later front whole at p e =
     let g = grown_to later front in
     let r = pair_parts Alike v.newer e.read v.older g.now (subst (λ ms. Pairwise Alike ms g.now) v.is g.alike) in
     let both = and_true (is_lease_call e.read) (is_on st.layout at e.read.call) u.passes in
-    let a = given_answered st.layout e.read e.blocks e.given in
+    let a = given_told st.layout e.read e.blocks e.given in
     record {
       own = e.own;
       blocks = e.blocks;
@@ -93,8 +85,8 @@ ends_in f later front whole at p e =
         clear = e.clear;
       };
       early = λ b told.
-          let same : a.0 ≡ b = one_value a.0 b r.one.answer (r.pair.told a.0 a.1) told in
-          subst (λ (x : Answered). x.at < length front) same (answers_within front e.read (record { newer = v.newer; older = v.older; is = v.is }) a.0 a.1);
+          let same : a.answered ≡ b = one_value a.answered b r.one.answer (r.pair.told a.answered a.is) told in
+          subst (λ (x : Answered). x.at < length front) same (answers_within front e.read (record { newer = v.newer; older = v.older; is = v.is }) a.answered a.is);
       what = e.what;
     }
 

@@ -3,7 +3,7 @@
 use Rattle.sl_area.specs.Layouts.{Layout}
 use Rattle.sl_safety.proofs.Ballot.Ended.{EndingRead}
 use Rattle.sl_safety.proofs.Ballot.EndedAll.{ends_in}
-use Rattle.sl_safety.proofs.Ballot.Phase2Hosts.{written_in}
+use Rattle.sl_history.proofs.Giving.Hosts.{written_in}
 use Rattle.sl_safety.proofs.Ballot.Phase2Stands.{stands_at}
 use Rattle.sl_safety.specs.Ballot.Enders.{EndersAreJoined}
 use Rattle.sl_run.specs.LawfulArea.{LawfulAreaWrite}

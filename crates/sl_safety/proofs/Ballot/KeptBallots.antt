@@ -7,7 +7,8 @@ use Rattle.sl_ballots.specs.History.{History}
 use Rattle.sl_trace_law.specs.Leases.Ways.{Of_mode, Of_phase1, Of_phase2, Way}
 use Rattle.sl_trace.specs.Leases.{Phase1_write, Phase2_write, StepKind, is_at}
 use Rattle.sl_history.proofs.Resources.Above.{WrittenAt, written_at}
-use Rattle.sl_history.proofs.Resources.Bases.{Based, based, own_host}
+use Rattle.sl_history.proofs.Giving.Hosts.{own_host}
+use Rattle.sl_history.proofs.Resources.Bases.{Based, based}
 use Rattle.sl_history.proofs.Resources.Calls.{worker_joined}
 use Rattle.sl_history.proofs.Resources.Calls.{block_works as block_is_work}
 use Rattle.sl_history.proofs.Resources.Founding.{have_bases}

@@ -1,7 +1,7 @@
 -- Steps of a lease are apart; and a session that works on a resource has a host's id.
 use Rattle.sl_safety.specs.Ballot.Endings.{HostsJoin}
 use Rattle.sl_trace.specs.Leases.{Area_read, Leader_freed, Leader_taken, Mode_cleared, Mode_set, Phase1_read, Phase1_write, Phase2_read, Phase2_write, Read_before_free, StepKind, is_at, kind_of_step, lease_step, same_kind}
-use Rattle.sl_history.proofs.Resources.Bases.{own_host}
+use Rattle.sl_history.proofs.Giving.Hosts.{own_host}
 use Rattle.sl_history.proofs.Resources.Standing.{Standing}
 use Rattle.sl_history.specs.Resources.Histories.{is_host}
 use Rattle.sl_history.specs.Resources.Sending.{Sent, is_joined_there, sender_of}

@@ -3,7 +3,7 @@
 use Rattle.sl_safety.proofs.Ballot.KeptBallots.{Phase2sAre}
 use Rattle.sl_safety.proofs.Ballot.Phase2Apart.{host_there}
 use Rattle.sl_safety.proofs.Ballot.Phase2Between.{Acked, acked_by, last_between, ok_is}
-use Rattle.sl_safety.proofs.Ballot.Phase2Hosts.{block_host}
+use Rattle.sl_history.proofs.Giving.Hosts.{block_host}
 use Rattle.sl_safety.proofs.Ballot.Phase2Last.{OwnLast, own_last}
 use Rattle.sl_safety.proofs.Ballot.Phase2Ones.{base_is, is_one, last_wrote, own_of_last, written_there}
 use Rattle.sl_safety.proofs.Ballot.Phase2Shows.{OwnRead, is_clean, read_is}
@@ -23,7 +23,7 @@ use Rattle.sl_trace.specs.Ballots.{ballot_blocks, moded_block, phase2_block, val
 use Rattle.sl_trace.specs.Leases.{Phase1_write, Phase2_write, blocks_given, is_at, is_on}
 use Rattle.sl_plain.proofs.Numbers.{lt_then_le}
 use Rattle.sl_history.proofs.Resources.Above.{IsAmong, WrittenAt, answer_step, answered_before, is_among, line_aligned, reads_work, told_spot, written_at}
-use Rattle.sl_history.proofs.Resources.Bases.{own_host}
+use Rattle.sl_history.proofs.Giving.Hosts.{own_host}
 use Rattle.sl_history.proofs.Resources.Calls.{worker_joined}
 use Rattle.sl_history.proofs.Resources.Calls.{block_works as block_is_work}
 use Rattle.sl_history.proofs.Resources.Founding.{is_last, writer_is, writes_at}

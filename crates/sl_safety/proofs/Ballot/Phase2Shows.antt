@@ -1,33 +1,31 @@
 -- What the history has of a read: of each host the block that the ballot goes by, the own torn one as it was last submitted; and each
 -- block that the ballot goes by it has of a host.
-use Rattle.sl_safety.proofs.Ballot.Phase2Reads.{given_at, not_torn, read_told}
 use Rattle.sl_ballots.specs.Ballots.{IsClean}
 use Rattle.sl_ballots.specs.History.{History}
 use Rattle.sl_trace.specs.Ballots.{ballot_blocks, known_block, stop_of, with_own}
 use Rattle.sl_trace.specs.Leases.{blocks_given, is_on}
 use Rattle.sl_plain.proofs.Numbers.{one_again, zero_is_least}
-use Rattle.sl_history.proofs.Resources.Bases.{own_host}
-use Rattle.sl_history.proofs.Resources.Calls.{read_at_step}
+use Rattle.sl_history.proofs.Giving.Hosts.{own_host}
+use Rattle.sl_history.proofs.Giving.Proven.{reads_are_given}
+use Rattle.sl_history.proofs.Resources.Above.{block_of_none, block_of_step}
+use Rattle.sl_history.proofs.Resources.Reading.{counted_at, counted_reads}
+use Rattle.sl_history.proofs.Resources.Shows.{IsOf, has_block, has_own, listed}
+use Rattle.sl_history.specs.Resources.Reads.{ReadBlocks}
 use Rattle.sl_history.proofs.Resources.Clear.{IsClear, IsWhole, all_whole, is_clear, taken_at}
-use Rattle.sl_history.proofs.Resources.Rising.{ShowsBlock, block_of_none, block_of_step, read_shows_block}
-use Rattle.sl_history.proofs.Resources.Shown.{host_range}
+use Rattle.sl_history.proofs.Resources.Calls.{host_range}
 use Rattle.sl_history.proofs.Resources.Standing.{Standing}
-use Rattle.sl_history.specs.Resources.Histories.{counts_own, history_block, is_host, landing_shown, no_block, own_before, shown_by, shows_by, shows_whole, step_of_landing}
+use Rattle.sl_history.specs.Resources.Histories.{history_block, is_host, no_block, own_before}
 use Rattle.sl_history.specs.Resources.Promises.{history_of_line, spot_of_line}
-use Rattle.sl_history.specs.Resources.Sending.{Sent, all_sent, block_of_course, holder_of, is_counted_read, is_joined_there, read_at, sender_of, step_of}
+use Rattle.sl_history.specs.Resources.Sending.{Sent, all_sent, block_of_course, holder_of, is_joined_there, read_at, sender_of, step_of}
 use Rattle.sl_run.specs.Runs.{Happening}
 use Rattle.sl_run.specs.Safety.{LawfulRun, world_at}
-use Rattle.sl_run.specs.Worlds.{Landing, Program, World}
+use Rattle.sl_run.specs.Worlds.{Program, World}
 use Rattle.sl_run.specs.declared.header.Header.{Header}
 use Rattle.sl_run.specs.declared.header.ResourceLine.{ResourceLine}
 use Rattle.sl_sector.specs.declared.sector.Block.{Block}
-use Rattle.sl_trace.specs.declared.effects.Spot.{Spot}
 use Rattle.sl_words.proofs.CaseLaws.{none_some, some_value}
-use Rattle.sl_words.proofs.WordLaws.{some_is_true}
-use Rattle.sl_words.specs.Words.{some_is}
 use Rattle.std.proofs.Common.{ap, refl, subst, sym, ◌∙◌}
-use Rattle.std.proofs.lemmas.Bool.{and_from, eq-eqb, eqb-true}
-use Rattle.std.specs.Option.{option_map_or}
+use Rattle.std.proofs.lemmas.Bool.{eqb-true}
 use Rattle.std.specs.Prelude.{Bool, Contains, List, None, Option, Some, false, if◌then◌else◌, is_some, slice_get, true, unwrap_or, ℕ, ◌-◌, ◌==◌, ◌≡◌, ◌≤◌}
 
 -- A read of a session with the blocks that it gave, and the block that the session wrote last before.
@@ -48,12 +46,18 @@ pub record OwnRead (w : World) (r : ResourceLine) (z : Sent) (own : Block) (bs :
 
 -- ---- the read of the history
 
-pub counted : (w : World) (r : ResourceLine) (z : Sent) (own : Block) (bs : List (Option Block)) → OwnRead w r z own bs → is_counted_read w r.lockspace z ≡ true
-counted w r z own bs o = let t = read_told w z o.stands bs o.given in and_from _ _ (and_from _ _ t.reads t.done) o.joined
+reads_of : (p : Program) (h : Header) (xs : List Happening) → LawfulRun p h xs → (r : ResourceLine) → Contains h.resources r → (z : Sent) (own : Block) (bs : List (Option Block))
+    → OwnRead (world_at p h xs) r z own bs → ReadBlocks (world_at p h xs) r (step_of z) bs
+reads_of p h xs run r there z own bs o = counted_reads p h xs run r there z o.has o.stands o.on o.joined bs o.given
 
 pub read_is : (p : Program) (h : Header) (xs : List Happening) → LawfulRun p h xs → (r : ResourceLine) → Contains h.resources r → (z : Sent) (own : Block) (bs : List (Option Block))
     → OwnRead (world_at p h xs) r z own bs → read_at (world_at p h xs) (spot_of_line r) r.lockspace (step_of z) ≡ Some z
-read_is p h xs run r there z own bs o = read_at_step p h xs run r there z o.has o.on (counted (world_at p h xs) r z own bs o)
+read_is p h xs run r there z own bs o = counted_at p h xs run r there z o.has o.stands o.on o.joined bs o.given
+
+read_of : (p : Program) (h : Header) (xs : List Happening) → LawfulRun p h xs → (r : ResourceLine) → Contains h.resources r → (z : Sent) (own : Block) (bs : List (Option Block))
+    → OwnRead (world_at p h xs) r z own bs → (k : ℕ) → is_host (world_at p h xs) k ≡ true → IsOf p h xs r (step_of z) k bs
+read_of p h xs run r there z own bs o k host =
+    record { run = run; there = there; give = reads_are_given p h xs r run there; read = reads_of p h xs run r there z own bs o; host = host }
 
 -- What the history has of a host.
 pub record HostShown (h : History) (read k : ℕ) (own : Block) (bs : List (Option Block)) : Type 0 where
@@ -63,51 +67,28 @@ pub record HostShown (h : History) (read k : ℕ) (own : Block) (bs : List (Opti
   pub taken : slice_get (with_own own 1 bs) (k - 1) ≡ Some (k, Some block)
   pub among : Contains (ballot_blocks own bs) block
 
--- What is shown in a world.
-record Shows (p : Program) (h : Header) (xs : List Happening) (r : ResourceLine) (z : Sent) (k : ℕ) (b : Block) : Type 0 where
-  shows : shows_by (world_at p h xs) (spot_of_line r) k z ≡ true
-  shown : (history_of_line p h xs r).block (shown_by (world_at p h xs) (spot_of_line r) k z) ≡ history_block b
-
-shows_at : (w : World) (at : Spot) (k : ℕ) (z : Sent) (b : Bool) → is_host w k ≡ true → shows_whole w at k z ≡ b
-    → shows_by w at k z ≡ (if b then true else counts_own w at z k)
-shows_at w at k z b host whole =
-    ap (λ x. if x then (if shows_whole w at k z then true else counts_own w at z k) else true) host ∙ ap (λ x. if x then true else counts_own w at z k) whole
-
-shown_at : (w : World) (at : Spot) (k : ℕ) (z : Sent) (b : Bool) → is_host w k ≡ true → shows_whole w at k z ≡ b
-    → shown_by w at k z ≡ (if b then option_map_or (step_of_landing w) (landing_shown w at z.course k) 0 else option_map_or step_of (own_before w at z) 0)
-shown_at w at k z b host whole =
-    ap (λ x. if x then (if shows_whole w at k z then option_map_or (step_of_landing w) (landing_shown w at z.course k) 0 else option_map_or step_of (own_before w at z) 0) else 0) host
-    ∙ ap (λ x. if x then option_map_or (step_of_landing w) (landing_shown w at z.course k) 0 else option_map_or step_of (own_before w at z) 0) whole
+-- What is shown of a host.
+record Shows (p : Program) (h : Header) (xs : List Happening) (r : ResourceLine) (n k : ℕ) (b : Block) : Type 0 where
+  shows : (history_of_line p h xs r).shows n k ≡ true
+  shown : (history_of_line p h xs r).block ((history_of_line p h xs r).shown n k) ≡ history_block b
 
 -- A block that was read is shown.
 whole_shown : (p : Program) (h : Header) (xs : List Happening) → LawfulRun p h xs → (r : ResourceLine) → Contains h.resources r → (z : Sent) (own : Block) (bs : List (Option Block))
-    → OwnRead (world_at p h xs) r z own bs → (k : ℕ) → is_host (world_at p h xs) k ≡ true → (b : Block) → slice_get bs (k - 1) ≡ Some (Some b) → Shows p h xs r z k b
+    → OwnRead (world_at p h xs) r z own bs → (k : ℕ) → is_host (world_at p h xs) k ≡ true → (b : Block) → slice_get bs (k - 1) ≡ Some (Some b) → Shows p h xs r (step_of z) k b
 whole_shown p h xs run r there z own bs o k host b taken =
-    let w : World = world_at p h xs in
-    let at : Spot = spot_of_line r in
-    let s : ShowsBlock p h xs r k z.course b = read_shows_block p h xs run r there z o.stands o.on bs o.given k host b taken in
-    let whole : shows_whole w at k z ≡ true = ap (λ q. some_is (λ (l : Landing). l.whole) q) s.shown ∙ s.whole in
-    record {
-      shows = shows_at w at k z true host whole;
-      shown = ap (λ n. (history_of_line p h xs r).block n) (shown_at w at k z true host whole ∙ ap (λ q. option_map_or (step_of_landing w) q 0) s.shown) ∙ s.block;
-    }
+    let f = has_block p h xs r (step_of z) k bs (read_of p h xs run r there z own bs o k host) b taken in
+    record { shows = f.shows; shown = f.block }
 
--- The own block, where it is torn, is shown as it was last submitted.
+-- The own block, where none was given, is shown as it was last submitted.
 own_shown : (p : Program) (h : Header) (xs : List Happening) → LawfulRun p h xs → (r : ResourceLine) → Contains h.resources r → (z : Sent) (own : Block) (bs : List (Option Block))
-    → OwnRead (world_at p h xs) r z own bs → (k : ℕ) → is_host (world_at p h xs) k ≡ true → k ≡ own.host → slice_get bs (k - 1) ≡ Some None → (b : Bool)
-    → shows_whole (world_at p h xs) (spot_of_line r) k z ≡ b → Shows p h xs r z k own
-own_shown p h xs run r there z own bs o k host its none true whole =
+    → OwnRead (world_at p h xs) r z own bs → (k : ℕ) → is_host (world_at p h xs) k ≡ true → k ≡ own.host → slice_get bs (k - 1) ≡ Some None → Shows p h xs r (step_of z) k own
+own_shown p h xs run r there z own bs o k host its none =
     let w : World = world_at p h xs in
-    let l = some_is_true (λ (y : Landing). y.whole) (landing_shown w (spot_of_line r) z.course k) whole in
-    absurd (not_torn p h xs run r there z o.has o.stands o.on bs (read_told w z o.stands bs o.given) k host l.0 l.1 l.2 none)
-own_shown p h xs run r there z own bs o k host its none false whole =
-    let w : World = world_at p h xs in
-    let at : Spot = spot_of_line r in
     let same : (holder_of w (sender_of z)).id ≡ k = own_host w z o.stands ∙ sym o.named ∙ sym its in
+    let f = has_own p h xs r (step_of z) k bs (read_of p h xs run r there z own bs o k host) none z (read_is p h xs run r there z own bs o) same o.last o.before in
     record {
-      shows = shows_at w at k z false host whole ∙ and_from _ _ (eq-eqb (holder_of w (sender_of z)).id k same) (ap (λ q. is_some q) o.before);
-      shown = ap (λ n. (history_of_line p h xs r).block n) (shown_at w at k z false host whole ∙ ap (λ q. option_map_or step_of q 0) o.before)
-          ∙ block_of_step p h xs run r there o.last own o.last_has o.last_on o.block;
+      shows = f.shows;
+      shown = ap (λ n. (history_of_line p h xs r).block n) f.shown ∙ block_of_step p h xs run r there o.last own o.last_has o.last_on o.block;
     }
 
 -- ---- the block that the ballot goes by
@@ -135,31 +116,22 @@ known_torn own b k false is h = absurd (none_some b h)
 
 shows_taken : (p : Program) (h : Header) (xs : List Happening) → LawfulRun p h xs → (r : ResourceLine) → Contains h.resources r → (z : Sent) (own : Block) (bs : List (Option Block))
     → OwnRead (world_at p h xs) r z own bs → (k : ℕ) → is_host (world_at p h xs) k ≡ true → (o : Option Block) → slice_get bs (k - 1) ≡ Some o → (b : Block)
-    → known_block own o k ≡ Some b → Shows p h xs r z k b
+    → known_block own o k ≡ Some b → Shows p h xs r (step_of z) k b
 shows_taken p h xs run r there z own bs o k host (Some c) given b is =
     let same : c ≡ b = some_value c b (sym (known_whole own c k (k == own.host)) ∙ is) in
     whole_shown p h xs run r there z own bs o k host b (given ∙ ap (λ x. Some (Some x)) same)
 shows_taken p h xs run r there z own bs o k host None given b is =
     let its = known_torn own b k (k == own.host) refl is in
-    subst (λ x. Shows p h xs r z k x) its.1 (own_shown p h xs run r there z own bs o k host its.0 given (shows_whole (world_at p h xs) (spot_of_line r) k z) refl)
+    subst (λ x. Shows p h xs r (step_of z) k x) its.1 (own_shown p h xs run r there z own bs o k host its.0 given)
 
 -- Of each host the history has the block that the ballot goes by.
 pub host_shown : (p : Program) (h : Header) (xs : List Happening) → LawfulRun p h xs → (r : ResourceLine) → Contains h.resources r → (z : Sent) (own : Block) (bs : List (Option Block))
     → OwnRead (world_at p h xs) r z own bs → (k : ℕ) → is_host (world_at p h xs) k ≡ true → HostShown (history_of_line p h xs r) (step_of z) k own bs
 host_shown p h xs run r there z own bs o k host =
-    let w : World = world_at p h xs in
-    let at : Spot = spot_of_line r in
-    let g = given_at p h xs run z o.stands bs (read_told w z o.stands bs o.given) k host in
-    let t = taken_as own bs (is_clear own bs o.clear) k (host_range w k host).0 _ g.given in
-    let s = shows_taken p h xs run r there z own bs o k host _ g.given t.block t.is in
-    let found = read_is p h xs run r there z own bs o in
-    record {
-      block = t.block;
-      shows = ap (λ q. some_is (shows_by w at k) q) found ∙ s.shows;
-      shown = ap (λ q. (history_of_line p h xs r).block (option_map_or (shown_by w at k) q 0)) found ∙ s.shown;
-      taken = t.taken;
-      among = t.among;
-    }
+    let g = listed p h xs r (step_of z) k bs (read_of p h xs run r there z own bs o k host) in
+    let t = taken_as own bs (is_clear own bs o.clear) k (host_range (world_at p h xs) k host).0 g.0 g.1 in
+    let s = shows_taken p h xs run r there z own bs o k host g.0 g.1 t.block t.is in
+    record { block = t.block; shows = s.shows; shown = s.shown; taken = t.taken; among = t.among }
 
 -- Of a number that is no host's it has the block of step 0.
 pub record NoneShown (h : History) (read k : ℕ) : Type 0 where
@@ -169,15 +141,8 @@ pub record NoneShown (h : History) (read k : ℕ) : Type 0 where
 pub none_shown : (p : Program) (h : Header) (xs : List Happening) → LawfulRun p h xs → (r : ResourceLine) → Contains h.resources r → (z : Sent) (own : Block) (bs : List (Option Block))
     → OwnRead (world_at p h xs) r z own bs → (k : ℕ) → is_host (world_at p h xs) k ≡ false → NoneShown (history_of_line p h xs r) (step_of z) k
 none_shown p h xs run r there z own bs o k host =
-    let w : World = world_at p h xs in
-    let at : Spot = spot_of_line r in
-    let found = read_is p h xs run r there z own bs o in
-    record {
-      shows = ap (λ q. some_is (shows_by w at k) q) found ∙ ap (λ x. if x then (if shows_whole w at k z then true else counts_own w at z k) else true) host;
-      shown = ap (λ q. (history_of_line p h xs r).block (option_map_or (shown_by w at k) q 0)) found
-          ∙ ap (λ x. (history_of_line p h xs r).block (if x then (if shows_whole w at k z then option_map_or (step_of_landing w) (landing_shown w at z.course k) 0 else option_map_or step_of (own_before w at z) 0) else 0)) host
-          ∙ block_of_none p h xs run r;
-    }
+    let f = (reads_are_given p h xs r run there).others (step_of z) k (ap (λ q. is_some q) (read_is p h xs run r there z own bs o)) host in
+    record { shows = f.0; shown = ap (λ n. (history_of_line p h xs r).block n) f.1 ∙ block_of_none p h xs run r }
 
 -- ---- nothing stops the ballot
 

@@ -1,15 +1,13 @@
 -- What phase 2 proposes in a trace it proposes in the history: its session, or the value of the greatest ballot that the read shows.
 use Rattle.sl_area.specs.Layouts.{Layout}
-use Rattle.sl_area.specs.Places.{read_at as sector_read}
-use Rattle.sl_safety.proofs.Ballot.Phase2Reads.{read_told}
+use Rattle.sl_history.proofs.Giving.Told.{given_below}
 use Rattle.sl_safety.proofs.Ballot.Phase2Shows.{OwnRead, host_shown, none_shown}
 use Rattle.sl_safety.specs.Ballot.Endings.{holder_as}
 use Rattle.sl_ballots.specs.Ballots.{ProposesItself, ProposesSeen}
 use Rattle.sl_ballots.specs.History.{History}
 use Rattle.sl_trace.specs.Ballots.{ballot_blocks, value_to_write, whole_blocks, with_own}
 use Rattle.sl_plain.proofs.Lists.{contains_cases, contains_none}
-use Rattle.sl_plain.proofs.Numbers.{both_next, zero_is_least, zero_less}
-use Rattle.sl_history.proofs.Resources.Looking.{By_area, By_phase, Gave}
+use Rattle.sl_plain.proofs.Numbers.{zero_is_least}
 use Rattle.sl_history.proofs.Resources.Owning.{layout_at}
 use Rattle.sl_history.proofs.Resources.Values.{Another, Itself, Proposes, proposes}
 use Rattle.sl_history.specs.Resources.Histories.{history_block, is_host}
@@ -20,15 +18,13 @@ use Rattle.sl_run.specs.Safety.{LawfulRun, world_at}
 use Rattle.sl_run.specs.Worlds.{Program, World}
 use Rattle.sl_run.specs.declared.header.Header.{Header}
 use Rattle.sl_run.specs.declared.header.ResourceLine.{ResourceLine}
-use Rattle.sl_sector.specs.Spelling.{block_in}
 use Rattle.sl_sector.specs.declared.sector.Block.{Block}
 use Rattle.sl_sector.specs.declared.sector.Owner.{Owner}
-use Rattle.sl_trace.specs.Traces.{Submitted}
 use Rattle.sl_words.proofs.CaseLaws.{none_some, some_value}
 use Rattle.std.proofs.Common.{ap, arith, inl, inr, refl, subst, sym, ◌∙◌}
 use Rattle.std.proofs.lemmas.Bool.{and_from, le-leb}
-use Rattle.std.specs.List.{cons_option, range_with_len}
-use Rattle.std.specs.Prelude.{Bool, Contains, List, None, Option, Some, false, map, slice_get, suc, true, zero, [], ℕ, ◌+◌, ◌-◌, ◌<◌, ◌∷◌, ◌≡◌, ◌≤◌, ◌⊎◌}
+use Rattle.std.specs.List.{cons_option}
+use Rattle.std.specs.Prelude.{Bool, Contains, List, None, Option, Some, false, slice_get, suc, true, zero, [], ℕ, ◌+◌, ◌-◌, ◌<◌, ◌∷◌, ◌≡◌, ◌≤◌, ◌⊎◌}
 
 -- ---- each block that the ballot goes by is of a host
 
@@ -59,15 +55,6 @@ read_there own host [] j p at = absurd (none_some p at)
 read_there own host (b ∷ bs) zero p at = (b, refl)
 read_there own host (b ∷ bs) (suc j) p at = read_there own (host + 1) bs j p at
 
-ranged_below : {A : Type 0} (f : ℕ → A) (a n j : ℕ) (y : A) → slice_get (map f (range_with_len a n)) j ≡ Some y → j < n
-ranged_below f a zero j y h = absurd (none_some y h)
-ranged_below f a (suc n) zero y h = zero_less n
-ranged_below f a (suc n) (suc j) y h = both_next j n (ranged_below f (a + 1) n j y h)
-
-given_below : (g : Layout) (q : Submitted) (bs : List (Option Block)) (j : ℕ) (o : Option Block) → Gave g q bs → slice_get bs j ≡ Some o → j < g.hosts
-given_below g q bs j o (By_area bytes told is same) at = ranged_below (λ k. block_in k (sector_read g _ (k - 1))) 1 g.hosts j o (ap (λ l. slice_get l j) (sym same) ∙ at)
-given_below g q bs j o (By_phase bytes told alone is same) at = ranged_below (λ k. block_in k (sector_read g bytes (k - 1))) 1 g.hosts j o (ap (λ l. slice_get l j) (sym same) ∙ at)
-
 one_on : (j n : ℕ) → j < n → (1 ≤ 1 + j) × (1 + j ≤ n)
 one_on j n h = (omega arith, omega (arith, h))
 
@@ -86,9 +73,9 @@ of_host p h xs run r there z own bs o b has =
     let w : World = world_at p h xs in
     let f = from_whole (with_own own 1 bs) b has in
     let read = read_there own 1 bs f.index f.pair f.at in
-    let t = read_told w z o.stands bs o.given in
+    let g : Layout = o.stands.daemon.setting.layout in
     let below : f.index < w.layout.hosts =
-    subst (λ g. f.index < g.hosts) (layout_at p h xs run z o.stands) (given_below o.stands.daemon.setting.layout o.stands.told.one bs f.index read.0 t.by read.1) in
+    subst (λ y. f.index < y.hosts) (layout_at p h xs run z o.stands) (given_below g o.stands.told.one bs f.index read.0 o.given read.1) in
     let range = one_on f.index w.layout.hosts below in
     let host : is_host w (1 + f.index) ≡ true = and_from _ _ (le-leb 1 (1 + f.index) range.0) (le-leb (1 + f.index) w.layout.hosts range.1) in
     let s = host_shown p h xs run r there z own bs o (1 + f.index) host in

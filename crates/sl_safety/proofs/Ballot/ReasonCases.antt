@@ -23,8 +23,9 @@ use Rattle.sl_history.proofs.Resources.Calls.{block_at_step}
 use Rattle.sl_history.proofs.Resources.Owning.{works}
 use Rattle.sl_history.proofs.Resources.Founding.{writes_at}
 use Rattle.sl_history.proofs.Resources.Phases.{holder_as as named_alike}
-use Rattle.sl_history.proofs.Resources.Rising.{block_of_step}
-use Rattle.sl_history.proofs.Resources.Showing.{Never, Once, Seen}
+use Rattle.sl_history.proofs.Resources.Above.{block_of_step}
+use Rattle.sl_history.proofs.Resources.Reading.{IsWriter}
+use Rattle.sl_history.proofs.Resources.Shows.{Never, Once, Seen}
 use Rattle.sl_history.proofs.Resources.Standing.{Standing}
 use Rattle.sl_history.specs.Resources.Promises.{NamesDiffer, history_of_line, spot_of_line}
 use Rattle.sl_history.specs.Resources.Sending.{Sent, all_sent, block_of_course, holder_of, is_joined_there, sender_of, step_of}
@@ -147,19 +148,21 @@ lost_by ended_given p h xs r x s k n m o has next counted =
 
 -- ---- case by case
 
+writer_at : {p : Program} {h : Header} {xs : List Happening} {r : ResourceLine} {x : Sent} {s : Standing (world_at p h xs) x} → Writing p h xs r x s → IsWriter p h xs r x s
+writer_at k = record { run = k.run; there = k.there; joined = k.joined; work = k.work; area = k.area; spot = k.spot }
+
 pub reason_of : EndedBallotsEnd → (p : Program) (h : Header) (xs : List Happening) (r : ResourceLine) (x : Sent) (s : Standing (world_at p h xs) x) (k : Writing p h xs r x s) → (n : ℕ) → 0 < n
     → TraceReason s.daemon.setting (front_trace k) s.session (spot_of_line r) n → Begins p h xs r x n
 reason_of ended_given p h xs r x s k n pos (Block_above a above b has is) =
-    let v = area_seen p h xs k.run (spot_of_line r) (line_aligned p h xs k.run r k.there) x s k.work k.area k.spot (length k.front.past + 1) (front_trace k) k.front.before a in
+    let v = area_seen p h xs r x s (writer_at k) (length k.front.past + 1) (front_trace k) k.front.before a in
     seen_begins p h xs r x s k b n is pos (v.blocks b has)
 reason_of ended_given p h xs r x s k n pos (Own_block b known is begun) =
     seen_begins p h xs r x s k b n is pos
-    (own_seen_at p h xs k.run (spot_of_line r) (line_aligned p h xs k.run r k.there) x k.has s k.on k.block k.wrote k.work k.area k.spot (length k.front.past + 1) (front_trace k) k.front.before b
-    known)
+    (own_seen_at p h xs r x k.has s (writer_at k) k.on k.block k.wrote (length k.front.past + 1) (front_trace k) k.front.before b known)
 reason_of ended_given p h xs r x s k n pos (Leader_before a next why) =
     let H : History = history_of_line p h xs r in
     let me_now : Holder = holder_of (world_at p h xs) (sender_of x) in
-    let v = area_seen p h xs k.run (spot_of_line r) (line_aligned p h xs k.run r k.there) x s k.work k.area k.spot (length k.front.past + 1) (front_trace k) k.front.before a in
+    let v = area_seen p h xs r x s (writer_at k) (length k.front.past + 1) (front_trace k) k.front.before a in
     before_by H me_now a.leader n (step_of x) next a.leader.held refl
     (elim why as (λ z. (a.leader.held ≡ false) ⊎ (H.evidence me_now (owner_named a.leader) (step_of x) ≡ true)) [
       | inl free ↦ inl free
@@ -167,7 +170,7 @@ reason_of ended_given p h xs r x s k n pos (Leader_before a next why) =
     ]) (read_leader p h xs r x s k a.leader v.leader)
 reason_of ended_given p h xs r x s k n pos (Leader_own a is held own) =
     let w : World = world_at p h xs in
-    let v = area_seen p h xs k.run (spot_of_line r) (line_aligned p h xs k.run r k.there) x s k.work k.area k.spot (length k.front.past + 1) (front_trace k) k.front.before a in
+    let v = area_seen p h xs r x s (writer_at k) (length k.front.past + 1) (front_trace k) k.front.before a in
     own_leader (history_of_line p h xs r) (holder_of w (sender_of x)) a.leader n (step_of x) is held
     (same_owner_named a.leader (me (front_trace k) s.session) own ∙ name_at_front w x s k.front k.fronted) (read_leader p h xs r x s k a.leader v.leader)
 reason_of ended_given p h xs r x s k n pos (Freed_in_trace a above q has m is next) =

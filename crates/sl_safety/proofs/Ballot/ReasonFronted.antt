@@ -11,7 +11,7 @@ use Rattle.sl_trace_law.proofs.Leases.FrontLaws.{lawful_there}
 use Rattle.sl_trace_law.proofs.Leases.NumberLaws.{number_is_place}
 use Rattle.sl_trace_law.specs.Leases.Fronts.{Submission}
 use Rattle.sl_plain.proofs.Options.{some_there}
-use Rattle.sl_history.proofs.Resources.Shown.{holder_is}
+use Rattle.sl_history.proofs.Resources.Calls.{holder_is}
 use Rattle.sl_history.proofs.Resources.Standing.{Standing}
 use Rattle.sl_history.specs.Resources.Sending.{Sent, holder_of, sender_of}
 use Rattle.sl_run.specs.Worlds.{World}

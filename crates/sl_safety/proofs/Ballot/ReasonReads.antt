@@ -4,7 +4,6 @@ use Rattle.sl_area.specs.Layouts.{Layout}
 use Rattle.sl_area.specs.Places.{area_blocks, blocks_in}
 use Rattle.sl_safety.proofs.Ballot.ReasonLeaders.{LeaderSeen, Led, Unled, leader_looked}
 use Rattle.sl_run_law.proofs.Front.Having.{placed_at}
-use Rattle.sl_run.specs.LawfulArea.{is_area_work}
 use Rattle.sl_run.specs.LawfulBlock.{AreaRead}
 use Rattle.sl_trace_law.proofs.Leases.AgeLaws.{aged_lease, answer_stays, became}
 use Rattle.sl_trace_law.specs.Leases.Fronts.{Aged, AllAged}
@@ -12,14 +11,17 @@ use Rattle.sl_trace.specs.Leases.{blocks_given, is_area_read, is_on, is_phase_re
 use Rattle.sl_run_law.proofs.Place.Finding.{given_by}
 use Rattle.sl_run_law.proofs.Place.Reading.{answer_gave}
 use Rattle.sl_plain.proofs.Numbers.{lt_then_le}
-use Rattle.sl_history.proofs.Resources.Above.{IsAmong, answer_step, answered_before, is_among, older_look, reads_work, seen_by}
-use Rattle.sl_history.proofs.Resources.Looking.{look_seen, looked}
-use Rattle.sl_history.proofs.Resources.Owning.{layout_at, spot_is, works}
-use Rattle.sl_history.proofs.Resources.Showing.{Seen}
+use Rattle.sl_history.proofs.Resources.Above.{IsAmong, answer_step, answered_before, is_among, line_aligned, older_look, reads_work}
+use Rattle.sl_history.proofs.Resources.Reading.{IsWriter, seen_before}
+use Rattle.sl_history.specs.Resources.Promises.{spot_of_line}
+use Rattle.sl_run.specs.declared.header.ResourceLine.{ResourceLine}
+use Rattle.sl_history.proofs.Resources.Looking.{gives_area}
+use Rattle.sl_history.proofs.Resources.Owning.{layout_at, spot_is}
+use Rattle.sl_history.proofs.Resources.Shows.{Seen}
 use Rattle.sl_history.proofs.Resources.Standing.{Standing}
 use Rattle.sl_history.specs.Resources.Sending.{Sent, step_of}
 use Rattle.sl_run.specs.Runs.{Happening}
-use Rattle.sl_run.specs.Safety.{LawfulRun, world_at}
+use Rattle.sl_run.specs.Safety.{world_at}
 use Rattle.sl_run.specs.Worlds.{Program, World}
 use Rattle.sl_run.specs.declared.header.Header.{Header}
 use Rattle.sl_sector.specs.declared.sector.Block.{Block}
@@ -28,7 +30,7 @@ use Rattle.sl_trace.specs.Traces.{Answered, Setting, Submitted, Trace, bytes_giv
 use Rattle.sl_trace.specs.declared.effects.Spot.{Spot}
 use Rattle.sl_words.specs.Words.{present}
 use Rattle.std.proofs.Common.{ap, subst, sym, ◌∙◌}
-use Rattle.std.specs.Prelude.{Contains, List, None, Option, Some, false, option_and_then, slice_get, true, ℕ, ◌%◌, ◌≡◌, ◌≤◌}
+use Rattle.std.specs.Prelude.{Contains, List, None, Option, Some, false, option_and_then, slice_get, true, ℕ, ◌≡◌, ◌≤◌}
 
 -- ---- what was seen once
 
@@ -43,20 +45,6 @@ gave_stays n was is bytes aged told =
     let a = answer_gave was.answer bytes told in
     ap (λ o. option_and_then (λ (z : Answered). bytes_given z.answer) o) (answer_stays n was is a.0 aged a.1 ∙ sym a.1) ∙ told
 
-gives_area : (g : Layout) (q : Submitted) (bytes : List ℕ) → gave q ≡ Some bytes → is_area_read q ≡ true → blocks_given g q ≡ Some (area_blocks g bytes)
-gives_area g q bytes told is =
-    ap (λ o. elim o as (λ z. Option (List (Option Block))) [
-      | None ↦ None
-      | Some bs ↦ elim (is_area_read q) as (λ z. Option (List (Option Block))) [
-        | true ↦ Some (area_blocks g bs)
-        | false ↦ elim (is_phase_read q) as (λ z. Option (List (Option Block))) [ true ↦ Some (blocks_in g bs) | false ↦ None ]
-      ]
-    ]) told
-    ∙ ap (λ b. elim b as (λ z. Option (List (Option Block))) [
-      | true ↦ Some (area_blocks g bytes)
-      | false ↦ elim (is_phase_read q) as (λ z. Option (List (Option Block))) [ true ↦ Some (blocks_in g bytes) | false ↦ None ]
-    ]) is
-
 -- ---- what a read of the area gave
 
 pub record AreaSeen (w : World) (at : Spot) (g : Layout) (bytes : List ℕ) (l : Leader) (n : ℕ) : Type 0 where
@@ -69,30 +57,29 @@ present_there xs b has =
     let j = placed_at xs o.0 o.1 in
     (j.0, j.1 ∙ ap (λ x. Some x) o.2)
 
-pub area_seen : (p : Program) (h : Header) (xs : List Happening) → LawfulRun p h xs → (at : Spot) → at.base % (world_at p h xs).layout.area ≡ 0 → (x : Sent)
-    → (s : Standing (world_at p h xs) x) → works x.course.call ≡ true → is_area_work x.course.call.purpose ≡ true
-    → spot_of_call s.daemon.setting.layout s.told.one ≡ at → (n : ℕ) (front : Trace) → AllAged n (submitted front) s.told.older → (r : AreaRead s.daemon.setting front s.session at)
-    → AreaSeen (world_at p h xs) at s.daemon.setting.layout r.bytes r.leader (step_of x)
-area_seen p h xs run at zero x s work area spot n front aged r =
+pub area_seen : (p : Program) (h : Header) (xs : List Happening) (r : ResourceLine) (x : Sent) (s : Standing (world_at p h xs) x) → IsWriter p h xs r x s → (n : ℕ) (front : Trace)
+    → AllAged n (submitted front) s.told.older → (a : AreaRead s.daemon.setting front s.session (spot_of_line r))
+    → AreaSeen (world_at p h xs) (spot_of_line r) s.daemon.setting.layout a.bytes a.leader (step_of x)
+area_seen p h xs r x s writer n front aged a =
     let w : World = world_at p h xs in
+    let at : Spot = spot_of_line r in
+    let run = writer.run in
     let st : Setting = s.daemon.setting in
     let g : Layout = st.layout in
-    let now = became n _ _ r.read (aged_lease st s.session at n (submitted front) s.told.older aged) r.of_lease.0 in
+    let now = became n _ _ a.read (aged_lease st s.session at n (submitted front) s.told.older aged) a.of_lease.0 in
     let q : Submitted = now.now in
     let among = is_among st s.session at s.told.older q now.has in
-    let reads : is_area_read q ≡ true = ap (λ c. is_area_read (new_call 0 0 c)) now.aged.call ∙ r.of_lease.1 in
-    let told : gave q ≡ Some r.bytes = gave_stays n r.read q r.bytes now.aged r.gives in
-    let given : blocks_given g q ≡ Some (area_blocks g r.bytes) = gives_area g q r.bytes told reads in
+    let reads : is_area_read q ≡ true = ap (λ c. is_area_read (new_call 0 0 c)) now.aged.call ∙ a.of_lease.1 in
+    let told : gave q ≡ Some a.bytes = gave_stays n a.read q a.bytes now.aged a.gives in
+    let given : blocks_given g q ≡ Some (area_blocks g a.bytes) = gives_area g q a.bytes told reads in
     let k = older_look p h xs run x s at q among in
-    let by = answered_before p h xs run x s work area q (subst (λ a. IsAmong st s.session a s.told.older q) (sym spot) among) (reads_work g q (area_blocks g r.bytes) given) in
-    let place : spot_of_call w.layout q ≡ at = spot_is w.layout at q zero (ap (λ y. is_on y at q.call) (sym (layout_at p h xs run x s)) ∙ among.on) in
-    let l = leader_looked p h xs x.machine s.machine s.daemon q k reads r.bytes told r.leader r.spells in
+    let by = answered_before p h xs run x s writer.work writer.area q (subst (λ y. IsAmong st s.session y s.told.older q) (sym writer.spot) among)
+    (reads_work g q (area_blocks g a.bytes) given) in
+    let place : spot_of_call w.layout q ≡ at =
+    spot_is w.layout at q (line_aligned p h xs run r writer.there) (ap (λ y. is_on y at q.call) (sym (layout_at p h xs run x s)) ∙ among.on) in
+    let l = leader_looked p h xs x.machine s.machine s.daemon q k reads a.bytes told a.leader a.spells in
     record {
-      leader = leader_later w at r.leader l.read.stamp.step (step_of x) (answer_step p h xs run x s q by l.read.answered l.read.its l.read.stamp l.read.entry)
-          (subst (λ a. LeaderSeen w a r.leader l.read.stamp.step) place l.seen);
-      blocks = λ b has.
-          let j = present_there (area_blocks g r.bytes) b has in
-          let y = looked p h xs x.machine s.machine s.daemon q k (area_blocks g r.bytes) given j.0 b j.1 in
-          seen_by w at b y.read.stamp.step (step_of x) (answer_step p h xs run x s q by y.read.answered y.read.its y.read.stamp y.read.entry)
-          (subst (λ a. Seen w a b y.read.stamp.step) place (look_seen p h xs x.machine s.machine s.daemon q k j.0 b y));
+      leader = leader_later w at a.leader l.read.stamp.step (step_of x) (answer_step p h xs run x s q by l.read.answered l.read.its l.read.stamp l.read.entry)
+          (subst (λ y. LeaderSeen w y a.leader l.read.stamp.step) place l.seen);
+      blocks = λ b has. let j = present_there (area_blocks g a.bytes) b has in seen_before p h xs r x s writer q among (area_blocks g a.bytes) given j.0 b j.1;
     }

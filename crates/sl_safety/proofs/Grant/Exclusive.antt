@@ -21,7 +21,7 @@ use Rattle.sl_run_law.proofs.Place.Looks.{answered_below}
 use Rattle.sl_plain.proofs.Numbers.{below_suc, less_than_suc, lt_up_to, never_below, refl_le}
 use Rattle.sl_plain.proofs.Options.{some_of}
 use Rattle.sl_history.proofs.Resources.Above.{own_there}
-use Rattle.sl_history.proofs.Resources.Shown.{holder_is}
+use Rattle.sl_history.proofs.Resources.Calls.{holder_is}
 use Rattle.sl_history.proofs.Resources.Steps.{call_timed}
 use Rattle.sl_history.specs.Resources.Histories.{is_host, no_block}
 use Rattle.sl_history.specs.Resources.Promises.{NamesDiffer, history_of_line, spot_of_line}
@@ -34,17 +34,16 @@ use Rattle.sl_run.specs.declared.header.ResourceLine.{ResourceLine}
 use Rattle.sl_sector.specs.declared.sector.Block.{Block}
 use Rattle.sl_history.specs.Sessions.Promises.{JoinedAreHosts, NamesAreApart}
 use Rattle.sl_trace.specs.Sessions.{me, session_numbered}
-use Rattle.sl_trace.specs.Traces.{Setting, Submitted, Trace, is_shared, new_call, spot_of_grant}
+use Rattle.sl_trace.specs.Traces.{Setting, Submitted, Trace, new_call, spot_of_grant}
 use Rattle.sl_trace.specs.declared.effects.Call.{Call}
 use Rattle.sl_trace.specs.declared.effects.Entry.{Entry}
 use Rattle.sl_trace.specs.declared.effects.Grant.{Grant}
-use Rattle.sl_trace.specs.declared.effects.Mode.{Mode}
-use Rattle.sl_trace.specs.declared.effects.Mode.TheVariants.{Exclusive, Shared}
+use Rattle.sl_trace.specs.declared.effects.Mode.TheVariants.{Exclusive}
 use Rattle.sl_trace.specs.declared.effects.Spot.{Spot}
-use Rattle.sl_words.proofs.CaseLaws.{false_is_true, true_is_false}
+use Rattle.sl_words.proofs.CaseLaws.{true_is_false}
 use Rattle.std.proofs.Common.{ap, arith, refl, subst, sym, ◌∙◌}
 use Rattle.std.proofs.lemmas.Bool.Decides.{nat_tests}
-use Rattle.std.specs.Prelude.{Bool, IsSome, List, None, Option, Some, false, length, nat_le, suc, true, ℕ, ◌&&◌, ◌-◌, ◌<◌, ◌∷◌, ◌≡◌, ◌≤◌}
+use Rattle.std.specs.Prelude.{Bool, List, Option, Some, false, length, nat_le, true, ℕ, ◌&&◌, ◌-◌, ◌<◌, ◌∷◌, ◌≡◌, ◌≤◌}
 
 -- What is told of ids and ballots.
 pub record IsToldOf : Type 0 where
@@ -94,20 +93,20 @@ named_as k n = record { id = k; generation = n }
 
 saw_host : (p : Program) (h : Header) (xs : List Happening) (r : ResourceLine) → NamesDiffer (world_at p h xs) r.lockspace → (i : SessionId) (f : Found)
     → (entry : Entry) (past : Trace) (step : ℕ) → IsEntryAt f entry past step → IsAt p h xs r i f (entry ∷ past) → (c : Submitted) (bs : List (Option Block))
-    → blocks_given (setting_in f).layout c ≡ Some bs → (l : LookThere p h xs r i f c bs) → c.call.session ≡ f.session.number
+    → blocks_given (setting_in f).layout c ≡ Some bs → (l : LookThere p h xs r i f c bs)
     → NoneShared (setting_in f) (entry ∷ past) f.session bs
     → (k : ℕ) → (k ≡ f.session.id → ⊥) → (b : Bool) → is_host (world_at p h xs) k ≡ b → SawAll p h xs r i (step_of l.sent.sent) step k
-saw_host p h xs r differ i f entry past step e at c bs given l mine none k other false host =
+saw_host p h xs r differ i f entry past step e at c bs given l none k other false host =
     let n = look_shows_nothing p h xs r i f (entry ∷ past) at c bs l k host in
     record { whole = n.0; alone = λ shared. absurd (no_mark (history_of_line p h xs r) ((history_of_line p h xs r).shown (step_of l.sent.sent) k) n.1 shared) }
-saw_host p h xs r differ i f entry past step e at c bs given l mine none k other true host =
+saw_host p h xs r differ i f entry past step e at c bs given l none k other true host =
     let w : World = world_at p h xs in
     let H : History = history_of_line p h xs r in
     let st : Setting = setting_in f in
     let all = whole_of p h xs at.front_is.run i f at.front_is.its in
     let range = is_within k w.layout.hosts host in
     let b = some_of (block_of_host bs k) (none.whole k range.0 (subst (λ (g : Layout). k ≤ g.hosts) (sym all.layout) range.1) other) in
-    let s = look_shows_host p h xs r i f (entry ∷ past) at c bs given l mine k host b.0 b.1 in
+    let s = look_shows_host p h xs r i f (entry ∷ past) at c bs given l k host b.0 b.1 in
     record {
       whole = s.shows;
       alone = λ shared.
@@ -160,7 +159,7 @@ granted_at p h xs given run i f its entry past step e g a unfreed law =
     let holder : holder_of w i ≡ holder_of_found f = holder_is w i f its in
     let own : (n : ℕ) → (n ≡ (holder_of w i).id → ⊥) → n ≡ f.session.id → ⊥ = λ n other same. other (same ∙ sym (ap (λ (o : Holder). o.id) holder)) in
     let saw : (n : ℕ) → (n ≡ (holder_of w i).id → ⊥) → SawAll p h xs r i (step_of look.sent.sent) step n =
-    λ n other. saw_host p h xs r differ i f entry past step e k law.read law.blocks law.given look read.mine law.none_shared n (own n other) (is_host w n) refl in
+    λ n other. saw_host p h xs r differ i f entry past step e k law.read law.blocks law.given look law.none_shared n (own n other) (is_host w n) refl in
     record {
       place = a;
       grant = record { step = step; holder = holder_of w i; instance = g.lver; look = step_of look.sent.sent };

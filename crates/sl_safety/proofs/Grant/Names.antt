@@ -9,7 +9,7 @@ use Rattle.sl_run.specs.LawfulArea.{is_area_work}
 use Rattle.sl_run_law.proofs.Place.Reading.{call_law, owner_of}
 use Rattle.sl_history.proofs.Resources.Calls.{IsOwned, found_of, made_of, owner_found, stood}
 use Rattle.sl_history.proofs.Resources.Owning.{lease_is_work}
-use Rattle.sl_history.proofs.Resources.Shown.{holder_is}
+use Rattle.sl_history.proofs.Resources.Calls.{holder_is}
 use Rattle.sl_history.specs.Resources.Sending.{Sent, holder_of, sender_of}
 use Rattle.sl_run.specs.Runs.{Happening}
 use Rattle.sl_run.specs.Safety.{Found, IsSession, LawfulRun, SessionId, found_generation, setting_in, trace_of, world_at}

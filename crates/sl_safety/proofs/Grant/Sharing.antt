@@ -28,7 +28,7 @@ use Rattle.sl_trace.specs.Leases.{has_shared_on, is_free_write}
 use Rattle.sl_run_law.proofs.Place.Looks.{answered_below}
 use Rattle.sl_plain.proofs.Numbers.{below_suc, equal_is_most, less_is_most, trans_le}
 use Rattle.sl_plain.proofs.Options.{some_of}
-use Rattle.sl_history.proofs.Resources.Shown.{holder_is}
+use Rattle.sl_history.proofs.Resources.Calls.{holder_is}
 use Rattle.sl_history.specs.Resources.Promises.{history_of_line, spot_of_line}
 use Rattle.sl_history.specs.Resources.Sending.{Sent, holder_of, sent_at, step_of, writes_block}
 use Rattle.sl_run.specs.Runs.{Happening}

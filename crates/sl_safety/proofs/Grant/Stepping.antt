@@ -3,11 +3,10 @@ use Rattle.sl_area.specs.Layouts.{Layout}
 use Rattle.sl_run_law.specs.Course.Stamping.{stamp_in}
 use Rattle.sl_safety.proofs.Grant.Telling.{IsFront, IsTold, OfLease, told, told_answer, told_block, told_on, told_reads, told_same, told_wrote}
 use Rattle.sl_trace.specs.Leases.{block_written, blocks_given, is_block_read, is_on}
-use Rattle.sl_run_law.proofs.Place.Reading.{answer_gave}
 use Rattle.sl_history.proofs.Resources.Calls.{block_at_step, read_at_step}
 use Rattle.sl_history.proofs.Resources.Founding.{writer_is, writes_at}
-use Rattle.sl_history.proofs.Resources.Looking.{By_area, By_phase, Gave, given_blocks}
-use Rattle.sl_history.proofs.Resources.Rising.{block_of_step}
+use Rattle.sl_history.proofs.Resources.Looking.{given_told}
+use Rattle.sl_history.proofs.Resources.Above.{block_of_step}
 use Rattle.sl_history.specs.Resources.Histories.{history_block}
 use Rattle.sl_history.specs.Resources.Promises.{history_of_line, spot_of_line}
 use Rattle.sl_history.specs.Resources.Sending.{Sent, holder_of, is_counted_read, is_joined_there, read_at, sender_of, sent_at, step_of, writes_block}
@@ -96,30 +95,20 @@ pub record LookThere (p : Program) (h : Header) (xs : List Happening) (r : Resou
   pub answer : (history_of_line p h xs r).answer (step_of sent.sent) ≡ stamp.step
   pub on : is_on (world_at p h xs).layout (spot_of_line r) sent.sent.course.call ≡ true
 
--- Blocks are given by an answer.
-record GivenBy (c : Submitted) : Type 0 where
-  answered : Answered
-  is : c.answer ≡ Some answered
-  ok : is_ok_answer answered.answer ≡ true
-
-given_in : (g : Layout) (c : Submitted) (bs : List (Option Block)) → Gave g c bs → GivenBy c
-given_in g c bs (By_area bytes gives area same) = let a = answer_gave c.answer bytes gives in record { answered = a.0; is = a.1; ok = ap is_ok_answer a.2 }
-given_in g c bs (By_phase bytes gives none phase same) = let a = answer_gave c.answer bytes gives in record { answered = a.0; is = a.1; ok = ap is_ok_answer a.2 }
-
 pub look_there : (p : Program) (h : Header) (xs : List Happening) (r : ResourceLine) (i : SessionId) (f : Found) (front : Trace) → IsAt p h xs r i f front → (c : Submitted)
     → OfLease (setting_in f) front f.session (spot_of_line r) c → is_block_read c ≡ true → (bs : List (Option Block)) → blocks_given (setting_in f).layout c ≡ Some bs
     → LookThere p h xs r i f c bs
 look_there p h xs r i f front k c o reads bs given =
     let w : World = world_at p h xs in
     let run = k.front_is.run in
-    let a = given_in (setting_in f).layout c bs (given_blocks (setting_in f).layout c bs given) in
+    let a = given_told (setting_in f).layout c bs given in
     let same = told_same p h xs i f front k.front_is c o.inside o.mine a.answered a.is in
     let t = same.0 in
     let on = told_on p h xs i f front k.front_is c t (spot_of_line r) o.on in
     let heard = told_answer p h xs i f c t a.answered a.is in
     let joined : is_joined_there w r.lockspace (sender_of t.sent) ≡ true = ap (is_joined_there w r.lockspace) t.sender ∙ k.joined in
     let counted : is_counted_read w r.lockspace t.sent ≡ true =
-    and_from _ _ (and_from _ _ (told_reads p h xs i f c t reads) (heard.done ∙ a.ok)) joined in
+    and_from _ _ (and_from _ _ (told_reads p h xs i f c t reads) (heard.done ∙ ap is_ok_answer a.read)) joined in
     let found = read_at_step p h xs run r k.there t.sent t.has on counted in
     record {
       sent = t;

@@ -11,7 +11,7 @@ use Rattle.sl_run_law.proofs.Place.Finding.{numbered_inside, place_is}
 use Rattle.sl_plain.proofs.Lists.{contains_cases, contains_first, contains_more, contains_none, kept, kept_inside}
 use Rattle.sl_history.proofs.Resources.Alone.{head_pairs, tail_pairs}
 use Rattle.sl_history.proofs.Resources.Calls.{there_sent, write_is}
-use Rattle.sl_history.proofs.Resources.Landed.{Name, name_of, one_sent}
+use Rattle.sl_history.proofs.Resources.Calls.{Name, name_of, one_sent}
 use Rattle.sl_history.specs.Resources.Sending.{Sent, all_sent, step_of}
 use Rattle.sl_run.specs.Runs.{Happening}
 use Rattle.sl_run.specs.Safety.{LawfulRun, world_at}

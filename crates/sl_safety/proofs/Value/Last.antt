@@ -12,8 +12,8 @@ use Rattle.sl_run_law.proofs.Place.Proven.{promised}
 use Rattle.sl_run_law.proofs.Place.Reading.{reads_back}
 use Rattle.sl_run_law.proofs.Place.Seats.{sized_in}
 use Rattle.sl_run_law.proofs.Place.Sizes.{sector_fits}
-use Rattle.sl_history.proofs.Resources.Landed.{Name, name_of, one_sent}
-use Rattle.sl_history.proofs.Resources.Shown.{in_history}
+use Rattle.sl_history.proofs.Resources.Calls.{Name, name_of, one_sent}
+use Rattle.sl_history.proofs.Giving.Shown.{in_history}
 use Rattle.sl_history.specs.Resources.Sending.{Sent, step_of}
 use Rattle.sl_run.specs.Runs.{Happening}
 use Rattle.sl_run.specs.Safety.{Found, LawfulRun, SessionId, world_at}

@@ -9,7 +9,7 @@ use Rattle.sl_run_law.proofs.Landing.Remaining.{landed_are_there}
 use Rattle.sl_plain.proofs.Lists.{contains_cases, contains_none, find_inside}
 use Rattle.sl_history.proofs.Resources.Alone.{head_pairs, tail_pairs}
 use Rattle.sl_history.proofs.Resources.Calls.{IsThere, sent_there, write_is}
-use Rattle.sl_history.proofs.Resources.Landed.{Name, name_of}
+use Rattle.sl_history.proofs.Resources.Calls.{Name, name_of}
 use Rattle.sl_history.specs.Resources.Sending.{Sent, step_of}
 use Rattle.sl_run.specs.Runs.{Happening}
 use Rattle.sl_run.specs.Safety.{LawfulRun, world_at}

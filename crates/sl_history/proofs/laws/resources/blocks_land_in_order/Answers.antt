@@ -1,4 +1,4 @@
-use Rattle.sl_history.proofs.Resources.Landed.{in_order}
+use Rattle.sl_history.proofs.Giving.Landed.{in_order}
 use Rattle.sl_history.proofs.laws.resources.blocks_land_in_order.Goals as goal
 
 pub returns : goal.returns

@@ -1,4 +1,4 @@
-use Rattle.sl_history.proofs.Resources.Above.{number_above}
+use Rattle.sl_history.proofs.Resources.Positive.{number_above}
 use Rattle.sl_history.proofs.laws.resources.histories_number_above.Goals as goal
 
 pub returns : goal.returns

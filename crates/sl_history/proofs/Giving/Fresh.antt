@@ -9,7 +9,7 @@ use Rattle.sl_run_law.proofs.Place.Seats.{sized_in}
 use Rattle.sl_run_law.proofs.Place.Sizes.{IsSized, number_of_slot, sector_fits, sector_has_bytes}
 use Rattle.sl_plain.proofs.Lists.{find_inside}
 use Rattle.sl_history.proofs.Resources.Calls.{text_same}
-use Rattle.sl_history.proofs.Resources.Shown.{place_within}
+use Rattle.sl_history.proofs.Giving.Shown.{place_within}
 use Rattle.sl_history.specs.Resources.Histories.{is_host}
 use Rattle.sl_run.specs.Headers.{IsHeader}
 use Rattle.sl_run.specs.Runs.{Happening}

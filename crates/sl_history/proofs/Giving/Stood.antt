@@ -19,14 +19,16 @@ use Rattle.sl_run_law.proofs.Place.Seats.{sized_in}
 use Rattle.sl_run_law.proofs.Place.Sizes.{sector_fits}
 use Rattle.sl_plain.proofs.Lists.{contains_cases, contains_first, kept}
 use Rattle.sl_history.proofs.Resources.Calls.{there_sent}
-use Rattle.sl_history.proofs.Resources.Landed.{Name, in_order, name_of, one_sent}
-use Rattle.sl_history.proofs.Resources.Newest.{Descends, HasCome, has_come, history_descends}
-use Rattle.sl_history.proofs.Resources.Showing.{block_in_is}
-use Rattle.sl_history.proofs.Resources.Shown.{IsBlockLanding, block_landing, in_history, writes_is}
+use Rattle.sl_history.proofs.Giving.Landed.{in_order}
+use Rattle.sl_history.proofs.Resources.Calls.{Name, name_of, one_sent, writes_is}
+use Rattle.sl_history.proofs.Giving.Newest.{Descends, HasCome, has_come, history_descends}
+use Rattle.sl_history.proofs.Giving.First.{block_in_is}
+use Rattle.sl_history.proofs.Giving.Shown.{IsBlockLanding, block_landing, in_history}
 use Rattle.sl_history.specs.Resources.Histories.{is_host}
-use Rattle.sl_history.specs.Resources.Orders.{BlockSent, Follows, LandedAt}
+use Rattle.sl_history.specs.Resources.Orders.{BlockSent, LandedAt}
 use Rattle.sl_history.specs.Resources.Promises.{spot_of_line}
-use Rattle.sl_history.specs.Resources.Sending.{Sent, block_of_course, sender_of, step_of}
+use Rattle.sl_history.specs.Resources.Reads.{BlocksFollow, SentSince, StandsSince}
+use Rattle.sl_history.specs.Resources.Sending.{Sent, block_of_course, step_of}
 use Rattle.sl_run.specs.Runs.{Happening}
 use Rattle.sl_run.specs.Safety.{LawfulRun, block_there, world_at}
 use Rattle.sl_run.specs.Worlds.{Landing, Program, Stamp, World, content, first_landing, history_of, landed_at, world_with}
@@ -40,10 +42,6 @@ use Rattle.sl_trace.specs.Traces.{same_place}
 use Rattle.sl_words.proofs.CaseLaws.{some_value}
 use Rattle.std.proofs.Common.{ap, arith, inl, inr, subst, sym, ◌∙◌}
 use Rattle.std.specs.Prelude.{Contains, List, Ok, Some, [], option_and_then, true, ℕ, ◌++◌, ◌<◌, ◌∷◌, ◌≡◌, ◌≤◌, ◌⊎◌}
-
--- Blocks of one host were sent by sessions that follow one another.
-abbrev pub BlocksFollow : World → ResourceLine → ℕ → Type 0
-BlocksFollow w r k = (x y : Sent) → BlockSent w r k x → BlockSent w r k y → Follows w r k (sender_of x) (sender_of y)
 
 -- ---- fronts
 
@@ -134,13 +132,6 @@ sent_as p h xs run r there k host l landed path offset b spells =
 
 -- ---- a host's block
 
--- The block that a host's place spells at a front was sent by then, and not before this one.
-pub record SentSince (w : World) (r : ResourceLine) (k : ℕ) (b : Block) (x : Sent) : Type 0 where
-  pub sent : Sent
-  pub block : BlockSent w r k sent
-  pub says : block_of_course sent.course ≡ Some b
-  pub since : step_of x ≤ step_of sent
-
 pub block_stands : (p : Program) (h : Header) (now rest : List Happening) → LawfulRun p h (now ++ rest) → (r : ResourceLine) → Contains h.resources r → (k : ℕ)
     → is_host (world_at p h (now ++ rest)) k ≡ true → BlocksFollow (world_at p h (now ++ rest)) r k → (x : Sent) → BlockSent (world_at p h (now ++ rest)) r k x
     → x.course.done ≡ true → (s : Stamp) → x.course.answered ≡ Some s → s.step ≤ (world_at p h now).step → (b : Block)
@@ -179,3 +170,10 @@ block_stands p h now rest run r there k host follow x block done s told early b 
             omega (arith, order)
       ];
     }
+
+pub stands_since : (p : Program) (h : Header) (xs : List Happening) → LawfulRun p h xs → (r : ResourceLine) → Contains h.resources r → (now rest : List Happening) → xs ≡ now ++ rest
+    → StandsSince p h xs r now
+stands_since p h xs run r there now rest whole =
+    subst (λ ys. StandsSince p h ys r now) (sym whole)
+    (λ k host follow x block done s told early b spells.
+    block_stands p h now rest (subst (λ ys. LawfulRun p h ys) whole run) r there k host follow x block done s told early b spells)

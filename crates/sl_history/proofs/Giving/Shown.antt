@@ -6,7 +6,7 @@ use Rattle.sl_run_law.proofs.Front.Having.{contains_append}
 use Rattle.sl_run_law.proofs.Landing.Listing.{one_call}
 use Rattle.sl_run_law.specs.Landing.Landings.{LeftBy}
 use Rattle.sl_run.specs.LawfulArea.{IsAreaRead, IsBlockRead, IsRightRead, record_offset}
-use Rattle.sl_trace.specs.Leases.{block_of_record, is_area_read, is_block_read, is_on, spot_of_call}
+use Rattle.sl_trace.specs.Leases.{is_area_read, is_block_read, is_on, spot_of_call}
 use Rattle.sl_run_law.proofs.Place.Areas.{is_within}
 use Rattle.sl_run_law.proofs.Place.Checks.{behind, placed_in_world, same_block}
 use Rattle.sl_run_law.proofs.Place.Finding.{numbered_inside, place_is, same_text}
@@ -17,12 +17,12 @@ use Rattle.sl_run_law.proofs.Place.Sizes.{IsSized, sector_has_bytes, slot_below}
 use Rattle.sl_run_law.specs.Place.Homes.{IsLeaseLanding}
 use Rattle.sl_plain.proofs.Lists.{contains_cases, contains_none, kept_inside}
 use Rattle.sl_plain.proofs.Numbers.{at_least_first, back_again}
-use Rattle.sl_history.proofs.Resources.Calls.{IsOwned, finds_it, made_of, name_is, named, owner_layout, spot_is, text_same, there_sent}
+use Rattle.sl_history.proofs.Resources.Calls.{IsOwned, holder_is, host_range, finds_it, made_of, name_is, named, owner_layout, spot_is, text_same, there_sent}
 use Rattle.sl_history.specs.Resources.Histories.{is_host, landing_shown, sector_number, step_of_landing}
 use Rattle.sl_history.specs.Resources.Promises.{spot_of_line}
-use Rattle.sl_history.specs.Resources.Sending.{Sent, all_sent, holder_of, holder_of_found, nobody, reads_blocks, sender_of, step_of, writes_block}
+use Rattle.sl_history.specs.Resources.Sending.{Sent, all_sent, holder_of, reads_blocks, sender_of, step_of}
 use Rattle.sl_run.specs.Runs.{Happening}
-use Rattle.sl_run.specs.Safety.{Found, LawfulRun, SessionId, session_of_world, setting_in, world_at}
+use Rattle.sl_run.specs.Safety.{LawfulRun, SessionId, session_of_world, setting_in, world_at}
 use Rattle.sl_run.specs.Worlds.{Course, Landing, Machine, Program, Sampling, Stamp, World, first_landing, history_of, landed_at, machine_at}
 use Rattle.sl_run.specs.declared.header.Header.{Header}
 use Rattle.sl_run.specs.declared.header.ResourceLine.{ResourceLine}
@@ -46,15 +46,11 @@ use Rattle.sl_words.proofs.CaseLaws.{false_is_true, none_some, one_value, some_v
 use Rattle.sl_words.proofs.WordLaws.{and_true}
 use Rattle.std.proofs.Common.{ap, arith, inl, inr, refl, subst, sym, ◌∙◌}
 use Rattle.std.proofs.Math.Nat.{mul-le-mul_left}
-use Rattle.std.proofs.lemmas.Bool.{and_from, eq-eqb, eqb-true, leb-true}
+use Rattle.std.proofs.lemmas.Bool.{and_from, eq-eqb, eqb-true}
 use Rattle.std.specs.Option.{option_map_or}
-use Rattle.std.specs.Prelude.{Bool, Contains, IsTrue, List, None, Option, Some, [], bytes_eq, false, find, if◌then◌else◌, is_some, nat_le, option_and_then, slice_get, true, ℕ, ◌*◌, ◌+◌, ◌-◌, ◌<◌, ◌==◌, ◌∷◌, ◌≡◌, ◌≤◌, ◌⊎◌}
+use Rattle.std.specs.Prelude.{Bool, Contains, IsTrue, List, None, Option, Some, [], bytes_eq, false, find, if◌then◌else◌, option_and_then, slice_get, true, ℕ, ◌*◌, ◌+◌, ◌-◌, ◌<◌, ◌==◌, ◌∷◌, ◌≡◌, ◌≤◌, ◌⊎◌}
 
 -- ---- a host's place
-
--- A host's number is in its range.
-pub host_range : (w : World) (k : ℕ) → is_host w k ≡ true → (1 ≤ k) × (k ≤ w.layout.hosts)
-host_range w k h = let both = and_true (nat_le 1 k) (nat_le k w.layout.hosts) h in (leb-true 1 k both.0, leb-true k w.layout.hosts both.1)
 
 one_above : (k hosts : ℕ) → k ≤ hosts → k + 1 ≤ hosts + 2
 one_above k hosts high = omega (arith, high)
@@ -122,14 +118,6 @@ pub record IsBlockLanding (w : World) (r : ResourceLine) (k : ℕ) (l : Landing)
   pub host : (holder_of w (sender_of sent)).id ≡ k
   pub after : step_of sent < l.step
   pub before : (s : Stamp) → sent.course.answered ≡ Some s → l.step < s.step
-
--- A call that writes a block record writes a block.
-pub writes_is : (c : Course) (b : Block) → record_of c.call.op ≡ Some (BlockIs b) → writes_block c ≡ true
-writes_is c b h = ap (λ o. is_some (option_and_then block_of_record o)) h
-
--- The holder of a session that is found.
-pub holder_is : (w : World) (i : SessionId) (f : Found) → session_of_world w i ≡ Some f → holder_of w i ≡ holder_of_found f
-holder_is w i f h = ap (λ o. option_map_or holder_of_found o nobody) h
 
 abbrev found_step : Option Course → ℕ
 found_step o = option_map_or (λ c. c.made.step) o 0

@@ -14,8 +14,9 @@ use Rattle.sl_plain.proofs.Lists.{contains_cases, contains_first, contains_more,
 use Rattle.sl_plain.proofs.Numbers.{equal_is_most, less_is_most}
 use Rattle.sl_history.proofs.Resources.Alone.{head_pairs, tail_pairs}
 use Rattle.sl_history.proofs.Resources.Calls.{block_sent, found_of, made_of, owned, owner_found, owner_layout, spot_is, there_sent, write_is}
-use Rattle.sl_history.proofs.Resources.Landed.{Name, in_order, landed_block, name_of, one_sent}
-use Rattle.sl_history.proofs.Resources.Shown.{IsShownOf, holder_is, in_history, sector_is, shown_of, stands_there, writes_is}
+use Rattle.sl_history.proofs.Giving.Landed.{in_order, landed_block}
+use Rattle.sl_history.proofs.Resources.Calls.{Name, holder_is, name_of, one_sent, writes_is}
+use Rattle.sl_history.proofs.Giving.Shown.{IsShownOf, in_history, sector_is, shown_of, stands_there}
 use Rattle.sl_history.specs.Resources.Histories.{is_host, sector_number, step_of_landing}
 use Rattle.sl_history.specs.Resources.Orders.{BlockSent, Follows, LandedAt, ReadsShowNewest}
 use Rattle.sl_history.specs.Resources.Promises.{spot_of_line}

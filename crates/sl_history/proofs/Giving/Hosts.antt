@@ -9,14 +9,17 @@ use Rattle.sl_run_law.proofs.Place.Seats.{sized_in}
 use Rattle.sl_plain.proofs.Lists.{contains_cases, contains_first, contains_more, contains_none}
 use Rattle.sl_plain.proofs.Numbers.{back_again}
 use Rattle.sl_history.proofs.Resources.Above.{is_among, own_there}
-use Rattle.sl_history.proofs.Resources.Looking.{IsLook, looked}
+use Rattle.sl_history.proofs.Giving.Looked.{looked}
+use Rattle.sl_history.proofs.Resources.Looking.{IsLook}
 use Rattle.sl_history.proofs.Resources.Owning.{block_told, layout_at}
-use Rattle.sl_history.proofs.Resources.Showing.{block_in_is}
+use Rattle.sl_history.proofs.Giving.First.{block_in_is}
 use Rattle.sl_history.proofs.Resources.Standing.{Standing}
+use Rattle.sl_history.proofs.Resources.Calls.{in_world}
+use Rattle.sl_history.proofs.Resources.Calls.{holder_is}
 use Rattle.sl_history.specs.Resources.Histories.{is_host}
-use Rattle.sl_history.specs.Resources.Sending.{Sent, block_of_course}
+use Rattle.sl_history.specs.Resources.Sending.{Sent, block_of_course, holder_of, sender_of}
 use Rattle.sl_run.specs.Runs.{Happening}
-use Rattle.sl_run.specs.Safety.{LawfulRun, world_at}
+use Rattle.sl_run.specs.Safety.{Found, LawfulRun, world_at}
 use Rattle.sl_run.specs.Worlds.{Daemon, Machine, Program, World}
 use Rattle.sl_run.specs.declared.header.Header.{Header}
 use Rattle.sl_sector.specs.declared.sector.Block.{Block}
@@ -85,6 +88,15 @@ hosts_named st es law some s known reads newer (x ∷ ms) is c has mine b wrote 
     ]
 
 -- ---- in the world
+
+-- The holder of a call's session has the session's id.
+pub own_host : (w : World) (x : Sent) (s : Standing w x) → (holder_of w (sender_of x)).id ≡ s.session.id
+own_host w x s =
+    let f : Found = record { machine = s.machine; daemon = s.daemon; session = s.session } in
+    ap (λ o. o.id)
+    (holder_is w (sender_of x) f
+    (in_world w (sender_of x) s.machine s.daemon s.session s.at s.numbered
+    (ap (λ c. session_numbered s.daemon.setting s.daemon.trace c.session) (sym s.told.pair.call) ∙ s.known)))
 
 found_host : (p : Program) (h : Header) (xs : List Happening) (m : ℕ) (a : Machine) (d : Daemon) (q : Submitted) → IsLook p h xs m a d q → (bs : List (Option Block))
     → blocks_given d.setting.layout q ≡ Some bs → (id : ℕ) → 1 ≤ id → (own : Block) → block_of_host bs id ≡ Some own → own.host ≡ id

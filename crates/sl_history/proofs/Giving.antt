@@ -1,0 +1,12 @@
+pub mod Shown
+pub mod Landed
+pub mod Newest
+pub mod First
+pub mod Looked
+pub mod Told
+pub mod Fresh
+pub mod Hosts
+pub mod Whole
+pub mod Given
+pub mod Stood
+pub mod Proven
