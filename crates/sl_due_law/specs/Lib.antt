@@ -1,12 +1,3 @@
-pub mod Parts
-pub mod Facts
-pub mod Jobs
-pub mod Sessions
-pub mod Ways
-pub mod Leases
-pub mod Holdings
-pub mod Grants
 pub mod Recovery
-pub mod Connections
 pub mod Causes
 pub mod Whole

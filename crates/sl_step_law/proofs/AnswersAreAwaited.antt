@@ -1,6 +1,6 @@
 -- The member waits for the call that is answered, and so does its lease.
 use Rattle.sl_due.specs.Steps.{Step, seen}
-use Rattle.sl_due_law.proofs.Holdings.LeasePlaces.{area_is}
+use Rattle.sl_due_leases.proofs.Holdings.LeasePlaces.{area_is}
 use Rattle.sl_host_law.proofs.Answers.AnswersSetFree.{answers_set_free, of_trace}
 use Rattle.sl_host_law.proofs.Calls.Calls.SpotsMore.{AreOnce, found_once, on_its_area, on_own, one_spot, spot_itself, spot_there, spots_once}
 use Rattle.sl_host_law.proofs.Plain.PlainLists.{all_from, any_mapped, at_some, each_of}

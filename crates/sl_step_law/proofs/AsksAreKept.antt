@@ -12,9 +12,9 @@ use Rattle.sl_due.specs.DueRequests.{after_value_read, bits_due, value_reply}
 use Rattle.sl_due.specs.Steps.{Step, add_call_of, add_end, add_move, add_signal, seen, with_input}
 use Rattle.sl_due.specs.declared.decision.Decision.{Decision}
 use Rattle.sl_due.specs.declared.decision.Decision.TheVariants.{ConvertsTo, GetsValue, GivesUp, Joins, Leaves, ReadsArea, Replies, Requests, SetsValue, Shares, TakesOver}
-use Rattle.sl_due_law.proofs.Jobs.EffectsAreAllowed.{Allows, DecisionAllowed, DeltaAllowed, GrantAllowed, LeaseAllowed, ReadAllowed, RequestAllowed, decision, delta, ended, exited, lease, left, refusal, removal_of_refused, requested, said, sent, stopped}
-use Rattle.sl_due_law.proofs.Jobs.NearlyPlainActs.{AnyMove, AnyStart, Anything}
-use Rattle.sl_due_law.proofs.Jobs.RepliesComeAfter.{on_bool, on_option}
+use Rattle.sl_due_facts.proofs.Jobs.EffectsAreAllowed.{Allows, DecisionAllowed, DeltaAllowed, GrantAllowed, LeaseAllowed, ReadAllowed, RequestAllowed, decision, delta, ended, exited, lease, left, refusal, removal_of_refused, requested, said, sent, stopped}
+use Rattle.sl_due_facts.proofs.Jobs.NearlyPlainActs.{AnyMove, AnyStart, Anything}
+use Rattle.sl_due_facts.proofs.Jobs.RepliesComeAfter.{on_bool, on_option}
 use Rattle.sl_trace.specs.Jobs.{job_of_start}
 use Rattle.sl_trace.specs.LeaseWork.{convert_next, lease_place, release_next, settle_next}
 use Rattle.sl_trace.specs.Leases.{known, spot_of, spot_of_call}

@@ -1,10 +1,10 @@
 -- What a lease writes is in an instance above 0, and who has written a block has verified the resource's name.
-use Rattle.sl_due_law.proofs.Leases.NamesVerified.{has_verified}
-use Rattle.sl_due_law.proofs.Sessions.JoinedNumbers.{spelled_of}
+use Rattle.sl_due_leases.proofs.Leases.NamesVerified.{has_verified}
+use Rattle.sl_due_facts.proofs.Sessions.JoinedNumbers.{spelled_of}
 use Rattle.sl_due_law.proofs.Whole.LeaderWrites.{named_well}
-use Rattle.sl_due_law.proofs.Ways.NewestCall.{block_is, leader_is_no_block, read_writes_no_block, submitted_here, submitted_passed}
-use Rattle.sl_due_law.proofs.Ways.WayNumbers.{Doing, Frees, Reads, Takes, Writes_ballot, Writes_mode, doing, is_verified}
-use Rattle.sl_due_law.specs.Facts.WayFacts.{WayContext, Ways, way_context}
+use Rattle.sl_due_leases.proofs.Ways.NewestCall.{block_is, leader_is_no_block, read_writes_no_block, submitted_here, submitted_passed}
+use Rattle.sl_due_leases.proofs.Ways.WayNumbers.{Doing, Frees, Reads, Takes, Writes_ballot, Writes_mode, doing, is_verified}
+use Rattle.sl_due_facts.specs.Facts.WayFacts.{WayContext, Ways, way_context}
 use Rattle.sl_run.specs.Lawful.{Orderly}
 use Rattle.sl_lease.specs.Bounds.{IsInstance}
 use Rattle.sl_trace.specs.Leases.{block_of_record, block_submitted, block_written, is_lease_call, is_on, lease_calls, verified_name}

@@ -1,9 +1,9 @@
 -- Each write of a lease is of an instance above 0, and each of its calls but the first read has a block behind it: by the way that led to it.
-use Rattle.sl_due_law.proofs.Sessions.JoinedNumbers.{spelled_of}
-use Rattle.sl_due_law.proofs.Ways.NewestCall.{block_is, block_is_no_leader, ended_here, lver_is}
-use Rattle.sl_due_law.proofs.Ways.WayNumbers.{EndsBy, ends_by}
-use Rattle.sl_due_law.proofs.Ways.WayStages.{prior_inside, step_way, way_behind}
-use Rattle.sl_due_law.specs.Facts.WayFacts.{CallWay, Comes, Phase1Way, Phase2Way, StepWay, TakeWay, WayContext, Ways, way_context}
+use Rattle.sl_due_facts.proofs.Sessions.JoinedNumbers.{spelled_of}
+use Rattle.sl_due_leases.proofs.Ways.NewestCall.{block_is, block_is_no_leader, ended_here, lver_is}
+use Rattle.sl_due_leases.proofs.Ways.WayNumbers.{EndsBy, ends_by}
+use Rattle.sl_due_leases.proofs.Ways.WayStages.{prior_inside, step_way, way_behind}
+use Rattle.sl_due_facts.specs.Facts.WayFacts.{CallWay, Comes, Phase1Way, Phase2Way, StepWay, TakeWay, WayContext, Ways, way_context}
 use Rattle.sl_host_state.specs.Stands.{sectors_of}
 use Rattle.sl_run.specs.Lawful.{Orderly}
 use Rattle.sl_lease.specs.Bounds.{IsInstance}

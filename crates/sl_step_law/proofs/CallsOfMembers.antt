@@ -1,7 +1,7 @@
 -- Of a host that has come to its input: each open call is one of the trace, and its session's; who isn't joined has calls of a joining alone.
 use Rattle.sl_due.specs.Steps.{Step, seen}
-use Rattle.sl_due_law.specs.Facts.JobFacts.{FitsCommand}
-use Rattle.sl_due_law.proofs.Holdings.LeaseCallers.{in_turn_fits}
+use Rattle.sl_due_facts.specs.Facts.JobFacts.{FitsCommand}
+use Rattle.sl_due_leases.proofs.Holdings.LeaseCallers.{in_turn_fits}
 use Rattle.sl_host_law.proofs.Answers.AnswersSetFree.{of_trace}
 use Rattle.sl_host_law.proofs.Plain.MembersAreSessions.{member_inside, members_are_sessions}
 use Rattle.sl_host_law.proofs.Plain.PlainLists.{at_some, found_some}

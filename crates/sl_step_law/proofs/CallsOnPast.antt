@@ -3,8 +3,8 @@ use Rattle.sl_acts.proofs.Additions.{contains_last}
 use Rattle.sl_acts.specs.SoFar.{entry_of}
 use Rattle.sl_area.specs.Places.{is_base}
 use Rattle.sl_due.specs.Steps.{Step, add_call_of, seen}
-use Rattle.sl_due_law.proofs.Jobs.EffectsAreAllowed.{Allows, DeltaAllowed}
-use Rattle.sl_due_law.proofs.Jobs.NearlyPlainActs.{AnyMove, AnyStart, Anything}
+use Rattle.sl_due_facts.proofs.Jobs.EffectsAreAllowed.{Allows, DeltaAllowed}
+use Rattle.sl_due_facts.proofs.Jobs.NearlyPlainActs.{AnyMove, AnyStart, Anything}
 use Rattle.sl_due_law.specs.Whole.Kept.{Kept}
 use Rattle.sl_trace.specs.Leases.{lease_step}
 use Rattle.sl_plain.proofs.Lists.{got_inside}

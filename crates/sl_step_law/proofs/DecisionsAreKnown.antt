@@ -6,8 +6,8 @@ use Rattle.sl_due.specs.DueCommands.{decided}
 use Rattle.sl_due.specs.Steps.{Step, seen}
 use Rattle.sl_due.specs.declared.decision.Decision.TheVariants.{ConvertsTo, GetsValue, GivesUp, Joins, Leaves, ReadsArea, Replies, Requests, SetsValue, Shares, TakesOver}
 use Rattle.sl_due.specs.declared.decision.Decision.{Decision}
-use Rattle.sl_due_law.proofs.Jobs.DecisionsFit.{DecisionFits, decisions_fit}
-use Rattle.sl_due_law.proofs.Ways.Kept.LinesReady.{named_base}
+use Rattle.sl_due_facts.proofs.Jobs.DecisionsFit.{DecisionFits, decisions_fit}
+use Rattle.sl_due_leases.proofs.Ways.Kept.LinesReady.{named_base}
 use Rattle.sl_host_law.proofs.Decisions.CommandsAreDecided.{commands_are_decided}
 use Rattle.sl_host_law.proofs.Plain.MembersAreSessions.{members_are_sessions}
 use Rattle.sl_host_law.proofs.Plain.PlainLists.{at_some}

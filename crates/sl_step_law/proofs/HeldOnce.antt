@@ -1,5 +1,5 @@
 -- Holdings of a process at a place: where each is alone there, no two are.
-use Rattle.sl_due_law.proofs.Holdings.PlainPlaces.{place_turned}
+use Rattle.sl_due_leases.proofs.Holdings.PlainPlaces.{place_turned}
 use Rattle.sl_host_law.proofs.Plain.PlainLists.{all_from, in_back}
 use Rattle.sl_host_law.proofs.Replies.PlainNumbers.{same_number}
 use Rattle.sl_plain.proofs.Lists.{contains_first, contains_none, kept as kept_in, next_before}

@@ -1,8 +1,8 @@
 -- Who holds a resource has a lease on its area: each grant rests on calls of the lease, or on a holding that does.
 use Rattle.sl_due.specs.Steps.{Step, seen}
-use Rattle.sl_due_law.proofs.Grants.WorksByAnswers.{new_spot}
-use Rattle.sl_due_law.proofs.Holdings.LeaseConversions.{spot_is}
-use Rattle.sl_due_law.proofs.Ways.Kept.LinesReady.{base_aligned}
+use Rattle.sl_due_leases.proofs.Grants.WorksByAnswers.{new_spot}
+use Rattle.sl_due_leases.proofs.Holdings.LeaseConversions.{spot_is}
+use Rattle.sl_due_leases.proofs.Ways.Kept.LinesReady.{base_aligned}
 use Rattle.sl_host_law.proofs.Calls.Calls.SpotsMore.{found_once, spot_there, spots_once, AreOnce}
 use Rattle.sl_host_law.proofs.Plain.PlainLists.{any_mapped, at_some, in_either}
 use Rattle.sl_host_law.proofs.Plain.SessionNumbers.{placed_by_number}

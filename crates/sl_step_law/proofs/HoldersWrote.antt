@@ -1,5 +1,5 @@
 -- Who holds has written a block of the instance: its ballot's, or that which set the mode.
-use Rattle.sl_due_law.proofs.Holdings.LeaseConversions.{spot_is}
+use Rattle.sl_due_leases.proofs.Holdings.LeaseConversions.{spot_is}
 use Rattle.sl_host_law.proofs.Plain.PlainLists.{in_either}
 use Rattle.sl_host_law.proofs.Plain.SessionNumbers.{placed_by_number}
 use Rattle.sl_host_law.proofs.Replies.PlainNumbers.{same_number}

@@ -1,7 +1,7 @@
 -- What is known of a host as a whole, by the trace that it stands for.
 use Rattle.sl_area.specs.Layouts.{Layout}
 use Rattle.sl_due.specs.Steps.{Step, seen}
-use Rattle.sl_due_law.proofs.Jobs.JobsAreNumbered.{below, command_read, job_reads}
+use Rattle.sl_due_facts.proofs.Jobs.JobsAreNumbered.{below, command_read, job_reads}
 use Rattle.sl_due_law.proofs.Whole.OwnRecords.{fits_it}
 use Rattle.sl_host_law.proofs.Calls.Beginnings.NothingIsDue.{began_before}
 use Rattle.sl_host_law.proofs.Plain.MembersAreSessions.{member_inside}

@@ -1,6 +1,6 @@
 -- The first renewal is written under the generation that was claimed: a live record has one.
 use Rattle.sl_due.specs.Steps.{Step, seen}
-use Rattle.sl_due_law.proofs.Sessions.JoinedNumbers.{spelled_of}
+use Rattle.sl_due_facts.proofs.Sessions.JoinedNumbers.{spelled_of}
 use Rattle.sl_host_state.specs.Kept.{HostState, MemberState}
 use Rattle.sl_host_state.specs.declared.kept.OpenCall.{OpenCall}
 use Rattle.sl_run.specs.LawfulDelta.{LawfulDeltaCall, LawfulFirstRenewal}

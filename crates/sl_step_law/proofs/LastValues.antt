@@ -1,9 +1,9 @@
 -- Of the values that a holder set before, the last one is enough: it alone can be of the version that is held.
 use Rattle.sl_due.specs.Due.{before_input}
 use Rattle.sl_due.specs.Steps.{Step, begin_step, seen}
-use Rattle.sl_due_law.proofs.Holdings.LeaseConversions.{spot_is}
-use Rattle.sl_due_law.proofs.Ways.Kept.LinesReady.{base_aligned}
-use Rattle.sl_due_law.specs.Facts.WayFacts.{IsAligned}
+use Rattle.sl_due_leases.proofs.Holdings.LeaseConversions.{spot_is}
+use Rattle.sl_due_leases.proofs.Ways.Kept.LinesReady.{base_aligned}
+use Rattle.sl_due_facts.specs.Facts.WayFacts.{IsAligned}
 use Rattle.sl_host_law.proofs.Decisions.FallingIsEnough.{falling_is_enough}
 use Rattle.sl_host_law.proofs.Plain.MembersAreSessions.{members_are_sessions}
 use Rattle.sl_host_law.proofs.Plain.PlainLists.{at_some}

@@ -2,8 +2,8 @@
 use Rattle.sl_area.specs.Layouts.{Layout}
 use Rattle.sl_area.specs.Places.{is_base}
 use Rattle.sl_due.specs.Steps.{Step, seen, with_input}
-use Rattle.sl_due_law.proofs.Holdings.LeaseCallers.{on_own_area, spot_aligned}
-use Rattle.sl_due_law.specs.Facts.WayFacts.{Ways, way_context}
+use Rattle.sl_due_leases.proofs.Holdings.LeaseCallers.{on_own_area, spot_aligned}
+use Rattle.sl_due_facts.specs.Facts.WayFacts.{Ways, way_context}
 use Rattle.sl_host_law.proofs.Answers.AnswersSetFree.{answers_set_free, of_trace}
 use Rattle.sl_host_law.proofs.Calls.Calls.SpotsMore.{one_spot}
 use Rattle.sl_host_law.proofs.Plain.PlainLists.{at_some, found_some}

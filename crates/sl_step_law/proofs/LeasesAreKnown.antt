@@ -2,10 +2,10 @@
 use Rattle.sl_area.specs.Layouts.{Layout}
 use Rattle.sl_area.specs.Places.{is_base}
 use Rattle.sl_due.specs.Steps.{Step, seen}
-use Rattle.sl_due_law.proofs.Grants.WorksByAnswers.{new_spot}
-use Rattle.sl_due_law.proofs.Holdings.LeaseCallers.{spot_aligned}
-use Rattle.sl_due_law.proofs.Ways.Kept.LinesReady.{base_aligned}
-use Rattle.sl_due_law.specs.Facts.WayFacts.{Ways, way_context}
+use Rattle.sl_due_leases.proofs.Grants.WorksByAnswers.{new_spot}
+use Rattle.sl_due_leases.proofs.Holdings.LeaseCallers.{spot_aligned}
+use Rattle.sl_due_leases.proofs.Ways.Kept.LinesReady.{base_aligned}
+use Rattle.sl_due_facts.specs.Facts.WayFacts.{Ways, way_context}
 use Rattle.sl_host_law.proofs.Calls.Calls.SpotsMore.{AreOnce, found_once, in_with, one_spot, spot_there, spots_once}
 use Rattle.sl_host_law.proofs.Plain.MembersAreSessions.{member_inside}
 use Rattle.sl_host_law.proofs.Plain.PlainLists.{any_mapped, at_some}

@@ -3,9 +3,9 @@ use Rattle.sl_acts.proofs.LoopsKeep.{with_some_keeps}
 use Rattle.sl_area.specs.Places.{block_offset, is_base}
 use Rattle.sl_due.specs.DueLease.{carry_lease, convert_for, convert_holding, for_work, held_otherwise, with_command}
 use Rattle.sl_due.specs.Steps.{Step, seen, with_some}
-use Rattle.sl_due_law.proofs.Jobs.EffectsAreAllowed.{LeaseAllowed, ReadAllowed, lease}
-use Rattle.sl_due_law.proofs.Jobs.NearlyPlainActs.{AnyMove, AnyStart, Anything, grant_plain}
-use Rattle.sl_due_law.proofs.Jobs.RepliesComeAfter.{mapped_or}
+use Rattle.sl_due_facts.proofs.Jobs.EffectsAreAllowed.{LeaseAllowed, ReadAllowed, lease}
+use Rattle.sl_due_facts.proofs.Jobs.NearlyPlainActs.{AnyMove, AnyStart, Anything, grant_plain}
+use Rattle.sl_due_facts.proofs.Jobs.RepliesComeAfter.{mapped_or}
 use Rattle.sl_due_law.specs.Whole.Kept.{Kept}
 use Rattle.sl_trace.specs.Ballots.{moded_block}
 use Rattle.sl_trace.specs.Jobs.{command_numbered, process_named}

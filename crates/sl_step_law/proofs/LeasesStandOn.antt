@@ -5,10 +5,10 @@ use Rattle.sl_area.specs.Layouts.{Layout}
 use Rattle.sl_area.specs.Places.{is_base}
 use Rattle.sl_due.specs.DueLease.{carry_lease, next_of_lease}
 use Rattle.sl_due.specs.Steps.{Step, seen}
-use Rattle.sl_due_law.proofs.Grants.WorksByAnswers.{new_spot}
-use Rattle.sl_due_law.proofs.Holdings.LeaseCallers.{heard_call, spot_aligned}
-use Rattle.sl_due_law.proofs.Jobs.CallsStandInAreas.{at_base}
-use Rattle.sl_due_law.proofs.Ways.Kept.LinesReady.{none_open}
+use Rattle.sl_due_leases.proofs.Grants.WorksByAnswers.{new_spot}
+use Rattle.sl_due_leases.proofs.Holdings.LeaseCallers.{heard_call, spot_aligned}
+use Rattle.sl_due_facts.proofs.Jobs.CallsStandInAreas.{at_base}
+use Rattle.sl_due_leases.proofs.Ways.Kept.LinesReady.{none_open}
 use Rattle.sl_due_law.specs.Whole.Kept.{Kept}
 use Rattle.sl_run.specs.Lawful.{IsSetting}
 use Rattle.sl_trace.specs.LeaseWork.{LeasePlace, lease_place, settle_next}
@@ -36,7 +36,7 @@ use Rattle.sl_trace_law.proofs.Sessions.Making.{IsNewCall, WasOpen, old_or_new, 
 use Rattle.sl_words.proofs.CaseLaws.{none_some}
 use Rattle.sl_words.proofs.WordLaws.{and_true}
 use Rattle.sl_host_law.proofs.Replies.PlainNumbers.{same_number}
-use Rattle.sl_due_law.proofs.Holdings.LeasePlaces.{area_is}
+use Rattle.sl_due_leases.proofs.Holdings.LeasePlaces.{area_is}
 use Rattle.std.proofs.Common.{ap, inl, inr, refl, subst, sym, ◌∙◌}
 use Rattle.std.specs.Prelude.{Bool, Contains, IsTrue, List, Option, Some, [], is_some, true, ℕ, ◌%◌, ◌&&◌, ◌∷◌, ◌≡◌, ◌⊎◌}
 use Rattle.sl_step_law.proofs.CallsOnPast.{OnPast, finish, made_as, standing}

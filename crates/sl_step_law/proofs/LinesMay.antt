@@ -4,10 +4,10 @@ use Rattle.sl_area.specs.Places.{block_offset, leader_offset, value_offset}
 use Rattle.sl_due.specs.Steps.{Step, seen, with_input}
 use Rattle.sl_due.specs.declared.decision.Decision.TheVariants.{ConvertsTo, GetsValue, GivesUp, Joins, Leaves, ReadsArea, Replies, Requests, SetsValue, Shares, TakesOver}
 use Rattle.sl_due.specs.declared.decision.Decision.{Decision}
-use Rattle.sl_due_law.proofs.Holdings.DecisionsHaveGrounds.{decisions_have_grounds}
-use Rattle.sl_due_law.proofs.Holdings.LeaseConversions.{spot_is}
-use Rattle.sl_due_law.proofs.Ways.Kept.LinesReady.{base_aligned, named_base}
-use Rattle.sl_due_law.specs.Holdings.DecisionGrounds.{AsksLease, HasGrounds, Releases}
+use Rattle.sl_due_leases.proofs.Holdings.DecisionsHaveGrounds.{decisions_have_grounds}
+use Rattle.sl_due_leases.proofs.Holdings.LeaseConversions.{spot_is}
+use Rattle.sl_due_leases.proofs.Ways.Kept.LinesReady.{base_aligned, named_base}
+use Rattle.sl_due_leases.specs.Holdings.DecisionGrounds.{AsksLease, HasGrounds, Releases}
 use Rattle.sl_host_law.proofs.Calls.Calls.SpotsMore.{one_spot}
 use Rattle.sl_host_law.proofs.Decisions.CommandsAreDecided.{commands_are_decided}
 use Rattle.sl_host_law.proofs.Plain.PlainLists.{at_some, in_back}

@@ -1,8 +1,8 @@
 -- A lease looks at its area before a free only where it owes one.
 use Rattle.sl_area.specs.Layouts.{Layout}
 use Rattle.sl_area.specs.Places.{area_blocks, blocks_in, leader_of}
-use Rattle.sl_due_law.proofs.Ways.NextsFit.WritesFit.{left_is_won}
-use Rattle.sl_due_law.proofs.Ways.WayNumbers.{ends_by}
+use Rattle.sl_due_leases.proofs.Ways.NextsFit.WritesFit.{left_is_won}
+use Rattle.sl_due_leases.proofs.Ways.WayNumbers.{ends_by}
 use Rattle.sl_trace.specs.Ballots.{is_ahead, moded_block, phase1_block, same_owner, stop_of, value_of}
 use Rattle.sl_trace.specs.LeaseWork.{LeasePlace, after_clearing, after_freeing, after_moding, after_phase1, after_phase2, after_read, after_take, after_write, area_next, begin_next, begin_or_refuse, leader_for, lease_next, looks_for_shared, lost_next, named_area_next, phase1_next, phase2_next, refuses, settle_next, settle_owed, stopped_next, unstopped_next, whole_area_next, won_next}
 use Rattle.sl_trace.specs.Leases.{LeaseKnown, block_submitted, block_written, ended_ballot, ended_ballots, free_left, instance_for, is_leader_of, mode_gen_of, owed_free, own_known, shared_elsewhere}

@@ -1,7 +1,7 @@
 -- Where records stand: at whole sectors of areas that begin at bases.
 use Rattle.sl_area.specs.Layouts.{Layout}
 use Rattle.sl_area.specs.Places.{block_offset, delta_offset, is_base, request_offset, value_offset}
-use Rattle.sl_due_law.proofs.Jobs.CallsStandInAreas.{base_whole, floor_is, roomy}
+use Rattle.sl_due_facts.proofs.Jobs.CallsStandInAreas.{base_whole, floor_is, roomy}
 use Rattle.sl_run.specs.Lawful.{IsSetting}
 use Rattle.sl_plain.proofs.Numbers.{none_off}
 use Rattle.sl_run_law.proofs.Place.Sizes.{IsSized, begins_at_sector, sector_has_bytes, sector_in_area, sized}

@@ -3,9 +3,9 @@ use Rattle.sl_area.specs.Layouts.{Layout}
 use Rattle.sl_area.specs.Places.{is_base}
 use Rattle.sl_due.specs.Steps.{Step, seen}
 use Rattle.sl_due_law.specs.Whole.Kept.{Kept}
-use Rattle.sl_due_law.proofs.Jobs.JobsAreNumbered.{command_is_read}
-use Rattle.sl_due_law.proofs.Jobs.SessionsHaveJobs.{given_one, joined_by}
-use Rattle.sl_due_law.proofs.Sessions.JoinedNumbers.{spelled_of}
+use Rattle.sl_due_facts.proofs.Jobs.JobsAreNumbered.{command_is_read}
+use Rattle.sl_due_facts.proofs.Jobs.SessionsHaveJobs.{given_one, joined_by}
+use Rattle.sl_due_facts.proofs.Sessions.JoinedNumbers.{spelled_of}
 use Rattle.sl_host_law.proofs.Plain.MembersAreSessions.{member_inside}
 use Rattle.sl_host_law.proofs.Plain.PlainLists.{at_some, each_of}
 use Rattle.sl_host_law.proofs.Steps.LeasesAreKnown.{kept_tops}

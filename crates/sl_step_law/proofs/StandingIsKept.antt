@@ -10,11 +10,11 @@ use Rattle.sl_due.specs.DueRequests.{after_value_read, owner_read, value_reply}
 use Rattle.sl_due.specs.Steps.{Step, add_end, add_reply, seen, with_input}
 use Rattle.sl_due.specs.declared.decision.Decision.{Decision}
 use Rattle.sl_due.specs.declared.decision.Decision.TheVariants.{ConvertsTo, GetsValue, GivesUp, Joins, Leaves, ReadsArea, Replies, Requests, SetsValue, Shares, TakesOver}
-use Rattle.sl_due_law.proofs.Jobs.DecisionsFit.{DecisionFits, decisions_fit}
-use Rattle.sl_due_law.proofs.Jobs.EffectsAreAllowed.{DecisionAllowed, RequestAllowed, decision, delta, ended, exited, left, refusal, removal_of_refused, requested, said, sent, signalled, stopped}
-use Rattle.sl_due_law.proofs.Jobs.JobsAreNumbered.{command_is_read}
-use Rattle.sl_due_law.proofs.Jobs.NearlyPlainActs.{AnyMove, AnyStart, Anything, grant_plain}
-use Rattle.sl_due_law.proofs.Ways.Kept.LinesReady.{named_base}
+use Rattle.sl_due_facts.proofs.Jobs.DecisionsFit.{DecisionFits, decisions_fit}
+use Rattle.sl_due_facts.proofs.Jobs.EffectsAreAllowed.{DecisionAllowed, RequestAllowed, decision, delta, ended, exited, left, refusal, removal_of_refused, requested, said, sent, signalled, stopped}
+use Rattle.sl_due_facts.proofs.Jobs.JobsAreNumbered.{command_is_read}
+use Rattle.sl_due_facts.proofs.Jobs.NearlyPlainActs.{AnyMove, AnyStart, Anything, grant_plain}
+use Rattle.sl_due_leases.proofs.Ways.Kept.LinesReady.{named_base}
 use Rattle.sl_due_law.specs.Whole.Kept.{Kept}
 use Rattle.sl_run.specs.Lawful.{IsSetting}
 use Rattle.sl_trace.specs.Jobs.{job_of_start, resource_named}
@@ -51,7 +51,7 @@ use Rattle.sl_step_law.proofs.CallsOnPast.{Calls, OnPast, StandsAs, allows, one_
 use Rattle.sl_step_law.proofs.LeasesOnPast.{converting, head, releases}
 use Rattle.sl_step_law.proofs.LeasesStandOn.{Known, ends_so, heard_there, leads, settled, starts_so}
 use Rattle.sl_acts.specs.Promises.{IsPresent}
-use Rattle.sl_due_law.proofs.Jobs.EffectsAreAllowed.{removal}
+use Rattle.sl_due_facts.proofs.Jobs.EffectsAreAllowed.{removal}
 use Rattle.sl_due.specs.DueDelta.{carry_delta}
 use Rattle.sl_host_law.proofs.Plain.PlainOrders.{ordered_inside}
 use Rattle.sl_words.specs.Orders.{is_text_before}

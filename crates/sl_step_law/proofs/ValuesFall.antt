@@ -3,15 +3,15 @@
 use Rattle.sl_acts.specs.SoFar.{entry_of}
 use Rattle.sl_due.specs.Due.{IsHostTrace}
 use Rattle.sl_due.specs.Steps.{Step, seen}
-use Rattle.sl_due_law.proofs.Grants.WorksByAnswers.{new_spot}
-use Rattle.sl_due_law.proofs.Holdings.LeaseConversions.{spot_is}
-use Rattle.sl_due_law.proofs.Ways.WayNumbers.{goes_up, lver_of, own_lver}
+use Rattle.sl_due_leases.proofs.Grants.WorksByAnswers.{new_spot}
+use Rattle.sl_due_leases.proofs.Holdings.LeaseConversions.{spot_is}
+use Rattle.sl_due_leases.proofs.Ways.WayNumbers.{goes_up, lver_of, own_lver}
 use Rattle.sl_due_law.proofs.Whole.TracesHold.{traces_hold}
-use Rattle.sl_due_law.specs.Facts.CallFacts.{CallFacts}
-use Rattle.sl_due_law.specs.Facts.Heard.{heard_by}
-use Rattle.sl_due_law.specs.Facts.HoldingFacts.{HoldingFacts, StandsExclusive}
-use Rattle.sl_due_law.specs.Facts.WayFacts.{IsAligned, WayContext, Ways, way_context}
-use Rattle.sl_due_law.specs.Facts.Whole.{Facts}
+use Rattle.sl_due_facts.specs.Facts.CallFacts.{CallFacts}
+use Rattle.sl_due_facts.specs.Facts.Heard.{heard_by}
+use Rattle.sl_due_facts.specs.Facts.HoldingFacts.{HoldingFacts, StandsExclusive}
+use Rattle.sl_due_facts.specs.Facts.WayFacts.{IsAligned, WayContext, Ways, way_context}
+use Rattle.sl_due_facts.specs.Facts.Whole.{Facts}
 use Rattle.sl_due_law.specs.Whole.Kept.{Holds, Kept}
 use Rattle.sl_host_law.proofs.Plain.PlainLists.{at_some}
 use Rattle.sl_host_law.proofs.Replies.PlainNumbers.{same_number}

@@ -2,7 +2,7 @@
 use Rattle.sl_due.specs.Due.{IsDue, IsHostTrace}
 use Rattle.sl_due_law.proofs.Due.{due_is_lawful}
 use Rattle.sl_due_law.proofs.Whole.TracesHold.{traces_hold}
-use Rattle.sl_due_law.specs.Facts.JobFacts.{FitsCommand, JobFacts}
+use Rattle.sl_due_facts.specs.Facts.JobFacts.{FitsCommand, JobFacts}
 use Rattle.sl_due_law.specs.Whole.Kept.{Holds}
 use Rattle.sl_run.specs.Lawful.{IsSetting}
 use Rattle.sl_trace.specs.Jobs.{command_numbered, command_of}

@@ -10,13 +10,13 @@ use Rattle.sl_due_law.proofs.Causes.LaterSteps.{told_no_line}
 use Rattle.sl_due_law.proofs.Causes.Leases.GrantCauses.{WriteHeard, freed_shared, is_wanted, mode_for}
 use Rattle.sl_due_law.proofs.Causes.LineMakings.{Fresh, fresh_made, grant_made, lease_made, one_call, one_grant}
 use Rattle.sl_due_law.proofs.Causes.PlainMakings.{adds, adds_nothing, is_special_call, made_plain, still_made}
-use Rattle.sl_due_law.proofs.Connections.HeardCalls.{heard_before}
-use Rattle.sl_due_law.proofs.Holdings.LeaseNexts.{IsFitNext, IsGrantOf, next_fits}
+use Rattle.sl_due_facts.proofs.Connections.HeardCalls.{heard_before}
+use Rattle.sl_due_leases.proofs.Holdings.LeaseNexts.{IsFitNext, IsGrantOf, next_fits}
 use Rattle.sl_due_law.specs.Causes.CauseFacts.{ChildFacts, IsTold}
 use Rattle.sl_due_law.specs.Causes.Makings.{By_answer, By_line, FromJob, MadeSoFar}
-use Rattle.sl_due_law.specs.Facts.Heard.{heard_by}
-use Rattle.sl_due_law.specs.Facts.Whole.{Whole}
-use Rattle.sl_due_law.specs.Holdings.Moments.{Known}
+use Rattle.sl_due_facts.specs.Facts.Heard.{heard_by}
+use Rattle.sl_due_facts.specs.Facts.Whole.{Whole}
+use Rattle.sl_due_leases.specs.Holdings.Moments.{Known}
 use Rattle.sl_run.specs.Caused.{IsAccepted}
 use Rattle.sl_trace.specs.Jobs.{aim_of, aim_of_command, command_numbered, command_of, process_named}
 use Rattle.sl_trace.specs.LeaseWork.{lease_place}

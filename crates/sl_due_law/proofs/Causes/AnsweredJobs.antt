@@ -4,10 +4,10 @@ use Rattle.sl_trace.specs.declared.effects.Entry.{Entry}
 use Rattle.sl_acts.specs.Acts.{Hears}
 use Rattle.sl_due_law.specs.Causes.CausedSoFar.{IsCarried, IsLater, answering}
 use Rattle.sl_due.specs.Steps.{Step, seen}
-use Rattle.sl_due_law.proofs.Holdings.LeaseCallers.{heard_answered, heard_call}
-use Rattle.sl_due_law.specs.Holdings.Moments.{Known}
-use Rattle.sl_due_law.proofs.Jobs.JobFactsGrow.{contains_right}
-use Rattle.sl_due_law.proofs.Jobs.JobsAreNumbered.{command_read}
+use Rattle.sl_due_leases.proofs.Holdings.LeaseCallers.{heard_answered, heard_call}
+use Rattle.sl_due_leases.specs.Holdings.Moments.{Known}
+use Rattle.sl_due_facts.proofs.Jobs.JobFactsGrow.{contains_right}
+use Rattle.sl_due_facts.proofs.Jobs.JobsAreNumbered.{command_read}
 use Rattle.sl_run.specs.Caused.{AnswersCall, Answering, WithSpot, job_command}
 use Rattle.sl_run.specs.Saying.{IsAnsweredAt}
 use Rattle.sl_trace.specs.Jobs.{command_numbered, command_of, resource_named}

@@ -23,7 +23,7 @@ use Rattle.sl_due_law.specs.Causes.CauseFacts.{CauseFacts}
 use Rattle.sl_due_law.specs.Causes.CausedSoFar.{CausedSoFar, IsAtOnce, RepliedSoFar, is_explained, is_line}
 use Rattle.sl_due_law.specs.Causes.LineCauses.{at_its_line}
 use Rattle.sl_due_law.specs.Causes.Promises.{TracesAreCaused}
-use Rattle.sl_due_law.specs.Holdings.Moments.{Known}
+use Rattle.sl_due_leases.specs.Holdings.Moments.{Known}
 use Rattle.sl_due_law.specs.Whole.Kept.{Holds, Kept}
 use Rattle.sl_run.specs.Caused.{AnswersWell, CausedBy}
 use Rattle.sl_plain.proofs.Lists.{contains_first, contains_none, head_is}

@@ -15,7 +15,7 @@ use Rattle.sl_due.specs.DueWake.{finish}
 use Rattle.sl_due.specs.Steps.{Step, add_end, add_reply, add_signal, add_start, begin_step, seen, with_input}
 use Rattle.sl_due.specs.declared.decision.Decision.TheVariants.{ConvertsTo, GetsValue, GivesUp, Joins, Leaves, ReadsArea, Replies, Requests, SetsValue, Shares, TakesOver}
 use Rattle.sl_due.specs.declared.decision.Decision.{Decision}
-use Rattle.sl_due_law.proofs.Jobs.JobsAreNumbered.{next_before}
+use Rattle.sl_due_facts.proofs.Jobs.JobsAreNumbered.{next_before}
 use Rattle.sl_run.specs.Caused.{CausedBy}
 use Rattle.sl_trace.specs.Counts.{stopper_of}
 use Rattle.sl_trace.specs.Jobs.{jobs_of_session}

@@ -1,11 +1,11 @@
 -- What stands behind the calls of requests and values, and the first looks of joinings, stays so with one more entry.
 use Rattle.sl_due_law.proofs.Causes.EntryMakings.{step_of}
-use Rattle.sl_due_law.proofs.Jobs.JobsAreNumbered.{command_stays}
-use Rattle.sl_due_law.proofs.Jobs.SessionsHaveJobs.{line_command}
+use Rattle.sl_due_facts.proofs.Jobs.JobsAreNumbered.{command_stays}
+use Rattle.sl_due_facts.proofs.Jobs.SessionsHaveJobs.{line_command}
 use Rattle.sl_due_law.proofs.Whole.CallsAreLawful.{new_inside}
 use Rattle.sl_due_law.specs.Causes.CauseFacts.{CauseFacts, StandsBehind, StandsBehindRequest}
 use Rattle.sl_due_law.specs.Causes.Makings.{AskedBy, LookedSoFar, MadeFor, MadeSoFar, SetBy}
-use Rattle.sl_due_law.specs.Facts.Heard.{heard_by}
+use Rattle.sl_due_facts.specs.Facts.Heard.{heard_by}
 use Rattle.sl_due_law.specs.Whole.Kept.{Holds}
 use Rattle.sl_trace.specs.Jobs.{command_numbered}
 use Rattle.sl_trace.specs.Leases.{value_of_record}

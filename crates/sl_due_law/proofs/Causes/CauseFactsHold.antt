@@ -5,8 +5,8 @@ use Rattle.sl_due_law.proofs.Causes.CallsBehind.{behind_more, looked_more}
 use Rattle.sl_due_law.proofs.Causes.ChildrenHold.{children_hold}
 use Rattle.sl_due_law.proofs.Causes.EntryMakings.{MadeIn, entry_makes}
 use Rattle.sl_due_law.proofs.Causes.ReleasedAtLines.{release_ends}
-use Rattle.sl_due_law.proofs.Connections.DeltaPromises.{nothing_was_read}
-use Rattle.sl_due_law.proofs.Jobs.JobsAreNumbered.{found_after, numbered_stays}
+use Rattle.sl_due_facts.proofs.Connections.DeltaPromises.{nothing_was_read}
+use Rattle.sl_due_facts.proofs.Jobs.JobsAreNumbered.{found_after, numbered_stays}
 use Rattle.sl_due_law.proofs.Whole.TracesHold.{traces_hold}
 use Rattle.sl_due_law.specs.Causes.CauseFacts.{CauseFacts, EndedAsAsked, HasEnded}
 use Rattle.sl_due_law.specs.Whole.Kept.{Holds}

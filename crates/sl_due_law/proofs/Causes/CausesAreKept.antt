@@ -25,27 +25,27 @@ use Rattle.sl_due.specs.DueRequests.{after_request_read, after_value_read, bits_
 use Rattle.sl_due.specs.Steps.{Step, begin_step, add_end, add_reply, add_signal, seen, with_effects, with_input}
 use Rattle.sl_due.specs.declared.decision.Decision.TheVariants.{ConvertsTo, GetsValue, GivesUp, Joins, Leaves, ReadsArea, Replies, Requests, SetsValue, Shares, TakesOver}
 use Rattle.sl_due.specs.declared.decision.Decision.{Decision}
-use Rattle.sl_due_law.proofs.Holdings.HoldingsByDeltas.{same_session}
-use Rattle.sl_due_law.proofs.Holdings.LeaseCallers.{heard_call}
-use Rattle.sl_due_law.proofs.Holdings.MomentsAreKept.{Alike, removal_alike, same, signalled_alike, delta_ungranting}
-use Rattle.sl_due_law.specs.Holdings.Moments.{Known}
-use Rattle.sl_due_law.proofs.Jobs.AnsweredCallsFit.{both_of}
-use Rattle.sl_due_law.proofs.Jobs.CallsOfJobsFit.{joining_of}
-use Rattle.sl_due_law.proofs.Jobs.CallsStay.{IsLate, is_special, late}
-use Rattle.sl_due_law.proofs.Jobs.EffectsAreAllowed.{DecisionAllowed, DeltaAllowed, GrantAllowed, LeaseAllowed, ReadAllowed, RequestAllowed, decision, delta, ended, lease, left, refusal, removal, removal_of_refused, requested, said, sent, signalled, stopped}
-use Rattle.sl_due_law.proofs.Jobs.JobsAreAllowed.{is_told, late_on_survey, late_on_wake, late_unless_told}
-use Rattle.sl_due_law.proofs.Jobs.RepliesComeAfter.{IsLateLease, joining_late, mapped_or, lease_late, on_bool, request_late, set_late, value_late, wake_late}
-use Rattle.sl_due_law.proofs.Jobs.SessionsArePresent.{present_is, session_has}
-use Rattle.sl_due_law.proofs.Jobs.SessionsStand.{recovery_joined}
-use Rattle.sl_due_law.proofs.Jobs.CallsHaveFacts.{sessions_bare}
+use Rattle.sl_due_leases.proofs.Holdings.HoldingsByDeltas.{same_session}
+use Rattle.sl_due_leases.proofs.Holdings.LeaseCallers.{heard_call}
+use Rattle.sl_due_leases.proofs.Holdings.MomentsAreKept.{Alike, removal_alike, same, signalled_alike, delta_ungranting}
+use Rattle.sl_due_leases.specs.Holdings.Moments.{Known}
+use Rattle.sl_due_facts.proofs.Jobs.AnsweredCallsFit.{both_of}
+use Rattle.sl_due_facts.proofs.Jobs.CallsOfJobsFit.{joining_of}
+use Rattle.sl_due_facts.proofs.Jobs.CallsStay.{IsLate, is_special, late}
+use Rattle.sl_due_facts.proofs.Jobs.EffectsAreAllowed.{DecisionAllowed, DeltaAllowed, GrantAllowed, LeaseAllowed, ReadAllowed, RequestAllowed, decision, delta, ended, lease, left, refusal, removal, removal_of_refused, requested, said, sent, signalled, stopped}
+use Rattle.sl_due_facts.proofs.Jobs.JobsAreAllowed.{is_told, late_on_survey, late_on_wake, late_unless_told}
+use Rattle.sl_due_facts.proofs.Jobs.RepliesComeAfter.{IsLateLease, joining_late, mapped_or, lease_late, on_bool, request_late, set_late, value_late, wake_late}
+use Rattle.sl_due_facts.proofs.Jobs.SessionsArePresent.{present_is, session_has}
+use Rattle.sl_due_facts.proofs.Jobs.SessionsStand.{recovery_joined}
+use Rattle.sl_due_facts.proofs.Jobs.CallsHaveFacts.{sessions_bare}
 use Rattle.sl_trace.specs.Jobs.{aim_of, is_job_of_process, command_numbered, job_of_start, resource_named}
 use Rattle.sl_trace.specs.LeaseWork.{LeasePlace, convert_next, lease_place, release_next, settle_next}
 use Rattle.sl_trace.specs.Leases.{LeaseKnown, known, lease_step, lver_written, spot_of, spot_of_call}
 use Rattle.sl_trace.specs.declared.lease.Aim.{Aim}
 use Rattle.sl_trace.specs.declared.lease.LeaseNext.TheVariants.{AnswerJob, BecomeExclusive, BecomeShared, GrantJob, Nothing as No_lease, ReadFor, WriteBlock, WriteLeader}
 use Rattle.sl_trace.specs.declared.lease.LeaseNext.{LeaseNext}
-use Rattle.sl_due_law.proofs.Jobs.JobFactsGrow.{contains_left}
-use Rattle.sl_due_law.proofs.Jobs.JobsAreNumbered.{line_is, next_before}
+use Rattle.sl_due_facts.proofs.Jobs.JobFactsGrow.{contains_left}
+use Rattle.sl_due_facts.proofs.Jobs.JobsAreNumbered.{line_is, next_before}
 use Rattle.sl_run.specs.Caused.{CausedBy}
 use Rattle.sl_trace.specs.declared.effects.Effects.{Effects}
 use Rattle.sl_plain.proofs.Lists.{contains_none, got_inside}
@@ -60,9 +60,9 @@ use Rattle.sl_trace.specs.declared.delta.DeltaKnown.{DeltaKnown}
 use Rattle.sl_trace.specs.declared.delta.DeltaNext.{DeltaNext}
 use Rattle.sl_trace.specs.declared.session.Begun.{Begun}
 use Rattle.sl_trace.specs.declared.session.Session.{Session}
-use Rattle.sl_due_law.specs.Facts.Whole.{WholeTrace}
-use Rattle.sl_due_law.specs.Facts.Heard.{heard_by}
-use Rattle.sl_due_law.specs.Facts.JobFacts.{FitsCommand}
+use Rattle.sl_due_facts.specs.Facts.Whole.{WholeTrace}
+use Rattle.sl_due_facts.specs.Facts.Heard.{heard_by}
+use Rattle.sl_due_facts.specs.Facts.JobFacts.{FitsCommand}
 use Rattle.sl_trace.specs.Traces.{Job, Setting, Submitted, Trace, job_numbered, line_in, running_jobs, end_of, is_running, job_of, next_job, spot_of_grant, work_job}
 use Rattle.sl_trace.specs.declared.command.Command.TheVariants.{Acquire, AddLockspace, Convert, GetLvb, HostStatus, InqLockspace, Release, ReleaseOrphan, RemLockspace, Request, RunProgram, SetKillpath, SetLvb, Status, TakeOver}
 use Rattle.sl_trace.specs.declared.command.Command.{Command}

@@ -6,13 +6,13 @@ use Rattle.sl_due_law.proofs.Causes.CallsBehind.{Came, New_one, Old_call, came}
 use Rattle.sl_due_law.proofs.Causes.EntryMakings.{step_of}
 use Rattle.sl_due_law.proofs.Causes.LineComes.{ending_told, exit_stops}
 use Rattle.sl_due_law.proofs.Causes.ToldProcesses.{child_stays, told_apart, told_more, unanswered_before}
-use Rattle.sl_due_law.proofs.Holdings.PlainPlaces.{one_place}
-use Rattle.sl_due_law.proofs.Jobs.CallsHaveFacts.{find_mapped}
-use Rattle.sl_due_law.proofs.Jobs.JobsAreNumbered.{command_stays, finds_none, found_after, found_before, next_is_new}
-use Rattle.sl_due_law.proofs.Jobs.SessionsHaveJobs.{line_command}
+use Rattle.sl_due_leases.proofs.Holdings.PlainPlaces.{one_place}
+use Rattle.sl_due_facts.proofs.Jobs.CallsHaveFacts.{find_mapped}
+use Rattle.sl_due_facts.proofs.Jobs.JobsAreNumbered.{command_stays, finds_none, found_after, found_before, next_is_new}
+use Rattle.sl_due_facts.proofs.Jobs.SessionsHaveJobs.{line_command}
 use Rattle.sl_due_law.specs.Causes.CauseFacts.{CauseFacts, ChildFacts, HoldsAsAsked, IsTold, WaitsFor}
 use Rattle.sl_due_law.specs.Causes.Makings.{By_answer, By_line, FromJob, GivenTo, MadeFor, MadeSoFar, Says, StartedFor}
-use Rattle.sl_due_law.specs.Facts.Heard.{heard_by}
+use Rattle.sl_due_facts.specs.Facts.Heard.{heard_by}
 use Rattle.sl_due_law.specs.Whole.Kept.{Holds}
 use Rattle.sl_run.specs.LawfulEnd.{Converted, EndReason, Exited, Given_up, LawfulEnding, Not_started, Taken_over, gives_up, takes_over}
 use Rattle.sl_trace.specs.Jobs.{child_of_job, command_numbered, command_of, process_named}

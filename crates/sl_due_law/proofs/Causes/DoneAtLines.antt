@@ -20,14 +20,14 @@ use Rattle.sl_due_law.proofs.Causes.LinesAreWell.{line_done, lines_are_well}
 use Rattle.sl_due_law.proofs.Causes.NamesBefore.{session_then, with_session}
 use Rattle.sl_due_law.proofs.Causes.ReleasedAtLines.{GivenUp, None_remains, Others_remain, Remains, ends_for, ends_it, given_up}
 use Rattle.sl_due_law.proofs.Causes.WakeCauses.{sessions_wake}
-use Rattle.sl_due_law.proofs.Holdings.DecisionsHaveGrounds.{decisions_have_grounds}
-use Rattle.sl_due_law.proofs.Holdings.LeaseConversions.{spot_is}
-use Rattle.sl_due_law.proofs.Holdings.PlainPlaces.{text_is}
-use Rattle.sl_due_law.proofs.Jobs.JobsAreNumbered.{line_is}
-use Rattle.sl_due_law.proofs.Jobs.SessionsArePresent.{present_is}
+use Rattle.sl_due_leases.proofs.Holdings.DecisionsHaveGrounds.{decisions_have_grounds}
+use Rattle.sl_due_leases.proofs.Holdings.LeaseConversions.{spot_is}
+use Rattle.sl_due_leases.proofs.Holdings.PlainPlaces.{text_is}
+use Rattle.sl_due_facts.proofs.Jobs.JobsAreNumbered.{line_is}
+use Rattle.sl_due_facts.proofs.Jobs.SessionsArePresent.{present_is}
 use Rattle.sl_due_law.specs.Causes.LineCauses.{DoneAtLines, IsBeforeInput, at_its_line}
-use Rattle.sl_due_law.specs.Facts.Whole.{WholeTrace}
-use Rattle.sl_due_law.specs.Holdings.DecisionGrounds.{GiveUpGrounds, HasGrounds, Releases}
+use Rattle.sl_due_facts.specs.Facts.Whole.{WholeTrace}
+use Rattle.sl_due_leases.specs.Holdings.DecisionGrounds.{GiveUpGrounds, HasGrounds, Releases}
 use Rattle.sl_run.specs.Caused.{Answering, CausedBy, IsDoneFor, IsReleased, after_entry}
 use Rattle.sl_trace.specs.Jobs.{lockspace_named, resource_named}
 use Rattle.sl_trace.specs.Leases.{holdings_on, known, spot_of}

@@ -12,7 +12,7 @@ use Rattle.sl_due.specs.DueFirst.{begin_recoveries}
 use Rattle.sl_due.specs.Steps.{Step, begin_step}
 use Rattle.sl_due_law.proofs.Causes.LooksAreKept.{KnowsLooks, looks_are_kept, looks_begin}
 use Rattle.sl_due_law.proofs.Causes.MakingsAreKept.{KnowsCauses, makings_are_kept, makings_begin}
-use Rattle.sl_due_law.proofs.Jobs.LessIsKept.{to_less}
+use Rattle.sl_due_facts.proofs.Jobs.LessIsKept.{to_less}
 use Rattle.sl_due_law.proofs.Recovery.StopsBegin.{begun_says}
 use Rattle.sl_due_law.proofs.Whole.AllIsKept.{all_begins, all_is_kept}
 use Rattle.sl_due_law.specs.Causes.CauseFacts.{CauseFacts}

@@ -6,8 +6,8 @@ use Rattle.sl_due_law.proofs.Causes.RecoveryCauses.{jobs_past, numbered_is}
 use Rattle.sl_due_law.specs.Causes.CausedSoFar.{StaysCaused}
 use Rattle.sl_due.specs.DueInputs.{end_holdings, leave_holdings}
 use Rattle.sl_due.specs.Steps.{Step, add_end, add_grant, seen, with_effects, with_input}
-use Rattle.sl_due_law.proofs.Jobs.CallsHaveFacts.{find_mapped}
-use Rattle.sl_due_law.proofs.Jobs.JobsAreNumbered.{finds_none, numbered_stays}
+use Rattle.sl_due_facts.proofs.Jobs.CallsHaveFacts.{find_mapped}
+use Rattle.sl_due_facts.proofs.Jobs.JobsAreNumbered.{finds_none, numbered_stays}
 use Rattle.sl_trace.specs.Jobs.{child_of_job, is_command_that, is_job_of_process, process_named}
 use Rattle.sl_plain.proofs.Lists.{in_map, kept_inside}
 use Rattle.sl_trace.specs.Traces.{Child, Job, Trace, line_in, child_after, children, end_of, holdings, is_running, job_numbered, jobs, new_child, orphans_left, running_jobs}

@@ -16,8 +16,8 @@ use Rattle.sl_due.specs.DueWake.{finish}
 use Rattle.sl_due.specs.Steps.{Step, add_end, add_grant, add_reply, begin_step, seen, with_input}
 use Rattle.sl_due.specs.declared.decision.Decision.TheVariants.{ConvertsTo, GetsValue, GivesUp, Joins, Leaves, ReadsArea, Replies, Requests, SetsValue, Shares, TakesOver}
 use Rattle.sl_due.specs.declared.decision.Decision.{Decision}
-use Rattle.sl_due_law.proofs.Jobs.JobsAreNumbered.{next_before}
-use Rattle.sl_due_law.proofs.Jobs.SessionsArePresent.{present_is}
+use Rattle.sl_due_facts.proofs.Jobs.JobsAreNumbered.{next_before}
+use Rattle.sl_due_facts.proofs.Jobs.SessionsArePresent.{present_is}
 use Rattle.sl_run.specs.Caused.{Answering, CausedBy, GrantsTo, IsGrantedFor, before_entry, the_session}
 use Rattle.sl_trace.specs.Jobs.{lockspace_named}
 use Rattle.sl_trace.specs.Counts.{holds_already}
@@ -46,15 +46,15 @@ use Rattle.std.proofs.Common.{ap, inl, inr, refl, subst, sym, ◌∙◌}
 use Rattle.std.specs.Option.{option_map_or}
 use Rattle.std.specs.Prelude.{Bool, Contains, Err, IsTrue, List, None, Ok, Option, Result, Some, [], bytes_eq, false, filter, is_none, is_some, length, option_and_then, option_map, true, ℕ, ◌++◌, ◌==◌, ◌∷◌, ◌≡◌, ◌⊎◌}
 use Rattle.sl_due_law.proofs.Causes.LeavingsRefuse.{Refused, Says, ending, first_of, joined_past, line_reads, refusals}
-use Rattle.sl_due_law.proofs.Holdings.PlainPlaces.{one_place}
+use Rattle.sl_due_leases.proofs.Holdings.PlainPlaces.{one_place}
 use Rattle.sl_trace.specs.Jobs.{wants_shared}
 use Rattle.sl_due_law.proofs.Causes.AnsweredJobs.{with_command}
 use Rattle.sl_due_law.proofs.Causes.Leases.GrantCauses.{held_early, held_past}
-use Rattle.sl_due_law.specs.Holdings.DecisionGrounds.{AsksLease, HasGrounds, IsReady, SharesGrounds, TakeOverGrounds}
-use Rattle.sl_due_law.proofs.Holdings.DecisionsHaveGrounds.{decisions_have_grounds}
-use Rattle.sl_due_law.proofs.Holdings.PlainPlaces.{text_is}
-use Rattle.sl_due_law.proofs.Jobs.JobFactsGrow.{contains_right}
-use Rattle.sl_due_law.proofs.Jobs.JobsAreNumbered.{line_is}
+use Rattle.sl_due_leases.specs.Holdings.DecisionGrounds.{AsksLease, HasGrounds, IsReady, SharesGrounds, TakeOverGrounds}
+use Rattle.sl_due_leases.proofs.Holdings.DecisionsHaveGrounds.{decisions_have_grounds}
+use Rattle.sl_due_leases.proofs.Holdings.PlainPlaces.{text_is}
+use Rattle.sl_due_facts.proofs.Jobs.JobFactsGrow.{contains_right}
+use Rattle.sl_due_facts.proofs.Jobs.JobsAreNumbered.{line_is}
 use Rattle.sl_words.proofs.WordLaws.{same_truth_is}
 
 granted_misread : (n m : ℕ) → Misread n ≡ Granted m → ⊥

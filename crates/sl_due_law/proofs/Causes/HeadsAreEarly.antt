@@ -10,11 +10,11 @@ use Rattle.sl_due.specs.DueDelta.{carry_delta}
 use Rattle.sl_due.specs.DueFirst.{begin_recoveries, begin_recovery, begins_now, is_overdue, kill_holders, kills, kills_holders, refuse, remove_connection, remove_of_refused, send, signal_and_refuse, signal_holders, time_out, time_outs}
 use Rattle.sl_due.specs.DueWake.{end_if_done, finish, finish_session, free_if_done}
 use Rattle.sl_due.specs.Steps.{Step, add_move, add_reply, add_signal, add_start, begin_step, seen, when}
-use Rattle.sl_due_law.proofs.Holdings.HoldersSpared.{IsJoining, joined_present, joined_some, joining}
-use Rattle.sl_due_law.proofs.Holdings.PlainPlaces.{text_is}
-use Rattle.sl_due_law.proofs.Jobs.JobsAreNumbered.{below, jobs_before}
-use Rattle.sl_due_law.proofs.Jobs.SessionsArePresent.{present_inside}
-use Rattle.sl_due_law.proofs.Parts.CallsGrow.{any_more}
+use Rattle.sl_due_leases.proofs.Holdings.HoldersSpared.{IsJoining, joined_present, joined_some, joining}
+use Rattle.sl_due_leases.proofs.Holdings.PlainPlaces.{text_is}
+use Rattle.sl_due_facts.proofs.Jobs.JobsAreNumbered.{below, jobs_before}
+use Rattle.sl_due_facts.proofs.Jobs.SessionsArePresent.{present_inside}
+use Rattle.sl_due_facts.proofs.Parts.CallsGrow.{any_more}
 use Rattle.sl_trace.specs.Counts.{stopper_of}
 use Rattle.sl_trace.specs.Jobs.{jobs_of_session}
 use Rattle.sl_plain.proofs.Lists.{contains_none, find_inside, kept_inside}
@@ -26,7 +26,7 @@ use Rattle.sl_trace.specs.declared.delta.DeltaNext.TheVariants.{Nothing, WriteFr
 use Rattle.sl_trace.specs.declared.delta.DeltaNext.{DeltaNext}
 use Rattle.sl_trace.specs.Sessions.{has_open_write, holders_of, holdings_of, is_joined, last_renewal, open_calls_of, present_sessions, recovery_of, refused_after, session_of_job, sessions}
 use Rattle.sl_trace.specs.declared.session.Session.{Session}
-use Rattle.sl_due_law.specs.Facts.Whole.{WholeTrace}
+use Rattle.sl_due_facts.specs.Facts.Whole.{WholeTrace}
 use Rattle.sl_trace.specs.Connections.{is_registered, unregisters}
 use Rattle.sl_trace.specs.Traces.{Job, Setting, Trace, is_before_input, is_running, jobs, next_child, next_job, running_jobs, waiting_call}
 use Rattle.sl_trace.specs.declared.effects.JobReply.{JobReply}

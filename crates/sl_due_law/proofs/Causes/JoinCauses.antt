@@ -8,24 +8,24 @@ use Rattle.sl_due_law.proofs.Causes.AnsweredJobs.{AnswersHere, answers_here, ran
 use Rattle.sl_due_law.proofs.Causes.LaterSteps.{AnyMove, MayAnswer, MayCall, by_effects}
 use Rattle.sl_due_law.proofs.Causes.Leases.Limits.{not_number}
 use Rattle.sl_due_law.proofs.Causes.PlainCauses.{fault_caused}
-use Rattle.sl_due_law.proofs.Connections.HeardCalls.{WasHeard, heard_before}
-use Rattle.sl_due_law.proofs.Connections.JoiningConnections.{working_unjoined}
-use Rattle.sl_due_law.proofs.Connections.JoiningDecisions.{heard_working}
-use Rattle.sl_due_law.proofs.Holdings.HoldingsByInputs.{filter_told}
-use Rattle.sl_due_law.proofs.Holdings.LeaseCallers.{heard_call}
-use Rattle.sl_due_law.proofs.Jobs.AnsweredCallsFit.{both_of}
-use Rattle.sl_due_law.proofs.Jobs.CallsHaveFacts.{find_mapped, sessions_bare}
-use Rattle.sl_due_law.proofs.Jobs.CallsOfJobsFit.{joining_of, list_all_inside}
-use Rattle.sl_due_law.proofs.Jobs.CallsStay.{IsLate, is_special, late_join}
-use Rattle.sl_due_law.proofs.Jobs.EffectsAreAllowed.{DeltaAllowed}
-use Rattle.sl_due_law.proofs.Jobs.JobsAreAllowed.{calls_heard}
-use Rattle.sl_due_law.proofs.Jobs.RepliesComeAfter.{IsLateDelta, on_bool}
-use Rattle.sl_due_law.proofs.Jobs.SessionsHaveJobs.{one_session}
-use Rattle.sl_due_law.proofs.Sessions.NamesAreAllowed.{heard_mine}
+use Rattle.sl_due_facts.proofs.Connections.HeardCalls.{WasHeard, heard_before}
+use Rattle.sl_due_facts.proofs.Connections.JoiningConnections.{working_unjoined}
+use Rattle.sl_due_facts.proofs.Connections.JoiningDecisions.{heard_working}
+use Rattle.sl_due_leases.proofs.Holdings.HoldingsByInputs.{filter_told}
+use Rattle.sl_due_leases.proofs.Holdings.LeaseCallers.{heard_call}
+use Rattle.sl_due_facts.proofs.Jobs.AnsweredCallsFit.{both_of}
+use Rattle.sl_due_facts.proofs.Jobs.CallsHaveFacts.{find_mapped, sessions_bare}
+use Rattle.sl_due_facts.proofs.Jobs.CallsOfJobsFit.{joining_of, list_all_inside}
+use Rattle.sl_due_facts.proofs.Jobs.CallsStay.{IsLate, is_special, late_join}
+use Rattle.sl_due_facts.proofs.Jobs.EffectsAreAllowed.{DeltaAllowed}
+use Rattle.sl_due_facts.proofs.Jobs.JobsAreAllowed.{calls_heard}
+use Rattle.sl_due_facts.proofs.Jobs.RepliesComeAfter.{IsLateDelta, on_bool}
+use Rattle.sl_due_facts.proofs.Jobs.SessionsHaveJobs.{one_session}
+use Rattle.sl_due_facts.proofs.Sessions.NamesAreAllowed.{heard_mine}
 use Rattle.sl_due_law.specs.Causes.CauseFacts.{CauseFacts}
 use Rattle.sl_due_law.specs.Causes.CausedSoFar.{IsCarried, IsConcluded, StaysCaused, answering}
-use Rattle.sl_due_law.specs.Facts.Whole.{WholeTrace}
-use Rattle.sl_due_law.specs.Holdings.Moments.{Known}
+use Rattle.sl_due_facts.specs.Facts.Whole.{WholeTrace}
+use Rattle.sl_due_leases.specs.Holdings.Moments.{Known}
 use Rattle.sl_run.specs.Caused.{Answering, CausedBy, JoinRead}
 use Rattle.sl_trace.specs.Leases.{lease_step}
 use Rattle.sl_plain.proofs.Lists.{contains_cases, contains_none, find_fails, find_inside, got_inside, kept, kept_inside}

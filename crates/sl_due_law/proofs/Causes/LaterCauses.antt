@@ -17,15 +17,15 @@ use Rattle.sl_due_law.proofs.Causes.Leases.PhaseCauses.{no_settling}
 use Rattle.sl_due_law.proofs.Causes.LinesAreWell.{all_pass}
 use Rattle.sl_due_law.proofs.Causes.NamesBefore.{session_then, with_session}
 use Rattle.sl_due_law.proofs.Causes.PlainCauses.{started_before}
-use Rattle.sl_due_law.proofs.Connections.HeardCalls.{heard_before}
-use Rattle.sl_due_law.proofs.Holdings.LeaseCallers.{heard_call}
-use Rattle.sl_due_law.proofs.Jobs.CallsStay.{IsLate}
-use Rattle.sl_due_law.proofs.Jobs.JobsAreNumbered.{command_stays, numbered_stays}
+use Rattle.sl_due_facts.proofs.Connections.HeardCalls.{heard_before}
+use Rattle.sl_due_leases.proofs.Holdings.LeaseCallers.{heard_call}
+use Rattle.sl_due_facts.proofs.Jobs.CallsStay.{IsLate}
+use Rattle.sl_due_facts.proofs.Jobs.JobsAreNumbered.{command_stays, numbered_stays}
 use Rattle.sl_due_law.specs.Causes.CauseFacts.{CauseFacts, EndedAsAsked, HasEnded, HoldsAsAsked, StandsBehind, StandsBehindRequest}
 use Rattle.sl_due_law.specs.Causes.CausedSoFar.{IsLater, StaysCaused, answering}
-use Rattle.sl_due_law.specs.Facts.JobFacts.{FitsCommand}
-use Rattle.sl_due_law.specs.Facts.Whole.{Whole, WholeTrace}
-use Rattle.sl_due_law.specs.Holdings.Moments.{Known}
+use Rattle.sl_due_facts.specs.Facts.JobFacts.{FitsCommand}
+use Rattle.sl_due_facts.specs.Facts.Whole.{Whole, WholeTrace}
+use Rattle.sl_due_leases.specs.Holdings.Moments.{Known}
 use Rattle.sl_run.specs.Caused.{Answering, AnswersCall, AnswersWrite, CausedBy, IsDoneFor, IsReleased, before_entry}
 use Rattle.sl_run.specs.LawfulEnd.{Converted, EndReason, Exited, Given_up, Not_started, Taken_over}
 use Rattle.sl_trace.specs.Jobs.{aim_of, aim_of_command, command_numbered, command_of, job_of_start, wanted_mode}

@@ -6,8 +6,8 @@ use Rattle.sl_due_law.specs.Causes.LineCauses.{AnswersAfter, AnswersAreCaused, A
 use Rattle.sl_due.specs.DueCommands.{decided}
 use Rattle.sl_due.specs.Steps.{seen}
 use Rattle.sl_due.specs.declared.decision.Decision.{Decision}
-use Rattle.sl_due_law.proofs.Holdings.PlainPlaces.{text_is}
-use Rattle.sl_due_law.proofs.Jobs.SessionsArePresent.{present_is}
+use Rattle.sl_due_leases.proofs.Holdings.PlainPlaces.{text_is}
+use Rattle.sl_due_facts.proofs.Jobs.SessionsArePresent.{present_is}
 use Rattle.sl_run.specs.Caused.{Answering, CausedBy, after_entry, before_entry, the_session}
 use Rattle.sl_trace.specs.Jobs.{lockspace_named}
 use Rattle.sl_plain.proofs.Lists.{find_inside}

@@ -9,8 +9,8 @@ use Rattle.sl_due_law.specs.Causes.LineCauses.{AtLine, LinesAreCaused, WellDecid
 use Rattle.sl_due.specs.DueCommands.{acquiring, busy_refusal, converting, decide_acquire, decide_convert, decide_holder, decide_orphan, decided, holding_of, joined_refusal, leave_refusal, limit_refusal, matching_session, orphan_refusal, pending_refusal, process_refusal, serving_orphan, session_refusal, setting_value, unless_refused, with_session as where_session}
 use Rattle.sl_due.specs.declared.decision.Decision.TheVariants.{ConvertsTo, GetsValue, GivesUp, Joins, Leaves, ReadsArea, Replies, Requests, SetsValue, Shares, TakesOver}
 use Rattle.sl_due.specs.declared.decision.Decision.{Decision}
-use Rattle.sl_due_law.proofs.Holdings.HoldingFactsBegin.{none_ended}
-use Rattle.sl_due_law.proofs.Holdings.LeaseConversions.{spot_is}
+use Rattle.sl_due_leases.proofs.Holdings.HoldingFactsBegin.{none_ended}
+use Rattle.sl_due_leases.proofs.Holdings.LeaseConversions.{spot_is}
 use Rattle.sl_run.specs.Caused.{Answering, CausedBy, IsDoneFor, IsGrantedFor, IsLimit, MeetsLimit, WithSession, WithSpot, after_entry, before_entry, is_holders_command, is_joining_command, is_orphan_command, is_taking_over, job_command, lockspace_arg, the_session}
 use Rattle.sl_trace.specs.Counts.{busy_process, holds_already, is_killpath_limit, limit_met, may_act, next_value_seq, other_holder, pending_call}
 use Rattle.sl_trace.specs.Jobs.{is_asking_lease, is_program, lockspace_named, process_named, resource_named, wanted_mode, wants_shared}

@@ -13,16 +13,16 @@ use Rattle.sl_due_law.proofs.Causes.LeavingsRefuse.{line_reads}
 use Rattle.sl_due_law.proofs.Causes.LinesAreWell.{line_done}
 use Rattle.sl_due_law.proofs.Causes.PlainMakings.{Adds, NoStart, PlainCall, adds, adds_nothing}
 use Rattle.sl_due_law.proofs.Causes.ToldProcesses.{carried_told, child_stays}
-use Rattle.sl_due_law.proofs.Grants.EndsAreLawful.{StandsAt, left_ending}
-use Rattle.sl_due_law.proofs.Grants.WorksByExits.{ran_on}
-use Rattle.sl_due_law.proofs.Jobs.CallsHaveFacts.{find_mapped}
-use Rattle.sl_due_law.proofs.Jobs.EffectsAreAllowed.{left}
-use Rattle.sl_due_law.proofs.Jobs.JobsAreNumbered.{found_before, next_before, numbered_stays}
-use Rattle.sl_due_law.proofs.Jobs.NearlyPlainActs.{AnyMove, Anything}
-use Rattle.sl_due_law.proofs.Jobs.QuietFactsAreKept.{loop_stops}
+use Rattle.sl_due_leases.proofs.Grants.EndsAreLawful.{StandsAt, left_ending}
+use Rattle.sl_due_leases.proofs.Grants.WorksByExits.{ran_on}
+use Rattle.sl_due_facts.proofs.Jobs.CallsHaveFacts.{find_mapped}
+use Rattle.sl_due_facts.proofs.Jobs.EffectsAreAllowed.{left}
+use Rattle.sl_due_facts.proofs.Jobs.JobsAreNumbered.{found_before, next_before, numbered_stays}
+use Rattle.sl_due_facts.proofs.Jobs.NearlyPlainActs.{AnyMove, Anything}
+use Rattle.sl_due_facts.proofs.Jobs.QuietFactsAreKept.{loop_stops}
 use Rattle.sl_due_law.specs.Causes.CauseFacts.{IsTold}
 use Rattle.sl_due_law.specs.Causes.LineCauses.{IsBeforeInput}
-use Rattle.sl_due_law.specs.Facts.Whole.{WholeTrace}
+use Rattle.sl_due_facts.specs.Facts.Whole.{WholeTrace}
 use Rattle.sl_trace.specs.Jobs.{child_of_job, is_command_that, is_job_of_process, process_named}
 use Rattle.sl_plain.proofs.Lists.{contains_none, find_inside, kept}
 use Rattle.sl_plain.proofs.Numbers.{number_itself}

@@ -7,15 +7,15 @@ use Rattle.sl_due.specs.Steps.{Step, add_call_of, add_end, add_reply, seen, with
 use Rattle.sl_due.specs.declared.decision.Decision.{Decision}
 use Rattle.sl_due.specs.declared.decision.Decision.TheVariants.{ConvertsTo, GetsValue, GivesUp, Joins, Leaves, ReadsArea, Replies, Requests, SetsValue, Shares, TakesOver}
 use Rattle.sl_due_law.proofs.Causes.PlainMakings.{Adds, NoStart, PlainCall, adds, adds_nothing, still_made}
-use Rattle.sl_due_law.proofs.Grants.NothingGranted.{stopped_grants}
-use Rattle.sl_due_law.proofs.Holdings.DecisionsHaveGrounds.{decisions_have_grounds}
-use Rattle.sl_due_law.proofs.Jobs.EffectsAreAllowed.{stopped}
-use Rattle.sl_due_law.proofs.Jobs.JobsAreNumbered.{next_before}
-use Rattle.sl_due_law.proofs.Jobs.NearlyPlainActs.{AnyMove, Anything}
-use Rattle.sl_due_law.proofs.Jobs.RepliesComeAfter.{mapped_or}
+use Rattle.sl_due_leases.proofs.Grants.NothingGranted.{stopped_grants}
+use Rattle.sl_due_leases.proofs.Holdings.DecisionsHaveGrounds.{decisions_have_grounds}
+use Rattle.sl_due_facts.proofs.Jobs.EffectsAreAllowed.{stopped}
+use Rattle.sl_due_facts.proofs.Jobs.JobsAreNumbered.{next_before}
+use Rattle.sl_due_facts.proofs.Jobs.NearlyPlainActs.{AnyMove, Anything}
+use Rattle.sl_due_facts.proofs.Jobs.RepliesComeAfter.{mapped_or}
 use Rattle.sl_due_law.specs.Causes.CauseFacts.{IsTold}
 use Rattle.sl_due_law.specs.Causes.Makings.{By_line, FromJob, GivenTo, MadeFor, MadeSoFar, Says, StartedFor}
-use Rattle.sl_due_law.specs.Holdings.DecisionGrounds.{HasGrounds}
+use Rattle.sl_due_leases.specs.Holdings.DecisionGrounds.{HasGrounds}
 use Rattle.sl_trace.specs.Counts.{next_value_seq}
 use Rattle.sl_trace.specs.Jobs.{process_named, wants_shared}
 use Rattle.sl_trace.specs.LeaseWork.{LeasePlace, convert_next, lease_place, release_next}

@@ -9,15 +9,15 @@ use Rattle.sl_due.specs.DueFirst.{begin_recoveries, begin_recovery, begins_now, 
 use Rattle.sl_due.specs.Steps.{Step, add_call_of, add_end, add_grant, add_move, add_reply, add_signal, add_start, begin_step, seen, with_input}
 use Rattle.sl_due.specs.declared.decision.Decision.{Decision}
 use Rattle.sl_due.specs.declared.decision.Decision.TheVariants.{ConvertsTo, GetsValue, GivesUp, Joins, Leaves, ReadsArea, Replies, Requests, SetsValue, Shares, TakesOver}
-use Rattle.sl_due_law.proofs.Jobs.CallsHaveFacts.{sessions_told}
-use Rattle.sl_due_law.proofs.Jobs.DecisionsFit.{DecisionFits, decisions_fit}
-use Rattle.sl_due_law.proofs.Jobs.EffectsAreAllowed.{DecisionAllowed, decision, stopped}
-use Rattle.sl_due_law.proofs.Jobs.JobFactsAreKept.{begun_sessions}
-use Rattle.sl_due_law.proofs.Jobs.LinesAreAllowed.{IsBegun}
-use Rattle.sl_due_law.proofs.Jobs.NearlyPlainActs.{AnyMove, AnyStart, Anything, Nearly, NoLook, decision_plain, nearly_acts}
-use Rattle.sl_due_law.proofs.Parts.CallsGrow.{same_sessions}
+use Rattle.sl_due_facts.proofs.Jobs.CallsHaveFacts.{sessions_told}
+use Rattle.sl_due_facts.proofs.Jobs.DecisionsFit.{DecisionFits, decisions_fit}
+use Rattle.sl_due_facts.proofs.Jobs.EffectsAreAllowed.{DecisionAllowed, decision, stopped}
+use Rattle.sl_due_facts.proofs.Jobs.JobFactsAreKept.{begun_sessions}
+use Rattle.sl_due_facts.proofs.Jobs.LinesAreAllowed.{IsBegun}
+use Rattle.sl_due_facts.proofs.Jobs.NearlyPlainActs.{AnyMove, AnyStart, Anything, Nearly, NoLook, decision_plain, nearly_acts}
+use Rattle.sl_due_facts.proofs.Parts.CallsGrow.{same_sessions}
 use Rattle.sl_due_law.specs.Causes.Makings.{LookedSoFar}
-use Rattle.sl_due_law.specs.Facts.Whole.{Whole}
+use Rattle.sl_due_facts.specs.Facts.Whole.{Whole}
 use Rattle.sl_plain.proofs.Lists.{contains_first, kept_inside}
 use Rattle.sl_trace.specs.Sessions.{calls_of, is_call_of, is_join_call, joining_session, present_sessions, recovery_of, sessions}
 use Rattle.sl_trace.specs.declared.session.Session.{Session}

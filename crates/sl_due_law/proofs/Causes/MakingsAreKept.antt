@@ -14,11 +14,11 @@ use Rattle.sl_due_law.proofs.Causes.AnswerMakings.{asked_made, led_made, settlin
 use Rattle.sl_due_law.proofs.Causes.LineMakings.{AtItsLine, Fresh, line_made}
 use Rattle.sl_due_law.proofs.Causes.PlainMakings.{Adds, NoStart, PlainCall, adds, adds_nothing, delta_plain, is_special_call, jobless_awake, jobless_ungranted, made_plain, seen_made, settling_plain, still_made}
 use Rattle.sl_due_law.proofs.Causes.ToldProcesses.{carried_told}
-use Rattle.sl_due_law.proofs.Grants.NothingGranted.{removed_grants, stopped_grants}
-use Rattle.sl_due_law.proofs.Grants.OrphansAreLawful.{Orphaning, left_orphans}
-use Rattle.sl_due_law.proofs.Holdings.MomentsAreKept.{delta_ungranting, no_grants, refused_alike, removal_alike, said_grants, same, sent_alike, signalled_alike}
-use Rattle.sl_due_law.proofs.Jobs.EffectsAreAllowed.{delta, ended, exited, lease, left, refusal, removal, removal_of_refused, said, sent, signalled, stopped}
-use Rattle.sl_due_law.proofs.Jobs.NearlyPlainActs.{AnyMove, Anything}
+use Rattle.sl_due_leases.proofs.Grants.NothingGranted.{removed_grants, stopped_grants}
+use Rattle.sl_due_leases.proofs.Grants.OrphansAreLawful.{Orphaning, left_orphans}
+use Rattle.sl_due_leases.proofs.Holdings.MomentsAreKept.{delta_ungranting, no_grants, refused_alike, removal_alike, said_grants, same, sent_alike, signalled_alike}
+use Rattle.sl_due_facts.proofs.Jobs.EffectsAreAllowed.{delta, ended, exited, lease, left, refusal, removal, removal_of_refused, said, sent, signalled, stopped}
+use Rattle.sl_due_facts.proofs.Jobs.NearlyPlainActs.{AnyMove, Anything}
 use Rattle.sl_due_law.specs.Causes.CauseFacts.{CauseFacts}
 use Rattle.sl_due_law.specs.Causes.Makings.{GivenTo, MadeFor, MadeSoFar, StartedFor}
 use Rattle.sl_due_law.specs.Whole.Kept.{Kept}

@@ -1,12 +1,12 @@
 -- Before a step's input, whatever it refused by then, a session that was joined has its name.
-use Rattle.sl_due_law.proofs.Holdings.PlainPlaces.{text_is}
-use Rattle.sl_due_law.proofs.Jobs.SessionsArePresent.{joined_present, present_inside, present_is}
+use Rattle.sl_due_leases.proofs.Holdings.PlainPlaces.{text_is}
+use Rattle.sl_due_facts.proofs.Jobs.SessionsArePresent.{joined_present, present_inside, present_is}
 use Rattle.sl_run.specs.Caused.{Answering, WithSession, before_entry, the_session}
 use Rattle.sl_trace.specs.Jobs.{lockspace_named}
 use Rattle.sl_plain.proofs.Lists.{find_fails, find_inside}
 use Rattle.sl_trace.specs.Sessions.{has_open_write, is_joined, is_present, joined_after, present_sessions, refused_after, removed_after, session_named, sessions}
 use Rattle.sl_trace.specs.declared.session.Session.{Session}
-use Rattle.sl_due_law.specs.Facts.Whole.{WholeTrace}
+use Rattle.sl_due_facts.specs.Facts.Whole.{WholeTrace}
 use Rattle.sl_trace.specs.Traces.{Setting, Trace, is_before_input, no_effects}
 use Rattle.sl_trace.specs.declared.command.Command.{Command}
 use Rattle.sl_trace.specs.declared.effects.Entry.{Entry}

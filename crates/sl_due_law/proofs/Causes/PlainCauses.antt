@@ -8,12 +8,12 @@ use Rattle.sl_due_law.specs.Causes.Promises.{LeavingsAreCaused}
 use Rattle.sl_due_law.specs.Causes.CausedSoFar.{StaysCaused, answering}
 use Rattle.sl_due.specs.DueRequests.{request_refusal, value_reply}
 use Rattle.sl_due.specs.Steps.{Step, seen, with_effects}
-use Rattle.sl_due_law.proofs.Holdings.LeaseCallers.{heard_call}
-use Rattle.sl_due_law.specs.Holdings.Moments.{Known}
-use Rattle.sl_due_law.proofs.Jobs.CallsHaveFacts.{find_mapped}
-use Rattle.sl_due_law.proofs.Jobs.CallsStay.{late}
-use Rattle.sl_due_law.proofs.Jobs.JobsAreNumbered.{found_before}
-use Rattle.sl_due_law.proofs.Jobs.EffectsAreAllowed.{DeltaAllowed}
+use Rattle.sl_due_leases.proofs.Holdings.LeaseCallers.{heard_call}
+use Rattle.sl_due_leases.specs.Holdings.Moments.{Known}
+use Rattle.sl_due_facts.proofs.Jobs.CallsHaveFacts.{find_mapped}
+use Rattle.sl_due_facts.proofs.Jobs.CallsStay.{late}
+use Rattle.sl_due_facts.proofs.Jobs.JobsAreNumbered.{found_before}
+use Rattle.sl_due_facts.proofs.Jobs.EffectsAreAllowed.{DeltaAllowed}
 use Rattle.sl_run.specs.Caused.{Answering, AnswersRead, CausedBy, IsDoneFor}
 use Rattle.sl_trace.specs.Jobs.{command_numbered, job_of_start}
 use Rattle.sl_trace.specs.Leases.{is_leader_of}
@@ -24,7 +24,7 @@ use Rattle.sl_sector.specs.declared.sector.Request.{Request as RequestRec}
 use Rattle.sl_sector.specs.declared.sector.ValueRec.{ValueRec}
 use Rattle.sl_trace.specs.Deltas.{next_after_free}
 use Rattle.sl_trace.specs.declared.session.Session.{Session}
-use Rattle.sl_due_law.specs.Facts.JobFacts.{FitsCommand}
+use Rattle.sl_due_facts.specs.Facts.JobFacts.{FitsCommand}
 use Rattle.sl_trace.specs.Traces.{Child, Submitted, child_after, child_numbered, children, is_expected, is_starting, job_of, new_child, submitted}
 use Rattle.sl_trace.specs.declared.command.Command.TheVariants.{RemLockspace, Request}
 use Rattle.sl_trace.specs.declared.command.Command.{Command}

@@ -5,7 +5,7 @@ use Rattle.sl_due_law.specs.Causes.LineCauses.{DecisionsOverlook, stirred_entry}
 use Rattle.sl_due.specs.DueCommands.{acquiring, busy_refusal, converting, decided, holding_of, joined_refusal, leave_refusal, limit_refusal, orphan_refusal, pending_refusal, process_refusal, serving_orphan, session_refusal, setting_value, unless_refused, with_session as where_session}
 use Rattle.sl_due.specs.declared.decision.Decision.TheVariants.{GetsValue, GivesUp, Joins, Leaves, Replies, Requests, TakesOver}
 use Rattle.sl_due.specs.declared.decision.Decision.{Decision}
-use Rattle.sl_due_law.proofs.Jobs.SessionsArePresent.{present_is}
+use Rattle.sl_due_facts.proofs.Jobs.SessionsArePresent.{present_is}
 use Rattle.sl_trace.specs.Counts.{child_count, holder_count, holds_already, next_value_seq, other_holder, resource_count}
 use Rattle.sl_trace.specs.Jobs.{wanted_mode}
 use Rattle.sl_trace.specs.Leases.{lease_spots, spot_of}

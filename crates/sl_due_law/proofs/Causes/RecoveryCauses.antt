@@ -4,9 +4,9 @@ use Rattle.sl_due_law.proofs.Causes.LaterSteps.{Going, before_later}
 use Rattle.sl_due_law.proofs.Causes.NamesBefore.{session_then, with_session}
 use Rattle.sl_due_law.specs.Causes.CausedSoFar.{IsLater, StaysCaused, answering}
 use Rattle.sl_due.specs.Steps.{Step, seen}
-use Rattle.sl_due_law.proofs.Holdings.PlainPlaces.{text_is}
-use Rattle.sl_due_law.proofs.Jobs.JobsAreNumbered.{command_read, found_after, numbered_stays}
-use Rattle.sl_due_law.proofs.Jobs.JobsAreNumbered.{next_is_new}
+use Rattle.sl_due_leases.proofs.Holdings.PlainPlaces.{text_is}
+use Rattle.sl_due_facts.proofs.Jobs.JobsAreNumbered.{command_read, found_after, numbered_stays}
+use Rattle.sl_due_facts.proofs.Jobs.JobsAreNumbered.{next_is_new}
 use Rattle.sl_run.specs.Caused.{Answering, CausedBy, after_entry, before_entry}
 use Rattle.sl_trace.specs.Jobs.{command_of, is_command_that, jobs_of_session, lockspace_named}
 use Rattle.sl_plain.proofs.Lists.{contains_cases, contains_none, kept_inside}
@@ -15,7 +15,7 @@ use Rattle.sl_trace.specs.Sessions.{has_open_write, is_active, is_joined, is_pre
 use Rattle.sl_trace.specs.declared.session.Begun.{Begun}
 use Rattle.sl_trace.specs.declared.session.Renewing.{Renewing}
 use Rattle.sl_trace.specs.declared.session.Session.{Session}
-use Rattle.sl_due_law.specs.Facts.Whole.{WholeTrace}
+use Rattle.sl_due_facts.specs.Facts.Whole.{WholeTrace}
 use Rattle.sl_time.specs.Times.{fail}
 use Rattle.sl_trace.specs.Traces.{Job, Setting, Trace, is_running, job_in, job_numbered, jobs, line_in, next_job, no_effects, running_jobs}
 use Rattle.sl_trace.specs.declared.command.Command.{Command}

@@ -11,12 +11,12 @@ use Rattle.sl_due_law.proofs.Causes.AtOnceAreCaused.{Spares}
 use Rattle.sl_due_law.proofs.Causes.HeadsAreEarly.{last_is_silent}
 use Rattle.sl_due_law.proofs.Causes.LeavingsRefuse.{Says, releasing}
 use Rattle.sl_due_law.proofs.Causes.LineComes.{At_once, Carried, LineComes, LineTakes, line_comes, line_takes}
-use Rattle.sl_due_law.proofs.Grants.Values.NothingIsTold.{replied_stops}
-use Rattle.sl_due_law.proofs.Holdings.DecisionsHaveGrounds.{decisions_have_grounds}
-use Rattle.sl_due_law.proofs.Jobs.JobFactsGrow.{contains_right}
+use Rattle.sl_due_leases.proofs.Grants.Values.NothingIsTold.{replied_stops}
+use Rattle.sl_due_leases.proofs.Holdings.DecisionsHaveGrounds.{decisions_have_grounds}
+use Rattle.sl_due_facts.proofs.Jobs.JobFactsGrow.{contains_right}
 use Rattle.sl_due_law.specs.Causes.CauseFacts.{EndedAsAsked, HasEnded}
-use Rattle.sl_due_law.specs.Facts.Whole.{WholeTrace}
-use Rattle.sl_due_law.specs.Holdings.DecisionGrounds.{GiveUpGrounds, HasGrounds, Releases}
+use Rattle.sl_due_facts.specs.Facts.Whole.{WholeTrace}
+use Rattle.sl_due_leases.specs.Holdings.DecisionGrounds.{GiveUpGrounds, HasGrounds, Releases}
 use Rattle.sl_trace.specs.Ballots.{moded_block}
 use Rattle.sl_trace.specs.LeaseWork.{LeasePlace, lease_place, release_next}
 use Rattle.sl_trace.specs.Leases.{LeaseKnown, holdings_on, known, spot_of}

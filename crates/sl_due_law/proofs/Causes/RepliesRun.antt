@@ -15,16 +15,16 @@ use Rattle.sl_due.specs.DueRequests.{after_request_read, after_value_read, bits_
 use Rattle.sl_due.specs.Steps.{Step, with_some, add_end, add_grant, add_move, add_reply, begin_step, for_each, seen, with_input}
 use Rattle.sl_due.specs.declared.decision.Decision.TheVariants.{ConvertsTo, GetsValue, GivesUp, Joins, Leaves, ReadsArea, Replies, Requests, SetsValue, Shares, TakesOver}
 use Rattle.sl_due.specs.declared.decision.Decision.{Decision}
-use Rattle.sl_due_law.proofs.Holdings.LeaseCallers.{heard_call}
-use Rattle.sl_due_law.specs.Holdings.Moments.{Known}
-use Rattle.sl_due_law.proofs.Jobs.AnsweredCallsFit.{both_of}
-use Rattle.sl_due_law.proofs.Jobs.CallsOfJobsFit.{joining_of}
-use Rattle.sl_due_law.proofs.Jobs.EffectsAreAllowed.{Allows, ReadAllowed, left, reads, removal, removal_of_refused, sent, signalled}
-use Rattle.sl_due_law.proofs.Jobs.JobFactsGrow.{running_more}
-use Rattle.sl_due_law.proofs.Jobs.JobsAreAllowed.{caller_numbered, numbered_of, runner_numbered, starter_numbered}
-use Rattle.sl_due_law.proofs.Jobs.JobsAreNumbered.{below, next_is_new, numbered_seen}
-use Rattle.sl_due_law.proofs.Jobs.LinesAreAllowed.{new_numbered}
-use Rattle.sl_due_law.proofs.Jobs.RepliesComeAfter.{IsLateDelta, joining_late, wake_late}
+use Rattle.sl_due_leases.proofs.Holdings.LeaseCallers.{heard_call}
+use Rattle.sl_due_leases.specs.Holdings.Moments.{Known}
+use Rattle.sl_due_facts.proofs.Jobs.AnsweredCallsFit.{both_of}
+use Rattle.sl_due_facts.proofs.Jobs.CallsOfJobsFit.{joining_of}
+use Rattle.sl_due_facts.proofs.Jobs.EffectsAreAllowed.{Allows, ReadAllowed, left, reads, removal, removal_of_refused, sent, signalled}
+use Rattle.sl_due_facts.proofs.Jobs.JobFactsGrow.{running_more}
+use Rattle.sl_due_facts.proofs.Jobs.JobsAreAllowed.{caller_numbered, numbered_of, runner_numbered, starter_numbered}
+use Rattle.sl_due_facts.proofs.Jobs.JobsAreNumbered.{below, next_is_new, numbered_seen}
+use Rattle.sl_due_facts.proofs.Jobs.LinesAreAllowed.{new_numbered}
+use Rattle.sl_due_facts.proofs.Jobs.RepliesComeAfter.{IsLateDelta, joining_late, wake_late}
 use Rattle.sl_trace.specs.Jobs.{command_numbered, is_command_that, is_job_of_process, job_of_start, jobs_of_session, lockspace_named, process_named}
 use Rattle.sl_trace.specs.LeaseWork.{convert_next, lease_place, release_next, settle_next}
 use Rattle.sl_trace.specs.Leases.{holdings_on, known, spot_of, spot_of_call}
@@ -40,7 +40,7 @@ use Rattle.sl_trace.specs.declared.delta.DeltaNext.TheVariants.{Disconnect, EndL
 use Rattle.sl_trace.specs.declared.delta.DeltaNext.{DeltaNext}
 use Rattle.sl_trace.specs.Connections.{is_registered}
 use Rattle.sl_trace.specs.declared.session.Session.{Session}
-use Rattle.sl_due_law.specs.Facts.Whole.{Whole}
+use Rattle.sl_due_facts.specs.Facts.Whole.{Whole}
 use Rattle.sl_trace.specs.Traces.{Job, Replied, is_of_job, outstanding, submitted, waiting_call, Setting, Submitted, Trace, end_of, holdings, is_running, job_numbered, job_of, jobs, line_in, next_job, reply_to, running_jobs, spot_of_grant, work_job}
 use Rattle.sl_trace.specs.declared.command.Command.TheVariants.{Acquire, AddLockspace, Convert, GetLvb, HostStatus, InqLockspace, Release, ReleaseOrphan, RemLockspace, Request, RunProgram, SetKillpath, SetLvb, Status, TakeOver}
 use Rattle.sl_trace.specs.declared.command.Command.{Command}

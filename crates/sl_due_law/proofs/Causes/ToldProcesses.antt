@@ -3,9 +3,9 @@ use Rattle.sl_due.specs.DueCommands.{acquiring, busy_refusal, converting, decide
 use Rattle.sl_due.specs.Steps.{Step, seen}
 use Rattle.sl_due.specs.declared.decision.Decision.{Decision}
 use Rattle.sl_due.specs.declared.decision.Decision.TheVariants.{GetsValue, GivesUp, Replies, TakesOver}
-use Rattle.sl_due_law.proofs.Holdings.DecisionsHaveGrounds.{acts}
-use Rattle.sl_due_law.proofs.Jobs.CallsHaveFacts.{find_mapped}
-use Rattle.sl_due_law.proofs.Jobs.JobsAreNumbered.{found_after, found_before}
+use Rattle.sl_due_leases.proofs.Holdings.DecisionsHaveGrounds.{acts}
+use Rattle.sl_due_facts.proofs.Jobs.CallsHaveFacts.{find_mapped}
+use Rattle.sl_due_facts.proofs.Jobs.JobsAreNumbered.{found_after, found_before}
 use Rattle.sl_due_law.specs.Causes.CauseFacts.{IsTold}
 use Rattle.sl_trace.specs.Counts.{holds_already, is_killpath_limit, may_act, next_value_seq, other_holder}
 use Rattle.sl_trace.specs.Jobs.{process_named, wanted_mode}

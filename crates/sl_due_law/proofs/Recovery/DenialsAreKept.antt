@@ -8,11 +8,11 @@ use Rattle.sl_due.specs.DueRequests.{bits_due}
 use Rattle.sl_due.specs.Steps.{Step, add_reply, add_signal, begin_step, seen, with_input}
 use Rattle.sl_due.specs.declared.decision.Decision.{Decision}
 use Rattle.sl_due.specs.declared.decision.Decision.TheVariants.{ConvertsTo, GetsValue, GivesUp, Joins, Leaves, ReadsArea, Replies, Requests, SetsValue, Shares, TakesOver}
-use Rattle.sl_due_law.proofs.Jobs.EffectsAreAllowed.{Allows, DecisionAllowed, DeltaAllowed, LeaseAllowed, ReadAllowed, decision, delta, exited, lease, left, refusal, removal, signalled}
-use Rattle.sl_due_law.proofs.Jobs.LinesAreAllowed.{IsBegun}
-use Rattle.sl_due_law.proofs.Jobs.NearlyPlainActs.{AnyMove, AnyStart, Anything, Nearly, NoLook, decision_plain, nearly_acts}
-use Rattle.sl_due_law.proofs.Jobs.RepliesComeAfter.{on_bool, on_option}
-use Rattle.sl_due_law.specs.Jobs.Promises.{BeginsWith}
+use Rattle.sl_due_facts.proofs.Jobs.EffectsAreAllowed.{Allows, DecisionAllowed, DeltaAllowed, LeaseAllowed, ReadAllowed, decision, delta, exited, lease, left, refusal, removal, signalled}
+use Rattle.sl_due_facts.proofs.Jobs.LinesAreAllowed.{IsBegun}
+use Rattle.sl_due_facts.proofs.Jobs.NearlyPlainActs.{AnyMove, AnyStart, Anything, Nearly, NoLook, decision_plain, nearly_acts}
+use Rattle.sl_due_facts.proofs.Jobs.RepliesComeAfter.{on_bool, on_option}
+use Rattle.sl_due_facts.specs.Jobs.Promises.{BeginsWith}
 use Rattle.sl_trace.specs.Jobs.{job_of_start}
 use Rattle.sl_trace.specs.LeaseWork.{lease_place, settle_next}
 use Rattle.sl_trace.specs.Leases.{known}

@@ -8,13 +8,13 @@ use Rattle.sl_due.specs.DueDelta.{carry_delta}
 use Rattle.sl_due.specs.DueFirst.{remove_connection}
 use Rattle.sl_due.specs.DueWake.{end_if_done, finish, finish_session, free_if_done}
 use Rattle.sl_due.specs.Steps.{Step, add_call_of, add_move, add_reply, for_each, seen, when}
-use Rattle.sl_due_law.proofs.Jobs.CallsHaveFacts.{find_mapped}
-use Rattle.sl_due_law.proofs.Jobs.JobsAreNumbered.{found_before}
-use Rattle.sl_due_law.proofs.Jobs.RepliesComeAfter.{on_bool, on_option}
-use Rattle.sl_due_law.proofs.Jobs.SessionsArePresent.{joined_present, present_inside}
-use Rattle.sl_due_law.proofs.Jobs.SessionsStand.{joined_then, move_joined, reply_joined}
-use Rattle.sl_due_law.proofs.Parts.EffectsAreTold.{effects_are_told}
-use Rattle.sl_due_law.proofs.Parts.JoinedCallsKeepOrder.{joined_is_covered}
+use Rattle.sl_due_facts.proofs.Jobs.CallsHaveFacts.{find_mapped}
+use Rattle.sl_due_facts.proofs.Jobs.JobsAreNumbered.{found_before}
+use Rattle.sl_due_facts.proofs.Jobs.RepliesComeAfter.{on_bool, on_option}
+use Rattle.sl_due_facts.proofs.Jobs.SessionsArePresent.{joined_present, present_inside}
+use Rattle.sl_due_facts.proofs.Jobs.SessionsStand.{joined_then, move_joined, reply_joined}
+use Rattle.sl_due_facts.proofs.Parts.EffectsAreTold.{effects_are_told}
+use Rattle.sl_due_facts.proofs.Parts.JoinedCallsKeepOrder.{joined_is_covered}
 use Rattle.sl_plain.proofs.Lists.{contains_cases, contains_none, find_fails, find_inside, kept}
 use Rattle.sl_plain.proofs.Options.{some_there}
 use Rattle.sl_due_law.proofs.Recovery.RecoveriesStart.{removed_is_not}
@@ -28,7 +28,7 @@ use Rattle.sl_trace.specs.declared.delta.DeltaKnown.{DeltaKnown}
 use Rattle.sl_trace.specs.declared.delta.DeltaNext.{DeltaNext}
 use Rattle.sl_trace.specs.declared.delta.DeltaNext.TheVariants.{Disconnect, EndLeaving, Join, MoveConnection, Nothing, ReadOwn, RefuseJoin, RegisterAndRead, WriteClaim, WriteFirst, WriteFree, WriteRenewal}
 use Rattle.sl_trace.specs.declared.session.Session.{Session}
-use Rattle.sl_due_law.specs.Facts.SessionFacts.{ConnectionFacts}
+use Rattle.sl_due_facts.specs.Facts.SessionFacts.{ConnectionFacts}
 use Rattle.sl_trace.specs.Connections.{Connection, after_move, connection_named, connections, is_registered, renewed_connection, unregisters}
 use Rattle.sl_trace.specs.Traces.{Setting, Submitted, Trace, is_write, next_call, unanswered}
 use Rattle.sl_trace.specs.declared.effects.Call.{Call}

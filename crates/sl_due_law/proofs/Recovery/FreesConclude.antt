@@ -11,12 +11,12 @@ use Rattle.sl_due.specs.DueFirst.{remove_connection, remove_of_refused, send, si
 use Rattle.sl_due.specs.DueLease.{carry_lease, next_of_lease}
 use Rattle.sl_due.specs.DueRequests.{after_request_read, after_value_read, value_reply}
 use Rattle.sl_due.specs.Steps.{Step, add_call_of, add_end, add_grant, add_move, add_reply, add_signal, add_start, seen, when, with_input}
-use Rattle.sl_due_law.proofs.Jobs.EffectsAreAllowed.{delta, lease, removal, removal_of_refused, requested, sent, stopped}
-use Rattle.sl_due_law.proofs.Jobs.JobsAreAllowed.{calls_heard}
-use Rattle.sl_due_law.proofs.Jobs.NearlyPlainActs.{AnyMove, AnyStart, Anything, Nearly, NoLook, free_plain, joining_plain, lease_plain, renewed_plain, request_plain}
-use Rattle.sl_due_law.proofs.Jobs.RepliesComeAfter.{joining_late}
-use Rattle.sl_due_law.proofs.Jobs.SessionsArePresent.{joined_present, session_has}
-use Rattle.sl_due_law.proofs.Jobs.SessionsStand.{joined_then, reply_joined}
+use Rattle.sl_due_facts.proofs.Jobs.EffectsAreAllowed.{delta, lease, removal, removal_of_refused, requested, sent, stopped}
+use Rattle.sl_due_facts.proofs.Jobs.JobsAreAllowed.{calls_heard}
+use Rattle.sl_due_facts.proofs.Jobs.NearlyPlainActs.{AnyMove, AnyStart, Anything, Nearly, NoLook, free_plain, joining_plain, lease_plain, renewed_plain, request_plain}
+use Rattle.sl_due_facts.proofs.Jobs.RepliesComeAfter.{joining_late}
+use Rattle.sl_due_facts.proofs.Jobs.SessionsArePresent.{joined_present, session_has}
+use Rattle.sl_due_facts.proofs.Jobs.SessionsStand.{joined_then, reply_joined}
 use Rattle.sl_run.specs.LawfulDelta.{LawfulDeltaCall, LawfulFree}
 use Rattle.sl_trace.specs.Leases.{spot_of_call}
 use Rattle.sl_trace.specs.declared.lease.LeaseNext.{LeaseNext}
@@ -34,9 +34,9 @@ use Rattle.sl_trace.specs.Deltas.{delta_known, delta_of_session, delta_record, n
 use Rattle.sl_trace.specs.Sessions.{calls_of, delta_of_record, generation_of, is_call_of, is_free_purpose, is_joined, is_present, last_seq, recovery_of, session_numbered, sessions}
 use Rattle.sl_trace.specs.declared.delta.DeltaNext.{DeltaNext}
 use Rattle.sl_trace.specs.declared.session.Session.{Session}
-use Rattle.sl_due_law.specs.Facts.Concluding.{Concludes}
-use Rattle.sl_due_law.specs.Facts.Heard.{heard_by}
-use Rattle.sl_due_law.specs.Facts.Whole.{Whole}
+use Rattle.sl_due_facts.specs.Facts.Concluding.{Concludes}
+use Rattle.sl_due_facts.specs.Facts.Heard.{heard_by}
+use Rattle.sl_due_facts.specs.Facts.Whole.{Whole}
 use Rattle.sl_trace.specs.Connections.{is_registered, unregisters}
 use Rattle.sl_trace.specs.Traces.{Setting, Submitted, answered_in, call_numbered, is_answer_for, is_expected, is_running, mark, outstanding, record_of, submitted}
 use Rattle.sl_trace.specs.declared.effects.Call.{Call}

@@ -2,8 +2,8 @@
 use Rattle.sl_acts.specs.SoFar.{entry_of}
 use Rattle.sl_due.specs.DueFirst.{signal_and_refuse}
 use Rattle.sl_due.specs.Steps.{Step, seen}
-use Rattle.sl_due_law.proofs.Jobs.JobFactsGrow.{contains_left}
-use Rattle.sl_due_law.proofs.Jobs.QuietEffects.{names_it}
+use Rattle.sl_due_facts.proofs.Jobs.JobFactsGrow.{contains_left}
+use Rattle.sl_due_facts.proofs.Jobs.QuietEffects.{names_it}
 use Rattle.sl_run.specs.LawfulRecovery.{StopsSession}
 use Rattle.sl_trace.specs.Jobs.{is_command_that, jobs_of_session}
 use Rattle.sl_plain.proofs.Lists.{find_inside, kept, kept_inside}

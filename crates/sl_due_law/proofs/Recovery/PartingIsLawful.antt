@@ -3,11 +3,11 @@
 use Rattle.sl_acts.proofs.Additions.{contains_at}
 use Rattle.sl_acts.specs.SoFar.{entry_of}
 use Rattle.sl_due.specs.Steps.{Step, seen}
-use Rattle.sl_due_law.proofs.Jobs.CallsHaveFacts.{find_mapped}
-use Rattle.sl_due_law.proofs.Jobs.QuietEffects.{is_recovering_parts}
-use Rattle.sl_due_law.proofs.Jobs.QuietLines.{active_parts}
-use Rattle.sl_due_law.proofs.Jobs.SessionsArePresent.{joined_present, session_has}
-use Rattle.sl_due_law.proofs.Jobs.SessionsStand.{joined_then}
+use Rattle.sl_due_facts.proofs.Jobs.CallsHaveFacts.{find_mapped}
+use Rattle.sl_due_facts.proofs.Jobs.QuietEffects.{is_recovering_parts}
+use Rattle.sl_due_facts.proofs.Jobs.QuietLines.{active_parts}
+use Rattle.sl_due_facts.proofs.Jobs.SessionsArePresent.{joined_present, session_has}
+use Rattle.sl_due_facts.proofs.Jobs.SessionsStand.{joined_then}
 use Rattle.sl_run.specs.LawfulArea.{LawfulArea, is_area_work, is_delta_record}
 use Rattle.sl_run.specs.LawfulDelta.{LawfulDelta, LawfulDeltaCall, LawfulJoinStep}
 use Rattle.sl_run.specs.LawfulParting.{LawfulParting, MayPart, is_leaving_write}
@@ -24,7 +24,7 @@ use Rattle.sl_trace.specs.Sessions.{calls_of, delta_of_record, free_write, is_ac
 use Rattle.sl_trace.specs.declared.session.Session.{Session}
 use Rattle.sl_trace.specs.declared.stage.Stage.{Stage}
 use Rattle.sl_trace.specs.declared.stage.Stage.TheVariants.{Ended, Freeing, Refused, Standing}
-use Rattle.sl_due_law.specs.Facts.CallFacts.{CallFacts}
+use Rattle.sl_due_facts.specs.Facts.CallFacts.{CallFacts}
 use Rattle.sl_trace.specs.Connections.{unregisters}
 use Rattle.sl_trace.specs.Traces.{FollowsTrace, Setting, Submitted, Trace, answer_of, answered_in, call_numbered, is_answer_for, is_expected, is_write, mark, new_call, outstanding, record_of, submitted}
 use Rattle.sl_trace.specs.declared.effects.Call.{Call}

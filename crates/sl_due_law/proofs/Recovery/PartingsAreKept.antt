@@ -13,19 +13,19 @@ use Rattle.sl_due.specs.DueRequests.{after_value_read, bits_due, value_reply}
 use Rattle.sl_due.specs.Steps.{Step, add_call_of, add_end, add_grant, add_move, add_reply, add_signal, add_start, begin_step, seen, with_input}
 use Rattle.sl_due.specs.declared.decision.Decision.{Decision}
 use Rattle.sl_due.specs.declared.decision.Decision.TheVariants.{ConvertsTo, GetsValue, GivesUp, Joins, Leaves, ReadsArea, Replies, Requests, SetsValue, Shares, TakesOver}
-use Rattle.sl_due_law.proofs.Holdings.HoldersSpared.{IsJoining, joined_some, joining}
-use Rattle.sl_due_law.proofs.Holdings.HoldingFactsAreKept.{writer_of}
-use Rattle.sl_due_law.specs.Holdings.Moments.{Known}
-use Rattle.sl_due_law.proofs.Jobs.AnsweredCallsFit.{both_of}
-use Rattle.sl_due_law.proofs.Jobs.CallsHaveFacts.{find_mapped, timely}
-use Rattle.sl_due_law.proofs.Jobs.CallsOfJobsFit.{joining_of}
-use Rattle.sl_due_law.proofs.Jobs.EffectsAreAllowed.{Allows, DecisionAllowed, DeltaAllowed, decision, delta, ended, exited, lease, left, refusal, removal, requested, said, sent, signalled, stopped}
-use Rattle.sl_due_law.proofs.Jobs.JobsAreAllowed.{calls_heard}
-use Rattle.sl_due_law.proofs.Jobs.LinesAreAllowed.{IsBegun}
-use Rattle.sl_due_law.proofs.Jobs.NearlyPlainActs.{AnyStart, Anything, NoLook, decision_plain, lease_plain, request_plain}
-use Rattle.sl_due_law.proofs.Jobs.RepliesComeAfter.{IsLateDelta, joining_late, on_bool, on_option, wake_late}
-use Rattle.sl_due_law.proofs.Jobs.SessionsArePresent.{joined_present, present_inside}
-use Rattle.sl_due_law.specs.Jobs.Promises.{BeginsWith}
+use Rattle.sl_due_leases.proofs.Holdings.HoldersSpared.{IsJoining, joined_some, joining}
+use Rattle.sl_due_leases.proofs.Holdings.HoldingFactsAreKept.{writer_of}
+use Rattle.sl_due_leases.specs.Holdings.Moments.{Known}
+use Rattle.sl_due_facts.proofs.Jobs.AnsweredCallsFit.{both_of}
+use Rattle.sl_due_facts.proofs.Jobs.CallsHaveFacts.{find_mapped, timely}
+use Rattle.sl_due_facts.proofs.Jobs.CallsOfJobsFit.{joining_of}
+use Rattle.sl_due_facts.proofs.Jobs.EffectsAreAllowed.{Allows, DecisionAllowed, DeltaAllowed, decision, delta, ended, exited, lease, left, refusal, removal, requested, said, sent, signalled, stopped}
+use Rattle.sl_due_facts.proofs.Jobs.JobsAreAllowed.{calls_heard}
+use Rattle.sl_due_facts.proofs.Jobs.LinesAreAllowed.{IsBegun}
+use Rattle.sl_due_facts.proofs.Jobs.NearlyPlainActs.{AnyStart, Anything, NoLook, decision_plain, lease_plain, request_plain}
+use Rattle.sl_due_facts.proofs.Jobs.RepliesComeAfter.{IsLateDelta, joining_late, on_bool, on_option, wake_late}
+use Rattle.sl_due_facts.proofs.Jobs.SessionsArePresent.{joined_present, present_inside}
+use Rattle.sl_due_facts.specs.Jobs.Promises.{BeginsWith}
 use Rattle.sl_trace.specs.Jobs.{job_of_start}
 use Rattle.sl_trace.specs.LeaseWork.{lease_place, settle_next}
 use Rattle.sl_trace.specs.Leases.{known, spot_of_call}
@@ -40,15 +40,15 @@ use Rattle.sl_due_law.proofs.Recovery.StopsConclude.{old_session, unfreed_on_wak
 use Rattle.sl_due_law.specs.Recovery.Stops.{FreeTold, Partings}
 use Rattle.sl_sector.specs.Bitmaps.{no_bits}
 use Rattle.sl_sector.specs.declared.sector.DeltaState.TheVariants.{Free, Live}
-use Rattle.sl_due_law.proofs.Sessions.DeltaConditions.{heard_at}
-use Rattle.sl_due_law.proofs.Sessions.NamesAreAllowed.{caller_joined}
+use Rattle.sl_due_facts.proofs.Sessions.DeltaConditions.{heard_at}
+use Rattle.sl_due_facts.proofs.Sessions.NamesAreAllowed.{caller_joined}
 use Rattle.sl_trace.specs.Deltas.{DeltaLease, delta_known, delta_of_session, delta_record, is_renewal_due, next_after_free, next_after_renewal, next_free, next_in_joining, next_on_wake, next_renewal}
 use Rattle.sl_trace.specs.Sessions.{calls_of, generation_of, has_open_write, is_call_of, is_free_purpose, is_joined, joined_after, recovery_of, refused_after, removed_after, session_of_job, sessions}
 use Rattle.sl_trace.specs.declared.delta.DeltaKnown.{DeltaKnown}
 use Rattle.sl_trace.specs.declared.delta.DeltaNext.{DeltaNext}
 use Rattle.sl_trace.specs.declared.delta.DeltaNext.TheVariants.{Disconnect, EndLeaving, Join, MoveConnection, Nothing, ReadOwn, RefuseJoin, RegisterAndRead, WriteClaim, WriteFirst, WriteFree, WriteRenewal}
 use Rattle.sl_trace.specs.declared.session.Session.{Session}
-use Rattle.sl_due_law.specs.Facts.Whole.{Whole}
+use Rattle.sl_due_facts.specs.Facts.Whole.{Whole}
 use Rattle.sl_trace.specs.Connections.{unregisters}
 use Rattle.sl_trace.specs.Traces.{Answered, Submitted, answered_in, is_running, next_job, submitted}
 use Rattle.sl_trace.specs.declared.command.Command.{Command}

@@ -14,9 +14,9 @@ use Rattle.sl_due.specs.DueFirst.{begin_recoveries, kill_holders, kills, kills_h
 use Rattle.sl_due.specs.DueInputs.{end_holdings, on_spawned, take_input, when_running}
 use Rattle.sl_due.specs.DueWake.{is_wake, on_wake}
 use Rattle.sl_due.specs.Steps.{Step, add_end, add_reply, add_signal, begin_step, for_each, seen, when, with_input, with_some}
-use Rattle.sl_due_law.proofs.Jobs.CallsHaveFacts.{find_mapped}
-use Rattle.sl_due_law.proofs.Jobs.JobFactsGrow.{contains_left, contains_right}
-use Rattle.sl_due_law.proofs.Jobs.JobsAreNumbered.{found_before}
+use Rattle.sl_due_facts.proofs.Jobs.CallsHaveFacts.{find_mapped}
+use Rattle.sl_due_facts.proofs.Jobs.JobFactsGrow.{contains_left, contains_right}
+use Rattle.sl_due_facts.proofs.Jobs.JobsAreNumbered.{found_before}
 use Rattle.sl_trace.specs.Jobs.{job_of_start}
 use Rattle.sl_plain.proofs.Lists.{contains_cases, contains_first, contains_none}
 use Rattle.sl_plain.proofs.Options.{then_value}

@@ -1,6 +1,6 @@
 -- Where a recovery and a leaving began: in an entry before, or in this one; a recovery by time or by a read.
-use Rattle.sl_due_law.proofs.Jobs.SessionsHaveJobs.{left_in}
-use Rattle.sl_due_law.proofs.Jobs.SessionsStand.{joined_then}
+use Rattle.sl_due_facts.proofs.Jobs.SessionsHaveJobs.{left_in}
+use Rattle.sl_due_facts.proofs.Jobs.SessionsStand.{joined_then}
 use Rattle.sl_plain.proofs.Options.{none_is, some_there}
 use Rattle.sl_trace.specs.Sessions.{is_joined, joined_after, leaving_in, leaving_job, recovers, recovery_of, removed_after, renewed_by, renewing, renewing_after, shows_other}
 use Rattle.sl_trace.specs.declared.session.Begun.{Begun}

@@ -9,12 +9,12 @@ use Rattle.sl_due.specs.Due.{IsDue, after_input, before_input, due, due_step}
 use Rattle.sl_due.specs.DueCommands.{carry_decision}
 use Rattle.sl_due.specs.DueFirst.{begin_recoveries, is_kill_due, kills}
 use Rattle.sl_due.specs.Steps.{Step, begin_step, seen}
-use Rattle.sl_due_law.proofs.Jobs.CallsHaveFacts.{find_mapped, timely}
-use Rattle.sl_due_law.proofs.Jobs.EffectsAreAllowed.{sent}
-use Rattle.sl_due_law.proofs.Jobs.JobFactsGrow.{contains_left}
-use Rattle.sl_due_law.proofs.Jobs.QuietEffects.{recovery_told}
-use Rattle.sl_due_law.proofs.Jobs.SessionsArePresent.{joined_present, present_inside, session_has}
-use Rattle.sl_due_law.proofs.Jobs.SessionsHaveJobs.{contains_either, left_in}
+use Rattle.sl_due_facts.proofs.Jobs.CallsHaveFacts.{find_mapped, timely}
+use Rattle.sl_due_facts.proofs.Jobs.EffectsAreAllowed.{sent}
+use Rattle.sl_due_facts.proofs.Jobs.JobFactsGrow.{contains_left}
+use Rattle.sl_due_facts.proofs.Jobs.QuietEffects.{recovery_told}
+use Rattle.sl_due_facts.proofs.Jobs.SessionsArePresent.{joined_present, present_inside, session_has}
+use Rattle.sl_due_facts.proofs.Jobs.SessionsHaveJobs.{contains_either, left_in}
 use Rattle.sl_run.specs.LawfulGrant.{LawfulGrant}
 use Rattle.sl_run.specs.LawfulParting.{MayPart}
 use Rattle.sl_run.specs.LawfulRecovery.{IsSent, LawfulRecovery, StopsSession, was_killed}
@@ -35,8 +35,8 @@ use Rattle.sl_due_law.specs.Recovery.Stops.{FreeTold, FreesEnd, Stops}
 use Rattle.sl_trace.specs.Sessions.{begun_in, calls_of, free_write, has_open_write, holders_of, holdings_of, is_active, is_call_of, is_free_purpose, is_joined, leaving_in, leaving_job, leaving_of, present_sessions, recovery_of, session_numbered, sessions}
 use Rattle.sl_trace.specs.declared.session.Begun.{Begun}
 use Rattle.sl_trace.specs.declared.session.Session.{Session}
-use Rattle.sl_due_law.specs.Facts.HoldingFacts.{HoldingFacts}
-use Rattle.sl_due_law.specs.Facts.Whole.{WholeTrace}
+use Rattle.sl_due_facts.specs.Facts.HoldingFacts.{HoldingFacts}
+use Rattle.sl_due_facts.specs.Facts.Whole.{WholeTrace}
 use Rattle.sl_trace.specs.Connections.{is_registered}
 use Rattle.sl_trace.specs.Traces.{Answered, Job, Setting, Submitted, Trace, answer_of, answered_in, holdings, is_ended_by, last_reading, mark, new_call, stands_for, submitted}
 use Rattle.sl_trace.specs.declared.effects.Call.{Call}

@@ -8,18 +8,18 @@ use Rattle.sl_due.specs.DueFirst.{signal_and_refuse}
 use Rattle.sl_due.specs.Steps.{Step, add_call_of, add_reply, seen, with_input}
 use Rattle.sl_due.specs.declared.decision.Decision.{Decision}
 use Rattle.sl_due.specs.declared.decision.Decision.TheVariants.{ConvertsTo, GetsValue, GivesUp, Joins, Leaves, ReadsArea, Replies, Requests, SetsValue, Shares, TakesOver}
-use Rattle.sl_due_law.specs.Holdings.Moments.{Known}
-use Rattle.sl_due_law.proofs.Jobs.AnsweredCallsFit.{arg_name, leaves_lockspace, left_by_command}
-use Rattle.sl_due_law.proofs.Jobs.CallsHaveFacts.{sessions_bare}
-use Rattle.sl_due_law.proofs.Jobs.DecisionsFit.{DecisionFits, decisions_fit}
-use Rattle.sl_due_law.proofs.Jobs.EffectsAreAllowed.{DecisionAllowed, decision, stopped}
-use Rattle.sl_due_law.proofs.Jobs.JobsAreNumbered.{next_before}
-use Rattle.sl_due_law.proofs.Jobs.LinesAreAllowed.{IsBegun, named_lockspace}
-use Rattle.sl_due_law.proofs.Jobs.NearlyPlainActs.{AnyMove, AnyStart, Anything, NoLook, decision_plain, is_command_line, nearly_acts}
-use Rattle.sl_due_law.proofs.Jobs.QuietEffects.{by_input, names_it, recovery_told}
-use Rattle.sl_due_law.proofs.Jobs.QuietFactsAreKept.{IsLeft, Stopping, left_or_not, stop_stopping}
-use Rattle.sl_due_law.proofs.Jobs.QuietLines.{answered_leaving, new_leaving}
-use Rattle.sl_due_law.proofs.Jobs.SessionsArePresent.{joined_present, present_inside, session_has}
+use Rattle.sl_due_leases.specs.Holdings.Moments.{Known}
+use Rattle.sl_due_facts.proofs.Jobs.AnsweredCallsFit.{arg_name, leaves_lockspace, left_by_command}
+use Rattle.sl_due_facts.proofs.Jobs.CallsHaveFacts.{sessions_bare}
+use Rattle.sl_due_facts.proofs.Jobs.DecisionsFit.{DecisionFits, decisions_fit}
+use Rattle.sl_due_facts.proofs.Jobs.EffectsAreAllowed.{DecisionAllowed, decision, stopped}
+use Rattle.sl_due_facts.proofs.Jobs.JobsAreNumbered.{next_before}
+use Rattle.sl_due_facts.proofs.Jobs.LinesAreAllowed.{IsBegun, named_lockspace}
+use Rattle.sl_due_facts.proofs.Jobs.NearlyPlainActs.{AnyMove, AnyStart, Anything, NoLook, decision_plain, is_command_line, nearly_acts}
+use Rattle.sl_due_facts.proofs.Jobs.QuietEffects.{by_input, names_it, recovery_told}
+use Rattle.sl_due_facts.proofs.Jobs.QuietFactsAreKept.{IsLeft, Stopping, left_or_not, stop_stopping}
+use Rattle.sl_due_facts.proofs.Jobs.QuietLines.{answered_leaving, new_leaving}
+use Rattle.sl_due_facts.proofs.Jobs.SessionsArePresent.{joined_present, present_inside, session_has}
 use Rattle.sl_run.specs.LawfulRecovery.{StopsSession}
 use Rattle.sl_trace.specs.Jobs.{is_command_that, jobs_of_session, lockspace_named}
 use Rattle.sl_plain.proofs.Lists.{find_inside, kept, kept_inside}
@@ -31,7 +31,7 @@ use Rattle.sl_due_law.specs.Recovery.Stops.{Denies, Stops}
 use Rattle.sl_trace.specs.Sessions.{holders_of, is_joined, is_session_arg, leaving_job, present_sessions, session_named, session_numbered, sessions}
 use Rattle.sl_trace.specs.declared.session.Begun.{Begun}
 use Rattle.sl_trace.specs.declared.session.Session.{Session}
-use Rattle.sl_due_law.specs.Facts.Heard.{heard_by}
+use Rattle.sl_due_facts.specs.Facts.Heard.{heard_by}
 use Rattle.sl_trace.specs.Traces.{Job, Setting, Trace, next_job, running_jobs}
 use Rattle.sl_trace.specs.declared.command.Command.{Command}
 use Rattle.sl_trace.specs.declared.command.Command.TheVariants.{RemLockspace}

@@ -8,13 +8,13 @@ use Rattle.sl_due.specs.DueFirst.{signal_and_refuse}
 use Rattle.sl_due.specs.DueLease.{next_of_lease}
 use Rattle.sl_due.specs.DueRequests.{after_value_read, value_reply}
 use Rattle.sl_due.specs.Steps.{Step, seen, with_input}
-use Rattle.sl_due_law.proofs.Jobs.EffectsAreAllowed.{delta, lease, removal, removal_of_refused, requested, sent, stopped}
-use Rattle.sl_due_law.proofs.Jobs.JobFactsGrow.{contains_left}
-use Rattle.sl_due_law.proofs.Jobs.NearlyPlainActs.{AnyMove, AnyStart, Anything, Nearly, NoLook, free_plain, freed_plain, joining_plain, lease_plain, renewed_plain, request_plain}
-use Rattle.sl_due_law.proofs.Jobs.QuietFactsAreKept.{Stopping, stop_stopping}
-use Rattle.sl_due_law.proofs.Jobs.QuietFactsConclude.{ReadBy, read_by}
-use Rattle.sl_due_law.proofs.Jobs.RepliesComeAfter.{joining_late}
-use Rattle.sl_due_law.proofs.Jobs.SessionsArePresent.{joined_present, session_has}
+use Rattle.sl_due_facts.proofs.Jobs.EffectsAreAllowed.{delta, lease, removal, removal_of_refused, requested, sent, stopped}
+use Rattle.sl_due_facts.proofs.Jobs.JobFactsGrow.{contains_left}
+use Rattle.sl_due_facts.proofs.Jobs.NearlyPlainActs.{AnyMove, AnyStart, Anything, Nearly, NoLook, free_plain, freed_plain, joining_plain, lease_plain, renewed_plain, request_plain}
+use Rattle.sl_due_facts.proofs.Jobs.QuietFactsAreKept.{Stopping, stop_stopping}
+use Rattle.sl_due_facts.proofs.Jobs.QuietFactsConclude.{ReadBy, read_by}
+use Rattle.sl_due_facts.proofs.Jobs.RepliesComeAfter.{joining_late}
+use Rattle.sl_due_facts.proofs.Jobs.SessionsArePresent.{joined_present, session_has}
 use Rattle.sl_run.specs.LawfulRecovery.{StopsSession}
 use Rattle.sl_trace.specs.Leases.{spot_of_call}
 use Rattle.sl_plain.proofs.Lists.{find_inside}
@@ -31,8 +31,8 @@ use Rattle.sl_trace.specs.Sessions.{begun_in, calls_of, generation_of, is_joined
 use Rattle.sl_trace.specs.declared.session.Begun.{Begun}
 use Rattle.sl_trace.specs.declared.session.Renewing.{Renewing}
 use Rattle.sl_trace.specs.declared.session.Session.{Session}
-use Rattle.sl_due_law.specs.Facts.Concluding.{Concludes}
-use Rattle.sl_due_law.specs.Facts.Heard.{heard_by}
+use Rattle.sl_due_facts.specs.Facts.Concluding.{Concludes}
+use Rattle.sl_due_facts.specs.Facts.Heard.{heard_by}
 use Rattle.sl_time.specs.Times.{fail}
 use Rattle.sl_trace.specs.Connections.{unregisters}
 use Rattle.sl_trace.specs.Traces.{Job, Setting, Submitted, Trace, bytes_given, call_numbered, submitted}

@@ -3,8 +3,8 @@ use Rattle.sl_acts.proofs.LoopsKeep.{for_each_keeps}
 use Rattle.sl_acts.specs.SoFar.{entry_of}
 use Rattle.sl_due.specs.DueFirst.{send, signal_and_refuse, signal_holders}
 use Rattle.sl_due.specs.Steps.{Step, add_reply, add_signal, add_start, for_each, seen}
-use Rattle.sl_due_law.proofs.Jobs.EffectsAreAllowed.{stopped}
-use Rattle.sl_due_law.proofs.Jobs.JobFactsGrow.{contains_left, contains_right}
+use Rattle.sl_due_facts.proofs.Jobs.EffectsAreAllowed.{stopped}
+use Rattle.sl_due_facts.proofs.Jobs.JobFactsGrow.{contains_left, contains_right}
 use Rattle.sl_run.specs.LawfulRecovery.{IsToldToStop, StopsSession}
 use Rattle.sl_trace.specs.Counts.{child_count, stopper_of}
 use Rattle.sl_trace.specs.Jobs.{jobs_of_session}

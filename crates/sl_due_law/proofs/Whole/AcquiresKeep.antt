@@ -1,9 +1,9 @@
 -- An acquire's job keeps to its lease, starts no child, and does nothing before its line.
-use Rattle.sl_due_law.proofs.Holdings.LeaseCallers.{on_own_area}
-use Rattle.sl_due_law.proofs.Jobs.JobsAreNumbered.{number_below}
+use Rattle.sl_due_leases.proofs.Holdings.LeaseCallers.{on_own_area}
+use Rattle.sl_due_facts.proofs.Jobs.JobsAreNumbered.{number_below}
 use Rattle.sl_due_law.proofs.Whole.BusyKept.{HoldsWaiting, traces_wait}
-use Rattle.sl_due_law.specs.Facts.JobFacts.{FitsCommand, JobFacts}
-use Rattle.sl_due_law.specs.Jobs.Acquires.{AcquiresKeepToTheirs, IsAcquire, IsCallerOf}
+use Rattle.sl_due_facts.specs.Facts.JobFacts.{FitsCommand, JobFacts}
+use Rattle.sl_due_facts.specs.Jobs.Acquires.{AcquiresKeepToTheirs, IsAcquire, IsCallerOf}
 use Rattle.sl_due_law.specs.Whole.Kept.{Holds}
 use Rattle.sl_trace.specs.Jobs.{child_of_job, command_numbered, command_of, resource_named}
 use Rattle.sl_trace.specs.Leases.{is_lease_call, is_on, lease_calls, lease_step, spot_of, spot_of_call}

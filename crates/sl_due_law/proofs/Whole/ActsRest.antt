@@ -12,13 +12,13 @@ use Rattle.sl_due.specs.declared.decision.Decision.{Decision}
 use Rattle.sl_due.specs.declared.decision.Decision.TheVariants.{ConvertsTo, GetsValue, GivesUp, Joins, Leaves, ReadsArea, Replies, Requests, SetsValue, Shares, TakesOver}
 use Rattle.sl_due_law.proofs.Whole.AllIsKept.{all_is_kept}
 use Rattle.sl_due_law.specs.Whole.Kept.{Kept, Rests}
-use Rattle.sl_due_law.specs.Holdings.Moments.{Known}
-use Rattle.sl_due_law.proofs.Jobs.EffectsAreAllowed.{DecisionAllowed, decision, delta, ended, exited, lease, left, refusal, said}
-use Rattle.sl_due_law.proofs.Jobs.JobPromises.{quiet_facts_conclude}
-use Rattle.sl_due_law.proofs.Jobs.LinesAreAllowed.{IsBegun}
-use Rattle.sl_due_law.proofs.Jobs.NearlyPlainActs.{AnyMove, AnyStart, Anything, Nearly, NoLook, decision_plain, joining_plain, lease_plain, renewal_plain}
-use Rattle.sl_due_law.proofs.Jobs.RepliesComeAfter.{wake_late}
-use Rattle.sl_due_law.specs.Jobs.Promises.{IsQuiet}
+use Rattle.sl_due_leases.specs.Holdings.Moments.{Known}
+use Rattle.sl_due_facts.proofs.Jobs.EffectsAreAllowed.{DecisionAllowed, decision, delta, ended, exited, lease, left, refusal, said}
+use Rattle.sl_due_facts.proofs.Jobs.JobPromises.{quiet_facts_conclude}
+use Rattle.sl_due_facts.proofs.Jobs.LinesAreAllowed.{IsBegun}
+use Rattle.sl_due_facts.proofs.Jobs.NearlyPlainActs.{AnyMove, AnyStart, Anything, Nearly, NoLook, decision_plain, joining_plain, lease_plain, renewal_plain}
+use Rattle.sl_due_facts.proofs.Jobs.RepliesComeAfter.{wake_late}
+use Rattle.sl_due_facts.specs.Jobs.Promises.{IsQuiet}
 use Rattle.sl_trace.specs.Jobs.{job_of_start}
 use Rattle.sl_trace.specs.LeaseWork.{lease_place, settle_next}
 use Rattle.sl_trace.specs.Leases.{known}
@@ -28,20 +28,20 @@ use Rattle.sl_due_law.proofs.Recovery.StopsConclude.{just_heard, stops_conclude}
 use Rattle.sl_due_law.proofs.Recovery.StopsGrow.{stops_effects}
 use Rattle.sl_due_law.specs.Recovery.Promises.{StopsSoFar}
 use Rattle.sl_due_law.specs.Recovery.Stops.{Denies, FreesEnd, JustHeard, Stops}
-use Rattle.sl_due_law.proofs.Connections.ConnectionFactsConclude.{connection_facts_conclude, signal_plainly}
-use Rattle.sl_due_law.proofs.Connections.WatchFactsConclude.{watch_facts_conclude}
-use Rattle.sl_due_law.specs.Connections.Promises.{HasConnectionsPlainly}
-use Rattle.sl_due_law.specs.Connections.WatchFacts.{HasRead, HasWatchFacts, HasWatchesPlainly, WatchFacts}
-use Rattle.sl_due_law.proofs.Sessions.NameFactsConclude.{name_facts_conclude}
-use Rattle.sl_due_law.specs.Sessions.Promises.{HasNamesPlainly}
+use Rattle.sl_due_facts.proofs.Connections.ConnectionFactsConclude.{connection_facts_conclude, signal_plainly}
+use Rattle.sl_due_facts.proofs.Connections.WatchFactsConclude.{watch_facts_conclude}
+use Rattle.sl_due_facts.specs.Connections.Promises.{HasConnectionsPlainly}
+use Rattle.sl_due_facts.specs.Connections.WatchFacts.{HasRead, HasWatchFacts, HasWatchesPlainly, WatchFacts}
+use Rattle.sl_due_facts.proofs.Sessions.NameFactsConclude.{name_facts_conclude}
+use Rattle.sl_due_facts.specs.Sessions.Promises.{HasNamesPlainly}
 use Rattle.sl_trace.specs.Deltas.{delta_known, delta_of_session, next_on_wake, next_renewal}
 use Rattle.sl_trace.specs.Sessions.{calls_of, holders_of}
 use Rattle.sl_trace.specs.declared.delta.DeltaNext.{DeltaNext}
 use Rattle.sl_trace.specs.declared.session.Session.{Session}
-use Rattle.sl_due_law.specs.Facts.Concluding.{Concludes}
-use Rattle.sl_due_law.specs.Facts.Heard.{heard_by}
-use Rattle.sl_due_law.specs.Facts.SessionFacts.{ConnectionFacts, NameFacts, QuietFacts}
-use Rattle.sl_due_law.specs.Facts.Whole.{Whole}
+use Rattle.sl_due_facts.specs.Facts.Concluding.{Concludes}
+use Rattle.sl_due_facts.specs.Facts.Heard.{heard_by}
+use Rattle.sl_due_facts.specs.Facts.SessionFacts.{ConnectionFacts, NameFacts, QuietFacts}
+use Rattle.sl_due_facts.specs.Facts.Whole.{Whole}
 use Rattle.sl_trace.specs.Traces.{Submitted, next_job}
 use Rattle.sl_trace.specs.declared.command.Command.{Command}
 use Rattle.sl_trace.specs.declared.effects.JoinStep.{JoinStep}

@@ -13,31 +13,31 @@ use Rattle.sl_due_law.proofs.Whole.SpelledAreKept.{spelled_are_kept}
 use Rattle.sl_due_law.specs.Whole.Kept.{Holds, Kept}
 use Rattle.sl_due_law.specs.Whole.Lones.{Lones}
 use Rattle.sl_due_law.specs.Whole.Promises.{DeltasSoFar, SpelledSoFar}
-use Rattle.sl_due_law.proofs.Grants.ActiveGrants.{granting_begins, granting_is_lawful}
-use Rattle.sl_due_law.proofs.Grants.EndsAreLawful.{ends_are_lawful, ends_begin}
-use Rattle.sl_due_law.proofs.Grants.ExitsAreLawful.{exits_are_lawful, exits_begin}
-use Rattle.sl_due_law.proofs.Grants.Modes.ModesAreLawful.{modes_are_lawful, modes_begin}
-use Rattle.sl_due_law.proofs.Grants.Values.ValueFactsAreKept.{value_facts_are_kept, value_facts_begin}
-use Rattle.sl_due_law.proofs.Grants.Values.ValuesAreTold.{values_are_lawful, values_begin}
-use Rattle.sl_due_law.proofs.Grants.WorkFactsAreKept.{work_facts_are_kept}
-use Rattle.sl_due_law.proofs.Grants.WorkFactsBegin.{work_facts_begin}
-use Rattle.sl_due_law.specs.Grants.GrantPromises.{EndsSoFar, ExitsSoFar, GrantingSoFar, HasWorkFacts}
-use Rattle.sl_due_law.specs.Grants.ModePromises.{ModesSoFar}
-use Rattle.sl_due_law.specs.Grants.ValuePromises.{HasValueFacts, ValuesSoFar}
-use Rattle.sl_due_law.proofs.Holdings.HoldingFactsAreKept.{holding_facts_are_kept}
-use Rattle.sl_due_law.proofs.Holdings.HoldingFactsBegin.{holding_facts_begin}
-use Rattle.sl_due_law.proofs.Holdings.MomentsAreKept.{moments_are_kept}
-use Rattle.sl_due_law.proofs.Holdings.MomentsBegin.{moments_begin}
-use Rattle.sl_due_law.specs.Holdings.Moments.{Known, Moment}
-use Rattle.sl_due_law.specs.Holdings.Promises.{Begins, HasHoldingFacts}
-use Rattle.sl_due_law.proofs.Jobs.EntriesFollow.{entries_begin, entries_follow}
-use Rattle.sl_due_law.proofs.Jobs.JobPromises.{call_facts_are_kept, call_facts_begin, job_facts_are_kept, job_facts_begin, quiet_facts_are_kept, quiet_facts_begin}
-use Rattle.sl_due_law.proofs.Jobs.LessIsKept.{to_less}
-use Rattle.sl_due_law.specs.Jobs.Promises.{FollowsSoFar, HasCallFacts, HasJobFacts, HasQuietFacts}
-use Rattle.sl_due_law.proofs.Leases.LawsAreKept.{laws_are_kept}
-use Rattle.sl_due_law.specs.Leases.LeaseLawful.{LeaseLaws}
-use Rattle.sl_due_law.proofs.Ways.Kept.FactsAreKept.{grant_grounds_are_kept, grant_grounds_begin, number_facts_are_kept, number_facts_begin, turn_facts_are_kept, turn_facts_begin, way_facts_are_kept, way_facts_begin}
-use Rattle.sl_due_law.specs.Ways.Kept.{HasGrantGrounds, HasNumberFacts, HasTurnFacts, HasWayFacts}
+use Rattle.sl_due_leases.proofs.Grants.ActiveGrants.{granting_begins, granting_is_lawful}
+use Rattle.sl_due_leases.proofs.Grants.EndsAreLawful.{ends_are_lawful, ends_begin}
+use Rattle.sl_due_leases.proofs.Grants.ExitsAreLawful.{exits_are_lawful, exits_begin}
+use Rattle.sl_due_leases.proofs.Grants.Modes.ModesAreLawful.{modes_are_lawful, modes_begin}
+use Rattle.sl_due_leases.proofs.Grants.Values.ValueFactsAreKept.{value_facts_are_kept, value_facts_begin}
+use Rattle.sl_due_leases.proofs.Grants.Values.ValuesAreTold.{values_are_lawful, values_begin}
+use Rattle.sl_due_leases.proofs.Grants.WorkFactsAreKept.{work_facts_are_kept}
+use Rattle.sl_due_leases.proofs.Grants.WorkFactsBegin.{work_facts_begin}
+use Rattle.sl_due_leases.specs.Grants.GrantPromises.{EndsSoFar, ExitsSoFar, GrantingSoFar, HasWorkFacts}
+use Rattle.sl_due_leases.specs.Grants.ModePromises.{ModesSoFar}
+use Rattle.sl_due_leases.specs.Grants.ValuePromises.{HasValueFacts, ValuesSoFar}
+use Rattle.sl_due_leases.proofs.Holdings.HoldingFactsAreKept.{holding_facts_are_kept}
+use Rattle.sl_due_leases.proofs.Holdings.HoldingFactsBegin.{holding_facts_begin}
+use Rattle.sl_due_leases.proofs.Holdings.MomentsAreKept.{moments_are_kept}
+use Rattle.sl_due_leases.proofs.Holdings.MomentsBegin.{moments_begin}
+use Rattle.sl_due_leases.specs.Holdings.Moments.{Known, Moment}
+use Rattle.sl_due_leases.specs.Holdings.Promises.{Begins, HasHoldingFacts}
+use Rattle.sl_due_facts.proofs.Jobs.EntriesFollow.{entries_begin, entries_follow}
+use Rattle.sl_due_facts.proofs.Jobs.JobPromises.{call_facts_are_kept, call_facts_begin, job_facts_are_kept, job_facts_begin, quiet_facts_are_kept, quiet_facts_begin}
+use Rattle.sl_due_facts.proofs.Jobs.LessIsKept.{to_less}
+use Rattle.sl_due_facts.specs.Jobs.Promises.{FollowsSoFar, HasCallFacts, HasJobFacts, HasQuietFacts}
+use Rattle.sl_due_leases.proofs.Leases.LawsAreKept.{laws_are_kept}
+use Rattle.sl_due_leases.specs.Leases.LeaseLawful.{LeaseLaws}
+use Rattle.sl_due_leases.proofs.Ways.Kept.FactsAreKept.{grant_grounds_are_kept, grant_grounds_begin, number_facts_are_kept, number_facts_begin, turn_facts_are_kept, turn_facts_begin, way_facts_are_kept, way_facts_begin}
+use Rattle.sl_due_leases.specs.Ways.Kept.{HasGrantGrounds, HasNumberFacts, HasTurnFacts, HasWayFacts}
 use Rattle.sl_plain.proofs.Lists.{contains_none, got_inside}
 use Rattle.sl_due_law.proofs.Recovery.DenialsAreKept.{denials_are_kept, denials_begin}
 use Rattle.sl_due_law.proofs.Recovery.PartingIsLawful.{parting_is_lawful}
@@ -46,23 +46,23 @@ use Rattle.sl_due_law.proofs.Recovery.StopsAreKept.{stops_are_kept}
 use Rattle.sl_due_law.proofs.Recovery.StopsBegin.{begun_says, stops_begin}
 use Rattle.sl_due_law.specs.Recovery.Promises.{StopsSoFar}
 use Rattle.sl_due_law.specs.Recovery.Stops.{Denies, Partings}
-use Rattle.sl_due_law.proofs.Connections.ConnectionFactsAreKept.{connection_facts_are_kept, connection_facts_begin}
-use Rattle.sl_due_law.proofs.Connections.DeltaPromises.{reads_begin}
-use Rattle.sl_due_law.proofs.Connections.DeltasAreKept.{calls_are_kept}
-use Rattle.sl_due_law.proofs.Connections.JoinsAreLawful.{joins_are_kept, joins_begin}
-use Rattle.sl_due_law.proofs.Connections.MovesAreKept.{moves_are_kept, moves_begin}
-use Rattle.sl_due_law.proofs.Connections.WatchFactsAreKept.{watch_facts_are_kept}
-use Rattle.sl_due_law.proofs.Connections.WatchdogIsLawful.{watchdog_is_lawful}
-use Rattle.sl_due_law.specs.Connections.DeltaPromises.{JoinsSoFar}
-use Rattle.sl_due_law.specs.Connections.DeltasSoFar.{CallsKept, KnowsCalls}
-use Rattle.sl_due_law.specs.Connections.MovedSoFar.{MovedSoFar}
-use Rattle.sl_due_law.specs.Connections.Promises.{HasConnectionFacts}
-use Rattle.sl_due_law.specs.Connections.WatchFacts.{HasWatchFacts}
-use Rattle.sl_due_law.proofs.Sessions.DeltaFactsBegin.{delta_facts_begin}
-use Rattle.sl_due_law.proofs.Sessions.DeltaFactsHold.{delta_facts_are_kept}
-use Rattle.sl_due_law.proofs.Sessions.NameFactsAreKept.{name_facts_are_kept, name_facts_begin}
-use Rattle.sl_due_law.specs.Sessions.Promises.{HasDeltaFacts, HasNameFacts}
-use Rattle.sl_due_law.specs.Facts.Whole.{Whole}
+use Rattle.sl_due_facts.proofs.Connections.ConnectionFactsAreKept.{connection_facts_are_kept, connection_facts_begin}
+use Rattle.sl_due_facts.proofs.Connections.DeltaPromises.{reads_begin}
+use Rattle.sl_due_facts.proofs.Connections.DeltasAreKept.{calls_are_kept}
+use Rattle.sl_due_facts.proofs.Connections.JoinsAreLawful.{joins_are_kept, joins_begin}
+use Rattle.sl_due_facts.proofs.Connections.MovesAreKept.{moves_are_kept, moves_begin}
+use Rattle.sl_due_facts.proofs.Connections.WatchFactsAreKept.{watch_facts_are_kept}
+use Rattle.sl_due_facts.proofs.Connections.WatchdogIsLawful.{watchdog_is_lawful}
+use Rattle.sl_due_facts.specs.Connections.DeltaPromises.{JoinsSoFar}
+use Rattle.sl_due_facts.specs.Connections.DeltasSoFar.{CallsKept, KnowsCalls}
+use Rattle.sl_due_facts.specs.Connections.MovedSoFar.{MovedSoFar}
+use Rattle.sl_due_facts.specs.Connections.Promises.{HasConnectionFacts}
+use Rattle.sl_due_facts.specs.Connections.WatchFacts.{HasWatchFacts}
+use Rattle.sl_due_facts.proofs.Sessions.DeltaFactsBegin.{delta_facts_begin}
+use Rattle.sl_due_facts.proofs.Sessions.DeltaFactsHold.{delta_facts_are_kept}
+use Rattle.sl_due_facts.proofs.Sessions.NameFactsAreKept.{name_facts_are_kept, name_facts_begin}
+use Rattle.sl_due_facts.specs.Sessions.Promises.{HasDeltaFacts, HasNameFacts}
+use Rattle.sl_due_facts.specs.Facts.Whole.{Whole}
 use Rattle.sl_trace.specs.Traces.{FollowsTrace, Setting, Trace}
 use Rattle.sl_trace.specs.declared.effects.Call.{Call}
 use Rattle.sl_trace.specs.declared.effects.Entry.{Entry}

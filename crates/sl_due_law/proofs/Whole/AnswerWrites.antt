@@ -1,13 +1,13 @@
 -- What a lease writes after an answer is a record.
 use Rattle.sl_words.specs.Words.{choose, some_is}
-use Rattle.sl_due_law.proofs.Leases.NamesVerified.{ended_wrote}
-use Rattle.sl_due_law.proofs.Ways.NextsFit.WritesFit.{left_is_won}
+use Rattle.sl_due_leases.proofs.Leases.NamesVerified.{ended_wrote}
+use Rattle.sl_due_leases.proofs.Ways.NextsFit.WritesFit.{left_is_won}
 use Rattle.sl_plain.proofs.Options.{then_value}
 use Rattle.sl_words.proofs.WordLaws.{choose_some}
 use Rattle.sl_acts.specs.Acts.{Hears}
 use Rattle.sl_due_law.proofs.Whole.ValueWrites.{held_lver, not_true, own_is_record}
-use Rattle.sl_due_law.proofs.Holdings.LeaseConversions.{spot_is}
-use Rattle.sl_due_law.proofs.Jobs.SessionsArePresent.{session_has}
+use Rattle.sl_due_leases.proofs.Holdings.LeaseConversions.{spot_is}
+use Rattle.sl_due_facts.proofs.Jobs.SessionsArePresent.{session_has}
 use Rattle.sl_plain.proofs.Lists.{contains_cases, contains_none, find_inside, kept_inside}
 use Rattle.sl_trace.specs.declared.effects.Grant.{Grant}
 use Rattle.sl_trace.specs.declared.effects.Op.{Op}
@@ -23,16 +23,16 @@ use Rattle.sl_due_law.proofs.Whole.SettleWrites.{MayWrite, OwnWell, begins_well,
 use Rattle.sl_due_law.specs.Whole.Writes.{LeaseWrites}
 use Rattle.sl_due_law.proofs.Whole.BallotWrites.{phase1_own}
 use Rattle.sl_area.specs.Layouts.{sizes}
-use Rattle.sl_due_law.proofs.Ways.Decoding.{blocks_read}
+use Rattle.sl_due_leases.proofs.Ways.Decoding.{blocks_read}
 use Rattle.sl_lease.proofs.RecordFacts.{phase2_begun}
 use Rattle.sl_lease.specs.Bounds.{IsBegun}
-use Rattle.sl_due_law.proofs.Leases.WorkIsActive.{work_is_active}
-use Rattle.sl_due_law.proofs.Ways.Kept.EffectsLeave.{there_has}
-use Rattle.sl_due_law.proofs.Ways.Kept.HeardStands.{heard_call, heard_has, heard_open}
-use Rattle.sl_due_law.proofs.Ways.Lawful.BallotLaws.{own_begun}
-use Rattle.sl_due_law.proofs.Ways.NewestCall.{block_is, submitted_here}
-use Rattle.sl_due_law.proofs.Ways.Places.{spot_aligned}
-use Rattle.sl_due_law.proofs.Ways.WayNumbers.{EndsBy, ended_below, ends_by, is_verified, lver_of, own_lver}
+use Rattle.sl_due_leases.proofs.Leases.WorkIsActive.{work_is_active}
+use Rattle.sl_due_leases.proofs.Ways.Kept.EffectsLeave.{there_has}
+use Rattle.sl_due_leases.proofs.Ways.Kept.HeardStands.{heard_call, heard_has, heard_open}
+use Rattle.sl_due_leases.proofs.Ways.Lawful.BallotLaws.{own_begun}
+use Rattle.sl_due_leases.proofs.Ways.NewestCall.{block_is, submitted_here}
+use Rattle.sl_due_leases.proofs.Ways.Places.{spot_aligned}
+use Rattle.sl_due_leases.proofs.Ways.WayNumbers.{EndsBy, ended_below, ends_by, is_verified, lver_of, own_lver}
 use Rattle.sl_trace.specs.Ballots.{ballot_blocks, is_ahead, moded_block, phase2_block, same_owner, stop_of, value_of}
 use Rattle.sl_trace.specs.LeaseWork.{LeasePlace, after_clearing, after_freeing, after_moding, after_phase1, after_phase2, after_take, begin_next, leader_for, lease_next, lease_place, looks_for_shared, lost_next, phase2_next, settle_next, stopped_next, unstopped_next, won_next}
 use Rattle.sl_trace.specs.Leases.{LeaseKnown, block_submitted, ended_ballot, ended_ballots, exclusive_on, holdings_on, known, lease_calls, lease_step, lver_written, mode_gen_of, owed_free, shared_elsewhere, spot_of_call}
@@ -44,11 +44,11 @@ use Rattle.sl_trace.specs.declared.lease.Stop.{Stop}
 use Rattle.sl_sector.specs.Records.{Fits, IsLeader}
 use Rattle.sl_sector.specs.declared.sector.Block.{Block}
 use Rattle.sl_sector.specs.declared.sector.Owner.{Owner}
-use Rattle.sl_due_law.proofs.Connections.ConnectionLines.{active_is_joined}
+use Rattle.sl_due_facts.proofs.Connections.ConnectionLines.{active_is_joined}
 use Rattle.sl_trace.specs.Sessions.{holdings_of, is_active, me, session_numbered, sessions}
 use Rattle.sl_trace.specs.declared.session.Session.{Session}
-use Rattle.sl_due_law.specs.Facts.WayFacts.{IsAligned, ModeWay, PurposeWay, WayContext, Ways, way_context}
-use Rattle.sl_due_law.specs.Facts.Whole.{Whole}
+use Rattle.sl_due_facts.specs.Facts.WayFacts.{IsAligned, ModeWay, PurposeWay, WayContext, Ways, way_context}
+use Rattle.sl_due_facts.specs.Facts.Whole.{Whole}
 use Rattle.sl_trace.specs.Traces.{Submitted, holdings, is_shared, job_of, same_place}
 use Rattle.sl_run.specs.LawfulArea.{is_area_work}
 use Rattle.sl_trace.specs.declared.effects.LeaseStep.TheVariants.{ClearMode, FreeLeader, Phase1Read, Phase1Write, Phase2Read, Phase2Write, ReadArea, ReadBeforeFree, SetMode, TakeLeader}

@@ -3,7 +3,7 @@ use Rattle.sl_area.specs.Layouts.{Layout}
 use Rattle.sl_area.specs.Places.{area_blocks, blocks_in, leader_of}
 use Rattle.sl_due_law.proofs.Whole.SettleWrites.{MayWrite, OwnWell, begins_well}
 use Rattle.sl_due_law.specs.Whole.Writes.{LeaseWrites}
-use Rattle.sl_due_law.proofs.Ways.Decoding.{blocks_read, leader_read}
+use Rattle.sl_due_leases.proofs.Ways.Decoding.{blocks_read, leader_read}
 use Rattle.sl_trace.specs.LeaseWork.{LeasePlace, area_next, begin_or_refuse, named_area_next, whole_area_next}
 use Rattle.sl_trace.specs.Leases.{LeaseKnown, block_of_host, blocks_given, instance_for, is_area_read, is_leader_of, is_over_owner, is_phase_read, last_blocks, own_known, own_or_read, top_lver}
 use Rattle.sl_trace.specs.declared.lease.Aim.{Aim}

@@ -6,19 +6,19 @@ use Rattle.sl_run.specs.Lawful.{IsSetting, Orderly}
 use Rattle.sl_run.specs.LawfulBlock.{LawfulBlock, LawfulBlockStep, LawfulPhase1}
 use Rattle.sl_run.specs.LawfulCalls.{LawfulCalls}
 use Rattle.sl_run.specs.Saying.{cut_at}
-use Rattle.sl_due_law.proofs.Ways.Kept.EffectsLeave.{there_has}
-use Rattle.sl_due_law.proofs.Ways.Kept.HeardStands.{heard_call, heard_has, heard_open}
-use Rattle.sl_due_law.proofs.Ways.Kept.PlacesStand.{id_in_range}
-use Rattle.sl_due_law.proofs.Ways.NewestCall.{block_is, read_writes_no_block, submitted_here, submitted_passed}
-use Rattle.sl_due_law.proofs.Ways.Places.{spot_aligned}
+use Rattle.sl_due_leases.proofs.Ways.Kept.EffectsLeave.{there_has}
+use Rattle.sl_due_leases.proofs.Ways.Kept.HeardStands.{heard_call, heard_has, heard_open}
+use Rattle.sl_due_leases.proofs.Ways.Kept.PlacesStand.{id_in_range}
+use Rattle.sl_due_leases.proofs.Ways.NewestCall.{block_is, read_writes_no_block, submitted_here, submitted_passed}
+use Rattle.sl_due_leases.proofs.Ways.Places.{spot_aligned}
 use Rattle.sl_trace.specs.Leases.{block_submitted, block_written, is_lease_call, is_on, last_blocks, lease_calls, lease_step, spot_of_call}
 use Rattle.sl_plain.proofs.Lists.{contains_first, contains_more, got_inside, kept_inside}
 use Rattle.sl_plain.proofs.Options.{some_of}
 use Rattle.sl_sector.specs.declared.sector.Block.{Block}
 use Rattle.sl_trace.specs.Sessions.{calls_of, is_call_of, me, session_numbered, sessions}
 use Rattle.sl_trace.specs.declared.session.Session.{Session}
-use Rattle.sl_due_law.specs.Facts.WayFacts.{Phase1ReadWay, Phase1Way, PurposeWay, WayContext, Ways, way_context}
-use Rattle.sl_due_law.specs.Facts.Whole.{Whole}
+use Rattle.sl_due_facts.specs.Facts.WayFacts.{Phase1ReadWay, Phase1Way, PurposeWay, WayContext, Ways, way_context}
+use Rattle.sl_due_facts.specs.Facts.Whole.{Whole}
 use Rattle.sl_trace.proofs.TraceFacts.{each_entry-front}
 use Rattle.sl_trace.specs.Traces.{EachEntry, Setting, Submitted, Trace, new_call, submitted}
 use Rattle.sl_trace.specs.declared.effects.LeaseStep.TheVariants.{Phase1Read, Phase1Write}

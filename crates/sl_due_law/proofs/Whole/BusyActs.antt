@@ -4,18 +4,18 @@ use Rattle.sl_due.specs.DueCommands.{answer_line}
 use Rattle.sl_due.specs.Steps.{Step, add_reply, seen, with_input}
 use Rattle.sl_due_law.proofs.Whole.WaitsStay.{AllButWait, waits_effects}
 use Rattle.sl_due_law.specs.Whole.Busy.{AllWait, For_call, For_child, For_leaving, For_session, Waits, told_by}
-use Rattle.sl_due_law.proofs.Grants.Values.ReadsByInputs.{child_same, has_number}
-use Rattle.sl_due_law.proofs.Jobs.CallsHaveFacts.{calls_before, sessions_told}
-use Rattle.sl_due_law.proofs.Jobs.JobFactsGrow.{contains_left}
-use Rattle.sl_due_law.proofs.Jobs.JobsAreAllowed.{calls_heard}
-use Rattle.sl_due_law.proofs.Jobs.JobsAreNumbered.{next_before}
-use Rattle.sl_due_law.proofs.Jobs.NearlyPlainActs.{is_command_line}
-use Rattle.sl_due_law.proofs.Jobs.SessionsHaveJobs.{contains_either, contains_only}
-use Rattle.sl_due_law.proofs.Jobs.SessionsStand.{reply_stops}
+use Rattle.sl_due_leases.proofs.Grants.Values.ReadsByInputs.{child_same, has_number}
+use Rattle.sl_due_facts.proofs.Jobs.CallsHaveFacts.{calls_before, sessions_told}
+use Rattle.sl_due_facts.proofs.Jobs.JobFactsGrow.{contains_left}
+use Rattle.sl_due_facts.proofs.Jobs.JobsAreAllowed.{calls_heard}
+use Rattle.sl_due_facts.proofs.Jobs.JobsAreNumbered.{next_before}
+use Rattle.sl_due_facts.proofs.Jobs.NearlyPlainActs.{is_command_line}
+use Rattle.sl_due_facts.proofs.Jobs.SessionsHaveJobs.{contains_either, contains_only}
+use Rattle.sl_due_facts.proofs.Jobs.SessionsStand.{reply_stops}
 use Rattle.sl_plain.proofs.Lists.{contains_map, find_inside}
 use Rattle.sl_plain.proofs.Numbers.{number_itself}
 use Rattle.sl_trace.specs.Sessions.{leaving_in, leaving_job}
-use Rattle.sl_due_law.specs.Facts.Heard.{heard_by}
+use Rattle.sl_due_facts.specs.Facts.Heard.{heard_by}
 use Rattle.sl_trace.specs.Traces.{Child, Job, Submitted, answer_of, answered_in, child_after, child_numbered, children, is_running, job_of, jobs, new_child, next_job, submitted}
 use Rattle.sl_trace.specs.declared.effects.Call.{Call}
 use Rattle.sl_trace.specs.declared.input.Input.{Input}

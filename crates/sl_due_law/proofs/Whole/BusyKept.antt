@@ -32,7 +32,7 @@ use Rattle.sl_due_law.proofs.Whole.LeasesRest.{leases_rest}
 use Rattle.sl_due_law.proofs.Whole.LinesRest.{lines_rest}
 use Rattle.sl_due_law.proofs.Whole.SessionsOfJobs.{one_session, sessions_begin_one}
 use Rattle.sl_due_law.proofs.Whole.StartsAnswered.{starts_answered}
-use Rattle.sl_due_law.specs.Facts.Concluding.{Concludes}
+use Rattle.sl_due_facts.specs.Facts.Concluding.{Concludes}
 use Rattle.sl_due_law.specs.Whole.JobLore.{CallSuits, Converting, JobLore, SameSession}
 use Rattle.sl_trace.specs.declared.effects.Call.{Call}
 use Rattle.sl_due_law.proofs.Whole.TracesHold.{traces_are_lawful, step_holds, traces_hold}
@@ -41,17 +41,17 @@ use Rattle.sl_due_law.proofs.Whole.WaitsStay.{waits_called}
 use Rattle.sl_due_law.specs.Whole.Busy.{AllWait, For_call, For_child, For_leaving, For_session, Waits, told_by}
 use Rattle.sl_due_law.specs.Whole.Kept.{Holds, Kept}
 use Rattle.sl_due_law.specs.Whole.Promises.{DueIsWellWith, EntriesAreCaused, MayRest, NoneIsIdle}
-use Rattle.sl_due_law.proofs.Jobs.JobFactsAreKept.{lone_of}
-use Rattle.sl_due_law.proofs.Jobs.AnsweredCallsFit.{both_of}
-use Rattle.sl_due_law.proofs.Jobs.CallsHaveFacts.{sessions_bare}
-use Rattle.sl_due_law.proofs.Jobs.CallsOfJobsFit.{joining_of}
-use Rattle.sl_due_law.proofs.Jobs.EffectsAreAllowed.{DecisionAllowed, decision, delta, ended, exited, lease, left, refusal, removal, removal_of_refused, said, sent, signalled, stopped}
-use Rattle.sl_due_law.proofs.Jobs.JobsAreNumbered.{found_before}
-use Rattle.sl_due_law.proofs.Grants.Values.ReadsByInputs.{has_number, woken}
-use Rattle.sl_due_law.proofs.Jobs.LinesAreAllowed.{IsBegun}
-use Rattle.sl_due_law.proofs.Jobs.NearlyPlainActs.{AnyMove, AnyStart, Anything, NoLook, decision_plain, free_plain, freed_plain, joining_plain, lease_plain, renewal_plain, renewed_plain}
-use Rattle.sl_due_law.proofs.Jobs.RepliesComeAfter.{joining_late, wake_late}
-use Rattle.sl_due_law.proofs.Jobs.SessionsStand.{reply_stops}
+use Rattle.sl_due_facts.proofs.Jobs.JobFactsAreKept.{lone_of}
+use Rattle.sl_due_facts.proofs.Jobs.AnsweredCallsFit.{both_of}
+use Rattle.sl_due_facts.proofs.Jobs.CallsHaveFacts.{sessions_bare}
+use Rattle.sl_due_facts.proofs.Jobs.CallsOfJobsFit.{joining_of}
+use Rattle.sl_due_facts.proofs.Jobs.EffectsAreAllowed.{DecisionAllowed, decision, delta, ended, exited, lease, left, refusal, removal, removal_of_refused, said, sent, signalled, stopped}
+use Rattle.sl_due_facts.proofs.Jobs.JobsAreNumbered.{found_before}
+use Rattle.sl_due_leases.proofs.Grants.Values.ReadsByInputs.{has_number, woken}
+use Rattle.sl_due_facts.proofs.Jobs.LinesAreAllowed.{IsBegun}
+use Rattle.sl_due_facts.proofs.Jobs.NearlyPlainActs.{AnyMove, AnyStart, Anything, NoLook, decision_plain, free_plain, freed_plain, joining_plain, lease_plain, renewal_plain, renewed_plain}
+use Rattle.sl_due_facts.proofs.Jobs.RepliesComeAfter.{joining_late, wake_late}
+use Rattle.sl_due_facts.proofs.Jobs.SessionsStand.{reply_stops}
 use Rattle.sl_run.specs.Caused.{IsCaused}
 use Rattle.sl_run.specs.Lawful.{IsSetting}
 use Rattle.sl_trace.specs.Jobs.{command_numbered, job_of_start}
@@ -67,9 +67,9 @@ use Rattle.sl_trace.specs.Deltas.{delta_known, delta_of_session, next_after_free
 use Rattle.sl_trace.specs.Sessions.{calls_of, generation_of, is_present, recovery_of, session_numbered, sessions}
 use Rattle.sl_trace.specs.declared.delta.DeltaNext.{DeltaNext}
 use Rattle.sl_trace.specs.declared.session.Session.{Session}
-use Rattle.sl_due_law.specs.Facts.Heard.{heard_by}
-use Rattle.sl_due_law.specs.Facts.JobFacts.{FitsCommand}
-use Rattle.sl_due_law.specs.Facts.Whole.{Whole}
+use Rattle.sl_due_facts.specs.Facts.Heard.{heard_by}
+use Rattle.sl_due_facts.specs.Facts.JobFacts.{FitsCommand}
+use Rattle.sl_due_facts.specs.Facts.Whole.{Whole}
 use Rattle.sl_trace.specs.Connections.{is_registered}
 use Rattle.sl_trace.specs.Traces.{FollowsTrace, Job, Replied, Setting, Submitted, Trace, call_numbered, child_after, children, is_running, job_of, jobs, new_child, next_job, reply_in, reply_to, submitted, work_job}
 use Rattle.sl_trace.specs.declared.command.Command.{Command}

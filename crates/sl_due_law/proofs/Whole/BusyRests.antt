@@ -7,14 +7,14 @@ use Rattle.sl_due.specs.Steps.{Step, add_call_of, add_reply, seen}
 use Rattle.sl_due_law.proofs.Whole.BusyActs.{Busy, BusyHeard, all_of}
 use Rattle.sl_due_law.proofs.Whole.WaitsStay.{AllButWait, waits_effects}
 use Rattle.sl_due_law.specs.Whole.Busy.{AllWait, For_call, For_child, For_leaving, For_session, Waits, told_by}
-use Rattle.sl_due_law.proofs.Jobs.NearlyPlainActs.{Nearly}
-use Rattle.sl_due_law.proofs.Jobs.SessionsStand.{reply_stops}
+use Rattle.sl_due_facts.proofs.Jobs.NearlyPlainActs.{Nearly}
+use Rattle.sl_due_facts.proofs.Jobs.SessionsStand.{reply_stops}
 use Rattle.sl_plain.proofs.Lists.{contains_first, got_inside}
 use Rattle.sl_sector.specs.declared.sector.Rec.TheVariants.{RequestIs}
 use Rattle.sl_trace.specs.Sessions.{is_join_call, sessions}
 use Rattle.sl_trace.specs.declared.session.Session.{Session}
-use Rattle.sl_due_law.specs.Facts.Heard.{heard_by}
-use Rattle.sl_due_law.specs.Facts.Whole.{Whole}
+use Rattle.sl_due_facts.specs.Facts.Heard.{heard_by}
+use Rattle.sl_due_facts.specs.Facts.Whole.{Whole}
 use Rattle.sl_trace.proofs.TraceFacts.{submitted-push}
 use Rattle.sl_trace.specs.Traces.{Job, Submitted, call_numbered, is_running, job_of, new_call, next_call, submitted}
 use Rattle.sl_trace.specs.declared.command.Command.TheVariants.{Request}

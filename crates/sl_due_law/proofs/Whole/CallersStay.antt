@@ -1,16 +1,16 @@
 -- The session of a running job's call without an answer stays present.
 use Rattle.sl_acts.specs.SoFar.{entry_of}
 use Rattle.sl_due.specs.Steps.{Step, seen, with_input}
-use Rattle.sl_due_law.proofs.Grants.WorksByInputs.{unanswered}
-use Rattle.sl_due_law.proofs.Holdings.HoldersSpared.{joined_present, joining}
-use Rattle.sl_due_law.proofs.Jobs.CallsHaveFacts.{calls_before}
-use Rattle.sl_due_law.proofs.Leases.WorkIsActive.{ItsJob, in_lockspace, its_job, names_its}
+use Rattle.sl_due_leases.proofs.Grants.WorksByInputs.{unanswered}
+use Rattle.sl_due_leases.proofs.Holdings.HoldersSpared.{joined_present, joining}
+use Rattle.sl_due_facts.proofs.Jobs.CallsHaveFacts.{calls_before}
+use Rattle.sl_due_leases.proofs.Leases.WorkIsActive.{ItsJob, in_lockspace, its_job, names_its}
 use Rattle.sl_due_law.proofs.Recovery.RecoveriesStart.{removed_if}
-use Rattle.sl_due_law.proofs.Sessions.NamesAreAllowed.{caller_joined}
-use Rattle.sl_due_law.proofs.Jobs.SessionsArePresent.{session_has}
+use Rattle.sl_due_facts.proofs.Sessions.NamesAreAllowed.{caller_joined}
+use Rattle.sl_due_facts.proofs.Jobs.SessionsArePresent.{session_has}
 use Rattle.sl_due_law.proofs.Whole.HeardBefore.{ran_past}
-use Rattle.sl_due_law.specs.Facts.Heard.{heard_by}
-use Rattle.sl_due_law.specs.Facts.JobFacts.{FitsCommand, JobFacts}
+use Rattle.sl_due_facts.specs.Facts.Heard.{heard_by}
+use Rattle.sl_due_facts.specs.Facts.JobFacts.{FitsCommand, JobFacts}
 use Rattle.sl_due_law.specs.Recovery.Stops.{FreeTold, Stops}
 use Rattle.sl_due_law.specs.Whole.JobLore.{CallersPresent}
 use Rattle.sl_due_law.specs.Whole.Kept.{Holds, Kept}

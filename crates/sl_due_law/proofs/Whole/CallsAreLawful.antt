@@ -3,7 +3,7 @@
 use Rattle.sl_acts.specs.SoFar.{entry_of}
 use Rattle.sl_due.specs.Steps.{Step, seen}
 use Rattle.sl_due_law.specs.Whole.Promises.{LonesSoFar, SpelledSoFar, is_lone_read}
-use Rattle.sl_due_law.proofs.Jobs.QuietLines.{active_parts}
+use Rattle.sl_due_facts.proofs.Jobs.QuietLines.{active_parts}
 use Rattle.sl_run.specs.LawfulArea.{LawfulArea, is_area_work}
 use Rattle.sl_run.specs.LawfulCalls.{LawfulCalls, may_submit}
 use Rattle.sl_run.specs.LawfulDelta.{LawfulDelta, LawfulDeltaCall, LawfulJoinStep}
@@ -13,8 +13,8 @@ use Rattle.sl_trace.specs.Sessions.{calls_of, free_write, is_active, is_call_of,
 use Rattle.sl_trace.specs.declared.session.Session.{Session}
 use Rattle.sl_trace.specs.declared.stage.Stage.{Stage}
 use Rattle.sl_trace.specs.declared.stage.Stage.TheVariants.{Deciding, Ended, Freeing, Looking, Refused, Standing, Verifying, Waiting}
-use Rattle.sl_due_law.specs.Facts.CallFacts.{CallFacts}
-use Rattle.sl_due_law.specs.Facts.SessionFacts.{DeltaFacts}
+use Rattle.sl_due_facts.specs.Facts.CallFacts.{CallFacts}
+use Rattle.sl_due_facts.specs.Facts.SessionFacts.{DeltaFacts}
 use Rattle.sl_trace.specs.Traces.{Setting, Submitted, Trace, mark, new_call, submitted}
 use Rattle.sl_trace.specs.declared.effects.Call.{Call}
 use Rattle.sl_trace.specs.declared.effects.Entry.{Entry}

@@ -5,10 +5,10 @@ use Rattle.sl_due.specs.declared.decision.Decision.TheVariants.{ConvertsTo}
 use Rattle.sl_due_law.proofs.Whole.OwnRecords.{fits_it}
 use Rattle.sl_due_law.proofs.Whole.ValueWrites.{own_is_record}
 use Rattle.sl_due_law.specs.Whole.Writes.{LeaseWrites}
-use Rattle.sl_due_law.proofs.Holdings.DecisionsHaveGrounds.{decisions_have_grounds}
-use Rattle.sl_due_law.proofs.Holdings.LeaseConversions.{spot_is}
-use Rattle.sl_due_law.specs.Holdings.DecisionGrounds.{ConvertGrounds, HasGrounds}
-use Rattle.sl_due_law.proofs.Jobs.SessionsArePresent.{present_is, session_has}
+use Rattle.sl_due_leases.proofs.Holdings.DecisionsHaveGrounds.{decisions_have_grounds}
+use Rattle.sl_due_leases.proofs.Holdings.LeaseConversions.{spot_is}
+use Rattle.sl_due_leases.specs.Holdings.DecisionGrounds.{ConvertGrounds, HasGrounds}
+use Rattle.sl_due_facts.proofs.Jobs.SessionsArePresent.{present_is, session_has}
 use Rattle.sl_trace.specs.Ballots.{moded_block}
 use Rattle.sl_trace.specs.LeaseWork.{convert_next}
 use Rattle.sl_trace.specs.Leases.{block_submitted, holdings_on, is_lease_call, is_on, known, lease_calls, spot_of}
@@ -16,12 +16,12 @@ use Rattle.sl_trace.specs.declared.lease.LeaseNext.TheVariants.{Nothing, WriteBl
 use Rattle.sl_plain.proofs.Lists.{find_inside, kept_inside}
 use Rattle.sl_sector.specs.Records.{Fits, IsBlock}
 use Rattle.sl_sector.specs.declared.sector.Block.{Block}
-use Rattle.sl_due_law.proofs.Connections.ConnectionLines.{active_is_joined}
-use Rattle.sl_due_law.proofs.Sessions.DeltaLines.{calls_lined}
-use Rattle.sl_due_law.proofs.Sessions.JoinedNumbers.{HasNumbers}
+use Rattle.sl_due_facts.proofs.Connections.ConnectionLines.{active_is_joined}
+use Rattle.sl_due_facts.proofs.Sessions.DeltaLines.{calls_lined}
+use Rattle.sl_due_facts.proofs.Sessions.JoinedNumbers.{HasNumbers}
 use Rattle.sl_trace.specs.Sessions.{generation_in, generation_of, holdings_of, is_call_of, present_sessions, session_numbered, sessions}
 use Rattle.sl_trace.specs.declared.session.Session.{Session}
-use Rattle.sl_due_law.specs.Facts.Whole.{Whole}
+use Rattle.sl_due_facts.specs.Facts.Whole.{Whole}
 use Rattle.sl_trace.specs.Traces.{Submitted, holdings, is_shared, same_place}
 use Rattle.sl_trace.specs.declared.command.Command.{Command}
 use Rattle.sl_trace.specs.declared.command.ResourceArg.{ResourceArg}

@@ -3,21 +3,21 @@ use Rattle.sl_acts.proofs.LoopsKeep.{for_each_keeps}
 use Rattle.sl_acts.specs.SoFar.{entry_of}
 use Rattle.sl_due.specs.DueInputs.{end_holdings, leave_holdings, refuse_jobs_of}
 use Rattle.sl_due.specs.Steps.{Step, add_call_of, add_end, add_grant, add_move, add_reply, add_signal, add_start, seen, with_input}
-use Rattle.sl_due_law.proofs.Grants.OthersGoOn.{CallsOn, GoesOn, next_start}
-use Rattle.sl_due_law.proofs.Grants.Values.ReadsBack.{end_spares}
-use Rattle.sl_due_law.proofs.Jobs.JobsAreNumbered.{found_before}
-use Rattle.sl_due_law.proofs.Grants.Values.ReadsByInputs.{child_kept, child_same, failed_child, found_after, has_number, others_spared}
-use Rattle.sl_due_law.proofs.Grants.WorksByEffects.{ran_before}
-use Rattle.sl_due_law.proofs.Grants.WorksByExits.{Leaving, left_so, refused_so, refused_there}
-use Rattle.sl_due_law.proofs.Grants.WorksByGrants.{NobodyWorksAt}
-use Rattle.sl_due_law.proofs.Grants.WorksByInputs.{command_was, unanswered}
-use Rattle.sl_due_law.proofs.Holdings.HoldingsByCalls.{call_added}
-use Rattle.sl_due_law.proofs.Holdings.HoldingsByEffects.{SameCalls}
-use Rattle.sl_due_law.proofs.Holdings.HoldingsByInputs.{calls_stay, calls_told, is_no_answer}
-use Rattle.sl_due_law.proofs.Holdings.LeaseConversions.{spot_is}
-use Rattle.sl_due_law.proofs.Parts.EffectsAreTold.{effects_are_told}
-use Rattle.sl_due_law.specs.Facts.JobFacts.{JobFacts}
-use Rattle.sl_due_law.specs.Facts.Heard.{heard_by}
+use Rattle.sl_due_leases.proofs.Grants.OthersGoOn.{CallsOn, GoesOn, next_start}
+use Rattle.sl_due_leases.proofs.Grants.Values.ReadsBack.{end_spares}
+use Rattle.sl_due_facts.proofs.Jobs.JobsAreNumbered.{found_before}
+use Rattle.sl_due_leases.proofs.Grants.Values.ReadsByInputs.{child_kept, child_same, failed_child, found_after, has_number, others_spared}
+use Rattle.sl_due_leases.proofs.Grants.WorksByEffects.{ran_before}
+use Rattle.sl_due_leases.proofs.Grants.WorksByExits.{Leaving, left_so, refused_so, refused_there}
+use Rattle.sl_due_leases.proofs.Grants.WorksByGrants.{NobodyWorksAt}
+use Rattle.sl_due_leases.proofs.Grants.WorksByInputs.{command_was, unanswered}
+use Rattle.sl_due_leases.proofs.Holdings.HoldingsByCalls.{call_added}
+use Rattle.sl_due_leases.proofs.Holdings.HoldingsByEffects.{SameCalls}
+use Rattle.sl_due_leases.proofs.Holdings.HoldingsByInputs.{calls_stay, calls_told, is_no_answer}
+use Rattle.sl_due_leases.proofs.Holdings.LeaseConversions.{spot_is}
+use Rattle.sl_due_facts.proofs.Parts.EffectsAreTold.{effects_are_told}
+use Rattle.sl_due_facts.specs.Facts.JobFacts.{JobFacts}
+use Rattle.sl_due_facts.specs.Facts.Heard.{heard_by}
 use Rattle.sl_due_law.specs.Whole.JobLore.{Converting, HoldsThere}
 use Rattle.sl_run.specs.LawfulArea.{is_area_work}
 use Rattle.sl_trace.specs.Jobs.{command_numbered, is_job_of_process}

@@ -14,27 +14,27 @@ use Rattle.sl_due.specs.DueRequests.{after_request_read, after_value_read, bits_
 use Rattle.sl_due.specs.Steps.{Step, add_reply, seen, with_input, add_end, add_grant, with_some}
 use Rattle.sl_due.specs.declared.decision.Decision.{Decision}
 use Rattle.sl_due.specs.declared.decision.Decision.TheVariants.{ConvertsTo, GetsValue, GivesUp, Joins, Leaves, ReadsArea, Replies, Requests, SetsValue, Shares, TakesOver}
-use Rattle.sl_due_law.proofs.Grants.DeltasKeep.{free_keeps, renewal_keeps}
-use Rattle.sl_due_law.proofs.Grants.OthersGoOn.{fits_begin, refusal_on, removal_of_refused_on, removal_on, said_on, sent_on, signalled_on, stopped_on}
-use Rattle.sl_due_law.proofs.Grants.WorksByAnswers.{settling_no_job, new_spot, one_job}
-use Rattle.sl_due_law.proofs.Grants.WorksByInputs.{input_works}
-use Rattle.sl_due_law.proofs.Holdings.DecisionsHaveGrounds.{decisions_have_grounds}
-use Rattle.sl_due_law.proofs.Holdings.HoldingFactsAreKept.{plainly_late, surveys_no_job}
-use Rattle.sl_due_law.proofs.Holdings.HoldingsByAnswers.{Led, spot_at}
-use Rattle.sl_due_law.proofs.Holdings.HoldingsByCalls.{call_added}
-use Rattle.sl_due_law.proofs.Holdings.HoldingsByEffects.{later_same, unanswered_same, waking_same}
-use Rattle.sl_due_law.proofs.Holdings.HoldingsByLines.{base_of, no_told}
-use Rattle.sl_due_law.proofs.Holdings.LeaseCallers.{heard_session, spot_aligned}
-use Rattle.sl_due_law.proofs.Holdings.LeaseConversions.{converted, otherwise, spot_is}
-use Rattle.sl_due_law.proofs.Holdings.LeaseNexts.{IsFitNext, next_fits}
-use Rattle.sl_due_law.proofs.Holdings.LeasePlaces.{base_on, block_on, ids_within}
-use Rattle.sl_due_law.proofs.Jobs.RepliesComeAfter.{request_late, set_late, value_late}
-use Rattle.sl_due_law.proofs.Ways.Kept.DeltasFit.{freed_fits, joining_fits, renewed_fits, wake_fits}
-use Rattle.sl_due_law.proofs.Ways.Kept.HeardStands.{heard_has}
-use Rattle.sl_due_law.proofs.Ways.Kept.LeaseNextsLeave.{IsLate}
-use Rattle.sl_due_law.proofs.Ways.Kept.PlainWalks.{DeltaFits}
-use Rattle.sl_due_law.proofs.Ways.Kept.UnjoinedHaveNone.{its_joining, joins_still}
-use Rattle.sl_due_law.specs.Holdings.DecisionGrounds.{AsksLease, ConvertGrounds, GiveUpGrounds, HasGrounds}
+use Rattle.sl_due_leases.proofs.Grants.DeltasKeep.{free_keeps, renewal_keeps}
+use Rattle.sl_due_leases.proofs.Grants.OthersGoOn.{fits_begin, refusal_on, removal_of_refused_on, removal_on, said_on, sent_on, signalled_on, stopped_on}
+use Rattle.sl_due_leases.proofs.Grants.WorksByAnswers.{settling_no_job, new_spot, one_job}
+use Rattle.sl_due_leases.proofs.Grants.WorksByInputs.{input_works}
+use Rattle.sl_due_leases.proofs.Holdings.DecisionsHaveGrounds.{decisions_have_grounds}
+use Rattle.sl_due_leases.proofs.Holdings.HoldingFactsAreKept.{plainly_late, surveys_no_job}
+use Rattle.sl_due_leases.proofs.Holdings.HoldingsByAnswers.{Led, spot_at}
+use Rattle.sl_due_leases.proofs.Holdings.HoldingsByCalls.{call_added}
+use Rattle.sl_due_leases.proofs.Holdings.HoldingsByEffects.{later_same, unanswered_same, waking_same}
+use Rattle.sl_due_leases.proofs.Holdings.HoldingsByLines.{base_of, no_told}
+use Rattle.sl_due_leases.proofs.Holdings.LeaseCallers.{heard_session, spot_aligned}
+use Rattle.sl_due_leases.proofs.Holdings.LeaseConversions.{converted, otherwise, spot_is}
+use Rattle.sl_due_leases.proofs.Holdings.LeaseNexts.{IsFitNext, next_fits}
+use Rattle.sl_due_leases.proofs.Holdings.LeasePlaces.{base_on, block_on, ids_within}
+use Rattle.sl_due_facts.proofs.Jobs.RepliesComeAfter.{request_late, set_late, value_late}
+use Rattle.sl_due_leases.proofs.Ways.Kept.DeltasFit.{freed_fits, joining_fits, renewed_fits, wake_fits}
+use Rattle.sl_due_leases.proofs.Ways.Kept.HeardStands.{heard_has}
+use Rattle.sl_due_leases.proofs.Ways.Kept.LeaseNextsLeave.{IsLate}
+use Rattle.sl_due_leases.proofs.Ways.Kept.PlainWalks.{DeltaFits}
+use Rattle.sl_due_leases.proofs.Ways.Kept.UnjoinedHaveNone.{its_joining, joins_still}
+use Rattle.sl_due_leases.specs.Holdings.DecisionGrounds.{AsksLease, ConvertGrounds, GiveUpGrounds, HasGrounds}
 use Rattle.sl_trace.specs.Ballots.{moded_block}
 use Rattle.sl_trace.specs.Counts.{may_act}
 use Rattle.sl_trace.specs.Jobs.{job_of_start, command_numbered, process_named, resource_named}
@@ -82,15 +82,15 @@ use Rattle.std.proofs.Common.{refl, subst, ap, inl, sym, ◌∙◌, arith, inr}
 use Rattle.std.proofs.lemmas.Bool.{leb-true, eqb-true}
 use Rattle.std.specs.Option.{option_map_or}
 use Rattle.std.specs.Prelude.{List, None, Option, Some, false, if◌then◌else◌, is_some, ℕ, ◌+◌, ◌==◌, ◌≡◌, Bool, Contains, [], length, nat_le, true, ◌%◌, ◌&&◌, ◌||◌, ◌∷◌, ◌≤◌, Ok, not, ◌<◌, ◌⊎◌}
-use Rattle.sl_due_law.proofs.Grants.WorksByAnswers.{new_spot, nobody_there, one_job, settling_no_job}
-use Rattle.sl_due_law.proofs.Grants.WorksByLines.{Lined, nobody_waits}
-use Rattle.sl_due_law.proofs.Grants.WorksByDeltas.{is_lease_purpose}
-use Rattle.sl_due_law.proofs.Grants.WorksByLines.{held_before}
+use Rattle.sl_due_leases.proofs.Grants.WorksByAnswers.{new_spot, nobody_there, one_job, settling_no_job}
+use Rattle.sl_due_leases.proofs.Grants.WorksByLines.{Lined, nobody_waits}
+use Rattle.sl_due_leases.proofs.Grants.WorksByDeltas.{is_lease_purpose}
+use Rattle.sl_due_leases.proofs.Grants.WorksByLines.{held_before}
 use Rattle.sl_trace.specs.Counts.{may_act}
 use Rattle.sl_trace.specs.Ballots.{moded_block}
 use Rattle.sl_trace.specs.Limits.{most_processes}
 use Rattle.sl_trace.specs.Traces.{Child, child_numbered, first_child, is_child}
-use Rattle.sl_due_law.proofs.Grants.OthersGoOn.{delta_on, granted_on}
+use Rattle.sl_due_leases.proofs.Grants.OthersGoOn.{delta_on, granted_on}
 use Rattle.sl_acts.specs.Acts.{Acts}
 use Rattle.std.proofs.lemmas.Bool.{leb-true}
 use Rattle.sl_due.specs.DueCommands.{carry_decision, decided}

@@ -15,7 +15,7 @@ use Rattle.sl_sector.specs.declared.sector.DeltaState.{DeltaState}
 use Rattle.sl_sector.specs.declared.sector.DeltaState.TheVariants.{Claimed, Free, Live}
 use Rattle.sl_sector.specs.declared.sector.Rec.TheVariants.{BlockIs, DeltaIs, LeaderIs, RequestIs, ValueIs}
 use Rattle.sl_sector.specs.declared.sector.Rec.{Rec}
-use Rattle.sl_due_law.proofs.Sessions.JoinedNumbers.{HasNumbers, spelled_of}
+use Rattle.sl_due_facts.proofs.Sessions.JoinedNumbers.{HasNumbers, spelled_of}
 use Rattle.sl_trace.specs.Deltas.{claim_of, claim_on, delta_known, delta_of_session, delta_record, has_seq_left, id_held, id_lost, is_renewal_due, is_watched_out, join_step_of, next_after_deciding, next_after_first, next_after_join_read, next_after_verify, next_after_watch, next_by_time, next_free, next_in_joining, next_on_wake, next_renewal, watched}
 use Rattle.sl_trace.specs.Deltas.{DeltaLease}
 use Rattle.sl_trace.specs.Sessions.{calls_of, delta_of_record, delta_written, free_write, generation_of, is_call_of, is_join_call, is_joined, join_call, last_seq, leaving_job, sessions}
@@ -24,7 +24,7 @@ use Rattle.sl_trace.specs.declared.delta.DeltaKnown.{DeltaKnown}
 use Rattle.sl_trace.specs.declared.delta.DeltaNext.{DeltaNext}
 use Rattle.sl_trace.specs.declared.delta.DeltaNext.TheVariants.{Nothing, ReadOwn, RefuseJoin, RegisterAndRead, WriteClaim, WriteFirst, WriteFree, WriteRenewal}
 use Rattle.sl_trace.specs.declared.session.Session.{Session}
-use Rattle.sl_due_law.specs.Facts.Whole.{Whole}
+use Rattle.sl_due_facts.specs.Facts.Whole.{Whole}
 use Rattle.sl_time.specs.Times.{dead, join_max, renew}
 use Rattle.sl_trace.specs.Traces.{Job, Submitted, record_of, submitted}
 use Rattle.sl_trace.specs.declared.effects.JoinStep.{JoinStep}

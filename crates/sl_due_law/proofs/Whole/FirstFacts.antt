@@ -1,16 +1,16 @@
 -- Before the first entry all facts hold: there are the given sessions, with their connections, and nothing else.
 use Rattle.sl_due_law.specs.Whole.Promises.{FactsAtFirst}
-use Rattle.sl_due_law.proofs.Jobs.SessionsArePresent.{present_is}
+use Rattle.sl_due_facts.proofs.Jobs.SessionsArePresent.{present_is}
 use Rattle.sl_run.specs.Lawful.{IsSetting}
 use Rattle.sl_run.specs.LawfulWatchdog.{is_covered}
-use Rattle.sl_due_law.proofs.Ways.NumbersFollow.{numbers_follow}
+use Rattle.sl_due_leases.proofs.Ways.NumbersFollow.{numbers_follow}
 use Rattle.sl_plain.proofs.Lists.{contains_cases, contains_first, contains_map, contains_more, contains_none, find_fails, find_inside, in_map}
 use Rattle.sl_plain.proofs.Options.{some_there}
 use Rattle.sl_trace.specs.Sessions.{generation_of, given_session, is_joined, joined_after, last_renewal, last_seq, recovery_of, sessions}
 use Rattle.sl_trace.specs.declared.session.Session.{Session}
-use Rattle.sl_due_law.specs.Facts.GrantGrounds.{GrantGrounds, IsDoneWork}
-use Rattle.sl_due_law.specs.Facts.SessionFacts.{ConnectionFacts, DeltaFacts, IsHeardWriter, NameFacts}
-use Rattle.sl_due_law.specs.Facts.WayFacts.{WayFacts}
+use Rattle.sl_due_facts.specs.Facts.GrantGrounds.{GrantGrounds, IsDoneWork}
+use Rattle.sl_due_facts.specs.Facts.SessionFacts.{ConnectionFacts, DeltaFacts, IsHeardWriter, NameFacts}
+use Rattle.sl_due_facts.specs.Facts.WayFacts.{WayFacts}
 use Rattle.sl_time.specs.Times.{fail}
 use Rattle.sl_trace.specs.Connections.{Connection, connection_named, connections, given_connection, is_registered}
 use Rattle.sl_trace.specs.Traces.{Setting, Submitted, Trace}

@@ -2,10 +2,10 @@
 use Rattle.sl_acts.specs.Acts.{Hears}
 use Rattle.sl_acts.specs.SoFar.{entry_of}
 use Rattle.sl_due.specs.Steps.{Step, seen}
-use Rattle.sl_due_law.proofs.Jobs.JobFactsGrow.{was_unanswered}
-use Rattle.sl_due_law.proofs.Jobs.JobsAreAllowed.{calls_heard}
-use Rattle.sl_due_law.proofs.Jobs.JobsAreNumbered.{command_stays}
-use Rattle.sl_due_law.specs.Facts.JobFacts.{JobFacts}
+use Rattle.sl_due_facts.proofs.Jobs.JobFactsGrow.{was_unanswered}
+use Rattle.sl_due_facts.proofs.Jobs.JobsAreAllowed.{calls_heard}
+use Rattle.sl_due_facts.proofs.Jobs.JobsAreNumbered.{command_stays}
+use Rattle.sl_due_facts.specs.Facts.JobFacts.{JobFacts}
 use Rattle.sl_due_law.specs.Whole.Kept.{Kept}
 use Rattle.sl_trace.specs.Jobs.{command_numbered}
 use Rattle.sl_plain.proofs.Lists.{find_inside, in_map}

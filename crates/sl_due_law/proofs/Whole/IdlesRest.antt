@@ -1,11 +1,11 @@
 -- No job is left whose call was answered otherwise than it asks, or is of a session that is gone; and a child's job is answered when its start is.
 use Rattle.sl_acts.specs.Acts.{Hears, IsIdle}
 use Rattle.sl_due.specs.Steps.{Step, seen}
-use Rattle.sl_due_law.proofs.Ways.Kept.HeardStands.{HeardCall, heard_call}
+use Rattle.sl_due_leases.proofs.Ways.Kept.HeardStands.{HeardCall, heard_call}
 use Rattle.sl_due_law.proofs.Whole.CallsSuit.{heard_suits}
 use Rattle.sl_due_law.proofs.Whole.LeasesRest.{read_fits, written_fits}
-use Rattle.sl_due_law.specs.Facts.JobFacts.{FitsCommand}
-use Rattle.sl_due_law.specs.Facts.Whole.{Whole}
+use Rattle.sl_due_facts.specs.Facts.JobFacts.{FitsCommand}
+use Rattle.sl_due_facts.specs.Facts.Whole.{Whole}
 use Rattle.sl_due_law.specs.Whole.JobLore.{AllSuit, OpFits}
 use Rattle.sl_due_law.specs.Whole.Kept.{Kept}
 use Rattle.sl_due_law.specs.Whole.Promises.{MayRest}

@@ -1,6 +1,6 @@
 -- What is known of jobs before a step and so far in it is kept by each act.
 use Rattle.sl_acts.proofs.ActsTogether.{both, from_more}
-use Rattle.sl_due_law.proofs.Jobs.LessIsKept.{to_less}
+use Rattle.sl_due_facts.proofs.Jobs.LessIsKept.{to_less}
 use Rattle.sl_acts.proofs.PlainActs.{plain_acts}
 use Rattle.sl_acts.specs.Acts.{Acts, Expects}
 use Rattle.sl_acts.specs.Plainly.{ByEffects, Plainly}
@@ -13,17 +13,17 @@ use Rattle.sl_due_law.proofs.Whole.ConvertsHold.{ConvertsNow}
 use Rattle.sl_due_law.proofs.Whole.SessionsOfJobs.{KnowsSessions, sessions_stay_one}
 use Rattle.sl_due_law.proofs.Whole.ConvertsKept.{KnowsConverting, conversions_hold}
 use Rattle.sl_due_law.specs.Whole.JobLore.{Converting, JobLore, NewSessions, NewSuit}
-use Rattle.sl_due_law.proofs.Jobs.JobFactsGrow.{was_unanswered}
-use Rattle.sl_due_law.proofs.Jobs.JobsAreAllowed.{calls_heard}
-use Rattle.sl_due_law.proofs.Holdings.HoldingsByInputs.{sessions_seen_still}
+use Rattle.sl_due_facts.proofs.Jobs.JobFactsGrow.{was_unanswered}
+use Rattle.sl_due_facts.proofs.Jobs.JobsAreAllowed.{calls_heard}
+use Rattle.sl_due_leases.proofs.Holdings.HoldingsByInputs.{sessions_seen_still}
 use Rattle.sl_trace_law.proofs.Sessions.Making.{same_answered}
 use Rattle.sl_trace.specs.declared.effects.Call.{Call}
 use Rattle.sl_due_law.specs.Whole.Kept.{Kept}
-use Rattle.sl_due_law.proofs.Jobs.CallsHaveFacts.{calls_before}
+use Rattle.sl_due_facts.proofs.Jobs.CallsHaveFacts.{calls_before}
 use Rattle.sl_plain.proofs.Lists.{find_inside, in_map}
 use Rattle.sl_trace.specs.Sessions.{is_present, session_numbered}
 use Rattle.sl_trace.specs.declared.session.Session.{Session}
-use Rattle.sl_due_law.specs.Facts.Heard.{heard_by}
+use Rattle.sl_due_facts.specs.Facts.Heard.{heard_by}
 use Rattle.sl_trace.specs.Traces.{Submitted, answered_in, call_numbered, is_running, job_of, submitted}
 use Rattle.sl_trace.specs.declared.input.Answer.{Answer}
 use Rattle.sl_trace.specs.declared.input.Input.TheVariants.{Answer as Told, Wake}

@@ -3,18 +3,18 @@ use Rattle.sl_area.specs.Places.{leader_of}
 use Rattle.sl_due_law.proofs.Whole.OwnRecords.{few_hosts, fits_it, session_named_well}
 use Rattle.sl_run.specs.Lawful.{IsSetting}
 use Rattle.sl_run.specs.LawfulArea.{HasVerified, is_leader_read}
-use Rattle.sl_due_law.proofs.Leases.NamesVerified.{has_verified}
-use Rattle.sl_due_law.proofs.Ways.Decoding.{leader_read}
-use Rattle.sl_due_law.proofs.Ways.Kept.PlacesStand.{id_in_range}
+use Rattle.sl_due_leases.proofs.Leases.NamesVerified.{has_verified}
+use Rattle.sl_due_leases.proofs.Ways.Decoding.{leader_read}
+use Rattle.sl_due_leases.proofs.Ways.Kept.PlacesStand.{id_in_range}
 use Rattle.sl_trace.specs.LeaseWork.{leader_for, lease_place}
 use Rattle.sl_trace.specs.Leases.{is_on, known, lease_calls}
 use Rattle.sl_plain.proofs.Lists.{contains_cases, contains_none}
 use Rattle.sl_plain.proofs.Options.{then_value}
 use Rattle.sl_sector.specs.Records.{Fits, IsLeader}
-use Rattle.sl_due_law.proofs.Sessions.JoinedNumbers.{HasNumbers}
+use Rattle.sl_due_facts.proofs.Sessions.JoinedNumbers.{HasNumbers}
 use Rattle.sl_trace.specs.Sessions.{calls_of, generation_of, sessions}
 use Rattle.sl_trace.specs.declared.session.Session.{Session}
-use Rattle.sl_due_law.specs.Facts.WayFacts.{IsVerified, way_context}
+use Rattle.sl_due_facts.specs.Facts.WayFacts.{IsVerified, way_context}
 use Rattle.sl_text.specs.Names.{is_name}
 use Rattle.sl_trace.specs.Traces.{Setting, Submitted, Trace, gave}
 use Rattle.sl_trace.specs.declared.effects.Spot.{Spot}

@@ -4,20 +4,20 @@ use Rattle.sl_acts.specs.SoFar.{entry_of}
 use Rattle.sl_area.specs.Places.{block_offset, leader_offset}
 use Rattle.sl_due.specs.DueLease.{carry_lease, convert_holding, goes_on, grant_for, grant_of, next_of_lease, read_for, write_block, write_leader}
 use Rattle.sl_due.specs.Steps.{Step, add_call_of, add_end, add_grant, add_reply, add_start, seen, with_some}
-use Rattle.sl_due_law.proofs.Holdings.HoldingsByAnswers.{JobLed, Led, beside_job, job_led}
-use Rattle.sl_due_law.proofs.Holdings.LeaseConversions.{after_converting, by_found}
-use Rattle.sl_due_law.proofs.Grants.WorksByLines.{held_before}
-use Rattle.sl_due_law.proofs.Grants.Values.ReadsByInputs.{has_number}
-use Rattle.sl_due_law.proofs.Jobs.JobsAreNumbered.{finds_none, found_after}
-use Rattle.sl_due_law.proofs.Jobs.SessionsStand.{reply_stops}
-use Rattle.sl_due_law.proofs.Parts.EffectsAreTold.{effects_are_told}
-use Rattle.sl_due_law.proofs.Ways.Kept.HeardStands.{HeardCall, heard_call}
+use Rattle.sl_due_leases.proofs.Holdings.HoldingsByAnswers.{JobLed, Led, beside_job, job_led}
+use Rattle.sl_due_leases.proofs.Holdings.LeaseConversions.{after_converting, by_found}
+use Rattle.sl_due_leases.proofs.Grants.WorksByLines.{held_before}
+use Rattle.sl_due_leases.proofs.Grants.Values.ReadsByInputs.{has_number}
+use Rattle.sl_due_facts.proofs.Jobs.JobsAreNumbered.{finds_none, found_after}
+use Rattle.sl_due_facts.proofs.Jobs.SessionsStand.{reply_stops}
+use Rattle.sl_due_facts.proofs.Parts.EffectsAreTold.{effects_are_told}
+use Rattle.sl_due_leases.proofs.Ways.Kept.HeardStands.{HeardCall, heard_call}
 use Rattle.sl_due_law.proofs.Whole.CallsSuit.{heard_suits}
 use Rattle.sl_due_law.proofs.Whole.HeardBefore.{HeardBefore, heard_before, ran_past}
 use Rattle.sl_due_law.proofs.Whole.LeasesGoOn.{GoesOn, LeaseGrounds, lease_goes_on, reads_at}
 use Rattle.sl_due_law.proofs.Whole.OwnBlocks.{NewestWays, newest_ways, own_behind, own_in_area}
-use Rattle.sl_due_law.specs.Facts.WayFacts.{After_take, In_conversion, ModeReason, PurposeWay, StepWay, WayContext, way_context}
-use Rattle.sl_due_law.specs.Facts.WorkFacts.{MayBeHeld}
+use Rattle.sl_due_facts.specs.Facts.WayFacts.{After_take, In_conversion, ModeReason, PurposeWay, StepWay, WayContext, way_context}
+use Rattle.sl_due_facts.specs.Facts.WorkFacts.{MayBeHeld}
 use Rattle.sl_due_law.specs.Whole.Busy.{For_call, For_child}
 use Rattle.sl_due_law.specs.Whole.JobLore.{HoldsThere, JobLore}
 use Rattle.sl_due_law.specs.Whole.Kept.{Kept}
@@ -34,7 +34,7 @@ use Rattle.sl_plain.proofs.Lists.{contains_first, find_fails, kept}
 use Rattle.sl_plain.proofs.Numbers.{number_itself}
 use Rattle.sl_sector.specs.declared.sector.Block.{Block}
 use Rattle.sl_sector.specs.declared.sector.Rec.TheVariants.{BlockIs, LeaderIs}
-use Rattle.sl_due_law.proofs.Holdings.LeaseCallers.{heard_session}
+use Rattle.sl_due_leases.proofs.Holdings.LeaseCallers.{heard_session}
 use Rattle.sl_trace.specs.Sessions.{holdings_of}
 use Rattle.sl_trace.specs.declared.session.Session.{Session}
 use Rattle.sl_trace.proofs.TraceFacts.{submitted-push}

@@ -8,19 +8,19 @@ use Rattle.sl_due.specs.DueLease.{carry_lease}
 use Rattle.sl_due.specs.Steps.{Step, add_end, add_reply, add_signal, add_start, seen, with_input}
 use Rattle.sl_due.specs.declared.decision.Decision.TheVariants.{ConvertsTo, GetsValue, GivesUp, Joins, Leaves, ReadsArea, Replies, Requests, SetsValue, Shares, TakesOver}
 use Rattle.sl_due.specs.declared.decision.Decision.{Decision}
-use Rattle.sl_due_law.proofs.Holdings.DecisionsHaveGrounds.{decisions_have_grounds}
-use Rattle.sl_due_law.proofs.Holdings.HoldingsByInputs.{given_seen}
-use Rattle.sl_due_law.proofs.Holdings.LeaseConversions.{spot_is}
-use Rattle.sl_due_law.proofs.Jobs.CallsHaveFacts.{sessions_bare}
-use Rattle.sl_due_law.proofs.Jobs.DecisionsFit.{DecisionFits, decisions_fit}
-use Rattle.sl_due_law.proofs.Jobs.JobsAreNumbered.{next_before, next_is_new}
-use Rattle.sl_due_law.proofs.Jobs.SessionsArePresent.{present_is, session_has}
-use Rattle.sl_due_law.proofs.Sessions.DeltaLines.{calls_lined}
+use Rattle.sl_due_leases.proofs.Holdings.DecisionsHaveGrounds.{decisions_have_grounds}
+use Rattle.sl_due_leases.proofs.Holdings.HoldingsByInputs.{given_seen}
+use Rattle.sl_due_leases.proofs.Holdings.LeaseConversions.{spot_is}
+use Rattle.sl_due_facts.proofs.Jobs.CallsHaveFacts.{sessions_bare}
+use Rattle.sl_due_facts.proofs.Jobs.DecisionsFit.{DecisionFits, decisions_fit}
+use Rattle.sl_due_facts.proofs.Jobs.JobsAreNumbered.{next_before, next_is_new}
+use Rattle.sl_due_facts.proofs.Jobs.SessionsArePresent.{present_is, session_has}
+use Rattle.sl_due_facts.proofs.Sessions.DeltaLines.{calls_lined}
 use Rattle.sl_due_law.proofs.Whole.CallersStay.{replied_stops}
 use Rattle.sl_due_law.proofs.Whole.LeasesRest.{called_rests, granted_rests, is_granting, replied_rests}
 use Rattle.sl_due_law.proofs.Whole.SharedBlocks.{shared_block}
 use Rattle.sl_due_law.proofs.Whole.WaitsStay.{leaving_replied}
-use Rattle.sl_due_law.specs.Holdings.DecisionGrounds.{AsksLease, ConvertGrounds, GiveUpGrounds, HasGrounds}
+use Rattle.sl_due_leases.specs.Holdings.DecisionGrounds.{AsksLease, ConvertGrounds, GiveUpGrounds, HasGrounds}
 use Rattle.sl_due_law.specs.Whole.Busy.{For_leaving}
 use Rattle.sl_due_law.specs.Whole.Kept.{Kept}
 use Rattle.sl_due_law.specs.Whole.Promises.{MayRest}

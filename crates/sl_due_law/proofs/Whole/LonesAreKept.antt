@@ -15,11 +15,11 @@ use Rattle.sl_due.specs.Steps.{Step, add_call_of, add_end, add_move, add_signal,
 use Rattle.sl_due.specs.declared.decision.Decision.{Decision}
 use Rattle.sl_due.specs.declared.decision.Decision.TheVariants.{ConvertsTo, GetsValue, GivesUp, Joins, Leaves, ReadsArea, Replies, Requests, SetsValue, Shares, TakesOver}
 use Rattle.sl_due_law.specs.Whole.Lones.{LoneCall, Lones, Looks_first, Plain_call, Sees_request, sees_request}
-use Rattle.sl_due_law.proofs.Jobs.EffectsAreAllowed.{Allows, DecisionAllowed, DeltaAllowed, LeaseAllowed, ReadAllowed, RequestAllowed, decision, delta, ended, exited, lease, left, refusal, removal_of_refused, requested, said, sent, stopped}
-use Rattle.sl_due_law.proofs.Jobs.JobsAreNumbered.{next_is_new}
-use Rattle.sl_due_law.proofs.Jobs.LinesAreAllowed.{IsBegun}
-use Rattle.sl_due_law.proofs.Jobs.NearlyPlainActs.{AnyMove, AnyStart, Anything, grant_plain}
-use Rattle.sl_due_law.proofs.Jobs.RepliesComeAfter.{IsLateDelta, joining_late, on_bool, on_option, wake_late}
+use Rattle.sl_due_facts.proofs.Jobs.EffectsAreAllowed.{Allows, DecisionAllowed, DeltaAllowed, LeaseAllowed, ReadAllowed, RequestAllowed, decision, delta, ended, exited, lease, left, refusal, removal_of_refused, requested, said, sent, stopped}
+use Rattle.sl_due_facts.proofs.Jobs.JobsAreNumbered.{next_is_new}
+use Rattle.sl_due_facts.proofs.Jobs.LinesAreAllowed.{IsBegun}
+use Rattle.sl_due_facts.proofs.Jobs.NearlyPlainActs.{AnyMove, AnyStart, Anything, grant_plain}
+use Rattle.sl_due_facts.proofs.Jobs.RepliesComeAfter.{IsLateDelta, joining_late, on_bool, on_option, wake_late}
 use Rattle.sl_trace.specs.Jobs.{job_of_start}
 use Rattle.sl_trace.specs.LeaseWork.{convert_next, lease_place, release_next, settle_next}
 use Rattle.sl_trace.specs.Leases.{exclusive_on, holdings_on, known, spot_of, spot_of_call}
@@ -36,8 +36,8 @@ use Rattle.sl_trace.specs.declared.delta.DeltaKnown.{DeltaKnown}
 use Rattle.sl_trace.specs.declared.delta.DeltaNext.{DeltaNext}
 use Rattle.sl_trace.specs.declared.delta.DeltaNext.TheVariants.{Disconnect, EndLeaving, Join, MoveConnection, Nothing, ReadOwn, RefuseJoin, RegisterAndRead, WriteClaim, WriteFirst, WriteFree, WriteRenewal}
 use Rattle.sl_trace.specs.declared.session.Session.{Session}
-use Rattle.sl_due_law.specs.Facts.Heard.{heard_by}
-use Rattle.sl_due_law.specs.Facts.Whole.{Whole}
+use Rattle.sl_due_facts.specs.Facts.Heard.{heard_by}
+use Rattle.sl_due_facts.specs.Facts.Whole.{Whole}
 use Rattle.sl_trace.specs.Connections.{is_registered}
 use Rattle.sl_trace.specs.Traces.{end_of, holdings, is_running, is_shared, job_numbered, line_in, next_call, next_job, same_place, spot_of_grant}
 use Rattle.sl_trace.specs.declared.command.Command.{Command}

@@ -10,16 +10,16 @@ use Rattle.sl_trace.specs.Jobs.{command_numbered}
 use Rattle.sl_plain.proofs.Lists.{contains_none, got_inside, kept}
 use Rattle.sl_plain.proofs.Numbers.{number_itself}
 use Rattle.sl_plain.proofs.Options.{some_of}
-use Rattle.sl_due_law.proofs.Sessions.NameActs.{running_unrefused}
-use Rattle.sl_due_law.proofs.Sessions.NamesAtEnd.{running_unjoined}
+use Rattle.sl_due_facts.proofs.Sessions.NameActs.{running_unrefused}
+use Rattle.sl_due_facts.proofs.Sessions.NamesAtEnd.{running_unjoined}
 use Rattle.sl_trace.specs.Sessions.{calls_of, free_write, is_join_call, is_joined, joined_after, refused_after, removed_after, session_numbered, sessions, stage_after, stage_in, stage_of}
 use Rattle.sl_trace.specs.declared.session.Session.{Session}
 use Rattle.sl_trace.specs.declared.stage.Stage.{Stage}
 use Rattle.sl_trace.specs.declared.stage.Stage.TheVariants.{Ended, Freeing, Looking, Refused, Standing}
-use Rattle.sl_due_law.specs.Facts.Heard.{heard_by}
-use Rattle.sl_due_law.specs.Facts.HoldingFacts.{HoldingFacts}
-use Rattle.sl_due_law.specs.Facts.JobFacts.{FitsCommand, JobFacts}
-use Rattle.sl_due_law.specs.Facts.SessionFacts.{DeltaFacts}
+use Rattle.sl_due_facts.specs.Facts.Heard.{heard_by}
+use Rattle.sl_due_facts.specs.Facts.HoldingFacts.{HoldingFacts}
+use Rattle.sl_due_facts.specs.Facts.JobFacts.{FitsCommand, JobFacts}
+use Rattle.sl_due_facts.specs.Facts.SessionFacts.{DeltaFacts}
 use Rattle.sl_trace.specs.Traces.{Submitted, Trace, holdings, is_answered_ok, job_of, mark, new_call, submitted}
 use Rattle.sl_trace.specs.declared.effects.Grant.{Grant}
 use Rattle.sl_trace.specs.declared.effects.JoinStep.{JoinStep}

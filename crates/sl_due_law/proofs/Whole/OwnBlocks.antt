@@ -2,17 +2,17 @@
 use Rattle.sl_acts.specs.Acts.{Hears}
 use Rattle.sl_area.specs.Places.{area_blocks}
 use Rattle.sl_due.specs.Steps.{Step, seen}
-use Rattle.sl_due_law.proofs.Leases.NamesVerified.{ended_wrote}
-use Rattle.sl_due_law.proofs.Ways.Kept.EffectsLeave.{there_has}
-use Rattle.sl_due_law.proofs.Ways.Kept.HeardStands.{heard_call, heard_has, heard_open}
-use Rattle.sl_due_law.proofs.Ways.Kept.PlacesStand.{id_in_range}
-use Rattle.sl_due_law.proofs.Ways.NewestCall.{block_is, ended_here, leader_is_no_block, read_writes_no_block, submitted_here, submitted_passed}
-use Rattle.sl_due_law.proofs.Ways.NextsFit.PhasesFit.{given_by, given_in}
-use Rattle.sl_due_law.proofs.Ways.Places.{spot_aligned}
+use Rattle.sl_due_leases.proofs.Leases.NamesVerified.{ended_wrote}
+use Rattle.sl_due_leases.proofs.Ways.Kept.EffectsLeave.{there_has}
+use Rattle.sl_due_leases.proofs.Ways.Kept.HeardStands.{heard_call, heard_has, heard_open}
+use Rattle.sl_due_leases.proofs.Ways.Kept.PlacesStand.{id_in_range}
+use Rattle.sl_due_leases.proofs.Ways.NewestCall.{block_is, ended_here, leader_is_no_block, read_writes_no_block, submitted_here, submitted_passed}
+use Rattle.sl_due_leases.proofs.Ways.NextsFit.PhasesFit.{given_by, given_in}
+use Rattle.sl_due_leases.proofs.Ways.Places.{spot_aligned}
 use Rattle.sl_due_law.proofs.Whole.BallotWrites.{phase1_own}
 use Rattle.sl_due_law.proofs.Whole.LeasesGoOn.{is_behind_block}
-use Rattle.sl_due_law.specs.Facts.WayFacts.{Phase2ReadWay, Phase2Way, PurposeWay, TakeWay, WayContext, Ways, way_context}
-use Rattle.sl_due_law.specs.Facts.Whole.{Whole}
+use Rattle.sl_due_facts.specs.Facts.WayFacts.{Phase2ReadWay, Phase2Way, PurposeWay, TakeWay, WayContext, Ways, way_context}
+use Rattle.sl_due_facts.specs.Facts.Whole.{Whole}
 use Rattle.sl_trace.specs.Leases.{block_of_host, block_submitted, blocks_given, known, last_blocks, lease_calls, lease_step, own_known, own_or_read, spot_of_call}
 use Rattle.sl_plain.proofs.Lists.{there_is}
 use Rattle.sl_plain.proofs.Places.{position_none}

@@ -1,9 +1,9 @@
 -- What a session writes on its id's sector, of a request and of a value is a record.
 use Rattle.sl_area.specs.Layouts.{IsGeometry, Sizes}
-use Rattle.sl_due_law.proofs.Jobs.JobsAreNumbered.{command_is_read}
-use Rattle.sl_due_law.proofs.Jobs.SessionsHaveJobs.{given_one, joined_by}
+use Rattle.sl_due_facts.proofs.Jobs.JobsAreNumbered.{command_is_read}
+use Rattle.sl_due_facts.proofs.Jobs.SessionsHaveJobs.{given_one, joined_by}
 use Rattle.sl_run.specs.Lawful.{IsGiven, IsSetting}
-use Rattle.sl_due_law.proofs.Ways.Kept.PlacesStand.{id_in_range}
+use Rattle.sl_due_leases.proofs.Ways.Kept.PlacesStand.{id_in_range}
 use Rattle.sl_plain.proofs.Lists.{contains_cases, contains_none}
 use Rattle.sl_request.proofs.BitmapFacts.{listed_are_set, none_is_set}
 use Rattle.sl_sector.specs.Bitmaps.{bitmap_of, no_bits}

@@ -2,14 +2,14 @@
 use Rattle.sl_due.specs.DueCommands.{decided}
 use Rattle.sl_due.specs.declared.decision.Decision.TheVariants.{GivesUp}
 use Rattle.sl_due_law.proofs.Whole.LeaderWrites.{leader_well}
-use Rattle.sl_due_law.proofs.Holdings.DecisionsHaveGrounds.{decisions_have_grounds}
-use Rattle.sl_due_law.proofs.Holdings.HoldingsByLeases.{base_aligned}
-use Rattle.sl_due_law.specs.Holdings.DecisionGrounds.{GiveUpGrounds, HasGrounds}
-use Rattle.sl_due_law.proofs.Jobs.SessionsArePresent.{present_is, session_has}
-use Rattle.sl_due_law.proofs.Ways.WayNumbers.{is_verified}
+use Rattle.sl_due_leases.proofs.Holdings.DecisionsHaveGrounds.{decisions_have_grounds}
+use Rattle.sl_due_leases.proofs.Holdings.HoldingsByLeases.{base_aligned}
+use Rattle.sl_due_leases.specs.Holdings.DecisionGrounds.{GiveUpGrounds, HasGrounds}
+use Rattle.sl_due_facts.proofs.Jobs.SessionsArePresent.{present_is, session_has}
+use Rattle.sl_due_leases.proofs.Ways.WayNumbers.{is_verified}
 use Rattle.sl_plain.proofs.Lists.{find_inside, kept_inside}
-use Rattle.sl_due_law.proofs.Connections.ConnectionLines.{active_is_joined}
-use Rattle.sl_due_law.specs.Facts.WayFacts.{way_context}
+use Rattle.sl_due_facts.proofs.Connections.ConnectionLines.{active_is_joined}
+use Rattle.sl_due_facts.specs.Facts.WayFacts.{way_context}
 use Rattle.sl_trace.specs.declared.command.Command.{Command}
 use Rattle.std.proofs.lemmas.Bool.{eqb-true}
 use Rattle.sl_due.specs.Steps.{Step, add_end, seen, with_input}
@@ -21,10 +21,10 @@ use Rattle.sl_trace.specs.Leases.{block_submitted, is_lease_call, is_on, known, 
 use Rattle.sl_trace.specs.declared.lease.LeaseNext.TheVariants.{Nothing, WriteBlock}
 use Rattle.sl_sector.specs.Records.{IsBlock, IsLeader}
 use Rattle.sl_sector.specs.declared.sector.Block.{Block}
-use Rattle.sl_due_law.proofs.Sessions.DeltaLines.{calls_lined}
+use Rattle.sl_due_facts.proofs.Sessions.DeltaLines.{calls_lined}
 use Rattle.sl_trace.specs.Sessions.{generation_in, holdings_of, is_call_of, present_sessions, session_numbered, sessions}
 use Rattle.sl_trace.specs.declared.session.Session.{Session}
-use Rattle.sl_due_law.specs.Facts.Whole.{Whole}
+use Rattle.sl_due_facts.specs.Facts.Whole.{Whole}
 use Rattle.sl_trace.specs.Traces.{Submitted, end_of, holdings, is_shared, same_place, spot_of_grant}
 use Rattle.sl_trace.specs.declared.effects.Grant.{Grant}
 use Rattle.sl_trace.specs.declared.effects.LeaseStep.TheVariants.{ClearMode}

@@ -11,14 +11,14 @@ use Rattle.sl_due.specs.DueRequests.{after_value_read, bits_due, owner_read, val
 use Rattle.sl_due.specs.Steps.{Step, add_end, add_reply, begin_step, seen, with_input}
 use Rattle.sl_due.specs.declared.decision.Decision.TheVariants.{ConvertsTo, GetsValue, GivesUp, Joins, Leaves, ReadsArea, Replies, Requests, SetsValue, Shares, TakesOver}
 use Rattle.sl_due.specs.declared.decision.Decision.{Decision}
-use Rattle.sl_due_law.proofs.Jobs.EffectsAreAllowed.{Allows, DecisionAllowed, DeltaAllowed, LeaseAllowed, ReadAllowed, RequestAllowed, decision, delta, ended, exited, lease, left, refusal, removal, removal_of_refused, requested, said, sent, signalled, stopped}
-use Rattle.sl_due_law.proofs.Jobs.JobsAreNumbered.{next_before, next_is_new}
-use Rattle.sl_due_law.proofs.Holdings.LeaseCallers.{heard_session}
-use Rattle.sl_due_law.proofs.Jobs.NearlyPlainActs.{AnyMove, AnyStart, Anything, grant_plain}
+use Rattle.sl_due_facts.proofs.Jobs.EffectsAreAllowed.{Allows, DecisionAllowed, DeltaAllowed, LeaseAllowed, ReadAllowed, RequestAllowed, decision, delta, ended, exited, lease, left, refusal, removal, removal_of_refused, requested, said, sent, signalled, stopped}
+use Rattle.sl_due_facts.proofs.Jobs.JobsAreNumbered.{next_before, next_is_new}
+use Rattle.sl_due_leases.proofs.Holdings.LeaseCallers.{heard_session}
+use Rattle.sl_due_facts.proofs.Jobs.NearlyPlainActs.{AnyMove, AnyStart, Anything, grant_plain}
 use Rattle.sl_due_law.proofs.Recovery.StopsBegin.{begun_says}
 use Rattle.sl_due_law.proofs.Whole.CallsSuit.{no_lease, work_of}
 use Rattle.sl_due_law.proofs.Whole.HeardBefore.{HeardBefore, heard_before}
-use Rattle.sl_due_law.specs.Facts.JobFacts.{JobFacts}
+use Rattle.sl_due_facts.specs.Facts.JobFacts.{JobFacts}
 use Rattle.sl_due_law.specs.Whole.JobLore.{NewSessions, OneSession, SameSession}
 use Rattle.sl_due_law.specs.Whole.Kept.{Kept}
 use Rattle.sl_trace.specs.Jobs.{command_numbered, command_of, job_of_start}

@@ -7,8 +7,8 @@ use Rattle.sl_due_law.proofs.Whole.OwnRecords.{few_hosts, fits_it}
 use Rattle.sl_due_law.proofs.Whole.ReleaseWrites.{unmoded}
 use Rattle.sl_due_law.proofs.Whole.ValueWrites.{own_is_record}
 use Rattle.sl_due_law.specs.Whole.Writes.{LeaseWrites}
-use Rattle.sl_due_law.proofs.Ways.Kept.EffectsLeave.{there_has}
-use Rattle.sl_due_law.proofs.Ways.Kept.PlacesStand.{id_in_range}
+use Rattle.sl_due_leases.proofs.Ways.Kept.EffectsLeave.{there_has}
+use Rattle.sl_due_leases.proofs.Ways.Kept.PlacesStand.{id_in_range}
 use Rattle.sl_trace.specs.Ballots.{moded_block, phase1_block}
 use Rattle.sl_trace.specs.LeaseWork.{LeasePlace, begin_next, lease_place, phase1_next, refuses, settle_next, settle_owed}
 use Rattle.sl_trace.specs.Leases.{LeaseKnown, known, mode_gen_of, owed_free, own_known, own_or_read}
@@ -20,12 +20,12 @@ use Rattle.sl_trace.specs.declared.lease.Owed.TheVariants.{BallotOwed, FreeOwed,
 use Rattle.sl_trace.specs.declared.lease.Owed.{Owed}
 use Rattle.sl_sector.specs.Records.{Fits, IsBlock}
 use Rattle.sl_sector.specs.declared.sector.Block.{Block}
-use Rattle.sl_due_law.proofs.Connections.ConnectionLines.{active_is_joined}
-use Rattle.sl_due_law.proofs.Sessions.JoinedNumbers.{HasNumbers}
+use Rattle.sl_due_facts.proofs.Connections.ConnectionLines.{active_is_joined}
+use Rattle.sl_due_facts.proofs.Sessions.JoinedNumbers.{HasNumbers}
 use Rattle.sl_trace.specs.Sessions.{generation_of, is_active, sessions}
 use Rattle.sl_trace.specs.declared.session.Session.{Session}
-use Rattle.sl_due_law.specs.Facts.WayFacts.{IsAligned}
-use Rattle.sl_due_law.specs.Facts.Whole.{Whole}
+use Rattle.sl_due_facts.specs.Facts.WayFacts.{IsAligned}
+use Rattle.sl_due_facts.specs.Facts.Whole.{Whole}
 use Rattle.sl_trace.specs.declared.effects.LeaseStep.TheVariants.{ClearMode, Phase1Write}
 use Rattle.sl_trace.specs.declared.effects.Spot.{Spot}
 use Rattle.sl_trace.specs.declared.reply.Limited.TheVariants.{Lver as LverLimit, Mbal as MbalLimit}

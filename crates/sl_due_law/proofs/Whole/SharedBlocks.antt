@@ -1,6 +1,6 @@
 -- Whoever holds a resource shared has submitted a block of its own there.
-use Rattle.sl_due_law.proofs.Holdings.LeaseConversions.{spot_is}
-use Rattle.sl_due_law.proofs.Ways.NewestCall.{submitted_here, submitted_passed}
+use Rattle.sl_due_leases.proofs.Holdings.LeaseConversions.{spot_is}
+use Rattle.sl_due_leases.proofs.Ways.NewestCall.{submitted_here, submitted_passed}
 use Rattle.sl_run.specs.Lawful.{Orderly}
 use Rattle.sl_run.specs.LawfulGrant.{LawfulGrant}
 use Rattle.sl_run.specs.LawfulModes.{LawfulExclusiveGrant, LawfulModes, LawfulSharedGrant}

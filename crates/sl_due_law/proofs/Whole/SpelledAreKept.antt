@@ -23,9 +23,9 @@ use Rattle.sl_due.specs.DueRequests.{after_value_read, bits_due, value_reply}
 use Rattle.sl_due.specs.Steps.{Step, add_end, seen, with_input}
 use Rattle.sl_due.specs.declared.decision.Decision.{Decision}
 use Rattle.sl_due.specs.declared.decision.Decision.TheVariants.{ConvertsTo, GetsValue, GivesUp, Joins, Leaves, ReadsArea, Replies, Requests, SetsValue, Shares, TakesOver}
-use Rattle.sl_due_law.proofs.Jobs.EffectsAreAllowed.{Allows, DecisionAllowed, DeltaAllowed, GrantAllowed, LeaseAllowed, ReadAllowed, RequestAllowed, decision, delta, ended, exited, lease, left, refusal, removal_of_refused, requested, said, sent, stopped}
-use Rattle.sl_due_law.proofs.Jobs.NearlyPlainActs.{AnyMove, AnyStart, Anything}
-use Rattle.sl_due_law.proofs.Jobs.RepliesComeAfter.{on_bool}
+use Rattle.sl_due_facts.proofs.Jobs.EffectsAreAllowed.{Allows, DecisionAllowed, DeltaAllowed, GrantAllowed, LeaseAllowed, ReadAllowed, RequestAllowed, decision, delta, ended, exited, lease, left, refusal, removal_of_refused, requested, said, sent, stopped}
+use Rattle.sl_due_facts.proofs.Jobs.NearlyPlainActs.{AnyMove, AnyStart, Anything}
+use Rattle.sl_due_facts.proofs.Jobs.RepliesComeAfter.{on_bool}
 use Rattle.sl_trace.specs.Jobs.{job_of_start}
 use Rattle.sl_trace.specs.LeaseWork.{convert_next, lease_place, release_next, settle_next}
 use Rattle.sl_trace.specs.Leases.{known, spot_of, spot_of_call}
@@ -65,8 +65,8 @@ use Rattle.sl_due_law.proofs.Whole.OwnRecords.{request_is, session_id}
 use Rattle.sl_due_law.specs.Whole.Kept.{Kept}
 use Rattle.sl_due_law.specs.Whole.Promises.{SpelledSoFar}
 use Rattle.sl_due_law.specs.Whole.Writes.{LeaseWrites}
-use Rattle.sl_due_law.proofs.Holdings.LeaseCallers.{commands_fit}
-use Rattle.sl_due_law.proofs.Jobs.EffectsAreAllowed.{removal, signalled}
+use Rattle.sl_due_leases.proofs.Holdings.LeaseCallers.{commands_fit}
+use Rattle.sl_due_facts.proofs.Jobs.EffectsAreAllowed.{removal, signalled}
 use Rattle.sl_plain.proofs.Lists.{got_inside}
 use Rattle.sl_sector.specs.Records.{IsRecord}
 use Rattle.sl_sector.specs.declared.sector.Rec.TheVariants.{BlockIs, LeaderIs, RequestIs, ValueIs}

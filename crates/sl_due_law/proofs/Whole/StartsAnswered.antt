@@ -10,10 +10,10 @@ use Rattle.sl_due.specs.DueInputs.{end_holdings, on_spawned, started_reply, take
 use Rattle.sl_due.specs.DueWake.{end_if_done, finish, finish_session, free_if_done}
 use Rattle.sl_due.specs.Steps.{Step, add_reply, add_signal, begin_step, seen, when, with_input, with_some}
 use Rattle.sl_due_law.proofs.Causes.HeadsAreEarly.{heads_are_early}
-use Rattle.sl_due_law.proofs.Grants.Values.ReadsByInputs.{found_after, has_number}
-use Rattle.sl_due_law.proofs.Jobs.EffectsAreAllowed.{delta, removal}
-use Rattle.sl_due_law.proofs.Jobs.NearlyPlainActs.{AnyMove, AnyStart, Anything, Nearly, NoLook, free_plain}
-use Rattle.sl_due_law.proofs.Jobs.SessionsStand.{reply_stops, stopped_stays}
+use Rattle.sl_due_leases.proofs.Grants.Values.ReadsByInputs.{found_after, has_number}
+use Rattle.sl_due_facts.proofs.Jobs.EffectsAreAllowed.{delta, removal}
+use Rattle.sl_due_facts.proofs.Jobs.NearlyPlainActs.{AnyMove, AnyStart, Anything, Nearly, NoLook, free_plain}
+use Rattle.sl_due_facts.proofs.Jobs.SessionsStand.{reply_stops, stopped_stays}
 use Rattle.sl_due_law.specs.Causes.LineCauses.{IsBeforeInput}
 use Rattle.sl_due_law.specs.Whole.Busy.{told_by}
 use Rattle.sl_due_law.specs.Whole.Kept.{Holds}

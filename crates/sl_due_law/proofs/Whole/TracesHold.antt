@@ -13,21 +13,21 @@ use Rattle.sl_due_law.specs.Whole.Kept.{Holds, Kept, Rests}
 use Rattle.sl_due_law.specs.Whole.Promises.{TracesAreLawful, TracesHold}
 use Rattle.sl_run.specs.Lawful.{Lawful, Orderly}
 use Rattle.sl_run.specs.LawfulExit.{LawfulExit}
-use Rattle.sl_due_law.proofs.Ways.Kept.StepsBegin.{turns_rest}
+use Rattle.sl_due_leases.proofs.Ways.Kept.StepsBegin.{turns_rest}
 use Rattle.sl_plain.proofs.Lists.{head_is}
 use Rattle.sl_due_law.proofs.Recovery.RecoveryIsLawful.{kill_facts_end, recovery_is_lawful}
 use Rattle.sl_due_law.proofs.Recovery.StopsBegin.{begun_says}
 use Rattle.sl_due_law.specs.Recovery.KillFacts.{KillFacts}
-use Rattle.sl_due_law.proofs.Connections.DeltaPromises.{nothing_was_read}
-use Rattle.sl_due_law.specs.Connections.WatchFacts.{WatchFacts}
+use Rattle.sl_due_facts.proofs.Connections.DeltaPromises.{nothing_was_read}
+use Rattle.sl_due_facts.specs.Connections.WatchFacts.{WatchFacts}
 use Rattle.sl_trace.specs.declared.session.Session.{Session}
-use Rattle.sl_due_law.specs.Facts.Heard.{IsOpen, heard_by}
-use Rattle.sl_due_law.specs.Facts.HoldingFacts.{HoldingFacts, StandsExclusive}
-use Rattle.sl_due_law.specs.Facts.JobFacts.{JobFacts}
-use Rattle.sl_due_law.specs.Facts.SessionFacts.{ConnectionFacts, NameFacts, QuietFacts}
-use Rattle.sl_due_law.specs.Facts.ValueFacts.{IsReading, ValueFacts}
-use Rattle.sl_due_law.specs.Facts.Whole.{Facts}
-use Rattle.sl_due_law.specs.Facts.WorkFacts.{IsAtWork, IsWaiting, WorkFacts}
+use Rattle.sl_due_facts.specs.Facts.Heard.{IsOpen, heard_by}
+use Rattle.sl_due_facts.specs.Facts.HoldingFacts.{HoldingFacts, StandsExclusive}
+use Rattle.sl_due_facts.specs.Facts.JobFacts.{JobFacts}
+use Rattle.sl_due_facts.specs.Facts.SessionFacts.{ConnectionFacts, NameFacts, QuietFacts}
+use Rattle.sl_due_facts.specs.Facts.ValueFacts.{IsReading, ValueFacts}
+use Rattle.sl_due_facts.specs.Facts.Whole.{Facts}
+use Rattle.sl_due_facts.specs.Facts.WorkFacts.{IsAtWork, IsWaiting, WorkFacts}
 use Rattle.sl_trace.specs.Traces.{FollowsTrace, Setting, Submitted, Trace, spot_of_grant}
 use Rattle.sl_trace.specs.declared.command.Command.{Command}
 use Rattle.sl_trace.specs.declared.effects.Entry.{Entry}

@@ -4,8 +4,8 @@ use Rattle.sl_due.specs.Steps.{Step, seen}
 use Rattle.sl_due.specs.declared.decision.Decision.TheVariants.{Replies, SetsValue}
 use Rattle.sl_due.specs.declared.decision.Decision.{Decision}
 use Rattle.sl_due_law.proofs.Whole.OwnRecords.{fits_it, session_id}
-use Rattle.sl_due_law.proofs.Jobs.DecisionsFit.{DecisionFits, decisions_fit}
-use Rattle.sl_due_law.proofs.Jobs.SessionsArePresent.{present_is}
+use Rattle.sl_due_facts.proofs.Jobs.DecisionsFit.{DecisionFits, decisions_fit}
+use Rattle.sl_due_facts.proofs.Jobs.SessionsArePresent.{present_is}
 use Rattle.sl_trace.specs.Counts.{next_value_seq}
 use Rattle.sl_trace.specs.Leases.{block_of_record, block_submitted, block_written, holdings_on, is_lease_call, is_on, lease_calls, spot_of}
 use Rattle.sl_plain.proofs.Lists.{contains_first, contains_more, find_inside, kept_inside}
@@ -15,10 +15,10 @@ use Rattle.sl_sector.specs.declared.sector.Block.{Block}
 use Rattle.sl_sector.specs.declared.sector.Rec.TheVariants.{BlockIs, DeltaIs, LeaderIs, RequestIs, ValueIs}
 use Rattle.sl_sector.specs.declared.sector.Rec.{Rec}
 use Rattle.sl_sector.specs.declared.sector.ValueRec.{ValueRec}
-use Rattle.sl_due_law.proofs.Sessions.JoinedNumbers.{spelled_of}
+use Rattle.sl_due_facts.proofs.Sessions.JoinedNumbers.{spelled_of}
 use Rattle.sl_trace.specs.Sessions.{calls_of, holdings_of, is_call_of, present_sessions, session_named, sessions}
 use Rattle.sl_trace.specs.declared.session.Session.{Session}
-use Rattle.sl_due_law.specs.Facts.Whole.{Whole}
+use Rattle.sl_due_facts.specs.Facts.Whole.{Whole}
 use Rattle.sl_trace.specs.Commands.{IsCommand, IsValueArg}
 use Rattle.sl_trace.specs.Traces.{Submitted, holdings, is_shared, record_of, same_place, spot_of_grant, submitted}
 use Rattle.sl_trace.specs.declared.command.Command.TheVariants.{SetLvb}

@@ -1,20 +1,20 @@
 -- A job that waits at an entry's end is busy.
 use Rattle.sl_due.specs.Due.{IsBusy, NoIdleJob, has_open_start, is_leaving_job, is_waiting_call, is_waiting_joining}
 use Rattle.sl_due_law.specs.Whole.Busy.{AllWait, For_call, For_child, For_leaving, For_session, Waits}
-use Rattle.sl_due_law.proofs.Holdings.HoldersSpared.{joining}
-use Rattle.sl_due_law.proofs.Jobs.SessionsArePresent.{session_has}
-use Rattle.sl_due_law.proofs.Jobs.SessionsHaveJobs.{one_session}
+use Rattle.sl_due_leases.proofs.Holdings.HoldersSpared.{joining}
+use Rattle.sl_due_facts.proofs.Jobs.SessionsArePresent.{session_has}
+use Rattle.sl_due_facts.proofs.Jobs.SessionsHaveJobs.{one_session}
 use Rattle.sl_run.specs.Lawful.{Orderly}
 use Rattle.sl_run.specs.LawfulArea.{is_area_work}
 use Rattle.sl_trace.specs.Jobs.{command_numbered}
 use Rattle.sl_plain.proofs.Lists.{any_of, contains_first, contains_more, find_fails, find_inside, kept, kept_inside}
 use Rattle.sl_plain.proofs.Numbers.{number_itself}
 use Rattle.sl_plain.proofs.Options.{some_of}
-use Rattle.sl_due_law.proofs.Sessions.NamesAreAllowed.{caller_joined}
+use Rattle.sl_due_facts.proofs.Sessions.NamesAreAllowed.{caller_joined}
 use Rattle.sl_trace.specs.Sessions.{calls_of, is_call_of, is_free_purpose, is_survey_purpose, joined_after, leaving_job, session_numbered, session_of_job, sessions}
 use Rattle.sl_trace.specs.declared.session.Session.{Session}
-use Rattle.sl_due_law.specs.Facts.JobFacts.{FitsCommand, JobFacts}
-use Rattle.sl_due_law.specs.Facts.SessionFacts.{NameFacts}
+use Rattle.sl_due_facts.specs.Facts.JobFacts.{FitsCommand, JobFacts}
+use Rattle.sl_due_facts.specs.Facts.SessionFacts.{NameFacts}
 use Rattle.sl_trace.specs.Traces.{Answered, Child, Job, Setting, Submitted, Trace, children, is_of_job, is_ok_answer, is_running, job_of, jobs, outstanding, running_jobs, submitted, waiting_call}
 use Rattle.sl_trace.specs.declared.effects.JoinStep.{JoinStep}
 use Rattle.sl_trace.specs.declared.effects.Purpose.{Purpose}

@@ -2,12 +2,12 @@
 use Rattle.sl_acts.specs.SoFar.{entry_of}
 use Rattle.sl_due.specs.Steps.{Step, add_call_of, add_end, add_grant, add_move, add_reply, add_signal, add_start, seen}
 use Rattle.sl_due_law.specs.Whole.Busy.{For_call, For_child, For_leaving, For_session, Waits}
-use Rattle.sl_due_law.proofs.Jobs.JobsAreNumbered.{found_before}
-use Rattle.sl_due_law.proofs.Jobs.NearlyPlainActs.{Nearly}
-use Rattle.sl_due_law.proofs.Jobs.SessionsHaveJobs.{left_in}
-use Rattle.sl_due_law.proofs.Jobs.SessionsStand.{reply_stops, running_before}
-use Rattle.sl_due_law.proofs.Parts.CallsGrow.{any_more, same_sessions}
-use Rattle.sl_due_law.proofs.Parts.EffectsAreTold.{effects_are_told}
+use Rattle.sl_due_facts.proofs.Jobs.JobsAreNumbered.{found_before}
+use Rattle.sl_due_facts.proofs.Jobs.NearlyPlainActs.{Nearly}
+use Rattle.sl_due_facts.proofs.Jobs.SessionsHaveJobs.{left_in}
+use Rattle.sl_due_facts.proofs.Jobs.SessionsStand.{reply_stops, running_before}
+use Rattle.sl_due_facts.proofs.Parts.CallsGrow.{any_more, same_sessions}
+use Rattle.sl_due_facts.proofs.Parts.EffectsAreTold.{effects_are_told}
 use Rattle.sl_plain.proofs.Lists.{contains_first, contains_map, contains_more, contains_none, got_inside, in_map}
 use Rattle.sl_trace.specs.Sessions.{is_joined, leaves, leaving_in, leaving_job, sessions}
 use Rattle.sl_trace.specs.declared.session.Session.{Session}

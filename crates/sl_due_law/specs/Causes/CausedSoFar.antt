@@ -7,8 +7,8 @@ use Rattle.sl_trace.specs.Sessions.{calls_of, generation_in, sessions}
 use Rattle.sl_trace.specs.Watching.{evidence_in}
 use Rattle.sl_trace.specs.declared.session.Session.{Session}
 use Rattle.sl_due_law.specs.Causes.CauseFacts.{CauseFacts}
-use Rattle.sl_due_law.specs.Facts.Heard.{heard_by}
-use Rattle.sl_due_law.specs.Facts.Whole.{WholeTrace}
+use Rattle.sl_due_facts.specs.Facts.Heard.{heard_by}
+use Rattle.sl_due_facts.specs.Facts.Whole.{WholeTrace}
 use Rattle.sl_trace.specs.Traces.{Job, Setting, Submitted, is_running, job_numbered, next_job, reply_to, submitted}
 use Rattle.sl_trace.specs.declared.command.Command.{Command}
 use Rattle.sl_trace.specs.declared.effects.LeaseStep.{LeaseStep}

@@ -7,9 +7,9 @@ use Rattle.sl_run.specs.Caused.{IsCaused}
 use Rattle.sl_run.specs.Lawful.{IsSetting}
 use Rattle.sl_due.specs.Steps.{Step, begin_step}
 use Rattle.sl_due_law.specs.Causes.CauseFacts.{CauseFacts}
-use Rattle.sl_due_law.specs.Facts.Whole.{WholeTrace}
-use Rattle.sl_due_law.specs.Holdings.Moments.{Known}
-use Rattle.sl_due_law.specs.Holdings.Promises.{Begins}
+use Rattle.sl_due_facts.specs.Facts.Whole.{WholeTrace}
+use Rattle.sl_due_leases.specs.Holdings.Moments.{Known}
+use Rattle.sl_due_leases.specs.Holdings.Promises.{Begins}
 use Rattle.sl_trace.specs.declared.session.Session.{Session}
 use Rattle.sl_trace.specs.Traces.{FollowsTrace, Setting, Submitted, Trace}
 use Rattle.sl_trace.specs.declared.effects.Entry.{Entry}

@@ -3,8 +3,8 @@ use Rattle.sl_acts.specs.Acts.{Acts}
 use Rattle.sl_acts.specs.SoFar.{entry_of}
 use Rattle.sl_due.specs.Due.{IsDue, due_step}
 use Rattle.sl_due.specs.Steps.{Step, seen, with_input}
-use Rattle.sl_due_law.specs.Holdings.Moments.{Known}
-use Rattle.sl_due_law.specs.Holdings.Promises.{Begins}
+use Rattle.sl_due_leases.specs.Holdings.Moments.{Known}
+use Rattle.sl_due_leases.specs.Holdings.Promises.{Begins}
 use Rattle.sl_run.specs.LawfulArea.{LawfulArea}
 use Rattle.sl_run.specs.LawfulDelta.{LawfulDelta}
 use Rattle.sl_run.specs.LawfulGrant.{LawfulGrant}
@@ -13,10 +13,10 @@ use Rattle.sl_run.specs.LawfulRecovery.{LawfulRecovery}
 use Rattle.sl_run.specs.LawfulWatchdog.{LawfulWatchdog}
 use Rattle.sl_due_law.specs.Recovery.KillFacts.{KillFacts}
 use Rattle.sl_due_law.specs.Recovery.Stops.{Denies, FreesEnd, JustHeard, Partings, Stops}
-use Rattle.sl_due_law.specs.Facts.CallFacts.{CallFacts}
-use Rattle.sl_due_law.specs.Facts.Concluding.{Concludes}
-use Rattle.sl_due_law.specs.Facts.Heard.{heard_by}
-use Rattle.sl_due_law.specs.Facts.Whole.{Whole, WholeTrace}
+use Rattle.sl_due_facts.specs.Facts.CallFacts.{CallFacts}
+use Rattle.sl_due_facts.specs.Facts.Concluding.{Concludes}
+use Rattle.sl_due_facts.specs.Facts.Heard.{heard_by}
+use Rattle.sl_due_facts.specs.Facts.Whole.{Whole, WholeTrace}
 use Rattle.sl_trace.specs.Traces.{FollowsTrace, Setting, Trace}
 use Rattle.sl_trace.specs.declared.effects.Entry.{Entry}
 use Rattle.sl_trace.specs.declared.input.Answer.{Answer}

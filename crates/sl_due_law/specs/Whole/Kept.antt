@@ -1,18 +1,18 @@
 -- All that is carried through a step and from entry to entry.
 use Rattle.sl_due.specs.Steps.{Step}
 use Rattle.sl_due_law.specs.Whole.Lones.{Lones}
-use Rattle.sl_due_law.specs.Grants.GrantPromises.{ExitsSoFar}
-use Rattle.sl_due_law.specs.Holdings.Moments.{Known}
-use Rattle.sl_due_law.specs.Jobs.Promises.{IsQuiet}
+use Rattle.sl_due_leases.specs.Grants.GrantPromises.{ExitsSoFar}
+use Rattle.sl_due_leases.specs.Holdings.Moments.{Known}
+use Rattle.sl_due_facts.specs.Jobs.Promises.{IsQuiet}
 use Rattle.sl_due_law.specs.Recovery.KillFacts.{KillFacts}
 use Rattle.sl_due_law.specs.Recovery.Promises.{StopsSoFar}
 use Rattle.sl_due_law.specs.Recovery.Stops.{Denies, FreesEnd, Partings, Stops}
-use Rattle.sl_due_law.specs.Connections.DeltasSoFar.{CallsKept}
-use Rattle.sl_due_law.specs.Connections.MovedSoFar.{MovedSoFar}
-use Rattle.sl_due_law.specs.Connections.Promises.{HasConnectionsPlainly}
-use Rattle.sl_due_law.specs.Connections.WatchFacts.{HasWatchFacts, HasWatchesPlainly, WatchFacts}
-use Rattle.sl_due_law.specs.Sessions.Promises.{HasNamesPlainly}
-use Rattle.sl_due_law.specs.Facts.Whole.{WholeTrace}
+use Rattle.sl_due_facts.specs.Connections.DeltasSoFar.{CallsKept}
+use Rattle.sl_due_facts.specs.Connections.MovedSoFar.{MovedSoFar}
+use Rattle.sl_due_facts.specs.Connections.Promises.{HasConnectionsPlainly}
+use Rattle.sl_due_facts.specs.Connections.WatchFacts.{HasWatchFacts, HasWatchesPlainly, WatchFacts}
+use Rattle.sl_due_facts.specs.Sessions.Promises.{HasNamesPlainly}
+use Rattle.sl_due_facts.specs.Facts.Whole.{WholeTrace}
 use Rattle.sl_trace.specs.Traces.{Setting, Trace}
 use Rattle.std.specs.Prelude.{None}
 

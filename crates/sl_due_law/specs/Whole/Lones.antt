@@ -1,7 +1,7 @@
 -- What is kept of a first read and of a look at a request, for which no law says that their sessions may call.
 use Rattle.sl_due.specs.Steps.{Step, seen}
 use Rattle.sl_trace.specs.Sessions.{is_join_call}
-use Rattle.sl_due_law.specs.Facts.Heard.{heard_by}
+use Rattle.sl_due_facts.specs.Facts.Heard.{heard_by}
 use Rattle.sl_trace.specs.Traces.{holdings, is_running, line_in}
 use Rattle.sl_trace.specs.declared.effects.Call.{Call}
 use Rattle.sl_trace.specs.declared.effects.Grant.{Grant}

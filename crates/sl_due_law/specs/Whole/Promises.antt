@@ -12,7 +12,7 @@ use Rattle.sl_run.specs.Saying.{EachCall}
 use Rattle.sl_sector.specs.Records.{IsRecord}
 use Rattle.sl_sector.specs.declared.sector.Rec.{Rec}
 use Rattle.sl_trace.specs.Sessions.{stage_of}
-use Rattle.sl_due_law.specs.Facts.Whole.{Facts}
+use Rattle.sl_due_facts.specs.Facts.Whole.{Facts}
 use Rattle.sl_trace.specs.Traces.{FollowsTrace, Setting, Trace, is_running, record_of}
 use Rattle.sl_trace.specs.declared.effects.Call.{Call}
 use Rattle.sl_trace.specs.declared.effects.Entry.{Entry}

@@ -1,10 +1,10 @@
 //! What recovery, leaving and parting do in a step of a daemon that does what is due.
 //!
 //! Where a recovery or a leaving begins its session's holders are told to stop and its jobs are refused; what was done so far is kept by each
-//! act (`\1::Recovery::StopsAreKept`), and where recovery begins by the read that an answer brings it is done when all is done that the answer makes
-//! due (`\1::Recovery::StopsConclude`). A joined session's connection is removed in recovery or at its free's answer alone (`\1::Recovery::PartingsAreKept`).
+//! act (`Recovery::StopsAreKept`), and where recovery begins by the read that an answer brings it is done when all is done that the answer makes
+//! due (`Recovery::StopsConclude`). A joined session's connection is removed in recovery or at its free's answer alone (`Recovery::PartingsAreKept`).
 //! What must be done, and is no act where nothing is due, is shown of the parts of a step themselves: that holders are killed once their
-//! grace has passed, that a term follows a kill program which was not started, that a session with nothing left ends (`\1::Recovery::Passes`).
+//! grace has passed, that a term follows a kill program which was not started, that a session with nothing left ends (`Recovery::Passes`).
 
 ghost use Rattle.sl_due_law.specs.Recovery.Promises.{AnswersAreHeard, DenialsAreKept, DenialsBegin, FreesConclude, KillFactsGoOn, PartingIsLawful, PartingsAreKept, PartingsBegin, RecoveryIsLawful, StopsAreKept, StopsBegin, StopsConclude};
 

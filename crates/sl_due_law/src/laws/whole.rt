@@ -3,7 +3,7 @@
 //! All that is known of a step in progress is kept by each act, each part where it is shown; here it is put together, and so is what holds
 //! only where all that an answer makes due is done. By induction over the entries each trace of such steps is whole: lawful, with its facts.
 
-ghost use Rattle.sl_due_law.specs.Jobs.Acquires.{AcquiresKeepToTheirs};
+ghost use Rattle.sl_due_facts.specs.Jobs.Acquires.{AcquiresKeepToTheirs};
 ghost use Rattle.sl_due_law.specs.Whole.Promises.{DueIsWellWith, FactsAtFirst, NoneIsIdle, TracesAreLawful, TracesHold};
 
 /// Before the first entry all facts hold.

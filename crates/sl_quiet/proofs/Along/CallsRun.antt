@@ -16,14 +16,14 @@ use Rattle.sl_due.specs.DueRequests.{after_value_read, bits_due, owner_read, val
 use Rattle.sl_due.specs.Steps.{Step, add_end, add_reply, begin_step, seen, with_input}
 use Rattle.sl_due.specs.declared.decision.Decision.TheVariants.{ConvertsTo, GetsValue, GivesUp, Joins, Leaves, ReadsArea, Replies, Requests, SetsValue, Shares, TakesOver}
 use Rattle.sl_due.specs.declared.decision.Decision.{Decision}
-use Rattle.sl_due_law.proofs.Jobs.EffectsAreAllowed.{Allows, DecisionAllowed, DeltaAllowed, LeaseAllowed, ReadAllowed, RequestAllowed, decision, delta, ended, exited, lease, left, refusal, removal, removal_of_refused, requested, said, sent, signalled, stopped}
-use Rattle.sl_due_law.proofs.Jobs.JobsAreNumbered.{next_is_new}
-use Rattle.sl_due_law.proofs.Jobs.NearlyPlainActs.{AnyMove, AnyStart, Anything, grant_plain}
+use Rattle.sl_due_facts.proofs.Jobs.EffectsAreAllowed.{Allows, DecisionAllowed, DeltaAllowed, LeaseAllowed, ReadAllowed, RequestAllowed, decision, delta, ended, exited, lease, left, refusal, removal, removal_of_refused, requested, said, sent, signalled, stopped}
+use Rattle.sl_due_facts.proofs.Jobs.JobsAreNumbered.{next_is_new}
+use Rattle.sl_due_facts.proofs.Jobs.NearlyPlainActs.{AnyMove, AnyStart, Anything, grant_plain}
 use Rattle.sl_due_law.proofs.Recovery.StopsBegin.{begun_says}
 use Rattle.sl_due_law.proofs.Whole.AllIsKept.{all_begins, all_is_kept}
 use Rattle.sl_due_law.proofs.Whole.CallsSuit.{no_lease, work_of}
 use Rattle.sl_due_law.proofs.Whole.TracesHold.{traces_hold}
-use Rattle.sl_due_law.specs.Facts.Whole.{Whole}
+use Rattle.sl_due_facts.specs.Facts.Whole.{Whole}
 use Rattle.sl_due_law.specs.Whole.Kept.{Kept}
 use Rattle.sl_run.specs.Lawful.{IsSetting}
 use Rattle.sl_trace.specs.Jobs.{job_of_start}

@@ -22,7 +22,7 @@ use Rattle.sl_quiet.proofs.Along.Deciding.{course_decides}
 use Rattle.sl_quiet.proofs.Along.Leading.{course_ends}
 use Rattle.sl_quiet.proofs.Along.Calls.{call_there, of_the_job, CallThere}
 use Rattle.sl_due_law.proofs.Causes.CauseFactsHold.{entry_new}
-use Rattle.sl_due_law.proofs.Jobs.JobsAreNumbered.{command_stays}
+use Rattle.sl_due_facts.proofs.Jobs.JobsAreNumbered.{command_stays}
 use Rattle.sl_trace.specs.declared.command.Command.TheVariants.{Acquire}
 use Rattle.sl_quiet.specs.Along.Leading.{GrantsNow, Hears, ShowsAt, decided_then}
 use Rattle.sl_run.specs.Quiet.{GrantsQuietly}

@@ -1,12 +1,12 @@
 -- What an acquire's step finds when the answer of its call is seen.
-use Rattle.sl_due_law.specs.Facts.WorkFacts.{IsAtWork}
+use Rattle.sl_due_facts.specs.Facts.WorkFacts.{IsAtWork}
 use Rattle.sl_trace.specs.declared.command.Command.TheVariants.{Acquire}
 use Rattle.sl_trace.specs.Connections.{unregisters}
 use Rattle.sl_due_law.specs.Causes.LineCauses.{IsBeforeInput}
 use Rattle.sl_trace.specs.declared.lease.Aim.TheVariants.{Acquires}
 use Rattle.sl_trace.specs.declared.effects.Mode.TheVariants.{Shared, Exclusive}
 use Rattle.sl_trace.specs.declared.effects.Work.TheVariants.{ForJob}
-use Rattle.sl_due_law.specs.Facts.Whole.{Facts}
+use Rattle.sl_due_facts.specs.Facts.Whole.{Facts}
 use Rattle.sl_due_law.specs.Whole.Kept.{Holds}
 use Rattle.sl_trace.specs.declared.effects.Mode.{Mode}
 use Rattle.sl_words.specs.Words.{some_is}
@@ -17,7 +17,7 @@ use Rattle.sl_sector.specs.declared.sector.Owner.{Owner}
 use Rattle.sl_due.specs.Due.{IsHostTrace, before_input}
 use Rattle.sl_due.specs.Steps.{Step, begin_step, seen}
 use Rattle.sl_due_law.proofs.Causes.HeadsAreEarly.{heads_are_early}
-use Rattle.sl_due_law.proofs.Jobs.SessionsArePresent.{joined_present}
+use Rattle.sl_due_facts.proofs.Jobs.SessionsArePresent.{joined_present}
 use Rattle.sl_due_law.proofs.Whole.TracesHold.{traces_hold}
 use Rattle.sl_run.specs.Lawful.{IsSetting}
 use Rattle.sl_trace.specs.Jobs.{aim_of, command_numbered, command_of, aim_of_command}

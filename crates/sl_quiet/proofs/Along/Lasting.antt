@@ -1,9 +1,9 @@
 -- A grant lasts: the reply is given once, and a job that has its reply makes no other call.
 use Rattle.sl_due.specs.Due.{IsHostTrace}
 use Rattle.sl_due_law.proofs.Causes.CauseFactsHold.{entry_stays}
-use Rattle.sl_due_law.proofs.Jobs.JobsAreNumbered.{command_stays}
+use Rattle.sl_due_facts.proofs.Jobs.JobsAreNumbered.{command_stays}
 use Rattle.sl_due_law.proofs.Whole.AcquiresKeep.{acquires_keep_to_theirs}
-use Rattle.sl_due_law.specs.Jobs.Acquires.{AcquireFacts}
+use Rattle.sl_due_facts.specs.Jobs.Acquires.{AcquireFacts}
 use Rattle.sl_run.specs.Lawful.{IsSetting}
 use Rattle.sl_trace.specs.Jobs.{command_numbered}
 use Rattle.sl_quiet.proofs.Along.CallsRun.{new_calls_run}

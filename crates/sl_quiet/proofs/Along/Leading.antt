@@ -16,12 +16,12 @@ use Rattle.sl_run.specs.Quiet.{job_calls}
 use Rattle.sl_trace.specs.Sessions.{is_call_of, joined_after, me, removed_after, session_numbered}
 use Rattle.sl_safety.proofs.Ballot.ReasonNames.{generation_stays}
 use Rattle.sl_run_law.proofs.Course.Pairing.{filter_changed}
-use Rattle.sl_due_law.proofs.Jobs.JobsAreNumbered.{command_stays, found_after}
+use Rattle.sl_due_facts.proofs.Jobs.JobsAreNumbered.{command_stays, found_after}
 use Rattle.sl_words.proofs.WordLaws.{and_true}
 use Rattle.sl_due_law.proofs.Whole.AcquiresKeep.{acquires_keep_to_theirs}
 use Rattle.sl_trace.specs.declared.effects.Spot.{Spot}
 use Rattle.sl_sector.specs.declared.sector.Owner.{Owner}
-use Rattle.sl_due_law.specs.Jobs.Acquires.{AcquireFacts}
+use Rattle.sl_due_facts.specs.Jobs.Acquires.{AcquireFacts}
 use Rattle.sl_trace.specs.declared.command.Command.TheVariants.{Acquire}
 use Rattle.sl_trace.specs.declared.input.Input.TheVariants.{Answer as Told}
 use Rattle.sl_words.specs.Words.{choose, some_is}

@@ -1,11 +1,11 @@
 -- An entry that doesn't concern the acquire's call leaves it on its course.
 use Rattle.sl_due.specs.Due.{IsHostTrace, NoIdleJob}
 use Rattle.sl_due_law.proofs.Causes.NamesBefore.{session_then}
-use Rattle.sl_due_law.proofs.Jobs.JobsAreNumbered.{command_read, command_stays, numbered_stays}
+use Rattle.sl_due_facts.proofs.Jobs.JobsAreNumbered.{command_read, command_stays, numbered_stays}
 use Rattle.sl_due_law.proofs.Whole.AcquiresKeep.{acquires_keep_to_theirs}
 use Rattle.sl_due_law.proofs.Whole.TracesHold.{traces_hold}
-use Rattle.sl_due_law.specs.Facts.Whole.{Facts}
-use Rattle.sl_due_law.specs.Jobs.Acquires.{AcquireFacts}
+use Rattle.sl_due_facts.specs.Facts.Whole.{Facts}
+use Rattle.sl_due_facts.specs.Jobs.Acquires.{AcquireFacts}
 use Rattle.sl_due_law.specs.Whole.Kept.{Holds}
 use Rattle.sl_due_law.proofs.Due.{due_is_lawful}
 use Rattle.sl_run.specs.Caused.{AnswersCall, Answering, CausedBy, IsCaused, the_session}

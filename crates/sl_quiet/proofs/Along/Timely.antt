@@ -1,7 +1,7 @@
 -- The job of an acquire on its course waits for its call, which isn't overdue.
 use Rattle.sl_due.specs.Due.{IsHostTrace}
 use Rattle.sl_due_law.proofs.Causes.NamesBefore.{session_then}
-use Rattle.sl_due_law.proofs.Jobs.JobsAreNumbered.{command_read, command_stays}
+use Rattle.sl_due_facts.proofs.Jobs.JobsAreNumbered.{command_read, command_stays}
 use Rattle.sl_due_law.proofs.Whole.TracesHold.{traces_hold}
 use Rattle.sl_run.specs.Caused.{Answering, the_session}
 use Rattle.sl_run.specs.Lawful.{IsSetting}

@@ -3,11 +3,11 @@ use Rattle.sl_due.specs.Due.{due}
 use Rattle.sl_due.specs.Steps.{Step, seen, with_input}
 use Rattle.sl_due_law.proofs.Causes.HeadsAreEarly.{heads_are_early}
 use Rattle.sl_due_law.proofs.Causes.NamesBefore.{present_as}
-use Rattle.sl_due_law.proofs.Holdings.PlainPlaces.{text_is}
-use Rattle.sl_due_law.proofs.Jobs.SessionsArePresent.{joined_present, present_inside, present_is}
+use Rattle.sl_due_leases.proofs.Holdings.PlainPlaces.{text_is}
+use Rattle.sl_due_facts.proofs.Jobs.SessionsArePresent.{joined_present, present_inside, present_is}
 use Rattle.sl_due_law.proofs.Whole.TracesHold.{traces_hold}
 use Rattle.sl_due_law.specs.Causes.LineCauses.{IsBeforeInput, stirred_entry}
-use Rattle.sl_due_law.specs.Facts.Whole.{WholeTrace}
+use Rattle.sl_due_facts.specs.Facts.Whole.{WholeTrace}
 use Rattle.sl_trace.specs.Counts.{held_here, holder_count, limit_met, may_act, resource_count, ungranted}
 use Rattle.sl_trace.specs.Jobs.{is_asking_lease, is_command_that, is_granted_job}
 use Rattle.sl_trace.specs.Leases.{lease_spots, open_on, spot_of}

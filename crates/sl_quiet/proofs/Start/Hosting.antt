@@ -6,12 +6,12 @@ use Rattle.sl_due.specs.DueLease.{read_area}
 use Rattle.sl_due.specs.Steps.{Step, seen, with_input}
 use Rattle.sl_due_law.proofs.Causes.HeadsAreEarly.{heads_are_early}
 use Rattle.sl_due_law.proofs.Due.{due_is_lawful}
-use Rattle.sl_due_law.proofs.Jobs.JobsAreNumbered.{finds_none, line_is, next_is_new}
+use Rattle.sl_due_facts.proofs.Jobs.JobsAreNumbered.{finds_none, line_is, next_is_new}
 use Rattle.sl_due_law.proofs.Whole.AcquiresKeep.{acquires_keep_to_theirs}
 use Rattle.sl_due_law.proofs.Whole.TracesHold.{traces_hold}
 use Rattle.sl_due_law.specs.Causes.LineCauses.{IsBeforeInput}
-use Rattle.sl_due_law.specs.Facts.Whole.{Facts}
-use Rattle.sl_due_law.specs.Jobs.Acquires.{AcquireFacts}
+use Rattle.sl_due_facts.specs.Facts.Whole.{Facts}
+use Rattle.sl_due_facts.specs.Jobs.Acquires.{AcquireFacts}
 use Rattle.sl_run.specs.Lawful.{IsSetting, Lawful}
 use Rattle.sl_trace.specs.Jobs.{command_numbered, command_of}
 use Rattle.sl_trace.specs.LeaseWork.{LeasePlace, lease_place}

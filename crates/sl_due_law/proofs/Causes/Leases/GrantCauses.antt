@@ -8,16 +8,16 @@ use Rattle.sl_due_law.proofs.Causes.NamesBefore.{early_entry, session_then, with
 use Rattle.sl_due_law.specs.Causes.CausedSoFar.{CausedSoFar, HasCause, IsAtOnce, IsCarried, IsConcluded, IsLater, StaysCaused, answering}
 use Rattle.sl_due.specs.DueLease.{carry_lease, convert_holding, grant_for, grant_of, held_otherwise, next_of_lease}
 use Rattle.sl_due.specs.Steps.{Step, add_call_of, add_grant, add_reply, seen, with_effects, with_some}
-use Rattle.sl_due_law.proofs.Holdings.HoldingFactsBegin.{none_ended}
-use Rattle.sl_due_law.proofs.Holdings.LeaseCallers.{heard_call, heard_opens, spot_aligned}
-use Rattle.sl_due_law.proofs.Holdings.LeaseConversions.{after_converting, by_found, converted, otherwise, spot_is}
-use Rattle.sl_due_law.proofs.Holdings.LeaseNexts.{IsFitNext, IsGrantOf, next_fits}
-use Rattle.sl_due_law.proofs.Holdings.PlainPlaces.{one_place}
-use Rattle.sl_due_law.specs.Holdings.Moments.{Known}
+use Rattle.sl_due_leases.proofs.Holdings.HoldingFactsBegin.{none_ended}
+use Rattle.sl_due_leases.proofs.Holdings.LeaseCallers.{heard_call, heard_opens, spot_aligned}
+use Rattle.sl_due_leases.proofs.Holdings.LeaseConversions.{after_converting, by_found, converted, otherwise, spot_is}
+use Rattle.sl_due_leases.proofs.Holdings.LeaseNexts.{IsFitNext, IsGrantOf, next_fits}
+use Rattle.sl_due_leases.proofs.Holdings.PlainPlaces.{one_place}
+use Rattle.sl_due_leases.specs.Holdings.Moments.{Known}
 use Rattle.sl_area.specs.Layouts.{Layout}
 use Rattle.sl_area.specs.Places.{block_offset, leader_offset}
-use Rattle.sl_due_law.proofs.Jobs.EffectsAreAllowed.{grants_for}
-use Rattle.sl_due_law.proofs.Jobs.CallsStay.{late}
+use Rattle.sl_due_facts.proofs.Jobs.EffectsAreAllowed.{grants_for}
+use Rattle.sl_due_facts.proofs.Jobs.CallsStay.{late}
 use Rattle.sl_run.specs.Caused.{Answering, GrantsTo, IsGrantedFor, WroteAt, before_entry, converting_step, the_session}
 use Rattle.sl_trace.specs.Jobs.{aim_of, aim_of_command, command_numbered}
 use Rattle.sl_trace.specs.LeaseWork.{lease_place}
@@ -25,16 +25,16 @@ use Rattle.sl_trace.specs.Leases.{block_of_record, block_submitted, leader_of_re
 use Rattle.sl_trace.specs.declared.lease.Aim.TheVariants.{Acquires, Converts, Releases, Settles}
 use Rattle.sl_trace.specs.declared.lease.Aim.{Aim}
 use Rattle.sl_trace.specs.declared.lease.LeaseNext.TheVariants.{BecomeExclusive, BecomeShared, GrantJob}
-use Rattle.sl_due_law.proofs.Jobs.JobFactsGrow.{contains_right}
+use Rattle.sl_due_facts.proofs.Jobs.JobFactsGrow.{contains_right}
 use Rattle.sl_plain.proofs.Lists.{contains_first, find_inside, got_inside, kept_inside}
 use Rattle.sl_plain.proofs.Options.{then_value}
 use Rattle.sl_sector.specs.declared.sector.Block.{Block}
 use Rattle.sl_sector.specs.declared.sector.Leader.{Leader}
 use Rattle.sl_trace.specs.Sessions.{holdings_of, is_joined, session_numbered, sessions}
 use Rattle.sl_trace.specs.declared.session.Session.{Session}
-use Rattle.sl_due_law.specs.Facts.JobFacts.{FitsCommand}
-use Rattle.sl_due_law.specs.Facts.WayFacts.{After_mode, After_take, FreeReason, In_conversion, In_release, In_settling, ModeReason, ModeWay, PurposeWay, StepWay, Ways, way_context}
-use Rattle.sl_due_law.specs.Facts.Whole.{WholeTrace}
+use Rattle.sl_due_facts.specs.Facts.JobFacts.{FitsCommand}
+use Rattle.sl_due_facts.specs.Facts.WayFacts.{After_mode, After_take, FreeReason, In_conversion, In_release, In_settling, ModeReason, ModeWay, PurposeWay, StepWay, Ways, way_context}
+use Rattle.sl_due_facts.specs.Facts.Whole.{WholeTrace}
 use Rattle.sl_trace.specs.Traces.{Job, Submitted, Trace, holdings, is_before_input, is_ended_by, end_of, is_shared, record_of, job_numbered, job_of, same_place}
 use Rattle.sl_trace.specs.declared.command.Command.TheVariants.{Acquire, AddLockspace, Convert, GetLvb, HostStatus, InqLockspace, Release, ReleaseOrphan, RemLockspace, Request, RunProgram, SetKillpath, SetLvb, Status, TakeOver}
 use Rattle.sl_trace.specs.declared.command.Command.{Command}

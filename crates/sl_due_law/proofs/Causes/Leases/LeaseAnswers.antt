@@ -11,12 +11,12 @@ use Rattle.sl_due_law.proofs.Causes.NamesBefore.{session_then}
 use Rattle.sl_due_law.specs.Causes.CausedSoFar.{HasCause, IsCarried, IsConcluded, IsLater, KeepsLeases, StaysCaused, answering}
 use Rattle.sl_due.specs.DueLease.{next_of_lease}
 use Rattle.sl_due.specs.Steps.{Step, add_reply, seen, with_effects}
-use Rattle.sl_due_law.proofs.Holdings.LeaseCallers.{caller_joined, heard_answered, heard_call, heard_opens, heard_session, in_turn_fits}
-use Rattle.sl_due_law.specs.Holdings.Moments.{Known}
-use Rattle.sl_due_law.proofs.Jobs.CallsHaveFacts.{sessions_bare}
-use Rattle.sl_due_law.proofs.Jobs.CallsStay.{IsLate, calls_stay}
-use Rattle.sl_due_law.proofs.Jobs.JobsAreAllowed.{calls_heard}
-use Rattle.sl_due_law.proofs.Jobs.RepliesComeAfter.{mapped_or}
+use Rattle.sl_due_leases.proofs.Holdings.LeaseCallers.{caller_joined, heard_answered, heard_call, heard_opens, heard_session, in_turn_fits}
+use Rattle.sl_due_leases.specs.Holdings.Moments.{Known}
+use Rattle.sl_due_facts.proofs.Jobs.CallsHaveFacts.{sessions_bare}
+use Rattle.sl_due_facts.proofs.Jobs.CallsStay.{IsLate, calls_stay}
+use Rattle.sl_due_facts.proofs.Jobs.JobsAreAllowed.{calls_heard}
+use Rattle.sl_due_facts.proofs.Jobs.RepliesComeAfter.{mapped_or}
 use Rattle.sl_run.specs.Caused.{Answering, CausedBy}
 use Rattle.sl_run.specs.Saying.{IsAnsweredAt}
 use Rattle.sl_trace.specs.Ballots.{instance_of}
@@ -36,8 +36,8 @@ use Rattle.sl_sector.specs.declared.sector.Owner.{Owner}
 use Rattle.sl_trace.specs.Sessions.{calls_of, generation_of, removed_in, is_call_of, is_joined, joined_after, me, removed_after, session_numbered, sessions}
 use Rattle.sl_trace.specs.Watching.{counts_over, evidence_in}
 use Rattle.sl_trace.specs.declared.session.Session.{Session}
-use Rattle.sl_due_law.specs.Facts.JobFacts.{FitsCommand, SeeksResource}
-use Rattle.sl_due_law.specs.Facts.Whole.{WholeTrace}
+use Rattle.sl_due_facts.specs.Facts.JobFacts.{FitsCommand, SeeksResource}
+use Rattle.sl_due_facts.specs.Facts.Whole.{WholeTrace}
 use Rattle.sl_trace.specs.Traces.{Answered, Job, Setting, is_done, Submitted, Trace, answered_in, is_write, bytes_given, job_numbered, job_of, submitted}
 use Rattle.sl_trace.specs.declared.command.Command.TheVariants.{Acquire, AddLockspace, Convert, GetLvb, HostStatus, InqLockspace, Release, ReleaseOrphan, RemLockspace, Request, RunProgram, SetKillpath, SetLvb, Status, TakeOver}
 use Rattle.sl_trace.specs.declared.command.Command.{Command}

@@ -1,6 +1,6 @@
 -- Work on a lease is answered as done only for a release, by the write that frees the leader or clears the mode.
 use Rattle.sl_area.specs.Places.{area_blocks, blocks_in, leader_of}
-use Rattle.sl_due_law.proofs.Jobs.RepliesComeAfter.{mapped_or, on_bool, on_option}
+use Rattle.sl_due_facts.proofs.Jobs.RepliesComeAfter.{mapped_or, on_bool, on_option}
 use Rattle.sl_trace.specs.Ballots.{phase1_block, same_owner, stop_of, value_of}
 use Rattle.sl_trace.specs.LeaseWork.{LeasePlace, after_moding, after_phase1, after_phase2, after_read, after_take, area_next, begin_next, begin_or_refuse, lease_next, looks_for_shared, lost_next, named_area_next, phase1_next, phase2_next, refuses, stop_reply, stopped_next, whole_area_next, won_next}
 use Rattle.sl_trace.specs.Leases.{LeaseKnown, instance_for, is_leader_of, mode_gen_of, owed_free, own_known, shared_elsewhere}

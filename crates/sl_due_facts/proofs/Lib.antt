@@ -1,0 +1,4 @@
+pub mod Parts
+pub mod Jobs
+pub mod Sessions
+pub mod Connections

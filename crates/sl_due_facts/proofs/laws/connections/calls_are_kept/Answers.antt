@@ -1,0 +1,5 @@
+use Rattle.sl_due_facts.proofs.Connections.DeltasAreKept as its
+use Rattle.sl_due_facts.proofs.laws.connections.calls_are_kept.Goals as goal
+
+pub returns : goal.returns
+returns c = its.calls_are_kept

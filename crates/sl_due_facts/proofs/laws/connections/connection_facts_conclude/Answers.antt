@@ -1,0 +1,5 @@
+use Rattle.sl_due_facts.proofs.Connections.ConnectionFactsConclude as its
+use Rattle.sl_due_facts.proofs.laws.connections.connection_facts_conclude.Goals as goal
+
+pub returns : goal.returns
+returns c = its.connection_facts_conclude

@@ -1,0 +1,5 @@
+use Rattle.sl_due_facts.proofs.Jobs.JobPromises as its
+use Rattle.sl_due_facts.proofs.laws.jobs.job_facts_are_kept.Goals as goal
+
+pub returns : goal.returns
+returns c = its.job_facts_are_kept

@@ -1,0 +1,5 @@
+use Rattle.sl_due_facts.proofs.Sessions.DeltaFactsHold as its
+use Rattle.sl_due_facts.proofs.laws.sessions.delta_facts_are_kept.Goals as goal
+
+pub returns : goal.returns
+returns c = its.delta_facts_are_kept

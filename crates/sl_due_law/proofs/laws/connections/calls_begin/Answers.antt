@@ -1,5 +1,0 @@
-use Rattle.sl_due_law.proofs.Connections.DeltasAreKept as its
-use Rattle.sl_due_law.proofs.laws.connections.calls_begin.Goals as goal
-
-pub returns : goal.returns
-returns c = its.calls_begin

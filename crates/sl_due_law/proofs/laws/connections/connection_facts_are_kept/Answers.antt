@@ -1,5 +1,0 @@
-use Rattle.sl_due_law.proofs.Connections.ConnectionFactsAreKept as its
-use Rattle.sl_due_law.proofs.laws.connections.connection_facts_are_kept.Goals as goal
-
-pub returns : goal.returns
-returns c = its.connection_facts_are_kept

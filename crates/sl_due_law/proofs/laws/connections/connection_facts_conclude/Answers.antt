@@ -1,5 +1,0 @@
-use Rattle.sl_due_law.proofs.Connections.ConnectionFactsConclude as its
-use Rattle.sl_due_law.proofs.laws.connections.connection_facts_conclude.Goals as goal
-
-pub returns : goal.returns
-returns c = its.connection_facts_conclude

@@ -1,5 +1,0 @@
-use Rattle.sl_due_law.proofs.Connections.MovesAreKept as its
-use Rattle.sl_due_law.proofs.laws.connections.moves_are_kept.Goals as goal
-
-pub returns : goal.returns
-returns c = its.moves_are_kept

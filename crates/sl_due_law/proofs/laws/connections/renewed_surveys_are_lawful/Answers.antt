@@ -1,5 +1,0 @@
-use Rattle.sl_due_law.proofs.Connections.DeltaPromises as its
-use Rattle.sl_due_law.proofs.laws.connections.renewed_surveys_are_lawful.Goals as goal
-
-pub returns : goal.returns
-returns c = its.renewed_surveys

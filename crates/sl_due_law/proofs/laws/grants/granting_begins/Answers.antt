@@ -1,5 +1,0 @@
-use Rattle.sl_due_law.proofs.Grants.ActiveGrants as its
-use Rattle.sl_due_law.proofs.laws.grants.granting_begins.Goals as goal
-
-pub returns : goal.returns
-returns c = its.granting_begins

@@ -1,5 +1,0 @@
-use Rattle.sl_due_law.proofs.Grants.Modes.ModesAreLawful as its
-use Rattle.sl_due_law.proofs.laws.grants.modes_begin.Goals as goal
-
-pub returns : goal.returns
-returns c = its.modes_begin

@@ -1,5 +1,0 @@
-use Rattle.sl_due_law.proofs.Grants.Values.ValueFactsAreKept as its
-use Rattle.sl_due_law.proofs.laws.grants.value_facts_begin.Goals as goal
-
-pub returns : goal.returns
-returns c = its.value_facts_begin

@@ -1,5 +1,0 @@
-use Rattle.sl_due_law.proofs.Grants.Values.ValuesAreTold as its
-use Rattle.sl_due_law.proofs.laws.grants.values_begin.Goals as goal
-
-pub returns : goal.returns
-returns c = its.values_begin

@@ -1,5 +1,0 @@
-use Rattle.sl_due_law.proofs.Holdings.DecisionsHaveGrounds as its
-use Rattle.sl_due_law.proofs.laws.holdings.decisions_have_grounds.Goals as goal
-
-pub returns : goal.returns
-returns c = its.decisions_have_grounds

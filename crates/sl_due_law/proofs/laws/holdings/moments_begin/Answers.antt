@@ -1,5 +1,0 @@
-use Rattle.sl_due_law.proofs.Holdings.MomentsBegin as its
-use Rattle.sl_due_law.proofs.laws.holdings.moments_begin.Goals as goal
-
-pub returns : goal.returns
-returns c = its.moments_begin

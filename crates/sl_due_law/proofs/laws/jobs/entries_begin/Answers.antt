@@ -1,5 +1,0 @@
-use Rattle.sl_due_law.proofs.Jobs.EntriesFollow as its
-use Rattle.sl_due_law.proofs.laws.jobs.entries_begin.Goals as goal
-
-pub returns : goal.returns
-returns c = its.entries_begin

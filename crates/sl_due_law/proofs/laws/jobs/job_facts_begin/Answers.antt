@@ -1,5 +1,0 @@
-use Rattle.sl_due_law.proofs.Jobs.JobPromises as its
-use Rattle.sl_due_law.proofs.laws.jobs.job_facts_begin.Goals as goal
-
-pub returns : goal.returns
-returns c = its.job_facts_begin

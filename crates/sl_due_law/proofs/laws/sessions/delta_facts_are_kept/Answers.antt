@@ -1,5 +1,0 @@
-use Rattle.sl_due_law.proofs.Sessions.DeltaFactsHold as its
-use Rattle.sl_due_law.proofs.laws.sessions.delta_facts_are_kept.Goals as goal
-
-pub returns : goal.returns
-returns c = its.delta_facts_are_kept

@@ -1,5 +1,0 @@
-use Rattle.sl_due_law.proofs.Ways.Kept.FactsAreKept as its
-use Rattle.sl_due_law.proofs.laws.ways.grant_grounds_are_kept.Goals as goal
-
-pub returns : goal.returns
-returns c = its.grant_grounds_are_kept

@@ -1,5 +1,0 @@
-use Rattle.sl_due_law.proofs.Ways.Kept.FactsAreKept as its
-use Rattle.sl_due_law.proofs.laws.ways.turn_facts_are_kept.Goals as goal
-
-pub returns : goal.returns
-returns c = its.turn_facts_are_kept

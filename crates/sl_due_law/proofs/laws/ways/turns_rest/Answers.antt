@@ -1,5 +1,0 @@
-use Rattle.sl_due_law.proofs.Ways.Kept.StepsBegin as its
-use Rattle.sl_due_law.proofs.laws.ways.turns_rest.Goals as goal
-
-pub returns : goal.returns
-returns c = its.turns_rest

@@ -1,5 +1,0 @@
-use Rattle.sl_due_law.proofs.Ways.Kept.FactsAreKept as its
-use Rattle.sl_due_law.proofs.laws.ways.way_facts_are_kept.Goals as goal
-
-pub returns : goal.returns
-returns c = its.way_facts_are_kept

@@ -1,5 +1,0 @@
-use Rattle.sl_due_law.proofs.Ways.Lawful.BallotLaws as its
-use Rattle.sl_due_law.proofs.laws.ways.ways_are_lawful.Goals as goal
-
-pub returns : goal.returns
-returns c = its.ways_are_lawful

@@ -1,0 +1,4 @@
+pub mod Ways
+pub mod Leases
+pub mod Holdings
+pub mod Grants

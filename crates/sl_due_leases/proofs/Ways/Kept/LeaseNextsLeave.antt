@@ -1,0 +1,234 @@
+-- What a lease decided leaves ways and turns.
+use Rattle.sl_acts.specs.Acts.{Has}
+use Rattle.sl_area.specs.Places.{block_offset, in_area, leader_offset}
+use Rattle.sl_area.specs.Roles.{block, leader}
+use Rattle.sl_due.specs.DueLease.{carry_lease, convert_for, for_work, read_for, with_command, write_block}
+use Rattle.sl_due.specs.Steps.{Step, add_reply, seen}
+use Rattle.sl_run.specs.Lawful.{IsSetting}
+use Rattle.sl_run.specs.LawfulArea.{is_area_work}
+use Rattle.sl_run.specs.LawfulBlock.{LawfulPhase1}
+use Rattle.sl_due_leases.proofs.Ways.Kept.AreaCallsLeave.{MayWork, area_calls_leave}
+use Rattle.sl_due_leases.proofs.Ways.Kept.CallsSame.{reply_leaves}
+use Rattle.sl_due_leases.proofs.Ways.Kept.EffectsLeave.{Carries, ends_leave, grants_leave, made_call, moves_leave, replies_leave, reply_carries, reply_grows, signals_leave, starts_leave, there_has}
+use Rattle.sl_due_leases.proofs.Ways.Kept.PlacesStand.{id_in_range, place_is_on, placed_on}
+use Rattle.sl_due_leases.proofs.Ways.Kept.PlainWalks.{ByPlain, converted, granted}
+use Rattle.sl_due_leases.proofs.Ways.Kept.WaysGrow.{way_grows}
+use Rattle.sl_due_leases.proofs.Ways.Lawful.BallotLaws.{own_is}
+use Rattle.sl_due_leases.specs.Ways.Kept.{LeasesStand}
+use Rattle.sl_due_leases.specs.Ways.Nexts.{Moment, NextIs, calls_at, context_at}
+use Rattle.sl_trace.specs.Ballots.{phase1_block}
+use Rattle.sl_trace.specs.Leases.{ended_ballots, lease_calls, open_ballot, spot_of_call}
+use Rattle.sl_trace.specs.declared.lease.LeaseNext.TheVariants.{AnswerJob, BecomeExclusive, BecomeShared, GrantJob, Nothing, ReadFor, WriteBlock, WriteLeader}
+use Rattle.sl_trace.specs.declared.lease.LeaseNext.{LeaseNext}
+use Rattle.sl_sector.specs.declared.sector.Block.{Block}
+use Rattle.sl_sector.specs.declared.sector.Leader.{Leader}
+use Rattle.sl_sector.specs.declared.sector.Rec.TheVariants.{BlockIs, LeaderIs}
+use Rattle.sl_trace.specs.Sessions.{delta_of_record, me}
+use Rattle.sl_trace.specs.declared.session.Session.{Session}
+use Rattle.sl_due_facts.specs.Facts.WayFacts.{In_settling, IsAligned, IsVerified, Phase1Way, PurposeWay, StepWay, way_context}
+use Rattle.sl_trace.specs.Traces.{Submitted, is_before_input, next_call, record_of, submitted, work_job}
+use Rattle.sl_trace.specs.declared.effects.Call.{Call}
+use Rattle.sl_trace.specs.declared.effects.LeaseStep.TheVariants.{ClearMode, FreeLeader, Phase1Read, Phase1Write, Phase2Read, Phase2Write, ReadArea, ReadBeforeFree, SetMode, TakeLeader}
+use Rattle.sl_trace.specs.declared.effects.LeaseStep.{LeaseStep}
+use Rattle.sl_trace.specs.declared.effects.Mode.TheVariants.{Exclusive, Shared}
+use Rattle.sl_trace.specs.declared.effects.Op.TheVariants.{WriteRecord}
+use Rattle.sl_trace.specs.declared.effects.Op.{Op}
+use Rattle.sl_trace.specs.declared.effects.Purpose.TheVariants.{Lease}
+use Rattle.sl_trace.specs.declared.effects.Purpose.{Purpose}
+use Rattle.sl_trace.specs.declared.effects.Spot.{Spot}
+use Rattle.sl_trace.specs.declared.effects.Work.TheVariants.{Settling}
+use Rattle.sl_trace.specs.declared.effects.Work.{Work}
+use Rattle.sl_trace.specs.declared.reply.Reply.{Reply}
+use Rattle.sl_acts.proofs.LoopsKeep.{with_some_keeps}
+use Rattle.sl_words.proofs.CaseLaws.{some_value}
+use Rattle.std.proofs.Common.{ap, arith, inl, refl, subst, sym, ◌∙◌}
+use Rattle.std.specs.Prelude.{Contains, None, false, length, option_and_then, true, ℕ, ◌+◌, ◌<◌, ◌≡◌, ◌≤◌}
+
+-- A reply that comes after an input.
+abbrev pub IsLate : Reply → Type 0
+IsLate r = is_before_input r ≡ false
+
+pub by_late : ByPlain IsLate LeasesStand
+by_late =
+    record {
+      ends = ends_leave;
+      signals = signals_leave;
+      moves = moves_leave;
+      grants = grants_leave;
+      starts = starts_leave;
+      replies = λ x j r late h. replies_leave x j r (inl late) h;
+      late = λ r late. late;
+    }
+
+-- ---- what a call must have stays
+
+reply_next : (x : Step) (j : ℕ) (r : Reply) → IsLate r → next_call x.setting (seen (add_reply j r x)) ≡ next_call x.setting (seen x)
+reply_next x j r late = ap (λ ms. x.setting.first.call + length ms) (reply_leaves x j r (inl late))
+
+work_replies : (x : Step) (s : Session) (at : Spot) (p : Purpose) (o : ℕ) (op : Op) (j : ℕ) (r : Reply) → IsLate r → MayWork x s at p o op → MayWork (add_reply j r x) s at p o op
+work_replies x s at p o op j r late h =
+    let same : submitted (seen (add_reply j r x)) ≡ submitted (seen x) = reply_leaves x j r (inl late) in
+    let c : Carries x.setting (seen x) (seen (add_reply j r x)) = reply_carries x j r (inl late) in
+    record {
+      has = h.has;
+      works = h.works;
+      aligned = h.aligned;
+      on = h.on;
+      clear = λ m there none work spot. h.clear m (subst (λ ms. Contains ms m) same there) none work spot;
+      below = λ m there. subst (λ n. m.call.number < n) (sym (reply_next x j r late)) (h.below m (subst (λ ms. Contains ms m) same there));
+      no_delta = h.no_delta;
+      way = λ lease call is.
+          subst (λ ms. PurposeWay (way_context x.setting (seen (add_reply j r x)) s) (length x.past) call ms p) (sym (c.calls s at))
+          (way_grows (way_context x.setting (seen x) s) (way_context x.setting (seen (add_reply j r x)) s) (reply_grows x j r (inl late) s) (length x.past) call (lease_calls x.setting (seen x) s at) p
+          (h.way lease call is));
+    }
+
+-- Ends, grants and replies leave it.
+pub work_by_late : (s : Session) (at : Spot) (p : Purpose) (o : ℕ) (op : Op) → ByPlain IsLate (λ x. LeasesStand x × MayWork x s at p o op)
+work_by_late s at p o op =
+    record {
+      ends = λ x e h. (ends_leave x e h.0, record { has = h.1.has; works = h.1.works; aligned = h.1.aligned; on = h.1.on; clear = h.1.clear; below = h.1.below; no_delta = h.1.no_delta; way = h.1.way });
+      signals = λ x q signal h. (signals_leave x q signal h.0, record { has = h.1.has; works = h.1.works; aligned = h.1.aligned; on = h.1.on; clear = h.1.clear; below = h.1.below; no_delta = h.1.no_delta; way = h.1.way });
+      moves = λ x m h. (moves_leave x m h.0, record { has = h.1.has; works = h.1.works; aligned = h.1.aligned; on = h.1.on; clear = h.1.clear; below = h.1.below; no_delta = h.1.no_delta; way = h.1.way });
+      grants = λ x g h. (grants_leave x g h.0, record { has = h.1.has; works = h.1.works; aligned = h.1.aligned; on = h.1.on; clear = h.1.clear; below = h.1.below; no_delta = h.1.no_delta; way = h.1.way });
+      starts = λ x t h. (starts_leave x t h.0, record { has = h.1.has; works = h.1.works; aligned = h.1.aligned; on = h.1.on; clear = h.1.clear; below = h.1.below; no_delta = h.1.no_delta; way = h.1.way });
+      replies = λ x j r late h. (replies_leave x j r (inl late) h.0, work_replies x s at p o op j r late h.1);
+      late = λ r late. late;
+    }
+
+-- As well where its place follows the setting.
+clear_by_late : (s : Session) (at : Spot) (b : Block) → ByPlain IsLate (λ x. LeasesStand x × MayWork x s at (Lease Settling ClearMode) (block_offset x.setting.layout at.base s.id) (WriteRecord (BlockIs b)))
+clear_by_late s at b =
+    record {
+      ends = λ x e h. (ends_leave x e h.0, record { has = h.1.has; works = h.1.works; aligned = h.1.aligned; on = h.1.on; clear = h.1.clear; below = h.1.below; no_delta = h.1.no_delta; way = h.1.way });
+      signals = λ x q signal h. (signals_leave x q signal h.0, record { has = h.1.has; works = h.1.works; aligned = h.1.aligned; on = h.1.on; clear = h.1.clear; below = h.1.below; no_delta = h.1.no_delta; way = h.1.way });
+      moves = λ x m h. (moves_leave x m h.0, record { has = h.1.has; works = h.1.works; aligned = h.1.aligned; on = h.1.on; clear = h.1.clear; below = h.1.below; no_delta = h.1.no_delta; way = h.1.way });
+      grants = λ x g h. (grants_leave x g h.0, record { has = h.1.has; works = h.1.works; aligned = h.1.aligned; on = h.1.on; clear = h.1.clear; below = h.1.below; no_delta = h.1.no_delta; way = h.1.way });
+      starts = λ x t h. (starts_leave x t h.0, record { has = h.1.has; works = h.1.works; aligned = h.1.aligned; on = h.1.on; clear = h.1.clear; below = h.1.below; no_delta = h.1.no_delta; way = h.1.way });
+      replies = λ x j r late h.
+          (replies_leave x j r (inl late) h.0, work_replies x s at (Lease Settling ClearMode) (block_offset x.setting.layout at.base s.id) (WriteRecord (BlockIs b)) j r late h.1);
+      late = λ r late. late;
+    }
+
+-- ---- the calls of a lease
+
+-- What a lease must have to make its next call.
+pub record LeaseReady (x : Step) (s : Session) (at : Spot) : Type 0 where
+  pub has : Has x s
+  pub setting : IsSetting x.setting
+  pub aligned : IsAligned x.setting at
+  pub clear : (m : Submitted) → Contains (submitted (seen x)) m → m.answer ≡ None → is_area_work m.call.purpose ≡ true → spot_of_call x.setting.layout m ≡ at → ⊥
+  pub below : (m : Submitted) → Contains (submitted (seen x)) m → m.call.number < next_call x.setting (seen x)
+
+lease_works : (x : Step) (s : Session) (at : Spot) → LeaseReady x s at → (work : Work) (step : LeaseStep) (o : ℕ) (op : Op) → in_area x.setting.layout at.base o ≡ true
+    → option_and_then delta_of_record (record_of op) ≡ None
+    → ((c : Call) → c.op ≡ op → StepWay (way_context x.setting (seen x) s) work (length x.past) c (lease_calls x.setting (seen x) s at) step) → MayWork x s at (Lease work step) o op
+lease_works x s at h work step o op inside plain way =
+    record {
+      has = h.has;
+      works = refl;
+      aligned = h.aligned;
+      on = placed_on x.setting at (made_call x s.number at.path (Lease work step) o op) refl inside;
+      clear = h.clear;
+      below = h.below;
+      no_delta = plain;
+      way = λ lease c is. way c is;
+    }
+
+leader_inside : (x : Step) (s : Session) (at : Spot) → LeaseReady x s at → in_area x.setting.layout at.base at.base ≡ true
+leader_inside x s at h = place_is_on x.setting h.setting at.base leader tt
+
+own_inside : (x : Step) (s : Session) (at : Spot) → LeaseReady x s at → in_area x.setting.layout at.base (block_offset x.setting.layout at.base s.id) ≡ true
+own_inside x s at h = place_is_on x.setting h.setting at.base (block s.id) (id_in_range x.setting h.setting (seen x) s (there_has x.setting (seen x) s.number s h.has))
+
+one_host : (a b : ℕ) → 1 ≤ a → a ≤ b → 1 ≤ b
+one_host a b one le = omega (arith, one, le)
+
+first_inside : (x : Step) (s : Session) (at : Spot) → LeaseReady x s at → in_area x.setting.layout at.base (block_offset x.setting.layout at.base 1) ≡ true
+first_inside x s at h =
+    let id = id_in_range x.setting h.setting (seen x) s (there_has x.setting (seen x) s.number s h.has) in
+    place_is_on x.setting h.setting at.base (block 1) (omega arith, one_host s.id x.setting.layout.hosts id.0 id.1)
+
+abbrev pub moment_of : Step → Session → Spot → Work → Moment
+moment_of x s at work = record { setting = x.setting; trace = seen x; session = s; at = at; work = work; now = length x.past }
+
+read_leaves : (x : Step) (s : Session) (at : Spot) → LeaseReady x s at → (work : Work) (step : LeaseStep) → NextIs (moment_of x s at work) (ReadFor step) → LeasesStand x → LeasesStand (read_for s at work step x)
+read_leaves x s at h work (ReadArea name) n k = area_calls_leave x s at (Lease work (ReadArea name)) at.base _ (lease_works x s at h work (ReadArea name) at.base _ (leader_inside x s at h) refl n) k
+read_leaves x s at h work ReadBeforeFree n k = area_calls_leave x s at (Lease work ReadBeforeFree) at.base _ (lease_works x s at h work ReadBeforeFree at.base _ (leader_inside x s at h) refl n) k
+read_leaves x s at h work Phase1Write n k = area_calls_leave x s at (Lease work Phase1Write) _ _ (lease_works x s at h work Phase1Write _ _ (first_inside x s at h) refl n) k
+read_leaves x s at h work Phase1Read n k = area_calls_leave x s at (Lease work Phase1Read) _ _ (lease_works x s at h work Phase1Read _ _ (first_inside x s at h) refl n) k
+read_leaves x s at h work Phase2Write n k = area_calls_leave x s at (Lease work Phase2Write) _ _ (lease_works x s at h work Phase2Write _ _ (first_inside x s at h) refl n) k
+read_leaves x s at h work Phase2Read n k = area_calls_leave x s at (Lease work Phase2Read) _ _ (lease_works x s at h work Phase2Read _ _ (first_inside x s at h) refl n) k
+read_leaves x s at h work TakeLeader n k = area_calls_leave x s at (Lease work TakeLeader) _ _ (lease_works x s at h work TakeLeader _ _ (first_inside x s at h) refl n) k
+read_leaves x s at h work SetMode n k = area_calls_leave x s at (Lease work SetMode) _ _ (lease_works x s at h work SetMode _ _ (first_inside x s at h) refl n) k
+read_leaves x s at h work FreeLeader n k = area_calls_leave x s at (Lease work FreeLeader) _ _ (lease_works x s at h work FreeLeader _ _ (first_inside x s at h) refl n) k
+read_leaves x s at h work ClearMode n k = area_calls_leave x s at (Lease work ClearMode) _ _ (lease_works x s at h work ClearMode _ _ (first_inside x s at h) refl n) k
+
+-- Phase 1's write, by its law.
+phase1_way : (x : Moment) (b : Block) → ((c : Submitted) → LawfulPhase1 x.setting x.trace x.session x.at c b) → IsVerified (context_at x) (calls_at x) → (c : Call) → c.op ≡ WriteRecord (BlockIs b)
+    → Phase1Way (context_at x) c (calls_at x)
+unfolding phase1_block
+phase1_way x b lawful named c op =
+    let l : LawfulPhase1 x.setting x.trace x.session x.at (record { at = 0; reading = 0; call = c; answer = None }) b = lawful (record { at = 0; reading = 0; call = c; answer = None }) in
+    record {
+      own = b;
+      wrote = op;
+      host = ap (λ (k : Block). k.host) l.written;
+      fresh = l.not_freed;
+      rises = λ k is. subst (λ (z : Block). z.lver ≤ b.lver) (some_value l.own k (sym l.known ∙ own_is x.setting x.trace x.session x.at k is)) l.not_below;
+      named = named;
+    }
+
+block_leaves : (x : Step) (s : Session) (at : Spot) → LeaseReady x s at → (work : Work) (step : LeaseStep) (b : Block) → NextIs (moment_of x s at work) (WriteBlock step b) → LeasesStand x
+    → LeasesStand (write_block s at work step b x)
+block_leaves x s at h work step b n k = area_calls_leave x s at (Lease work step) _ _ (lease_works x s at h work step _ _ (own_inside x s at h) refl (by step n)) k where
+  by : (step : LeaseStep) → NextIs (moment_of x s at work) (WriteBlock step b) → (c : Call) → c.op ≡ WriteRecord (BlockIs b)
+      → StepWay (way_context x.setting (seen x) s) work (length x.past) c (lease_calls x.setting (seen x) s at) step
+  by Phase1Write n c op = phase1_way (moment_of x s at work) b n.0.0 n.0.1 c op
+  by (ReadArea name) n c op = n.0 c op
+  by ReadBeforeFree n c op = n.0 c op
+  by Phase1Read n c op = n.0 c op
+  by Phase2Write n c op = n.0 c op
+  by Phase2Read n c op = n.0 c op
+  by TakeLeader n c op = n.0 c op
+  by SetMode n c op = n.0 c op
+  by FreeLeader n c op = n.0 c op
+  by ClearMode n c op = n.0 c op
+
+-- What stands behind an instance of the session, as far as a free asks it.
+abbrev pub HasEnded : Step → Session → Spot → ℕ → Type 0
+HasEnded x s at n =
+    Contains (ended_ballots x.setting.layout (lease_calls x.setting (seen x) s at)) (n, me (seen x) s) × (open_ballot x.setting.layout (lease_calls x.setting (seen x) s at) ≡ None)
+
+pub next_leaves : (x : Step) (s : Session) (at : Spot) → LeaseReady x s at → (work : Work) (n : LeaseNext) → ((lver : ℕ) (l : Leader) → n ≡ BecomeShared lver l → HasEnded x s at lver) → NextIs (moment_of x s at work) n → LeasesStand x → LeasesStand (carry_lease s at work n x)
+unfolding carry_lease
+next_leaves x s at h work Nothing e n k = k
+next_leaves x s at h work (ReadFor step) e n k = read_leaves x s at h work step n k
+next_leaves x s at h work (WriteBlock step b) e n k = block_leaves x s at h work step b n k
+next_leaves x s at h work (WriteLeader step l) e n k = area_calls_leave x s at (Lease work step) _ _ (lease_works x s at h work step _ _ (leader_inside x s at h) refl n.0) k
+next_leaves x s at h work (AnswerJob r) e n k = with_some_keeps LeasesStand (work_job work) (λ j. add_reply j r) x (λ j is f. replies_leave x j r (inl n) f) k
+next_leaves x s at h work (GrantJob mode lver) e n k = granted IsLate LeasesStand by_late x s work mode lver k
+next_leaves x s at h work (BecomeShared lver l) e n k =
+    let may : MayWork x s at (Lease Settling FreeLeader) (leader_offset at.base) (WriteRecord (LeaderIs l)) =
+    lease_works x s at h Settling FreeLeader (leader_offset at.base) (WriteRecord (LeaderIs l)) (leader_inside x s at h) refl
+    (λ c op. record {
+      leader = l;
+      wrote = op;
+      free = n.2;
+      won = subst (λ m. Contains (ended_ballots x.setting.layout (lease_calls x.setting (seen x) s at)) (m, me (seen x) s)) (sym n.3) (e lver l refl).0;
+      concluded = (e lver l refl).1;
+      why = In_settling refl;
+    })
+    in
+    let z = converted IsLate (λ y. LeasesStand y × MayWork y s at (Lease Settling FreeLeader) (leader_offset at.base) (WriteRecord (LeaderIs l)))
+    (work_by_late s at (Lease Settling FreeLeader) (leader_offset at.base) (WriteRecord (LeaderIs l))) x s at work Shared lver (k, may) in
+    area_calls_leave (for_work work (λ j. with_command j (λ c. convert_for s at j c Shared lver)) x) s at (Lease Settling FreeLeader) (leader_offset at.base) (WriteRecord (LeaderIs l)) z.1 z.0
+next_leaves x s at h work (BecomeExclusive lver b) e n k =
+    let may : MayWork x s at (Lease Settling ClearMode) (block_offset x.setting.layout at.base s.id) (WriteRecord (BlockIs b)) =
+    lease_works x s at h Settling ClearMode (block_offset x.setting.layout at.base s.id) (WriteRecord (BlockIs b)) (own_inside x s at h) refl
+    (λ c op. record { own = n.0; known = n.1; wrote = op ∙ ap (λ z. WriteRecord (BlockIs z)) n.2 })
+    in
+    let z = converted IsLate (λ y. LeasesStand y × MayWork y s at (Lease Settling ClearMode) (block_offset y.setting.layout at.base s.id) (WriteRecord (BlockIs b)))
+    (clear_by_late s at b) x s at work Exclusive lver (k, may) in
+    let w : Step = for_work work (λ j. with_command j (λ c. convert_for s at j c Exclusive lver)) x in
+    area_calls_leave w s at (Lease Settling ClearMode) (block_offset w.setting.layout at.base s.id) (WriteRecord (BlockIs b)) z.1 z.0

@@ -1,0 +1,5 @@
+use Rattle.sl_due_leases.proofs.Grants.OrphansAreLawful as its
+use Rattle.sl_due_leases.proofs.laws.grants.orphans_are_lawful.Goals as goal
+
+pub returns : goal.returns
+returns c = its.orphans_are_lawful

@@ -1,0 +1,5 @@
+use Rattle.sl_due_leases.proofs.Ways.Lawful.GrantsFollow as its
+use Rattle.sl_due_leases.proofs.laws.ways.grants_follow.Goals as goal
+
+pub returns : goal.returns
+returns c = its.grants_follow

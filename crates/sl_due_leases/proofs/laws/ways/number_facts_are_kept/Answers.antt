@@ -1,0 +1,5 @@
+use Rattle.sl_due_leases.proofs.Ways.Kept.FactsAreKept as its
+use Rattle.sl_due_leases.proofs.laws.ways.number_facts_are_kept.Goals as goal
+
+pub returns : goal.returns
+returns c = its.number_facts_are_kept

@@ -1,0 +1,5 @@
+use Rattle.sl_due_leases.proofs.Ways.Kept.FactsAreKept as its
+use Rattle.sl_due_leases.proofs.laws.ways.turn_facts_begin.Goals as goal
+
+pub returns : goal.returns
+returns c = its.turn_facts_begin

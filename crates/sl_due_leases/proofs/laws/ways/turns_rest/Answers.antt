@@ -1,0 +1,5 @@
+use Rattle.sl_due_leases.proofs.Ways.Kept.StepsBegin as its
+use Rattle.sl_due_leases.proofs.laws.ways.turns_rest.Goals as goal
+
+pub returns : goal.returns
+returns c = its.turns_rest

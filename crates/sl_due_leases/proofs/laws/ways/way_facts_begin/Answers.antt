@@ -1,0 +1,5 @@
+use Rattle.sl_due_leases.proofs.Ways.Kept.FactsAreKept as its
+use Rattle.sl_due_leases.proofs.laws.ways.way_facts_begin.Goals as goal
+
+pub returns : goal.returns
+returns c = its.way_facts_begin

@@ -1,0 +1,5 @@
+use Rattle.sl_due_leases.proofs.Ways.Lawful.BallotLaws as its
+use Rattle.sl_due_leases.proofs.laws.ways.ways_are_lawful.Goals as goal
+
+pub returns : goal.returns
+returns c = its.ways_are_lawful
