@@ -4,7 +4,7 @@ ghost use Rattle.sl_cell.specs.Audits.{Agrees, IsOf};
 ghost use Rattle.sl_cell.specs.Cases.{IsCase, IsCaseOfSome, Stops};
 ghost use Rattle.sl_cell.specs.Cells.{IsTaken, IsTested, IsTold, KeepsIdle};
 ghost use Rattle.sl_cell.specs.declared.audit.Differ.{Differ as DifferOf};
-ghost use Rattle.sl_daemon.specs.Daemons.{Stood, begun_with};
+ghost use Rattle.sl_daemon.specs.Daemons.{begun_with};
 ghost use Rattle.sl_run.specs.Lawful.{IsSetting};
 ghost use Rattle.sl_run.specs.Headers.{IsHeader};
 ghost use Rattle.sl_trace.specs.Connections.{given_connection};
@@ -32,7 +32,6 @@ pub struct HostCell<D: Teller, J: Station> {
     basis: Basis,
     kept: Mutex<Kept<D, J>>,
     ghost of: { IsOf J.setting basis },
-    ghost set: { IsSetting J.setting },
 }
 
 impl<D: Teller, J: Station> HostCell<D, J> {
@@ -100,7 +99,7 @@ impl<D: Teller, J: Station> HostCell<D, J> {
     /// that they say of it is true. Else a case in which these seats differ from a history that the daemon could have, or want of memory.
     #[tactic(auto, using(crate::proofs::CaseLaws::no_case, crate::proofs::CaseLaws::case_of_some))]
     pub fn close(self, seats: Vec<Seat>) -> Result<Seq<Entry>, CloseError>
-        ensures stood { IfOk result (λ h. Stood D.Daemon.stands J.setting (reverse h)) }
+        ensures stands { IfOk result (λ h. (d : D) × D.Daemon.stands d J.setting (reverse h)) }
         ensures trace { IfOk result (λ h. IsTrace J.setting (reverse h)) }
         ensures agrees { IfOk result (λ h. Agrees J.setting h seats.items) }
         ensures none { IfOk result (λ h. (d : DifferOf) → IsCase J.setting h seats.items d → ⊥) }

@@ -60,7 +60,8 @@ fn close<D: Teller, J: Station, P: Spawner>(
     failed: bool,
     seats: Result<Vec<Seat>, AllocError>,
 ) -> Result<Seq<Entry>, CloseError>
-    requires { IfOk seats (λ v. AreSeats v.items) }
+    requires setting { IsSetting J.setting }
+    requires seats { IfOk seats (λ v. AreSeats v.items) }
     ensures stood { IfOk result (λ h. Stood D.Daemon.stands J.setting (reverse h)) }
     ensures ok { IfOk result (λ h. IsRun J.setting h) }
     ensures differ { IfErr result (Stops (IsCaseOfRun J.setting)) }
