@@ -3,12 +3,10 @@
 use sl_text::Bytes;
 
 /// A line of a live script.
-#[derive(Drop)]
+#[derive(Clone, Drop)]
 pub enum LiveLine {
     /// The text is given to the machine; the next line is read after its reply.
     Command { machine: u32, text: Bytes },
-    /// The line is given to the machine's lvmlockd; the next line is read after its reply.
-    Lvm { machine: u32, line: Bytes },
     /// The text is given to the machine; the next line is read at once.
     Post { machine: u32, text: Bytes },
     /// The next line is read once the machine's child has exited, if it was started.
@@ -28,6 +26,14 @@ pub enum NoLine {
 
 /// Where the lines come from. After an `Err` and after the end it is not asked again.
 pub trait LiveLines {
+    ghost use Rattle.sl_live_lines.specs.Given.{lines_in};
+    ghost use Rattle.sl_live_lines.specs.declared.line.LiveLine.{LiveLine as LineOf};
+    ghost use Rattle.std.specs.Prelude.{List, ◌++◌, ◌≡◌};
+
+    /// The lines that it gave so far, the oldest first.
+    ghost given: { Self → List LineOf };
+
     /// The next line; none at the end.
-    fn next(&mut self) -> Result<Option<LiveLine>, NoLine>;
+    fn next(&mut self) -> Result<Option<LiveLine>, NoLine>
+        ensures { given self.new ≡ given self.old ++ lines_in result };
 }

@@ -23,8 +23,9 @@ ghost use Rattle.std.specs.Prelude.{option_map};
 ghost use Rattle.std.specs.Prelude.{IfOk, IsTrue, codes, length, ◌<◌, ◌≡◌};
 
 use crate::line::LiveLine;
+use crate::scope::Scope;
 use sl_command::parse_command;
-use sl_run::{Event, Header, Refusal};
+use sl_run::{Event, Refusal};
 use sl_schedule::{Line, next_event};
 use sl_trace::Command;
 use std::alloc::{AllocError, Global};
@@ -61,13 +62,12 @@ fn with_verb(
     Ok(Some(text))
 }
 
-/// What an event of `command` is in a live script.
+/// What an event of `command` is in a live script; a line for lvmlockd is not served yet.
 fn command_of(event: Event) -> Option<LiveLine>
     ensures { result ≡ command_of event }
 {
     match event {
         Event::GiveCommand { machine, text } => Some(LiveLine::Command { machine, text }),
-        Event::GiveLvm { machine, line } => Some(LiveLine::Lvm { machine, line }),
         _ => None,
     }
 }
@@ -93,30 +93,30 @@ fn exits_of(event: Event) -> Option<LiveLine>
 }
 
 /// The event that a line spells. An `Err` is want of memory.
-fn event_in(alloc: Global, header: &Header, line: &[u8]) -> Result<Option<Event>, AllocError>
-    ensures { IfOk result (λ event. event ≡ event_in whole_language header.now.machines header.now.geometry.sector line.now) }
+fn event_in(alloc: Global, scope: &Scope, line: &[u8]) -> Result<Option<Event>, AllocError>
+    ensures { IfOk result (λ event. event ≡ event_in whole_language scope.now.machines scope.now.geometry.sector line.now) }
 {
-    next_event(alloc, header.machines, header.geometry.sector(), line)
+    next_event(alloc, scope.machines, scope.geometry.sector(), line)
 }
 
 /// The live line that a line spells, if it does. An `Err` is want of memory.
-fn live_line_in(alloc: Global, header: &Header, line: &[u8]) -> Result<Option<LiveLine>, AllocError>
-    ensures { IfOk result (λ live. live ≡ live_line_in header.now line.now) }
+fn live_line_in(alloc: Global, scope: &Scope, line: &[u8]) -> Result<Option<LiveLine>, AllocError>
+    ensures { IfOk result (λ live. live ≡ live_line_in scope.now line.now) }
 {
     if let Some(text) = with_verb(alloc, b"post", b"command", line)? {
-        return Ok(event_in(alloc, header, &text)?.and_then(post_of));
+        return Ok(event_in(alloc, scope, &text)?.and_then(post_of));
     }
     if let Some(text) = with_verb(alloc, b"exits", b"exit", line)? {
-        return Ok(event_in(alloc, header, &text)?.and_then(exits_of));
+        return Ok(event_in(alloc, scope, &text)?.and_then(exits_of));
     }
-    Ok(event_in(alloc, header, line)?.and_then(command_of))
+    Ok(event_in(alloc, scope, line)?.and_then(command_of))
 }
 
 /// The process that a text names, if it is a command that names one.
-fn process_named(header: &Header, text: &[u8]) -> Option<u32>
-    ensures { result ≡ process_in header.now text.now }
+fn process_named(scope: &Scope, text: &[u8]) -> Option<u32>
+    ensures { result ≡ process_in scope.now text.now }
 {
-    match parse_command(text, &header.geometry) {
+    match parse_command(text, &scope.geometry) {
         Ok(Command::Acquire { process, .. })
         | Ok(Command::TakeOver { process, .. })
         | Ok(Command::Release { process, .. })
@@ -130,47 +130,47 @@ fn process_named(header: &Header, text: &[u8]) -> Option<u32>
 }
 
 /// Whether the text is a command of a script's process: of none of the run's children, and not of lvmlockd.
-fn is_of_script(header: &Header, text: &[u8]) -> bool
-    ensures { result ≡ is_of_script header.now text.now }
+fn is_of_script(scope: &Scope, text: &[u8]) -> bool
+    ensures { result ≡ is_of_script scope.now text.now }
 {
-    match process_named(header, text) {
+    match process_named(scope, text) {
         Some(process) => process < LOCK_PROCESS,
         None => false,
     }
 }
 
 /// Whether the text is a command for lvmlockd's process, which acts by lines of its own alone. Its kill program may be set.
-fn is_of_locks(header: &Header, text: &[u8]) -> bool
-    ensures { result ≡ is_of_locks header.now text.now }
+fn is_of_locks(scope: &Scope, text: &[u8]) -> bool
+    ensures { result ≡ is_of_locks scope.now text.now }
 {
-    match parse_command(text, &header.geometry) {
+    match parse_command(text, &scope.geometry) {
         Ok(Command::SetKillpath { .. }) => false,
-        Ok(_) => process_named(header, text) == Some(LOCK_PROCESS),
+        Ok(_) => process_named(scope, text) == Some(LOCK_PROCESS),
         Err(_) => false,
     }
 }
 
 /// Why a text may not be given to a machine, if it may not.
-fn text_refusal(header: &Header, machine: u32, text: &[u8]) -> Option<Refusal>
-    ensures { result ≡ text_refusal header.now machine text.now }
+fn text_refusal(scope: &Scope, machine: u32, text: &[u8]) -> Option<Refusal>
+    ensures { result ≡ text_refusal scope.now machine text.now }
 {
-    if is_of_script(header, text) {
+    if is_of_script(scope, text) {
         return Some(Refusal::Syntax);
     }
-    if header.machines < machine {
+    if scope.machines < machine {
         return Some(Refusal::MissingMachine);
     }
-    if is_of_locks(header, text) {
+    if is_of_locks(scope, text) {
         return Some(Refusal::MissingLvm);
     }
     None
 }
 
 /// Why a line may not be where it is, if it may not.
-fn machine_refusal(header: &Header, machine: u32) -> Option<Refusal>
-    ensures { result ≡ machine_refusal header.now machine }
+fn machine_refusal(scope: &Scope, machine: u32) -> Option<Refusal>
+    ensures { result ≡ machine_refusal scope.now machine }
 {
-    if header.machines < machine {
+    if scope.machines < machine {
         Some(Refusal::MissingMachine)
     } else {
         None
@@ -178,28 +178,27 @@ fn machine_refusal(header: &Header, machine: u32) -> Option<Refusal>
 }
 
 /// Why a live line is refused, if it is.
-fn live_refusal(header: &Header, live: &LiveLine) -> Option<Refusal>
-    ensures { result ≡ live_refusal header.now live.now }
+fn live_refusal(scope: &Scope, live: &LiveLine) -> Option<Refusal>
+    ensures { result ≡ live_refusal scope.now live.now }
 {
     match live {
-        LiveLine::Command { machine, text } => text_refusal(header, *machine, text.as_slice()),
-        LiveLine::Post { machine, text } => text_refusal(header, *machine, text.as_slice()),
-        LiveLine::Lvm { machine, line: _ } => machine_refusal(header, *machine),
+        LiveLine::Command { machine, text } => text_refusal(scope, *machine, text.as_slice()),
+        LiveLine::Post { machine, text } => text_refusal(scope, *machine, text.as_slice()),
         LiveLine::Exits {
             machine,
             process: _,
-        } => machine_refusal(header, *machine),
+        } => machine_refusal(scope, *machine),
     }
 }
 
 /// What was read of a line, or why it is refused.
-fn checked(header: &Header, live: Option<LiveLine>) -> Result<LiveLine, Refusal>
-    ensures { result ≡ checked header.now live }
+fn checked(scope: &Scope, live: Option<LiveLine>) -> Result<LiveLine, Refusal>
+    ensures { result ≡ checked scope.now live }
 {
     let Some(live) = live else {
         return Err(Refusal::Syntax);
     };
-    match live_refusal(header, &live) {
+    match live_refusal(scope, &live) {
         Some(why) => Err(why),
         None => Ok(live),
     }
@@ -216,12 +215,8 @@ fn is_skipped(line: &[u8]) -> bool
 }
 
 /// What a line behind `begin` says, or why it is refused; None where it is empty or a comment. An `Err` is want of memory.
-pub fn live_line(
-    alloc: Global,
-    header: &Header,
-    line: &Line,
-) -> Result<Option<LiveRead>, AllocError>
-    ensures { IfOk result (λ read. read ≡ live_line header.now (line_seen line.now)) }
+pub fn live_line(alloc: Global, scope: &Scope, line: &Line) -> Result<Option<LiveRead>, AllocError>
+    ensures { IfOk result (λ read. read ≡ live_line scope.now (line_seen line.now)) }
 {
     if let Some(why) = line.refusal() {
         return Ok(Some((line.number, Err(why))));
@@ -229,6 +224,6 @@ pub fn live_line(
     if is_skipped(line.text) {
         return Ok(None);
     }
-    let live = live_line_in(alloc, header, line.text)?;
-    Ok(Some((line.number, checked(header, live))))
+    let live = live_line_in(alloc, scope, line.text)?;
+    Ok(Some((line.number, checked(scope, live))))
 }
