@@ -95,10 +95,11 @@ impl<D: Teller, J: Station> HostCell<D, J> {
         self.kept.lock(rt).test(seat, now)
     }
 
-    /// The history. It is the daemon's, and its entries are exactly what these seats applied, each once at its number; all else that
-    /// they say of it is true. Else a case in which these seats differ from a history that the daemon could have, or want of memory.
+    /// The history. It is the daemon's, which stood for it; its entries are exactly what these seats applied, each once at its number; all else
+    /// that they say of it is true. Else a case in which these seats differ from a history that the daemon could have, or want of memory.
     #[tactic(auto, using(crate::proofs::CaseLaws::no_case, crate::proofs::CaseLaws::case_of_some))]
     pub fn close(self, seats: Vec<Seat>) -> Result<Seq<Entry>, CloseError>
+        ensures stands { IfOk result (λ h. (d : D) × D.Daemon.stands d J.setting (reverse h)) }
         ensures trace { IfOk result (λ h. IsTrace J.setting (reverse h)) }
         ensures agrees { IfOk result (λ h. Agrees J.setting h seats.items) }
         ensures none { IfOk result (λ h. (d : DifferOf) → IsCase J.setting h seats.items d → ⊥) }

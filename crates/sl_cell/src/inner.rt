@@ -226,6 +226,7 @@ impl<D: Teller, J: Station> Core<D, J> {
     pub(crate) fn into_history(self) -> Vec<Entry>
         ensures same { result.items ≡ self.history }
         ensures trace { IsTrace J.setting (reverse result.items) }
+        ensures stands { D.Daemon.stands self.daemon J.setting (reverse result.items) }
     {
         let Core {
             alloc: _,

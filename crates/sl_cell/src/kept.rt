@@ -210,6 +210,7 @@ impl<D: Teller, J: Station> Kept<D, J> {
         requires { IsOf J.setting basis.now }
         ensures same { IfOk result (λ h. h ≡ self.history) }
         ensures trace { IsTrace J.setting (reverse self.history) }
+        ensures stands { (d : D) × D.Daemon.stands d J.setting (reverse self.history) }
         ensures agrees { OnOk result (Agrees J.setting self.history seats.now) }
         ensures differ { IfErr result (Stops (IsCase J.setting self.history seats.now)) }
     {
@@ -222,6 +223,7 @@ impl<D: Teller, J: Station> Kept<D, J> {
     fn into_history(self) -> Vec<Entry>
         ensures same { result.items ≡ self.history }
         ensures trace { IsTrace J.setting (reverse result.items) }
+        ensures stands { (d : D) × D.Daemon.stands d J.setting (reverse result.items) }
     {
         let Kept {
             core,

@@ -19,6 +19,6 @@ mod turn;
 mod worker;
 
 pub use machine::{Parts, Ran, run_machine};
-pub use post::Post;
+pub use post::{Post, fail_all};
 pub use roll::Roll;
 pub use threads::{Clocks, Stand};

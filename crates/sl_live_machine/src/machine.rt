@@ -1,11 +1,11 @@
 //! A machine's run: its cell is made, its threads run beside each other, and the cell is closed with their seats.
 
 ghost use Rattle.sl_cell.specs.Cases.{Stops};
-ghost use Rattle.sl_daemon.specs.Daemons.{begun_with};
+ghost use Rattle.sl_daemon.specs.Daemons.{Stood, begun_with};
 ghost use Rattle.sl_live_machine.specs.Shapes.{AreSeats, IsCaseOfRun, IsRun};
 ghost use Rattle.sl_run.specs.Headers.{IsHeader};
 ghost use Rattle.sl_run.specs.Lawful.{IsSetting};
-ghost use Rattle.std.specs.Prelude.{IfErr, IfOk, ◌≡◌};
+ghost use Rattle.std.specs.Prelude.{IfErr, IfOk, reverse, ◌≡◌};
 
 use crate::room::{Pace, Room};
 use crate::threads::{Clocks, Stand, Threaded, run_threads};
@@ -60,7 +60,9 @@ fn close<D: Teller, J: Station, P: Spawner>(
     failed: bool,
     seats: Result<Vec<Seat>, AllocError>,
 ) -> Result<Seq<Entry>, CloseError>
-    requires { IfOk seats (λ v. AreSeats v.items) }
+    requires setting { IsSetting J.setting }
+    requires seats { IfOk seats (λ v. AreSeats v.items) }
+    ensures stood { IfOk result (λ h. Stood D.Daemon.stands J.setting (reverse h)) }
     ensures ok { IfOk result (λ h. IsRun J.setting h) }
     ensures differ { IfErr result (Stops (IsCaseOfRun J.setting)) }
 {
@@ -83,8 +85,9 @@ fn close<D: Teller, J: Station, P: Spawner>(
 
 /// Runs a machine until its script's end: six threads over one cell, which are all joined before the cell is closed.
 ///
-/// An `Ok` has the history of the daemon of this setting, whose entries are exactly what the machine's threads applied. Else a case in which their
-/// seats differ from a history that the daemon could have, or want of memory: there, and where threads can't be made, all machines end.
+/// An `Ok` has the history of the daemon of this setting, which stood for it; its entries are exactly what the machine's threads applied. Else a
+/// case in which their seats differ from a history that the daemon could have, or want of memory: there, and where threads can't be made, all
+/// machines end.
 pub fn run_machine<
     D: Teller + Send,
     J: Station + Send + Sync,
@@ -106,6 +109,7 @@ pub fn run_machine<
     requires header { IsHeader header.now }
     requires setting { IsSetting J.setting }
     requires site { J.setting ≡ begun_with D.Daemon.commands header.now site }
+    ensures stood { IfOk result.history (λ h. Stood D.Daemon.stands J.setting (reverse h)) }
     ensures ok { IfOk result.history (λ h. IsRun J.setting h) }
     ensures differ { IfErr result.history (Stops (IsCaseOfRun J.setting)) }
 {

@@ -173,7 +173,7 @@ impl Post {
 }
 
 /// There was no memory: every machine is to end at once.
-pub(crate) fn fail_all<R: Wait>(rt: &R, posts: &[Post]) {
+pub fn fail_all<R: Wait>(rt: &R, posts: &[Post]) {
     for post in posts {
         post.fail(rt);
     }

@@ -53,7 +53,7 @@ impl Roll {
     }
 
     /// Counts this thread in, and waits for the others: whether they came in time.
-    pub(crate) fn enter<R: Wait + Clock>(&self, rt: &R) -> bool {
+    pub fn enter<R: Wait + Clock>(&self, rt: &R) -> bool {
         let mut count = self.count.lock(rt);
         *count = count.next();
         self.moved.notify_all();
@@ -65,7 +65,7 @@ impl Roll {
     }
 
     /// Threads are missing that won't come: no one waits any more.
-    pub(crate) fn give_up<R: Wait>(&self, rt: &R) {
+    pub fn give_up<R: Wait>(&self, rt: &R) {
         *self.count.lock(rt) = Count::GivenUp;
         self.moved.notify_all();
     }

@@ -50,7 +50,7 @@ impl<'a> Stand<'a> {
         if self.roll.enter(rt) {
             Ok(())
         } else {
-            fail_all(rt, self.posts);
+            self.give_up(rt);
             Err(AllocError)
         }
     }
