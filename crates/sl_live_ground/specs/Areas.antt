@@ -51,7 +51,8 @@ first_writes h m part path = if m == 1 then part_writes h part path else []
 
 -- ---- areas
 
--- An area of the disk at this path: where it tells what it has, it had something else before these sectors were written, and nothing else was.
+-- An area of the disk at this path, through which these sectors were written and no other: where areas tell what they have, it has what one had
+-- before, with each of these in its place.
 pub record IsLent {A : Type 0} (content : A → Option (List ℕ)) (writes : List ℕ → List Write) (path : List ℕ) (d : Disk A) : Type 0 where
   pub path_is : d.path ≡ path
   pub before : A

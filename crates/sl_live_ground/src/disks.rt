@@ -126,7 +126,7 @@ pub(crate) fn lend<V: LiveDevices>(
     }
 }
 
-/// Takes areas back.
+/// Takes areas back, those that were handed out last first.
 pub(crate) fn take_back<V: Devices>(disks: Vec<Disk<V::Area>>, devices: &mut V)
     ensures { CountsBack (faults_in V.Area.faults disks.items) (V.faults devices.old) (V.faults devices.new) }
 {
@@ -136,8 +136,8 @@ pub(crate) fn take_back<V: Devices>(disks: Vec<Disk<V::Area>>, devices: &mut V)
     }
 }
 
-/// The areas of a machine's workers go back to the devices, once its threads have ended. The devices count a fault exactly where one of the
-/// areas has: such a fault was told to the machine's daemon as a failed call.
+/// The areas of a machine's workers go back to the devices, once its threads have ended. The devices' count rises exactly where an area has
+/// counted a fault. While machines run such a fault is an answer to the machine's daemon: it is no reason for the run to end.
 pub fn give_back<V: Devices>(
     delta: Vec<Disk<V::Area>>,
     resource: Vec<Disk<V::Area>>,
@@ -145,6 +145,6 @@ pub fn give_back<V: Devices>(
 )
     ensures { CountsBack (faults_in V.Area.faults delta.items + faults_in V.Area.faults resource.items) (V.faults devices.old) (V.faults devices.new) }
 {
-    take_back(delta, devices);
     take_back(resource, devices);
+    take_back(delta, devices);
 }
