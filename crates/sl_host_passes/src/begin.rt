@@ -11,12 +11,12 @@ ghost use Rattle.std.specs.Prelude.{length, ◌*◌, ◌+◌, ◌<◌, ◌≡◌
 use crate::before::before_input;
 use sl_host::{Host, Notes};
 
-/// The step at the reading `now` begins, and what is due before its input is done. Where the host is quiet that takes no pass.
+/// The step at the reading `now` begins, and what is due before its input is done. Where the host is quiet that takes no pass, and no room.
 pub fn begin_step(host: &mut Host, members: &mut Notes<u64>, numbers: &mut Notes<u64>, now: u64)
     requires known { BeginKnown now host.old.kept }
     requires members { length host.old.kept.members ≤ members.old.most }
     requires room { length host.old.kept.jobs ≤ numbers.old.most }
-    requires left { 3 * length host.old.kept.jobs + 2 * length host.old.kept.holdings ≤ host.old.left }
+    requires left { host.old.kept.quiet_until ≤ now → 3 * length host.old.kept.jobs + 2 * length host.old.kept.holdings ≤ host.old.left }
     ensures state { Becomes host.old host.new (λ h. before_taking (begun now h)) }
     ensures left { Spends host.old host.new (3 * length host.old.kept.jobs + 2 * length host.old.kept.holdings) 0 }
     ensures quiet { now < host.old.kept.quiet_until → Spends host.old host.new 0 0 }

@@ -16,6 +16,10 @@ use Rattle.sl_host_state.specs.declared.kept.OpenCall.{OpenCall}
 use Rattle.sl_host_step.proofs.CallsStay.{calls_stay, config_stays}
 use Rattle.sl_host_step.proofs.Comes.{comes_plainly, expected_at}
 use Rattle.sl_host_step.specs.Moments.{AtInput, StepComes}
+use Rattle.sl_host_step.specs.Reaching.{reach_at, reach_in}
+use Rattle.sl_host_step.specs.Rooms.{HasLeft, reached}
+use Rattle.sl_host_step.specs.declared.rooms.Reach.TheVariants.{Few}
+use Rattle.sl_host_step.specs.declared.rooms.Reach.{Reach}
 use Rattle.sl_host_step.specs.Telling.{joins_at}
 use Rattle.sl_lease.specs.Steps.{is_read_step}
 use Rattle.sl_member.specs.Together.{member_with}
@@ -41,6 +45,7 @@ use Rattle.sl_trace.specs.declared.input.Input.TheVariants.{Answer as Told}
 use Rattle.sl_trace.specs.declared.input.Input.{Input}
 use Rattle.sl_host.specs.Asking.{state_in}
 use Rattle.sl_host.specs.Hearing.{sectors_read}
+use Rattle.sl_host.specs.Host.{HostView}
 use Rattle.sl_words.proofs.CaseLaws.{none_some, some_value, true_is_false}
 use Rattle.std.proofs.Common.{ap, arith, refl, subst, sym, ◌∙◌}
 use Rattle.std.proofs.lemmas.List.{length-map}
@@ -210,10 +215,19 @@ module _ (now : ℕ) (i : Input) (first k : HostKept) (a : AtInput now i first k
   pub open_still : (number : ℕ) (c : OpenCall) → IsOpen (state_in k) number c → IsOpen (state_in first) number c
   open_still number c opens = sym (ap (λ cs. find (λ (d : OpenCall). d.number == number) cs) calls_same) ∙ opens
 
+  -- The answer reaches as far as it did.
+  pub reach_still : (number : ℕ) → reach_at k number ≡ reach_at first number
+  reach_still number = ap (λ cs. option_map_or (λ (c : OpenCall). reach_in (is_survey_purpose c.purpose)) (find (λ (c : OpenCall). c.number == number) cs) Few) calls_same
+
   pub fits_still : {S : Type 0} (number : ℕ) (bytes : S → List ℕ) (is_cut : S → ℕ → Bool) (heard : Heard S)
       → ((c : OpenCall) → IsOpen (state_in first) number c → FitsHeard bytes is_cut first.config.sizes c heard) → (c : OpenCall) → IsOpen (state_in k) number c
       → FitsHeard bytes is_cut k.config.sizes c heard
   fits_still number bytes is_cut heard fit c opens = subst (λ (m : Made). FitsHeard bytes is_cut m.sizes c heard) (sym a.same) (fit c (open_still number c opens))
+
+-- What is left for it is left.
+pub left_still : (now : ℕ) (i : Input) (first new : HostView) → AtInput now i first.kept new.kept → (number : ℕ) (r : Reach) → r ≡ reach_at first.kept number → HasLeft r first new
+    → HasLeft (reach_at new.kept number) first new
+left_still now i first new at number r is left = subst (λ (q : Reach). HasLeft q first new) (is ∙ sym (reach_still now i first.kept new.kept at number)) left
 
 -- ---- how much it makes due
 
@@ -224,22 +238,24 @@ leases_few n k = subst (λ i. i ≤ leases_in k.members) (sym (by (member_with n
   by None = refl
   by (Some m) = length-map m.leases (λ (l : LeaseState). l.spot)
 
-pub few_effects : (k : HostKept) (number : ℕ) → effects_of k number ≤ length k.holdings + length k.jobs + 3
+pub few_effects : (k : HostKept) (number : ℕ) → effects_of k number ≤ reached (reach_at k number) (length k.holdings + length k.jobs) + 3
 few_effects k number = by (find (λ (c : OpenCall). c.number == number) k.unanswered) where
-  some : (b : Bool) → cond b (length k.holdings + length k.jobs + 3) 3 ≤ length k.holdings + length k.jobs + 3
+  some : (b : Bool) → cond b (length k.holdings + length k.jobs + 3) 3 ≤ reached (reach_in b) (length k.holdings + length k.jobs) + 3
   some true = grind arith
   some false = grind arith
 
-  by : (o : Option OpenCall) → (elim o as (λ z. ℕ) [ None ↦ 0 | Some c ↦ effects_for k c.purpose ]) ≤ length k.holdings + length k.jobs + 3
+  by : (o : Option OpenCall) → (elim o as (λ z. ℕ) [ None ↦ 0 | Some c ↦ effects_for k c.purpose ])
+      ≤ reached (option_map_or (λ (c : OpenCall). reach_in (is_survey_purpose c.purpose)) o Few) (length k.holdings + length k.jobs) + 3
   by None = grind arith
   by (Some c) = some (is_survey_purpose c.purpose)
 
-pub few_calls : (k : HostKept) (number : ℕ) → calls_of k number ≤ leases_in k.members + 1
+pub few_calls : (k : HostKept) (number : ℕ) → calls_of k number ≤ reached (reach_at k number) (leases_in k.members) + 1
 few_calls k number = by (find (λ (c : OpenCall). c.number == number) k.unanswered) where
-  some : (n : ℕ) (b : Bool) → cond b (leases_of n k + 1) 1 ≤ leases_in k.members + 1
+  some : (n : ℕ) (b : Bool) → cond b (leases_of n k + 1) 1 ≤ reached (reach_in b) (leases_in k.members) + 1
   some n true = let few = leases_few n k in omega (arith, few)
   some n false = grind arith
 
-  by : (o : Option OpenCall) → (elim o as (λ z. ℕ) [ None ↦ 0 | Some c ↦ calls_for k c.session c.purpose ]) ≤ leases_in k.members + 1
+  by : (o : Option OpenCall) → (elim o as (λ z. ℕ) [ None ↦ 0 | Some c ↦ calls_for k c.session c.purpose ])
+      ≤ reached (option_map_or (λ (c : OpenCall). reach_in (is_survey_purpose c.purpose)) o Few) (leases_in k.members) + 1
   by None = grind arith
   by (Some c) = some c.session (is_survey_purpose c.purpose)

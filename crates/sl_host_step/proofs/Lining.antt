@@ -4,10 +4,14 @@ use Rattle.sl_host_lines.specs.Leaving.{line_cost}
 use Rattle.sl_host_lines.specs.LineFacts.{LineKnown}
 use Rattle.sl_host_lines.specs.Seats.{HasSeat}
 use Rattle.sl_host_state.specs.Kept.{Config, HostKept, Made}
-use Rattle.sl_host_step.proofs.Comes.{IsAtInput, at_input}
+use Rattle.sl_host_step.proofs.Comes.{at_input}
 use Rattle.sl_host_step.proofs.KnownLines as known
 use Rattle.sl_host_step.specs.Moments.{AtInput, StepComes}
-use Rattle.sl_host_step.specs.Rooms.{EndsWith, HasLeft}
+use Rattle.sl_host_passes.specs.Fewer.{leases_in}
+use Rattle.sl_host_step.specs.Reaching.{reach_of}
+use Rattle.sl_host_step.specs.Rooms.{EndsWith, HasLeft, calls_for, left_for, reached}
+use Rattle.sl_host_step.specs.declared.rooms.Reach.TheVariants.{All, Few}
+use Rattle.sl_host_step.specs.declared.rooms.Reach.{Reach}
 use Rattle.sl_host_step.specs.Seating.{HasPlace, MayBeSeated}
 use Rattle.sl_command.specs.Verbs.{answered}
 use Rattle.sl_member.specs.Members.{MemberKept, blank_member}
@@ -37,9 +41,9 @@ may_be_seated now text k c comes says =
     }
 
 -- The member that was made for the command is there for it at its input.
-pub seated : (old new : HostView) (c : Command) (o : Option MemberKept) → HasPlace old c o → HasLeft old new → HasSeat new c o
-seated old new (commands.AddLockspace a) None place left = place
-seated old new (commands.AddLockspace a) (Some m) place left =
+pub seated : (r : Reach) (old new : HostView) (c : Command) (o : Option MemberKept) → HasPlace old c o → HasLeft r old new → HasSeat new c o
+seated r old new (commands.AddLockspace a) None place left = place
+seated r old new (commands.AddLockspace a) (Some m) place left =
     record {
       run = ap (λ (z : MemberKept). z.run) place ∙ ap run_in (sym left.config);
       blank = ap (λ (z : MemberKept). z.state) place
@@ -48,20 +52,20 @@ seated old new (commands.AddLockspace a) (Some m) place left =
           ∙ ap (λ n. blank_member (run_in new.kept.config) (joining_session new.kept.born n a)) (sym left.lines);
       room = subst (λ n. new.calls ≤ n) (sym (ap (λ (z : MemberKept). z.room) place)) left.few;
     }
-seated old new (commands.RemLockspace a) o place left = tt
-seated old new (commands.InqLockspace a) o place left = tt
-seated old new (commands.HostStatus a) o place left = tt
-seated old new (commands.Acquire r shared p persistent) o place left = tt
-seated old new (commands.TakeOver r shared p persistent) o place left = tt
-seated old new (commands.Release r p) o place left = tt
-seated old new (commands.ReleaseOrphan r) o place left = tt
-seated old new (commands.Convert r shared p) o place left = tt
-seated old new (commands.RunProgram r shared path) o place left = tt
-seated old new (commands.Request r lver force) o place left = tt
-seated old new (commands.GetLvb r p) o place left = tt
-seated old new (commands.SetLvb r p bytes) o place left = tt
-seated old new (commands.SetKillpath p path) o place left = tt
-seated old new commands.Status o place left = tt
+seated r old new (commands.RemLockspace a) o place left = tt
+seated r old new (commands.InqLockspace a) o place left = tt
+seated r old new (commands.HostStatus a) o place left = tt
+seated q old new (commands.Acquire r shared p persistent) o place left = tt
+seated q old new (commands.TakeOver r shared p persistent) o place left = tt
+seated q old new (commands.Release r p) o place left = tt
+seated q old new (commands.ReleaseOrphan r) o place left = tt
+seated q old new (commands.Convert r shared p) o place left = tt
+seated q old new (commands.RunProgram r shared path) o place left = tt
+seated q old new (commands.Request r lver force) o place left = tt
+seated q old new (commands.GetLvb r p) o place left = tt
+seated q old new (commands.SetLvb r p bytes) o place left = tt
+seated r old new (commands.SetKillpath p path) o place left = tt
+seated r old new commands.Status o place left = tt
 
 -- What code reads of a text is what the grammar reads.
 abbrev IsRead : Result Command BadCommand → Result Command ℕ → Type 0
@@ -80,36 +84,59 @@ read_column r b is = subst (λ z. IsRead z r) (sym is) (is_read r)
 
 -- ---- what a line costs
 
-five : (a b : ℕ) → 5 + 0 ≤ 5 + (a + b)
-five a b = omega arith
+five : 5 + 0 ≤ 5 + 0
+five = omega arith
 
 all_of : (a b : ℕ) → 5 + (a + b) ≤ 5 + (a + b)
 all_of a b = omega arith
 
-pub cost_within : (k : HostKept) (c : Command) → line_cost k (Ok c) ≤ 5 + (length k.holdings + length k.jobs)
-cost_within k (commands.AddLockspace a) = five (length k.holdings) (length k.jobs)
+-- By how far its command reaches.
+pub cost_within : (k : HostKept) (c : Command) → line_cost k (Ok c) ≤ 5 + reached (reach_of c) (length k.holdings + length k.jobs)
 cost_within k (commands.RemLockspace a) = all_of (length k.holdings) (length k.jobs)
-cost_within k (commands.InqLockspace a) = five (length k.holdings) (length k.jobs)
-cost_within k (commands.HostStatus a) = five (length k.holdings) (length k.jobs)
-cost_within k (commands.Acquire r shared p persistent) = five (length k.holdings) (length k.jobs)
-cost_within k (commands.TakeOver r shared p persistent) = five (length k.holdings) (length k.jobs)
-cost_within k (commands.Release r p) = five (length k.holdings) (length k.jobs)
-cost_within k (commands.ReleaseOrphan r) = five (length k.holdings) (length k.jobs)
-cost_within k (commands.Convert r shared p) = five (length k.holdings) (length k.jobs)
-cost_within k (commands.RunProgram r shared path) = five (length k.holdings) (length k.jobs)
-cost_within k (commands.Request r lver force) = five (length k.holdings) (length k.jobs)
-cost_within k (commands.GetLvb r p) = five (length k.holdings) (length k.jobs)
-cost_within k (commands.SetLvb r p bytes) = five (length k.holdings) (length k.jobs)
-cost_within k (commands.SetKillpath p path) = five (length k.holdings) (length k.jobs)
-cost_within k commands.Status = five (length k.holdings) (length k.jobs)
+cost_within k (commands.AddLockspace a) = five
+cost_within k (commands.InqLockspace a) = five
+cost_within k (commands.HostStatus a) = five
+cost_within k (commands.Acquire r shared p persistent) = five
+cost_within k (commands.TakeOver r shared p persistent) = five
+cost_within k (commands.Release r p) = five
+cost_within k (commands.ReleaseOrphan r) = five
+cost_within k (commands.Convert r shared p) = five
+cost_within k (commands.RunProgram r shared path) = five
+cost_within k (commands.Request r lver force) = five
+cost_within k (commands.GetLvb r p) = five
+cost_within k (commands.SetLvb r p bytes) = five
+cost_within k (commands.SetKillpath p path) = five
+cost_within k commands.Status = five
+
+pub line_fits : (r : Reach) (n : ℕ) (first v : HostView) → HasLeft r first v → n ≤ 5 + reached r (length v.kept.holdings + length v.kept.jobs) → n ≤ v.left
+line_fits All n first v left few = let is = left.left in omega (arith, is, few)
+line_fits Few n first v left few = let is = left.left in omega (arith, is, few)
 
 -- Enough is left behind it for what comes last.
-pub line_leaves : (n : ℕ) (first old new : HostView) → HasLeft first old → n ≤ 5 + (length old.kept.holdings + length old.kept.jobs) → Spends old new n 1 → SameRun old new → EndsWith first new
-line_leaves n first old new left few spends same =
+ends_with : (r : Reach) (first old new : HostView) → HasLeft r first old → SameRun old new → 2 * new.seats ≤ new.left → new.seats ≤ new.calls → EndsWith first new
+ends_with r first old new left same few few_calls =
     record {
-      left = omega (arith, left.left, few, spends.0, same.2.2);
-      calls = omega (arith, left.calls, spends.1, same.2.2);
+      left = few;
+      calls = few_calls;
       seats = same.2.2 ∙ left.seats;
-      most = same.2.0 ∙ left.most;
-      most_calls = same.2.1 ∙ left.most_calls;
+      most = subst (λ n. n ≤ left_for first) (sym same.2.0) left.most;
+      most_calls = subst (λ n. n ≤ calls_for first) (sym same.2.1) left.most_calls;
     }
+
+pub line_leaves : (r : Reach) (n : ℕ) (first old new : HostView) → HasLeft r first old → n ≤ 5 + reached r (length old.kept.holdings + length old.kept.jobs) → Spends old new n 1 → SameRun old new → EndsWith first new
+line_leaves All n first old new left few spends same =
+    let is = left.left in
+    let calls = left.calls in ends_with All first old new left same (omega (arith, is, few, spends.0, same.2.2)) (omega (arith, calls, spends.1, same.2.2))
+line_leaves Few n first old new left few spends same =
+    let is = left.left in
+    let calls = left.calls in ends_with Few first old new left same (omega (arith, is, few, spends.0, same.2.2)) (omega (arith, calls, spends.1, same.2.2))
+
+-- And behind an answer.
+pub answer_leaves : (r : Reach) (n k : ℕ) (first old new : HostView) → HasLeft r first old → n ≤ reached r (length old.kept.holdings + length old.kept.jobs) + 3 → k ≤ reached r (leases_in old.kept.members) + 1
+    → Spends old new n k → SameRun old new → EndsWith first new
+answer_leaves All n k first old new left few few_calls spends same =
+    let is = left.left in
+    let calls = left.calls in ends_with All first old new left same (omega (arith, is, few, spends.0, same.2.2)) (omega (arith, calls, few_calls, spends.1, same.2.2))
+answer_leaves Few n k first old new left few few_calls spends same =
+    let is = left.left in
+    let calls = left.calls in ends_with Few first old new left same (omega (arith, is, few, spends.0, same.2.2)) (omega (arith, calls, few_calls, spends.1, same.2.2))

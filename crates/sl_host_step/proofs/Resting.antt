@@ -1,10 +1,10 @@
 -- Between two steps: what stands by is used by the next step, and is taken ahead for it.
-use Rattle.sl_daemon.specs.Daemons.{IsNumbered, IsStep, MayCome, entry_of}
 use Rattle.sl_host_passes.specs.Fewer.{leases_in}
 use Rattle.sl_host_state.specs.Kept.{HostKept}
 use Rattle.sl_host_step.specs.Moments.{HasStepped}
 use Rattle.sl_host_step.specs.Resting.{Rests, spare_of}
-use Rattle.sl_host_step.specs.Rooms.{HasRoom, ScratchState, Suffices, calls_for, calls_within, effects_within, left_for}
+use Rattle.sl_host_step.specs.Rooms.{HasRoom, ScratchState, Suffices, calls_for, calls_near, effects_near, effects_within, left_for}
+use Rattle.sl_host_step.specs.declared.rooms.Reach.TheVariants.{All}
 use Rattle.sl_host_step.specs.Serving.{IsIdle, Keeping, Serves}
 use Rattle.sl_host.specs.Host.{HostView}
 use Rattle.sl_trace.specs.Traces.{Setting, Trace, no_effects}
@@ -12,7 +12,7 @@ use Rattle.sl_trace.specs.declared.effects.Effects.{Effects}
 use Rattle.sl_trace.specs.declared.input.Input.{Input}
 use Rattle.sl_words.proofs.CaseLaws.{not_both}
 use Rattle.std.proofs.Common.{ap, arith, refl, subst, sym, ◌∙◌}
-use Rattle.std.specs.Prelude.{Bool, Err, IfOk, Ok, OnErr, OnOk, Result, false, length, min, true, ℕ, ◌*◌, ◌+◌, ◌<◌, ◌^◌, ◌≡◌, ◌≤◌}
+use Rattle.std.specs.Prelude.{Bool, Err, IfOk, Ok, OnErr, OnOk, Result, false, length, min, true, ℕ, ◌+◌, ◌<◌, ◌^◌, ◌≡◌, ◌≤◌}
 
 -- ---- what stands by
 
@@ -21,32 +21,26 @@ pub rests_without : (s : ScratchState) (v : HostView) → s.spare ≡ false → 
 rests_without s v none idle = record { none = λ h. idle; some = λ h. absurd (not_both s.spare h none) }
 
 -- Room for a step of what was kept is room for a step of what is kept now, which is the same.
-room_there : (old new : HostView) → HasRoom old new → HasRoom new new
+room_there : (old new : HostView) → HasRoom All old new → HasRoom All new new
 room_there old new r =
-    let kept : old.kept ≡ new.kept = sym r.kept in
-    let seats : old.seats ≡ new.seats = sym r.seats in
     record {
       kept = refl;
-      entries = subst (λ (k : HostKept). k.entries < 2 ^ 63) kept r.entries;
+      entries = subst (λ (k : HostKept). k.entries < 2 ^ 63) (sym r.kept) r.entries;
       seats = refl;
-      left = r.left
-          ∙ ap (λ (k : HostKept). effects_within (length k.jobs) (length k.holdings) (leases_in k.members) old.seats) kept
-          ∙ ap (λ n. effects_within (length new.kept.jobs) (length new.kept.holdings) (leases_in new.kept.members) n) seats;
-      calls = r.calls ∙ ap (λ (k : HostKept). calls_within (leases_in k.members) old.seats) kept ∙ ap (λ n. calls_within (leases_in new.kept.members) n) seats;
-      most = r.most ∙ most_same;
-      most_calls = r.most_calls ∙ calls_same;
+      left = subst (λ n. n ≤ new.left) (same (λ v. effects_near All v)) r.left;
+      calls = subst (λ n. n ≤ new.calls) (same (λ v. calls_near All v)) r.calls;
+      most = subst (λ n. new.most ≤ n) (same left_for) r.most;
+      most_calls = subst (λ n. new.most_calls ≤ n) (same calls_for) r.most_calls;
     }
   where
     of_kept : (k : HostKept) (n : ℕ) → HostView
     of_kept k n = record old { kept = k; seats = n }
 
-    most_same : left_for old ≡ left_for new
-    most_same = ap (λ (k : HostKept). left_for (of_kept k old.seats)) (sym r.kept) ∙ ap (λ n. left_for (of_kept new.kept n)) (sym r.seats)
+    -- What is counted of what is kept.
+    same : (f : HostView → ℕ) → f (of_kept old.kept old.seats) ≡ f (of_kept new.kept new.seats)
+    same f = ap (λ (k : HostKept). f (of_kept k old.seats)) (sym r.kept) ∙ ap (λ n. f (of_kept new.kept n)) (sym r.seats)
 
-    calls_same : calls_for old ≡ calls_for new
-    calls_same = ap (λ (k : HostKept). calls_for (of_kept k old.seats)) (sym r.kept) ∙ ap (λ n. calls_for (of_kept new.kept n)) (sym r.seats)
-
-lists_there : (s : ScratchState) (old new : HostView) → HasRoom old new → Suffices s old → Suffices s new
+lists_there : (s : ScratchState) (old new : HostView) → HasRoom All old new → Suffices s old → Suffices s new
 lists_there s old new r fits =
     let kept : old.kept ≡ new.kept = sym r.kept in
     record {
@@ -56,14 +50,14 @@ lists_there s old new r fits =
       orphans = subst (λ (k : HostKept). length k.holdings ≤ s.orphans) kept fits.orphans;
     }
 
-pub rests_with : (s : ScratchState) (old new : HostView) → s.spare ≡ true → HasRoom old new → Suffices s old → Rests s new
+pub rests_with : (s : ScratchState) (old new : HostView) → s.spare ≡ true → HasRoom All old new → Suffices s old → Rests s new
 rests_with s old new some room fits =
     record { none = λ h. absurd (not_both s.spare some h); some = λ h. (room_there old new room, lists_there s old new room fits) }
 
 -- ---- what is seen of it
 
-one_of : (n jobs holds leases seats : ℕ) → n ≡ effects_within jobs holds leases seats → min 1 n ≡ 1
-one_of n jobs holds leases seats is = grind (arith, is)
+one_of : (n jobs holds leases seats : ℕ) → effects_within jobs holds leases seats ≤ n → min 1 n ≡ 1
+one_of n jobs holds leases seats le = grind (arith, le)
 
 pub stands_by : (s : ScratchState) (v : HostView) → Rests s v → s.spare ≡ true → spare_of v ≡ 1
 stands_by s v rests some =

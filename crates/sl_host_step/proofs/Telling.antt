@@ -1,5 +1,5 @@
 -- What an answer asks of the host that has come to it.
-use Rattle.sl_host_answers.specs.Answering.{CanAnswer, FitsHeard, calls_for, effects_for, places_for}
+use Rattle.sl_host_answers.specs.Answering.{CanAnswer}
 use Rattle.sl_host_answers.specs.Surveys.{leases_of, spots_of}
 use Rattle.sl_host_law.specs.Replies.Answers.{IsOpen}
 use Rattle.sl_host_passes.proofs.Spots.{found_few}
@@ -9,17 +9,20 @@ use Rattle.sl_host_state.specs.declared.kept.OpenCall.{OpenCall}
 use Rattle.sl_host_step.proofs.Comes.{at_input}
 use Rattle.sl_host_step.proofs.KnownWholeAnswers as known
 use Rattle.sl_host_step.specs.Moments.{AtInput}
-use Rattle.sl_host_step.specs.Rooms.{EndsWith, HasLeft, ScratchState, Suffices}
+use Rattle.sl_host_step.specs.Reaching.{reach_at, reach_in}
+use Rattle.sl_host_step.specs.Rooms.{HasLeft, ScratchState, Suffices}
+use Rattle.sl_host_step.specs.declared.rooms.Reach.TheVariants.{Few}
+use Rattle.sl_host_step.specs.declared.rooms.Reach.{Reach}
 use Rattle.sl_member.specs.Together.{member_with}
 use Rattle.sl_trace.specs.Sessions.{is_survey_purpose}
 use Rattle.sl_trace.specs.declared.input.Answer.{Answer}
 use Rattle.sl_trace.specs.declared.input.Input.TheVariants.{Answer as Told}
 use Rattle.sl_host.specs.Asking.{state_in}
 use Rattle.sl_host.specs.Host.{HostView}
-use Rattle.std.proofs.Common.{ap, arith, refl, sym, ◌∙◌}
+use Rattle.std.proofs.Common.{ap, arith, refl, subst}
 use Rattle.std.proofs.lemmas.List.{length-map}
 use Rattle.std.specs.Option.{option_map_or}
-use Rattle.std.specs.Prelude.{Bool, None, Option, Some, cond, false, length, true, ℕ, ◌*◌, ◌+◌, ◌≡◌, ◌≤◌}
+use Rattle.std.specs.Prelude.{Bool, None, Option, Some, cond, false, length, true, ℕ, ◌+◌, ◌≡◌, ◌≤◌}
 
 few_places : (n : ℕ) (k : HostKept) → leases_of n k ≤ leases_in k.members
 few_places n k = by (member_with n k.members) refl where
@@ -31,25 +34,33 @@ few_places n k = by (member_with n k.members) refl where
       let many = length-map m.leases (λ l. l.spot) in
       omega (arith, few, at, many)
 
-pub can_answer : (now number : ℕ) (a : Answer) (first k : HostKept) (c : OpenCall) (v w : HostView) (s : ScratchState) → AtInput now (Told number a) first w.kept → IsOpen (state_in w.kept) number c → HasLeft v w → Suffices s w
+-- How far an answer reaches is known by its call.
+reach_is : (k : HostKept) (number : ℕ) (c : OpenCall) → IsOpen (state_in k) number c → reach_at k number ≡ reach_in (is_survey_purpose c.purpose)
+reach_is k number c opens = ap (λ o. option_map_or (λ (d : OpenCall). reach_in (is_survey_purpose d.purpose)) o Few) opens
+
+pub can_answer : (now number : ℕ) (a : Answer) (first k : HostKept) (c : OpenCall) (v w : HostView) (s : ScratchState) → AtInput now (Told number a) first w.kept → IsOpen (state_in w.kept) number c → HasLeft (reach_at w.kept number) v w → Suffices s w
     → CanAnswer w.kept c a w.left w.calls s.jobs s.spots
 can_answer now number a first k c v w s at opens left lists =
     record {
       may = known.may_answer now number a w.kept c (at_input now (Told number a) first w.kept at) opens;
-      left_is = by_left (is_survey_purpose c.purpose) left.left;
-      calls_are = by_calls (is_survey_purpose c.purpose) left.calls;
+      left_is = by_left (is_survey_purpose c.purpose) there;
+      calls_are = by_calls (is_survey_purpose c.purpose) there;
       room = (let z = lists.jobs in omega (arith, z));
       places = by_places (is_survey_purpose c.purpose) lists.spots;
     }
   where
-    by_left : (b : Bool) → length w.kept.jobs + 2 * length w.kept.holdings + 3 * leases_in w.kept.members + 4 * w.seats + 16 ≤ w.left
-        → cond b (length w.kept.holdings + length w.kept.jobs + 3) 3 ≤ w.left
-    by_left true le = omega (arith, le)
-    by_left false le = omega (arith, le)
+    there : HasLeft (reach_in (is_survey_purpose c.purpose)) v w
+    there = subst (λ (r : Reach). HasLeft r v w) (reach_is w.kept number c opens) left
 
-    by_calls : (b : Bool) → leases_in w.kept.members + 4 * w.seats + 8 ≤ w.calls → cond b (leases_of c.session w.kept + 1) 1 ≤ w.calls
-    by_calls true le = let few : leases_of c.session w.kept ≤ leases_in w.kept.members = few_places c.session w.kept in omega (arith, le, few)
-    by_calls false le = omega (arith, le)
+    by_left : (b : Bool) → HasLeft (reach_in b) v w → cond b (length w.kept.holdings + length w.kept.jobs + 3) 3 ≤ w.left
+    by_left true has = let le = has.left in omega (arith, le)
+    by_left false has = let le = has.left in omega (arith, le)
+
+    by_calls : (b : Bool) → HasLeft (reach_in b) v w → cond b (leases_of c.session w.kept + 1) 1 ≤ w.calls
+    by_calls true has =
+        let le = has.calls in
+        let few : leases_of c.session w.kept ≤ leases_in w.kept.members = few_places c.session w.kept in omega (arith, le, few)
+    by_calls false has = let le = has.calls in omega (arith, le)
 
     by_places : (b : Bool) → leases_in w.kept.members ≤ s.spots → cond b (leases_of c.session w.kept) 0 ≤ s.spots
     by_places true le = let few : leases_of c.session w.kept ≤ leases_in w.kept.members = few_places c.session w.kept in omega (arith, le, few)

@@ -1,6 +1,7 @@
 -- A host between two steps: nothing stands by, or the room of one step more.
 use Rattle.sl_host_state.specs.Kept.{HostKept}
 use Rattle.sl_host_step.specs.Rooms.{HasRoom, ScratchState, Suffices}
+use Rattle.sl_host_step.specs.declared.rooms.Reach.TheVariants.{All}
 use Rattle.sl_host_step.specs.Serving.{IsIdle}
 use Rattle.sl_host_step.specs.Telling.{joins_at}
 use Rattle.sl_trace.specs.declared.input.Answer.TheVariants.{Failed, Read, Written}
@@ -13,10 +14,10 @@ use Rattle.std.specs.Prelude.{Bool, false, min, true, ℕ, ◌≡◌}
 abbrev pub spare_of : HostView → ℕ
 spare_of v = min 1 v.left
 
--- Where none stands by the host is idle; else it has the room of a step, and so have the lists that a step goes by.
+-- Where none stands by the host is idle; else it has the room of any step, and so have the lists that a step goes by.
 pub record Rests (s : ScratchState) (v : HostView) : Type 0 where
   pub none : s.spare ≡ false → IsIdle v
-  pub some : s.spare ≡ true → HasRoom v v × Suffices s v
+  pub some : s.spare ≡ true → HasRoom All v v × Suffices s v
 
 -- Whether a step at this input takes memory beside its room: a line is read into a command, and a joining keeps the sector that it is told.
 abbrev pub takes_more : HostKept → Input → Bool

@@ -1,10 +1,13 @@
--- How many effects and calls a step makes at most, by what is kept as it begins.
+-- How many effects and calls a step makes at most, by what is kept as it begins, and how much of that it has room for, by its reach.
 use Rattle.sl_daemon.specs.declared.daemon.Most.{Most}
 use Rattle.sl_host_passes.specs.Fewer.{leases_in}
 use Rattle.sl_host_step.specs.declared.rooms.Counts.{Counts}
+use Rattle.sl_host_step.specs.declared.rooms.Reach.TheVariants.{All, Few}
+use Rattle.sl_host_step.specs.declared.rooms.Reach.{Reach}
+use Rattle.sl_host_state.specs.Kept.{HostKept}
 use Rattle.sl_host.specs.Asking.{most_counted}
 use Rattle.sl_host.specs.Host.{HostView}
-use Rattle.std.specs.Prelude.{Bool, length, min, nat_le, ℕ, ◌*◌, ◌+◌, ◌<◌, ◌^◌, ◌||◌, ◌≡◌, ◌≤◌}
+use Rattle.std.specs.Prelude.{Bool, cond, length, min, nat_le, ℕ, ◌*◌, ◌+◌, ◌<◌, ◌^◌, ◌||◌, ◌≡◌, ◌≤◌}
 
 -- More than this no step has room for.
 abbrev pub room_end : ℕ
@@ -36,6 +39,29 @@ counts_of v = record { jobs = length v.kept.jobs; holdings = length v.kept.holdi
 abbrev pub are_many : Counts → Bool
 are_many c = nat_le room_end c.jobs || nat_le room_end c.holdings || nat_le room_end c.leases || nat_le room_end c.seats
 
+-- How much of so much a step may have to do with: with all, or with none but a few that are counted apart.
+abbrev pub reached : Reach → ℕ → ℕ
+reached All n = n
+reached Few n = 0
+
+-- As code counts what a step with this reach may have to do with. Sessions are few.
+abbrev pub counts_within : Reach → Counts → Counts
+counts_within r c = record { jobs = reached r c.jobs; holdings = reached r c.holdings; leases = reached r c.leases; seats = c.seats }
+
+-- So many effects of each class, and so many calls, a step with this reach has room for.
+abbrev pub effects_near : Reach → HostView → ℕ
+effects_near r v = effects_within (reached r (length v.kept.jobs)) (reached r (length v.kept.holdings)) (reached r (leases_in v.kept.members)) v.seats
+
+abbrev pub calls_near : Reach → HostView → ℕ
+calls_near r v = calls_within (reached r (leases_in v.kept.members)) v.seats
+
+-- Where something may be due by time it is all, whatever the input reaches.
+abbrev pub reach_when : Bool → Reach → Reach
+reach_when loud r = cond loud All r
+
+abbrev pub IsFarEnough : ℕ → HostKept → Reach → Type 0
+IsFarEnough now k r = k.quiet_until ≤ now → r ≡ All
+
 -- For how much there is memory in the lists that a step goes by, and whether room for a step stands by.
 pub record ScratchState : Type 0 where
   pub members : ℕ
@@ -52,23 +78,23 @@ pub record Suffices (s : ScratchState) (v : HostView) : Type 0 where
   pub spots : leases_in v.kept.members ≤ s.spots
   pub orphans : length v.kept.holdings ≤ s.orphans
 
--- There is room for a step, and nothing else has changed.
-pub record HasRoom (old new : HostView) : Type 0 where
+-- There is room for a step with this reach, and no more than a step takes at most; nothing else has changed.
+pub record HasRoom (r : Reach) (old new : HostView) : Type 0 where
   pub kept : new.kept ≡ old.kept
   pub entries : old.kept.entries < 2 ^ 63
   pub seats : new.seats ≡ old.seats
-  pub left : new.left ≡ effects_within (length old.kept.jobs) (length old.kept.holdings) (leases_in old.kept.members) old.seats
-  pub calls : new.calls ≡ calls_within (leases_in old.kept.members) old.seats
-  pub most : new.most ≡ left_for old
-  pub most_calls : new.most_calls ≡ calls_for old
+  pub left : effects_near r old ≤ new.left
+  pub calls : calls_near r old ≤ new.calls
+  pub most : new.most ≤ left_for old
+  pub most_calls : new.most_calls ≤ calls_for old
 
 -- What is left of it at the input, where a host with so much has come to it.
-pub record HasLeft (old new : HostView) : Type 0 where
-  pub left : length new.kept.jobs + 2 * length new.kept.holdings + 3 * leases_in new.kept.members + 4 * new.seats + 16 ≤ new.left
-  pub calls : leases_in new.kept.members + 4 * new.seats + 8 ≤ new.calls
+pub record HasLeft (r : Reach) (old new : HostView) : Type 0 where
+  pub left : reached r (length new.kept.jobs + 2 * length new.kept.holdings + 3 * leases_in new.kept.members) + 4 * new.seats + 16 ≤ new.left
+  pub calls : reached r (leases_in new.kept.members) + 4 * new.seats + 8 ≤ new.calls
   pub seats : new.seats ≡ old.seats
-  pub most : new.most ≡ left_for old
-  pub most_calls : new.most_calls ≡ calls_for old
+  pub most : new.most ≤ left_for old
+  pub most_calls : new.most_calls ≤ calls_for old
   -- no session is born before, and no line has taken a number
   pub few : new.calls ≤ calls_for old
   pub config : new.kept.config ≡ old.kept.config
@@ -80,5 +106,5 @@ pub record EndsWith (old new : HostView) : Type 0 where
   pub left : 2 * new.seats ≤ new.left
   pub calls : new.seats ≤ new.calls
   pub seats : new.seats ≡ old.seats
-  pub most : new.most ≡ left_for old
-  pub most_calls : new.most_calls ≡ calls_for old
+  pub most : new.most ≤ left_for old
+  pub most_calls : new.most_calls ≤ calls_for old

@@ -1,6 +1,8 @@
 //! An answer of a step: what it is at hand as is made ready before the step begins, then the host is told.
 //!
 //! A joining's read is one sector, which its session keeps: it is shared with the disk, or made of the bytes. Any other read is looked at where it is.
+//!
+//! The answer to a read of all ids may begin a recovery, so it reaches all that is held; any other reaches few things.
 
 ghost use Rattle.sl_daemon.specs.Daemons.{read_of};
 ghost use Rattle.sl_host_answers.specs.Answering.{FitsHeard, answer_of};
@@ -8,6 +10,7 @@ ghost use Rattle.sl_host_law.specs.Replies.Answers.{IsOpen};
 ghost use Rattle.sl_host_state.specs.Kept.{HostKept};
 ghost use Rattle.sl_host_state.specs.declared.kept.OpenCall.{OpenCall as OpenCallOf};
 ghost use Rattle.sl_host_step.specs.Moments.{AtEnd, AtInput, HasStepped, StepComes};
+ghost use Rattle.sl_host_step.specs.Reaching.{reach_at};
 ghost use Rattle.sl_host_step.specs.Rooms.{EndsWith, HasLeft, ScratchState, Suffices};
 ghost use Rattle.sl_host_step.specs.Resting.{Rests, takes_more};
 ghost use Rattle.sl_host_step.specs.Telling.{joins_at};
@@ -19,7 +22,7 @@ ghost use Rattle.sl_host.specs.Host.{HostView};
 ghost use Rattle.std.specs.Arc.{arc_value};
 ghost use Rattle.std.specs.Prelude.{IfOk, IsOk, OnErr, OnOk, false, length, true, ℕ, ◌==◌, ◌≡◌, ◌≤◌};
 
-use crate::rooms::Scratch;
+use crate::rooms::{Reach, Scratch};
 use crate::step::{conclude, start};
 use sl_host::Host;
 use sl_host_answers::{Heard, answer};
@@ -43,16 +46,29 @@ fn is_joining(host: &Host, number: u64) -> bool
     }
 }
 
+/// How far the answer to the call of this number reaches.
+fn reach_at(host: &Host, number: u64) -> Reach
+    ensures { result ≡ reach_at host.now.kept number }
+{
+    match host.open_call(number) {
+        Some(call) => match call.purpose {
+            Purpose::Survey => Reach::All,
+            _ => Reach::Few,
+        },
+        None => Reach::Few,
+    }
+}
+
 /// The host is told, and does what that makes due.
 #[tactic(auto, using(crate::proofs::Telling::can_answer, crate::proofs::KnownTellings::few_effects, crate::proofs::KnownTellings::few_calls, crate::proofs::Coming::answer_ends))]
 fn take_answer<S: Sectors>(host: &mut Host, scratch: &mut Scratch, number: u64, heard: Heard<'_, S>)
     requires at { (now : ℕ) × (first : HostKept) × AtInput now (Told number (answer_of S.bytes heard)) first host.old.kept }
     requires fits { (c : OpenCallOf) → IsOpen (state_in host.old.kept) number c → FitsHeard S.bytes S.is_cut host.old.kept.config.sizes c heard }
-    requires left { (first : HostView) × HasLeft first host.old }
+    requires left { (first : HostView) × HasLeft (reach_at host.old.kept number) first host.old }
     requires scratch { Suffices scratch.old host.old }
     requires blocks { scratch.old.blocks ≡ host.old.kept.config.sizes.hosts }
     ensures at { (now : ℕ) (first : HostKept) → AtInput now (Told number (answer_of S.bytes heard.entry)) first host.old.kept → AtEnd now (Told number (answer_of S.bytes heard.entry)) first host.new.kept }
-    ensures left { (first : HostView) → HasLeft first host.old → EndsWith first host.new }
+    ensures left { (first : HostView) → HasLeft (reach_at host.old.kept number) first host.old → EndsWith first host.new }
     ensures lists { host.new.seats ≤ scratch.new.members }
     ensures blocks { scratch.new.blocks ≡ scratch.old.blocks }
     ensures spare { scratch.new.spare ≡ scratch.old.spare }
@@ -88,7 +104,8 @@ fn step_heard<S: Sectors>(
     ensures spared { scratch.old.spare ≡ true → IsOk result }
     ensures blocks { scratch.new.blocks ≡ scratch.old.blocks }
 {
-    let begun = start(alloc, host, scratch, now)?;
+    let reach = reach_at(host, number);
+    let begun = start(alloc, host, scratch, now, reach)?;
     take_answer(host, scratch, number, heard);
     Ok(conclude(host, scratch, begun.none, begun.is_loud))
 }

@@ -1,11 +1,14 @@
-//! A line of a step: it is read, the memory that its command takes is made, then the step begins and the line is taken.
+//! A line of a step: it is read, the memory that its command takes is made, then the step begins and the line is taken. But for one that leaves a
+//! lockspace it reaches few things, however much the host holds.
 
 ghost use Rattle.sl_area.specs.Layouts.{layout_of};
 ghost use Rattle.sl_deciding.specs.Lists.{FitsLists};
 ghost use Rattle.sl_host_lines.specs.Seats.{HasSeat};
 ghost use Rattle.sl_host_state.specs.Kept.{HostKept};
 ghost use Rattle.sl_host_step.specs.Moments.{AtEnd, AtInput, HasStepped, StepComes};
+ghost use Rattle.sl_host_step.specs.Reaching.{reach_of};
 ghost use Rattle.sl_host_step.specs.Rooms.{EndsWith, HasLeft, ScratchState, Suffices};
+ghost use Rattle.sl_host_step.specs.declared.rooms.Reach.TheVariants.{Few};
 ghost use Rattle.sl_host_step.specs.Seating.{HasPlace, MayBeSeated};
 ghost use Rattle.sl_host_step.specs.Resting.{Rests};
 ghost use Rattle.sl_trace.specs.Commands.{command_in, forms};
@@ -13,7 +16,7 @@ ghost use Rattle.sl_trace.specs.declared.input.Input.TheVariants.{Line as LineOf
 ghost use Rattle.sl_host.specs.Host.{HostView};
 ghost use Rattle.std.specs.Prelude.{Err, IfOk, List, Ok, OnErr, OnOk, false, ℕ, ◌≡◌, ◌≤◌};
 
-use crate::rooms::{Scratch, calls_for};
+use crate::rooms::{Reach, Scratch, calls_for};
 use crate::step::{conclude, start};
 use sl_command::parse_command;
 use sl_deciding::Lists;
@@ -27,12 +30,22 @@ use std::alloc::{AllocError, Global};
 #[tactic(auto, using(crate::proofs::Coming::line_ends))]
 fn take_misread(host: &mut Host, column: u64)
     requires at { (now : ℕ) × (text : List ℕ) × (first : HostKept) × AtInput now (LineOf text) first host.old.kept }
-    requires left { (first : HostView) × HasLeft first host.old }
+    requires left { (first : HostView) × HasLeft Few first host.old }
     ensures at { (now : ℕ) (text : List ℕ) (first : HostKept) → command_in (forms (layout_of first.config.sizes)) text ≡ Err column → AtInput now (LineOf text) first host.old.kept
         → AtEnd now (LineOf text) first host.new.kept }
-    ensures left { (first : HostView) → HasLeft first host.old → EndsWith first host.new }
+    ensures left { (first : HostView) → HasLeft Few first host.old → EndsWith first host.new }
 {
     misread(host, column);
+}
+
+/// How far a command reaches.
+fn reach_of(command: &Command) -> Reach
+    ensures { result ≡ reach_of command.now }
+{
+    match command {
+        Command::RemLockspace(_) => Reach::All,
+        _ => Reach::Few,
+    }
 }
 
 /// A command that was read is taken.
@@ -45,13 +58,13 @@ fn take_command(
     command: Command,
 )
     requires at { (now : ℕ) × (text : List ℕ) × (first : HostKept) × (command_in (forms (layout_of first.config.sizes)) text ≡ Ok command) × AtInput now (LineOf text) first host.old.kept }
-    requires left { (first : HostView) × HasLeft first host.old }
+    requires left { (first : HostView) × HasLeft (reach_of command) first host.old }
     requires scratch { Suffices scratch.old host.old }
     requires lists { FitsLists host.old.kept.config.sizes host.old.seats command lists }
     requires seat { HasSeat host.old command seat }
     ensures at { (now : ℕ) (text : List ℕ) (first : HostKept) → command_in (forms (layout_of first.config.sizes)) text ≡ Ok command → AtInput now (LineOf text) first host.old.kept
         → AtEnd now (LineOf text) first host.new.kept }
-    ensures left { (first : HostView) → HasLeft first host.old → EndsWith first host.new }
+    ensures left { (first : HostView) → HasLeft (reach_of command) first host.old → EndsWith first host.new }
     ensures lists { host.new.seats ≤ scratch.new.members }
     ensures blocks { scratch.new.blocks ≡ scratch.old.blocks }
     ensures spare { scratch.new.spare ≡ scratch.old.spare }
@@ -91,7 +104,7 @@ fn step_misread(
     ensures used { OnOk result (scratch.new.spare ≡ false) }
     ensures blocks { scratch.new.blocks ≡ scratch.old.blocks }
 {
-    let begun = start(alloc, host, scratch, now)?;
+    let begun = start(alloc, host, scratch, now, Reach::Few)?;
     take_misread(host, column);
     Ok(conclude(host, scratch, begun.none, begun.is_loud))
 }
@@ -116,7 +129,8 @@ fn step_command(
 {
     let lists = Lists::of(alloc, &host.config().geometry, host.seats(), &command)?;
     let seat = seat_for(alloc, host, &command)?;
-    let begun = start(alloc, host, scratch, now)?;
+    let reach = reach_of(&command);
+    let begun = start(alloc, host, scratch, now, reach)?;
     take_command(host, scratch, seat, lists, command);
     Ok(conclude(host, scratch, begun.none, begun.is_loud))
 }

@@ -1,12 +1,14 @@
 //! Memory for a step, which is taken before the first change: then nothing in it can fail.
 //!
-//! A step may have to do with each job, holding, lease and session: so much it has room for, of effects and of calls. The lists that it goes by
-//! keep their memory from step to step.
+//! A step may have to do with each job, holding, lease and session: so much it then has room for, of effects and of calls. Where nothing is due by
+//! time, most inputs have to do with a few of them: a step at such an input has room for these and for what comes last of each session, however
+//! much the host holds. That is the step's `Reach`. The lists that it goes by keep their memory from step to step.
 //!
-//! The room of one step more can be taken ahead. It then stands by, so that a recovery still kills whom it must where no memory is left.
+//! The room of one step more can be taken ahead, whatever its input. It then stands by, so that a recovery still kills whom it must where no memory
+//! is left.
 
 ghost use Rattle.sl_host_step.specs.Resting.{Rests};
-ghost use Rattle.sl_host_step.specs.Rooms.{HasRoom, ScratchState, Suffices, are_many, calls_for, calls_within, counts_of, effects_within, left_for, room_end};
+ghost use Rattle.sl_host_step.specs.Rooms.{HasRoom, ScratchState, Suffices, are_many, calls_for, calls_within, counts_of, counts_within, effects_within, left_for, reach_when, room_end};
 ghost use Rattle.sl_host_step.specs.Serving.{IsIdle};
 ghost use Rattle.sl_trace.specs.Traces.{no_effects};
 ghost use Rattle.sl_host.specs.Asking.{leases_in};
@@ -91,6 +93,22 @@ impl Scratch {
     }
 }
 
+/// How far a step reaches: it may have to do with all that the host has, or with a few things besides what comes last of each session.
+#[derive(Clone, Copy)]
+pub(crate) enum Reach {
+    All,
+    Few,
+}
+
+impl Reach {
+    /// The same, or all where something may be due by time.
+    pub(crate) fn at(self, is_loud: bool) -> Reach
+        ensures { result ≡ reach_when is_loud self }
+    {
+        if is_loud { Reach::All } else { self }
+    }
+}
+
 /// What a host has of that which a step may have to do with.
 #[derive(Clone, Copy)]
 struct Counts {
@@ -110,6 +128,21 @@ impl Counts {
             holdings: host.holding_count(),
             leases: host.lease_count(),
             seats: host.seats(),
+        }
+    }
+
+    /// Of these what a step with this reach may have to do with, but for the few.
+    fn within(self, reach: Reach) -> Counts
+        ensures { result ≡ counts_within reach self }
+    {
+        match reach {
+            Reach::All => self,
+            Reach::Few => Counts {
+                jobs: 0,
+                holdings: 0,
+                leases: 0,
+                seats: self.seats,
+            },
         }
     }
 
@@ -159,39 +192,45 @@ pub(crate) fn calls_for(host: &Host) -> usize
     Counts::of(host).calls()
 }
 
-/// Takes the memory of a step, and makes what stands in the place of its effects once they are taken out. An `Err` is want of memory, or of
-/// numbers of calls, jobs, children or steps, and changes nothing.
-fn take_room(alloc: Global, host: &mut Host, scratch: &mut Scratch) -> Result<Buffers, AllocError>
+/// Takes the memory of a step with this reach, and makes what stands in the place of its effects once they are taken out. An `Err` is want of
+/// memory, or of numbers of calls, jobs, children or steps, and changes nothing.
+fn take_room(
+    alloc: Global,
+    host: &mut Host,
+    scratch: &mut Scratch,
+    reach: Reach,
+) -> Result<Buffers, AllocError>
     requires idle { IsIdle host.old }
     requires made { host.old.kept.made ≡ no_effects }
     ensures none { IfOk result (λ none. none ≡ record { made = no_effects; left = 0; calls = 0; most = 0; most_calls = 0 }) }
-    ensures ok { OnOk result (HasRoom host.old host.new × Suffices scratch.new host.old) }
+    ensures ok { OnOk result (HasRoom reach host.old host.new × Suffices scratch.new host.old) }
     ensures err { OnErr result (host.new ≡ host.old) }
     ensures blocks { scratch.new.blocks ≡ scratch.old.blocks }
     ensures spare { scratch.new.spare ≡ scratch.old.spare }
 {
     let counts = Counts::of(host);
-    let (left, calls) = (counts.effects(), counts.calls());
-    if left >= ROOM_END || calls >= ROOM_END || host.entries() >= LAST_ENTRY {
+    if counts.are_many() || host.entries() >= LAST_ENTRY {
         return Err(AllocError);
     }
+    let near = counts.within(reach);
     let none = Buffers::new(alloc, 0, 0)?;
     scratch.reserve(host, counts.leases)?;
-    host.reserve(alloc, left, calls)?;
+    host.reserve(alloc, near.effects(), near.calls())?;
     Ok(none)
 }
 
-/// The room of a step: what stands by, or memory that is taken now. An `Err` is as above, and never comes where room stands by.
-#[tactic(auto, using(crate::proofs::Resting::rests_without))]
+/// The room of a step with this reach: what stands by, or memory that is taken now. An `Err` is as above, and never comes where room stands by.
+#[tactic(auto, using(crate::proofs::Resting::rests_without, crate::proofs::RoomsStand::room_of_all))]
 pub(crate) fn room(
     alloc: Global,
     host: &mut Host,
     scratch: &mut Scratch,
+    reach: Reach,
 ) -> Result<Buffers, AllocError>
     requires rests { Rests scratch.old host.old }
     requires made { host.old.kept.made ≡ no_effects }
     ensures none { IfOk result (λ none. none ≡ record { made = no_effects; left = 0; calls = 0; most = 0; most_calls = 0 }) }
-    ensures ok { OnOk result (HasRoom host.old host.new × Suffices scratch.new host.old) }
+    ensures ok { OnOk result (HasRoom reach host.old host.new × Suffices scratch.new host.old) }
     ensures used { OnOk result (scratch.new.spare ≡ false) }
     ensures err { OnErr result (host.new ≡ host.old) }
     ensures rests { OnErr result (Rests scratch.new host.new) }
@@ -200,11 +239,11 @@ pub(crate) fn room(
 {
     match scratch.spare.take() {
         Some(none) => Ok(none),
-        None => take_room(alloc, host, scratch),
+        None => take_room(alloc, host, scratch, reach),
     }
 }
 
-/// Sees that the room of one step stands by. An `Err` is as above.
+/// Sees that the room of one step stands by, whatever its input. An `Err` is as above.
 #[tactic(auto, using(crate::proofs::Resting::rests_with, crate::proofs::Resting::rests_without))]
 pub(crate) fn stand_by(
     alloc: Global,
@@ -222,7 +261,7 @@ pub(crate) fn stand_by(
     if scratch.spare.is_some() {
         return Ok(());
     }
-    let none = take_room(alloc, host, scratch)?;
+    let none = take_room(alloc, host, scratch, Reach::All)?;
     scratch.spare = Some(none);
     Ok(())
 }

@@ -1,14 +1,17 @@
 //! The whole step of a host: its memory is taken, then what is due before its input is done, what the input makes due, what a wake does, and what comes
 //! last.
 //!
-//! The memory is taken first: an `Err` has changed nothing, and behind it nothing can fail. The states that a step comes to are `AtInput`, `AtEnd`
-//! and `AllDone` of specs/Moments.antt; what each part asks of its host is known there, by the laws of a host's step.
+//! The memory is taken first: an `Err` has changed nothing, and behind it nothing can fail. It is that of a step that reaches all, where something
+//! may be due by time, else of one with the reach of its input. The states that a step comes to are `AtInput`, `AtEnd` and `AllDone` of
+//! specs/Moments.antt; what each part asks of its host is known there, by the laws of a host's step.
 
 ghost use Rattle.sl_area.specs.Layouts.{layout_of};
 ghost use Rattle.sl_host_passes.specs.Fewer.{IsNoMore};
 ghost use Rattle.sl_host_state.specs.Kept.{HostKept};
 ghost use Rattle.sl_host_step.specs.Moments.{AllDone, AtEnd, AtInput, HasStepped, IsCalmed, IsOver, StepComes};
-ghost use Rattle.sl_host_step.specs.Rooms.{EndsWith, HasLeft, HasRoom, ScratchState, Suffices};
+ghost use Rattle.sl_host_step.specs.Rooms.{EndsWith, HasLeft, HasRoom, IsFarEnough, ScratchState, Suffices};
+ghost use Rattle.sl_host_step.specs.declared.rooms.Reach.TheVariants.{All, Few};
+ghost use Rattle.sl_host_step.specs.declared.rooms.Reach.{Reach as ReachOf};
 ghost use Rattle.sl_host_step.specs.Resting.{Rests};
 ghost use Rattle.sl_host_step.specs.Serving.{IsIdle};
 ghost use Rattle.sl_trace.specs.Traces.{no_effects};
@@ -18,7 +21,7 @@ ghost use Rattle.sl_host.specs.Books.{AreFew};
 ghost use Rattle.sl_host.specs.Host.{HostView, SameRun};
 ghost use Rattle.std.specs.Prelude.{IfOk, IsOk, List, OnErr, OnOk, false, length, true, ℕ, ◌*◌, ◌<◌, ◌^◌, ◌≡◌, ◌≤◌};
 
-use crate::rooms::{Scratch, room};
+use crate::rooms::{Reach, Scratch, room};
 use sl_host::{Buffers, Host};
 use sl_host_passes::{begin_step, calm, exit, finish, spawned, wake};
 use sl_trace::Effects;
@@ -28,10 +31,10 @@ use std::alloc::{AllocError, Global};
 #[tactic(auto, using(crate::proofs::KnownPasses::begin_known, crate::proofs::Coming::begins))]
 fn begin(host: &mut Host, scratch: &mut Scratch, now: u64)
     requires comes { (i : InputOf) × StepComes now i host.old.kept }
-    requires room { (first : HostView) × HasRoom first host.old }
+    requires room { (r : ReachOf) × (first : HostView) × HasRoom r first host.old × IsFarEnough now host.old.kept r }
     requires lists { Suffices scratch.old host.old }
     ensures at { (i : InputOf) → StepComes now i host.old.kept → AtInput now i host.old.kept host.new.kept }
-    ensures left { (first : HostView) → HasRoom first host.old → HasLeft first host.new }
+    ensures left { (r : ReachOf) (first : HostView) → HasRoom r first host.old → IsFarEnough now host.old.kept r → HasLeft r first host.new }
     ensures lists { Suffices scratch.new host.new }
     ensures blocks { scratch.new.blocks ≡ scratch.old.blocks }
     ensures spare { scratch.new.spare ≡ scratch.old.spare }
@@ -45,10 +48,10 @@ fn begin(host: &mut Host, scratch: &mut Scratch, now: u64)
 #[tactic(auto, using(crate::proofs::KnownPasses::wake_known, crate::proofs::Comes::moment_at_input, crate::proofs::Coming::wake_ends))]
 fn take_wake(host: &mut Host, scratch: &mut Scratch)
     requires at { (now : ℕ) × (first : HostKept) × AtInput now WakeOf first host.old.kept }
-    requires left { (first : HostView) × HasLeft first host.old }
+    requires left { (first : HostView) × HasLeft All first host.old }
     requires lists { Suffices scratch.old host.old }
     ensures at { (now : ℕ) (first : HostKept) → AtInput now WakeOf first host.old.kept → AtEnd now WakeOf first host.new.kept }
-    ensures left { (first : HostView) → HasLeft first host.old → EndsWith first host.new }
+    ensures left { (first : HostView) → HasLeft All first host.old → EndsWith first host.new }
     ensures lists { host.new.seats ≤ scratch.new.members }
     ensures blocks { scratch.new.blocks ≡ scratch.old.blocks }
     ensures spare { scratch.new.spare ≡ scratch.old.spare }
@@ -61,10 +64,10 @@ fn take_wake(host: &mut Host, scratch: &mut Scratch)
 #[tactic(auto, using(crate::proofs::KnownPasses::holds_once, crate::proofs::Comes::moment_at_input, crate::proofs::Coming::exit_ends))]
 fn take_exit(host: &mut Host, scratch: &mut Scratch, process: u32)
     requires at { (now : ℕ) × (first : HostKept) × AtInput now (ExitOf process) first host.old.kept }
-    requires left { (first : HostView) × HasLeft first host.old }
+    requires left { (first : HostView) × HasLeft All first host.old }
     requires lists { Suffices scratch.old host.old }
     ensures at { (now : ℕ) (first : HostKept) → AtInput now (ExitOf process) first host.old.kept → AtEnd now (ExitOf process) first host.new.kept }
-    ensures left { (first : HostView) → HasLeft first host.old → EndsWith first host.new }
+    ensures left { (first : HostView) → HasLeft All first host.old → EndsWith first host.new }
     ensures lists { host.new.seats ≤ scratch.new.members }
     ensures blocks { scratch.new.blocks ≡ scratch.old.blocks }
     ensures spare { scratch.new.spare ≡ scratch.old.spare }
@@ -76,10 +79,10 @@ fn take_exit(host: &mut Host, scratch: &mut Scratch, process: u32)
 #[tactic(auto, using(crate::proofs::KnownPasses::holds_once, crate::proofs::KnownPasses::starts_some, crate::proofs::Comes::moment_at_input, crate::proofs::Coming::start_ends))]
 fn take_start(host: &mut Host, scratch: &mut Scratch, process: u32, ok: bool)
     requires at { (now : ℕ) × (first : HostKept) × AtInput now (SpawnedOf process ok) first host.old.kept }
-    requires left { (first : HostView) × HasLeft first host.old }
+    requires left { (first : HostView) × HasLeft All first host.old }
     requires lists { Suffices scratch.old host.old }
     ensures at { (now : ℕ) (first : HostKept) → AtInput now (SpawnedOf process ok) first host.old.kept → AtEnd now (SpawnedOf process ok) first host.new.kept }
-    ensures left { (first : HostView) → HasLeft first host.old → EndsWith first host.new }
+    ensures left { (first : HostView) → HasLeft All first host.old → EndsWith first host.new }
     ensures lists { host.new.seats ≤ scratch.new.members }
     ensures blocks { scratch.new.blocks ≡ scratch.old.blocks }
     ensures spare { scratch.new.spare ≡ scratch.old.spare }
@@ -91,9 +94,9 @@ fn take_start(host: &mut Host, scratch: &mut Scratch, process: u32, ok: bool)
 #[tactic(auto, using(crate::proofs::Coming::number_ends))]
 fn take_number(host: &mut Host)
     requires at { (now : ℕ) × (text : List ℕ) × (first : HostKept) × AtInput now (NumberOf text) first host.old.kept }
-    requires left { (first : HostView) × HasLeft first host.old }
+    requires left { (first : HostView) × HasLeft Few first host.old }
     ensures at { (now : ℕ) (text : List ℕ) (first : HostKept) → AtInput now (NumberOf text) first host.old.kept → AtEnd now (NumberOf text) first host.new.kept }
-    ensures left { (first : HostView) → HasLeft first host.old → EndsWith first host.new }
+    ensures left { (first : HostView) → HasLeft Few first host.old → EndsWith first host.new }
 {
     host.number_line();
 }
@@ -167,18 +170,19 @@ pub(crate) struct Begun {
     pub(crate) is_loud: bool,
 }
 
-/// Takes the memory of a step, and brings it to its input. An `Err` is want of memory or of numbers, and changes nothing.
+/// Takes the memory of a step whose input reaches so far, and brings it to its input. An `Err` is want of memory or of numbers, and changes nothing.
 pub(crate) fn start(
     alloc: Global,
     host: &mut Host,
     scratch: &mut Scratch,
     now: u64,
+    reach: Reach,
 ) -> Result<Begun, AllocError>
     requires comes { (i : InputOf) × StepComes now i host.old.kept }
     requires rests { Rests scratch.old host.old }
     ensures none { IfOk result (λ b. b.none ≡ record { made = no_effects; left = 0; calls = 0; most = 0; most_calls = 0 }) }
     ensures at { (i : InputOf) → StepComes now i host.old.kept → IfOk result (λ b. AtInput now i host.old.kept host.new.kept) }
-    ensures left { IfOk result (λ b. HasLeft host.old host.new × Suffices scratch.new host.new) }
+    ensures left { IfOk result (λ b. HasLeft reach host.old host.new × Suffices scratch.new host.new) }
     ensures err { OnErr result (host.new ≡ host.old) }
     ensures rests { OnErr result (Rests scratch.new host.new) }
     ensures used { OnOk result (scratch.new.spare ≡ false) }
@@ -186,7 +190,7 @@ pub(crate) fn start(
     ensures blocks { scratch.new.blocks ≡ scratch.old.blocks }
 {
     let is_loud = host.quiet_until() <= now;
-    let none = room(alloc, host, scratch)?;
+    let none = room(alloc, host, scratch, reach.at(is_loud))?;
     begin(host, scratch, now);
     Ok(Begun { none, is_loud })
 }
@@ -207,7 +211,7 @@ pub(crate) fn step_wake(
     ensures spared { scratch.old.spare ≡ true → IsOk result }
     ensures blocks { scratch.new.blocks ≡ scratch.old.blocks }
 {
-    let begun = start(alloc, host, scratch, now)?;
+    let begun = start(alloc, host, scratch, now, Reach::All)?;
     take_wake(host, scratch);
     Ok(conclude(host, scratch, begun.none, begun.is_loud))
 }
@@ -229,7 +233,7 @@ pub(crate) fn step_exit(
     ensures spared { scratch.old.spare ≡ true → IsOk result }
     ensures blocks { scratch.new.blocks ≡ scratch.old.blocks }
 {
-    let begun = start(alloc, host, scratch, now)?;
+    let begun = start(alloc, host, scratch, now, Reach::All)?;
     take_exit(host, scratch, process);
     Ok(conclude(host, scratch, begun.none, begun.is_loud))
 }
@@ -252,7 +256,7 @@ pub(crate) fn step_start(
     ensures spared { scratch.old.spare ≡ true → IsOk result }
     ensures blocks { scratch.new.blocks ≡ scratch.old.blocks }
 {
-    let begun = start(alloc, host, scratch, now)?;
+    let begun = start(alloc, host, scratch, now, Reach::All)?;
     take_start(host, scratch, process, ok);
     Ok(conclude(host, scratch, begun.none, begun.is_loud))
 }
@@ -273,7 +277,7 @@ pub(crate) fn step_number(
     ensures spared { scratch.old.spare ≡ true → IsOk result }
     ensures blocks { scratch.new.blocks ≡ scratch.old.blocks }
 {
-    let begun = start(alloc, host, scratch, now)?;
+    let begun = start(alloc, host, scratch, now, Reach::Few)?;
     take_number(host);
     Ok(conclude(host, scratch, begun.none, begun.is_loud))
 }

@@ -25,7 +25,8 @@ pub before_input-requires-clause-left : goal.before_input-requires-clause-left
 before_input-requires-clause-left c =
     let few = (fewer c.args.host.now c.begin.new.self c.args.now c.begin.ensures.state).jobs in
     let held = same_held c.args.host.now c.begin.new.self c.args.now c.begin.ensures.state in
-    omega (arith, few, held, c.requires.left, c.begin.ensures.left.0)
+    let left = c.requires.left (grind (arith, c.if-not-quiet.true, c.quiet_until.ensures)) in
+    omega (arith, few, held, left, c.begin.ensures.left.0)
 
 pub returns-then-not-quiet-clause-left : goal.returns-then-not-quiet-clause-left
 returns-then-not-quiet-clause-left c =

@@ -1,6 +1,9 @@
-use Rattle.sl_host_answers.specs.Answering.{CanAnswer, answer_of}
+use Rattle.sl_host_answers.specs.Answering.{CanAnswer, answer_of, calls_of, effects_of}
+use Rattle.sl_host_step.proofs.KnownTellings.{few_calls, few_effects}
+use Rattle.sl_host_step.proofs.Lining.{answer_leaves}
 use Rattle.sl_host_step.proofs.Telling.{can_answer}
 use Rattle.sl_host_step.proofs.answer.take_answer.Goals as goal
+use Rattle.sl_host_step.specs.Reaching.{reach_at}
 use Rattle.sl_host_step.specs.Rooms.{ScratchState}
 use Rattle.std.proofs.Common.{subst, sym}
 
@@ -11,3 +14,9 @@ answer-requires-clause-can g c d opens =
     let v = c.args.host.now in
     subst (λ (s : ScratchState). CanAnswer v.kept d a v.left v.calls s.jobs s.spots) (sym c.scratch.view_is)
     (can_answer at.0 c.args.number a at.1 v.kept d c.requires.left.0 v c.args.scratch.now at.2 opens c.requires.left.1 c.requires.scratch)
+
+pub returns-clause-left : goal.returns-clause-left
+returns-clause-left g c first left =
+    let k = c.args.host.now.kept in
+    let n = c.args.number in
+    answer_leaves (reach_at k n) (effects_of k n) (calls_of k n) first c.args.host.now c.answer.new.host left (few_effects k n) (few_calls k n) c.answer.ensures.left c.answer.ensures.run

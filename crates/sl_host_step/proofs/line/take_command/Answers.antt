@@ -1,13 +1,15 @@
 use Rattle.sl_host_lines.specs.Leaving.{line_cost}
 use Rattle.sl_host_step.proofs.Coming.{line_ends}
-use Rattle.sl_host_step.proofs.Lining.{cost_within, line_known_at, line_leaves}
+use Rattle.sl_host_step.proofs.Lining.{cost_within, line_fits, line_known_at, line_leaves}
 use Rattle.sl_host_step.proofs.line.take_command.Goals as goal
-use Rattle.std.proofs.Common.{arith}
+use Rattle.sl_host_step.specs.Reaching.{reach_of}
 use Rattle.std.specs.Prelude.{Ok}
 
 pub take_line-requires-clause-left : goal.take_line-requires-clause-left
 take_line-requires-clause-left c =
-    let left = c.requires.left.1.left in let cost = cost_within c.args.host.now.kept c.args.command in omega (arith, left, cost)
+    let k = c.args.host.now.kept in
+    let left = c.requires.left in
+    line_fits (reach_of c.args.command) (line_cost k (Ok c.args.command)) left.0 c.args.host.now left.1 (cost_within k c.args.command)
 
 pub take_line-requires-clause-known : goal.take_line-requires-clause-known
 take_line-requires-clause-known c = let at = c.requires.at in line_known_at at.0 at.1 at.2 c.args.host.now.kept c.args.command at.4 at.3
@@ -18,5 +20,5 @@ returns-clause-at c now text first says a =
 
 pub returns-clause-left : goal.returns-clause-left
 returns-clause-left c first left =
-    line_leaves (line_cost c.args.host.now.kept (Ok c.args.command)) first c.args.host.now c.take_line.new.host left
+    line_leaves (reach_of c.args.command) (line_cost c.args.host.now.kept (Ok c.args.command)) first c.args.host.now c.take_line.new.host left
     (cost_within c.args.host.now.kept c.args.command) c.take_line.ensures.left c.take_line.ensures.run
