@@ -9,7 +9,7 @@ ghost use Rattle.sl_trace.specs.Traces.{Setting, Trace};
 ghost use Rattle.sl_run.specs.Lawful.{IsSetting};
 ghost use Rattle.sl_run.specs.Events.{is_for_locks};
 ghost use Rattle.sl_run.specs.Headers.{IsHeader};
-ghost use Rattle.std.specs.Prelude.{IfOk, IsOk, Ok, OnErr, OnOk, false, [], ◌∷◌, ◌≡◌, ◌≤◌};
+ghost use Rattle.std.specs.Prelude.{IfOk, IsOk, Ok, OnErr, OnOk, false, length, max, [], ◌∷◌, ◌≡◌, ◌≤◌};
 
 use crate::bytes::{are_byte_sectors, is_byte_input};
 use crate::expecting::is_expected;
@@ -77,6 +77,16 @@ impl Model for HostDaemon {
 }
 
 impl HostDaemon {
+    /// How long a list in a reply of the next step may be: that of an area's hosts, or of the sessions for which there is memory.
+    pub fn longest_list(&self) -> usize
+        ensures exact { result ≡ max self.now.kept.config.sizes.hosts self.now.seats }
+        ensures hosts { self.now.kept.config.sizes.hosts ≤ result }
+        ensures members { length self.now.kept.members ≤ result }
+    {
+        let hosts = self.host.config().geometry.hosts() as usize;
+        hosts.max(self.host.seats())
+    }
+
     /// Sees that there is room for one step more, so that a wake, an exit or the answer of a renewal can't want memory. It changes nothing that a
     /// later step does. An `Err` is want of memory, or of numbers of calls, jobs, children or steps, and changes nothing.
     #[tactic(auto, using(crate::proofs::Resting::stands_by, crate::proofs::Resting::serves_still, crate::proofs::Resting::nothing_made))]

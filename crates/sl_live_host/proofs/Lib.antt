@@ -1,0 +1,2 @@
+pub mod ListLengths
+pub mod ShortReplies
