@@ -25,9 +25,37 @@ fn write_first<A: Area>(area: &mut A, sector: &[u8; 512]) -> bool {
     }
 }
 
+/// Reads the first sector behind the gate: whether that went well.
+fn read_behind<A: Area, G: Gate>(gate: &G, area: &mut A, sector: &mut [u8; 512]) -> bool {
+    gate.enter(1, 1);
+    read_first(area, sector)
+}
+
+/// Writes fives to the first sector, and tells the gate: whether that went well.
+fn write_before<A: Area, G: Gate>(gate: &G, area: &mut A) -> bool {
+    let done = write_first(area, &[5; 512]);
+    gate.left(2, 1);
+    done
+}
+
+/// Reads behind the gate, and writes before it, in two threads: whether each went well.
+fn both<R: Wait + Threads + Sync, A: Area + Send, G: Gate + Sync>(
+    rt: &R,
+    gate: &G,
+    first: &mut A,
+    second: &mut A,
+    sector: &mut [u8; 512],
+) -> (bool, bool) {
+    join_mut(
+        rt,
+        &mut || read_behind(gate, first, sector),
+        &mut || write_before(gate, second),
+    )
+}
+
 /// Devices with a disk, a gate, and an area of the first machine's second worker whose first call fails.
 fn devices<R: Wait + Clock + Copy + Drop + Send + Sync>(
-    rt: &R,
+    rt: R,
     alloc: Global,
     gate: TurnGate<R>,
 ) -> io::Result<SharedDevices<R>> {
@@ -42,13 +70,13 @@ fn devices<R: Wait + Clock + Copy + Drop + Send + Sync>(
         makes: Vec::new(alloc),
         gate: Some(gate),
     };
-    Ok(SharedDevices::new(*rt, alloc, plan))
+    Ok(SharedDevices::new(rt, alloc, plan))
 }
 
 /// The call of machine 1 is held until that of machine 2 has left. Whether its read and the other's write went well; whether it read what was
 /// written; whether the gate held it, and gave up; how two reads of an area went whose first call fails, and its faults.
 pub fn two_threads<R: Wait + Threads + Clock + Copy + Drop + Send + Sync>(
-    rt: &R,
+    rt: R,
     alloc: Global,
 ) -> io::Result<String> {
     let held = Turn {
@@ -59,25 +87,14 @@ pub fn two_threads<R: Wait + Threads + Clock + Copy + Drop + Send + Sync>(
         machine: 2,
         call: 1,
     };
-    let seen = TurnGate::new(*rt, alloc, held, awaited)?;
+    let seen = TurnGate::new(rt, alloc, held, awaited)?;
     let mut devices = devices(rt, alloc, seen.share()?)?;
     let made = devices.make("f", "/d", 2048).is_ok();
     let gate = devices.gate();
     let mut first = devices.area(1, 1, "f/d");
     let mut second = devices.area(2, 1, "f/d");
     let mut sector = [9; 512];
-    let (read, written) = join_mut(
-        rt,
-        &mut || {
-            gate.enter(1, 1);
-            read_first(&mut first, &mut sector)
-        },
-        &mut || {
-            let done = write_first(&mut second, &[5; 512]);
-            gate.left(2, 1);
-            done
-        },
-    );
+    let (read, written) = both(&rt, &gate, &mut first, &mut second, &mut sector);
     let same = sector == [5; 512];
     let mut planned = devices.area(1, 2, "f/d");
     let fails = read_first(&mut planned, &mut sector);

@@ -69,7 +69,7 @@ fn of_devices<
         "files are made" => outside::files_are_made(rt, devices),
         "the clock goes on" => outside::the_clock_goes_on(rt, devices, alloc),
         "words differ" => outside::words_differ(devices, alloc),
-        "a gate and a disk of two threads" => gates::two_threads(rt, alloc),
+        "a gate and a disk of two threads" => gates::two_threads(*rt, alloc),
         _ => Ok(format!(in alloc; "no such case")?),
     }
 }
