@@ -22,8 +22,8 @@ use sl_sector::Rec;
 use sl_text::Name;
 use sl_trace::{LockspaceArg, ResourceArg};
 
-/// Writes the sector of a record.
-fn write_record<A: Area>(area: &mut A, at: Place, rec: &Rec) -> Result<(), Failed>
+/// Writes the sector of a record. After an `Err` the sector may be torn.
+pub fn write_record<A: Area>(area: &mut A, at: Place, rec: &Rec) -> Result<(), Failed>
     requires size { IsSectorSize at.size }
     requires rules { IsRecord rec.now }
     ensures ok { OnOk result (Wrote (write_of at.size at.offset rec.now ∷ []) (A.content area.old) (A.content area.new)) }
@@ -147,7 +147,7 @@ fn write_leader<A: Area>(
 }
 
 /// Writes the sectors of a resource, the leader last. After an `Err` a front of them was written, and the next one may be torn.
-fn write_resource<A: Area>(
+pub fn write_resource<A: Area>(
     area: &mut A,
     geometry: Geometry,
     lockspace: Name,

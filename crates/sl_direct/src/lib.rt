@@ -35,6 +35,7 @@ mod lines;
 mod looks;
 
 pub use action::{Action, Directed};
+pub use areas::{write_record, write_resource};
 pub use direct::run_direct;
 
 /// Bytes of the longest sector.

@@ -124,12 +124,16 @@ initial_delta_by h l id (Some s) is ok named low high =
     (member_delta_is h s space_named member.name member.id.0 (up_to s.id h.geometry.hosts member.id.1 (has_room h.geometry ok.geometry).hosts.1)
     (clock_by h s.machine (clock_of h s.machine) refl ok))
 
+-- The record of an id keeps the rules of records.
+pub initial_delta_is : (h : Header) (l : LockspaceLine) (id : ℕ) → IsHeader h → IsTrue (is_name l.name) → 1 ≤ id → id ≤ 2000 → IsDelta (initial_delta h l id)
+initial_delta_is h l id ok named low high = initial_delta_by h l id (session_of h l.name id) refl ok named low high
+
 lockspace_by : (h : Header) (l : LockspaceLine) (k : ℕ) (b : Bool) (r : Rec) → nat_lt k h.geometry.hosts ≡ b → IsHeader h → IsTrue (is_name l.name)
     → choose b (DeltaIs (initial_delta h l (k + 1))) ≡ Some r → IsRecord r
 lockspace_by h l k false r is ok named eq = absurd (none_some r eq)
 lockspace_by h l k true r is ok named eq =
     subst IsRecord (some_value (DeltaIs (initial_delta h l (k + 1))) r eq)
-    (initial_delta_by h l (k + 1) (session_of h l.name (k + 1)) refl ok named (above_one k) (within k h.geometry.hosts is (has_room h.geometry ok.geometry).hosts.1))
+    (initial_delta_is h l (k + 1) ok named (above_one k) (within k h.geometry.hosts is (has_room h.geometry ok.geometry).hosts.1))
 
 at_least_none : (n : ℕ) → 0 ≤ n
 at_least_none n = omega arith

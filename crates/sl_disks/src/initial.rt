@@ -134,8 +134,8 @@ fn member_delta(header: &Header, session: &SessionLine) -> DeltaRec
     }
 }
 
-/// The record of an id.
-fn initial_delta(header: &Header, line: &LockspaceLine, id: u32) -> DeltaRec
+/// The record of an id at moment 0: a session's, or one that was never claimed.
+pub fn initial_delta(header: &Header, line: &LockspaceLine, id: u32) -> DeltaRec
     ensures { result ≡ initial_delta header.now line.now id }
 {
     match member(header, line.name, id) {

@@ -15,5 +15,5 @@ mod place;
 mod table;
 
 pub use disks::Disks;
-pub use initial::clock_reading;
+pub use initial::{clock_reading, initial_delta};
 pub use place::{Place, place_of, sectors_of};

@@ -1,0 +1,5 @@
+pub mod HeaderLaws
+pub mod SettingLaws
+pub mod WriteLaws
+pub mod LentLaws
+pub mod ReadyLaws

@@ -1,0 +1,5 @@
+pub mod Causes
+pub mod Clocks
+pub mod Areas
+pub mod Grounds
+pub mod Laws
