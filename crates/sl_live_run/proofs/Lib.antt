@@ -1,0 +1,3 @@
+pub mod GivenLaws
+pub mod CompareLaws
+pub mod RunLaws

@@ -1,0 +1,172 @@
+-- What a live run leaves: histories that daemons stood for, whose lines are the script's; or a case that holds of a machine.
+use Rattle.sl_cell.specs.Cases.{Stops}
+use Rattle.sl_cell.specs.declared.audit.CloseError.TheVariants.{Differ as Differs, NoMemory as NoMemoryClose}
+use Rattle.sl_cell.specs.declared.audit.CloseError.{CloseError}
+use Rattle.sl_daemon.specs.Daemons.{Stood, begun_with}
+use Rattle.sl_daemon.specs.declared.daemon.Site.{Site}
+use Rattle.sl_live_audit.specs.Audited.{IsAnswered, IsUnanswered, LineDiffers, lines_of}
+use Rattle.sl_live_audit.specs.declared.unanswered.Unanswered.TheVariants.{Call as CallLeft, Start as StartLeft}
+use Rattle.sl_live_audit.specs.declared.unanswered.Unanswered.{Unanswered}
+use Rattle.sl_live_lines.specs.declared.line.LiveLine.TheVariants.{Command as CommandLine, Exits, Post}
+use Rattle.sl_live_lines.specs.declared.line.LiveLine.{LiveLine}
+use Rattle.sl_live_machine.specs.Shapes.{IsCaseOfRun, IsRun}
+use Rattle.sl_live_run.specs.declared.compare.LiveDiffer.TheVariants.{Cell, Left, Line, Untold}
+use Rattle.sl_live_run.specs.declared.compare.LiveDiffer.{LiveDiffer}
+use Rattle.sl_live_run.specs.declared.compare.LiveStop.TheVariants.{Differ, NoMemory}
+use Rattle.sl_live_run.specs.declared.compare.LiveStop.{LiveStop}
+use Rattle.sl_live_run.specs.declared.machine.Machine.{Machine}
+use Rattle.sl_run.specs.Headers.{IsHeader}
+use Rattle.sl_run.specs.Lawful.{IsSetting}
+use Rattle.sl_run.specs.declared.header.Header.{Header}
+use Rattle.sl_text.specs.Forms.{Form}
+use Rattle.sl_trace.specs.Traces.{Setting, Trace}
+use Rattle.sl_trace.specs.declared.command.Command.{Command}
+use Rattle.sl_trace.specs.declared.effects.Entry.{Entry}
+use Rattle.std.specs.List.{flat_map, slice_set}
+use Rattle.std.specs.Prelude.{Err, IfErr, IfOk, IfSome, List, None, Ok, OnOk, Option, Result, Some, if◌then◌else◌, length, map, nat_lt, option_map, reverse, slice_get, slice_index_or, [], ℕ, ◌++◌, ◌+◌, ◌-◌, ◌==◌, ◌∷◌, ◌≡◌}
+
+-- ---- what the script gives
+
+-- The text that a line gives to a machine.
+abbrev pub text_for : ℕ → LiveLine → List (List ℕ)
+text_for m (CommandLine machine text) = if machine == m then text ∷ [] else []
+text_for m (Post machine text) = if machine == m then text ∷ [] else []
+text_for m (Exits machine process) = []
+
+-- .. that lines give, in order.
+abbrev pub texts_for : ℕ → List LiveLine → List (List ℕ)
+texts_for m ls = flat_map (text_for m) ls
+
+-- What is kept of it for the machine at a place, counted from 0.
+abbrev pub texts_at : ℕ → List (List (List ℕ)) → List (List ℕ)
+texts_at place given = elim (slice_get given place) [ None ↦ [] | Some texts ↦ texts ]
+
+-- With one text more for the machine at this place, if there is one.
+abbrev pub with_text_at : ℕ → List ℕ → List (List (List ℕ)) → List (List (List ℕ))
+with_text_at place text given =
+    if nat_lt place (length given) then slice_set given place (slice_index_or given place [] ++ text ∷ []) else given
+
+-- .. for the machine of this number, counted from 1.
+abbrev pub with_text : ℕ → List ℕ → List (List (List ℕ)) → List (List (List ℕ))
+with_text machine text given = if machine == 0 then given else with_text_at (machine - 1) text given
+
+-- What is kept for so many machines are the texts that these lines give them.
+pub record AreTexts (given : List (List (List ℕ))) (machines : ℕ) (ls : List LiveLine) : Type 0 where
+  pub counted : length given ≡ machines
+  pub each : (place : ℕ) (texts : List (List ℕ)) → slice_get given place ≡ Some texts → texts ≡ texts_for (place + 1) ls
+
+-- The script gave some lines; where it ended well, what is kept are their texts.
+pub record HasTold {A E : Type 0} (machines : ℕ) (before after : List LiveLine) (given : List (List (List ℕ))) (result : Result A E) : Type 0 where
+  pub lines : List LiveLine
+  pub gave : after ≡ before ++ lines
+  pub texts : OnOk result (AreTexts given machines lines)
+
+-- ---- a machine's run
+
+-- What is known of a machine's outcome: a history that a daemon stood for and whose entries are what the threads applied, or a case.
+pub record HasRun {D : Type 0} (stands : D → Setting → Trace → Type 0) (st : Setting) (outcome : Result (List Entry) CloseError) : Type 0 where
+  pub stood : IfOk outcome (λ h. Stood stands st (reverse h))
+  pub ran : IfOk outcome (λ h. IsRun st h)
+  pub stops : IfErr outcome (Stops (IsCaseOfRun st))
+
+-- The site of a machine that is to run.
+abbrev pub site_of : {C P V A : Type 0} → Machine C P V A → Option Site
+site_of m = option_map (λ w. w.site) m.work
+
+-- What it came to.
+abbrev pub outcome_of : {C P V A : Type 0} → Machine C P V A → Result (List Entry) CloseError
+outcome_of m = m.ran.history
+
+-- These are what machines came to, in order.
+pub record CameTo {C P V A : Type 0} (ms : List (Machine C P V A)) (outcomes : List (Result (List Entry) CloseError)) : Type 0 where
+  pub all : outcomes ≡ map outcome_of ms
+
+-- A machine that is to run has a setting, of this header.
+abbrev pub CanRun : {C P V A : Type 0} → (Header → List (Form Command)) → Header → Machine C P V A → Type 0
+CanRun commands h m = IsHeader h × IfSome (site_of m) (λ s. IsSetting (begun_with commands h s))
+
+-- It has run.
+abbrev pub Runs : {D C P V A : Type 0} → (Header → List (Form Command)) → (D → Setting → Trace → Type 0) → Header → Machine C P V A → Machine C P V A → Type 0
+Runs commands stands h before after = IfSome (site_of before) (λ s. HasRun stands (begun_with commands h s) (outcome_of after))
+
+-- ---- what it is compared with
+
+-- The case of what is left unanswered.
+abbrev pub left_case : Unanswered → LiveDiffer
+left_case (CallLeft number call) = Left number call
+left_case (StartLeft number process) = Untold number process
+
+-- The history's lines are not those due, or something of it is not answered.
+abbrev pub HistoryDiffers : List Entry → List (List ℕ) → LiveDiffer → Type 0
+HistoryDiffers h due (Cell d) = ⊥
+HistoryDiffers h due (Line number asked expected) = LineDiffers h due number asked expected
+HistoryDiffers h due (Left number call) = IsUnanswered h (CallLeft number call)
+HistoryDiffers h due (Untold number process) = IsUnanswered h (StartLeft number process)
+
+-- Why there are no histories, where a machine's cell gave none.
+abbrev pub stop_of : ℕ → CloseError → LiveStop
+stop_of machine (Differs d) = Differ machine (Cell d)
+stop_of machine NoMemoryClose = NoMemory
+
+-- Which case it is, of a machine's outcome and what is due of it.
+abbrev pub IsCaseIn : Result (List Entry) CloseError → List (List ℕ) → LiveDiffer → Type 0
+IsCaseIn (Ok h) due d = HistoryDiffers h due d
+IsCaseIn (Err e) due d = (c : _) × (e ≡ Differs c) × (d ≡ Cell c)
+
+-- .. of the machine of this number.
+abbrev pub IsStopOf : ℕ → Result (List Entry) CloseError → List (List ℕ) → LiveStop → Type 0
+IsStopOf machine outcome due (Differ m d) = (m ≡ machine) × IsCaseIn outcome due d
+IsStopOf machine outcome due NoMemory = Unit {0}
+
+-- .. of some machine.
+abbrev pub StopsSome : List (Result (List Entry) CloseError) → List (List (List ℕ)) → LiveStop → Type 0
+StopsSome outcomes given stop =
+    (place : ℕ) × (outcome : Result (List Entry) CloseError) × (slice_get outcomes place ≡ Some outcome) × IsStopOf (place + 1) outcome (texts_at place given) stop
+
+-- The histories are those of the outcomes, with the lines that are due, and nothing of them is unanswered.
+pub record AreSettled (outcomes : List (Result (List Entry) CloseError)) (given : List (List (List ℕ))) (hs : List (List Entry)) : Type 0 where
+  pub counted : length hs ≡ length outcomes
+  pub each : (place : ℕ) (h : List Entry) → slice_get hs place ≡ Some h
+      → (slice_get outcomes place ≡ Some (Ok h)) × (lines_of h ≡ texts_at place given) × IsAnswered h
+
+-- ---- a whole run
+
+-- The history of a live machine: a daemon of this setting stood for it, its entries are exactly what the machine's threads applied, its lines
+-- are these, and no call and no start of it is unanswered.
+pub record IsLiveHistory {D : Type 0} (stands : D → Setting → Trace → Type 0) (st : Setting) (texts : List (List ℕ)) (h : List Entry) : Type 0 where
+  pub stood : Stood stands st (reverse h)
+  pub run : IsRun st h
+  pub lines : lines_of h ≡ texts
+  pub answered : IsAnswered h
+
+-- One for each site, in order, with the lines that the script gave that machine in this run: `before` it had given those, and behind it these.
+pub record AreLiveHistories {D : Type 0} (stands : D → Setting → Trace → Type 0) (commands : Header → List (Form Command)) (header : Header) (sites : List Site)
+    (before after : List LiveLine) (hs : List (List Entry)) : Type 0 where
+  pub lines : List LiveLine
+  pub gave : after ≡ before ++ lines
+  pub counted : length hs ≡ length sites
+  pub each : (place : ℕ) (site : Site) (h : List Entry) → slice_get sites place ≡ Some site → slice_get hs place ≡ Some h
+      → IsLiveHistory stands (begun_with commands header site) (texts_for (place + 1) lines) h
+
+-- A case holds of a machine of this setting, to which the script gave these lines.
+abbrev pub IsLiveCase : {D : Type 0} → (D → Setting → Trace → Type 0) → Setting → List (List ℕ) → LiveDiffer → Type 0
+IsLiveCase stands st texts (Cell d) = IsCaseOfRun st d
+IsLiveCase stands st texts (Line number asked due) = (h : List Entry) × Stood stands st (reverse h) × IsRun st h × LineDiffers h texts number asked due
+IsLiveCase stands st texts (Left number call) = (h : List Entry) × Stood stands st (reverse h) × IsRun st h × IsUnanswered h (CallLeft number call)
+IsLiveCase stands st texts (Untold number process) = (h : List Entry) × Stood stands st (reverse h) × IsRun st h × IsUnanswered h (StartLeft number process)
+
+-- .. of the machine of this number, counted from 1, which the stop names.
+pub record LiveCaseOf {D : Type 0} (stands : D → Setting → Trace → Type 0) (commands : Header → List (Form Command)) (header : Header) (sites : List Site)
+    (before after : List LiveLine) (machine : ℕ) (d : LiveDiffer) : Type 0 where
+  pub lines : List LiveLine
+  pub gave : after ≡ before ++ lines
+  pub place : ℕ
+  pub site : Site
+  pub numbered : machine ≡ place + 1
+  pub there : slice_get sites place ≡ Some site
+  pub case_of : IsLiveCase stands (begun_with commands header site) (texts_for machine lines) d
+
+-- Why there are no histories: such a case, or want of memory, of which nothing is said.
+abbrev pub IsLiveStop : {D : Type 0} → (D → Setting → Trace → Type 0) → (Header → List (Form Command)) → Header → List Site → List LiveLine → List LiveLine → LiveStop → Type 0
+IsLiveStop stands commands header sites before after (Differ machine d) = LiveCaseOf stands commands header sites before after machine d
+IsLiveStop stands commands header sites before after NoMemory = Unit {0}

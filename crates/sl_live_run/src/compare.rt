@@ -1,0 +1,149 @@
+//! A machine's outcome, compared with what the script gave it.
+
+ghost use Rattle.sl_live_audit.specs.Audited.{IsAnswered, lines_of};
+ghost use Rattle.sl_live_run.specs.Runs.{AreSettled, HistoryDiffers, IsStopOf, StopsSome, left_case, stop_of, texts_at};
+ghost use Rattle.sl_live_run.specs.declared.compare.LiveDiffer.{LiveDiffer as LiveDifferOf};
+ghost use Rattle.std.specs.Prelude.{IfErr, IfNone, IfOk, IfSome, Ok, ◌≡◌};
+
+use crate::given::Given;
+use sl_cell::{CloseError, Differ};
+use sl_live_audit::{LineDiffer, Unanswered, differing_line, first_unanswered};
+use sl_text::{Bytes, Seq};
+use sl_trace::Entry;
+use std::alloc::{AllocError, Global};
+
+/// How a machine's threads, its history and the script differ.
+#[derive(Drop)]
+pub enum LiveDiffer {
+    /// The threads' records and the history.
+    Cell(Differ),
+    /// The line of the entry of this number, counted from 1, is not the script's that is due there; or the history has no line left, and the
+    /// number is one past its last entry.
+    Line {
+        number: usize,
+        asked: Option<Bytes>,
+        due: Option<Bytes>,
+    },
+    /// A call of the entry of this number is not answered.
+    Left {
+        number: usize,
+        call: u64,
+    },
+    /// The start of a child, by its number, of the entry of this number is not answered.
+    Untold {
+        number: usize,
+        process: u64,
+    },
+}
+
+/// Why a live run has no histories.
+#[derive(Drop)]
+pub enum LiveStop {
+    /// A case that holds of the machine of this number, counted from 1.
+    Differ { machine: usize, differ: LiveDiffer },
+    NoMemory,
+}
+
+impl From<AllocError> for LiveStop {
+    ghost use Rattle.sl_live_run.specs.declared.compare.LiveStop.{LiveStop};
+    ghost use Rattle.std.specs.Prelude.{◌≡◌};
+
+    ghost from_gives = { λ _ r. r ≡ LiveStop.NoMemory };
+
+    fn from(_: AllocError) -> LiveStop {
+        LiveStop::NoMemory
+    }
+}
+
+/// What a machine's run came to: its history, or why there is none.
+pub(crate) type Outcome = Result<Seq<Entry>, CloseError>;
+
+/// The case of a line.
+fn line_case(differ: LineDiffer) -> LiveDiffer
+    ensures { result ≡ LiveDifferOf.Line differ.number differ.asked differ.due }
+{
+    let LineDiffer { number, asked, due } = differ;
+    LiveDiffer::Line { number, asked, due }
+}
+
+/// The case of what is left unanswered.
+fn left_case(left: Unanswered) -> LiveDiffer
+    ensures { result ≡ left_case left }
+{
+    match left {
+        Unanswered::Call { number, call } => LiveDiffer::Left { number, call },
+        Unanswered::Start { number, process } => LiveDiffer::Untold { number, process },
+    }
+}
+
+/// How a history differs from what is due, if it does. An `Err` is want of memory.
+#[tactic(auto, using(crate::proofs::CompareLaws::line_differs, crate::proofs::CompareLaws::left_differs))]
+fn differing(
+    alloc: Global,
+    history: &[Entry],
+    due: &[Bytes],
+) -> Result<Option<LiveDiffer>, AllocError>
+    ensures none { IfOk result (λ d. IfNone d ((lines_of history.now ≡ due.now) × IsAnswered history.now)) }
+    ensures some { IfOk result (λ d. IfSome d (HistoryDiffers history.now due.now)) }
+{
+    if let Some(differ) = differing_line(alloc, history, due)? {
+        return Ok(Some(line_case(differ)));
+    }
+    match first_unanswered(alloc, history)? {
+        Some(left) => Ok(Some(left_case(left))),
+        None => Ok(None),
+    }
+}
+
+/// Why there are no histories, where a machine's cell gave none.
+fn stop_of(machine: usize, error: CloseError) -> LiveStop
+    ensures { result ≡ stop_of machine error }
+{
+    match error {
+        CloseError::Differ(differ) => LiveStop::Differ {
+            machine,
+            differ: LiveDiffer::Cell(differ),
+        },
+        CloseError::NoMemory => LiveStop::NoMemory,
+    }
+}
+
+/// The history of a machine, counted from 1, if its lines are those due and nothing of it is unanswered.
+#[tactic(auto, using(crate::proofs::CompareLaws::no_history))]
+fn settle(
+    alloc: Global,
+    machine: usize,
+    outcome: Outcome,
+    due: &[Bytes],
+) -> Result<Seq<Entry>, LiveStop>
+    ensures ok { IfOk result (λ h. (outcome ≡ Ok h) × (lines_of h ≡ due.now) × IsAnswered h) }
+    ensures err { IfErr result (IsStopOf machine outcome due.now) }
+{
+    match outcome {
+        Ok(history) => match differing(alloc, history.as_slice(), due)? {
+            Some(differ) => Err(LiveStop::Differ { machine, differ }),
+            None => Ok(history),
+        },
+        Err(error) => Err(stop_of(machine, error)),
+    }
+}
+
+/// The histories of all machines, the first machine first.
+#[tactic(auto, using(crate::proofs::CompareLaws::none_settled, crate::proofs::CompareLaws::settled_more, crate::proofs::CompareLaws::stops_here))]
+pub(crate) fn settle_all(
+    alloc: Global,
+    outcomes: Vec<Outcome>,
+    given: &Given,
+) -> Result<Vec<Seq<Entry>>, LiveStop>
+    ensures ok { IfOk result (λ hs. AreSettled outcomes.items given.now hs.items) }
+    ensures err { IfErr result (StopsSome outcomes.items given.now) }
+{
+    let mut histories = Vec::new(alloc);
+    for outcome in outcomes {
+        let place = histories.len();
+        let history = settle(alloc, place.saturating_add(1), outcome, given.at(place))?;
+        histories.reserve(1)?;
+        histories.push_reserved(history);
+    }
+    Ok(histories)
+}
