@@ -97,7 +97,7 @@ fn is_within(kept: u32, bytes: &Bytes, sector: u32) -> bool
 }
 
 /// Whether the event is one that a line may spell.
-pub fn is_shaped(header: &Header, event: &Event) -> bool
+fn is_shaped(header: &Header, event: &Event) -> bool
     ensures { result ≡ is_shaped_in header.now event.now }
 {
     match event {
@@ -227,7 +227,7 @@ impl<L: LockTable> Kept<L> {
             return Ok(Err(why));
         }
         match self.torn(machine, call, kept, given)? {
-            None => Ok(Err(Refusal::MissingCall)),
+            None => unreachable!(),
             Some(landing) => {
                 if landing.image.record().is_ok() {
                     return Ok(Err(Refusal::PremiseTorn));

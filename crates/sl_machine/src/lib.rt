@@ -39,7 +39,7 @@ mod refusing;
 mod room;
 mod tears;
 
-pub use asking::{is_shaped, machine_of};
+pub use asking::machine_of;
 pub use calls::Landing;
 pub use connections::Connection;
 pub use flight::{Flight, Outcome};

@@ -7,7 +7,7 @@ ghost use Rattle.sl_time.specs.Times.{reading_of};
 ghost use Rattle.sl_trace.specs.Connections as watchdog;
 ghost use Rattle.sl_words.specs.Words.{least, some_is};
 ghost use Rattle.std.specs.Option.{option_map_or};
-ghost use Rattle.std.specs.Prelude.{false, filter, is_some, map, nat_le, nat_lt, not, option_and_then, ◌&&◌, ◌+◌, ◌≡◌};
+ghost use Rattle.std.specs.Prelude.{false, filter, map, nat_le, nat_lt, not, option_and_then, ◌&&◌, ◌+◌, ◌≡◌};
 
 use crate::connections::test_holds;
 use crate::kept::Kept;
@@ -42,14 +42,6 @@ impl<L: LockTable> Machine<L> {
         ensures { result ≡ ((machine_state L.locks self.now).up && nat_le ((machine_state L.locks self.now).kept + 550) moment) }
     {
         self.up && u128::from(self.kept) + STARVING <= u128::from(moment)
-    }
-
-    /// Whether an ask of lvmlockd's locks is due.
-    #[tactic(auto, unfolding(crate::specs::Machines::machine_state))]
-    fn asks(&self) -> bool
-        ensures { result ≡ is_some (machine_state L.locks self.now).locks.due }
-    {
-        self.locks.has_ask()
     }
 
     /// The least number of a call in flight.
@@ -99,16 +91,6 @@ impl<L: LockTable> Kept<L> {
     {
         match self.machine(machine) {
             Some(found) => found.is_starving(self.moment),
-            None => false,
-        }
-    }
-
-    /// Whether an ask of lvmlockd's locks is due on a machine.
-    pub fn asks(&self, machine: u32) -> bool
-        ensures { result ≡ some_is (λ s. is_some s.locks.due) (machine_in (kept_state L.locks self.now) machine) }
-    {
-        match self.machine(machine) {
-            Some(found) => found.asks(),
             None => false,
         }
     }

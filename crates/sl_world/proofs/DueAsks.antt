@@ -1,5 +1,4 @@
 -- The first machine with an ask that is due.
-use Rattle.sl_kept.specs.Kept.{KeptState}
 use Rattle.sl_kept.specs.Showing.{shown}
 use Rattle.sl_machine.specs.Keeping.{kept_state}
 use Rattle.sl_machine.specs.Machines.{machine_state}

@@ -71,7 +71,7 @@ impl<D: Daemon, L: LockTable> World<D, L> {
     {
         match self.tear(machine, call, kept, bytes)? {
             Ok(()) => Ok(()),
-            Err(_) => Err(AllocError),
+            Err(_) => unreachable!(),
         }
     }
 

@@ -17,9 +17,10 @@ use sl_machine::{Kept, LockTable};
 use sl_trace::{Effects, Input};
 use std::alloc::AllocError;
 
-/// Whether a daemon runs on a machine.
+/// Whether a daemon runs on a machine; where there is none, none does.
 fn runs_on<L: LockTable>(kept: &Kept<L>, machine: u32) -> bool
-    ensures { (s : MachineState) → machine_in (kept_state L.locks kept.now) machine ≡ Some s → result ≡ s.runs }
+    ensures there { (s : MachineState) → machine_in (kept_state L.locks kept.now) machine ≡ Some s → result ≡ s.runs }
+    ensures absent { machine_in (kept_state L.locks kept.now) machine ≡ None → result ≡ false }
 {
     match kept.machine(machine) {
         None => false,

@@ -6,7 +6,7 @@ ghost use Rattle.sl_machine.specs.Keeping.{kept_state};
 ghost use Rattle.sl_machine.specs.Testing.{is_tear};
 ghost use Rattle.sl_world.specs.Allowing.{StandsForSome};
 ghost use Rattle.sl_world.specs.Giving.{IsSame};
-ghost use Rattle.sl_words.specs.Words.{least, some_is};
+ghost use Rattle.sl_words.specs.Words.{least};
 ghost use Rattle.sl_world_law.specs.Drawing.{is_useful_in, least_call_in, starves_in};
 ghost use Rattle.sl_world_law.specs.Telling.{asking_in, tested_in};
 ghost use Rattle.std.specs.List.{position};
@@ -61,13 +61,6 @@ impl<D: Daemon, L: LockTable> World<D, L> {
             Event::Test { machine } => self.kept.test_holds(*machine),
             _ => false,
         }
-    }
-
-    /// Whether an ask of lvmlockd's locks is due on a machine: it is the next event.
-    pub fn asks(&self, machine: u32) -> bool
-        ensures { result ≡ some_is (λ s. is_some s.locks.due) (machine_in (kept_state L.locks self.now.kept) machine) }
-    {
-        self.kept.asks(machine)
     }
 
     /// The first machine with an ask of lvmlockd's locks that is due: it is the next event.

@@ -10,7 +10,7 @@ ghost use Rattle.sl_time.specs.Times.{reading_of};
 ghost use Rattle.sl_world.specs.Allowing.{LacksAt, LeavesAt, MayGive};
 ghost use Rattle.sl_world.specs.Giving.{IsSame};
 ghost use Rattle.sl_world.specs.Telling.{GivesTold};
-ghost use Rattle.std.specs.Prelude.{IfOk, OnErr, Some, false, true, ◌≡◌};
+ghost use Rattle.std.specs.Prelude.{IfOk, None, OnErr, Some, false, true, ◌≡◌};
 
 use crate::hosts::Hosts;
 use sl_daemon::Daemon;
@@ -28,7 +28,8 @@ pub struct World<D: Daemon, L: LockTable> {
 
 /// What a machine's clock shows; 0 where there is none.
 pub(crate) fn reading<L: LockTable>(kept: &Kept<L>, machine: u32) -> u64
-    ensures { (s : MachineState) → machine_in (kept_state L.locks kept.now) machine ≡ Some s → result ≡ reading_of s.clock }
+    ensures there { (s : MachineState) → machine_in (kept_state L.locks kept.now) machine ≡ Some s → result ≡ reading_of s.clock }
+    ensures absent { machine_in (kept_state L.locks kept.now) machine ≡ None → result ≡ 0 }
 {
     match kept.machine(machine) {
         Some(found) => found.reading(),
@@ -39,10 +40,11 @@ pub(crate) fn reading<L: LockTable>(kept: &Kept<L>, machine: u32) -> u64
 /// How many numbers are kept back, so that a step has numbers for all that it makes.
 const LEFT: u64 = (1 << 63) - 2048;
 
-/// Whether numbers are left for a step on a machine.
+/// Whether numbers are left for a step on a machine; where there is none, none are.
 pub(crate) fn has_numbers<L: LockTable>(kept: &Kept<L>, machine: u32) -> bool
     ensures left { result ≡ true → LeavesAt (kept_state L.locks kept.now) machine }
     ensures lacks { result ≡ false → LacksAt (kept_state L.locks kept.now) machine }
+    ensures absent { machine_in (kept_state L.locks kept.now) machine ≡ None → result ≡ false }
 {
     match kept.machine(machine) {
         Some(found) => found.flights.next() < LEFT && found.job < LEFT,

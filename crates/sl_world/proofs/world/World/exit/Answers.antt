@@ -14,7 +14,7 @@ pub give-requires : goal.give-requires
 give-requires g c =
     let k = kept_state g.L.LockTable.locks c.args.self.now.kept in
     may_give g.D.Daemon.commands g.D.Daemon.stands k c.args.self.now.hosts (ExitOf c.args.machine c.args.process) (Exit c.args.process) c.requires
-    (λ none. let s = exit_there g.D.Daemon.commands k c.args.machine c.args.process none in exit_gives k c.args.machine c.args.process s.0 true s.1 (sym (c.runs_on-runs.ensures s.0 s.1) ∙ c.if-runs.true))
+    (λ none. let s = exit_there g.D.Daemon.commands k c.args.machine c.args.process none in exit_gives k c.args.machine c.args.process s.0 true s.1 (sym (c.runs_on-runs.ensures.there s.0 s.1) ∙ c.if-runs.true))
 
 pub returns-then-runs-clause-ok : goal.returns-then-runs-clause-ok
 returns-then-runs-clause-ok g c =
@@ -24,7 +24,7 @@ returns-then-runs-clause-ok g c =
     (λ fx given. simply_told g.D.Daemon.commands g.D.Daemon.stands g.D.Daemon.makes (kept_state g.L.LockTable.locks c.args.self.now.kept) c.args.self.now.hosts (ExitOf c.args.machine c.args.process) (Exit c.args.process) fx
     (kept_state g.L.LockTable.locks c.give.new.self.kept) c.give.new.self.hosts c.requires
     (λ none. let s = exit_there g.D.Daemon.commands (kept_state g.L.LockTable.locks c.args.self.now.kept) c.args.machine c.args.process none in
-    exit_gives (kept_state g.L.LockTable.locks c.args.self.now.kept) c.args.machine c.args.process s.0 true s.1 (sym (c.runs_on-runs.ensures s.0 s.1) ∙ c.if-runs.true))
+    exit_gives (kept_state g.L.LockTable.locks c.args.self.now.kept) c.args.machine c.args.process s.0 true s.1 (sym (c.runs_on-runs.ensures.there s.0 s.1) ∙ c.if-runs.true))
     (first_exit (kept_state g.L.LockTable.locks c.args.self.now.kept) c.args.machine c.args.process) given)
     c.give.ensures.ok
 
@@ -32,7 +32,7 @@ pub returns-in_ok-effects-clause-ok : goal.returns-in_ok-effects-clause-ok
 returns-in_ok-effects-clause-ok g c =
     let k = kept_state g.L.LockTable.locks c.args.self.now.kept in
     let s = exit_there g.D.Daemon.commands k c.args.machine c.args.process c.requires.unrefused in
-    let off = sym (c.runs_on-runs.ensures s.0 s.1) ∙ c.if-runs.false in
+    let off = sym (c.runs_on-runs.ensures.there s.0 s.1) ∙ c.if-runs.false in
     own_told g.D.Daemon.commands g.D.Daemon.stands k c.args.self.now.hosts (ExitOf c.args.machine c.args.process) c.in_ok-effects.effects
     (kept_state g.L.LockTable.locks c.exit_alone.new.kept) c.args.self.now.hosts c.told_alone.result
     (alone_comes g.D.Daemon.commands g.D.Daemon.stands k c.args.self.now.hosts c.args.machine c.args.process s.0

@@ -10,7 +10,7 @@ pub step-told-requires : goal.step-told-requires
 step-told-requires g c =
     takes_step g.D.Daemon.commands g.D.Daemon.stands g.D.Daemon.makes g.L.LockTable.locks g.L.LockTable.has_room c.args.self.now.kept c.reserve.new.self c.args.self.now.hosts
     c.read.new.self c.args.machine c.reading-now.result (read_of c.args.call c.args.sectors.now) c.in_ok-effects.effects c.most-most.result
-    (c.requires.ready (c.has_numbers-left.ensures.left c.if-not-left.false)) c.most-most.ensures c.reading-now.ensures
+    (c.requires.ready (c.has_numbers-left.ensures.left c.if-not-left.false)) c.most-most.ensures c.reading-now.ensures.there
     c.in_ok-effects.ensures.ok c.reserve.ensures.same c.in_ok-reserve.ensures.room
 
 pub returns-clause-ok : goal.returns-clause-ok
@@ -18,7 +18,7 @@ returns-clause-ok g c =
     record {
       effects = c.in_ok-effects.effects;
       given = is_given g.D.Daemon.stands g.D.Daemon.makes (kept_state g.L.LockTable.locks c.args.self.now.kept) (kept_state g.L.LockTable.locks c.step-told.new.self) c.args.self.now.hosts
-          c.read.new.self c.args.machine c.reading-now.result (read_of c.args.call c.args.sectors.now) c.in_ok-effects.effects c.reading-now.ensures c.in_ok-effects.ensures.ok
+          c.read.new.self c.args.machine c.reading-now.result (read_of c.args.call c.args.sectors.now) c.in_ok-effects.effects c.reading-now.ensures.there c.in_ok-effects.ensures.ok
           (c.step-told.ensures.stays ∙ taken_up g.L.LockTable.locks c.args.self.now.kept c.reserve.new.self c.args.machine (read_of c.args.call c.args.sectors.now) Nothing
           c.in_ok-effects.effects c.hear_read-heard.result
           c.reserve.ensures.same (c.hear_read-heard.ensures c.args.sectors.now.bytes) (heard_part (read_of c.args.call c.args.sectors.now) Nothing refl)) (c.has_numbers-left.ensures.left c.if-not-left.false);
