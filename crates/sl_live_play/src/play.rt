@@ -1,0 +1,250 @@
+//! The play of a live script.
+
+ghost use Rattle.sl_daemon.specs.Daemons.{begun_with};
+ghost use Rattle.sl_kept.specs.Sane.{ReadsCommands};
+ghost use Rattle.sl_live_ground.specs.Grounds.{IsGroundOf};
+ghost use Rattle.sl_live_lines.specs.Scopes.{scope_of};
+ghost use Rattle.sl_live_play.specs.Living.{Owes, PutsEnded, PutsNoGround, PutsStop};
+ghost use Rattle.sl_run.specs.Headers.{IsHeader};
+ghost use Rattle.sl_run.specs.Lawful.{IsSetting};
+ghost use Rattle.sl_run.specs.declared.header.Header.{Header as HeaderOf};
+ghost use Rattle.sl_schedule_reader.specs.HeaderBegins.{HeaderBegins};
+ghost use Rattle.sl_schedule_reader.specs.LineReads.{EndStands};
+ghost use Rattle.sl_report.specs.Headline.{HeadersAreGood};
+ghost use Rattle.sl_report.specs.Languages.{whole_language};
+ghost use Rattle.std.specs.Prelude.{All, IfErr, IfOk, List, Option, map, ℕ, ◌≡◌};
+
+use crate::putting::{put_area_fault, put_differ, put_histories, put_refusal};
+use sl_cell::Teller;
+use sl_io::{Sink, Source};
+use sl_live_ground::{Ground, NoGround, give_back, prepare};
+use sl_live_reader::{Origin, ScriptEnd, ScriptLines};
+use sl_live_report::Ending;
+use sl_live_run::{Disks, LiveRun, LiveStop, run_machines};
+use sl_outside::LiveDevices;
+use sl_run::Header;
+use sl_schedule_reader::{LineReader, ReadError, read_header};
+use sl_text::Seq;
+use sl_trace::Entry;
+use std::alloc::Global;
+use std::marker::Brand;
+use std::sync::Wait;
+use std::thread::Threads;
+use std::time;
+
+/// How a live script ended.
+#[derive(Clone, Copy, Debug, PartialEq, Eq)]
+pub enum Lived {
+    /// It was read to its end; all replies and the last line are put out.
+    Done,
+    /// A line was refused; the refusal stands at the end.
+    Refused,
+    /// A read failed.
+    ReadFault,
+    /// A write failed. What is put out begins what was to be.
+    WriteFault,
+    /// There was no memory. Nothing is put out.
+    NoMemory,
+    /// A disk can't be made, or a sector of an area can't be written before the threads begin; that is put out.
+    AreaFault,
+    /// Records of a machine differ; the case is put out.
+    Differs,
+}
+
+/// Gives the disks of all machines back.
+fn give_all_back<V: LiveDevices>(disks: Vec<Disks<V::Area>>, devices: &mut V) {
+    for Disks { delta, resource } in disks {
+        give_back(delta, resource, devices);
+    }
+}
+
+/// Puts out what machines did whose script ended so.
+fn put_ended<K: Sink>(
+    alloc: Global,
+    sink: &mut K,
+    histories: &[Seq<Entry>],
+    end: Option<ScriptEnd>,
+) -> Lived
+    ensures { PutsEnded (K.taken sink.old) (K.taken sink.new) (K.faults sink.old) (K.faults sink.new) histories.now end result }
+{
+    match end {
+        Some(ScriptEnd::End) => put_histories(alloc, sink, histories, Ending::Whole, Lived::Done),
+        Some(ScriptEnd::Refused { number, why }) => put_histories(
+            alloc,
+            sink,
+            histories,
+            Ending::Refused { number, why },
+            Lived::Refused,
+        ),
+        Some(ScriptEnd::ReadFault) => {
+            put_histories(alloc, sink, histories, Ending::Cut, Lived::ReadFault)
+        }
+        Some(ScriptEnd::NoMemory) => Lived::NoMemory,
+        None => Lived::NoMemory,
+    }
+}
+
+/// Puts out why a run can't begin.
+fn put_no_ground<K: Sink>(sink: &mut K, why: NoGround) -> Lived
+    ensures { PutsNoGround (K.taken sink.old) (K.taken sink.new) (K.faults sink.old) (K.faults sink.new) why result }
+{
+    match why {
+        NoGround::AreaFault => put_area_fault(sink),
+        NoGround::NoMemory => Lived::NoMemory,
+    }
+}
+
+/// Puts out what came of a run whose script ended so.
+fn put_run<K: Sink>(
+    alloc: Global,
+    sink: &mut K,
+    histories: Result<Vec<Seq<Entry>>, LiveStop>,
+    end: Option<ScriptEnd>,
+) -> Lived
+    ensures ok { IfOk histories (λ hs. PutsEnded (K.taken sink.old) (K.taken sink.new) (K.faults sink.old) (K.faults sink.new) hs.items end result) }
+    ensures stop { IfErr histories (λ why. PutsStop (K.taken sink.old) (K.taken sink.new) (K.faults sink.old) (K.faults sink.new) why result) }
+{
+    match histories {
+        Ok(histories) => put_ended(alloc, sink, &histories, end),
+        Err(LiveStop::Differ { machine, differ }) => put_differ(alloc, sink, machine, &differ),
+        Err(LiveStop::NoMemory) => Lived::NoMemory,
+    }
+}
+
+/// Runs the machines of this ground, beside the lines that are still to be read, as a script of this origin.
+fn play_as<
+    D: Teller + Send,
+    J: Origin + Send + Sync,
+    S: Source + Send,
+    K: Sink,
+    V: LiveDevices,
+    R: Threads + Wait + time::Clock + Sync,
+>(
+    rt: &R,
+    alloc: Global,
+    ground: Ground<V>,
+    source: S,
+    reader: LineReader,
+    sink: &mut K,
+    devices: &mut V,
+) -> (Lived, S)
+where
+    V::Area: Send,
+    requires header { IsHeader ground.header }
+    requires settings { All (λ s. IsSetting (begun_with D.Daemon.commands ground.header s)) (map (λ p. p.site) ground.machines.items) }
+    requires ends { EndStands (S.left source) reader }
+    requires left { S.left source ≡ J.left }
+    requires faults { S.faults source ≡ J.faults }
+    requires began { reader ≡ J.began }
+    requires scope { scope_of ground.header ≡ J.scope }
+    ensures { (first : Option (List ℕ)) (h : HeaderOf) → IsGroundOf V.Clock.last V.Spawner.running V.Device.last V.Device.fire V.Area.content h ground
+        → HeaderBegins first (S.left source) reader h
+        → Owes D.Daemon.stands D.Daemon.commands first (S.left result.1) (K.taken sink.old) (K.taken sink.new) (S.faults source) (S.faults result.1)
+        (K.faults sink.old) (K.faults sink.new) (V.Devices.faults devices.old) (V.Devices.faults devices.new) result.0 }
+{
+    let mut lines: ScriptLines<S, J> = ScriptLines::new(alloc, source, reader, &ground.header);
+    let LiveRun {
+        histories,
+        disks,
+        ended: _,
+    } = run_machines::<D, V, ScriptLines<S, J>, R>(rt, alloc, ground, &mut lines);
+    give_all_back::<V>(disks, devices);
+    let (source, end) = lines.close();
+    (put_run(alloc, sink, histories, end), source)
+}
+
+/// Runs the machines of this ground, beside the lines that are still to be read.
+fn play_ground<
+    D: Teller + Send,
+    S: Source + Send,
+    K: Sink,
+    V: LiveDevices,
+    R: Threads + Wait + time::Clock + Sync,
+>(
+    rt: &R,
+    alloc: Global,
+    ground: Ground<V>,
+    source: S,
+    reader: LineReader,
+    sink: &mut K,
+    devices: &mut V,
+) -> (Lived, S)
+where
+    V::Area: Send,
+    requires header { IsHeader ground.header }
+    requires settings { All (λ s. IsSetting (begun_with D.Daemon.commands ground.header s)) (map (λ p. p.site) ground.machines.items) }
+    requires ends { EndStands (S.left source) reader }
+    ensures { (first : Option (List ℕ)) (h : HeaderOf) → IsGroundOf V.Clock.last V.Spawner.running V.Device.last V.Device.fire V.Area.content h ground
+        → HeaderBegins first (S.left source) reader h
+        → Owes D.Daemon.stands D.Daemon.commands first (S.left result.1) (K.taken sink.old) (K.taken sink.new) (S.faults source) (S.faults result.1)
+        (K.faults sink.old) (K.faults sink.new) (V.Devices.faults devices.old) (V.Devices.faults devices.new) result.0 }
+{
+    play_as::<D, Brand, S, K, V, R>(rt, alloc, ground, source, reader, sink, devices)
+}
+
+/// Runs the machines of a header that was read.
+fn play_header<
+    D: Teller + Send,
+    S: Source + Send,
+    K: Sink,
+    V: LiveDevices,
+    R: Threads + Wait + time::Clock + Sync,
+>(
+    rt: &R,
+    alloc: Global,
+    folder: &str,
+    source: S,
+    reader: LineReader,
+    header: Header,
+    sink: &mut K,
+    devices: &mut V,
+) -> (Lived, S)
+where
+    V::Area: Send,
+    requires header { IsHeader header }
+    requires reads { (h : HeaderOf) → IsHeader h → ReadsCommands D.Daemon.commands h }
+    requires ends { EndStands (S.left source) reader }
+    ensures { (first : Option (List ℕ)) → HeaderBegins first (S.left source) reader header
+        → Owes D.Daemon.stands D.Daemon.commands first (S.left result.1) (K.taken sink.old) (K.taken sink.new) (S.faults source) (S.faults result.1)
+        (K.faults sink.old) (K.faults sink.new) (V.Devices.faults devices.old) (V.Devices.faults devices.new) result.0 }
+{
+    match prepare::<V>(alloc, header, folder, devices) {
+        Ok(ground) => {
+            play_ground::<D, S, K, V, R>(rt, alloc, ground, source, reader, sink, devices)
+        }
+        Err(why) => (put_no_ground(sink, why), source),
+    }
+}
+
+/// Plays a live script: reads its header from the source, makes its disks in the folder, runs its machines beside each other, gives them the
+/// script's lines as they are read, and puts out what the machines replied, once all have ended.
+///
+/// A machine ends when the script has ended, no child of it runs and nothing of it is unanswered. The source comes back.
+pub fn play_live<
+    D: Teller + Send,
+    S: Source + Send,
+    K: Sink,
+    V: LiveDevices,
+    R: Threads + Wait + time::Clock + Sync,
+>(rt: &R, alloc: Global, folder: &str, source: S, sink: &mut K, devices: &mut V) -> (Lived, S)
+where
+    V::Area: Send,
+    requires reads { (h : HeaderOf) → IsHeader h → ReadsCommands D.Daemon.commands h }
+    requires headers { HeadersAreGood whole_language }
+    ensures { Owes D.Daemon.stands D.Daemon.commands (S.left source) (S.left result.1) (K.taken sink.old) (K.taken sink.new) (S.faults source) (S.faults result.1)
+        (K.faults sink.old) (K.faults sink.new) (V.Devices.faults devices.old) (V.Devices.faults devices.new) result.0 }
+{
+    let mut source = source;
+    let mut reader = match LineReader::new(alloc) {
+        Ok(reader) => reader,
+        Err(_) => return (Lived::NoMemory, source),
+    };
+    match read_header(alloc, &mut source, &mut reader) {
+        Err(ReadError::Failed) => (Lived::ReadFault, source),
+        Err(ReadError::NoMemory) => (Lived::NoMemory, source),
+        Ok(Err((number, why))) => (put_refusal(alloc, sink, number, why), source),
+        Ok(Ok(header)) => play_header::<D, S, K, V, R>(
+            rt, alloc, folder, source, reader, header, sink, devices,
+        ),
+    }
+}
