@@ -16,6 +16,3 @@ pub use file_area::FileArea;
 pub use geometry::{BadGeometry, Geometry};
 pub use mem_area::MemArea;
 pub use place::Place;
-
-#[cfg(test)]
-mod tests;

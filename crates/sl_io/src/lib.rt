@@ -26,6 +26,3 @@ pub use sink::Sink;
 pub use source::Source;
 pub use writer::WriteSink;
 pub use writing::write_all;
-
-#[cfg(test)]
-mod tests;

@@ -1,7 +1,7 @@
 //! What a run takes from the outside: disks, and for live machines clocks, child programs, watchdog devices, names and a gate.
 //!
 //! Each part is a trait with a form in memory, of which all is told, and an adapter over the system, of which nothing is. The adapters are
-//! the program's trusted edge: a few lines each, with a test.
+//! the program's trusted edge: a few lines each, each with a case of the program `edges`.
 #![tactic(auto)]
 
 mod act;
@@ -41,6 +41,3 @@ pub use shared_devices::{AreaPlan, SharedDevices, SharedPlan};
 pub use spawner::Spawner;
 pub use turn_gate::{Turn, TurnGate};
 pub use words::{MemWords, SystemWords, Words};
-
-#[cfg(test)]
-mod tests;
