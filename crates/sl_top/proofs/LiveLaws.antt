@@ -10,7 +10,7 @@ use Rattle.sl_top.proofs.RunLaws.{nothing_put}
 use Rattle.sl_top.specs.Laws.{LiveHistoriesAreGood, SomeDiffer}
 use Rattle.sl_cli.specs.declared.reading.Words.TheVariants.{Direct, Generate, Help, Live, Replay, Version}
 use Rattle.sl_cli.specs.declared.reading.Words.{Words}
-use Rattle.sl_top.specs.Runs.{IsLive, Outside, RunsLive, folder_in, folder_of}
+use Rattle.sl_top.specs.Runs.{IsLive, Outside, Owes, RunsLive, folder_in, folder_of}
 use Rattle.sl_top.specs.Statuses.{status_of_live}
 use Rattle.sl_top.specs.declared.status.Status.TheVariants.{AreaFault, BadWords, Differs, NoMemory, NotTheLeader, ReadFault, WriteFault}
 use Rattle.sl_top.specs.declared.status.Status.{Status}
@@ -176,6 +176,10 @@ folder_is_live Version f is = absurd cc
 pub is_live : (s : Option Words) (f : List ℕ) → folder_in s ≡ Some f → IsLive s
 is_live None f is = absurd cc
 is_live (Some w) f is = folder_is_live w f is
+
+-- So what live machines did is owed by such words.
+pub owes_live : (s : Option Words) (f : List ℕ) (x y : Outside) (st : Status) → folder_in s ≡ Some f → RunsLive x y st → Owes s x y st
+owes_live s f x y st is run = let live = is_live s f is in subst (λ w. Owes w x y st) (sym live.1) run
 
 pub not_live : (s : Option Words) → folder_in s ≡ None → IsLive s → ⊥
 not_live s none live =
