@@ -86,6 +86,15 @@ fn parts<R: Files + AllocGlobal>(
             Some(due),
         ));
     }
+    if let Some(rest) = line.strip_prefix("lives ") {
+        let (name, folder) = rest.split_once(' ').unwrap_or((rest, ""));
+        let said = format!(in alloc; "live {folder}")?;
+        return Ok((
+            words(alloc, said.as_str())?,
+            file(rt, name, "script")?,
+            None,
+        ));
+    }
     if let (Some(count), rest) = option(line, "behind") {
         let (name, text) = rest.split_once(' ').unwrap_or((rest, ""));
         return Ok((
