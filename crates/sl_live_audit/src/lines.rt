@@ -5,7 +5,7 @@
 
 ghost use Rattle.sl_live_audit.specs.Audited.{AreLines, EndsAt, LineDiffers, Looks, due_line, next_at};
 ghost use Rattle.sl_live_locks.specs.Alongs.{begun_along, runs_line};
-ghost use Rattle.std.specs.Prelude.{IfNone, IfOk, IfSome, IsTrue, Some, false, length, slice_get, ◌×◌, ◌↔◌, ◌≡◌, ◌≤◌};
+ghost use Rattle.std.specs.Prelude.{IfNone, IfOk, IfSome, IsTrue, Some, false, length, slice_get, ◌↔◌, ◌≡◌, ◌≤◌};
 
 use sl_live_locks::{Along, GivenLine, copy_line, copy_line_in, same_line};
 use sl_run::Header;

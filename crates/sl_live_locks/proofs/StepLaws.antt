@@ -1,13 +1,13 @@
 -- A step of the locks by what they take of an entry is that by the entry.
-use Rattle.sl_live_locks.specs.Alongs.{AlongState, asked_along, heard_in, job_behind, lock_of, step_along, told_along}
+use Rattle.sl_live_locks.specs.Alongs.{AlongState, asked_along, heard_in, lock_of}
 use Rattle.sl_locks.specs.Steps.{heard_by, lock_input}
-use Rattle.sl_run.specs.Locks.{Locks, Told, ended_locks, locks_after, numbered_locks, replied_locks, turned_locks}
+use Rattle.sl_run.specs.Locks.{Locks, ended_locks, locks_after, numbered_locks, replied_locks}
 use Rattle.sl_trace.specs.declared.effects.Effects.{Effects}
 use Rattle.sl_trace.specs.declared.effects.Entry.{Entry}
 use Rattle.sl_trace.specs.declared.effects.JobReply.{JobReply}
 use Rattle.sl_trace.specs.declared.input.Input.TheVariants.{Answer as Told_of, Exit, Line, Number, Spawned, Wake}
 use Rattle.sl_trace.specs.declared.input.Input.{Input}
-use Rattle.std.proofs.Common.{List, None, Option, Some, [], ap, cond, refl, sym, subst, ℕ, ◌≡◌, ◌∙◌, ◌∷◌}
+use Rattle.std.proofs.Common.{List, None, Option, Some, [], ap, cond, refl, ℕ, ◌≡◌, ◌∙◌, ◌∷◌}
 use Rattle.std.specs.List.{find}
 use Rattle.std.specs.Option.{option_to_list}
 use Rattle.std.specs.Prelude.{Bool, false, true, ◌==◌}

@@ -8,7 +8,6 @@ use Rattle.sl_run.specs.declared.header.Header.{Header}
 use Rattle.sl_trace.specs.Traces.{takes_number}
 use Rattle.sl_trace.specs.declared.effects.Entry.{Entry}
 use Rattle.sl_trace.specs.declared.effects.JobReply.{JobReply}
-use Rattle.sl_trace.specs.declared.input.Answer.{Answer}
 use Rattle.sl_trace.specs.declared.input.Input.TheVariants.{Answer as Told_of, Exit, Line, Number, Spawned, Wake}
 use Rattle.sl_trace.specs.declared.input.Input.{Input}
 use Rattle.sl_words.specs.Words.{some_is}
