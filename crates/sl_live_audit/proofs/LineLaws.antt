@@ -1,14 +1,14 @@
 -- The lines of a history beside those that are due, one entry longer at a time.
-use Rattle.sl_live_audit.specs.Audited.{AreLines, Differ, EndsAt, KeepsAsk, KeepsAsks, LineDiffers, Looks, Parts, due_line, line_behind, lines_along, next_at, own_lines}
+use Rattle.sl_live_audit.specs.Audited.{AreLines, Differ, EndsAt, KeepsAsk, KeepsAsks, LineDiffers, Looks, Parts, Passes, due_line, line_behind, lines_along, own_lines}
 use Rattle.sl_live_locks.specs.Alongs.{AlongState, along, due_ask, line_given, runs_line, step_along}
 use Rattle.sl_live_locks.specs.declared.line.GivenLine.{GivenLine}
-use Rattle.sl_live_audit.specs.declared.lines.Looked.TheVariants.{NoLine, Right, Wrong}
+use Rattle.sl_live_audit.specs.declared.lines.Looked.TheVariants.{Fits, Wrong}
 use Rattle.sl_trace.specs.declared.effects.Entry.{Entry}
 use Rattle.sl_words.proofs.CaseLaws.{false_is_true, no_value, none_some, not_both, some_value}
 use Rattle.std.proofs.Common.{ap, append_assoc, arith, if◌then◌else◌, length, refl, slice_index_or, subst, suc, sym, take, zero, ◌++◌, ◌+◌, ◌-◌, ◌<◌, ◌∙◌, ◌∷◌, ◌≡◌, ◌≤◌, [], ℕ}
 use Rattle.std.proofs.lemmas.List.{append-nil, length-append, take_more}
 use Rattle.std.specs.Option.{option_to_list}
-use Rattle.std.specs.Prelude.{Bool, IsSome, List, None, Option, Some, false, slice_get, true}
+use Rattle.std.specs.Prelude.{Bool, Err, IfNone, IfOk, IfSome, IsSome, List, None, Ok, Option, Result, Some, false, slice_get, true}
 
 -- ---- lists
 
@@ -99,43 +99,42 @@ one_line a h due k lines e l lt here own at asks so =
     let long = length-append (lines_along a (take k h)) (l ∷ []) in
     let counted = so.counted in
     let lt' = inside due lines l at in
+    let next : suc lines ≡ lines + 1 = omega arith in
+    let one : length (lines_along a (take k h)) + 1 ≡ length (lines_along a (take k h) ++ l ∷ []) = omega (arith, long) in
     record {
-      alike = longer ∙ ap (λ x. x ++ l ∷ []) so.alike ∙ sym (front_more due lines l at) ∙ ap (λ n. take n due) (omega arith);
+      alike = longer ∙ ap (λ x. x ++ l ∷ []) so.alike ∙ sym (front_more due lines l at) ∙ ap (λ n. take n due) next;
       asks = subst (KeepsAsks a) (sym more) (asks_push a (take k h) e so.asks asks);
-      counted = ap (λ n. n + 1) counted ∙ omega (arith, long) ∙ sym (ap length longer);
+      counted = ap (λ n. n + 1) counted ∙ one ∙ sym (ap length longer);
       within = omega (arith, lt');
     }
 
--- An entry without a line.
-pub alike_none : (a b : AlongState) (h : List Entry) (due : List GivenLine) (k lines : ℕ) (e : Entry) → k < length h → e ≡ slice_index_or h k e → b ≡ along a (take k h)
-    → line_given e.input ≡ None → AreAlike a h due k lines → AreAlike a h due (k + 1) lines
-alike_none a b h due k lines e lt here is none so =
-    same_lines a h due k lines e lt here (own (runs_line (along a (take k h)))) (λ runs l gives. absurd (no_value l (line_given e.input) gives none)) so
-  where
-    own : (r : Bool) → (if r then [] else option_to_list (line_given e.input)) ≡ []
-    own true = refl
-    own false = ap option_to_list none
-
--- An entry with the line that is due.
-pub alike_more : (a b : AlongState) (h : List Entry) (due : List GivenLine) (k lines : ℕ) (e : Entry) → k < length h → e ≡ slice_index_or h k e → b ≡ along a (take k h)
-    → Looks due lines b e Right → AreAlike a h due k lines → AreAlike a h due (k + 1) (next_at lines b)
-alike_more a b h due k lines e lt here is looks so =
-    let l = looks.0 in
-    let given : line_given e.input ≡ Some l = looks.1 in
-    let due_is : due_line due lines (along a (take k h)) ≡ Some l = ap (due_line due lines) (sym is) ∙ looks.2 in
-    subst (λ x. AreAlike a h due (k + 1) (next_at lines x)) (sym is) (go l given (runs_line (along a (take k h))) refl due_is)
+-- An entry that has no line, or the one that is due.
+pub alike_more : (a b : AlongState) (h : List Entry) (due : List GivenLine) (k lines next : ℕ) (e : Entry) → k < length h → e ≡ slice_index_or h k e → b ≡ along a (take k h)
+    → Looks due lines b e (Fits next) → AreAlike a h due k lines → AreAlike a h due (k + 1) next
+alike_more a b h due k lines next e lt here is looks so =
+    by_line (line_given e.input) refl (subst (λ x. Passes due lines x (line_given e.input) next) is looks)
   where
     now : AlongState
     now = along a (take k h)
 
-    go : (l : GivenLine) → line_given e.input ≡ Some l → (r : Bool) → runs_line now ≡ r → (if r then due_ask now else slice_get due lines) ≡ Some l
+    no_own : (r : Bool) → line_given e.input ≡ None → (if r then [] else option_to_list (line_given e.input)) ≡ []
+    no_own true none = refl
+    no_own false none = ap option_to_list none
+
+    by_due : (l : GivenLine) → line_given e.input ≡ Some l → (r : Bool) → runs_line now ≡ r → (if r then due_ask now else slice_get due lines) ≡ Some l
         → AreAlike a h due (k + 1) (if r then lines else lines + 1)
-    go l given true runs due_is =
+    by_due l given true runs due_is =
         same_lines a h due k lines e lt here (ap (λ r. if r then [] else option_to_list (line_given e.input)) runs)
         (λ r m gives. due_is ∙ sym given ∙ gives) so
-    go l given false idle due_is =
+    by_due l given false idle due_is =
         one_line a h due k lines e l lt here (ap (λ r. if r then [] else option_to_list (line_given e.input)) idle ∙ ap option_to_list given) due_is
         (λ runs m gives. absurd (not_both (runs_line now) runs idle)) so
+
+    by_line : (o : Option GivenLine) → line_given e.input ≡ o → Passes due lines now o next → AreAlike a h due (k + 1) next
+    by_line None none same =
+        subst (AreAlike a h due (k + 1)) (sym same)
+        (same_lines a h due k lines e lt here (no_own (runs_line now) none) (λ runs l gives. absurd (no_value l (line_given e.input) gives none)) so)
+    by_line (Some l) given passes = subst (AreAlike a h due (k + 1)) (sym passes.1) (by_due l given (runs_line now) refl passes.0)
 
 -- ---- where they differ
 
@@ -231,3 +230,15 @@ all_alike a b h due k lines end_is is ends so =
       asks = subst (KeepsAsks a) front so.asks;
       over = sym (ap runs_line (is ∙ ap (along a) front)) ∙ ends.0;
     }
+
+-- ---- of a result
+
+pub if_ok_some : {T E : Type 0} (r : Result (Option T) E) (Was Is : T → Type 0) → ((t : T) → Was t → Is t) → IfOk r (λ d. IfSome d Was) → IfOk r (λ d. IfSome d Is)
+if_ok_some (Ok (Some t)) Was Is f so = f t so
+if_ok_some (Ok None) Was Is f so = tt
+if_ok_some (Err e) Was Is f so = tt
+
+pub if_ok_none : {T E : Type 0} (r : Result (Option T) E) (Was Is : Type 0) → (Was → Is) → IfOk r (λ d. IfNone d Was) → IfOk r (λ d. IfNone d Is)
+if_ok_none (Ok (Some t)) Was Is f so = tt
+if_ok_none (Ok None) Was Is f so = f so
+if_ok_none (Err e) Was Is f so = tt

@@ -1,6 +1,6 @@
 -- What a closed history is compared with.
 use Rattle.indexmap.specs.IndexMap.{get}
-use Rattle.sl_live_audit.specs.declared.lines.Looked.TheVariants.{NoLine, Right, Wrong}
+use Rattle.sl_live_audit.specs.declared.lines.Looked.TheVariants.{Fits, Wrong}
 use Rattle.sl_live_audit.specs.declared.lines.Looked.{Looked}
 use Rattle.sl_live_audit.specs.declared.open.Open.{Open}
 use Rattle.sl_live_audit.specs.declared.unanswered.Unanswered.TheVariants.{Call as CallLeft, Start as StartLeft}
@@ -79,10 +79,14 @@ pub record LineDiffers (a : AlongState) (h : List Entry) (due : List GivenLine) 
   pub asked_is : asked ≡ line_behind (number - 1) h
   pub expected_is : expected ≡ due_line due lines (along a (take (number - 1) h))
 
+-- A line that the entry has is the one that is due, and so many of the script's lines came by its end.
+abbrev pub Passes : List GivenLine → ℕ → AlongState → Option GivenLine → ℕ → Type 0
+Passes due at a None next = next ≡ at
+Passes due at a (Some l) next = (due_line due at a ≡ Some l) × (next ≡ next_at at a)
+
 -- What was found at an entry.
 abbrev pub Looks : List GivenLine → ℕ → AlongState → Entry → Looked → Type 0
-Looks due at a e NoLine = line_given e.input ≡ None
-Looks due at a e Right = (l : GivenLine) × (line_given e.input ≡ Some l) × (due_line due at a ≡ Some l)
+Looks due at a e (Fits next) = Passes due at a (line_given e.input) next
 Looks due at a e (Wrong asked expected) = (line_given e.input ≡ Some asked) × (expected ≡ due_line due at a) × (expected ≡ Some asked → ⊥)
 
 -- .. at the end of so many.

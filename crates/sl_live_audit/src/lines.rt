@@ -65,11 +65,10 @@ fn next_at(locks: &Along, due: &[GivenLine], at: usize) -> usize
     if locks.runs_line() { at } else { at + 1 }
 }
 
-/// What a look at an entry has found: no line, the line that is due, or another.
+/// What a look at an entry has found: how many of the script's lines came by its end, or that its line is not the one due.
 #[derive(Drop)]
 enum Looked {
-    NoLine,
-    Right,
+    Fits(usize),
     Wrong {
         asked: GivenLine,
         due: Option<GivenLine>,
@@ -84,14 +83,15 @@ fn look(
     at: usize,
     entry: &Entry,
 ) -> Result<Looked, AllocError>
+    requires { at ≤ length due.now }
     ensures { IfOk result (Looks due.now at locks.now entry.now) }
 {
     let Some(asked) = copy_line_in(alloc, &entry.input)? else {
-        return Ok(Looked::NoLine);
+        return Ok(Looked::Fits(at));
     };
     let expected = due_line(alloc, locks, due, at)?;
     if is_due(&expected, &asked) {
-        Ok(Looked::Right)
+        Ok(Looked::Fits(next_at(locks, due, at)))
     } else {
         Ok(Looked::Wrong {
             asked,
@@ -138,9 +138,9 @@ pub fn differing_line(
     let mut locks = Along::new(alloc, header, first_job);
     let mut lines = 0;
     for entries in 0..history.len() {
-        match look(alloc, &locks, due, lines, &history[entries])? {
-            Looked::NoLine => {}
-            Looked::Right => lines = next_at(&locks, due, lines),
+        let entry = &history[entries];
+        match look(alloc, &locks, due, lines, entry)? {
+            Looked::Fits(next) => lines = next,
             Looked::Wrong { asked, due } => {
                 return Ok(Some(LineDiffer {
                     number: entries + 1,
@@ -149,7 +149,7 @@ pub fn differing_line(
                 }));
             }
         }
-        locks.step(&history[entries])?;
+        locks.step(entry)?;
     }
     look_at_end(alloc, &locks, due, lines, history)
 }

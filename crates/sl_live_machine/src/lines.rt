@@ -80,7 +80,13 @@ fn ask<D: Teller, J: Station, R: Wait, C: Clock, P: Spawner>(
         return Ok(false);
     };
     give_line(rt, room, post, seat, clock, Input::Line(text))?;
-    turn(room.alloc, locks, number, LockInput::Line, Vec::new(room.alloc))?;
+    turn(
+        room.alloc,
+        locks,
+        number,
+        LockInput::Line,
+        Vec::new(room.alloc),
+    )?;
     let Some(reply) = post.await_reply(rt) else {
         return Ok(false);
     };
@@ -127,7 +133,13 @@ fn give_locks<D: Teller, J: Station, R: Wait, C: Clock, P: Spawner>(
     let copy = Bytes::from_slice(room.alloc, line.as_slice())?;
     give_line(rt, room, post, seat, clock, Input::Number(line))?;
     // The number of the line itself is told by none of the asks.
-    turn(room.alloc, locks, 0, LockInput::Number(copy), Vec::new(room.alloc))?;
+    turn(
+        room.alloc,
+        locks,
+        0,
+        LockInput::Number(copy),
+        Vec::new(room.alloc),
+    )?;
     give_asks(rt, room, post, seat, clock, locks)?;
     post.end_line(rt);
     Ok(())
@@ -166,9 +178,7 @@ pub(crate) fn give_lines<D: Teller, J: Station, R: Wait, C: Clock, P: Spawner>(
     for _ in rt.forever() {
         let seen = post.lines.moves(rt);
         match post.next_line(rt) {
-            Next::Line(line) => serve(
-                rt, room, post, &mut seat, &mut clock, &mut *locks, line,
-            )?,
+            Next::Line(line) => serve(rt, room, post, &mut seat, &mut clock, &mut *locks, line)?,
             Next::Wait => post.lines.wait_past(rt, seen),
             Next::End => break,
         }

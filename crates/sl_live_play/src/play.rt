@@ -83,7 +83,14 @@ fn put_ended<K: Sink>(
             Lived::Refused,
         ),
         Some(ScriptEnd::ReadFault) => {
-            put_histories(alloc, sink, header, histories, Ending::Cut, Lived::ReadFault)
+            put_histories(
+                alloc,
+                sink,
+                header,
+                histories,
+                Ending::Cut,
+                Lived::ReadFault,
+            )
         }
         Some(ScriptEnd::NoMemory) => Lived::NoMemory,
         None => Lived::NoMemory,

@@ -10,6 +10,7 @@ use Rattle.sl_trace.specs.EffectTexts.{answer_words}
 use Rattle.sl_trace.specs.declared.effects.Entry.{Entry}
 use Rattle.sl_trace.specs.declared.effects.JobReply.{JobReply}
 use Rattle.std.proofs.Common.{List, Option, [], ap, ap₂, append-nil, arith, if◌then◌else◌, length, refl, slice_index_or, sym, ℕ, ◌++◌, ◌+◌, ◌<◌, ◌≡◌, ◌∙◌, ◌∷◌}
+use Rattle.std.proofs.lemmas.List.Sums.{sum_by-cons, sum_by_more}
 use Rattle.std.proofs.lemmas.List.{append_assoc, length-take-le, take_more}
 use Rattle.std.specs.Prelude.{Bool, false, filter, flat_map, get_or, sum_by, take, true}
 
@@ -28,11 +29,11 @@ told_texts m asked (r ∷ rs) =
 
 count_one : (asked : Option ℕ) (r : JobReply) (rest : List JobReply) (b : Bool) → (if b then 1 else 0) + length rest ≡ length (if b then r ∷ rest else rest)
 count_one asked r rest true = omega arith
-count_one asked r rest false = refl
+count_one asked r rest false = omega arith
 
 told_counts : (asked : Option ℕ) (rs : List JobReply) → sum_by (count_answer asked) rs ≡ length (filter (is_told asked) rs)
 told_counts asked [] = refl
-told_counts asked (r ∷ rs) = ap (λ n. count_answer asked r + n) (told_counts asked rs) ∙ count_one asked r (filter (is_told asked) rs) (is_told asked r)
+told_counts asked (r ∷ rs) = sum_by-cons (count_answer asked) r rs ∙ ap (λ n. count_answer asked r + n) (told_counts asked rs) ∙ count_one asked r (filter (is_told asked) rs) (is_told asked r)
 
 replies_are : (a : AlongState) (e : Entry) → replies_along a e ≡ filter (is_told (asked_along a e)) e.effects.replies
 unfolding told_effects
@@ -43,9 +44,9 @@ pub step_texts : (m : ℕ) (a : AlongState) (e : Entry) (asked : Option ℕ) (to
 step_texts m a e asked told first last whole asked_is told_is replies lines =
     lines
     ∙ ap₂ (λ bs t. bs ++ as_bytes (told_lines m t))
-      (replies ∙ ap (λ bs. first ++ bs) (ap (λ n. flat_map (answer_text m n) e.effects.replies) asked_is ∙ told_texts m (asked_along a e) e.effects.replies
-          ∙ ap (class_text m (λ x. answer_words x)) (sym (replies_are a e))))
-      told_is
+    (replies ∙ ap (λ bs. first ++ bs) (ap (λ n. flat_map (answer_text m n) e.effects.replies) asked_is ∙ told_texts m (asked_along a e) e.effects.replies
+    ∙ ap (class_text m (λ x. answer_words x)) (sym (replies_are a e))))
+    told_is
     ∙ append_assoc first (class_text m (λ x. answer_words x) (replies_along a e)) (as_bytes (told_lines m (told_along a e)))
 
 pub step_counts : (a : AlongState) (e : Entry) (asked : Option ℕ) (told : Told) (replies lines all : ℕ) → asked ≡ asked_along a e → told ≡ told_along a e
@@ -53,8 +54,8 @@ pub step_counts : (a : AlongState) (e : Entry) (asked : Option ℕ) (told : Told
 step_counts a e asked told replies lines all asked_is told_is replies_is lines_is is =
     is
     ∙ ap₂ (λ k n. k + n)
-      (replies_is ∙ ap (λ n. sum_by (count_answer n) e.effects.replies) asked_is ∙ told_counts (asked_along a e) e.effects.replies ∙ ap length (sym (replies_are a e)))
-      (lines_is ∙ ap count_told told_is)
+    (replies_is ∙ ap (λ n. sum_by (count_answer n) e.effects.replies) asked_is ∙ told_counts (asked_along a e) e.effects.replies ∙ ap length (sym (replies_are a e)))
+    (lines_is ∙ ap count_told told_is)
 
 -- ---- a history
 
@@ -121,6 +122,10 @@ pub texts_more : (a : AlongState) (hs : List (List Entry)) (i m : ℕ) (d : List
 texts_more a hs i m d less is =
     ap (machine_texts a 0) (take_more hs i d less)
     ∙ texts_behind a 0 (take i hs) (get_or hs i d) m (omega (arith, is, less, length-take-le i hs (omega (arith, less))))
+
+pub counts_more : (a : AlongState) (hs : List (List Entry)) (i : ℕ) (d : List Entry) → i < length hs
+    → sum_by (count_replies a) (take (i + 1) hs) ≡ sum_by (count_replies a) (take i hs) + count_replies a (get_or hs i d)
+counts_more a hs i d less = sum_by_more (count_replies a) hs i d less
 
 -- What writing the line of a reply uses.
 pub ruleset replies = (reply_written)

@@ -8,7 +8,7 @@ ghost use Rattle.sl_locks.specs.Replies.{told_as};
 ghost use Rattle.sl_report.specs.Reports.{told_lines};
 ghost use Rattle.sl_text.specs.Forms.{as_bytes};
 ghost use Rattle.sl_trace.specs.EffectTexts.{answer_words, reply_text};
-ghost use Rattle.std.specs.Prelude.{IfOk, OnErr, OnOk, Some, flat_map, sum_by, [], ◌++◌, ◌∷◌, ◌≡◌};
+ghost use Rattle.std.specs.Prelude.{IfOk, OnErr, OnOk, Some, flat_map, sum_by, [], ◌++◌, ◌+◌, ◌∷◌, ◌≡◌};
 
 use sl_command::push_reply_text;
 use sl_live_locks::{Along, is_told};
@@ -51,6 +51,13 @@ fn push_reply(out: &mut Vec<u8>, machine: usize, answer: &JobReply) -> Result<()
     Ok(())
 }
 
+/// The sum. An `Err` is want of a number for it.
+fn sum(a: u64, b: u64) -> Result<u64, AllocError>
+    ensures { IfOk result (λ n. n ≡ a + b) }
+{
+    a.checked_add(b).ok_or(AllocError)
+}
+
 /// Adds the line of a reply, unless it is that to this ask: how many lines were added.
 fn push_told(
     out: &mut Vec<u8>,
@@ -82,7 +89,7 @@ fn push_replies(
     let mut count = 0u64;
     for answer in answers {
         let told = push_told(out, machine, asked, answer)?;
-        count = count.checked_add(told).ok_or(AllocError)?;
+        count = sum(count, told)?;
     }
     Ok(count)
 }
@@ -122,7 +129,6 @@ fn push_line_told(
 }
 
 /// Adds the lines of what is told of a step, by which the locks go on: how many.
-#[tactic(auto, using(crate::proofs::LiveLaws::step_texts, crate::proofs::LiveLaws::step_counts))]
 fn push_step(
     out: &mut Vec<u8>,
     machine: usize,
@@ -137,11 +143,12 @@ fn push_step(
     let replies = push_replies(out, machine, asked, entry.effects.replies.as_slice())?;
     let line = locks.step(entry)?;
     let lines = push_line_told(out, machine, &line)?;
-    replies.checked_add(lines).ok_or(AllocError)
+    let all = sum(replies, lines)?;
+    Ok(all)
 }
 
 /// Adds the lines of what is told of a history: how many.
-#[tactic(auto, using(crate::proofs::LiveLaws::history_more, crate::proofs::LiveLaws::whole_text, crate::proofs::LiveLaws::whole_count))]
+#[tactic(auto, using(crate::proofs::LiveLaws::whole_text, crate::proofs::LiveLaws::whole_count))]
 fn push_history(
     out: &mut Vec<u8>,
     machine: usize,
@@ -156,7 +163,7 @@ fn push_history(
     let mut count = 0u64;
     for index in 0..history.len() {
         let told = push_step(out, machine, &mut locks, &history[index])?;
-        count = count.checked_add(told).ok_or(AllocError)?;
+        count = sum(count, told)?;
     }
     Ok(count)
 }
@@ -176,7 +183,7 @@ fn push_machines(
     for history in histories {
         before += 1;
         let told = push_history(out, before, header, first_job, history.as_slice())?;
-        count = count.checked_add(told).ok_or(AllocError)?;
+        count = sum(count, told)?;
     }
     Ok(count)
 }

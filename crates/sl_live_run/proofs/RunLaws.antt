@@ -153,7 +153,7 @@ stop_there {D} {C} {P} {V} {A} stands commands header sites firsts olds news bef
       there = there.1;
       case_of = subst (λ t. IsLiveCase stands (begun_with commands header there.0) (begun_on header there.0) t d) texts
           (subst (λ a. IsLiveCase stands (begun_with commands header there.0) a (lines_at place given) d) (begun_there header firsts sites place there.0 numbers there.1)
-              (live_case stands (begun_with commands header there.0) (begun_at header firsts place) (lines_at place given) outcome d run so.3.1));
+          (live_case stands (begun_with commands header there.0) (begun_at header firsts place) (lines_at place given) outcome d run so.3.1));
     }
 
 pub live_stop : {D C P V A T E : Type 0} (stands : D → Setting → Trace → Type 0) (commands : Header → List (Form Command)) (header : Header) (sites : List Site) (firsts : List ℕ)

@@ -23,5 +23,5 @@ returns g c first h ground begins =
     c.run_machines-run.result.0.histories c.close-source.result.1 c.put_run.result (ap (λ s. s.given) c.new-lines.ensures) reads
     c.run_machines-run.ensures.ok c.run_machines-run.ensures.stop
     (puts_so h c.args.ground.header _ _ _ _ (λ v. v.items) c.run_machines-run.result.0.histories c.close-source.result.1 c.put_run.result ground.same
-      (subst (λ x. IfOk c.run_machines-run.result.0.histories (λ v. PutsEnded _ _ _ _ (begun_along x first_numbers.job) v.items c.close-source.result.1 c.put_run.result)) c.run_machines-run.ensures.header c.put_run.ensures.ok))
+    (subst (λ x. IfOk c.run_machines-run.result.0.histories (λ v. PutsEnded _ _ _ _ (begun_along x first_numbers.job) v.items c.close-source.result.1 c.put_run.result)) c.run_machines-run.ensures.header c.put_run.ensures.ok))
     c.put_run.ensures.stop
