@@ -194,10 +194,12 @@ one_begun {C} {P} {V} {A} ms ms' m ps p site is its so =
     ∙ sym (ap (map (λ s. Some s)) (map-append site ps (p ∷ [])) ∙ map-append (λ s. Some s) (map site ps) (site p ∷ []))
 
 -- .. and the numbers of their first jobs.
-pub first_more : {S : Type 0} (ns ns' : List ℕ) (n : ℕ) (ps : List S) (p : S) (site : S → Site) → ns' ≡ ns ++ n ∷ [] → n ≡ (site p).first.job
-    → ns ≡ map (λ s. s.first.job) (map site ps) → ns' ≡ map (λ s. s.first.job) (map site (ps ++ p ∷ []))
-first_more ns ns' n ps p site is its so =
-    is ∙ ap₂ (λ xs x. xs ++ x ∷ []) so its ∙ sym (ap (map (λ s. s.first.job)) (map-append site ps (p ∷ [])) ∙ map-append (λ s. s.first.job) (map site ps) (site p ∷ []))
+pub firsts_are : {S : Type 0} (ns : List ℕ) (ps : List S) (site : S → Site) → ns ≡ map (λ p. (site p).first.job) ps → ns ≡ map (λ s. s.first.job) (map site ps)
+firsts_are ns ps site is = is ∙ go ps
+  where
+    go : (xs : List S) → map (λ p. (site p).first.job) xs ≡ map (λ s. s.first.job) (map site xs)
+    go [] = refl
+    go (x ∷ xs) = ap (λ rest. (site x).first.job ∷ rest) (go xs)
 
 -- ---- what machines came to
 

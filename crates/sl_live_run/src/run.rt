@@ -70,8 +70,22 @@ struct Begun<C: Clock, P: Spawner, V: Device, A: Area> {
     firsts: Vec<u64>,
 }
 
+/// The numbers of their first jobs. An `Err` is want of memory.
+fn first_jobs<V: LiveDevices>(
+    alloc: Global,
+    prepared: &[Prepared<V>],
+) -> Result<Vec<u64>, AllocError>
+    ensures { IfOk result (λ firsts. firsts.items ≡ map (λ p. p.site.first.job) prepared.now) }
+{
+    let mut firsts = Vec::new(alloc);
+    for ready in prepared {
+        firsts.push(ready.site.first.job)?;
+    }
+    Ok(firsts)
+}
+
 /// Makes the machines of these. An `Err` is want of memory.
-#[tactic(auto, using(crate::proofs::GivenLaws::no_lines, crate::proofs::GivenLaws::one_more, crate::proofs::RunLaws::one_begun))]
+#[tactic(auto, using(crate::proofs::GivenLaws::no_lines, crate::proofs::GivenLaws::one_more, crate::proofs::RunLaws::one_begun, crate::proofs::RunLaws::firsts_are))]
 fn begin<V: LiveDevices>(
     alloc: Global,
     prepared: Vec<Prepared<V>>,
@@ -80,17 +94,15 @@ fn begin<V: LiveDevices>(
     ensures given { IfOk result (λ b. AreGiven b.given (length b.machines.items) []) }
     ensures firsts { IfOk result (λ b. b.firsts.items ≡ map (λ s. s.first.job) (map (λ p. p.site) prepared.items)) }
 {
+    let firsts = first_jobs(alloc, &prepared)?;
     let mut machines = Vec::new(alloc);
     let mut posts = Vec::new(alloc);
-    let mut firsts = Vec::new(alloc);
     let mut given = Given::new(alloc);
     for ready in prepared {
         let Prepared { site, parts } = ready;
         machines.reserve(1)?;
         posts.reserve(1)?;
-        firsts.reserve(1)?;
         given.add(alloc)?;
-        firsts.push_reserved(site.first.job);
         posts.push_reserved(Post::new(alloc, site.first.job));
         machines.push_reserved(Machine::new(alloc, site, parts));
     }

@@ -1,5 +1,5 @@
 use Rattle.sl_live_run.proofs.GivenLaws.{one_more}
-use Rattle.sl_live_run.proofs.RunLaws.{first_more, one_begun, pushed, site_there}
+use Rattle.sl_live_run.proofs.RunLaws.{one_begun, pushed, site_there}
 use Rattle.sl_live_run.proofs.run.begin.Goals as goal
 
 pub loop-ready-preserved : goal.loop-ready-preserved
@@ -11,5 +11,4 @@ loop-ready-preserved g c =
       machines = one_begun c.loop-ready.machines.items c.push_reserved-in-loop-ready.new.self.items c.new-in-loop-ready.result c.loop-ready.yielded c.in-Some.ready (λ p. p.site) more
           (site_there c.new-in-loop-ready.result _ c.new-in-loop-ready.ensures) i.machines;
       given = one_more c.loop-ready.given c.add.new.self c.loop-ready.machines.items c.push_reserved-in-loop-ready.new.self.items c.new-in-loop-ready.result c.in_ok-add.ensures more i.given;
-      firsts = first_more c.loop-ready.firsts.items _ _ c.loop-ready.yielded c.in-Some.ready (λ p. p.site) ? refl i.firsts;
     }

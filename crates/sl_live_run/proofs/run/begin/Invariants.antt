@@ -7,5 +7,4 @@ abbrev pub invariant-loop-ready : goal.invariant-loop-ready
 invariant-loop-ready g l = record {
   machines : map site_of l.machines.items ≡ map (λ s. Some s) (map (λ p. p.site) l.yielded);
   given : AreGiven l.given (length l.machines.items) [];
-  firsts : l.firsts.items ≡ map (λ s. s.first.job) (map (λ p. p.site) l.yielded);
 }
