@@ -79,6 +79,9 @@ pub fn push_outcome(
     if is_due(case, outcome) {
         return out.extend_from_slice(b", as due\n");
     }
+    if case.calm && outcome.output.ends_with(b" conflicts 0\n") {
+        return out.extend_from_slice(b", no conflict\n");
+    }
     out.push(b'\n')?;
     out.extend_from_slice(&outcome.output)
 }
