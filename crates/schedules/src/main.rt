@@ -30,7 +30,7 @@ use std::time::Clock;
 const AREA: u64 = 1_048_576;
 
 /// Disks of zeros in memory, of each of which this call fails.
-fn disks<R: Wait + Clock + Copy + Drop>(
+fn disks<R: Wait + Clock + Copy + Drop + Send + Sync>(
     rt: R,
     alloc: Global,
     call: u64,
