@@ -2,15 +2,15 @@
 use Rattle.sl_kept.specs.Changes.{disowned}
 use Rattle.sl_kept.specs.Kept.{FlightState}
 use Rattle.sl_machine.proofs.FlightLaws.{Falls, falls_at}
-use Rattle.sl_machine.specs.Flights.{ended_number, in_order, is_older, is_uncut, late_cut, late_of, no_later, numbered, oldest}
+use Rattle.sl_machine.specs.Flights.{ended_number, in_order, is_older, late_cut, late_of, no_later, numbered, oldest}
 use Rattle.sl_words.proofs.CaseLaws.{false_is_true, none_some, some_value}
 use Rattle.sl_words.proofs.WordLaws.{and_true}
-use Rattle.sl_words.specs.Words.{least, some_is}
+use Rattle.sl_words.specs.Words.{least}
 use Rattle.std.proofs.Common.{ap, ap₂, arith, get_or, refl, subst, sym, ◌∙◌}
 use Rattle.std.proofs.lemmas.Bool.Decides.{nat_tests}
 use Rattle.std.proofs.lemmas.Option.{slice_get-get_or}
 use Rattle.std.specs.List.{cons_option, list_all, remove, slice_set}
-use Rattle.std.specs.Prelude.{Bool, List, None, Option, Some, drop, false, filter, filter_map, is_none, length, map, min, nat_le, not, option_and_then, slice_get, suc, true, zero, [], ℕ, ◌&&◌, ◌-◌, ◌<◌, ◌∷◌, ◌≡◌, ◌||◌}
+use Rattle.std.specs.Prelude.{Bool, List, None, Option, Some, drop, false, filter, filter_map, length, map, min, not, option_and_then, slice_get, suc, true, zero, [], ℕ, ◌&&◌, ◌-◌, ◌<◌, ◌∷◌, ◌≡◌, ◌||◌}
 
 -- ---- tests of all elements
 
