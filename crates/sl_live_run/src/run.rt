@@ -92,7 +92,7 @@ fn begin<V: LiveDevices>(
 ) -> Result<Begun<V::Clock, V::Spawner, V::Device, V::Area>, AllocError>
     ensures machines { IfOk result (λ b. map site_of b.machines.items ≡ map (λ s. Some s) (map (λ p. p.site) prepared.items)) }
     ensures given { IfOk result (λ b. AreGiven b.given (length b.machines.items) []) }
-    ensures firsts { IfOk result (λ b. b.firsts.items ≡ map (λ s. s.first.job) (map (λ p. p.site) prepared.items)) }
+    ensures firsts { IfOk result (λ b. b.firsts.items ≡ map (λ (s : SiteOf). s.first.job) (map (λ p. p.site) prepared.items)) }
 {
     let firsts = first_jobs(alloc, &prepared)?;
     let mut machines = Vec::new(alloc);
@@ -339,9 +339,9 @@ fn run_begun<
 ) -> LiveRun<A>
     requires settings { All (CanRun D.Daemon.commands header.now) begun.machines.items }
     requires given { AreGiven begun.given (length begun.machines.items) [] }
-    ensures ok { (sites : List SiteOf) → map site_of begun.machines.items ≡ map (λ s. Some s) sites → begun.firsts.items ≡ map (λ s. s.first.job) sites
+    ensures ok { (sites : List SiteOf) → map site_of begun.machines.items ≡ map (λ s. Some s) sites → begun.firsts.items ≡ map (λ (s : SiteOf). s.first.job) sites
         → IfOk result.histories (λ hs. AreLiveHistories D.Daemon.stands D.Daemon.commands header.now sites (L.given lines.old) (L.given lines.new) hs.items) }
-    ensures stop { (sites : List SiteOf) → map site_of begun.machines.items ≡ map (λ s. Some s) sites → begun.firsts.items ≡ map (λ s. s.first.job) sites
+    ensures stop { (sites : List SiteOf) → map site_of begun.machines.items ≡ map (λ s. Some s) sites → begun.firsts.items ≡ map (λ (s : SiteOf). s.first.job) sites
         → IfErr result.histories (IsLiveStop D.Daemon.stands D.Daemon.commands header.now sites (L.given lines.old) (L.given lines.new)) }
 {
     let Begun {
