@@ -95,7 +95,7 @@ line_given_to given m machines line ls l says so = go (m == 0) refl
         let back : m ≡ (m - 1) + 1 = grind (arith, is) in
         given_at given (m - 1) machines line ls l (subst (λ n. Says n line l) back says) so
 
-line_of : Option (ℕ × GivenLine) → ℕ → List GivenLine
+abbrev line_of : Option (ℕ × GivenLine) → ℕ → List GivenLine
 line_of o k = elim o as (λ x. List GivenLine) [ None ↦ [] | Some g ↦ if g.0 == k then g.1 ∷ [] else [] ]
 
 pub some_given : (given given' : List (List GivenLine)) (machines m : ℕ) (line : GivenLine) (ls : List LiveLine) (l : LiveLine) (o : Option (ℕ × GivenLine)) → o ≡ given_by l

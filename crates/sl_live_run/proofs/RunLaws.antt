@@ -195,7 +195,7 @@ one_begun {C} {P} {V} {A} ms ms' m ps p site is its so =
 
 -- .. and the numbers of their first jobs.
 pub firsts_are : {S : Type 0} (ns : List ℕ) (ps : List S) (site : S → Site) → ns ≡ map (λ p. (site p).first.job) ps → ns ≡ map (λ (s : Site). s.first.job) (map site ps)
-firsts_are ns ps site is = is ∙ go ps
+firsts_are {S} ns ps site is = is ∙ go ps
   where
     go : (xs : List S) → map (λ p. (site p).first.job) xs ≡ map (λ (s : Site). s.first.job) (map site xs)
     go [] = refl

@@ -303,19 +303,19 @@ fn take_apart<C: Clock, P: Spawner, V: Device, A: Area>(
 fn histories_of(
     alloc: Global,
     header: &Header,
-    firsts: &[u64],
+    firsts: Vec<u64>,
     failed: bool,
     told: &Result<Option<NoLine>, AllocError>,
     outcomes: Vec<Outcome>,
     given: &Given,
 ) -> Result<Vec<Seq<Entry>>, LiveStop>
-    ensures ok { IfOk result (λ hs. IsOk told.now × AreSettled (begun_at header.now firsts.now) outcomes.items given.now hs.items) }
-    ensures err { IfErr result (λ stop. (stop ≡ NoMemoryStop) ⊎ (IsOk told.now × StopsSome (begun_at header.now firsts.now) outcomes.items given.now stop)) }
+    ensures ok { IfOk result (λ hs. IsOk told.now × AreSettled (begun_at header.now firsts.items) outcomes.items given.now hs.items) }
+    ensures err { IfErr result (λ stop. (stop ≡ NoMemoryStop) ⊎ (IsOk told.now × StopsSome (begun_at header.now firsts.items) outcomes.items given.now stop)) }
 {
     if failed || told.is_err() {
         return Err(LiveStop::NoMemory);
     }
-    settle_all(alloc, header, firsts, outcomes, given)
+    settle_all(alloc, header, &firsts, outcomes, given)
 }
 
 /// Runs machines that have begun.
@@ -373,7 +373,7 @@ fn run_begun<
     };
     let Left { outcomes, disks } = left;
     LiveRun {
-        histories: histories_of(alloc, header, &firsts, failed, &told, outcomes, &given),
+        histories: histories_of(alloc, header, firsts, failed, &told, outcomes, &given),
         disks,
         ended: told.unwrap_or(None),
     }
