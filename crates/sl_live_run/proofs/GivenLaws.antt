@@ -98,10 +98,10 @@ line_given_to given m machines line ls l says so = go (m == 0) refl
 abbrev line_of : Option (ℕ × GivenLine) → ℕ → List GivenLine
 line_of o k = elim o as (λ x. List GivenLine) [ None ↦ [] | Some g ↦ if g.0 == k then g.1 ∷ [] else [] ]
 
-pub some_given : (given given' : List (List GivenLine)) (machines m : ℕ) (line : GivenLine) (ls : List LiveLine) (l : LiveLine) (o : Option (ℕ × GivenLine)) → o ≡ given_by l
-    → o ≡ Some (m, line) → given' ≡ with_line m line given → AreGiven given machines ls → AreGiven given' machines (ls ++ l ∷ [])
-some_given given given' machines m line ls l o by gives is so =
-    subst (λ g. AreGiven g machines (ls ++ l ∷ [])) (sym is) (line_given_to given m machines line ls l (λ k. ap (λ x. line_of x k) (sym by ∙ gives)) so)
+pub some_given : (given given' : List (List GivenLine)) (machines : ℕ) (gift : ℕ × GivenLine) (ls : List LiveLine) (l : LiveLine) (o : Option (ℕ × GivenLine)) → o ≡ given_by l
+    → o ≡ Some gift → given' ≡ with_line gift.0 gift.1 given → AreGiven given machines ls → AreGiven given' machines (ls ++ l ∷ [])
+some_given given given' machines gift ls l o by gives is so =
+    subst (λ g. AreGiven g machines (ls ++ l ∷ [])) (sym is) (line_given_to given gift.0 machines gift.1 ls l (λ k. ap (λ x. line_of x k) (sym by ∙ gives)) so)
 
 pub none_given : (given : List (List GivenLine)) (machines : ℕ) (ls : List LiveLine) (l : LiveLine) (o : Option (ℕ × GivenLine)) → o ≡ given_by l → o ≡ None
     → AreGiven given machines ls → AreGiven given machines (ls ++ l ∷ [])

@@ -201,6 +201,10 @@ firsts_are {S} ns ps site is = is ∙ go ps
     go [] = refl
     go (x ∷ xs) = ap (λ rest. (site x).first.job ∷ rest) (go xs)
 
+pub firsts_of : {S : Type 0} (ns : List ℕ) (xs ps : List S) (site : S → Site) → xs ≡ ps → ns ≡ map (λ p. (site p).first.job) xs
+    → ns ≡ map (λ (s : Site). s.first.job) (map site ps)
+firsts_of {S} ns xs ps site same is = subst (λ ys. ns ≡ map (λ (s : Site). s.first.job) (map site ys)) same (firsts_are ns xs site is)
+
 -- ---- what machines came to
 
 pub came_none : {C P V A : Type 0} (ms : List (Machine C P V A)) (outcomes : List (Result (List Entry) CloseError)) → ms ≡ [] → outcomes ≡ [] → CameTo ms outcomes

@@ -138,8 +138,8 @@ impl Given {
         ensures { (ls : List LineOf) → (machines : ℕ) → AreGiven self.old machines ls → OnOk result (AreGiven self.new machines (ls ++ line.now ∷ [])) }
     {
         match given_by(alloc, line)? {
-            Some((machine, given)) => {
-                self.put(machine, given)?;
+            Some(gift) => {
+                self.put(gift.0, gift.1)?;
                 Ok(())
             }
             None => Ok(()),

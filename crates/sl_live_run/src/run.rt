@@ -85,7 +85,7 @@ fn first_jobs<V: LiveDevices>(
 }
 
 /// Makes the machines of these. An `Err` is want of memory.
-#[tactic(auto, using(crate::proofs::GivenLaws::no_lines, crate::proofs::GivenLaws::one_more, crate::proofs::RunLaws::one_begun, crate::proofs::RunLaws::firsts_are))]
+#[tactic(auto, using(crate::proofs::GivenLaws::no_lines, crate::proofs::GivenLaws::one_more, crate::proofs::RunLaws::one_begun))]
 fn begin<V: LiveDevices>(
     alloc: Global,
     prepared: Vec<Prepared<V>>,
