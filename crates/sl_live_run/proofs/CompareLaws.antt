@@ -4,12 +4,13 @@ use Rattle.sl_cell.specs.declared.audit.CloseError.{CloseError}
 use Rattle.sl_live_audit.specs.Audited.{AreLines, IsAnswered, IsUnanswered, LineDiffers}
 use Rattle.sl_live_audit.specs.declared.unanswered.Unanswered.TheVariants.{Call as CallLeft, Start as StartLeft}
 use Rattle.sl_live_audit.specs.declared.unanswered.Unanswered.{Unanswered}
-use Rattle.sl_live_locks.specs.Alongs.{AlongState}
+use Rattle.sl_live_locks.specs.Alongs.{AlongState, begun_along}
 use Rattle.sl_live_locks.specs.declared.line.GivenLine.{GivenLine}
-use Rattle.sl_live_run.specs.Runs.{AreSettled, HistoryDiffers, IsStopOf, StopsSome, left_case, stop_of, lines_at}
+use Rattle.sl_live_run.specs.Runs.{AreSettled, HistoryDiffers, IsStopOf, StopsSome, begun_at, first_at, left_case, lines_at, stop_of}
 use Rattle.sl_live_run.specs.declared.compare.LiveDiffer.TheVariants.{Line}
 use Rattle.sl_live_run.specs.declared.compare.LiveDiffer.{LiveDiffer}
 use Rattle.sl_live_run.specs.declared.compare.LiveStop.{LiveStop}
+use Rattle.sl_run.specs.declared.header.Header.{Header}
 use Rattle.sl_plain.proofs.Lists.{got_before}
 use Rattle.sl_plain.proofs.Places.{Came, PlacedBehind, Stood, last_there, placed_behind}
 use Rattle.sl_trace.specs.declared.effects.Entry.{Entry}
@@ -67,6 +68,13 @@ settled_more begun given outcomes hs hs' outcome h is ok lines answered so = sub
           subst (λ n. AreLines (begun n) x (lines_at n given)) (sym here) (subst (λ y. AreLines (begun (length hs)) y (lines_at (length hs) given)) (sym same) lines),
           subst IsAnswered (sym same) answered,
         )
+
+-- The lines of the machine at a place are those due there, by locks that begin as they do there.
+pub lines_settled : (header : Header) (firsts : List ℕ) (given : List (List GivenLine)) (place n first : ℕ) (due : List GivenLine) (h : List Entry) → first ≡ first_at firsts place
+    → due ≡ lines_at place given → place ≡ n → AreLines (begun_along header first) h due → AreLines (begun_at header firsts n) h (lines_at n given)
+lines_settled header firsts given place n first due h first_is due_is same so =
+    subst (λ k. AreLines (begun_at header firsts k) h (lines_at k given)) same
+    (subst (λ x. AreLines (begun_along header x) h (lines_at place given)) first_is (subst (λ d. AreLines (begun_along header first) h d) due_is so))
 
 -- The next machine stops all.
 pub stops_here : (begun : ℕ → AlongState) (given : List (List GivenLine)) (all outcomes : List (Result (List Entry) CloseError)) (hs : List (List Entry)) (outcome : Result (List Entry) CloseError)

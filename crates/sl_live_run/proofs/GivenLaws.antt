@@ -1,9 +1,7 @@
 -- What is kept of the script's lines, one line more at a time.
-use Rattle.sl_live_lines.specs.declared.line.LiveLine.TheVariants.{Command, Exits, Locks, Post}
 use Rattle.sl_live_lines.specs.declared.line.LiveLine.{LiveLine}
-use Rattle.sl_live_locks.specs.declared.line.GivenLine.TheVariants.{ForHost, ForLocks}
 use Rattle.sl_live_locks.specs.declared.line.GivenLine.{GivenLine}
-use Rattle.sl_live_run.specs.Runs.{AreGiven, HasTold, line_for, lines_for, with_line, with_line_at}
+use Rattle.sl_live_run.specs.Runs.{AreGiven, HasTold, given_by, line_for, lines_for, with_line, with_line_at}
 use Rattle.sl_plain.proofs.Lists.{got_index, set_length, there_is}
 use Rattle.sl_plain.proofs.Places.{Came, PlacedAt, PlacedBehind, Replaced, Stayed, Stood, placed, placed_behind}
 use Rattle.sl_words.proofs.CaseLaws.{none_some}
@@ -12,7 +10,7 @@ use Rattle.std.proofs.lemmas.Bool.Decides.{nat_tests}
 use Rattle.std.proofs.lemmas.List.Concat.{flat_map-append}
 use Rattle.std.proofs.lemmas.List.{append-nil, length-append}
 use Rattle.std.specs.List.{slice_set}
-use Rattle.std.specs.Prelude.{Bool, Err, IsErrAnd, Ok, OnOk, Result, Some, false, slice_get, true}
+use Rattle.std.specs.Prelude.{Bool, Err, None, Option, IsErrAnd, Ok, OnOk, Result, Some, false, slice_get, true}
 
 lines_push : (k : ℕ) (ls : List LiveLine) (l : LiveLine) → lines_for k (ls ++ l ∷ []) ≡ lines_for k ls ++ line_for k l
 lines_push k ls l = flat_map-append (line_for k) ls (l ∷ []) ∙ ap (λ t. lines_for k ls ++ t) (append-nil (line_for k l))
@@ -26,9 +24,9 @@ inside (y ∷ xs) (suc k) x at = let rest = inside xs k x at in omega (arith, re
 not_given : (k : ℕ) (ls : List LiveLine) (l : LiveLine) (texts : List GivenLine) → line_for k l ≡ [] → texts ≡ lines_for k ls → texts ≡ lines_for k (ls ++ l ∷ [])
 not_given k ls l texts none is = is ∙ sym (append-nil (lines_for k ls)) ∙ ap (λ t. lines_for k ls ++ t) (sym none) ∙ sym (lines_push k ls l)
 
-none_given : (given : List (List GivenLine)) (machines : ℕ) (ls : List LiveLine) (l : LiveLine) → ((k : ℕ) → line_for k l ≡ []) → AreGiven given machines ls
+nothing_given : (given : List (List GivenLine)) (machines : ℕ) (ls : List LiveLine) (l : LiveLine) → ((k : ℕ) → line_for k l ≡ []) → AreGiven given machines ls
     → AreGiven given machines (ls ++ l ∷ [])
-none_given given machines ls l none so = record {
+nothing_given given machines ls l none so = record {
   counted = so.counted;
   each = λ place texts at. not_given (place + 1) ls l texts (none (place + 1)) (so.each place texts at);
 }
@@ -97,23 +95,17 @@ line_given_to given m machines line ls l says so = go (m == 0) refl
         let back : m ≡ (m - 1) + 1 = grind (arith, is) in
         given_at given (m - 1) machines line ls l (subst (λ n. Says n line l) back says) so
 
-pub command_given : (given given' : List (List GivenLine)) (m machines : ℕ) (text : List ℕ) (ls : List LiveLine) → given' ≡ with_line m (ForHost text) given
-    → AreGiven given machines ls → AreGiven given' machines (ls ++ Command m text ∷ [])
-command_given given given' m machines text ls is so =
-    subst (λ g. AreGiven g machines (ls ++ Command m text ∷ [])) (sym is) (line_given_to given m machines (ForHost text) ls (Command m text) (λ k. refl) so)
+abbrev line_of : Option (ℕ × GivenLine) → ℕ → List GivenLine
+line_of o k = elim o as (λ x. List GivenLine) [ None ↦ [] | Some g ↦ if g.0 == k then g.1 ∷ [] else [] ]
 
-pub post_given : (given given' : List (List GivenLine)) (m machines : ℕ) (text : List ℕ) (ls : List LiveLine) → given' ≡ with_line m (ForHost text) given
-    → AreGiven given machines ls → AreGiven given' machines (ls ++ Post m text ∷ [])
-post_given given given' m machines text ls is so =
-    subst (λ g. AreGiven g machines (ls ++ Post m text ∷ [])) (sym is) (line_given_to given m machines (ForHost text) ls (Post m text) (λ k. refl) so)
+pub some_given : (given given' : List (List GivenLine)) (machines : ℕ) (gift : ℕ × GivenLine) (ls : List LiveLine) (l : LiveLine) (o : Option (ℕ × GivenLine)) → o ≡ given_by l
+    → o ≡ Some gift → given' ≡ with_line gift.0 gift.1 given → AreGiven given machines ls → AreGiven given' machines (ls ++ l ∷ [])
+some_given given given' machines gift ls l o by gives is so =
+    subst (λ g. AreGiven g machines (ls ++ l ∷ [])) (sym is) (line_given_to given gift.0 machines gift.1 ls l (λ k. ap (λ x. line_of x k) (sym by ∙ gives)) so)
 
-pub locks_given : (given given' : List (List GivenLine)) (m machines : ℕ) (text : List ℕ) (ls : List LiveLine) → given' ≡ with_line m (ForLocks text) given
-    → AreGiven given machines ls → AreGiven given' machines (ls ++ Locks m text ∷ [])
-locks_given given given' m machines text ls is so =
-    subst (λ g. AreGiven g machines (ls ++ Locks m text ∷ [])) (sym is) (line_given_to given m machines (ForLocks text) ls (Locks m text) (λ k. refl) so)
-
-pub exits_given : (given : List (List GivenLine)) (m p machines : ℕ) (ls : List LiveLine) → AreGiven given machines ls → AreGiven given machines (ls ++ Exits m p ∷ [])
-exits_given given m p machines ls so = none_given given machines ls (Exits m p) (λ k. refl) so
+pub none_given : (given : List (List GivenLine)) (machines : ℕ) (ls : List LiveLine) (l : LiveLine) (o : Option (ℕ × GivenLine)) → o ≡ given_by l → o ≡ None
+    → AreGiven given machines ls → AreGiven given machines (ls ++ l ∷ [])
+none_given given machines ls l o by gives so = nothing_given given machines ls l (λ k. ap (λ x. line_of x k) (sym by ∙ gives)) so
 
 -- ---- before the first line
 

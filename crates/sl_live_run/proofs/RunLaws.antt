@@ -86,15 +86,15 @@ told_well machines before after given (Ok t) ok so = so.texts
 told_well machines before after given (Err e) ok so = absurd (search rules)
 
 -- The locks of the machine at a place begin as its site says.
-begun_there : (header : Header) (firsts : List ℕ) (sites : List Site) (place : ℕ) (site : Site) → firsts ≡ map (λ s. s.first.job) sites → slice_get sites place ≡ Some site
+begun_there : (header : Header) (firsts : List ℕ) (sites : List Site) (place : ℕ) (site : Site) → firsts ≡ map (λ (s : Site). s.first.job) sites → slice_get sites place ≡ Some site
     → begun_at header firsts place ≡ begun_on header site
 begun_there header firsts sites place site numbers at =
     ap (λ (o : Option ℕ). begun_along header (elim o as (λ x. ℕ) [ None ↦ 0 | Some first ↦ first ]))
-    (ap (λ (ns : List ℕ). slice_get ns place) numbers ∙ map_got (λ s. s.first.job) sites place site at)
+    (ap (λ (ns : List ℕ). slice_get ns place) numbers ∙ map_got (λ (s : Site). s.first.job) sites place site at)
 
 pub live_histories : {D C P V A T E : Type 0} (stands : D → Setting → Trace → Type 0) (commands : Header → List (Form Command)) (header : Header) (sites : List Site) (firsts : List ℕ)
     (olds news : List (Machine C P V A)) (before after : List LiveLine) (given : List (List GivenLine)) (outcomes : List (Result (List Entry) CloseError)) (hs : List (List Entry))
-    (told : Result T E) → map site_of olds ≡ map (λ s. Some s) sites → firsts ≡ map (λ s. s.first.job) sites → length news ≡ length olds
+    (told : Result T E) → map site_of olds ≡ map (λ s. Some s) sites → firsts ≡ map (λ (s : Site). s.first.job) sites → length news ≡ length olds
     → ((k : ℕ) → (d : Machine C P V A) → k < length olds → Runs commands stands header (slice_index_or olds k d) (slice_index_or news k d)) → outcomes ≡ map outcome_of news
     → HasTold (length olds) before after given told → IsOk told → AreSettled (begun_at header firsts) outcomes given hs → AreLiveHistories stands commands header sites before after hs
 live_histories {D} {C} {P} {V} {A} stands commands header sites firsts olds news before after given outcomes hs told same numbers len each came tells ok so = record {
@@ -128,7 +128,7 @@ live_case stands st a due (Err e) d run is =
 
 stop_there : {D C P V A T E : Type 0} (stands : D → Setting → Trace → Type 0) (commands : Header → List (Form Command)) (header : Header) (sites : List Site) (firsts : List ℕ)
     (olds news : List (Machine C P V A)) (before after : List LiveLine) (given : List (List GivenLine)) (outcomes : List (Result (List Entry) CloseError)) (stop : LiveStop)
-    (told : Result T E) → map site_of olds ≡ map (λ s. Some s) sites → firsts ≡ map (λ s. s.first.job) sites → length news ≡ length olds
+    (told : Result T E) → map site_of olds ≡ map (λ s. Some s) sites → firsts ≡ map (λ (s : Site). s.first.job) sites → length news ≡ length olds
     → ((k : ℕ) → (d : Machine C P V A) → k < length olds → Runs commands stands header (slice_index_or olds k d) (slice_index_or news k d)) → outcomes ≡ map outcome_of news
     → HasTold (length olds) before after given told → IsOk told → StopsSome (begun_at header firsts) outcomes given stop → IsLiveStop stands commands header sites before after stop
 stop_there stands commands header sites firsts olds news before after given outcomes NoMemory told same numbers len each came tells ok so = tt
@@ -158,7 +158,7 @@ stop_there {D} {C} {P} {V} {A} stands commands header sites firsts olds news bef
 
 pub live_stop : {D C P V A T E : Type 0} (stands : D → Setting → Trace → Type 0) (commands : Header → List (Form Command)) (header : Header) (sites : List Site) (firsts : List ℕ)
     (olds news : List (Machine C P V A)) (before after : List LiveLine) (given : List (List GivenLine)) (outcomes : List (Result (List Entry) CloseError)) (stop : LiveStop)
-    (told : Result T E) → map site_of olds ≡ map (λ s. Some s) sites → firsts ≡ map (λ s. s.first.job) sites → length news ≡ length olds
+    (told : Result T E) → map site_of olds ≡ map (λ s. Some s) sites → firsts ≡ map (λ (s : Site). s.first.job) sites → length news ≡ length olds
     → ((k : ℕ) → (d : Machine C P V A) → k < length olds → Runs commands stands header (slice_index_or olds k d) (slice_index_or news k d)) → outcomes ≡ map outcome_of news
     → HasTold (length olds) before after given told → (stop ≡ NoMemory) ⊎ (IsOk told × StopsSome (begun_at header firsts) outcomes given stop) → IsLiveStop stands commands header sites before after stop
 live_stop stands commands header sites firsts olds news before after given outcomes stop told same numbers len each came tells (inl is) =
@@ -194,12 +194,16 @@ one_begun {C} {P} {V} {A} ms ms' m ps p site is its so =
     ∙ sym (ap (map (λ s. Some s)) (map-append site ps (p ∷ [])) ∙ map-append (λ s. Some s) (map site ps) (site p ∷ []))
 
 -- .. and the numbers of their first jobs.
-pub firsts_are : {S : Type 0} (ns : List ℕ) (ps : List S) (site : S → Site) → ns ≡ map (λ p. (site p).first.job) ps → ns ≡ map (λ s. s.first.job) (map site ps)
-firsts_are ns ps site is = is ∙ go ps
+pub firsts_are : {S : Type 0} (ns : List ℕ) (ps : List S) (site : S → Site) → ns ≡ map (λ p. (site p).first.job) ps → ns ≡ map (λ (s : Site). s.first.job) (map site ps)
+firsts_are {S} ns ps site is = is ∙ go ps
   where
-    go : (xs : List S) → map (λ p. (site p).first.job) xs ≡ map (λ s. s.first.job) (map site xs)
+    go : (xs : List S) → map (λ p. (site p).first.job) xs ≡ map (λ (s : Site). s.first.job) (map site xs)
     go [] = refl
     go (x ∷ xs) = ap (λ rest. (site x).first.job ∷ rest) (go xs)
+
+pub firsts_of : {S : Type 0} (ns : List ℕ) (xs ps : List S) (site : S → Site) → xs ≡ ps → ns ≡ map (λ p. (site p).first.job) xs
+    → ns ≡ map (λ (s : Site). s.first.job) (map site ps)
+firsts_of {S} ns xs ps site same is = subst (λ ys. ns ≡ map (λ (s : Site). s.first.job) (map site ys)) same (firsts_are ns xs site is)
 
 -- ---- what machines came to
 

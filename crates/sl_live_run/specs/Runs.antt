@@ -30,12 +30,16 @@ use Rattle.std.specs.Prelude.{Err, IfErr, IfOk, IfSome, List, None, Ok, OnOk, Op
 
 -- ---- what the script gives
 
--- The line that a line of the script gives to a machine.
+-- What a line of the script gives, and to which machine, if it gives anything.
+abbrev pub given_by : LiveLine → Option (ℕ × GivenLine)
+given_by (CommandLine machine text) = Some (machine, ForHost text)
+given_by (Post machine text) = Some (machine, ForHost text)
+given_by (LocksLine machine line) = Some (machine, ForLocks line)
+given_by (Exits machine process) = None
+
+-- The line that it gives to this machine.
 abbrev pub line_for : ℕ → LiveLine → List GivenLine
-line_for m (CommandLine machine text) = if machine == m then ForHost text ∷ [] else []
-line_for m (Post machine text) = if machine == m then ForHost text ∷ [] else []
-line_for m (LocksLine machine line) = if machine == m then ForLocks line ∷ [] else []
-line_for m (Exits machine process) = []
+line_for m l = elim (given_by l) [ None ↦ [] | Some g ↦ if g.0 == m then g.1 ∷ [] else [] ]
 
 -- .. that lines give, in order.
 abbrev pub lines_for : ℕ → List LiveLine → List GivenLine

@@ -1,7 +1,7 @@
 //! What the script gave to each machine.
 
 ghost use Rattle.sl_live_lines.specs.declared.line.LiveLine.{LiveLine as LineOf};
-ghost use Rattle.sl_live_run.specs.Runs.{AreGiven, lines_at, with_line, with_line_at};
+ghost use Rattle.sl_live_run.specs.Runs.{AreGiven, given_by, lines_at, with_line, with_line_at};
 ghost use Rattle.std.specs.Prelude.{IfOk, List, OnOk, [], length, ◌++◌, ◌∷◌, ◌≡◌, ℕ};
 
 use sl_live_lines::LiveLine;
@@ -52,6 +52,31 @@ impl Lines {
     }
 }
 
+/// A copy of a text. An `Err` is want of memory.
+fn copy(alloc: Global, text: &Bytes) -> Result<Bytes, AllocError>
+    ensures { IfOk result (λ copy. copy ≡ text.now) }
+{
+    Bytes::from_slice(alloc, text.as_slice())
+}
+
+/// What a line of the script gives, and to which machine, if it gives anything. An `Err` is want of memory.
+fn given_by(alloc: Global, line: &LiveLine) -> Result<Option<(u32, GivenLine)>, AllocError>
+    ensures { IfOk result (λ given. given ≡ given_by line.now) }
+{
+    match line {
+        LiveLine::Command { machine, text } => {
+            Ok(Some((*machine, GivenLine::ForHost(copy(alloc, text)?))))
+        }
+        LiveLine::Post { machine, text } => {
+            Ok(Some((*machine, GivenLine::ForHost(copy(alloc, text)?))))
+        }
+        LiveLine::Locks { machine, line } => {
+            Ok(Some((*machine, GivenLine::ForLocks(copy(alloc, line)?))))
+        }
+        LiveLine::Exits { .. } => Ok(None),
+    }
+}
+
 /// The lines that the script gave to each machine, the first machine first.
 #[derive(Drop)]
 pub(crate) struct Given {
@@ -59,9 +84,10 @@ pub(crate) struct Given {
 }
 
 impl Model for Given {
-    ghost use Rattle.std.specs.Prelude.{List, ℕ};
+    ghost use Rattle.sl_live_locks.specs.declared.line.GivenLine.{GivenLine};
+    ghost use Rattle.std.specs.Prelude.{List};
 
-    ghost Value = { List (List (List ℕ)) };
+    ghost Value = { List (List GivenLine) };
 
     ghost view = { λ g. g.machines.items };
 }
@@ -107,24 +133,16 @@ impl Given {
     }
 
     /// Keeps what a line gives. An `Err` is want of memory.
-    #[tactic(auto, using(crate::proofs::GivenLaws::command_given, crate::proofs::GivenLaws::post_given, crate::proofs::GivenLaws::locks_given, crate::proofs::GivenLaws::exits_given))]
+    #[tactic(auto, using(crate::proofs::GivenLaws::some_given, crate::proofs::GivenLaws::none_given))]
     pub(crate) fn keep(&mut self, alloc: Global, line: &LiveLine) -> Result<(), AllocError>
         ensures { (ls : List LineOf) → (machines : ℕ) → AreGiven self.old machines ls → OnOk result (AreGiven self.new machines (ls ++ line.now ∷ [])) }
     {
-        match line {
-            LiveLine::Command { machine, text } => {
-                let copy = Bytes::from_slice(alloc, text.as_slice())?;
-                self.put(*machine, GivenLine::ForHost(copy))
+        match given_by(alloc, line)? {
+            Some(gift) => {
+                self.put(gift.0, gift.1)?;
+                Ok(())
             }
-            LiveLine::Post { machine, text } => {
-                let copy = Bytes::from_slice(alloc, text.as_slice())?;
-                self.put(*machine, GivenLine::ForHost(copy))
-            }
-            LiveLine::Locks { machine, line } => {
-                let copy = Bytes::from_slice(alloc, line.as_slice())?;
-                self.put(*machine, GivenLine::ForLocks(copy))
-            }
-            LiveLine::Exits { .. } => Ok(()),
+            None => Ok(()),
         }
     }
 

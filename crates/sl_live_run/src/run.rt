@@ -85,14 +85,14 @@ fn first_jobs<V: LiveDevices>(
 }
 
 /// Makes the machines of these. An `Err` is want of memory.
-#[tactic(auto, using(crate::proofs::GivenLaws::no_lines, crate::proofs::GivenLaws::one_more, crate::proofs::RunLaws::one_begun, crate::proofs::RunLaws::firsts_are))]
+#[tactic(auto, using(crate::proofs::GivenLaws::no_lines, crate::proofs::GivenLaws::one_more, crate::proofs::RunLaws::one_begun))]
 fn begin<V: LiveDevices>(
     alloc: Global,
     prepared: Vec<Prepared<V>>,
 ) -> Result<Begun<V::Clock, V::Spawner, V::Device, V::Area>, AllocError>
     ensures machines { IfOk result (λ b. map site_of b.machines.items ≡ map (λ s. Some s) (map (λ p. p.site) prepared.items)) }
     ensures given { IfOk result (λ b. AreGiven b.given (length b.machines.items) []) }
-    ensures firsts { IfOk result (λ b. b.firsts.items ≡ map (λ s. s.first.job) (map (λ p. p.site) prepared.items)) }
+    ensures firsts { IfOk result (λ b. b.firsts.items ≡ map (λ (s : SiteOf). s.first.job) (map (λ p. p.site) prepared.items)) }
 {
     let firsts = first_jobs(alloc, &prepared)?;
     let mut machines = Vec::new(alloc);
@@ -303,19 +303,19 @@ fn take_apart<C: Clock, P: Spawner, V: Device, A: Area>(
 fn histories_of(
     alloc: Global,
     header: &Header,
-    firsts: &[u64],
+    firsts: Vec<u64>,
     failed: bool,
     told: &Result<Option<NoLine>, AllocError>,
     outcomes: Vec<Outcome>,
     given: &Given,
 ) -> Result<Vec<Seq<Entry>>, LiveStop>
-    ensures ok { IfOk result (λ hs. IsOk told.now × AreSettled (begun_at header.now firsts.now) outcomes.items given.now hs.items) }
-    ensures err { IfErr result (λ stop. (stop ≡ NoMemoryStop) ⊎ (IsOk told.now × StopsSome (begun_at header.now firsts.now) outcomes.items given.now stop)) }
+    ensures ok { IfOk result (λ hs. IsOk told.now × AreSettled (begun_at header.now firsts.items) outcomes.items given.now hs.items) }
+    ensures err { IfErr result (λ stop. (stop ≡ NoMemoryStop) ⊎ (IsOk told.now × StopsSome (begun_at header.now firsts.items) outcomes.items given.now stop)) }
 {
     if failed || told.is_err() {
         return Err(LiveStop::NoMemory);
     }
-    settle_all(alloc, header, firsts, outcomes, given)
+    settle_all(alloc, header, &firsts, outcomes, given)
 }
 
 /// Runs machines that have begun.
@@ -339,9 +339,9 @@ fn run_begun<
 ) -> LiveRun<A>
     requires settings { All (CanRun D.Daemon.commands header.now) begun.machines.items }
     requires given { AreGiven begun.given (length begun.machines.items) [] }
-    ensures ok { (sites : List SiteOf) → map site_of begun.machines.items ≡ map (λ s. Some s) sites → begun.firsts.items ≡ map (λ s. s.first.job) sites
+    ensures ok { (sites : List SiteOf) → map site_of begun.machines.items ≡ map (λ s. Some s) sites → begun.firsts.items ≡ map (λ (s : SiteOf). s.first.job) sites
         → IfOk result.histories (λ hs. AreLiveHistories D.Daemon.stands D.Daemon.commands header.now sites (L.given lines.old) (L.given lines.new) hs.items) }
-    ensures stop { (sites : List SiteOf) → map site_of begun.machines.items ≡ map (λ s. Some s) sites → begun.firsts.items ≡ map (λ s. s.first.job) sites
+    ensures stop { (sites : List SiteOf) → map site_of begun.machines.items ≡ map (λ s. Some s) sites → begun.firsts.items ≡ map (λ (s : SiteOf). s.first.job) sites
         → IfErr result.histories (IsLiveStop D.Daemon.stands D.Daemon.commands header.now sites (L.given lines.old) (L.given lines.new)) }
 {
     let Begun {
@@ -373,7 +373,7 @@ fn run_begun<
     };
     let Left { outcomes, disks } = left;
     LiveRun {
-        histories: histories_of(alloc, header, &firsts, failed, &told, outcomes, &given),
+        histories: histories_of(alloc, header, firsts, failed, &told, outcomes, &given),
         disks,
         ended: told.unwrap_or(None),
     }

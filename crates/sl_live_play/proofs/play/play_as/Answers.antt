@@ -22,6 +22,6 @@ returns g c first h ground begins =
     owes_run g.D.Daemon.stands g.D.Daemon.commands first _ _ _ _ _ _ _ _ _ h (beginnings _ _ _ _ _ h c.args.ground ground) _ _ (λ v. v.items)
     c.run_machines-run.result.0.histories c.close-source.result.1 c.put_run.result (ap (λ s. s.given) c.new-lines.ensures) reads
     c.run_machines-run.ensures.ok c.run_machines-run.ensures.stop
-    (puts_so h c.args.ground.header _ _ _ _ (λ v. v.items) c.run_machines-run.result.0.histories c.close-source.result.1 c.put_run.result ground.same
-    (subst (λ x. IfOk c.run_machines-run.result.0.histories (λ v. PutsEnded _ _ _ _ (begun_along x first_numbers.job) v.items c.close-source.result.1 c.put_run.result)) c.run_machines-run.ensures.header c.put_run.ensures.ok))
+    (puts_so h c.args.ground.header (g.K.Sink.taken c.args.sink.now) (g.K.Sink.taken c.put_run.new.sink) (g.K.Sink.faults c.args.sink.now) (g.K.Sink.faults c.put_run.new.sink) (λ v. v.items) c.run_machines-run.result.0.histories c.close-source.result.1 c.put_run.result ground.same
+    (subst (λ x. IfOk c.run_machines-run.result.0.histories (λ v. PutsEnded (g.K.Sink.taken c.args.sink.now) (g.K.Sink.taken c.put_run.new.sink) (g.K.Sink.faults c.args.sink.now) (g.K.Sink.faults c.put_run.new.sink) (begun_along x first_numbers.job) v.items c.close-source.result.1 c.put_run.result)) c.run_machines-run.ensures.header c.put_run.ensures.ok))
     c.put_run.ensures.stop
