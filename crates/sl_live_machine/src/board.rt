@@ -72,6 +72,8 @@ pub(crate) struct Board {
     answered: u64,
     /// The children that run.
     running: Vec<u32>,
+    /// The children whose exit was noted before their start.
+    ended: Vec<u32>,
     stage: Stage,
 }
 
@@ -89,6 +91,7 @@ impl Board {
             made: 0,
             answered: 0,
             running: Vec::new(alloc),
+            ended: Vec::new(alloc),
             stage: Stage::Runs,
         }
     }
@@ -227,20 +230,39 @@ impl Board {
             }
             Input::Spawned { process, ok } => {
                 if *ok {
-                    news.children = true;
-                    self.running.push(*process)?;
+                    self.note_start(news, *process)?;
                 }
                 Ok(())
             }
             Input::Exit { process } => {
                 news.script = true;
-                self.running.retain(|running| *running != *process);
-                Ok(())
+                self.note_exit(*process)
             }
             Input::Line(_) => Ok(()),
             Input::Number(_) => Ok(()),
             Input::Wake => Ok(()),
         }
+    }
+
+    /// Notes that a child was started. Turns are noted in any order, so its exit may be noted already.
+    fn note_start(&mut self, news: &mut News, process: u32) -> Result<(), AllocError> {
+        if self.ended.contains(&process) {
+            self.ended.retain(|ended| *ended != process);
+            return Ok(());
+        }
+        news.children = true;
+        self.running.push(process)?;
+        Ok(())
+    }
+
+    /// Notes that a child has exited, whose start may not be noted yet.
+    fn note_exit(&mut self, process: u32) -> Result<(), AllocError> {
+        if self.running.contains(&process) {
+            self.running.retain(|running| *running != process);
+            return Ok(());
+        }
+        self.ended.push(process)?;
+        Ok(())
     }
 
     /// Notes the calls that were made.
