@@ -99,7 +99,8 @@ fn told_beside<J: Station, K: Station, R: Wait>(
     requires setting { IsSetting K.setting }
     requires site { K.setting ≡ begun_with whole_commands begun.header begun.site }
 {
-    let second: HostCell<LiveHost, K> = HostCell::new(alloc, &begun.header, begun.site)?;
+    let Begun { header, site } = begun;
+    let second: HostCell<LiveHost, K> = HostCell::new(alloc, &header, site)?;
     told_over(rt, alloc, first, second, steps)
 }
 
@@ -117,7 +118,8 @@ fn told_of_both<J: Station, R: Wait>(
     requires other_header { IsHeader other.header }
     requires other_setting { IsSetting (begun_with whole_commands other.header other.site) }
 {
-    let first: HostCell<LiveHost, J> = HostCell::new(alloc, &begun.header, begun.site)?;
+    let Begun { header, site } = begun;
+    let first: HostCell<LiveHost, J> = HostCell::new(alloc, &header, site)?;
     told_beside::<J, Brand, R>(rt, alloc, first, other, steps)
 }
 
