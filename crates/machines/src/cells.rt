@@ -67,6 +67,36 @@ fn step<J: Station, K: Station, R: Wait>(
     }
 }
 
+/// Three seats.
+fn seats_of<J: Station>(
+    alloc: Global,
+    cell: &HostCell<LiveHost, J>,
+) -> Result<Vec<Seat>, AllocError> {
+    let mut seats = Vec::new(alloc);
+    for _ in 0..3 {
+        seats.push(cell.seat())?;
+    }
+    Ok(seats)
+}
+
+/// What steps give on two cells.
+fn given<J: Station, K: Station, R: Wait>(
+    rt: &R,
+    alloc: Global,
+    first: &HostCell<LiveHost, J>,
+    second: &HostCell<LiveHost, K>,
+    seats: &mut [Seat],
+    steps: &str,
+) -> io::Result<String> {
+    let mut text = String::new(alloc);
+    for part in steps.split(", ") {
+        let given = step(rt, alloc, first, second, seats, part)?;
+        text.push_str(given.as_str())?;
+        text.push_str(", ")?;
+    }
+    Ok(text)
+}
+
 /// What steps give on two cells, and what comes of the first cell's close with all seats but the last.
 fn told_over<J: Station, K: Station, R: Wait>(
     rt: &R,
@@ -75,15 +105,11 @@ fn told_over<J: Station, K: Station, R: Wait>(
     second: HostCell<LiveHost, K>,
     steps: &str,
 ) -> io::Result<String> {
-    let mut seats = vec![in alloc; first.seat(), first.seat(), first.seat()]?;
-    let mut text = String::new(alloc);
-    for part in steps.split(", ") {
-        let given = step(rt, alloc, &first, &second, &mut seats, part)?;
-        text.push_str(given.as_str())?;
-        text.push_str(", ")?;
-    }
+    let mut seats = seats_of(alloc, &first)?;
+    let mut text = given(rt, alloc, &first, &second, &mut seats, steps)?;
     let _left_out = seats.pop();
-    text.push_str(closed(alloc, &first.close(seats))?.as_str())?;
+    let history = first.close(seats);
+    text.push_str(closed(alloc, &history)?.as_str())?;
     Ok(text)
 }
 
