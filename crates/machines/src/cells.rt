@@ -3,14 +3,13 @@
 //! Each cell has a setting of its own, which is picked where the cell is made.
 
 ghost use Rattle.sl_daemon.specs.Daemons.{begun_with};
-ghost use Rattle.sl_host_step.specs.Serving.{whole_commands};
 ghost use Rattle.sl_run.specs.Headers.{IsHeader};
 ghost use Rattle.sl_run.specs.Lawful.{IsSetting};
 ghost use Rattle.std.specs.Prelude.{◌≡◌};
 
 use crate::opened::{Begun, begin};
 use crate::steps::{act, read_step};
-use sl_cell::{CloseError, Differ, HostCell, Seat, Station};
+use sl_cell::{CloseError, Differ, HostCell, Seat, Station, Teller};
 use sl_live_host::LiveHost;
 use sl_text::Seq;
 use sl_trace::Entry;
@@ -32,24 +31,28 @@ fn case_of(differ: &Differ) -> (&'static str, usize) {
     }
 }
 
-/// What came of a close.
-fn closed(alloc: Global, history: &Result<Seq<Entry>, CloseError>) -> Result<String, AllocError> {
-    match history {
-        Ok(history) => format!(in alloc; "agrees {}", history.as_slice().len()),
-        Err(CloseError::Differ(differ)) => {
-            let (case, number) = case_of(differ);
-            format!(in alloc; "{case} {number}")
-        }
-        Err(CloseError::NoMemory) => format!(in alloc; "no memory"),
-    }
+/// Adds what came of a close.
+fn push_closed(
+    alloc: Global,
+    history: &Result<Seq<Entry>, CloseError>,
+    text: &mut String,
+) -> io::Result<()> {
+    let (word, number) = match history {
+        Ok(history) => ("agrees", history.as_slice().len()),
+        Err(CloseError::Differ(differ)) => case_of(differ),
+        Err(CloseError::NoMemory) => ("no memory", 0),
+    };
+    let closed = format!(in alloc; "{word} {number}")?;
+    text.push_str(closed.as_str())?;
+    Ok(())
 }
 
 /// What a step gives.
-fn step<J: Station, K: Station, R: Wait>(
+fn step<D: Teller, J: Station, K: Station, R: Wait>(
     rt: &R,
     alloc: Global,
-    first: &HostCell<LiveHost, J>,
-    second: &HostCell<LiveHost, K>,
+    first: &HostCell<D, J>,
+    second: &HostCell<D, K>,
     seats: &mut [Seat],
     text: &str,
 ) -> io::Result<String> {
@@ -68,9 +71,9 @@ fn step<J: Station, K: Station, R: Wait>(
 }
 
 /// Three seats.
-fn seats_of<J: Station>(
+fn seats_of<D: Teller, J: Station>(
     alloc: Global,
-    cell: &HostCell<LiveHost, J>,
+    cell: &HostCell<D, J>,
 ) -> Result<Vec<Seat>, AllocError> {
     let mut seats = Vec::new(alloc);
     for _ in 0..3 {
@@ -79,74 +82,88 @@ fn seats_of<J: Station>(
     Ok(seats)
 }
 
-/// What steps give on two cells.
-fn given<J: Station, K: Station, R: Wait>(
+/// Adds what steps give on two cells.
+fn push_given<D: Teller, J: Station, K: Station, R: Wait>(
     rt: &R,
     alloc: Global,
-    first: &HostCell<LiveHost, J>,
-    second: &HostCell<LiveHost, K>,
+    first: &HostCell<D, J>,
+    second: &HostCell<D, K>,
     seats: &mut [Seat],
     steps: &str,
-) -> io::Result<String> {
-    let mut text = String::new(alloc);
+    text: &mut String,
+) -> io::Result<()> {
     for part in steps.split(", ") {
         let given = step(rt, alloc, first, second, seats, part)?;
         text.push_str(given.as_str())?;
         text.push_str(", ")?;
     }
-    Ok(text)
+    Ok(())
 }
 
-/// What steps give on two cells, and what comes of the first cell's close with all seats but the last.
-fn told_over<J: Station, K: Station, R: Wait>(
+/// What steps give on two cells is added, and all seats but the last are there to be closed with.
+fn used<D: Teller, J: Station, K: Station, R: Wait>(
     rt: &R,
     alloc: Global,
-    first: HostCell<LiveHost, J>,
-    second: HostCell<LiveHost, K>,
+    first: &HostCell<D, J>,
+    second: &HostCell<D, K>,
     steps: &str,
-) -> io::Result<String> {
-    let mut seats = seats_of(alloc, &first)?;
-    let mut text = given(rt, alloc, &first, &second, &mut seats, steps)?;
+    text: &mut String,
+) -> io::Result<Vec<Seat>> {
+    let mut seats = seats_of(alloc, first)?;
+    push_given(rt, alloc, first, second, &mut seats, steps, text)?;
     let _left_out = seats.pop();
-    let history = first.close(seats);
-    text.push_str(closed(alloc, &history)?.as_str())?;
-    Ok(text)
+    Ok(seats)
+}
+
+/// What steps give on two cells is added, and what comes of the first cell's close with all seats but the last.
+fn push_told<D: Teller, J: Station, K: Station, R: Wait>(
+    rt: &R,
+    alloc: Global,
+    first: HostCell<D, J>,
+    second: &HostCell<D, K>,
+    steps: &str,
+    text: &mut String,
+) -> io::Result<()> {
+    let seats = used(rt, alloc, &first, second, steps, text)?;
+    push_closed(alloc, &first.close(seats), text)
 }
 
 /// The same, where the second cell is still to be made.
-fn told_beside<J: Station, K: Station, R: Wait>(
+fn push_told_beside<D: Teller, J: Station, K: Station, R: Wait>(
     rt: &R,
     alloc: Global,
-    first: HostCell<LiveHost, J>,
+    first: HostCell<D, J>,
     begun: Begun,
     steps: &str,
-) -> io::Result<String>
+    text: &mut String,
+) -> io::Result<()>
     requires header { IsHeader begun.header }
     requires setting { IsSetting K.setting }
-    requires site { K.setting ≡ begun_with whole_commands begun.header begun.site }
+    requires site { K.setting ≡ begun_with D.Daemon.commands begun.header begun.site }
 {
     let Begun { header, site } = begun;
-    let second: HostCell<LiveHost, K> = HostCell::new(alloc, &header, site)?;
-    told_over(rt, alloc, first, second, steps)
+    let second: HostCell<D, K> = HostCell::new(alloc, &header, site)?;
+    push_told(rt, alloc, first, &second, steps, text)
 }
 
 /// The same, where both are still to be made.
-fn told_of_both<J: Station, R: Wait>(
+fn push_told_of_both<D: Teller, J: Station, R: Wait>(
     rt: &R,
     alloc: Global,
     begun: Begun,
     other: Begun,
     steps: &str,
-) -> io::Result<String>
+    text: &mut String,
+) -> io::Result<()>
     requires header { IsHeader begun.header }
     requires setting { IsSetting J.setting }
-    requires site { J.setting ≡ begun_with whole_commands begun.header begun.site }
+    requires site { J.setting ≡ begun_with D.Daemon.commands begun.header begun.site }
     requires other_header { IsHeader other.header }
-    requires other_setting { IsSetting (begun_with whole_commands other.header other.site) }
+    requires other_setting { IsSetting (begun_with D.Daemon.commands other.header other.site) }
 {
     let Begun { header, site } = begun;
-    let first: HostCell<LiveHost, J> = HostCell::new(alloc, &header, site)?;
-    told_beside::<J, Brand, R>(rt, alloc, first, other, steps)
+    let first: HostCell<D, J> = HostCell::new(alloc, &header, site)?;
+    push_told_beside::<D, J, Brand, R>(rt, alloc, first, other, steps, text)
 }
 
 /// What comes of steps on two cells of the daemon of the script `cell`.
@@ -155,5 +172,7 @@ pub fn told<R: Files + Wait + AllocGlobal + Drop>(rt: R, steps: &str) -> io::Res
     let script = fs::read(&rt, "cell.script")?;
     let begun = begin(alloc, &script)?;
     let other = begin(alloc, &script)?;
-    told_of_both::<Brand, R>(&rt, alloc, begun, other, steps)
+    let mut text = String::new(alloc);
+    push_told_of_both::<LiveHost, Brand, R>(&rt, alloc, begun, other, steps, &mut text)?;
+    Ok(text)
 }
