@@ -132,12 +132,7 @@ fn push_line(out: &mut String, line: &str, count: usize) -> Result<(), AllocErro
 }
 
 /// How a script ended, and the lines that it put out, of replies only so many words.
-fn text_of(
-    alloc: Global,
-    lived: Lived,
-    output: &[u8],
-    count: usize,
-) -> Result<String, AllocError> {
+fn text_of(alloc: Global, lived: Lived, output: &[u8], count: usize) -> Result<String, AllocError> {
     let mut out = String::from_str(alloc, ended(lived))?;
     for line in std::str::from_utf8(output).unwrap_or("no text").lines() {
         push_line(&mut out, line, count)?;
