@@ -134,7 +134,7 @@ fn push_told_beside<D: Teller, J: Station, K: Station, R: Wait>(
     alloc: Global,
     first: HostCell<D, J>,
     begun: Begun,
-    steps: &str,
+    steps: &String,
     text: &mut String,
 ) -> io::Result<()>
     requires header { IsHeader begun.header }
@@ -143,7 +143,7 @@ fn push_told_beside<D: Teller, J: Station, K: Station, R: Wait>(
 {
     let Begun { header, site } = begun;
     let second: HostCell<D, K> = HostCell::new(alloc, &header, site)?;
-    push_told(rt, alloc, first, &second, steps, text)
+    push_told(rt, alloc, first, &second, steps.as_str(), text)
 }
 
 /// The same, where both are still to be made.
@@ -152,7 +152,7 @@ fn push_told_of_both<D: Teller, J: Station, R: Wait>(
     alloc: Global,
     begun: Begun,
     other: Begun,
-    steps: &str,
+    steps: &String,
     text: &mut String,
 ) -> io::Result<()>
     requires header { IsHeader begun.header }
@@ -172,7 +172,8 @@ pub fn told<R: Files + Wait + AllocGlobal + Drop>(rt: R, steps: &str) -> io::Res
     let script = fs::read(&rt, "cell.script")?;
     let begun = begin(alloc, &script)?;
     let other = begin(alloc, &script)?;
+    let steps = String::from_str(alloc, steps)?;
     let mut text = String::new(alloc);
-    push_told_of_both::<LiveHost, Brand, R>(&rt, alloc, begun, other, steps, &mut text)?;
+    push_told_of_both::<LiveHost, Brand, R>(&rt, alloc, begun, other, &steps, &mut text)?;
     Ok(text)
 }
