@@ -28,7 +28,7 @@ use Rattle.sl_trace.specs.declared.effects.JoinStep.TheVariants.{ClaimWrite}
 use Rattle.sl_trace.specs.declared.effects.Purpose.{Purpose}
 use Rattle.sl_trace.specs.declared.effects.Spot.{Spot}
 use Rattle.sl_words.specs.Words.{is_empty, last_of, some_is}
-use Rattle.std.specs.List.{enumerate_from, list_all, list_any}
+use Rattle.std.specs.List.{enumerate_from, list_all, list_any, range_with_len}
 use Rattle.std.specs.Option.{option_map_or}
 use Rattle.std.specs.Prelude.{Bool, Err, List, None, Ok, Some, bytes_eq, false, filter, filter_map, flat_map, is_some, map, nat_le, nat_lt, not, option_map, true, [], ℕ, ◌&&◌, ◌+◌, ◌==◌, ◌||◌, ◌∷◌}
 

@@ -218,17 +218,17 @@ abbrev pub first_answer : Layout → List Submitted → Option (List ℕ)
 first_answer g [] = None
 first_answer g (m ∷ ms) = elim (is_again m) [ false ↦ None | true ↦ answer_before g ms ]
 
--- What a read gave of all blocks, a second one with the first one's answer; ms are the calls before it. A read that is to be made once
+-- What a read gave of all blocks, by whether it is a second one, what the first one gave, and its bytes. A read that is to be made once
 -- more gives nothing by itself.
+abbrev pub given_with : Layout → Bool → Option (List ℕ) → Option (List ℕ) → Option BlocksRead
+given_with g again first None = None
+given_with g false first (Some bs) = choose (not (needs_again g bs)) (read_once bs)
+given_with g true None (Some bs) = None
+given_with g true (Some before) (Some bs) = Some (record { first = Some before; last = bs })
+
+-- What a read gave of all blocks; ms are the calls before it.
 abbrev pub read_given : Layout → Submitted → List Submitted → Option BlocksRead
-read_given g m ms =
-    elim (blocks_bytes g m) [
-      | None ↦ None
-      | Some bs ↦ elim (is_again m) [
-        | true ↦ Some (record { first = answer_before g ms; last = bs })
-        | false ↦ choose (not (needs_again g bs)) (read_once bs)
-      ]
-    ]
+read_given g m ms = given_with g (is_again m) (answer_before g ms) (blocks_bytes g m)
 
 -- The blocks of hosts 1 to N that a read of the lease gave, each if there is one.
 abbrev pub blocks_given : Layout → Submitted → List Submitted → Option (List (Option Block))
