@@ -2,3 +2,4 @@ pub mod Comparing
 pub mod TraceFacts
 pub mod EvidenceFacts
 pub mod NumberFacts
+pub mod PlainReads
