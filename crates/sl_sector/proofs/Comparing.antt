@@ -3,6 +3,7 @@
 use Rattle.sl_sector.specs.contracts.sector.BlockPartialEq.TheImpl.{ghosts as block}
 use Rattle.sl_sector.specs.contracts.sector.DeltaRecPartialEq.TheImpl.{ghosts as delta}
 use Rattle.sl_sector.specs.contracts.sector.LeaderPartialEq.TheImpl.{ghosts as leader}
+use Rattle.sl_sector.specs.contracts.sector.PairBlockPartialEq.TheImpl.{ghosts as pair}
 use Rattle.sl_sector.specs.contracts.sector.Rec.{enum as record_enum}
 use Rattle.sl_sector.specs.contracts.sector.RecPartialEq.TheImpl.{ghosts as record_is}
 use Rattle.sl_sector.specs.contracts.sector.RequestPartialEq.TheImpl.{ghosts as request}
@@ -10,6 +11,7 @@ use Rattle.sl_sector.specs.contracts.sector.ValueRecPartialEq.TheImpl.{ghosts as
 use Rattle.sl_sector.specs.declared.sector.Block.{Block}
 use Rattle.sl_sector.specs.declared.sector.DeltaRec.{DeltaRec}
 use Rattle.sl_sector.specs.declared.sector.Leader.{Leader}
+use Rattle.sl_sector.specs.declared.sector.PairBlock.{PairBlock}
 use Rattle.sl_sector.specs.declared.sector.Rec.{Rec}
 use Rattle.sl_sector.specs.declared.sector.Request.{Request}
 use Rattle.sl_sector.specs.declared.sector.ValueRec.{ValueRec}
@@ -87,5 +89,8 @@ request_told a b = search rules
 value_told : (a b : ValueRec) → Decides (value.eq a b) (a ≡ b)
 value_told a b = search rules
 
+pair_told : (a b : PairBlock) → Decides (pair.eq a b) (a ≡ b)
+pair_told a b = search rules
+
 pub record_told : (a b : Rec) → Decides (record_is.eq a b) (a ≡ b)
-record_told a b = told record_enum _ (last delta_told, (last leader_told, (last block_told, (last request_told, (last value_told, tt))))) a b
+record_told a b = told record_enum _ (last delta_told, (last leader_told, (last block_told, (last request_told, (last value_told, (last pair_told, (last leader_told, tt))))))) a b
