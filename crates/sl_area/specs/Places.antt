@@ -13,7 +13,7 @@ use Rattle.sl_sector.specs.declared.sector.Request.{Request}
 use Rattle.sl_sector.specs.declared.sector.ValueRec.{ValueRec}
 use Rattle.sl_words.specs.Words.{choose, greatest, present}
 use Rattle.std.specs.List.{list_any, range_with_len}
-use Rattle.std.specs.Prelude.{Bool, List, None, Option, Result, Some, drop, false, find, if◌then◌else◌, is_none, map, nat_le, nat_lt, option_and_then, option_map, replicate, take, true, [], ℕ, ◌%◌, ◌&&◌, ◌*◌, ◌+◌, ◌-◌, ◌==◌, ◌^◌}
+use Rattle.std.specs.Prelude.{Bool, List, None, Option, Result, Some, drop, false, find, if◌then◌else◌, is_none, map, nat_le, nat_lt, option_and_then, option_map, replicate, take, true, [], ℕ, ◌%◌, ◌&&◌, ◌*◌, ◌+◌, ◌-◌, ◌/◌, ◌==◌, ◌^◌}
 
 -- Where the delta sector of an id stands.
 abbrev pub delta_offset : Layout → ℕ → ℕ → ℕ
@@ -186,6 +186,11 @@ fresh_block host = record { host = host; shared = false; lver = 0; mbal = 0; bal
 -- The same in its pair, which has such a block of turn 1 and one of turn 2.
 abbrev pub fresh_pair : ℕ → ℕ → List ℕ → List ℕ → PairBlock
 fresh_pair host turn lockspace resource = record { block = fresh_block host; turn = turn; lockspace = lockspace; resource = resource }
+
+-- Sector k of a resource's area, of those that the blocks have, before any was written: with pairs there are two for each host.
+abbrev pub fresh_block_at : Layout → List ℕ → List ℕ → ℕ → Rec
+fresh_block_at g lockspace resource k =
+    elim g.paired [ false ↦ BlockIs (fresh_block (k - 1)) | true ↦ PairIs (fresh_pair (k / 2) (1 + k % 2) lockspace resource) ]
 
 -- An id's record that was never claimed.
 abbrev pub fresh_delta : List ℕ → ℕ → DeltaRec

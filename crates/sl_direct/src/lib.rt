@@ -33,6 +33,7 @@ mod fresh;
 pub mod laws;
 mod lines;
 mod looks;
+mod upgrade;
 
 pub use action::{Action, Directed};
 pub use areas::{write_record, write_resource};
