@@ -138,7 +138,7 @@ next_offset : (base sector : ℕ) → base + sector ≡ base + sector * 1
 next_offset base sector = omega arith
 
 -- The number of a pair's sector, which is among those of blocks.
-abbrev pair_number : ℕ → Bool → ℕ
+abbrev pub pair_number : ℕ → Bool → ℕ
 pair_number id first = 2 * id + (if first then 0 else 1)
 
 among_blocks : (s : Sizes) (id : ℕ) (first : Bool) → IsHost s id → s.paired ≡ true → pair_number id first + 1 ≤ block_sectors (layout_of s) + 3

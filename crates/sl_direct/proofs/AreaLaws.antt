@@ -5,7 +5,8 @@ use Rattle.sl_area.specs.Places.{block_offset, block_sectors, delta_offset, fres
 use Rattle.sl_area.specs.Sectors.{Apart}
 use Rattle.sl_direct.proofs.DiskLaws.{AllApart, all_left, all_right, front_apart}
 use Rattle.sl_area.proofs.SizeLaws.{has_room}
-use Rattle.sl_direct.proofs.FreshLaws.{fresh_block_at_is, fresh_delta_is, leader_record_is, length-sector, no_request_is, no_value_is, resource_apart, sector_size}
+use Rattle.sl_area.proofs.FreshRecords.{fresh_block_at_is, fresh_delta_is, leader_record_is, no_request_is, no_value_is}
+use Rattle.sl_direct.proofs.FreshLaws.{length-sector, resource_apart, sector_size}
 use Rattle.sl_direct.proofs.LookLaws.{and_nothing}
 use Rattle.sl_direct.specs.Actions.{Acts, AreReadAt, Directs, IsAction, IsFront}
 use Rattle.sl_direct.specs.Disks.{HoldsFront, IsInitialised, IsOutside, Stands}
@@ -96,7 +97,7 @@ resource_stands g space name base before after is a b holds =
     let last : All stands (value ∷ leader ∷ []) = all_right stands writes (value ∷ leader ∷ []) rest in
     let each : (k : ℕ) → 1 ≤ k → k ≤ block_sectors layout → spelled_at g.sector (block_offset layout base k) after ≡ Ok (fresh_block_at layout space name (k + 1)) =
     λ k low high.
-    stands_spelled g.sector after (block_offset layout base k) (fresh_block_at layout space name (k + 1)) sized (fresh_block_at_is g space name k is a b low high)
+    stands_spelled g.sector after (block_offset layout base k) (fresh_block_at layout space name (k + 1)) sized (fresh_block_at_is g space name (k + 1) is a b (omega (arith, low)) (omega (arith, high)))
     (of_range stands block (block_sectors layout) k low high (all_left stands writes (value ∷ leader ∷ []) rest)) in
     record {
       leader = stands_spelled g.sector after base (leader_record layout (fresh_leader layout space name)) sized (leader_record_is g space name is a b)

@@ -1,8 +1,9 @@
 -- The sectors of an area that is initialised: each is of the geometry's bytes, and no two share one.
 use Rattle.sha2.specs.Sha256.{sha256}
+use Rattle.sl_area.proofs.FreshRecords.{fresh_block_at_is, fresh_delta_is, leader_record_is, no_request_is, no_value_is}
 use Rattle.sl_area.proofs.SizeLaws.{HasRoom, has_room}
 use Rattle.sl_area.specs.Layouts.{IsGeometry, Layout, Sizes, layout_of}
-use Rattle.sl_area.specs.Places.{block_offset, block_sectors, fresh_block, fresh_block_at, fresh_delta, fresh_leader, fresh_pair, leader_record, no_request, no_value, pair_offset}
+use Rattle.sl_area.specs.Places.{block_offset, block_sectors, fresh_block_at, fresh_delta, fresh_leader, leader_record, no_request, no_value, pair_offset}
 use Rattle.sl_area.specs.Sectors.{Apart, KeepsOthers}
 use Rattle.sl_direct.proofs.DiskLaws.{AllApart, BrokeOff-behind, BrokeOff-front, Wrote-append, broke_first}
 use Rattle.sl_direct.specs.FreshAreas.{Write, block_write, block_writes, delta_write, leader_write, lockspace_writes, place_of, request_write, resource_writes, value_write, write_of}
@@ -11,7 +12,7 @@ use Rattle.sl_sector.proofs.SpellingLaws.{length-spelling}
 use Rattle.sl_sector.proofs.WrittenBytes.{sha256_is_digest}
 use Rattle.sl_sector.specs.Records.{IsRecord}
 use Rattle.sl_sector.specs.Spelling.{IsSectorSize, spelling}
-use Rattle.sl_sector.specs.declared.sector.Rec.TheVariants.{BlockIs, DeltaIs, LeaderIs, PairIs, PairLeaderIs, RequestIs, ValueIs}
+use Rattle.sl_sector.specs.declared.sector.Rec.TheVariants.{DeltaIs, RequestIs, ValueIs}
 use Rattle.sl_sector.specs.declared.sector.Rec.{Rec}
 use Rattle.sl_text.specs.Names.{is_name}
 use Rattle.std.proofs.Common.{All, Bool, Err, IsTrue, List, Ok, Option, Result, [], arith, inl, inr, length, map, refl, subst, suc, sym, true, zero, ap, false, ℕ, ◌%◌, ◌*◌, ◌++◌, ◌+◌, ◌-◌, ◌/◌, ◌<◌, ◌^◌, ◌∷◌, ◌≡◌, ◌≢◌, ◌≤◌, ◌⊎◌}
@@ -65,89 +66,6 @@ leader_broke r bs v l a b c d e first second third broke =
     BrokeOff-behind (r ∷ []) (bs ++ v ∷ l ∷ []) a b e first
     (BrokeOff-behind bs (v ∷ l ∷ []) b c e second (BrokeOff-behind (v ∷ []) (l ∷ []) c d e third broke))
 
--- ---- the records have spellings
-
-nothing_less : 0 < 0 → ⊥
-nothing_less h = omega (arith, h)
-
-no_number : 0 < 2 ^ 63
-no_number = omega arith
-
-a_moment : 0 < 10 ^ 15
-a_moment = omega arith
-
-at_least_none : (n : ℕ) → 0 ≤ n
-at_least_none n = omega arith
-
-pub fresh_delta_is : (name : List ℕ) (id : ℕ) → IsTrue (is_name name) → 1 ≤ id → id ≤ 2000 → IsRecord (DeltaIs (fresh_delta name id))
-fresh_delta_is name id named low high =
-    record {
-      id = (low, high);
-      generation = no_number;
-      seq = no_number;
-      stamp = a_moment;
-      lockspace = named;
-      bitmap = (refl, refl);
-      unused = λ h. (refl, refl, refl, refl, refl);
-      used = λ h. absurd (nothing_less h);
-    }
-
-pub fresh_leader_is : (g : Sizes) (space name : List ℕ) → IsGeometry g → IsTrue (is_name space) → IsTrue (is_name name)
-    → IsRecord (LeaderIs (fresh_leader (layout_of g) space name))
-fresh_leader_is g space name is a b =
-    record {
-      hosts = (has_room g is).hosts;
-      lver = no_number;
-      generation = no_number;
-      owner = at_least_none g.hosts;
-      lockspace = a;
-      resource = b;
-      same = ((λ h. refl, λ h. refl), (λ h. refl, λ h. refl));
-      unused = λ h. refl;
-    }
-
-pub fresh_block_is : (host : ℕ) → 1 ≤ host → host ≤ 2000 → IsRecord (BlockIs (fresh_block host))
-fresh_block_is host low high =
-    record {
-      host = (low, high);
-      lver = no_number;
-      mbal = no_number;
-      bal = at_least_none 0;
-      generations = (no_number, no_number);
-      inp = at_least_none 2000;
-      value = ((λ h. refl, λ h. refl), (λ h. refl, λ h. refl));
-      mode = (λ h. refl, λ h. refl);
-      unused = λ h. (refl, refl);
-    }
-
-pub fresh_pair_is : (host turn : ℕ) (space name : List ℕ) → 1 ≤ host → host ≤ 2000 → 1 ≤ turn → turn ≤ 2 → IsTrue (is_name space) → IsTrue (is_name name)
-    → IsRecord (PairIs (fresh_pair host turn space name))
-fresh_pair_is host turn space name low high some few a b =
-    record { block = fresh_block_is host low high; turn = (some, omega (arith, few)); lockspace = a; resource = b }
-
--- What stands in the k-th of the blocks' sectors.
-pub fresh_block_at_is : (g : Sizes) (space name : List ℕ) (k : ℕ) → IsGeometry g → IsTrue (is_name space) → IsTrue (is_name name) → 1 ≤ k → k ≤ block_sectors (layout_of g)
-    → IsRecord (fresh_block_at (layout_of g) space name (k + 1))
-fresh_block_at_is g space name k is a b low high = by g.paired refl
-  where
-    hosts = (has_room g is).hosts
-    by : (paired : Bool) → g.paired ≡ paired → IsRecord (fresh_block_at (layout_of g) space name (k + 1))
-    by false e =
-        let within : k ≤ g.hosts = rw e at high in
-        rw e (fresh_block_is (k + 1 - 1) (omega (arith, low)) (omega (arith, within, hosts.1)))
-    by true e =
-        let within : k ≤ 2 * g.hosts = rw e at high in
-        rw e (fresh_pair_is ((k + 1) / 2) (1 + (k + 1) % 2) space name (omega (arith, low)) (omega (arith, within, hosts.1)) (omega arith) (omega arith) a b)
-
--- The leader of an area of either kind.
-pub leader_record_is : (g : Sizes) (space name : List ℕ) → IsGeometry g → IsTrue (is_name space) → IsTrue (is_name name)
-    → IsRecord (leader_record (layout_of g) (fresh_leader (layout_of g) space name))
-leader_record_is g space name is a b = by g.paired refl
-  where
-    by : (paired : Bool) → g.paired ≡ paired → IsRecord (leader_record (layout_of g) (fresh_leader (layout_of g) space name))
-    by false e = rw e (fresh_leader_is g space name is a b)
-    by true e = rw e (fresh_leader_is g space name is a b)
-
 -- The k-th of the sectors that the blocks have, if these are pairs.
 pub pair_of_sector : (g : Layout) (base k : ℕ) → pair_offset g base ((k + 1) / 2) (k % 2 == 1) ≡ block_offset g base k
 pair_of_sector g base k = ap (λ (n : ℕ). base + g.sector * n) (by (k % 2 == 1) refl)
@@ -155,12 +73,6 @@ pair_of_sector g base k = ap (λ (n : ℕ). base + g.sector * n) (by (k % 2 == 1
     by : (first : Bool) → (k % 2 == 1) ≡ first → 2 * ((k + 1) / 2) + (if first then 0 else 1) ≡ k + 1
     by true e = let odd : k % 2 ≡ 1 = eqb-true (k % 2) 1 e in omega (arith, odd)
     by false e = let even : k % 2 ≢ 1 = eqb-false (k % 2) 1 e in omega (arith, even)
-
-pub no_request_is : IsRecord (RequestIs no_request)
-no_request_is = record { force = at_least_none 2; host = at_least_none 2000; lver = no_number; same = (λ h. refl, λ h. refl) }
-
-pub no_value_is : IsRecord (ValueIs no_value)
-no_value_is = record { host = at_least_none 2000; lver = no_number; seq = no_number; bytes = (at_least_none 256, refl) }
 
 -- ---- the sectors are apart
 
@@ -259,7 +171,7 @@ resource_apart g space name base is a b =
     let fresh : Rec = leader_record layout (fresh_leader layout space name) in
     let fresh_block = λ (k : ℕ). fresh_block_at layout space name (k + 1) in
     let is_leader : IsRecord fresh = leader_record_is g space name is a b in
-    let is_block : (k : ℕ) → 1 ≤ k → k < 1 + sectors → IsRecord (fresh_block k) = λ k low high. fresh_block_at_is g space name k is a b low (omega (arith, high)) in
+    let is_block : (k : ℕ) → 1 ≤ k → k < 1 + sectors → IsRecord (fresh_block k) = λ k low high. fresh_block_at_is g space name (k + 1) is a b (omega (arith, low)) (omega (arith, high)) in
     let last : AllApart (value ∷ leader ∷ []) = (
       All-cons (IsApartFrom value) leader []
           (sectors_apart size _ _ (ValueIs no_value) fresh sized no_value_is is_leader (inr (first_one base size g.hosts g.area room.room))) (All-nil _),

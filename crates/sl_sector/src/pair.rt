@@ -68,6 +68,8 @@ pub(crate) fn pair_at(sector: &[u8]) -> Result<PairBlock, Bad>
     requires { 512 ≤ length sector.now }
     ensures { result ≡ under_rules (pair_rules sector.now) (pair_of sector.now) }
 {
-    let block = block_at(sector)?;
-    paired(sector, block)
+    match block_at(sector) {
+        Ok(block) => paired(sector, block),
+        Err(bad) => Err(bad),
+    }
 }
