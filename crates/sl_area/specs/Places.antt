@@ -164,9 +164,9 @@ leader_made g ps =
 -- The leader that a read of the area gives: the one that is spelled; with pairs, a torn one is made from the blocks.
 abbrev pub leader_read : Layout → List ℕ → BlocksRead → Option Leader
 leader_read g bs r =
-    elim (leader_of g bs) [
-      | Some l ↦ Some l
-      | None ↦ elim g.paired [ false ↦ None | true ↦ leader_made g (present (pairs_of g r)) ]
+    elim g.paired [
+      | false ↦ leader_of g bs
+      | true ↦ elim (leader_of g bs) [ Some l ↦ Some l | None ↦ leader_made g (present (pairs_of g r)) ]
     ]
 
 -- ---- records

@@ -171,6 +171,7 @@ header_of sector area ls =
         sector = (first_line geometry_line (sector, area) ls).0;
         area = (first_line geometry_line (sector, area) ls).1;
         hosts = first_line ids_line 0 ls;
+        paired = false;
       };
       retries = first_line retries_line 0 ls;
       clocks = filter_map clock_line ls;
