@@ -23,7 +23,7 @@ use Rattle.sl_text.specs.Forms.{as_bytes, coloned, spaced}
 use Rattle.sl_trace.specs.declared.command.ResourceArg.{ResourceArg}
 use Rattle.sl_words.specs.Words.{choose}
 use Rattle.std.specs.Io.KnownBytes.{Keeps}
-use Rattle.std.specs.Prelude.{All, Bool, Err, List, None, Ok, Option, Result, Some, codes, decimal, flat_map, if◌then◌else◌, length, replicate, reverse, suc, true, false, [], ⊤, ℕ, ◌&&◌, ◌++◌, ◌==◌, ◌∷◌, ◌≡◌, ◌⊎◌}
+use Rattle.std.specs.Prelude.{All, Bool, Err, List, None, Ok, Option, Result, Some, codes, decimal, if◌then◌else◌, length, replicate, suc, true, false, [], ⊤, ℕ, ◌&&◌, ◌++◌, ◌==◌, ◌∷◌, ◌≡◌, ◌⊎◌}
 
 -- What is kept of an area without pairs: its leader, and the blocks of hosts 1 to N.
 pub record OldArea : Type 0 where
@@ -99,11 +99,16 @@ turn_write g l base b first =
 abbrev pub pair_writes : Layout → Leader → ℕ → Block → List Write
 pair_writes g l base b = turn_write g l base b true ∷ turn_write g l base b false ∷ []
 
+-- The pairs of these hosts, from the last down to the first.
+abbrev pub pairs_down : Layout → Leader → ℕ → List Block → List Write
+pairs_down g l base [] = []
+pairs_down g l base (b ∷ bs) = pairs_down g l base bs ++ pair_writes g l base b
+
 -- Zeros over the leader, the pairs from the last host down to the first, and the leader last.
 abbrev pub upgrade_writes : Layout → ℕ → OldArea → List Write
 upgrade_writes g base old =
     zeros_write g base
-    ∷ (flat_map (pair_writes g old.leader base) (reverse old.blocks) ++ write_of g.sector (leader_offset base) (PairLeaderIs old.leader) ∷ [])
+    ∷ (pairs_down g old.leader base old.blocks ++ write_of g.sector (leader_offset base) (PairLeaderIs old.leader) ∷ [])
 
 -- ---- what is told
 
@@ -148,6 +153,15 @@ StopsBehind g base content id out TornBlock = ReadsBlock g base content id None 
 StopsBehind g base content id out AreaFault = out ≡ []
 StopsBehind g base content id out NoMemory = out ≡ []
 StopsBehind g base content id out d = ⊥
+
+-- How the writing of what was read may end.
+abbrev pub PairsUp : ResourceArg → Sizes → Leader → List Block → Option (List ℕ) → Option (List ℕ) → List ℕ → Directed → Type 0
+PairsUp r g l bs content after out Done =
+    Wrote (upgrade_writes (layout_of g) r.offset (record { leader = l; blocks = bs })) content after × (out ≡ as_bytes (upgrade_line r g.hosts ∷ []))
+PairsUp r g l bs content after out AreaFault =
+    BrokeOff (upgrade_writes (layout_of g) r.offset (record { leader = l; blocks = bs })) content after × (out ≡ [])
+PairsUp r g l bs content after out NoMemory = Keeps content after × (out ≡ [])
+PairsUp r g l bs content after out d = ⊥
 
 -- All of the area was read, and then a write failed.
 pub record BreaksOff (r : ResourceArg) (g : Sizes) (content after : Option (List ℕ)) : Type 0 where

@@ -10,15 +10,15 @@ ghost use Rattle.sl_direct.specs.Actions.{IsAction};
 ghost use Rattle.sl_direct.specs.FreshAreas.{write_of};
 ghost use Rattle.sl_direct.specs.Steps.{BrokeOff, HasActed, Wrote};
 ghost use Rattle.sl_direct.specs.Upgrades as upgrades;
-ghost use Rattle.sl_direct.specs.Upgrades.{AreOld, ReadsBlock, ReadsBlocks, ReadsLeader, StopsBehind, pair_writes, turn_write, upgrade_writes, zeros_write};
+ghost use Rattle.sl_direct.specs.Upgrades.{AreOld, PairsUp, ReadsBlock, ReadsBlocks, ReadsLeader, StopsBehind, pair_writes, pairs_down, turn_write, upgrade_writes, zeros_write};
 ghost use Rattle.sl_direct.specs.declared.action.Action.TheVariants.{Upgrade};
-ghost use Rattle.sl_direct.specs.declared.action.Directed.TheVariants.{AreaFault};
+ghost use Rattle.sl_direct.specs.declared.action.Directed.TheVariants.{AreaFault, NoMemory};
 ghost use Rattle.sl_sector.specs.Records.{IsBlock, IsLeader};
 ghost use Rattle.sl_sector.specs.declared.sector.Block.{Block};
 ghost use Rattle.sl_sector.specs.Spelling.{IsSectorSize};
 ghost use Rattle.sl_words.specs.Causes.{HasCause, Rose};
 ghost use Rattle.std.specs.Io.KnownBytes.{Keeps};
-ghost use Rattle.std.specs.Prelude.{IfErr, IfOk, All, IfSome, List, OnErr, OnOk, Some, flat_map, length, reverse, true, [], ◌+◌, ◌∷◌, ◌≡◌, ◌≤◌};
+ghost use Rattle.std.specs.Prelude.{IfErr, IfOk, All, IfSome, List, MatchResult, OnErr, OnOk, Some, if◌then◌else◌, length, true, [], ◌+◌, ◌∷◌, ◌≡◌, ◌≤◌};
 
 use crate::LONGEST_SECTOR;
 use crate::action::Directed;
@@ -69,7 +69,9 @@ fn right_leader(resource: &ResourceArg, hosts: u32, found: &Result<Leader, Bad>)
 }
 
 /// How an action ends that was told why it can't go on.
-fn refused(told: Result<(), AllocError>, refusal: Directed) -> Directed {
+fn refused(told: Result<(), AllocError>, refusal: Directed) -> Directed
+    ensures { MatchResult told (λ x. result ≡ refusal) (λ e. result ≡ NoMemory) }
+{
     match told {
         Ok(()) => refusal,
         Err(_) => Directed::NoMemory,
@@ -187,7 +189,9 @@ fn write_zeros<A: Area>(area: &mut A, geometry: Geometry, base: u64) -> Result<(
 }
 
 /// The block with its turn at an upgrade, and the names of its resource.
-fn paired(leader: &Leader, block: Block, first: bool) -> PairBlock {
+fn paired(leader: &Leader, block: Block, first: bool) -> PairBlock
+    ensures { result ≡ record { block = block; turn = if first then 1 else 2; lockspace = leader.now.lockspace; resource = leader.now.resource } }
+{
     PairBlock {
         block,
         turn: if first { 1 } else { 2 },
@@ -252,12 +256,13 @@ fn write_pairs<A: Area>(
     requires base { IsBase geometry base }
     requires leader { IsLeader leader.now }
     requires blocks { All (λ b. IsBlock b × IsHost geometry b.host) blocks.now }
-    ensures ok { OnOk result (Wrote (flat_map (pair_writes (layout_of geometry) leader.now base) (reverse blocks.now)) (A.content area.old) (A.content area.new)) }
-    ensures failed { OnErr result (BrokeOff (flat_map (pair_writes (layout_of geometry) leader.now base) (reverse blocks.now)) (A.content area.old) (A.content area.new)) }
+    ensures ok { OnOk result (Wrote (pairs_down (layout_of geometry) leader.now base blocks.now) (A.content area.old) (A.content area.new)) }
+    ensures failed { OnErr result (BrokeOff (pairs_down (layout_of geometry) leader.now base blocks.now) (A.content area.old) (A.content area.new)) }
     ensures cause { HasCause (A.faults area.old) (A.faults area.new) result }
 {
-    for block in blocks.iter().rev() {
-        write_pair(area, geometry, base, leader, *block)?;
+    for behind in 0..blocks.len() {
+        let block = blocks[blocks.len() - 1 - behind];
+        write_pair(area, geometry, base, leader, block)?;
     }
     Ok(())
 }
@@ -292,7 +297,15 @@ fn pair_up<A: Area>(
     leader: &Leader,
     blocks: &[Block],
     out: &mut Vec<u8>,
-) -> Directed {
+) -> Directed
+    requires action { IsAction (Upgrade resource.now geometry) }
+    requires leader { IsLeader leader.now }
+    requires blocks { All (λ b. IsBlock b × IsHost geometry b.host) blocks.now }
+    requires first { out.old.items ≡ [] }
+    ensures acted { PairsUp resource.now geometry leader.now blocks.now (A.content area.old) (A.content area.new) out.new.items result }
+    ensures cause { result ≡ AreaFault → Rose (A.faults area.old) (A.faults area.new) }
+    ensures later { A.faults area.old ≤ A.faults area.new }
+{
     match push_upgrade_line(out, resource, geometry) {
         Ok(()) => match write_paired(area, geometry, resource.offset, leader, blocks) {
             Ok(()) => Directed::Done,

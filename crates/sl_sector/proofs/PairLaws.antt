@@ -76,7 +76,7 @@ pair_again bs p is begins =
     let read : pair_of bs ≡ p = rw (has.read, turn.1, lockspace.2, resource.2) refl in (
       has.begins,
       ap (λ (k : ℕ). fields_of k bs) has.kind ∙ of_kind bs
-      ∙ ap (as_record PairIs) (under_held_rules (pair_rules bs) (pair_of bs) holds ∙ ap (λ (x : PairBlock). Ok x) read),
+          ∙ ap (as_record PairIs) (under_held_rules (pair_rules bs) (pair_of bs) holds ∙ ap (λ (x : PairBlock). Ok x) read),
     )
 
 -- ---- reading, the block first

@@ -63,7 +63,6 @@ fn paired(sector: &[u8], block: Block) -> Result<PairBlock, Bad>
 }
 
 /// The block of a pair that the fields give, or the first field that breaks a rule.
-#[tactic(auto, using(crate::proofs::PairLaws::block_refused, crate::proofs::PairLaws::block_paired))]
 pub(crate) fn pair_at(sector: &[u8]) -> Result<PairBlock, Bad>
     requires { 512 ≤ length sector.now }
     ensures { result ≡ under_rules (pair_rules sector.now) (pair_of sector.now) }
