@@ -6,18 +6,28 @@ use Rattle.sl_direct.proofs.DiskLaws.{BrokeOff-behind, BrokeOff-front, Wrote-app
 use Rattle.sl_direct.specs.Actions.{Acts}
 use Rattle.sl_direct.specs.FreshAreas.{Write}
 use Rattle.sl_direct.specs.Steps.{BrokeOff, HasActed, Wrote}
-use Rattle.sl_direct.specs.Upgrades.{AreOld, OldArea, PairsUp, ReadsBlock, ReadsBlocks, ReadsLeader, StopsBehind, Upgrades, pair_writes, pairs_down, torn_line, upgrade_line, upgrade_writes}
+use Rattle.sl_direct.specs.Upgrades.{AreOld, OldArea, PairsUp, ReadsBlock, ReadsBlocks, ReadsLeader, StopsBehind, Upgrades, pair_writes, pairs_down, right_leader, torn_line, upgrade_line, upgrade_writes}
 use Rattle.sl_direct.specs.declared.action.Action.TheVariants.{Upgrade}
 use Rattle.sl_direct.specs.declared.action.Directed.TheVariants.{AreaFault, Done, NoMemory, NotTheLeader, TornBlock, WriteFault}
 use Rattle.sl_direct.specs.declared.action.Directed.{Directed}
-use Rattle.sl_sector.specs.Records.{IsBlock}
+use Rattle.sha2.specs.Sha256.{sha256}
+use Rattle.sl_direct.specs.Lines.{has_names}
+use Rattle.sl_sector.specs.Records.{IsBlock, IsLeader}
+use Rattle.sl_sector.specs.Spelling.{Spells, block_in}
+use Rattle.sl_sector.specs.declared.sector.Bad.{Bad}
+use Rattle.sl_sector.specs.declared.sector.Rec.TheVariants.{BlockIs, DeltaIs, LeaderIs, PairIs, PairLeaderIs, RequestIs, ValueIs}
+use Rattle.sl_sector.specs.declared.sector.Rec.{Rec}
+use Rattle.sl_words.proofs.CaseLaws.{none_some, some_value}
+use Rattle.sl_words.specs.Words.{choose}
 use Rattle.sl_sector.specs.declared.sector.Block.{Block}
 use Rattle.sl_sector.specs.declared.sector.Leader.{Leader}
 use Rattle.sl_trace.specs.declared.command.ResourceArg.{ResourceArg}
-use Rattle.std.proofs.Common.{All, List, None, Option, Some, [], ap, append_assoc, arith, inl, inr, length, refl, subst, suc, sym, ℕ, ◌+◌, ◌++◌, ◌≡◌, ◌≤◌, ◌∙◌, ◌∷◌}
+use Rattle.std.proofs.Common.{All, Bool, Err, List, None, Ok, Option, Result, Some, [], ap, append_assoc, arith, inl, inr, length, refl, subst, suc, sym, true, false, ℕ, ◌+◌, ◌++◌, ◌≡◌, ◌≤◌, ◌∙◌, ◌∷◌}
 use Rattle.std.proofs.lemmas.List.{append-nil}
 use Rattle.std.proofs.lemmas.List.Elements.{All-append, All-cons, All-nil}
+use Rattle.std.proofs.lemmas.Bool.{eqb-true}
 use Rattle.std.specs.Io.KnownBytes.{Keeps}
+use Rattle.std.specs.Prelude.{IfOk, IfSome, ◌&&◌, ◌==◌}
 
 -- ---- what was read before
 
@@ -60,6 +70,32 @@ broke_back : (ws : List Write) (a b c : Option (List ℕ)) → Keeps a b → Bro
 broke_back ws None b c kept h = tt
 broke_back ws (Some x) None c kept h = absurd kept
 broke_back ws (Some x) (Some y) c kept h = subst (λ (z : List ℕ). BrokeOff ws (Some z) c) kept h
+
+-- ---- what was found
+
+-- A block that was found keeps its rules, and is its host's.
+pub block_kept : (bs : List ℕ) (id : ℕ) (read : Result Rec Bad) → IfOk read (λ r. Spells sha256 bs r) → IfSome (block_in id read) (λ b. IsBlock b × (b.host ≡ id))
+block_kept bs id (Ok (DeltaIs d)) spells = tt
+block_kept bs id (Ok (LeaderIs l)) spells = tt
+block_kept bs id (Ok (BlockIs b)) spells = by (b.host == id) refl
+  where
+    by : (same : Bool) → (b.host == id) ≡ same → IfSome (choose same b) (λ x. IsBlock x × (x.host ≡ id))
+    by true e = (spells.0, eqb-true b.host id e)
+    by false e = tt
+block_kept bs id (Ok (RequestIs q)) spells = tt
+block_kept bs id (Ok (ValueIs v)) spells = tt
+block_kept bs id (Ok (PairIs p)) spells = tt
+block_kept bs id (Ok (PairLeaderIs l)) spells = tt
+block_kept bs id (Err bad) spells = tt
+
+-- So does a leader.
+pub leader_kept : (r : ResourceArg) (hosts : ℕ) (found : Result Leader Bad) (l : Leader) → IfOk found (λ x. IsLeader x) → right_leader r hosts found ≡ Some l → IsLeader l
+leader_kept r hosts (Ok x) l is right = by (has_names r x && x.num_hosts == hosts) right
+  where
+    by : (same : Bool) → choose same x ≡ Some l → IsLeader l
+    by true e = subst IsLeader (some_value x l e) is
+    by false e = absurd (none_some l e)
+leader_kept r hosts (Err bad) l is right = absurd (none_some l right)
 
 -- ---- one block more
 

@@ -163,6 +163,12 @@ PairsUp r g l bs content after out AreaFault =
 PairsUp r g l bs content after out NoMemory = Keeps content after × (out ≡ [])
 PairsUp r g l bs content after out d = ⊥
 
+-- What is told where the leader's sector spells none of the resource's; or there was no memory for it.
+abbrev pub TellsOther : ResourceArg → ℕ → List ℕ → List ℕ → Directed → Type 0
+TellsOther r hosts sector out NotTheLeader = (right_leader r hosts (old_leader_in sector) ≡ None) × (out ≡ as_bytes (other_line sector ∷ []))
+TellsOther r hosts sector out NoMemory = out ≡ []
+TellsOther r hosts sector out d = ⊥
+
 -- All of the area was read, and then a write failed.
 pub record BreaksOff (r : ResourceArg) (g : Sizes) (content after : Option (List ℕ)) : Type 0 where
   pub old : OldArea

@@ -10,7 +10,7 @@ ghost use Rattle.sl_direct.specs.Actions.{IsAction};
 ghost use Rattle.sl_direct.specs.FreshAreas.{write_of};
 ghost use Rattle.sl_direct.specs.Steps.{BrokeOff, HasActed, Wrote};
 ghost use Rattle.sl_direct.specs.Upgrades as upgrades;
-ghost use Rattle.sl_direct.specs.Upgrades.{AreOld, PairsUp, ReadsBlock, ReadsBlocks, ReadsLeader, StopsBehind, pair_writes, pairs_down, turn_write, upgrade_writes, zeros_write};
+ghost use Rattle.sl_direct.specs.Upgrades.{AreOld, PairsUp, ReadsBlock, ReadsBlocks, ReadsLeader, StopsBehind, TellsOther, pair_writes, pairs_down, turn_write, upgrade_writes, zeros_write};
 ghost use Rattle.sl_direct.specs.declared.action.Action.TheVariants.{Upgrade};
 ghost use Rattle.sl_direct.specs.declared.action.Directed.TheVariants.{AreaFault, NoMemory};
 ghost use Rattle.sl_sector.specs.Records.{IsBlock, IsLeader};
@@ -47,7 +47,7 @@ fn old_leader_in(sector: &[u8]) -> Result<Leader, Bad>
 fn old_block_in(id: u32, sector: &[u8]) -> Option<Block>
     requires { IsSectorSize (length sector.now) }
     ensures exact { result ≡ upgrades.old_block_in id sector.now }
-    ensures rules { IfSome result (λ b. IsBlock b) }
+    ensures rules { IfSome result (λ b. IsBlock b × (b.host ≡ id)) }
 {
     block_in(id, decode(sector))
 }
@@ -78,6 +78,26 @@ fn refused(told: Result<(), AllocError>, refusal: Directed) -> Directed
     }
 }
 
+/// The leader of an area without pairs that the sector spells, the resource's own; else tells what is there.
+fn tell_old_leader(
+    resource: &ResourceArg,
+    hosts: u32,
+    sector: &[u8],
+    out: &mut Vec<u8>,
+) -> Result<Leader, Directed>
+    requires size { IsSectorSize (length sector.now) }
+    requires first { out.old.items ≡ [] }
+    ensures ok { IfOk result (λ l. (upgrades.right_leader resource.now hosts (upgrades.old_leader_in sector.now) ≡ Some l) × IsLeader l) }
+    ensures same { OnOk result (out.new.items ≡ []) }
+    ensures err { IfErr result (λ d. TellsOther resource.now hosts sector.now out.new.items d) }
+{
+    let found = old_leader_in(sector);
+    match right_leader(resource, hosts, &found) {
+        Some(leader) => Ok(leader),
+        None => Err(refused(push_other_line(out, &found), Directed::NotTheLeader)),
+    }
+}
+
 /// Reads the leader of an area without pairs, the resource's own; else tells what is there.
 fn read_old_leader<A: Area>(
     area: &mut A,
@@ -96,13 +116,9 @@ fn read_old_leader<A: Area>(
 {
     let mut longest = [0; LONGEST_SECTOR];
     let sector = &mut longest[..geometry.sector() as usize];
-    if area.read(geometry.leader_place(resource.offset), 1, sector).is_err() {
-        return Err(Directed::AreaFault);
-    }
-    let found = old_leader_in(sector);
-    match right_leader(resource, geometry.hosts(), &found) {
-        Some(leader) => Ok(leader),
-        None => Err(refused(push_other_line(out, &found), Directed::NotTheLeader)),
+    match area.read(geometry.leader_place(resource.offset), 1, sector) {
+        Ok(()) => tell_old_leader(resource, geometry.hosts(), sector, out),
+        Err(_) => Err(Directed::AreaFault),
     }
 }
 
