@@ -3,7 +3,7 @@ use Rattle.sl_area.specs.Layouts.{IsGeometry, Sizes, layout_of, roomy}
 use Rattle.sl_area.specs.Places.{block_sectors}
 use Rattle.sl_area.specs.Roles.{IsHost, IsRole, LiesIn, PlacesLieInArea, Role, block, leader, pair, place_at, request, role_offset, value}
 use Rattle.sl_words.proofs.WordLaws.{and_true, or_true}
-use Rattle.std.proofs.Common.{arith, sym}
+use Rattle.std.proofs.Common.{arith, refl, sym}
 use Rattle.std.proofs.lemmas.Bool.Decides.{Decides-eqb, nat_tests}
 use Rattle.std.specs.Int.{is_in_range}
 use Rattle.std.specs.Prelude.{Bool, false, if◌then◌else◌, nat_le, nat_lt, true, ℕ, ◌&&◌, ◌*◌, ◌+◌, ◌-◌, ◌<◌, ◌==◌, ◌||◌, ◌≡◌, ◌≤◌}
@@ -16,6 +16,7 @@ pub record HasRoom (s : Sizes) : Type 0 where
   pub hosts : (1 ≤ s.hosts) × (s.hosts ≤ 2000)
   pub room : s.sector * (s.hosts + 3) ≤ s.area
   pub blocks : s.sector * (block_sectors (layout_of s) + 3) ≤ s.area
+  pub few : block_sectors (layout_of s) ≤ 2000
 
 -- One row: its sector, its area and its number of hosts.
 abbrev is_row : ℕ → ℕ → ℕ → Sizes → Bool
@@ -77,6 +78,7 @@ row_room sector area most s low high few fits r = record {
   hosts = (r.low, more_of s.hosts most 2000 r.high few);
   room = room_of s.sector sector s.hosts most area s.area r.sector r.high fits r.area;
   blocks = room_of s.sector sector (block_sectors (layout_of s)) most area s.area r.sector r.blocks fits r.area;
+  few = more_of (block_sectors (layout_of s)) most 2000 r.blocks few;
 }
 
 -- The first row, or one of the others.
@@ -99,6 +101,13 @@ has_room s h =
     next_row s 4096 2097152 500 _ (omega arith) (omega arith) (omega arith) (omega arith) h (λ h.
     next_row s 4096 4194304 1000 _ (omega arith) (omega arith) (omega arith) (omega arith) h (λ h.
     next_row s 4096 8388608 2000 _ (omega arith) (omega arith) (omega arith) (omega arith) h (no_row s)))))
+
+-- How many sectors the blocks have, with pairs and without.
+pub sectors_of_pairs : (s : Sizes) → s.paired ≡ true → block_sectors (layout_of s) ≡ 2 * s.hosts
+sectors_of_pairs s e = rw e refl
+
+pub sectors_of_blocks : (s : Sizes) → s.paired ≡ false → block_sectors (layout_of s) ≡ s.hosts
+sectors_of_blocks s e = rw e refl
 
 -- ---- places in an area
 

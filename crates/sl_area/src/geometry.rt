@@ -139,9 +139,10 @@ impl Geometry {
         self.paired
     }
 
-    /// How many sectors the blocks of all hosts have.
+    /// How many sectors the blocks of all hosts have: at most 2000.
     pub fn block_sectors(&self) -> u32
         ensures exact { result ≡ block_sectors (layout_of self.now) }
+        ensures few { result ≤ 2000 }
         ensures geometry { IsGeometry self.now }
     {
         if self.paired {
