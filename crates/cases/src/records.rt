@@ -4,8 +4,8 @@ use crate::word::{number_at, number_of, part, short_at, short_of, shown, word};
 use sl_area::{Geometry, Place};
 use sl_request::{Act, Bitmap, check_request};
 use sl_sector::{
-    Bad, Rec, block_in, decode, leader_in, pair_in, pair_leader_in, push_bad_text, push_record_text,
-    value_in,
+    Bad, Rec, block_in, decode, leader_in, pair_in, pair_leader_in, push_bad_text,
+    push_record_text, value_in,
 };
 use sl_text::hex::{push_hex, read_hex};
 use sl_value::Version;

@@ -1,11 +1,13 @@
 -- The records of an area that nobody has used keep their rules.
 use Rattle.sl_area.proofs.SizeLaws.{has_room}
-use Rattle.sl_area.specs.Layouts.{IsGeometry, Sizes, layout_of}
+use Rattle.sl_area.specs.Layouts.{IsGeometry, Layout, Sizes, layout_of}
 use Rattle.sl_area.specs.Places.{area_sectors, fresh_block, fresh_block_at, fresh_delta, fresh_leader, fresh_pair, leader_record, no_request, no_value}
 use Rattle.sl_sector.specs.Records.{IsRecord}
-use Rattle.sl_sector.specs.declared.sector.Rec.TheVariants.{BlockIs, DeltaIs, LeaderIs, PairIs, RequestIs, ValueIs}
+use Rattle.sl_sector.specs.declared.sector.Leader.{Leader}
+use Rattle.sl_sector.specs.declared.sector.Rec.TheVariants.{BlockIs, DeltaIs, LeaderIs, PairIs, PairLeaderIs, RequestIs, ValueIs}
+use Rattle.sl_sector.specs.declared.sector.Rec.{Rec}
 use Rattle.sl_text.specs.Names.{is_name}
-use Rattle.std.proofs.Common.{Bool, IsTrue, List, arith, false, refl, true, ℕ, ◌%◌, ◌*◌, ◌+◌, ◌-◌, ◌/◌, ◌<◌, ◌^◌, ◌≡◌, ◌≤◌}
+use Rattle.std.proofs.Common.{Bool, IsTrue, List, ap, arith, false, refl, sym, true, ℕ, ◌%◌, ◌*◌, ◌+◌, ◌-◌, ◌/◌, ◌<◌, ◌^◌, ◌≡◌, ◌≤◌}
 
 nothing_less : 0 < 0 → ⊥
 nothing_less h = omega (arith, h)
@@ -46,14 +48,33 @@ fresh_leader_is g space name is a b =
       unused = λ h. refl;
     }
 
--- The leader of an area with pairs or without.
+-- ---- of an area with pairs, and of one without
+
+pub leader_with_pairs : (g : Layout) (l : Leader) → g.paired ≡ true → PairLeaderIs l ≡ leader_record g l
+leader_with_pairs g l e = sym (ap (λ (p : Bool). elim p as (λ _. Rec) [ false ↦ LeaderIs l | true ↦ PairLeaderIs l ]) e)
+
+pub leader_without : (g : Layout) (l : Leader) → g.paired ≡ false → LeaderIs l ≡ leader_record g l
+leader_without g l e = sym (ap (λ (p : Bool). elim p as (λ _. Rec) [ false ↦ LeaderIs l | true ↦ PairLeaderIs l ]) e)
+
+pub block_with_pairs : (g : Layout) (space name : List ℕ) (k : ℕ) → g.paired ≡ true → PairIs (fresh_pair (k / 2) (1 + k % 2) space name) ≡ fresh_block_at g space name k
+block_with_pairs g space name k e =
+    sym (ap (λ (p : Bool). elim p as (λ _. Rec) [ false ↦ BlockIs (fresh_block (k - 1)) | true ↦ PairIs (fresh_pair (k / 2) (1 + k % 2) space name) ]) e)
+
+pub block_without : (g : Layout) (space name : List ℕ) (k : ℕ) → g.paired ≡ false → BlockIs (fresh_block (k - 1)) ≡ fresh_block_at g space name k
+block_without g space name k e =
+    sym (ap (λ (p : Bool). elim p as (λ _. Rec) [ false ↦ BlockIs (fresh_block (k - 1)) | true ↦ PairIs (fresh_pair (k / 2) (1 + k % 2) space name) ]) e)
+
+-- The leader of an area of either kind.
 pub leader_record_is : (g : Sizes) (space name : List ℕ) → IsGeometry g → IsTrue (is_name space) → IsTrue (is_name name)
     → IsRecord (leader_record (layout_of g) (fresh_leader (layout_of g) space name))
-leader_record_is g space name is a b = by g.paired refl
+leader_record_is g space name is a b = by g.paired
   where
-    by : (paired : Bool) → g.paired ≡ paired → IsRecord (leader_record (layout_of g) (fresh_leader (layout_of g) space name))
-    by false e = rw e (fresh_leader_is g space name is a b)
-    by true e = rw e (fresh_leader_is g space name is a b)
+    l : Leader
+    l = fresh_leader (layout_of g) space name
+
+    by : (paired : Bool) → IsRecord (elim paired as (λ _. Rec) [ false ↦ LeaderIs l | true ↦ PairLeaderIs l ])
+    by false = fresh_leader_is g space name is a b
+    by true = fresh_leader_is g space name is a b
 
 pub fresh_block_is : (host : ℕ) → 1 ≤ host → host ≤ 2000 → IsRecord (BlockIs (fresh_block host))
 fresh_block_is host low high =
@@ -77,16 +98,16 @@ fresh_pair_is host turn space name low high some few a b =
 -- What stands in a sector of the blocks.
 pub fresh_block_at_is : (g : Sizes) (space name : List ℕ) (k : ℕ) → IsGeometry g → IsTrue (is_name space) → IsTrue (is_name name) → 2 ≤ k → k < area_sectors (layout_of g)
     → IsRecord (fresh_block_at (layout_of g) space name k)
-fresh_block_at_is g space name k is a b low high = by g.paired refl
+fresh_block_at_is g space name k is a b low high = by g.paired high
   where
-    hosts = (has_room g is).hosts
-    by : (paired : Bool) → g.paired ≡ paired → IsRecord (fresh_block_at (layout_of g) space name k)
-    by false e =
-        let within : k < g.hosts + 2 = rw e at high in
-        rw e (fresh_block_is (k - 1) (omega (arith, low)) (omega (arith, within, hosts.1)))
-    by true e =
-        let within : k < 2 * g.hosts + 2 = rw e at high in
-        rw e (fresh_pair_is (k / 2) (1 + k % 2) space name (omega (arith, low)) (omega (arith, within, hosts.1)) (omega arith) (omega arith) a b)
+    few : g.hosts ≤ 2000
+    few = (has_room g is).hosts.1
+
+    by : (paired : Bool) → k < elim paired as (λ _. ℕ) [ false ↦ g.hosts | true ↦ 2 * g.hosts ] + 2
+        → IsRecord (elim paired as (λ _. Rec) [ false ↦ BlockIs (fresh_block (k - 1)) | true ↦ PairIs (fresh_pair (k / 2) (1 + k % 2) space name) ])
+    by false within = fresh_block_is (k - 1) (omega (arith, low)) (omega (arith, within, few))
+    by true within =
+        fresh_pair_is (k / 2) (1 + k % 2) space name (omega (arith, low)) (omega (arith, within, few)) (omega arith) (omega arith) a b
 
 pub no_request_is : IsRecord (RequestIs no_request)
 no_request_is = record { force = at_least_none 2; host = at_least_none 2000; lver = no_number; same = (λ h. refl, λ h. refl) }

@@ -1,10 +1,10 @@
 -- No two sectors of a resource's area share a byte: all but the value's have numbers, and that of the value is the last.
-use Rattle.sl_area.proofs.SizeLaws.{HasRoom, has_room, pair_number}
-use Rattle.sl_area.specs.Layouts.{IsGeometry, Sizes, layout_of}
+use Rattle.sl_area.proofs.SizeLaws.{HasRoom, has_room, pair_number, sectors_of_blocks, sectors_of_pairs}
+use Rattle.sl_area.specs.Layouts.{Sizes, layout_of}
 use Rattle.sl_area.specs.Places.{block_sectors}
-use Rattle.sl_area.specs.Roles.{IsHost, IsRole, Role, RolesAreApart, block, leader, pair, place_at, request, role_offset, value}
+use Rattle.sl_area.specs.Roles.{IsRole, Role, RolesAreApart, block, leader, pair, place_at, request, role_offset, value}
 use Rattle.sl_area.specs.Sectors.{Apart}
-use Rattle.std.proofs.Common.{Bool, ap, arith, false, inl, inr, refl, subst, sym, true, ℕ, ◌*◌, ◌+◌, ◌-◌, ◌<◌, ◌≡◌, ◌≢◌, ◌≤◌, ◌⊎◌, ◌∙◌}
+use Rattle.std.proofs.Common.{Bool, ap, arith, false, inl, inr, refl, true, ℕ, ◌*◌, ◌+◌, ◌-◌, ◌<◌, ◌≡◌, ◌≢◌, ◌≤◌, ◌⊎◌}
 use Rattle.std.proofs.lemmas.Bool.{cases_lt}
 
 -- A sector ends where one of a greater number begins, or before.
@@ -44,9 +44,9 @@ record IsNumbered (s : Sizes) (base : ℕ) (role : Role) : Type 0 where
 numbered : (s : Sizes) (base : ℕ) (role : Role) → IsRole s role → HasNumber role → IsNumbered s base role
 numbered s base leader is has = record { at = omega arith; few = omega arith }
 numbered s base request is has = record { at = omega arith; few = omega arith }
-numbered s base (block id) is has = record { at = refl; few = rw is.1 (omega (arith, is.0.1)) }
-numbered s base (pair id true) is has = record { at = refl; few = rw is.1 (omega (arith, is.0.1)) }
-numbered s base (pair id false) is has = record { at = refl; few = rw is.1 (omega (arith, is.0.1)) }
+numbered s base (block id) is has = let n = sectors_of_blocks s is.1 in record { at = refl; few = omega (arith, is.0.1, n) }
+numbered s base (pair id true) is has = let n = sectors_of_pairs s is.1 in record { at = refl; few = omega (arith, is.0.1, n) }
+numbered s base (pair id false) is has = let n = sectors_of_pairs s is.1 in record { at = refl; few = omega (arith, is.0.1, n) }
 numbered s base value is has = absurd has
 
 not_both_kinds : (b : Bool) → b ≡ false → b ≡ true → ⊥
@@ -113,20 +113,24 @@ roles_are_apart s base role other is a b no = by role other a b no
   where
     room : HasRoom s
     room = has_room s is
+
     Are : Role → Role → Type 0
     Are x y = Apart (place_at s (role_offset s base x)) (place_at s (role_offset s base y))
+
     last : (y : Role) → IsRole s y → value ≢ y → Are value y
     last leader b no = inr (ends_before s base leader room b tt)
     last request b no = inr (ends_before s base request room b tt)
     last (block id) b no = inr (ends_before s base (block id) room b tt)
     last (pair id first) b no = inr (ends_before s base (pair id first) room b tt)
     last value b no = absurd (no refl)
+
     by_other : (x y : Role) → HasNumber x → IsRole s x → IsRole s y → x ≢ y → Are x y
     by_other x leader h a b no = numbers s base x leader a b h tt no
     by_other x request h a b no = numbers s base x request a b h tt no
     by_other x (block id) h a b no = numbers s base x (block id) a b h tt no
     by_other x (pair id first) h a b no = numbers s base x (pair id first) a b h tt no
     by_other x value h a b no = inl (ends_before s base x room a h)
+
     by : (x y : Role) → IsRole s x → IsRole s y → x ≢ y → Are x y
     by leader y a b no = by_other leader y tt a b no
     by request y a b no = by_other request y tt a b no

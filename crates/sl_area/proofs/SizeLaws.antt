@@ -3,7 +3,7 @@ use Rattle.sl_area.specs.Layouts.{IsGeometry, Sizes, layout_of, roomy}
 use Rattle.sl_area.specs.Places.{block_sectors}
 use Rattle.sl_area.specs.Roles.{IsHost, IsRole, LiesIn, PlacesLieInArea, Role, block, leader, pair, place_at, request, role_offset, value}
 use Rattle.sl_words.proofs.WordLaws.{and_true, or_true}
-use Rattle.std.proofs.Common.{arith, refl, sym}
+use Rattle.std.proofs.Common.{ap, arith, sym}
 use Rattle.std.proofs.lemmas.Bool.Decides.{Decides-eqb, nat_tests}
 use Rattle.std.specs.Int.{is_in_range}
 use Rattle.std.specs.Prelude.{Bool, false, if◌then◌else◌, nat_le, nat_lt, true, ℕ, ◌&&◌, ◌*◌, ◌+◌, ◌-◌, ◌<◌, ◌==◌, ◌||◌, ◌≡◌, ◌≤◌}
@@ -104,10 +104,10 @@ has_room s h =
 
 -- How many sectors the blocks have, with pairs and without.
 pub sectors_of_pairs : (s : Sizes) → s.paired ≡ true → block_sectors (layout_of s) ≡ 2 * s.hosts
-sectors_of_pairs s e = rw e refl
+sectors_of_pairs s e = ap (λ (p : Bool). elim p as (λ _. ℕ) [ false ↦ s.hosts | true ↦ 2 * s.hosts ]) e
 
 pub sectors_of_blocks : (s : Sizes) → s.paired ≡ false → block_sectors (layout_of s) ≡ s.hosts
-sectors_of_blocks s e = rw e refl
+sectors_of_blocks s e = ap (λ (p : Bool). elim p as (λ _. ℕ) [ false ↦ s.hosts | true ↦ 2 * s.hosts ]) e
 
 -- ---- places in an area
 
@@ -151,11 +151,8 @@ abbrev pub pair_number : ℕ → Bool → ℕ
 pair_number id first = 2 * id + (if first then 0 else 1)
 
 among_blocks : (s : Sizes) (id : ℕ) (first : Bool) → IsHost s id → s.paired ≡ true → pair_number id first + 1 ≤ block_sectors (layout_of s) + 3
-among_blocks s id first host paired = rw paired (by first)
-  where
-    by : (b : Bool) → 2 * id + (if b then 0 else 1) + 1 ≤ 2 * s.hosts + 3
-    by true = omega (arith, host.1)
-    by false = omega (arith, host.1)
+among_blocks s id true host paired = let n = sectors_of_pairs s paired in omega (arith, host.1, n)
+among_blocks s id false host paired = let n = sectors_of_pairs s paired in omega (arith, host.1, n)
 
 role_lies : (s : Sizes) (base : ℕ) → HasRoom s → (role : Role) → IsRole s role → LiesIn s base (place_at s (role_offset s base role))
 role_lies s base r leader is = at_offset s base base 0 r (omega arith) (first_offset base s.sector)

@@ -66,9 +66,7 @@ fn has_room(paired: bool, most: u32, hosts: u32) -> bool
 fn is_geometry(sector: u32, area: u64, hosts: u32, paired: bool) -> bool
     ensures { result ≡ is_geometry (record { sector = sector; area = area; hosts = hosts; paired = paired }) }
 {
-    GEOMETRIES
-        .iter()
-        .any(|row| row.0 == sector && row.1 == area && has_room(paired, row.2, hosts))
+    GEOMETRIES.iter().any(|row| row.0 == sector && row.1 == area && has_room(paired, row.2, hosts))
 }
 
 impl Geometry {
@@ -212,7 +210,14 @@ impl Geometry {
         requires id { (1 ≤ id) × (id ≤ self.now.hosts) }
         ensures { result ≡ place_at self.now (pair_offset (layout_of self.now) base id first) }
     {
-        self.nth(base, if first { 2 * u64::from(id) } else { 2 * u64::from(id) + 1 })
+        self.nth(
+            base,
+            if first {
+                2 * u64::from(id)
+            } else {
+                2 * u64::from(id) + 1
+            },
+        )
     }
 
     /// Where a host's block of this turn stands, in the resource's area at this base. Where blocks have one sector, each turn stands there.

@@ -4,7 +4,7 @@ use Rattle.sl_area.specs.Layouts.{Layout, Sizes, layout_of}
 use Rattle.sl_area.specs.Places.{block_offset, block_sectors, delta_offset, fresh_block, fresh_block_at, fresh_delta, fresh_leader, fresh_pair, leader_record, no_request, no_value, pair_offset, request_offset, value_offset}
 use Rattle.sl_area.specs.Sectors.{Apart}
 use Rattle.sl_direct.proofs.DiskLaws.{AllApart, all_left, all_right, front_apart}
-use Rattle.sl_area.proofs.SizeLaws.{has_room}
+use Rattle.sl_area.proofs.SizeLaws.{has_room, sectors_of_blocks, sectors_of_pairs}
 use Rattle.sl_area.proofs.FreshRecords.{fresh_block_at_is, fresh_delta_is, leader_record_is, no_request_is, no_value_is}
 use Rattle.sl_direct.proofs.FreshLaws.{length-sector, resource_apart, sector_size}
 use Rattle.sl_direct.proofs.LookLaws.{and_nothing}
@@ -21,7 +21,7 @@ use Rattle.sl_sector.proofs.SpellingLaws.{read_again}
 use Rattle.sl_sector.proofs.WrittenBytes.{sha256_is_digest}
 use Rattle.sl_sector.specs.Records.{IsRecord}
 use Rattle.sl_sector.specs.Spelling.{IsSectorSize, decoded, spelling}
-use Rattle.sl_sector.specs.declared.sector.Rec.TheVariants.{BlockIs, DeltaIs, PairIs, RequestIs, ValueIs}
+use Rattle.sl_sector.specs.declared.sector.Rec.TheVariants.{BlockIs, DeltaIs, LeaderIs, PairIs, PairLeaderIs, RequestIs, ValueIs}
 use Rattle.sl_sector.specs.declared.sector.Leader.{Leader}
 use Rattle.sl_sector.specs.declared.sector.Rec.{Rec}
 use Rattle.sl_trace.specs.declared.command.ResourceArg.{ResourceArg}
@@ -63,8 +63,11 @@ block_by_host : (g : Sizes) (space name : List ℕ) (base : ℕ) (content : List
     → g.paired ≡ false → (id : ℕ) → 1 ≤ id → id ≤ g.hosts → spelled_at g.sector (block_offset (layout_of g) base id) content ≡ Ok (BlockIs (fresh_block id))
 block_by_host g space name base content each e id low high =
     let one : id + 1 - 1 ≡ id = omega arith in
-    let here : fresh_block_at (layout_of g) space name (id + 1) ≡ BlockIs (fresh_block id) = rw (e, one) refl in
-    each id low (rw e high) ∙ ap (λ (r : Rec). Ok r) here
+    let sectors = sectors_of_blocks g e in
+    let here : fresh_block_at (layout_of g) space name (id + 1) ≡ BlockIs (fresh_block id) =
+    ap (λ (p : Bool). elim p as (λ _. Rec) [ false ↦ BlockIs (fresh_block (id + 1 - 1)) | true ↦ PairIs (fresh_pair ((id + 1) / 2) (1 + (id + 1) % 2) space name) ]) e
+    ∙ ap (λ (n : ℕ). BlockIs (fresh_block n)) one in
+    each id low (omega (arith, high, sectors)) ∙ ap (λ (r : Rec). Ok r) here
 
 pair_by_host : (g : Sizes) (space name : List ℕ) (base : ℕ) (content : List ℕ)
     → ((k : ℕ) → 1 ≤ k → k ≤ block_sectors (layout_of g) → spelled_at g.sector (block_offset (layout_of g) base k) content ≡ Ok (fresh_block_at (layout_of g) space name (k + 1)))
@@ -73,12 +76,17 @@ pair_by_host : (g : Sizes) (space name : List ℕ) (base : ℕ) (content : List 
 pair_by_host g space name base content each e id low high first = by first
   where
     layout = layout_of g
+
     at : (k n turn : ℕ) → 1 ≤ k → k ≤ 2 * g.hosts → k + 1 ≡ n → n / 2 ≡ id → 1 + n % 2 ≡ turn
         → spelled_at g.sector (base + g.sector * n) content ≡ Ok (PairIs (fresh_pair id turn space name))
     at k n turn some within next half odd =
-        let here : fresh_block_at layout space name n ≡ PairIs (fresh_pair id turn space name) = rw (e, half, odd) refl in
-        ap (λ (m : ℕ). spelled_at g.sector (base + g.sector * m) content) (sym next) ∙ each k some (rw e within) ∙ ap (λ (m : ℕ). Ok (fresh_block_at layout space name m)) next
+        let here : fresh_block_at layout space name n ≡ PairIs (fresh_pair id turn space name) =
+        ap (λ (p : Bool). elim p as (λ _. Rec) [ false ↦ BlockIs (fresh_block (n - 1)) | true ↦ PairIs (fresh_pair (n / 2) (1 + n % 2) space name) ]) e
+        ∙ ap (λ (h : ℕ). PairIs (fresh_pair h (1 + n % 2) space name)) half ∙ ap (λ (t : ℕ). PairIs (fresh_pair id t space name)) odd in
+        let sectors = sectors_of_pairs g e in
+        ap (λ (m : ℕ). spelled_at g.sector (base + g.sector * m) content) (sym next) ∙ each k some (omega (arith, within, sectors)) ∙ ap (λ (m : ℕ). Ok (fresh_block_at layout space name m)) next
         ∙ ap (λ (r : Rec). Ok r) here
+
     by : (b : Bool) → spelled_at g.sector (pair_offset layout base id b) content ≡ Ok (PairIs (fresh_pair id (if b then 1 else 2) space name))
     by true = at (2 * id - 1) (2 * id + 0) 1 (omega (arith, low)) (omega (arith, high)) (omega (arith, low)) (omega arith) (omega arith)
     by false = at (2 * id) (2 * id + 1) 2 (omega (arith, low)) (omega (arith, high)) (omega arith) (omega arith) (omega arith)
@@ -253,11 +261,11 @@ both : (a b : Bool) → a ≡ true → b ≡ true → (a && b) ≡ true
 both a b first second = ap (λ x. x && b) first ∙ second
 
 found_of_either : (g : Layout) (l : Leader) → leader_found (Ok (leader_record g l)) ≡ Ok l
-found_of_either g l = by g.paired refl
+found_of_either g l = by g.paired
   where
-    by : (paired : Bool) → g.paired ≡ paired → leader_found (Ok (leader_record g l)) ≡ Ok l
-    by false e = rw e refl
-    by true e = rw e refl
+    by : (paired : Bool) → leader_found (Ok (elim paired as (λ _. Rec) [ false ↦ LeaderIs l | true ↦ PairLeaderIs l ])) ≡ Ok l
+    by false = refl
+    by true = refl
 
 its_own : (r : ResourceArg) (g : Sizes) (content : List ℕ) → IsFreshResource g r.lockspace r.name r.offset content → has_its_leader r g.sector content
 its_own r g content fresh =

@@ -22,7 +22,7 @@ use Rattle.sl_words.specs.Words.{choose}
 use Rattle.sl_sector.specs.declared.sector.Block.{Block}
 use Rattle.sl_sector.specs.declared.sector.Leader.{Leader}
 use Rattle.sl_trace.specs.declared.command.ResourceArg.{ResourceArg}
-use Rattle.std.proofs.Common.{All, Bool, Err, List, None, Ok, Option, Result, Some, [], ap, append_assoc, arith, inl, inr, length, refl, subst, suc, sym, true, false, ℕ, ◌+◌, ◌++◌, ◌≡◌, ◌≤◌, ◌∙◌, ◌∷◌}
+use Rattle.std.proofs.Common.{All, Bool, Err, List, None, Ok, Option, Result, Some, [], ap, append_assoc, arith, drop, get_or, inl, inr, length, refl, subst, suc, sym, take, take-append-drop, true, false, zero, ℕ, ◌<◌, ◌+◌, ◌++◌, ◌≡◌, ◌≤◌, ◌∙◌, ◌∷◌}
 use Rattle.std.proofs.lemmas.List.{append-nil}
 use Rattle.std.proofs.lemmas.List.Elements.{All-append, All-cons, All-nil}
 use Rattle.std.proofs.lemmas.Bool.{eqb-true}
@@ -122,6 +122,41 @@ down_append g l base (x ∷ xs) ys =
     ap (λ (ws : List Write). ws ++ pair_writes g l base x) (down_append g l base xs ys)
     ∙ append_assoc (pairs_down g l base ys) (pairs_down g l base xs) (pair_writes g l base x)
 
+drop_next : (xs : List Block) (n : ℕ) (d : Block) → n < length xs → drop n xs ≡ get_or xs n d ∷ drop (suc n) xs
+drop_next [] n d h = absurd (omega (arith, h))
+drop_next (x ∷ xs) zero d h = refl
+drop_next (x ∷ xs) (suc n) d h = drop_next xs n d (omega (arith, h))
+
+-- One more pair, before those that were written.
+pub down_wrote : (g : Layout) (l : Leader) (base : ℕ) (xs : List Block) (n m : ℕ) (d : Block) (a b c : Option (List ℕ)) → n < length xs → m ≡ suc n
+    → Wrote (pairs_down g l base (drop m xs)) a b → Wrote (pair_writes g l base (get_or xs n d)) b c → Wrote (pairs_down g l base (drop n xs)) a c
+down_wrote g l base xs n m d a b c within next first last =
+    let same : pairs_down g l base (drop n xs) ≡ pairs_down g l base (drop m xs) ++ pair_writes g l base (get_or xs n d) =
+    ap (pairs_down g l base) (drop_next xs n d within) ∙ ap (λ (k : ℕ). pairs_down g l base (drop k xs) ++ pair_writes g l base (get_or xs n d)) (sym next) in
+    subst (λ (ws : List Write). Wrote ws a c) (sym same) (Wrote-append (pairs_down g l base (drop m xs)) (pair_writes g l base (get_or xs n d)) a b c first last)
+
+-- One that failed.
+pub down_broke : (g : Layout) (l : Leader) (base : ℕ) (xs : List Block) (n m : ℕ) (d : Block) (a b c : Option (List ℕ)) → n < length xs → m ≡ suc n
+    → Wrote (pairs_down g l base (drop m xs)) a b → BrokeOff (pair_writes g l base (get_or xs n d)) b c → BrokeOff (pairs_down g l base xs) a c
+down_broke g l base xs n m d a b c within next first broke =
+    let same : pairs_down g l base (drop n xs) ≡ pairs_down g l base (drop m xs) ++ pair_writes g l base (get_or xs n d) =
+    ap (pairs_down g l base) (drop_next xs n d within) ∙ ap (λ (k : ℕ). pairs_down g l base (drop k xs) ++ pair_writes g l base (get_or xs n d)) (sym next) in
+    let whole : pairs_down g l base xs ≡ pairs_down g l base (drop n xs) ++ pairs_down g l base (take n xs) =
+    ap (pairs_down g l base) (sym (take-append-drop n xs)) ∙ down_append g l base (take n xs) (drop n xs) in
+    let here : BrokeOff (pairs_down g l base (drop n xs)) a c =
+    subst (λ (ws : List Write). BrokeOff ws a c) (sym same) (BrokeOff-behind (pairs_down g l base (drop m xs)) (pair_writes g l base (get_or xs n d)) a b c first broke) in
+    subst (λ (ws : List Write). BrokeOff ws a c) (sym whole) (BrokeOff-front (pairs_down g l base (drop n xs)) (pairs_down g l base (take n xs)) a c here)
+
+-- The two of a pair.
+pub pair_wrote : (x y : Write) (a b c : Option (List ℕ)) → Wrote (x ∷ []) a b → Wrote (y ∷ []) b c → Wrote (x ∷ y ∷ []) a c
+pair_wrote x y a b c first last = Wrote-append (x ∷ []) (y ∷ []) a b c first last
+
+pub first_broke : (x y : Write) (a b : Option (List ℕ)) → BrokeOff (x ∷ []) a b → BrokeOff (x ∷ y ∷ []) a b
+first_broke x y a b broke = BrokeOff-front (x ∷ []) (y ∷ []) a b broke
+
+pub second_broke : (x y : Write) (a b c : Option (List ℕ)) → Wrote (x ∷ []) a b → BrokeOff (y ∷ []) b c → BrokeOff (x ∷ y ∷ []) a c
+second_broke x y a b c first broke = BrokeOff-behind (x ∷ []) (y ∷ []) a b c first broke
+
 -- ---- all of the writes
 
 pub upgrade_wrote : (z : Write) (ps : List Write) (l : Write) (a b c d : Option (List ℕ)) → Wrote (z ∷ []) a b → Wrote ps b c → Wrote (l ∷ []) c d → Wrote (z ∷ (ps ++ l ∷ [])) a d
@@ -161,9 +196,9 @@ pairs_up r g l bs a b c d out AreaFault first second leader old count h =
       (
         inr
             (record {
-            old = record { leader = l; blocks = bs };
-            is = record { leader = leader; count = count; blocks = (old_back g r.offset a b bs first old).0 };
-            broke = broke_back _ a c d kept h.0;
+              old = record { leader = l; blocks = bs };
+              is = record { leader = leader; count = count; blocks = (old_back g r.offset a b bs first old).0 };
+              broke = broke_back _ a c d kept h.0;
             }),
         refl,
       ),

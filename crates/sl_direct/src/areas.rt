@@ -15,7 +15,9 @@ ghost use Rattle.std.specs.Prelude.{IsTrue, OnErr, OnOk, [], ◌∷◌, ◌≡�
 
 use crate::LONGEST_SECTOR;
 use crate::action::Directed;
-use crate::fresh::{fresh_block_at, fresh_delta, fresh_leader, leader_record, no_request, no_value};
+use crate::fresh::{
+    fresh_block_at, fresh_delta, fresh_leader, leader_record, no_request, no_value,
+};
 use crate::lines::{push_lockspace_line, push_resource_line};
 use sl_area::{Area, Geometry, Place};
 use sl_io::Failed;
@@ -174,7 +176,11 @@ fn write_leader<A: Area>(
     ensures cause { HasCause (A.faults area.old) (A.faults area.new) result }
 {
     let leader = fresh_leader(geometry, lockspace, resource);
-    write_record(area, geometry.leader_place(base), &leader_record(geometry, leader))
+    write_record(
+        area,
+        geometry.leader_place(base),
+        &leader_record(geometry, leader),
+    )
 }
 
 /// Writes the sectors of a resource, the leader last. After an `Err` a front of them was written, and the next one may be torn.

@@ -123,7 +123,12 @@ fn read_old_leader<A: Area>(
 }
 
 /// Reads a host's block of an area without pairs; it may be torn.
-fn read_old_block<A: Area>(area: &mut A, geometry: Geometry, base: u64, id: u32) -> Result<Option<Block>, Failed>
+fn read_old_block<A: Area>(
+    area: &mut A,
+    geometry: Geometry,
+    base: u64,
+    id: u32,
+) -> Result<Option<Block>, Failed>
     requires sizes { IsGeometry geometry }
     requires base { IsBase geometry base }
     requires id { IsHost geometry id }
@@ -302,7 +307,11 @@ fn write_paired<A: Area>(
 {
     write_zeros(area, geometry, base)?;
     write_pairs(area, geometry, base, leader, blocks)?;
-    write_record(area, geometry.leader_place(base), &Rec::PairLeaderIs(*leader))
+    write_record(
+        area,
+        geometry.leader_place(base),
+        &Rec::PairLeaderIs(*leader),
+    )
 }
 
 /// Writes the area with pairs of a resource. Its line is made first, so that want of memory leaves the area as it was.
