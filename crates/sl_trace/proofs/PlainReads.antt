@@ -1,13 +1,13 @@
 -- What reads of a lease give where each host's block has one sector: what their bytes spell, whatever was read before.
 use Rattle.sl_area.specs.Layouts.{Layout}
-use Rattle.sl_area.specs.Places.{BlocksRead, blocks_in, blocks_of, leader_of, leader_read, needs_again, read_once}
+use Rattle.sl_area.specs.Places.{BlocksRead, blocks_in, blocks_of, leader_made, leader_of, leader_read, needs_again, pairs_of, read_once}
 use Rattle.sl_sector.specs.declared.sector.Block.{Block}
 use Rattle.sl_sector.specs.declared.sector.Leader.{Leader}
 use Rattle.sl_sector.specs.declared.sector.PairBlock.{PairBlock}
 use Rattle.sl_trace.specs.Leases.{blocks_bytes, blocks_given, given_with, is_again, kept_before}
 use Rattle.sl_trace.specs.Traces.{Submitted}
 use Rattle.sl_words.proofs.CaseLaws.{none_some}
-use Rattle.sl_words.specs.Words.{choose}
+use Rattle.sl_words.specs.Words.{choose, present}
 use Rattle.std.proofs.Common.{ap, refl, sym, ◌∙◌}
 use Rattle.std.specs.Prelude.{Bool, List, None, Option, Some, false, not, option_map, true, ℕ, ◌&&◌, ◌≡◌}
 
@@ -18,7 +18,10 @@ blocks_plain g plain r = ap (λ b. elim b as (λ x. List (Option Block)) [ false
 -- The leader is the one that is spelled.
 pub leader_plain : (g : Layout) → g.paired ≡ false → (bytes : List ℕ) (r : BlocksRead) → leader_read g bytes r ≡ leader_of g bytes
 leader_plain g plain bytes r =
-    ap (λ b. elim b as (λ x. Option Leader) [ false ↦ leader_of g bytes | true ↦ leader_read (record g { paired = true }) bytes r ]) plain
+    ap (λ b. elim b as (λ x. Option Leader) [
+      | false ↦ leader_of g bytes
+      | true ↦ elim (leader_of g bytes) as (λ x. Option Leader) [ Some l ↦ Some l | None ↦ leader_made g (present (pairs_of g r)) ]
+    ]) plain
 
 -- No read is made once more.
 pub once_plain : (g : Layout) → g.paired ≡ false → (bytes : List ℕ) → needs_again g bytes ≡ false
