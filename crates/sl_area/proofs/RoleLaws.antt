@@ -4,7 +4,7 @@ use Rattle.sl_area.specs.Layouts.{Sizes, layout_of}
 use Rattle.sl_area.specs.Places.{block_sectors}
 use Rattle.sl_area.specs.Roles.{IsRole, Role, RolesAreApart, block, leader, pair, place_at, request, role_offset, value}
 use Rattle.sl_area.specs.Sectors.{Apart}
-use Rattle.std.proofs.Common.{Bool, ap, arith, false, inl, inr, refl, true, ℕ, ◌*◌, ◌+◌, ◌-◌, ◌<◌, ◌≡◌, ◌≢◌, ◌≤◌, ◌⊎◌}
+use Rattle.std.proofs.Common.{Bool, ap, arith, false, inl, inr, refl, subst, true, ℕ, ◌*◌, ◌+◌, ◌-◌, ◌<◌, ◌≡◌, ◌≢◌, ◌≤◌, ◌⊎◌}
 use Rattle.std.proofs.lemmas.Bool.{cases_lt}
 
 -- A sector ends where one of a greater number begins, or before.
@@ -15,9 +15,9 @@ numbers_apart base sector i j less =
     omega (arith, last, next)
 
 -- The last sector is behind them.
-before_last : (base sector k n area : ℕ) → k < n + 2 → sector * (n + 3) ≤ area → base + sector * k + sector ≤ base + area - sector
+before_last : (base sector k n area : ℕ) → k ≤ n → sector * (n + 2) ≤ area → base + sector * k + sector ≤ base + area - sector
 before_last base sector k n area below room =
-    let most : sector * (k + 2) ≤ sector * (n + 3) = grind (arith) in
+    let most : sector * (k + 2) ≤ sector * (n + 2) = grind (arith) in
     let ends : sector * (k + 2) ≡ sector * k + sector + sector = grind (arith) in
     omega (arith, room, most, ends)
 
@@ -89,27 +89,30 @@ apart_by s base role other i j a b (inl less) = inl (rw (a, b) (numbers_apart ba
 apart_by s base role other i j a b (inr less) = inr (rw (a, b) (numbers_apart base s.sector j i less))
 
 differ : (i j : ℕ) → i ≢ j → (i < j) ⊎ (j < i)
-differ i j no =
+differ i j ne =
     elim (cases_lt i j) [
       | inl less ↦ inl less
-      | inr more ↦ inr (omega (arith, more, no))
+      | inr more ↦ inr (omega (arith, more, ne))
     ]
 
 -- Two that have numbers.
 numbers : (s : Sizes) (base : ℕ) (role other : Role) → IsRole s role → IsRole s other → HasNumber role → HasNumber other → role ≢ other
     → Apart (place_at s (role_offset s base role)) (place_at s (role_offset s base other))
-numbers s base role other a b h i no =
+numbers s base role other a b h i ne =
     apart_by s base role other (number_of role) (number_of other) (numbered s base role a h).at (numbered s base other b i).at
-    (differ (number_of role) (number_of other) (λ e. no (same_number s role other a b h i e)))
+    (differ (number_of role) (number_of other) (λ e. ne (same_number s role other a b h i e)))
 
 -- One that has a number, and the value.
 ends_before : (s : Sizes) (base : ℕ) (role : Role) → HasRoom s → IsRole s role → HasNumber role → role_offset s base role + s.sector ≤ role_offset s base value
 ends_before s base role room a h =
     let n = numbered s base role a h in
-    rw n.at (before_last base s.sector (number_of role) (block_sectors (layout_of s)) s.area n.few room.blocks)
+    let sectors = block_sectors (layout_of s) in
+    let count : sectors + 3 ≡ sectors + 1 + 2 = omega arith in
+    let enough : s.sector * (sectors + 1 + 2) ≤ s.area = subst (λ (m : ℕ). s.sector * m ≤ s.area) count room.blocks in
+    rw n.at (before_last base s.sector (number_of role) (sectors + 1) s.area (omega (arith, n.few)) enough)
 
 pub roles_are_apart : RolesAreApart
-roles_are_apart s base role other is a b no = by role other a b no
+roles_are_apart s base role other is a b ne = by role other a b ne
   where
     room : HasRoom s
     room = has_room s is
@@ -118,22 +121,22 @@ roles_are_apart s base role other is a b no = by role other a b no
     Are x y = Apart (place_at s (role_offset s base x)) (place_at s (role_offset s base y))
 
     last : (y : Role) → IsRole s y → value ≢ y → Are value y
-    last leader b no = inr (ends_before s base leader room b tt)
-    last request b no = inr (ends_before s base request room b tt)
-    last (block id) b no = inr (ends_before s base (block id) room b tt)
-    last (pair id first) b no = inr (ends_before s base (pair id first) room b tt)
-    last value b no = absurd (no refl)
+    last leader b ne = inr (ends_before s base leader room b tt)
+    last request b ne = inr (ends_before s base request room b tt)
+    last (block id) b ne = inr (ends_before s base (block id) room b tt)
+    last (pair id first) b ne = inr (ends_before s base (pair id first) room b tt)
+    last value b ne = absurd (ne refl)
 
     by_other : (x y : Role) → HasNumber x → IsRole s x → IsRole s y → x ≢ y → Are x y
-    by_other x leader h a b no = numbers s base x leader a b h tt no
-    by_other x request h a b no = numbers s base x request a b h tt no
-    by_other x (block id) h a b no = numbers s base x (block id) a b h tt no
-    by_other x (pair id first) h a b no = numbers s base x (pair id first) a b h tt no
-    by_other x value h a b no = inl (ends_before s base x room a h)
+    by_other x leader h a b ne = numbers s base x leader a b h tt ne
+    by_other x request h a b ne = numbers s base x request a b h tt ne
+    by_other x (block id) h a b ne = numbers s base x (block id) a b h tt ne
+    by_other x (pair id first) h a b ne = numbers s base x (pair id first) a b h tt ne
+    by_other x value h a b ne = inl (ends_before s base x room a h)
 
     by : (x y : Role) → IsRole s x → IsRole s y → x ≢ y → Are x y
-    by leader y a b no = by_other leader y tt a b no
-    by request y a b no = by_other request y tt a b no
-    by (block id) y a b no = by_other (block id) y tt a b no
-    by (pair id first) y a b no = by_other (pair id first) y tt a b no
-    by value y a b no = last y b no
+    by leader y a b ne = by_other leader y tt a b ne
+    by request y a b ne = by_other request y tt a b ne
+    by (block id) y a b ne = by_other (block id) y tt a b ne
+    by (pair id first) y a b ne = by_other (pair id first) y tt a b ne
+    by value y a b ne = last y b ne

@@ -15,7 +15,7 @@ use Rattle.sl_sector.specs.Spelling.{IsSectorSize, spelling}
 use Rattle.sl_sector.specs.declared.sector.Rec.TheVariants.{DeltaIs, RequestIs, ValueIs}
 use Rattle.sl_sector.specs.declared.sector.Rec.{Rec}
 use Rattle.sl_text.specs.Names.{is_name}
-use Rattle.std.proofs.Common.{All, Bool, Err, IsTrue, List, Ok, Option, Result, [], arith, inl, inr, length, map, refl, subst, suc, sym, true, zero, ap, false, ℕ, ◌%◌, ◌*◌, ◌++◌, ◌+◌, ◌-◌, ◌/◌, ◌<◌, ◌^◌, ◌∷◌, ◌≡◌, ◌≢◌, ◌≤◌, ◌⊎◌}
+use Rattle.std.proofs.Common.{All, Bool, Err, IsTrue, List, Ok, Option, Result, [], arith, inl, inr, length, map, refl, subst, suc, sym, true, zero, ap, false, ℕ, ◌%◌, ◌*◌, ◌++◌, ◌+◌, ◌-◌, ◌/◌, ◌<◌, ◌∷◌, ◌≡◌, ◌≢◌, ◌≤◌, ◌⊎◌}
 use Rattle.std.proofs.lemmas.Bool.{eqb-false, eqb-true}
 use Rattle.std.proofs.lemmas.List.Elements.{All-append, All-cons, All-head, All-nil, All-tail}
 use Rattle.std.specs.List.{range_with_len}

@@ -1,12 +1,11 @@
 -- An area that is upgraded: what was read of it still counts after further reads, its blocks one behind another, and the writes.
-use Rattle.sl_area.specs.Layouts.{Layout, Sizes, layout_of}
+use Rattle.sl_area.specs.Layouts.{Layout, Sizes}
 use Rattle.sl_area.specs.Roles.{IsHost}
 use Rattle.sl_area.specs.Sectors.{IsReadAt}
 use Rattle.sl_direct.proofs.DiskLaws.{BrokeOff-behind, BrokeOff-front, Wrote-append}
-use Rattle.sl_direct.specs.Actions.{Acts}
 use Rattle.sl_direct.specs.FreshAreas.{Write}
 use Rattle.sl_direct.specs.Steps.{BrokeOff, HasActed, Wrote}
-use Rattle.sl_direct.specs.Upgrades.{AreOld, OldArea, PairsUp, ReadsBlock, ReadsBlocks, ReadsLeader, StopsBehind, Upgrades, pair_writes, pairs_down, right_leader, torn_line, upgrade_line, upgrade_writes}
+use Rattle.sl_direct.specs.Upgrades.{AreOld, PairsUp, ReadsBlock, ReadsBlocks, ReadsLeader, StopsBehind, pair_writes, pairs_down, right_leader, torn_line, upgrade_line}
 use Rattle.sl_direct.specs.declared.action.Action.TheVariants.{Upgrade}
 use Rattle.sl_direct.specs.declared.action.Directed.TheVariants.{AreaFault, Done, NoMemory, NotTheLeader, TornBlock, WriteFault}
 use Rattle.sl_direct.specs.declared.action.Directed.{Directed}
@@ -22,7 +21,7 @@ use Rattle.sl_words.specs.Words.{choose}
 use Rattle.sl_sector.specs.declared.sector.Block.{Block}
 use Rattle.sl_sector.specs.declared.sector.Leader.{Leader}
 use Rattle.sl_trace.specs.declared.command.ResourceArg.{ResourceArg}
-use Rattle.std.proofs.Common.{All, Bool, Err, List, None, Ok, Option, Result, Some, [], ap, append_assoc, arith, drop, get_or, inl, inr, length, refl, subst, suc, sym, take, take-append-drop, true, false, zero, ℕ, ◌<◌, ◌+◌, ◌++◌, ◌≡◌, ◌≤◌, ◌∙◌, ◌∷◌}
+use Rattle.std.proofs.Common.{Bool, Err, List, None, Ok, Option, Result, Some, [], ap, append_assoc, arith, drop, get_or, inl, inr, length, refl, subst, suc, sym, take, take-append-drop, true, false, zero, ℕ, ◌<◌, ◌+◌, ◌++◌, ◌≡◌, ◌≤◌, ◌∙◌, ◌∷◌}
 use Rattle.std.proofs.lemmas.List.{append-nil}
 use Rattle.std.proofs.lemmas.List.Elements.{All-append, All-cons, All-nil}
 use Rattle.std.proofs.lemmas.Bool.{eqb-true}

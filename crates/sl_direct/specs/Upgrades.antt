@@ -16,7 +16,6 @@ use Rattle.sl_sector.specs.declared.sector.Bad.TheVariants.{BadKind}
 use Rattle.sl_sector.specs.declared.sector.Bad.{Bad}
 use Rattle.sl_sector.specs.declared.sector.Block.{Block}
 use Rattle.sl_sector.specs.declared.sector.Leader.{Leader}
-use Rattle.sl_sector.specs.declared.sector.PairBlock.{PairBlock}
 use Rattle.sl_sector.specs.declared.sector.Rec.TheVariants.{LeaderIs, PairIs, PairLeaderIs}
 use Rattle.sl_sector.specs.declared.sector.Rec.{Rec}
 use Rattle.sl_text.specs.Forms.{as_bytes, coloned, spaced}
@@ -104,11 +103,15 @@ abbrev pub pairs_down : Layout → Leader → ℕ → List Block → List Write
 pairs_down g l base [] = []
 pairs_down g l base (b ∷ bs) = pairs_down g l base bs ++ pair_writes g l base b
 
+-- The leader, as that of an area with pairs.
+abbrev pub last_write : Layout → ℕ → Leader → Write
+last_write g base l = write_of g.sector (leader_offset base) (PairLeaderIs l)
+
 -- Zeros over the leader, the pairs from the last host down to the first, and the leader last.
 abbrev pub upgrade_writes : Layout → ℕ → OldArea → List Write
 upgrade_writes g base old =
     zeros_write g base
-    ∷ (pairs_down g old.leader base old.blocks ++ write_of g.sector (leader_offset base) (PairLeaderIs old.leader) ∷ [])
+    ∷ (pairs_down g old.leader base old.blocks ++ last_write g base old.leader ∷ [])
 
 -- ---- what is told
 

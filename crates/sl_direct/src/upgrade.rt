@@ -10,7 +10,7 @@ ghost use Rattle.sl_direct.specs.Actions.{IsAction};
 ghost use Rattle.sl_direct.specs.FreshAreas.{write_of};
 ghost use Rattle.sl_direct.specs.Steps.{BrokeOff, HasActed, Wrote};
 ghost use Rattle.sl_direct.specs.Upgrades as upgrades;
-ghost use Rattle.sl_direct.specs.Upgrades.{AreOld, PairsUp, ReadsBlock, ReadsBlocks, ReadsLeader, StopsBehind, TellsOther, pair_writes, pairs_down, turn_write, upgrade_writes, zeros_write};
+ghost use Rattle.sl_direct.specs.Upgrades.{AreOld, PairsUp, ReadsBlock, ReadsBlocks, ReadsLeader, StopsBehind, TellsOther, last_write, pair_writes, pairs_down, turn_write, upgrade_writes, zeros_write};
 ghost use Rattle.sl_direct.specs.declared.action.Action.TheVariants.{Upgrade};
 ghost use Rattle.sl_direct.specs.declared.action.Directed.TheVariants.{AreaFault, NoMemory};
 ghost use Rattle.sl_sector.specs.Records.{IsBlock, IsLeader};
@@ -261,7 +261,8 @@ fn write_pair<A: Area>(
     ensures cause { HasCause (A.faults area.old) (A.faults area.new) result }
 {
     write_turn(area, geometry, base, leader, block, true)?;
-    write_turn(area, geometry, base, leader, block, false)
+    write_turn(area, geometry, base, leader, block, false)?;
+    Ok(())
 }
 
 /// Writes the pairs of all hosts, from the last down to the first.
@@ -288,6 +289,23 @@ fn write_pairs<A: Area>(
     Ok(())
 }
 
+/// Writes the leader of an area with pairs.
+fn write_last<A: Area>(
+    area: &mut A,
+    geometry: Geometry,
+    base: u64,
+    leader: &Leader,
+) -> Result<(), Failed>
+    requires sizes { IsGeometry geometry }
+    requires base { IsBase geometry base }
+    requires leader { IsLeader leader.now }
+    ensures ok { OnOk result (Wrote (last_write (layout_of geometry) base leader.now ∷ []) (A.content area.old) (A.content area.new)) }
+    ensures failed { OnErr result (BrokeOff (last_write (layout_of geometry) base leader.now ∷ []) (A.content area.old) (A.content area.new)) }
+    ensures cause { HasCause (A.faults area.old) (A.faults area.new) result }
+{
+    write_record(area, geometry.leader_place(base), &Rec::PairLeaderIs(*leader))
+}
+
 /// Writes the area with pairs, the leader last. After an `Err` a front of it was written, and the next sector may be torn.
 fn write_paired<A: Area>(
     area: &mut A,
@@ -307,11 +325,8 @@ fn write_paired<A: Area>(
 {
     write_zeros(area, geometry, base)?;
     write_pairs(area, geometry, base, leader, blocks)?;
-    write_record(
-        area,
-        geometry.leader_place(base),
-        &Rec::PairLeaderIs(*leader),
-    )
+    write_last(area, geometry, base, leader)?;
+    Ok(())
 }
 
 /// Writes the area with pairs of a resource. Its line is made first, so that want of memory leaves the area as it was.
