@@ -26,10 +26,10 @@ fn main(rt: HostRuntime) -> ExitCode {
         // A word that is not UTF-8 is a word of no command, as no words are.
         Err(_) => Vec::new(rt.alloc()),
     };
-    let mut source = ReadSource::new(rt.stdin());
+    let source = ReadSource::new(rt.stdin());
     let mut sink = WriteSink::new(rt.stdout());
     let devices = FileDevices::new(rt, rt.alloc());
-    let (status, _devices) = run(rt.alloc(), &words, &mut source, &mut sink, devices);
+    let (status, _source, _devices) = run(&rt, rt.alloc(), &words, source, &mut sink, devices);
     let status = match sink.flush() {
         Ok(()) => status,
         Err(_) => Status::WriteFault,

@@ -18,6 +18,8 @@ pub struct Case {
     pub source: Vec<u8>,
     /// What is to be put out, where a file says so.
     pub due: Option<Vec<u8>>,
+    /// Whether all that is asked is that no conflict is counted.
+    pub calm: bool,
 }
 
 /// The number behind this word at the front of a line, and the rest of the line.
@@ -41,14 +43,21 @@ fn words(alloc: Global, line: &str) -> Result<Vec<String>, AllocError> {
     Ok(words)
 }
 
-/// The first lines of a text, so many.
-fn front(text: &[u8], count: u64) -> &[u8] {
+/// What stands behind the first lines of a text, so many.
+fn rest(text: &[u8], count: u64) -> &[u8] {
     let mut left = text;
     for _ in 0..count {
-        if let Some((_line, rest)) = split_line(left) {
-            left = rest;
+        match split_line(left) {
+            Some((_line, rest)) => left = rest,
+            None => return left,
         }
     }
+    left
+}
+
+/// The first lines of a text, so many.
+fn front(text: &[u8], count: u64) -> &[u8] {
+    let left = rest(text, count);
     &text[..text.len().saturating_sub(left.len())]
 }
 
@@ -58,17 +67,18 @@ fn file<R: Files + AllocGlobal>(rt: &R, name: &str, kind: &str) -> io::Result<Ve
     fs::read(rt, path.as_str())
 }
 
-/// So many lines of a schedule, and a line behind them.
-fn behind<R: Files + AllocGlobal>(
+/// So many lines of a schedule, a line behind them, and its lines behind so many.
+fn with_line<R: Files + AllocGlobal>(
     rt: &R,
-    count: u64,
+    (before, after): (u64, u64),
     name: &str,
     line: &str,
 ) -> io::Result<Vec<u8>> {
     let whole = file(rt, name, "schedule")?;
-    let mut source = Vec::from_slice(rt.alloc(), front(&whole, count))?;
+    let mut source = Vec::from_slice(rt.alloc(), front(&whole, before))?;
     source.extend_from_slice(line.as_bytes())?;
     source.push(b'\n')?;
+    source.extend_from_slice(rest(&whole, after))?;
     Ok(source)
 }
 
@@ -86,12 +96,29 @@ fn parts<R: Files + AllocGlobal>(
             Some(due),
         ));
     }
+    if let Some(rest) = line.strip_prefix("lives ") {
+        let (name, folder) = rest.split_once(' ').unwrap_or((rest, ""));
+        let said = format!(in alloc; "live {folder}")?;
+        return Ok((
+            words(alloc, said.as_str())?,
+            file(rt, name, "script")?,
+            None,
+        ));
+    }
     if let (Some(count), rest) = option(line, "behind") {
         let (name, text) = rest.split_once(' ').unwrap_or((rest, ""));
         return Ok((
             words(alloc, "replay")?,
-            behind(rt, count, name, text)?,
+            with_line(rt, (count, u64::MAX), name, text)?,
             None,
+        ));
+    }
+    if let (Some(count), rest) = option(line, "instead") {
+        let (name, text) = rest.split_once(' ').unwrap_or((rest, ""));
+        return Ok((
+            words(alloc, "replay")?,
+            with_line(rt, (count, count.saturating_add(1)), name, text)?,
+            Some(file(rt, name, "report")?),
         ));
     }
     Ok((words(alloc, line)?, Vec::new(alloc), None))
@@ -102,6 +129,10 @@ pub fn read_case<R: Files + AllocGlobal>(rt: &R, line: &str) -> io::Result<Case>
     let (reads, line) = option(line, "reads");
     let (writes, line) = option(line, "writes");
     let (memory, line) = option(line, "memory");
+    let (calm, line) = match line.strip_prefix("calm ") {
+        Some(rest) => (true, rest),
+        None => (false, line),
+    };
     let (words, source, due) = parts(rt, line)?;
     Ok(Case {
         reads,
@@ -110,5 +141,6 @@ pub fn read_case<R: Files + AllocGlobal>(rt: &R, line: &str) -> io::Result<Case>
         words,
         source,
         due,
+        calm,
     })
 }

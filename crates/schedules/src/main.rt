@@ -4,7 +4,8 @@
 //!
 //! - `schedule NAME` has the schedule `NAME.schedule` for its source; where it puts out what stands in `NAME.report`, `as due` is printed in
 //!   place of it;
-//! - `behind COUNT NAME TEXT` replays so many lines of that schedule, and behind them the line `TEXT`.
+//! - `behind COUNT NAME TEXT` replays so many lines of that schedule, and behind them the line `TEXT`;
+//! - `lives NAME FOLDER` runs live machines by the script `NAME.script`, with disks in files below that folder.
 //!
 //! What goes wrong on the outside is told in front, in this order: `reads N`, where the source gives 30 bytes a read and its Nth read fails;
 //! `writes N`, where the sink takes 16 bytes a write and its Nth write fails; `memory N`, where the disks `/f` and `/g` are zeros in memory,
@@ -15,47 +16,61 @@ mod case;
 mod outcome;
 
 use case::{Case, read_case};
-use outcome::{push_outcome, run_case};
+use outcome::{Outcome, push_outcome, run_case};
 use sl_io::{WriteSink, write_all};
-use sl_top::{FileDevices, MemDevices, MemDisk};
+use sl_outside::{AreaPlan, LiveDevices, SharedDevices, SharedPlan};
+use sl_top::FileDevices;
 use std::alloc::{AllocError, Global};
 use std::io;
 use std::io::ErrorKind;
-use std::rt::Files;
+use std::sync::Wait;
 use std::time::Clock;
 
 /// Bytes of a disk in memory.
-const AREA: usize = 1_048_576;
+const AREA: u64 = 1_048_576;
 
 /// Disks of zeros in memory, of each of which this call fails.
-fn disks(alloc: Global, call: u64) -> Result<MemDevices, AllocError> {
-    let mut disks = Vec::new(alloc);
-    for path in [b"/f".as_slice(), b"/g"] {
-        if let Some(path) = sl_text::FilePath::new(path) {
-            let area = sl_area::MemArea::new(alloc, AREA, vec![in alloc; call]?)?;
-            disks.push(MemDisk { path, area })?;
-        }
+fn disks<R: Wait + Clock + Copy + Drop + Send + Sync>(
+    rt: R,
+    alloc: Global,
+    call: u64,
+) -> Result<SharedDevices<R>, AllocError> {
+    let plan = AreaPlan {
+        machine: 1,
+        worker: 1,
+        failing: vec![in alloc; call]?,
+    };
+    let plan = SharedPlan {
+        areas: vec![in alloc; plan]?,
+        spawners: Vec::new(alloc),
+        makes: Vec::new(alloc),
+        gate: None,
+    };
+    let mut devices = SharedDevices::new(rt, alloc, plan);
+    for path in ["/f", "/g"] {
+        devices.make("", path, AREA).map_err(|_| AllocError)?;
     }
-    Ok(MemDevices::new(alloc, disks))
+    Ok(devices)
 }
 
-/// What is printed of a case.
-fn told<R: Files + Clock + AllocGlobal + Copy + Drop>(rt: R, line: &str) -> io::Result<Vec<u8>> {
-    let alloc = rt.alloc();
-    let case = read_case(&rt, line)?;
-    let outcome = match case.memory {
-        Some(call) => run_case(alloc, &case, disks(alloc, call)?)?,
-        None => run_case(alloc, &case, FileDevices::new(rt, alloc))?,
-    };
+/// What is printed of a case with this outcome.
+fn told(alloc: Global, line: &str, case: &Case, outcome: &Outcome) -> Result<Vec<u8>, AllocError> {
     let mut out = Vec::new(alloc);
-    push_outcome(&mut out, line, &case, &outcome)?;
+    push_outcome(&mut out, line, case, outcome)?;
     Ok(out)
 }
 
 fn main(rt: HostRuntime) -> io::Result<()> {
+    let alloc = rt.alloc();
     let mut sink = WriteSink::new(rt.stdout());
-    for line in rt.lines(rt.alloc()) {
-        let text = told(rt, line?.as_str())?;
+    for line in rt.lines(alloc) {
+        let line = line?;
+        let case = read_case(&rt, line.as_str())?;
+        let outcome = match case.memory {
+            Some(call) => run_case(&rt, alloc, &case, disks(rt, alloc, call)?)?,
+            None => run_case(&rt, alloc, &case, FileDevices::new(rt, alloc))?,
+        };
+        let text = told(alloc, line.as_str(), &case, &outcome)?;
         if write_all(&mut sink, &text).is_err() {
             return Err(io::Error::from(ErrorKind::Other));
         }

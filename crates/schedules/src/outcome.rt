@@ -3,8 +3,11 @@
 use crate::case::Case;
 use sl_io::{MemSink, MemSource};
 use sl_text::number::push_number;
-use sl_top::{Devices, Status, run};
+use sl_top::{LiveDevices, Status, run};
 use std::alloc::{AllocError, Global};
+use std::sync::Wait;
+use std::thread::Threads;
+use std::time::Clock;
 
 /// Bytes that a read gives where one is to fail.
 const READ: usize = 30;
@@ -35,12 +38,20 @@ fn plan(
 }
 
 /// What comes of a case over these disks.
-pub fn run_case<D: Devices>(alloc: Global, case: &Case, devices: D) -> Result<Outcome, AllocError> {
+pub fn run_case<R: Threads + Wait + Clock + Sync, D: LiveDevices>(
+    rt: &R,
+    alloc: Global,
+    case: &Case,
+    devices: D,
+) -> Result<Outcome, AllocError>
+where
+    D::Area: Send,
+{
     let (pieces, failing) = plan(alloc, case.reads, READ)?;
-    let mut source = MemSource::new(case.source.clone()?, pieces, failing);
+    let source = MemSource::new(case.source.clone()?, pieces, failing);
     let (pieces, failing) = plan(alloc, case.writes, WRITTEN)?;
     let mut sink = MemSink::new(alloc, ROOM, pieces, failing)?;
-    let (status, _devices) = run(alloc, &case.words, &mut source, &mut sink, devices);
+    let (status, _source, _devices) = run(rt, alloc, &case.words, source, &mut sink, devices);
     Ok(Outcome {
         status,
         output: sink.into_taken(),
@@ -67,6 +78,9 @@ pub fn push_outcome(
     push_number(out, u64::from(outcome.status.code()))?;
     if is_due(case, outcome) {
         return out.extend_from_slice(b", as due\n");
+    }
+    if case.calm && outcome.output.ends_with(b" conflicts 0\n") {
+        return out.extend_from_slice(b", no conflict\n");
     }
     out.push(b'\n')?;
     out.extend_from_slice(&outcome.output)

@@ -96,11 +96,18 @@ gen_rules = rule_with (codes "seed") None (Some 1) ∷ rule_with (codes "hosts")
 abbrev pub generate : Shape
 generate = built_shape (codes "gen") gen_rules
 
+-- The word of `live`.
+abbrev pub live_rules : List Rule
+live_rules = rule_with (codes "folder") None (Some 1) ∷ []
+
+abbrev pub live : Shape
+live = built_shape (codes "live") live_rules
+
 -- The program, built.
 abbrev pub program : App
 program = record {
   top = record (built_shape (codes "sanlock") []) { is_leaf = false; subcommand_required = true };
-  subs = replay ∷ generate ∷ direct ∷ [];
+  subs = replay ∷ generate ∷ direct ∷ live ∷ [];
 }
 
 pub program_is : built command_line ≡ program

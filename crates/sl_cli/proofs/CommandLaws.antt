@@ -7,9 +7,10 @@ use Rattle.clap.specs.Kinds.{Kinds}
 use Rattle.clap.specs.Simple.{App, entered, names_of, subcommand_of}
 use Rattle.clap.specs.Walk.{Names, Row, Text, Walk, idle, nothing_held, rows_after, stop_after, subcommand_met, walk, walk_from}
 use Rattle.sl_cli.proofs.BareCommands.{bare_walk, dashes_walk, level, or_nothing}
-use Rattle.sl_cli.proofs.BuiltCommand.{direct, gen_rules, generate, no_faults, program, program_is, replay, rules}
+use Rattle.sl_cli.proofs.BuiltCommand.{direct, gen_rules, generate, live, live_rules, no_faults, program, program_is, replay, rules}
 use Rattle.sl_cli.proofs.DirectLaws.{Read, direct_level, direct_read, direct_rows, given_rows}
 use Rattle.sl_cli.proofs.GenLaws.{gen_read}
+use Rattle.sl_cli.proofs.LiveLaws.{live_read}
 use Rattle.sl_cli.proofs.Steps.{AreTexts}
 use Rattle.sl_cli.proofs.Turns.{Fails, fails_with, first_fails}
 use Rattle.sl_cli.specs.Actions.{action_in}
@@ -17,7 +18,7 @@ use Rattle.sl_cli.specs.CommandLine.{command_line}
 use Rattle.sl_cli.specs.CommandWords.{Use, command_in, given_by, nothing_taken, uses_from}
 use Rattle.sl_cli.specs.Parses.{IsRefused, TakenAs, given_in, met_in, said_by}
 use Rattle.sl_cli.specs.declared.given.Met.{Met}
-use Rattle.sl_cli.specs.declared.reading.Words.TheVariants.{Direct, Replay}
+use Rattle.sl_cli.specs.declared.reading.Words.TheVariants.{Direct, Live, Replay}
 use Rattle.sl_words.specs.Words.{choose}
 use Rattle.std.proofs.Common.{Bool, List, None, Option, Some, [], ap, false, inl, inr, map, refl, subst, sym, true, ◌≡◌, ◌∙◌, ◌∷◌, ◌⊎◌}
 use Rattle.std.proofs.lemmas.Bool.{cases_Bool}
@@ -86,6 +87,20 @@ direct_named ws = ap (λ (w : Walk). entered program w.stopped) (direct_walk ws)
 direct_fault : (ws : List Text) → fault (codes "direct" ∷ ws) ≡ level direct ws
 direct_fault ws = rw (direct_passes ws, direct_walk ws) (rw (no_faults [] [] refl) (or_nothing (level direct ws)))
 
+live_walk : (ws : List Text) → walk [] names nothing_held (codes "live" ∷ ws) ≡ record (walk_from nothing_held) { stopped = Some (codes "live", ws) }
+unfolding clap_on_literals
+live_walk ws = sym (walk_stopped [] names (walk_from nothing_held) (codes "live") [] ws)
+
+live_passes : (ws : List Text) → walk_fault program.top names (walk_from nothing_held) (codes "live" ∷ ws) ≡ []
+unfolding clap_on_literals
+live_passes ws = stopped_fault program.top names (walk_from nothing_held) (codes "live", []) ws
+
+live_named : (ws : List Text) → named (codes "live" ∷ ws) ≡ Some (codes "live", rows_after live_rules [] ws)
+live_named ws = ap (λ (w : Walk). entered program w.stopped) (live_walk ws)
+
+live_fault : (ws : List Text) → fault (codes "live" ∷ ws) ≡ level live ws
+live_fault ws = rw (live_passes ws, live_walk ws) (rw (no_faults [] [] refl) (or_nothing (level live ws)))
+
 -- ---- `replay`
 
 -- Its words end at once, or behind `--`.
@@ -143,6 +158,14 @@ gen_agrees ws texts = elim (gen_read ws texts) [
   | inr neither ↦ inr (λ none. neither.0 (sym (gen_fault ws) ∙ none), neither.1)
 ]
 
+-- ---- `live`
+
+live_agrees : (ws : List Text) → AreTexts ws → Agrees (codes "live" ∷ ws)
+live_agrees ws texts = elim (live_read ws texts) [
+  | inl both ↦ inl (live_fault ws ∙ both.0, ap (λ o. option_and_then said_by (met_in o)) (live_named ws) ∙ ap (option_map (λ w. Live w)) both.1)
+  | inr neither ↦ inr (λ none. neither.0 (sym (live_fault ws) ∙ none), ap (option_map (λ w. Live w)) neither.1)
+]
+
 -- ---- any other word
 
 -- No word fails, for a command is wanted.
@@ -161,9 +184,10 @@ other_fails w (v ∷ ws) true none e =
     subst (λ w. Fails (fault (w ∷ v ∷ ws))) (sym ((bytes_eq-Decides w (codes "--")).0 e))
     (first_fails (walk_fault program.top names (walk_from nothing_held) (codes "--" ∷ v ∷ ws)) _ (dashes_walk program.top names v ws refl))
 
-other_agrees : (w : Text) (ws : List Text) → bytes_eq (codes "replay") w ≡ false → bytes_eq (codes "gen") w ≡ false → bytes_eq (codes "direct") w ≡ false → Agrees (w ∷ ws)
-other_agrees w ws no_replay no_gen no_direct =
-    inr (other_fails w ws (bytes_eq w (codes "--")) (rw (no_replay, no_gen, no_direct) refl) refl, rw (no_replay, no_gen, no_direct) refl)
+other_agrees : (w : Text) (ws : List Text) → bytes_eq (codes "replay") w ≡ false → bytes_eq (codes "gen") w ≡ false → bytes_eq (codes "direct") w ≡ false → bytes_eq (codes "live") w ≡ false
+    → Agrees (w ∷ ws)
+other_agrees w ws no_replay no_gen no_direct no_live =
+    inr (other_fails w ws (bytes_eq w (codes "--")) (rw (no_replay, no_gen, no_direct, no_live) refl) refl, rw (no_replay, no_gen, no_direct, no_live) refl)
 
 -- ---- all words
 
@@ -175,7 +199,10 @@ agrees (w ∷ ws) texts = elim (cases_Bool (bytes_eq (codes "replay") w)) [
     | inl e ↦ subst (λ w. Agrees (w ∷ ws)) ((bytes_eq-Decides (codes "gen") w).0 e) (gen_agrees ws texts.1)
     | inr no_gen ↦ elim (cases_Bool (bytes_eq (codes "direct") w)) [
       | inl e ↦ subst (λ w. Agrees (w ∷ ws)) ((bytes_eq-Decides (codes "direct") w).0 e) (direct_agrees ws texts.1)
-      | inr no_direct ↦ other_agrees w ws no_replay no_gen no_direct
+      | inr no_direct ↦ elim (cases_Bool (bytes_eq (codes "live") w)) [
+        | inl e ↦ subst (λ w. Agrees (w ∷ ws)) ((bytes_eq-Decides (codes "live") w).0 e) (live_agrees ws texts.1)
+        | inr no_live ↦ other_agrees w ws no_replay no_gen no_direct no_live
+      ]
     ]
   ]
 ]

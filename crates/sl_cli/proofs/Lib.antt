@@ -7,6 +7,7 @@ pub mod CommandLaws
 pub mod DirectLaws
 pub mod GenLaws
 pub mod Letters
+pub mod LiveLaws
 pub mod OptionSteps
 pub mod SizeWords
 pub mod SpellingLaws

@@ -1,9 +1,9 @@
 -- Words in any order are read, and no others are.
 use Rattle.sl_cli.proofs.ActionTexts.{actions_have_one_text}
 use Rattle.sl_cli.specs.Actions.{action_in}
-use Rattle.sl_cli.specs.CommandWords.{Taken, Use, command_in, ends_here, given_by, is_event_count, is_given, is_machine_count, is_only, is_plain, is_seed, nothing_taken, option_named, three_in, use_of, uses_from, with_use, without_dashes}
+use Rattle.sl_cli.specs.CommandWords.{Taken, Use, command_in, ends_here, folder_in, given_by, is_event_count, is_given, is_machine_count, is_only, is_plain, is_seed, nothing_taken, option_named, three_in, use_of, uses_from, with_use, without_dashes}
 use Rattle.sl_cli.specs.Spellings.{AsksFor, IsAsked, OnlyItsWordsAskForAnAction, OptionsComeInAnyOrder, are_apart, is_use, letter_named, option_words, spelled, use_words}
-use Rattle.sl_cli.specs.declared.reading.Words.TheVariants.{Direct, Generate, Help, Replay, Version}
+use Rattle.sl_cli.specs.declared.reading.Words.TheVariants.{Direct, Generate, Help, Live, Replay, Version}
 use Rattle.sl_direct.specs.declared.action.Action.{Action}
 use Rattle.sl_text.specs.Numbers.{number_of}
 use Rattle.sl_words.proofs.CaseLaws.{none_some}
@@ -135,6 +135,10 @@ no_gen (s ∷ m ∷ []) a h = absurd cc
 no_gen (s ∷ m ∷ e ∷ []) a h = no_seed (is_seed s && (is_machine_count m && is_event_count e)) (number_of s) (number_of m) (number_of e) a h
 no_gen (s ∷ m ∷ e ∷ w ∷ ws) a h = absurd cc
 
+no_folder : (o : Option (List ℕ)) (a : Action) → option_map (λ w. Live w) o ≡ Some (Direct a) → ⊥
+no_folder None a h = absurd cc
+no_folder (Some w) a h = absurd cc
+
 command_asks : (ws : List (List ℕ)) (a : Action) → command_in ws ≡ Some (Direct a) → Asks a ws
 command_asks [] a h = absurd cc
 command_asks (w ∷ ws) a h = elim (cases_Bool (bytes_eq (codes "replay") w)) [
@@ -145,7 +149,10 @@ command_asks (w ∷ ws) a h = elim (cases_Bool (bytes_eq (codes "replay") w)) [
       | inl direct ↦
           let is = direct_by ws a (uses_from nothing_taken ws) refl (rw (no_replay, no_gen, direct) at h) in
           (is.0, ws, ap (λ v. v ∷ ws) (sym ((bytes_eq-Decides (codes "direct") w).0 direct)), is.1)
-      | inr no_direct ↦ absurd (none_some (Direct a) (rw (no_replay, no_gen, no_direct) at h))
+      | inr no_direct ↦ elim (cases_Bool (bytes_eq (codes "live") w)) [
+        | inl live ↦ absurd (no_folder (folder_in ws) a (rw (no_replay, no_gen, no_direct, live) at h))
+        | inr other ↦ absurd (none_some (Direct a) (rw (no_replay, no_gen, no_direct, other) at h))
+      ]
     ]
   ]
 ]

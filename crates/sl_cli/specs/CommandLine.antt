@@ -18,12 +18,20 @@ direct_app =
 abbrev pub gen_app : App
 gen_app = with_rule (with_rule (with_rule (new_app (codes "gen")) (new_rule (codes "seed"))) (new_rule (codes "hosts"))) (new_rule (codes "events"))
 
+-- `live FOLDER`.
+abbrev pub live_app : App
+live_app = with_rule (new_app (codes "live")) (new_rule (codes "folder"))
+
 -- The program, without a name in front of its words, and without what the parser would add of its own.
 abbrev pub bare_shape : Shape
 bare_shape =
     record (new_shape (codes "sanlock")) { no_binary_name = true; disable_help_flag = true; disable_help_subcommand = true; subcommand_required = true }
 
+-- With the commands that run no machines.
+abbrev pub offline_app : App
+offline_app =
+    with_subcommand (with_subcommand (with_subcommand (record { top = bare_shape; subs = [] }) (new_shape (codes "replay"))) gen_app.top) direct_app.top
+
 -- The whole command.
 abbrev pub command_line : App
-command_line =
-    with_subcommand (with_subcommand (with_subcommand (record { top = bare_shape; subs = [] }) (new_shape (codes "replay"))) gen_app.top) direct_app.top
+command_line = with_subcommand offline_app live_app.top

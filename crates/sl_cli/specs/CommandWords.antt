@@ -1,6 +1,6 @@
 -- How the words of the command line are read, from the left.
 use Rattle.sl_cli.specs.Actions.{Given, action_in}
-use Rattle.sl_cli.specs.declared.reading.Words.TheVariants.{Direct, Generate, Help, Replay, Version}
+use Rattle.sl_cli.specs.declared.reading.Words.TheVariants.{Direct, Generate, Help, Live, Replay, Version}
 use Rattle.sl_cli.specs.declared.reading.Words.{Words}
 use Rattle.sl_text.specs.Numbers.{is_number_that, number_of}
 use Rattle.sl_words.specs.Words.{choose, is_empty}
@@ -140,6 +140,19 @@ without_dashes (w ∷ ws) = if bytes_eq w (codes "--") then ws else w ∷ withou
 abbrev pub gen_in : List (List ℕ) → Option Words
 gen_in ws = three_in (without_dashes ws)
 
+-- ---- what is given to `live`
+
+-- The word of a folder: one that is no option, with a `--` before or behind it; behind `--` it may look like one.
+abbrev pub folder_in : List (List ℕ) → Option (List ℕ)
+folder_in [] = None
+folder_in (w ∷ []) = choose (is_plain w) w
+folder_in (w ∷ v ∷ []) = if bytes_eq w (codes "--") then Some v else choose (is_plain w && bytes_eq v (codes "--")) w
+folder_in (w ∷ v ∷ u ∷ ws) = None
+
+-- What the words behind `live` say.
+abbrev pub live_in : List (List ℕ) → Option Words
+live_in ws = option_map (λ w. Live w) (folder_in ws)
+
 -- ---- the whole line
 
 -- The words are one of these two, alone.
@@ -165,6 +178,7 @@ command_in (w ∷ ws) =
     if bytes_eq (codes "replay") w then choose (ends_here ws) Replay
     else if bytes_eq (codes "gen") w then gen_in ws
     else if bytes_eq (codes "direct") w then direct_in ws
+    else if bytes_eq (codes "live") w then live_in ws
     else None
 
 -- What the words of the command line say.

@@ -6,7 +6,7 @@ use Rattle.sl_cli.specs.Actions.{Given, action_in}
 use Rattle.sl_cli.specs.CommandLine.{command_line}
 use Rattle.sl_cli.specs.CommandWords.{Seeding, seeding_in}
 use Rattle.sl_cli.specs.declared.given.Met.{Met}
-use Rattle.sl_cli.specs.declared.reading.Words.TheVariants.{Direct, Replay}
+use Rattle.sl_cli.specs.declared.reading.Words.TheVariants.{Direct, Live, Replay}
 use Rattle.sl_cli.specs.declared.reading.Words.{Words}
 use Rattle.std.specs.Prelude.{List, None, Option, Some, bytes_eq, codes, if◌then◌else◌, option_map, [], ◌≡◌}
 
@@ -31,6 +31,7 @@ named_met name rows =
     if bytes_eq name (codes "replay") then Some Met.Replay
     else if bytes_eq name (codes "gen") then Some (Met.Generate (seeding_of rows))
     else if bytes_eq name (codes "direct") then Some (Met.Direct (given_in rows))
+    else if bytes_eq name (codes "live") then Some (Met.Live (first_of (codes "folder") rows))
     else None
 
 -- The command that was met.
@@ -43,6 +44,7 @@ abbrev pub said_by : Met → Option Words
 said_by Met.Replay = Some Replay
 said_by (Met.Generate s) = seeding_in s.seed s.hosts s.events
 said_by (Met.Direct given) = option_map (λ a. Direct a) (action_in given)
+said_by (Met.Live folder) = option_map (λ w. Live w) folder
 
 -- The parser takes the words, and meets this command.
 abbrev pub TakenAs : List Text → Option Met → Type 0

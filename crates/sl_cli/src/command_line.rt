@@ -3,7 +3,7 @@
 ghost use Rattle.clap.specs.Walk.{rule_of};
 ghost use Rattle.clap.specs.Simple.{app_of, new_rule, new_shape, with_rule};
 ghost use Rattle.clap.specs.declared.builder.command.Command.TheViews.{out-Command as fields_of};
-ghost use Rattle.sl_cli.specs.CommandLine.{bare_shape, command_line, direct_app, gen_app, option_rule};
+ghost use Rattle.sl_cli.specs.CommandLine.{bare_shape, command_line, direct_app, gen_app, live_app, offline_app, option_rule};
 ghost use Rattle.std.specs.Prelude.{IfOk, [], codes, false, ◌≡◌};
 
 use clap::{Arg, Command};
@@ -75,6 +75,14 @@ fn generate<'a>(alloc: Global) -> Result<Command<'a>, AllocError>
     with_word(alloc, command, "events")
 }
 
+/// `live`, with its folder.
+fn live<'a>(alloc: Global) -> Result<Command<'a>, AllocError>
+    ensures app { IfOk result (λ c. app_of c ≡ live_app) }
+    ensures local { IfOk result (λ c. (fields_of c).has_globals ≡ false) }
+{
+    Command::new(alloc, "live").arg(Arg::new(alloc, "folder"))
+}
+
 /// The program without its commands. Its words have no name in front, and no word asks the parser for help.
 fn bare<'a>(alloc: Global) -> Command<'a>
     ensures { app_of result ≡ record { top = bare_shape; subs = [] } }
@@ -86,12 +94,19 @@ fn bare<'a>(alloc: Global) -> Command<'a>
         .subcommand_required(true)
 }
 
-/// The whole command.
-pub(crate) fn command_line<'a>(alloc: Global) -> Result<Command<'a>, AllocError>
-    ensures { IfOk result (λ c. app_of c ≡ command_line) }
+/// The program with the commands that run no machines.
+fn offline<'a>(alloc: Global) -> Result<Command<'a>, AllocError>
+    ensures { IfOk result (λ c. app_of c ≡ offline_app) }
 {
     bare(alloc)
         .subcommand(Command::new(alloc, "replay"))?
         .subcommand(generate(alloc)?)?
         .subcommand(direct(alloc)?)
+}
+
+/// The whole command.
+pub(crate) fn command_line<'a>(alloc: Global) -> Result<Command<'a>, AllocError>
+    ensures { IfOk result (λ c. app_of c ≡ command_line) }
+{
+    offline(alloc)?.subcommand(live(alloc)?)
 }

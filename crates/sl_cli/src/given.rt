@@ -9,14 +9,17 @@ ghost use Rattle.sl_cli.specs.Parses.{given_in, met_in, seeding_of};
 ghost use Rattle.sl_cli.specs.Spellings.{CanBeDone};
 ghost use Rattle.sl_text.specs.Numbers.{number_of};
 ghost use Rattle.sl_words.specs.Words.{choose};
-ghost use Rattle.std.specs.Prelude.{IfSome, codes, option_map, ◌≡◌, ◌≤◌};
+ghost use Rattle.sl_cli.specs.declared.reading.Words.TheVariants.{Live};
+ghost use Rattle.std.specs.Prelude.{IfOk, IfSome, codes, option_map, ◌≡◌, ◌≤◌};
 
 use crate::arguments::{lockspace_of, resource_of, sizes_for, sizes_said, stretch_of};
+use crate::folder::Folder;
 use crate::reading::Words;
 use clap::ArgMatches;
 use sl_area::Geometry;
 use sl_direct::Action;
 use sl_text::number::read_number_within;
+use std::alloc::{AllocError, Global};
 use std::marker::Model;
 
 /// The word of the action, and the values of the options: each where it was given.
@@ -209,12 +212,50 @@ impl<'a> Seeding<'a> {
     }
 }
 
+/// The word of a folder, where it was given.
+#[derive(Drop)]
+pub(crate) struct Placing<'a> {
+    folder: Option<&'a str>,
+}
+
+impl<'a> Model for Placing<'a> {
+    ghost use Rattle.std.specs.Prelude.{List, Option, option_map, ℕ};
+
+    ghost Value = { Option (List ℕ) };
+
+    ghost view = { λ p. option_map (λ w. w.now) p.folder };
+}
+
+impl<'a> Placing<'a> {
+    /// What the parser found.
+    pub(crate) fn new(matches: &ArgMatches<'a>) -> Placing<'a>
+        ensures { result ≡ first_of (codes "folder") (rows_of (found_of matches.now)) }
+    {
+        Placing {
+            folder: value_of(matches, "folder"),
+        }
+    }
+
+    /// What is asked for, if it is given. An `Err` is want of memory.
+    pub(crate) fn words(&self, alloc: Global) -> Result<Option<Words>, AllocError>
+        ensures { IfOk result (λ words. words ≡ option_map (λ w. Live w) self.now) }
+    {
+        match self.folder {
+            None => Ok(None),
+            Some(word) => Ok(Some(Words::Live {
+                folder: Folder::new(alloc, word)?,
+            })),
+        }
+    }
+}
+
 /// The command that the parser met, with what was given to it.
 #[derive(Drop)]
 pub(crate) enum Met<'a> {
     Replay,
     Generate(Seeding<'a>),
     Direct(Given<'a>),
+    Live(Placing<'a>),
 }
 
 /// The command that the parser met.
@@ -228,6 +269,8 @@ pub(crate) fn met_in<'a>(matches: &ArgMatches<'a>) -> Option<Met<'a>>
         Some(Met::Generate(Seeding::new(matches)))
     } else if name == "direct" {
         Some(Met::Direct(Given::new(matches)))
+    } else if name == "live" {
+        Some(Met::Live(Placing::new(matches)))
     } else {
         None
     }

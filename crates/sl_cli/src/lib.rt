@@ -1,7 +1,7 @@
 //! The words of the command line.
 //!
-//! A line's words say `replay`, or `direct` with an action and its options, or ask for the help or the version; all other words say
-//! nothing. `command_line` tells the argument parser, the kit's `clap`, which commands and options there are. `given` takes what the
+//! A line's words say `replay`, `gen` with its numbers, `live` with a folder, or `direct` with an action and its options, or ask for the help
+//! or the version; all other words say nothing. `command_line` tells the argument parser, the kit's `clap`, which commands and options there are. `given` takes what the
 //! parser found for each option and makes the action of it; `arguments` reads the words that stand for something: sizes, an area, its
 //! hosts, a stretch of a file. `reading` puts these together: it is all that the rest of the program knows of words. `texts` has what the
 //! program says of itself.
@@ -15,10 +15,12 @@
 
 mod arguments;
 mod command_line;
+mod folder;
 mod given;
 pub mod laws;
 mod reading;
 mod texts;
 
+pub use folder::Folder;
 pub use reading::{Words, WordsError, read_words};
 pub use texts::{HELP, VERSION};

@@ -1,21 +1,24 @@
 //! The words of the command line, turned into what they say.
 
 ghost use Rattle.clap.specs.Values.{kind_of};
+ghost use Rattle.sl_cli.specs.Actions.{action_in};
 ghost use Rattle.sl_cli.specs.CommandWords.{command_in, is_only, said_in};
 ghost use Rattle.sl_cli.specs.Parses.{IsRefused, TakenAs, said_by};
 ghost use Rattle.sl_cli.specs.Spellings.{CanBeDone};
+ghost use Rattle.sl_cli.specs.declared.reading.Words.TheVariants.{Direct};
 ghost use Rattle.sl_cli.specs.declared.reading.WordsError.TheVariants.{Bad, NoMemory};
-ghost use Rattle.std.specs.Prelude.{Err, IfOk, IfSome, None, Some, map, option_and_then, string_bytes, ◌≡◌};
+ghost use Rattle.std.specs.Prelude.{Err, IfOk, IfSome, None, Some, map, option_and_then, option_map, string_bytes, ◌≡◌};
 
 use crate::command_line::command_line;
-use crate::given::{Met, met_in};
+use crate::folder::Folder;
+use crate::given::{Given, Met, met_in};
 use clap::Error;
 use clap::error::ErrorKind;
 use sl_direct::Action;
 use std::alloc::{AllocError, Global};
 
 /// What the words of the command line say.
-#[derive(Clone, Copy)]
+#[derive(Drop)]
 pub enum Words {
     /// Run a schedule, and report it.
     Replay,
@@ -23,6 +26,8 @@ pub enum Words {
     Generate { seed: u64, hosts: u32, events: u64 },
     /// Do this to an area.
     Direct(Action),
+    /// Run live machines by a script, on disks that are files below this folder.
+    Live { folder: Folder },
     /// Put out the help.
     Help,
     /// Put out the version.
@@ -66,15 +71,24 @@ fn error_of(error: &Error) -> WordsError
     }
 }
 
-/// What a command says.
-fn said(met: Met<'_>) -> Option<Words>
-    ensures exact { result ≡ said_by met.entry }
+/// What was given to `direct` says.
+fn directed(given: &Given<'_>) -> Option<Words>
+    ensures exact { result ≡ option_map (λ a. Direct a) (action_in given.now) }
     ensures can { IfSome result CanBeDone }
 {
+    Some(Words::Direct(given.action()?))
+}
+
+/// What a command says. An `Err` is want of memory.
+fn said(alloc: Global, met: Met<'_>) -> Result<Option<Words>, AllocError>
+    ensures exact { IfOk result (λ words. words ≡ said_by met.entry) }
+    ensures can { IfOk result (λ words. IfSome words CanBeDone) }
+{
     match met {
-        Met::Replay => Some(Words::Replay),
-        Met::Generate(given) => given.words(),
-        Met::Direct(given) => Some(Words::Direct(given.action()?)),
+        Met::Replay => Ok(Some(Words::Replay)),
+        Met::Generate(given) => Ok(given.words()),
+        Met::Direct(given) => Ok(directed(&given)),
+        Met::Live(given) => given.words(alloc),
     }
 }
 
@@ -111,6 +125,6 @@ pub fn read_words(alloc: Global, words: &[String]) -> Result<Words, WordsError>
         Ok(Words::Version)
     } else {
         let met = command(alloc, words)?.ok_or(WordsError::Bad)?;
-        said(met).ok_or(WordsError::Bad)
+        said(alloc, met)?.ok_or(WordsError::Bad)
     }
 }

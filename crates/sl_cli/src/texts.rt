@@ -7,6 +7,9 @@ usage: sanlock COMMAND
   replay                   run the schedule on standard input, print its report
   gen SEED HOSTS EVENTS    run the schedule of a seed, print the last line of its
                            report
+  live FOLDER              run the live script on standard input, with disks in
+                           files below FOLDER and child programs; it waits for
+                           the children that it starts, and prints at the end
   direct init -s LOCKSPACE -n N [-g GEOMETRY]
                            write the sectors of a lockspace for N hosts
   direct init -r RESOURCE -n N [-g GEOMETRY]
@@ -27,7 +30,8 @@ GEOMETRY is SECTOR:MIB, the bytes of a sector and the mebibytes of an area:
 SEED is below 2^64, HOSTS 1 to 16, EVENTS at most 1000000.
 
 Status: 0 done; 1 a line was refused; 2 bad words; 3 a read and 4 a write
-failed; 5 no memory; 6 a read or a write of an area failed; 7 not the leader.
+failed; 5 no memory; 6 a read or a write of an area failed; 7 not the leader;
+8 a live machine's threads and its history differ.
 ";
 
 /// What `--version` puts out.

@@ -10,12 +10,12 @@ use Rattle.sl_trace.specs.declared.effects.Sent.{Sent}
 use Rattle.sl_trace.specs.declared.effects.Signal.TheVariants.{Kill}
 use Rattle.sl_trace.specs.declared.effects.Start.{Start}
 use Rattle.sl_trace.specs.declared.input.Answer.{Answer}
-use Rattle.sl_trace.specs.declared.input.Input.TheVariants.{Answer as Told, Exit, Line, Spawned, Wake}
+use Rattle.sl_trace.specs.declared.input.Input.TheVariants.{Answer as Told, Exit, Line, Number, Spawned, Wake}
 use Rattle.sl_trace.specs.declared.input.Input.{Input}
 use Rattle.sl_trace.specs.declared.effects.Call.{Call}
 use Rattle.sl_words.specs.Causes.{Rose}
 use Rattle.std.specs.List.{flat_map, position, remove}
-use Rattle.std.specs.Prelude.{All, Bool, Err, List, None, Ok, Option, Some, Result, false, if◌then◌else◌, length, map, nat_le, true, [], ℕ, ◌&&◌, ◌++◌, ◌+◌, ◌==◌, ◌∷◌, ◌≡◌, ◌≤◌}
+use Rattle.std.specs.Prelude.{All, Bool, Err, List, None, Ok, Option, Some, Result, false, if◌then◌else◌, length, map, nat_le, true, [], ℕ, ◌&&◌, ◌++◌, ◌+◌, ◌==◌, ◌∷◌, ◌≡◌, ◌≤◌, ◌⊎◌}
 
 -- ---- the machine's children
 
@@ -277,8 +277,9 @@ IsWake i = i ≡ Wake
 abbrev pub IsExit : Input → Type 0
 IsExit i = (process : ℕ) × (i ≡ Exit process)
 
+-- A line for the host, or one for lvmlockd, which takes a number.
 abbrev pub IsLine : Input → Type 0
-IsLine i = (text : List ℕ) × (i ≡ Line text)
+IsLine i = (text : List ℕ) × ((i ≡ Line text) ⊎ (i ≡ Number text))
 
 abbrev pub IsTellOf : Call → Input → Type 0
 IsTellOf c i = (a : Answer) × (i ≡ Told c.number a)

@@ -1,15 +1,14 @@
 -- The lines of a history beside those that are due, one entry longer at a time.
-use Rattle.sl_live_audit.specs.Audited.{Differ, LineDiffers, Parts, after_line, is_due, line_behind, lines_of}
-use Rattle.sl_trace.specs.Traces.{line_in}
+use Rattle.sl_live_audit.specs.Audited.{AreLines, Differ, EndsAt, KeepsAsk, KeepsAsks, LineDiffers, Looks, Parts, Passes, due_line, line_behind, lines_along, own_lines}
+use Rattle.sl_live_locks.specs.Alongs.{AlongState, along, due_ask, line_given, runs_line, step_along}
+use Rattle.sl_live_locks.specs.declared.line.GivenLine.{GivenLine}
+use Rattle.sl_live_audit.specs.declared.lines.Looked.TheVariants.{Fits, Wrong}
 use Rattle.sl_trace.specs.declared.effects.Entry.{Entry}
 use Rattle.sl_words.proofs.CaseLaws.{false_is_true, no_value, none_some, not_both, some_value}
-use Rattle.sl_words.specs.Words.{choose, some_is}
-use Rattle.std.proofs.Common.{ap, arith, length, refl, slice_index_or, subst, suc, sym, take, zero, ◌++◌, ◌+◌, ◌-◌, ◌<◌, ◌∙◌, ◌∷◌, ◌≡◌, ◌≤◌, [], ℕ}
-use Rattle.std.proofs.lemmas.List.Concat.{flat_map-append}
-use Rattle.std.proofs.lemmas.List.{append-nil, take_more}
-use Rattle.std.proofs.lemmas.Slice.Eq.{bytes_eq-Decides}
+use Rattle.std.proofs.Common.{ap, append_assoc, arith, if◌then◌else◌, length, refl, slice_index_or, subst, suc, sym, take, zero, ◌++◌, ◌+◌, ◌-◌, ◌<◌, ◌∙◌, ◌∷◌, ◌≡◌, ◌≤◌, [], ℕ}
+use Rattle.std.proofs.lemmas.List.{append-nil, length-append, take_more}
 use Rattle.std.specs.Option.{option_to_list}
-use Rattle.std.specs.Prelude.{Bool, IsSome, List, None, Option, Some, bytes_eq, false, slice_get, true}
+use Rattle.std.specs.Prelude.{Bool, Err, IfNone, IfOk, IfSome, IsSome, List, None, Ok, Option, Result, Some, false, slice_get, true}
 
 -- ---- lists
 
@@ -44,142 +43,202 @@ none_past (x ∷ xs) = none_past xs
 
 -- ---- one entry more
 
-lines_next : (h : List Entry) (k : ℕ) (e : Entry) → k < length h → e ≡ slice_index_or h k e
-    → lines_of (take (k + 1) h) ≡ lines_of (take k h) ++ option_to_list (line_in e.input)
-lines_next h k e lt here =
-    ap lines_of (take_more h k e lt)
-    ∙ flat_map-append (λ (x : Entry). option_to_list (line_in x.input)) (take k h) (slice_index_or h k e ∷ [])
-    ∙ ap (λ l. lines_of (take k h) ++ l) (append-nil (option_to_list (line_in (slice_index_or h k e).input)))
-    ∙ ap (λ (x : Entry). lines_of (take k h) ++ option_to_list (line_in x.input)) (sym here)
+along_push : (a : AlongState) (h : List Entry) (e : Entry) → along a (h ++ e ∷ []) ≡ step_along (along a h) e
+along_push a [] e = refl
+along_push a (x ∷ h) e = along_push (step_along a x) h e
 
--- The line at this place is due, and is this one.
-due_line : (due : List (List ℕ)) (at : ℕ) (text : List ℕ) → is_due due at text ≡ true → slice_get due at ≡ Some text
-due_line due at text is = go (slice_get due at) refl is
-  where
-    go : (o : Option (List ℕ)) → slice_get due at ≡ o → some_is (λ line. bytes_eq line text) o ≡ true → slice_get due at ≡ Some text
-    go None here none = absurd (false_is_true none)
-    go (Some line) here same = here ∙ ap Some ((bytes_eq-Decides line text).0 same)
+lines_push : (a : AlongState) (h : List Entry) (e : Entry) → lines_along a (h ++ e ∷ []) ≡ lines_along a h ++ own_lines (along a h) e
+lines_push a [] e = append-nil (own_lines a e)
+lines_push a (x ∷ h) e =
+    ap (λ ls. own_lines a x ++ ls) (lines_push (step_along a x) h e) ∙ sym (append_assoc (own_lines a x) (lines_along (step_along a x) h) (own_lines (along (step_along a x) h) e))
 
--- .. or it is not.
-not_due : (due : List (List ℕ)) (at : ℕ) (text : List ℕ) → is_due due at text ≡ false → slice_get due at ≡ Some text → ⊥
-not_due due at text fails here =
-    not_both (is_due due at text) (ap (some_is (λ line. bytes_eq line text)) here ∙ (bytes_eq-Decides text text).1 refl) fails
+asks_push : (a : AlongState) (h : List Entry) (e : Entry) → KeepsAsks a h → KeepsAsk (along a h) e → KeepsAsks a (h ++ e ∷ [])
+asks_push a [] e so more = (more, tt)
+asks_push a (x ∷ h) e so more = (so.0, asks_push (step_along a x) h e so.1 more)
+
+-- The entry behind the first k.
+entry_more : (h : List Entry) (k : ℕ) (e : Entry) → k < length h → e ≡ slice_index_or h k e → take (k + 1) h ≡ take k h ++ e ∷ []
+entry_more h k e lt here = take_more h k e lt ∙ ap (λ x. take k h ++ x ∷ []) (sym here)
+
+pub along_more : (a b c : AlongState) (h : List Entry) (k : ℕ) (e : Entry) → k < length h → e ≡ slice_index_or h k e → b ≡ along a (take k h) → c ≡ step_along b e
+    → c ≡ along a (take (k + 1) h)
+along_more a b c h k e lt here is step =
+    step ∙ ap (λ x. step_along x e) is ∙ sym (along_push a (take k h) e) ∙ sym (ap (along a) (entry_more h k e lt here))
 
 -- So many lines are alike.
-pub record AreAlike (h : List Entry) (due : List (List ℕ)) (entries lines : ℕ) : Type 0 where
-  pub alike : lines_of (take entries h) ≡ take lines due
-  pub counted : lines ≡ length (lines_of (take entries h))
+pub record AreAlike (a : AlongState) (h : List Entry) (due : List GivenLine) (entries lines : ℕ) : Type 0 where
+  pub alike : lines_along a (take entries h) ≡ take lines due
+  pub asks : KeepsAsks a (take entries h)
+  pub counted : lines ≡ length (lines_along a (take entries h))
   pub within : lines ≤ length due
 
-pub none_alike : (h : List Entry) (due : List (List ℕ)) → AreAlike h due 0 0
-none_alike h due = record { alike = refl; counted = refl; within = omega arith }
+pub none_alike : (a : AlongState) (h : List Entry) (due : List GivenLine) → AreAlike a h due 0 0
+none_alike a h due = record { alike = refl; asks = tt; counted = refl; within = omega arith }
 
--- One entry more.
-pub alike_more : (h : List Entry) (due : List (List ℕ)) (k lines next : ℕ) (e : Entry) → k < length h → e ≡ slice_index_or h k e
-    → after_line due lines e ≡ Some next → AreAlike h due k lines → AreAlike h due (k + 1) next
-alike_more h due k lines next e lt here is so = go (line_in e.input) refl is
+-- The same script's lines, by an entry that has none.
+same_lines : (a : AlongState) (h : List Entry) (due : List GivenLine) (k lines : ℕ) (e : Entry) → k < length h → e ≡ slice_index_or h k e
+    → own_lines (along a (take k h)) e ≡ [] → KeepsAsk (along a (take k h)) e → AreAlike a h due k lines → AreAlike a h due (k + 1) lines
+same_lines a h due k lines e lt here none asks so =
+    let more = entry_more h k e lt here in
+    let same : lines_along a (take (k + 1) h) ≡ lines_along a (take k h)
+    = ap (lines_along a) more ∙ lines_push a (take k h) e ∙ ap (λ l. lines_along a (take k h) ++ l) none ∙ append-nil (lines_along a (take k h)) in
+    record {
+      alike = same ∙ so.alike;
+      asks = subst (KeepsAsks a) (sym more) (asks_push a (take k h) e so.asks asks);
+      counted = so.counted ∙ sym (ap length same);
+      within = so.within;
+    }
+
+-- One of the script's lines more.
+one_line : (a : AlongState) (h : List Entry) (due : List GivenLine) (k lines : ℕ) (e : Entry) (l : GivenLine) → k < length h → e ≡ slice_index_or h k e
+    → own_lines (along a (take k h)) e ≡ l ∷ [] → slice_get due lines ≡ Some l → KeepsAsk (along a (take k h)) e → AreAlike a h due k lines → AreAlike a h due (k + 1) (lines + 1)
+one_line a h due k lines e l lt here own at asks so =
+    let more = entry_more h k e lt here in
+    let longer : lines_along a (take (k + 1) h) ≡ lines_along a (take k h) ++ l ∷ []
+    = ap (lines_along a) more ∙ lines_push a (take k h) e ∙ ap (λ x. lines_along a (take k h) ++ x) own in
+    let long = length-append (lines_along a (take k h)) (l ∷ []) in
+    let counted = so.counted in
+    let lt' = inside due lines l at in
+    let next : suc lines ≡ lines + 1 = omega arith in
+    let one : length (lines_along a (take k h)) + 1 ≡ length (lines_along a (take k h) ++ l ∷ []) = omega (arith, long) in
+    record {
+      alike = longer ∙ ap (λ x. x ++ l ∷ []) so.alike ∙ sym (front_more due lines l at) ∙ ap (λ n. take n due) next;
+      asks = subst (KeepsAsks a) (sym more) (asks_push a (take k h) e so.asks asks);
+      counted = ap (λ n. n + 1) counted ∙ one ∙ sym (ap length longer);
+      within = omega (arith, lt');
+    }
+
+-- An entry that has no line, or the one that is due.
+pub alike_more : (a b : AlongState) (h : List Entry) (due : List GivenLine) (k lines next : ℕ) (e : Entry) → k < length h → e ≡ slice_index_or h k e → b ≡ along a (take k h)
+    → Looks due lines b e (Fits next) → AreAlike a h due k lines → AreAlike a h due (k + 1) next
+alike_more a b h due k lines next e lt here is looks so =
+    by_line (line_given e.input) refl (subst (λ x. Passes due lines x (line_given e.input) next) is looks)
   where
-    more : (o : Option (List ℕ)) → line_in e.input ≡ o → lines_of (take (k + 1) h) ≡ lines_of (take k h) ++ option_to_list o
-    more o here_is = lines_next h k e lt here ∙ ap (λ x. lines_of (take k h) ++ option_to_list x) here_is
+    now : AlongState
+    now = along a (take k h)
 
-    long : (text : List ℕ) → length (lines_of (take k h) ++ text ∷ []) ≡ length (lines_of (take k h)) + 1
-    long text = pushed (lines_of (take k h)) text
-      where
-        pushed : (xs : List (List ℕ)) (x : List ℕ) → length (xs ++ x ∷ []) ≡ length xs + 1
-        pushed [] x = refl
-        pushed (y ∷ xs) x = let rest = pushed xs x in omega (arith, rest)
+    no_own : (r : Bool) → line_given e.input ≡ None → (if r then [] else option_to_list (line_given e.input)) ≡ []
+    no_own true none = refl
+    no_own false none = ap option_to_list none
 
-    one : (text : List ℕ) → line_in e.input ≡ Some text → (b : Bool) → is_due due lines text ≡ b → choose b (lines + 1) ≡ Some next → AreAlike h due (k + 1) next
-    one text line_is false fails gave = absurd (none_some next gave)
-    one text line_is true holds gave =
-        let n : lines + 1 ≡ next = some_value (lines + 1) next gave in
-        let at : slice_get due lines ≡ Some text = due_line due lines text holds in
-        let step : suc lines ≡ next = omega (arith, n) in
-        let lt' = inside due lines text at in
-        let counted = so.counted in
-        record {
-          alike = more (Some text) line_is ∙ ap (λ l. l ++ text ∷ []) so.alike ∙ sym (front_more due lines text at) ∙ ap (λ m. take m due) step;
-          counted = sym n ∙ ap (λ m. m + 1) counted ∙ sym (long text) ∙ sym (ap length (more (Some text) line_is));
-          within = omega (arith, n, lt');
-        }
+    by_due : (l : GivenLine) → line_given e.input ≡ Some l → (r : Bool) → runs_line now ≡ r → (if r then due_ask now else slice_get due lines) ≡ Some l
+        → AreAlike a h due (k + 1) (if r then lines else lines + 1)
+    by_due l given true runs due_is =
+        same_lines a h due k lines e lt here (ap (λ r. if r then [] else option_to_list (line_given e.input)) runs)
+        (λ r m gives. due_is ∙ sym given ∙ gives) so
+    by_due l given false idle due_is =
+        one_line a h due k lines e l lt here (ap (λ r. if r then [] else option_to_list (line_given e.input)) idle ∙ ap option_to_list given) due_is
+        (λ runs m gives. absurd (not_both (runs_line now) runs idle)) so
 
-    go : (o : Option (List ℕ)) → line_in e.input ≡ o → (elim o as (λ x. Option ℕ) [ None ↦ Some lines | Some text ↦ choose (is_due due lines text) (lines + 1) ]) ≡ Some next
-        → AreAlike h due (k + 1) next
-    go None line_is gave =
-        let n : lines ≡ next = some_value lines next gave in
-        let same : lines_of (take (k + 1) h) ≡ lines_of (take k h) = more None line_is ∙ append-nil (lines_of (take k h)) in
-        record {
-          alike = same ∙ so.alike ∙ ap (λ m. take m due) n;
-          counted = sym n ∙ so.counted ∙ sym (ap length same);
-          within = subst (λ m. m ≤ length due) n so.within;
-        }
-    go (Some text) line_is gave = one text line_is (is_due due lines text) refl gave
+    by_line : (o : Option GivenLine) → line_given e.input ≡ o → Passes due lines now o next → AreAlike a h due (k + 1) next
+    by_line None none same =
+        subst (AreAlike a h due (k + 1)) (sym same)
+        (same_lines a h due k lines e lt here (no_own (runs_line now) none) (λ runs l gives. absurd (no_value l (line_given e.input) gives none)) so)
+    by_line (Some l) given passes = subst (AreAlike a h due (k + 1)) (sym passes.1) (by_due l given (runs_line now) refl passes.0)
+
+-- ---- where they differ
+
+behind_is : (h : List Entry) (k : ℕ) (e : Entry) → k < length h → e ≡ slice_index_or h k e → line_behind k h ≡ line_given e.input
+behind_is h k e lt here =
+    ap (λ (o : Option Entry). elim o as (λ x. Option GivenLine) [ None ↦ None | Some x ↦ line_given x.input ]) (got h k e lt ∙ ap Some (sym here))
 
 -- The next entry's line is not the one due.
-pub parts_here : (h : List Entry) (due : List (List ℕ)) (k lines : ℕ) (e : Entry) → k < length h → e ≡ slice_index_or h k e
-    → after_line due lines e ≡ None → AreAlike h due k lines → Parts h due k lines
-parts_here h due k lines e lt here is so = go (line_in e.input) refl is
+pub differs_here : (a b : AlongState) (h : List Entry) (due : List GivenLine) (k lines number : ℕ) (e : Entry) (asked : GivenLine) (expected : Option GivenLine) → k < length h
+    → e ≡ slice_index_or h k e → b ≡ along a (take k h) → number ≡ k + 1 → Looks due lines b e (Wrong asked expected) → AreAlike a h due k lines
+    → LineDiffers a h due number (Some asked) expected
+differs_here a b h due k lines number e asked expected lt here is number_is looks so =
+    subst (λ n. LineDiffers a h due n (Some asked) expected) (sym number_is) (record {
+      lines = lines;
+      parts = subst (λ n. Parts a h due n lines) back (record {
+        within = omega (arith, lt);
+        alike = so.alike;
+        asks = so.asks;
+        counted = so.counted;
+        last = λ none. absurd (no_value asked (line_behind k h) behind none);
+        differ = subst (λ o. Differ (runs_line (along a (take k h))) o (due_line due lines (along a (take k h)))) (sym behind)
+            (λ same. looks.2 (expected_is ∙ same));
+      });
+      numbered = omega arith;
+      asked_is = sym behind ∙ ap (λ n. line_behind n h) back;
+      expected_is = expected_is ∙ ap (λ n. due_line due lines (along a (take n h))) back;
+    })
   where
-    at : slice_get h k ≡ Some e
-    at = got h k e lt ∙ ap Some (sym here)
+    back : k ≡ (k + 1) - 1
+    back = omega arith
 
-    behind : line_behind k h ≡ line_in e.input
-    behind = ap (λ (o : Option Entry). elim o as (λ x. Option (List ℕ)) [ None ↦ None | Some x ↦ line_in x.input ]) at
+    behind : line_behind k h ≡ Some asked
+    behind = behind_is h k e lt here ∙ looks.0
 
-    one : (text : List ℕ) → line_in e.input ≡ Some text → (b : Bool) → is_due due lines text ≡ b → choose b (lines + 1) ≡ None → Parts h due k lines
-    one text line_is true holds gave = absurd (none_some (lines + 1) (sym gave))
-    one text line_is false fails gave = record {
-      within = omega (arith, lt);
-      alike = so.alike;
-      counted = so.counted;
-      last = λ none. absurd (no_value text (line_behind k h) (behind ∙ line_is) none);
-      differ = subst (λ o. Differ o (slice_get due lines)) (sym (behind ∙ line_is)) (not_due due lines text fails);
-    }
+    expected_is : expected ≡ due_line due lines (along a (take k h))
+    expected_is = looks.1 ∙ ap (due_line due lines) is
 
-    go : (o : Option (List ℕ)) → line_in e.input ≡ o → (elim o as (λ x. Option ℕ) [ None ↦ Some lines | Some text ↦ choose (is_due due lines text) (lines + 1) ]) ≡ None → Parts h due k lines
-    go None line_is gave = absurd (none_some lines (sym gave))
-    go (Some text) line_is gave = one text line_is (is_due due lines text) refl gave
-
--- ---- the end
-
--- All lines are alike, and more were due.
-pub parts_at_end : (h : List Entry) (due : List (List ℕ)) (k lines : ℕ) → k ≡ length h → lines < length due → AreAlike h due k lines → Parts h due (length h) lines
-parts_at_end h due k lines end_is lt so =
-    let here : AreAlike h due (length h) lines = subst (λ n. AreAlike h due n lines) end_is so in
-    let none : line_behind (length h) h ≡ None = ap (λ (o : Option Entry). elim o as (λ x. Option (List ℕ)) [ None ↦ None | Some x ↦ line_in x.input ]) (none_past h) in
-    record {
-      within = omega arith;
-      alike = here.alike;
-      counted = here.counted;
-      last = λ n. refl;
-      differ = subst (λ o. Differ o (slice_get due lines)) (sym none) (is_there due lines lt);
-    }
+-- There is no entry any more, but a line is due, or one for lvmlockd runs.
+pub differs_at_end : (a b : AlongState) (h : List Entry) (due : List GivenLine) (k lines number : ℕ) (asked expected : Option GivenLine) → k ≡ length h → b ≡ along a (take k h)
+    → EndsAt due lines b (length h) number asked expected → AreAlike a h due k lines → LineDiffers a h due number asked expected
+differs_at_end a b h due k lines number asked expected end_is is ends so =
+    subst (λ n. LineDiffers a h due n asked expected) (sym ends.numbered) (record {
+      lines = lines;
+      parts = subst (λ n. Parts a h due n lines) back (record {
+        within = omega arith;
+        alike = here.alike;
+        asks = here.asks;
+        counted = here.counted;
+        last = λ n. refl;
+        differ = subst (λ o. Differ (runs_line now) o (due_line due lines now)) (sym none) left;
+      });
+      numbered = omega arith;
+      asked_is = ends.asked_is ∙ sym none ∙ ap (λ n. line_behind n h) back;
+      expected_is = ends.expected_is ∙ ap (due_line due lines) now_is ∙ ap (λ n. due_line due lines (along a (take n h))) back;
+    })
   where
-    is_there : (xs : List (List ℕ)) (n : ℕ) → n < length xs → IsSome (slice_get xs n)
+    here : AreAlike a h due (length h) lines
+    here = subst (λ n. AreAlike a h due n lines) end_is so
+
+    now : AlongState
+    now = along a (take (length h) h)
+
+    now_is : b ≡ now
+    now_is = is ∙ ap (λ n. along a (take n h)) end_is
+
+    back : length h ≡ (length h + 1) - 1
+    back = omega arith
+
+    none : line_behind (length h) h ≡ None
+    none = ap (λ (o : Option Entry). elim o as (λ x. Option GivenLine) [ None ↦ None | Some x ↦ line_given x.input ]) (none_past h)
+
+    is_there : (xs : List GivenLine) (n : ℕ) → n < length xs → IsSome (slice_get xs n)
     is_there [] n below = absurd (omega (arith, below))
     is_there (x ∷ xs) zero below = refl
     is_there (x ∷ xs) (suc n) below = is_there xs n (omega (arith, below))
 
--- .. or no more were.
-pub all_alike : (h : List Entry) (due : List (List ℕ)) (k lines : ℕ) → k ≡ length h → (lines < length due → ⊥) → AreAlike h due k lines → lines_of h ≡ due
-all_alike h due k lines end_is fails so =
+    left : runs_line now ≡ false → IsSome (due_line due lines now)
+    left idle =
+        subst IsSome (sym (ap (λ r. if r then due_ask now else slice_get due lines) idle)) (is_there due lines (ends.left (ap runs_line now_is ∙ idle)))
+
+-- ---- the end
+
+-- All lines are alike, no more are due, and no line for lvmlockd runs.
+pub all_alike : (a b : AlongState) (h : List Entry) (due : List GivenLine) (k lines : ℕ) → k ≡ length h → b ≡ along a (take k h) → (runs_line b ≡ false) × (length due ≤ lines)
+    → AreAlike a h due k lines → AreLines a h due
+all_alike a b h due k lines end_is is ends so =
     let within = so.within in
-    let whole : lines ≡ length due = least lines (length due) within fails in
-    ap lines_of (sym (front_whole h) ∙ sym (ap (λ n. take n h) end_is)) ∙ so.alike ∙ ap (λ n. take n due) whole ∙ front_whole due
-  where
-    least : (a b : ℕ) → a ≤ b → (a < b → ⊥) → a ≡ b
-    least a b le not_less = omega (arith, le, not_less)
-
--- ---- what is told of it
-
-pub differs_there : (h : List Entry) (due : List (List ℕ)) (entries lines number : ℕ) (asked expected : Option (List ℕ)) → Parts h due entries lines → number ≡ entries + 1
-    → asked ≡ line_behind entries h → expected ≡ slice_get due lines → LineDiffers h due number asked expected
-differs_there h due entries lines number asked expected parts is asked_is expected_is =
-    let back : entries ≡ number - 1 = omega (arith, is) in
+    let most = ends.1 in
+    let whole : lines ≡ length due = omega (arith, within, most) in
+    let front : take k h ≡ h = ap (λ n. take n h) end_is ∙ front_whole h in
     record {
-      lines = lines;
-      parts = subst (λ n. Parts h due n lines) back parts;
-      numbered = omega (arith, is);
-      asked_is = asked_is ∙ ap (λ n. line_behind n h) back;
-      expected_is = expected_is;
+      lines = ap (lines_along a) (sym front) ∙ so.alike ∙ ap (λ n. take n due) whole ∙ front_whole due;
+      asks = subst (KeepsAsks a) front so.asks;
+      over = sym (ap runs_line (is ∙ ap (along a) front)) ∙ ends.0;
     }
+
+-- ---- of a result
+
+pub if_ok_some : {T E : Type 0} (r : Result (Option T) E) (Was Is : T → Type 0) → ((t : T) → Was t → Is t) → IfOk r (λ d. IfSome d Was) → IfOk r (λ d. IfSome d Is)
+if_ok_some (Ok (Some t)) Was Is f so = f t so
+if_ok_some (Ok None) Was Is f so = tt
+if_ok_some (Err e) Was Is f so = tt
+
+pub if_ok_none : {T E : Type 0} (r : Result (Option T) E) (Was Is : Type 0) → (Was → Is) → IfOk r (λ d. IfNone d Was) → IfOk r (λ d. IfNone d Is)
+if_ok_none (Ok (Some t)) Was Is f so = tt
+if_ok_none (Ok None) Was Is f so = f so
+if_ok_none (Err e) Was Is f so = tt

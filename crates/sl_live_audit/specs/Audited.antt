@@ -1,57 +1,100 @@
 -- What a closed history is compared with.
 use Rattle.indexmap.specs.IndexMap.{get}
+use Rattle.sl_live_audit.specs.declared.lines.Looked.TheVariants.{Fits, Wrong}
+use Rattle.sl_live_audit.specs.declared.lines.Looked.{Looked}
 use Rattle.sl_live_audit.specs.declared.open.Open.{Open}
 use Rattle.sl_live_audit.specs.declared.unanswered.Unanswered.TheVariants.{Call as CallLeft, Start as StartLeft}
 use Rattle.sl_live_audit.specs.declared.unanswered.Unanswered.{Unanswered}
-use Rattle.sl_trace.specs.Traces.{Child, Submitted, Trace, children, line_in, outstanding}
+use Rattle.sl_live_locks.specs.Alongs.{AlongState, along, due_ask, line_given, runs_line, step_along}
+use Rattle.sl_live_locks.specs.declared.line.GivenLine.{GivenLine}
+use Rattle.sl_trace.specs.Traces.{Child, Submitted, Trace, children, outstanding}
 use Rattle.sl_trace.specs.declared.effects.Call.{Call}
 use Rattle.sl_trace.specs.declared.effects.Entry.{Entry}
 use Rattle.sl_trace.specs.declared.effects.Start.{Start}
 use Rattle.sl_trace.specs.declared.input.Input.TheVariants.{Answer as Told, Spawned}
 use Rattle.sl_trace.specs.declared.input.Input.{Input}
-use Rattle.sl_words.specs.Words.{choose, some_is}
-use Rattle.std.specs.List.{flat_map, list_any}
+use Rattle.sl_words.specs.Words.{some_is}
+use Rattle.std.specs.List.{list_any}
 use Rattle.std.specs.Option.{option_and_then, option_to_list}
-use Rattle.std.specs.Prelude.{Bool, IsSome, List, None, Option, Some, bytes_eq, cond, filter, is_none, length, map, nat_eq, reverse, slice_get, take, true, [], ℕ, ◌+◌, ◌-◌, ◌<◌, ◌==◌, ◌≡◌, ◌≤◌}
+use Rattle.std.specs.Prelude.{Bool, IsSome, List, None, Option, Some, cond, false, filter, if◌then◌else◌, is_none, length, map, nat_eq, reverse, slice_get, take, true, [], ℕ, ◌++◌, ◌+◌, ◌-◌, ◌<◌, ◌==◌, ◌∷◌, ◌≡◌, ◌≤◌}
 
 -- ---- lines
 
--- The texts of the lines in a history, in order.
-abbrev pub lines_of : List Entry → List (List ℕ)
-lines_of h = flat_map (λ (e : Entry). option_to_list (line_in e.input)) h
+-- The line that may come where so many of the script's came: while a line for lvmlockd runs, its next ask, if one is due; else the script's
+-- next, if one is left.
+abbrev pub due_line : List GivenLine → ℕ → AlongState → Option GivenLine
+due_line due at a = if runs_line a then due_ask a else slice_get due at
 
--- The text of the line behind so many entries, if the next one is a line.
-abbrev pub line_behind : ℕ → List Entry → Option (List ℕ)
-line_behind entries h = option_and_then (λ (e : Entry). line_in e.input) (slice_get h entries)
+-- How many of the script's lines came by a line that is the one due.
+abbrev pub next_at : ℕ → AlongState → ℕ
+next_at at a = if runs_line a then at else at + 1
 
--- Whether the line at this place is due, and is this one.
-abbrev pub is_due : List (List ℕ) → ℕ → List ℕ → Bool
-is_due due at text = some_is (λ line. bytes_eq line text) (slice_get due at)
+-- The script's lines in the entry: none while a line for lvmlockd runs.
+abbrev pub own_lines : AlongState → Entry → List GivenLine
+own_lines a e = if runs_line a then [] else option_to_list (line_given e.input)
 
--- How many of the lines that are due came by the end of an entry, where so many came before it; none where its line is not the one due.
-abbrev pub after_line : List (List ℕ) → ℕ → Entry → Option ℕ
-after_line due at e = elim (line_in e.input) [ None ↦ Some at | Some text ↦ choose (is_due due at text) (at + 1) ]
+-- .. in a history, in order.
+abbrev pub lines_along : AlongState → List Entry → List GivenLine
+lines_along a [] = []
+lines_along a (e ∷ h) = own_lines a e ++ lines_along (step_along a e) h
 
--- The line that is asked is not the one that is due: there is one of them at least.
-abbrev pub Differ : Option (List ℕ) → Option (List ℕ) → Type 0
-Differ None due = IsSome due
-Differ (Some text) due = due ≡ Some text → ⊥
+-- While a line for lvmlockd runs, the entry's line, if it has one, is the ask that is due.
+abbrev pub KeepsAsk : AlongState → Entry → Type 0
+KeepsAsk a e = runs_line a ≡ true → (l : GivenLine) → line_given e.input ≡ Some l → due_ask a ≡ Some l
 
--- The lines of so many entries are the first of those due. The next entry is a line, or there is none, and it is not the line due there.
-pub record Parts (h : List Entry) (due : List (List ℕ)) (entries lines : ℕ) : Type 0 where
+-- So it is at each entry.
+abbrev pub KeepsAsks : AlongState → List Entry → Type 0
+KeepsAsks a [] = Unit {0}
+KeepsAsks a (e ∷ h) = KeepsAsk a e × KeepsAsks (step_along a e) h
+
+-- The lines of a history are these, each for lvmlockd with its asks, and each of those is answered.
+pub record AreLines (a : AlongState) (h : List Entry) (given : List GivenLine) : Type 0 where
+  pub lines : lines_along a h ≡ given
+  pub asks : KeepsAsks a h
+  pub over : runs_line (along a h) ≡ false
+
+-- The line behind so many entries, if the next one has one.
+abbrev pub line_behind : ℕ → List Entry → Option GivenLine
+line_behind entries h = option_and_then (λ (e : Entry). line_given e.input) (slice_get h entries)
+
+-- The line that is asked is not the one that is due; where none is asked any more, a line for lvmlockd runs, or one is due.
+abbrev pub Differ : Bool → Option GivenLine → Option GivenLine → Type 0
+Differ runs None due = runs ≡ false → IsSome due
+Differ runs (Some l) due = due ≡ Some l → ⊥
+
+-- The lines of so many entries are the first of those due. The next entry has a line, or there is none, and it is not the line due there.
+pub record Parts (a : AlongState) (h : List Entry) (due : List GivenLine) (entries lines : ℕ) : Type 0 where
   pub within : entries ≤ length h
-  pub alike : lines_of (take entries h) ≡ take lines due
-  pub counted : lines ≡ length (lines_of (take entries h))
+  pub alike : lines_along a (take entries h) ≡ take lines due
+  pub asks : KeepsAsks a (take entries h)
+  pub counted : lines ≡ length (lines_along a (take entries h))
   pub last : line_behind entries h ≡ None → entries ≡ length h
-  pub differ : Differ (line_behind entries h) (slice_get due lines)
+  pub differ : Differ (runs_line (along a (take entries h))) (line_behind entries h) (due_line due lines (along a (take entries h)))
 
 -- So it is at the entry of this number, whose line is asked.
-pub record LineDiffers (h : List Entry) (due : List (List ℕ)) (number : ℕ) (asked expected : Option (List ℕ)) : Type 0 where
+pub record LineDiffers (a : AlongState) (h : List Entry) (due : List GivenLine) (number : ℕ) (asked expected : Option GivenLine) : Type 0 where
   pub lines : ℕ
-  pub parts : Parts h due (number - 1) lines
+  pub parts : Parts a h due (number - 1) lines
   pub numbered : 0 < number
   pub asked_is : asked ≡ line_behind (number - 1) h
-  pub expected_is : expected ≡ slice_get due lines
+  pub expected_is : expected ≡ due_line due lines (along a (take (number - 1) h))
+
+-- A line that the entry has is the one that is due, and so many of the script's lines came by its end.
+abbrev pub Passes : List GivenLine → ℕ → AlongState → Option GivenLine → ℕ → Type 0
+Passes due at a None next = next ≡ at
+Passes due at a (Some l) next = (due_line due at a ≡ Some l) × (next ≡ next_at at a)
+
+-- What was found at an entry.
+abbrev pub Looks : List GivenLine → ℕ → AlongState → Entry → Looked → Type 0
+Looks due at a e (Fits next) = Passes due at a (line_given e.input) next
+Looks due at a e (Wrong asked expected) = (line_given e.input ≡ Some asked) × (expected ≡ due_line due at a) × (expected ≡ Some asked → ⊥)
+
+-- .. at the end of so many.
+pub record EndsAt (due : List GivenLine) (at : ℕ) (a : AlongState) (entries number : ℕ) (asked expected : Option GivenLine) : Type 0 where
+  pub numbered : number ≡ entries + 1
+  pub asked_is : asked ≡ None
+  pub expected_is : expected ≡ due_line due at a
+  pub left : runs_line a ≡ false → at < length due
 
 -- ---- what is open
 

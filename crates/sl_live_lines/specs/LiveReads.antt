@@ -1,6 +1,6 @@
 -- What a line of a live script says, and why it is refused.
 use Rattle.sl_trace.specs.Jobs.{process_named}
-use Rattle.sl_live_lines.specs.declared.line.LiveLine.TheVariants.{Command, Exits, Post}
+use Rattle.sl_live_lines.specs.declared.line.LiveLine.TheVariants.{Command, Exits, Locks, Post}
 use Rattle.sl_live_lines.specs.declared.line.LiveLine.{LiveLine}
 use Rattle.sl_live_lines.specs.declared.scope.Scope.{Scope}
 use Rattle.sl_area.specs.Layouts.{layout_of}
@@ -53,11 +53,10 @@ has_verb verb line = nat_lt (length verb) (length line) && bytes_eq (take (lengt
 abbrev pub with_verb : List ℕ → List ℕ → List ℕ → Option (List ℕ)
 with_verb verb other line = choose (has_verb verb line) (other ++ drop (length verb) line)
 
--- What a schedule's event is in a live script: the text of `command`. A line for lvmlockd is none: live machines do not serve it yet, so it
--- is refused as any line that isn't of the language.
+-- What a schedule's event is in a live script: the text of `command`, or the line for lvmlockd.
 abbrev pub command_of : Event → Option LiveLine
 command_of (GiveCommand m text) = Some (Command m text)
-command_of (GiveLvm m line) = None
+command_of (GiveLvm m line) = Some (Locks m line)
 command_of e = None
 
 -- .. behind `post`.
@@ -112,6 +111,7 @@ machine_refusal s m = first_that ((nat_lt s.machines m, MissingMachine) ∷ [])
 abbrev pub live_refusal : Scope → LiveLine → Option Refusal
 live_refusal s (Command m text) = text_refusal s m text
 live_refusal s (Post m text) = text_refusal s m text
+live_refusal s (Locks m line) = machine_refusal s m
 live_refusal s (Exits m p) = machine_refusal s m
 
 -- What a line says, or why it is refused.

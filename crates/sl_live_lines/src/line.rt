@@ -7,6 +7,8 @@ use sl_text::Bytes;
 pub enum LiveLine {
     /// The text is given to the machine; the next line is read after its reply.
     Command { machine: u32, text: Bytes },
+    /// The line is given to lvmlockd of the machine; the next line is read after its reply.
+    Locks { machine: u32, line: Bytes },
     /// The text is given to the machine; the next line is read at once.
     Post { machine: u32, text: Bytes },
     /// The next line is read once the machine's child has exited, if it was started.

@@ -62,12 +62,13 @@ fn with_verb(
     Ok(Some(text))
 }
 
-/// What an event of `command` is in a live script; a line for lvmlockd is not served yet.
+/// What an event of `command` is in a live script.
 fn command_of(event: Event) -> Option<LiveLine>
     ensures { result ≡ command_of event }
 {
     match event {
         Event::GiveCommand { machine, text } => Some(LiveLine::Command { machine, text }),
+        Event::GiveLvm { machine, line } => Some(LiveLine::Locks { machine, line }),
         _ => None,
     }
 }
@@ -184,6 +185,7 @@ fn live_refusal(scope: &Scope, live: &LiveLine) -> Option<Refusal>
     match live {
         LiveLine::Command { machine, text } => text_refusal(scope, *machine, text.as_slice()),
         LiveLine::Post { machine, text } => text_refusal(scope, *machine, text.as_slice()),
+        LiveLine::Locks { machine, line: _ } => machine_refusal(scope, *machine),
         LiveLine::Exits {
             machine,
             process: _,

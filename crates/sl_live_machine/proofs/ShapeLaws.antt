@@ -10,7 +10,7 @@ use Rattle.sl_live_machine.specs.Shapes.{GaveTurn}
 use Rattle.sl_outside.specs.declared.act.Act.{Act}
 use Rattle.sl_trace.specs.declared.effects.Call.{Call}
 use Rattle.sl_trace.specs.declared.input.Answer.{Answer}
-use Rattle.sl_trace.specs.declared.input.Input.TheVariants.{Answer as Told, Exit, Line, Wake}
+use Rattle.sl_trace.specs.declared.input.Input.TheVariants.{Answer as Told, Exit, Wake}
 use Rattle.sl_trace.specs.declared.input.Input.{Input}
 use Rattle.std.proofs.Common.{append_assoc, append-nil, ap, arith, refl, subst, sym, ◌∙◌}
 use Rattle.std.proofs.lemmas.List.Concat.{flat_map-append}
@@ -57,8 +57,8 @@ ok_gave (Err e) told faults running from to i before after had has so = tt
 pub wakes_on : (had has : List Made) → GaveTurn Wake had has → IsTicker had → IsTicker has
 wakes_on had has gave so = turns_on (IsTurnOf IsWake) had has gave.calls gave.whole (turn_of IsWake Wake had has refl gave) so
 
-pub lines_on : (text : List ℕ) (had has : List Made) → GaveTurn (Line text) had has → IsLineThread had → IsLineThread has
-lines_on text had has gave so = turns_on (IsTurnOf IsLine) had has gave.calls gave.whole (turn_of IsLine (Line text) had has (text, refl) gave) so
+pub lines_on : (i : Input) (had has : List Made) → IsLine i → GaveTurn i had has → IsLineThread had → IsLineThread has
+lines_on i had has is gave so = turns_on (IsTurnOf IsLine) had has gave.calls gave.whole (turn_of IsLine i had has is gave) so
 
 exits_gave : (process : ℕ) (had has : List Made) → GaveTurn (Exit process) had has → IsChildThread had → IsChildThread has
 exits_gave process had has gave so = turns_on (IsTurnOf IsExit) had has gave.calls gave.whole (turn_of IsExit (Exit process) had has (process, refl) gave) so

@@ -1,8 +1,8 @@
 //! What the threads of a machine tell one another: lines to be given, what turns have made, and whether the machine ends.
 
 use sl_cell::{Made, Part};
-use sl_text::Bytes;
-use sl_trace::{Entry, Input, JobReply, Purpose};
+use sl_live_locks::{GivenLine, copy_reply};
+use sl_trace::{Entry, Input, JobReply, Purpose, Reply};
 use std::alloc::{AllocError, Global};
 use std::collections::VecDeque;
 
@@ -20,7 +20,7 @@ pub(crate) enum Stage {
 /// What a thread that gives lines is to do next.
 #[derive(Drop)]
 pub(crate) enum Next {
-    Line(Bytes),
+    Line(GivenLine),
     /// None is there yet.
     Wait,
     End,
@@ -32,6 +32,7 @@ pub(crate) struct News {
     pub delta: bool,
     pub resource: bool,
     pub children: bool,
+    pub lines: bool,
     pub script: bool,
     pub ticker: bool,
 }
@@ -43,6 +44,7 @@ impl News {
             delta: false,
             resource: false,
             children: false,
+            lines: false,
             script: false,
             ticker: false,
         }
@@ -53,13 +55,16 @@ impl News {
 #[derive(Drop)]
 pub(crate) struct Board {
     /// Lines to be given.
-    lines: VecDeque<Bytes>,
+    lines: VecDeque<GivenLine>,
     /// No line comes any more.
     closed: bool,
-    /// The number of the next line's job.
+    /// The number of the next line's job. While a line for lvmlockd runs, no other line comes, and its asks take the numbers behind its own.
     next_job: u64,
     /// The job whose reply the script waits for.
     awaited: Option<u64>,
+    /// The job of the ask whose reply a line for lvmlockd waits for, and that reply, once it has come.
+    asked: Option<u64>,
+    heard: Option<Reply>,
     /// Turns that are under way.
     turns: u64,
     /// Calls that were made, and that were answered.
@@ -67,6 +72,8 @@ pub(crate) struct Board {
     answered: u64,
     /// The children that run.
     running: Vec<u32>,
+    /// The children whose exit was noted before their start.
+    ended: Vec<u32>,
     stage: Stage,
 }
 
@@ -78,10 +85,13 @@ impl Board {
             closed: false,
             next_job,
             awaited: None,
+            asked: None,
+            heard: None,
             turns: 0,
             made: 0,
             answered: 0,
             running: Vec::new(alloc),
+            ended: Vec::new(alloc),
             stage: Stage::Runs,
         }
     }
@@ -102,7 +112,7 @@ impl Board {
     }
 
     /// A line to be given, for whose reply the script waits or does not. An `Err` is want of memory.
-    pub(crate) fn put(&mut self, line: Bytes, awaits: bool) -> Result<(), AllocError> {
+    pub(crate) fn put(&mut self, line: GivenLine, awaits: bool) -> Result<(), AllocError> {
         self.lines.reserve(1)?;
         self.lines.push_back_reserved(line);
         if awaits {
@@ -135,6 +145,29 @@ impl Board {
             }
             None => { if self.closed { Next::End } else { Next::Wait } }
         }
+    }
+
+    /// The turn of an ask begins, if the machine runs: the number of its job.
+    pub(crate) fn begin_ask(&mut self) -> Option<u64> {
+        if !self.begin_turn() {
+            return None;
+        }
+        let number = self.next_job;
+        self.next_job = number.wrapping_add(1);
+        self.asked = Some(number);
+        self.heard = None;
+        Some(number)
+    }
+
+    /// The reply to the ask, if it has come.
+    pub(crate) fn take_heard(&mut self) -> Option<Reply> {
+        self.heard.take()
+    }
+
+    /// The line for lvmlockd is answered: the script goes on.
+    pub(crate) fn end_line(&mut self) {
+        self.asked = None;
+        self.awaited = None;
     }
 
     /// A turn begins, if the machine runs: whether it does.
@@ -180,8 +213,7 @@ impl Board {
             Made::Applied { number: _, entry } => {
                 self.note_input(news, &entry.input)?;
                 self.note_calls(news, entry);
-                self.note_replies(news, entry.effects.replies.as_slice());
-                Ok(())
+                self.note_replies(news, entry.effects.replies.as_slice())
             }
             Made::Unasked { front: _, input } => self.note_input(news, input),
             Made::Took { .. } => Ok(()),
@@ -198,20 +230,39 @@ impl Board {
             }
             Input::Spawned { process, ok } => {
                 if *ok {
-                    news.children = true;
-                    self.running.push(*process)?;
+                    self.note_start(news, *process)?;
                 }
                 Ok(())
             }
             Input::Exit { process } => {
                 news.script = true;
-                self.running.retain(|running| *running != *process);
-                Ok(())
+                self.note_exit(*process)
             }
             Input::Line(_) => Ok(()),
             Input::Number(_) => Ok(()),
             Input::Wake => Ok(()),
         }
+    }
+
+    /// Notes that a child was started. Turns are noted in any order, so its exit may be noted already.
+    fn note_start(&mut self, news: &mut News, process: u32) -> Result<(), AllocError> {
+        if self.ended.contains(&process) {
+            self.ended.retain(|ended| *ended != process);
+            return Ok(());
+        }
+        news.children = true;
+        self.running.push(process)?;
+        Ok(())
+    }
+
+    /// Notes that a child has exited, whose start may not be noted yet.
+    fn note_exit(&mut self, process: u32) -> Result<(), AllocError> {
+        if self.running.contains(&process) {
+            self.running.retain(|running| *running != process);
+            return Ok(());
+        }
+        self.ended.push(process)?;
+        Ok(())
     }
 
     /// Notes the calls that were made.
@@ -225,14 +276,26 @@ impl Board {
         }
     }
 
-    /// Notes the replies.
-    fn note_replies(&mut self, news: &mut News, replies: &[JobReply]) {
+    /// Notes the replies. An `Err` is want of memory.
+    fn note_replies(&mut self, news: &mut News, replies: &[JobReply]) -> Result<(), AllocError> {
         for reply in replies {
             if self.awaited == Some(reply.job) {
                 self.awaited = None;
                 news.script = true;
             }
+            self.note_heard(news, reply)?;
         }
+        Ok(())
+    }
+
+    /// Notes the reply to the ask. An `Err` is want of memory.
+    fn note_heard(&mut self, news: &mut News, reply: &JobReply) -> Result<(), AllocError> {
+        if self.asked == Some(reply.job) {
+            self.heard = Some(copy_reply(*self.running.allocator(), &reply.reply)?);
+            self.asked = None;
+            news.lines = true;
+        }
+        Ok(())
     }
 }
 

@@ -1,6 +1,9 @@
 //! The thread that gives the daemon the script's lines, in their order. No other thread gives a line.
+//!
+//! A line for lvmlockd is given as one that takes a number; then each ask that the locks make of it is given as a line of the host's, when the
+//! reply to the one before has come. The reply comes by a step of any thread, and is noted on the post.
 
-ghost use Rattle.sl_live.specs.Turns.{IsLineThread};
+ghost use Rattle.sl_live.specs.Turns.{IsLine, IsLineThread};
 ghost use Rattle.std.specs.Prelude.{IfOk, OnOk};
 
 use crate::board::Next;
@@ -8,14 +11,42 @@ use crate::post::Post;
 use crate::room::Room;
 use crate::turn::give;
 use sl_cell::{Seat, Station, Teller};
+use sl_live_locks::GivenLine;
+use sl_locks::{LockInput, LvmLocks};
 use sl_outside::Spawner;
-use sl_text::Bytes;
+use sl_text::{Bytes, Seq};
 use sl_time::Clock;
-use sl_trace::Input;
-use std::alloc::AllocError;
+use sl_trace::{Effects, Input, JobReply};
+use std::alloc::{AllocError, Global};
 use std::sync::Wait;
 
-/// Gives a line. An `Err` is want of memory.
+/// Effects that are these replies alone.
+fn effects_of(alloc: Global, replies: Vec<JobReply>) -> Effects {
+    Effects {
+        ends: Seq::new(Vec::new(alloc)),
+        signals: Seq::new(Vec::new(alloc)),
+        moves: Seq::new(Vec::new(alloc)),
+        grants: Seq::new(Vec::new(alloc)),
+        starts: Seq::new(Vec::new(alloc)),
+        replies: Seq::new(replies),
+        calls: Seq::new(Vec::new(alloc)),
+    }
+}
+
+/// The locks make a turn by an input and replies. An `Err` is want of memory.
+fn turn(
+    alloc: Global,
+    locks: &mut LvmLocks,
+    number: u64,
+    input: LockInput,
+    replies: Vec<JobReply>,
+) -> Result<(), AllocError> {
+    locks.reserve()?;
+    locks.turn(number, input, effects_of(alloc, replies));
+    Ok(())
+}
+
+/// Gives a line, in a turn that has begun. An `Err` is want of memory.
 #[tactic(auto, using(crate::proofs::ShapeLaws::lines_on))]
 fn give_line<D: Teller, J: Station, R: Wait, C: Clock, P: Spawner>(
     rt: &R,
@@ -23,13 +54,113 @@ fn give_line<D: Teller, J: Station, R: Wait, C: Clock, P: Spawner>(
     post: &Post,
     seat: &mut Seat,
     clock: &mut C,
+    input: Input,
+) -> Result<(), AllocError>
+    requires { IsLine input }
+    ensures { OnOk result (IsLineThread seat.old.calls → IsLineThread seat.new.calls) }
+{
+    let from = seat.calls().len();
+    give(rt, room, seat, clock, input)?;
+    post.end_turn(rt, seat.calls(), from)
+}
+
+/// Gives an ask, and waits for its reply, by which the locks go on: whether the machine runs still. An `Err` is want of memory.
+fn ask<D: Teller, J: Station, R: Wait, C: Clock, P: Spawner>(
+    rt: &R,
+    room: &Room<D, J, P>,
+    post: &Post,
+    seat: &mut Seat,
+    clock: &mut C,
+    locks: &mut LvmLocks,
+    text: Bytes,
+) -> Result<bool, AllocError>
+    ensures { OnOk result (IsLineThread seat.old.calls → IsLineThread seat.new.calls) }
+{
+    let Some(number) = post.begin_ask(rt) else {
+        return Ok(false);
+    };
+    give_line(rt, room, post, seat, clock, Input::Line(text))?;
+    turn(
+        room.alloc,
+        locks,
+        number,
+        LockInput::Line,
+        Vec::new(room.alloc),
+    )?;
+    let Some(reply) = post.await_reply(rt) else {
+        return Ok(false);
+    };
+    let mut replies = Vec::new(room.alloc);
+    replies.push(JobReply { job: number, reply })?;
+    turn(room.alloc, locks, number, LockInput::Nothing, replies)?;
+    Ok(true)
+}
+
+/// Gives the asks of a line for lvmlockd, one after another, until the line is answered or the machine ends. An `Err` is want of memory.
+fn give_asks<D: Teller, J: Station, R: Wait, C: Clock, P: Spawner>(
+    rt: &R,
+    room: &Room<D, J, P>,
+    post: &Post,
+    seat: &mut Seat,
+    clock: &mut C,
+    locks: &mut LvmLocks,
+) -> Result<(), AllocError>
+    ensures { OnOk result (IsLineThread seat.old.calls → IsLineThread seat.new.calls) }
+{
+    for _ in rt.forever() {
+        let Some(text) = locks.ask_text(room.alloc)? else {
+            break;
+        };
+        if !ask(rt, room, post, seat, clock, locks, text)? {
+            break;
+        }
+    }
+    Ok(())
+}
+
+/// Gives a line to lvmlockd, in a turn that has begun, with all its asks. An `Err` is want of memory.
+fn give_locks<D: Teller, J: Station, R: Wait, C: Clock, P: Spawner>(
+    rt: &R,
+    room: &Room<D, J, P>,
+    post: &Post,
+    seat: &mut Seat,
+    clock: &mut C,
+    locks: &mut LvmLocks,
     line: Bytes,
 ) -> Result<(), AllocError>
     ensures { OnOk result (IsLineThread seat.old.calls → IsLineThread seat.new.calls) }
 {
-    let from = seat.calls().len();
-    give(rt, room, seat, clock, Input::Line(line))?;
-    post.end_turn(rt, seat.calls(), from)
+    let copy = Bytes::from_slice(room.alloc, line.as_slice())?;
+    give_line(rt, room, post, seat, clock, Input::Number(line))?;
+    // The number of the line itself is told by none of the asks.
+    turn(
+        room.alloc,
+        locks,
+        0,
+        LockInput::Number(copy),
+        Vec::new(room.alloc),
+    )?;
+    give_asks(rt, room, post, seat, clock, locks)?;
+    post.end_line(rt);
+    Ok(())
+}
+
+/// Gives a line, in a turn that has begun. An `Err` is want of memory.
+fn serve<D: Teller, J: Station, R: Wait, C: Clock, P: Spawner>(
+    rt: &R,
+    room: &Room<D, J, P>,
+    post: &Post,
+    seat: &mut Seat,
+    clock: &mut C,
+    locks: &mut LvmLocks,
+    line: GivenLine,
+) -> Result<(), AllocError>
+    ensures { OnOk result (IsLineThread seat.old.calls → IsLineThread seat.new.calls) }
+{
+    match line {
+        GivenLine::ForHost(text) => give_line(rt, room, post, seat, clock, Input::Line(text)),
+        GivenLine::ForLocks(line) => give_locks(rt, room, post, seat, clock, locks, line),
+    }
 }
 
 /// Gives the lines until no more come, or the machine ends. An `Err` is want of memory.
@@ -43,10 +174,11 @@ pub(crate) fn give_lines<D: Teller, J: Station, R: Wait, C: Clock, P: Spawner>(
     ensures { IfOk result (λ s. IsLineThread s.calls) }
 {
     let mut seat = room.cell.seat();
+    let mut locks = room.locks.lock(rt);
     for _ in rt.forever() {
         let seen = post.lines.moves(rt);
         match post.next_line(rt) {
-            Next::Line(line) => give_line(rt, room, post, &mut seat, &mut clock, line)?,
+            Next::Line(line) => serve(rt, room, post, &mut seat, &mut clock, &mut *locks, line)?,
             Next::Wait => post.lines.wait_past(rt, seen),
             Next::End => break,
         }

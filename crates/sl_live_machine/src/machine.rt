@@ -13,6 +13,7 @@ use sl_area::Area;
 use sl_cell::{CloseError, HostCell, Seat, Station, Teller};
 use sl_daemon::Site;
 use sl_live::{Children, Disk};
+use sl_locks::LvmLocks;
 use sl_outside::{Device, Gate, Spawner};
 use sl_run::Header;
 use sl_text::Seq;
@@ -73,6 +74,7 @@ fn close<D: Teller, J: Station, P: Spawner>(
         pace: _,
         cell,
         children,
+        locks: _,
     } = room;
     if failed {
         children.into_inner().kill();
@@ -139,6 +141,7 @@ pub fn run_machine<
         pace: pace_of(header),
         cell,
         children: Mutex::new(Children::new(alloc, spawner)),
+        locks: Mutex::new(LvmLocks::fresh(alloc, header)),
     };
     let Threaded {
         seats,

@@ -5,7 +5,8 @@
 use crate::bell::Bell;
 use crate::board::{Board, News, Next, Stage};
 use sl_cell::{Made, Part};
-use sl_text::Bytes;
+use sl_live_locks::GivenLine;
+use sl_trace::Reply;
 use std::alloc::{AllocError, Global};
 use std::sync::{Mutex, Wait};
 
@@ -38,14 +39,14 @@ impl Post {
     }
 
     /// A line for the machine. An `Err` is want of memory.
-    pub fn put<R: Wait>(&self, rt: &R, line: Bytes) -> Result<(), AllocError> {
+    pub fn put<R: Wait>(&self, rt: &R, line: GivenLine) -> Result<(), AllocError> {
         self.board.lock(rt).put(line, false)?;
         self.lines.ring(rt);
         Ok(())
     }
 
     /// A line for the machine, for whose reply one waits. An `Err` is want of memory, here or of the machine.
-    pub fn command<R: Wait>(&self, rt: &R, line: Bytes) -> Result<(), AllocError> {
+    pub fn command<R: Wait>(&self, rt: &R, line: GivenLine) -> Result<(), AllocError> {
         self.board.lock(rt).put(line, true)?;
         self.lines.ring(rt);
         for _ in rt.forever() {
@@ -114,6 +115,31 @@ impl Post {
         self.board.lock(rt).next_line()
     }
 
+    /// The turn of an ask begins, if the machine runs: the number of its job.
+    pub(crate) fn begin_ask<R: Wait>(&self, rt: &R) -> Option<u64> {
+        self.board.lock(rt).begin_ask()
+    }
+
+    /// Waits for the reply to the ask; none where the machine ends before.
+    pub(crate) fn await_reply<R: Wait>(&self, rt: &R) -> Option<Reply> {
+        let mut heard = None;
+        for _ in rt.forever() {
+            let seen = self.lines.moves(rt);
+            heard = self.board.lock(rt).take_heard();
+            if heard.is_some() || !self.runs(rt) {
+                break;
+            }
+            self.lines.wait_past(rt, seen);
+        }
+        heard
+    }
+
+    /// The line for lvmlockd is answered: the script goes on.
+    pub(crate) fn end_line<R: Wait>(&self, rt: &R) {
+        self.board.lock(rt).end_line();
+        self.script.ring(rt);
+    }
+
     /// A turn begins, if the machine runs: whether it does.
     pub(crate) fn begin_turn<R: Wait>(&self, rt: &R) -> bool {
         self.board.lock(rt).begin_turn()
@@ -151,6 +177,9 @@ impl Post {
         }
         if news.children {
             self.children.ring(rt);
+        }
+        if news.lines {
+            self.lines.ring(rt);
         }
         if news.script {
             self.script.ring(rt);

@@ -1,10 +1,12 @@
 //! What the threads of a machine work on together.
 //!
-//! The order of locks is: children, then the cell, then the post. None is held while a sector call is made.
+//! The order of locks is: lvmlockd's locks, which the line thread holds for all its life, then children, then the cell, then the post. But for
+//! the first, none is held while a sector call is made.
 
 use sl_area::Geometry;
 use sl_cell::{HostCell, Station, Teller};
 use sl_live::Children;
+use sl_locks::LvmLocks;
 use sl_outside::Spawner;
 use std::alloc::Global;
 use std::sync::Mutex;
@@ -19,7 +21,7 @@ pub(crate) struct Pace {
     pub test: Duration,
 }
 
-/// A machine's cell and children.
+/// A machine's cell and children, and lvmlockd's locks there.
 #[derive(Drop)]
 pub(crate) struct Room<D: Teller, J: Station, P: Spawner> {
     pub alloc: Global,
@@ -28,4 +30,5 @@ pub(crate) struct Room<D: Teller, J: Station, P: Spawner> {
     pub pace: Pace,
     pub cell: HostCell<D, J>,
     pub children: Mutex<Children<P>>,
+    pub locks: Mutex<LvmLocks>,
 }

@@ -1,5 +1,6 @@
 -- What is owed of a play, from what came of its parts.
 use Rattle.sl_live_lines.specs.declared.line.LiveLine.{LiveLine}
+use Rattle.sl_live_locks.specs.Alongs.{begun_along}
 use Rattle.sl_live_play.specs.Living.{All, Beginnings, Breaks, Breaks_early, Due, Ends, Faults, Lacks, Lives, Nothing, Of, Owes, Part, Parts, Puts, PutsEnded, PutsNoGround, PutsStop, Stops, Stops_early, area_fault_text}
 use Rattle.sl_live_play.specs.declared.play.Lived.TheVariants.{AreaFault, Differs, Done, NoMemory, ReadFault, Refused, WriteFault}
 use Rattle.sl_live_play.specs.declared.play.Lived.{Lived}
@@ -16,6 +17,7 @@ use Rattle.sl_report.specs.Headline.{HeadersAreGood, IsFrontOf}
 use Rattle.sl_report.specs.Languages.{whole_language}
 use Rattle.sl_report.specs.ScheduleLines.{refusal_line}
 use Rattle.sl_run.specs.Headers.{IsHeader}
+use Rattle.sl_run.specs.Worlds.{first_numbers}
 use Rattle.sl_run.specs.declared.event.Refusal.{Refusal}
 use Rattle.sl_run.specs.declared.header.Header.{Header}
 use Rattle.sl_schedule_reader.specs.HeaderBegins.{HeaderBegins, HeaderBreaks, HeaderStops, lines_left}
@@ -25,7 +27,7 @@ use Rattle.sl_trace.specs.Traces.{Setting, Trace}
 use Rattle.sl_trace.specs.declared.command.Command.{Command}
 use Rattle.sl_trace.specs.declared.effects.Entry.{Entry}
 use Rattle.sl_words.specs.Causes.{Rose}
-use Rattle.std.proofs.Common.{Err, List, None, Ok, Option, Result, Some, [], append-nil, arith, drop, length, refl, subst, sym, take, ℕ, ◌++◌, ◌≡◌, ◌≤◌, ◌∙◌, ◌∷◌}
+use Rattle.std.proofs.Common.{ap, Err, List, None, Ok, Option, Result, Some, [], append-nil, arith, drop, length, refl, subst, sym, take, ℕ, ◌++◌, ◌≡◌, ◌≤◌, ◌∙◌, ◌∷◌}
 use Rattle.std.proofs.lemmas.List.{take-append-drop}
 use Rattle.std.specs.Io.KnownBytes.{Appends}
 use Rattle.std.specs.Prelude.{IfErr, IfOk, OnOk}
@@ -40,7 +42,7 @@ lacks stands commands left after taken now faults later sink_faults sink_later d
 -- The histories of machines, by how their script ended.
 owes_ended : {D : Type 0} (stands : D → Setting → Trace → Type 0) (commands : Header → List (Form Command)) (left after taken now : Option (List ℕ))
     (faults later sink_faults sink_later device_faults device_later : ℕ) (h : Header) (given : List LiveLine) (hs : List (List Entry)) (end : Option ScriptEnd) (s : Lived)
-    → ReadsScript left after faults later h given end → Lives stands commands h given hs → PutsEnded taken now sink_faults sink_later hs end s
+    → ReadsScript left after faults later h given end → Lives stands commands h given hs → PutsEnded taken now sink_faults sink_later (begun_along h first_numbers.job) hs end s
     → Owes stands commands left after taken now faults later sink_faults sink_later device_faults device_later s
 owes_ended stands commands left after taken now faults later sink_faults sink_later device_faults device_later h given hs (Some script.End) s reads lives puts =
     Of _ Done s (Ends h given hs reads lives) puts
@@ -59,7 +61,7 @@ pub owes_run : {D V : Type 0} (stands : D → Setting → Trace → Type 0) (com
     (histories : Result V LiveStop) (end : Option ScriptEnd) (s : Lived) → before ≡ [] → ReadsScript left after faults later h given end
     → IfOk histories (λ v. AreLiveHistories stands commands begun.header begun.sites before given (items v))
     → IfErr histories (IsLiveStop stands commands begun.header begun.sites before given)
-    → IfOk histories (λ v. PutsEnded taken now sink_faults sink_later (items v) end s)
+    → IfOk histories (λ v. PutsEnded taken now sink_faults sink_later (begun_along h first_numbers.job) (items v) end s)
     → IfErr histories (λ e. PutsStop taken now sink_faults sink_later e s)
     → Owes stands commands left after taken now faults later sink_faults sink_later device_faults device_later s
 owes_run stands commands left after taken now faults later sink_faults sink_later device_faults device_later h begun before given items (Ok v) end s none reads ok err puts stops =
@@ -195,3 +197,10 @@ put_none a f g all whole = Nothing (none_put a)
 -- The header that was read is one that a world may begin with.
 pub good_header : (h : Header) (first left : Option (List ℕ)) (r : ReaderState) → HeadersAreGood whole_language → HeaderBegins first left r h → IsHeader h
 good_header h first left r good b = good (b.consumed ++ []) h (lines_left b.consumed [] r) (b.reads [] (λ e. refl))
+
+-- A header but for its clocks gives lvmlockd's locks the same beginning.
+pub puts_so : {V : Type 0} (h g : Header) (taken now : Option (List ℕ)) (faults later : ℕ) (items : V → List (List Entry)) (histories : Result V LiveStop) (end : Option ScriptEnd)
+    (s : Lived) → g ≡ record h { clocks = g.clocks } → IfOk histories (λ v. PutsEnded taken now faults later (begun_along g first_numbers.job) (items v) end s)
+    → IfOk histories (λ v. PutsEnded taken now faults later (begun_along h first_numbers.job) (items v) end s)
+puts_so {V} h g taken now faults later items histories end s same puts =
+    subst (λ a. IfOk histories (λ (v : V). PutsEnded taken now faults later a (items v) end s)) (ap (λ x. begun_along x first_numbers.job) same) puts

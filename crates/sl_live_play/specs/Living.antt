@@ -5,6 +5,7 @@ use Rattle.sl_live_ground.specs.Grounds.{IsSiteOf}
 use Rattle.sl_live_ground.specs.declared.ground.NoGround.TheVariants as no_ground
 use Rattle.sl_live_ground.specs.declared.ground.NoGround.{NoGround}
 use Rattle.sl_live_lines.specs.declared.line.LiveLine.{LiveLine}
+use Rattle.sl_live_locks.specs.Alongs.{AlongState, begun_along}
 use Rattle.sl_live_play.specs.Differing.{differ_text}
 use Rattle.sl_live_play.specs.declared.play.Lived.TheVariants.{AreaFault, Differs, Done, NoMemory, ReadFault, Refused, WriteFault}
 use Rattle.sl_live_play.specs.declared.play.Lived.{Lived}
@@ -20,6 +21,7 @@ use Rattle.sl_live_run.specs.declared.compare.LiveStop.{LiveStop}
 use Rattle.sl_report.specs.Headline.{IsFrontOf}
 use Rattle.sl_report.specs.ScheduleLines.{refusal_line}
 use Rattle.sl_run.specs.Headers.{IsHeader}
+use Rattle.sl_run.specs.Worlds.{first_numbers}
 use Rattle.sl_run.specs.declared.event.Refusal.{Refusal}
 use Rattle.sl_run.specs.declared.header.Header.{Header}
 use Rattle.sl_schedule_reader.specs.HeaderBegins.{HeaderBreaks, HeaderStops}
@@ -68,21 +70,21 @@ pub data Due {D : Type 0} (stands : D → Setting → Trace → Type 0) (command
   -- the script was read to its end
   Ends : (h : Header) (given : List LiveLine) (hs : List (List Entry)) → ReadsScript left after faults later h given (Some script.End)
       → Lives stands commands h given hs
-      → Due stands commands left after faults later device_faults device_later (live_text hs ending.Whole) Done
+      → Due stands commands left after faults later device_faults device_later (live_text (begun_along h first_numbers.job) hs ending.Whole) Done
   -- a line of its header is refused
   Stops_early : (r : ReaderState) (number : ℕ) (why : Refusal) → HeaderStops left after r number why
       → Due stands commands left after faults later device_faults device_later (as_bytes (refusal_line number why ∷ [])) Refused
   -- .. or a line behind it
   Stops : (h : Header) (given : List LiveLine) (hs : List (List Entry)) (number : ℕ) (why : Refusal)
       → ReadsScript left after faults later h given (Some (script.Refused number why)) → Lives stands commands h given hs
-      → Due stands commands left after faults later device_faults device_later (live_text hs (ending.Refused number why)) Refused
+      → Due stands commands left after faults later device_faults device_later (live_text (begun_along h first_numbers.job) hs (ending.Refused number why)) Refused
   -- a read failed within the header
   Breaks_early : HeaderBreaks left after → Rose faults later
       → Due stands commands left after faults later device_faults device_later [] ReadFault
   -- .. or behind it: what the machines did is put out
   Breaks : (h : Header) (given : List LiveLine) (hs : List (List Entry)) → ReadsScript left after faults later h given (Some script.ReadFault)
       → Lives stands commands h given hs
-      → Due stands commands left after faults later device_faults device_later (live_text hs ending.Cut) ReadFault
+      → Due stands commands left after faults later device_faults device_later (live_text (begun_along h first_numbers.job) hs ending.Cut) ReadFault
   -- a disk can't be made, or a sector of an area can't be written before the threads begin
   Faults : Rose device_faults device_later
       → Due stands commands left after faults later device_faults device_later area_fault_text AreaFault
@@ -106,13 +108,13 @@ pub data Owes {D : Type 0} (stands : D → Setting → Trace → Type 0) (comman
 
 -- ---- step by step
 
--- What was put out of histories whose script ended so; and how the play then ended.
-abbrev pub PutsEnded : Option (List ℕ) → Option (List ℕ) → ℕ → ℕ → List (List Entry) → Option ScriptEnd → Lived → Type 0
-PutsEnded taken now faults later hs (Some script.End) s = Puts taken now faults later (live_text hs ending.Whole) Done s
-PutsEnded taken now faults later hs (Some (script.Refused number why)) s = Puts taken now faults later (live_text hs (ending.Refused number why)) Refused s
-PutsEnded taken now faults later hs (Some script.ReadFault) s = Puts taken now faults later (live_text hs ending.Cut) ReadFault s
-PutsEnded taken now faults later hs (Some script.NoMemory) s = (s ≡ NoMemory) × Appends taken now []
-PutsEnded taken now faults later hs None s = (s ≡ NoMemory) × Appends taken now []
+-- What was put out of histories whose script ended so, where lvmlockd's locks begin like this; and how the play then ended.
+abbrev pub PutsEnded : Option (List ℕ) → Option (List ℕ) → ℕ → ℕ → AlongState → List (List Entry) → Option ScriptEnd → Lived → Type 0
+PutsEnded taken now faults later a hs (Some script.End) s = Puts taken now faults later (live_text a hs ending.Whole) Done s
+PutsEnded taken now faults later a hs (Some (script.Refused number why)) s = Puts taken now faults later (live_text a hs (ending.Refused number why)) Refused s
+PutsEnded taken now faults later a hs (Some script.ReadFault) s = Puts taken now faults later (live_text a hs ending.Cut) ReadFault s
+PutsEnded taken now faults later a hs (Some script.NoMemory) s = (s ≡ NoMemory) × Appends taken now []
+PutsEnded taken now faults later a hs None s = (s ≡ NoMemory) × Appends taken now []
 
 -- .. of why there are none.
 abbrev pub PutsStop : Option (List ℕ) → Option (List ℕ) → ℕ → ℕ → LiveStop → Lived → Type 0

@@ -4,9 +4,11 @@ ghost use Rattle.sl_daemon.specs.Daemons.{begun_with};
 ghost use Rattle.sl_kept.specs.Sane.{ReadsCommands};
 ghost use Rattle.sl_live_ground.specs.Grounds.{IsGroundOf};
 ghost use Rattle.sl_live_lines.specs.Scopes.{scope_of};
+ghost use Rattle.sl_live_locks.specs.Alongs.{begun_along};
 ghost use Rattle.sl_live_play.specs.Living.{Owes, PutsEnded, PutsNoGround, PutsStop};
 ghost use Rattle.sl_run.specs.Headers.{IsHeader};
 ghost use Rattle.sl_run.specs.Lawful.{IsSetting};
+ghost use Rattle.sl_run.specs.Worlds.{first_numbers};
 ghost use Rattle.sl_run.specs.declared.header.Header.{Header as HeaderOf};
 ghost use Rattle.sl_schedule_reader.specs.HeaderBegins.{HeaderBegins};
 ghost use Rattle.sl_schedule_reader.specs.LineReads.{EndStands};
@@ -62,22 +64,33 @@ fn give_all_back<V: LiveDevices>(disks: Vec<Disks<V::Area>>, devices: &mut V) {
 fn put_ended<K: Sink>(
     alloc: Global,
     sink: &mut K,
+    header: &Header,
     histories: &[Seq<Entry>],
     end: Option<ScriptEnd>,
 ) -> Lived
-    ensures { PutsEnded (K.taken sink.old) (K.taken sink.new) (K.faults sink.old) (K.faults sink.new) histories.now end result }
+    ensures { PutsEnded (K.taken sink.old) (K.taken sink.new) (K.faults sink.old) (K.faults sink.new) (begun_along header.now first_numbers.job) histories.now end result }
 {
     match end {
-        Some(ScriptEnd::End) => put_histories(alloc, sink, histories, Ending::Whole, Lived::Done),
+        Some(ScriptEnd::End) => {
+            put_histories(alloc, sink, header, histories, Ending::Whole, Lived::Done)
+        }
         Some(ScriptEnd::Refused { number, why }) => put_histories(
             alloc,
             sink,
+            header,
             histories,
             Ending::Refused { number, why },
             Lived::Refused,
         ),
         Some(ScriptEnd::ReadFault) => {
-            put_histories(alloc, sink, histories, Ending::Cut, Lived::ReadFault)
+            put_histories(
+                alloc,
+                sink,
+                header,
+                histories,
+                Ending::Cut,
+                Lived::ReadFault,
+            )
         }
         Some(ScriptEnd::NoMemory) => Lived::NoMemory,
         None => Lived::NoMemory,
@@ -98,14 +111,15 @@ fn put_no_ground<K: Sink>(sink: &mut K, why: NoGround) -> Lived
 fn put_run<K: Sink>(
     alloc: Global,
     sink: &mut K,
+    header: &Header,
     histories: Result<Vec<Seq<Entry>>, LiveStop>,
     end: Option<ScriptEnd>,
 ) -> Lived
-    ensures ok { IfOk histories (λ hs. PutsEnded (K.taken sink.old) (K.taken sink.new) (K.faults sink.old) (K.faults sink.new) hs.items end result) }
+    ensures ok { IfOk histories (λ hs. PutsEnded (K.taken sink.old) (K.taken sink.new) (K.faults sink.old) (K.faults sink.new) (begun_along header.now first_numbers.job) hs.items end result) }
     ensures stop { IfErr histories (λ why. PutsStop (K.taken sink.old) (K.taken sink.new) (K.faults sink.old) (K.faults sink.new) why result) }
 {
     match histories {
-        Ok(histories) => put_ended(alloc, sink, &histories, end),
+        Ok(histories) => put_ended(alloc, sink, header, &histories, end),
         Err(LiveStop::Differ { machine, differ }) => put_differ(alloc, sink, machine, &differ),
         Err(LiveStop::NoMemory) => Lived::NoMemory,
     }
@@ -143,14 +157,15 @@ where
         (K.faults sink.old) (K.faults sink.new) (V.Devices.faults devices.old) (V.Devices.faults devices.new) result.0 }
 {
     let mut lines: ScriptLines<S, J> = ScriptLines::new(alloc, source, reader, &ground.header);
+    let (run, header) = run_machines::<D, V, ScriptLines<S, J>, R>(rt, alloc, ground, &mut lines);
     let LiveRun {
         histories,
         disks,
         ended: _,
-    } = run_machines::<D, V, ScriptLines<S, J>, R>(rt, alloc, ground, &mut lines);
+    } = run;
     give_all_back::<V>(disks, devices);
     let (source, end) = lines.close();
-    (put_run(alloc, sink, histories, end), source)
+    (put_run(alloc, sink, &header, histories, end), source)
 }
 
 /// Runs the machines of this ground, beside the lines that are still to be read.

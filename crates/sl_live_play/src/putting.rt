@@ -3,8 +3,10 @@
 ghost use Rattle.sl_live_play.specs.Differing.{differ_text};
 ghost use Rattle.sl_live_play.specs.Living.{Puts, area_fault_text};
 ghost use Rattle.sl_live_play.specs.declared.play.Lived.TheVariants as lived;
+ghost use Rattle.sl_live_locks.specs.Alongs.{begun_along};
 ghost use Rattle.sl_live_report.specs.LiveTexts.{live_text};
 ghost use Rattle.sl_report.specs.ScheduleLines.{refusal_line};
+ghost use Rattle.sl_run.specs.Worlds.{first_numbers};
 ghost use Rattle.sl_text.specs.Forms.{as_bytes};
 ghost use Rattle.std.specs.Prelude.{List, OnOk, [], ℕ, ◌∷◌, ◌≡◌};
 
@@ -13,11 +15,14 @@ use crate::play::Lived;
 use sl_io::{Sink, write_all};
 use sl_live_report::{Ending, push_live_text};
 use sl_live_run::LiveDiffer;
-use sl_run::Refusal;
+use sl_run::{Header, Refusal};
 use sl_schedule::push_refusal_line;
 use sl_text::Seq;
 use sl_trace::Entry;
 use std::alloc::{AllocError, Global};
+
+/// The number of the first job of a machine's first daemon.
+const FIRST_JOB: u64 = 1;
 
 /// Puts out a text that stands, or found no memory.
 fn put<K: Sink>(sink: &mut K, pushed: Result<(), AllocError>, text: &[u8], whole: Lived) -> Lived
@@ -52,14 +57,15 @@ pub(crate) fn put_area_fault<K: Sink>(sink: &mut K) -> Lived
 pub(crate) fn put_histories<K: Sink>(
     alloc: Global,
     sink: &mut K,
+    header: &Header,
     histories: &[Seq<Entry>],
     ending: Ending,
     whole: Lived,
 ) -> Lived
-    ensures { Puts (K.taken sink.old) (K.taken sink.new) (K.faults sink.old) (K.faults sink.new) (live_text histories.now ending) whole result }
+    ensures { Puts (K.taken sink.old) (K.taken sink.new) (K.faults sink.old) (K.faults sink.new) (live_text (begun_along header.now first_numbers.job) histories.now ending) whole result }
 {
     let mut out = Vec::new(alloc);
-    let pushed = push_live_text(&mut out, histories, ending);
+    let pushed = push_live_text(&mut out, header, FIRST_JOB, histories, ending);
     put(sink, pushed, &out, whole)
 }
 

@@ -4,8 +4,11 @@ use Rattle.sl_cell.specs.declared.audit.CloseError.{CloseError}
 use Rattle.sl_daemon.specs.Daemons.{begun_with}
 use Rattle.sl_daemon.specs.declared.daemon.Site.{Site}
 use Rattle.sl_live_lines.specs.declared.line.LiveLine.{LiveLine}
+use Rattle.sl_live_audit.specs.Audited.{AreLines}
+use Rattle.sl_live_locks.specs.Alongs.{AlongState, begun_along}
+use Rattle.sl_live_locks.specs.declared.line.GivenLine.{GivenLine}
 use Rattle.sl_live_machine.specs.Shapes.{IsCaseOfRun}
-use Rattle.sl_live_run.specs.Runs.{AreLiveHistories, AreSettled, AreTexts, CameTo, CanRun, HasRun, HasTold, IsCaseIn, IsLiveCase, IsLiveStop, Runs, StopsSome, outcome_of, site_of, texts_at, texts_for}
+use Rattle.sl_live_run.specs.Runs.{AreLiveHistories, AreSettled, AreGiven, CameTo, CanRun, HasRun, HasTold, IsCaseIn, IsLiveCase, IsLiveStop, Runs, StopsSome, outcome_of, begun_at, begun_on, first_at, lines_at, lines_for, site_of}
 use Rattle.sl_live_run.specs.declared.compare.LiveDiffer.TheVariants.{Cell, Left, Line, Untold}
 use Rattle.sl_live_run.specs.declared.compare.LiveDiffer.{LiveDiffer}
 use Rattle.sl_live_run.specs.declared.compare.LiveStop.TheVariants.{Differ, NoMemory}
@@ -71,23 +74,30 @@ counts : {C P V A : Type 0} (sites : List Site) (olds : List (Machine C P V A)) 
 counts {C} {P} {V} {A} sites olds same = sym (length-map olds (λ (m : Machine C P V A). site_of m)) ∙ ap length same ∙ length-map sites (λ s. Some s)
 
 -- What is kept for a place there is.
-texts_there : (given : List (List (List ℕ))) (machines place : ℕ) (ls : List LiveLine) → place < machines → AreTexts given machines ls → texts_at place given ≡ texts_for (place + 1) ls
-texts_there given machines place ls lt so =
+lines_there : (given : List (List GivenLine)) (machines place : ℕ) (ls : List LiveLine) → place < machines → AreGiven given machines ls → lines_at place given ≡ lines_for (place + 1) ls
+lines_there given machines place ls lt so =
     let n = so.counted in
     let there = there_is given place (omega (arith, lt, n)) in
-    ap (λ (o : Option (List (List ℕ))). elim o as (λ x. List (List ℕ)) [ None ↦ [] | Some texts ↦ texts ]) there.1 ∙ so.each place there.0 there.1
+    ap (λ (o : Option (List GivenLine)). elim o as (λ x. List GivenLine) [ None ↦ [] | Some lines ↦ lines ]) there.1 ∙ so.each place there.0 there.1
 
-told_well : {T E : Type 0} (machines : ℕ) (before after : List LiveLine) (given : List (List (List ℕ))) (told : Result T E) → IsOk told → (so : HasTold machines before after given told)
-    → AreTexts given machines so.lines
+told_well : {T E : Type 0} (machines : ℕ) (before after : List LiveLine) (given : List (List GivenLine)) (told : Result T E) → IsOk told → (so : HasTold machines before after given told)
+    → AreGiven given machines so.lines
 told_well machines before after given (Ok t) ok so = so.texts
 told_well machines before after given (Err e) ok so = absurd (search rules)
 
-pub live_histories : {D C P V A T E : Type 0} (stands : D → Setting → Trace → Type 0) (commands : Header → List (Form Command)) (header : Header) (sites : List Site)
-    (olds news : List (Machine C P V A)) (before after : List LiveLine) (given : List (List (List ℕ))) (outcomes : List (Result (List Entry) CloseError)) (hs : List (List Entry))
-    (told : Result T E) → map site_of olds ≡ map (λ s. Some s) sites → length news ≡ length olds
+-- The locks of the machine at a place begin as its site says.
+begun_there : (header : Header) (firsts : List ℕ) (sites : List Site) (place : ℕ) (site : Site) → firsts ≡ map (λ (s : Site). s.first.job) sites → slice_get sites place ≡ Some site
+    → begun_at header firsts place ≡ begun_on header site
+begun_there header firsts sites place site numbers at =
+    ap (λ (o : Option ℕ). begun_along header (elim o as (λ x. ℕ) [ None ↦ 0 | Some first ↦ first ]))
+    (ap (λ (ns : List ℕ). slice_get ns place) numbers ∙ map_got (λ (s : Site). s.first.job) sites place site at)
+
+pub live_histories : {D C P V A T E : Type 0} (stands : D → Setting → Trace → Type 0) (commands : Header → List (Form Command)) (header : Header) (sites : List Site) (firsts : List ℕ)
+    (olds news : List (Machine C P V A)) (before after : List LiveLine) (given : List (List GivenLine)) (outcomes : List (Result (List Entry) CloseError)) (hs : List (List Entry))
+    (told : Result T E) → map site_of olds ≡ map (λ s. Some s) sites → firsts ≡ map (λ (s : Site). s.first.job) sites → length news ≡ length olds
     → ((k : ℕ) → (d : Machine C P V A) → k < length olds → Runs commands stands header (slice_index_or olds k d) (slice_index_or news k d)) → outcomes ≡ map outcome_of news
-    → HasTold (length olds) before after given told → IsOk told → AreSettled outcomes given hs → AreLiveHistories stands commands header sites before after hs
-live_histories {D} {C} {P} {V} {A} stands commands header sites olds news before after given outcomes hs told same len each came tells ok so = record {
+    → HasTold (length olds) before after given told → IsOk told → AreSettled (begun_at header firsts) outcomes given hs → AreLiveHistories stands commands header sites before after hs
+live_histories {D} {C} {P} {V} {A} stands commands header sites firsts olds news before after given outcomes hs told same numbers len each came tells ok so = record {
   lines = tells.lines;
   gave = tells.gave;
   counted = so.counted ∙ ap length came ∙ length-map news (λ (m : Machine C P V A). outcome_of m) ∙ len ∙ counts sites olds same;
@@ -99,28 +109,30 @@ live_histories {D} {C} {P} {V} {A} stands commands header sites olds news before
       record {
         stood = run.stood;
         run = run.ran;
-        lines = settled.1 ∙ texts_there given (length olds) place tells.lines (omega (arith, n, lt)) (told_well (length olds) before after given told ok tells);
+        lines = subst (λ ls. AreLines (begun_on header site) h ls)
+            (lines_there given (length olds) place tells.lines (omega (arith, n, lt)) (told_well (length olds) before after given told ok tells))
+            (subst (λ a. AreLines a h (lines_at place given)) (begun_there header firsts sites place site numbers at_site) settled.1);
         answered = settled.2;
       };
 }
 
 -- A case of one machine.
-live_case : {D : Type 0} (stands : D → Setting → Trace → Type 0) (st : Setting) (due : List (List ℕ)) (outcome : Result (List Entry) CloseError) (d : LiveDiffer)
-    → HasRun stands st outcome → IsCaseIn outcome due d → IsLiveCase stands st due d
-live_case stands st due (Ok h) (Cell c) run is = absurd is
-live_case stands st due (Ok h) (Line number asked expected) run is = (h, run.stood, run.ran, is)
-live_case stands st due (Ok h) (Left number call) run is = (h, run.stood, run.ran, is)
-live_case stands st due (Ok h) (Untold number process) run is = (h, run.stood, run.ran, is)
-live_case stands st due (Err e) d run is =
-    subst (IsLiveCase stands st due) (sym is.2) (subst (Stops (IsCaseOfRun st)) is.1 run.stops)
+live_case : {D : Type 0} (stands : D → Setting → Trace → Type 0) (st : Setting) (a : AlongState) (due : List GivenLine) (outcome : Result (List Entry) CloseError) (d : LiveDiffer)
+    → HasRun stands st outcome → IsCaseIn a outcome due d → IsLiveCase stands st a due d
+live_case stands st a due (Ok h) (Cell c) run is = absurd is
+live_case stands st a due (Ok h) (Line number asked expected) run is = (h, run.stood, run.ran, is)
+live_case stands st a due (Ok h) (Left number call) run is = (h, run.stood, run.ran, is)
+live_case stands st a due (Ok h) (Untold number process) run is = (h, run.stood, run.ran, is)
+live_case stands st a due (Err e) d run is =
+    subst (IsLiveCase stands st a due) (sym is.2) (subst (Stops (IsCaseOfRun st)) is.1 run.stops)
 
-stop_there : {D C P V A T E : Type 0} (stands : D → Setting → Trace → Type 0) (commands : Header → List (Form Command)) (header : Header) (sites : List Site)
-    (olds news : List (Machine C P V A)) (before after : List LiveLine) (given : List (List (List ℕ))) (outcomes : List (Result (List Entry) CloseError)) (stop : LiveStop)
-    (told : Result T E) → map site_of olds ≡ map (λ s. Some s) sites → length news ≡ length olds
+stop_there : {D C P V A T E : Type 0} (stands : D → Setting → Trace → Type 0) (commands : Header → List (Form Command)) (header : Header) (sites : List Site) (firsts : List ℕ)
+    (olds news : List (Machine C P V A)) (before after : List LiveLine) (given : List (List GivenLine)) (outcomes : List (Result (List Entry) CloseError)) (stop : LiveStop)
+    (told : Result T E) → map site_of olds ≡ map (λ s. Some s) sites → firsts ≡ map (λ (s : Site). s.first.job) sites → length news ≡ length olds
     → ((k : ℕ) → (d : Machine C P V A) → k < length olds → Runs commands stands header (slice_index_or olds k d) (slice_index_or news k d)) → outcomes ≡ map outcome_of news
-    → HasTold (length olds) before after given told → IsOk told → StopsSome outcomes given stop → IsLiveStop stands commands header sites before after stop
-stop_there stands commands header sites olds news before after given outcomes NoMemory told same len each came tells ok so = tt
-stop_there {D} {C} {P} {V} {A} stands commands header sites olds news before after given outcomes (Differ m d) told same len each came tells ok so =
+    → HasTold (length olds) before after given told → IsOk told → StopsSome (begun_at header firsts) outcomes given stop → IsLiveStop stands commands header sites before after stop
+stop_there stands commands header sites firsts olds news before after given outcomes NoMemory told same numbers len each came tells ok so = tt
+stop_there {D} {C} {P} {V} {A} stands commands header sites firsts olds news before after given outcomes (Differ m d) told same numbers len each came tells ok so =
     let place = so.0 in
     let outcome = so.1 in
     let at : slice_get (map outcome_of news) place ≡ Some outcome = ap (λ (xs : List (Result (List Entry) CloseError)). slice_get xs place) (sym came) ∙ so.2 in
@@ -130,8 +142,8 @@ stop_there {D} {C} {P} {V} {A} stands commands header sites olds news before aft
     let there = there_is sites place (omega (arith, lt, long, len, n)) in
     let run = ran_at stands commands header sites olds news same each place there.0 outcome there.1 at in
     let number : m ≡ place + 1 = so.3.0 in
-    let texts : texts_at place given ≡ texts_for m tells.lines
-    = texts_there given (length olds) place tells.lines (omega (arith, lt, long, len)) (told_well (length olds) before after given told ok tells) ∙ ap (λ k. texts_for k tells.lines) (sym number) in
+    let texts : lines_at place given ≡ lines_for m tells.lines
+    = lines_there given (length olds) place tells.lines (omega (arith, lt, long, len)) (told_well (length olds) before after given told ok tells) ∙ ap (λ k. lines_for k tells.lines) (sym number) in
     record {
       lines = tells.lines;
       gave = tells.gave;
@@ -139,18 +151,20 @@ stop_there {D} {C} {P} {V} {A} stands commands header sites olds news before aft
       site = there.0;
       numbered = number;
       there = there.1;
-      case_of = subst (λ t. IsLiveCase stands (begun_with commands header there.0) t d) texts (live_case stands (begun_with commands header there.0) (texts_at place given) outcome d run so.3.1);
+      case_of = subst (λ t. IsLiveCase stands (begun_with commands header there.0) (begun_on header there.0) t d) texts
+          (subst (λ a. IsLiveCase stands (begun_with commands header there.0) a (lines_at place given) d) (begun_there header firsts sites place there.0 numbers there.1)
+          (live_case stands (begun_with commands header there.0) (begun_at header firsts place) (lines_at place given) outcome d run so.3.1));
     }
 
-pub live_stop : {D C P V A T E : Type 0} (stands : D → Setting → Trace → Type 0) (commands : Header → List (Form Command)) (header : Header) (sites : List Site)
-    (olds news : List (Machine C P V A)) (before after : List LiveLine) (given : List (List (List ℕ))) (outcomes : List (Result (List Entry) CloseError)) (stop : LiveStop)
-    (told : Result T E) → map site_of olds ≡ map (λ s. Some s) sites → length news ≡ length olds
+pub live_stop : {D C P V A T E : Type 0} (stands : D → Setting → Trace → Type 0) (commands : Header → List (Form Command)) (header : Header) (sites : List Site) (firsts : List ℕ)
+    (olds news : List (Machine C P V A)) (before after : List LiveLine) (given : List (List GivenLine)) (outcomes : List (Result (List Entry) CloseError)) (stop : LiveStop)
+    (told : Result T E) → map site_of olds ≡ map (λ s. Some s) sites → firsts ≡ map (λ (s : Site). s.first.job) sites → length news ≡ length olds
     → ((k : ℕ) → (d : Machine C P V A) → k < length olds → Runs commands stands header (slice_index_or olds k d) (slice_index_or news k d)) → outcomes ≡ map outcome_of news
-    → HasTold (length olds) before after given told → (stop ≡ NoMemory) ⊎ (IsOk told × StopsSome outcomes given stop) → IsLiveStop stands commands header sites before after stop
-live_stop stands commands header sites olds news before after given outcomes stop told same len each came tells (inl is) =
+    → HasTold (length olds) before after given told → (stop ≡ NoMemory) ⊎ (IsOk told × StopsSome (begun_at header firsts) outcomes given stop) → IsLiveStop stands commands header sites before after stop
+live_stop stands commands header sites firsts olds news before after given outcomes stop told same numbers len each came tells (inl is) =
     subst (IsLiveStop stands commands header sites before after) (sym is) tt
-live_stop stands commands header sites olds news before after given outcomes stop told same len each came tells (inr so) =
-    stop_there stands commands header sites olds news before after given outcomes stop told same len each came tells so.0 so.1
+live_stop stands commands header sites firsts olds news before after given outcomes stop told same numbers len each came tells (inr so) =
+    stop_there stands commands header sites firsts olds news before after given outcomes stop told same numbers len each came tells so.0 so.1
 
 -- ---- before the run
 
@@ -178,6 +192,18 @@ pub one_begun : {C P V A S : Type 0} (ms ms' : List (Machine C P V A)) (m : Mach
 one_begun {C} {P} {V} {A} ms ms' m ps p site is its so =
     ap (map (λ (x : Machine C P V A). site_of x)) is ∙ map-append (λ (x : Machine C P V A). site_of x) ms (m ∷ []) ∙ ap₂ (λ xs ys. xs ++ ys) so (ap (λ o. o ∷ []) its)
     ∙ sym (ap (map (λ s. Some s)) (map-append site ps (p ∷ [])) ∙ map-append (λ s. Some s) (map site ps) (site p ∷ []))
+
+-- .. and the numbers of their first jobs.
+pub firsts_are : {S : Type 0} (ns : List ℕ) (ps : List S) (site : S → Site) → ns ≡ map (λ p. (site p).first.job) ps → ns ≡ map (λ (s : Site). s.first.job) (map site ps)
+firsts_are {S} ns ps site is = is ∙ go ps
+  where
+    go : (xs : List S) → map (λ p. (site p).first.job) xs ≡ map (λ (s : Site). s.first.job) (map site xs)
+    go [] = refl
+    go (x ∷ xs) = ap (λ rest. (site x).first.job ∷ rest) (go xs)
+
+pub firsts_of : {S : Type 0} (ns : List ℕ) (xs ps : List S) (site : S → Site) → xs ≡ ps → ns ≡ map (λ p. (site p).first.job) xs
+    → ns ≡ map (λ (s : Site). s.first.job) (map site ps)
+firsts_of {S} ns xs ps site same is = subst (λ ys. ns ≡ map (λ (s : Site). s.first.job) (map site ys)) same (firsts_are ns xs site is)
 
 -- ---- what machines came to
 

@@ -4,11 +4,14 @@ use Rattle.sl_cell.specs.declared.audit.CloseError.TheVariants.{Differ as Differ
 use Rattle.sl_cell.specs.declared.audit.CloseError.{CloseError}
 use Rattle.sl_daemon.specs.Daemons.{Stood, begun_with}
 use Rattle.sl_daemon.specs.declared.daemon.Site.{Site}
-use Rattle.sl_live_audit.specs.Audited.{IsAnswered, IsUnanswered, LineDiffers, lines_of}
+use Rattle.sl_live_audit.specs.Audited.{AreLines, IsAnswered, IsUnanswered, LineDiffers}
 use Rattle.sl_live_audit.specs.declared.unanswered.Unanswered.TheVariants.{Call as CallLeft, Start as StartLeft}
 use Rattle.sl_live_audit.specs.declared.unanswered.Unanswered.{Unanswered}
-use Rattle.sl_live_lines.specs.declared.line.LiveLine.TheVariants.{Command as CommandLine, Exits, Post}
+use Rattle.sl_live_lines.specs.declared.line.LiveLine.TheVariants.{Command as CommandLine, Exits, Locks as LocksLine, Post}
 use Rattle.sl_live_lines.specs.declared.line.LiveLine.{LiveLine}
+use Rattle.sl_live_locks.specs.Alongs.{AlongState, begun_along}
+use Rattle.sl_live_locks.specs.declared.line.GivenLine.TheVariants.{ForHost, ForLocks}
+use Rattle.sl_live_locks.specs.declared.line.GivenLine.{GivenLine}
 use Rattle.sl_live_machine.specs.Shapes.{IsCaseOfRun, IsRun}
 use Rattle.sl_live_run.specs.declared.compare.LiveDiffer.TheVariants.{Cell, Left, Line, Untold}
 use Rattle.sl_live_run.specs.declared.compare.LiveDiffer.{LiveDiffer}
@@ -27,39 +30,44 @@ use Rattle.std.specs.Prelude.{Err, IfErr, IfOk, IfSome, List, None, Ok, OnOk, Op
 
 -- ---- what the script gives
 
--- The text that a line gives to a machine.
-abbrev pub text_for : ℕ → LiveLine → List (List ℕ)
-text_for m (CommandLine machine text) = if machine == m then text ∷ [] else []
-text_for m (Post machine text) = if machine == m then text ∷ [] else []
-text_for m (Exits machine process) = []
+-- What a line of the script gives, and to which machine, if it gives anything.
+abbrev pub given_by : LiveLine → Option (ℕ × GivenLine)
+given_by (CommandLine machine text) = Some (machine, ForHost text)
+given_by (Post machine text) = Some (machine, ForHost text)
+given_by (LocksLine machine line) = Some (machine, ForLocks line)
+given_by (Exits machine process) = None
+
+-- The line that it gives to this machine.
+abbrev pub line_for : ℕ → LiveLine → List GivenLine
+line_for m l = elim (given_by l) [ None ↦ [] | Some g ↦ if g.0 == m then g.1 ∷ [] else [] ]
 
 -- .. that lines give, in order.
-abbrev pub texts_for : ℕ → List LiveLine → List (List ℕ)
-texts_for m ls = flat_map (text_for m) ls
+abbrev pub lines_for : ℕ → List LiveLine → List GivenLine
+lines_for m ls = flat_map (line_for m) ls
 
 -- What is kept of it for the machine at a place, counted from 0.
-abbrev pub texts_at : ℕ → List (List (List ℕ)) → List (List ℕ)
-texts_at place given = elim (slice_get given place) [ None ↦ [] | Some texts ↦ texts ]
+abbrev pub lines_at : ℕ → List (List GivenLine) → List GivenLine
+lines_at place given = elim (slice_get given place) [ None ↦ [] | Some lines ↦ lines ]
 
--- With one text more for the machine at this place, if there is one.
-abbrev pub with_text_at : ℕ → List ℕ → List (List (List ℕ)) → List (List (List ℕ))
-with_text_at place text given =
-    if nat_lt place (length given) then slice_set given place (slice_index_or given place [] ++ text ∷ []) else given
+-- With one line more for the machine at this place, if there is one.
+abbrev pub with_line_at : ℕ → GivenLine → List (List GivenLine) → List (List GivenLine)
+with_line_at place line given =
+    if nat_lt place (length given) then slice_set given place (slice_index_or given place [] ++ line ∷ []) else given
 
 -- .. for the machine of this number, counted from 1.
-abbrev pub with_text : ℕ → List ℕ → List (List (List ℕ)) → List (List (List ℕ))
-with_text machine text given = if machine == 0 then given else with_text_at (machine - 1) text given
+abbrev pub with_line : ℕ → GivenLine → List (List GivenLine) → List (List GivenLine)
+with_line machine line given = if machine == 0 then given else with_line_at (machine - 1) line given
 
--- What is kept for so many machines are the texts that these lines give them.
-pub record AreTexts (given : List (List (List ℕ))) (machines : ℕ) (ls : List LiveLine) : Type 0 where
+-- What is kept for so many machines are the lines that these give them.
+pub record AreGiven (given : List (List GivenLine)) (machines : ℕ) (ls : List LiveLine) : Type 0 where
   pub counted : length given ≡ machines
-  pub each : (place : ℕ) (texts : List (List ℕ)) → slice_get given place ≡ Some texts → texts ≡ texts_for (place + 1) ls
+  pub each : (place : ℕ) (lines : List GivenLine) → slice_get given place ≡ Some lines → lines ≡ lines_for (place + 1) ls
 
--- The script gave some lines; where it ended well, what is kept are their texts.
-pub record HasTold {A E : Type 0} (machines : ℕ) (before after : List LiveLine) (given : List (List (List ℕ))) (result : Result A E) : Type 0 where
+-- The script gave some lines; where it ended well, what is kept are those that they give.
+pub record HasTold {A E : Type 0} (machines : ℕ) (before after : List LiveLine) (given : List (List GivenLine)) (result : Result A E) : Type 0 where
   pub lines : List LiveLine
   pub gave : after ≡ before ++ lines
-  pub texts : OnOk result (AreTexts given machines lines)
+  pub texts : OnOk result (AreGiven given machines lines)
 
 -- ---- a machine's run
 
@@ -91,17 +99,28 @@ Runs commands stands h before after = IfSome (site_of before) (λ s. HasRun stan
 
 -- ---- what it is compared with
 
+-- With what lvmlockd's locks begin on the machine at a place, where these are the numbers of the machines' first jobs.
+abbrev pub first_at : List ℕ → ℕ → ℕ
+first_at firsts place = elim (slice_get firsts place) [ None ↦ 0 | Some first ↦ first ]
+
+abbrev pub begun_at : Header → List ℕ → ℕ → AlongState
+begun_at header firsts place = begun_along header (first_at firsts place)
+
+-- .. on a machine of this site.
+abbrev pub begun_on : Header → Site → AlongState
+begun_on header site = begun_along header site.first.job
+
 -- The case of what is left unanswered.
 abbrev pub left_case : Unanswered → LiveDiffer
 left_case (CallLeft number call) = Left number call
 left_case (StartLeft number process) = Untold number process
 
 -- The history's lines are not those due, or something of it is not answered.
-abbrev pub HistoryDiffers : List Entry → List (List ℕ) → LiveDiffer → Type 0
-HistoryDiffers h due (Cell d) = ⊥
-HistoryDiffers h due (Line number asked expected) = LineDiffers h due number asked expected
-HistoryDiffers h due (Left number call) = IsUnanswered h (CallLeft number call)
-HistoryDiffers h due (Untold number process) = IsUnanswered h (StartLeft number process)
+abbrev pub HistoryDiffers : AlongState → List Entry → List GivenLine → LiveDiffer → Type 0
+HistoryDiffers a h due (Cell d) = ⊥
+HistoryDiffers a h due (Line number asked expected) = LineDiffers a h due number asked expected
+HistoryDiffers a h due (Left number call) = IsUnanswered h (CallLeft number call)
+HistoryDiffers a h due (Untold number process) = IsUnanswered h (StartLeft number process)
 
 -- Why there are no histories, where a machine's cell gave none.
 abbrev pub stop_of : ℕ → CloseError → LiveStop
@@ -109,34 +128,35 @@ stop_of machine (Differs d) = Differ machine (Cell d)
 stop_of machine NoMemoryClose = NoMemory
 
 -- Which case it is, of a machine's outcome and what is due of it.
-abbrev pub IsCaseIn : Result (List Entry) CloseError → List (List ℕ) → LiveDiffer → Type 0
-IsCaseIn (Ok h) due d = HistoryDiffers h due d
-IsCaseIn (Err e) due d = (c : _) × (e ≡ Differs c) × (d ≡ Cell c)
+abbrev pub IsCaseIn : AlongState → Result (List Entry) CloseError → List GivenLine → LiveDiffer → Type 0
+IsCaseIn a (Ok h) due d = HistoryDiffers a h due d
+IsCaseIn a (Err e) due d = (c : _) × (e ≡ Differs c) × (d ≡ Cell c)
 
 -- .. of the machine of this number.
-abbrev pub IsStopOf : ℕ → Result (List Entry) CloseError → List (List ℕ) → LiveStop → Type 0
-IsStopOf machine outcome due (Differ m d) = (m ≡ machine) × IsCaseIn outcome due d
-IsStopOf machine outcome due NoMemory = Unit {0}
+abbrev pub IsStopOf : ℕ → AlongState → Result (List Entry) CloseError → List GivenLine → LiveStop → Type 0
+IsStopOf machine a outcome due (Differ m d) = (m ≡ machine) × IsCaseIn a outcome due d
+IsStopOf machine a outcome due NoMemory = Unit {0}
 
 -- .. of some machine.
-abbrev pub StopsSome : List (Result (List Entry) CloseError) → List (List (List ℕ)) → LiveStop → Type 0
-StopsSome outcomes given stop =
-    (place : ℕ) × (outcome : Result (List Entry) CloseError) × (slice_get outcomes place ≡ Some outcome) × IsStopOf (place + 1) outcome (texts_at place given) stop
+abbrev pub StopsSome : (ℕ → AlongState) → List (Result (List Entry) CloseError) → List (List GivenLine) → LiveStop → Type 0
+StopsSome begun outcomes given stop =
+    (place : ℕ) × (outcome : Result (List Entry) CloseError) × (slice_get outcomes place ≡ Some outcome)
+    × IsStopOf (place + 1) (begun place) outcome (lines_at place given) stop
 
 -- The histories are those of the outcomes, with the lines that are due, and nothing of them is unanswered.
-pub record AreSettled (outcomes : List (Result (List Entry) CloseError)) (given : List (List (List ℕ))) (hs : List (List Entry)) : Type 0 where
+pub record AreSettled (begun : ℕ → AlongState) (outcomes : List (Result (List Entry) CloseError)) (given : List (List GivenLine)) (hs : List (List Entry)) : Type 0 where
   pub counted : length hs ≡ length outcomes
   pub each : (place : ℕ) (h : List Entry) → slice_get hs place ≡ Some h
-      → (slice_get outcomes place ≡ Some (Ok h)) × (lines_of h ≡ texts_at place given) × IsAnswered h
+      → (slice_get outcomes place ≡ Some (Ok h)) × AreLines (begun place) h (lines_at place given) × IsAnswered h
 
 -- ---- a whole run
 
 -- The history of a live machine: a daemon of this setting stood for it, its entries are exactly what the machine's threads applied, its lines
--- are these, and no call and no start of it is unanswered.
-pub record IsLiveHistory {D : Type 0} (stands : D → Setting → Trace → Type 0) (st : Setting) (texts : List (List ℕ)) (h : List Entry) : Type 0 where
+-- are these, each for lvmlockd with its asks as locks that begin so make them due, and no call and no start of it is unanswered.
+pub record IsLiveHistory {D : Type 0} (stands : D → Setting → Trace → Type 0) (st : Setting) (a : AlongState) (given : List GivenLine) (h : List Entry) : Type 0 where
   pub stood : Stood stands st (reverse h)
   pub run : IsRun st h
-  pub lines : lines_of h ≡ texts
+  pub lines : AreLines a h given
   pub answered : IsAnswered h
 
 -- One for each site, in order, with the lines that the script gave that machine in this run: `before` it had given those, and behind it these.
@@ -146,14 +166,14 @@ pub record AreLiveHistories {D : Type 0} (stands : D → Setting → Trace → T
   pub gave : after ≡ before ++ lines
   pub counted : length hs ≡ length sites
   pub each : (place : ℕ) (site : Site) (h : List Entry) → slice_get sites place ≡ Some site → slice_get hs place ≡ Some h
-      → IsLiveHistory stands (begun_with commands header site) (texts_for (place + 1) lines) h
+      → IsLiveHistory stands (begun_with commands header site) (begun_on header site) (lines_for (place + 1) lines) h
 
 -- A case holds of a machine of this setting, to which the script gave these lines.
-abbrev pub IsLiveCase : {D : Type 0} → (D → Setting → Trace → Type 0) → Setting → List (List ℕ) → LiveDiffer → Type 0
-IsLiveCase stands st texts (Cell d) = IsCaseOfRun st d
-IsLiveCase stands st texts (Line number asked due) = (h : List Entry) × Stood stands st (reverse h) × IsRun st h × LineDiffers h texts number asked due
-IsLiveCase stands st texts (Left number call) = (h : List Entry) × Stood stands st (reverse h) × IsRun st h × IsUnanswered h (CallLeft number call)
-IsLiveCase stands st texts (Untold number process) = (h : List Entry) × Stood stands st (reverse h) × IsRun st h × IsUnanswered h (StartLeft number process)
+abbrev pub IsLiveCase : {D : Type 0} → (D → Setting → Trace → Type 0) → Setting → AlongState → List GivenLine → LiveDiffer → Type 0
+IsLiveCase stands st a given (Cell d) = IsCaseOfRun st d
+IsLiveCase stands st a given (Line number asked due) = (h : List Entry) × Stood stands st (reverse h) × IsRun st h × LineDiffers a h given number asked due
+IsLiveCase stands st a given (Left number call) = (h : List Entry) × Stood stands st (reverse h) × IsRun st h × IsUnanswered h (CallLeft number call)
+IsLiveCase stands st a given (Untold number process) = (h : List Entry) × Stood stands st (reverse h) × IsRun st h × IsUnanswered h (StartLeft number process)
 
 -- .. of the machine of this number, counted from 1, which the stop names.
 pub record LiveCaseOf {D : Type 0} (stands : D → Setting → Trace → Type 0) (commands : Header → List (Form Command)) (header : Header) (sites : List Site)
@@ -164,7 +184,7 @@ pub record LiveCaseOf {D : Type 0} (stands : D → Setting → Trace → Type 0)
   pub site : Site
   pub numbered : machine ≡ place + 1
   pub there : slice_get sites place ≡ Some site
-  pub case_of : IsLiveCase stands (begun_with commands header site) (texts_for machine lines) d
+  pub case_of : IsLiveCase stands (begun_with commands header site) (begun_on header site) (lines_for machine lines) d
 
 -- Why there are no histories: such a case, or want of memory, of which nothing is said.
 abbrev pub IsLiveStop : {D : Type 0} → (D → Setting → Trace → Type 0) → (Header → List (Form Command)) → Header → List Site → List LiveLine → List LiveLine → LiveStop → Type 0

@@ -1,14 +1,17 @@
 //! A machine's outcome, compared with what the script gave it.
 
-ghost use Rattle.sl_live_audit.specs.Audited.{IsAnswered, lines_of};
-ghost use Rattle.sl_live_run.specs.Runs.{AreSettled, HistoryDiffers, IsStopOf, StopsSome, left_case, stop_of, texts_at};
+ghost use Rattle.sl_live_audit.specs.Audited.{AreLines, IsAnswered};
+ghost use Rattle.sl_live_locks.specs.Alongs.{begun_along};
+ghost use Rattle.sl_live_run.specs.Runs.{AreSettled, HistoryDiffers, IsStopOf, StopsSome, begun_at, first_at, left_case, lines_at, stop_of};
 ghost use Rattle.sl_live_run.specs.declared.compare.LiveDiffer.{LiveDiffer as LiveDifferOf};
 ghost use Rattle.std.specs.Prelude.{IfErr, IfNone, IfOk, IfSome, Ok, ◌≡◌};
 
 use crate::given::Given;
 use sl_cell::{CloseError, Differ};
 use sl_live_audit::{LineDiffer, Unanswered, differing_line, first_unanswered};
-use sl_text::{Bytes, Seq};
+use sl_live_locks::GivenLine;
+use sl_run::Header;
+use sl_text::Seq;
 use sl_trace::Entry;
 use std::alloc::{AllocError, Global};
 
@@ -17,12 +20,12 @@ use std::alloc::{AllocError, Global};
 pub enum LiveDiffer {
     /// The threads' records and the history.
     Cell(Differ),
-    /// The line of the entry of this number, counted from 1, is not the script's that is due there; or the history has no line left, and the
-    /// number is one past its last entry.
+    /// The line of the entry of this number, counted from 1, is not the one that is due there: the script's next, or the next ask of a line for
+    /// lvmlockd; or the history has no line left, and the number is one past its last entry.
     Line {
         number: usize,
-        asked: Option<Bytes>,
-        due: Option<Bytes>,
+        asked: Option<GivenLine>,
+        due: Option<GivenLine>,
     },
     /// A call of the entry of this number is not answered.
     Left {
@@ -80,13 +83,15 @@ fn left_case(left: Unanswered) -> LiveDiffer
 #[tactic(auto, using(crate::proofs::CompareLaws::line_differs, crate::proofs::CompareLaws::left_differs))]
 fn differing(
     alloc: Global,
+    header: &Header,
+    first_job: u64,
     history: &[Entry],
-    due: &[Bytes],
+    due: &[GivenLine],
 ) -> Result<Option<LiveDiffer>, AllocError>
-    ensures none { IfOk result (λ d. IfNone d ((lines_of history.now ≡ due.now) × IsAnswered history.now)) }
-    ensures some { IfOk result (λ d. IfSome d (HistoryDiffers history.now due.now)) }
+    ensures none { IfOk result (λ d. IfNone d (AreLines (begun_along header.now first_job) history.now due.now × IsAnswered history.now)) }
+    ensures some { IfOk result (λ d. IfSome d (HistoryDiffers (begun_along header.now first_job) history.now due.now)) }
 {
-    if let Some(differ) = differing_line(alloc, history, due)? {
+    if let Some(differ) = differing_line(alloc, header, first_job, history, due)? {
         return Ok(Some(line_case(differ)));
     }
     match first_unanswered(alloc, history)? {
@@ -112,15 +117,17 @@ fn stop_of(machine: usize, error: CloseError) -> LiveStop
 #[tactic(auto, using(crate::proofs::CompareLaws::no_history))]
 fn settle(
     alloc: Global,
+    header: &Header,
+    first_job: u64,
     machine: usize,
     outcome: Outcome,
-    due: &[Bytes],
+    due: &[GivenLine],
 ) -> Result<Seq<Entry>, LiveStop>
-    ensures ok { IfOk result (λ h. (outcome ≡ Ok h) × (lines_of h ≡ due.now) × IsAnswered h) }
-    ensures err { IfErr result (IsStopOf machine outcome due.now) }
+    ensures ok { IfOk result (λ h. (outcome ≡ Ok h) × AreLines (begun_along header.now first_job) h due.now × IsAnswered h) }
+    ensures err { IfErr result (IsStopOf machine (begun_along header.now first_job) outcome due.now) }
 {
     match outcome {
-        Ok(history) => match differing(alloc, history.as_slice(), due)? {
+        Ok(history) => match differing(alloc, header, first_job, history.as_slice(), due)? {
             Some(differ) => Err(LiveStop::Differ { machine, differ }),
             None => Ok(history),
         },
@@ -128,20 +135,40 @@ fn settle(
     }
 }
 
+/// The number of the first job of the machine at this place.
+fn first_at(firsts: &[u64], place: usize) -> u64
+    ensures { result ≡ first_at firsts.now place }
+{
+    match firsts.get(place) {
+        Some(first) => *first,
+        None => 0,
+    }
+}
+
 /// The histories of all machines, the first machine first.
 #[tactic(auto, using(crate::proofs::CompareLaws::none_settled, crate::proofs::CompareLaws::settled_more, crate::proofs::CompareLaws::stops_here))]
 pub(crate) fn settle_all(
     alloc: Global,
+    header: &Header,
+    firsts: &[u64],
     outcomes: Vec<Outcome>,
     given: &Given,
 ) -> Result<Vec<Seq<Entry>>, LiveStop>
-    ensures ok { IfOk result (λ hs. AreSettled outcomes.items given.now hs.items) }
-    ensures err { IfErr result (StopsSome outcomes.items given.now) }
+    ensures ok { IfOk result (λ hs. AreSettled (begun_at header.now firsts.now) outcomes.items given.now hs.items) }
+    ensures err { IfErr result (StopsSome (begun_at header.now firsts.now) outcomes.items given.now) }
 {
     let mut histories = Vec::new(alloc);
     for outcome in outcomes {
         let place = histories.len();
-        let history = settle(alloc, place.saturating_add(1), outcome, given.at(place))?;
+        let first_job = first_at(firsts, place);
+        let history = settle(
+            alloc,
+            header,
+            first_job,
+            place.saturating_add(1),
+            outcome,
+            given.at(place),
+        )?;
         histories.reserve(1)?;
         histories.push_reserved(history);
     }

@@ -1,66 +1,93 @@
 //! What the script gave to each machine.
 
 ghost use Rattle.sl_live_lines.specs.declared.line.LiveLine.{LiveLine as LineOf};
-ghost use Rattle.sl_live_run.specs.Runs.{AreTexts, texts_at, with_text, with_text_at};
+ghost use Rattle.sl_live_run.specs.Runs.{AreGiven, given_by, lines_at, with_line, with_line_at};
 ghost use Rattle.std.specs.Prelude.{IfOk, List, OnOk, [], length, ◌++◌, ◌∷◌, ◌≡◌, ℕ};
 
 use sl_live_lines::LiveLine;
+use sl_live_locks::GivenLine;
 use sl_text::Bytes;
 use std::alloc::{AllocError, Global};
 use std::marker::Model;
 
-/// The texts that were given to a machine, in order.
+/// The lines that were given to a machine, in order.
 #[derive(Drop)]
-struct Texts {
-    texts: Vec<Bytes>,
+struct Lines {
+    lines: Vec<GivenLine>,
 }
 
-impl Model for Texts {
-    ghost use Rattle.std.specs.Prelude.{List, ℕ};
+impl Model for Lines {
+    ghost use Rattle.sl_live_locks.specs.declared.line.GivenLine.{GivenLine};
+    ghost use Rattle.std.specs.Prelude.{List};
 
-    ghost Value = { List (List ℕ) };
+    ghost Value = { List GivenLine };
 
-    ghost view = { λ t. t.texts.items };
+    ghost view = { λ l. l.lines.items };
 }
 
-impl Texts {
+impl Lines {
     /// None.
-    fn new(alloc: Global) -> Texts
+    fn new(alloc: Global) -> Lines
         ensures { result ≡ [] }
     {
-        Texts {
-            texts: Vec::new(alloc),
+        Lines {
+            lines: Vec::new(alloc),
         }
     }
 
     /// One more. An `Err` is want of memory.
-    fn put(&mut self, alloc: Global, text: &Bytes) -> Result<(), AllocError>
-        ensures { OnOk result (self.new ≡ self.old ++ text.now ∷ []) }
+    fn put(&mut self, line: GivenLine) -> Result<(), AllocError>
+        ensures { OnOk result (self.new ≡ self.old ++ line ∷ []) }
     {
-        let copy = Bytes::from_slice(alloc, text.as_slice())?;
-        self.texts.reserve(1)?;
-        self.texts.push_reserved(copy);
+        self.lines.reserve(1)?;
+        self.lines.push_reserved(line);
         Ok(())
     }
 
     /// All of them.
-    fn as_slice(&self) -> &[Bytes]
+    fn as_slice(&self) -> &[GivenLine]
         ensures { result.now ≡ self.now }
     {
-        &self.texts
+        &self.lines
     }
 }
 
-/// The texts that the script gave to each machine, the first machine first.
+/// A copy of a text. An `Err` is want of memory.
+fn copy(alloc: Global, text: &Bytes) -> Result<Bytes, AllocError>
+    ensures { IfOk result (λ copy. copy ≡ text.now) }
+{
+    Bytes::from_slice(alloc, text.as_slice())
+}
+
+/// What a line of the script gives, and to which machine, if it gives anything. An `Err` is want of memory.
+fn given_by(alloc: Global, line: &LiveLine) -> Result<Option<(u32, GivenLine)>, AllocError>
+    ensures { IfOk result (λ given. given ≡ given_by line.now) }
+{
+    match line {
+        LiveLine::Command { machine, text } => {
+            Ok(Some((*machine, GivenLine::ForHost(copy(alloc, text)?))))
+        }
+        LiveLine::Post { machine, text } => {
+            Ok(Some((*machine, GivenLine::ForHost(copy(alloc, text)?))))
+        }
+        LiveLine::Locks { machine, line } => {
+            Ok(Some((*machine, GivenLine::ForLocks(copy(alloc, line)?))))
+        }
+        LiveLine::Exits { .. } => Ok(None),
+    }
+}
+
+/// The lines that the script gave to each machine, the first machine first.
 #[derive(Drop)]
 pub(crate) struct Given {
-    machines: Vec<Texts>,
+    machines: Vec<Lines>,
 }
 
 impl Model for Given {
-    ghost use Rattle.std.specs.Prelude.{List, ℕ};
+    ghost use Rattle.sl_live_locks.specs.declared.line.GivenLine.{GivenLine};
+    ghost use Rattle.std.specs.Prelude.{List};
 
-    ghost Value = { List (List (List ℕ)) };
+    ghost Value = { List (List GivenLine) };
 
     ghost view = { λ g. g.machines.items };
 }
@@ -80,49 +107,51 @@ impl Given {
         ensures { OnOk result (self.new ≡ self.old ++ [] ∷ []) }
     {
         self.machines.reserve(1)?;
-        self.machines.push_reserved(Texts::new(alloc));
+        self.machines.push_reserved(Lines::new(alloc));
         Ok(())
     }
 
     /// One more for the machine at this place, counted from 0, if there is one. An `Err` is want of memory.
-    fn put_at(&mut self, alloc: Global, place: usize, text: &Bytes) -> Result<(), AllocError>
-        ensures { OnOk result (self.new ≡ with_text_at place text.now self.old) }
+    fn put_at(&mut self, place: usize, line: GivenLine) -> Result<(), AllocError>
+        ensures { OnOk result (self.new ≡ with_line_at place line self.old) }
     {
         if place < self.machines.len() {
-            self.machines[place].put(alloc, text)
+            self.machines[place].put(line)
         } else {
             Ok(())
         }
     }
 
     /// One more for the machine of this number, counted from 1, if there is one. An `Err` is want of memory.
-    fn put(&mut self, alloc: Global, machine: u32, text: &Bytes) -> Result<(), AllocError>
-        ensures { OnOk result (self.new ≡ with_text machine text.now self.old) }
+    fn put(&mut self, machine: u32, line: GivenLine) -> Result<(), AllocError>
+        ensures { OnOk result (self.new ≡ with_line machine line self.old) }
     {
         if machine == 0 {
             return Ok(());
         }
-        self.put_at(alloc, machine as usize - 1, text)
+        self.put_at(machine as usize - 1, line)
     }
 
     /// Keeps what a line gives. An `Err` is want of memory.
-    #[tactic(auto, using(crate::proofs::GivenLaws::command_given, crate::proofs::GivenLaws::post_given, crate::proofs::GivenLaws::exits_given))]
+    #[tactic(auto, using(crate::proofs::GivenLaws::some_given, crate::proofs::GivenLaws::none_given))]
     pub(crate) fn keep(&mut self, alloc: Global, line: &LiveLine) -> Result<(), AllocError>
-        ensures { (ls : List LineOf) → (machines : ℕ) → AreTexts self.old machines ls → OnOk result (AreTexts self.new machines (ls ++ line.now ∷ [])) }
+        ensures { (ls : List LineOf) → (machines : ℕ) → AreGiven self.old machines ls → OnOk result (AreGiven self.new machines (ls ++ line.now ∷ [])) }
     {
-        match line {
-            LiveLine::Command { machine, text } => self.put(alloc, *machine, text),
-            LiveLine::Post { machine, text } => self.put(alloc, *machine, text),
-            LiveLine::Exits { .. } => Ok(()),
+        match given_by(alloc, line)? {
+            Some(gift) => {
+                self.put(gift.0, gift.1)?;
+                Ok(())
+            }
+            None => Ok(()),
         }
     }
 
     /// What was given to the machine at this place, counted from 0.
-    pub(crate) fn at(&self, place: usize) -> &[Bytes]
-        ensures { result.now ≡ texts_at place self.now }
+    pub(crate) fn at(&self, place: usize) -> &[GivenLine]
+        ensures { result.now ≡ lines_at place self.now }
     {
         match self.machines.get(place) {
-            Some(texts) => texts.as_slice(),
+            Some(lines) => lines.as_slice(),
             None => &[],
         }
     }

@@ -2,7 +2,7 @@
 
 ghost use Rattle.sl_daemon.specs.Daemons.{begun_with};
 ghost use Rattle.sl_daemon.specs.declared.daemon.Site.{Site as SiteOf};
-ghost use Rattle.sl_live_run.specs.Runs.{AreLiveHistories, AreSettled, AreTexts, CameTo, CanRun, HasTold, IsLiveStop, Runs, StopsSome, site_of};
+ghost use Rattle.sl_live_run.specs.Runs.{AreLiveHistories, AreSettled, AreGiven, CameTo, CanRun, HasTold, IsLiveStop, Runs, StopsSome, begun_at, site_of};
 ghost use Rattle.sl_live_run.specs.declared.compare.LiveStop.TheVariants.{NoMemory as NoMemoryStop};
 ghost use Rattle.sl_live_run.specs.declared.machine.Machine.{Machine as MachineOf};
 ghost use Rattle.sl_run.specs.Headers.{IsHeader};
@@ -60,23 +60,41 @@ fn no_run<A: Area>(alloc: Global) -> LiveRun<A>
     }
 }
 
-/// What is there before the threads begin: the machines, a post for each, and that nothing was given to any.
+/// What is there before the threads begin: the machines, a post for each, that nothing was given to any, and the numbers of their first jobs.
 #[derive(Drop)]
 struct Begun<C: Clock, P: Spawner, V: Device, A: Area> {
     machines: Vec<Machine<C, P, V, A>>,
     posts: Vec<Post>,
     given: Given,
+    /// The number of each machine's first job.
+    firsts: Vec<u64>,
+}
+
+/// The numbers of their first jobs. An `Err` is want of memory.
+fn first_jobs<V: LiveDevices>(
+    alloc: Global,
+    prepared: &[Prepared<V>],
+) -> Result<Vec<u64>, AllocError>
+    ensures { IfOk result (λ firsts. firsts.items ≡ map (λ p. p.site.first.job) prepared.now) }
+{
+    let mut firsts = Vec::new(alloc);
+    for ready in prepared {
+        firsts.push(ready.site.first.job)?;
+    }
+    Ok(firsts)
 }
 
 /// Makes the machines of these. An `Err` is want of memory.
-#[tactic(auto, using(crate::proofs::GivenLaws::no_texts, crate::proofs::GivenLaws::one_more, crate::proofs::RunLaws::one_begun))]
+#[tactic(auto, using(crate::proofs::GivenLaws::no_lines, crate::proofs::GivenLaws::one_more, crate::proofs::RunLaws::one_begun))]
 fn begin<V: LiveDevices>(
     alloc: Global,
     prepared: Vec<Prepared<V>>,
 ) -> Result<Begun<V::Clock, V::Spawner, V::Device, V::Area>, AllocError>
     ensures machines { IfOk result (λ b. map site_of b.machines.items ≡ map (λ s. Some s) (map (λ p. p.site) prepared.items)) }
-    ensures given { IfOk result (λ b. AreTexts b.given (length b.machines.items) []) }
+    ensures given { IfOk result (λ b. AreGiven b.given (length b.machines.items) []) }
+    ensures firsts { IfOk result (λ b. b.firsts.items ≡ map (λ (s : SiteOf). s.first.job) (map (λ p. p.site) prepared.items)) }
 {
+    let firsts = first_jobs(alloc, &prepared)?;
     let mut machines = Vec::new(alloc);
     let mut posts = Vec::new(alloc);
     let mut given = Given::new(alloc);
@@ -92,6 +110,7 @@ fn begin<V: LiveDevices>(
         machines,
         posts,
         given,
+        firsts,
     })
 }
 
@@ -107,7 +126,7 @@ fn beside<F: FnMut() + Send, L: LiveLines, R: Threads + Wait + time::Clock + Syn
 ) -> Result<Option<NoLine>, AllocError>
     requires { F.pre rest.old }
     ensures rest { F.step rest.old tt rest.new }
-    ensures told { (count : ℕ) → AreTexts given.old count [] → HasTold count (L.given lines.old) (L.given lines.new) given.new result }
+    ensures told { (count : ℕ) → AreGiven given.old count [] → HasTold count (L.given lines.old) (L.given lines.new) given.new result }
 {
     let ((), told) = join_mut(rt, rest, &mut || tell(rt, alloc, roll, posts, lines, given));
     told
@@ -149,7 +168,7 @@ fn run_beside<
     requires { AcceptsEach F.Fn run.now machines.old }
     ensures len { length machines.new ≡ length machines.old }
     ensures each { ChangesEach F.Fn run.now machines.old machines.new }
-    ensures told { (count : ℕ) → AreTexts given.old count [] → HasTold count (L.given lines.old) (L.given lines.new) given.new result }
+    ensures told { (count : ℕ) → AreGiven given.old count [] → HasTold count (L.given lines.old) (L.given lines.new) given.new result }
 {
     beside(
         rt,
@@ -191,7 +210,7 @@ fn run_all<
     ensures len { length machines.new ≡ length machines.old }
     ensures each { (k : ℕ) → (d : MachineOf C P V A) → k < length machines.old
         → Runs D.Daemon.commands D.Daemon.stands header.now (slice_index_or machines.old k d) (slice_index_or machines.new k d) }
-    ensures told { (count : ℕ) → AreTexts given.old count [] → HasTold count (L.given lines.old) (L.given lines.new) given.new result }
+    ensures told { (count : ℕ) → AreGiven given.old count [] → HasTold count (L.given lines.old) (L.given lines.new) given.new result }
 {
     run_beside(
         rt,
@@ -233,7 +252,7 @@ fn run_list<
     ensures len { length machines.new.items ≡ length machines.old.items }
     ensures each { (k : ℕ) → (d : MachineOf C P V A) → k < length machines.old.items
         → Runs D.Daemon.commands D.Daemon.stands header.now (slice_index_or machines.old.items k d) (slice_index_or machines.new.items k d) }
-    ensures told { (count : ℕ) → AreTexts given.old count [] → HasTold count (L.given lines.old) (L.given lines.new) given.new result }
+    ensures told { (count : ℕ) → AreGiven given.old count [] → HasTold count (L.given lines.old) (L.given lines.new) given.new result }
 {
     run_all::<D, L, R, C, P, V, A, G>(
         rt,
@@ -283,18 +302,20 @@ fn take_apart<C: Clock, P: Spawner, V: Device, A: Area>(
 /// The histories of a run, if no memory was wanting: what the machines came to, compared with what the script gave them.
 fn histories_of(
     alloc: Global,
+    header: &Header,
+    firsts: Vec<u64>,
     failed: bool,
     told: &Result<Option<NoLine>, AllocError>,
     outcomes: Vec<Outcome>,
     given: &Given,
 ) -> Result<Vec<Seq<Entry>>, LiveStop>
-    ensures ok { IfOk result (λ hs. IsOk told.now × AreSettled outcomes.items given.now hs.items) }
-    ensures err { IfErr result (λ stop. (stop ≡ NoMemoryStop) ⊎ (IsOk told.now × StopsSome outcomes.items given.now stop)) }
+    ensures ok { IfOk result (λ hs. IsOk told.now × AreSettled (begun_at header.now firsts.items) outcomes.items given.now hs.items) }
+    ensures err { IfErr result (λ stop. (stop ≡ NoMemoryStop) ⊎ (IsOk told.now × StopsSome (begun_at header.now firsts.items) outcomes.items given.now stop)) }
 {
     if failed || told.is_err() {
         return Err(LiveStop::NoMemory);
     }
-    settle_all(alloc, outcomes, given)
+    settle_all(alloc, header, &firsts, outcomes, given)
 }
 
 /// Runs machines that have begun.
@@ -317,16 +338,17 @@ fn run_begun<
     lines: &mut L,
 ) -> LiveRun<A>
     requires settings { All (CanRun D.Daemon.commands header.now) begun.machines.items }
-    requires given { AreTexts begun.given (length begun.machines.items) [] }
-    ensures ok { (sites : List SiteOf) → map site_of begun.machines.items ≡ map (λ s. Some s) sites
+    requires given { AreGiven begun.given (length begun.machines.items) [] }
+    ensures ok { (sites : List SiteOf) → map site_of begun.machines.items ≡ map (λ s. Some s) sites → begun.firsts.items ≡ map (λ (s : SiteOf). s.first.job) sites
         → IfOk result.histories (λ hs. AreLiveHistories D.Daemon.stands D.Daemon.commands header.now sites (L.given lines.old) (L.given lines.new) hs.items) }
-    ensures stop { (sites : List SiteOf) → map site_of begun.machines.items ≡ map (λ s. Some s) sites
+    ensures stop { (sites : List SiteOf) → map site_of begun.machines.items ≡ map (λ s. Some s) sites → begun.firsts.items ≡ map (λ (s : SiteOf). s.first.job) sites
         → IfErr result.histories (IsLiveStop D.Daemon.stands D.Daemon.commands header.now sites (L.given lines.old) (L.given lines.new)) }
 {
     let Begun {
         machines,
         posts,
         given,
+        firsts,
     } = begun;
     let (mut machines, mut given) = (machines, given);
     let roll = Roll::new(
@@ -351,7 +373,7 @@ fn run_begun<
     };
     let Left { outcomes, disks } = left;
     LiveRun {
-        histories: histories_of(alloc, failed, &told, outcomes, &given),
+        histories: histories_of(alloc, header, firsts, failed, &told, outcomes, &given),
         disks,
         ended: told.unwrap_or(None),
     }
@@ -361,22 +383,23 @@ fn run_begun<
 /// nothing.
 ///
 /// An `Ok` has a history for each machine, in order: a daemon of its site stood for it, its entries are exactly what its threads applied, its lines are
-/// exactly those that the script gave it in this run, in order, and no call and no start of it is unanswered. Else a case that holds of a machine; or want
-/// of memory, which ends all machines.
+/// exactly those that the script gave it in this run, in order, each for lvmlockd with its asks and answered, and no call and no start of it is
+/// unanswered. Else a case that holds of a machine; or want of memory, which ends all machines. The header comes back.
 #[tactic(auto, using(crate::proofs::RunLaws::can_run))]
 pub fn run_machines<
     D: Teller + Send,
     V: LiveDevices,
     L: LiveLines + Send,
     R: Threads + Wait + time::Clock + Sync,
->(rt: &R, alloc: Global, ground: Ground<V>, lines: &mut L) -> LiveRun<V::Area>
+>(rt: &R, alloc: Global, ground: Ground<V>, lines: &mut L) -> (LiveRun<V::Area>, Header)
 where
     V::Area: Send,
     requires header { IsHeader ground.header }
     requires settings { All (λ s. IsSetting (begun_with D.Daemon.commands ground.header s)) (map (λ p. p.site) ground.machines.items) }
-    ensures ok { IfOk result.histories (λ hs. AreLiveHistories D.Daemon.stands D.Daemon.commands ground.header (map (λ p. p.site) ground.machines.items)
+    ensures header { result.1 ≡ ground.header }
+    ensures ok { IfOk result.0.histories (λ hs. AreLiveHistories D.Daemon.stands D.Daemon.commands ground.header (map (λ p. p.site) ground.machines.items)
         (L.given lines.old) (L.given lines.new) hs.items) }
-    ensures stop { IfErr result.histories (IsLiveStop D.Daemon.stands D.Daemon.commands ground.header (map (λ p. p.site) ground.machines.items)
+    ensures stop { IfErr result.0.histories (IsLiveStop D.Daemon.stands D.Daemon.commands ground.header (map (λ p. p.site) ground.machines.items)
         (L.given lines.old) (L.given lines.new)) }
 {
     let Ground {
@@ -385,9 +408,10 @@ where
         gate,
     } = ground;
     let Ok(begun) = begin::<V>(alloc, machines) else {
-        return no_run(alloc);
+        return (no_run(alloc), header);
     };
-    run_begun::<D, L, R, V::Clock, V::Spawner, V::Device, V::Area, V::Gate>(
+    let run = run_begun::<D, L, R, V::Clock, V::Spawner, V::Device, V::Area, V::Gate>(
         rt, alloc, &header, &gate, begun, lines,
-    )
+    );
+    (run, header)
 }

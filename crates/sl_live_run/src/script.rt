@@ -1,11 +1,12 @@
 //! The script's thread: it reads the lines one after another and gives each to its machine's post.
 
 ghost use Rattle.sl_live_lines.specs.declared.line.LiveLine.{LiveLine as LineOf};
-ghost use Rattle.sl_live_run.specs.Runs.{AreTexts, HasTold};
+ghost use Rattle.sl_live_run.specs.Runs.{AreGiven, HasTold};
 ghost use Rattle.std.specs.Prelude.{List, OnOk, [], ◌++◌, ◌≡◌, ℕ};
 
 use crate::given::Given;
 use sl_live_lines::{LiveLine, LiveLines, NoLine};
+use sl_live_locks::GivenLine;
 use sl_live_machine::{Post, Roll, fail_all};
 use std::alloc::{AllocError, Global};
 use std::sync::Wait;
@@ -20,11 +21,15 @@ fn post_of(posts: &[Post], machine: u32) -> Option<&Post> {
 fn give<R: Wait>(rt: &R, posts: &[Post], line: LiveLine) -> Result<(), AllocError> {
     match line {
         LiveLine::Command { machine, text } => match post_of(posts, machine) {
-            Some(post) => post.command(rt, text),
+            Some(post) => post.command(rt, GivenLine::ForHost(text)),
+            None => Ok(()),
+        },
+        LiveLine::Locks { machine, line } => match post_of(posts, machine) {
+            Some(post) => post.command(rt, GivenLine::ForLocks(line)),
             None => Ok(()),
         },
         LiveLine::Post { machine, text } => match post_of(posts, machine) {
-            Some(post) => post.put(rt, text),
+            Some(post) => post.put(rt, GivenLine::ForHost(text)),
             None => Ok(()),
         },
         LiveLine::Exits { machine, process } => match post_of(posts, machine) {
@@ -48,7 +53,7 @@ fn give_all<L: LiveLines, R: Wait>(
     lines: &mut L,
     given: &mut Given,
 ) -> Result<Option<NoLine>, AllocError>
-    ensures { (machines : ℕ) → AreTexts given.old machines [] → HasTold machines (L.given lines.old) (L.given lines.new) given.new result }
+    ensures { (machines : ℕ) → AreGiven given.old machines [] → HasTold machines (L.given lines.old) (L.given lines.new) given.new result }
 {
     for _ in rt.forever() {
         if has_failed(rt, posts) {
@@ -83,7 +88,7 @@ pub(crate) fn tell<L: LiveLines, R: Wait + Clock>(
     lines: &mut L,
     given: &mut Given,
 ) -> Result<Option<NoLine>, AllocError>
-    ensures { (machines : ℕ) → AreTexts given.old machines [] → HasTold machines (L.given lines.old) (L.given lines.new) given.new result }
+    ensures { (machines : ℕ) → AreGiven given.old machines [] → HasTold machines (L.given lines.old) (L.given lines.new) given.new result }
 {
     if !roll.enter(rt) {
         roll.give_up(rt);

@@ -1,19 +1,19 @@
--- What changes of calls leave: order, which are in flight, and the bound on landings.
+-- What changes of calls leave: the order of numbers, which are in flight, and the order of cuts.
 use Rattle.sl_kept.specs.Changes.{cut_flight, disowned, stays_open}
 use Rattle.sl_kept.specs.Kept.{FlightState}
 use Rattle.sl_kept.specs.Refusing.{lands}
 use Rattle.sl_machine.proofs.FlightLaws.{Falls, fallen, falling, falls_at}
-use Rattle.sl_machine.specs.Flights.{AreFlights, StandsAt, closed_at, ended_flight, falls, flight_numbered, flights_with, flights_without, grown_flight, late_after, late_cut, late_of}
+use Rattle.sl_machine.proofs.FlightOrder.{all_at, all_removed, all_set, order_kept, order_pushed, order_removed, order_set}
+use Rattle.sl_machine.specs.Flights.{AreFlights, StandsAt, closed_at, ended_flight, falls, flight_numbered, flights_with, flights_without, grown_flight, in_order, is_uncut, late_cut}
 use Rattle.sl_machine.specs.declared.flight.Outcome.TheVariants.{Dropped, Landed, Torn}
 use Rattle.sl_machine.specs.declared.flight.Outcome.{Outcome}
 use Rattle.sl_plain.proofs.Lists.{set_here}
-use Rattle.sl_words.proofs.CaseLaws.{none_some, some_value}
+use Rattle.sl_words.proofs.CaseLaws.{false_is_true, none_some, some_value}
 use Rattle.sl_words.proofs.WordLaws.{and_true}
-use Rattle.sl_words.specs.Words.{least}
 use Rattle.std.proofs.Common.{ap, ap₂, arith, refl, subst, sym, ◌∙◌}
 use Rattle.std.proofs.lemmas.Bool.Decides.{nat_tests}
-use Rattle.std.specs.List.{cons_option, list_all, remove, slice_set}
-use Rattle.std.specs.Prelude.{Bool, List, None, Option, Some, false, filter, filter_map, if◌then◌else◌, is_some, map, slice_get, suc, true, zero, [], ℕ, ◌&&◌, ◌<◌, ◌==◌, ◌∷◌, ◌≡◌, ◌≤◌}
+use Rattle.std.specs.List.{list_all, remove, slice_set}
+use Rattle.std.specs.Prelude.{Bool, Err, List, None, Ok, OnErr, OnOk, Option, Result, Some, false, filter, if◌then◌else◌, is_none, is_some, map, not, slice_get, suc, true, zero, [], ℕ, ◌&&◌, ◌+◌, ◌<◌, ◌==◌, ◌∷◌, ◌≡◌, ◌≤◌, ◌||◌}
 
 -- ---- the call of a number changes, and no other
 
@@ -114,85 +114,82 @@ falls_removed b i [] f fall at = absurd (none_some f at)
 falls_removed b zero (x ∷ xs) f fall at = falls_up x.number b xs fall.1 (let lt = fall.0 in omega (arith, lt))
 falls_removed b (suc i) (x ∷ xs) f fall at = (fall.0, falls_removed x.number i xs f fall.1 at)
 
--- ---- all are in flight still
+-- ---- what is known stays
 
-all_set : {A : Type 0} (p : A → Bool) (xs : List A) (i : ℕ) (a : A) → list_all p xs ≡ true → p a ≡ true → list_all p (slice_set xs i a) ≡ true
-all_set p [] i a h k = h
-all_set p (x ∷ xs) zero a h k = let both = and_true (p x) (list_all p xs) h in rw k both.1
-all_set p (x ∷ xs) (suc i) a h k = let both = and_true (p x) (list_all p xs) h in rw both.0 (all_set p xs i a both.1 k)
+-- A call that has changed so is the one that it was to the order of calls, as long as it is in flight.
+pub record IsCloseTo (f h : FlightState) : Type 0 where
+  pub number : h.number ≡ f.number
+  pub own : h.own ≡ f.own
+  pub cut : is_uncut f ≡ true → stays_open h ≡ true → late_cut h ≡ late_cut f
 
-all_removed : {A : Type 0} (p : A → Bool) (xs : List A) (i : ℕ) (a : A) → list_all p xs ≡ true → slice_get xs i ≡ Some a → list_all p (remove xs i) ≡ true
-all_removed p [] i a h at = absurd (none_some a at)
-all_removed p (x ∷ xs) zero a h at = (and_true (p x) (list_all p xs) h).1
-all_removed p (x ∷ xs) (suc i) a h at = let both = and_true (p x) (list_all p xs) h in rw both.0 (all_removed p xs i a both.1 at)
+same_uncut : (f h : FlightState) → h.own ≡ f.own → late_cut h ≡ late_cut f → is_uncut f ≡ true → is_uncut h ≡ true
+same_uncut f h own cut is = ap₂ (λ o c. not o || is_none c) own cut ∙ is
 
--- ---- the bound on landings
+new_is_uncut : (f : FlightState) → late_cut f ≡ None → is_uncut f ≡ true
+new_is_uncut f cut = ap (λ c. not f.own || is_none c) cut ∙ or_true (not f.own)
+  where
+    or_true : (b : Bool) → (b || true) ≡ true
+    or_true true = refl
+    or_true false = refl
 
-map_set : {A B : Type 0} (p : A → Option B) (xs : List A) (i : ℕ) (a h : A) → slice_get xs i ≡ Some a → p a ≡ None → p h ≡ None → filter_map p (slice_set xs i h) ≡ filter_map p xs
-map_set p [] i a h at none gone = refl
-map_set p (x ∷ xs) zero a h at none gone = rw (gone, ap p (some_value x a at) ∙ none) refl
-map_set p (x ∷ xs) (suc i) a h at none gone = ap (cons_option (p x)) (map_set p xs i a h at none gone)
-
-map_removed : {A B : Type 0} (p : A → Option B) (xs : List A) (i : ℕ) (a : A) → slice_get xs i ≡ Some a → p a ≡ None → filter_map p (remove xs i) ≡ filter_map p xs
-map_removed p [] i a at none = absurd (none_some a at)
-map_removed p (x ∷ xs) zero a at none = rw (ap p (some_value x a at) ∙ none) refl
-map_removed p (x ∷ xs) (suc i) a at none = ap (cons_option (p x)) (map_removed p xs i a at none)
-
-late_removed_by : (cut late : Option ℕ) (fs : List FlightState) (i : ℕ) (f : FlightState) → late_cut f ≡ cut → late ≡ late_of fs → slice_get fs i ≡ Some f
-    → late_after cut late (remove fs i) ≡ late_of (remove fs i)
-late_removed_by None late fs i f is same at = same ∙ ap least (sym (map_removed late_cut fs i f at is))
-late_removed_by (Some r) late fs i f is same at = refl
-
-late_set_by : (cut late : Option ℕ) (fs : List FlightState) (i : ℕ) (f h : FlightState) → late_cut f ≡ cut → (late_cut f ≡ None → late_cut h ≡ None) → late ≡ late_of fs → slice_get fs i ≡ Some f
-    → late_after cut late (slice_set fs i h) ≡ late_of (slice_set fs i h)
-late_set_by None late fs i f h is gone same at = same ∙ ap least (sym (map_set late_cut fs i f h at is (gone is)))
-late_set_by (Some r) late fs i f h is gone same at = refl
-
-closed_by : (o : Bool) (next : ℕ) (late : Option ℕ) (fs : List FlightState) (i : ℕ) (f h : FlightState) → AreFlights next late fs → slice_get fs i ≡ Some f → h.number ≡ f.number
-    → (late_cut f ≡ None → late_cut h ≡ None) → stays_open h ≡ o → AreFlights next (late_after (late_cut f) late (closed_at i h fs)) (closed_at i h fs)
-closed_by true next late fs i f h are at same gone o =
-    rw (closed_at, o)
-    (record {
-      fall = falling next (slice_set fs i h) (falls_set next i fs f h (fallen next fs are.fall) at same);
-      open_ = all_set stays_open fs i h are.open_ o;
-      late_is = late_set_by (late_cut f) late fs i f h refl gone are.late_is at;
-    })
-closed_by false next late fs i f h are at same gone o =
-    rw (closed_at, o)
-    (record {
+gone_at : (next : ℕ) (ordered : Bool) (i : ℕ) (fs : List FlightState) (f : FlightState) → AreFlights next ordered fs → slice_get fs i ≡ Some f → AreFlights next ordered (remove fs i)
+gone_at next ordered i fs f are at =
+    record {
       fall = falling next (remove fs i) (falls_removed next i fs f (fallen next fs are.fall) at);
       open_ = all_removed stays_open fs i f are.open_ at;
-      late_is = late_removed_by (late_cut f) late fs i f refl are.late_is at;
+      uncut = all_removed is_uncut fs i f are.uncut at;
+      older_first = λ is. order_removed i fs f (are.older_first is) at;
+    }
+
+closed_by : (o : Bool) (next : ℕ) (ordered : Bool) (fs : List FlightState) (i : ℕ) (f h : FlightState) → AreFlights next ordered fs → slice_get fs i ≡ Some f → IsCloseTo f h
+    → stays_open h ≡ o → AreFlights next ordered (closed_at i h fs)
+closed_by true next ordered fs i f h are at same o =
+    let uncut = all_at is_uncut fs i f are.uncut at in
+    rw (closed_at, o)
+    (record {
+      fall = falling next (slice_set fs i h) (falls_set next i fs f h (fallen next fs are.fall) at same.number);
+      open_ = all_set stays_open fs i h are.open_ o;
+      uncut = all_set is_uncut fs i h are.uncut (same_uncut f h same.own (same.cut uncut o) uncut);
+      older_first = λ is. order_set i fs f h (are.older_first is) at same.own (same.cut uncut o);
     })
+closed_by false next ordered fs i f h are at same o = rw (closed_at, o) (gone_at next ordered i fs f are at)
 
 -- A call that has changed, or has gone by its change.
-pub closed_are : (next c i : ℕ) (late now : Option ℕ) (fs items : List FlightState) (g : FlightState → FlightState) → AreFlights next late fs → (s : StandsAt fs c i)
-    → ((f : FlightState) → ((g f).number ≡ f.number) × (late_cut f ≡ None → late_cut (g f) ≡ None))
-    → items ≡ closed_at i (g s.flight) fs → now ≡ late_after (late_cut s.flight) late items → AreFlights next now items
-closed_are next c i late now fs items g are s keeps is late_is =
-    let k = keeps s.flight in
-    subst (λ o. AreFlights next o items) (sym late_is)
-    (subst (λ xs. AreFlights next (late_after (late_cut s.flight) late xs) xs) (sym is)
-    (closed_by (stays_open (g s.flight)) next late fs i s.flight (g s.flight) are s.there k.0 k.1 refl))
+pub closed_are : (next c i : ℕ) (ordered : Bool) (fs items : List FlightState) (g : FlightState → FlightState) → AreFlights next ordered fs → (s : StandsAt fs c i)
+    → ((f : FlightState) → IsCloseTo f (g f)) → items ≡ closed_at i (g s.flight) fs → AreFlights next ordered items
+closed_are next c i ordered fs items g are s keeps is =
+    subst (λ xs. AreFlights next ordered xs) (sym is)
+    (closed_by (stays_open (g s.flight)) next ordered fs i s.flight (g s.flight) are s.there (keeps s.flight) refl)
 
-pub closed_is : (next c i : ℕ) (late : Option ℕ) (fs items : List FlightState) (g : FlightState → FlightState) → AreFlights next late fs → (s : StandsAt fs c i)
+pub closed_is : (next c i : ℕ) (ordered : Bool) (fs items : List FlightState) (g : FlightState → FlightState) → AreFlights next ordered fs → (s : StandsAt fs c i)
     → items ≡ closed_at i (g s.flight) fs → items ≡ flights_with c g fs
-closed_is next c i late fs items g are s is = is ∙ sym (with_at next c i g fs s.flight (fallen next fs are.fall) are.open_ s.there s.named)
+closed_is next c i ordered fs items g are s is = is ∙ sym (with_at next c i g fs s.flight (fallen next fs are.fall) are.open_ s.there s.named)
+
+-- The same, where want of memory may have left all as they were.
+pub sampled_are : {A E : Type 0} (next c i : ℕ) (ordered : Bool) (fs items : List FlightState) (g : FlightState → FlightState) (r : Result A E) → AreFlights next ordered fs
+    → (s : StandsAt fs c i) → ((f : FlightState) → IsCloseTo f (g f)) → OnOk r (items ≡ closed_at i (g s.flight) fs) → OnErr r (items ≡ fs) → AreFlights next ordered items
+sampled_are next c i ordered fs items g (Ok x) are s keeps is err = closed_are next c i ordered fs items g are s keeps is
+sampled_are next c i ordered fs items g (Err e) are s keeps ok same = subst (λ xs. AreFlights next ordered xs) (sym same) are
 
 -- A call that has gone.
-pub removed_are : (next c i : ℕ) (late now : Option ℕ) (fs items : List FlightState) → AreFlights next late fs → (s : StandsAt fs c i) → items ≡ remove fs i
-    → now ≡ late_after (late_cut s.flight) late items → AreFlights next now items
-removed_are next c i late now fs items are s is late_is =
-    subst (λ o. AreFlights next o items) (sym late_is)
-    (subst (λ xs. AreFlights next (late_after (late_cut s.flight) late xs) xs) (sym is)
-    (record {
-      fall = falling next (remove fs i) (falls_removed next i fs s.flight (fallen next fs are.fall) s.there);
-      open_ = all_removed stays_open fs i s.flight are.open_ s.there;
-      late_is = late_removed_by (late_cut s.flight) late fs i s.flight refl are.late_is s.there;
-    }))
+pub removed_are : (next c i : ℕ) (ordered : Bool) (fs items : List FlightState) → AreFlights next ordered fs → (s : StandsAt fs c i) → items ≡ remove fs i
+    → AreFlights next ordered items
+removed_are next c i ordered fs items are s is = subst (λ xs. AreFlights next ordered xs) (sym is) (gone_at next ordered i fs s.flight are s.there)
 
-pub removed_is : (next c i : ℕ) (late : Option ℕ) (fs items : List FlightState) → AreFlights next late fs → (s : StandsAt fs c i) → items ≡ remove fs i → items ≡ flights_without c fs
-removed_is next c i late fs items are s is = is ∙ sym (without_at next c i fs s.flight (fallen next fs are.fall) s.there s.named)
+pub removed_is : (next c i : ℕ) (ordered : Bool) (fs items : List FlightState) → AreFlights next ordered fs → (s : StandsAt fs c i) → items ≡ remove fs i → items ≡ flights_without c fs
+removed_is next c i ordered fs items are s is = is ∙ sym (without_at next c i fs s.flight (fallen next fs are.fall) s.there s.named)
+
+-- A new call, of the daemon that runs where the calls are said to be in order.
+pub pushed_are : (next : ℕ) (ordered now : Bool) (f : FlightState) (fs items : List FlightState) → AreFlights next ordered fs → f.number ≡ next → stays_open f ≡ true
+    → late_cut f ≡ None → items ≡ f ∷ fs → now ≡ (ordered && f.own) → AreFlights (next + 1) now items
+pushed_are next ordered now f fs items are number open_ cut is known =
+    subst (λ xs. AreFlights (next + 1) now xs) (sym is)
+    (record {
+      fall = falling (next + 1) (f ∷ fs) (omega (arith, number), subst (λ n. Falls n fs) (sym number) (fallen next fs are.fall));
+      open_ = rw open_ are.open_;
+      uncut = rw (new_is_uncut f cut) are.uncut;
+      older_first = λ yes. let both = and_true ordered f.own (sym known ∙ yes) in order_pushed f fs both.1 cut (are.older_first both.0);
+    })
 
 -- ---- all calls
 
@@ -219,29 +216,26 @@ open_mapped : (g : FlightState → FlightState) (fs : List FlightState) → ((f 
 open_mapped g [] keeps = refl
 open_mapped g (f ∷ fs) keeps = open_mapped_by g f fs (lands f) refl (keeps f) (open_mapped g fs keeps)
 
--- The writes alone, each changed so that it stays a write in flight.
-pub mapped_are : (next : ℕ) (late now : Option ℕ) (fs items : List FlightState) (g : FlightState → FlightState) → AreFlights next late fs
-    → ((f : FlightState) → (g f).number ≡ f.number) → ((f : FlightState) → lands f ≡ true → stays_open (g f) ≡ true)
-    → items ≡ map g (filter lands fs) → now ≡ late_of items → AreFlights next now items
-mapped_are next late now fs items g are same keeps is late_is =
+ended_uncut : (g : FlightState → FlightState) (fs : List FlightState) → ((f : FlightState) → (g f).own ≡ false) → list_all is_uncut (map g fs) ≡ true
+ended_uncut g [] ended = refl
+ended_uncut g (f ∷ fs) ended = rw (ended f) (ended_uncut g fs ended)
+
+-- The writes alone, each changed so that it stays a write in flight, of an ended daemon.
+pub mapped_are : (next : ℕ) (ordered now : Bool) (fs items : List FlightState) (g : FlightState → FlightState) → AreFlights next ordered fs
+    → ((f : FlightState) → (g f).number ≡ f.number) → ((f : FlightState) → (g f).own ≡ false) → ((f : FlightState) → lands f ≡ true → stays_open (g f) ≡ true)
+    → items ≡ map g (filter lands fs) → (now ≡ true → in_order items ≡ true) → AreFlights next now items
+mapped_are next ordered now fs items g are same ended keeps is order =
     record {
       fall = ap (falls next) is ∙ falling next (map g (filter lands fs)) (falls_mapped next g (filter lands fs) same (falls_kept next lands fs (fallen next fs are.fall)));
       open_ = ap (list_all stays_open) is ∙ open_mapped g fs keeps;
-      late_is = late_is;
+      uncut = ap (list_all is_uncut) is ∙ ended_uncut g (filter lands fs) ended;
+      older_first = order;
     }
 
-late_kept_by : (f : FlightState) (fs : List FlightState) (o : Bool) → lands f ≡ o → filter_map late_cut (map disowned (filter lands fs)) ≡ filter_map late_cut fs
-    → filter_map late_cut (map disowned (filter lands (f ∷ fs))) ≡ filter_map late_cut (f ∷ fs)
-late_kept_by f fs true o rest = rw (o, late_cut, o) (ap (cons_option f.cut) rest)
-late_kept_by f fs false o rest = rw (late_cut, o) rest
-
--- Reads and other calls without a cut are no matter to the bound.
-late_kept : (fs : List FlightState) → filter_map late_cut (map disowned (filter lands fs)) ≡ filter_map late_cut fs
-late_kept [] = refl
-late_kept (f ∷ fs) = late_kept_by f fs (lands f) refl (late_kept fs)
-
-pub disowned_late : (next : ℕ) (late : Option ℕ) (fs items : List FlightState) → AreFlights next late fs → items ≡ map disowned (filter lands fs) → late ≡ late_of items
-disowned_late next late fs items are is = are.late_is ∙ ap least (sym (late_kept fs)) ∙ ap late_of (sym is)
+-- A daemon that ends leaves its writes in order.
+pub disowned_order : (next : ℕ) (ordered : Bool) (fs items : List FlightState) → AreFlights next ordered fs → items ≡ map disowned (filter lands fs)
+    → ordered ≡ true → in_order items ≡ true
+disowned_order next ordered fs items are is known = ap in_order is ∙ order_kept lands fs (are.older_first known)
 
 -- ---- the changes themselves
 
@@ -251,14 +245,20 @@ cut_open moment f is = is
 pub disowned_open : (f : FlightState) → lands f ≡ true → stays_open (disowned f) ≡ true
 disowned_open f is = is
 
-ends_uncut : (b : Bool) (r : Option ℕ) → elim (b && false) as (λ x. Option ℕ) [ false ↦ None | true ↦ r ] ≡ None
-ends_uncut true r = refl
-ends_uncut false r = refl
+-- A call that lands, and is in flight still, is of the daemon that runs: it had no cut.
+ended_cut : (own writes flying : Bool) (r : Option ℕ) → (not own || is_none (elim (writes && flying) as (λ x. Option ℕ) [ false ↦ None | true ↦ r ])) ≡ true
+    → (own || writes && false) ≡ true → elim (writes && false) as (λ x. Option ℕ) [ false ↦ None | true ↦ r ] ≡ elim (writes && flying) as (λ x. Option ℕ) [ false ↦ None | true ↦ r ]
+ended_cut false true flying r uncut o = absurd (false_is_true o)
+ended_cut false false flying r uncut o = absurd (false_is_true o)
+ended_cut true false flying r uncut o = refl
+ended_cut true true false r uncut o = refl
+ended_cut true true true None uncut o = refl
+ended_cut true true true (Some n) uncut o = absurd (false_is_true uncut)
 
-pub ended_keeps : (o : Outcome) (f : FlightState) → ((ended_flight o f).number ≡ f.number) × (late_cut f ≡ None → late_cut (ended_flight o f) ≡ None)
-ended_keeps Landed f = (refl, λ _. ends_uncut (is_some f.write) f.cut)
-ended_keeps Torn f = (refl, λ _. ends_uncut (is_some f.write) f.cut)
-ended_keeps Dropped f = (refl, λ _. ends_uncut (is_some f.write) f.cut)
+pub ended_keeps : (o : Outcome) (f : FlightState) → IsCloseTo f (ended_flight o f)
+ended_keeps Landed f = record { number = refl; own = refl; cut = ended_cut f.own (is_some f.write) f.flying f.cut }
+ended_keeps Torn f = record { number = refl; own = refl; cut = ended_cut f.own (is_some f.write) f.flying f.cut }
+ended_keeps Dropped f = record { number = refl; own = refl; cut = ended_cut f.own (is_some f.write) f.flying f.cut }
 
 remove_set : {A : Type 0} (xs : List A) (i : ℕ) (a : A) → remove (slice_set xs i a) i ≡ remove xs i
 remove_set [] i a = refl
@@ -275,8 +275,8 @@ closing i fs items f h there opened closed = by (stays_open h) refl
     by true o = rw (closed_at, o) (opened h (set_here fs i h f there) o)
     by false o = rw (closed_at, o) (closed h (set_here fs i h f there) o ∙ remove_set fs i h)
 
-pub grown_keeps : (bytes : List ℕ) (n : ℕ) (f : FlightState) → ((grown_flight bytes n f).number ≡ f.number) × (late_cut f ≡ None → late_cut (grown_flight bytes n f) ≡ None)
-grown_keeps bytes n f = (refl, λ h. h)
+pub grown_keeps : (bytes : List ℕ) (n : ℕ) (f : FlightState) → IsCloseTo f (grown_flight bytes n f)
+grown_keeps bytes n f = record { number = refl; own = refl; cut = λ uncut o. refl }
 
 -- ---- two changes that are one on the call
 
@@ -304,9 +304,9 @@ map_same : (n c : ℕ) (g h : FlightState → FlightState) (fs : List FlightStat
 map_same n c g h [] fall same = refl
 map_same n c g h (f ∷ fs) fall same = map_same_by n c g h f fs (f.number == c) refl fall same (map_same f.number c g h fs fall.1)
 
-pub same_with : (n c : ℕ) (late : Option ℕ) (g h : FlightState → FlightState) (fs : List FlightState) → AreFlights n late fs
+pub same_with : (n c : ℕ) (ordered : Bool) (g h : FlightState → FlightState) (fs : List FlightState) → AreFlights n ordered fs
     → ((x : FlightState) → flight_numbered fs c ≡ Some x → g x ≡ h x) → flights_with c g fs ≡ flights_with c h fs
-same_with n c late g h fs are same = ap (filter stays_open) (map_same n c g h fs (fallen n fs are.fall) same)
+same_with n c ordered g h fs are same = ap (filter stays_open) (map_same n c g h fs (fallen n fs are.fall) same)
 
 -- ---- a call that has changed, and is then answered
 

@@ -1,5 +1,6 @@
 pub mod PlainFronts
 pub mod FlightLaws
+pub mod FlightOrder
 pub mod FlightChanges
 pub mod FlightPushes
 pub mod Refusals

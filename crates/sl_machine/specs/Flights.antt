@@ -4,9 +4,9 @@ use Rattle.sl_kept.specs.Kept.{FlightState}
 use Rattle.sl_kept.specs.Refusing.{lands}
 use Rattle.sl_machine.specs.declared.flight.Outcome.TheVariants.{Dropped, Landed, Torn}
 use Rattle.sl_machine.specs.declared.flight.Outcome.{Outcome}
-use Rattle.sl_words.specs.Words.{least}
+use Rattle.sl_words.specs.Words.{least, some_is}
 use Rattle.std.specs.List.{list_all, remove, slice_set}
-use Rattle.std.specs.Prelude.{Bool, List, None, Option, Some, false, filter, filter_map, find, map, min, nat_lt, not, slice_get, true, [], if◌then◌else◌, ℕ, ◌&&◌, ◌++◌, ◌+◌, ◌==◌, ◌∷◌, ◌≡◌}
+use Rattle.std.specs.Prelude.{Bool, List, None, Option, Some, false, filter, filter_map, find, is_none, length, map, min, nat_le, nat_lt, not, slice_get, true, [], if◌then◌else◌, ℕ, ◌&&◌, ◌++◌, ◌+◌, ◌-◌, ◌==◌, ◌||◌, ◌∷◌, ◌≡◌}
 
 -- The numbers fall, from below a bound on.
 abbrev pub falls : ℕ → List FlightState → Bool
@@ -28,11 +28,34 @@ numbered f = Some f.number
 abbrev pub ended_number : FlightState → Option ℕ
 ended_number f = if f.own then None else Some f.number
 
--- What is known of calls in flight: numbers fall, each is in flight still, and the bound on landings is that of these calls.
-pub record AreFlights (next : ℕ) (late : Option ℕ) (fs : List FlightState) : Type 0 where
+-- The oldest call.
+abbrev pub oldest : List FlightState → Option FlightState
+oldest fs = slice_get fs (length fs - 1)
+
+-- Whether a cut is no later than another; a call that has none would be cut last.
+abbrev pub no_later : Option ℕ → Option ℕ → Bool
+no_later cut other = elim other [ None ↦ true | Some r ↦ some_is (λ q. nat_le q r) cut ]
+
+-- Whether a call is as old as one made after it should be: its daemon has ended where the newer one's has, and it was cut no later.
+abbrev pub is_older : FlightState → FlightState → Bool
+is_older newer older = (newer.own || not older.own) && no_later (late_cut older) (late_cut newer)
+
+-- Whether of any two calls the older one is as old as it should be.
+abbrev pub in_order : List FlightState → Bool
+in_order [] = true
+in_order (f ∷ fs) = list_all (is_older f) fs && in_order fs
+
+-- Whether it was cut only if its daemon has ended.
+abbrev pub is_uncut : FlightState → Bool
+is_uncut f = not f.own || is_none (late_cut f)
+
+-- What is known of calls in flight: numbers fall, each is in flight still, those of the daemon that runs have not been cut, and where the calls
+-- are said to be in order, an older one was cut no later than a newer one.
+pub record AreFlights (next : ℕ) (ordered : Bool) (fs : List FlightState) : Type 0 where
   pub fall : falls next fs ≡ true
   pub open_ : list_all stays_open fs ≡ true
-  pub late_is : late ≡ late_of fs
+  pub uncut : list_all is_uncut fs ≡ true
+  pub older_first : ordered ≡ true → in_order fs ≡ true
 
 -- ---- one call
 
@@ -63,11 +86,6 @@ grown_flight bytes n f = record f { sampled = f.sampled ++ bytes; samples = f.sa
 -- What stands at a place once the call there has become f: it goes where it is in flight no more.
 abbrev pub closed_at : ℕ → FlightState → List FlightState → List FlightState
 closed_at i f fs = elim (stays_open f) [ true ↦ slice_set fs i f | false ↦ remove fs i ]
-
--- The bound on landings, once a call with such a cut has changed.
-abbrev pub late_after : Option ℕ → Option ℕ → List FlightState → Option ℕ
-late_after None late fs = late
-late_after (Some r) late fs = late_of fs
 
 -- The lesser of the two, if there is one.
 abbrev pub least_with : Option ℕ → Option ℕ → Option ℕ

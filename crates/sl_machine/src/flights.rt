@@ -1,13 +1,16 @@
 //! The calls in flight of a machine, by their numbers.
 //!
 //! The newest stands in front, and each has a lesser number than the one before it, so a call is found by bisection: an event on a call
-//! costs the same however many others are in flight. The first reset of before which a write may still land is kept beside them; it is
-//! worked out anew where a write from before a reset lands, is torn or goes, and at a reset.
+//! costs the same however many others are in flight.
+//!
+//! The first reset of before which a write may still land is asked for whenever time passes. A reset cuts the calls that no reset has cut,
+//! and a world's time never falls, so a call that is older was cut no later, and the oldest one tells. The type takes any moment for a
+//! reset, though: whether the calls are in order is looked at when they are cut, and where they are not, all are asked.
 
 ghost use Rattle.sl_kept.specs.Changes.{cut_flight, disowned, stays_open};
 ghost use Rattle.sl_kept.specs.Refusing.{lands, left_in};
 ghost use Rattle.sl_kept.specs.Kept.{FlightState};
-ghost use Rattle.sl_machine.specs.Flights.{AreFlights, StandsAt, closed_at, ended_flight, ended_number, flight_numbered, flights_cut, flights_disowned, flights_with, flights_without, grown_flight, late_after, late_cut, late_of, least_with, numbered};
+ghost use Rattle.sl_machine.specs.Flights.{AreFlights, StandsAt, closed_at, ended_flight, ended_number, flight_numbered, flights_cut, flights_disowned, flights_with, flights_without, grown_flight, in_order, is_older, late_cut, late_of, least_with, no_later, numbered, oldest};
 ghost use Rattle.std.specs.Arc.{arc_value};
 ghost use Rattle.sl_daemon.specs.Daemons.{IsSoundOp};
 ghost use Rattle.sl_kept.specs.Steps.{new_flight};
@@ -16,7 +19,7 @@ ghost use Rattle.sl_trace.specs.declared.effects.Call.{Call as CallOf};
 ghost use Rattle.sl_words.specs.Words.{least, some_is};
 ghost use Rattle.std.specs.List.{list_all, range_with_len, remove};
 ghost use Rattle.std.specs.Option.{option_copied};
-ghost use Rattle.std.specs.Prelude.{Contains, IfOk, IfSome, None, OnErr, OnOk, Some, [], false, filter, filter_map, flat_map, fold, length, map, not, slice_get, true, ◌+◌, ◌==◌, ◌<◌, ◌^◌, ◌∷◌, ◌≡◌, ◌≤◌};
+ghost use Rattle.std.specs.Prelude.{Contains, IfSome, None, OnErr, OnOk, Some, [], false, filter, filter_map, flat_map, fold, length, map, not, option_and_then, slice_get, true, ◌&&◌, ◌+◌, ◌==◌, ◌<◌, ◌^◌, ◌∷◌, ◌≡◌, ◌≤◌};
 ghost use Rattle.std.specs.VecDeque.{deque_capacity, deque_len};
 
 use crate::flight::{Flight, Outcome};
@@ -31,9 +34,10 @@ use std::sync::Arc;
 #[derive(Drop)]
 pub struct Flights {
     next: u64,
-    late: Option<u64>,
+    /// Whether older calls are known to be of daemons that ended no later, and cut no later.
+    ordered: bool,
     items: VecDeque<Flight>,
-    ghost kept: { AreFlights next late items.items },
+    ghost kept: { AreFlights next ordered items.items },
 }
 
 /// The lesser of two moments, if there is one.
@@ -61,19 +65,6 @@ fn first_late(items: &VecDeque<Flight>) -> Option<u64>
     late
 }
 
-/// The least number of a call.
-fn least_number(items: &VecDeque<Flight>) -> Option<u64>
-    ensures { result ≡ least (filter_map numbered items.now.items) }
-{
-    let mut index = items.len();
-    let mut least = None;
-    while index > 0 {
-        index -= 1;
-        least = least_with(Some(items[index].number()), least);
-    }
-    least
-}
-
 /// The number of a call of an ended daemon.
 fn ended_number(flight: &Flight) -> Option<u64>
     ensures { result ≡ ended_number flight.now }
@@ -98,14 +89,82 @@ fn least_ended(items: &VecDeque<Flight>) -> Option<u64>
     least
 }
 
-/// The same, once a call with such a cut has changed.
-fn late_after(items: &VecDeque<Flight>, cut: Option<u64>, late: Option<u64>) -> Option<u64>
-    ensures { result ≡ late_after cut late items.now.items }
+/// The oldest call.
+fn oldest(items: &VecDeque<Flight>) -> Option<&Flight>
+    ensures { option_copied result ≡ oldest items.now.items }
 {
-    match cut {
-        None => late,
-        Some(_) => first_late(items),
+    items.back()
+}
+
+/// The first reset since the oldest call was made, where it is a write that may still land.
+fn oldest_late(items: &VecDeque<Flight>) -> Option<u64>
+    ensures { result ≡ option_and_then late_cut (oldest items.now.items) }
+{
+    match oldest(items) {
+        None => None,
+        Some(flight) => flight.late_cut(),
     }
+}
+
+/// The number of the oldest call.
+fn oldest_number(items: &VecDeque<Flight>) -> Option<u64>
+    ensures { result ≡ option_and_then numbered (oldest items.now.items) }
+{
+    match oldest(items) {
+        None => None,
+        Some(flight) => Some(flight.number()),
+    }
+}
+
+/// The number of the oldest call, if it is one of an ended daemon.
+fn oldest_ended(items: &VecDeque<Flight>) -> Option<u64>
+    ensures { result ≡ option_and_then ended_number (oldest items.now.items) }
+{
+    match oldest(items) {
+        None => None,
+        Some(flight) => ended_number(flight),
+    }
+}
+
+/// Whether a cut is no later than another.
+fn is_no_later(cut: Option<u64>, other: Option<u64>) -> bool
+    ensures { result ≡ no_later cut other }
+{
+    match (cut, other) {
+        (None, None) => true,
+        (None, Some(_)) => false,
+        (Some(_), None) => true,
+        (Some(moment), Some(other)) => moment <= other,
+    }
+}
+
+/// Whether a call is as old as one made after it should be.
+fn is_older(newer: &Flight, older: &Flight) -> bool
+    ensures { result ≡ is_older newer.now older.now }
+{
+    let ended = newer.is_own() || !older.is_own();
+    let cut = is_no_later(older.late_cut(), newer.late_cut());
+    ended && cut
+}
+
+/// Whether all are in order.
+fn are_in_order(items: &VecDeque<Flight>) -> bool
+    ensures { result ≡ in_order items.now.items }
+{
+    let mut index = items.len();
+    let mut ordered = true;
+    while index > 1 {
+        index -= 1;
+        ordered = is_older(&items[index - 1], &items[index]) && ordered;
+    }
+    ordered
+}
+
+/// Whether calls are known to be in order with this one in front.
+fn stay_in_order(ordered: bool, flight: &Flight) -> bool
+    ensures { result ≡ (ordered && flight.now.own) }
+{
+    ordered && flight.is_own()
 }
 
 /// The call at a place goes where it is in flight no more.
@@ -120,58 +179,43 @@ fn close(items: &mut VecDeque<Flight>, index: usize)
     }
 }
 
-/// The way of the call at a place ends so. The answer is the bound on landings from then on.
-fn end_at(
-    items: &mut VecDeque<Flight>,
-    late: Option<u64>,
-    index: usize,
-    outcome: Outcome,
-) -> Option<u64>
+/// The way of the call at a place ends so.
+fn end_at(items: &mut VecDeque<Flight>, index: usize, outcome: Outcome)
     requires { index < deque_len items.old }
     ensures items { (f : FlightState) → slice_get items.old.items index ≡ Some f → items.new.items ≡ closed_at index (ended_flight outcome f) items.old.items }
-    ensures late { (f : FlightState) → slice_get items.old.items index ≡ Some f → result ≡ late_after (late_cut f) late items.new.items }
     ensures room { deque_capacity items.new ≡ deque_capacity items.old }
 {
-    let cut = items[index].late_cut();
     items[index].end(outcome);
     close(items, index);
-    late_after(items, cut, late)
 }
 
-/// The read at a place samples these sectors, so many. The answer is the bound on landings from then on; an `Err` is want of memory, and
-/// changes nothing.
+/// The read at a place samples these sectors, so many. An `Err` is want of memory, and changes nothing.
 fn sample_at(
     items: &mut VecDeque<Flight>,
-    late: Option<u64>,
     index: usize,
     more: Vec<Arc<Image>>,
     sectors: u64,
-) -> Result<Option<u64>, AllocError>
+) -> Result<(), AllocError>
     requires within { index < deque_len items.old }
     requires left { (f : FlightState) → slice_get items.old.items index ≡ Some f → sectors ≤ left_in f }
     ensures items { (f : FlightState) → slice_get items.old.items index ≡ Some f
         → OnOk result (items.new.items ≡ closed_at index (grown_flight (flat_map (λ m. arc_value m) more.items) sectors f) items.old.items) }
-    ensures late { (f : FlightState) → slice_get items.old.items index ≡ Some f → IfOk result (λ now. now ≡ late_after (late_cut f) late items.new.items) }
     ensures err { OnErr result (items.new.items ≡ items.old.items) }
     ensures room { deque_capacity items.new ≡ deque_capacity items.old }
 {
-    let cut = items[index].late_cut();
     items[index].sample(more, sectors)?;
     close(items, index);
-    Ok(late_after(items, cut, late))
+    Ok(())
 }
 
-/// The call at a place is gone. The answer is the bound on landings from then on.
-fn remove_at(items: &mut VecDeque<Flight>, late: Option<u64>, index: usize) -> Option<u64>
+/// The call at a place is gone.
+fn remove_at(items: &mut VecDeque<Flight>, index: usize)
     requires { index < deque_len items.old }
     ensures items { items.new.items ≡ remove items.old.items index }
-    ensures late { (f : FlightState) → slice_get items.old.items index ≡ Some f → result ≡ late_after (late_cut f) late items.new.items }
     ensures room { deque_capacity items.new ≡ deque_capacity items.old }
     ensures len { deque_len items.new ≤ deque_len items.old }
 {
-    let cut = items[index].late_cut();
     let _gone = items.remove(index);
-    late_after(items, cut, late)
 }
 
 /// Reads go, and so does a write that may land no more.
@@ -207,7 +251,7 @@ impl Flights {
     {
         Flights {
             next,
-            late: None,
+            ordered: true,
             items: VecDeque::new(alloc),
         }
     }
@@ -223,23 +267,30 @@ impl Flights {
     pub fn late(&self) -> Option<u64>
         ensures { result ≡ late_of self.now.items.items }
     {
-        self.late
+        if self.ordered {
+            oldest_late(&self.items)
+        } else {
+            first_late(&self.items)
+        }
     }
 
     /// The least number of a call in flight.
-    #[tactic(auto, using(crate::proofs::LeastCalls::numbers))]
     pub fn least(&self) -> Option<u64>
         ensures { result ≡ least (map (λ f. f.number) self.now.items.items) }
     {
-        least_number(&self.items)
+        oldest_number(&self.items)
     }
 
     /// The least number of a call in flight of an ended daemon.
-    #[tactic(auto, using(crate::proofs::LeastCalls::numbers))]
+    #[tactic(auto, using(crate::proofs::LeastCalls::least_of_ended))]
     pub fn least_ended(&self) -> Option<u64>
         ensures { result ≡ least (map (λ f. f.number) (filter (λ f. not f.own) self.now.items.items)) }
     {
-        least_ended(&self.items)
+        if self.ordered {
+            oldest_ended(&self.items)
+        } else {
+            least_ended(&self.items)
+        }
     }
 
     /// Where the call of this number stands, if it is in flight.
@@ -290,7 +341,7 @@ impl Flights {
         ensures room { deque_capacity self.new.items ≡ deque_capacity self.old.items }
     {
         if let Some(index) = self.index_of(number) {
-            self.late = end_at(&mut self.items, self.late, index, outcome);
+            end_at(&mut self.items, index, outcome);
         }
     }
 
@@ -309,7 +360,7 @@ impl Flights {
         ensures next { self.new.next ≡ self.old.next }
     {
         if let Some(index) = self.index_of(number) {
-            self.late = sample_at(&mut self.items, self.late, index, more, sectors)?;
+            sample_at(&mut self.items, index, more, sectors)?;
         }
         Ok(())
     }
@@ -322,7 +373,7 @@ impl Flights {
         ensures len { deque_len self.new.items ≤ deque_len self.old.items }
     {
         if let Some(index) = self.index_of(number) {
-            self.late = remove_at(&mut self.items, self.late, index);
+            remove_at(&mut self.items, index);
         }
     }
 
@@ -338,6 +389,7 @@ impl Flights {
         ensures room { deque_capacity self.new.items ≡ deque_capacity self.old.items }
         ensures len { deque_len self.new.items ≡ deque_len self.old.items + 1 }
     {
+        self.ordered = stay_in_order(self.ordered, &flight);
         self.items.push_front_reserved(flight);
         self.next += 1;
     }
@@ -385,6 +437,6 @@ impl Flights {
     {
         keep_writes(&mut self.items);
         cut_all(&mut self.items, moment);
-        self.late = first_late(&self.items);
+        self.ordered = are_in_order(&self.items);
     }
 }

@@ -21,16 +21,18 @@ fn is_ended_by(ends: &[End], grant: &Grant) -> bool
     ends.iter().any(|end| ends_holding(end, grant))
 }
 
-/// Holdings end. Where none does, what is held is not looked at, so that a step costs the same however much it is.
+/// Holdings end. Where none does, what is held is not looked at, so that a step costs the same however much it is; where one does, as mostly, each
+/// holding is compared with that one.
 fn end_holdings(held: &mut Vec<Grant>, ends: &[End])
     ensures items { held.new.items ≡ filter (λ g. not (traces.is_ended_by ends.now g)) held.old.items }
     ensures len { vec_len held.new ≤ vec_len held.old }
     ensures room { vec_capacity held.new ≡ vec_capacity held.old }
 {
-    if ends.is_empty() {
-        return;
+    match ends {
+        [] => {}
+        [end] => held.retain(|grant| !ends_holding(end, grant)),
+        _ => held.retain(|grant| !is_ended_by(ends, grant)),
     }
-    held.retain(|grant| !is_ended_by(ends, grant));
 }
 
 /// Holdings begin. They take no memory.

@@ -74,12 +74,11 @@ fn has_orphan_of(held: &[Grant], grant: &Grant) -> bool
     held.iter().any(|other| is_orphan_at(other, grant))
 }
 
-/// Whether the process's holding becomes an orphan.
+/// Whether the process's holding becomes an orphan. What is held is looked through only for a persistent holding of the process.
 fn leaves_orphan(held: &[Grant], process: u32, grant: &Grant) -> bool
     ensures { result ≡ traces.leaves_orphan held.now process grant.now }
 {
-    let orphaned = has_orphan_of(held, grant);
-    grant.process == process && grant.persistent && !orphaned
+    grant.process == process && grant.persistent && !has_orphan_of(held, grant)
 }
 
 /// The ends of a process's holdings. An `Err` is want of memory.

@@ -202,6 +202,42 @@ changed_rises at ls k x y rising h is same =
 abbrev pub kept_as : List LeaseState → ℕ → LeasesState
 kept_as items room = record { leases = items; room = room }
 
+-- ---- the lease at a place that is looked at first
+
+later_there : (x : Spot) (ls : List LeaseState) (k : ℕ) (l : LeaseState) → AllByRecursion (λ y. is_spot_before x y.spot ≡ true) ls → slice_get ls k ≡ Some l
+    → is_spot_before x l.spot ≡ true
+later_there x [] k l rising there = absurd (none_some l there)
+later_there x (y ∷ ys) zero l rising there = subst (λ (z : LeaseState). is_spot_before x z.spot ≡ true) (some_value y l there) rising.0
+later_there x (y ∷ ys) (suc k) l rising there = later_there x ys k l rising.1 there
+
+not_itself : (x : Spot) → is_spot_before x x ≡ false
+not_itself x = by (is_spot_before x x) refl where
+  by : (b : Bool) → is_spot_before x x ≡ b → is_spot_before x x ≡ false
+  by true is = spot_asym x x is
+  by false is = is
+
+-- It stands at the place of its area.
+place_there : (at : Spot) (ls : List LeaseState) (k : ℕ) (l : LeaseState) → AreByPlace ls → slice_get ls k ≡ Some l → is_lease_on at l ≡ true → IsPlaceOf at ls k
+place_there at [] k l rising there on = absurd (none_some l there)
+place_there at (x ∷ xs) zero l rising there on =
+    subst (λ s. is_spot_before x.spot s ≡ false) (ap (λ (z : LeaseState). z.spot) (some_value x l there) ∙ sym (spot_is at l.spot on)) (not_itself x.spot)
+place_there at (x ∷ xs) (suc k) l rising there on =
+    (subst (λ s. is_spot_before x.spot s ≡ true) (sym (spot_is at l.spot on)) (later_there x.spot xs k l rising.0 there), place_there at xs k l rising.1 there on)
+
+inside_there : (ls : List LeaseState) (k : ℕ) (l : LeaseState) → slice_get ls k ≡ Some l → k < length ls
+inside_there [] k l there = absurd (none_some l there)
+inside_there (x ∷ xs) zero l there = omega arith
+inside_there (x ∷ xs) (suc k) l there = let rest : k < length xs = inside_there xs k l there in omega (arith, rest)
+
+pub get_there : (ls : List LeaseState) (k : ℕ) (l : LeaseState) → k < length ls → l ≡ slice_index_or ls k l → slice_get ls k ≡ Some l
+get_there [] k l inside is = absurd (omega (arith, inside))
+get_there (x ∷ xs) zero l inside is = ap (λ z. Some z) (sym is)
+get_there (x ∷ xs) (suc k) l inside is = get_there xs k l (omega (arith, inside)) is
+
+pub found_there : (at : Spot) (ls : List LeaseState) (k : ℕ) (l : LeaseState) → AreByPlace ls → slice_get ls k ≡ Some l → is_lease_on at l ≡ true → IsFound at ls k
+found_there at ls k l rising there on =
+    record { inside = inside_there ls k l there; item = l; is = record { place = place_there at ls k l rising there on; there = there; on = on } }
+
 pub found_in : (at : Spot) (ls items : List LeaseState) (k : ℕ) → ls ≡ items → IsFound at ls k → IsFound at items k
 found_in at ls items k same h = subst (λ xs. IsFound at xs k) same h
 

@@ -170,3 +170,17 @@ spot_past x y lt = by (same_spot x y) refl where
 -- An area is itself.
 pub same_itself : (s : Spot) → same_spot s s ≡ true
 same_itself s = ap (λ b. b && bytes_eq s.path s.path) (nat_eq_equiv.refl s.base) ∙ nat_list_eq_equiv.refl s.path
+
+-- On one path the bases tell which comes first, and else the paths.
+pub on_one_path : (a b : Spot) → bytes_eq a.path b.path ≡ true → is_spot_before a b ≡ nat_lt a.base b.base
+on_one_path a b same =
+    let path : a.path ≡ b.path = (bytes_decides a.path b.path).0 same in
+    let first : is_text_before a.path b.path ≡ false = subst (λ p. is_text_before a.path p ≡ false) path (text_itself a.path) in
+    ap (λ t. t || bytes_eq a.path b.path && nat_lt a.base b.base) first ∙ ap (λ t. t && nat_lt a.base b.base) same
+
+or_none : (b : Bool) → (b || false) ≡ b
+or_none true = refl
+or_none false = refl
+
+pub on_two_paths : (a b : Spot) → bytes_eq a.path b.path ≡ false → is_spot_before a b ≡ is_text_before a.path b.path
+on_two_paths a b other = ap (λ t. is_text_before a.path b.path || t && nat_lt a.base b.base) other ∙ or_none (is_text_before a.path b.path)

@@ -1,8 +1,9 @@
 //! The leases of a session, by place.
 //!
-//! They stand in a vector in the order of their areas, so one is found by bisection. A lease is large and never moves but when one comes
-//! in before it; what a call or an answer changes of it is changed in place. One comes in with its first call, into memory that was taken
-//! before, and none ever goes.
+//! They stand in a vector in the order of their areas, so one is found by bisection. What goes on for a lease, a call and its answer and the
+//! next call, mostly concerns the one of the last call: so that one is looked at first, and most of what is asked of many leases costs what it
+//! costs of one. A lease is large and never moves but when one comes in before it; what a call or an answer changes of it is changed in place.
+//! One comes in with its first call, into memory that was taken before, and none ever goes.
 
 ghost use Rattle.sl_host_state.specs.Makes.{is_lease_on};
 ghost use Rattle.sl_lease.specs.Changes.{after_failure, after_read, after_write};
@@ -28,6 +29,8 @@ use std::marker::Model;
 pub struct Leases {
     items: Vec<Lease>,
     room: usize,
+    /// Where the lease of the last call stood then. It is only looked at, so it may be of any lease, or of none.
+    last: usize,
 }
 
 impl Model for Leases {
@@ -42,10 +45,15 @@ impl Model for Leases {
 }
 
 /// Whether an area comes first: by path, then by base.
+#[tactic(auto, using(crate::proofs::SpotOrder::on_one_path, crate::proofs::SpotOrder::on_two_paths))]
 fn is_before(a: &Spot, b: &Spot) -> bool
     ensures { result ≡ is_spot_before a.now b.now }
 {
-    a.path.is_before(&b.path) || a.path == b.path && a.base < b.base
+    if a.path == b.path {
+        a.base < b.base
+    } else {
+        a.path.is_before(&b.path)
+    }
 }
 
 /// Whether a lease's area comes before this one.
@@ -72,8 +80,32 @@ fn place_of(leases: &[Lease], at: &Spot) -> usize
     leases.partition_point(|lease| is_low(lease, at))
 }
 
-/// The place of the lease on an area; where there is none, the place at which it would stand.
-fn search(leases: &[Lease], at: &Spot) -> Result<usize, usize>
+/// Whether the lease on an area stands at this place.
+fn stands_at(leases: &[Lease], place: usize, at: &Spot) -> bool
+    requires { AreByPlace leases.now }
+    ensures { result ≡ true → IsFound at.now leases.now place }
+{
+    match leases.get(place) {
+        Some(lease) => is_on(lease, at),
+        None => false,
+    }
+}
+
+/// The place of the lease on an area; where there is none, the place at which it would stand. The lease at one place is looked at first.
+fn search(leases: &[Lease], first: usize, at: &Spot) -> Result<usize, usize>
+    requires { AreByPlace leases.now }
+    ensures found { IfOk result (IsFound at.now leases.now) }
+    ensures gap { IfErr result (IsGap at.now leases.now) }
+{
+    if stands_at(leases, first, at) {
+        Ok(first)
+    } else {
+        bisect(leases, at)
+    }
+}
+
+/// The same, by bisection.
+fn bisect(leases: &[Lease], at: &Spot) -> Result<usize, usize>
     requires { AreByPlace leases.now }
     ensures found { IfOk result (IsFound at.now leases.now) }
     ensures gap { IfErr result (IsGap at.now leases.now) }
@@ -140,6 +172,7 @@ impl Leases {
         Leases {
             items: Vec::new(alloc),
             room: 0,
+            last: 0,
         }
     }
 
@@ -182,7 +215,7 @@ impl Leases {
     pub fn get(&self, at: &Spot) -> Option<&Lease>
         ensures { option_map (λ l. l.now) result ≡ find (is_lease_on at.now) self.now.leases }
     {
-        match search(&self.items, at) {
+        match search(&self.items, self.last, at) {
             Ok(place) => Some(&self.items[place]),
             Err(_) => None,
         }
@@ -194,10 +227,13 @@ impl Leases {
         ensures leases { self.new.leases ≡ with_lease at self.old.leases }
         ensures room { self.new.room ≡ cond (list_any (is_lease_on at) self.old.leases) self.old.room (self.old.room - 1) }
     {
-        match search(&self.items, &at) {
-            Ok(_) => {}
+        match search(&self.items, self.last, &at) {
+            Ok(place) => self.last = place,
             Err(place) => match self.items.insert(place, Lease::new(at)) {
-                Ok(()) => self.room -= 1,
+                Ok(()) => {
+                    self.room -= 1;
+                    self.last = place;
+                }
                 Err(_) => unreachable!(),
             },
         }
@@ -208,7 +244,7 @@ impl Leases {
         requires { IsKeepable op.now }
         ensures { self.new ≡ record self.old { leases = changed_at at.now (lease_called number work step op.now) self.old.leases } }
     {
-        match search(&self.items, at) {
+        match search(&self.items, self.last, at) {
             Ok(place) => lease_called(&mut self.items[place], number, work, step, op),
             Err(_) => {}
         }
@@ -226,7 +262,7 @@ impl Leases {
         requires { length blocks.now < 2 ^ 32 }
         ensures { self.new ≡ record self.old { leases = changed_at at.now (after_read side.now heeded leader.now blocks.now) self.old.leases } }
     {
-        match search(&self.items, at) {
+        match search(&self.items, self.last, at) {
             Ok(place) => self.items[place].read_answered(side, leader, blocks, heeded),
             Err(_) => {}
         }
@@ -236,7 +272,7 @@ impl Leases {
     pub fn write_answered(&mut self, at: &Spot)
         ensures { self.new ≡ record self.old { leases = changed_at at.now after_write self.old.leases } }
     {
-        match search(&self.items, at) {
+        match search(&self.items, self.last, at) {
             Ok(place) => self.items[place].write_answered(),
             Err(_) => {}
         }
@@ -246,7 +282,7 @@ impl Leases {
     pub fn failed(&mut self, at: &Spot)
         ensures { self.new ≡ record self.old { leases = changed_at at.now after_failure self.old.leases } }
     {
-        match search(&self.items, at) {
+        match search(&self.items, self.last, at) {
             Ok(place) => self.items[place].failed(),
             Err(_) => {}
         }
@@ -279,7 +315,7 @@ impl Leases {
     fn has(&self, at: &Spot) -> bool
         ensures { result ≡ list_any (is_lease_on at.now) self.now.leases }
     {
-        match search(&self.items, at) {
+        match search(&self.items, self.last, at) {
             Ok(_) => true,
             Err(_) => false,
         }

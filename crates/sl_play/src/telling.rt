@@ -41,14 +41,36 @@ fn push_line(
     }
 }
 
-/// Adds the line of a test of the watchdog daemon, if there was one.
+/// Adds the line of a test of the watchdog daemon, if there was one. An `Err` is want of memory, and `out` stays as it was.
 fn push_test(out: &mut Vec<u8>, machine: u32, test: Option<bool>) -> Result<(), AllocError>
-    ensures { OnOk result (out.new.items ≡ out.old.items ++ as_bytes (tests_told machine test)) }
+    ensures ok { OnOk result (out.new.items ≡ out.old.items ++ as_bytes (tests_told machine test)) }
+    ensures err { OnErr result (out.new.items ≡ out.old.items) }
 {
     match test {
         None => Ok(()),
         Some(holds) => push_test_line(out, machine, holds),
     }
+}
+
+/// Adds what stands behind the effects: the line of a reply, if one has come, and that of a test. Lines of lvmlockd are rare, so only theirs are made
+/// apart. An `Err` is want of memory, and `out` stays as it was.
+#[tactic(auto, using(crate::proofs::Finishing::bytes_joined))]
+fn push_behind(
+    out: &mut Vec<u8>,
+    machine: u32,
+    line: &Option<(u64, LineReply)>,
+    test: Option<bool>,
+) -> Result<(), AllocError>
+    ensures ok { OnOk result (out.new.items ≡ out.old.items ++ as_bytes (told_lines machine (told_as line.now) ++ tests_told machine test)) }
+    ensures err { OnErr result (out.new.items ≡ out.old.items) }
+{
+    if line.is_none() {
+        return push_test(out, machine, test);
+    }
+    let mut lines = Vec::new(*out.allocator());
+    push_line(&mut lines, machine, line)?;
+    push_test(&mut lines, machine, test)?;
+    out.extend_from_slice(&lines)
 }
 
 /// Adds the lines of an event: those of the step of a machine, and that of a test. An `Err` is want of memory, and `out` stays as it was.
@@ -62,9 +84,11 @@ pub fn push_event(
     ensures ok { OnOk result (out.new.items ≡ out.old.items ++ as_bytes (step_lines machine (told_view told.now) ++ tests_told machine test)) }
     ensures err { OnErr result (out.new.items ≡ out.old.items) }
 {
-    let mut lines = Vec::new(*out.allocator());
-    push_effect_lines(&mut lines, machine, &told.effects)?;
-    push_line(&mut lines, machine, &told.line)?;
-    push_test(&mut lines, machine, test)?;
-    out.extend_from_slice(&lines)
+    let len = out.len();
+    push_effect_lines(out, machine, &told.effects)?;
+    let behind = push_behind(out, machine, &told.line, test);
+    if behind.is_err() {
+        out.truncate(len);
+    }
+    behind
 }

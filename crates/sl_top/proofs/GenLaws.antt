@@ -11,16 +11,15 @@ use Rattle.sl_headline.proofs.Promising.{made_runs_are_promised}
 use Rattle.sl_headline.specs.Promised.{PromisedRun}
 use Rattle.sl_host_step.specs.Serving.{Serves, whole_commands}
 use Rattle.sl_report.specs.Generator.{gen_header, gen_lines}
-use Rattle.sl_report.specs.Headline.{GenOf, GoodRun, IsFrontOf, SoundRun}
+use Rattle.sl_report.specs.Headline.{GenOf, IsFrontOf, SoundRun}
 use Rattle.sl_run.specs.Headers.{IsHeader}
 use Rattle.sl_run.specs.Worlds.{whole_program}
 use Rattle.sl_sector.proofs.WrittenBytes.{sha256_is_digest}
 use Rattle.sl_sound.specs.Promises.{DaemonsDoWhatIsDue}
 use Rattle.sl_text.specs.Forms.{as_bytes}
-use Rattle.sl_top.proofs.RunLaws.{nothing_put}
 use Rattle.sl_top.proofs.TopLaws.{none_written}
 use Rattle.sl_top.specs.Runs.{Generates}
-use Rattle.sl_top.specs.Statuses.{code, status_of_generated}
+use Rattle.sl_top.specs.Statuses.{status_of_generated}
 use Rattle.sl_top.specs.declared.status.Status.TheVariants.{Done, NoMemory, WriteFault}
 use Rattle.sl_top.specs.declared.status.Status.{Status}
 use Rattle.sl_volumes.proofs.Reading.{whole_program_reads}

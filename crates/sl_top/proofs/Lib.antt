@@ -4,3 +4,4 @@ pub mod DirectLaws
 pub mod GenLaws
 pub mod OweLaws
 pub mod StatusLaws
+pub mod LiveLaws

@@ -1,10 +1,11 @@
 -- What a run owes where there was no memory for its words: nothing was read, and nothing written.
-use Rattle.sl_cli.specs.declared.reading.Words.TheVariants.{Direct, Generate, Help, Replay, Version}
+use Rattle.sl_cli.specs.declared.reading.Words.TheVariants.{Direct, Generate, Help, Live, Replay, Version}
 use Rattle.sl_cli.specs.declared.reading.Words.{Words}
 use Rattle.sl_report.specs.Generator.{gen_lines}
 use Rattle.sl_run.specs.Worlds.{whole_program}
 use Rattle.sl_text.specs.Forms.{as_bytes}
 use Rattle.sl_top.proofs.DirectLaws.{not_begun}
+use Rattle.sl_top.proofs.LiveLaws.{never_run}
 use Rattle.sl_top.proofs.RunLaws.{nothing_put, unread}
 use Rattle.sl_top.proofs.TopLaws.{none_written}
 use Rattle.sl_top.specs.Runs.{Generates, Outside, Owes, PutsOut, bad_words_text}
@@ -31,5 +32,6 @@ nothing_done None x = nothing_told x.taken x.sink_faults bad_words_text _
 nothing_done (Some Replay) x = unread x.left x.source_faults x.taken x.sink_faults
 nothing_done (Some (Generate seed hosts events)) x = none_generated seed hosts events x.taken x.sink_faults
 nothing_done (Some (Direct a)) x = not_begun a x.disks x.device_faults x.taken x.sink_faults
+nothing_done (Some (Live folder)) x = never_run x
 nothing_done (Some Help) x = nothing_told x.taken x.sink_faults _ _
 nothing_done (Some Version) x = nothing_told x.taken x.sink_faults _ _

@@ -9,7 +9,7 @@ use Rattle.sl_play_schedule.specs.Replaying.{IsOwed, Of_events, Of_header, Repor
 use Rattle.sl_play_schedule.specs.Replaying as play
 use Rattle.sl_play_schedule.specs.declared.replay.Played.TheVariants as played
 use Rattle.sl_play_schedule.specs.declared.replay.Played.{Played}
-use Rattle.sl_report.specs.Headline.{FrontOf, HeadersAreGood, MayHaveBeen, Of_nothing, ReplayHeadline, ReplayOf, ReplayOwed, SoundRun, is_whole_status}
+use Rattle.sl_report.specs.Headline.{FrontOf, HeadersAreGood, MayHaveBeen, Of_nothing, ReplayOf, ReplayOwed, SoundRun, is_whole_status}
 use Rattle.sl_report.specs.Languages.{Language, whole_language}
 use Rattle.sl_report.specs.Reports.{end_line}
 use Rattle.sl_run_report.proofs.OneReport.{runs_have_one_report}

@@ -1,6 +1,6 @@
 -- Which statuses a run may end with, by what its words say, and why.
 use Rattle.sl_area.specs.Layouts.{Sizes}
-use Rattle.sl_cli.specs.declared.reading.Words.TheVariants.{Direct, Generate, Help, Replay, Version}
+use Rattle.sl_cli.specs.declared.reading.Words.TheVariants.{Direct, Generate, Help, Live, Replay, Version}
 use Rattle.sl_cli.specs.declared.reading.Words.{Words}
 use Rattle.sl_cli.specs.declared.texts.TheConstants.{HELP, VERSION}
 use Rattle.sl_direct.proofs.AreaLaws.{leader_is_told}
@@ -14,11 +14,12 @@ use Rattle.sl_report.specs.Headline.{MayHaveBeen, ReplayHeadline, is_whole_statu
 use Rattle.sl_report.specs.Languages.{whole_language}
 use Rattle.sl_run_report.proofs.OneReport.{accepted_schedules_end_well as accepted_runs}
 use Rattle.sl_run_report.specs.Promises.{replay_status}
+use Rattle.sl_top.proofs.LiveLaws.{live_caused, not_a_look, not_bad as not_bad_live}
 use Rattle.sl_top.proofs.RunLaws.{whole_headers}
 use Rattle.sl_top.specs.Laws.{AcceptedSchedulesEndWell, CausesHaveStatuses, HasItsCause, IsNotTheLeader, NothingFailed, OthersAreRefused, StatusesHaveCauses, has_leader}
-use Rattle.sl_top.specs.Runs.{ActsOn, IsCutShort, IsWritten, Outside, PutsOut, Replays, bad_words_text}
+use Rattle.sl_top.specs.Runs.{ActsOn, IsCutShort, IsWritten, Outside, PutsOut, Replays, RunsLive, bad_words_text}
 use Rattle.sl_top.specs.Statuses.{code, status_after}
-use Rattle.sl_top.specs.declared.status.Status.TheVariants.{AreaFault, BadWords, Done, NoMemory, NotTheLeader, ReadFault, Refused, WriteFault}
+use Rattle.sl_top.specs.declared.status.Status.TheVariants.{AreaFault, BadWords, Differs, Done, NoMemory, NotTheLeader, ReadFault, Refused, WriteFault}
 use Rattle.sl_top.specs.declared.status.Status.{Status}
 use Rattle.sl_trace.specs.declared.command.ResourceArg.{ResourceArg}
 use Rattle.sl_words.specs.Causes.{Rose}
@@ -47,6 +48,7 @@ done_caused w x y text s put =
       write_fault = put.cause;
       area_fault = λ e. absurd (none_of s AreaFault Done ends e (λ no. absurd cc) (λ no. absurd cc) (λ no. absurd cc));
       not_the_leader = λ e. absurd (none_of s NotTheLeader Done ends e (λ no. absurd cc) (λ no. absurd cc) (λ no. absurd cc));
+      differs = λ e. absurd (none_of s Differs Done ends e (λ no. absurd cc) (λ no. absurd cc) (λ no. absurd cc));
     }
 
 bad_caused : (x y : Outside) (s : Status) → PutsOut x.taken y.taken x.sink_faults y.sink_faults bad_words_text BadWords s → HasItsCause None x y s
@@ -59,6 +61,7 @@ bad_caused x y s put =
       write_fault = put.cause;
       area_fault = λ e. absurd (none_of s AreaFault BadWords ends e (λ no. absurd cc) (λ no. absurd cc) (λ no. absurd cc));
       not_the_leader = λ e. absurd (none_of s NotTheLeader BadWords ends e (λ no. absurd cc) (λ no. absurd cc) (λ no. absurd cc));
+      differs = λ e. absurd (none_of s Differs BadWords ends e (λ no. absurd cc) (λ no. absurd cc) (λ no. absurd cc));
     }
 
 -- ---- a replay
@@ -71,12 +74,13 @@ outside ended read written s t headline is never = never (subst (λ u. ReplayHea
 replay_caused : (x y : Outside) (s : Status) → Replays x.left y.left x.source_faults y.source_faults x.taken y.taken x.sink_faults y.sink_faults s → HasItsCause (Some Replay) x y s
 replay_caused x y s run =
     record {
-      refused = λ e. refl;
+      refused = λ e. inl refl;
       bad_words = λ e. absurd (outside run.ended run.read run.written s BadWords run.headline e (λ h. let no : false ≡ true = h.0 in absurd cc));
-      read_fault = λ e. (refl, run.read_fault e);
+      read_fault = λ e. (inl refl, run.read_fault e);
       write_fault = run.write_fault;
       area_fault = λ e. absurd (outside run.ended run.read run.written s AreaFault run.headline e (λ h. let no : false ≡ true = h.0 in absurd cc));
       not_the_leader = λ e. absurd (outside run.ended run.read run.written s NotTheLeader run.headline e (λ h. let no : false ≡ true = h.0 in absurd cc));
+      differs = λ e. absurd (outside run.ended run.read run.written s Differs run.headline e (λ h. let no : false ≡ true = h.0 in absurd cc));
     }
 
 -- ---- an action
@@ -101,6 +105,13 @@ not_read directed.WriteFault e = absurd cc
 not_read directed.NoMemory e = absurd cc
 not_read directed.AreaFault e = absurd cc
 not_read directed.NotTheLeader e = absurd cc
+
+not_differing : (d : Directed) → status_after d ≡ Differs → ⊥
+not_differing directed.Done e = absurd cc
+not_differing directed.WriteFault e = absurd cc
+not_differing directed.NoMemory e = absurd cc
+not_differing directed.AreaFault e = absurd cc
+not_differing directed.NotTheLeader e = absurd cc
 
 write_failed : (d : Directed) → status_after d ≡ WriteFault → d ≡ directed.WriteFault
 write_failed directed.Done e = absurd cc
@@ -155,8 +166,24 @@ direct_caused a x y s run =
       bad_words = λ e. absurd (not_bad run.ended (sym run.status ∙ e));
       read_fault = λ e. absurd (not_read run.ended (sym run.status ∙ e));
       write_fault = λ e. run.directs.write_fault (write_failed run.ended (sym run.status ∙ e));
-      area_fault = λ e. ((a, refl), run.count.rose (some_fault run.counted (run.directs.area_fault (area_failed run.ended (sym run.status ∙ e)))));
+      area_fault = λ e. (inl (a, refl), run.count.rose (some_fault run.counted (run.directs.area_fault (area_failed run.ended (sym run.status ∙ e)))));
       not_the_leader = λ e. leader_caused a x y s run (other_leader run.ended (sym run.status ∙ e));
+      differs = λ e. absurd (not_differing run.ended (sym run.status ∙ e));
+    }
+
+-- ---- a live run
+
+live_has_cause : (folder : List ℕ) (x y : Outside) (s : Status) → RunsLive x y s → HasItsCause (Some (Live folder)) x y s
+live_has_cause folder x y s run =
+    let why = live_caused x y s run in
+    record {
+      refused = λ e. inr (folder, refl);
+      bad_words = λ e. absurd (not_bad_live run.ended (sym run.status ∙ e));
+      read_fault = λ e. (inr (folder, refl), why.read e);
+      write_fault = why.written;
+      area_fault = λ e. (inr (folder, refl), why.area e);
+      not_the_leader = λ e. absurd (not_a_look run.ended (sym run.status ∙ e));
+      differs = λ e. ((folder, refl), why.differs e);
     }
 
 -- ---- all words
@@ -166,6 +193,7 @@ statuses_have_causes None x y s h = bad_caused x y s h
 statuses_have_causes (Some Replay) x y s h = replay_caused x y s h
 statuses_have_causes (Some (Generate seed hosts events)) x y s h = done_caused (Some (Generate seed hosts events)) x y _ s h.puts
 statuses_have_causes (Some (Direct a)) x y s h = direct_caused a x y s h
+statuses_have_causes (Some (Live folder)) x y s h = live_has_cause folder x y s h
 statuses_have_causes (Some Help) x y s h = done_caused (Some Help) x y HELP.now s h
 statuses_have_causes (Some Version) x y s h = done_caused (Some Version) x y VERSION.now s h
 
@@ -223,6 +251,7 @@ ends_well source x y WriteFault run told zero none = absurd (none.sink (run.writ
 ends_well source x y NoMemory run told zero none = inr refl
 ends_well source x y AreaFault run told zero none = absurd (outside run.ended run.read run.written AreaFault AreaFault run.headline refl (λ h. let no : false ≡ true = h.0 in absurd cc))
 ends_well source x y NotTheLeader run told zero none = absurd (outside run.ended run.read run.written NotTheLeader NotTheLeader run.headline refl (λ h. let no : false ≡ true = h.0 in absurd cc))
+ends_well source x y Differs run told zero none = absurd (outside run.ended run.read run.written Differs Differs run.headline refl (λ h. let no : false ≡ true = h.0 in absurd cc))
 
 ends_at_zero : (source : List ℕ) (x y : Outside) (s : Status) → Replays x.left y.left x.source_faults y.source_faults x.taken y.taken x.sink_faults y.sink_faults s
     → x.left ≡ Some source → s ≡ Done → replay_status whole_language source ≡ 0
@@ -248,6 +277,7 @@ ends_refused source x y WriteFault run told other none = absurd (none.sink (run.
 ends_refused source x y NoMemory run told other none = inr refl
 ends_refused source x y AreaFault run told other none = absurd (outside run.ended run.read run.written AreaFault AreaFault run.headline refl (λ h. let no : false ≡ true = h.0 in absurd cc))
 ends_refused source x y NotTheLeader run told other none = absurd (outside run.ended run.read run.written NotTheLeader NotTheLeader run.headline refl (λ h. let no : false ≡ true = h.0 in absurd cc))
+ends_refused source x y Differs run told other none = absurd (outside run.ended run.read run.written Differs Differs run.headline refl (λ h. let no : false ≡ true = h.0 in absurd cc))
 
 ends_at_one : (source : List ℕ) (x y : Outside) (s : Status) → Replays x.left y.left x.source_faults y.source_faults x.taken y.taken x.sink_faults y.sink_faults s
     → x.left ≡ Some source → s ≡ Refused → replay_status whole_language source ≡ 1

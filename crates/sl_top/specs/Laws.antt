@@ -5,14 +5,26 @@ use Rattle.sl_cli.specs.declared.reading.Words.{Words}
 use Rattle.sl_direct.specs.Laws.{sector_at}
 use Rattle.sl_direct.specs.Lines.{is_its_leader, leader_in_sector}
 use Rattle.sl_direct.specs.declared.action.Action.TheVariants.{ReadLeader}
+use Rattle.sl_host_step.specs.Serving.{Serves, whole_commands}
+use Rattle.sl_live_lines.specs.declared.line.LiveLine.{LiveLine}
+use Rattle.sl_live_play.specs.Differing.{differ_text}
+use Rattle.sl_live_play.specs.Living.{Differing, Lives}
+use Rattle.sl_live_run.specs.declared.compare.LiveDiffer.{LiveDiffer}
 use Rattle.sl_report.specs.Languages.{whole_language}
+use Rattle.sl_run.specs.Caused.{IsCaused}
+use Rattle.sl_run.specs.Lawful.{Lawful}
+use Rattle.sl_run.specs.declared.header.Header.{Header}
 use Rattle.sl_run_report.specs.Followed.{IsAccepted}
-use Rattle.sl_top.specs.Runs.{IsCutShort, IsDirect, Outside, Owes}
-use Rattle.sl_top.specs.declared.status.Status.TheVariants.{AreaFault, BadWords, Done, NoMemory, NotTheLeader, ReadFault, Refused, WriteFault}
+use Rattle.sl_top.specs.Runs.{IsCutShort, IsDirect, IsLive, Outside, Owes}
+use Rattle.sl_top.specs.declared.status.Status.TheVariants.{AreaFault, BadWords, Differs, Done, NoMemory, NotTheLeader, ReadFault, Refused, WriteFault}
 use Rattle.sl_top.specs.declared.status.Status.{Status}
 use Rattle.sl_trace.specs.declared.command.ResourceArg.{ResourceArg}
+use Rattle.sl_daemon.specs.Daemons.{begun_with}
+use Rattle.sl_daemon.specs.declared.daemon.Site.{Site}
+use Rattle.sl_trace.specs.declared.effects.Entry.{Entry}
 use Rattle.sl_words.specs.Causes.{Rose}
-use Rattle.std.specs.Prelude.{Bool, List, None, Option, Some, false, ℕ, ◌≡◌, ◌⊎◌}
+use Rattle.std.specs.Io.KnownBytes.{Appends}
+use Rattle.std.specs.Prelude.{Bool, List, None, Option, Some, false, reverse, slice_get, ℕ, ◌≡◌, ◌⊎◌}
 
 -- Whether the disk's sector of so many bytes at a resource's offset spells its leader.
 abbrev pub has_leader : ResourceArg → ℕ → List ℕ → Bool
@@ -25,14 +37,25 @@ pub record IsNotTheLeader (w : Option Words) (x : Outside) : Type 0 where
   pub asked : w ≡ Some (Direct (ReadLeader resource geometry))
   pub other : (content : List ℕ) → x.disks resource.path ≡ Some content → has_leader resource geometry.sector content ≡ false
 
+-- A case was put out that holds of a machine of a live run.
+pub record SomeDiffer (x y : Outside) : Type 0 where
+  pub header : Header
+  pub given : List LiveLine
+  pub machine : ℕ
+  pub differ : LiveDiffer
+  pub holds : Differing Serves whole_commands header given machine differ
+  pub told : Appends x.taken y.taken (differ_text machine differ)
+
 -- Each status but 0 and want of memory comes only with its cause.
 pub record HasItsCause (w : Option Words) (x y : Outside) (s : Status) : Type 0 where
-  pub refused : s ≡ Refused → w ≡ Some Replay
+  pub refused : s ≡ Refused → (w ≡ Some Replay) ⊎ IsLive w
   pub bad_words : s ≡ BadWords → w ≡ None
-  pub read_fault : s ≡ ReadFault → (w ≡ Some Replay) × Rose x.source_faults y.source_faults
+  pub read_fault : s ≡ ReadFault → ((w ≡ Some Replay) ⊎ IsLive w) × Rose x.source_faults y.source_faults
   pub write_fault : s ≡ WriteFault → Rose x.sink_faults y.sink_faults
-  pub area_fault : s ≡ AreaFault → IsDirect w × Rose x.device_faults y.device_faults
+  pub area_fault : s ≡ AreaFault → (IsDirect w ⊎ IsLive w) × Rose x.device_faults y.device_faults
   pub not_the_leader : s ≡ NotTheLeader → IsNotTheLeader w x
+  -- records of a live machine differ: the case that is put out holds
+  pub differs : s ≡ Differs → IsLive w × SomeDiffer x y
 
 abbrev pub StatusesHaveCauses : Type 0
 StatusesHaveCauses = (w : Option Words) (x y : Outside) (s : Status) → Owes w x y s → HasItsCause w x y s
@@ -59,3 +82,10 @@ pub record OthersAreRefused : Type 0 where
   pub well : (source : List ℕ) (x y : Outside) (s : Status) → Owes (Some Replay) x y s → x.left ≡ Some source → (IsAccepted whole_language source → ⊥) → NothingFailed x y
       → (s ≡ Refused) ⊎ (s ≡ NoMemory)
   pub only : (source : List ℕ) (x y : Outside) (s : Status) → Owes (Some Replay) x y s → x.left ≡ Some source → s ≡ Refused → IsAccepted whole_language source → ⊥
+
+-- The history of each machine of a live run is a lawful trace, and each reply in it has its cause.
+abbrev pub LiveHistoriesAreGood : Type 0
+LiveHistoriesAreGood =
+    (h : Header) (given : List LiveLine) (hs : List (List Entry)) → (l : Lives Serves whole_commands h given hs)
+    → (place : ℕ) (site : Site) (history : List Entry) → slice_get l.begun.sites place ≡ Some site → slice_get hs place ≡ Some history
+    → Lawful (begun_with whole_commands l.begun.header site) (reverse history) × IsCaused (begun_with whole_commands l.begun.header site) (reverse history)

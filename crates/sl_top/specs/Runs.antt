@@ -1,6 +1,6 @@
 -- What a run of the program owes: by what its words say, what it read and wrote, what it left on the disks, and its status.
 use Rattle.sl_cli.specs.CommandWords.{said_in}
-use Rattle.sl_cli.specs.declared.reading.Words.TheVariants.{Direct, Generate, Help, Replay, Version}
+use Rattle.sl_cli.specs.declared.reading.Words.TheVariants.{Direct, Generate, Help, Live, Replay, Version}
 use Rattle.sl_cli.specs.declared.reading.Words.{Words}
 use Rattle.sl_cli.specs.declared.texts.TheConstants.{HELP, VERSION}
 use Rattle.sl_direct.specs.Actions.{Directs, path_of}
@@ -13,10 +13,13 @@ use Rattle.sl_report.specs.Headline.{GenHeadline, IsFrontOf, MayHaveBeen, Replay
 use Rattle.sl_report.specs.Languages.{whole_language}
 use Rattle.sl_run_report.specs.Promises.{replay_status}
 use Rattle.sl_headline.specs.Promised.{PromisedRun}
+use Rattle.sl_host_step.specs.Serving.{Serves, whole_commands}
+use Rattle.sl_live_play.specs.Living.{Owes as OwesLive}
+use Rattle.sl_live_play.specs.declared.play.Lived.{Lived}
 use Rattle.sl_outside.specs.Disks.{CountsBack, Disks, KeepsAllBut}
 use Rattle.sl_run.specs.Worlds.{whole_program}
 use Rattle.sl_text.specs.Forms.{as_bytes}
-use Rattle.sl_top.specs.Statuses.{code, status_after}
+use Rattle.sl_top.specs.Statuses.{code, status_after, status_of_live}
 use Rattle.sl_top.specs.declared.status.Status.TheVariants.{BadWords, Done, NoMemory, ReadFault, WriteFault}
 use Rattle.sl_top.specs.declared.status.Status.{Status}
 use Rattle.sl_words.specs.Causes.{Rose}
@@ -106,12 +109,19 @@ pub record Outside : Type 0 where
 abbrev pub Tells : List ℕ → Status → Outside → Outside → Status → Type 0
 Tells text whole x y s = PutsOut x.taken y.taken x.sink_faults y.sink_faults text whole s
 
+-- What a live run owes: what its machines replied, as histories of hosts that were compared with what their threads did; or why there is none.
+pub record RunsLive (x y : Outside) (s : Status) : Type 0 where
+  pub ended : Lived
+  pub owes : OwesLive Serves whole_commands x.left y.left x.taken y.taken x.source_faults y.source_faults x.sink_faults y.sink_faults x.device_faults y.device_faults ended
+  pub status : s ≡ status_of_live ended
+
 -- What a run owes, by what its words say.
 abbrev pub Owes : Option Words → Outside → Outside → Status → Type 0
 Owes None x y s = Tells bad_words_text BadWords x y s
 Owes (Some Replay) x y s = Replays x.left y.left x.source_faults y.source_faults x.taken y.taken x.sink_faults y.sink_faults s
 Owes (Some (Generate seed hosts events)) x y s = Generates seed hosts events x.taken y.taken x.sink_faults y.sink_faults s
 Owes (Some (Direct a)) x y s = ActsOn a x.disks y.disks x.device_faults y.device_faults x.taken y.taken x.sink_faults y.sink_faults s
+Owes (Some (Live folder)) x y s = RunsLive x y s
 Owes (Some Help) x y s = Tells HELP.now Done x y s
 Owes (Some Version) x y s = Tells VERSION.now Done x y s
 
@@ -121,3 +131,17 @@ IsReplay w = w ≡ Some Replay
 
 abbrev pub IsDirect : Option Words → Type 0
 IsDirect w = (a : Action) × (w ≡ Some (Direct a))
+
+-- Only these wait for anything.
+abbrev pub IsLive : Option Words → Type 0
+IsLive w = (folder : List ℕ) × (w ≡ Some (Live folder))
+
+-- The folder of live machines, if the words ask for them.
+abbrev pub folder_of : Words → Option (List ℕ)
+folder_of (Live folder) = Some folder
+folder_of w = None
+
+-- .. if they say anything.
+abbrev pub folder_in : Option Words → Option (List ℕ)
+folder_in None = None
+folder_in (Some w) = folder_of w

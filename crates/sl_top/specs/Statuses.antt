@@ -3,9 +3,11 @@ use Rattle.sl_direct.specs.declared.action.Directed.TheVariants as directed
 use Rattle.sl_direct.specs.declared.action.Directed.{Directed}
 use Rattle.sl_generate.specs.declared.generator.Generated.TheVariants as generated
 use Rattle.sl_generate.specs.declared.generator.Generated.{Generated}
+use Rattle.sl_live_play.specs.declared.play.Lived.TheVariants as lived
+use Rattle.sl_live_play.specs.declared.play.Lived.{Lived}
 use Rattle.sl_play_schedule.specs.declared.replay.Played.TheVariants as played
 use Rattle.sl_play_schedule.specs.declared.replay.Played.{Played}
-use Rattle.sl_top.specs.declared.status.Status.TheVariants.{AreaFault, BadWords, Done, NoMemory, NotTheLeader, ReadFault, Refused, WriteFault}
+use Rattle.sl_top.specs.declared.status.Status.TheVariants.{AreaFault, BadWords, Differs, Done, NoMemory, NotTheLeader, ReadFault, Refused, WriteFault}
 use Rattle.sl_top.specs.declared.status.Status.{Status}
 use Rattle.std.specs.Prelude.{ℕ}
 
@@ -19,6 +21,7 @@ code WriteFault = 4
 code NoMemory = 5
 code AreaFault = 6
 code NotTheLeader = 7
+code Differs = 8
 
 -- The status of a replay that ended so.
 abbrev pub status_of : Played → Status
@@ -41,3 +44,13 @@ abbrev pub status_of_generated : Generated → Status
 status_of_generated generated.Done = Done
 status_of_generated generated.WriteFault = WriteFault
 status_of_generated generated.NoMemory = NoMemory
+
+-- The status of a live run that ended so.
+abbrev pub status_of_live : Lived → Status
+status_of_live lived.Done = Done
+status_of_live lived.Refused = Refused
+status_of_live lived.ReadFault = ReadFault
+status_of_live lived.WriteFault = WriteFault
+status_of_live lived.NoMemory = NoMemory
+status_of_live lived.AreaFault = AreaFault
+status_of_live lived.Differs = Differs

@@ -1,10 +1,11 @@
 //! What the program ends with.
 
-ghost use Rattle.sl_top.specs.Statuses.{code, status_after, status_of, status_of_generated};
+ghost use Rattle.sl_top.specs.Statuses.{code, status_after, status_of, status_of_generated, status_of_live};
 ghost use Rattle.std.specs.Prelude.{◌≡◌};
 
 use sl_direct::Directed;
 use sl_generate::Generated;
+use sl_live_play::Lived;
 use sl_play_schedule::Played;
 
 /// How a run of the program ended.
@@ -26,10 +27,12 @@ pub enum Status {
     AreaFault,
     /// The sector that was to be a resource's leader holds none, or one of other names; the output says what it holds.
     NotTheLeader,
+    /// What the threads of a live machine did differs from its history, or that from the script; the output says where.
+    Differs,
 }
 
 impl Status {
-    /// Its number, 0 to 7, which the process ends with.
+    /// Its number, 0 to 8, which the process ends with.
     pub fn code(&self) -> u8
         ensures { result ≡ code self.now }
     {
@@ -42,6 +45,7 @@ impl Status {
             Status::NoMemory => 5,
             Status::AreaFault => 6,
             Status::NotTheLeader => 7,
+            Status::Differs => 8,
         }
     }
 }
@@ -80,5 +84,20 @@ pub(crate) fn status_of_generated(generated: Generated) -> Status
         Generated::Done => Status::Done,
         Generated::WriteFault => Status::WriteFault,
         Generated::NoMemory => Status::NoMemory,
+    }
+}
+
+/// The status of a live run that ended so.
+pub(crate) fn status_of_live(lived: Lived) -> Status
+    ensures { result ≡ status_of_live lived }
+{
+    match lived {
+        Lived::Done => Status::Done,
+        Lived::Refused => Status::Refused,
+        Lived::ReadFault => Status::ReadFault,
+        Lived::WriteFault => Status::WriteFault,
+        Lived::NoMemory => Status::NoMemory,
+        Lived::AreaFault => Status::AreaFault,
+        Lived::Differs => Status::Differs,
     }
 }

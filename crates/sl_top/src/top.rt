@@ -1,25 +1,32 @@
 //! The top call.
 //!
+//! All but `live` is done by `run_offline`, which takes no handle that waits.
+//!
 //! `replay` plays its source line by line, so where a read fails the report of the lines before it stands written; where a write fails or memory
 //! runs out, a front of the report. `gen` reads nothing: it draws its events as it plays them. `direct` takes one disk of the devices, does its action there, and gives the disk back.
 
 ghost use Rattle.sl_direct.specs.Actions.{IsAction};
-ghost use Rattle.sl_top.specs.Runs.{ActsOn, Generates, IsDirect, IsReplay, Owes, PutsOut, Replays, said};
+ghost use Rattle.sl_top.specs.Runs.{ActsOn, Generates, IsDirect, IsLive, IsReplay, Owes, PutsOut, Replays, RunsLive, folder_in, folder_of, said};
 ghost use Rattle.sl_top.specs.declared.status.Status.TheVariants.{WriteFault};
-ghost use Rattle.std.specs.Prelude.{◌≡◌, ◌≢◌, ◌≤◌};
+ghost use Rattle.std.specs.Prelude.{IfOk, ◌≡◌, ◌≢◌, ◌≤◌};
 
-use crate::status::{Status, status_after, status_of, status_of_generated};
+use crate::status::{Status, status_after, status_of, status_of_generated, status_of_live};
 use sl_area::Area;
-use sl_cli::{HELP, VERSION, Words, WordsError, read_words};
+use sl_cli::{Folder, HELP, VERSION, Words, WordsError, read_words};
 use sl_direct::{Action, run_direct};
 use sl_generate::generate;
 use sl_header_law::laws::whole_language_may_play;
 use sl_host_step::HostDaemon;
 use sl_io::{Sink, Source, write_all};
+use sl_live_host::LiveHost;
+use sl_live_play::play_live;
 use sl_locks::LvmLocks;
-use sl_outside::Devices;
+use sl_outside::{Devices, LiveDevices};
 use sl_play_schedule::play_schedule;
-use std::alloc::Global;
+use std::alloc::{AllocError, Global};
+use std::sync::Wait;
+use std::thread::Threads;
+use std::time::Clock;
 
 /// Reads a schedule from the source, plays it in a world of hosts, and puts out its report, each line's before the next is read.
 fn replay<S: Source, K: Sink>(alloc: Global, source: &mut S, sink: &mut K) -> Status
@@ -67,6 +74,29 @@ fn direct<K: Sink, D: Devices>(
     status_after(directed)
 }
 
+/// Runs live machines by the script that the source gives, on disks in this folder, and puts out what they replied.
+fn live<R: Threads + Wait + Clock + Sync, S: Source + Send, K: Sink, D: LiveDevices>(
+    rt: &R,
+    alloc: Global,
+    folder: &str,
+    source: S,
+    sink: &mut K,
+    devices: &mut D,
+) -> (Status, S)
+where
+    D::Area: Send,
+    ensures { RunsLive
+        (record { left = S.left source; source_faults = S.faults source; taken = K.taken sink.old; sink_faults = K.faults sink.old; disks = D.Devices.disks devices.old; device_faults = D.Devices.faults devices.old })
+        (record { left = S.left result.1; source_faults = S.faults result.1; taken = K.taken sink.new; sink_faults = K.faults sink.new; disks = D.Devices.disks devices.new; device_faults = D.Devices.faults devices.new })
+        result.0 }
+{
+    whole_language_may_play();
+    let (lived, source) = play_live::<LiveHost, S, K, D, R>(
+        rt, alloc, folder, source, sink, devices,
+    );
+    (status_of_live(lived), source)
+}
+
 /// Does what the words say (those behind the program's name), with no handle that waits: so it returns.
 ///
 /// `replay` reads a schedule from the source to its end, or to one byte past 1000000000, and puts out its report. `gen` makes a schedule from a
@@ -86,6 +116,7 @@ pub fn run_offline<S: Source, K: Sink, D: Devices>(
     sink: &mut K,
     devices: &mut D,
 ) -> Status
+    requires { IsLive (said words.now) → ⊥ }
     ensures owes { Owes (said words.now)
         (record { left = S.left source.old; source_faults = S.faults source.old; taken = K.taken sink.old; sink_faults = K.faults sink.old; disks = D.disks devices.old; device_faults = D.faults devices.old })
         (record { left = S.left source.new; source_faults = S.faults source.new; taken = K.taken sink.new; sink_faults = K.faults sink.new; disks = D.disks devices.new; device_faults = D.faults devices.new })
@@ -103,6 +134,7 @@ pub fn run_offline<S: Source, K: Sink, D: Devices>(
             },
         ) => generate_from(alloc, seed, hosts, events, sink),
         Ok(Words::Direct(action)) => direct(alloc, &action, sink, devices),
+        Ok(Words::Live { folder: _folder }) => unreachable!(),
         Ok(Words::Help) => tell(sink, HELP.as_bytes(), Status::Done),
         Ok(Words::Version) => tell(sink, VERSION.as_bytes(), Status::Done),
         Err(WordsError::Bad) => tell(sink, b"sanlock: bad words\n", Status::BadWords),
@@ -110,22 +142,66 @@ pub fn run_offline<S: Source, K: Sink, D: Devices>(
     }
 }
 
-/// Does what the words say, as `run_offline` does, and hands the devices back.
-pub fn run<S: Source, K: Sink, D: Devices>(
+/// The folder of live machines, if the words ask for them.
+fn folder_of(words: Words) -> Option<Folder>
+    ensures { result ≡ folder_of words }
+{
+    match words {
+        Words::Live { folder } => Some(folder),
+        Words::Replay => None,
+        Words::Generate { .. } => None,
+        Words::Direct(_) => None,
+        Words::Help => None,
+        Words::Version => None,
+    }
+}
+
+/// The folder of live machines, if the words of the command line ask for them. An `Err` is want of memory.
+fn live_folder(alloc: Global, words: &[String]) -> Result<Option<Folder>, AllocError>
+    ensures { IfOk result (λ folder. folder ≡ folder_in (said words.now)) }
+{
+    match read_words(alloc, words) {
+        Ok(words) => Ok(folder_of(words)),
+        Err(WordsError::Bad) => Ok(None),
+        Err(WordsError::NoMemory) => Err(AllocError),
+    }
+}
+
+/// Does what the words say, and hands the source and the devices back: `live` runs machines by the script that it reads, and all else is done
+/// as by `run_offline`.
+///
+/// # Statuses
+/// Those of `run_offline`. `live` ends with `Done` where its script was read to its end, with `Refused` where a line of it is refused, with
+/// `ReadFault` and `WriteFault` only where the source's or the sink's count of faults rose, with `AreaFault` only where the devices' did
+/// before its machines began, with `Differs` only where a case holds of a machine, which is put out; `NoMemory` for want of memory, after which
+/// nothing was put out. It returns once its machines have ended, which wait for their children.
+pub fn run<R: Threads + Wait + Clock + Sync, S: Source + Send, K: Sink, D: LiveDevices>(
+    rt: &R,
     alloc: Global,
     words: &[String],
-    source: &mut S,
+    source: S,
     sink: &mut K,
     devices: D,
-) -> (Status, D)
+) -> (Status, S, D)
+where
+    D::Area: Send,
     ensures owes { Owes (said words.now)
-        (record { left = S.left source.old; source_faults = S.faults source.old; taken = K.taken sink.old; sink_faults = K.faults sink.old; disks = D.disks devices; device_faults = D.faults devices })
-        (record { left = S.left source.new; source_faults = S.faults source.new; taken = K.taken sink.new; sink_faults = K.faults sink.new; disks = D.disks result.1; device_faults = D.faults result.1 })
+        (record { left = S.left source; source_faults = S.faults source; taken = K.taken sink.old; sink_faults = K.faults sink.old; disks = D.Devices.disks devices; device_faults = D.Devices.faults devices })
+        (record { left = S.left result.1; source_faults = S.faults result.1; taken = K.taken sink.new; sink_faults = K.faults sink.new; disks = D.Devices.disks result.2; device_faults = D.Devices.faults result.2 })
         result.0 }
-    ensures source { (IsReplay (said words.now) → ⊥) → source.new ≡ source.old }
-    ensures devices { (IsDirect (said words.now) → ⊥) → result.1 ≡ devices }
+    ensures source { (IsReplay (said words.now) → ⊥) → (IsLive (said words.now) → ⊥) → result.1 ≡ source }
+    ensures devices { (IsDirect (said words.now) → ⊥) → (IsLive (said words.now) → ⊥) → result.2 ≡ devices }
 {
-    let mut devices = devices;
-    let status = run_offline(alloc, words, source, sink, &mut devices);
-    (status, devices)
+    let (mut source, mut devices) = (source, devices);
+    match live_folder(alloc, words) {
+        Err(_) => (Status::NoMemory, source, devices),
+        Ok(Some(folder)) => {
+            let (status, source) = live(rt, alloc, folder.as_str(), source, sink, &mut devices);
+            (status, source, devices)
+        }
+        Ok(None) => {
+            let status = run_offline(alloc, words, &mut source, sink, &mut devices);
+            (status, source, devices)
+        }
+    }
 }

@@ -33,10 +33,10 @@ fn is_shared(mode: Mode) -> bool
 fn conflict(machine: usize, held: &Grant, other: usize, with: &Grant) -> bool
     ensures { result ≡ conflicts.conflicts (holding machine held.now) (holding other with.now) }
 {
-    let place = held.offset == with.offset && held.path == with.path;
-    let shared = is_shared(held.mode) && is_shared(with.mode);
-    let process = machine == other && held.process == with.process;
-    place && !shared && !process
+    held.offset == with.offset
+        && held.path == with.path
+        && !(is_shared(held.mode) && is_shared(with.mode))
+        && !(machine == other && held.process == with.process)
 }
 
 /// Whether a holding conflicts with one of those of a machine.

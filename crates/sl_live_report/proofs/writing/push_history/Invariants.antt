@@ -1,7 +1,8 @@
+use Rattle.sl_live_locks.specs.Alongs.{begun_along}
+use Rattle.sl_live_report.proofs.LiveLaws.{IsWritten}
 use Rattle.sl_live_report.proofs.writing.push_history.Given as goal
-use Rattle.sl_live_report.specs.LiveTexts.{history_text}
-use Rattle.std.proofs.Common.{take, ◌++◌, ◌≡◌}
 
--- the lines of the entries before this one have been added
-abbrev pub invariant-loop-entry : goal.invariant-loop-entry
-invariant-loop-entry l = l.out.items ≡ l.fn.out.items ++ history_text l.machine (take l.entry-index l.history)
+-- the entries before this one are written
+abbrev pub invariant-loop-index : goal.invariant-loop-index
+invariant-loop-index l =
+    IsWritten l.machine (begun_along l.header l.first_job) l.history l.index l.locks l.fn.out.items l.out.items l.count

@@ -1,10 +1,10 @@
 use Rattle.sl_live_run.proofs.run.begin.Given as goal
-use Rattle.sl_live_run.specs.Runs.{AreTexts, site_of}
+use Rattle.sl_live_run.specs.Runs.{AreGiven, site_of}
 use Rattle.std.proofs.Common.{Some, [], length, map, ◌≡◌}
 
 -- those before this one have begun
 abbrev pub invariant-loop-ready : goal.invariant-loop-ready
 invariant-loop-ready g l = record {
   machines : map site_of l.machines.items ≡ map (λ s. Some s) (map (λ p. p.site) l.yielded);
-  given : AreTexts l.given (length l.machines.items) [];
+  given : AreGiven l.given (length l.machines.items) [];
 }

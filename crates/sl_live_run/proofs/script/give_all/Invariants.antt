@@ -1,9 +1,9 @@
 use Rattle.sl_live_lines.specs.declared.line.LiveLine.{LiveLine}
 use Rattle.sl_live_run.proofs.script.give_all.Given as goal
-use Rattle.sl_live_run.specs.Runs.{AreTexts}
+use Rattle.sl_live_run.specs.Runs.{AreGiven}
 use Rattle.std.proofs.Common.{List, [], ◌++◌, ◌≡◌, ℕ}
 
 -- the lines so far are kept
 abbrev pub invariant-loop : goal.invariant-loop
 invariant-loop g l =
-    (machines : ℕ) → AreTexts l.fn.given machines [] → (ls : List LiveLine) × (g.L.LiveLines.given l.lines ≡ g.L.LiveLines.given l.fn.lines ++ ls) × AreTexts l.given machines ls
+    (machines : ℕ) → AreGiven l.fn.given machines [] → (ls : List LiveLine) × (g.L.LiveLines.given l.lines ≡ g.L.LiveLines.given l.fn.lines ++ ls) × AreGiven l.given machines ls

@@ -1,7 +1,7 @@
 use Rattle.sl_kept.specs.Kept.{FlightState}
 use Rattle.sl_machine.proofs.FlightChanges.{closing}
 use Rattle.sl_machine.proofs.flights.end_at.Goals as goal
-use Rattle.sl_machine.specs.Flights.{closed_at, ended_flight, late_after, late_cut}
+use Rattle.sl_machine.specs.Flights.{closed_at, ended_flight}
 use Rattle.std.proofs.Common.{ap, ◌∙◌}
 use Rattle.std.proofs.lemmas.Option.{get_or_from_slice_get}
 
@@ -11,10 +11,3 @@ returns-clause-items c =
     closing c.args.index c.args.items.now.items _ f _ there c.close.ensures.open c.close.ensures.closed
     ∙ ap (λ (h : FlightState). closed_at c.args.index h c.args.items.now.items)
     (c.end.ensures ∙ ap (ended_flight c.args.outcome) (c.index_mut.ensures.value ∙ get_or_from_slice_get c.args.items.now.items c.args.index f _ there))
-
-pub returns-clause-late : goal.returns-clause-late
-returns-clause-late c =
-    λ f there.
-    c.late_after.ensures
-    ∙ ap (λ o. late_after o c.args.late c.close.new.items.items)
-    (c.late_cut-cut.ensures ∙ ap late_cut (c.index.ensures ∙ get_or_from_slice_get c.args.items.now.items c.args.index f _ there))

@@ -1,7 +1,7 @@
 use Rattle.sl_kept.specs.Kept.{FlightState}
 use Rattle.sl_machine.proofs.FlightChanges.{closing}
 use Rattle.sl_machine.proofs.flights.sample_at.Goals as goal
-use Rattle.sl_machine.specs.Flights.{closed_at, grown_flight, late_after, late_cut}
+use Rattle.sl_machine.specs.Flights.{closed_at, grown_flight}
 use Rattle.std.proofs.Common.{ap, flat_map, ◌∙◌}
 use Rattle.std.proofs.lemmas.Option.{get_or_from_slice_get}
 use Rattle.std.specs.Arc.{arc_value}
@@ -14,10 +14,3 @@ returns-clause-items c =
     (c.in_ok-sample.ensures.ok
     ∙ ap (grown_flight (flat_map (λ m. arc_value m) c.args.more.items) c.args.sectors)
     (c.index_mut.ensures.value ∙ get_or_from_slice_get c.args.items.now.items c.args.index f _ there))
-
-pub returns-clause-late : goal.returns-clause-late
-returns-clause-late c =
-    λ f there.
-    c.late_after.ensures
-    ∙ ap (λ o. late_after o c.args.late c.close.new.items.items)
-    (c.late_cut-cut.ensures ∙ ap late_cut (c.index.ensures ∙ get_or_from_slice_get c.args.items.now.items c.args.index f _ there))

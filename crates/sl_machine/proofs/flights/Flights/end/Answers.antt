@@ -7,14 +7,13 @@ pub invariant_of-self : goal.invariant_of-self
 invariant_of-self c =
     let s = c.in-Some.ensures.found in
     record {
-      kept = closed_are _ _ _ _ _ _ _ (ended_flight c.args.outcome) c.args.self.now.kept s (ended_keeps c.args.outcome) (c.end_at-self.ensures.items s.flight s.there)
-          (c.end_at-self.ensures.late s.flight s.there);
+      kept = closed_are _ _ _ _ _ _ (ended_flight c.args.outcome) c.args.self.now.kept s (ended_keeps c.args.outcome) (c.end_at.ensures.items s.flight s.there);
     }
 
 pub returns-in-Some-clause-items : goal.returns-in-Some-clause-items
 returns-in-Some-clause-items c =
     let s = c.in-Some.ensures.found in
-    closed_is _ _ _ _ _ _ (ended_flight c.args.outcome) c.args.self.now.kept s (c.end_at-self.ensures.items s.flight s.there)
+    closed_is _ _ _ _ _ _ (ended_flight c.args.outcome) c.args.self.now.kept s (c.end_at.ensures.items s.flight s.there)
 
 pub returns-in_default-clause-items : goal.returns-in_default-clause-items
 returns-in_default-clause-items c =

@@ -1,7 +1,7 @@
 use Rattle.sl_host_state.specs.Makes.{new_lease}
 use Rattle.sl_member.proofs.Places.{gap_in, gap_rises, room_for, with_new, with_there}
 use Rattle.sl_member.proofs.leases.Leases.open.Goals as goal
-use Rattle.sl_member.specs.Leases.{AreByPlace}
+use Rattle.sl_member.specs.Leases.{AreByPlace, LeasesState}
 use Rattle.std.proofs.Common.{ap, arith, insert, subst, sym, ◌<◌, ◌∙◌}
 
 pub overflow_sub-self : goal.overflow_sub-self
@@ -20,8 +20,8 @@ unreachable-requires c =
     in
     omega (arith, some, c.self.invariant.1, c.in-Err-insert.ensures.full)
 
-pub invariant_of-self : goal.invariant_of-self
-invariant_of-self c =
+pub invariant_of-self-in-Ok-insert : goal.invariant_of-self-in-Ok-insert
+invariant_of-self-in-Ok-insert c =
     let i = c.self.invariant in
     let items = c.self.inside.items.items in
     let some : 0 < c.self.inside.room =
@@ -35,11 +35,13 @@ invariant_of-self c =
 
 pub returns-in-Ok-clause-leases : goal.returns-in-Ok-clause-leases
 returns-in-Ok-clause-leases c =
-    (with_there c.args.at c.args.self.now c.deref.result.now c.self.inside.items.items c.self.inside.room c.in-Ok.field-0 c.deref.ensures.value c.in-Ok.ensures.found c.self.view_is).0
+    ap (λ (w : LeasesState). w.leases) c.self.view_is
+    ∙ (with_there c.args.at c.args.self.now c.deref.result.now c.self.inside.items.items c.self.inside.room c.in-Ok.place c.deref.ensures.value c.in-Ok.ensures.found c.self.view_is).0
 
 pub returns-in-Ok-clause-room : goal.returns-in-Ok-clause-room
 returns-in-Ok-clause-room c =
-    (with_there c.args.at c.args.self.now c.deref.result.now c.self.inside.items.items c.self.inside.room c.in-Ok.field-0 c.deref.ensures.value c.in-Ok.ensures.found c.self.view_is).1
+    ap (λ (w : LeasesState). w.room) c.self.view_is
+    ∙ (with_there c.args.at c.args.self.now c.deref.result.now c.self.inside.items.items c.self.inside.room c.in-Ok.place c.deref.ensures.value c.in-Ok.ensures.found c.self.view_is).1
 
 pub returns-in-Ok-insert-clause-leases : goal.returns-in-Ok-insert-clause-leases
 returns-in-Ok-insert-clause-leases c =

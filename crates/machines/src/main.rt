@@ -1,0 +1,44 @@
+//! Runs live machines and cells over forms in memory of the outside, and prints of each case what does not depend on the schedule.
+//!
+//! A line of standard input is a case. What comes of it is printed behind it.
+//!
+//! `cell STEPS` makes two cells of one machine's daemon and two seats that the first of them is closed with, `a` and `b`, and one that is left
+//! out, `c`. Steps are divided by `, `; each is `SEAT CELL READING ACT`, and says what its seat does on its cell. Behind what each step gave
+//! stands what came of the close (`cells`).
+//!
+//! Any other line is a live script `NAME.script` that is played, with what is peculiar to the outside told in front of its name (`outside`). How it
+//! ended is printed, then its output; of replies only the machine, the number of the job and the first word.
+#![tactic(auto)]
+
+mod cells;
+mod opened;
+mod outside;
+mod played;
+mod steps;
+
+use outside::read_case;
+use std::io;
+use std::rt::Files;
+use std::sync::Wait;
+use std::thread::Threads;
+use std::time::Clock;
+
+/// What comes of a case.
+fn told<R: Files + Clock + Wait + Threads + AllocGlobal + Copy + Drop + Send + Sync>(
+    rt: R,
+    line: &str,
+) -> io::Result<String> {
+    match line.strip_prefix("cell ") {
+        Some(steps) => cells::told(rt, steps),
+        None => played::told(rt, read_case(rt.alloc(), line)?),
+    }
+}
+
+fn main(rt: HostRuntime) -> io::Result<()> {
+    for line in rt.lines(rt.alloc()) {
+        let line = line?;
+        let text = told(rt, line.as_str())?;
+        println!(rt; "{line}: {text}")?;
+    }
+    Ok(())
+}

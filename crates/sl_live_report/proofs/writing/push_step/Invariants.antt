@@ -1,8 +1,0 @@
-use Rattle.sl_command.specs.Lines.{class_text}
-use Rattle.sl_live_report.proofs.writing.push_step.Given as goal
-use Rattle.sl_trace.specs.EffectTexts.{answer_words}
-use Rattle.std.proofs.Common.{take, ◌++◌, ◌≡◌}
-
--- the lines of those before this one have been added
-abbrev pub invariant-loop-answer : goal.invariant-loop-answer
-invariant-loop-answer l = l.out.items ≡ l.fn.out.items ++ class_text l.machine (λ x. answer_words x) (take l.answer-index l.answer-items)

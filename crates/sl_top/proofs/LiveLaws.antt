@@ -1,0 +1,187 @@
+-- What a live run owes, and what its statuses tell.
+use Rattle.sl_daemon.specs.Daemons.{begun_with}
+use Rattle.sl_due_law.proofs.Due.{due_is_lawful}
+use Rattle.sl_host_step.specs.Serving.{Serves, whole_commands}
+use Rattle.sl_live_play.specs.Differing.{differ_text}
+use Rattle.sl_live_play.specs.Living.{All, Breaks, Breaks_early, Differing, Due, Ends, Faults, Lacks, Nothing, Of, Owes as OwesLive, Part, Parts, Puts, Stops, Stops_early}
+use Rattle.sl_live_play.specs.declared.play.Lived.TheVariants as lived
+use Rattle.sl_live_play.specs.declared.play.Lived.{Lived}
+use Rattle.sl_top.proofs.RunLaws.{nothing_put}
+use Rattle.sl_top.specs.Laws.{LiveHistoriesAreGood, SomeDiffer}
+use Rattle.sl_cli.specs.declared.reading.Words.TheVariants.{Direct, Generate, Help, Live, Replay, Version}
+use Rattle.sl_cli.specs.declared.reading.Words.{Words}
+use Rattle.sl_top.specs.Runs.{IsLive, Outside, Owes, RunsLive, folder_in, folder_of}
+use Rattle.sl_top.specs.Statuses.{status_of_live}
+use Rattle.sl_top.specs.declared.status.Status.TheVariants.{AreaFault, BadWords, Differs, NoMemory, NotTheLeader, ReadFault, WriteFault}
+use Rattle.sl_top.specs.declared.status.Status.{Status}
+use Rattle.sl_words.specs.Causes.{Rose}
+use Rattle.std.proofs.Common.{List, None, Option, Some, ap, refl, subst, sym, ℕ, ◌∙◌, ◌≡◌}
+use Rattle.std.specs.Io.KnownBytes.{Appends}
+
+-- ---- histories
+
+pub live_histories_are_good : LiveHistoriesAreGood
+live_histories_are_good h given hs l place site history at there =
+    let it = l.histories.each place site history at there in
+    let good = due_is_lawful (begun_with whole_commands l.begun.header site) _ it.stood.setting it.stood.stood.stands.past in
+    (good.0, good.1)
+
+-- ---- statuses
+
+-- For want of memory, before anything was done.
+pub never_run : (x : Outside) → RunsLive x x NoMemory
+never_run x = record { ended = lived.NoMemory; owes = Lacks (nothing_put x.taken); status = refl }
+
+pub not_bad : (l : Lived) → status_of_live l ≡ BadWords → ⊥
+not_bad lived.Done e = absurd cc
+not_bad lived.Refused e = absurd cc
+not_bad lived.ReadFault e = absurd cc
+not_bad lived.WriteFault e = absurd cc
+not_bad lived.NoMemory e = absurd cc
+not_bad lived.AreaFault e = absurd cc
+not_bad lived.Differs e = absurd cc
+
+pub not_a_look : (l : Lived) → status_of_live l ≡ NotTheLeader → ⊥
+not_a_look lived.Done e = absurd cc
+not_a_look lived.Refused e = absurd cc
+not_a_look lived.ReadFault e = absurd cc
+not_a_look lived.WriteFault e = absurd cc
+not_a_look lived.NoMemory e = absurd cc
+not_a_look lived.AreaFault e = absurd cc
+not_a_look lived.Differs e = absurd cc
+
+read_failed : (l : Lived) → status_of_live l ≡ ReadFault → l ≡ lived.ReadFault
+read_failed lived.Done e = absurd cc
+read_failed lived.Refused e = absurd cc
+read_failed lived.ReadFault e = refl
+read_failed lived.WriteFault e = absurd cc
+read_failed lived.NoMemory e = absurd cc
+read_failed lived.AreaFault e = absurd cc
+read_failed lived.Differs e = absurd cc
+
+write_failed : (l : Lived) → status_of_live l ≡ WriteFault → l ≡ lived.WriteFault
+write_failed lived.Done e = absurd cc
+write_failed lived.Refused e = absurd cc
+write_failed lived.ReadFault e = absurd cc
+write_failed lived.WriteFault e = refl
+write_failed lived.NoMemory e = absurd cc
+write_failed lived.AreaFault e = absurd cc
+write_failed lived.Differs e = absurd cc
+
+area_failed : (l : Lived) → status_of_live l ≡ AreaFault → l ≡ lived.AreaFault
+area_failed lived.Done e = absurd cc
+area_failed lived.Refused e = absurd cc
+area_failed lived.ReadFault e = absurd cc
+area_failed lived.WriteFault e = absurd cc
+area_failed lived.NoMemory e = absurd cc
+area_failed lived.AreaFault e = refl
+area_failed lived.Differs e = absurd cc
+
+differed : (l : Lived) → status_of_live l ≡ Differs → l ≡ lived.Differs
+differed lived.Done e = absurd cc
+differed lived.Refused e = absurd cc
+differed lived.ReadFault e = absurd cc
+differed lived.WriteFault e = absurd cc
+differed lived.NoMemory e = absurd cc
+differed lived.AreaFault e = absurd cc
+differed lived.Differs e = refl
+
+-- ---- what is due, by how it ended
+
+-- What each ending tells: of a read fault, of an area fault, and of records that differ, whose text is due.
+pub record Tells (faults later device_faults device_later : ℕ) (text : List ℕ) (whole : Lived) : Type 0 where
+  pub read : whole ≡ lived.ReadFault → Rose faults later
+  pub area : whole ≡ lived.AreaFault → Rose device_faults device_later
+  pub written : whole ≡ lived.WriteFault → ⊥
+  pub differs : whole ≡ lived.Differs → (h : _) × (given : _) × (machine : ℕ) × (d : _) × Differing Serves whole_commands h given machine d × (text ≡ differ_text machine d)
+
+due_tells : (left after : Option (List ℕ)) (faults later device_faults device_later : ℕ) (text : List ℕ) (whole : Lived)
+    → Due Serves whole_commands left after faults later device_faults device_later text whole → Tells faults later device_faults device_later text whole
+due_tells left after faults later device_faults device_later text whole (Ends h given hs reads lives) =
+    record { read = λ e. absurd cc; area = λ e. absurd cc; written = λ e. absurd cc; differs = λ e. absurd cc }
+due_tells left after faults later device_faults device_later text whole (Stops_early r number why stops) =
+    record { read = λ e. absurd cc; area = λ e. absurd cc; written = λ e. absurd cc; differs = λ e. absurd cc }
+due_tells left after faults later device_faults device_later text whole (Stops h given hs number why reads lives) =
+    record { read = λ e. absurd cc; area = λ e. absurd cc; written = λ e. absurd cc; differs = λ e. absurd cc }
+due_tells left after faults later device_faults device_later text whole (Breaks_early breaks rose) =
+    record { read = λ e. rose; area = λ e. absurd cc; written = λ e. absurd cc; differs = λ e. absurd cc }
+due_tells left after faults later device_faults device_later text whole (Breaks h given hs reads lives) =
+    record { read = λ e. (reads.fault refl).0; area = λ e. absurd cc; written = λ e. absurd cc; differs = λ e. absurd cc }
+due_tells left after faults later device_faults device_later text whole (Faults rose) =
+    record { read = λ e. absurd cc; area = λ e. rose; written = λ e. absurd cc; differs = λ e. absurd cc }
+due_tells left after faults later device_faults device_later text whole (Parts h given machine d case_of) =
+    record { read = λ e. absurd cc; area = λ e. absurd cc; written = λ e. absurd cc; differs = λ e. (h, given, machine, d, case_of, refl) }
+
+-- ---- what was put out
+
+-- What the ending of a play tells.
+pub record Caused (taken now : Option (List ℕ)) (faults later sink_faults sink_later device_faults device_later : ℕ) (s : Lived) : Type 0 where
+  pub read : s ≡ lived.ReadFault → Rose faults later
+  pub written : s ≡ lived.WriteFault → Rose sink_faults sink_later
+  pub area : s ≡ lived.AreaFault → Rose device_faults device_later
+  pub differs : s ≡ lived.Differs → (h : _) × (given : _) × (machine : ℕ) × (d : _) × Differing Serves whole_commands h given machine d × Appends taken now (differ_text machine d)
+
+put_caused : (taken now : Option (List ℕ)) (faults later sink_faults sink_later device_faults device_later : ℕ) (text : List ℕ) (whole s : Lived)
+    → Tells faults later device_faults device_later text whole → Puts taken now sink_faults sink_later text whole s
+    → Caused taken now faults later sink_faults sink_later device_faults device_later s
+put_caused taken now faults later sink_faults sink_later device_faults device_later text whole s tells (All appends) =
+    record {
+      read = tells.read;
+      written = λ e. absurd (tells.written e);
+      area = tells.area;
+      differs = λ e. (let x = tells.differs e in (x.0, x.1, x.2, x.3, x.4, subst (Appends taken now) x.5 appends));
+    }
+put_caused taken now faults later sink_faults sink_later device_faults device_later text whole s tells (Part front appends begins rose) =
+    record { read = λ e. absurd cc; written = λ e. rose; area = λ e. absurd cc; differs = λ e. absurd cc }
+put_caused taken now faults later sink_faults sink_later device_faults device_later text whole s tells (Nothing appends) =
+    record { read = λ e. absurd cc; written = λ e. absurd cc; area = λ e. absurd cc; differs = λ e. absurd cc }
+
+owes_caused : (left after taken now : Option (List ℕ)) (faults later sink_faults sink_later device_faults device_later : ℕ) (s : Lived)
+    → OwesLive Serves whole_commands left after taken now faults later sink_faults sink_later device_faults device_later s
+    → Caused taken now faults later sink_faults sink_later device_faults device_later s
+owes_caused left after taken now faults later sink_faults sink_later device_faults device_later s (Of text whole t due puts) =
+    put_caused taken now faults later sink_faults sink_later device_faults device_later text whole s
+    (due_tells left after faults later device_faults device_later text whole due) puts
+owes_caused left after taken now faults later sink_faults sink_later device_faults device_later s (Lacks nothing) =
+    record { read = λ e. absurd cc; written = λ e. absurd cc; area = λ e. absurd cc; differs = λ e. absurd cc }
+
+-- So of a live run.
+pub record LiveCaused (x y : Outside) (s : Status) : Type 0 where
+  pub read : s ≡ ReadFault → Rose x.source_faults y.source_faults
+  pub written : s ≡ WriteFault → Rose x.sink_faults y.sink_faults
+  pub area : s ≡ AreaFault → Rose x.device_faults y.device_faults
+  pub differs : s ≡ Differs → SomeDiffer x y
+
+pub live_caused : (x y : Outside) (s : Status) → RunsLive x y s → LiveCaused x y s
+live_caused x y s run =
+    let why = owes_caused x.left y.left x.taken y.taken x.source_faults y.source_faults x.sink_faults y.sink_faults x.device_faults y.device_faults run.ended run.owes in
+    record {
+      read = λ e. why.read (read_failed run.ended (sym run.status ∙ e));
+      written = λ e. why.written (write_failed run.ended (sym run.status ∙ e));
+      area = λ e. why.area (area_failed run.ended (sym run.status ∙ e));
+      differs = λ e. (let d = why.differs (differed run.ended (sym run.status ∙ e)) in
+          record { header = d.0; given = d.1; machine = d.2; differ = d.3; holds = d.4; told = d.5 });
+    }
+
+-- ---- words that ask for live machines
+
+folder_is_live : (w : Words) (f : List ℕ) → folder_of w ≡ Some f → IsLive (Some w)
+folder_is_live (Live folder) f is = (folder, refl)
+folder_is_live Replay f is = absurd cc
+folder_is_live (Generate seed hosts events) f is = absurd cc
+folder_is_live (Direct a) f is = absurd cc
+folder_is_live Help f is = absurd cc
+folder_is_live Version f is = absurd cc
+
+pub is_live : (s : Option Words) (f : List ℕ) → folder_in s ≡ Some f → IsLive s
+is_live None f is = absurd cc
+is_live (Some w) f is = folder_is_live w f is
+
+-- So what live machines did is owed by such words.
+pub owes_live : (s : Option Words) (f : List ℕ) (x y : Outside) (st : Status) → folder_in s ≡ Some f → RunsLive x y st → Owes s x y st
+owes_live s f x y st is run = let live = is_live s f is in subst (λ w. Owes w x y st) (sym live.1) run
+
+pub not_live : (s : Option Words) → folder_in s ≡ None → IsLive s → ⊥
+not_live s none live =
+    let no : Some live.0 ≡ None = sym (ap folder_in live.1) ∙ none in
+    absurd cc
