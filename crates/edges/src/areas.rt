@@ -1,6 +1,6 @@
 //! The area in memory with each call failing in turn, and the area over files of the system.
 
-ghost use Rattle.std.specs.Prelude.{IfOk, ◌≡◌};
+ghost use Rattle.std.specs.Prelude.{IfOk, false, ◌≡◌};
 
 use sl_area::{Area, FileArea, Geometry, MemArea};
 use std::alloc::Global;

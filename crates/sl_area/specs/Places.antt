@@ -13,7 +13,7 @@ use Rattle.sl_sector.specs.declared.sector.Request.{Request}
 use Rattle.sl_sector.specs.declared.sector.ValueRec.{ValueRec}
 use Rattle.sl_words.specs.Words.{choose, greatest, present}
 use Rattle.std.specs.List.{list_any, range_with_len}
-use Rattle.std.specs.Prelude.{Bool, List, None, Option, Result, Some, drop, false, find, if◌then◌else◌, is_none, map, nat_le, nat_lt, option_and_then, option_map, replicate, take, true, [], ℕ, ◌%◌, ◌&&◌, ◌*◌, ◌+◌, ◌-◌, ◌/◌, ◌==◌, ◌^◌}
+use Rattle.std.specs.Prelude.{Bool, List, None, Option, Result, Some, drop, false, find, if◌then◌else◌, is_none, map, nat_le, nat_lt, option_and_then, option_map, replicate, slice_get, take, true, unwrap_or, [], ℕ, ◌%◌, ◌&&◌, ◌*◌, ◌+◌, ◌-◌, ◌/◌, ◌==◌, ◌^◌}
 
 -- Where the delta sector of an id stands.
 abbrev pub delta_offset : Layout → ℕ → ℕ → ℕ
@@ -120,23 +120,25 @@ pair_read g bs id = later_pair (pair_front g bs id) (pair_back g bs id)
 abbrev pub needs_again : Layout → List ℕ → Bool
 needs_again g bs = g.paired && list_any (λ id. is_none (pair_back g bs id)) (range_with_len 1 g.hosts)
 
--- What was read of all blocks: one answer, or two of the same read.
+-- What is kept of an answer after which the read is made once more: of each host whose second sector was whole the block of its pair.
+abbrev pub pair_kept : Layout → List ℕ → ℕ → Option PairBlock
+pair_kept g bs id = elim (pair_back g bs id) [ None ↦ None | Some p ↦ pair_read g bs id ]
+
+abbrev pub pairs_kept : Layout → List ℕ → List (Option PairBlock)
+pairs_kept g bs = map (pair_kept g bs) (range_with_len 1 g.hosts)
+
+-- What was read of all blocks: what was kept of a first answer, if there was one, and the last answer.
 pub record BlocksRead : Type 0 where
-  pub first : Option (List ℕ)
+  pub kept : List (Option PairBlock)
   pub last : List ℕ
 
 -- A read that needed no second one.
 abbrev pub read_once : List ℕ → BlocksRead
-read_once bs = record { first = None; last = bs }
+read_once bs = record { kept = []; last = bs }
 
--- The block of a host's pair: where its second sector was whole in the first answer, the one of greater turn of the two answers; else
--- that of the last answer alone.
+-- The block of a host's pair: the one of greater turn of what was kept and of the last answer.
 abbrev pub pair_merged : Layout → BlocksRead → ℕ → Option PairBlock
-pair_merged g r id =
-    elim r.first [
-      | None ↦ pair_read g r.last id
-      | Some bs ↦ elim (pair_back g bs id) [ None ↦ pair_read g r.last id | Some p ↦ later_pair (pair_read g bs id) (pair_read g r.last id) ]
-    ]
+pair_merged g r id = later_pair (unwrap_or (slice_get r.kept (id - 1)) None) (pair_read g r.last id)
 
 -- The blocks of the pairs of hosts 1 to N.
 abbrev pub pairs_of : Layout → BlocksRead → List (Option PairBlock)

@@ -4,7 +4,7 @@ use Rattle.sl_area.specs.Places.{area_blocks, leader_of, read_at}
 use Rattle.sl_run.specs.Saying.{IsAnsweredAt}
 use Rattle.sl_trace.specs.Ballots.{in_instance, next_mbal, stop_of, value_of}
 use Rattle.sl_trace.specs.Counts.{busy_process, holds_already, is_killpath_limit, limit_met, may_act, next_value_seq, other_holder, pending_call}
-use Rattle.sl_trace.specs.Jobs.{is_asking_lease, is_job_of_process, is_program, job_of_start, lockspace_named, process_named, resource_named, wants_shared}
+use Rattle.sl_trace.specs.Jobs.{aim_of_command, is_asking_lease, is_job_of_process, is_program, job_of_start, lockspace_named, process_named, resource_named, wants_shared}
 use Rattle.sl_trace.specs.Leases.{Area_read, Leader_freed, Leader_taken, LeaseKnown, Mode_cleared, Mode_set, Phase1_read, Phase2_read, StepKind, base_turn, blocks_given, exclusive_on, holdings_on, instance_for, is_at, is_leader_of, is_phase_read, known, leader_given, lease_calls, lver_written, orphan_on, own_block, shared_elsewhere, spot_of, spot_of_call, value_written}
 use Rattle.sl_trace.specs.declared.lease.Instance.TheVariants.{Begins, HeldAlready}
 use Rattle.sl_trace.specs.declared.lease.Instance.{Instance}
@@ -277,7 +277,8 @@ IsLimit x SeqLimit =
 IsLimit x LverLimit = ReadsBlocks x (λ s c blocks own. (n : ℕ) × BeginsAt x s c blocks own n × (record_numbers ≤ n))
 IsLimit x MbalLimit = ReadsBlocks x (λ s c blocks own. (n : ℕ) × BeginsAt x s c blocks own n × (record_numbers ≤ next_number x.setting s n own (present blocks)))
 IsLimit x TurnLimit =
-    WithSession x (λ s. WithSpot x (λ r at. record_numbers ≤ base_turn x.setting.layout s.id (lease_calls x.setting (after_entry x) s at) + 1))
+    (x.setting.layout.paired ≡ true) × job_command x (λ c. IsSome (aim_of_command c))
+    × WithSession x (λ s. WithSpot x (λ r at. record_numbers ≤ base_turn x.setting.layout s.id (lease_calls x.setting (after_entry x) s at) + 1))
 
 -- ---- requests
 

@@ -126,5 +126,5 @@ block_again bs b is begins =
     let has = block_fields_again 3 bs b (omega arith) is begins in (
       has.begins,
       ap (λ (k : ℕ). fields_of k bs) has.kind ∙ of_kind bs
-      ∙ ap (as_record BlockIs) (under_held_rules (block_rules bs) (block_of bs) has.holds ∙ ap (λ (x : Block). Ok x) has.read),
+          ∙ ap (as_record BlockIs) (under_held_rules (block_rules bs) (block_of bs) has.holds ∙ ap (λ (x : Block). Ok x) has.read),
     )

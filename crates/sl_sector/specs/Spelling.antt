@@ -144,13 +144,16 @@ value_rules bs =
     ∷ (16, is_number (u64_at bs 16))
     ∷ (24, is_number (u64_at bs 24)) ∷ []
 
--- The rules of a pair block's fields: a block's, and those of its turn and its names.
-unfoldable pub pair_rules : List ℕ → List (ℕ × Bool)
-pair_rules bs =
-    block_rules bs
-    ++ (60, is_number (u64_at bs 60) && not (u64_at bs 60 == 0))
+-- The rules of the fields that a pair's block has behind a block's: its turn and its names.
+unfoldable pub own_rules : List ℕ → List (ℕ × Bool)
+own_rules bs =
+    (60, is_number (u64_at bs 60) && not (u64_at bs 60 == 0))
     ∷ (68, is_name_field bs 68)
     ∷ (116, is_name_field bs 116) ∷ []
+
+-- The rules of a pair block's fields: a block's, and these.
+abbrev pub pair_rules : List ℕ → List (ℕ × Bool)
+pair_rules bs = block_rules bs ++ own_rules bs
 
 -- ---- the records that a sector's fields give; each is meant only where no rule fails
 
@@ -200,9 +203,12 @@ request_of bs = record { force = u32_at bs 8; host = u32_at bs 12; lver = u64_at
 abbrev pub value_of : List ℕ → ValueRec
 value_of bs = record { host = u32_at bs 12; lver = u64_at bs 16; seq = u64_at bs 24; bytes = take (u32_at bs 8) (drop 32 bs) }
 
--- The block of a pair.
+-- The block of a pair: a block, and its own fields.
+abbrev pub pair_with : List ℕ → Block → PairBlock
+pair_with bs b = record { block = b; turn = u64_at bs 60; lockspace = name_at bs 68; resource = name_at bs 116 }
+
 abbrev pub pair_of : List ℕ → PairBlock
-pair_of bs = record { block = block_of bs; turn = u64_at bs 60; lockspace = name_at bs 68; resource = name_at bs 116 }
+pair_of bs = pair_with bs (block_of bs)
 
 -- ---- reading a sector: the first test that fails, or the record
 

@@ -2,16 +2,15 @@
 //! that was torn, which is then made from the blocks.
 
 ghost use Rattle.sha2.specs.Sha256.{sha256};
-ghost use Rattle.std.specs.Prelude.{length, not, take, ◌&&◌, ◌==◌, ◌≡◌, ◌≤◌};
-ghost use Rattle.sl_words.specs.Bounds as bounds;
+ghost use Rattle.std.specs.Prelude.{length, take, ◌≡◌, ◌≤◌};
 ghost use Rattle.sl_sector.specs.Records.{IsPair};
-ghost use Rattle.sl_sector.specs.Spelling.{IsSectorSize, field_bytes, pair_of, pair_rules, spelling, under_rules};
+ghost use Rattle.sl_sector.specs.Spelling.{IsSectorSize, field_bytes, own_rules, pair_of, pair_rules, pair_with, spelling, under_rules};
 ghost use Rattle.sl_sector.specs.declared.sector.Rec.TheVariants.{PairIs};
 
 use crate::block::block_at;
 use crate::fields::{is_number, name_at, put_name, put_u64, rules, u64_at};
 use crate::frame::finish;
-use crate::sector::{Bad, PairBlock};
+use crate::sector::{Bad, Block, PairBlock};
 
 /// The record's number.
 pub(crate) const PAIR_KIND: u32 = 6;
@@ -45,13 +44,12 @@ impl PairBlock {
     }
 }
 
-/// The block of a pair that the fields give, or the first field that breaks a rule.
-#[tactic(auto, unfolding(crate::specs::Spelling::pair_rules), using(crate::proofs::RuleLaws::under_rules_behind))]
-pub(crate) fn pair_at(sector: &[u8]) -> Result<PairBlock, Bad>
+/// The block with the fields of a pair behind it, or the first of these that breaks a rule.
+#[tactic(auto, unfolding(crate::specs::Spelling::own_rules))]
+fn paired(sector: &[u8], block: Block) -> Result<PairBlock, Bad>
     requires { 512 ≤ length sector.now }
-    ensures { result ≡ under_rules (pair_rules sector.now) (pair_of sector.now) }
+    ensures { result ≡ under_rules (own_rules sector.now) (pair_with sector.now block) }
 {
-    let block = block_at(sector)?;
     let turn = u64_at(sector, 60);
     rules(60, is_number(turn), turn != 0)?;
     let lockspace = name_at(sector, 68)?;
@@ -62,4 +60,15 @@ pub(crate) fn pair_at(sector: &[u8]) -> Result<PairBlock, Bad>
         lockspace,
         resource,
     })
+}
+
+/// The block of a pair that the fields give, or the first field that breaks a rule.
+pub(crate) fn pair_at(sector: &[u8]) -> Result<PairBlock, Bad>
+    requires { 512 ≤ length sector.now }
+    ensures { result ≡ under_rules (pair_rules sector.now) (pair_of sector.now) }
+{
+    match block_at(sector) {
+        Ok(block) => paired(sector, block),
+        Err(bad) => Err(bad),
+    }
 }

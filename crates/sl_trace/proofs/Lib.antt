@@ -3,3 +3,4 @@ pub mod TraceFacts
 pub mod EvidenceFacts
 pub mod NumberFacts
 pub mod PlainReads
+pub mod PlainWork

@@ -235,9 +235,9 @@ part_read g bytes step = bytes
 abbrev pub asked_again : Layout → List ℕ → LeaseStep → Option LeaseRead
 asked_again g bytes step = elim (needs_again g (part_read g bytes step)) [ false ↦ None | true ↦ read_of_step step ]
 
--- What was read of all blocks by this answer, with the first one's where it is the second.
+-- What was read of all blocks by this answer, with what is kept of the first one where it is the second.
 abbrev pub heard : Layout → LeaseKnown → List ℕ → LeaseStep → BlocksRead
-heard g k bytes step = record { first = k.first_read; last = part_read g bytes (first_step step) }
+heard g k bytes step = record { kept = k.kept; last = part_read g bytes (first_step step) }
 
 -- After a read that gave these bytes, by its step.
 unfoldable pub after_bytes : LeasePlace → LeaseKnown → Aim → List ℕ → LeaseStep → LeaseNext

@@ -1,7 +1,7 @@
 -- A session's work on one resource: its ballots, its block, what it owes. What is asked of a lease is a function of the lease's own
 -- list of calls, the newest first, so an entry that brings it no call and no answer changes nothing of it.
 use Rattle.sl_area.specs.Layouts.{Layout}
-use Rattle.sl_area.specs.Places.{BlocksRead, blocks_of, blocks_part, in_area, leader_read, needs_again, pair_read, read_once}
+use Rattle.sl_area.specs.Places.{BlocksRead, blocks_of, blocks_part, in_area, leader_read, needs_again, pair_read, pairs_kept, read_once}
 use Rattle.sl_trace.specs.Ballots.{instance_of, is_ahead, owner_of, same_owner, stop_of, value_of}
 use Rattle.sl_trace.specs.declared.lease.Instance.{Instance}
 use Rattle.sl_trace.specs.declared.lease.Owed.TheVariants.{BallotOwed, FreeOwed, ModeOwed}
@@ -10,6 +10,7 @@ use Rattle.sl_trace.specs.declared.lease.Stop.{Stop}
 use Rattle.sl_sector.specs.declared.sector.Block.{Block}
 use Rattle.sl_sector.specs.declared.sector.Leader.{Leader}
 use Rattle.sl_sector.specs.declared.sector.Owner.{Owner}
+use Rattle.sl_sector.specs.declared.sector.PairBlock.{PairBlock}
 use Rattle.sl_sector.specs.declared.sector.Rec.TheVariants.{BlockIs, LeaderIs, PairIs, PairLeaderIs, ValueIs}
 use Rattle.sl_sector.specs.declared.sector.Rec.{Rec}
 use Rattle.sl_sector.specs.declared.sector.ValueRec.{ValueRec}
@@ -209,26 +210,26 @@ blocks_bytes g m =
       | Some bytes ↦ elim (is_area_read m) [ true ↦ Some (blocks_part g bytes) | false ↦ choose (is_block_read m) bytes ]
     ]
 
--- What the newest of these calls read of all blocks: a second read follows its first.
-abbrev pub answer_before : Layout → List Submitted → Option (List ℕ)
-answer_before g ms = option_and_then (blocks_bytes g) (first_of_list ms)
+-- What is kept of the answer of the newest of these calls: a second read follows its first.
+abbrev pub kept_before : Layout → List Submitted → Option (List (Option PairBlock))
+kept_before g ms = option_map (pairs_kept g) (option_and_then (blocks_bytes g) (first_of_list ms))
 
--- What the first read gave, where the newest of these calls is the second.
-abbrev pub first_answer : Layout → List Submitted → Option (List ℕ)
-first_answer g [] = None
-first_answer g (m ∷ ms) = elim (is_again m) [ false ↦ None | true ↦ answer_before g ms ]
+-- What is kept of the first read, where the newest of these calls is the second.
+abbrev pub first_kept : Layout → List Submitted → List (Option PairBlock)
+first_kept g [] = []
+first_kept g (m ∷ ms) = elim (is_again m) [ false ↦ [] | true ↦ unwrap_or (kept_before g ms) [] ]
 
--- What a read gave of all blocks, by whether it is a second one, what the first one gave, and its bytes. A read that is to be made once
--- more gives nothing by itself.
-abbrev pub given_with : Layout → Bool → Option (List ℕ) → Option (List ℕ) → Option BlocksRead
-given_with g again first None = None
-given_with g false first (Some bs) = choose (not (needs_again g bs)) (read_once bs)
+-- What a read gave of all blocks, by whether it is a second one, what was kept of the first one, and its bytes. A read that is to be made
+-- once more gives nothing by itself.
+abbrev pub given_with : Layout → Bool → Option (List (Option PairBlock)) → Option (List ℕ) → Option BlocksRead
+given_with g again kept None = None
+given_with g false kept (Some bs) = choose (not (needs_again g bs)) (read_once bs)
 given_with g true None (Some bs) = None
-given_with g true (Some before) (Some bs) = Some (record { first = Some before; last = bs })
+given_with g true (Some pairs) (Some bs) = Some (record { kept = pairs; last = bs })
 
 -- What a read gave of all blocks; ms are the calls before it.
 abbrev pub read_given : Layout → Submitted → List Submitted → Option BlocksRead
-read_given g m ms = given_with g (is_again m) (answer_before g ms) (blocks_bytes g m)
+read_given g m ms = given_with g (is_again m) (kept_before g ms) (blocks_bytes g m)
 
 -- The blocks of hosts 1 to N that a read of the lease gave, each if there is one.
 abbrev pub blocks_given : Layout → Submitted → List Submitted → Option (List (Option Block))
@@ -457,8 +458,8 @@ pub record LeaseKnown : Type 0 where
   pub own : Option Block
   -- the blocks that it last read
   pub read : List (Option Block)
-  -- what the first read gave, where its newest call is the second
-  pub first_read : Option (List ℕ)
+  -- what is kept of the first read, where its newest call is the second
+  pub kept : List (Option PairBlock)
   -- the turn of its pair that was shown last
   pub turn : ℕ
   -- the resource's name that it has verified
@@ -484,7 +485,7 @@ known_of g lockspace self shared exclusive over ms =
       self = self;
       own = block_submitted ms;
       read = last_blocks g ms;
-      first_read = first_answer g ms;
+      kept = first_kept g ms;
       turn = base_turn g self.id ms;
       name = verified_name g lockspace ms;
       freed = freed ms;

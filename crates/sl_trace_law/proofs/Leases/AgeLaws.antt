@@ -1,11 +1,12 @@
 -- What stays of calls as they age.
 use Rattle.sl_area.specs.Layouts.{Layout}
-use Rattle.sl_area.specs.Places.{BlocksRead, blocks_of}
+use Rattle.sl_area.specs.Places.{BlocksRead, blocks_of, pairs_kept}
 use Rattle.sl_run.specs.LawfulBlock.{FirstAfter, ReadAfter}
 use Rattle.sl_trace_law.specs.Leases.Fronts.{Aged, AllAged}
 use Rattle.sl_trace_law.specs.Leases.Ways.{FoundIn, lease_among}
-use Rattle.sl_trace.specs.Leases.{StepKind, answer_before, block_submitted, block_written, blocks_bytes, blocks_given, given_with, is_again, is_at, is_lease_call, is_on, read_given}
+use Rattle.sl_trace.specs.Leases.{StepKind, block_submitted, block_written, blocks_bytes, blocks_given, given_with, is_again, is_at, is_lease_call, is_on, kept_before, read_given}
 use Rattle.sl_sector.specs.declared.sector.Block.{Block}
+use Rattle.sl_sector.specs.declared.sector.PairBlock.{PairBlock}
 use Rattle.sl_trace.specs.Sessions.{is_call_of}
 use Rattle.sl_trace.specs.declared.session.Session.{Session}
 use Rattle.sl_trace.specs.Traces.{Setting, Submitted, new_call, Answered}
@@ -72,14 +73,20 @@ told_bytes g n was is bs h (Some a) told gives =
 pub bytes_stay : (g : Layout) (n : ℕ) (was is : Submitted) (bs : List ℕ) → Aged n was is → blocks_bytes g was ≡ Some bs → blocks_bytes g is ≡ Some bs
 bytes_stay g n was is bs h gives = told_bytes g n was is bs h was.answer refl gives
 
-before_stays : (g : Layout) (n : ℕ) (xs ys : List Submitted) (bs : List ℕ) → AllAged n xs ys → answer_before g xs ≡ Some bs → answer_before g ys ≡ Some bs
-before_stays g n [] [] bs h is = absurd (none_some bs is)
-before_stays g n [] (y ∷ ys) bs h is = absurd h
-before_stays g n (x ∷ xs) [] bs h is = absurd h
-before_stays g n (x ∷ xs) (y ∷ ys) bs h is = bytes_stay g n x y bs h.0 is
+kept_by : (g : Layout) (n : ℕ) (was is : Submitted) (ps : List (Option PairBlock)) → Aged n was is → (o : Option (List ℕ)) → blocks_bytes g was ≡ o
+    → option_map (pairs_kept g) o ≡ Some ps → option_map (pairs_kept g) (blocks_bytes g is) ≡ Some ps
+kept_by g n was is ps h None told kept = absurd (none_some ps kept)
+kept_by g n was is ps h (Some bs) told kept = ap (λ o. option_map (pairs_kept g) o) (bytes_stay g n was is bs h told) ∙ kept
+
+before_stays : (g : Layout) (n : ℕ) (xs ys : List Submitted) (ps : List (Option PairBlock)) → AllAged n xs ys → kept_before g xs ≡ Some ps → kept_before g ys ≡ Some ps
+before_stays g n [] [] ps h is = absurd (none_some ps is)
+before_stays g n [] (y ∷ ys) ps h is = absurd h
+before_stays g n (x ∷ xs) [] ps h is = absurd h
+before_stays g n (x ∷ xs) (y ∷ ys) ps h is = kept_by g n x y ps h.0 (blocks_bytes g x) refl is
 
 -- What is given of bytes that stay.
-given_stays : (g : Layout) (again : Bool) (f f' o o' : Option (List ℕ)) (r : BlocksRead) → ((bs : List ℕ) → f ≡ Some bs → f' ≡ Some bs)
+given_stays : (g : Layout) (again : Bool) (f f' : Option (List (Option PairBlock))) (o o' : Option (List ℕ)) (r : BlocksRead)
+    → ((ps : List (Option PairBlock)) → f ≡ Some ps → f' ≡ Some ps)
     → ((bs : List ℕ) → o ≡ Some bs → o' ≡ Some bs) → given_with g again f o ≡ Some r → given_with g again f' o' ≡ Some r
 given_stays g again f f' None o' r first here is = absurd (none_some r is)
 given_stays g false f f' (Some bs) o' r first here is = ap (λ x. given_with g false f' x) (here bs refl) ∙ is
@@ -90,9 +97,9 @@ given_stays g true (Some b) f' (Some bs) o' r first here is =
 pub read_stays : (g : Layout) (n : ℕ) (was is : Submitted) (before before' : List Submitted) (r : BlocksRead) → Aged n was is → AllAged n before before'
     → read_given g was before ≡ Some r → read_given g is before' ≡ Some r
 read_stays g n was is before before' r h rest gives =
-    ap (λ c. given_with g (is_again (new_call 0 0 c)) (answer_before g before') (blocks_bytes g is)) h.call
-    ∙ given_stays g (is_again was) (answer_before g before) (answer_before g before') (blocks_bytes g was) (blocks_bytes g is) r
-    (λ bs. before_stays g n before before' bs rest) (λ bs. bytes_stay g n was is bs h) gives
+    ap (λ c. given_with g (is_again (new_call 0 0 c)) (kept_before g before') (blocks_bytes g is)) h.call
+    ∙ given_stays g (is_again was) (kept_before g before) (kept_before g before') (blocks_bytes g was) (blocks_bytes g is) r
+    (λ ps. before_stays g n before before' ps rest) (λ bs. bytes_stay g n was is bs h) gives
 
 told_blocks : (g : Layout) (n : ℕ) (was is : Submitted) (before before' : List Submitted) (bs : List (Option Block)) → Aged n was is → AllAged n before before'
     → (o : Option BlocksRead) → read_given g was before ≡ o → option_map (blocks_of g) o ≡ Some bs → blocks_given g is before' ≡ Some bs
