@@ -34,7 +34,7 @@ use Rattle.sl_step_law.specs.Asking.{sectors_asked}
 use Rattle.sl_step_law.specs.Ready.{IsReady}
 use Rattle.sl_trace.specs.Traces.{is_expected}
 use Rattle.sl_trace.specs.declared.effects.JoinStep.TheVariants.{ClaimWrite, DecidingRead, FirstRead, FirstRenewal, VerifyRead, WatchRead}
-use Rattle.sl_trace.specs.declared.effects.LeaseStep.TheVariants.{ClearMode, FreeLeader, Phase1Read, Phase1Write, Phase2Read, Phase2Write, ReadArea, ReadBeforeFree, SetMode, TakeLeader}
+use Rattle.sl_trace.specs.declared.effects.LeaseStep.TheVariants.{ClearMode, FreeLeader, Phase1Read, Phase1Write, Phase2Read, Phase2Write, ReadAgain, ReadArea, ReadBeforeBlock, ReadBeforeFree, SetMode, TakeLeader}
 use Rattle.sl_trace.specs.declared.effects.LeaseStep.{LeaseStep}
 use Rattle.sl_trace.specs.declared.effects.Purpose.TheVariants.{Joining, Lease, Leaving, Renewal, RequestRead, RequestWrite, SeeRequest, Survey, ValueRead, ValueWrite}
 use Rattle.sl_trace.specs.declared.effects.Purpose.{Purpose}
@@ -92,6 +92,8 @@ lease_asks hosts work TakeLeader reads = absurd (true_is_false (sym reads))
 lease_asks hosts work SetMode reads = absurd (true_is_false (sym reads))
 lease_asks hosts work FreeLeader reads = absurd (true_is_false (sym reads))
 lease_asks hosts work ClearMode reads = absurd (true_is_false (sym reads))
+lease_asks hosts work ReadBeforeBlock reads = absurd (true_is_false (sym reads))
+lease_asks hosts work (ReadAgain read) reads = absurd (true_is_false (sym reads))
 
 -- A joining reads one sector at a time.
 asks_one : (hosts : ℕ) (p : Purpose) (n : ℕ) → is_joining_purpose p ≡ true → sectors_asked hosts p ≡ Some n → n ≡ 1
@@ -141,6 +143,7 @@ module _ (z : Sizes) (h : HostState) (x : Step) (number : ℕ) (answer : Answer)
     fits : is_joining_purpose c.purpose ≡ false → FitsSectors z c (length bytes)
     fits other =
         record {
+          plain = ap (λ (g : Layout). g.paired) (sym same) ∙ r.stands.keeps.unpaired;
           taken = takes z.hosts c.purpose other (ap (λ o. is_some o) (sym asks ∙ given.1));
           survey = λ for. many z.hosts (ap (sectors_asked z.hosts) for);
           lease = λ work step for. (let y = reads work step for in (y, ap (λ o. is_some o) given.1, many (sectors_read z.hosts step) (ap (sectors_asked z.hosts) for ∙ lease_asks z.hosts work step y)));
