@@ -4,7 +4,7 @@ ghost use Rattle.sl_generate.specs.HeaderLines.{gen_session};
 ghost use Rattle.sl_report.specs.Generator.{gen_header, gen_path, gen_resource};
 ghost use Rattle.sl_text.specs.Names.{is_name};
 ghost use Rattle.std.specs.List.{range_with_len};
-ghost use Rattle.std.specs.Prelude.{IfOk, codes, decimal, map, true, [], ◌++◌, ◌∷◌, ◌≡◌, ◌≤◌};
+ghost use Rattle.std.specs.Prelude.{IfOk, codes, decimal, false, map, true, [], ◌++◌, ◌∷◌, ◌≡◌, ◌≤◌};
 
 use sl_area::Geometry;
 use sl_run::{Disk, Header, LockspaceLine, ResourceLine, SessionLine};
@@ -66,7 +66,7 @@ fn timing() -> Timing
 /// The areas of a run of so many hosts, 1 to 16.
 fn geometry(hosts: u32) -> Geometry
     requires { (1 ≤ hosts) × (hosts ≤ 16) }
-    ensures { result ≡ record { sector = 512; area = 1048576; hosts = hosts } }
+    ensures { result ≡ record { sector = 512; area = 1048576; hosts = hosts; paired = false } }
 {
     match Geometry::new(SECTOR, AREA, hosts) {
         Ok(geometry) => geometry,

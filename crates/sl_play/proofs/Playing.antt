@@ -229,3 +229,9 @@ pub line_answered : {D : Type 0} (commands : Header → List (Form Command)) (st
     → IfOk r (λ why. (w : World) → PlaysOn commands stands p w → TakesLines commands stands w p (option_to_list (event_line whole_language h l)) l.number out n now why)
 line_answered commands stands p n h l number read out now (Ok why) is t = λ w s. line_taken commands stands w p n h l number read out now why is (t w s number)
 line_answered commands stands p n h l number read out now (Err e) is t = tt
+
+-- A line that says nothing.
+pub line_skipped : {D : Type 0} (commands : Header → List (Form Command)) (stands : D → Setting → Trace → Type 0) (p : PlayState D) (h : Header) (l : NumberedLine) (out : List ℕ)
+    → event_line whole_language h l ≡ None → (w : World) → PlaysOn commands stands p w
+    → TakesLines commands stands w p (option_to_list (event_line whole_language h l)) l.number out p out None
+line_skipped commands stands p h l out none w s = subst (λ o. GoesOn commands stands w p (option_to_list o) out p out) (sym none) (nothing_taken commands stands w p out s)

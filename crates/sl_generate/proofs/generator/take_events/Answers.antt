@@ -1,5 +1,5 @@
 -- One event after another.
-use Rattle.sl_generate.proofs.Drawing.{all_drawn, more_drawn}
+use Rattle.sl_generate.proofs.Drawing.{all_drawn, drawing_on, more_drawn}
 use Rattle.sl_generate.proofs.generator.take_events.Goals as goal
 use Rattle.sl_play.specs.Playing.{state_of}
 use Rattle.std.proofs.Common.{arith}
@@ -20,3 +20,8 @@ pub returns : goal.returns
 returns g c =
     all_drawn g.D.Daemon.commands g.D.Daemon.stands (state_of g.L.LockTable.locks c.args.play.now) (state_of g.L.LockTable.locks c.loop-number.play) c.args.seed c.args.events
     c.loop-number.number c.loop-number.state c.loop-number-test.false c.loop-number.invariant.drawn
+
+pub take_event-requires : goal.take_event-requires
+take_event-requires g c =
+    drawing_on g.D.Daemon.commands g.D.Daemon.stands (state_of g.L.LockTable.locks c.args.play.now) (state_of g.L.LockTable.locks c.loop-number.play) c.args.seed c.args.events
+    c.loop-number.number c.loop-number.state c.requires c.loop-number.invariant.drawn
