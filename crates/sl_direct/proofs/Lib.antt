@@ -1,6 +1,7 @@
 pub mod DiskLaws
 pub mod FreshLaws
 pub mod LineLaws
+pub mod UpgradeLaws
 pub mod LookLaws
 pub mod ActLaws
 pub mod AreaLaws

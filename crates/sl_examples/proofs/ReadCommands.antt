@@ -30,7 +30,7 @@ use Rattle.std.specs.Fmt.{digits}
 use Rattle.std.specs.Prelude.{Err, Ok, codes, false, refl, ◌≡◌}
 
 abbrev g : Layout
-g = record { sector = 512; area = 1048576; hosts = 2; digest = (λ bs. bs) }
+g = record { sector = 512; area = 1048576; hosts = 2; paired = false; digest = (λ bs. bs) }
 
 pub acquire : command_in (forms g) (codes "acquire -r ls:r:/d:1048576 -p 7") ≡ Ok (Acquire (record { lockspace = codes "ls"; name = codes "r"; path = codes "/d"; offset = 1048576 }) false 7 false)
 unfolding after_answer after_answer_of after_end after_free after_input after_join_answer after_lease_answer after_renewal after_request_read after_see_request after_survey after_value_read area_next before_input begin_next begin_recoveries begin_recovery begins block_rules carry_decision carry_delta carry_lease checked_part count_event decided decoded delta_rules digits due due_step event_forms event_tests field_bytes fields_of finish finish_session first_change forms goes_on_with header_forms header_of header_tests initial_record instance_of join_on_wake kill_holders kills known leader_rules lease_next leave_holdings locks_after lvm_forms lvm_turn machine_of_header magic next_after_deciding next_after_first next_after_verify next_after_watch next_in_joining next_on_wake next_renewal on_exit on_line on_spawned on_wake padded_text pass_tests phase1_block phase2_block refuse renew_on_wake reply_words request_refusal request_rules see_requests settle settle_next settle_on_wake settlings signal_and_refuse spelling stop_of take_input time_out time_outs told_effects u32_at u32_bytes u64_at u64_bytes value_rules

@@ -35,7 +35,7 @@ use Rattle.std.specs.Fmt.{digits}
 use Rattle.std.specs.Prelude.{Err, Ok, codes, false, refl, replicate, slice_index, slice_set, take, [], ◌-◌, ◌∷◌, ◌≡◌}
 
 abbrev two_hosts : Layout
-two_hosts = layout_of (record { sector = 512; area = 1048576; hosts = 2 })
+two_hosts = layout_of (record { sector = 512; area = 1048576; hosts = 2; paired = false })
 
 abbrev leader : Rec
 leader = LeaderIs (fresh_leader two_hosts (codes "ls") (codes "r"))

@@ -35,13 +35,13 @@ use Rattle.sl_trace.specs.EffectTexts.{reply_words}
 use Rattle.sl_trace.specs.declared.reply.Evidence.TheVariants.{Newer, Silent}
 use Rattle.sl_trace.specs.declared.reply.HostState.TheVariants.{Dead, Failing, Live as LooksLive, Unknown}
 use Rattle.std.specs.Fmt.{digits}
-use Rattle.std.specs.Prelude.{List, None, Some, codes, refl, replicate, sum, [], ℕ, ◌++◌, ◌∷◌, ◌≡◌}
+use Rattle.std.specs.Prelude.{List, None, Some, codes, false, refl, replicate, sum, [], ℕ, ◌++◌, ◌∷◌, ◌≡◌}
 
 abbrev tm : TimingNumbers
 tm = record { io = 100; fire = 600; land = 100; rho = 0 }
 
 abbrev g : Layout
-g = record { sector = 512; area = 1048576; hosts = 2; digest = (λ bs. u32_bytes (sum bs) ++ replicate 28 0) }
+g = record { sector = 512; area = 1048576; hosts = 2; paired = false; digest = (λ bs. u32_bytes (sum bs) ++ replicate 28 0) }
 
 abbrev live_record : DeltaState → ℕ → DeltaRec
 live_record state seq = record { state = state; id = 2; generation = 1; seq = seq; stamp = 0; lockspace = codes "ls"; host = Some (codes "b"); bitmap = replicate 250 0 }

@@ -64,4 +64,6 @@ new_lease_stands g lockspace self at =
       top = λ t is. absurd (none_some t is);
       opened = λ n is. absurd (none_some n is);
       pair = refl;
+      turn = refl;
+      first = refl;
     }

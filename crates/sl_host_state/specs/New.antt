@@ -16,7 +16,7 @@ new_joining = record { watched = None; since = None; claim = None; newest = None
 
 -- The sizes of a layout.
 abbrev pub sizes_in : Layout → Sizes
-sizes_in g = record { sector = g.sector; area = g.area; hosts = g.hosts }
+sizes_in g = record { sector = g.sector; area = g.area; hosts = g.hosts; paired = g.paired }
 
 -- The layout is one of the program.
 abbrev pub IsOfProgram : Layout → Type 0

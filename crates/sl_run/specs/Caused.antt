@@ -4,8 +4,8 @@ use Rattle.sl_area.specs.Places.{area_blocks, leader_of, read_at}
 use Rattle.sl_run.specs.Saying.{IsAnsweredAt}
 use Rattle.sl_trace.specs.Ballots.{in_instance, next_mbal, stop_of, value_of}
 use Rattle.sl_trace.specs.Counts.{busy_process, holds_already, is_killpath_limit, limit_met, may_act, next_value_seq, other_holder, pending_call}
-use Rattle.sl_trace.specs.Jobs.{is_asking_lease, is_job_of_process, is_program, job_of_start, lockspace_named, process_named, resource_named, wants_shared}
-use Rattle.sl_trace.specs.Leases.{Area_read, Leader_freed, Leader_taken, LeaseKnown, Mode_cleared, Mode_set, Phase1_read, Phase2_read, StepKind, blocks_given, exclusive_on, holdings_on, instance_for, is_at, is_leader_of, is_phase_read, known, lease_calls, lver_written, orphan_on, own_block, shared_elsewhere, spot_of, spot_of_call, value_written}
+use Rattle.sl_trace.specs.Jobs.{aim_of_command, is_asking_lease, is_job_of_process, is_program, job_of_start, lockspace_named, process_named, resource_named, wants_shared}
+use Rattle.sl_trace.specs.Leases.{Area_read, Leader_freed, Leader_taken, LeaseKnown, Mode_cleared, Mode_set, Phase1_read, Phase2_read, StepKind, base_turn, blocks_given, exclusive_on, holdings_on, instance_for, is_at, is_leader_of, is_phase_read, known, leader_given, lease_calls, lver_written, orphan_on, own_block, shared_elsewhere, spot_of, spot_of_call, value_written}
 use Rattle.sl_trace.specs.declared.lease.Instance.TheVariants.{Begins, HeldAlready}
 use Rattle.sl_trace.specs.declared.lease.Instance.{Instance}
 use Rattle.sl_trace.specs.declared.lease.Stop.TheVariants.{BlockAhead, BlockRival, BlockTorn}
@@ -42,7 +42,7 @@ use Rattle.sl_trace.specs.declared.input.Answer.TheVariants.{Failed, Read, Writt
 use Rattle.sl_trace.specs.declared.input.Answer.{Answer}
 use Rattle.sl_trace.specs.declared.input.Input.TheVariants.{Exit, Spawned, Wake}
 use Rattle.sl_trace.specs.declared.reply.DeltaVersion.{DeltaVersion}
-use Rattle.sl_trace.specs.declared.reply.Limited.TheVariants.{Children, Gen as GenLimit, Holders, Killpaths, Lockspaces, Lver as LverLimit, Mbal as MbalLimit, Resources, Seq as SeqLimit}
+use Rattle.sl_trace.specs.declared.reply.Limited.TheVariants.{Children, Gen as GenLimit, Holders, Killpaths, Lockspaces, Lver as LverLimit, Mbal as MbalLimit, Resources, Seq as SeqLimit, Turn as TurnLimit}
 use Rattle.sl_trace.specs.declared.reply.Limited.{Limited}
 use Rattle.sl_trace.specs.declared.reply.Reply.TheVariants.{Ahead, BadCommand as Misread, Busy, Done, Generation, Granted, Held as HeldBy, Hosts, IdHeld, IdLate, IdLost, IoFault, IoTimeout, Joined, Joining as StillJoining, Limit as LimitReached, NoOrphan, NoProcess, NoSession, NotHeld, Pending, Recovering, RequestOld, Rival, Sessions, Shared as SharedBy, SpawnFault, Started, TornBlock, TornDelta, TornLeader, Value, ValueSet, ValueTorn, WrongArea, WrongDelta}
 use Rattle.sl_trace.specs.declared.reply.Reply.{Reply}
@@ -168,9 +168,32 @@ IsIdLate x claimed now =
 
 -- ---- a lease's
 
+-- What is said of the session and of the calls of its lease before this one.
+abbrev pub BeforeCall : Answering → Submitted → (Session → List Submitted → Type 0) → Type 0
+BeforeCall x c P =
+    WithSession x (λ s. (later before : List Submitted) × (lease_calls x.setting (after_entry x) s (spot_of_call x.setting.layout c) ≡ later ++ c ∷ before)
+    × P s before)
+
+-- The leader that the read gave, if any. With pairs a read of the area gives one only once it is whole, with its second read, and one may
+-- be made for a torn one.
+abbrev pub GivesLeader : Answering → Submitted → List ℕ → Option Leader → Type 0
+GivesLeader x c bytes l =
+    elim (x.setting.layout.paired && is_at Area_read c) [
+      | false ↦ leader_of x.setting.layout bytes ≡ l
+      | true ↦ BeforeCall x c (λ s before. IsSome (blocks_given x.setting.layout c before) × (leader_given x.setting.layout c before ≡ l))
+    ]
+
+-- What is said of the blocks that a read of the area gave; with pairs they are those of both answers.
+abbrev pub GivesBlocks : Answering → Submitted → List ℕ → (List (Option Block) → Type 0) → Type 0
+GivesBlocks x c bytes P =
+    elim x.setting.layout.paired [
+      | false ↦ P (area_blocks x.setting.layout bytes)
+      | true ↦ BeforeCall x c (λ s before. IsSomeAnd (blocks_given x.setting.layout c before) P)
+    ]
+
 -- The leader that was read is torn.
 abbrev pub IsTornLeaderRead : Answering → Type 0
-IsTornLeaderRead x = AnswersRead x (λ c bytes. (IsTrue (is_at Area_read c) ⊎ (c.call.purpose ≡ RequestRead x.job.number)) × (leader_of x.setting.layout bytes ≡ None))
+IsTornLeaderRead x = AnswersRead x (λ c bytes. (IsTrue (is_at Area_read c) ⊎ (c.call.purpose ≡ RequestRead x.job.number)) × GivesLeader x c bytes None)
 
 -- What is known of the lease whose read the entry answers.
 abbrev pub known_here : Answering → Session → Submitted → LeaseKnown
@@ -180,7 +203,7 @@ known_here x s c = known x.setting (after_entry x) s (spot_of_call x.setting.lay
 abbrev pub ReadsBlocks : Answering → (Session → Submitted → List (Option Block) → Block → Type 0) → Type 0
 ReadsBlocks x P =
     WithSession x (λ s. AnswersRead x (λ c bytes. (blocks : List (Option Block)) × (own : Block) × (later before : List Submitted)
-    × (blocks_given x.setting.layout c ≡ Some blocks) × (lease_calls x.setting (after_entry x) s (spot_of_call x.setting.layout c) ≡ later ++ c ∷ before)
+    × (blocks_given x.setting.layout c before ≡ Some blocks) × (lease_calls x.setting (after_entry x) s (spot_of_call x.setting.layout c) ≡ later ++ c ∷ before)
     × (own_block x.setting.layout s.id (c ∷ before) ≡ Some own) × P s c blocks own))
 
 -- The blocks that a phase of the ballot read stop it.
@@ -190,7 +213,8 @@ IsStopRead x stop = ReadsBlocks x (λ s c blocks own. IsTrue (is_phase_read c) �
 -- At the read of the area the least torn block; at a later read the least of another host.
 abbrev pub IsTornBlockRead : Answering → ℕ → Type 0
 IsTornBlockRead x host =
-    AnswersRead x (λ c bytes. IsTrue (is_at Area_read c) × (option_map (λ k. k + 1) (position is_none (area_blocks x.setting.layout bytes)) ≡ Some host))
+    AnswersRead x (λ c bytes. IsTrue (is_at Area_read c)
+    × GivesBlocks x c bytes (λ blocks. option_map (λ k. k + 1) (position is_none blocks) ≡ Some host))
     ⊎ IsStopRead x (BlockTorn host)
 
 -- The read of phase 2 ended the job's ballot with this session.
@@ -200,7 +224,7 @@ EndsWith x s c blocks own lver o = IsTrue (is_at Phase2_read c) × (stop_of own 
 -- What the read of the area makes the job begin, or who holds the resource.
 abbrev pub ShowsInstance : Answering → Session → Submitted → List (Option Block) → Block → Instance → Type 0
 ShowsInstance x s c blocks own i =
-    IsTrue (is_at Area_read c) × (bytes : List ℕ) × (l : Leader) × (gave c ≡ Some bytes) × (leader_of x.setting.layout bytes ≡ Some l)
+    IsTrue (is_at Area_read c) × (bytes : List ℕ) × (l : Leader) × (gave c ≡ Some bytes) × GivesLeader x c bytes (Some l)
     × (instance_for (known_here x s c) l own blocks ≡ i)
 
 -- The resource is held by another that isn't counted as over, or the job's ballot ended with such.
@@ -252,6 +276,9 @@ IsLimit x SeqLimit =
     × IsSomeAnd (exclusive_on (before_entry x) s at) (λ g. record_numbers ≤ next_value_seq x.setting (before_entry x) s at g.lver))))
 IsLimit x LverLimit = ReadsBlocks x (λ s c blocks own. (n : ℕ) × BeginsAt x s c blocks own n × (record_numbers ≤ n))
 IsLimit x MbalLimit = ReadsBlocks x (λ s c blocks own. (n : ℕ) × BeginsAt x s c blocks own n × (record_numbers ≤ next_number x.setting s n own (present blocks)))
+IsLimit x TurnLimit =
+    (x.setting.layout.paired ≡ true) × job_command x (λ c. IsSome (aim_of_command c))
+    × WithSession x (λ s. WithSpot x (λ r at. record_numbers ≤ base_turn x.setting.layout s.id (lease_calls x.setting (after_entry x) s at) + 1))
 
 -- ---- requests
 
@@ -267,7 +294,7 @@ IsOldRequest x held stored = job_command x (λ c. (r : ResourceArg) × (asked : 
 -- The leader that was read has other names or another number of hosts.
 abbrev pub IsWrongArea : Answering → List ℕ → List ℕ → ℕ → Type 0
 IsWrongArea x lockspace resource hosts = WithSpot x (λ r at.
-    AnswersRead x (λ c bytes. (l : Leader) × (leader_of x.setting.layout bytes ≡ Some l) × (l.lockspace ≡ lockspace) × (l.resource ≡ resource) × (l.num_hosts ≡ hosts)
+    AnswersRead x (λ c bytes. (l : Leader) × GivesLeader x c bytes (Some l) × (l.lockspace ≡ lockspace) × (l.resource ≡ resource) × (l.num_hosts ≡ hosts)
     × IsFalse (is_leader_of x.setting.layout r.lockspace r.name l)))
 
 -- The delta record that was read has another lockspace or id.

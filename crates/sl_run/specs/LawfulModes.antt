@@ -1,5 +1,5 @@
 -- What a grant in either mode has behind it, and which mode a block shows. All of it is said of one resource.
-use Rattle.sl_run.specs.LawfulBlock.{ReadAfter}
+use Rattle.sl_run.specs.LawfulBlock.{FirstAfter, ReadAfter}
 use Rattle.sl_run.specs.LawfulLeader.{HasWon}
 use Rattle.sl_run.specs.Saying.{EachCall, IsAnsweredAt}
 use Rattle.sl_trace.specs.Leases.{Mode_set, Phase1_write, block_of_host, block_written, blocks_given, ended_ballot, exclusive_on, has_shared_on, holdings_on, is_at, is_block_read, is_free_write, lease_calls, spot_of_call}
@@ -100,11 +100,16 @@ pub record LawfulExclusiveGrant (st : Setting) (es : Trace) (s : Session) (at : 
   pub blocks : List (Option Block)
   pub wrote : Contains (lease_calls st es s at) write × IsTrue (is_at Phase1_write write) × (block_written write ≡ Some own) × (own.lver ≡ n)
   pub of_lease : Contains (lease_calls st es s at) read × IsTrue (is_block_read read)
+  -- the calls of the lease after and before that read
+  pub after : List Submitted
+  pub before : List Submitted
+  pub split : lease_calls st es s at ≡ after ++ read ∷ before
   -- blocks read before could lack a mode that was set since
   pub ordered : ReadAfter write read
+  pub first_ordered : FirstAfter write read before
   -- it belongs to the ballot that ended: no greater number was written since
   pub same_ballot : (d : Submitted) (b : Block) → Contains (lease_calls st es s at) d → block_written d ≡ Some b → write.call.number ≤ d.call.number → b.mbal ≡ own.mbal
-  pub given : blocks_given st.layout read ≡ Some blocks
+  pub given : blocks_given st.layout read before ≡ Some blocks
   -- a shared holder elsewhere would conflict
   pub none_shared : NoneShared st es s blocks
 

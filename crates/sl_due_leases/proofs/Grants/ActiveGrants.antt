@@ -1,4 +1,5 @@
 -- The session of each process that is granted a resource is active, so the grants are lawful.
+use Rattle.sl_trace.specs.declared.effects.LeaseRead.TheVariants.{OfArea, OfFree}
 use Rattle.sl_acts.proofs.ActsTogether.{both}
 use Rattle.sl_acts.proofs.DecisionsAreTheirs.{Of}
 use Rattle.sl_acts.proofs.LoopsKeep.{for_each_keeps}
@@ -58,7 +59,7 @@ use Rattle.sl_trace.specs.declared.effects.Entry.{Entry}
 use Rattle.sl_trace.specs.declared.effects.Grant.{Grant}
 use Rattle.sl_trace.specs.declared.effects.JobReply.{JobReply}
 use Rattle.sl_trace.specs.declared.effects.JoinStep.TheVariants.{FirstRead}
-use Rattle.sl_trace.specs.declared.effects.LeaseStep.TheVariants.{ClearMode, FreeLeader, ReadArea, ReadBeforeFree}
+use Rattle.sl_trace.specs.declared.effects.LeaseStep.TheVariants.{ClearMode, FreeLeader, ReadAgain, ReadArea, ReadBeforeFree}
 use Rattle.sl_trace.specs.declared.effects.Mode.{Mode}
 use Rattle.sl_trace.specs.declared.effects.Mode.TheVariants.{Exclusive, Shared}
 use Rattle.sl_trace.specs.declared.effects.Move.TheVariants.{Unregister}
@@ -162,6 +163,8 @@ unfolding carry_lease
 led_active x s at work Nothing has none active stays = none_active x none
 led_active x s at work (ReadFor (ReadArea name)) has none active stays = none_active (carry_lease s at work (ReadFor (ReadArea name)) x) none
 led_active x s at work (ReadFor ReadBeforeFree) has none active stays = none_active (carry_lease s at work (ReadFor ReadBeforeFree) x) none
+led_active x s at work (ReadFor (ReadAgain (OfArea name))) has none active stays = none_active (carry_lease s at work (ReadFor (ReadAgain (OfArea name))) x) none
+led_active x s at work (ReadFor (ReadAgain OfFree)) has none active stays = none_active (carry_lease s at work (ReadFor (ReadAgain OfFree)) x) none
 led_active x s at work (ReadFor step) has none active stays = none_active (carry_lease s at work (ReadFor step) x) none
 led_active x s at work (WriteBlock step b) has none active stays = none_active (carry_lease s at work (WriteBlock step b) x) none
 led_active x s at work (WriteLeader step l) has none active stays = none_active (carry_lease s at work (WriteLeader step l) x) none

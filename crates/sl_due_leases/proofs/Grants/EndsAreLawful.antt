@@ -1,4 +1,5 @@
 -- What ends is lawful: only an exit, a failed start, a release, a take-over and a conversion end holdings, and each was held before.
+use Rattle.sl_trace.specs.declared.effects.LeaseRead.TheVariants.{OfArea, OfFree}
 use Rattle.sl_acts.proofs.EffectsKeep.{delta, removal, signalled}
 use Rattle.sl_acts.proofs.LoopsKeep.{for_each_keeps, when_keeps}
 use Rattle.sl_acts.specs.Plainly.{ByEffects}
@@ -39,7 +40,7 @@ use Rattle.sl_trace.specs.declared.command.Command.TheVariants.{Acquire, AddLock
 use Rattle.sl_trace.specs.declared.command.Command.{Command}
 use Rattle.sl_trace.specs.declared.effects.End.{End}
 use Rattle.sl_trace.specs.declared.effects.Grant.{Grant}
-use Rattle.sl_trace.specs.declared.effects.LeaseStep.TheVariants.{ClearMode, ReadArea, ReadBeforeFree}
+use Rattle.sl_trace.specs.declared.effects.LeaseStep.TheVariants.{ClearMode, ReadAgain, ReadArea, ReadBeforeFree}
 use Rattle.sl_trace.specs.declared.effects.Mode.TheVariants.{Exclusive, Shared}
 use Rattle.sl_trace.specs.declared.effects.Mode.{Mode}
 use Rattle.sl_trace.specs.declared.effects.Signal.TheVariants.{Kill, Term}
@@ -373,6 +374,8 @@ unfolding carry_lease
 led_ends x s at work Nothing ended ungranted = none_yet x ended
 led_ends x s at work (ReadFor (ReadArea name)) ended ungranted = none_yet (carry_lease s at work (ReadFor (ReadArea name)) x) ended
 led_ends x s at work (ReadFor ReadBeforeFree) ended ungranted = none_yet (carry_lease s at work (ReadFor ReadBeforeFree) x) ended
+led_ends x s at work (ReadFor (ReadAgain (OfArea name))) ended ungranted = none_yet (carry_lease s at work (ReadFor (ReadAgain (OfArea name))) x) ended
+led_ends x s at work (ReadFor (ReadAgain OfFree)) ended ungranted = none_yet (carry_lease s at work (ReadFor (ReadAgain OfFree)) x) ended
 led_ends x s at work (ReadFor step) ended ungranted = none_yet (carry_lease s at work (ReadFor step) x) ended
 led_ends x s at work (WriteBlock step b) ended ungranted = none_yet (carry_lease s at work (WriteBlock step b) x) ended
 led_ends x s at work (WriteLeader step l) ended ungranted = none_yet (carry_lease s at work (WriteLeader step l) x) ended

@@ -1,5 +1,6 @@
 -- The orphans among the grants are lawful: an exit alone makes some, each of a persistent holding where there is none yet, and no process
 -- that is granted a resource is none.
+use Rattle.sl_trace.specs.declared.effects.LeaseRead.TheVariants.{OfArea, OfFree}
 use Rattle.sl_acts.proofs.EffectsKeep.{delta, removal, signalled}
 use Rattle.sl_acts.proofs.LoopsKeep.{for_each_keeps}
 use Rattle.sl_acts.specs.SoFar.{entry_of}
@@ -37,7 +38,7 @@ use Rattle.sl_trace.specs.Traces.{children, end_of, first_child, has_orphan_of, 
 use Rattle.sl_trace.specs.declared.command.Command.TheVariants.{Acquire, AddLockspace, Convert, GetLvb, HostStatus, InqLockspace, Release, ReleaseOrphan, RemLockspace, Request, RunProgram, SetKillpath, SetLvb, Status, TakeOver}
 use Rattle.sl_trace.specs.declared.command.Command.{Command}
 use Rattle.sl_trace.specs.declared.effects.Grant.{Grant}
-use Rattle.sl_trace.specs.declared.effects.LeaseStep.TheVariants.{ReadArea, ReadBeforeFree}
+use Rattle.sl_trace.specs.declared.effects.LeaseStep.TheVariants.{ReadAgain, ReadArea, ReadBeforeFree}
 use Rattle.sl_trace.specs.declared.effects.Mode.TheVariants.{Exclusive, Shared}
 use Rattle.sl_trace.specs.declared.effects.Mode.{Mode}
 use Rattle.sl_trace.specs.declared.effects.Signal.TheVariants.{Kill}
@@ -205,6 +206,8 @@ unfolding carry_lease
 led_orphans x s at work Nothing is none = none_granted x none
 led_orphans x s at work (ReadFor (ReadArea name)) is none = none_granted (carry_lease s at work (ReadFor (ReadArea name)) x) none
 led_orphans x s at work (ReadFor ReadBeforeFree) is none = none_granted (carry_lease s at work (ReadFor ReadBeforeFree) x) none
+led_orphans x s at work (ReadFor (ReadAgain (OfArea name))) is none = none_granted (carry_lease s at work (ReadFor (ReadAgain (OfArea name))) x) none
+led_orphans x s at work (ReadFor (ReadAgain OfFree)) is none = none_granted (carry_lease s at work (ReadFor (ReadAgain OfFree)) x) none
 led_orphans x s at work (ReadFor step) is none = none_granted (carry_lease s at work (ReadFor step) x) none
 led_orphans x s at work (WriteBlock step b) is none = none_granted (carry_lease s at work (WriteBlock step b) x) none
 led_orphans x s at work (WriteLeader step l) is none = none_granted (carry_lease s at work (WriteLeader step l) x) none

@@ -1,4 +1,5 @@
 -- How far a step has come: on a wake nothing is granted or ended, and after the answer to a start the only calls are frees of leavings.
+use Rattle.sl_trace.specs.declared.effects.LeaseRead.TheVariants.{OfArea, OfFree}
 use Rattle.sl_acts.proofs.EffectsKeep.{delta, lease}
 use Rattle.sl_acts.proofs.LoopsKeep.{for_each_keeps, when_keeps}
 use Rattle.sl_acts.proofs.PlainActs.{decision_kept, ended, exited, left, line_has, plain_acts}
@@ -37,7 +38,7 @@ use Rattle.sl_trace.specs.Connections.{is_registered}
 use Rattle.sl_trace.specs.Traces.{Job, end_of, holdings, is_running, next_child, next_job}
 use Rattle.sl_trace.specs.declared.command.Command.{Command}
 use Rattle.sl_trace.specs.declared.effects.Call.{Call}
-use Rattle.sl_trace.specs.declared.effects.LeaseStep.TheVariants.{ReadArea, ReadBeforeFree}
+use Rattle.sl_trace.specs.declared.effects.LeaseStep.TheVariants.{ReadAgain, ReadArea, ReadBeforeFree}
 use Rattle.sl_trace.specs.declared.effects.Move.TheVariants.{Unregister}
 use Rattle.sl_trace.specs.declared.effects.Op.TheVariants.{WriteRecord}
 use Rattle.sl_trace.specs.declared.effects.Purpose.TheVariants.{Leaving}
@@ -198,6 +199,8 @@ unfolding carry_lease
 settling_ungranting x s at k No_lease h = record { ends = refl; grants = refl }
 settling_ungranting x s at k (ReadFor (ReadArea name)) h = record { ends = refl; grants = refl }
 settling_ungranting x s at k (ReadFor ReadBeforeFree) h = record { ends = refl; grants = refl }
+settling_ungranting x s at k (ReadFor (ReadAgain (OfArea name))) h = record { ends = refl; grants = refl }
+settling_ungranting x s at k (ReadFor (ReadAgain OfFree)) h = record { ends = refl; grants = refl }
 settling_ungranting x s at k (ReadFor step) h = record { ends = refl; grants = refl }
 settling_ungranting x s at k (WriteBlock step b) h = record { ends = refl; grants = refl }
 settling_ungranting x s at k (WriteLeader step l) h = record { ends = refl; grants = refl }

@@ -15,7 +15,7 @@ use Rattle.sl_due_leases.specs.Leases.LeaseLawful.{LeaseLawful}
 use Rattle.sl_due_leases.proofs.Ways.Kept.CallsSame.{counted_more, counts_more, joined_stays, reply_stays}
 use Rattle.sl_due_leases.proofs.Ways.Kept.EffectsLeave.{made_call}
 use Rattle.sl_due_leases.proofs.Ways.Kept.PlacesStand.{either_list}
-use Rattle.sl_sector.specs.declared.sector.Rec.TheVariants.{BlockIs, DeltaIs, LeaderIs, RequestIs, ValueIs}
+use Rattle.sl_sector.specs.declared.sector.Rec.TheVariants.{BlockIs, DeltaIs, LeaderIs, PairIs, PairLeaderIs, RequestIs, ValueIs}
 use Rattle.sl_sector.specs.declared.sector.Rec.{Rec}
 use Rattle.sl_trace.specs.Leases.{holdings_on, leader_of_record, lease_step, spot_of_call}
 use Rattle.sl_run.specs.LawfulBlock.{LawfulBlockStep}
@@ -222,6 +222,8 @@ plain_stays st t u s c none joined h =
     of_leader l (Some (DeltaIs k)) at is h = absurd (none_some l is)
     of_leader l (Some (RequestIs k)) at is h = absurd (none_some l is)
     of_leader l (Some (ValueIs k)) at is h = absurd (none_some l is)
+    of_leader l (Some (PairIs k)) at is h = absurd (none_some l is)
+    of_leader l (Some (PairLeaderIs k)) at is h = h (PairLeaderIs k) at refl
 
 -- No session whose work on an area the entry calls loses its connection by the move.
 abbrev pub Spares : Step → Move → Type 0

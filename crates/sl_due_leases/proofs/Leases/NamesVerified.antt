@@ -12,7 +12,7 @@ use Rattle.sl_trace.specs.Sessions.{calls_of}
 use Rattle.sl_trace.specs.declared.session.Session.{Session}
 use Rattle.sl_due_facts.specs.Facts.WayFacts.{IsVerified, way_context}
 use Rattle.sl_trace.specs.Traces.{Setting, Submitted, Trace, gave}
-use Rattle.sl_trace.specs.declared.effects.LeaseStep.TheVariants.{ClearMode, FreeLeader, Phase1Read, Phase1Write, Phase2Read, Phase2Write, ReadArea, ReadBeforeFree, SetMode, TakeLeader}
+use Rattle.sl_trace.specs.declared.effects.LeaseStep.TheVariants.{ClearMode, FreeLeader, Phase1Read, Phase1Write, Phase2Read, Phase2Write, ReadAgain, ReadArea, ReadBeforeBlock, ReadBeforeFree, SetMode, TakeLeader}
 use Rattle.sl_trace.specs.declared.effects.Purpose.TheVariants.{Joining, Lease, Leaving, Renewal, RequestRead, RequestWrite, SeeRequest, Survey, ValueRead, ValueWrite}
 use Rattle.sl_trace.specs.declared.effects.Purpose.{Purpose}
 use Rattle.sl_trace.specs.declared.effects.Spot.{Spot}
@@ -46,6 +46,8 @@ by_sought : (g : Layout) (lockspace : List ℕ) (m : Submitted) (name : List ℕ
     ] ≡ Some name → ShownBy g lockspace m name
 by_sought g lockspace m name (Lease work (ReadArea sought)) is h = by_leader g lockspace m sought name (ap (λ p. is_leader_read p) is) (option_and_then (leader_of g) (gave m)) refl h
 by_sought g lockspace m name (Lease work ReadBeforeFree) is h = absurd (none_some name h)
+by_sought g lockspace m name (Lease work ReadBeforeBlock) is h = absurd (none_some name h)
+by_sought g lockspace m name (Lease work (ReadAgain read)) is h = absurd (none_some name h)
 by_sought g lockspace m name (Lease work Phase1Write) is h = absurd (none_some name h)
 by_sought g lockspace m name (Lease work Phase1Read) is h = absurd (none_some name h)
 by_sought g lockspace m name (Lease work Phase2Write) is h = absurd (none_some name h)

@@ -9,7 +9,7 @@ use Rattle.sl_due_leases.proofs.Ways.Kept.PlacesStand.{either_list}
 use Rattle.sl_due_leases.proofs.Ways.Kept.PlainWalks.{ByPlain}
 use Rattle.sl_due_leases.proofs.Ways.WayStages.{is_at_in}
 use Rattle.sl_trace.specs.Leases.{Phase2_read, block_of_record, block_written, leader_of_record, leader_written, spot_of_call}
-use Rattle.sl_sector.specs.declared.sector.Rec.TheVariants.{BlockIs, DeltaIs, LeaderIs, RequestIs, ValueIs}
+use Rattle.sl_sector.specs.declared.sector.Rec.TheVariants.{BlockIs, DeltaIs, LeaderIs, PairIs, PairLeaderIs, RequestIs, ValueIs}
 use Rattle.sl_sector.specs.declared.sector.Rec.{Rec}
 use Rattle.sl_trace.specs.declared.session.Session.{Session}
 use Rattle.sl_trace.specs.Traces.{Setting, Submitted, Trace, record_of}
@@ -38,6 +38,8 @@ plain_block (Some (DeltaIs d)) h = refl
 plain_block (Some (LeaderIs l)) h = refl
 plain_block (Some (RequestIs r)) h = refl
 plain_block (Some (ValueIs v)) h = refl
+plain_block (Some (PairIs b)) h = absurd (false_is_true (h (PairIs b) refl))
+plain_block (Some (PairLeaderIs l)) h = refl
 
 plain_leader : (o : Option Rec) → ((r : Rec) → o ≡ Some r → is_delta_record r ≡ true) → option_and_then leader_of_record o ≡ None
 plain_leader None h = refl
@@ -46,6 +48,8 @@ plain_leader (Some (DeltaIs d)) h = refl
 plain_leader (Some (BlockIs b)) h = refl
 plain_leader (Some (RequestIs r)) h = refl
 plain_leader (Some (ValueIs v)) h = refl
+plain_leader (Some (PairIs b)) h = refl
+plain_leader (Some (PairLeaderIs l)) h = absurd (false_is_true (h (PairLeaderIs l) refl))
 
 pub plain_read : (st : Setting) (at : Spot) (c : Submitted) (p : Purpose) → is_area_work p ≡ false → IsRightRead st at c p
 plain_read st at c (Lease work step) none = absurd (true_is_false none)
@@ -106,8 +110,9 @@ laws_of x h =
         alone = λ k c s at its. (h k c s at its).alone;
         reads = λ k c s at its. (h k c s at its).reads;
         sees = λ k c s at its. (h k c s at its).sees;
+        agains = λ k c s at its. (h k c s at its).again;
       };
-      block = record { writes = λ k c s at its. (h k c s at its).block; reads = λ k c s at its. (h k c s at its).phase2 };
+      block = record { turns = λ k c s at its. (h k c s at its).turn; writes = λ k c s at its. (h k c s at its).block; reads = λ k c s at its. (h k c s at its).phase2 };
       leader = record { writes = λ k c s at its. (h k c s at its).leader };
     }
 
@@ -119,6 +124,8 @@ lawful_by x h k c s at its =
       alone = h.area.alone k c s at its;
       reads = h.area.reads k c s at its;
       sees = h.area.sees k c s at its;
+      again = h.area.agains k c s at its;
+      turn = h.block.turns k c s at its;
       block = h.block.writes k c s at its;
       phase2 = h.block.reads k c s at its;
       leader = h.leader.writes k c s at its;

@@ -1,4 +1,5 @@
 -- A shared grant is lawful: beside a shared holding, by the ballot of its job, or by conversion of what the session held exclusively.
+use Rattle.sl_trace.specs.declared.effects.LeaseRead.TheVariants.{OfArea, OfFree}
 use Rattle.sl_acts.proofs.DecisionsAreTheirs.{Of}
 use Rattle.sl_acts.proofs.LoopsKeep.{for_each_keeps, when_keeps}
 use Rattle.sl_acts.proofs.PlainActs.{line_has}
@@ -55,7 +56,7 @@ use Rattle.sl_trace.specs.declared.command.ResourceArg.{ResourceArg}
 use Rattle.sl_trace.specs.declared.effects.Call.{Call}
 use Rattle.sl_trace.specs.declared.effects.Grant.{Grant}
 use Rattle.sl_trace.specs.declared.effects.LeaseStep.{LeaseStep}
-use Rattle.sl_trace.specs.declared.effects.LeaseStep.TheVariants.{ClearMode, FreeLeader, ReadArea, ReadBeforeFree, SetMode}
+use Rattle.sl_trace.specs.declared.effects.LeaseStep.TheVariants.{ClearMode, FreeLeader, ReadAgain, ReadArea, ReadBeforeFree, SetMode}
 use Rattle.sl_trace.specs.declared.effects.Mode.{Mode}
 use Rattle.sl_trace.specs.declared.effects.Mode.TheVariants.{Exclusive, Shared}
 use Rattle.sl_trace.specs.declared.effects.Move.TheVariants.{Unregister}
@@ -306,6 +307,8 @@ unfolding carry_lease
 led_shared x s m a h work step aim k is on aimed Nothing fits = none_shared x h.ungranted
 led_shared x s m a h work step aim k is on aimed (ReadFor (ReadArea name)) fits = none_shared (carry_lease s (spot_of_call x.setting.layout m) work (ReadFor (ReadArea name)) x) h.ungranted
 led_shared x s m a h work step aim k is on aimed (ReadFor ReadBeforeFree) fits = none_shared (carry_lease s (spot_of_call x.setting.layout m) work (ReadFor ReadBeforeFree) x) h.ungranted
+led_shared x s m a h work step aim k is on aimed (ReadFor (ReadAgain (OfArea name))) fits = none_shared (carry_lease s (spot_of_call x.setting.layout m) work (ReadFor (ReadAgain (OfArea name))) x) h.ungranted
+led_shared x s m a h work step aim k is on aimed (ReadFor (ReadAgain OfFree)) fits = none_shared (carry_lease s (spot_of_call x.setting.layout m) work (ReadFor (ReadAgain OfFree)) x) h.ungranted
 led_shared x s m a h work step aim k is on aimed (ReadFor to) fits = none_shared (carry_lease s (spot_of_call x.setting.layout m) work (ReadFor to) x) h.ungranted
 led_shared x s m a h work step aim k is on aimed (WriteBlock to b) fits = none_shared (carry_lease s (spot_of_call x.setting.layout m) work (WriteBlock to b) x) h.ungranted
 led_shared x s m a h work step aim k is on aimed (WriteLeader to l) fits = none_shared (carry_lease s (spot_of_call x.setting.layout m) work (WriteLeader to l) x) h.ungranted
