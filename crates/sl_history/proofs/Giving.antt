@@ -1,3 +1,4 @@
+pub mod Named
 pub mod Shown
 pub mod Landed
 pub mod Newest

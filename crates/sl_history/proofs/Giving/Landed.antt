@@ -80,7 +80,7 @@ turns d a at c e q k s t law one two same newer between older is =
     (subst (λ y. IsTrue (is_on d.setting.layout y k.call)) (sym one.spot) two.on)
 
 -- The second of two calls of a session was made after the first was answered.
-data Turns (x y : Sent) : Type 0 where
+pub data Turns (x y : Sent) : Type 0 where
   One : x ≡ y → Turns x y
   First : (s : Stamp) → x.course.answered ≡ Some s → s.step ≤ step_of y → Turns x y
   Second : (s : Stamp) → y.course.answered ≡ Some s → s.step ≤ step_of x → Turns x y
@@ -100,7 +100,7 @@ turns_by p h xs run x y this that machine a d here has law at q k s t one two sa
     First r.0 r.1 r.2
 
 -- Calls that work for one session on a resource take turns.
-turns_of : (p : Program) (h : Header) (xs : List Happening) → LawfulRun p h xs → (r : ResourceLine) → Contains h.resources r → (x y : Sent)
+pub turns_of : (p : Program) (h : Header) (xs : List Happening) → LawfulRun p h xs → (r : ResourceLine) → Contains h.resources r → (x y : Sent)
     → Contains (all_sent (world_at p h xs)) x → Contains (all_sent (world_at p h xs)) y → IsWork (world_at p h xs) r x → IsWork (world_at p h xs) r y → sender_of x ≡ sender_of y → Turns x y
 turns_of p h xs run r there x y this that one two same =
     let w : World = world_at p h xs in
@@ -130,7 +130,7 @@ pairs_at ls i j l m all at there same lt =
     (ap (λ (y : Landing). y.writer) (got_index ls i l l at) ∙ same ∙ ap (λ (y : Landing). y.writer) (sym (got_index ls j m l there)))
 
 -- Landings of one writer are one.
-one_writer : (ls : List Landing) (l m : Landing) → AllPairs (λ a b. a.writer ≡ b.writer → ⊥) ls → Contains ls l → Contains ls m → l.writer ≡ m.writer → l ≡ m
+pub one_writer : (ls : List Landing) (l m : Landing) → AllPairs (λ a b. a.writer ≡ b.writer → ⊥) ls → Contains ls l → Contains ls m → l.writer ≡ m.writer → l ≡ m
 one_writer ls l m all has too same =
     let i = placed_at ls l has in
     let j = placed_at ls m too in

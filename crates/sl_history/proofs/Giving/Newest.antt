@@ -91,7 +91,7 @@ order_by l ls i j x y true false p q first at there lt rest =
 order_by l ls i j x y false false p q first at there lt rest = rest at there
 
 -- Of two numbers the lesser came first.
-numbers_order : (ls : List Landing) (i j : ℕ) (x y : Landing) → Descends ls → numbered_landing ls i ≡ Some x → numbered_landing ls j ≡ Some y → i < j → x.step < y.step
+pub numbers_order : (ls : List Landing) (i j : ℕ) (x y : Landing) → Descends ls → numbered_landing ls i ≡ Some x → numbered_landing ls j ≡ Some y → i < j → x.step < y.step
 numbers_order [] i j x y h at there lt = absurd (none_some x at)
 numbers_order (l ∷ ls) i j x y h at there lt =
     order_by l ls i j x y (i == length ls) (j == length ls) refl refl h.0 at there lt (λ p q. numbers_order ls i j x y h.1 p q lt)
@@ -101,13 +101,13 @@ number_by l ls x (inl here) = (length ls, newest_number l ls (length ls) refl �
 number_by l ls x (inr old) = (old.0, number_stays (l ∷ []) ls old.0 x old.1)
 
 -- Each has a number.
-has_number : (ls : List Landing) (x : Landing) → Contains ls x → (i : ℕ) × (numbered_landing ls i ≡ Some x)
+pub has_number : (ls : List Landing) (x : Landing) → Contains ls x → (i : ℕ) × (numbered_landing ls i ≡ Some x)
 has_number [] x there = absurd (contains_none x there)
 has_number (l ∷ ls) x there =
     number_by l ls x (elim (contains_cases l ls x there) as (λ z. (l ≡ x) ⊎ ((i : ℕ) × (numbered_landing ls i ≡ Some x))) [ inl here ↦ inl here | inr old ↦ inr (has_number ls x old) ])
 
 -- Each landing came at a step above 0.
-above_first : (p : Program) (h : Header) (xs : List Happening) → LawfulRun p h xs → (l : Landing) → Contains (world_at p h xs).landings l → 0 < l.step
+pub above_first : (p : Program) (h : Header) (xs : List Happening) → LawfulRun p h xs → (l : Landing) → Contains (world_at p h xs).landings l → 0 < l.step
 above_first p h xs run l there = let k = landings_are_written p h xs run l there in let a = k.wrote.after.0 in omega (arith, a)
 
 pub history_descends : (p : Program) (h : Header) (xs : List Happening) → LawfulRun p h xs → (path : List ℕ) (offset : ℕ) → Descends (history_of (world_at p h xs) path offset)

@@ -125,7 +125,7 @@ pub record IsBlockLanding (w : World) (r : ResourceLine) (k : ℕ) (l : Landing)
 abbrev found_step : Option Course → ℕ
 found_step o = option_map_or (λ c. c.made.step) o 0
 
-step_is : (w : World) (l : Landing) (m n : ℕ) (a : Machine) (c : Course) → l.writer ≡ Some (m, n) → machine_at w m ≡ Some a
+pub step_is : (w : World) (l : Landing) (m n : ℕ) (a : Machine) (c : Course) → l.writer ≡ Some (m, n) → machine_at w m ≡ Some a
     → find (λ (d : Course). d.call.number == n) a.calls ≡ Some c → step_of_landing w l ≡ c.made.step
 step_is w l m n a c named at found =
     ap (λ (o : Option (ℕ × ℕ)). elim o as (λ z. ℕ) [
@@ -134,7 +134,7 @@ step_is w l m n a c named at found =
     ]) named
     ∙ ap (λ (o : Option Machine). found_step (option_and_then (λ (b : Machine). find (λ (d : Course). d.call.number == n) b.calls) o)) at ∙ ap found_step found
 
-sender_is : (w : World) (r : ResourceLine) (l : Landing) (d : IsLeaseLanding w r l)
+pub sender_is : (w : World) (r : ResourceLine) (l : Landing) (d : IsLeaseLanding w r l)
     → session_of_world w (named d.written.machine d.written.wrote.course.daemon d.written.wrote.course.call.session) ≡ Some d.written.found
 sender_is w r l d =
     let i : SessionId = d.written.session in
@@ -153,7 +153,7 @@ block_landing p h xs run r there k host l landed path offset =
     let d : IsLeaseLanding w r l =
     resources_hold_leases p h xs run r there l landed path (subst (λ o. IsTrue (in_area w.layout r.offset o)) (sym offset) (place_within w r.offset k z host)) in
     let b : IsBlockOf d.written.found.session k d.written.wrote.record_written =
-    only_blocks (setting_in d.written.found) w d.written.found.session (spot_of_line r) k d.written.wrote.record_written l.offset (plain_in p h xs run)
+    only_blocks (setting_in d.written.found) w d.written.found.session (spot_of_line r) k d.written.wrote.record_written l.offset (plain_in p h xs run run.header.unpaired)
     (sent_format p h xs run (record { machine = d.written.machine; course = d.written.wrote.course })
     (there_sent w d.written.machine d.written.wrote.machine d.written.wrote.course d.written.wrote.at d.written.wrote.has) d.written.wrote.record_written d.written.wrote.writes d.other)
     (placed_in_world p h xs run r l d) z host d.placed offset in

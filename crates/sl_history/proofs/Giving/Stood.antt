@@ -48,18 +48,18 @@ use Rattle.std.specs.Prelude.{option_map, Option, false, Contains, List, Ok, Som
 
 -- ---- fronts
 
-layout_kept : (p : Program) (h : Header) (now xs : List Happening) → (world_at p h now).layout ≡ (world_at p h xs).layout
+pub layout_kept : (p : Program) (h : Header) (now xs : List Happening) → (world_at p h now).layout ≡ (world_at p h xs).layout
 layout_kept p h now xs = layout_is p h now ∙ sym (layout_is p h xs)
 
 -- What has landed at a front has landed later.
-landed_later : (p : Program) (h : Header) (now rest : List Happening) (l : Landing) → Contains (world_at p h now).landings l → Contains (world_at p h (now ++ rest)).landings l
+pub landed_later : (p : Program) (h : Header) (now rest : List Happening) (l : Landing) → Contains (world_at p h now).landings l → Contains (world_at p h (now ++ rest)).landings l
 landed_later p h now rest l there =
     let grown = (run_goes (world_at p h now) rest).landings in
     subst (λ (w : World). Contains w.landings l) (sym (run_after (world_with p h) now rest))
     (subst (λ (ls : List Landing). Contains ls l) (sym grown.same) (contains_right grown.newer (world_at p h now).landings l there))
 
 -- What has landed before a front's step has landed at it.
-landed_sooner : (p : Program) (h : Header) (now rest : List Happening) (l : Landing) → Contains (world_at p h (now ++ rest)).landings l → l.step < (world_at p h now).step
+pub landed_sooner : (p : Program) (h : Header) (now rest : List Happening) (l : Landing) → Contains (world_at p h (now ++ rest)).landings l → l.step < (world_at p h now).step
     → Contains (world_at p h now).landings l
 landed_sooner p h now rest l there early =
     elim (landed_since p h now rest l there) [ inl was ↦ was | inr late ↦ absurd (omega (arith, early, late)) ]
@@ -161,7 +161,7 @@ block_stands p h now rest run r there k host follow x block done s told early b 
     let was : Contains u.landings c.landing = landed_sooner p h now rest c.landing c.at.landed (omega (arith, come, early)) in
     let n = newest_is p h now front r.path place c.landing t.top t.below t.whole was c.at.place.0 (c.at.place.1 ∙ sym at) in
     let is : record_in u.layout t.top.bytes ≡ Ok (BlockIs b) =
-    subst (λ (bs : List ℕ). record_in u.layout bs ≡ Ok (BlockIs b)) t.holds (block_in_is k (record_in u.layout (content u r.path place)) b (sym (there_plain u (plain_in p h now front) (spot_of_line r) k) ∙ spells)).0 in
+    subst (λ (bs : List ℕ). record_in u.layout bs ≡ Ok (BlockIs b)) t.holds (block_in_is k (record_in u.layout (content u r.path place)) b (sym (there_plain u (plain_in p h now front front.header.unpaired) (spot_of_line r) k) ∙ spells)).0 in
     let y : IsSentAs w r k t.top b =
     sent_as p h (now ++ rest) run r there k host t.top (landed_later p h now rest t.top n.landed) n.place.0 (n.place.1 ∙ at) b
     (subst (λ (g : Layout). record_in g t.top.bytes ≡ Ok (BlockIs b)) layout is) in

@@ -35,7 +35,6 @@ use Rattle.sl_run.specs.declared.header.Header.{Header}
 use Rattle.sl_run.specs.declared.header.ResourceLine.{ResourceLine}
 use Rattle.sl_run_law.proofs.Walking.{index, number_within}
 use Rattle.sl_sector.specs.declared.sector.Block.{Block}
-use Rattle.sl_sector.specs.declared.sector.Leader.{Leader}
 use Rattle.sl_sector.specs.declared.sector.Rec.TheVariants.{BlockIs, DeltaIs, LeaderIs, PairIs, PairLeaderIs, RequestIs, ValueIs}
 use Rattle.sl_sector.specs.declared.sector.Rec.{Rec}
 use Rattle.sl_trace_law.proofs.Sessions.Making.{calls_are_made}
@@ -476,7 +475,7 @@ sent_format p h xs run x sent rec writes other =
 pub block_sent : (p : Program) (h : Header) (xs : List Happening) → LawfulRun p h xs → (x : Sent) → Contains (all_sent (world_at p h xs)) x → writes_block x.course ≡ true
     → (b : Block) × (record_of x.course.call.op ≡ Some (BlockIs b))
 block_sent p h xs run x sent is =
-    some_block (world_at p h xs).layout (plain_in p h xs run) (record_of x.course.call.op) (λ rec writes other. sent_format p h xs run x sent rec writes other) is
+    some_block (world_at p h xs).layout (plain_in p h xs run run.header.unpaired) (record_of x.course.call.op) (λ rec writes other. sent_format p h xs run x sent rec writes other) is
 
 pub block_works : (p : Program) (h : Header) (xs : List Happening) → LawfulRun p h xs → (r : ResourceLine) → Contains h.resources r → (x : Sent)
     → Contains (all_sent (world_at p h xs)) x → is_on (world_at p h xs).layout (spot_of_line r) x.course.call ≡ true → writes_block x.course ≡ true → IsWork (world_at p h xs) r x

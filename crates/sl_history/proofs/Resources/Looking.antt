@@ -1,12 +1,12 @@
 -- A read of blocks that was answered: what it gave, and that it was made at its place.
 use Rattle.sl_run_law.proofs.Place.Reading.{answer_gave}
 use Rattle.sl_trace.specs.Leases.{Read_before_block, is_again, is_at, is_block_read}
+use Rattle.sl_run_law.proofs.Place.Rights.{area_place as placed_area, phase_place as placed_phase, purposed}
 use Rattle.sl_run_law.proofs.Place.Seats.{plain_in}
-use Rattle.sl_trace.specs.declared.effects.LeaseRead.TheVariants.{OfArea, OfBlock, OfFree, OfPhase1, OfPhase2}
 use Rattle.sl_words.specs.Words.{choose}
 use Rattle.sl_trace.specs.Traces.{Answered}
 use Rattle.sl_trace.specs.declared.input.Answer.TheVariants.{Read}
-use Rattle.std.proofs.lemmas.Bool.{or_left, or_right}
+use Rattle.std.proofs.lemmas.Bool.{or_left}
 use Rattle.std.specs.Prelude.{◌||◌}
 use Rattle.sl_area.specs.Layouts.{Layout}
 use Rattle.sl_area.specs.Places.{area_blocks, blocks_in, blocks_part}
@@ -24,12 +24,11 @@ use Rattle.sl_sector.specs.declared.sector.Block.{Block}
 use Rattle.sl_trace_law.proofs.Sessions.Making.{calls_are_made}
 use Rattle.sl_trace_law.specs.Sessions.Promises.{IsSession, made_as}
 use Rattle.sl_trace.specs.declared.session.Session.{Session}
-use Rattle.sl_trace.specs.Traces.{Submitted, gave, submitted, Setting, new_call}
-use Rattle.sl_trace.specs.declared.effects.Op.TheVariants.{ReadSectors}
+use Rattle.sl_trace.specs.Traces.{Submitted, gave, submitted, Setting}
 use Rattle.sl_trace.specs.declared.effects.Spot.{Spot}
 use Rattle.sl_words.proofs.CaseLaws.{none_some, some_value, false_is_true, true_is_false}
 use Rattle.std.proofs.Common.{ap, refl, sym, ◌∙◌}
-use Rattle.std.specs.Prelude.{Bool, Contains, List, None, Option, Some, false, option_map, true, ℕ, ◌≡◌, []}
+use Rattle.std.specs.Prelude.{Bool, Contains, List, None, Option, Some, false, option_map, true, ℕ, ◌≡◌}
 use Rattle.sl_trace.specs.declared.effects.LeaseStep.TheVariants.{ClearMode, FreeLeader, Phase1Read, Phase1Write, Phase2Read, Phase2Write, ReadAgain, ReadArea, ReadBeforeBlock, ReadBeforeFree, SetMode, TakeLeader}
 use Rattle.sl_trace.specs.declared.effects.LeaseStep.{LeaseStep}
 use Rattle.sl_trace.specs.declared.effects.Purpose.TheVariants.{Joining, Lease, Leaving, Renewal, RequestRead, RequestWrite, SeeRequest, Survey, ValueRead, ValueWrite}
@@ -98,69 +97,6 @@ gives_blocks g q bytes told reads none =
 
 -- ---- at its place, by the law of reads
 
-abbrev purposed : Purpose → Submitted
-purposed p = new_call 0 0 (record { number = 0; session = 0; path = []; offset = 0; op = ReadSectors 0; purpose = p })
-
-area_step : (st : Setting) (at : Spot) (c : Submitted) (work : Work) (step : LeaseStep) → is_area_read (purposed (Lease work step)) ≡ true → IsLeaseRead st at c step → IsAreaRead st at c
-area_step st at c work (ReadArea name) h law = law
-area_step st at c work ReadBeforeFree h law = law
-area_step st at c work ReadBeforeBlock h law = absurd (false_is_true h)
-area_step st at c work (ReadAgain (OfArea name)) h law = law.1
-area_step st at c work (ReadAgain OfFree) h law = law.1
-area_step st at c work (ReadAgain OfBlock) h law = absurd (false_is_true h)
-area_step st at c work (ReadAgain OfPhase1) h law = absurd (false_is_true h)
-area_step st at c work (ReadAgain OfPhase2) h law = absurd (false_is_true h)
-area_step st at c work Phase1Write h law = absurd (false_is_true h)
-area_step st at c work Phase1Read h law = absurd (false_is_true h)
-area_step st at c work Phase2Write h law = absurd (false_is_true h)
-area_step st at c work Phase2Read h law = absurd (false_is_true h)
-area_step st at c work TakeLeader h law = absurd (false_is_true h)
-area_step st at c work SetMode h law = absurd (false_is_true h)
-area_step st at c work FreeLeader h law = absurd (false_is_true h)
-area_step st at c work ClearMode h law = absurd (false_is_true h)
-
-area_right : (st : Setting) (at : Spot) (c : Submitted) (p : Purpose) → is_area_read (purposed p) ≡ true → IsRightRead st at c p → IsAreaRead st at c
-area_right st at c (Lease work step) h law = area_step st at c work step h law
-area_right st at c (Joining j step) h law = absurd (false_is_true h)
-area_right st at c Renewal h law = absurd (false_is_true h)
-area_right st at c Survey h law = absurd (false_is_true h)
-area_right st at c (Leaving j) h law = absurd (false_is_true h)
-area_right st at c (RequestRead j) h law = absurd (false_is_true h)
-area_right st at c (RequestWrite j o) h law = absurd (false_is_true h)
-area_right st at c SeeRequest h law = absurd (false_is_true h)
-area_right st at c (ValueWrite j) h law = absurd (false_is_true h)
-area_right st at c (ValueRead j) h law = absurd (false_is_true h)
-
-phase_step : (st : Setting) (at : Spot) (c : Submitted) (work : Work) (step : LeaseStep) → is_area_read (purposed (Lease work step)) ≡ false → is_block_read (purposed (Lease work step)) ≡ true → IsLeaseRead st at c step → IsBlockRead st at c
-phase_step st at c work (ReadArea name) a h law = absurd (true_is_false a)
-phase_step st at c work ReadBeforeFree a h law = absurd (true_is_false a)
-phase_step st at c work ReadBeforeBlock a h law = law.1
-phase_step st at c work (ReadAgain (OfArea name)) a h law = absurd (true_is_false a)
-phase_step st at c work (ReadAgain OfFree) a h law = absurd (true_is_false a)
-phase_step st at c work (ReadAgain OfBlock) a h law = law.1
-phase_step st at c work (ReadAgain OfPhase1) a h law = law.1
-phase_step st at c work (ReadAgain OfPhase2) a h law = law.1
-phase_step st at c work Phase1Write a h law = absurd (false_is_true h)
-phase_step st at c work Phase1Read a h law = law
-phase_step st at c work Phase2Write a h law = absurd (false_is_true h)
-phase_step st at c work Phase2Read a h law = law
-phase_step st at c work TakeLeader a h law = absurd (false_is_true h)
-phase_step st at c work SetMode a h law = absurd (false_is_true h)
-phase_step st at c work FreeLeader a h law = absurd (false_is_true h)
-phase_step st at c work ClearMode a h law = absurd (false_is_true h)
-
-phase_right : (st : Setting) (at : Spot) (c : Submitted) (p : Purpose) → is_area_read (purposed p) ≡ false → is_block_read (purposed p) ≡ true → IsRightRead st at c p → IsBlockRead st at c
-phase_right st at c (Lease work step) a h law = phase_step st at c work step a h law
-phase_right st at c (Joining j step) a h law = absurd (false_is_true h)
-phase_right st at c Renewal a h law = absurd (false_is_true h)
-phase_right st at c Survey a h law = absurd (false_is_true h)
-phase_right st at c (Leaving j) a h law = absurd (false_is_true h)
-phase_right st at c (RequestRead j) a h law = absurd (false_is_true h)
-phase_right st at c (RequestWrite j o) a h law = absurd (false_is_true h)
-phase_right st at c SeeRequest a h law = absurd (false_is_true h)
-phase_right st at c (ValueWrite j) a h law = absurd (false_is_true h)
-phase_right st at c (ValueRead j) a h law = absurd (false_is_true h)
-
 -- Where each host's block has one sector no read is made once more.
 once_step : (st : Setting) (at : Spot) (c : Submitted) (work : Work) (step : LeaseStep) → st.layout.paired ≡ false → IsLeaseRead st at c step → is_again (purposed (Lease work step)) ≡ false
 once_step st at c work (ReadAgain read) plain law = absurd (true_is_false (sym law.0 ∙ plain))
@@ -208,22 +144,14 @@ look_layout p h xs m a d q k = (promised.of_world p h xs k.run m a d k.at k.has)
 
 pub area_place : (p : Program) (h : Header) (xs : List Happening) (m : ℕ) (a : Machine) (d : Daemon) (q : Submitted) → IsLook p h xs m a d q → is_area_read q ≡ true
     → IsAreaRead d.setting (spot_of_call d.setting.layout q) q
-area_place p h xs m a d q k is =
-    let made = calls_are_made d.trace q k.there in
-    let law = call_law d.setting d.trace k.session q made k.lawful k.its k.mine in
-    let right = area_right d.setting (spot_of_call d.setting.layout q) (made_as made) q.call.purpose is (law.0.area.0.reads made.index q.call k.session made.call law.1) in
-    (right.0, right.1)
+area_place p h xs m a d q k is = placed_area d.setting d.trace k.session q k.lawful k.its k.there k.mine is
 
 pub phase_place : (p : Program) (h : Header) (xs : List Happening) (m : ℕ) (a : Machine) (d : Daemon) (q : Submitted) → IsLook p h xs m a d q → is_area_read q ≡ false
     → is_block_read q ≡ true → IsBlockRead d.setting (spot_of_call d.setting.layout q) q
-phase_place p h xs m a d q k alone is =
-    let made = calls_are_made d.trace q k.there in
-    let law = call_law d.setting d.trace k.session q made k.lawful k.its k.mine in
-    let right = phase_right d.setting (spot_of_call d.setting.layout q) (made_as made) q.call.purpose alone is (law.0.area.0.reads made.index q.call k.session made.call law.1) in
-    (right.0, right.1)
+phase_place p h xs m a d q k alone is = placed_phase d.setting d.trace k.session q k.lawful k.its k.there k.mine alone is
 
 pub look_plain : (p : Program) (h : Header) (xs : List Happening) (m : ℕ) (a : Machine) (d : Daemon) (q : Submitted) → IsLook p h xs m a d q → d.setting.layout.paired ≡ false
-look_plain p h xs m a d q k = ap (λ (g : Layout). g.paired) (look_layout p h xs m a d q k) ∙ plain_in p h xs k.run
+look_plain p h xs m a d q k = ap (λ (g : Layout). g.paired) (look_layout p h xs m a d q k) ∙ plain_in p h xs k.run k.run.header.unpaired
 
 pub once_read : (p : Program) (h : Header) (xs : List Happening) (m : ℕ) (a : Machine) (d : Daemon) (q : Submitted) → IsLook p h xs m a d q → is_again q ≡ false
 once_read p h xs m a d q k =

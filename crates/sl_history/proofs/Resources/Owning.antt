@@ -172,7 +172,7 @@ layout_at p h xs run x s = (promised.of_world p h xs run x.machine s.machine s.d
 
 -- Each host's block has one sector.
 pub plain_at : (p : Program) (h : Header) (xs : List Happening) → LawfulRun p h xs → (x : Sent) (s : Standing (world_at p h xs) x) → (setting_at s).layout.paired ≡ false
-plain_at p h xs run x s = ap (λ (g : Layout). g.paired) (layout_at p h xs run x s) ∙ plain_in p h xs run
+plain_at p h xs run x s = ap (λ (g : Layout). g.paired) (layout_at p h xs run x s) ∙ plain_in p h xs run run.header.unpaired
 
 -- What a session wrote or read on an area before was answered by then, so it was made at an earlier step.
 pub made_before : (p : Program) (h : Header) (xs : List Happening) → LawfulRun p h xs → (x : Sent) (s : Standing (world_at p h xs) x) (c : Course) → Contains s.before c

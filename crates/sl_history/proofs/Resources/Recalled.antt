@@ -7,7 +7,7 @@ use Rattle.sl_trace.proofs.PlainReads.{first_plain, given_plain}
 use Rattle.sl_trace.specs.Leases.{blocks_given as given_after, is_again}
 use Rattle.sl_trace_law.specs.Leases.Fronts.{Aged}
 use Rattle.sl_trace_law.specs.Leases.Promises.{WasAnsweredBy}
-use Rattle.sl_trace.specs.Leases.{Area_read, Phase1_read, Phase2_read, Read_before_block, Read_before_free, block_of_host, is_area_read, is_block_read, is_lease_call, is_on, is_phase_read, kind_of_step, last_blocks, lease_step, same_kind, spot_of_call}
+use Rattle.sl_trace.specs.Leases.{Area_read, Phase1_read, Phase2_read, Read_before_block, Read_before_free, block_of_host, is_area_read, is_block_read, is_lease_call, is_on, kind_of_step, last_blocks, lease_step, same_kind, spot_of_call}
 use Rattle.sl_history.specs.Resources.Once.{blocks_once as blocks_given}
 use Rattle.sl_run_law.proofs.Place.Finding.{finds}
 use Rattle.sl_plain.proofs.Lists.{find_inside}
@@ -42,7 +42,7 @@ use Rattle.sl_trace.specs.declared.effects.Work.{Work}
 use Rattle.sl_trace.specs.declared.input.Answer.TheVariants.{Failed, Read, Written}
 use Rattle.sl_trace.specs.declared.input.Answer.{Answer}
 use Rattle.sl_words.proofs.CaseLaws.{false_is_true, no_value, one_value, some_value}
-use Rattle.sl_words.proofs.WordLaws.{and_true, or_true}
+use Rattle.sl_words.proofs.WordLaws.{and_true}
 use Rattle.sl_words.specs.Words.{some_is}
 use Rattle.std.proofs.Common.{ap, arith, inl, inr, refl, subst, sym, ◌∙◌}
 use Rattle.std.proofs.lemmas.Bool.{and_from, eq-eqb, eqb-true, le-leb, leb-true, or_right}

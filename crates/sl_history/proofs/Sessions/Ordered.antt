@@ -104,7 +104,7 @@ pub record OverAt (p : Program) (h : Header) (xs : List Happening) (lockspace : 
   pub joined : HasJoined found
   pub over : is_over session found ≡ true
 
-over_at : (p : Program) (h : Header) (xs : List Happening) → (lockspace : List ℕ) (o : Holder) (t : ℕ) (f : FrontAt p h xs t)
+pub over_at : (p : Program) (h : Header) (xs : List Happening) → (lockspace : List ℕ) (o : Holder) (t : ℕ) (f : FrontAt p h xs t)
     → some_is (is_over_in (world_by (world_with p h) xs t)) (session_of_holder (world_at p h xs) lockspace o) ≡ true → OverAt p h xs lockspace o f.now f.rest
 over_at p h xs lockspace o t f is =
     let k = over_as (world_at p h xs) (world_at p h f.now) lockspace o

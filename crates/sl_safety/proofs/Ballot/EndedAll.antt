@@ -67,7 +67,7 @@ pub plain_of : (p : Program) (h : Header) (xs : List Happening) → LawfulRun p 
     → (setting_in f).layout.paired ≡ false
 plain_of p h xs run i f its =
     let inside = session_inside (world_at p h xs) i f its in
-    ap (λ (g : Layout). g.paired) (promised.of_world p h xs run i.machine f.machine f.daemon inside.at inside.has).layout ∙ plain_in p h xs run
+    ap (λ (g : Layout). g.paired) (promised.of_world p h xs run i.machine f.machine f.daemon inside.at inside.has).layout ∙ plain_in p h xs run run.header.unpaired
 
 pub ends_in : (f : Found) → (setting_in f).layout.paired ≡ false → (later front : Trace) → trace_of f ≡ later ++ front → (at : Spot) (p : ℕ × Owner)
     → Ended (setting_in f).layout (lease_calls (setting_in f) front f.session at) p → EndsIn f front at p

@@ -156,7 +156,7 @@ leader_looked p h xs m a d q k is bytes told l spells =
     let layout = look_layout p h xs m a d q k in
     let right : IsAreaRead d.setting (spot_of_call d.setting.layout q) q = area_place p h xs m a d q k is in
     let op : q.call.op ≡ ReadSectors (w.layout.hosts + 2) = right.1 ∙ ap (λ g. ReadSectors (area_sectors g)) layout
-    ∙ ap (λ b. ReadSectors (elim b as (λ z. ℕ) [ false ↦ w.layout.hosts | true ↦ 2 * w.layout.hosts ] + 2)) (plain_in p h xs k.run) in
+    ∙ ap (λ b. ReadSectors (elim b as (λ z. ℕ) [ false ↦ w.layout.hosts | true ↦ 2 * w.layout.hosts ] + 2)) (plain_in p h xs k.run k.run.header.unpaired) in
     let offset : q.call.offset ≡ (spot_of_call w.layout q).base = right.0 ∙ ap (λ g. (spot_of_call g q).base) layout in
     let r = read_of promised p h xs k.run m a d k.at k.has q k.there (w.layout.hosts + 2) op bytes told in
     let shown = sector_shown promised p h xs k.run m a d k.at q bytes r 0 (subst (λ o. 0 < sectors_of o) (sym op) (and_two w.layout.hosts)) in
@@ -164,6 +164,6 @@ leader_looked p h xs m a d q k is bytes told l spells =
       bytes = bytes;
       read = r;
       seen = leader_shown p h xs k.run (spot_of_call w.layout q) (sector_of w.layout bytes 0) r.stamp.step l
-          (sym (spelled_plain w.layout (plain_in p h xs k.run) (record_in w.layout (sector_of w.layout bytes 0))) ∙ ap (λ g. leader_of g bytes) (sym layout) ∙ spells)
+          (sym (spelled_plain w.layout (plain_in p h xs k.run k.run.header.unpaired) (record_in w.layout (sector_of w.layout bytes 0))) ∙ ap (λ g. leader_of g bytes) (sym layout) ∙ spells)
           (subst (λ o. IsShown w q.call.path o (sector_of w.layout bytes 0) r.stamp.step) (no_times_more q.call.offset w.layout.sector ∙ offset) shown);
     }

@@ -1,0 +1,20 @@
+mod Sent
+mod Orders
+mod Landed
+mod Telling
+mod Writes
+mod Places
+mod Arrived
+mod Sectors
+mod Looks
+mod TurnLaws
+mod LastTurn
+mod Turns
+mod Knowing
+pub mod Proven
+mod Spelled
+pub mod Given
+pub mod Bridging
+pub mod Hosts
+pub mod Staying
+pub mod Agreeing

@@ -1,0 +1,70 @@
+-- What reads show of a host's pair by the landings that they have sampled: it is computed from the world, as the history of a resource is.
+use Rattle.sl_area.specs.Layouts.{Layout}
+use Rattle.sl_area.specs.Places.{BlocksRead, pair_merged, pair_offset}
+use Rattle.sl_history.specs.Resources.Histories.{is_host}
+use Rattle.sl_history.specs.Resources.Promises.{spot_of_line}
+use Rattle.sl_history.specs.Resources.Reads.{step_given}
+use Rattle.sl_history.specs.Resources.Sending.{Sent}
+use Rattle.sl_pair_history.specs.Reads.{GivesBlocks, SentOf}
+use Rattle.sl_pair_history.specs.Telling.{pair_number, pair_sent, stored_in}
+use Rattle.sl_pairs.specs.Reads.{merged}
+use Rattle.sl_pairs.specs.State.{Stored, later}
+use Rattle.sl_run.specs.Runs.{Happening}
+use Rattle.sl_run.specs.Safety.{LawfulRun, world_at}
+use Rattle.sl_run.specs.Worlds.{Course, Landing, Program, World, history_of}
+use Rattle.sl_run.specs.declared.header.Header.{Header}
+use Rattle.sl_run.specs.declared.header.ResourceLine.{ResourceLine}
+use Rattle.sl_run_law.specs.Sample.Samples.{numbered_landing}
+use Rattle.sl_sector.specs.declared.sector.PairBlock.{PairBlock}
+use Rattle.sl_trace.specs.Leases.{is_again}
+use Rattle.sl_trace.specs.Traces.{new_call}
+use Rattle.sl_trace.specs.declared.effects.Spot.{Spot}
+use Rattle.std.specs.Prelude.{Bool, Contains, List, None, Option, Some, false, option_and_then, option_map, slice_get, true, ℕ, ◌≡◌}
+
+-- ---- by landings
+
+-- The landing that a read has sampled of a sector of the pair.
+abbrev pub sector_sampled : World → Spot → ℕ → Bool → Course → Option Landing
+sector_sampled w at k first c =
+    option_and_then (λ s. numbered_landing (history_of w at.path (pair_offset w.layout at.base k first)) s.index) (slice_get c.samples (pair_number c k first))
+
+-- The block that the sector has in it.
+abbrev pub stored_sampled : World → Spot → ℕ → Bool → Course → Option Stored
+stored_sampled w at k first c = option_and_then (stored_in w k first) (sector_sampled w at k first c)
+
+abbrev pub shown_once : World → Spot → ℕ → Course → Option Stored
+shown_once w at k c = later (stored_sampled w at k true c) (stored_sampled w at k false c)
+
+abbrev pub shown_twice : World → Spot → ℕ → Course → Course → Option Stored
+shown_twice w at k first last =
+    merged (stored_sampled w at k true first) (stored_sampled w at k false first) (stored_sampled w at k true last) (stored_sampled w at k false last)
+
+-- The block that is shown by a read that began with the first of these calls and ended with the last.
+abbrev pub shown_of : World → Spot → ℕ → Course → Course → Option Stored
+shown_of w at k first last = elim (is_again (new_call 0 0 last.call)) [ false ↦ shown_once w at k last | true ↦ shown_twice w at k first last ]
+
+-- .. and by its sender, or by none, where it stood there at first.
+abbrev pub given_shown : World → ResourceLine → ℕ → Course → Course → Option (Option Sent)
+given_shown w r k first last = option_map (λ x. pair_sent w r k x.write) (shown_of w (spot_of_line r) k first last)
+
+-- ---- it is what is given
+
+-- A block that was read, as the pair's states know it: by its turn and the step of its sender.
+pub record StandsFor (w : World) (r : ResourceLine) (k : ℕ) (q : PairBlock) (x : Stored) : Type 0 where
+  pub turn : x.turn ≡ q.turn
+  pub from : Option Sent
+  pub sent : SentOf w r k q from
+  pub write : x.write ≡ step_given from
+
+-- Neither, or both.
+abbrev pub Both : World → ResourceLine → ℕ → Option PairBlock → Option Stored → Type 0
+Both w r k None None = Unit {0}
+Both w r k None (Some x) = ⊥
+Both w r k (Some q) None = ⊥
+Both w r k (Some q) (Some x) = StandsFor w r k q x
+
+-- What a read gives of a host's pair is what is shown of it.
+abbrev pub PairsAreShown : Type 0
+PairsAreShown = (p : Program) (h : Header) (xs : List Happening) (r : ResourceLine) → LawfulRun p h xs → (world_at p h xs).layout.paired ≡ true → Contains h.resources r
+    → (k : ℕ) → is_host (world_at p h xs) k ≡ true → (first last : Sent) (g : BlocksRead) → GivesBlocks (world_at p h xs) r first last g
+    → Both (world_at p h xs) r k (pair_merged (world_at p h xs).layout g k) (shown_of (world_at p h xs) (spot_of_line r) k first.course last.course)
