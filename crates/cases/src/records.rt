@@ -3,7 +3,10 @@
 use crate::word::{number_at, number_of, part, short_at, short_of, shown, word};
 use sl_area::{Geometry, Place};
 use sl_request::{Act, Bitmap, check_request};
-use sl_sector::{Bad, Rec, block_in, decode, push_bad_text, push_record_text, value_in};
+use sl_sector::{
+    Bad, Rec, block_in, decode, leader_in, pair_in, pair_leader_in, push_bad_text,
+    push_record_text, value_in,
+};
 use sl_text::hex::{push_hex, read_hex};
 use sl_value::Version;
 use std::alloc::{AllocError, Global};
@@ -103,6 +106,27 @@ pub fn block_of(alloc: Global, text: &str) -> Result<String, AllocError> {
     }
 }
 
+/// Whether a sector has a block of this host's pair, as its first or its second sector.
+pub fn pair_of(alloc: Global, text: &str) -> Result<String, AllocError> {
+    let sector = sector_of(word(text, 2));
+    match pair_in(short_at(text, 0), word(text, 1) == "first", decode(&sector)) {
+        Some(pair) => format!(in alloc; "turn {}", pair.turn),
+        None => format!(in alloc; "none"),
+    }
+}
+
+/// Which leader a sector has: that of an area with pairs, or that of one without.
+pub fn leader_of(alloc: Global, text: &str) -> Result<String, AllocError> {
+    let sector = sector_of(text);
+    if let Some(leader) = pair_leader_in(decode(&sector)) {
+        return format!(in alloc; "of pairs, lver {}", leader.lver);
+    }
+    match leader_in(decode(&sector)) {
+        Some(leader) => format!(in alloc; "of blocks, lver {}", leader.lver),
+        None => format!(in alloc; "none"),
+    }
+}
+
 /// The value that a sector has.
 pub fn value(alloc: Global, text: &str) -> Result<String, AllocError> {
     let Some(record) = value_in(decode(&sector_of(text))) else {
@@ -141,6 +165,39 @@ pub fn geometry(alloc: Global, text: &str) -> Result<String, AllocError> {
 /// A run with sectors of this size, areas of this size, and so many hosts.
 fn run_of(text: &str) -> Option<Geometry> {
     Geometry::new(short_at(text, 0), number_at(text, 1), short_at(text, 2)).ok()
+}
+
+/// Whether these are a sector's size, an area's and a number of hosts with pairs.
+pub fn paired(alloc: Global, text: &str) -> Result<String, AllocError> {
+    format!(in alloc; "{}", paired_run_of(text).is_some())
+}
+
+/// A run with pairs.
+fn paired_run_of(text: &str) -> Option<Geometry> {
+    Geometry::new2(short_at(text, 0), number_at(text, 1), short_at(text, 2)).ok()
+}
+
+/// Where the two sectors of a host's pair stand.
+fn pair_places(run: Geometry, base: u64, id: u32) -> Option<(Place, Place)> {
+    if run.is_paired() && run.is_base(base) && 1 <= id && id <= run.hosts() {
+        Some((run.pair_place(base, id, true), run.turn_place(base, id, 2)))
+    } else {
+        None
+    }
+}
+
+/// Places of the area with pairs at this offset, where one begins: those of host `id`.
+pub fn pairs(alloc: Global, text: &str) -> Result<String, AllocError> {
+    let Some(run) = paired_run_of(text) else {
+        return format!(in alloc; "no run");
+    };
+    let (base, id) = (number_at(text, 3), short_at(text, 4));
+    match pair_places(run, base, id) {
+        Some((first, second)) => {
+            format!(in alloc; "first {} second {}", first.offset(), second.offset())
+        }
+        None => format!(in alloc; "none"),
+    }
 }
 
 /// Places of the area at this offset, where one begins: those of host `id`.

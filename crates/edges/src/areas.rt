@@ -1,6 +1,6 @@
 //! The area in memory with each call failing in turn, and the area over files of the system.
 
-ghost use Rattle.std.specs.Prelude.{IfOk, ◌≡◌};
+ghost use Rattle.std.specs.Prelude.{IfOk, false, ◌≡◌};
 
 use sl_area::{Area, FileArea, Geometry, MemArea};
 use std::alloc::Global;
@@ -10,7 +10,7 @@ use std::{fs, io};
 
 /// Sectors of 512 bytes and areas of a mebibyte, for three hosts.
 pub fn small() -> io::Result<Geometry>
-    ensures { IfOk result (λ g. g ≡ record { sector = 512; area = 1048576; hosts = 3 }) }
+    ensures { IfOk result (λ g. g ≡ record { sector = 512; area = 1048576; hosts = 3; paired = false }) }
 {
     match Geometry::new(512, 1_048_576, 3) {
         Ok(run) => Ok(run),
@@ -27,7 +27,7 @@ struct Round {
 
 /// Writes two sectors, of ones and of twos, and reads both back into nines.
 fn write_and_read<A: Area>(area: &mut A, run: Geometry) -> Round
-    requires { run ≡ record { sector = 512; area = 1048576; hosts = 3 } }
+    requires { run ≡ record { sector = 512; area = 1048576; hosts = 3; paired = false } }
 {
     let mut read = [9; 1024];
     let mut done = 0;

@@ -3,16 +3,16 @@ use Rattle.sl_acts.proofs.LoopsKeep.{for_each_keeps, when_keeps, with_some_keeps
 use Rattle.sl_acts.proofs.SessionsStay.{asked_stays, itself}
 use Rattle.sl_acts.specs.Acts.{Has}
 use Rattle.sl_acts.specs.Plainly.{ByEffects}
-use Rattle.sl_area.specs.Places.{block_offset, leader_offset}
+use Rattle.sl_area.specs.Places.{area_sectors, block_offset, block_place, block_record, block_sectors, leader_offset, leader_record}
 use Rattle.sl_due.specs.DueDelta.{carry_delta, for_joining, move_connection, read_own_sector, register, survey, write_own_sector}
 use Rattle.sl_due.specs.DueFirst.{refuse, remove_connection, remove_of_refused, send, signal_and_refuse, signal_holders}
-use Rattle.sl_due.specs.DueLease.{carry_lease, convert_for, convert_holding, for_work, grant_for, held_otherwise, read_for, with_command}
+use Rattle.sl_due.specs.DueLease.{carry_lease, convert_for, convert_holding, for_work, grant_for, held_otherwise, name_on, next_turn, read_for, with_command}
 use Rattle.sl_due.specs.Steps.{Step, add_move, add_reply, add_signal, add_start, seen, with_some}
 use Rattle.sl_trace.specs.Counts.{stopper_of}
 use Rattle.sl_trace.specs.Jobs.{command_numbered, jobs_of_session, process_named}
 use Rattle.sl_trace.specs.declared.lease.LeaseNext.TheVariants.{AnswerJob, BecomeExclusive, BecomeShared, GrantJob, Nothing as No_lease, ReadFor, WriteBlock, WriteLeader}
 use Rattle.sl_trace.specs.declared.lease.LeaseNext.{LeaseNext}
-use Rattle.sl_sector.specs.declared.sector.Rec.TheVariants.{BlockIs, DeltaIs, LeaderIs}
+use Rattle.sl_sector.specs.declared.sector.Rec.TheVariants.{DeltaIs}
 use Rattle.sl_trace.specs.Deltas.{own_offset}
 use Rattle.sl_trace.specs.Sessions.{has_open_write, holders_of, last_renewal, refused_after, session_of_job}
 use Rattle.sl_trace.specs.declared.delta.DeltaNext.TheVariants.{Disconnect, EndLeaving, Join, MoveConnection, Nothing, ReadOwn, RefuseJoin, RegisterAndRead, WriteClaim, WriteFirst, WriteFree, WriteRenewal}
@@ -24,7 +24,8 @@ use Rattle.sl_trace.specs.Traces.{Job, end_of, is_running, next_child, work_job}
 use Rattle.sl_trace.specs.declared.command.Command.TheVariants.{Acquire, RunProgram, TakeOver}
 use Rattle.sl_trace.specs.declared.command.Command.{Command}
 use Rattle.sl_trace.specs.declared.effects.JoinStep.TheVariants.{ClaimWrite, FirstRenewal}
-use Rattle.sl_trace.specs.declared.effects.LeaseStep.TheVariants.{ClearMode, FreeLeader, ReadArea, ReadBeforeFree}
+use Rattle.sl_trace.specs.declared.effects.LeaseRead.TheVariants.{OfArea, OfFree}
+use Rattle.sl_trace.specs.declared.effects.LeaseStep.TheVariants.{ClearMode, FreeLeader, ReadAgain, ReadArea, ReadBeforeFree}
 use Rattle.sl_trace.specs.declared.effects.LeaseStep.{LeaseStep}
 use Rattle.sl_trace.specs.declared.effects.Mode.TheVariants.{Exclusive, Shared}
 use Rattle.sl_trace.specs.declared.effects.Mode.{Mode}
@@ -110,9 +111,11 @@ delta K p y s has (EndLeaving j r) h =
 -- ---- what a lease decided
 
 pub reading : (K : Step → Type 0) → ByEffects K → (y : Step) (s : Session) → Has y s → (at : Spot) (work : Work) (step : LeaseStep) → K y → K (read_for s at work step y)
-reading K p y s has at work (ReadArea name) h = p.calls y s at.path (Lease work (ReadArea name)) at.base (ReadSectors (y.setting.layout.hosts + 2)) has h
-reading K p y s has at work ReadBeforeFree h = p.calls y s at.path (Lease work ReadBeforeFree) at.base (ReadSectors (y.setting.layout.hosts + 2)) has h
-reading K p y s has at work step h = p.calls y s at.path (Lease work step) (block_offset y.setting.layout at.base 1) (ReadSectors y.setting.layout.hosts) has h
+reading K p y s has at work (ReadArea name) h = p.calls y s at.path (Lease work (ReadArea name)) at.base (ReadSectors (area_sectors y.setting.layout)) has h
+reading K p y s has at work ReadBeforeFree h = p.calls y s at.path (Lease work ReadBeforeFree) at.base (ReadSectors (area_sectors y.setting.layout)) has h
+reading K p y s has at work (ReadAgain (OfArea name)) h = p.calls y s at.path (Lease work (ReadAgain (OfArea name))) at.base (ReadSectors (area_sectors y.setting.layout)) has h
+reading K p y s has at work (ReadAgain OfFree) h = p.calls y s at.path (Lease work (ReadAgain OfFree)) at.base (ReadSectors (area_sectors y.setting.layout)) has h
+reading K p y s has at work step h = p.calls y s at.path (Lease work step) (block_offset y.setting.layout at.base 1) (ReadSectors (block_sectors y.setting.layout)) has h
 
 pub granting : (K : Step → Type 0) → ByEffects K → (y : Step) (s : Session) (j : ℕ) (c : Command) (mode : Mode) (lver : ℕ) → K y → K (grant_for s j c mode lver y)
 granting K p y s j (Acquire r shared q persistent) mode lver h = p.replies _ j _ (p.grants y _ h)
@@ -139,8 +142,9 @@ pub lease : (K : Step → Type 0) → ByEffects K → (y : Step) (s : Session) �
 unfolding carry_lease
 lease K p y s has at work No_lease h = h
 lease K p y s has at work (ReadFor step) h = reading K p y s has at work step h
-lease K p y s has at work (WriteBlock step b) h = p.calls y s at.path (Lease work step) (block_offset y.setting.layout at.base s.id) (WriteRecord (BlockIs b)) has h
-lease K p y s has at work (WriteLeader step l) h = p.calls y s at.path (Lease work step) (leader_offset at.base) (WriteRecord (LeaderIs l)) has h
+lease K p y s has at work (WriteBlock step b) h = p.calls y s at.path (Lease work step) (block_place y.setting.layout at.base s.id (next_turn y.setting (seen y) s at))
+    (WriteRecord (block_record y.setting.layout (next_turn y.setting (seen y) s at) s.lockspace (name_on y.setting (seen y) s at) b)) has h
+lease K p y s has at work (WriteLeader step l) h = p.calls y s at.path (Lease work step) (leader_offset at.base) (WriteRecord (leader_record y.setting.layout l)) has h
 lease K p y s has at work (AnswerJob r) h = with_some_keeps K (work_job work) (λ j. add_reply j r) y (λ j is k. p.replies y j r k) h
 lease K p y s has at work (GrantJob mode lver) h =
     with_some_keeps K (work_job work) (λ j. with_command j (λ c. grant_for s j c mode lver)) y
@@ -148,8 +152,9 @@ lease K p y s has at work (GrantJob mode lver) h =
 lease K p y s has at work (BecomeShared lver l) h =
     let z : Step = for_work work (λ j. with_command j (λ c. convert_for s at j c Shared lver)) y in
     let there : Has z s = still_has y s at work Shared lver has in
-    p.calls z s at.path (Lease Settling FreeLeader) (leader_offset at.base) (WriteRecord (LeaderIs l)) there (converted K p y s at work Shared lver h)
+    p.calls z s at.path (Lease Settling FreeLeader) (leader_offset at.base) (WriteRecord (leader_record z.setting.layout l)) there (converted K p y s at work Shared lver h)
 lease K p y s has at work (BecomeExclusive lver b) h =
     let z : Step = for_work work (λ j. with_command j (λ c. convert_for s at j c Exclusive lver)) y in
     let there : Has z s = still_has y s at work Exclusive lver has in
-    p.calls z s at.path (Lease Settling ClearMode) (block_offset z.setting.layout at.base s.id) (WriteRecord (BlockIs b)) there (converted K p y s at work Exclusive lver h)
+    p.calls z s at.path (Lease Settling ClearMode) (block_place z.setting.layout at.base s.id (next_turn z.setting (seen z) s at))
+    (WriteRecord (block_record z.setting.layout (next_turn z.setting (seen z) s at) s.lockspace (name_on z.setting (seen z) s at) b)) there (converted K p y s at work Exclusive lver h)

@@ -5,7 +5,7 @@ use Rattle.sl_acts.proofs.EffectsKeep.{delta, granting, lease, reading, refusal,
 use Rattle.sl_acts.proofs.InputsKeep.{has_heard}
 use Rattle.sl_acts.proofs.LoopsKeep.{for_each_keeps, when_keeps}
 use Rattle.sl_acts.proofs.WakesKeep.{present_has}
-use Rattle.sl_acts.specs.Acts.{Acts, Has}
+use Rattle.sl_acts.specs.Acts.{Acts, Has, next_of_conversion, next_of_release}
 use Rattle.sl_acts.specs.Plainly.{ByEffects, Plainly}
 use Rattle.sl_acts.specs.SoFar.{entry_of}
 use Rattle.sl_area.specs.Places.{request_offset, value_offset}
@@ -17,7 +17,6 @@ use Rattle.sl_due.specs.Steps.{Step, add_end, add_grant, add_reply, seen, with_i
 use Rattle.sl_due.specs.declared.decision.Decision.TheVariants.{ConvertsTo, GetsValue, GivesUp, Joins, Leaves, ReadsArea, Replies, Requests, SetsValue, Shares, TakesOver}
 use Rattle.sl_due.specs.declared.decision.Decision.{Decision}
 use Rattle.sl_trace.specs.Jobs.{is_job_of_process, job_of_start}
-use Rattle.sl_trace.specs.LeaseWork.{convert_next, lease_place, release_next}
 use Rattle.sl_trace.specs.Leases.{holdings_on, known, spot_of}
 use Rattle.sl_sector.specs.declared.sector.Rec.TheVariants.{RequestIs, ValueIs}
 use Rattle.sl_trace.specs.Sessions.{is_join_call, sessions}
@@ -70,9 +69,9 @@ said K p x None r h = h
 said K p x (Some j) r h = when_keeps K (is_running (seen x) j) (add_reply j r) x (λ runs k. p.replies x j r k) h
 
 given_up : (K : Step → Type 0) → ByEffects K → (y : Step) (s : Session) → Has y s → (at : Spot) (j : ℕ) (g : Grant) → (hs : List Grant) → holdings_on (seen y) s at ≡ hs → K y
-    → K (elim hs as (λ z. Step) [ h ∷ rest ↦ add_reply j Done y | [] ↦ carry_lease s at (ForJob j) (release_next (lease_place y.setting s) (known y.setting (seen y) s at) g.mode g.lver) y ])
+    → K (elim hs as (λ z. Step) [ h ∷ rest ↦ add_reply j Done y | [] ↦ carry_lease s at (ForJob j) (next_of_release y.setting (seen y) s at g) y ])
 given_up K p y s has at j g (h ∷ rest) is k = p.replies y j Done k
-given_up K p y s has at j g [] is k = lease K p y s has at (ForJob j) (release_next (lease_place y.setting s) (known y.setting (seen y) s at) g.mode g.lver) k
+given_up K p y s has at j g [] is k = lease K p y s has at (ForJob j) (next_of_release y.setting (seen y) s at g) k
 
 -- What a decision does after its line was seen.
 pub decision_kept : (K : Step → Type 0) → ByEffects K → (y : Step) (j : ℕ) (c : Command) (d : Decision) → Of (Has y) d → ((n : ℕ) (a : LockspaceArg) → d ≡ Joins n a → K (carry_decision j c (Joins n a) y)) → K y
@@ -87,7 +86,7 @@ decision_kept K p y j c (GivesUp s g) has begins h =
     let z : Step = add_end (end_of g) y in
     given_up K p z s has (spot_of_grant g) j g (holdings_on (seen z) s (spot_of_grant g)) refl (p.ends y (end_of g) h)
 decision_kept K p y j c (TakesOver s g) has begins h = granting K p (add_end (end_of g) y) s j c g.mode g.lver (p.ends y (end_of g) h)
-decision_kept K p y j c (ConvertsTo s r mode) has begins h = lease K p y s has (spot_of r) (ForJob j) (convert_next (known y.setting (seen y) s (spot_of r)) mode r.name) h
+decision_kept K p y j c (ConvertsTo s r mode) has begins h = lease K p y s has (spot_of r) (ForJob j) (next_of_conversion y.setting (seen y) s (spot_of r) mode r.name) h
 decision_kept K p y j c (Requests s r) has begins h = p.calls y s r.path (RequestRead j) r.offset (ReadSectors 2) has h
 decision_kept K p y j c (SetsValue s at v) has begins h = p.calls y s at.path (ValueWrite j) (value_offset y.setting.layout at.base) (WriteRecord (ValueIs v)) has h
 decision_kept K p y j c (GetsValue s at) has begins h = p.calls y s at.path (ValueRead j) (value_offset y.setting.layout at.base) (ReadSectors 1) has h

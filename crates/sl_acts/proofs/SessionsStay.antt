@@ -3,16 +3,16 @@ use Rattle.sl_acts.proofs.Additions.{any_stays, begun_by}
 use Rattle.sl_acts.proofs.LoopsKeep.{when_keeps, with_some_keeps}
 use Rattle.sl_acts.specs.Acts.{Has}
 use Rattle.sl_acts.specs.SoFar.{entry_of}
-use Rattle.sl_area.specs.Places.{block_offset, leader_offset}
+use Rattle.sl_area.specs.Places.{area_sectors, block_offset, block_place, block_record, block_sectors, leader_offset, leader_record}
 use Rattle.sl_due.specs.DueDelta.{carry_delta, for_joining, move_connection, read_own_sector, register, survey, write_own_sector}
 use Rattle.sl_due.specs.DueFirst.{refuse, remove_connection, remove_of_refused}
-use Rattle.sl_due.specs.DueLease.{carry_lease, convert_for, convert_holding, for_work, grant_for, held_otherwise, read_for, with_command}
+use Rattle.sl_due.specs.DueLease.{carry_lease, convert_for, convert_holding, for_work, grant_for, held_otherwise, name_on, next_turn, read_area, read_for, with_command}
 use Rattle.sl_due.specs.Steps.{Step, add_call_of, add_move, add_reply, seen, with_some}
 use Rattle.sl_trace.specs.Jobs.{command_numbered, process_named}
 use Rattle.sl_trace.specs.declared.lease.LeaseNext.TheVariants.{AnswerJob, BecomeExclusive, BecomeShared, GrantJob, Nothing as No_lease, ReadFor, WriteBlock, WriteLeader}
 use Rattle.sl_trace.specs.declared.lease.LeaseNext.{LeaseNext}
 use Rattle.sl_plain.proofs.Lists.{got_before}
-use Rattle.sl_sector.specs.declared.sector.Rec.TheVariants.{BlockIs, DeltaIs, LeaderIs}
+use Rattle.sl_sector.specs.declared.sector.Rec.TheVariants.{DeltaIs}
 use Rattle.sl_trace.specs.Deltas.{own_offset}
 use Rattle.sl_trace.specs.Sessions.{has_open_write, is_join_call, refused_after, session_numbered, session_of_job, sessions}
 use Rattle.sl_trace.specs.declared.delta.DeltaNext.TheVariants.{Disconnect, EndLeaving, Join, MoveConnection, Nothing, ReadOwn, RefuseJoin, RegisterAndRead, WriteClaim, WriteFirst, WriteFree, WriteRenewal}
@@ -27,7 +27,8 @@ use Rattle.sl_trace.specs.declared.command.Command.{Command}
 use Rattle.sl_trace.specs.declared.effects.Call.{Call}
 use Rattle.sl_trace.specs.declared.effects.Entry.{Entry}
 use Rattle.sl_trace.specs.declared.effects.JoinStep.TheVariants.{ClaimWrite, FirstRead, FirstRenewal}
-use Rattle.sl_trace.specs.declared.effects.LeaseStep.TheVariants.{ClearMode, FreeLeader, ReadArea, ReadBeforeFree}
+use Rattle.sl_trace.specs.declared.effects.LeaseRead.TheVariants.{OfArea, OfFree}
+use Rattle.sl_trace.specs.declared.effects.LeaseStep.TheVariants.{ClearMode, FreeLeader, ReadAgain, ReadArea, ReadBeforeFree}
 use Rattle.sl_trace.specs.declared.effects.LeaseStep.{LeaseStep}
 use Rattle.sl_trace.specs.declared.effects.Mode.TheVariants.{Exclusive, Shared}
 use Rattle.sl_trace.specs.declared.effects.Mode.{Mode}
@@ -124,10 +125,15 @@ delta_stays x y s (EndLeaving j r) h =
 
 -- ---- what a lease decided
 
+area_stays : (x y : Step) (s : Session) (at : Spot) (work : Work) (step : LeaseStep) → Stays x y → Stays x (read_area s at work step y)
+area_stays x y s at work step h = call_stays x y s.number at.path (Lease work step) at.base (ReadSectors (area_sectors y.setting.layout)) h
+
 read_stays : (x y : Step) (s : Session) (at : Spot) (work : Work) (step : LeaseStep) → Stays x y → Stays x (read_for s at work step y)
-read_stays x y s at work (ReadArea name) h = call_stays x y s.number at.path (Lease work (ReadArea name)) at.base (ReadSectors (y.setting.layout.hosts + 2)) h
-read_stays x y s at work ReadBeforeFree h = call_stays x y s.number at.path (Lease work ReadBeforeFree) at.base (ReadSectors (y.setting.layout.hosts + 2)) h
-read_stays x y s at work step h = call_stays x y s.number at.path (Lease work step) (block_offset y.setting.layout at.base 1) (ReadSectors y.setting.layout.hosts) h
+read_stays x y s at work (ReadArea name) h = area_stays x y s at work (ReadArea name) h
+read_stays x y s at work ReadBeforeFree h = area_stays x y s at work ReadBeforeFree h
+read_stays x y s at work (ReadAgain (OfArea name)) h = area_stays x y s at work (ReadAgain (OfArea name)) h
+read_stays x y s at work (ReadAgain OfFree) h = area_stays x y s at work (ReadAgain OfFree) h
+read_stays x y s at work step h = call_stays x y s.number at.path (Lease work step) (block_offset y.setting.layout at.base 1) (ReadSectors (block_sectors y.setting.layout)) h
 
 granted_stays : (x y : Step) (s : Session) (j : ℕ) (c : Command) (mode : Mode) (lver : ℕ) → Stays x y → Stays x (grant_for s j c mode lver y)
 granted_stays x y s j (Acquire r shared p persistent) mode lver h = record { sessions = h.sessions; input = h.input }
@@ -149,15 +155,17 @@ pub lease_stays : (x y : Step) (s : Session) (at : Spot) (work : Work) (n : Leas
 unfolding carry_lease
 lease_stays x y s at work No_lease h = h
 lease_stays x y s at work (ReadFor step) h = read_stays x y s at work step h
-lease_stays x y s at work (WriteBlock step b) h = call_stays x y s.number at.path (Lease work step) (block_offset y.setting.layout at.base s.id) (WriteRecord (BlockIs b)) h
-lease_stays x y s at work (WriteLeader step l) h = call_stays x y s.number at.path (Lease work step) (leader_offset at.base) (WriteRecord (LeaderIs l)) h
+lease_stays x y s at work (WriteBlock step b) h = call_stays x y s.number at.path (Lease work step) (block_place y.setting.layout at.base s.id (next_turn y.setting (seen y) s at))
+    (WriteRecord (block_record y.setting.layout (next_turn y.setting (seen y) s at) s.lockspace (name_on y.setting (seen y) s at) b)) h
+lease_stays x y s at work (WriteLeader step l) h = call_stays x y s.number at.path (Lease work step) (leader_offset at.base) (WriteRecord (leader_record y.setting.layout l)) h
 lease_stays x y s at work (AnswerJob r) h = with_some_keeps (Stays x) (work_job work) (λ j. add_reply j r) y (λ j is k. reply_stays x y j r k) h
 lease_stays x y s at work (GrantJob mode lver) h =
     with_some_keeps (Stays x) (work_job work) (λ j. with_command j (λ c. grant_for s j c mode lver)) y
     (λ j is k. with_some_keeps (Stays x) (command_numbered y.setting (seen y) j) (λ c. grant_for s j c mode lver) y (λ c at k. granted_stays x y s j c mode lver k) k) h
 lease_stays x y s at work (BecomeShared lver l) h =
     let z : Step = for_work work (λ j. with_command j (λ c. convert_for s at j c Shared lver)) y in
-    call_stays x z s.number at.path (Lease Settling FreeLeader) (leader_offset at.base) (WriteRecord (LeaderIs l)) (asked_stays x y s at work Shared lver h)
+    call_stays x z s.number at.path (Lease Settling FreeLeader) (leader_offset at.base) (WriteRecord (leader_record z.setting.layout l)) (asked_stays x y s at work Shared lver h)
 lease_stays x y s at work (BecomeExclusive lver b) h =
     let z : Step = for_work work (λ j. with_command j (λ c. convert_for s at j c Exclusive lver)) y in
-    call_stays x z s.number at.path (Lease Settling ClearMode) (block_offset z.setting.layout at.base s.id) (WriteRecord (BlockIs b)) (asked_stays x y s at work Exclusive lver h)
+    call_stays x z s.number at.path (Lease Settling ClearMode) (block_place z.setting.layout at.base s.id (next_turn z.setting (seen z) s at))
+    (WriteRecord (block_record z.setting.layout (next_turn z.setting (seen z) s at) s.lockspace (name_on z.setting (seen z) s at) b)) (asked_stays x y s at work Exclusive lver h)

@@ -2,14 +2,13 @@
 use Rattle.sl_acts.proofs.Additions.{contains_at, not_is}
 use Rattle.sl_acts.proofs.LoopsKeep.{for_each_keeps, when_keeps, with_some_keeps}
 use Rattle.sl_acts.proofs.SessionsStay.{Stays, delta_stays, itself, lease_stays, removal_stays}
-use Rattle.sl_acts.specs.Acts.{Has, OtherActs}
+use Rattle.sl_acts.specs.Acts.{Has, OtherActs, next_of_settling}
 use Rattle.sl_due.specs.DueDelta.{carry_delta}
 use Rattle.sl_due.specs.DueFirst.{remove_connection}
 use Rattle.sl_due.specs.DueLease.{carry_lease, settle}
 use Rattle.sl_due.specs.DueRequests.{bits_due}
 use Rattle.sl_due.specs.DueWake.{end_if_done, finish, finish_session, for_sessions, free_if_done, join_on_wake, on_wake, renew_on_wake, settle_on_wake, settlings}
 use Rattle.sl_due.specs.Steps.{Step, for_each, seen, when}
-use Rattle.sl_trace.specs.LeaseWork.{lease_place, settle_next}
 use Rattle.sl_trace.specs.Leases.{is_lease_call, is_spot_before, known, lease_spots, open_on, spot_of_call, spots_in, with_spot}
 use Rattle.sl_trace.specs.declared.lease.LeaseNext.TheVariants.{AnswerJob, BecomeExclusive, BecomeShared, GrantJob, Nothing, ReadFor, WriteBlock, WriteLeader}
 use Rattle.sl_trace.specs.declared.lease.LeaseNext.{LeaseNext}
@@ -19,7 +18,8 @@ use Rattle.sl_trace.specs.Sessions.{calls_of, has_open_write, holdings_of, is_ac
 use Rattle.sl_trace.specs.declared.session.Session.{Session}
 use Rattle.sl_area.specs.Layouts.{Layout}
 use Rattle.sl_trace.specs.Traces.{Setting, Submitted, is_running, same_spot}
-use Rattle.sl_trace.specs.declared.effects.LeaseStep.TheVariants.{ReadArea, ReadBeforeFree}
+use Rattle.sl_trace.specs.declared.effects.LeaseRead.TheVariants.{OfArea, OfFree}
+use Rattle.sl_trace.specs.declared.effects.LeaseStep.TheVariants.{ReadAgain, ReadArea, ReadBeforeFree}
 use Rattle.sl_trace.specs.declared.effects.Spot.{Spot}
 use Rattle.sl_trace.specs.declared.effects.Work.TheVariants.{Settling}
 use Rattle.sl_trace.specs.declared.input.Input.TheVariants.{Wake}
@@ -71,6 +71,8 @@ unfolding carry_lease
 still_active s at Nothing z h = h
 still_active s at (ReadFor (ReadArea name)) z h = h
 still_active s at (ReadFor ReadBeforeFree) z h = h
+still_active s at (ReadFor (ReadAgain (OfArea name))) z h = h
+still_active s at (ReadFor (ReadAgain OfFree)) z h = h
 still_active s at (ReadFor step) z h = h
 still_active s at (WriteBlock step b) z h = h
 still_active s at (WriteLeader step l) z h = h
@@ -84,6 +86,8 @@ unfolding carry_lease
 same_setting s at Nothing z = refl
 same_setting s at (ReadFor (ReadArea name)) z = refl
 same_setting s at (ReadFor ReadBeforeFree) z = refl
+same_setting s at (ReadFor (ReadAgain (OfArea name))) z = refl
+same_setting s at (ReadFor (ReadAgain OfFree)) z = refl
 same_setting s at (ReadFor step) z = refl
 same_setting s at (WriteBlock step b) z = refl
 same_setting s at (WriteLeader step l) z = refl
@@ -126,14 +130,14 @@ all_begin g (m ∷ ms) at there = by (is_lease_call m) there (λ deeper. all_beg
 settles_one : (I : Step → Type 0) → OtherActs I → (st : Setting) (x : Step) (s : Session) → Has x s → x.input ≡ Wake → (at : Spot) → at.base % st.layout.area ≡ 0 → (z : Step) → Active I st x s z → Active I st x s (settle_on_wake s at z)
 unfolding settle_on_wake settle
 settles_one I k st x s has wake at begins z g =
-    when_keeps (Active I st x s) (is_empty (open_on z.setting (seen z) at)) (λ w. carry_lease s at Settling (settle_next (lease_place w.setting s) (known w.setting (seen w) s at)) w) z
+    when_keeps (Active I st x s) (is_empty (open_on z.setting (seen z) at)) (λ w. carry_lease s at Settling (next_of_settling w.setting (seen w) s at) w) z
     (λ none f. (
       (
         k.settles z s at (f.0.1.sessions s has) (f.0.1.input ∙ wake) f.1 (subst (λ w. at.base % w.layout.area ≡ 0) (sym f.2) begins) (empty_is (open_on z.setting (seen z) at) none) f.0.0,
-        lease_stays x z s at Settling (settle_next (lease_place z.setting s) (known z.setting (seen z) s at)) f.0.1,
+        lease_stays x z s at Settling (next_of_settling z.setting (seen z) s at) f.0.1,
       ),
-      still_active s at (settle_next (lease_place z.setting s) (known z.setting (seen z) s at)) z f.1,
-      same_setting s at (settle_next (lease_place z.setting s) (known z.setting (seen z) s at)) z ∙ f.2,
+      still_active s at (next_of_settling z.setting (seen z) s at) z f.1,
+      same_setting s at (next_of_settling z.setting (seen z) s at) z ∙ f.2,
     )) g
 
 settles_then : (I : Step → Type 0) → OtherActs I → (x : Step) (s : Session) → Has x s → x.input ≡ Wake → (y : Step) → Since I x y → Since I x (settlings s y)

@@ -10,17 +10,20 @@ use Rattle.sl_due.specs.Steps.{Step, add_reply, add_signal, seen, with_input}
 use Rattle.sl_due.specs.declared.decision.Decision.TheVariants.{Replies}
 use Rattle.sl_due.specs.declared.decision.Decision.{Decision}
 use Rattle.sl_trace.specs.Jobs.{aim_of, command_numbered, job_of_start}
-use Rattle.sl_trace.specs.LeaseWork.{lease_place, settle_next}
+use Rattle.sl_trace.specs.LeaseWork.{convert_next, lease_place, release_next, settle_begin, within_turn}
 use Rattle.sl_trace.specs.Leases.{exclusive_on, known, open_on, spot_of_call}
+use Rattle.sl_trace.specs.declared.lease.Aim.TheVariants.{Converts, Releases, Settles}
 use Rattle.sl_trace.specs.declared.lease.Aim.{Aim}
+use Rattle.sl_trace.specs.declared.lease.LeaseNext.{LeaseNext}
 use Rattle.sl_trace.specs.Deltas.{delta_known, delta_of_session, next_after_free, next_after_renewal, next_free, next_in_joining, next_on_wake, next_renewal}
 use Rattle.sl_trace.specs.Sessions.{calls_of, generation_of, has_open_write, holdings_of, is_active, is_joined, is_present, open_calls_of, recovery_of, session_numbered}
 use Rattle.sl_trace.specs.declared.session.Session.{Session}
-use Rattle.sl_trace.specs.Traces.{Submitted, bytes_given, call_numbered, is_expected, is_orphan, is_running, next_job, no_process, stands_for, waiting_call}
+use Rattle.sl_trace.specs.Traces.{Setting, Submitted, Trace, bytes_given, call_numbered, is_expected, is_orphan, is_running, next_job, no_process, stands_for, waiting_call}
 use Rattle.sl_trace.specs.declared.command.Command.{Command}
 use Rattle.sl_trace.specs.declared.effects.Grant.{Grant}
 use Rattle.sl_trace.specs.declared.effects.JoinStep.{JoinStep}
 use Rattle.sl_trace.specs.declared.effects.LeaseStep.{LeaseStep}
+use Rattle.sl_trace.specs.declared.effects.Mode.{Mode}
 use Rattle.sl_trace.specs.declared.effects.Purpose.TheVariants.{Joining, Lease, Leaving, Renewal, RequestRead, RequestWrite, SeeRequest, Survey, ValueRead, ValueWrite}
 use Rattle.sl_trace.specs.declared.effects.Purpose.{Purpose}
 use Rattle.sl_trace.specs.declared.effects.Signal.TheVariants.{Kill, Term}
@@ -35,6 +38,18 @@ use Rattle.sl_trace.specs.declared.input.Input.{Input}
 use Rattle.sl_trace.specs.declared.reply.Reply.TheVariants.{BadCommand as Misread, Done, IoFault, IoTimeout, SpawnFault}
 use Rattle.sl_trace.specs.declared.reply.Reply.{Reply}
 use Rattle.std.specs.Prelude.{Bool, Err, IsSome, IsTrue, List, None, Ok, Option, Some, false, is_some, true, [], ℕ, ◌%◌, ◌==◌, ◌≡◌, ◌⊎◌}
+
+-- What a settling of the session on the area does next.
+abbrev pub next_of_settling : Setting → Trace → Session → Spot → LeaseNext
+next_of_settling st es s at = within_turn (lease_place st s) (known st es s at) Settles (settle_begin (lease_place st s) (known st es s at))
+
+-- What the release of the grant begins with.
+abbrev pub next_of_release : Setting → Trace → Session → Spot → Grant → LeaseNext
+next_of_release st es s at g = within_turn (lease_place st s) (known st es s at) Releases (release_next (lease_place st s) (known st es s at) g.mode g.lver)
+
+-- What a conversion to the mode begins with.
+abbrev pub next_of_conversion : Setting → Trace → Session → Spot → Mode → List ℕ → LeaseNext
+next_of_conversion st es s at mode name = within_turn (lease_place st s) (known st es s at) (Converts mode) (convert_next (known st es s at) mode name)
 
 -- The session is one of the trace so far.
 abbrev pub Has : Step → Session → Type 0
@@ -124,7 +139,7 @@ pub record Acts (I J : Step → Type 0) : Type 0 where
       J (carry_delta s
       (next_renewal (delta_of_session x.setting s) x.reading (delta_known x.setting (seen x) s) (bits_due x.setting (calls_of (seen x) s) x.reading)) x)
   pub settles : (x : Step) (s : Session) (at : Spot) → Has x s → x.input ≡ Wake → is_active x.setting (seen x) s ≡ true → at.base % x.setting.layout.area ≡ 0 → open_on x.setting (seen x) at ≡ [] → I x →
-      J (carry_lease s at Settling (settle_next (lease_place x.setting s) (known x.setting (seen x) s at)) x)
+      J (carry_lease s at Settling (next_of_settling x.setting (seen x) s at) x)
   -- ---- last
   pub parts : (x : Step) (s : Session) → Has x s → is_joined (seen x) s ≡ true → is_some (recovery_of x.setting (seen x) s) ≡ true → holdings_of (seen x) s ≡ [] →
       has_open_write (seen x) s ≡ false → I x → J (remove_connection s.lockspace x)
@@ -155,7 +170,7 @@ pub record OtherActs (J : Step → Type 0) : Type 0 where
       J (carry_delta s
       (next_renewal (delta_of_session x.setting s) x.reading (delta_known x.setting (seen x) s) (bits_due x.setting (calls_of (seen x) s) x.reading)) x)
   pub settles : (x : Step) (s : Session) (at : Spot) → Has x s → x.input ≡ Wake → is_active x.setting (seen x) s ≡ true → at.base % x.setting.layout.area ≡ 0 → open_on x.setting (seen x) at ≡ [] → J x →
-      J (carry_lease s at Settling (settle_next (lease_place x.setting s) (known x.setting (seen x) s at)) x)
+      J (carry_lease s at Settling (next_of_settling x.setting (seen x) s at) x)
   pub parts : (x : Step) (s : Session) → Has x s → is_joined (seen x) s ≡ true → is_some (recovery_of x.setting (seen x) s) ≡ true → holdings_of (seen x) s ≡ [] →
       has_open_write (seen x) s ≡ false → J x → J (remove_connection s.lockspace x)
   pub frees : (x : Step) (s : Session) → Has x s → is_joined (seen x) s ≡ true → is_some (recovery_of x.setting (seen x) s) ≡ false → holdings_of (seen x) s ≡ [] →

@@ -1,1 +1,3 @@
 pub mod SizeLaws
+pub mod FreshRecords
+pub mod RoleLaws

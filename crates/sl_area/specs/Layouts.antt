@@ -6,17 +6,22 @@ use Rattle.sl_sector.specs.declared.sector.Rec.{Rec}
 use Rattle.sl_words.specs.Words.{greatest}
 use Rattle.std.specs.Int.{is_in_range}
 use Rattle.std.specs.List.{list_any}
-use Rattle.std.specs.Prelude.{Bool, IsTrue, List, Option, Result, find, map, option_map, [], ℕ, ◌&&◌, ◌==◌, ◌∷◌}
+use Rattle.std.specs.Prelude.{Bool, IsTrue, List, Option, Result, false, find, if◌then◌else◌, map, option_map, true, [], ℕ, ◌&&◌, ◌/◌, ◌==◌, ◌∷◌}
 
--- Bytes of a sector, bytes of an area, and the number of hosts of the run.
+-- Bytes of a sector, bytes of an area, the number of hosts of the run, and whether each host's block has a pair of sectors.
 pub record Sizes : Type 0 where
   pub sector : ℕ
   pub area : ℕ
   pub hosts : ℕ
+  pub paired : Bool
 
--- The sizes, in the order in which they are given.
+-- The sizes, in the order in which they are given, of areas with one sector for a block.
 abbrev pub sizes : ℕ → ℕ → ℕ → Sizes
-sizes sector area hosts = record { sector = sector; area = area; hosts = hosts }
+sizes sector area hosts = record { sector = sector; area = area; hosts = hosts; paired = false }
+
+-- The same, of areas with pairs.
+abbrev pub paired_sizes : ℕ → ℕ → ℕ → Sizes
+paired_sizes sector area hosts = record { sector = sector; area = area; hosts = hosts; paired = true }
 
 -- All that decides which bytes spell which record, and where a record stands. The digest is given, so that examples may take a
 -- cheap one; the program's is SHA-256.
@@ -24,11 +29,13 @@ pub record Layout : Type 0 where
   pub sector : ℕ
   pub area : ℕ
   pub hosts : ℕ
+  -- each host's block has a pair of sectors, which are written in turn
+  pub paired : Bool
   pub digest : List ℕ → List ℕ
 
 -- The layout of these sizes with this digest.
 abbrev pub layout_with : (List ℕ → List ℕ) → Sizes → Layout
-layout_with digest s = record { sector = s.sector; area = s.area; hosts = s.hosts; digest = digest }
+layout_with digest s = record { sector = s.sector; area = s.area; hosts = s.hosts; paired = s.paired; digest = digest }
 
 -- The digest of the program.
 abbrev pub program_digest : List ℕ → List ℕ
@@ -51,9 +58,13 @@ most_ids sector area = option_map (λ row. row.2) (find (λ row. row.0 == sector
 abbrev pub most_ids_of_all : ℕ
 most_ids_of_all = greatest (map (λ row. row.2) geometries)
 
+-- For how many hosts there is room, where it is for so many that have one sector: with pairs for half of them.
+abbrev pub roomy : Bool → ℕ → ℕ
+roomy paired most = if paired then most / 2 else most
+
 -- Whether a run may have these sizes.
 abbrev pub is_geometry : Sizes → Bool
-is_geometry s = list_any (λ row. row.0 == s.sector && row.1 == s.area && is_in_range 1 row.2 s.hosts) geometries
+is_geometry s = list_any (λ row. row.0 == s.sector && row.1 == s.area && is_in_range 1 (roomy s.paired row.2) s.hosts) geometries
 
 -- A run may have these sizes.
 abbrev pub IsGeometry : Sizes → Type 0

@@ -1,8 +1,8 @@
 -- The sectors of an area by what stands in them, and how they lie.
 use Rattle.sl_area.specs.Layouts.{IsGeometry, Sizes, layout_of}
-use Rattle.sl_area.specs.Places.{block_offset, delta_offset, in_area, is_base, leader_offset, request_offset, value_offset}
+use Rattle.sl_area.specs.Places.{block_offset, delta_offset, in_area, is_base, leader_offset, pair_offset, request_offset, value_offset}
 use Rattle.sl_area.specs.Sectors.{Apart, SectorPlace}
-use Rattle.std.specs.Prelude.{IsTrue, ℕ, ◌+◌, ◌≢◌, ◌≤◌}
+use Rattle.std.specs.Prelude.{Bool, IsTrue, false, true, ℕ, ◌+◌, ◌≡◌, ◌≢◌, ◌≤◌}
 
 -- The sector of the run that begins at the offset.
 abbrev pub place_at : Sizes → ℕ → SectorPlace
@@ -16,18 +16,20 @@ IsHost s id = (1 ≤ id) × (id ≤ s.hosts)
 abbrev pub IsBase : Sizes → ℕ → Type 0
 IsBase s base = IsTrue (is_base (layout_of s) base)
 
--- What stands in a resource's area: a block for each host, and three sectors besides.
+-- What stands in a resource's area: for each host a block, or the first and the second sector of its pair, and three sectors besides.
 pub data Role : Type 0 where
   leader : Role
   request : Role
   block : ℕ → Role
+  pair : ℕ → Bool → Role
   value : Role
 
--- The host of a block is one of the run.
+-- The host of a block is one of the run, which has pairs or has none.
 abbrev pub IsRole : Sizes → Role → Type 0
 IsRole s leader = Unit {0}
 IsRole s request = Unit {0}
-IsRole s (block id) = IsHost s id
+IsRole s (block id) = IsHost s id × (s.paired ≡ false)
+IsRole s (pair id first) = IsHost s id × (s.paired ≡ true)
 IsRole s value = Unit {0}
 
 -- Where each stands.
@@ -35,6 +37,7 @@ abbrev pub role_offset : Sizes → ℕ → Role → ℕ
 role_offset s base leader = leader_offset base
 role_offset s base request = request_offset (layout_of s) base
 role_offset s base (block id) = block_offset (layout_of s) base id
+role_offset s base (pair id first) = pair_offset (layout_of s) base id first
 role_offset s base value = value_offset (layout_of s) base
 
 -- The sector begins and ends in the area.

@@ -1,7 +1,8 @@
 //! Areas: sizes of a run, where each record stands, and the sectors of a disk that are read and written there.
 //!
 //! A lockspace's area has the delta sectors of all hosts, a resource's area its leader, its request, the hosts' blocks and its value. No
-//! two of them share a sector, and no area reaches into the next one: else a host that writes its own sector could tear another's.
+//! two of them share a sector, and no area reaches into the next one: else a host that writes its own sector could tear another's. A block
+//! has one sector, or a pair of them that its host writes in turn, so that a write that is torn leaves the block before it.
 #![tactic(auto)]
 
 pub mod area;

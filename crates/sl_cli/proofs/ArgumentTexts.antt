@@ -1,7 +1,7 @@
 -- Words of several parts and what they stand for: each has one word.
 use Rattle.sl_area.specs.Places.{is_base}
 use Rattle.sl_area.specs.Layouts.{Sizes, layout_of}
-use Rattle.sl_cli.specs.Arguments.{Stretch, is_host_count, is_new_lockspace, is_stretch, is_stretch_size, is_stretch_start, new_lockspace, stretch_of}
+use Rattle.sl_cli.specs.Arguments.{Stretch, is_host_count, is_new_lockspace, is_stretch, is_stretch_size, is_stretch_start, new_lockspace, room_for, stretch_of}
 use Rattle.sl_cli.specs.Spellings.{IsNewLockspace, IsStretchArg, stretch_word}
 use Rattle.sl_command.proofs.PartTexts.{base_small, number_read, number_written, range_small}
 use Rattle.sl_text.proofs.FreeLaws.{decimal_free, name_free, path_free}
@@ -13,7 +13,7 @@ use Rattle.sl_text.specs.Numbers.{number_of}
 use Rattle.sl_trace.specs.Commands.{lockspace_word}
 use Rattle.sl_trace.specs.declared.command.LockspaceArg.{LockspaceArg}
 use Rattle.sl_words.proofs.WordLaws.{and_true}
-use Rattle.std.proofs.Common.{List, [], ap, arith, eqb, length, ltb, refl, sym, true, ℕ, ◌%◌, ◌<◌, ◌^◌, ◌≡◌, ◌≤◌, ◌∙◌, ◌∷◌}
+use Rattle.std.proofs.Common.{Bool, List, [], ap, arith, eqb, false, length, ltb, refl, sym, true, ℕ, ◌%◌, ◌/◌, ◌<◌, ◌^◌, ◌≡◌, ◌≤◌, ◌∙◌, ◌∷◌}
 use Rattle.std.proofs.lemmas.Bool.{and_from, eqb-true, ltb-true}
 use Rattle.std.proofs.lemmas.Slice.Eq.{bytes_eq-Decides}
 use Rattle.std.specs.Int.{is_in_range}
@@ -22,14 +22,18 @@ use Rattle.std.specs.Prelude.{codes, decimal}
 
 -- ---- hosts
 
-small_hosts : (most : Sizes) (n : ℕ) → most.hosts ≤ 2000 → is_in_range 1 most.hosts n ≡ true → n < 2 ^ 64
-small_hosts most n few h = range_small 1 most.hosts n (omega (arith, few)) h
+small_hosts : (p : Bool) (most : Sizes) (n : ℕ) → most.hosts ≤ 2000 → is_in_range 1 (room_for p most) n ≡ true → n < 2 ^ 64
+small_hosts true most n few h = range_small 1 (most.hosts / 2) n (omega (arith, few)) h
+small_hosts false most n few h = range_small 1 most.hosts n (omega (arith, few)) h
 
-pub hosts_read : (most : Sizes) (w : List ℕ) → most.hosts ≤ 2000 → is_host_count most w ≡ true → (is_in_range 1 most.hosts (number_of w) ≡ true) × (decimal (number_of w) ≡ w)
-hosts_read most w few h = number_read (is_in_range 1 most.hosts) w h (small_hosts most (number_of w) few (and_true _ _ h).1)
+pub hosts_read : (p : Bool) (most : Sizes) (w : List ℕ) → most.hosts ≤ 2000 → is_host_count p most w ≡ true
+    → (is_in_range 1 (room_for p most) (number_of w) ≡ true) × (decimal (number_of w) ≡ w)
+hosts_read p most w few h = number_read (is_in_range 1 (room_for p most)) w h (small_hosts p most (number_of w) few (and_true _ _ h).1)
 
-pub hosts_written : (most : Sizes) (n : ℕ) → most.hosts ≤ 2000 → is_in_range 1 most.hosts n ≡ true → (is_host_count most (decimal n) ≡ true) × (number_of (decimal n) ≡ n)
-hosts_written most n few is = (number_written (is_in_range 1 most.hosts) n (small_hosts most n few is) is, number_of-decimal n (small_hosts most n few is))
+pub hosts_written : (p : Bool) (most : Sizes) (n : ℕ) → most.hosts ≤ 2000 → is_in_range 1 (room_for p most) n ≡ true
+    → (is_host_count p most (decimal n) ≡ true) × (number_of (decimal n) ≡ n)
+hosts_written p most n few is =
+    (number_written (is_in_range 1 (room_for p most)) n (small_hosts p most n few is) is, number_of-decimal n (small_hosts p most n few is))
 
 -- ---- lockspaces
 

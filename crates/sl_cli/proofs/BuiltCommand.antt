@@ -27,6 +27,7 @@ pub data Key : Type 0 where
   hosts : Key
   stretch : Key
   geometry : Key
+  format : Key
 
 -- Its name.
 abbrev pub name_of : Key → Text
@@ -36,6 +37,7 @@ name_of resource = codes "resource"
 name_of hosts = codes "hosts"
 name_of stretch = codes "stretch"
 name_of geometry = codes "geometry"
+name_of format = codes "format"
 
 -- An argument with one value, filled in.
 abbrev pub rule_with : Text → Option ℕ → Option ℕ → Rule
@@ -55,6 +57,7 @@ letter_of resource = Some 114
 letter_of hosts = Some 110
 letter_of stretch = Some 100
 letter_of geometry = Some 103
+letter_of format = Some 118
 
 -- Its place, if it is none.
 abbrev pub place_of : Key → Option ℕ
@@ -64,6 +67,7 @@ place_of resource = None
 place_of hosts = None
 place_of stretch = None
 place_of geometry = None
+place_of format = None
 
 -- Its argument.
 abbrev pub rule_for : Key → Rule
@@ -71,7 +75,7 @@ rule_for k = rule_with (name_of k) (letter_of k) (place_of k)
 
 -- All arguments of `direct`.
 abbrev pub rules : List Rule
-rules = rule_for action ∷ rule_for lockspace ∷ rule_for resource ∷ rule_for hosts ∷ rule_for stretch ∷ rule_for geometry ∷ []
+rules = rule_for action ∷ rule_for lockspace ∷ rule_for resource ∷ rule_for hosts ∷ rule_for stretch ∷ rule_for geometry ∷ rule_for format ∷ []
 
 -- A command of the program, built.
 abbrev pub built_shape : Text → List Rule → Shape

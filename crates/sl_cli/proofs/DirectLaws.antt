@@ -92,4 +92,5 @@ given_rows us = λ i. record {
   hosts = first_of-rows (codes "hosts") us i;
   stretch = first_of-rows (codes "stretch") us i;
   geometry = first_of-rows (codes "geometry") us i;
+  format = first_of-rows (codes "format") us i;
 }

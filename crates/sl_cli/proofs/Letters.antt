@@ -1,6 +1,6 @@
 -- The letters of options: what a letter names for the reader it names for the parser, though the one reads a byte and the other a character.
 use Rattle.clap.specs.Walk.{Text, arg_by_short}
-use Rattle.sl_cli.proofs.BuiltCommand.{Key, geometry, hosts, lockspace, name_of, resource, rules, stretch}
+use Rattle.sl_cli.proofs.BuiltCommand.{Key, format, geometry, hosts, lockspace, name_of, resource, rules, stretch}
 use Rattle.sl_cli.proofs.Turns.{Names}
 use Rattle.sl_cli.specs.CommandWords.{option_named}
 use Rattle.std.proofs.Common.{List, None, Some, [], ap, arith, eqb, false, inl, inr, refl, subst, sym, true≢false, ℕ, ◌++◌, ◌<◌, ◌≡◌, ◌∙◌, ◌∷◌, ◌⊎◌}
@@ -49,9 +49,9 @@ pub record Unknown (c x : ℕ) : Type 0 where
   pub unnamed : option_named c ≡ None
   pub missing : arg_by_short rules x ≡ None
 
-unknown : (c x : ℕ) → eqb 115 c ≡ false → eqb 114 c ≡ false → eqb 110 c ≡ false → eqb 100 c ≡ false → eqb 103 c ≡ false
-    → eqb 115 x ≡ false → eqb 114 x ≡ false → eqb 110 x ≡ false → eqb 100 x ≡ false → eqb 103 x ≡ false → Unknown c x
-unknown c x s r n d g s' r' n' d' g' = record { unnamed = rw (s, r, n, d, g) refl; missing = rw (s', r', n', d', g') refl }
+unknown : (c x : ℕ) → eqb 115 c ≡ false → eqb 114 c ≡ false → eqb 110 c ≡ false → eqb 100 c ≡ false → eqb 103 c ≡ false → eqb 118 c ≡ false
+    → eqb 115 x ≡ false → eqb 114 x ≡ false → eqb 110 x ≡ false → eqb 100 x ≡ false → eqb 103 x ≡ false → eqb 118 x ≡ false → Unknown c x
+unknown c x s r n d g v s' r' n' d' g' v' = record { unnamed = rw (s, r, n, d, g, v) refl; missing = rw (s', r', n', d', g', v') refl }
 
 pub letter_cases : (c x : ℕ) → (x < 128 → x ≡ c) → (c < 128 → x ≡ c) → ((k : Key) × Known c k) ⊎ Unknown c x
 letter_cases c x of_char of_byte = elim (cases_Bool (eqb 115 c)) [
@@ -64,9 +64,13 @@ letter_cases c x of_char of_byte = elim (cases_Bool (eqb 115 c)) [
         | inl d ↦ inl (stretch, subst (λ c. Known c stretch) (eqb-true 100 c d) (record { named = refl; letter = record { named = refl; ascii = omega arith; no_hyphen = refl }; option = refl }))
         | inr d ↦ elim (cases_Bool (eqb 103 c)) [
           | inl g ↦ inl (geometry, subst (λ c. Known c geometry) (eqb-true 103 c g) (record { named = refl; letter = record { named = refl; ascii = omega arith; no_hyphen = refl }; option = refl }))
-          | inr g ↦
-              let apart : (l : ℕ) → l < 128 → eqb l c ≡ false → eqb l x ≡ false = λ l small e. same_letter c x l small of_char of_byte e in
-              inr (unknown c x s r n d g (apart 115 (omega arith) s) (apart 114 (omega arith) r) (apart 110 (omega arith) n) (apart 100 (omega arith) d) (apart 103 (omega arith) g))
+          | inr g ↦ elim (cases_Bool (eqb 118 c)) [
+            | inl v ↦ inl (format, subst (λ c. Known c format) (eqb-true 118 c v) (record { named = refl; letter = record { named = refl; ascii = omega arith; no_hyphen = refl }; option = refl }))
+            | inr v ↦
+                let apart : (l : ℕ) → l < 128 → eqb l c ≡ false → eqb l x ≡ false = λ l small e. same_letter c x l small of_char of_byte e in
+                inr (unknown c x s r n d g v (apart 115 (omega arith) s) (apart 114 (omega arith) r) (apart 110 (omega arith) n) (apart 100 (omega arith) d) (apart 103 (omega arith) g)
+                (apart 118 (omega arith) v))
+          ]
         ]
       ]
     ]

@@ -9,6 +9,7 @@ pub mod GenLaws
 pub mod Letters
 pub mod LiveLaws
 pub mod OptionSteps
+pub mod ParseLaws
 pub mod SizeWords
 pub mod SpellingLaws
 pub mod Steps

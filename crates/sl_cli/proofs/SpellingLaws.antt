@@ -63,7 +63,10 @@ name_cases name = elim (cases_Bool (bytes_eq (codes "lockspace") name)) [
         | inl e ↦ inl (100, option_at name (codes "stretch") 100 e (record { known = refl; named = refl; no_hyphen = refl }))
         | inr d ↦ elim (cases_Bool (bytes_eq (codes "geometry") name)) [
           | inl e ↦ inl (103, option_at name (codes "geometry") 103 e (record { known = refl; named = refl; no_hyphen = refl }))
-          | inr g ↦ inr (rw (s, r, n, d, g) refl)
+          | inr g ↦ elim (cases_Bool (bytes_eq (codes "format") name)) [
+            | inl e ↦ inl (118, option_at name (codes "format") 118 e (record { known = refl; named = refl; no_hyphen = refl }))
+            | inr v ↦ inr (rw (s, r, n, d, g, v) refl)
+          ]
         ]
       ]
     ]

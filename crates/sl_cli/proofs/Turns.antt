@@ -5,7 +5,7 @@ use Rattle.clap.specs.Kinds.{Kinds, or_else}
 use Rattle.clap.specs.Lexer.{long_of, short_of}
 use Rattle.clap.specs.Walk.{Held, Outcome, Row, Step, Text, Waiting, Walk, after_flag, after_step, arg_by_id, arg_by_index, arg_by_short, attached_value, has_row, idle, is_pending, option, option_met, positional, pushed, settled, settled_rows, to_positional, used, value, walked}
 use Rattle.clap.specs.declared.error.kind.ErrorKind.{ErrorKind}
-use Rattle.sl_cli.proofs.BuiltCommand.{Key, action, direct, geometry, hosts, lockspace, name_of, resource, rule_for, rules, stretch}
+use Rattle.sl_cli.proofs.BuiltCommand.{Key, action, direct, format, geometry, hosts, lockspace, name_of, resource, rule_for, rules, stretch}
 use Rattle.std.proofs.Common.{Bool, List, None, Option, Some, [], ap, cond, false, refl, true, ℕ, ◌&&◌, ◌==◌, ◌≡◌, ◌∙◌, ◌∷◌, length, drop, lt-ltb, ◌<◌}
 use Rattle.std.proofs.lemmas.Str.{encode_ascii}
 use Rattle.std.specs.Option.{option_map_or}
@@ -74,6 +74,7 @@ named_rule resource = refl
 named_rule hosts = refl
 named_rule stretch = refl
 named_rule geometry = refl
+named_rule format = refl
 
 pub unsettled_is : (k : Key) (vs : List Text) (rows : List Row) → unsettled rows (values_of k vs) ≡ use_fault false (rule_for k) vs rows
 unsettled_is k vs rows = ap (λ o. option_map_or (λ a. use_fault false a vs rows) o []) (named_rule k)
@@ -85,6 +86,7 @@ settled_is resource vs rows = refl
 settled_is hosts vs rows = refl
 settled_is stretch vs rows = refl
 settled_is geometry vs rows = refl
+settled_is format vs rows = refl
 
 -- ---- one use
 
@@ -165,6 +167,7 @@ waiting_after resource rows position word p = rw (p.no_dashes, p.no_long, p.no_s
 waiting_after hosts rows position word p = rw (p.no_dashes, p.no_long, p.no_short) refl
 waiting_after stretch rows position word p = rw (p.no_dashes, p.no_long, p.no_short) refl
 waiting_after geometry rows position word p = rw (p.no_dashes, p.no_long, p.no_short) refl
+waiting_after format rows position word p = rw (p.no_dashes, p.no_long, p.no_short) refl
 
 -- ---- `--`, and what begins with it
 

@@ -1,12 +1,13 @@
 -- Words that stand for something: sizes, the area that a new lockspace or a resource gets, its hosts, and a stretch of a file.
-use Rattle.sl_area.specs.Layouts.{Sizes, layout_of, sizes}
+use Rattle.sl_area.specs.Layouts.{Sizes, layout_of, roomy, sizes}
 use Rattle.sl_area.specs.Places.{is_base}
 use Rattle.sl_text.specs.Forms.{exactly, pieces, word_at}
 use Rattle.sl_text.specs.Names.{is_name, is_path}
 use Rattle.sl_text.specs.Numbers.{is_number_that, number_of}
 use Rattle.sl_trace.specs.declared.command.LockspaceArg.{LockspaceArg}
+use Rattle.sl_words.specs.Words.{choose}
 use Rattle.std.specs.Int.{is_in_range}
-use Rattle.std.specs.Prelude.{Bool, List, None, Option, Some, bytes_eq, codes, find, length, nat_lt, option_map, [], ℕ, ◌%◌, ◌&&◌, ◌==◌, ◌^◌, ◌∷◌}
+use Rattle.std.specs.Prelude.{Bool, List, None, Option, Some, bytes_eq, codes, false, find, length, nat_lt, option_map, true, [], ℕ, ◌%◌, ◌&&◌, ◌==◌, ◌^◌, ◌∷◌}
 
 -- The sizes that no word says: those of areas for the most hosts.
 abbrev pub usual_sizes : Sizes
@@ -27,9 +28,18 @@ abbrev pub sizes_said : Option (List ℕ) → Option Sizes
 sizes_said None = Some usual_sizes
 sizes_said (Some w) = sizes_of w
 
--- The same for so many hosts.
-abbrev pub for_hosts : Sizes → ℕ → Sizes
-for_hosts most hosts = sizes most.sector most.area hosts
+-- Whether an area has pairs, by the word of its format: no word says that it has none, and 2 is the only other format.
+abbrev pub paired_said : Option (List ℕ) → Option Bool
+paired_said None = Some false
+paired_said (Some w) = choose (bytes_eq w (codes "2")) true
+
+-- For how many hosts there is room, with pairs or without.
+abbrev pub room_for : Bool → Sizes → ℕ
+room_for paired most = roomy paired most.hosts
+
+-- The same sizes for so many hosts, with pairs or without.
+abbrev pub for_hosts : Bool → Sizes → ℕ → Sizes
+for_hosts paired most hosts = record { sector = most.sector; area = most.area; hosts = hosts; paired = paired }
 
 -- `name:0:path:offset`. A lockspace that is made has no host yet, so its id is 0.
 abbrev pub is_new_lockspace : Sizes → List ℕ → Bool
@@ -42,9 +52,9 @@ abbrev pub new_lockspace : List ℕ → LockspaceArg
 new_lockspace w = let ps : List (List ℕ) = pieces 58 w in
     record { name = word_at ps 0; id = 0; path = word_at ps 2; offset = number_of (word_at ps 3) }
 
--- How many hosts an area is for.
-abbrev pub is_host_count : Sizes → List ℕ → Bool
-is_host_count most w = is_number_that (is_in_range 1 most.hosts) w
+-- How many hosts an area is for, with pairs or without.
+abbrev pub is_host_count : Bool → Sizes → List ℕ → Bool
+is_host_count paired most w = is_number_that (is_in_range 1 (room_for paired most)) w
 
 -- Where a stretch begins: at a sector of so many bytes, below 10^12.
 abbrev pub is_stretch_start : ℕ → ℕ → Bool

@@ -10,9 +10,9 @@ use Rattle.std.specs.Prelude.{Bool, List, None, Option, Some, bytes_eq, codes, d
 
 -- ---- what is given to `direct`
 
--- The options, `-s`, `-r`, `-n`, `-d` and `-g`: the letter of each, and what it gives.
+-- The options, `-s`, `-r`, `-n`, `-d`, `-g` and `-v`: the letter of each, and what it gives.
 abbrev pub options : List (ℕ × List ℕ)
-options = (115, codes "lockspace") ∷ (114, codes "resource") ∷ (110, codes "hosts") ∷ (100, codes "stretch") ∷ (103, codes "geometry") ∷ []
+options = (115, codes "lockspace") ∷ (114, codes "resource") ∷ (110, codes "hosts") ∷ (100, codes "stretch") ∷ (103, codes "geometry") ∷ (118, codes "format") ∷ []
 
 -- What the option of this letter gives.
 abbrev pub option_named : ℕ → Option (List ℕ)
@@ -99,6 +99,7 @@ given_by uses = record {
   hosts = value_of (codes "hosts") uses;
   stretch = value_of (codes "stretch") uses;
   geometry = value_of (codes "geometry") uses;
+  format = value_of (codes "format") uses;
 }
 
 -- ---- what is given to `gen`

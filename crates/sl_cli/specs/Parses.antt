@@ -19,6 +19,7 @@ given_in rows = record {
   hosts = first_of (codes "hosts") rows;
   stretch = first_of (codes "stretch") rows;
   geometry = first_of (codes "geometry") rows;
+  format = first_of (codes "format") rows;
 }
 
 -- The words of a seed, of hosts and of events, by what was found.

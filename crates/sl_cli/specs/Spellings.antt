@@ -6,13 +6,14 @@ use Rattle.sl_cli.specs.CommandWords.{Use, given_by, is_given, is_plain, nothing
 use Rattle.sl_cli.specs.declared.reading.Words.TheVariants.{Direct, Generate}
 use Rattle.sl_cli.specs.declared.reading.Words.{Words}
 use Rattle.sl_direct.specs.Actions.{IsAction}
-use Rattle.sl_direct.specs.declared.action.Action.TheVariants.{Dump, InitLockspace, InitResource, ReadLeader}
+use Rattle.sl_direct.specs.declared.action.Action.TheVariants.{Dump, InitLockspace, InitResource, ReadLeader, Upgrade}
 use Rattle.sl_direct.specs.declared.action.Action.{Action}
 use Rattle.sl_area.specs.Places.{is_base}
 use Rattle.sl_text.specs.Forms.{coloned}
 use Rattle.sl_text.specs.Names.{is_name, is_path}
 use Rattle.sl_trace.specs.Commands.{IsResourceArg, lockspace_word, moded_word}
 use Rattle.sl_trace.specs.declared.command.LockspaceArg.{LockspaceArg}
+use Rattle.sl_words.specs.Words.{choose}
 use Rattle.std.specs.List.{list_all, list_any}
 use Rattle.std.specs.Prelude.{Bool, IsTrue, List, None, Option, Some, bytes_eq, codes, decimal, false, find, flat_map, if◌then◌else◌, is_some, not, option_map, true, [], ℕ, ◌&&◌, ◌++◌, ◌/◌, ◌==◌, ◌||◌, ◌≡◌, ◌≤◌, ◌∷◌, ◌↔◌}
 
@@ -32,14 +33,15 @@ pub record IsStretchArg (sector : ℕ) (path : List ℕ) (offset size : ℕ) : T
   pub start : IsTrue (is_stretch_start sector offset)
   pub long : IsTrue (is_stretch_size sector size)
 
--- A row of the table of sizes: areas for the most hosts.
+-- A row of the table of sizes: areas for the most hosts, without pairs.
 abbrev pub IsRow : Sizes → Type 0
-IsRow g = IsTrue (list_any (λ row. row.0 == g.sector && row.1 == g.area && row.2 == g.hosts) geometries)
+IsRow g = IsTrue (list_any (λ row. row.0 == g.sector && row.1 == g.area && row.2 == g.hosts) geometries) × (g.paired ≡ false)
 
--- An action that may be asked for. A look has no hosts of its own.
+-- An action that may be asked for. A look has no hosts of its own; only a new resource may have pairs, and an upgraded one has some.
 abbrev pub IsAsked : Action → Type 0
-IsAsked (InitLockspace l g) = IsNewLockspace g l × IsGeometry g
+IsAsked (InitLockspace l g) = IsNewLockspace g l × IsGeometry g × (g.paired ≡ false)
 IsAsked (InitResource r g) = IsResourceArg (layout_of g) r × IsGeometry g
+IsAsked (Upgrade r g) = IsResourceArg (layout_of g) r × IsGeometry g × (g.paired ≡ true)
 IsAsked (ReadLeader r g) = IsResourceArg (layout_of g) r × IsRow g
 IsAsked (Dump path offset size g) = IsStretchArg g.sector path offset size × IsRow g
 
@@ -69,7 +71,12 @@ abbrev pub sizes_in : Action → Sizes
 sizes_in (InitLockspace l g) = g
 sizes_in (InitResource r g) = g
 sizes_in (ReadLeader r g) = g
+sizes_in (Upgrade r g) = g
 sizes_in (Dump path offset size g) = g
+
+-- The word of the format of a new resource: 2 with pairs, none without.
+abbrev pub format_word : Bool → Option (List ℕ)
+format_word paired = choose paired (codes "2")
 
 -- All that is given for an action, where this says its sizes.
 abbrev pub given_for : Option (List ℕ) → Action → Given
@@ -80,6 +87,7 @@ given_for says (InitLockspace l g) = record {
   hosts = Some (decimal g.hosts);
   stretch = None;
   geometry = says;
+  format = None;
 }
 given_for says (InitResource r g) = record {
   action = Some (codes "init");
@@ -88,6 +96,7 @@ given_for says (InitResource r g) = record {
   hosts = Some (decimal g.hosts);
   stretch = None;
   geometry = says;
+  format = format_word g.paired;
 }
 given_for says (ReadLeader r g) = record {
   action = Some (codes "read_leader");
@@ -96,6 +105,16 @@ given_for says (ReadLeader r g) = record {
   hosts = None;
   stretch = None;
   geometry = says;
+  format = None;
+}
+given_for says (Upgrade r g) = record {
+  action = Some (codes "upgrade");
+  lockspace = None;
+  resource = Some (moded_word r false);
+  hosts = Some (decimal g.hosts);
+  stretch = None;
+  geometry = says;
+  format = None;
 }
 given_for says (Dump path offset size g) = record {
   action = Some (codes "dump");
@@ -104,6 +123,7 @@ given_for says (Dump path offset size g) = record {
   hosts = None;
   stretch = Some (stretch_word path offset size);
   geometry = says;
+  format = None;
 }
 
 -- The words of the action were given, and no others.

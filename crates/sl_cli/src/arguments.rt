@@ -1,13 +1,14 @@
 //! Words that stand for something: sizes, the area that a new lockspace or a resource gets, its hosts, and a stretch of a file.
 
 ghost use Rattle.sl_area.specs.Layouts.{layout_of};
-ghost use Rattle.sl_cli.specs.Arguments.{for_hosts, is_host_count, is_new_lockspace, is_stretch, is_stretch_size, is_stretch_start, new_lockspace, sizes_of, sizes_said, stretch_of};
+ghost use Rattle.sl_cli.specs.Arguments.{for_hosts, is_host_count, is_new_lockspace, is_stretch, is_stretch_size, is_stretch_start, new_lockspace, paired_said, room_for, sizes_of, sizes_said, stretch_of};
 ghost use Rattle.sl_cli.specs.Readings.{lockspace_read, stretch_read};
 ghost use Rattle.sl_text.specs.Numbers.{is_number_that, number_of};
 ghost use Rattle.sl_text.specs.Walks.{left_after, next_as};
 ghost use Rattle.sl_trace.specs.Commands as commands;
 ghost use Rattle.sl_words.specs.Words.{choose};
-ghost use Rattle.std.specs.Prelude.{option_map, ◌≡◌};
+ghost use Rattle.std.specs.Int.{is_in_range};
+ghost use Rattle.std.specs.Prelude.{Some, option_map, true, ◌≡◌};
 
 use sl_area::Geometry;
 use sl_command::arguments;
@@ -99,12 +100,46 @@ pub(crate) fn resource_of(word: &str, most: &Geometry) -> Option<ResourceArg>
     arguments::resource_of(word.as_bytes(), most)
 }
 
-/// The sizes for as many hosts as a word says, if it says so.
-pub(crate) fn sizes_for(word: &str, most: &Geometry) -> Option<Geometry>
-    ensures { result ≡ choose (is_host_count most.now word.now) (for_hosts most.now (number_of word.now)) }
+/// Whether an area has pairs, by the word of its format, if there is such a format.
+pub(crate) fn paired_said(word: Option<&str>) -> Option<bool>
+    ensures { result ≡ paired_said (option_map (λ w. w.now) word.entry) }
 {
-    let hosts = read_number_within(word.as_bytes(), 1, u64::from(most.hosts()))?;
-    Geometry::new(most.sector(), most.area(), hosts as u32).ok()
+    match word {
+        Some(word) => { if word == "2" { Some(true) } else { None } }
+        None => Some(false),
+    }
+}
+
+/// For how many hosts there is room, with pairs or without.
+fn room_for(paired: bool, most: &Geometry) -> u32
+    ensures { result ≡ room_for paired most.now }
+{
+    if paired {
+        most.hosts() / 2
+    } else {
+        most.hosts()
+    }
+}
+
+/// The sizes for so many hosts, with pairs or without.
+#[tactic(auto, using(crate::proofs::SizeWords::fewer_hosts))]
+fn sizes_with(hosts: u32, most: &Geometry, paired: bool) -> Option<Geometry>
+    requires { is_in_range 1 (room_for paired most.now) hosts ≡ true }
+    ensures { result ≡ Some (for_hosts paired most.now hosts) }
+{
+    if paired {
+        Geometry::new2(most.sector(), most.area(), hosts).ok()
+    } else {
+        Geometry::new(most.sector(), most.area(), hosts).ok()
+    }
+}
+
+/// The sizes for as many hosts as a word says, with pairs or without, if it says so.
+pub(crate) fn sizes_for(word: &str, most: &Geometry, paired: bool) -> Option<Geometry>
+    ensures { result ≡ choose (is_host_count paired most.now word.now) (for_hosts paired most.now (number_of word.now)) }
+{
+    let hosts = read_number_within(word.as_bytes(), 1, u64::from(room_for(paired, most)))?;
+    sizes_with(hosts as u32, most, paired)
 }
 
 /// Where a stretch of sectors begins, if a word says so.

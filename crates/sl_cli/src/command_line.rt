@@ -41,7 +41,8 @@ fn direct<'a>(alloc: Global) -> Result<Command<'a>, AllocError>
     let command = with_option(alloc, command, "resource", 'r')?;
     let command = with_option(alloc, command, "hosts", 'n')?;
     let command = with_option(alloc, command, "stretch", 'd')?;
-    with_option(alloc, command, "geometry", 'g')
+    let command = with_option(alloc, command, "geometry", 'g')?;
+    with_option(alloc, command, "format", 'v')
 }
 
 /// `gen`, with its seed.

@@ -3,7 +3,7 @@
 ghost use Rattle.clap.specs.Matches.{found_of};
 ghost use Rattle.clap.specs.Simple.{subcommand_rows_of};
 ghost use Rattle.clap.specs.Walk.{first_of, rows_of};
-ghost use Rattle.sl_cli.specs.Actions.{action_in, dump_in, init_in, read_leader_in};
+ghost use Rattle.sl_cli.specs.Actions.{action_in, area_in, dump_in, init_in, lockspace_in, other_in, read_leader_in, resource_in, upgrade_in};
 ghost use Rattle.sl_cli.specs.CommandWords.{is_event_count, is_machine_count, is_seed, seeding_in};
 ghost use Rattle.sl_cli.specs.Parses.{given_in, met_in, seeding_of};
 ghost use Rattle.sl_cli.specs.Spellings.{CanBeDone};
@@ -12,7 +12,7 @@ ghost use Rattle.sl_words.specs.Words.{choose};
 ghost use Rattle.sl_cli.specs.declared.reading.Words.TheVariants.{Live};
 ghost use Rattle.std.specs.Prelude.{IfOk, IfSome, codes, option_map, ◌≡◌, ◌≤◌};
 
-use crate::arguments::{lockspace_of, resource_of, sizes_for, sizes_said, stretch_of};
+use crate::arguments::{lockspace_of, paired_said, resource_of, sizes_for, sizes_said, stretch_of};
 use crate::folder::Folder;
 use crate::reading::Words;
 use clap::ArgMatches;
@@ -31,6 +31,7 @@ pub(crate) struct Given<'a> {
     hosts: Option<&'a str>,
     stretch: Option<&'a str>,
     geometry: Option<&'a str>,
+    format: Option<&'a str>,
 }
 
 impl<'a> Model for Given<'a> {
@@ -46,6 +47,7 @@ impl<'a> Model for Given<'a> {
       hosts = option_map (λ w. w.now) g.hosts;
       stretch = option_map (λ w. w.now) g.stretch;
       geometry = option_map (λ w. w.now) g.geometry;
+      format = option_map (λ w. w.now) g.format;
     } };
 }
 
@@ -54,6 +56,28 @@ fn value_of<'a>(matches: &ArgMatches<'a>, id: &str) -> Option<&'a str>
     ensures { option_map (λ w. w.now) result ≡ first_of id.now (rows_of (found_of matches.now)) }
 {
     matches.get_str(id)
+}
+
+/// A new lockspace, for so many hosts.
+#[tactic(auto, using(crate::proofs::ArgumentLaws::no_second))]
+fn new_lockspace(lockspace: &str, hosts: &str, most: &Geometry) -> Option<Action>
+    ensures { result ≡ lockspace_in most.now lockspace.now hosts.now }
+{
+    Some(Action::InitLockspace {
+        lockspace: lockspace_of(lockspace, most)?,
+        geometry: sizes_for(hosts, most, false)?,
+    })
+}
+
+/// A new resource, for so many hosts, with pairs or without.
+#[tactic(auto, using(crate::proofs::ArgumentLaws::no_second))]
+fn new_resource(resource: &str, hosts: &str, most: &Geometry, paired: bool) -> Option<Action>
+    ensures { result ≡ resource_in paired most.now resource.now hosts.now }
+{
+    Some(Action::InitResource {
+        resource: resource_of(resource, most)?,
+        geometry: sizes_for(hosts, most, paired)?,
+    })
 }
 
 impl<'a> Given<'a> {
@@ -68,22 +92,45 @@ impl<'a> Given<'a> {
             hosts: value_of(matches, "hosts"),
             stretch: value_of(matches, "stretch"),
             geometry: value_of(matches, "geometry"),
+            format: value_of(matches, "format"),
+        }
+    }
+
+    /// A new lockspace or a new resource, for so many hosts, with pairs or without.
+    fn area(&self, most: &Geometry, paired: bool) -> Option<Action>
+        ensures { result ≡ area_in most.now self.now.lockspace self.now.resource self.now.hosts self.now.stretch paired }
+    {
+        match (self.lockspace, self.resource, self.hosts, self.stretch) {
+            (Some(lockspace), None, Some(hosts), None) => {
+                if paired {
+                    None
+                } else {
+                    new_lockspace(lockspace, hosts, most)
+                }
+            }
+            (None, Some(resource), Some(hosts), None) => {
+                new_resource(resource, hosts, most, paired)
+            }
+            _ => None,
         }
     }
 
     /// A new lockspace or a new resource, for so many hosts.
-    #[tactic(auto, using(crate::proofs::ArgumentLaws::no_second))]
     fn init(&self, most: &Geometry) -> Option<Action>
-        ensures { result ≡ init_in most.now self.now.lockspace self.now.resource self.now.hosts self.now.stretch }
+        ensures { result ≡ init_in most.now self.now.lockspace self.now.resource self.now.hosts self.now.stretch self.now.format }
+    {
+        self.area(most, paired_said(self.format)?)
+    }
+
+    /// A resource's area that becomes one with pairs.
+    #[tactic(auto, using(crate::proofs::ArgumentLaws::no_second))]
+    fn upgrade(&self, most: &Geometry) -> Option<Action>
+        ensures { result ≡ upgrade_in most.now self.now.lockspace self.now.resource self.now.hosts self.now.stretch }
     {
         match (self.lockspace, self.resource, self.hosts, self.stretch) {
-            (Some(lockspace), None, Some(hosts), None) => Some(Action::InitLockspace {
-                lockspace: lockspace_of(lockspace, most)?,
-                geometry: sizes_for(hosts, most)?,
-            }),
-            (None, Some(resource), Some(hosts), None) => Some(Action::InitResource {
+            (None, Some(resource), Some(hosts), None) => Some(Action::Upgrade {
                 resource: resource_of(resource, most)?,
-                geometry: sizes_for(hosts, most)?,
+                geometry: sizes_for(hosts, most, true)?,
             }),
             _ => None,
         }
@@ -120,6 +167,21 @@ impl<'a> Given<'a> {
         }
     }
 
+    /// An action of this name that has no format of its own.
+    fn other(&self, name: &str, most: &Geometry) -> Option<Action>
+        ensures { result ≡ other_in name.now most.now self.now.lockspace self.now.resource self.now.hosts self.now.stretch }
+    {
+        if name == "read_leader" {
+            self.read_leader(most)
+        } else if name == "dump" {
+            self.dump(most)
+        } else if name == "upgrade" {
+            self.upgrade(most)
+        } else {
+            None
+        }
+    }
+
     /// The action that was asked for, if it is one.
     pub(crate) fn action(&self) -> Option<Action>
         ensures { result ≡ action_in self.now }
@@ -128,12 +190,11 @@ impl<'a> Given<'a> {
         let most = sizes_said(self.geometry)?;
         if name == "init" {
             self.init(&most)
-        } else if name == "read_leader" {
-            self.read_leader(&most)
-        } else if name == "dump" {
-            self.dump(&most)
         } else {
-            None
+            match self.format {
+                None => self.other(name, &most),
+                Some(_) => None,
+            }
         }
     }
 }

@@ -12,8 +12,12 @@ usage: sanlock COMMAND
                            the children that it starts, and prints at the end
   direct init -s LOCKSPACE -n N [-g GEOMETRY]
                            write the sectors of a lockspace for N hosts
-  direct init -r RESOURCE -n N [-g GEOMETRY]
-                           write the sectors of a resource for N hosts
+  direct init -r RESOURCE -n N [-v 2] [-g GEOMETRY]
+                           write the sectors of a resource for N hosts; with -v 2
+                           each host's block has a pair of sectors
+  direct upgrade -r RESOURCE -n N [-g GEOMETRY]
+                           give each host's block of a resource for N hosts a
+                           pair of sectors
   direct read_leader -r RESOURCE [-g GEOMETRY]
                            print who holds a resource
   direct dump -d PATH:OFFSET:SIZE [-g GEOMETRY]
@@ -26,11 +30,13 @@ with OFFSET a multiple of an area's size. In a dump OFFSET and SIZE are
 multiples of a sector's, SIZE at most 1048576. Offsets are below 10^12.
 GEOMETRY is SECTOR:MIB, the bytes of a sector and the mebibytes of an area:
 512:1, which holds without -g, for N of 1 to 2000, 4096:1 for at most 250,
-4096:2 for 500, 4096:4 for 1000, 4096:8 for 2000. Options come in any order.
+4096:2 for 500, 4096:4 for 1000, 4096:8 for 2000, and half of them where blocks
+have pairs. Options come in any order.
 SEED is below 2^64, HOSTS 1 to 16, EVENTS at most 1000000.
 
 Status: 0 done; 1 a line was refused; 2 bad words; 3 a read and 4 a write
-failed; 5 no memory; 6 a read or a write of an area failed; 7 not the leader;
+failed; 5 no memory; 6 a read or a write of an area failed; 7 not the leader,
+or for an upgrade a torn block;
 8 a live machine's threads and its history differ.
 ";
 

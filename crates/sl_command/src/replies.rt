@@ -238,6 +238,7 @@ fn push_limit(out: &mut Vec<u8>, which: Limited) -> Result<(), AllocError>
         Limited::Seq => ("Limit seq", GREATEST_NUMBER),
         Limited::Lver => ("Limit lver", GREATEST_NUMBER),
         Limited::Mbal => ("Limit mbal", GREATEST_NUMBER),
+        Limited::Turn => ("Limit turn", GREATEST_NUMBER),
     };
     push_counted(out, word, &[most])
 }

@@ -4,7 +4,7 @@ use Rattle.sl_direct.proofs.LookLaws.{one_line}
 use Rattle.sl_direct.specs.Actions.{Acts, Directs, IsFront, PutsOut, Writes, last_lines, output_of}
 use Rattle.sl_direct.specs.FreshAreas.{Write}
 use Rattle.sl_direct.specs.Steps.{BrokeOff, HasActed, Wrote}
-use Rattle.sl_direct.specs.declared.action.Action.TheVariants.{Dump, InitLockspace, InitResource, ReadLeader}
+use Rattle.sl_direct.specs.declared.action.Action.TheVariants.{Dump, InitLockspace, InitResource, ReadLeader, Upgrade}
 use Rattle.sl_direct.specs.declared.action.Action.{Action}
 use Rattle.sl_direct.specs.declared.action.Directed.TheVariants.{AreaFault, Done, WriteFault}
 use Rattle.sl_direct.specs.declared.action.Directed.{Directed}
@@ -78,6 +78,7 @@ no_write_fault : (a : Action) (content after : Option (List ℕ)) (lines : List 
 no_write_fault (InitLockspace l g) content after lines acts = acts
 no_write_fault (InitResource r g) content after lines acts = acts
 no_write_fault (ReadLeader r g) content after lines acts = acts.ended
+no_write_fault (Upgrade r g) content after lines acts = acts
 no_write_fault (Dump path offset size g) content after lines acts = acts.ended
 
 fault_counted : (a : Action) (content after : Option (List ℕ)) (lines : List (List ℕ)) (put output : List ℕ) (went d : Directed) (faults later : ℕ) → Acts a content after lines went

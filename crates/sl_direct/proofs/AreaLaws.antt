@@ -1,18 +1,19 @@
 -- What stands after an initialising, in the words of records; and what a look then tells.
 use Rattle.sha2.specs.Sha256.{sha256}
 use Rattle.sl_area.specs.Layouts.{Layout, Sizes, layout_of}
-use Rattle.sl_area.specs.Places.{block_offset, delta_offset, fresh_block, fresh_delta, fresh_leader, no_request, no_value, request_offset, value_offset}
+use Rattle.sl_area.specs.Places.{block_offset, block_sectors, delta_offset, fresh_block, fresh_block_at, fresh_delta, fresh_leader, fresh_pair, leader_record, no_request, no_value, pair_offset, request_offset, value_offset}
 use Rattle.sl_area.specs.Sectors.{Apart}
 use Rattle.sl_direct.proofs.DiskLaws.{AllApart, all_left, all_right, front_apart}
-use Rattle.sl_area.proofs.SizeLaws.{has_room}
-use Rattle.sl_direct.proofs.FreshLaws.{fresh_block_is, fresh_delta_is, fresh_leader_is, length-sector, no_request_is, no_value_is, resource_apart, sector_size}
+use Rattle.sl_area.proofs.SizeLaws.{has_room, sectors_of_blocks, sectors_of_pairs}
+use Rattle.sl_area.proofs.FreshRecords.{fresh_block_at_is, fresh_delta_is, leader_record_is, no_request_is, no_value_is}
+use Rattle.sl_direct.proofs.FreshLaws.{length-sector, resource_apart, sector_size}
 use Rattle.sl_direct.proofs.LookLaws.{and_nothing}
 use Rattle.sl_direct.specs.Actions.{Acts, AreReadAt, Directs, IsAction, IsFront}
 use Rattle.sl_direct.specs.Disks.{HoldsFront, IsInitialised, IsOutside, Stands}
 use Rattle.sl_direct.specs.FreshAreas.{Write, block_write, block_writes, delta_write, leader_write, place_of, request_write, resource_writes, value_write, write_of}
 use Rattle.sl_direct.specs.Laws.{InitialisedIsFound, IsFreshResource, LeaderIsLast, LeaderIsTold, LockspaceStands, ResourceStands, has_its_leader, sector_at, spelled_at}
 use Rattle.sl_direct.specs.Lines.{is_its_leader, leader_found, leader_in_sector}
-use Rattle.sl_direct.specs.declared.action.Action.TheVariants.{Dump, InitLockspace, InitResource, ReadLeader}
+use Rattle.sl_direct.specs.declared.action.Action.TheVariants.{Dump, InitLockspace, InitResource, ReadLeader, Upgrade}
 use Rattle.sl_direct.specs.declared.action.Action.{Action}
 use Rattle.sl_direct.specs.declared.action.Directed.TheVariants.{Done, NotTheLeader, WriteFault}
 use Rattle.sl_direct.specs.declared.action.Directed.{Directed}
@@ -20,18 +21,19 @@ use Rattle.sl_sector.proofs.SpellingLaws.{read_again}
 use Rattle.sl_sector.proofs.WrittenBytes.{sha256_is_digest}
 use Rattle.sl_sector.specs.Records.{IsRecord}
 use Rattle.sl_sector.specs.Spelling.{IsSectorSize, decoded, spelling}
-use Rattle.sl_sector.specs.declared.sector.Rec.TheVariants.{BlockIs, DeltaIs, LeaderIs, RequestIs, ValueIs}
+use Rattle.sl_sector.specs.declared.sector.Rec.TheVariants.{BlockIs, DeltaIs, LeaderIs, PairIs, PairLeaderIs, RequestIs, ValueIs}
+use Rattle.sl_sector.specs.declared.sector.Leader.{Leader}
 use Rattle.sl_sector.specs.declared.sector.Rec.{Rec}
 use Rattle.sl_trace.specs.declared.command.ResourceArg.{ResourceArg}
 use Rattle.sl_words.proofs.CaseLaws.{not_both, true_is_false}
 use Rattle.sl_words.specs.Causes.{Rose}
-use Rattle.std.proofs.Common.{All, Bool, List, None, Ok, Option, Some, [], ap, append_assoc, arith, drop, false, get_or, inl, inr, length, map, refl, subst, suc, sym, take, true, zero, ℕ, ◌++◌, ◌+◌, ◌-◌, ◌<◌, ◌∙◌, ◌∷◌, ◌≡◌, ◌≤◌, ◌⊎◌}
+use Rattle.std.proofs.Common.{All, Bool, List, None, Ok, Option, Some, [], ap, append_assoc, arith, drop, false, get_or, inl, inr, length, map, refl, subst, suc, sym, take, true, zero, ℕ, ◌%◌, ◌*◌, ◌++◌, ◌+◌, ◌-◌, ◌/◌, ◌<◌, ◌∙◌, ◌∷◌, ◌≡◌, ◌≤◌, ◌⊎◌}
 use Rattle.std.proofs.lemmas.List.Elements.{All-cons, All-head, All-nil, All-tail, All-weaker}
 use Rattle.std.proofs.lemmas.List.FromFn.{get_or-map-range_with_len, length-map-range_with_len}
 use Rattle.std.proofs.lemmas.List.{ext_get_or, get_or-drop, get_or-take, length-drop, length-take, same_from_push}
 use Rattle.std.proofs.lemmas.Slice.Eq.{bytes_eq-Decides}
 use Rattle.std.specs.List.{list_all, range_with_len}
-use Rattle.std.specs.Prelude.{bytes_eq, min, ◌&&◌}
+use Rattle.std.specs.Prelude.{bytes_eq, if◌then◌else◌, min, ◌&&◌}
 
 -- ---- what stands is read
 
@@ -55,6 +57,41 @@ lockspace_stands g name base before after is named holds id low high =
     (fresh_delta_is name id named low (omega (arith, high, (has_room g is).hosts.1)))
     (of_range (Stands after) (delta_write layout name base) g.hosts id low high holds.each)
 
+-- The blocks' sectors by hosts: one for each, or the two of a pair.
+block_by_host : (g : Sizes) (space name : List ℕ) (base : ℕ) (content : List ℕ)
+    → ((k : ℕ) → 1 ≤ k → k ≤ block_sectors (layout_of g) → spelled_at g.sector (block_offset (layout_of g) base k) content ≡ Ok (fresh_block_at (layout_of g) space name (k + 1)))
+    → g.paired ≡ false → (id : ℕ) → 1 ≤ id → id ≤ g.hosts → spelled_at g.sector (block_offset (layout_of g) base id) content ≡ Ok (BlockIs (fresh_block id))
+block_by_host g space name base content each e id low high =
+    let one : id + 1 - 1 ≡ id = omega arith in
+    let sectors = sectors_of_blocks g e in
+    let here : fresh_block_at (layout_of g) space name (id + 1) ≡ BlockIs (fresh_block id) =
+    ap (λ (p : Bool). elim p as (λ _. Rec) [ false ↦ BlockIs (fresh_block (id + 1 - 1)) | true ↦ PairIs (fresh_pair ((id + 1) / 2) (1 + (id + 1) % 2) space name) ]) e
+    ∙ ap (λ (n : ℕ). BlockIs (fresh_block n)) one in
+    each id low (omega (arith, high, sectors)) ∙ ap (λ (r : Rec). Ok r) here
+
+pair_by_host : (g : Sizes) (space name : List ℕ) (base : ℕ) (content : List ℕ)
+    → ((k : ℕ) → 1 ≤ k → k ≤ block_sectors (layout_of g) → spelled_at g.sector (block_offset (layout_of g) base k) content ≡ Ok (fresh_block_at (layout_of g) space name (k + 1)))
+    → g.paired ≡ true → (id : ℕ) → 1 ≤ id → id ≤ g.hosts → (first : Bool)
+    → spelled_at g.sector (pair_offset (layout_of g) base id first) content ≡ Ok (PairIs (fresh_pair id (if first then 1 else 2) space name))
+pair_by_host g space name base content each e id low high first = by first
+  where
+    layout : Layout
+    layout = layout_of g
+
+    at : (k n turn : ℕ) → 1 ≤ k → k ≤ 2 * g.hosts → k + 1 ≡ n → n / 2 ≡ id → 1 + n % 2 ≡ turn
+        → spelled_at g.sector (base + g.sector * n) content ≡ Ok (PairIs (fresh_pair id turn space name))
+    at k n turn some within next half odd =
+        let here : fresh_block_at layout space name n ≡ PairIs (fresh_pair id turn space name) =
+        ap (λ (p : Bool). elim p as (λ _. Rec) [ false ↦ BlockIs (fresh_block (n - 1)) | true ↦ PairIs (fresh_pair (n / 2) (1 + n % 2) space name) ]) e
+        ∙ ap (λ (h : ℕ). PairIs (fresh_pair h (1 + n % 2) space name)) half ∙ ap (λ (t : ℕ). PairIs (fresh_pair id t space name)) odd in
+        let sectors = sectors_of_pairs g e in
+        ap (λ (m : ℕ). spelled_at g.sector (base + g.sector * m) content) (sym next) ∙ each k some (omega (arith, within, sectors)) ∙ ap (λ (m : ℕ). Ok (fresh_block_at layout space name m)) next
+        ∙ ap (λ (r : Rec). Ok r) here
+
+    by : (b : Bool) → spelled_at g.sector (pair_offset layout base id b) content ≡ Ok (PairIs (fresh_pair id (if b then 1 else 2) space name))
+    by true = at (2 * id - 1) (2 * id + 0) 1 (omega (arith, low)) (omega (arith, high)) (omega (arith, low)) (omega arith) (omega arith)
+    by false = at (2 * id) (2 * id + 1) 2 (omega (arith, low)) (omega (arith, high)) (omega arith) (omega arith) (omega arith)
+
 pub resource_stands : ResourceStands
 resource_stands g space name base before after is a b holds =
     let layout : Layout = layout_of g in
@@ -63,16 +100,21 @@ resource_stands g space name base before after is a b holds =
     let request : Write = request_write layout base in
     let value : Write = value_write layout base in
     let leader : Write = leader_write layout space name base in
-    let rest : All stands (block_writes layout base ++ value ∷ leader ∷ []) = All-tail stands request (block_writes layout base ++ value ∷ leader ∷ []) holds.each in
-    let last : All stands (value ∷ leader ∷ []) = all_right stands (block_writes layout base) (value ∷ leader ∷ []) rest in
+    let block = block_write layout space name base in
+    let writes : List Write = block_writes layout space name base in
+    let rest : All stands (writes ++ value ∷ leader ∷ []) = All-tail stands request (writes ++ value ∷ leader ∷ []) holds.each in
+    let last : All stands (value ∷ leader ∷ []) = all_right stands writes (value ∷ leader ∷ []) rest in
+    let each : (k : ℕ) → 1 ≤ k → k ≤ block_sectors layout → spelled_at g.sector (block_offset layout base k) after ≡ Ok (fresh_block_at layout space name (k + 1)) =
+    λ k low high.
+    stands_spelled g.sector after (block_offset layout base k) (fresh_block_at layout space name (k + 1)) sized (fresh_block_at_is g space name (k + 1) is a b (omega (arith, low)) (omega (arith, high)))
+    (of_range stands block (block_sectors layout) k low high (all_left stands writes (value ∷ leader ∷ []) rest)) in
     record {
-      leader = stands_spelled g.sector after base (LeaderIs (fresh_leader layout space name)) sized (fresh_leader_is g space name is a b)
+      leader = stands_spelled g.sector after base (leader_record layout (fresh_leader layout space name)) sized (leader_record_is g space name is a b)
           (All-head stands leader [] (All-tail stands value (leader ∷ []) last));
       request = stands_spelled g.sector after (request_offset layout base) (RequestIs no_request) sized no_request_is
-          (All-head stands request (block_writes layout base ++ value ∷ leader ∷ []) holds.each);
-      blocks = λ id low high.
-          stands_spelled g.sector after (block_offset layout base id) (BlockIs (fresh_block id)) sized (fresh_block_is id low (omega (arith, high, (has_room g is).hosts.1)))
-          (of_range stands (block_write layout base) g.hosts id low high (all_left stands (block_writes layout base) (value ∷ leader ∷ []) rest));
+          (All-head stands request (writes ++ value ∷ leader ∷ []) holds.each);
+      blocks = block_by_host g space name base after each;
+      pairs = pair_by_host g space name base after each;
       value = stands_spelled g.sector after (value_offset layout base) (ValueIs no_value) sized no_value_is (All-head stands value (leader ∷ []) last);
     }
 
@@ -124,13 +166,13 @@ pub leader_is_last : LeaderIsLast
 leader_is_last g space name base before after is a b front =
     let layout : Layout = layout_of g in
     let leader : Write = leader_write layout space name base in
-    let others : List Write = request_write layout base ∷ (block_writes layout base ++ value_write layout base ∷ []) in
+    let others : List Write = request_write layout base ∷ (block_writes layout space name base ++ value_write layout base ∷ []) in
     let whole : resource_writes layout space name base ≡ others ++ leader ∷ [] =
-    ap (λ ws. request_write layout base ∷ ws) (sym (append_assoc (block_writes layout base) (value_write layout base ∷ []) (leader ∷ []))) in
+    ap (λ ws. request_write layout base ∷ ws) (sym (append_assoc (block_writes layout space name base) (value_write layout base ∷ []) (leader ∷ []))) in
     let apart : All (λ w. Apart (place_of w) (place_of leader)) others =
     (front_apart others leader [] (subst AllApart whole (resource_apart g space name base is a b))).1 in
     last_by g.sector before after front leader others
-    (length-sector g.sector (LeaderIs (fresh_leader layout space name)) (sector_size g is) (fresh_leader_is g space name is a b))
+    (length-sector g.sector (leader_record layout (fresh_leader layout space name)) (sector_size g is) (leader_record_is g space name is a b))
     (before_or_last (λ w. Apart (place_of w) (place_of leader)) front.done front.next front.rest others leader (sym front.split ∙ whole) apart)
   where
     last_by : {ws : List Write} (bytes : ℕ) (before after : List ℕ) (front : HoldsFront ws before after) (leader : Write) (others : List Write) → length leader.sector ≡ bytes
@@ -142,15 +184,15 @@ leader_is_last g space name base before after is a b front =
 
 -- ---- what a look tells
 
-ended_as : (put output : List ℕ) (went d : Directed) (faults later : ℕ) → ((put ≡ output) × (d ≡ went)) ⊎ (IsFront put output × (d ≡ WriteFault) × Rose faults later)
+pub ended_as : (put output : List ℕ) (went d : Directed) (faults later : ℕ) → ((put ≡ output) × (d ≡ went)) ⊎ (IsFront put output × (d ≡ WriteFault) × Rose faults later)
     → (d ≡ WriteFault → ⊥) → went ≡ d
 ended_as put output went d faults later (inl whole) other = sym whole.1
 ended_as put output went d faults later (inr cut) other = absurd (other cut.1)
 
-done_is_none : Done ≡ WriteFault → ⊥
+pub done_is_none : Done ≡ WriteFault → ⊥
 done_is_none e = cc
 
-refused_is_none : NotTheLeader ≡ WriteFault → ⊥
+pub refused_is_none : NotTheLeader ≡ WriteFault → ⊥
 refused_is_none e = cc
 
 acted_done : (a : Action) (content after : Option (List ℕ)) (faults later : ℕ) (taken now : Option (List ℕ)) (sink_faults sink_later : ℕ)
@@ -193,14 +235,17 @@ told_wrong r g content after faults later taken now sink_faults sink_later run =
     let acts = (acted_refused (ReadLeader r g) (Some content) after faults later taken now sink_faults sink_later run).1 in
     sym (right_of_one r g.sector content acts.sectors (sector_seen content g.sector r.offset acts.sectors acts.read acts.ended.0)) ∙ acts.ended.1
 
-refused_look : (a : Action) (content after : Option (List ℕ)) (lines : List (List ℕ)) → Acts a content after lines NotTheLeader → (r : ResourceArg) × (g : Sizes) × (a ≡ ReadLeader r g)
+refused_look : (a : Action) (content after : Option (List ℕ)) (lines : List (List ℕ)) → Acts a content after lines NotTheLeader
+    → (r : ResourceArg) × (g : Sizes) × ((a ≡ ReadLeader r g) ⊎ (a ≡ Upgrade r g))
 refused_look (InitLockspace l g) content after lines acts = absurd acts
 refused_look (InitResource r g) content after lines acts = absurd acts
-refused_look (ReadLeader r g) content after lines acts = (r, g, refl)
+refused_look (ReadLeader r g) content after lines acts = (r, g, inl refl)
+refused_look (Upgrade r g) content after lines acts = (r, g, inr refl)
 refused_look (Dump path offset size g) content after lines acts = absurd (true_is_false acts.ended.1)
 
 told_other : (a : Action) (content after : Option (List ℕ)) (faults later : ℕ) (taken now : Option (List ℕ)) (sink_faults sink_later : ℕ)
-    → Directs a content after faults later taken now sink_faults sink_later NotTheLeader → (r : ResourceArg) × (g : Sizes) × (a ≡ ReadLeader r g)
+    → Directs a content after faults later taken now sink_faults sink_later NotTheLeader
+    → (r : ResourceArg) × (g : Sizes) × ((a ≡ ReadLeader r g) ⊎ (a ≡ Upgrade r g))
 told_other a content after faults later taken now sink_faults sink_later run =
     let acted = acted_refused a content after faults later taken now sink_faults sink_later run in
     refused_look a content after acted.0 acted.1
@@ -216,9 +261,16 @@ same_bytes xs = (bytes_eq-Decides xs xs).1 refl
 both : (a b : Bool) → a ≡ true → b ≡ true → (a && b) ≡ true
 both a b first second = ap (λ x. x && b) first ∙ second
 
+found_of_either : (g : Layout) (l : Leader) → leader_found (Ok (leader_record g l)) ≡ Ok l
+found_of_either g l = by g.paired
+  where
+    by : (paired : Bool) → leader_found (Ok (elim paired as (λ _. Rec) [ false ↦ LeaderIs l | true ↦ PairLeaderIs l ])) ≡ Ok l
+    by false = refl
+    by true = refl
+
 its_own : (r : ResourceArg) (g : Sizes) (content : List ℕ) → IsFreshResource g r.lockspace r.name r.offset content → has_its_leader r g.sector content
 its_own r g content fresh =
-    ap (λ x. is_its_leader r (leader_found x)) fresh.leader ∙ both (bytes_eq r.lockspace r.lockspace) (bytes_eq r.name r.name) (same_bytes r.lockspace) (same_bytes r.name)
+    ap (λ x. is_its_leader r (leader_found x)) fresh.leader ∙ ap (is_its_leader r) (found_of_either (layout_of g) (fresh_leader (layout_of g) r.lockspace r.name)) ∙ both (bytes_eq r.lockspace r.lockspace) (bytes_eq r.name r.name) (same_bytes r.lockspace) (same_bytes r.name)
 
 found_after : (r : ResourceArg) (g : Sizes) (before : List ℕ) (between : Option (List ℕ)) → IsAction (InitResource r g)
     → IsInitialised (resource_writes (layout_of g) r.lockspace r.name r.offset) (Some before) between

@@ -1,9 +1,10 @@
 -- The sectors of an area that is initialised: each is of the geometry's bytes, and no two share one.
 use Rattle.sha2.specs.Sha256.{sha256}
+use Rattle.sl_area.proofs.FreshRecords.{fresh_block_at_is, fresh_delta_is, leader_record_is, no_request_is, no_value_is}
 use Rattle.sl_area.proofs.SizeLaws.{HasRoom, has_room}
 use Rattle.sl_area.specs.Layouts.{IsGeometry, Layout, Sizes, layout_of}
-use Rattle.sl_area.specs.Places.{fresh_block, fresh_delta, fresh_leader, no_request, no_value}
-use Rattle.sl_area.specs.Sectors.{Apart, KeepsOthers}
+use Rattle.sl_area.specs.Places.{block_offset, block_sectors, fresh_block_at, fresh_delta, fresh_leader, leader_record, no_request, no_value, pair_offset}
+use Rattle.sl_area.specs.Sectors.{Apart, KeepsOthers, SectorPlace}
 use Rattle.sl_direct.proofs.DiskLaws.{AllApart, BrokeOff-behind, BrokeOff-front, Wrote-append, broke_first}
 use Rattle.sl_direct.specs.FreshAreas.{Write, block_write, block_writes, delta_write, leader_write, lockspace_writes, place_of, request_write, resource_writes, value_write, write_of}
 use Rattle.sl_direct.specs.Steps.{BrokeOff, Wrote}
@@ -11,13 +12,14 @@ use Rattle.sl_sector.proofs.SpellingLaws.{length-spelling}
 use Rattle.sl_sector.proofs.WrittenBytes.{sha256_is_digest}
 use Rattle.sl_sector.specs.Records.{IsRecord}
 use Rattle.sl_sector.specs.Spelling.{IsSectorSize, spelling}
-use Rattle.sl_sector.specs.declared.sector.Rec.TheVariants.{BlockIs, DeltaIs, LeaderIs, RequestIs, ValueIs}
+use Rattle.sl_sector.specs.declared.sector.Rec.TheVariants.{DeltaIs, RequestIs, ValueIs}
 use Rattle.sl_sector.specs.declared.sector.Rec.{Rec}
 use Rattle.sl_text.specs.Names.{is_name}
-use Rattle.std.proofs.Common.{All, Err, IsTrue, List, Ok, Option, Result, [], arith, inl, inr, length, map, refl, subst, suc, sym, zero, ℕ, ◌*◌, ◌++◌, ◌+◌, ◌-◌, ◌<◌, ◌^◌, ◌∷◌, ◌≡◌, ◌≤◌, ◌⊎◌}
+use Rattle.std.proofs.Common.{All, Bool, Err, IsTrue, List, Ok, Option, Result, [], arith, inl, inr, length, map, refl, subst, suc, sym, true, zero, ap, false, ℕ, ◌%◌, ◌*◌, ◌++◌, ◌+◌, ◌-◌, ◌/◌, ◌<◌, ◌∷◌, ◌≡◌, ◌≢◌, ◌≤◌, ◌⊎◌}
+use Rattle.std.proofs.lemmas.Bool.{eqb-false, eqb-true}
 use Rattle.std.proofs.lemmas.List.Elements.{All-append, All-cons, All-head, All-nil, All-tail}
 use Rattle.std.specs.List.{range_with_len}
-use Rattle.std.specs.Prelude.{OnErr}
+use Rattle.std.specs.Prelude.{OnErr, OnOk, if◌then◌else◌, ◌==◌}
 
 -- ---- sectors
 
@@ -32,6 +34,19 @@ pub write_failed : {E : Type 0} (result : Result (Unit {0}) E) (at size : ℕ) (
     → OnErr result (KeepsOthers a b (record { offset = at; size = size })) → OnErr result (BrokeOff (write_of size at r ∷ []) a b)
 write_failed (Ok x) at size r a b sized is kept = tt
 write_failed (Err e) at size r a b sized is kept = broke_first (write_of size at r) size a b (sym (length-sector size r sized is)) kept
+
+-- The same at another name of its place, and of its record.
+pub wrote_as : {E : Type 0} (result : Result (Unit {0}) E) (at p : SectorPlace) (r s : Rec) (a b : Option (List ℕ)) → at ≡ p → r ≡ s
+    → OnOk result (Wrote (write_of at.size at.offset r ∷ []) a b) → OnOk result (Wrote (write_of p.size p.offset s ∷ []) a b)
+wrote_as result at p r s a b place rec h =
+    subst (λ (x : Rec). OnOk result (Wrote (write_of p.size p.offset x ∷ []) a b)) rec
+    (subst (λ (q : SectorPlace). OnOk result (Wrote (write_of q.size q.offset r ∷ []) a b)) place h)
+
+pub broke_as : {E : Type 0} (result : Result (Unit {0}) E) (at p : SectorPlace) (r s : Rec) (a b : Option (List ℕ)) → at ≡ p → r ≡ s
+    → OnErr result (BrokeOff (write_of at.size at.offset r ∷ []) a b) → OnErr result (BrokeOff (write_of p.size p.offset s ∷ []) a b)
+broke_as result at p r s a b place rec h =
+    subst (λ (x : Rec). OnErr result (BrokeOff (write_of p.size p.offset x ∷ []) a b)) rec
+    (subst (λ (q : SectorPlace). OnErr result (BrokeOff (write_of q.size q.offset r ∷ []) a b)) place h)
 
 -- ---- a resource's writes, one behind another
 
@@ -64,66 +79,13 @@ leader_broke r bs v l a b c d e first second third broke =
     BrokeOff-behind (r ∷ []) (bs ++ v ∷ l ∷ []) a b e first
     (BrokeOff-behind bs (v ∷ l ∷ []) b c e second (BrokeOff-behind (v ∷ []) (l ∷ []) c d e third broke))
 
--- ---- the records have spellings
-
-nothing_less : 0 < 0 → ⊥
-nothing_less h = omega (arith, h)
-
-no_number : 0 < 2 ^ 63
-no_number = omega arith
-
-a_moment : 0 < 10 ^ 15
-a_moment = omega arith
-
-at_least_none : (n : ℕ) → 0 ≤ n
-at_least_none n = omega arith
-
-pub fresh_delta_is : (name : List ℕ) (id : ℕ) → IsTrue (is_name name) → 1 ≤ id → id ≤ 2000 → IsRecord (DeltaIs (fresh_delta name id))
-fresh_delta_is name id named low high =
-    record {
-      id = (low, high);
-      generation = no_number;
-      seq = no_number;
-      stamp = a_moment;
-      lockspace = named;
-      bitmap = (refl, refl);
-      unused = λ h. (refl, refl, refl, refl, refl);
-      used = λ h. absurd (nothing_less h);
-    }
-
-pub fresh_leader_is : (g : Sizes) (space name : List ℕ) → IsGeometry g → IsTrue (is_name space) → IsTrue (is_name name)
-    → IsRecord (LeaderIs (fresh_leader (layout_of g) space name))
-fresh_leader_is g space name is a b =
-    record {
-      hosts = (has_room g is).hosts;
-      lver = no_number;
-      generation = no_number;
-      owner = at_least_none g.hosts;
-      lockspace = a;
-      resource = b;
-      same = ((λ h. refl, λ h. refl), (λ h. refl, λ h. refl));
-      unused = λ h. refl;
-    }
-
-pub fresh_block_is : (host : ℕ) → 1 ≤ host → host ≤ 2000 → IsRecord (BlockIs (fresh_block host))
-fresh_block_is host low high =
-    record {
-      host = (low, high);
-      lver = no_number;
-      mbal = no_number;
-      bal = at_least_none 0;
-      generations = (no_number, no_number);
-      inp = at_least_none 2000;
-      value = ((λ h. refl, λ h. refl), (λ h. refl, λ h. refl));
-      mode = (λ h. refl, λ h. refl);
-      unused = λ h. (refl, refl);
-    }
-
-pub no_request_is : IsRecord (RequestIs no_request)
-no_request_is = record { force = at_least_none 2; host = at_least_none 2000; lver = no_number; same = (λ h. refl, λ h. refl) }
-
-pub no_value_is : IsRecord (ValueIs no_value)
-no_value_is = record { host = at_least_none 2000; lver = no_number; seq = no_number; bytes = (at_least_none 256, refl) }
+-- The k-th of the sectors that the blocks have, if these are pairs.
+pub pair_of_sector : (g : Layout) (base k : ℕ) → pair_offset g base ((k + 1) / 2) (k % 2 == 1) ≡ block_offset g base k
+pair_of_sector g base k = ap (λ (n : ℕ). base + g.sector * n) (by (k % 2 == 1) refl)
+  where
+    by : (first : Bool) → (k % 2 == 1) ≡ first → 2 * ((k + 1) / 2) + (if first then 0 else 1) ≡ k + 1
+    by true e = let odd : k % 2 ≡ 1 = eqb-true (k % 2) 1 e in omega (arith, odd)
+    by false e = let even : k % 2 ≢ 1 = eqb-false (k % 2) 1 e in omega (arith, even)
 
 -- ---- the sectors are apart
 
@@ -214,36 +176,39 @@ resource_apart g space name base is a b =
     let size : ℕ = g.sector in
     let sized : IsSectorSize size = room.sector in
     let layout : Layout = layout_of g in
-    let block = λ (k : ℕ). block_write layout base k in
+    let block = λ (k : ℕ). block_write layout space name base k in
+    let sectors : ℕ = block_sectors layout in
     let value : Write = value_write layout base in
     let leader : Write = leader_write layout space name base in
     let request : Write = request_write layout base in
-    let is_leader : IsRecord (LeaderIs (fresh_leader layout space name)) = fresh_leader_is g space name is a b in
-    let is_block : (k : ℕ) → 1 ≤ k → k < 1 + g.hosts → IsRecord (BlockIs (fresh_block k)) = λ k low high. fresh_block_is k low (omega (arith, high, room.hosts.1)) in
+    let fresh : Rec = leader_record layout (fresh_leader layout space name) in
+    let fresh_block = λ (k : ℕ). fresh_block_at layout space name (k + 1) in
+    let is_leader : IsRecord fresh = leader_record_is g space name is a b in
+    let is_block : (k : ℕ) → 1 ≤ k → k < 1 + sectors → IsRecord (fresh_block k) = λ k low high. fresh_block_at_is g space name (k + 1) is a b (omega (arith, low)) (omega (arith, high)) in
     let last : AllApart (value ∷ leader ∷ []) = (
       All-cons (IsApartFrom value) leader []
-          (sectors_apart size _ _ (ValueIs no_value) (LeaderIs (fresh_leader layout space name)) sized no_value_is is_leader (inr (first_one base size g.hosts g.area room.room))) (All-nil _),
+          (sectors_apart size _ _ (ValueIs no_value) fresh sized no_value_is is_leader (inr (first_one base size g.hosts g.area room.room))) (All-nil _),
       (All-nil _, tt),
     ) in
-    let blocks : AllApart (block_writes layout base) =
-    apart_in_range block 1 g.hosts
+    let blocks : AllApart (block_writes layout space name base) =
+    apart_in_range block 1 sectors
     (λ i j low less high.
-    sectors_apart size _ _ (BlockIs (fresh_block i)) (BlockIs (fresh_block j)) sized (is_block i low (omega (arith, less, high))) (is_block j (omega (arith, low, less)) high)
+    sectors_apart size _ _ (fresh_block i) (fresh_block j) sized (is_block i low (omega (arith, less, high))) (is_block j (omega (arith, low, less)) high)
     (inl (numbered_apart base size (i + 1) (j + 1) (omega (arith, less))))) in
-    let across : All (λ x. All (IsApartFrom x) (value ∷ leader ∷ [])) (block_writes layout base) =
-    all_of_range (λ x. All (IsApartFrom x) (value ∷ leader ∷ [])) block 1 g.hosts
+    let across : All (λ x. All (IsApartFrom x) (value ∷ leader ∷ [])) (block_writes layout space name base) =
+    all_of_range (λ x. All (IsApartFrom x) (value ∷ leader ∷ [])) block 1 sectors
     (λ k low high.
     All-cons (IsApartFrom (block k)) value (leader ∷ [])
-    (sectors_apart size _ _ (BlockIs (fresh_block k)) (ValueIs no_value) sized (is_block k low high) no_value_is
-    (inl (before_value base size k g.hosts g.area (omega (arith, high)) room.room)))
+    (sectors_apart size _ _ (fresh_block k) (ValueIs no_value) sized (is_block k low high) no_value_is
+    (inl (before_value base size k sectors g.area (omega (arith, high)) room.blocks)))
     (All-cons (IsApartFrom (block k)) leader []
-    (sectors_apart size _ _ (BlockIs (fresh_block k)) (LeaderIs (fresh_leader layout space name)) sized (is_block k low high) is_leader (inr (behind_leader base size k))) (All-nil _))) in (
-      All-append (IsApartFrom request) (block_writes layout base) (value ∷ leader ∷ [])
-          (all_of_range (IsApartFrom request) block 1 g.hosts
-          (λ k low high. sectors_apart size _ _ (RequestIs no_request) (BlockIs (fresh_block k)) sized no_request_is (is_block k low high) (inl (behind_request base size k low))))
+    (sectors_apart size _ _ (fresh_block k) fresh sized (is_block k low high) is_leader (inr (behind_leader base size k))) (All-nil _))) in (
+      All-append (IsApartFrom request) (block_writes layout space name base) (value ∷ leader ∷ [])
+          (all_of_range (IsApartFrom request) block 1 sectors
+          (λ k low high. sectors_apart size _ _ (RequestIs no_request) (fresh_block k) sized no_request_is (is_block k low high) (inl (behind_request base size k low))))
           (All-cons (IsApartFrom request) value (leader ∷ [])
           (sectors_apart size _ _ (RequestIs no_request) (ValueIs no_value) sized no_request_is no_value_is (inl (first_two base size g.hosts g.area room.room)))
           (All-cons (IsApartFrom request) leader []
-          (sectors_apart size _ _ (RequestIs no_request) (LeaderIs (fresh_leader layout space name)) sized no_request_is is_leader (inr (omega arith))) (All-nil _))),
-      apart_joined (block_writes layout base) (value ∷ leader ∷ []) blocks last across,
+          (sectors_apart size _ _ (RequestIs no_request) fresh sized no_request_is is_leader (inr (omega arith))) (All-nil _))),
+      apart_joined (block_writes layout space name base) (value ∷ leader ∷ []) blocks last across,
     )

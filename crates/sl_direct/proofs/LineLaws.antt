@@ -2,7 +2,7 @@
 use Rattle.sl_direct.specs.Lines.{found_words}
 use Rattle.sl_sector.specs.declared.sector.Bad.TheVariants.{BadCheck, BadField, BadKind, BadMagic, BadPad}
 use Rattle.sl_sector.specs.declared.sector.Bad.{Bad}
-use Rattle.sl_sector.specs.declared.sector.Rec.TheVariants.{BlockIs, DeltaIs, LeaderIs, RequestIs, ValueIs}
+use Rattle.sl_sector.specs.declared.sector.Rec.TheVariants.{BlockIs, DeltaIs, LeaderIs, PairIs, PairLeaderIs, RequestIs, ValueIs}
 use Rattle.sl_sector.specs.declared.sector.Rec.{Rec}
 use Rattle.std.proofs.Common.{Err, List, Ok, Result, [], ap, append_assoc, refl, sym, ℕ, ◌++◌, ◌∙◌, ◌∷◌, ◌≡◌}
 use Rattle.std.specs.List.{join_with_byte}
@@ -14,6 +14,8 @@ joined_found at (Ok (LeaderIs l)) = refl
 joined_found at (Ok (BlockIs b)) = refl
 joined_found at (Ok (RequestIs r)) = refl
 joined_found at (Ok (ValueIs v)) = refl
+joined_found at (Ok (PairIs p)) = refl
+joined_found at (Ok (PairLeaderIs l)) = refl
 joined_found at (Err BadMagic) = refl
 joined_found at (Err BadKind) = refl
 joined_found at (Err (BadField k)) = refl

@@ -5,9 +5,10 @@ use Rattle.sl_area.specs.Sectors.{IsReadAt}
 use Rattle.sl_direct.specs.Disks.{IsBrokenOff, IsInitialised}
 use Rattle.sl_direct.specs.FreshAreas.{Write, lockspace_writes, resource_writes}
 use Rattle.sl_direct.specs.Lines.{dump_lines, fault_line, is_its_leader, leader_in_sector, leader_line, lockspace_line, resource_line}
-use Rattle.sl_direct.specs.declared.action.Action.TheVariants.{Dump, InitLockspace, InitResource, ReadLeader}
+use Rattle.sl_direct.specs.Upgrades.{Upgrades}
+use Rattle.sl_direct.specs.declared.action.Action.TheVariants.{Dump, InitLockspace, InitResource, ReadLeader, Upgrade}
 use Rattle.sl_direct.specs.declared.action.Action.{Action}
-use Rattle.sl_direct.specs.declared.action.Directed.TheVariants.{AreaFault, Done, NoMemory, NotTheLeader, WriteFault}
+use Rattle.sl_direct.specs.declared.action.Directed.TheVariants.{AreaFault, Done, NoMemory, NotTheLeader, TornBlock, WriteFault}
 use Rattle.sl_direct.specs.declared.action.Directed.{Directed}
 use Rattle.sl_text.specs.Forms.{as_bytes}
 use Rattle.sl_text.specs.Names.{is_name}
@@ -30,6 +31,7 @@ abbrev pub IsAction : Action → Type 0
 IsAction (InitLockspace l g) = IsGeometry g × IsTrue (is_name l.name) × IsBase g l.offset
 IsAction (InitResource r g) = IsGeometry g × IsTrue (is_name r.lockspace) × IsTrue (is_name r.name) × IsBase g r.offset
 IsAction (ReadLeader r g) = IsGeometry g × IsBase g r.offset
+IsAction (Upgrade r g) = IsGeometry g × (g.paired ≡ true) × IsBase g r.offset
 IsAction (Dump path offset size g) = IsGeometry g × IsStretch g.sector offset size
 
 -- The path of the file that an action is done to.
@@ -37,6 +39,7 @@ abbrev pub path_of : Action → List ℕ
 path_of (InitLockspace l g) = l.path
 path_of (InitResource r g) = r.path
 path_of (ReadLeader r g) = r.path
+path_of (Upgrade r g) = r.path
 path_of (Dump path offset size g) = path
 
 -- ---- an action that writes
@@ -88,6 +91,7 @@ Ended count right read Done = (read ≡ count) × (right ≡ true)
 Ended count right read NotTheLeader = (read ≡ count) × (right ≡ false)
 Ended count right read AreaFault = read < count
 Ended count right read NoMemory = read ≤ count
+Ended count right read TornBlock = ⊥
 Ended count right read WriteFault = ⊥
 
 -- Nothing is written, and the lines of the sectors that were read are printed.
@@ -105,6 +109,7 @@ abbrev pub Acts : Action → Option (List ℕ) → Option (List ℕ) → List (L
 Acts (InitLockspace l g) = Writes (lockspace_writes (layout_of g) l.name l.offset) (lockspace_line l g.hosts)
 Acts (InitResource r g) = Writes (resource_writes (layout_of g) r.lockspace r.name r.offset) (resource_line r g.hosts)
 Acts (ReadLeader r g) = Reads (leader_look r g.sector)
+Acts (Upgrade r g) = Upgrades r g
 Acts (Dump path offset size g) = Reads (dump_look offset size g.sector)
 
 -- The line that is printed behind all others where the area failed.

@@ -1,13 +1,13 @@
 -- What is written to the area of a lockspace or of a resource that is initialised, in the order in which it is written.
 use Rattle.sha2.specs.Sha256.{sha256}
 use Rattle.sl_area.specs.Layouts.{Layout}
-use Rattle.sl_area.specs.Places.{block_offset, delta_offset, fresh_block, fresh_delta, fresh_leader, leader_offset, no_request, no_value, request_offset, value_offset}
+use Rattle.sl_area.specs.Places.{block_offset, block_sectors, delta_offset, fresh_block_at, fresh_delta, fresh_leader, leader_offset, leader_record, no_request, no_value, request_offset, value_offset}
 use Rattle.sl_area.specs.Sectors.{SectorPlace}
 use Rattle.sl_sector.specs.Spelling.{spelling}
-use Rattle.sl_sector.specs.declared.sector.Rec.TheVariants.{BlockIs, DeltaIs, LeaderIs, RequestIs, ValueIs}
+use Rattle.sl_sector.specs.declared.sector.Rec.TheVariants.{DeltaIs, RequestIs, ValueIs}
 use Rattle.sl_sector.specs.declared.sector.Rec.{Rec}
 use Rattle.std.specs.List.{range_with_len}
-use Rattle.std.specs.Prelude.{List, length, map, [], ℕ, ◌++◌, ◌∷◌}
+use Rattle.std.specs.Prelude.{List, length, map, [], ℕ, ◌++◌, ◌+◌, ◌∷◌}
 
 -- A sector that is written: where it begins, and its bytes.
 pub record Write : Type 0 where
@@ -34,9 +34,10 @@ lockspace_writes g lockspace base = map (delta_write g lockspace base) (range_wi
 abbrev pub request_write : Layout → ℕ → Write
 request_write g base = write_of g.sector (request_offset g base) (RequestIs no_request)
 
--- A host's block that has no ballot, in its place.
-abbrev pub block_write : Layout → ℕ → ℕ → Write
-block_write g base id = write_of g.sector (block_offset g base id) (BlockIs (fresh_block id))
+-- A block that has no ballot, in the k-th of the sectors that the blocks have: that of host k, or with pairs the first or the second of
+-- a host.
+abbrev pub block_write : Layout → List ℕ → List ℕ → ℕ → ℕ → Write
+block_write g lockspace resource base k = write_of g.sector (block_offset g base k) (fresh_block_at g lockspace resource (k + 1))
 
 -- The value without a byte, in its place.
 abbrev pub value_write : Layout → ℕ → Write
@@ -44,14 +45,14 @@ value_write g base = write_of g.sector (value_offset g base) (ValueIs no_value)
 
 -- The leader that was never held, in its place.
 abbrev pub leader_write : Layout → List ℕ → List ℕ → ℕ → Write
-leader_write g lockspace resource base = write_of g.sector (leader_offset base) (LeaderIs (fresh_leader g lockspace resource))
+leader_write g lockspace resource base = write_of g.sector (leader_offset base) (leader_record g (fresh_leader g lockspace resource))
 
 -- The blocks of all hosts.
-abbrev pub block_writes : Layout → ℕ → List Write
-block_writes g base = map (block_write g base) (range_with_len 1 g.hosts)
+abbrev pub block_writes : Layout → List ℕ → List ℕ → ℕ → List Write
+block_writes g lockspace resource base = map (block_write g lockspace resource base) (range_with_len 1 (block_sectors g))
 
 -- A resource: the request, each host's block, the value, and last the leader. Where no leader stood before, none stands after an
 -- initialising that broke off, and so it is seen.
 abbrev pub resource_writes : Layout → List ℕ → List ℕ → ℕ → List Write
 resource_writes g lockspace resource base =
-    request_write g base ∷ (block_writes g base ++ value_write g base ∷ leader_write g lockspace resource base ∷ [])
+    request_write g base ∷ (block_writes g lockspace resource base ++ value_write g base ∷ leader_write g lockspace resource base ∷ [])

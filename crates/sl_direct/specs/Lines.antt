@@ -5,7 +5,7 @@ use Rattle.sl_sector.specs.Spelling.{decoded}
 use Rattle.sl_sector.specs.declared.sector.Bad.TheVariants.{BadKind}
 use Rattle.sl_sector.specs.declared.sector.Bad.{Bad}
 use Rattle.sl_sector.specs.declared.sector.Leader.{Leader}
-use Rattle.sl_sector.specs.declared.sector.Rec.TheVariants.{LeaderIs}
+use Rattle.sl_sector.specs.declared.sector.Rec.TheVariants.{LeaderIs, PairLeaderIs}
 use Rattle.sl_sector.specs.declared.sector.Rec.{Rec}
 use Rattle.sl_text.specs.Forms.{coloned, spaced}
 use Rattle.sl_trace.specs.declared.command.LockspaceArg.{LockspaceArg}
@@ -24,9 +24,10 @@ resource_line r hosts = spaced (codes "init" ∷ coloned (r.lockspace ∷ r.name
 
 -- ---- a leader
 
--- The leader that was read, or why there is none; another record is of a bad kind.
+-- The leader that was read, of an area with pairs or without, or why there is none; another record is of a bad kind.
 abbrev pub leader_found : Result Rec Bad → Result Leader Bad
 leader_found (Ok (LeaderIs l)) = Ok l
+leader_found (Ok (PairLeaderIs l)) = Ok l
 leader_found (Ok r) = Err BadKind
 leader_found (Err bad) = Err bad
 

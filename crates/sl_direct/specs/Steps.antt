@@ -1,47 +1,14 @@
 -- Between the beginning and the end of an action: writes that were made one behind another, and sectors that were told so.
-use Rattle.sl_area.specs.Sectors.{IsReadAt, KeepsOthers, put_at}
+use Rattle.sl_area.specs.Sectors.{IsReadAt}
 use Rattle.sl_direct.specs.Actions.{Acts, AreReadAt}
-use Rattle.sl_direct.specs.FreshAreas.{Write, place_of}
 use Rattle.sl_direct.specs.Lines.{dump_lines, sector_line}
 use Rattle.sl_direct.specs.declared.action.Action.{Action}
 use Rattle.sl_direct.specs.declared.action.Directed.TheVariants.{AreaFault, NoMemory}
 use Rattle.sl_direct.specs.declared.action.Directed.{Directed}
 use Rattle.sl_text.specs.Forms.{as_bytes}
 use Rattle.sl_words.specs.Causes.{Rose}
-use Rattle.std.specs.Prelude.{List, None, Option, Some, length, [], ⊤, ℕ, ◌++◌, ◌+◌, ◌∷◌, ◌≡◌, ◌≤◌, ◌⊎◌}
-
--- ---- writes
-
--- The content after these writes, one behind another.
-abbrev pub written : List Write → List ℕ → List ℕ
-written [] content = content
-written (w ∷ ws) content = written ws (put_at w.offset w.sector content)
-
--- Each lies on a disk of so many bytes.
-abbrev pub AllFit : List Write → ℕ → Type 0
-AllFit [] size = ⊤
-AllFit (w ∷ ws) size = (w.offset + length w.sector ≤ size) × AllFit ws size
-
--- These writes were made, one behind another.
-abbrev pub Wrote : List Write → Option (List ℕ) → Option (List ℕ) → Type 0
-Wrote ws None after = ⊤
-Wrote ws (Some before) None = ⊥
-Wrote ws (Some before) (Some after) = AllFit ws (length before) × (after ≡ written ws before)
-
--- A front of them was made, and the next one failed.
-pub record WroteFront (ws : List Write) (before after : List ℕ) : Type 0 where
-  pub done : List Write
-  pub next : Write
-  pub rest : List Write
-  pub split : ws ≡ done ++ next ∷ rest
-  pub fit : AllFit done (length before)
-  pub kept : KeepsOthers (Some (written done before)) (Some after) (place_of next)
-
--- The same, where the content is told.
-abbrev pub BrokeOff : List Write → Option (List ℕ) → Option (List ℕ) → Type 0
-BrokeOff ws None after = ⊤
-BrokeOff ws (Some before) None = ⊥
-BrokeOff ws (Some before) (Some after) = WroteFront ws before after
+use Rattle.std.specs.Prelude.{List, Option, length, [], ℕ, ◌++◌, ◌∷◌, ◌≡◌, ◌⊎◌}
+pub use Rattle.sl_direct.specs.Writes.{AllFit, BrokeOff, Wrote, WroteFront, written}
 
 -- ---- sectors that are told
 

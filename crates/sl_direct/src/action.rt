@@ -16,13 +16,18 @@ pub enum Action {
         lockspace: LockspaceArg,
         geometry: Geometry,
     },
-    /// Writes the sectors of a resource.
+    /// Writes the sectors of a resource, each block with a pair of sectors where the geometry says so.
     InitResource {
         resource: ResourceArg,
         geometry: Geometry,
     },
     /// Tells the resource's leader.
     ReadLeader {
+        resource: ResourceArg,
+        geometry: Geometry,
+    },
+    /// Makes an area without pairs one with pairs, with the same leader and blocks. The geometry is that of the area with pairs.
+    Upgrade {
         resource: ResourceArg,
         geometry: Geometry,
     },
@@ -53,6 +58,10 @@ impl Action {
                 resource,
                 geometry: _,
             } => resource.path,
+            Action::Upgrade {
+                resource,
+                geometry: _,
+            } => resource.path,
             Action::Dump {
                 path,
                 offset: _,
@@ -74,6 +83,9 @@ pub enum Directed {
     NoMemory,
     /// A read or a write of the area failed; the output ends with the line `area fault`.
     AreaFault,
-    /// The sector of `ReadLeader` holds no leader, or one of other names; the output says what it holds.
+    /// The leader's sector holds no leader of the resource: none, one of other names, or for an upgrade one of an area with pairs or for
+    /// other hosts. The output says what it holds.
     NotTheLeader,
+    /// A block of the area that was to be upgraded is torn; the output says whose.
+    TornBlock,
 }

@@ -1,6 +1,7 @@
 //! Areas that are initialised.
 ghost use Rattle.sl_area.specs.Layouts.{IsGeometry, layout_of};
-ghost use Rattle.sl_area.specs.Roles.{IsBase};
+ghost use Rattle.sl_area.specs.Places.{block_offset, block_sectors};
+ghost use Rattle.sl_area.specs.Roles.{IsBase, place_at};
 ghost use Rattle.sl_direct.specs.Actions.{IsAction};
 ghost use Rattle.sl_direct.specs.FreshAreas.{block_write, block_writes, delta_write, leader_write, lockspace_writes, request_write, resource_writes, value_write, write_of};
 ghost use Rattle.sl_direct.specs.Steps.{BrokeOff, HasActed, Wrote};
@@ -14,7 +15,9 @@ ghost use Rattle.std.specs.Prelude.{IsTrue, OnErr, OnOk, [], ◌∷◌, ◌≡�
 
 use crate::LONGEST_SECTOR;
 use crate::action::Directed;
-use crate::fresh::{fresh_block, fresh_delta, fresh_leader, no_request, no_value};
+use crate::fresh::{
+    fresh_block_at, fresh_delta, fresh_leader, leader_record, no_request, no_value,
+};
 use crate::lines::{push_lockspace_line, push_resource_line};
 use sl_area::{Area, Geometry, Place};
 use sl_io::Failed;
@@ -76,29 +79,59 @@ fn write_lockspace<A: Area>(
     Ok(())
 }
 
-/// Writes a host's block that has no ballot.
-fn write_block<A: Area>(area: &mut A, geometry: Geometry, base: u64, id: u32) -> Result<(), Failed>
+/// Of the sectors that the blocks have, the place of the `k`-th.
+#[tactic(auto, using(crate::proofs::FreshLaws::pair_of_sector))]
+fn block_place(geometry: Geometry, base: u64, k: u32) -> Place
+    requires base { IsBase geometry base }
+    requires sector { (1 ≤ k) × (k ≤ block_sectors (layout_of geometry)) }
+    ensures { result ≡ place_at geometry (block_offset (layout_of geometry) base k) }
+{
+    let _sectors = geometry.block_sectors();
+    if geometry.is_paired() {
+        geometry.pair_place(base, (k + 1) / 2, k % 2 == 1)
+    } else {
+        geometry.block_place(base, k)
+    }
+}
+
+/// Writes a block that has no ballot to the `k`-th of the sectors that the blocks have.
+fn write_block<A: Area>(
+    area: &mut A,
+    geometry: Geometry,
+    lockspace: Name,
+    resource: Name,
+    base: u64,
+    k: u32,
+) -> Result<(), Failed>
     requires sizes { IsGeometry geometry }
     requires base { IsBase geometry base }
-    requires id { (1 ≤ id) × (id ≤ geometry.hosts) }
-    ensures ok { OnOk result (Wrote (block_write (layout_of geometry) base id ∷ []) (A.content area.old) (A.content area.new)) }
-    ensures failed { OnErr result (BrokeOff (block_write (layout_of geometry) base id ∷ []) (A.content area.old) (A.content area.new)) }
+    requires named { IsTrue (is_name lockspace) × IsTrue (is_name resource) }
+    requires sector { (1 ≤ k) × (k ≤ block_sectors (layout_of geometry)) }
+    ensures ok { OnOk result (Wrote (block_write (layout_of geometry) lockspace resource base k ∷ []) (A.content area.old) (A.content area.new)) }
+    ensures failed { OnErr result (BrokeOff (block_write (layout_of geometry) lockspace resource base k ∷ []) (A.content area.old) (A.content area.new)) }
     ensures cause { HasCause (A.faults area.old) (A.faults area.new) result }
 {
-    let at = geometry.block_place(base, id);
-    write_record(area, at, &Rec::BlockIs(fresh_block(id)))
+    let at = block_place(geometry, base, k);
+    write_record(area, at, &fresh_block_at(geometry, lockspace, resource, k))
 }
 
 /// Writes the blocks of all hosts.
-fn write_blocks<A: Area>(area: &mut A, geometry: Geometry, base: u64) -> Result<(), Failed>
+fn write_blocks<A: Area>(
+    area: &mut A,
+    geometry: Geometry,
+    lockspace: Name,
+    resource: Name,
+    base: u64,
+) -> Result<(), Failed>
     requires sizes { IsGeometry geometry }
     requires base { IsBase geometry base }
-    ensures ok { OnOk result (Wrote (block_writes (layout_of geometry) base) (A.content area.old) (A.content area.new)) }
-    ensures failed { OnErr result (BrokeOff (block_writes (layout_of geometry) base) (A.content area.old) (A.content area.new)) }
+    requires named { IsTrue (is_name lockspace) × IsTrue (is_name resource) }
+    ensures ok { OnOk result (Wrote (block_writes (layout_of geometry) lockspace resource base) (A.content area.old) (A.content area.new)) }
+    ensures failed { OnErr result (BrokeOff (block_writes (layout_of geometry) lockspace resource base) (A.content area.old) (A.content area.new)) }
     ensures cause { HasCause (A.faults area.old) (A.faults area.new) result }
 {
-    for before in 0..geometry.hosts() {
-        write_block(area, geometry, base, before + 1)?;
+    for before in 0..geometry.block_sectors() {
+        write_block(area, geometry, lockspace, resource, base, before + 1)?;
     }
     Ok(())
 }
@@ -143,7 +176,11 @@ fn write_leader<A: Area>(
     ensures cause { HasCause (A.faults area.old) (A.faults area.new) result }
 {
     let leader = fresh_leader(geometry, lockspace, resource);
-    write_record(area, geometry.leader_place(base), &Rec::LeaderIs(leader))
+    write_record(
+        area,
+        geometry.leader_place(base),
+        &leader_record(geometry, leader),
+    )
 }
 
 /// Writes the sectors of a resource, the leader last. After an `Err` a front of them was written, and the next one may be torn.
@@ -162,7 +199,7 @@ pub fn write_resource<A: Area>(
     ensures cause { HasCause (A.faults area.old) (A.faults area.new) result }
 {
     write_request(area, geometry, base)?;
-    write_blocks(area, geometry, base)?;
+    write_blocks(area, geometry, lockspace, resource, base)?;
     write_value(area, geometry, base)?;
     write_leader(area, geometry, lockspace, resource, base)?;
     Ok(())

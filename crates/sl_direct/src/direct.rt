@@ -9,6 +9,7 @@ ghost use Rattle.std.specs.Prelude.{[], ◌++◌, ◌≡◌, ◌≤◌};
 use crate::action::{Action, Directed};
 use crate::areas::{init_lockspace, init_resource};
 use crate::looks::{dump, read_leader};
+use crate::upgrade::upgrade;
 use sl_area::Area;
 use sl_io::{Sink, write_all};
 use std::alloc::Global;
@@ -30,6 +31,7 @@ fn act<A: Area>(area: &mut A, action: &Action, out: &mut Vec<u8>) -> Directed
             init_resource(area, resource, *geometry, out)
         }
         Action::ReadLeader { resource, geometry } => read_leader(area, resource, *geometry, out),
+        Action::Upgrade { resource, geometry } => upgrade(area, resource, *geometry, out),
         Action::Dump {
             path,
             offset,

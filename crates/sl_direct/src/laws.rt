@@ -1,5 +1,5 @@
 //! What is left of an area and told of it, without the steps: laws of the definitions that `run_direct` cites.
-ghost use Rattle.sl_direct.specs.Laws.{InitialisedIsFound, LeaderIsLast, LeaderIsTold, LockspaceStands, ResourceStands};
+ghost use Rattle.sl_direct.specs.Laws.{InitialisedIsFound, LeaderIsLast, LeaderIsTold, LockspaceStands, ResourceStands, UpgradeIsTold};
 
 /// In a lockspace that was initialised the sector of each id spells a record that was never claimed.
 pub fn lockspace_stands()
@@ -25,4 +25,9 @@ pub fn leader_is_told()
 /// What was initialised is found.
 pub fn initialised_is_found()
     ensures { InitialisedIsFound }
+{}
+
+/// An upgrade is done only where the area can be upgraded, and is `NotTheLeader` or `TornBlock` only where it can't.
+pub fn upgrade_is_told()
+    ensures { UpgradeIsTold }
 {}

@@ -1,5 +1,6 @@
 //! The lines that are printed, each behind the others with its line feed. Where memory runs out, the text stays as it was.
 ghost use Rattle.sl_direct.specs.Lines as texts;
+ghost use Rattle.sl_direct.specs.Upgrades as upgrades;
 ghost use Rattle.sha2.specs.Sha256.{sha256};
 ghost use Rattle.sl_sector.specs.RecordTexts.{bad_text};
 ghost use Rattle.sl_sector.specs.Spelling.{IsSectorSize, decoded};
@@ -43,20 +44,47 @@ pub(crate) fn push_resource_line(
     push_line(out, line.as_bytes())
 }
 
-/// The leader that the sector spells, or why there is none.
+/// Adds the line of a resource whose area is upgraded.
+pub(crate) fn push_upgrade_line(
+    out: &mut Vec<u8>,
+    resource: &ResourceArg,
+    geometry: Geometry,
+) -> Result<(), AllocError>
+    ensures ok { OnOk result (out.new.items ≡ out.old.items ++ upgrades.upgrade_line resource.now geometry.hosts ++ 10 ∷ []) }
+    ensures err { OnErr result (out.new.items ≡ out.old.items) }
+{
+    let hosts = geometry.hosts();
+    let line = format!(in *out.allocator();
+        "upgrade {}:{} {hosts}",
+        resource.lockspace, resource.name
+    )?;
+    push_line(out, line.as_bytes())
+}
+
+/// Adds the line of a block that is torn.
+pub(crate) fn push_torn_line(out: &mut Vec<u8>, id: u32) -> Result<(), AllocError>
+    ensures ok { OnOk result (out.new.items ≡ out.old.items ++ upgrades.torn_line id ++ 10 ∷ []) }
+    ensures err { OnErr result (out.new.items ≡ out.old.items) }
+{
+    let line = format!(in *out.allocator(); "TornBlock {id}")?;
+    push_line(out, line.as_bytes())
+}
+
+/// The leader that the sector spells, of an area with pairs or without, or why there is none.
 pub(crate) fn leader_in_sector(sector: &[u8]) -> Result<Leader, Bad>
     requires { IsSectorSize (length sector.now) }
     ensures { result ≡ texts.leader_in_sector sector.now }
 {
     match decode(sector) {
         Ok(Rec::LeaderIs(leader)) => Ok(leader),
+        Ok(Rec::PairLeaderIs(leader)) => Ok(leader),
         Ok(_) => Err(Bad::BadKind),
         Err(bad) => Err(bad),
     }
 }
 
 /// Whether the leader is the resource's.
-fn has_names(resource: &ResourceArg, leader: &Leader) -> bool
+pub(crate) fn has_names(resource: &ResourceArg, leader: &Leader) -> bool
     ensures { result ≡ texts.has_names resource.now leader.now }
 {
     leader.lockspace == resource.lockspace && leader.resource == resource.name
@@ -141,6 +169,28 @@ pub(crate) fn push_leader_line(
     ensures err { OnErr result (out.new.items ≡ out.old.items) }
 {
     let line = leader_text(*out.allocator(), resource, found)?;
+    push_line(out, &line)
+}
+
+/// The text of a leader that can't be upgraded, or of none.
+fn other_text(alloc: Global, found: &Result<Leader, Bad>) -> Result<Vec<u8>, AllocError>
+    ensures { IfOk result (λ text. text.items ≡ spaced (upgrades.other_words found.now)) }
+{
+    match found {
+        Ok(leader) => wrong_text(alloc, leader),
+        Err(bad) => bad_text(alloc, *bad),
+    }
+}
+
+/// Adds the line of a leader that can't be upgraded, or of none.
+pub(crate) fn push_other_line(
+    out: &mut Vec<u8>,
+    found: &Result<Leader, Bad>,
+) -> Result<(), AllocError>
+    ensures ok { OnOk result (out.new.items ≡ out.old.items ++ spaced (upgrades.other_words found.now) ++ 10 ∷ []) }
+    ensures err { OnErr result (out.new.items ≡ out.old.items) }
+{
+    let line = other_text(*out.allocator(), found)?;
     push_line(out, &line)
 }
 

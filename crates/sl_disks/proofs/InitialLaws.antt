@@ -2,9 +2,10 @@
 use Rattle.std.proofs.lemmas.List.{length-replicate}
 use Rattle.sl_sector.specs.declared.sector.DeltaRec.{DeltaRec}
 use Rattle.sha2.specs.Sha256.{sha256}
-use Rattle.sl_area.proofs.SizeLaws.{HasRoom, has_room}
+use Rattle.sl_area.proofs.FreshRecords.{fresh_block_at_is, leader_record_is, no_request_is, no_value_is}
+use Rattle.sl_area.proofs.SizeLaws.{has_room}
 use Rattle.sl_area.specs.Layouts.{IsGeometry, Sizes, layout_of, sector_with}
-use Rattle.sl_area.specs.Places.{fresh_block, fresh_delta, fresh_leader, in_area, no_request, no_value}
+use Rattle.sl_area.specs.Places.{area_sectors, fresh_block_at, fresh_delta, fresh_leader, in_area, leader_record, no_request, no_value}
 use Rattle.sl_run.specs.Headers.{IsHeader}
 use Rattle.sl_run.specs.Worlds.{clock_reading, initial_bytes, initial_delta, initial_of_lockspace, initial_of_resource, initial_record, member_delta}
 use Rattle.sl_run.specs.declared.header.FirstReading.{FirstReading}
@@ -14,9 +15,9 @@ use Rattle.sl_run.specs.declared.header.ResourceLine.{ResourceLine}
 use Rattle.sl_run.specs.declared.header.SessionLine.{SessionLine}
 use Rattle.sl_sector.proofs.SpellingLaws.{length-spelling}
 use Rattle.sl_sector.proofs.WrittenBytes.{sha256_is_digest}
-use Rattle.sl_sector.specs.Records.{IsBlock, IsDelta, IsLeader, IsRecord, IsRequest, IsValue}
+use Rattle.sl_sector.specs.Records.{IsDelta, IsRecord}
 use Rattle.sl_sector.specs.Spelling.{IsSectorSize}
-use Rattle.sl_sector.specs.declared.sector.Rec.TheVariants.{BlockIs, DeltaIs, LeaderIs, RequestIs, ValueIs}
+use Rattle.sl_sector.specs.declared.sector.Rec.TheVariants.{DeltaIs, RequestIs, ValueIs}
 use Rattle.sl_sector.specs.declared.sector.Rec.{Rec}
 use Rattle.sl_text.specs.Names.{is_name}
 use Rattle.sl_words.proofs.CaseLaws.{none_some, some_value}
@@ -135,60 +136,24 @@ lockspace_by h l k true r is ok named eq =
     subst IsRecord (some_value (DeltaIs (initial_delta h l (k + 1))) r eq)
     (initial_delta_is h l (k + 1) ok named (above_one k) (within k h.geometry.hosts is (has_room h.geometry ok.geometry).hosts.1))
 
-at_least_none : (n : ℕ) → 0 ≤ n
-at_least_none n = omega arith
+behind_two : (k : ℕ) → (k == 0) ≡ false → (k == 1) ≡ false → 2 ≤ k
+behind_two k h i = grind (arith, nat_tests)
 
-pub fresh_leader_is : (s : Sizes) (space name : List ℕ) → HasRoom s → IsTrue (is_name space) → IsTrue (is_name name) → IsLeader (fresh_leader (layout_of s) space name)
-fresh_leader_is s space name sizes a b =
-    record {
-      hosts = sizes.hosts;
-      lver = no_number;
-      generation = no_number;
-      owner = at_least_none s.hosts;
-      lockspace = a;
-      resource = b;
-      same = ((λ h. refl, λ h. refl), (λ h. refl, λ h. refl));
-      unused = λ h. refl;
-    }
-
-pub fresh_block_is : (host : ℕ) → 1 ≤ host → host ≤ 2000 → IsBlock (fresh_block host)
-fresh_block_is host low high =
-    record {
-      host = (low, high);
-      lver = no_number;
-      mbal = no_number;
-      bal = at_least_none 0;
-      generations = (no_number, no_number);
-      inp = at_least_none 2000;
-      value = ((λ h. refl, λ h. refl), (λ h. refl, λ h. refl));
-      mode = (λ h. refl, λ h. refl);
-      unused = λ h. (refl, refl);
-    }
-
-no_request_is : IsRequest no_request
-no_request_is = record { force = at_least_none 2; host = at_least_none 2000; lver = no_number; same = (λ h. refl, λ h. refl) }
-
-no_value_is : IsValue no_value
-no_value_is = record { host = at_least_none 2000; lver = no_number; seq = no_number; bytes = (at_least_none 256, refl) }
-
-block_low : (k : ℕ) → (k == 0) ≡ false → (k == 1) ≡ false → 1 ≤ k - 1
-block_low k h i = grind (arith, nat_tests)
-
-block_high : (k n : ℕ) → nat_lt k (n + 2) ≡ true → n ≤ 2000 → k - 1 ≤ 2000
-block_high k n h most = grind (arith, nat_tests)
+before_end : (k n : ℕ) → nat_lt k n ≡ true → k < n
+before_end k n h = grind (arith, nat_tests)
 
 resource_by : (h : Header) (l : ResourceLine) (k : ℕ) (leader request block last : Bool) (r : Rec) → (k == 0) ≡ leader → (k == 1) ≡ request
-    → nat_lt k (h.geometry.hosts + 2) ≡ block → IsHeader h → IsTrue (is_name l.lockspace) → IsTrue (is_name l.name)
-    → (if leader then Some (LeaderIs (fresh_leader (layout_of h.geometry) l.lockspace l.name))
+    → nat_lt k (area_sectors (layout_of h.geometry)) ≡ block → IsHeader h → IsTrue (is_name l.lockspace) → IsTrue (is_name l.name)
+    → (if leader then Some (leader_record (layout_of h.geometry) (fresh_leader (layout_of h.geometry) l.lockspace l.name))
     else (if request then Some (RequestIs no_request)
-    else (if block then Some (BlockIs (fresh_block (k - 1)))
+    else (if block then Some (fresh_block_at (layout_of h.geometry) l.lockspace l.name k)
     else choose last (ValueIs no_value)))) ≡ Some r → IsRecord r
 resource_by h l k true request block last r a b c ok space name eq =
-    subst IsRecord (some_value _ r eq) (fresh_leader_is h.geometry l.lockspace l.name (has_room h.geometry ok.geometry) space name)
+    subst IsRecord (some_value _ r eq) (leader_record_is h.geometry l.lockspace l.name ok.geometry space name)
 resource_by h l k false true block last r a b c ok space name eq = subst IsRecord (some_value (RequestIs no_request) r eq) no_request_is
 resource_by h l k false false true last r a b c ok space name eq =
-    subst IsRecord (some_value (BlockIs (fresh_block (k - 1))) r eq)
-    (fresh_block_is (k - 1) (block_low k a b) (block_high k h.geometry.hosts c (has_room h.geometry ok.geometry).hosts.1))
+    subst IsRecord (some_value (fresh_block_at (layout_of h.geometry) l.lockspace l.name k) r eq)
+    (fresh_block_at_is h.geometry l.lockspace l.name k ok.geometry space name (behind_two k a b) (before_end k (area_sectors (layout_of h.geometry)) c))
 resource_by h l k false false false true r a b c ok space name eq = subst IsRecord (some_value (ValueIs no_value) r eq) no_value_is
 resource_by h l k false false false false r a b c ok space name eq = absurd (none_some r eq)
 
@@ -200,7 +165,7 @@ initial_in_resource h path offset (Some l) r is ok eq =
     let line = ok.resources l at.0 in
     let space = line.2 in
     let k : ℕ = (offset - l.offset) / h.geometry.sector in
-    resource_by h l k (k == 0) (k == 1) (nat_lt k (h.geometry.hosts + 2)) ((k + 1) * h.geometry.sector == h.geometry.area) r refl refl refl ok
+    resource_by h l k (k == 0) (k == 1) (nat_lt k (area_sectors (layout_of h.geometry))) ((k + 1) * h.geometry.sector == h.geometry.area) r refl refl refl ok
     (subst (λ n. IsTrue (is_name n)) space.2 (ok.lockspaces space.0 space.1).0) line.0 eq
 
 initial_by : (h : Header) (path : List ℕ) (offset : ℕ) (o : Option LockspaceLine) (r : Rec) → line_at h path offset ≡ o → IsHeader h

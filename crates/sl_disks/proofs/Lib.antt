@@ -1,3 +1,4 @@
+pub mod FirstRecords
 pub mod InitialLaws
 pub mod TableLaws
 pub mod DiskLaws

@@ -5,17 +5,17 @@
 //! what was written to it.
 
 ghost use Rattle.sl_area.specs.Layouts.{layout_of};
-ghost use Rattle.sl_area.specs.Places.{fresh_block, fresh_delta, fresh_leader, in_area, no_request, no_value};
+ghost use Rattle.sl_area.specs.Places.{area_sectors, fresh_block, fresh_block_at, fresh_delta, fresh_leader, fresh_pair, in_area, leader_record, no_request, no_value};
 ghost use Rattle.sl_run.specs.Headers.{IsHeader};
 ghost use Rattle.sl_run.specs.Worlds.{clock_reading, initial_delta, initial_of_lockspace, initial_of_resource, initial_record, member_delta};
 ghost use Rattle.sl_sector.specs.Records.{IsRecord};
 ghost use Rattle.sl_disks.specs.Initial.{clock_of, line_at, resource_at, session_of};
 ghost use Rattle.std.specs.Option.{option_copied};
-ghost use Rattle.std.specs.Prelude.{IfSome, find, length, nat_lt, ◌≡◌, ◌==◌, ◌&&◌, ◌≤◌, ◌+◌, bytes_eq, [], ◌*◌};
+ghost use Rattle.std.specs.Prelude.{IfSome, find, length, nat_lt, ◌≡◌, ◌==◌, ◌&&◌, ◌<◌, ◌≤◌, ◌+◌, bytes_eq, [], ◌*◌};
 
 use sl_area::Geometry;
 use sl_run::{FirstReading, Header, LockspaceLine, ResourceLine, SessionLine};
-use sl_sector::{Block, DeltaRec, DeltaState, Leader, Rec, Request, ValueRec};
+use sl_sector::{Block, DeltaRec, DeltaState, Leader, PairBlock, Rec, Request, ValueRec};
 use sl_text::{Data, FilePath, Name};
 
 /// Whether the offset lies in the area at this base.
@@ -175,6 +175,42 @@ fn fresh_block(host: u32) -> Block
     }
 }
 
+/// A host's block that was never written, in its pair.
+fn fresh_pair(host: u32, turn: u64, line: &ResourceLine) -> PairBlock
+    ensures { result ≡ fresh_pair host turn line.now.lockspace line.now.name }
+{
+    PairBlock {
+        block: fresh_block(host),
+        turn,
+        lockspace: line.lockspace,
+        resource: line.name,
+    }
+}
+
+/// The block in sector `number` of a resource's area, one of those that the blocks have.
+fn fresh_block_at(geometry: Geometry, line: &ResourceLine, number: u64) -> Rec
+    requires { (2 ≤ number) × (number < area_sectors (layout_of geometry)) }
+    ensures { result ≡ fresh_block_at (layout_of geometry) line.now.lockspace line.now.name number }
+{
+    let _sectors = geometry.block_sectors();
+    if geometry.is_paired() {
+        Rec::PairIs(fresh_pair((number / 2) as u32, 1 + number % 2, line))
+    } else {
+        Rec::BlockIs(fresh_block((number - 1) as u32))
+    }
+}
+
+/// The record of a leader, in an area with pairs or without.
+fn leader_record(geometry: Geometry, leader: Leader) -> Rec
+    ensures { result ≡ leader_record (layout_of geometry) leader }
+{
+    if geometry.is_paired() {
+        Rec::PairLeaderIs(leader)
+    } else {
+        Rec::LeaderIs(leader)
+    }
+}
+
 /// The cleared request.
 fn no_request() -> Request
     ensures { result ≡ no_request }
@@ -233,11 +269,11 @@ fn in_resource(geometry: Geometry, line: &ResourceLine, number: u64) -> Option<R
     ensures { result ≡ initial_of_resource (layout_of geometry) line.now number }
 {
     if number == 0 {
-        Some(Rec::LeaderIs(fresh_leader(geometry, line)))
+        Some(leader_record(geometry, fresh_leader(geometry, line)))
     } else if number == 1 {
         Some(Rec::RequestIs(no_request()))
-    } else if number < u64::from(geometry.hosts()) + 2 {
-        Some(Rec::BlockIs(fresh_block((number - 1) as u32)))
+    } else if number < u64::from(geometry.block_sectors()) + 2 {
+        Some(fresh_block_at(geometry, line, number))
     } else if is_last(geometry, number) {
         Some(Rec::ValueIs(no_value()))
     } else {

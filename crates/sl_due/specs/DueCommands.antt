@@ -7,7 +7,8 @@ use Rattle.sl_due.specs.declared.decision.Decision.TheVariants.{ConvertsTo, Gets
 use Rattle.sl_due.specs.declared.decision.Decision.{Decision}
 use Rattle.sl_trace.specs.Counts.{busy_process, holds_already, is_killpath_limit, limit_met, may_act, next_value_seq, other_holder, pending_call}
 use Rattle.sl_trace.specs.Jobs.{wanted_mode}
-use Rattle.sl_trace.specs.LeaseWork.{convert_next, lease_place, release_next}
+use Rattle.sl_trace.specs.LeaseWork.{convert_next, lease_place, release_next, within_turn}
+use Rattle.sl_trace.specs.declared.lease.Aim.TheVariants.{Converts, Releases}
 use Rattle.sl_trace.specs.Leases.{holdings_on, known, orphan_on, shared_on, spot_of}
 use Rattle.sl_sector.specs.declared.sector.Rec.TheVariants.{ValueIs}
 use Rattle.sl_trace.specs.Sessions.{generation_of, holdings_of, is_active, is_joined, is_session_arg, last_renewal, last_seq, present_sessions, session_named, sessions}
@@ -220,7 +221,9 @@ unfoldable pub after_end : Session → Spot → ℕ → Grant → Step → Step
 after_end s at j g x =
     elim (holdings_on (seen x) s at) [
       | h ∷ hs ↦ add_reply j Done x
-      | [] ↦ carry_lease s at (ForJob j) (release_next (lease_place x.setting s) (known x.setting (seen x) s at) g.mode g.lver) x
+      | [] ↦ carry_lease s at (ForJob j)
+          (within_turn (lease_place x.setting s) (known x.setting (seen x) s at) Releases
+          (release_next (lease_place x.setting s) (known x.setting (seen x) s at) g.mode g.lver)) x
     ]
 
 -- What the command of the job came to is done, where that is more than a reply.
@@ -234,7 +237,9 @@ carry_decision j c (Shares s lver) x = grant_for s j c Shared lver x
 carry_decision j c (GivesUp s g) x = after_end s (spot_of_grant g) j g (add_end (end_of g) x)
 carry_decision j c (TakesOver s g) x = grant_for s j c g.mode g.lver (add_end (end_of g) x)
 carry_decision j c (ConvertsTo s r mode) x =
-    carry_lease s (spot_of r) (ForJob j) (convert_next (known x.setting (seen x) s (spot_of r)) mode r.name) x
+    carry_lease s (spot_of r) (ForJob j)
+    (within_turn (lease_place x.setting s) (known x.setting (seen x) s (spot_of r)) (Converts mode)
+    (convert_next (known x.setting (seen x) s (spot_of r)) mode r.name)) x
 carry_decision j c (Requests s r) x = add_call_at s r.path (RequestRead j) r.offset (ReadSectors 2) x
 carry_decision j c (SetsValue s at v) x =
     add_call_at s at.path (ValueWrite j) (value_offset x.setting.layout at.base) (WriteRecord (ValueIs v)) x

@@ -1,15 +1,15 @@
 -- How a session does what one of its leases decided.
-use Rattle.sl_area.specs.Places.{block_offset, leader_offset}
+use Rattle.sl_area.specs.Places.{area_sectors, block_offset, block_place, block_record, block_sectors, leader_offset, leader_record}
 use Rattle.sl_due.specs.Steps.{Step, add_call_at, add_end, add_grant, add_reply, add_start, seen, with_some}
 use Rattle.sl_trace.specs.Jobs.{aim_of, command_numbered, process_named}
-use Rattle.sl_trace.specs.LeaseWork.{lease_next, lease_place, settle_next}
-use Rattle.sl_trace.specs.Leases.{holdings_on, known, lver_written, spot_of_call}
+use Rattle.sl_trace.specs.LeaseWork.{lease_next, lease_place, settle_begin, within_turn}
+use Rattle.sl_trace.specs.Leases.{base_turn, holdings_on, known, lease_calls, lver_written, spot_of_call, verified_name}
+use Rattle.sl_trace.specs.declared.lease.Aim.TheVariants.{Settles}
 use Rattle.sl_trace.specs.declared.lease.Aim.{Aim}
 use Rattle.sl_trace.specs.declared.lease.LeaseNext.TheVariants.{AnswerJob, BecomeExclusive, BecomeShared, GrantJob, ReadFor, Nothing, WriteBlock, WriteLeader}
 use Rattle.sl_trace.specs.declared.lease.LeaseNext.{LeaseNext}
 use Rattle.sl_sector.specs.declared.sector.Block.{Block}
 use Rattle.sl_sector.specs.declared.sector.Leader.{Leader}
-use Rattle.sl_sector.specs.declared.sector.Rec.TheVariants.{BlockIs, LeaderIs}
 use Rattle.sl_trace.specs.Sessions.{is_active}
 use Rattle.sl_trace.specs.declared.session.Session.{Session}
 use Rattle.sl_trace.specs.Traces.{Setting, Submitted, Trace, end_of, is_running, is_shared, next_child, work_job}
@@ -17,7 +17,8 @@ use Rattle.sl_trace.specs.declared.command.Command.TheVariants.{Acquire, RunProg
 use Rattle.sl_trace.specs.declared.command.Command.{Command}
 use Rattle.sl_trace.specs.declared.command.ResourceArg.{ResourceArg}
 use Rattle.sl_trace.specs.declared.effects.Grant.{Grant}
-use Rattle.sl_trace.specs.declared.effects.LeaseStep.TheVariants.{ClearMode, FreeLeader, ReadArea, ReadBeforeFree}
+use Rattle.sl_trace.specs.declared.effects.LeaseRead.TheVariants.{OfArea, OfFree}
+use Rattle.sl_trace.specs.declared.effects.LeaseStep.TheVariants.{ClearMode, FreeLeader, ReadAgain, ReadArea, ReadBeforeFree}
 use Rattle.sl_trace.specs.declared.effects.LeaseStep.{LeaseStep}
 use Rattle.sl_trace.specs.declared.effects.Mode.TheVariants.{Exclusive, Shared}
 use Rattle.sl_trace.specs.declared.effects.Mode.{Mode}
@@ -36,27 +37,39 @@ use Rattle.std.specs.Prelude.{Bool, List, None, Option, Some, false, find, not, 
 abbrev pub lease_call : Session → Spot → Work → LeaseStep → ℕ → Op → Step → Step
 lease_call s at work step offset op x = add_call_at s at.path (Lease work step) offset op x
 
--- The own block is written.
+-- The turn that the session's next block on the area has.
+abbrev pub next_turn : Setting → Trace → Session → Spot → ℕ
+next_turn st es s at = base_turn st.layout s.id (lease_calls st es s at) + 1
+
+-- The resource's name that the session's lease on the area has verified.
+abbrev pub name_on : Setting → Trace → Session → Spot → List ℕ
+name_on st es s at = verified_name st.layout s.lockspace (lease_calls st es s at)
+
+-- The own block is written, with pairs at the place of its turn.
 abbrev pub write_block : Session → Spot → Work → LeaseStep → Block → Step → Step
-write_block s at work step b x = lease_call s at work step (block_offset x.setting.layout at.base s.id) (WriteRecord (BlockIs b)) x
+write_block s at work step b x =
+    lease_call s at work step (block_place x.setting.layout at.base s.id (next_turn x.setting (seen x) s at))
+    (WriteRecord (block_record x.setting.layout (next_turn x.setting (seen x) s at) s.lockspace (name_on x.setting (seen x) s at) b)) x
 
 -- The blocks of all hosts are read.
 abbrev pub read_blocks : Session → Spot → Work → LeaseStep → Step → Step
-read_blocks s at work step x = lease_call s at work step (block_offset x.setting.layout at.base 1) (ReadSectors x.setting.layout.hosts) x
+read_blocks s at work step x = lease_call s at work step (block_offset x.setting.layout at.base 1) (ReadSectors (block_sectors x.setting.layout)) x
 
 -- Leader, request and blocks are read.
 abbrev pub read_area : Session → Spot → Work → LeaseStep → Step → Step
-read_area s at work step x = lease_call s at work step at.base (ReadSectors (x.setting.layout.hosts + 2)) x
+read_area s at work step x = lease_call s at work step at.base (ReadSectors (area_sectors x.setting.layout)) x
 
 -- What a step reads: the whole area, or all blocks.
 abbrev pub read_for : Session → Spot → Work → LeaseStep → Step → Step
 read_for s at work (ReadArea name) x = read_area s at work (ReadArea name) x
 read_for s at work ReadBeforeFree x = read_area s at work ReadBeforeFree x
+read_for s at work (ReadAgain (OfArea name)) x = read_area s at work (ReadAgain (OfArea name)) x
+read_for s at work (ReadAgain OfFree) x = read_area s at work (ReadAgain OfFree) x
 read_for s at work step x = read_blocks s at work step x
 
 -- The leader is written.
 abbrev pub write_leader : Session → Spot → Work → LeaseStep → Leader → Step → Step
-write_leader s at work step l x = lease_call s at work step (leader_offset at.base) (WriteRecord (LeaderIs l)) x
+write_leader s at work step l x = lease_call s at work step (leader_offset at.base) (WriteRecord (leader_record x.setting.layout l)) x
 
 -- ---- grants
 
@@ -133,7 +146,7 @@ goes_on st es s Settling = is_active st es s
 -- What comes next for the lease after an answer to one of its calls.
 abbrev pub next_of_lease : Setting → Trace → Session → Spot → Aim → Submitted → LeaseStep → Answer → LeaseNext
 next_of_lease st es s at aim m step answer =
-    lease_next (lease_place st s) (known st es s at) aim m.call.number (lver_written m) step answer
+    within_turn (lease_place st s) (known st es s at) aim (lease_next (lease_place st s) (known st es s at) aim m.call.number (lver_written m) step answer)
 
 -- The answer of a call on a lease, where its work goes on.
 unfoldable pub after_lease_answer : Session → Work → LeaseStep → Submitted → Answer → Step → Step
@@ -147,4 +160,6 @@ after_lease_answer s work step m answer x =
 
 -- A settling does what is owed first.
 unfoldable pub settle : Session → Spot → Step → Step
-settle s at x = carry_lease s at Settling (settle_next (lease_place x.setting s) (known x.setting (seen x) s at)) x
+settle s at x =
+    carry_lease s at Settling
+    (within_turn (lease_place x.setting s) (known x.setting (seen x) s at) Settles (settle_begin (lease_place x.setting s) (known x.setting (seen x) s at))) x

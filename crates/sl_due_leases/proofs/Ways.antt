@@ -4,6 +4,7 @@ pub mod InstancesBegin
 pub mod Decoding
 pub mod Places
 pub mod WayStages
+pub mod GivenReads
 pub mod WayNumbers
 pub mod Lawful
 pub mod NumbersFollow

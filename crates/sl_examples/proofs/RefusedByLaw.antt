@@ -17,7 +17,7 @@ use Rattle.sl_run.specs.LawfulDelta.{LawfulDelta, LawfulRenewal}
 use Rattle.sl_run.specs.LawfulParting.{LawfulParting, MayPart}
 use Rattle.sl_run.specs.Saying.{cut_at}
 use Rattle.sl_trace.specs.Ballots.{instance_of, phase1_block, phase2_block, stop_of}
-use Rattle.sl_trace.specs.LeaseWork.{area_next, begin_next, lease_next, settle_next}
+use Rattle.sl_trace.specs.LeaseWork.{after_bytes, area_next, begin_next, lease_next, settle_begin, settle_next, within_turn}
 use Rattle.sl_trace.specs.Leases.{known}
 use Rattle.sl_run.specs.Lvm.{begins, goes_on_with, lvm_turn}
 use Rattle.sl_run.specs.LvmLines.{lvm_forms}
@@ -28,7 +28,7 @@ use Rattle.sl_run.specs.Locks.{locks_after, told_effects}
 use Rattle.sl_run.specs.Worlds.{initial_record, machine_of_header}
 use Rattle.sl_sector.specs.Bitmaps.{no_bits}
 use Rattle.sl_sector.specs.Fields.{u32_at, u32_bytes, u64_at, u64_bytes}
-use Rattle.sl_sector.specs.Spelling.{block_rules, checked_part, decoded, delta_rules, field_bytes, fields_of, leader_rules, magic, request_rules, spelling, value_rules}
+use Rattle.sl_sector.specs.Spelling.{block_rules, checked_part, decoded, delta_rules, field_bytes, fields_of, leader_rules, magic, own_rules, request_rules, spelling, value_rules}
 use Rattle.sl_sector.specs.declared.sector.DeltaRec.{DeltaRec}
 use Rattle.sl_sector.specs.declared.sector.DeltaState.TheVariants.{Live}
 use Rattle.sl_sector.specs.declared.sector.Rec.TheVariants.{DeltaIs, RequestIs}
@@ -57,12 +57,12 @@ st =
     record {
       timing = record { io = 100; fire = 600; land = 100; rho = 0 };
       grace = 300;
-      layout = layout_with cheap_digest (record { sector = 512; area = 1048576; hosts = 2 });
+      layout = layout_with cheap_digest (record { sector = 512; area = 1048576; hosts = 2; paired = false });
       machine = 1;
       name = codes "a";
       first = record { call = 1; job = 1 };
       given = record { lockspace = codes "ls"; id = 1; path = codes "/d"; offset = 0; renewed = 0 } ∷ [];
-      read = command_in (forms (layout_with cheap_digest (record { sector = 512; area = 1048576; hosts = 2 })));
+      read = command_in (forms (layout_with cheap_digest (record { sector = 512; area = 1048576; hosts = 2; paired = false })));
     }
 
 abbrev session_a : Session
@@ -90,7 +90,7 @@ abbrev second : Entry
 second = with_calls (second_call ∷ []) (quiet_entry 100 Wake)
 
 pub not_alone : LawfulArea st (begun ∷ asked ∷ []) second → ⊥
-unfolding after_answer after_answer_of after_end after_free after_input after_join_answer after_lease_answer after_renewal after_request_read after_see_request after_survey after_value_read area_next before_input begin_next begin_recoveries begin_recovery begins block_rules carry_decision carry_delta carry_lease checked_part count_event decided decoded delta_rules digits due due_step event_forms event_tests field_bytes fields_of finish finish_session first_change forms goes_on_with header_forms header_of header_tests initial_record instance_of join_on_wake kill_holders kills known leader_rules lease_next leave_holdings locks_after lvm_forms lvm_turn machine_of_header magic next_after_deciding next_after_first next_after_verify next_after_watch next_in_joining next_on_wake next_renewal on_exit on_line on_spawned on_wake padded_text pass_tests phase1_block phase2_block refuse renew_on_wake reply_words request_refusal request_rules see_requests settle settle_next settle_on_wake settlings signal_and_refuse spelling stop_of take_input time_out time_outs told_effects u32_at u32_bytes u64_at u64_bytes value_rules
+unfolding after_answer after_answer_of after_bytes after_end after_free after_input after_join_answer after_lease_answer after_renewal after_request_read after_see_request after_survey after_value_read area_next before_input begin_next begin_recoveries begin_recovery begins block_rules carry_decision carry_delta carry_lease checked_part count_event decided decoded delta_rules digits due due_step event_forms event_tests field_bytes fields_of finish finish_session first_change forms goes_on_with header_forms header_of header_tests initial_record instance_of join_on_wake kill_holders kills known leader_rules lease_next leave_holdings locks_after lvm_forms lvm_turn machine_of_header magic next_after_deciding next_after_first next_after_verify next_after_watch next_in_joining next_on_wake next_renewal on_exit on_line on_spawned on_wake own_rules padded_text pass_tests phase1_block phase2_block refuse renew_on_wake reply_words request_refusal request_rules see_requests settle settle_begin settle_next settle_on_wake settlings signal_and_refuse spelling stop_of take_input time_out time_outs told_effects u32_at u32_bytes u64_at u64_bytes value_rules within_turn
 not_alone h =
     let none_open : open_block_work st (cut_at 0 second ∷ begun ∷ asked ∷ []) session_a (record { path = codes "/d"; base = 1048576 }) ≡ [] =
     h.alone 0 second_call session_a refl refl refl in
@@ -104,12 +104,12 @@ removing = with_moves (Unregister (codes "ls") ∷ []) (quiet_entry 0 Wake)
 
 -- neither recovery nor a free's answer stands behind the end
 no_reason : MayPart st [] removing session_a → ⊥
-unfolding after_answer after_answer_of after_end after_free after_input after_join_answer after_lease_answer after_renewal after_request_read after_see_request after_survey after_value_read area_next before_input begin_next begin_recoveries begin_recovery begins block_rules carry_decision carry_delta carry_lease checked_part count_event decided decoded delta_rules digits due due_step event_forms event_tests field_bytes fields_of finish finish_session first_change forms goes_on_with header_forms header_of header_tests initial_record instance_of join_on_wake kill_holders kills known leader_rules lease_next leave_holdings locks_after lvm_forms lvm_turn machine_of_header magic next_after_deciding next_after_first next_after_verify next_after_watch next_in_joining next_on_wake next_renewal on_exit on_line on_spawned on_wake padded_text pass_tests phase1_block phase2_block refuse renew_on_wake reply_words request_refusal request_rules see_requests settle settle_next settle_on_wake settlings signal_and_refuse spelling stop_of take_input time_out time_outs told_effects u32_at u32_bytes u64_at u64_bytes value_rules
+unfolding after_answer after_answer_of after_bytes after_end after_free after_input after_join_answer after_lease_answer after_renewal after_request_read after_see_request after_survey after_value_read area_next before_input begin_next begin_recoveries begin_recovery begins block_rules carry_decision carry_delta carry_lease checked_part count_event decided decoded delta_rules digits due due_step event_forms event_tests field_bytes fields_of finish finish_session first_change forms goes_on_with header_forms header_of header_tests initial_record instance_of join_on_wake kill_holders kills known leader_rules lease_next leave_holdings locks_after lvm_forms lvm_turn machine_of_header magic next_after_deciding next_after_first next_after_verify next_after_watch next_in_joining next_on_wake next_renewal on_exit on_line on_spawned on_wake own_rules padded_text pass_tests phase1_block phase2_block refuse renew_on_wake reply_words request_refusal request_rules see_requests settle settle_begin settle_next settle_on_wake settlings signal_and_refuse spelling stop_of take_input time_out time_outs told_effects u32_at u32_bytes u64_at u64_bytes value_rules within_turn
 no_reason (inl r) = let wrong : ◌≡◌ {A = Bool} false true = r.0 in absurd cc
 no_reason (inr r) = let wrong : ◌≡◌ {A = Option Submitted} None (Some r.0) = r.2 in absurd cc
 
 pub not_parted : LawfulParting st [] removing → ⊥
-unfolding after_answer after_answer_of after_end after_free after_input after_join_answer after_lease_answer after_renewal after_request_read after_see_request after_survey after_value_read area_next before_input begin_next begin_recoveries begin_recovery begins block_rules carry_decision carry_delta carry_lease checked_part count_event decided decoded delta_rules digits due due_step event_forms event_tests field_bytes fields_of finish finish_session first_change forms goes_on_with header_forms header_of header_tests initial_record instance_of join_on_wake kill_holders kills known leader_rules lease_next leave_holdings locks_after lvm_forms lvm_turn machine_of_header magic next_after_deciding next_after_first next_after_verify next_after_watch next_in_joining next_on_wake next_renewal on_exit on_line on_spawned on_wake padded_text pass_tests phase1_block phase2_block refuse renew_on_wake reply_words request_refusal request_rules see_requests settle settle_next settle_on_wake settlings signal_and_refuse spelling stop_of take_input time_out time_outs told_effects u32_at u32_bytes u64_at u64_bytes value_rules
+unfolding after_answer after_answer_of after_bytes after_end after_free after_input after_join_answer after_lease_answer after_renewal after_request_read after_see_request after_survey after_value_read area_next before_input begin_next begin_recoveries begin_recovery begins block_rules carry_decision carry_delta carry_lease checked_part count_event decided decoded delta_rules digits due due_step event_forms event_tests field_bytes fields_of finish finish_session first_change forms goes_on_with header_forms header_of header_tests initial_record instance_of join_on_wake kill_holders kills known leader_rules lease_next leave_holdings locks_after lvm_forms lvm_turn machine_of_header magic next_after_deciding next_after_first next_after_verify next_after_watch next_in_joining next_on_wake next_renewal on_exit on_line on_spawned on_wake own_rules padded_text pass_tests phase1_block phase2_block refuse renew_on_wake reply_words request_refusal request_rules see_requests settle settle_begin settle_next settle_on_wake settlings signal_and_refuse spelling stop_of take_input time_out time_outs told_effects u32_at u32_bytes u64_at u64_bytes value_rules within_turn
 not_parted h = no_reason (h.parts_well session_a (0, omega arith, refl) refl refl)
 
 -- ---- a renewal with an old seq
@@ -127,7 +127,7 @@ abbrev seq_of : Option DeltaRec → ℕ
 seq_of o = option_map_or (λ d. d.seq) o 0
 
 pub not_rising : LawfulDelta st [] renewing_entry → ⊥
-unfolding after_answer after_answer_of after_end after_free after_input after_join_answer after_lease_answer after_renewal after_request_read after_see_request after_survey after_value_read area_next before_input begin_next begin_recoveries begin_recovery begins block_rules carry_decision carry_delta carry_lease checked_part count_event decided decoded delta_rules digits due due_step event_forms event_tests field_bytes fields_of finish finish_session first_change forms goes_on_with header_forms header_of header_tests initial_record instance_of join_on_wake kill_holders kills known leader_rules lease_next leave_holdings locks_after lvm_forms lvm_turn machine_of_header magic next_after_deciding next_after_first next_after_verify next_after_watch next_in_joining next_on_wake next_renewal on_exit on_line on_spawned on_wake padded_text pass_tests phase1_block phase2_block refuse renew_on_wake reply_words request_refusal request_rules see_requests settle settle_next settle_on_wake settlings signal_and_refuse spelling stop_of take_input time_out time_outs told_effects u32_at u32_bytes u64_at u64_bytes value_rules
+unfolding after_answer after_answer_of after_bytes after_end after_free after_input after_join_answer after_lease_answer after_renewal after_request_read after_see_request after_survey after_value_read area_next before_input begin_next begin_recoveries begin_recovery begins block_rules carry_decision carry_delta carry_lease checked_part count_event decided decoded delta_rules digits due due_step event_forms event_tests field_bytes fields_of finish finish_session first_change forms goes_on_with header_forms header_of header_tests initial_record instance_of join_on_wake kill_holders kills known leader_rules lease_next leave_holdings locks_after lvm_forms lvm_turn machine_of_header magic next_after_deciding next_after_first next_after_verify next_after_watch next_in_joining next_on_wake next_renewal on_exit on_line on_spawned on_wake own_rules padded_text pass_tests phase1_block phase2_block refuse renew_on_wake reply_words request_refusal request_rules see_requests settle settle_begin settle_next settle_on_wake settlings signal_and_refuse spelling stop_of take_input time_out time_outs told_effects u32_at u32_bytes u64_at u64_bytes value_rules within_turn
 not_rising h =
     let lawful : LawfulRenewal st (cut_at 0 renewing_entry ∷ []) session_a (new_call 0 200 stale_call) =
     h.calls 0 stale_call session_a refl refl in

@@ -1,7 +1,7 @@
 -- The laws once more, as tests that compute, for trying them on runs and on literal traces. Each test mirrors one field of a law.
 use Rattle.sl_area.specs.Layouts.{record_in, sector_with}
-use Rattle.sl_area.specs.Places.{area_blocks, block_offset, is_base, leader_of, value_offset}
-use Rattle.sl_run.specs.LawfulArea.{is_area_work, is_block_work, is_delta_record, leaders_read, open_block_work, record_offset}
+use Rattle.sl_area.specs.Places.{area_sectors, block_offset, block_sectors, is_base, needs_again, value_offset}
+use Rattle.sl_run.specs.LawfulArea.{is_area_work, is_block_work, is_delta_record, is_of_format, is_same_read, leaders_read, open_block_work, record_offset}
 use Rattle.sl_run.specs.LawfulCalls.{may_submit}
 use Rattle.sl_run.specs.LawfulDelta.{is_on_own_sector}
 use Rattle.sl_run.specs.LawfulEnd.{gives_up, takes_over}
@@ -15,7 +15,7 @@ use Rattle.sl_run.specs.Saying.{cut_at, newest_moves, older}
 use Rattle.sl_trace.specs.Ballots.{ballot_blocks, moded_block, owner_of, phase1_block, phase2_block, same_owner, stop_of}
 use Rattle.sl_trace.specs.Counts.{next_value_seq}
 use Rattle.sl_trace.specs.Jobs.{jobs_of_session}
-use Rattle.sl_trace.specs.Leases.{block_of_host, block_written, blocks_given, ended_ballot, ended_ballots, exclusive_on, freed, has_shared_on, holdings_on, is_area_read, is_at, is_block_read, is_free_write, is_leader_of, last_blocks, Leader_freed, Leader_taken, leader_written, lease_calls, lease_step, Mode_set, own_block, Phase1_read, Phase1_write, Phase2_read, Phase2_write, spot_of_call, value_written}
+use Rattle.sl_trace.specs.Leases.{base_turn, block_of_host, block_written, blocks_bytes, blocks_given, ended_ballot, ended_ballots, exclusive_on, freed, has_shared_on, holdings_on, is_again, is_area_read, is_at, is_block_read, is_free_write, is_leader_of, last_blocks, Leader_freed, leader_given, Leader_taken, leader_written, leaders_given, lease_calls, lease_step, Mode_set, own_block, Phase1_read, Phase1_write, Phase2_read, Phase2_write, spot_of_call, turn_written, value_written}
 use Rattle.sl_run.specs.Runs.{daemons_of}
 use Rattle.sl_run.specs.Worlds.{World}
 use Rattle.sl_sector.specs.Bitmaps.{no_bits}
@@ -24,7 +24,7 @@ use Rattle.sl_sector.specs.declared.sector.Block.{Block}
 use Rattle.sl_sector.specs.declared.sector.DeltaRec.{DeltaRec}
 use Rattle.sl_sector.specs.declared.sector.DeltaState.TheVariants.{Claimed, Free, Live}
 use Rattle.sl_sector.specs.declared.sector.Leader.{Leader}
-use Rattle.sl_sector.specs.declared.sector.Rec.TheVariants.{BlockIs, DeltaIs}
+use Rattle.sl_sector.specs.declared.sector.Rec.TheVariants.{BlockIs, DeltaIs, PairIs}
 use Rattle.sl_sector.specs.declared.sector.Rec.{Rec}
 use Rattle.sl_sector.specs.declared.sector.ValueRec.{ValueRec}
 use Rattle.sl_trace.specs.Deltas.{claim_of, delta_of_session, delta_record, first_answered, first_bytes}
@@ -42,7 +42,9 @@ use Rattle.sl_trace.specs.declared.effects.Entry.{Entry}
 use Rattle.sl_trace.specs.declared.effects.Grant.{Grant}
 use Rattle.sl_trace.specs.declared.effects.JoinStep.TheVariants.{ClaimWrite, DecidingRead, FirstRead, FirstRenewal, VerifyRead, WatchRead}
 use Rattle.sl_trace.specs.declared.effects.JoinStep.{JoinStep}
-use Rattle.sl_trace.specs.declared.effects.LeaseStep.TheVariants.{ClearMode, Phase1Read, Phase1Write, Phase2Read, Phase2Write, ReadArea, ReadBeforeFree, SetMode}
+use Rattle.sl_trace.specs.declared.effects.LeaseRead.TheVariants.{OfArea, OfFree}
+use Rattle.sl_trace.specs.declared.effects.LeaseRead.{LeaseRead}
+use Rattle.sl_trace.specs.declared.effects.LeaseStep.TheVariants.{ClearMode, Phase1Read, Phase1Write, Phase2Read, Phase2Write, ReadAgain, ReadArea, ReadBeforeBlock, ReadBeforeFree, SetMode}
 use Rattle.sl_trace.specs.declared.effects.Op.TheVariants.{ReadSectors, WriteRecord}
 use Rattle.sl_trace.specs.declared.effects.Purpose.TheVariants.{RequestRead, Joining, Leaving, Renewal, SeeRequest, Survey, ValueRead}
 use Rattle.sl_trace.specs.declared.effects.Purpose.{Purpose}
@@ -51,7 +53,7 @@ use Rattle.sl_trace.specs.declared.effects.Spot.{Spot}
 use Rattle.sl_trace.specs.declared.input.Input.TheVariants.{Spawned}
 use Rattle.sl_trace.specs.declared.reply.Reply.TheVariants.{Value}
 use Rattle.sl_trace.specs.declared.reply.Reply.{Reply}
-use Rattle.sl_words.specs.Words.{choose, present, same_truth, some_is}
+use Rattle.sl_words.specs.Words.{choose, first_of_list, present, same_truth, some_is}
 use Rattle.std.specs.List.{enumerate_from, list_all, list_any, range_with_len}
 use Rattle.std.specs.Option.{option_map_or}
 use Rattle.std.specs.Prelude.{Bool, List, None, Option, Some, bytes_eq, false, filter, find, flat_map, is_none, is_ok, is_some, length, nat_le, nat_lt, not, option_to_list, true, [], ℕ, ◌&&◌, ◌++◌, ◌+◌, ◌==◌, ◌||◌, ◌∷◌}
@@ -210,15 +212,47 @@ delta_test st past e =
 
 -- ---- areas
 
+-- The calls of a list, the newest first, that came before this one.
+abbrev pub before_call : Submitted → List Submitted → List Submitted
+before_call c cs = filter (λ d. nat_lt d.call.number c.call.number) cs
+
+-- The leaders that the session has read on the area; with pairs those too that were made for torn ones.
+abbrev pub leaders_known : Setting → Trace → Session → Spot → List Leader
+leaders_known st es s at =
+    leaders_read st es s at ++ elim st.layout.paired [ false ↦ [] | true ↦ leaders_given st.layout (lease_calls st es s at) ]
+
+-- Whether a block of a pair has names that the session has verified.
+abbrev pub named_test : Setting → Trace → Session → Spot → Rec → Bool
+named_test st es s at r =
+    elim r [
+      | PairIs p ↦ bytes_eq p.lockspace s.lockspace && list_any (is_leader_of st.layout s.lockspace p.resource) (leaders_known st es s at)
+      | _ ↦ true
+    ]
+
 -- Whether the session has verified the area's names.
 abbrev pub verified_test : Setting → Trace → Session → Spot → Bool
-verified_test st es s at = list_any (λ l. bytes_eq l.lockspace s.lockspace && l.num_hosts == st.layout.hosts) (leaders_read st es s at)
+verified_test st es s at =
+    list_any (λ l. bytes_eq l.lockspace s.lockspace && l.num_hosts == st.layout.hosts) (leaders_known st es s at)
 
 -- A write on an area.
 abbrev pub area_write_test : Setting → Trace → Session → Submitted → Rec → Bool
 area_write_test st es s c r =
     let at : Spot = spot_of_call st.layout c in
     is_area_work c.call.purpose && verified_test st es s at && some_is (λ o. o == c.call.offset) (record_offset st s at r)
+    && is_of_format st.layout r && named_test st es s at r
+
+-- A read of the whole area, and of all blocks.
+abbrev pub area_read_test : Setting → Spot → Submitted → ℕ → Bool
+area_read_test st at c n = c.call.offset == at.base && n == area_sectors st.layout
+
+abbrev pub blocks_read_test : Setting → Spot → Submitted → ℕ → Bool
+blocks_read_test st at c n = c.call.offset == block_offset st.layout at.base 1 && n == block_sectors st.layout
+
+-- A read that is made once more.
+abbrev pub again_read_test : Setting → Spot → Submitted → ℕ → LeaseRead → Bool
+again_read_test st at c n (OfArea name) = area_read_test st at c n
+again_read_test st at c n OfFree = area_read_test st at c n
+again_read_test st at c n read = blocks_read_test st at c n
 
 -- The reads of a lease.
 abbrev pub lease_read_test : Setting → Submitted → Bool
@@ -232,10 +266,12 @@ lease_read_test st c =
       | Some p ↦ elim c.call.op [
         | WriteRecord r ↦ not (is_block_read c)
         | ReadSectors n ↦ elim p.1 [
-          | ReadArea name ↦ c.call.offset == at.base && n == st.layout.hosts + 2
-          | ReadBeforeFree ↦ c.call.offset == at.base && n == st.layout.hosts + 2
-          | Phase1Read ↦ c.call.offset == block_offset st.layout at.base 1 && n == st.layout.hosts
-          | Phase2Read ↦ c.call.offset == block_offset st.layout at.base 1 && n == st.layout.hosts
+          | ReadArea name ↦ area_read_test st at c n
+          | ReadBeforeFree ↦ area_read_test st at c n
+          | ReadBeforeBlock ↦ st.layout.paired && blocks_read_test st at c n
+          | ReadAgain read ↦ st.layout.paired && again_read_test st at c n read
+          | Phase1Read ↦ blocks_read_test st at c n
+          | Phase2Read ↦ blocks_read_test st at c n
           | _ ↦ false
         ]
       ]
@@ -245,6 +281,14 @@ lease_read_test st c =
 abbrev pub alone_test : Setting → Trace → Entry → Bool
 alone_test st past e =
     each_call st (λ es s c. implies (is_block_work c && is_area_work c.call.purpose) (length (open_block_work st es s (spot_of_call st.layout c)) == 0)) past e
+
+-- That a read which is made once more follows the first, which shows some host's second sector torn.
+abbrev pub again_test : Setting → Trace → Session → Submitted → Bool
+again_test st es s c =
+    elim (lease_calls st es s (spot_of_call st.layout c)) [
+      | [] ↦ false
+      | m ∷ ms ↦ not (is_again m) && is_same_read m c && some_is (needs_again st.layout) (blocks_bytes st.layout m)
+    ]
 
 -- Whether a call sees a request.
 abbrev pub sees_request : Purpose → Bool
@@ -257,7 +301,8 @@ area_test st past e =
     each_call st (λ es s c. implies (is_area_work c.call.purpose) (is_active st es s)
     && option_map_or (λ r. is_delta_record r || area_write_test st es s c r) (record_of c.call.op) true
     && lease_read_test st c
-    && implies (sees_request c.call.purpose) (is_some (joined_after es s))) past e
+    && implies (sees_request c.call.purpose) (is_some (joined_after es s))
+    && implies (is_again c) (again_test st es s c)) past e
     && alone_test st past e
 
 -- ---- blocks
@@ -265,13 +310,13 @@ area_test st past e =
 -- Whether this read of the area justifies instance n.
 abbrev pub read_reason : Setting → Trace → Session → Spot → ℕ → Submitted → Bool
 read_reason st es s at n r =
-    elim (gave r) [
+    elim (blocks_given st.layout r (before_call r (lease_calls st es s at))) [
       | None ↦ false
-      | Some bytes ↦ elim (leader_of st.layout bytes) [
+      | Some blocks ↦ elim (leader_given st.layout r (before_call r (lease_calls st es s at))) [
         | None ↦ false
         | Some l ↦
-            bytes_eq l.lockspace s.lockspace && l.num_hosts == st.layout.hosts && list_all is_some (area_blocks st.layout bytes)
-            && (nat_lt l.lver n && list_any (λ b. b.lver == n) (present (area_blocks st.layout bytes))
+            bytes_eq l.lockspace s.lockspace && l.num_hosts == st.layout.hosts && list_all is_some blocks
+            && (nat_lt l.lver n && list_any (λ b. b.lver == n) (present blocks)
             || l.lver + 1 == n && (not l.held || counted_over st es s l.owner l.generation)
             || l.lver == n && l.held && same_owner (owner_of l) (me es s)
             || nat_lt l.lver n && list_any (λ w. list_any (λ k. k.lver + 1 == n && not k.held) (option_to_list (leader_written w))) (lease_calls st es s at))
@@ -298,22 +343,27 @@ phase1_test st es s at c b =
 abbrev pub after_test_of : Submitted → Submitted → Bool
 after_test_of write read = some_is (λ a. is_ok_answer a.answer && nat_le a.at read.at) write.answer
 
+-- .. and of the first read's, where this is the second.
+abbrev pub both_after : Submitted → Submitted → List Submitted → Bool
+both_after write read cs =
+    after_test_of write read && implies (is_again read) (some_is (after_test_of write) (first_of_list (before_call read cs)))
+
 -- The last call that wrote a block.
 abbrev pub last_block_write : List Submitted → Option Submitted
 last_block_write cs = find (λ d. is_some (block_written d)) cs
 
 -- Phase 2 by this read.
-abbrev pub phase2_by : Setting → Trace → Session → Block → Block → Submitted → Submitted → Bool
-phase2_by st es s b own write read =
-    after_test_of write read
+abbrev pub phase2_by : Setting → Trace → Session → Spot → Block → Block → Submitted → Submitted → Bool
+phase2_by st es s at b own write read =
+    both_after write read (lease_calls st es s at)
     && some_is (λ blocks. is_none (stop_of own blocks)
-    && same_record st (BlockIs b) (BlockIs (moded_block (phase2_block (me es s) own (ballot_blocks own blocks)) b.shared b.mode_gen))) (blocks_given st.layout read)
+    && same_record st (BlockIs b) (BlockIs (moded_block (phase2_block (me es s) own (ballot_blocks own blocks)) b.shared b.mode_gen))) (blocks_given st.layout read (before_call read (lease_calls st es s at)))
 
 -- Phase 2.
 abbrev pub phase2_test : Setting → Trace → Session → Spot → Submitted → Block → Bool
 phase2_test st es s at c b =
     let cs : List Submitted = lease_calls st es s at in
-    some_is (λ w. is_at Phase1_write w && some_is (λ own. list_any (phase2_by st es s b own w) (filter (is_at Phase1_read) cs)) (block_written w)) (last_block_write cs)
+    some_is (λ w. is_at Phase1_write w && some_is (λ own. list_any (phase2_by st es s at b own w) (filter (is_at Phase1_read) cs)) (block_written w)) (last_block_write cs)
 
 -- A write of the mode.
 abbrev pub mode_write_test : Setting → Trace → Session → Spot → Block → Bool
@@ -340,10 +390,17 @@ abbrev pub phase2_read_test : Setting → Trace → Session → Submitted → Bo
 phase2_read_test st es s c =
     some_is (λ w. is_at Phase2_write w && after_test_of w c) (last_block_write (lease_calls st es s (spot_of_call st.layout c)))
 
+-- The turn of a block.
+abbrev pub turn_test : Setting → Trace → Session → Submitted → Bool
+turn_test st es s c =
+    let shown : ℕ = base_turn st.layout s.id (lease_calls st es s (spot_of_call st.layout c)) in
+    option_map_or (λ turn. turn == shown + 1 && nat_lt 0 shown) (turn_written c) true
+
 -- The law of block writing.
 abbrev pub block_test : Setting → Trace → Entry → Bool
 block_test st past e =
     each_call st (λ es s c. option_map_or (block_write_test st es s c) (block_written c) true
+    && turn_test st es s c
     && implies (is_at Phase2_read c) (phase2_read_test st es s c)) past e
 
 -- ---- leaders
@@ -356,7 +413,7 @@ has_won st es s at n = list_any (λ p. p.0 == n && same_owner p.1 (me es s)) (en
 abbrev pub leader_write_test : Setting → Trace → Session → Spot → Submitted → Leader → Bool
 leader_write_test st es s at c l =
     same_owner (owner_of l) (me es s) && bytes_eq l.lockspace s.lockspace && l.num_hosts == st.layout.hosts
-    && list_any (is_leader_of st.layout s.lockspace l.resource) (leaders_read st es s at) && has_won st es s at l.lver
+    && list_any (is_leader_of st.layout s.lockspace l.resource) (leaders_known st es s at) && has_won st es s at l.lver
     && elim l.held [
       | true ↦ is_at Leader_taken c && nat_lt (freed (lease_calls st es s at)) l.lver
       | false ↦ is_at Leader_freed c && not (holds_under es s at l.lver) && length (open_writes_on st es s at) == 0
@@ -376,10 +433,6 @@ each_grant st p past e = list_all (λ g. some_is (λ s. p s g) (session_numbered
 abbrev pub all_shared_test : Setting → Trace → Session → Spot → Submitted → Bool
 all_shared_test st es s at mode =
     list_all (λ d. implies (nat_le mode.call.number d.call.number) (option_map_or (λ b. b.shared && b.mode_gen == generation_of es s) (block_written d) true)) (lease_calls st es s at)
-
--- The calls of a list, the newest first, that came before this one.
-abbrev pub before_call : Submitted → List Submitted → List Submitted
-before_call c cs = filter (λ d. nat_lt d.call.number c.call.number) cs
 
 -- Whether this free and this mode justify a shared grant.
 abbrev pub shared_by_test : Setting → Trace → Session → Spot → ℕ → Submitted → Submitted → Submitted → Bool
@@ -417,7 +470,8 @@ none_shared_test st es s blocks =
 abbrev pub exclusive_by_test : Setting → Trace → Session → Spot → ℕ → Submitted → Submitted → Bool
 exclusive_by_test st es s at n write read =
     some_is (λ own. own.lver == n && list_all (λ d. implies (nat_le write.call.number d.call.number) (option_map_or (λ b. b.mbal == own.mbal) (block_written d) true)) (lease_calls st es s at)) (block_written write)
-    && after_test_of write read && some_is (none_shared_test st es s) (blocks_given st.layout read)
+    && both_after write read (lease_calls st es s at)
+    && some_is (none_shared_test st es s) (blocks_given st.layout read (before_call read (lease_calls st es s at)))
 
 -- An exclusive grant.
 abbrev pub exclusive_grant_test : Setting → Trace → Session → Spot → ℕ → Bool

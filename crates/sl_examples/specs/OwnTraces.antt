@@ -21,12 +21,12 @@ own_setting =
     record {
       timing = record { io = 100; fire = 600; land = 100; rho = 0 };
       grace = 300;
-      layout = layout_with cheap_digest (record { sector = 512; area = 1048576; hosts = 2 });
+      layout = layout_with cheap_digest (record { sector = 512; area = 1048576; hosts = 2; paired = false });
       machine = 1;
       name = codes "a";
       first = record { call = 1; job = 1 };
       given = record { lockspace = codes "ls"; id = 1; path = codes "/d"; offset = 0; renewed = 0 } ∷ [];
-      read = command_in (forms (layout_with cheap_digest (record { sector = 512; area = 1048576; hosts = 2 })));
+      read = command_in (forms (layout_with cheap_digest (record { sector = 512; area = 1048576; hosts = 2; paired = false })));
     }
 
 -- One more entry that does what is due.

@@ -8,9 +8,9 @@ use Rattle.sl_trace.specs.Leases.{is_leader_of, is_on, known, open_on, owed, spo
 use Rattle.sl_report.specs.Replay.{allowed, due_run}
 use Rattle.sl_report.specs.Schedules.{Header_read, Header_refused, event_lines_of, numbered_lines, read_header}
 use Rattle.sl_run.specs.Events.{happens, machine_of}
-use Rattle.sl_run.specs.Quiet.{before_command, calls_needed, job_calls, leader_there, request_there}
+use Rattle.sl_run.specs.Quiet.{before_command, blocks_needed, calls_needed, job_calls, leader_there, request_there}
 use Rattle.sl_run.specs.Runs.{Happening, world_after}
-use Rattle.sl_run.specs.Safety.{block_there}
+use Rattle.sl_run.specs.Safety.{block_there, pair_there}
 use Rattle.sl_run.specs.Worlds.{Daemon, Machine, World, is_open, is_write_course, machine_at, reading_now, world_with}
 use Rattle.sl_run.specs.declared.event.Event.TheVariants.{Crash, ExitOf, GiveCommand, Reset}
 use Rattle.sl_run.specs.declared.event.Event.{Event}
@@ -29,6 +29,7 @@ use Rattle.sl_trace.specs.declared.reply.Reply.{Reply}
 use Rattle.sl_words.specs.Bounds.{record_numbers}
 use Rattle.sl_words.specs.Words.{first_of_list, is_empty, some_is}
 use Rattle.std.specs.List.{list_all, list_any, range_with_len}
+use Rattle.std.specs.Option.{option_map_or}
 use Rattle.std.specs.Prelude.{Bool, List, None, Ok, Option, Result, Some, bytes_eq, codes, drop, false, filter, flat_map, is_none, is_some, length, map, nat_le, nat_lt, not, option_and_then, option_map, option_to_list, take, true, [], ℕ, ◌&&◌, ◌++◌, ◌+◌, ◌==◌, ◌||◌, ◌∷◌}
 
 -- ---- the acquire
@@ -104,8 +105,14 @@ start_tests w t =
       on_daemon w t (λ a d s. nat_lt (next_mbal w.layout.hosts s.id
           (map (λ b. b.mbal) (in_instance (t.leader.lver + 1) (option_to_list (known d.setting d.trace s at).own)))) record_numbers),
     )
-    ∷ (codes "request", is_some (request_there w at))
+    ∷ (codes "request", w.layout.paired || is_some (request_there w at))
     ∷ (codes "blocks", list_all (λ host. some_is (λ b. nat_le b.lver t.leader.lver) (block_there w at host)) (hosts_of w))
+    ∷ (codes "pairs", not w.layout.paired || list_all (λ host. is_some (pair_there w at host false)) (hosts_of w))
+    ∷ (
+      codes "turns",
+      not w.layout.paired || list_all (λ first.
+          option_map_or (λ b. nat_lt (b.turn + blocks_needed t.shared) record_numbers) (pair_there w at t.session.id first) true) (true ∷ false ∷ []),
+    )
     ∷ (codes "flights", list_all (λ b. list_all (λ c. not (is_write_course c && is_open b c && is_on w.layout at c.call)) b.calls) w.machines)
     ∷ []
 

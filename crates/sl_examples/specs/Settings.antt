@@ -7,7 +7,7 @@ use Rattle.sl_trace.specs.Traces.{Setting, Trace}
 use Rattle.sl_trace.specs.declared.command.Command.TheVariants.{AddLockspace}
 use Rattle.sl_trace.specs.declared.effects.Entry.{Entry}
 use Rattle.sl_trace.specs.declared.input.Input.TheVariants.{Line}
-use Rattle.std.specs.Prelude.{Ok, [], codes}
+use Rattle.std.specs.Prelude.{Ok, codes, false, []}
 
 -- A daemon that reads each line as a joining within a sector.
 abbrev pub reads_within_sectors : Setting
@@ -15,7 +15,7 @@ reads_within_sectors =
     record {
       timing = record { io = 100; fire = 600; land = 100; rho = 0 };
       grace = 300;
-      layout = layout_with cheap_digest (record { sector = 512; area = 1048576; hosts = 2 });
+      layout = layout_with cheap_digest (record { sector = 512; area = 1048576; hosts = 2; paired = false });
       machine = 1;
       name = codes "a";
       first = record { call = 1; job = 1 };

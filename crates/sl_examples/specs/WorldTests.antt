@@ -28,7 +28,7 @@ use Rattle.sl_trace.specs.declared.effects.JoinStep.TheVariants.{ClaimWrite}
 use Rattle.sl_trace.specs.declared.effects.Purpose.{Purpose}
 use Rattle.sl_trace.specs.declared.effects.Spot.{Spot}
 use Rattle.sl_words.specs.Words.{is_empty, last_of, some_is}
-use Rattle.std.specs.List.{enumerate_from, list_all, list_any}
+use Rattle.std.specs.List.{enumerate_from, list_all, list_any, range_with_len}
 use Rattle.std.specs.Option.{option_map_or}
 use Rattle.std.specs.Prelude.{Bool, Err, List, None, Ok, Some, bytes_eq, false, filter, filter_map, flat_map, is_some, map, nat_le, nat_lt, not, option_map, true, [], ℕ, ◌&&◌, ◌+◌, ◌==◌, ◌||◌, ◌∷◌}
 
@@ -102,6 +102,10 @@ agreement_test w at =
     let all : List (ℕ × Owner) = flat_map (λ p. ballots_of p.1 at) (ids w) in
     list_all (λ a. list_all (λ b. not (a.0 == b.0) || same_owner a.1 b.1) all) all
 
+-- With pairs each host has a block at each moment.
+abbrev pub pairs_test : World → Spot → Bool
+pairs_test w at = not w.layout.paired || list_all (λ k. is_some (block_there w at k)) (range_with_len 1 w.layout.hosts)
+
 -- A shared holder's block has its mode, or is torn.
 abbrev pub mode_stands_test : World → Spot → SessionId × Found → Bool
 mode_stands_test w at p =
@@ -116,7 +120,7 @@ abbrev pub world_test : World → Bool
 world_test w =
     list_all (λ p. list_all (flight_test w p) p.1.calls) (enumerate_from 1 w.machines) && one_for_id_test w && list_all (own_sector_test w) (ids w)
     && evidence_test w && list_all (agreement_test w) (header_spots w.header)
-    && list_all (λ at. list_all (mode_stands_test w at) (ids w)) (header_spots w.header) && not (has_conflict (world_holdings w))
+    && list_all (λ at. pairs_test w at && list_all (mode_stands_test w at) (ids w)) (header_spots w.header) && not (has_conflict (world_holdings w))
 
 -- After each event.
 abbrev pub fronts_test : World → List Happening → Bool

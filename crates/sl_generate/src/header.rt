@@ -66,7 +66,7 @@ fn timing() -> Timing
 /// The areas of a run of so many hosts, 1 to 16.
 fn geometry(hosts: u32) -> Geometry
     requires { (1 ≤ hosts) × (hosts ≤ 16) }
-    ensures { result ≡ record { sector = 512; area = 1048576; hosts = hosts } }
+    ensures { result ≡ record { sector = 512; area = 1048576; hosts = hosts; paired = false } }
 {
     match Geometry::new(SECTOR, AREA, hosts) {
         Ok(geometry) => geometry,

@@ -3,7 +3,7 @@ use Rattle.sl_header_law.specs.HeaderLaw.{IsRead, SomeHeadersAreRead, full_heade
 use Rattle.sl_report.specs.ScheduleLines.{header_forms, header_of, header_tests}
 use Rattle.sl_run.specs.declared.header.Header.{Header}
 use Rattle.std.proofs.Common.{[], refl, ◌∷◌}
-use Rattle.std.specs.Prelude.{codes}
+use Rattle.std.specs.Prelude.{codes, false}
 
 abbrev several : Header
 several =
@@ -11,7 +11,7 @@ several =
       timing = record { io = 1000; fire = 60000; land = 10000; rho = 10 };
       grace = 60000;
       machines = 3;
-      geometry = record { sector = 4096; area = 2097152; hosts = 500 };
+      geometry = record { sector = 4096; area = 2097152; hosts = 500; paired = false };
       retries = 8;
       clocks = record { machine = 1; reading = 500 } ∷ record { machine = 3; reading = 0 } ∷ [];
       disks = record { path = codes "/d"; mebibytes = 4 } ∷ record { path = codes "/e"; mebibytes = 64 } ∷ [];
@@ -29,7 +29,7 @@ nobody =
       timing = record { io = 1000; fire = 60000; land = 10000; rho = 10 };
       grace = 60000;
       machines = 1;
-      geometry = record { sector = 512; area = 1048576; hosts = 2 };
+      geometry = record { sector = 512; area = 1048576; hosts = 2; paired = false };
       retries = 0;
       clocks = [];
       disks = record { path = codes "/d"; mebibytes = 2 } ∷ [];

@@ -341,6 +341,7 @@ is_header ls all begun =
       grace = times.1;
       machines = machines_of ls all begun;
       geometry = geometry_of ls all (first_line ids_line 0 ls) refl hosts.0 hosts.1;
+      unpaired = refl;
       retries = retries_of ls all;
       clocks = clock_is ls all;
       one_clock = pairs_stand (λ c. ClockLine c) clock_line 6 clock_kind (λ a b. a.machine ≢ b.machine) clocks_differ ls all;

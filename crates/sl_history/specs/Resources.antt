@@ -3,3 +3,4 @@ pub mod Histories
 pub mod Promises
 pub mod Orders
 pub mod Reads
+pub mod Once

@@ -15,7 +15,7 @@ use Rattle.sl_trace.specs.Sessions.{is_join_call, same_join_step}
 use Rattle.sl_trace.specs.declared.session.Begun.{Begun}
 use Rattle.sl_trace.specs.declared.effects.JoinStep.TheVariants.{ClaimWrite, DecidingRead, FirstRead, FirstRenewal, VerifyRead, WatchRead}
 use Rattle.sl_trace.specs.declared.effects.JoinStep.{JoinStep}
-use Rattle.sl_trace.specs.declared.effects.LeaseStep.TheVariants.{ClearMode, FreeLeader, Phase1Read, Phase1Write, Phase2Read, Phase2Write, ReadArea, ReadBeforeFree, SetMode, TakeLeader}
+use Rattle.sl_trace.specs.declared.effects.LeaseStep.TheVariants.{ClearMode, FreeLeader, Phase1Read, Phase1Write, Phase2Read, Phase2Write, ReadAgain, ReadArea, ReadBeforeBlock, ReadBeforeFree, SetMode, TakeLeader}
 use Rattle.sl_trace.specs.declared.effects.LeaseStep.{LeaseStep}
 use Rattle.sl_trace.specs.declared.effects.Purpose.TheVariants.{Joining, Lease, Leaving, Renewal, RequestRead, RequestWrite, SeeRequest, Survey, ValueRead, ValueWrite}
 use Rattle.sl_trace.specs.declared.effects.Purpose.{Purpose}
@@ -23,6 +23,7 @@ use Rattle.sl_trace.specs.declared.input.Answer.TheVariants.{Read}
 use Rattle.sl_trace.specs.declared.input.Answer.{Answer}
 use Rattle.sl_host.specs.Hearing.{is_over_in, own_heard, reads_area, renewals_told, request_heard, shows_at, survey_heard, tells_renewals}
 use Rattle.sl_words.proofs.CaseLaws.{none_some, some_value}
+use Rattle.sl_trace.specs.declared.effects.LeaseRead.TheVariants.{OfArea, OfBlock, OfFree, OfPhase1, OfPhase2}
 use Rattle.std.proofs.Common.{ap, arith, inl, inr, refl, subst, suc, sym, true≢false, zero, ◌∙◌}
 use Rattle.std.proofs.lemmas.Bool.Decides.{Decides-eqb}
 use Rattle.std.proofs.lemmas.List.FromFn.{length-map-range_with_len}
@@ -235,6 +236,12 @@ survey_changed run n before after bytes b shows ms apart is =
 pub area_read : (g : Layout) (step : LeaseStep) (bytes : List ℕ) → reads_area step ≡ true → (leader_of g bytes ≡ leader_given g step bytes) × (area_blocks g bytes ≡ read_given g step bytes)
 area_read g (ReadArea name) bytes is = (refl, refl)
 area_read g ReadBeforeFree bytes is = (refl, refl)
+area_read g ReadBeforeBlock bytes is = none_false is
+area_read g (ReadAgain (OfArea name)) bytes is = (refl, refl)
+area_read g (ReadAgain OfFree) bytes is = (refl, refl)
+area_read g (ReadAgain OfBlock) bytes is = none_false is
+area_read g (ReadAgain OfPhase1) bytes is = none_false is
+area_read g (ReadAgain OfPhase2) bytes is = none_false is
 area_read g Phase1Write bytes is = none_false is
 area_read g Phase1Read bytes is = none_false is
 area_read g Phase2Write bytes is = none_false is
@@ -247,6 +254,12 @@ area_read g ClearMode bytes is = none_false is
 pub blocks_read : (g : Layout) (step : LeaseStep) (bytes : List ℕ) → reads_area step ≡ false → (None ≡ leader_given g step bytes) × (blocks_in g bytes ≡ read_given g step bytes)
 blocks_read g (ReadArea name) bytes is = absurd (true≢false is)
 blocks_read g ReadBeforeFree bytes is = absurd (true≢false is)
+blocks_read g ReadBeforeBlock bytes is = (refl, refl)
+blocks_read g (ReadAgain (OfArea name)) bytes is = absurd (true≢false is)
+blocks_read g (ReadAgain OfFree) bytes is = absurd (true≢false is)
+blocks_read g (ReadAgain OfBlock) bytes is = (refl, refl)
+blocks_read g (ReadAgain OfPhase1) bytes is = (refl, refl)
+blocks_read g (ReadAgain OfPhase2) bytes is = (refl, refl)
 blocks_read g Phase1Write bytes is = (refl, refl)
 blocks_read g Phase1Read bytes is = (refl, refl)
 blocks_read g Phase2Write bytes is = (refl, refl)

@@ -6,7 +6,7 @@ use Rattle.sl_host_state.specs.Hears.{children_after, job_hearing, new_job}
 use Rattle.sl_host_state.specs.Makes.{job_calling, job_starting, names_moved}
 use Rattle.sl_host_state.specs.Stands.{kept_call}
 use Rattle.sl_host_state.specs.declared.kept.ValuePair.{ValuePair}
-use Rattle.sl_sector.specs.declared.sector.Rec.TheVariants.{BlockIs, LeaderIs, ValueIs}
+use Rattle.sl_sector.specs.declared.sector.Rec.TheVariants.{BlockIs, LeaderIs, PairIs, PairLeaderIs, ValueIs}
 use Rattle.sl_tables.specs.declared.holdings.Holder.TheVariants.{Is}
 use Rattle.sl_tables.specs.declared.holdings.Sought.{Sought}
 use Rattle.sl_trace.specs.Traces.{Child, KillProgram, Submitted, job_of, new_call, new_child, same_place, with_program, without_program}
@@ -204,6 +204,8 @@ abbrev pub lver_in : Op → ℕ
 lver_in (ReadSectors n) = 0
 lver_in (WriteRecord (LeaderIs l)) = l.lver
 lver_in (WriteRecord (BlockIs b)) = b.lver
+lver_in (WriteRecord (PairLeaderIs l)) = l.lver
+lver_in (WriteRecord (PairIs p)) = p.block.lver
 lver_in (WriteRecord r) = 0
 
 -- Version and seq of the value that is written.

@@ -14,7 +14,7 @@ use Rattle.sl_member.specs.Seen.{shows_other_by}
 use Rattle.sl_member.specs.Together.{told_survey}
 use Rattle.sl_area.specs.Layouts.{layout_of}
 use Rattle.sl_trace.specs.declared.session.Begun.{Begun}
-use Rattle.sl_trace.specs.declared.effects.LeaseStep.TheVariants.{ReadArea, ReadBeforeFree}
+use Rattle.sl_trace.specs.declared.effects.LeaseStep.TheVariants.{ReadAgain, ReadArea, ReadBeforeFree}
 use Rattle.sl_trace.specs.declared.effects.LeaseStep.{LeaseStep}
 use Rattle.sl_trace.specs.declared.effects.Purpose.TheVariants.{Joining, Leaving, Renewal, RequestRead, RequestWrite, SeeRequest, Survey, ValueRead, ValueWrite}
 use Rattle.sl_trace.specs.declared.effects.Purpose.{Purpose}
@@ -23,6 +23,7 @@ use Rattle.sl_trace.specs.declared.input.Answer.{Answer}
 use Rattle.sl_host.specs.Asking.{state_in}
 use Rattle.sl_host.specs.Replying.{writes_in}
 use Rattle.sl_words.specs.Words.{some_is}
+use Rattle.sl_trace.specs.declared.effects.LeaseRead.TheVariants.{OfArea, OfFree}
 use Rattle.std.specs.List.{AllByRecursion}
 use Rattle.std.specs.Prelude.{Bool, Contains, List, None, Option, Some, cond, false, filter, find, is_some, nat_le, not, true, ℕ, ◌&&◌, ◌+◌, ◌-◌, ◌==◌, ◌≡◌}
 
@@ -91,6 +92,8 @@ survey_heard run before after bytes b m = told_survey run before after bytes (ow
 abbrev pub reads_area : LeaseStep → Bool
 reads_area (ReadArea name) = true
 reads_area ReadBeforeFree = true
+reads_area (ReadAgain (OfArea name)) = true
+reads_area (ReadAgain OfFree) = true
 reads_area step = false
 
 -- How many sectors a read at this step gives.

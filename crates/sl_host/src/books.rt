@@ -10,15 +10,15 @@ ghost use Rattle.std.specs.Prelude.{Some, cond, filter, is_some, length, map, mi
 use crate::buffers::Buffers;
 use sl_area::Geometry;
 use sl_host_state::{JobState, OpenCall, ValuePair, WaitingCall};
-use sl_sector::{Block, DeltaRec, DeltaState, Leader, Rec, Request, ValueRec};
+use sl_sector::{Block, DeltaRec, DeltaState, Leader, PairBlock, Rec, Request, ValueRec};
 use sl_tables::{
     ChildState, Children, Connections, Holder, Holdings, Jobs, OpenCalls, Programs, Sought,
 };
 use sl_text::{Data, FilePath, Name};
 use sl_time::Timing;
 use sl_trace::{
-    Call, Command, End, Grant, JobReply, JoinStep, LeaseStep, Move, Op, Purpose, Reply, Sent, Spot,
-    Start, Work,
+    Call, Command, End, Grant, JobReply, JoinStep, LeaseRead, LeaseStep, Move, Op, Purpose, Reply,
+    Sent, Spot, Start, Work,
 };
 use std::marker::Model;
 
@@ -118,11 +118,21 @@ type WithinCall = (
         Purpose,
         Work,
         LeaseStep,
+        LeaseRead,
         JoinStep,
         ValuePair,
         WaitingCall,
     ),
-    (Rec, Leader, Block, DeltaRec, DeltaState, Request, ValueRec),
+    (
+        Rec,
+        Leader,
+        Block,
+        PairBlock,
+        DeltaRec,
+        DeltaState,
+        Request,
+        ValueRec,
+    ),
     (Name, Data, FilePath),
 );
 
@@ -147,6 +157,12 @@ fn lver_of(op: &Op) -> u64
         Op::WriteRecord {
             record: Rec::BlockIs(block),
         } => block.lver,
+        Op::WriteRecord {
+            record: Rec::PairLeaderIs(leader),
+        } => leader.lver,
+        Op::WriteRecord {
+            record: Rec::PairIs(pair),
+        } => pair.block.lver,
         _ => 0,
     }
 }

@@ -6,18 +6,28 @@ ghost use Rattle.std.specs.List.{list_any};
 ghost use Rattle.std.specs.Prelude.{IfOk, length, [], ◌+◌, ◌++◌, ◌-◌, ◌<◌, ◌==◌, ◌^◌, ◌∷◌, ◌≡◌, ◌≤◌};
 
 use sl_room::Room;
-use sl_sector::{Block, DeltaRec, DeltaState, Leader, Rec, Request, ValueRec};
+use sl_sector::{Block, DeltaRec, DeltaState, Leader, PairBlock, Rec, Request, ValueRec};
 use sl_text::{Data, FilePath, Name, Seq};
 use sl_trace::{
-    Call, Effects, End, Grant, JobReply, JoinStep, LeaseStep, Move, Op, Purpose, Sent, Start, Work,
+    Call, Effects, End, Grant, JobReply, JoinStep, LeaseRead, LeaseStep, Move, Op, Purpose, Sent,
+    Start, Work,
 };
 use std::alloc::{AllocError, Global};
 use std::marker::Model;
 
 /// The types within a call.
 type WithinCall = (
-    (Op, Purpose, Work, LeaseStep, JoinStep),
-    (Rec, Leader, Block, DeltaRec, DeltaState, Request, ValueRec),
+    (Op, Purpose, Work, LeaseStep, LeaseRead, JoinStep),
+    (
+        Rec,
+        Leader,
+        Block,
+        PairBlock,
+        DeltaRec,
+        DeltaState,
+        Request,
+        ValueRec,
+    ),
     (Name, Data, FilePath),
 );
 

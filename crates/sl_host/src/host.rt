@@ -10,9 +10,11 @@ ghost use Rattle.std.specs.Prelude.{filter, not, ℕ, ◌+◌, ◌-◌, ◌<◌,
 use crate::books::Books;
 use sl_host_state::{ValuePair, WaitingCall};
 use sl_member::Members;
-use sl_sector::{Block, DeltaRec, DeltaState, Leader, Rec, Request, ValueRec};
+use sl_sector::{Block, DeltaRec, DeltaState, Leader, PairBlock, Rec, Request, ValueRec};
 use sl_text::{Data, FilePath, Name};
-use sl_trace::{Call, End, Grant, JoinStep, LeaseStep, Move, Op, Purpose, Sent, Start, Work};
+use sl_trace::{
+    Call, End, Grant, JoinStep, LeaseRead, LeaseStep, Move, Op, Purpose, Sent, Start, Work,
+};
 use std::marker::Model;
 
 /// A host. Its members have memory for as many leases each as it may make calls, and there is memory for as many members as may join.
@@ -43,11 +45,21 @@ pub(crate) type WithinCall = (
         Purpose,
         Work,
         LeaseStep,
+        LeaseRead,
         JoinStep,
         ValuePair,
         WaitingCall,
     ),
-    (Rec, Leader, Block, DeltaRec, DeltaState, Request, ValueRec),
+    (
+        Rec,
+        Leader,
+        Block,
+        PairBlock,
+        DeltaRec,
+        DeltaState,
+        Request,
+        ValueRec,
+    ),
     (Name, Data, FilePath),
 );
 

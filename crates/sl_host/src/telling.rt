@@ -25,7 +25,7 @@ use sl_lease::{Blocks, Sectors, leader_of};
 use sl_member::{Member, Members};
 use sl_sector::Leader;
 use sl_tables::OpenCalls;
-use sl_trace::{Begun, JoinStep, LeaseStep, Purpose};
+use sl_trace::{Begun, JoinStep, LeaseRead, LeaseStep, Purpose};
 
 // ---- refused members
 
@@ -242,10 +242,14 @@ pub(crate) fn tell_no_survey(members: &mut Members, call: &OpenCall, now: u64)
 fn reads_area(step: &LeaseStep) -> bool
     ensures { result ≡ reads_area step.now }
 {
-    matches!(
-        step,
-        LeaseStep::ReadArea { resource: _ } | LeaseStep::ReadBeforeFree
-    )
+    match step {
+        LeaseStep::ReadArea { resource: _ } => true,
+        LeaseStep::ReadBeforeFree => true,
+        LeaseStep::ReadAgain { read } => {
+            matches!(read, LeaseRead::OfArea { resource: _ } | LeaseRead::OfFree)
+        }
+        _ => false,
+    }
 }
 
 /// The leader, and in their places the blocks, of a read at this step of a lease's work.

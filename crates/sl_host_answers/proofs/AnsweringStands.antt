@@ -18,7 +18,7 @@ use Rattle.sl_plain.proofs.Lists.{find_inside}
 use Rattle.sl_trace.specs.Sessions.{is_survey_purpose}
 use Rattle.sl_trace.specs.declared.command.Command.{Command}
 use Rattle.sl_trace.specs.declared.effects.JoinStep.{JoinStep}
-use Rattle.sl_trace.specs.declared.effects.LeaseStep.TheVariants.{ClearMode, FreeLeader, Phase1Read, Phase1Write, Phase2Read, Phase2Write, ReadArea, ReadBeforeFree, SetMode, TakeLeader}
+use Rattle.sl_trace.specs.declared.effects.LeaseStep.TheVariants.{ClearMode, FreeLeader, Phase1Read, Phase1Write, Phase2Read, Phase2Write, ReadAgain, ReadArea, ReadBeforeBlock, ReadBeforeFree, SetMode, TakeLeader}
 use Rattle.sl_trace.specs.declared.effects.LeaseStep.{LeaseStep}
 use Rattle.sl_trace.specs.declared.effects.Purpose.TheVariants.{Joining, Lease, Leaving, Renewal, RequestRead, RequestWrite, SeeRequest, Survey, ValueRead, ValueWrite}
 use Rattle.sl_trace.specs.declared.effects.Purpose.{Purpose}
@@ -28,6 +28,7 @@ use Rattle.sl_host.proofs.AnswersTold.{blocks_few}
 use Rattle.sl_host.specs.Asking.{state_in}
 use Rattle.sl_host.specs.Hearing.{is_untold}
 use Rattle.sl_words.proofs.CaseLaws.{none_some, some_value}
+use Rattle.sl_trace.specs.declared.effects.LeaseRead.TheVariants.{OfArea, OfBlock, OfFree, OfPhase1, OfPhase2}
 use Rattle.std.proofs.Common.{ap, arith, refl, subst, sym, true≢false, ◌∙◌}
 use Rattle.std.proofs.lemmas.Bool.Decides.{Decides-eqb}
 use Rattle.std.proofs.lemmas.List.{length-map}
@@ -228,6 +229,12 @@ job_due job (ValueRead j) h g c o is = ap (λ n. at_member c.session (λ m. answ
 pub blocks_many : (g : Layout) (step : LeaseStep) (bytes : List ℕ) → length (read_given g step bytes) ≡ g.hosts
 blocks_many g (ReadArea name) bytes = blocks_few g (drop (2 * g.sector) bytes)
 blocks_many g ReadBeforeFree bytes = blocks_few g (drop (2 * g.sector) bytes)
+blocks_many g ReadBeforeBlock bytes = blocks_few g bytes
+blocks_many g (ReadAgain (OfArea name)) bytes = blocks_few g (drop (2 * g.sector) bytes)
+blocks_many g (ReadAgain OfFree) bytes = blocks_few g (drop (2 * g.sector) bytes)
+blocks_many g (ReadAgain OfBlock) bytes = blocks_few g bytes
+blocks_many g (ReadAgain OfPhase1) bytes = blocks_few g bytes
+blocks_many g (ReadAgain OfPhase2) bytes = blocks_few g bytes
 blocks_many g Phase1Write bytes = blocks_few g bytes
 blocks_many g Phase1Read bytes = blocks_few g bytes
 blocks_many g Phase2Write bytes = blocks_few g bytes

@@ -128,8 +128,9 @@ takes_sectors SeeRequest = true
 takes_sectors (ValueRead j) = true
 takes_sectors p = false
 
--- So many bytes are those that the call asks.
+-- So many bytes are those that the call asks, where a block has one sector.
 pub record FitsSectors (z : Sizes) (c : OpenCall) (n : ℕ) : Type 0 where
+  pub plain : z.paired ≡ false
   pub taken : takes_sectors c.purpose ≡ true
   pub survey : c.purpose ≡ Survey → n ≡ z.hosts * z.sector
   pub lease : (work : Work) (step : LeaseStep) → c.purpose ≡ Lease work step → (is_read_step step ≡ true) × (is_some c.sectors ≡ true) × (n ≡ sectors_read z.hosts step * z.sector)

@@ -29,6 +29,7 @@ steps_are_over i h x follows is_due s =
       keeps =
           record {
             config = k.config;
+            unpaired = k.unpaired;
             entries = k.entries;
             calls = k.calls ∙ as_it_is (h.first_call + length h.made.calls);
             lines = k.lines;
@@ -64,4 +65,7 @@ new_lease_stands g lockspace self at =
       top = λ t is. absurd (none_some t is);
       opened = λ n is. absurd (none_some n is);
       pair = refl;
+      turn = refl;
+      first = refl;
+      plain = tt;
     }

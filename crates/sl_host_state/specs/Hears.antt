@@ -21,7 +21,9 @@ use Rattle.sl_trace.specs.declared.command.Command.TheVariants.{RemLockspace}
 use Rattle.sl_trace.specs.declared.command.Command.{Command}
 use Rattle.sl_trace.specs.declared.effects.Effects.{Effects}
 use Rattle.sl_trace.specs.declared.effects.JoinStep.TheVariants.{FirstRead}
-use Rattle.sl_trace.specs.declared.effects.LeaseStep.TheVariants.{Phase1Read, Phase2Read, ReadArea, ReadBeforeFree}
+use Rattle.sl_trace.specs.declared.effects.LeaseRead.TheVariants.{OfArea, OfBlock, OfFree, OfPhase1, OfPhase2}
+use Rattle.sl_trace.specs.declared.effects.LeaseRead.{LeaseRead}
+use Rattle.sl_trace.specs.declared.effects.LeaseStep.TheVariants.{Phase1Read, Phase2Read, ReadAgain, ReadArea, ReadBeforeBlock, ReadBeforeFree}
 use Rattle.sl_trace.specs.declared.effects.LeaseStep.{LeaseStep}
 use Rattle.sl_trace.specs.declared.effects.Purpose.{Purpose}
 use Rattle.sl_trace.specs.declared.input.Answer.TheVariants.{Failed, Read, Written}
@@ -213,22 +215,35 @@ joining_hearing h c a j =
 
 -- ---- an answer, heard by its lease
 
--- The blocks that a read at this step gives.
+-- The blocks that a read gives.
+abbrev pub blocks_of_read : Layout → LeaseRead → List ℕ → List (Option Block)
+blocks_of_read g (OfArea name) bytes = area_blocks g bytes
+blocks_of_read g OfFree bytes = area_blocks g bytes
+blocks_of_read g OfBlock bytes = blocks_in g bytes
+blocks_of_read g OfPhase1 bytes = blocks_in g bytes
+blocks_of_read g OfPhase2 bytes = blocks_in g bytes
+
+-- The blocks that a read at this step gives, where a block has one sector: made once more, it gives the same.
 abbrev pub blocks_of_step : Layout → LeaseStep → List ℕ → Option (List (Option Block))
 blocks_of_step g (ReadArea name) bytes = Some (area_blocks g bytes)
 blocks_of_step g ReadBeforeFree bytes = Some (area_blocks g bytes)
 blocks_of_step g Phase1Read bytes = Some (blocks_in g bytes)
 blocks_of_step g Phase2Read bytes = Some (blocks_in g bytes)
+blocks_of_step g ReadBeforeBlock bytes = Some (blocks_in g bytes)
+blocks_of_step g (ReadAgain read) bytes = Some (blocks_of_read g read bytes)
 blocks_of_step g step bytes = None
 
 -- Whether it is a read of a ballot's phase, and of its second.
 abbrev pub is_phase_step : LeaseStep → Bool
 is_phase_step Phase1Read = true
 is_phase_step Phase2Read = true
+is_phase_step (ReadAgain OfPhase1) = true
+is_phase_step (ReadAgain OfPhase2) = true
 is_phase_step step = false
 
 abbrev pub is_last_phase : LeaseStep → Bool
 is_last_phase Phase2Read = true
+is_last_phase (ReadAgain OfPhase2) = true
 is_last_phase step = false
 
 -- What the answer shows at its step, if it is a read of blocks.
@@ -251,7 +266,8 @@ won_at self step own stop =
 
 -- Whether the answer shows that the free of n is done: it is that free, done, or the area shows that it isn't needed.
 abbrev pub settles_at : Layout → Owner → LeaseStep → Option ℕ → ℕ → Answer → Bool
-settles_at g self ReadBeforeFree frees n (Read bytes) = shows_settled g self n bytes
+settles_at g self ReadBeforeFree frees n (Read bytes) = shows_settled self n (leader_of g bytes) (area_blocks g bytes)
+settles_at g self (ReadAgain OfFree) frees n (Read bytes) = shows_settled self n (leader_of g bytes) (area_blocks g bytes)
 settles_at g self step frees n Written = some_is (λ f. f == n) frees
 settles_at g self step frees n a = false
 

@@ -16,7 +16,7 @@ new_joining = record { watched = None; since = None; claim = None; newest = None
 
 -- The sizes of a layout.
 abbrev pub sizes_in : Layout → Sizes
-sizes_in g = record { sector = g.sector; area = g.area; hosts = g.hosts }
+sizes_in g = record { sector = g.sector; area = g.area; hosts = g.hosts; paired = g.paired }
 
 -- The layout is one of the program.
 abbrev pub IsOfProgram : Layout → Type 0
@@ -74,6 +74,6 @@ new_host st =
       made = no_effects;
     }
 
--- Of every setting with a layout of the program the new host stands for no step.
+-- Of every setting with a layout of the program where each host's block has one sector the new host stands for no step.
 abbrev pub NewHostStands : Type 0
-NewHostStands = (st : Setting) → IsOfProgram st.layout → HostStands (new_host st) st []
+NewHostStands = (st : Setting) → IsOfProgram st.layout → st.layout.paired ≡ false → HostStands (new_host st) st []

@@ -14,6 +14,7 @@
 -- - holdings, children, programs: so are these.
 -- - quiet: nothing that is due by time before an input is due below `quiet_until`.
 use Rattle.sl_area.specs.Layouts.{Layout, layout_of}
+use Rattle.sl_area.specs.Places.{pairs_kept}
 use Rattle.sl_due.specs.Due.{IsHostTrace}
 use Rattle.sl_due.specs.DueRequests.{is_asked}
 use Rattle.sl_due.specs.Steps.{Step, seen}
@@ -21,10 +22,11 @@ use Rattle.sl_host_state.specs.Kept.{Config, HostState, JobState, JoinCall, Join
 use Rattle.sl_trace.specs.Ballots.{in_instance}
 use Rattle.sl_trace.specs.Counts.{values_on}
 use Rattle.sl_trace.specs.Jobs.{child_of_job, command_of}
-use Rattle.sl_trace.specs.Leases.{block_submitted, block_written, free_left, freed, is_on, last_blocks, leader_written, lease_calls, lease_spots, lease_step, lver_written, may_show_shared, open_ballot, value_written, verified_name}
+use Rattle.sl_trace.specs.Leases.{base_turn, block_submitted, block_written, first_kept, free_left, freed, is_again, is_on, last_blocks, leader_written, lease_calls, lease_spots, lease_step, lver_written, may_show_shared, open_ballot, turn_written, value_written, verified_name}
 use Rattle.sl_sector.specs.Bitmaps.{bitmap_of}
 use Rattle.sl_sector.specs.declared.sector.Block.{Block}
 use Rattle.sl_sector.specs.declared.sector.Owner.{Owner}
+use Rattle.sl_sector.specs.declared.sector.PairBlock.{PairBlock}
 use Rattle.sl_sector.specs.declared.sector.ValueRec.{ValueRec}
 use Rattle.sl_trace.specs.Deltas.{claim_of, delta_known, first_answered, first_bytes, join_step_of}
 use Rattle.sl_trace.specs.Sessions.{calls_of, is_delta_purpose, is_joined, leaving_of, me, present_sessions, refused_after, renewing, sessions}
@@ -40,7 +42,8 @@ use Rattle.sl_watch.specs.Watches.{WatchStands, Watched}
 use Rattle.sl_words.specs.Words.{choose, greatest, present, some_is}
 use Rattle.std.specs.Int.{is_in_range}
 use Rattle.std.specs.List.{AllByRecursion, list_any, range_with_len}
-use Rattle.std.specs.Prelude.{Bool, IsTrue, List, None, Option, Some, cond, false, filter, filter_map, flat_map, is_none, is_some, length, map, nat_le, nat_lt, not, option_and_then, option_map, reverse, slice_get, slice_index_or, true, [], ℕ, ◌&&◌, ◌++◌, ◌+◌, ◌-◌, ◌==◌, ◌||◌, ◌∷◌, ◌≡◌, ◌≤◌}
+use Rattle.std.specs.Option.{option_map_or}
+use Rattle.std.specs.Prelude.{Bool, IsTrue, List, None, Option, Some, cond, false, filter, filter_map, flat_map, is_none, is_some, length, map, nat_le, nat_lt, not, option_and_then, option_map, reverse, slice_get, slice_index_or, true, unwrap_or, [], ℕ, ◌&&◌, ◌++◌, ◌+◌, ◌-◌, ◌==◌, ◌||◌, ◌∷◌, ◌≡◌, ◌≤◌}
 
 -- ---- what is kept of what a trace has
 
@@ -111,6 +114,18 @@ top_mbal n blocks = greatest (map (λ b. b.mbal) (in_instance n (present blocks)
 abbrev pub no_pair : PairState
 no_pair = record { turn = None; first = None }
 
+-- The turn of the own pair, by what is kept of it, and 0 before any was shown.
+abbrev pub turn_kept : PairState → ℕ
+turn_kept p = unwrap_or p.turn 0
+
+-- What the first of two reads gave of the pairs.
+abbrev pub first_read : Layout → PairState → List (Option PairBlock)
+first_read g p = option_map_or (λ bytes. pairs_kept g bytes) p.first []
+
+-- Whether the call is one on an area where a block has one sector: no read that is made once more, no write of a block with a turn.
+abbrev pub is_plain_call : Submitted → Bool
+is_plain_call m = not (is_again m) && is_none (turn_written m)
+
 -- The lease stands for its calls, the newest first, under a lockspace and for the session as ballots name it.
 pub record LeaseStands (g : Layout) (lockspace : List ℕ) (self : Owner) (l : LeaseState) (ms : List Submitted) : Type 0 where
   pub own : block_submitted ms ≡ l.own
@@ -126,6 +141,10 @@ pub record LeaseStands (g : Layout) (lockspace : List ℕ) (self : Owner) (l : L
   pub opened : (n : ℕ) → l.ballot ≡ Some n → (t : TopNumber) × (l.top ≡ Some t) × (t.instance ≡ n)
   -- a block has one sector
   pub pair : l.pair ≡ no_pair
+  -- so no turn of it was shown, and no read is made once more
+  pub turn : base_turn g self.id ms ≡ turn_kept l.pair
+  pub first : first_kept g ms ≡ first_read g l.pair
+  pub plain : AllByRecursion (λ m. IsTrue (is_plain_call m)) ms
 
 -- ---- a session
 
@@ -212,6 +231,8 @@ AreSingle (c ∷ cs) = (some_is (λ job. list_any (is_kept_of job) cs) (job_of c
 -- The questions to a trace.
 pub record Keeps (h : HostState) (st : Setting) (es : Trace) : Type 0 where
   pub config : config_of st ≡ h.config
+  -- each host's block has one sector
+  pub unpaired : h.config.layout.paired ≡ false
   pub entries : length es ≡ h.entries
   pub calls : next_call st es ≡ h.first_call + length h.made.calls
   pub lines : next_job st es ≡ h.next_job

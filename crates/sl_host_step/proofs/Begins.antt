@@ -48,7 +48,7 @@ begins_serving h s v header is state config =
     record {
       setting = is;
       reads = λ text. subst (λ (m : Made). st.read text ≡ command_in (forms (layout_of m.sizes)) text) (sym config) refl;
-      stands = subst (λ g. HostStands g st []) (sym (state st.read)) (hosts_begin.stands st program);
+      stands = subst (λ g. HostStands g st []) (sym (state st.read)) (hosts_begin.stands st is program);
       sound = subst IsSound (sym (state st.read)) (hosts_begin.sound st is program);
       grace = subst (λ (m : Made). m.grace ≤ 600000) (sym config) header.grace;
     }

@@ -141,6 +141,7 @@ module _ (z : Sizes) (h : HostState) (x : Step) (number : ℕ) (answer : Answer)
     fits : is_joining_purpose c.purpose ≡ false → FitsSectors z c (length bytes)
     fits other =
         record {
+          plain = ap (λ (g : Layout). g.paired) (sym same) ∙ r.stands.keeps.unpaired;
           taken = takes z.hosts c.purpose other (ap (λ o. is_some o) (sym asks ∙ given.1));
           survey = λ for. many z.hosts (ap (sectors_asked z.hosts) for);
           lease = λ work step for. (let y = reads work step for in (y, ap (λ o. is_some o) given.1, many (sectors_read z.hosts step) (ap (sectors_asked z.hosts) for ∙ lease_asks z.hosts work step y)));

@@ -28,6 +28,7 @@ keeps_calm : (q : ℕ) (h : HostState) (st : Setting) (es : Trace) → Keeps h s
 keeps_calm q h st es k =
     record {
       config = k.config;
+      unpaired = k.unpaired;
       entries = k.entries;
       calls = k.calls;
       lines = k.lines;

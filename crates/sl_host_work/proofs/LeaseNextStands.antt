@@ -1,6 +1,6 @@
 -- A lease decides by what its host keeps.
 use Rattle.sl_area.specs.Layouts.{Sizes, layout_of}
-use Rattle.sl_area.specs.Places.{area_blocks, leader_of}
+use Rattle.sl_area.specs.Places.{area_blocks, blocks_in, leader_of}
 use Rattle.sl_host_law.specs.Questions.Answers.{place_in}
 use Rattle.sl_host_law.specs.Questions.Members.{exclusive_at, over_in}
 use Rattle.sl_host_law.specs.Steps.Leases.{answered_next, blocks_at, converting_next, kept_blocks, known_by, lease_at, releasing_next, settling_next}
@@ -16,7 +16,7 @@ use Rattle.sl_lease.specs.Side.{is_named, known_with, place_of}
 use Rattle.sl_lease.specs.Steps.{IsFitNext, is_first_step, is_read_step}
 use Rattle.sl_lease.specs.declared.evidence.Held.{Held}
 use Rattle.sl_lease.specs.declared.side.Side.{Side}
-use Rattle.sl_trace.specs.LeaseWork.{LeasePlace, after_write, area_next, convert_next, lease_next, named_area_next, release_next, settle_next}
+use Rattle.sl_trace.specs.LeaseWork.{LeasePlace, after_bytes, after_read, after_write, area_next, convert_next, first_step, lease_next, named_area_next, part_read, release_next, settle_next}
 use Rattle.sl_trace.specs.Leases.{LeaseKnown, is_leader_of}
 use Rattle.sl_trace.specs.declared.lease.Aim.{Aim}
 use Rattle.sl_trace.specs.declared.lease.LeaseNext.TheVariants.{AnswerJob, BecomeExclusive, BecomeShared, GrantJob, Nothing, ReadFor, WriteBlock, WriteLeader}
@@ -26,7 +26,7 @@ use Rattle.sl_member.specs.Seen.{SeenBy, over_by}
 use Rattle.sl_sector.specs.declared.sector.Block.{Block}
 use Rattle.sl_sector.specs.declared.sector.Leader.{Leader}
 use Rattle.sl_trace.specs.declared.effects.Grant.{Grant}
-use Rattle.sl_trace.specs.declared.effects.LeaseStep.TheVariants.{ClearMode, FreeLeader, Phase1Read, Phase1Write, Phase2Read, Phase2Write, ReadArea, ReadBeforeFree, SetMode, TakeLeader}
+use Rattle.sl_trace.specs.declared.effects.LeaseStep.TheVariants.{ClearMode, FreeLeader, Phase1Read, Phase1Write, Phase2Read, Phase2Write, ReadAgain, ReadArea, ReadBeforeBlock, ReadBeforeFree, SetMode, TakeLeader}
 use Rattle.sl_trace.specs.declared.effects.LeaseStep.{LeaseStep}
 use Rattle.sl_trace.specs.declared.effects.Mode.{Mode}
 use Rattle.sl_trace.specs.declared.effects.Purpose.TheVariants.{Survey}
@@ -35,6 +35,7 @@ use Rattle.sl_trace.specs.declared.input.Answer.TheVariants.{Read, Written}
 use Rattle.sl_trace.specs.declared.reply.Reply.TheVariants.{TornLeader, WrongArea}
 use Rattle.sl_trace.specs.declared.input.Answer.{Answer}
 use Rattle.sl_host.specs.Asking.{state_in}
+use Rattle.sl_trace.proofs.PlainWork.{bytes_plain}
 use Rattle.std.proofs.Common.{ap, refl, subst, sym, ◌∙◌}
 use Rattle.std.specs.Prelude.{Bool, IfSome, IsTrue, List, None, Option, Some, [], false, option_map, true, ℕ, ◌||◌, ◌≡◌}
 
@@ -83,15 +84,25 @@ unfolding lease_next area_next
 asked_read h m at c aim step bytes leader read s =
     (λ i. read_asked (place_in h m) (known_by h m at (lease_at m at) (s.shows i)) aim (s.leads i) (s.shows i) step) ∙ by step s.reads
   where
+    -- It is not made once more.
+    at_once : (w : LeaseStep) (bs : List (Option Block))
+        → after_read (place_in h m) (known_by h m at (lease_at m at) bs) aim (leader_of h.config.layout bytes) (blocks_in h.config.layout (part_read h.config.layout bytes (first_step w))) (first_step w)
+        ≡ after_bytes (place_in h m) (known_by h m at (lease_at m at) bs) aim bytes w
+    at_once w bs = sym (bytes_plain (place_in h m) (known_by h m at (lease_at m at) bs) aim bytes w s.plain)
+
     by : (w : LeaseStep) → is_read_step w ≡ true
         → read_asked (place_in h m) (known_by h m at (lease_at m at) (read_given h.config.layout w bytes)) aim (leader_given h.config.layout w bytes) (read_given h.config.layout w bytes) w
         ≡ answered_next h m at c aim w (Read bytes)
-    by (ReadArea name) is = area_is (place_in h m) (known_by h m at (lease_at m at) (area_blocks h.config.layout bytes)) aim name (area_blocks h.config.layout bytes) (leader_of h.config.layout bytes)
-    by ReadBeforeFree is = refl
+    by (ReadArea name) is =
+        area_is (place_in h m) (known_by h m at (lease_at m at) (area_blocks h.config.layout bytes)) aim name (area_blocks h.config.layout bytes) (leader_of h.config.layout bytes)
+        ∙ at_once (ReadArea name) (area_blocks h.config.layout bytes)
+    by ReadBeforeFree is = at_once ReadBeforeFree (area_blocks h.config.layout bytes)
+    by ReadBeforeBlock is = absurd cc
+    by (ReadAgain again) is = absurd cc
     by Phase1Write is = absurd cc
-    by Phase1Read is = refl
+    by Phase1Read is = at_once Phase1Read (blocks_in h.config.layout bytes)
     by Phase2Write is = absurd cc
-    by Phase2Read is = refl
+    by Phase2Read is = at_once Phase2Read (blocks_in h.config.layout bytes)
     by TakeLeader is = absurd cc
     by SetMode is = absurd cc
     by FreeLeader is = absurd cc

@@ -1,14 +1,14 @@
 -- Of all that a lease does next only a conversion to shared that is done makes a holding shared, and it is the exclusive one.
 use Rattle.sl_host_work.specs.Next.{IsOfHeld, LeasesAreOfHeld}
-use Rattle.sl_area.specs.Places.{area_blocks, blocks_in, leader_of}
+use Rattle.sl_area.specs.Places.{blocks_of, leader_read}
 use Rattle.sl_trace.specs.Ballots.{is_ahead, moded_block, phase1_block, same_owner, stop_of, value_of}
-use Rattle.sl_trace.specs.LeaseWork.{LeasePlace, looks_for_shared, after_clearing, after_freeing, after_moding, after_phase1, after_phase2, after_read, after_take, after_write, area_next, begin_next, begin_or_refuse, convert_next, leader_for, lease_next, lost_next, named_area_next, phase1_next, phase2_next, refuses, release_next, settle_next, settle_owed, stop_reply, stopped_next, unstopped_next, whole_area_next, won_next}
+use Rattle.sl_trace.specs.LeaseWork.{LeasePlace, after_bytes, after_clearing, after_freeing, after_moding, after_phase1, after_phase2, after_read, after_take, after_write, area_next, asked_again, begin_next, begin_or_refuse, convert_next, first_step, heard, leader_for, lease_next, looks_for_shared, lost_next, named_area_next, phase1_next, phase2_next, refuses, release_next, settle_next, settle_owed, stop_reply, stopped_next, unstopped_next, whole_area_next, won_next}
 use Rattle.sl_trace.specs.Leases.{LeaseKnown, instance_for, is_leader_of, mode_gen_of, owed, owed_free, own_known, shared_elsewhere}
 use Rattle.sl_trace.specs.declared.lease.Aim.TheVariants.{Acquires, Converts, Releases, Settles}
 use Rattle.sl_trace.specs.declared.lease.Aim.{Aim}
 use Rattle.sl_trace.specs.declared.lease.Instance.TheVariants.{Begins, HeldAlready}
 use Rattle.sl_trace.specs.declared.lease.Instance.{Instance}
-use Rattle.sl_trace.specs.declared.lease.LeaseNext.TheVariants.{AnswerJob, BecomeExclusive, BecomeShared, Nothing, WriteBlock, WriteLeader}
+use Rattle.sl_trace.specs.declared.lease.LeaseNext.TheVariants.{AnswerJob, BecomeExclusive, BecomeShared, Nothing, ReadFor, WriteBlock, WriteLeader}
 use Rattle.sl_trace.specs.declared.lease.LeaseNext.{LeaseNext}
 use Rattle.sl_trace.specs.declared.lease.Owed.TheVariants.{BallotOwed, FreeOwed, ModeOwed}
 use Rattle.sl_trace.specs.declared.lease.Owed.{Owed}
@@ -18,7 +18,7 @@ use Rattle.sl_trace.specs.Sessions.{is_join_done}
 use Rattle.sl_sector.specs.declared.sector.Block.{Block}
 use Rattle.sl_sector.specs.declared.sector.Leader.{Leader}
 use Rattle.sl_sector.specs.declared.sector.Owner.{Owner}
-use Rattle.sl_trace.specs.declared.effects.LeaseStep.TheVariants.{ClearMode, FreeLeader, Phase1Read, Phase1Write, Phase2Read, Phase2Write, ReadArea, ReadBeforeFree, SetMode, TakeLeader}
+use Rattle.sl_trace.specs.declared.effects.LeaseStep.TheVariants.{ClearMode, FreeLeader, Phase1Read, Phase1Write, Phase2Read, Phase2Write, ReadAgain, ReadArea, ReadBeforeBlock, ReadBeforeFree, SetMode, TakeLeader}
 use Rattle.sl_trace.specs.declared.effects.LeaseStep.{LeaseStep}
 use Rattle.sl_trace.specs.declared.effects.Mode.TheVariants.{Exclusive, Shared}
 use Rattle.sl_trace.specs.declared.effects.Mode.{Mode}
@@ -29,6 +29,7 @@ use Rattle.sl_trace.specs.declared.reply.Limited.TheVariants.{Lver as LverLimit,
 use Rattle.sl_words.specs.Bounds.{is_number}
 use Rattle.sl_words.specs.Words.{present}
 use Rattle.sl_trace.specs.declared.reply.Reply.{Reply}
+use Rattle.sl_trace.specs.declared.effects.LeaseRead.{LeaseRead}
 use Rattle.std.proofs.Common.{refl}
 use Rattle.std.specs.Option.{option_map_or}
 use Rattle.std.specs.Prelude.{Bool, List, None, Option, Some, false, is_none, position, true, ℕ, ◌+◌, ◌≡◌}
@@ -139,39 +140,51 @@ module _ (p : LeasePlace) (k : LeaseKnown) where
       by (Some i) = refl
       by None = where_some held (own_known k) (λ own. begin_or_refuse p k aim (instance_for k l own read)) (λ own. instance aim (instance_for k l own read))
 
-  area : (aim : Aim) (name bytes : List ℕ) → IsOfHeld held (area_next p k aim name bytes)
+  area : (aim : Aim) (name : List ℕ) (leader : Option Leader) (read : List (Option Block)) → IsOfHeld held (area_next p k aim name leader read)
   unfolding area_next
-  area aim name bytes = by (leader_of p.layout bytes)
+  area aim name leader read = by leader
     where
       by : (o : Option Leader)
           → IsOfHeld held (elim o as (λ z. LeaseNext) [
             | None ↦ AnswerJob TornLeader
             | Some l ↦ elim (is_leader_of p.layout p.lockspace name l) [
               | false ↦ AnswerJob (WrongArea l.lockspace l.resource l.num_hosts)
-              | true ↦ named_area_next p k aim l (area_blocks p.layout bytes)
+              | true ↦ named_area_next p k aim l read
             ]
           ])
       by None = refl
       by (Some l) =
-          chosen held (is_leader_of p.layout p.lockspace name l) (named_area_next p k aim l (area_blocks p.layout bytes)) (AnswerJob (WrongArea l.lockspace l.resource l.num_hosts))
-          (named_area aim l (area_blocks p.layout bytes)) refl
+          chosen held (is_leader_of p.layout p.lockspace name l) (named_area_next p k aim l read) (AnswerJob (WrongArea l.lockspace l.resource l.num_hosts))
+          (named_area aim l read) refl
 
   -- ---- by step
 
-  after_reading : (aim : Aim) (bytes : List ℕ) (step : LeaseStep) → IsOfHeld held (after_read p k aim bytes step)
-  after_reading aim bytes (ReadArea name) = area aim name bytes
-  after_reading aim bytes ReadBeforeFree = where_some held (owed_free k) (λ n. WriteLeader FreeLeader (leader_for p k false n)) (λ n. tt)
-  after_reading aim bytes Phase1Write = tt
-  after_reading aim bytes Phase1Read =
-      where_some held k.own (λ own. after_phase1 p k aim own (blocks_in p.layout bytes) (stop_of own (blocks_in p.layout bytes)))
-      (λ own. first_read aim own (blocks_in p.layout bytes) (stop_of own (blocks_in p.layout bytes)))
-  after_reading aim bytes Phase2Write = tt
-  after_reading aim bytes Phase2Read =
-      where_some held k.own (λ own. after_phase2 p k aim own (stop_of own (blocks_in p.layout bytes))) (λ own. second_read aim own (stop_of own (blocks_in p.layout bytes)))
-  after_reading aim bytes TakeLeader = tt
-  after_reading aim bytes SetMode = tt
-  after_reading aim bytes FreeLeader = tt
-  after_reading aim bytes ClearMode = tt
+  after_reading : (aim : Aim) (leader : Option Leader) (read : List (Option Block)) (step : LeaseStep) → IsOfHeld held (after_read p k aim leader read step)
+  after_reading aim leader read (ReadArea name) = area aim name leader read
+  after_reading aim leader read ReadBeforeFree = where_some held (owed_free k) (λ n. WriteLeader FreeLeader (leader_for p k false n)) (λ n. tt)
+  after_reading aim leader read ReadBeforeBlock = settled
+  after_reading aim leader read (ReadAgain other) = tt
+  after_reading aim leader read Phase1Write = tt
+  after_reading aim leader read Phase1Read = where_some held k.own (λ own. after_phase1 p k aim own read (stop_of own read)) (λ own. first_read aim own read (stop_of own read))
+  after_reading aim leader read Phase2Write = tt
+  after_reading aim leader read Phase2Read = where_some held k.own (λ own. after_phase2 p k aim own (stop_of own read)) (λ own. second_read aim own (stop_of own read))
+  after_reading aim leader read TakeLeader = tt
+  after_reading aim leader read SetMode = tt
+  after_reading aim leader read FreeLeader = tt
+  after_reading aim leader read ClearMode = tt
+
+  -- By whether it is made once more.
+  after_answer : (aim : Aim) (bytes : List ℕ) (step : LeaseStep) → IsOfHeld held (after_bytes p k aim bytes step)
+  unfolding after_bytes
+  after_answer aim bytes step = by (asked_again p.layout bytes step)
+    where
+      by : (o : Option LeaseRead)
+          → IsOfHeld held (elim o as (λ z. LeaseNext) [
+            | Some read ↦ ReadFor (ReadAgain read)
+            | None ↦ after_read p k aim (leader_read p.layout bytes (heard p.layout k bytes step)) (blocks_of p.layout (heard p.layout k bytes step)) (first_step step)
+          ])
+      by (Some read) = tt
+      by None = after_reading aim (leader_read p.layout bytes (heard p.layout k bytes step)) (blocks_of p.layout (heard p.layout k bytes step)) (first_step step)
 
   after_taking : (aim : Aim) (n : ℕ) → IsOfHeld held (after_take k aim n)
   after_taking (Acquires Exclusive) n = tt
@@ -206,6 +219,8 @@ module _ (p : LeasePlace) (k : LeaseKnown) where
   after_writing : (aim : Aim) (n : ℕ) (step : LeaseStep) → IsOfHeld held (after_write p k aim n step)
   after_writing aim n (ReadArea name) = tt
   after_writing aim n ReadBeforeFree = tt
+  after_writing aim n ReadBeforeBlock = tt
+  after_writing aim n (ReadAgain read) = tt
   after_writing aim n Phase1Write = tt
   after_writing aim n Phase1Read = tt
   after_writing aim n Phase2Write = tt
@@ -217,7 +232,7 @@ module _ (p : LeasePlace) (k : LeaseKnown) where
 
   answered : (aim : Aim) (call n : ℕ) (step : LeaseStep) (a : Answer) → IsOfHeld held (lease_next p k aim call n step a)
   unfolding lease_next
-  answered aim call n step (Read bytes) = after_reading aim bytes step
+  answered aim call n step (Read bytes) = after_answer aim bytes step
   answered aim call n step Written = after_writing aim n step
   answered aim call n step Failed = refused held aim (IoFault call) refl
 

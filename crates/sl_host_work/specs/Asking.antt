@@ -11,7 +11,7 @@ use Rattle.sl_sector.specs.declared.sector.Block.{Block}
 use Rattle.sl_sector.specs.declared.sector.Leader.{Leader}
 use Rattle.sl_trace.specs.declared.effects.LeaseStep.{LeaseStep}
 use Rattle.sl_trace.specs.declared.effects.Spot.{Spot}
-use Rattle.std.specs.Prelude.{IfSome, IsTrue, List, Option, true, ℕ, ◌||◌, ◌≡◌}
+use Rattle.std.specs.Prelude.{IfSome, IsTrue, List, Option, false, true, ℕ, ◌||◌, ◌≡◌}
 
 -- A member's lease on an area may be asked what comes next, where these were the blocks read last: the member is joined, what is kept of
 -- those blocks is so, and an exclusive holding under the lease is of an instance.
@@ -24,8 +24,9 @@ pub record MayAsk (h : HostState) (m : MemberState) (at : Spot) (read : List (Op
 abbrev pub IsNamedFor : MemberState → Spot → LeaseStep → Type 0
 IsNamedFor m at step = IsTrue (is_first_step step || is_named (lease_at m at))
 
--- Leader, where the step reads one, and blocks are what a read for it gave.
+-- Leader, where the step reads one, and blocks are what a read for it gave; a block has one sector.
 pub record IsShown (g : Layout) (step : LeaseStep) (bytes : List ℕ) (leader : Option Leader) (read : List (Option Block)) : Type 0 where
+  pub plain : g.paired ≡ false
   pub reads : is_read_step step ≡ true
   pub leads : leader ≡ leader_given g step bytes
   pub shows : read ≡ read_given g step bytes

@@ -19,7 +19,8 @@ use Rattle.sl_sector.specs.declared.sector.Leader.{Leader}
 use Rattle.sl_sector.specs.declared.sector.Owner.{Owner}
 use Rattle.sl_sector.specs.declared.sector.Rec.TheVariants.{BlockIs, LeaderIs}
 use Rattle.sl_trace.specs.Traces.{Submitted}
-use Rattle.sl_trace.specs.declared.effects.LeaseStep.TheVariants.{ClearMode, FreeLeader, Phase1Read, Phase1Write, Phase2Read, Phase2Write, ReadArea, ReadBeforeFree, SetMode, TakeLeader}
+use Rattle.sl_trace.specs.declared.effects.LeaseRead.TheVariants.{OfArea, OfBlock, OfFree, OfPhase1, OfPhase2}
+use Rattle.sl_trace.specs.declared.effects.LeaseStep.TheVariants.{ClearMode, FreeLeader, Phase1Read, Phase1Write, Phase2Read, Phase2Write, ReadAgain, ReadArea, ReadBeforeBlock, ReadBeforeFree, SetMode, TakeLeader}
 use Rattle.sl_trace.specs.declared.effects.LeaseStep.{LeaseStep}
 use Rattle.sl_trace.specs.declared.effects.Op.TheVariants.{ReadSectors, WriteRecord}
 use Rattle.sl_trace.specs.declared.effects.Purpose.TheVariants.{Lease}
@@ -46,6 +47,12 @@ writes_block m work step b l = ap (λ f. with_freed m work step b l f) (none_fre
     by : (m : Submitted) (work : Work) (step : LeaseStep) (b : Block) (l : LeaseState) → with_freed m work step b l l.freed ≡ after_block m.call.number work step b l
     by m work (ReadArea name) b l = refl
     by m work ReadBeforeFree b l = refl
+    by m work ReadBeforeBlock b l = refl
+    by m work (ReadAgain (OfArea name)) b l = refl
+    by m work (ReadAgain OfFree) b l = refl
+    by m work (ReadAgain OfBlock) b l = refl
+    by m work (ReadAgain OfPhase1) b l = refl
+    by m work (ReadAgain OfPhase2) b l = refl
     by m work Phase1Write b l = refl
     by m work Phase1Read b l = refl
     by m work Phase2Write b l = refl
@@ -119,6 +126,12 @@ won_done : (g : Layout) (self : Owner) (step : LeaseStep) (frees won : Option �
 won_done g self step frees None = refl
 won_done g self (ReadArea name) frees (Some n) = refl
 won_done g self ReadBeforeFree frees (Some n) = refl
+won_done g self ReadBeforeBlock frees (Some n) = refl
+won_done g self (ReadAgain (OfArea name)) frees (Some n) = refl
+won_done g self (ReadAgain OfFree) frees (Some n) = refl
+won_done g self (ReadAgain OfBlock) frees (Some n) = refl
+won_done g self (ReadAgain OfPhase1) frees (Some n) = refl
+won_done g self (ReadAgain OfPhase2) frees (Some n) = refl
 won_done g self Phase1Write frees (Some n) = refl
 won_done g self Phase1Read frees (Some n) = refl
 won_done g self Phase2Write frees (Some n) = refl
@@ -132,6 +145,12 @@ won_kept : (g : Layout) (self : Owner) (step : LeaseStep) (frees won : Option �
 won_kept g self step frees None = refl
 won_kept g self (ReadArea name) frees (Some n) = refl
 won_kept g self ReadBeforeFree frees (Some n) = refl
+won_kept g self ReadBeforeBlock frees (Some n) = refl
+won_kept g self (ReadAgain (OfArea name)) frees (Some n) = refl
+won_kept g self (ReadAgain OfFree) frees (Some n) = refl
+won_kept g self (ReadAgain OfBlock) frees (Some n) = refl
+won_kept g self (ReadAgain OfPhase1) frees (Some n) = refl
+won_kept g self (ReadAgain OfPhase2) frees (Some n) = refl
 won_kept g self Phase1Write frees (Some n) = refl
 won_kept g self Phase1Read frees (Some n) = refl
 won_kept g self Phase2Write frees (Some n) = refl
@@ -197,6 +216,24 @@ read_answered z heeded c work (ReadArea name) bytes l =
     ap₂ (λ name shown. record told { name = name; shown = shown }) (name_is z name (leader_of (layout_in z) bytes) l.name) (and_true l.shown)
 read_answered z heeded c work ReadBeforeFree bytes l =
     let told : LeaseState = read_told z heeded ReadBeforeFree (leader_given (layout_in z) ReadBeforeFree bytes) (read_given (layout_in z) ReadBeforeFree bytes) l in
+    ap (λ shown. record told { shown = shown }) (and_true l.shown)
+read_answered z heeded c work ReadBeforeBlock bytes l =
+    let told : LeaseState = read_told z heeded ReadBeforeBlock (leader_given (layout_in z) ReadBeforeBlock bytes) (read_given (layout_in z) ReadBeforeBlock bytes) l in
+    ap (λ shown. record told { shown = shown }) (and_true l.shown)
+read_answered z heeded c work (ReadAgain (OfArea name)) bytes l =
+    let told : LeaseState = read_told z heeded (ReadAgain (OfArea name)) (leader_of (layout_in z) bytes) (read_given (layout_in z) (ReadAgain (OfArea name)) bytes) l in
+    ap₂ (λ name shown. record told { name = name; shown = shown }) (name_is z name (leader_of (layout_in z) bytes) l.name) (and_true l.shown)
+read_answered z heeded c work (ReadAgain OfFree) bytes l =
+    let told : LeaseState = read_told z heeded (ReadAgain OfFree) (leader_given (layout_in z) (ReadAgain OfFree) bytes) (read_given (layout_in z) (ReadAgain OfFree) bytes) l in
+    ap (λ shown. record told { shown = shown }) (and_true l.shown)
+read_answered z heeded c work (ReadAgain OfBlock) bytes l =
+    let told : LeaseState = read_told z heeded (ReadAgain OfBlock) (leader_given (layout_in z) (ReadAgain OfBlock) bytes) (read_given (layout_in z) (ReadAgain OfBlock) bytes) l in
+    ap (λ shown. record told { shown = shown }) (and_true l.shown)
+read_answered z heeded c work (ReadAgain OfPhase1) bytes l =
+    let told : LeaseState = read_told z heeded (ReadAgain OfPhase1) (leader_given (layout_in z) (ReadAgain OfPhase1) bytes) (read_given (layout_in z) (ReadAgain OfPhase1) bytes) l in
+    ap (λ shown. record told { shown = shown }) (and_true l.shown)
+read_answered z heeded c work (ReadAgain OfPhase2) bytes l =
+    let told : LeaseState = read_told z heeded (ReadAgain OfPhase2) (leader_given (layout_in z) (ReadAgain OfPhase2) bytes) (read_given (layout_in z) (ReadAgain OfPhase2) bytes) l in
     ap (λ shown. record told { shown = shown }) (and_true l.shown)
 read_answered z heeded c work Phase1Write bytes l = aside z heeded Phase1Write l
 read_answered z heeded c work Phase1Read bytes l =

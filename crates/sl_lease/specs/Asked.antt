@@ -7,7 +7,7 @@ use Rattle.sl_host_state.specs.declared.kept.TopNumber.{TopNumber}
 use Rattle.sl_lease.specs.declared.evidence.Held.{Held}
 use Rattle.sl_lease.specs.declared.side.Side.{Side}
 use Rattle.sl_trace.specs.Ballots.{ballot_blocks, moded_block, phase1_block, phase2_block, stop_of}
-use Rattle.sl_trace.specs.LeaseWork.{LeasePlace, after_phase1, after_phase2, begin_next, leader_for, named_area_next, phase1_next}
+use Rattle.sl_trace.specs.LeaseWork.{LeasePlace, after_phase1, after_phase2, begin_next, leader_for, named_area_next, phase1_next, settle_next}
 use Rattle.sl_trace.specs.Leases.{LeaseKnown, is_leader_of, last_blocks, owed_free}
 use Rattle.sl_trace.specs.declared.lease.Aim.{Aim}
 use Rattle.sl_trace.specs.declared.lease.LeaseNext.TheVariants.{AnswerJob, BecomeExclusive, BecomeShared, Nothing, WriteBlock, WriteLeader}
@@ -16,7 +16,8 @@ use Rattle.sl_sector.specs.declared.sector.Block.{Block}
 use Rattle.sl_sector.specs.declared.sector.Leader.{Leader}
 use Rattle.sl_sector.specs.declared.sector.Owner.{Owner}
 use Rattle.sl_trace.specs.Traces.{Submitted}
-use Rattle.sl_trace.specs.declared.effects.LeaseStep.TheVariants.{ClearMode, FreeLeader, Phase1Read, Phase1Write, Phase2Read, Phase2Write, ReadArea, ReadBeforeFree, SetMode, TakeLeader}
+use Rattle.sl_trace.specs.declared.effects.LeaseRead.TheVariants.{OfArea, OfBlock, OfFree, OfPhase1, OfPhase2}
+use Rattle.sl_trace.specs.declared.effects.LeaseStep.TheVariants.{ClearMode, FreeLeader, Phase1Read, Phase1Write, Phase2Read, Phase2Write, ReadAgain, ReadArea, ReadBeforeBlock, ReadBeforeFree, SetMode, TakeLeader}
 use Rattle.sl_trace.specs.declared.effects.LeaseStep.{LeaseStep}
 use Rattle.sl_trace.specs.declared.reply.Reply.TheVariants.{Held as HeldBy, TornLeader, WrongArea}
 use Rattle.sl_words.specs.Words.{choose, present, some_is}
@@ -107,6 +108,12 @@ phase2_ended p k aim read = option_map_or (λ own. after_phase2 p k aim own (sto
 abbrev pub read_asked : LeasePlace → LeaseKnown → Aim → Option Leader → List (Option Block) → LeaseStep → LeaseNext
 read_asked p k aim l read (ReadArea name) = area_asked p k aim name l read
 read_asked p k aim l read ReadBeforeFree = option_map_or (λ n. WriteLeader FreeLeader (leader_for p k false n)) (owed_free k) Nothing
+read_asked p k aim l read ReadBeforeBlock = settle_next p k
+read_asked p k aim l read (ReadAgain (OfArea name)) = area_asked p k aim name l read
+read_asked p k aim l read (ReadAgain OfFree) = option_map_or (λ n. WriteLeader FreeLeader (leader_for p k false n)) (owed_free k) Nothing
+read_asked p k aim l read (ReadAgain OfBlock) = settle_next p k
+read_asked p k aim l read (ReadAgain OfPhase1) = phase1_ended p k aim read
+read_asked p k aim l read (ReadAgain OfPhase2) = phase2_ended p k aim read
 read_asked p k aim l read Phase1Write = Nothing
 read_asked p k aim l read Phase1Read = phase1_ended p k aim read
 read_asked p k aim l read Phase2Write = Nothing
@@ -120,6 +127,12 @@ read_asked p k aim l read ClearMode = Nothing
 abbrev pub leader_given : Layout → LeaseStep → List ℕ → Option Leader
 leader_given g (ReadArea name) bytes = leader_of g bytes
 leader_given g ReadBeforeFree bytes = leader_of g bytes
+leader_given g ReadBeforeBlock bytes = None
+leader_given g (ReadAgain (OfArea name)) bytes = leader_of g bytes
+leader_given g (ReadAgain OfFree) bytes = leader_of g bytes
+leader_given g (ReadAgain OfBlock) bytes = None
+leader_given g (ReadAgain OfPhase1) bytes = None
+leader_given g (ReadAgain OfPhase2) bytes = None
 leader_given g Phase1Write bytes = None
 leader_given g Phase1Read bytes = None
 leader_given g Phase2Write bytes = None
@@ -133,6 +146,12 @@ leader_given g ClearMode bytes = None
 abbrev pub read_given : Layout → LeaseStep → List ℕ → List (Option Block)
 read_given g (ReadArea name) bytes = area_blocks g bytes
 read_given g ReadBeforeFree bytes = area_blocks g bytes
+read_given g ReadBeforeBlock bytes = blocks_in g bytes
+read_given g (ReadAgain (OfArea name)) bytes = area_blocks g bytes
+read_given g (ReadAgain OfFree) bytes = area_blocks g bytes
+read_given g (ReadAgain OfBlock) bytes = blocks_in g bytes
+read_given g (ReadAgain OfPhase1) bytes = blocks_in g bytes
+read_given g (ReadAgain OfPhase2) bytes = blocks_in g bytes
 read_given g Phase1Write bytes = blocks_in g bytes
 read_given g Phase1Read bytes = blocks_in g bytes
 read_given g Phase2Write bytes = blocks_in g bytes
@@ -142,8 +161,10 @@ read_given g SetMode bytes = blocks_in g bytes
 read_given g FreeLeader bytes = blocks_in g bytes
 read_given g ClearMode bytes = blocks_in g bytes
 
--- Leader and blocks are what the read at this step gave in these bytes, which was the last of these calls that read blocks.
+-- Leader and blocks are what the read at this step gave in these bytes, which was the last of these calls that read blocks; a block has
+-- one sector.
 pub record IsLastRead (g : Layout) (step : LeaseStep) (bytes : List ℕ) (leader : Option Leader) (read : List (Option Block)) (ms : List Submitted) : Type 0 where
+  pub plain : g.paired ≡ false
   pub leads : leader ≡ leader_given g step bytes
   pub shows : read ≡ read_given g step bytes
   pub newest : read ≡ last_blocks g ms

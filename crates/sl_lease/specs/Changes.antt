@@ -13,7 +13,8 @@ use Rattle.sl_trace.specs.declared.lease.Stop.{Stop}
 use Rattle.sl_sector.specs.declared.sector.Block.{Block}
 use Rattle.sl_sector.specs.declared.sector.Leader.{Leader}
 use Rattle.sl_sector.specs.declared.sector.Owner.{Owner}
-use Rattle.sl_trace.specs.declared.effects.LeaseStep.TheVariants.{ClearMode, FreeLeader, Phase1Read, Phase1Write, Phase2Read, Phase2Write, ReadArea, ReadBeforeFree, SetMode, TakeLeader}
+use Rattle.sl_trace.specs.declared.effects.LeaseRead.TheVariants.{OfArea, OfBlock, OfFree, OfPhase1, OfPhase2}
+use Rattle.sl_trace.specs.declared.effects.LeaseStep.TheVariants.{ClearMode, FreeLeader, Phase1Read, Phase1Write, Phase2Read, Phase2Write, ReadAgain, ReadArea, ReadBeforeBlock, ReadBeforeFree, SetMode, TakeLeader}
 use Rattle.sl_trace.specs.declared.effects.LeaseStep.{LeaseStep}
 use Rattle.sl_trace.specs.declared.effects.Work.{Work}
 use Rattle.sl_words.specs.Words.{choose, present, some_is}
@@ -30,6 +31,8 @@ after_reading number work step l = record l { waiting = Some (record { number = 
 abbrev pub is_phase2_write : LeaseStep → Bool
 is_phase2_write (ReadArea name) = false
 is_phase2_write ReadBeforeFree = false
+is_phase2_write ReadBeforeBlock = false
+is_phase2_write (ReadAgain read) = false
 is_phase2_write Phase1Write = false
 is_phase2_write Phase1Read = false
 is_phase2_write Phase2Write = true
@@ -71,6 +74,8 @@ after_value v l = record l { value = Some v }
 abbrev pub shows_blocks : LeaseStep → Bool
 shows_blocks (ReadArea name) = true
 shows_blocks ReadBeforeFree = true
+shows_blocks ReadBeforeBlock = true
+shows_blocks (ReadAgain read) = true
 shows_blocks Phase1Write = false
 shows_blocks Phase1Read = true
 shows_blocks Phase2Write = false
@@ -102,6 +107,12 @@ name_found z name (Some d) before = elim (is_leader_of (layout_in z) z.lockspace
 abbrev pub name_told : Side → LeaseStep → Option Leader → List ℕ → List ℕ
 name_told z (ReadArea name) d before = name_found z name d before
 name_told z ReadBeforeFree d before = before
+name_told z ReadBeforeBlock d before = before
+name_told z (ReadAgain (OfArea name)) d before = name_found z name d before
+name_told z (ReadAgain OfFree) d before = before
+name_told z (ReadAgain OfBlock) d before = before
+name_told z (ReadAgain OfPhase1) d before = before
+name_told z (ReadAgain OfPhase2) d before = before
 name_told z Phase1Write d before = before
 name_told z Phase1Read d before = before
 name_told z Phase2Write d before = before
@@ -119,6 +130,12 @@ is_settled_by self d read n = some_is (λ l. nat_lt n l.lver || is_free_of n sel
 abbrev pub settles_read : Owner → LeaseStep → Option Leader → List (Option Block) → ℕ → Bool
 settles_read self (ReadArea name) d read n = false
 settles_read self ReadBeforeFree d read n = is_settled_by self d read n
+settles_read self ReadBeforeBlock d read n = false
+settles_read self (ReadAgain (OfArea name)) d read n = false
+settles_read self (ReadAgain OfFree) d read n = is_settled_by self d read n
+settles_read self (ReadAgain OfBlock) d read n = false
+settles_read self (ReadAgain OfPhase1) d read n = false
+settles_read self (ReadAgain OfPhase2) d read n = false
 settles_read self Phase1Write d read n = false
 settles_read self Phase1Read d read n = false
 settles_read self Phase2Write d read n = false

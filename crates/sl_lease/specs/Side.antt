@@ -1,6 +1,7 @@
 -- For whom a lease is kept, and what is known of it beside what it keeps.
 use Rattle.sl_area.specs.Layouts.{Layout, layout_of}
 use Rattle.sl_host_state.specs.Kept.{LeaseState}
+use Rattle.sl_host_state.specs.Stands.{first_read, turn_kept}
 use Rattle.sl_lease.specs.declared.evidence.Held.{Held}
 use Rattle.sl_lease.specs.declared.side.Side.{Side}
 use Rattle.sl_trace.specs.LeaseWork.{LeasePlace}
@@ -28,6 +29,8 @@ known_with z l h over read =
       self = z.me;
       own = l.own;
       read = read;
+      kept = first_read (layout_in z) l.pair;
+      turn = turn_kept l.pair;
       name = l.name;
       freed = l.freed;
       ballot = l.ballot;

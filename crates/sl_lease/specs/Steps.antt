@@ -1,8 +1,9 @@
--- What the steps of a lease's calls do, and what a lease may do next.
+-- What the steps of a lease's calls do, and what a lease may do next, where a block has one sector: a lease then never reads once more,
+-- and no settling reads before its block.
 use Rattle.sl_lease.specs.Bounds.{IsBegun, IsGranted, IsInstance}
 use Rattle.sl_trace.specs.declared.lease.LeaseNext.TheVariants.{AnswerJob, BecomeExclusive, BecomeShared, GrantJob, Nothing, ReadFor, WriteBlock, WriteLeader}
 use Rattle.sl_trace.specs.declared.lease.LeaseNext.{LeaseNext}
-use Rattle.sl_trace.specs.declared.effects.LeaseStep.TheVariants.{ClearMode, FreeLeader, Phase1Read, Phase1Write, Phase2Read, Phase2Write, ReadArea, ReadBeforeFree, SetMode, TakeLeader}
+use Rattle.sl_trace.specs.declared.effects.LeaseStep.TheVariants.{ClearMode, FreeLeader, Phase1Read, Phase1Write, Phase2Read, Phase2Write, ReadAgain, ReadArea, ReadBeforeBlock, ReadBeforeFree, SetMode, TakeLeader}
 use Rattle.sl_trace.specs.declared.effects.LeaseStep.{LeaseStep}
 use Rattle.std.specs.Prelude.{Bool, IsTrue, false, true, ◌||◌}
 
@@ -10,6 +11,8 @@ use Rattle.std.specs.Prelude.{Bool, IsTrue, false, true, ◌||◌}
 abbrev pub reads_area : LeaseStep → Bool
 reads_area (ReadArea name) = true
 reads_area ReadBeforeFree = true
+reads_area ReadBeforeBlock = false
+reads_area (ReadAgain read) = false
 reads_area Phase1Write = false
 reads_area Phase1Read = false
 reads_area Phase2Write = false
@@ -23,6 +26,8 @@ reads_area ClearMode = false
 abbrev pub reads_blocks : LeaseStep → Bool
 reads_blocks (ReadArea name) = false
 reads_blocks ReadBeforeFree = false
+reads_blocks ReadBeforeBlock = false
+reads_blocks (ReadAgain read) = false
 reads_blocks Phase1Write = false
 reads_blocks Phase1Read = true
 reads_blocks Phase2Write = false
@@ -40,6 +45,8 @@ is_read_step step = reads_area step || reads_blocks step
 abbrev pub is_block_step : LeaseStep → Bool
 is_block_step (ReadArea name) = false
 is_block_step ReadBeforeFree = false
+is_block_step ReadBeforeBlock = false
+is_block_step (ReadAgain read) = false
 is_block_step Phase1Write = true
 is_block_step Phase1Read = false
 is_block_step Phase2Write = true
@@ -53,6 +60,8 @@ is_block_step ClearMode = true
 abbrev pub is_leader_step : LeaseStep → Bool
 is_leader_step (ReadArea name) = false
 is_leader_step ReadBeforeFree = false
+is_leader_step ReadBeforeBlock = false
+is_leader_step (ReadAgain read) = false
 is_leader_step Phase1Write = false
 is_leader_step Phase1Read = false
 is_leader_step Phase2Write = false
@@ -66,6 +75,8 @@ is_leader_step ClearMode = false
 abbrev pub is_first_step : LeaseStep → Bool
 is_first_step (ReadArea name) = true
 is_first_step ReadBeforeFree = false
+is_first_step ReadBeforeBlock = false
+is_first_step (ReadAgain read) = false
 is_first_step Phase1Write = false
 is_first_step Phase1Read = false
 is_first_step Phase2Write = false

@@ -16,7 +16,7 @@ use sl_ballot::{owner_of, same_owner, stop_of, value_of};
 use sl_host_state::TopNumber;
 use sl_sector::{Block, Leader, Owner};
 use sl_text::Name;
-use sl_trace::{LeaseStep, Stop};
+use sl_trace::{LeaseRead, LeaseStep, Stop};
 
 /// Whether the step writes the block of phase 2.
 pub(crate) fn is_phase2_write(step: &LeaseStep) -> bool
@@ -109,6 +109,8 @@ pub(crate) fn shows_blocks(step: &LeaseStep) -> bool
     match step {
         LeaseStep::ReadArea { resource: _ } => true,
         LeaseStep::ReadBeforeFree => true,
+        LeaseStep::ReadBeforeBlock => true,
+        LeaseStep::ReadAgain { read: _ } => true,
         LeaseStep::Phase1Write => false,
         LeaseStep::Phase1Read => true,
         LeaseStep::Phase2Write => false,
@@ -124,14 +126,23 @@ pub(crate) fn shows_blocks(step: &LeaseStep) -> bool
 fn is_phase_step(step: &LeaseStep) -> bool
     ensures { result ≡ is_phase_step step.now }
 {
-    matches!(step, LeaseStep::Phase1Read | LeaseStep::Phase2Read)
+    match step {
+        LeaseStep::Phase1Read => true,
+        LeaseStep::Phase2Read => true,
+        LeaseStep::ReadAgain { read } => matches!(read, LeaseRead::OfPhase1 | LeaseRead::OfPhase2),
+        _ => false,
+    }
 }
 
 /// Whether it is that of the second.
 fn is_last_phase(step: &LeaseStep) -> bool
     ensures { result ≡ is_last_phase step.now }
 {
-    matches!(step, LeaseStep::Phase2Read)
+    match step {
+        LeaseStep::Phase2Read => true,
+        LeaseStep::ReadAgain { read } => matches!(read, LeaseRead::OfPhase2),
+        _ => false,
+    }
 }
 
 /// What stops the own block's ballot in the blocks that a read at this step shows.
@@ -240,6 +251,14 @@ fn won_left(
     match step {
         LeaseStep::ReadArea { resource: _ } => before,
         LeaseStep::ReadBeforeFree => won_looked(me, leader, blocks, before),
+        LeaseStep::ReadBeforeBlock => before,
+        LeaseStep::ReadAgain { read } => match read {
+            LeaseRead::OfArea { resource: _ } => before,
+            LeaseRead::OfFree => won_looked(me, leader, blocks, before),
+            LeaseRead::OfBlock => before,
+            LeaseRead::OfPhase1 => before,
+            LeaseRead::OfPhase2 => before,
+        },
         LeaseStep::Phase1Write => before,
         LeaseStep::Phase1Read => before,
         LeaseStep::Phase2Write => before,
@@ -347,6 +366,14 @@ pub(crate) fn name_told(
     match step {
         LeaseStep::ReadArea { resource } => name_found(side, *resource, leader, before),
         LeaseStep::ReadBeforeFree => before,
+        LeaseStep::ReadBeforeBlock => before,
+        LeaseStep::ReadAgain { read } => match read {
+            LeaseRead::OfArea { resource } => name_found(side, *resource, leader, before),
+            LeaseRead::OfFree => before,
+            LeaseRead::OfBlock => before,
+            LeaseRead::OfPhase1 => before,
+            LeaseRead::OfPhase2 => before,
+        },
         LeaseStep::Phase1Write => before,
         LeaseStep::Phase1Read => before,
         LeaseStep::Phase2Write => before,

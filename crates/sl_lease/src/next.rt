@@ -30,7 +30,7 @@ use crate::side::Side;
 use sl_ballot::{moded_block, stop_of};
 use sl_sector::{Block, Leader};
 use sl_text::Name;
-use sl_trace::{Aim, LeaseNext, LeaseStep, Mode, Reply};
+use sl_trace::{Aim, LeaseNext, LeaseRead, LeaseStep, Mode, Reply};
 
 impl Lease {
     /// The free that is owed is written.
@@ -138,6 +138,16 @@ impl Lease {
                 self.after_area(side, held, evidence, aim, &resource, leader, read)
             }
             LeaseStep::ReadBeforeFree => self.free_next(side, held),
+            LeaseStep::ReadBeforeBlock => self.settle_known(side, held),
+            LeaseStep::ReadAgain { read: first } => match first {
+                LeaseRead::OfArea { resource } => {
+                    self.after_area(side, held, evidence, aim, &resource, leader, read)
+                }
+                LeaseRead::OfFree => self.free_next(side, held),
+                LeaseRead::OfBlock => self.settle_known(side, held),
+                LeaseRead::OfPhase1 => self.phase1_done(side, held, evidence, aim, read),
+                LeaseRead::OfPhase2 => self.phase2_done(side, held, evidence, aim, read),
+            },
             LeaseStep::Phase1Write => LeaseNext::Nothing,
             LeaseStep::Phase1Read => self.phase1_done(side, held, evidence, aim, read),
             LeaseStep::Phase2Write => LeaseNext::Nothing,
@@ -294,6 +304,8 @@ impl Lease {
         match step {
             LeaseStep::ReadArea { resource: _ } => LeaseNext::Nothing,
             LeaseStep::ReadBeforeFree => LeaseNext::Nothing,
+            LeaseStep::ReadBeforeBlock => LeaseNext::Nothing,
+            LeaseStep::ReadAgain { read: _ } => LeaseNext::Nothing,
             LeaseStep::Phase1Write => LeaseNext::ReadFor(LeaseStep::Phase1Read),
             LeaseStep::Phase1Read => LeaseNext::Nothing,
             LeaseStep::Phase2Write => LeaseNext::ReadFor(LeaseStep::Phase2Read),

@@ -4,15 +4,15 @@
 //! The blocks of a read are looked at many times, and each sector is to be decoded once. So a host has one list with a place for each of
 //! the run's hosts (`Blocks`), takes it at the start, and writes each read's blocks over it: a read takes no memory.
 
-ghost use Rattle.sl_area.specs.Layouts.{IsGeometry, layout_of, program_digest};
-ghost use Rattle.sl_area.specs.Places.{area_blocks, blocks_in, leader_of, read_at};
+ghost use Rattle.sl_area.specs.Layouts.{IsGeometry, Layout, layout_of, program_digest};
+ghost use Rattle.sl_area.specs.Places.{area_blocks, blocks_in, leader_of, leader_spelled, read_at};
 ghost use Rattle.sl_lease.specs.Reads.{behind, blocks_to, host_block};
 ghost use Rattle.sl_sector.specs.Records.{IsBlock, IsLeader, IsRecord};
 ghost use Rattle.sl_sector.specs.Spelling.{IsSectorSize, decoded};
 ghost use Rattle.std.specs.Prelude.{All, Bool, IfOk, IfSome, IsTrue, List, None, drop, length, replicate, take, true, ℕ, ◌*◌, ◌+◌, ◌-◌, ◌<◌, ◌==◌, ◌^◌, ◌≡◌, ◌≤◌};
 
 use sl_area::Geometry;
-use sl_sector::{Bad, Block, Leader, Rec, block_in, decode, leader_in};
+use sl_sector::{Bad, Block, Leader, Rec, block_in, decode, leader_in, pair_leader_in};
 use sl_sectors::Images;
 use std::alloc::{AllocError, Global};
 use std::marker::Model;
@@ -72,7 +72,20 @@ pub fn leader_of<S: Sectors>(geometry: &Geometry, sectors: &S) -> Option<Leader>
     ensures exact { result ≡ leader_of (layout_of geometry.now) (S.bytes sectors.now) }
     ensures rules { IfSome result IsLeader }
 {
-    leader_in(sectors.record(geometry.sector(), 0))
+    let found = sectors.record(geometry.sector(), 0);
+    leader_spelled(geometry.is_paired(), found)
+}
+
+/// The leader that a sector spells, in an area with pairs or without.
+fn leader_spelled(paired: bool, found: Result<Rec, Bad>) -> Option<Leader>
+    ensures exact { (g : Layout) → paired ≡ g.paired → result ≡ leader_spelled g found }
+    ensures rules { IfOk found IsRecord → IfSome result IsLeader }
+{
+    if paired {
+        pair_leader_in(found)
+    } else {
+        leader_in(found)
+    }
 }
 
 /// The block of a host, if its sector spells one, where so many sectors stand before the blocks.

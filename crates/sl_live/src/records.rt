@@ -1,13 +1,13 @@
 //! Whether a record keeps its rules, so that there are bytes that spell it.
 
-ghost use Rattle.sl_sector.specs.Records.{IsBlock, IsDelta, IsLeader, IsRecord, IsRequest, IsValue};
+ghost use Rattle.sl_sector.specs.Records.{IsBlock, IsDelta, IsLeader, IsPair, IsRecord, IsRequest, IsValue};
 ghost use Rattle.sl_sector.specs.declared.sector.DeltaState.TheVariants.{Free as NobodysTurn};
 ghost use Rattle.sl_text.specs.Names.{is_data, is_name};
 ghost use Rattle.sl_words.specs.Words.{all_zero};
 ghost use Rattle.std.specs.List.{list_all};
 ghost use Rattle.std.specs.Prelude.{IsSomeAnd, IsTrue, None, nat_lt, replicate, ◌≡◌, ◌≤◌, ◌↔◌};
 
-use sl_sector::{Block, DeltaRec, DeltaState, Leader, Rec, Request, ValueRec};
+use sl_sector::{Block, DeltaRec, DeltaState, Leader, PairBlock, Rec, Request, ValueRec};
 use sl_text::{Data, Name};
 
 /// What every number of a record is below.
@@ -131,6 +131,17 @@ fn is_block(block: &Block) -> bool
         && (block.lver != 0 || (block.mbal == 0 && !block.shared))
 }
 
+/// Whether a block of a pair keeps its rules.
+fn is_pair(pair: &PairBlock) -> bool
+    ensures { IsTrue result ↔ IsPair pair.now }
+{
+    is_block(&pair.block)
+        && 1 <= pair.turn
+        && pair.turn < RECORD_NUMBERS
+        && is_name(&pair.lockspace)
+        && is_name(&pair.resource)
+}
+
 /// Whether a request keeps its rules.
 fn is_request(request: &Request) -> bool
     ensures { IsTrue result ↔ IsRequest request.now }
@@ -162,5 +173,7 @@ pub(crate) fn is_record(written: &Rec) -> bool
         Rec::BlockIs(block) => is_block(block),
         Rec::RequestIs(request) => is_request(request),
         Rec::ValueIs(value) => is_value(value),
+        Rec::PairIs(pair) => is_pair(pair),
+        Rec::PairLeaderIs(leader) => is_leader(leader),
     }
 }

@@ -12,7 +12,7 @@ use Rattle.sl_trace.specs.Leases.{is_on, is_spot_before, lease_step, spot_of_cal
 use Rattle.sl_member.proofs.Places.{called_stays, none_changed}
 use Rattle.sl_member.proofs.SpotOrder.{same_itself}
 use Rattle.sl_member.specs.Leases.{AreByPlace, LeasesState, changed_at, lease_called, leases_after, value_set, with_lease}
-use Rattle.sl_sector.specs.declared.sector.Rec.TheVariants.{BlockIs, DeltaIs, LeaderIs, RequestIs, ValueIs}
+use Rattle.sl_sector.specs.declared.sector.Rec.TheVariants.{BlockIs, DeltaIs, LeaderIs, PairIs, PairLeaderIs, RequestIs, ValueIs}
 use Rattle.sl_trace.specs.Traces.{Submitted}
 use Rattle.sl_trace.specs.declared.effects.Call.{Call}
 use Rattle.sl_trace.specs.declared.effects.LeaseStep.{LeaseStep}
@@ -41,6 +41,8 @@ as_read : (m : Submitted) (work : Work) (step : LeaseStep) (op : Op) (l : LeaseS
 as_read m work step (ReadSectors n) l = hosts_keep_the_same.reads m work step n l
 as_read m work step (WriteRecord (BlockIs b)) l = hosts_keep_the_same.writes_block m work step b l
 as_read m work step (WriteRecord (LeaderIs d)) l = hosts_keep_the_same.writes_leader m work step d l
+as_read m work step (WriteRecord (PairIs p)) l = hosts_keep_the_same.writes_block m work step p.block l
+as_read m work step (WriteRecord (PairLeaderIs d)) l = hosts_keep_the_same.writes_leader m work step d l
 as_read m work step (WriteRecord (DeltaIs d)) l =
     ap (λ f. record l { freed = f; waiting = Some (record { number = m.call.number; work = work; step = step; frees = None; clears = false }) }) (none_freed l.freed)
 as_read m work step (WriteRecord (RequestIs d)) l =

@@ -9,7 +9,7 @@ use Rattle.sl_member.proofs.SpotOrder.{same_itself, spot_apart, spot_asym, spot_
 use Rattle.sl_member.specs.Leases.{AreByPlace, IsFound, IsGap, IsPlaceOf, IsThere, LeasesState, changed_at, lease_called, with_lease}
 use Rattle.sl_sector.specs.declared.sector.Block.{Block}
 use Rattle.sl_sector.specs.declared.sector.Leader.{Leader}
-use Rattle.sl_sector.specs.declared.sector.Rec.TheVariants.{BlockIs, LeaderIs}
+use Rattle.sl_sector.specs.declared.sector.Rec.TheVariants.{BlockIs, LeaderIs, PairIs, PairLeaderIs}
 use Rattle.sl_trace.specs.Traces.{same_spot}
 use Rattle.sl_trace.specs.declared.effects.LeaseStep.{LeaseStep}
 use Rattle.sl_trace.specs.declared.effects.Op.TheVariants.{WriteRecord}
@@ -262,6 +262,8 @@ gap_kept at f v ls items room k rising same h view =
 pub called_stays : (number : ℕ) (work : Work) (step : LeaseStep) (op : Op) (l : LeaseState) → (lease_called number work step op l).spot ≡ l.spot
 called_stays number work step (WriteRecord (BlockIs b)) l = refl
 called_stays number work step (WriteRecord (LeaderIs d)) l = refl
+called_stays number work step (WriteRecord (PairIs p)) l = refl
+called_stays number work step (WriteRecord (PairLeaderIs d)) l = refl
 called_stays number work step op l = refl
 
 pub read_stays : (z : Side) (heeded : Bool) (d : Option Leader) (read : List (Option Block)) (l : LeaseState) → (after_read z heeded d read l).spot ≡ l.spot

@@ -8,7 +8,7 @@ use Rattle.sl_lease.specs.Bounds.{IsBegun}
 use Rattle.sl_lease.specs.Changes.{after_block, after_leader, after_reading, after_value}
 use Rattle.sl_trace.specs.Leases.{is_lease_call, is_spot_before, spot_of_call}
 use Rattle.sl_sector.specs.Records.{Fits}
-use Rattle.sl_sector.specs.declared.sector.Rec.TheVariants.{BlockIs, LeaderIs}
+use Rattle.sl_sector.specs.declared.sector.Rec.TheVariants.{BlockIs, LeaderIs, PairIs, PairLeaderIs}
 use Rattle.sl_trace.specs.Traces.{Submitted}
 use Rattle.sl_trace.specs.declared.effects.LeaseStep.{LeaseStep}
 use Rattle.sl_trace.specs.declared.effects.Op.TheVariants.{WriteRecord}
@@ -68,12 +68,16 @@ changed_at at f ls = map (λ l. cond (is_lease_on at l) (f l) l) ls
 abbrev pub lease_called : ℕ → Work → LeaseStep → Op → LeaseState → LeaseState
 lease_called number work step (WriteRecord (BlockIs b)) l = after_block number work step b l
 lease_called number work step (WriteRecord (LeaderIs d)) l = after_leader number work step d l
+lease_called number work step (WriteRecord (PairIs p)) l = after_block number work step p.block l
+lease_called number work step (WriteRecord (PairLeaderIs d)) l = after_leader number work step d l
 lease_called number work step op l = after_reading number work step l
 
 -- What such a call writes can be kept: a block that is one of a ballot, a leader whose instance fits a record.
 abbrev pub IsKeepable : Op → Type 0
 IsKeepable (WriteRecord (BlockIs b)) = IsBegun b
 IsKeepable (WriteRecord (LeaderIs d)) = Fits d.lver
+IsKeepable (WriteRecord (PairIs p)) = IsBegun p.block
+IsKeepable (WriteRecord (PairLeaderIs d)) = Fits d.lver
 IsKeepable op = Unit {0}
 
 -- The leases with one on the area: that which is there, else a new one.

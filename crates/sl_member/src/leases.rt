@@ -135,6 +135,12 @@ fn lease_called(lease: &mut Lease, number: u64, work: Work, step: LeaseStep, op:
         Op::WriteRecord {
             record: Rec::LeaderIs(leader),
         } => lease.writes_leader(number, work, step, leader),
+        Op::WriteRecord {
+            record: Rec::PairIs(pair),
+        } => lease.writes_block(number, work, step, pair.block),
+        Op::WriteRecord {
+            record: Rec::PairLeaderIs(leader),
+        } => lease.writes_leader(number, work, step, leader),
         _ => lease.reads(number, work, step),
     }
 }

@@ -20,7 +20,7 @@ use Rattle.sl_trace.specs.declared.reply.Reply.{Reply}
 use Rattle.sl_witness.proofs.Quietness.{ActiveIn, AnswersIn, HasLow, Modes, NoneFlies, not_shared, on_list, seek_acquire, seek_active, seek_answers, seek_goes_on, seek_grounded, seek_low, seek_modes, seek_no_other}
 use Rattle.sl_witness.proofs.Running.{due_run-append}
 use Rattle.sl_witness.proofs.Seeking.{seek_all, seek_by, seek_empty, seek_false, seek_for, seek_lt, seek_none, seek_some, seek_true, seek_up_to, ◌>>=◌}
-use Rattle.sl_words.proofs.CaseLaws.{true_is_false}
+use Rattle.sl_words.proofs.CaseLaws.{not_both, true_is_false}
 use Rattle.sl_words.specs.Bounds.{record_numbers}
 use Rattle.sl_words.specs.Words.{choose}
 use Rattle.std.proofs.Common.{ap, refl, subst, sym, ◌∙◌}
@@ -50,6 +50,7 @@ seek_start_under asked w m text r shared p = do
   numbers ← seek_lt (l.0.lver + 1) record_numbers
   ballot ← seek_lt (next_mbal w.layout.hosts s.0.id
       (map (λ b. b.mbal) (in_instance (l.0.lver + 1) (option_to_list (known d.0.setting d.0.trace s.0 (spot_of r)).own)))) record_numbers
+  plain ← seek_false w.layout.paired
   request ← seek_true (is_some (request_there w (spot_of r)))
   blocks ← seek_up_to (HasLow w r l.0.lver) (seek_low w r l.0.lver) w.layout.hosts
   calm ← seek_all (NoneFlies w r) (seek_grounded w r) w.machines
@@ -73,8 +74,10 @@ seek_start_under asked w m text r shared p = do
     free = free;
     numbers = numbers;
     ballot = ballot;
-    request = request;
+    request = λ single. request;
     blocks = blocks;
+    pairs = λ paired host low high. absurd (not_both w.layout.paired paired plain);
+    turns = λ paired first b there. absurd (not_both w.layout.paired paired plain);
     calm = λ k b c at has flying. calm b (on_list w k b at) c has flying;
   })
 

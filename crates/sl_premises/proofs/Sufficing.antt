@@ -39,6 +39,8 @@ start_under asked w m text r shared p q =
       ballot = q.ballot;
       request = q.request;
       blocks = q.blocks;
+      pairs = q.pairs;
+      turns = q.turns;
       calm = q.calm;
     }
 
@@ -83,6 +85,8 @@ quiet_start w m text r shared p q =
       ballot = q.ballot;
       request = q.request;
       blocks = q.blocks;
+      pairs = q.pairs;
+      turns = q.turns;
       calm = q.calm;
     }
 

@@ -3,14 +3,15 @@
 use Rattle.sl_due.specs.Due.{IsHostTrace}
 use Rattle.sl_run.specs.Events.{happens, input_of, machine_of}
 use Rattle.sl_run.specs.Lawful.{IsSetting}
-use Rattle.sl_run.specs.Quiet.{AnsweredInTime, IsGrantedQuietly, QuietIsGranted, before_command, leader_there, request_there}
+use Rattle.sl_run.specs.Quiet.{AnsweredInTime, IsGrantedQuietly, QuietIsGranted, before_command, blocks_needed, leader_there, request_there}
 use Rattle.sl_run.specs.Runs.{AfterEachFront, EachDaemon, Happening, world_after}
-use Rattle.sl_run.specs.Safety.{LawfulRun, block_there, world_at}
+use Rattle.sl_run.specs.Safety.{LawfulRun, block_there, pair_there, world_at}
 use Rattle.sl_run.specs.Worlds.{Course, Daemon, Machine, Program, World, is_open, is_write_course, machine_at, reading_now, world_with}
 use Rattle.sl_run.specs.declared.event.Event.TheVariants.{Crash, ExitOf, Reset}
 use Rattle.sl_run.specs.declared.header.Header.{Header}
 use Rattle.sl_sector.specs.declared.sector.Block.{Block}
 use Rattle.sl_sector.specs.declared.sector.Leader.{Leader}
+use Rattle.sl_sector.specs.declared.sector.PairBlock.{PairBlock}
 use Rattle.sl_trace.specs.Ballots.{in_instance, next_mbal}
 use Rattle.sl_trace.specs.Counts.{held_here, limit_met, may_act}
 use Rattle.sl_trace.specs.Leases.{is_leader_of, is_on, known, open_on, owed, spot_of}
@@ -67,8 +68,11 @@ pub record StartUnder (asked : Premises) (w : World) (m : ℕ) (text : List ℕ)
   pub numbers : leader.lver + 1 < record_numbers
   pub ballot : next_mbal w.layout.hosts session.id
       (map (λ b. b.mbal) (in_instance (leader.lver + 1) (option_to_list (known daemon.setting daemon.trace session (spot_of r)).own))) < record_numbers
-  pub request : IsSome (request_there w (spot_of r))
+  pub request : w.layout.paired ≡ false → IsSome (request_there w (spot_of r))
   pub blocks : (host : ℕ) → 1 ≤ host → host ≤ w.layout.hosts → (b : Block) × (block_there w (spot_of r) host ≡ Some b) × (b.lver ≤ leader.lver)
+  pub pairs : w.layout.paired ≡ true → (host : ℕ) → 1 ≤ host → host ≤ w.layout.hosts → IsSome (pair_there w (spot_of r) host false)
+  pub turns : w.layout.paired ≡ true → (first : Bool) → (b : PairBlock) → pair_there w (spot_of r) session.id first ≡ Some b →
+      b.turn + blocks_needed shared < record_numbers
   pub calm : (k : ℕ) (a : Machine) (c : Course) → machine_at w k ≡ Some a → Contains a.calls c →
       IsTrue (is_write_course c && is_open a c && is_on w.layout (spot_of r) c.call) → ⊥
 

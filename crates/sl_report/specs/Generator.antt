@@ -45,7 +45,7 @@ gen_header hosts =
       timing = record { io = 100; fire = 600; land = 100; rho = 0 };
       grace = 300;
       machines = hosts;
-      geometry = record { sector = default_sector; area = default_area; hosts = hosts };
+      geometry = record { sector = default_sector; area = default_area; hosts = hosts; paired = false };
       retries = 0;
       clocks = [];
       disks = record { path = gen_path; mebibytes = 8 } ∷ [];

@@ -20,7 +20,7 @@ use Rattle.sl_trace.specs.Commands.{is_process_word}
 use Rattle.sl_words.specs.Words.{choose, first_of_list, some_is}
 use Rattle.std.specs.Int.{is_in_range}
 use Rattle.std.specs.List.{list_any}
-use Rattle.std.specs.Prelude.{Bool, List, None, Option, Some, bytes_eq, codes, count_by, decimal, drop, filter_map, is_none, length, map, nat_le, nat_lt, not, replicate, true, unwrap_or, [], ℕ, ◌%◌, ◌&&◌, ◌*◌, ◌+◌, ◌==◌, ◌^◌, ◌||◌, ◌∷◌}
+use Rattle.std.specs.Prelude.{Bool, List, None, Option, Some, bytes_eq, codes, count_by, decimal, drop, false, filter_map, is_none, length, map, nat_le, nat_lt, not, replicate, true, unwrap_or, [], ℕ, ◌%◌, ◌&&◌, ◌*◌, ◌+◌, ◌==◌, ◌^◌, ◌||◌, ◌∷◌}
 
 -- A number above 0.
 abbrev pub is_positive_word : List ℕ → Bool
@@ -171,6 +171,7 @@ header_of sector area ls =
         sector = (first_line geometry_line (sector, area) ls).0;
         area = (first_line geometry_line (sector, area) ls).1;
         hosts = first_line ids_line 0 ls;
+        paired = false;
       };
       retries = first_line retries_line 0 ls;
       clocks = filter_map clock_line ls;

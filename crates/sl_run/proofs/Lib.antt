@@ -1,2 +1,3 @@
 pub mod FirstWorld
 pub mod LawFacts
+pub mod PlainAreas

@@ -5,7 +5,7 @@ use Rattle.sl_run.specs.Saying.{IsAnsweredAt}
 use Rattle.sl_trace.specs.Ballots.{in_instance, next_mbal, stop_of, value_of}
 use Rattle.sl_trace.specs.Counts.{busy_process, holds_already, is_killpath_limit, limit_met, may_act, next_value_seq, other_holder, pending_call}
 use Rattle.sl_trace.specs.Jobs.{is_asking_lease, is_job_of_process, is_program, job_of_start, lockspace_named, process_named, resource_named, wants_shared}
-use Rattle.sl_trace.specs.Leases.{Area_read, Leader_freed, Leader_taken, LeaseKnown, Mode_cleared, Mode_set, Phase1_read, Phase2_read, StepKind, blocks_given, exclusive_on, holdings_on, instance_for, is_at, is_leader_of, is_phase_read, known, lease_calls, lver_written, orphan_on, own_block, shared_elsewhere, spot_of, spot_of_call, value_written}
+use Rattle.sl_trace.specs.Leases.{Area_read, Leader_freed, Leader_taken, LeaseKnown, Mode_cleared, Mode_set, Phase1_read, Phase2_read, StepKind, base_turn, blocks_given, exclusive_on, holdings_on, instance_for, is_at, is_leader_of, is_phase_read, known, leader_given, lease_calls, lver_written, orphan_on, own_block, shared_elsewhere, spot_of, spot_of_call, value_written}
 use Rattle.sl_trace.specs.declared.lease.Instance.TheVariants.{Begins, HeldAlready}
 use Rattle.sl_trace.specs.declared.lease.Instance.{Instance}
 use Rattle.sl_trace.specs.declared.lease.Stop.TheVariants.{BlockAhead, BlockRival, BlockTorn}
@@ -42,14 +42,14 @@ use Rattle.sl_trace.specs.declared.input.Answer.TheVariants.{Failed, Read, Writt
 use Rattle.sl_trace.specs.declared.input.Answer.{Answer}
 use Rattle.sl_trace.specs.declared.input.Input.TheVariants.{Exit, Spawned, Wake}
 use Rattle.sl_trace.specs.declared.reply.DeltaVersion.{DeltaVersion}
-use Rattle.sl_trace.specs.declared.reply.Limited.TheVariants.{Children, Gen as GenLimit, Holders, Killpaths, Lockspaces, Lver as LverLimit, Mbal as MbalLimit, Resources, Seq as SeqLimit}
+use Rattle.sl_trace.specs.declared.reply.Limited.TheVariants.{Children, Gen as GenLimit, Holders, Killpaths, Lockspaces, Lver as LverLimit, Mbal as MbalLimit, Resources, Seq as SeqLimit, Turn as TurnLimit}
 use Rattle.sl_trace.specs.declared.reply.Limited.{Limited}
 use Rattle.sl_trace.specs.declared.reply.Reply.TheVariants.{Ahead, BadCommand as Misread, Busy, Done, Generation, Granted, Held as HeldBy, Hosts, IdHeld, IdLate, IdLost, IoFault, IoTimeout, Joined, Joining as StillJoining, Limit as LimitReached, NoOrphan, NoProcess, NoSession, NotHeld, Pending, Recovering, RequestOld, Rival, Sessions, Shared as SharedBy, SpawnFault, Started, TornBlock, TornDelta, TornLeader, Value, ValueSet, ValueTorn, WrongArea, WrongDelta}
 use Rattle.sl_trace.specs.declared.reply.Reply.{Reply}
 use Rattle.sl_words.specs.Bounds.{record_numbers}
 use Rattle.sl_words.specs.Words.{present}
 use Rattle.std.specs.List.{list_any}
-use Rattle.std.specs.Prelude.{AllPairs, Bool, Contains, Err, IsFalse, IsSome, IsSomeAnd, IsTrue, List, None, Ok, Option, Some, bytes_eq, false, filter, is_none, is_some, length, map, not, option_and_then, option_map, position, true, ℕ, ◌&&◌, ◌++◌, ◌+◌, ◌<◌, ◌==◌, ◌∷◌, ◌≡◌, ◌≢◌, ◌≤◌, ◌⊎◌}
+use Rattle.std.specs.Prelude.{AllPairs, Bool, Contains, Err, IsFalse, IsSome, IsSomeAnd, IsTrue, List, None, Ok, Option, Some, bytes_eq, false, filter, is_none, is_some, length, map, not, option_and_then, option_map, position, true, [], ℕ, ◌&&◌, ◌++◌, ◌+◌, ◌<◌, ◌==◌, ◌∷◌, ◌≡◌, ◌≢◌, ◌≤◌, ◌⊎◌}
 
 -- Where a reply is given: the trace before its entry, the entry, the job.
 pub record Answering : Type 0 where
@@ -168,9 +168,32 @@ IsIdLate x claimed now =
 
 -- ---- a lease's
 
+-- What is said of the session and of the calls of its lease before this one.
+abbrev pub BeforeCall : Answering → Submitted → (Session → List Submitted → Type 0) → Type 0
+BeforeCall x c P =
+    WithSession x (λ s. (later before : List Submitted) × (lease_calls x.setting (after_entry x) s (spot_of_call x.setting.layout c) ≡ later ++ c ∷ before)
+    × P s before)
+
+-- The leader that the read gave, if any. With pairs a read of the area gives one only once it is whole, with its second read, and one may
+-- be made for a torn one.
+abbrev pub GivesLeader : Answering → Submitted → List ℕ → Option Leader → Type 0
+GivesLeader x c bytes l =
+    elim (x.setting.layout.paired && is_at Area_read c) [
+      | false ↦ leader_of x.setting.layout bytes ≡ l
+      | true ↦ BeforeCall x c (λ s before. IsSome (blocks_given x.setting.layout c before) × (leader_given x.setting.layout c before ≡ l))
+    ]
+
+-- What is said of the blocks that a read of the area gave; with pairs they are those of both answers.
+abbrev pub GivesBlocks : Answering → Submitted → List ℕ → (List (Option Block) → Type 0) → Type 0
+GivesBlocks x c bytes P =
+    elim x.setting.layout.paired [
+      | false ↦ P (area_blocks x.setting.layout bytes)
+      | true ↦ BeforeCall x c (λ s before. IsSomeAnd (blocks_given x.setting.layout c before) P)
+    ]
+
 -- The leader that was read is torn.
 abbrev pub IsTornLeaderRead : Answering → Type 0
-IsTornLeaderRead x = AnswersRead x (λ c bytes. (IsTrue (is_at Area_read c) ⊎ (c.call.purpose ≡ RequestRead x.job.number)) × (leader_of x.setting.layout bytes ≡ None))
+IsTornLeaderRead x = AnswersRead x (λ c bytes. (IsTrue (is_at Area_read c) ⊎ (c.call.purpose ≡ RequestRead x.job.number)) × GivesLeader x c bytes None)
 
 -- What is known of the lease whose read the entry answers.
 abbrev pub known_here : Answering → Session → Submitted → LeaseKnown
@@ -180,7 +203,7 @@ known_here x s c = known x.setting (after_entry x) s (spot_of_call x.setting.lay
 abbrev pub ReadsBlocks : Answering → (Session → Submitted → List (Option Block) → Block → Type 0) → Type 0
 ReadsBlocks x P =
     WithSession x (λ s. AnswersRead x (λ c bytes. (blocks : List (Option Block)) × (own : Block) × (later before : List Submitted)
-    × (blocks_given x.setting.layout c ≡ Some blocks) × (lease_calls x.setting (after_entry x) s (spot_of_call x.setting.layout c) ≡ later ++ c ∷ before)
+    × (blocks_given x.setting.layout c before ≡ Some blocks) × (lease_calls x.setting (after_entry x) s (spot_of_call x.setting.layout c) ≡ later ++ c ∷ before)
     × (own_block x.setting.layout s.id (c ∷ before) ≡ Some own) × P s c blocks own))
 
 -- The blocks that a phase of the ballot read stop it.
@@ -190,7 +213,8 @@ IsStopRead x stop = ReadsBlocks x (λ s c blocks own. IsTrue (is_phase_read c) �
 -- At the read of the area the least torn block; at a later read the least of another host.
 abbrev pub IsTornBlockRead : Answering → ℕ → Type 0
 IsTornBlockRead x host =
-    AnswersRead x (λ c bytes. IsTrue (is_at Area_read c) × (option_map (λ k. k + 1) (position is_none (area_blocks x.setting.layout bytes)) ≡ Some host))
+    AnswersRead x (λ c bytes. IsTrue (is_at Area_read c)
+    × GivesBlocks x c bytes (λ blocks. option_map (λ k. k + 1) (position is_none blocks) ≡ Some host))
     ⊎ IsStopRead x (BlockTorn host)
 
 -- The read of phase 2 ended the job's ballot with this session.
@@ -200,7 +224,7 @@ EndsWith x s c blocks own lver o = IsTrue (is_at Phase2_read c) × (stop_of own 
 -- What the read of the area makes the job begin, or who holds the resource.
 abbrev pub ShowsInstance : Answering → Session → Submitted → List (Option Block) → Block → Instance → Type 0
 ShowsInstance x s c blocks own i =
-    IsTrue (is_at Area_read c) × (bytes : List ℕ) × (l : Leader) × (gave c ≡ Some bytes) × (leader_of x.setting.layout bytes ≡ Some l)
+    IsTrue (is_at Area_read c) × (bytes : List ℕ) × (l : Leader) × (gave c ≡ Some bytes) × GivesLeader x c bytes (Some l)
     × (instance_for (known_here x s c) l own blocks ≡ i)
 
 -- The resource is held by another that isn't counted as over, or the job's ballot ended with such.
@@ -221,11 +245,48 @@ IsSharedRead x o = ReadsBlocks x (λ s c blocks own.
     IsTrue (is_at Phase1_read c) × job_command x (λ a. wants_shared a ≡ false) × (stop_of own blocks ≡ None) × (b : Block)
     × (shared_elsewhere (known_here x s c) blocks ≡ Some b) × (b.host ≡ o.id) × (b.mode_gen ≡ o.generation))
 
+-- ---- what the job wrote, and what its session held
+
+-- The entry answers ok a write of the job that passes.
+abbrev pub AnswersWrite : Answering → (Submitted → Type 0) → Type 0
+AnswersWrite x P = (c : Submitted) × AnswersCall x c Written × P c
+
+-- .. one of its lease at this step, of this instance.
+abbrev pub WroteAt : Answering → StepKind → ℕ → Type 0
+WroteAt x kind n = AnswersWrite x (λ c. IsTrue (is_at kind c) × (lver_written c ≡ n))
+
+-- The session held the resource before the entry, by a holding that passes.
+abbrev pub HeldBefore : Answering → ResourceArg → (Grant → Type 0) → Type 0
+HeldBefore x r P = WithSession x (λ s. (g : Grant) × Contains (holdings_on (before_entry x) s (spot_of r)) g × P g)
+
 -- ---- limits
 
 -- The number of phase 1 that the session would write in an instance: above all that it knows of it.
 abbrev pub next_number : Setting → Session → ℕ → Block → List Block → ℕ
 next_number st s n own read = next_mbal st.layout.hosts s.id (map (λ b. b.mbal) (in_instance n (own ∷ read)))
+
+-- The job's command sets the shared mode, or clears it.
+abbrev pub changes_mode : Command → Bool
+changes_mode (Acquire r shared p persistent) = shared
+changes_mode (RunProgram r shared path) = shared
+changes_mode (Convert r shared p) = not shared
+changes_mode c = false
+
+-- A release ends the last holding under a shared lease.
+abbrev pub EndsLastShared : Answering → Type 0
+EndsLastShared x = WithSession x (λ s. WithSpot x (λ r at.
+    HeldBefore x r (λ g. IsTrue (is_shared g.mode)) × (holdings_on (after_entry x) s at ≡ [])))
+
+-- The next that the job writes is a block: of phase 1, where a read begins a ballot; of phase 2, where phase 1's read lets it go on; with
+-- a new mode, where the leader was taken, and at a command that clears the mode, or sets it while the leader is still held.
+abbrev pub BlockIsNext : Answering → Type 0
+BlockIsNext x =
+    ReadsBlocks x (λ s c blocks own. (n : ℕ) × BeginsAt x s c blocks own n)
+    ⊎ ReadsBlocks x (λ s c blocks own. IsTrue (is_at Phase1_read c) × (stop_of own blocks ≡ None)
+    × job_command x (λ a. (wants_shared a ≡ true) ⊎ (shared_elsewhere (known_here x s c) blocks ≡ None)))
+    ⊎ (job_command x (λ a. IsTrue (changes_mode a)) × ((n : ℕ) × WroteAt x Leader_taken n))
+    ⊎ (IsAtCommand x × (job_command x (λ a. (r : ResourceArg) × (p : ℕ) × (a ≡ Convert r true p))
+    ⊎ (job_command x (λ a. ((r : ResourceArg) × (p : ℕ) × (a ≡ Release r p)) ⊎ ((r : ResourceArg) × (a ≡ ReleaseOrphan r))) × EndsLastShared x)))
 
 -- One more lease, holder or child would pass its limit, the first that fits.
 abbrev pub MeetsLimit : Answering → Limited → Type 0
@@ -252,6 +313,9 @@ IsLimit x SeqLimit =
     × IsSomeAnd (exclusive_on (before_entry x) s at) (λ g. record_numbers ≤ next_value_seq x.setting (before_entry x) s at g.lver))))
 IsLimit x LverLimit = ReadsBlocks x (λ s c blocks own. (n : ℕ) × BeginsAt x s c blocks own n × (record_numbers ≤ n))
 IsLimit x MbalLimit = ReadsBlocks x (λ s c blocks own. (n : ℕ) × BeginsAt x s c blocks own n × (record_numbers ≤ next_number x.setting s n own (present blocks)))
+IsLimit x TurnLimit =
+    (x.setting.layout.paired ≡ true) × BlockIsNext x
+    × WithSession x (λ s. WithSpot x (λ r at. record_numbers ≤ base_turn x.setting.layout s.id (lease_calls x.setting (after_entry x) s at) + 1))
 
 -- ---- requests
 
@@ -267,7 +331,7 @@ IsOldRequest x held stored = job_command x (λ c. (r : ResourceArg) × (asked : 
 -- The leader that was read has other names or another number of hosts.
 abbrev pub IsWrongArea : Answering → List ℕ → List ℕ → ℕ → Type 0
 IsWrongArea x lockspace resource hosts = WithSpot x (λ r at.
-    AnswersRead x (λ c bytes. (l : Leader) × (leader_of x.setting.layout bytes ≡ Some l) × (l.lockspace ≡ lockspace) × (l.resource ≡ resource) × (l.num_hosts ≡ hosts)
+    AnswersRead x (λ c bytes. (l : Leader) × GivesLeader x c bytes (Some l) × (l.lockspace ≡ lockspace) × (l.resource ≡ resource) × (l.num_hosts ≡ hosts)
     × IsFalse (is_leader_of x.setting.layout r.lockspace r.name l)))
 
 -- The delta record that was read has another lockspace or id.
@@ -278,23 +342,11 @@ IsWrongDelta x lockspace id =
 
 -- ---- ok replies
 
--- The entry answers ok a write of the job that passes.
-abbrev pub AnswersWrite : Answering → (Submitted → Type 0) → Type 0
-AnswersWrite x P = (c : Submitted) × AnswersCall x c Written × P c
-
--- .. one of its lease at this step, of this instance.
-abbrev pub WroteAt : Answering → StepKind → ℕ → Type 0
-WroteAt x kind n = AnswersWrite x (λ c. IsTrue (is_at kind c) × (lver_written c ≡ n))
-
 -- The entry grants the process the resource in this mode, as persistent as this, under this instance.
 abbrev pub GrantsTo : Answering → ResourceArg → ℕ → Bool → Bool → ℕ → Type 0
 GrantsTo x r p shared persistent n =
     (g : Grant) × Contains x.entry.effects.grants g × (g.process ≡ p) × IsTrue (same_place g.path g.offset r.path r.offset)
     × (is_shared g.mode ≡ shared) × (g.persistent ≡ persistent) × (g.lver ≡ n)
-
--- The session held the resource before the entry, by a holding that passes.
-abbrev pub HeldBefore : Answering → ResourceArg → (Grant → Type 0) → Type 0
-HeldBefore x r P = WithSession x (λ s. (g : Grant) × Contains (holdings_on (before_entry x) s (spot_of r)) g × P g)
 
 -- The step of a lease whose write, answered ok, ends a conversion to this mode.
 abbrev pub converting_step : Bool → StepKind

@@ -1,44 +1,48 @@
 -- How a session may write its block on a resource: the ballots of one disk.
-use Rattle.sl_area.specs.Places.{area_blocks, leader_of}
 use Rattle.sl_run.specs.Saying.{EachCall}
 use Rattle.sl_trace.specs.Ballots.{ballot_blocks, moded_block, owner_of, phase1_block, phase2_block, same_owner, stop_of}
-use Rattle.sl_trace.specs.Leases.{Phase1_read, Phase1_write, Phase2_read, Phase2_write, block_written, blocks_given, ended_ballots, freed, is_area_read, is_at, is_free_write, is_leader_of, last_blocks, lease_calls, lease_step, own_block, spot_of_call}
+use Rattle.sl_trace.specs.Leases.{Phase1_read, Phase1_write, Phase2_read, Phase2_write, base_turn, block_written, blocks_given, ended_ballots, freed, is_again, is_area_read, is_at, is_free_write, is_leader_of, last_blocks, leader_given, lease_calls, lease_step, own_block, spot_of_call, turn_written}
 use Rattle.sl_sector.specs.declared.sector.Block.{Block}
 use Rattle.sl_sector.specs.declared.sector.Leader.{Leader}
 use Rattle.sl_sector.specs.declared.sector.Owner.{Owner}
 use Rattle.sl_trace.specs.Sessions.{me}
 use Rattle.sl_trace.specs.Watching.{counted_over}
 use Rattle.sl_trace.specs.declared.session.Session.{Session}
-use Rattle.sl_trace.specs.Traces.{Answered, Setting, Submitted, Trace, gave}
+use Rattle.sl_trace.specs.Traces.{Answered, Setting, Submitted, Trace}
 use Rattle.sl_trace.specs.declared.effects.Entry.{Entry}
 use Rattle.sl_trace.specs.declared.effects.LeaseStep.TheVariants.{ClearMode, Phase1Write, Phase2Write, SetMode}
 use Rattle.sl_trace.specs.declared.effects.LeaseStep.{LeaseStep}
 use Rattle.sl_trace.specs.declared.effects.Spot.{Spot}
 use Rattle.sl_trace.specs.declared.input.Answer.TheVariants.{Written}
-use Rattle.sl_words.specs.Words.{present}
+use Rattle.sl_words.specs.Words.{first_of_list, present}
 use Rattle.std.specs.List.{list_all}
-use Rattle.std.specs.Prelude.{Contains, IsTrue, List, None, Option, Some, false, find, is_some, true, ℕ, ◌+◌, ◌<◌, ◌≡◌, ◌≤◌, ◌⊎◌}
+use Rattle.std.specs.Prelude.{Contains, IsTrue, List, None, Option, Some, false, find, is_some, true, ℕ, ◌++◌, ◌+◌, ◌<◌, ◌∷◌, ◌≡◌, ◌≤◌, ◌⊎◌}
 
 -- ---- why an instance may begin: one of six reasons stands in the trace, at whatever earlier entry
 
 -- A leader and blocks that one read of the area gave.
 pub record AreaRead (st : Setting) (es : Trace) (s : Session) (at : Spot) : Type 0 where
   pub read : Submitted
-  pub bytes : List ℕ
+  pub blocks : List (Option Block)
   pub leader : Leader
   pub resource : List ℕ
   pub of_lease : Contains (lease_calls st es s at) read × IsTrue (is_area_read read)
-  pub gives : gave read ≡ Some bytes
-  pub spells : leader_of st.layout bytes ≡ Some leader
+  -- the calls of the lease after and before that read
+  pub after : List Submitted
+  pub before : List Submitted
+  pub split : lease_calls st es s at ≡ after ++ read ∷ before
+  pub gives : blocks_given st.layout read before ≡ Some blocks
+  -- with pairs a torn leader is taken for one that was never held
+  pub spells : leader_given st.layout read before ≡ Some leader
   -- a leader of another lockspace tells nothing of these ballots
   pub names : IsTrue (is_leader_of st.layout s.lockspace resource leader)
   -- a torn block may be that of the newest instance
-  pub whole : IsTrue (list_all is_some (area_blocks st.layout bytes))
+  pub whole : IsTrue (list_all is_some blocks)
 
 -- Why instance n may begin.
 pub data BeginReason (st : Setting) (es : Trace) (s : Session) (at : Spot) (n : ℕ) : Type 0 where
   -- another's block of n was read above the leader
-  Block_above : (r : AreaRead st es s at) → r.leader.lver < n → (b : Block) → Contains (present (area_blocks st.layout r.bytes)) b → b.lver ≡ n
+  Block_above : (r : AreaRead st es s at) → r.leader.lver < n → (b : Block) → Contains (present r.blocks) b → b.lver ≡ n
       → BeginReason st es s at n
   -- the own block is in n
   Own_block : (b : Block) → own_block st.layout s.id (lease_calls st es s at) ≡ Some b → b.lver ≡ n → 1 ≤ n → BeginReason st es s at n
@@ -80,6 +84,11 @@ pub record ReadAfter (write read : Submitted) : Type 0 where
   -- a read of before may miss the rival that has read the old block
   pub later : answer.at ≤ read.at
 
+-- Where the read is a second one, so was the first: what is given may be what that one showed. before are the calls of the lease before
+-- the read.
+abbrev pub FirstAfter : Submitted → Submitted → List Submitted → Type 0
+FirstAfter write read before = IsTrue (is_again read) → (first : Submitted) → first_of_list before ≡ Some first → ReadAfter write first
+
 -- The block of phase 2.
 pub record LawfulPhase2 (st : Setting) (es : Trace) (s : Session) (at : Spot) (c : Submitted) (b : Block) : Type 0 where
   pub own : Block
@@ -90,8 +99,13 @@ pub record LawfulPhase2 (st : Setting) (es : Trace) (s : Session) (at : Spot) (c
   pub last : find (λ d. is_some (block_written d)) (lease_calls st es s at) ≡ Some write
   pub wrote : (block_written write ≡ Some own) × IsTrue (is_at Phase1_write write)
   pub of_lease : Contains (lease_calls st es s at) read × IsTrue (is_at Phase1_read read)
+  -- the calls of the lease after and before that read
+  pub after : List Submitted
+  pub before : List Submitted
+  pub split : lease_calls st es s at ≡ after ++ read ∷ before
   pub ordered : ReadAfter write read
-  pub given : blocks_given st.layout read ≡ Some blocks
+  pub first_ordered : FirstAfter write read before
+  pub given : blocks_given st.layout read before ≡ Some blocks
   -- a greater number, a later instance or a torn block of another host stops the ballot
   pub clear : stop_of own blocks ≡ None
   -- the value is that of the greatest bal that was read, else the session's
@@ -128,7 +142,15 @@ abbrev pub LawfulBlockWrite : Setting → Trace → Session → Submitted → Bl
 LawfulBlockWrite st es s c b =
     elim (lease_step c.call.purpose) [ None ↦ ⊥ | Some p ↦ LawfulBlockStep st es s (spot_of_call st.layout c) c b p.1 ]
 
+-- The turn of a block, by the one that was shown last of the own pair: one above it. At another turn's place it would overwrite the
+-- block that stands, or be taken for an older one; and so it might where none was shown.
+pub record LawfulTurn (turn shown : ℕ) : Type 0 where
+  pub next : turn ≡ shown + 1
+  pub seen : 1 ≤ shown
+
 -- Lawful block writing.
 pub record LawfulBlock (st : Setting) (past : Trace) (e : Entry) : Type 0 where
+  pub turns : EachCall st (λ es s c. (turn : ℕ) → turn_written c ≡ Some turn →
+      LawfulTurn turn (base_turn st.layout s.id (lease_calls st es s (spot_of_call st.layout c)))) past e
   pub writes : EachCall st (λ es s c. (b : Block) → block_written c ≡ Some b → LawfulBlockWrite st es s c b) past e
   pub reads : EachCall st (λ es s c. IsTrue (is_at Phase2_read c) → LawfulPhase2Read st es s (spot_of_call st.layout c) c) past e

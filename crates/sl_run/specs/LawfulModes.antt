@@ -1,8 +1,8 @@
 -- What a grant in either mode has behind it, and which mode a block shows. All of it is said of one resource.
-use Rattle.sl_run.specs.LawfulBlock.{ReadAfter}
+use Rattle.sl_run.specs.LawfulBlock.{FirstAfter, ReadAfter}
 use Rattle.sl_run.specs.LawfulLeader.{HasWon}
 use Rattle.sl_run.specs.Saying.{EachCall, IsAnsweredAt}
-use Rattle.sl_trace.specs.Leases.{Mode_set, Phase1_write, block_of_host, block_written, blocks_given, ended_ballot, exclusive_on, has_shared_on, holdings_on, is_at, is_block_read, is_free_write, lease_calls, spot_of_call}
+use Rattle.sl_trace.specs.Leases.{Mode_set, Phase1_write, block_of_host, block_written, blocks_given, ended_ballot, exclusive_on, has_shared_on, holdings_on, is_again, is_at, is_block_read, is_free_write, lease_calls, spot_of_call}
 use Rattle.sl_sector.specs.declared.sector.Block.{Block}
 use Rattle.sl_trace.specs.Sessions.{generation_of, me, session_numbered}
 use Rattle.sl_trace.specs.Watching.{counted_over}
@@ -12,7 +12,7 @@ use Rattle.sl_trace.specs.declared.effects.Entry.{Entry}
 use Rattle.sl_trace.specs.declared.effects.Grant.{Grant}
 use Rattle.sl_trace.specs.declared.effects.Spot.{Spot}
 use Rattle.sl_trace.specs.declared.input.Answer.TheVariants.{Written}
-use Rattle.sl_words.specs.Words.{present}
+use Rattle.sl_words.specs.Words.{first_of_list, present}
 use Rattle.std.specs.Prelude.{Bool, Contains, IsSome, IsTrue, List, MatchBool, None, Option, Some, false, length, nat_le, true, [], ℕ, ◌&&◌, ◌++◌, ◌||◌, ◌↔◌, ◌∷◌, ◌≡◌, ◌≤◌, ◌⊎◌}
 
 -- Whether the session held the resource shared before some entry from number `since` on.
@@ -49,6 +49,8 @@ pub record SharedByBallot (st : Setting) (es : Trace) (s : Session) (at : Spot) 
   pub split : lease_calls st es s at ≡ after ++ read ∷ before
   -- the instance is the session's
   pub won : (since ≤ read.at) × (ended_ballot st.layout read before ≡ Some (n, me es s))
+  -- a read that was made once more began with its first
+  pub first_since : IsTrue (is_again read) → (first : Submitted) → first_of_list before ≡ Some first → since ≤ first.at
   -- others must see the mode before they may go past the instance
   pub moded : (read.answer ≡ Some read_answer) × (read_answer.at ≤ mode.at) × (block_written mode ≡ Some block)
       × (block.shared ≡ true) × (block.mode_gen ≡ generation_of es s) × (block.lver ≡ n) × IsDone mode mode_answer
@@ -100,11 +102,16 @@ pub record LawfulExclusiveGrant (st : Setting) (es : Trace) (s : Session) (at : 
   pub blocks : List (Option Block)
   pub wrote : Contains (lease_calls st es s at) write × IsTrue (is_at Phase1_write write) × (block_written write ≡ Some own) × (own.lver ≡ n)
   pub of_lease : Contains (lease_calls st es s at) read × IsTrue (is_block_read read)
+  -- the calls of the lease after and before that read
+  pub after : List Submitted
+  pub before : List Submitted
+  pub split : lease_calls st es s at ≡ after ++ read ∷ before
   -- blocks read before could lack a mode that was set since
   pub ordered : ReadAfter write read
+  pub first_ordered : FirstAfter write read before
   -- it belongs to the ballot that ended: no greater number was written since
   pub same_ballot : (d : Submitted) (b : Block) → Contains (lease_calls st es s at) d → block_written d ≡ Some b → write.call.number ≤ d.call.number → b.mbal ≡ own.mbal
-  pub given : blocks_given st.layout read ≡ Some blocks
+  pub given : blocks_given st.layout read before ≡ Some blocks
   -- a shared holder elsewhere would conflict
   pub none_shared : NoneShared st es s blocks
 

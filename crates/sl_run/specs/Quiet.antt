@@ -1,17 +1,18 @@
 -- An acquire that nothing stands in the way of: it is granted.
 use Rattle.sl_area.specs.Layouts.{record_in}
-use Rattle.sl_area.specs.Places.{leader_offset, request_offset}
+use Rattle.sl_area.specs.Places.{leader_offset, leader_spelled, request_offset}
 use Rattle.sl_trace.specs.Ballots.{in_instance, next_mbal}
 use Rattle.sl_trace.specs.Counts.{held_here, limit_met, may_act}
 use Rattle.sl_trace.specs.Leases.{is_leader_of, is_on, known, open_on, owed, spot_of}
 use Rattle.sl_run.specs.Events.{happens, input_of, machine_of}
 use Rattle.sl_run.specs.Runs.{Happening, world_after}
-use Rattle.sl_run.specs.Safety.{block_there}
+use Rattle.sl_run.specs.Safety.{block_there, pair_there}
 use Rattle.sl_run.specs.Worlds.{Course, Daemon, Machine, World, content, is_open, is_write_course, machine_at, reading_now}
 use Rattle.sl_run.specs.declared.event.Event.TheVariants.{Crash, ExitOf, Reset}
-use Rattle.sl_sector.specs.Spelling.{leader_in, request_in}
+use Rattle.sl_sector.specs.Spelling.{request_in}
 use Rattle.sl_sector.specs.declared.sector.Block.{Block}
 use Rattle.sl_sector.specs.declared.sector.Leader.{Leader}
+use Rattle.sl_sector.specs.declared.sector.PairBlock.{PairBlock}
 use Rattle.sl_sector.specs.declared.sector.Request.{Request}
 use Rattle.sl_trace.specs.Sessions.{is_active, session_named, session_numbered}
 use Rattle.sl_trace.specs.Watching.{counts_over}
@@ -37,11 +38,16 @@ before_command d now = record { reading = now; input = Wake; effects = no_effect
 
 -- What the leader's sector spells now.
 abbrev pub leader_there : World → Spot → Option Leader
-leader_there w at = leader_in (record_in w.layout (content w at.path (leader_offset at.base)))
+leader_there w at = leader_spelled w.layout (record_in w.layout (content w at.path (leader_offset at.base)))
 
 -- What the request's sector spells now.
 abbrev pub request_there : World → Spot → Option Request
 request_there w at = request_in (record_in w.layout (content w at.path (request_offset w.layout at.base)))
+
+-- How many blocks an acquire writes: those of two phases, and for shared mode the one that sets it.
+abbrev pub blocks_needed : Bool → ℕ
+blocks_needed true = 3
+blocks_needed false = 2
 
 -- At its step.
 pub record QuietStart (w : World) (m : ℕ) (text : List ℕ) (r : ResourceArg) (shared : Bool) (p : ℕ) : Type 0 where
@@ -69,8 +75,14 @@ pub record QuietStart (w : World) (m : ℕ) (text : List ℕ) (r : ResourceArg) 
   -- the number of phase 1 passes no limit
   pub ballot : next_mbal w.layout.hosts session.id
       (map (λ b. b.mbal) (in_instance (leader.lver + 1) (option_to_list (known daemon.setting daemon.trace session (spot_of r)).own))) < record_numbers
-  pub request : IsSome (request_there w (spot_of r))
+  -- with pairs nothing is asked of the request
+  pub request : w.layout.paired ≡ false → IsSome (request_there w (spot_of r))
   pub blocks : (host : ℕ) → 1 ≤ host → host ≤ w.layout.hosts → (b : Block) × (block_there w (spot_of r) host ≡ Some b) × (b.lver ≤ leader.lver)
+  -- no read is made once more
+  pub pairs : w.layout.paired ≡ true → (host : ℕ) → 1 ≤ host → host ≤ w.layout.hosts → IsSome (pair_there w (spot_of r) host false)
+  -- as many blocks as it needs can still be written
+  pub turns : w.layout.paired ≡ true → (first : Bool) → (b : PairBlock) → pair_there w (spot_of r) session.id first ≡ Some b →
+      b.turn + blocks_needed shared < record_numbers
   -- no other write on the area is in flight
   pub calm : (k : ℕ) (a : Machine) (c : Course) → machine_at w k ≡ Some a → Contains a.calls c →
       IsTrue (is_write_course c && is_open a c && is_on w.layout (spot_of r) c.call) → ⊥

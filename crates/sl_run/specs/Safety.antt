@@ -1,6 +1,6 @@
 -- What holds after every event of a run whose traces are orderly.
 use Rattle.sl_area.specs.Layouts.{record_in}
-use Rattle.sl_area.specs.Places.{block_offset, is_base}
+use Rattle.sl_area.specs.Places.{block_offset, is_base, later_pair, pair_offset}
 use Rattle.sl_run.specs.Lawful.{Orderly}
 use Rattle.sl_trace.specs.Leases.{Phase1_write, block_written, ended_ballots, holdings_on, is_at, lease_calls}
 use Rattle.sl_run.specs.Conflicts.{IsExclusive}
@@ -8,10 +8,11 @@ use Rattle.sl_run.specs.Headers.{IsHeader}
 use Rattle.sl_run.specs.Runs.{AfterEachFront, EachDaemon, Happening, IsRun, world_after}
 use Rattle.sl_run.specs.Worlds.{Course, Daemon, Landing, Machine, Program, Stamp, World, content, daemon_numbered, is_landed, is_open, is_write_course, landed_at, machine_at, resets_after, world_with}
 use Rattle.sl_run.specs.declared.header.Header.{Header}
-use Rattle.sl_sector.specs.Spelling.{IsDigest, block_in, delta_in}
+use Rattle.sl_sector.specs.Spelling.{IsDigest, block_in, delta_in, pair_in}
 use Rattle.sl_sector.specs.declared.sector.Block.{Block}
 use Rattle.sl_sector.specs.declared.sector.DeltaRec.{DeltaRec}
 use Rattle.sl_sector.specs.declared.sector.Owner.{Owner}
+use Rattle.sl_sector.specs.declared.sector.PairBlock.{PairBlock}
 use Rattle.sl_trace.specs.Deltas.{own_offset}
 use Rattle.sl_trace.specs.Sessions.{calls_of, ended_after, free_write, generation_of, is_join_call, is_joined, joined_after, me, session_numbered, shows_other}
 use Rattle.sl_trace.specs.Watching.{counts_over}
@@ -24,7 +25,7 @@ use Rattle.sl_trace.specs.declared.effects.JoinStep.TheVariants.{ClaimWrite}
 use Rattle.sl_trace.specs.declared.effects.Spot.{Spot}
 use Rattle.sl_words.specs.Words.{is_empty, some_is}
 use Rattle.std.specs.List.{list_any}
-use Rattle.std.specs.Prelude.{Bool, Contains, IsFalse, IsSome, IsTrue, List, Option, Some, is_some, nat_lt, not, option_and_then, option_map, true, ℕ, ◌&&◌, ◌++◌, ◌+◌, ◌<◌, ◌==◌, ◌||◌, ◌∷◌, ◌≡◌, ◌≤◌, ◌⊎◌}
+use Rattle.std.specs.Prelude.{Bool, Contains, IsFalse, IsSome, IsTrue, List, Option, Some, false, is_some, nat_lt, not, option_and_then, option_map, true, ℕ, ◌&&◌, ◌++◌, ◌+◌, ◌<◌, ◌==◌, ◌||◌, ◌∷◌, ◌≡◌, ◌≤◌, ◌⊎◌}
 
 -- ---- runs
 
@@ -217,9 +218,17 @@ abbrev pub begins_above : Found → Spot → ℕ → Bool
 begins_above g at n =
     list_any (λ c. is_at Phase1_write c && some_is (λ b. nat_lt n b.lver) (block_written c)) (lease_calls (setting_in g) (trace_of g) g.session at)
 
--- What a host's block spells now.
+-- What the first or the second sector of a host's pair spells now.
+abbrev pub pair_there : World → Spot → ℕ → Bool → Option PairBlock
+pair_there w at host first = pair_in host first (record_in w.layout (content w at.path (pair_offset w.layout at.base host first)))
+
+-- A host's block now: what its sector spells, or the one of greater turn of its pair.
 abbrev pub block_there : World → Spot → ℕ → Option Block
-block_there w at host = block_in host (record_in w.layout (content w at.path (block_offset w.layout at.base host)))
+block_there w at host =
+    elim w.layout.paired [
+      | false ↦ block_in host (record_in w.layout (content w at.path (block_offset w.layout at.base host)))
+      | true ↦ option_map (λ p. p.block) (later_pair (pair_there w at host true) (pair_there w at host false))
+    ]
 
 -- The session's shared mode stands in its host's block, or the block is torn, which stops others.
 abbrev pub ShowsMode : World → Found → Spot → Type 0

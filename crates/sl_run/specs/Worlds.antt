@@ -1,7 +1,7 @@
 -- The world: the moment, the machines, and for each place what landed there, in order. Beside what an executed world needs it keeps
 -- the history that a proof asks for: when each thing happened, and all calls, landings and resets of the past.
 use Rattle.sl_area.specs.Layouts.{Layout, layout_of, layout_with, program_digest, sector_with}
-use Rattle.sl_area.specs.Places.{fresh_block, fresh_delta, fresh_leader, in_area, no_request, no_value}
+use Rattle.sl_area.specs.Places.{area_sectors, fresh_block_at, fresh_delta, fresh_leader, in_area, leader_record, no_request, no_value}
 use Rattle.sl_run.specs.Locks.{Locks, fresh_locks}
 use Rattle.sl_run.specs.declared.event.Refusal.{Refusal}
 use Rattle.sl_run.specs.declared.header.Header.{Header}
@@ -10,7 +10,7 @@ use Rattle.sl_run.specs.declared.header.ResourceLine.{ResourceLine}
 use Rattle.sl_run.specs.declared.header.SessionLine.{SessionLine}
 use Rattle.sl_sector.specs.declared.sector.DeltaRec.{DeltaRec}
 use Rattle.sl_sector.specs.declared.sector.DeltaState.TheVariants.{Live}
-use Rattle.sl_sector.specs.declared.sector.Rec.TheVariants.{BlockIs, DeltaIs, LeaderIs, RequestIs, ValueIs}
+use Rattle.sl_sector.specs.declared.sector.Rec.TheVariants.{DeltaIs, RequestIs, ValueIs}
 use Rattle.sl_sector.specs.declared.sector.Rec.{Rec}
 use Rattle.sl_text.specs.Forms.{Form}
 use Rattle.sl_time.specs.Times.{reading_of}
@@ -165,9 +165,9 @@ initial_of_lockspace h l k = choose (nat_lt k h.geometry.hosts) (DeltaIs (initia
 -- Sector k of a resource's area at moment 0.
 abbrev pub initial_of_resource : Layout → ResourceLine → ℕ → Option Rec
 initial_of_resource g r k =
-    if k == 0 then Some (LeaderIs (fresh_leader g r.lockspace r.name))
+    if k == 0 then Some (leader_record g (fresh_leader g r.lockspace r.name))
     else (if k == 1 then Some (RequestIs no_request)
-    else (if nat_lt k (g.hosts + 2) then Some (BlockIs (fresh_block (k - 1)))
+    else (if nat_lt k (area_sectors g) then Some (fresh_block_at g r.lockspace r.name k)
     else choose ((k + 1) * g.sector == g.area) (ValueIs no_value)))
 
 -- The record that a sector spells at moment 0, if any.

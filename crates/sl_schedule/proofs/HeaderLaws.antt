@@ -176,15 +176,17 @@ first_is : {A : Type 0} (xs : List A) (o : Option A) (d : A) → xs ≡ option_t
 first_is xs o d e = ap (λ ys. unwrap_or (first_of_list ys) d) e ∙ first_listed o d
 
 -- The sizes that the lines give.
-sizes_are : (o : Option Sizes) (hosts : Option ℕ) → IfSome o (λ z. hosts ≡ Some z.hosts)
+sizes_are : (o : Option Sizes) (hosts : Option ℕ) → IfSome o (λ z. hosts ≡ Some z.hosts) → IfSome o (λ z. z.paired ≡ false)
     → record {
       sector = (unwrap_or (option_map bytes_of o) (default_sector, default_area)).0;
       area = (unwrap_or (option_map bytes_of o) (default_sector, default_area)).1;
       hosts = unwrap_or hosts 0;
+      paired = false;
     }
     ≡ unwrap_or o (sizes default_sector default_area (unwrap_or hosts 0))
-sizes_are None hosts same = refl
-sizes_are (Some z) hosts same = ap (λ h. record { sector = z.sector; area = z.area; hosts = unwrap_or h 0 }) same
+sizes_are None hosts same plain = refl
+sizes_are (Some z) hosts same plain =
+    ap (λ h. record { sector = z.sector; area = z.area; hosts = unwrap_or h 0; paired = false }) same ∙ ap (λ b. record z { paired = b }) (sym plain)
 
 pub header_is : (r : HeaderSoFar) (ls : List HeaderLine) → Stands r ls → header_of default_sector default_area ls ≡ header_now r
 unfolding header_of
@@ -196,7 +198,7 @@ header_is r ls h =
     first_is _ (option_map bytes_of r.sizes) (default_sector, default_area) h.geometries in
     let retries : unwrap_or (first_of_list (filter_map retries_line ls)) 0 ≡ unwrap_or r.retries 0 = first_is _ r.retries 0 h.retried in
     rw (times, machines, hosts, bytes, retries, h.readings, h.paths, h.areas, h.leases, h.members)
-    (ap (λ z. record (header_now r) { geometry = z }) (sizes_are r.sizes r.hosts h.sized))
+    (ap (λ z. record (header_now r) { geometry = z }) (sizes_are r.sizes r.hosts h.sized h.unpaired))
 
 -- ---- refusals
 
@@ -281,6 +283,7 @@ record SizesTaken (r : HeaderSoFar) (sector area : ℕ) : Type 0 where
   is : sizes_of sector area (sizes_now r).hosts ≡ Some taken
   bytes : bytes_of taken ≡ (sector, area)
   hosts : r.hosts ≡ Some taken.hosts
+  plain : taken.paired ≡ false
   alone : r.sizes ≡ None
 
 takes_sizes : (r : HeaderSoFar) (sector mebibytes : ℕ) → is_in_place r 4 ≡ true → IfSome r.hosts IsHosts
@@ -297,6 +300,7 @@ takes_sizes r sector mebibytes place possible none =
           ∷ (some_is (λ most. nat_lt most n) (most_ids sector area), LimitIds) ∷ []) ≡ None) hosts none);
       bytes = refl;
       hosts = given.1;
+      plain = refl;
       alone = alone;
     }
 
@@ -323,6 +327,12 @@ sized_with r ls (IdsLine n) h place possible none = still_sized r.sizes r.hosts 
 sized_with r ls (GeometryLine sector mebibytes) h place possible none =
     let t = takes_sizes r sector mebibytes place possible none in subst (λ (o : Option Sizes). IfSome o (λ z. r.hosts ≡ Some z.hosts)) (sym t.is) t.hosts
 sized_with r ls l h place possible none = h.sized
+
+unpaired_with : (r : HeaderSoFar) (ls : List HeaderLine) (l : HeaderLine) → Stands r ls → is_in_place r (rank l) ≡ true → IfSome r.hosts IsHosts
+    → first_that (header_tests (header_now r) l) ≡ None → IfSome (so_far_with r l).sizes (λ z. z.paired ≡ false)
+unpaired_with r ls (GeometryLine sector mebibytes) h place possible none =
+    let t = takes_sizes r sector mebibytes place possible none in subst (λ (o : Option Sizes). IfSome o (λ z. z.paired ≡ false)) (sym t.is) t.plain
+unpaired_with r ls l h place possible none = h.unpaired
 
 retried_with : (r : HeaderSoFar) (ls : List HeaderLine) (l : HeaderLine) → Stands r ls → is_in_place r (rank l) ≡ true
     → filter_map retries_line (ls ++ l ∷ []) ≡ option_to_list (so_far_with r l).retries
@@ -381,6 +391,7 @@ stands_with r ls l h place not_begin possible none =
       ids = ids_with r ls l h place;
       geometries = geometries_with r ls l h place possible none;
       sized = sized_with r ls l h place possible none;
+      unpaired = unpaired_with r ls l h place possible none;
       retried = retried_with r ls l h place;
       readings = readings_with r ls l h place;
       paths = paths_with r ls l h place;
@@ -403,6 +414,7 @@ stands_at_first =
       ids = refl;
       geometries = refl;
       sized = tt;
+      unpaired = tt;
       retried = refl;
       readings = refl;
       paths = refl;

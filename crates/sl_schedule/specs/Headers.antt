@@ -79,6 +79,8 @@ pub record Stands (r : HeaderSoFar) (ls : List HeaderLine) : Type 0 where
   pub ids : filter_map ids_line ls ≡ option_to_list r.hosts
   pub geometries : filter_map geometry_line ls ≡ option_to_list (option_map bytes_of r.sizes)
   pub sized : IfSome r.sizes (λ z. r.hosts ≡ Some z.hosts)
+  -- a block has one sector
+  pub unpaired : IfSome r.sizes (λ z. z.paired ≡ false)
   pub retried : filter_map retries_line ls ≡ option_to_list r.retries
   pub readings : filter_map clock_line ls ≡ r.clocks
   pub paths : filter_map disk_line ls ≡ r.disks

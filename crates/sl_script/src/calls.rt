@@ -6,9 +6,9 @@ ghost use Rattle.sl_script.specs.Made.{AreCalls};
 ghost use Rattle.std.specs.Prelude.{IfSome, [], ◌<◌, ◌^◌, ◌≡◌};
 
 use crate::draft::MOST;
-use sl_sector::{Block, DeltaRec, DeltaState, Leader, Rec, Request, ValueRec};
+use sl_sector::{Block, DeltaRec, DeltaState, Leader, PairBlock, Rec, Request, ValueRec};
 use sl_text::{Data, FilePath, Name, Seq};
-use sl_trace::{Call, JoinStep, LeaseStep, Op, Purpose, Work};
+use sl_trace::{Call, JoinStep, LeaseRead, LeaseStep, Op, Purpose, Work};
 use std::alloc::{AllocError, Global};
 use std::marker::Model;
 
@@ -62,8 +62,17 @@ fn call_of(number: u64, path: FilePath, offset: u64, op: Op, sector: u32) -> Opt
 
 /// The types within a call.
 type WithinCall = (
-    (Purpose, Work, LeaseStep, JoinStep),
-    (Rec, DeltaRec, DeltaState, Leader, Block, Request, ValueRec),
+    (Purpose, Work, LeaseStep, LeaseRead, JoinStep),
+    (
+        Rec,
+        DeltaRec,
+        DeltaState,
+        Leader,
+        Block,
+        PairBlock,
+        Request,
+        ValueRec,
+    ),
     (Name, FilePath, Data),
 );
 

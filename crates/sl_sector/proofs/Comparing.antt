@@ -3,6 +3,7 @@
 use Rattle.sl_sector.specs.contracts.sector.BlockPartialEq.TheImpl.{ghosts as block}
 use Rattle.sl_sector.specs.contracts.sector.DeltaRecPartialEq.TheImpl.{ghosts as delta}
 use Rattle.sl_sector.specs.contracts.sector.LeaderPartialEq.TheImpl.{ghosts as leader}
+use Rattle.sl_sector.specs.contracts.sector.PairBlockPartialEq.TheImpl.{ghosts as pair}
 use Rattle.sl_sector.specs.contracts.sector.Rec.{enum as record_enum}
 use Rattle.sl_sector.specs.contracts.sector.RecPartialEq.TheImpl.{ghosts as record_is}
 use Rattle.sl_sector.specs.contracts.sector.RequestPartialEq.TheImpl.{ghosts as request}
@@ -10,14 +11,17 @@ use Rattle.sl_sector.specs.contracts.sector.ValueRecPartialEq.TheImpl.{ghosts as
 use Rattle.sl_sector.specs.declared.sector.Block.{Block}
 use Rattle.sl_sector.specs.declared.sector.DeltaRec.{DeltaRec}
 use Rattle.sl_sector.specs.declared.sector.Leader.{Leader}
+use Rattle.sl_sector.specs.declared.sector.PairBlock.{PairBlock}
 use Rattle.sl_sector.specs.declared.sector.Rec.{Rec}
 use Rattle.sl_sector.specs.declared.sector.Request.{Request}
 use Rattle.sl_sector.specs.declared.sector.ValueRec.{ValueRec}
 use Rattle.sl_words.proofs.CaseLaws.{false_is_true, none_some, some_value}
 use Rattle.std.proofs.Common.{ap, inl, inr, refl, rules, subst, sym}
+use Rattle.std.proofs.lemmas.Bool.Decides.{Decides-eqb}
 use Rattle.std.specs.Bool.{Decides}
+use Rattle.std.specs.Cmp.Lexicographic.{bytes_decides}
 use Rattle.std.specs.Option.{option_eq}
-use Rattle.std.specs.Prelude.{Bool, List, None, Option, Some, [], false, true, ◌&&◌, ◌∷◌, ◌≡◌, ◌⊎◌}
+use Rattle.std.specs.Prelude.{Bool, List, None, Option, Some, [], false, true, ℕ, ◌&&◌, ◌∷◌, ◌≡◌, ◌⊎◌}
 use denote.Enum.Compared.{Each, by}
 use denote.Enum.Declared.{Choice, Record, left_or, right_or, values_one}
 use denote.Struct.Field.{Field}
@@ -87,5 +91,14 @@ request_told a b = search rules
 value_told : (a b : ValueRec) → Decides (value.eq a b) (a ≡ b)
 value_told a b = search rules
 
+abbrev pair_parts : PairBlock → Block × (ℕ × (List ℕ × (List ℕ × Unit {0})))
+pair_parts p = (p.block, (p.turn, (p.lockspace, (p.resource, tt))))
+
+pair_one : (a b : PairBlock) → pair_parts a ≡ pair_parts b → a ≡ b
+pair_one a b e = λ i. record { block = (e i).0; turn = (e i).1.0; lockspace = (e i).1.1.0; resource = (e i).1.1.1.0 }
+
+pair_told : (a b : PairBlock) → Decides (pair.eq a b) (a ≡ b)
+pair_told a b = through pair_parts pair_one (and_then block_told (and_then Decides-eqb (and_then bytes_decides (last bytes_decides)))) a b
+
 pub record_told : (a b : Rec) → Decides (record_is.eq a b) (a ≡ b)
-record_told a b = told record_enum _ (last delta_told, (last leader_told, (last block_told, (last request_told, (last value_told, tt))))) a b
+record_told a b = told record_enum _ (last delta_told, (last leader_told, (last block_told, (last request_told, (last value_told, (last pair_told, (last leader_told, tt))))))) a b

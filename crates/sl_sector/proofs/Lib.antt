@@ -4,6 +4,7 @@ pub mod FieldLaws
 pub mod RuleLaws
 pub mod LeaderLaws
 pub mod BlockLaws
+pub mod PairLaws
 pub mod RequestLaws
 pub mod ValueLaws
 pub mod DeltaLaws

@@ -6,7 +6,7 @@ use Rattle.sl_sector.specs.declared.sector.Bad.{Bad}
 use Rattle.sl_words.specs.Bounds.{is_number, record_numbers}
 use Rattle.sl_words.specs.Results.{ensure, ◌>>=◌}
 use Rattle.sl_words.specs.Words.{same_truth}
-use Rattle.std.proofs.Common.{Bool, List, Ok, Result, [], arith, eqb, false, inl, inr, refl, true, ℕ, ◌<◌, ◌≡◌, ◌≤◌, ◌∷◌, ◌||◌, ◌^◌}
+use Rattle.std.proofs.Common.{Bool, List, Ok, Result, [], arith, eqb, false, inl, inr, refl, true, ℕ, ◌<◌, ◌≡◌, ◌≤◌, ◌∷◌, ◌||◌, ◌^◌, ◌++◌}
 use Rattle.std.proofs.lemmas.Bool.{cases_Bool, eqb-false, eqb-true, ltb-true}
 use Rattle.std.proofs.lemmas.Bool.Decides.{nat_tests}
 use Rattle.std.specs.Int.{is_in_range}
@@ -34,6 +34,26 @@ rules_hold (rule ∷ rules) a b h =
 pub under_held_rules : {A : Type 0} (rules : List (ℕ × Bool)) (a : A) → Hold rules → under_rules rules a ≡ Ok a
 under_held_rules [] a h = refl
 under_held_rules (rule ∷ rules) a h = rw (h.0, under_held_rules rules a h.1) refl
+
+-- Rules behind others: all of both hold.
+pub hold_parts : (xs ys : List (ℕ × Bool)) → Hold (xs ++ ys) → Hold xs × Hold ys
+hold_parts [] ys h = (tt, h)
+hold_parts (x ∷ xs) ys h = let p = hold_parts xs ys h.1 in ((h.0, p.0), p.1)
+
+pub hold_behind : (xs ys : List (ℕ × Bool)) → Hold xs → Hold ys → Hold (xs ++ ys)
+hold_behind [] ys h i = i
+hold_behind (x ∷ xs) ys h i = (h.0, hold_behind xs ys h.1 i)
+
+-- What comes first comes out first.
+pub under_rules_behind : {A B : Type 0} (xs ys : List (ℕ × Bool)) (a : A) (b : B)
+    → under_rules (xs ++ ys) b ≡ (under_rules xs a >>= λ _. under_rules ys b)
+under_rules_behind [] ys a b = refl
+under_rules_behind (x ∷ xs) ys a b = by x.1 (under_rules_behind xs ys a b)
+  where
+    by : (ok : Bool) → under_rules (xs ++ ys) b ≡ (under_rules xs a >>= λ _. under_rules ys b)
+        → (ensure ok (BadField x.0) >>= λ _. under_rules (xs ++ ys) b) ≡ ((ensure ok (BadField x.0) >>= λ _. under_rules xs a) >>= λ _. under_rules ys b)
+    by true h = h
+    by false h = refl
 
 -- ---- each test as a fact
 

@@ -3,16 +3,17 @@ use Rattle.sl_sector.proofs.BlockLaws.{block_again, block_fits, block_text, leng
 use Rattle.sl_sector.proofs.ByteLaws.{IsBytes, length-padded_text, padded_from_parts, prefix_of_zeros, zeros_from_prefix}
 use Rattle.sl_sector.proofs.DeltaLaws.{delta_again, delta_fits, delta_text, length-delta}
 use Rattle.sl_sector.proofs.FieldLaws.{Begins}
-use Rattle.sl_sector.proofs.LeaderLaws.{leader_again, leader_fits, leader_text, length-leader}
+use Rattle.sl_sector.proofs.LeaderLaws.{leader_again, leader_fits, leader_text, length-leader, length-pair_leader, pair_leader_again, pair_leader_text}
+use Rattle.sl_sector.proofs.PairLaws.{length-pair, pair_again, pair_fits, pair_text}
 use Rattle.sl_sector.proofs.RequestLaws.{length-request, request_again, request_fits, request_text}
 use Rattle.sl_sector.proofs.RuleLaws.{Hold, ensured, rules_hold}
 use Rattle.sl_sector.proofs.ValueLaws.{length-value, length-value_bytes, value_again, value_fits, value_text}
 use Rattle.sl_sector.specs.Fields.{u32_at}
 use Rattle.sl_sector.specs.Records.{IsRecord}
-use Rattle.sl_sector.specs.Spelling.{IsDigest, IsSectorSize, Spells, as_record, block_of, block_rules, body_of, check_of, checked_part, decoded, delta_of, delta_rules, field_bytes, fields_end, fields_of, leader_of, leader_rules, magic, padding_from, request_of, request_rules, spelling, under_rules, value_of, value_rules}
+use Rattle.sl_sector.specs.Spelling.{IsDigest, IsSectorSize, Spells, as_record, block_of, block_rules, body_of, check_of, checked_part, decoded, delta_of, delta_rules, field_bytes, fields_end, fields_of, leader_of, leader_rules, magic, padding_from, pair_of, pair_rules, request_of, request_rules, spelling, under_rules, value_of, value_rules}
 use Rattle.sl_sector.specs.declared.sector.Bad.TheVariants.{BadCheck, BadMagic, BadPad}
 use Rattle.sl_sector.specs.declared.sector.Bad.{Bad}
-use Rattle.sl_sector.specs.declared.sector.Rec.TheVariants.{BlockIs, DeltaIs, LeaderIs, RequestIs, ValueIs}
+use Rattle.sl_sector.specs.declared.sector.Rec.TheVariants.{BlockIs, DeltaIs, LeaderIs, PairIs, PairLeaderIs, RequestIs, ValueIs}
 use Rattle.sl_sector.specs.declared.sector.Rec.{Rec}
 use Rattle.sl_text.specs.Names.{padded_text}
 use Rattle.sl_words.proofs.WordLaws.{bind_ok}
@@ -87,6 +88,23 @@ value_found bs fits long begins kind holds =
       short = omega (arith, rules.bytes.0);
     }
 
+-- Of the block of a pair.
+pair_found : (bs : List ℕ) → IsBytes bs → 512 ≤ length bs → take 4 bs ≡ magic → u32_at bs 4 ≡ 6 → Hold (pair_rules bs) → Found bs (PairIs (pair_of bs))
+pair_found bs fits long begins kind holds = record {
+  rules = pair_fits bs holds;
+  text = pair_text bs fits long begins kind holds;
+  short = omega arith;
+}
+
+-- Of the leader of an area with pairs.
+pair_leader_found : (bs : List ℕ) → IsBytes bs → 512 ≤ length bs → take 4 bs ≡ magic → u32_at bs 4 ≡ 7 → Hold (leader_rules bs)
+    → Found bs (PairLeaderIs (leader_of bs))
+pair_leader_found bs fits long begins kind holds = record {
+  rules = leader_fits bs holds;
+  text = pair_leader_text bs fits long begins kind holds;
+  short = omega arith;
+}
+
 -- Of whichever kind the bytes name.
 fields_found : (bs : List ℕ) (k : ℕ) (r : Rec) → IsBytes bs → 512 ≤ length bs → take 4 bs ≡ magic → u32_at bs 4 ≡ k → fields_of k bs ≡ Ok r → Found bs r
 unfolding fields_of
@@ -121,7 +139,21 @@ fields_found bs k r fits long begins kind h =
                                   let q = kind_read _ (value_rules bs) (value_of bs) r (ap (λ (n : ℕ). fields_of n bs) (sym is) ∙ h) in
                                   subst (Found bs) q.1 (value_found bs fits long begins (kind ∙ is) q.0)
                               | inr e5 ↦
-                                  absurd (grind arith)
+                                  elim (cases_Bool (eqb k 6)) [
+                                    | inl e ↦
+                                        let is = eqb-true k 6 e in
+                                        let q = kind_read _ (pair_rules bs) (pair_of bs) r (ap (λ (n : ℕ). fields_of n bs) (sym is) ∙ h) in
+                                        subst (Found bs) q.1 (pair_found bs fits long begins (kind ∙ is) q.0)
+                                    | inr e6 ↦
+                                        elim (cases_Bool (eqb k 7)) [
+                                          | inl e ↦
+                                              let is = eqb-true k 7 e in
+                                              let q = kind_read _ (leader_rules bs) (leader_of bs) r (ap (λ (n : ℕ). fields_of n bs) (sym is) ∙ h) in
+                                              subst (Found bs) q.1 (pair_leader_found bs fits long begins (kind ∙ is) q.0)
+                                          | inr e7 ↦
+                                              absurd (grind arith)
+                                        ]
+                                  ]
                             ]
                       ]
                 ]
@@ -203,6 +235,8 @@ length-field_bytes (LeaderIs l) is = length-leader l is
 length-field_bytes (BlockIs b) is = length-block b
 length-field_bytes (RequestIs q) is = length-request q
 length-field_bytes (ValueIs v) is = length-value v
+length-field_bytes (PairIs p) is = length-pair p is
+length-field_bytes (PairLeaderIs l) is = length-pair_leader l is
 
 -- No text is longer than a delta record.
 pub fields_end_short : (r : Rec) → IsRecord r → fields_end r ≤ 386
@@ -211,6 +245,8 @@ fields_end_short (LeaderIs l) is = omega arith
 fields_end_short (BlockIs b) is = omega arith
 fields_end_short (RequestIs q) is = omega arith
 fields_end_short (ValueIs v) is = omega (arith, is.bytes.0)
+fields_end_short (PairIs p) is = omega arith
+fields_end_short (PairLeaderIs l) is = omega arith
 
 -- A record's text is read as that record, whichever kind it is.
 fields_again : (bs : List ℕ) (r : Rec) → IsRecord r → Begins bs (field_bytes r) (fields_end r) → (take 4 bs ≡ magic) × (fields_of (u32_at bs 4) bs ≡ Ok r)
@@ -219,6 +255,8 @@ fields_again bs (LeaderIs l) is begins = leader_again bs l is begins
 fields_again bs (BlockIs b) is begins = block_again bs b is begins
 fields_again bs (RequestIs q) is begins = request_again bs q is begins
 fields_again bs (ValueIs v) is begins = value_again bs v is begins
+fields_again bs (PairIs p) is begins = pair_again bs p is begins
+fields_again bs (PairLeaderIs l) is begins = pair_leader_again bs l is begins
 
 -- All but the check is as long as it should be.
 pub length-checked_part : (size : ℕ) (r : Rec) → 512 ≤ size → IsRecord r → length (checked_part size r) ≡ size - 32

@@ -7,7 +7,7 @@ use Rattle.sl_sector.proofs.SpellingLaws.{length-spelling}
 use Rattle.sl_sector.specs.Fields.{name_bytes, u32_bytes, u64_bytes}
 use Rattle.sl_sector.specs.Records.{AreBytes, IsRecord}
 use Rattle.sl_sector.specs.Spelling.{IsDigest, IsSectorSize, checked_part, field_bytes, magic, spelling}
-use Rattle.sl_sector.specs.declared.sector.Rec.TheVariants.{BlockIs, DeltaIs, LeaderIs, RequestIs, ValueIs}
+use Rattle.sl_sector.specs.declared.sector.Rec.TheVariants.{BlockIs, DeltaIs, LeaderIs, PairIs, PairLeaderIs, RequestIs, ValueIs}
 use Rattle.sl_sector.specs.declared.sector.Rec.{Rec}
 use Rattle.sl_text.specs.Names.{is_name, is_name_byte, padded_text}
 use Rattle.sl_words.proofs.WordLaws.{and_true}
@@ -99,6 +99,10 @@ are_bytes-field_bytes (LeaderIs l) is =
 are_bytes-field_bytes (BlockIs b) is = simp (are_bytes-append, are_bytes-u32_bytes, are_bytes-u64_bytes, are_bytes-magic)
 are_bytes-field_bytes (RequestIs r) is = simp (are_bytes-append, are_bytes-u32_bytes, are_bytes-u64_bytes, are_bytes-magic)
 are_bytes-field_bytes (ValueIs v) is = simp (are_bytes-append, are_bytes-u32_bytes, are_bytes-u64_bytes, are_bytes-magic, is.bytes.1)
+are_bytes-field_bytes (PairIs p) is =
+    simp (are_bytes-append, are_bytes-u32_bytes, are_bytes-u64_bytes, are_bytes-magic, are_bytes-name_bytes p.lockspace is.lockspace, are_bytes-name_bytes p.resource is.resource)
+are_bytes-field_bytes (PairLeaderIs l) is =
+    simp (are_bytes-append, are_bytes-u32_bytes, are_bytes-u64_bytes, are_bytes-magic, are_bytes-name_bytes l.lockspace is.lockspace, are_bytes-name_bytes l.resource is.resource)
 
 -- A spelling is a sector's bytes.
 pub spelling_is_bytes : (digest : List ℕ → List ℕ) → IsDigest digest → (size : ℕ) (r : Rec) → IsSectorSize size → IsRecord r → AreBytes size (spelling digest size r)

@@ -1,9 +1,10 @@
--- The rules of the five records, field by field.
+-- The rules of the seven records, field by field.
 use Rattle.sl_sector.specs.declared.sector.Block.{Block}
 use Rattle.sl_sector.specs.declared.sector.DeltaRec.{DeltaRec}
 use Rattle.sl_sector.specs.declared.sector.DeltaState.TheVariants.{Free}
 use Rattle.sl_sector.specs.declared.sector.Leader.{Leader}
-use Rattle.sl_sector.specs.declared.sector.Rec.TheVariants.{BlockIs, DeltaIs, LeaderIs, RequestIs, ValueIs}
+use Rattle.sl_sector.specs.declared.sector.PairBlock.{PairBlock}
+use Rattle.sl_sector.specs.declared.sector.Rec.TheVariants.{BlockIs, DeltaIs, LeaderIs, PairIs, PairLeaderIs, RequestIs, ValueIs}
 use Rattle.sl_sector.specs.declared.sector.Rec.{Rec}
 use Rattle.sl_sector.specs.declared.sector.Request.{Request}
 use Rattle.sl_sector.specs.declared.sector.ValueRec.{ValueRec}
@@ -68,6 +69,13 @@ pub record IsValue (v : ValueRec) : Type 0 where
   pub seq : Fits v.seq
   pub bytes : (length v.bytes ≤ 256) × IsTrue (list_all (λ b. nat_lt b 256) v.bytes)
 
+-- A block of a pair.
+pub record IsPair (p : PairBlock) : Type 0 where
+  pub block : IsBlock p.block
+  pub turn : (1 ≤ p.turn) × Fits p.turn
+  pub lockspace : IsTrue (is_name p.lockspace)
+  pub resource : IsTrue (is_name p.resource)
+
 -- What has a spelling.
 abbrev pub IsRecord : Rec → Type 0
 IsRecord (DeltaIs d) = IsDelta d
@@ -75,3 +83,5 @@ IsRecord (LeaderIs l) = IsLeader l
 IsRecord (BlockIs b) = IsBlock b
 IsRecord (RequestIs r) = IsRequest r
 IsRecord (ValueIs v) = IsValue v
+IsRecord (PairIs p) = IsPair p
+IsRecord (PairLeaderIs l) = IsLeader l

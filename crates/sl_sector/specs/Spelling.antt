@@ -5,7 +5,8 @@ use Rattle.sl_sector.specs.declared.sector.Bad.{Bad}
 use Rattle.sl_sector.specs.declared.sector.Block.{Block}
 use Rattle.sl_sector.specs.declared.sector.DeltaRec.{DeltaRec}
 use Rattle.sl_sector.specs.declared.sector.Leader.{Leader}
-use Rattle.sl_sector.specs.declared.sector.Rec.TheVariants.{BlockIs, DeltaIs, LeaderIs, RequestIs, ValueIs}
+use Rattle.sl_sector.specs.declared.sector.PairBlock.{PairBlock}
+use Rattle.sl_sector.specs.declared.sector.Rec.TheVariants.{BlockIs, DeltaIs, LeaderIs, PairIs, PairLeaderIs, RequestIs, ValueIs}
 use Rattle.sl_sector.specs.declared.sector.Rec.{Rec}
 use Rattle.sl_sector.specs.declared.sector.Request.{Request}
 use Rattle.sl_sector.specs.declared.sector.ValueRec.{ValueRec}
@@ -15,10 +16,10 @@ use Rattle.sl_words.specs.Results.{ensure, ◌>>=◌}
 use Rattle.sl_words.specs.Words.{all_zero, choose, same_truth}
 use Rattle.std.specs.Int.{is_in_range}
 use Rattle.std.specs.List.{list_all}
-use Rattle.std.specs.Prelude.{Bool, Err, IsTrue, List, None, Ok, Option, Result, Some, bytes_eq, drop, false, length, nat_le, nat_lt, not, position, take, true, unwrap_or, [], ℕ, ◌&&◌, ◌++◌, ◌+◌, ◌-◌, ◌==◌, ◌||◌, ◌↔◌, ◌∷◌, ◌≡◌, ◌≤◌}
+use Rattle.std.specs.Prelude.{Bool, Err, IsTrue, List, None, Ok, Option, Result, Some, bytes_eq, drop, false, length, nat_le, nat_lt, not, position, take, true, unwrap_or, [], ℕ, ◌%◌, ◌&&◌, ◌++◌, ◌+◌, ◌-◌, ◌==◌, ◌||◌, ◌↔◌, ◌∷◌, ◌≡◌, ◌≤◌}
 pub use Rattle.sl_sector.specs.Fields.{delta_code, delta_state, flag, is_absent_name, is_host_field, is_name_field, name_at, name_bytes, name_field}
 unfoldable pub use Rattle.sl_sector.specs.Fields.{u32_at, u32_bytes, u64_at, u64_bytes}
-pub use Rattle.sl_sector.specs.Records.{AreBytes, Fits, IsBlock, IsDelta, IsLeader, IsRecord, IsRequest, IsValue}
+pub use Rattle.sl_sector.specs.Records.{AreBytes, Fits, IsBlock, IsDelta, IsLeader, IsPair, IsRecord, IsRequest, IsValue}
 
 -- ---- the bytes of a record
 
@@ -26,20 +27,30 @@ pub use Rattle.sl_sector.specs.Records.{AreBytes, Fits, IsBlock, IsDelta, IsLead
 unfoldable pub magic : List ℕ
 magic = 0x53 ∷ 0x4c ∷ 0x4b ∷ 0x31 ∷ []
 
+-- The magic, a record's number, and the fields of a leader.
+abbrev pub leader_fields : ℕ → Leader → List ℕ
+leader_fields kind l =
+    magic ++ u32_bytes kind ++ u32_bytes (flag l.held) ++ u32_bytes l.num_hosts ++ u64_bytes l.lver ++ u64_bytes l.generation
+    ++ u32_bytes l.owner ++ name_bytes l.lockspace ++ name_bytes l.resource
+
+-- The magic, a record's number, and the fields of a block.
+abbrev pub block_fields : ℕ → Block → List ℕ
+block_fields kind b =
+    magic ++ u32_bytes kind ++ u32_bytes b.host ++ u32_bytes (flag b.shared) ++ u64_bytes b.lver ++ u64_bytes b.mbal
+    ++ u64_bytes b.bal ++ u64_bytes b.inp_gen ++ u64_bytes b.mode_gen ++ u32_bytes b.inp
+
 -- The magic, the record's number, and its fields.
 unfoldable pub field_bytes : Rec → List ℕ
 field_bytes (DeltaIs d) =
     magic ++ u32_bytes 1 ++ u32_bytes (delta_code d.state) ++ u32_bytes d.id ++ u64_bytes d.generation ++ u64_bytes d.seq
     ++ u64_bytes d.stamp ++ name_bytes d.lockspace ++ name_bytes (unwrap_or d.host []) ++ d.bitmap
-field_bytes (LeaderIs l) =
-    magic ++ u32_bytes 2 ++ u32_bytes (flag l.held) ++ u32_bytes l.num_hosts ++ u64_bytes l.lver ++ u64_bytes l.generation
-    ++ u32_bytes l.owner ++ name_bytes l.lockspace ++ name_bytes l.resource
-field_bytes (BlockIs b) =
-    magic ++ u32_bytes 3 ++ u32_bytes b.host ++ u32_bytes (flag b.shared) ++ u64_bytes b.lver ++ u64_bytes b.mbal
-    ++ u64_bytes b.bal ++ u64_bytes b.inp_gen ++ u64_bytes b.mode_gen ++ u32_bytes b.inp
+field_bytes (LeaderIs l) = leader_fields 2 l
+field_bytes (BlockIs b) = block_fields 3 b
 field_bytes (RequestIs r) = magic ++ u32_bytes 4 ++ u32_bytes r.force ++ u32_bytes r.host ++ u64_bytes r.lver
 field_bytes (ValueIs v) =
     magic ++ u32_bytes 5 ++ u32_bytes (length v.bytes) ++ u32_bytes v.host ++ u64_bytes v.lver ++ u64_bytes v.seq ++ v.bytes
+field_bytes (PairIs p) = block_fields 6 p.block ++ u64_bytes p.turn ++ name_bytes p.lockspace ++ name_bytes p.resource
+field_bytes (PairLeaderIs l) = leader_fields 7 l
 
 -- Where the fields end.
 abbrev pub fields_end : Rec → ℕ
@@ -48,6 +59,8 @@ fields_end (LeaderIs l) = 132
 fields_end (BlockIs b) = 60
 fields_end (RequestIs r) = 24
 fields_end (ValueIs v) = 32 + length v.bytes
+fields_end (PairIs p) = 164
+fields_end (PairLeaderIs l) = 132
 
 -- All but the check: the fields, and zeros up to 32 bytes before the end.
 unfoldable pub checked_part : ℕ → Rec → List ℕ
@@ -131,6 +144,17 @@ value_rules bs =
     ∷ (16, is_number (u64_at bs 16))
     ∷ (24, is_number (u64_at bs 24)) ∷ []
 
+-- The rules of the fields that a pair's block has behind a block's: its turn and its names.
+unfoldable pub own_rules : List ℕ → List (ℕ × Bool)
+own_rules bs =
+    (60, is_number (u64_at bs 60) && not (u64_at bs 60 == 0))
+    ∷ (68, is_name_field bs 68)
+    ∷ (116, is_name_field bs 116) ∷ []
+
+-- The rules of a pair block's fields: a block's, and these.
+abbrev pub pair_rules : List ℕ → List (ℕ × Bool)
+pair_rules bs = block_rules bs ++ own_rules bs
+
 -- ---- the records that a sector's fields give; each is meant only where no rule fails
 
 -- The delta record. A record that was never claimed names no host.
@@ -179,6 +203,13 @@ request_of bs = record { force = u32_at bs 8; host = u32_at bs 12; lver = u64_at
 abbrev pub value_of : List ℕ → ValueRec
 value_of bs = record { host = u32_at bs 12; lver = u64_at bs 16; seq = u64_at bs 24; bytes = take (u32_at bs 8) (drop 32 bs) }
 
+-- The block of a pair: a block, and its own fields.
+abbrev pub pair_with : List ℕ → Block → PairBlock
+pair_with bs b = record { block = b; turn = u64_at bs 60; lockspace = name_at bs 68; resource = name_at bs 116 }
+
+abbrev pub pair_of : List ℕ → PairBlock
+pair_of bs = pair_with bs (block_of bs)
+
 -- ---- reading a sector: the first test that fails, or the record
 
 -- The value where each rule holds, else the first field whose rule fails.
@@ -186,7 +217,7 @@ abbrev pub under_rules : {A : Type 0} → List (ℕ × Bool) → A → Result A 
 under_rules [] a = Ok a
 under_rules (rule ∷ rules) a = ensure rule.1 (BadField rule.0) >>= λ _. under_rules rules a
 
--- What was read of one kind, as one of the five.
+-- What was read of one kind, as one of the seven.
 abbrev pub as_record : {A : Type 0} → (A → Rec) → Result A Bad → Result Rec Bad
 as_record wrap (Ok a) = Ok (wrap a)
 as_record wrap (Err bad) = Err bad
@@ -206,7 +237,18 @@ fields_of kind bs =
                       elim (kind == 4) [
                         | true ↦ as_record RequestIs (under_rules (request_rules bs) (request_of bs))
                         | false ↦
-                            elim (kind == 5) [ true ↦ as_record ValueIs (under_rules (value_rules bs) (value_of bs)) | false ↦ Err BadKind ]
+                            elim (kind == 5) [
+                              | true ↦ as_record ValueIs (under_rules (value_rules bs) (value_of bs))
+                              | false ↦
+                                  elim (kind == 6) [
+                                    | true ↦ as_record PairIs (under_rules (pair_rules bs) (pair_of bs))
+                                    | false ↦
+                                        elim (kind == 7) [
+                                          | true ↦ as_record PairLeaderIs (under_rules (leader_rules bs) (leader_of bs))
+                                          | false ↦ Err BadKind
+                                        ]
+                                  ]
+                            ]
                       ]
                 ]
           ]
@@ -263,3 +305,18 @@ request_in r = None
 abbrev pub value_in : Result Rec Bad → Option ValueRec
 value_in (Ok (ValueIs v)) = Some v
 value_in r = None
+
+-- Whether a turn stands in the first sector of a pair.
+abbrev pub is_first_turn : ℕ → Bool
+is_first_turn turn = turn % 2 == 1
+
+-- That host's block in the first or the second sector of its pair; another kind, another host's, or a turn of the other sector counts
+-- as torn.
+abbrev pub pair_in : ℕ → Bool → Result Rec Bad → Option PairBlock
+pair_in host first (Ok (PairIs p)) = choose (p.block.host == host && same_truth (is_first_turn p.turn) first) p
+pair_in host first r = None
+
+-- The leader of an area with pairs; another kind counts as torn.
+abbrev pub pair_leader_in : Result Rec Bad → Option Leader
+pair_leader_in (Ok (PairLeaderIs l)) = Some l
+pair_leader_in r = None

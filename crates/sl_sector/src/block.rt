@@ -3,7 +3,7 @@
 ghost use Rattle.sha2.specs.Sha256.{sha256};
 ghost use Rattle.std.specs.Prelude.{length, take, ◌≡◌, ◌≤◌};
 ghost use Rattle.sl_sector.specs.Records.{IsBlock};
-ghost use Rattle.sl_sector.specs.Spelling.{IsSectorSize, block_of, block_rules, field_bytes, spelling, under_rules};
+ghost use Rattle.sl_sector.specs.Spelling.{IsSectorSize, block_fields, block_of, block_rules, spelling, under_rules};
 ghost use Rattle.sl_sector.specs.declared.sector.Rec.TheVariants.{BlockIs};
 
 use crate::fields::{
@@ -20,23 +20,22 @@ pub(crate) const BLOCK_END: usize = 60;
 
 impl Block {
     /// Writes the sector that spells this block over the whole buffer, of 512 to 4096 bytes.
-    #[tactic(auto, unfolding(crate::specs::Spelling::spelling, crate::specs::Spelling::checked_part))]
+    #[tactic(auto, unfolding(crate::specs::Spelling::spelling, crate::specs::Spelling::checked_part, crate::specs::Spelling::field_bytes))]
     pub fn encode_into(&self, buffer: &mut [u8])
         requires size { IsSectorSize (length buffer.old) }
         requires rules { IsBlock self.now }
         ensures { buffer.new ≡ spelling sha256 (length buffer.new) (BlockIs self.now) }
     {
-        self.put_fields(buffer);
+        self.put_fields(buffer, BLOCK_KIND);
         finish(buffer, BLOCK_END);
     }
 
-    /// Writes the magic, the number and the fields.
-    #[tactic(auto, unfolding(crate::specs::Spelling::field_bytes))]
-    fn put_fields(&self, buffer: &mut [u8])
+    /// Writes the magic, the number of a record that has a block's fields, and these.
+    pub(crate) fn put_fields(&self, buffer: &mut [u8], kind: u32)
         requires { 512 ≤ length buffer.old }
-        ensures { take 60 buffer.new ≡ field_bytes (BlockIs self.now) }
+        ensures { take 60 buffer.new ≡ block_fields kind self.now }
     {
-        begin(buffer, BLOCK_KIND);
+        begin(buffer, kind);
         put_u32(buffer, 8, self.host);
         put_u32(buffer, 12, u32::from(self.shared));
         put_u64(buffer, 16, self.lver);

@@ -14,7 +14,8 @@ use crate::block::{BLOCK_END, BLOCK_KIND, block_at};
 use crate::delta::{DELTA_END, DELTA_KIND, delta_at};
 use crate::fields::u32_at;
 use crate::frame::{CHECK_SIZE, MAGIC};
-use crate::leader::{LEADER_END, LEADER_KIND, leader_at};
+use crate::leader::{LEADER_END, LEADER_KIND, PAIR_LEADER_KIND, leader_at};
+use crate::pair::{PAIR_END, PAIR_KIND, pair_at};
 use crate::request::{REQUEST_END, REQUEST_KIND, request_at};
 use crate::sector::{Bad, Rec};
 use crate::value::{VALUE_KIND, VALUE_START, value_at};
@@ -43,6 +44,8 @@ fn fields_at(sector: &[u8]) -> Result<Rec, Bad>
         BLOCK_KIND => Ok(Rec::BlockIs(block_at(sector)?)),
         REQUEST_KIND => Ok(Rec::RequestIs(request_at(sector)?)),
         VALUE_KIND => Ok(Rec::ValueIs(value_at(sector)?)),
+        PAIR_KIND => Ok(Rec::PairIs(pair_at(sector)?)),
+        PAIR_LEADER_KIND => Ok(Rec::PairLeaderIs(leader_at(sector)?)),
         _ => Err(Bad::BadKind),
     }
 }
@@ -57,6 +60,8 @@ fn fields_end(record: &Rec) -> usize
         Rec::BlockIs(_) => BLOCK_END,
         Rec::RequestIs(_) => REQUEST_END,
         Rec::ValueIs(value) => VALUE_START + value.bytes.as_slice().len(),
+        Rec::PairIs(_) => PAIR_END,
+        Rec::PairLeaderIs(_) => LEADER_END,
     }
 }
 

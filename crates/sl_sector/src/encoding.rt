@@ -1,4 +1,4 @@
-//! Writing a sector: each of the five records over a whole buffer.
+//! Writing a sector: each of the seven records over a whole buffer.
 
 ghost use Rattle.sha2.specs.Sha256.{sha256};
 ghost use Rattle.std.specs.Prelude.{length, ◌≡◌};
@@ -20,6 +20,8 @@ impl Rec {
             Rec::BlockIs(block) => block.encode_into(buffer),
             Rec::RequestIs(request) => request.encode_into(buffer),
             Rec::ValueIs(value) => value.encode_into(buffer),
+            Rec::PairIs(pair) => pair.encode_into(buffer),
+            Rec::PairLeaderIs(leader) => leader.encode_paired_into(buffer),
         }
     }
 }

@@ -1,10 +1,11 @@
-//! The leader's bytes: who holds a resource, or held it last.
+//! The leader's bytes: who holds a resource, or held it last. Where blocks have pairs of sectors its record has another number, and the
+//! same fields: a program for the one kind of areas finds no leader in the other.
 
 ghost use Rattle.sha2.specs.Sha256.{sha256};
 ghost use Rattle.std.specs.Prelude.{length, take, ◌+◌, ◌≡◌, ◌≤◌};
 ghost use Rattle.sl_sector.specs.Records.{IsLeader};
-ghost use Rattle.sl_sector.specs.Spelling.{IsSectorSize, field_bytes, leader_of, leader_rules, spelling, under_rules};
-ghost use Rattle.sl_sector.specs.declared.sector.Rec.TheVariants.{LeaderIs};
+ghost use Rattle.sl_sector.specs.Spelling.{IsSectorSize, leader_fields, leader_of, leader_rules, spelling, under_rules};
+ghost use Rattle.sl_sector.specs.declared.sector.Rec.TheVariants.{LeaderIs, PairLeaderIs};
 
 use crate::fields::{
     agree, implies, is_host, is_number, name_at, put_name, put_u32, put_u64, rule, rules, u32_at,
@@ -16,29 +17,42 @@ use crate::sector::{Bad, Leader};
 /// The record's number.
 pub(crate) const LEADER_KIND: u32 = 2;
 
+/// The record's number where blocks have pairs.
+pub(crate) const PAIR_LEADER_KIND: u32 = 7;
+
 /// Where the fields end.
 pub(crate) const LEADER_END: usize = 132;
 
 impl Leader {
     /// Writes the sector that spells this leader over the whole buffer, of 512 to 4096 bytes.
-    #[tactic(auto, unfolding(crate::specs::Spelling::spelling, crate::specs::Spelling::checked_part))]
+    #[tactic(auto, unfolding(crate::specs::Spelling::spelling, crate::specs::Spelling::checked_part, crate::specs::Spelling::field_bytes))]
     pub fn encode_into(&self, buffer: &mut [u8])
         requires size { IsSectorSize (length buffer.old) }
         requires rules { IsLeader self.now }
         ensures { buffer.new ≡ spelling sha256 (length buffer.new) (LeaderIs self.now) }
     {
-        self.put_fields(buffer);
+        self.put_fields(buffer, LEADER_KIND);
         finish(buffer, LEADER_END);
     }
 
-    /// Writes the magic, the number and the fields.
-    #[tactic(auto, unfolding(crate::specs::Spelling::field_bytes))]
-    fn put_fields(&self, buffer: &mut [u8])
+    /// Writes the sector that spells this leader as that of an area with pairs over the whole buffer, of 512 to 4096 bytes.
+    #[tactic(auto, unfolding(crate::specs::Spelling::spelling, crate::specs::Spelling::checked_part, crate::specs::Spelling::field_bytes))]
+    pub fn encode_paired_into(&self, buffer: &mut [u8])
+        requires size { IsSectorSize (length buffer.old) }
+        requires rules { IsLeader self.now }
+        ensures { buffer.new ≡ spelling sha256 (length buffer.new) (PairLeaderIs self.now) }
+    {
+        self.put_fields(buffer, PAIR_LEADER_KIND);
+        finish(buffer, LEADER_END);
+    }
+
+    /// Writes the magic, the number of a record that has a leader's fields, and these.
+    fn put_fields(&self, buffer: &mut [u8], kind: u32)
         requires size { 512 ≤ length buffer.old }
         requires rules { IsLeader self.now }
-        ensures { take 132 buffer.new ≡ field_bytes (LeaderIs self.now) }
+        ensures { take 132 buffer.new ≡ leader_fields kind self.now }
     {
-        begin(buffer, LEADER_KIND);
+        begin(buffer, kind);
         put_u32(buffer, 8, u32::from(self.held));
         put_u32(buffer, 12, self.num_hosts);
         put_u64(buffer, 16, self.lver);

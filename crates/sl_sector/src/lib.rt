@@ -1,4 +1,4 @@
-//! The sectors of a shared disk: five records, their rules, their bytes and their texts.
+//! The sectors of a shared disk: seven records, their rules, their bytes and their texts.
 //!
 //! `Rec::encode_into` writes the one spelling of a record over a sector, and `decode` gives the record that a sector's bytes spell, or
 //! the first test that fails. Both are proved against one definition, the spelling: bytes spell at most one record, each record is
@@ -15,6 +15,7 @@ mod fields;
 mod frame;
 pub mod laws;
 mod leader;
+mod pair;
 pub mod places;
 mod request;
 pub mod same;
@@ -23,9 +24,11 @@ mod texts;
 mod value;
 
 pub use decoding::decode;
-pub use places::{block_in, delta_in, leader_in, request_in, value_in};
+pub use places::{
+    block_in, delta_in, is_first_turn, leader_in, pair_in, pair_leader_in, request_in, value_in,
+};
 pub use same::same_record;
 pub use sector::{
-    Bad, Block, DeltaRec, DeltaState, Gen, HostId, Leader, Owner, Rec, Request, ValueRec,
+    Bad, Block, DeltaRec, DeltaState, Gen, HostId, Leader, Owner, PairBlock, Rec, Request, ValueRec,
 };
 pub use texts::{push_bad_text, push_record_text};

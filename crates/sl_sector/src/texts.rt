@@ -4,10 +4,10 @@ ghost use Rattle.std.specs.Prelude.{IfOk, OnErr, OnOk, [], decimal, flat_map, le
 ghost use Rattle.sl_sector.specs.Fields as spec;
 ghost use Rattle.sl_sector.specs.RecordTexts as texts;
 ghost use Rattle.sl_text.specs.Forms.{spaced};
-ghost use Rattle.sl_sector.specs.declared.sector.Rec.TheVariants.{BlockIs, DeltaIs, LeaderIs, RequestIs, ValueIs};
+ghost use Rattle.sl_sector.specs.declared.sector.Rec.TheVariants.{BlockIs, DeltaIs, PairIs, RequestIs, ValueIs};
 
 use crate::bits::bits_of;
-use crate::sector::{Bad, Block, DeltaRec, DeltaState, Leader, Rec, Request, ValueRec};
+use crate::sector::{Bad, Block, DeltaRec, DeltaState, Leader, PairBlock, Rec, Request, ValueRec};
 use sl_text::Name;
 use std::alloc::{AllocError, Global};
 
@@ -20,7 +20,7 @@ fn held_word(held: bool) -> &'static str
 
 /// The text of a leader.
 fn leader_text(alloc: Global, leader: &Leader) -> Result<String, AllocError>
-    ensures { IfOk result (λ text. string_bytes text ≡ texts.record_text (LeaderIs leader.now)) }
+    ensures { IfOk result (λ text. string_bytes text ≡ spaced (texts.leader_words leader.now)) }
 {
     let state = held_word(leader.held);
     format!(in alloc;
@@ -61,6 +61,18 @@ fn block_text(alloc: Global, block: &Block) -> Result<String, AllocError>
     let mode = flag(block.shared);
     format!(in alloc;
         "block {} lver {} mbal {} bal {} inp {} {} mode {mode} {}",
+        block.host, block.lver, block.mbal, block.bal, block.inp, block.inp_gen, block.mode_gen
+    )
+}
+
+/// The text of a block of a pair.
+fn pair_text(alloc: Global, pair: &PairBlock) -> Result<String, AllocError>
+    ensures { IfOk result (λ text. string_bytes text ≡ texts.record_text (PairIs pair.now)) }
+{
+    let (block, turn) = (pair.block, pair.turn);
+    let mode = flag(block.shared);
+    format!(in alloc;
+        "block {} turn {turn} lver {} mbal {} bal {} inp {} {} mode {mode} {}",
         block.host, block.lver, block.mbal, block.bal, block.inp, block.inp_gen, block.mode_gen
     )
 }
@@ -174,6 +186,8 @@ fn text_of(alloc: Global, record: &Rec) -> Result<Vec<u8>, AllocError>
         Rec::BlockIs(block) => Ok(block_text(alloc, block)?.into_bytes()),
         Rec::RequestIs(request) => Ok(request_text(alloc, request)?.into_bytes()),
         Rec::ValueIs(value) => Ok(value_text(alloc, value)?.into_bytes()),
+        Rec::PairIs(pair) => Ok(pair_text(alloc, pair)?.into_bytes()),
+        Rec::PairLeaderIs(leader) => Ok(leader_text(alloc, leader)?.into_bytes()),
     }
 }
 

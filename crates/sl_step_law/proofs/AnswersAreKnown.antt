@@ -21,7 +21,7 @@ use Rattle.sl_sector.specs.Spelling.{IsSectorSize, decoded, magic}
 use Rattle.sl_sector.specs.declared.sector.Bad.TheVariants.{BadMagic}
 use Rattle.sl_sector.specs.declared.sector.Bad.{Bad}
 use Rattle.sl_sector.specs.declared.sector.DeltaRec.{DeltaRec}
-use Rattle.sl_sector.specs.declared.sector.Rec.TheVariants.{BlockIs, DeltaIs, LeaderIs, RequestIs, ValueIs}
+use Rattle.sl_sector.specs.declared.sector.Rec.TheVariants.{BlockIs, DeltaIs, LeaderIs, PairIs, PairLeaderIs, RequestIs, ValueIs}
 use Rattle.sl_sector.specs.declared.sector.Rec.{Rec}
 use Rattle.sl_trace.specs.Sessions.{is_survey_purpose, session_numbered}
 use Rattle.sl_step_law.proofs.CallsOfMembers.{calls_are_theirs}
@@ -78,6 +78,8 @@ not_found id (Ok (LeaderIs l)) other = refl
 not_found id (Ok (BlockIs b)) other = refl
 not_found id (Ok (RequestIs r)) other = refl
 not_found id (Ok (ValueIs v)) other = refl
+not_found id (Ok (PairIs p)) other = refl
+not_found id (Ok (PairLeaderIs l)) other = refl
 not_found id (Err bad) other = refl
 
 id_sectors : (g : Layout) (bytes : List ℕ) → IsGeometry (sizes_in g) → length bytes ≡ g.hosts * g.sector → IsTrue (list_all (λ b. nat_lt b 256) bytes) → AreIdSectors g bytes

@@ -1,7 +1,7 @@
 -- What a call asks for which no law says it: each act keeps that it does what its purpose says.
 use Rattle.sl_acts.proofs.Additions.{contains_last}
 use Rattle.sl_acts.proofs.LoopsKeep.{for_each_keeps, when_keeps}
-use Rattle.sl_acts.specs.Acts.{Acts}
+use Rattle.sl_acts.specs.Acts.{Acts, next_of_conversion, next_of_release, next_of_settling}
 use Rattle.sl_area.specs.Places.{delta_offset, request_offset}
 use Rattle.sl_due.specs.DueAnswers.{set_reply}
 use Rattle.sl_due.specs.DueCommands.{answer_line, carry_decision}
@@ -16,8 +16,7 @@ use Rattle.sl_due_facts.proofs.Jobs.EffectsAreAllowed.{Allows, DecisionAllowed, 
 use Rattle.sl_due_facts.proofs.Jobs.NearlyPlainActs.{AnyMove, AnyStart, Anything}
 use Rattle.sl_due_facts.proofs.Jobs.RepliesComeAfter.{on_bool, on_option}
 use Rattle.sl_trace.specs.Jobs.{job_of_start}
-use Rattle.sl_trace.specs.LeaseWork.{convert_next, lease_place, release_next, settle_next}
-use Rattle.sl_trace.specs.Leases.{known, spot_of, spot_of_call}
+use Rattle.sl_trace.specs.Leases.{spot_of, spot_of_call}
 use Rattle.sl_trace.specs.declared.lease.LeaseNext.{LeaseNext}
 use Rattle.sl_trace.specs.declared.lease.LeaseNext.TheVariants.{AnswerJob, BecomeExclusive, BecomeShared, GrantJob, Nothing as No_lease, ReadFor, WriteBlock, WriteLeader}
 use Rattle.sl_plain.proofs.Lists.{contains_none}
@@ -36,7 +35,8 @@ use Rattle.sl_trace.specs.declared.command.Command.TheVariants.{Acquire, AddLock
 use Rattle.sl_trace.specs.declared.effects.Call.{Call}
 use Rattle.sl_trace.specs.declared.effects.JoinStep.TheVariants.{FirstRead}
 use Rattle.sl_trace.specs.declared.effects.LeaseStep.{LeaseStep}
-use Rattle.sl_trace.specs.declared.effects.LeaseStep.TheVariants.{ClearMode, FreeLeader, Phase1Read, Phase1Write, Phase2Read, Phase2Write, ReadArea, ReadBeforeFree, SetMode, TakeLeader}
+use Rattle.sl_trace.specs.declared.effects.LeaseRead.TheVariants.{OfArea, OfBlock, OfFree, OfPhase1, OfPhase2}
+use Rattle.sl_trace.specs.declared.effects.LeaseStep.TheVariants.{ClearMode, FreeLeader, Phase1Read, Phase1Write, Phase2Read, Phase2Write, ReadAgain, ReadArea, ReadBeforeBlock, ReadBeforeFree, SetMode, TakeLeader}
 use Rattle.sl_trace.specs.declared.effects.Move.TheVariants.{Unregister}
 use Rattle.sl_trace.specs.declared.effects.Op.{Op}
 use Rattle.sl_trace.specs.declared.effects.Op.TheVariants.{ReadSectors}
@@ -97,6 +97,12 @@ free_plain y s l now k =
 reads_plain : (y : Step) (s : Session) (at : Spot) (work : Work) (step : LeaseStep) → ReadAllowed NoOther y s at work step
 reads_plain y s at work (ReadArea name) = tt
 reads_plain y s at work ReadBeforeFree = tt
+reads_plain y s at work ReadBeforeBlock = tt
+reads_plain y s at work (ReadAgain (OfArea name)) = tt
+reads_plain y s at work (ReadAgain OfFree) = tt
+reads_plain y s at work (ReadAgain OfBlock) = tt
+reads_plain y s at work (ReadAgain OfPhase1) = tt
+reads_plain y s at work (ReadAgain OfPhase2) = tt
 reads_plain y s at work Phase1Write = tt
 reads_plain y s at work Phase1Read = tt
 reads_plain y s at work Phase2Write = tt
@@ -131,7 +137,7 @@ lease_plain y s at work (WriteLeader step l) = tt
 lease_plain y s at work (AnswerJob r) = λ j is. tt
 lease_plain y s at work (GrantJob mode lver) = λ j c is reads. grant_plain j lver c
 lease_plain y s at work (BecomeShared lver l) = ((λ j is. tt), tt)
-lease_plain y s at work (BecomeExclusive lver b) = ((λ j is. tt), λ g. tt)
+lease_plain y s at work (BecomeExclusive lver b) = ((λ j is. tt), λ z same. tt)
 
 request_plain : (x : Step) (s : Session) (j : ℕ) (bytes : List ℕ) (c : Command) → RequestAllowed Anything NoOther x s j bytes c
 request_plain x s j bytes (Request r asked force) = ((λ why is. tt), refl)
@@ -157,9 +163,9 @@ decision_plain K y j c (Joins n a) = λ z is. tt
 decision_plain K y j c (Leaves s) = (tt, λ z k i there. tt)
 decision_plain K y j c (ReadsArea s r) = tt
 decision_plain K y j c (Shares s lver) = grant_plain j lver c
-decision_plain K y j c (GivesUp s g) = (tt, lease_plain (add_end (end_of g) y) s (spot_of_grant g) (ForJob j) (release_next (lease_place y.setting s) (known y.setting (seen (add_end (end_of g) y)) s (spot_of_grant g)) g.mode g.lver))
+decision_plain K y j c (GivesUp s g) = (tt, lease_plain (add_end (end_of g) y) s (spot_of_grant g) (ForJob j) (next_of_release y.setting (seen (add_end (end_of g) y)) s (spot_of_grant g) g))
 decision_plain K y j c (TakesOver s g) = grant_plain j g.lver c
-decision_plain K y j c (ConvertsTo s r mode) = lease_plain y s (spot_of r) (ForJob j) (convert_next (known y.setting (seen y) s (spot_of r)) mode r.name)
+decision_plain K y j c (ConvertsTo s r mode) = lease_plain y s (spot_of r) (ForJob j) (next_of_conversion y.setting (seen y) s (spot_of r) mode r.name)
 decision_plain K y j c (Requests s r) = tt
 decision_plain K y j c (SetsValue s at v) = refl
 decision_plain K y j c (GetsValue s at) = refl
@@ -263,6 +269,6 @@ asks_are_kept =
           (delta AllAsk AllAsk Anything NoOther AnyStart AnyMove plain_effects x s (next_renewal (delta_of_session x.setting s) x.reading (delta_known x.setting (seen x) s) (bits_due x.setting (calls_of (seen x) s) x.reading))
           (renewal_plain x s (delta_of_session x.setting s) x.reading (delta_known x.setting (seen x) s) (bits_due x.setting (calls_of (seen x) s) x.reading)) h);
       settles = λ x s spot has wake active whole none h.
-          (lease AllAsk AllAsk Anything NoOther AnyStart AnyMove plain_effects x s spot Settling (settle_next (lease_place x.setting s) (known x.setting (seen x) s spot))
-          (lease_plain x s spot Settling (settle_next (lease_place x.setting s) (known x.setting (seen x) s spot))) h);
+          (lease AllAsk AllAsk Anything NoOther AnyStart AnyMove plain_effects x s spot Settling (next_of_settling x.setting (seen x) s spot)
+          (lease_plain x s spot Settling (next_of_settling x.setting (seen x) s spot)) h);
     }

@@ -20,7 +20,7 @@ use Rattle.sl_step_law.proofs.BlocksAreInstances.{block_instance, own_above, wri
 use Rattle.sl_step_law.proofs.LooksAreOwed.{ended_wrote}
 use Rattle.sl_step_law.specs.Standing.{is_look}
 use Rattle.sl_trace.specs.Traces.{Setting, Submitted, Trace, record_of, submitted}
-use Rattle.sl_trace.specs.declared.effects.LeaseStep.TheVariants.{ClearMode, FreeLeader, Phase1Read, Phase1Write, Phase2Read, Phase2Write, ReadArea, ReadBeforeFree, SetMode, TakeLeader}
+use Rattle.sl_trace.specs.declared.effects.LeaseStep.TheVariants.{ClearMode, FreeLeader, Phase1Read, Phase1Write, Phase2Read, Phase2Write, ReadAgain, ReadArea, ReadBeforeBlock, ReadBeforeFree, SetMode, TakeLeader}
 use Rattle.sl_trace.specs.declared.effects.LeaseStep.{LeaseStep}
 use Rattle.sl_trace.specs.declared.effects.Op.TheVariants.{ReadSectors, WriteRecord}
 use Rattle.sl_trace.specs.declared.effects.Purpose.TheVariants.{Lease}
@@ -53,14 +53,14 @@ way_of w (m ∷ ms) h d there = by (contains_cases m ms d there) (way_of w ms h.
   by (inr more) before = (let z = before more in record { rest = z.rest; way = z.way; ways = z.ways; wrote = λ some. more_wrote m ms (z.wrote some) })
 
 -- A ballot that ended did so in an instance.
-ended_above : (w : WayContext) (ms : List Submitted) → Ways w ms → (n : ℕ) (o : Owner) → Contains (ended_ballots w.layout ms) (n, o) → 1 ≤ n
-ended_above w [] h n o there = absurd (contains_none (n, o) there)
-ended_above w (m ∷ ms) h n o there = by (ended_ballot w.layout m ms) refl there (ended_above w ms h.1 n o) where
+ended_above : (w : WayContext) → w.layout.paired ≡ false → (ms : List Submitted) → Ways w ms → (n : ℕ) (o : Owner) → Contains (ended_ballots w.layout ms) (n, o) → 1 ≤ n
+ended_above w plain [] h n o there = absurd (contains_none (n, o) there)
+ended_above w plain (m ∷ ms) h n o there = by (ended_ballot w.layout m ms) refl there (ended_above w plain ms h.1 n o) where
   by : (e : Option (ℕ × Owner)) → ended_ballot w.layout m ms ≡ e → Contains (elim e as (λ x. List (ℕ × Owner)) [ None ↦ ended_ballots w.layout ms | Some p ↦ p ∷ ended_ballots w.layout ms ]) (n, o)
       → (Contains (ended_ballots w.layout ms) (n, o) → 1 ≤ n) → 1 ≤ n
   by None is inside before = before inside
   by (Some p) is inside before = elim (contains_cases p (ended_ballots w.layout ms) (n, o) inside) [
-    | inl same ↦ (let e : EndsBy w.layout m ms n o = ends_by w.layout m ms n o (is ∙ ap (λ z. Some z) same) in subst (λ k. 1 ≤ k) e.lver (own_above w ms h.1 e.own e.known))
+    | inl same ↦ (let e : EndsBy w.layout m ms n o = ends_by w.layout m ms n o (is ∙ ap (λ z. Some z) same) in subst (λ k. 1 ≤ k) e.lver (own_above w plain ms h.1 e.own e.known))
     | inr rest ↦ before rest
   ]
 
@@ -79,9 +79,9 @@ block_lver d b op =
 not_read : {P : Type 0} (d : Submitted) (n : ℕ) → sectors_of d.call.op ≡ None → d.call.op ≡ ReadSectors n → P
 not_read d n none op = absurd (none_some n (sym none ∙ ap sectors_of op))
 
-module _ (st : Setting) (t : Trace) (s : Session) (at : Spot) (order : Orderly st t) (ways : Ways (way_context st t s) (lease_calls st t s at)) (d : Submitted) (there : Contains (lease_calls st t s at) d) where
+module _ (st : Setting) (plain : st.layout.paired ≡ false) (t : Trace) (s : Session) (at : Spot) (order : Orderly st t) (ways : Ways (way_context st t s) (lease_calls st t s at)) (d : Submitted) (there : Contains (lease_calls st t s at) d) where
   of_block : (b : Block) → d.call.op ≡ WriteRecord (BlockIs b) → IsInstance (lver_written d)
-  of_block b op = subst IsInstance (block_lver d b op) (block_instance st t s at d b order ways there (block_is d b op)).0
+  of_block b op = subst IsInstance (block_lver d b op) (block_instance st plain t s at d b order ways there (block_is d b op)).0
 
   inside : Contains (submitted t) d
   inside =
@@ -93,13 +93,15 @@ module _ (st : Setting) (t : Trace) (s : Session) (at : Spot) (order : Orderly s
   by_step : (z : WayOf (way_context st t s) (lease_calls st t s at) d) (work : Work) (step : LeaseStep) → StepWay (way_context st t s) work d.at d.call z.rest step → sectors_of d.call.op ≡ None → IsInstance (lver_written d)
   by_step z work (ReadArea name) h none = not_read d _ none h
   by_step z work ReadBeforeFree h none = not_read d _ none h.reads
+  by_step z work ReadBeforeBlock h none = absurd (true_is_false (sym h ∙ plain))
+  by_step z work (ReadAgain read) h none = absurd (true_is_false (sym h ∙ plain))
   by_step z work Phase1Write h none = of_block h.own h.wrote
   by_step z work Phase1Read h none = not_read d _ none h.reads
   by_step z work Phase2Write h none = of_block _ h.wrote
   by_step z work Phase2Read h none = not_read d _ none h.reads
-  by_step z work TakeLeader h none = of_leader h.leader h.wrote (ended_above (way_context st t s) z.rest z.ways h.leader.lver (way_context st t s).self (taken_ended (way_context st t s) work d.at d z.rest h))
+  by_step z work TakeLeader h none = of_leader h.leader h.wrote (ended_above (way_context st t s) plain z.rest z.ways h.leader.lver (way_context st t s).self (taken_ended (way_context st t s) work d.at d z.rest h))
   by_step z work SetMode h none = of_block _ h.wrote
-  by_step z work FreeLeader h none = of_leader h.leader h.wrote (ended_above (way_context st t s) z.rest z.ways h.leader.lver (way_context st t s).self h.won)
+  by_step z work FreeLeader h none = of_leader h.leader h.wrote (ended_above (way_context st t s) plain z.rest z.ways h.leader.lver (way_context st t s).self h.won)
   by_step z work ClearMode h none = of_block _ h.wrote
 
   -- A write is of an instance.
@@ -114,25 +116,27 @@ own_wrote : (d : Submitted) (b : Block) (rest : List Submitted) → d.call.op �
 own_wrote d b rest op = ap (λ o. is_some (elim o as (λ z. Option Block) [ Some y ↦ Some y | None ↦ block_submitted rest ])) (block_is d b op)
 
 -- The call before wrote a block.
-prior_wrote : (w : WayContext) (ms : List Submitted) (work : Work) (step : LeaseStep) → Ways w ms → (c : Comes work step ms) (b : Block) → c.prior.call.op ≡ WriteRecord (BlockIs b) → is_some (block_submitted ms) ≡ true
-prior_wrote w ms work step h c b op = (written_above w ms h c.prior b (prior_inside ms work step c) (block_is c.prior b op)).1
+prior_wrote : (w : WayContext) → w.layout.paired ≡ false → (ms : List Submitted) (work : Work) (step : LeaseStep) → Ways w ms → (c : Comes work step ms) (b : Block) → c.prior.call.op ≡ WriteRecord (BlockIs b) → is_some (block_submitted ms) ≡ true
+prior_wrote w plain ms work step h c b op = (written_above w plain ms h c.prior b (prior_inside ms work step c) (block_is c.prior b op)).1
 
-behind_step : (w : WayContext) (work : Work) (d : Submitted) (ms : List Submitted) → Ways w ms → (step : LeaseStep) → StepWay w work d.at d.call ms step → is_first_step step ≡ false → is_look step ≡ false
+behind_step : (w : WayContext) → w.layout.paired ≡ false → (work : Work) (d : Submitted) (ms : List Submitted) → Ways w ms → (step : LeaseStep) → StepWay w work d.at d.call ms step → is_first_step step ≡ false → is_look step ≡ false
     → is_some (block_submitted (d ∷ ms)) ≡ true
-behind_step w work d ms ways (ReadArea name) h later other = absurd (true_is_false later)
-behind_step w work d ms ways ReadBeforeFree h later other = absurd (true_is_false other)
-behind_step w work d ms ways Phase1Write h later other = own_wrote d h.own ms h.wrote
-behind_step w work d ms ways Phase1Read h later other =
-    let p : Phase1Way w h.after.prior.call h.after.rest = way_behind w ms work Phase1Write h.after ways in more_wrote d ms (prior_wrote w ms work Phase1Write ways h.after p.own p.wrote)
-behind_step w work d ms ways Phase2Write h later other = own_wrote d _ ms h.wrote
-behind_step w work d ms ways Phase2Read h later other =
-    let p : Phase2Way w work h.after.prior.call h.after.rest = way_behind w ms work Phase2Write h.after ways in more_wrote d ms (prior_wrote w ms work Phase2Write ways h.after _ p.wrote)
-behind_step w work d ms ways TakeLeader h later other = more_wrote d ms (ended_wrote w.layout ms h.leader.lver w.self (taken_ended w work d.at d ms h))
-behind_step w work d ms ways SetMode h later other = own_wrote d _ ms h.wrote
-behind_step w work d ms ways FreeLeader h later other = more_wrote d ms (ended_wrote w.layout ms h.leader.lver w.self h.won)
-behind_step w work d ms ways ClearMode h later other = own_wrote d _ ms h.wrote
+behind_step w plain work d ms ways (ReadArea name) h later other = absurd (true_is_false later)
+behind_step w plain work d ms ways ReadBeforeFree h later other = absurd (true_is_false other)
+behind_step w plain work d ms ways ReadBeforeBlock h later other = absurd (true_is_false (sym h ∙ plain))
+behind_step w plain work d ms ways (ReadAgain read) h later other = absurd (true_is_false (sym h ∙ plain))
+behind_step w plain work d ms ways Phase1Write h later other = own_wrote d h.own ms h.wrote
+behind_step w plain work d ms ways Phase1Read h later other =
+    let p : Phase1Way w h.after.prior.call h.after.rest = way_behind w ms work Phase1Write h.after ways in more_wrote d ms (prior_wrote w plain ms work Phase1Write ways h.after p.own p.wrote)
+behind_step w plain work d ms ways Phase2Write h later other = own_wrote d _ ms h.wrote
+behind_step w plain work d ms ways Phase2Read h later other =
+    let p : Phase2Way w work h.after.prior.call h.after.rest = way_behind w ms work Phase2Write h.after ways in more_wrote d ms (prior_wrote w plain ms work Phase2Write ways h.after _ p.wrote)
+behind_step w plain work d ms ways TakeLeader h later other = more_wrote d ms (ended_wrote w.layout ms h.leader.lver w.self (taken_ended w work d.at d ms h))
+behind_step w plain work d ms ways SetMode h later other = own_wrote d _ ms h.wrote
+behind_step w plain work d ms ways FreeLeader h later other = more_wrote d ms (ended_wrote w.layout ms h.leader.lver w.self h.won)
+behind_step w plain work d ms ways ClearMode h later other = own_wrote d _ ms h.wrote
 
-pub call_wrote : (w : WayContext) (ms : List Submitted) (work : Work) (step : LeaseStep) (d : Submitted) → Ways w ms → Contains ms d → d.call.purpose ≡ Lease work step → is_first_step step ≡ false → is_look step ≡ false
+pub call_wrote : (w : WayContext) → w.layout.paired ≡ false → (ms : List Submitted) (work : Work) (step : LeaseStep) (d : Submitted) → Ways w ms → Contains ms d → d.call.purpose ≡ Lease work step → is_first_step step ≡ false → is_look step ≡ false
     → is_some (block_submitted ms) ≡ true
-call_wrote w ms work step d ways there is later other =
-    let z = way_of w ms ways d there in z.wrote (behind_step w work d z.rest z.ways step (step_way w d z.rest work step z.way is) later other)
+call_wrote w plain ms work step d ways there is later other =
+    let z = way_of w ms ways d there in z.wrote (behind_step w plain work d z.rest z.ways step (step_way w d z.rest work step z.way is) later other)

@@ -105,6 +105,7 @@ module _ (q : MemberState) (made : Config) (at : Spot) (l : LeaseState) (found :
           turn = refl;
           generation = refl;
           value = refl;
+          plain = refl;
           lease = subst (λ (z : Config). IsTrue (fits_lease z.layout q (next_submitted g q.who.number at.path (Lease Settling FreeLeader) (leader_offset at.base) (WriteRecord (LeaderIs leader))))) (sym s.1)
               (lease_fits (nat_lt 0 made.layout.area) l (find (is_lease_on (record { path = at.path; base = leader_offset at.base - leader_offset at.base % made.layout.area })) q.leases) false true (some_room made.layout.area room)
               (ap (λ n. find (is_lease_on (record { path = at.path; base = n })) q.leases) near ∙ found) idle);
@@ -126,6 +127,7 @@ module _ (q : MemberState) (made : Config) (at : Spot) (l : LeaseState) (found :
           turn = refl;
           generation = refl;
           value = refl;
+          plain = refl;
           lease = subst (λ (z : Config). IsTrue (fits_lease z.layout q (next_submitted g q.who.number at.path (Lease Settling ClearMode) (block_offset z.layout at.base q.who.id) (WriteRecord (BlockIs b))))) (sym s.1)
               (lease_fits (nat_lt 0 made.layout.area) l (find (is_lease_on (record { path = at.path; base = block_offset made.layout at.base q.who.id - block_offset made.layout at.base q.who.id % made.layout.area })) q.leases) false true
               (some_room made.layout.area room) (ap (λ n. find (is_lease_on (record { path = at.path; base = n })) q.leases) near ∙ found) idle);

@@ -24,7 +24,7 @@ use Rattle.sl_trace.specs.Traces.{Child, Setting, Trace, child_after, children, 
 use Rattle.sl_trace.specs.declared.effects.Call.{Call}
 use Rattle.sl_trace.specs.declared.effects.Effects.{Effects}
 use Rattle.sl_trace.specs.declared.effects.JoinStep.TheVariants.{ClaimWrite, DecidingRead, FirstRead, FirstRenewal, VerifyRead, WatchRead}
-use Rattle.sl_trace.specs.declared.effects.LeaseStep.TheVariants.{ClearMode, FreeLeader, Phase1Read, Phase1Write, Phase2Read, Phase2Write, ReadArea, ReadBeforeFree, SetMode, TakeLeader}
+use Rattle.sl_trace.specs.declared.effects.LeaseStep.TheVariants.{ClearMode, FreeLeader, Phase1Read, Phase1Write, Phase2Read, Phase2Write, ReadAgain, ReadArea, ReadBeforeBlock, ReadBeforeFree, SetMode, TakeLeader}
 use Rattle.sl_trace.specs.declared.effects.Op.TheVariants.{ReadSectors, WriteRecord}
 use Rattle.sl_trace.specs.declared.effects.Op.{Op}
 use Rattle.sl_trace.specs.declared.effects.Purpose.TheVariants.{Joining, Lease, Leaving, Renewal, RequestRead, RequestWrite, SeeRequest, Survey, ValueRead, ValueWrite}
@@ -83,6 +83,8 @@ reads_some hosts (Lease work SetMode) n some is = absurd (none_some n is)
 reads_some hosts (Lease work FreeLeader) n some is = absurd (none_some n is)
 reads_some hosts (Lease work ClearMode) n some is = absurd (none_some n is)
 reads_some hosts (Lease work ReadBeforeFree) n some is = subst (λ k. 1 ≤ k) (some_value (hosts + 2) n is) (omega arith)
+reads_some hosts (Lease work ReadBeforeBlock) n some is = absurd (none_some n is)
+reads_some hosts (Lease work (ReadAgain read)) n some is = absurd (none_some n is)
 reads_some hosts (RequestRead j) n some is = subst (λ k. 1 ≤ k) (some_value 2 n is) (omega arith)
 reads_some hosts (RequestWrite j owner) n some is = absurd (none_some n is)
 reads_some hosts SeeRequest n some is = some_one n is
@@ -133,7 +135,7 @@ module _ (now : ℕ) (i : Input) (h : HostState) (st : Setting) (es : Trace) (co
 
     asks : sectors_of c.op ≡ sectors_asked st.layout.hosts c.purpose
     asks =
-        trace_asks st (entry_at st es now i ∷ es) (new_call (length es) now c) lawful.orderly (traces_ask st (entry_at st es now i ∷ es) trace) inside
+        trace_asks st comes.0.setting.unpaired (entry_at st es now i ∷ es) (new_call (length es) now c) lawful.orderly (traces_ask st (entry_at st es now i ∷ es) trace) inside
         ((traces_hold st (entry_at st es now i ∷ es) comes.0.setting trace).whole.facts.calls.owned (new_call (length es) now c) inside)
 
     reads : (n : ℕ) → c.op ≡ ReadSectors n → 1 ≤ n

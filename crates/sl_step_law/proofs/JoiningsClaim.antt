@@ -8,7 +8,7 @@ use Rattle.sl_plain.proofs.Lists.{contains_cases, contains_none, find_inside, ke
 use Rattle.sl_sector.specs.Records.{IsDelta}
 use Rattle.sl_sector.specs.declared.sector.DeltaRec.{DeltaRec}
 use Rattle.sl_sector.specs.declared.sector.DeltaState.TheVariants.{Free, Live}
-use Rattle.sl_sector.specs.declared.sector.Rec.TheVariants.{BlockIs, DeltaIs, LeaderIs, RequestIs, ValueIs}
+use Rattle.sl_sector.specs.declared.sector.Rec.TheVariants.{BlockIs, DeltaIs, LeaderIs, PairIs, PairLeaderIs, RequestIs, ValueIs}
 use Rattle.sl_trace.specs.Sessions.{calls_of, delta_of_record, delta_written, given_number, is_call_of, joined_after, last_delta}
 use Rattle.sl_trace.specs.declared.delta.DeltaKnown.{DeltaKnown}
 use Rattle.sl_step_law.proofs.CallsOfMembers.{IsMembers, joined_still, members_call}
@@ -39,6 +39,8 @@ record_is (ReadSectors n) d is = absurd (none_some d is)
 record_is (WriteRecord (DeltaIs e)) d is = ap (λ z. Some (DeltaIs z)) (some_value e d is)
 record_is (WriteRecord (LeaderIs l)) d is = absurd (none_some d is)
 record_is (WriteRecord (BlockIs b)) d is = absurd (none_some d is)
+record_is (WriteRecord (PairIs p)) d is = absurd (none_some d is)
+record_is (WriteRecord (PairLeaderIs l)) d is = absurd (none_some d is)
 record_is (WriteRecord (RequestIs q)) d is = absurd (none_some d is)
 record_is (WriteRecord (ValueIs v)) d is = absurd (none_some d is)
 

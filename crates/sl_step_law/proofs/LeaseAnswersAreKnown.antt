@@ -52,7 +52,7 @@ use Rattle.sl_step_law.specs.Standing.{EntryStands, WroteBlock, is_look, looks_b
 use Rattle.sl_trace.specs.Traces.{EachEntry, FollowsTrace, Job, Submitted, Trace, call_numbered, is_of_job, job_of, mark, new_call, outstanding, is_expected, running_jobs, submitted, waiting_call}
 use Rattle.sl_trace.specs.declared.effects.Call.{Call}
 use Rattle.sl_trace.specs.declared.effects.Entry.{Entry}
-use Rattle.sl_trace.specs.declared.effects.LeaseStep.TheVariants.{ClearMode, FreeLeader, Phase1Read, Phase1Write, Phase2Read, Phase2Write, ReadArea, ReadBeforeFree, SetMode, TakeLeader}
+use Rattle.sl_trace.specs.declared.effects.LeaseStep.TheVariants.{ClearMode, FreeLeader, Phase1Read, Phase1Write, Phase2Read, Phase2Write, ReadAgain, ReadArea, ReadBeforeBlock, ReadBeforeFree, SetMode, TakeLeader}
 use Rattle.sl_trace.specs.declared.effects.LeaseStep.{LeaseStep}
 use Rattle.sl_trace.specs.declared.effects.Purpose.TheVariants.{Lease}
 use Rattle.sl_trace.specs.declared.effects.Spot.{Spot}
@@ -114,6 +114,8 @@ found_told f at same (l ∷ ls) = ap (λ (s : Spot). cond (is_lease_on at (recor
 shown_read : (g : Layout) (step : LeaseStep) (bytes : List ℕ) → is_read_step step ≡ true → blocks_shown g step (Read bytes) ≡ Some (read_given g step bytes)
 shown_read g (ReadArea name) bytes reads = refl
 shown_read g ReadBeforeFree bytes reads = refl
+shown_read g ReadBeforeBlock bytes reads = absurd cc
+shown_read g (ReadAgain read) bytes reads = absurd cc
 shown_read g Phase1Read bytes reads = refl
 shown_read g Phase2Read bytes reads = refl
 shown_read g Phase1Write bytes reads = absurd cc
@@ -156,6 +158,9 @@ module _ (h : HostState) (x : Step) (number : ℕ) (c : OpenCall) (m : MemberSta
   now : IsMoment Wake h x
   now = moments_are_known.ready h x r
 
+  plain : x.setting.layout.paired ≡ false
+  plain = r.kept.known.0.setting.unpaired
+
   way_facts : Ways (way_context x.setting (seen x) m.who) (lease_calls x.setting (seen x) m.who lease.lease.spot)
   way_facts = ways Wake h x now m k.there lease.lease has.0
 
@@ -189,13 +194,13 @@ module _ (h : HostState) (x : Step) (number : ℕ) (c : OpenCall) (m : MemberSta
       on_lease z.0 (subst (λ t. Contains (submitted t) z.0) (sym made.whole) z.1) (ap (λ (q : Call). q.session) z.2 ∙ w.mine ∙ mine) (ap (λ (q : Call). is_some (lease_step q.purpose)) z.2 ∙ w.works)
       (ap (λ (q : Call). spot_of_call x.setting.layout (new_call 0 0 q)) z.2 ∙ w.area ∙ area)
       in
-      (written_above (way_context x.setting (seen x) m.who) (lease_calls x.setting (seen x) m.who lease.lease.spot) way_facts z.0 b.0 on b.1).1
+      (written_above (way_context x.setting (seen x) m.who) plain (lease_calls x.setting (seen x) m.who lease.lease.spot) way_facts z.0 b.0 on b.1).1
 
   own : is_first_step step ≡ false → is_some lease.lease.own ≡ true
   own later = ap (λ b. is_some b) (sym (lease_stands Wake h x now m k.there lease.lease has.0).own) ∙ by (is_look step) refl where
     by : (b : Bool) → is_look step ≡ b → is_some (block_submitted (lease_calls x.setting (seen x) m.who lease.lease.spot)) ≡ true
     by true look = looked look
-    by false other = call_wrote (way_context x.setting (seen x) m.who) (lease_calls x.setting (seen x) m.who lease.lease.spot) work step the.0 way_facts of_lease purpose later other
+    by false other = call_wrote (way_context x.setting (seen x) m.who) plain (lease_calls x.setting (seen x) m.who lease.lease.spot) work step the.0 way_facts of_lease purpose later other
 
   -- ---- its answer
 
@@ -308,6 +313,8 @@ module _ (h : HostState) (x : Step) (number : ℕ) (c : OpenCall) (r : IsReady h
       by : (s : LeaseStep) → is_some (sectors_asked h.config.layout.hosts (Lease work s)) ≡ is_read_step s
       by (ReadArea name) = refl
       by ReadBeforeFree = refl
+      by ReadBeforeBlock = refl
+      by (ReadAgain read) = refl
       by Phase1Write = refl
       by Phase1Read = refl
       by Phase2Write = refl
@@ -330,7 +337,7 @@ module _ (h : HostState) (x : Step) (number : ℕ) (c : OpenCall) (r : IsReady h
       (kept_in (is_call_of owner.0) (submitted (seen x)) call.0 ((Decides-eqb call.0.call.session owner.0.number).1 (sym number_is)) inside)
       in
       subst (λ (z : OpenCall). IsInstance z.lver) call.2
-      (write_instance x.setting (seen x) owner.0 at r.kept.known.0.orderly (r.kept.known.0.facts.ways.each owner.0 at listed (spot_aligned x.setting.layout call.0)) call.0 on work step purpose
+      (write_instance x.setting r.kept.known.0.setting.unpaired (seen x) owner.0 at r.kept.known.0.orderly (r.kept.known.0.facts.ways.each owner.0 at listed (spot_aligned x.setting.layout call.0)) call.0 on work step purpose
       (ap (λ (z : OpenCall). z.sectors) call.2 ∙ none))
 
 -- ---- by the number of its session

@@ -99,7 +99,7 @@ module _ (i : Input) (h : HostState) (x : Step) (o : IsMoment i h x) where
     instance_of : (s : Session) → Contains (sessions x.setting (seen x)) s → s.number ≡ g.session → IsInstance g.lver × (is_some (block_submitted (lease_calls x.setting (seen x) s (spot_of_grant g))) ≡ true)
     instance_of s there number =
         let ways = o.kept.known.0.facts.ways.each s (spot_of_grant g) there aligned in
-        let b = block_instance x.setting (seen x) s (spot_of_grant g) wrote_in.call wrote_in.block o.kept.known.0.orderly ways (of_session s number) wrote_in.written in
+        let b = block_instance x.setting o.kept.known.0.setting.unpaired (seen x) s (spot_of_grant g) wrote_in.call wrote_in.block o.kept.known.0.orderly ways (of_session s number) wrote_in.written in
         (subst IsInstance wrote_in.instance b.0, b.1)
 
     pub instance : IsInstance g.lver
@@ -160,7 +160,7 @@ module _ (i : Input) (h : HostState) (x : Step) (o : IsMoment i h x) where
         tops_kept t is = ap (λ o. top_mbal t.instance (elim o as (λ z. List (Option Block)) [ None ↦ [] | Some u ↦ Some (top_block u) ∷ [] ])) is ∙ alone t (t.instance == t.instance) (number_itself t.instance)
 
       pub named_by : is_some (block_submitted (lease_calls x.setting (seen x) m.who l.spot)) ≡ true → IsTrue (is_named l)
-      named_by wrote = subst (λ n. IsTrue (not (is_empty n))) lease_stands.name (name_verified x.setting (seen x) m.who l.spot ways wrote)
+      named_by wrote = subst (λ n. IsTrue (not (is_empty n))) lease_stands.name (name_verified x.setting o.kept.known.0.setting.unpaired (seen x) m.who l.spot ways wrote)
 
       pub named : is_some l.own ≡ true → IsTrue (is_named l)
       named own = named_by (ap (λ b. is_some b) lease_stands.own ∙ own)

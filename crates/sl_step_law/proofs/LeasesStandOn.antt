@@ -1,5 +1,5 @@
 -- A lease's next call, after an answer and in a settling: its area is that of its calls before, and what it looks for it owes.
-use Rattle.sl_acts.specs.Acts.{Has, Hears}
+use Rattle.sl_acts.specs.Acts.{Has, Hears, next_of_settling}
 use Rattle.sl_acts.specs.SoFar.{entry_of}
 use Rattle.sl_area.specs.Layouts.{Layout}
 use Rattle.sl_area.specs.Places.{is_base}
@@ -8,6 +8,7 @@ use Rattle.sl_due.specs.Steps.{Step, seen}
 use Rattle.sl_due_leases.proofs.Grants.WorksByAnswers.{new_spot}
 use Rattle.sl_due_leases.proofs.Holdings.LeaseCallers.{heard_call, spot_aligned}
 use Rattle.sl_due_facts.proofs.Jobs.CallsStandInAreas.{at_base}
+use Rattle.sl_due_facts.proofs.Jobs.PlainNexts.{next_plain, settling_plain}
 use Rattle.sl_due_leases.proofs.Ways.Kept.LinesReady.{none_open}
 use Rattle.sl_due_law.specs.Whole.Kept.{Kept}
 use Rattle.sl_run.specs.Lawful.{IsSetting}
@@ -119,7 +120,9 @@ leads x s work step m answer aim hears is h =
     let ms : List Submitted = lease_calls st (seen x) s at in
     let n : LeaseNext = next_of_lease st (seen x) s at aim m step answer in
     carried x h.0 s (heard_there x s m answer hears) at base x work n (starts_so x h)
-    (owes_so x s at n ms refl (is_some (free_left st.layout (me (seen x) s) ms)) (answers_look (lease_place st s) (known st (seen x) s at) aim m.call.number (lver_written m) step answer)
+    (owes_so x s at n ms refl (is_some (free_left st.layout (me (seen x) s) ms))
+    (subst (LooksOwed (is_some (free_left st.layout (me (seen x) s) ms))) (sym (next_plain st (seen x) s at aim m step answer setting.unpaired))
+    (answers_look (lease_place st s) (known st (seen x) s at) aim m.call.number (lver_written m) step answer))
     (λ won. (let d = won_writer st.layout (me (seen x) s) ms won in wrote_before x s at d.0 setting (spot_aligned st.layout m) d.1 d.2 (none_new x d.0 hears.bare))))
 
 -- ---- a settling
@@ -134,33 +137,34 @@ open_new : (x : Step) (at : Spot) (d : Submitted) → IsSetting x.setting → op
 open_new x at d setting free there spot new = none_open x.setting setting (seen x) at free d there new.unmet spot
 
 pub settled : (x : Step) (s : Session) (at : Spot) → Has x s → at.base % x.setting.layout.area ≡ 0 → open_on x.setting (seen x) at ≡ [] → Known x
-    → OnPast x.setting x.past (carry_lease s at Settling (settle_next (lease_place x.setting s) (known x.setting (seen x) s at)) x)
+    → OnPast x.setting x.past (carry_lease s at Settling (next_of_settling x.setting (seen x) s at) x)
 unfolding known carry_lease
-settled x s at has aligned free h = by (lease_calls x.setting (seen x) s at) refl where
-  setting : IsSetting x.setting
-  setting = h.0.known.0.setting
+settled x s at has aligned free h =
+    subst (λ n. OnPast x.setting x.past (carry_lease s at Settling n x)) (sym (settling_plain x.setting (seen x) s at setting.unpaired)) (by (lease_calls x.setting (seen x) s at) refl) where
+      setting : IsSetting x.setting
+      setting = h.0.known.0.setting
 
-  there : Contains (sessions x.setting (seen x)) s
-  there = got_inside (sessions x.setting (seen x)) s.number s has
+      there : Contains (sessions x.setting (seen x)) s
+      there = got_inside (sessions x.setting (seen x)) s.number s has
 
-  -- of a call of the lease
-  call : (d : Submitted) → Contains (lease_calls x.setting (seen x) s at) d → Contains (submitted (seen x)) d × (is_lease_call d ≡ true) × (spot_of_call x.setting.layout d ≡ at)
-  call d inside =
-      let on = kept_inside (λ (z : Submitted). is_lease_call z && is_on x.setting.layout at z.call) (calls_of (seen x) s) d inside in
-      let its = and_true (is_lease_call d) (is_on x.setting.layout at d.call) on.1 in
-      ((kept_inside (is_call_of s) (submitted (seen x)) d on.0).0, its.0, new_spot x.setting at d.call setting aligned its.1)
+      -- of a call of the lease
+      call : (d : Submitted) → Contains (lease_calls x.setting (seen x) s at) d → Contains (submitted (seen x)) d × (is_lease_call d ≡ true) × (spot_of_call x.setting.layout d ≡ at)
+      call d inside =
+          let on = kept_inside (λ (z : Submitted). is_lease_call z && is_on x.setting.layout at z.call) (calls_of (seen x) s) d inside in
+          let its = and_true (is_lease_call d) (is_on x.setting.layout at d.call) on.1 in
+          ((kept_inside (is_call_of s) (submitted (seen x)) d on.0).0, its.0, new_spot x.setting at d.call setting aligned its.1)
 
-  by : (ms : List Submitted) → lease_calls x.setting (seen x) s at ≡ ms → OnPast x.setting x.past (carry_lease s at Settling (settle_next (lease_place x.setting s) (known x.setting (seen x) s at)) x)
-  by [] is =
-      subst (λ n. OnPast x.setting x.past (carry_lease s at Settling n x))
-      (sym (ap (λ ms. settle_next (lease_place x.setting s) (known_of x.setting.layout s.lockspace (me (seen x) s) (has_shared_on (seen x) s at) (option_map (λ g. g.lver) (exclusive_on (seen x) s at)) (counts_over x.setting (seen x) s) ms)) is
-      ∙ settles_none x.setting.layout s.lockspace (me (seen x) s) (has_shared_on (seen x) s at) (option_map (λ g. g.lver) (exclusive_on (seen x) s at)) (counts_over x.setting (seen x) s) (lease_place x.setting s))) (starts_so x h)
-  by (d ∷ ds) is =
-      let c = call d (subst (λ zs. Contains zs d) (sym is) (contains_first d ds)) in
-      let stands = standing x.setting (seen x) d h.1 c.0 in
-      let base : IsTrue (is_base x.setting.layout at.base) = subst (λ (z : Spot). IsTrue (is_base x.setting.layout z.base)) c.2 (stands.1.area c.1) in
-      let n : LeaseNext = settle_next (lease_place x.setting s) (known x.setting (seen x) s at) in
-      let all : List Submitted = lease_calls x.setting (seen x) s at in
-      carried x h.0 s there at base x Settling n (starts_so x h)
-      (owes_so x s at n all refl (is_some (free_left x.setting.layout (me (seen x) s) all)) (settlings_look (lease_place x.setting s) (known x.setting (seen x) s at))
-      (λ won. (let e = won_writer x.setting.layout (me (seen x) s) all won in wrote_before x s at e.0 setting aligned e.1 e.2 (open_new x at e.0 setting free (call e.0 e.1).0 (call e.0 e.1).2))))
+      by : (ms : List Submitted) → lease_calls x.setting (seen x) s at ≡ ms → OnPast x.setting x.past (carry_lease s at Settling (settle_next (lease_place x.setting s) (known x.setting (seen x) s at)) x)
+      by [] is =
+          subst (λ n. OnPast x.setting x.past (carry_lease s at Settling n x))
+          (sym (ap (λ ms. settle_next (lease_place x.setting s) (known_of x.setting.layout s.lockspace (me (seen x) s) (has_shared_on (seen x) s at) (option_map (λ g. g.lver) (exclusive_on (seen x) s at)) (counts_over x.setting (seen x) s) ms)) is
+          ∙ settles_none x.setting.layout s.lockspace (me (seen x) s) (has_shared_on (seen x) s at) (option_map (λ g. g.lver) (exclusive_on (seen x) s at)) (counts_over x.setting (seen x) s) (lease_place x.setting s))) (starts_so x h)
+      by (d ∷ ds) is =
+          let c = call d (subst (λ zs. Contains zs d) (sym is) (contains_first d ds)) in
+          let stands = standing x.setting (seen x) d h.1 c.0 in
+          let base : IsTrue (is_base x.setting.layout at.base) = subst (λ (z : Spot). IsTrue (is_base x.setting.layout z.base)) c.2 (stands.1.area c.1) in
+          let n : LeaseNext = settle_next (lease_place x.setting s) (known x.setting (seen x) s at) in
+          let all : List Submitted = lease_calls x.setting (seen x) s at in
+          carried x h.0 s there at base x Settling n (starts_so x h)
+          (owes_so x s at n all refl (is_some (free_left x.setting.layout (me (seen x) s) all)) (settlings_look (lease_place x.setting s) (known x.setting (seen x) s at))
+          (λ won. (let e = won_writer x.setting.layout (me (seen x) s) all won in wrote_before x s at e.0 setting aligned e.1 e.2 (open_new x at e.0 setting free (call e.0 e.1).0 (call e.0 e.1).2))))

@@ -236,6 +236,7 @@ module _ (h : HostState) (x : Step) (text : List ℕ) (c : Command) (r : IsReady
             turn = refl;
             generation = refl;
             value = refl;
+            plain = refl;
             lease = subst (λ (z : Config). IsTrue (fits_lease z.layout m (next_submitted g m.who.number at.path (Lease (ForJob h.next_job) FreeLeader) (leader_offset at.base) (WriteRecord (LeaderIs leader))))) (sym heard.made)
                 (lease_fits (nat_lt 0 h.config.layout.area) true l _ room (near _ lies_at.leader) idle);
           };
@@ -254,6 +255,7 @@ module _ (h : HostState) (x : Step) (text : List ℕ) (c : Command) (r : IsReady
             turn = refl;
             generation = refl;
             value = refl;
+            plain = refl;
             lease = subst (λ (z : Config). IsTrue (fits_lease z.layout m (next_submitted g m.who.number at.path (Lease (ForJob h.next_job) ClearMode) (block_offset z.layout at.base m.who.id) (WriteRecord (BlockIs b))))) (sym heard.made)
                 (lease_fits (nat_lt 0 h.config.layout.area) true l _ room (near _ lies_at.block) idle);
           };
@@ -272,6 +274,7 @@ module _ (h : HostState) (x : Step) (text : List ℕ) (c : Command) (r : IsReady
             turn = refl;
             generation = refl;
             value = refl;
+            plain = refl;
             lease = subst (λ (z : Config). IsTrue (fits_lease z.layout m (next_submitted g m.who.number at.path (Lease (ForJob h.next_job) SetMode) (block_offset z.layout at.base m.who.id) (WriteRecord (BlockIs b))))) (sym heard.made)
                 (lease_fits (nat_lt 0 h.config.layout.area) true l _ room (near _ lies_at.block) idle);
           };
@@ -290,6 +293,7 @@ module _ (h : HostState) (x : Step) (text : List ℕ) (c : Command) (r : IsReady
             turn = refl;
             generation = refl;
             value = refl;
+            plain = refl;
             lease = subst (λ (z : Config). IsTrue (fits_lease z.layout m (next_submitted g m.who.number at.path (Lease (ForJob h.next_job) (ReadArea name)) at.base (ReadSectors (g.config.layout.hosts + 2))))) (sym heard.made)
                 (lease_fits (nat_lt 0 h.config.layout.area) true l _ room (near _ (lies_at.reads (ReadArea name))) idle);
           };

@@ -1,10 +1,11 @@
 -- A lease looks at its area before a free only where it owes one.
 use Rattle.sl_area.specs.Layouts.{Layout}
-use Rattle.sl_area.specs.Places.{area_blocks, blocks_in, leader_of}
+use Rattle.sl_area.specs.Places.{blocks_of, leader_read}
 use Rattle.sl_due_leases.proofs.Ways.NextsFit.WritesFit.{left_is_won}
 use Rattle.sl_due_leases.proofs.Ways.WayNumbers.{ends_by}
+use Rattle.sl_due_law.proofs.Causes.Leases.ReadNexts.{bytes_by}
 use Rattle.sl_trace.specs.Ballots.{is_ahead, moded_block, phase1_block, same_owner, stop_of, value_of}
-use Rattle.sl_trace.specs.LeaseWork.{LeasePlace, after_clearing, after_freeing, after_moding, after_phase1, after_phase2, after_read, after_take, after_write, area_next, begin_next, begin_or_refuse, leader_for, lease_next, looks_for_shared, lost_next, named_area_next, phase1_next, phase2_next, refuses, settle_next, settle_owed, stopped_next, unstopped_next, whole_area_next, won_next}
+use Rattle.sl_trace.specs.LeaseWork.{LeasePlace, after_clearing, after_freeing, after_moding, after_phase1, after_phase2, after_read, after_take, after_write, area_next, begin_next, begin_or_refuse, first_step, heard, leader_for, lease_next, looks_for_shared, lost_next, named_area_next, phase1_next, phase2_next, refuses, settle_next, settle_owed, stopped_next, unstopped_next, whole_area_next, won_next}
 use Rattle.sl_trace.specs.Leases.{LeaseKnown, block_submitted, block_written, ended_ballot, ended_ballots, free_left, instance_for, is_leader_of, mode_gen_of, owed_free, own_known, shared_elsewhere}
 use Rattle.sl_trace.specs.declared.lease.Aim.TheVariants.{Acquires, Converts, Releases, Settles}
 use Rattle.sl_trace.specs.declared.lease.Aim.{Aim}
@@ -21,7 +22,7 @@ use Rattle.sl_sector.specs.declared.sector.Block.{Block}
 use Rattle.sl_sector.specs.declared.sector.Leader.{Leader}
 use Rattle.sl_sector.specs.declared.sector.Owner.{Owner}
 use Rattle.sl_trace.specs.Traces.{Submitted}
-use Rattle.sl_trace.specs.declared.effects.LeaseStep.TheVariants.{ClearMode, FreeLeader, Phase1Read, Phase1Write, Phase2Read, Phase2Write, ReadArea, ReadBeforeFree, SetMode, TakeLeader}
+use Rattle.sl_trace.specs.declared.effects.LeaseStep.TheVariants.{ClearMode, FreeLeader, Phase1Read, Phase1Write, Phase2Read, Phase2Write, ReadAgain, ReadArea, ReadBeforeBlock, ReadBeforeFree, SetMode, TakeLeader}
 use Rattle.sl_trace.specs.declared.effects.LeaseStep.{LeaseStep}
 use Rattle.sl_trace.specs.declared.effects.Mode.TheVariants.{Exclusive, Shared}
 use Rattle.sl_trace.specs.declared.input.Answer.TheVariants.{Failed, Read, Written}
@@ -159,39 +160,38 @@ module _ (p : LeasePlace) (k : LeaseKnown) where
       by (Some i) = tt
       by None = where_some won_one (own_known k) (λ own. begin_or_refuse p k aim (instance_for k l own read)) (λ own. instance aim (instance_for k l own read))
 
-  area : (aim : Aim) (name bytes : List ℕ) → LooksOwed won_one (area_next p k aim name bytes)
+  area : (aim : Aim) (name : List ℕ) (leader : Option Leader) (read : List (Option Block)) → LooksOwed won_one (area_next p k aim name leader read)
   unfolding area_next
-  area aim name bytes = by (leader_of p.layout bytes)
+  area aim name leader read = by leader
     where
       by : (o : Option Leader)
           → LooksOwed won_one (elim o as (λ z. LeaseNext) [
             | None ↦ AnswerJob TornLeader
             | Some l ↦ elim (is_leader_of p.layout p.lockspace name l) [
               | false ↦ AnswerJob (WrongArea l.lockspace l.resource l.num_hosts)
-              | true ↦ named_area_next p k aim l (area_blocks p.layout bytes)
+              | true ↦ named_area_next p k aim l read
             ]
           ])
       by None = tt
       by (Some l) =
-          chosen won_one (is_leader_of p.layout p.lockspace name l) (named_area_next p k aim l (area_blocks p.layout bytes)) (AnswerJob (WrongArea l.lockspace l.resource l.num_hosts))
-          (named_area aim l (area_blocks p.layout bytes)) tt
+          chosen won_one (is_leader_of p.layout p.lockspace name l) (named_area_next p k aim l read) (AnswerJob (WrongArea l.lockspace l.resource l.num_hosts))
+          (named_area aim l read) tt
 
   -- ---- by step
 
-  after_reading : (aim : Aim) (bytes : List ℕ) (step : LeaseStep) → LooksOwed won_one (after_read p k aim bytes step)
-  after_reading aim bytes (ReadArea name) = area aim name bytes
-  after_reading aim bytes ReadBeforeFree = where_some won_one (owed_free k) (λ n. WriteLeader FreeLeader (leader_for p k false n)) (λ n. refl)
-  after_reading aim bytes Phase1Write = tt
-  after_reading aim bytes Phase1Read =
-      where_some won_one k.own (λ own. after_phase1 p k aim own (blocks_in p.layout bytes) (stop_of own (blocks_in p.layout bytes)))
-      (λ own. first_read aim own (blocks_in p.layout bytes) (stop_of own (blocks_in p.layout bytes)))
-  after_reading aim bytes Phase2Write = tt
-  after_reading aim bytes Phase2Read =
-      where_some won_one k.own (λ own. after_phase2 p k aim own (stop_of own (blocks_in p.layout bytes))) (λ own. second_read aim own (stop_of own (blocks_in p.layout bytes)))
-  after_reading aim bytes TakeLeader = tt
-  after_reading aim bytes SetMode = tt
-  after_reading aim bytes FreeLeader = tt
-  after_reading aim bytes ClearMode = tt
+  after_reading : (aim : Aim) (leader : Option Leader) (read : List (Option Block)) (step : LeaseStep) → LooksOwed won_one (after_read p k aim leader read step)
+  after_reading aim leader read (ReadArea name) = area aim name leader read
+  after_reading aim leader read ReadBeforeBlock = settled
+  after_reading aim leader read (ReadAgain again) = tt
+  after_reading aim leader read ReadBeforeFree = where_some won_one (owed_free k) (λ n. WriteLeader FreeLeader (leader_for p k false n)) (λ n. refl)
+  after_reading aim leader read Phase1Write = tt
+  after_reading aim leader read Phase1Read = where_some won_one k.own (λ own. after_phase1 p k aim own read (stop_of own read)) (λ own. first_read aim own read (stop_of own read))
+  after_reading aim leader read Phase2Write = tt
+  after_reading aim leader read Phase2Read = where_some won_one k.own (λ own. after_phase2 p k aim own (stop_of own read)) (λ own. second_read aim own (stop_of own read))
+  after_reading aim leader read TakeLeader = tt
+  after_reading aim leader read SetMode = tt
+  after_reading aim leader read FreeLeader = tt
+  after_reading aim leader read ClearMode = tt
 
   after_taking : (aim : Aim) (n : ℕ) → LooksOwed won_one (after_take k aim n)
   after_taking (Acquires Exclusive) n = tt
@@ -222,6 +222,8 @@ module _ (p : LeasePlace) (k : LeaseKnown) where
   after_writing : (aim : Aim) (n : ℕ) (step : LeaseStep) → LooksOwed won_one (after_write p k aim n step)
   after_writing aim n (ReadArea name) = tt
   after_writing aim n ReadBeforeFree = tt
+  after_writing aim n ReadBeforeBlock = tt
+  after_writing aim n (ReadAgain read) = tt
   after_writing aim n Phase1Write = λ look. never look
   after_writing aim n Phase1Read = tt
   after_writing aim n Phase2Write = λ look. never look
@@ -233,7 +235,9 @@ module _ (p : LeasePlace) (k : LeaseKnown) where
 
   pub answers_look : (aim : Aim) (call n : ℕ) (step : LeaseStep) (a : Answer) → LooksOwed (is_some k.won) (lease_next p k aim call n step a)
   unfolding lease_next
-  answers_look aim call n step (Read bytes) = after_reading aim bytes step
+  answers_look aim call n step (Read bytes) =
+      bytes_by (LooksOwed won_one) p k aim bytes step (λ read is look. never look)
+      (after_reading aim (leader_read p.layout bytes (heard p.layout k bytes step)) (blocks_of p.layout (heard p.layout k bytes step)) (first_step step))
   answers_look aim call n step Written = after_writing aim n step
   answers_look aim call n step Failed = refused won_one aim (IoFault call)
 

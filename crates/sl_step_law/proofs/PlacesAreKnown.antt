@@ -15,9 +15,11 @@ use Rattle.sl_run.specs.Lawful.{IsGiven, IsSetting}
 use Rattle.sl_lease.specs.Bounds.{IsInstance}
 use Rattle.sl_trace.specs.Leases.{is_lease_call, is_on, leader_of_record}
 use Rattle.sl_plain.proofs.Lists.{kept_inside}
-use Rattle.sl_sector.specs.Records.{Fits}
+use Rattle.sl_plain.proofs.Options.{then_value}
+use Rattle.sl_sector.specs.Records.{Fits, IsLeader, IsRecord}
 use Rattle.sl_sector.specs.declared.sector.Leader.{Leader}
-use Rattle.sl_sector.specs.declared.sector.Rec.TheVariants.{BlockIs, DeltaIs, LeaderIs, RequestIs, ValueIs}
+use Rattle.sl_sector.specs.declared.sector.Rec.{Rec}
+use Rattle.sl_sector.specs.declared.sector.Rec.TheVariants.{BlockIs, DeltaIs, LeaderIs, PairIs, PairLeaderIs, RequestIs, ValueIs}
 use Rattle.sl_trace.specs.Sessions.{calls_of, is_call_of, sessions}
 use Rattle.sl_trace.specs.declared.session.Session.{Session}
 use Rattle.sl_step_law.specs.Placed.{PlacesAreKnown}
@@ -25,14 +27,12 @@ use Rattle.sl_trace.specs.Commands.{IsLockspaceArg}
 use Rattle.sl_trace.specs.Traces.{Setting, Submitted, Trace, holdings, is_shared, record_of, spot_of_grant, submitted}
 use Rattle.sl_trace.specs.declared.command.Command.TheVariants.{AddLockspace}
 use Rattle.sl_trace.specs.declared.effects.Grant.{Grant}
-use Rattle.sl_trace.specs.declared.effects.Op.TheVariants.{ReadSectors, WriteRecord}
-use Rattle.sl_trace.specs.declared.effects.Op.{Op}
 use Rattle.sl_trace.specs.declared.input.Input.{Input}
 use Rattle.sl_words.proofs.CaseLaws.{none_some, some_value}
 use Rattle.sl_words.proofs.WordLaws.{and_true}
 use Rattle.std.proofs.Common.{ap, arith, refl, subst, sym}
 use Rattle.std.proofs.lemmas.Bool.{leb-true}
-use Rattle.std.specs.Prelude.{Contains, IsTrue, None, Option, Some, false, nat_le, option_and_then, ℕ, ◌&&◌, ◌≡◌, ◌≤◌}
+use Rattle.std.specs.Prelude.{Contains, IsTrue, None, Option, Some, false, nat_le, ℕ, ◌&&◌, ◌≡◌, ◌≤◌}
 
 -- ---- sessions
 
@@ -55,13 +55,15 @@ session_at st es s setting there = by s.job refl where
 
 -- ---- instances
 
-leader_is : (op : Op) (l : Leader) → option_and_then leader_of_record (record_of op) ≡ Some l → record_of op ≡ Some (LeaderIs l)
-leader_is (ReadSectors n) l is = absurd (none_some l is)
-leader_is (WriteRecord (LeaderIs k)) l is = ap (λ z. Some (LeaderIs z)) (some_value k l is)
-leader_is (WriteRecord (DeltaIs d)) l is = absurd (none_some l is)
-leader_is (WriteRecord (BlockIs b)) l is = absurd (none_some l is)
-leader_is (WriteRecord (RequestIs q)) l is = absurd (none_some l is)
-leader_is (WriteRecord (ValueIs v)) l is = absurd (none_some l is)
+-- A leader that is written is one of a record.
+leader_in_record : (r : Rec) (l : Leader) → leader_of_record r ≡ Some l → IsRecord r → IsLeader l
+leader_in_record (LeaderIs k) l is good = subst IsLeader (some_value k l is) good
+leader_in_record (PairLeaderIs k) l is good = subst IsLeader (some_value k l is) good
+leader_in_record (DeltaIs d) l is good = absurd (none_some l is)
+leader_in_record (BlockIs b) l is good = absurd (none_some l is)
+leader_in_record (PairIs p) l is good = absurd (none_some l is)
+leader_in_record (RequestIs q) l is good = absurd (none_some l is)
+leader_in_record (ValueIs v) l is good = absurd (none_some l is)
 
 module _ (i : Input) (h : HostState) (x : Step) (s : Stands i h x) (k : Kept x) where
   layouts : x.setting.layout ≡ h.config.layout
@@ -86,7 +88,8 @@ module _ (i : Input) (h : HostState) (x : Step) (s : Stands i h x) (k : Kept x) 
         let taken = stands.taken in
         let on = kept_inside (λ (z : Submitted). is_lease_call z && is_on x.setting.layout (spot_of_grant g) z.call) (calls_of (seen x) owned.0) taken.call taken.of_lease in
         let inside = kept_inside (is_call_of owned.0) (submitted (seen x)) taken.call on.0 in
-        let leader = spelled_of x.setting (seen x) taken.call (LeaderIs taken.leader) k.known.0.orderly inside.0 (leader_is taken.call.call.op taken.leader taken.written.0) in
+        let wrote = then_value leader_of_record (record_of taken.call.call.op) taken.leader taken.written.0 in
+        let leader = leader_in_record wrote.0 taken.leader wrote.2 (spelled_of x.setting (seen x) taken.call wrote.0 k.known.0.orderly inside.0 wrote.1) in
         let least = stands.not_freed in
         (omega (arith, least), subst Fits taken.written.2 leader.lver)
 

@@ -18,8 +18,7 @@ use Rattle.sl_due_leases.proofs.Ways.Kept.LinesReady.{named_base}
 use Rattle.sl_due_law.specs.Whole.Kept.{Kept}
 use Rattle.sl_run.specs.Lawful.{IsSetting}
 use Rattle.sl_trace.specs.Jobs.{job_of_start, resource_named}
-use Rattle.sl_trace.specs.LeaseWork.{lease_place}
-use Rattle.sl_trace.specs.Leases.{exclusive_on, holdings_on, known, spot_of}
+use Rattle.sl_trace.specs.Leases.{exclusive_on, holdings_on, spot_of}
 use Rattle.sl_plain.proofs.Lists.{find_inside, got_inside, kept_inside}
 use Rattle.sl_trace.specs.Sessions.{holdings_of, is_present, sessions}
 use Rattle.sl_trace.specs.declared.delta.DeltaNext.{DeltaNext}
@@ -48,7 +47,7 @@ use Rattle.sl_trace.specs.declared.reply.Reply.TheVariants.{Done, IoFault, IoTim
 use Rattle.std.proofs.Common.{refl, subst, sym}
 use Rattle.std.specs.Prelude.{Contains, IsTrue, List, None, Some, not, ℕ, ◌==◌, ◌≡◌}
 use Rattle.sl_step_law.proofs.CallsOnPast.{Calls, OnPast, StandsAs, allows, one_more, plain, delta_stands}
-use Rattle.sl_step_law.proofs.LeasesOnPast.{converting, head, releases}
+use Rattle.sl_step_law.proofs.LeasesOnPast.{head, released, turned}
 use Rattle.sl_step_law.proofs.LeasesStandOn.{Known, ends_so, heard_there, leads, settled, starts_so}
 use Rattle.sl_acts.specs.Promises.{IsPresent}
 use Rattle.sl_due_facts.proofs.Jobs.EffectsAreAllowed.{removal}
@@ -108,10 +107,10 @@ module _ (x : Step) (h : Known x) (text : List ℕ) (j : ℕ) (c : Command) (rea
   decision_stands (GivesUp s g) fit of =
       let at : Spot = spot_of_grant g in
       let base = held_base x g h.0 (on_spot x s (spot_of fit.1.0) g fit.1.3) in
-      (tt, releases x h.0 s (listed x.setting (seen x) s of) at base (add_end (end_of g) heard) (ForJob j) (lease_place x.setting s) (known x.setting (seen (add_end (end_of g) heard)) s at) g.mode g.lver refl)
+      (tt, released x h.0 s (listed x.setting (seen x) s of) at base (add_end (end_of g) heard) (ForJob j) at g refl)
   decision_stands (TakesOver s g) fit of = grant_plain j g.lver c
   decision_stands (ConvertsTo s r mode) fit of =
-      converting x h.0 s (listed x.setting (seen x) s of) (spot_of r) (base_of r fit.1.0) heard (ForJob j) (known x.setting (seen heard) s (spot_of r)) mode r.name refl
+      turned x h.0 s (listed x.setting (seen x) s of) (spot_of r) (base_of r fit.1.0) heard (ForJob j) (spot_of r) mode r.name refl
   decision_stands (Requests s r) fit of = plain x.setting x.past s.number r.path (RequestRead j) r.offset _ refl refl (base_at_sector x.setting setting r.offset (base_of r fit.1.0))
   decision_stands (SetsValue s at v) fit of =
       let base = subst (λ (z : Spot). IsTrue (is_base x.setting.layout z.base)) (sym fit.1.2) (base_of fit.1.0 fit.1.1.0) in

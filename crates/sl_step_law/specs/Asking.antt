@@ -5,13 +5,13 @@ use Rattle.sl_host_state.specs.Stands.{sectors_of}
 use Rattle.sl_host_state.specs.declared.kept.OpenCall.{OpenCall}
 use Rattle.sl_step_law.specs.Ready.{IsReady}
 use Rattle.sl_trace.specs.declared.effects.JoinStep.TheVariants.{ClaimWrite, DecidingRead, FirstRead, FirstRenewal, VerifyRead, WatchRead}
-use Rattle.sl_trace.specs.declared.effects.LeaseStep.TheVariants.{ClearMode, FreeLeader, Phase1Read, Phase1Write, Phase2Read, Phase2Write, ReadArea, ReadBeforeFree, SetMode, TakeLeader}
+use Rattle.sl_trace.specs.declared.effects.LeaseStep.TheVariants.{ClearMode, FreeLeader, Phase1Read, Phase1Write, Phase2Read, Phase2Write, ReadAgain, ReadArea, ReadBeforeBlock, ReadBeforeFree, SetMode, TakeLeader}
 use Rattle.sl_trace.specs.declared.effects.Op.{Op}
 use Rattle.sl_trace.specs.declared.effects.Purpose.TheVariants.{Joining, Lease, Leaving, Renewal, RequestRead, RequestWrite, SeeRequest, Survey, ValueRead, ValueWrite}
 use Rattle.sl_trace.specs.declared.effects.Purpose.{Purpose}
 use Rattle.std.specs.Prelude.{Contains, None, Option, Some, ℕ, ◌+◌, ◌≡◌}
 
--- Of so many hosts; none of a write.
+-- Of so many hosts; none of a write. Where a block has one sector no read is before a block, and none is made once more.
 abbrev pub sectors_asked : ℕ → Purpose → Option ℕ
 sectors_asked hosts (Joining j FirstRead) = Some 1
 sectors_asked hosts (Joining j WatchRead) = Some 1
@@ -32,6 +32,8 @@ sectors_asked hosts (Lease work SetMode) = None
 sectors_asked hosts (Lease work FreeLeader) = None
 sectors_asked hosts (Lease work ClearMode) = None
 sectors_asked hosts (Lease work ReadBeforeFree) = Some (hosts + 2)
+sectors_asked hosts (Lease work ReadBeforeBlock) = None
+sectors_asked hosts (Lease work (ReadAgain read)) = None
 sectors_asked hosts (RequestRead j) = Some 2
 sectors_asked hosts (RequestWrite j owner) = None
 sectors_asked hosts SeeRequest = Some 1

@@ -40,5 +40,5 @@ pub record StepsAreTaken : Type 0 where
 
 -- A new host stands for no step and is sound, of each setting that a daemon may be made of and whose layout is the program's.
 pub record HostsBegin : Type 0 where
-  pub stands : (st : Setting) → IsOfProgram st.layout → HostStands (new_host st) st []
+  pub stands : (st : Setting) → IsSetting st → IsOfProgram st.layout → HostStands (new_host st) st []
   pub sound : (st : Setting) → IsSetting st → IsOfProgram st.layout → IsSound (new_host st)

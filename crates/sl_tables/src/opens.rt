@@ -15,7 +15,7 @@ use crate::rising::Rising;
 use indexmap::IndexMap;
 use sl_host_state::{OpenCall, ValuePair};
 use sl_text::{FilePath, Name};
-use sl_trace::{JoinStep, LeaseStep, Purpose, Spot, Work};
+use sl_trace::{JoinStep, LeaseRead, LeaseStep, Purpose, Spot, Work};
 use std::alloc::{AllocError, Global};
 use std::marker::Model;
 
@@ -91,6 +91,7 @@ type WithinCall = (
     Purpose,
     Work,
     LeaseStep,
+    LeaseRead,
     JoinStep,
     ValuePair,
     Name,

@@ -1,20 +1,24 @@
 -- What an action owes: a disk is handed out, the action is done to the area, and the area goes back. Where the devices don't tell what the
 -- disk has, nothing of it is owed, so what the area tells is forgotten; where they do, the area has what the disk had.
-use Rattle.sl_area.specs.Layouts.{layout_of}
+use Rattle.sl_area.specs.Layouts.{Sizes, layout_of}
 use Rattle.sl_direct.specs.Actions.{Acts, AreReadAt, Directs, Look, Reads, Writes, dump_look, leader_look, path_of}
 use Rattle.sl_direct.specs.FreshAreas.{Write, lockspace_writes, resource_writes}
 use Rattle.sl_direct.specs.Lines.{lockspace_line, resource_line}
-use Rattle.sl_direct.specs.declared.action.Action.TheVariants.{Dump, InitLockspace, InitResource, ReadLeader}
+use Rattle.sl_direct.specs.Upgrades.{IsOldArea, IsSectorAt, OldArea, ReadsBlock, ReadsBlocks, ReadsLeader, Upgrades}
+use Rattle.sl_direct.specs.declared.action.Action.TheVariants.{Dump, InitLockspace, InitResource, ReadLeader, Upgrade}
 use Rattle.sl_direct.specs.declared.action.Action.{Action}
-use Rattle.sl_direct.specs.declared.action.Directed.TheVariants.{AreaFault, Done, NoMemory, NotTheLeader, WriteFault}
+use Rattle.sl_direct.specs.declared.action.Directed.TheVariants.{AreaFault, Done, NoMemory, NotTheLeader, TornBlock, WriteFault}
 use Rattle.sl_direct.specs.declared.action.Directed.{Directed}
+use Rattle.sl_sector.specs.declared.sector.Block.{Block}
+use Rattle.sl_sector.specs.declared.sector.Leader.{Leader}
+use Rattle.sl_trace.specs.declared.command.ResourceArg.{ResourceArg}
 use Rattle.sl_top.proofs.RunLaws.{nothing_put}
 use Rattle.sl_outside.specs.Disks.{CountsBack, Disks, HandsOut, KeepsAllBut, TakesBack}
 use Rattle.sl_top.specs.Runs.{ActsOn}
 use Rattle.sl_top.specs.Statuses.{status_after}
 use Rattle.sl_top.specs.declared.status.Status.TheVariants as status
 use Rattle.sl_top.specs.declared.status.Status.{Status}
-use Rattle.std.proofs.Common.{List, None, Option, Some, [], ap, arith, inl, refl, subst, sym, ℕ, ◌+◌, ◌∙◌, ◌∷◌, ◌≡◌}
+use Rattle.std.proofs.Common.{List, None, Option, Some, [], ap, arith, inl, refl, subst, suc, sym, ℕ, ◌+◌, ◌∙◌, ◌∷◌, ◌≡◌}
 use Rattle.std.specs.Io.KnownBytes.{Keeps}
 use Rattle.std.specs.Prelude.{option_map}
 
@@ -31,15 +35,54 @@ writes_untold ws line content left after lines AreaFault h = (tt, h.1)
 writes_untold ws line content left after lines NoMemory h = (tt, h.1)
 writes_untold ws line content left after lines WriteFault h = h
 writes_untold ws line content left after lines NotTheLeader h = h
+writes_untold ws line content left after lines TornBlock h = h
 
 reads_untold : (k : Look) (content left after : Option (List ℕ)) (lines : List (List ℕ)) (d : Directed) → Reads k content left lines d → Reads k None after lines d
 reads_untold k content left after lines d h =
     record { kept = tt; sectors = h.sectors; read = sectors_untold content k.sector k.offset h.sectors h.read; told = h.told; ended = h.ended }
 
+sector_untold : (content : Option (List ℕ)) (size at : ℕ) (s : List ℕ) → IsSectorAt content size at s → IsSectorAt None size at s
+sector_untold content size at s h = record { long = h.long; read = tt }
+
+leader_untold : (r : ResourceArg) (g : Sizes) (content : Option (List ℕ)) (l : Leader) → ReadsLeader r g content l → ReadsLeader r g None l
+leader_untold r g content l h = record { sector = h.sector; at = sector_untold content _ _ h.sector h.at; is = h.is }
+
+block_untold : (g : Sizes) (base : ℕ) (content : Option (List ℕ)) (id : ℕ) (o : Option Block) → ReadsBlock g base content id o → ReadsBlock g base None id o
+block_untold g base content id o h = record { sector = h.sector; at = sector_untold content _ _ h.sector h.at; is = h.is }
+
+blocks_untold : (g : Sizes) (base : ℕ) (content : Option (List ℕ)) (id : ℕ) (bs : List Block) → ReadsBlocks g base content id bs → ReadsBlocks g base None id bs
+blocks_untold g base content id [] h = tt
+blocks_untold g base content id (b ∷ bs) h = (block_untold g base content id (Some b) h.0, blocks_untold g base content (suc id) bs h.1)
+
+old_untold : (r : ResourceArg) (g : Sizes) (content : Option (List ℕ)) (old : OldArea) → IsOldArea r g content old → IsOldArea r g None old
+old_untold r g content old h =
+    record { leader = leader_untold r g content old.leader h.leader; count = h.count; blocks = blocks_untold g r.offset content 1 old.blocks h.blocks }
+
+upgrades_untold : (r : ResourceArg) (g : Sizes) (content left after : Option (List ℕ)) (lines : List (List ℕ)) (d : Directed) → Upgrades r g content left lines d → Upgrades r g None after lines d
+upgrades_untold r g content left after lines Done h = (record { old = h.0.old; is = old_untold r g content h.0.old h.0.is; wrote = tt }, h.1)
+upgrades_untold r g content left after lines AreaFault h = (inl tt, h.1)
+upgrades_untold r g content left after lines NoMemory h = (tt, h.1)
+upgrades_untold r g content left after lines NotTheLeader h =
+    (tt, record { sector = h.1.sector; at = sector_untold content _ _ h.1.sector h.1.at; none = h.1.none; told = h.1.told })
+upgrades_untold r g content left after lines TornBlock h = (
+  tt,
+  record {
+    leader = h.1.leader;
+    reads = leader_untold r g content h.1.leader h.1.reads;
+    before = h.1.before;
+    blocks = blocks_untold g r.offset content 1 h.1.before h.1.blocks;
+    host = h.1.host;
+    torn = block_untold g r.offset content _ None h.1.torn;
+    told = h.1.told;
+  },
+)
+upgrades_untold r g content left after lines WriteFault h = h
+
 acts_untold : (a : Action) (content left after : Option (List ℕ)) (lines : List (List ℕ)) (d : Directed) → Acts a content left lines d → Acts a None after lines d
 acts_untold (InitLockspace l g) = writes_untold (lockspace_writes (layout_of g) l.name l.offset) (lockspace_line l g.hosts)
 acts_untold (InitResource r g) = writes_untold (resource_writes (layout_of g) r.lockspace r.name r.offset) (resource_line r g.hosts)
 acts_untold (ReadLeader r g) = reads_untold (leader_look r g.sector)
+acts_untold (Upgrade r g) = upgrades_untold r g
 acts_untold (Dump path offset size g) = reads_untold (dump_look offset size g.sector)
 
 directs_untold : (a : Action) (content left after : Option (List ℕ)) (faults later : ℕ) (taken now : Option (List ℕ)) (sink_faults sink_later : ℕ) (d : Directed)
@@ -112,6 +155,7 @@ keeps_same (Some c) = refl
 nothing_acted : (a : Action) (content : Option (List ℕ)) → Acts a content content [] NoMemory
 nothing_acted (InitLockspace l g) content = (keeps_same content, refl)
 nothing_acted (InitResource r g) content = (keeps_same content, refl)
+nothing_acted (Upgrade r g) content = (keeps_same content, refl)
 nothing_acted (ReadLeader r g) content = record { kept = keeps_same content; sectors = []; read = tt; told = refl; ended = omega arith }
 nothing_acted (Dump path offset size g) content = record { kept = keeps_same content; sectors = []; read = tt; told = refl; ended = omega arith }
 

@@ -4,8 +4,10 @@ use Rattle.sl_cli.specs.declared.reading.Words.TheVariants.{Direct, Generate, He
 use Rattle.sl_cli.specs.declared.reading.Words.{Words}
 use Rattle.sl_cli.specs.declared.texts.TheConstants.{HELP, VERSION}
 use Rattle.sl_direct.proofs.AreaLaws.{leader_is_told}
+use Rattle.sl_direct.proofs.UpgradeTold.{upgrade_is_told}
 use Rattle.sl_direct.specs.Actions.{Directs, path_of}
-use Rattle.sl_direct.specs.declared.action.Action.TheVariants.{ReadLeader}
+use Rattle.sl_direct.specs.Laws.{can_upgrade}
+use Rattle.sl_direct.specs.declared.action.Action.TheVariants.{ReadLeader, Upgrade}
 use Rattle.sl_direct.specs.declared.action.Action.{Action}
 use Rattle.sl_direct.specs.declared.action.Directed.TheVariants as directed
 use Rattle.sl_direct.specs.declared.action.Directed.{Directed}
@@ -16,7 +18,7 @@ use Rattle.sl_run_report.proofs.OneReport.{accepted_schedules_end_well as accept
 use Rattle.sl_run_report.specs.Promises.{replay_status}
 use Rattle.sl_top.proofs.LiveLaws.{live_caused, not_a_look, not_bad as not_bad_live}
 use Rattle.sl_top.proofs.RunLaws.{whole_headers}
-use Rattle.sl_top.specs.Laws.{AcceptedSchedulesEndWell, CausesHaveStatuses, HasItsCause, IsNotTheLeader, NothingFailed, OthersAreRefused, StatusesHaveCauses, has_leader}
+use Rattle.sl_top.specs.Laws.{AcceptedSchedulesEndWell, CantBeUpgraded, CausesHaveStatuses, HasItsCause, IsNotTheLeader, NothingFailed, OthersAreRefused, StatusesHaveCauses, has_leader}
 use Rattle.sl_top.specs.Runs.{ActsOn, IsCutShort, IsWritten, Outside, PutsOut, Replays, RunsLive, bad_words_text}
 use Rattle.sl_top.specs.Statuses.{code, status_after}
 use Rattle.sl_top.specs.declared.status.Status.TheVariants.{AreaFault, BadWords, Differs, Done, NoMemory, NotTheLeader, ReadFault, Refused, WriteFault}
@@ -91,6 +93,7 @@ not_refused directed.WriteFault e = absurd cc
 not_refused directed.NoMemory e = absurd cc
 not_refused directed.AreaFault e = absurd cc
 not_refused directed.NotTheLeader e = absurd cc
+not_refused directed.TornBlock e = absurd cc
 
 not_bad : (d : Directed) → status_after d ≡ BadWords → ⊥
 not_bad directed.Done e = absurd cc
@@ -98,6 +101,7 @@ not_bad directed.WriteFault e = absurd cc
 not_bad directed.NoMemory e = absurd cc
 not_bad directed.AreaFault e = absurd cc
 not_bad directed.NotTheLeader e = absurd cc
+not_bad directed.TornBlock e = absurd cc
 
 not_read : (d : Directed) → status_after d ≡ ReadFault → ⊥
 not_read directed.Done e = absurd cc
@@ -105,6 +109,7 @@ not_read directed.WriteFault e = absurd cc
 not_read directed.NoMemory e = absurd cc
 not_read directed.AreaFault e = absurd cc
 not_read directed.NotTheLeader e = absurd cc
+not_read directed.TornBlock e = absurd cc
 
 not_differing : (d : Directed) → status_after d ≡ Differs → ⊥
 not_differing directed.Done e = absurd cc
@@ -112,6 +117,7 @@ not_differing directed.WriteFault e = absurd cc
 not_differing directed.NoMemory e = absurd cc
 not_differing directed.AreaFault e = absurd cc
 not_differing directed.NotTheLeader e = absurd cc
+not_differing directed.TornBlock e = absurd cc
 
 write_failed : (d : Directed) → status_after d ≡ WriteFault → d ≡ directed.WriteFault
 write_failed directed.Done e = absurd cc
@@ -119,6 +125,7 @@ write_failed directed.WriteFault e = refl
 write_failed directed.NoMemory e = absurd cc
 write_failed directed.AreaFault e = absurd cc
 write_failed directed.NotTheLeader e = absurd cc
+write_failed directed.TornBlock e = absurd cc
 
 area_failed : (d : Directed) → status_after d ≡ AreaFault → d ≡ directed.AreaFault
 area_failed directed.Done e = absurd cc
@@ -126,13 +133,15 @@ area_failed directed.WriteFault e = absurd cc
 area_failed directed.NoMemory e = absurd cc
 area_failed directed.AreaFault e = refl
 area_failed directed.NotTheLeader e = absurd cc
+area_failed directed.TornBlock e = absurd cc
 
-other_leader : (d : Directed) → status_after d ≡ NotTheLeader → d ≡ directed.NotTheLeader
+other_leader : (d : Directed) → status_after d ≡ NotTheLeader → (d ≡ directed.NotTheLeader) ⊎ (d ≡ directed.TornBlock)
 other_leader directed.Done e = absurd cc
 other_leader directed.WriteFault e = absurd cc
 other_leader directed.NoMemory e = absurd cc
 other_leader directed.AreaFault e = absurd cc
-other_leader directed.NotTheLeader e = refl
+other_leader directed.NotTheLeader e = inl refl
+other_leader directed.TornBlock e = inr refl
 
 some_fault : (n : ℕ) → Rose 0 n → 0 < n
 some_fault n rose = omega (arith, rose)
@@ -149,14 +158,63 @@ leader_cause a x now counted taken put sink_faults sink_later r g is h =
           (subst (λ c. Directs (ReadLeader r g) c now 0 counted taken put sink_faults sink_later directed.NotTheLeader) told h);
     }
 
+no_leader_cause : (a : Action) (x : Outside) (now : Option (List ℕ)) (counted : ℕ) (taken put : Option (List ℕ)) (sink_faults sink_later : ℕ) (r : ResourceArg) (g : Sizes) → a ≡ Upgrade r g
+    → Directs (Upgrade r g) (x.disks r.path) now 0 counted taken put sink_faults sink_later directed.NotTheLeader → CantBeUpgraded (Some (Direct a)) x
+no_leader_cause a x now counted taken put sink_faults sink_later r g is h =
+    record {
+      resource = r;
+      geometry = g;
+      asked = ap (λ b. Some (Direct b)) is;
+      other = λ content told.
+          upgrade_is_told.no_leader r g content now 0 counted taken put sink_faults sink_later
+          (subst (λ c. Directs (Upgrade r g) c now 0 counted taken put sink_faults sink_later directed.NotTheLeader) told h);
+    }
+
+torn_cause : (a : Action) (x : Outside) (now : Option (List ℕ)) (counted : ℕ) (taken put : Option (List ℕ)) (sink_faults sink_later : ℕ) (r : ResourceArg) (g : Sizes) → a ≡ Upgrade r g
+    → Directs (Upgrade r g) (x.disks r.path) now 0 counted taken put sink_faults sink_later directed.TornBlock → CantBeUpgraded (Some (Direct a)) x
+torn_cause a x now counted taken put sink_faults sink_later r g is h =
+    record {
+      resource = r;
+      geometry = g;
+      asked = ap (λ b. Some (Direct b)) is;
+      other = λ content told.
+          upgrade_is_told.torn_block r g content now 0 counted taken put sink_faults sink_later
+          (subst (λ c. Directs (Upgrade r g) c now 0 counted taken put sink_faults sink_later directed.TornBlock) told h);
+    }
+
+-- The action is done to the disk at its path.
+acted_on : (a b : Action) (x y : Outside) (counted : ℕ) (d : Directed) → a ≡ b
+    → Directs a (x.disks (path_of a)) (y.disks (path_of a)) 0 counted x.taken y.taken x.sink_faults y.sink_faults d
+    → Directs b (x.disks (path_of b)) (y.disks (path_of b)) 0 counted x.taken y.taken x.sink_faults y.sink_faults d
+acted_on a b x y counted d is h =
+    subst (λ c. Directs c (x.disks (path_of c)) (y.disks (path_of c)) 0 counted x.taken y.taken x.sink_faults y.sink_faults d) is h
+
 leader_caused : (a : Action) (x y : Outside) (s : Status) → (run : ActsOn a x.disks y.disks x.device_faults y.device_faults x.taken y.taken x.sink_faults y.sink_faults s)
-    → run.ended ≡ directed.NotTheLeader → IsNotTheLeader (Some (Direct a)) x
+    → run.ended ≡ directed.NotTheLeader → IsNotTheLeader (Some (Direct a)) x ⊎ CantBeUpgraded (Some (Direct a)) x
 leader_caused a x y s run is =
     let h = subst (λ d. Directs a (x.disks (path_of a)) (y.disks (path_of a)) 0 run.counted x.taken y.taken x.sink_faults y.sink_faults d) is run.directs in
-    let found : (r : ResourceArg) × (g : Sizes) × (a ≡ ReadLeader r g) =
+    let found : (r : ResourceArg) × (g : Sizes) × ((a ≡ ReadLeader r g) ⊎ (a ≡ Upgrade r g)) =
     leader_is_told.other a (x.disks (path_of a)) (y.disks (path_of a)) 0 run.counted x.taken y.taken x.sink_faults y.sink_faults h in
-    leader_cause a x (y.disks found.0.path) run.counted x.taken y.taken x.sink_faults y.sink_faults found.0 found.1 found.2
-    (subst (λ b. Directs b (x.disks (path_of b)) (y.disks (path_of b)) 0 run.counted x.taken y.taken x.sink_faults y.sink_faults directed.NotTheLeader) found.2 h)
+    elim found.2 [
+      | inl look ↦ inl (leader_cause a x (y.disks found.0.path) run.counted x.taken y.taken x.sink_faults y.sink_faults found.0 found.1 look
+          (acted_on a (ReadLeader found.0 found.1) x y run.counted directed.NotTheLeader look h))
+      | inr upgrade ↦ inr (no_leader_cause a x (y.disks found.0.path) run.counted x.taken y.taken x.sink_faults y.sink_faults found.0 found.1 upgrade
+          (acted_on a (Upgrade found.0 found.1) x y run.counted directed.NotTheLeader upgrade h))
+    ]
+
+torn_caused : (a : Action) (x y : Outside) (s : Status) → (run : ActsOn a x.disks y.disks x.device_faults y.device_faults x.taken y.taken x.sink_faults y.sink_faults s)
+    → run.ended ≡ directed.TornBlock → CantBeUpgraded (Some (Direct a)) x
+torn_caused a x y s run is =
+    let h = subst (λ d. Directs a (x.disks (path_of a)) (y.disks (path_of a)) 0 run.counted x.taken y.taken x.sink_faults y.sink_faults d) is run.directs in
+    let found : (r : ResourceArg) × (g : Sizes) × (a ≡ Upgrade r g) =
+    upgrade_is_told.other a (x.disks (path_of a)) (y.disks (path_of a)) 0 run.counted x.taken y.taken x.sink_faults y.sink_faults h in
+    torn_cause a x (y.disks found.0.path) run.counted x.taken y.taken x.sink_faults y.sink_faults found.0 found.1 found.2
+    (acted_on a (Upgrade found.0 found.1) x y run.counted directed.TornBlock found.2 h)
+
+other_caused : (a : Action) (x y : Outside) (s : Status) → (run : ActsOn a x.disks y.disks x.device_faults y.device_faults x.taken y.taken x.sink_faults y.sink_faults s)
+    → (run.ended ≡ directed.NotTheLeader) ⊎ (run.ended ≡ directed.TornBlock) → IsNotTheLeader (Some (Direct a)) x ⊎ CantBeUpgraded (Some (Direct a)) x
+other_caused a x y s run (inl is) = leader_caused a x y s run is
+other_caused a x y s run (inr is) = inr (torn_caused a x y s run is)
 
 direct_caused : (a : Action) (x y : Outside) (s : Status) → ActsOn a x.disks y.disks x.device_faults y.device_faults x.taken y.taken x.sink_faults y.sink_faults s
     → HasItsCause (Some (Direct a)) x y s
@@ -167,7 +225,7 @@ direct_caused a x y s run =
       read_fault = λ e. absurd (not_read run.ended (sym run.status ∙ e));
       write_fault = λ e. run.directs.write_fault (write_failed run.ended (sym run.status ∙ e));
       area_fault = λ e. (inl (a, refl), run.count.rose (some_fault run.counted (run.directs.area_fault (area_failed run.ended (sym run.status ∙ e)))));
-      not_the_leader = λ e. leader_caused a x y s run (other_leader run.ended (sym run.status ∙ e));
+      not_the_leader = λ e. other_caused a x y s run (other_leader run.ended (sym run.status ∙ e));
       differs = λ e. absurd (not_differing run.ended (sym run.status ∙ e));
     }
 
@@ -210,6 +268,20 @@ leader_found r g content now counted taken put sink_faults sink_later directed.W
 leader_found r g content now counted taken put sink_faults sink_later directed.NoMemory s h is other = inr (inr (inr is))
 leader_found r g content now counted taken put sink_faults sink_later directed.AreaFault s h is other = inr (inl is)
 leader_found r g content now counted taken put sink_faults sink_later directed.NotTheLeader s h is other = inl is
+leader_found r g content now counted taken put sink_faults sink_later directed.TornBlock s h is other = inl is
+
+-- An upgrade that is done could be.
+upgrade_found : (r : ResourceArg) (g : Sizes) (content : List ℕ) (now : Option (List ℕ)) (counted : ℕ) (taken put : Option (List ℕ)) (sink_faults sink_later : ℕ) (d : Directed) (s : Status)
+    → Directs (Upgrade r g) (Some content) now 0 counted taken put sink_faults sink_later d → s ≡ status_after d → can_upgrade r g content ≡ false
+    → (s ≡ NotTheLeader) ⊎ (s ≡ AreaFault) ⊎ IsCutShort s
+upgrade_found r g content now counted taken put sink_faults sink_later directed.Done s h is other =
+    let right : can_upgrade r g content ≡ true = upgrade_is_told.right r g content now 0 counted taken put sink_faults sink_later h in
+    let no : false ≡ true = sym other ∙ right in absurd cc
+upgrade_found r g content now counted taken put sink_faults sink_later directed.WriteFault s h is other = inr (inr (inl is))
+upgrade_found r g content now counted taken put sink_faults sink_later directed.NoMemory s h is other = inr (inr (inr is))
+upgrade_found r g content now counted taken put sink_faults sink_later directed.AreaFault s h is other = inr (inl is)
+upgrade_found r g content now counted taken put sink_faults sink_later directed.NotTheLeader s h is other = inl is
+upgrade_found r g content now counted taken put sink_faults sink_later directed.TornBlock s h is other = inl is
 
 pub causes_have_statuses : CausesHaveStatuses
 causes_have_statuses =
@@ -218,6 +290,9 @@ causes_have_statuses =
       not_the_leader = λ r g content x y s run told other.
           leader_found r g content (y.disks r.path) run.counted x.taken y.taken x.sink_faults y.sink_faults run.ended s
           (subst (λ c. Directs (ReadLeader r g) c (y.disks r.path) 0 run.counted x.taken y.taken x.sink_faults y.sink_faults run.ended) told run.directs) run.status other;
+      cant_be_upgraded = λ r g content x y s run told other.
+          upgrade_found r g content (y.disks r.path) run.counted x.taken y.taken x.sink_faults y.sink_faults run.ended s
+          (subst (λ c. Directs (Upgrade r g) c (y.disks r.path) 0 run.counted x.taken y.taken x.sink_faults y.sink_faults run.ended) told run.directs) run.status other;
     }
 
 -- ---- accepted schedules

@@ -2,9 +2,9 @@
 use Rattle.sl_area.specs.Layouts.{Sizes}
 use Rattle.sl_cli.specs.declared.reading.Words.TheVariants.{Direct, Replay}
 use Rattle.sl_cli.specs.declared.reading.Words.{Words}
-use Rattle.sl_direct.specs.Laws.{sector_at}
+use Rattle.sl_direct.specs.Laws.{can_upgrade, sector_at}
 use Rattle.sl_direct.specs.Lines.{is_its_leader, leader_in_sector}
-use Rattle.sl_direct.specs.declared.action.Action.TheVariants.{ReadLeader}
+use Rattle.sl_direct.specs.declared.action.Action.TheVariants.{ReadLeader, Upgrade}
 use Rattle.sl_host_step.specs.Serving.{Serves, whole_commands}
 use Rattle.sl_live_lines.specs.declared.line.LiveLine.{LiveLine}
 use Rattle.sl_live_play.specs.Differing.{differ_text}
@@ -37,6 +37,14 @@ pub record IsNotTheLeader (w : Option Words) (x : Outside) : Type 0 where
   pub asked : w ≡ Some (Direct (ReadLeader resource geometry))
   pub other : (content : List ℕ) → x.disks resource.path ≡ Some content → has_leader resource geometry.sector content ≡ false
 
+-- An area was to be upgraded, and it could not be, where the disk is told: the sector was not the resource's leader of an area without
+-- pairs for so many hosts, or a block was torn.
+pub record CantBeUpgraded (w : Option Words) (x : Outside) : Type 0 where
+  pub resource : ResourceArg
+  pub geometry : Sizes
+  pub asked : w ≡ Some (Direct (Upgrade resource geometry))
+  pub other : (content : List ℕ) → x.disks resource.path ≡ Some content → can_upgrade resource geometry content ≡ false
+
 -- A case was put out that holds of a machine of a live run.
 pub record SomeDiffer (x y : Outside) : Type 0 where
   pub header : Header
@@ -53,7 +61,7 @@ pub record HasItsCause (w : Option Words) (x y : Outside) (s : Status) : Type 0 
   pub read_fault : s ≡ ReadFault → ((w ≡ Some Replay) ⊎ IsLive w) × Rose x.source_faults y.source_faults
   pub write_fault : s ≡ WriteFault → Rose x.sink_faults y.sink_faults
   pub area_fault : s ≡ AreaFault → (IsDirect w ⊎ IsLive w) × Rose x.device_faults y.device_faults
-  pub not_the_leader : s ≡ NotTheLeader → IsNotTheLeader w x
+  pub not_the_leader : s ≡ NotTheLeader → IsNotTheLeader w x ⊎ CantBeUpgraded w x
   -- records of a live machine differ: the case that is put out holds
   pub differs : s ≡ Differs → IsLive w × SomeDiffer x y
 
@@ -65,6 +73,8 @@ pub record CausesHaveStatuses : Type 0 where
   pub bad_words : (x y : Outside) (s : Status) → Owes None x y s → (s ≡ BadWords) ⊎ IsCutShort s
   pub not_the_leader : (r : ResourceArg) (g : Sizes) (content : List ℕ) (x y : Outside) (s : Status) → Owes (Some (Direct (ReadLeader r g))) x y s
       → x.disks r.path ≡ Some content → has_leader r g.sector content ≡ false → (s ≡ NotTheLeader) ⊎ (s ≡ AreaFault) ⊎ IsCutShort s
+  pub cant_be_upgraded : (r : ResourceArg) (g : Sizes) (content : List ℕ) (x y : Outside) (s : Status) → Owes (Some (Direct (Upgrade r g))) x y s
+      → x.disks r.path ≡ Some content → can_upgrade r g content ≡ false → (s ≡ NotTheLeader) ⊎ (s ≡ AreaFault) ⊎ IsCutShort s
 
 -- Nothing failed: neither the source nor the sink counts more faults than before.
 pub record NothingFailed (x y : Outside) : Type 0 where

@@ -38,6 +38,7 @@ status_after directed.WriteFault = WriteFault
 status_after directed.NoMemory = NoMemory
 status_after directed.AreaFault = AreaFault
 status_after directed.NotTheLeader = NotTheLeader
+status_after directed.TornBlock = NotTheLeader
 
 -- The status of a generation that ended so.
 abbrev pub status_of_generated : Generated → Status

@@ -73,6 +73,7 @@ pub(crate) fn status_after(directed: Directed) -> Status
         Directed::NoMemory => Status::NoMemory,
         Directed::AreaFault => Status::AreaFault,
         Directed::NotTheLeader => Status::NotTheLeader,
+        Directed::TornBlock => Status::NotTheLeader,
     }
 }
 

@@ -9,6 +9,8 @@ use Rattle.sl_trace.specs.contracts.effects.EntryPartialEq.TheImpl.{ghosts as en
 use Rattle.sl_trace.specs.contracts.effects.GrantPartialEq.TheImpl.{ghosts as grant}
 use Rattle.sl_trace.specs.contracts.effects.JobReplyPartialEq.TheImpl.{ghosts as job_reply}
 use Rattle.sl_trace.specs.contracts.effects.JoinStepPartialEq.TheImpl.{ghosts as join_step}
+use Rattle.sl_trace.specs.contracts.effects.LeaseRead.{enum as lease_read_enum}
+use Rattle.sl_trace.specs.contracts.effects.LeaseReadPartialEq.TheImpl.{ghosts as lease_read}
 use Rattle.sl_trace.specs.contracts.effects.LeaseStep.{enum as lease_step_enum}
 use Rattle.sl_trace.specs.contracts.effects.LeaseStepPartialEq.TheImpl.{ghosts as lease_step}
 use Rattle.sl_trace.specs.contracts.effects.MovePartialEq.TheImpl.{ghosts as move}
@@ -34,6 +36,7 @@ use Rattle.sl_trace.specs.declared.effects.Entry.{Entry}
 use Rattle.sl_trace.specs.declared.effects.Grant.{Grant}
 use Rattle.sl_trace.specs.declared.effects.JobReply.{JobReply}
 use Rattle.sl_trace.specs.declared.effects.JoinStep.{JoinStep}
+use Rattle.sl_trace.specs.declared.effects.LeaseRead.{LeaseRead}
 use Rattle.sl_trace.specs.declared.effects.LeaseStep.{LeaseStep}
 use Rattle.sl_trace.specs.declared.effects.Move.{Move}
 use Rattle.sl_trace.specs.declared.effects.Op.{Op}
@@ -62,8 +65,19 @@ join_step_told a b = search rules
 work_told : (a b : Work) → Decides (work.eq a b) (a ≡ b)
 work_told a b = search rules
 
+lease_read_told : (a b : LeaseRead) → Decides (lease_read.eq a b) (a ≡ b)
+lease_read_told a b = told lease_read_enum _ (search rules) a b
+
 lease_step_told : (a b : LeaseStep) → Decides (lease_step.eq a b) (a ≡ b)
-lease_step_told a b = told lease_step_enum _ (search rules) a b
+lease_step_told a b =
+    told lease_step_enum _ (
+      last bytes_decides,
+      (
+        none,
+        (none, (last lease_read_told, (none, (none, (none, (none, (none, (none, (none, (none, tt)))))))))),
+      ),
+    )
+    a b
 
 pub purpose_told : (a b : Purpose) → Decides (purpose.eq a b) (a ≡ b)
 purpose_told a b =

@@ -2,3 +2,5 @@ pub mod Comparing
 pub mod TraceFacts
 pub mod EvidenceFacts
 pub mod NumberFacts
+pub mod PlainReads
+pub mod PlainWork

@@ -22,7 +22,7 @@ use Rattle.sl_trace.specs.declared.reply.DeltaOwner.{DeltaOwner}
 use Rattle.sl_trace.specs.declared.reply.DeltaVersion.{DeltaVersion}
 use Rattle.sl_trace.specs.declared.reply.HostState.TheVariants.{Dead, Failing, Free as LooksFree, Live as LooksLive, Unknown}
 use Rattle.sl_trace.specs.declared.reply.HostState.{HostState}
-use Rattle.sl_trace.specs.declared.reply.Limited.TheVariants.{Children, Gen as GenLimit, Holders, Killpaths, Lockspaces, Lver as LverLimit, Mbal as MbalLimit, Resources, Seq as SeqLimit}
+use Rattle.sl_trace.specs.declared.reply.Limited.TheVariants.{Children, Gen as GenLimit, Holders, Killpaths, Lockspaces, Lver as LverLimit, Mbal as MbalLimit, Resources, Seq as SeqLimit, Turn as TurnLimit}
 use Rattle.sl_trace.specs.declared.reply.Limited.{Limited}
 use Rattle.sl_trace.specs.declared.reply.Reply.TheVariants.{Ahead, BadCommand as Misread, Busy, Done, Generation, Granted, Held as HeldBy, Hosts, IdHeld, IdLate, IdLost, IoFault, IoTimeout, Joined, Joining as StillJoining, Limit as LimitReached, NoOrphan, NoProcess, NoSession, NotHeld, Pending, Recovering, RequestOld, Rival, Sessions, Shared as SharedBy, SpawnFault, Started, TornBlock, TornDelta, TornLeader, Value, ValueSet, ValueTorn, WrongArea, WrongDelta}
 use Rattle.sl_trace.specs.declared.reply.Reply.{Reply}
@@ -59,6 +59,7 @@ limit_words GenLimit = codes "gen" ∷ greatest_number ∷ []
 limit_words SeqLimit = codes "seq" ∷ greatest_number ∷ []
 limit_words LverLimit = codes "lver" ∷ greatest_number ∷ []
 limit_words MbalLimit = codes "mbal" ∷ greatest_number ∷ []
+limit_words TurnLimit = codes "turn" ∷ greatest_number ∷ []
 
 -- Generation and seq.
 abbrev pub version_words : DeltaVersion → List (List ℕ)

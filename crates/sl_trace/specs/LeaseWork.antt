@@ -1,7 +1,7 @@
 -- What a lease does next: a decision on what is known of it, on what its newest call was for, and on that call's answer. It names
 -- neither a trace nor a step; carrying it out is another matter.
 use Rattle.sl_area.specs.Layouts.{Layout}
-use Rattle.sl_area.specs.Places.{area_blocks, blocks_in, leader_of}
+use Rattle.sl_area.specs.Places.{BlocksRead, blocks_of, blocks_part, leader_read, needs_again}
 use Rattle.sl_trace.specs.Ballots.{ballot_blocks, is_ahead, moded_block, phase1_block, phase2_block, same_owner, stop_of, value_of}
 use Rattle.sl_trace.specs.Leases.{LeaseKnown, instance_for, is_leader_of, mode_gen_of, owed, owed_free, own_known, shared_elsewhere}
 use Rattle.sl_trace.specs.declared.lease.Aim.TheVariants.{Acquires, Converts, Releases, Settles}
@@ -19,19 +19,21 @@ use Rattle.sl_sector.specs.declared.sector.Leader.{Leader}
 use Rattle.sl_sector.specs.declared.sector.Owner.{Owner}
 use Rattle.sl_trace.specs.declared.session.Session.{Session}
 use Rattle.sl_trace.specs.Traces.{Setting}
-use Rattle.sl_trace.specs.declared.effects.LeaseStep.TheVariants.{ClearMode, FreeLeader, Phase1Read, Phase1Write, Phase2Read, Phase2Write, ReadArea, ReadBeforeFree, SetMode, TakeLeader}
+use Rattle.sl_trace.specs.declared.effects.LeaseRead.TheVariants.{OfArea, OfBlock, OfFree, OfPhase1, OfPhase2}
+use Rattle.sl_trace.specs.declared.effects.LeaseRead.{LeaseRead}
+use Rattle.sl_trace.specs.declared.effects.LeaseStep.TheVariants.{ClearMode, FreeLeader, Phase1Read, Phase1Write, Phase2Read, Phase2Write, ReadAgain, ReadArea, ReadBeforeBlock, ReadBeforeFree, SetMode, TakeLeader}
 use Rattle.sl_trace.specs.declared.effects.LeaseStep.{LeaseStep}
 use Rattle.sl_trace.specs.declared.effects.Mode.TheVariants.{Exclusive, Shared}
 use Rattle.sl_trace.specs.declared.effects.Mode.{Mode}
 use Rattle.sl_trace.specs.declared.input.Answer.TheVariants.{Failed, Read, Written}
 use Rattle.sl_trace.specs.declared.input.Answer.{Answer}
-use Rattle.sl_trace.specs.declared.reply.Limited.TheVariants.{Lver as LverLimit, Mbal as MbalLimit}
+use Rattle.sl_trace.specs.declared.reply.Limited.TheVariants.{Lver as LverLimit, Mbal as MbalLimit, Turn as TurnLimit}
 use Rattle.sl_trace.specs.declared.reply.Reply.TheVariants.{Ahead, Done, Held as HeldBy, IoFault, Limit as LimitReached, Rival, Shared as SharedBy, TornBlock, TornLeader, WrongArea}
 use Rattle.sl_trace.specs.declared.reply.Reply.{Reply}
 use Rattle.sl_words.specs.Bounds.{is_number}
 use Rattle.sl_words.specs.Words.{present}
 use Rattle.std.specs.Option.{option_map_or}
-use Rattle.std.specs.Prelude.{Bool, List, None, Option, Some, false, is_none, position, true, ℕ, ◌+◌}
+use Rattle.std.specs.Prelude.{Bool, List, None, Option, Some, false, is_none, not, position, true, ℕ, ◌&&◌, ◌+◌}
 
 -- Where a lease stands.
 pub record LeasePlace : Type 0 where
@@ -91,6 +93,17 @@ settle_owed p k (Some (FreeOwed n)) = ReadFor ReadBeforeFree
 -- A settling does what is owed first.
 unfoldable pub settle_next : LeasePlace → LeaseKnown → LeaseNext
 settle_next p k = settle_owed p k (owed k)
+
+-- Whether what is owed is a block.
+abbrev pub owes_block : Option Owed → Bool
+owes_block None = false
+owes_block (Some (BallotOwed n)) = true
+owes_block (Some ModeOwed) = true
+owes_block (Some (FreeOwed n)) = false
+
+-- A settling begins: with pairs, one that writes a block reads the blocks first, once, for the turn and the next number alone.
+unfoldable pub settle_begin : LeasePlace → LeaseKnown → LeaseNext
+settle_begin p k = let g : Layout = p.layout in elim (g.paired && owes_block (owed k)) [ true ↦ ReadFor ReadBeforeBlock | false ↦ settle_next p k ]
 
 -- The refusal by what a read of the blocks shows.
 abbrev pub stop_reply : Stop → Reply
@@ -169,26 +182,70 @@ named_area_next p k aim l read =
     elim (position is_none read) [ Some i ↦ AnswerJob (TornBlock (i + 1)) | None ↦ whole_area_next p k aim l read ]
 
 -- After the read of the area for a job that names this resource: a torn leader, other names, a torn block refuse in this order.
-unfoldable pub area_next : LeasePlace → LeaseKnown → Aim → List ℕ → List ℕ → LeaseNext
-area_next p k aim name bytes =
-    elim (leader_of p.layout bytes) [
+unfoldable pub area_next : LeasePlace → LeaseKnown → Aim → List ℕ → Option Leader → List (Option Block) → LeaseNext
+area_next p k aim name leader read =
+    elim leader [
       | None ↦ AnswerJob TornLeader
       | Some l ↦ elim (is_leader_of p.layout p.lockspace name l) [
         | false ↦ AnswerJob (WrongArea l.lockspace l.resource l.num_hosts)
-        | true ↦ named_area_next p k aim l (area_blocks p.layout bytes)
+        | true ↦ named_area_next p k aim l read
       ]
     ]
 
 -- ---- by the answer of the newest call
 
+-- After a read that gave this leader and these blocks, by its step.
+abbrev pub after_read : LeasePlace → LeaseKnown → Aim → Option Leader → List (Option Block) → LeaseStep → LeaseNext
+after_read p k aim leader read (ReadArea name) = area_next p k aim name leader read
+after_read p k aim leader read ReadBeforeFree = option_map_or (λ n. WriteLeader FreeLeader (leader_for p k false n)) (owed_free k) Nothing
+after_read p k aim leader read ReadBeforeBlock = settle_next p k
+after_read p k aim leader read Phase1Read = option_map_or (λ own. after_phase1 p k aim own read (stop_of own read)) k.own Nothing
+after_read p k aim leader read Phase2Read = option_map_or (λ own. after_phase2 p k aim own (stop_of own read)) k.own Nothing
+after_read p k aim leader read step = Nothing
+
+-- Which read a step is, if it is a first one of blocks.
+abbrev pub read_of_step : LeaseStep → Option LeaseRead
+read_of_step (ReadArea name) = Some (OfArea name)
+read_of_step ReadBeforeFree = Some OfFree
+read_of_step ReadBeforeBlock = Some OfBlock
+read_of_step Phase1Read = Some OfPhase1
+read_of_step Phase2Read = Some OfPhase2
+read_of_step step = None
+
+-- The step of a read.
+abbrev pub step_of_read : LeaseRead → LeaseStep
+step_of_read (OfArea name) = ReadArea name
+step_of_read OfFree = ReadBeforeFree
+step_of_read OfBlock = ReadBeforeBlock
+step_of_read OfPhase1 = Phase1Read
+step_of_read OfPhase2 = Phase2Read
+
+-- The step that is made, or made once more.
+abbrev pub first_step : LeaseStep → LeaseStep
+first_step (ReadAgain read) = step_of_read read
+first_step step = step
+
+-- The bytes of all blocks in what a read gave, by the step that is made.
+abbrev pub part_read : Layout → List ℕ → LeaseStep → List ℕ
+part_read g bytes (ReadArea name) = blocks_part g bytes
+part_read g bytes ReadBeforeFree = blocks_part g bytes
+part_read g bytes step = bytes
+
+-- The read that is made once more: a first one, in whose answer some host's second sector is torn.
+abbrev pub asked_again : Layout → List ℕ → LeaseStep → Option LeaseRead
+asked_again g bytes step = elim (needs_again g (part_read g bytes step)) [ false ↦ None | true ↦ read_of_step step ]
+
+-- What was read of all blocks by this answer, with what is kept of the first one where it is the second.
+abbrev pub heard : Layout → LeaseKnown → List ℕ → LeaseStep → BlocksRead
+heard g k bytes step = record { kept = k.kept; last = part_read g bytes (first_step step) }
+
 -- After a read that gave these bytes, by its step.
-abbrev pub after_read : LeasePlace → LeaseKnown → Aim → List ℕ → LeaseStep → LeaseNext
-after_read p k aim bytes (ReadArea name) = area_next p k aim name bytes
-after_read p k aim bytes ReadBeforeFree = option_map_or (λ n. WriteLeader FreeLeader (leader_for p k false n)) (owed_free k) Nothing
-after_read p k aim bytes Phase1Read =
-    option_map_or (λ own. after_phase1 p k aim own (blocks_in p.layout bytes) (stop_of own (blocks_in p.layout bytes))) k.own Nothing
-after_read p k aim bytes Phase2Read = option_map_or (λ own. after_phase2 p k aim own (stop_of own (blocks_in p.layout bytes))) k.own Nothing
-after_read p k aim bytes step = Nothing
+unfoldable pub after_bytes : LeasePlace → LeaseKnown → Aim → List ℕ → LeaseStep → LeaseNext
+after_bytes p k aim bytes step =
+    elim (asked_again p.layout bytes step) [
+      | Some read ↦ ReadFor (ReadAgain read)
+      | None ↦ after_read p k aim (leader_read p.layout bytes (heard p.layout k bytes step)) (blocks_of p.layout (heard p.layout k bytes step)) (first_step step)
+    ]
 
 -- The leader of n is taken: exclusive is granted, or the shared holding converted and its mode cleared; shared goes on with the own
 -- block's mode.
@@ -234,7 +291,7 @@ after_write p k aim n step = Nothing
 
 -- What comes next after the answer of a call with this number, which wrote instance n, if any.
 unfoldable pub lease_next : LeasePlace → LeaseKnown → Aim → ℕ → ℕ → LeaseStep → Answer → LeaseNext
-lease_next p k aim call n step (Read bytes) = after_read p k aim bytes step
+lease_next p k aim call n step (Read bytes) = after_bytes p k aim bytes step
 lease_next p k aim call n step Written = after_write p k aim n step
 lease_next p k aim call n step Failed = refuses aim (IoFault call)
 
@@ -252,3 +309,15 @@ release_next p k Shared lver = option_map_or (λ own. WriteBlock ClearMode (mode
 abbrev pub convert_next : LeaseKnown → Mode → List ℕ → LeaseNext
 convert_next k Shared name = option_map_or (λ own. WriteBlock SetMode (moded_block own true k.self.generation)) k.own Nothing
 convert_next k Exclusive name = ReadFor (ReadArea name)
+
+-- ---- turns
+
+-- Refused where it writes a block.
+abbrev pub refuses_block : Aim → LeaseNext → LeaseNext
+refuses_block aim (WriteBlock step b) = refuses aim (LimitReached TurnLimit)
+refuses_block aim (BecomeExclusive lver b) = refuses aim (LimitReached TurnLimit)
+refuses_block aim next = next
+
+-- What was decided, unless it writes a block whose turn would pass its limit. Only blocks of pairs have a turn.
+unfoldable pub within_turn : LeasePlace → LeaseKnown → Aim → LeaseNext → LeaseNext
+within_turn p k aim next = let g : Layout = p.layout in elim (g.paired && not (is_number (k.turn + 1))) [ false ↦ next | true ↦ refuses_block aim next ]

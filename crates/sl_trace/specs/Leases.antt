@@ -1,7 +1,7 @@
 -- A session's work on one resource: its ballots, its block, what it owes. What is asked of a lease is a function of the lease's own
 -- list of calls, the newest first, so an entry that brings it no call and no answer changes nothing of it.
 use Rattle.sl_area.specs.Layouts.{Layout}
-use Rattle.sl_area.specs.Places.{area_blocks, blocks_in, in_area, leader_of}
+use Rattle.sl_area.specs.Places.{BlocksRead, blocks_of, blocks_part, in_area, leader_read, needs_again, pair_read, pairs_kept, read_once}
 use Rattle.sl_trace.specs.Ballots.{instance_of, is_ahead, owner_of, same_owner, stop_of, value_of}
 use Rattle.sl_trace.specs.declared.lease.Instance.{Instance}
 use Rattle.sl_trace.specs.declared.lease.Owed.TheVariants.{BallotOwed, FreeOwed, ModeOwed}
@@ -10,7 +10,8 @@ use Rattle.sl_trace.specs.declared.lease.Stop.{Stop}
 use Rattle.sl_sector.specs.declared.sector.Block.{Block}
 use Rattle.sl_sector.specs.declared.sector.Leader.{Leader}
 use Rattle.sl_sector.specs.declared.sector.Owner.{Owner}
-use Rattle.sl_sector.specs.declared.sector.Rec.TheVariants.{BlockIs, LeaderIs, ValueIs}
+use Rattle.sl_sector.specs.declared.sector.PairBlock.{PairBlock}
+use Rattle.sl_sector.specs.declared.sector.Rec.TheVariants.{BlockIs, LeaderIs, PairIs, PairLeaderIs, ValueIs}
 use Rattle.sl_sector.specs.declared.sector.Rec.{Rec}
 use Rattle.sl_sector.specs.declared.sector.ValueRec.{ValueRec}
 use Rattle.sl_trace.specs.Sessions.{calls_of, holdings_of, me}
@@ -20,14 +21,16 @@ use Rattle.sl_trace.specs.Traces.{Setting, Submitted, Trace, gave, is_answered_o
 use Rattle.sl_trace.specs.declared.command.ResourceArg.{ResourceArg}
 use Rattle.sl_trace.specs.declared.effects.Call.{Call}
 use Rattle.sl_trace.specs.declared.effects.Grant.{Grant}
-use Rattle.sl_trace.specs.declared.effects.LeaseStep.TheVariants.{ClearMode, FreeLeader, Phase1Read, Phase1Write, Phase2Read, Phase2Write, ReadArea, ReadBeforeFree, SetMode, TakeLeader}
+use Rattle.sl_trace.specs.declared.effects.LeaseRead.TheVariants.{OfArea, OfBlock, OfFree, OfPhase1, OfPhase2}
+use Rattle.sl_trace.specs.declared.effects.LeaseRead.{LeaseRead}
+use Rattle.sl_trace.specs.declared.effects.LeaseStep.TheVariants.{ClearMode, FreeLeader, Phase1Read, Phase1Write, Phase2Read, Phase2Write, ReadAgain, ReadArea, ReadBeforeBlock, ReadBeforeFree, SetMode, TakeLeader}
 use Rattle.sl_trace.specs.declared.effects.LeaseStep.{LeaseStep}
 use Rattle.sl_trace.specs.declared.effects.Purpose.TheVariants.{Lease}
 use Rattle.sl_trace.specs.declared.effects.Purpose.{Purpose}
 use Rattle.sl_trace.specs.declared.effects.Spot.{Spot}
 use Rattle.sl_trace.specs.declared.effects.Work.{Work}
 use Rattle.sl_words.specs.Orders.{is_text_before, put_in}
-use Rattle.sl_words.specs.Words.{choose, greatest, present, some_is}
+use Rattle.sl_words.specs.Words.{choose, first_of_list, greatest, present, some_is}
 use Rattle.std.specs.List.{list_any}
 use Rattle.std.specs.Option.{option_map_or}
 use Rattle.std.specs.Prelude.{Bool, List, None, Option, Some, bytes_eq, false, filter, find, if◌then◌else◌, is_some, map, max, nat_lt, not, option_and_then, option_map, slice_get, true, unwrap_or, [], ℕ, ◌%◌, ◌&&◌, ◌-◌, ◌==◌, ◌||◌, ◌∷◌}
@@ -94,11 +97,22 @@ pub data StepKind : Type 0 where
   Leader_freed : StepKind
   Mode_cleared : StepKind
   Read_before_free : StepKind
+  Read_before_block : StepKind
 
--- The kind of a step.
+-- The kind of a read.
+abbrev pub kind_of_read : LeaseRead → StepKind
+kind_of_read (OfArea name) = Area_read
+kind_of_read OfFree = Read_before_free
+kind_of_read OfBlock = Read_before_block
+kind_of_read OfPhase1 = Phase1_read
+kind_of_read OfPhase2 = Phase2_read
+
+-- The kind of a step; a read that is made once more is of the same kind.
 abbrev pub kind_of_step : LeaseStep → StepKind
 kind_of_step (ReadArea name) = Area_read
 kind_of_step ReadBeforeFree = Read_before_free
+kind_of_step ReadBeforeBlock = Read_before_block
+kind_of_step (ReadAgain read) = kind_of_read read
 kind_of_step Phase1Write = Phase1_write
 kind_of_step Phase1Read = Phase1_read
 kind_of_step Phase2Write = Phase2_write
@@ -120,6 +134,7 @@ same_kind Mode_set Mode_set = true
 same_kind Leader_freed Leader_freed = true
 same_kind Mode_cleared Mode_cleared = true
 same_kind Read_before_free Read_before_free = true
+same_kind Read_before_block Read_before_block = true
 same_kind a b = false
 
 -- Whether the call is at a step of this kind.
@@ -136,17 +151,33 @@ is_phase_read m = is_at Phase1_read m || is_at Phase2_read m
 
 -- Whether the call reads blocks.
 abbrev pub is_block_read : Submitted → Bool
-is_block_read m = is_area_read m || is_phase_read m
+is_block_read m = is_area_read m || is_phase_read m || is_at Read_before_block m
+
+-- Whether a step is a read that is made once more.
+abbrev pub is_second : LeaseStep → Bool
+is_second (ReadAgain read) = true
+is_second step = false
+
+-- Whether the call is such a read.
+abbrev pub is_again : Submitted → Bool
+is_again m = some_is (λ p. is_second p.1) (lease_step m.call.purpose)
 
 -- A block record.
 abbrev pub block_of_record : Rec → Option Block
 block_of_record (BlockIs b) = Some b
+block_of_record (PairIs p) = Some p.block
 block_of_record r = None
 
 -- A leader record.
 abbrev pub leader_of_record : Rec → Option Leader
 leader_of_record (LeaderIs l) = Some l
+leader_of_record (PairLeaderIs l) = Some l
 leader_of_record r = None
+
+-- A block's turn, where it has one.
+abbrev pub turn_of_record : Rec → Option ℕ
+turn_of_record (PairIs p) = Some p.turn
+turn_of_record r = None
 
 -- A value record.
 abbrev pub value_of_record : Rec → Option ValueRec
@@ -171,21 +202,81 @@ lver_written m = elim (leader_written m) [ Some l ↦ l.lver | None ↦ option_m
 
 -- ---- what its reads gave
 
--- The blocks of hosts 1 to N that a read of the lease gave, each if it spells one.
-abbrev pub blocks_given : Layout → Submitted → Option (List (Option Block))
-blocks_given g m =
+-- The bytes of all blocks that a read of the lease gave.
+abbrev pub blocks_bytes : Layout → Submitted → Option (List ℕ)
+blocks_bytes g m =
     elim (gave m) [
       | None ↦ None
-      | Some bytes ↦ elim (is_area_read m) [
-        | true ↦ Some (area_blocks g bytes)
-        | false ↦ elim (is_phase_read m) [ true ↦ Some (blocks_in g bytes) | false ↦ None ]
-      ]
+      | Some bytes ↦ elim (is_area_read m) [ true ↦ Some (blocks_part g bytes) | false ↦ choose (is_block_read m) bytes ]
     ]
+
+-- What is kept of the answer of the newest of these calls: a second read follows its first.
+abbrev pub kept_before : Layout → List Submitted → Option (List (Option PairBlock))
+kept_before g ms = option_map (pairs_kept g) (option_and_then (blocks_bytes g) (first_of_list ms))
+
+-- What is kept of the first read, where the newest of these calls is the second.
+abbrev pub first_kept : Layout → List Submitted → List (Option PairBlock)
+first_kept g [] = []
+first_kept g (m ∷ ms) = elim (is_again m) [ false ↦ [] | true ↦ unwrap_or (kept_before g ms) [] ]
+
+-- What a read gave of all blocks, by whether it is a second one, what was kept of the first one, and its bytes. A read that is to be made
+-- once more gives nothing by itself.
+abbrev pub given_with : Layout → Bool → Option (List (Option PairBlock)) → Option (List ℕ) → Option BlocksRead
+given_with g again kept None = None
+given_with g false kept (Some bs) = choose (not (needs_again g bs)) (read_once bs)
+given_with g true None (Some bs) = None
+given_with g true (Some pairs) (Some bs) = Some (record { kept = pairs; last = bs })
+
+-- What a read gave of all blocks; ms are the calls before it.
+abbrev pub read_given : Layout → Submitted → List Submitted → Option BlocksRead
+read_given g m ms = given_with g (is_again m) (kept_before g ms) (blocks_bytes g m)
+
+-- The blocks of hosts 1 to N that a read of the lease gave, each if there is one.
+abbrev pub blocks_given : Layout → Submitted → List Submitted → Option (List (Option Block))
+blocks_given g m ms = option_map (blocks_of g) (read_given g m ms)
+
+-- The leader that a read of the area gave.
+abbrev pub leader_given : Layout → Submitted → List Submitted → Option Leader
+leader_given g m ms =
+    elim (is_area_read m) [
+      | false ↦ None
+      | true ↦ option_and_then (λ r. option_and_then (λ bytes. leader_read g bytes r) (gave m)) (read_given g m ms)
+    ]
+
+-- The leaders that a lease's reads of the area gave, the newest first.
+abbrev pub leaders_given : Layout → List Submitted → List Leader
+leaders_given g [] = []
+leaders_given g (m ∷ ms) = elim (leader_given g m ms) [ None ↦ leaders_given g ms | Some l ↦ l ∷ leaders_given g ms ]
 
 -- The blocks that the session last read on the area: of the lease's last answered read of blocks, whatever it was for.
 abbrev pub last_blocks : Layout → List Submitted → List (Option Block)
 last_blocks g [] = []
-last_blocks g (m ∷ ms) = elim (blocks_given g m) [ Some bs ↦ bs | None ↦ last_blocks g ms ]
+last_blocks g (m ∷ ms) = elim (blocks_given g m ms) [ Some bs ↦ bs | None ↦ last_blocks g ms ]
+
+-- ---- turns
+
+-- The turn that a call writes, if it does.
+abbrev pub turn_written : Submitted → Option ℕ
+turn_written m = option_and_then turn_of_record (record_of m.call.op)
+
+-- The turn of the own pair that a call shows: that of a block's write that was answered ok, or the greatest that a read gave, each answer
+-- by itself.
+abbrev pub turn_shown : Layout → ℕ → Submitted → Option ℕ
+turn_shown g id m =
+    elim (turn_written m) [
+      | Some t ↦ choose (is_answered_ok m) t
+      | None ↦ elim g.paired [
+        | false ↦ None
+        | true ↦ option_and_then (λ bs. option_map (λ p. p.turn) (pair_read g bs id)) (blocks_bytes g m)
+      ]
+    ]
+
+-- The turn that was shown last, and 0 before any; a lease has one call at a time, so the later call was answered later.
+abbrev pub base_turn : Layout → ℕ → List Submitted → ℕ
+base_turn g id [] = 0
+base_turn g id (m ∷ ms) = elim (turn_shown g id m) [ Some t ↦ t | None ↦ base_turn g id ms ]
+
+-- ---- the own block
 
 -- A host's block among those of hosts 1 to N.
 abbrev pub block_of_host : List (Option Block) → ℕ → Option Block
@@ -212,27 +303,28 @@ is_leader_of g lockspace resource l = bytes_eq l.lockspace lockspace && bytes_eq
 -- The name that an acquire's read of the area must find.
 abbrev pub name_sought : Purpose → Option (List ℕ)
 name_sought (Lease work (ReadArea name)) = Some name
+name_sought (Lease work (ReadAgain (OfArea name))) = Some name
 name_sought p = None
 
 -- The resource's name that the read verified: its command's, where the leader that it gave has that and the lockspace's.
-abbrev pub verified_by : Layout → List ℕ → Submitted → Option (List ℕ)
-verified_by g lockspace m =
+abbrev pub verified_by : Layout → List ℕ → Submitted → List Submitted → Option (List ℕ)
+verified_by g lockspace m ms =
     elim (name_sought m.call.purpose) [
       | None ↦ None
-      | Some name ↦ elim (option_and_then (leader_of g) (gave m)) [ None ↦ None | Some l ↦ choose (is_leader_of g lockspace name l) name ]
+      | Some name ↦ elim (leader_given g m ms) [ None ↦ None | Some l ↦ choose (is_leader_of g lockspace name l) name ]
     ]
 
 -- The resource's name that the lease writes: that of its last such read.
 abbrev pub verified_name : Layout → List ℕ → List Submitted → List ℕ
 verified_name g lockspace [] = []
-verified_name g lockspace (m ∷ ms) = elim (verified_by g lockspace m) [ Some name ↦ name | None ↦ verified_name g lockspace ms ]
+verified_name g lockspace (m ∷ ms) = elim (verified_by g lockspace m ms) [ Some name ↦ name | None ↦ verified_name g lockspace ms ]
 
 -- ---- ballots that ended
 
 -- What stops the ballot of the block that was submitted before this read, in the blocks that the read gave, if it gave any; ms are
 -- the calls before the read.
 abbrev pub stop_in : Layout → Submitted → List Submitted → Option (Option Stop)
-stop_in g m ms = option_and_then (λ own. option_map (stop_of own) (blocks_given g m)) (block_submitted ms)
+stop_in g m ms = option_and_then (λ own. option_map (stop_of own) (blocks_given g m ms)) (block_submitted ms)
 
 -- The value with which a ballot of this block ended.
 abbrev pub value_in_end : Block → Option Stop → Option (ℕ × Owner)
@@ -244,7 +336,7 @@ abbrev pub ended_ballot : Layout → Submitted → List Submitted → Option (�
 ended_ballot g m ms =
     elim (is_at Phase2_read m) [
       | false ↦ None
-      | true ↦ option_and_then (λ own. option_and_then (λ blocks. value_in_end own (stop_of own blocks)) (blocks_given g m)) (block_submitted ms)
+      | true ↦ option_and_then (λ own. option_and_then (λ blocks. value_in_end own (stop_of own blocks)) (blocks_given g m ms)) (block_submitted ms)
     ]
 
 -- All ballots of the lease that ended: instance and value, the newest first.
@@ -332,21 +424,20 @@ freed (m ∷ ms) = max (freed_by m) (freed ms)
 abbrev pub is_free_of : ℕ → Owner → Leader → Bool
 is_free_of n o l = l.lver == n && not l.held && same_owner (owner_of l) o
 
--- Whether the bytes of the area show that the free of n isn't needed: a leader or block above n, or that free itself. A torn leader
--- counts as none above, torn blocks are passed over.
-abbrev pub shows_settled : Layout → Owner → ℕ → List ℕ → Bool
-shows_settled g self n bytes =
-    some_is (λ l. nat_lt n l.lver || is_free_of n self l) (leader_of g bytes)
-    || list_any (λ b. nat_lt n b.lver) (present (area_blocks g bytes))
+-- Whether a leader and blocks that were read show that the free of n isn't needed: a leader or block above n, or that free itself. A
+-- torn leader counts as none above, torn blocks are passed over.
+abbrev pub shows_settled : Owner → ℕ → Option Leader → List (Option Block) → Bool
+shows_settled self n leader read =
+    some_is (λ l. nat_lt n l.lver || is_free_of n self l) leader || list_any (λ b. nat_lt n b.lver) (present read)
 
 -- Whether a settling's read of the area showed that.
-abbrev pub was_settled : Layout → Owner → ℕ → Submitted → Bool
-was_settled g self n m =
-    elim (is_at Read_before_free m) [ false ↦ false | true ↦ elim (gave m) [ None ↦ false | Some bytes ↦ shows_settled g self n bytes ] ]
+abbrev pub was_settled : Layout → Owner → ℕ → Submitted → List Submitted → Bool
+was_settled g self n m ms =
+    elim (is_at Read_before_free m) [ false ↦ false | true ↦ some_is (shows_settled self n (leader_given g m ms)) (blocks_given g m ms) ]
 
 -- Whether the call shows that the free of n is done: it is that free, answered ok, or it showed that it isn't needed.
-abbrev pub settles_free : Layout → Owner → ℕ → Submitted → Bool
-settles_free g self n m = is_free_write n m && is_answered_ok m || was_settled g self n m
+abbrev pub settles_free : Layout → Owner → ℕ → Submitted → List Submitted → Bool
+settles_free g self n m ms = is_free_write n m && is_answered_ok m || was_settled g self n m ms
 
 -- The instance that was won last, where its free isn't known to be done: one free is owed at a time.
 abbrev pub free_left : Layout → Owner → List Submitted → Option ℕ
@@ -354,7 +445,7 @@ free_left g self [] = None
 free_left g self (m ∷ ms) =
     elim (won_by g self m ms) [
       | Some n ↦ Some n
-      | None ↦ option_and_then (λ n. choose (not (settles_free g self n m)) n) (free_left g self ms)
+      | None ↦ option_and_then (λ n. choose (not (settles_free g self n m ms)) n) (free_left g self ms)
     ]
 
 -- ---- what is known of a lease
@@ -367,6 +458,10 @@ pub record LeaseKnown : Type 0 where
   pub own : Option Block
   -- the blocks that it last read
   pub read : List (Option Block)
+  -- what is kept of the first read, where its newest call is the second
+  pub kept : List (Option PairBlock)
+  -- the turn of its pair that was shown last
+  pub turn : ℕ
   -- the resource's name that it has verified
   pub name : List ℕ
   -- the greatest instance of which it submitted a free
@@ -390,6 +485,8 @@ known_of g lockspace self shared exclusive over ms =
       self = self;
       own = block_submitted ms;
       read = last_blocks g ms;
+      kept = first_kept g ms;
+      turn = base_turn g self.id ms;
       name = verified_name g lockspace ms;
       freed = freed ms;
       ballot = open_ballot g ms;

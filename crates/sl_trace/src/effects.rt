@@ -30,12 +30,24 @@ pub enum JoinStep {
     FirstRenewal,
 }
 
+/// The reads of a lease that hold blocks. With pairs such a read is made once more where some host's second sector is torn in it.
+#[derive(Clone, Copy, PartialEq, Eq)]
+pub enum LeaseRead {
+    OfArea { resource: Name },
+    OfFree,
+    OfBlock,
+    OfPhase1,
+    OfPhase2,
+}
+
 /// The steps of work on a resource's lease. The read with which an acquire begins has the resource's name that its command gives;
-/// a settling reads the area before it writes a free that it owes.
+/// a settling reads the area before it writes a free that it owes, and with pairs the blocks before it writes its own.
 #[derive(Clone, Copy, PartialEq, Eq)]
 pub enum LeaseStep {
     ReadArea { resource: Name },
     ReadBeforeFree,
+    ReadBeforeBlock,
+    ReadAgain { read: LeaseRead },
     Phase1Write,
     Phase1Read,
     Phase2Write,

@@ -40,6 +40,7 @@ pub enum Limited {
     Seq,
     Lver,
     Mbal,
+    Turn,
 }
 
 /// Generation and seq of a delta record.

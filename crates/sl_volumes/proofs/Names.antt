@@ -1,5 +1,5 @@
 -- A lock that a line names is a resource that a command may name.
-use Rattle.sl_area.specs.Layouts.{IsGeometry, Sizes}
+use Rattle.sl_area.specs.Layouts.{IsGeometry, Sizes, roomy}
 use Rattle.sl_run.specs.LockNames.{Lock, doubled, group_lockspace, group_path, is_group_name, is_volume_name}
 use Rattle.sl_run.specs.LvmLines.{Deactivates, Gives, Gives_writing, Informs, LvmLine, Starts, Stops, Takes, Takes_comparing, is_area_word, is_volume_word, lvm_forms, lvm_line_in}
 use Rattle.sl_text.specs.Forms.{Form, bad_column, exactly, fits_whole, fitting, made_by, pieces, word_at, words_of}
@@ -214,11 +214,11 @@ small_row s sector area most rest small h others = by (or_true (sector == s.sect
 
 areas_are_small : (s : Sizes) → IsGeometry s → s.area ≤ 8388608
 areas_are_small s h =
-    small_row s 512 1048576 2000 _ (omega arith) h (λ h.
-    small_row s 4096 1048576 250 _ (omega arith) h (λ h.
-    small_row s 4096 2097152 500 _ (omega arith) h (λ h.
-    small_row s 4096 4194304 1000 _ (omega arith) h (λ h.
-    small_row s 4096 8388608 2000 _ (omega arith) h (λ h. absurd (false_is_true h))))))
+    small_row s 512 1048576 (roomy s.paired 2000) _ (omega arith) h (λ h.
+    small_row s 4096 1048576 (roomy s.paired 250) _ (omega arith) h (λ h.
+    small_row s 4096 2097152 (roomy s.paired 500) _ (omega arith) h (λ h.
+    small_row s 4096 4194304 (roomy s.paired 1000) _ (omega arith) h (λ h.
+    small_row s 4096 8388608 (roomy s.paired 2000) _ (omega arith) h (λ h. absurd (false_is_true h))))))
 
 product_small : (n area : ℕ) → n ≤ 2 → area ≤ 8388608 → n * area ≤ 2 * 8388608
 product_small n area h k = grind arith

@@ -7,7 +7,7 @@ use Rattle.sl_sector.specs.declared.sector.Bad.{Bad}
 use Rattle.sl_sector.specs.declared.sector.DeltaRec.{DeltaRec}
 use Rattle.sl_sector.specs.declared.sector.DeltaState.TheVariants.{Claimed, Free, Live}
 use Rattle.sl_sector.specs.declared.sector.DeltaState.{DeltaState}
-use Rattle.sl_sector.specs.declared.sector.Rec.TheVariants.{BlockIs, DeltaIs, LeaderIs, RequestIs, ValueIs}
+use Rattle.sl_sector.specs.declared.sector.Rec.TheVariants.{BlockIs, DeltaIs, LeaderIs, PairIs, PairLeaderIs, RequestIs, ValueIs}
 use Rattle.sl_sector.specs.declared.sector.Rec.{Rec}
 use Rattle.sl_trace.specs.Watching.{current_run, evidence, has_seen, new_run, newest_of, run_with, seen_records, sighted, silence}
 use Rattle.sl_trace.specs.declared.sighting.Run.{Run}
@@ -136,6 +136,8 @@ read_for id (Ok (DeltaIs e)) d is =
     (ap (λ x. Ok (DeltaIs x)) own.1, ap (λ x. x.id) (sym own.1) ∙ eqb-true e.id id own.0)
 read_for id (Ok (LeaderIs e)) d is = absurd cc
 read_for id (Ok (BlockIs e)) d is = absurd cc
+read_for id (Ok (PairIs e)) d is = absurd cc
+read_for id (Ok (PairLeaderIs e)) d is = absurd cc
 read_for id (Ok (RequestIs e)) d is = absurd cc
 read_for id (Ok (ValueIs e)) d is = absurd cc
 read_for id (Err bad) d is = absurd cc

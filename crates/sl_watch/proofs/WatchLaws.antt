@@ -3,7 +3,7 @@ use Rattle.sl_area.specs.Layouts.{layout_of, program_digest}
 use Rattle.sl_sector.specs.Spelling.{decoded, spelling}
 use Rattle.sl_sector.specs.declared.sector.Bad.{Bad}
 use Rattle.sl_sector.specs.declared.sector.DeltaRec.{DeltaRec}
-use Rattle.sl_sector.specs.declared.sector.Rec.TheVariants.{BlockIs, DeltaIs, LeaderIs, RequestIs, ValueIs}
+use Rattle.sl_sector.specs.declared.sector.Rec.TheVariants.{BlockIs, DeltaIs, LeaderIs, PairIs, PairLeaderIs, RequestIs, ValueIs}
 use Rattle.sl_sector.specs.declared.sector.Rec.{Rec}
 use Rattle.sl_sector.specs.Spelling.{delta_in}
 use Rattle.sl_trace.specs.declared.sighting.Sighting.{Sighting}
@@ -30,6 +30,8 @@ found_is id size bytes (Ok (DeltaIs d)) e long true_read =
     chosen false is = tt
 found_is id size bytes (Ok (LeaderIs l)) e long true_read = tt
 found_is id size bytes (Ok (BlockIs b)) e long true_read = tt
+found_is id size bytes (Ok (PairIs p)) e long true_read = tt
+found_is id size bytes (Ok (PairLeaderIs l)) e long true_read = tt
 found_is id size bytes (Ok (RequestIs r)) e long true_read = tt
 found_is id size bytes (Ok (ValueIs v)) e long true_read = tt
 found_is id size bytes (Err bad) e long true_read = tt

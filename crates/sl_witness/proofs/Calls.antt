@@ -4,7 +4,7 @@ use Rattle.sl_sector.specs.Records.{AreBytes, IsBlock, IsDelta, IsLeader, IsReco
 use Rattle.sl_sector.specs.declared.sector.Block.{Block}
 use Rattle.sl_sector.specs.declared.sector.DeltaRec.{DeltaRec}
 use Rattle.sl_sector.specs.declared.sector.Leader.{Leader}
-use Rattle.sl_sector.specs.declared.sector.Rec.TheVariants.{BlockIs, DeltaIs, LeaderIs, RequestIs, ValueIs}
+use Rattle.sl_sector.specs.declared.sector.Rec.TheVariants.{BlockIs, DeltaIs, LeaderIs, PairIs, PairLeaderIs, RequestIs, ValueIs}
 use Rattle.sl_sector.specs.declared.sector.Rec.{Rec}
 use Rattle.sl_trace.specs.Sessions.{session_numbered, stage_of}
 use Rattle.sl_text.specs.Names.{is_name}
@@ -143,6 +143,8 @@ abbrev pub seek_record : (r : Rec) → Option (IsRecord r)
 seek_record (DeltaIs d) = seek_is_delta d
 seek_record (LeaderIs l) = seek_is_leader l
 seek_record (BlockIs b) = seek_is_block b
+seek_record (PairIs p) = None
+seek_record (PairLeaderIs l) = None
 seek_record (RequestIs r) = None
 seek_record (ValueIs v) = None
 

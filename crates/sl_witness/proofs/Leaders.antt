@@ -13,8 +13,13 @@ use Rattle.sl_trace.specs.declared.effects.Spot.{Spot}
 use Rattle.sl_witness.proofs.Eaches.{seek_each_call}
 use Rattle.sl_witness.proofs.Sames.{seek_end}
 use Rattle.sl_witness.proofs.Seeking.{seek_any, seek_by, seek_empty, seek_false, seek_for, seek_lt, seek_same, seek_text, seek_true, ◌>>=◌}
-use Rattle.std.proofs.Common.{subst}
+use Rattle.std.proofs.Common.{inl, subst}
 use Rattle.std.specs.Prelude.{Contains, IsTrue, List, Option, Some, ℕ, ◌≡◌}
+
+-- A leader that was read, of those that are read so in areas without pairs.
+pub verified_by : (st : Setting) (es : Trace) (s : Session) (at : Spot) (resource : List ℕ)
+    → (l : Leader) × Contains (leaders_read st es s at) l × IsTrue (is_leader_of st.layout s.lockspace resource l) → HasVerified st es s at resource
+verified_by st es s at resource h = (h.0, inl h.1, h.2)
 
 pub won_by : (st : Setting) (es : Trace) (s : Session) (at : Spot) (n : ℕ)
     → (p : ℕ × Owner) × Contains (ended_ballots st.layout (lease_calls st es s at)) p × (p ≡ (n, me es s)) → HasWon st es s at n
@@ -41,8 +46,9 @@ seek_free st es s at c l = do
   Some (record { step = step; won = won; not_held = not_held; alone = alone })
 
 abbrev pub seek_names : (st : Setting) (es : Trace) (s : Session) (at : Spot) (resource : List ℕ) → Option (HasVerified st es s at resource)
-seek_names st es s at resource =
-    seek_any (λ l. IsTrue (is_leader_of st.layout s.lockspace resource l)) (λ l. seek_true (is_leader_of st.layout s.lockspace resource l)) (leaders_read st es s at)
+seek_names st es s at resource = do
+  h ← seek_any (λ l. IsTrue (is_leader_of st.layout s.lockspace resource l)) (λ l. seek_true (is_leader_of st.layout s.lockspace resource l)) (leaders_read st es s at)
+  Some (verified_by st es s at resource h)
 
 abbrev pub seek_leader_write : (st : Setting) (es : Trace) (s : Session) (at : Spot) (c : Submitted) (l : Leader) → Option (LawfulLeaderWrite st es s at c l)
 seek_leader_write st es s at c l = do

@@ -4,7 +4,7 @@ use Rattle.sl_run.specs.LawfulBlock.{ReadAfter}
 use Rattle.sl_run.specs.LawfulGrant.{HasTaken, LawfulGrant, LawfulGrantTo, LawfulOrphan}
 use Rattle.sl_run.specs.LawfulLeader.{HasWon}
 use Rattle.sl_run.specs.LawfulModes.{LawfulExclusiveGrant, LawfulMode, LawfulModeGrant, LawfulModes, LawfulSharedGrant, NoneShared}
-use Rattle.sl_trace.specs.Leases.{Mode_set, Phase1_write, block_of_host, block_written, blocks_given, freed, has_shared_on, is_at, is_block_read, leader_written, lease_calls, spot_of_call}
+use Rattle.sl_trace.specs.Leases.{Mode_set, Phase1_write, block_of_host, block_written, blocks_given, freed, has_shared_on, is_again, is_at, is_block_read, leader_written, lease_calls, spot_of_call}
 use Rattle.sl_sector.specs.declared.sector.Block.{Block}
 use Rattle.sl_sector.specs.declared.sector.Leader.{Leader}
 use Rattle.sl_trace.specs.Sessions.{generation_of, is_active, session_numbered}
@@ -14,12 +14,12 @@ use Rattle.sl_trace.specs.Traces.{Setting, Submitted, Trace, held_by, holdings, 
 use Rattle.sl_trace.specs.declared.effects.Entry.{Entry}
 use Rattle.sl_trace.specs.declared.effects.Grant.{Grant}
 use Rattle.sl_trace.specs.declared.effects.Spot.{Spot}
-use Rattle.sl_witness.proofs.Blocks.{seek_read_after}
+use Rattle.sl_witness.proofs.Blocks.{once_after, seek_read_after}
 use Rattle.sl_witness.proofs.Eaches.{seek_each_call}
 use Rattle.sl_witness.proofs.Leaders.{seek_won}
 use Rattle.sl_witness.proofs.Sames.{seek_where_exclusive}
 use Rattle.sl_witness.proofs.Shares.{seek_shared_grant}
-use Rattle.sl_witness.proofs.Seeking.{seek_all, seek_any, seek_by, seek_false, seek_for, seek_lt, seek_same, seek_some, seek_text, seek_true, seek_up_to, ◌>>=◌}
+use Rattle.sl_witness.proofs.Seeking.{Split, seek_all, seek_any, seek_by, seek_false, seek_for, seek_lt, seek_same, seek_some, seek_split, seek_text, seek_true, seek_up_to, split_inside, ◌>>=◌}
 use Rattle.sl_words.proofs.CaseLaws.{not_both}
 use Rattle.sl_words.specs.Words.{present}
 use Rattle.std.specs.Prelude.{Contains, IsFalse, IsSome, IsTrue, List, None, Option, Some, is_some, length, true, ℕ, ◌&&◌, ◌||◌, ◌∷◌, ◌≡◌, ◌≤◌}
@@ -67,25 +67,27 @@ seek_number write own d =
       h ← seek_same b.mbal own.mbal
       Some (number_anyway write own d b h))
 
--- A read of blocks after this write.
-abbrev pub ReadsThem : Setting → Trace → Session → Submitted → Submitted → Type 0
-ReadsThem st es s write read =
-    (blocks : List (Option Block)) × IsTrue (is_block_read read) × ReadAfter write read × (blocks_given st.layout read ≡ Some blocks) × NoneShared st es s blocks
+-- A read of blocks after this write, a first one.
+abbrev pub ReadsThem : Setting → Trace → Session → Submitted → Submitted → List Submitted → Type 0
+ReadsThem st es s write read before =
+    (blocks : List (Option Block)) × IsTrue (is_block_read read) × IsFalse (is_again read) × ReadAfter write read × (blocks_given st.layout read before ≡ Some blocks)
+    × NoneShared st es s blocks
 
-abbrev pub seek_reads_them : (st : Setting) (es : Trace) (s : Session) (write read : Submitted) → Option (ReadsThem st es s write read)
-seek_reads_them st es s write read = do
+abbrev pub seek_reads_them : (st : Setting) (es : Trace) (s : Session) (write read : Submitted) (before : List Submitted) → Option (ReadsThem st es s write read before)
+seek_reads_them st es s write read before = do
   at ← seek_true (is_block_read read)
+  once ← seek_false (is_again read)
   ordered ← seek_read_after write read
-  blocks ← seek_some (blocks_given st.layout read)
+  blocks ← seek_some (blocks_given st.layout read before)
   none ← seek_none_shared st es s blocks.0
-  Some (blocks.0, at, ordered, blocks.1, none)
+  Some (blocks.0, at, once, ordered, blocks.1, none)
 
 -- A write of phase 1 in n, and what follows it.
 abbrev pub Ballots : Setting → Trace → Session → Spot → ℕ → Submitted → Type 0
 Ballots st es s at n write =
     (own : Block) × IsTrue (is_at Phase1_write write) × (block_written write ≡ Some own) × (own.lver ≡ n)
     × ((d : Submitted) → Contains (lease_calls st es s at) d → HasNumber write own d)
-    × ((read : Submitted) × Contains (lease_calls st es s at) read × ReadsThem st es s write read)
+    × Split (ReadsThem st es s write) (lease_calls st es s at)
 
 abbrev pub seek_ballots : (st : Setting) (es : Trace) (s : Session) (at : Spot) (n : ℕ) (write : Submitted) → Option (Ballots st es s at n write)
 seek_ballots st es s at n write = do
@@ -93,7 +95,7 @@ seek_ballots st es s at n write = do
   own ← seek_some (block_written write)
   of_n ← seek_same own.0.lver n
   same ← seek_all (HasNumber write own.0) (seek_number write own.0) (lease_calls st es s at)
-  read ← seek_any (ReadsThem st es s write) (seek_reads_them st es s write) (lease_calls st es s at)
+  read ← seek_split (ReadsThem st es s write) (seek_reads_them st es s write) (lease_calls st es s at)
   Some (own.0, first, own.1, of_n, same, read)
 
 pub exclusive_by : (st : Setting) (es : Trace) (s : Session) (at : Spot) (n : ℕ) (write : Submitted) → Contains (lease_calls st es s at) write
@@ -103,14 +105,18 @@ exclusive_by st es s at n write has h won =
       won = won;
       write = write;
       own = h.0;
-      read = h.5.0;
-      blocks = h.5.2.0;
+      read = (h.5).one;
+      blocks = (h.5).is.0;
       wrote = (has, h.1, h.2, h.3);
-      of_lease = (h.5.1, h.5.2.1);
-      ordered = h.5.2.2;
+      of_lease = (split_inside (ReadsThem st es s write) (lease_calls st es s at) h.5, (h.5).is.1);
+      after = (h.5).after;
+      before = (h.5).before;
+      split = (h.5).split;
+      ordered = (h.5).is.3;
+      first_ordered = once_after write (h.5).one (h.5).before (h.5).is.2;
       same_ballot = λ d b within is later. h.4 d within b is later;
-      given = h.5.2.3;
-      none_shared = h.5.2.4;
+      given = (h.5).is.4;
+      none_shared = (h.5).is.5;
     }
 
 abbrev pub seek_exclusive_grant : (st : Setting) (es : Trace) (s : Session) (at : Spot) (n : ℕ) → Option (LawfulExclusiveGrant st es s at n)

@@ -22,7 +22,7 @@ use Rattle.sl_trace.specs.declared.effects.Effects.{Effects}
 use Rattle.sl_trace.specs.declared.reply.Reply.TheVariants.{Granted}
 use Rattle.sl_trace.specs.declared.reply.Reply.{Reply}
 use Rattle.sl_witness.proofs.Seeking.{seek_all, seek_empty, seek_false, seek_for, seek_if, seek_lt, seek_le, seek_none, seek_same, seek_some, seek_text, seek_true, seek_up_to, ◌>>=◌}
-use Rattle.sl_words.proofs.CaseLaws.{none_some, true_is_false}
+use Rattle.sl_words.proofs.CaseLaws.{none_some, not_both, true_is_false}
 use Rattle.sl_words.specs.Bounds.{record_numbers}
 use Rattle.std.proofs.Common.{ap, refl, sym, ◌∙◌}
 use Rattle.std.specs.Prelude.{Bool, Contains, IsTrue, List, None, Ok, Option, Result, Some, false, if◌then◌else◌, is_some, length, map, option_to_list, slice_get, true, [], ℕ, ◌&&◌, ◌+◌, ◌-◌, ◌==◌, ◌∷◌, ◌≡◌, ◌≤◌}
@@ -113,6 +113,7 @@ seek_start w m text r shared p = do
   numbers ← seek_lt (l.0.lver + 1) record_numbers
   ballot ← seek_lt (next_mbal w.layout.hosts s.0.id
       (map (λ b. b.mbal) (in_instance (l.0.lver + 1) (option_to_list (known d.0.setting d.0.trace s.0 (spot_of r)).own)))) record_numbers
+  plain ← seek_false w.layout.paired
   request ← seek_true (is_some (request_there w (spot_of r)))
   blocks ← seek_up_to (HasLow w r l.0.lver) (seek_low w r l.0.lver) w.layout.hosts
   calm ← seek_all (NoneFlies w r) (seek_grounded w r) w.machines
@@ -136,8 +137,10 @@ seek_start w m text r shared p = do
     free = free;
     numbers = numbers;
     ballot = ballot;
-    request = request;
+    request = λ single. request;
     blocks = blocks;
+    pairs = λ paired host low high. absurd (not_both w.layout.paired paired plain);
+    turns = λ paired first b there. absurd (not_both w.layout.paired paired plain);
     calm = λ k b c at has flying. calm b (on_list w k b at) c has flying;
   })
 

@@ -149,6 +149,14 @@ seek_split P f (x ∷ xs) = elim (f x xs) [
     Some (split_later P x xs later)
 ]
 
+pub among : {A : Type 0} (after : List A) (one : A) (before : List A) → Contains (after ++ one ∷ before) one
+among [] one before = contains_first one before
+among (x ∷ xs) one before = contains_more x (xs ++ one ∷ before) one (among xs one before)
+
+-- It is one of the list's.
+pub split_inside : {A : Type 0} (P : A → List A → Type 0) (xs : List A) → (s : Split P xs) → Contains xs s.one
+split_inside P xs s = subst (λ ys. Contains ys s.one) (sym s.split) (among s.after s.one s.before)
+
 pub at_none : {A : Type 0} (P : ℕ → A → Type 0) (k : ℕ) (a : A) → slice_get [] k ≡ Some a → P k a
 at_none P k a h = absurd cc
 

@@ -1,6 +1,6 @@
 -- A search for what stands behind a shared grant: a ballot, then the block with the mode, then the leader's free.
 use Rattle.sl_run.specs.LawfulModes.{AllShared, IsDone, LawfulSharedGrant, SharedByBallot, shared_since}
-use Rattle.sl_trace.specs.Leases.{block_written, ended_ballot, is_free_write, lease_calls}
+use Rattle.sl_trace.specs.Leases.{block_written, ended_ballot, is_again, is_free_write, lease_calls}
 use Rattle.sl_sector.specs.declared.sector.Block.{Block}
 use Rattle.sl_sector.specs.declared.sector.Owner.{Owner}
 use Rattle.sl_trace.specs.Sessions.{generation_of, me}
@@ -9,14 +9,16 @@ use Rattle.sl_trace.specs.Traces.{Answered, Setting, Submitted, Trace}
 use Rattle.sl_trace.specs.declared.effects.Spot.{Spot}
 use Rattle.sl_witness.proofs.Sames.{seek_end, seek_written}
 use Rattle.sl_witness.proofs.Seeking.{Split, seek_all, seek_any, seek_false, seek_for, seek_from, seek_if, seek_le, seek_same, seek_some, seek_split, seek_true, ◌>>=◌}
+use Rattle.sl_words.proofs.CaseLaws.{not_both}
 use Rattle.std.proofs.Common.{ap, inl, inr, ◌∙◌}
-use Rattle.std.specs.Prelude.{Contains, IsTrue, List, Option, Some, false, true, ℕ, ◌≡◌, ◌≤◌}
+use Rattle.std.specs.Prelude.{Contains, IsFalse, IsTrue, List, Option, Some, false, true, ℕ, ◌≡◌, ◌≤◌}
 
 -- ---- the ballot
 
--- The read ended a ballot of n with the session.
+-- The read, which is a first one, ended a ballot of n with the session.
 abbrev pub Ends : Setting → Trace → Session → ℕ → Submitted → List Submitted → Type 0
-Ends st es s n read before = (answer : Answered) × (read.answer ≡ Some answer) × (ended_ballot st.layout read before ≡ Some (n, me es s))
+Ends st es s n read before =
+    (answer : Answered) × (read.answer ≡ Some answer) × IsFalse (is_again read) × (ended_ballot st.layout read before ≡ Some (n, me es s))
 
 pub ends_so : (o : Option (ℕ × Owner)) (p q : ℕ × Owner) → o ≡ Some p → p ≡ q → o ≡ Some q
 ends_so o p q is same = is ∙ ap (λ x. Some x) same
@@ -25,8 +27,9 @@ abbrev pub seek_ends_ballot : (st : Setting) (es : Trace) (s : Session) (n : ℕ
 seek_ends_ballot st es s n read before = do
   ended ← seek_some (ended_ballot st.layout read before)
   same ← seek_end ended.0 n (me es s)
+  once ← seek_false (is_again read)
   answer ← seek_some read.answer
-  Some (answer.0, answer.1, ends_so (ended_ballot st.layout read before) ended.0 (n, me es s) ended.1 same)
+  Some (answer.0, answer.1, once, ends_so (ended_ballot st.layout read before) ended.0 (n, me es s) ended.1 same)
 
 -- ---- the mode
 
@@ -122,7 +125,8 @@ by_ballot st es s at n none b begun m f =
       after = b.after;
       before = b.before;
       split = b.split;
-      won = (begun, b.is.2);
+      won = (begun, b.is.3);
+      first_since = λ again first is. absurd (not_both (is_again b.one) again b.is.2);
       moded = (b.is.1, m.2.after, m.2.written, m.2.mode_is.0, m.2.mode_is.1, m.2.mode_is.2, m.2.done);
       freed = (f.2.after, f.2.frees, f.2.done);
       first = f.2.first;

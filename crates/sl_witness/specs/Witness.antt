@@ -17,7 +17,7 @@ use Rattle.sl_text.specs.Forms.{as_bytes}
 use Rattle.sl_trace.specs.declared.effects.Effects.{Effects}
 use Rattle.sl_trace.specs.declared.effects.Grant.{Grant}
 use Rattle.sl_trace.specs.declared.effects.Mode.TheVariants.{Exclusive}
-use Rattle.std.specs.Prelude.{List, None, Ok, codes, map, [], ℕ, ◌++◌, ◌∷◌, ◌≡◌}
+use Rattle.std.specs.Prelude.{List, None, Ok, codes, false, map, [], ℕ, ◌++◌, ◌∷◌, ◌≡◌}
 
 -- The header of the schedule: two machines, each with a session; one disk, one lockspace, one resource.
 abbrev pub witness_header : Header
@@ -26,7 +26,7 @@ witness_header =
       timing = record { io = 100; fire = 600; land = 100; rho = 0 };
       grace = 300;
       machines = 2;
-      geometry = record { sector = 512; area = 1048576; hosts = 2 };
+      geometry = record { sector = 512; area = 1048576; hosts = 2; paired = false };
       retries = 0;
       clocks = [];
       disks = record { path = codes "/d"; mebibytes = 4 } ∷ [];

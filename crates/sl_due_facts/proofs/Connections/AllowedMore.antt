@@ -1,4 +1,5 @@
 -- What is allowed of replies and calls is allowed where each of them is.
+use Rattle.sl_acts.specs.Acts.{next_of_conversion, next_of_release}
 use Rattle.sl_acts.proofs.DecisionsAreTheirs.{Of}
 use Rattle.sl_due.specs.Steps.{Step, add_end, seen}
 use Rattle.sl_due.specs.declared.decision.Decision.TheVariants.{ConvertsTo, GetsValue, GivesUp, Joins, Leaves, ReadsArea, Replies, Requests, SetsValue, Shares, TakesOver}
@@ -17,7 +18,8 @@ use Rattle.sl_trace.specs.declared.session.Session.{Session}
 use Rattle.sl_trace.specs.Traces.{Job, end_of, spot_of_grant, work_job}
 use Rattle.sl_trace.specs.declared.command.Command.TheVariants.{Acquire, AddLockspace, Convert, GetLvb, HostStatus, InqLockspace, Release, ReleaseOrphan, RemLockspace, Request, RunProgram, SetKillpath, SetLvb, Status, TakeOver}
 use Rattle.sl_trace.specs.declared.command.Command.{Command}
-use Rattle.sl_trace.specs.declared.effects.LeaseStep.TheVariants.{ClearMode, FreeLeader, Phase1Read, Phase1Write, Phase2Read, Phase2Write, ReadArea, ReadBeforeFree, SetMode, TakeLeader}
+use Rattle.sl_trace.specs.declared.effects.LeaseRead.TheVariants.{OfArea, OfBlock, OfFree, OfPhase1, OfPhase2}
+use Rattle.sl_trace.specs.declared.effects.LeaseStep.TheVariants.{ClearMode, FreeLeader, Phase1Read, Phase1Write, Phase2Read, Phase2Write, ReadAgain, ReadArea, ReadBeforeBlock, ReadBeforeFree, SetMode, TakeLeader}
 use Rattle.sl_trace.specs.declared.effects.LeaseStep.{LeaseStep}
 use Rattle.sl_trace.specs.declared.effects.Op.{Op}
 use Rattle.sl_trace.specs.declared.effects.Purpose.{Purpose}
@@ -34,6 +36,12 @@ more_reads : (C D : Session → List ℕ → Purpose → ℕ → Op → Type 0) 
     → ReadAllowed C y s at work step → ReadAllowed D y s at work step
 more_reads C D y s at work (ReadArea name) f h = f _ _ _ _ refl h
 more_reads C D y s at work ReadBeforeFree f h = f _ _ _ _ refl h
+more_reads C D y s at work ReadBeforeBlock f h = f _ _ _ _ refl h
+more_reads C D y s at work (ReadAgain (OfArea name)) f h = f _ _ _ _ refl h
+more_reads C D y s at work (ReadAgain OfFree) f h = f _ _ _ _ refl h
+more_reads C D y s at work (ReadAgain OfBlock) f h = f _ _ _ _ refl h
+more_reads C D y s at work (ReadAgain OfPhase1) f h = f _ _ _ _ refl h
+more_reads C D y s at work (ReadAgain OfPhase2) f h = f _ _ _ _ refl h
 more_reads C D y s at work Phase1Write f h = f _ _ _ _ refl h
 more_reads C D y s at work Phase1Read f h = f _ _ _ _ refl h
 more_reads C D y s at work Phase2Write f h = f _ _ _ _ refl h
@@ -69,7 +77,7 @@ more_lease A B C D y s at work (WriteLeader step l) f g h = g _ _ _ _ refl h
 more_lease A B C D y s at work (AnswerJob r) f g h = λ j is. f j r is (h j is)
 more_lease A B C D y s at work (GrantJob mode lver) f g h = λ j c is reads_one. more_grants A B j lver c (λ r k. f j r is k) (h j c is reads_one)
 more_lease A B C D y s at work (BecomeShared lver l) f g h = ((λ j is. f j (Granted lver) is (h.0 j is)), g _ _ _ _ refl h.1)
-more_lease A B C D y s at work (BecomeExclusive lver b) f g h = ((λ j is. f j (Granted lver) is (h.0 j is)), λ q. g _ _ _ _ refl (h.1 q))
+more_lease A B C D y s at work (BecomeExclusive lver b) f g h = ((λ j is. f j (Granted lver) is (h.0 j is)), λ q same. g _ _ _ _ refl (h.1 q same))
 
 pub more_request : (A B : ℕ → Reply → Type 0) (C D : Session → List ℕ → Purpose → ℕ → Op → Type 0) (x : Step) (s : Session) (j : ℕ) (bytes : List ℕ) (c : Command) → ((r : Reply) → A j r → B j r)
     → ((path : List ℕ) (p : Purpose) (o : ℕ) (op : Op) → is_joining p ≡ false → C s path p o op → D s path p o op) → RequestAllowed A C x s j bytes c → RequestAllowed B D x s j bytes c
@@ -103,12 +111,12 @@ more_decision K L A B C D y j c (ReadsArea s r) f g stops old h = g _ _ _ _ refl
 more_decision K L A B C D y j c (Shares s lver) f g stops old h = more_grants A B j lver c f h
 more_decision K L A B C D y j c (GivesUp s gr) f g stops old h = (
   f Done h.0,
-  more_lease A B C D (add_end (end_of gr) y) s (spot_of_grant gr) (ForJob j) (release_next (lease_place y.setting s) (known y.setting (seen (add_end (end_of gr) y)) s (spot_of_grant gr)) gr.mode gr.lver)
+  more_lease A B C D (add_end (end_of gr) y) s (spot_of_grant gr) (ForJob j) (next_of_release y.setting (seen (add_end (end_of gr) y)) s (spot_of_grant gr) gr)
       (λ i r is k. subst (λ n. B n r) (some_value j i is) (f r (subst (λ n. A n r) (sym (some_value j i is)) k))) g h.1,
 )
 more_decision K L A B C D y j c (TakesOver s gr) f g stops old h = more_grants A B j gr.lver c f h
 more_decision K L A B C D y j c (ConvertsTo s r mode) f g stops old h =
-    more_lease A B C D y s (spot_of r) (ForJob j) (convert_next (known y.setting (seen y) s (spot_of r)) mode r.name)
+    more_lease A B C D y s (spot_of r) (ForJob j) (next_of_conversion y.setting (seen y) s (spot_of r) mode r.name)
     (λ i q is k. subst (λ n. B n q) (some_value j i is) (f q (subst (λ n. A n q) (sym (some_value j i is)) k))) g h
 more_decision K L A B C D y j c (Requests s r) f g stops old h = g _ _ _ _ refl h
 more_decision K L A B C D y j c (SetsValue s at v) f g stops old h = g _ _ _ _ refl h

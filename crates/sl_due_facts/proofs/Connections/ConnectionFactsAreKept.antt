@@ -2,7 +2,7 @@
 use Rattle.sl_acts.proofs.Additions.{any_last}
 use Rattle.sl_acts.proofs.InputsKeep.{has_heard}
 use Rattle.sl_acts.proofs.LoopsKeep.{for_each_keeps, when_keeps}
-use Rattle.sl_acts.specs.Acts.{Has, Hears, lone_job}
+use Rattle.sl_acts.specs.Acts.{Has, Hears, lone_job, next_of_settling}
 use Rattle.sl_acts.specs.SoFar.{entry_of}
 use Rattle.sl_area.specs.Places.{request_offset}
 use Rattle.sl_due.specs.DueAnswers.{set_reply}
@@ -23,7 +23,7 @@ use Rattle.sl_due_facts.proofs.Jobs.SessionsArePresent.{joined_present, present_
 use Rattle.sl_due_facts.proofs.Jobs.SessionsStand.{joined_then, leaving_joined, recovery_joined}
 use Rattle.sl_run.specs.LawfulWatchdog.{is_covered}
 use Rattle.sl_trace.specs.Jobs.{is_job_of_process, job_of_start}
-use Rattle.sl_trace.specs.LeaseWork.{lease_place, settle_next}
+use Rattle.sl_trace.specs.LeaseWork.{lease_place}
 use Rattle.sl_trace.specs.Leases.{holdings_on, known, lver_written, spot_of_call}
 use Rattle.sl_trace.specs.declared.lease.LeaseNext.TheVariants.{AnswerJob}
 use Rattle.sl_trace.specs.declared.lease.LeaseNext.{LeaseNext}
@@ -352,7 +352,7 @@ connection_facts_are_kept =
           (record { has = has; its = is; runs = runs; names = h.facts.names; orderly = h.orderly }) (woken_decides x s j h has wake is runs) h.facts.connections;
       renews = λ x s has wake joined h. renewal_connections x s (bits_due x.setting (calls_of (seen x) s) x.reading) has joined h;
       settles = λ x s spot has wake active whole none h.
-          let n : LeaseNext = settle_next (lease_place x.setting s) (known x.setting (seen x) s spot) in
+          let n : LeaseNext = next_of_settling x.setting (seen x) s spot in
           lease_connections x s spot Settling n has (active_is_joined x.setting (seen x) s active) (λ r same. late_on_wake x r wake) (λ j its. absurd (none_some j its)) h;
       parts = λ x s has joined recovers_one free quiet h.
           let b = some_there (recovery_of x.setting (seen x) s) recovers_one in end_connections x s has joined (recovery_joined x.setting (entry_of x) x.past s b.0 b.1) h;

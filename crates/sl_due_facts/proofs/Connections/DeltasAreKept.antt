@@ -2,16 +2,16 @@
 use Rattle.sl_acts.proofs.Additions.{any_stays, contains_at, contains_last}
 use Rattle.sl_acts.proofs.InputsKeep.{has_heard}
 use Rattle.sl_acts.proofs.LoopsKeep.{for_each_keeps, when_keeps, with_some_keeps}
-use Rattle.sl_acts.specs.Acts.{Acts, Has, Hears}
+use Rattle.sl_acts.specs.Acts.{Acts, Has, Hears, next_of_conversion, next_of_release, next_of_settling}
 use Rattle.sl_acts.specs.SoFar.{entry_of}
 use Rattle.sl_area.specs.Layouts.{record_in, sector_with}
-use Rattle.sl_area.specs.Places.{block_offset, delta_offset, leader_offset, request_offset}
+use Rattle.sl_area.specs.Places.{area_sectors, block_offset, block_place, block_record, block_sectors, delta_offset, leader_offset, leader_record, request_offset}
 use Rattle.sl_due.specs.DueAnswers.{set_reply}
 use Rattle.sl_due.specs.DueCommands.{answer_line, carry_decision, decided}
 use Rattle.sl_due.specs.DueDelta.{carry_delta, for_joining, move_connection, read_own_sector, register, survey, write_own_sector}
 use Rattle.sl_due.specs.DueFirst.{begin_recoveries, begin_recovery, begins_now, refuse, remove_connection, remove_of_refused, send, signal_and_refuse}
 use Rattle.sl_due.specs.DueInputs.{end_holdings, leave_holdings, refuse_jobs_of, started_reply, when_running}
-use Rattle.sl_due.specs.DueLease.{carry_lease, next_of_lease, read_for}
+use Rattle.sl_due.specs.DueLease.{carry_lease, name_on, next_of_lease, next_turn, read_for}
 use Rattle.sl_due.specs.DueRequests.{after_request_read, after_value_read, bits_due, value_reply}
 use Rattle.sl_due.specs.Steps.{Step, add_call_of, add_end, add_move, add_reply, add_signal, begin_step, seen, with_input, with_some}
 use Rattle.sl_due.specs.declared.decision.Decision.TheVariants.{ConvertsTo, GetsValue, GivesUp, Joins, Leaves, ReadsArea, Replies, Requests, SetsValue, Shares, TakesOver}
@@ -21,7 +21,7 @@ use Rattle.sl_due_facts.proofs.Jobs.CallsHaveFacts.{sessions_told}
 use Rattle.sl_due_facts.proofs.Jobs.CallsOfJobsFit.{joining_of, list_all_inside}
 use Rattle.sl_due_facts.proofs.Jobs.CallsStay.{IsLate, calls_stay, late}
 use Rattle.sl_due_facts.proofs.Jobs.DecisionsFit.{DecisionFits, decisions_fit}
-use Rattle.sl_due_facts.proofs.Jobs.EffectsAreAllowed.{Allows, DecisionAllowed, DeltaAllowed, GrantAllowed, LeaseAllowed, ReadAllowed, RequestAllowed, decision, exited, lease, left, refusal, removal, removal_of_refused, requested, sent, stopped}
+use Rattle.sl_due_facts.proofs.Jobs.EffectsAreAllowed.{Allows, DecisionAllowed, DeltaAllowed, GrantAllowed, LeaseAllowed, ReadAllowed, RequestAllowed, block_no_delta, decision, exited, leader_no_delta, lease, left, refusal, removal, removal_of_refused, requested, sent, stopped}
 use Rattle.sl_due_facts.proofs.Jobs.JobFactsAreKept.{begun_sessions}
 use Rattle.sl_due_facts.proofs.Jobs.JobsAreAllowed.{late_on_wake}
 use Rattle.sl_due_facts.proofs.Jobs.JobsAreNumbered.{finds_none, next_is_new}
@@ -35,7 +35,7 @@ use Rattle.sl_due_facts.specs.Jobs.Promises.{BeginsWith}
 use Rattle.sl_run.specs.LawfulDelta.{Gave, IsRegistering, LawfulDeltaCall, LawfulJoinStep, WatchOver}
 use Rattle.sl_run.specs.Saying.{EachCall, cut_at, older}
 use Rattle.sl_trace.specs.Jobs.{job_of_start}
-use Rattle.sl_trace.specs.LeaseWork.{convert_next, lease_place, release_next, settle_next}
+use Rattle.sl_trace.specs.LeaseWork.{convert_next, lease_place, release_next}
 use Rattle.sl_trace.specs.Leases.{known, spot_of, spot_of_call}
 use Rattle.sl_trace.specs.declared.lease.LeaseNext.TheVariants.{AnswerJob, BecomeExclusive, BecomeShared, GrantJob, Nothing as No_lease, ReadFor, WriteBlock, WriteLeader}
 use Rattle.sl_trace.specs.declared.lease.LeaseNext.{LeaseNext}
@@ -91,7 +91,8 @@ use Rattle.sl_trace.specs.declared.effects.Grant.{Grant}
 use Rattle.sl_trace.specs.declared.effects.JobReply.{JobReply}
 use Rattle.sl_trace.specs.declared.effects.JoinStep.TheVariants.{ClaimWrite, DecidingRead, FirstRead, FirstRenewal, VerifyRead, WatchRead}
 use Rattle.sl_trace.specs.declared.effects.JoinStep.{JoinStep}
-use Rattle.sl_trace.specs.declared.effects.LeaseStep.TheVariants.{ClearMode, FreeLeader, Phase1Read, Phase1Write, Phase2Read, Phase2Write, ReadArea, ReadBeforeFree, SetMode, TakeLeader}
+use Rattle.sl_trace.specs.declared.effects.LeaseRead.TheVariants.{OfArea, OfBlock, OfFree, OfPhase1, OfPhase2}
+use Rattle.sl_trace.specs.declared.effects.LeaseStep.TheVariants.{ClearMode, FreeLeader, Phase1Read, Phase1Write, Phase2Read, Phase2Write, ReadAgain, ReadArea, ReadBeforeBlock, ReadBeforeFree, SetMode, TakeLeader}
 use Rattle.sl_trace.specs.declared.effects.LeaseStep.{LeaseStep}
 use Rattle.sl_trace.specs.declared.effects.Move.TheVariants.{Register, Unregister}
 use Rattle.sl_trace.specs.declared.effects.Move.{Move}
@@ -173,6 +174,12 @@ plain_bare x bare k c s at its = absurd (none_some c (ap (λ cs. slice_get cs k)
 reads_plain : (y : Step) (s : Session) (at : Spot) (work : Work) (step : LeaseStep) → ReadAllowed PlainWork y s at work step
 reads_plain y s at work (ReadArea name) = (refl, refl)
 reads_plain y s at work ReadBeforeFree = (refl, refl)
+reads_plain y s at work ReadBeforeBlock = (refl, refl)
+reads_plain y s at work (ReadAgain (OfArea name)) = (refl, refl)
+reads_plain y s at work (ReadAgain OfFree) = (refl, refl)
+reads_plain y s at work (ReadAgain OfBlock) = (refl, refl)
+reads_plain y s at work (ReadAgain OfPhase1) = (refl, refl)
+reads_plain y s at work (ReadAgain OfPhase2) = (refl, refl)
 reads_plain y s at work Phase1Write = (refl, refl)
 reads_plain y s at work Phase1Read = (refl, refl)
 reads_plain y s at work Phase2Write = (refl, refl)
@@ -202,12 +209,12 @@ grants_plain j lver Status = tt
 lease_plain : (y : Step) (s : Session) (at : Spot) (work : Work) (n : LeaseNext) → LeaseAllowed AnyReply PlainWork AnyStart y s at work n
 lease_plain y s at work No_lease = tt
 lease_plain y s at work (ReadFor step) = reads_plain y s at work step
-lease_plain y s at work (WriteBlock step b) = (refl, refl)
-lease_plain y s at work (WriteLeader step l) = (refl, refl)
+lease_plain y s at work (WriteBlock step b) = (refl, (block_no_delta y.setting.layout (next_turn y.setting (seen y) s at) s.lockspace (name_on y.setting (seen y) s at) b))
+lease_plain y s at work (WriteLeader step l) = (refl, leader_no_delta y.setting.layout l)
 lease_plain y s at work (AnswerJob r) = λ j is. tt
 lease_plain y s at work (GrantJob mode lver) = λ j c is reads_one. grants_plain j lver c
-lease_plain y s at work (BecomeShared lver l) = ((λ j is. tt), (refl, refl))
-lease_plain y s at work (BecomeExclusive lver b) = ((λ j is. tt), λ g. (refl, refl))
+lease_plain y s at work (BecomeShared lver l) = ((λ j is. tt), (refl, leader_no_delta y.setting.layout l))
+lease_plain y s at work (BecomeExclusive lver b) = ((λ j is. tt), λ z same. (refl, (block_no_delta z.setting.layout (next_turn z.setting (seen z) s at) s.lockspace (name_on z.setting (seen z) s at) b)))
 
 request_plain : (x : Step) (s : Session) (j : ℕ) (bytes : List ℕ) (c : Command) → RequestAllowed AnyReply PlainWork x s j bytes c
 request_plain x s j bytes (Request r asked force) = ((λ why is. tt), (refl, refl))
@@ -909,9 +916,9 @@ decision_calls y j c (Joins n a) = inl tt
 decision_calls y j c (Leaves s) = inr (tt, λ z k i there. tt)
 decision_calls y j c (ReadsArea s r) = inr (refl, refl)
 decision_calls y j c (Shares s lver) = inr (grants_plain j lver c)
-decision_calls y j c (GivesUp s g) = inr (tt, lease_plain (add_end (end_of g) y) s (spot_of_grant g) (ForJob j) (release_next (lease_place y.setting s) (known y.setting (seen (add_end (end_of g) y)) s (spot_of_grant g)) g.mode g.lver))
+decision_calls y j c (GivesUp s g) = inr (tt, lease_plain (add_end (end_of g) y) s (spot_of_grant g) (ForJob j) (next_of_release y.setting (seen (add_end (end_of g) y)) s (spot_of_grant g) g))
 decision_calls y j c (TakesOver s g) = inr (grants_plain j g.lver c)
-decision_calls y j c (ConvertsTo s r mode) = inr (lease_plain y s (spot_of r) (ForJob j) (convert_next (known y.setting (seen y) s (spot_of r)) mode r.name))
+decision_calls y j c (ConvertsTo s r mode) = inr (lease_plain y s (spot_of r) (ForJob j) (next_of_conversion y.setting (seen y) s (spot_of r) mode r.name))
 decision_calls y j c (Requests s r) = inr (refl, refl)
 decision_calls y j c (SetsValue s at v) = inr (refl, refl)
 decision_calls y j c (GetsValue s at) = inr (refl, refl)
@@ -1008,22 +1015,32 @@ unfolding carry_lease
 settled_calls x s at No_lease h = h
 settled_calls x s at (ReadFor step) h = by step where
   by : (p : LeaseStep) → CallsKept (read_for s at Settling p x)
-  by (ReadArea name) = called_plain x s at.path (Lease Settling (ReadArea name)) at.base (ReadSectors (x.setting.layout.hosts + 2)) (refl, refl) h
-  by ReadBeforeFree = called_plain x s at.path (Lease Settling ReadBeforeFree) at.base (ReadSectors (x.setting.layout.hosts + 2)) (refl, refl) h
-  by Phase1Write = called_plain x s at.path (Lease Settling Phase1Write) (block_offset x.setting.layout at.base 1) (ReadSectors x.setting.layout.hosts) (refl, refl) h
-  by Phase1Read = called_plain x s at.path (Lease Settling Phase1Read) (block_offset x.setting.layout at.base 1) (ReadSectors x.setting.layout.hosts) (refl, refl) h
-  by Phase2Write = called_plain x s at.path (Lease Settling Phase2Write) (block_offset x.setting.layout at.base 1) (ReadSectors x.setting.layout.hosts) (refl, refl) h
-  by Phase2Read = called_plain x s at.path (Lease Settling Phase2Read) (block_offset x.setting.layout at.base 1) (ReadSectors x.setting.layout.hosts) (refl, refl) h
-  by TakeLeader = called_plain x s at.path (Lease Settling TakeLeader) (block_offset x.setting.layout at.base 1) (ReadSectors x.setting.layout.hosts) (refl, refl) h
-  by SetMode = called_plain x s at.path (Lease Settling SetMode) (block_offset x.setting.layout at.base 1) (ReadSectors x.setting.layout.hosts) (refl, refl) h
-  by FreeLeader = called_plain x s at.path (Lease Settling FreeLeader) (block_offset x.setting.layout at.base 1) (ReadSectors x.setting.layout.hosts) (refl, refl) h
-  by ClearMode = called_plain x s at.path (Lease Settling ClearMode) (block_offset x.setting.layout at.base 1) (ReadSectors x.setting.layout.hosts) (refl, refl) h
-settled_calls x s at (WriteBlock step b) h = called_plain x s at.path (Lease Settling step) (block_offset x.setting.layout at.base s.id) (WriteRecord (BlockIs b)) (refl, refl) h
-settled_calls x s at (WriteLeader step l) h = called_plain x s at.path (Lease Settling step) (leader_offset at.base) (WriteRecord (LeaderIs l)) (refl, refl) h
+  by (ReadArea name) = called_plain x s at.path (Lease Settling (ReadArea name)) at.base (ReadSectors (area_sectors x.setting.layout)) (refl, refl) h
+  by ReadBeforeFree = called_plain x s at.path (Lease Settling ReadBeforeFree) at.base (ReadSectors (area_sectors x.setting.layout)) (refl, refl) h
+  by (ReadAgain (OfArea name)) = called_plain x s at.path (Lease Settling (ReadAgain (OfArea name))) at.base (ReadSectors (area_sectors x.setting.layout)) (refl, refl) h
+  by (ReadAgain OfFree) = called_plain x s at.path (Lease Settling (ReadAgain OfFree)) at.base (ReadSectors (area_sectors x.setting.layout)) (refl, refl) h
+  by ReadBeforeBlock = called_plain x s at.path (Lease Settling ReadBeforeBlock) (block_offset x.setting.layout at.base 1) (ReadSectors (block_sectors x.setting.layout)) (refl, refl) h
+  by (ReadAgain OfBlock) = called_plain x s at.path (Lease Settling (ReadAgain OfBlock)) (block_offset x.setting.layout at.base 1) (ReadSectors (block_sectors x.setting.layout)) (refl, refl) h
+  by (ReadAgain OfPhase1) = called_plain x s at.path (Lease Settling (ReadAgain OfPhase1)) (block_offset x.setting.layout at.base 1) (ReadSectors (block_sectors x.setting.layout)) (refl, refl) h
+  by (ReadAgain OfPhase2) = called_plain x s at.path (Lease Settling (ReadAgain OfPhase2)) (block_offset x.setting.layout at.base 1) (ReadSectors (block_sectors x.setting.layout)) (refl, refl) h
+  by Phase1Write = called_plain x s at.path (Lease Settling Phase1Write) (block_offset x.setting.layout at.base 1) (ReadSectors (block_sectors x.setting.layout)) (refl, refl) h
+  by Phase1Read = called_plain x s at.path (Lease Settling Phase1Read) (block_offset x.setting.layout at.base 1) (ReadSectors (block_sectors x.setting.layout)) (refl, refl) h
+  by Phase2Write = called_plain x s at.path (Lease Settling Phase2Write) (block_offset x.setting.layout at.base 1) (ReadSectors (block_sectors x.setting.layout)) (refl, refl) h
+  by Phase2Read = called_plain x s at.path (Lease Settling Phase2Read) (block_offset x.setting.layout at.base 1) (ReadSectors (block_sectors x.setting.layout)) (refl, refl) h
+  by TakeLeader = called_plain x s at.path (Lease Settling TakeLeader) (block_offset x.setting.layout at.base 1) (ReadSectors (block_sectors x.setting.layout)) (refl, refl) h
+  by SetMode = called_plain x s at.path (Lease Settling SetMode) (block_offset x.setting.layout at.base 1) (ReadSectors (block_sectors x.setting.layout)) (refl, refl) h
+  by FreeLeader = called_plain x s at.path (Lease Settling FreeLeader) (block_offset x.setting.layout at.base 1) (ReadSectors (block_sectors x.setting.layout)) (refl, refl) h
+  by ClearMode = called_plain x s at.path (Lease Settling ClearMode) (block_offset x.setting.layout at.base 1) (ReadSectors (block_sectors x.setting.layout)) (refl, refl) h
+settled_calls x s at (WriteBlock step b) h = called_plain x s at.path (Lease Settling step) (block_place x.setting.layout at.base s.id (next_turn x.setting (seen x) s at))
+    (WriteRecord (block_record x.setting.layout (next_turn x.setting (seen x) s at) s.lockspace (name_on x.setting (seen x) s at) b))
+    (refl, (block_no_delta x.setting.layout (next_turn x.setting (seen x) s at) s.lockspace (name_on x.setting (seen x) s at) b)) h
+settled_calls x s at (WriteLeader step l) h = called_plain x s at.path (Lease Settling step) (leader_offset at.base) (WriteRecord (leader_record x.setting.layout l)) (refl, leader_no_delta x.setting.layout l) h
 settled_calls x s at (AnswerJob r) h = h
 settled_calls x s at (GrantJob mode lver) h = h
-settled_calls x s at (BecomeShared lver l) h = called_plain x s at.path (Lease Settling FreeLeader) (leader_offset at.base) (WriteRecord (LeaderIs l)) (refl, refl) h
-settled_calls x s at (BecomeExclusive lver b) h = called_plain x s at.path (Lease Settling ClearMode) (block_offset x.setting.layout at.base s.id) (WriteRecord (BlockIs b)) (refl, refl) h
+settled_calls x s at (BecomeShared lver l) h = called_plain x s at.path (Lease Settling FreeLeader) (leader_offset at.base) (WriteRecord (leader_record x.setting.layout l)) (refl, leader_no_delta x.setting.layout l) h
+settled_calls x s at (BecomeExclusive lver b) h = called_plain x s at.path (Lease Settling ClearMode) (block_place x.setting.layout at.base s.id (next_turn x.setting (seen x) s at))
+    (WriteRecord (block_record x.setting.layout (next_turn x.setting (seen x) s at) s.lockspace (name_on x.setting (seen x) s at) b))
+    (refl, (block_no_delta x.setting.layout (next_turn x.setting (seen x) s at) s.lockspace (name_on x.setting (seen x) s at) b)) h
 
 unstarted_calls : (x : Step) (n : ℕ) → x.input ≡ Spawned n false → Whole x → CallsKept x → CallsKept (when_running (job_of_start (seen x) n) SpawnFault (end_holdings n x))
 unstarted_calls x n input w h = by (job_of_start (seen x) n) refl where
@@ -1092,7 +1109,7 @@ calls_are_kept =
           woken_carried x s j (next_on_wake (delta_of_session x.setting s) x.reading (calls_of (seen x) s)) (record { has = has; its = its; runs = runs; names = h.whole.facts.names; orderly = h.whole.orderly }) wake
           (woken_next x s j h.whole h.past.names h.past.connections has wake its runs) h.kept;
       renews = λ x s has wake joined h. renewing_calls x s (bits_due x.setting (calls_of (seen x) s) x.reading) has joined h.whole h.kept;
-      settles = λ x s spot has wake active whole none h. settled_calls x s spot (settle_next (lease_place x.setting s) (known x.setting (seen x) s spot)) h.kept;
+      settles = λ x s spot has wake active whole none h. settled_calls x s spot (next_of_settling x.setting (seen x) s spot) h.kept;
       parts = λ x s has joined ill free quiet h. parts_calls x s has joined ill h.whole h.kept;
       frees = λ x s has joined well free quiet h. freeing_calls x s has joined well free quiet h.kept;
     }

@@ -5,7 +5,7 @@ use Rattle.sl_acts.proofs.DecisionsAreTheirs.{Of}
 use Rattle.sl_acts.proofs.InputsKeep.{has_heard}
 use Rattle.sl_acts.proofs.LoopsKeep.{for_each_keeps}
 use Rattle.sl_acts.proofs.PlainActs.{line_has}
-use Rattle.sl_acts.specs.Acts.{Acts, Expects, Has, Hears}
+use Rattle.sl_acts.specs.Acts.{Acts, Expects, Has, Hears, next_of_settling}
 use Rattle.sl_acts.specs.SoFar.{entry_of}
 use Rattle.sl_area.specs.Places.{request_offset}
 use Rattle.sl_due.specs.DueAnswers.{set_reply}
@@ -29,7 +29,7 @@ use Rattle.sl_due_facts.proofs.Jobs.RepliesComeAfter.{IsLateLease, lease_late, o
 use Rattle.sl_due_facts.proofs.Jobs.SessionsArePresent.{joined_present}
 use Rattle.sl_due_facts.proofs.Jobs.SessionsStand.{joined_then, running_before}
 use Rattle.sl_trace.specs.Jobs.{is_command_that, is_job_of_process, job_of_start, jobs_of_session, lockspace_named}
-use Rattle.sl_trace.specs.LeaseWork.{lease_place, settle_next}
+use Rattle.sl_trace.specs.LeaseWork.{lease_place}
 use Rattle.sl_trace.specs.Leases.{holdings_on, known, lver_written, spot_of_call}
 use Rattle.sl_trace.specs.declared.lease.LeaseNext.TheVariants.{AnswerJob}
 use Rattle.sl_trace.specs.declared.lease.LeaseNext.{LeaseNext}
@@ -361,7 +361,7 @@ all_acts H J p =
           p.steady x (carry_delta s (next_renewal (delta_of_session x.setting s) x.reading (delta_known x.setting (seen x) s) (bits_due x.setting (calls_of (seen x) s) x.reading)) x)
           (steady_renewal x s (bits_due x.setting (calls_of (seen x) s) x.reading) has joined) (p.here x h);
       settles = λ x s spot has wake active whole none h.
-          let n : LeaseNext = settle_next (lease_place x.setting s) (known x.setting (seen x) s spot) in
+          let n : LeaseNext = next_of_settling x.setting (seen x) s spot in
           p.steady x (carry_lease s spot Settling n x)
           (steady_lease x s spot Settling n has (active_is_joined x.setting (seen x) s active) (λ r same. late_on_wake x r wake) (λ j its. absurd (none_some j its))) (p.here x h);
       parts = p.parts;

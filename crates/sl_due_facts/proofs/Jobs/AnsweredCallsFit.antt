@@ -94,6 +94,7 @@ heard_works x s m answer j step aim h hears is aims =
       whole = spot_whole x.setting.layout m room.whole;
       room = room;
       host = session_host x.setting (seen x) s h.setting (got_inside (sessions x.setting (seen x)) s.number s has);
+      plain = h.setting.unpaired;
     }
 
 pub lease_allowed : (x : Step) (s : Session) (m : Submitted) (answer : Answer) (work : Work) (step : LeaseStep) (aim : Aim) (n : LeaseNext) → Whole x → Hears x s m answer → m.call.purpose ≡ Lease work step

@@ -2,34 +2,37 @@
 -- their conditions, and a call comes last.
 
 -- K is kept by each effect but a call, L holds after a call, and where none is made.
+use Rattle.sl_sector.specs.declared.sector.Leader.{Leader}
+use Rattle.sl_sector.specs.declared.sector.Block.{Block}
+use Rattle.sl_sector.specs.declared.sector.Rec.{Rec}
 use Rattle.sl_acts.proofs.LoopsKeep.{for_each_keeps, when_keeps, with_some_keeps}
 use Rattle.sl_area.specs.Layouts.{Layout}
-use Rattle.sl_area.specs.Places.{block_offset, delta_offset, leader_offset, request_offset, value_offset}
+use Rattle.sl_area.specs.Places.{area_sectors, block_offset, block_place, block_record, block_sectors, delta_offset, leader_offset, leader_record, request_offset, value_offset}
 use Rattle.sl_due.specs.DueCommands.{after_end, carry_decision}
 use Rattle.sl_due.specs.DueDelta.{carry_delta, end_leaving, for_joining, move_connection, read_own_sector, register, survey, write_own_sector}
 use Rattle.sl_due.specs.DueFirst.{refuse, remove_connection, remove_of_refused, send, signal_and_refuse, signal_holders}
 use Rattle.sl_due.specs.DueInputs.{end_holdings, leave_holdings, refuse_jobs_of, when_running}
-use Rattle.sl_due.specs.DueLease.{carry_lease, convert_for, convert_holding, for_work, grant_for, held_otherwise, read_for, with_command}
+use Rattle.sl_due.specs.DueLease.{carry_lease, convert_for, convert_holding, for_work, grant_for, held_otherwise, read_for, with_command, name_on, next_turn}
 use Rattle.sl_due.specs.DueRequests.{after_request_read, owner_read, request_refusal, write_request}
 use Rattle.sl_due.specs.Steps.{Step, add_call_of, add_end, add_grant, add_move, add_reply, add_signal, add_start, seen, with_some}
 use Rattle.sl_due.specs.declared.decision.Decision.{Decision}
 use Rattle.sl_due.specs.declared.decision.Decision.TheVariants.{ConvertsTo, GetsValue, GivesUp, Joins, Leaves, ReadsArea, Replies, Requests, SetsValue, Shares, TakesOver}
 use Rattle.sl_trace.specs.Counts.{stopper_of}
 use Rattle.sl_trace.specs.Jobs.{command_numbered, is_job_of_process, jobs_of_session, process_named}
-use Rattle.sl_trace.specs.LeaseWork.{convert_next, lease_place, release_next}
+use Rattle.sl_acts.specs.Acts.{next_of_conversion, next_of_release}
 use Rattle.sl_trace.specs.Leases.{holdings_on, known, spot_of}
 use Rattle.sl_trace.specs.declared.lease.LeaseNext.{LeaseNext}
 use Rattle.sl_trace.specs.declared.lease.LeaseNext.TheVariants.{AnswerJob, BecomeExclusive, BecomeShared, GrantJob, Nothing as No_lease, ReadFor, WriteBlock, WriteLeader}
 use Rattle.sl_plain.proofs.Lists.{kept_inside}
-use Rattle.sl_sector.specs.declared.sector.Rec.TheVariants.{BlockIs, DeltaIs, LeaderIs, RequestIs, ValueIs}
+use Rattle.sl_sector.specs.declared.sector.Rec.TheVariants.{BlockIs, DeltaIs, LeaderIs, PairIs, PairLeaderIs, RequestIs, ValueIs}
 use Rattle.sl_trace.specs.Deltas.{own_offset}
-use Rattle.sl_trace.specs.Sessions.{has_open_write, holders_of, last_renewal, refused_after, session_of_job}
+use Rattle.sl_trace.specs.Sessions.{delta_of_record, has_open_write, holders_of, last_renewal, refused_after, session_of_job}
 use Rattle.sl_trace.specs.declared.delta.DeltaNext.{DeltaNext}
 use Rattle.sl_trace.specs.declared.delta.DeltaNext.TheVariants.{Nothing, Disconnect, EndLeaving, Join, MoveConnection, ReadOwn, RefuseJoin, RegisterAndRead, WriteClaim, WriteFirst, WriteFree, WriteRenewal}
 use Rattle.sl_trace.specs.declared.session.Session.{Session}
 use Rattle.sl_time.specs.Times.{fail}
 use Rattle.sl_trace.specs.Connections.{is_registered}
-use Rattle.sl_trace.specs.Traces.{Job, end_of, holdings, is_running, next_child, orphans_left, running_jobs, spot_of_grant, work_job}
+use Rattle.sl_trace.specs.Traces.{Job, Setting, end_of, holdings, is_running, next_child, orphans_left, running_jobs, spot_of_grant, work_job}
 use Rattle.sl_trace.specs.declared.command.Command.{Command}
 use Rattle.sl_trace.specs.declared.command.Command.TheVariants.{Acquire, Request, RunProgram, TakeOver}
 use Rattle.sl_trace.specs.declared.command.LockspaceArg.{LockspaceArg}
@@ -37,7 +40,8 @@ use Rattle.sl_trace.specs.declared.effects.End.{End}
 use Rattle.sl_trace.specs.declared.effects.Grant.{Grant}
 use Rattle.sl_trace.specs.declared.effects.JoinStep.TheVariants.{ClaimWrite, FirstRead, FirstRenewal}
 use Rattle.sl_trace.specs.declared.effects.LeaseStep.{LeaseStep}
-use Rattle.sl_trace.specs.declared.effects.LeaseStep.TheVariants.{ClearMode, FreeLeader, ReadArea, ReadBeforeFree}
+use Rattle.sl_trace.specs.declared.effects.LeaseRead.TheVariants.{OfArea, OfFree}
+use Rattle.sl_trace.specs.declared.effects.LeaseStep.TheVariants.{ClearMode, FreeLeader, ReadAgain, ReadArea, ReadBeforeFree}
 use Rattle.sl_trace.specs.declared.effects.Mode.{Mode}
 use Rattle.sl_trace.specs.declared.effects.Mode.TheVariants.{Exclusive, Shared}
 use Rattle.sl_trace.specs.declared.effects.Move.{Move}
@@ -55,8 +59,8 @@ use Rattle.sl_trace.specs.declared.effects.Work.TheVariants.{ForJob, Settling}
 use Rattle.sl_trace.specs.declared.reply.Reply.{Reply}
 use Rattle.sl_trace.specs.declared.reply.Reply.TheVariants.{Done, Generation, Granted, NoProcess, Recovering}
 use Rattle.sl_words.specs.Words.{some_is}
-use Rattle.std.proofs.Common.{refl}
-use Rattle.std.specs.Prelude.{Bool, Contains, List, None, Option, Some, [], filter, if◌then◌else◌, is_some, not, ℕ, ◌&&◌, ◌+◌, ◌==◌, ◌∷◌, ◌≡◌}
+use Rattle.std.proofs.Common.{refl, subst, sym}
+use Rattle.std.specs.Prelude.{Bool, Contains, List, None, Option, Some, [], false, filter, if◌then◌else◌, is_some, not, true, ℕ, ◌&&◌, ◌+◌, ◌==◌, ◌∷◌, ◌≡◌}
 
 pub record Allows (K L : Step → Type 0) (A : ℕ → Reply → Type 0) (C : Session → List ℕ → Purpose → ℕ → Op → Type 0) (S : Option ℕ → Type 0) (M : Move → Type 0) : Type 0 where
   pub ends : (y : Step) (e : End) → K y → K (add_end e y)
@@ -170,27 +174,34 @@ GrantAllowed A S j lver c = Unit {0}
 
 -- A read of a lease, by its step.
 abbrev pub ReadAllowed : (Session → List ℕ → Purpose → ℕ → Op → Type 0) → Step → Session → Spot → Work → LeaseStep → Type 0
-ReadAllowed C y s at work (ReadArea name) = C s at.path (Lease work (ReadArea name)) at.base (ReadSectors (y.setting.layout.hosts + 2))
-ReadAllowed C y s at work ReadBeforeFree = C s at.path (Lease work ReadBeforeFree) at.base (ReadSectors (y.setting.layout.hosts + 2))
-ReadAllowed C y s at work step = C s at.path (Lease work step) (block_offset y.setting.layout at.base 1) (ReadSectors y.setting.layout.hosts)
+ReadAllowed C y s at work (ReadArea name) = C s at.path (Lease work (ReadArea name)) at.base (ReadSectors (area_sectors y.setting.layout))
+ReadAllowed C y s at work ReadBeforeFree = C s at.path (Lease work ReadBeforeFree) at.base (ReadSectors (area_sectors y.setting.layout))
+ReadAllowed C y s at work (ReadAgain (OfArea name)) = C s at.path (Lease work (ReadAgain (OfArea name))) at.base (ReadSectors (area_sectors y.setting.layout))
+ReadAllowed C y s at work (ReadAgain OfFree) = C s at.path (Lease work (ReadAgain OfFree)) at.base (ReadSectors (area_sectors y.setting.layout))
+ReadAllowed C y s at work step = C s at.path (Lease work step) (block_offset y.setting.layout at.base 1) (ReadSectors (block_sectors y.setting.layout))
 
 abbrev pub LeaseAllowed : (ℕ → Reply → Type 0) → (Session → List ℕ → Purpose → ℕ → Op → Type 0) → (Option ℕ → Type 0) → Step → Session → Spot → Work → LeaseNext → Type 0
 LeaseAllowed A C S y s at work No_lease = Unit {0}
 LeaseAllowed A C S y s at work (ReadFor step) = ReadAllowed C y s at work step
-LeaseAllowed A C S y s at work (WriteBlock step b) = C s at.path (Lease work step) (block_offset y.setting.layout at.base s.id) (WriteRecord (BlockIs b))
-LeaseAllowed A C S y s at work (WriteLeader step l) = C s at.path (Lease work step) (leader_offset at.base) (WriteRecord (LeaderIs l))
+LeaseAllowed A C S y s at work (WriteBlock step b) =
+    C s at.path (Lease work step) (block_place y.setting.layout at.base s.id (next_turn y.setting (seen y) s at))
+    (WriteRecord (block_record y.setting.layout (next_turn y.setting (seen y) s at) s.lockspace (name_on y.setting (seen y) s at) b))
+LeaseAllowed A C S y s at work (WriteLeader step l) = C s at.path (Lease work step) (leader_offset at.base) (WriteRecord (leader_record y.setting.layout l))
 LeaseAllowed A C S y s at work (AnswerJob r) = (j : ℕ) → work_job work ≡ Some j → A j r
 LeaseAllowed A C S y s at work (GrantJob mode lver) = (j : ℕ) (c : Command) → work_job work ≡ Some j → command_numbered y.setting (seen y) j ≡ Some c → GrantAllowed A S j lver c
 LeaseAllowed A C S y s at work (BecomeShared lver l) =
-    ((j : ℕ) → work_job work ≡ Some j → A j (Granted lver)) × C s at.path (Lease Settling FreeLeader) (leader_offset at.base) (WriteRecord (LeaderIs l))
+    ((j : ℕ) → work_job work ≡ Some j → A j (Granted lver)) × C s at.path (Lease Settling FreeLeader) (leader_offset at.base) (WriteRecord (leader_record y.setting.layout l))
 LeaseAllowed A C S y s at work (BecomeExclusive lver b) =
-    ((j : ℕ) → work_job work ≡ Some j → A j (Granted lver)) × ((g : Layout) → C s at.path (Lease Settling ClearMode) (block_offset g at.base s.id) (WriteRecord (BlockIs b)))
+    ((j : ℕ) → work_job work ≡ Some j → A j (Granted lver)) × ((z : Step) → z.setting ≡ y.setting → C s at.path (Lease Settling ClearMode) (block_place z.setting.layout at.base s.id (next_turn z.setting (seen z) s at))
+    (WriteRecord (block_record z.setting.layout (next_turn z.setting (seen z) s at) s.lockspace (name_on z.setting (seen z) s at) b)))
 
 pub reads : (K L : Step → Type 0) (A : ℕ → Reply → Type 0) (C : Session → List ℕ → Purpose → ℕ → Op → Type 0) (S : Option ℕ → Type 0) (M : Move → Type 0) → Allows K L A C S M
     → (y : Step) (s : Session) (at : Spot) (work : Work) (step : LeaseStep) → ReadAllowed C y s at work step → K y → L (read_for s at work step y)
-reads K L A C S M p y s at work (ReadArea name) may h = p.calls y s at.path (Lease work (ReadArea name)) at.base (ReadSectors (y.setting.layout.hosts + 2)) may h
-reads K L A C S M p y s at work ReadBeforeFree may h = p.calls y s at.path (Lease work ReadBeforeFree) at.base (ReadSectors (y.setting.layout.hosts + 2)) may h
-reads K L A C S M p y s at work step may h = p.calls y s at.path (Lease work step) (block_offset y.setting.layout at.base 1) (ReadSectors y.setting.layout.hosts) may h
+reads K L A C S M p y s at work (ReadArea name) may h = p.calls y s at.path (Lease work (ReadArea name)) at.base (ReadSectors (area_sectors y.setting.layout)) may h
+reads K L A C S M p y s at work ReadBeforeFree may h = p.calls y s at.path (Lease work ReadBeforeFree) at.base (ReadSectors (area_sectors y.setting.layout)) may h
+reads K L A C S M p y s at work (ReadAgain (OfArea name)) may h = p.calls y s at.path (Lease work (ReadAgain (OfArea name))) at.base (ReadSectors (area_sectors y.setting.layout)) may h
+reads K L A C S M p y s at work (ReadAgain OfFree) may h = p.calls y s at.path (Lease work (ReadAgain OfFree)) at.base (ReadSectors (area_sectors y.setting.layout)) may h
+reads K L A C S M p y s at work step may h = p.calls y s at.path (Lease work step) (block_offset y.setting.layout at.base 1) (ReadSectors (block_sectors y.setting.layout)) may h
 
 pub grants_for : (K L : Step → Type 0) (A : ℕ → Reply → Type 0) (C : Session → List ℕ → Purpose → ℕ → Op → Type 0) (S : Option ℕ → Type 0) (M : Move → Type 0) → Allows K L A C S M
     → (y : Step) (s : Session) (j : ℕ) (c : Command) (mode : Mode) (lver : ℕ) → GrantAllowed A S j lver c → K y → K (grant_for s j c mode lver y)
@@ -209,23 +220,52 @@ converts K L A C S M p y s at work mode lver may h =
     (λ q named d. with_some_keeps K (held_otherwise (seen y) s at q mode) (convert_holding j mode lver) y
     (λ g held b. p.replies _ j (Granted lver) (may j is) (p.grants _ (record g { mode = mode; lver = lver }) (p.ends y (end_of g) b))) d) f) k) h
 
+-- No record of a lease is a delta record.
+pub block_no_delta : (g : Layout) (turn : ℕ) (lockspace name : List ℕ) (b : Block) → delta_of_record (block_record g turn lockspace name b) ≡ None
+block_no_delta g turn lockspace name b = by g.paired where
+  by : (paired : Bool) → delta_of_record (elim paired as (λ x. Rec) [ false ↦ BlockIs b | true ↦ PairIs (record { block = b; turn = turn; lockspace = lockspace; resource = name }) ]) ≡ None
+  by false = refl
+  by true = refl
+
+pub leader_no_delta : (g : Layout) (l : Leader) → delta_of_record (leader_record g l) ≡ None
+leader_no_delta g l = by g.paired where
+  by : (paired : Bool) → delta_of_record (elim paired as (λ x. Rec) [ false ↦ LeaderIs l | true ↦ PairLeaderIs l ]) ≡ None
+  by false = refl
+  by true = refl
+
+-- A conversion leaves the setting.
+abbrev IsIn : Setting → Step → Type 0
+IsIn st z = z.setting ≡ st
+
+same_setting : (y : Step) (s : Session) (at : Spot) (work : Work) (mode : Mode) (lver : ℕ) → (for_work work (λ j. with_command j (λ c. convert_for s at j c mode lver)) y).setting ≡ y.setting
+same_setting y s at work mode lver =
+    with_some_keeps (IsIn y.setting) (work_job work) (λ j. with_command j (λ c. convert_for s at j c mode lver)) y
+    (λ j is k. with_some_keeps (IsIn y.setting) (command_numbered y.setting (seen y) j) (λ c. convert_for s at j c mode lver) y
+    (λ c found f. with_some_keeps (IsIn y.setting) (process_named c) (λ q z. with_some (held_otherwise (seen z) s at q mode) (convert_holding j mode lver) z) y
+    (λ q named d. with_some_keeps (IsIn y.setting) (held_otherwise (seen y) s at q mode) (convert_holding j mode lver) y (λ g held b. b) d) f) k) refl
+
 pub lease : (K L : Step → Type 0) (A : ℕ → Reply → Type 0) (C : Session → List ℕ → Purpose → ℕ → Op → Type 0) (S : Option ℕ → Type 0) (M : Move → Type 0) → Allows K L A C S M
     → (y : Step) (s : Session) (at : Spot) (work : Work) (n : LeaseNext) → LeaseAllowed A C S y s at work n → K y → L (carry_lease s at work n y)
 unfolding carry_lease
 lease K L A C S M p y s at work No_lease may h = p.rest y h
 lease K L A C S M p y s at work (ReadFor step) may h = reads K L A C S M p y s at work step may h
-lease K L A C S M p y s at work (WriteBlock step b) may h = p.calls y s at.path (Lease work step) (block_offset y.setting.layout at.base s.id) (WriteRecord (BlockIs b)) may h
-lease K L A C S M p y s at work (WriteLeader step l) may h = p.calls y s at.path (Lease work step) (leader_offset at.base) (WriteRecord (LeaderIs l)) may h
+lease K L A C S M p y s at work (WriteBlock step b) may h =
+    p.calls y s at.path (Lease work step) (block_place y.setting.layout at.base s.id (next_turn y.setting (seen y) s at))
+    (WriteRecord (block_record y.setting.layout (next_turn y.setting (seen y) s at) s.lockspace (name_on y.setting (seen y) s at) b)) may h
+lease K L A C S M p y s at work (WriteLeader step l) may h = p.calls y s at.path (Lease work step) (leader_offset at.base) (WriteRecord (leader_record y.setting.layout l)) may h
 lease K L A C S M p y s at work (AnswerJob r) may h = p.rest _ (with_some_keeps K (work_job work) (λ j. add_reply j r) y (λ j is k. p.replies y j r (may j is) k) h)
 lease K L A C S M p y s at work (GrantJob mode lver) may h =
     p.rest _ (with_some_keeps K (work_job work) (λ j. with_command j (λ c. grant_for s j c mode lver)) y
     (λ j is k. with_some_keeps K (command_numbered y.setting (seen y) j) (λ c. grant_for s j c mode lver) y (λ c found f. grants_for K L A C S M p y s j c mode lver (may j c is found) f) k) h)
 lease K L A C S M p y s at work (BecomeShared lver l) may h =
     let z : Step = for_work work (λ j. with_command j (λ c. convert_for s at j c Shared lver)) y in
-    p.calls z s at.path (Lease Settling FreeLeader) (leader_offset at.base) (WriteRecord (LeaderIs l)) may.1 (converts K L A C S M p y s at work Shared lver may.0 h)
+    p.calls z s at.path (Lease Settling FreeLeader) (leader_offset at.base) (WriteRecord (leader_record z.setting.layout l))
+    (subst (λ (st : Setting). C s at.path (Lease Settling FreeLeader) (leader_offset at.base) (WriteRecord (leader_record st.layout l))) (sym (same_setting y s at work Shared lver)) may.1) (converts K L A C S M p y s at work Shared lver may.0 h)
 lease K L A C S M p y s at work (BecomeExclusive lver b) may h =
     let z : Step = for_work work (λ j. with_command j (λ c. convert_for s at j c Exclusive lver)) y in
-    p.calls z s at.path (Lease Settling ClearMode) (block_offset z.setting.layout at.base s.id) (WriteRecord (BlockIs b)) (may.1 z.setting.layout) (converts K L A C S M p y s at work Exclusive lver may.0 h)
+    p.calls z s at.path (Lease Settling ClearMode) (block_place z.setting.layout at.base s.id (next_turn z.setting (seen z) s at))
+    (WriteRecord (block_record z.setting.layout (next_turn z.setting (seen z) s at) s.lockspace (name_on z.setting (seen z) s at) b))
+    (may.1 z (same_setting y s at work Exclusive lver)) (converts K L A C S M p y s at work Exclusive lver may.0 h)
 
 -- ---- what a command came to
 
@@ -234,21 +274,21 @@ DecisionAllowed K A C S y j c (Replies r) = Unit {0}
 DecisionAllowed K A C S y j c (Joins n a) = (z : Session) → z.number ≡ n → C z a.path (Joining j FirstRead) (delta_offset y.setting.layout a.offset a.id) (ReadSectors 1)
 DecisionAllowed K A C S y j c (Leaves s) =
     S None × ((z : Step) → K z → (k : Job) → Contains (jobs_of_session z.setting (seen z) s) k → A k.number (Recovering (last_renewal z.setting (seen z) s)))
-DecisionAllowed K A C S y j c (ReadsArea s r) = C s r.path (Lease (ForJob j) (ReadArea r.name)) r.offset (ReadSectors (y.setting.layout.hosts + 2))
+DecisionAllowed K A C S y j c (ReadsArea s r) = C s r.path (Lease (ForJob j) (ReadArea r.name)) r.offset (ReadSectors (area_sectors y.setting.layout))
 DecisionAllowed K A C S y j c (Shares s lver) = GrantAllowed A S j lver c
-DecisionAllowed K A C S y j c (GivesUp s g) = A j Done × LeaseAllowed A C S (add_end (end_of g) y) s (spot_of_grant g) (ForJob j) (release_next (lease_place y.setting s) (known y.setting (seen (add_end (end_of g) y)) s (spot_of_grant g)) g.mode g.lver)
+DecisionAllowed K A C S y j c (GivesUp s g) = A j Done × LeaseAllowed A C S (add_end (end_of g) y) s (spot_of_grant g) (ForJob j) (next_of_release y.setting (seen (add_end (end_of g) y)) s (spot_of_grant g) g)
 DecisionAllowed K A C S y j c (TakesOver s g) = GrantAllowed A S j g.lver c
-DecisionAllowed K A C S y j c (ConvertsTo s r mode) = LeaseAllowed A C S y s (spot_of r) (ForJob j) (convert_next (known y.setting (seen y) s (spot_of r)) mode r.name)
+DecisionAllowed K A C S y j c (ConvertsTo s r mode) = LeaseAllowed A C S y s (spot_of r) (ForJob j) (next_of_conversion y.setting (seen y) s (spot_of r) mode r.name)
 DecisionAllowed K A C S y j c (Requests s r) = C s r.path (RequestRead j) r.offset (ReadSectors 2)
 DecisionAllowed K A C S y j c (SetsValue s at v) = C s at.path (ValueWrite j) (value_offset y.setting.layout at.base) (WriteRecord (ValueIs v))
 DecisionAllowed K A C S y j c (GetsValue s at) = C s at.path (ValueRead j) (value_offset y.setting.layout at.base) (ReadSectors 1)
 
 given_up : (K L : Step → Type 0) (A : ℕ → Reply → Type 0) (C : Session → List ℕ → Purpose → ℕ → Op → Type 0) (S : Option ℕ → Type 0) (M : Move → Type 0) → Allows K L A C S M
     → (y : Step) (s : Session) (at : Spot) (j : ℕ) (g : Grant) (hs : List Grant) → A j Done
-    → LeaseAllowed A C S y s at (ForJob j) (release_next (lease_place y.setting s) (known y.setting (seen y) s at) g.mode g.lver) → K y
-    → L (elim hs as (λ z. Step) [ h ∷ rest ↦ add_reply j Done y | [] ↦ carry_lease s at (ForJob j) (release_next (lease_place y.setting s) (known y.setting (seen y) s at) g.mode g.lver) y ])
+    → LeaseAllowed A C S y s at (ForJob j) (next_of_release y.setting (seen y) s at g) → K y
+    → L (elim hs as (λ z. Step) [ h ∷ rest ↦ add_reply j Done y | [] ↦ carry_lease s at (ForJob j) (next_of_release y.setting (seen y) s at g) y ])
 given_up K L A C S M p y s at j g (h ∷ rest) done may k = p.rest _ (p.replies y j Done done k)
-given_up K L A C S M p y s at j g [] done may k = lease K L A C S M p y s at (ForJob j) (release_next (lease_place y.setting s) (known y.setting (seen y) s at) g.mode g.lver) may k
+given_up K L A C S M p y s at j g [] done may k = lease K L A C S M p y s at (ForJob j) (next_of_release y.setting (seen y) s at g) may k
 
 -- All decisions but one that begins a session.
 pub decision : (K L : Step → Type 0) (A : ℕ → Reply → Type 0) (C : Session → List ℕ → Purpose → ℕ → Op → Type 0) (S : Option ℕ → Type 0) (M : Move → Type 0) → Allows K L A C S M
@@ -264,7 +304,7 @@ decision K L A C S M p y j c (GivesUp s g) may begins h =
     given_up K L A C S M p z s (spot_of_grant g) j g (holdings_on (seen z) s (spot_of_grant g)) may.0
     may.1 (p.ends y (end_of g) h)
 decision K L A C S M p y j c (TakesOver s g) may begins h = p.rest _ (grants_for K L A C S M p (add_end (end_of g) y) s j c g.mode g.lver may (p.ends y (end_of g) h))
-decision K L A C S M p y j c (ConvertsTo s r mode) may begins h = lease K L A C S M p y s (spot_of r) (ForJob j) (convert_next (known y.setting (seen y) s (spot_of r)) mode r.name) may h
+decision K L A C S M p y j c (ConvertsTo s r mode) may begins h = lease K L A C S M p y s (spot_of r) (ForJob j) (next_of_conversion y.setting (seen y) s (spot_of r) mode r.name) may h
 decision K L A C S M p y j c (Requests s r) may begins h = p.calls y s r.path (RequestRead j) r.offset (ReadSectors 2) may h
 decision K L A C S M p y j c (SetsValue s at v) may begins h = p.calls y s at.path (ValueWrite j) (value_offset y.setting.layout at.base) (WriteRecord (ValueIs v)) may h
 decision K L A C S M p y j c (GetsValue s at) may begins h = p.calls y s at.path (ValueRead j) (value_offset y.setting.layout at.base) (ReadSectors 1) may h

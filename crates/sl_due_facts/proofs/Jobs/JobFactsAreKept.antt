@@ -3,7 +3,7 @@ use Rattle.sl_acts.proofs.Additions.{any_last, begun_by}
 use Rattle.sl_acts.proofs.DecisionsAreTheirs.{Of}
 use Rattle.sl_acts.proofs.InputsKeep.{has_heard}
 use Rattle.sl_acts.proofs.PlainActs.{line_has}
-use Rattle.sl_acts.specs.Acts.{Acts, Has, Hears, lone_job}
+use Rattle.sl_acts.specs.Acts.{Acts, Has, Hears, lone_job, next_of_settling}
 use Rattle.sl_acts.specs.SoFar.{entry_of}
 use Rattle.sl_area.specs.Places.{delta_offset}
 use Rattle.sl_due.specs.DueAnswers.{set_reply}
@@ -29,7 +29,7 @@ use Rattle.sl_due_facts.proofs.Jobs.LeaseCallsFit.{settling_allowed}
 use Rattle.sl_due_facts.proofs.Jobs.LinesAreAllowed.{IsBegun, decision_allowed, late_on_line, new_command, new_free, new_numbered}
 use Rattle.sl_due_facts.proofs.Jobs.RepliesComeAfter.{joining_late, lease_late, set_late, value_late, wake_late}
 use Rattle.sl_trace.specs.Jobs.{job_of_start}
-use Rattle.sl_trace.specs.LeaseWork.{lease_place, settle_next}
+use Rattle.sl_trace.specs.LeaseWork.{lease_place}
 use Rattle.sl_trace.specs.Leases.{known, lver_written, spot_of_call}
 use Rattle.sl_trace.specs.declared.lease.LeaseNext.{LeaseNext}
 use Rattle.sl_plain.proofs.Lists.{find_inside, got_before, kept_inside}
@@ -262,7 +262,7 @@ both_are_kept =
       renews = λ x s has wake joined h.
           kept_delta x s (next_renewal (delta_of_session x.setting s) x.reading (delta_known x.setting (seen x) s) (bits_due x.setting (calls_of (seen x) s) x.reading))
           (renewal_allowed x s (delta_of_session x.setting s) x.reading (delta_known x.setting (seen x) s) (bits_due x.setting (calls_of (seen x) s) x.reading) has) (both_of x h);
-      settles = λ x s spot has wake active whole none h. kept_lease x s spot Settling (settle_next (lease_place x.setting s) (known x.setting (seen x) s spot)) (settling_allowed x s spot (settle_next (lease_place x.setting s) (known x.setting (seen x) s spot)) has) (both_of x h);
+      settles = λ x s spot has wake active whole none h. kept_lease x s spot Settling (next_of_settling x.setting (seen x) s spot) (settling_allowed x s spot (next_of_settling x.setting (seen x) s spot) has) (both_of x h);
       parts = λ x s has joined recovers free quiet h. (removal (Meanwhile x) Both (MayReply x) (MayCall x) (MayStart x) MayMove (allows x) x s.lockspace tt (at x (both_of x h))).0;
       frees = λ x s has joined well free quiet h.
           kept_delta x s (next_free (delta_of_session x.setting s) x.reading (delta_known x.setting (seen x) s))

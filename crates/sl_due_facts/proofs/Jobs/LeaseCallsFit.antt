@@ -1,6 +1,9 @@
 -- Where a call on a resource's area is made for a job it is of the command's resource, and the job has no other call unanswered.
+use Rattle.sl_sector.specs.Spelling.{is_first_turn}
+use Rattle.sl_area.specs.Layouts.{Layout}
+use Rattle.sl_due.specs.DueLease.{next_turn}
 use Rattle.sl_acts.specs.Acts.{Has}
-use Rattle.sl_area.specs.Places.{block_offset}
+use Rattle.sl_area.specs.Places.{block_offset, block_place, block_sectors, pair_offset}
 use Rattle.sl_due.specs.Steps.{Step, seen}
 use Rattle.sl_due_facts.proofs.Jobs.CallsOfJobsFit.{no_job}
 use Rattle.sl_due_facts.proofs.Jobs.CallsStandInAreas.{Roomy, stands_in}
@@ -27,7 +30,8 @@ use Rattle.sl_trace.specs.declared.command.Command.{Command}
 use Rattle.sl_trace.specs.declared.command.Command.TheVariants.{Acquire, AddLockspace, Convert, GetLvb, HostStatus, InqLockspace, Release, ReleaseOrphan, RemLockspace, Request, RunProgram, SetKillpath, SetLvb, Status, TakeOver}
 use Rattle.sl_trace.specs.declared.command.ResourceArg.{ResourceArg}
 use Rattle.sl_trace.specs.declared.effects.LeaseStep.{LeaseStep}
-use Rattle.sl_trace.specs.declared.effects.LeaseStep.TheVariants.{ClearMode, FreeLeader, Phase1Read, Phase1Write, Phase2Read, Phase2Write, ReadArea, ReadBeforeFree, SetMode, TakeLeader}
+use Rattle.sl_trace.specs.declared.effects.LeaseRead.TheVariants.{OfArea, OfBlock, OfFree, OfPhase1, OfPhase2}
+use Rattle.sl_trace.specs.declared.effects.LeaseStep.TheVariants.{ClearMode, FreeLeader, Phase1Read, Phase1Write, Phase2Read, Phase2Write, ReadAgain, ReadArea, ReadBeforeBlock, ReadBeforeFree, SetMode, TakeLeader}
 use Rattle.sl_trace.specs.declared.effects.Op.TheVariants.{ReadSectors}
 use Rattle.sl_trace.specs.declared.effects.Purpose.TheVariants.{Lease}
 use Rattle.sl_trace.specs.declared.effects.Spot.{Spot}
@@ -39,7 +43,7 @@ use Rattle.sl_words.proofs.WordLaws.{and_true}
 use Rattle.std.proofs.Common.{ap, inl, inr, refl, subst, sym, ◌∙◌}
 use Rattle.std.proofs.lemmas.Bool.{leb-true}
 use Rattle.std.specs.List.{AllByRecursion}
-use Rattle.std.specs.Prelude.{Contains, IsSome, List, None, Option, Some, [], nat_le, ℕ, ◌%◌, ◌*◌, ◌+◌, ◌<◌, ◌∷◌, ◌≡◌, ◌≤◌, ◌⊎◌}
+use Rattle.std.specs.Prelude.{Bool, Contains, IsSome, List, None, Option, Some, [], false, nat_le, true, ℕ, ◌%◌, ◌*◌, ◌+◌, ◌<◌, ◌∷◌, ◌≡◌, ◌≤◌, ◌⊎◌}
 
 -- A job's work on a resource.
 pub record Works (x : Step) (s : Session) (at : Spot) (j : ℕ) : Type 0 where
@@ -55,6 +59,7 @@ pub record Works (x : Step) (s : Session) (at : Spot) (j : ℕ) : Type 0 where
   pub whole : at.base % x.setting.layout.area ≡ 0
   pub room : Roomy x.setting.layout
   pub host : s.id ≤ x.setting.layout.hosts
+  pub plain : x.setting.layout.paired ≡ false
 
 abbrev pub AsksFor : ResourceArg → LeaseNext → Type 0
 AsksFor r (AnswerJob reply) = Unit {0}
@@ -66,6 +71,8 @@ AsksFor r n = Unit {0}
 seeks_none : (r : ResourceArg) (step : LeaseStep) → IsNoSearch step → SeeksResource r step
 seeks_none r (ReadArea name) h = absurd h
 seeks_none r ReadBeforeFree h = tt
+seeks_none r ReadBeforeBlock h = tt
+seeks_none r (ReadAgain read) h = tt
 seeks_none r Phase1Write h = tt
 seeks_none r Phase1Read h = tt
 seeks_none r Phase2Write h = tt
@@ -96,6 +103,10 @@ work_fits x s at j step o d i w seeks less stands of =
       fits = λ m path by. (w.resource, w.names, w.aims, (w.lockspace, stands_in x.setting.layout m at d w.whole less path (by ∙ stands) ∙ w.spot), seeks);
     })
 
+-- Without pairs a block has one place.
+place_plain : (g : Layout) → g.paired ≡ false → (base id turn : ℕ) → block_place g base id turn ≡ block_offset g base id
+place_plain g plain base id turn = ap (λ b. elim b as (λ x. ℕ) [ false ↦ block_offset g base id | true ↦ pair_offset g base id (is_first_turn turn) ]) plain
+
 block_low : (x : Step) (s : Session) (at : Spot) (j id : ℕ) → Works x s at j → id ≤ x.setting.layout.hosts → x.setting.layout.sector * (id + 1) < x.setting.layout.area
 block_low x s at j id w most = w.room.blocks id most
 
@@ -103,7 +114,7 @@ host_one : (x : Step) (s : Session) (at : Spot) (j : ℕ) → Works x s at j →
 host_one x s at j w = w.room.first
 
 blocks_fit : (x y : Step) (s : Session) (at : Spot) (j : ℕ) (step : LeaseStep) → y.setting.layout ≡ x.setting.layout → (w : Works x s at j) → SeeksResource w.resource step
-    → MayCall x s at.path (Lease (ForJob j) step) (block_offset y.setting.layout at.base 1) (ReadSectors y.setting.layout.hosts)
+    → MayCall x s at.path (Lease (ForJob j) step) (block_offset y.setting.layout at.base 1) (ReadSectors (block_sectors y.setting.layout))
 blocks_fit x y s at j step same w seeks =
     (w.has, λ i of. work_fits x s at j step (block_offset y.setting.layout at.base 1) (x.setting.layout.sector * (1 + 1)) i w seeks (host_one x s at j w) (ap (λ g. block_offset g at.base 1) same) of)
 
@@ -113,6 +124,12 @@ work_numbered x s at j w = numbered_of x j (subst (λ o. IsSome o) (sym w.reads)
 reads_allowed : (x y : Step) (s : Session) (at : Spot) (j : ℕ) (step : LeaseStep) → y.setting.layout ≡ x.setting.layout → (w : Works x s at j) → SeeksResource w.resource step → ReadAllowed (MayCall x) y s at (ForJob j) step
 reads_allowed x y s at j (ReadArea name) same w seeks = (w.has, λ i of. work_fits x s at j (ReadArea name) at.base 0 i w seeks w.room.whole (plus_zero at.base) of)
 reads_allowed x y s at j ReadBeforeFree same w seeks = (w.has, λ i of. work_fits x s at j ReadBeforeFree at.base 0 i w seeks w.room.whole (plus_zero at.base) of)
+reads_allowed x y s at j ReadBeforeBlock same w seeks = blocks_fit x y s at j ReadBeforeBlock same w seeks
+reads_allowed x y s at j (ReadAgain (OfArea name)) same w seeks = (w.has, λ i of. work_fits x s at j (ReadAgain (OfArea name)) at.base 0 i w seeks w.room.whole (plus_zero at.base) of)
+reads_allowed x y s at j (ReadAgain OfFree) same w seeks = (w.has, λ i of. work_fits x s at j (ReadAgain OfFree) at.base 0 i w seeks w.room.whole (plus_zero at.base) of)
+reads_allowed x y s at j (ReadAgain OfBlock) same w seeks = blocks_fit x y s at j (ReadAgain OfBlock) same w seeks
+reads_allowed x y s at j (ReadAgain OfPhase1) same w seeks = blocks_fit x y s at j (ReadAgain OfPhase1) same w seeks
+reads_allowed x y s at j (ReadAgain OfPhase2) same w seeks = blocks_fit x y s at j (ReadAgain OfPhase2) same w seeks
 reads_allowed x y s at j Phase1Write same w seeks = blocks_fit x y s at j Phase1Write same w seeks
 reads_allowed x y s at j Phase1Read same w seeks = blocks_fit x y s at j Phase1Read same w seeks
 reads_allowed x y s at j Phase2Write same w seeks = blocks_fit x y s at j Phase2Write same w seeks
@@ -146,7 +163,11 @@ pub work_allowed : (x y : Step) (s : Session) (at : Spot) (j : ℕ) (n : LeaseNe
 work_allowed x y s at j No_lease same back w asks after = tt
 work_allowed x y s at j (ReadFor step) same back w asks after = reads_allowed x y s at j step same w asks
 work_allowed x y s at j (WriteBlock step b) same back w asks after =
-    (w.has, λ i of. work_fits x s at j step (block_offset y.setting.layout at.base s.id) (x.setting.layout.sector * (s.id + 1)) i w asks (block_low x s at j s.id w w.host) (ap (λ g. block_offset g at.base s.id) same) of)
+    let turn : ℕ = next_turn y.setting (seen y) s at in (
+      w.has,
+      λ i of. work_fits x s at j step (block_place y.setting.layout at.base s.id turn) (x.setting.layout.sector * (s.id + 1)) i w asks (block_low x s at j s.id w w.host)
+          (ap (λ g. block_place g at.base s.id turn) same ∙ place_plain x.setting.layout w.plain at.base s.id turn) of,
+    )
 work_allowed x y s at j (WriteLeader step l) same back w asks after = (w.has, λ i of. work_fits x s at j step at.base 0 i w asks w.room.whole (plus_zero at.base) of)
 work_allowed x y s at j (AnswerJob r) same back w asks after = λ i is. (subst (λ n. IsNumbered x n) (some_value j i is) (work_numbered x s at j w), after r refl)
 work_allowed x y s at j (GrantJob mode lver) same back w asks after =
@@ -154,13 +175,19 @@ work_allowed x y s at j (GrantJob mode lver) same back w asks after =
 work_allowed x y s at j (BecomeShared lver l) same back w asks after =
     ((λ i is. (subst (λ n. IsNumbered x n) (some_value j i is) (work_numbered x s at j w), late x (Granted lver) refl)), (w.has, λ i of. no_job refl i of))
 work_allowed x y s at j (BecomeExclusive lver b) same back w asks after =
-    ((λ i is. (subst (λ n. IsNumbered x n) (some_value j i is) (work_numbered x s at j w), late x (Granted lver) refl)), λ g. (w.has, λ i of. no_job refl i of))
+    ((λ i is. (subst (λ n. IsNumbered x n) (some_value j i is) (work_numbered x s at j w), late x (Granted lver) refl)), λ z other. (w.has, λ i of. no_job refl i of))
 
 -- ---- a settling is of no job
 
 settling_reads : (x y : Step) (s : Session) (at : Spot) (step : LeaseStep) → Has x s → ReadAllowed (MayCall x) y s at Settling step
 settling_reads x y s at (ReadArea name) has = (has, λ i of. no_job refl i of)
 settling_reads x y s at ReadBeforeFree has = (has, λ i of. no_job refl i of)
+settling_reads x y s at ReadBeforeBlock has = (has, λ i of. no_job refl i of)
+settling_reads x y s at (ReadAgain (OfArea name)) has = (has, λ i of. no_job refl i of)
+settling_reads x y s at (ReadAgain OfFree) has = (has, λ i of. no_job refl i of)
+settling_reads x y s at (ReadAgain OfBlock) has = (has, λ i of. no_job refl i of)
+settling_reads x y s at (ReadAgain OfPhase1) has = (has, λ i of. no_job refl i of)
+settling_reads x y s at (ReadAgain OfPhase2) has = (has, λ i of. no_job refl i of)
 settling_reads x y s at Phase1Write has = (has, λ i of. no_job refl i of)
 settling_reads x y s at Phase1Read has = (has, λ i of. no_job refl i of)
 settling_reads x y s at Phase2Write has = (has, λ i of. no_job refl i of)
@@ -178,7 +205,7 @@ settling_allowed x s at (WriteLeader step l) has = (has, λ i of. no_job refl i 
 settling_allowed x s at (AnswerJob r) has = λ i is. absurd (none_some i is)
 settling_allowed x s at (GrantJob mode lver) has = λ i c is reads. absurd (none_some i is)
 settling_allowed x s at (BecomeShared lver l) has = ((λ i is. absurd (none_some i is)), (has, λ i of. no_job refl i of))
-settling_allowed x s at (BecomeExclusive lver b) has = ((λ i is. absurd (none_some i is)), λ g. (has, λ i of. no_job refl i of))
+settling_allowed x s at (BecomeExclusive lver b) has = ((λ i is. absurd (none_some i is)), λ z same. (has, λ i of. no_job refl i of))
 
 -- ---- the id of a session is a host's
 

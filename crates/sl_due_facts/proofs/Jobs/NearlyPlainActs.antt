@@ -1,5 +1,5 @@
 -- What each effect keeps but a first read, which begins a session, is kept by each act but that of a line.
-use Rattle.sl_acts.specs.Acts.{Acts, Expects}
+use Rattle.sl_acts.specs.Acts.{Acts, Expects, next_of_conversion, next_of_release, next_of_settling}
 use Rattle.sl_area.specs.Places.{request_offset}
 use Rattle.sl_due.specs.DueAnswers.{set_reply}
 use Rattle.sl_due.specs.DueCommands.{answer_line, carry_decision, decided, reply_at_once}
@@ -13,7 +13,7 @@ use Rattle.sl_due_facts.proofs.Jobs.EffectsAreAllowed.{Allows, DecisionAllowed, 
 use Rattle.sl_due_facts.proofs.Jobs.LinesAreAllowed.{IsBegun}
 use Rattle.sl_due_facts.proofs.Jobs.RepliesComeAfter.{IsLateDelta, joining_late, on_bool, on_option, wake_late}
 use Rattle.sl_trace.specs.Jobs.{job_of_start}
-use Rattle.sl_trace.specs.LeaseWork.{convert_next, lease_place, release_next, settle_next}
+use Rattle.sl_trace.specs.LeaseWork.{convert_next, lease_place, release_next}
 use Rattle.sl_trace.specs.Leases.{known, spot_of, spot_of_call}
 use Rattle.sl_trace.specs.declared.lease.LeaseNext.{LeaseNext}
 use Rattle.sl_trace.specs.declared.lease.LeaseNext.TheVariants.{AnswerJob, BecomeExclusive, BecomeShared, GrantJob, Nothing as No_lease, ReadFor, WriteBlock, WriteLeader}
@@ -30,7 +30,8 @@ use Rattle.sl_trace.specs.declared.command.Command.{Command}
 use Rattle.sl_trace.specs.declared.command.Command.TheVariants.{Acquire, AddLockspace, Convert, GetLvb, HostStatus, InqLockspace, Release, ReleaseOrphan, RemLockspace, Request, RunProgram, SetKillpath, SetLvb, Status, TakeOver}
 use Rattle.sl_trace.specs.declared.effects.JoinStep.TheVariants.{FirstRead}
 use Rattle.sl_trace.specs.declared.effects.LeaseStep.{LeaseStep}
-use Rattle.sl_trace.specs.declared.effects.LeaseStep.TheVariants.{ClearMode, FreeLeader, Phase1Read, Phase1Write, Phase2Read, Phase2Write, ReadArea, ReadBeforeFree, SetMode, TakeLeader}
+use Rattle.sl_trace.specs.declared.effects.LeaseRead.TheVariants.{OfArea, OfBlock, OfFree, OfPhase1, OfPhase2}
+use Rattle.sl_trace.specs.declared.effects.LeaseStep.TheVariants.{ClearMode, FreeLeader, Phase1Read, Phase1Write, Phase2Read, Phase2Write, ReadAgain, ReadArea, ReadBeforeBlock, ReadBeforeFree, SetMode, TakeLeader}
 use Rattle.sl_trace.specs.declared.effects.Move.{Move}
 use Rattle.sl_trace.specs.declared.effects.Op.{Op}
 use Rattle.sl_trace.specs.declared.effects.Op.TheVariants.{ReadSectors}
@@ -103,6 +104,12 @@ free_plain y s l now k =
 reads_plain : (y : Step) (s : Session) (at : Spot) (work : Work) (step : LeaseStep) → ReadAllowed NoLook y s at work step
 reads_plain y s at work (ReadArea name) = refl
 reads_plain y s at work ReadBeforeFree = refl
+reads_plain y s at work ReadBeforeBlock = refl
+reads_plain y s at work (ReadAgain (OfArea name)) = refl
+reads_plain y s at work (ReadAgain OfFree) = refl
+reads_plain y s at work (ReadAgain OfBlock) = refl
+reads_plain y s at work (ReadAgain OfPhase1) = refl
+reads_plain y s at work (ReadAgain OfPhase2) = refl
 reads_plain y s at work Phase1Write = refl
 reads_plain y s at work Phase1Read = refl
 reads_plain y s at work Phase2Write = refl
@@ -137,7 +144,7 @@ lease_plain y s at work (WriteLeader step l) = refl
 lease_plain y s at work (AnswerJob r) = λ j is. tt
 lease_plain y s at work (GrantJob mode lver) = λ j c is reads. grant_plain j lver c
 lease_plain y s at work (BecomeShared lver l) = ((λ j is. tt), refl)
-lease_plain y s at work (BecomeExclusive lver b) = ((λ j is. tt), λ g. refl)
+lease_plain y s at work (BecomeExclusive lver b) = ((λ j is. tt), λ z same. refl)
 
 pub request_plain : (x : Step) (s : Session) (j : ℕ) (bytes : List ℕ) (c : Command) → RequestAllowed Anything NoLook x s j bytes c
 request_plain x s j bytes (Request r asked force) = ((λ why is. tt), refl)
@@ -163,9 +170,9 @@ decision_plain K y j c (Joins n a) = inl tt
 decision_plain K y j c (Leaves s) = inr (tt, λ z k i there. tt)
 decision_plain K y j c (ReadsArea s r) = inr refl
 decision_plain K y j c (Shares s lver) = inr (grant_plain j lver c)
-decision_plain K y j c (GivesUp s g) = inr (tt, lease_plain (add_end (end_of g) y) s (spot_of_grant g) (ForJob j) (release_next (lease_place y.setting s) (known y.setting (seen (add_end (end_of g) y)) s (spot_of_grant g)) g.mode g.lver))
+decision_plain K y j c (GivesUp s g) = inr (tt, lease_plain (add_end (end_of g) y) s (spot_of_grant g) (ForJob j) (next_of_release y.setting (seen (add_end (end_of g) y)) s (spot_of_grant g) g))
 decision_plain K y j c (TakesOver s g) = inr (grant_plain j g.lver c)
-decision_plain K y j c (ConvertsTo s r mode) = inr (lease_plain y s (spot_of r) (ForJob j) (convert_next (known y.setting (seen y) s (spot_of r)) mode r.name))
+decision_plain K y j c (ConvertsTo s r mode) = inr (lease_plain y s (spot_of r) (ForJob j) (next_of_conversion y.setting (seen y) s (spot_of r) mode r.name))
 decision_plain K y j c (Requests s r) = inr refl
 decision_plain K y j c (SetsValue s at v) = inr refl
 decision_plain K y j c (GetsValue s at) = inr refl
@@ -233,8 +240,8 @@ nearly_acts I K f p q =
           delta K K Anything NoLook AnyStart AnyMove p x s (next_renewal (delta_of_session x.setting s) x.reading (delta_known x.setting (seen x) s) (bits_due x.setting (calls_of (seen x) s) x.reading))
           (renewal_plain x s (delta_of_session x.setting s) x.reading (delta_known x.setting (seen x) s) (bits_due x.setting (calls_of (seen x) s) x.reading)) (f x h);
       settles = λ x s spot has wake active whole none h.
-          lease K K Anything NoLook AnyStart AnyMove p x s spot Settling (settle_next (lease_place x.setting s) (known x.setting (seen x) s spot))
-          (lease_plain x s spot Settling (settle_next (lease_place x.setting s) (known x.setting (seen x) s spot))) (f x h);
+          lease K K Anything NoLook AnyStart AnyMove p x s spot Settling (next_of_settling x.setting (seen x) s spot)
+          (lease_plain x s spot Settling (next_of_settling x.setting (seen x) s spot)) (f x h);
       parts = λ x s has joined recovers_one free quiet h. removal K K Anything NoLook AnyStart AnyMove p x s.lockspace tt (f x h);
       frees = λ x s has joined well free quiet h.
           delta K K Anything NoLook AnyStart AnyMove p x s (next_free (delta_of_session x.setting s) x.reading (delta_known x.setting (seen x) s))

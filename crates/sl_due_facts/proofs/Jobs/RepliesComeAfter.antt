@@ -1,19 +1,23 @@
 -- What a delta lease or a lease decides on an answer: no reply that could end a job before the answer is heeded, no first
 -- read of a joining, no further read that seeks a resource.
+use Rattle.sl_sector.specs.declared.sector.Leader.{Leader}
+use Rattle.sl_trace.specs.declared.session.Session.{Session}
+use Rattle.sl_trace.specs.declared.effects.Spot.{Spot}
+use Rattle.sl_acts.specs.Acts.{next_of_settling}
 use Rattle.sl_area.specs.Layouts.{Layout, record_in, sector_with}
-use Rattle.sl_area.specs.Places.{area_blocks, blocks_in, leader_of, read_at}
+use Rattle.sl_area.specs.Places.{BlocksRead, area_blocks, blocks_in, blocks_of, leader_of, leader_read, read_at}
 use Rattle.sl_due.specs.DueAnswers.{set_reply}
 use Rattle.sl_due.specs.DueRequests.{request_refusal, value_reply}
 use Rattle.sl_due_facts.proofs.Jobs.CallsStay.{is_special}
 use Rattle.sl_trace.specs.Ballots.{is_ahead, moded_block, phase1_block, same_owner, stop_of, value_of}
-use Rattle.sl_trace.specs.LeaseWork.{LeasePlace, after_clearing, after_freeing, after_moding, after_phase1, after_phase2, after_read, after_take, after_write, area_next, begin_next, begin_or_refuse, leader_for, lease_next, looks_for_shared, lost_next, named_area_next, phase1_next, phase2_next, refuses, release_next, settle_next, settle_owed, stop_reply, stopped_next, unstopped_next, whole_area_next, won_next}
-use Rattle.sl_trace.specs.Leases.{LeaseKnown, instance_for, is_leader_of, mode_gen_of, owed, owed_free, own_known, shared_elsewhere, value_written}
+use Rattle.sl_trace.specs.LeaseWork.{LeasePlace, after_bytes, after_clearing, after_freeing, after_moding, after_phase1, after_phase2, after_read, after_take, after_write, area_next, asked_again, begin_next, begin_or_refuse, convert_next, first_step, heard, leader_for, lease_next, lease_place, looks_for_shared, lost_next, named_area_next, owes_block, phase1_next, phase2_next, refuses, refuses_block, release_next, settle_begin, settle_next, settle_owed, stop_reply, stopped_next, unstopped_next, whole_area_next, within_turn, won_next}
+use Rattle.sl_trace.specs.Leases.{LeaseKnown, instance_for, is_leader_of, known, mode_gen_of, owed, owed_free, own_known, shared_elsewhere, value_written}
 use Rattle.sl_trace.specs.declared.lease.Aim.{Aim}
 use Rattle.sl_trace.specs.declared.lease.Aim.TheVariants.{Acquires, Converts, Releases, Settles}
 use Rattle.sl_trace.specs.declared.lease.Instance.{Instance}
 use Rattle.sl_trace.specs.declared.lease.Instance.TheVariants.{Begins, HeldAlready}
 use Rattle.sl_trace.specs.declared.lease.LeaseNext.{LeaseNext}
-use Rattle.sl_trace.specs.declared.lease.LeaseNext.TheVariants.{AnswerJob, BecomeExclusive, BecomeShared, Nothing as No_lease, ReadFor, WriteBlock, WriteLeader}
+use Rattle.sl_trace.specs.declared.lease.LeaseNext.TheVariants.{AnswerJob, BecomeExclusive, BecomeShared, GrantJob, Nothing as No_lease, ReadFor, WriteBlock, WriteLeader}
 use Rattle.sl_trace.specs.declared.lease.Owed.{Owed}
 use Rattle.sl_trace.specs.declared.lease.Owed.TheVariants.{BallotOwed, FreeOwed, ModeOwed}
 use Rattle.sl_trace.specs.declared.lease.Stop.{Stop}
@@ -32,18 +36,18 @@ use Rattle.sl_trace.specs.Watching.{is_free_state}
 use Rattle.sl_trace.specs.declared.delta.DeltaNext.{DeltaNext}
 use Rattle.sl_trace.specs.declared.delta.DeltaNext.TheVariants.{EndLeaving, Nothing, ReadOwn, RefuseJoin, RegisterAndRead, WriteClaim, WriteFirst, WriteFree}
 use Rattle.sl_time.specs.Times.{dead, join_max, renew}
-use Rattle.sl_trace.specs.Traces.{Submitted}
+use Rattle.sl_trace.specs.Traces.{Setting, Submitted, Trace}
 use Rattle.sl_trace.specs.declared.command.ResourceArg.{ResourceArg}
 use Rattle.sl_trace.specs.declared.effects.JoinStep.{JoinStep}
 use Rattle.sl_trace.specs.declared.effects.JoinStep.TheVariants.{ClaimWrite, DecidingRead, FirstRead, FirstRenewal, VerifyRead, WatchRead}
 use Rattle.sl_trace.specs.declared.effects.LeaseStep.{LeaseStep}
-use Rattle.sl_trace.specs.declared.effects.LeaseStep.TheVariants.{ClearMode, FreeLeader, Phase1Read, Phase1Write, Phase2Read, Phase2Write, ReadArea, ReadBeforeFree, SetMode, TakeLeader}
+use Rattle.sl_trace.specs.declared.effects.LeaseStep.TheVariants.{ClearMode, FreeLeader, Phase1Read, Phase1Write, Phase2Read, Phase2Write, ReadAgain, ReadArea, ReadBeforeBlock, ReadBeforeFree, SetMode, TakeLeader}
 use Rattle.sl_trace.specs.declared.effects.Mode.{Mode}
 use Rattle.sl_trace.specs.declared.effects.Mode.TheVariants.{Exclusive, Shared}
 use Rattle.sl_trace.specs.declared.effects.Purpose.TheVariants.{Joining}
 use Rattle.sl_trace.specs.declared.input.Answer.{Answer}
 use Rattle.sl_trace.specs.declared.input.Answer.TheVariants.{Failed, Read, Written}
-use Rattle.sl_trace.specs.declared.reply.Limited.TheVariants.{Gen as GenLimit, Lver as LverLimit, Mbal as MbalLimit, Seq as SeqLimit}
+use Rattle.sl_trace.specs.declared.reply.Limited.TheVariants.{Gen as GenLimit, Lver as LverLimit, Mbal as MbalLimit, Seq as SeqLimit, Turn as TurnLimit}
 use Rattle.sl_trace.specs.declared.reply.Reply.{Reply}
 use Rattle.sl_trace.specs.declared.reply.Reply.TheVariants.{Done, Held as HeldBy, IdLate, IoFault, Limit as LimitReached, RequestOld, Shared as SharedBy, TornBlock, TornDelta, TornLeader, Value, ValueSet, ValueTorn, WrongArea, WrongDelta}
 use Rattle.sl_words.proofs.CaseLaws.{some_value, true_is_false}
@@ -265,23 +269,31 @@ instance_apart : (p : LeasePlace) (k : LeaseKnown) (aim : Aim) (i : Instance) �
 instance_apart p k aim (Begins n) = begin_apart p k aim n
 instance_apart p k aim (HeldAlready lver owner) = refl
 
-area_apart : (p : LeasePlace) (k : LeaseKnown) (aim : Aim) (name bytes : List ℕ) → IsApartLease (area_next p k aim name bytes)
+area_apart : (p : LeasePlace) (k : LeaseKnown) (aim : Aim) (name : List ℕ) (leader : Option Leader) (blocks : List (Option Block)) → IsApartLease (area_next p k aim name leader blocks)
 unfolding area_next
-area_apart p k aim name bytes =
-    on_option IsApartLease (leader_of p.layout bytes) (AnswerJob TornLeader)
-    (λ l. elim (is_leader_of p.layout p.lockspace name l) [ false ↦ AnswerJob (WrongArea l.lockspace l.resource l.num_hosts) | true ↦ named_area_next p k aim l (area_blocks p.layout bytes) ]) refl
-    (λ l. on_bool IsApartLease (is_leader_of p.layout p.lockspace name l) (AnswerJob (WrongArea l.lockspace l.resource l.num_hosts)) (named_area_next p k aim l (area_blocks p.layout bytes)) refl
-    (on_option IsApartLease (position is_none (area_blocks p.layout bytes)) (whole_area_next p k aim l (area_blocks p.layout bytes)) (λ i. AnswerJob (TornBlock (i + 1)))
-    (mapped_or IsApartLease (λ own. begin_or_refuse p k aim (instance_for k l own (area_blocks p.layout bytes))) (own_known k) No_lease (λ own. instance_apart p k aim (instance_for k l own (area_blocks p.layout bytes))) tt) (λ i. refl)))
+area_apart p k aim name leader blocks =
+    on_option IsApartLease leader (AnswerJob TornLeader)
+    (λ l. elim (is_leader_of p.layout p.lockspace name l) [ false ↦ AnswerJob (WrongArea l.lockspace l.resource l.num_hosts) | true ↦ named_area_next p k aim l blocks ]) refl
+    (λ l. on_bool IsApartLease (is_leader_of p.layout p.lockspace name l) (AnswerJob (WrongArea l.lockspace l.resource l.num_hosts)) (named_area_next p k aim l blocks) refl
+    (on_option IsApartLease (position is_none blocks) (whole_area_next p k aim l blocks) (λ i. AnswerJob (TornBlock (i + 1)))
+    (mapped_or IsApartLease (λ own. begin_or_refuse p k aim (instance_for k l own blocks)) (own_known k) No_lease (λ own. instance_apart p k aim (instance_for k l own blocks)) tt) (λ i. refl)))
 
-lease_read_apart : (p : LeasePlace) (k : LeaseKnown) (aim : Aim) (bytes : List ℕ) (step : LeaseStep) → IsApartLease (after_read p k aim bytes step)
-lease_read_apart p k aim bytes (ReadArea name) = area_apart p k aim name bytes
-lease_read_apart p k aim bytes ReadBeforeFree = mapped_or IsApartLease (λ n. WriteLeader FreeLeader (leader_for p k false n)) (owed_free k) No_lease (λ n. tt) tt
-lease_read_apart p k aim bytes Phase1Read =
-    mapped_or IsApartLease (λ own. after_phase1 p k aim own (blocks_in p.layout bytes) (stop_of own (blocks_in p.layout bytes))) k.own No_lease (λ own. phase1_read_apart p k aim own (blocks_in p.layout bytes) (stop_of own (blocks_in p.layout bytes))) tt
-lease_read_apart p k aim bytes Phase2Read =
-    mapped_or IsApartLease (λ own. after_phase2 p k aim own (stop_of own (blocks_in p.layout bytes))) k.own No_lease (λ own. phase2_read_apart p k aim own (stop_of own (blocks_in p.layout bytes))) tt
-lease_read_apart p k aim bytes step = tt
+lease_read_apart : (p : LeasePlace) (k : LeaseKnown) (aim : Aim) (leader : Option Leader) (blocks : List (Option Block)) (step : LeaseStep) → IsApartLease (after_read p k aim leader blocks step)
+lease_read_apart p k aim leader blocks (ReadArea name) = area_apart p k aim name leader blocks
+lease_read_apart p k aim leader blocks ReadBeforeFree = mapped_or IsApartLease (λ n. WriteLeader FreeLeader (leader_for p k false n)) (owed_free k) No_lease (λ n. tt) tt
+lease_read_apart p k aim leader blocks ReadBeforeBlock = settle_apart p k
+lease_read_apart p k aim leader blocks Phase1Read =
+    mapped_or IsApartLease (λ own. after_phase1 p k aim own blocks (stop_of own blocks)) k.own No_lease (λ own. phase1_read_apart p k aim own blocks (stop_of own blocks)) tt
+lease_read_apart p k aim leader blocks Phase2Read =
+    mapped_or IsApartLease (λ own. after_phase2 p k aim own (stop_of own blocks)) k.own No_lease (λ own. phase2_read_apart p k aim own (stop_of own blocks)) tt
+lease_read_apart p k aim leader blocks step = tt
+
+bytes_apart : (p : LeasePlace) (k : LeaseKnown) (aim : Aim) (bytes : List ℕ) (step : LeaseStep) → IsApartLease (after_bytes p k aim bytes step)
+unfolding after_bytes
+bytes_apart p k aim bytes step =
+    let r : BlocksRead = heard p.layout k bytes step in
+    on_option IsApartLease (asked_again p.layout bytes step) (after_read p k aim (leader_read p.layout bytes r) (blocks_of p.layout r) (first_step step)) (λ read. ReadFor (ReadAgain read))
+    (lease_read_apart p k aim (leader_read p.layout bytes r) (blocks_of p.layout r) (first_step step)) (λ read. tt)
 
 taken_apart : (k : LeaseKnown) (aim : Aim) (n : ℕ) → IsApartLease (after_take k aim n)
 taken_apart k (Acquires Exclusive) n = tt
@@ -320,13 +332,32 @@ lease_write_apart p k aim n step = tt
 
 pub lease_apart : (p : LeasePlace) (k : LeaseKnown) (aim : Aim) (call n : ℕ) (step : LeaseStep) (answer : Answer) → IsApartLease (lease_next p k aim call n step answer)
 unfolding lease_next
-lease_apart p k aim call n step (Read bytes) = lease_read_apart p k aim bytes step
+lease_apart p k aim call n step (Read bytes) = bytes_apart p k aim bytes step
 lease_apart p k aim call n step Written = lease_write_apart p k aim n step
 lease_apart p k aim call n step Failed = refuses_apart aim (IoFault call) refl
 
 pub release_apart : (p : LeasePlace) (k : LeaseKnown) (mode : Mode) (n : ℕ) → IsApartLease (release_next p k mode n)
 release_apart p k Exclusive n = tt
 release_apart p k Shared n = mapped_or IsApartLease (λ own. WriteBlock ClearMode (moded_block own false 0)) k.own No_lease (λ own. tt) tt
+
+-- Nor by the limit of turns, nor where a settling reads first.
+block_apart : (aim : Aim) (n : LeaseNext) → IsApartLease n → IsApartLease (refuses_block aim n)
+block_apart aim No_lease h = h
+block_apart aim (ReadFor step) h = h
+block_apart aim (WriteBlock step b) h = refuses_apart aim (LimitReached TurnLimit) refl
+block_apart aim (WriteLeader step l) h = h
+block_apart aim (AnswerJob r) h = h
+block_apart aim (GrantJob mode lver) h = h
+block_apart aim (BecomeShared lver l) h = h
+block_apart aim (BecomeExclusive lver b) h = refuses_apart aim (LimitReached TurnLimit) refl
+
+within_apart : (p : LeasePlace) (k : LeaseKnown) (aim : Aim) (n : LeaseNext) → IsApartLease n → IsApartLease (within_turn p k aim n)
+unfolding within_turn
+within_apart p k aim n h = on_bool IsApartLease (p.layout.paired && not (is_number (k.turn + 1))) n (refuses_block aim n) h (block_apart aim n h)
+
+settle_begins_apart : (p : LeasePlace) (k : LeaseKnown) → IsApartLease (settle_begin p k)
+unfolding settle_begin
+settle_begins_apart p k = on_bool IsApartLease (p.layout.paired && owes_block (owed k)) (settle_next p k) (ReadFor ReadBeforeBlock) (settle_apart p k) tt
 
 -- So none of a lease is special.
 abbrev pub IsLateLease : LeaseNext → Type 0
@@ -343,14 +374,42 @@ late_lease (WriteBlock step b) h = h
 late_lease (WriteLeader step l) h = h
 late_lease n h = tt
 
-pub settle_late : (p : LeasePlace) (k : LeaseKnown) → IsLateLease (settle_next p k)
-settle_late p k = late_lease (settle_next p k) (settle_apart p k)
+pub settle_late : (st : Setting) (es : Trace) (s : Session) (at : Spot) → IsLateLease (next_of_settling st es s at)
+settle_late st es s at =
+    late_lease (next_of_settling st es s at)
+    (within_apart (lease_place st s) (known st es s at) Settles (settle_begin (lease_place st s) (known st es s at)) (settle_begins_apart (lease_place st s) (known st es s at)))
 
-pub lease_late : (p : LeasePlace) (k : LeaseKnown) (aim : Aim) (call n : ℕ) (step : LeaseStep) (answer : Answer) → IsLateLease (lease_next p k aim call n step answer)
-lease_late p k aim call n step answer = late_lease (lease_next p k aim call n step answer) (lease_apart p k aim call n step answer)
+pub lease_late : (p : LeasePlace) (k : LeaseKnown) (aim : Aim) (call n : ℕ) (step : LeaseStep) (answer : Answer) → IsLateLease (within_turn p k aim (lease_next p k aim call n step answer))
+lease_late p k aim call n step answer =
+    late_lease (within_turn p k aim (lease_next p k aim call n step answer)) (within_apart p k aim (lease_next p k aim call n step answer) (lease_apart p k aim call n step answer))
 
-pub release_late : (p : LeasePlace) (k : LeaseKnown) (mode : Mode) (n : ℕ) → IsLateLease (release_next p k mode n)
-release_late p k mode n = late_lease (release_next p k mode n) (release_apart p k mode n)
+pub release_late : (p : LeasePlace) (k : LeaseKnown) (mode : Mode) (n : ℕ) → IsLateLease (within_turn p k Releases (release_next p k mode n))
+release_late p k mode n = late_lease (within_turn p k Releases (release_next p k mode n)) (within_apart p k Releases (release_next p k mode n) (release_apart p k mode n))
+
+-- A conversion begins with no special reply.
+abbrev pub IsPlainly : LeaseNext → Type 0
+IsPlainly (AnswerJob r) = is_special r ≡ false
+IsPlainly n = Unit {0}
+
+convert_by : (k : LeaseKnown) (mode : Mode) (name : List ℕ) → IsPlainly (convert_next k mode name)
+convert_by k Exclusive name = tt
+convert_by k Shared name = mapped_or IsPlainly (λ own. WriteBlock SetMode (moded_block own true k.self.generation)) k.own No_lease (λ own. tt) tt
+
+convert_within : (mode : Mode) (n : LeaseNext) → IsPlainly n → IsPlainly (refuses_block (Converts mode) n)
+convert_within mode No_lease h = h
+convert_within mode (ReadFor step) h = h
+convert_within mode (WriteBlock step b) h = refl
+convert_within mode (WriteLeader step l) h = h
+convert_within mode (AnswerJob r) h = h
+convert_within mode (GrantJob other lver) h = h
+convert_within mode (BecomeShared lver l) h = h
+convert_within mode (BecomeExclusive lver b) h = refl
+
+pub convert_late : (p : LeasePlace) (k : LeaseKnown) (mode : Mode) (name : List ℕ) → IsPlainly (within_turn p k (Converts mode) (convert_next k mode name))
+unfolding within_turn
+convert_late p k mode name =
+    on_bool IsPlainly (p.layout.paired && not (is_number (k.turn + 1))) (convert_next k mode name) (refuses_block (Converts mode) (convert_next k mode name)) (convert_by k mode name)
+    (convert_within mode (convert_next k mode name) (convert_by k mode name))
 
 -- ---- a value
 

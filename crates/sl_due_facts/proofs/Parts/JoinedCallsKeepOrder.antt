@@ -1,8 +1,8 @@
 -- A joined session makes one more call, which is no step of a joining: what was lawful so far stays so.
 use Rattle.sl_acts.proofs.Additions.{contains_at, contains_last}
 use Rattle.sl_run.specs.Lawful.{Orderly}
-use Rattle.sl_run.specs.LawfulArea.{LawfulAreaWrite, LawfulLeaseRead, is_area_work, is_block_work, is_delta_record, open_block_work}
-use Rattle.sl_run.specs.LawfulBlock.{LawfulBlockWrite, LawfulPhase2Read}
+use Rattle.sl_run.specs.LawfulArea.{LawfulAgain, LawfulAreaWrite, LawfulLeaseRead, is_area_work, is_block_work, is_delta_record, open_block_work}
+use Rattle.sl_run.specs.LawfulBlock.{LawfulBlockWrite, LawfulPhase2Read, LawfulTurn}
 use Rattle.sl_run.specs.LawfulCalls.{may_submit}
 use Rattle.sl_run.specs.LawfulDelta.{LawfulDeltaCall, LawfulJoin, is_on_own_sector}
 use Rattle.sl_run.specs.LawfulEnd.{Converted, EndReason, Exited, Given_up, Not_started, Taken_over}
@@ -12,7 +12,7 @@ use Rattle.sl_run.specs.LawfulParting.{MayPart, is_leaving_write}
 use Rattle.sl_run.specs.LawfulValue.{LawfulValueRead, LawfulValueWrite}
 use Rattle.sl_run.specs.LawfulWatchdog.{CoveredBy, LawfulWatchdog, is_covered}
 use Rattle.sl_run.specs.Saying.{EachCall}
-use Rattle.sl_trace.specs.Leases.{Phase2_read, block_written, is_at, leader_written, spot_of_call, value_written}
+use Rattle.sl_trace.specs.Leases.{Phase2_read, base_turn, block_written, is_again, is_at, leader_written, lease_calls, spot_of_call, turn_written, value_written}
 use Rattle.sl_due_facts.proofs.Parts.CallsGrow.{each_more, mine_more, next_more, others_stay, same_sessions}
 use Rattle.sl_due_facts.specs.Parts.CallIsLawful.{CallIsLawful}
 use Rattle.sl_due_facts.specs.Parts.Parts.{JoinedCall}
@@ -191,11 +191,13 @@ joined_calls_keep_order st past e c s j h =
           alone = each (λ t x d. IsTrue (is_block_work d && is_area_work d.call.purpose) → open_block_work st t x (spot_of_call st.layout d) ≡ []) h.area.0.alone (λ x k. k.alone);
           reads = each (λ t x d. LawfulLeaseRead st d) h.area.0.reads (λ x k. k.reads);
           sees = each (λ t x d. d.call.purpose ≡ SeeRequest → IsTrue (is_some (joined_after t x))) h.area.0.sees (λ x k. k.sees);
+          agains = each (λ t x d. IsTrue (is_again d) → LawfulAgain st t x (spot_of_call st.layout d) d) h.area.0.agains (λ x k. k.again);
         },
         h.area.1,
       );
       block = (
         record {
+          turns = each (λ t x d. (turn : ℕ) → turn_written d ≡ Some turn → LawfulTurn turn (base_turn st.layout x.id (lease_calls st t x (spot_of_call st.layout d)))) h.block.0.turns (λ x k. k.turn);
           writes = each (λ t x d. (b : Block) → block_written d ≡ Some b → LawfulBlockWrite st t x d b) h.block.0.writes (λ x k. k.block);
           reads = each (λ t x d. IsTrue (is_at Phase2_read d) → LawfulPhase2Read st t x (spot_of_call st.layout d) d) h.block.0.reads (λ x k. k.phase2);
         },

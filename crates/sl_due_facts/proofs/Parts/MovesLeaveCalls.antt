@@ -17,7 +17,7 @@ use Rattle.sl_trace.specs.Traces.{Setting, Submitted, Trace}
 use Rattle.sl_trace.specs.declared.effects.Entry.{Entry}
 use Rattle.sl_trace.specs.declared.effects.JoinStep.TheVariants.{ClaimWrite, DecidingRead, FirstRead, FirstRenewal, VerifyRead, WatchRead}
 use Rattle.sl_trace.specs.declared.effects.JoinStep.{JoinStep}
-use Rattle.sl_trace.specs.declared.effects.LeaseStep.TheVariants.{ClearMode, FreeLeader, Phase1Read, Phase1Write, Phase2Read, Phase2Write, ReadArea, ReadBeforeFree, SetMode, TakeLeader}
+use Rattle.sl_trace.specs.declared.effects.LeaseStep.TheVariants.{ClearMode, FreeLeader, Phase1Read, Phase1Write, Phase2Read, Phase2Write, ReadAgain, ReadArea, ReadBeforeBlock, ReadBeforeFree, SetMode, TakeLeader}
 use Rattle.sl_trace.specs.declared.effects.LeaseStep.{LeaseStep}
 use Rattle.sl_trace.specs.declared.effects.Move.{Move}
 use Rattle.sl_trace.specs.declared.effects.Purpose.TheVariants.{Joining, Lease, Leaving, Renewal, RequestRead, RequestWrite, SeeRequest, Survey, ValueRead, ValueWrite}
@@ -103,7 +103,20 @@ delta_moved st m e past s c (ValueRead j) other plain h = h
 
 abbrev read_moved : (st : Setting) (m : Move) (e : Entry) (past : Trace) (s : Session) (at : Spot) → AreaRead st (e ∷ past) s at → AreaRead st (with_move m e ∷ past) s at
 read_moved st m e past s at r =
-    record { read = r.read; bytes = r.bytes; leader = r.leader; resource = r.resource; of_lease = r.of_lease; gives = r.gives; spells = r.spells; names = r.names; whole = r.whole }
+    record {
+      read = r.read;
+      blocks = r.blocks;
+      leader = r.leader;
+      resource = r.resource;
+      of_lease = r.of_lease;
+      after = r.after;
+      before = r.before;
+      split = r.split;
+      gives = r.gives;
+      spells = r.spells;
+      names = r.names;
+      whole = r.whole;
+    }
 
 reason_moved : (st : Setting) (m : Move) (e : Entry) (past : Trace) (s : Session) (at : Spot) (n : ℕ) → BeginReason st (e ∷ past) s at n → BeginReason st (with_move m e ∷ past) s at n
 reason_moved st m e past s at n (Block_above r above b has is) = Block_above (read_moved st m e past s at r) above b has is
@@ -126,7 +139,11 @@ block_moved st m e past s at c b Phase2Write h =
       last = h.last;
       wrote = h.wrote;
       of_lease = h.of_lease;
+      after = h.after;
+      before = h.before;
+      split = h.split;
       ordered = h.ordered;
+      first_ordered = h.first_ordered;
       given = h.given;
       clear = h.clear;
       written = h.written;
@@ -135,6 +152,8 @@ block_moved st m e past s at c b SetMode h = record { own = h.own; known = h.kno
 block_moved st m e past s at c b ClearMode h = record { own = h.own; known = h.known; begun = h.begun; written = h.written }
 block_moved st m e past s at c b (ReadArea name) h = h
 block_moved st m e past s at c b ReadBeforeFree h = h
+block_moved st m e past s at c b ReadBeforeBlock h = h
+block_moved st m e past s at c b (ReadAgain read) h = h
 block_moved st m e past s at c b Phase1Read h = h
 block_moved st m e past s at c b Phase2Read h = h
 block_moved st m e past s at c b TakeLeader h = h
@@ -161,10 +180,12 @@ moves_leave_calls st m e past s c other plain h =
       placed = h.placed;
       apart = h.apart;
       active = λ area. active_moved (h.active area);
-      writes = λ w says area. let a = h.writes w says area in (a.0, record { resource = a.1.resource; verified = a.1.verified; placed = a.1.placed });
+      writes = λ w says area. let a = h.writes w says area in (a.0, record { resource = a.1.resource; verified = a.1.verified; placed = a.1.placed; format = a.1.format; named = a.1.named });
       alone = h.alone;
       reads = h.reads;
       sees = h.sees;
+      again = λ is. let a = h.again is in record { first = a.first; bytes = a.bytes; newest = a.newest; same = a.same; torn = a.torn };
+      turn = h.turn;
       block = λ b says. block_at st m e past s (spot_of_call st.layout c) c b (lease_step c.call.purpose) (h.block b says);
       phase2 = λ reads. let a = h.phase2 reads in record { write = a.write; last = a.last; is_phase2 = a.is_phase2; ordered = a.ordered };
       leader = λ l says. let a = h.leader l says in record { own = a.own; names = a.names; ballot = leader_by st m e past s (spot_of_call st.layout c) c l l.held a.ballot };

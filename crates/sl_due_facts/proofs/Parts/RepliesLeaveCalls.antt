@@ -18,7 +18,7 @@ use Rattle.sl_trace.specs.declared.effects.Entry.{Entry}
 use Rattle.sl_trace.specs.declared.effects.JobReply.{JobReply}
 use Rattle.sl_trace.specs.declared.effects.JoinStep.TheVariants.{ClaimWrite, DecidingRead, FirstRead, FirstRenewal, VerifyRead, WatchRead}
 use Rattle.sl_trace.specs.declared.effects.JoinStep.{JoinStep}
-use Rattle.sl_trace.specs.declared.effects.LeaseStep.TheVariants.{ClearMode, FreeLeader, Phase1Read, Phase1Write, Phase2Read, Phase2Write, ReadArea, ReadBeforeFree, SetMode, TakeLeader}
+use Rattle.sl_trace.specs.declared.effects.LeaseStep.TheVariants.{ClearMode, FreeLeader, Phase1Read, Phase1Write, Phase2Read, Phase2Write, ReadAgain, ReadArea, ReadBeforeBlock, ReadBeforeFree, SetMode, TakeLeader}
 use Rattle.sl_trace.specs.declared.effects.LeaseStep.{LeaseStep}
 use Rattle.sl_trace.specs.declared.effects.Purpose.TheVariants.{Joining, Lease, Leaving, Renewal, RequestRead, RequestWrite, SeeRequest, Survey, ValueRead, ValueWrite}
 use Rattle.sl_trace.specs.declared.effects.Purpose.{Purpose}
@@ -128,7 +128,20 @@ delta_replied st a e past s c (ValueRead j) other plain h = h
 
 abbrev read_replied : (st : Setting) (a : JobReply) (e : Entry) (past : Trace) (s : Session) (at : Spot) → AreaRead st (waking e.effects.replies e ∷ past) s at → AreaRead st (waking (e.effects.replies ++ a ∷ []) e ∷ past) s at
 read_replied st a e past s at r =
-    record { read = r.read; bytes = r.bytes; leader = r.leader; resource = r.resource; of_lease = r.of_lease; gives = r.gives; spells = r.spells; names = r.names; whole = r.whole }
+    record {
+      read = r.read;
+      blocks = r.blocks;
+      leader = r.leader;
+      resource = r.resource;
+      of_lease = r.of_lease;
+      after = r.after;
+      before = r.before;
+      split = r.split;
+      gives = r.gives;
+      spells = r.spells;
+      names = r.names;
+      whole = r.whole;
+    }
 
 -- What counts as over, counts so.
 abbrev over_by : Setting → Trace → Trace → Session → ℕ → ℕ → Bool → Bool
@@ -170,7 +183,11 @@ block_replied st a e past s at c b Phase2Write other h =
       last = h.last;
       wrote = h.wrote;
       of_lease = h.of_lease;
+      after = h.after;
+      before = h.before;
+      split = h.split;
       ordered = h.ordered;
+      first_ordered = h.first_ordered;
       given = h.given;
       clear = h.clear;
       written = h.written;
@@ -179,6 +196,8 @@ block_replied st a e past s at c b SetMode other h = record { own = h.own; known
 block_replied st a e past s at c b ClearMode other h = record { own = h.own; known = h.known; begun = h.begun; written = h.written }
 block_replied st a e past s at c b (ReadArea name) other h = h
 block_replied st a e past s at c b ReadBeforeFree other h = h
+block_replied st a e past s at c b ReadBeforeBlock other h = h
+block_replied st a e past s at c b (ReadAgain read) other h = h
 block_replied st a e past s at c b Phase1Read other h = h
 block_replied st a e past s at c b Phase2Read other h = h
 block_replied st a e past s at c b TakeLeader other h = h
@@ -205,10 +224,12 @@ woken_call st a e past s c other plain h =
       placed = h.placed;
       apart = h.apart;
       active = λ area. active_replied (h.active area);
-      writes = λ w says area. let k = h.writes w says area in (k.0, record { resource = k.1.resource; verified = k.1.verified; placed = k.1.placed });
+      writes = λ w says area. let k = h.writes w says area in (k.0, record { resource = k.1.resource; verified = k.1.verified; placed = k.1.placed; format = k.1.format; named = k.1.named });
       alone = h.alone;
       reads = h.reads;
       sees = λ is. ap (λ o. is_some o) (same_joined a e past s other) ∙ h.sees is;
+      again = λ is. let q = h.again is in record { first = q.first; bytes = q.bytes; newest = q.newest; same = q.same; torn = q.torn };
+      turn = h.turn;
       block = λ b says. block_at st a e past s (spot_of_call st.layout c) c b (lease_step c.call.purpose) other (h.block b says);
       phase2 = λ reads. let k = h.phase2 reads in record { write = k.write; last = k.last; is_phase2 = k.is_phase2; ordered = k.ordered };
       leader = λ l says. let k = h.leader l says in record { own = k.own; names = k.names; ballot = leader_by st a e past s (spot_of_call st.layout c) c l l.held k.ballot };

@@ -1,14 +1,15 @@
 -- What each act decides is allowed of delta records: a session that wrote its free makes no call.
+use Rattle.sl_due.specs.DueLease.{name_on, next_turn}
 use Rattle.sl_acts.proofs.Additions.{not_is}
 use Rattle.sl_acts.proofs.InputsKeep.{has_heard}
 use Rattle.sl_acts.specs.Acts.{Has, Hears}
 use Rattle.sl_acts.specs.SoFar.{SoFar, entry_of}
-use Rattle.sl_area.specs.Places.{block_offset, leader_offset, request_offset}
+use Rattle.sl_area.specs.Places.{area_sectors, block_offset, block_place, block_record, block_sectors, leader_offset, leader_record, request_offset}
 use Rattle.sl_due.specs.DueRequests.{owner_read}
 use Rattle.sl_due.specs.Steps.{Step, seen}
 use Rattle.sl_due_facts.proofs.Jobs.CallsHaveFacts.{timely}
 use Rattle.sl_due_facts.proofs.Jobs.CallsStay.{is_special, late}
-use Rattle.sl_due_facts.proofs.Jobs.EffectsAreAllowed.{DeltaAllowed, GrantAllowed, LeaseAllowed, ReadAllowed, RequestAllowed}
+use Rattle.sl_due_facts.proofs.Jobs.EffectsAreAllowed.{DeltaAllowed, GrantAllowed, LeaseAllowed, ReadAllowed, RequestAllowed, block_no_delta, leader_no_delta}
 use Rattle.sl_due_facts.proofs.Jobs.JobsAreAllowed.{calls_heard}
 use Rattle.sl_due_facts.proofs.Jobs.NearlyPlainActs.{AnyMove, AnyStart}
 use Rattle.sl_due_facts.proofs.Jobs.QuietLines.{active_parts}
@@ -40,7 +41,8 @@ use Rattle.sl_trace.specs.declared.effects.Grant.{Grant}
 use Rattle.sl_trace.specs.declared.effects.JobReply.{JobReply}
 use Rattle.sl_trace.specs.declared.effects.JoinStep.TheVariants.{FirstRead}
 use Rattle.sl_trace.specs.declared.effects.LeaseStep.{LeaseStep}
-use Rattle.sl_trace.specs.declared.effects.LeaseStep.TheVariants.{ClearMode, FreeLeader, Phase1Read, Phase1Write, Phase2Read, Phase2Write, ReadArea, ReadBeforeFree, SetMode, TakeLeader}
+use Rattle.sl_trace.specs.declared.effects.LeaseRead.TheVariants.{OfArea, OfBlock, OfFree, OfPhase1, OfPhase2}
+use Rattle.sl_trace.specs.declared.effects.LeaseStep.TheVariants.{ClearMode, FreeLeader, Phase1Read, Phase1Write, Phase2Read, Phase2Write, ReadAgain, ReadArea, ReadBeforeBlock, ReadBeforeFree, SetMode, TakeLeader}
 use Rattle.sl_trace.specs.declared.effects.Op.{Op}
 use Rattle.sl_trace.specs.declared.effects.Op.TheVariants.{ReadSectors, WriteRecord}
 use Rattle.sl_trace.specs.declared.effects.Purpose.{Purpose}
@@ -169,16 +171,22 @@ plain_reply x j r after = (late x r after, inl (right_is_false (is_before_input 
 -- ---- what a lease decides
 
 reads_delta : (x y : Step) (s : Session) (at : Spot) (work : Work) (step : LeaseStep) → Has x s → free_write (calls_of (seen x) s) ≡ None → ReadAllowed (DeltaCall x) y s at work step
-reads_delta x y s at work (ReadArea name) has free = plain_call x s at.path (Lease work (ReadArea name)) at.base (ReadSectors (y.setting.layout.hosts + 2)) has free refl refl refl
-reads_delta x y s at work ReadBeforeFree has free = plain_call x s at.path (Lease work ReadBeforeFree) at.base (ReadSectors (y.setting.layout.hosts + 2)) has free refl refl refl
-reads_delta x y s at work Phase1Write has free = plain_call x s at.path (Lease work Phase1Write) (block_offset y.setting.layout at.base 1) (ReadSectors y.setting.layout.hosts) has free refl refl refl
-reads_delta x y s at work Phase1Read has free = plain_call x s at.path (Lease work Phase1Read) (block_offset y.setting.layout at.base 1) (ReadSectors y.setting.layout.hosts) has free refl refl refl
-reads_delta x y s at work Phase2Write has free = plain_call x s at.path (Lease work Phase2Write) (block_offset y.setting.layout at.base 1) (ReadSectors y.setting.layout.hosts) has free refl refl refl
-reads_delta x y s at work Phase2Read has free = plain_call x s at.path (Lease work Phase2Read) (block_offset y.setting.layout at.base 1) (ReadSectors y.setting.layout.hosts) has free refl refl refl
-reads_delta x y s at work TakeLeader has free = plain_call x s at.path (Lease work TakeLeader) (block_offset y.setting.layout at.base 1) (ReadSectors y.setting.layout.hosts) has free refl refl refl
-reads_delta x y s at work SetMode has free = plain_call x s at.path (Lease work SetMode) (block_offset y.setting.layout at.base 1) (ReadSectors y.setting.layout.hosts) has free refl refl refl
-reads_delta x y s at work FreeLeader has free = plain_call x s at.path (Lease work FreeLeader) (block_offset y.setting.layout at.base 1) (ReadSectors y.setting.layout.hosts) has free refl refl refl
-reads_delta x y s at work ClearMode has free = plain_call x s at.path (Lease work ClearMode) (block_offset y.setting.layout at.base 1) (ReadSectors y.setting.layout.hosts) has free refl refl refl
+reads_delta x y s at work (ReadArea name) has free = plain_call x s at.path (Lease work (ReadArea name)) at.base (ReadSectors (area_sectors y.setting.layout)) has free refl refl refl
+reads_delta x y s at work ReadBeforeFree has free = plain_call x s at.path (Lease work ReadBeforeFree) at.base (ReadSectors (area_sectors y.setting.layout)) has free refl refl refl
+reads_delta x y s at work ReadBeforeBlock has free = plain_call x s at.path (Lease work ReadBeforeBlock) (block_offset y.setting.layout at.base 1) (ReadSectors (block_sectors y.setting.layout)) has free refl refl refl
+reads_delta x y s at work (ReadAgain (OfArea name)) has free = plain_call x s at.path (Lease work (ReadAgain (OfArea name))) at.base (ReadSectors (area_sectors y.setting.layout)) has free refl refl refl
+reads_delta x y s at work (ReadAgain OfFree) has free = plain_call x s at.path (Lease work (ReadAgain OfFree)) at.base (ReadSectors (area_sectors y.setting.layout)) has free refl refl refl
+reads_delta x y s at work (ReadAgain OfBlock) has free = plain_call x s at.path (Lease work (ReadAgain OfBlock)) (block_offset y.setting.layout at.base 1) (ReadSectors (block_sectors y.setting.layout)) has free refl refl refl
+reads_delta x y s at work (ReadAgain OfPhase1) has free = plain_call x s at.path (Lease work (ReadAgain OfPhase1)) (block_offset y.setting.layout at.base 1) (ReadSectors (block_sectors y.setting.layout)) has free refl refl refl
+reads_delta x y s at work (ReadAgain OfPhase2) has free = plain_call x s at.path (Lease work (ReadAgain OfPhase2)) (block_offset y.setting.layout at.base 1) (ReadSectors (block_sectors y.setting.layout)) has free refl refl refl
+reads_delta x y s at work Phase1Write has free = plain_call x s at.path (Lease work Phase1Write) (block_offset y.setting.layout at.base 1) (ReadSectors (block_sectors y.setting.layout)) has free refl refl refl
+reads_delta x y s at work Phase1Read has free = plain_call x s at.path (Lease work Phase1Read) (block_offset y.setting.layout at.base 1) (ReadSectors (block_sectors y.setting.layout)) has free refl refl refl
+reads_delta x y s at work Phase2Write has free = plain_call x s at.path (Lease work Phase2Write) (block_offset y.setting.layout at.base 1) (ReadSectors (block_sectors y.setting.layout)) has free refl refl refl
+reads_delta x y s at work Phase2Read has free = plain_call x s at.path (Lease work Phase2Read) (block_offset y.setting.layout at.base 1) (ReadSectors (block_sectors y.setting.layout)) has free refl refl refl
+reads_delta x y s at work TakeLeader has free = plain_call x s at.path (Lease work TakeLeader) (block_offset y.setting.layout at.base 1) (ReadSectors (block_sectors y.setting.layout)) has free refl refl refl
+reads_delta x y s at work SetMode has free = plain_call x s at.path (Lease work SetMode) (block_offset y.setting.layout at.base 1) (ReadSectors (block_sectors y.setting.layout)) has free refl refl refl
+reads_delta x y s at work FreeLeader has free = plain_call x s at.path (Lease work FreeLeader) (block_offset y.setting.layout at.base 1) (ReadSectors (block_sectors y.setting.layout)) has free refl refl refl
+reads_delta x y s at work ClearMode has free = plain_call x s at.path (Lease work ClearMode) (block_offset y.setting.layout at.base 1) (ReadSectors (block_sectors y.setting.layout)) has free refl refl refl
 
 pub grant_delta : (x : Step) (j lver : ℕ) (c : Command) → GrantAllowed (DeltaReply x) AnyStart j lver c
 grant_delta x j lver (Acquire r shared q persistent) = plain_reply x j (Granted lver) refl
@@ -201,14 +209,20 @@ pub lease_delta : (x y : Step) (s : Session) (at : Spot) (work : Work) (n : Leas
     → LeaseAllowed (DeltaReply x) (DeltaCall x) AnyStart y s at work n
 lease_delta x y s at work No_lease has free after = tt
 lease_delta x y s at work (ReadFor step) has free after = reads_delta x y s at work step has free
-lease_delta x y s at work (WriteBlock step b) has free after = plain_call x s at.path (Lease work step) (block_offset y.setting.layout at.base s.id) (WriteRecord (BlockIs b)) has free refl refl refl
-lease_delta x y s at work (WriteLeader step l) has free after = plain_call x s at.path (Lease work step) (leader_offset at.base) (WriteRecord (LeaderIs l)) has free refl refl refl
+lease_delta x y s at work (WriteBlock step b) has free after = plain_call x s at.path (Lease work step) (block_place y.setting.layout at.base s.id (next_turn y.setting (seen y) s at))
+    (WriteRecord (block_record y.setting.layout (next_turn y.setting (seen y) s at) s.lockspace (name_on y.setting (seen y) s at) b)) has free refl refl
+    (block_no_delta y.setting.layout (next_turn y.setting (seen y) s at) s.lockspace (name_on y.setting (seen y) s at) b)
+lease_delta x y s at work (WriteLeader step l) has free after = plain_call x s at.path (Lease work step) (leader_offset at.base) (WriteRecord (leader_record y.setting.layout l)) has free refl refl (leader_no_delta y.setting.layout l)
 lease_delta x y s at work (AnswerJob r) has free after = λ j is. after j r refl
 lease_delta x y s at work (GrantJob mode lver) has free after = λ j c is reads_one. grant_delta x j lver c
 lease_delta x y s at work (BecomeShared lver l) has free after =
-    ((λ j is. plain_reply x j (Granted lver) refl), plain_call x s at.path (Lease Settling FreeLeader) (leader_offset at.base) (WriteRecord (LeaderIs l)) has free refl refl refl)
-lease_delta x y s at work (BecomeExclusive lver b) has free after =
-    ((λ j is. plain_reply x j (Granted lver) refl), λ g. plain_call x s at.path (Lease Settling ClearMode) (block_offset g at.base s.id) (WriteRecord (BlockIs b)) has free refl refl refl)
+    ((λ j is. plain_reply x j (Granted lver) refl), plain_call x s at.path (Lease Settling FreeLeader) (leader_offset at.base) (WriteRecord (leader_record y.setting.layout l)) has free refl refl (leader_no_delta y.setting.layout l))
+lease_delta x y s at work (BecomeExclusive lver b) has free after = (
+  (λ j is. plain_reply x j (Granted lver) refl),
+  λ z same. plain_call x s at.path (Lease Settling ClearMode) (block_place z.setting.layout at.base s.id (next_turn z.setting (seen z) s at))
+      (WriteRecord (block_record z.setting.layout (next_turn z.setting (seen z) s at) s.lockspace (name_on z.setting (seen z) s at) b)) has free refl refl
+      (block_no_delta z.setting.layout (next_turn z.setting (seen z) s at) s.lockspace (name_on z.setting (seen z) s at) b),
+)
 
 pub request_delta : (x : Step) (s : Session) (j : ℕ) (bytes : List ℕ) (c : Command) → Has x s → free_write (calls_of (seen x) s) ≡ None → RequestAllowed (DeltaReply x) (DeltaCall x) x s j bytes c
 request_delta x s j bytes (Request r asked force) has free = (

@@ -4,7 +4,7 @@ use Rattle.sl_acts.proofs.DecisionsAreTheirs.{Of}
 use Rattle.sl_acts.proofs.InputsKeep.{has_heard}
 use Rattle.sl_acts.proofs.LoopsKeep.{for_each_keeps, when_keeps}
 use Rattle.sl_acts.proofs.PlainActs.{line_has}
-use Rattle.sl_acts.specs.Acts.{Has, Hears}
+use Rattle.sl_acts.specs.Acts.{Has, Hears, next_of_settling}
 use Rattle.sl_acts.specs.SoFar.{entry_of}
 use Rattle.sl_area.specs.Places.{delta_offset, request_offset}
 use Rattle.sl_due.specs.DueAnswers.{set_reply}
@@ -33,7 +33,7 @@ use Rattle.sl_due_facts.proofs.Jobs.SessionsArePresent.{joined_present, present_
 use Rattle.sl_due_facts.proofs.Jobs.SessionsStand.{joined_then, no_members}
 use Rattle.sl_trace.specs.Counts.{stopper_of}
 use Rattle.sl_trace.specs.Jobs.{is_job_of_process, job_of_start}
-use Rattle.sl_trace.specs.LeaseWork.{lease_place, settle_next}
+use Rattle.sl_trace.specs.LeaseWork.{lease_place}
 use Rattle.sl_trace.specs.Leases.{holdings_on, known, lver_written, spot_of_call}
 use Rattle.sl_trace.specs.declared.lease.LeaseNext.{LeaseNext}
 use Rattle.sl_due_facts.proofs.Parts.CallsGrow.{mine_more, others_stay}
@@ -435,8 +435,8 @@ delta_facts_are_kept =
           delta_none x s (next_renewal (delta_of_session x.setting s) x.reading (delta_known x.setting (seen x) s) (bits_due x.setting (calls_of (seen x) s) x.reading)) (woken_line wake) h
           (renewal_delta x s (bits_due x.setting (calls_of (seen x) s) x.reading) has (part x h));
       settles = λ x s spot has wake active whole none h.
-          lease_own x s spot Settling (settle_next (lease_place x.setting s) (known x.setting (seen x) s spot)) (woken_line wake) h has
-          (active_unfreed x.setting (seen x) s (part x h) (got_inside (sessions x.setting (seen x)) s.number s has) active) (settle_late (lease_place x.setting s) (known x.setting (seen x) s spot));
+          lease_own x s spot Settling (next_of_settling x.setting (seen x) s spot) (woken_line wake) h has
+          (active_unfreed x.setting (seen x) s (part x h) (got_inside (sessions x.setting (seen x)) s.number s has) active) (settle_late x.setting (seen x) s spot);
       parts = λ x s has joined recovers_one free quiet h. parts_delta x s.lockspace h;
       frees = λ x s has joined well free quiet h. frees_full x s h has joined free quiet;
     }

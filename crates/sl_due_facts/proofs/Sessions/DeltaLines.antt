@@ -1,9 +1,9 @@
 -- Lines keep what is known of delta records.
 use Rattle.sl_due_facts.proofs.Jobs.JobsAreNumbered.{next_before}
 use Rattle.sl_acts.proofs.DecisionsAreTheirs.{Of}
-use Rattle.sl_acts.specs.Acts.{Has}
+use Rattle.sl_acts.specs.Acts.{Has, next_of_conversion, next_of_release}
 use Rattle.sl_acts.specs.SoFar.{entry_of}
-use Rattle.sl_area.specs.Places.{value_offset}
+use Rattle.sl_area.specs.Places.{area_sectors, value_offset}
 use Rattle.sl_due.specs.DueCommands.{after_end, carry_decision}
 use Rattle.sl_due.specs.DueLease.{carry_lease, grant_for}
 use Rattle.sl_due.specs.Steps.{Step, add_end, add_reply, seen, with_input}
@@ -17,7 +17,7 @@ use Rattle.sl_due_facts.proofs.Jobs.LinesAreAllowed.{IsBegun, late_on_line}
 use Rattle.sl_due_facts.proofs.Jobs.NearlyPlainActs.{AnyStart}
 use Rattle.sl_due_facts.proofs.Jobs.QuietEffects.{by_input}
 use Rattle.sl_due_facts.proofs.Jobs.QuietLines.{answered_leaving, new_leaving}
-use Rattle.sl_due_facts.proofs.Jobs.RepliesComeAfter.{IsLateLease, release_late}
+use Rattle.sl_due_facts.proofs.Jobs.RepliesComeAfter.{IsLateLease, IsPlainly, convert_late, release_late}
 use Rattle.sl_due_facts.proofs.Jobs.SessionsHaveJobs.{number_taken}
 use Rattle.sl_due_facts.proofs.Jobs.SessionsStand.{joined_then}
 use Rattle.sl_trace.specs.Ballots.{moded_block}
@@ -130,28 +130,17 @@ lined_unfreed x text s wake bare h has active =
     let there : Contains (sessions x.setting (seen x)) s = subst (λ ss. Contains ss s) (sessions_told x (Line text) bare) (got_inside (sessions x.setting (seen (with_input (Line text) x))) s.number s has) in
     ap (λ ms. free_write (filter (is_call_of s) ms)) (calls_lined x text wake bare) ∙ active_unfreed x.setting (seen x) s (part x h) there active
 
-abbrev reads_more : LeaseNext → Bool
-reads_more (AnswerJob r) = false
-reads_more n = true
-
-convert_silent : (k : LeaseKnown) (mode : Mode) (name : List ℕ) (r : Reply) → convert_next k mode name ≡ AnswerJob r → ⊥
-convert_silent k Exclusive name r is = true_is_false (ap (λ n. reads_more n) is)
-convert_silent k Shared name r is = by k.own is where
-  by : (o : Option Block) → option_map_or (λ (own : Block). WriteBlock SetMode (moded_block own true k.self.generation)) o No_lease ≡ AnswerJob r → ⊥
-  by (Some own) same = true_is_false (ap (λ n. reads_more n) same)
-  by None same = true_is_false (ap (λ n. reads_more n) same)
-
 pub decision_delta : (x : Step) (text : List ℕ) (c : Command) (d : Decision) → x.input ≡ Wake → x.effects.calls ≡ [] → Whole x → Of (Has (with_input (Line text) x)) d → DecisionFits x.setting (seen x) c d
     → IsBegun d ⊎ DecisionAllowed (DeltaSince (with_input (Line text) x)) (DeltaReply (with_input (Line text) x)) (DeltaCall (with_input (Line text) x)) AnyStart (with_input (Line text) x) (next_job x.setting (seen x)) c d
 decision_delta x text c (Replies r) wake bare h has f = inr tt
 decision_delta x text c (Joins n a) wake bare h has f = inl tt
 decision_delta x text c (Leaves s) wake bare h has f = inr (tt, λ z k i there. (late_on_line x text (Recovering (last_renewal z.setting (seen z) s)), inl refl))
 decision_delta x text c (ReadsArea s r) wake bare h has f =
-    inr (plain_call (with_input (Line text) x) s r.path (Lease (ForJob (next_job x.setting (seen x))) (ReadArea r.name)) r.offset (ReadSectors (x.setting.layout.hosts + 2)) has (lined_unfreed x text s wake bare h has f.0) refl refl refl)
+    inr (plain_call (with_input (Line text) x) s r.path (Lease (ForJob (next_job x.setting (seen x))) (ReadArea r.name)) r.offset (ReadSectors (area_sectors x.setting.layout)) has (lined_unfreed x text s wake bare h has f.0) refl refl refl)
 decision_delta x text c (Shares s lver) wake bare h has f = inr (grant_delta (with_input (Line text) x) (next_job x.setting (seen x)) lver c)
 decision_delta x text c (GivesUp s g) wake bare h has f =
     let w : Step = with_input (Line text) x in
-    let n : LeaseNext = release_next (lease_place x.setting s) (known x.setting (seen (add_end (end_of g) w)) s (spot_of_grant g)) g.mode g.lver in
+    let n : LeaseNext = next_of_release x.setting (seen (add_end (end_of g) w)) s (spot_of_grant g) g in
     inr (
       (late_on_line x text Done, inl refl),
       lease_delta w (add_end (end_of g) w) s (spot_of_grant g) (ForJob (next_job x.setting (seen x))) n has (lined_unfreed x text s wake bare h has f.0)
@@ -160,8 +149,8 @@ decision_delta x text c (GivesUp s g) wake bare h has f =
 decision_delta x text c (TakesOver s g) wake bare h has f = inr (grant_delta (with_input (Line text) x) (next_job x.setting (seen x)) g.lver c)
 decision_delta x text c (ConvertsTo s r mode) wake bare h has f =
     let w : Step = with_input (Line text) x in
-    inr (lease_delta w w s (spot_of r) (ForJob (next_job x.setting (seen x))) (convert_next (known x.setting (seen w) s (spot_of r)) mode r.name) has (lined_unfreed x text s wake bare h has f.0)
-    (λ j q is. absurd (convert_silent (known x.setting (seen w) s (spot_of r)) mode r.name q is)))
+    inr (lease_delta w w s (spot_of r) (ForJob (next_job x.setting (seen x))) (next_of_conversion x.setting (seen w) s (spot_of r) mode r.name) has (lined_unfreed x text s wake bare h has f.0)
+    (λ j q is. plain_reply w j q (subst (λ k. IsPlainly k) is (convert_late (lease_place x.setting s) (known x.setting (seen w) s (spot_of r)) mode r.name))))
 decision_delta x text c (Requests s r) wake bare h has f =
     inr (plain_call (with_input (Line text) x) s r.path (RequestRead (next_job x.setting (seen x))) r.offset (ReadSectors 2) has (lined_unfreed x text s wake bare h has f.0) refl refl refl)
 decision_delta x text c (SetsValue s at v) wake bare h has f =
@@ -190,14 +179,14 @@ decision_held x j c (GivesUp s g) n own = subst (λ k. HeldBy x k (carry_decisio
   y = add_end (end_of g) x
 
   by : (hs : List Grant)
-      → HeldBy x s.number (elim hs as (λ z. Step) [ h ∷ rest ↦ add_reply j Done y | [] ↦ carry_lease s (spot_of_grant g) (ForJob j) (release_next (lease_place y.setting s) (known y.setting (seen y) s (spot_of_grant g)) g.mode g.lver) y ])
+      → HeldBy x s.number (elim hs as (λ z. Step) [ h ∷ rest ↦ add_reply j Done y | [] ↦ carry_lease s (spot_of_grant g) (ForJob j) (next_of_release y.setting (seen y) s (spot_of_grant g) g) y ])
   by (h ∷ rest) = end_held x s.number x (end_of g) (held_itself x s.number)
-  by [] = held_lease x y s (spot_of_grant g) (ForJob j) (release_next (lease_place y.setting s) (known y.setting (seen y) s (spot_of_grant g)) g.mode g.lver) (end_held x s.number x (end_of g) (held_itself x s.number))
+  by [] = held_lease x y s (spot_of_grant g) (ForJob j) (next_of_release y.setting (seen y) s (spot_of_grant g) g) (end_held x s.number x (end_of g) (held_itself x s.number))
 decision_held x j c (TakesOver s g) n own =
     subst (λ k. HeldBy x k (grant_for s j c g.mode g.lver (add_end (end_of g) x))) own (held_grant x (add_end (end_of g) x) s j c g.mode g.lver (end_held x s.number x (end_of g) (held_itself x s.number)))
 decision_held x j c (ConvertsTo s r mode) n own =
-    subst (λ k. HeldBy x k (carry_lease s (spot_of r) (ForJob j) (convert_next (known x.setting (seen x) s (spot_of r)) mode r.name) x)) own
-    (held_lease x x s (spot_of r) (ForJob j) (convert_next (known x.setting (seen x) s (spot_of r)) mode r.name) (held_itself x s.number))
+    subst (λ k. HeldBy x k (carry_lease s (spot_of r) (ForJob j) (next_of_conversion x.setting (seen x) s (spot_of r) mode r.name) x)) own
+    (held_lease x x s (spot_of r) (ForJob j) (next_of_conversion x.setting (seen x) s (spot_of r) mode r.name) (held_itself x s.number))
 decision_held x j c (Requests s r) n own = held_itself x n
 decision_held x j c (SetsValue s at v) n own = held_itself x n
 decision_held x j c (GetsValue s at) n own = held_itself x n

@@ -28,7 +28,8 @@ use Rattle.sl_trace.specs.declared.effects.End.{End}
 use Rattle.sl_trace.specs.declared.effects.Grant.{Grant}
 use Rattle.sl_trace.specs.declared.effects.JoinStep.TheVariants.{ClaimWrite, FirstRenewal}
 use Rattle.sl_trace.specs.declared.effects.LeaseStep.{LeaseStep}
-use Rattle.sl_trace.specs.declared.effects.LeaseStep.TheVariants.{ClearMode, FreeLeader, Phase1Read, Phase1Write, Phase2Read, Phase2Write, ReadArea, ReadBeforeFree, SetMode, TakeLeader}
+use Rattle.sl_trace.specs.declared.effects.LeaseRead.TheVariants.{OfArea, OfBlock, OfFree, OfPhase1, OfPhase2}
+use Rattle.sl_trace.specs.declared.effects.LeaseStep.TheVariants.{ClearMode, FreeLeader, Phase1Read, Phase1Write, Phase2Read, Phase2Write, ReadAgain, ReadArea, ReadBeforeBlock, ReadBeforeFree, SetMode, TakeLeader}
 use Rattle.sl_trace.specs.declared.effects.Mode.{Mode}
 use Rattle.sl_trace.specs.declared.effects.Mode.TheVariants.{Exclusive, Shared}
 use Rattle.sl_trace.specs.declared.effects.Move.TheVariants.{Unregister}
@@ -136,6 +137,12 @@ held_convert x y s at work mode lver h =
 held_reads : (x : Step) (n : ℕ) (y : Step) (s : Session) (at : Spot) (work : Work) (step : LeaseStep) → HeldBy x n y → HeldBy x n (read_for s at work step y)
 held_reads x n y s at work (ReadArea name) h = h
 held_reads x n y s at work ReadBeforeFree h = h
+held_reads x n y s at work ReadBeforeBlock h = h
+held_reads x n y s at work (ReadAgain (OfArea name)) h = h
+held_reads x n y s at work (ReadAgain OfFree) h = h
+held_reads x n y s at work (ReadAgain OfBlock) h = h
+held_reads x n y s at work (ReadAgain OfPhase1) h = h
+held_reads x n y s at work (ReadAgain OfPhase2) h = h
 held_reads x n y s at work Phase1Write h = h
 held_reads x n y s at work Phase1Read h = h
 held_reads x n y s at work Phase2Write h = h

@@ -14,7 +14,7 @@ use Rattle.sl_sector.specs.Spelling.{delta_in}
 use Rattle.sl_sector.specs.declared.sector.DeltaRec.{DeltaRec}
 use Rattle.sl_sector.specs.declared.sector.DeltaState.TheVariants.{Claimed, Free, Live}
 use Rattle.sl_sector.specs.declared.sector.Rec.{Rec}
-use Rattle.sl_sector.specs.declared.sector.Rec.TheVariants.{BlockIs, DeltaIs, LeaderIs, RequestIs, ValueIs}
+use Rattle.sl_sector.specs.declared.sector.Rec.TheVariants.{BlockIs, DeltaIs, LeaderIs, PairIs, PairLeaderIs, RequestIs, ValueIs}
 use Rattle.sl_due_facts.proofs.Sessions.DeltaConditions.{nat_low}
 use Rattle.sl_due_facts.proofs.Sessions.JoiningsGoOn.{AtWork, law_of}
 use Rattle.sl_trace.specs.Deltas.{DeltaLease, claim_of, claim_on, delta_of_session, delta_record, id_held, id_lost, is_watched_out, join_step_of, next_after_deciding, next_after_first, next_after_join_read, next_after_verify, next_after_watch, next_by_time, next_in_joining, next_on_wake, watched}
@@ -60,6 +60,8 @@ delta_record_is (LeaderIs l) d is = absurd (none_some d is)
 delta_record_is (BlockIs b) d is = absurd (none_some d is)
 delta_record_is (RequestIs q) d is = absurd (none_some d is)
 delta_record_is (ValueIs v) d is = absurd (none_some d is)
+delta_record_is (PairIs b) d is = absurd (none_some d is)
+delta_record_is (PairLeaderIs l) d is = absurd (none_some d is)
 
 -- ---- the first renewal comes last
 

@@ -3,7 +3,7 @@ use Rattle.sl_acts.proofs.DecisionsAreTheirs.{Of}
 use Rattle.sl_acts.proofs.InputsKeep.{has_heard}
 use Rattle.sl_acts.proofs.LoopsKeep.{for_each_keeps, when_keeps}
 use Rattle.sl_acts.proofs.PlainActs.{line_has}
-use Rattle.sl_acts.specs.Acts.{Has}
+use Rattle.sl_acts.specs.Acts.{Has, next_of_settling}
 use Rattle.sl_area.specs.Places.{request_offset}
 use Rattle.sl_due.specs.DueAnswers.{set_reply}
 use Rattle.sl_due.specs.DueCommands.{carry_decision, decided}
@@ -28,7 +28,7 @@ use Rattle.sl_due_facts.proofs.Jobs.RepliesComeAfter.{IsLateLease, joining_late,
 use Rattle.sl_due_facts.proofs.Jobs.SessionsArePresent.{present_inside, present_is}
 use Rattle.sl_due_facts.proofs.Jobs.SessionsStand.{joined_then}
 use Rattle.sl_trace.specs.Jobs.{job_of_start}
-use Rattle.sl_trace.specs.LeaseWork.{lease_place, settle_next}
+use Rattle.sl_trace.specs.LeaseWork.{lease_place}
 use Rattle.sl_trace.specs.Leases.{holdings_on, known, lver_written, spot_of_call}
 use Rattle.sl_trace.specs.declared.lease.LeaseNext.{LeaseNext}
 use Rattle.sl_plain.proofs.Lists.{find_inside, kept_inside}
@@ -181,7 +181,7 @@ name_facts_are_kept =
           delta_names x s (next_renewal (delta_of_session x.setting s) x.reading (delta_known x.setting (seen x) s) (bits_due x.setting (calls_of (seen x) s) x.reading))
           (renewal_named x s (delta_of_session x.setting s) x.reading (delta_known x.setting (seen x) s) (bits_due x.setting (calls_of (seen x) s) x.reading) has (joined_then (seen x) s joined)) h.facts.names;
       settles = λ x s spot has wake active whole none h.
-          let n : LeaseNext = settle_next (lease_place x.setting s) (known x.setting (seen x) s spot) in
+          let n : LeaseNext = next_of_settling x.setting (seen x) s spot in
           lease_names x s spot Settling n (lease_named x x s spot Settling n has (active_joined x.setting (seen x) s active) (λ r same. late_on_wake x r wake)) h.facts.names;
       parts = λ x s has joined recovers_one free quiet h. (removal (Holds x) HasNameFacts (NameReply x) (NameCall x) AnyStart AnyMove (names_allow x) x s.lockspace tt (begin_at x h.facts.names)).names;
       frees = λ x s has joined well free quiet h.

@@ -1,7 +1,7 @@
 -- What is known of names and joinings is kept by each act: no call is made by a session that was refused.
 use Rattle.sl_acts.proofs.DecisionsAreTheirs.{Of}
 use Rattle.sl_acts.proofs.InputsKeep.{has_heard}
-use Rattle.sl_acts.specs.Acts.{Has, Hears}
+use Rattle.sl_acts.specs.Acts.{Has, Hears, next_of_conversion, next_of_release}
 use Rattle.sl_due.specs.Steps.{Step, add_end, add_reply, seen, with_input}
 use Rattle.sl_due.specs.declared.decision.Decision.{Decision}
 use Rattle.sl_due.specs.declared.decision.Decision.TheVariants.{ConvertsTo, GetsValue, GivesUp, Joins, Leaves, ReadsArea, Replies, Requests, SetsValue, Shares, TakesOver}
@@ -39,7 +39,8 @@ use Rattle.sl_trace.specs.declared.command.Command.TheVariants.{Acquire, AddLock
 use Rattle.sl_trace.specs.declared.effects.JoinStep.{JoinStep}
 use Rattle.sl_trace.specs.declared.effects.JoinStep.TheVariants.{FirstRead}
 use Rattle.sl_trace.specs.declared.effects.LeaseStep.{LeaseStep}
-use Rattle.sl_trace.specs.declared.effects.LeaseStep.TheVariants.{ClearMode, FreeLeader, Phase1Read, Phase1Write, Phase2Read, Phase2Write, ReadArea, ReadBeforeFree, SetMode, TakeLeader}
+use Rattle.sl_trace.specs.declared.effects.LeaseRead.TheVariants.{OfArea, OfBlock, OfFree, OfPhase1, OfPhase2}
+use Rattle.sl_trace.specs.declared.effects.LeaseStep.TheVariants.{ClearMode, FreeLeader, Phase1Read, Phase1Write, Phase2Read, Phase2Write, ReadAgain, ReadArea, ReadBeforeBlock, ReadBeforeFree, SetMode, TakeLeader}
 use Rattle.sl_trace.specs.declared.effects.Op.{Op}
 use Rattle.sl_trace.specs.declared.effects.Purpose.{Purpose}
 use Rattle.sl_trace.specs.declared.effects.Purpose.TheVariants.{Joining, Lease, Leaving, Renewal, RequestRead, RequestWrite, SeeRequest, Survey, ValueRead, ValueWrite}
@@ -189,6 +190,12 @@ free_named x s l now k has joined =
 reads_named : (x y : Step) (s : Session) (at : Spot) (work : Work) (step : LeaseStep) → Has x s → is_some (joined_after (seen x) s) ≡ true → ReadAllowed (NameCall x) y s at work step
 reads_named x y s at work (ReadArea name) has joined = (has, joined, refl)
 reads_named x y s at work ReadBeforeFree has joined = (has, joined, refl)
+reads_named x y s at work ReadBeforeBlock has joined = (has, joined, refl)
+reads_named x y s at work (ReadAgain (OfArea name)) has joined = (has, joined, refl)
+reads_named x y s at work (ReadAgain OfFree) has joined = (has, joined, refl)
+reads_named x y s at work (ReadAgain OfBlock) has joined = (has, joined, refl)
+reads_named x y s at work (ReadAgain OfPhase1) has joined = (has, joined, refl)
+reads_named x y s at work (ReadAgain OfPhase2) has joined = (has, joined, refl)
 reads_named x y s at work Phase1Write has joined = (has, joined, refl)
 reads_named x y s at work Phase1Read has joined = (has, joined, refl)
 reads_named x y s at work Phase2Write has joined = (has, joined, refl)
@@ -224,7 +231,7 @@ lease_named x y s at work (WriteLeader step l) has joined after = (has, joined, 
 lease_named x y s at work (AnswerJob r) has joined after = λ j is. after r refl
 lease_named x y s at work (GrantJob mode lver) has joined after = λ j c is reads_one. grant_named x j lver c
 lease_named x y s at work (BecomeShared lver l) has joined after = ((λ j is. late x (Granted lver) refl), (has, joined, refl))
-lease_named x y s at work (BecomeExclusive lver b) has joined after = ((λ j is. late x (Granted lver) refl), λ g. (has, joined, refl))
+lease_named x y s at work (BecomeExclusive lver b) has joined after = ((λ j is. late x (Granted lver) refl), λ z same. (has, joined, refl))
 
 pub request_named : (x : Step) (s : Session) (j : ℕ) (bytes : List ℕ) (c : Command) → Has x s → is_some (joined_after (seen x) s) ≡ true → RequestAllowed (NameReply x) (NameCall x) x s j bytes c
 request_named x s j bytes (Request r asked force) has joined = ((λ why is. late x why (request_late x.setting.layout s.lockspace r asked force bytes why is)), (has, joined, refl))
@@ -256,12 +263,12 @@ decision_named x text c (GivesUp s g) has f =
     inr (
       late_on_line x text Done,
       lease_named w (add_end (end_of g) w) s (spot_of_grant g) (ForJob (next_job x.setting (seen x)))
-          (release_next (lease_place x.setting s) (known x.setting (seen (add_end (end_of g) w)) s (spot_of_grant g)) g.mode g.lver) has (active_joined x.setting (seen x) s f.0) (λ r is. late_on_line x text r),
+          (next_of_release x.setting (seen (add_end (end_of g) w)) s (spot_of_grant g) g) has (active_joined x.setting (seen x) s f.0) (λ r is. late_on_line x text r),
     )
 decision_named x text c (TakesOver s g) has f = inr (grant_named (with_input (Line text) x) (next_job x.setting (seen x)) g.lver c)
 decision_named x text c (ConvertsTo s r mode) has f =
     let w : Step = with_input (Line text) x in
-    inr (lease_named w w s (spot_of r) (ForJob (next_job x.setting (seen x))) (convert_next (known x.setting (seen w) s (spot_of r)) mode r.name) has (active_joined x.setting (seen x) s f.0) (λ q is. late_on_line x text q))
+    inr (lease_named w w s (spot_of r) (ForJob (next_job x.setting (seen x))) (next_of_conversion x.setting (seen w) s (spot_of r) mode r.name) has (active_joined x.setting (seen x) s f.0) (λ q is. late_on_line x text q))
 decision_named x text c (Requests s r) has f = inr (has, active_joined x.setting (seen x) s f.0, refl)
 decision_named x text c (SetsValue s at v) has f = inr (has, active_joined x.setting (seen x) s f.0, refl)
 decision_named x text c (GetsValue s at) has f = inr (has, active_joined x.setting (seen x) s f.0, refl)

@@ -16,7 +16,7 @@ use Rattle.sl_trace.specs.Watching.{counted_over}
 use Rattle.sl_trace.specs.declared.session.Session.{Session}
 use Rattle.sl_trace.specs.Traces.{Answered, Setting, Submitted, Trace}
 use Rattle.sl_trace.specs.declared.effects.Call.{Call}
-use Rattle.sl_trace.specs.declared.effects.LeaseStep.TheVariants.{ClearMode, FreeLeader, Phase1Read, Phase1Write, Phase2Read, Phase2Write, ReadArea, ReadBeforeFree, SetMode, TakeLeader}
+use Rattle.sl_trace.specs.declared.effects.LeaseStep.TheVariants.{ClearMode, FreeLeader, Phase1Read, Phase1Write, Phase2Read, Phase2Write, ReadAgain, ReadArea, ReadBeforeBlock, ReadBeforeFree, SetMode, TakeLeader}
 use Rattle.sl_trace.specs.declared.effects.LeaseStep.{LeaseStep}
 use Rattle.sl_trace.specs.declared.effects.Mode.TheVariants.{Shared}
 use Rattle.sl_trace.specs.declared.effects.Op.TheVariants.{ReadSectors, WriteRecord}
@@ -26,7 +26,7 @@ use Rattle.sl_trace.specs.declared.effects.Spot.{Spot}
 use Rattle.sl_trace.specs.declared.effects.Work.{Work}
 use Rattle.sl_trace.specs.declared.input.Answer.TheVariants.{Written}
 use Rattle.sl_words.specs.Words.{present}
-use Rattle.std.specs.Prelude.{Bool, Contains, IsTrue, List, None, Option, Some, false, is_some, true, [], ℕ, ◌%◌, ◌+◌, ◌<◌, ◌∷◌, ◌≡◌, ◌≤◌}
+use Rattle.std.specs.Prelude.{Bool, Contains, IsTrue, List, None, Option, Some, [], false, is_some, true, ℕ, ◌%◌, ◌++◌, ◌+◌, ◌<◌, ◌∷◌, ◌≡◌, ◌≤◌}
 
 -- What ways ask beside calls: the session as ballots name it, to what end works are done, and whom the session has counted as over.
 pub record WayContext : Type 0 where
@@ -72,7 +72,11 @@ pub record IsVerified (w : WayContext) (ms : List Submitted) : Type 0 where
   pub read : Submitted
   pub name : List ℕ
   pub of_lease : Contains ms read
-  pub verified : verified_by w.layout w.lockspace read ≡ Some name
+  -- the calls after and before that read
+  pub newer : List Submitted
+  pub before : List Submitted
+  pub split : ms ≡ newer ++ read ∷ before
+  pub verified : verified_by w.layout w.lockspace read before ≡ Some name
 
 -- ---- the ballot
 
@@ -99,7 +103,7 @@ pub record Phase2Way (w : WayContext) (work : Work) (c : Call) (ms : List Submit
   pub own : Block
   pub known : block_submitted after.rest ≡ Some own
   pub blocks : List (Option Block)
-  pub given : blocks_given w.layout after.prior ≡ Some blocks
+  pub given : blocks_given w.layout after.prior after.rest ≡ Some blocks
   pub clear : stop_of own blocks ≡ None
   pub shared : Bool
   pub mode_gen : ℕ
@@ -180,6 +184,9 @@ StepWay w work at c ms SetMode = ModeWay w work at c ms
 StepWay w work at c ms FreeLeader = FreeWay w work at c ms
 StepWay w work at c ms ClearMode = ClearWay c ms
 StepWay w work at c ms ReadBeforeFree = ReadBeforeWay w work c ms
+-- only with pairs
+StepWay w work at c ms ReadBeforeBlock = w.layout.paired ≡ true
+StepWay w work at c ms (ReadAgain read) = w.layout.paired ≡ true
 
 -- By what the call is for: the calls of a lease are for nothing else.
 abbrev pub PurposeWay : WayContext → ℕ → Call → List Submitted → Purpose → Type 0

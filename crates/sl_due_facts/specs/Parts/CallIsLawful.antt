@@ -1,13 +1,13 @@
 -- What every law asks of one call, at the trace as it stood where the call was made.
-use Rattle.sl_run.specs.LawfulArea.{LawfulAreaWrite, LawfulLeaseRead, is_area_work, is_block_work, is_delta_record, open_block_work}
-use Rattle.sl_run.specs.LawfulBlock.{LawfulBlockWrite, LawfulPhase2Read}
+use Rattle.sl_run.specs.LawfulArea.{LawfulAgain, LawfulAreaWrite, LawfulLeaseRead, is_area_work, is_block_work, is_delta_record, open_block_work}
+use Rattle.sl_run.specs.LawfulBlock.{LawfulBlockWrite, LawfulPhase2Read, LawfulTurn}
 use Rattle.sl_run.specs.LawfulCalls.{may_submit}
 use Rattle.sl_run.specs.LawfulDelta.{LawfulDeltaCall, is_on_own_sector}
 use Rattle.sl_run.specs.LawfulLeader.{LawfulLeaderWrite}
 use Rattle.sl_run.specs.LawfulModes.{LawfulMode}
 use Rattle.sl_run.specs.LawfulParting.{is_leaving_write}
 use Rattle.sl_run.specs.LawfulValue.{LawfulValueRead, LawfulValueWrite}
-use Rattle.sl_trace.specs.Leases.{Phase2_read, block_written, is_at, leader_written, spot_of_call, value_written}
+use Rattle.sl_trace.specs.Leases.{Phase2_read, base_turn, block_written, is_again, is_at, leader_written, lease_calls, spot_of_call, turn_written, value_written}
 use Rattle.sl_sector.specs.declared.sector.Block.{Block}
 use Rattle.sl_sector.specs.declared.sector.Leader.{Leader}
 use Rattle.sl_sector.specs.declared.sector.Rec.{Rec}
@@ -29,6 +29,8 @@ pub record CallIsLawful (st : Setting) (t : Trace) (s : Session) (c : Submitted)
   pub alone : IsTrue (is_block_work c && is_area_work c.call.purpose) → open_block_work st t s (spot_of_call st.layout c) ≡ []
   pub reads : LawfulLeaseRead st c
   pub sees : c.call.purpose ≡ SeeRequest → IsTrue (is_some (joined_after t s))
+  pub again : IsTrue (is_again c) → LawfulAgain st t s (spot_of_call st.layout c) c
+  pub turn : (turn : ℕ) → turn_written c ≡ Some turn → LawfulTurn turn (base_turn st.layout s.id (lease_calls st t s (spot_of_call st.layout c)))
   pub block : (b : Block) → block_written c ≡ Some b → LawfulBlockWrite st t s c b
   pub phase2 : IsTrue (is_at Phase2_read c) → LawfulPhase2Read st t s (spot_of_call st.layout c) c
   pub leader : (l : Leader) → leader_written c ≡ Some l → LawfulLeaderWrite st t s (spot_of_call st.layout c) c l

@@ -2,8 +2,8 @@
 use Rattle.sl_acts.specs.Acts.{Hears}
 use Rattle.sl_acts.specs.SoFar.{entry_of}
 use Rattle.sl_area.specs.Layouts.{Layout}
-use Rattle.sl_area.specs.Places.{block_offset, leader_of, leader_offset, read_at}
-use Rattle.sl_due.specs.DueLease.{carry_lease, convert_for, convert_holding, grant_for, held_otherwise, next_of_lease, with_command}
+use Rattle.sl_area.specs.Places.{block_place, block_record, leader_of, leader_offset, leader_record, read_at}
+use Rattle.sl_due.specs.DueLease.{carry_lease, convert_for, convert_holding, grant_for, held_otherwise, name_on, next_of_lease, next_turn, with_command}
 use Rattle.sl_due.specs.DueRequests.{after_request_read, owner_read, request_refusal, write_request}
 use Rattle.sl_due.specs.Steps.{Step, add_call_of, add_reply, seen, with_some}
 use Rattle.sl_due_law.proofs.Causes.LaterSteps.{told_no_line}
@@ -29,7 +29,6 @@ use Rattle.sl_plain.proofs.Lists.{find_inside}
 use Rattle.sl_request.specs.Requests.{check_request}
 use Rattle.sl_sector.specs.Spelling.{request_in}
 use Rattle.sl_sector.specs.declared.sector.Leader.{Leader}
-use Rattle.sl_sector.specs.declared.sector.Rec.TheVariants.{BlockIs, LeaderIs}
 use Rattle.sl_sector.specs.declared.sector.Request.{Request as RequestRec}
 use Rattle.sl_trace.specs.declared.session.Session.{Session}
 use Rattle.sl_trace.specs.Traces.{Job, Submitted, is_shared, jobs, line_in, next_job}
@@ -39,7 +38,7 @@ use Rattle.sl_trace.specs.declared.command.ResourceArg.{ResourceArg}
 use Rattle.sl_trace.specs.declared.effects.Call.{Call}
 use Rattle.sl_trace.specs.declared.effects.Grant.{Grant}
 use Rattle.sl_trace.specs.declared.effects.LeaseStep.{LeaseStep}
-use Rattle.sl_trace.specs.declared.effects.LeaseStep.TheVariants.{ClearMode, FreeLeader, Phase1Read, Phase1Write, Phase2Read, Phase2Write, ReadArea, ReadBeforeFree, SetMode, TakeLeader}
+use Rattle.sl_trace.specs.declared.effects.LeaseStep.TheVariants.{ClearMode, FreeLeader, Phase1Read, Phase1Write, Phase2Read, Phase2Write, ReadAgain, ReadArea, ReadBeforeBlock, ReadBeforeFree, SetMode, TakeLeader}
 use Rattle.sl_trace.specs.declared.effects.Mode.{Mode}
 use Rattle.sl_trace.specs.declared.effects.Mode.TheVariants.{Exclusive, Shared}
 use Rattle.sl_trace.specs.declared.effects.Op.{Op}
@@ -58,6 +57,7 @@ use Rattle.sl_words.proofs.CaseLaws.{none_some, some_value, true_is_false}
 use Rattle.sl_words.proofs.OptionLaws.{choose_none}
 use Rattle.sl_words.proofs.WordLaws.{and_true}
 use Rattle.sl_words.specs.Words.{choose, same_truth}
+use Rattle.sl_trace.specs.declared.effects.LeaseRead.TheVariants.{OfArea, OfBlock, OfFree, OfPhase1, OfPhase2}
 use Rattle.std.proofs.Common.{ap, inl, inr, refl, subst, sym, ◌∙◌}
 use Rattle.std.proofs.lemmas.Bool.{eqb-true}
 use Rattle.std.proofs.lemmas.List.{append-nil}
@@ -90,6 +90,12 @@ unfolding carry_lease
 settling_grants x s at No_lease = refl
 settling_grants x s at (ReadFor (ReadArea name)) = refl
 settling_grants x s at (ReadFor ReadBeforeFree) = refl
+settling_grants x s at (ReadFor ReadBeforeBlock) = refl
+settling_grants x s at (ReadFor (ReadAgain (OfArea name))) = refl
+settling_grants x s at (ReadFor (ReadAgain OfFree)) = refl
+settling_grants x s at (ReadFor (ReadAgain OfBlock)) = refl
+settling_grants x s at (ReadFor (ReadAgain OfPhase1)) = refl
+settling_grants x s at (ReadFor (ReadAgain OfPhase2)) = refl
 settling_grants x s at (ReadFor Phase1Write) = refl
 settling_grants x s at (ReadFor Phase1Read) = refl
 settling_grants x s at (ReadFor Phase2Write) = refl
@@ -133,20 +139,20 @@ program_mode x s m answer j step aim mode lver known_here hears purpose aims nex
       ap (λ q. is_shared q) v.1 ∙ sym (wants v.2.0 v.2.1 ∙ ap (λ q. is_shared q) same)
 
 -- A conversion that is done gives to who held.
-converted_made : (x : Step) (s : Session) (at : Spot) (j : ℕ) (mode : Mode) (lver : ℕ) (p : Purpose) (o : Step → ℕ) (op : Op) → Fresh x → is_special_call p ≡ false
+converted_made : (x : Step) (s : Session) (at : Spot) (j : ℕ) (mode : Mode) (lver : ℕ) (p : Purpose) (o : Step → ℕ) (op : Step → Op) → Fresh x → is_special_call p ≡ false
     → ((c : Command) (q : ℕ) → command_numbered x.setting (seen x) j ≡ Some c → process_named c ≡ Some q → IsTold x.past q)
-    → (let z : Step = with_command j (λ c. convert_for s at j c mode lver) x in MadeSoFar (add_call_of s.number at.path p (o z) op z))
+    → (let z : Step = with_command j (λ c. convert_for s at j c mode lver) x in MadeSoFar (add_call_of s.number at.path p (o z) (op z) z))
 converted_made x s at j mode lver p o op f plain told = by (command_numbered x.setting (seen x) j) refl where
   P : Step → Type 0
-  P z = MadeSoFar (add_call_of s.number at.path p (o z) op z)
+  P z = MadeSoFar (add_call_of s.number at.path p (o z) (op z) z)
 
   alone : P x
-  alone = one_call x s.number at.path p (o x) op f (made_plain x.setting x.past x.input x.effects.grants op p plain)
+  alone = one_call x s.number at.path p (o x) (op x) f (made_plain x.setting x.past x.input x.effects.grants (op x) p plain)
 
   held : (q : ℕ) → IsTold x.past q → (g : Option Grant) → held_otherwise (seen x) s at q mode ≡ g → P (with_some g (convert_holding j mode lver) x)
   held q is None none = alone
   held q is (Some g) found =
-      still_made z (add_call_of s.number at.path p (o z) op z) ((adds z).calls z s at.path p (o z) op plain (adds_nothing z)) refl
+      still_made z (add_call_of s.number at.path p (o z) (op z) z) ((adds z).calls z s at.path p (o z) (op z) plain (adds_nothing z)) refl
       (one_grant x z (record g { mode = mode; lver = lver }) f refl refl refl refl refl (inr (inr (subst (λ n. IsTold x.past n) (sym its) is))))
     where
       z : Step
@@ -216,9 +222,10 @@ led_made x s m answer j step aim h n next = by n next where
   by (WriteLeader q l) is = lease_made x s at j (WriteLeader q l) h.fresh from tt
   by (AnswerJob r) is = lease_made x s at j (AnswerJob r) h.fresh from tt
   by (GrantJob mode lver) is = granted mode lver is (command_numbered x.setting (seen x) j) refl
-  by (BecomeShared lver l) is = converted_made x s at j Shared lver (Lease Settling FreeLeader) (λ z. leader_offset at.base) (WriteRecord (LeaderIs l)) h.fresh refl (λ c p reads names. told c p reads names)
+  by (BecomeShared lver l) is = converted_made x s at j Shared lver (Lease Settling FreeLeader) (λ z. leader_offset at.base) (λ z. WriteRecord (leader_record z.setting.layout l)) h.fresh refl (λ c p reads names. told c p reads names)
   by (BecomeExclusive lver b) is =
-      converted_made x s at j Exclusive lver (Lease Settling ClearMode) (λ z. block_offset z.setting.layout at.base s.id) (WriteRecord (BlockIs b)) h.fresh refl (λ c p reads names. told c p reads names)
+      converted_made x s at j Exclusive lver (Lease Settling ClearMode) (λ z. block_place z.setting.layout at.base s.id (next_turn z.setting (seen z) s at))
+      (λ z. WriteRecord (block_record z.setting.layout (next_turn z.setting (seen z) s at) s.lockspace (name_on z.setting (seen z) s at) b)) h.fresh refl (λ c p reads names. told c p reads names)
 
 -- ---- the read of a request
 

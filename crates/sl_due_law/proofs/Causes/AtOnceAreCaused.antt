@@ -47,6 +47,8 @@ use Rattle.sl_trace.specs.declared.reply.Reply.{Reply}
 use Rattle.sl_words.proofs.CaseLaws.{none_some, some_value, true_is_false}
 use Rattle.sl_words.specs.Results.{◌>>=◌}
 use Rattle.sl_words.specs.Words.{some_is}
+use Rattle.sl_acts.specs.Acts.{next_of_conversion, next_of_release}
+use Rattle.sl_due_facts.proofs.Jobs.PlainNexts.{conversion_plain, release_plain}
 use Rattle.std.proofs.Common.{ap, arith, inl, inr, refl, subst, sym, ◌∙◌}
 use Rattle.std.specs.Option.{option_map_or}
 use Rattle.std.specs.Prelude.{Bool, Contains, List, None, Ok, Option, Result, Some, [], false, filter, not, true, ℕ, ◌++◌, ◌<◌, ◌==◌, ◌∷◌, ◌≡◌, ◌⊎◌}
@@ -119,36 +121,42 @@ acted_releasing s at n Shared lver p k y h = by k.own where
   by None = h
   by (Some own) = h
 
-acted_ending : (s : Session) (at : Spot) (n : ℕ) (g : Grant) (y : Step) → Acted y → Acted (after_end s at n g y)
+acted_ending : (s : Session) (at : Spot) (n : ℕ) (g : Grant) (y : Step) → y.setting.layout.paired ≡ false → Acted y → Acted (after_end s at n g y)
 unfolding after_end
-acted_ending s at n g y h = by (holdings_on (seen y) s at) where
-  by : (hs : List Grant)
-      → Acted (elim hs as (λ z. Step) [ k ∷ ks ↦ add_reply n Done y | [] ↦ carry_lease s at (ForJob n) (release_next (lease_place y.setting s) (known y.setting (seen y) s at) g.mode g.lver) y ])
-  by [] = acted_releasing s at n g.mode g.lver (lease_place y.setting s) (known y.setting (seen y) s at) y h
+acted_ending s at n g y plain h = by (holdings_on (seen y) s at) where
+  by : (hs : List Grant) → Acted (elim hs as (λ z. Step) [ k ∷ ks ↦ add_reply n Done y | [] ↦ carry_lease s at (ForJob n) (next_of_release y.setting (seen y) s at g) y ])
+  by [] =
+      subst (λ z. Acted (carry_lease s at (ForJob n) z y)) (sym (release_plain y.setting (seen y) s at g plain))
+      (acted_releasing s at n g.mode g.lver (lease_place y.setting s) (known y.setting (seen y) s at) y h)
   by (k ∷ ks) = h
 
-pub converting : (P : JobReply → Type 0) (s : Session) (at : Spot) (n : ℕ) (mode : Mode) (name : List ℕ) (k : LeaseKnown) (w : Step) → Spares P w (carry_lease s at (ForJob n) (convert_next k mode name) w)
+converting_by : (P : JobReply → Type 0) (s : Session) (at : Spot) (n : ℕ) (mode : Mode) (name : List ℕ) (k : LeaseKnown) (w : Step) → Spares P w (carry_lease s at (ForJob n) (convert_next k mode name) w)
 unfolding carry_lease
-converting P s at n Exclusive name k w = λ a there is. there
-converting P s at n Shared name k w = by k.own where
+converting_by P s at n Exclusive name k w = λ a there is. there
+converting_by P s at n Shared name k w = by k.own where
   by : (o : Option Block) → Spares P w (carry_lease s at (ForJob n) (option_map_or (λ own. WriteBlock SetMode (moded_block own true k.self.generation)) o Nothing) w)
   by None = λ a there is. there
   by (Some own) = λ a there is. there
 
+pub converting : (P : JobReply → Type 0) (s : Session) (at : Spot) (n : ℕ) (mode : Mode) (name : List ℕ) (w : Step) → w.setting.layout.paired ≡ false
+    → Spares P w (carry_lease s at (ForJob n) (next_of_conversion w.setting (seen w) s at mode name) w)
+converting P s at n mode name w plain =
+    subst (λ z. Spares P w (carry_lease s at (ForJob n) z w)) (sym (conversion_plain w.setting (seen w) s at mode name plain)) (converting_by P s at n mode name (known w.setting (seen w) s at) w)
+
 -- A command that is carried out leaves its own job, unless it grants or ends something.
-carried : (n : ℕ) (c : Command) (d : Decision) (w : Step) → reply_at_once d ≡ None → Spares (OfJob n) w (carry_decision n c d w) ⊎ Acted (carry_decision n c d w)
+carried : (n : ℕ) (c : Command) (d : Decision) (w : Step) → w.setting.layout.paired ≡ false → reply_at_once d ≡ None → Spares (OfJob n) w (carry_decision n c d w) ⊎ Acted (carry_decision n c d w)
 unfolding carry_decision
-carried n c (Replies r) w is = absurd (none_some r (sym is))
-carried n c (Joins number a) w is = inl (λ a there is. there)
-carried n c (Leaves s) w is = inl (leaving n s w)
-carried n c (ReadsArea s r) w is = inl (λ a there is. there)
-carried n c (Shares s lver) w is = granting s n c Shared lver w
-carried n c (GivesUp s g) w is = inr (acted_ending s (spot_of_grant g) n g (add_end (end_of g) w) (λ grants none. grown w.effects.ends (end_of g) none))
-carried n c (TakesOver s g) w is = inr (acted_granting s n c g.mode g.lver w g)
-carried n c (ConvertsTo s r mode) w is = inl (converting (OfJob n) s (spot_of r) n mode r.name (known w.setting (seen w) s (spot_of r)) w)
-carried n c (Requests s r) w is = inl (λ a there is. there)
-carried n c (SetsValue s at v) w is = inl (λ a there is. there)
-carried n c (GetsValue s at) w is = inl (λ a there is. there)
+carried n c (Replies r) w plain is = absurd (none_some r (sym is))
+carried n c (Joins number a) w plain is = inl (λ a there is. there)
+carried n c (Leaves s) w plain is = inl (leaving n s w)
+carried n c (ReadsArea s r) w plain is = inl (λ a there is. there)
+carried n c (Shares s lver) w plain is = granting s n c Shared lver w
+carried n c (GivesUp s g) w plain is = inr (acted_ending s (spot_of_grant g) n g (add_end (end_of g) w) plain (λ grants none. grown w.effects.ends (end_of g) none))
+carried n c (TakesOver s g) w plain is = inr (acted_granting s n c g.mode g.lver w g)
+carried n c (ConvertsTo s r mode) w plain is = inl (converting (OfJob n) s (spot_of r) n mode r.name w plain)
+carried n c (Requests s r) w plain is = inl (λ a there is. there)
+carried n c (SetsValue s at v) w plain is = inl (λ a there is. there)
+carried n c (GetsValue s at) w plain is = inl (λ a there is. there)
 
 -- ---- in an entry that is due
 
@@ -239,7 +247,7 @@ at_once_are_caused st past e a j w due_so there o found = by (reply_at_once d) r
     answered (inr new) =
         subst (λ q. CausedBy (at_its_line st past e j) q) (ap (λ (b : JobReply). b.reply) new)
         (lines_are_well st past e o.text o.command r j w due_so line says decision (ap (λ m. job_numbered st (e ∷ past) m) (sym own) ∙ found))
-  by None is = absurd (nobody (carried n o.command d (with_input (Line o.text) x) is)) where
+  by None is = absurd (nobody (carried n o.command d (with_input (Line o.text) x) (ap (λ (g : Setting). g.layout.paired) h.setting ∙ w.setting.unpaired) is)) where
     z : Step
     z = carry_decision n o.command d (with_input (Line o.text) x)
 

@@ -3,7 +3,7 @@ use Rattle.sl_due_law.proofs.Causes.LaterCauses.{released_caused, requested_caus
 use Rattle.sl_acts.proofs.Additions.{contains_last}
 use Rattle.sl_acts.proofs.LoopsKeep.{for_each_keeps, when_keeps}
 use Rattle.sl_acts.proofs.InputsKeep.{has_heard}
-use Rattle.sl_acts.specs.Acts.{Has, Hears}
+use Rattle.sl_acts.specs.Acts.{Has, Hears, next_of_conversion, next_of_release, next_of_settling}
 use Rattle.sl_acts.specs.SoFar.{entry_of}
 use Rattle.sl_due_law.proofs.Causes.JoinCauses.{concluded_call, goes_on_still, joining_may, joining_well}
 use Rattle.sl_due_law.proofs.Causes.LaterSteps.{AnyMove, Going, MayAnswer, MayCall, MayStart, after_that, answer_caused, before_later, begins, by_effects, facts_later, going, no_line, seen_caused, still_caused, told_no_line, wake_no_line}
@@ -39,7 +39,7 @@ use Rattle.sl_due_facts.proofs.Jobs.SessionsArePresent.{present_is, session_has}
 use Rattle.sl_due_facts.proofs.Jobs.SessionsStand.{recovery_joined}
 use Rattle.sl_due_facts.proofs.Jobs.CallsHaveFacts.{sessions_bare}
 use Rattle.sl_trace.specs.Jobs.{aim_of, is_job_of_process, command_numbered, job_of_start, resource_named}
-use Rattle.sl_trace.specs.LeaseWork.{LeasePlace, convert_next, lease_place, release_next, settle_next}
+use Rattle.sl_trace.specs.LeaseWork.{LeasePlace, convert_next, lease_place, release_next}
 use Rattle.sl_trace.specs.Leases.{LeaseKnown, known, lease_step, lver_written, spot_of, spot_of_call}
 use Rattle.sl_trace.specs.declared.lease.Aim.{Aim}
 use Rattle.sl_trace.specs.declared.lease.LeaseNext.TheVariants.{AnswerJob, BecomeExclusive, BecomeShared, GrantJob, Nothing as No_lease, ReadFor, WriteBlock, WriteLeader}
@@ -70,7 +70,7 @@ use Rattle.sl_trace.specs.declared.command.ResourceArg.{ResourceArg}
 use Rattle.sl_trace.specs.declared.effects.JobReply.{JobReply}
 use Rattle.sl_trace.specs.declared.effects.JoinStep.TheVariants.{FirstRead}
 use Rattle.sl_trace.specs.declared.effects.JoinStep.{JoinStep}
-use Rattle.sl_trace.specs.declared.effects.LeaseStep.TheVariants.{ReadArea, ReadBeforeFree}
+use Rattle.sl_trace.specs.declared.effects.LeaseStep.TheVariants.{ReadAgain, ReadArea, ReadBeforeFree}
 use Rattle.sl_trace.specs.declared.effects.LeaseStep.{LeaseStep}
 use Rattle.sl_trace.specs.declared.effects.Mode.TheVariants.{Exclusive, Shared}
 use Rattle.sl_trace.specs.declared.effects.Mode.{Mode}
@@ -89,6 +89,8 @@ use Rattle.sl_trace.specs.declared.reply.Reply.TheVariants.{BadCommand as Misrea
 use Rattle.sl_trace.specs.declared.reply.Reply.{Reply}
 use Rattle.sl_words.proofs.WordLaws.{some_is_true}
 use Rattle.sl_words.proofs.CaseLaws.{false_is_true, none_some, not_both, one_value, some_value}
+use Rattle.sl_due_facts.proofs.Jobs.PlainNexts.{conversion_plain, release_plain}
+use Rattle.sl_trace.specs.declared.effects.LeaseRead.TheVariants.{OfArea, OfBlock, OfFree, OfPhase1, OfPhase2}
 use Rattle.std.proofs.Common.{ap, inl, inr, refl, subst, sym, ◌∙◌}
 use Rattle.std.specs.Prelude.{Bool, Contains, Err, List, None, Ok, Option, Some, false, filter, is_some, length, not, true, ℕ, ◌+◌, ◌==◌, ◌≡◌, ◌⊎◌}
 
@@ -142,6 +144,11 @@ open_awake x wake c = open_unless_told x (ap (λ i. is_told i) wake) c
 reads_may : (x y : Step) (s : Session) (at : Spot) (work : Work) (step : LeaseStep) → (IsConcluded x → ⊥) → ReadAllowed (MayCall x) y s at work step
 reads_may x y s at work (ReadArea name) going = λ c. absurd (going c)
 reads_may x y s at work ReadBeforeFree going = λ c. absurd (going c)
+reads_may x y s at work (ReadAgain (OfArea name)) going = λ c. absurd (going c)
+reads_may x y s at work (ReadAgain OfFree) going = λ c. absurd (going c)
+reads_may x y s at work (ReadAgain OfBlock) going = λ c. absurd (going c)
+reads_may x y s at work (ReadAgain OfPhase1) going = λ c. absurd (going c)
+reads_may x y s at work (ReadAgain OfPhase2) going = λ c. absurd (going c)
 reads_may x y s at work step going = λ c. absurd (going c)
 
 -- Of what a line is granted nothing is said.
@@ -182,7 +189,7 @@ lease_may x y s at work (WriteLeader step l) going none may told = λ c. absurd 
 lease_may x y s at work (AnswerJob r) going none may told = λ j is. absurd (none_some j (sym (none r refl) ∙ is))
 lease_may x y s at work (GrantJob mode lver) going none may told = λ j c is reads. granting_may x j lver c (may tt j lver is) (told j is)
 lease_may x y s at work (BecomeShared lver l) going none may told = ((λ j is. may tt j lver is), λ c. absurd (going c))
-lease_may x y s at work (BecomeExclusive lver b) going none may told = ((λ j is. may tt j lver is), λ g c. absurd (going c))
+lease_may x y s at work (BecomeExclusive lver b) going none may told = ((λ j is. may tt j lver is), λ z same c. absurd (going c))
 
 -- What answers nobody.
 abbrev pub AnswersNobody : LeaseNext → Type 0
@@ -192,11 +199,11 @@ AnswersNobody n = Unit {0}
 nobody : (n : LeaseNext) (work : Work) → AnswersNobody n → (r : Reply) → n ≡ AnswerJob r → work_job work ≡ None
 nobody n work h r is = absurd (subst (λ k. AnswersNobody k) is h)
 
-pub release_nobody : (p : LeasePlace) (k : LeaseKnown) (mode : Mode) (n : ℕ) → AnswersNobody (release_next p k mode n)
+release_nobody : (p : LeasePlace) (k : LeaseKnown) (mode : Mode) (n : ℕ) → AnswersNobody (release_next p k mode n)
 release_nobody p k Exclusive n = tt
 release_nobody p k Shared n = mapped_or AnswersNobody _ k.own No_lease (λ b. tt) tt
 
-pub convert_nobody : (k : LeaseKnown) (mode : Mode) (name : List ℕ) → AnswersNobody (convert_next k mode name)
+convert_nobody : (k : LeaseKnown) (mode : Mode) (name : List ℕ) → AnswersNobody (convert_next k mode name)
 convert_nobody k Exclusive name = tt
 convert_nobody k Shared name = mapped_or AnswersNobody _ k.own No_lease (λ b. tt) tt
 
@@ -207,26 +214,29 @@ on_line : (x : Step) → is_line x.input ≡ true → x.input ≡ Wake → ⊥
 on_line x on wake = false_is_true (sym (ap (λ i. is_line i) wake) ∙ on)
 
 -- What was decided on a line.
-line_may : (x : Step) (j : ℕ) (c : Command) (d : Decision) → (is_line x.input ≡ true) → (IsConcluded x → ⊥) → ((r : Reply) → IsLate x r) → DecisionAllowed (Going (is_explained x.input) x) (MayAnswer (is_explained x.input) x) (MayCall x) (MayStart x) x j c d
-line_may x j c (Replies r) on going after = tt
-line_may x j c (Joins n a) on going after = λ z is q. absurd (going q)
-line_may x j c (Leaves s) on going after =
+line_may : (x : Step) (j : ℕ) (c : Command) (d : Decision) → x.setting.layout.paired ≡ false → (is_line x.input ≡ true) → (IsConcluded x → ⊥) → ((r : Reply) → IsLate x r) → DecisionAllowed (Going (is_explained x.input) x) (MayAnswer (is_explained x.input) x) (MayCall x) (MayStart x) x j c d
+line_may x j c (Replies r) plain on going after = tt
+line_may x j c (Joins n a) plain on going after = λ z is q. absurd (going q)
+line_may x j c (Leaves s) plain on going after =
     ((λ wake. refl), λ z k i there. (after (Recovering (last_renewal z.setting (seen z) s)), λ shown. absurd (false_is_true (sym (ap (λ b. not b) on) ∙ shown))))
-line_may x j c (ReadsArea s r) on going after = λ q. absurd (going q)
-line_may x j c (Shares s lver) on going after = granting_may x j lver c (granted_may x j lver on) (on_line x on)
-line_may x j c (GivesUp s g) on going after =
+line_may x j c (ReadsArea s r) plain on going after = λ q. absurd (going q)
+line_may x j c (Shares s lver) plain on going after = granting_may x j lver c (granted_may x j lver on) (on_line x on)
+line_may x j c (GivesUp s g) plain on going after =
     let y : Step = add_end (end_of g) x in (
       (after Done, λ shown. absurd (false_is_true (sym (ap (λ b. not b) on) ∙ shown))),
-      lease_may x y s (spot_of_grant g) (ForJob j) (release_next (lease_place x.setting s) (known x.setting (seen y) s (spot_of_grant g)) g.mode g.lver) going
-          (nobody (release_next (lease_place x.setting s) (known x.setting (seen y) s (spot_of_grant g)) g.mode g.lver) (ForJob j) (release_nobody (lease_place x.setting s) (known x.setting (seen y) s (spot_of_grant g)) g.mode g.lver)) (λ gives i n is. granted_may x i n on) (λ i is. on_line x on),
+      lease_may x y s (spot_of_grant g) (ForJob j) (next_of_release x.setting (seen y) s (spot_of_grant g) g) going
+          (nobody (next_of_release x.setting (seen y) s (spot_of_grant g) g) (ForJob j)
+          (subst (λ n. AnswersNobody n) (sym (release_plain x.setting (seen y) s (spot_of_grant g) g plain))
+          (release_nobody (lease_place x.setting s) (known x.setting (seen y) s (spot_of_grant g)) g.mode g.lver))) (λ gives i n is. granted_may x i n on) (λ i is. on_line x on),
     )
-line_may x j c (TakesOver s g) on going after = granting_may x j g.lver c (granted_may x j g.lver on) (on_line x on)
-line_may x j c (ConvertsTo s r mode) on going after =
-    lease_may x x s (spot_of r) (ForJob j) (convert_next (known x.setting (seen x) s (spot_of r)) mode r.name) going
-    (nobody (convert_next (known x.setting (seen x) s (spot_of r)) mode r.name) (ForJob j) (convert_nobody (known x.setting (seen x) s (spot_of r)) mode r.name)) (λ gives i n is. granted_may x i n on) (λ i is. on_line x on)
-line_may x j c (Requests s r) on going after = λ q. absurd (going q)
-line_may x j c (SetsValue s at v) on going after = λ q. absurd (going q)
-line_may x j c (GetsValue s at) on going after = λ q. absurd (going q)
+line_may x j c (TakesOver s g) plain on going after = granting_may x j g.lver c (granted_may x j g.lver on) (on_line x on)
+line_may x j c (ConvertsTo s r mode) plain on going after =
+    lease_may x x s (spot_of r) (ForJob j) (next_of_conversion x.setting (seen x) s (spot_of r) mode r.name) going
+    (nobody (next_of_conversion x.setting (seen x) s (spot_of r) mode r.name) (ForJob j)
+    (subst (λ n. AnswersNobody n) (sym (conversion_plain x.setting (seen x) s (spot_of r) mode r.name plain)) (convert_nobody (known x.setting (seen x) s (spot_of r)) mode r.name))) (λ gives i n is. granted_may x i n on) (λ i is. on_line x on)
+line_may x j c (Requests s r) plain on going after = λ q. absurd (going q)
+line_may x j c (SetsValue s at v) plain on going after = λ q. absurd (going q)
+line_may x j c (GetsValue s at) plain on going after = λ q. absurd (going q)
 
 -- What is explained in some entry is so on a wake.
 explained_awake : (i : Input) (r : Reply) → is_explained i r ≡ true → is_explained Wake r ≡ true
@@ -535,7 +545,7 @@ causes_are_kept =
           let w : Step = with_input (Line text) x in
           let j : ℕ = next_job x.setting (seen x) in
           from_wake x (carry_decision j c d w) (Line text) (λ is. line_no_wake (Line text) text refl is) wake
-          (decision (Going (is_explained w.input) w) (Going (is_explained w.input) w) (MayAnswer (is_explained w.input) w) (MayCall w) (MayStart w) AnyMove (going (is_explained w.input) w) w j c d (line_may w j c d refl (open_unless_told w refl) (λ r. late_unless_told w r refl))
+          (decision (Going (is_explained w.input) w) (Going (is_explained w.input) w) (MayAnswer (is_explained w.input) w) (MayCall w) (MayStart w) AnyMove (going (is_explained w.input) w) w j c d (line_may w j c d k.0.0.setting.unpaired refl (open_unless_told w refl) (λ r. late_unless_told w r refl))
           (λ n a joins. (going (is_explained w.input) w).calls w (joining_session n j a) a.path (Joining j FirstRead) _ (ReadSectors 1) (λ q. absurd (open_unless_told w refl q)) (begins (is_explained w.input) w)) (begins (is_explained w.input) w)) k.1;
       joins_on = λ x s j step m answer hears is runs k. joined_on x s j step m answer k hears is runs;
       ends_joining = λ x s j step m answer hears is stops k.
@@ -568,7 +578,7 @@ causes_are_kept =
           let n : DeltaNext = next_renewal (delta_of_session x.setting s) x.reading (delta_known x.setting (seen x) s) (bits_due x.setting (calls_of (seen x) s) x.reading) in
           by_act x (carry_delta s n x) (no_line_awake x wake) (delta_done x s n (renewal_may x s (delta_of_session x.setting s) x.reading (delta_known x.setting (seen x) s) (bits_due x.setting (calls_of (seen x) s) x.reading) (open_awake x wake))) k.1;
       settles = λ x s at has wake active aligned none k.
-          let n : LeaseNext = settle_next (lease_place x.setting s) (known x.setting (seen x) s at) in
+          let n : LeaseNext = next_of_settling x.setting (seen x) s at in
           by_act x (carry_lease s at Settling n x) (no_line_awake x wake) (lease_done x s at Settling n (lease_may x x s at Settling n (open_awake x wake) (λ r is. refl) (λ gives i n own. absurd (none_some i own)) (λ i own. absurd (none_some i own)))) k.1;
       parts = λ x s has joined recovers free quiet k.
           let z : Step = remove_connection s.lockspace x in

@@ -30,7 +30,7 @@ use Rattle.sl_due_facts.specs.Facts.Whole.{WholeTrace}
 use Rattle.sl_due_leases.specs.Holdings.DecisionGrounds.{GiveUpGrounds, HasGrounds, Releases}
 use Rattle.sl_run.specs.Caused.{Answering, CausedBy, IsDoneFor, IsReleased, after_entry}
 use Rattle.sl_trace.specs.Jobs.{lockspace_named, resource_named}
-use Rattle.sl_trace.specs.Leases.{holdings_on, known, spot_of}
+use Rattle.sl_trace.specs.Leases.{holdings_on, spot_of}
 use Rattle.sl_plain.proofs.Lists.{find_inside, kept_inside}
 use Rattle.sl_trace.specs.Sessions.{holdings_of, is_joined, leaving_job, present_sessions, recovery_of, sessions}
 use Rattle.sl_trace.specs.declared.session.Session.{Session}
@@ -52,7 +52,7 @@ use Rattle.sl_words.proofs.CaseLaws.{false_is_true, one_value}
 use Rattle.sl_words.specs.Results.{◌>>=◌}
 use Rattle.std.proofs.Common.{ap, arith, inl, inr, refl, subst, sym, ◌∙◌}
 use Rattle.std.proofs.lemmas.Bool.{eqb-true}
-use Rattle.std.specs.Prelude.{Contains, Err, List, Ok, Result, Some, [], bytes_eq, filter, is_none, length, not, true, ℕ, ◌++◌, ◌==◌, ◌∷◌, ◌≡◌, ◌≤◌, ◌⊎◌}
+use Rattle.std.specs.Prelude.{Contains, Err, List, Ok, Result, Some, [], bytes_eq, false, filter, is_none, length, not, true, ℕ, ◌++◌, ◌==◌, ◌∷◌, ◌≡◌, ◌≤◌, ◌⊎◌}
 
 done_misread : (n : ℕ) → Misread n ≡ Done → ⊥
 done_misread n is = cc
@@ -73,22 +73,22 @@ granting_done s n (RunProgram r shared path) mode lver w y h = h
 granting_done s n c mode lver w y h = h
 
 -- All but what gives a holding up.
-others_done : (n : ℕ) (c : Command) (d : Decision) (w : Step) → ((s : Session) (g : Grant) → d ≡ GivesUp s g → ⊥) → Spares (Says Done) w (carry_decision n c d w)
+others_done : (n : ℕ) (c : Command) (d : Decision) (w : Step) → w.setting.layout.paired ≡ false → ((s : Session) (g : Grant) → d ≡ GivesUp s g → ⊥) → Spares (Says Done) w (carry_decision n c d w)
 unfolding carry_decision
-others_done n c (Replies r) w other = λ a there is. there
-others_done n c (Joins i l) w other = λ a there is. there
-others_done n c (Leaves s) w other = λ q there is. by q is (refusals n s w q there) where
+others_done n c (Replies r) w plain other = λ a there is. there
+others_done n c (Joins i l) w plain other = λ a there is. there
+others_done n c (Leaves s) w plain other = λ q there is. by q is (refusals n s w q there) where
   by : (q : JobReply) → q.reply ≡ Done → Contains w.effects.replies q ⊎ Refused (signal_holders Term s w) s q → Contains w.effects.replies q
   by q is (inl old) = old
   by q is (inr r) = absurd (done_stop _ (r.reply ∙ is))
-others_done n c (ReadsArea s r) w other = λ a there is. there
-others_done n c (Shares s lver) w other = granting_done s n c Shared lver w w (λ a there is. there)
-others_done n c (GivesUp s g) w other = absurd (other s g refl)
-others_done n c (TakesOver s g) w other = granting_done s n c g.mode g.lver w (add_end (end_of g) w) (λ a there is. there)
-others_done n c (ConvertsTo s r mode) w other = converting (Says Done) s (spot_of r) n mode r.name (known w.setting (seen w) s (spot_of r)) w
-others_done n c (Requests s r) w other = λ a there is. there
-others_done n c (SetsValue s at v) w other = λ a there is. there
-others_done n c (GetsValue s at) w other = λ a there is. there
+others_done n c (ReadsArea s r) w plain other = λ a there is. there
+others_done n c (Shares s lver) w plain other = granting_done s n c Shared lver w w (λ a there is. there)
+others_done n c (GivesUp s g) w plain other = absurd (other s g refl)
+others_done n c (TakesOver s g) w plain other = granting_done s n c g.mode g.lver w (add_end (end_of g) w) (λ a there is. there)
+others_done n c (ConvertsTo s r mode) w plain other = converting (Says Done) s (spot_of r) n mode r.name w plain
+others_done n c (Requests s r) w plain other = λ a there is. there
+others_done n c (SetsValue s at v) w plain other = λ a there is. there
+others_done n c (GetsValue s at) w plain other = λ a there is. there
 
 -- ---- in an entry that is due
 
@@ -152,6 +152,9 @@ done_at_lines st past e text a j w due_so line there done found = by (st.read te
     v : Step
     v = with_input (Line text) x
 
+    plain : v.setting.layout.paired ≡ false
+    plain = ap (λ (g : Setting). g.layout.paired) k.head.setting ∙ w.setting.unpaired
+
     not_before : Contains x.effects.replies a → ⊥
     not_before old = done_early a.reply done (k.head.replies a old)
 
@@ -177,7 +180,7 @@ done_at_lines st past e text a j w due_so line there done found = by (st.read te
     given : (s : Session) (g : Grant) → decided x.setting (seen x) x.reading c ≡ GivesUp s g → e.effects ≡ (finish (carry_decision n c (GivesUp s g) v)).effects → CausedBy y Done
     given s g is ended = beside all.remains where
       all : GivenUp n s g v (carry_decision n c (GivesUp s g) v)
-      all = given_up n c s g v
+      all = given_up n c s g v plain
 
       u : GiveUpGrounds x.setting (seen x) c s g
       u = subst (λ q. HasGrounds x.setting (seen x) c q) is (decisions_have_grounds x.setting (seen x) x.reading c)
@@ -245,7 +248,7 @@ done_at_lines st past e text a j w due_so line there done found = by (st.read te
       beside (None_remains none) = absurd (not_before (none Done a (inside_of (carry_decision n c (GivesUp s g) v) ended) done))
 
     others : (d : Decision) → ((s : Session) (g : Grant) → d ≡ GivesUp s g → ⊥) → e.effects ≡ (finish (carry_decision n c d v)).effects → CausedBy y Done
-    others d apart ended = absurd (not_before (others_done n c d v apart a (inside_of (carry_decision n c d v) ended) done))
+    others d apart ended = absurd (not_before (others_done n c d v plain apart a (inside_of (carry_decision n c d v) ended) done))
 
     decision : (d : Decision) → decided x.setting (seen x) x.reading c ≡ d → e.effects ≡ (finish (carry_decision n c d v)).effects → CausedBy y Done
     decision (GivesUp s g) is ended = given s g is ended

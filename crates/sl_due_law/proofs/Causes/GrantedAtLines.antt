@@ -21,7 +21,7 @@ use Rattle.sl_due_facts.proofs.Jobs.SessionsArePresent.{present_is}
 use Rattle.sl_run.specs.Caused.{Answering, CausedBy, GrantsTo, IsGrantedFor, before_entry, the_session}
 use Rattle.sl_trace.specs.Jobs.{lockspace_named}
 use Rattle.sl_trace.specs.Counts.{holds_already}
-use Rattle.sl_trace.specs.Leases.{holdings_on, known, orphan_on, spot_of}
+use Rattle.sl_trace.specs.Leases.{holdings_on, orphan_on, spot_of}
 use Rattle.sl_plain.proofs.Lists.{contains_first, find_inside}
 use Rattle.sl_trace.specs.Sessions.{is_joined, leaving_job, present_sessions, recovery_of, session_named, sessions}
 use Rattle.sl_trace.specs.declared.session.Session.{Session}
@@ -137,22 +137,22 @@ taken_caused y s r shared p persistent g k command orphan mode there =
     )
 
 -- All but what shares or takes over.
-others_grant : (m n : ℕ) (c : Command) (d : Decision) (w : Step) → ((s : Session) (lver : ℕ) → d ≡ Shares s lver → ⊥) → ((s : Session) (g : Grant) → d ≡ TakesOver s g → ⊥) → Spares (Says (Granted m)) w (carry_decision n c d w)
+others_grant : (m n : ℕ) (c : Command) (d : Decision) (w : Step) → w.setting.layout.paired ≡ false → ((s : Session) (lver : ℕ) → d ≡ Shares s lver → ⊥) → ((s : Session) (g : Grant) → d ≡ TakesOver s g → ⊥) → Spares (Says (Granted m)) w (carry_decision n c d w)
 unfolding carry_decision
-others_grant m n c (Replies r) w a b = λ a there is. there
-others_grant m n c (Joins i l) w a b = λ a there is. there
-others_grant m n c (Leaves s) w a b = λ q there is. by q is (refusals n s w q there) where
+others_grant m n c (Replies r) w plain a b = λ a there is. there
+others_grant m n c (Joins i l) w plain a b = λ a there is. there
+others_grant m n c (Leaves s) w plain a b = λ q there is. by q is (refusals n s w q there) where
   by : (q : JobReply) → q.reply ≡ Granted m → Contains w.effects.replies q ⊎ Refused (signal_holders Term s w) s q → Contains w.effects.replies q
   by q is (inl old) = old
   by q is (inr r) = absurd (granted_stop _ m (r.reply ∙ is))
-others_grant m n c (ReadsArea s r) w a b = λ a there is. there
-others_grant m n c (Shares s lver) w a b = absurd (a s lver refl)
-others_grant m n c (GivesUp s g) w a b = ending (Granted m) s (spot_of_grant g) n g w (add_end (end_of g) w) (granted_done m) (λ a there is. there)
-others_grant m n c (TakesOver s g) w a b = absurd (b s g refl)
-others_grant m n c (ConvertsTo s r mode) w a b = converting (Says (Granted m)) s (spot_of r) n mode r.name (known w.setting (seen w) s (spot_of r)) w
-others_grant m n c (Requests s r) w a b = λ a there is. there
-others_grant m n c (SetsValue s at v) w a b = λ a there is. there
-others_grant m n c (GetsValue s at) w a b = λ a there is. there
+others_grant m n c (ReadsArea s r) w plain a b = λ a there is. there
+others_grant m n c (Shares s lver) w plain a b = absurd (a s lver refl)
+others_grant m n c (GivesUp s g) w plain a b = ending (Granted m) s (spot_of_grant g) n g w (add_end (end_of g) w) plain (granted_done m) (λ a there is. there)
+others_grant m n c (TakesOver s g) w plain a b = absurd (b s g refl)
+others_grant m n c (ConvertsTo s r mode) w plain a b = converting (Says (Granted m)) s (spot_of r) n mode r.name w plain
+others_grant m n c (Requests s r) w plain a b = λ a there is. there
+others_grant m n c (SetsValue s at v) w plain a b = λ a there is. there
+others_grant m n c (GetsValue s at) w plain a b = λ a there is. there
 
 shares_is : (n : ℕ) (c : Command) (s : Session) (lver : ℕ) (w : Step) → carry_decision n c (Shares s lver) w ≡ grant_for s n c Shared lver w
 unfolding carry_decision
@@ -261,7 +261,7 @@ granted_at_lines st past e text a m j w due_so line there grants found = by (st.
       v = with_input (Line text) x
 
       others : ((s : Session) (lver : ℕ) → d ≡ Shares s lver → ⊥) → ((s : Session) (g : Grant) → d ≡ TakesOver s g → ⊥) → CausedBy y (Granted m)
-      others share take = absurd (not_before (others_grant m n c d v share take a (inside_of (carry_decision n c d v) (is_of None is)) grants))
+      others share take = absurd (not_before (others_grant m n c d v (ap (λ (g : Setting). g.layout.paired) h.setting ∙ w.setting.unpaired) share take a (inside_of (carry_decision n c d v) (is_of None is)) grants))
 
       ended : (q : Decision) → d ≡ q → (b : Command) → c ≡ b → e.effects ≡ (finish (carry_decision n b q v)).effects
       ended q so b is_b = is_of None is ∙ (ap (λ k. (finish (carry_decision n c k v)).effects) so ∙ ap (λ k. (finish (carry_decision n k q v)).effects) is_b)

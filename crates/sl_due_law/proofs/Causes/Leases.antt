@@ -1,7 +1,10 @@
+pub mod NewestWays
+pub mod GivenBlocks
 pub mod Hearing
 pub mod Limits
 pub mod AreaCauses
 pub mod PhaseCauses
 pub mod LeaseAnswers
 pub mod GrantCauses
+pub mod ReadNexts
 pub mod LeaseDone

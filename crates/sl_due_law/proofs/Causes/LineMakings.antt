@@ -18,7 +18,7 @@ use Rattle.sl_due_law.specs.Causes.Makings.{By_line, FromJob, GivenTo, MadeFor, 
 use Rattle.sl_due_leases.specs.Holdings.DecisionGrounds.{HasGrounds}
 use Rattle.sl_trace.specs.Counts.{next_value_seq}
 use Rattle.sl_trace.specs.Jobs.{process_named, wants_shared}
-use Rattle.sl_trace.specs.LeaseWork.{LeasePlace, convert_next, lease_place, release_next}
+use Rattle.sl_trace.specs.LeaseWork.{LeasePlace, convert_next, lease_place, refuses, refuses_block, release_next, within_turn}
 use Rattle.sl_trace.specs.Leases.{LeaseKnown, holdings_on, known, spot_of}
 use Rattle.sl_trace.specs.declared.lease.LeaseNext.{LeaseNext}
 use Rattle.sl_trace.specs.declared.lease.LeaseNext.TheVariants.{AnswerJob, BecomeExclusive, BecomeShared, GrantJob, Nothing as No_lease, ReadFor, WriteBlock, WriteLeader}
@@ -34,7 +34,7 @@ use Rattle.sl_trace.specs.declared.effects.Call.{Call}
 use Rattle.sl_trace.specs.declared.effects.Grant.{Grant}
 use Rattle.sl_trace.specs.declared.effects.JoinStep.TheVariants.{FirstRead}
 use Rattle.sl_trace.specs.declared.effects.LeaseStep.{LeaseStep}
-use Rattle.sl_trace.specs.declared.effects.LeaseStep.TheVariants.{ClearMode, FreeLeader, Phase1Read, Phase1Write, Phase2Read, Phase2Write, ReadArea, ReadBeforeFree, SetMode, TakeLeader}
+use Rattle.sl_trace.specs.declared.effects.LeaseStep.TheVariants.{ClearMode, FreeLeader, Phase1Read, Phase1Write, Phase2Read, Phase2Write, ReadAgain, ReadArea, ReadBeforeBlock, ReadBeforeFree, SetMode, TakeLeader}
 use Rattle.sl_trace.specs.declared.effects.Mode.{Mode}
 use Rattle.sl_trace.specs.declared.effects.Mode.TheVariants.{Exclusive, Shared}
 use Rattle.sl_trace.specs.declared.effects.Op.{Op}
@@ -51,6 +51,11 @@ use Rattle.sl_trace.specs.declared.reply.Reply.TheVariants.{Done, Limit as Limit
 use Rattle.sl_words.proofs.CaseLaws.{none_some, some_value}
 use Rattle.sl_words.specs.Bounds.{is_number}
 use Rattle.sl_words.specs.Words.{choose}
+use Rattle.sl_acts.specs.Acts.{next_of_conversion, next_of_release}
+use Rattle.sl_due_law.proofs.Causes.Leases.ReadNexts.{within_by}
+use Rattle.sl_trace.specs.declared.lease.Aim.TheVariants.{Acquires, Converts, Releases, Settles}
+use Rattle.sl_trace.specs.declared.lease.Aim.{Aim}
+use Rattle.sl_trace.specs.declared.effects.LeaseRead.TheVariants.{OfArea, OfBlock, OfFree, OfPhase1, OfPhase2}
 use Rattle.std.proofs.Common.{ap, arith, inl, inr, refl, subst, sym, ◌∙◌}
 use Rattle.std.proofs.lemmas.List.{length-append, length-map}
 use Rattle.std.specs.Option.{option_map_or}
@@ -96,6 +101,12 @@ GivesNothing n = Unit {0}
 reads_made : (w : Step) (s : Session) (at : Spot) (j : ℕ) (step : LeaseStep) → Fresh w → FromJob w.setting w.past w.input j → MadeSoFar (read_for s at (ForJob j) step w)
 reads_made w s at j (ReadArea name) f from = one_call w s.number at.path (Lease (ForJob j) (ReadArea name)) _ _ f (from, f.ungranted)
 reads_made w s at j ReadBeforeFree f from = one_call w s.number at.path (Lease (ForJob j) ReadBeforeFree) _ _ f (from, f.ungranted)
+reads_made w s at j ReadBeforeBlock f from = one_call w s.number at.path (Lease (ForJob j) ReadBeforeBlock) _ _ f (from, f.ungranted)
+reads_made w s at j (ReadAgain (OfArea name)) f from = one_call w s.number at.path (Lease (ForJob j) (ReadAgain (OfArea name))) _ _ f (from, f.ungranted)
+reads_made w s at j (ReadAgain OfFree) f from = one_call w s.number at.path (Lease (ForJob j) (ReadAgain OfFree)) _ _ f (from, f.ungranted)
+reads_made w s at j (ReadAgain OfBlock) f from = one_call w s.number at.path (Lease (ForJob j) (ReadAgain OfBlock)) _ _ f (from, f.ungranted)
+reads_made w s at j (ReadAgain OfPhase1) f from = one_call w s.number at.path (Lease (ForJob j) (ReadAgain OfPhase1)) _ _ f (from, f.ungranted)
+reads_made w s at j (ReadAgain OfPhase2) f from = one_call w s.number at.path (Lease (ForJob j) (ReadAgain OfPhase2)) _ _ f (from, f.ungranted)
 reads_made w s at j Phase1Write f from = one_call w s.number at.path (Lease (ForJob j) Phase1Write) _ _ f (from, f.ungranted)
 reads_made w s at j Phase1Read f from = one_call w s.number at.path (Lease (ForJob j) Phase1Read) _ _ f (from, f.ungranted)
 reads_made w s at j Phase2Write f from = one_call w s.number at.path (Lease (ForJob j) Phase2Write) _ _ f (from, f.ungranted)
@@ -211,6 +222,26 @@ convert_gives : (k : LeaseKnown) (mode : Mode) (name : List ℕ) → GivesNothin
 convert_gives k Exclusive name = tt
 convert_gives k Shared name = mapped_or GivesNothing _ k.own No_lease (λ b. tt) tt
 
+-- Nor does a refusal by the limit of turns.
+refused_gives : (aim : Aim) (r : Reply) → GivesNothing (refuses aim r)
+refused_gives (Acquires mode) r = tt
+refused_gives (Converts mode) r = tt
+refused_gives Releases r = tt
+refused_gives Settles r = tt
+
+block_gives : (aim : Aim) (n : LeaseNext) → GivesNothing n → GivesNothing (refuses_block aim n)
+block_gives aim No_lease h = h
+block_gives aim (ReadFor step) h = h
+block_gives aim (WriteBlock step b) h = refused_gives aim _
+block_gives aim (WriteLeader step l) h = h
+block_gives aim (AnswerJob r) h = h
+block_gives aim (GrantJob mode lver) h = h
+block_gives aim (BecomeShared lver l) h = h
+block_gives aim (BecomeExclusive lver b) h = absurd h
+
+within_gives : (p : LeasePlace) (k : LeaseKnown) (aim : Aim) (n : LeaseNext) → GivesNothing n → GivesNothing (within_turn p k aim n)
+within_gives p k aim n h = within_by GivesNothing p k aim n h (block_gives aim n h)
+
 -- The value is what the command brought.
 abbrev SetsBytes : List ℕ → Decision → Type 0
 SetsBytes bytes (SetsValue s at v) = v.bytes ≡ bytes
@@ -278,11 +309,12 @@ line_made x text c d h = by d h.is h.more (subst (λ e. HasGrounds x.setting (se
   ended g = record { bare = h.fresh.bare; ungranted = h.fresh.ungranted; jobless = h.fresh.jobless }
 
   released : (z : Step) (s : Session) (g : Grant) (hs : List Grant) → Fresh z → FromJob z.setting z.past z.input j
-      → MadeSoFar (elim hs as (λ v. Step) [ e ∷ es ↦ add_reply j Done z | [] ↦ carry_lease s (spot_of_grant g) (ForJob j) (release_next (lease_place z.setting s) (known z.setting (seen z) s (spot_of_grant g)) g.mode g.lver) z ])
+      → MadeSoFar (elim hs as (λ v. Step) [ e ∷ es ↦ add_reply j Done z | [] ↦ carry_lease s (spot_of_grant g) (ForJob j) (next_of_release z.setting (seen z) s (spot_of_grant g) g) z ])
   released z s g (e ∷ es) f begun = fresh_made (add_reply j Done z) (record { bare = f.bare; ungranted = f.ungranted; jobless = f.jobless })
   released z s g [] f begun =
-      lease_made z s (spot_of_grant g) j (release_next (lease_place z.setting s) (known z.setting (seen z) s (spot_of_grant g)) g.mode g.lver) f begun
-      (release_gives (lease_place z.setting s) (known z.setting (seen z) s (spot_of_grant g)) g.mode g.lver)
+      lease_made z s (spot_of_grant g) j (next_of_release z.setting (seen z) s (spot_of_grant g) g) f begun
+      (within_gives (lease_place z.setting s) (known z.setting (seen z) s (spot_of_grant g)) Releases _
+      (release_gives (lease_place z.setting s) (known z.setting (seen z) s (spot_of_grant g)) g.mode g.lver))
 
   no_program : {r q : ResourceArg} {shared kind persistent : Bool} {p : ℕ} {path : List ℕ} → TakeOver r shared p persistent ≡ RunProgram q kind path → ⊥
   no_program is = cc
@@ -299,7 +331,9 @@ line_made x text c d h = by d h.is h.more (subst (λ e. HasGrounds x.setting (se
   by (GivesUp s g) is more u = released (add_end (end_of g) w) s g (holdings_on (seen (add_end (end_of g) w)) s (spot_of_grant g)) (ended g) from
   by (TakesOver s g) is more u =
       grant_made (add_end (end_of g) w) s j c g.mode g.lver (ended g) (record { from = from; told = h.told; starts = λ r shared path its. absurd (no_program (sym u.command ∙ its)) })
-  by (ConvertsTo s r mode) is more u = lease_made w s (spot_of r) j (convert_next (known w.setting (seen w) s (spot_of r)) mode r.name) fresh from (convert_gives (known w.setting (seen w) s (spot_of r)) mode r.name)
+  by (ConvertsTo s r mode) is more u =
+      lease_made w s (spot_of r) j (next_of_conversion w.setting (seen w) s (spot_of r) mode r.name) fresh from
+      (within_gives (lease_place w.setting s) (known w.setting (seen w) s (spot_of r)) (Converts mode) _ (convert_gives (known w.setting (seen w) s (spot_of r)) mode r.name))
   by (Requests s r) is more u = one_call w s.number r.path (RequestRead j) r.offset (ReadSectors 2) fresh tt
   by (SetsValue s at v) is more u =
       one_call w s.number at.path (ValueWrite j) _ (WriteRecord (ValueIs v)) fresh (record {

@@ -1,6 +1,6 @@
 -- What a step makes for a job is kept by each act, and so is that each session which a job began has looked at its sector.
 use Rattle.sl_acts.proofs.LoopsKeep.{for_each_keeps, when_keeps}
-use Rattle.sl_acts.specs.Acts.{Acts, Hears}
+use Rattle.sl_acts.specs.Acts.{Acts, Hears, next_of_settling}
 use Rattle.sl_due.specs.DueAnswers.{set_reply}
 use Rattle.sl_due.specs.DueCommands.{answer_line, decided, reply_at_once}
 use Rattle.sl_due.specs.DueDelta.{carry_delta, see_request}
@@ -23,8 +23,7 @@ use Rattle.sl_due_law.specs.Causes.CauseFacts.{CauseFacts}
 use Rattle.sl_due_law.specs.Causes.Makings.{GivenTo, MadeFor, MadeSoFar, StartedFor}
 use Rattle.sl_due_law.specs.Whole.Kept.{Kept}
 use Rattle.sl_trace.specs.Jobs.{aim_of, job_of_start}
-use Rattle.sl_trace.specs.LeaseWork.{lease_place, settle_next}
-use Rattle.sl_trace.specs.Leases.{known, spot_of_call}
+use Rattle.sl_trace.specs.Leases.{spot_of_call}
 use Rattle.sl_trace.specs.declared.lease.Aim.{Aim}
 use Rattle.sl_trace.specs.declared.lease.LeaseNext.{LeaseNext}
 use Rattle.sl_plain.proofs.Lists.{contains_none}
@@ -195,7 +194,7 @@ makings_are_kept =
       joins_in_time = λ x s j has wake is runs k. delta_made x s (next_on_wake (delta_of_session x.setting s) x.reading (calls_of (seen x) s)) k;
       renews = λ x s has wake joined k.
           delta_made x s (next_renewal (delta_of_session x.setting s) x.reading (delta_known x.setting (seen x) s) (bits_due x.setting (calls_of (seen x) s) x.reading)) k;
-      settles = λ x s at has wake active aligned none k. settled_made x s at (settle_next (lease_place x.setting s) (known x.setting (seen x) s at)) k;
+      settles = λ x s at has wake active aligned none k. settled_made x s at (next_of_settling x.setting (seen x) s at) k;
       parts = λ x s has joined recovers free quiet k.
           on_plainly x (remove_connection s.lockspace x) k (removal (Adds x) (Adds x) Anything PlainCall NoStart AnyMove (adds x) x s.lockspace tt (adds_nothing x)) (removal_alike x x s.lockspace (same x)).grants;
       frees = λ x s has joined well free quiet k. delta_made x s (next_free (delta_of_session x.setting s) x.reading (delta_known x.setting (seen x) s)) k;

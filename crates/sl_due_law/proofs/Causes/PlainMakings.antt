@@ -18,7 +18,7 @@ use Rattle.sl_trace.specs.Traces.{Setting, Trace, next_call}
 use Rattle.sl_trace.specs.declared.effects.Call.{Call}
 use Rattle.sl_trace.specs.declared.effects.Grant.{Grant}
 use Rattle.sl_trace.specs.declared.effects.LeaseStep.{LeaseStep}
-use Rattle.sl_trace.specs.declared.effects.LeaseStep.TheVariants.{ClearMode, FreeLeader, Phase1Read, Phase1Write, Phase2Read, Phase2Write, ReadArea, ReadBeforeFree, SetMode, TakeLeader}
+use Rattle.sl_trace.specs.declared.effects.LeaseStep.TheVariants.{ClearMode, FreeLeader, Phase1Read, Phase1Write, Phase2Read, Phase2Write, ReadAgain, ReadArea, ReadBeforeBlock, ReadBeforeFree, SetMode, TakeLeader}
 use Rattle.sl_trace.specs.declared.effects.Op.{Op}
 use Rattle.sl_trace.specs.declared.effects.Purpose.{Purpose}
 use Rattle.sl_trace.specs.declared.effects.Purpose.TheVariants.{Joining, Lease, Leaving, Renewal, RequestRead, RequestWrite, SeeRequest, Survey, ValueRead, ValueWrite}
@@ -28,6 +28,7 @@ use Rattle.sl_trace.specs.declared.effects.Work.TheVariants.{ForJob, Settling}
 use Rattle.sl_trace.specs.declared.input.Input.{Input}
 use Rattle.sl_trace.specs.declared.input.Input.TheVariants.{Wake}
 use Rattle.sl_words.proofs.CaseLaws.{none_some, true_is_false}
+use Rattle.sl_trace.specs.declared.effects.LeaseRead.TheVariants.{OfArea, OfBlock, OfFree, OfPhase1, OfPhase2}
 use Rattle.std.proofs.Common.{ap, inl, inr, refl, subst, sym, ◌∙◌}
 use Rattle.std.specs.Prelude.{Bool, Contains, List, None, Option, Some, [], false, true, ℕ, ◌≡◌, ◌⊎◌}
 
@@ -63,6 +64,12 @@ delta_plain y s (EndLeaving j r) = (tt, tt)
 settling_reads : (y : Step) (s : Session) (at : Spot) (step : LeaseStep) → ReadAllowed PlainCall y s at Settling step
 settling_reads y s at (ReadArea name) = refl
 settling_reads y s at ReadBeforeFree = refl
+settling_reads y s at ReadBeforeBlock = refl
+settling_reads y s at (ReadAgain (OfArea name)) = refl
+settling_reads y s at (ReadAgain OfFree) = refl
+settling_reads y s at (ReadAgain OfBlock) = refl
+settling_reads y s at (ReadAgain OfPhase1) = refl
+settling_reads y s at (ReadAgain OfPhase2) = refl
 settling_reads y s at Phase1Write = refl
 settling_reads y s at Phase1Read = refl
 settling_reads y s at Phase2Write = refl
@@ -80,7 +87,7 @@ settling_plain y s at (WriteLeader step l) = refl
 settling_plain y s at (AnswerJob r) = λ j is. tt
 settling_plain y s at (GrantJob mode lver) = λ j c is reads. absurd (none_some j is)
 settling_plain y s at (BecomeShared lver l) = ((λ j is. tt), refl)
-settling_plain y s at (BecomeExclusive lver b) = ((λ j is. tt), λ g. refl)
+settling_plain y s at (BecomeExclusive lver b) = ((λ j is. tt), λ z same. refl)
 
 -- ---- what an act adds
 

@@ -45,6 +45,8 @@ use Rattle.sl_trace.specs.declared.reply.Reply.{Reply}
 use Rattle.sl_trace.specs.declared.reply.Reply.TheVariants.{Done, NoOrphan, NotHeld}
 use Rattle.sl_words.proofs.CaseLaws.{false_is_true, none_some, not_both, true_is_false}
 use Rattle.sl_words.specs.Words.{choose}
+use Rattle.sl_acts.specs.Acts.{next_of_release}
+use Rattle.sl_due_facts.proofs.Jobs.PlainNexts.{release_plain}
 use Rattle.std.proofs.Common.{ap, inl, inr, refl, subst, sym, ◌∙◌}
 use Rattle.std.proofs.lemmas.Bool.{eqb-true}
 use Rattle.std.specs.List.{list_any}
@@ -137,20 +139,23 @@ pub record GivenUp (n : ℕ) (s : Session) (g : Grant) (w z : Step) : Type 0 whe
   pub grants : z.effects.grants ≡ w.effects.grants
   pub remains : Remains n s g w z
 
-pub given_up : (n : ℕ) (c : Command) (s : Session) (g : Grant) (w : Step) → GivenUp n s g w (carry_decision n c (GivesUp s g) w)
+pub given_up : (n : ℕ) (c : Command) (s : Session) (g : Grant) (w : Step) → w.setting.layout.paired ≡ false → GivenUp n s g w (carry_decision n c (GivesUp s g) w)
 unfolding carry_decision after_end
-given_up n c s g w = by (holdings_on (seen y) s (spot_of_grant g)) refl where
+given_up n c s g w plain = by (holdings_on (seen y) s (spot_of_grant g)) refl where
   y : Step
   y = add_end (end_of g) w
 
+  next : next_of_release y.setting (seen y) s (spot_of_grant g) g ≡ release_next (lease_place y.setting s) (known y.setting (seen y) s (spot_of_grant g)) g.mode g.lver
+  next = release_plain y.setting (seen y) s (spot_of_grant g) g plain
+
   by : (hs : List Grant) → holdings_on (seen y) s (spot_of_grant g) ≡ hs
-      → GivenUp n s g w (elim hs as (λ z. Step) [ k ∷ ks ↦ add_reply n Done y | [] ↦ carry_lease s (spot_of_grant g) (ForJob n) (release_next (lease_place y.setting s) (known y.setting (seen y) s (spot_of_grant g)) g.mode g.lver) y ])
+      → GivenUp n s g w (elim hs as (λ z. Step) [ k ∷ ks ↦ add_reply n Done y | [] ↦ carry_lease s (spot_of_grant g) (ForJob n) (next_of_release y.setting (seen y) s (spot_of_grant g) g) y ])
   by (k ∷ ks) is = record { ends = refl; grants = refl; remains = Others_remain k ks is refl }
   by [] is =
       record {
-        ends = lease_ends s (spot_of_grant g) n g.mode g.lver (lease_place y.setting s) (known y.setting (seen y) s (spot_of_grant g)) y;
-        grants = lease_grants s (spot_of_grant g) n g.mode g.lver (lease_place y.setting s) (known y.setting (seen y) s (spot_of_grant g)) y;
-        remains = None_remains (λ q. releasing q s (spot_of_grant g) n g.mode g.lver (lease_place y.setting s) (known y.setting (seen y) s (spot_of_grant g)) w y (λ a there is. there));
+        ends = ap (λ z. (carry_lease s (spot_of_grant g) (ForJob n) z y).effects.ends) next ∙ lease_ends s (spot_of_grant g) n g.mode g.lver (lease_place y.setting s) (known y.setting (seen y) s (spot_of_grant g)) y;
+        grants = ap (λ z. (carry_lease s (spot_of_grant g) (ForJob n) z y).effects.grants) next ∙ lease_grants s (spot_of_grant g) n g.mode g.lver (lease_place y.setting s) (known y.setting (seen y) s (spot_of_grant g)) y;
+        remains = None_remains (λ q. releasing q s (spot_of_grant g) n g w y plain (λ a there is. there));
       }
 
 -- ---- what a release that runs has ended
@@ -183,7 +188,7 @@ release_ends st past e text c j w due_so line says runs at = giving (is_giving c
     place = (kept_inside (λ (h : Grant). same_place h.path h.offset u.resource.path u.resource.offset) (holdings_of (seen x) s) g u.held).1
 
     ends : e.effects.ends ≡ x.effects.ends ++ end_of g ∷ []
-    ends = ap (λ (f : Effects). f.ends) done ∙ ((last_is_silent (carry_decision n c (GivesUp s g) (with_input (Line text) x))).ends ∙ (given_up n c s g (with_input (Line text) x)).ends)
+    ends = ap (λ (f : Effects). f.ends) done ∙ ((last_is_silent (carry_decision n c (GivesUp s g) (with_input (Line text) x))).ends ∙ (given_up n c s g (with_input (Line text) x) (ap (λ (q : Setting). q.layout.paired) k.head.setting ∙ w.setting.unpaired)).ends)
 
     of : (p : ℕ) → g.process ≡ p → HasEnded (e ∷ past) j u.resource p
     of p its = (e, at, ap (λ es. ends_for u.resource p es) ends ∙ ends_it u.resource g p x.effects.ends its place)

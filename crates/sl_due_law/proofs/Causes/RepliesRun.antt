@@ -1,7 +1,7 @@
 -- Each reply is of a job that a line has brought and that ran until then; so no two of a step are of one job.
 use Rattle.sl_acts.proofs.LoopsKeep.{each_in_turn, for_each_keeps, when_keeps, with_some_keeps}
 use Rattle.sl_acts.proofs.ActsTogether.{from_more}
-use Rattle.sl_acts.specs.Acts.{Acts, Has, Hears}
+use Rattle.sl_acts.specs.Acts.{Acts, Has, Hears, next_of_conversion, next_of_release, next_of_settling}
 use Rattle.sl_due_law.proofs.Causes.PlainCauses.{lone_of}
 use Rattle.sl_due_law.specs.Causes.CausedSoFar.{RepliedSoFar}
 use Rattle.sl_due_law.specs.Causes.Promises.{RepliesRun, RepliesRunBegin}
@@ -26,8 +26,7 @@ use Rattle.sl_due_facts.proofs.Jobs.JobsAreNumbered.{below, next_is_new, numbere
 use Rattle.sl_due_facts.proofs.Jobs.LinesAreAllowed.{new_numbered}
 use Rattle.sl_due_facts.proofs.Jobs.RepliesComeAfter.{IsLateDelta, joining_late, wake_late}
 use Rattle.sl_trace.specs.Jobs.{command_numbered, is_command_that, is_job_of_process, job_of_start, jobs_of_session, lockspace_named, process_named}
-use Rattle.sl_trace.specs.LeaseWork.{convert_next, lease_place, release_next, settle_next}
-use Rattle.sl_trace.specs.Leases.{holdings_on, known, spot_of, spot_of_call}
+use Rattle.sl_trace.specs.Leases.{holdings_on, spot_of, spot_of_call}
 use Rattle.sl_trace.specs.declared.lease.LeaseNext.TheVariants.{AnswerJob, BecomeExclusive, BecomeShared, GrantJob, Nothing as No_lease, ReadFor, WriteBlock, WriteLeader}
 use Rattle.sl_trace.specs.declared.lease.LeaseNext.{LeaseNext}
 use Rattle.sl_plain.proofs.Lists.{contains_first, contains_more, contains_none, find_fails, find_inside, got_index, got_inside, kept_inside, there_is}
@@ -47,7 +46,7 @@ use Rattle.sl_trace.specs.declared.command.Command.{Command}
 use Rattle.sl_trace.specs.declared.effects.Entry.{Entry}
 use Rattle.sl_trace.specs.declared.effects.Grant.{Grant}
 use Rattle.sl_trace.specs.declared.effects.JobReply.{JobReply}
-use Rattle.sl_trace.specs.declared.effects.LeaseStep.TheVariants.{ReadArea, ReadBeforeFree}
+use Rattle.sl_trace.specs.declared.effects.LeaseStep.TheVariants.{ReadAgain, ReadArea, ReadBeforeFree}
 use Rattle.sl_trace.specs.declared.effects.LeaseStep.{LeaseStep}
 use Rattle.sl_trace.specs.declared.effects.Mode.TheVariants.{Exclusive, Shared}
 use Rattle.sl_trace.specs.declared.effects.Mode.{Mode}
@@ -72,6 +71,7 @@ use Rattle.sl_words.specs.Words.{some_is}
 use Rattle.sl_sector.specs.Bitmaps.{no_bits}
 use Rattle.sl_sector.specs.declared.sector.DeltaRec.{DeltaRec}
 use Rattle.sl_sector.specs.declared.sector.DeltaState.TheVariants.{Free, Live}
+use Rattle.sl_trace.specs.declared.effects.LeaseRead.TheVariants.{OfArea, OfBlock, OfFree, OfPhase1, OfPhase2}
 use Rattle.std.proofs.lemmas.Bool.{eqb-true}
 use Rattle.std.proofs.Common.{ap, arith, inl, inr, refl, subst, sym, ◌∙◌}
 use Rattle.std.proofs.lemmas.List.Kept.{AllPairs-filter}
@@ -224,6 +224,11 @@ converted_one x s at work mode lver may h =
 silent_reads : (x : Step) (s : Session) (at : Spot) (work : Work) (step : LeaseStep) → ReadAllowed AnyCall x s at work step
 silent_reads x s at work (ReadArea name) = tt
 silent_reads x s at work ReadBeforeFree = tt
+silent_reads x s at work (ReadAgain (OfArea name)) = tt
+silent_reads x s at work (ReadAgain OfFree) = tt
+silent_reads x s at work (ReadAgain OfBlock) = tt
+silent_reads x s at work (ReadAgain OfPhase1) = tt
+silent_reads x s at work (ReadAgain OfPhase2) = tt
 silent_reads x s at work step = tt
 
 lease_one : (x : Step) (s : Session) (at : Spot) (work : Work) (n : LeaseNext) → ((j : ℕ) → work_job work ≡ Some j → MayBe x j) → RepliedSoFar x → RepliedSoFar (carry_lease s at work n x)
@@ -362,10 +367,10 @@ given_up y j s g may h = by (holdings_on (seen y) s (spot_of_grant g)) where
   by : (hs : List Grant)
       → RepliedSoFar (elim hs as (λ v. Step) [
         | e ∷ es ↦ add_reply j Done y
-        | [] ↦ carry_lease s (spot_of_grant g) (ForJob j) (release_next (lease_place y.setting s) (known y.setting (seen y) s (spot_of_grant g)) g.mode g.lver) y
+        | [] ↦ carry_lease s (spot_of_grant g) (ForJob j) (next_of_release y.setting (seen y) s (spot_of_grant g) g) y
       ])
   by (e ∷ es) = one_more y j Done may h
-  by [] = lease_one y s (spot_of_grant g) (ForJob j) (release_next (lease_place y.setting s) (known y.setting (seen y) s (spot_of_grant g)) g.mode g.lver) (for_own y j may) h
+  by [] = lease_one y s (spot_of_grant g) (ForJob j) (next_of_release y.setting (seen y) s (spot_of_grant g) g) (for_own y j may) h
 
 decided_one : (y : Step) (j : ℕ) (c : Command) (d : Decision) → MayBe y j → RepliedSoFar y → RepliedSoFar (carry_decision j c d y)
 unfolding carry_decision
@@ -376,7 +381,7 @@ decided_one y j c (ReadsArea s r) may h = record { running = h.running; once = h
 decided_one y j c (Shares s lver) may h = granted_one y s j c Shared lver may h
 decided_one y j c (GivesUp s g) may h = given_up (add_end (end_of g) y) j s g (record { runs = may.runs; numbered = may.numbered }) (record { running = h.running; once = h.once })
 decided_one y j c (TakesOver s g) may h = granted_one (add_end (end_of g) y) s j c g.mode g.lver (record { runs = may.runs; numbered = may.numbered }) (record { running = h.running; once = h.once })
-decided_one y j c (ConvertsTo s r mode) may h = lease_one y s (spot_of r) (ForJob j) (convert_next (known y.setting (seen y) s (spot_of r)) mode r.name) (for_own y j may) h
+decided_one y j c (ConvertsTo s r mode) may h = lease_one y s (spot_of r) (ForJob j) (next_of_conversion y.setting (seen y) s (spot_of r) mode r.name) (for_own y j may) h
 decided_one y j c (Requests s r) may h = record { running = h.running; once = h.once }
 decided_one y j c (SetsValue s at v) may h = record { running = h.running; once = h.once }
 decided_one y j c (GetsValue s at) may h = record { running = h.running; once = h.once }
@@ -531,7 +536,7 @@ every_act =
           (wake_late (delta_of_session x.setting s) x.reading (calls_of (seen x) s)) k.1;
       renews = λ x s has wake joined k. renewal_one x s k.1;
       settles = λ x s at has wake active aligned none k.
-          lease_one x s at Settling (settle_next (lease_place x.setting s) (known x.setting (seen x) s at)) (λ j is. absurd (none_some j is)) k.1;
+          lease_one x s at Settling (next_of_settling x.setting (seen x) s at) (λ j is. absurd (none_some j is)) k.1;
       parts = λ x s has joined recovers free quiet k. removal RepliedSoFar RepliedSoFar NoReply AnyCall AnyStart AnyMove silent x s.lockspace tt k.1;
       frees = λ x s has joined well free quiet k. free_one x s k.1;
     }

@@ -1,6 +1,6 @@
 -- Before the input and on a wake no job is answered ok.
 use Rattle.sl_acts.proofs.Additions.{contains_last}
-use Rattle.sl_acts.specs.Acts.{Acts}
+use Rattle.sl_acts.specs.Acts.{Acts, next_of_settling}
 use Rattle.sl_due.specs.DueCommands.{carry_decision}
 use Rattle.sl_due.specs.DueFirst.{begin_recoveries}
 use Rattle.sl_due.specs.DueInputs.{end_holdings, leave_holdings, refuse_jobs_of, started_reply, when_running}
@@ -14,8 +14,6 @@ use Rattle.sl_due_facts.proofs.Jobs.NearlyPlainActs.{AnyMove, AnyStart, Anything
 use Rattle.sl_due_facts.proofs.Jobs.RepliesComeAfter.{on_bool, on_option}
 use Rattle.sl_due_facts.specs.Jobs.Promises.{BeginsWith}
 use Rattle.sl_trace.specs.Jobs.{job_of_start}
-use Rattle.sl_trace.specs.LeaseWork.{lease_place, settle_next}
-use Rattle.sl_trace.specs.Leases.{known}
 use Rattle.sl_trace.specs.declared.lease.LeaseNext.{LeaseNext}
 use Rattle.sl_trace.specs.declared.lease.LeaseNext.TheVariants.{AnswerJob, BecomeExclusive, BecomeShared, GrantJob, Nothing as No_lease, ReadFor, WriteBlock, WriteLeader}
 use Rattle.sl_due_law.proofs.Recovery.StopsBegin.{IsDenial, Says, begun_says}
@@ -36,7 +34,7 @@ use Rattle.sl_trace.specs.declared.effects.JobReply.{JobReply}
 use Rattle.sl_trace.specs.declared.effects.JoinStep.{JoinStep}
 use Rattle.sl_trace.specs.declared.effects.JoinStep.TheVariants.{ClaimWrite, DecidingRead, FirstRead, FirstRenewal, VerifyRead, WatchRead}
 use Rattle.sl_trace.specs.declared.effects.LeaseStep.{LeaseStep}
-use Rattle.sl_trace.specs.declared.effects.LeaseStep.TheVariants.{ClearMode, FreeLeader, Phase1Read, Phase1Write, Phase2Read, Phase2Write, ReadArea, ReadBeforeFree, SetMode, TakeLeader}
+use Rattle.sl_trace.specs.declared.effects.LeaseStep.TheVariants.{ClearMode, FreeLeader, Phase1Read, Phase1Write, Phase2Read, Phase2Write, ReadAgain, ReadArea, ReadBeforeBlock, ReadBeforeFree, SetMode, TakeLeader}
 use Rattle.sl_trace.specs.declared.effects.Op.{Op}
 use Rattle.sl_trace.specs.declared.effects.Purpose.{Purpose}
 use Rattle.sl_trace.specs.declared.effects.Signal.TheVariants.{Kill, Term}
@@ -50,6 +48,7 @@ use Rattle.sl_trace.specs.declared.input.Input.TheVariants.{Answer as Told, Exit
 use Rattle.sl_trace.specs.declared.reply.Reply.{Reply}
 use Rattle.sl_trace.specs.declared.reply.Reply.TheVariants.{IdLate, IoTimeout, SpawnFault}
 use Rattle.sl_words.proofs.CaseLaws.{none_some, true_is_false}
+use Rattle.sl_trace.specs.declared.effects.LeaseRead.TheVariants.{OfArea, OfBlock, OfFree, OfPhase1, OfPhase2}
 use Rattle.std.proofs.Common.{ap, inl, inr, refl, subst, sym, ◌∙◌}
 use Rattle.std.specs.Prelude.{Bool, Contains, IsFalse, List, None, Some, [], false, nat_le, nat_lt, true, ℕ, ◌+◌, ◌∷◌, ◌≡◌, ◌⊎◌}
 
@@ -186,6 +185,12 @@ free_denied y s l now k =
 reads_denied : (y : Step) (s : Session) (at : Spot) (work : Work) (step : LeaseStep) → ReadAllowed AnyCall y s at work step
 reads_denied y s at work (ReadArea name) = tt
 reads_denied y s at work ReadBeforeFree = tt
+reads_denied y s at work ReadBeforeBlock = tt
+reads_denied y s at work (ReadAgain (OfArea name)) = tt
+reads_denied y s at work (ReadAgain OfFree) = tt
+reads_denied y s at work (ReadAgain OfBlock) = tt
+reads_denied y s at work (ReadAgain OfPhase1) = tt
+reads_denied y s at work (ReadAgain OfPhase2) = tt
 reads_denied y s at work Phase1Write = tt
 reads_denied y s at work Phase1Read = tt
 reads_denied y s at work Phase2Write = tt
@@ -203,7 +208,7 @@ settling_denied y s at (WriteLeader step l) = tt
 settling_denied y s at (AnswerJob r) = λ j is. absurd (none_some j is)
 settling_denied y s at (GrantJob mode lver) = λ j c is reads. absurd (none_some j is)
 settling_denied y s at (BecomeShared lver l) = ((λ j is. absurd (none_some j is)), tt)
-settling_denied y s at (BecomeExclusive lver b) = ((λ j is. absurd (none_some j is)), λ g. tt)
+settling_denied y s at (BecomeExclusive lver b) = ((λ j is. absurd (none_some j is)), λ z same. tt)
 
 -- ---- all acts
 
@@ -247,8 +252,8 @@ denials_are_kept =
           delta Denies Denies Denied AnyCall AnyStart AnyMove p x s (next_renewal (delta_of_session x.setting s) x.reading (delta_known x.setting (seen x) s) (bits_due x.setting (calls_of (seen x) s) x.reading))
           (renewal_denied x s (delta_of_session x.setting s) x.reading (delta_known x.setting (seen x) s) (bits_due x.setting (calls_of (seen x) s) x.reading)) h;
       settles = λ x s spot has wake active whole none h.
-          lease Denies Denies Denied AnyCall AnyStart AnyMove p x s spot Settling (settle_next (lease_place x.setting s) (known x.setting (seen x) s spot))
-          (settling_denied x s spot (settle_next (lease_place x.setting s) (known x.setting (seen x) s spot))) h;
+          lease Denies Denies Denied AnyCall AnyStart AnyMove p x s spot Settling (next_of_settling x.setting (seen x) s spot)
+          (settling_denied x s spot (next_of_settling x.setting (seen x) s spot)) h;
       parts = λ x s has joined recovers_one free quiet h. removal Denies Denies Denied AnyCall AnyStart AnyMove p x s.lockspace tt h;
       frees = λ x s has joined well free quiet h.
           delta Denies Denies Denied AnyCall AnyStart AnyMove p x s (next_free (delta_of_session x.setting s) x.reading (delta_known x.setting (seen x) s))

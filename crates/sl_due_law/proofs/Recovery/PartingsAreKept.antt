@@ -1,7 +1,7 @@
 -- The connection of a joined session is removed in recovery or at its free's answer alone: each act keeps it.
 use Rattle.sl_acts.proofs.InputsKeep.{has_heard}
 use Rattle.sl_acts.proofs.LoopsKeep.{when_keeps}
-use Rattle.sl_acts.specs.Acts.{Acts, Has, Hears}
+use Rattle.sl_acts.specs.Acts.{Acts, Has, Hears, next_of_settling}
 use Rattle.sl_acts.specs.SoFar.{entry_of}
 use Rattle.sl_area.specs.Places.{delta_offset, request_offset}
 use Rattle.sl_due.specs.DueAnswers.{set_reply}
@@ -27,8 +27,7 @@ use Rattle.sl_due_facts.proofs.Jobs.RepliesComeAfter.{IsLateDelta, joining_late,
 use Rattle.sl_due_facts.proofs.Jobs.SessionsArePresent.{joined_present, present_inside}
 use Rattle.sl_due_facts.specs.Jobs.Promises.{BeginsWith}
 use Rattle.sl_trace.specs.Jobs.{job_of_start}
-use Rattle.sl_trace.specs.LeaseWork.{lease_place, settle_next}
-use Rattle.sl_trace.specs.Leases.{known, spot_of_call}
+use Rattle.sl_trace.specs.Leases.{spot_of_call}
 use Rattle.sl_trace.specs.declared.lease.LeaseNext.{LeaseNext}
 use Rattle.sl_plain.proofs.Lists.{find_fails, find_inside, got_inside, in_map, kept}
 use Rattle.sl_plain.proofs.Numbers.{number_itself}
@@ -486,7 +485,7 @@ partings_are_kept =
           (delta (PartingSince x) (PartingSince x) Anything NoLook AnyStart (MayRemove x) (partings_allowed x) x s (next_renewal (delta_of_session x.setting s) x.reading (delta_known x.setting (seen x) s) bits)
           (renewal_well x s (delta_of_session x.setting s) x.reading (delta_known x.setting (seen x) s) bits) (since_itself x h.1)).partings;
       settles = λ x s spot has wake active whole none h.
-          let n : LeaseNext = settle_next (lease_place x.setting s) (known x.setting (seen x) s spot) in
+          let n : LeaseNext = next_of_settling x.setting (seen x) s spot in
           (lease (PartingSince x) (PartingSince x) Anything NoLook AnyStart (MayRemove x) (partings_allowed x) x s spot Settling n (lease_plain x s spot Settling n) (since_itself x h.1)).partings;
       parts = λ x s has joined recovers_one free quiet h.
           (removal (PartingSince x) (PartingSince x) Anything NoLook AnyStart (MayRemove x) (partings_allowed x) x s.lockspace (of_recovering x s h has joined recovers_one) (since_itself x h.1)).partings;

@@ -1,6 +1,6 @@
 -- Where nothing is left of what an answer makes due: what is so then is brought about by each act of an answer, and stays.
 use Rattle.sl_acts.proofs.LoopsKeep.{for_each_keeps}
-use Rattle.sl_acts.specs.Acts.{Acts, AnswerActs, OtherActs}
+use Rattle.sl_acts.specs.Acts.{Acts, AnswerActs, OtherActs, next_of_settling}
 use Rattle.sl_due.specs.DueCommands.{answer_line, carry_decision}
 use Rattle.sl_due.specs.DueDelta.{carry_delta}
 use Rattle.sl_due.specs.DueFirst.{refuse, send, signal_holders}
@@ -20,8 +20,6 @@ use Rattle.sl_due_facts.proofs.Jobs.NearlyPlainActs.{AnyMove, AnyStart, Anything
 use Rattle.sl_due_facts.proofs.Jobs.RepliesComeAfter.{wake_late}
 use Rattle.sl_due_facts.specs.Jobs.Promises.{IsQuiet}
 use Rattle.sl_trace.specs.Jobs.{job_of_start}
-use Rattle.sl_trace.specs.LeaseWork.{lease_place, settle_next}
-use Rattle.sl_trace.specs.Leases.{known}
 use Rattle.sl_trace.specs.declared.lease.LeaseNext.{LeaseNext}
 use Rattle.sl_due_law.proofs.Recovery.FreesConclude.{frees_conclude, none_ends, signals_leave_ended, untold}
 use Rattle.sl_due_law.proofs.Recovery.StopsConclude.{just_heard, stops_conclude}
@@ -254,7 +252,7 @@ other_acts_rest =
           rested (carry_delta s n x) (delta Unheard Unheard Anything NoLook AnyStart AnyMove p x s n (renewal_plain x s (delta_of_session x.setting s) x.reading (delta_known x.setting (seen x) s) bits) (woken x wake))
           (a.renews x s has wake joined h.0);
       settles = λ x s spot has wake active whole none h.
-          let n : LeaseNext = settle_next (lease_place x.setting s) (known x.setting (seen x) s spot) in
+          let n : LeaseNext = next_of_settling x.setting (seen x) s spot in
           rested (carry_lease s spot Settling n x) (lease Unheard Unheard Anything NoLook AnyStart AnyMove p x s spot Settling n (lease_plain x s spot Settling n) (woken x wake))
           (a.settles x s spot has wake active whole none h.0);
       parts = λ x s p1 p2 p3 p4 p5 h. (a.parts x s p1 p2 p3 p4 p5 h.0, rest_of _ (all_conclude.parts x s p1 p2 p3 p4 p5 h));

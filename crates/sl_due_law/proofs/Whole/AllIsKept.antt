@@ -429,8 +429,15 @@ no_call k c at = absurd (contains_none c (got_inside [] k c at))
 lease_laws_begin : Begins LeaseLaws
 lease_laws_begin st past e follows w =
     subst (λ y. LeaseLaws y) (sym (begun_says st past e.reading).is) (record {
-      area = record { active = λ k c s at its. no_call k c at; writes = λ k c s at its. no_call k c at; alone = λ k c s at its. no_call k c at; reads = λ k c s at its. no_call k c at; sees = λ k c s at its. no_call k c at };
-      block = record { writes = λ k c s at its. no_call k c at; reads = λ k c s at its. no_call k c at };
+      area = record {
+        active = λ k c s at its. no_call k c at;
+        writes = λ k c s at its. no_call k c at;
+        alone = λ k c s at its. no_call k c at;
+        reads = λ k c s at its. no_call k c at;
+        sees = λ k c s at its. no_call k c at;
+        agains = λ k c s at its. no_call k c at;
+      };
+      block = record { turns = λ k c s at its. no_call k c at; writes = λ k c s at its. no_call k c at; reads = λ k c s at its. no_call k c at };
       leader = record { writes = λ k c s at its. no_call k c at };
     })
 

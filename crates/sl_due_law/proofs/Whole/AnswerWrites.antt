@@ -12,18 +12,18 @@ use Rattle.sl_plain.proofs.Lists.{contains_cases, contains_none, find_inside, ke
 use Rattle.sl_trace.specs.declared.effects.Grant.{Grant}
 use Rattle.sl_trace.specs.declared.effects.Op.{Op}
 use Rattle.std.proofs.lemmas.Bool.{eqb-true}
-use Rattle.sl_area.specs.Places.{blocks_in}
+use Rattle.sl_area.specs.Places.{blocks_in, leader_of}
 use Rattle.sl_due.specs.DueLease.{goes_on, next_of_lease}
 use Rattle.sl_due.specs.Steps.{Step, seen}
 use Rattle.sl_due_law.proofs.Whole.AreaWrites.{AreBlocks, areas_well, last_are_blocks}
 use Rattle.sl_due_law.proofs.Whole.ConversionWrites.{moded}
 use Rattle.sl_due_law.proofs.Whole.LeaderWrites.{leader_well}
 use Rattle.sl_due_law.proofs.Whole.ReleaseWrites.{unmoded}
-use Rattle.sl_due_law.proofs.Whole.SettleWrites.{MayWrite, OwnWell, begins_well, may_write, own_well, refuses_well, settles_known, submitted_known}
+use Rattle.sl_due_law.proofs.Whole.SettleWrites.{MayWrite, OwnWell, begins_well, may_write, own_well, refuses_well, settles_known, submitted_known, within_well}
 use Rattle.sl_due_law.specs.Whole.Writes.{LeaseWrites}
 use Rattle.sl_due_law.proofs.Whole.BallotWrites.{phase1_own}
 use Rattle.sl_area.specs.Layouts.{sizes}
-use Rattle.sl_due_leases.proofs.Ways.Decoding.{blocks_read}
+use Rattle.sl_due_leases.proofs.Ways.Decoding.{blocks_read, leader_read}
 use Rattle.sl_lease.proofs.RecordFacts.{phase2_begun}
 use Rattle.sl_lease.specs.Bounds.{IsBegun}
 use Rattle.sl_due_leases.proofs.Leases.WorkIsActive.{work_is_active}
@@ -34,7 +34,7 @@ use Rattle.sl_due_leases.proofs.Ways.NewestCall.{block_is, submitted_here}
 use Rattle.sl_due_leases.proofs.Ways.Places.{spot_aligned}
 use Rattle.sl_due_leases.proofs.Ways.WayNumbers.{EndsBy, ended_below, ends_by, is_verified, lver_of, own_lver}
 use Rattle.sl_trace.specs.Ballots.{ballot_blocks, is_ahead, moded_block, phase2_block, same_owner, stop_of, value_of}
-use Rattle.sl_trace.specs.LeaseWork.{LeasePlace, after_clearing, after_freeing, after_moding, after_phase1, after_phase2, after_take, begin_next, leader_for, lease_next, lease_place, looks_for_shared, lost_next, phase2_next, settle_next, stopped_next, unstopped_next, won_next}
+use Rattle.sl_trace.specs.LeaseWork.{LeasePlace, after_clearing, after_freeing, after_moding, after_phase1, after_phase2, after_read, after_take, begin_next, first_step, leader_for, lease_next, lease_place, looks_for_shared, lost_next, part_read, phase2_next, settle_next, stopped_next, unstopped_next, won_next}
 use Rattle.sl_trace.specs.Leases.{LeaseKnown, block_submitted, ended_ballot, ended_ballots, exclusive_on, holdings_on, known, lease_calls, lease_step, lver_written, mode_gen_of, owed_free, shared_elsewhere, spot_of_call}
 use Rattle.sl_trace.specs.declared.lease.Aim.TheVariants.{Acquires, Converts, Releases, Settles}
 use Rattle.sl_trace.specs.declared.lease.Aim.{Aim}
@@ -51,7 +51,7 @@ use Rattle.sl_due_facts.specs.Facts.WayFacts.{IsAligned, ModeWay, PurposeWay, Wa
 use Rattle.sl_due_facts.specs.Facts.Whole.{Whole}
 use Rattle.sl_trace.specs.Traces.{Submitted, holdings, is_shared, job_of, same_place}
 use Rattle.sl_run.specs.LawfulArea.{is_area_work}
-use Rattle.sl_trace.specs.declared.effects.LeaseStep.TheVariants.{ClearMode, FreeLeader, Phase1Read, Phase1Write, Phase2Read, Phase2Write, ReadArea, ReadBeforeFree, SetMode, TakeLeader}
+use Rattle.sl_trace.specs.declared.effects.LeaseStep.TheVariants.{ClearMode, FreeLeader, Phase1Read, Phase1Write, Phase2Read, Phase2Write, ReadAgain, ReadArea, ReadBeforeBlock, ReadBeforeFree, SetMode, TakeLeader}
 use Rattle.sl_trace.specs.declared.effects.LeaseStep.{LeaseStep}
 use Rattle.sl_trace.specs.declared.effects.Mode.TheVariants.{Exclusive, Shared}
 use Rattle.sl_trace.specs.declared.effects.Purpose.TheVariants.{Lease}
@@ -62,6 +62,9 @@ use Rattle.sl_trace.specs.declared.input.Answer.TheVariants.{Failed, Read, Writt
 use Rattle.sl_trace.specs.declared.input.Answer.{Answer}
 use Rattle.sl_trace.specs.declared.reply.Reply.TheVariants.{Held as HeldBy, IoFault, Shared as SharedBy}
 use Rattle.sl_words.proofs.CaseLaws.{none_some, some_value}
+use Rattle.sl_due_law.proofs.Causes.Leases.NewestWays.{IsPlainStep, plain_step}
+use Rattle.sl_trace.proofs.PlainWork.{bytes_plain}
+use Rattle.sl_sector.specs.declared.sector.Leader.{Leader}
 use Rattle.std.proofs.Common.{ap, arith, inl, inr, refl, subst, sym, ◌∙◌}
 use Rattle.std.specs.Option.{option_map_or}
 use Rattle.std.specs.Prelude.{Bool, Contains, List, None, Option, Some, [], false, is_some, not, option_map, true, ℕ, ◌+◌, ◌<◌, ◌==◌, ◌∷◌, ◌≡◌, ◌≤◌}
@@ -72,11 +75,11 @@ above : (a n : ℕ) → a < n → 1 ≤ n
 above a n less = omega (arith, less)
 
 -- So the instance of each ballot that ended is one.
-ended_one : (w : WayContext) (ms : List Submitted) → Ways w ms → (n : ℕ) (o : Owner) → Contains (ended_ballots w.layout ms) (n, o) → 1 ≤ n
-ended_one w [] h n o there = absurd (contains_none (n, o) there)
-ended_one w (m ∷ ms) h n o there = by (ended_ballot w.layout m ms) refl there (λ rest. ended_one w ms h.1 n o rest) where
+ended_one : (w : WayContext) → w.layout.paired ≡ false → (ms : List Submitted) → Ways w ms → (n : ℕ) (o : Owner) → Contains (ended_ballots w.layout ms) (n, o) → 1 ≤ n
+ended_one w plain [] h n o there = absurd (contains_none (n, o) there)
+ended_one w plain (m ∷ ms) h n o there = by (ended_ballot w.layout m ms) refl there (λ rest. ended_one w plain ms h.1 n o rest) where
   ended : ended_ballot w.layout m ms ≡ Some (n, o) → 1 ≤ n
-  ended is = let e : EndsBy w.layout m ms n o = ends_by w.layout m ms n o is in subst (λ z. 1 ≤ z) e.lver (own_begun w ms h.1 e.own e.known)
+  ended is = let e : EndsBy w.layout m ms n o = ends_by w.layout m ms n o is in subst (λ z. 1 ≤ z) e.lver (own_begun w plain ms h.1 e.own e.known)
 
   by : (e : Option (ℕ × Owner)) → ended_ballot w.layout m ms ≡ e → Contains (elim e as (λ z. List (ℕ × Owner)) [ None ↦ ended_ballots w.layout ms | Some p ↦ p ∷ ended_ballots w.layout ms ]) (n, o)
       → (Contains (ended_ballots w.layout ms) (n, o) → 1 ≤ n) → 1 ≤ n
@@ -163,16 +166,15 @@ phase1_well : (p : LeasePlace) (k : LeaseKnown) (aim : Aim) (own : Block) (read 
 phase1_well p k aim own read (Some stop) may well begun all = stopped_well p k aim stop may well
 phase1_well p k aim own read None may well begun all = unstopped_well p k aim own read may begun all
 
-begun_well : (p : LeasePlace) (k : LeaseKnown) (aim : Aim) (bytes : List ℕ) (o : Option Block) → MayWrite p k → OwnWell k → ((own : Block) → o ≡ Some own → IsBegun own)
-    → LeaseWrites (option_map_or (λ own. after_phase1 p k aim own (blocks_in p.layout bytes) (stop_of own (blocks_in p.layout bytes))) o Nothing)
-begun_well p k aim bytes None may well begun = tt
-begun_well p k aim bytes (Some own) may well begun =
-    phase1_well p k aim own (blocks_in p.layout bytes) (stop_of own (blocks_in p.layout bytes)) may well (begun own refl) (blocks_read p.layout bytes)
+begun_well : (p : LeasePlace) (k : LeaseKnown) (aim : Aim) (read : List (Option Block)) (o : Option Block) → MayWrite p k → OwnWell k → AreBlocks read → ((own : Block) → o ≡ Some own → IsBegun own)
+    → LeaseWrites (option_map_or (λ own. after_phase1 p k aim own read (stop_of own read)) o Nothing)
+begun_well p k aim read None may well all begun = tt
+begun_well p k aim read (Some own) may well all begun = phase1_well p k aim own read (stop_of own read) may well (begun own refl) all
 
-ended_well : (p : LeasePlace) (k : LeaseKnown) (aim : Aim) (bytes : List ℕ) (o : Option Block) → k.own ≡ o → MayWrite p k → OwnWell k → LeadWell p k
-    → LeaseWrites (option_map_or (λ own. after_phase2 p k aim own (stop_of own (blocks_in p.layout bytes))) o Nothing)
-ended_well p k aim bytes None is may well lead = tt
-ended_well p k aim bytes (Some own) is may well lead = phase2_well p k aim own (stop_of own (blocks_in p.layout bytes)) is may well lead
+ended_well : (p : LeasePlace) (k : LeaseKnown) (aim : Aim) (read : List (Option Block)) (o : Option Block) → k.own ≡ o → MayWrite p k → OwnWell k → LeadWell p k
+    → LeaseWrites (option_map_or (λ own. after_phase2 p k aim own (stop_of own read)) o Nothing)
+ended_well p k aim read None is may well lead = tt
+ended_well p k aim read (Some own) is may well lead = phase2_well p k aim own (stop_of own read) is may well lead
 
 take_well : (p : LeasePlace) (k : LeaseKnown) (aim : Aim) (n : ℕ) → MayWrite p k → OwnWell k → LeadWell p k → LeaseWrites (after_take k aim n)
 take_well p k (Acquires Exclusive) n may well lead = tt
@@ -219,30 +221,48 @@ owed_well p k lead won = by (owed_free k) refl where
       let same : from.0 ≡ n = (choose_some (not (some_is (λ e. e == from.0) k.exclusive)) from.0 n from.2).1 in
       let h = won n (subst (λ z. k.won ≡ Some z) same from.1) in lead.leads false n h.own h.knows h.one h.fits
 
-answers_known : (p : LeasePlace) (k : LeaseKnown) (aim : Aim) (call n : ℕ) (step : LeaseStep) (answer : Answer) → MayWrite p k → OwnWell k → LeadWell p k → AreBlocks k.read → (step ≡ SetMode → IsOwn k n) → ((e : ℕ) → k.exclusive ≡ Some e → IsHeldUnder k e) → ((n : ℕ) → k.won ≡ Some n → IsHeldUnder k n)
+-- After a read that gave this leader and these blocks.
+read_known : (p : LeasePlace) (k : LeaseKnown) (aim : Aim) (leader : Option Leader) (read : List (Option Block)) (step : LeaseStep) → IsPlainStep step → ((l : Leader) → leader ≡ Some l → IsLeader l) → AreBlocks read
+    → MayWrite p k → OwnWell k → LeadWell p k → AreBlocks k.read → ((n : ℕ) → k.won ≡ Some n → IsHeldUnder k n) → (step ≡ Phase1Read → (own : Block) → k.own ≡ Some own → IsBegun own)
+    → LeaseWrites (after_read p k aim leader read step)
+read_known p k aim leader read (ReadArea name) once leads shows may well lead all won h = areas_well p k aim name leader read leads may well all
+read_known p k aim leader read ReadBeforeFree once leads shows may well lead all won h = owed_well p k lead won
+read_known p k aim leader read ReadBeforeBlock once leads shows may well lead all won h = absurd once
+read_known p k aim leader read (ReadAgain again) once leads shows may well lead all won h = absurd once
+read_known p k aim leader read Phase1Read once leads shows may well lead all won h = begun_well p k aim read k.own may well shows (h refl)
+read_known p k aim leader read Phase2Read once leads shows may well lead all won h = ended_well p k aim read k.own refl may well lead
+read_known p k aim leader read Phase1Write once leads shows may well lead all won h = tt
+read_known p k aim leader read Phase2Write once leads shows may well lead all won h = tt
+read_known p k aim leader read TakeLeader once leads shows may well lead all won h = tt
+read_known p k aim leader read SetMode once leads shows may well lead all won h = tt
+read_known p k aim leader read FreeLeader once leads shows may well lead all won h = tt
+read_known p k aim leader read ClearMode once leads shows may well lead all won h = tt
+
+first_plain_step : (step : LeaseStep) → IsPlainStep step → first_step step ≡ step
+first_plain_step (ReadAgain read) once = absurd once
+first_plain_step ReadBeforeBlock once = absurd once
+first_plain_step step once = refl
+
+answers_known : (p : LeasePlace) (k : LeaseKnown) (aim : Aim) (call n : ℕ) (step : LeaseStep) (answer : Answer) → p.layout.paired ≡ false → IsPlainStep step → MayWrite p k → OwnWell k → LeadWell p k → AreBlocks k.read → (step ≡ SetMode → IsOwn k n) → ((e : ℕ) → k.exclusive ≡ Some e → IsHeldUnder k e) → ((n : ℕ) → k.won ≡ Some n → IsHeldUnder k n)
     → (step ≡ Phase1Read → (own : Block) → k.own ≡ Some own → IsBegun own) → LeaseWrites (lease_next p k aim call n step answer)
 unfolding lease_next
-answers_known p k aim call n step Failed may well lead all set held won h = refuses_well aim (IoFault call)
-answers_known p k aim call n (ReadArea name) (Read bytes) may well lead all set held won h = areas_well p k aim name bytes may well all
-answers_known p k aim call n ReadBeforeFree (Read bytes) may well lead all set held won h = owed_well p k lead won
-answers_known p k aim call n Phase1Read (Read bytes) may well lead all set held won h = begun_well p k aim bytes k.own may well (h refl)
-answers_known p k aim call n Phase2Read (Read bytes) may well lead all set held won h = ended_well p k aim bytes k.own refl may well lead
-answers_known p k aim call n Phase1Write (Read bytes) may well lead all set held won h = tt
-answers_known p k aim call n Phase2Write (Read bytes) may well lead all set held won h = tt
-answers_known p k aim call n TakeLeader (Read bytes) may well lead all set held won h = tt
-answers_known p k aim call n SetMode (Read bytes) may well lead all set held won h = tt
-answers_known p k aim call n FreeLeader (Read bytes) may well lead all set held won h = tt
-answers_known p k aim call n ClearMode (Read bytes) may well lead all set held won h = tt
-answers_known p k aim call n (ReadArea name) Written may well lead all set held won h = tt
-answers_known p k aim call n ReadBeforeFree Written may well lead all set held won h = tt
-answers_known p k aim call n Phase1Read Written may well lead all set held won h = tt
-answers_known p k aim call n Phase2Read Written may well lead all set held won h = tt
-answers_known p k aim call n Phase1Write Written may well lead all set held won h = tt
-answers_known p k aim call n Phase2Write Written may well lead all set held won h = tt
-answers_known p k aim call n TakeLeader Written may well lead all set held won h = take_well p k aim n may well lead
-answers_known p k aim call n SetMode Written may well lead all set held won h = moding_well p k aim n well lead (set refl) held
-answers_known p k aim call n FreeLeader Written may well lead all set held won h = freeing_well p k aim n may well
-answers_known p k aim call n ClearMode Written may well lead all set held won h = clearing_well p k aim may well
+answers_known p k aim call n step Failed plain once may well lead all set held won h = refuses_well aim (IoFault call)
+answers_known p k aim call n step (Read bytes) plain once may well lead all set held won h =
+    subst (λ z. LeaseWrites z)
+    (ap (λ z. after_read p k aim (leader_of p.layout bytes) (blocks_in p.layout (part_read p.layout bytes z)) z) (sym (first_plain_step step once)) ∙ sym (bytes_plain p k aim bytes step plain))
+    (read_known p k aim (leader_of p.layout bytes) (blocks_in p.layout (part_read p.layout bytes step)) step once (λ l is. leader_read p.layout bytes l is) (blocks_read p.layout (part_read p.layout bytes step)) may well lead all won h)
+answers_known p k aim call n (ReadArea name) Written plain once may well lead all set held won h = tt
+answers_known p k aim call n ReadBeforeBlock Written plain once may well lead all set held won h = tt
+answers_known p k aim call n (ReadAgain read) Written plain once may well lead all set held won h = tt
+answers_known p k aim call n ReadBeforeFree Written plain once may well lead all set held won h = tt
+answers_known p k aim call n Phase1Read Written plain once may well lead all set held won h = tt
+answers_known p k aim call n Phase2Read Written plain once may well lead all set held won h = tt
+answers_known p k aim call n Phase1Write Written plain once may well lead all set held won h = tt
+answers_known p k aim call n Phase2Write Written plain once may well lead all set held won h = tt
+answers_known p k aim call n TakeLeader Written plain once may well lead all set held won h = take_well p k aim n may well lead
+answers_known p k aim call n SetMode Written plain once may well lead all set held won h = moding_well p k aim n well lead (set refl) held
+answers_known p k aim call n FreeLeader Written plain once may well lead all set held won h = freeing_well p k aim n may well
+answers_known p k aim call n ClearMode Written plain once may well lead all set held won h = clearing_well p k aim may well
 
 -- ---- a session's lease
 
@@ -253,14 +273,14 @@ lead_well x s at w inside active aligned =
     let ways = w.facts.ways.each s at inside aligned in
     let numbers = w.facts.delta.numbers s inside (active_is_joined x.setting (seen x) s active) in
     record {
-      begun = λ b is. own_begun (way_context x.setting (seen x) s) (lease_calls x.setting (seen x) s at) ways b is;
+      begun = λ b is. own_begun (way_context x.setting (seen x) s) w.setting.unpaired (lease_calls x.setting (seen x) s at) ways b is;
       leads = λ held n b is one fits.
-          leader_well x.setting (seen x) s at held n w.setting inside numbers (is_verified (way_context x.setting (seen x) s) (lease_calls x.setting (seen x) s at) ways b is) one fits;
+          leader_well x.setting (seen x) s at held n w.setting inside numbers ways (is_verified (way_context x.setting (seen x) s) w.setting.unpaired (lease_calls x.setting (seen x) s at) ways b is) one fits;
     }
 
-read_well : (x : Step) (s : Session) (at : Spot) → AreBlocks (known x.setting (seen x) s at).read
+read_well : (x : Step) (s : Session) (at : Spot) → x.setting.layout.paired ≡ false → AreBlocks (known x.setting (seen x) s at).read
 unfolding known
-read_well x s at = last_are_blocks x.setting.layout (lease_calls x.setting (seen x) s at)
+read_well x s at plain = last_are_blocks x.setting.layout plain (lease_calls x.setting (seen x) s at)
 
 held_under : (x : Step) (s : Session) (at : Spot) (e : ℕ) → Whole x → Contains (sessions x.setting (seen x)) s → (known x.setting (seen x) s at).exclusive ≡ Some e → IsHeldUnder (known x.setting (seen x) s at) e
 unfolding known
@@ -290,8 +310,8 @@ won_under x s at n w inside aligned is =
     let there = left_is_won x.setting.layout (me (seen x) s) ms n is in
     let wrote = ended_wrote x.setting.layout ms n (me (seen x) s) there in
     record {
-      one = ended_one (way_context x.setting (seen x) s) ms ways n (me (seen x) s) there;
-      fits = smaller n (own_lver ms) wrote.0.lver (ended_below (way_context x.setting (seen x) s) ms ways n (me (seen x) s) there) (lver_of ms wrote.0 wrote.1) (own_is_record x s at wrote.0 w wrote.1).lver;
+      one = ended_one (way_context x.setting (seen x) s) w.setting.unpaired ms ways n (me (seen x) s) there;
+      fits = smaller n (own_lver ms) wrote.0.lver (ended_below (way_context x.setting (seen x) s) w.setting.unpaired ms ways n (me (seen x) s) there) (lver_of ms wrote.0 wrote.1) (own_is_record x s at wrote.0 w wrote.1).lver;
       own = wrote.0;
       knows = wrote.1;
     }
@@ -325,7 +345,7 @@ begun_own x s work m answer w h is own knows =
     record {
       block = own_is_record x s at own w knows;
       begun = (
-        own_begun (way_context x.setting (seen x) s) (lease_calls x.setting (seen x) s at) (w.facts.ways.each s at inside (spot_aligned x.setting.layout.area m.call.offset)) own knows,
+        own_begun (way_context x.setting (seen x) s) w.setting.unpaired (lease_calls x.setting (seen x) s at) (w.facts.ways.each s at inside (spot_aligned x.setting.layout.area m.call.offset)) own knows,
         subst (λ (z : Block). 1 ≤ z.mbal) same one.mbal,
       );
     }
@@ -337,11 +357,12 @@ answers_well x s work step m answer aim w h is on =
     let inside = there_has x.setting (seen x) s.number s (heard_has x s m answer h) in
     let aligned = spot_aligned x.setting.layout.area m.call.offset in
     let active : is_active x.setting (seen x) s ≡ true = by work is on in
-    answers_known (lease_place x.setting s) (known x.setting (seen x) s (spot_of_call x.setting.layout m)) aim m.call.number _ step answer
+    within_well (lease_place x.setting s) (known x.setting (seen x) s (spot_of_call x.setting.layout m)) aim _
+    (answers_known (lease_place x.setting s) (known x.setting (seen x) s (spot_of_call x.setting.layout m)) aim m.call.number _ step answer w.setting.unpaired (plain_step x s work step m answer w h is)
     (may_write x s (spot_of_call x.setting.layout m) w inside (w.facts.delta.numbers s inside (active_is_joined x.setting (seen x) s active))) (own_well x s (spot_of_call x.setting.layout m) w inside aligned)
-    (lead_well x s (spot_of_call x.setting.layout m) w inside active aligned) (read_well x s (spot_of_call x.setting.layout m))
+    (lead_well x s (spot_of_call x.setting.layout m) w inside active aligned) (read_well x s (spot_of_call x.setting.layout m) w.setting.unpaired)
     (λ sets. set_own x s work m answer w h (subst (λ z. m.call.purpose ≡ Lease work z) sets is)) (λ e. held_under x s (spot_of_call x.setting.layout m) e w inside) (λ n. won_under x s (spot_of_call x.setting.layout m) n w inside aligned)
-    (λ reads. begun_own x s work m answer w h (subst (λ z. m.call.purpose ≡ Lease work z) reads is))
+    (λ reads. begun_own x s work m answer w h (subst (λ z. m.call.purpose ≡ Lease work z) reads is)))
   where
     by : (work : Work) → m.call.purpose ≡ Lease work step → goes_on x.setting (seen x) s work ≡ true → is_active x.setting (seen x) s ≡ true
     by Settling is on = on

@@ -1,11 +1,11 @@
 -- What a lease writes after the read of an area is a record: the block of the ballot that begins.
 use Rattle.sl_area.specs.Layouts.{Layout}
-use Rattle.sl_area.specs.Places.{area_blocks, blocks_in, leader_of}
+use Rattle.sl_area.specs.Places.{blocks_in}
 use Rattle.sl_due_law.proofs.Whole.SettleWrites.{MayWrite, OwnWell, begins_well}
 use Rattle.sl_due_law.specs.Whole.Writes.{LeaseWrites}
-use Rattle.sl_due_leases.proofs.Ways.Decoding.{blocks_read, leader_read}
+use Rattle.sl_due_leases.proofs.Ways.Decoding.{blocks_read}
 use Rattle.sl_trace.specs.LeaseWork.{LeasePlace, area_next, begin_or_refuse, named_area_next, whole_area_next}
-use Rattle.sl_trace.specs.Leases.{LeaseKnown, block_of_host, blocks_given, instance_for, is_area_read, is_leader_of, is_over_owner, is_phase_read, last_blocks, own_known, own_or_read, top_lver}
+use Rattle.sl_trace.specs.Leases.{LeaseKnown, block_of_host, blocks_bytes, blocks_given, instance_for, is_leader_of, is_over_owner, last_blocks, own_known, own_or_read, top_lver}
 use Rattle.sl_trace.specs.declared.lease.Aim.{Aim}
 use Rattle.sl_trace.specs.declared.lease.Instance.TheVariants.{Begins, HeldAlready}
 use Rattle.sl_trace.specs.declared.lease.Instance.{Instance}
@@ -16,13 +16,14 @@ use Rattle.sl_lease.proofs.RecordFacts.{instance_least}
 use Rattle.sl_sector.specs.Records.{IsBlock, IsLeader}
 use Rattle.sl_sector.specs.declared.sector.Block.{Block}
 use Rattle.sl_sector.specs.declared.sector.Leader.{Leader}
-use Rattle.sl_trace.specs.Traces.{Submitted, gave}
+use Rattle.sl_trace.specs.Traces.{Submitted}
 use Rattle.sl_trace.specs.declared.reply.Reply.TheVariants.{TornBlock, TornLeader, WrongArea}
 use Rattle.sl_words.proofs.CaseLaws.{none_some, some_value}
+use Rattle.sl_trace.proofs.PlainReads.{given_plain}
 use Rattle.std.proofs.Common.{All, IfSome, refl, subst}
 use Rattle.std.proofs.lemmas.List.Elements.{All-contains, All-nil}
 use Rattle.std.specs.Option.{option_map_or}
-use Rattle.std.specs.Prelude.{Bool, List, None, Option, Some, [], drop, false, is_none, position, slice_get, true, unwrap_or, ℕ, ◌*◌, ◌+◌, ◌-◌, ◌∷◌, ◌≡◌}
+use Rattle.std.specs.Prelude.{Bool, List, None, Option, Some, [], false, is_none, option_map, position, slice_get, true, unwrap_or, ℕ, ◌+◌, ◌-◌, ◌∷◌, ◌≡◌}
 
 -- ---- blocks that were read
 
@@ -30,20 +31,16 @@ use Rattle.std.specs.Prelude.{Bool, List, None, Option, Some, [], drop, false, i
 abbrev pub AreBlocks : List (Option Block) → Type 0
 AreBlocks bs = All (λ o. IfSome o IsBlock) bs
 
-given_well : (g : Layout) (m : Submitted) (bs : List (Option Block)) → blocks_given g m ≡ Some bs → AreBlocks bs
-given_well g m bs is = by (gave m) (is_area_read m) (is_phase_read m) is where
-  by : (o : Option (List ℕ)) (area phase : Bool) → elim o as (λ z. Option (List (Option Block))) [
-    | None ↦ None
-    | Some bytes ↦ elim area as (λ z. Option (List (Option Block))) [ true ↦ Some (area_blocks g bytes) | false ↦ elim phase as (λ z. Option (List (Option Block))) [ true ↦ Some (blocks_in g bytes) | false ↦ None ] ]
-  ] ≡ Some bs → AreBlocks bs
-  by None area phase h = absurd (none_some bs h)
-  by (Some bytes) true phase h = subst (λ z. AreBlocks z) (some_value (area_blocks g bytes) bs h) (blocks_read g (drop (2 * g.sector) bytes))
-  by (Some bytes) false true h = subst (λ z. AreBlocks z) (some_value (blocks_in g bytes) bs h) (blocks_read g bytes)
-  by (Some bytes) false false h = absurd (none_some bs h)
+mapped_read : (g : Layout) (o : Option (List ℕ)) (bs : List (Option Block)) → option_map (blocks_in g) o ≡ Some bs → AreBlocks bs
+mapped_read g None bs is = absurd (none_some bs is)
+mapped_read g (Some bytes) bs is = subst (λ z. AreBlocks z) (some_value (blocks_in g bytes) bs is) (blocks_read g bytes)
 
-pub last_are_blocks : (g : Layout) (ms : List Submitted) → AreBlocks (last_blocks g ms)
-last_are_blocks g [] = All-nil (λ o. IfSome o IsBlock)
-last_are_blocks g (m ∷ ms) = by (blocks_given g m) (given_well g m) (last_are_blocks g ms) where
+given_well : (g : Layout) → g.paired ≡ false → (m : Submitted) (ms : List Submitted) (bs : List (Option Block)) → blocks_given g m ms ≡ Some bs → AreBlocks bs
+given_well g plain m ms bs is = mapped_read g (blocks_bytes g m) bs (given_plain g plain m ms bs is)
+
+pub last_are_blocks : (g : Layout) → g.paired ≡ false → (ms : List Submitted) → AreBlocks (last_blocks g ms)
+last_are_blocks g plain [] = All-nil (λ o. IfSome o IsBlock)
+last_are_blocks g plain (m ∷ ms) = by (blocks_given g m ms) (given_well g plain m ms) (last_are_blocks g plain ms) where
   by : (o : Option (List (Option Block))) → ((bs : List (Option Block)) → o ≡ Some bs → AreBlocks bs) → AreBlocks (last_blocks g ms)
       → AreBlocks (elim o as (λ z. List (Option Block)) [ Some bs ↦ bs | None ↦ last_blocks g ms ])
   by None given rest = rest
@@ -83,19 +80,19 @@ named_area_well p k aim l read leader may well all = by (position is_none read) 
   by None = whole_well p k aim l read leader may well all
 
 -- After the read of the area.
-pub areas_well : (p : LeasePlace) (k : LeaseKnown) (aim : Aim) (name bytes : List ℕ) → MayWrite p k → OwnWell k → AreBlocks k.read → LeaseWrites (area_next p k aim name bytes)
+pub areas_well : (p : LeasePlace) (k : LeaseKnown) (aim : Aim) (name : List ℕ) (leader : Option Leader) (read : List (Option Block)) → ((l : Leader) → leader ≡ Some l → IsLeader l) → MayWrite p k → OwnWell k → AreBlocks k.read
+    → LeaseWrites (area_next p k aim name leader read)
 unfolding area_next
-areas_well p k aim name bytes may well all = by (leader_of p.layout bytes) (λ l is. leader_read p.layout bytes l is) where
-  right : (l : Leader) (b : Bool) → IsLeader l
-      → LeaseWrites (elim b as (λ z. LeaseNext) [ false ↦ AnswerJob (WrongArea l.lockspace l.resource l.num_hosts) | true ↦ named_area_next p k aim l (area_blocks p.layout bytes) ])
-  right l false leader = tt
-  right l true leader = named_area_well p k aim l (area_blocks p.layout bytes) leader may well all
+areas_well p k aim name leader read each may well all = by leader each where
+  right : (l : Leader) (b : Bool) → IsLeader l → LeaseWrites (elim b as (λ z. LeaseNext) [ false ↦ AnswerJob (WrongArea l.lockspace l.resource l.num_hosts) | true ↦ named_area_next p k aim l read ])
+  right l false good = tt
+  right l true good = named_area_well p k aim l read good may well all
 
   by : (o : Option Leader) → ((l : Leader) → o ≡ Some l → IsLeader l) → LeaseWrites (elim o as (λ z. LeaseNext) [
     | None ↦ AnswerJob TornLeader
     | Some l ↦ elim (is_leader_of p.layout p.lockspace name l) as (λ z. LeaseNext) [
       | false ↦ AnswerJob (WrongArea l.lockspace l.resource l.num_hosts)
-      | true ↦ named_area_next p k aim l (area_blocks p.layout bytes)
+      | true ↦ named_area_next p k aim l read
     ]
   ])
   by None each = tt

@@ -5,7 +5,7 @@ use Rattle.sl_acts.proofs.LoopsKeep.{when_keeps}
 use Rattle.sl_acts.proofs.SessionsStay.{Stays, delta_stays, itself, refusal_stays}
 use Rattle.sl_acts.proofs.StepsKeep.{Fixed, due_is_of}
 use Rattle.sl_acts.proofs.TracesKeep.{due_is_seen}
-use Rattle.sl_acts.specs.Acts.{Acts, AnswerActs, Hears, OtherActs}
+use Rattle.sl_acts.specs.Acts.{Acts, AnswerActs, Hears, OtherActs, next_of_settling}
 use Rattle.sl_acts.specs.SoFar.{entry_of}
 use Rattle.sl_area.specs.Places.{delta_offset, request_offset}
 use Rattle.sl_due.specs.Due.{IsDue, IsHostTrace, due_step}
@@ -55,8 +55,7 @@ use Rattle.sl_due_facts.proofs.Jobs.SessionsStand.{reply_stops}
 use Rattle.sl_run.specs.Caused.{IsCaused}
 use Rattle.sl_run.specs.Lawful.{IsSetting}
 use Rattle.sl_trace.specs.Jobs.{command_numbered, job_of_start}
-use Rattle.sl_trace.specs.LeaseWork.{lease_place, settle_next}
-use Rattle.sl_trace.specs.Leases.{known, spot_of_call}
+use Rattle.sl_trace.specs.Leases.{spot_of_call}
 use Rattle.sl_trace.specs.declared.lease.LeaseNext.{LeaseNext}
 use Rattle.sl_plain.proofs.Lists.{contains_none, find_inside, head_is}
 use Rattle.sl_plain.proofs.Options.{some_of}
@@ -203,7 +202,7 @@ other_acts_wait =
                 (renewal_plain x s (delta_of_session x.setting s) x.reading (delta_known x.setting (seen x) s) bits) (from_busy x h.1)),
           );
       settles = λ x s spot has wake active whole none h.
-          let n : LeaseNext = settle_next (lease_place x.setting s) (known x.setting (seen x) s spot) in (
+          let n : LeaseNext = next_of_settling x.setting (seen x) s spot in (
             r.settles x s spot has wake active whole none h.0,
             alone (carry_lease s spot Settling n x) x.input (lease (Walks x.input None) (Walks x.input None) Anything NoLook AnyStart AnyMove (walk x.input None) x s spot Settling n (lease_plain x s spot Settling n) (from_busy x h.1)),
           );

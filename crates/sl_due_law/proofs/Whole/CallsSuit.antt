@@ -1,7 +1,7 @@
 -- Each call of a step suits what it is for.
 use Rattle.sl_acts.proofs.Additions.{contains_last}
-use Rattle.sl_acts.specs.Acts.{Acts, Hears}
-use Rattle.sl_area.specs.Places.{delta_offset, request_offset}
+use Rattle.sl_acts.specs.Acts.{Acts, Hears, next_of_conversion, next_of_release, next_of_settling}
+use Rattle.sl_area.specs.Places.{area_sectors, block_sectors, delta_offset, leader_record, request_offset}
 use Rattle.sl_due.specs.DueAnswers.{set_reply}
 use Rattle.sl_due.specs.DueCommands.{carry_decision, decided}
 use Rattle.sl_due.specs.DueFirst.{begin_recoveries}
@@ -17,20 +17,19 @@ use Rattle.sl_due_facts.proofs.Jobs.JobsAreNumbered.{line_seen}
 use Rattle.sl_due_facts.proofs.Jobs.NearlyPlainActs.{AnyMove, AnyStart, Anything, grant_plain}
 use Rattle.sl_due_law.proofs.Recovery.StopsBegin.{begun_says}
 use Rattle.sl_due_law.proofs.Whole.HeardBefore.{HeardBefore, command_past, heard_before}
-use Rattle.sl_due_law.proofs.Whole.StepsSuit.{NextSuits, conversion_suits, next_suits, release_suits}
+use Rattle.sl_due_law.proofs.Whole.StepsSuit.{NextSuits, conversion_suits, next_suits, release_suits, within_suits}
 use Rattle.sl_due_facts.specs.Facts.JobFacts.{JobFacts}
 use Rattle.sl_due_leases.specs.Holdings.DecisionGrounds.{AsksLease, HasGrounds, Releases as IsReleased}
 use Rattle.sl_due_law.specs.Whole.JobLore.{AllSuit, CallSuits, NewSuit, OpFits, suits}
 use Rattle.sl_due_law.specs.Whole.Kept.{Kept}
 use Rattle.sl_trace.specs.Jobs.{aim_of, aim_of_command, command_numbered, command_of, job_of_start, wanted_mode}
-use Rattle.sl_trace.specs.LeaseWork.{convert_next, lease_place, release_next, settle_next}
+use Rattle.sl_trace.specs.LeaseWork.{lease_place}
 use Rattle.sl_trace.specs.Leases.{known, lver_written, spot_of, spot_of_call}
 use Rattle.sl_trace.specs.declared.lease.Aim.TheVariants.{Acquires, Converts, Releases}
 use Rattle.sl_trace.specs.declared.lease.Aim.{Aim}
 use Rattle.sl_trace.specs.declared.lease.LeaseNext.TheVariants.{AnswerJob, BecomeExclusive, BecomeShared, GrantJob, Nothing as No_lease, ReadFor, WriteBlock, WriteLeader}
 use Rattle.sl_trace.specs.declared.lease.LeaseNext.{LeaseNext}
 use Rattle.sl_plain.proofs.Lists.{contains_none, got_inside, in_map}
-use Rattle.sl_sector.specs.declared.sector.Rec.TheVariants.{BlockIs, LeaderIs}
 use Rattle.sl_trace.specs.Deltas.{delta_known, delta_of_session, next_after_free, next_after_renewal, next_free, next_in_joining, next_on_wake, next_renewal}
 use Rattle.sl_trace.specs.Sessions.{calls_of, generation_of, recovery_of}
 use Rattle.sl_trace.specs.declared.delta.DeltaNext.TheVariants.{Disconnect, EndLeaving, Join, MoveConnection, Nothing, ReadOwn, RefuseJoin, RegisterAndRead, WriteClaim, WriteFirst, WriteFree, WriteRenewal}
@@ -46,7 +45,8 @@ use Rattle.sl_trace.specs.declared.command.ResourceArg.{ResourceArg}
 use Rattle.sl_trace.specs.declared.effects.Mode.{Mode}
 use Rattle.sl_trace.specs.declared.effects.Grant.{Grant}
 use Rattle.sl_trace.specs.declared.effects.JoinStep.TheVariants.{ClaimWrite, FirstRead, FirstRenewal}
-use Rattle.sl_trace.specs.declared.effects.LeaseStep.TheVariants.{ClearMode, FreeLeader, Phase1Read, Phase1Write, Phase2Read, Phase2Write, ReadArea, ReadBeforeFree, SetMode, TakeLeader}
+use Rattle.sl_trace.specs.declared.effects.LeaseRead.TheVariants.{OfArea, OfBlock, OfFree, OfPhase1, OfPhase2}
+use Rattle.sl_trace.specs.declared.effects.LeaseStep.TheVariants.{ClearMode, FreeLeader, Phase1Read, Phase1Write, Phase2Read, Phase2Write, ReadAgain, ReadArea, ReadBeforeBlock, ReadBeforeFree, SetMode, TakeLeader}
 use Rattle.sl_trace.specs.declared.effects.LeaseStep.{LeaseStep}
 use Rattle.sl_trace.specs.declared.effects.Op.TheVariants.{ReadSectors, WriteRecord}
 use Rattle.sl_trace.specs.declared.effects.Op.{Op}
@@ -63,7 +63,7 @@ use Rattle.sl_trace.specs.declared.reply.Reply.TheVariants.{BadCommand as Misrea
 use Rattle.sl_trace_law.proofs.Sessions.Making.{IsNewCall, old_or_new, same_answered}
 use Rattle.sl_words.proofs.CaseLaws.{none_some, some_value, true_is_false}
 use Rattle.std.proofs.Common.{ap, inl, inr, refl, subst, sym, ◌∙◌}
-use Rattle.std.specs.Prelude.{Bool, Contains, List, None, Ok, Some, [], false, is_some, length, option_and_then, true, ℕ, ◌+◌, ◌∷◌, ◌≡◌, ◌⊎◌}
+use Rattle.std.specs.Prelude.{Bool, Contains, List, None, Ok, Some, [], false, is_some, length, option_and_then, true, ℕ, ◌∷◌, ◌≡◌, ◌⊎◌}
 
 -- ---- what a call may be for, from where its act began
 
@@ -122,26 +122,32 @@ abbrev ServesJob : Step → Work → LeaseNext → Type 0
 ServesJob x work n = (j : ℕ) (c : Command) (aim : Aim) → work ≡ ForJob j → command_numbered x.setting (seen x) j ≡ Some c → aim_of_command c ≡ Some aim → NextSuits aim n
 
 reads_suit : (x y : Step) (s : Session) (at : Spot) (work : Work) (step : LeaseStep) → ((op : Op) → CallSuits x.setting (seen x) (Lease work step) op) → ReadAllowed (MaySuit x) y s at work step
-reads_suit x y s at work (ReadArea name) h = h (ReadSectors (y.setting.layout.hosts + 2))
-reads_suit x y s at work ReadBeforeFree h = h (ReadSectors (y.setting.layout.hosts + 2))
-reads_suit x y s at work Phase1Write h = h (ReadSectors y.setting.layout.hosts)
-reads_suit x y s at work Phase1Read h = h (ReadSectors y.setting.layout.hosts)
-reads_suit x y s at work Phase2Write h = h (ReadSectors y.setting.layout.hosts)
-reads_suit x y s at work Phase2Read h = h (ReadSectors y.setting.layout.hosts)
-reads_suit x y s at work TakeLeader h = h (ReadSectors y.setting.layout.hosts)
-reads_suit x y s at work SetMode h = h (ReadSectors y.setting.layout.hosts)
-reads_suit x y s at work FreeLeader h = h (ReadSectors y.setting.layout.hosts)
-reads_suit x y s at work ClearMode h = h (ReadSectors y.setting.layout.hosts)
+reads_suit x y s at work (ReadArea name) h = h (ReadSectors (area_sectors y.setting.layout))
+reads_suit x y s at work ReadBeforeFree h = h (ReadSectors (area_sectors y.setting.layout))
+reads_suit x y s at work ReadBeforeBlock h = h (ReadSectors (block_sectors y.setting.layout))
+reads_suit x y s at work (ReadAgain (OfArea name)) h = h (ReadSectors (area_sectors y.setting.layout))
+reads_suit x y s at work (ReadAgain OfFree) h = h (ReadSectors (area_sectors y.setting.layout))
+reads_suit x y s at work (ReadAgain OfBlock) h = h (ReadSectors (block_sectors y.setting.layout))
+reads_suit x y s at work (ReadAgain OfPhase1) h = h (ReadSectors (block_sectors y.setting.layout))
+reads_suit x y s at work (ReadAgain OfPhase2) h = h (ReadSectors (block_sectors y.setting.layout))
+reads_suit x y s at work Phase1Write h = h (ReadSectors (block_sectors y.setting.layout))
+reads_suit x y s at work Phase1Read h = h (ReadSectors (block_sectors y.setting.layout))
+reads_suit x y s at work Phase2Write h = h (ReadSectors (block_sectors y.setting.layout))
+reads_suit x y s at work Phase2Read h = h (ReadSectors (block_sectors y.setting.layout))
+reads_suit x y s at work TakeLeader h = h (ReadSectors (block_sectors y.setting.layout))
+reads_suit x y s at work SetMode h = h (ReadSectors (block_sectors y.setting.layout))
+reads_suit x y s at work FreeLeader h = h (ReadSectors (block_sectors y.setting.layout))
+reads_suit x y s at work ClearMode h = h (ReadSectors (block_sectors y.setting.layout))
 
 lease_suits : (x y : Step) (s : Session) (at : Spot) (work : Work) (n : LeaseNext) → ServesJob x work n → LeaseAllowed Anything (MaySuit x) AnyStart y s at work n
 lease_suits x y s at work No_lease h = tt
 lease_suits x y s at work (ReadFor step) h = reads_suit x y s at work step (λ op. work_suits x.setting (seen x) work step op h)
-lease_suits x y s at work (WriteBlock step b) h = work_suits x.setting (seen x) work step (WriteRecord (BlockIs b)) h
-lease_suits x y s at work (WriteLeader step l) h = work_suits x.setting (seen x) work step (WriteRecord (LeaderIs l)) h
+lease_suits x y s at work (WriteBlock step b) h = work_suits x.setting (seen x) work step _ h
+lease_suits x y s at work (WriteLeader step l) h = work_suits x.setting (seen x) work step (WriteRecord (leader_record y.setting.layout l)) h
 lease_suits x y s at work (AnswerJob r) h = λ j is. tt
 lease_suits x y s at work (GrantJob mode lver) h = λ j c is reads. grant_plain j lver c
-lease_suits x y s at work (BecomeShared lver l) h = ((λ j is. tt), settling_suits x.setting (seen x) FreeLeader (WriteRecord (LeaderIs l)))
-lease_suits x y s at work (BecomeExclusive lver b) h = ((λ j is. tt), λ g. settling_suits x.setting (seen x) ClearMode (WriteRecord (BlockIs b)))
+lease_suits x y s at work (BecomeShared lver l) h = ((λ j is. tt), settling_suits x.setting (seen x) FreeLeader (WriteRecord (leader_record y.setting.layout l)))
+lease_suits x y s at work (BecomeExclusive lver b) h = ((λ j is. tt), λ z same. settling_suits x.setting (seen x) ClearMode _)
 
 request_suits : (x : Step) (s : Session) (j : ℕ) (bytes : List ℕ) (c : Command) → RequestAllowed Anything (MaySuit x) x s j bytes c
 request_suits x s j bytes (Request r asked force) = ((λ why is. tt), plain_suits _ _ (RequestWrite j (owner_read x.setting.layout bytes)) _ refl (no_lease (RequestWrite j (owner_read x.setting.layout bytes)) refl))
@@ -218,8 +224,9 @@ led_serves x s at work step m answer aim k all hears is aimed j c a its named of
     let ours : aim ≡ a =
     some_value aim a (sym aimed ∙ (ap (λ w. aim_of x.setting (seen x) w) its ∙ (ap (λ o. option_and_then aim_of_command o) named ∙ of))) in
     subst (λ z. NextSuits z (next_of_lease x.setting (seen x) s at aim m step answer)) ours
+    (within_suits (lease_place x.setting s) (known x.setting (seen x) s at) aim aim _
     (next_suits (lease_place x.setting s) (known x.setting (seen x) s at) aim m.call.number (lver_written m) step answer
-    (subst (λ z. suits z step ≡ true) (sym ours) ((heard_suits x s m answer k all hears).step j step c a (is ∙ ap (λ w. Lease w step) its) named of)))
+    (subst (λ z. suits z step ≡ true) (sym ours) ((heard_suits x s m answer k all hears).step j step c a (is ∙ ap (λ w. Lease w step) its) named of))))
 
 -- ---- lines
 
@@ -259,19 +266,22 @@ decision_suits x text c d wake says is = by d (subst (λ z. HasGrounds x.setting
   by (Leaves s) g = (tt, λ z k i there. tt)
   by (ReadsArea s r) g =
       let a = acquires c r g.acquires.asks in
-      work_suits _ _ (ForJob (next_job x.setting (seen x))) (ReadArea r.name) (ReadSectors (x.setting.layout.hosts + 2)) (serves (ReadFor (ReadArea r.name)) (Acquires a.0) a.1 refl)
+      work_suits _ _ (ForJob (next_job x.setting (seen x))) (ReadArea r.name) (ReadSectors (area_sectors x.setting.layout)) (serves (ReadFor (ReadArea r.name)) (Acquires a.0) a.1 refl)
   by (Shares s lver) g = grant_plain (next_job x.setting (seen x)) lver c
   by (GivesUp s e) g =
       let z : Step = add_end (end_of e) y in (
         tt,
-        lease_suits y z s (spot_of_grant e) (ForJob (next_job x.setting (seen x))) (release_next (lease_place x.setting s) (known x.setting (seen z) s (spot_of_grant e)) e.mode e.lver)
-            (serves (release_next (lease_place x.setting s) (known x.setting (seen z) s (spot_of_grant e)) e.mode e.lver) Releases (releases c g.resource e g.releases) (release_suits (lease_place x.setting s) (known x.setting (seen z) s (spot_of_grant e)) e.mode e.lver)),
+        lease_suits y z s (spot_of_grant e) (ForJob (next_job x.setting (seen x))) (next_of_release x.setting (seen z) s (spot_of_grant e) e)
+            (serves (next_of_release x.setting (seen z) s (spot_of_grant e) e) Releases (releases c g.resource e g.releases)
+            (within_suits (lease_place x.setting s) (known x.setting (seen z) s (spot_of_grant e)) Releases Releases _
+            (release_suits (lease_place x.setting s) (known x.setting (seen z) s (spot_of_grant e)) e.mode e.lver))),
       )
   by (TakesOver s e) g = grant_plain (next_job x.setting (seen x)) e.lver c
   by (ConvertsTo s r mode) g =
-      let n : LeaseNext = convert_next (known x.setting (seen y) s (spot_of r)) mode r.name in
+      let n : LeaseNext = next_of_conversion x.setting (seen y) s (spot_of r) mode r.name in
       lease_suits y y s (spot_of r) (ForJob (next_job x.setting (seen x))) n (serves n (Converts (wanted_mode (Convert r g.shared g.process))) (ap (λ z. aim_of_command z) g.command)
-      (conversion_suits (known x.setting (seen y) s (spot_of r)) (wanted_mode (Convert r g.shared g.process)) mode r.name))
+      (within_suits (lease_place x.setting s) (known x.setting (seen y) s (spot_of r)) (Converts (wanted_mode (Convert r g.shared g.process))) (Converts mode) _
+      (conversion_suits (known x.setting (seen y) s (spot_of r)) (wanted_mode (Convert r g.shared g.process)) mode r.name)))
   by (Requests s r) g = plain_suits _ _ (RequestRead (next_job x.setting (seen x))) _ refl (no_lease (RequestRead (next_job x.setting (seen x))) refl)
   by (SetsValue s at v) g = plain_suits _ _ (ValueWrite (next_job x.setting (seen x))) _ refl (no_lease (ValueWrite (next_job x.setting (seen x))) refl)
   by (GetsValue s at) g = plain_suits _ _ (ValueRead (next_job x.setting (seen x))) _ refl (no_lease (ValueRead (next_job x.setting (seen x))) refl)
@@ -369,7 +379,7 @@ calls_suit =
           let n : DeltaNext = next_renewal (delta_of_session x.setting s) x.reading (delta_known x.setting (seen x) s) (bits_due x.setting (calls_of (seen x) s) x.reading) in
           end_suiting x _ (delta (Suiting x) (Suiting x) Anything (MaySuit x) AnyStart AnyMove (suiting x) x s n (delta_suits x s n) (begin_suiting x h.so_far));
       settles = λ x s spot has wake active whole none h.
-          let n : LeaseNext = settle_next (lease_place x.setting s) (known x.setting (seen x) s spot) in
+          let n : LeaseNext = next_of_settling x.setting (seen x) s spot in
           end_suiting x _ (lease (Suiting x) (Suiting x) Anything (MaySuit x) AnyStart AnyMove (suiting x) x s spot Settling n
           (lease_suits x x s spot Settling n (λ j c aim its. absurd (none_some j (ap (λ w. work_job w) its)))) (begin_suiting x h.so_far));
       parts = λ x s p1 p2 p3 p4 p5 h. end_suiting x _ (removal (Suiting x) (Suiting x) Anything (MaySuit x) AnyStart AnyMove (suiting x) x s.lockspace tt (begin_suiting x h.so_far));

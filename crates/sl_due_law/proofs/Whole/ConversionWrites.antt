@@ -32,6 +32,8 @@ use Rattle.sl_trace.specs.declared.effects.Mode.{Mode}
 use Rattle.sl_trace.specs.declared.input.Input.TheVariants.{Line, Wake}
 use Rattle.sl_words.proofs.CaseLaws.{one_value, true_is_false}
 use Rattle.sl_words.specs.Words.{same_truth}
+use Rattle.sl_acts.specs.Acts.{next_of_conversion}
+use Rattle.sl_due_facts.proofs.Jobs.PlainNexts.{conversion_plain}
 use Rattle.std.proofs.Common.{ap, arith, refl, subst, sym, ◌∙◌}
 use Rattle.std.proofs.lemmas.Bool.{eqb-true}
 use Rattle.std.specs.Option.{option_map_or}
@@ -74,12 +76,11 @@ unshared : (b : Bool) → same_truth true b ≡ false → b ≡ false
 unshared true is = absurd (true_is_false is)
 unshared false is = refl
 
--- What a conversion writes.
-pub converts_well : (x : Step) (text : List ℕ) (c : Command) (s : Session) (r : ResourceArg) (mode : Mode) → x.input ≡ Wake → x.effects.calls ≡ [] → Whole x → decided x.setting (seen x) x.reading c ≡ ConvertsTo s r mode
+convert_well : (x : Step) (text : List ℕ) (c : Command) (s : Session) (r : ResourceArg) (mode : Mode) → x.input ≡ Wake → x.effects.calls ≡ [] → Whole x → decided x.setting (seen x) x.reading c ≡ ConvertsTo s r mode
     → LeaseWrites (convert_next (known x.setting (seen (with_input (Line text) x)) s (spot_of r)) mode r.name)
 unfolding known
-converts_well x text c s r Exclusive wake bare w is = tt
-converts_well x text c s r Shared wake bare w is = by (block_submitted (lease_calls x.setting (seen y) s (spot_of r))) refl where
+convert_well x text c s r Exclusive wake bare w is = tt
+convert_well x text c s r Shared wake bare w is = by (block_submitted (lease_calls x.setting (seen y) s (spot_of r))) refl where
   y : Step
   y = with_input (Line text) x
 
@@ -103,3 +104,9 @@ converts_well x text c s r Shared wake bare w is = by (block_submitted (lease_ca
       let held = find_inside (λ (z : Grant). z.process == g.process && true) (holdings_on (seen x) s (spot_of r)) g.holding g.held in
       moded own (generation_of (seen y) s) (own_is_record x s (spot_of r) own w before) (held_block x s r g.holding own w inside held.0 (unshared (is_shared g.holding.mode) g.other) before)
       (subst (λ k. 1 ≤ k) same n.0) (subst (λ k. Fits k) same (fits_it (generation_of (seen x) s) n.1))
+
+-- What a conversion writes.
+pub converts_well : (x : Step) (text : List ℕ) (c : Command) (s : Session) (r : ResourceArg) (mode : Mode) → x.input ≡ Wake → x.effects.calls ≡ [] → Whole x → decided x.setting (seen x) x.reading c ≡ ConvertsTo s r mode
+    → LeaseWrites (next_of_conversion x.setting (seen (with_input (Line text) x)) s (spot_of r) mode r.name)
+converts_well x text c s r mode wake bare w is =
+    subst (λ n. LeaseWrites n) (sym (conversion_plain x.setting (seen (with_input (Line text) x)) s (spot_of r) mode r.name w.setting.unpaired)) (convert_well x text c s r mode wake bare w is)

@@ -2,9 +2,9 @@
 use Rattle.sl_acts.proofs.DecisionsAreTheirs.{Of}
 use Rattle.sl_acts.proofs.InputsKeep.{has_heard}
 use Rattle.sl_acts.proofs.PlainActs.{line_has}
-use Rattle.sl_acts.specs.Acts.{Has}
+use Rattle.sl_acts.specs.Acts.{Has, next_of_conversion, next_of_release, next_of_settling}
 use Rattle.sl_acts.specs.SoFar.{entry_of}
-use Rattle.sl_area.specs.Places.{block_offset, leader_offset, request_offset, delta_offset, value_offset}
+use Rattle.sl_area.specs.Places.{area_sectors, block_offset, block_sectors, delta_offset, leader_offset, leader_record, request_offset, value_offset}
 use Rattle.sl_due.specs.DueAnswers.{set_reply}
 use Rattle.sl_due.specs.DueCommands.{after_end, carry_decision, decided}
 use Rattle.sl_due.specs.DueDelta.{carry_delta}
@@ -38,7 +38,7 @@ use Rattle.sl_due_leases.specs.Holdings.DecisionGrounds.{AsksLease, ConvertGroun
 use Rattle.sl_trace.specs.Ballots.{moded_block}
 use Rattle.sl_trace.specs.Counts.{may_act}
 use Rattle.sl_trace.specs.Jobs.{job_of_start, command_numbered, process_named, resource_named}
-use Rattle.sl_trace.specs.LeaseWork.{lease_place, settle_next, leader_for, convert_next, release_next}
+use Rattle.sl_trace.specs.LeaseWork.{lease_place, convert_next, release_next}
 use Rattle.sl_trace.specs.Leases.{known, is_on, lver_written, spot_of, spot_of_call, holdings_on}
 use Rattle.sl_trace.specs.declared.lease.Aim.{Aim}
 use Rattle.sl_trace.specs.declared.lease.LeaseNext.{LeaseNext}
@@ -46,7 +46,7 @@ use Rattle.sl_trace.specs.declared.lease.LeaseNext.TheVariants.{AnswerJob, Becom
 use Rattle.sl_plain.proofs.Lists.{got_inside, find_inside, kept_inside}
 use Rattle.sl_plain.proofs.Numbers.{trans_le}
 use Rattle.sl_sector.specs.declared.sector.Block.{Block}
-use Rattle.sl_sector.specs.declared.sector.Rec.TheVariants.{BlockIs, DeltaIs, LeaderIs, RequestIs, ValueIs}
+use Rattle.sl_sector.specs.declared.sector.Rec.TheVariants.{BlockIs, DeltaIs, RequestIs, ValueIs}
 use Rattle.sl_trace.specs.Deltas.{delta_known, delta_of_session, next_after_free, next_after_renewal, next_in_joining, next_on_wake, own_offset}
 use Rattle.sl_trace.specs.Sessions.{calls_of, generation_of, recovery_of, sessions, holdings_of}
 use Rattle.sl_trace.specs.declared.delta.DeltaNext.{DeltaNext}
@@ -60,7 +60,7 @@ use Rattle.sl_trace.specs.declared.effects.Call.{Call}
 use Rattle.sl_trace.specs.declared.effects.Grant.{Grant}
 use Rattle.sl_trace.specs.declared.effects.JoinStep.TheVariants.{FirstRead}
 use Rattle.sl_trace.specs.declared.effects.LeaseStep.{LeaseStep}
-use Rattle.sl_trace.specs.declared.effects.LeaseStep.TheVariants.{ClearMode, FreeLeader, Phase1Read, Phase1Write, Phase2Read, Phase2Write, ReadArea, ReadBeforeFree, SetMode, TakeLeader}
+use Rattle.sl_trace.specs.declared.effects.LeaseStep.TheVariants.{ClearMode, FreeLeader, Phase1Read, Phase1Write, Phase2Read, Phase2Write, ReadAgain, ReadArea, ReadBeforeBlock, ReadBeforeFree, SetMode, TakeLeader}
 use Rattle.sl_trace.specs.declared.effects.Mode.{Mode}
 use Rattle.sl_trace.specs.declared.effects.Mode.TheVariants.{Exclusive, Shared}
 use Rattle.sl_trace.specs.declared.effects.Op.{Op}
@@ -81,7 +81,7 @@ use Rattle.sl_words.proofs.WordLaws.{and_true}
 use Rattle.std.proofs.Common.{refl, subst, ap, inl, sym, ◌∙◌, arith, inr}
 use Rattle.std.proofs.lemmas.Bool.{leb-true, eqb-true}
 use Rattle.std.specs.Option.{option_map_or}
-use Rattle.std.specs.Prelude.{List, None, Option, Some, false, if◌then◌else◌, is_some, ℕ, ◌+◌, ◌==◌, ◌≡◌, Bool, Contains, [], length, nat_le, true, ◌%◌, ◌&&◌, ◌||◌, ◌∷◌, ◌≤◌, Ok, not, ◌<◌, ◌⊎◌}
+use Rattle.std.specs.Prelude.{List, None, Option, Some, false, if◌then◌else◌, is_some, ℕ, ◌==◌, ◌≡◌, Bool, Contains, [], length, nat_le, true, ◌%◌, ◌&&◌, ◌||◌, ◌∷◌, ◌≤◌, Ok, not, ◌<◌, ◌⊎◌}
 use Rattle.sl_due_leases.proofs.Grants.WorksByAnswers.{new_spot, nobody_there, one_job, settling_no_job}
 use Rattle.sl_due_leases.proofs.Grants.WorksByLines.{Lined, nobody_waits}
 use Rattle.sl_due_leases.proofs.Grants.WorksByDeltas.{is_lease_purpose}
@@ -109,6 +109,8 @@ use Rattle.sl_due.specs.Steps.{begin_step}
 use Rattle.sl_due.specs.DueCommands.{after_end}
 use Rattle.sl_due_law.specs.Whole.JobLore.{Converting, HoldsThere, JobLore}
 use Rattle.sl_due_law.specs.Whole.Kept.{Holds, Kept}
+use Rattle.sl_due_facts.proofs.Jobs.PlainNexts.{block_plain, conversion_plain, release_plain}
+use Rattle.sl_trace.specs.declared.effects.LeaseRead.TheVariants.{OfArea, OfBlock, OfFree, OfPhase1, OfPhase2}
 
 -- ---- what a step rests on
 
@@ -136,15 +138,21 @@ settled : (x : Step) (s : Session) (at : Spot) (n : LeaseNext) → ConvertsNow x
 unfolding carry_lease
 settled x s at Nothing h = h
 settled x s at (ReadFor step) h = reads step where
-  area : (step : LeaseStep) → ConvertsNow (lease_call s at Settling step at.base (ReadSectors (x.setting.layout.hosts + 2)) x)
-  area step = settling x s at step at.base (ReadSectors (x.setting.layout.hosts + 2)) h
+  area : (step : LeaseStep) → ConvertsNow (lease_call s at Settling step at.base (ReadSectors (area_sectors x.setting.layout)) x)
+  area step = settling x s at step at.base (ReadSectors (area_sectors x.setting.layout)) h
 
-  blocks : (step : LeaseStep) → ConvertsNow (lease_call s at Settling step (block_offset x.setting.layout at.base 1) (ReadSectors x.setting.layout.hosts) x)
-  blocks step = settling x s at step (block_offset x.setting.layout at.base 1) (ReadSectors x.setting.layout.hosts) h
+  blocks : (step : LeaseStep) → ConvertsNow (lease_call s at Settling step (block_offset x.setting.layout at.base 1) (ReadSectors (block_sectors x.setting.layout)) x)
+  blocks step = settling x s at step (block_offset x.setting.layout at.base 1) (ReadSectors (block_sectors x.setting.layout)) h
 
   reads : (step : LeaseStep) → ConvertsNow (read_for s at Settling step x)
   reads (ReadArea name) = area (ReadArea name)
   reads ReadBeforeFree = area ReadBeforeFree
+  reads ReadBeforeBlock = blocks ReadBeforeBlock
+  reads (ReadAgain (OfArea name)) = area (ReadAgain (OfArea name))
+  reads (ReadAgain OfFree) = area (ReadAgain OfFree)
+  reads (ReadAgain OfBlock) = blocks (ReadAgain OfBlock)
+  reads (ReadAgain OfPhase1) = blocks (ReadAgain OfPhase1)
+  reads (ReadAgain OfPhase2) = blocks (ReadAgain OfPhase2)
   reads Phase1Write = blocks Phase1Write
   reads Phase1Read = blocks Phase1Read
   reads Phase2Write = blocks Phase2Write
@@ -153,12 +161,12 @@ settled x s at (ReadFor step) h = reads step where
   reads SetMode = blocks SetMode
   reads FreeLeader = blocks FreeLeader
   reads ClearMode = blocks ClearMode
-settled x s at (WriteBlock step b) h = settling x s at step (block_offset x.setting.layout at.base s.id) (WriteRecord (BlockIs b)) h
-settled x s at (WriteLeader step l) h = settling x s at step (leader_offset at.base) (WriteRecord (LeaderIs l)) h
+settled x s at (WriteBlock step b) h = settling x s at step _ _ h
+settled x s at (WriteLeader step l) h = settling x s at step _ _ h
 settled x s at (AnswerJob r) h = h
 settled x s at (GrantJob mode lver) h = h
-settled x s at (BecomeShared lver l) h = settling x s at FreeLeader (leader_offset at.base) (WriteRecord (LeaderIs l)) h
-settled x s at (BecomeExclusive lver b) h = settling x s at ClearMode (block_offset x.setting.layout at.base s.id) (WriteRecord (BlockIs b)) h
+settled x s at (BecomeShared lver l) h = settling x s at FreeLeader _ _ h
+settled x s at (BecomeExclusive lver b) h = settling x s at ClearMode _ _ h
 
 -- ---- a job's lease
 
@@ -216,7 +224,8 @@ led : (x : Step) (s : Session) (work : Work) (step : LeaseStep) (m : Submitted) 
 unfolding carry_lease
 led x s Settling step m answer aim k l = settled x s (spot_at x m) (next_of_lease x.setting (seen x) s (spot_at x m) aim m step answer) k.so_far
 led x s (ForJob j) step m answer aim k l =
-    by (next_of_lease x.setting (seen x) s (spot_at x m) aim m step answer) (next_fits (lease_place x.setting s) (known x.setting (seen x) s (spot_at x m)) aim m.call.number (lver_written m) step answer) where
+    by (next_of_lease x.setting (seen x) s (spot_at x m) aim m step answer)
+    (next_fits (lease_place x.setting s) (known x.setting (seen x) s (spot_at x m)) aim m.call.number (lver_written m) step answer) where
       st : Setting
       st = x.setting
 
@@ -226,19 +235,25 @@ led x s (ForJob j) step m answer aim k l =
       h : ConvertsNow x
       h = k.so_far
 
-      blocks : (at : LeaseStep) → ConvertsNow (lease_call s (spot_at x m) (ForJob j) at (block_offset st.layout (spot_at x m).base 1) (ReadSectors st.layout.hosts) x)
+      blocks : (at : LeaseStep) → ConvertsNow (lease_call s (spot_at x m) (ForJob j) at (block_offset st.layout (spot_at x m).base 1) (ReadSectors (block_sectors st.layout)) x)
       blocks at =
-          job_call x s (spot_at x m) j at (block_offset st.layout (spot_at x m).base 1) (ReadSectors st.layout.hosts) (heard_holds x s j step m answer aim k l)
-          (block_on st (spot_at x m) 1 (call_added s.number (spot_at x m).path (Lease (ForJob j) at) (block_offset st.layout (spot_at x m).base 1) (ReadSectors st.layout.hosts) x) l.whole.0.setting (trans_le 1 s.id st.layout.hosts id.0 id.1) refl refl) h
+          job_call x s (spot_at x m) j at (block_offset st.layout (spot_at x m).base 1) (ReadSectors (block_sectors st.layout)) (heard_holds x s j step m answer aim k l)
+          (block_on st (spot_at x m) 1 (call_added s.number (spot_at x m).path (Lease (ForJob j) at) (block_offset st.layout (spot_at x m).base 1) (ReadSectors (block_sectors st.layout)) x) l.whole.0.setting (trans_le 1 s.id st.layout.hosts id.0 id.1) refl refl) h
 
-      area : (at : LeaseStep) → ConvertsNow (lease_call s (spot_at x m) (ForJob j) at (spot_at x m).base (ReadSectors (st.layout.hosts + 2)) x)
+      area : (at : LeaseStep) → ConvertsNow (lease_call s (spot_at x m) (ForJob j) at (spot_at x m).base (ReadSectors (area_sectors st.layout)) x)
       area at =
-          job_call x s (spot_at x m) j at (spot_at x m).base (ReadSectors (st.layout.hosts + 2)) (heard_holds x s j step m answer aim k l)
-          (base_on st (spot_at x m) (call_added s.number (spot_at x m).path (Lease (ForJob j) at) (spot_at x m).base (ReadSectors (st.layout.hosts + 2)) x) l.whole.0.setting refl refl) h
+          job_call x s (spot_at x m) j at (spot_at x m).base (ReadSectors (area_sectors st.layout)) (heard_holds x s j step m answer aim k l)
+          (base_on st (spot_at x m) (call_added s.number (spot_at x m).path (Lease (ForJob j) at) (spot_at x m).base (ReadSectors (area_sectors st.layout)) x) l.whole.0.setting refl refl) h
 
       reads : (at : LeaseStep) → ConvertsNow (read_for s (spot_at x m) (ForJob j) at x)
       reads (ReadArea name) = area (ReadArea name)
       reads ReadBeforeFree = area ReadBeforeFree
+      reads ReadBeforeBlock = blocks ReadBeforeBlock
+      reads (ReadAgain (OfArea name)) = area (ReadAgain (OfArea name))
+      reads (ReadAgain OfFree) = area (ReadAgain OfFree)
+      reads (ReadAgain OfBlock) = blocks (ReadAgain OfBlock)
+      reads (ReadAgain OfPhase1) = blocks (ReadAgain OfPhase1)
+      reads (ReadAgain OfPhase2) = blocks (ReadAgain OfPhase2)
       reads Phase1Write = blocks Phase1Write
       reads Phase1Read = blocks Phase1Read
       reads Phase2Write = blocks Phase2Write
@@ -256,19 +271,20 @@ led x s (ForJob j) step m answer aim k l =
       by Nothing fit = h
       by (ReadFor at) fit = reads at
       by (WriteBlock at b) fit =
-          job_call x s (spot_at x m) j at (block_offset st.layout (spot_at x m).base s.id) (WriteRecord (BlockIs b)) (heard_holds x s j step m answer aim k l)
-          (block_on st (spot_at x m) s.id (call_added s.number (spot_at x m).path (Lease (ForJob j) at) (block_offset st.layout (spot_at x m).base s.id) (WriteRecord (BlockIs b)) x) l.whole.0.setting id.1 refl refl) h
+          subst (λ z. ConvertsNow z) (sym (block_plain x s (spot_at x m) (ForJob j) at b l.whole.0.setting.unpaired))
+          (job_call x s (spot_at x m) j at (block_offset st.layout (spot_at x m).base s.id) (WriteRecord (BlockIs b)) (heard_holds x s j step m answer aim k l)
+          (block_on st (spot_at x m) s.id (call_added s.number (spot_at x m).path (Lease (ForJob j) at) (block_offset st.layout (spot_at x m).base s.id) (WriteRecord (BlockIs b)) x) l.whole.0.setting id.1 refl refl) h)
       by (WriteLeader at v) fit =
-          job_call x s (spot_at x m) j at (leader_offset (spot_at x m).base) (WriteRecord (LeaderIs v)) (heard_holds x s j step m answer aim k l)
-          (base_on st (spot_at x m) (call_added s.number (spot_at x m).path (Lease (ForJob j) at) (leader_offset (spot_at x m).base) (WriteRecord (LeaderIs v)) x) l.whole.0.setting refl refl) h
+          job_call x s (spot_at x m) j at (leader_offset (spot_at x m).base) (WriteRecord (leader_record st.layout v)) (heard_holds x s j step m answer aim k l)
+          (base_on st (spot_at x m) (call_added s.number (spot_at x m).path (Lease (ForJob j) at) (leader_offset (spot_at x m).base) (WriteRecord (leader_record st.layout v)) x) l.whole.0.setting refl refl) h
       by (AnswerJob r) fit = told x j r fit h
       by (GrantJob mode lver) fit = granted mode lver (command_numbered x.setting (seen x) j)
       by (BecomeShared lver v) fit =
           let y : Step = for_work (ForJob j) (λ i. with_command i (λ c. convert_for s (spot_at x m) i c Shared lver)) x in
-          settling y s (spot_at x m) FreeLeader (leader_offset (spot_at x m).base) (WriteRecord (LeaderIs v)) (become x s j step m answer aim l h Shared lver)
+          settling y s (spot_at x m) FreeLeader _ _ (become x s j step m answer aim l h Shared lver)
       by (BecomeExclusive lver b) fit =
           let y : Step = for_work (ForJob j) (λ i. with_command i (λ c. convert_for s (spot_at x m) i c Exclusive lver)) x in
-          settling y s (spot_at x m) ClearMode (block_offset y.setting.layout (spot_at x m).base s.id) (WriteRecord (BlockIs b)) (become x s j step m answer aim l h Exclusive lver)
+          settling y s (spot_at x m) ClearMode _ _ (become x s j step m answer aim l h Exclusive lver)
 
 -- ---- lines
 
@@ -292,63 +308,66 @@ was_started t p may = by (nat_le p most_processes) refl may where
       inr (k.0, k.1, a.1 ∙ ap (λ b. Some b) a.2)
 
 conversion : (x : Step) (text : List ℕ) (c : Command) (s : Session) (r : ResourceArg) (mode : Mode) → Lined x text c s → ConvertGrounds x.setting (seen x) c s r mode → ConvertsNow (with_input (Line text) x)
-    → ConvertsNow (carry_lease s (spot_of r) (ForJob (next_job x.setting (seen x))) (convert_next (known x.setting (seen (with_input (Line text) x)) s (spot_of r)) mode r.name) (with_input (Line text) x))
+    → ConvertsNow (carry_lease s (spot_of r) (ForJob (next_job x.setting (seen x))) (next_of_conversion x.setting (seen (with_input (Line text) x)) s (spot_of r) mode r.name) (with_input (Line text) x))
 unfolding carry_lease
-conversion x text c s r mode l g h = by mode where
-  st : Setting
-  st = x.setting
+conversion x text c s r mode l g h =
+    subst (λ n. ConvertsNow (carry_lease s (spot_of r) (ForJob (next_job x.setting (seen x))) n (with_input (Line text) x)))
+    (sym (conversion_plain x.setting (seen (with_input (Line text) x)) s (spot_of r) mode r.name l.known.0.setting.unpaired)) (by mode) where
+      st : Setting
+      st = x.setting
 
-  at : Spot
-  at = spot_of r
+      at : Spot
+      at = spot_of r
 
-  y : Step
-  y = with_input (Line text) x
+      y : Step
+      y = with_input (Line text) x
 
-  j : ℕ
-  j = next_job x.setting (seen x)
+      j : ℕ
+      j = next_job x.setting (seen x)
 
-  id : (1 ≤ s.id) × (s.id ≤ st.layout.hosts)
-  id = ids_within st (seen y) s l.known.0.setting (got_inside (sessions st (seen y)) s.number s l.has)
+      id : (1 ≤ s.id) × (s.id ≤ st.layout.hosts)
+      id = ids_within st (seen y) s l.known.0.setting (got_inside (sessions st (seen y)) s.number s l.has)
 
-  base : (spot_of r).base % x.setting.layout.area ≡ 0
-  base = base_of st r (subst (λ k. IsCommand st.layout k) g.command l.command).0
+      base : (spot_of r).base % x.setting.layout.area ≡ 0
+      base = base_of st r (subst (λ k. IsCommand st.layout k) g.command l.command).0
 
-  f : Contains (holdings_on (seen x) s (spot_of r)) g.holding × ((g.holding.process == g.process && true) ≡ true)
-  f = find_inside (λ (k : Grant). k.process == g.process && true) (holdings_on (seen x) s at) g.holding g.held
+      f : Contains (holdings_on (seen x) s (spot_of r)) g.holding × ((g.holding.process == g.process && true) ≡ true)
+      f = find_inside (λ (k : Grant). k.process == g.process && true) (holdings_on (seen x) s at) g.holding g.held
 
-  on : Contains (holdings_of (seen x) s) g.holding × (same_place g.holding.path g.holding.offset r.path r.offset ≡ true)
-  on = kept_inside (λ (k : Grant). same_place k.path k.offset r.path r.offset) (holdings_of (seen x) s) g.holding f.0
+      on : Contains (holdings_of (seen x) s) g.holding × (same_place g.holding.path g.holding.offset r.path r.offset ≡ true)
+      on = kept_inside (λ (k : Grant). same_place k.path k.offset r.path r.offset) (holdings_of (seen x) s) g.holding f.0
 
-  mine : Contains (holdings (seen x)) g.holding × ((g.holding.session == s.number) ≡ true)
-  mine = kept_inside (λ (k : Grant). k.session == s.number) (holdings (seen x)) g.holding on.0
+      mine : Contains (holdings (seen x)) g.holding × ((g.holding.session == s.number) ≡ true)
+      mine = kept_inside (λ (k : Grant). k.session == s.number) (holdings (seen x)) g.holding on.0
 
-  holds : (d : Call) (a : ResourceArg) (shared : Bool) (p : ℕ) → d.session ≡ s.number → is_on x.setting.layout (spot_of r) d ≡ true → command_numbered x.setting (seen (with_input (Line text) x)) (next_job x.setting (seen x)) ≡ Some (Convert a shared p)
-      → HoldsThere x.setting (seen (with_input (Line text) x)) (new_call (length x.past) x.reading d) p
-  holds d a shared p its place named =
-      let same : g.process ≡ p =
-      some_value g.process p (ap (λ z. process_named z) (sym g.command ∙ some_value c (Convert a shared p) (sym (line_reads x text c l.wake l.says) ∙ named))) in
-      let spot : spot_of_call st.layout (new_call (length x.past) x.reading d) ≡ at = new_spot st at d l.known.0.setting base place in
-      holds_seen x (Line text) (new_call (length x.past) x.reading d) p l.wake (record {
-        holding = g.holding;
-        held = mine.0;
-        mine = eqb-true g.holding.session s.number mine.1 ∙ sym its;
-        there = subst (λ (z : Spot). same_place g.holding.path g.holding.offset z.path z.base ≡ true) (sym spot) on.1;
-        its = eqb-true g.holding.process g.process (and_true (g.holding.process == g.process) true f.1).0 ∙ same;
-        started = subst (λ n. (n < first_child) ⊎ ((k : Child) × (child_numbered (seen x) n ≡ Some k) × (k.answer ≡ Some true))) same (was_started (seen x) g.process g.acts);
-      })
+      holds : (d : Call) (a : ResourceArg) (shared : Bool) (p : ℕ) → d.session ≡ s.number → is_on x.setting.layout (spot_of r) d ≡ true → command_numbered x.setting (seen (with_input (Line text) x)) (next_job x.setting (seen x)) ≡ Some (Convert a shared p)
+          → HoldsThere x.setting (seen (with_input (Line text) x)) (new_call (length x.past) x.reading d) p
+      holds d a shared p its place named =
+          let same : g.process ≡ p =
+          some_value g.process p (ap (λ z. process_named z) (sym g.command ∙ some_value c (Convert a shared p) (sym (line_reads x text c l.wake l.says) ∙ named))) in
+          let spot : spot_of_call st.layout (new_call (length x.past) x.reading d) ≡ at = new_spot st at d l.known.0.setting base place in
+          holds_seen x (Line text) (new_call (length x.past) x.reading d) p l.wake (record {
+            holding = g.holding;
+            held = mine.0;
+            mine = eqb-true g.holding.session s.number mine.1 ∙ sym its;
+            there = subst (λ (z : Spot). same_place g.holding.path g.holding.offset z.path z.base ≡ true) (sym spot) on.1;
+            its = eqb-true g.holding.process g.process (and_true (g.holding.process == g.process) true f.1).0 ∙ same;
+            started = subst (λ n. (n < first_child) ⊎ ((k : Child) × (child_numbered (seen x) n ≡ Some k) × (k.answer ≡ Some true))) same (was_started (seen x) g.process g.acts);
+          })
 
-  by : (mode : Mode) → ConvertsNow (carry_lease s (spot_of r) (ForJob (next_job x.setting (seen x))) (convert_next (known x.setting (seen (with_input (Line text) x)) s (spot_of r)) mode r.name) (with_input (Line text) x))
-  by Exclusive =
-      job_call y s at j (ReadArea r.name) at.base (ReadSectors (st.layout.hosts + 2)) holds
-      (base_on st at (call_added s.number at.path (Lease (ForJob j) (ReadArea r.name)) at.base (ReadSectors (st.layout.hosts + 2)) y) l.known.0.setting refl refl) h
-  by Shared = sets (known x.setting (seen y) s at).own where
-    sets : (o : Option Block)
-        → ConvertsNow (carry_lease s (spot_of r) (ForJob (next_job x.setting (seen x))) (option_map_or (λ own. WriteBlock SetMode (moded_block own true (known x.setting (seen (with_input (Line text) x)) s (spot_of r)).self.generation)) o Nothing) (with_input (Line text) x))
-    sets None = h
-    sets (Some own) =
-        let b : Block = moded_block own true (known x.setting (seen y) s at).self.generation in
-        job_call y s at j SetMode (block_offset st.layout at.base s.id) (WriteRecord (BlockIs b)) holds
-        (block_on st at s.id (call_added s.number at.path (Lease (ForJob j) SetMode) (block_offset st.layout at.base s.id) (WriteRecord (BlockIs b)) y) l.known.0.setting id.1 refl refl) h
+      by : (mode : Mode) → ConvertsNow (carry_lease s (spot_of r) (ForJob (next_job x.setting (seen x))) (convert_next (known x.setting (seen (with_input (Line text) x)) s (spot_of r)) mode r.name) (with_input (Line text) x))
+      by Exclusive =
+          job_call y s at j (ReadArea r.name) at.base (ReadSectors (area_sectors st.layout)) holds
+          (base_on st at (call_added s.number at.path (Lease (ForJob j) (ReadArea r.name)) at.base (ReadSectors (area_sectors st.layout)) y) l.known.0.setting refl refl) h
+      by Shared = sets (known x.setting (seen y) s at).own where
+        sets : (o : Option Block)
+            → ConvertsNow (carry_lease s (spot_of r) (ForJob (next_job x.setting (seen x))) (option_map_or (λ own. WriteBlock SetMode (moded_block own true (known x.setting (seen (with_input (Line text) x)) s (spot_of r)).self.generation)) o Nothing) (with_input (Line text) x))
+        sets None = h
+        sets (Some own) =
+            let b : Block = moded_block own true (known x.setting (seen y) s at).self.generation in
+            subst (λ z. ConvertsNow z) (sym (block_plain y s at (ForJob j) SetMode b l.known.0.setting.unpaired))
+            (job_call y s at j SetMode (block_offset st.layout at.base s.id) (WriteRecord (BlockIs b)) holds
+            (block_on st at s.id (call_added s.number at.path (Lease (ForJob j) SetMode) (block_offset st.layout at.base s.id) (WriteRecord (BlockIs b)) y) l.known.0.setting id.1 refl refl) h)
 
 -- A release ends what nobody works on.
 giving : (x : Step) (text : List ℕ) (c : Command) (s : Session) (e : Grant) → Lined x text c s → GiveUpGrounds x.setting (seen x) c s e → ConvertsNow (with_input (Line text) x)
@@ -390,19 +409,21 @@ giving x text c s e l g h = by (holdings_on (seen z) s (spot_of_grant e)) where
 
   clears : (o : Option Block) → ConvertsNow (carry_lease s (spot_of_grant e) (ForJob (next_job x.setting (seen x))) (option_map_or (λ own. WriteBlock ClearMode (moded_block own false 0)) o Nothing) (add_end (end_of e) (with_input (Line text) x)))
   clears None = ended
-  clears (Some own) = writes ClearMode (block_offset x.setting.layout (spot_of_grant e).base s.id) (WriteRecord (BlockIs (moded_block own false 0)))
+  clears (Some own) = writes ClearMode _ _
 
   mode : (m : Mode) → ConvertsNow (carry_lease s (spot_of_grant e) (ForJob (next_job x.setting (seen x))) (release_next (lease_place x.setting s) (known x.setting (seen (add_end (end_of e) (with_input (Line text) x))) s (spot_of_grant e)) m e.lver) (add_end (end_of e) (with_input (Line text) x)))
-  mode Exclusive = writes FreeLeader (leader_offset (spot_of_grant e).base) (WriteRecord (LeaderIs (leader_for (lease_place x.setting s) (known x.setting (seen z) s (spot_of_grant e)) false e.lver)))
+  mode Exclusive = writes FreeLeader _ _
   mode Shared = clears (known x.setting (seen z) s (spot_of_grant e)).own
 
   by : (hs : List Grant)
       → ConvertsNow (elim hs as (λ w. Step) [
         | k ∷ rest ↦ add_reply (next_job x.setting (seen x)) Done (add_end (end_of e) (with_input (Line text) x))
-        | [] ↦ carry_lease s (spot_of_grant e) (ForJob (next_job x.setting (seen x))) (release_next (lease_place x.setting s) (known x.setting (seen (add_end (end_of e) (with_input (Line text) x))) s (spot_of_grant e)) e.mode e.lver) (add_end (end_of e) (with_input (Line text) x))
+        | [] ↦ carry_lease s (spot_of_grant e) (ForJob (next_job x.setting (seen x))) (next_of_release x.setting (seen (add_end (end_of e) (with_input (Line text) x))) s (spot_of_grant e) e) (add_end (end_of e) (with_input (Line text) x))
       ])
   by (k ∷ rest) = told z j Done refl ended
-  by [] = mode e.mode
+  by [] =
+      subst (λ n. ConvertsNow (carry_lease s (spot_of_grant e) (ForJob (next_job x.setting (seen x))) n (add_end (end_of e) (with_input (Line text) x))))
+      (sym (release_plain x.setting (seen (add_end (end_of e) (with_input (Line text) x))) s (spot_of_grant e) e l.known.0.setting.unpaired)) (mode e.mode)
 
 acquires_no_convert : (c : Command) (r : ResourceArg) → AsksLease c r → is_convert c ≡ false
 acquires_no_convert c r (inl a) = ap (λ z. is_convert z) a.3
@@ -431,7 +452,7 @@ lined_converting x text c d k wake bare says at =
       by (Joins n a) g has = other_call_converting y n a.path (Joining j FirstRead) (delta_offset x.setting.layout a.offset a.id) (ReadSectors 1) (other_work (Joining j FirstRead) refl) h
       by (Leaves s) g has = stopped_on ConvertsNow converting_go_on y s (Some j) (no_told x.past text) h
       by (ReadsArea s r) g has =
-          call_converting y s.number r.path (Lease (ForJob j) (ReadArea r.name)) r.offset (ReadSectors (x.setting.layout.hosts + 2))
+          call_converting y s.number r.path (Lease (ForJob j) (ReadArea r.name)) r.offset (ReadSectors (area_sectors x.setting.layout))
           (λ i b a shared p is runs named.
           absurd (no_convert x text c wake says (acquires_no_convert c r g.acquires.asks) a shared p (subst (λ n. command_numbered x.setting (seen y) n ≡ Some (Convert a shared p)) (sym (one_job j i (ReadArea r.name) b is).0) named))) h
       by (Shares s lver) g has = granted_on ConvertsNow converting_go_on grant_converting y s j c Shared lver h
@@ -524,7 +545,7 @@ conversions_hold =
       renews = λ x s has wake joined k.
           renewal_keeps ConvertsNow x s (delta_of_session x.setting s) x.reading (delta_known x.setting (seen x) s) (bits_due x.setting (calls_of (seen x) s) x.reading)
           (λ d. plain_call_converting x s s.path Renewal (own_offset x.setting s) (WriteRecord (DeltaIs d)) refl refl k.so_far) k.so_far;
-      settles = λ x s at has wake active aligned none k. settled x s at (settle_next (lease_place x.setting s) (known x.setting (seen x) s at)) k.so_far;
+      settles = λ x s at has wake active aligned none k. settled x s at (next_of_settling x.setting (seen x) s at) k.so_far;
       parts = λ x s has joined recovers free quiet k. removal_on ConvertsNow converting_go_on x s.lockspace k.so_far;
       frees = λ x s has joined well free quiet k.
           free_keeps ConvertsNow x s (λ j d. plain_call_converting x s s.path (Leaving j) (own_offset x.setting s) (WriteRecord (DeltaIs d)) refl refl k.so_far) k.so_far;

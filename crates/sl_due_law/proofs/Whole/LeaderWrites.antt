@@ -2,7 +2,7 @@
 use Rattle.sl_area.specs.Places.{leader_of}
 use Rattle.sl_due_law.proofs.Whole.OwnRecords.{few_hosts, fits_it, session_named_well}
 use Rattle.sl_run.specs.Lawful.{IsSetting}
-use Rattle.sl_run.specs.LawfulArea.{HasVerified, is_leader_read}
+use Rattle.sl_run.specs.LawfulArea.{HasVerified, IsLeaderGiven, is_leader_read, leaders_read}
 use Rattle.sl_due_leases.proofs.Leases.NamesVerified.{has_verified}
 use Rattle.sl_due_leases.proofs.Ways.Decoding.{leader_read}
 use Rattle.sl_due_leases.proofs.Ways.Kept.PlacesStand.{id_in_range}
@@ -14,15 +14,16 @@ use Rattle.sl_sector.specs.Records.{Fits, IsLeader}
 use Rattle.sl_due_facts.proofs.Sessions.JoinedNumbers.{HasNumbers}
 use Rattle.sl_trace.specs.Sessions.{calls_of, generation_of, sessions}
 use Rattle.sl_trace.specs.declared.session.Session.{Session}
-use Rattle.sl_due_facts.specs.Facts.WayFacts.{IsVerified, way_context}
+use Rattle.sl_due_facts.specs.Facts.WayFacts.{IsVerified, Ways, way_context}
 use Rattle.sl_text.specs.Names.{is_name}
 use Rattle.sl_trace.specs.Traces.{Setting, Submitted, Trace, gave}
 use Rattle.sl_trace.specs.declared.effects.Spot.{Spot}
 use Rattle.sl_words.proofs.WordLaws.{and_true}
+use Rattle.sl_words.proofs.CaseLaws.{not_both}
 use Rattle.std.proofs.Common.{ap, arith, inl, inr, refl, subst, ◌∙◌}
 use Rattle.std.proofs.lemmas.Slice.Eq.{bytes_eq-Decides}
 use Rattle.std.specs.List.{cons_option}
-use Rattle.std.specs.Prelude.{Bool, Contains, IsTrue, List, None, Option, Some, [], bytes_eq, filter, filter_map, option_and_then, ℕ, ◌&&◌, ◌==◌, ◌∷◌, ◌≡◌, ◌≤◌, ◌↔◌}
+use Rattle.std.specs.Prelude.{Bool, Contains, IsTrue, List, None, Option, Some, [], bytes_eq, false, filter, filter_map, option_and_then, ℕ, ◌&&◌, ◌==◌, ◌↔◌, ◌∷◌, ◌≡◌, ◌≤◌, ◌⊎◌}
 
 -- ---- the name
 
@@ -35,14 +36,20 @@ mapped_from {A} {B} f (a ∷ xs) y there = by (f a) refl there (λ rest. mapped_
   by (Some b) is inside rest = elim (contains_cases b (filter_map f xs) y inside) [ inl same ↦ (a, is ∙ ap (λ z. Some z) same) | inr further ↦ rest further ]
 
 -- A name that was verified is one, for the leader in which it was read keeps its rules.
-pub named_well : (st : Setting) (t : Trace) (s : Session) (at : Spot) (name : List ℕ) → HasVerified st t s at name → IsTrue (is_name name)
-named_well st t s at name h =
-    let m = mapped_from (λ (d : Submitted). option_and_then (leader_of st.layout) (gave d)) (filter (λ (d : Submitted). is_leader_read d.call.purpose && is_on st.layout at d.call) (calls_of t s)) h.0 h.1 in
-    let bytes = then_value (leader_of st.layout) (gave m.0) h.0 m.1 in
-    let read : IsLeader h.0 = leader_read st.layout bytes.0 h.0 bytes.2 in
-    let named = and_true (bytes_eq h.0.lockspace s.lockspace && bytes_eq h.0.resource name) (h.0.num_hosts == st.layout.hosts) h.2 in
-    let same = and_true (bytes_eq h.0.lockspace s.lockspace) (bytes_eq h.0.resource name) named.0 in
-    subst (λ n. IsTrue (is_name n)) ((bytes_eq-Decides h.0.resource name).0 same.1) read.resource
+pub named_well : (st : Setting) (t : Trace) (s : Session) (at : Spot) (name : List ℕ) → st.layout.paired ≡ false → HasVerified st t s at name → IsTrue (is_name name)
+named_well st t s at name plain h = subst (λ n. IsTrue (is_name n)) ((bytes_eq-Decides h.0.resource name).0 same.1) (by h.1).resource where
+  named : IsTrue (bytes_eq h.0.lockspace s.lockspace && bytes_eq h.0.resource name) × IsTrue (h.0.num_hosts == st.layout.hosts)
+  named = and_true (bytes_eq h.0.lockspace s.lockspace && bytes_eq h.0.resource name) (h.0.num_hosts == st.layout.hosts) h.2
+
+  same : IsTrue (bytes_eq h.0.lockspace s.lockspace) × IsTrue (bytes_eq h.0.resource name)
+  same = and_true (bytes_eq h.0.lockspace s.lockspace) (bytes_eq h.0.resource name) named.0
+
+  by : Contains (leaders_read st t s at) h.0 ⊎ IsLeaderGiven st t s at h.0 → IsLeader h.0
+  by (inl there) =
+      let m = mapped_from (λ (d : Submitted). option_and_then (leader_of st.layout) (gave d)) (filter (λ (d : Submitted). is_leader_read d.call.purpose && is_on st.layout at d.call) (calls_of t s)) h.0 there in
+      let bytes = then_value (leader_of st.layout) (gave m.0) h.0 m.1 in
+      leader_read st.layout bytes.0 h.0 bytes.2
+  by (inr given) = absurd (not_both st.layout.paired given.0 plain)
 
 -- ---- the leader
 
@@ -56,10 +63,10 @@ above : (a b c : ℕ) → a ≤ b → b ≤ c → a ≤ c
 above a b c low high = omega (arith, low, high)
 
 -- Of an instance above 0 that fits.
-pub leader_well : (st : Setting) (t : Trace) (s : Session) (at : Spot) (held : Bool) (n : ℕ) → IsSetting st → Contains (sessions st t) s → HasNumbers t s → IsVerified (way_context st t s) (lease_calls st t s at) → 1 ≤ n → Fits n
+pub leader_well : (st : Setting) (t : Trace) (s : Session) (at : Spot) (held : Bool) (n : ℕ) → IsSetting st → Contains (sessions st t) s → HasNumbers t s → Ways (way_context st t s) (lease_calls st t s at) → IsVerified (way_context st t s) (lease_calls st t s at) → 1 ≤ n → Fits n
     → IsLeader (leader_for (lease_place st s) (known st t s at) held n)
 unfolding known
-leader_well st t s at held n setting there numbers verified one fits =
+leader_well st t s at held n setting there numbers ways verified one fits =
     let id = id_in_range st setting t s there in
     record {
       hosts = (above 1 s.id st.layout.hosts id.0 id.1, few_hosts st setting);
@@ -67,7 +74,7 @@ leader_well st t s at held n setting there numbers verified one fits =
       generation = fits_it (generation_of t s) numbers.1;
       owner = id.1;
       lockspace = session_named_well st t s setting there;
-      resource = named_well st t s at _ (has_verified st t s at verified);
+      resource = named_well st t s at _ setting.unpaired (has_verified st setting.unpaired t s at ways verified);
       same = (none_both n (generation_of t s) one numbers.0, none_both n s.id one id.0);
       unused = λ none. absurd (not_none n one none);
     }

@@ -1,8 +1,10 @@
 -- After an answer a job's lease does something: it calls, answers the job, grants or converts.
 use Rattle.sl_area.specs.Places.{area_blocks, blocks_in, leader_of}
+use Rattle.sl_due_law.proofs.Causes.Leases.NewestWays.{IsPlainStep}
 use Rattle.sl_due_law.specs.Whole.JobLore.{suits}
+use Rattle.sl_trace.proofs.PlainWork.{bytes_plain}
 use Rattle.sl_trace.specs.Ballots.{moded_block, phase1_block, same_owner, stop_of, value_of}
-use Rattle.sl_trace.specs.LeaseWork.{LeasePlace, after_moding, after_phase1, after_phase2, after_take, area_next, begin_next, begin_or_refuse, leader_for, lease_next, looks_for_shared, lost_next, named_area_next, phase1_next, phase2_next, refuses, stopped_next, whole_area_next, won_next}
+use Rattle.sl_trace.specs.LeaseWork.{LeasePlace, after_moding, after_phase1, after_phase2, after_read, after_take, area_next, begin_next, begin_or_refuse, first_step, leader_for, lease_next, looks_for_shared, lost_next, named_area_next, part_read, phase1_next, phase2_next, refuses, stopped_next, whole_area_next, won_next}
 use Rattle.sl_trace.specs.Leases.{LeaseKnown, instance_for, is_leader_of, mode_gen_of, own_known, own_or_read, shared_elsewhere}
 use Rattle.sl_trace.specs.declared.lease.Aim.TheVariants.{Acquires, Converts, Releases, Settles}
 use Rattle.sl_trace.specs.declared.lease.Aim.{Aim}
@@ -14,7 +16,7 @@ use Rattle.sl_trace.specs.declared.lease.Stop.{Stop}
 use Rattle.sl_sector.specs.declared.sector.Block.{Block}
 use Rattle.sl_sector.specs.declared.sector.Leader.{Leader}
 use Rattle.sl_sector.specs.declared.sector.Owner.{Owner}
-use Rattle.sl_trace.specs.declared.effects.LeaseStep.TheVariants.{ClearMode, FreeLeader, Phase1Read, Phase1Write, Phase2Read, Phase2Write, ReadArea, ReadBeforeFree, SetMode, TakeLeader}
+use Rattle.sl_trace.specs.declared.effects.LeaseStep.TheVariants.{ClearMode, FreeLeader, Phase1Read, Phase1Write, Phase2Read, Phase2Write, ReadAgain, ReadArea, ReadBeforeBlock, ReadBeforeFree, SetMode, TakeLeader}
 use Rattle.sl_trace.specs.declared.effects.LeaseStep.{LeaseStep}
 use Rattle.sl_trace.specs.declared.effects.Mode.TheVariants.{Exclusive, Shared}
 use Rattle.sl_trace.specs.declared.effects.Mode.{Mode}
@@ -26,7 +28,7 @@ use Rattle.sl_trace.specs.declared.reply.Reply.{Reply}
 use Rattle.sl_words.proofs.CaseLaws.{false_is_true, none_some, not_both}
 use Rattle.sl_words.specs.Bounds.{is_number}
 use Rattle.sl_words.specs.Words.{present}
-use Rattle.std.proofs.Common.{ap, refl}
+use Rattle.std.proofs.Common.{ap, refl, subst, sym}
 use Rattle.std.specs.Option.{option_map_or}
 use Rattle.std.specs.Prelude.{Bool, List, None, Option, Some, false, is_none, position, true, ℕ, ◌+◌, ◌≡◌}
 
@@ -42,6 +44,8 @@ GoesOn k aim next = Unit {0}
 abbrev pub reads_at : LeaseStep → Bool
 reads_at (ReadArea name) = true
 reads_at ReadBeforeFree = true
+reads_at ReadBeforeBlock = true
+reads_at (ReadAgain read) = true
 reads_at Phase1Read = true
 reads_at Phase2Read = true
 reads_at step = false
@@ -56,6 +60,9 @@ is_behind_block step = false
 -- What is known of a job's lease when its newest call was answered.
 pub record LeaseGrounds (p : LeasePlace) (k : LeaseKnown) (aim : Aim) (step : LeaseStep) (answer : Answer) : Type 0 where
   pub suit : suits aim step ≡ true
+  -- a block has one sector: no read is made once more, and none before a settling's block
+  pub plain : p.layout.paired ≡ false
+  pub once : IsPlainStep step
   pub job : aim ≡ Settles → ⊥
   pub read : reads_at step ≡ true → answer ≡ Written → ⊥
   pub wrote : reads_at step ≡ false → (bytes : List ℕ) → answer ≡ Read bytes → ⊥
@@ -124,34 +131,34 @@ phase2_read_goes p k aim own None asks b is = by (same_owner (value_of own) k.se
   by true = asks.wins p own.lver
   by false = asks.loses p own.lver (value_of own) b is
 
-area_goes : (p : LeasePlace) (k : LeaseKnown) (aim : Aim) (name bytes : List ℕ) → Asks k aim → (position is_none (area_blocks p.layout bytes) ≡ None → (b : Block) × (own_known k ≡ Some b)) → GoesOn k aim (area_next p k aim name bytes)
+area_goes : (p : LeasePlace) (k : LeaseKnown) (aim : Aim) (name : List ℕ) (leader : Option Leader) (read : List (Option Block)) → Asks k aim
+    → (position is_none read ≡ None → (b : Block) × (own_known k ≡ Some b)) → GoesOn k aim (area_next p k aim name leader read)
 unfolding area_next
-area_goes p k aim name bytes asks shows = by (leader_of p.layout bytes) where
+area_goes p k aim name leader read asks shows = by leader where
   instance : (i : Instance) → (b : Block) → own_known k ≡ Some b → GoesOn k aim (begin_or_refuse p k aim i)
   instance (Begins m) b is = begins_go p k aim m asks.refused b is
   instance (HeldAlready lver owner) b is = tt
 
-  whole : (l : Leader) (read : List (Option Block)) → (b : Block) → own_known k ≡ Some b → (o : Option Block) → o ≡ Some b → GoesOn k aim (option_map_or (λ own. begin_or_refuse p k aim (instance_for k l own read)) o Nothing)
-  whole l read b is None at = none_some b at
-  whole l read b is (Some own) at = instance (instance_for k l own read) b is
+  whole : (l : Leader) → (b : Block) → own_known k ≡ Some b → (o : Option Block) → o ≡ Some b → GoesOn k aim (option_map_or (λ own. begin_or_refuse p k aim (instance_for k l own read)) o Nothing)
+  whole l b is None at = none_some b at
+  whole l b is (Some own) at = instance (instance_for k l own read) b is
 
-  named : (l : Leader) (o : Option ℕ) → position is_none (area_blocks p.layout bytes) ≡ o
-      → GoesOn k aim (elim o as (λ z. LeaseNext) [ Some i ↦ AnswerJob (TornBlock (i + 1)) | None ↦ whole_area_next p k aim l (area_blocks p.layout bytes) ])
+  named : (l : Leader) (o : Option ℕ) → position is_none read ≡ o → GoesOn k aim (elim o as (λ z. LeaseNext) [ Some i ↦ AnswerJob (TornBlock (i + 1)) | None ↦ whole_area_next p k aim l read ])
   named l (Some i) at = tt
-  named l None at = let b = shows at in whole l (area_blocks p.layout bytes) b.0 b.1 (own_known k) b.1
+  named l None at = let b = shows at in whole l b.0 b.1 (own_known k) b.1
 
   of_leader : (l : Leader) (b : Bool) → GoesOn k aim (elim b as (λ z. LeaseNext) [
     | false ↦ AnswerJob (WrongArea l.lockspace l.resource l.num_hosts)
-    | true ↦ named_area_next p k aim l (area_blocks p.layout bytes)
+    | true ↦ named_area_next p k aim l read
   ])
   of_leader l false = tt
-  of_leader l true = named l (position is_none (area_blocks p.layout bytes)) refl
+  of_leader l true = named l (position is_none read) refl
 
   by : (o : Option Leader) → GoesOn k aim (elim o as (λ z. LeaseNext) [
     | None ↦ AnswerJob TornLeader
     | Some l ↦ elim (is_leader_of p.layout p.lockspace name l) as (λ z. LeaseNext) [
       | false ↦ AnswerJob (WrongArea l.lockspace l.resource l.num_hosts)
-      | true ↦ named_area_next p k aim l (area_blocks p.layout bytes)
+      | true ↦ named_area_next p k aim l read
     ]
   ])
   by None = tt
@@ -162,25 +169,36 @@ area_goes p k aim name bytes asks shows = by (leader_of p.layout bytes) where
 known_own : (k : LeaseKnown) (b : Block) → k.own ≡ Some b → own_known k ≡ Some b
 known_own k b is = ap (λ o. own_or_read k.self.id o k.read) is
 
-read_goes : (p : LeasePlace) (k : LeaseKnown) (aim : Aim) (call n : ℕ) (step : LeaseStep) (bytes : List ℕ) → Asks k aim → suits aim ReadBeforeFree ≡ false → LeaseGrounds p k aim step (Read bytes)
-    → GoesOn k aim (lease_next p k aim call n step (Read bytes))
-unfolding lease_next
-read_goes p k aim call n (ReadArea name) bytes asks no_look g = area_goes p k aim name bytes asks (g.area name bytes refl refl)
-read_goes p k aim call n ReadBeforeFree bytes asks no_look g = absurd (not_both (suits aim ReadBeforeFree) g.suit no_look)
-read_goes p k aim call n Phase1Read bytes asks no_look g = let b = g.own refl in by b.0 b.1 k.own b.1 where
+-- What a read gave, where a block has one sector.
+abbrev after_plain : LeasePlace → LeaseKnown → Aim → List ℕ → LeaseStep → LeaseNext
+after_plain p k aim bytes step = after_read p k aim (leader_of p.layout bytes) (blocks_in p.layout (part_read p.layout bytes (first_step step))) (first_step step)
+
+plain_goes : (p : LeasePlace) (k : LeaseKnown) (aim : Aim) (step : LeaseStep) (bytes : List ℕ) → Asks k aim → suits aim ReadBeforeFree ≡ false → LeaseGrounds p k aim step (Read bytes)
+    → GoesOn k aim (after_plain p k aim bytes step)
+plain_goes p k aim (ReadArea name) bytes asks no_look g = area_goes p k aim name (leader_of p.layout bytes) (area_blocks p.layout bytes) asks (g.area name bytes refl refl)
+plain_goes p k aim ReadBeforeFree bytes asks no_look g = absurd (not_both (suits aim ReadBeforeFree) g.suit no_look)
+plain_goes p k aim ReadBeforeBlock bytes asks no_look g = absurd g.once
+plain_goes p k aim (ReadAgain read) bytes asks no_look g = absurd g.once
+plain_goes p k aim Phase1Read bytes asks no_look g = let b = g.own refl in by b.0 b.1 k.own b.1 where
   by : (b : Block) → k.own ≡ Some b → (o : Option Block) → o ≡ Some b → GoesOn k aim (option_map_or (λ own. after_phase1 p k aim own (blocks_in p.layout bytes) (stop_of own (blocks_in p.layout bytes))) o Nothing)
   by b is None at = none_some b at
   by b is (Some own) at = phase1_read_goes p k aim own (blocks_in p.layout bytes) (stop_of own (blocks_in p.layout bytes)) asks
-read_goes p k aim call n Phase2Read bytes asks no_look g = let b = g.own refl in by b.0 b.1 k.own b.1 where
+plain_goes p k aim Phase2Read bytes asks no_look g = let b = g.own refl in by b.0 b.1 k.own b.1 where
   by : (b : Block) → k.own ≡ Some b → (o : Option Block) → o ≡ Some b → GoesOn k aim (option_map_or (λ own. after_phase2 p k aim own (stop_of own (blocks_in p.layout bytes))) o Nothing)
   by b is None at = none_some b at
   by b is (Some own) at = phase2_read_goes p k aim own (stop_of own (blocks_in p.layout bytes)) asks b (known_own k b is)
-read_goes p k aim call n Phase1Write bytes asks no_look g = g.wrote refl bytes refl
-read_goes p k aim call n Phase2Write bytes asks no_look g = g.wrote refl bytes refl
-read_goes p k aim call n TakeLeader bytes asks no_look g = g.wrote refl bytes refl
-read_goes p k aim call n SetMode bytes asks no_look g = g.wrote refl bytes refl
-read_goes p k aim call n FreeLeader bytes asks no_look g = g.wrote refl bytes refl
-read_goes p k aim call n ClearMode bytes asks no_look g = g.wrote refl bytes refl
+plain_goes p k aim Phase1Write bytes asks no_look g = g.wrote refl bytes refl
+plain_goes p k aim Phase2Write bytes asks no_look g = g.wrote refl bytes refl
+plain_goes p k aim TakeLeader bytes asks no_look g = g.wrote refl bytes refl
+plain_goes p k aim SetMode bytes asks no_look g = g.wrote refl bytes refl
+plain_goes p k aim FreeLeader bytes asks no_look g = g.wrote refl bytes refl
+plain_goes p k aim ClearMode bytes asks no_look g = g.wrote refl bytes refl
+
+read_goes : (p : LeasePlace) (k : LeaseKnown) (aim : Aim) (call n : ℕ) (step : LeaseStep) (bytes : List ℕ) → Asks k aim → suits aim ReadBeforeFree ≡ false
+    → LeaseGrounds p k aim step (Read bytes) → GoesOn k aim (lease_next p k aim call n step (Read bytes))
+unfolding lease_next
+read_goes p k aim call n step bytes asks no_look g =
+    subst (λ z. GoesOn k aim z) (sym (bytes_plain p k aim bytes step g.plain)) (plain_goes p k aim step bytes asks no_look g)
 
 abbrev is_sets : LeaseStep → Bool
 is_sets SetMode = true
@@ -227,6 +245,8 @@ written_goes : (p : LeasePlace) (k : LeaseKnown) (aim : Aim) (call n : ℕ) (ste
 unfolding lease_next
 written_goes p k aim call n (ReadArea name) g = g.read refl refl
 written_goes p k aim call n ReadBeforeFree g = g.read refl refl
+written_goes p k aim call n ReadBeforeBlock g = g.read refl refl
+written_goes p k aim call n (ReadAgain read) g = g.read refl refl
 written_goes p k aim call n Phase1Read g = g.read refl refl
 written_goes p k aim call n Phase2Read g = g.read refl refl
 written_goes p k aim call n Phase1Write g = tt
@@ -248,6 +268,8 @@ releases_read p k call n FreeLeader bytes g = absurd (g.wrote refl bytes refl)
 releases_read p k call n ClearMode bytes g = absurd (g.wrote refl bytes refl)
 releases_read p k call n (ReadArea name) bytes g = absurd (false_is_true g.suit)
 releases_read p k call n ReadBeforeFree bytes g = absurd (false_is_true g.suit)
+releases_read p k call n ReadBeforeBlock bytes g = absurd (false_is_true g.suit)
+releases_read p k call n (ReadAgain read) bytes g = absurd (false_is_true g.suit)
 releases_read p k call n Phase1Write bytes g = absurd (false_is_true g.suit)
 releases_read p k call n Phase1Read bytes g = absurd (false_is_true g.suit)
 releases_read p k call n Phase2Write bytes g = absurd (false_is_true g.suit)

@@ -1,7 +1,6 @@
 -- Where an answer to a job's lease was heard its job waits for the next call or a child's start, or is answered.
 use Rattle.sl_acts.specs.Acts.{Hears}
 use Rattle.sl_acts.specs.SoFar.{entry_of}
-use Rattle.sl_area.specs.Places.{block_offset, leader_offset}
 use Rattle.sl_due.specs.DueLease.{carry_lease, convert_holding, goes_on, grant_for, grant_of, next_of_lease, read_for, write_block, write_leader}
 use Rattle.sl_due.specs.Steps.{Step, add_call_of, add_end, add_grant, add_reply, add_start, seen, with_some}
 use Rattle.sl_due_leases.proofs.Holdings.HoldingsByAnswers.{JobLed, Led, beside_job, job_led}
@@ -9,13 +8,15 @@ use Rattle.sl_due_leases.proofs.Holdings.LeaseConversions.{after_converting, by_
 use Rattle.sl_due_leases.proofs.Grants.WorksByLines.{held_before}
 use Rattle.sl_due_leases.proofs.Grants.Values.ReadsByInputs.{has_number}
 use Rattle.sl_due_facts.proofs.Jobs.JobsAreNumbered.{finds_none, found_after}
+use Rattle.sl_due_facts.proofs.Jobs.PlainNexts.{next_plain}
 use Rattle.sl_due_facts.proofs.Jobs.SessionsStand.{reply_stops}
 use Rattle.sl_due_facts.proofs.Parts.EffectsAreTold.{effects_are_told}
 use Rattle.sl_due_leases.proofs.Ways.Kept.HeardStands.{HeardCall, heard_call}
+use Rattle.sl_due_law.proofs.Causes.Leases.NewestWays.{NewestWays, newest_ways, plain_step}
 use Rattle.sl_due_law.proofs.Whole.CallsSuit.{heard_suits}
 use Rattle.sl_due_law.proofs.Whole.HeardBefore.{HeardBefore, heard_before, ran_past}
 use Rattle.sl_due_law.proofs.Whole.LeasesGoOn.{GoesOn, LeaseGrounds, lease_goes_on, reads_at}
-use Rattle.sl_due_law.proofs.Whole.OwnBlocks.{NewestWays, newest_ways, own_behind, own_in_area}
+use Rattle.sl_due_law.proofs.Whole.OwnBlocks.{own_behind, own_in_area}
 use Rattle.sl_due_facts.specs.Facts.WayFacts.{After_take, In_conversion, ModeReason, PurposeWay, StepWay, WayContext, way_context}
 use Rattle.sl_due_facts.specs.Facts.WorkFacts.{MayBeHeld}
 use Rattle.sl_due_law.specs.Whole.Busy.{For_call, For_child}
@@ -33,7 +34,6 @@ use Rattle.sl_due.specs.DueLease.{held_otherwise}
 use Rattle.sl_plain.proofs.Lists.{contains_first, find_fails, kept}
 use Rattle.sl_plain.proofs.Numbers.{number_itself}
 use Rattle.sl_sector.specs.declared.sector.Block.{Block}
-use Rattle.sl_sector.specs.declared.sector.Rec.TheVariants.{BlockIs, LeaderIs}
 use Rattle.sl_due_leases.proofs.Holdings.LeaseCallers.{heard_session}
 use Rattle.sl_trace.specs.Sessions.{holdings_of}
 use Rattle.sl_trace.specs.declared.session.Session.{Session}
@@ -44,7 +44,8 @@ use Rattle.sl_trace.specs.declared.command.Command.{Command}
 use Rattle.sl_trace.specs.declared.command.ResourceArg.{ResourceArg}
 use Rattle.sl_trace.specs.declared.effects.Call.{Call}
 use Rattle.sl_trace.specs.declared.effects.Grant.{Grant}
-use Rattle.sl_trace.specs.declared.effects.LeaseStep.TheVariants.{ClearMode, FreeLeader, Phase1Read, Phase1Write, Phase2Read, Phase2Write, ReadArea, ReadBeforeFree, SetMode, TakeLeader}
+use Rattle.sl_trace.specs.declared.effects.LeaseRead.TheVariants.{OfArea, OfBlock, OfFree, OfPhase1, OfPhase2}
+use Rattle.sl_trace.specs.declared.effects.LeaseStep.TheVariants.{ClearMode, FreeLeader, Phase1Read, Phase1Write, Phase2Read, Phase2Write, ReadAgain, ReadArea, ReadBeforeBlock, ReadBeforeFree, SetMode, TakeLeader}
 use Rattle.sl_trace.specs.declared.effects.LeaseStep.{LeaseStep}
 use Rattle.sl_trace.specs.declared.effects.Mode.TheVariants.{Exclusive, Shared}
 use Rattle.sl_trace.specs.declared.effects.Mode.{Mode}
@@ -64,7 +65,7 @@ use Rattle.sl_words.proofs.CaseLaws.{false_is_true, is_false, none_some, not_bot
 use Rattle.sl_words.specs.Words.{same_truth}
 use Rattle.std.proofs.Common.{ap, arith, inl, refl, subst, sym, ◌∙◌}
 use Rattle.std.proofs.lemmas.Bool.{eqb-true}
-use Rattle.std.specs.Prelude.{Bool, Contains, IsTrue, List, None, Option, Some, [], cond, false, find, length, not, option_map, true, ℕ, ◌&&◌, ◌+◌, ◌<◌, ◌==◌, ◌∷◌, ◌≡◌}
+use Rattle.std.specs.Prelude.{Bool, Contains, IsTrue, List, None, Option, Some, [], cond, false, find, length, not, option_map, true, ℕ, ◌&&◌, ◌<◌, ◌==◌, ◌∷◌, ◌≡◌}
 
 -- ---- what a job waits for next
 
@@ -204,17 +205,20 @@ pub read_fits : (st : Setting) (bytes : List ℕ) (op : Op) → IsTrue (is_answe
 read_fits st bytes (ReadSectors n) fits = refl
 read_fits st bytes (WriteRecord r) fits = absurd (false_is_true fits)
 
-step_op : (w : WayContext) (work : Work) (at : ℕ) (c : Call) (ms : List Submitted) (step : LeaseStep) → StepWay w work at c ms step → is_write c.op ≡ not (reads_at step)
-step_op w work at c ms (ReadArea name) h = ap (λ o. is_write o) h
-step_op w work at c ms ReadBeforeFree h = ap (λ o. is_write o) h.reads
-step_op w work at c ms Phase1Write h = ap (λ o. is_write o) h.wrote
-step_op w work at c ms Phase1Read h = ap (λ o. is_write o) h.reads
-step_op w work at c ms Phase2Write h = ap (λ o. is_write o) h.wrote
-step_op w work at c ms Phase2Read h = ap (λ o. is_write o) h.reads
-step_op w work at c ms TakeLeader h = ap (λ o. is_write o) h.wrote
-step_op w work at c ms SetMode h = ap (λ o. is_write o) h.wrote
-step_op w work at c ms FreeLeader h = ap (λ o. is_write o) h.wrote
-step_op w work at c ms ClearMode h = ap (λ o. is_write o) h.wrote
+-- Where a block has one sector.
+step_op : (w : WayContext) (work : Work) (at : ℕ) (c : Call) (ms : List Submitted) (step : LeaseStep) → w.layout.paired ≡ false → StepWay w work at c ms step → is_write c.op ≡ not (reads_at step)
+step_op w work at c ms (ReadArea name) plain h = ap (λ o. is_write o) h
+step_op w work at c ms ReadBeforeFree plain h = ap (λ o. is_write o) h.reads
+step_op w work at c ms ReadBeforeBlock plain h = absurd (not_both w.layout.paired h plain)
+step_op w work at c ms (ReadAgain read) plain h = absurd (not_both w.layout.paired h plain)
+step_op w work at c ms Phase1Write plain h = ap (λ o. is_write o) h.wrote
+step_op w work at c ms Phase1Read plain h = ap (λ o. is_write o) h.reads
+step_op w work at c ms Phase2Write plain h = ap (λ o. is_write o) h.wrote
+step_op w work at c ms Phase2Read plain h = ap (λ o. is_write o) h.reads
+step_op w work at c ms TakeLeader plain h = ap (λ o. is_write o) h.wrote
+step_op w work at c ms SetMode plain h = ap (λ o. is_write o) h.wrote
+step_op w work at c ms FreeLeader plain h = ap (λ o. is_write o) h.wrote
+step_op w work at c ms ClearMode plain h = ap (λ o. is_write o) h.wrote
 
 -- ---- a job that is at work
 
@@ -302,6 +306,8 @@ grounds x s j step m answer aim a =
       own = λ behind. own_behind x s (ForJob j) step m answer a.led.whole.0 a.led.hears a.led.purpose behind;
       area = λ name bytes is gave whole.
           own_in_area x s (ForJob j) name bytes m a.led.whole.0 (subst (λ z. Hears x s m z) gave a.led.hears) (a.led.purpose ∙ ap (λ z. Lease (ForJob j) z) is) whole;
+      plain = a.led.whole.0.setting.unpaired;
+      once = plain_step x s (ForJob j) step m answer a.led.whole.0 a.led.hears a.led.purpose;
       single = λ is. a.led.whole.0.facts.works.modes m j step q.command q.work (q.aimed ∙ ap (λ z. Some z) is);
       sets = λ mode is converts.
           let shared : aim ≡ Converts Shared = set_shared mode is converts in
@@ -318,7 +324,7 @@ grounds x s j step m answer aim a =
       way = subst (λ p. PurposeWay (way_context x.setting (seen x) s) m.at m.call n.rest p) a.led.purpose n.ways.0.way
 
       op : is_write m.call.op ≡ not (reads_at step)
-      op = step_op (way_context x.setting (seen x) s) (ForJob j) m.at m.call n.rest step way
+      op = step_op (way_context x.setting (seen x) s) (ForJob j) m.at m.call n.rest step a.led.whole.0.setting.unpaired way
 
       heard : HeardCall x answer m
       heard = heard_call x s m answer a.led.hears a.led.whole.0
@@ -364,20 +370,24 @@ job_rests x s j step m answer aim a (ReadFor further) goes = by further where
   at = spot_of_call x.setting.layout m
 
   by : (further : LeaseStep) → MayRest (read_for s (spot_of_call x.setting.layout m) (ForJob j) further x) j
-  by (ReadArea name) = called_rests x s.number at.path (Lease (ForJob j) (ReadArea name)) at.base (ReadSectors (x.setting.layout.hosts + 2)) j refl
-  by ReadBeforeFree = called_rests x s.number at.path (Lease (ForJob j) ReadBeforeFree) at.base (ReadSectors (x.setting.layout.hosts + 2)) j refl
-  by Phase1Write = called_rests x s.number at.path (Lease (ForJob j) Phase1Write) (block_offset x.setting.layout at.base 1) (ReadSectors x.setting.layout.hosts) j refl
-  by Phase1Read = called_rests x s.number at.path (Lease (ForJob j) Phase1Read) (block_offset x.setting.layout at.base 1) (ReadSectors x.setting.layout.hosts) j refl
-  by Phase2Write = called_rests x s.number at.path (Lease (ForJob j) Phase2Write) (block_offset x.setting.layout at.base 1) (ReadSectors x.setting.layout.hosts) j refl
-  by Phase2Read = called_rests x s.number at.path (Lease (ForJob j) Phase2Read) (block_offset x.setting.layout at.base 1) (ReadSectors x.setting.layout.hosts) j refl
-  by TakeLeader = called_rests x s.number at.path (Lease (ForJob j) TakeLeader) (block_offset x.setting.layout at.base 1) (ReadSectors x.setting.layout.hosts) j refl
-  by SetMode = called_rests x s.number at.path (Lease (ForJob j) SetMode) (block_offset x.setting.layout at.base 1) (ReadSectors x.setting.layout.hosts) j refl
-  by FreeLeader = called_rests x s.number at.path (Lease (ForJob j) FreeLeader) (block_offset x.setting.layout at.base 1) (ReadSectors x.setting.layout.hosts) j refl
-  by ClearMode = called_rests x s.number at.path (Lease (ForJob j) ClearMode) (block_offset x.setting.layout at.base 1) (ReadSectors x.setting.layout.hosts) j refl
-job_rests x s j step m answer aim a (WriteBlock further b) goes =
-    called_rests x s.number (spot_of_call x.setting.layout m).path (Lease (ForJob j) further) (block_offset x.setting.layout (spot_of_call x.setting.layout m).base s.id) (WriteRecord (BlockIs b)) j refl
-job_rests x s j step m answer aim a (WriteLeader further l) goes =
-    called_rests x s.number (spot_of_call x.setting.layout m).path (Lease (ForJob j) further) (leader_offset (spot_of_call x.setting.layout m).base) (WriteRecord (LeaderIs l)) j refl
+  by (ReadArea name) = called_rests x s.number at.path (Lease (ForJob j) (ReadArea name)) _ _ j refl
+  by ReadBeforeFree = called_rests x s.number at.path (Lease (ForJob j) ReadBeforeFree) _ _ j refl
+  by ReadBeforeBlock = called_rests x s.number at.path (Lease (ForJob j) ReadBeforeBlock) _ _ j refl
+  by (ReadAgain (OfArea name)) = called_rests x s.number at.path (Lease (ForJob j) (ReadAgain (OfArea name))) _ _ j refl
+  by (ReadAgain OfFree) = called_rests x s.number at.path (Lease (ForJob j) (ReadAgain OfFree)) _ _ j refl
+  by (ReadAgain OfBlock) = called_rests x s.number at.path (Lease (ForJob j) (ReadAgain OfBlock)) _ _ j refl
+  by (ReadAgain OfPhase1) = called_rests x s.number at.path (Lease (ForJob j) (ReadAgain OfPhase1)) _ _ j refl
+  by (ReadAgain OfPhase2) = called_rests x s.number at.path (Lease (ForJob j) (ReadAgain OfPhase2)) _ _ j refl
+  by Phase1Write = called_rests x s.number at.path (Lease (ForJob j) Phase1Write) _ _ j refl
+  by Phase1Read = called_rests x s.number at.path (Lease (ForJob j) Phase1Read) _ _ j refl
+  by Phase2Write = called_rests x s.number at.path (Lease (ForJob j) Phase2Write) _ _ j refl
+  by Phase2Read = called_rests x s.number at.path (Lease (ForJob j) Phase2Read) _ _ j refl
+  by TakeLeader = called_rests x s.number at.path (Lease (ForJob j) TakeLeader) _ _ j refl
+  by SetMode = called_rests x s.number at.path (Lease (ForJob j) SetMode) _ _ j refl
+  by FreeLeader = called_rests x s.number at.path (Lease (ForJob j) FreeLeader) _ _ j refl
+  by ClearMode = called_rests x s.number at.path (Lease (ForJob j) ClearMode) _ _ j refl
+job_rests x s j step m answer aim a (WriteBlock further b) goes = called_rests x s.number (spot_of_call x.setting.layout m).path (Lease (ForJob j) further) _ _ j refl
+job_rests x s j step m answer aim a (WriteLeader further l) goes = called_rests x s.number (spot_of_call x.setting.layout m).path (Lease (ForJob j) further) _ _ j refl
 job_rests x s j step m answer aim a (AnswerJob r) goes = replied_rests x j r
 job_rests x s j step m answer aim a (GrantJob mode lver) goes =
     let q = job_led x s j step m answer aim a.led in
@@ -399,4 +409,6 @@ leases_rest x s (ForJob i) step m answer aim j k lore hears is on aimed its =
     let at : Spot = spot_of_call x.setting.layout m in
     let n : LeaseNext = next_of_lease x.setting (seen x) s at aim m step answer in
     subst (λ z. MayRest (carry_lease s at (ForJob i) n x) z) (some_value i j its)
-    (job_rests x s i step m answer aim a n (lease_goes_on (lease_place x.setting s) (known x.setting (seen x) s at) aim m.call.number (lver_written m) step answer (grounds x s i step m answer aim a)))
+    (job_rests x s i step m answer aim a n
+    (subst (λ z. GoesOn (known x.setting (seen x) s at) aim z) (sym (next_plain x.setting (seen x) s at aim m step answer k.known.0.setting.unpaired))
+    (lease_goes_on (lease_place x.setting s) (known x.setting (seen x) s at) aim m.call.number (lver_written m) step answer (grounds x s i step m answer aim a))))

@@ -1,7 +1,7 @@
 -- The job of a line that is carried out waits for a call, a child, a session or its leaving, or is done.
 use Rattle.sl_acts.proofs.LoopsKeep.{for_each_keeps}
 use Rattle.sl_acts.specs.SoFar.{entry_of}
-use Rattle.sl_area.specs.Places.{block_offset, delta_offset, leader_offset, value_offset}
+use Rattle.sl_area.specs.Places.{area_sectors, delta_offset, value_offset}
 use Rattle.sl_due.specs.DueCommands.{after_end, carry_decision, decided, reply_at_once}
 use Rattle.sl_due.specs.DueFirst.{send, signal_and_refuse, signal_holders}
 use Rattle.sl_due.specs.DueLease.{carry_lease}
@@ -28,13 +28,13 @@ use Rattle.sl_trace.specs.Ballots.{moded_block}
 use Rattle.sl_trace.specs.Counts.{stopper_of}
 use Rattle.sl_trace.specs.Jobs.{jobs_of_session}
 use Rattle.sl_plain.proofs.Numbers.{number_itself}
-use Rattle.sl_trace.specs.LeaseWork.{convert_next, lease_place, leader_for, release_next}
+use Rattle.sl_trace.specs.LeaseWork.{convert_next, lease_place, release_next}
 use Rattle.sl_trace.specs.Leases.{block_submitted, holdings_on, is_lease_call, is_on, known, lease_calls, spot_of}
 use Rattle.sl_trace.specs.declared.lease.LeaseNext.TheVariants.{Nothing, WriteBlock}
 use Rattle.sl_plain.proofs.Lists.{any_found, find_inside, kept_inside}
 use Rattle.sl_plain.proofs.Options.{some_of}
 use Rattle.sl_sector.specs.declared.sector.Block.{Block}
-use Rattle.sl_sector.specs.declared.sector.Rec.TheVariants.{BlockIs, LeaderIs, ValueIs}
+use Rattle.sl_sector.specs.declared.sector.Rec.TheVariants.{ValueIs}
 use Rattle.sl_trace.specs.Sessions.{holders_of, holdings_of, is_active, is_call_of, is_join_done, is_joined, joined_after, last_renewal, leaves, leaving_in, leaving_job, present_sessions, recovery_of, removed_after, removed_in, session_numbered, sessions}
 use Rattle.sl_trace.specs.declared.session.Session.{Session}
 use Rattle.sl_trace.specs.EffectTexts.{is_ok_reply}
@@ -58,6 +58,8 @@ use Rattle.sl_trace.specs.declared.reply.Reply.{Reply}
 use Rattle.sl_words.proofs.CaseLaws.{false_is_true, is_false, none_some, not_both}
 use Rattle.sl_words.proofs.WordLaws.{and_true}
 use Rattle.sl_words.specs.Words.{choose, some_is}
+use Rattle.sl_acts.specs.Acts.{next_of_conversion, next_of_release}
+use Rattle.sl_due_facts.proofs.Jobs.PlainNexts.{conversion_plain, release_plain}
 use Rattle.std.proofs.Common.{ap, ap₂, inl, inr, refl, subst, sym, ◌∙◌}
 use Rattle.std.proofs.lemmas.Bool.{eqb-true}
 use Rattle.std.specs.List.{list_any}
@@ -255,28 +257,28 @@ release_rests x text c s g j wake bare k grounds = by (holdings_on (seen z) s at
 
   clears : (o : Option Block) → o ≡ Some own.0 → MayRest (carry_lease s (spot_of_grant g) (ForJob j) (option_map_or (λ own. WriteBlock ClearMode (moded_block own false 0)) o Nothing) (add_end (end_of g) (with_input (Line text) x))) j
   clears None is = absurd (none_some own.0 is)
-  clears (Some b) is = called_rests z s.number at.path (Lease (ForJob j) ClearMode) (block_offset x.setting.layout at.base s.id) (WriteRecord (BlockIs (moded_block b false 0))) j refl
+  clears (Some b) is = called_rests z s.number at.path (Lease (ForJob j) ClearMode) _ _ j refl
 
   mode : (m : Mode) → MayRest (carry_lease s (spot_of_grant g) (ForJob j) (release_next (lease_place x.setting s) (known x.setting (seen (add_end (end_of g) (with_input (Line text) x))) s (spot_of_grant g)) m g.lver) (add_end (end_of g) (with_input (Line text) x))) j
-  mode Exclusive =
-      called_rests z s.number at.path (Lease (ForJob j) FreeLeader) (leader_offset at.base)
-      (WriteRecord (LeaderIs (leader_for (lease_place x.setting s) (known x.setting (seen z) s at) false g.lver))) j refl
+  mode Exclusive = called_rests z s.number at.path (Lease (ForJob j) FreeLeader) _ _ j refl
   mode Shared = clears (block_submitted (lease_calls x.setting (seen z) s at)) own.1
 
   by : (hs : List Grant)
       → MayRest (elim hs as (λ w. Step) [
         | h ∷ rest ↦ add_reply j Done (add_end (end_of g) (with_input (Line text) x))
-        | [] ↦ carry_lease s (spot_of_grant g) (ForJob j) (release_next (lease_place x.setting s) (known x.setting (seen (add_end (end_of g) (with_input (Line text) x))) s (spot_of_grant g)) g.mode g.lver) (add_end (end_of g) (with_input (Line text) x))
+        | [] ↦ carry_lease s (spot_of_grant g) (ForJob j) (next_of_release x.setting (seen (add_end (end_of g) (with_input (Line text) x))) s (spot_of_grant g) g) (add_end (end_of g) (with_input (Line text) x))
       ]) j
   by (h ∷ rest) = replied_rests z j Done
-  by [] = mode g.mode
+  by [] =
+      subst (λ n. MayRest (carry_lease s (spot_of_grant g) (ForJob j) n (add_end (end_of g) (with_input (Line text) x))) j)
+      (sym (release_plain x.setting (seen (add_end (end_of g) (with_input (Line text) x))) s (spot_of_grant g) g k.known.0.setting.unpaired)) (mode g.mode)
 
-conversion_rests : (x : Step) (text : List ℕ) (c : Command) (s : Session) (r : ResourceArg) (mode : Mode) (j : ℕ) → x.input ≡ Wake → x.effects.calls ≡ [] → Kept x → ConvertGrounds x.setting (seen x) c s r mode
+conversion_by : (x : Step) (text : List ℕ) (c : Command) (s : Session) (r : ResourceArg) (mode : Mode) (j : ℕ) → x.input ≡ Wake → x.effects.calls ≡ [] → Kept x → ConvertGrounds x.setting (seen x) c s r mode
     → MayRest (carry_lease s (spot_of r) (ForJob j) (convert_next (known x.setting (seen (with_input (Line text) x)) s (spot_of r)) mode r.name) (with_input (Line text) x)) j
 unfolding carry_lease known
-conversion_rests x text c s r Exclusive j wake bare k grounds =
-    called_rests (with_input (Line text) x) s.number (spot_of r).path (Lease (ForJob j) (ReadArea r.name)) (spot_of r).base (ReadSectors (x.setting.layout.hosts + 2)) j refl
-conversion_rests x text c s r Shared j wake bare k grounds = by (block_submitted (lease_calls x.setting (seen (with_input (Line text) x)) s (spot_of r))) own.1 where
+conversion_by x text c s r Exclusive j wake bare k grounds =
+    called_rests (with_input (Line text) x) s.number (spot_of r).path (Lease (ForJob j) (ReadArea r.name)) _ _ j refl
+conversion_by x text c s r Shared j wake bare k grounds = by (block_submitted (lease_calls x.setting (seen (with_input (Line text) x)) s (spot_of r))) own.1 where
   found : Contains (holdings_on (seen x) s (spot_of r)) grounds.holding
   found = (find_inside (λ (z : Grant). z.process == grounds.process && true) (holdings_on (seen x) s (spot_of r)) grounds.holding grounds.held).0
 
@@ -291,9 +293,13 @@ conversion_rests x text c s r Shared j wake bare k grounds = by (block_submitted
   by : (o : Option Block) → o ≡ Some own.0
       → MayRest (carry_lease s (spot_of r) (ForJob j) (option_map_or (λ own. WriteBlock SetMode (moded_block own true (known x.setting (seen (with_input (Line text) x)) s (spot_of r)).self.generation)) o Nothing) (with_input (Line text) x)) j
   by None is = absurd (none_some own.0 is)
-  by (Some b) is =
-      called_rests (with_input (Line text) x) s.number (spot_of r).path (Lease (ForJob j) SetMode) (block_offset x.setting.layout (spot_of r).base s.id)
-      (WriteRecord (BlockIs (moded_block b true (known x.setting (seen (with_input (Line text) x)) s (spot_of r)).self.generation))) j refl
+  by (Some b) is = called_rests (with_input (Line text) x) s.number (spot_of r).path (Lease (ForJob j) SetMode) _ _ j refl
+
+conversion_rests : (x : Step) (text : List ℕ) (c : Command) (s : Session) (r : ResourceArg) (mode : Mode) (j : ℕ) → x.input ≡ Wake → x.effects.calls ≡ [] → Kept x → ConvertGrounds x.setting (seen x) c s r mode
+    → MayRest (carry_lease s (spot_of r) (ForJob j) (next_of_conversion x.setting (seen (with_input (Line text) x)) s (spot_of r) mode r.name) (with_input (Line text) x)) j
+conversion_rests x text c s r mode j wake bare k grounds =
+    subst (λ n. MayRest (carry_lease s (spot_of r) (ForJob j) n (with_input (Line text) x)) j)
+    (sym (conversion_plain x.setting (seen (with_input (Line text) x)) s (spot_of r) mode r.name k.known.0.setting.unpaired)) (conversion_by x text c s r mode j wake bare k grounds)
 
 -- ---- all decisions
 
@@ -322,7 +328,7 @@ lines_rest x text c d k wake bare says is more =
       by (Leaves s) at_once g f =
           let found = find_inside (λ (z : Session). bytes_eq z.lockspace f.1.0.name) (present_sessions x.setting (seen x)) s f.1.2 in
           leaving_rests x text s wake bare k (record { active = f.0; leaves_it = ap (λ z. leaves s z) (says ∙ ap (λ z. Ok z) f.1.1) ∙ f.1.3; inside = (present_is x.setting (seen x) s found.0).0 })
-      by (ReadsArea s r) at_once g f = called_rests y s.number r.path (Lease (ForJob j) (ReadArea r.name)) r.offset (ReadSectors (x.setting.layout.hosts + 2)) j refl
+      by (ReadsArea s r) at_once g f = called_rests y s.number r.path (Lease (ForJob j) (ReadArea r.name)) r.offset (ReadSectors (area_sectors x.setting.layout)) j refl
       by (Shares s lver) at_once g f = granted_rests y s j c Shared lver (grants_lease c g.resource g.acquires.asks) given
       by (GivesUp s e) at_once g f = release_rests x text c s e j wake bare k g
       by (TakesOver s e) at_once g f = granted_rests (add_end (end_of e) y) s j c e.mode e.lver (ap (λ z. is_granting z) g.command) given

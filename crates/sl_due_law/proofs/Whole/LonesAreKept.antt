@@ -2,7 +2,7 @@
 -- sessions may call.
 use Rattle.sl_acts.proofs.Additions.{contains_last}
 use Rattle.sl_acts.proofs.LoopsKeep.{for_each_keeps, when_keeps}
-use Rattle.sl_acts.specs.Acts.{Acts}
+use Rattle.sl_acts.specs.Acts.{Acts, next_of_conversion, next_of_release, next_of_settling}
 use Rattle.sl_area.specs.Places.{delta_offset, request_offset}
 use Rattle.sl_due.specs.DueAnswers.{set_reply}
 use Rattle.sl_due.specs.DueCommands.{answer_line, carry_decision}
@@ -21,8 +21,7 @@ use Rattle.sl_due_facts.proofs.Jobs.LinesAreAllowed.{IsBegun}
 use Rattle.sl_due_facts.proofs.Jobs.NearlyPlainActs.{AnyMove, AnyStart, Anything, grant_plain}
 use Rattle.sl_due_facts.proofs.Jobs.RepliesComeAfter.{IsLateDelta, joining_late, on_bool, on_option, wake_late}
 use Rattle.sl_trace.specs.Jobs.{job_of_start}
-use Rattle.sl_trace.specs.LeaseWork.{convert_next, lease_place, release_next, settle_next}
-use Rattle.sl_trace.specs.Leases.{exclusive_on, holdings_on, known, spot_of, spot_of_call}
+use Rattle.sl_trace.specs.Leases.{exclusive_on, holdings_on, spot_of, spot_of_call}
 use Rattle.sl_trace.specs.declared.lease.LeaseNext.{LeaseNext}
 use Rattle.sl_trace.specs.declared.lease.LeaseNext.TheVariants.{AnswerJob, BecomeExclusive, BecomeShared, GrantJob, Nothing as No_lease, ReadFor, WriteBlock, WriteLeader}
 use Rattle.sl_plain.proofs.Lists.{contains_none, find_inside, kept_inside}
@@ -46,7 +45,7 @@ use Rattle.sl_trace.specs.declared.effects.Call.{Call}
 use Rattle.sl_trace.specs.declared.effects.Grant.{Grant}
 use Rattle.sl_trace.specs.declared.effects.JoinStep.TheVariants.{FirstRead}
 use Rattle.sl_trace.specs.declared.effects.LeaseStep.{LeaseStep}
-use Rattle.sl_trace.specs.declared.effects.LeaseStep.TheVariants.{ClearMode, FreeLeader, Phase1Read, Phase1Write, Phase2Read, Phase2Write, ReadArea, ReadBeforeFree, SetMode, TakeLeader}
+use Rattle.sl_trace.specs.declared.effects.LeaseStep.TheVariants.{ClearMode, FreeLeader, Phase1Read, Phase1Write, Phase2Read, Phase2Write, ReadAgain, ReadArea, ReadBeforeBlock, ReadBeforeFree, SetMode, TakeLeader}
 use Rattle.sl_trace.specs.declared.effects.Move.{Move}
 use Rattle.sl_trace.specs.declared.effects.Move.TheVariants.{Unregister}
 use Rattle.sl_trace.specs.declared.effects.Op.{Op}
@@ -64,6 +63,7 @@ use Rattle.sl_trace.specs.declared.input.Input.TheVariants.{Answer as Told, Exit
 use Rattle.sl_trace.specs.declared.reply.Reply.{Reply}
 use Rattle.sl_trace.specs.declared.reply.Reply.TheVariants.{BadCommand as Misread, Done, IoFault, IoTimeout, SpawnFault}
 use Rattle.sl_words.proofs.CaseLaws.{none_some, true_is_false}
+use Rattle.sl_trace.specs.declared.effects.LeaseRead.TheVariants.{OfArea, OfBlock, OfFree, OfPhase1, OfPhase2}
 use Rattle.std.proofs.Common.{ap, inl, inr, refl, subst, sym, ◌∙◌}
 use Rattle.std.proofs.lemmas.Bool.{eqb-true}
 use Rattle.std.specs.Prelude.{Bool, Contains, List, None, Option, Some, [], false, is_some, not, true, ℕ, ◌+◌, ◌==◌, ◌≡◌, ◌⊎◌}
@@ -114,6 +114,12 @@ free_plain y s l now k =
 reads_plain : (y : Step) (s : Session) (at : Spot) (work : Work) (step : LeaseStep) → ReadAllowed NoLone y s at work step
 reads_plain y s at work (ReadArea name) = (refl, refl)
 reads_plain y s at work ReadBeforeFree = (refl, refl)
+reads_plain y s at work ReadBeforeBlock = (refl, refl)
+reads_plain y s at work (ReadAgain (OfArea name)) = (refl, refl)
+reads_plain y s at work (ReadAgain OfFree) = (refl, refl)
+reads_plain y s at work (ReadAgain OfBlock) = (refl, refl)
+reads_plain y s at work (ReadAgain OfPhase1) = (refl, refl)
+reads_plain y s at work (ReadAgain OfPhase2) = (refl, refl)
 reads_plain y s at work Phase1Write = (refl, refl)
 reads_plain y s at work Phase1Read = (refl, refl)
 reads_plain y s at work Phase2Write = (refl, refl)
@@ -131,7 +137,7 @@ lease_plain y s at work (WriteLeader step l) = (refl, refl)
 lease_plain y s at work (AnswerJob r) = λ j is. tt
 lease_plain y s at work (GrantJob mode lver) = λ j c is reads. grant_plain j lver c
 lease_plain y s at work (BecomeShared lver l) = ((λ j is. tt), (refl, refl))
-lease_plain y s at work (BecomeExclusive lver b) = ((λ j is. tt), λ g. (refl, refl))
+lease_plain y s at work (BecomeExclusive lver b) = ((λ j is. tt), λ z same. (refl, refl))
 
 request_plain : (x : Step) (s : Session) (j : ℕ) (bytes : List ℕ) (c : Command) → RequestAllowed Anything NoLone x s j bytes c
 request_plain x s j bytes (Request r asked force) = ((λ why is. tt), (refl, refl))
@@ -157,9 +163,9 @@ decision_plain K y j c (Joins n a) = inl tt
 decision_plain K y j c (Leaves s) = inr (refl, (tt, λ z k i there. tt))
 decision_plain K y j c (ReadsArea s r) = inr (refl, (refl, refl))
 decision_plain K y j c (Shares s lver) = inr (refl, (grant_plain j lver c))
-decision_plain K y j c (GivesUp s g) = inr (refl, (tt, lease_plain (add_end (end_of g) y) s (spot_of_grant g) (ForJob j) (release_next (lease_place y.setting s) (known y.setting (seen (add_end (end_of g) y)) s (spot_of_grant g)) g.mode g.lver)))
+decision_plain K y j c (GivesUp s g) = inr (refl, (tt, lease_plain (add_end (end_of g) y) s (spot_of_grant g) (ForJob j) (next_of_release y.setting (seen (add_end (end_of g) y)) s (spot_of_grant g) g)))
 decision_plain K y j c (TakesOver s g) = inr (refl, (grant_plain j g.lver c))
-decision_plain K y j c (ConvertsTo s r mode) = inr (refl, (lease_plain y s (spot_of r) (ForJob j) (convert_next (known y.setting (seen y) s (spot_of r)) mode r.name)))
+decision_plain K y j c (ConvertsTo s r mode) = inr (refl, (lease_plain y s (spot_of r) (ForJob j) (next_of_conversion y.setting (seen y) s (spot_of r) mode r.name)))
 decision_plain K y j c (Requests s r) = inr (refl, (refl, refl))
 decision_plain K y j c (SetsValue s at v) = inr (refl, (refl, refl))
 decision_plain K y j c (GetsValue s at) = inr (refl, (refl, refl))
@@ -350,6 +356,6 @@ lones_are_kept =
           lones_of _ (delta AllPlain AllPlain Anything NoLone AnyStart AnyMove plain_effects x s (next_renewal (delta_of_session x.setting s) x.reading (delta_known x.setting (seen x) s) (bits_due x.setting (calls_of (seen x) s) x.reading))
           (renewal_plain x s (delta_of_session x.setting s) x.reading (delta_known x.setting (seen x) s) (bits_due x.setting (calls_of (seen x) s) x.reading)) (other_plain x (ap (λ i. line_in i) wake) (ap (λ i. heard_by i) wake) h.1));
       settles = λ x s spot has wake active whole none h.
-          lones_of _ (lease AllPlain AllPlain Anything NoLone AnyStart AnyMove plain_effects x s spot Settling (settle_next (lease_place x.setting s) (known x.setting (seen x) s spot))
-          (lease_plain x s spot Settling (settle_next (lease_place x.setting s) (known x.setting (seen x) s spot))) (other_plain x (ap (λ i. line_in i) wake) (ap (λ i. heard_by i) wake) h.1));
+          lones_of _ (lease AllPlain AllPlain Anything NoLone AnyStart AnyMove plain_effects x s spot Settling (next_of_settling x.setting (seen x) s spot)
+          (lease_plain x s spot Settling (next_of_settling x.setting (seen x) s spot)) (other_plain x (ap (λ i. line_in i) wake) (ap (λ i. heard_by i) wake) h.1));
     }

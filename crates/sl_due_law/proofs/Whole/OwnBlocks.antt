@@ -4,23 +4,23 @@ use Rattle.sl_area.specs.Places.{area_blocks}
 use Rattle.sl_due.specs.Steps.{Step, seen}
 use Rattle.sl_due_leases.proofs.Leases.NamesVerified.{ended_wrote}
 use Rattle.sl_due_leases.proofs.Ways.Kept.EffectsLeave.{there_has}
-use Rattle.sl_due_leases.proofs.Ways.Kept.HeardStands.{heard_call, heard_has, heard_open}
+use Rattle.sl_due_leases.proofs.Ways.Kept.HeardStands.{heard_call, heard_has}
 use Rattle.sl_due_leases.proofs.Ways.Kept.PlacesStand.{id_in_range}
 use Rattle.sl_due_leases.proofs.Ways.NewestCall.{block_is, ended_here, leader_is_no_block, read_writes_no_block, submitted_here, submitted_passed}
-use Rattle.sl_due_leases.proofs.Ways.NextsFit.PhasesFit.{given_by, given_in}
-use Rattle.sl_due_leases.proofs.Ways.Places.{spot_aligned}
+use Rattle.sl_due_law.proofs.Causes.Leases.GivenBlocks.{area_gives}
+use Rattle.sl_due_law.proofs.Causes.Leases.NewestWays.{NewestWays, newest_ways}
 use Rattle.sl_due_law.proofs.Whole.BallotWrites.{phase1_own}
 use Rattle.sl_due_law.proofs.Whole.LeasesGoOn.{is_behind_block}
 use Rattle.sl_due_facts.specs.Facts.WayFacts.{Phase2ReadWay, Phase2Way, PurposeWay, TakeWay, WayContext, Ways, way_context}
 use Rattle.sl_due_facts.specs.Facts.Whole.{Whole}
-use Rattle.sl_trace.specs.Leases.{block_of_host, block_submitted, blocks_given, known, last_blocks, lease_calls, lease_step, own_known, own_or_read, spot_of_call}
+use Rattle.sl_trace.specs.Leases.{block_of_host, block_submitted, blocks_given, known, last_blocks, lease_calls, own_known, own_or_read, spot_of_call}
 use Rattle.sl_plain.proofs.Lists.{there_is}
 use Rattle.sl_plain.proofs.Places.{position_none}
 use Rattle.sl_area.specs.Layouts.{Layout}
 use Rattle.sl_sector.specs.declared.sector.Block.{Block}
 use Rattle.sl_trace.specs.declared.session.Session.{Session}
 use Rattle.sl_trace.specs.Traces.{Answered, Submitted, bytes_given, gave}
-use Rattle.sl_trace.specs.declared.effects.LeaseStep.TheVariants.{ClearMode, FreeLeader, Phase1Read, Phase1Write, Phase2Read, Phase2Write, ReadArea, ReadBeforeFree, SetMode, TakeLeader}
+use Rattle.sl_trace.specs.declared.effects.LeaseStep.TheVariants.{ClearMode, FreeLeader, Phase1Read, Phase1Write, Phase2Read, Phase2Write, ReadAgain, ReadArea, ReadBeforeBlock, ReadBeforeFree, SetMode, TakeLeader}
 use Rattle.sl_trace.specs.declared.effects.LeaseStep.{LeaseStep}
 use Rattle.sl_trace.specs.declared.effects.Purpose.TheVariants.{Lease}
 use Rattle.sl_trace.specs.declared.effects.Work.{Work}
@@ -29,25 +29,9 @@ use Rattle.sl_trace.specs.declared.input.Answer.{Answer}
 use Rattle.sl_words.proofs.CaseLaws.{false_is_true, true_is_false}
 use Rattle.std.proofs.Common.{ap, arith, refl, subst, ◌∙◌}
 use Rattle.std.proofs.lemmas.List.FromFn.{length-map-range_with_len}
-use Rattle.std.specs.Prelude.{List, None, Option, Some, false, is_none, is_some, length, option_and_then, position, slice_get, true, unwrap_or, ℕ, ◌-◌, ◌<◌, ◌∷◌, ◌≡◌, ◌≤◌}
+use Rattle.std.specs.Prelude.{List, None, Option, Some, false, is_none, length, option_and_then, position, slice_get, true, unwrap_or, ℕ, ◌-◌, ◌<◌, ◌∷◌, ◌≡◌, ◌≤◌}
 
 -- ---- behind the steps of a ballot
-
--- The heard call is the lease's newest, and each has its way.
-pub record NewestWays (x : Step) (s : Session) (m : Submitted) : Type 0 where
-  pub rest : List Submitted
-  pub newest : lease_calls x.setting (seen x) s (spot_of_call x.setting.layout m) ≡ m ∷ rest
-  pub ways : Ways (way_context x.setting (seen x) s) (m ∷ rest)
-
-pub newest_ways : (x : Step) (s : Session) (work : Work) (step : LeaseStep) (m : Submitted) (answer : Answer) → Whole x → Hears x s m answer → m.call.purpose ≡ Lease work step → NewestWays x s m
-newest_ways x s work step m answer w h is =
-    let first = w.facts.turns.newest s m h.session (heard_call x s m answer h w).there (heard_open x s m answer h) (ap (λ p. is_some (lease_step p)) is) in
-    let inside = there_has x.setting (seen x) s.number s (heard_has x s m answer h) in
-    record {
-      rest = first.0;
-      newest = first.1;
-      ways = subst (λ ms. Ways (way_context x.setting (seen x) s) ms) first.1 (w.facts.ways.each s (spot_of_call x.setting.layout m) inside (spot_aligned x.setting.layout.area m.call.offset));
-    }
 
 -- After the read of phase 2 it is that of phase 2.
 phase2_own : (w : WayContext) (work : Work) (m : Submitted) (rest : List Submitted) → Ways w (m ∷ rest) → m.call.purpose ≡ Lease work Phase2Read → (b : Block) × (block_submitted (m ∷ rest) ≡ Some b)
@@ -78,6 +62,8 @@ own_behind x s work TakeLeader m answer w h is behind =
     let n = newest_ways x s work TakeLeader m answer w h is in let b = take_own (way_context x.setting (seen x) s) work m n.rest n.ways is in (b.0, ap (λ ms. block_submitted ms) n.newest ∙ b.1)
 own_behind x s work (ReadArea name) m answer w h is behind = absurd (false_is_true behind)
 own_behind x s work ReadBeforeFree m answer w h is behind = absurd (false_is_true behind)
+own_behind x s work ReadBeforeBlock m answer w h is behind = absurd (false_is_true behind)
+own_behind x s work (ReadAgain read) m answer w h is behind = absurd (false_is_true behind)
 own_behind x s work Phase1Write m answer w h is behind = absurd (false_is_true behind)
 own_behind x s work Phase2Write m answer w h is behind = absurd (false_is_true behind)
 own_behind x s work SetMode m answer w h is behind = absurd (false_is_true behind)
@@ -86,11 +72,8 @@ own_behind x s work ClearMode m answer w h is behind = absurd (false_is_true beh
 
 -- ---- in the area that was read
 
-last_here : (l : Layout) (m : Submitted) (rest : List Submitted) (bs : List (Option Block)) → blocks_given l m ≡ Some bs → last_blocks l (m ∷ rest) ≡ bs
+last_here : (l : Layout) (m : Submitted) (rest : List Submitted) (bs : List (Option Block)) → blocks_given l m rest ≡ Some bs → last_blocks l (m ∷ rest) ≡ bs
 last_here l m rest bs is = ap (λ o. elim o as (λ z. List (Option Block)) [ Some cs ↦ cs | None ↦ last_blocks l rest ]) is
-
-area_given : (l : Layout) (m : Submitted) (bytes : List ℕ) (work : Work) (name : List ℕ) → gave m ≡ Some bytes → m.call.purpose ≡ Lease work (ReadArea name) → blocks_given l m ≡ Some (area_blocks l bytes)
-area_given l m bytes work name is for = given_by l m bytes is ∙ ap (λ p. given_in l bytes p) for
 
 within : (id hosts n : ℕ) → 1 ≤ id → id ≤ hosts → n ≡ hosts → id - 1 < n
 within id hosts n one most is = omega (arith, one, most, is)
@@ -119,7 +102,7 @@ own_in_area x s work name bytes m w h is whole = by (block_submitted (lease_call
   told = ap (λ o. option_and_then (λ (a : Answered). bytes_given a.answer) o) (heard_call x s m (Read bytes) h w).told
 
   read : last_blocks x.setting.layout (lease_calls x.setting (seen x) s (spot_of_call x.setting.layout m)) ≡ area_blocks x.setting.layout bytes
-  read = ap (λ ms. last_blocks x.setting.layout ms) n.newest ∙ last_here x.setting.layout m n.rest (area_blocks x.setting.layout bytes) (area_given x.setting.layout m bytes work name told is)
+  read = ap (λ ms. last_blocks x.setting.layout ms) n.newest ∙ last_here x.setting.layout m n.rest (area_blocks x.setting.layout bytes) (area_gives x.setting.layout w.setting.unpaired m n.rest bytes work name told is)
 
   by : (o : Option Block) → block_submitted (lease_calls x.setting (seen x) s (spot_of_call x.setting.layout m)) ≡ o
       → (b : Block) × (own_or_read s.id (block_submitted (lease_calls x.setting (seen x) s (spot_of_call x.setting.layout m))) (last_blocks x.setting.layout (lease_calls x.setting (seen x) s (spot_of_call x.setting.layout m))) ≡ Some b)

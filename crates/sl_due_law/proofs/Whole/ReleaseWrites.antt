@@ -32,6 +32,8 @@ use Rattle.sl_trace.specs.declared.effects.Mode.TheVariants.{Exclusive, Shared}
 use Rattle.sl_trace.specs.declared.effects.Mode.{Mode}
 use Rattle.sl_trace.specs.declared.effects.Spot.{Spot}
 use Rattle.sl_trace.specs.declared.input.Input.TheVariants.{Line, Wake}
+use Rattle.sl_acts.specs.Acts.{next_of_release}
+use Rattle.sl_due_facts.proofs.Jobs.PlainNexts.{release_plain}
 use Rattle.std.proofs.Common.{ap, arith, refl, subst, sym, ◌∙◌}
 use Rattle.std.specs.Option.{option_map_or}
 use Rattle.std.specs.Prelude.{Contains, List, None, Option, Some, [], bytes_eq, false, filter, ℕ, ◌&&◌, ◌<◌, ◌==◌, ◌≡◌, ◌≤◌}
@@ -66,14 +68,13 @@ freed_well x c s g w grounds alone =
     let has : session_numbered x.setting (seen x) g.session ≡ Some s = subst (λ n. session_numbered x.setting (seen x) n ≡ Some s) (sym (eqb-true g.session s.number mine.1)) (session_has x.setting (seen x) s inside) in
     let stands = w.facts.holdings.stands g s mine.0 has alone in
     let ways = w.facts.ways.each s (spot_of_grant g) inside (base_aligned x g (w.facts.holdings.owned g mine.0).4) in
-    leader_well x.setting (seen x) s (spot_of_grant g) false g.lver w.setting inside (w.facts.delta.numbers s inside (active_is_joined x.setting (seen x) s grounds.ready.active))
-    (is_verified (way_context x.setting (seen x) s) (lease_calls x.setting (seen x) s (spot_of_grant g)) ways stands.own stands.known) (above _ g.lver stands.not_freed) (held_lver x g w mine.0 alone)
+    leader_well x.setting (seen x) s (spot_of_grant g) false g.lver w.setting inside (w.facts.delta.numbers s inside (active_is_joined x.setting (seen x) s grounds.ready.active)) ways
+    (is_verified (way_context x.setting (seen x) s) w.setting.unpaired (lease_calls x.setting (seen x) s (spot_of_grant g)) ways stands.own stands.known) (above _ g.lver stands.not_freed) (held_lver x g w mine.0 alone)
 
--- What a release writes.
-pub releases_well : (x : Step) (text : List ℕ) (c : Command) (s : Session) (g : Grant) → x.input ≡ Wake → x.effects.calls ≡ [] → Whole x → decided x.setting (seen x) x.reading c ≡ GivesUp s g
+release_well : (x : Step) (text : List ℕ) (c : Command) (s : Session) (g : Grant) → x.input ≡ Wake → x.effects.calls ≡ [] → Whole x → decided x.setting (seen x) x.reading c ≡ GivesUp s g
     → LeaseWrites (release_next (lease_place x.setting s) (known x.setting (seen (add_end (end_of g) (with_input (Line text) x))) s (spot_of_grant g)) g.mode g.lver)
 unfolding known
-releases_well x text c s g wake bare w decides = by g.mode refl where
+release_well x text c s g wake bare w decides = by g.mode refl where
   z : Step
   z = add_end (end_of g) (with_input (Line text) x)
 
@@ -100,3 +101,9 @@ releases_well x text c s g wake bare w decides = by g.mode refl where
         resource = verified_name x.setting.layout s.lockspace (filter (λ (m : Submitted). is_lease_call m && is_on x.setting.layout at m.call) (filter (is_call_of s) ms));
       })) (sym (calls_lined x text wake bare)) (freed_well x c s g w grounds (ap (λ m. is_shared m) is))
   by Shared is = clears (block_submitted (lease_calls x.setting (seen z) s at)) refl
+
+-- What a release writes.
+pub releases_well : (x : Step) (text : List ℕ) (c : Command) (s : Session) (g : Grant) → x.input ≡ Wake → x.effects.calls ≡ [] → Whole x → decided x.setting (seen x) x.reading c ≡ GivesUp s g
+    → LeaseWrites (next_of_release x.setting (seen (add_end (end_of g) (with_input (Line text) x))) s (spot_of_grant g) g)
+releases_well x text c s g wake bare w decides =
+    subst (λ n. LeaseWrites n) (sym (release_plain x.setting (seen (add_end (end_of g) (with_input (Line text) x))) s (spot_of_grant g) g w.setting.unpaired)) (release_well x text c s g wake bare w decides)

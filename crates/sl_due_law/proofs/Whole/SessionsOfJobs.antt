@@ -1,6 +1,6 @@
 -- The lease calls of a job are of one session.
 use Rattle.sl_acts.proofs.Additions.{contains_last}
-use Rattle.sl_acts.specs.Acts.{Acts, Hears}
+use Rattle.sl_acts.specs.Acts.{Acts, Hears, next_of_conversion, next_of_release, next_of_settling}
 use Rattle.sl_area.specs.Places.{delta_offset, request_offset}
 use Rattle.sl_due.specs.DueAnswers.{set_reply}
 use Rattle.sl_due.specs.DueCommands.{carry_decision}
@@ -22,8 +22,7 @@ use Rattle.sl_due_facts.specs.Facts.JobFacts.{JobFacts}
 use Rattle.sl_due_law.specs.Whole.JobLore.{NewSessions, OneSession, SameSession}
 use Rattle.sl_due_law.specs.Whole.Kept.{Kept}
 use Rattle.sl_trace.specs.Jobs.{command_numbered, command_of, job_of_start}
-use Rattle.sl_trace.specs.LeaseWork.{convert_next, lease_place, release_next, settle_next}
-use Rattle.sl_trace.specs.Leases.{known, spot_of, spot_of_call}
+use Rattle.sl_trace.specs.Leases.{spot_of, spot_of_call}
 use Rattle.sl_trace.specs.declared.lease.LeaseNext.TheVariants.{AnswerJob, BecomeExclusive, BecomeShared, GrantJob, Nothing as No_lease, ReadFor, WriteBlock, WriteLeader}
 use Rattle.sl_trace.specs.declared.lease.LeaseNext.{LeaseNext}
 use Rattle.sl_plain.proofs.Options.{some_of}
@@ -40,7 +39,7 @@ use Rattle.sl_trace.specs.declared.effects.Call.{Call}
 use Rattle.sl_trace.specs.declared.effects.Entry.{Entry}
 use Rattle.sl_trace.specs.declared.command.LockspaceArg.{LockspaceArg}
 use Rattle.sl_trace.specs.declared.effects.JoinStep.TheVariants.{ClaimWrite, FirstRead, FirstRenewal}
-use Rattle.sl_trace.specs.declared.effects.LeaseStep.TheVariants.{ClearMode, FreeLeader, Phase1Read, Phase1Write, Phase2Read, Phase2Write, ReadArea, ReadBeforeFree, SetMode, TakeLeader}
+use Rattle.sl_trace.specs.declared.effects.LeaseStep.TheVariants.{ClearMode, FreeLeader, Phase1Read, Phase1Write, Phase2Read, Phase2Write, ReadAgain, ReadArea, ReadBeforeBlock, ReadBeforeFree, SetMode, TakeLeader}
 use Rattle.sl_trace.specs.declared.effects.LeaseStep.{LeaseStep}
 use Rattle.sl_trace.specs.declared.effects.Op.TheVariants.{ReadSectors}
 use Rattle.sl_trace.specs.declared.effects.Op.{Op}
@@ -56,6 +55,7 @@ use Rattle.sl_trace.specs.declared.input.Input.{Input}
 use Rattle.sl_trace.specs.declared.reply.Reply.TheVariants.{BadCommand as Misread, Done, IoFault, IoTimeout, SpawnFault}
 use Rattle.sl_trace_law.proofs.Sessions.Making.{IsNewCall, old_or_new, same_answered}
 use Rattle.sl_words.proofs.CaseLaws.{none_some, some_value}
+use Rattle.sl_trace.specs.declared.effects.LeaseRead.TheVariants.{OfArea, OfBlock, OfFree, OfPhase1, OfPhase2}
 use Rattle.std.proofs.Common.{ap, inl, inr, refl, subst, sym, ◌∙◌}
 use Rattle.std.specs.Prelude.{Contains, List, None, Ok, Some, [], is_some, length, option_and_then, ℕ, ◌∷◌, ◌≡◌, ◌⊎◌}
 
@@ -96,6 +96,12 @@ delta_sessions x s (EndLeaving j r) = (tt, tt)
 reads_session : (x y : Step) (s : Session) (at : Spot) (work : Work) (step : LeaseStep) → SameSession x.past s.number (Lease work step) → ReadAllowed (MayBe x) y s at work step
 reads_session x y s at work (ReadArea name) h = h
 reads_session x y s at work ReadBeforeFree h = h
+reads_session x y s at work ReadBeforeBlock h = h
+reads_session x y s at work (ReadAgain (OfArea name)) h = h
+reads_session x y s at work (ReadAgain OfFree) h = h
+reads_session x y s at work (ReadAgain OfBlock) h = h
+reads_session x y s at work (ReadAgain OfPhase1) h = h
+reads_session x y s at work (ReadAgain OfPhase2) h = h
 reads_session x y s at work Phase1Write h = h
 reads_session x y s at work Phase1Read h = h
 reads_session x y s at work Phase2Write h = h
@@ -113,7 +119,7 @@ lease_sessions x y s at work (WriteLeader step l) h = work_session x s work step
 lease_sessions x y s at work (AnswerJob r) h = λ j is. tt
 lease_sessions x y s at work (GrantJob mode lver) h = λ j c is reads. grant_plain j lver c
 lease_sessions x y s at work (BecomeShared lver l) h = ((λ j is. tt), settling_session x s FreeLeader)
-lease_sessions x y s at work (BecomeExclusive lver b) h = ((λ j is. tt), λ g. settling_session x s ClearMode)
+lease_sessions x y s at work (BecomeExclusive lver b) h = ((λ j is. tt), λ z same. settling_session x s ClearMode)
 
 request_sessions : (x : Step) (s : Session) (j : ℕ) (bytes : List ℕ) (c : Command) → RequestAllowed Anything (MayBe x) x s j bytes c
 request_sessions x s j bytes (Request r asked force) = ((λ why is. tt), plain_session x s.number (RequestWrite j (owner_read x.setting.layout bytes)) (no_lease (RequestWrite j (owner_read x.setting.layout bytes)) refl))
@@ -201,9 +207,9 @@ decision_sessions x text c d wake k = by d where
   by (Shares s lver) = grant_plain j lver c
   by (GivesUp s e) =
       let z : Step = add_end (end_of e) y in
-      (tt, lease_sessions y z s (spot_of_grant e) (ForJob j) (release_next (lease_place x.setting s) (known x.setting (seen z) s (spot_of_grant e)) e.mode e.lver) (line_theirs x text s wake k))
+      (tt, lease_sessions y z s (spot_of_grant e) (ForJob j) (next_of_release x.setting (seen z) s (spot_of_grant e) e) (line_theirs x text s wake k))
   by (TakesOver s e) = grant_plain j e.lver c
-  by (ConvertsTo s r mode) = lease_sessions y y s (spot_of r) (ForJob j) (convert_next (known x.setting (seen y) s (spot_of r)) mode r.name) (line_theirs x text s wake k)
+  by (ConvertsTo s r mode) = lease_sessions y y s (spot_of r) (ForJob j) (next_of_conversion x.setting (seen y) s (spot_of r) mode r.name) (line_theirs x text s wake k)
   by (Requests s r) = plain_session y s.number (RequestRead j) (no_lease (RequestRead j) refl)
   by (SetsValue s at v) = plain_session y s.number (ValueWrite j) (no_lease (ValueWrite j) refl)
   by (GetsValue s at) = plain_session y s.number (ValueRead j) (no_lease (ValueRead j) refl)
@@ -297,7 +303,7 @@ sessions_stay_one =
           let n : DeltaNext = next_renewal (delta_of_session x.setting s) x.reading (delta_known x.setting (seen x) s) (bits_due x.setting (calls_of (seen x) s) x.reading) in
           end_session x _ (delta (Staying x) (Staying x) Anything (MayBe x) AnyStart AnyMove (staying x) x s n (delta_sessions x s n) (begin_session x h.so_far));
       settles = λ x s spot has wake active whole none h.
-          let n : LeaseNext = settle_next (lease_place x.setting s) (known x.setting (seen x) s spot) in
+          let n : LeaseNext = next_of_settling x.setting (seen x) s spot in
           end_session x _ (lease (Staying x) (Staying x) Anything (MayBe x) AnyStart AnyMove (staying x) x s spot Settling n
           (lease_sessions x x s spot Settling n (λ j before d its. absurd (none_some j (ap (λ w. work_job w) its)))) (begin_session x h.so_far));
       parts = λ x s p1 p2 p3 p4 p5 h. end_session x _ (removal (Staying x) (Staying x) Anything (MayBe x) AnyStart AnyMove (staying x) x s.lockspace tt (begin_session x h.so_far));

@@ -10,15 +10,15 @@ use Rattle.sl_trace.specs.declared.input.Input.TheVariants.{Wake}
 use Rattle.std.specs.Prelude.{[], ◌≡◌}
 use Rattle.sl_due.specs.DueCommands.{decided}
 use Rattle.sl_due_law.proofs.Whole.ValueWrites.{values_well}
-use Rattle.sl_sector.specs.Records.{IsValue}
+use Rattle.sl_sector.specs.Records.{IsBlock, IsLeader, IsValue}
 use Rattle.sl_sector.specs.declared.sector.ValueRec.{ValueRec}
 use Rattle.sl_acts.proofs.Additions.{contains_last}
-use Rattle.sl_acts.specs.Acts.{Acts}
-use Rattle.sl_area.specs.Places.{delta_offset, request_offset}
+use Rattle.sl_acts.specs.Acts.{Acts, next_of_conversion, next_of_release, next_of_settling}
+use Rattle.sl_area.specs.Places.{area_sectors, block_record, block_sectors, delta_offset, leader_record, request_offset}
 use Rattle.sl_due.specs.DueAnswers.{set_reply}
 use Rattle.sl_due.specs.DueCommands.{carry_decision}
 use Rattle.sl_due.specs.DueInputs.{end_holdings, leave_holdings, started_reply}
-use Rattle.sl_due.specs.DueLease.{next_of_lease}
+use Rattle.sl_due.specs.DueLease.{name_on, next_of_lease, next_turn}
 use Rattle.sl_due.specs.DueRequests.{after_value_read, bits_due, value_reply}
 use Rattle.sl_due.specs.Steps.{Step, add_end, seen, with_input}
 use Rattle.sl_due.specs.declared.decision.Decision.{Decision}
@@ -27,8 +27,7 @@ use Rattle.sl_due_facts.proofs.Jobs.EffectsAreAllowed.{Allows, DecisionAllowed, 
 use Rattle.sl_due_facts.proofs.Jobs.NearlyPlainActs.{AnyMove, AnyStart, Anything}
 use Rattle.sl_due_facts.proofs.Jobs.RepliesComeAfter.{on_bool}
 use Rattle.sl_trace.specs.Jobs.{job_of_start}
-use Rattle.sl_trace.specs.LeaseWork.{convert_next, lease_place, release_next, settle_next}
-use Rattle.sl_trace.specs.Leases.{known, spot_of, spot_of_call}
+use Rattle.sl_trace.specs.Leases.{spot_of, spot_of_call}
 use Rattle.sl_trace.specs.declared.lease.LeaseNext.{LeaseNext}
 use Rattle.sl_trace.specs.declared.lease.LeaseNext.TheVariants.{AnswerJob, BecomeExclusive, BecomeShared, GrantJob, Nothing as No_lease, ReadFor, WriteBlock, WriteLeader}
 use Rattle.sl_sector.specs.declared.sector.Rec.TheVariants.{DeltaIs}
@@ -37,13 +36,13 @@ use Rattle.sl_trace.specs.Sessions.{calls_of, generation_of, recovery_of}
 use Rattle.sl_trace.specs.declared.delta.DeltaNext.{DeltaNext}
 use Rattle.sl_trace.specs.declared.delta.DeltaNext.TheVariants.{Disconnect, EndLeaving, Join, MoveConnection, Nothing, ReadOwn, RefuseJoin, RegisterAndRead, WriteClaim, WriteFirst, WriteFree, WriteRenewal}
 use Rattle.sl_trace.specs.declared.session.Session.{Session}
-use Rattle.sl_trace.specs.Traces.{end_of, next_call, next_job, spot_of_grant}
+use Rattle.sl_trace.specs.Traces.{Setting, end_of, next_call, next_job, spot_of_grant}
 use Rattle.sl_trace.specs.declared.command.Command.{Command}
 use Rattle.sl_trace.specs.declared.command.Command.TheVariants.{Acquire, AddLockspace, Convert, GetLvb, HostStatus, InqLockspace, Release, ReleaseOrphan, RemLockspace, Request, RunProgram, SetKillpath, SetLvb, Status, TakeOver}
 use Rattle.sl_trace.specs.declared.effects.Call.{Call}
 use Rattle.sl_trace.specs.declared.effects.JoinStep.TheVariants.{FirstRead}
 use Rattle.sl_trace.specs.declared.effects.LeaseStep.{LeaseStep}
-use Rattle.sl_trace.specs.declared.effects.LeaseStep.TheVariants.{ClearMode, FreeLeader, Phase1Read, Phase1Write, Phase2Read, Phase2Write, ReadArea, ReadBeforeFree, SetMode, TakeLeader}
+use Rattle.sl_trace.specs.declared.effects.LeaseStep.TheVariants.{ClearMode, FreeLeader, Phase1Read, Phase1Write, Phase2Read, Phase2Write, ReadAgain, ReadArea, ReadBeforeBlock, ReadBeforeFree, SetMode, TakeLeader}
 use Rattle.sl_trace.specs.declared.effects.Op.{Op}
 use Rattle.sl_trace.specs.declared.effects.Op.TheVariants.{ReadSectors, WriteRecord}
 use Rattle.sl_trace.specs.declared.effects.Purpose.{Purpose}
@@ -57,8 +56,8 @@ use Rattle.sl_trace.specs.declared.input.Answer.TheVariants.{Failed, Read, Writt
 use Rattle.sl_trace.specs.declared.input.Input.TheVariants.{Exit, Line}
 use Rattle.sl_trace.specs.declared.reply.Reply.TheVariants.{Done, IoFault, IoTimeout, SpawnFault}
 use Rattle.sl_words.proofs.CaseLaws.{none_some}
-use Rattle.std.proofs.Common.{ap, inl, inr, refl, subst, ◌∙◌}
-use Rattle.std.specs.Prelude.{Bool, Contains, List, None, Some, is_some, ℕ, ◌+◌, ◌==◌, ◌≡◌, ◌⊎◌}
+use Rattle.std.proofs.Common.{ap, inl, inr, refl, subst, sym, ◌∙◌}
+use Rattle.std.specs.Prelude.{Bool, Contains, List, None, Some, is_some, ℕ, ◌==◌, ◌≡◌, ◌⊎◌}
 use Rattle.sl_acts.proofs.InputsKeep.{has_heard}
 use Rattle.sl_due_law.proofs.Whole.DeltaWrites.{WritesRecord, frees_well, joins_well, renews_well, wakes_well}
 use Rattle.sl_due_law.proofs.Whole.OwnRecords.{request_is, session_id}
@@ -69,7 +68,7 @@ use Rattle.sl_due_leases.proofs.Holdings.LeaseCallers.{commands_fit}
 use Rattle.sl_due_facts.proofs.Jobs.EffectsAreAllowed.{removal, signalled}
 use Rattle.sl_plain.proofs.Lists.{got_inside}
 use Rattle.sl_sector.specs.Records.{IsRecord}
-use Rattle.sl_sector.specs.declared.sector.Rec.TheVariants.{BlockIs, LeaderIs, RequestIs, ValueIs}
+use Rattle.sl_sector.specs.declared.sector.Rec.TheVariants.{BlockIs, LeaderIs, PairIs, PairLeaderIs, RequestIs, ValueIs}
 use Rattle.sl_sector.specs.declared.sector.Rec.{Rec}
 use Rattle.sl_trace.specs.Sessions.{sessions}
 use Rattle.sl_trace.specs.Commands.{IsCommand}
@@ -77,7 +76,11 @@ use Rattle.sl_trace.specs.Traces.{record_of}
 use Rattle.sl_trace.specs.declared.command.LockspaceArg.{LockspaceArg}
 use Rattle.sl_words.proofs.CaseLaws.{some_value}
 use Rattle.sl_words.specs.Bounds.{most_hosts}
-use Rattle.std.specs.Prelude.{Ok, if◌then◌else◌, ◌≤◌}
+use Rattle.sl_area.specs.Layouts.{Layout}
+use Rattle.sl_sector.specs.declared.sector.Block.{Block}
+use Rattle.sl_sector.specs.declared.sector.Leader.{Leader}
+use Rattle.sl_trace.specs.declared.effects.LeaseRead.TheVariants.{OfArea, OfBlock, OfFree, OfPhase1, OfPhase2}
+use Rattle.std.specs.Prelude.{Ok, false, if◌then◌else◌, true, ◌≤◌}
 
 -- ---- calls that write records
 
@@ -139,16 +142,22 @@ freed_well j call (Read bytes) = tt
 -- ---- leases
 
 reads_allowed : (y : Step) (s : Session) (at : Spot) (work : Work) (step : LeaseStep) → ReadAllowed Spelled y s at work step
-reads_allowed y s at work (ReadArea name) = reads_spelled (y.setting.layout.hosts + 2)
-reads_allowed y s at work ReadBeforeFree = reads_spelled (y.setting.layout.hosts + 2)
-reads_allowed y s at work Phase1Write = reads_spelled y.setting.layout.hosts
-reads_allowed y s at work Phase1Read = reads_spelled y.setting.layout.hosts
-reads_allowed y s at work Phase2Write = reads_spelled y.setting.layout.hosts
-reads_allowed y s at work Phase2Read = reads_spelled y.setting.layout.hosts
-reads_allowed y s at work TakeLeader = reads_spelled y.setting.layout.hosts
-reads_allowed y s at work SetMode = reads_spelled y.setting.layout.hosts
-reads_allowed y s at work FreeLeader = reads_spelled y.setting.layout.hosts
-reads_allowed y s at work ClearMode = reads_spelled y.setting.layout.hosts
+reads_allowed y s at work (ReadArea name) = reads_spelled (area_sectors y.setting.layout)
+reads_allowed y s at work ReadBeforeFree = reads_spelled (area_sectors y.setting.layout)
+reads_allowed y s at work ReadBeforeBlock = reads_spelled (block_sectors y.setting.layout)
+reads_allowed y s at work (ReadAgain (OfArea name)) = reads_spelled (area_sectors y.setting.layout)
+reads_allowed y s at work (ReadAgain OfFree) = reads_spelled (area_sectors y.setting.layout)
+reads_allowed y s at work (ReadAgain OfBlock) = reads_spelled (block_sectors y.setting.layout)
+reads_allowed y s at work (ReadAgain OfPhase1) = reads_spelled (block_sectors y.setting.layout)
+reads_allowed y s at work (ReadAgain OfPhase2) = reads_spelled (block_sectors y.setting.layout)
+reads_allowed y s at work Phase1Write = reads_spelled (block_sectors y.setting.layout)
+reads_allowed y s at work Phase1Read = reads_spelled (block_sectors y.setting.layout)
+reads_allowed y s at work Phase2Write = reads_spelled (block_sectors y.setting.layout)
+reads_allowed y s at work Phase2Read = reads_spelled (block_sectors y.setting.layout)
+reads_allowed y s at work TakeLeader = reads_spelled (block_sectors y.setting.layout)
+reads_allowed y s at work SetMode = reads_spelled (block_sectors y.setting.layout)
+reads_allowed y s at work FreeLeader = reads_spelled (block_sectors y.setting.layout)
+reads_allowed y s at work ClearMode = reads_spelled (block_sectors y.setting.layout)
 
 grant_allowed : (j lver : ℕ) (c : Command) → GrantAllowed Anything AnyStart j lver c
 grant_allowed j lver (Acquire r shared q persistent) = tt
@@ -167,15 +176,29 @@ grant_allowed j lver (HostStatus a) = tt
 grant_allowed j lver (SetKillpath q path) = tt
 grant_allowed j lver Status = tt
 
-lease_allowed : (y : Step) (s : Session) (at : Spot) (work : Work) (n : LeaseNext) → LeaseWrites n → LeaseAllowed Anything Spelled AnyStart y s at work n
-lease_allowed y s at work No_lease k = tt
-lease_allowed y s at work (ReadFor step) k = reads_allowed y s at work step
-lease_allowed y s at work (WriteBlock step b) k = record_spelled (BlockIs b) k
-lease_allowed y s at work (WriteLeader step l) k = record_spelled (LeaderIs l) k
-lease_allowed y s at work (AnswerJob r) k = λ j is. tt
-lease_allowed y s at work (GrantJob mode lver) k = λ j c is reads. grant_allowed j lver c
-lease_allowed y s at work (BecomeShared lver l) k = ((λ j is. tt), record_spelled (LeaderIs l) k)
-lease_allowed y s at work (BecomeExclusive lver b) k = ((λ j is. tt), λ g. record_spelled (BlockIs b) k)
+-- Where a block has one sector it is spelled by itself, and a leader too.
+block_spelled : (g : Layout) (turn : ℕ) (lockspace name : List ℕ) (b : Block) → g.paired ≡ false → IsBlock b → IsRecord (block_record g turn lockspace name b)
+block_spelled g turn lockspace name b plain good =
+    subst (λ q. IsRecord (elim q as (λ x. Rec) [ false ↦ BlockIs b | true ↦ PairIs (record { block = b; turn = turn; lockspace = lockspace; resource = name }) ])) (sym plain) good
+
+leader_spelled : (g : Layout) (l : Leader) → IsLeader l → IsRecord (leader_record g l)
+leader_spelled g l good = by g.paired where
+  by : (q : Bool) → IsRecord (elim q as (λ x. Rec) [ false ↦ LeaderIs l | true ↦ PairLeaderIs l ])
+  by false = good
+  by true = good
+
+lease_allowed : (y : Step) (s : Session) (at : Spot) (work : Work) (n : LeaseNext) → y.setting.layout.paired ≡ false → LeaseWrites n → LeaseAllowed Anything Spelled AnyStart y s at work n
+lease_allowed y s at work No_lease plain k = tt
+lease_allowed y s at work (ReadFor step) plain k = reads_allowed y s at work step
+lease_allowed y s at work (WriteBlock step b) plain k = record_spelled _ (block_spelled y.setting.layout (next_turn y.setting (seen y) s at) s.lockspace (name_on y.setting (seen y) s at) b plain k)
+lease_allowed y s at work (WriteLeader step l) plain k = record_spelled (leader_record y.setting.layout l) (leader_spelled y.setting.layout l k)
+lease_allowed y s at work (AnswerJob r) plain k = λ j is. tt
+lease_allowed y s at work (GrantJob mode lver) plain k = λ j c is reads. grant_allowed j lver c
+lease_allowed y s at work (BecomeShared lver l) plain k = ((λ j is. tt), record_spelled (leader_record y.setting.layout l) (leader_spelled y.setting.layout l k))
+lease_allowed y s at work (BecomeExclusive lver b) plain k = (
+  λ j is. tt,
+  λ z same. record_spelled _ (block_spelled z.setting.layout (next_turn z.setting (seen z) s at) s.lockspace (name_on z.setting (seen z) s at) b (ap (λ (st : Setting). st.layout.paired) same ∙ plain) k),
+)
 
 -- ---- requests
 
@@ -199,19 +222,19 @@ request_allowed x s j bytes Status fits most = tt
 
 -- ---- lines
 
-decision_allowed : (y : Step) (j : ℕ) (c : Command) (d : Decision) → ((s : Session) (at : Spot) (v : ValueRec) → d ≡ SetsValue s at v → IsValue v) → ((s : Session) (g : Grant) → d ≡ GivesUp s g → LeaseWrites (release_next (lease_place y.setting s) (known y.setting (seen (add_end (end_of g) y)) s (spot_of_grant g)) g.mode g.lver)) → ((s : Session) (r : ResourceArg) (mode : Mode) → d ≡ ConvertsTo s r mode → LeaseWrites (convert_next (known y.setting (seen y) s (spot_of r)) mode r.name)) → DecisionAllowed SpelledSoFar Anything Spelled AnyStart y j c d
-decision_allowed y j c (Replies r) values gives converts = tt
-decision_allowed y j c (Joins n a) values gives converts = λ z its. reads_spelled 1
-decision_allowed y j c (Leaves s) values gives converts = (tt, λ z h i there. tt)
-decision_allowed y j c (ReadsArea s r) values gives converts = reads_spelled (y.setting.layout.hosts + 2)
-decision_allowed y j c (Shares s lver) values gives converts = grant_allowed j lver c
-decision_allowed y j c (GivesUp s g) values gives converts =
-    (tt, lease_allowed (add_end (end_of g) y) s (spot_of_grant g) (ForJob j) (release_next (lease_place y.setting s) (known y.setting (seen (add_end (end_of g) y)) s (spot_of_grant g)) g.mode g.lver) (gives s g refl))
-decision_allowed y j c (TakesOver s g) values gives converts = grant_allowed j g.lver c
-decision_allowed y j c (ConvertsTo s r mode) values gives converts = lease_allowed y s (spot_of r) (ForJob j) (convert_next (known y.setting (seen y) s (spot_of r)) mode r.name) (converts s r mode refl)
-decision_allowed y j c (Requests s r) values gives converts = reads_spelled 2
-decision_allowed y j c (SetsValue s at v) values gives converts = record_spelled (ValueIs v) (values s at v refl)
-decision_allowed y j c (GetsValue s at) values gives converts = reads_spelled 1
+decision_allowed : (y : Step) (j : ℕ) (c : Command) (d : Decision) → y.setting.layout.paired ≡ false → ((s : Session) (at : Spot) (v : ValueRec) → d ≡ SetsValue s at v → IsValue v) → ((s : Session) (g : Grant) → d ≡ GivesUp s g → LeaseWrites (next_of_release y.setting (seen (add_end (end_of g) y)) s (spot_of_grant g) g)) → ((s : Session) (r : ResourceArg) (mode : Mode) → d ≡ ConvertsTo s r mode → LeaseWrites (next_of_conversion y.setting (seen y) s (spot_of r) mode r.name)) → DecisionAllowed SpelledSoFar Anything Spelled AnyStart y j c d
+decision_allowed y j c (Replies r) plain values gives converts = tt
+decision_allowed y j c (Joins n a) plain values gives converts = λ z its. reads_spelled 1
+decision_allowed y j c (Leaves s) plain values gives converts = (tt, λ z h i there. tt)
+decision_allowed y j c (ReadsArea s r) plain values gives converts = reads_spelled (area_sectors y.setting.layout)
+decision_allowed y j c (Shares s lver) plain values gives converts = grant_allowed j lver c
+decision_allowed y j c (GivesUp s g) plain values gives converts =
+    (tt, lease_allowed (add_end (end_of g) y) s (spot_of_grant g) (ForJob j) (next_of_release y.setting (seen (add_end (end_of g) y)) s (spot_of_grant g) g) plain (gives s g refl))
+decision_allowed y j c (TakesOver s g) plain values gives converts = grant_allowed j g.lver c
+decision_allowed y j c (ConvertsTo s r mode) plain values gives converts = lease_allowed y s (spot_of r) (ForJob j) (next_of_conversion y.setting (seen y) s (spot_of r) mode r.name) plain (converts s r mode refl)
+decision_allowed y j c (Requests s r) plain values gives converts = reads_spelled 2
+decision_allowed y j c (SetsValue s at v) plain values gives converts = record_spelled (ValueIs v) (values s at v refl)
+decision_allowed y j c (GetsValue s at) plain values gives converts = reads_spelled 1
 
 -- The call that begins a session is of no session yet.
 joining_spelled : (x : Step) (j n : ℕ) (c : Command) (a : LockspaceArg) → SpelledSoFar x → SpelledSoFar (carry_decision j c (Joins n a) x)
@@ -227,7 +250,7 @@ joining_spelled x j n c a h k r there = by (contains_last x.effects.calls made k
 carried_spelled : (x : Step) (text : List ℕ) (c : Command) (d : Decision) → Kept x → x.input ≡ Wake → x.effects.calls ≡ [] → x.setting.read text ≡ Ok c → decided x.setting (seen x) x.reading c ≡ d
     → SpelledSoFar (carry_decision (next_job x.setting (seen x)) c d (with_input (Line text) x))
 carried_spelled x text c d k wake bare says is =
-    decision SpelledSoFar SpelledSoFar Anything Spelled AnyStart AnyMove spelled_effects (with_input (Line text) x) (next_job x.setting (seen x)) c d (decision_allowed (with_input (Line text) x) (next_job x.setting (seen x)) c d
+    decision SpelledSoFar SpelledSoFar Anything Spelled AnyStart AnyMove spelled_effects (with_input (Line text) x) (next_job x.setting (seen x)) c d (decision_allowed (with_input (Line text) x) (next_job x.setting (seen x)) c d k.known.0.setting.unpaired
     (λ s at v sets. values_well x c s at v k.known.0 (k.known.0.setting.reads text c says) (is ∙ sets)) (λ s g gives. releases_well x text c s g wake bare k.known.0 (is ∙ gives)) (λ s r mode sets. converts_well x text c s r mode wake bare k.known.0 (is ∙ sets)))
     (λ n a joins. joining_spelled (with_input (Line text) x) (next_job x.setting (seen x)) n c a (spelled_now x k)) (spelled_now x k)
 
@@ -273,7 +296,7 @@ spelled_are_kept =
           (stopped SpelledSoFar SpelledSoFar Anything Spelled AnyStart AnyMove spelled_effects tt x s None (λ z k j there. tt) (spelled_now x h));
       leads_on = λ x s work step m answer aim hears is on aims h.
           (lease SpelledSoFar SpelledSoFar Anything Spelled AnyStart AnyMove spelled_effects x s (spot_of_call x.setting.layout m) work (next_of_lease x.setting (seen x) s (spot_of_call x.setting.layout m) aim m step answer)
-          (lease_allowed x s (spot_of_call x.setting.layout m) work (next_of_lease x.setting (seen x) s (spot_of_call x.setting.layout m) aim m step answer) (answers_well x s work step m answer aim h.known.0 hears is on)) (spelled_now x h));
+          (lease_allowed x s (spot_of_call x.setting.layout m) work (next_of_lease x.setting (seen x) s (spot_of_call x.setting.layout m) aim m step answer) h.known.0.setting.unpaired (answers_well x s work step m answer aim h.known.0 hears is on)) (spelled_now x h));
       fails = λ x s m j hears lone runs h.
           (spelled_effects.replies x j (IoFault m.call.number) tt (spelled_now x h));
       has_asked = λ x s m j owner hears is runs h.
@@ -293,6 +316,6 @@ spelled_are_kept =
           delta SpelledSoFar SpelledSoFar Anything Spelled AnyStart AnyMove spelled_effects x s (next_renewal (delta_of_session x.setting s) x.reading (delta_known x.setting (seen x) s) (bits_due x.setting (calls_of (seen x) s) x.reading))
           (delta_allowed x s _ (renews_well x s h.known.0 has joined)) (spelled_now x h);
       settles = λ x s spot has wake active whole none h.
-          (lease SpelledSoFar SpelledSoFar Anything Spelled AnyStart AnyMove spelled_effects x s spot Settling (settle_next (lease_place x.setting s) (known x.setting (seen x) s spot))
-          (lease_allowed x s spot Settling (settle_next (lease_place x.setting s) (known x.setting (seen x) s spot)) (settles_well x s spot h.known.0 has active whole)) (spelled_now x h));
+          (lease SpelledSoFar SpelledSoFar Anything Spelled AnyStart AnyMove spelled_effects x s spot Settling (next_of_settling x.setting (seen x) s spot)
+          (lease_allowed x s spot Settling (next_of_settling x.setting (seen x) s spot) h.known.0.setting.unpaired (settles_well x s spot h.known.0 has active whole)) (spelled_now x h));
     }

@@ -12,7 +12,7 @@ use Rattle.sl_plain.proofs.Lists.{contains_first, contains_more, find_inside, ke
 use Rattle.sl_plain.proofs.Options.{then_value}
 use Rattle.sl_sector.specs.Records.{Fits, IsBlock, IsRecord, IsValue}
 use Rattle.sl_sector.specs.declared.sector.Block.{Block}
-use Rattle.sl_sector.specs.declared.sector.Rec.TheVariants.{BlockIs, DeltaIs, LeaderIs, RequestIs, ValueIs}
+use Rattle.sl_sector.specs.declared.sector.Rec.TheVariants.{BlockIs, DeltaIs, LeaderIs, PairIs, PairLeaderIs, RequestIs, ValueIs}
 use Rattle.sl_sector.specs.declared.sector.Rec.{Rec}
 use Rattle.sl_sector.specs.declared.sector.ValueRec.{ValueRec}
 use Rattle.sl_due_facts.proofs.Sessions.JoinedNumbers.{spelled_of}
@@ -41,12 +41,14 @@ use Rattle.std.specs.Prelude.{Bool, Contains, IsTrue, List, None, Option, Some, 
 
 -- ---- the lver of an exclusive holding
 
-block_record_is : (r : Rec) (b : Block) → block_of_record r ≡ Some b → r ≡ BlockIs b
-block_record_is (BlockIs e) b is = ap (λ z. BlockIs z) (some_value e b is)
-block_record_is (DeltaIs d) b is = absurd (none_some b is)
-block_record_is (LeaderIs l) b is = absurd (none_some b is)
-block_record_is (RequestIs q) b is = absurd (none_some b is)
-block_record_is (ValueIs v) b is = absurd (none_some b is)
+block_in_record : (r : Rec) (b : Block) → block_of_record r ≡ Some b → IsRecord r → IsBlock b
+block_in_record (BlockIs e) b is good = subst IsBlock (some_value e b is) good
+block_in_record (PairIs p) b is good = subst IsBlock (some_value p.block b is) good.block
+block_in_record (DeltaIs d) b is good = absurd (none_some b is)
+block_in_record (LeaderIs l) b is good = absurd (none_some b is)
+block_in_record (PairLeaderIs l) b is good = absurd (none_some b is)
+block_in_record (RequestIs q) b is good = absurd (none_some b is)
+block_in_record (ValueIs v) b is good = absurd (none_some b is)
 
 -- The block that was submitted last was written by one of the calls.
 pub submitted_by : (ms : List Submitted) (b : Block) → block_submitted ms ≡ Some b → (m : Submitted) × Contains ms m × (block_written m ≡ Some b)
@@ -64,7 +66,7 @@ own_is_record x s at b w is =
     let lease = kept_inside (λ (z : Submitted). is_lease_call z && is_on x.setting.layout at z.call) (calls_of (seen x) s) m.0 m.1 in
     let mine = kept_inside (is_call_of s) (submitted (seen x)) m.0 lease.0 in
     let wrote = then_value block_of_record (record_of m.0.call.op) b m.2 in
-    subst (λ (r : Rec). IsRecord r) (block_record_is wrote.0 b wrote.2) (spelled_of x.setting (seen x) m.0 wrote.0 w.orderly mine.0 wrote.1)
+    block_in_record wrote.0 b wrote.2 (spelled_of x.setting (seen x) m.0 wrote.0 w.orderly mine.0 wrote.1)
 
 -- So the instance of an exclusive holding fits.
 pub held_lver : (x : Step) (g : Grant) → Whole x → Contains (holdings (seen x)) g → is_shared g.mode ≡ false → Fits g.lver

@@ -13,7 +13,8 @@ use Rattle.sl_trace.specs.declared.command.Command.TheVariants.{Convert}
 use Rattle.sl_trace.specs.declared.command.ResourceArg.{ResourceArg}
 use Rattle.sl_trace.specs.declared.effects.Call.{Call}
 use Rattle.sl_trace.specs.declared.effects.Grant.{Grant}
-use Rattle.sl_trace.specs.declared.effects.LeaseStep.TheVariants.{ClearMode, FreeLeader, ReadBeforeFree}
+use Rattle.sl_trace.specs.declared.effects.LeaseRead.TheVariants.{OfBlock, OfFree}
+use Rattle.sl_trace.specs.declared.effects.LeaseStep.TheVariants.{ClearMode, FreeLeader, ReadAgain, ReadBeforeBlock, ReadBeforeFree}
 use Rattle.sl_trace.specs.declared.effects.LeaseStep.{LeaseStep}
 use Rattle.sl_trace.specs.declared.effects.Op.{Op}
 use Rattle.sl_trace.specs.declared.effects.Purpose.TheVariants.{Lease, RequestRead, RequestWrite, ValueRead, ValueWrite}
@@ -31,9 +32,12 @@ OpFits (ValueWrite j) op = is_write op ≡ true
 OpFits (ValueRead j) op = is_write op ≡ false
 OpFits p op = Unit {0}
 
--- An acquire neither clears a mode nor looks before a free.
+-- An acquire neither clears a mode nor looks before a free, or before a block of a settling.
 abbrev pub acquires_by : LeaseStep → Bool
 acquires_by ReadBeforeFree = false
+acquires_by ReadBeforeBlock = false
+acquires_by (ReadAgain OfFree) = false
+acquires_by (ReadAgain OfBlock) = false
 acquires_by ClearMode = false
 acquires_by step = true
 

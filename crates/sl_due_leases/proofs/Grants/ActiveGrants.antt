@@ -1,15 +1,16 @@
 -- The session of each process that is granted a resource is active, so the grants are lawful.
+use Rattle.sl_trace.specs.declared.effects.LeaseRead.TheVariants.{OfArea, OfFree}
 use Rattle.sl_acts.proofs.ActsTogether.{both}
 use Rattle.sl_acts.proofs.DecisionsAreTheirs.{Of}
 use Rattle.sl_acts.proofs.LoopsKeep.{for_each_keeps}
 use Rattle.sl_acts.proofs.PlainActs.{line_has}
 use Rattle.sl_acts.specs.Acts.{Has, Hears}
 use Rattle.sl_acts.specs.SoFar.{entry_of}
-use Rattle.sl_area.specs.Places.{block_offset, leader_offset, request_offset}
+use Rattle.sl_area.specs.Places.{block_place, block_record, leader_offset, leader_record, request_offset}
 use Rattle.sl_due.specs.DueCommands.{after_end, carry_decision}
 use Rattle.sl_due.specs.DueFirst.{begin_recoveries, remove_connection, send, signal_and_refuse}
 use Rattle.sl_due.specs.DueInputs.{leave_holdings, refuse_jobs_of}
-use Rattle.sl_due.specs.DueLease.{carry_lease, convert_for, convert_holding, for_work, goes_on, grant_for, grant_of, next_of_lease, with_command}
+use Rattle.sl_due.specs.DueLease.{carry_lease, convert_for, convert_holding, for_work, goes_on, grant_for, grant_of, name_on, next_of_lease, next_turn, with_command}
 use Rattle.sl_due.specs.Steps.{Step, add_call_at, add_end, add_move, add_reply, begin_step, seen, when, with_input, with_some}
 use Rattle.sl_due.specs.declared.decision.Decision.{Decision}
 use Rattle.sl_due.specs.declared.decision.Decision.TheVariants.{ConvertsTo, GetsValue, GivesUp, Joins, Leaves, ReadsArea, Replies, Requests, SetsValue, Shares, TakesOver}
@@ -39,13 +40,13 @@ use Rattle.sl_due_leases.proofs.Leases.WorkIsActive.{work_is_active}
 use Rattle.sl_due_leases.proofs.Ways.Kept.EffectsLeave.{made_call, there_has}
 use Rattle.sl_due_leases.proofs.Ways.Kept.HeardStands.{heard_has}
 use Rattle.sl_trace.specs.Jobs.{command_numbered}
-use Rattle.sl_trace.specs.Leases.{known, spot_of, spot_of_call}
+use Rattle.sl_trace.specs.Leases.{spot_of, spot_of_call}
 use Rattle.sl_trace.specs.declared.lease.LeaseNext.{LeaseNext}
 use Rattle.sl_trace.specs.declared.lease.LeaseNext.TheVariants.{AnswerJob, BecomeExclusive, BecomeShared, GrantJob, Nothing, ReadFor, WriteBlock, WriteLeader}
 use Rattle.sl_due_facts.proofs.Parts.CallsGrow.{same_sessions}
 use Rattle.sl_due_facts.specs.Parts.Parts.{with_reply}
 use Rattle.sl_plain.proofs.Lists.{contains_none}
-use Rattle.sl_sector.specs.declared.sector.Rec.TheVariants.{BlockIs, DeltaIs, LeaderIs}
+use Rattle.sl_sector.specs.declared.sector.Rec.TheVariants.{DeltaIs}
 use Rattle.sl_trace.specs.Deltas.{own_offset}
 use Rattle.sl_trace.specs.Sessions.{holders_of, is_active, is_join_call, is_joined, joined_after, leaves, leaving_job, recovery_of, removed_after, session_numbered, sessions}
 use Rattle.sl_trace.specs.declared.session.Session.{Session}
@@ -58,7 +59,7 @@ use Rattle.sl_trace.specs.declared.effects.Entry.{Entry}
 use Rattle.sl_trace.specs.declared.effects.Grant.{Grant}
 use Rattle.sl_trace.specs.declared.effects.JobReply.{JobReply}
 use Rattle.sl_trace.specs.declared.effects.JoinStep.TheVariants.{FirstRead}
-use Rattle.sl_trace.specs.declared.effects.LeaseStep.TheVariants.{ClearMode, FreeLeader, ReadArea, ReadBeforeFree}
+use Rattle.sl_trace.specs.declared.effects.LeaseStep.TheVariants.{ClearMode, FreeLeader, ReadAgain, ReadArea, ReadBeforeFree}
 use Rattle.sl_trace.specs.declared.effects.Mode.{Mode}
 use Rattle.sl_trace.specs.declared.effects.Mode.TheVariants.{Exclusive, Shared}
 use Rattle.sl_trace.specs.declared.effects.Move.TheVariants.{Unregister}
@@ -162,6 +163,8 @@ unfolding carry_lease
 led_active x s at work Nothing has none active stays = none_active x none
 led_active x s at work (ReadFor (ReadArea name)) has none active stays = none_active (carry_lease s at work (ReadFor (ReadArea name)) x) none
 led_active x s at work (ReadFor ReadBeforeFree) has none active stays = none_active (carry_lease s at work (ReadFor ReadBeforeFree) x) none
+led_active x s at work (ReadFor (ReadAgain (OfArea name))) has none active stays = none_active (carry_lease s at work (ReadFor (ReadAgain (OfArea name))) x) none
+led_active x s at work (ReadFor (ReadAgain OfFree)) has none active stays = none_active (carry_lease s at work (ReadFor (ReadAgain OfFree)) x) none
 led_active x s at work (ReadFor step) has none active stays = none_active (carry_lease s at work (ReadFor step) x) none
 led_active x s at work (WriteBlock step b) has none active stays = none_active (carry_lease s at work (WriteBlock step b) x) none
 led_active x s at work (WriteLeader step l) has none active stays = none_active (carry_lease s at work (WriteLeader step l) x) none
@@ -175,11 +178,12 @@ led_active x s at (ForJob j) (GrantJob mode lver) has none active stays = by (co
 led_active x s at Settling (BecomeShared lver l) has none active stays = none_active (carry_lease s at Settling (BecomeShared lver l) x) none
 led_active x s at (ForJob j) (BecomeShared lver l) has none active stays =
     let z : Step = for_work (ForJob j) (λ k. with_command k (λ c. convert_for s at k c Shared lver)) x in
-    call_active z s at.path (Lease Settling FreeLeader) (leader_offset at.base) (WriteRecord (LeaderIs l)) refl (became_active x s at j Shared lver has none (stays (active j refl)))
+    call_active z s at.path (Lease Settling FreeLeader) (leader_offset at.base) (WriteRecord (leader_record z.setting.layout l)) refl (became_active x s at j Shared lver has none (stays (active j refl)))
 led_active x s at Settling (BecomeExclusive lver b) has none active stays = none_active (carry_lease s at Settling (BecomeExclusive lver b) x) none
 led_active x s at (ForJob j) (BecomeExclusive lver b) has none active stays =
     let z : Step = for_work (ForJob j) (λ k. with_command k (λ c. convert_for s at k c Exclusive lver)) x in
-    call_active z s at.path (Lease Settling ClearMode) (block_offset z.setting.layout at.base s.id) (WriteRecord (BlockIs b)) refl (became_active x s at j Exclusive lver has none (stays (active j refl)))
+    call_active z s at.path (Lease Settling ClearMode) (block_place z.setting.layout at.base s.id (next_turn z.setting (seen z) s at))
+    (WriteRecord (block_record z.setting.layout (next_turn z.setting (seen z) s at) s.lockspace (name_on z.setting (seen z) s at) b)) refl (became_active x s at j Exclusive lver has none (stays (active j refl)))
 
 -- ---- a line
 
@@ -238,7 +242,7 @@ lines_active x text c j d k wake bare says = by d where
   by (TakesOver s e) grounds has =
       let a = stays_lined x text s wake (ap (λ q. leaves s q) says ∙ ap (λ q. leaves s (Ok q)) grounds.command) grounds.ready.active in
       granted_active (add_end (end_of e) y) s j c e.mode e.lver has none a.0 a.1
-  by (ConvertsTo s r mode) grounds has = none_active (carry_decision j c (ConvertsTo s r mode) y) (converting_grants y s (spot_of r) j (known x.setting (seen y) s (spot_of r)) mode r.name ∙ none)
+  by (ConvertsTo s r mode) grounds has = none_active (carry_decision j c (ConvertsTo s r mode) y) (converting_grants y s (spot_of r) j mode r.name ∙ none)
   by (Requests s r) grounds has = none_active (carry_decision j c (Requests s r) y) none
   by (SetsValue s spot v) grounds has = none_active (carry_decision j c (SetsValue s spot v) y) none
   by (GetsValue s spot) grounds has = none_active (carry_decision j c (GetsValue s spot) y) none

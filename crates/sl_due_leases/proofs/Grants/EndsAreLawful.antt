@@ -1,4 +1,7 @@
 -- What ends is lawful: only an exit, a failed start, a release, a take-over and a conversion end holdings, and each was held before.
+use Rattle.sl_acts.specs.Acts.{next_of_conversion, next_of_release, next_of_settling}
+use Rattle.sl_due_facts.proofs.Jobs.PlainNexts.{release_plain}
+use Rattle.sl_trace.specs.declared.effects.LeaseRead.TheVariants.{OfArea, OfFree}
 use Rattle.sl_acts.proofs.EffectsKeep.{delta, removal, signalled}
 use Rattle.sl_acts.proofs.LoopsKeep.{for_each_keeps, when_keeps}
 use Rattle.sl_acts.specs.Plainly.{ByEffects}
@@ -23,7 +26,7 @@ use Rattle.sl_due_leases.specs.Holdings.Moments.{Known}
 use Rattle.sl_run.specs.LawfulEnd.{Converted, EndReason, Exited, Given_up, LawfulEnding, Not_started, Taken_over, gives_up, takes_over}
 use Rattle.sl_trace.specs.Ballots.{moded_block}
 use Rattle.sl_trace.specs.Jobs.{command_numbered, is_job_of_process, job_of_start, jobs_of_session, process_named}
-use Rattle.sl_trace.specs.LeaseWork.{convert_next, lease_place, release_next, settle_next}
+use Rattle.sl_trace.specs.LeaseWork.{lease_place, release_next}
 use Rattle.sl_trace.specs.Leases.{holdings_on, known, spot_of, spot_of_call}
 use Rattle.sl_trace.specs.declared.lease.LeaseNext.TheVariants.{AnswerJob, BecomeExclusive, BecomeShared, GrantJob, Nothing, ReadFor, WriteBlock, WriteLeader}
 use Rattle.sl_trace.specs.declared.lease.LeaseNext.{LeaseNext}
@@ -39,7 +42,7 @@ use Rattle.sl_trace.specs.declared.command.Command.TheVariants.{Acquire, AddLock
 use Rattle.sl_trace.specs.declared.command.Command.{Command}
 use Rattle.sl_trace.specs.declared.effects.End.{End}
 use Rattle.sl_trace.specs.declared.effects.Grant.{Grant}
-use Rattle.sl_trace.specs.declared.effects.LeaseStep.TheVariants.{ClearMode, ReadArea, ReadBeforeFree}
+use Rattle.sl_trace.specs.declared.effects.LeaseStep.TheVariants.{ClearMode, ReadAgain, ReadArea, ReadBeforeFree}
 use Rattle.sl_trace.specs.declared.effects.Mode.TheVariants.{Exclusive, Shared}
 use Rattle.sl_trace.specs.declared.effects.Mode.{Mode}
 use Rattle.sl_trace.specs.declared.effects.Signal.TheVariants.{Kill, Term}
@@ -269,10 +272,10 @@ asked_ends x s j bytes Status = refl
 
 -- ---- the release
 
-released_ends : (x : Step) (text : List ℕ) (c : Command) (j : ℕ) (s : Session) (g : Grant) → x.effects.ends ≡ [] → x.effects.grants ≡ [] → x.setting.read text ≡ Ok c → GiveUpGrounds x.setting (seen x) c s g
+released_ends : (x : Step) (text : List ℕ) (c : Command) (j : ℕ) (s : Session) (g : Grant) → x.setting.layout.paired ≡ false → x.effects.ends ≡ [] → x.effects.grants ≡ [] → x.setting.read text ≡ Ok c → GiveUpGrounds x.setting (seen x) c s g
     → EndsSoFar (after_end s (spot_of_grant g) j g (add_end (end_of g) (with_input (Line text) x)))
 unfolding after_end carry_lease
-released_ends x text c j s g ended ungranted says u = by (holdings_on (seen z) s at) where
+released_ends x text c j s g plain ended ungranted says u = by (holdings_on (seen z) s at) where
   at : Spot
   at = spot_of_grant g
 
@@ -309,10 +312,10 @@ released_ends x text c j s g ended ungranted says u = by (holdings_on (seen z) s
   by : (hs : List Grant)
       → EndsSoFar (elim hs as (λ v. Step) [
         | e ∷ es ↦ add_reply j Done z
-        | [] ↦ carry_lease s at (ForJob j) (release_next (lease_place z.setting s) (known z.setting (seen z) s at) g.mode g.lver) z
+        | [] ↦ carry_lease s at (ForJob j) (next_of_release z.setting (seen z) s at g) z
       ])
   by (e ∷ es) = so (add_reply j Done z) refl refl refl refl
-  by [] = next g.mode
+  by [] = subst (λ n. EndsSoFar (carry_lease s at (ForJob j) n z)) (sym (release_plain z.setting (seen z) s at g plain)) (next g.mode)
 
 -- ---- the take-over
 
@@ -373,6 +376,8 @@ unfolding carry_lease
 led_ends x s at work Nothing ended ungranted = none_yet x ended
 led_ends x s at work (ReadFor (ReadArea name)) ended ungranted = none_yet (carry_lease s at work (ReadFor (ReadArea name)) x) ended
 led_ends x s at work (ReadFor ReadBeforeFree) ended ungranted = none_yet (carry_lease s at work (ReadFor ReadBeforeFree) x) ended
+led_ends x s at work (ReadFor (ReadAgain (OfArea name))) ended ungranted = none_yet (carry_lease s at work (ReadFor (ReadAgain (OfArea name))) x) ended
+led_ends x s at work (ReadFor (ReadAgain OfFree)) ended ungranted = none_yet (carry_lease s at work (ReadFor (ReadAgain OfFree)) x) ended
 led_ends x s at work (ReadFor step) ended ungranted = none_yet (carry_lease s at work (ReadFor step) x) ended
 led_ends x s at work (WriteBlock step b) ended ungranted = none_yet (carry_lease s at work (WriteBlock step b) x) ended
 led_ends x s at work (WriteLeader step l) ended ungranted = none_yet (carry_lease s at work (WriteLeader step l) x) ended
@@ -394,10 +399,10 @@ led_ends x s at (ForJob j) (BecomeExclusive lver b) ended ungranted =
 
 -- ---- commands
 
-lines_end : (x : Step) (text : List ℕ) (c : Command) (j : ℕ) (d : Decision) → x.effects.ends ≡ [] → x.effects.grants ≡ [] → x.setting.read text ≡ Ok c → decided x.setting (seen x) x.reading c ≡ d
+lines_end : (x : Step) (text : List ℕ) (c : Command) (j : ℕ) (d : Decision) → x.setting.layout.paired ≡ false → x.effects.ends ≡ [] → x.effects.grants ≡ [] → x.setting.read text ≡ Ok c → decided x.setting (seen x) x.reading c ≡ d
     → EndsSoFar (carry_decision j c d (with_input (Line text) x))
 unfolding carry_decision
-lines_end x text c j d ended ungranted says at = by d (subst (λ z. HasGrounds x.setting (seen x) c z) at (decisions_have_grounds x.setting (seen x) x.reading c)) where
+lines_end x text c j d plain ended ungranted says at = by d (subst (λ z. HasGrounds x.setting (seen x) c z) at (decisions_have_grounds x.setting (seen x) x.reading c)) where
   y : Step
   y = with_input (Line text) x
 
@@ -407,9 +412,9 @@ lines_end x text c j d ended ungranted says at = by d (subst (λ z. HasGrounds x
   by (Leaves s) g = none_yet (signal_and_refuse s (Some j) y) (stopped_ends y s (Some j) ∙ ended)
   by (ReadsArea s r) g = none_yet (carry_decision j c (ReadsArea s r) y) ended
   by (Shares s lver) g = none_yet (grant_for s j c Shared lver y) (granted_ends y s j c Shared lver ∙ ended)
-  by (GivesUp s e) g = released_ends x text c j s e ended ungranted says g
+  by (GivesUp s e) g = released_ends x text c j s e plain ended ungranted says g
   by (TakesOver s e) g = taken_ends x text c j s e ended ungranted says g
-  by (ConvertsTo s r mode) g = led_ends y s (spot_of r) (ForJob j) (convert_next (known x.setting (seen y) s (spot_of r)) mode r.name) ended ungranted
+  by (ConvertsTo s r mode) g = led_ends y s (spot_of r) (ForJob j) (next_of_conversion x.setting (seen y) s (spot_of r) mode r.name) ended ungranted
   by (Requests s r) g = none_yet (carry_decision j c (Requests s r) y) ended
   by (SetsValue s spot v) g = none_yet (carry_decision j c (SetsValue s spot v) y) ended
   by (GetsValue s spot) g = none_yet (carry_decision j c (GetsValue s spot) y) ended
@@ -444,7 +449,7 @@ ends_are_lawful =
       says_started = λ x p j input is runs k. going x _ (record { setting = refl; past = refl; input = refl; ends = refl; grants = refl }) (so_far x k);
       misreads = λ x text column wake bare says k. none_yet (answer_line text (next_job x.setting (seen x)) (Misread column) x) (k.1.waking wake).0;
       answers = λ x text c r wake bare says is k. none_yet (answer_line text (next_job x.setting (seen x)) r x) (k.1.waking wake).0;
-      carries = λ x text c d wake bare says is more k. lines_end x text c (next_job x.setting (seen x)) d (k.1.waking wake).0 (k.1.waking wake).1 says is;
+      carries = λ x text c d wake bare says is more k. lines_end x text c (next_job x.setting (seen x)) d k.0.setting.unpaired (k.1.waking wake).0 (k.1.waking wake).1 says is;
       joins_on = λ x s j step m answer hears is runs k.
           delta_ends x s (next_in_joining (delta_of_session x.setting s) (generation_of (seen x) s) (calls_of (seen x) s) x.reading m step answer) hears.unended;
       ends_joining = λ x s j step m answer hears is stops k. none_yet (remove_of_refused s x) (removed_ends x s ∙ hears.unended);
@@ -464,7 +469,7 @@ ends_are_lawful =
       renews = λ x s has wake joined k.
           delta_ends x s (next_renewal (delta_of_session x.setting s) x.reading (delta_known x.setting (seen x) s) (bits_due x.setting (calls_of (seen x) s) x.reading)) (k.1.waking wake).0;
       settles = λ x s at has wake active aligned none k.
-          led_ends x s at Settling (settle_next (lease_place x.setting s) (known x.setting (seen x) s at)) (k.1.waking wake).0 (k.1.waking wake).1;
+          led_ends x s at Settling (next_of_settling x.setting (seen x) s at) (k.1.waking wake).0 (k.1.waking wake).1;
       parts = λ x s has joined recovers free quiet k.
           let a = removal_alike x x s.lockspace (same x) in
           going x (remove_connection s.lockspace x) (stands x (remove_connection s.lockspace x) (removal (λ z. StandsAt x z) (stand_effects x) x s.lockspace (refl, refl, refl)) a.ends a.grants) (so_far x k);

@@ -3,7 +3,7 @@ use Rattle.sl_acts.proofs.EffectsKeep.{delta, lease, removal, signalled, stopped
 use Rattle.sl_acts.proofs.LoopsKeep.{for_each_keeps, when_keeps}
 use Rattle.sl_acts.proofs.PlainActs.{ended, line_has}
 use Rattle.sl_acts.proofs.DecisionsAreTheirs.{Of}
-use Rattle.sl_acts.specs.Acts.{Has}
+use Rattle.sl_acts.specs.Acts.{Has, next_of_settling}
 use Rattle.sl_due.specs.DueAnswers.{set_reply}
 use Rattle.sl_due.specs.DueCommands.{answer_line}
 use Rattle.sl_due.specs.DueDelta.{carry_delta, see_request}
@@ -19,8 +19,7 @@ use Rattle.sl_due_leases.specs.Grants.GrantPromises.{ExitsAreLawful, ExitsBegin,
 use Rattle.sl_due_leases.proofs.Holdings.MomentsAreKept.{carried, delta_ungranting, input_effects, refused_alike, removal_alike, said_input, same, signalled_alike, told_acts}
 use Rattle.sl_due_leases.proofs.Holdings.PlainPlaces.{one_place}
 use Rattle.sl_trace.specs.Jobs.{is_job_of_process, job_of_start}
-use Rattle.sl_trace.specs.LeaseWork.{lease_place, settle_next}
-use Rattle.sl_trace.specs.Leases.{known, spot_of_call}
+use Rattle.sl_trace.specs.Leases.{spot_of_call}
 use Rattle.sl_plain.proofs.Lists.{any_found, any_of, contains_cases, contains_map, contains_none, kept}
 use Rattle.sl_plain.proofs.Numbers.{number_itself}
 use Rattle.sl_trace.specs.Deltas.{delta_known, delta_of_session, next_after_free, next_after_renewal, next_free, next_in_joining, next_on_wake, next_renewal}
@@ -211,8 +210,8 @@ exits_are_lawful =
           let n : DeltaNext = next_renewal (delta_of_session x.setting s) x.reading (delta_known x.setting (seen x) s) (bits_due x.setting (calls_of (seen x) s) x.reading) in
           no_exit (carry_delta s n x) Wake (delta (λ z. z.input ≡ Wake) (input_effects Wake) x s has n wake) refl;
       settles = λ x s at has wake active aligned none k.
-          no_exit (carry_lease s at Settling (settle_next (lease_place x.setting s) (known x.setting (seen x) s at)) x) Wake
-          (lease (λ z. z.input ≡ Wake) (input_effects Wake) x s has at Settling (settle_next (lease_place x.setting s) (known x.setting (seen x) s at)) wake) refl;
+          no_exit (carry_lease s at Settling (next_of_settling x.setting (seen x) s at) x) Wake
+          (lease (λ z. z.input ≡ Wake) (input_effects Wake) x s has at Settling (next_of_settling x.setting (seen x) s at) wake) refl;
       parts = λ x s has joined recovers free quiet k.
           let a = removal_alike x x s.lockspace (same x) in
           going x (remove_connection s.lockspace x) (stands x (remove_connection s.lockspace x) (removal (λ z. StandsAt x z) (stand_effects x) x s.lockspace (refl, refl, refl)) a.ends a.grants) k.1;

@@ -1,6 +1,6 @@
 -- What an act is to keep of each grant: only few acts grant, all others leave nothing granted.
 use Rattle.sl_acts.proofs.LoopsKeep.{for_each_keeps, when_keeps}
-use Rattle.sl_acts.specs.Acts.{Acts, Has, Hears}
+use Rattle.sl_acts.specs.Acts.{Acts, Has, Hears, next_of_settling}
 use Rattle.sl_due.specs.DueAnswers.{set_reply}
 use Rattle.sl_due.specs.DueCommands.{answer_line, carry_decision, decided, reply_at_once}
 use Rattle.sl_due.specs.DueDelta.{carry_delta, see_request}
@@ -15,7 +15,7 @@ use Rattle.sl_due_leases.proofs.Holdings.MomentsAreKept.{delta_ungranting, no_gr
 use Rattle.sl_due_leases.specs.Holdings.Moments.{Known}
 use Rattle.sl_due_leases.specs.Holdings.Promises.{Begins}
 use Rattle.sl_trace.specs.Jobs.{aim_of, job_of_start, jobs_of_session}
-use Rattle.sl_trace.specs.LeaseWork.{lease_place, settle_next}
+use Rattle.sl_trace.specs.LeaseWork.{lease_place}
 use Rattle.sl_trace.specs.Leases.{exclusive_on, known, spot_of_call}
 use Rattle.sl_trace.specs.declared.lease.Aim.{Aim}
 use Rattle.sl_trace.specs.declared.lease.LeaseNext.{LeaseNext}
@@ -139,7 +139,7 @@ by_granting K empty g =
           let n : DeltaNext = next_renewal (delta_of_session x.setting s) x.reading (delta_known x.setting (seen x) s) (bits_due x.setting (calls_of (seen x) s) x.reading) in
           empty (carry_delta s n x) ((delta_ungranting x s n).grants ∙ (k.1.waking wake).1);
       settles = λ x s at has wake active aligned none k.
-          let n : LeaseNext = settle_next (lease_place x.setting s) (known x.setting (seen x) s at) in
+          let n : LeaseNext = next_of_settling x.setting (seen x) s at in
           empty (carry_lease s at Settling n x) ((settling_ungranting x s at (known x.setting (seen x) s at) n (settling_fits (lease_place x.setting s) (known x.setting (seen x) s at))).grants ∙ (k.1.waking wake).1);
       parts = g.parts;
       frees = g.frees;

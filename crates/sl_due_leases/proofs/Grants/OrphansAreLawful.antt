@@ -1,5 +1,7 @@
 -- The orphans among the grants are lawful: an exit alone makes some, each of a persistent holding where there is none yet, and no process
 -- that is granted a resource is none.
+use Rattle.sl_acts.specs.Acts.{next_of_conversion, next_of_release}
+use Rattle.sl_trace.specs.declared.effects.LeaseRead.TheVariants.{OfArea, OfFree}
 use Rattle.sl_acts.proofs.EffectsKeep.{delta, removal, signalled}
 use Rattle.sl_acts.proofs.LoopsKeep.{for_each_keeps}
 use Rattle.sl_acts.specs.SoFar.{entry_of}
@@ -22,8 +24,7 @@ use Rattle.sl_due_leases.specs.Holdings.Moments.{Known}
 use Rattle.sl_run.specs.Lawful.{IsSetting}
 use Rattle.sl_run.specs.LawfulGrant.{LawfulOrphan}
 use Rattle.sl_trace.specs.Jobs.{command_numbered, is_job_of_process, process_named}
-use Rattle.sl_trace.specs.LeaseWork.{convert_next, lease_place, release_next}
-use Rattle.sl_trace.specs.Leases.{holdings_on, known, spot_of, spot_of_call}
+use Rattle.sl_trace.specs.Leases.{holdings_on, spot_of, spot_of_call}
 use Rattle.sl_trace.specs.declared.lease.LeaseNext.TheVariants.{AnswerJob, BecomeExclusive, BecomeShared, GrantJob, Nothing, ReadFor, WriteBlock, WriteLeader}
 use Rattle.sl_trace.specs.declared.lease.LeaseNext.{LeaseNext}
 use Rattle.sl_plain.proofs.Lists.{contains_none, in_map, kept_inside}
@@ -37,7 +38,7 @@ use Rattle.sl_trace.specs.Traces.{children, end_of, first_child, has_orphan_of, 
 use Rattle.sl_trace.specs.declared.command.Command.TheVariants.{Acquire, AddLockspace, Convert, GetLvb, HostStatus, InqLockspace, Release, ReleaseOrphan, RemLockspace, Request, RunProgram, SetKillpath, SetLvb, Status, TakeOver}
 use Rattle.sl_trace.specs.declared.command.Command.{Command}
 use Rattle.sl_trace.specs.declared.effects.Grant.{Grant}
-use Rattle.sl_trace.specs.declared.effects.LeaseStep.TheVariants.{ReadArea, ReadBeforeFree}
+use Rattle.sl_trace.specs.declared.effects.LeaseStep.TheVariants.{ReadAgain, ReadArea, ReadBeforeFree}
 use Rattle.sl_trace.specs.declared.effects.Mode.TheVariants.{Exclusive, Shared}
 use Rattle.sl_trace.specs.declared.effects.Mode.{Mode}
 use Rattle.sl_trace.specs.declared.effects.Signal.TheVariants.{Kill}
@@ -205,6 +206,8 @@ unfolding carry_lease
 led_orphans x s at work Nothing is none = none_granted x none
 led_orphans x s at work (ReadFor (ReadArea name)) is none = none_granted (carry_lease s at work (ReadFor (ReadArea name)) x) none
 led_orphans x s at work (ReadFor ReadBeforeFree) is none = none_granted (carry_lease s at work (ReadFor ReadBeforeFree) x) none
+led_orphans x s at work (ReadFor (ReadAgain (OfArea name))) is none = none_granted (carry_lease s at work (ReadFor (ReadAgain (OfArea name))) x) none
+led_orphans x s at work (ReadFor (ReadAgain OfFree)) is none = none_granted (carry_lease s at work (ReadFor (ReadAgain OfFree)) x) none
 led_orphans x s at work (ReadFor step) is none = none_granted (carry_lease s at work (ReadFor step) x) none
 led_orphans x s at work (WriteBlock step b) is none = none_granted (carry_lease s at work (WriteBlock step b) x) none
 led_orphans x s at work (WriteLeader step l) is none = none_granted (carry_lease s at work (WriteLeader step l) x) none
@@ -232,10 +235,10 @@ released_orphans z j s g is none = by (holdings_on (seen z) s (spot_of_grant g))
   by : (hs : List Grant)
       → OrphansSoFar (elim hs as (λ v. Step) [
         | e ∷ es ↦ add_reply j Done z
-        | [] ↦ carry_lease s (spot_of_grant g) (ForJob j) (release_next (lease_place z.setting s) (known z.setting (seen z) s (spot_of_grant g)) g.mode g.lver) z
+        | [] ↦ carry_lease s (spot_of_grant g) (ForJob j) (next_of_release z.setting (seen z) s (spot_of_grant g) g) z
       ])
   by (e ∷ es) = none_granted (add_reply j Done z) none
-  by [] = led_orphans z s (spot_of_grant g) (ForJob j) (release_next (lease_place z.setting s) (known z.setting (seen z) s (spot_of_grant g)) g.mode g.lver) is none
+  by [] = led_orphans z s (spot_of_grant g) (ForJob j) (next_of_release z.setting (seen z) s (spot_of_grant g) g) is none
 
 lines_orphan : (x : Step) (text : List ℕ) (c : Command) (j : ℕ) (d : Decision) → IsSetting x.setting → x.effects.grants ≡ [] → x.setting.read text ≡ Ok c → OrphansSoFar (carry_decision j c d (with_input (Line text) x))
 unfolding carry_decision
@@ -254,7 +257,7 @@ lines_orphan x text c j d is none says = by d where
   by (Shares s lver) = granted_orphans y s j c Shared lver command none
   by (GivesUp s e) = released_orphans (add_end (end_of e) y) j s e is none
   by (TakesOver s e) = granted_orphans (add_end (end_of e) y) s j c e.mode e.lver command none
-  by (ConvertsTo s r mode) = led_orphans y s (spot_of r) (ForJob j) (convert_next (known x.setting (seen y) s (spot_of r)) mode r.name) is none
+  by (ConvertsTo s r mode) = led_orphans y s (spot_of r) (ForJob j) (next_of_conversion x.setting (seen y) s (spot_of r) mode r.name) is none
   by (Requests s r) = none_granted (carry_decision j c (Requests s r) y) none
   by (SetsValue s spot v) = none_granted (carry_decision j c (SetsValue s spot v) y) none
   by (GetsValue s spot) = none_granted (carry_decision j c (GetsValue s spot) y) none

@@ -1,10 +1,11 @@
 -- The facts of a job's work are kept by each act.
+use Rattle.sl_acts.specs.Acts.{next_of_settling}
 use Rattle.sl_acts.specs.SoFar.{entry_of}
-use Rattle.sl_area.specs.Places.{block_offset, leader_offset, request_offset}
+use Rattle.sl_area.specs.Places.{area_sectors, block_offset, block_place, block_record, block_sectors, leader_offset, leader_record, request_offset}
 use Rattle.sl_due.specs.DueAnswers.{set_reply}
 use Rattle.sl_due.specs.DueDelta.{carry_delta}
 use Rattle.sl_due.specs.DueInputs.{end_holdings, started_reply}
-use Rattle.sl_due.specs.DueLease.{carry_lease, lease_call, read_for}
+use Rattle.sl_due.specs.DueLease.{carry_lease, lease_call, name_on, next_turn, read_for, write_block}
 use Rattle.sl_due.specs.DueRequests.{after_request_read, after_value_read, bits_due, owner_read, request_refusal, value_reply, write_request}
 use Rattle.sl_due.specs.Steps.{Step, add_reply, seen, with_input}
 use Rattle.sl_due_leases.proofs.Grants.WorksByAnswers.{led_works, settling_no_job}
@@ -27,11 +28,10 @@ use Rattle.sl_due_leases.proofs.Holdings.HoldingsByEffects.{later_same, unanswer
 use Rattle.sl_due_leases.specs.Holdings.Moments.{Known}
 use Rattle.sl_due_facts.proofs.Jobs.RepliesComeAfter.{request_late, set_late, value_late}
 use Rattle.sl_trace.specs.Jobs.{job_of_start}
-use Rattle.sl_trace.specs.LeaseWork.{lease_place, settle_next}
-use Rattle.sl_trace.specs.Leases.{known}
 use Rattle.sl_trace.specs.declared.lease.LeaseNext.TheVariants.{AnswerJob, BecomeExclusive, BecomeShared, GrantJob, Nothing as NoLease, ReadFor, WriteBlock, WriteLeader}
 use Rattle.sl_trace.specs.declared.lease.LeaseNext.{LeaseNext}
-use Rattle.sl_sector.specs.declared.sector.Rec.TheVariants.{BlockIs, DeltaIs, LeaderIs, RequestIs}
+use Rattle.sl_sector.specs.declared.sector.Block.{Block}
+use Rattle.sl_sector.specs.declared.sector.Rec.TheVariants.{DeltaIs, RequestIs}
 use Rattle.sl_trace.specs.Deltas.{delta_known, delta_of_session, next_after_free, next_after_renewal, next_in_joining, next_on_wake, own_offset}
 use Rattle.sl_trace.specs.Sessions.{calls_of, generation_of, recovery_of}
 use Rattle.sl_trace.specs.declared.delta.DeltaNext.{DeltaNext}
@@ -39,7 +39,8 @@ use Rattle.sl_trace.specs.declared.session.Session.{Session}
 use Rattle.sl_trace.specs.Traces.{is_before_input, next_job}
 use Rattle.sl_trace.specs.declared.command.Command.TheVariants.{Acquire, AddLockspace, Convert, GetLvb, HostStatus, InqLockspace, Release, ReleaseOrphan, RemLockspace, Request, RunProgram, SetKillpath, SetLvb, Status, TakeOver}
 use Rattle.sl_trace.specs.declared.command.Command.{Command}
-use Rattle.sl_trace.specs.declared.effects.LeaseStep.TheVariants.{ClearMode, FreeLeader, Phase1Read, Phase1Write, Phase2Read, Phase2Write, ReadArea, ReadBeforeFree, SetMode, TakeLeader}
+use Rattle.sl_trace.specs.declared.effects.LeaseRead.TheVariants.{OfArea, OfBlock, OfFree, OfPhase1, OfPhase2}
+use Rattle.sl_trace.specs.declared.effects.LeaseStep.TheVariants.{ClearMode, FreeLeader, Phase1Read, Phase1Write, Phase2Read, Phase2Write, ReadAgain, ReadArea, ReadBeforeBlock, ReadBeforeFree, SetMode, TakeLeader}
 use Rattle.sl_trace.specs.declared.effects.LeaseStep.{LeaseStep}
 use Rattle.sl_trace.specs.declared.effects.Op.TheVariants.{ReadSectors, WriteRecord}
 use Rattle.sl_trace.specs.declared.effects.Op.{Op}
@@ -52,7 +53,7 @@ use Rattle.sl_trace.specs.declared.input.Input.TheVariants.{Exit, Line, Number, 
 use Rattle.sl_trace.specs.declared.reply.Reply.TheVariants.{BadCommand as Misread, Done, IoFault, IoTimeout, SpawnFault}
 use Rattle.sl_trace.specs.declared.reply.Reply.{Reply}
 use Rattle.std.proofs.Common.{refl, subst}
-use Rattle.std.specs.Prelude.{List, None, Option, Some, false, if◌then◌else◌, is_some, ℕ, ◌+◌, ◌==◌, ◌≡◌}
+use Rattle.std.specs.Prelude.{List, None, Option, Some, false, if◌then◌else◌, is_some, ℕ, ◌==◌, ◌≡◌}
 
 all_owned : (x : Step) → Known x → CallsOwned x
 all_owned x k m there = k.0.facts.calls.owned m there
@@ -73,19 +74,30 @@ settling : (x : Step) (s : Session) (at : Spot) (step : LeaseStep) (o : ℕ) (op
 settling x s at step o op owned h =
     call_works x s.number at.path (Lease Settling step) o op owned (not_work x (call_added s.number at.path (Lease Settling step) o op x) (λ j b same. settling_no_job j step b same)) h
 
+wrote : (x : Step) (s : Session) (at : Spot) (step : LeaseStep) (b : Block) → CallsOwned x → WorksAt x → WorksAt (write_block s at Settling step b x)
+wrote x s at step b owned h =
+    settling x s at step (block_place x.setting.layout at.base s.id (next_turn x.setting (seen x) s at))
+    (WriteRecord (block_record x.setting.layout (next_turn x.setting (seen x) s at) s.lockspace (name_on x.setting (seen x) s at) b)) owned h
+
 settled_works : (x : Step) (s : Session) (at : Spot) (n : LeaseNext) → CallsOwned x → WorksAt x → WorksAt (carry_lease s at Settling n x)
 unfolding carry_lease
 settled_works x s at NoLease owned h = h
 settled_works x s at (ReadFor step) owned h = reads step where
-  area : (step : LeaseStep) → WorksAt (lease_call s at Settling step at.base (ReadSectors (x.setting.layout.hosts + 2)) x)
-  area step = settling x s at step at.base (ReadSectors (x.setting.layout.hosts + 2)) owned h
+  area : (step : LeaseStep) → WorksAt (lease_call s at Settling step at.base (ReadSectors (area_sectors x.setting.layout)) x)
+  area step = settling x s at step at.base (ReadSectors (area_sectors x.setting.layout)) owned h
 
-  blocks : (step : LeaseStep) → WorksAt (lease_call s at Settling step (block_offset x.setting.layout at.base 1) (ReadSectors x.setting.layout.hosts) x)
-  blocks step = settling x s at step (block_offset x.setting.layout at.base 1) (ReadSectors x.setting.layout.hosts) owned h
+  blocks : (step : LeaseStep) → WorksAt (lease_call s at Settling step (block_offset x.setting.layout at.base 1) (ReadSectors (block_sectors x.setting.layout)) x)
+  blocks step = settling x s at step (block_offset x.setting.layout at.base 1) (ReadSectors (block_sectors x.setting.layout)) owned h
 
   reads : (step : LeaseStep) → WorksAt (read_for s at Settling step x)
   reads (ReadArea name) = area (ReadArea name)
   reads ReadBeforeFree = area ReadBeforeFree
+  reads (ReadAgain (OfArea name)) = area (ReadAgain (OfArea name))
+  reads (ReadAgain OfFree) = area (ReadAgain OfFree)
+  reads (ReadAgain OfBlock) = blocks (ReadAgain OfBlock)
+  reads (ReadAgain OfPhase1) = blocks (ReadAgain OfPhase1)
+  reads (ReadAgain OfPhase2) = blocks (ReadAgain OfPhase2)
+  reads ReadBeforeBlock = blocks ReadBeforeBlock
   reads Phase1Write = blocks Phase1Write
   reads Phase1Read = blocks Phase1Read
   reads Phase2Write = blocks Phase2Write
@@ -94,12 +106,12 @@ settled_works x s at (ReadFor step) owned h = reads step where
   reads SetMode = blocks SetMode
   reads FreeLeader = blocks FreeLeader
   reads ClearMode = blocks ClearMode
-settled_works x s at (WriteBlock step b) owned h = settling x s at step (block_offset x.setting.layout at.base s.id) (WriteRecord (BlockIs b)) owned h
-settled_works x s at (WriteLeader step l) owned h = settling x s at step (leader_offset at.base) (WriteRecord (LeaderIs l)) owned h
+settled_works x s at (WriteBlock step b) owned h = wrote x s at step b owned h
+settled_works x s at (WriteLeader step l) owned h = settling x s at step (leader_offset at.base) (WriteRecord (leader_record x.setting.layout l)) owned h
 settled_works x s at (AnswerJob r) owned h = h
 settled_works x s at (GrantJob mode lver) owned h = h
-settled_works x s at (BecomeShared lver l) owned h = settling x s at FreeLeader (leader_offset at.base) (WriteRecord (LeaderIs l)) owned h
-settled_works x s at (BecomeExclusive lver b) owned h = settling x s at ClearMode (block_offset x.setting.layout at.base s.id) (WriteRecord (BlockIs b)) owned h
+settled_works x s at (BecomeShared lver l) owned h = settling x s at FreeLeader (leader_offset at.base) (WriteRecord (leader_record x.setting.layout l)) owned h
+settled_works x s at (BecomeExclusive lver b) owned h = wrote x s at ClearMode b owned h
 
 -- ---- requests
 
@@ -176,7 +188,7 @@ work_facts_are_kept =
       renews = λ x s has wake joined k.
           renewal_keeps WorksAt x s (delta_of_session x.setting s) x.reading (delta_known x.setting (seen x) s) (bits_due x.setting (calls_of (seen x) s) x.reading)
           (λ d. plain_call_works x s s.path Renewal (own_offset x.setting s) (WriteRecord (DeltaIs d)) refl refl (k.0.facts.works, all_owned x k)) k.0.facts.works;
-      settles = λ x s at has wake active aligned none k. settled_works x s at (settle_next (lease_place x.setting s) (known x.setting (seen x) s at)) (all_owned x k) k.0.facts.works;
+      settles = λ x s at has wake active aligned none k. settled_works x s at (next_of_settling x.setting (seen x) s at) (all_owned x k) k.0.facts.works;
       parts = λ x s has joined recovers free quiet k. removal_on WorksAt works_go_on x s.lockspace k.0.facts.works;
       frees = λ x s has joined well free quiet k.
           free_keeps WorksAt x s (λ j d. plain_call_works x s s.path (Leaving j) (own_offset x.setting s) (WriteRecord (DeltaIs d)) refl refl (k.0.facts.works, all_owned x k)) k.0.facts.works;

@@ -2,9 +2,10 @@
 -- works there.
 use Rattle.sl_acts.proofs.InputsKeep.{has_heard}
 use Rattle.sl_acts.specs.SoFar.{entry_of}
-use Rattle.sl_area.specs.Places.{block_offset, leader_offset}
-use Rattle.sl_due.specs.DueLease.{carry_lease, convert_for, convert_holding, for_work, grant_for, grant_of, held_otherwise, lease_call, next_of_lease, read_for, with_command}
+use Rattle.sl_area.specs.Places.{area_sectors, block_offset, block_place, block_record, block_sectors, leader_offset, leader_record}
+use Rattle.sl_due.specs.DueLease.{carry_lease, convert_for, convert_holding, for_work, grant_for, grant_of, held_otherwise, lease_call, name_on, next_of_lease, next_turn, read_for, with_command}
 use Rattle.sl_due.specs.Steps.{Step, add_end, add_grant, add_reply, seen, with_some}
+use Rattle.sl_due_facts.proofs.Jobs.PlainNexts.{block_plain, next_plain}
 use Rattle.sl_due_leases.proofs.Grants.WorksByEffects.{CallsOwned, IsNewWork, WorksAt, call_works, end_works, not_work, reply_works, start_works}
 use Rattle.sl_due_leases.proofs.Grants.WorksByGrants.{NobodyWorksAt, grant_works}
 use Rattle.sl_due_leases.proofs.Holdings.HoldingsByAnswers.{JobLed, Led, beside_job, job_led, on_resource, spot_at}
@@ -18,6 +19,7 @@ use Rattle.sl_run.specs.Lawful.{IsSetting}
 use Rattle.sl_run.specs.LawfulArea.{is_area_work}
 use Rattle.sl_run.specs.LawfulModes.{shared_since}
 use Rattle.sl_trace.specs.Jobs.{aim_of_command, command_numbered, process_named, resource_named}
+use Rattle.sl_trace.proofs.PlainWork.{bytes_plain}
 use Rattle.sl_trace.specs.LeaseWork.{LeasePlace, leader_for, lease_next, lease_place}
 use Rattle.sl_trace.specs.Leases.{LeaseKnown, has_shared_on, is_on, known, lver_written, spot_of, spot_of_call}
 use Rattle.sl_trace.specs.declared.lease.Aim.TheVariants.{Acquires, Converts, Releases, Settles}
@@ -26,7 +28,8 @@ use Rattle.sl_trace.specs.declared.lease.LeaseNext.TheVariants.{AnswerJob, Becom
 use Rattle.sl_trace.specs.declared.lease.LeaseNext.{LeaseNext}
 use Rattle.sl_plain.proofs.Lists.{got_inside}
 use Rattle.sl_plain.proofs.Numbers.{below_suc, trans_le}
-use Rattle.sl_sector.specs.declared.sector.Rec.TheVariants.{BlockIs, LeaderIs}
+use Rattle.sl_sector.specs.declared.sector.Block.{Block}
+use Rattle.sl_sector.specs.declared.sector.Rec.TheVariants.{BlockIs}
 use Rattle.sl_trace.specs.Sessions.{session_numbered, sessions}
 use Rattle.sl_trace.specs.declared.session.Session.{Session}
 use Rattle.sl_due_facts.specs.Facts.WorkFacts.{MayBeHeld}
@@ -36,7 +39,8 @@ use Rattle.sl_trace.specs.declared.command.Command.{Command}
 use Rattle.sl_trace.specs.declared.command.ResourceArg.{ResourceArg}
 use Rattle.sl_trace.specs.declared.effects.Call.{Call}
 use Rattle.sl_trace.specs.declared.effects.Grant.{Grant}
-use Rattle.sl_trace.specs.declared.effects.LeaseStep.TheVariants.{ClearMode, FreeLeader, Phase1Read, Phase1Write, Phase2Read, Phase2Write, ReadArea, ReadBeforeFree, SetMode, TakeLeader}
+use Rattle.sl_trace.specs.declared.effects.LeaseRead.TheVariants.{OfArea, OfBlock, OfFree, OfPhase1, OfPhase2}
+use Rattle.sl_trace.specs.declared.effects.LeaseStep.TheVariants.{ClearMode, FreeLeader, Phase1Read, Phase1Write, Phase2Read, Phase2Write, ReadAgain, ReadArea, ReadBeforeBlock, ReadBeforeFree, SetMode, TakeLeader}
 use Rattle.sl_trace.specs.declared.effects.LeaseStep.{LeaseStep}
 use Rattle.sl_trace.specs.declared.effects.Mode.TheVariants.{Exclusive, Shared}
 use Rattle.sl_trace.specs.declared.effects.Mode.{Mode}
@@ -55,7 +59,7 @@ use Rattle.sl_words.proofs.CaseLaws.{none_some, no_value, not_both, one_value, s
 use Rattle.std.proofs.Common.{ap, inl, refl, subst, sym, ◌∙◌}
 use Rattle.std.proofs.lemmas.Bool.{le-leb, leb-true}
 use Rattle.std.specs.Option.{option_map_or}
-use Rattle.std.specs.Prelude.{Bool, Contains, IsSome, None, Option, Some, [], false, length, nat_le, true, ℕ, ◌%◌, ◌&&◌, ◌+◌, ◌||◌, ◌∷◌, ◌≡◌, ◌≤◌}
+use Rattle.std.specs.Prelude.{Bool, Contains, IsSome, None, Option, Some, [], false, length, nat_le, true, ℕ, ◌%◌, ◌&&◌, ◌||◌, ◌∷◌, ◌≡◌, ◌≤◌}
 
 -- ---- what a purpose says
 
@@ -127,11 +131,11 @@ is_call (WriteBlock step b) = true
 is_call (WriteLeader step l) = true
 is_call n = false
 
-moding_calls_none : (p : LeasePlace) (k : LeaseKnown) (mode : Mode) (call i : ℕ) (answer : Answer) → is_call (lease_next p k (Converts mode) call i SetMode answer) ≡ false
+moding_calls_none : (p : LeasePlace) (k : LeaseKnown) (mode : Mode) (call i : ℕ) (answer : Answer) → p.layout.paired ≡ false → is_call (lease_next p k (Converts mode) call i SetMode answer) ≡ false
 unfolding lease_next
-moding_calls_none p k mode call i (Read bytes) = refl
-moding_calls_none p k mode call i Failed = refl
-moding_calls_none p k mode call i Written = by k.exclusive where
+moding_calls_none p k mode call i (Read bytes) plain = ap (λ z. is_call z) (bytes_plain p k (Converts mode) bytes SetMode plain)
+moding_calls_none p k mode call i Failed plain = refl
+moding_calls_none p k mode call i Written plain = by k.exclusive where
   by : (o : Option ℕ) → is_call (option_map_or (λ e. BecomeShared e (leader_for p k false e)) o Nothing) ≡ false
   by None = refl
   by (Some e) = refl
@@ -156,7 +160,8 @@ new_work x s j step m answer aim l next is calls c further purpose session on =
           absurd (not_both (is_call next) calls (ap (λ z. is_call z) (sym is)
           ∙ (ap (λ z. is_call (next_of_lease x.setting (seen x) s (spot_at x m) z m step answer)) to_shared
           ∙ (ap (λ z. is_call (next_of_lease x.setting (seen x) s (spot_at x m) (Converts Shared) m z answer)) moding
-          ∙ moding_calls_none (lease_place x.setting s) (known x.setting (seen x) s (spot_at x m)) Shared m.call.number (lver_written m) answer))));
+          ∙ (ap (λ z. is_call z) (next_plain x.setting (seen x) s (spot_at x m) (Converts Shared) m SetMode answer l.whole.0.setting.unpaired)
+          ∙ moding_calls_none (lease_place x.setting s) (known x.setting (seen x) s (spot_at x m)) Shared m.call.number (lver_written m) answer l.whole.0.setting.unpaired)))));
       acts = λ i at d p its runs named process.
           let o = one_job j i further at (sym purpose ∙ its) in
           l.whole.0.facts.works.acts m j step k.command p k.work (ap (λ z. process_named z) (known_command i d o.0 named) ∙ process);
@@ -286,21 +291,33 @@ led_works x s work step m answer aim l =
       h : WorksAt x
       h = l.whole.0.facts.works
 
+      place : Step → ℕ
+      place y = block_place y.setting.layout (spot_at x m).base s.id (next_turn y.setting (seen y) s (spot_at x m))
+
+      writes : Step → Block → Op
+      writes y b = WriteRecord (block_record y.setting.layout (next_turn y.setting (seen y) s (spot_at x m)) s.lockspace (name_on y.setting (seen y) s (spot_at x m)) b)
+
       blocks : (w : Work) → Led x s w step m answer aim → (at : LeaseStep) → next_of_lease x.setting (seen x) s (spot_at x m) aim m step answer ≡ ReadFor at
-          → WorksAt (lease_call s (spot_at x m) w at (block_offset st.layout (spot_at x m).base 1) (ReadSectors st.layout.hosts) x)
+          → WorksAt (lease_call s (spot_at x m) w at (block_offset st.layout (spot_at x m).base 1) (ReadSectors (block_sectors st.layout)) x)
       blocks w k at is =
-          call_next x s w step m answer aim k (ReadFor at) is refl at (block_offset st.layout (spot_at x m).base 1) (ReadSectors st.layout.hosts)
-          (block_on st (spot_at x m) 1 (call_added s.number (spot_at x m).path (Lease w at) (block_offset st.layout (spot_at x m).base 1) (ReadSectors st.layout.hosts) x) k.whole.0.setting (trans_le 1 s.id st.layout.hosts id.0 id.1) refl refl)
+          call_next x s w step m answer aim k (ReadFor at) is refl at (block_offset st.layout (spot_at x m).base 1) (ReadSectors (block_sectors st.layout))
+          (block_on st (spot_at x m) 1 (call_added s.number (spot_at x m).path (Lease w at) (block_offset st.layout (spot_at x m).base 1) (ReadSectors (block_sectors st.layout)) x) k.whole.0.setting (trans_le 1 s.id st.layout.hosts id.0 id.1) refl refl)
 
       area : (w : Work) → Led x s w step m answer aim → (at : LeaseStep) → next_of_lease x.setting (seen x) s (spot_at x m) aim m step answer ≡ ReadFor at
-          → WorksAt (lease_call s (spot_at x m) w at (spot_at x m).base (ReadSectors (st.layout.hosts + 2)) x)
+          → WorksAt (lease_call s (spot_at x m) w at (spot_at x m).base (ReadSectors (area_sectors st.layout)) x)
       area w k at is =
-          call_next x s w step m answer aim k (ReadFor at) is refl at (spot_at x m).base (ReadSectors (st.layout.hosts + 2))
-          (base_on st (spot_at x m) (call_added s.number (spot_at x m).path (Lease w at) (spot_at x m).base (ReadSectors (st.layout.hosts + 2)) x) k.whole.0.setting refl refl)
+          call_next x s w step m answer aim k (ReadFor at) is refl at (spot_at x m).base (ReadSectors (area_sectors st.layout))
+          (base_on st (spot_at x m) (call_added s.number (spot_at x m).path (Lease w at) (spot_at x m).base (ReadSectors (area_sectors st.layout)) x) k.whole.0.setting refl refl)
 
       reads : (w : Work) → Led x s w step m answer aim → (at : LeaseStep) → next_of_lease x.setting (seen x) s (spot_at x m) aim m step answer ≡ ReadFor at → WorksAt (read_for s (spot_at x m) w at x)
       reads w k (ReadArea name) is = area w k (ReadArea name) is
       reads w k ReadBeforeFree is = area w k ReadBeforeFree is
+      reads w k (ReadAgain (OfArea name)) is = area w k (ReadAgain (OfArea name)) is
+      reads w k (ReadAgain OfFree) is = area w k (ReadAgain OfFree) is
+      reads w k (ReadAgain OfBlock) is = blocks w k (ReadAgain OfBlock) is
+      reads w k (ReadAgain OfPhase1) is = blocks w k (ReadAgain OfPhase1) is
+      reads w k (ReadAgain OfPhase2) is = blocks w k (ReadAgain OfPhase2) is
+      reads w k ReadBeforeBlock is = blocks w k ReadBeforeBlock is
       reads w k Phase1Write is = blocks w k Phase1Write is
       reads w k Phase1Read is = blocks w k Phase1Read is
       reads w k Phase2Write is = blocks w k Phase2Write is
@@ -329,27 +346,28 @@ led_works x s work step m answer aim l =
       by w k Nothing is fit = h
       by w k (ReadFor at) is fit = reads w k at is
       by w k (WriteBlock at b) is fit =
-          call_next x s w step m answer aim k (WriteBlock at b) is refl at (block_offset st.layout (spot_at x m).base s.id) (WriteRecord (BlockIs b))
-          (block_on st (spot_at x m) s.id (call_added s.number (spot_at x m).path (Lease w at) (block_offset st.layout (spot_at x m).base s.id) (WriteRecord (BlockIs b)) x) k.whole.0.setting id.1 refl refl)
+          subst (λ z. WorksAt z) (sym (block_plain x s (spot_at x m) w at b k.whole.0.setting.unpaired))
+          (call_next x s w step m answer aim k (WriteBlock at b) is refl at (block_offset st.layout (spot_at x m).base s.id) (WriteRecord (BlockIs b))
+          (block_on st (spot_at x m) s.id (call_added s.number (spot_at x m).path (Lease w at) (block_offset st.layout (spot_at x m).base s.id) (WriteRecord (BlockIs b)) x) k.whole.0.setting id.1 refl refl))
       by w k (WriteLeader at v) is fit =
-          call_next x s w step m answer aim k (WriteLeader at v) is refl at (leader_offset (spot_at x m).base) (WriteRecord (LeaderIs v))
-          (base_on st (spot_at x m) (call_added s.number (spot_at x m).path (Lease w at) (leader_offset (spot_at x m).base) (WriteRecord (LeaderIs v)) x) k.whole.0.setting refl refl)
+          call_next x s w step m answer aim k (WriteLeader at v) is refl at (leader_offset (spot_at x m).base) (WriteRecord (leader_record st.layout v))
+          (base_on st (spot_at x m) (call_added s.number (spot_at x m).path (Lease w at) (leader_offset (spot_at x m).base) (WriteRecord (leader_record st.layout v)) x) k.whole.0.setting refl refl)
       by w k (AnswerJob r) is fit = told (work_job w) r (subst (λ z. IsFitNext (known x.setting (seen x) s (spot_at x m)) aim (lver_written m) step answer z) is fit)
       by (ForJob j) k (GrantJob mode lver) is fit = granted j k mode lver
       by Settling k (GrantJob mode lver) is fit = h
       by (ForJob j) k (BecomeShared lver v) is fit =
           let z = become_works x s j step m answer aim k Shared lver in
           let y : Step = for_work (ForJob j) (λ i. with_command i (λ c. convert_for s (spot_at x m) i c Shared lver)) x in
-          call_works y s.number (spot_at x m).path (Lease Settling FreeLeader) (leader_offset (spot_at x m).base) (WriteRecord (LeaderIs v)) z.1
-          (not_work y (call_added s.number (spot_at x m).path (Lease Settling FreeLeader) (leader_offset (spot_at x m).base) (WriteRecord (LeaderIs v)) y) (λ i b same. settling_no_job i FreeLeader b same)) z.0
+          call_works y s.number (spot_at x m).path (Lease Settling FreeLeader) (leader_offset (spot_at x m).base) (WriteRecord (leader_record y.setting.layout v)) z.1
+          (not_work y (call_added s.number (spot_at x m).path (Lease Settling FreeLeader) (leader_offset (spot_at x m).base) (WriteRecord (leader_record y.setting.layout v)) y) (λ i b same. settling_no_job i FreeLeader b same)) z.0
       by Settling k (BecomeShared lver v) is fit =
-          call_works x s.number (spot_at x m).path (Lease Settling FreeLeader) (leader_offset (spot_at x m).base) (WriteRecord (LeaderIs v)) (owned x s Settling step m answer aim k)
-          (not_work x (call_added s.number (spot_at x m).path (Lease Settling FreeLeader) (leader_offset (spot_at x m).base) (WriteRecord (LeaderIs v)) x) (λ i b same. settling_no_job i FreeLeader b same)) h
+          call_works x s.number (spot_at x m).path (Lease Settling FreeLeader) (leader_offset (spot_at x m).base) (WriteRecord (leader_record st.layout v)) (owned x s Settling step m answer aim k)
+          (not_work x (call_added s.number (spot_at x m).path (Lease Settling FreeLeader) (leader_offset (spot_at x m).base) (WriteRecord (leader_record st.layout v)) x) (λ i b same. settling_no_job i FreeLeader b same)) h
       by (ForJob j) k (BecomeExclusive lver b) is fit =
           let z = become_works x s j step m answer aim k Exclusive lver in
           let y : Step = for_work (ForJob j) (λ i. with_command i (λ c. convert_for s (spot_at x m) i c Exclusive lver)) x in
-          call_works y s.number (spot_at x m).path (Lease Settling ClearMode) (block_offset y.setting.layout (spot_at x m).base s.id) (WriteRecord (BlockIs b)) z.1
-          (not_work y (call_added s.number (spot_at x m).path (Lease Settling ClearMode) (block_offset y.setting.layout (spot_at x m).base s.id) (WriteRecord (BlockIs b)) y) (λ i c same. settling_no_job i ClearMode c same)) z.0
+          call_works y s.number (spot_at x m).path (Lease Settling ClearMode) (place y) (writes y b) z.1
+          (not_work y (call_added s.number (spot_at x m).path (Lease Settling ClearMode) (place y) (writes y b) y) (λ i c same. settling_no_job i ClearMode c same)) z.0
       by Settling k (BecomeExclusive lver b) is fit =
-          call_works x s.number (spot_at x m).path (Lease Settling ClearMode) (block_offset st.layout (spot_at x m).base s.id) (WriteRecord (BlockIs b)) (owned x s Settling step m answer aim k)
-          (not_work x (call_added s.number (spot_at x m).path (Lease Settling ClearMode) (block_offset st.layout (spot_at x m).base s.id) (WriteRecord (BlockIs b)) x) (λ i c same. settling_no_job i ClearMode c same)) h
+          call_works x s.number (spot_at x m).path (Lease Settling ClearMode) (place x) (writes x b) (owned x s Settling step m answer aim k)
+          (not_work x (call_added s.number (spot_at x m).path (Lease Settling ClearMode) (place x) (writes x b) x) (λ i c same. settling_no_job i ClearMode c same)) h

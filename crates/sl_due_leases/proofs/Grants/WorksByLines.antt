@@ -1,14 +1,15 @@
 -- What a command comes to keeps the facts of a job's work: its first call has nothing in its way, and is the first of its job.
 use Rattle.sl_acts.proofs.DecisionsAreTheirs.{Of}
 use Rattle.sl_acts.proofs.PlainActs.{line_has}
-use Rattle.sl_acts.specs.Acts.{Has}
+use Rattle.sl_acts.specs.Acts.{Has, next_of_conversion, next_of_release}
 use Rattle.sl_acts.specs.SoFar.{entry_of}
-use Rattle.sl_area.specs.Places.{block_offset, delta_offset, leader_offset, value_offset}
+use Rattle.sl_area.specs.Places.{area_sectors, block_offset, delta_offset, leader_offset, leader_record, value_offset}
 use Rattle.sl_due.specs.DueCommands.{after_end, carry_decision, decided}
 use Rattle.sl_due.specs.DueLease.{carry_lease, grant_of}
 use Rattle.sl_due.specs.Steps.{Step, add_call_of, add_end, add_reply, seen, with_input}
 use Rattle.sl_due.specs.declared.decision.Decision.TheVariants.{ConvertsTo, GetsValue, GivesUp, Joins, Leaves, ReadsArea, Replies, Requests, SetsValue, Shares, TakesOver}
 use Rattle.sl_due.specs.declared.decision.Decision.{Decision}
+use Rattle.sl_due_facts.proofs.Jobs.PlainNexts.{block_plain, conversion_plain, release_plain}
 use Rattle.sl_due_leases.proofs.Grants.WorksByAnswers.{granted_works, new_spot, one_job}
 use Rattle.sl_due_leases.proofs.Grants.OthersGoOn.{stopped_on}
 use Rattle.sl_due_leases.proofs.Grants.WorksByDeltas.{other_call_works, works_go_on}
@@ -43,7 +44,7 @@ use Rattle.sl_plain.proofs.Lists.{contains_cases, contains_none, find_fails, fin
 use Rattle.sl_plain.proofs.Numbers.{lt_then_le, number_itself, refl_le}
 use Rattle.sl_plain.proofs.Options.{some_of, then_value}
 use Rattle.sl_sector.specs.declared.sector.Block.{Block}
-use Rattle.sl_sector.specs.declared.sector.Rec.TheVariants.{BlockIs, LeaderIs, ValueIs}
+use Rattle.sl_sector.specs.declared.sector.Rec.TheVariants.{BlockIs, ValueIs}
 use Rattle.sl_trace.specs.Sessions.{holdings_of, session_numbered, sessions}
 use Rattle.sl_trace.specs.declared.session.Session.{Session}
 use Rattle.sl_due_facts.specs.Facts.Heard.{heard_by}
@@ -73,7 +74,7 @@ use Rattle.sl_words.specs.Words.{same_truth}
 use Rattle.std.proofs.Common.{ap, append-nil, arith, inl, inr, refl, subst, suc, sym, ◌∙◌}
 use Rattle.std.proofs.lemmas.Bool.{eqb-true, leb-true}
 use Rattle.std.specs.Option.{option_map_or}
-use Rattle.std.specs.Prelude.{Bool, Contains, IsSome, List, None, Ok, Option, Some, [], false, filter, is_none, is_some, length, map, nat_le, not, true, ℕ, ◌%◌, ◌&&◌, ◌+◌, ◌++◌, ◌<◌, ◌==◌, ◌||◌, ◌∷◌, ◌≡◌, ◌≤◌, ◌⊎◌}
+use Rattle.std.specs.Prelude.{Bool, Contains, IsSome, List, None, Ok, Option, Some, [], false, filter, is_none, is_some, length, map, nat_le, not, true, ℕ, ◌%◌, ◌&&◌, ◌++◌, ◌<◌, ◌==◌, ◌||◌, ◌∷◌, ◌≡◌, ◌≤◌, ◌⊎◌}
 
 -- ---- the first call of a job
 
@@ -214,7 +215,7 @@ reads_work : (x : Step) (text : List ℕ) (c : Command) (s : Session) (r : Resou
     → WorksAt (carry_lease s (spot_of r) (ForJob (next_job x.setting (seen x))) (ReadFor (ReadArea r.name)) (with_input (Line text) x))
 unfolding carry_lease
 reads_work x text c s r l g =
-    call_works y s.number r.path (Lease (ForJob j) (ReadArea r.name)) r.offset (ReadSectors (x.setting.layout.hosts + 2)) (owned x text c s l)
+    call_works y s.number r.path (Lease (ForJob j) (ReadArea r.name)) r.offset (ReadSectors (area_sectors x.setting.layout)) (owned x text c s l)
     (first_work y call j (ReadArea r.name) c (spot_of r) (record {
       purpose = refl;
       named = new_command x text c l.wake l.says;
@@ -233,7 +234,7 @@ reads_work x text c s r l g =
       j = next_job x.setting (seen x)
 
       call : Call
-      call = call_added s.number r.path (Lease (ForJob j) (ReadArea r.name)) r.offset (ReadSectors (x.setting.layout.hosts + 2)) y
+      call = call_added s.number r.path (Lease (ForJob j) (ReadArea r.name)) r.offset (ReadSectors (area_sectors x.setting.layout)) y
 
       acquiring : (c : Command) (r : ResourceArg) → AsksLease c r → aim_of_command c ≡ Some (Acquires (wanted_mode c))
       acquiring c r (inl a) = subst (λ d. aim_of_command d ≡ Some (Acquires (wanted_mode d))) (sym a.3) refl
@@ -316,22 +317,23 @@ gives_up_work x text c s g l u = by (holdings_on (seen z) s at) refl where
   released : (mode : Mode) → holdings_on (seen z) s at ≡ [] → WorksAt (carry_lease s at (ForJob j) (release_next (lease_place st s) (known st (seen z) s at) mode g.lver) z)
   released Exclusive none =
       let v = leader_for (lease_place st s) (known st (seen z) s at) false g.lver in
-      first FreeLeader (leader_offset at.base) (WriteRecord (LeaderIs v)) none
-      (base_on st at (call_added s.number at.path (Lease (ForJob j) FreeLeader) (leader_offset at.base) (WriteRecord (LeaderIs v)) z) l.known.0.setting refl refl)
+      first FreeLeader (leader_offset at.base) (WriteRecord (leader_record st.layout v)) none
+      (base_on st at (call_added s.number at.path (Lease (ForJob j) FreeLeader) (leader_offset at.base) (WriteRecord (leader_record st.layout v)) z) l.known.0.setting refl refl)
   released Shared none = block (known st (seen z) s at).own where
     block : (o : Option Block) → WorksAt (carry_lease s at (ForJob j) (option_map_or (λ own. WriteBlock ClearMode (moded_block own false 0)) o Nothing) z)
     block None = there
     block (Some own) =
-        first ClearMode (block_offset st.layout at.base s.id) (WriteRecord (BlockIs (moded_block own false 0))) none
-        (block_on st at s.id (call_added s.number at.path (Lease (ForJob j) ClearMode) (block_offset st.layout at.base s.id) (WriteRecord (BlockIs (moded_block own false 0))) z) l.known.0.setting id.1 refl refl)
+        subst (λ n. WorksAt n) (sym (block_plain z s at (ForJob j) ClearMode (moded_block own false 0) l.known.0.setting.unpaired))
+        (first ClearMode (block_offset st.layout at.base s.id) (WriteRecord (BlockIs (moded_block own false 0))) none
+        (block_on st at s.id (call_added s.number at.path (Lease (ForJob j) ClearMode) (block_offset st.layout at.base s.id) (WriteRecord (BlockIs (moded_block own false 0))) z) l.known.0.setting id.1 refl refl))
 
   by : (hs : List Grant) → holdings_on (seen z) s at ≡ hs
       → WorksAt (elim hs as (λ v. Step) [
         | e ∷ es ↦ add_reply j Done z
-        | [] ↦ carry_lease s at (ForJob j) (release_next (lease_place z.setting s) (known z.setting (seen z) s at) g.mode g.lver) z
+        | [] ↦ carry_lease s at (ForJob j) (next_of_release z.setting (seen z) s at g) z
       ])
   by (e ∷ es) is = reply_works z j Done (later_same z.past (entry_of z) (record { job = j; reply = Done }) refl) there
-  by [] is = released g.mode is
+  by [] is = subst (λ n. WorksAt (carry_lease s at (ForJob j) n z)) (sym (release_plain st (seen z) s at g l.known.0.setting.unpaired)) (released g.mode is)
 
 -- ---- a conversion
 
@@ -362,9 +364,9 @@ in_held gs a b there by_one spot =
     (ap (λ z. z && same_place b.path b.offset a.path a.offset) (number_itself b.process) ∙ subst (λ (v : Spot). same_place b.path b.offset v.path v.base ≡ true) (sym spot) (one_place b.path b.offset))) there
 
 converts_work : (x : Step) (text : List ℕ) (c : Command) (s : Session) (r : ResourceArg) (mode : Mode) → Lined x text c s → ConvertGrounds x.setting (seen x) c s r mode
-    → WorksAt (carry_lease s (spot_of r) (ForJob (next_job x.setting (seen x))) (convert_next (known x.setting (seen (with_input (Line text) x)) s (spot_of r)) mode r.name) (with_input (Line text) x))
+    → WorksAt (carry_lease s (spot_of r) (ForJob (next_job x.setting (seen x))) (next_of_conversion x.setting (seen (with_input (Line text) x)) s (spot_of r) mode r.name) (with_input (Line text) x))
 unfolding carry_lease
-converts_work x text c s r mode l g = converting mode refl where
+converts_work x text c s r mode l g = subst (λ n. WorksAt (carry_lease s at (ForJob j) n y)) (sym (conversion_plain st (seen y) s at mode r.name l.known.0.setting.unpaired)) (converting mode refl) where
   st : Setting
   st = x.setting
 
@@ -443,16 +445,17 @@ converts_work x text c s r mode l g = converting mode refl where
 
   converting : (m : Mode) → mode ≡ m → WorksAt (carry_lease s at (ForJob j) (convert_next (known st (seen y) s at) m r.name) y)
   converting Exclusive is =
-      first (ReadArea r.name) r.offset (ReadSectors (st.layout.hosts + 2)) (λ shared. absurd (true_is_false (ap (λ m. is_shared m) (sym shared ∙ is))))
-      (base_on st at (call_added s.number at.path (Lease (ForJob j) (ReadArea r.name)) r.offset (ReadSectors (st.layout.hosts + 2)) y) l.known.0.setting refl refl)
+      first (ReadArea r.name) r.offset (ReadSectors (area_sectors st.layout)) (λ shared. absurd (true_is_false (ap (λ m. is_shared m) (sym shared ∙ is))))
+      (base_on st at (call_added s.number at.path (Lease (ForJob j) (ReadArea r.name)) r.offset (ReadSectors (area_sectors st.layout)) y) l.known.0.setting refl refl)
   converting Shared is = block (known st (seen y) s at).own where
     block : (o : Option Block)
         → WorksAt (carry_lease s at (ForJob j) (option_map_or (λ own. WriteBlock SetMode (moded_block own true (known st (seen y) s at).self.generation)) o Nothing) y)
     block None = l.works
     block (Some own) =
         let b : Block = moded_block own true (known st (seen y) s at).self.generation in
-        first SetMode (block_offset st.layout at.base s.id) (WriteRecord (BlockIs b)) (λ shared. refl)
-        (block_on st at s.id (call_added s.number at.path (Lease (ForJob j) SetMode) (block_offset st.layout at.base s.id) (WriteRecord (BlockIs b)) y) l.known.0.setting id.1 refl refl)
+        subst (λ z. WorksAt z) (sym (block_plain y s at (ForJob j) SetMode b l.known.0.setting.unpaired))
+        (first SetMode (block_offset st.layout at.base s.id) (WriteRecord (BlockIs b)) (λ shared. refl)
+        (block_on st at s.id (call_added s.number at.path (Lease (ForJob j) SetMode) (block_offset st.layout at.base s.id) (WriteRecord (BlockIs b)) y) l.known.0.setting id.1 refl refl))
 
 -- ---- what is granted at once
 

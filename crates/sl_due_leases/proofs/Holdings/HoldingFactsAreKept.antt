@@ -1,6 +1,6 @@
 -- The facts of holdings are kept by each act, and hold once a step has begun.
 use Rattle.sl_acts.proofs.InputsKeep.{has_heard}
-use Rattle.sl_acts.specs.Acts.{Has, Hears}
+use Rattle.sl_acts.specs.Acts.{Has, Hears, next_of_settling}
 use Rattle.sl_acts.specs.SoFar.{entry_of}
 use Rattle.sl_area.specs.Places.{request_offset}
 use Rattle.sl_due.specs.DueAnswers.{set_reply}
@@ -26,6 +26,7 @@ use Rattle.sl_due_leases.proofs.Holdings.LeaseNexts.{IsPlainNext, settling_fits}
 use Rattle.sl_due_leases.specs.Holdings.Moments.{Known}
 use Rattle.sl_due_leases.specs.Holdings.Promises.{HoldingFactsAreKept}
 use Rattle.sl_due_facts.proofs.Jobs.CallsStay.{is_special}
+use Rattle.sl_due_facts.proofs.Jobs.PlainNexts.{settling_plain}
 use Rattle.sl_due_facts.proofs.Jobs.RepliesComeAfter.{IsLateDelta, joining_late, request_late, set_late, value_late, wake_late}
 use Rattle.sl_run.specs.Lawful.{Orderly}
 use Rattle.sl_trace.specs.Jobs.{command_numbered, job_of_start}
@@ -230,12 +231,13 @@ asked x s j bytes (SetKillpath p path) h = h
 asked x s j bytes Status h = h
 
 -- What settling does.
-settled : (x : Step) (s : Session) (at : Spot) → Known x → Has x s → at.base % x.setting.layout.area ≡ 0 → HoldsAt (carry_lease s at Settling (settle_next (lease_place x.setting s) (known x.setting (seen x) s at)) x)
+settled : (x : Step) (s : Session) (at : Spot) → Known x → Has x s → at.base % x.setting.layout.area ≡ 0 → HoldsAt (carry_lease s at Settling (next_of_settling x.setting (seen x) s at) x)
 settled x s at k has aligned =
-    carried_held x s at Settling (settle_next (lease_place x.setting s) (known x.setting (seen x) s at)) k.0.facts.holdings k.0.setting has aligned
+    carried_held x s at Settling (next_of_settling x.setting (seen x) s at) k.0.facts.holdings k.0.setting has aligned
     (λ g there mine exclusive spot stands.
-    subst (λ z. DoesBeside stands.own g.lver (settle_next (lease_place x.setting s) (known x.setting (seen x) s z))) spot (settles_beside x s (lease_place x.setting s) g stands))
-    (plain (settle_next (lease_place x.setting s) (known x.setting (seen x) s at)) (settling_fits (lease_place x.setting s) (known x.setting (seen x) s at))) where
+    subst (λ z. DoesBeside stands.own g.lver z) (sym (settling_plain x.setting (seen x) s at k.0.setting.unpaired))
+    (subst (λ z. DoesBeside stands.own g.lver (settle_next (lease_place x.setting s) (known x.setting (seen x) s z))) spot (settles_beside x s (lease_place x.setting s) g stands)))
+    (plain (next_of_settling x.setting (seen x) s at) (settling_fits (lease_place x.setting s) (known x.setting (seen x) s at))) where
       plain : (n : LeaseNext) → IsPlainNext (known x.setting (seen x) s at) n → IsNoGrant n
       plain Nothing h = tt
       plain (ReadFor step) h = tt
@@ -267,7 +269,7 @@ holding_facts_are_kept =
       kills = λ x s has due k. signalled_held x Kill s k.0.facts.holdings;
       times_out = λ x j m wake bare runs waits late k.
           refused_held x j (IoTimeout m.call.number m.reading x.reading) k.0.facts.holdings k.0.facts.names runs (waking_same x.past (entry_of x) (record { job = j; reply = IoTimeout m.call.number m.reading x.reading }) wake);
-      hears = λ x number answer wake bare expected k. answer_held x number answer wake bare k.0.facts.calls expected k.0.facts.holdings;
+      hears = λ x number answer wake bare expected k. answer_held x number answer wake bare k.0.facts.calls k.0.facts.ways expected k.0.facts.holdings;
       counts = λ x text wake bare k. input_held x (Number text) wake bare refl k.0.facts.holdings;
       exits = λ x p wake bare one k.
           refused_jobs_held (leave_holdings p (with_input (Exit p) x)) p (left_held (with_input (Exit p) x) p (k.1.waking wake).1 (input_held x (Exit p) wake bare refl k.0.facts.holdings));

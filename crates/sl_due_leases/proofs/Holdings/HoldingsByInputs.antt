@@ -5,9 +5,9 @@ use Rattle.sl_acts.specs.Acts.{Expects}
 use Rattle.sl_acts.specs.SoFar.{entry_of}
 use Rattle.sl_due.specs.Steps.{Step, seen, with_input}
 use Rattle.sl_due_leases.proofs.Holdings.HoldingsByEffects.{HoldsAt, counted_now, counted_on, upheld}
-use Rattle.sl_due_leases.proofs.Holdings.StandsGrow.{stands_marked, stands_same}
+use Rattle.sl_due_leases.proofs.Holdings.StandsGrow.{InTurn, in_turn, stands_marked, stands_same}
 use Rattle.sl_trace.specs.Leases.{is_lease_call, is_on, lease_calls}
-use Rattle.sl_plain.proofs.Lists.{any_found, contains_map, in_map, kept_inside}
+use Rattle.sl_plain.proofs.Lists.{any_found, contains_map, got_inside, in_map, kept_inside}
 use Rattle.sl_plain.proofs.Numbers.{lt_then_le, refl_le}
 use Rattle.sl_plain.proofs.Options.{none_is}
 use Rattle.sl_sector.specs.declared.sector.DeltaRec.{DeltaRec}
@@ -17,9 +17,11 @@ use Rattle.sl_trace.specs.declared.session.Session.{Session}
 use Rattle.sl_due_facts.specs.Facts.CallFacts.{CallFacts}
 use Rattle.sl_due_facts.specs.Facts.Heard.{IsOpen, heard_by}
 use Rattle.sl_due_facts.specs.Facts.HoldingFacts.{StandsExclusive}
+use Rattle.sl_due_facts.specs.Facts.WayFacts.{WayFacts, way_context}
 use Rattle.sl_trace.specs.Traces.{Answered, Child, Setting, Submitted, Trace, answer_of, answered_in, call_numbered, child_after, children, first_child, held_by, holdings, is_answer_for, mark, new_call, new_child, next_child, outstanding, spot_of_grant, submitted}
 use Rattle.sl_trace.specs.declared.effects.Call.{Call}
 use Rattle.sl_trace.specs.declared.effects.Entry.{Entry}
+use Rattle.sl_trace.specs.declared.effects.Grant.{Grant}
 use Rattle.sl_trace.specs.declared.effects.JoinStep.TheVariants.{FirstRead}
 use Rattle.sl_trace.specs.declared.effects.Spot.{Spot}
 use Rattle.sl_trace.specs.declared.input.Answer.{Answer}
@@ -34,7 +36,7 @@ use Rattle.std.proofs.lemmas.List.{length-append, length-map}
 use Rattle.std.proofs.lemmas.List.Elements.{Contains-append_cases, Contains-append_left, Contains-append_right}
 use Rattle.std.specs.List.{list_any}
 use Rattle.std.specs.Option.{option_map_or, option_or}
-use Rattle.std.specs.Prelude.{Bool, Contains, List, None, Option, Some, cond, false, filter, fold, is_none, is_some, length, map, nat_lt, slice_get, true, [], ℕ, ◌&&◌, ◌++◌, ◌+◌, ◌<◌, ◌==◌, ◌∷◌, ◌≡◌, ◌≤◌, ◌⊎◌}
+use Rattle.std.specs.Prelude.{Bool, Contains, List, None, Option, Some, cond, false, filter, fold, is_none, is_some, length, map, nat_lt, slice_get, true, [], ℕ, ◌%◌, ◌&&◌, ◌++◌, ◌+◌, ◌<◌, ◌==◌, ◌^◌, ◌∷◌, ◌≡◌, ◌≤◌, ◌⊎◌}
 
 -- ---- the calls
 
@@ -258,8 +260,9 @@ input_held x i wake bare other h =
     }) h
 
 -- An answer is heard.
-pub answer_held : (x : Step) (n : ℕ) (w : Answer) → x.input ≡ Wake → x.effects.calls ≡ [] → CallFacts x.setting (seen x) → Expects x (Told n w) → HoldsAt x → HoldsAt (with_input (Told n w) x)
-answer_held x n w wake bare f expected h =
+pub answer_held : (x : Step) (n : ℕ) (w : Answer) → x.input ≡ Wake → x.effects.calls ≡ [] → CallFacts x.setting (seen x) → WayFacts x.setting (seen x) → Expects x (Told n w) → HoldsAt x
+    → HoldsAt (with_input (Told n w) x)
+answer_held x n w wake bare f ways expected h =
     upheld x.setting (seen x) (seen (with_input (Told n w) x)) (heard_by x.input) (Some n) (record {
       inside = λ g there. there;
       fewer = λ q path offset. refl_le (length (held_by (holdings (seen x)) q path offset));
@@ -270,10 +273,17 @@ answer_held x n w wake bare f expected h =
       stands = λ g s there its exclusive stands.
           let gen : generation_of (seen (with_input (Told n w) x)) s ≡ generation_of (seen x) s = generation_told x n w s wake bare in
           stands_marked x.setting (seen x) (seen (with_input (Told n w) x)) (Some n) s (spot_of_grant g) g.lver x.past (entry_of (with_input (Told n w) x)) n w
-          (subst (λ o. StandsExclusive x.setting (seen x) o s (spot_of_grant g) g.lver) (unheard x wake) stands) (lease_told x.setting x n w s (spot_of_grant g) wake bare) gen
+          (subst (λ o. StandsExclusive x.setting (seen x) o s (spot_of_grant g) g.lver) (unheard x wake) stands) (turn g s there its) (lease_told x.setting x n w s (spot_of_grant g) wake bare) gen
           (λ j k is. counted_seen x (Told n w) s j k wake bare gen is)
           (λ m inside opens. opens_told x n w wake bare f expected m (inside_all x s (spot_of_grant g) m inside) opens);
     }) h where
+      turn : (g : Grant) (s : Session) → Contains (holdings (seen x)) g → session_numbered x.setting (seen x) g.session ≡ Some s → InTurn (lease_calls x.setting (seen x) s (spot_of_grant g))
+      turn g s there its =
+          let o = h.owned g there in
+          in_turn (way_context x.setting (seen x) s) (lease_calls x.setting (seen x) s (spot_of_grant g))
+          (ways.each s (spot_of_grant g) (got_inside (sessions x.setting (seen x)) g.session s its)
+          (eqb-true (g.offset % x.setting.layout.area) 0 (and_true (g.offset % x.setting.layout.area == 0) (nat_lt g.offset (10 ^ 12)) o.4).0))
+
       inside_all : (x : Step) (s : Session) (at : Spot) (m : Submitted) → Contains (lease_calls x.setting (seen x) s at) m → Contains (submitted (seen x)) m
       inside_all x s at m there =
           (kept_inside (is_call_of s) (submitted (seen x)) m (kept_inside (λ d. is_lease_call d && is_on x.setting.layout at d.call) (calls_of (seen x) s) m there).0).0

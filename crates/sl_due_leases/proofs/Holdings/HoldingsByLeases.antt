@@ -2,9 +2,10 @@
 -- holding of its session.
 use Rattle.sl_acts.specs.Acts.{Has}
 use Rattle.sl_acts.specs.SoFar.{entry_of}
-use Rattle.sl_area.specs.Places.{block_offset, is_base, leader_offset}
+use Rattle.sl_area.specs.Places.{area_sectors, block_offset, block_sectors, is_base, leader_offset}
 use Rattle.sl_due.specs.DueLease.{carry_lease, lease_call}
 use Rattle.sl_due.specs.Steps.{Step, add_reply, seen, with_some}
+use Rattle.sl_due_facts.proofs.Jobs.PlainNexts.{block_plain, leader_plain}
 use Rattle.sl_due_leases.proofs.Holdings.HoldingsByCalls.{CallSpares, call_added, call_held}
 use Rattle.sl_due_leases.proofs.Holdings.HoldingsByDeltas.{same_session}
 use Rattle.sl_due_leases.proofs.Holdings.HoldingsByEffects.{HoldsAt, later_same, reply_held}
@@ -28,7 +29,8 @@ use Rattle.sl_due_facts.specs.Facts.HoldingFacts.{StandsExclusive, is_ballot_cal
 use Rattle.sl_trace.specs.Traces.{Submitted, holdings, is_before_input, is_shared, new_call, spot_of_grant, work_job}
 use Rattle.sl_trace.specs.declared.effects.Call.{Call}
 use Rattle.sl_trace.specs.declared.effects.Grant.{Grant}
-use Rattle.sl_trace.specs.declared.effects.LeaseStep.TheVariants.{ClearMode, FreeLeader, Phase1Read, Phase1Write, Phase2Read, Phase2Write, ReadArea, ReadBeforeFree, SetMode, TakeLeader}
+use Rattle.sl_trace.specs.declared.effects.LeaseRead.TheVariants.{OfArea, OfBlock, OfFree, OfPhase1, OfPhase2}
+use Rattle.sl_trace.specs.declared.effects.LeaseStep.TheVariants.{ClearMode, FreeLeader, Phase1Read, Phase1Write, Phase2Read, Phase2Write, ReadAgain, ReadArea, ReadBeforeBlock, ReadBeforeFree, SetMode, TakeLeader}
 use Rattle.sl_trace.specs.declared.effects.LeaseStep.{LeaseStep}
 use Rattle.sl_trace.specs.declared.effects.Op.TheVariants.{ReadSectors, WriteRecord}
 use Rattle.sl_trace.specs.declared.effects.Op.{Op}
@@ -42,7 +44,7 @@ use Rattle.sl_words.proofs.WordLaws.{and_true}
 use Rattle.std.proofs.Common.{ap, refl, subst, sym, ◌∙◌}
 use Rattle.std.proofs.lemmas.Bool.{eqb-true}
 use Rattle.std.specs.Option.{option_map_or}
-use Rattle.std.specs.Prelude.{Bool, Contains, IsTrue, None, Option, Some, [], cond, false, length, nat_lt, true, ℕ, ◌%◌, ◌+◌, ◌<◌, ◌==◌, ◌^◌, ◌≡◌}
+use Rattle.std.specs.Prelude.{Bool, Contains, IsTrue, None, Option, Some, [], cond, false, length, nat_lt, true, ℕ, ◌%◌, ◌<◌, ◌==◌, ◌^◌, ◌≡◌}
 
 -- ---- one call
 
@@ -86,6 +88,12 @@ ballot_is m work step is = ap (λ p. of_purpose p) is ∙ by step where
   by : (at : LeaseStep) → of_purpose (Lease work at) ≡ is_ballot_step at
   by (ReadArea name) = refl
   by ReadBeforeFree = refl
+  by ReadBeforeBlock = refl
+  by (ReadAgain (OfArea name)) = refl
+  by (ReadAgain OfFree) = refl
+  by (ReadAgain OfBlock) = refl
+  by (ReadAgain OfPhase1) = refl
+  by (ReadAgain OfPhase2) = refl
   by Phase1Write = refl
   by Phase1Read = refl
   by Phase2Write = refl
@@ -162,22 +170,32 @@ read_held x s at work step offset k h has aligned on beside =
 
 -- The blocks of all hosts are read.
 blocks_held : (x : Step) (s : Session) (at : Spot) (work : Work) (step : LeaseStep) → HoldsAt x → IsSetting x.setting → Has x s → IsAligned x at → OfExclusive x s at (λ own n. is_ballot_step step ≡ false)
-    → HoldsAt (lease_call s at work step (block_offset x.setting.layout at.base 1) (ReadSectors x.setting.layout.hosts) x)
+    → HoldsAt (lease_call s at work step (block_offset x.setting.layout at.base 1) (ReadSectors (block_sectors x.setting.layout)) x)
 blocks_held x s at work step h is has aligned beside =
     let id = ids_within x.setting (seen x) s is (got_inside (sessions x.setting (seen x)) s.number s has) in
-    read_held x s at work step (block_offset x.setting.layout at.base 1) x.setting.layout.hosts h has aligned
-    (block_on x.setting at 1 (call_added s.number at.path (Lease work step) (block_offset x.setting.layout at.base 1) (ReadSectors x.setting.layout.hosts) x) is (trans_le 1 s.id x.setting.layout.hosts id.0 id.1) refl refl) beside
+    read_held x s at work step (block_offset x.setting.layout at.base 1) (block_sectors x.setting.layout) h has aligned
+    (block_on x.setting at 1 (call_added s.number at.path (Lease work step) (block_offset x.setting.layout at.base 1) (ReadSectors (block_sectors x.setting.layout)) x) is (trans_le 1 s.id x.setting.layout.hosts id.0 id.1) refl refl) beside
 
 pub carried_held : (x : Step) (s : Session) (at : Spot) (work : Work) (next : LeaseNext) → HoldsAt x → IsSetting x.setting → Has x s → IsAligned x at → OfExclusive x s at (λ own n. DoesBeside own n next) → IsNoGrant next
     → HoldsAt (carry_lease s at work next x)
 unfolding carry_lease
 carried_held x s at work Nothing h is has aligned beside plain = h
 carried_held x s at work (ReadFor (ReadArea name)) h is has aligned beside plain =
-    read_held x s at work (ReadArea name) at.base (x.setting.layout.hosts + 2) h has aligned
-    (base_on x.setting at (call_added s.number at.path (Lease work (ReadArea name)) at.base (ReadSectors (x.setting.layout.hosts + 2)) x) is refl refl) beside
+    read_held x s at work (ReadArea name) at.base (area_sectors x.setting.layout) h has aligned
+    (base_on x.setting at (call_added s.number at.path (Lease work (ReadArea name)) at.base (ReadSectors (area_sectors x.setting.layout)) x) is refl refl) beside
 carried_held x s at work (ReadFor ReadBeforeFree) h is has aligned beside plain =
-    read_held x s at work ReadBeforeFree at.base (x.setting.layout.hosts + 2) h has aligned
-    (base_on x.setting at (call_added s.number at.path (Lease work ReadBeforeFree) at.base (ReadSectors (x.setting.layout.hosts + 2)) x) is refl refl) beside
+    read_held x s at work ReadBeforeFree at.base (area_sectors x.setting.layout) h has aligned
+    (base_on x.setting at (call_added s.number at.path (Lease work ReadBeforeFree) at.base (ReadSectors (area_sectors x.setting.layout)) x) is refl refl) beside
+carried_held x s at work (ReadFor (ReadAgain (OfArea name))) h is has aligned beside plain =
+    read_held x s at work (ReadAgain (OfArea name)) at.base (area_sectors x.setting.layout) h has aligned
+    (base_on x.setting at (call_added s.number at.path (Lease work (ReadAgain (OfArea name))) at.base (ReadSectors (area_sectors x.setting.layout)) x) is refl refl) beside
+carried_held x s at work (ReadFor (ReadAgain OfFree)) h is has aligned beside plain =
+    read_held x s at work (ReadAgain OfFree) at.base (area_sectors x.setting.layout) h has aligned
+    (base_on x.setting at (call_added s.number at.path (Lease work (ReadAgain OfFree)) at.base (ReadSectors (area_sectors x.setting.layout)) x) is refl refl) beside
+carried_held x s at work (ReadFor ReadBeforeBlock) h is has aligned beside plain = blocks_held x s at work ReadBeforeBlock h is has aligned beside
+carried_held x s at work (ReadFor (ReadAgain OfBlock)) h is has aligned beside plain = blocks_held x s at work (ReadAgain OfBlock) h is has aligned beside
+carried_held x s at work (ReadFor (ReadAgain OfPhase1)) h is has aligned beside plain = blocks_held x s at work (ReadAgain OfPhase1) h is has aligned beside
+carried_held x s at work (ReadFor (ReadAgain OfPhase2)) h is has aligned beside plain = blocks_held x s at work (ReadAgain OfPhase2) h is has aligned beside
 carried_held x s at work (ReadFor Phase1Write) h is has aligned beside plain = blocks_held x s at work Phase1Write h is has aligned beside
 carried_held x s at work (ReadFor Phase1Read) h is has aligned beside plain = blocks_held x s at work Phase1Read h is has aligned beside
 carried_held x s at work (ReadFor Phase2Write) h is has aligned beside plain = blocks_held x s at work Phase2Write h is has aligned beside
@@ -189,16 +207,18 @@ carried_held x s at work (ReadFor ClearMode) h is has aligned beside plain = blo
 carried_held x s at work (WriteBlock step b) h is has aligned beside plain =
     let c : Call = call_added s.number at.path (Lease work step) (block_offset x.setting.layout at.base s.id) (WriteRecord (BlockIs b)) x in
     let id = ids_within x.setting (seen x) s is (got_inside (sessions x.setting (seen x)) s.number s has) in
-    call_held x s.number at.path (Lease work step) (block_offset x.setting.layout at.base s.id) (WriteRecord (BlockIs b))
+    subst (λ z. HoldsAt z) (sym (block_plain x s at work step b is.unpaired))
+    (call_held x s.number at.path (Lease work step) (block_offset x.setting.layout at.base s.id) (WriteRecord (BlockIs b))
     (lease_spared x s at c h has aligned refl (block_on x.setting at s.id c is id.1 refl refl) refl
     (λ g there mine exclusive spot stands.
-    block_beside stands.own g.lver (new_call (length x.past) x.reading c) work step b refl refl refl (beside g there mine exclusive spot stands) (some_instance x s (spot_of_grant g) g.lver stands))) h
+    block_beside stands.own g.lver (new_call (length x.past) x.reading c) work step b refl refl refl (beside g there mine exclusive spot stands) (some_instance x s (spot_of_grant g) g.lver stands))) h)
 carried_held x s at work (WriteLeader step l) h is has aligned beside plain =
     let c : Call = call_added s.number at.path (Lease work step) (leader_offset at.base) (WriteRecord (LeaderIs l)) x in
-    call_held x s.number at.path (Lease work step) (leader_offset at.base) (WriteRecord (LeaderIs l))
+    subst (λ z. HoldsAt z) (sym (leader_plain x s at work step l is.unpaired))
+    (call_held x s.number at.path (Lease work step) (leader_offset at.base) (WriteRecord (LeaderIs l))
     (lease_spared x s at c h has aligned refl (base_on x.setting at c is refl refl) refl
     (λ g there mine exclusive spot stands.
-    leader_beside stands.own g.lver (new_call (length x.past) x.reading c) work step l refl refl refl (beside g there mine exclusive spot stands) (some_instance x s (spot_of_grant g) g.lver stands))) h
+    leader_beside stands.own g.lver (new_call (length x.past) x.reading c) work step l refl refl refl (beside g there mine exclusive spot stands) (some_instance x s (spot_of_grant g) g.lver stands))) h)
 carried_held x s at work (AnswerJob r) h is has aligned beside plain = by (work_job work) where
   by : (o : Option ℕ) → HoldsAt (with_some o (λ j. add_reply j r) x)
   by None = h

@@ -1,7 +1,7 @@
 -- What a command comes to keeps the facts of holdings.
 use Rattle.sl_acts.proofs.DecisionsAreTheirs.{Of, decisions_are_theirs}
 use Rattle.sl_acts.proofs.PlainActs.{line_has}
-use Rattle.sl_acts.specs.Acts.{Has}
+use Rattle.sl_acts.specs.Acts.{Has, next_of_conversion, next_of_release}
 use Rattle.sl_acts.specs.Promises.{IsDecidedFor}
 use Rattle.sl_acts.specs.SoFar.{entry_of}
 use Rattle.sl_area.specs.Places.{delta_offset, is_base, value_offset}
@@ -10,6 +10,7 @@ use Rattle.sl_due.specs.DueLease.{carry_lease, grant_for}
 use Rattle.sl_due.specs.Steps.{Step, add_call_of, add_end, add_reply, seen, with_input}
 use Rattle.sl_due.specs.declared.decision.Decision.TheVariants.{ConvertsTo, GetsValue, GivesUp, Joins, Leaves, ReadsArea, Replies, Requests, SetsValue, Shares, TakesOver}
 use Rattle.sl_due.specs.declared.decision.Decision.{Decision}
+use Rattle.sl_due_facts.proofs.Jobs.PlainNexts.{conversion_plain, release_plain}
 use Rattle.sl_due_leases.proofs.Holdings.DecisionsHaveGrounds.{decisions_have_grounds}
 use Rattle.sl_due_leases.proofs.Holdings.HoldingsByCalls.{CallSpares, call_added, call_held}
 use Rattle.sl_due_leases.proofs.Holdings.HoldingsByDeltas.{plain_spared}
@@ -164,9 +165,9 @@ shares_line x text c j s lver hx h has command g =
 
 -- ---- a release
 
-release_plain : (k : LeaseKnown) (p : LeasePlace) (mode : Mode) (lver : ℕ) → IsNoGrant (release_next p k mode lver)
-release_plain k p Exclusive lver = tt
-release_plain k p Shared lver = by k.own where
+release_ungranting : (k : LeaseKnown) (p : LeasePlace) (mode : Mode) (lver : ℕ) → IsNoGrant (release_next p k mode lver)
+release_ungranting k p Exclusive lver = tt
+release_ungranting k p Shared lver = by k.own where
   by : (o : Option Block) → IsNoGrant (option_map_or (λ own. WriteBlock ClearMode (moded_block own false 0)) o Nothing)
   by None = tt
   by (Some own) = tt
@@ -183,16 +184,17 @@ gives_up_line y j s g h is has aligned = by (holdings_on (seen z) s (spot_of_gra
   by : (hs : List Grant) → holdings_on (seen z) s (spot_of_grant g) ≡ hs
       → HoldsAt (elim hs as (λ v. Step) [
         | e ∷ es ↦ add_reply j Done z
-        | [] ↦ carry_lease s (spot_of_grant g) (ForJob j) (release_next (lease_place z.setting s) (known z.setting (seen z) s (spot_of_grant g)) g.mode g.lver) z
+        | [] ↦ carry_lease s (spot_of_grant g) (ForJob j) (next_of_release z.setting (seen z) s (spot_of_grant g) g) z
       ])
   by (e ∷ es) at = reply_held z j Done (later_same z.past (entry_of z) (record { job = j; reply = Done }) refl) there
   by [] at =
-      carried_held z s (spot_of_grant g) (ForJob j) (release_next (lease_place z.setting s) (known z.setting (seen z) s (spot_of_grant g)) g.mode g.lver) there is has aligned
+      subst (λ n. HoldsAt (carry_lease s (spot_of_grant g) (ForJob j) n z)) (sym (release_plain z.setting (seen z) s (spot_of_grant g) g is.unpaired))
+      (carried_held z s (spot_of_grant g) (ForJob j) (release_next (lease_place z.setting s) (known z.setting (seen z) s (spot_of_grant g)) g.mode g.lver) there is has aligned
       (λ e held mine exclusive spot stands.
       absurd (contains_none e (subst (λ gs. Contains gs e) at
       (kept (λ (k : Grant). same_place k.path k.offset g.path g.offset) (holdings_of (seen z) s) e (subst (λ (v : Spot). same_place e.path e.offset v.path v.base ≡ true) spot (one_place e.path e.offset))
       (kept (λ (k : Grant). k.session == s.number) (holdings (seen z)) e (subst (λ n. (e.session == n) ≡ true) mine (number_itself e.session)) held)))))
-      (release_plain (known z.setting (seen z) s (spot_of_grant g)) (lease_place z.setting s) g.mode g.lver)
+      (release_ungranting (known z.setting (seen z) s (spot_of_grant g)) (lease_place z.setting s) g.mode g.lver))
 
 -- ---- a take-over
 
@@ -280,44 +282,45 @@ known_as z s at own is = is
 
 converts_line : (x : Step) (text : List ℕ) (c : Command) (j : ℕ) (s : Session) (r : ResourceArg) (mode : Mode) → HoldsAt x → HoldsAt (with_input (Line text) x) → IsSetting x.setting → Has (with_input (Line text) x) s
     → IsCommand x.setting.layout c → ConvertGrounds x.setting (seen x) c s r mode
-    → HoldsAt (carry_lease s (spot_of r) (ForJob j) (convert_next (known x.setting (seen (with_input (Line text) x)) s (spot_of r)) mode r.name) (with_input (Line text) x))
-converts_line x text c j s r mode hx h is has command g = carried_held y s (spot_of r) (ForJob j) (convert_next (known y.setting (seen y) s (spot_of r)) mode r.name) h is has aligned (beside mode refl) (plain mode) where
-  y : Step
-  y = with_input (Line text) x
+    → HoldsAt (carry_lease s (spot_of r) (ForJob j) (next_of_conversion x.setting (seen (with_input (Line text) x)) s (spot_of r) mode r.name) (with_input (Line text) x))
+converts_line x text c j s r mode hx h is has command g = subst (λ n. HoldsAt (carry_lease s (spot_of r) (ForJob j) n y)) (sym (conversion_plain y.setting (seen y) s (spot_of r) mode r.name is.unpaired))
+    (carried_held y s (spot_of r) (ForJob j) (convert_next (known y.setting (seen y) s (spot_of r)) mode r.name) h is has aligned (beside mode refl) (plain mode)) where
+      y : Step
+      y = with_input (Line text) x
 
-  args : IsResourceArg x.setting.layout r × IsTrue (is_in_range 1 (most_processes + most_children) g.process)
-  args = subst (λ k. IsCommand x.setting.layout k) g.command command
+      args : IsResourceArg x.setting.layout r × IsTrue (is_in_range 1 (most_processes + most_children) g.process)
+      args = subst (λ k. IsCommand x.setting.layout k) g.command command
 
-  aligned : IsAligned y (spot_of r)
-  aligned = base_of x.setting r args.0
+      aligned : IsAligned y (spot_of r)
+      aligned = base_of x.setting r args.0
 
-  plain : (m : Mode) → IsNoGrant (convert_next (known y.setting (seen y) s (spot_of r)) m r.name)
-  plain Exclusive = tt
-  plain Shared = by (known y.setting (seen y) s (spot_of r)).own where
-    by : (o : Option Block) → IsNoGrant (option_map_or (λ own. WriteBlock SetMode (moded_block own true (known y.setting (seen y) s (spot_of r)).self.generation)) o Nothing)
-    by None = tt
-    by (Some own) = tt
+      plain : (m : Mode) → IsNoGrant (convert_next (known y.setting (seen y) s (spot_of r)) m r.name)
+      plain Exclusive = tt
+      plain Shared = by (known y.setting (seen y) s (spot_of r)).own where
+        by : (o : Option Block) → IsNoGrant (option_map_or (λ own. WriteBlock SetMode (moded_block own true (known y.setting (seen y) s (spot_of r)).self.generation)) o Nothing)
+        by None = tt
+        by (Some own) = tt
 
-  moded : (own : Block) (n : ℕ) (o : Option Block) → o ≡ Some own → own.lver ≡ n → DoesBeside own n (option_map_or (λ k. WriteBlock SetMode (moded_block k true (known y.setting (seen y) s (spot_of r)).self.generation)) o Nothing)
-  moded own n None at under = tt
-  moded own n (Some k) at under = (let same : k ≡ own = some_value k own at in (refl, ap (λ (z : Block). z.lver) same ∙ under, ap (λ (z : Block). z.mbal) same))
+      moded : (own : Block) (n : ℕ) (o : Option Block) → o ≡ Some own → own.lver ≡ n → DoesBeside own n (option_map_or (λ k. WriteBlock SetMode (moded_block k true (known y.setting (seen y) s (spot_of r)).self.generation)) o Nothing)
+      moded own n None at under = tt
+      moded own n (Some k) at under = (let same : k ≡ own = some_value k own at in (refl, ap (λ (z : Block). z.lver) same ∙ under, ap (λ (z : Block). z.mbal) same))
 
-  -- the process's own holding, which is shared, is the only one there
-  f : Contains (holdings_on (seen x) s (spot_of r)) g.holding × ((g.holding.process == g.process && true) ≡ true)
-  f = find_inside (λ (k : Grant). k.process == g.process && true) (holdings_on (seen x) s (spot_of r)) g.holding g.held
+      -- the process's own holding, which is shared, is the only one there
+      f : Contains (holdings_on (seen x) s (spot_of r)) g.holding × ((g.holding.process == g.process && true) ≡ true)
+      f = find_inside (λ (k : Grant). k.process == g.process && true) (holdings_on (seen x) s (spot_of r)) g.holding g.held
 
-  none_exclusive : is_shared mode ≡ false → (e : Grant) → Contains (holdings (seen x)) e → is_shared e.mode ≡ false → spot_of_grant e ≡ spot_of r → ⊥
-  none_exclusive to_exclusive e there exclusive spot =
-      let on = kept_inside (λ (k : Grant). same_place k.path k.offset r.path r.offset) (holdings_of (seen x) s) g.holding f.0 in
-      let of = kept_inside (λ (k : Grant). k.session == s.number) (holdings (seen x)) g.holding on.0 in
-      let same : g.holding ≡ e = hx.alone e g.holding there of.0 (subst (λ (v : Spot). same_place g.holding.path g.holding.offset v.path v.base ≡ true) (sym spot) on.1) exclusive in
-      true_is_false (sym (ap (λ b. same_truth b (is_shared g.holding.mode)) to_exclusive ∙ ap (λ b. same_truth false b) (ap (λ (k : Grant). is_shared k.mode) same ∙ exclusive)) ∙ g.other)
+      none_exclusive : is_shared mode ≡ false → (e : Grant) → Contains (holdings (seen x)) e → is_shared e.mode ≡ false → spot_of_grant e ≡ spot_of r → ⊥
+      none_exclusive to_exclusive e there exclusive spot =
+          let on = kept_inside (λ (k : Grant). same_place k.path k.offset r.path r.offset) (holdings_of (seen x) s) g.holding f.0 in
+          let of = kept_inside (λ (k : Grant). k.session == s.number) (holdings (seen x)) g.holding on.0 in
+          let same : g.holding ≡ e = hx.alone e g.holding there of.0 (subst (λ (v : Spot). same_place g.holding.path g.holding.offset v.path v.base ≡ true) (sym spot) on.1) exclusive in
+          true_is_false (sym (ap (λ b. same_truth b (is_shared g.holding.mode)) to_exclusive ∙ ap (λ b. same_truth false b) (ap (λ (k : Grant). is_shared k.mode) same ∙ exclusive)) ∙ g.other)
 
-  beside : (m : Mode) → mode ≡ m → OfExclusive y s (spot_of r) (λ own n. DoesBeside own n (convert_next (known y.setting (seen y) s (spot_of r)) m r.name))
-  beside Shared at e there mine exclusive spot stands =
-      moded stands.own e.lver (known y.setting (seen y) s (spot_of r)).own
-      (known_as y s (spot_of r) stands.own (subst (λ z. block_submitted (lease_calls y.setting (seen y) s z) ≡ Some stands.own) spot stands.known)) stands.under.0
-  beside Exclusive at e there mine exclusive spot stands = absurd (none_exclusive (ap (λ m. is_shared m) at) e there exclusive spot)
+      beside : (m : Mode) → mode ≡ m → OfExclusive y s (spot_of r) (λ own n. DoesBeside own n (convert_next (known y.setting (seen y) s (spot_of r)) m r.name))
+      beside Shared at e there mine exclusive spot stands =
+          moded stands.own e.lver (known y.setting (seen y) s (spot_of r)).own
+          (known_as y s (spot_of r) stands.own (subst (λ z. block_submitted (lease_calls y.setting (seen y) s z) ≡ Some stands.own) spot stands.known)) stands.under.0
+      beside Exclusive at e there mine exclusive spot stands = absurd (none_exclusive (ap (λ m. is_shared m) at) e there exclusive spot)
 
 -- ---- all decisions
 

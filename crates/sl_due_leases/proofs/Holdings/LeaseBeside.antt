@@ -1,9 +1,11 @@
 -- What a settling does beside an exclusive holding: it clears a mode, or frees an instance below.
 use Rattle.sl_area.specs.Layouts.{Layout}
+use Rattle.sl_area.specs.Places.{blocks_in, leader_of}
 use Rattle.sl_due_leases.proofs.Holdings.HoldingsByEffects.{HoldsAt}
 use Rattle.sl_due_leases.proofs.Holdings.PlainPlaces.{one_place}
 use Rattle.sl_trace.specs.Ballots.{moded_block, same_owner}
-use Rattle.sl_trace.specs.LeaseWork.{LeasePlace, leader_for, lease_next, settle_next, settle_owed}
+use Rattle.sl_trace.proofs.PlainWork.{bytes_plain}
+use Rattle.sl_trace.specs.LeaseWork.{LeasePlace, after_read, after_write, first_step, leader_for, lease_next, part_read, settle_next, settle_owed}
 use Rattle.sl_trace.specs.Leases.{LeaseKnown, ended_ballot, ended_ballots, exclusive_on, free_left, holdings_on, known, lease_calls, owed_free, settles_free, won_by}
 use Rattle.sl_trace.specs.declared.lease.Aim.TheVariants.{Settles}
 use Rattle.sl_trace.specs.declared.lease.LeaseNext.TheVariants.{BecomeExclusive, BecomeShared, GrantJob, Nothing, ReadFor, WriteBlock, WriteLeader}
@@ -14,6 +16,7 @@ use Rattle.sl_plain.proofs.Lists.{contains_first, contains_more, find_fails, fin
 use Rattle.sl_plain.proofs.Numbers.{number_itself}
 use Rattle.sl_plain.proofs.Options.{then_value}
 use Rattle.sl_sector.specs.declared.sector.Block.{Block}
+use Rattle.sl_sector.specs.declared.sector.Leader.{Leader}
 use Rattle.sl_sector.specs.declared.sector.Owner.{Owner}
 use Rattle.sl_trace.specs.Sessions.{holdings_of, me}
 use Rattle.sl_trace.specs.declared.session.Session.{Session}
@@ -22,7 +25,8 @@ use Rattle.sl_due_facts.specs.Facts.HoldingFacts.{StandsExclusive}
 use Rattle.sl_due.specs.Steps.{Step, seen}
 use Rattle.sl_trace.specs.Traces.{Submitted, holdings, is_heeded, is_shared, same_place, spot_of_grant}
 use Rattle.sl_trace.specs.declared.effects.Grant.{Grant}
-use Rattle.sl_trace.specs.declared.effects.LeaseStep.TheVariants.{ClearMode, FreeLeader, Phase1Read, Phase1Write, Phase2Read, Phase2Write, ReadArea, ReadBeforeFree, SetMode, TakeLeader}
+use Rattle.sl_trace.specs.declared.effects.LeaseRead.TheVariants.{OfArea, OfBlock, OfFree, OfPhase1, OfPhase2}
+use Rattle.sl_trace.specs.declared.effects.LeaseStep.TheVariants.{ClearMode, FreeLeader, Phase1Read, Phase1Write, Phase2Read, Phase2Write, ReadAgain, ReadArea, ReadBeforeBlock, ReadBeforeFree, SetMode, TakeLeader}
 use Rattle.sl_trace.specs.declared.effects.LeaseStep.{LeaseStep}
 use Rattle.sl_trace.specs.declared.input.Answer.TheVariants.{Failed, Read, Written}
 use Rattle.sl_trace.specs.declared.input.Answer.{Answer}
@@ -42,6 +46,9 @@ is_ballot_step Phase1Write = true
 is_ballot_step Phase1Read = true
 is_ballot_step Phase2Write = true
 is_ballot_step Phase2Read = true
+is_ballot_step (ReadAgain (OfArea name)) = true
+is_ballot_step (ReadAgain OfPhase1) = true
+is_ballot_step (ReadAgain OfPhase2) = true
 is_ballot_step step = false
 
 -- What is done beside an exclusive holding of n, where this block was written last.
@@ -74,12 +81,12 @@ free_won g self (m ∷ ms) n is = by (won_by g self m ms) refl is (λ rest. free
       (v.0.1, subst (λ j. Contains (ended_ballots g (m ∷ ms)) (j, v.0.1)) c.1 (here v.0 v.1))
 
   by : (o : Option ℕ) → won_by g self m ms ≡ o
-      → (elim o as (λ z. Option ℕ) [ Some k ↦ Some k | None ↦ option_and_then (λ k. choose (not (settles_free g self k m)) k) (free_left g self ms) ]) ≡ Some n
+      → (elim o as (λ z. Option ℕ) [ Some k ↦ Some k | None ↦ option_and_then (λ k. choose (not (settles_free g self k m ms)) k) (free_left g self ms) ]) ≡ Some n
       → (free_left g self ms ≡ Some n → (q : Owner) × Contains (ended_ballots g ms) (n, q)) → (q : Owner) × Contains (ended_ballots g (m ∷ ms)) (n, q)
   by (Some k) at h rest = won (is_heeded m) n (at ∙ h)
   by None at h rest =
-      let v = then_value (λ k. choose (not (settles_free g self k m)) k) (free_left g self ms) n h in
-      let c = choose_some (not (settles_free g self v.0 m)) v.0 n v.2 in
+      let v = then_value (λ k. choose (not (settles_free g self k m ms)) k) (free_left g self ms) n h in
+      let c = choose_some (not (settles_free g self v.0 m ms)) v.0 n v.2 in
       let old = rest (v.1 ∙ ap (λ k. Some k) c.1) in
       (old.0, more (ended_ballot g m ms) (n, old.0) old.1)
 
@@ -107,32 +114,55 @@ settled_beside p k own n none known under = subst (λ o. DoesBeside own n (settl
   by false None = tt
   by false (Some i) = refl
 
-next_beside : (p : LeasePlace) (k : LeaseKnown) (own : Block) (n call i : ℕ) (step : LeaseStep) (answer : Answer) → k.ballot ≡ None → k.own ≡ Some own → own.lver ≡ n → ((j : ℕ) → owed_free k ≡ Some j → j < n)
-    → is_ballot_step step ≡ false → DoesBeside own n (lease_next p k Settles call i step answer)
+-- What a read gave, if it is no step of a ballot.
+read_beside : (p : LeasePlace) (k : LeaseKnown) (own : Block) (n : ℕ) (leader : Option Leader) (blocks : List (Option Block)) (step : LeaseStep) → k.ballot ≡ None → k.own ≡ Some own → own.lver ≡ n
+    → ((j : ℕ) → owed_free k ≡ Some j → j < n) → is_ballot_step step ≡ false → DoesBeside own n (after_read p k Settles leader blocks (first_step step))
+read_beside p k own n leader blocks step none known under low other = by step other where
+  freed : (o : Option ℕ) → owed_free k ≡ o → DoesBeside own n (option_map_or (λ j. WriteLeader FreeLeader (leader_for p k false j)) o Nothing)
+  freed None is = tt
+  freed (Some j) is = (refl, λ free. low j is)
+
+  by : (at : LeaseStep) → is_ballot_step at ≡ false → DoesBeside own n (after_read p k Settles leader blocks (first_step at))
+  by (ReadArea name) ballot = absurd (true_is_false ballot)
+  by Phase1Write ballot = absurd (true_is_false ballot)
+  by Phase1Read ballot = absurd (true_is_false ballot)
+  by Phase2Write ballot = absurd (true_is_false ballot)
+  by Phase2Read ballot = absurd (true_is_false ballot)
+  by ReadBeforeFree ballot = freed (owed_free k) refl
+  by ReadBeforeBlock ballot = settled_beside p k own n none known under
+  by (ReadAgain (OfArea name)) ballot = absurd (true_is_false ballot)
+  by (ReadAgain OfPhase1) ballot = absurd (true_is_false ballot)
+  by (ReadAgain OfPhase2) ballot = absurd (true_is_false ballot)
+  by (ReadAgain OfFree) ballot = freed (owed_free k) refl
+  by (ReadAgain OfBlock) ballot = settled_beside p k own n none known under
+  by TakeLeader ballot = tt
+  by SetMode ballot = tt
+  by FreeLeader ballot = tt
+  by ClearMode ballot = tt
+
+write_beside : (p : LeasePlace) (k : LeaseKnown) (own : Block) (n i : ℕ) (step : LeaseStep) → k.ballot ≡ None → k.own ≡ Some own → own.lver ≡ n → is_ballot_step step ≡ false
+    → DoesBeside own n (after_write p k Settles i step)
+write_beside p k own n i (ReadArea name) none known under other = tt
+write_beside p k own n i Phase1Write none known under other = absurd (true_is_false other)
+write_beside p k own n i Phase1Read none known under other = tt
+write_beside p k own n i Phase2Write none known under other = absurd (true_is_false other)
+write_beside p k own n i Phase2Read none known under other = tt
+write_beside p k own n i ReadBeforeFree none known under other = tt
+write_beside p k own n i ReadBeforeBlock none known under other = tt
+write_beside p k own n i (ReadAgain read) none known under other = tt
+write_beside p k own n i TakeLeader none known under other = tt
+write_beside p k own n i SetMode none known under other = tt
+write_beside p k own n i FreeLeader none known under other = settled_beside p k own n none known under
+write_beside p k own n i ClearMode none known under other = settled_beside p k own n none known under
+
+next_beside : (p : LeasePlace) (k : LeaseKnown) (own : Block) (n call i : ℕ) (step : LeaseStep) (answer : Answer) → p.layout.paired ≡ false → k.ballot ≡ None → k.own ≡ Some own → own.lver ≡ n
+    → ((j : ℕ) → owed_free k ≡ Some j → j < n) → is_ballot_step step ≡ false → DoesBeside own n (lease_next p k Settles call i step answer)
 unfolding lease_next
-next_beside p k own n call i (ReadArea name) answer none known under low other = absurd (true_is_false other)
-next_beside p k own n call i Phase1Write answer none known under low other = absurd (true_is_false other)
-next_beside p k own n call i Phase1Read answer none known under low other = absurd (true_is_false other)
-next_beside p k own n call i Phase2Write answer none known under low other = absurd (true_is_false other)
-next_beside p k own n call i Phase2Read answer none known under low other = absurd (true_is_false other)
-next_beside p k own n call i ReadBeforeFree Failed none known under low other = tt
-next_beside p k own n call i TakeLeader Failed none known under low other = tt
-next_beside p k own n call i SetMode Failed none known under low other = tt
-next_beside p k own n call i FreeLeader Failed none known under low other = tt
-next_beside p k own n call i ClearMode Failed none known under low other = tt
-next_beside p k own n call i ReadBeforeFree (Read bytes) none known under low other = by (owed_free k) refl where
-  by : (o : Option ℕ) → owed_free k ≡ o → DoesBeside own n (option_map_or (λ j. WriteLeader FreeLeader (leader_for p k false j)) o Nothing)
-  by None is = tt
-  by (Some j) is = (refl, λ free. low j is)
-next_beside p k own n call i TakeLeader (Read bytes) none known under low other = tt
-next_beside p k own n call i SetMode (Read bytes) none known under low other = tt
-next_beside p k own n call i FreeLeader (Read bytes) none known under low other = tt
-next_beside p k own n call i ClearMode (Read bytes) none known under low other = tt
-next_beside p k own n call i ReadBeforeFree Written none known under low other = tt
-next_beside p k own n call i TakeLeader Written none known under low other = tt
-next_beside p k own n call i SetMode Written none known under low other = tt
-next_beside p k own n call i FreeLeader Written none known under low other = settled_beside p k own n none known under
-next_beside p k own n call i ClearMode Written none known under low other = settled_beside p k own n none known under
+next_beside p k own n call i step Failed plain none known under low other = tt
+next_beside p k own n call i step Written plain none known under low other = write_beside p k own n i step none known under other
+next_beside p k own n call i step (Read bytes) plain none known under low other =
+    subst (λ z. DoesBeside own n z) (sym (bytes_plain p k Settles bytes step plain))
+    (read_beside p k own n (leader_of p.layout bytes) (blocks_in p.layout (part_read p.layout bytes (first_step step))) step none known under low other)
 
 -- ---- the holding
 
@@ -175,10 +205,10 @@ pub settles_beside : (x : Step) (s : Session) (p : LeasePlace) (g : Grant) → (
 unfolding known
 settles_beside x s p g h = settled_beside p (known x.setting (seen x) s (spot_of_grant g)) h.own g.lver h.concluded h.known h.under.0
 
-pub leads_beside : (x : Step) (s : Session) (p : LeasePlace) (g : Grant) (call i : ℕ) (step : LeaseStep) (answer : Answer) → HoldsAt x → Contains (holdings (seen x)) g → g.session ≡ s.number
+pub leads_beside : (x : Step) (s : Session) (p : LeasePlace) (g : Grant) (call i : ℕ) (step : LeaseStep) (answer : Answer) → p.layout.paired ≡ false → HoldsAt x → Contains (holdings (seen x)) g → g.session ≡ s.number
     → is_shared g.mode ≡ false → (h : StandsExclusive x.setting (seen x) (heard_by x.input) s (spot_of_grant g) g.lver) → is_ballot_step step ≡ false
     → DoesBeside h.own g.lver (lease_next p (known x.setting (seen x) s (spot_of_grant g)) Settles call i step answer)
 unfolding known
-leads_beside x s p g call i step answer holds there mine exclusive h other =
-    next_beside p (known x.setting (seen x) s (spot_of_grant g)) h.own g.lver call i step answer h.concluded h.known h.under.0
+leads_beside x s p g call i step answer plain holds there mine exclusive h other =
+    next_beside p (known x.setting (seen x) s (spot_of_grant g)) h.own g.lver call i step answer plain h.concluded h.known h.under.0
     (λ j is. owed_below x s g holds there mine exclusive h j is) other

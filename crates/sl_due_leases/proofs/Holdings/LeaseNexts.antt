@@ -1,8 +1,9 @@
 -- What a lease may do next: which mode a block shows that it writes, when it grants and converts, what it does beside an exclusive holding.
-use Rattle.sl_area.specs.Places.{area_blocks, blocks_in, leader_of}
+use Rattle.sl_trace.specs.declared.effects.LeaseRead.{LeaseRead}
+use Rattle.sl_area.specs.Places.{BlocksRead, blocks_of, leader_read}
 use Rattle.sl_trace.specs.Ballots.{is_ahead, moded_block, phase1_block, same_owner, stop_of, value_of}
-use Rattle.sl_trace.specs.LeaseWork.{LeasePlace, after_clearing, after_freeing, after_moding, after_phase1, after_phase2, after_read, after_take, after_write, area_next, begin_next, begin_or_refuse, ended_next, leader_for, lease_next, looks_for_shared, lost_next, named_area_next, phase1_next, phase2_next, refuses, settle_next, settle_owed, stop_reply, stopped_next, unstopped_next, whole_area_next, won_next}
-use Rattle.sl_trace.specs.Leases.{LeaseKnown, instance_for, is_leader_of, mode_gen_of, owed_free, own_known, shared_elsewhere}
+use Rattle.sl_trace.specs.LeaseWork.{LeasePlace, after_bytes, after_clearing, after_freeing, after_moding, after_phase1, after_phase2, after_read, after_take, after_write, area_next, asked_again, begin_next, begin_or_refuse, ended_next, first_step, heard, leader_for, lease_next, looks_for_shared, lost_next, named_area_next, owes_block, phase1_next, phase2_next, refuses, refuses_block, settle_begin, settle_next, settle_owed, stop_reply, stopped_next, unstopped_next, whole_area_next, within_turn, won_next}
+use Rattle.sl_trace.specs.Leases.{LeaseKnown, instance_for, is_leader_of, mode_gen_of, owed, owed_free, own_known, shared_elsewhere}
 use Rattle.sl_trace.specs.declared.lease.Aim.TheVariants.{Acquires, Converts, Releases, Settles}
 use Rattle.sl_trace.specs.declared.lease.Aim.{Aim}
 use Rattle.sl_trace.specs.declared.lease.Instance.TheVariants.{Begins, HeldAlready}
@@ -17,13 +18,13 @@ use Rattle.sl_sector.specs.declared.sector.Block.{Block}
 use Rattle.sl_sector.specs.declared.sector.Leader.{Leader}
 use Rattle.sl_sector.specs.declared.sector.Owner.{Owner}
 use Rattle.sl_trace.specs.Traces.{is_before_input}
-use Rattle.sl_trace.specs.declared.effects.LeaseStep.TheVariants.{ClearMode, FreeLeader, Phase1Read, Phase1Write, Phase2Read, Phase2Write, ReadArea, ReadBeforeFree, SetMode, TakeLeader}
+use Rattle.sl_trace.specs.declared.effects.LeaseStep.TheVariants.{ClearMode, FreeLeader, Phase1Read, Phase1Write, Phase2Read, Phase2Write, ReadAgain, ReadArea, ReadBeforeBlock, ReadBeforeFree, SetMode, TakeLeader}
 use Rattle.sl_trace.specs.declared.effects.LeaseStep.{LeaseStep}
 use Rattle.sl_trace.specs.declared.effects.Mode.TheVariants.{Exclusive, Shared}
 use Rattle.sl_trace.specs.declared.effects.Mode.{Mode}
 use Rattle.sl_trace.specs.declared.input.Answer.TheVariants.{Failed, Read, Written}
 use Rattle.sl_trace.specs.declared.input.Answer.{Answer}
-use Rattle.sl_trace.specs.declared.reply.Limited.TheVariants.{Lver as LverLimit, Mbal as MbalLimit}
+use Rattle.sl_trace.specs.declared.reply.Limited.TheVariants.{Lver as LverLimit, Mbal as MbalLimit, Turn as TurnLimit}
 use Rattle.sl_trace.specs.declared.reply.Reply.TheVariants.{Held as HeldBy, IoFault, Limit as LimitReached, Shared as SharedBy, TornBlock, TornLeader, WrongArea}
 use Rattle.sl_trace.specs.declared.reply.Reply.{Reply}
 use Rattle.sl_words.proofs.CaseLaws.{false_is_true}
@@ -168,9 +169,9 @@ instance_plainly : (p : LeasePlace) (k : LeaseKnown) (aim : Aim) (i : Instance) 
 instance_plainly p k aim (Begins n) = begins_plainly p k aim n
 instance_plainly p k aim (HeldAlready lver owner) = refl
 
-area_plainly : (p : LeasePlace) (k : LeaseKnown) (aim : Aim) (name bytes : List ℕ) → IsPlainNext k (area_next p k aim name bytes)
+area_plainly : (p : LeasePlace) (k : LeaseKnown) (aim : Aim) (name : List ℕ) (leader : Option Leader) (blocks : List (Option Block)) → IsPlainNext k (area_next p k aim name leader blocks)
 unfolding area_next
-area_plainly p k aim name bytes = by (leader_of p.layout bytes) where
+area_plainly p k aim name leader blocks = by leader where
   whole : (l : Leader) (read : List (Option Block)) (o : Option Block) → IsPlainNext k (option_map_or (λ own. begin_or_refuse p k aim (instance_for k l own read)) o Nothing)
   whole l read None = tt
   whole l read (Some own) = instance_plainly p k aim (instance_for k l own read)
@@ -181,16 +182,16 @@ area_plainly p k aim name bytes = by (leader_of p.layout bytes) where
 
   of_leader : (l : Leader) (b : Bool) → IsPlainNext k (elim b as (λ z. LeaseNext) [
     | false ↦ AnswerJob (WrongArea l.lockspace l.resource l.num_hosts)
-    | true ↦ named_area_next p k aim l (area_blocks p.layout bytes)
+    | true ↦ named_area_next p k aim l blocks
   ])
   of_leader l false = refl
-  of_leader l true = named l (area_blocks p.layout bytes) (position is_none (area_blocks p.layout bytes))
+  of_leader l true = named l blocks (position is_none blocks)
 
   by : (o : Option Leader) → IsPlainNext k (elim o as (λ z. LeaseNext) [
     | None ↦ AnswerJob TornLeader
     | Some l ↦ elim (is_leader_of p.layout p.lockspace name l) as (λ z. LeaseNext) [
       | false ↦ AnswerJob (WrongArea l.lockspace l.resource l.num_hosts)
-      | true ↦ named_area_next p k aim l (area_blocks p.layout bytes)
+      | true ↦ named_area_next p k aim l blocks
     ]
   ])
   by None = refl
@@ -223,26 +224,39 @@ plainly_fit k aim n step answer (GrantJob mode lver) h = absurd h
 plainly_fit k aim n step answer (BecomeShared lver l) h = absurd h
 plainly_fit k aim n step answer (BecomeExclusive lver b) h = absurd h
 
-read_plainly : (p : LeasePlace) (k : LeaseKnown) (aim : Aim) (bytes : List ℕ) (step : LeaseStep) → IsPlainNext k (after_read p k aim bytes step)
-read_plainly p k aim bytes (ReadArea name) = area_plainly p k aim name bytes
-read_plainly p k aim bytes ReadBeforeFree = by (owed_free k) where
+read_plainly : (p : LeasePlace) (k : LeaseKnown) (aim : Aim) (leader : Option Leader) (blocks : List (Option Block)) (step : LeaseStep) → IsPlainNext k (after_read p k aim leader blocks step)
+read_plainly p k aim leader blocks (ReadArea name) = area_plainly p k aim name leader blocks
+read_plainly p k aim leader blocks ReadBeforeFree = by (owed_free k) where
   by : (o : Option ℕ) → IsPlainNext k (option_map_or (λ n. WriteLeader FreeLeader (leader_for p k false n)) o Nothing)
   by None = tt
   by (Some n) = tt
-read_plainly p k aim bytes Phase1Read = by k.own where
-  by : (o : Option Block) → IsPlainNext k (option_map_or (λ own. after_phase1 p k aim own (blocks_in p.layout bytes) (stop_of own (blocks_in p.layout bytes))) o Nothing)
+read_plainly p k aim leader blocks Phase1Read = by k.own where
+  by : (o : Option Block) → IsPlainNext k (option_map_or (λ own. after_phase1 p k aim own blocks (stop_of own blocks)) o Nothing)
   by None = tt
-  by (Some own) = phase1_read_plainly p k aim own (blocks_in p.layout bytes) (stop_of own (blocks_in p.layout bytes))
-read_plainly p k aim bytes Phase2Read = by k.own where
-  by : (o : Option Block) → IsPlainNext k (option_map_or (λ own. after_phase2 p k aim own (stop_of own (blocks_in p.layout bytes))) o Nothing)
+  by (Some own) = phase1_read_plainly p k aim own blocks (stop_of own blocks)
+read_plainly p k aim leader blocks Phase2Read = by k.own where
+  by : (o : Option Block) → IsPlainNext k (option_map_or (λ own. after_phase2 p k aim own (stop_of own blocks)) o Nothing)
   by None = tt
-  by (Some own) = phase2_read_plainly p k aim own (stop_of own (blocks_in p.layout bytes))
-read_plainly p k aim bytes Phase1Write = tt
-read_plainly p k aim bytes Phase2Write = tt
-read_plainly p k aim bytes TakeLeader = tt
-read_plainly p k aim bytes SetMode = tt
-read_plainly p k aim bytes FreeLeader = tt
-read_plainly p k aim bytes ClearMode = tt
+  by (Some own) = phase2_read_plainly p k aim own (stop_of own blocks)
+read_plainly p k aim leader blocks Phase1Write = tt
+read_plainly p k aim leader blocks Phase2Write = tt
+read_plainly p k aim leader blocks TakeLeader = tt
+read_plainly p k aim leader blocks SetMode = tt
+read_plainly p k aim leader blocks FreeLeader = tt
+read_plainly p k aim leader blocks ClearMode = tt
+read_plainly p k aim leader blocks ReadBeforeBlock = owed_plainly p k
+read_plainly p k aim leader blocks (ReadAgain read) = tt
+
+bytes_plainly : (p : LeasePlace) (k : LeaseKnown) (aim : Aim) (bytes : List ℕ) (step : LeaseStep) → IsPlainNext k (after_bytes p k aim bytes step)
+unfolding after_bytes
+bytes_plainly p k aim bytes step = by (asked_again p.layout bytes step) where
+  r : BlocksRead
+  r = heard p.layout k bytes step
+
+  by : (o : Option LeaseRead)
+      → IsPlainNext k (elim o as (λ z. LeaseNext) [ Some read ↦ ReadFor (ReadAgain read) | None ↦ after_read p k aim (leader_read p.layout bytes r) (blocks_of p.layout r) (first_step step) ])
+  by (Some read) = tt
+  by None = read_plainly p k aim (leader_read p.layout bytes r) (blocks_of p.layout r) (first_step step)
 
 take_fit : (k : LeaseKnown) (aim : Aim) (n : ℕ) → IsFitNext k aim n TakeLeader Written (after_take k aim n)
 take_fit k (Acquires Exclusive) n = (refl, refl, inl (refl, refl, refl))
@@ -282,6 +296,8 @@ clearing_fit p k Settles n = plainly_fit k Settles n ClearMode Written (settle_n
 write_fit : (p : LeasePlace) (k : LeaseKnown) (aim : Aim) (n : ℕ) (step : LeaseStep) → IsFitNext k aim n step Written (after_write p k aim n step)
 write_fit p k aim n (ReadArea name) = tt
 write_fit p k aim n ReadBeforeFree = tt
+write_fit p k aim n ReadBeforeBlock = tt
+write_fit p k aim n (ReadAgain read) = tt
 write_fit p k aim n Phase1Write = tt
 write_fit p k aim n Phase1Read = tt
 write_fit p k aim n Phase2Write = tt
@@ -291,12 +307,59 @@ write_fit p k aim n SetMode = moding_fit p k aim n
 write_fit p k aim n FreeLeader = freeing_fit p k aim n
 write_fit p k aim n ClearMode = clearing_fit p k aim n
 
--- What comes next fits the call that was answered.
-pub next_fits : (p : LeasePlace) (k : LeaseKnown) (aim : Aim) (call n : ℕ) (step : LeaseStep) (answer : Answer) → IsFitNext k aim n step answer (lease_next p k aim call n step answer)
+answer_fits : (p : LeasePlace) (k : LeaseKnown) (aim : Aim) (call n : ℕ) (step : LeaseStep) (answer : Answer) → IsFitNext k aim n step answer (lease_next p k aim call n step answer)
 unfolding lease_next
-next_fits p k aim call n step (Read bytes) = plainly_fit k aim n step (Read bytes) (after_read p k aim bytes step) (read_plainly p k aim bytes step)
-next_fits p k aim call n step Written = write_fit p k aim n step
-next_fits p k aim call n step Failed = plainly_fit k aim n step Failed (refuses aim (IoFault call)) (refused_plainly k aim (IoFault call) refl)
+answer_fits p k aim call n step (Read bytes) = plainly_fit k aim n step (Read bytes) (after_bytes p k aim bytes step) (bytes_plainly p k aim bytes step)
+answer_fits p k aim call n step Written = write_fit p k aim n step
+answer_fits p k aim call n step Failed = plainly_fit k aim n step Failed (refuses aim (IoFault call)) (refused_plainly k aim (IoFault call) refl)
 
-pub settling_fits : (p : LeasePlace) (k : LeaseKnown) → IsPlainNext k (settle_next p k)
-settling_fits p k = owed_plainly p k
+-- ---- within the limit of turns
+
+refused_fit : (k : LeaseKnown) (aim : Aim) (n : ℕ) (step : LeaseStep) (answer : Answer) (next : LeaseNext) → IsFitNext k aim n step answer next → IsFitNext k aim n step answer (refuses_block aim next)
+refused_fit k aim n step answer Nothing h = h
+refused_fit k aim n step answer (ReadFor at) h = h
+refused_fit k aim n step answer (WriteBlock at b) h = plainly_fit k aim n step answer (refuses aim (LimitReached TurnLimit)) (refused_plainly k aim (LimitReached TurnLimit) refl)
+refused_fit k aim n step answer (WriteLeader at l) h = h
+refused_fit k aim n step answer (AnswerJob r) h = h
+refused_fit k aim n step answer (GrantJob mode lver) h = h
+refused_fit k aim n step answer (BecomeShared lver l) h = h
+refused_fit k aim n step answer (BecomeExclusive lver b) h = plainly_fit k aim n step answer (refuses aim (LimitReached TurnLimit)) (refused_plainly k aim (LimitReached TurnLimit) refl)
+
+within_fit : (p : LeasePlace) (k : LeaseKnown) (aim : Aim) (n : ℕ) (step : LeaseStep) (answer : Answer) (next : LeaseNext) → IsFitNext k aim n step answer next → IsFitNext k aim n step answer (within_turn p k aim next)
+unfolding within_turn
+within_fit p k aim n step answer next h = by (p.layout.paired && not (is_number (k.turn + 1))) where
+  by : (b : Bool) → IsFitNext k aim n step answer (elim b as (λ z. LeaseNext) [ false ↦ next | true ↦ refuses_block aim next ])
+  by false = h
+  by true = refused_fit k aim n step answer next h
+
+-- What comes next fits the call that was answered.
+pub next_fits : (p : LeasePlace) (k : LeaseKnown) (aim : Aim) (call n : ℕ) (step : LeaseStep) (answer : Answer) → IsFitNext k aim n step answer (within_turn p k aim (lease_next p k aim call n step answer))
+next_fits p k aim call n step answer = within_fit p k aim n step answer (lease_next p k aim call n step answer) (answer_fits p k aim call n step answer)
+
+-- ---- what a settling begins with
+refused_still : (k : LeaseKnown) (aim : Aim) (next : LeaseNext) → IsPlainNext k next → IsPlainNext k (refuses_block aim next)
+refused_still k aim Nothing h = h
+refused_still k aim (ReadFor at) h = h
+refused_still k aim (WriteBlock at b) h = refused_plainly k aim (LimitReached TurnLimit) refl
+refused_still k aim (WriteLeader at l) h = h
+refused_still k aim (AnswerJob r) h = h
+refused_still k aim (GrantJob mode lver) h = h
+refused_still k aim (BecomeShared lver l) h = h
+refused_still k aim (BecomeExclusive lver b) h = absurd h
+
+within_plainly : (p : LeasePlace) (k : LeaseKnown) (aim : Aim) (next : LeaseNext) → IsPlainNext k next → IsPlainNext k (within_turn p k aim next)
+unfolding within_turn
+within_plainly p k aim next h = by (p.layout.paired && not (is_number (k.turn + 1))) where
+  by : (b : Bool) → IsPlainNext k (elim b as (λ z. LeaseNext) [ false ↦ next | true ↦ refuses_block aim next ])
+  by false = h
+  by true = refused_still k aim next h
+
+begin_plainly : (p : LeasePlace) (k : LeaseKnown) → IsPlainNext k (settle_begin p k)
+unfolding settle_begin
+begin_plainly p k = by (p.layout.paired && owes_block (owed k)) where
+  by : (b : Bool) → IsPlainNext k (elim b as (λ z. LeaseNext) [ true ↦ ReadFor ReadBeforeBlock | false ↦ settle_next p k ])
+  by true = tt
+  by false = owed_plainly p k
+
+pub settling_fits : (p : LeasePlace) (k : LeaseKnown) → IsPlainNext k (within_turn p k Settles (settle_begin p k))
+settling_fits p k = within_plainly p k Settles (settle_begin p k) (begin_plainly p k)

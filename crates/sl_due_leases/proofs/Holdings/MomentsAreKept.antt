@@ -1,8 +1,9 @@
 -- How far a step has come: on a wake nothing is granted or ended, and after the answer to a start the only calls are frees of leavings.
+use Rattle.sl_trace.specs.declared.effects.LeaseRead.TheVariants.{OfArea, OfFree}
 use Rattle.sl_acts.proofs.EffectsKeep.{delta, lease}
 use Rattle.sl_acts.proofs.LoopsKeep.{for_each_keeps, when_keeps}
 use Rattle.sl_acts.proofs.PlainActs.{decision_kept, ended, exited, left, line_has, plain_acts}
-use Rattle.sl_acts.specs.Acts.{Acts, Has}
+use Rattle.sl_acts.specs.Acts.{Acts, Has, next_of_settling}
 use Rattle.sl_acts.specs.Plainly.{ByEffects}
 use Rattle.sl_due.specs.DueCommands.{answer_line, carry_decision}
 use Rattle.sl_due.specs.DueDelta.{carry_delta, for_joining}
@@ -19,7 +20,7 @@ use Rattle.sl_due_leases.specs.Holdings.Moments.{Moment}
 use Rattle.sl_due_leases.specs.Holdings.Promises.{MomentsAreKept}
 use Rattle.sl_trace.specs.Counts.{stopper_of}
 use Rattle.sl_trace.specs.Jobs.{job_of_start}
-use Rattle.sl_trace.specs.LeaseWork.{lease_place, settle_next}
+use Rattle.sl_trace.specs.LeaseWork.{lease_place}
 use Rattle.sl_trace.specs.Leases.{LeaseKnown, known}
 use Rattle.sl_trace.specs.declared.lease.LeaseNext.TheVariants.{AnswerJob, BecomeExclusive, BecomeShared, GrantJob, Nothing as No_lease, ReadFor, WriteBlock, WriteLeader}
 use Rattle.sl_trace.specs.declared.lease.LeaseNext.{LeaseNext}
@@ -37,7 +38,7 @@ use Rattle.sl_trace.specs.Connections.{is_registered}
 use Rattle.sl_trace.specs.Traces.{Job, end_of, holdings, is_running, next_child, next_job}
 use Rattle.sl_trace.specs.declared.command.Command.{Command}
 use Rattle.sl_trace.specs.declared.effects.Call.{Call}
-use Rattle.sl_trace.specs.declared.effects.LeaseStep.TheVariants.{ReadArea, ReadBeforeFree}
+use Rattle.sl_trace.specs.declared.effects.LeaseStep.TheVariants.{ReadAgain, ReadArea, ReadBeforeFree}
 use Rattle.sl_trace.specs.declared.effects.Move.TheVariants.{Unregister}
 use Rattle.sl_trace.specs.declared.effects.Op.TheVariants.{WriteRecord}
 use Rattle.sl_trace.specs.declared.effects.Purpose.TheVariants.{Leaving}
@@ -198,6 +199,8 @@ unfolding carry_lease
 settling_ungranting x s at k No_lease h = record { ends = refl; grants = refl }
 settling_ungranting x s at k (ReadFor (ReadArea name)) h = record { ends = refl; grants = refl }
 settling_ungranting x s at k (ReadFor ReadBeforeFree) h = record { ends = refl; grants = refl }
+settling_ungranting x s at k (ReadFor (ReadAgain (OfArea name))) h = record { ends = refl; grants = refl }
+settling_ungranting x s at k (ReadFor (ReadAgain OfFree)) h = record { ends = refl; grants = refl }
 settling_ungranting x s at k (ReadFor step) h = record { ends = refl; grants = refl }
 settling_ungranting x s at k (WriteBlock step b) h = record { ends = refl; grants = refl }
 settling_ungranting x s at k (WriteLeader step l) h = record { ends = refl; grants = refl }
@@ -337,7 +340,7 @@ moments_are_kept =
       joins_in_time = λ x s j has wake is runs m. wake_delta x s (next_on_wake (delta_of_session x.setting s) x.reading (calls_of (seen x) s)) has wake m;
       renews = λ x s has wake joined m. wake_delta x s (next_renewal (delta_of_session x.setting s) x.reading (delta_known x.setting (seen x) s) (bits_due x.setting (calls_of (seen x) s) x.reading)) has wake m;
       settles = λ x s at has wake active aligned none m.
-          let n : LeaseNext = settle_next (lease_place x.setting s) (known x.setting (seen x) s at) in
+          let n : LeaseNext = next_of_settling x.setting (seen x) s at in
           waked x (carry_lease s at Settling n x) (lease (λ z. z.input ≡ Wake) (input_effects Wake) x s has at Settling n wake)
           (settling_ungranting x s at (known x.setting (seen x) s at) n (settling_fits (lease_place x.setting s) (known x.setting (seen x) s at))) wake m;
       parts = λ x s has joined recovers free quiet m. alike x (remove_connection s.lockspace x) (removal_alike x x s.lockspace (same x)) m;

@@ -2,10 +2,7 @@
 use Rattle.sl_run.specs.LawfulBlock.{ReadAfter}
 use Rattle.sl_run.specs.LawfulGrant.{HasTaken}
 use Rattle.sl_run.specs.LawfulModes.{LawfulExclusiveGrant}
-use Rattle.sl_trace.specs.Leases.{block_submitted, block_written, blocks_given, ended_ballots, freed, is_area_read, is_phase_read, lease_calls, open_ballot}
-use Rattle.sl_area.specs.Layouts.{Layout}
-use Rattle.sl_area.specs.Places.{area_blocks, blocks_in}
-use Rattle.sl_plain.proofs.Options.{then_value}
+use Rattle.sl_trace.specs.Leases.{block_submitted, block_written, ended_ballots, freed, is_block_read, lease_calls, open_ballot}
 use Rattle.sl_sector.specs.declared.sector.Block.{Block}
 use Rattle.sl_sector.specs.declared.sector.Owner.{Owner}
 use Rattle.sl_trace.specs.Sessions.{generation_of, me}
@@ -13,27 +10,14 @@ use Rattle.sl_trace.specs.Watching.{counted_over}
 use Rattle.sl_trace.specs.declared.session.Session.{Session}
 use Rattle.sl_due_facts.specs.Facts.Heard.{IsOpen}
 use Rattle.sl_due_facts.specs.Facts.HoldingFacts.{StandsExclusive, is_ballot_call}
-use Rattle.sl_trace.specs.Traces.{Answered, Setting, Submitted, Trace, bytes_given, gave, is_ok_answer}
+use Rattle.sl_trace.specs.Traces.{Answered, Setting, Submitted, Trace, is_ok_answer, new_call}
 use Rattle.sl_trace.specs.declared.effects.Spot.{Spot}
-use Rattle.sl_words.proofs.CaseLaws.{none_some, one_value}
+use Rattle.sl_trace_law.proofs.Leases.AgeLaws.{BecameAmong, after_stays, among, blocks_stay, first_stays}
+use Rattle.sl_trace_law.proofs.Leases.FrontLaws.{aged_itself}
+use Rattle.sl_words.proofs.CaseLaws.{one_value}
 use Rattle.sl_words.proofs.WordLaws.{some_is_true}
-use Rattle.std.proofs.Common.{ap, inl, inr, refl, subst, sym, ◌∙◌}
-use Rattle.std.specs.Prelude.{Contains, List, None, Option, Some, false, true, ℕ, ◌<◌, ◌≡◌, ◌≤◌, ◌⊎◌}
-
--- ---- what has been answered
-
-given_answered : (g : Layout) (m : Submitted) (bs : List (Option Block)) → blocks_given g m ≡ Some bs → (a : Answered) × (m.answer ≡ Some a)
-given_answered g m bs gives = by (gave m) refl gives where
-  by : (o : Option (List ℕ)) → gave m ≡ o
-      → (elim o as (λ z. Option (List (Option Block))) [
-        | None ↦ None
-        | Some bytes ↦ elim (is_area_read m) as (λ z. Option (List (Option Block))) [
-          | true ↦ Some (area_blocks g bytes)
-          | false ↦ elim (is_phase_read m) as (λ z. Option (List (Option Block))) [ true ↦ Some (blocks_in g bytes) | false ↦ None ]
-        ]
-      ]) ≡ Some bs → (a : Answered) × (m.answer ≡ Some a)
-  by None is h = absurd (none_some bs h)
-  by (Some bytes) is h = let v = then_value (λ (a : Answered). bytes_given a.answer) m.answer bytes is in (v.0, v.1)
+use Rattle.std.proofs.Common.{ap, inl, inr, subst, sym, ◌∙◌}
+use Rattle.std.specs.Prelude.{Contains, List, None, Option, Some, false, true, ℕ, ◌++◌, ◌<◌, ◌∷◌, ◌≡◌, ◌≤◌, ◌⊎◌}
 
 -- ---- what goes on
 
@@ -46,6 +30,8 @@ pub record Carried (st : Setting) (t u : Trace) (now : Option ℕ) (s : Session)
   pub generation : generation_of u s ≡ generation_of t s
   pub counted : (j h : ℕ) → counted_over st t s j h ≡ true → counted_over st u s j h ≡ true
   pub answered : (d : Submitted) (a : Answered) → Contains (lease_calls st t s at) d → d.answer ≡ Some a → Contains (lease_calls st u s at) d
+  -- with those before it
+  pub aged : (newer older : List Submitted) (was : Submitted) → lease_calls st t s at ≡ newer ++ was ∷ older → BecameAmong 0 (lease_calls st u s at) was older
   pub written : (d : Submitted) (b : Block) → Contains (lease_calls st u s at) d → block_written d ≡ Some b → WasWritten st t s at d b
   pub not_freed : freed (lease_calls st u s at) < n
   pub last : (b : Block) → block_submitted (lease_calls st t s at) ≡ Some b → b.lver ≡ n →
@@ -67,19 +53,23 @@ ballot_on : (st : Setting) (t u : Trace) (heard now : Option ℕ) (s : Session) 
 ballot_on st t u heard now s at n c stands =
     let h : LawfulExclusiveGrant st t s at n = stands.ballot in
     let same : me u s ≡ me t s = ap (λ k. record { id = s.id; generation = k }) c.generation in
-    let r = given_answered st.layout h.read h.blocks h.given in
+    let r : BecameAmong 0 (lease_calls st u s at) h.read h.before = c.aged h.after h.before h.read h.split in
     let w : ReadAfter h.write h.read = h.ordered in
     record {
       won = subst (λ o. Contains (ended_ballots st.layout (lease_calls st u s at)) (n, o)) (sym same) (c.won (n, me t s) h.won);
       write = h.write;
       own = h.own;
-      read = h.read;
+      read = r.now;
       blocks = h.blocks;
       wrote = (c.answered h.write w.answer h.wrote.0 w.answered.0, h.wrote.1, h.wrote.2, h.wrote.3);
-      of_lease = (c.answered h.read r.0 h.of_lease.0 r.1, h.of_lease.1);
-      ordered = w;
+      of_lease = (among 0 (lease_calls st u s at) h.read h.before r, ap (λ k. is_block_read (new_call 0 0 k)) r.aged.call ∙ h.of_lease.1);
+      after = r.newer;
+      before = r.before;
+      split = r.split;
+      ordered = after_stays 0 0 h.write h.read h.write r.now (aged_itself 0 h.write) r.aged.at w;
+      first_ordered = first_stays 0 h.write h.read h.write r.now h.before r.before (aged_itself 0 h.write) r.aged r.rest h.first_ordered;
       same_ballot = λ d b there writes later. as_before d b writes later (c.written d b there writes);
-      given = h.given;
+      given = blocks_stay st.layout 0 h.read r.now h.before r.before h.blocks r.aged r.rest h.given;
       none_shared = record { over = λ b there other shared. c.counted b.host b.mode_gen (h.none_shared.over b there other shared); whole = h.none_shared.whole };
     } where
       as_before : (d : Submitted) (b : Block) → block_written d ≡ Some b → stands.ballot.write.call.number ≤ d.call.number → WasWritten st t s at d b → b.mbal ≡ stands.ballot.own.mbal

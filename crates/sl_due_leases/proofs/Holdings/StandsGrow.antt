@@ -2,8 +2,10 @@
 use Rattle.sl_area.specs.Layouts.{Layout}
 use Rattle.sl_due_leases.proofs.Holdings.StandsCarried.{WasWritten, stands_on}
 use Rattle.sl_trace.specs.Ballots.{is_ahead, stop_of}
-use Rattle.sl_trace.specs.Leases.{StepKind, Area_read, Phase1_read, Phase1_write, Phase2_read, Phase2_write, ballot_after, block_submitted, block_written, blocks_given, concludes, ended_ballot, ended_ballots, freed, freed_by, is_at, is_phase_read, lease_calls, open_ballot, value_in_end}
+use Rattle.sl_trace.specs.declared.lease.Stop.{Stop}
+use Rattle.sl_trace.specs.Leases.{StepKind, Area_read, Phase1_read, Phase1_write, Phase2_read, Phase2_write, ballot_after, block_submitted, block_written, blocks_given, concludes, ended_ballot, ended_ballots, freed, freed_by, is_at, is_phase_read, lease_calls, open_ballot, stop_in, value_in_end}
 use Rattle.sl_plain.proofs.Lists.{contains_cases, contains_first, contains_map, contains_more, in_map}
+use Rattle.sl_plain.proofs.Options.{some_there}
 use Rattle.sl_sector.specs.declared.sector.Block.{Block}
 use Rattle.sl_sector.specs.declared.sector.Owner.{Owner}
 use Rattle.sl_trace.specs.Sessions.{generation_of}
@@ -11,15 +13,20 @@ use Rattle.sl_trace.specs.Watching.{counted_over}
 use Rattle.sl_trace.specs.declared.session.Session.{Session}
 use Rattle.sl_due_facts.specs.Facts.Heard.{IsOpen}
 use Rattle.sl_due_facts.specs.Facts.HoldingFacts.{StandsExclusive, is_ballot_call}
+use Rattle.sl_due_facts.specs.Facts.WayFacts.{WayContext, Ways}
 use Rattle.sl_trace.specs.Traces.{Answered, Setting, Submitted, Trace, answer_of, answered_in, is_heeded}
 use Rattle.sl_trace.specs.declared.effects.Entry.{Entry}
 use Rattle.sl_trace.specs.declared.effects.Spot.{Spot}
 use Rattle.sl_trace.specs.declared.input.Answer.{Answer}
+use Rattle.sl_trace_law.proofs.Leases.AgeLaws.{became_among}
+use Rattle.sl_trace_law.proofs.Leases.FrontLaws.{aged_itself, all_aged_itself}
 use Rattle.sl_trace_law.proofs.Sessions.Making.{kept_by, same_answered}
+use Rattle.sl_trace_law.specs.Leases.Fronts.{Aged, AllAged}
 use Rattle.sl_words.proofs.CaseLaws.{not_both, true_or_false}
 use Rattle.sl_words.specs.Words.{choose}
 use Rattle.std.proofs.Common.{ap, arith, inl, inr, refl, subst, sym, ◌∙◌}
-use Rattle.std.specs.Prelude.{Bool, Contains, List, None, Option, Some, false, map, max, option_and_then, option_map, true, [], ℕ, ◌&&◌, ◌<◌, ◌==◌, ◌||◌, ◌∷◌, ◌≡◌, ◌⊎◌}
+use Rattle.std.specs.Option.{option_or}
+use Rattle.std.specs.Prelude.{Bool, Contains, List, None, Option, Some, false, is_some, map, max, option_and_then, true, [], ℕ, ◌&&◌, ◌<◌, ◌==◌, ◌||◌, ◌∷◌, ◌≡◌, ◌≤◌, ◌⊎◌}
 
 -- ---- not at all
 
@@ -31,6 +38,7 @@ stands_same st t u heard now s at n same generation counted opens h =
       generation = generation;
       counted = counted;
       answered = λ d a there is. subst (λ ms. Contains ms d) (sym same) there;
+      aged = λ newer older was split. record { now = was; newer = newer; before = older; split = same ∙ split; aged = aged_itself 0 was; rest = all_aged_itself 0 older };
       written = λ d b there writes. inl (d, subst (λ ms. Contains ms d) same there, refl);
       not_freed = subst (λ ms. freed ms < n) (sym same) h.not_freed;
       last = λ b known under. (b, ap (λ ms. block_submitted ms) same ∙ known, under, refl);
@@ -88,6 +96,14 @@ stands_more st t u heard now s at n c h more generation counted opens beside =
       generation = generation;
       counted = counted;
       answered = λ d a there is. subst (λ ms. Contains ms d) (sym more) (contains_more c (lease_calls st t s at) d there);
+      aged = λ newer older was split. record {
+        now = was;
+        newer = c ∷ newer;
+        before = older;
+        split = more ∙ ap (λ ms. c ∷ ms) split;
+        aged = aged_itself 0 was;
+        rest = all_aged_itself 0 older;
+      };
       written = λ d b there writes. written_by d b writes (contains_cases c (lease_calls st t s at) d (subst (λ ms. Contains ms d) more there));
       not_freed = subst (λ ms. freed ms < n) (sym more) (below_most (freed_by c) (freed (lease_calls st t s at)) n beside.frees h.not_freed);
       last = λ b known under. subst (λ ms. (k : Block) × (block_submitted ms ≡ Some k) × (k.lver ≡ n) × (k.mbal ≡ b.mbal)) (sym more) (last_by b known under (block_written c) refl);
@@ -134,8 +150,45 @@ AllRead ms = (d : Submitted) → Contains ms d → is_phase_read d ≡ true → 
 rest_read : (m : Submitted) (ms : List Submitted) → AllRead (m ∷ ms) → AllRead ms
 rest_read m ms h d there reads = h d (contains_more m ms d there) reads
 
+-- A lease makes its calls one after another: those before any are answered.
+abbrev pub AllTold : List Submitted → Type 0
+AllTold ms = (d : Submitted) → Contains ms d → is_some d.answer ≡ true
+
+abbrev pub InTurn : List Submitted → Type 0
+InTurn [] = Unit {0}
+InTurn (m ∷ ms) = AllTold ms × InTurn ms
+
+pub in_turn : (w : WayContext) (ms : List Submitted) → Ways w ms → InTurn ms
+in_turn w [] h = tt
+in_turn w (m ∷ ms) h = (h.0.answered, in_turn w ms h.1)
+
 is_same : (es : Trace) (e : Entry) (n : ℕ) (w : Answer) (m : Submitted) (a : Answered) → m.answer ≡ Some a → answered_in es e n w m ≡ m
 is_same es e n w m a is = kept_by m a (answer_of es e w m.call) (m.call.number == n) is
+
+-- So an answer leaves them.
+told_same : (es : Trace) (e : Entry) (n : ℕ) (w : Answer) (ms : List Submitted) → AllTold ms → map (answered_in es e n w) ms ≡ ms
+told_same es e n w [] told = refl
+told_same es e n w (m ∷ ms) told =
+    let a = some_there m.answer (told m (contains_first m ms)) in
+    ap (λ k. k ∷ map (answered_in es e n w) ms) (is_same es e n w m a.0 a.1) ∙ ap (λ ks. m ∷ ks) (told_same es e n w ms (λ d there. told d (contains_more m ms d there)))
+
+-- Each of all calls becomes what it was, or that with the answer.
+one_aged : (es : Trace) (e : Entry) (n : ℕ) (w : Answer) (m : Submitted) → Aged 0 m (answered_in es e n w m)
+one_aged es e n w m = by (m.call.number == n) where
+  a : Answered
+  a = answer_of es e w m.call
+
+  told : (o : Option Answered) → m.answer ≡ o → (option_or m.answer (Some a) ≡ m.answer) ⊎ ((m.answer ≡ None) × (b : Answered) × (option_or m.answer (Some a) ≡ Some b) × (0 ≤ b.at))
+  told None is = inr (is, a, ap (λ o. option_or o (Some a)) is, omega arith)
+  told (Some b) is = inl (ap (λ o. option_or o (Some a)) is ∙ sym is)
+
+  by : (b : Bool) → Aged 0 m (elim b as (λ z. Submitted) [ false ↦ m | true ↦ record m { answer = option_or m.answer (Some a) } ])
+  by false = aged_itself 0 m
+  by true = record { at = refl; reading = refl; call = refl; answer = told m.answer refl }
+
+aged_marked : (es : Trace) (e : Entry) (n : ℕ) (w : Answer) (ms : List Submitted) → AllAged 0 ms (map (answered_in es e n w) ms)
+aged_marked es e n w [] = tt
+aged_marked es e n w (m ∷ ms) = (one_aged es e n w m, aged_marked es e n w ms)
 
 block_marked : (es : Trace) (e : Entry) (n : ℕ) (w : Answer) (m : Submitted) → block_written (answered_in es e n w m) ≡ block_written m
 block_marked es e n w m = ap (λ k. block_written (record { at = 0; reading = 0; call = k; answer = None })) (same_answered es e n w m).call
@@ -165,36 +218,25 @@ kind_marked es e n w m = ap (λ k. is_phase_read (record { at = 0; reading = 0; 
 kind_same : (k : StepKind) (es : Trace) (e : Entry) (n : ℕ) (w : Answer) (m : Submitted) → is_at k (answered_in es e n w m) ≡ is_at k m
 kind_same k es e n w m = ap (λ c. is_at k (record { at = 0; reading = 0; call = c; answer = None })) (same_answered es e n w m).call
 
--- Whether a read concludes a ballot of this block.
-abbrev concludes_by : Layout → Submitted → Bool → Option Block → Bool
-concludes_by g m reads o =
-    elim (is_heeded m && reads) as (λ z. Bool) [
-      | false ↦ false
-      | true ↦ elim (option_and_then (λ own. option_map (stop_of own) (blocks_given g m)) o) as (λ z. Bool) [
-        | None ↦ false
-        | Some stop ↦ elim stop as (λ z. Bool) [ None ↦ is_at Phase2_read m | Some why ↦ is_ahead why ]
-      ]
-    ]
-
-concluded_none : (g : Layout) (m : Submitted) (o : Option Block) (b : Bool) → b ≡ false
+concluded_none : (m : Submitted) (o : Option (Option Stop)) (b : Bool) → b ≡ false
     → (elim b as (λ z. Bool) [
       | false ↦ false
-      | true ↦ elim (option_and_then (λ own. option_map (stop_of own) (blocks_given g m)) o) as (λ z. Bool) [
+      | true ↦ elim o as (λ z. Bool) [
         | None ↦ false
         | Some stop ↦ elim stop as (λ z. Bool) [ None ↦ is_at Phase2_read m | Some why ↦ is_ahead why ]
       ]
     ]) ≡ false
-concluded_none g m o false is = refl
-concluded_none g m o true is = absurd (not_both true refl is)
+concluded_none m o false is = refl
+concluded_none m o true is = absurd (not_both true refl is)
 
 concludes_none : (g : Layout) (m : Submitted) (ms : List Submitted) → is_phase_read m ≡ false → concludes g m ms ≡ false
-concludes_none g m ms other = concluded_none g m (block_submitted ms) (is_heeded m && is_phase_read m) (and_false (is_heeded m) (is_phase_read m) other)
+concludes_none g m ms other = concluded_none m (stop_in g m ms) (is_heeded m && is_phase_read m) (and_false (is_heeded m) (is_phase_read m) other)
 
-concludes_marked : (g : Layout) (es : Trace) (e : Entry) (n : ℕ) (w : Answer) (m : Submitted) (ms : List Submitted) → AllRead (m ∷ ms)
+concludes_marked : (g : Layout) (es : Trace) (e : Entry) (n : ℕ) (w : Answer) (m : Submitted) (ms : List Submitted) → AllRead (m ∷ ms) → AllTold ms
     → concludes g (answered_in es e n w m) (map (answered_in es e n w) ms) ≡ concludes g m ms
-concludes_marked g es e n w m ms read = by (told_or_not es e n w m ms read) where
+concludes_marked g es e n w m ms read told = by (told_or_not es e n w m ms read) where
   by : (answered_in es e n w m ≡ m) ⊎ (is_phase_read m ≡ false) → concludes g (answered_in es e n w m) (map (answered_in es e n w) ms) ≡ concludes g m ms
-  by (inl is) = ap (λ k. concludes g k (map (answered_in es e n w) ms)) is ∙ ap (λ o. concludes_by g m (is_phase_read m) o) (submitted_marked es e n w ms)
+  by (inl is) = ap (λ k. concludes g k (map (answered_in es e n w) ms)) is ∙ ap (λ ds. concludes g m ds) (told_same es e n w ms told)
   by (inr other) =
       concludes_none g (answered_in es e n w m) (map (answered_in es e n w) ms) (kind_marked es e n w m ∙ other) ∙ sym (concludes_none g m ms other)
 
@@ -205,39 +247,39 @@ after_by o writes ends before =
       | None ↦ elim ends as (λ z. Option ℕ) [ true ↦ None | false ↦ before ]
     ]
 
-pub open_marked : (g : Layout) (es : Trace) (e : Entry) (n : ℕ) (w : Answer) (ms : List Submitted) → AllRead ms → open_ballot g (map (answered_in es e n w) ms) ≡ open_ballot g ms
-open_marked g es e n w [] read = refl
-open_marked g es e n w (m ∷ ms) read =
+pub open_marked : (g : Layout) (es : Trace) (e : Entry) (n : ℕ) (w : Answer) (ms : List Submitted) → AllRead ms → InTurn ms → open_ballot g (map (answered_in es e n w) ms) ≡ open_ballot g ms
+open_marked g es e n w [] read turn = refl
+open_marked g es e n w (m ∷ ms) read turn =
     let d : Submitted = answered_in es e n w m in
     let ds : List Submitted = map (answered_in es e n w) ms in
     ap (λ o. after_by o (is_at Phase2_write d) (concludes g d ds) (open_ballot g ds)) (block_marked es e n w m)
     ∙ (ap (λ b. after_by (block_written m) b (concludes g d ds) (open_ballot g ds)) (kind_same Phase2_write es e n w m)
-    ∙ (ap (λ b. after_by (block_written m) (is_at Phase2_write m) b (open_ballot g ds)) (concludes_marked g es e n w m ms read)
-    ∙ ap (λ o. after_by (block_written m) (is_at Phase2_write m) (concludes g m ms) o) (open_marked g es e n w ms (rest_read m ms read))))
+    ∙ (ap (λ b. after_by (block_written m) (is_at Phase2_write m) b (open_ballot g ds)) (concludes_marked g es e n w m ms read turn.0)
+    ∙ ap (λ o. after_by (block_written m) (is_at Phase2_write m) (concludes g m ms) o) (open_marked g es e n w ms (rest_read m ms read) turn.1)))
 
-abbrev ended_by : Layout → Submitted → Bool → Option Block → Option (ℕ × Owner)
-ended_by g m reads o =
+abbrev ended_by : Layout → Submitted → List Submitted → Bool → Option (ℕ × Owner)
+ended_by g m ms reads =
     elim reads as (λ z. Option (ℕ × Owner)) [
       | false ↦ None
-      | true ↦ option_and_then (λ own. option_and_then (λ blocks. value_in_end own (stop_of own blocks)) (blocks_given g m)) o
+      | true ↦ option_and_then (λ own. option_and_then (λ blocks. value_in_end own (stop_of own blocks)) (blocks_given g m ms)) (block_submitted ms)
     ]
 
-ended_same : (g : Layout) (es : Trace) (e : Entry) (n : ℕ) (w : Answer) (m : Submitted) (ms : List Submitted) → AllRead (m ∷ ms)
+ended_same : (g : Layout) (es : Trace) (e : Entry) (n : ℕ) (w : Answer) (m : Submitted) (ms : List Submitted) → AllRead (m ∷ ms) → AllTold ms
     → ended_ballot g (answered_in es e n w m) (map (answered_in es e n w) ms) ≡ ended_ballot g m ms
-ended_same g es e n w m ms read = by (told_or_not es e n w m ms read) where
+ended_same g es e n w m ms read told = by (told_or_not es e n w m ms read) where
   by : (answered_in es e n w m ≡ m) ⊎ (is_phase_read m ≡ false) → ended_ballot g (answered_in es e n w m) (map (answered_in es e n w) ms) ≡ ended_ballot g m ms
-  by (inl is) = ap (λ k. ended_ballot g k (map (answered_in es e n w) ms)) is ∙ ap (λ o. ended_by g m (is_at Phase2_read m) o) (submitted_marked es e n w ms)
+  by (inl is) = ap (λ k. ended_ballot g k (map (answered_in es e n w) ms)) is ∙ ap (λ ds. ended_ballot g m ds) (told_same es e n w ms told)
   by (inr other) =
       let none : is_at Phase2_read m ≡ false = (or_parts (is_at Phase1_read m) (is_at Phase2_read m) other).1 in
-      ap (λ b. ended_by g (answered_in es e n w m) b (block_submitted (map (answered_in es e n w) ms))) (kind_same Phase2_read es e n w m ∙ none)
-      ∙ sym (ap (λ b. ended_by g m b (block_submitted ms)) none)
+      ap (λ b. ended_by g (answered_in es e n w m) (map (answered_in es e n w) ms) b) (kind_same Phase2_read es e n w m ∙ none)
+      ∙ sym (ap (λ b. ended_by g m ms b) none)
 
-pub ended_marked : (g : Layout) (es : Trace) (e : Entry) (n : ℕ) (w : Answer) (ms : List Submitted) → AllRead ms → ended_ballots g (map (answered_in es e n w) ms) ≡ ended_ballots g ms
-ended_marked g es e n w [] read = refl
-ended_marked g es e n w (m ∷ ms) read =
+pub ended_marked : (g : Layout) (es : Trace) (e : Entry) (n : ℕ) (w : Answer) (ms : List Submitted) → AllRead ms → InTurn ms → ended_ballots g (map (answered_in es e n w) ms) ≡ ended_ballots g ms
+ended_marked g es e n w [] read turn = refl
+ended_marked g es e n w (m ∷ ms) read turn =
     let ds : List Submitted = map (answered_in es e n w) ms in
-    ap (λ (o : Option (ℕ × Owner)). elim o as (λ z. List (ℕ × Owner)) [ None ↦ ended_ballots g ds | Some p ↦ p ∷ ended_ballots g ds ]) (ended_same g es e n w m ms read)
-    ∙ ap (λ ps. elim (ended_ballot g m ms) as (λ z. List (ℕ × Owner)) [ None ↦ ps | Some p ↦ p ∷ ps ]) (ended_marked g es e n w ms (rest_read m ms read))
+    ap (λ (o : Option (ℕ × Owner)). elim o as (λ z. List (ℕ × Owner)) [ None ↦ ended_ballots g ds | Some p ↦ p ∷ ended_ballots g ds ]) (ended_same g es e n w m ms read turn.0)
+    ∙ ap (λ ps. elim (ended_ballot g m ms) as (λ z. List (ℕ × Owner)) [ None ↦ ps | Some p ↦ p ∷ ps ]) (ended_marked g es e n w ms (rest_read m ms read) turn.1)
 
 ballot_read : (m : Submitted) → is_phase_read m ≡ true → is_ballot_call m ≡ true
 ballot_read m is = by (is_at Area_read m) (is_at Phase1_write m) (is_at Phase1_read m) (is_at Phase2_write m) (is_at Phase2_read m) is where
@@ -250,20 +292,23 @@ ballot_read m is = by (is_at Area_read m) (is_at Phase1_write m) (is_at Phase1_r
 
 -- Each call is told, and none of them is a step of a ballot.
 pub stands_marked : (st : Setting) (t u : Trace) (now : Option ℕ) (s : Session) (at : Spot) (n : ℕ) (es : Trace) (e : Entry) (k : ℕ) (w : Answer) → (h : StandsExclusive st t None s at n)
-    → lease_calls st u s at ≡ map (answered_in es e k w) (lease_calls st t s at) → generation_of u s ≡ generation_of t s
+    → InTurn (lease_calls st t s at) → lease_calls st u s at ≡ map (answered_in es e k w) (lease_calls st t s at) → generation_of u s ≡ generation_of t s
     → ((j h : ℕ) → counted_over st t s j h ≡ true → counted_over st u s j h ≡ true)
     → ((m : Submitted) → Contains (lease_calls st t s at) m → IsOpen u now (answered_in es e k w m) → m.answer ≡ None) → StandsExclusive st u now s at n
-stands_marked st t u now s at n es e k w h more generation counted opens =
+stands_marked st t u now s at n es e k w h turn more generation counted opens =
     stands_on st t u None now s at n (record {
       generation = generation;
       counted = counted;
       answered = λ d a there is.
           subst (λ ms. Contains ms d) (sym more)
           (subst (λ c. Contains (map (answered_in es e k w) (lease_calls st t s at)) c) (is_same es e k w d a is) (contains_map (answered_in es e k w) (lease_calls st t s at) d there));
+      aged = λ newer older was split.
+          became_among 0 newer older was (lease_calls st u s at)
+          (subst (λ ms. AllAged 0 ms (lease_calls st u s at)) split (subst (λ ms. AllAged 0 (lease_calls st t s at) ms) (sym more) (aged_marked es e k w (lease_calls st t s at))));
       written = λ d b there writes. written_by d b (in_map (answered_in es e k w) (lease_calls st t s at) d (subst (λ ms. Contains ms d) more there));
       not_freed = subst (λ ms. freed ms < n) (sym more) (subst (λ f. f < n) (sym (freed_marked es e k w (lease_calls st t s at))) h.not_freed);
       last = λ b known under. (b, ap (λ ms. block_submitted ms) more ∙ (submitted_marked es e k w (lease_calls st t s at) ∙ known), under, refl);
-      concluded = ap (λ ms. open_ballot st.layout ms) more ∙ (open_marked st.layout es e k w (lease_calls st t s at) read ∙ h.concluded);
+      concluded = ap (λ ms. open_ballot st.layout ms) more ∙ (open_marked st.layout es e k w (lease_calls st t s at) read turn ∙ h.concluded);
       won = λ p there. subst (λ ps. Contains ps p) (sym ended) there;
       no_more = λ p there. subst (λ ps. Contains ps p) ended there;
       idle = λ m there open_now. idle_by m open_now (in_map (answered_in es e k w) (lease_calls st t s at) m (subst (λ ms. Contains ms m) more there));
@@ -276,7 +321,7 @@ stands_marked st t u now s at n es e k w h more generation counted opens =
       read d there reads = answered_by d there reads d.answer refl
 
       ended : ended_ballots st.layout (lease_calls st u s at) ≡ ended_ballots st.layout (lease_calls st t s at)
-      ended = ap (λ ms. ended_ballots st.layout ms) more ∙ ended_marked st.layout es e k w (lease_calls st t s at) read
+      ended = ap (λ ms. ended_ballots st.layout ms) more ∙ ended_marked st.layout es e k w (lease_calls st t s at) read turn
 
       written_by : (d : Submitted) (b : Block) → (x : Submitted) × Contains (lease_calls st t s at) x × (answered_in es e k w x ≡ d) → WasWritten st t s at d b
       written_by d b x = inl (x.0, x.1, sym (same_answered es e k w x.0).call ∙ ap (λ (y : Submitted). y.call) x.2)

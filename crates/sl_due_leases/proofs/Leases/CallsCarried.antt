@@ -1,12 +1,12 @@
 -- What the laws of areas, blocks and leaders ask of a call stands where its session has the same calls, is as active as it was, and holds
 -- and counts no less.
 use Rattle.sl_area.specs.Places.{leader_of}
-use Rattle.sl_run.specs.LawfulBlock.{AreaRead, BeginReason, Block_above, Freed_before, LawfulBlockStep, Leader_before, Leader_own, Lost_before, Own_block}
+use Rattle.sl_run.specs.LawfulBlock.{AreaRead, BeginReason, Block_above, Freed_before, LawfulBlockStep, LawfulTurn, Leader_before, Leader_own, Lost_before, Own_block}
 use Rattle.sl_run.specs.LawfulLeader.{LawfulFreeLeader, LawfulTake, holds_under}
 use Rattle.sl_due_leases.specs.Leases.LeaseLawful.{LeaseLawful}
 use Rattle.sl_trace.specs.Ballots.{ballot_blocks, moded_block, owner_of, phase1_block, phase2_block, same_owner}
-use Rattle.sl_trace.specs.Leases.{block_written, ended_ballots, freed, is_lease_call, is_on, last_blocks, lease_calls, lease_step, own_block, spot_of_call}
-use Rattle.sl_run.specs.LawfulArea.{HasVerified, is_area_work, is_block_work, is_leader_read}
+use Rattle.sl_trace.specs.Leases.{base_turn, block_written, ended_ballots, freed, is_lease_call, is_on, last_blocks, leaders_given, lease_calls, lease_step, own_block, spot_of_call}
+use Rattle.sl_run.specs.LawfulArea.{HasVerified, IsLeaderGiven, is_area_work, is_block_work, is_leader_read}
 use Rattle.sl_sector.specs.declared.sector.Block.{Block}
 use Rattle.sl_sector.specs.declared.sector.Leader.{Leader}
 use Rattle.sl_sector.specs.declared.sector.Owner.{Owner}
@@ -14,11 +14,11 @@ use Rattle.sl_trace.specs.Sessions.{calls_of, generation_in, is_active, joined_a
 use Rattle.sl_trace.specs.Watching.{counted_over}
 use Rattle.sl_trace.specs.declared.session.Session.{Session}
 use Rattle.sl_trace.specs.Traces.{Setting, Submitted, Trace, gave, is_write, unanswered}
-use Rattle.sl_trace.specs.declared.effects.LeaseStep.TheVariants.{ClearMode, FreeLeader, Phase1Read, Phase1Write, Phase2Read, Phase2Write, ReadArea, ReadBeforeFree, SetMode, TakeLeader}
+use Rattle.sl_trace.specs.declared.effects.LeaseStep.TheVariants.{ClearMode, FreeLeader, Phase1Read, Phase1Write, Phase2Read, Phase2Write, ReadAgain, ReadArea, ReadBeforeBlock, ReadBeforeFree, SetMode, TakeLeader}
 use Rattle.sl_trace.specs.declared.effects.LeaseStep.{LeaseStep}
 use Rattle.sl_trace.specs.declared.effects.Spot.{Spot}
 use Rattle.sl_trace.specs.declared.effects.Work.{Work}
-use Rattle.sl_words.specs.Words.{present}
+use Rattle.sl_words.specs.Words.{first_of_list, present}
 use Rattle.std.proofs.Common.{ap, inl, inr, subst, sym, ◌∙◌}
 use Rattle.std.specs.Prelude.{Bool, Contains, IsTrue, List, MatchBool, None, Option, Some, false, filter, filter_map, find, is_some, option_and_then, true, ℕ, ◌&&◌, ◌<◌, ◌≡◌, ◌⊎◌}
 
@@ -54,16 +54,22 @@ abbrev open_works : Setting → Spot → List Submitted → List Submitted
 open_works st at ms = filter (λ (c : Submitted). is_area_work c.call.purpose && (is_block_work c && is_on st.layout at c.call)) (unanswered ms)
 
 verified_carried : (st : Setting) (t u : Trace) (s : Session) → Carried st t u s → (at : Spot) (name : List ℕ) → HasVerified st t s at name → HasVerified st u s at name
-verified_carried st t u s k at name h = (h.0, subst (λ ms. Contains (leaders_by st at ms) h.0) (sym k.calls) h.1, h.2)
+verified_carried st t u s k at name h = (h.0, by h.1, h.2) where
+  by : Contains (leaders_by st at (calls_of t s)) h.0 ⊎ IsLeaderGiven st t s at h.0 → Contains (leaders_by st at (calls_of u s)) h.0 ⊎ IsLeaderGiven st u s at h.0
+  by (inl there) = inl (subst (λ ms. Contains (leaders_by st at ms) h.0) (sym k.calls) there)
+  by (inr given) = inr (given.0, subst (λ ms. Contains (leaders_given st.layout ms) h.0) (same_lease st t u s k at) given.1)
 
 abbrev read_carried : (st : Setting) (t u : Trace) (s : Session) → Carried st t u s → (at : Spot) → AreaRead st t s at → AreaRead st u s at
 read_carried st t u s k at r =
     record {
       read = r.read;
-      bytes = r.bytes;
+      blocks = r.blocks;
       leader = r.leader;
       resource = r.resource;
       of_lease = (subst (λ ms. Contains ms r.read) (same_lease st t u s k at) r.of_lease.0, r.of_lease.1);
+      after = r.after;
+      before = r.before;
+      split = sym (same_lease st t u s k at) ∙ r.split;
       gives = r.gives;
       spells = r.spells;
       names = r.names;
@@ -102,7 +108,11 @@ block_carried st t u s k at c b Phase2Write h =
       last = ap (λ ms. find_block ms) (sym (same_lease st t u s k at)) ∙ h.last;
       wrote = h.wrote;
       of_lease = (subst (λ ms. Contains ms h.read) (same_lease st t u s k at) h.of_lease.0, h.of_lease.1);
+      after = h.after;
+      before = h.before;
+      split = sym (same_lease st t u s k at) ∙ h.split;
       ordered = h.ordered;
+      first_ordered = h.first_ordered;
       given = h.given;
       clear = h.clear;
       written = subst (λ o. b ≡ moded_block (phase2_block o h.own (ballot_blocks h.own h.blocks)) b.shared b.mode_gen) (same_me st t u s k) h.written;
@@ -113,6 +123,8 @@ block_carried st t u s k at c b ClearMode h =
     record { own = h.own; known = subst (λ ms. own_block st.layout s.id ms ≡ Some h.own) (same_lease st t u s k at) h.known; begun = h.begun; written = h.written }
 block_carried st t u s k at c b (ReadArea name) h = h
 block_carried st t u s k at c b ReadBeforeFree h = h
+block_carried st t u s k at c b ReadBeforeBlock h = h
+block_carried st t u s k at c b (ReadAgain read) h = h
 block_carried st t u s k at c b Phase1Read h = h
 block_carried st t u s k at c b Phase2Read h = h
 block_carried st t u s k at c b TakeLeader h = h
@@ -139,11 +151,19 @@ lawful_carried st t u s k c h =
       active = λ area. k.active (h.active area);
       writes = λ r is plain. let a = h.writes r is plain in (
         a.0,
-        record { resource = a.1.resource; verified = verified_carried st t u s k (spot_of_call st.layout c) a.1.resource a.1.verified; placed = a.1.placed },
+        record { resource = a.1.resource; verified = verified_carried st t u s k (spot_of_call st.layout c) a.1.resource a.1.verified; placed = a.1.placed; format = a.1.format; named = a.1.named },
       );
       alone = λ works. ap (λ ms. open_works st (spot_of_call st.layout c) ms) k.calls ∙ h.alone works;
       reads = h.reads;
       sees = λ is. k.joined (h.sees is);
+      again = λ is. let a = h.again is in record {
+        first = a.first;
+        bytes = a.bytes;
+        newest = (ap (λ ms. first_of_list ms) (sym (same_lease st t u s k (spot_of_call st.layout c))) ∙ a.newest.0, a.newest.1);
+        same = a.same;
+        torn = a.torn;
+      };
+      turn = λ turn is. subst (λ ms. LawfulTurn turn (base_turn st.layout s.id ms)) (same_lease st t u s k (spot_of_call st.layout c)) (h.turn turn is);
       block = λ b is. block_at st t u s k (spot_of_call st.layout c) c b (lease_step c.call.purpose) (h.block b is);
       phase2 = λ at. let a = h.phase2 at in record { write = a.write; last = ap (λ ms. find_block ms) (sym (same_lease st t u s k (spot_of_call st.layout c))) ∙ a.last; is_phase2 = a.is_phase2; ordered = a.ordered };
       leader = λ l is. let a = h.leader l is in record {

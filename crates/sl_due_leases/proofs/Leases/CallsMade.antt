@@ -1,5 +1,6 @@
 -- Each call that a lease makes keeps the laws of areas, blocks and leaders where it is made.
-use Rattle.sl_area.specs.Places.{block_offset, leader_offset}
+use Rattle.sl_area.specs.Layouts.{Layout}
+use Rattle.sl_area.specs.Places.{block_offset, block_sectors, leader_offset}
 use Rattle.sl_run.specs.LawfulArea.{HasVerified, IsRightRead, LawfulAreaWrite, is_area_work, open_block_work}
 use Rattle.sl_run.specs.LawfulBlock.{LawfulBlockStep, LawfulBlockWrite, LawfulPhase2Read}
 use Rattle.sl_run.specs.LawfulLeader.{LawfulFreeLeader, LawfulLeaderWrite, LawfulTake, holds_under}
@@ -9,10 +10,11 @@ use Rattle.sl_due_leases.specs.Leases.Made.{IsCallAt, MayCall, read_place}
 use Rattle.sl_due_leases.proofs.Ways.Lawful.BallotLaws.{clear_mode_is_lawful, phase2_is_lawful, phase2_read_is_lawful, set_mode_is_lawful, take_freed, take_won}
 use Rattle.sl_due_leases.proofs.Ways.NewestCall.{block_is, block_is_no_leader, leader_is, leader_is_no_block, read_writes_no_block, read_writes_no_leader}
 use Rattle.sl_due_leases.proofs.Ways.WayNumbers.{is_verified}
-use Rattle.sl_due_leases.proofs.Ways.WayStages.{clear_own, is_at_in}
+use Rattle.sl_due_leases.proofs.Ways.GivenReads.{step_first}
+use Rattle.sl_due_leases.proofs.Ways.WayStages.{clear_own, is_at_in, is_first}
 use Rattle.sl_due_leases.specs.Ways.Nexts.{BlockIsNext, LeaderIsOwn, Moment, NextIs, StepIs, calls_at, context_at, read_op}
 use Rattle.sl_trace.specs.Ballots.{owner_of, same_owner}
-use Rattle.sl_trace.specs.Leases.{Leader_freed, Leader_taken, Phase2_read, block_submitted, block_written, ended_ballots, freed, is_at, known, leader_written, lease_step, spot_of_call, verified_name}
+use Rattle.sl_trace.specs.Leases.{Leader_freed, Leader_taken, Phase2_read, block_submitted, block_written, ended_ballots, freed, is_again, is_at, known, leader_written, lease_step, spot_of_call, turn_of_record, verified_name}
 use Rattle.sl_trace.specs.declared.lease.LeaseNext.TheVariants.{ReadFor, WriteBlock, WriteLeader}
 use Rattle.sl_sector.specs.declared.sector.Block.{Block}
 use Rattle.sl_sector.specs.declared.sector.Leader.{Leader}
@@ -21,7 +23,7 @@ use Rattle.sl_sector.specs.declared.sector.Rec.{Rec}
 use Rattle.sl_trace.specs.Sessions.{me}
 use Rattle.sl_due_facts.specs.Facts.WayFacts.{ClearWay, FreeWay, IsVerified, ModeWay, Phase2Way, StepWay, TakeWay}
 use Rattle.sl_trace.specs.Traces.{Setting, Submitted, is_write, record_of}
-use Rattle.sl_trace.specs.declared.effects.LeaseStep.TheVariants.{ClearMode, FreeLeader, Phase1Read, Phase1Write, Phase2Read, Phase2Write, ReadArea, ReadBeforeFree, SetMode, TakeLeader}
+use Rattle.sl_trace.specs.declared.effects.LeaseStep.TheVariants.{ClearMode, FreeLeader, Phase1Read, Phase1Write, Phase2Read, Phase2Write, ReadAgain, ReadArea, ReadBeforeBlock, ReadBeforeFree, SetMode, TakeLeader}
 use Rattle.sl_trace.specs.declared.effects.LeaseStep.{LeaseStep}
 use Rattle.sl_trace.specs.declared.effects.Op.TheVariants.{ReadSectors, WriteRecord}
 use Rattle.sl_trace.specs.declared.effects.Op.{Op}
@@ -32,7 +34,7 @@ use Rattle.sl_words.proofs.CaseLaws.{false_is_true, no_value, none_some, some_va
 use Rattle.std.proofs.lemmas.Bool.{and_from}
 use Rattle.sl_sector.specs.declared.sector.Owner.{Owner}
 use Rattle.std.proofs.Common.{ap, refl, subst, sym, ◌∙◌}
-use Rattle.std.specs.Prelude.{Bool, Contains, IsTrue, MatchBool, None, Option, Some, [], false, is_some, true, ℕ, ◌+◌, ◌<◌, ◌==◌, ◌≡◌}
+use Rattle.std.specs.Prelude.{Bool, Contains, IsTrue, MatchBool, None, Option, Some, [], false, is_some, not, option_and_then, true, ℕ, ◌*◌, ◌+◌, ◌<◌, ◌==◌, ◌≡◌}
 
 -- ---- what all calls of a lease have
 
@@ -57,6 +59,8 @@ alone_there x c h spot = ap (λ at. open_block_work x.setting x.trace x.session 
 abbrev is_write_step : LeaseStep → Bool
 is_write_step (ReadArea name) = false
 is_write_step ReadBeforeFree = false
+is_write_step ReadBeforeBlock = false
+is_write_step (ReadAgain read) = false
 is_write_step Phase1Read = false
 is_write_step Phase2Read = false
 is_write_step Phase1Write = true
@@ -71,25 +75,37 @@ two_records c b l block leader = none_some b (sym (leader_is_no_block c l leader
 
 -- ---- reads
 
+-- Without pairs a block has one sector.
+sectors_plain : (g : Layout) → g.paired ≡ false → block_sectors g ≡ g.hosts
+sectors_plain g plain = ap (λ b. elim b as (λ z. ℕ) [ false ↦ g.hosts | true ↦ 2 * g.hosts ]) plain
+
 -- A read by its way is at its place.
-read_right : (x : Moment) (step : LeaseStep) (c : Submitted) (o : ℕ) → IsCallAt x step o (read_op x.setting step) c → StepWay (context_at x) x.work c.at c.call (calls_at x) step
-    → o ≡ read_place x step → IsRightRead x.setting (spot_of_call x.setting.layout c) c (Lease x.work step)
-read_right x (ReadArea name) c o k way at = (k.place ∙ (at ∙ ap (λ z. z.base) (sym k.spot)), k.does)
-read_right x ReadBeforeFree c o k way at = (k.place ∙ (at ∙ ap (λ z. z.base) (sym k.spot)), k.does)
-read_right x Phase1Read c o k way at = (k.place ∙ (at ∙ ap (λ z. block_offset x.setting.layout z.base 1) (sym k.spot)), k.does)
-read_right x Phase2Read c o k way at = (k.place ∙ (at ∙ ap (λ z. block_offset x.setting.layout z.base 1) (sym k.spot)), k.does)
-read_right x Phase1Write c o k way at = absurd (no_write c.call.op x.setting.layout.hosts (BlockIs way.own) k.does way.wrote)
-read_right x Phase2Write c o k way at = absurd (no_write c.call.op x.setting.layout.hosts _ k.does way.wrote)
-read_right x TakeLeader c o k way at = absurd (no_write c.call.op x.setting.layout.hosts (LeaderIs way.leader) k.does way.wrote)
-read_right x SetMode c o k way at = absurd (no_write c.call.op x.setting.layout.hosts _ k.does way.wrote)
-read_right x FreeLeader c o k way at = absurd (no_write c.call.op x.setting.layout.hosts (LeaderIs way.leader) k.does way.wrote)
-read_right x ClearMode c o k way at = absurd (no_write c.call.op x.setting.layout.hosts _ k.does way.wrote)
+read_right : (x : Moment) → x.setting.layout.paired ≡ false → (step : LeaseStep) (c : Submitted) (o : ℕ) → IsCallAt x step o (read_op x.setting step) c
+    → StepWay (context_at x) x.work c.at c.call (calls_at x) step → o ≡ read_place x step → IsRightRead x.setting (spot_of_call x.setting.layout c) c (Lease x.work step)
+read_right x plain (ReadArea name) c o k way at =
+    (k.place ∙ (at ∙ ap (λ z. z.base) (sym k.spot)), k.does ∙ ap (λ n. ReadSectors (n + 2)) (sym (sectors_plain x.setting.layout plain)))
+read_right x plain ReadBeforeFree c o k way at =
+    (k.place ∙ (at ∙ ap (λ z. z.base) (sym k.spot)), k.does ∙ ap (λ n. ReadSectors (n + 2)) (sym (sectors_plain x.setting.layout plain)))
+read_right x plain ReadBeforeBlock c o k way at = absurd (true_is_false (sym way ∙ plain))
+read_right x plain (ReadAgain read) c o k way at = absurd (true_is_false (sym way ∙ plain))
+read_right x plain Phase1Read c o k way at =
+    (k.place ∙ (at ∙ ap (λ z. block_offset x.setting.layout z.base 1) (sym k.spot)), k.does ∙ ap (λ n. ReadSectors n) (sym (sectors_plain x.setting.layout plain)))
+read_right x plain Phase2Read c o k way at =
+    (k.place ∙ (at ∙ ap (λ z. block_offset x.setting.layout z.base 1) (sym k.spot)), k.does ∙ ap (λ n. ReadSectors n) (sym (sectors_plain x.setting.layout plain)))
+read_right x plain Phase1Write c o k way at = absurd (no_write c.call.op x.setting.layout.hosts (BlockIs way.own) k.does way.wrote)
+read_right x plain Phase2Write c o k way at = absurd (no_write c.call.op x.setting.layout.hosts _ k.does way.wrote)
+read_right x plain TakeLeader c o k way at = absurd (no_write c.call.op x.setting.layout.hosts (LeaderIs way.leader) k.does way.wrote)
+read_right x plain SetMode c o k way at = absurd (no_write c.call.op x.setting.layout.hosts _ k.does way.wrote)
+read_right x plain FreeLeader c o k way at = absurd (no_write c.call.op x.setting.layout.hosts (LeaderIs way.leader) k.does way.wrote)
+read_right x plain ClearMode c o k way at = absurd (no_write c.call.op x.setting.layout.hosts _ k.does way.wrote)
 
 read_phase2 : (x : Moment) (step : LeaseStep) (c : Submitted) → MayCall x → c.call.purpose ≡ Lease x.work step → StepWay (context_at x) x.work c.at c.call (calls_at x) step → IsTrue (is_at Phase2_read c)
     → LawfulPhase2Read x.setting x.trace x.session x.at c
 read_phase2 x Phase2Read c h is way at = phase2_read_is_lawful x.setting x.trace x.session x.at h.ways x.work c way
 read_phase2 x (ReadArea name) c h is way at = absurd (other_step c x.work (ReadArea name) is refl at)
 read_phase2 x ReadBeforeFree c h is way at = absurd (other_step c x.work ReadBeforeFree is refl at)
+read_phase2 x ReadBeforeBlock c h is way at = absurd (true_is_false (sym way ∙ h.plain))
+read_phase2 x (ReadAgain read) c h is way at = absurd (true_is_false (sym way ∙ h.plain))
 read_phase2 x Phase1Read c h is way at = absurd (other_step c x.work Phase1Read is refl at)
 read_phase2 x Phase1Write c h is way at = absurd (other_step c x.work Phase1Write is refl at)
 read_phase2 x Phase2Write c h is way at = absurd (other_step c x.work Phase2Write is refl at)
@@ -101,6 +117,8 @@ read_phase2 x ClearMode c h is way at = absurd (other_step c x.work ClearMode is
 reads_op : (st : Setting) (step : LeaseStep) → (n : ℕ) × (read_op st step ≡ ReadSectors n)
 reads_op st (ReadArea name) = (st.layout.hosts + 2, refl)
 reads_op st ReadBeforeFree = (st.layout.hosts + 2, refl)
+reads_op st ReadBeforeBlock = (st.layout.hosts, refl)
+reads_op st (ReadAgain read) = (st.layout.hosts, refl)
 reads_op st Phase1Write = (st.layout.hosts, refl)
 reads_op st Phase1Read = (st.layout.hosts, refl)
 reads_op st Phase2Write = (st.layout.hosts, refl)
@@ -123,8 +141,10 @@ reads_are_lawful x step c h k next =
       active = λ area. h.active;
       writes = λ r is plain. absurd (none_some r (sym (ap (λ o. record_of o) reads) ∙ is));
       alone = λ works. alone_there x c h k.spot;
-      reads = subst (λ p. IsRightRead x.setting (spot_of_call x.setting.layout c) c p) (sym k.for) (read_right x step c (read_place x step) k way refl);
+      reads = subst (λ p. IsRightRead x.setting (spot_of_call x.setting.layout c) c p) (sym k.for) (read_right x h.plain step c (read_place x step) k way refl);
       sees = λ is. absurd (lease_sees c x.work step k.for is);
+      again = λ is. absurd (true_is_false (sym is ∙ step_first (context_at x) h.plain c (calls_at x) x.work step k.for way));
+      turn = λ turn is. absurd (none_some turn (sym (ap (λ o. option_and_then turn_of_record (record_of o)) reads) ∙ is));
       block = λ b is. absurd (no_value b (block_written c) is (read_writes_no_block c n.0 reads));
       phase2 = λ at. subst (λ z. LawfulPhase2Read x.setting x.trace x.session z c) (sym k.spot) (read_phase2 x step c h k.for way at);
       leader = λ l is. absurd (no_value l (leader_written c) is (read_writes_no_leader c n.0 reads));
@@ -135,6 +155,8 @@ reads_are_lawful x step c h k next =
 write_step : (x : Moment) (step : LeaseStep) (c : Submitted) (r : Rec) → c.call.op ≡ WriteRecord r → (is_write_step step ≡ true) → IsRightRead x.setting (spot_of_call x.setting.layout c) c (Lease x.work step)
 write_step x (ReadArea name) c r writes is = absurd (false_is_true is)
 write_step x ReadBeforeFree c r writes is = absurd (false_is_true is)
+write_step x ReadBeforeBlock c r writes is = absurd (false_is_true is)
+write_step x (ReadAgain read) c r writes is = absurd (false_is_true is)
 write_step x Phase1Read c r writes is = absurd (false_is_true is)
 write_step x Phase2Read c r writes is = absurd (false_is_true is)
 write_step x Phase1Write c r writes is = ap (λ o. is_write o) writes
@@ -149,6 +171,8 @@ no_phase2_read : (x : Moment) (c : Submitted) (step : LeaseStep) → is_write_st
 no_phase2_read x c Phase2Read writing at is = false_is_true writing
 no_phase2_read x c (ReadArea name) writing at is = false_is_true writing
 no_phase2_read x c ReadBeforeFree writing at is = false_is_true writing
+no_phase2_read x c ReadBeforeBlock writing at is = false_is_true writing
+no_phase2_read x c (ReadAgain read) writing at is = false_is_true writing
 no_phase2_read x c Phase1Read writing at is = false_is_true writing
 no_phase2_read x c Phase1Write writing at is = other_step c x.work Phase1Write is refl at
 no_phase2_read x c Phase2Write writing at is = other_step c x.work Phase2Write is refl at
@@ -157,6 +181,11 @@ no_phase2_read x c SetMode writing at is = other_step c x.work SetMode is refl a
 no_phase2_read x c FreeLeader writing at is = other_step c x.work FreeLeader is refl at
 no_phase2_read x c ClearMode writing at is = other_step c x.work ClearMode is refl at
 
+-- Nor is it a read that is made once more.
+write_first : (c : Submitted) (work : Work) (step : LeaseStep) → is_write_step step ≡ true → c.call.purpose ≡ Lease work step → is_again c ≡ false
+write_first c work (ReadAgain read) writing is = absurd (false_is_true writing)
+write_first c work step writing is = is_first c work step is refl
+
 -- What a block that is written next is.
 record BlockMade (x : Moment) (step : LeaseStep) (b : Block) (c : Submitted) : Type 0 where
   writing : is_write_step step ≡ true
@@ -164,7 +193,7 @@ record BlockMade (x : Moment) (step : LeaseStep) (b : Block) (c : Submitted) : T
   named : IsVerified (context_at x) (calls_at x)
 
 verified_by_own : (x : Moment) → MayCall x → (own : Block) → block_submitted (calls_at x) ≡ Some own → IsVerified (context_at x) (calls_at x)
-verified_by_own x h own is = is_verified (context_at x) (calls_at x) h.ways own is
+verified_by_own x h own is = is_verified (context_at x) h.plain (calls_at x) h.ways own is
 
 block_made : (x : Moment) (step : LeaseStep) (b : Block) (c : Submitted) (o : ℕ) → MayCall x → IsCallAt x step o (WriteRecord (BlockIs b)) c → BlockIsNext x b step → BlockMade x step b c
 block_made x Phase1Write b c o h k next = record { writing = refl; lawful = next.0 c; named = next.1 }
@@ -177,12 +206,14 @@ block_made x Phase2Write b c o h k next =
     }
 block_made x SetMode b c o h k next =
     let way : ModeWay (context_at x) x.work c.at c.call (calls_at x) = way_of x SetMode o (WriteRecord (BlockIs b)) c k next in
-    record { writing = refl; lawful = set_mode_is_lawful x.setting x.trace x.session x.at h.ways x.work c b way (block_is c b k.does); named = verified_by_own x h way.own way.known }
+    record { writing = refl; lawful = set_mode_is_lawful x.setting h.plain x.trace x.session x.at h.ways x.work c b way (block_is c b k.does); named = verified_by_own x h way.own way.known }
 block_made x ClearMode b c o h k next =
     let way : ClearWay c.call (calls_at x) = way_of x ClearMode o (WriteRecord (BlockIs b)) c k next in
-    record { writing = refl; lawful = clear_mode_is_lawful x.setting x.trace x.session x.at h.ways c b way (block_is c b k.does); named = verified_by_own x h way.own way.known }
+    record { writing = refl; lawful = clear_mode_is_lawful x.setting h.plain x.trace x.session x.at h.ways c b way (block_is c b k.does); named = verified_by_own x h way.own way.known }
 block_made x (ReadArea name) b c o h k next = absurd (no_write c.call.op (x.setting.layout.hosts + 2) (BlockIs b) (way_of x (ReadArea name) o (WriteRecord (BlockIs b)) c k next) k.does)
 block_made x ReadBeforeFree b c o h k next = absurd (no_write c.call.op (x.setting.layout.hosts + 2) (BlockIs b) (way_of x ReadBeforeFree o (WriteRecord (BlockIs b)) c k next).reads k.does)
+block_made x ReadBeforeBlock b c o h k next = absurd (true_is_false (sym (way_of x ReadBeforeBlock o (WriteRecord (BlockIs b)) c k next) ∙ h.plain))
+block_made x (ReadAgain read) b c o h k next = absurd (true_is_false (sym (way_of x (ReadAgain read) o (WriteRecord (BlockIs b)) c k next) ∙ h.plain))
 block_made x Phase1Read b c o h k next = absurd (no_write c.call.op x.setting.layout.hosts (BlockIs b) (way_of x Phase1Read o (WriteRecord (BlockIs b)) c k next).reads k.does)
 block_made x Phase2Read b c o h k next = absurd (no_write c.call.op x.setting.layout.hosts (BlockIs b) (way_of x Phase2Read o (WriteRecord (BlockIs b)) c k next).reads k.does)
 block_made x TakeLeader b c o h k next = absurd (two_records c b (way_of x TakeLeader o (WriteRecord (BlockIs b)) c k next).leader k.does (way_of x TakeLeader o (WriteRecord (BlockIs b)) c k next).wrote)
@@ -199,13 +230,17 @@ blocks_are_lawful x step b c h k next =
         subst (λ (z : Rec). LawfulAreaWrite x.setting x.trace x.session c z) (some_value (BlockIs b) r (sym (ap (λ o. record_of o) k.does) ∙ is))
             (record {
               resource = _;
-              verified = subst (λ z. HasVerified x.setting x.trace x.session z (verified_name x.setting.layout x.session.lockspace (calls_at x))) (sym k.spot) (has_verified x.setting x.trace x.session x.at m.named);
+              verified = subst (λ z. HasVerified x.setting x.trace x.session z (verified_name x.setting.layout x.session.lockspace (calls_at x))) (sym k.spot) (has_verified x.setting h.plain x.trace x.session x.at h.ways m.named);
               placed = ap (λ z. let o : Option ℕ = Some (block_offset x.setting.layout z.base x.session.id) in o) k.spot ∙ ap (λ n. Some n) (sym k.place);
+              format = ap (λ z. not z) h.plain;
+              named = λ p pair. absurd (none_some p.turn (ap (λ z. turn_of_record z) pair));
             }),
       );
       alone = λ works. alone_there x c h k.spot;
       reads = subst (λ p. IsRightRead x.setting (spot_of_call x.setting.layout c) c p) (sym k.for) (write_step x step c (BlockIs b) k.does m.writing);
       sees = λ is. absurd (lease_sees c x.work step k.for is);
+      again = λ is. absurd (true_is_false (sym is ∙ write_first c x.work step m.writing k.for));
+      turn = λ turn is. absurd (none_some turn (sym (ap (λ o. option_and_then turn_of_record (record_of o)) k.does) ∙ is));
       block = λ z is.
           subst (λ (y : Block). LawfulBlockWrite x.setting x.trace x.session c y) (some_value b z (sym (block_is c b k.does) ∙ is))
           (by_step k.for (subst (λ at. LawfulBlockStep x.setting x.trace x.session at c b step) (sym k.spot) m.lawful));
@@ -265,6 +300,8 @@ leader_made x FreeLeader l c o h k next unheld =
     }
 leader_made x (ReadArea name) l c o h k next unheld = absurd (no_write c.call.op (x.setting.layout.hosts + 2) (LeaderIs l) (way_of x (ReadArea name) o (WriteRecord (LeaderIs l)) c k next) k.does)
 leader_made x ReadBeforeFree l c o h k next unheld = absurd (no_write c.call.op (x.setting.layout.hosts + 2) (LeaderIs l) (way_of x ReadBeforeFree o (WriteRecord (LeaderIs l)) c k next).reads k.does)
+leader_made x ReadBeforeBlock l c o h k next unheld = absurd (true_is_false (sym (way_of x ReadBeforeBlock o (WriteRecord (LeaderIs l)) c k next) ∙ h.plain))
+leader_made x (ReadAgain read) l c o h k next unheld = absurd (true_is_false (sym (way_of x (ReadAgain read) o (WriteRecord (LeaderIs l)) c k next) ∙ h.plain))
 leader_made x Phase1Read l c o h k next unheld = absurd (no_write c.call.op x.setting.layout.hosts (LeaderIs l) (way_of x Phase1Read o (WriteRecord (LeaderIs l)) c k next).reads k.does)
 leader_made x Phase2Read l c o h k next unheld = absurd (no_write c.call.op x.setting.layout.hosts (LeaderIs l) (way_of x Phase2Read o (WriteRecord (LeaderIs l)) c k next).reads k.does)
 leader_made x Phase1Write l c o h k next unheld = absurd (two_records c (way_of x Phase1Write o (WriteRecord (LeaderIs l)) c k next).own l (way_of x Phase1Write o (WriteRecord (LeaderIs l)) c k next).wrote k.does)
@@ -292,7 +329,7 @@ leaders_are_lawful x step l c h k next unheld =
     let m : LeaderMade x step l c = leader_made x step l c (leader_offset x.at.base) h k next.0 unheld in
     let own : OwnLeader x l = own_leader x l next.1 in
     let verified : HasVerified x.setting x.trace x.session x.at l.resource =
-    subst (λ n. HasVerified x.setting x.trace x.session x.at n) (sym own.resource) (has_verified x.setting x.trace x.session x.at m.named)
+    subst (λ n. HasVerified x.setting x.trace x.session x.at n) (sym own.resource) (has_verified x.setting h.plain x.trace x.session x.at h.ways m.named)
     in
     record {
       active = λ area. h.active;
@@ -303,11 +340,15 @@ leaders_are_lawful x step l c h k next unheld =
               resource = l.resource;
               verified = subst (λ z. HasVerified x.setting x.trace x.session z l.resource) (sym k.spot) verified;
               placed = ap (λ z. let o : Option ℕ = Some (leader_offset z.base) in o) k.spot ∙ ap (λ n. Some n) (sym k.place);
+              format = ap (λ z. not z) h.plain;
+              named = λ p pair. absurd (none_some p.turn (ap (λ z. turn_of_record z) pair));
             }),
       );
       alone = λ works. alone_there x c h k.spot;
       reads = subst (λ p. IsRightRead x.setting (spot_of_call x.setting.layout c) c p) (sym k.for) (write_step x step c (LeaderIs l) k.does m.writing);
       sees = λ is. absurd (lease_sees c x.work step k.for is);
+      again = λ is. absurd (true_is_false (sym is ∙ write_first c x.work step m.writing k.for));
+      turn = λ turn is. absurd (none_some turn (sym (ap (λ o. option_and_then turn_of_record (record_of o)) k.does) ∙ is));
       block = λ b is. absurd (no_value b (block_written c) is (leader_is_no_block c l k.does));
       phase2 = λ at. absurd (no_phase2_read x c step m.writing at k.for);
       leader = λ z is.

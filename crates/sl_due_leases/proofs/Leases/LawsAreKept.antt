@@ -23,7 +23,8 @@ use Rattle.sl_due_leases.proofs.Ways.Kept.HeardStands.{heard_has, lease_heard, l
 use Rattle.sl_due_leases.proofs.Ways.Kept.LeaseNextsLeave.{IsLate, moment_of}
 use Rattle.sl_due_leases.proofs.Ways.Kept.PlainWalks.{exited, left, refusal, removal_of_refused, sent, stopped}
 use Rattle.sl_due_leases.proofs.Ways.Kept.UnjoinedHaveNone.{its_joining, joins_still}
-use Rattle.sl_due_leases.proofs.Ways.NextsFit.AnswersFit.{answers_fit}
+use Rattle.sl_due_facts.proofs.Jobs.PlainNexts.{next_plain}
+use Rattle.sl_due_leases.proofs.Ways.Kept.DecidedFits.{heard_fits}
 use Rattle.sl_due_leases.specs.Ways.Nexts.{NextIs}
 use Rattle.sl_trace.specs.Jobs.{aim_of, aim_of_command, command_numbered, job_of_start, process_named}
 use Rattle.sl_trace.specs.LeaseWork.{lease_place}
@@ -60,10 +61,11 @@ so_far x w = lawful_by x (record { area = w.orderly.area.0; block = w.orderly.bl
 
 -- ---- after an answer to a lease's call
 
-not_settles : (x : Step) (s : Session) (at : Spot) (m : Submitted) (step : LeaseStep) (a : Answer) (aim : Aim) → aim ≡ Settles → turns (next_of_lease x.setting (seen x) s at aim m step a) ≡ true → ⊥
-not_settles x s at m step a aim is turned =
+not_settles : (x : Step) → x.setting.layout.paired ≡ false → (s : Session) (at : Spot) (m : Submitted) (step : LeaseStep) (a : Answer) (aim : Aim) → aim ≡ Settles → turns (next_of_lease x.setting (seen x) s at aim m step a) ≡ true → ⊥
+not_settles x plain s at m step a aim is turned =
     true_is_false (sym (ap (λ z. turns (next_of_lease x.setting (seen x) s at z m step a)) (sym is) ∙ turned)
-    ∙ settles_no_turn (lease_place x.setting s) (known x.setting (seen x) s at) m.call.number (lver_written m) step a)
+    ∙ (ap (λ n. turns n) (next_plain x.setting (seen x) s at Settles m step a plain)
+    ∙ settles_no_turn (lease_place x.setting s) (known x.setting (seen x) s at) m.call.number (lver_written m) step a))
 
 -- A conversion's holder is the command's.
 its_holder : (x : Step) (s : Session) (m : Submitted) (a : Answer) (step : LeaseStep) (j : ℕ) (aim : Aim) → (h : Hears x s m a) → m.call.purpose ≡ Lease (ForJob j) step → is_running (seen x) j ≡ true
@@ -77,7 +79,7 @@ its_holder x s m a step j aim h is runs aimed w turned g held = by (command_numb
   by_aim c command (Converts mode) same for = (w.facts.works.beside m j step c (Converts mode) g (at_work x s m a h j step is runs c command w) for held.there held.place).0
   by_aim c command (Acquires mode) same for = absurd ((w.facts.works.beside m j step c (Acquires mode) g (at_work x s m a h j step is runs c command w) for held.there held.place).2 same_session)
   by_aim c command Releases same for = absurd ((w.facts.works.beside m j step c Releases g (at_work x s m a h j step is runs c command w) for held.there held.place) same_session)
-  by_aim c command Settles same for = absurd (not_settles x s (spot_of_call x.setting.layout m) m step a aim same turned)
+  by_aim c command Settles same for = absurd (not_settles x w.setting.unpaired s (spot_of_call x.setting.layout m) m step a aim same turned)
 
   by : (o : Option Command) → command_numbered x.setting (seen x) j ≡ o → option_and_then aim_of_command o ≡ Some aim → (c : Command) × (command_numbered x.setting (seen x) j ≡ Some c) × (process_named c ≡ Some g.process)
   by None command for = absurd (none_some aim for)
@@ -90,7 +92,7 @@ turned_next : (x : Step) (s : Session) (work : Work) (step : LeaseStep) (m : Sub
 turned_next x s work step m a aim h is on aimed w may (BecomeExclusive lver b) same fits turned =
     exclusive_turns x s (spot_of_call x.setting.layout m) work h.number a h.heard h.bare (stand x w) may lver b fits
 turned_next x s Settling step m a aim h is on aimed w may (BecomeShared lver l) same fits turned =
-    absurd (not_settles x s (spot_of_call x.setting.layout m) m step a aim (some_value aim Settles (sym aimed)) (ap (λ z. turns z) same))
+    absurd (not_settles x w.setting.unpaired s (spot_of_call x.setting.layout m) m step a aim (some_value aim Settles (sym aimed)) (ap (λ z. turns z) same))
 turned_next x s (ForJob j) step m a aim h is on aimed w may (BecomeShared lver l) same fits turned =
     shared_turns x s (spot_of_call x.setting.layout m) j h.number a h.heard h.bare h.unended h.ungranted (stand x w) may w.facts.holdings lver l fits
     (its_holder x s m a step j aim h is on aimed w (ap (λ z. turns z) same))
@@ -107,9 +109,7 @@ led : (x : Step) (s : Session) (work : Work) (step : LeaseStep) (m : Submitted) 
 led x s work step m a aim h is on aimed w working =
     let at : Spot = spot_of_call x.setting.layout m in
     let k = lease_heard x s work step m a aim h is on aimed w in
-    let fits : NextIs (moment_of x s at work) (next_of_lease x.setting (seen x) s at aim m step a) =
-    subst (λ (z : Submitted). NextIs (moment_of x s at work) (next_of_lease x.setting (seen x) s at aim z step a)) k.1 (answers_fit (moment_of x s at work) step aim a k.0)
-    in
+    let fits : NextIs (moment_of x s at work) (next_of_lease x.setting (seen x) s at aim m step a) = heard_fits x s work step m a aim h is on aimed w in
     let active : is_active x.setting (seen x) s ≡ true = by work is on in
     let may : LeaseMay x s at = record { ready = lease_ready x s m a h (ap (λ p. is_area_work p) is) w; active = active; ways = k.0.ways } in
     led_stays x s work step m a aim h is on aimed active w (turned_next x s work step m a aim h is on aimed w may (next_of_lease x.setting (seen x) s at aim m step a) refl fits)
@@ -135,6 +135,8 @@ seen_request x s at g has is w =
       alone = λ works. absurd (false_is_true works);
       reads = tt;
       sees = λ p. (and_true (is_some (joined_after (seen x) s)) (is_none (removed_after (seen x) s)) joined).0;
+      again = λ is. absurd (false_is_true is);
+      turn = λ n writes. absurd (none_some n writes);
       block = λ b writes. absurd (none_some b writes);
       phase2 = λ reads. absurd (false_is_true reads);
       leader = λ l writes. absurd (none_some l writes);

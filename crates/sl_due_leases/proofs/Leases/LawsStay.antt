@@ -10,14 +10,14 @@ use Rattle.sl_run.specs.LawfulArea.{is_area_work, is_block_work, is_delta_record
 use Rattle.sl_run.specs.LawfulLeader.{holds_under}
 use Rattle.sl_run.specs.Saying.{cut_at}
 use Rattle.sl_due_leases.proofs.Leases.CallsCarried.{Carried, lawful_carried}
-use Rattle.sl_due_leases.proofs.Leases.OthersKeep.{LawfulSoFar, plain_at}
+use Rattle.sl_due_leases.proofs.Leases.OthersKeep.{LawfulSoFar, plain_again, plain_at}
 use Rattle.sl_due_leases.specs.Leases.LeaseLawful.{LeaseLawful}
 use Rattle.sl_due_leases.proofs.Ways.Kept.CallsSame.{counted_more, counts_more, joined_stays, reply_stays}
 use Rattle.sl_due_leases.proofs.Ways.Kept.EffectsLeave.{made_call}
 use Rattle.sl_due_leases.proofs.Ways.Kept.PlacesStand.{either_list}
-use Rattle.sl_sector.specs.declared.sector.Rec.TheVariants.{BlockIs, DeltaIs, LeaderIs, RequestIs, ValueIs}
+use Rattle.sl_sector.specs.declared.sector.Rec.TheVariants.{BlockIs, DeltaIs, LeaderIs, PairIs, PairLeaderIs, RequestIs, ValueIs}
 use Rattle.sl_sector.specs.declared.sector.Rec.{Rec}
-use Rattle.sl_trace.specs.Leases.{holdings_on, leader_of_record, lease_step, spot_of_call}
+use Rattle.sl_trace.specs.Leases.{holdings_on, leader_of_record, lease_step, spot_of_call, turn_of_record}
 use Rattle.sl_run.specs.LawfulBlock.{LawfulBlockStep}
 use Rattle.sl_due_facts.proofs.Parts.CallsGrow.{any_more, each_more}
 use Rattle.sl_due_facts.specs.Parts.Parts.{with_end, with_move, with_reply}
@@ -197,6 +197,8 @@ plain_stays st t u s c none joined h =
       alone = λ works. absurd (true_is_false (sym (and_true (is_block_work c) (is_area_work c.call.purpose) works).1 ∙ none));
       reads = h.reads;
       sees = λ is. joined (h.sees is);
+      again = λ is. absurd (plain_again c.call.purpose none is);
+      turn = λ turn is. absurd (true_is_false (sym (of_turn turn (record_of c.call.op) refl is (λ r at plain. (h.writes r at plain).0)) ∙ none));
       block = λ b is. absurd (no_block b c.call.purpose none (h.block b is));
       phase2 = λ at. absurd (plain_at c.call.purpose none at);
       leader = λ l is. absurd (true_is_false (sym (of_leader l (record_of c.call.op) refl is (λ r at plain. (h.writes r at plain).0)) ∙ none));
@@ -222,6 +224,19 @@ plain_stays st t u s c none joined h =
     of_leader l (Some (DeltaIs k)) at is h = absurd (none_some l is)
     of_leader l (Some (RequestIs k)) at is h = absurd (none_some l is)
     of_leader l (Some (ValueIs k)) at is h = absurd (none_some l is)
+    of_leader l (Some (PairIs k)) at is h = absurd (none_some l is)
+    of_leader l (Some (PairLeaderIs k)) at is h = h (PairLeaderIs k) at refl
+
+    of_turn : (turn : ℕ) (o : Option Rec) → record_of c.call.op ≡ o → option_and_then turn_of_record o ≡ Some turn → ((r : Rec) → record_of c.call.op ≡ Some r → is_delta_record r ≡ false → is_area_work c.call.purpose ≡ true)
+        → is_area_work c.call.purpose ≡ true
+    of_turn turn None at is h = absurd (none_some turn is)
+    of_turn turn (Some (LeaderIs k)) at is h = absurd (none_some turn is)
+    of_turn turn (Some (BlockIs k)) at is h = absurd (none_some turn is)
+    of_turn turn (Some (DeltaIs k)) at is h = absurd (none_some turn is)
+    of_turn turn (Some (RequestIs k)) at is h = absurd (none_some turn is)
+    of_turn turn (Some (ValueIs k)) at is h = absurd (none_some turn is)
+    of_turn turn (Some (PairIs k)) at is h = h (PairIs k) at refl
+    of_turn turn (Some (PairLeaderIs k)) at is h = absurd (none_some turn is)
 
 -- No session whose work on an area the entry calls loses its connection by the move.
 abbrev pub Spares : Step → Move → Type 0

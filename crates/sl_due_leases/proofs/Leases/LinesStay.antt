@@ -1,7 +1,7 @@
 -- What a command came to keeps the laws of areas, blocks and leaders; so does the request that is written after its read.
 use Rattle.sl_acts.proofs.DecisionsAreTheirs.{Of, decisions_are_theirs}
 use Rattle.sl_acts.proofs.PlainActs.{line_has}
-use Rattle.sl_acts.specs.Acts.{Has, Hears}
+use Rattle.sl_acts.specs.Acts.{Has, Hears, next_of_conversion, next_of_release}
 use Rattle.sl_acts.specs.Promises.{IsDecidedFor}
 use Rattle.sl_acts.specs.SoFar.{entry_of}
 use Rattle.sl_area.specs.Places.{in_area, leader_of, read_at, request_offset, value_offset}
@@ -26,18 +26,19 @@ use Rattle.sl_due_leases.proofs.Ways.Kept.DecisionsAreClear.{DecidedOn, IsAsked,
 use Rattle.sl_due_leases.proofs.Ways.Kept.EffectsLeave.{made_call, there_has}
 use Rattle.sl_due_leases.proofs.Ways.Kept.HeardStands.{HeardCall, heard_call, lease_ready, spot_same}
 use Rattle.sl_due_leases.proofs.Ways.Kept.InputsLeave.{input_sessions, quiet_inputs_leave, quiet_same}
-use Rattle.sl_due_leases.proofs.Ways.Kept.LeaseNextsLeave.{HasEnded, LeaseReady, moment_of}
+use Rattle.sl_due_leases.proofs.Ways.Kept.LeaseNextsLeave.{HasEnded, LeaseReady}
 use Rattle.sl_due_leases.proofs.Ways.Kept.LinesKeep.{ended_ready, ended_still, held_ended, line_command}
 use Rattle.sl_due_leases.proofs.Ways.Kept.LinesReady.{line_ready, on_own}
 use Rattle.sl_due_leases.proofs.Ways.Kept.PlacesStand.{place_is_on, placed_on, spot_is}
 use Rattle.sl_due_leases.proofs.Ways.Kept.PlainWalks.{granting, stopped}
-use Rattle.sl_due_leases.proofs.Ways.NextsFit.AnswersFit.{conversions_fit, releases_fit}
+use Rattle.sl_due_facts.proofs.Jobs.PlainNexts.{conversion_plain, release_plain}
+use Rattle.sl_due_leases.proofs.Ways.Kept.DecidedFits.{conversion_fits, release_fits}
 use Rattle.sl_due_leases.proofs.Ways.WayNumbers.{is_verified}
 use Rattle.sl_due_leases.proofs.Ways.WayStages.{is_at_in}
 use Rattle.sl_trace.specs.Ballots.{moded_block}
 use Rattle.sl_trace.specs.Jobs.{aim_of, aim_of_command, command_numbered, resource_named}
 use Rattle.sl_trace.specs.LeaseWork.{convert_next, lease_place, release_next}
-use Rattle.sl_trace.specs.Leases.{Phase2_read, block_of_record, block_submitted, holdings_on, is_lease_call, is_leader_of, is_on, kind_of_step, same_kind, known, lease_calls, lease_step, leader_of_record, spot_of, spot_of_call, verified_name}
+use Rattle.sl_trace.specs.Leases.{Phase2_read, block_of_record, block_submitted, holdings_on, is_lease_call, is_leader_of, is_on, is_second, kind_of_step, same_kind, known, lease_calls, lease_step, leader_of_record, spot_of, spot_of_call, turn_of_record, verified_name}
 use Rattle.sl_trace.specs.declared.lease.Aim.TheVariants.{Converts, Releases}
 use Rattle.sl_trace.specs.declared.lease.LeaseNext.TheVariants.{Nothing, WriteBlock}
 use Rattle.sl_trace.specs.declared.lease.LeaseNext.{LeaseNext}
@@ -142,14 +143,21 @@ no_step p none at = by (lease_step p) none at where
   by None n a = false_is_true a
   by (Some q) n a = true_is_false n
 
+no_second : (p : Purpose) → is_some (lease_step p) ≡ false → some_is (λ q. is_second q.1) (lease_step p) ≡ true → ⊥
+no_second p none again = by (lease_step p) none again where
+  by : (o : Option (Work × LeaseStep)) → is_some o ≡ false → some_is (λ q. is_second q.1) o ≡ true → ⊥
+  by None n a = false_is_true a
+  by (Some q) n a = true_is_false n
+
 sees_area : (p : Purpose) → is_area_work p ≡ true → p ≡ SeeRequest → ⊥
 sees_area p area is = true_is_false (sym area ∙ ap (λ q. is_area_work q) is)
 
 area_call : (x : Step) (s : Session) (at : Spot) → LeaseMay x s at → (p : Purpose) (o : ℕ) (op : Op) → is_area_work p ≡ true → is_some (lease_step p) ≡ false → is_join_call FirstRead p ≡ false → in_area x.setting.layout at.base o ≡ true
     → ((c : Submitted) → c.call.offset ≡ o → c.call.op ≡ op → IsRightRead x.setting at c p)
     → ((r : Rec) → record_of op ≡ Some r → (c : Submitted) → c.call.offset ≡ o → spot_of_call x.setting.layout c ≡ at → LawfulAreaWrite x.setting (seen x) s c r)
-    → option_and_then block_of_record (record_of op) ≡ None → option_and_then leader_of_record (record_of op) ≡ None → LawfulSoFar x → LawfulSoFar (add_call_of s.number at.path p o op x)
-area_call x s at may p o op area none later inside reads writes no_block no_leader h =
+    → option_and_then block_of_record (record_of op) ≡ None → option_and_then leader_of_record (record_of op) ≡ None → option_and_then turn_of_record (record_of op) ≡ None → LawfulSoFar x
+    → LawfulSoFar (add_call_of s.number at.path p o op x)
+area_call x s at may p o op area none later inside reads writes no_block no_leader no_turn h =
     let c : Submitted = new_call (length x.past) x.reading (made_call x s.number at.path p o op) in
     let spot : spot_of_call x.setting.layout c ≡ at = spot_is x.setting.layout at c may.ready.aligned (placed_on x.setting at (made_call x s.number at.path p o op) refl inside) in
     calls_stay x s at.path p o op may.ready.has later
@@ -159,6 +167,8 @@ area_call x s at may p o op area none later inside reads writes no_block no_lead
       alone = λ works. ap (λ z. open_block_work x.setting (seen x) s z) spot ∙ works_clear x s at may.ready;
       reads = subst (λ z. IsRightRead x.setting z c p) (sym spot) (reads c refl refl);
       sees = λ is. absurd (sees_area p area is);
+      again = λ is. absurd (no_second p none is);
+      turn = λ turn is. absurd (no_value turn (option_and_then turn_of_record (record_of op)) is no_turn);
       block = λ b is. absurd (no_value b (option_and_then block_of_record (record_of op)) is no_block);
       phase2 = λ reads. absurd (no_step p none reads);
       leader = λ l is. absurd (no_value l (option_and_then leader_of_record (record_of op)) is no_leader);
@@ -177,12 +187,13 @@ request_in_area x s at h = place_is_on x.setting h.ready.setting at.base request
 
 release_stays : (z : Step) (s : Session) (at : Spot) (j : ℕ) (g : Grant) → LeaseMay z s at → aim_of z.setting (seen z) (ForJob j) ≡ Some Releases → (g.mode ≡ Exclusive → HasEnded z s at g.lver) → z.effects.calls ≡ []
     → (hs : List Grant) → holdings_on (seen z) s at ≡ hs
-    → LawfulSoFar (elim hs as (λ w. Step) [ h ∷ rest ↦ add_reply j Done z | [] ↦ carry_lease s at (ForJob j) (release_next (lease_place z.setting s) (known z.setting (seen z) s at) g.mode g.lver) z ])
+    → LawfulSoFar (elim hs as (λ w. Step) [ h ∷ rest ↦ add_reply j Done z | [] ↦ carry_lease s at (ForJob j) (next_of_release z.setting (seen z) s at g) z ])
 release_stays z s at j g may aimed ended bare (h ∷ rest) is = bare_lawful (add_reply j Done z) bare
 release_stays z s at j g may aimed ended bare [] is =
-    let n : LeaseNext = release_next (lease_place z.setting s) (known z.setting (seen z) s at) g.mode g.lver in
-    next_stays z s at may (ForJob j) (inl bare) n (releases_fit (moment_of z s at (ForJob j)) g.mode g.lver aimed (λ exclusive. (ended exclusive).0) (λ exclusive. (ended exclusive).1))
-    (λ step l next free. ap (λ gs. list_any (λ (k : Grant). not (is_shared k.mode) && k.lver == l.lver) gs) is) (λ is. absurd (true_is_false (sym is ∙ unturned g.mode))) (bare_lawful z bare)
+    let n : LeaseNext = next_of_release z.setting (seen z) s at g in
+    let same : n ≡ release_next (lease_place z.setting s) (known z.setting (seen z) s at) g.mode g.lver = release_plain z.setting (seen z) s at g may.ready.setting.unpaired in
+    next_stays z s at may (ForJob j) (inl bare) n (release_fits z s at (ForJob j) g may.ready.setting.unpaired aimed ended)
+    (λ step l next free. ap (λ gs. list_any (λ (k : Grant). not (is_shared k.mode) && k.lver == l.lver) gs) is) (λ is. absurd (true_is_false (sym is ∙ (ap (λ y. turns y) same ∙ unturned g.mode)))) (bare_lawful z bare)
   where
     by_own : (o : Option Block) → turns (option_map_or (λ own. WriteBlock ClearMode (moded_block own false 0)) o Nothing) ≡ false
     by_own None = refl
@@ -193,10 +204,13 @@ release_stays z s at j g may aimed ended bare [] is =
     unturned Shared = by_own (known z.setting (seen z) s at).own
 
 conversion_stays : (y : Step) (s : Session) (at : Spot) (j : ℕ) (mode : Mode) (name : List ℕ) → LeaseMay y s at → aim_of y.setting (seen y) (ForJob j) ≡ Some (Converts mode) → y.effects.calls ≡ []
-    → LawfulSoFar (carry_lease s at (ForJob j) (convert_next (known y.setting (seen y) s at) mode name) y)
+    → LawfulSoFar (carry_lease s at (ForJob j) (next_of_conversion y.setting (seen y) s at mode name) y)
 conversion_stays y s at j mode name may aimed bare =
-    next_stays y s at may (ForJob j) (inl bare) (convert_next (known y.setting (seen y) s at) mode name) (conversions_fit (moment_of y s at (ForJob j)) mode name aimed)
-    (λ step l next free. absurd (true_is_false (sym (ap (λ n. is_leader_next n) next) ∙ unleading mode))) (λ is. absurd (true_is_false (sym is ∙ unturned mode))) (bare_lawful y bare)
+    let n : LeaseNext = next_of_conversion y.setting (seen y) s at mode name in
+    let same : n ≡ convert_next (known y.setting (seen y) s at) mode name = conversion_plain y.setting (seen y) s at mode name may.ready.setting.unpaired in
+    next_stays y s at may (ForJob j) (inl bare) n (conversion_fits y s at (ForJob j) mode name may.ready.setting.unpaired aimed)
+    (λ step l next free. absurd (true_is_false (sym (ap (λ z. is_leader_next z) next) ∙ (ap (λ z. is_leader_next z) same ∙ unleading mode))))
+    (λ is. absurd (true_is_false (sym is ∙ (ap (λ z. turns z) same ∙ unturned mode)))) (bare_lawful y bare)
   where
     own_turns : (o : Option Block) (n : ℕ) → turns (option_map_or (λ own. WriteBlock SetMode (moded_block own true n)) o Nothing) ≡ false
     own_turns None n = refl
@@ -231,7 +245,7 @@ holder_verified x text s at g wake bare has may on exclusive w =
     ap (λ ms. block_submitted ms) same ∙ subst (λ z. block_submitted (lease_calls x.setting (seen x) s z) ≡ Some stands.own) (spot_same g at held.place) stands.known
     in (
       verified_name x.setting.layout s.lockspace (lease_calls x.setting (seen y) s at),
-      has_verified x.setting (seen y) s at (is_verified (way_context x.setting (seen y) s) (lease_calls x.setting (seen y) s at) may.ways stands.own knows),
+      has_verified x.setting w.setting.unpaired (seen y) s at may.ways (is_verified (way_context x.setting (seen y) s) w.setting.unpaired (lease_calls x.setting (seen y) s at) may.ways stands.own knows),
     )
 
 -- ---- all lines
@@ -267,7 +281,7 @@ carried x text c (GivesUp s g) wake bare reads on its has none w =
     } in
     subst (λ at. LawfulSoFar (elim (holdings_on (seen (add_end (end_of g) y)) s at) as (λ v. Step) [
       | h ∷ rest ↦ add_reply j Done (add_end (end_of g) y)
-      | [] ↦ carry_lease s at (ForJob j) (release_next (lease_place x.setting s) (known x.setting (seen (add_end (end_of g) y)) s at) g.mode g.lver) (add_end (end_of g) y)
+      | [] ↦ carry_lease s at (ForJob j) (next_of_release x.setting (seen (add_end (end_of g) y)) s at g) (add_end (end_of g) y)
     ])) (sym held.0)
     (release_stays (add_end (end_of g) y) s (spot_of r) j g after aimed (λ exclusive. ended_still x text s (spot_of r) g.lver wake (held.1 exclusive)) bare
     (holdings_on (seen (add_end (end_of g) y)) s (spot_of r)) refl)
@@ -279,7 +293,7 @@ carried x text c (ConvertsTo s r mode) wake bare reads on its has none w =
 carried x text c (Requests s r) wake bare reads on its has none w =
     let y : Step = with_input (Line text) x in
     let may : LeaseMay y s (spot_of r) = line_may x text c s r wake bare reads on has w in
-    area_call y s (spot_of r) may (RequestRead (next_job x.setting (seen x))) r.offset (ReadSectors 2) refl refl refl (leader_in y s (spot_of r) may) (λ d place does. (place, does)) (λ k is. absurd (none_some k is)) refl refl (bare_lawful y bare)
+    area_call y s (spot_of r) may (RequestRead (next_job x.setting (seen x))) r.offset (ReadSectors 2) refl refl refl (leader_in y s (spot_of r) may) (λ d place does. (place, does)) (λ k is. absurd (none_some k is)) refl refl refl (bare_lawful y bare)
 carried x text c (SetsValue s at v) wake bare reads on its has none w =
     let y : Step = with_input (Line text) x in
     let in_x : Has x s = sym (ap (λ ss. slice_get ss s.number) (input_sessions x (Line text) bare)) ∙ has in
@@ -291,11 +305,13 @@ carried x text c (SetsValue s at v) wake bare reads on its has none w =
       resource = verified.0;
       verified = subst (λ z. HasVerified x.setting (seen y) s z verified.0) (sym spot) verified.1;
       placed = ap (λ z. let o : Option ℕ = Some (value_offset x.setting.layout z.base) in o) spot ∙ ap (λ n. Some n) (sym place);
-    })) refl refl (bare_lawful y bare)
+      format = refl;
+      named = λ p pair. absurd (none_some p.turn (ap (λ z. turn_of_record z) pair));
+    })) refl refl refl (bare_lawful y bare)
 carried x text c (GetsValue s at) wake bare reads on its has none w =
     let y : Step = with_input (Line text) x in
     let may : LeaseMay y s at = subst (λ z. LeaseMay y s z) (sym on.2) (line_may x text c s on.0 wake bare reads on.1 has w) in
-    area_call y s at may (ValueRead (next_job x.setting (seen x))) (value_offset x.setting.layout at.base) (ReadSectors 1) refl refl refl (value_in_area y s at may) (λ d place does. tt) (λ k is. absurd (none_some k is)) refl refl (bare_lawful y bare)
+    area_call y s at may (ValueRead (next_job x.setting (seen x))) (value_offset x.setting.layout at.base) (ReadSectors 1) refl refl refl (value_in_area y s at may) (λ d place does. tt) (λ k is. absurd (none_some k is)) refl refl refl (bare_lawful y bare)
 
 pub lines_stay : (x : Step) (text : List ℕ) (c : Command) (d : Decision) → x.input ≡ Wake → x.effects.calls ≡ [] → x.setting.read text ≡ Ok c → decided x.setting (seen x) x.reading c ≡ d → reply_at_once d ≡ None → Whole x
     → LawfulSoFar (carry_decision (next_job x.setting (seen x)) c d (with_input (Line text) x))
@@ -345,10 +361,10 @@ read_verified x s m j bytes r h is w n =
     ap (λ o. option_and_then (leader_of x.setting.layout) (option_and_then (λ (a : Answered). bytes_given a.answer) o)) c.told ∙ n.spelled
     in (
       n.leader,
-      mapped_inside (λ (d : Submitted). option_and_then (leader_of x.setting.layout) (gave d)) (filter (λ (d : Submitted). is_leader_read d.call.purpose && is_on x.setting.layout (spot_of_call x.setting.layout m) d.call) (calls_of (seen x) s)) m n.leader
+      inl (mapped_inside (λ (d : Submitted). option_and_then (leader_of x.setting.layout) (gave d)) (filter (λ (d : Submitted). is_leader_read d.call.purpose && is_on x.setting.layout (spot_of_call x.setting.layout m) d.call) (calls_of (seen x) s)) m n.leader
           (kept (λ (d : Submitted). is_leader_read d.call.purpose && is_on x.setting.layout (spot_of_call x.setting.layout m) d.call) (calls_of (seen x) s) m
           (and_from (is_leader_read m.call.purpose) (is_on x.setting.layout (spot_of_call x.setting.layout m) m.call) (ap (λ p. is_leader_read p) is) (on_own x.setting w.setting m))
-          (kept (is_call_of s) (submitted (seen x)) m its c.there)) gives,
+          (kept (is_call_of s) (submitted (seen x)) m its c.there)) gives),
       n.names,
     )
 
@@ -372,5 +388,7 @@ requested x s m j bytes (Request r asked force) h is command active w = by (requ
         resource = r.name;
         verified = subst (λ z. HasVerified x.setting (seen x) s z r.name) (sym at) verified;
         placed = ap (λ z. let o : Option ℕ = Some (request_offset x.setting.layout z.base) in o) at ∙ ap (λ n. Some n) (sym place);
-      })) refl refl (bare_lawful x h.bare)
+        format = refl;
+        named = λ p pair. absurd (none_some p.turn (ap (λ z. turn_of_record z) pair));
+      })) refl refl refl (bare_lawful x h.bare)
 requested x s m j bytes c h is command active w = bare_lawful x h.bare

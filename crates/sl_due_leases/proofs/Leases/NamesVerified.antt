@@ -2,28 +2,29 @@
 use Rattle.sl_area.specs.Layouts.{Layout}
 use Rattle.sl_area.specs.Places.{leader_of}
 use Rattle.sl_run.specs.LawfulArea.{HasVerified, is_leader_read}
+use Rattle.sl_due_leases.proofs.Ways.GivenReads.{leader_spells, none_again}
 use Rattle.sl_due_leases.proofs.Ways.NewestCall.{submitted_here, submitted_passed}
 use Rattle.sl_due_leases.proofs.Ways.WayNumbers.{EndsBy, ends_by}
-use Rattle.sl_trace.specs.Leases.{block_submitted, block_written, ended_ballot, ended_ballots, is_lease_call, is_leader_of, is_on, lease_calls, name_sought, verified_by, verified_name}
+use Rattle.sl_trace.specs.Leases.{block_submitted, block_written, ended_ballot, ended_ballots, is_again, is_lease_call, is_leader_of, is_on, is_second, leader_given, lease_calls, lease_step, name_sought, verified_by, verified_name}
 use Rattle.sl_sector.specs.declared.sector.Block.{Block}
 use Rattle.sl_sector.specs.declared.sector.Leader.{Leader}
 use Rattle.sl_sector.specs.declared.sector.Owner.{Owner}
 use Rattle.sl_trace.specs.Sessions.{calls_of}
 use Rattle.sl_trace.specs.declared.session.Session.{Session}
-use Rattle.sl_due_facts.specs.Facts.WayFacts.{IsVerified, way_context}
+use Rattle.sl_due_facts.specs.Facts.WayFacts.{IsVerified, Ways, way_context}
 use Rattle.sl_trace.specs.Traces.{Setting, Submitted, Trace, gave}
-use Rattle.sl_trace.specs.declared.effects.LeaseStep.TheVariants.{ClearMode, FreeLeader, Phase1Read, Phase1Write, Phase2Read, Phase2Write, ReadArea, ReadBeforeFree, SetMode, TakeLeader}
+use Rattle.sl_trace.specs.declared.effects.LeaseStep.TheVariants.{ClearMode, FreeLeader, Phase1Read, Phase1Write, Phase2Read, Phase2Write, ReadAgain, ReadArea, ReadBeforeBlock, ReadBeforeFree, SetMode, TakeLeader}
 use Rattle.sl_trace.specs.declared.effects.Purpose.TheVariants.{Joining, Lease, Leaving, Renewal, RequestRead, RequestWrite, SeeRequest, Survey, ValueRead, ValueWrite}
 use Rattle.sl_trace.specs.declared.effects.Purpose.{Purpose}
 use Rattle.sl_trace.specs.declared.effects.Spot.{Spot}
 use Rattle.sl_plain.proofs.Lists.{contains_cases, contains_first, contains_more, contains_none, kept, kept_inside}
-use Rattle.sl_words.proofs.CaseLaws.{none_some, some_value}
+use Rattle.sl_words.proofs.CaseLaws.{none_some, some_value, true_is_false}
 use Rattle.sl_words.proofs.WordLaws.{and_true, choose_some}
-use Rattle.sl_words.specs.Words.{choose}
+use Rattle.sl_words.specs.Words.{choose, some_is}
 use Rattle.std.proofs.Common.{ap, inl, inr, refl, subst, sym, ◌∙◌}
 use Rattle.std.proofs.lemmas.Bool.{and_from}
 use Rattle.std.specs.List.{cons_option}
-use Rattle.std.specs.Prelude.{Contains, List, None, Option, Some, [], filter, filter_map, option_and_then, true, ℕ, ◌&&◌, ◌∷◌, ◌≡◌, ◌⊎◌}
+use Rattle.std.specs.Prelude.{Contains, List, None, Option, Some, [], false, filter, filter_map, option_and_then, true, ℕ, ◌&&◌, ◌++◌, ◌∷◌, ◌≡◌, ◌⊎◌}
 
 -- What a read that verifies a name has shown.
 record ShownBy (g : Layout) (lockspace : List ℕ) (m : Submitted) (name : List ℕ) : Type 0 where
@@ -32,52 +33,78 @@ record ShownBy (g : Layout) (lockspace : List ℕ) (m : Submitted) (name : List 
   gave_it : option_and_then (leader_of g) (gave m) ≡ Some leader
   named : is_leader_of g lockspace name leader ≡ true
 
-by_leader : (g : Layout) (lockspace : List ℕ) (m : Submitted) (sought name : List ℕ) → is_leader_read m.call.purpose ≡ true → (o : Option Leader) → option_and_then (leader_of g) (gave m) ≡ o
+by_leader : (g : Layout) → g.paired ≡ false → (lockspace : List ℕ) (m : Submitted) (ms : List Submitted) (sought name : List ℕ) → is_leader_read m.call.purpose ≡ true → (o : Option Leader) → leader_given g m ms ≡ o
     → elim o as (λ z. Option (List ℕ)) [ None ↦ None | Some l ↦ choose (is_leader_of g lockspace sought l) sought ] ≡ Some name → ShownBy g lockspace m name
-by_leader g lockspace m sought name reads None gave_it is = absurd (none_some name is)
-by_leader g lockspace m sought name reads (Some l) gave_it is =
+by_leader g plain lockspace m ms sought name reads None given is = absurd (none_some name is)
+by_leader g plain lockspace m ms sought name reads (Some l) given is =
     let both = choose_some (is_leader_of g lockspace sought l) sought name is in
-    record { read = reads; leader = l; gave_it = gave_it; named = subst (λ n. is_leader_of g lockspace n l ≡ true) both.1 both.0 }
+    record { read = reads; leader = l; gave_it = leader_spells g plain m ms l given; named = subst (λ n. is_leader_of g lockspace n l ≡ true) both.1 both.0 }
 
-by_sought : (g : Layout) (lockspace : List ℕ) (m : Submitted) (name : List ℕ) (p : Purpose) → m.call.purpose ≡ p
+by_sought : (g : Layout) → g.paired ≡ false → (lockspace : List ℕ) (m : Submitted) (ms : List Submitted) (name : List ℕ) → is_again m ≡ false → (p : Purpose) → m.call.purpose ≡ p
     → elim (name_sought p) as (λ z. Option (List ℕ)) [
       | None ↦ None
-      | Some n ↦ elim (option_and_then (leader_of g) (gave m)) as (λ z. Option (List ℕ)) [ None ↦ None | Some l ↦ choose (is_leader_of g lockspace n l) n ]
+      | Some n ↦ elim (leader_given g m ms) as (λ z. Option (List ℕ)) [ None ↦ None | Some l ↦ choose (is_leader_of g lockspace n l) n ]
     ] ≡ Some name → ShownBy g lockspace m name
-by_sought g lockspace m name (Lease work (ReadArea sought)) is h = by_leader g lockspace m sought name (ap (λ p. is_leader_read p) is) (option_and_then (leader_of g) (gave m)) refl h
-by_sought g lockspace m name (Lease work ReadBeforeFree) is h = absurd (none_some name h)
-by_sought g lockspace m name (Lease work Phase1Write) is h = absurd (none_some name h)
-by_sought g lockspace m name (Lease work Phase1Read) is h = absurd (none_some name h)
-by_sought g lockspace m name (Lease work Phase2Write) is h = absurd (none_some name h)
-by_sought g lockspace m name (Lease work Phase2Read) is h = absurd (none_some name h)
-by_sought g lockspace m name (Lease work TakeLeader) is h = absurd (none_some name h)
-by_sought g lockspace m name (Lease work SetMode) is h = absurd (none_some name h)
-by_sought g lockspace m name (Lease work FreeLeader) is h = absurd (none_some name h)
-by_sought g lockspace m name (Lease work ClearMode) is h = absurd (none_some name h)
-by_sought g lockspace m name (Joining j step) is h = absurd (none_some name h)
-by_sought g lockspace m name Renewal is h = absurd (none_some name h)
-by_sought g lockspace m name Survey is h = absurd (none_some name h)
-by_sought g lockspace m name (Leaving j) is h = absurd (none_some name h)
-by_sought g lockspace m name (RequestRead j) is h = absurd (none_some name h)
-by_sought g lockspace m name (RequestWrite j owner) is h = absurd (none_some name h)
-by_sought g lockspace m name SeeRequest is h = absurd (none_some name h)
-by_sought g lockspace m name (ValueWrite j) is h = absurd (none_some name h)
-by_sought g lockspace m name (ValueRead j) is h = absurd (none_some name h)
+by_sought g plain lockspace m ms name first (Lease work (ReadArea sought)) is h = by_leader g plain lockspace m ms sought name (ap (λ p. is_leader_read p) is) (leader_given g m ms) refl h
+by_sought g plain lockspace m ms name first (Lease work ReadBeforeFree) is h = absurd (none_some name h)
+by_sought g plain lockspace m ms name first (Lease work ReadBeforeBlock) is h = absurd (none_some name h)
+by_sought g plain lockspace m ms name first (Lease work (ReadAgain read)) is h = absurd (true_is_false (sym (ap (λ p. some_is (λ q. is_second q.1) (lease_step p)) is) ∙ first))
+by_sought g plain lockspace m ms name first (Lease work Phase1Write) is h = absurd (none_some name h)
+by_sought g plain lockspace m ms name first (Lease work Phase1Read) is h = absurd (none_some name h)
+by_sought g plain lockspace m ms name first (Lease work Phase2Write) is h = absurd (none_some name h)
+by_sought g plain lockspace m ms name first (Lease work Phase2Read) is h = absurd (none_some name h)
+by_sought g plain lockspace m ms name first (Lease work TakeLeader) is h = absurd (none_some name h)
+by_sought g plain lockspace m ms name first (Lease work SetMode) is h = absurd (none_some name h)
+by_sought g plain lockspace m ms name first (Lease work FreeLeader) is h = absurd (none_some name h)
+by_sought g plain lockspace m ms name first (Lease work ClearMode) is h = absurd (none_some name h)
+by_sought g plain lockspace m ms name first (Joining j step) is h = absurd (none_some name h)
+by_sought g plain lockspace m ms name first Renewal is h = absurd (none_some name h)
+by_sought g plain lockspace m ms name first Survey is h = absurd (none_some name h)
+by_sought g plain lockspace m ms name first (Leaving j) is h = absurd (none_some name h)
+by_sought g plain lockspace m ms name first (RequestRead j) is h = absurd (none_some name h)
+by_sought g plain lockspace m ms name first (RequestWrite j owner) is h = absurd (none_some name h)
+by_sought g plain lockspace m ms name first SeeRequest is h = absurd (none_some name h)
+by_sought g plain lockspace m ms name first (ValueWrite j) is h = absurd (none_some name h)
+by_sought g plain lockspace m ms name first (ValueRead j) is h = absurd (none_some name h)
 
-shown_by : (g : Layout) (lockspace : List ℕ) (m : Submitted) (name : List ℕ) → verified_by g lockspace m ≡ Some name → ShownBy g lockspace m name
-shown_by g lockspace m name is = by_sought g lockspace m name m.call.purpose refl is
+shown_by : (g : Layout) → g.paired ≡ false → (lockspace : List ℕ) (m : Submitted) (ms : List Submitted) (name : List ℕ) → is_again m ≡ false → verified_by g lockspace m ms ≡ Some name → ShownBy g lockspace m name
+shown_by g plain lockspace m ms name first is = by_sought g plain lockspace m ms name first m.call.purpose refl is
 
--- Some read verifies the name that is written.
-named_by : (g : Layout) (lockspace : List ℕ) (ms : List Submitted) (read : Submitted) (name : List ℕ) → Contains ms read → verified_by g lockspace read ≡ Some name
-    → (m : Submitted) × Contains ms m × (verified_by g lockspace m ≡ Some (verified_name g lockspace ms))
-named_by g lockspace [] read name there is = absurd (contains_none read there)
-named_by g lockspace (m ∷ ms) read name there is = by (verified_by g lockspace m) refl (contains_cases m ms read there) (λ rest. named_by g lockspace ms read name rest is) where
-  by : (o : Option (List ℕ)) → verified_by g lockspace m ≡ o → (m ≡ read) ⊎ Contains ms read
-      → (Contains ms read → (k : Submitted) × Contains ms k × (verified_by g lockspace k ≡ Some (verified_name g lockspace ms)))
-      → (k : Submitted) × Contains (m ∷ ms) k × (verified_by g lockspace k ≡ Some (elim o as (λ z. List ℕ) [ Some n ↦ n | None ↦ verified_name g lockspace ms ]))
-  by (Some n) found where_it rest = (m, contains_first m ms, found)
-  by None found (inl same) rest = absurd (none_some name (sym found ∙ (ap (λ z. verified_by g lockspace z) same ∙ is)))
-  by None found (inr inside) rest = let k = rest inside in (k.0, contains_more m ms k.0 k.1, k.2)
+-- A read that verifies the name that is written, with the calls before it.
+record Naming (g : Layout) (lockspace : List ℕ) (ms : List Submitted) : Type 0 where
+  read : Submitted
+  before : List Submitted
+  there : Contains ms read
+  verified : verified_by g lockspace read before ≡ Some (verified_name g lockspace ms)
+
+-- Some read does.
+named_by : (g : Layout) (lockspace : List ℕ) (newer : List Submitted) (read : Submitted) (before : List Submitted) (name : List ℕ) → verified_by g lockspace read before ≡ Some name → Naming g lockspace (newer ++ read ∷ before)
+named_by g lockspace [] read before name is = record { read = read; before = before; there = contains_first read before; verified = by (verified_by g lockspace read before) refl } where
+  by : (o : Option (List ℕ)) → verified_by g lockspace read before ≡ o → verified_by g lockspace read before ≡ Some (elim o as (λ z. List ℕ) [ Some n ↦ n | None ↦ verified_name g lockspace before ])
+  by (Some n) found = found
+  by None found = absurd (none_some name (sym found ∙ is))
+named_by g lockspace (m ∷ newer) read before name is = by (verified_by g lockspace m ms) refl (named_by g lockspace newer read before name is) where
+  ms : List Submitted
+  ms = newer ++ read ∷ before
+
+  here : (n : List ℕ) → verified_by g lockspace m ms ≡ Some n → Naming g lockspace (m ∷ ms)
+  here n found =
+      record {
+        read = m;
+        before = ms;
+        there = contains_first m ms;
+        verified = found ∙ ap (λ z. Some z) (sym (ap (λ o. elim o as (λ z. List ℕ) [ Some n ↦ n | None ↦ verified_name g lockspace ms ]) found));
+      }
+
+  by : (o : Option (List ℕ)) → verified_by g lockspace m ms ≡ o → Naming g lockspace ms → Naming g lockspace (m ∷ ms)
+  by (Some n) found rest = here n found
+  by None found rest =
+      record {
+        read = rest.read;
+        before = rest.before;
+        there = contains_more m ms rest.read rest.there;
+        verified = rest.verified ∙ ap (λ z. Some z) (sym (ap (λ o. elim o as (λ z. List ℕ) [ Some n ↦ n | None ↦ verified_name g lockspace ms ]) found));
+      }
 
 pub mapped_inside : {A B : Type 0} (f : A → Option B) (xs : List A) (x : A) (y : B) → Contains xs x → f x ≡ Some y → Contains (filter_map f xs) y
 mapped_inside f [] x y there is = absurd (contains_none x there)
@@ -89,15 +116,18 @@ mapped_inside {A} {B} f (a ∷ xs) x y there is = by (f a) refl (contains_cases 
   by None found (inr inside) rest = rest inside
 
 -- A lease that has verified a name has verified the one that it writes.
-pub has_verified : (st : Setting) (t : Trace) (s : Session) (at : Spot) → IsVerified (way_context st t s) (lease_calls st t s at) → HasVerified st t s at (verified_name st.layout s.lockspace (lease_calls st t s at))
-has_verified st t s at h =
-    let m = named_by st.layout s.lockspace (lease_calls st t s at) h.read h.name h.of_lease h.verified in
-    let shown : ShownBy st.layout s.lockspace m.0 (verified_name st.layout s.lockspace (lease_calls st t s at)) = shown_by st.layout s.lockspace m.0 (verified_name st.layout s.lockspace (lease_calls st t s at)) m.2 in
-    let inside = kept_inside (λ (d : Submitted). is_lease_call d && is_on st.layout at d.call) (calls_of t s) m.0 m.1 in
-    let on = and_true (is_lease_call m.0) (is_on st.layout at m.0.call) inside.1 in (
+pub has_verified : (st : Setting) → st.layout.paired ≡ false → (t : Trace) (s : Session) (at : Spot) → Ways (way_context st t s) (lease_calls st t s at) → IsVerified (way_context st t s) (lease_calls st t s at)
+    → HasVerified st t s at (verified_name st.layout s.lockspace (lease_calls st t s at))
+has_verified st plain t s at ways h =
+    let ms : List Submitted = lease_calls st t s at in
+    let k : Naming st.layout s.lockspace ms = subst (λ z. Naming st.layout s.lockspace z) (sym h.split) (named_by st.layout s.lockspace h.newer h.read h.before h.name h.verified) in
+    let first : is_again k.read ≡ false = none_again (way_context st t s) plain ms ways k.read k.there in
+    let shown : ShownBy st.layout s.lockspace k.read (verified_name st.layout s.lockspace ms) = shown_by st.layout plain s.lockspace k.read k.before (verified_name st.layout s.lockspace ms) first k.verified in
+    let inside = kept_inside (λ (d : Submitted). is_lease_call d && is_on st.layout at d.call) (calls_of t s) k.read k.there in
+    let on = and_true (is_lease_call k.read) (is_on st.layout at k.read.call) inside.1 in (
       shown.leader,
-      mapped_inside (λ (d : Submitted). option_and_then (leader_of st.layout) (gave d)) (filter (λ (d : Submitted). is_leader_read d.call.purpose && is_on st.layout at d.call) (calls_of t s)) m.0 shown.leader
-          (kept (λ (d : Submitted). is_leader_read d.call.purpose && is_on st.layout at d.call) (calls_of t s) m.0 (and_from (is_leader_read m.0.call.purpose) (is_on st.layout at m.0.call) shown.read on.1) inside.0) shown.gave_it,
+      inl (mapped_inside (λ (d : Submitted). option_and_then (leader_of st.layout) (gave d)) (filter (λ (d : Submitted). is_leader_read d.call.purpose && is_on st.layout at d.call) (calls_of t s)) k.read shown.leader
+          (kept (λ (d : Submitted). is_leader_read d.call.purpose && is_on st.layout at d.call) (calls_of t s) k.read (and_from (is_leader_read k.read.call.purpose) (is_on st.layout at k.read.call) shown.read on.1) inside.0) shown.gave_it),
       shown.named,
     )
 

@@ -1,7 +1,7 @@
 -- What a lease decides keeps the laws: where a leader is freed, its session doesn't hold under the instance.
 use Rattle.sl_acts.proofs.LoopsKeep.{with_some_keeps}
-use Rattle.sl_acts.specs.Acts.{Has, Hears}
-use Rattle.sl_area.specs.Places.{area_blocks, blocks_in, leader_of}
+use Rattle.sl_acts.specs.Acts.{Has, Hears, next_of_settling}
+use Rattle.sl_area.specs.Places.{blocks_of, leader_read}
 use Rattle.sl_due.specs.DueLease.{carry_lease, goes_on, next_of_lease}
 use Rattle.sl_due.specs.Steps.{Step, add_reply, seen}
 use Rattle.sl_run.specs.LawfulArea.{is_area_work}
@@ -13,12 +13,13 @@ use Rattle.sl_due_leases.proofs.Ways.Kept.HeardStands.{HeardCall, heard_call, he
 use Rattle.sl_due_leases.proofs.Ways.Kept.LeaseNextsLeave.{LeaseReady, moment_of}
 use Rattle.sl_due_leases.proofs.Ways.Kept.LinesReady.{none_open}
 use Rattle.sl_due_leases.proofs.Ways.Kept.PlainWalks.{ByPlain, granted}
-use Rattle.sl_due_leases.proofs.Ways.NextsFit.AnswersFit.{answers_fit, settlings_fit}
+use Rattle.sl_due_facts.proofs.Jobs.PlainNexts.{next_plain, settling_plain}
+use Rattle.sl_due_leases.proofs.Ways.Kept.DecidedFits.{heard_fits, settling_fits}
 use Rattle.sl_due_leases.specs.Ways.Nexts.{NextIs}
 use Rattle.sl_trace.specs.Ballots.{is_ahead, moded_block, phase1_block, same_owner, stop_of, value_of}
 use Rattle.sl_trace.specs.Jobs.{aim_of, aim_of_command, command_numbered}
-use Rattle.sl_trace.specs.LeaseWork.{LeasePlace, begin_or_refuse, leader_for, looks_for_shared, named_area_next, phase1_next, phase2_next, after_phase1, after_phase2, after_read, after_write, area_next, begin_next, lease_next, lease_place, refuses, settle_next, settle_owed, stopped_next, whole_area_next}
-use Rattle.sl_trace.specs.Leases.{LeaseKnown, Phase2_read, exclusive_on, holdings_on, instance_for, Area_read, Phase1_read, Phase1_write, Phase2_write, free_left, is_leader_of, known, lease_calls, lease_step, lver_written, mode_gen_of, open_on, owed, owed_free, own_known, shared_elsewhere, spot_of_call}
+use Rattle.sl_trace.specs.LeaseWork.{LeasePlace, begin_or_refuse, leader_for, looks_for_shared, named_area_next, phase1_next, phase2_next, after_bytes, after_phase1, after_phase2, after_read, after_write, area_next, asked_again, begin_next, first_step, heard, lease_next, lease_place, refuses, settle_next, settle_owed, stopped_next, whole_area_next}
+use Rattle.sl_trace.specs.Leases.{LeaseKnown, Phase2_read, exclusive_on, holdings_on, instance_for, Area_read, Phase1_read, Phase1_write, Phase2_write, free_left, is_leader_of, kind_of_step, known, lease_calls, lease_step, lver_written, mode_gen_of, open_on, owed, owed_free, own_known, same_kind, shared_elsewhere, spot_of_call}
 use Rattle.sl_trace.specs.declared.lease.Aim.TheVariants.{Acquires, Converts, Releases, Settles}
 use Rattle.sl_trace.specs.declared.lease.Aim.{Aim}
 use Rattle.sl_trace.specs.declared.lease.Instance.TheVariants.{Begins, HeldAlready}
@@ -39,7 +40,9 @@ use Rattle.sl_due_facts.specs.Facts.WorkFacts.{IsAtWork}
 use Rattle.sl_trace.specs.Traces.{Submitted, Trace, holdings, is_running, is_shared, same_place, spot_of_grant, work_job}
 use Rattle.sl_trace.specs.declared.command.Command.{Command}
 use Rattle.sl_trace.specs.declared.effects.Grant.{Grant}
-use Rattle.sl_trace.specs.declared.effects.LeaseStep.TheVariants.{ClearMode, FreeLeader, Phase1Read, Phase1Write, Phase2Read, Phase2Write, ReadArea, ReadBeforeFree, SetMode, TakeLeader}
+use Rattle.sl_trace.specs.declared.effects.LeaseStep.TheVariants.{ClearMode, FreeLeader, Phase1Read, Phase1Write, Phase2Read, Phase2Write, ReadAgain, ReadArea, ReadBeforeBlock, ReadBeforeFree, SetMode, TakeLeader}
+use Rattle.sl_trace.specs.declared.effects.LeaseRead.TheVariants.{OfArea, OfBlock, OfFree, OfPhase1, OfPhase2}
+use Rattle.sl_trace.specs.declared.effects.LeaseRead.{LeaseRead}
 use Rattle.sl_trace.specs.declared.effects.LeaseStep.{LeaseStep}
 use Rattle.sl_trace.specs.declared.effects.Mode.TheVariants.{Exclusive, Shared}
 use Rattle.sl_trace.specs.declared.effects.Mode.{Mode}
@@ -142,20 +145,20 @@ whole_plainly p k aim l read = by (own_known k) where
   by None = refl
   by (Some own) = instances_plainly p k aim (instance_for k l own read)
 
-areas_plainly : (p : LeasePlace) (k : LeaseKnown) (aim : Aim) (name bytes : List ℕ) → plainly (area_next p k aim name bytes) ≡ true
+areas_plainly : (p : LeasePlace) (k : LeaseKnown) (aim : Aim) (name : List ℕ) (leader : Option Leader) (read : List (Option Block)) → plainly (area_next p k aim name leader read) ≡ true
 unfolding area_next
-areas_plainly p k aim name bytes = by (leader_of p.layout bytes) where
-  torn : (l : Leader) (o : Option ℕ) → plainly (elim o as (λ z. LeaseNext) [ Some i ↦ AnswerJob (TornBlock (i + 1)) | None ↦ whole_area_next p k aim l (area_blocks p.layout bytes) ]) ≡ true
+areas_plainly p k aim name leader read = by leader where
+  torn : (l : Leader) (o : Option ℕ) → plainly (elim o as (λ z. LeaseNext) [ Some i ↦ AnswerJob (TornBlock (i + 1)) | None ↦ whole_area_next p k aim l read ]) ≡ true
   torn l (Some i) = refl
-  torn l None = whole_plainly p k aim l (area_blocks p.layout bytes)
+  torn l None = whole_plainly p k aim l read
 
-  named : (l : Leader) (b : Bool) → plainly (elim b as (λ z. LeaseNext) [ false ↦ AnswerJob (WrongArea l.lockspace l.resource l.num_hosts) | true ↦ named_area_next p k aim l (area_blocks p.layout bytes) ]) ≡ true
+  named : (l : Leader) (b : Bool) → plainly (elim b as (λ z. LeaseNext) [ false ↦ AnswerJob (WrongArea l.lockspace l.resource l.num_hosts) | true ↦ named_area_next p k aim l read ]) ≡ true
   named l false = refl
-  named l true = torn l (position (λ z. is_none z) (area_blocks p.layout bytes))
+  named l true = torn l (position (λ z. is_none z) read)
 
   by : (o : Option Leader) → plainly (elim o as (λ z. LeaseNext) [
     | None ↦ AnswerJob TornLeader
-    | Some l ↦ elim (is_leader_of p.layout p.lockspace name l) as (λ z. LeaseNext) [ false ↦ AnswerJob (WrongArea l.lockspace l.resource l.num_hosts) | true ↦ named_area_next p k aim l (area_blocks p.layout bytes) ]
+    | Some l ↦ elim (is_leader_of p.layout p.lockspace name l) as (λ z. LeaseNext) [ false ↦ AnswerJob (WrongArea l.lockspace l.resource l.num_hosts) | true ↦ named_area_next p k aim l read ]
   ]) ≡ true
   by None = refl
   by (Some l) = named l (is_leader_of p.layout p.lockspace name l)
@@ -188,7 +191,7 @@ plain_turns n is = by (frees n) (turns n) is where
 data FreesBy (k : LeaseKnown) (aim : Aim) (step : LeaseStep) (n : LeaseNext) : Type 0 where
   No_free : frees n ≡ false → FreesBy k aim step n
   Of_acquire : (mode : Mode) → aim ≡ Acquires mode → FreesBy k aim step n
-  By_read : step ≡ Phase2Read → FreesBy k aim step n
+  By_read : same_kind (kind_of_step step) Phase2_read ≡ true → FreesBy k aim step n
   By_owed : ((to : LeaseStep) (l : Leader) → n ≡ WriteLeader to l → owed_free k ≡ Some l.lver) → FreesBy k aim step n
 
 abbrev pub is_leader_next : LeaseNext → Bool
@@ -210,20 +213,48 @@ unfolding lver_of_next
 owed_by p k None is to l at = absurd (false_is_true (ap (λ n. is_leader_next n) at))
 owed_by p k (Some n) is to l at = is ∙ ap (λ z. Some z) (ap (λ z. lver_of_next z) at)
 
-read_frees : (p : LeasePlace) (k : LeaseKnown) (aim : Aim) (bytes : List ℕ) (step : LeaseStep) → FreesBy k aim step (after_read p k aim bytes step)
-read_frees p k aim bytes (ReadArea name) = No_free (plain_frees (area_next p k aim name bytes) (areas_plainly p k aim name bytes))
-read_frees p k aim bytes ReadBeforeFree = By_owed (owed_by p k (owed_free k) refl)
-read_frees p k aim bytes Phase1Read = No_free (plain_frees _ (by k.own)) where
-  by : (o : Option Block) → plainly (option_map_or (λ own. after_phase1 p k aim own (blocks_in p.layout bytes) (stop_of own (blocks_in p.layout bytes))) o Nothing) ≡ true
+read_frees : (p : LeasePlace) (k : LeaseKnown) (aim : Aim) (leader : Option Leader) (read : List (Option Block)) (step : LeaseStep) → FreesBy k aim step (after_read p k aim leader read step)
+read_frees p k aim leader read (ReadArea name) = No_free (plain_frees (area_next p k aim name leader read) (areas_plainly p k aim name leader read))
+read_frees p k aim leader read ReadBeforeFree = By_owed (owed_by p k (owed_free k) refl)
+read_frees p k aim leader read ReadBeforeBlock = No_free (plain_frees (settle_next p k) (settles_plainly p k))
+read_frees p k aim leader read (ReadAgain again) = No_free refl
+read_frees p k aim leader read Phase1Read = No_free (plain_frees _ (by k.own)) where
+  by : (o : Option Block) → plainly (option_map_or (λ own. after_phase1 p k aim own read (stop_of own read)) o Nothing) ≡ true
   by None = refl
-  by (Some own) = phase1_plainly p k aim own (blocks_in p.layout bytes) (stop_of own (blocks_in p.layout bytes))
-read_frees p k aim bytes Phase2Read = By_read refl
-read_frees p k aim bytes Phase1Write = No_free refl
-read_frees p k aim bytes Phase2Write = No_free refl
-read_frees p k aim bytes TakeLeader = No_free refl
-read_frees p k aim bytes SetMode = No_free refl
-read_frees p k aim bytes FreeLeader = No_free refl
-read_frees p k aim bytes ClearMode = No_free refl
+  by (Some own) = phase1_plainly p k aim own read (stop_of own read)
+read_frees p k aim leader read Phase2Read = By_read refl
+read_frees p k aim leader read Phase1Write = No_free refl
+read_frees p k aim leader read Phase2Write = No_free refl
+read_frees p k aim leader read TakeLeader = No_free refl
+read_frees p k aim leader read SetMode = No_free refl
+read_frees p k aim leader read FreeLeader = No_free refl
+read_frees p k aim leader read ClearMode = No_free refl
+
+-- A read that is made once more frees as the first one does.
+kind_of_first : (step : LeaseStep) → kind_of_step (first_step step) ≡ kind_of_step step
+kind_of_first (ReadAgain (OfArea name)) = refl
+kind_of_first (ReadAgain OfFree) = refl
+kind_of_first (ReadAgain OfBlock) = refl
+kind_of_first (ReadAgain OfPhase1) = refl
+kind_of_first (ReadAgain OfPhase2) = refl
+kind_of_first step = refl
+
+again_frees : (k : LeaseKnown) (aim : Aim) (step : LeaseStep) (n : LeaseNext) → FreesBy k aim (first_step step) n → FreesBy k aim step n
+again_frees k aim step n (No_free none) = No_free none
+again_frees k aim step n (Of_acquire mode same) = Of_acquire mode same
+again_frees k aim step n (By_read is) = By_read (ap (λ z. same_kind z Phase2_read) (sym (kind_of_first step)) ∙ is)
+again_frees k aim step n (By_owed owes) = By_owed owes
+
+bytes_frees : (p : LeasePlace) (k : LeaseKnown) (aim : Aim) (bytes : List ℕ) (step : LeaseStep) → FreesBy k aim step (after_bytes p k aim bytes step)
+unfolding after_bytes
+bytes_frees p k aim bytes step = by (asked_again p.layout bytes step) where
+  by : (o : Option LeaseRead) → FreesBy k aim step (elim o as (λ z. LeaseNext) [
+    | Some read ↦ ReadFor (ReadAgain read)
+    | None ↦ after_read p k aim (leader_read p.layout bytes (heard p.layout k bytes step)) (blocks_of p.layout (heard p.layout k bytes step)) (first_step step)
+  ])
+  by (Some read) = No_free refl
+  by None =
+      again_frees k aim step _ (read_frees p k aim (leader_read p.layout bytes (heard p.layout k bytes step)) (blocks_of p.layout (heard p.layout k bytes step)) (first_step step))
 
 mapped_none : (o : Option Block) (f : Block → LeaseNext) → ((b : Block) → frees (f b) ≡ false) → frees (option_map_or f o Nothing) ≡ false
 mapped_none None f h = refl
@@ -251,12 +282,14 @@ write_frees p k Releases n ClearMode = No_free refl
 write_frees p k Settles n ClearMode = No_free (plain_frees (settle_next p k) (settles_plainly p k))
 write_frees p k aim n (ReadArea name) = No_free refl
 write_frees p k aim n ReadBeforeFree = No_free refl
+write_frees p k aim n ReadBeforeBlock = No_free refl
+write_frees p k aim n (ReadAgain read) = No_free refl
 write_frees p k aim n Phase1Read = No_free refl
 write_frees p k aim n Phase2Read = No_free refl
 
 frees_by : (p : LeasePlace) (k : LeaseKnown) (aim : Aim) (call m : ℕ) (step : LeaseStep) (answer : Answer) → FreesBy k aim step (lease_next p k aim call m step answer)
 unfolding lease_next
-frees_by p k aim call m step (Read bytes) = read_frees p k aim bytes step
+frees_by p k aim call m step (Read bytes) = bytes_frees p k aim bytes step
 frees_by p k aim call m step Written = write_frees p k aim m step
 frees_by p k aim call m step Failed = No_free (plain_frees (refuses aim (IoFault call)) (refuses_plainly aim (IoFault call)))
 
@@ -325,9 +358,13 @@ at_work x s m a h j step is runs c command w =
       command = command;
     }
 
+or_last : (a b : Bool) → b ≡ true → (a || b) ≡ true
+or_last true b is = refl
+or_last false b is = is
+
 -- Nor while a ballot's read was just answered.
-unheld_read : (x : Step) (s : Session) (m : Submitted) (a : Answer) → (h : Hears x s m a) → (work : Work) → m.call.purpose ≡ Lease work Phase2Read → Whole x → (n : ℕ) → holds_under (seen x) s (spot_of_call x.setting.layout m) n ≡ false
-unheld_read x s m a h work is w n =
+unheld_read : (x : Step) (s : Session) (m : Submitted) (a : Answer) → (h : Hears x s m a) → (work : Work) (step : LeaseStep) → m.call.purpose ≡ Lease work step → same_kind (kind_of_step step) Phase2_read ≡ true → Whole x → (n : ℕ) → holds_under (seen x) s (spot_of_call x.setting.layout m) n ≡ false
+unheld_read x s m a h work step is read w n =
     let at : Spot = spot_of_call x.setting.layout m in
     let c : HeardCall x a m = heard_call x s m a h w in
     unheld_if (seen x) s at n (λ g held on lver.
@@ -338,7 +375,12 @@ unheld_read x s m a h work is w n =
     subst (λ z. Contains (lease_calls x.setting (seen x) s z) m) (sym (spot_same g at held.place))
     (subst (λ ms. Contains ms m) (sym first.1) (contains_first m first.0))
     in
-    true_is_false (sym (ap (λ p. is_ballot_purpose p) is) ∙ stands.idle m inside (heard_open x s m a h)))
+    let ballot : is_ballot_purpose m.call.purpose ≡ true =
+    ap (λ p. is_ballot_purpose p) is
+    ∙ or_last (is_at_in Area_read (Lease work step)) _
+    (or_last (is_at_in Phase1_write (Lease work step)) _ (or_last (is_at_in Phase1_read (Lease work step)) _ (or_last (is_at_in Phase2_write (Lease work step)) _ read)))
+    in
+    true_is_false (sym ballot ∙ stands.idle m inside (heard_open x s m a h)))
 
 -- Nor in the work of an acquire.
 unheld_acquire : (x : Step) (s : Session) (m : Submitted) (a : Answer) → (h : Hears x s m a) → (j : ℕ) (step : LeaseStep) → m.call.purpose ≡ Lease (ForJob j) step → is_running (seen x) j ≡ true
@@ -385,10 +427,12 @@ next_stays x s at h work (inr is) (GrantJob mode lver) n unheld turned k = subst
 
 -- A settling on a wake.
 pub settled_stays : (x : Step) (s : Session) (at : Spot) → Has x s → is_active x.setting (seen x) s ≡ true → at.base % x.setting.layout.area ≡ 0 → open_on x.setting (seen x) at ≡ [] → Whole x → LawfulSoFar x
-    → LawfulSoFar (carry_lease s at Settling (settle_next (lease_place x.setting s) (known x.setting (seen x) s at)) x)
+    → LawfulSoFar (carry_lease s at Settling (next_of_settling x.setting (seen x) s at) x)
 settled_stays x s at has active aligned none w k =
-    let n : LeaseNext = settle_next (lease_place x.setting s) (known x.setting (seen x) s at) in
-    let plain : plainly n ≡ true = settles_plainly (lease_place x.setting s) (known x.setting (seen x) s at) in
+    let n : LeaseNext = next_of_settling x.setting (seen x) s at in
+    let plain : plainly n ≡ true =
+    ap (λ z. plainly z) (settling_plain x.setting (seen x) s at w.setting.unpaired) ∙ settles_plainly (lease_place x.setting s) (known x.setting (seen x) s at)
+    in
     let ways = w.facts.ways.each s at (there_has x.setting (seen x) s.number s has) aligned in
     let ready : LeaseReady x s at =
     record {
@@ -399,7 +443,7 @@ settled_stays x s at has active aligned none w k =
       below = w.facts.calls.below;
     }
     in
-    next_stays x s at (record { ready = ready; active = active; ways = ways }) Settling (inr refl) n (settlings_fit (moment_of x s at Settling) ways refl)
+    next_stays x s at (record { ready = ready; active = active; ways = ways }) Settling (inr refl) n (settling_fits x s at w.setting.unpaired ways)
     (λ step l is free. absurd (no_leader n step l is free (plain_frees n plain))) (λ is. absurd (true_is_false (sym is ∙ plain_turns n plain))) k
   where
     no_leader : (n : LeaseNext) (step : LeaseStep) (l : Leader) → n ≡ WriteLeader step l → l.held ≡ false → frees n ≡ false → ⊥
@@ -415,11 +459,11 @@ led_stays x s work step m a aim h is on aimed active w turned =
     let at : Spot = spot_of_call x.setting.layout m in
     let k = lease_heard x s work step m a aim h is on aimed w in
     let n : LeaseNext = next_of_lease x.setting (seen x) s at aim m step a in
-    let fits : NextIs (moment_of x s at work) n =
-    subst (λ (z : Submitted). NextIs (moment_of x s at work) (next_of_lease x.setting (seen x) s at aim z step a)) k.1 (answers_fit (moment_of x s at work) step aim a k.0)
-    in
+    let fits : NextIs (moment_of x s at work) n = heard_fits x s work step m a aim h is on aimed w in
     next_stays x s at (record { ready = lease_ready x s m a h (ap (λ p. is_area_work p) is) w; active = active; ways = k.0.ways }) work (inl h.bare) n fits
-    (λ to l is_leader free. unheld to l is_leader free (frees_by (lease_place x.setting s) (known x.setting (seen x) s at) aim m.call.number (lver_written m) step a)) turned
+    (λ to l is_leader free. unheld to l is_leader free
+    (subst (λ z. FreesBy (known x.setting (seen x) s at) aim step z) (sym (next_plain x.setting (seen x) s at aim m step a w.setting.unpaired))
+    (frees_by (lease_place x.setting s) (known x.setting (seen x) s at) aim m.call.number (lver_written m) step a))) turned
     (others_are_lawful x (no_others x h.bare))
   where
     acquiring : (mode : Mode) → aim ≡ Acquires mode → (n : ℕ) → holds_under (seen x) s (spot_of_call x.setting.layout m) n ≡ false
@@ -438,23 +482,24 @@ led_stays x s work step m a aim h is on aimed active w turned =
         → holds_under (seen x) s (spot_of_call x.setting.layout m) l.lver ≡ false
     unheld to l next free (No_free none) = absurd (true_is_false (sym (ap (λ n. frees n) next ∙ ap (λ b. not b) free) ∙ none))
     unheld to l next free (Of_acquire mode same) = acquiring mode same l.lver
-    unheld to l next free (By_read same) = unheld_read x s m a h work (is ∙ ap (λ z. Lease work z) same) w l.lver
+    unheld to l next free (By_read read) = unheld_read x s m a h work step is read w l.lver
     unheld to l next free (By_owed owes) = unheld_owed x s (spot_of_call x.setting.layout m) l.lver w.facts.holdings (owes to l next)
 
 -- ---- a settling converts nothing
 
-read_settles : (p : LeasePlace) (k : LeaseKnown) (bytes : List ℕ) (step : LeaseStep) → turns (after_read p k Settles bytes step) ≡ false
-read_settles p k bytes (ReadArea name) = plain_turns (area_next p k Settles name bytes) (areas_plainly p k Settles name bytes)
-read_settles p k bytes ReadBeforeFree = by (owed_free k) where
+read_settles : (p : LeasePlace) (k : LeaseKnown) (leader : Option Leader) (read : List (Option Block)) (step : LeaseStep) → turns (after_read p k Settles leader read step) ≡ false
+read_settles p k leader read (ReadArea name) = plain_turns (area_next p k Settles name leader read) (areas_plainly p k Settles name leader read)
+read_settles p k leader read ReadBeforeFree = by (owed_free k) where
   by : (o : Option ℕ) → turns (option_map_or (λ n. WriteLeader FreeLeader (leader_for p k false n)) o Nothing) ≡ false
   by None = refl
   by (Some n) = refl
-read_settles p k bytes Phase1Read = by k.own where
-  by : (o : Option Block) → turns (option_map_or (λ own. after_phase1 p k Settles own (blocks_in p.layout bytes) (stop_of own (blocks_in p.layout bytes))) o Nothing) ≡ false
+read_settles p k leader read ReadBeforeBlock = plain_turns (settle_next p k) (settles_plainly p k)
+read_settles p k leader read (ReadAgain again) = refl
+read_settles p k leader read Phase1Read = by k.own where
+  by : (o : Option Block) → turns (option_map_or (λ own. after_phase1 p k Settles own read (stop_of own read)) o Nothing) ≡ false
   by None = refl
-  by (Some own) =
-      plain_turns (after_phase1 p k Settles own (blocks_in p.layout bytes) (stop_of own (blocks_in p.layout bytes))) (phase1_plainly p k Settles own (blocks_in p.layout bytes) (stop_of own (blocks_in p.layout bytes)))
-read_settles p k bytes Phase2Read = by k.own where
+  by (Some own) = plain_turns (after_phase1 p k Settles own read (stop_of own read)) (phase1_plainly p k Settles own read (stop_of own read))
+read_settles p k leader read Phase2Read = by k.own where
   ended : (own : Block) (b : Bool) → turns (elim b as (λ z. LeaseNext) [ true ↦ WriteLeader FreeLeader (leader_for p k false own.lver) | false ↦ settle_next p k ]) ≡ false
   ended own true = refl
   ended own false = plain_turns (settle_next p k) (settles_plainly p k)
@@ -463,15 +508,25 @@ read_settles p k bytes Phase2Read = by k.own where
   stopped own None = ended own (same_owner (value_of own) k.self)
   stopped own (Some stop) = plain_turns (stopped_next p k Settles stop) (stops_plainly p k Settles stop)
 
-  by : (o : Option Block) → turns (option_map_or (λ own. after_phase2 p k Settles own (stop_of own (blocks_in p.layout bytes))) o Nothing) ≡ false
+  by : (o : Option Block) → turns (option_map_or (λ own. after_phase2 p k Settles own (stop_of own read)) o Nothing) ≡ false
   by None = refl
-  by (Some own) = stopped own (stop_of own (blocks_in p.layout bytes))
-read_settles p k bytes Phase1Write = refl
-read_settles p k bytes Phase2Write = refl
-read_settles p k bytes TakeLeader = refl
-read_settles p k bytes SetMode = refl
-read_settles p k bytes FreeLeader = refl
-read_settles p k bytes ClearMode = refl
+  by (Some own) = stopped own (stop_of own read)
+read_settles p k leader read Phase1Write = refl
+read_settles p k leader read Phase2Write = refl
+read_settles p k leader read TakeLeader = refl
+read_settles p k leader read SetMode = refl
+read_settles p k leader read FreeLeader = refl
+read_settles p k leader read ClearMode = refl
+
+bytes_settle : (p : LeasePlace) (k : LeaseKnown) (bytes : List ℕ) (step : LeaseStep) → turns (after_bytes p k Settles bytes step) ≡ false
+unfolding after_bytes
+bytes_settle p k bytes step = by (asked_again p.layout bytes step) where
+  by : (o : Option LeaseRead) → turns (elim o as (λ z. LeaseNext) [
+    | Some read ↦ ReadFor (ReadAgain read)
+    | None ↦ after_read p k Settles (leader_read p.layout bytes (heard p.layout k bytes step)) (blocks_of p.layout (heard p.layout k bytes step)) (first_step step)
+  ]) ≡ false
+  by (Some read) = refl
+  by None = read_settles p k (leader_read p.layout bytes (heard p.layout k bytes step)) (blocks_of p.layout (heard p.layout k bytes step)) (first_step step)
 
 write_settles : (p : LeasePlace) (k : LeaseKnown) (n : ℕ) (step : LeaseStep) → turns (after_write p k Settles n step) ≡ false
 write_settles p k n Phase1Write = refl
@@ -482,11 +537,13 @@ write_settles p k n FreeLeader = plain_turns (settle_next p k) (settles_plainly 
 write_settles p k n ClearMode = plain_turns (settle_next p k) (settles_plainly p k)
 write_settles p k n (ReadArea name) = refl
 write_settles p k n ReadBeforeFree = refl
+write_settles p k n ReadBeforeBlock = refl
+write_settles p k n (ReadAgain read) = refl
 write_settles p k n Phase1Read = refl
 write_settles p k n Phase2Read = refl
 
 pub settles_no_turn : (p : LeasePlace) (k : LeaseKnown) (call m : ℕ) (step : LeaseStep) (answer : Answer) → turns (lease_next p k Settles call m step answer) ≡ false
 unfolding lease_next
-settles_no_turn p k call m step (Read bytes) = read_settles p k bytes step
+settles_no_turn p k call m step (Read bytes) = bytes_settle p k bytes step
 settles_no_turn p k call m step Written = write_settles p k m step
 settles_no_turn p k call m step Failed = refl

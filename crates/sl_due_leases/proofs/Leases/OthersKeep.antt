@@ -8,8 +8,8 @@ use Rattle.sl_due_leases.proofs.Ways.Kept.EffectsLeave.{made_call}
 use Rattle.sl_due_leases.proofs.Ways.Kept.PlacesStand.{either_list}
 use Rattle.sl_due_leases.proofs.Ways.Kept.PlainWalks.{ByPlain}
 use Rattle.sl_due_leases.proofs.Ways.WayStages.{is_at_in}
-use Rattle.sl_trace.specs.Leases.{Phase2_read, block_of_record, block_written, leader_of_record, leader_written, spot_of_call}
-use Rattle.sl_sector.specs.declared.sector.Rec.TheVariants.{BlockIs, DeltaIs, LeaderIs, RequestIs, ValueIs}
+use Rattle.sl_trace.specs.Leases.{Phase2_read, block_of_record, block_written, is_second, leader_of_record, leader_written, lease_step, spot_of_call, turn_of_record, turn_written}
+use Rattle.sl_sector.specs.declared.sector.Rec.TheVariants.{BlockIs, DeltaIs, LeaderIs, PairIs, PairLeaderIs, RequestIs, ValueIs}
 use Rattle.sl_sector.specs.declared.sector.Rec.{Rec}
 use Rattle.sl_trace.specs.declared.session.Session.{Session}
 use Rattle.sl_trace.specs.Traces.{Setting, Submitted, Trace, record_of}
@@ -22,6 +22,7 @@ use Rattle.sl_trace.specs.declared.reply.Reply.{Reply}
 use Rattle.sl_plain.proofs.Lists.{contains_cases, contains_none, got_inside}
 use Rattle.sl_words.proofs.CaseLaws.{false_is_true, no_value, true_is_false}
 use Rattle.sl_words.proofs.WordLaws.{and_true}
+use Rattle.sl_words.specs.Words.{some_is}
 use Rattle.std.proofs.Common.{inl, inr, refl, subst, sym, ◌∙◌}
 use Rattle.std.specs.Prelude.{Contains, List, None, Option, Some, [], false, option_and_then, true, ℕ, ◌∷◌, ◌≡◌, ◌⊎◌}
 
@@ -38,6 +39,8 @@ plain_block (Some (DeltaIs d)) h = refl
 plain_block (Some (LeaderIs l)) h = refl
 plain_block (Some (RequestIs r)) h = refl
 plain_block (Some (ValueIs v)) h = refl
+plain_block (Some (PairIs b)) h = absurd (false_is_true (h (PairIs b) refl))
+plain_block (Some (PairLeaderIs l)) h = refl
 
 plain_leader : (o : Option Rec) → ((r : Rec) → o ≡ Some r → is_delta_record r ≡ true) → option_and_then leader_of_record o ≡ None
 plain_leader None h = refl
@@ -46,6 +49,18 @@ plain_leader (Some (DeltaIs d)) h = refl
 plain_leader (Some (BlockIs b)) h = refl
 plain_leader (Some (RequestIs r)) h = refl
 plain_leader (Some (ValueIs v)) h = refl
+plain_leader (Some (PairIs b)) h = refl
+plain_leader (Some (PairLeaderIs l)) h = absurd (false_is_true (h (PairLeaderIs l) refl))
+
+plain_turn : (o : Option Rec) → ((r : Rec) → o ≡ Some r → is_delta_record r ≡ true) → option_and_then turn_of_record o ≡ None
+plain_turn None h = refl
+plain_turn (Some (LeaderIs l)) h = refl
+plain_turn (Some (DeltaIs d)) h = refl
+plain_turn (Some (BlockIs b)) h = refl
+plain_turn (Some (RequestIs r)) h = refl
+plain_turn (Some (ValueIs v)) h = refl
+plain_turn (Some (PairIs b)) h = absurd (false_is_true (h (PairIs b) refl))
+plain_turn (Some (PairLeaderIs l)) h = refl
 
 pub plain_read : (st : Setting) (at : Spot) (c : Submitted) (p : Purpose) → is_area_work p ≡ false → IsRightRead st at c p
 plain_read st at c (Lease work step) none = absurd (true_is_false none)
@@ -71,6 +86,19 @@ plain_at Survey none at = false_is_true at
 plain_at (Leaving j) none at = false_is_true at
 plain_at SeeRequest none at = false_is_true at
 
+-- Nor is it a lease's read that is made once more.
+pub plain_again : (p : Purpose) → is_area_work p ≡ false → some_is (λ q. is_second q.1) (lease_step p) ≡ true → ⊥
+plain_again (Lease work step) none again = true_is_false none
+plain_again (RequestRead j) none again = false_is_true again
+plain_again (RequestWrite j o) none again = false_is_true again
+plain_again (ValueWrite j) none again = false_is_true again
+plain_again (ValueRead j) none again = false_is_true again
+plain_again (Joining j step) none again = false_is_true again
+plain_again Renewal none again = false_is_true again
+plain_again Survey none again = false_is_true again
+plain_again (Leaving j) none again = false_is_true again
+plain_again SeeRequest none again = false_is_true again
+
 pub other_is_lawful : (st : Setting) (t : Trace) (s : Session) (c : Submitted) → IsOther c.call.purpose c.call.op → LeaseLawful st t s c
 other_is_lawful st t s c o =
     record {
@@ -79,6 +107,8 @@ other_is_lawful st t s c o =
       alone = λ works. absurd (true_is_false (sym (and_true (is_block_work c) (is_area_work c.call.purpose) works).1 ∙ o.plain));
       reads = plain_read st (spot_of_call st.layout c) c c.call.purpose o.plain;
       sees = λ is. absurd (o.unseen is);
+      again = λ is. absurd (plain_again c.call.purpose o.plain is);
+      turn = λ turn is. absurd (no_value turn (turn_written c) is (plain_turn (record_of c.call.op) o.delta));
       block = λ b is. absurd (no_value b (block_written c) is (plain_block (record_of c.call.op) o.delta));
       phase2 = λ at. absurd (plain_at c.call.purpose o.plain at);
       leader = λ l is. absurd (no_value l (leader_written c) is (plain_leader (record_of c.call.op) o.delta));
@@ -106,8 +136,9 @@ laws_of x h =
         alone = λ k c s at its. (h k c s at its).alone;
         reads = λ k c s at its. (h k c s at its).reads;
         sees = λ k c s at its. (h k c s at its).sees;
+        agains = λ k c s at its. (h k c s at its).again;
       };
-      block = record { writes = λ k c s at its. (h k c s at its).block; reads = λ k c s at its. (h k c s at its).phase2 };
+      block = record { turns = λ k c s at its. (h k c s at its).turn; writes = λ k c s at its. (h k c s at its).block; reads = λ k c s at its. (h k c s at its).phase2 };
       leader = record { writes = λ k c s at its. (h k c s at its).leader };
     }
 
@@ -119,6 +150,8 @@ lawful_by x h k c s at its =
       alone = h.area.alone k c s at its;
       reads = h.area.reads k c s at its;
       sees = h.area.sees k c s at its;
+      again = h.area.agains k c s at its;
+      turn = h.block.turns k c s at its;
       block = h.block.writes k c s at its;
       phase2 = h.block.reads k c s at its;
       leader = h.leader.writes k c s at its;

@@ -10,6 +10,7 @@ pub mod LeaseNextsLeave
 pub mod DecisionsAreClear
 pub mod JoinsLeave
 pub mod HeardStands
+pub mod DecidedFits
 pub mod LinesReady
 pub mod UnjoinedHaveNone
 pub mod LinesKeep

@@ -12,7 +12,7 @@ use Rattle.sl_sector.specs.declared.sector.Owner.{Owner}
 use Rattle.sl_sector.specs.declared.sector.Rec.TheVariants.{BlockIs, LeaderIs}
 use Rattle.sl_due_facts.specs.Facts.WayFacts.{CallWay, IsVerified, PurposeWay, StepWay, WayContext, Ways}
 use Rattle.sl_trace.specs.Traces.{Submitted, is_heeded}
-use Rattle.sl_trace.specs.declared.effects.LeaseStep.TheVariants.{ClearMode, FreeLeader, Phase1Read, Phase1Write, Phase2Read, Phase2Write, ReadArea, ReadBeforeFree, SetMode, TakeLeader}
+use Rattle.sl_trace.specs.declared.effects.LeaseStep.TheVariants.{ClearMode, FreeLeader, Phase1Read, Phase1Write, Phase2Read, Phase2Write, ReadAgain, ReadArea, ReadBeforeBlock, ReadBeforeFree, SetMode, TakeLeader}
 use Rattle.sl_trace.specs.declared.effects.LeaseStep.{LeaseStep}
 use Rattle.sl_trace.specs.declared.effects.Op.TheVariants.{ReadSectors, WriteRecord}
 use Rattle.sl_trace.specs.declared.effects.Purpose.TheVariants.{Joining, Lease, Leaving, Renewal, RequestRead, RequestWrite, SeeRequest, Survey, ValueRead, ValueWrite}
@@ -58,36 +58,38 @@ rises ms n up = by (block_submitted ms) refl where
   by None is = at_most (own_lver ms) 0 n (ap (λ o. option_map_or (λ (x : Block). x.lver) o 0) is) (omega arith)
   by (Some b) is = at_most (own_lver ms) b.lver n (lver_of ms b is) (up b is)
 
-step_doing : (w : WayContext) (m : Submitted) (ms : List Submitted) → Ways w ms → (work : Work) (step : LeaseStep) → m.call.purpose ≡ Lease work step → StepWay w work m.at m.call ms step → Doing w m ms
-step_doing w m ms ws work (ReadArea name) is h = Reads (w.layout.hosts + 2) h
-step_doing w m ms ws work ReadBeforeFree is h = Reads (w.layout.hosts + 2) h.reads
-step_doing w m ms ws work Phase1Write is h = Writes_ballot h.own h.wrote (rises ms h.own.lver h.rises) h.fresh (inl h.named)
-step_doing w m ms ws work Phase1Read is h = Reads w.layout.hosts h.reads
-step_doing w m ms ws work Phase2Write is h =
+step_doing : (w : WayContext) → w.layout.paired ≡ false → (m : Submitted) (ms : List Submitted) → Ways w ms → (work : Work) (step : LeaseStep) → m.call.purpose ≡ Lease work step → StepWay w work m.at m.call ms step → Doing w m ms
+step_doing w plain m ms ws work (ReadArea name) is h = Reads (w.layout.hosts + 2) h
+step_doing w plain m ms ws work ReadBeforeFree is h = Reads (w.layout.hosts + 2) h.reads
+step_doing w plain m ms ws work ReadBeforeBlock is h = absurd (true_is_false (sym h ∙ plain))
+step_doing w plain m ms ws work (ReadAgain read) is h = absurd (true_is_false (sym h ∙ plain))
+step_doing w plain m ms ws work Phase1Write is h = Writes_ballot h.own h.wrote (rises ms h.own.lver h.rises) h.fresh (inl h.named)
+step_doing w plain m ms ws work Phase1Read is h = Reads w.layout.hosts h.reads
+step_doing w plain m ms ws work Phase2Write is h =
     let under : (proposed w work m.call ms h).lver ≡ h.own.lver = proposed_lver w work m.call ms h in
     let fresh : freed ms < h.own.lver = clear_freed w work m.call ms ws h in
     Writes_ballot (proposed w work m.call ms h) h.wrote (same_most (own_lver ms) h.own.lver (proposed w work m.call ms h).lver (lver_of ms h.own (clear_own w work m.call ms ws h)) under)
     (omega (arith, fresh, under)) (inr (h.own, clear_own w work m.call ms ws h))
-step_doing w m ms ws work Phase2Read is h = Reads w.layout.hosts h.reads
-step_doing w m ms ws work TakeLeader is h = Takes h.leader h.wrote h.held
-step_doing w m ms ws work SetMode is h = Writes_mode _ h.own h.wrote h.known refl (ap (λ p. is_at_in Phase2_write p) is)
-step_doing w m ms ws work FreeLeader is h = Frees h.leader h.wrote h.free h.won h.concluded
-step_doing w m ms ws work ClearMode is h = Writes_mode _ h.own h.wrote h.known refl (ap (λ p. is_at_in Phase2_write p) is)
+step_doing w plain m ms ws work Phase2Read is h = Reads w.layout.hosts h.reads
+step_doing w plain m ms ws work TakeLeader is h = Takes h.leader h.wrote h.held
+step_doing w plain m ms ws work SetMode is h = Writes_mode _ h.own h.wrote h.known refl (ap (λ p. is_at_in Phase2_write p) is)
+step_doing w plain m ms ws work FreeLeader is h = Frees h.leader h.wrote h.free h.won h.concluded
+step_doing w plain m ms ws work ClearMode is h = Writes_mode _ h.own h.wrote h.known refl (ap (λ p. is_at_in Phase2_write p) is)
 
-by_purpose : (w : WayContext) (m : Submitted) (ms : List Submitted) → Ways w ms → (p : Purpose) → m.call.purpose ≡ p → PurposeWay w m.at m.call ms p → Doing w m ms
-by_purpose w m ms ws (Lease work step) is h = step_doing w m ms ws work step is h
-by_purpose w m ms ws (Joining j step) is h = absurd h
-by_purpose w m ms ws Renewal is h = absurd h
-by_purpose w m ms ws Survey is h = absurd h
-by_purpose w m ms ws (Leaving j) is h = absurd h
-by_purpose w m ms ws (RequestRead j) is h = absurd h
-by_purpose w m ms ws (RequestWrite j owner) is h = absurd h
-by_purpose w m ms ws SeeRequest is h = absurd h
-by_purpose w m ms ws (ValueWrite j) is h = absurd h
-by_purpose w m ms ws (ValueRead j) is h = absurd h
+by_purpose : (w : WayContext) → w.layout.paired ≡ false → (m : Submitted) (ms : List Submitted) → Ways w ms → (p : Purpose) → m.call.purpose ≡ p → PurposeWay w m.at m.call ms p → Doing w m ms
+by_purpose w plain m ms ws (Lease work step) is h = step_doing w plain m ms ws work step is h
+by_purpose w plain m ms ws (Joining j step) is h = absurd h
+by_purpose w plain m ms ws Renewal is h = absurd h
+by_purpose w plain m ms ws Survey is h = absurd h
+by_purpose w plain m ms ws (Leaving j) is h = absurd h
+by_purpose w plain m ms ws (RequestRead j) is h = absurd h
+by_purpose w plain m ms ws (RequestWrite j owner) is h = absurd h
+by_purpose w plain m ms ws SeeRequest is h = absurd h
+by_purpose w plain m ms ws (ValueWrite j) is h = absurd h
+by_purpose w plain m ms ws (ValueRead j) is h = absurd h
 
-pub doing : (w : WayContext) (m : Submitted) (ms : List Submitted) → Ways w ms → CallWay w m ms → Doing w m ms
-doing w m ms ws h = by_purpose w m ms ws m.call.purpose refl h.way
+pub doing : (w : WayContext) → w.layout.paired ≡ false → (m : Submitted) (ms : List Submitted) → Ways w ms → CallWay w m ms → Doing w m ms
+doing w plain m ms ws h = by_purpose w plain m ms ws m.call.purpose refl h.way
 
 -- ---- the own block never falls
 
@@ -107,18 +109,27 @@ up_by w m ms (Writes_mode b own op known same other) =
 up_by w m ms (Takes l op held) = itself (own_lver ms) (own_lver (m ∷ ms)) (lver_passed m ms (leader_is_no_block m l op))
 up_by w m ms (Frees l op free won concluded) = itself (own_lver ms) (own_lver (m ∷ ms)) (lver_passed m ms (leader_is_no_block m l op))
 
-pub goes_up : (w : WayContext) (m : Submitted) (ms : List Submitted) → Ways w (m ∷ ms) → own_lver ms ≤ own_lver (m ∷ ms)
-goes_up w m ms h = up_by w m ms (doing w m ms h.1 h.0)
+pub goes_up : (w : WayContext) → w.layout.paired ≡ false → (m : Submitted) (ms : List Submitted) → Ways w (m ∷ ms) → own_lver ms ≤ own_lver (m ∷ ms)
+goes_up w plain m ms h = up_by w m ms (doing w plain m ms h.1 h.0)
 
 -- ---- names
 
 verified_more : (w : WayContext) (m : Submitted) (ms : List Submitted) → IsVerified w ms → IsVerified w (m ∷ ms)
-verified_more w m ms h = record { read = h.read; name = h.name; of_lease = contains_more m ms h.read h.of_lease; verified = h.verified }
+verified_more w m ms h =
+    record {
+      read = h.read;
+      name = h.name;
+      of_lease = contains_more m ms h.read h.of_lease;
+      newer = m ∷ h.newer;
+      before = h.before;
+      split = ap (λ xs. m ∷ xs) h.split;
+      verified = h.verified;
+    }
 
 -- Who has written a block has verified the name.
-pub is_verified : (w : WayContext) (ms : List Submitted) → Ways w ms → (b : Block) → block_submitted ms ≡ Some b → IsVerified w ms
-is_verified w [] h b is = absurd (none_some b is)
-is_verified w (m ∷ ms) h b is = verified_more w m ms (by (doing w m ms h.1 h.0) (λ x old. is_verified w ms h.1 x old)) where
+pub is_verified : (w : WayContext) → w.layout.paired ≡ false → (ms : List Submitted) → Ways w ms → (b : Block) → block_submitted ms ≡ Some b → IsVerified w ms
+is_verified w plain [] h b is = absurd (none_some b is)
+is_verified w plain (m ∷ ms) h b is = verified_more w m ms (by (doing w plain m ms h.1 h.0) (λ x old. is_verified w plain ms h.1 x old)) where
   by : Doing w m ms → ((x : Block) → block_submitted ms ≡ Some x → IsVerified w ms) → IsVerified w ms
   by (Reads n op) before = before b (sym (submitted_passed m ms (read_writes_no_block m n op)) ∙ is)
   by (Writes_ballot x op up fresh (inl named)) before = named
@@ -135,7 +146,7 @@ pub record EndsBy (g : Layout) (m : Submitted) (ms : List Submitted) (n : ℕ) (
   pub own : Block
   pub known : block_submitted ms ≡ Some own
   pub blocks : List (Option Block)
-  pub given : blocks_given g m ≡ Some blocks
+  pub given : blocks_given g m ms ≡ Some blocks
   pub clear : stop_of own blocks ≡ None
   pub lver : own.lver ≡ n
   pub value : value_of own ≡ o
@@ -153,25 +164,25 @@ is_pair None = false
 is_pair (Some p) = true
 
 by_stop : (g : Layout) (m : Submitted) (ms : List Submitted) (n : ℕ) (o : Owner) → is_at Phase2_read m ≡ true → (own : Block) → block_submitted ms ≡ Some own → (blocks : List (Option Block))
-    → blocks_given g m ≡ Some blocks → (stop : Option Stop) → stop_of own blocks ≡ stop → value_in_end own stop ≡ Some (n, o) → EndsBy g m ms n o
+    → blocks_given g m ms ≡ Some blocks → (stop : Option Stop) → stop_of own blocks ≡ stop → value_in_end own stop ≡ Some (n, o) → EndsBy g m ms n o
 by_stop g m ms n o at2 own known blocks given None clear is =
     record { at2 = at2; own = own; known = known; blocks = blocks; given = given; clear = clear; lver = ap (λ z. first_of z) is; value = ap (λ z. second_of o z) is }
 by_stop g m ms n o at2 own known blocks given (Some stop) clear is = absurd (true_is_false (sym (ap (λ z. is_pair z) is)))
 
 by_blocks : (g : Layout) (m : Submitted) (ms : List Submitted) (n : ℕ) (o : Owner) → is_at Phase2_read m ≡ true → (own : Block) → block_submitted ms ≡ Some own → (given : Option (List (Option Block)))
-    → blocks_given g m ≡ given → option_and_then (λ blocks. value_in_end own (stop_of own blocks)) given ≡ Some (n, o) → EndsBy g m ms n o
+    → blocks_given g m ms ≡ given → option_and_then (λ blocks. value_in_end own (stop_of own blocks)) given ≡ Some (n, o) → EndsBy g m ms n o
 by_blocks g m ms n o at2 own known None given is = absurd (true_is_false (sym (ap (λ z. is_pair z) is)))
 by_blocks g m ms n o at2 own known (Some blocks) given is = by_stop g m ms n o at2 own known blocks given (stop_of own blocks) refl is
 
 by_own : (g : Layout) (m : Submitted) (ms : List Submitted) (n : ℕ) (o : Owner) → is_at Phase2_read m ≡ true → (own : Option Block) → block_submitted ms ≡ own
-    → option_and_then (λ own. option_and_then (λ blocks. value_in_end own (stop_of own blocks)) (blocks_given g m)) own ≡ Some (n, o) → EndsBy g m ms n o
+    → option_and_then (λ own. option_and_then (λ blocks. value_in_end own (stop_of own blocks)) (blocks_given g m ms)) own ≡ Some (n, o) → EndsBy g m ms n o
 by_own g m ms n o at2 None known is = absurd (true_is_false (sym (ap (λ z. is_pair z) is)))
-by_own g m ms n o at2 (Some own) known is = by_blocks g m ms n o at2 own known (blocks_given g m) refl is
+by_own g m ms n o at2 (Some own) known is = by_blocks g m ms n o at2 own known (blocks_given g m ms) refl is
 
 by_read : (g : Layout) (m : Submitted) (ms : List Submitted) (n : ℕ) (o : Owner) (t : Bool) → is_at Phase2_read m ≡ t
     → elim t as (λ x. Option (ℕ × Owner)) [
       | false ↦ None
-      | true ↦ option_and_then (λ own. option_and_then (λ blocks. value_in_end own (stop_of own blocks)) (blocks_given g m)) (block_submitted ms)
+      | true ↦ option_and_then (λ own. option_and_then (λ blocks. value_in_end own (stop_of own blocks)) (blocks_given g m ms)) (block_submitted ms)
     ] ≡ Some (n, o) → EndsBy g m ms n o
 by_read g m ms n o false at2 is = absurd (true_is_false (sym (ap (λ z. is_pair z) is)))
 by_read g m ms n o true at2 is = by_own g m ms n o at2 (block_submitted ms) refl is
@@ -187,9 +198,9 @@ ended_cases g m ms n o there = by (ended_ballot g m ms) there where
   by (Some p) inside = elim (contains_cases p (ended_ballots g ms) (n, o) inside) [ inl is ↦ inl (ap (λ z. Some z) is) | inr rest ↦ inr rest ]
 
 -- No ended ballot is above the own block.
-pub ended_below : (w : WayContext) (ms : List Submitted) → Ways w ms → (n : ℕ) (o : Owner) → Contains (ended_ballots w.layout ms) (n, o) → n ≤ own_lver ms
-ended_below w [] h n o there = absurd (contains_none (n, o) there)
-ended_below w (m ∷ ms) h n o there = by (ended_cases w.layout m ms n o there) (goes_up w m ms h) (ended_below w ms h.1 n o) where
+pub ended_below : (w : WayContext) → w.layout.paired ≡ false → (ms : List Submitted) → Ways w ms → (n : ℕ) (o : Owner) → Contains (ended_ballots w.layout ms) (n, o) → n ≤ own_lver ms
+ended_below w plain [] h n o there = absurd (contains_none (n, o) there)
+ended_below w plain (m ∷ ms) h n o there = by (ended_cases w.layout m ms n o there) (goes_up w plain m ms h) (ended_below w plain ms h.1 n o) where
   by : (ended_ballot w.layout m ms ≡ Some (n, o)) ⊎ Contains (ended_ballots w.layout ms) (n, o) → own_lver ms ≤ own_lver (m ∷ ms) → (Contains (ended_ballots w.layout ms) (n, o) → n ≤ own_lver ms) → n ≤ own_lver (m ∷ ms)
   by (inl now) up before =
       let e : EndsBy w.layout m ms n o = ends_by w.layout m ms n o now in
@@ -208,9 +219,9 @@ held_is_none : (l : Leader) → l.held ≡ true → (if l.held then 0 else l.lve
 held_is_none l is = ap (λ b. if b then 0 else l.lver) is
 
 -- No free is above the own block.
-pub freed_below : (w : WayContext) (ms : List Submitted) → Ways w ms → freed ms ≤ own_lver ms
-freed_below w [] h = omega arith
-freed_below w (m ∷ ms) h = by (doing w m ms h.1 h.0) (goes_up w m ms h) (freed_below w ms h.1) where
+pub freed_below : (w : WayContext) → w.layout.paired ≡ false → (ms : List Submitted) → Ways w ms → freed ms ≤ own_lver ms
+freed_below w plain [] h = omega arith
+freed_below w plain (m ∷ ms) h = by (doing w plain m ms h.1 h.0) (goes_up w plain m ms h) (freed_below w plain ms h.1) where
   by : Doing w m ms → own_lver ms ≤ own_lver (m ∷ ms) → freed ms ≤ own_lver ms → freed (m ∷ ms) ≤ own_lver (m ∷ ms)
   by (Reads n op) up before = let is : freed (m ∷ ms) ≡ freed ms = freed_passed m ms (read_writes_no_leader m n op) in omega (arith, is, up, before)
   by (Writes_mode b own op known same other) up before = let is : freed (m ∷ ms) ≡ freed ms = freed_passed m ms (block_is_no_leader m b op) in omega (arith, is, up, before)
@@ -218,7 +229,7 @@ freed_below w (m ∷ ms) h = by (doing w m ms h.1 h.0) (goes_up w m ms h) (freed
   by (Takes l op held) up before = let is : freed (m ∷ ms) ≡ freed ms = freed_held m ms l (leader_is m l op) (held_is_none l held) in omega (arith, is, up, before)
   by (Frees l op free won concluded) up before =
       let is : freed (m ∷ ms) ≡ max l.lver (freed ms) = freed_here m ms l (leader_is m l op) free in
-      let le : l.lver ≤ own_lver ms = ended_below w ms h.1 l.lver w.self won in omega (arith, is, le, up, before)
+      let le : l.lver ≤ own_lver ms = ended_below w plain ms h.1 l.lver w.self won in omega (arith, is, le, up, before)
 
 -- ---- the open ballot
 
@@ -272,9 +283,9 @@ opened_block m ms b n op under fresh =
     record { own = b; known = submitted_here m ms b (block_is m b op); under = under; fresh = subst (λ k. k < n) (sym (freed_passed m ms (block_is_no_leader m b op))) fresh }
 
 -- An open ballot is of the own block's instance, above each free.
-pub is_opened : (w : WayContext) (ms : List Submitted) → Ways w ms → (n : ℕ) → open_ballot w.layout ms ≡ Some n → IsOpened ms n
-is_opened w [] h n is = absurd (none_some n is)
-is_opened w (m ∷ ms) h n is = by (doing w m ms h.1 h.0) (is_opened w ms h.1 n) where
+pub is_opened : (w : WayContext) → w.layout.paired ≡ false → (ms : List Submitted) → Ways w ms → (n : ℕ) → open_ballot w.layout ms ≡ Some n → IsOpened ms n
+is_opened w plain [] h n is = absurd (none_some n is)
+is_opened w plain (m ∷ ms) h n is = by (doing w plain m ms h.1 h.0) (is_opened w plain ms h.1 n) where
   by : Doing w m ms → (open_ballot w.layout ms ≡ Some n → IsOpened ms n) → IsOpened (m ∷ ms) n
   by (Reads k op) before = opened_passed m ms n (read_writes_no_block m k op) (freed_passed m ms (read_writes_no_leader m k op)) (before (open_passed w m ms n (read_writes_no_block m k op) is))
   by (Writes_ballot b op rise fresh named) before =
@@ -295,7 +306,7 @@ ended_concludes g m ms n o none heeded ended =
     let e : EndsBy g m ms n o = ends_by g m ms n o ended in
     let read : is_phase_read m ≡ true = either (is_at Phase1_read m) (is_at Phase2_read m) e.at2 in
     let stop : stop_in g m ms ≡ Some None =
-    ap (λ z. option_and_then (λ own. option_map (stop_of own) (blocks_given g m)) z) e.known
+    ap (λ z. option_and_then (λ own. option_map (stop_of own) (blocks_given g m ms)) z) e.known
     ∙ ap (λ z. option_map (stop_of e.own) z) e.given ∙ ap (λ z. Some z) e.clear
     in
     let done : concludes g m ms ≡ true =

@@ -1,7 +1,7 @@
 -- What stands behind each step of a ballot, by the ways of the calls before it.
 use Rattle.sl_due_leases.proofs.Ways.NewestCall.{block_is, block_is_no_leader, freed_passed, last_here, last_passed, last_write_of, read_writes_no_block, read_writes_no_leader, submitted_here, submitted_passed}
 use Rattle.sl_trace.specs.Ballots.{ballot_blocks, moded_block, phase2_block}
-use Rattle.sl_trace.specs.Leases.{block_submitted, freed, is_at, kind_of_step, lease_step, same_kind}
+use Rattle.sl_trace.specs.Leases.{block_submitted, freed, is_again, is_at, is_second, kind_of_step, lease_step, same_kind}
 use Rattle.sl_trace.specs.Leases.{StepKind}
 use Rattle.sl_sector.specs.declared.sector.Block.{Block}
 use Rattle.sl_due_facts.specs.Facts.WayFacts.{CallWay, Comes, Phase1ReadWay, Phase1Way, Phase2ReadWay, Phase2Way, PurposeWay, StepWay, WayContext, Ways}
@@ -16,7 +16,7 @@ use Rattle.sl_plain.proofs.Lists.{contains_first, contains_more}
 use Rattle.sl_words.proofs.CaseLaws.{one_value}
 use Rattle.sl_words.specs.Words.{some_is}
 use Rattle.std.proofs.Common.{ap, arith, refl, subst, sym, ◌∙◌}
-use Rattle.std.specs.Prelude.{Bool, Contains, List, Some, true, ℕ, ◌<◌, ◌≡◌}
+use Rattle.std.specs.Prelude.{Bool, Contains, List, Some, false, true, ℕ, ◌<◌, ◌≡◌}
 
 -- ---- the ways of calls before
 
@@ -39,6 +39,13 @@ is_at_in kind p = some_is (λ q. same_kind (kind_of_step q.1) kind) (lease_step 
 
 pub prior_at : (kind : StepKind) (ms : List Submitted) (work : Work) (step : LeaseStep) → (c : Comes work step ms) → same_kind (kind_of_step step) kind ≡ true → is_at kind c.prior ≡ true
 prior_at kind ms work step c is = ap (λ p. is_at_in kind p) c.its ∙ is
+
+-- A call at such a step is no read that is made once more.
+pub is_first : (m : Submitted) (work : Work) (step : LeaseStep) → m.call.purpose ≡ Lease work step → is_second step ≡ false → is_again m ≡ false
+is_first m work step is first = ap (λ p. some_is (λ q. is_second q.1) (lease_step p)) is ∙ first
+
+pub prior_first : (ms : List Submitted) (work : Work) (step : LeaseStep) → (c : Comes work step ms) → is_second step ≡ false → is_again c.prior ≡ false
+prior_first ms work step c is = is_first c.prior work step c.its is
 
 pub prior_inside : (ms : List Submitted) (work : Work) (step : LeaseStep) → (c : Comes work step ms) → Contains ms c.prior
 prior_inside ms work step c = subst (λ xs. Contains xs c.prior) (sym c.before) (contains_first c.prior c.rest)

@@ -11,10 +11,11 @@ use Rattle.sl_trace.specs.declared.effects.LeaseStep.TheVariants.{ReadArea, Read
 use Rattle.sl_trace.specs.declared.effects.LeaseStep.{LeaseStep}
 use Rattle.sl_trace.specs.declared.effects.Op.{Op}
 use Rattle.sl_trace.specs.declared.effects.Purpose.TheVariants.{Lease}
-use Rattle.std.specs.Prelude.{true, [], ℕ, ◌≡◌}
+use Rattle.std.specs.Prelude.{false, true, [], ℕ, ◌≡◌}
 
--- The lease may make its next call: its session is active, and no work on the area is open.
+-- The lease may make its next call: its session is active, and no work on the area is open; a block has one sector.
 pub record MayCall (x : Moment) : Type 0 where
+  pub plain : x.setting.layout.paired ≡ false
   pub active : is_active x.setting x.trace x.session ≡ true
   pub ways : Ways (context_at x) (calls_at x)
   pub alone : open_block_work x.setting x.trace x.session x.at ≡ []

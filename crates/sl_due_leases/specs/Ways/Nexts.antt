@@ -86,8 +86,9 @@ NextIs x (BecomeShared lver l) =
     (option_map (λ g. g.lver) (exclusive_on x.trace x.session x.at) ≡ Some lver) × LeaderIsOwn x l × (l.held ≡ false) × (l.lver ≡ lver)
 NextIs x (BecomeExclusive lver b) = (own : Block) × (block_submitted (calls_at x) ≡ Some own) × (b ≡ moded_block own false 0)
 
--- The lease's newest call was answered so, for this work, and it was heeded in the entry of the moment.
+-- The lease's newest call was answered so, for this work, and it was heeded in the entry of the moment; a block has one sector.
 pub record IsHeard (x : Moment) (step : LeaseStep) (aim : Aim) (answer : Answer) : Type 0 where
+  pub plain : x.setting.layout.paired ≡ false
   pub call : Submitted
   pub rest : List Submitted
   pub newest : calls_at x ≡ call ∷ rest

@@ -1,4 +1,5 @@
 -- What stood at first at a place spells no block that a ballot has written; and what it is that spells a host's block.
+use Rattle.sl_run.proofs.PlainAreas.{initial_plain}
 use Rattle.sl_area.specs.Layouts.{Layout, layout_with, record_in, sector_with}
 use Rattle.sl_area.specs.Places.{fresh_block, fresh_leader, in_area, no_request, no_value}
 use Rattle.sl_run_law.proofs.Landing.Initial.{initial_is_record}
@@ -17,7 +18,7 @@ use Rattle.sl_run.specs.declared.header.ResourceLine.{ResourceLine}
 use Rattle.sl_sector.proofs.PublicLaws.{spelled_is_read}
 use Rattle.sl_sector.specs.Spelling.{IsDigest, block_in}
 use Rattle.sl_sector.specs.declared.sector.Block.{Block}
-use Rattle.sl_sector.specs.declared.sector.Rec.TheVariants.{BlockIs, DeltaIs, LeaderIs, RequestIs, ValueIs}
+use Rattle.sl_sector.specs.declared.sector.Rec.TheVariants.{BlockIs, DeltaIs, LeaderIs, PairIs, PairLeaderIs, RequestIs, ValueIs}
 use Rattle.sl_sector.specs.declared.sector.Rec.{Rec}
 use Rattle.sl_sector.specs.declared.sector.Bad.{Bad}
 use Rattle.sl_words.proofs.CaseLaws.{none_some, some_value}
@@ -46,21 +47,21 @@ of_resource g x k b false false true last eq = ap history_block (sym (block_or (
 of_resource g x k b false false false true eq = absurd cc
 of_resource g x k b false false false false eq = absurd (none_some (BlockIs b) eq)
 
-initial_by : (g : Layout) (h : Header) (offset : ℕ) (b : Block) (o : Option LockspaceLine) (q : Option ResourceLine)
+initial_by : (g : Layout) → g.paired ≡ false → (h : Header) (offset : ℕ) (b : Block) (o : Option LockspaceLine) (q : Option ResourceLine)
     → elim o as (λ x. Option Rec) [
       | Some l ↦ initial_of_lockspace h l ((offset - l.offset) / g.sector)
       | None ↦ elim q as (λ x. Option Rec) [ Some x ↦ initial_of_resource g x ((offset - x.offset) / g.sector) | None ↦ None ]
     ] ≡ Some (BlockIs b) → history_block b ≡ no_block
-initial_by g h offset b None None eq = absurd (none_some (BlockIs b) eq)
-initial_by g h offset b None (Some x) eq =
+initial_by g plain h offset b None None eq = absurd (none_some (BlockIs b) eq)
+initial_by g plain h offset b None (Some x) eq =
     let k : ℕ = (offset - x.offset) / g.sector in
-    of_resource g x k b (k == 0) (k == 1) (nat_lt k (g.hosts + 2)) ((k + 1) * g.sector == g.area) eq
-initial_by g h offset b (Some l) q eq = absurd (of_lockspace h l ((offset - l.offset) / g.sector) b eq)
+    of_resource g x k b (k == 0) (k == 1) (nat_lt k (g.hosts + 2)) ((k + 1) * g.sector == g.area) (sym (initial_plain g plain x k) ∙ eq)
+initial_by g plain h offset b (Some l) q eq = absurd (of_lockspace h l ((offset - l.offset) / g.sector) b eq)
 
-initial_fresh : (g : Layout) (h : Header) (path : List ℕ) (offset : ℕ) (b : Block) → initial_record g h path offset ≡ Some (BlockIs b) → history_block b ≡ no_block
+initial_fresh : (g : Layout) → g.paired ≡ false → (h : Header) (path : List ℕ) (offset : ℕ) (b : Block) → initial_record g h path offset ≡ Some (BlockIs b) → history_block b ≡ no_block
 unfolding initial_record
-initial_fresh g h path offset b eq =
-    initial_by g h offset b (find (λ l. bytes_eq l.path path && in_area g l.offset offset) h.lockspaces)
+initial_fresh g plain h path offset b eq =
+    initial_by g plain h offset b (find (λ l. bytes_eq l.path path && in_area g l.offset offset) h.lockspaces)
     (find (λ r. bytes_eq r.path path && in_area g r.offset offset) h.resources) eq
 
 first_by : (digest : List ℕ → List ℕ) (h : Header) (path : List ℕ) (offset : ℕ) (o : Option Rec) (b : Block) → IsDigest digest → IsHeader h
@@ -74,7 +75,7 @@ first_by digest h path offset (Some x) b d ok is read =
     let g : Layout = layout_with digest h.geometry in
     let again = spelled_is_read digest d h.geometry.sector (sector_fits g (sized digest h.geometry ok.geometry)) x (initial_is_record digest h path offset x ok is) in
     let same : x ≡ BlockIs b = same_read (record_in g (sector_with g x)) x (BlockIs b) again read in
-    initial_fresh g h path offset b (is ∙ ap (λ y. Some y) same)
+    initial_fresh g ok.unpaired h path offset b (is ∙ ap (λ y. Some y) same)
 
 pub first_fresh : (p : Program) (h : Header) (xs : List Happening) → LawfulRun p h xs → (path : List ℕ) (offset : ℕ) (b : Block)
     → record_in (world_at p h xs).layout (first_landing (world_at p h xs) path offset).bytes ≡ Ok (BlockIs b) → history_block b ≡ no_block
@@ -92,6 +93,8 @@ block_in_is host (Ok (LeaderIs e)) b h = absurd (none_some b h)
 block_in_is host (Ok (BlockIs e)) b h =
     let c = choose_some (e.host == host) e b h in
     (ap (λ x. Ok (BlockIs x)) c.1, ap (λ x. x.host) (sym c.1) ∙ eqb-true e.host host c.0)
+block_in_is host (Ok (PairIs e)) b h = absurd (none_some b h)
+block_in_is host (Ok (PairLeaderIs e)) b h = absurd (none_some b h)
 block_in_is host (Ok (RequestIs e)) b h = absurd (none_some b h)
 block_in_is host (Ok (ValueIs e)) b h = absurd (none_some b h)
 block_in_is host (Err bad) b h = absurd (none_some b h)

@@ -1,17 +1,19 @@
 -- Each block names the host of its session: it comes from phase 1, or from a block of the session, or from one that a read showed at the
 -- host's place.
+use Rattle.sl_trace.proofs.PlainReads.{given_plain}
 use Rattle.sl_run.specs.Lawful.{Orderly}
 use Rattle.sl_trace_law.proofs.Leases.ComingLaws.{blocks_come}
 use Rattle.sl_trace_law.proofs.Leases.NumberLaws.{number_is_place}
 use Rattle.sl_trace_law.specs.Leases.Ways.{BlockComes, Of_mode, Of_phase1, Of_phase2, Way, lease_among}
-use Rattle.sl_trace.specs.Leases.{block_of_host, block_submitted, block_written, blocks_given, spot_of_call}
+use Rattle.sl_trace.specs.Leases.{block_of_host, block_submitted, block_written, spot_of_call}
+use Rattle.sl_history.specs.Resources.Once.{blocks_once as blocks_given}
 use Rattle.sl_run_law.proofs.Place.Seats.{sized_in}
 use Rattle.sl_plain.proofs.Lists.{contains_cases, contains_first, contains_more, contains_none}
 use Rattle.sl_plain.proofs.Numbers.{back_again}
 use Rattle.sl_history.proofs.Resources.Above.{is_among, own_there}
 use Rattle.sl_history.proofs.Giving.Looked.{looked}
 use Rattle.sl_history.proofs.Resources.Looking.{IsLook}
-use Rattle.sl_history.proofs.Resources.Owning.{block_told, layout_at}
+use Rattle.sl_history.proofs.Resources.Owning.{plain_at, block_told, layout_at}
 use Rattle.sl_history.proofs.Giving.First.{block_in_is}
 use Rattle.sl_history.proofs.Resources.Standing.{Standing}
 use Rattle.sl_history.proofs.Resources.Calls.{in_world}
@@ -31,7 +33,7 @@ use Rattle.sl_words.proofs.CaseLaws.{none_some}
 use Rattle.sl_words.proofs.WordLaws.{and_true}
 use Rattle.std.proofs.Common.{ap, append_assoc, inl, inr, refl, subst, sym, ◌∙◌}
 use Rattle.std.proofs.lemmas.Bool.{leb-true}
-use Rattle.std.specs.Prelude.{Contains, List, None, Option, Some, nat_le, true, [], ℕ, ◌++◌, ◌+◌, ◌-◌, ◌∷◌, ◌≡◌, ◌≤◌}
+use Rattle.std.specs.Prelude.{false, Contains, List, None, Option, Some, nat_le, true, [], ℕ, ◌++◌, ◌+◌, ◌-◌, ◌∷◌, ◌≡◌, ◌≤◌}
 
 -- ---- who wrote the block that was last submitted
 
@@ -62,28 +64,28 @@ by_way s c own b (Of_phase1 at h) named = h.host
 by_way s c own b (Of_phase2 at h) named = h.host ∙ named
 by_way s c own b (Of_mode at h) named = h.host ∙ named
 
-own_names : (st : Setting) (es : Trace) (s : Session) → ReadsName st es s → (newer rest : List Submitted) (c : Submitted) → submitted es ≡ newer ++ c ∷ rest → (b : Block)
+own_names : (st : Setting) → st.layout.paired ≡ false → (es : Trace) (s : Session) → ReadsName st es s → (newer rest : List Submitted) (c : Submitted) → submitted es ≡ newer ++ c ∷ rest → (b : Block)
     → (k : BlockComes st s (spot_of_call st.layout c) rest c b) → Names s rest → (o : Option Block)
     → block_submitted (lease_among st s (spot_of_call st.layout c) rest) ≡ o → k.own.host ≡ s.id
-own_names st es s reads newer rest c is b k old None found =
+own_names st plain es s reads newer rest c is b k old None found =
     let f = k.found found in
     let among = is_among st s (spot_of_call st.layout c) rest f.read f.has in
-    reads f.read (subst (λ ms. Contains ms f.read) (sym is) (contains_right newer (c ∷ rest) f.read (contains_more c rest f.read among.has))) among.session f.blocks f.given k.own f.block
-own_names st es s reads newer rest c is b k old (Some d) found =
+    reads f.read (subst (λ ms. Contains ms f.read) (sym is) (contains_right newer (c ∷ rest) f.read (contains_more c rest f.read among.has))) among.session f.blocks (given_plain st.layout plain f.read f.before f.blocks f.given) k.own f.block
+own_names st plain es s reads newer rest c is b k old (Some d) found =
     let w = written_in (lease_among st s (spot_of_call st.layout c) rest) d found in
     let among = is_among st s (spot_of_call st.layout c) rest w.0 w.1 in
     ap (λ (x : Block). x.host) (sym (k.last d found)) ∙ old w.0 among.has among.session d w.2
 
-hosts_named : (st : Setting) (es : Trace) → Orderly st es → 1 ≤ st.layout.hosts → (s : Session) → session_numbered st es s.number ≡ Some s → ReadsName st es s
+hosts_named : (st : Setting) → st.layout.paired ≡ false → (es : Trace) → Orderly st es → 1 ≤ st.layout.hosts → (s : Session) → session_numbered st es s.number ≡ Some s → ReadsName st es s
     → (newer ms : List Submitted) → submitted es ≡ newer ++ ms → Names s ms
-hosts_named st es law some s known reads newer [] is c has mine b wrote = absurd (contains_none c has)
-hosts_named st es law some s known reads newer (x ∷ ms) is c has mine b wrote =
-    let old : Names s ms = hosts_named st es law some s known reads (newer ++ x ∷ []) ms (is ∙ sym (append_assoc newer (x ∷ []) ms)) in
+hosts_named st plain es law some s known reads newer [] is c has mine b wrote = absurd (contains_none c has)
+hosts_named st plain es law some s known reads newer (x ∷ ms) is c has mine b wrote =
+    let old : Names s ms = hosts_named st plain es law some s known reads (newer ++ x ∷ []) ms (is ∙ sym (append_assoc newer (x ∷ []) ms)) in
     elim (contains_cases x ms c has) as (λ z. b.host ≡ s.id) [
       | inl here ↦
           let whole : submitted es ≡ newer ++ c ∷ ms = is ∙ ap (λ y. newer ++ y ∷ ms) here in
           let k = blocks_come st es law some newer ms c b whole wrote s (ap (λ n. session_numbered st es n) mine ∙ known) in
-          by_way s c k.own b k.way (own_names st es s reads newer ms c whole b k old (block_submitted (lease_among st s (spot_of_call st.layout c) ms)) refl)
+          by_way s c k.own b k.way (own_names st plain es s reads newer ms c whole b k old (block_submitted (lease_among st s (spot_of_call st.layout c) ms)) refl)
       | inr more ↦ old c more mine b wrote
     ]
 
@@ -117,5 +119,5 @@ block_host p h xs run x s host b is =
     let low : 1 ≤ s.session.id = leb-true 1 s.session.id (and_true (nat_le 1 s.session.id) (nat_le s.session.id w.layout.hosts) host).0 in
     let look : (q : Submitted) → Contains (submitted es) q → q.call.session ≡ s.session.number → IsLook p h xs x.machine s.machine s.daemon q =
     λ q has mine. record { run = run; at = s.at; has = s.has; lawful = s.lawful; session = s.session; its = known; there = has; mine = mine } in
-    hosts_named st es s.lawful some s.session known (λ q has mine bs given own block. found_host p h xs x.machine s.machine s.daemon q (look q has mine) bs given s.session.id low own block)
+    hosts_named st (plain_at p h xs run x s) es s.lawful some s.session known (λ q has mine bs given own block. found_host p h xs x.machine s.machine s.daemon q (look q has mine) bs given s.session.id low own block)
     s.told.newer (s.told.one ∷ s.told.older) s.told.is s.told.one (contains_first s.told.one s.told.older) (sym n) b (block_told w x s b is)

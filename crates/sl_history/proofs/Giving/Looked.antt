@@ -1,9 +1,11 @@
 -- What a read gave of a host: its sector, and where that stands.
 use Rattle.sl_area.specs.Layouts.{Layout, record_in}
-use Rattle.sl_area.specs.Places.{block_offset, blocks_in, read_at, sector_of}
+use Rattle.sl_area.specs.Places.{area_sectors, block_offset, block_sectors, blocks_in, read_at, sector_of}
 use Rattle.sl_run.specs.LawfulArea.{IsAreaRead, IsBlockRead}
-use Rattle.sl_trace.specs.Leases.{blocks_given, is_area_read, spot_of_call}
+use Rattle.sl_trace.specs.Leases.{is_area_read, spot_of_call}
+use Rattle.sl_history.specs.Resources.Once.{blocks_once as blocks_given}
 use Rattle.sl_run_law.proofs.Place.Proven.{promised}
+use Rattle.sl_run_law.proofs.Place.Seats.{plain_in}
 use Rattle.sl_run_law.proofs.Place.Reading.{IsRead, read_of}
 use Rattle.sl_plain.proofs.Numbers.{both_next, one_further, plus_zero, zero_less}
 use Rattle.sl_run.specs.Events.{sectors_of}
@@ -19,7 +21,7 @@ use Rattle.sl_words.proofs.CaseLaws.{none_some, some_value}
 use Rattle.std.proofs.Common.{ap, arith, subst, sym, ◌∙◌}
 use Rattle.std.proofs.lemmas.List.{drop-drop}
 use Rattle.std.specs.List.{range_with_len}
-use Rattle.std.specs.Prelude.{Bool, List, Option, Some, drop, if◌then◌else◌, map, slice_get, suc, take, zero, ℕ, ◌*◌, ◌+◌, ◌-◌, ◌<◌, ◌≡◌}
+use Rattle.std.specs.Prelude.{Bool, List, Option, Some, drop, false, true, if◌then◌else◌, map, slice_get, suc, take, zero, ℕ, ◌*◌, ◌+◌, ◌-◌, ◌<◌, ◌≡◌}
 use Rattle.sl_history.proofs.Resources.Looking.{By_area, By_phase, Gave, IsLook, area_place, given_blocks, look_layout, phase_place}
 
 -- ---- the blocks of a list of bytes
@@ -48,6 +50,10 @@ two_on s j = grind arith
 
 behind_two : (g : Layout) (bytes : List ℕ) (j : ℕ) → sector_of g (drop (2 * g.sector) bytes) j ≡ sector_of g bytes (j + 2)
 behind_two g bytes j = ap (λ l. take g.sector l) (drop-drop (j * g.sector) (2 * g.sector) bytes ∙ ap (λ n. drop n bytes) (two_on g.sector j))
+
+-- The blocks of all hosts have a sector each.
+sectors_plain : (g : Layout) → g.paired ≡ false → block_sectors g ≡ g.hosts
+sectors_plain g plain = ap (λ b. elim b as (λ z. ℕ) [ false ↦ g.hosts | true ↦ 2 * g.hosts ]) plain
 
 -- ---- at its place
 
@@ -87,7 +93,8 @@ looked_by p h xs m a d q k bs (By_area bytes told is same) j b there =
     let w : World = world_at p h xs in
     let layout = look_layout p h xs m a d q k in
     let right : IsAreaRead d.setting (spot_of_call d.setting.layout q) q = area_place p h xs m a d q k is in
-    let op : q.call.op ≡ ReadSectors (w.layout.hosts + 2) = right.1 ∙ ap (λ g. ReadSectors (g.hosts + 2)) layout in
+    let op : q.call.op ≡ ReadSectors (w.layout.hosts + 2) =
+    right.1 ∙ ap (λ g. ReadSectors (area_sectors g)) layout ∙ ap (λ n. ReadSectors (n + 2)) (sectors_plain w.layout (plain_in p h xs k.run)) in
     let offset : q.call.offset ≡ (spot_of_call w.layout q).base = right.0 ∙ ap (λ g. (spot_of_call g q).base) layout in
     let t = block_there w.layout (drop (2 * w.layout.sector) bytes) j b (subst (λ l. slice_get l j ≡ Some (Some b)) same there) in
     record {
@@ -103,8 +110,9 @@ looked_by p h xs m a d q k bs (By_area bytes told is same) j b there =
 looked_by p h xs m a d q k bs (By_phase bytes told alone is same) j b there =
     let w : World = world_at p h xs in
     let layout = look_layout p h xs m a d q k in
-    let right : IsBlockRead d.setting (spot_of_call d.setting.layout q) q = phase_place p h xs m a d q k is in
-    let op : q.call.op ≡ ReadSectors w.layout.hosts = right.1 ∙ ap (λ g. ReadSectors g.hosts) layout in
+    let right : IsBlockRead d.setting (spot_of_call d.setting.layout q) q = phase_place p h xs m a d q k alone is in
+    let op : q.call.op ≡ ReadSectors w.layout.hosts =
+    right.1 ∙ ap (λ g. ReadSectors (block_sectors g)) layout ∙ ap (λ n. ReadSectors n) (sectors_plain w.layout (plain_in p h xs k.run)) in
     let offset : q.call.offset ≡ block_offset w.layout (spot_of_call w.layout q).base 1 = right.0 ∙ ap (λ g. block_offset g (spot_of_call g q).base 1) layout in
     let t = block_there w.layout bytes j b (subst (λ l. slice_get l j ≡ Some (Some b)) same there) in
     record {

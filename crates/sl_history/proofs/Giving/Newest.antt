@@ -13,7 +13,7 @@ use Rattle.sl_run_law.proofs.Place.Reading.{call_law}
 use Rattle.sl_plain.proofs.Lists.{contains_cases, contains_first, contains_more, contains_none, kept, kept_inside}
 use Rattle.sl_plain.proofs.Numbers.{equal_is_most, less_is_most}
 use Rattle.sl_history.proofs.Resources.Alone.{head_pairs, tail_pairs}
-use Rattle.sl_history.proofs.Resources.Calls.{block_sent, found_of, made_of, owned, owner_found, owner_layout, spot_is, there_sent, write_is}
+use Rattle.sl_history.proofs.Resources.Calls.{block_sent, found_of, made_of, owned, owner_found, owner_layout, record_sent, spot_is, there_sent, write_is}
 use Rattle.sl_history.proofs.Giving.Landed.{in_order, landed_block}
 use Rattle.sl_history.proofs.Resources.Calls.{Name, holder_is, name_of, one_sent, writes_is}
 use Rattle.sl_history.proofs.Giving.Shown.{IsShownOf, in_history, sector_is, shown_of, stands_there}
@@ -129,7 +129,7 @@ block_place p h xs run r there k x b =
     let q : Submitted = o.trace.submitted_as in
     let d = made_of o in
     let law = call_law st o.trace.daemon.trace o.session q d o.trace.lawful o.its o.mine in
-    let block = block_sent x.course b.block in
+    let block = block_sent p h xs run x b.sent b.block in
     let write : LawfulAreaWrite st (front_of d) o.session (made_as d) (BlockIs block.0) =
     (law.0.area.0.writes d.index q.call o.session d.call law.1 (BlockIs block.0) (ap (λ (c : Call). record_of c.op) o.trace.is.call ∙ block.1) refl).1 in
     let layout : st.layout ≡ w.layout = owner_layout p h xs run x o in
@@ -154,8 +154,8 @@ has_come p h xs run r there k x b done s told =
     let o = owned p h xs run x b.sent in
     let a : Machine = o.there.machine in
     let c : Course = x.course in
-    let block = block_sent c b.block in
-    let landed = done_writes_have_landed p h xs run x.machine a c o.there.at o.there.has done (write_is c.call.op (BlockIs block.0) block.1) in
+    let block = record_sent c b.block in
+    let landed = done_writes_have_landed p h xs run x.machine a c o.there.at o.there.has done (write_is c.call.op block.0 block.1) in
     let l = landed_are_there p h xs run x.machine a c o.there.at o.there.has landed in
     let k' : HasWriter w l.0 = landings_are_written p h xs run l.0 l.1 in
     let y : Sent = record { machine = k'.machine; course = k'.wrote.course } in

@@ -5,19 +5,19 @@ use Rattle.sl_run_law.proofs.Course.Distinct.{each_distinct}
 use Rattle.sl_run_law.proofs.Front.Having.{contains_append}
 use Rattle.sl_run_law.proofs.Landing.Listing.{one_call}
 use Rattle.sl_run_law.specs.Landing.Landings.{LeftBy}
-use Rattle.sl_run.specs.LawfulArea.{IsAreaRead, IsBlockRead, IsRightRead, record_offset}
+use Rattle.sl_run.specs.LawfulArea.{is_of_format, IsAreaRead, IsBlockRead, IsRightRead, record_offset}
 use Rattle.sl_trace.specs.Leases.{is_area_read, is_block_read, is_on, spot_of_call}
 use Rattle.sl_run_law.proofs.Place.Areas.{is_within}
 use Rattle.sl_run_law.proofs.Place.Checks.{behind, placed_in_world, same_block}
 use Rattle.sl_run_law.proofs.Place.Finding.{numbered_inside, place_is, same_text}
 use Rattle.sl_run_law.proofs.Place.Proven.{resources_hold_leases}
 use Rattle.sl_run_law.proofs.Place.Reading.{call_law}
-use Rattle.sl_run_law.proofs.Place.Seats.{sized_in}
+use Rattle.sl_run_law.proofs.Place.Seats.{plain_in, sized_in}
 use Rattle.sl_run_law.proofs.Place.Sizes.{IsSized, sector_has_bytes, slot_below}
 use Rattle.sl_run_law.specs.Place.Homes.{IsLeaseLanding}
 use Rattle.sl_plain.proofs.Lists.{contains_cases, contains_none, kept_inside}
 use Rattle.sl_plain.proofs.Numbers.{at_least_first, back_again}
-use Rattle.sl_history.proofs.Resources.Calls.{IsOwned, holder_is, host_range, finds_it, made_of, name_is, named, owner_layout, spot_is, text_same, there_sent}
+use Rattle.sl_history.proofs.Resources.Calls.{sent_format, IsOwned, holder_is, host_range, finds_it, made_of, name_is, named, owner_layout, spot_is, text_same, there_sent}
 use Rattle.sl_history.specs.Resources.Histories.{is_host, landing_shown, sector_number, step_of_landing}
 use Rattle.sl_history.specs.Resources.Promises.{spot_of_line}
 use Rattle.sl_history.specs.Resources.Sending.{Sent, all_sent, holder_of, reads_blocks, sender_of, step_of}
@@ -29,20 +29,21 @@ use Rattle.sl_run.specs.declared.header.ResourceLine.{ResourceLine}
 use Rattle.sl_run_law.proofs.Sample.Proven.{samples_are_landings}
 use Rattle.sl_run_law.specs.Sample.Samples.{IsSampleOf, numbered_landing, sector_place}
 use Rattle.sl_sector.specs.declared.sector.Block.{Block}
-use Rattle.sl_sector.specs.declared.sector.Rec.TheVariants.{BlockIs, DeltaIs, LeaderIs, RequestIs, ValueIs}
+use Rattle.sl_sector.specs.declared.sector.Rec.TheVariants.{BlockIs, DeltaIs, LeaderIs, PairIs, PairLeaderIs, RequestIs, ValueIs}
 use Rattle.sl_sector.specs.declared.sector.Rec.{Rec}
 use Rattle.sl_trace_law.specs.Sessions.Promises.{made_as}
 use Rattle.sl_trace.specs.declared.session.Session.{Session}
 use Rattle.sl_trace.specs.Traces.{Setting, Submitted, new_call, record_of, same_place}
 use Rattle.sl_trace.specs.declared.effects.Call.{Call}
-use Rattle.sl_trace.specs.declared.effects.LeaseStep.TheVariants.{ClearMode, FreeLeader, Phase1Read, Phase1Write, Phase2Read, Phase2Write, ReadArea, ReadBeforeFree, SetMode, TakeLeader}
+use Rattle.sl_trace.specs.declared.effects.LeaseStep.TheVariants.{ClearMode, FreeLeader, Phase1Read, Phase1Write, Phase2Read, Phase2Write, ReadAgain, ReadArea, ReadBeforeBlock, ReadBeforeFree, SetMode, TakeLeader}
 use Rattle.sl_trace.specs.declared.effects.LeaseStep.{LeaseStep}
+use Rattle.sl_trace.specs.declared.effects.LeaseRead.TheVariants.{OfArea, OfBlock, OfFree, OfPhase1, OfPhase2}
 use Rattle.sl_trace.specs.declared.effects.Op.TheVariants.{ReadSectors}
 use Rattle.sl_trace.specs.declared.effects.Purpose.TheVariants.{Joining, Lease, Leaving, Renewal, RequestRead, RequestWrite, SeeRequest, Survey, ValueRead, ValueWrite}
 use Rattle.sl_trace.specs.declared.effects.Purpose.{Purpose}
 use Rattle.sl_trace.specs.declared.effects.Spot.{Spot}
 use Rattle.sl_trace.specs.declared.effects.Work.{Work}
-use Rattle.sl_words.proofs.CaseLaws.{false_is_true, none_some, one_value, some_value}
+use Rattle.sl_words.proofs.CaseLaws.{false_is_true, none_some, one_value, some_value, true_is_false}
 use Rattle.sl_words.proofs.WordLaws.{and_true}
 use Rattle.std.proofs.Common.{ap, arith, inl, inr, refl, subst, sym, ◌∙◌}
 use Rattle.std.proofs.Math.Nat.{mul-le-mul_left}
@@ -84,22 +85,24 @@ record IsBlockOf (s : Session) (k : ℕ) (r : Rec) : Type 0 where
   is : r ≡ BlockIs block
   host : s.id ≡ k
 
-only_blocks : {sizes : Sizes} (st : Setting) (w : World) (s : Session) (at : Spot) (k : ℕ) (r : Rec) (o : ℕ) → st.layout ≡ w.layout → IsSized sizes w.layout → is_host w k ≡ true
+only_blocks : {sizes : Sizes} (st : Setting) (w : World) (s : Session) (at : Spot) (k : ℕ) (r : Rec) (o : ℕ) → w.layout.paired ≡ false → is_of_format w.layout r ≡ true → st.layout ≡ w.layout → IsSized sizes w.layout → is_host w k ≡ true
     → record_offset st s at r ≡ Some o → o ≡ block_offset w.layout at.base k → IsBlockOf s k r
-only_blocks st w s at k (DeltaIs d) o layout z host placed here = absurd (none_some o placed)
-only_blocks st w s at k (LeaderIs d) o layout z host placed here =
+only_blocks st w s at k (DeltaIs d) o plain format layout z host placed here = absurd (none_some o placed)
+only_blocks st w s at k (LeaderIs d) o plain format layout z host placed here =
     absurd (behind w.layout at.base k z (some_value (leader_offset at.base) o placed ∙ here))
-only_blocks st w s at k (BlockIs b) o layout z host placed here =
+only_blocks st w s at k (BlockIs b) o plain format layout z host placed here =
     record {
       block = b;
       is = refl;
       host = same_block w.layout at.base s.id k z
           (ap (λ (g : Layout). block_offset g at.base s.id) (sym layout) ∙ some_value (block_offset st.layout at.base s.id) o placed ∙ here);
     }
-only_blocks st w s at k (RequestIs d) o layout z host placed here =
+only_blocks st w s at k (PairIs d) o plain format layout z host placed here = absurd (true_is_false (sym format ∙ plain))
+only_blocks st w s at k (PairLeaderIs d) o plain format layout z host placed here = absurd (true_is_false (sym format ∙ plain))
+only_blocks st w s at k (RequestIs d) o plain format layout z host placed here =
     absurd (no_request at.base w.layout.sector k (sector_has_bytes w.layout z) (host_range w k host).0
     (ap (λ (g : Layout). request_offset g at.base) (sym layout) ∙ some_value (request_offset st.layout at.base) o placed ∙ here))
-only_blocks st w s at k (ValueIs d) o layout z host placed here =
+only_blocks st w s at k (ValueIs d) o plain format layout z host placed here =
     absurd (no_value at.base w.layout.sector w.layout.area k w.layout.hosts (sector_has_bytes w.layout z) (host_range w k host).1 z.room
     (ap (λ (g : Layout). value_offset g at.base) (sym layout) ∙ some_value (value_offset st.layout at.base) o placed ∙ here))
 
@@ -150,7 +153,10 @@ block_landing p h xs run r there k host l landed path offset =
     let d : IsLeaseLanding w r l =
     resources_hold_leases p h xs run r there l landed path (subst (λ o. IsTrue (in_area w.layout r.offset o)) (sym offset) (place_within w r.offset k z host)) in
     let b : IsBlockOf d.written.found.session k d.written.wrote.record_written =
-    only_blocks (setting_in d.written.found) w d.written.found.session (spot_of_line r) k d.written.wrote.record_written l.offset (placed_in_world p h xs run r l d) z host d.placed offset in
+    only_blocks (setting_in d.written.found) w d.written.found.session (spot_of_line r) k d.written.wrote.record_written l.offset (plain_in p h xs run)
+    (sent_format p h xs run (record { machine = d.written.machine; course = d.written.wrote.course })
+    (there_sent w d.written.machine d.written.wrote.machine d.written.wrote.course d.written.wrote.at d.written.wrote.has) d.written.wrote.record_written d.written.wrote.writes d.other)
+    (placed_in_world p h xs run r l d) z host d.placed offset in
     let wrote = d.written.wrote in
     let c : Course = wrote.course in
     let m : ℕ = d.written.machine in
@@ -222,6 +228,12 @@ placed_step : (st : Setting) (at : Spot) (m : Submitted) (work : Work) (step : L
     → IsRightRead st at m (Lease work step) → IsPlaced st at m
 placed_step st at m work (ReadArea name) is h right = inl (ap area_for is, right)
 placed_step st at m work ReadBeforeFree is h right = inl (ap area_for is, right)
+placed_step st at m work ReadBeforeBlock is h right = inr (ap area_for is, right.1)
+placed_step st at m work (ReadAgain (OfArea name)) is h right = inl (ap area_for is, right.1)
+placed_step st at m work (ReadAgain OfFree) is h right = inl (ap area_for is, right.1)
+placed_step st at m work (ReadAgain OfBlock) is h right = inr (ap area_for is, right.1)
+placed_step st at m work (ReadAgain OfPhase1) is h right = inr (ap area_for is, right.1)
+placed_step st at m work (ReadAgain OfPhase2) is h right = inr (ap area_for is, right.1)
 placed_step st at m work Phase1Read is h right = inr (ap area_for is, right)
 placed_step st at m work Phase2Read is h right = inr (ap area_for is, right)
 placed_step st at m work Phase1Write is h right = absurd (false_is_true (sym (ap looks_for is) ∙ h))

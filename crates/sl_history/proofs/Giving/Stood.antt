@@ -3,8 +3,11 @@
 -- What stands at a place is the newest landing there; a block that was answered ok has landed; and a host's blocks land in the order in
 -- which they were submitted, where the sessions that sent them follow one another. It is so at each front that the answer has come
 -- before, of whatever run.
+use Rattle.sl_sector.specs.Spelling.{block_in}
+use Rattle.sl_sector.specs.declared.sector.PairBlock.{PairBlock}
+use Rattle.sl_trace.specs.declared.effects.Spot.{Spot}
 use Rattle.sl_area.specs.Layouts.{Layout, record_in}
-use Rattle.sl_area.specs.Places.{block_offset}
+use Rattle.sl_area.specs.Places.{block_offset, later_pair}
 use Rattle.sl_run_law.proofs.Front.Going.{fronts_are_lawful, run_after}
 use Rattle.sl_run_law.proofs.Front.Having.{contains_left, contains_right}
 use Rattle.sl_id_safety.proofs.Fronting.{landed_since}
@@ -15,7 +18,7 @@ use Rattle.sl_run_law.specs.Landing.Landings.{HasWriter}
 use Rattle.sl_trace.specs.Leases.{block_of_record}
 use Rattle.sl_run_law.proofs.Place.Proven.{promised}
 use Rattle.sl_run_law.proofs.Place.Reading.{layout_is, reads_back}
-use Rattle.sl_run_law.proofs.Place.Seats.{sized_in}
+use Rattle.sl_run_law.proofs.Place.Seats.{plain_in, sized_in}
 use Rattle.sl_run_law.proofs.Place.Sizes.{sector_fits}
 use Rattle.sl_plain.proofs.Lists.{contains_cases, contains_first, kept}
 use Rattle.sl_history.proofs.Resources.Calls.{there_sent}
@@ -30,7 +33,7 @@ use Rattle.sl_history.specs.Resources.Promises.{spot_of_line}
 use Rattle.sl_history.specs.Resources.Reads.{BlocksFollow, SentSince, StandsSince}
 use Rattle.sl_history.specs.Resources.Sending.{Sent, block_of_course, step_of}
 use Rattle.sl_run.specs.Runs.{Happening}
-use Rattle.sl_run.specs.Safety.{LawfulRun, block_there, world_at}
+use Rattle.sl_run.specs.Safety.{LawfulRun, block_there, pair_there, world_at}
 use Rattle.sl_run.specs.Worlds.{Landing, Program, Stamp, World, content, first_landing, history_of, landed_at, world_with}
 use Rattle.sl_run.specs.declared.header.Header.{Header}
 use Rattle.sl_run.specs.declared.header.ResourceLine.{ResourceLine}
@@ -41,7 +44,7 @@ use Rattle.sl_sector.specs.declared.sector.Rec.{Rec}
 use Rattle.sl_trace.specs.Traces.{same_place}
 use Rattle.sl_words.proofs.CaseLaws.{some_value}
 use Rattle.std.proofs.Common.{ap, arith, inl, inr, subst, sym, ◌∙◌}
-use Rattle.std.specs.Prelude.{Contains, List, Ok, Some, [], option_and_then, true, ℕ, ◌++◌, ◌<◌, ◌∷◌, ◌≡◌, ◌≤◌, ◌⊎◌}
+use Rattle.std.specs.Prelude.{option_map, Option, false, Contains, List, Ok, Some, [], option_and_then, true, ℕ, ◌++◌, ◌<◌, ◌∷◌, ◌≡◌, ◌≤◌, ◌⊎◌}
 
 -- ---- fronts
 
@@ -132,6 +135,15 @@ sent_as p h xs run r there k host l landed path offset b spells =
 
 -- ---- a host's block
 
+-- Where each host's block has one sector, what stands is what that spells.
+pub there_plain : (w : World) → w.layout.paired ≡ false → (at : Spot) (k : ℕ)
+    → block_there w at k ≡ block_in k (record_in w.layout (content w at.path (block_offset w.layout at.base k)))
+there_plain w plain at k =
+    ap (λ b. elim b as (λ z. Option Block) [
+      | false ↦ block_in k (record_in w.layout (content w at.path (block_offset w.layout at.base k)))
+      | true ↦ option_map (λ (q : PairBlock). q.block) (later_pair (pair_there w at k true) (pair_there w at k false))
+    ]) plain
+
 pub block_stands : (p : Program) (h : Header) (now rest : List Happening) → LawfulRun p h (now ++ rest) → (r : ResourceLine) → Contains h.resources r → (k : ℕ)
     → is_host (world_at p h (now ++ rest)) k ≡ true → BlocksFollow (world_at p h (now ++ rest)) r k → (x : Sent) → BlockSent (world_at p h (now ++ rest)) r k x
     → x.course.done ≡ true → (s : Stamp) → x.course.answered ≡ Some s → s.step ≤ (world_at p h now).step → (b : Block)
@@ -149,7 +161,7 @@ block_stands p h now rest run r there k host follow x block done s told early b 
     let was : Contains u.landings c.landing = landed_sooner p h now rest c.landing c.at.landed (omega (arith, come, early)) in
     let n = newest_is p h now front r.path place c.landing t.top t.below t.whole was c.at.place.0 (c.at.place.1 ∙ sym at) in
     let is : record_in u.layout t.top.bytes ≡ Ok (BlockIs b) =
-    subst (λ (bs : List ℕ). record_in u.layout bs ≡ Ok (BlockIs b)) t.holds (block_in_is k (record_in u.layout (content u r.path place)) b spells).0 in
+    subst (λ (bs : List ℕ). record_in u.layout bs ≡ Ok (BlockIs b)) t.holds (block_in_is k (record_in u.layout (content u r.path place)) b (sym (there_plain u (plain_in p h now front) (spot_of_line r) k) ∙ spells)).0 in
     let y : IsSentAs w r k t.top b =
     sent_as p h (now ++ rest) run r there k host t.top (landed_later p h now rest t.top n.landed) n.place.0 (n.place.1 ∙ at) b
     (subst (λ (g : Layout). record_in g t.top.bytes ≡ Ok (BlockIs b)) layout is) in

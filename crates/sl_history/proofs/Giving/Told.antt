@@ -10,7 +10,8 @@ use Rattle.sl_history.specs.Resources.Sending.{reads_blocks}
 use Rattle.sl_run.specs.Worlds.{Course, Daemon}
 use Rattle.sl_sector.specs.Spelling.{block_in}
 use Rattle.sl_sector.specs.declared.sector.Block.{Block}
-use Rattle.sl_trace.specs.Leases.{blocks_given, is_area_read, is_block_read}
+use Rattle.sl_trace.specs.Leases.{is_area_read, is_block_read}
+use Rattle.sl_history.specs.Resources.Once.{blocks_once as blocks_given}
 use Rattle.sl_trace.specs.Traces.{Answered, Submitted, gave, is_ok_answer, new_call}
 use Rattle.sl_trace.specs.declared.effects.Call.{Call}
 use Rattle.sl_words.proofs.CaseLaws.{none_some, some_value}

@@ -8,7 +8,8 @@ use Rattle.sl_trace_law.proofs.Leases.NumberLaws.{number_is_place}
 use Rattle.sl_trace_law.proofs.Leases.TurnLaws.{one_at_a_time}
 use Rattle.sl_trace_law.specs.Leases.Promises.{WasAnsweredBy}
 use Rattle.sl_trace_law.specs.Leases.Ways.{BlockComes, lease_among}
-use Rattle.sl_trace.specs.Leases.{block_of_host, blocks_given, is_block_read, is_lease_call, is_on, spot_of_call}
+use Rattle.sl_trace.specs.Leases.{block_of_host, is_block_read, is_lease_call, is_on, spot_of_call}
+use Rattle.sl_history.specs.Resources.Once.{blocks_once as blocks_given}
 use Rattle.sl_run_law.proofs.Place.Areas.{resource_aligned}
 use Rattle.sl_run_law.proofs.Place.Daemons.{daemons_are_fine, stamp_order}
 use Rattle.sl_run_law.proofs.Place.Seats.{sized_in}

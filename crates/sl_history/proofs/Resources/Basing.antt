@@ -15,7 +15,7 @@ use Rattle.sl_sector.specs.declared.sector.Block.{Block}
 use Rattle.sl_trace.specs.Sessions.{me}
 use Rattle.sl_trace.specs.declared.session.Session.{Session}
 use Rattle.sl_trace.specs.Traces.{Setting, Submitted, Trace, new_call, submitted}
-use Rattle.sl_trace.specs.declared.effects.LeaseStep.TheVariants.{ClearMode, FreeLeader, Phase1Read, Phase1Write, Phase2Read, Phase2Write, ReadArea, ReadBeforeFree, SetMode, TakeLeader}
+use Rattle.sl_trace.specs.declared.effects.LeaseStep.TheVariants.{ClearMode, FreeLeader, Phase1Read, Phase1Write, Phase2Read, Phase2Write, ReadAgain, ReadArea, ReadBeforeBlock, ReadBeforeFree, SetMode, TakeLeader}
 use Rattle.sl_trace.specs.declared.effects.LeaseStep.{LeaseStep}
 use Rattle.sl_trace.specs.declared.effects.Spot.{Spot}
 use Rattle.sl_trace.specs.declared.effects.Work.{Work}
@@ -76,6 +76,8 @@ read_by_step st t s at c b some none w ClearMode is h =
     }
 read_by_step st t s at c b some none w (ReadArea name) is h = absurd h
 read_by_step st t s at c b some none w ReadBeforeFree is h = absurd h
+read_by_step st t s at c b some none w ReadBeforeBlock is h = absurd h
+read_by_step st t s at c b some none w (ReadAgain read) is h = absurd h
 read_by_step st t s at c b some none w Phase1Read is h = absurd h
 read_by_step st t s at c b some none w Phase2Read is h = absurd h
 read_by_step st t s at c b some none w TakeLeader is h = absurd h

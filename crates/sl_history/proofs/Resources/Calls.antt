@@ -7,7 +7,7 @@ use Rattle.sl_run_law.specs.Course.Stamping.{AnswersAgree, IsAnsweredAs, IsCours
 use Rattle.sl_run_law.proofs.Front.Having.{contains_flat, in_flat}
 use Rattle.sl_run_law.proofs.Landing.Listing.{one_call}
 use Rattle.sl_run.specs.Lawful.{Orderly}
-use Rattle.sl_run.specs.LawfulArea.{LawfulAreaWrite, is_area_work, is_block_work, is_delta_record}
+use Rattle.sl_run.specs.LawfulArea.{is_of_format, LawfulAreaWrite, is_area_work, is_block_work, is_delta_record}
 use Rattle.sl_trace_law.proofs.Leases.TurnLaws.{one_at_a_time}
 use Rattle.sl_trace_law.specs.Leases.Promises.{WasAnsweredBy}
 use Rattle.sl_trace.specs.Leases.{block_of_record, is_block_read, is_on, leader_of_record, spot_of_call}
@@ -20,7 +20,7 @@ use Rattle.sl_run_law.proofs.Place.Leased.{IsLeased, verified_leased}
 use Rattle.sl_run_law.proofs.Place.Numbering.{session_number}
 use Rattle.sl_run_law.proofs.Place.Proven.{promised}
 use Rattle.sl_run_law.proofs.Place.Reading.{IsTraced, call_law, owner_of, session_inside, traced}
-use Rattle.sl_run_law.proofs.Place.Seats.{sized_in}
+use Rattle.sl_run_law.proofs.Place.Seats.{plain_in, sized_in}
 use Rattle.sl_plain.proofs.Lists.{contains_cases, contains_first, contains_map, contains_more, contains_none, find_inside, got_inside, in_map, tail_is}
 use Rattle.sl_plain.proofs.Numbers.{one_less}
 use Rattle.sl_plain.proofs.Options.{else_some}
@@ -36,7 +36,7 @@ use Rattle.sl_run.specs.declared.header.ResourceLine.{ResourceLine}
 use Rattle.sl_run_law.proofs.Walking.{index, number_within}
 use Rattle.sl_sector.specs.declared.sector.Block.{Block}
 use Rattle.sl_sector.specs.declared.sector.Leader.{Leader}
-use Rattle.sl_sector.specs.declared.sector.Rec.TheVariants.{BlockIs, DeltaIs, LeaderIs, RequestIs, ValueIs}
+use Rattle.sl_sector.specs.declared.sector.Rec.TheVariants.{BlockIs, DeltaIs, LeaderIs, PairIs, PairLeaderIs, RequestIs, ValueIs}
 use Rattle.sl_sector.specs.declared.sector.Rec.{Rec}
 use Rattle.sl_trace_law.proofs.Sessions.Making.{calls_are_made}
 use Rattle.sl_trace_law.proofs.Sessions.Staying.{joined_more, stays}
@@ -50,7 +50,7 @@ use Rattle.sl_trace.specs.declared.effects.Op.{Op}
 use Rattle.sl_trace.specs.declared.effects.Purpose.TheVariants.{Joining, Lease, Leaving, Renewal, RequestRead, RequestWrite, SeeRequest, Survey, ValueRead, ValueWrite}
 use Rattle.sl_trace.specs.declared.effects.Purpose.{Purpose}
 use Rattle.sl_trace.specs.declared.effects.Spot.{Spot}
-use Rattle.sl_words.proofs.CaseLaws.{false_is_true, none_some, one_value, some_value}
+use Rattle.sl_words.proofs.CaseLaws.{false_is_true, none_some, one_value, some_value, true_is_false}
 use Rattle.sl_words.proofs.WordLaws.{and_true, some_is_true}
 use Rattle.sl_words.specs.Words.{some_is}
 use Rattle.std.proofs.Common.{ap, arith, inl, inr, refl, subst, sym, tests, ◌∙◌}
@@ -421,36 +421,70 @@ write_works p h xs run r there x sent on rec writes other =
       lockspace = leased_of p h xs run r there x o on rec write.1;
     }
 
--- What a call writes, if it writes a block, or a leader.
-some_block : (o : Option Rec) → is_some (option_and_then block_of_record o) ≡ true → (b : Block) × (o ≡ Some (BlockIs b))
-some_block None h = absurd (false_is_true h)
-some_block (Some (BlockIs b)) h = (b, refl)
-some_block (Some (LeaderIs l)) h = absurd (false_is_true h)
-some_block (Some (DeltaIs l)) h = absurd (false_is_true h)
-some_block (Some (RequestIs l)) h = absurd (false_is_true h)
-some_block (Some (ValueIs l)) h = absurd (false_is_true h)
+-- What a call writes is no delta record, if it is a block, or a leader.
+abbrev pub Other : Option Rec → Type 0
+Other o = (r : Rec) × (o ≡ Some r) × (is_delta_record r ≡ false)
 
-some_leader : (o : Option Rec) → is_some (option_and_then leader_of_record o) ≡ true → (l : Leader) × (o ≡ Some (LeaderIs l))
-some_leader None h = absurd (false_is_true h)
-some_leader (Some (LeaderIs b)) h = (b, refl)
-some_leader (Some (BlockIs l)) h = absurd (false_is_true h)
-some_leader (Some (DeltaIs l)) h = absurd (false_is_true h)
-some_leader (Some (RequestIs l)) h = absurd (false_is_true h)
-some_leader (Some (ValueIs l)) h = absurd (false_is_true h)
+other_block : (o : Option Rec) → is_some (option_and_then block_of_record o) ≡ true → Other o
+other_block None h = absurd (false_is_true h)
+other_block (Some (BlockIs b)) h = (BlockIs b, refl, refl)
+other_block (Some (PairIs q)) h = (PairIs q, refl, refl)
+other_block (Some (LeaderIs l)) h = absurd (false_is_true h)
+other_block (Some (PairLeaderIs l)) h = absurd (false_is_true h)
+other_block (Some (DeltaIs l)) h = absurd (false_is_true h)
+other_block (Some (RequestIs l)) h = absurd (false_is_true h)
+other_block (Some (ValueIs l)) h = absurd (false_is_true h)
 
-pub block_sent : (c : Course) → writes_block c ≡ true → (b : Block) × (record_of c.call.op ≡ Some (BlockIs b))
-block_sent c h = some_block (record_of c.call.op) h
+-- The record of a call that writes a block.
+pub record_sent : (c : Course) → writes_block c ≡ true → Other (record_of c.call.op)
+record_sent c h = other_block (record_of c.call.op) h
 
-pub leader_sent : (c : Course) → writes_leader c ≡ true → (l : Leader) × (record_of c.call.op ≡ Some (LeaderIs l))
-leader_sent c h = some_leader (record_of c.call.op) h
+other_leader : (o : Option Rec) → is_some (option_and_then leader_of_record o) ≡ true → Other o
+other_leader None h = absurd (false_is_true h)
+other_leader (Some (LeaderIs l)) h = (LeaderIs l, refl, refl)
+other_leader (Some (PairLeaderIs l)) h = (PairLeaderIs l, refl, refl)
+other_leader (Some (BlockIs l)) h = absurd (false_is_true h)
+other_leader (Some (PairIs q)) h = absurd (false_is_true h)
+other_leader (Some (DeltaIs l)) h = absurd (false_is_true h)
+other_leader (Some (RequestIs l)) h = absurd (false_is_true h)
+other_leader (Some (ValueIs l)) h = absurd (false_is_true h)
+
+-- Where each host's block has one sector, a block that is written is a block's record.
+some_block : (g : Layout) → g.paired ≡ false → (o : Option Rec) → ((r : Rec) → o ≡ Some r → is_delta_record r ≡ false → is_of_format g r ≡ true)
+    → is_some (option_and_then block_of_record o) ≡ true → (b : Block) × (o ≡ Some (BlockIs b))
+some_block g plain None format h = absurd (false_is_true h)
+some_block g plain (Some (BlockIs b)) format h = (b, refl)
+some_block g plain (Some (PairIs q)) format h = absurd (true_is_false (sym (format (PairIs q) refl refl) ∙ plain))
+some_block g plain (Some (LeaderIs l)) format h = absurd (false_is_true h)
+some_block g plain (Some (PairLeaderIs l)) format h = absurd (false_is_true h)
+some_block g plain (Some (DeltaIs l)) format h = absurd (false_is_true h)
+some_block g plain (Some (RequestIs l)) format h = absurd (false_is_true h)
+some_block g plain (Some (ValueIs l)) format h = absurd (false_is_true h)
+
+-- A record that is written is of the areas' format.
+pub sent_format : (p : Program) (h : Header) (xs : List Happening) → LawfulRun p h xs → (x : Sent) → Contains (all_sent (world_at p h xs)) x → (rec : Rec)
+    → record_of x.course.call.op ≡ Some rec → is_delta_record rec ≡ false → is_of_format (world_at p h xs).layout rec ≡ true
+sent_format p h xs run x sent rec writes other =
+    let o = owned p h xs run x sent in
+    let d = made_of o in
+    let q : Submitted = o.trace.submitted_as in
+    let law = call_law o.trace.daemon.setting o.trace.daemon.trace o.session q d o.trace.lawful o.its o.mine in
+    let layout = (promised.of_world p h xs run x.machine o.there.machine o.trace.daemon o.there.at o.trace.has).layout in
+    ap (λ (g : Layout). is_of_format g rec) (sym layout)
+    ∙ (law.0.area.0.writes d.index q.call o.session d.call law.1 rec (ap (λ (c : Call). record_of c.op) o.trace.is.call ∙ writes) other).1.format
+
+pub block_sent : (p : Program) (h : Header) (xs : List Happening) → LawfulRun p h xs → (x : Sent) → Contains (all_sent (world_at p h xs)) x → writes_block x.course ≡ true
+    → (b : Block) × (record_of x.course.call.op ≡ Some (BlockIs b))
+block_sent p h xs run x sent is =
+    some_block (world_at p h xs).layout (plain_in p h xs run) (record_of x.course.call.op) (λ rec writes other. sent_format p h xs run x sent rec writes other) is
 
 pub block_works : (p : Program) (h : Header) (xs : List Happening) → LawfulRun p h xs → (r : ResourceLine) → Contains h.resources r → (x : Sent)
     → Contains (all_sent (world_at p h xs)) x → is_on (world_at p h xs).layout (spot_of_line r) x.course.call ≡ true → writes_block x.course ≡ true → IsWork (world_at p h xs) r x
-block_works p h xs run r there x sent on is = let b = block_sent x.course is in write_works p h xs run r there x sent on (BlockIs b.0) b.1 refl
+block_works p h xs run r there x sent on is = let b = record_sent x.course is in write_works p h xs run r there x sent on b.0 b.1 b.2
 
 pub leader_works : (p : Program) (h : Header) (xs : List Happening) → LawfulRun p h xs → (r : ResourceLine) → Contains h.resources r → (x : Sent)
     → Contains (all_sent (world_at p h xs)) x → is_on (world_at p h xs).layout (spot_of_line r) x.course.call ≡ true → writes_leader x.course ≡ true → IsWork (world_at p h xs) r x
-leader_works p h xs run r there x sent on is = let l = leader_sent x.course is in write_works p h xs run r there x sent on (LeaderIs l.0) l.1 refl
+leader_works p h xs run r there x sent on is = let l = other_leader (record_of x.course.call.op) is in write_works p h xs run r there x sent on l.0 l.1 l.2
 
 abbrev reads_for : Purpose → Bool
 reads_for p = is_block_read (new_call 0 0 (record { number = 0; session = 0; purpose = p; path = []; offset = 0; op = ReadSectors 0 }))

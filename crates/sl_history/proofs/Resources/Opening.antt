@@ -26,7 +26,7 @@ use Rattle.sl_sector.specs.declared.sector.Block.{Block}
 use Rattle.sl_trace.specs.Sessions.{me}
 use Rattle.sl_trace.specs.declared.session.Session.{Session}
 use Rattle.sl_trace.specs.Traces.{Setting, Submitted, Trace, new_call}
-use Rattle.sl_trace.specs.declared.effects.LeaseStep.TheVariants.{ClearMode, FreeLeader, Phase1Read, Phase1Write, Phase2Read, Phase2Write, ReadArea, ReadBeforeFree, SetMode, TakeLeader}
+use Rattle.sl_trace.specs.declared.effects.LeaseStep.TheVariants.{ClearMode, FreeLeader, Phase1Read, Phase1Write, Phase2Read, Phase2Write, ReadAgain, ReadArea, ReadBeforeBlock, ReadBeforeFree, SetMode, TakeLeader}
 use Rattle.sl_trace.specs.declared.effects.LeaseStep.{LeaseStep}
 use Rattle.sl_trace.specs.declared.effects.Spot.{Spot}
 use Rattle.sl_trace.specs.declared.effects.Work.{Work}
@@ -47,6 +47,8 @@ one_step st t s at c b SetMode kind h = absurd (false_is_true kind)
 one_step st t s at c b ClearMode kind h = absurd (false_is_true kind)
 one_step st t s at c b (ReadArea name) kind h = absurd h
 one_step st t s at c b ReadBeforeFree kind h = absurd h
+one_step st t s at c b ReadBeforeBlock kind h = absurd h
+one_step st t s at c b (ReadAgain read) kind h = absurd h
 one_step st t s at c b Phase1Read kind h = absurd h
 one_step st t s at c b Phase2Read kind h = absurd h
 one_step st t s at c b TakeLeader kind h = absurd h

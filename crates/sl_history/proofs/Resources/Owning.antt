@@ -1,5 +1,6 @@
 -- The own block of a write, where the session has written one before: it is the block of the write's base.
 use Rattle.sl_area.specs.Layouts.{Layout}
+use Rattle.sl_run_law.proofs.Place.Seats.{plain_in}
 use Rattle.sl_run_law.specs.Course.Stamping.{AnswersAgree, IsAnsweredAs, IsCourseOf, Pairwise, courses_of}
 use Rattle.sl_run_law.proofs.Front.Having.{contains_right}
 use Rattle.sl_run.specs.LawfulArea.{is_area_work, is_block_work}
@@ -44,7 +45,7 @@ use Rattle.sl_words.proofs.WordLaws.{and_true}
 use Rattle.std.proofs.Common.{ap, arith, inl, inr, refl, subst, sym, ◌∙◌}
 use Rattle.std.proofs.lemmas.Bool.{and_from, eq-eqb, eqb-true, lt-ltb, ltb-true, or_left}
 use Rattle.std.specs.Option.{option_map_or}
-use Rattle.std.specs.Prelude.{Bool, Contains, List, None, Option, Some, find, is_some, length, nat_lt, option_and_then, true, [], ℕ, ◌%◌, ◌&&◌, ◌++◌, ◌+◌, ◌<◌, ◌==◌, ◌∷◌, ◌≡◌, ◌≤◌}
+use Rattle.std.specs.Prelude.{false, Bool, Contains, List, None, Option, Some, find, is_some, length, nat_lt, option_and_then, true, [], ℕ, ◌%◌, ◌&&◌, ◌++◌, ◌+◌, ◌<◌, ◌==◌, ◌∷◌, ◌≡◌, ◌≤◌}
 
 -- ---- places
 
@@ -168,6 +169,10 @@ timed_in n (x ∷ cs) c h has =
 
 pub layout_at : (p : Program) (h : Header) (xs : List Happening) → LawfulRun p h xs → (x : Sent) (s : Standing (world_at p h xs) x) → (setting_at s).layout ≡ (world_at p h xs).layout
 layout_at p h xs run x s = (promised.of_world p h xs run x.machine s.machine s.daemon s.at s.has).layout
+
+-- Each host's block has one sector.
+pub plain_at : (p : Program) (h : Header) (xs : List Happening) → LawfulRun p h xs → (x : Sent) (s : Standing (world_at p h xs) x) → (setting_at s).layout.paired ≡ false
+plain_at p h xs run x s = ap (λ (g : Layout). g.paired) (layout_at p h xs run x s) ∙ plain_in p h xs run
 
 -- What a session wrote or read on an area before was answered by then, so it was made at an earlier step.
 pub made_before : (p : Program) (h : Header) (xs : List Happening) → LawfulRun p h xs → (x : Sent) (s : Standing (world_at p h xs) x) (c : Course) → Contains s.before c

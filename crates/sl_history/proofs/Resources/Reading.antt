@@ -25,7 +25,8 @@ use Rattle.sl_run.specs.Worlds.{Course, Program, Stamp, World, machine_at}
 use Rattle.sl_run.specs.declared.header.Header.{Header}
 use Rattle.sl_run.specs.declared.header.ResourceLine.{ResourceLine}
 use Rattle.sl_sector.specs.declared.sector.Block.{Block}
-use Rattle.sl_trace.specs.Leases.{blocks_given, is_on, spot_of_call}
+use Rattle.sl_trace.specs.Leases.{is_on, spot_of_call}
+use Rattle.sl_history.specs.Resources.Once.{blocks_once as blocks_given}
 use Rattle.sl_trace.specs.Traces.{Submitted, submitted}
 use Rattle.sl_trace.specs.declared.effects.Call.{Call}
 use Rattle.std.proofs.Common.{ap, arith, refl, subst, sym, ◌∙◌}

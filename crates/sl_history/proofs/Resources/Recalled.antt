@@ -2,10 +2,13 @@
 use Rattle.sl_area.specs.Layouts.{Layout}
 use Rattle.sl_run_law.specs.Course.Stamping.{AnswersAgree, IsAnsweredAs, IsCourseOf}
 use Rattle.sl_run.specs.LawfulArea.{is_area_work}
-use Rattle.sl_trace_law.proofs.Leases.AgeLaws.{blocks_stay}
+use Rattle.sl_history.proofs.Resources.Once.{once_stays as blocks_stay}
+use Rattle.sl_trace.proofs.PlainReads.{first_plain, given_plain}
+use Rattle.sl_trace.specs.Leases.{blocks_given as given_after, is_again}
 use Rattle.sl_trace_law.specs.Leases.Fronts.{Aged}
 use Rattle.sl_trace_law.specs.Leases.Promises.{WasAnsweredBy}
-use Rattle.sl_trace.specs.Leases.{Area_read, Phase1_read, Phase2_read, Read_before_free, block_of_host, blocks_given, is_area_read, is_block_read, is_lease_call, is_on, is_phase_read, kind_of_step, last_blocks, lease_step, same_kind, spot_of_call}
+use Rattle.sl_trace.specs.Leases.{Area_read, Phase1_read, Phase2_read, Read_before_block, Read_before_free, block_of_host, is_area_read, is_block_read, is_lease_call, is_on, is_phase_read, kind_of_step, last_blocks, lease_step, same_kind, spot_of_call}
+use Rattle.sl_history.specs.Resources.Once.{blocks_once as blocks_given}
 use Rattle.sl_run_law.proofs.Place.Finding.{finds}
 use Rattle.sl_plain.proofs.Lists.{find_inside}
 use Rattle.sl_plain.proofs.Numbers.{both_ways, lt_then_le}
@@ -14,16 +17,17 @@ use Rattle.sl_history.proofs.Resources.Basing.{ReadFront}
 use Rattle.sl_history.proofs.Resources.Calls.{read_at_step}
 use Rattle.sl_history.proofs.Resources.Fitting.{answers_fit}
 use Rattle.sl_history.proofs.Resources.Lasting.{kept_calls, lease_kept}
-use Rattle.sl_history.proofs.Resources.Looking.{area_place, given_told, gives_blocks, phase_place}
+use Rattle.sl_history.proofs.Resources.Looking.{IsLook, area_place, given_told, gives_blocks, look_plain, once_read, phase_place}
+use Rattle.sl_area.specs.Places.{area_sectors, block_sectors}
 use Rattle.sl_history.proofs.Resources.Latest.{newest, sent_as}
-use Rattle.sl_history.proofs.Resources.Owning.{behind, is_behind, layout_at, lease_test, number_at, same_is, same_itself, session_as, works}
+use Rattle.sl_history.proofs.Resources.Owning.{plain_at, behind, is_behind, layout_at, lease_test, number_at, same_is, same_itself, session_as, works}
 use Rattle.sl_history.proofs.Resources.Recalling.{LastRead, last_read}
 use Rattle.sl_history.proofs.Resources.Standing.{Standing, sent_there, standing}
 use Rattle.sl_history.specs.Resources.Promises.{spot_of_line}
 use Rattle.sl_history.specs.Resources.Sending.{Sent, all_sent, is_counted_read, is_joined_there, is_look_before, last_look_before, read_at, reads_blocks, same_session, sender_of, step_of}
 use Rattle.sl_run.specs.Runs.{Happening}
 use Rattle.sl_run.specs.Safety.{LawfulRun, world_at}
-use Rattle.sl_run.specs.Worlds.{Program, Stamp, World}
+use Rattle.sl_run.specs.Worlds.{Daemon, Machine, Program, Stamp, World}
 use Rattle.sl_run.specs.declared.header.Header.{Header}
 use Rattle.sl_run.specs.declared.header.ResourceLine.{ResourceLine}
 use Rattle.sl_sector.specs.declared.sector.Block.{Block}
@@ -42,7 +46,7 @@ use Rattle.sl_words.proofs.WordLaws.{and_true, or_true}
 use Rattle.sl_words.specs.Words.{some_is}
 use Rattle.std.proofs.Common.{ap, arith, inl, inr, refl, subst, sym, ◌∙◌}
 use Rattle.std.proofs.lemmas.Bool.{and_from, eq-eqb, eqb-true, le-leb, leb-true, or_right}
-use Rattle.std.specs.Prelude.{Bool, Contains, List, None, Option, Some, is_some, length, nat_le, option_and_then, true, ℕ, ◌&&◌, ◌+◌, ◌<◌, ◌||◌, ◌≡◌, ◌≤◌, ◌⊎◌}
+use Rattle.std.specs.Prelude.{Bool, Contains, List, None, Option, Some, false, is_some, length, nat_le, option_and_then, true, ℕ, ◌&&◌, ◌+◌, ◌<◌, ◌||◌, ◌≡◌, ◌≤◌, ◌⊎◌}
 
 -- ---- reads of blocks
 
@@ -50,6 +54,7 @@ abbrev reads_of : Option (Work × LeaseStep) → Bool
 reads_of o =
     some_is (λ p. same_kind (kind_of_step p.1) Area_read) o || some_is (λ p. same_kind (kind_of_step p.1) Read_before_free) o
     || (some_is (λ p. same_kind (kind_of_step p.1) Phase1_read) o || some_is (λ p. same_kind (kind_of_step p.1) Phase2_read) o)
+    || some_is (λ p. same_kind (kind_of_step p.1) Read_before_block) o
 
 lease_by : (o : Option (Work × LeaseStep)) → reads_of o ≡ true → is_some o ≡ true
 lease_by None h = absurd (false_is_true h)
@@ -130,21 +135,22 @@ was_told n was is a aged told early = by aged.answer where
   by (inl same) = sym same ∙ told
   by (inr late) = absurd (early (subst (λ (y : Answered). n ≤ y.at) (one_value late.1 a is.answer late.2 told) late.3))
 
+op_by : (p : Program) (h : Header) (xs : List Happening) (m : ℕ) (a : Machine) (d : Daemon) (q : Submitted) → IsLook p h xs m a d q → is_block_read q ≡ true → (b : Bool)
+    → is_area_read q ≡ b → (n : ℕ) × (q.call.op ≡ ReadSectors n)
+op_by p h xs m a d q l reads true area = (area_sectors d.setting.layout, (area_place p h xs m a d q l area).1)
+op_by p h xs m a d q l reads false alone = (block_sectors d.setting.layout, (phase_place p h xs m a d q l alone reads).1)
+
 look_op : (p : Program) (h : Header) (xs : List Happening) (at : Spot) (x : Sent) (s : Standing (world_at p h xs) x) → IsWrite p h xs at x s → (q : Submitted)
     → IsAmong s.daemon.setting s.session at s.told.older q → is_block_read q ≡ true → (n : ℕ) × (q.call.op ≡ ReadSectors n)
 look_op p h xs at x s k q among reads =
-    let l = older_look p h xs k.run x s at q among in
-    elim (or_true (is_area_read q) (is_phase_read q) reads) as (λ z. (n : ℕ) × (q.call.op ≡ ReadSectors n)) [
-      | inl area ↦ (s.daemon.setting.layout.hosts + 2, (area_place p h xs x.machine s.machine s.daemon q l area).1)
-      | inr phase ↦ (s.daemon.setting.layout.hosts, (phase_place p h xs x.machine s.machine s.daemon q l phase).1)
-    ]
+    op_by p h xs x.machine s.machine s.daemon q (older_look p h xs k.run x s at q among) reads (is_area_read q) refl
 
 gives_with : (p : Program) (h : Header) (xs : List Happening) (at : Spot) (x : Sent) (s : Standing (world_at p h xs) x) → IsWrite p h xs at x s → (n : ℕ) → s.told.one.at ≡ n
-    → (y : Sent) (l : IsLookBefore (world_at p h xs) at x y) (was is : Submitted) → Contains s.told.older is → Aged (n + 1) was is → IsCourseOf s.daemon y.course is
-    → (o : Option Answered) → is.answer ≡ o → blocks_given s.daemon.setting.layout was ≡ None → ⊥
-gives_with p h xs at x s k n place y l was is has aged pair None told none =
+    → (y : Sent) (l : IsLookBefore (world_at p h xs) at x y) (was is : Submitted) (prior : List Submitted) → Contains s.told.older is → Aged (n + 1) was is → IsCourseOf s.daemon y.course is
+    → (o : Option Answered) → is.answer ≡ o → given_after s.daemon.setting.layout was prior ≡ None → ⊥
+gives_with p h xs at x s k n place y l was is prior has aged pair None told none =
     no_value l.stamp y.course.answered l.closed (subst (λ o. AnswersAgree s.daemon y.course o) told pair.answers)
-gives_with p h xs at x s k n place y l was is has aged pair (Some a) told none =
+gives_with p h xs at x s k n place y l was is prior has aged pair (Some a) told none =
     let st : Setting = s.daemon.setting in
     let passes : lease_test s at is.call ≡ true = ap (λ c. lease_test s at c) pair.call ∙ look_passes p h xs k.run at x s y l in
     let among = among_is p h xs at x s is has passes in
@@ -154,12 +160,15 @@ gives_with p h xs at x s k n place y l was is has aged pair (Some a) told none =
     let early : a.at ≤ s.told.one.at = subst (λ (z : Answered). z.at ≤ s.told.one.at) answer by.by in
     let before : was.answer ≡ Some a = was_told (n + 1) was is a aged told (λ late. at_front n a.at s.told.one.at early place late) in
     let as_answered : IsAnsweredAs s.daemon y.course a = subst (λ o. AnswersAgree s.daemon y.course o) told pair.answers in
+    let look = older_look p h xs k.run x s at is among in
     let op = look_op p h xs at x s k is among reads in
     let fit = answers_fit st s.daemon.trace s.lawful is (in_older (submitted s.daemon.trace) s.told.newer s.told.older s.told.one is s.told.is has) a told in
     let bytes = read_answer st a.answer is.call.op op.0 op.1 fit (sym as_answered.done ∙ l.done) in
     gives_blocks st.layout was bytes.0
     (ap (λ o. option_and_then (λ (z : Answered). bytes_given z.answer) o) before ∙ ap (λ z. bytes_given z) bytes.1)
-    (ap (λ c. is_block_read (new_call 0 0 c)) (sym aged.call) ∙ reads) none
+    (ap (λ c. is_block_read (new_call 0 0 c)) (sym aged.call) ∙ reads)
+    (sym (first_plain st.layout (look_plain p h xs x.machine s.machine s.daemon is look) was prior
+    (ap (λ c. is_again (new_call 0 0 c)) (sym aged.call) ∙ once_read p h xs x.machine s.machine s.daemon is look)) ∙ none)
 
 -- ---- the last look
 
@@ -187,7 +196,7 @@ course_looks p h xs at x s k n T bs l test =
     let g : Layout = s.daemon.setting.layout in
     let passes : lease_test s at l.course.call ≡ true = ap (λ (f : Call → Bool). f l.course.call) (sym test) ∙ l.passes in
     let among = among_is p h xs at x s l.told l.inside (ap (λ c. lease_test s at c) l.pair.call ∙ passes) in
-    let now : blocks_given g l.told ≡ Some bs = blocks_stay g n l.was l.told bs l.aged l.given in
+    let now : blocks_given g l.told ≡ Some bs = blocks_stay g n l.was l.told bs l.aged (given_plain g (plain_at p h xs k.run x s) l.was l.before bs l.given) in
     let t = given_told g l.told bs now in
     let reads : is_block_read l.told ≡ true = t.reads in
     let as_answered : IsAnsweredAs s.daemon l.course t.answered = subst (λ o. AnswersAgree s.daemon l.course o) t.is l.pair.answers in
@@ -245,7 +254,7 @@ look_found p h xs r there x s joined k b f =
     newest P w x.machine w.step s.machine y.0 l.course s.at s.falls (λ v passed. ap (λ q. q.machine) (look_before w at x v passed).sender) i.0 passes y.1 in
     let down : step_of y.0 ≤ step_of z =
     l.newest y.0.course (behind w x s y.0 its.0 ylook.sender less) (look_passes p h xs k.run at x s y.0 ylook)
-    (λ was is has aged pair none. gives_with p h xs at x s k (length f.past) f.place y.0 ylook was is has aged pair is.answer refl none) in
+    (λ was is prior has aged pair none. gives_with p h xs at x s k (length f.past) f.place y.0 ylook was is prior has aged pair is.answer refl none) in
     let same : y.0 ≡ z = one_look p h xs k.run r there x y.0 z joined its.0 inside ylook looks (both_ways (step_of y.0) (step_of z) down up) in
     let passes_told : lease_test s at l.told.call ≡ true = ap (λ c. lease_test s at c) l.pair.call ∙ l.passes in
     record {
@@ -260,6 +269,6 @@ look_found p h xs r there x s joined k b f =
       pair = l.pair;
       among = among_is p h xs at x s l.told l.inside passes_told;
       blocks = bs;
-      given = blocks_stay g n l.was l.told bs l.aged l.given;
+      given = blocks_stay g n l.was l.told bs l.aged (given_plain g (plain_at p h xs k.run x s) l.was l.before bs l.given);
       block = block;
     }

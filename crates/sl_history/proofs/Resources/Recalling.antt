@@ -19,7 +19,7 @@ use Rattle.std.specs.Prelude.{Bool, Contains, List, None, Option, Some, cond, fa
 
 -- A call whose front in the trace had given blocks.
 abbrev pub Gives : Layout → Daemon → ℕ → List Submitted → Course → Type 0
-Gives g d n whole e = (was is : Submitted) → Contains whole is → Aged n was is → IsCourseOf d e is → blocks_given g was ≡ None → ⊥
+Gives g d n whole e = (was is : Submitted) (before : List Submitted) → Contains whole is → Aged n was is → IsCourseOf d e is → blocks_given g was before ≡ None → ⊥
 
 -- The last call that gave blocks.
 pub record LastRead (g : Layout) (d : Daemon) (n : ℕ) (whole : List Submitted) (T : Call → Bool) (cs : List Course) (bs : List (Option Block)) : Type 0 where
@@ -31,7 +31,9 @@ pub record LastRead (g : Layout) (d : Daemon) (n : ℕ) (whole : List Submitted)
   pub aged : Aged n was told
   pub pair : IsCourseOf d course told
   pub passes : T course.call ≡ true
-  pub given : blocks_given g was ≡ Some bs
+  -- the calls before it
+  pub before : List Submitted
+  pub given : blocks_given g was before ≡ Some bs
   pub newest : (e : Course) → Contains cs e → T e.call ≡ true → Gives g d n whole e → e.made.step ≤ course.made.step
 
 one_more : (g : Layout) (d : Daemon) (n : ℕ) (whole : List Submitted) (T : Call → Bool) (c : Course) (cs : List Course) (bs : List (Option Block))
@@ -46,6 +48,7 @@ one_more g d n whole T c cs bs never l =
       aged = l.aged;
       pair = l.pair;
       passes = l.passes;
+      before = l.before;
       given = l.given;
       newest = λ e has passes gives. elim (contains_cases c cs e has) as (λ z. e.made.step ≤ l.course.made.step) [
         | inl same ↦ absurd (never (ap (λ (x : Course). T x.call) same ∙ passes) (subst (λ (x : Course). Gives g d n whole x) (sym same) gives))
@@ -53,12 +56,12 @@ one_more g d n whole T c cs bs never l =
       ];
     }
 
-gave_by : (g : Layout) (d : Daemon) (n : ℕ) (whole : List Submitted) (T : Call → Bool) (c : Course) (cs : List Course) (was is : Submitted) (rest : List (Option Block)) (bs : List (Option Block))
-    (o : Option (List (Option Block))) → blocks_given g was ≡ o → T c.call ≡ true → Contains whole is → Aged n was is → IsCourseOf d c is → CallsFall (c.made.step + 1) cs
+gave_by : (g : Layout) (d : Daemon) (n : ℕ) (whole : List Submitted) (T : Call → Bool) (c : Course) (cs : List Course) (was is : Submitted) (before : List Submitted) (rest : List (Option Block)) (bs : List (Option Block))
+    (o : Option (List (Option Block))) → blocks_given g was before ≡ o → T c.call ≡ true → Contains whole is → Aged n was is → IsCourseOf d c is → CallsFall (c.made.step + 1) cs
     → elim o as (λ z. List (Option Block)) [ Some x ↦ x | None ↦ rest ] ≡ bs → (rest ≡ bs → LastRead g d n whole T cs bs) → LastRead g d n whole T (c ∷ cs) bs
-gave_by g d n whole T c cs was is rest bs None gives passes inside aged pair fall found later =
-    one_more g d n whole T c cs bs (λ p k. k was is inside aged pair gives) (later found)
-gave_by g d n whole T c cs was is rest bs (Some x) gives passes inside aged pair fall found later =
+gave_by g d n whole T c cs was is before rest bs None gives passes inside aged pair fall found later =
+    one_more g d n whole T c cs bs (λ p k. k was is before inside aged pair gives) (later found)
+gave_by g d n whole T c cs was is before rest bs (Some x) gives passes inside aged pair fall found later =
     record {
       course = c;
       was = was;
@@ -68,6 +71,7 @@ gave_by g d n whole T c cs was is rest bs (Some x) gives passes inside aged pair
       aged = aged;
       pair = pair;
       passes = passes;
+      before = before;
       given = gives ∙ ap (λ y. Some y) found;
       newest = λ e has p k. elim (contains_cases c cs e has) as (λ z. e.made.step ≤ c.made.step) [
         | inl same ↦ subst (λ (y : Course). y.made.step ≤ c.made.step) same (refl_le c.made.step)
@@ -81,7 +85,7 @@ last_by : (g : Layout) (d : Daemon) (n : ℕ) (whole : List Submitted) (T : Call
 last_by g d n whole T c cs was is rest bs false test inside aged pair fall found later =
     one_more g d n whole T c cs bs (λ p k. true_is_false (sym p ∙ test)) (later found)
 last_by g d n whole T c cs was is rest bs true test inside aged pair fall found later =
-    gave_by g d n whole T c cs was is (last_blocks g rest) bs (blocks_given g was) refl test inside aged pair fall found later
+    gave_by g d n whole T c cs was is rest (last_blocks g rest) bs (blocks_given g was rest) refl test inside aged pair fall found later
 
 -- What is last read, where it has a block.
 pub last_read : (g : Layout) (d : Daemon) (n : ℕ) (whole : List Submitted) (T : Call → Bool) (k : ℕ) (cs : List Course) (xs older : List Submitted) (bs : List (Option Block)) (host : ℕ) (own : Block)

@@ -5,7 +5,7 @@ use Rattle.sl_run.specs.LawfulArea.{is_area_work}
 use Rattle.sl_run_law.proofs.Place.Daemons.{daemons_are_fine, stamp_order}
 use Rattle.sl_run_law.proofs.Place.Reading.{call_law}
 use Rattle.sl_plain.proofs.Lists.{kept}
-use Rattle.sl_history.proofs.Resources.Calls.{IsOwned, IsWork, block_sent, found_of, holder_named, made_of, owner_found, worker_joined, write_is}
+use Rattle.sl_history.proofs.Resources.Calls.{IsOwned, IsWork, found_of, holder_named, made_of, owner_found, record_sent, worker_joined, write_is}
 use Rattle.sl_history.specs.Resources.Histories.{joined_of, joined_step}
 use Rattle.sl_history.specs.Resources.Sending.{Sent, holder_of, sender_of, session_of_holder, step_of, writes_block}
 use Rattle.sl_run.specs.Runs.{Happening}
@@ -108,7 +108,7 @@ pub record IsOwnWrite (i : SessionId) (g : Found) (c : Course) : Type 0 where
 
 pub own_write : (w : World) (r : ResourceLine) (x : Sent) (k : IsWork w r x) → writes_block x.course ≡ true → IsOwnWrite (sender_of x) (found_of k.owned) x.course
 own_write w r x k is =
-    let b = block_sent x.course is in
+    let b = record_sent x.course is in
     record {
       has = kept (is_course_of (sender_of x)) k.owned.there.machine.calls x.course
           (and_from _ _ (eq-eqb x.course.daemon x.course.daemon refl) (eq-eqb x.course.call.session x.course.call.session refl)) k.owned.there.has;

@@ -15,7 +15,7 @@ use Rattle.sl_history.specs.Resources.Orders.{BlockSent, Follows}
 use Rattle.sl_history.specs.Resources.Promises.{history_of_line, spot_of_line}
 use Rattle.sl_history.specs.Resources.Sending.{Sent, block_of_course, read_at, sender_of, step_of}
 use Rattle.sl_sector.specs.declared.sector.Block.{Block}
-use Rattle.sl_trace.specs.Leases.{blocks_given}
+use Rattle.sl_history.specs.Resources.Once.{blocks_once as blocks_given}
 use Rattle.sl_trace.specs.Traces.{Submitted, submitted}
 use Rattle.std.specs.Option.{option_map_or}
 use Rattle.std.specs.Prelude.{Bool, Contains, List, None, Option, Some, false, if◌then◌else◌, is_some, slice_get, true, ℕ, ◌++◌, ◌-◌, ◌<◌, ◌≡◌, ◌≤◌}

@@ -44,6 +44,10 @@ use Rattle.sl_trace.specs.declared.input.Input.{Input}
 use Rattle.sl_trace.specs.declared.reply.Reply.TheVariants.{Done, Granted}
 use Rattle.sl_trace.specs.declared.reply.Reply.{Reply}
 use Rattle.sl_words.proofs.CaseLaws.{some_value}
+use Rattle.sl_acts.specs.Acts.{next_of_conversion, next_of_release}
+use Rattle.sl_trace.proofs.PlainWork.{within_plain}
+use Rattle.sl_host_law.proofs.Plain.BlocksHaveOneSector.{setting_plain}
+use Rattle.sl_trace.specs.declared.lease.Aim.TheVariants.{Converts, Releases}
 use Rattle.std.proofs.Common.{ap, arith, inr, refl, subst, sym, ◌∙◌}
 use Rattle.std.proofs.lemmas.Bool.Decides.{Decides-eqb}
 use Rattle.std.proofs.lemmas.List.Folds.{find-append}
@@ -135,7 +139,7 @@ gives_up : (h : HostState) (x : Step) (text : List ℕ) (c : Command) (s : Sessi
 unfolding carry_decision after_end
 gives_up h x text c s g k m next l by plain none is may =
     subst (λ z. Stands (Line text) (after_giving h c m g next) z) (sym (carried h x text c (GivesUp s g) l refl))
-    (subst (λ (t : Session). Stands (Line text) (after_giving h c m g next) (then_done t (release_next (lease_place (ended text g x).setting t) (known (ended text g x).setting (seen (ended text g x)) t (spot_of_grant g)) g.mode g.lver)
+    (subst (λ (t : Session). Stands (Line text) (after_giving h c m g next) (then_done t (next_of_release (ended text g x).setting (seen (ended text g x)) t (spot_of_grant g) g)
     (holdings_on (seen (ended text g x)) t (spot_of_grant g)))) by.whose
     (subst (λ n. Stands (Line text) (after_giving h c m g next) (then_done m.who n (holdings_on (seen (ended text g x)) m.who (spot_of_grant g)))) (sym decides)
     (subst (λ gs. Stands (Line text) (after_giving h c m g next) (then_done m.who next gs)) (sym (says.held (spot_of_grant g))) (after (held_on (given_up h c g) m (spot_of_grant g)))))) where
@@ -148,11 +152,15 @@ gives_up h x text c s g k m next l by plain none is may =
       then_done : Session → LeaseNext → List Grant → Step
       then_done t n gs = elim gs [ e ∷ es ↦ add_reply h.next_job Done (ended text g x) | [] ↦ carry_lease t (spot_of_grant g) (ForJob h.next_job) n (ended text g x) ]
 
-      decides : release_next (lease_place (ended text g x).setting m.who) (known (ended text g x).setting (seen (ended text g x)) m.who (spot_of_grant g)) g.mode g.lver ≡ next
+      decides : next_of_release (ended text g x).setting (seen (ended text g x)) m.who (spot_of_grant g) g ≡ next
       decides =
+          within_plain (lease_place (ended text g x).setting m.who) (known (ended text g x).setting (seen (ended text g x)) m.who (spot_of_grant g)) Releases
+          (release_next (lease_place (ended text g x).setting m.who) (known (ended text g x).setting (seen (ended text g x)) m.who (spot_of_grant g)) g.mode g.lver)
+          (setting_plain (Line text) (given_up h c g) (ended text g x) at.stands)
+          ∙ (
           ap (λ p. release_next p (known (ended text g x).setting (seen (ended text g x)) m.who (spot_of_grant g)) g.mode g.lver) (place_is (Line text) (given_up h c g) (ended text g x) m at.stands)
           ∙ ap (λ n. release_next (place_in (given_up h c g) m) n g.mode g.lver) (says.lease (spot_of_grant g))
-          ∙ is
+          ∙ is)
 
       after : (gs : List Grant)
           → Stands (Line text) (elim gs as (λ z. HostState) [ e ∷ es ↦ with_reply h.next_job Done (given_up h c g) | [] ↦ carrying_lease m (spot_of_grant g) (ForJob h.next_job) next (given_up h c g) ]) (then_done m.who next gs)
@@ -172,8 +180,9 @@ converts h x text c s r mode k m next l by is may =
     let at : IsMemberAt (Line text) (heard_line c h) y k m = member_at h x text c (ConvertsTo s r mode) k m s l by in
     let after : HostState = carrying_lease m (spot_of r) (ForJob h.next_job) next (heard_line c h) in
     subst (λ z. Stands (Line text) after z) (sym (carried h x text c (ConvertsTo s r mode) l refl))
-    (subst (λ t. Stands (Line text) after (carry_lease t (spot_of r) (ForJob h.next_job) (convert_next (known y.setting (seen y) t (spot_of r)) mode r.name) y)) by.whose
-    (subst (λ n. Stands (Line text) after (carry_lease m.who (spot_of r) (ForJob h.next_job) n y)) (sym (ap (λ q. convert_next q mode r.name) ((members_answer (Line text) (heard_line c h) y k m at).lease (spot_of r)) ∙ is))
+    (subst (λ t. Stands (Line text) after (carry_lease t (spot_of r) (ForJob h.next_job) (next_of_conversion y.setting (seen y) t (spot_of r) mode r.name) y)) by.whose
+    (subst (λ n. Stands (Line text) after (carry_lease m.who (spot_of r) (ForJob h.next_job) n y)) (sym (within_plain (lease_place y.setting m.who) (known y.setting (seen y) m.who (spot_of r)) (Converts mode) (convert_next (known y.setting (seen y) m.who (spot_of r)) mode r.name)
+    (setting_plain (Line text) (heard_line c h) y at.stands) ∙ ap (λ q. convert_next q mode r.name) ((members_answer (Line text) (heard_line c h) y k m at).lease (spot_of r)) ∙ is))
     (leases_are_carried (Line text) (heard_line c h) y k m (spot_of r) (ForJob h.next_job) next at may)))
 
 pub grants_are_taken : GrantsAreTaken

@@ -2,9 +2,9 @@
 use Rattle.sl_host_law.proofs.Answers.DecisionsAreCarried.{called, layout_is}
 use Rattle.sl_host_law.specs.Answers.Leasing.{LeasesAreCarried, MayAnswer, MayWork, converted, converting, converting_for, for_command_of, for_work_of, granting_for, read_from, reading, sectors_read, starting, writing_block, writing_leader}
 use Rattle.sl_area.specs.Layouts.{Layout}
-use Rattle.sl_area.specs.Places.{block_offset, leader_offset}
+use Rattle.sl_area.specs.Places.{block_offset, block_sectors, leader_offset, pair_offset}
 use Rattle.sl_host_law.proofs.Calls.StartsAreTaken.{starts_are_taken}
-use Rattle.sl_due.specs.DueLease.{carry_lease, convert_for, convert_holding, for_work, grant_for, grant_of, held_otherwise, read_for, start_for, with_command, write_block, write_leader}
+use Rattle.sl_due.specs.DueLease.{carry_lease, convert_for, convert_holding, for_work, grant_for, grant_of, held_otherwise, name_on, next_turn, read_area, read_blocks, read_for, start_for, with_command, write_block, write_leader}
 use Rattle.sl_due.specs.Steps.{Step, add_call_of, add_end, add_grant, add_reply, seen, with_some}
 use Rattle.sl_host_state.proofs.Others.{effects_are_taken}
 use Rattle.sl_host_state.specs.Kept.{HostState, MemberState}
@@ -20,7 +20,7 @@ use Rattle.sl_host_law.proofs.Replies.Replies.RepliesAreTaken.{replies_are_taken
 use Rattle.sl_host_law.specs.Replies.Replies.{LeavesLine, MayReply}
 use Rattle.sl_sector.specs.declared.sector.Block.{Block}
 use Rattle.sl_sector.specs.declared.sector.Leader.{Leader}
-use Rattle.sl_sector.specs.declared.sector.Rec.TheVariants.{BlockIs, LeaderIs}
+use Rattle.sl_sector.specs.declared.sector.Rec.TheVariants.{BlockIs, LeaderIs, PairIs, PairLeaderIs}
 use Rattle.sl_trace.specs.declared.session.Session.{Session}
 use Rattle.sl_trace.specs.Traces.{end_of, first_child, next_child, work_job}
 use Rattle.sl_trace.specs.declared.command.Command.TheVariants.{Acquire, RunProgram, TakeOver}
@@ -28,7 +28,7 @@ use Rattle.sl_trace.specs.declared.command.Command.{Command}
 use Rattle.sl_trace.specs.declared.command.ResourceArg.{ResourceArg}
 use Rattle.sl_trace.specs.declared.effects.End.{End}
 use Rattle.sl_trace.specs.declared.effects.Grant.{Grant}
-use Rattle.sl_trace.specs.declared.effects.LeaseStep.TheVariants.{ClearMode, FreeLeader, ReadArea, ReadBeforeFree}
+use Rattle.sl_trace.specs.declared.effects.LeaseStep.TheVariants.{ClearMode, FreeLeader, ReadAgain, ReadArea, ReadBeforeFree}
 use Rattle.sl_trace.specs.declared.effects.LeaseStep.{LeaseStep}
 use Rattle.sl_trace.specs.declared.effects.Mode.TheVariants.{Exclusive, Shared}
 use Rattle.sl_trace.specs.declared.effects.Mode.{Mode}
@@ -40,31 +40,66 @@ use Rattle.sl_trace.specs.declared.effects.Work.{Work}
 use Rattle.sl_trace.specs.declared.input.Input.TheVariants.{Answer as Told, Exit, Line, Number, Spawned, Wake}
 use Rattle.sl_trace.specs.declared.input.Input.{Input}
 use Rattle.sl_trace.specs.declared.reply.Reply.TheVariants.{Granted}
-use Rattle.std.proofs.Common.{ap, refl, subst, sym}
-use Rattle.std.specs.Prelude.{List, None, Option, Some, false, true, [], ℕ, ◌+◌, ◌≡◌}
+use Rattle.sl_host_law.proofs.Plain.BlocksHaveOneSector.{hosts_are, setting_plain}
+use Rattle.sl_sector.specs.Spelling.{is_first_turn}
+use Rattle.sl_sector.specs.declared.sector.Rec.{Rec}
+use Rattle.sl_trace.specs.Leases.{is_second}
+use Rattle.sl_words.proofs.CaseLaws.{false_is_true}
+use Rattle.sl_words.proofs.WordLaws.{and_true}
+use Rattle.std.proofs.Common.{ap, refl, subst, sym, ◌∙◌}
+use Rattle.std.specs.Prelude.{Bool, List, None, Option, Some, false, not, true, [], ℕ, ◌+◌, ◌≡◌}
 
 -- ---- calls
 
 read : (i : Input) (h : HostState) (x : Step) (s : Session) (at : Spot) (work : Work) (step : LeaseStep) → Stands i h x → MayWork h s at work step (read_from h at step) (ReadSectors (sectors_read h step))
     → Stands i (reading s at work step h) (read_for s at work step x)
-read i h x s at work step stands may = subst (λ y. Stands i (reading s at work step h) y) (by step) (called i h x s at.path (Lease work step) (read_from h at step) (ReadSectors (sectors_read h step)) stands may) where
-  same : h.config.layout ≡ x.setting.layout
-  same = layout_is i h x stands
+read i h x s at work step stands may =
+    subst (λ y. Stands i (reading s at work step h) y) (by step (and_true (not (is_second step)) true may.fits.plain).0)
+    (called i h x s at.path (Lease work step) (read_from h at step) (ReadSectors (sectors_read h step)) stands may) where
+      same : h.config.layout ≡ x.setting.layout
+      same = layout_is i h x stands
 
-  by : (z : LeaseStep) → add_call_of s.number at.path (Lease work z) (read_from h at z) (ReadSectors (sectors_read h z)) x ≡ read_for s at work z x
-  by (ReadArea name) = ap (λ (g : Layout). add_call_of s.number at.path (Lease work (ReadArea name)) at.base (ReadSectors (g.hosts + 2)) x) (layout_is i h x stands)
-  by ReadBeforeFree = ap (λ (g : Layout). add_call_of s.number at.path (Lease work ReadBeforeFree) at.base (ReadSectors (g.hosts + 2)) x) (layout_is i h x stands)
-  by z = ap (λ (g : Layout). add_call_of s.number at.path (Lease work z) (block_offset g at.base 1) (ReadSectors g.hosts) x) (layout_is i h x stands)
+      -- So many sectors as there are hosts.
+      many : h.config.layout.hosts ≡ block_sectors x.setting.layout
+      many = sym (hosts_are i h x stands)
+
+      whole : (z : LeaseStep) → add_call_of s.number at.path (Lease work z) at.base (ReadSectors (h.config.layout.hosts + 2)) x ≡ read_area s at work z x
+      whole z = ap (λ n. add_call_of s.number at.path (Lease work z) at.base (ReadSectors (n + 2)) x) many
+
+      blocks : (z : LeaseStep) → add_call_of s.number at.path (Lease work z) (block_offset h.config.layout at.base 1) (ReadSectors h.config.layout.hosts) x ≡ read_blocks s at work z x
+      blocks z =
+          ap (λ (g : Layout). add_call_of s.number at.path (Lease work z) (block_offset g at.base 1) (ReadSectors h.config.layout.hosts) x) same
+          ∙ ap (λ n. add_call_of s.number at.path (Lease work z) (block_offset x.setting.layout at.base 1) (ReadSectors n) x) many
+
+      by : (z : LeaseStep) → not (is_second z) ≡ true → add_call_of s.number at.path (Lease work z) (read_from h at z) (ReadSectors (sectors_read h z)) x ≡ read_for s at work z x
+      by (ReadArea name) once = whole (ReadArea name)
+      by ReadBeforeFree once = whole ReadBeforeFree
+      by (ReadAgain other) once = absurd (false_is_true once)
+      by z once = blocks z
 
 wrote_block : (i : Input) (h : HostState) (x : Step) (s : Session) (at : Spot) (work : Work) (step : LeaseStep) (b : Block) → Stands i h x
     → MayWork h s at work step (block_offset h.config.layout at.base s.id) (WriteRecord (BlockIs b)) → Stands i (writing_block s at work step b h) (write_block s at work step b x)
 wrote_block i h x s at work step b stands may =
-    subst (λ (g : Layout). Stands i (writing_block s at work step b h) (add_call_of s.number at.path (Lease work step) (block_offset g at.base s.id) (WriteRecord (BlockIs b)) x)) (layout_is i h x stands)
-    (called i h x s at.path (Lease work step) (block_offset h.config.layout at.base s.id) (WriteRecord (BlockIs b)) stands may)
+    subst (λ q. Stands i (writing_block s at work step b h) (put q)) (sym (setting_plain i h x stands))
+    (subst (λ (g : Layout). Stands i (writing_block s at work step b h) (add_call_of s.number at.path (Lease work step) (block_offset g at.base s.id) (WriteRecord (BlockIs b)) x)) (layout_is i h x stands)
+    (called i h x s at.path (Lease work step) (block_offset h.config.layout at.base s.id) (WriteRecord (BlockIs b)) stands may)) where
+      turn : ℕ
+      turn = next_turn x.setting (seen x) s at
+
+      -- The write, by whether a block has a pair of sectors.
+      put : Bool → Step
+      put q =
+          add_call_of s.number at.path (Lease work step)
+          (elim q as (λ z. ℕ) [ false ↦ block_offset x.setting.layout at.base s.id | true ↦ pair_offset x.setting.layout at.base s.id (is_first_turn turn) ])
+          (WriteRecord (elim q as (λ z. Rec) [ false ↦ BlockIs b | true ↦ PairIs (record { block = b; turn = turn; lockspace = s.lockspace; resource = name_on x.setting (seen x) s at }) ])) x
 
 wrote_leader : (i : Input) (h : HostState) (x : Step) (s : Session) (at : Spot) (work : Work) (step : LeaseStep) (l : Leader) → Stands i h x
     → MayWork h s at work step (leader_offset at.base) (WriteRecord (LeaderIs l)) → Stands i (writing_leader s at work step l h) (write_leader s at work step l x)
-wrote_leader i h x s at work step l stands may = called i h x s at.path (Lease work step) (leader_offset at.base) (WriteRecord (LeaderIs l)) stands may
+wrote_leader i h x s at work step l stands may =
+    subst
+    (λ q. Stands i (writing_leader s at work step l h)
+    (add_call_of s.number at.path (Lease work step) (leader_offset at.base) (WriteRecord (elim q as (λ z. Rec) [ false ↦ LeaderIs l | true ↦ PairLeaderIs l ])) x)) (sym (setting_plain i h x stands))
+    (called i h x s at.path (Lease work step) (leader_offset at.base) (WriteRecord (LeaderIs l)) stands may)
 
 -- ---- replies after a grant or an end
 

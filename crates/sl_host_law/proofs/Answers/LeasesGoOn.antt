@@ -9,7 +9,7 @@ use Rattle.sl_host_law.specs.Answers.LeaseAnswers.{area_of}
 use Rattle.sl_host_law.specs.Answers.Leasing.{MayAnswer, MayCarryLease, read_from, sectors_read}
 use Rattle.sl_host_law.specs.Answers.LeasesGoOn.{IfConverted, IsPlaced, LeasesGoOn}
 use Rattle.sl_host_law.specs.Answers.LeasesSetFree.{GoesOn}
-use Rattle.sl_host_law.specs.Answers.PhaseTwo.{IsAfterRead}
+use Rattle.sl_host_law.specs.Answers.PhaseTwo.{IsAfterRead, IsOnce}
 use Rattle.sl_area.specs.Layouts.{Layout}
 use Rattle.sl_area.specs.Places.{block_offset, leader_offset}
 use Rattle.sl_host_law.proofs.Calls.Calls.SpotsMore.{one_spot}
@@ -22,7 +22,7 @@ use Rattle.sl_host_state.specs.Makes.{is_lease_on, next_submitted}
 use Rattle.sl_host_state.specs.Stands.{LeaseStands}
 use Rattle.sl_host_state.specs.declared.kept.OpenCall.{OpenCall}
 use Rattle.sl_trace.specs.LeaseWork.{lease_next}
-use Rattle.sl_trace.specs.Leases.{Phase2_write, block_submitted, block_written, is_at, lease_calls, spot_of_call}
+use Rattle.sl_trace.specs.Leases.{Phase2_write, block_submitted, block_written, is_at, is_second, lease_calls, spot_of_call}
 use Rattle.sl_trace.specs.declared.lease.Aim.{Aim}
 use Rattle.sl_trace.specs.declared.lease.LeaseNext.TheVariants.{AnswerJob, BecomeExclusive, BecomeShared, GrantJob, Nothing, ReadFor, WriteBlock, WriteLeader}
 use Rattle.sl_trace.specs.declared.lease.LeaseNext.{LeaseNext}
@@ -33,7 +33,7 @@ use Rattle.sl_sector.specs.declared.sector.Block.{Block}
 use Rattle.sl_sector.specs.declared.sector.Rec.TheVariants.{BlockIs, LeaderIs}
 use Rattle.sl_trace.specs.Sessions.{me}
 use Rattle.sl_trace.specs.Traces.{Submitted, is_before_input, same_spot, work_job}
-use Rattle.sl_trace.specs.declared.effects.LeaseStep.TheVariants.{ClearMode, FreeLeader, Phase1Read, Phase1Write, Phase2Read, Phase2Write, ReadArea, ReadBeforeFree, SetMode, TakeLeader}
+use Rattle.sl_trace.specs.declared.effects.LeaseStep.TheVariants.{ClearMode, FreeLeader, Phase1Read, Phase1Write, Phase2Read, Phase2Write, ReadAgain, ReadArea, ReadBeforeBlock, ReadBeforeFree, SetMode, TakeLeader}
 use Rattle.sl_trace.specs.declared.effects.LeaseStep.{LeaseStep}
 use Rattle.sl_trace.specs.declared.effects.Op.TheVariants.{ReadSectors, WriteRecord}
 use Rattle.sl_trace.specs.declared.effects.Op.{Op}
@@ -47,6 +47,7 @@ use Rattle.sl_trace.specs.declared.reply.Reply.TheVariants.{Granted}
 use Rattle.sl_trace.specs.declared.reply.Reply.{Reply}
 use Rattle.sl_words.proofs.CaseLaws.{none_some, some_value}
 use Rattle.sl_words.specs.Words.{some_is}
+use Rattle.sl_trace.specs.declared.effects.LeaseRead.TheVariants.{OfArea, OfBlock, OfFree, OfPhase1, OfPhase2}
 use Rattle.std.proofs.Common.{ap, inl, refl, subst, sym, ◌∙◌}
 use Rattle.std.specs.List.{list_any}
 use Rattle.std.specs.Option.{option_map_or}
@@ -106,11 +107,22 @@ module _ (number : ℕ) (c : OpenCall) (a : Answer) (h : HostState) (x : Step) (
   free_to s offset op other l =
       ap (λ b. not b || option_map_or (λ z. some_is (λ t. t.instance == z.lver) l.top) (block_written (made s offset op)) true) other
 
-  writes_block : (s : LeaseStep) (b : Block)
+  writes_block : (s : LeaseStep) (b : Block) → is_second s ≡ false
       → ((l : LeaseState) → find (is_lease_on (area_of (heard_answer number a h) c)) (member_hearing h c a m).leases ≡ Some l
       → IsTrue (follows_read (made s (block_offset (heard_answer number a h).config.layout (area_of (heard_answer number a h) c).base m.who.id) (WriteRecord (BlockIs b))) l))
       → GoesOn (heard_answer number a h) (member_hearing h c a m) c work s (block_offset (heard_answer number a h).config.layout (area_of (heard_answer number a h) c).base m.who.id) (WriteRecord (BlockIs b))
-  writes_block s b follows = record { room = placed.room; its = refl; near = placed.block; follows = follows }
+  writes_block s b once follows = record { room = placed.room; its = refl; once = once; near = placed.block; follows = follows }
+
+  once_by : (aim : Aim) (next : LeaseNext)
+      → next
+      ≡ lease_next (place_in (heard_answer number a h) (member_hearing h c a m))
+      (known_in (heard_answer number a h) (member_hearing h c a m) (with_input (Told number a) x) (area_of (heard_answer number a h) c)) aim c.number c.lver step a
+      → IsOnce next
+  once_by aim next decided =
+      subst IsOnce (sym decided)
+      (phase_two_follows.once (place_in (heard_answer number a h) (member_hearing h c a m))
+      (known_in (heard_answer number a h) (member_hearing h c a m) (with_input (Told number a) x) (area_of (heard_answer number a h) c)) aim c.number c.lver step a
+      (stands number c a h x k m to not_refused).keeps.unpaired)
 
   may : (aim : Aim) (next : LeaseNext)
       → next
@@ -121,7 +133,7 @@ module _ (number : ℕ) (c : OpenCall) (a : Answer) (h : HostState) (x : Step) (
   may aim Nothing decided converts = tt
   may aim (ReadFor s) decided converts =
       leases_set_free.work number c a h x k m work step s (read_from (heard_answer number a h) (area_of (heard_answer number a h) c) s) (ReadSectors (sectors_read (heard_answer number a h) s)) to not_refused is goes
-      (record { room = placed.room; its = refl; near = placed.reads s; follows = λ l there. reads_follow s l })
+      (record { room = placed.room; its = refl; once = once_by aim (ReadFor s) decided; near = placed.reads s; follows = λ l there. reads_follow s l })
     where
       reads_follow : (s2 : LeaseStep) (l : LeaseState)
           → IsTrue (follows_read (made s2 (read_from (heard_answer number a h) (area_of (heard_answer number a h) c) s2) (ReadSectors (sectors_read (heard_answer number a h) s2))) l)
@@ -131,7 +143,7 @@ module _ (number : ℕ) (c : OpenCall) (a : Answer) (h : HostState) (x : Step) (
         by false = refl
   may aim (WriteBlock s b) decided converts =
       leases_set_free.work number c a h x k m work step s (block_offset (heard_answer number a h).config.layout (area_of (heard_answer number a h) c).base m.who.id) (WriteRecord (BlockIs b)) to not_refused is goes
-      (writes_block s b (by s decided)) where
+      (writes_block s b (once_by aim (WriteBlock s b) decided) (by s decided)) where
         by : (s2 : LeaseStep)
             → WriteBlock s2 b
             ≡ lease_next (place_in (heard_answer number a h) (member_hearing h c a m))
@@ -144,6 +156,12 @@ module _ (number : ℕ) (c : OpenCall) (a : Answer) (h : HostState) (x : Step) (
             (known_in (heard_answer number a h) (member_hearing h c a m) (with_input (Told number a) x) (area_of (heard_answer number a h) c)) aim c.number c.lver step a b (sym is_it)) l there
         by (ReadArea name) is_it l there = refl
         by ReadBeforeFree is_it l there = refl
+        by ReadBeforeBlock is_it l there = refl
+        by (ReadAgain (OfArea name)) is_it l there = refl
+        by (ReadAgain OfFree) is_it l there = refl
+        by (ReadAgain OfBlock) is_it l there = refl
+        by (ReadAgain OfPhase1) is_it l there = refl
+        by (ReadAgain OfPhase2) is_it l there = refl
         by Phase1Read is_it l there = refl
         by Phase1Write is_it l there = refl
         by Phase2Read is_it l there = refl
@@ -153,7 +171,7 @@ module _ (number : ℕ) (c : OpenCall) (a : Answer) (h : HostState) (x : Step) (
         by ClearMode is_it l there = refl
   may aim (WriteLeader s l) decided converts =
       leases_set_free.work number c a h x k m work step s (leader_offset (area_of (heard_answer number a h) c).base) (WriteRecord (LeaderIs l)) to not_refused is goes
-      (record { room = placed.room; its = refl; near = placed.leader; follows = λ z there. leader_follows (is_at Phase2_write (made s (leader_offset (area_of (heard_answer number a h) c).base) (WriteRecord (LeaderIs l)))) })
+      (record { room = placed.room; its = refl; once = once_by aim (WriteLeader s l) decided; near = placed.leader; follows = λ z there. leader_follows (is_at Phase2_write (made s (leader_offset (area_of (heard_answer number a h) c).base) (WriteRecord (LeaderIs l)))) })
     where
       leader_follows : (b : Bool) → (not b || true) ≡ true
       leader_follows true = refl

@@ -12,10 +12,10 @@ use Rattle.sl_host_law.proofs.Calls.Calls.SpotsMore.{on_own, one_spot, spot_ther
 use Rattle.sl_host_law.specs.Calls.Calls.{fits_generation, fits_lease, fits_value, follows_read, is_idle_job, is_leaving_alone}
 use Rattle.sl_due.specs.Steps.{Step, seen, with_input}
 use Rattle.sl_host_law.proofs.Plain.PlainLists.{any_mapped, at_some, each_of, found_some}
-use Rattle.sl_host_state.specs.Hears.{blocks_shown, heard_answer, is_heeded_by, lease_hearing, lease_told, member_hearing, top_hearing}
+use Rattle.sl_host_state.specs.Hears.{blocks_of_step, blocks_shown, heard_answer, is_heeded_by, lease_hearing, lease_told, member_hearing, top_hearing}
 use Rattle.sl_host_state.specs.Kept.{Config, HostState, LeaseState, MemberState}
 use Rattle.sl_host_state.specs.Makes.{is_lease_on, next_submitted}
-use Rattle.sl_host_state.specs.Stands.{IsWaiting, Keeps, LeaseStands, kept_call, top_mbal}
+use Rattle.sl_host_state.specs.Stands.{IsWaiting, Keeps, LeaseStands, is_plain_call, kept_call, top_mbal}
 use Rattle.sl_host_state.specs.declared.kept.LeaseCall.{LeaseCall}
 use Rattle.sl_host_state.specs.declared.kept.OpenCall.{OpenCall}
 use Rattle.sl_host_state.specs.declared.kept.TopNumber.{TopNumber}
@@ -26,10 +26,10 @@ use Rattle.sl_plain.proofs.Options.{none_is}
 use Rattle.sl_host_law.specs.Questions.Answers.{spot_in}
 use Rattle.sl_host_law.specs.Questions.Jobs.{goes_on_in}
 use Rattle.sl_sector.specs.declared.sector.Block.{Block}
-use Rattle.sl_sector.specs.declared.sector.Rec.TheVariants.{BlockIs, DeltaIs, LeaderIs, RequestIs, ValueIs}
+use Rattle.sl_sector.specs.declared.sector.Rec.TheVariants.{BlockIs, DeltaIs, LeaderIs, PairIs, PairLeaderIs, RequestIs, ValueIs}
 use Rattle.sl_trace.specs.Sessions.{calls_of, is_call_of, me}
 use Rattle.sl_trace.specs.Traces.{Submitted, job_of, same_spot, submitted}
-use Rattle.sl_trace.specs.declared.effects.LeaseStep.TheVariants.{Phase1Read}
+use Rattle.sl_trace.specs.declared.effects.LeaseStep.TheVariants.{Phase1Read, ReadAgain}
 use Rattle.sl_trace.specs.declared.effects.LeaseStep.{LeaseStep}
 use Rattle.sl_trace.specs.declared.effects.Op.TheVariants.{ReadSectors, WriteRecord}
 use Rattle.sl_trace.specs.declared.effects.Op.{Op}
@@ -41,6 +41,8 @@ use Rattle.sl_trace.specs.declared.input.Answer.{Answer}
 use Rattle.sl_trace.specs.declared.input.Input.TheVariants.{Answer as Told}
 use Rattle.sl_words.proofs.CaseLaws.{false_is_true, some_value, true_is_false}
 use Rattle.sl_words.specs.Words.{some_is}
+use Rattle.sl_trace.specs.LeaseWork.{first_step}
+use Rattle.sl_trace.specs.declared.effects.LeaseRead.TheVariants.{OfArea, OfBlock, OfFree, OfPhase1, OfPhase2}
 use Rattle.std.proofs.Common.{ap, arith, inl, inr, refl, subst, sym, ◌∙◌}
 use Rattle.std.specs.List.{list_any}
 use Rattle.std.specs.Option.{option_map_or}
@@ -53,6 +55,16 @@ both false q is also = absurd (false_is_true is)
 value_there : {A : Type 0} (o : Option A) → is_some o ≡ true → (y : A) × (o ≡ Some y)
 value_there None is = absurd (false_is_true is)
 value_there (Some y) is = (y, refl)
+
+-- The read of the first phase shows all blocks.
+first_shows : (g : Layout) (bytes : List ℕ) (s : LeaseStep) → first_step s ≡ Phase1Read → blocks_of_step g s bytes ≡ Some (blocks_in g bytes)
+first_shows g bytes Phase1Read is = refl
+first_shows g bytes (ReadAgain OfPhase1) is = refl
+first_shows g bytes (ReadAgain (OfArea name)) is = absurd cc
+first_shows g bytes (ReadAgain OfFree) is = absurd cc
+first_shows g bytes (ReadAgain OfBlock) is = absurd cc
+first_shows g bytes (ReadAgain OfPhase2) is = absurd cc
+first_shows g bytes s is = absurd cc
 
 -- What waits is the open call.
 waits_for : (w : LeaseCall) (ds : List Submitted) (d : Submitted) → IsWaiting (Some w) ds → Contains ds d → d.answer ≡ None → w.number ≡ d.call.number
@@ -148,7 +160,7 @@ module _ (number : ℕ) (c : OpenCall) (a : Answer) (h : HostState) (x : Step) (
       by (Some w) = by_number w (w.number == c.number)
 
     -- After the read of the first phase the greatest number of the own block's instance is known.
-    pub told_top : (l : LeaseState) → Contains m.leases l → is_lease_on (spot_of_call x.setting.layout call_told.0) l ≡ true → (bytes : List ℕ) → a ≡ Read bytes → step ≡ Phase1Read → (own : Block)
+    pub told_top : (l : LeaseState) → Contains m.leases l → is_lease_on (spot_of_call x.setting.layout call_told.0) l ≡ true → (bytes : List ℕ) → a ≡ Read bytes → first_step step ≡ Phase1Read → (own : Block)
         → (lease_told h m (is_heeded_by h c) c a l).own ≡ Some own → some_is (λ (t : TopNumber). t.instance == own.lver) (lease_told h m (is_heeded_by h c) c a l).top ≡ true
     told_top l there on bytes read first own has = by l.waiting refl where
       stands_l : LeaseStands x.setting.layout m.who.lockspace (me (seen x) m.who) l (lease_calls x.setting (seen x) m.who l.spot)
@@ -163,10 +175,10 @@ module _ (number : ℕ) (c : OpenCall) (a : Answer) (h : HostState) (x : Step) (
       own_is : l.own ≡ Some own
       own_is = sym (told_own l) ∙ has
 
-      shown : (s : LeaseStep) → s ≡ Phase1Read → some_is (λ (t : TopNumber). t.instance == own.lver) (top_hearing l (blocks_shown h.config.layout s a)) ≡ true
+      shown : (s : LeaseStep) → first_step s ≡ Phase1Read → some_is (λ (t : TopNumber). t.instance == own.lver) (top_hearing l (blocks_shown h.config.layout s a)) ≡ true
       shown s at =
-          subst (λ z. some_is (λ (t : TopNumber). t.instance == own.lver) (top_hearing l (blocks_shown h.config.layout z a)) ≡ true) (sym at)
-          (subst (λ z. some_is (λ (t : TopNumber). t.instance == own.lver) (top_hearing l (blocks_shown h.config.layout Phase1Read z)) ≡ true) (sym read)
+          subst (λ z. some_is (λ (t : TopNumber). t.instance == own.lver) (top_hearing l (blocks_shown h.config.layout s z)) ≡ true) (sym read)
+          (subst (λ z. some_is (λ (t : TopNumber). t.instance == own.lver) (top_hearing l z) ≡ true) (sym (first_shows h.config.layout bytes s at))
           (ap (λ o. some_is (λ (t : TopNumber). t.instance == own.lver) (option_map (λ b. record { instance = b.lver; mbal = top_mbal b.lver (blocks_in h.config.layout bytes) }) o)) own_is ∙ number_itself own.lver))
 
       by : (o : Option LeaseCall) → l.waiting ≡ o
@@ -187,7 +199,7 @@ module _ (number : ℕ) (c : OpenCall) (a : Answer) (h : HostState) (x : Step) (
           subst
           (λ b. some_is (λ (t : TopNumber). t.instance == own.lver)
           (cond b (lease_hearing h.config.layout m.who.lockspace (record { id = m.who.id; generation = m.known.generation }) (is_heeded_by h c) c a w.step w.frees w.clears l) l).top ≡ true)
-          (sym (ap (λ n. n == c.number) (same ∙ ap (λ (z : OpenCall). z.number) call_told.3) ∙ number_itself c.number)) (shown w.step (steps ∙ first))
+          (sym (ap (λ n. n == c.number) (same ∙ ap (λ (z : OpenCall). z.number) call_told.3) ∙ number_itself c.number)) (shown w.step (ap first_step steps ∙ first))
 
     -- There is one.
     some_lease : (l : LeaseState) × Contains m.leases l × (is_lease_on (spot_of_call x.setting.layout call_told.0) l ≡ true)
@@ -236,6 +248,8 @@ module _ (number : ℕ) (c : OpenCall) (a : Answer) (h : HostState) (x : Step) (
     generation_fits (ReadSectors n) its = refl
     generation_fits (WriteRecord (BlockIs b)) its = refl
     generation_fits (WriteRecord (LeaderIs l)) its = refl
+    generation_fits (WriteRecord (PairIs q)) its = absurd (false_is_true its)
+    generation_fits (WriteRecord (PairLeaderIs l)) its = absurd (false_is_true its)
     generation_fits (WriteRecord (DeltaIs d)) its = absurd (false_is_true its)
     generation_fits (WriteRecord (RequestIs q)) its = absurd (false_is_true its)
     generation_fits (WriteRecord (ValueIs v)) its = absurd (false_is_true its)
@@ -244,9 +258,21 @@ module _ (number : ℕ) (c : OpenCall) (a : Answer) (h : HostState) (x : Step) (
     value_fits (ReadSectors n) its = refl
     value_fits (WriteRecord (BlockIs b)) its = refl
     value_fits (WriteRecord (LeaderIs l)) its = refl
+    value_fits (WriteRecord (PairIs q)) its = absurd (false_is_true its)
+    value_fits (WriteRecord (PairLeaderIs l)) its = absurd (false_is_true its)
     value_fits (WriteRecord (DeltaIs d)) its = absurd (false_is_true its)
     value_fits (WriteRecord (RequestIs q)) its = absurd (false_is_true its)
     value_fits (WriteRecord (ValueIs v)) its = absurd (false_is_true its)
+
+    plain_fits : (o : Op) → IsTrue (is_lease_op o) → IsTrue (is_plain_call (next_submitted (heard_answer number a h) m.who.number c.path (Lease work next) offset o))
+    plain_fits (ReadSectors n) its = ap (λ b. not b && true) may.once
+    plain_fits (WriteRecord (BlockIs b)) its = ap (λ b. not b && true) may.once
+    plain_fits (WriteRecord (LeaderIs l)) its = ap (λ b. not b && true) may.once
+    plain_fits (WriteRecord (PairIs q)) its = absurd (false_is_true its)
+    plain_fits (WriteRecord (PairLeaderIs l)) its = absurd (false_is_true its)
+    plain_fits (WriteRecord (DeltaIs d)) its = absurd (false_is_true its)
+    plain_fits (WriteRecord (RequestIs q)) its = absurd (false_is_true its)
+    plain_fits (WriteRecord (ValueIs v)) its = absurd (false_is_true its)
 
     some_room : (n : ℕ) → 0 < n → nat_lt 0 n ≡ true
     some_room n less = grind (arith, less)
@@ -267,7 +293,7 @@ module _ (number : ℕ) (c : OpenCall) (a : Answer) (h : HostState) (x : Step) (
           member = member_hearing h c a m;
           there = (place number c a h x k m to not_refused).1;
           its = refl;
-          fits = record { later = refl; job = job_fits work is goes; turn = refl; generation = generation_fits op may.its; value = value_fits op may.its; lease = lease_fits };
+          fits = record { later = refl; job = job_fits work is goes; turn = refl; generation = generation_fits op may.its; value = value_fits op may.its; lease = lease_fits; plain = plain_fits op may.its };
         }
 
 pub leases_set_free : LeasesSetFree

@@ -170,6 +170,7 @@ module _ (number : ℕ) (c : OpenCall) (a : Answer) (h : HostState) (x : Step) (
           turn = refl;
           generation = refl;
           value = refl;
+          plain = refl;
           lease = refl;
         };
       }))

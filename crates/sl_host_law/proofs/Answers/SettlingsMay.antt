@@ -116,6 +116,7 @@ module _ (i : Input) (h : HostState) (x : Step) (k : ℕ) (m : MemberState) (at 
           turn = refl;
           generation = refl;
           value = refl;
+          plain = refl;
           lease = subst (λ p. (nat_lt 0 h.config.layout.area && option_map_or (λ l. is_none l.waiting && follows_read c l) (find (is_lease_on p) m.leases) (not (is_at Phase2_write c))) ≡ true)
               (sym (near (read_from h at ReadBeforeFree - read_from h at ReadBeforeFree % h.config.layout.area) (placed.reads ReadBeforeFree))) (lease_fits c refl (λ l. refl));
         };
@@ -135,6 +136,7 @@ module _ (i : Input) (h : HostState) (x : Step) (k : ℕ) (m : MemberState) (at 
           turn = refl;
           generation = refl;
           value = refl;
+          plain = refl;
           lease = subst (λ p. (nat_lt 0 h.config.layout.area && option_map_or (λ l. is_none l.waiting && follows_read c l) (find (is_lease_on p) m.leases) (not (is_at Phase2_write c))) ≡ true)
               (sym (near (block_offset h.config.layout at.base m.who.id - block_offset h.config.layout at.base m.who.id % h.config.layout.area) placed.block)) (lease_fits c refl (λ l. refl));
         };
@@ -154,6 +156,7 @@ module _ (i : Input) (h : HostState) (x : Step) (k : ℕ) (m : MemberState) (at 
           turn = refl;
           generation = refl;
           value = refl;
+          plain = refl;
           lease = subst (λ p. (nat_lt 0 h.config.layout.area && option_map_or (λ l. is_none l.waiting && follows_read c l) (find (is_lease_on p) m.leases) (not (is_at Phase2_write c))) ≡ true)
               (sym (near (block_offset h.config.layout at.base m.who.id - block_offset h.config.layout at.base m.who.id % h.config.layout.area) placed.block)) (lease_fits c refl (λ l. refl));
         };

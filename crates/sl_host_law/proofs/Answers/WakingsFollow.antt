@@ -93,6 +93,7 @@ module _ (h : HostState) (x : Step) (k : ℕ) (m : MemberState) (at : IsMemberAt
           turn = ap (λ b. not (true && b)) idle.sector;
           generation = refl;
           value = refl;
+          plain = refl;
           lease = refl;
         };
       }
@@ -112,6 +113,7 @@ module _ (h : HostState) (x : Step) (k : ℕ) (m : MemberState) (at : IsMemberAt
           turn = ap (λ b. not (true && b)) idle.sector;
           generation = refl;
           value = refl;
+          plain = refl;
           lease = refl;
         };
       }

@@ -142,6 +142,7 @@ members_more h x k s call keeps there its fits i m at = from (at_mapped (member_
         generation = fits.generation;
         value = subst (λ g. fits_value g s (newest x call) ≡ true) same fits.value;
         lease = subst (λ g. fits_lease g s (newest x call) ≡ true) same fits.lease;
+        plain = fits.plain;
       }
 
   own : (z : MemberState) → slice_get h.members i ≡ Some z → (call.session == z.who.number) ≡ true → MemberStands x.setting (seen (more call x)) (called h.config.layout (newest x call) z)

@@ -14,7 +14,7 @@ use Rattle.sl_host_state.specs.Hears.{setting_of}
 use Rattle.sl_host_state.specs.Kept.{Config, HostState, MemberState}
 use Rattle.sl_host_state.specs.Makes.{has_write_open}
 use Rattle.sl_host_state.specs.Stands.{Keeps, MemberStands, bits_of, is_joining, kept_call, newest_of}
-use Rattle.sl_trace.specs.LeaseWork.{lease_place, settle_next}
+use Rattle.sl_trace.specs.LeaseWork.{lease_place, settle_begin, settle_next}
 use Rattle.sl_trace.specs.Leases.{is_on, known, lease_spots, open_on}
 use Rattle.sl_host_law.specs.Parts.Wakes.{MembersWake, bits_in, delta_in, is_free_at, next_by_newest}
 use Rattle.sl_plain.proofs.Lists.{any_found, any_of, contains_first, kept, kept_inside}
@@ -40,6 +40,10 @@ use Rattle.sl_trace.specs.declared.input.Given.{Given}
 use Rattle.sl_trace.specs.declared.input.Input.{Input}
 use Rattle.sl_words.proofs.CaseLaws.{is_false, none_some, some_value, true_is_false}
 use Rattle.sl_words.specs.Words.{choose, is_empty}
+use Rattle.sl_trace.proofs.PlainWork.{begin_plain, within_plain}
+use Rattle.sl_host_law.proofs.Plain.BlocksHaveOneSector.{setting_plain}
+use Rattle.sl_acts.specs.Acts.{next_of_settling}
+use Rattle.sl_trace.specs.declared.lease.Aim.TheVariants.{Settles}
 use Rattle.std.proofs.Common.{ap, refl, subst, sym, ◌∙◌}
 use Rattle.std.proofs.lemmas.Bool.Decides.{Decides-eqb}
 use Rattle.std.specs.List.{AllByRecursion, enumerate_from, list_any}
@@ -194,15 +198,17 @@ module _ (i : Input) (h : HostState) (x : Step) (k : ℕ) (m : MemberState) (at 
       ap (λ b. when b (for_each (lease_spots x.setting (seen x) m.who) (settle_on_wake m.who)) x) says.active
       ∙ ap (λ ss. when (is_active_member m) (for_each ss (settle_on_wake m.who)) x) says.spots
 
-  known_is : (spot : Spot) → settle_next (lease_place x.setting m.who) (known x.setting (seen x) m.who spot) ≡ settle_next (place_in h m) (known_in h m x spot)
+  known_is : (spot : Spot) → next_of_settling x.setting (seen x) m.who spot ≡ settle_next (place_in h m) (known_in h m x spot)
   known_is spot =
-      ap (λ (c : Config). settle_next (record { layout = c.layout; lockspace = m.who.lockspace }) (known x.setting (seen x) m.who spot)) at.stands.keeps.config
+      within_plain (lease_place x.setting m.who) (known x.setting (seen x) m.who spot) Settles (settle_begin (lease_place x.setting m.who) (known x.setting (seen x) m.who spot)) (setting_plain i h x at.stands)
+      ∙ begin_plain (lease_place x.setting m.who) (known x.setting (seen x) m.who spot) (setting_plain i h x at.stands)
+      ∙ ap (λ (c : Config). settle_next (record { layout = c.layout; lockspace = m.who.lockspace }) (known x.setting (seen x) m.who spot)) at.stands.keeps.config
       ∙ ap (settle_next (place_in h m)) (says.lease spot)
 
   settling : (spot : Spot) → settle_on_wake m.who spot x ≡ when (is_free_at h spot) (carry_lease m.who spot Settling (settle_next (place_in h m) (known_in h m x spot))) x
   unfolding settle_on_wake settle
   settling spot =
-      ap (λ b. when b (λ y. carry_lease m.who spot Settling (settle_next (lease_place y.setting m.who) (known y.setting (seen y) m.who spot)) y) x) (free_is h x.setting (seen x) spot at.stands.keeps)
+      ap (λ b. when b (λ y. carry_lease m.who spot Settling (next_of_settling y.setting (seen y) m.who spot) y) x) (free_is h x.setting (seen x) spot at.stands.keeps)
       ∙ ap (λ d. when (is_free_at h spot) (carry_lease m.who spot Settling d) x) (known_is spot)
 
   ending : end_if_done m.who x ≡ when (is_empty (held_of h m) && not (has_write_open h m.who.number)) (remove_connection m.who.lockspace) x

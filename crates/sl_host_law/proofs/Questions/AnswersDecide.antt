@@ -34,6 +34,8 @@ use Rattle.sl_trace.specs.declared.input.Answer.TheVariants.{Failed, Read, Writt
 use Rattle.sl_trace.specs.declared.input.Answer.{Answer}
 use Rattle.sl_trace.specs.declared.input.Input.{Input}
 use Rattle.sl_trace.specs.declared.reply.Reply.TheVariants.{Done, IoFault, ValueSet}
+use Rattle.sl_trace.proofs.PlainWork.{within_plain}
+use Rattle.sl_host_law.proofs.Plain.BlocksHaveOneSector.{setting_plain}
 use Rattle.std.proofs.Common.{ap, refl, ◌∙◌}
 use Rattle.std.specs.Option.{option_map_or}
 use Rattle.std.specs.Prelude.{Bool, List, None, Option, Some, false, is_some, not, option_map, true, ℕ, ◌≡◌}
@@ -125,7 +127,11 @@ module _ (i : Input) (h : HostState) (x : Step) (k : ℕ) (m : MemberState) (d :
         of_aim : (aim : Aim) → carry_lease m.who (spot_of_call x.setting.layout d) work (next_of_lease x.setting (seen x) m.who (spot_of_call x.setting.layout d) aim d step a) x
             ≡ carry_lease m.who (spot_in h.config.layout c) work (lease_next (place_in h m) (known_in h m x (spot_in h.config.layout c)) aim c.number c.lver step a) x
         of_aim aim =
-            ap (λ at. carry_lease m.who at work (lease_next (lease_place x.setting m.who) (known x.setting (seen x) m.who at) aim d.call.number (lver_written d) step a) x) spot
+            ap (λ next. carry_lease m.who (spot_of_call x.setting.layout d) work next x)
+            (within_plain (lease_place x.setting m.who) (known x.setting (seen x) m.who (spot_of_call x.setting.layout d)) aim
+            (lease_next (lease_place x.setting m.who) (known x.setting (seen x) m.who (spot_of_call x.setting.layout d)) aim d.call.number (lver_written d) step a)
+            (setting_plain i h x call.at.stands))
+            ∙ ap (λ at. carry_lease m.who at work (lease_next (lease_place x.setting m.who) (known x.setting (seen x) m.who at) aim d.call.number (lver_written d) step a) x) spot
             ∙ ap (λ (z : Config). carry_lease m.who (spot_in h.config.layout c) work (lease_next (record { layout = z.layout; lockspace = m.who.lockspace }) (known x.setting (seen x) m.who (spot_in h.config.layout c)) aim d.call.number (lver_written d) step a) x) config
             ∙ ap (λ (q : LeaseKnown). carry_lease m.who (spot_in h.config.layout c) work (lease_next (place_in h m) q aim d.call.number (lver_written d) step a) x) (its.lease (spot_in h.config.layout c))
             ∙ ap (λ (z : OpenCall). carry_lease m.who (spot_in h.config.layout c) work (lease_next (place_in h m) (known_in h m x (spot_in h.config.layout c)) aim z.number z.lver step a) x) call.kept

@@ -6,7 +6,6 @@ use Rattle.sl_host_law.proofs.Answers.LeasesSetFree.{call_told, leases_set_free,
 use Rattle.sl_host_law.specs.Answers.Answering.{IsAnswerTo}
 use Rattle.sl_host_law.specs.Answers.LeaseAnswers.{area_of}
 use Rattle.sl_area.specs.Layouts.{Layout}
-use Rattle.sl_area.specs.Places.{area_blocks, blocks_in}
 use Rattle.sl_host_law.proofs.Calls.Calls.SpotsMore.{on_own, one_spot}
 use Rattle.sl_due.specs.Steps.{Step, seen, with_input}
 use Rattle.sl_host_law.proofs.Plain.PlainLists.{at_some, each_of}
@@ -14,13 +13,13 @@ use Rattle.sl_host_state.specs.Hears.{blocks_shown, heard_answer, hearing, is_he
 use Rattle.sl_host_state.specs.Kept.{Config, HostState, LeaseState, MemberState}
 use Rattle.sl_host_state.specs.Makes.{is_lease_on}
 use Rattle.sl_host_state.specs.New.{IsOfProgram}
-use Rattle.sl_host_state.specs.Stands.{IsWaiting, LeaseStands, Stands, kept_call}
+use Rattle.sl_host_state.specs.Stands.{IsWaiting, LeaseStands, Stands, is_plain_call, kept_call}
 use Rattle.sl_host_state.specs.declared.kept.LeaseCall.{LeaseCall}
 use Rattle.sl_host_state.specs.declared.kept.OpenCall.{OpenCall}
 use Rattle.sl_host_law.proofs.Steps.LeasesAreKnown.{kept_tops, known_is, lease_is, read_tops, settles_alike}
 use Rattle.sl_host_law.specs.Steps.Leases.{answered_next, blocks_at, kept_blocks, known_by}
 use Rattle.sl_trace.specs.LeaseWork.{lease_next, settle_next}
-use Rattle.sl_trace.specs.Leases.{Area_read, Phase1_read, Phase2_read, Read_before_free, blocks_given, is_lease_call, is_on, kind_of_step, last_blocks, lease_calls, lease_step, same_kind, spot_of_call}
+use Rattle.sl_trace.specs.Leases.{blocks_given, is_again, is_lease_call, is_on, is_second, last_blocks, lease_calls, lease_step, spot_of_call, turn_written}
 use Rattle.sl_trace.specs.declared.lease.Aim.TheVariants.{Acquires, Converts, Settles}
 use Rattle.sl_trace.specs.declared.lease.Aim.{Aim}
 use Rattle.sl_plain.proofs.Lists.{contains_cases, find_inside, in_map, kept}
@@ -33,7 +32,7 @@ use Rattle.sl_trace.specs.declared.session.Session.{Session}
 use Rattle.sl_trace.specs.Traces.{Submitted, answer_of, bytes_given, gave, submitted}
 use Rattle.sl_trace.specs.declared.effects.Call.{Call}
 use Rattle.sl_trace.specs.declared.effects.Effects.{Effects}
-use Rattle.sl_trace.specs.declared.effects.LeaseStep.TheVariants.{ClearMode, FreeLeader, Phase1Read, Phase2Read, ReadArea, ReadBeforeFree, TakeLeader}
+use Rattle.sl_trace.specs.declared.effects.LeaseStep.TheVariants.{ClearMode, FreeLeader, Phase1Read, Phase2Read, ReadAgain, ReadArea, ReadBeforeBlock, ReadBeforeFree, TakeLeader}
 use Rattle.sl_trace.specs.declared.effects.LeaseStep.{LeaseStep}
 use Rattle.sl_trace.specs.declared.effects.Mode.TheVariants.{Exclusive, Shared}
 use Rattle.sl_trace.specs.declared.effects.Purpose.TheVariants.{Lease}
@@ -45,9 +44,12 @@ use Rattle.sl_trace.specs.declared.input.Input.TheVariants.{Answer as Told, Wake
 use Rattle.sl_trace.specs.declared.input.Input.{Input}
 use Rattle.sl_words.proofs.CaseLaws.{false_is_true, true_is_false}
 use Rattle.sl_words.specs.Words.{some_is}
+use Rattle.sl_trace.proofs.PlainWork.{bytes_plain}
+use Rattle.sl_host_law.proofs.Replies.Answers.LeaseHearsAnswer.{shown_by}
+use Rattle.sl_words.proofs.WordLaws.{and_true}
 use Rattle.std.proofs.Common.{ap, inl, inr, refl, subst, sym, ◌∙◌}
 use Rattle.std.specs.Option.{option_or}
-use Rattle.std.specs.Prelude.{Bool, Contains, IsTrue, List, None, Option, Some, false, filter, find, is_some, map, true, unwrap_or, [], ℕ, ◌&&◌, ◌<◌, ◌==◌, ◌||◌, ◌∷◌, ◌≡◌, ◌⊎◌}
+use Rattle.std.specs.Prelude.{Bool, Contains, IsTrue, List, None, Option, Some, false, filter, find, is_none, is_some, map, not, true, unwrap_or, [], ℕ, ◌&&◌, ◌<◌, ◌==◌, ◌∷◌, ◌≡◌, ◌⊎◌}
 
 -- ---- the newest call
 
@@ -60,31 +62,8 @@ newest_open (Some w) (f ∷ ds) d waits there open_d = by (contains_cases f ds d
   by (inl is) = (ds, ap (λ z. z ∷ ds) is)
   by (inr later) = absurd (true_is_false (sym (each_of (λ (y : Submitted). IsTrue (is_some y.answer)) ds d waits.1 later) ∙ ap is_some open_d))
 
--- What a call gave, by its step and its bytes.
-abbrev given_with : Layout → Option (Work × LeaseStep) → Option (List ℕ) → Option (List (Option Block))
-given_with g o given =
-    elim given [
-      | None ↦ None
-      | Some bytes ↦ elim (some_is (λ p. same_kind (kind_of_step p.1) Area_read) o || some_is (λ p. same_kind (kind_of_step p.1) Read_before_free) o) [
-        | true ↦ Some (area_blocks g bytes)
-        | false ↦ elim (some_is (λ p. same_kind (kind_of_step p.1) Phase1_read) o || some_is (λ p. same_kind (kind_of_step p.1) Phase2_read) o) [ true ↦ Some (blocks_in g bytes) | false ↦ None ]
-      ]
-    ]
-
-shown_with : (g : Layout) (work : Work) (step : LeaseStep) (a : Answer) → given_with g (Some (work, step)) (bytes_given a) ≡ blocks_shown g step a
-shown_with g work (ReadArea name) (Read bytes) = refl
-shown_with g work ReadBeforeFree (Read bytes) = refl
-shown_with g work Phase1Read (Read bytes) = refl
-shown_with g work Phase2Read (Read bytes) = refl
-shown_with g work step (Read bytes) = refl
-shown_with g work step Written = refl
-shown_with g work step Failed = refl
-
-given_is : (g : Layout) (d : Submitted) (work : Work) (step : LeaseStep) (a : Answer) → lease_step d.call.purpose ≡ Some (work, step) → gave d ≡ bytes_given a → blocks_given g d ≡ blocks_shown g step a
-given_is g d work step a is gives = ap (λ o. given_with g o (gave d)) is ∙ ap (given_with g (Some (work, step))) gives ∙ shown_with g work step a
-
 -- The blocks that were read last, where the newest call is this one.
-last_is : (g : Layout) (ms : List Submitted) (d : Submitted) (rest : List Submitted) (o : Option (List (Option Block))) → ms ≡ d ∷ rest → blocks_given g d ≡ o → last_blocks g ms ≡ unwrap_or o (last_blocks g rest)
+last_is : (g : Layout) (ms : List Submitted) (d : Submitted) (rest : List Submitted) (o : Option (List (Option Block))) → ms ≡ d ∷ rest → blocks_given g d rest ≡ o → last_blocks g ms ≡ unwrap_or o (last_blocks g rest)
 last_is g ms d rest o is gives = ap (last_blocks g) is ∙ ap (λ z. elim z as (λ y. List (Option Block)) [ Some bs ↦ bs | None ↦ last_blocks g rest ]) gives ∙ by o where
   by : (z : Option (List (Option Block))) → elim z as (λ y. List (Option Block)) [ Some bs ↦ bs | None ↦ last_blocks g rest ] ≡ unwrap_or z (last_blocks g rest)
   by None = refl
@@ -148,10 +127,12 @@ module _ (i : Input) (h : HostState) (x : Step) (k : ℕ) (m : MemberState) (at 
         → lease_next (place_in h m) (known_by h m area l (blocks_at h.config.layout l s (Read bytes))) aim call n s (Read bytes)
         ≡ lease_next (place_in h m) (known_by h m area l (last_blocks h.config.layout (lease_calls x.setting (seen x) m.who area))) aim call n s (Read bytes)
     by (ReadArea name) is = ap (λ z. lease_next (place_in h m) (known_by h m area l z) aim call n (ReadArea name) (Read bytes)) (sym is)
-    by ReadBeforeFree is = refl
+    by ReadBeforeFree is = ap (λ z. lease_next (place_in h m) (known_by h m area l z) aim call n ReadBeforeFree (Read bytes)) (sym is)
+    by ReadBeforeBlock is = ap (λ z. lease_next (place_in h m) (known_by h m area l z) aim call n ReadBeforeBlock (Read bytes)) (sym is)
+    by (ReadAgain again) is = ap (λ z. lease_next (place_in h m) (known_by h m area l z) aim call n (ReadAgain again) (Read bytes)) (sym is)
     by Phase1Read is = ap (λ z. lease_next (place_in h m) (known_by h m area l z) aim call n Phase1Read (Read bytes)) (sym is)
     by Phase2Read is = ap (λ z. lease_next (place_in h m) (known_by h m area l z) aim call n Phase2Read (Read bytes)) (sym is)
-    by s is = refl
+    by s is = bytes_plain (place_in h m) (known_by h m area l (kept_blocks l)) aim bytes s at.stands.keeps.unpaired ∙ sym (bytes_plain (place_in h m) (known_by h m area l last) aim bytes s at.stands.keeps.unpaired)
 
 -- ---- an answer
 
@@ -199,8 +180,8 @@ module _ (number : ℕ) (c : OpenCall) (a : Answer) (h : HostState) (x : Step) (
   lease : lease_now
   lease = leases_set_free.lease number c a h x k m work step to is room
 
-  newest : (rest : List Submitted) × (lease_calls x.setting (seen x) m.who (area_of h c) ≡ call ∷ rest)
-  newest =
+  stood_lease : (l : LeaseState) × LeaseStands x.setting.layout m.who.lockspace (me (seen x) m.who) l (lease_calls x.setting (seen x) m.who (area_of h c))
+  stood_lease =
       let inside = find_inside (is_lease_on (area_of h c)) (member_hearing h c a m).leases lease.0 lease.1 in
       let old = in_map (lease_told h m (is_heeded_by h c) c a) m.leases lease.0 inside.0 in
       let place_l = at_some m.leases old.0 old.1 in
@@ -211,7 +192,21 @@ module _ (number : ℕ) (c : OpenCall) (a : Answer) (h : HostState) (x : Step) (
       subst (λ p. LeaseStands x.setting.layout m.who.lockspace (me (seen x) m.who) old.0 (lease_calls x.setting (seen x) m.who p)) spot
       ((to.stands.keeps.members k m to.there).leases place_l.0 old.0 place_l.1)
       in
-      newest_open old.0.waiting (lease_calls x.setting (seen x) m.who (area_of h c)) call stood.waiting on_area call_open
+      (old.0, stood)
+
+  newest : (rest : List Submitted) × (lease_calls x.setting (seen x) m.who (area_of h c) ≡ call ∷ rest)
+  newest = newest_open stood_lease.0.waiting (lease_calls x.setting (seen x) m.who (area_of h c)) call stood_lease.1.waiting on_area call_open
+
+  -- It is no second read.
+  call_once : is_again call ≡ false
+  call_once =
+      untrue (is_again call)
+      (and_true (not (is_again call)) (is_none (turn_written call))
+      (each_of (λ (d : Submitted). IsTrue (is_plain_call d)) (lease_calls x.setting (seen x) m.who (area_of h c)) call stood_lease.1.plain on_area)).0
+    where
+      untrue : (b : Bool) → not b ≡ true → b ≡ false
+      untrue false holds = refl
+      untrue true holds = absurd (false_is_true holds)
 
   last_shown : last_blocks h.config.layout (lease_calls x.setting (seen (with_input (Told number a) x)) m.who (area_of h c))
       ≡ unwrap_or (blocks_shown h.config.layout step a) (last_blocks h.config.layout (map (hear x.past x.reading x.effects number a) newest.0))
@@ -219,7 +214,9 @@ module _ (number : ℕ) (c : OpenCall) (a : Answer) (h : HostState) (x : Step) (
       let hears : Submitted → Submitted = hear x.past x.reading x.effects number a in
       last_is h.config.layout (lease_calls x.setting (seen (with_input (Told number a) x)) m.who (area_of h c)) (hears call) (map hears newest.0) (blocks_shown h.config.layout step a)
       (calls_heard number a x m.who (area_of h c) (is_bare h x to.stands to.at.calls) ∙ ap (map hears) newest.1)
-      (given_is h.config.layout (hears call) work step a (ap (λ (z : Call). lease_step z.purpose) (same_call x.past x.reading x.effects number a call) ∙ call_step)
+      (shown_by h.config.layout (hears call) (map hears newest.0) work step a to.stands.keeps.unpaired
+      (ap (λ (z : Call). some_is (λ p. is_second p.1) (lease_step z.purpose)) (same_call x.past x.reading x.effects number a call) ∙ call_once)
+      (ap (λ (z : Call). lease_step z.purpose) (same_call x.past x.reading x.effects number a call) ∙ call_step)
       (gives_heard number a x call call_numbered call_open))
 
   heard_config : (heard_answer number a h).config ≡ h.config

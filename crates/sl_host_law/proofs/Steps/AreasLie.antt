@@ -1,7 +1,7 @@
 -- Leader and blocks of an area lie on it: it has room for leader, request and a block of each host.
 use Rattle.sl_host_law.specs.Answers.LeasesGoOn.{IsPlacedAt}
 use Rattle.sl_host_law.specs.Answers.Leasing.{read_from}
-use Rattle.sl_area.specs.Layouts.{IsGeometry, Layout, Sizes}
+use Rattle.sl_area.specs.Layouts.{IsGeometry, Layout, Sizes, roomy}
 use Rattle.sl_host_law.proofs.Calls.Calls.SpotsMore.{spot_comes}
 use Rattle.sl_due.specs.Steps.{Step, seen}
 use Rattle.sl_host_state.specs.Kept.{Config, HostState, MemberState}
@@ -10,7 +10,7 @@ use Rattle.sl_host_state.specs.Passes.{whos}
 use Rattle.sl_host_law.specs.Steps.Sound.{IsLaidOut}
 use Rattle.sl_host_law.specs.Questions.Members.{IsMemberAt}
 use Rattle.sl_trace.specs.Sessions.{calls_of}
-use Rattle.sl_trace.specs.declared.effects.LeaseStep.TheVariants.{ClearMode, FreeLeader, Phase1Read, Phase1Write, Phase2Read, Phase2Write, ReadArea, ReadBeforeFree, SetMode, TakeLeader}
+use Rattle.sl_trace.specs.declared.effects.LeaseStep.TheVariants.{ClearMode, FreeLeader, Phase1Read, Phase1Write, Phase2Read, Phase2Write, ReadAgain, ReadArea, ReadBeforeBlock, ReadBeforeFree, SetMode, TakeLeader}
 use Rattle.sl_trace.specs.declared.effects.LeaseStep.{LeaseStep}
 use Rattle.sl_trace.specs.declared.effects.Spot.{Spot}
 use Rattle.sl_trace.specs.declared.input.Input.{Input}
@@ -20,16 +20,23 @@ use Rattle.std.proofs.Math.Nat.{div-add-mod', mul-mod_left}
 use Rattle.std.proofs.lemmas.Bool.{eqb-true, leb-true}
 use Rattle.std.proofs.lemmas.Nat.{mod-mul-add}
 use Rattle.std.specs.Int.{is_in_range}
-use Rattle.std.specs.Prelude.{Contains, map, nat_le, true, ℕ, ◌%◌, ◌&&◌, ◌*◌, ◌+◌, ◌-◌, ◌/◌, ◌<◌, ◌==◌, ◌≡◌, ◌≤◌}
+use Rattle.std.specs.Prelude.{Bool, Contains, false, map, nat_le, true, ℕ, ◌%◌, ◌&&◌, ◌*◌, ◌+◌, ◌-◌, ◌/◌, ◌<◌, ◌==◌, ◌≡◌, ◌≤◌}
 
 -- ---- room
 
-row : (z : Sizes) (k s a n : ℕ) → (s == z.sector && a == z.area && is_in_range 1 n z.hosts) ≡ true → k ≤ z.hosts + 1 → (k ≤ n + 1 → s * k < a) → z.sector * k < z.area
+-- With pairs there are at most half as many hosts.
+few : (paired : Bool) (n : ℕ) → roomy paired n ≤ n
+few true n = omega arith
+few false n = omega arith
+
+row : (z : Sizes) (k s a n : ℕ) → (s == z.sector && a == z.area && is_in_range 1 (roomy z.paired n) z.hosts) ≡ true → k ≤ z.hosts + 1 → (k ≤ n + 1 → s * k < a) → z.sector * k < z.area
 row z k s a n is most fits =
-    let more = and_true (s == z.sector && a == z.area) (is_in_range 1 n z.hosts) is in
+    let more = and_true (s == z.sector && a == z.area) (is_in_range 1 (roomy z.paired n) z.hosts) is in
     let parts = and_true (s == z.sector) (a == z.area) more.0 in
-    let low = and_true (nat_le 1 z.hosts) (nat_le z.hosts n) more.1 in
-    let hosts : z.hosts ≤ n = leb-true z.hosts n low.1 in
+    let low = and_true (nat_le 1 z.hosts) (nat_le z.hosts (roomy z.paired n)) more.1 in
+    let within : z.hosts ≤ roomy z.paired n = leb-true z.hosts (roomy z.paired n) low.1 in
+    let most_hosts : roomy z.paired n ≤ n = few z.paired n in
+    let hosts : z.hosts ≤ n = omega (arith, within, most_hosts) in
     let below : s * k < a = fits (omega (arith, most, hosts)) in
     subst (λ t. t * k < z.area) (eqb-true s z.sector parts.0) (subst (λ b. s * k < b) (eqb-true a z.area parts.1) below)
 
@@ -89,6 +96,8 @@ placed h m at laid there zero =
           → read_from h at step - read_from h at step % h.config.layout.area ≡ at.base
       reads whole part (ReadArea name) = whole
       reads whole part ReadBeforeFree = whole
+      reads whole part ReadBeforeBlock = part
+      reads whole part (ReadAgain read) = part
       reads whole part Phase1Write = part
       reads whole part Phase1Read = part
       reads whole part Phase2Write = part

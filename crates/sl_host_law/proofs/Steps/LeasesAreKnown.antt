@@ -6,7 +6,7 @@ use Rattle.sl_host_law.proofs.Plain.PlainLists.{at_some}
 use Rattle.sl_host_state.specs.Kept.{Config, HostState, LeaseState, MemberState}
 use Rattle.sl_host_state.specs.Makes.{is_lease_on, new_lease}
 use Rattle.sl_host_state.specs.New.{IsOfProgram, sizes_in}
-use Rattle.sl_host_state.specs.Stands.{LeaseStands, top_mbal}
+use Rattle.sl_host_state.specs.Stands.{LeaseStands, first_read, top_mbal, turn_kept}
 use Rattle.sl_host_state.specs.declared.kept.TopNumber.{TopNumber}
 use Rattle.sl_host_law.specs.Steps.Leases.{converting_next, kept_blocks, known_at, known_by, lease_at, settling_next, top_block}
 use Rattle.sl_lease.proofs.NextLaws.{begins_again}
@@ -62,6 +62,8 @@ module _ (i : Input) (h : HostState) (x : Step) (k : ℕ) (m : MemberState) (at 
       ∙ ap (λ n. record k0 { own = l.own; name = l.name; freed = l.freed; ballot = n }) s.ballot
       ∙ ap (λ n. record k0 { own = l.own; name = l.name; freed = l.freed; ballot = l.ballot; shown = n }) s.shown
       ∙ ap (λ n. record k0 { own = l.own; name = l.name; freed = l.freed; ballot = l.ballot; shown = l.shown; won = n }) s.won
+      ∙ ap (λ n. record k0 { own = l.own; name = l.name; freed = l.freed; ballot = l.ballot; shown = l.shown; won = l.won; turn = n }) s.turn
+      ∙ ap (λ n. record k0 { own = l.own; name = l.name; freed = l.freed; ballot = l.ballot; shown = l.shown; won = l.won; turn = turn_kept l.pair; kept = n }) s.first
 
   pub lease_is : lease_at m area ≡ l
   lease_is = ap (λ o. unwrap_or o (new_lease area)) its
@@ -99,10 +101,12 @@ module _ (i : Input) (h : HostState) (x : Step) (k : ℕ) (m : MemberState) (at 
   begins_alike n one other program ballot a b =
       let own = own_there n ballot in
       let top = stands.opened n ballot in
-      subst (λ (g : Layout). begin_next (record { layout = g; lockspace = m.who.lockspace }) (known_by h m area l one) Settles n
-      ≡ begin_next (record { layout = g; lockspace = m.who.lockspace }) (known_by h m area l other) Settles n) program
+      subst (λ (g : Layout). begin_next (record { layout = g; lockspace = m.who.lockspace }) (by_layout g one) Settles n
+      ≡ begin_next (record { layout = g; lockspace = m.who.lockspace }) (by_layout g other) Settles n) program
       (sym (begins_again side l held (over_in m) one n own.0 top.0 (begin_above side held Settles n own.0 top.0.mbal) own.1 top.1 a ballot refl)
-      ∙ begins_again side l held (over_in m) other n own.0 top.0 (begin_above side held Settles n own.0 top.0.mbal) own.1 top.1 b ballot refl)
+      ∙ begins_again side l held (over_in m) other n own.0 top.0 (begin_above side held Settles n own.0 top.0.mbal) own.1 top.1 b ballot refl) where
+        by_layout : Layout → List (Option Block) → LeaseKnown
+        by_layout g read = record (known_by h m area l read) { kept = first_read g l.pair }
 
   pub settles_alike : (one other : List (Option Block)) → IsOfProgram h.config.layout → TopStands l one → TopStands l other
       → settle_next (place_in h m) (known_by h m area l one) ≡ settle_next (place_in h m) (known_by h m area l other)

@@ -1,7 +1,7 @@
 -- Leases are settled by place: each is found again with its member, and none goes while the others are settled.
 use Rattle.sl_acts.proofs.LoopsKeep.{for_each_keeps, when_keeps}
 use Rattle.sl_acts.proofs.SessionsStay.{Stays, delta_stays, lease_stays}
-use Rattle.sl_acts.specs.Acts.{Has}
+use Rattle.sl_acts.specs.Acts.{Has, next_of_settling}
 use Rattle.sl_host_law.proofs.Answers.SettlingsMay.{settlings_may}
 use Rattle.sl_host_law.proofs.Answers.WakingsFollow.{wakings_follow}
 use Rattle.sl_host_law.specs.Answers.Leasing.{carrying_lease}
@@ -26,8 +26,7 @@ use Rattle.sl_host_law.specs.Steps.Passes.{at_member, for_members, member_number
 use Rattle.sl_host_law.specs.Steps.Sound.{IsSound}
 use Rattle.sl_host_law.specs.Steps.Wakes.{settling_all, settling_here, waking}
 use Rattle.sl_host_law.specs.Steps.Waking.{WakesFollow}
-use Rattle.sl_trace.specs.LeaseWork.{settle_next, lease_place}
-use Rattle.sl_trace.specs.Leases.{is_lease_call, is_on, is_spot_before, known, lease_spots, open_on, spot_of_call, value_written}
+use Rattle.sl_trace.specs.Leases.{is_lease_call, is_on, is_spot_before, lease_spots, open_on, spot_of_call, value_written}
 use Rattle.sl_trace.specs.declared.lease.LeaseNext.TheVariants.{AnswerJob, BecomeExclusive, BecomeShared, GrantJob, Nothing, ReadFor, WriteBlock, WriteLeader}
 use Rattle.sl_trace.specs.declared.lease.LeaseNext.{LeaseNext}
 use Rattle.sl_host_law.proofs.Parts.EndsAreTaken.{ends_are_taken}
@@ -242,7 +241,7 @@ settling_stays x y s has is =
     when_keeps (Stays x) (is_active y.setting (seen y) s) (for_each (lease_spots y.setting (seen y) s) (settle_on_wake s)) y
     (λ b k. for_each_keeps (Stays x) (lease_spots y.setting (seen y) s) (settle_on_wake s) y
     (λ at there z f. when_keeps (Stays x) (is_empty (open_on z.setting (seen z) at)) (settle s at) z
-    (λ free g. lease_stays x z s at Settling (settle_next (lease_place z.setting s) (known z.setting (seen z) s at)) g) f) k) is
+    (λ free g. lease_stays x z s at Settling (next_of_settling z.setting (seen z) s at) g) f) k) is
 
 settles : IsPass Wake IsSound settling_all settlings
 settles =

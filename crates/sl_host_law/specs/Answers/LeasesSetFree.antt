@@ -10,6 +10,7 @@ use Rattle.sl_host_state.specs.Makes.{is_lease_on, next_submitted}
 use Rattle.sl_host_state.specs.declared.kept.OpenCall.{OpenCall}
 use Rattle.sl_host_law.specs.Questions.Jobs.{goes_on_in}
 use Rattle.sl_sector.specs.declared.sector.Rec.TheVariants.{BlockIs, LeaderIs}
+use Rattle.sl_trace.specs.Leases.{is_second}
 use Rattle.sl_trace.specs.declared.effects.LeaseStep.{LeaseStep}
 use Rattle.sl_trace.specs.declared.effects.Op.TheVariants.{ReadSectors, WriteRecord}
 use Rattle.sl_trace.specs.declared.effects.Op.{Op}
@@ -25,10 +26,11 @@ is_lease_op (WriteRecord (BlockIs b)) = true
 is_lease_op (WriteRecord (LeaderIs l)) = true
 is_lease_op op = false
 
--- The call is on the area of the answered one, and phase 2 follows a read.
+-- The call is on the area of the answered one, no read that is made once more, and phase 2 follows a read.
 pub record GoesOn (h : HostState) (m : MemberState) (c : OpenCall) (work : Work) (step : LeaseStep) (offset : ℕ) (op : Op) : Type 0 where
   pub room : 0 < h.config.layout.area
   pub its : IsTrue (is_lease_op op)
+  pub once : is_second step ≡ false
   pub near : offset - offset % h.config.layout.area ≡ (area_of h c).base
   pub follows : (l : LeaseState) → find (is_lease_on (area_of h c)) m.leases ≡ Some l → IsTrue (follows_read (next_submitted h m.who.number c.path (Lease work step) offset op) l)
 

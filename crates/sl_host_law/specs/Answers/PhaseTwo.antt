@@ -1,8 +1,9 @@
 -- The second phase of a ballot follows the read of the first: a lease decides on it by no other answer, and in the own block's instance.
-use Rattle.sl_trace.specs.LeaseWork.{LeasePlace, lease_next}
-use Rattle.sl_trace.specs.Leases.{LeaseKnown}
+use Rattle.sl_trace.specs.LeaseWork.{LeasePlace, first_step, lease_next}
+use Rattle.sl_trace.specs.Leases.{LeaseKnown, is_second}
 use Rattle.sl_trace.specs.declared.lease.Aim.{Aim}
-use Rattle.sl_trace.specs.declared.lease.LeaseNext.TheVariants.{AnswerJob, WriteBlock}
+use Rattle.sl_trace.specs.declared.lease.LeaseNext.TheVariants.{AnswerJob, ReadFor, WriteBlock, WriteLeader}
+use Rattle.sl_trace.specs.declared.lease.LeaseNext.{LeaseNext}
 use Rattle.sl_sector.specs.declared.sector.Block.{Block}
 use Rattle.sl_trace.specs.Traces.{is_before_input}
 use Rattle.sl_trace.specs.declared.effects.LeaseStep.TheVariants.{Phase1Read, Phase2Write}
@@ -17,11 +18,21 @@ pub record IsAfterRead (k : LeaseKnown) (step : LeaseStep) (a : Answer) (b : Blo
   pub own : Block
   pub submitted : k.own ≡ Some own
   pub instance : own.lver ≡ b.lver
-  pub at : step ≡ Phase1Read
+  -- made once or once more
+  pub at : first_step step ≡ Phase1Read
   pub bytes : List ℕ
   pub read : a ≡ Read bytes
+
+-- Its call, if it makes one, is no read that is made once more.
+abbrev pub IsOnce : LeaseNext → Type 0
+IsOnce (ReadFor s) = is_second s ≡ false
+IsOnce (WriteBlock s b) = is_second s ≡ false
+IsOnce (WriteLeader s l) = is_second s ≡ false
+IsOnce next = Unit {0}
 
 pub record PhaseTwoFollows : Type 0 where
   pub second : (p : LeasePlace) (k : LeaseKnown) (aim : Aim) (call n : ℕ) (step : LeaseStep) (a : Answer) (b : Block) → lease_next p k aim call n step a ≡ WriteBlock Phase2Write b → IsAfterRead k step a b
   -- and none of its replies is one of before an input
   pub late : (p : LeasePlace) (k : LeaseKnown) (aim : Aim) (call n : ℕ) (step : LeaseStep) (a : Answer) (r : Reply) → lease_next p k aim call n step a ≡ AnswerJob r → is_before_input r ≡ false
+  -- where a block has one sector no read is made once more
+  pub once : (p : LeasePlace) (k : LeaseKnown) (aim : Aim) (call n : ℕ) (step : LeaseStep) (a : Answer) → p.layout.paired ≡ false → IsOnce (lease_next p k aim call n step a)

@@ -3,7 +3,7 @@ use Rattle.sl_area.specs.Layouts.{Layout}
 use Rattle.sl_due.specs.Steps.{add_call_of}
 use Rattle.sl_host_state.specs.Kept.{HostState, LeaseState, MemberState}
 use Rattle.sl_host_state.specs.Makes.{is_lease_on, next_submitted, with_call}
-use Rattle.sl_host_state.specs.Stands.{Takes, is_kept_of}
+use Rattle.sl_host_state.specs.Stands.{Takes, is_kept_of, is_plain_call}
 use Rattle.sl_trace.specs.Leases.{Phase2_write, block_written, is_at, is_lease_call, is_on, spot_of_call, value_written}
 use Rattle.sl_trace.specs.Sessions.{delta_written, is_delta_purpose, is_join_call}
 use Rattle.sl_trace.specs.Traces.{Submitted, job_of}
@@ -60,6 +60,8 @@ pub record CallFits (h : HostState) (s : MemberState) (c : Submitted) : Type 0 w
   pub generation : IsTrue (fits_generation s c)
   pub value : IsTrue (fits_value h.config.layout s c)
   pub lease : IsTrue (fits_lease h.config.layout s c)
+  -- a block has one sector
+  pub plain : IsTrue (is_plain_call c)
 
 -- A call that a member may make is taken.
 abbrev pub CallsAreTaken : Type 0

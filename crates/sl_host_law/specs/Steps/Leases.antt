@@ -17,6 +17,7 @@ use Rattle.sl_trace.specs.declared.effects.LeaseStep.{LeaseStep}
 use Rattle.sl_trace.specs.declared.effects.Mode.{Mode}
 use Rattle.sl_trace.specs.declared.effects.Spot.{Spot}
 use Rattle.sl_trace.specs.declared.input.Answer.{Answer}
+use Rattle.sl_host_state.specs.Stands.{first_read, turn_kept}
 use Rattle.std.specs.Prelude.{List, None, Option, Some, false, find, is_some, option_map, unwrap_or, [], ℕ, ◌∷◌}
 
 -- The member's lease on an area; one without a call where there is none.
@@ -38,6 +39,8 @@ known_by h m at l read =
       self = me_in m;
       own = l.own;
       read = read;
+      kept = first_read h.config.layout l.pair;
+      turn = turn_kept l.pair;
       name = l.name;
       freed = l.freed;
       ballot = l.ballot;

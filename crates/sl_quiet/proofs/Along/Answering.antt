@@ -1,6 +1,6 @@
 -- What the answer of a quiet acquire's call shows.
 use Rattle.sl_quiet.proofs.Along.Showing.{areas_show_own}
-use Rattle.sl_run_law.proofs.Place.Seats.{sized_in}
+use Rattle.sl_run_law.proofs.Place.Seats.{plain_in, sized_in}
 use Rattle.sl_quiet.proofs.Read.Showing.{reads_show_the_area}
 use Rattle.sl_quiet.specs.Along.Leading.{ShowsAt, known_then, mode_of, told_call}
 use Rattle.sl_quiet.specs.Course.Course.{Same, known_with}
@@ -16,7 +16,7 @@ use Rattle.sl_trace.specs.declared.sighting.Sighting.{Sighting}
 use Rattle.sl_trace.specs.declared.session.Session.{Session}
 use Rattle.sl_trace.specs.Leases.{LeaseKnown, is_shared_by_other, spot_of}
 use Rattle.sl_quiet.specs.Step.Leading.{IsBare, heard}
-use Rattle.sl_sector.specs.declared.sector.Rec.TheVariants.{BlockIs, DeltaIs, LeaderIs, RequestIs, ValueIs}
+use Rattle.sl_sector.specs.declared.sector.Rec.TheVariants.{BlockIs, DeltaIs, LeaderIs, PairIs, PairLeaderIs, RequestIs, ValueIs}
 use Rattle.sl_sector.specs.declared.sector.Block.{Block}
 use Rattle.sl_sector.specs.declared.sector.Bad.{Bad}
 use Rattle.std.specs.List.{AllByRecursion, cons_option, range_with_len}
@@ -74,6 +74,7 @@ use Rattle.sl_run_law.specs.Course.Stamping.{AnswersAgree, IsAnsweredAs, IsCours
 use Rattle.sl_run.specs.Quiet.{AnsweredInTime, QuietStep, leader_there}
 use Rattle.sl_trace.specs.declared.input.Answer.{Answer}
 use Rattle.sl_quiet.specs.Along.Answering.{AnswersShow, heard_entry}
+use Rattle.sl_history.proofs.Giving.Stood.{there_plain}
 use Rattle.std.proofs.Common.{ap, ap₂, arith, inl, inr, refl, subst, sym, ◌∙◌}
 
 -- ---- the call with its answer
@@ -370,6 +371,8 @@ host_is k (Ok (DeltaIs z)) b is = absurd (none_some b is)
 host_is k (Ok (LeaderIs z)) b is = absurd (none_some b is)
 host_is k (Ok (RequestIs z)) b is = absurd (none_some b is)
 host_is k (Ok (ValueIs z)) b is = absurd (none_some b is)
+host_is k (Ok (PairIs z)) b is = absurd (none_some b is)
+host_is k (Ok (PairLeaderIs z)) b is = absurd (none_some b is)
 host_is k (Err z) b is = absurd (none_some b is)
 
 passes_by : (k : LeaseKnown) (b : Block) → ((b.host ≡ k.self.id → ⊥) → b.shared ≡ true → k.over b.host b.mode_gen ≡ true) → is_shared_by_other k b ≡ false
@@ -437,11 +440,11 @@ all_below n m (b ∷ bs) is low = (one_below b.lver n m is low.0, all_below n m 
 up_to_last : (k n m : ℕ) → n ≡ m → k < 1 + n → k ≤ m
 up_to_last k n m is low = omega (arith, is, low)
 
-none_shared : (p : Program) (h : Header) (now : List Happening) (x : Happening) (q : Asked) (stage : Stage) → (c : OnCourse (world_at p h now) q stage)
+none_shared : (p : Program) (h : Header) (now : List Happening) (x : Happening) → LawfulRun p h (now ++ x ∷ []) → (q : Asked) (stage : Stage) → (c : OnCourse (world_at p h now) q stage)
     → QuietStep (world_at p h now) x (world_at p h (now ++ x ∷ [])) q.machine q.job q.resource q.shared q.process q.session.number
     → IsSetting (c.daemon).setting → IsHostTrace (c.daemon).setting (c.daemon).trace → (reading number made : ℕ) (answer : Answer) → AreaOnCourse (world_at p h (now ++ x ∷ [])) q stage number made → (bs : List Block)
     → blocks_there (world_at p h (now ++ x ∷ [])) (spot_of q.resource) ≡ all_whole bs → NoneShared (known_then (c.daemon).setting (c.daemon).trace reading q (c.host).call answer) (mode_of q.shared) bs
-none_shared p h now x q stage c quiet setting host reading number made answer area bs same =
+none_shared p h now x run q stage c quiet setting host reading number made answer area bs same =
     subst (λ k. NoneShared k (mode_of q.shared) bs) (sym (known_is st past reading q stage setting host c.asked c.host answer)) (by q.shared refl) where
       w : World
       w = world_at p h now
@@ -466,7 +469,7 @@ none_shared p h now x q stage c quiet setting host reading number made answer ar
 
       each : q.shared ≡ false → (k : ℕ) (b : Block) → 1 ≤ k → k < 1 + v.layout.hosts → block_there v (spot_of q.resource) k ≡ Some b → is_shared_by_other known b ≡ false
       each alone k b low high is =
-          let its : b.host ≡ k = host_is k (record_in v.layout (content v q.resource.path (block_offset v.layout q.resource.offset k))) b is in
+          let its : b.host ≡ k = host_is k (record_in v.layout (content v q.resource.path (block_offset v.layout q.resource.offset k))) b (sym (there_plain v (plain_in p h (now ++ x ∷ []) run) (spot_of q.resource) k) ∙ is) in
           passes_by known b (λ other mode.
           let else : k ≡ q.session.id → ⊥ = λ same_id. other (its ∙ (same_id ∙ sym (c.asked).id)) in
           let most : k ≤ w.layout.hosts = up_to_last k v.layout.hosts w.layout.hosts (ap (λ (g : Layout). g.hosts) (last_goes p h now x).layout) high in
@@ -512,7 +515,7 @@ shows_by p h now x run q Reads_first c quiet e answer b reading k =
       got.1,
       ap (λ g. blocks_in g got.0) k.layout ∙ (blocks_shown p h (now ++ x ∷ []) run q Reads_first st (c.daemon).trace (c.host).call e answer b c.stamp k reads got.0 got.1 ∙ own.1),
       own.2,
-      none_shared p h now x q Reads_first c quiet k.well.0 (k.well.1.0.1, k.well.1.1.1) reading (c.host).call.call.number (c.stamp).step answer k.area own.0 own.1,
+      none_shared p h now x run q Reads_first c quiet k.well.0 (k.well.1.0.1, k.well.1.1.1) reading (c.host).call.call.number (c.stamp).step answer k.area own.0 own.1,
     )
 shows_by p h now x run q Reads_second c quiet e answer b reading k =
     let v : World = world_at p h (now ++ x ∷ []) in

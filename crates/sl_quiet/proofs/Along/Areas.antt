@@ -23,7 +23,7 @@ use Rattle.sl_run_law.proofs.Front.Going.{fronts_are_lawful}
 use Rattle.sl_run_law.proofs.Place.Areas.{is_within}
 use Rattle.sl_run_law.proofs.Place.Checks.{behind, same_block}
 use Rattle.sl_run_law.proofs.Place.Finding.{place_is}
-use Rattle.sl_run_law.proofs.Place.Seats.{sized_in}
+use Rattle.sl_run_law.proofs.Place.Seats.{plain_in, sized_in}
 use Rattle.sl_run_law.proofs.Place.Sizes.{IsSized, area_has_bytes, sector_has_bytes, slot_below}
 use Rattle.sl_sector.specs.Spelling.{block_in, leader_in}
 use Rattle.sl_sector.specs.declared.sector.Block.{Block}
@@ -42,6 +42,8 @@ use Rattle.sl_run_law.proofs.Landing.Arriving.{Arrival, first_lands}
 use Rattle.sl_run_law.proofs.Landing.Passing.{step_landings}
 use Rattle.sl_run_law.specs.Front.Fronts.{HasOneStep}
 use Rattle.sl_words.proofs.WordLaws.{and_true}
+use Rattle.sl_history.proofs.Giving.Stood.{there_plain}
+use Rattle.sl_quiet.proofs.Read.PlainThere.{leads_plain}
 use Rattle.std.proofs.Common.{ap, ap₂, arith, inl, inr, refl, subst, sym, ◌∙◌}
 use Rattle.std.specs.Prelude.{Bool, Contains, IsTrue, List, None, Some, [], bytes_eq, false, find, if◌then◌else◌, true, ℕ, ◌&&◌, ◌*◌, ◌++◌, ◌+◌, ◌<◌, ◌==◌, ◌∷◌, ◌≡◌, ◌≤◌, ◌⊎◌, map}
 
@@ -229,16 +231,20 @@ area_goes_on p h now x run q stage line resource a d at runs setting host asked 
 
       blocks : (k : ℕ) → 1 ≤ k → k ≤ w.layout.hosts → Misses c.call (block_offset w.layout q.resource.offset k) → block_there v spot k ≡ block_there w spot k
       blocks k low high misses =
-          ap (λ g. block_in k (record_in g (content v q.resource.path (block_offset g q.resource.offset k)))) layout
-          ∙ ap (λ bs. block_in k (record_in w.layout bs)) (stays (block_offset w.layout q.resource.offset k) (inside_block k low high) misses)
+          there_plain v (plain_in p h (now ++ x ∷ []) run) spot k
+          ∙ (ap (λ g. block_in k (record_in g (content v q.resource.path (block_offset g q.resource.offset k)))) layout
+          ∙ (ap (λ bs. block_in k (record_in w.layout bs)) (stays (block_offset w.layout q.resource.offset k) (inside_block k low high) misses)
+          ∙ sym (there_plain w (plain_in p h now before) spot k)))
 
       others : (k : ℕ) → (k ≡ q.session.id → ⊥) → Misses c.call (block_offset w.layout q.resource.offset k)
       others k other = subst (λ g. Misses c.call (block_offset g q.resource.offset k)) place (misses_others q stage c.call h.geometry k (subst (λ g. IsSized h.geometry g) (sym place) z) other c.is)
 
       leads : stage ≡ Reads_area → leader_there v spot ≡ leader_there w spot
       leads is =
-          ap (λ g. leader_in (record_in g (content v q.resource.path q.resource.offset))) layout
-          ∙ ap (λ bs. leader_in (record_in w.layout bs)) (stays q.resource.offset (leader_within w.layout q.resource.offset z) (reads_on q stage c.call q.resource.offset c.is (ap (λ s. is_write (op_at q s)) is)))
+          leads_plain v (plain_in p h (now ++ x ∷ []) run) spot
+          ∙ (ap (λ g. leader_in (record_in g (content v q.resource.path q.resource.offset))) layout
+          ∙ (ap (λ bs. leader_in (record_in w.layout bs)) (stays q.resource.offset (leader_within w.layout q.resource.offset z) (reads_on q stage c.call q.resource.offset c.is (ap (λ s. is_write (op_at q s)) is)))
+          ∙ sym (leads_plain w (plain_in p h now before) spot)))
 
       whole : stage ≡ Reads_area → blocks_there v spot ≡ blocks_there w spot
       whole is =

@@ -3,7 +3,7 @@ use Rattle.sl_acts.proofs.ActsTogether.{both, from_more}
 use Rattle.sl_acts.proofs.Additions.{contains_last}
 use Rattle.sl_acts.proofs.StepsKeep.{Fixed, due_is_of, step_keeps}
 use Rattle.sl_acts.proofs.TracesKeep.{due_is_seen}
-use Rattle.sl_acts.specs.Acts.{Acts}
+use Rattle.sl_acts.specs.Acts.{Acts, next_of_conversion, next_of_release, next_of_settling}
 use Rattle.sl_acts.specs.SoFar.{entry_of}
 use Rattle.sl_area.specs.Places.{delta_offset, request_offset}
 use Rattle.sl_due.specs.Due.{IsHostTrace, due_step}
@@ -27,8 +27,7 @@ use Rattle.sl_due_facts.specs.Facts.Whole.{Whole}
 use Rattle.sl_due_law.specs.Whole.Kept.{Kept}
 use Rattle.sl_run.specs.Lawful.{IsSetting}
 use Rattle.sl_trace.specs.Jobs.{job_of_start}
-use Rattle.sl_trace.specs.LeaseWork.{convert_next, lease_place, release_next, settle_next}
-use Rattle.sl_trace.specs.Leases.{known, spot_of, spot_of_call}
+use Rattle.sl_trace.specs.Leases.{spot_of, spot_of_call}
 use Rattle.sl_trace.specs.declared.lease.LeaseNext.TheVariants.{AnswerJob, BecomeExclusive, BecomeShared, GrantJob, Nothing as No_lease, ReadFor, WriteBlock, WriteLeader}
 use Rattle.sl_trace.specs.declared.lease.LeaseNext.{LeaseNext}
 use Rattle.sl_plain.proofs.Lists.{contains_none, head_is}
@@ -45,7 +44,8 @@ use Rattle.sl_trace.specs.declared.command.LockspaceArg.{LockspaceArg}
 use Rattle.sl_trace.specs.declared.effects.Call.{Call}
 use Rattle.sl_trace.specs.declared.effects.Entry.{Entry}
 use Rattle.sl_trace.specs.declared.effects.JoinStep.TheVariants.{ClaimWrite, FirstRead, FirstRenewal}
-use Rattle.sl_trace.specs.declared.effects.LeaseStep.TheVariants.{ClearMode, FreeLeader, Phase1Read, Phase1Write, Phase2Read, Phase2Write, ReadArea, ReadBeforeFree, SetMode, TakeLeader}
+use Rattle.sl_trace.specs.declared.effects.LeaseRead.TheVariants.{OfArea, OfBlock, OfFree, OfPhase1, OfPhase2}
+use Rattle.sl_trace.specs.declared.effects.LeaseStep.TheVariants.{ClearMode, FreeLeader, Phase1Read, Phase1Write, Phase2Read, Phase2Write, ReadAgain, ReadArea, ReadBeforeBlock, ReadBeforeFree, SetMode, TakeLeader}
 use Rattle.sl_trace.specs.declared.effects.LeaseStep.{LeaseStep}
 use Rattle.sl_trace.specs.declared.effects.Op.TheVariants.{ReadSectors}
 use Rattle.sl_trace.specs.declared.effects.Op.{Op}
@@ -112,6 +112,12 @@ WorkRuns past work = (j : ℕ) → work ≡ ForJob j → is_running past j ≡ t
 reads_run : (past : Trace) (y : Step) (s : Session) (at : Spot) (work : Work) (step : LeaseStep) → WorkRuns past work → ReadAllowed (MayRun past) y s at work step
 reads_run past y s at work (ReadArea name) h = work_runs past work (ReadArea name) h
 reads_run past y s at work ReadBeforeFree h = work_runs past work ReadBeforeFree h
+reads_run past y s at work ReadBeforeBlock h = work_runs past work ReadBeforeBlock h
+reads_run past y s at work (ReadAgain (OfArea name)) h = work_runs past work (ReadAgain (OfArea name)) h
+reads_run past y s at work (ReadAgain OfFree) h = work_runs past work (ReadAgain OfFree) h
+reads_run past y s at work (ReadAgain OfBlock) h = work_runs past work (ReadAgain OfBlock) h
+reads_run past y s at work (ReadAgain OfPhase1) h = work_runs past work (ReadAgain OfPhase1) h
+reads_run past y s at work (ReadAgain OfPhase2) h = work_runs past work (ReadAgain OfPhase2) h
 reads_run past y s at work Phase1Write h = work_runs past work Phase1Write h
 reads_run past y s at work Phase1Read h = work_runs past work Phase1Read h
 reads_run past y s at work Phase2Write h = work_runs past work Phase2Write h
@@ -129,7 +135,7 @@ lease_runs past y s at work (WriteLeader step l) h = work_runs past work step h
 lease_runs past y s at work (AnswerJob r) h = λ j is. tt
 lease_runs past y s at work (GrantJob mode lver) h = λ j c is reads. grant_plain j lver c
 lease_runs past y s at work (BecomeShared lver l) h = ((λ j is. tt), settling_runs past FreeLeader)
-lease_runs past y s at work (BecomeExclusive lver b) h = ((λ j is. tt), λ g. settling_runs past ClearMode)
+lease_runs past y s at work (BecomeExclusive lver b) h = ((λ j is. tt), λ g same. settling_runs past ClearMode)
 
 request_runs : (past : Trace) (x : Step) (s : Session) (j : ℕ) (bytes : List ℕ) (c : Command) → RequestAllowed Anything (MayRun past) x s j bytes c
 request_runs past x s j bytes (Request r asked force) = ((λ why is. tt), other_runs past (RequestWrite j (owner_read x.setting.layout bytes)) (no_lease (RequestWrite j (owner_read x.setting.layout bytes)) refl))
@@ -203,13 +209,13 @@ decision_runs past K y j c (ReadsArea s r) runs = work_runs past (ForJob j) (Rea
     mine past j runs i is = subst (λ n. is_running past n ≡ true) (some_value j i (ap (λ w. job_of (Lease w SetMode)) is)) runs
 decision_runs past K y j c (Shares s lver) runs = grant_plain j lver c
 decision_runs past K y j c (GivesUp s g) runs =
-    (tt, lease_runs past (add_end (end_of g) y) s (spot_of_grant g) (ForJob j) (release_next (lease_place y.setting s) (known y.setting (seen (add_end (end_of g) y)) s (spot_of_grant g)) g.mode g.lver) (mine past j runs))
+    (tt, lease_runs past (add_end (end_of g) y) s (spot_of_grant g) (ForJob j) (next_of_release y.setting (seen (add_end (end_of g) y)) s (spot_of_grant g) g) (mine past j runs))
   where
     mine : (past : Trace) (j : ℕ) → is_running past j ≡ true → WorkRuns past (ForJob j)
     mine past j runs i is = subst (λ n. is_running past n ≡ true) (some_value j i (ap (λ w. job_of (Lease w SetMode)) is)) runs
 decision_runs past K y j c (TakesOver s g) runs = grant_plain j g.lver c
 decision_runs past K y j c (ConvertsTo s r mode) runs =
-    lease_runs past y s (spot_of r) (ForJob j) (convert_next (known y.setting (seen y) s (spot_of r)) mode r.name) (mine past j runs)
+    lease_runs past y s (spot_of r) (ForJob j) (next_of_conversion y.setting (seen y) s (spot_of r) mode r.name) (mine past j runs)
   where
     mine : (past : Trace) (j : ℕ) → is_running past j ≡ true → WorkRuns past (ForJob j)
     mine past j runs i is = subst (λ n. is_running past n ≡ true) (some_value j i (ap (λ w. job_of (Lease w SetMode)) is)) runs
@@ -298,7 +304,7 @@ calls_run =
           let n : DeltaNext = next_renewal (delta_of_session x.setting s) x.reading (delta_known x.setting (seen x) s) (bits_due x.setting (calls_of (seen x) s) x.reading) in
           end_running x.past _ (delta (Running x.past) (Running x.past) Anything (MayRun x.past) AnyStart AnyMove (running x.past) x s n (delta_runs x.past x s n) (begin_running x h.1));
       settles = λ x s spot has wake active whole none h.
-          let n : LeaseNext = settle_next (lease_place x.setting s) (known x.setting (seen x) s spot) in
+          let n : LeaseNext = next_of_settling x.setting (seen x) s spot in
           end_running x.past _ (lease (Running x.past) (Running x.past) Anything (MayRun x.past) AnyStart AnyMove (running x.past) x s spot Settling n
           (lease_runs x.past x s spot Settling n (λ j its. absurd (none_some j (ap (λ w. job_of (Lease w SetMode)) its)))) (begin_running x h.1));
       parts = λ x s p1 p2 p3 p4 p5 h. end_running x.past _ (removal (Running x.past) (Running x.past) Anything (MayRun x.past) AnyStart AnyMove (running x.past) x s.lockspace tt (begin_running x h.1));

@@ -2,10 +2,10 @@
 use Rattle.sl_trace.specs.LeaseWork.{LeasePlace}
 use Rattle.sl_run.specs.Events.{with_entry}
 use Rattle.sl_quiet.proofs.Along.Hearing.{told_is}
-use Rattle.sl_trace.specs.Leases.{spot_of, verified_by, name_sought, is_leader_of}
+use Rattle.sl_trace.specs.Leases.{is_leader_of, leader_given, name_sought, spot_of, verified_by}
 use Rattle.sl_sector.proofs.PublicLaws.{spelled_is_read}
 use Rattle.std.proofs.lemmas.Option.{slice_get_within}
-use Rattle.sl_run_law.proofs.Place.Seats.{sized_in}
+use Rattle.sl_run_law.proofs.Place.Seats.{plain_in, sized_in}
 use Rattle.sl_run_law.proofs.Place.Sizes.{sector_fits}
 use Rattle.sl_trace_law.proofs.Sessions.Naming.{same_name}
 use Rattle.sl_area.specs.Layouts.{record_in, sector_with, Layout}
@@ -41,7 +41,7 @@ use Rattle.sl_sector.specs.declared.sector.Block.{Block}
 use Rattle.sl_quiet.specs.Along.Along.{AreaOnCourse, Asked, Frees_leader, IsAskedOf, OnCourse, Reads_area, Reads_first, Reads_second, Sets_mode, Stage, Takes_leader, Writes_first, Writes_second, first_of_asked, offset_at, op_at, own_at, second_of_asked, stage_next, DaemonOnCourse}
 use Rattle.sl_run_law.specs.Course.Stamping.{AnswersAgree, IsAnsweredAs, IsCourseOf, courses_of, stamp_in}
 use Rattle.sl_trace.specs.declared.input.Answer.{Answer}
-use Rattle.std.specs.Prelude.{AllPairs, Bool, Contains, IsTrue, List, None, Option, Some, bytes_eq, false, find, length, map, slice_get, slice_index_or, true, ◌==◌, ◌++◌, ◌&&◌, ◌≡◌, ◌∷◌, ◌⊎◌, ◌≤◌, ◌<◌, suc, zero, ℕ, [], option_and_then, if◌then◌else◌}
+use Rattle.std.specs.Prelude.{AllPairs, Bool, Contains, IsTrue, List, None, Option, Some, bytes_eq, false, find, length, map, slice_get, slice_index_or, true, ◌==◌, ◌++◌, ◌&&◌, ◌≡◌, ◌∷◌, ◌⊎◌, ◌≤◌, ◌<◌, suc, zero, ℕ, [], if◌then◌else◌}
 use Rattle.sl_quiet.proofs.Along.Answering.{Heard, answers_show, heard_so, told_answer, told_where}
 use Rattle.sl_words.specs.Words.{choose}
 use Rattle.sl_quiet.proofs.Along.Areas.{block_within}
@@ -59,6 +59,12 @@ use Rattle.sl_run_law.proofs.Place.Proven.{promised}
 use Rattle.sl_history.proofs.Resources.Owning.{timed_in}
 use Rattle.sl_run_law.proofs.Watchdog.Stamps.{same_length}
 use Rattle.sl_run_law.proofs.Course.Stamped.{entries_are_stamped}
+use Rattle.sl_history.proofs.Giving.Stood.{there_plain}
+use Rattle.sl_quiet.proofs.Course.GivenArea.{leader_is_spelled}
+use Rattle.sl_run.specs.Lawful.{IsSetting}
+use Rattle.sl_trace.specs.declared.effects.Work.TheVariants.{ForJob}
+use Rattle.sl_trace.specs.declared.effects.Purpose.TheVariants.{Lease}
+use Rattle.sl_trace.specs.declared.effects.LeaseStep.TheVariants.{ReadArea}
 
 -- ---- the newest landing of a place
 
@@ -110,9 +116,10 @@ block_stands : (p : Program) (h : Header) (xs : List Happening) → LawfulRun p 
     → call.call.offset ≡ block_offset (world_at p h xs).layout q.resource.offset q.session.id → q.session.id ≤ (world_at p h xs).layout.hosts → r.host ≡ q.session.id
     → block_there (world_at p h xs) (spot_of q.resource) q.session.id ≡ Some r
 block_stands p h xs run q stage st past call e answer b stamp k r writes path place high host =
-    ap (λ bs. block_in id (record_in v.layout bs)) (content_is ∙ bytes_are)
+    there_plain v (plain_in p h xs run) (spot_of q.resource) id
+    ∙ (ap (λ bs. block_in id (record_in v.layout bs)) (content_is ∙ bytes_are)
     ∙ (ap (λ y. block_in id y) (spelled_is_read v.layout.digest (digest_is p h xs run) v.layout.sector (sector_fits v.layout (sized_in p h xs run)) (BlockIs r) is_record)
-    ∙ ap (λ t. choose t r) (subst (λ n. (n == id) ≡ true) (sym host) (number_itself id))) where
+    ∙ ap (λ t. choose t r) (subst (λ n. (n == id) ≡ true) (sym host) (number_itself id)))) where
       v : World
       v = world_at p h xs
 
@@ -323,18 +330,24 @@ host_of st q b asked (inl is) = ap (λ (y : Block). y.host) is ∙ ((first_is st
 host_of st q b asked (inr is) = ap (λ (y : Block). y.host) is ∙ ((first_is st q asked).host ∙ asked.id)
 
 -- The read of the area verifies the name.
-names_there : (st : Setting) (past : Trace) (q : Asked) (e : Entry) (c : DaemonOnCourse st past q Reads_area) (answer : Answer) (reading : ℕ) → IsAskedOf st q
-    → ShowsAt st past reading q c.call answer Reads_area → verified_by st.layout q.session.lockspace (answered_in past e (c.call).call.number answer c.call) ≡ Some q.resource.name
-names_there st past q e c answer reading asked (bytes, is, leader, whole) =
+names_there : (st : Setting) (past : Trace) (q : Asked) (e : Entry) (c : DaemonOnCourse st past q Reads_area) (answer : Answer) (reading : ℕ) → IsSetting st → IsAskedOf st q
+    → ShowsAt st past reading q c.call answer Reads_area → verified_by st.layout q.session.lockspace (answered_in past e (c.call).call.number answer c.call) (c.older ++ q.before) ≡ Some q.resource.name
+names_there st past q e c answer reading setting asked (bytes, is, leader, whole) =
     ap (λ o. elim o as (λ z. Option (List ℕ)) [
       | None ↦ None
-      | Some name ↦ elim (option_and_then (leader_of st.layout) (gave told)) as (λ z. Option (List ℕ)) [ None ↦ None | Some l ↦ choose (is_leader_of st.layout q.session.lockspace name l) name ]
-    ]) (ap (λ p. name_sought p) (ap (λ (y : Call). y.purpose) (told_is past e (c.call).call.number answer c.call) ∙ c.is.purpose))
-    ∙ (ap (λ o. elim (option_and_then (leader_of st.layout) o) as (λ z. Option (List ℕ)) [ None ↦ None | Some l ↦ choose (is_leader_of st.layout q.session.lockspace q.resource.name l) q.resource.name ]) gives
-    ∙ (ap (λ o. elim o as (λ z. Option (List ℕ)) [ None ↦ None | Some l ↦ choose (is_leader_of st.layout q.session.lockspace q.resource.name l) q.resource.name ]) leads
-    ∙ ap (λ t. choose t q.resource.name) (subst (λ n. is_leader_of st.layout n q.resource.name q.leader ≡ true) (sym asked.lockspace) asked.names))) where
+      | Some name ↦ elim (leader_given st.layout told before) as (λ z. Option (List ℕ)) [ None ↦ None | Some l ↦ choose (is_leader_of st.layout q.session.lockspace name l) name ]
+    ]) (ap (λ p. name_sought p) purpose)
+    ∙ (ap (λ o. elim o as (λ z. Option (List ℕ)) [ None ↦ None | Some l ↦ choose (is_leader_of st.layout q.session.lockspace q.resource.name l) q.resource.name ])
+    (leader_is_spelled st.layout setting.unpaired told before bytes (ForJob q.job) q.resource.name gives purpose ∙ leads)
+    ∙ ap (λ t. choose t q.resource.name) (subst (λ n. is_leader_of st.layout n q.resource.name q.leader ≡ true) (sym asked.lockspace) asked.names)) where
       told : Submitted
       told = answered_in past e (c.call).call.number answer c.call
+
+      before : List Submitted
+      before = c.older ++ q.before
+
+      purpose : told.call.purpose ≡ Lease (ForJob q.job) (ReadArea q.resource.name)
+      purpose = ap (λ (y : Call). y.purpose) (told_is past e (c.call).call.number answer c.call) ∙ c.is.purpose
 
       gives : gave told ≡ Some bytes
       gives = ap (λ a. gave (answered_in past e (c.call).call.number a c.call)) is ∙ told_gives past e c.call bytes c.waits
@@ -343,16 +356,16 @@ names_there st past q e c answer reading asked (bytes, is, leader, whole) =
       leads = ap (λ (p : LeasePlace). leader_of p.layout bytes) (sym asked.place) ∙ leader
 
 -- By the stage.
-names_at : (st : Setting) (past : Trace) (q : Asked) (e : Entry) (stage : Stage) (c : DaemonOnCourse st past q stage) (answer : Answer) (reading : ℕ) → IsAskedOf st q → ShowsAt st past reading q c.call answer stage
-    → stage ≡ Reads_area → verified_by st.layout q.session.lockspace (answered_in past e (c.call).call.number answer c.call) ≡ Some q.resource.name
-names_at st past q e Reads_area c answer reading asked shows is = names_there st past q e c answer reading asked shows
-names_at st past q e Writes_first c answer reading asked shows is = absurd (later_stage true Reads_area Writes_first refl is)
-names_at st past q e Reads_first c answer reading asked shows is = absurd (later_stage true Writes_first Reads_first refl is)
-names_at st past q e Writes_second c answer reading asked shows is = absurd (later_stage true Reads_first Writes_second refl is)
-names_at st past q e Reads_second c answer reading asked shows is = absurd (later_stage true Writes_second Reads_second refl is)
-names_at st past q e Takes_leader c answer reading asked shows is = absurd (later_stage true Reads_second Takes_leader refl is)
-names_at st past q e Sets_mode c answer reading asked shows is = absurd (later_stage true Takes_leader Sets_mode refl is)
-names_at st past q e Frees_leader c answer reading asked shows is = absurd (later_stage true Sets_mode Frees_leader refl is)
+names_at : (st : Setting) (past : Trace) (q : Asked) (e : Entry) (stage : Stage) (c : DaemonOnCourse st past q stage) (answer : Answer) (reading : ℕ) → IsSetting st → IsAskedOf st q → ShowsAt st past reading q c.call answer stage
+    → stage ≡ Reads_area → verified_by st.layout q.session.lockspace (answered_in past e (c.call).call.number answer c.call) (c.older ++ q.before) ≡ Some q.resource.name
+names_at st past q e Reads_area c answer reading setting asked shows is = names_there st past q e c answer reading setting asked shows
+names_at st past q e Writes_first c answer reading setting asked shows is = absurd (later_stage true Reads_area Writes_first refl is)
+names_at st past q e Reads_first c answer reading setting asked shows is = absurd (later_stage true Writes_first Reads_first refl is)
+names_at st past q e Writes_second c answer reading setting asked shows is = absurd (later_stage true Reads_first Writes_second refl is)
+names_at st past q e Reads_second c answer reading setting asked shows is = absurd (later_stage true Writes_second Reads_second refl is)
+names_at st past q e Takes_leader c answer reading setting asked shows is = absurd (later_stage true Reads_second Takes_leader refl is)
+names_at st past q e Sets_mode c answer reading setting asked shows is = absurd (later_stage true Takes_leader Sets_mode refl is)
+names_at st past q e Frees_leader c answer reading setting asked shows is = absurd (later_stage true Sets_mode Frees_leader refl is)
 
 pub course_comes_on : CourseComesOn
 course_comes_on p h now x run well q stage line resource c quiet k next to =
@@ -400,7 +413,7 @@ course_comes_on p h now x run well q stage line resource c quiet k next to =
       leads : (d : DaemonOnCourse st (e ∷ past) q next) × (d.call.at ≡ length past)
       leads =
           course_leads st past e q stage next known.well.0 known.well.1 c.asked c.host k.answer shows.0 to decided
-          (names_at st past q e stage c.host k.answer (reading_now k.machine) c.asked shows.1)
+          (names_at st past q e stage c.host k.answer (reading_now k.machine) known.well.0 c.asked shows.1)
 
       high : q.session.id ≤ v.layout.hosts
       high = subst (λ (g : Layout). q.session.id ≤ g.hosts) (sym (ap (λ (y : LeasePlace). y.layout) (c.asked).place) ∙ known.layout) (c.asked).host.1

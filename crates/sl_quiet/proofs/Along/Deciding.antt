@@ -135,6 +135,7 @@ by_area st past now q setting host asked c answer (bytes, is, leader, whole) =
       begins : Begins x q.before q.resource.name bytes q.leader q.blocks q.own
       begins =
           record {
+            plain = ap (λ (p : LeasePlace). p.layout.paired) place ∙ setting.unpaired;
             leader = leader;
             names = subst (λ (p : LeasePlace). is_leader_of p.layout p.lockspace q.resource.name q.leader ≡ true) (sym place) (subst (λ n. is_leader_of st.layout n q.resource.name q.leader ≡ true) (sym asked.lockspace) asked.names);
             free = asked.free;
@@ -178,8 +179,8 @@ name_then st past now q stage later asked c answer =
       unsought Sets_mode first = refl
       unsought Frees_leader first = refl
 
-      none : verified_by st.layout q.session.lockspace m ≡ None
-      none = unnamed st.layout q.session.lockspace m (Lease (ForJob q.job) (step_at q stage)) purpose (unsought stage later)
+      none : verified_by st.layout q.session.lockspace m (c.older ++ q.before) ≡ None
+      none = unnamed st.layout q.session.lockspace m (c.older ++ q.before) (Lease (ForJob q.job) (step_at q stage)) purpose (unsought stage later)
 
       by : (stage ≡ Reads_area) ⊎ (verified_name st.layout q.session.lockspace (c.older ++ q.before) ≡ q.resource.name) → verified_name st.layout q.session.lockspace (c.older ++ q.before) ≡ q.resource.name
       by (inl first) = absurd (subst (λ k. NotFirst k) first later)
@@ -233,7 +234,7 @@ by_first st past now q setting host asked c answer (bytes, bs, is, whole, alone,
     decided_is st past now q Reads_first setting host asked c answer
     ∙ (ap (λ a. lease_next q.same.place k (Acquires (mode_of q.shared)) (c.call).call.number (lver_written c.call) Phase1Read a) is
     ∙ quiet_decisions.phase1_read q.same.place k (mode_of q.shared) (c.call).call.number (lver_written c.call) bytes bs (first_of_asked q)
-    (record { whole = whole; own_is = own_first st past now q c answer; alone = alone }) (first_is st q asked).bal refl
+    (record { plain = ap (λ (p : LeasePlace). p.layout.paired) asked.place ∙ setting.unpaired; whole = whole; own_is = own_first st past now q c answer; alone = alone }) (first_is st q asked).bal refl
     (subst (λ z. NoneShared z (mode_of q.shared) bs) (known_is st past now q Reads_first setting host asked c answer) none))
 
 by_second : (st : Setting) (past : Trace) (now : ℕ) (q : Asked) → IsSetting st → IsHostTrace st past → IsAskedOf st q → (c : DaemonOnCourse st past q Reads_second) (answer : Answer)
@@ -243,7 +244,7 @@ by_second st past now q setting host asked c answer (bytes, bs, is, whole, alone
     decided_is st past now q Reads_second setting host asked c answer
     ∙ (ap (λ a. lease_next q.same.place k (Acquires (mode_of q.shared)) (c.call).call.number (lver_written c.call) Phase2Read a) is
     ∙ (quiet_decisions.phase2_read q.same.place k (mode_of q.shared) (c.call).call.number (lver_written c.call) bytes bs (second_of_asked q) (first_of_asked q)
-    (record { whole = whole; own_is = own_second st past now q c answer; alone = alone }) refl
+    (record { plain = ap (λ (p : LeasePlace). p.layout.paired) asked.place ∙ setting.unpaired; whole = whole; own_is = own_second st past now q c answer; alone = alone }) refl
     ∙ ap (λ l. WriteLeader TakeLeader l) (leader_then st past now q Reads_second tt asked c answer true (second_of_asked q).lver (first_is st q asked).lver)))
 
 next_by : (st : Setting) (past : Trace) (now : ℕ) (q : Asked) (stage k : Stage) → IsSetting st → IsHostTrace st past → IsAskedOf st q → (c : DaemonOnCourse st past q stage) (answer : Answer)

@@ -28,7 +28,7 @@ use Rattle.sl_words.specs.Words.{choose, some_is}
 use Rattle.std.proofs.lemmas.Bool.{eqb-true}
 use Rattle.sl_quiet.proofs.Denied.NoCause.{nothing_is_caused}
 use Rattle.sl_trace.specs.LeaseWork.{lease_next, lease_place, LeasePlace}
-use Rattle.sl_trace.specs.Leases.{is_leader_of, known, lease_step, lver_written, name_sought, spot_of, spot_of_call, verified_by, is_lease_call, is_on, lease_calls, verified_name}
+use Rattle.sl_trace.specs.Leases.{is_leader_of, is_lease_call, is_on, known, leader_given, lease_calls, lease_step, lver_written, name_sought, spot_of, spot_of_call, verified_by, verified_name}
 use Rattle.sl_words.proofs.CaseLaws.{false_is_true, none_some, one_value, some_value, true_is_false}
 use Rattle.sl_due_law.proofs.Due.{due_is_lawful}
 use Rattle.sl_plain.proofs.Lists.{contains_cases, contains_none, find_inside, head_is, tail_is, contains_first, contains_more, filter_both, kept_inside, contains_map}
@@ -65,6 +65,7 @@ use Rattle.std.specs.List.{AllByRecursion}
 use Rattle.sl_trace.specs.declared.lease.Aim.{Aim}
 use Rattle.sl_trace.specs.declared.lease.Aim.TheVariants.{Acquires}
 use Rattle.sl_quiet.specs.Along.Leading.{CourseEnds, CourseLeads, Hears, decided_then, decision_at, mode_of, told_call}
+use Rattle.sl_due_facts.proofs.Jobs.PlainNexts.{block_plain, blocks_plain, leader_plain, next_plain}
 use Rattle.std.proofs.Common.{ap, inl, inr, refl, subst, sym, ◌∙◌}
 
 -- ---- the calls of an entry
@@ -117,65 +118,72 @@ pub record LedCall (q : Asked) (next : Stage) (y z : Step) : Type 0 where
 abbrev next_of : Step → Session → ℕ → Asked → Stage → ℕ → Op → Call
 next_of y s j q next offset op = record { number = next_call y.setting (seen y); session = s.number; purpose = Lease (ForJob j) (step_at q next); path = q.resource.path; offset = offset; op = op }
 
-carried : (q : Asked) (next : Stage) (y : Step) → y.setting.layout ≡ q.same.place.layout → (next ≡ Reads_area → ⊥) → LedCall q next y (carry_lease q.session (spot_of q.resource) (ForJob q.job) (decision_at q next) y)
+carried : (q : Asked) (next : Stage) (y : Step) → y.setting.layout.paired ≡ false → y.setting.layout ≡ q.same.place.layout → (next ≡ Reads_area → ⊥) → LedCall q next y (carry_lease q.session (spot_of q.resource) (ForJob q.job) (decision_at q next) y)
 unfolding carry_lease
-carried q Reads_area y layout later = absurd (later refl)
-carried q Writes_first y layout later =
-    record {
+carried q Reads_area y plain layout later = absurd (later refl)
+carried q Writes_first y plain layout later =
+    subst (λ z. LedCall q Writes_first y z) (sym (block_plain y q.session (spot_of q.resource) (ForJob q.job) Phase1Write (first_of_asked q) plain))
+    (record {
       call = next_of y q.session q.job q Writes_first (block_offset y.setting.layout q.resource.offset q.session.id) (WriteRecord (BlockIs (first_of_asked q)));
       calls = refl;
       replies = refl;
       session = refl;
       is = λ at reading. record { purpose = refl; op = refl; path = refl; offset = ap (λ g. block_offset g q.resource.offset q.session.id) layout };
-    }
-carried q Reads_first y layout later =
-    record {
+    })
+carried q Reads_first y plain layout later =
+    subst (λ z. LedCall q Reads_first y z) (sym (blocks_plain y q.session (spot_of q.resource) (ForJob q.job) Phase1Read plain))
+    (record {
       call = next_of y q.session q.job q Reads_first (block_offset y.setting.layout q.resource.offset 1) (ReadSectors y.setting.layout.hosts);
       calls = refl;
       replies = refl;
       session = refl;
       is = λ at reading. record { purpose = refl; op = ap (λ (g : Layout). ReadSectors g.hosts) layout; path = refl; offset = ap (λ g. block_offset g q.resource.offset 1) layout };
-    }
-carried q Writes_second y layout later =
-    record {
+    })
+carried q Writes_second y plain layout later =
+    subst (λ z. LedCall q Writes_second y z) (sym (block_plain y q.session (spot_of q.resource) (ForJob q.job) Phase2Write (second_of_asked q) plain))
+    (record {
       call = next_of y q.session q.job q Writes_second (block_offset y.setting.layout q.resource.offset q.session.id) (WriteRecord (BlockIs (second_of_asked q)));
       calls = refl;
       replies = refl;
       session = refl;
       is = λ at reading. record { purpose = refl; op = refl; path = refl; offset = ap (λ g. block_offset g q.resource.offset q.session.id) layout };
-    }
-carried q Reads_second y layout later =
-    record {
+    })
+carried q Reads_second y plain layout later =
+    subst (λ z. LedCall q Reads_second y z) (sym (blocks_plain y q.session (spot_of q.resource) (ForJob q.job) Phase2Read plain))
+    (record {
       call = next_of y q.session q.job q Reads_second (block_offset y.setting.layout q.resource.offset 1) (ReadSectors y.setting.layout.hosts);
       calls = refl;
       replies = refl;
       session = refl;
       is = λ at reading. record { purpose = refl; op = ap (λ (g : Layout). ReadSectors g.hosts) layout; path = refl; offset = ap (λ g. block_offset g q.resource.offset 1) layout };
-    }
-carried q Takes_leader y layout later =
-    record {
+    })
+carried q Takes_leader y plain layout later =
+    subst (λ z. LedCall q Takes_leader y z) (sym (leader_plain y q.session (spot_of q.resource) (ForJob q.job) TakeLeader (leader_of_asked q true) plain))
+    (record {
       call = next_of y q.session q.job q Takes_leader q.resource.offset (WriteRecord (LeaderIs (leader_of_asked q true)));
       calls = refl;
       replies = refl;
       session = refl;
       is = λ at reading. record { purpose = refl; op = refl; path = refl; offset = refl };
-    }
-carried q Sets_mode y layout later =
-    record {
+    })
+carried q Sets_mode y plain layout later =
+    subst (λ z. LedCall q Sets_mode y z) (sym (block_plain y q.session (spot_of q.resource) (ForJob q.job) SetMode (third_of_asked q) plain))
+    (record {
       call = next_of y q.session q.job q Sets_mode (block_offset y.setting.layout q.resource.offset q.session.id) (WriteRecord (BlockIs (third_of_asked q)));
       calls = refl;
       replies = refl;
       session = refl;
       is = λ at reading. record { purpose = refl; op = refl; path = refl; offset = ap (λ g. block_offset g q.resource.offset q.session.id) layout };
-    }
-carried q Frees_leader y layout later =
-    record {
+    })
+carried q Frees_leader y plain layout later =
+    subst (λ z. LedCall q Frees_leader y z) (sym (leader_plain y q.session (spot_of q.resource) (ForJob q.job) FreeLeader (leader_of_asked q false) plain))
+    (record {
       call = next_of y q.session q.job q Frees_leader q.resource.offset (WriteRecord (LeaderIs (leader_of_asked q false)));
       calls = refl;
       replies = refl;
       session = refl;
       is = λ at reading. record { purpose = refl; op = refl; path = refl; offset = refl };
-    }
+    })
 
 -- ---- stages
 
@@ -200,23 +208,23 @@ before_next false Takes_leader next fits is = absurd (none_some next is)
 before_next shared Sets_mode next fits is = goes_to shared Sets_mode Frees_leader next (refl, tt, fits) is
 before_next shared Frees_leader next fits is = absurd (none_some next is)
 
-pub unnamed : (g : Layout) (space : List ℕ) (m : Submitted) (p : Purpose) → m.call.purpose ≡ p → name_sought p ≡ None → verified_by g space m ≡ None
-unnamed g space m p is none =
+pub unnamed : (g : Layout) (space : List ℕ) (m : Submitted) (ms : List Submitted) (p : Purpose) → m.call.purpose ≡ p → name_sought p ≡ None → verified_by g space m ms ≡ None
+unnamed g space m ms p is none =
     ap (λ o. elim o as (λ z. Option (List ℕ)) [
       | None ↦ None
-      | Some name ↦ elim (option_and_then (leader_of g) (gave m)) as (λ z. Option (List ℕ)) [ None ↦ None | Some l ↦ choose (is_leader_of g space name l) name ]
+      | Some name ↦ elim (leader_given g m ms) as (λ z. Option (List ℕ)) [ None ↦ None | Some l ↦ choose (is_leader_of g space name l) name ]
     ]) (ap (λ z. name_sought z) is ∙ none)
 
 -- Where the area was read before, no later call tells the name.
-named_later : (q : Asked) (stage : Stage) (g : Layout) (space : List ℕ) (m : Submitted) → IsCallAt q stage m → (stage ≡ Reads_area) ⊎ (verified_by g space m ≡ None)
-named_later q Reads_area g space m is = inl refl
-named_later q Writes_first g space m is = inr (unnamed g space m (Lease (ForJob q.job) Phase1Write) is.purpose refl)
-named_later q Reads_first g space m is = inr (unnamed g space m (Lease (ForJob q.job) Phase1Read) is.purpose refl)
-named_later q Writes_second g space m is = inr (unnamed g space m (Lease (ForJob q.job) Phase2Write) is.purpose refl)
-named_later q Reads_second g space m is = inr (unnamed g space m (Lease (ForJob q.job) Phase2Read) is.purpose refl)
-named_later q Takes_leader g space m is = inr (unnamed g space m (Lease (ForJob q.job) TakeLeader) is.purpose refl)
-named_later q Sets_mode g space m is = inr (unnamed g space m (Lease (ForJob q.job) SetMode) is.purpose refl)
-named_later q Frees_leader g space m is = inr (unnamed g space m (Lease (ForJob q.job) FreeLeader) is.purpose refl)
+named_later : (q : Asked) (stage : Stage) (g : Layout) (space : List ℕ) (m : Submitted) (ms : List Submitted) → IsCallAt q stage m → (stage ≡ Reads_area) ⊎ (verified_by g space m ms ≡ None)
+named_later q Reads_area g space m ms is = inl refl
+named_later q Writes_first g space m ms is = inr (unnamed g space m ms (Lease (ForJob q.job) Phase1Write) is.purpose refl)
+named_later q Reads_first g space m ms is = inr (unnamed g space m ms (Lease (ForJob q.job) Phase1Read) is.purpose refl)
+named_later q Writes_second g space m ms is = inr (unnamed g space m ms (Lease (ForJob q.job) Phase2Write) is.purpose refl)
+named_later q Reads_second g space m ms is = inr (unnamed g space m ms (Lease (ForJob q.job) Phase2Read) is.purpose refl)
+named_later q Takes_leader g space m ms is = inr (unnamed g space m ms (Lease (ForJob q.job) TakeLeader) is.purpose refl)
+named_later q Sets_mode g space m ms is = inr (unnamed g space m ms (Lease (ForJob q.job) SetMode) is.purpose refl)
+named_later q Frees_leader g space m ms is = inr (unnamed g space m ms (Lease (ForJob q.job) FreeLeader) is.purpose refl)
 
 -- ---- replies
 
@@ -317,9 +325,10 @@ led_step st past e q stage setting host asked c answer h = record { unreplied = 
   next_is : next_of_lease y.setting (seen y) q.session (spot_of_call y.setting.layout m) aim m step answer ≡ decided_then st past now q stage c.call answer
   next_is =
       ap (λ at. next_of_lease y.setting (seen y) q.session at aim m step answer) facts.spot
+      ∙ (next_plain y.setting (seen y) q.session (spot_of q.resource) aim m step answer (ap (λ (g : Setting). g.layout.paired) bare_y.setting ∙ setting.unpaired)
       ∙ (ap (λ g. lease_next (lease_place g q.session) (known g (seen y) q.session (spot_of q.resource)) aim m.call.number (lver_written m) step answer) bare_y.setting
       ∙ ap (λ (k : Call). lease_next (lease_place st q.session) (known st (seen y) q.session (spot_of q.resource)) aim k.number (lver_written (new_call 0 0 k)) step answer)
-      (told_is past (record { reading = now; input = Told n answer; effects = y.effects }) n answer c.call))
+      (told_is past (record { reading = now; input = Told n answer; effects = y.effects }) n answer c.call)))
 
   led_is : led_on y q.session m q.job step aim answer ≡ carry_lease q.session (spot_of q.resource) (ForJob q.job) (decided_then st past now q stage c.call answer) y
   led_is =
@@ -353,7 +362,7 @@ told_at q stage past e n a m is =
     }
 
 -- The name that the lease has verified, with one more call.
-pub name_more : (g : Layout) (space name : List ℕ) (m : Submitted) (ms : List Submitted) → (verified_by g space m ≡ Some name) ⊎ ((verified_by g space m ≡ None) × (verified_name g space ms ≡ name)) → verified_name g space (m ∷ ms) ≡ name
+pub name_more : (g : Layout) (space name : List ℕ) (m : Submitted) (ms : List Submitted) → (verified_by g space m ms ≡ Some name) ⊎ ((verified_by g space m ms ≡ None) × (verified_name g space ms ≡ name)) → verified_name g space (m ∷ ms) ≡ name
 name_more g space name m ms (inl now) = ap (λ o. elim o as (λ z. List ℕ) [ Some n ↦ n | None ↦ verified_name g space ms ]) now
 name_more g space name m ms (inr before) = ap (λ o. elim o as (λ z. List ℕ) [ Some n ↦ n | None ↦ verified_name g space ms ]) before.0 ∙ before.1
 
@@ -431,7 +440,7 @@ course_leads st past e q stage next setting host asked c answer h to decided nam
   does = subst (λ d. DoesAs e.effects (carry_lease s at (ForJob j) d y)) decided step.does
 
   led : LedCall q next y z
-  led = carried q next y (ap (λ (k : Setting). k.layout) bare_y.setting ∙ sym (ap (λ (k : LeasePlace). k.layout) asked.place)) (λ is. subst (λ k. NotFirst k) is follows.1)
+  led = carried q next y (ap (λ (k : Setting). k.layout.paired) bare_y.setting ∙ setting.unpaired) (ap (λ (k : Setting). k.layout) bare_y.setting ∙ sym (ap (λ (k : LeasePlace). k.layout) asked.place)) (λ is. subst (λ k. NotFirst k) is follows.1)
 
   call : Submitted
   call = new_call (length past) e.reading led.call
@@ -519,9 +528,9 @@ course_leads st past e q stage next setting host asked c answer h to decided nam
       ∙ ap (λ o. option_map (λ (a : JobReply). let r : Replied = record { at = length past; reply = a.reply } in r) o) (ap (λ rs. find (λ (a : JobReply). a.job == j) rs) (does.replies ∙ led.replies) ∙ step.unreplied)
 
   name : verified_name st.layout s.lockspace ((told ∷ c.older) ++ q.before) ≡ q.resource.name
-  name = name_more st.layout s.lockspace q.resource.name told (c.older ++ q.before) (by (named_later q stage st.layout s.lockspace told (told_at q stage past e n answer c.call c.is)) c.name) where
-    by : (stage ≡ Reads_area) ⊎ (verified_by st.layout s.lockspace told ≡ None) → (stage ≡ Reads_area) ⊎ (verified_name st.layout s.lockspace (c.older ++ q.before) ≡ q.resource.name)
-        → (verified_by st.layout s.lockspace told ≡ Some q.resource.name) ⊎ ((verified_by st.layout s.lockspace told ≡ None) × (verified_name st.layout s.lockspace (c.older ++ q.before) ≡ q.resource.name))
+  name = name_more st.layout s.lockspace q.resource.name told (c.older ++ q.before) (by (named_later q stage st.layout s.lockspace told (c.older ++ q.before) (told_at q stage past e n answer c.call c.is)) c.name) where
+    by : (stage ≡ Reads_area) ⊎ (verified_by st.layout s.lockspace told (c.older ++ q.before) ≡ None) → (stage ≡ Reads_area) ⊎ (verified_name st.layout s.lockspace (c.older ++ q.before) ≡ q.resource.name)
+        → (verified_by st.layout s.lockspace told (c.older ++ q.before) ≡ Some q.resource.name) ⊎ ((verified_by st.layout s.lockspace told (c.older ++ q.before) ≡ None) × (verified_name st.layout s.lockspace (c.older ++ q.before) ≡ q.resource.name))
     by (inl first) named = inl (names first)
     by (inr later) (inl first) = inl (names first)
     by (inr later) (inr named) = inr (later, named)

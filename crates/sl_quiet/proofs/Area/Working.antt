@@ -20,7 +20,7 @@ use Rattle.sl_run_law.proofs.Place.Reading.{IsTraced, call_law, owner_of, traced
 use Rattle.sl_run_law.proofs.Place.Seats.{HomeBefore, IsSeated, delta_within, given_seated, look_seated, sized_in}
 use Rattle.sl_run_law.proofs.Place.Sizes.{IsSized}
 use Rattle.sl_sector.specs.declared.sector.DeltaRec.{DeltaRec}
-use Rattle.sl_sector.specs.declared.sector.Rec.TheVariants.{BlockIs, DeltaIs, LeaderIs, RequestIs, ValueIs}
+use Rattle.sl_sector.specs.declared.sector.Rec.TheVariants.{BlockIs, DeltaIs, LeaderIs, PairIs, PairLeaderIs, RequestIs, ValueIs}
 use Rattle.sl_sector.specs.declared.sector.Rec.{Rec}
 use Rattle.sl_trace.specs.Sessions.{delta_of_record, delta_written, session_numbered, sessions}
 use Rattle.sl_trace.specs.declared.session.Session.{Session}
@@ -130,5 +130,7 @@ writes_are_work p h xs r run listed m a c at has writes on = by record_is.0 refl
   by (DeltaIs d) is = absurd (never d is)
   by (LeaderIs l) is = other (ap is_delta_record is)
   by (BlockIs b) is = other (ap is_delta_record is)
+  by (PairIs b) is = other (ap is_delta_record is)
+  by (PairLeaderIs l) is = other (ap is_delta_record is)
   by (RequestIs b) is = other (ap is_delta_record is)
   by (ValueIs b) is = other (ap is_delta_record is)

@@ -1,5 +1,5 @@
 -- The decisions.
-use Rattle.sl_area.specs.Places.{area_blocks, blocks_in}
+use Rattle.sl_area.specs.Places.{area_blocks, blocks_in, leader_of}
 use Rattle.sl_trace.specs.Ballots.{in_instance, instance_of, moded_block, next_mbal, owner_of, phase1_block, phase2_block, proposing, same_owner, stop_of, value_of, value_to_write}
 use Rattle.sl_trace.specs.LeaseWork.{LeasePlace, after_phase1, after_phase2, area_next, begin_next, begin_or_refuse, leader_for, lease_next, lost_next, won_next, named_area_next, phase1_next, phase2_next, refuses, unstopped_next, whole_area_next}
 use Rattle.sl_trace.specs.Leases.{LeaseKnown, instance_for, is_leader_of, is_over_owner, is_shared_by_other, mode_gen_of, own_known, shared_elsewhere, top_lver}
@@ -21,6 +21,7 @@ use Rattle.sl_trace.specs.declared.reply.Limited.TheVariants.{Lver as LverLimit,
 use Rattle.sl_trace.specs.declared.reply.Reply.TheVariants.{Limit as LimitReached, Shared as SharedBy, TornBlock, TornLeader, WrongArea}
 use Rattle.sl_words.specs.Bounds.{is_number, record_numbers}
 use Rattle.sl_words.specs.Words.{present}
+use Rattle.sl_trace.proofs.PlainWork.{bytes_plain}
 use Rattle.std.proofs.Common.{ap, arith, refl, tests, ◌∙◌}
 use Rattle.std.specs.List.{AllByRecursion}
 use Rattle.std.specs.Option.{option_map_or}
@@ -98,7 +99,7 @@ begins p k aim name bytes l blocks own h =
     ∙ less_test (next_mbal p.layout.hosts k.self.id (map (λ (b : Block). b.mbal) (in_instance n (own ∷ [])))) record_numbers h.mbal)
 
 area_begins : (p : LeasePlace) (k : LeaseKnown) (aim : Aim) (name bytes : List ℕ) (l : Leader) (blocks : List Block) (own : Block) → FindsFree p k name bytes l blocks own
-    → area_next p k aim name bytes ≡ WriteBlock Phase1Write (quiet_phase1 p k (l.lver + 1) own blocks)
+    → area_next p k aim name (leader_of p.layout bytes) (area_blocks p.layout bytes) ≡ WriteBlock Phase1Write (quiet_phase1 p k (l.lver + 1) own blocks)
 unfolding area_next
 area_begins p k aim name bytes l blocks own h =
     ap (λ o. elim o as (λ x. LeaseNext) [
@@ -149,7 +150,8 @@ phase1_goes_on : (p : LeasePlace) (k : LeaseKnown) (mode : Mode) (call n : ℕ) 
     → own.bal ≡ 0 → k.shared ≡ false → NoneShared k mode blocks → lease_next p k (Acquires mode) call n Phase1Read (Read bytes) ≡ WriteBlock Phase2Write (quiet_phase2 k own)
 unfolding lease_next
 phase1_goes_on p k mode call n bytes blocks own h zero_bal shared none =
-    ap (λ o. option_map_or (λ own. after_phase1 p k (Acquires mode) own (blocks_in p.layout bytes) (stop_of own (blocks_in p.layout bytes))) o Nothing) h.own_is
+    bytes_plain p k (Acquires mode) bytes Phase1Read h.plain
+    ∙ ap (λ o. option_map_or (λ own. after_phase1 p k (Acquires mode) own (blocks_in p.layout bytes) (stop_of own (blocks_in p.layout bytes))) o Nothing) h.own_is
     ∙ ap (λ xs. after_phase1 p k (Acquires mode) own xs (stop_of own xs)) h.whole
     ∙ ap (λ o. after_phase1 p k (Acquires mode) own (all_whole blocks) o) (unstopped own blocks h.alone)
     ∙ goes_past k mode own blocks h.alone zero_bal shared none
@@ -172,7 +174,8 @@ phase2_goes_on : (p : LeasePlace) (k : LeaseKnown) (mode : Mode) (call n : ℕ) 
     → own ≡ quiet_phase2 k before → lease_next p k (Acquires mode) call n Phase2Read (Read bytes) ≡ WriteLeader TakeLeader (leader_for p k true own.lver)
 unfolding lease_next
 phase2_goes_on p k mode call n bytes blocks own before h is =
-    ap (λ o. option_map_or (λ own. after_phase2 p k (Acquires mode) own (stop_of own (blocks_in p.layout bytes))) o Nothing) h.own_is
+    bytes_plain p k (Acquires mode) bytes Phase2Read h.plain
+    ∙ ap (λ o. option_map_or (λ own. after_phase2 p k (Acquires mode) own (stop_of own (blocks_in p.layout bytes))) o Nothing) h.own_is
     ∙ ap (λ xs. after_phase2 p k (Acquires mode) own (stop_of own xs)) h.whole
     ∙ ap (λ o. after_phase2 p k (Acquires mode) own o) (unstopped own blocks h.alone)
     ∙ wins p k mode own before is
@@ -182,7 +185,7 @@ phase2_goes_on p k mode call n bytes blocks own before h is =
 begins_at : (p : LeasePlace) (k : LeaseKnown) (mode : Mode) (call n : ℕ) (name bytes : List ℕ) (l : Leader) (blocks : List Block) (own : Block) → FindsFree p k name bytes l blocks own
     → lease_next p k (Acquires mode) call n (ReadArea name) (Read bytes) ≡ WriteBlock Phase1Write (quiet_phase1 p k (l.lver + 1) own blocks)
 unfolding lease_next
-begins_at p k mode call n name bytes l blocks own h = area_begins p k (Acquires mode) name bytes l blocks own h
+begins_at p k mode call n name bytes l blocks own h = bytes_plain p k (Acquires mode) bytes (ReadArea name) h.plain ∙ area_begins p k (Acquires mode) name bytes l blocks own h
 
 pub quiet_decisions : QuietDecisions
 unfolding lease_next

@@ -12,6 +12,7 @@ use Rattle.sl_trace.specs.declared.effects.LeaseStep.TheVariants.{Phase1Read, Ph
 use Rattle.sl_trace.specs.declared.effects.LeaseStep.{LeaseStep}
 use Rattle.sl_trace.specs.declared.effects.Purpose.{Purpose}
 use Rattle.sl_words.specs.Words.{some_is}
+use Rattle.sl_quiet.proofs.Course.GivenArea.{blocks_are_spelled}
 use Rattle.std.proofs.Common.{ap, arith, refl, subst, sym, ◌∙◌}
 use Rattle.std.specs.Option.{option_map_or}
 use Rattle.std.specs.Prelude.{List, None, Option, Some, false, if◌then◌else◌, max, option_and_then, true, ℕ, ◌+◌, ◌||◌, ◌∷◌, ◌≡◌, ◌≤◌}
@@ -36,28 +37,18 @@ freed_still m ms step bytes r =
 
 -- ---- what was read
 
-read_area_now : (g : Layout) (m : Submitted) (ms : List Submitted) (name bytes : List ℕ) → ReadCall m (ReadArea name) bytes → last_blocks g (m ∷ ms) ≡ area_blocks g bytes
-read_area_now g m ms name bytes r =
-    ap (λ o. elim (elim o as (λ x. Option (List (Option Block))) [
-      | None ↦ None
-      | Some bytes ↦ elim (is_area_read m) [
-        | true ↦ Some (area_blocks g bytes)
-        | false ↦ elim (is_phase_read m) [ true ↦ Some (blocks_in g bytes) | false ↦ None ]
-      ]
-    ]) as (λ x. List (Option Block)) [ Some bs ↦ bs | None ↦ last_blocks g ms ]) r.gives
-    ∙ ap (λ t. elim (elim t as (λ x. Option (List (Option Block))) [
-      | true ↦ Some (area_blocks g bytes)
-      | false ↦ elim (is_phase_read m) [ true ↦ Some (blocks_in g bytes) | false ↦ None ]
-    ]) as (λ x. List (Option Block)) [ Some bs ↦ bs | None ↦ last_blocks g ms ])
-    (ap (λ (p : Purpose). some_is (λ q. same_kind (kind_of_step q.1) Area_read) (lease_step p) || some_is (λ q. same_kind (kind_of_step q.1) Read_before_free) (lease_step p)) r.purpose)
+read_area_now : (g : Layout) → g.paired ≡ false → (m : Submitted) (ms : List Submitted) (name bytes : List ℕ) → ReadCall m (ReadArea name) bytes → last_blocks g (m ∷ ms) ≡ area_blocks g bytes
+read_area_now g plain m ms name bytes r =
+    ap (λ o. elim o as (λ x. List (Option Block)) [ Some bs ↦ bs | None ↦ last_blocks g ms ]) (blocks_are_spelled g plain m ms bytes r.work name r.gives r.purpose)
 
 -- ---- the decisions
 
 finds_free : (x : Same) (ms : List Submitted) (name bytes : List ℕ) (l : Leader) (blocks : List Block) (own : Block) → Begins x ms name bytes l blocks own → (m : Submitted)
     → ReadCall m (ReadArea name) bytes → FindsFree x.place (known_with x (m ∷ ms)) name bytes l blocks own
 finds_free x ms name bytes l blocks own b m r =
-    let read : last_blocks x.place.layout (m ∷ ms) ≡ all_whole blocks = read_area_now x.place.layout m ms name bytes r ∙ b.whole in
+    let read : last_blocks x.place.layout (m ∷ ms) ≡ all_whole blocks = read_area_now x.place.layout b.plain m ms name bytes r ∙ b.whole in
     record {
+      plain = b.plain;
       leader = b.leader;
       names = b.names;
       free = b.free;
@@ -75,7 +66,7 @@ finds_free x ms name bytes l blocks own b m r =
 finds_own : (x : Same) (ms : List Submitted) (own : Block) (blocks : List Block) (bytes : List ℕ) (step : LeaseStep) (w m : Submitted) → BlockCall w own → ReadCall m step bytes → ShowsOwn x bytes blocks own
     → FindsOwn x.place (known_with x (m ∷ w ∷ ms)) bytes blocks own
 finds_own x ms own blocks bytes step w m writes reads s =
-    record { whole = s.whole; own_is = own_still m (w ∷ ms) step bytes reads ∙ own_new w ms own writes; alone = s.alone }
+    record { plain = s.plain; whole = s.whole; own_is = own_still m (w ∷ ms) step bytes reads ∙ own_new w ms own writes; alone = s.alone }
 
 pub course_decisions : CourseDecisions
 course_decisions = record {

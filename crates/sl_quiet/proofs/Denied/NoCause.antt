@@ -12,7 +12,7 @@ use Rattle.sl_trace.specs.declared.command.ResourceArg.{ResourceArg}
 use Rattle.sl_trace.specs.declared.input.Answer.TheVariants.{Failed, Read, Written}
 use Rattle.sl_trace.specs.declared.input.Answer.{Answer}
 use Rattle.sl_trace.specs.declared.input.Input.TheVariants.{Exit}
-use Rattle.sl_trace.specs.declared.reply.Limited.TheVariants.{Children, Gen as GenLimit, Holders, Killpaths, Lockspaces, Lver as LverLimit, Mbal as MbalLimit, Resources, Seq as SeqLimit}
+use Rattle.sl_trace.specs.declared.reply.Limited.TheVariants.{Children, Gen as GenLimit, Holders, Killpaths, Lockspaces, Lver as LverLimit, Mbal as MbalLimit, Resources, Seq as SeqLimit, Turn as TurnLimit}
 use Rattle.sl_trace.specs.declared.reply.Limited.{Limited}
 use Rattle.sl_trace.specs.declared.reply.Reply.TheVariants.{Ahead, BadCommand as Misread, Busy, Done, Generation, Granted, Held as HeldBy, Hosts, IdHeld, IdLate, IdLost, IoFault, IoTimeout, Joined, Joining as StillJoining, Limit as LimitReached, NoOrphan, NoProcess, NoSession, NotHeld, Pending, Recovering, RequestOld, Rival, Sessions, Shared as SharedBy, SpawnFault, Started, TornBlock, TornDelta, TornLeader, Value, ValueSet, ValueTorn, WrongArea, WrongDelta}
 use Rattle.sl_trace.specs.declared.reply.Reply.{Reply}
@@ -88,6 +88,10 @@ no_limit x SeqLimit none earlier (inr (inr (inl c))) = earlier c.0
 no_limit x SeqLimit none earlier (inr (inr (inr d))) = earlier d.0
 no_limit x LverLimit none earlier has = of_blocks x _ none has
 no_limit x MbalLimit none earlier has = of_blocks x _ none has
+no_limit x TurnLimit none earlier (paired, inl a, low) = of_blocks x _ none a
+no_limit x TurnLimit none earlier (paired, inr (inl b), low) = of_blocks x _ none b
+no_limit x TurnLimit none earlier (paired, inr (inr (inl (c, (n, d)))), low) = of_write x _ none d
+no_limit x TurnLimit none earlier (paired, inr (inr (inr d)), low) = earlier d.0
 
 no_grant : (x : Answering) (n : ℕ) (r : ResourceArg) (shared : Bool) (p : ℕ) (persistent : Bool) → NoAnswer x → (x.job.at ≡ length x.past → ⊥)
     → IsGrantedFor x n (Acquire r shared p persistent) → ⊥

@@ -1,6 +1,6 @@
 -- A read of an area shows what stands there.
 use Rattle.sl_area.specs.Layouts.{Layout, record_in}
-use Rattle.sl_area.specs.Places.{area_blocks, block_offset, blocks_in, leader_of, read_at, sector_of}
+use Rattle.sl_area.specs.Places.{area_blocks, block_offset, blocks_in, leader_of, leader_spelled, read_at, sector_of}
 use Rattle.sl_quiet.proofs.Read.Newest.{reads_give_what_stands}
 use Rattle.sl_quiet.specs.Read.Standing.{ReadStands, ReadsShowTheArea, blocks_there}
 use Rattle.sl_run.specs.Quiet.{leader_there}
@@ -9,8 +9,10 @@ use Rattle.sl_run.specs.Safety.{LawfulRun, block_there, world_at}
 use Rattle.sl_run.specs.Worlds.{Course, Machine, Program, World, content, machine_at}
 use Rattle.sl_run.specs.declared.header.Header.{Header}
 use Rattle.sl_run_law.specs.Sample.Samples.{sector_place}
-use Rattle.sl_sector.specs.Spelling.{block_in, leader_in}
+use Rattle.sl_sector.specs.Spelling.{block_in}
 use Rattle.sl_trace.specs.declared.effects.Spot.{Spot}
+use Rattle.sl_run_law.proofs.Place.Seats.{plain_in}
+use Rattle.sl_history.proofs.Giving.Stood.{there_plain}
 use Rattle.std.proofs.Common.{ap, arith, refl, subst, sym, ◌∙◌}
 use Rattle.std.proofs.lemmas.List.{drop-drop}
 use Rattle.std.specs.List.{range_with_len}
@@ -84,13 +86,14 @@ shows_area : (p : Program) (h : Header) (xs : List Happening) → LawfulRun p h 
 shows_area p h xs run m a c at there has path offset r =
     let w : World = world_at p h xs in
     let g : Layout = w.layout in (
-      ap (λ bs. leader_in (record_in g bs))
+      ap (λ bs. leader_spelled g (record_in g bs))
           (gives p h xs run m a c at.path (g.hosts + 2) 0 at.base there has path r (some_there g.hosts) (ap (λ y. y + 0 * g.sector) offset ∙ place_of_leader at.base g.sector)),
       same_on (λ k. block_in k (read_at g (drop (2 * g.sector) c.sampled) (k - 1))) (block_there w at) 1 g.hosts
           (λ k low high. ap (λ bs. block_in k (record_in g bs))
           (behind_two g c.sampled k low
           ∙ gives p h xs run m a c at.path (g.hosts + 2) (k + 1) (block_offset g at.base k) there has path r (below_area k g.hosts high)
-          (ap (λ y. y + (k + 1) * g.sector) offset ∙ place_in_area at.base g.sector k))),
+          (ap (λ y. y + (k + 1) * g.sector) offset ∙ place_in_area at.base g.sector k))
+          ∙ sym (there_plain w (plain_in p h xs run) at k)),
     )
 
 shows_blocks : (p : Program) (h : Header) (xs : List Happening) → LawfulRun p h xs → (m : ℕ) (a : Machine) (c : Course) (at : Spot)
@@ -102,7 +105,8 @@ shows_blocks p h xs run m a c at there has path offset r =
     same_on (λ k. block_in k (read_at g c.sampled (k - 1))) (block_there w at) 1 g.hosts
     (λ k low high. ap (λ bs. block_in k (record_in g bs))
     (gives p h xs run m a c at.path g.hosts (k - 1) (block_offset g at.base k) there has path r (below_blocks k g.hosts low high)
-    (ap (λ y. y + (k - 1) * g.sector) offset ∙ place_in_blocks at.base g.sector k low)))
+    (ap (λ y. y + (k - 1) * g.sector) offset ∙ place_in_blocks at.base g.sector k low))
+    ∙ sym (there_plain w (plain_in p h xs run) at k))
 
 pub reads_show_the_area : ReadsShowTheArea
 reads_show_the_area = record { area = shows_area; blocks = shows_blocks }

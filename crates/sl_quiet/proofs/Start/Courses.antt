@@ -7,6 +7,7 @@ use Rattle.sl_due.specs.Steps.{with_input}
 use Rattle.sl_due_leases.proofs.Holdings.LeasePlaces.{ids_within}
 use Rattle.sl_due_leases.proofs.Holdings.PlainPlaces.{text_is}
 use Rattle.sl_due_facts.proofs.Jobs.SessionsArePresent.{present_is, session_has}
+use Rattle.sl_history.proofs.Giving.Stood.{there_plain}
 use Rattle.sl_run.specs.Lawful.{IsSetting}
 use Rattle.sl_trace.specs.Ballots.{in_instance, next_mbal}
 use Rattle.sl_trace.specs.LeaseWork.{lease_place}
@@ -14,6 +15,7 @@ use Rattle.sl_trace.specs.Leases.{block_of_host, block_submitted, is_lease_call,
 use Rattle.sl_plain.proofs.Lists.{contains_cases, contains_first, contains_map, contains_more, contains_none, find_inside, kept, kept_inside}
 use Rattle.sl_quiet.proofs.Along.Going.{made_well}
 use Rattle.sl_quiet.proofs.Area.Calming.{calm_goes_on}
+use Rattle.sl_quiet.proofs.Read.PlainThere.{leads_plain}
 use Rattle.sl_quiet.proofs.Read.Showing.{same_on}
 use Rattle.sl_quiet.proofs.Start.Finding.{joined_woken, starts_read_the_area, woken}
 use Rattle.sl_quiet.proofs.Start.Hosting.{Begins, starts_course}
@@ -38,6 +40,7 @@ use Rattle.sl_run_law.proofs.Course.Matching.{newest_stamp}
 use Rattle.sl_run_law.proofs.Course.Stamped.{entries_are_stamped}
 use Rattle.sl_run_law.proofs.Front.Going.{fronts_are_lawful}
 use Rattle.sl_run_law.proofs.Moment.Following.{kept_past}
+use Rattle.sl_run_law.proofs.Place.Seats.{plain_in}
 use Rattle.sl_run_law.proofs.Watchdog.Stamps.{same_length}
 use Rattle.sl_run_law.specs.Course.Stamping.{stamp_in}
 use Rattle.sl_run_law.specs.Moment.Moments.{Of_landing}
@@ -201,6 +204,12 @@ starts_begin_courses p h now x run well m n text r shared line resource start lo
   before : List Submitted
   before = lease_calls st past s at
 
+  plain : w.layout.paired ≡ false
+  plain = plain_in p h now before_run
+
+  plain_then : v.layout.paired ≡ false
+  plain_then = plain_in p h (now ++ x ∷ []) run
+
   hosts : ℕ
   hosts = (w.layout).hosts
 
@@ -307,13 +316,19 @@ starts_begin_courses p h now x run well m n text r shared line resource start lo
     mapped (k ∷ ks) = ap (λ bs. Some (standing w r k) ∷ bs) (mapped ks)
 
   block_then : (k : ℕ) → block_there v at k ≡ block_there w at k
-  block_then k = ap (λ g. block_in k (record_in g (content v at.path (block_offset g at.base k)))) taken.layout ∙ ap (λ bs. block_in k (record_in w.layout bs)) (taken.contents at.path (block_offset w.layout at.base k))
+  block_then k =
+      there_plain v plain_then at k
+      ∙ (ap (λ g. block_in k (record_in g (content v at.path (block_offset g at.base k)))) taken.layout
+      ∙ (ap (λ bs. block_in k (record_in w.layout bs)) (taken.contents at.path (block_offset w.layout at.base k)) ∙ sym (there_plain w plain at k)))
 
   blocks_then : blocks_there v at ≡ blocks_there w at
   blocks_then = ap (λ (g : Layout). map (block_there v at) (range_with_len 1 g.hosts)) taken.layout ∙ same_on (block_there v at) (block_there w at) 1 hosts (λ k low_k less. block_then k)
 
   leader_then : leader_there v at ≡ leader_there w at
-  leader_then = ap (λ g. leader_in (record_in g (content v at.path (leader_offset at.base)))) taken.layout ∙ ap (λ bs. leader_in (record_in w.layout bs)) (taken.contents at.path (leader_offset at.base))
+  leader_then =
+      leads_plain v plain_then at
+      ∙ (ap (λ g. leader_in (record_in g (content v at.path (leader_offset at.base)))) taken.layout
+      ∙ (ap (λ bs. leader_in (record_in w.layout bs)) (taken.contents at.path (leader_offset at.base)) ∙ sym (leads_plain w plain at)))
 
   -- ---- the acquire
 

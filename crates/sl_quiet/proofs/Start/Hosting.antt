@@ -2,11 +2,12 @@
 use Rattle.sl_area.specs.Layouts.{Layout}
 use Rattle.sl_area.specs.Places.{in_area}
 use Rattle.sl_due.specs.Due.{IsHostTrace}
-use Rattle.sl_due.specs.DueLease.{read_area}
+use Rattle.sl_due.specs.DueLease.{lease_call, read_area}
 use Rattle.sl_due.specs.Steps.{Step, seen, with_input}
 use Rattle.sl_due_law.proofs.Causes.HeadsAreEarly.{heads_are_early}
 use Rattle.sl_due_law.proofs.Due.{due_is_lawful}
 use Rattle.sl_due_facts.proofs.Jobs.JobsAreNumbered.{finds_none, line_is, next_is_new}
+use Rattle.sl_due_facts.proofs.Jobs.PlainNexts.{area_plain}
 use Rattle.sl_due_law.proofs.Whole.AcquiresKeep.{acquires_keep_to_theirs}
 use Rattle.sl_due_law.proofs.Whole.TracesHold.{traces_hold}
 use Rattle.sl_due_law.specs.Causes.LineCauses.{IsBeforeInput}
@@ -162,8 +163,13 @@ starts_course st past e q text b = (
         offset = refl;
       }
 
+  does : DoesAs e.effects (lease_call s at (ForJob (next_job st past)) (ReadArea q.resource.name) at.base (ReadSectors (y.setting.layout.hosts + 2)) (with_input (Line text) y))
+  does =
+      subst (λ z. DoesAs e.effects z)
+      (area_plain (with_input (Line text) y) s at (ForJob (next_job st past)) (ReadArea q.resource.name) (ap (λ (k : Setting). k.layout.paired) bare_y.setting ∙ b.setting.unpaired)) b.does
+
   one : lease_part e.effects.calls ≡ led ∷ []
-  one = b.does.calls ∙ ap (λ cs. lease_part (cs ++ led ∷ [])) bare_y.calls
+  one = does.calls ∙ ap (λ cs. lease_part (cs ++ led ∷ [])) bare_y.calls
 
   -- ---- the job is new
 

@@ -4,6 +4,7 @@ use Rattle.sl_area.specs.Places.{in_area, is_base, leader_offset}
 use Rattle.sl_run.specs.Lawful.{IsSetting}
 use Rattle.sl_plain.proofs.Lists.{contains_first}
 use Rattle.sl_quiet.proofs.Along.Going.{made_well}
+use Rattle.sl_quiet.proofs.Read.PlainThere.{leads_plain}
 use Rattle.sl_quiet.specs.Along.Going.{IsLineOf}
 use Rattle.sl_quiet.specs.Start.Starting.{StartsAreOfLines}
 use Rattle.sl_id_safety.proofs.Owning.{HasTop, newest_stands}
@@ -17,15 +18,16 @@ use Rattle.sl_run_law.proofs.Place.Beginnings.{In_resource as First_in_resource,
 use Rattle.sl_run_law.proofs.Place.Checks.{shows_its_id}
 use Rattle.sl_run_law.proofs.Place.Proven.{nothing_lands_elsewhere}
 use Rattle.sl_run_law.proofs.Place.Reading.{in_history}
-use Rattle.sl_run_law.proofs.Place.Seats.{initial_in, sized_in}
+use Rattle.sl_run_law.proofs.Place.Seats.{initial_in, plain_in, sized_in}
 use Rattle.sl_run_law.proofs.Place.Sizes.{IsSized}
 use Rattle.sl_quiet.proofs.Along.Areas.{leader_within}
 use Rattle.sl_run_law.specs.Place.Homes.{In_lockspace, In_resource, IsAtHome}
 use Rattle.sl_sector.specs.Spelling.{leader_in}
 use Rattle.sl_sector.specs.declared.sector.Bad.{Bad}
 use Rattle.sl_sector.specs.declared.sector.Leader.{Leader}
-use Rattle.sl_sector.specs.declared.sector.Rec.TheVariants.{BlockIs, DeltaIs, LeaderIs, RequestIs, ValueIs}
+use Rattle.sl_sector.specs.declared.sector.Rec.TheVariants.{BlockIs, DeltaIs, LeaderIs, PairIs, PairLeaderIs, RequestIs, ValueIs}
 use Rattle.sl_sector.specs.declared.sector.Rec.{Rec}
+use Rattle.sl_trace.specs.Leases.{spot_of}
 use Rattle.sl_trace.specs.declared.command.Command.TheVariants.{Acquire}
 use Rattle.sl_words.proofs.CaseLaws.{false_is_true, none_some, some_value}
 use Rattle.std.proofs.Common.{ap, inl, inr, refl, subst, sym, ◌∙◌}
@@ -36,6 +38,8 @@ pub leader_in_is : (r : Result Rec Bad) (l : Leader) → leader_in r ≡ Some l 
 leader_in_is (Ok (LeaderIs e)) l h = ap (λ x. Ok (LeaderIs x)) (some_value e l h)
 leader_in_is (Ok (DeltaIs e)) l h = absurd (none_some l h)
 leader_in_is (Ok (BlockIs e)) l h = absurd (none_some l h)
+leader_in_is (Ok (PairIs e)) l h = absurd (none_some l h)
+leader_in_is (Ok (PairLeaderIs e)) l h = absurd (none_some l h)
 leader_in_is (Ok (RequestIs e)) l h = absurd (none_some l h)
 leader_in_is (Ok (ValueIs e)) l h = absurd (none_some l h)
 leader_in_is (Err e) l h = absurd (none_some l h)
@@ -74,7 +78,7 @@ starts_are_of_lines p h xs run well m n text r shared q = by its.1 where
   its = in_history w r.path place top.top (subst (λ ls. Contains ls top.top) (sym top.whole) (contains_first top.top top.below))
 
   spells : record_in w.layout (top.top).bytes ≡ Ok (LeaderIs q.leader)
-  spells = ap (λ bs. record_in w.layout bs) (sym top.holds) ∙ leader_in_is (record_in w.layout (content w r.path place)) q.leader q.leader_spells
+  spells = ap (λ bs. record_in w.layout bs) (sym top.holds) ∙ leader_in_is (record_in w.layout (content w r.path place)) q.leader (sym (leads_plain w (plain_in p h xs run) (spot_of r)) ∙ q.leader_spells)
 
   not_delta : (d : Rec) → LeaderIs q.leader ≡ d → is_leader_record d ≡ false → ⊥
   not_delta d same other = false_is_true (sym other ∙ ap (λ x. is_leader_record x) (sym same))

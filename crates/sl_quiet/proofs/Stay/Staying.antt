@@ -13,7 +13,8 @@ use Rattle.sl_trace.specs.Sessions.{calls_of, is_call_of, open_calls_of, session
 use Rattle.sl_trace.specs.Traces.{Answered, Setting, Submitted, Trace, answer_of, answered_in, is_write, mark, new_call, submitted}
 use Rattle.sl_trace.specs.declared.effects.Call.{Call}
 use Rattle.sl_trace.specs.declared.effects.Entry.{Entry}
-use Rattle.sl_trace.specs.declared.effects.LeaseStep.TheVariants.{ClearMode, FreeLeader, Phase1Read, Phase1Write, Phase2Read, Phase2Write, ReadArea, ReadBeforeFree, SetMode, TakeLeader}
+use Rattle.sl_trace.specs.declared.effects.LeaseRead.TheVariants.{OfArea, OfBlock, OfFree, OfPhase1, OfPhase2}
+use Rattle.sl_trace.specs.declared.effects.LeaseStep.TheVariants.{ClearMode, FreeLeader, Phase1Read, Phase1Write, Phase2Read, Phase2Write, ReadAgain, ReadArea, ReadBeforeBlock, ReadBeforeFree, SetMode, TakeLeader}
 use Rattle.sl_trace.specs.declared.effects.LeaseStep.{LeaseStep}
 use Rattle.sl_trace.specs.declared.effects.Op.TheVariants.{ReadSectors}
 use Rattle.sl_trace.specs.declared.effects.Purpose.TheVariants.{Joining, Lease, Leaving, Renewal, RequestRead, RequestWrite, SeeRequest, Survey, ValueRead, ValueWrite}
@@ -130,6 +131,12 @@ or_left false c h = absurd (false_is_true h)
 works_by : (st : Setting) (at : Spot) (c : Submitted) (work : Work) (step : LeaseStep) → IsLeaseRead st at c step → (is_write c.call.op || reads_blocks (Lease work step)) ≡ true
 works_by st at c work (ReadArea name) h = or_right (is_write c.call.op)
 works_by st at c work ReadBeforeFree h = or_right (is_write c.call.op)
+works_by st at c work ReadBeforeBlock h = or_right (is_write c.call.op)
+works_by st at c work (ReadAgain (OfArea name)) h = or_right (is_write c.call.op)
+works_by st at c work (ReadAgain OfFree) h = or_right (is_write c.call.op)
+works_by st at c work (ReadAgain OfBlock) h = or_right (is_write c.call.op)
+works_by st at c work (ReadAgain OfPhase1) h = or_right (is_write c.call.op)
+works_by st at c work (ReadAgain OfPhase2) h = or_right (is_write c.call.op)
 works_by st at c work Phase1Read h = or_right (is_write c.call.op)
 works_by st at c work Phase2Read h = or_right (is_write c.call.op)
 works_by st at c work Phase1Write h = or_left (is_write c.call.op) false h

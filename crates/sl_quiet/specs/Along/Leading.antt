@@ -24,7 +24,7 @@ use Rattle.sl_trace.specs.declared.effects.Mode.{Mode}
 use Rattle.sl_trace.specs.declared.input.Answer.{Answer}
 use Rattle.sl_trace.specs.declared.input.Input.TheVariants.{Answer as Told}
 use Rattle.sl_trace.specs.declared.reply.Reply.TheVariants.{Granted}
-use Rattle.std.specs.Prelude.{Bool, Contains, IsTrue, List, None, Some, false, length, true, ℕ, ◌+◌, ◌<◌, ◌∷◌, ◌≡◌}
+use Rattle.std.specs.Prelude.{Bool, Contains, IsTrue, List, None, Some, false, length, true, ℕ, ◌++◌, ◌+◌, ◌<◌, ◌∷◌, ◌≡◌}
 
 -- The mode that is asked for.
 abbrev pub mode_of : Bool → Mode
@@ -65,7 +65,7 @@ abbrev pub CourseLeads : Type 0
 CourseLeads =
     (st : Setting) (past : Trace) (e : Entry) (q : Asked) (stage next : Stage) → IsSetting st → IsHostTrace st (e ∷ past) → IsAskedOf st q → (c : DaemonOnCourse st past q stage) → (answer : Answer)
     → Hears st past e q c.call answer → stage_next q.shared stage ≡ Some next → decided_then st past e.reading q stage c.call answer ≡ decision_at q next
-    → (stage ≡ Reads_area → verified_by st.layout q.session.lockspace (answered_in past e c.call.call.number answer c.call) ≡ Some q.resource.name)
+    → (stage ≡ Reads_area → verified_by st.layout q.session.lockspace (answered_in past e c.call.call.number answer c.call) (c.older ++ q.before) ≡ Some q.resource.name)
     → (d : DaemonOnCourse st (e ∷ past) q next) × (d.call.at ≡ length past)
 
 -- The entry grants the process the resource, and is the job's reply.

@@ -54,6 +54,8 @@ known_with x ms = known_of x.place.layout x.place.lockspace x.self false x.exclu
 
 -- Before the first call; and what its read gives.
 pub record Begins (x : Same) (ms : List Submitted) (name bytes : List ℕ) (l : Leader) (blocks : List Block) (own : Block) : Type 0 where
+  -- a block has one sector
+  pub plain : x.place.layout.paired ≡ false
   pub leader : leader_of x.place.layout bytes ≡ Some l
   pub names : is_leader_of x.place.layout x.place.lockspace name l ≡ true
   pub free : l.held ≡ false
@@ -76,6 +78,7 @@ second_block x first = moded_block (record first { bal = first.mbal; inp = x.sel
 
 -- A later read of the blocks shows the own one, and others of earlier instances.
 pub record ShowsOwn (x : Same) (bytes : List ℕ) (blocks : List Block) (own : Block) : Type 0 where
+  pub plain : x.place.layout.paired ≡ false
   pub whole : blocks_in x.place.layout bytes ≡ all_whole blocks
   pub alone : StandsAlone own blocks
 

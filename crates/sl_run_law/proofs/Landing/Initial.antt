@@ -5,6 +5,7 @@ use Rattle.sl_area.specs.Places.{fresh_block, fresh_delta, fresh_leader, in_area
 use Rattle.sl_plain.proofs.Lists.{find_inside}
 use Rattle.sl_plain.proofs.Numbers.{one_least, zero_least}
 use Rattle.sl_plain.proofs.Truth.{or_false}
+use Rattle.sl_run.proofs.PlainAreas.{initial_plain}
 use Rattle.sl_run.specs.Headers.{IsHeader}
 use Rattle.sl_run.specs.Worlds.{clock_reading, initial_bytes, initial_delta, initial_of_lockspace, initial_of_resource, initial_record, member_delta}
 use Rattle.sl_run.specs.declared.header.FirstReading.{FirstReading}
@@ -22,7 +23,7 @@ use Rattle.sl_text.specs.Names.{is_name}
 use Rattle.sl_words.proofs.CaseLaws.{none_some, some_value}
 use Rattle.sl_words.proofs.WordLaws.{and_true}
 use Rattle.sl_words.specs.Words.{choose}
-use Rattle.std.proofs.Common.{arith, refl, subst, sym}
+use Rattle.std.proofs.Common.{arith, refl, subst, sym, ◌∙◌}
 use Rattle.std.proofs.lemmas.Bool.Decides.{Decides-eqb, nat_tests}
 use Rattle.std.proofs.lemmas.List.{length-replicate}
 use Rattle.std.specs.Int.{is_in_range}
@@ -187,7 +188,8 @@ initial_in_resource digest h path offset (Some l) r is ok eq =
     let space = line.2 in
     let k : ℕ = (offset - l.offset) / h.geometry.sector in
     resource_by digest h l k (k == 0) (k == 1) (nat_lt k (h.geometry.hosts + 2)) ((k + 1) * h.geometry.sector == h.geometry.area) r refl refl refl ok
-    (subst (λ n. IsTrue (is_name n)) space.2 (ok.lockspaces space.0 space.1).0) line.0 eq
+    (subst (λ n. IsTrue (is_name n)) space.2 (ok.lockspaces space.0 space.1).0) line.0
+    (sym (initial_plain (lay digest h) ok.unpaired l k) ∙ eq)
 
 initial_by : (digest : List ℕ → List ℕ) (h : Header) (path : List ℕ) (offset : ℕ) (o : Option LockspaceLine) (r : Rec) → line_at digest h path offset ≡ o → IsHeader h
     → elim o as (λ x. Option Rec) [

@@ -6,6 +6,7 @@ use Rattle.sl_run_law.proofs.Place.Finding.{same_read, same_text}
 use Rattle.sl_run_law.proofs.Place.Sizes.{IsSized, sector_fits, sized}
 use Rattle.sl_plain.proofs.Lists.{find_inside}
 use Rattle.sl_plain.proofs.Numbers.{one_least, zero_least}
+use Rattle.sl_run.proofs.PlainAreas.{initial_plain}
 use Rattle.sl_run.specs.Headers.{IsHeader}
 use Rattle.sl_run.specs.Worlds.{initial_bytes, initial_delta, initial_of_lockspace, initial_of_resource, initial_record, member_delta}
 use Rattle.sl_run.specs.declared.header.FirstReading.{FirstReading}
@@ -24,7 +25,7 @@ use Rattle.sl_text.specs.Names.{is_name}
 use Rattle.sl_words.proofs.CaseLaws.{none_some, some_value}
 use Rattle.sl_words.proofs.WordLaws.{and_true, choose_some}
 use Rattle.sl_words.specs.Words.{choose}
-use Rattle.std.proofs.Common.{arith, refl, subst, sym}
+use Rattle.std.proofs.Common.{arith, refl, subst, sym, ◌∙◌}
 use Rattle.std.proofs.lemmas.Bool.{eqb-true, ltb-true}
 use Rattle.std.specs.Option.{option_map_or}
 use Rattle.std.specs.Prelude.{Bool, Contains, IsTrue, List, None, Ok, Option, Some, bytes_eq, false, find, if◌then◌else◌, nat_lt, replicate, suc, true, zero, ℕ, ◌&&◌, ◌*◌, ◌+◌, ◌-◌, ◌/◌, ◌<◌, ◌==◌, ◌^◌, ◌≡◌, ◌≤◌}
@@ -133,17 +134,17 @@ resource_by g x k false false true last r z a b c space name eq =
 resource_by g x k false false false true r z a b c space name eq = subst (IsOfResource g x) (some_value (ValueIs no_value) r eq) (value_of_resource g x)
 resource_by g x k false false false false r z a b c space name eq = absurd (none_some r eq)
 
-resource_from : {s : Sizes} (g : Layout) (h : Header) (path : List ℕ) (offset : ℕ) (o : Option ResourceLine) (r : Rec) → IsSized s g → resource_at g h path offset ≡ o → IsHeader h
+resource_from : {s : Sizes} (g : Layout) (h : Header) (path : List ℕ) (offset : ℕ) (o : Option ResourceLine) (r : Rec) → IsSized s g → g.paired ≡ false → resource_at g h path offset ≡ o → IsHeader h
     → elim o as (λ x. Option Rec) [ Some x ↦ initial_of_resource g x ((offset - x.offset) / g.sector) | None ↦ None ] ≡ Some r → IsInitial g h path offset r
-resource_from g h path offset None r z is ok eq = absurd (none_some r eq)
-resource_from g h path offset (Some x) r z is ok eq =
+resource_from g h path offset None r z plain is ok eq = absurd (none_some r eq)
+resource_from g h path offset (Some x) r z plain is ok eq =
     let at = find_inside (λ (x : ResourceLine). bytes_eq x.path path && in_area g x.offset offset) h.resources x is in
     let both = and_true (bytes_eq x.path path) (in_area g x.offset offset) at.1 in
     let line = ok.resources x at.0 in
     let space = line.2 in
     let k : ℕ = (offset - x.offset) / g.sector in
     let its = resource_by g x k (k == 0) (k == 1) (nat_lt k (g.hosts + 2)) ((k + 1) * g.sector == g.area) r z refl refl refl
-    (subst (λ n. IsTrue (is_name n)) space.2 (ok.lockspaces space.0 space.1).0) line.0 eq in
+    (subst (λ n. IsTrue (is_name n)) space.2 (ok.lockspaces space.0 space.1).0) line.0 (sym (initial_plain g plain x k) ∙ eq) in
     In_resource x at.0 (same_text x.path path both.0) both.1 its.is its.no_delta its.leader
 
 lockspace_from : (digest : List ℕ → List ℕ) (h : Header) (path : List ℕ) (offset : ℕ) (l : LockspaceLine) (r : Rec) → IsHeader h
@@ -169,7 +170,7 @@ initial_by : (digest : List ℕ → List ℕ) (h : Header) (path : List ℕ) (of
     ] ≡ Some r → IsInitial (layout_with digest h.geometry) h path offset r
 initial_by digest h path offset None r is ok eq =
     let g : Layout = layout_with digest h.geometry in
-    resource_from g h path offset (resource_at g h path offset) r (sized digest h.geometry ok.geometry) refl ok eq
+    resource_from g h path offset (resource_at g h path offset) r (sized digest h.geometry ok.geometry) ok.unpaired refl ok eq
 initial_by digest h path offset (Some l) r is ok eq = lockspace_from digest h path offset l r ok is eq
 
 initial_from : (digest : List ℕ → List ℕ) (h : Header) (path : List ℕ) (offset : ℕ) (r : Rec) → IsHeader h

@@ -22,7 +22,7 @@ use Rattle.sl_run.specs.declared.header.LockspaceLine.{LockspaceLine}
 use Rattle.sl_run.specs.declared.header.ResourceLine.{ResourceLine}
 use Rattle.sl_sector.specs.declared.sector.DeltaRec.{DeltaRec}
 use Rattle.sl_sector.specs.declared.sector.Leader.{Leader}
-use Rattle.sl_sector.specs.declared.sector.Rec.TheVariants.{BlockIs, DeltaIs, LeaderIs, RequestIs, ValueIs}
+use Rattle.sl_sector.specs.declared.sector.Rec.TheVariants.{BlockIs, DeltaIs, LeaderIs, PairIs, PairLeaderIs, RequestIs, ValueIs}
 use Rattle.sl_sector.specs.declared.sector.Rec.{Rec}
 use Rattle.sl_trace_law.proofs.Sessions.Making.{calls_are_made}
 use Rattle.sl_trace_law.specs.Sessions.Promises.{IsMade, IsSession, front_of, made_as}
@@ -230,6 +230,8 @@ home_by p h xs b run x t home (LeaderIs l) is = lease_home p h xs b run x t home
 home_by p h xs b run x t home (BlockIs l) is = lease_home p h xs b run x t home (ap is_delta_record is)
 home_by p h xs b run x t home (RequestIs l) is = lease_home p h xs b run x t home (ap is_delta_record is)
 home_by p h xs b run x t home (ValueIs l) is = lease_home p h xs b run x t home (ap is_delta_record is)
+home_by p h xs b run x t home (PairIs l) is = lease_home p h xs b run x t home (ap is_delta_record is)
+home_by p h xs b run x t home (PairLeaderIs l) is = lease_home p h xs b run x t home (ap is_delta_record is)
 
 abbrev HomeAt : Header → World → ℕ → Type 0
 HomeAt h w n = (x : Landing) → Contains w.landings x → x.step ≡ n → IsHome h w x

@@ -1,20 +1,21 @@
 -- A session that has verified an area is on a resource's: what it read there is that resource's leader.
 use Rattle.sl_area.specs.Layouts.{Layout, record_in}
-use Rattle.sl_area.specs.Places.{in_area, leader_of, sector_of}
+use Rattle.sl_area.specs.Places.{area_sectors, block_sectors, in_area, leader_of, sector_of}
 use Rattle.sl_run_law.specs.Course.Stamping.{stamp_in}
 use Rattle.sl_run.specs.Lawful.{Orderly}
-use Rattle.sl_run.specs.LawfulArea.{HasVerified, IsRightRead, is_leader_read, leaders_read}
+use Rattle.sl_run.specs.LawfulArea.{HasVerified, IsLeaderGiven, IsRightRead, is_leader_read, leaders_read}
 use Rattle.sl_run_law.proofs.Place.Areas.{base_aligned, resource_aligned, same_base}
 use Rattle.sl_run_law.proofs.Place.Beginnings.{In_lockspace, In_resource, IsInitial}
 use Rattle.sl_run_law.proofs.Place.Daemons.{daemons_are_fine, stamp_order}
 use Rattle.sl_run_law.proofs.Place.Finding.{given_by, same_text}
 use Rattle.sl_run_law.proofs.Place.Looks.{Heard, heard}
 use Rattle.sl_run_law.proofs.Place.Reading.{IsPromised, IsShown, call_law, read_of, reads_back, sector_shown}
-use Rattle.sl_run_law.proofs.Place.Seats.{Delta_home, HomeBefore, IsHome, Lease_home, home_early, initial_in, sized_in}
+use Rattle.sl_run_law.proofs.Place.Seats.{Delta_home, HomeBefore, IsHome, Lease_home, home_early, initial_in, plain_in, sized_in}
 use Rattle.sl_trace.specs.Leases.{is_leader_of, is_on, spot_of_call}
 use Rattle.sl_run_law.proofs.Place.Sizes.{IsSized, sector_fits}
 use Rattle.sl_plain.proofs.Lists.{kept_inside}
 use Rattle.sl_plain.proofs.Numbers.{no_times_more}
+use Rattle.sl_run.proofs.PlainAreas.{spelled_plain}
 use Rattle.sl_run.specs.Events.{sectors_of}
 use Rattle.sl_run.specs.Headers.{IsHeader}
 use Rattle.sl_run.specs.Runs.{Happening}
@@ -26,24 +27,24 @@ use Rattle.sl_sector.specs.Spelling.{leader_in}
 use Rattle.sl_sector.specs.declared.sector.Bad.{Bad}
 use Rattle.sl_sector.specs.declared.sector.DeltaRec.{DeltaRec}
 use Rattle.sl_sector.specs.declared.sector.Leader.{Leader}
-use Rattle.sl_sector.specs.declared.sector.Rec.TheVariants.{BlockIs, DeltaIs, LeaderIs, RequestIs, ValueIs}
+use Rattle.sl_sector.specs.declared.sector.Rec.TheVariants.{BlockIs, DeltaIs, LeaderIs, PairIs, PairLeaderIs, RequestIs, ValueIs}
 use Rattle.sl_sector.specs.declared.sector.Rec.{Rec}
 use Rattle.sl_trace_law.proofs.Sessions.Making.{calls_are_made}
 use Rattle.sl_trace_law.specs.Sessions.Promises.{IsMade, IsSession, front_of, made_as}
 use Rattle.sl_trace.specs.Sessions.{calls_of}
 use Rattle.sl_trace.specs.declared.session.Session.{Session}
 use Rattle.sl_trace.specs.Traces.{Setting, Submitted, Trace, gave, submitted}
-use Rattle.sl_trace.specs.declared.effects.LeaseStep.TheVariants.{ClearMode, FreeLeader, Phase1Read, Phase1Write, Phase2Read, Phase2Write, ReadArea, ReadBeforeFree, SetMode, TakeLeader}
+use Rattle.sl_trace.specs.declared.effects.LeaseStep.TheVariants.{ClearMode, FreeLeader, Phase1Read, Phase1Write, Phase2Read, Phase2Write, ReadAgain, ReadArea, ReadBeforeBlock, ReadBeforeFree, SetMode, TakeLeader}
 use Rattle.sl_trace.specs.declared.effects.LeaseStep.{LeaseStep}
 use Rattle.sl_trace.specs.declared.effects.Op.TheVariants.{ReadSectors}
 use Rattle.sl_trace.specs.declared.effects.Purpose.TheVariants.{Joining, Lease, Leaving, Renewal, RequestRead, RequestWrite, SeeRequest, Survey, ValueRead, ValueWrite}
 use Rattle.sl_trace.specs.declared.effects.Purpose.{Purpose}
 use Rattle.sl_trace.specs.declared.effects.Spot.{Spot}
 use Rattle.sl_trace.specs.declared.effects.Work.{Work}
-use Rattle.sl_words.proofs.CaseLaws.{false_is_true, none_some, some_value}
+use Rattle.sl_words.proofs.CaseLaws.{false_is_true, none_some, some_value, true_is_false}
 use Rattle.sl_words.proofs.WordLaws.{and_true}
 use Rattle.std.proofs.Common.{ap, arith, inl, inr, refl, subst, sym, ◌∙◌}
-use Rattle.std.specs.Prelude.{Contains, Err, IsTrue, List, None, Ok, Option, Result, Some, bytes_eq, filter, option_and_then, true, ℕ, ◌%◌, ◌&&◌, ◌*◌, ◌+◌, ◌-◌, ◌<◌, ◌==◌, ◌≡◌, ◌≤◌}
+use Rattle.std.specs.Prelude.{Contains, Err, IsTrue, List, None, Ok, Option, Result, Some, bytes_eq, false, filter, option_and_then, true, ℕ, ◌%◌, ◌&&◌, ◌*◌, ◌+◌, ◌-◌, ◌<◌, ◌==◌, ◌≡◌, ◌≤◌, ◌⊎◌}
 
 -- ---- a read of a leader
 
@@ -62,8 +63,10 @@ and_two n = omega arith
 
 lease_read : (st : Setting) (at : Spot) (c : Submitted) (work : Work) (step : LeaseStep) → is_leader_read (Lease work step) ≡ true → IsRightRead st at c (Lease work step)
     → IsBaseRead at c
-lease_read st at c work (ReadArea name) h law = record { offset = law.0; count = st.layout.hosts + 2; op = law.1; some = and_two st.layout.hosts }
-lease_read st at c work ReadBeforeFree h law = record { offset = law.0; count = st.layout.hosts + 2; op = law.1; some = and_two st.layout.hosts }
+lease_read st at c work (ReadArea name) h law = record { offset = law.0; count = area_sectors st.layout; op = law.1; some = and_two (block_sectors st.layout) }
+lease_read st at c work ReadBeforeFree h law = record { offset = law.0; count = area_sectors st.layout; op = law.1; some = and_two (block_sectors st.layout) }
+lease_read st at c work ReadBeforeBlock h law = absurd (false_is_true h)
+lease_read st at c work (ReadAgain read) h law = absurd (false_is_true h)
 lease_read st at c work Phase1Write h law = absurd (false_is_true h)
 lease_read st at c work Phase1Read h law = absurd (false_is_true h)
 lease_read st at c work Phase2Write h law = absurd (false_is_true h)
@@ -109,6 +112,8 @@ leader_in_is (Ok (LeaderIs e)) l h = ap (λ x. Ok (LeaderIs x)) (some_value e l 
 leader_in_is (Ok (BlockIs e)) l h = absurd (none_some l h)
 leader_in_is (Ok (RequestIs e)) l h = absurd (none_some l h)
 leader_in_is (Ok (ValueIs e)) l h = absurd (none_some l h)
+leader_in_is (Ok (PairIs e)) l h = absurd (none_some l h)
+leader_in_is (Ok (PairLeaderIs e)) l h = absurd (none_some l h)
 leader_in_is (Err bad) l h = absurd (none_some l h)
 
 no_delta : (d : DeltaRec) (l : Leader) (r : Rec) → r ≡ DeltaIs d → r ≡ LeaderIs l → ⊥
@@ -183,6 +188,12 @@ leader_read st es s at l there =
     let bytes = bytes_of st.layout (gave f.0) l f.2 in
     record { call = f.0; there = inside.0; reads = both.0; on = both.1; bytes = bytes.0; given = bytes.1; spelled = bytes.2 }
 
+-- Without pairs none is made for a torn one.
+plainly : (st : Setting) (es : Trace) (s : Session) (at : Spot) (l : Leader) → st.layout.paired ≡ false
+    → Contains (leaders_read st es s at) l ⊎ IsLeaderGiven st es s at l → Contains (leaders_read st es s at) l
+plainly st es s at l plain (inl there) = there
+plainly st es s at l plain (inr given) = absurd (true_is_false (sym given.0 ∙ plain))
+
 reads_some : (n k : ℕ) → k ≡ n → 0 < n → 0 < k
 reads_some n k e h = omega (arith, e, h)
 
@@ -227,7 +238,8 @@ verified_leased p h xs b run m a d is has law s its q k made stamped home resour
     let layout : d.setting.layout ≡ w.layout = (b.of_world p h xs run m a d is has).layout in
     let z : IsSized h.geometry w.layout = sized_in p h xs run in
     let l : Leader = verified.0 in
-    let rd = leader_read d.setting (front_of k) s (spot_of_call d.setting.layout (made_as k)) l verified.1 in
+    let rd = leader_read d.setting (front_of k) s (spot_of_call d.setting.layout (made_as k)) l
+    (plainly d.setting (front_of k) s (spot_of_call d.setting.layout (made_as k)) l (ap (λ (g : Layout). g.paired) layout ∙ plain_in p h xs run) verified.1) in
     let told : Heard d.trace s q.at rd.bytes rd.call = heard d.trace s q k rd.bytes rd.call rd.there rd.given in
     let right = right_read d.setting d.trace s rd.call law its told.inside told.mine rd.reads in
     let r = read_of b p h xs run m a d is has rd.call told.inside right.count right.op rd.bytes rd.given in
@@ -237,7 +249,8 @@ verified_leased p h xs b run m a d is has law s its q k made stamped home resour
     stamp_order w.step d.stamps r.answered.at q.at r.stamp made (daemons_are_fine p h xs run m a d is has).stamps r.entry stamped (told.answered r.answered r.its) in
     let spelled : leader_of w.layout rd.bytes ≡ Some l = subst (λ g. leader_of g rd.bytes ≡ Some l) layout rd.spelled in
     let place = shown_leader p h xs b run rd.call.call.path (rd.call.call.offset + 0 * w.layout.sector) (sector_of w.layout rd.bytes 0) r.stamp.step l
-    (home_early h w made.step r.stamp.step early home) (leader_in_is (record_in w.layout (sector_of w.layout rd.bytes 0)) l spelled) shown in
+    (home_early h w made.step r.stamp.step early home) (leader_in_is (record_in w.layout (sector_of w.layout rd.bytes 0)) l
+    (sym (spelled_plain w.layout (plain_in p h xs run) (record_in w.layout (sector_of w.layout rd.bytes 0))) ∙ spelled)) shown in
     let on = and_true (bytes_eq rd.call.call.path q.call.path) (in_area d.setting.layout (q.call.offset - q.call.offset % d.setting.layout.area) rd.call.call.offset) rd.on in
     leased_by h w s q rd.call resource l run.header z place (same_text rd.call.call.path q.call.path on.0)
     (subst (λ (g : Layout). rd.call.call.offset ≡ rd.call.call.offset - rd.call.call.offset % g.area) layout right.offset)

@@ -26,7 +26,7 @@ use Rattle.sl_run.specs.declared.header.SessionLine.{SessionLine}
 use Rattle.sl_sector.specs.Spelling.{delta_in}
 use Rattle.sl_sector.specs.declared.sector.Bad.{Bad}
 use Rattle.sl_sector.specs.declared.sector.DeltaRec.{DeltaRec}
-use Rattle.sl_sector.specs.declared.sector.Rec.TheVariants.{BlockIs, DeltaIs, LeaderIs, RequestIs, ValueIs}
+use Rattle.sl_sector.specs.declared.sector.Rec.TheVariants.{BlockIs, DeltaIs, LeaderIs, PairIs, PairLeaderIs, RequestIs, ValueIs}
 use Rattle.sl_sector.specs.declared.sector.Rec.{Rec}
 use Rattle.sl_trace.specs.Sessions.{sessions}
 use Rattle.sl_trace.specs.declared.session.Session.{Session}
@@ -62,6 +62,10 @@ pub record IsSeated (h : Header) (w : World) (s : Session) : Type 0 where
 
 pub sized_in : (p : Program) (h : Header) (xs : List Happening) → LawfulRun p h xs → IsSized h.geometry (world_at p h xs).layout
 sized_in p h xs run = subst (IsSized h.geometry) (sym (layout_is p h xs)) (sized p.digest h.geometry run.header.geometry)
+
+-- .. where each host's block has one sector.
+pub plain_in : (p : Program) (h : Header) (xs : List Happening) → LawfulRun p h xs → (world_at p h xs).layout.paired ≡ false
+plain_in p h xs run = (sized_in p h xs run).paired ∙ run.header.unpaired
 
 -- ---- a session that is given
 
@@ -154,6 +158,8 @@ delta_in_is (Ok (LeaderIs e)) d h = absurd (none_some d h)
 delta_in_is (Ok (BlockIs e)) d h = absurd (none_some d h)
 delta_in_is (Ok (RequestIs e)) d h = absurd (none_some d h)
 delta_in_is (Ok (ValueIs e)) d h = absurd (none_some d h)
+delta_in_is (Ok (PairIs e)) d h = absurd (none_some d h)
+delta_in_is (Ok (PairLeaderIs e)) d h = absurd (none_some d h)
 delta_in_is (Err bad) d h = absurd (none_some d h)
 
 pub same_delta : (d e : DeltaRec) → DeltaIs d ≡ DeltaIs e → d ≡ e

@@ -1,6 +1,6 @@
 -- What the table of sizes gives of a layout, and the arithmetic of its areas and sectors, whatever their sizes.
 use Rattle.sl_area.proofs.SizeLaws.{HasRoom, has_room}
-use Rattle.sl_area.specs.Layouts.{IsGeometry, Layout, Sizes, layout_with}
+use Rattle.sl_area.specs.Layouts.{IsGeometry, Layout, Sizes, layout_with, roomy}
 use Rattle.sl_sector.specs.Spelling.{IsSectorSize}
 use Rattle.sl_words.proofs.CaseLaws.{false_is_true}
 use Rattle.sl_words.proofs.WordLaws.{and_true, or_true}
@@ -20,14 +20,15 @@ pub record IsSized (s : Sizes) (g : Layout) : Type 0 where
   pub hosts : (1 ≤ g.hosts) × (g.hosts ≤ 2000)
   pub room : g.sector * (g.hosts + 3) ≤ g.area
   pub whole : g.area % g.sector ≡ 0
+  pub paired : g.paired ≡ s.paired
 
-whole_row : (s : Sizes) (sector area most : ℕ) (rest : Bool) → area % sector ≡ 0 → (sector == s.sector && area == s.area && is_in_range 1 most s.hosts || rest) ≡ true
+whole_row : (s : Sizes) (sector area most : ℕ) (rest : Bool) → area % sector ≡ 0 → (sector == s.sector && area == s.area && is_in_range 1 (roomy s.paired most) s.hosts || rest) ≡ true
     → (rest ≡ true → s.area % s.sector ≡ 0) → s.area % s.sector ≡ 0
-whole_row s sector area most rest zero h others = by (or_true (sector == s.sector && area == s.area && is_in_range 1 most s.hosts) rest h) where
-  by : ((sector == s.sector && area == s.area && is_in_range 1 most s.hosts) ≡ true) ⊎ (rest ≡ true) → s.area % s.sector ≡ 0
+whole_row s sector area most rest zero h others = by (or_true (sector == s.sector && area == s.area && is_in_range 1 (roomy s.paired most) s.hosts) rest h) where
+  by : ((sector == s.sector && area == s.area && is_in_range 1 (roomy s.paired most) s.hosts) ≡ true) ⊎ (rest ≡ true) → s.area % s.sector ≡ 0
   by (inr is) = others is
   by (inl is) =
-      let both = and_true (sector == s.sector) (area == s.area) (and_true (sector == s.sector && area == s.area) (is_in_range 1 most s.hosts) is).0 in
+      let both = and_true (sector == s.sector) (area == s.area) (and_true (sector == s.sector && area == s.area) (is_in_range 1 (roomy s.paired most) s.hosts) is).0 in
       subst (λ n. n % s.sector ≡ 0) ((Decides-eqb area s.area).0 both.1) (subst (λ n. area % n ≡ 0) ((Decides-eqb sector s.sector).0 both.0) zero)
 
 are_whole : (s : Sizes) → IsGeometry s → s.area % s.sector ≡ 0
@@ -39,7 +40,7 @@ are_whole s h =
     whole_row s 4096 8388608 2000 _ (omega arith) h (λ h. absurd (false_is_true h))))))
 
 pub sized : (digest : _) (s : Sizes) → IsGeometry s → IsSized s (layout_with digest s)
-sized digest s h = let r : HasRoom s = has_room s h in record { area = refl; sector = r.sector; hosts = r.hosts; room = r.room; whole = are_whole s h }
+sized digest s h = let r : HasRoom s = has_room s h in record { area = refl; sector = r.sector; hosts = r.hosts; room = r.room; whole = are_whole s h; paired = refl }
 
 pub sector_fits : {s : Sizes} (g : Layout) → IsSized s g → IsSectorSize g.sector
 sector_fits g z = z.sector

@@ -5,6 +5,7 @@ use Rattle.sl_area.specs.Places.{fresh_block, fresh_leader, in_area, no_request,
 use Rattle.sl_run_law.proofs.Landing.Initial.{block_high, block_low, fresh_block_is, is_size, lockspace_by, no_number, no_request_is, no_value_is}
 use Rattle.sl_plain.proofs.Numbers.{both_next, zero_least, zero_less}
 use Rattle.sl_plain.proofs.Truth.{or_false}
+use Rattle.sl_run.proofs.PlainAreas.{initial_plain}
 use Rattle.sl_run.specs.Headers.{IsHeader}
 use Rattle.sl_run.specs.Worlds.{initial_bytes, initial_of_lockspace, initial_of_resource, initial_record}
 use Rattle.sl_run.specs.declared.header.Header.{Header}
@@ -88,7 +89,8 @@ initial_in_resource digest h path offset (Some l) r is ok eq =
     let space = line.2 in
     let k : ℕ = (offset - l.offset) / h.geometry.sector in
     resource_by digest h l k (k == 0) (k == 1) (nat_lt k (h.geometry.hosts + 2)) ((k + 1) * h.geometry.sector == h.geometry.area) r refl refl refl ok
-    (subst (λ n. IsTrue (is_name n)) space.2 (ok.lockspaces space.0 space.1).0) line.0 eq
+    (subst (λ n. IsTrue (is_name n)) space.2 (ok.lockspaces space.0 space.1).0) line.0
+    (sym (initial_plain (layout_with digest h.geometry) ok.unpaired l k) ∙ eq)
 
 initial_by : (digest : List ℕ → List ℕ) (h : Header) (path : List ℕ) (offset : ℕ) (o : Option LockspaceLine) (r : Rec) → line_at (layout_with digest h.geometry) h path offset ≡ o → IsHeader h
     → elim o as (λ x. Option Rec) [

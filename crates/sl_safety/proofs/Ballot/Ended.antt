@@ -19,7 +19,8 @@ use Rattle.sl_run.specs.LawfulBlock.{ReadAfter}
 use Rattle.sl_trace_law.proofs.Leases.RestLaws.{phase2_is_read}
 use Rattle.sl_trace_law.specs.Leases.Ways.{Phase2ReadRests, lease_among}
 use Rattle.sl_trace.specs.Ballots.{stop_of, value_of}
-use Rattle.sl_trace.specs.Leases.{Phase2_read, Phase2_write, block_submitted, block_written, blocks_given, is_at, is_lease_call, is_on, spot_of_call}
+use Rattle.sl_trace.specs.Leases.{Phase2_read, Phase2_write, block_submitted, block_written, is_at, is_lease_call, is_on, spot_of_call}
+use Rattle.sl_history.specs.Resources.Once.{blocks_once as blocks_given}
 use Rattle.sl_run_law.proofs.Place.Proven.{promised}
 use Rattle.sl_run_law.proofs.Place.Reading.{lawful_daemon, session_inside}
 use Rattle.sl_history.proofs.Resources.Above.{line_aligned, reads_work}

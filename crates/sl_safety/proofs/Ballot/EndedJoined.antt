@@ -2,7 +2,7 @@
 -- has joined its lockspace.
 use Rattle.sl_area.specs.Layouts.{Layout}
 use Rattle.sl_safety.proofs.Ballot.Ended.{EndingRead}
-use Rattle.sl_safety.proofs.Ballot.EndedAll.{ends_in}
+use Rattle.sl_safety.proofs.Ballot.EndedAll.{ends_in, plain_of}
 use Rattle.sl_history.proofs.Giving.Hosts.{written_in}
 use Rattle.sl_safety.proofs.Ballot.Phase2Stands.{stands_at}
 use Rattle.sl_safety.specs.Ballot.Enders.{EndersAreJoined}
@@ -58,7 +58,7 @@ writes_there p h xs run x sent writes at zero on =
     let d = made_of o in
     let q : Submitted = o.trace.submitted_as in
     let st : Setting = o.trace.daemon.setting in
-    let b = block_sent x.course writes in
+    let b = block_sent p h xs run x sent writes in
     let law = call_law st o.trace.daemon.trace o.session q d o.trace.lawful o.its o.mine in
     let write : LawfulAreaWrite st (front_of d) o.session (made_as d) (BlockIs b.0) =
     (law.0.area.0.writes d.index q.call o.session d.call law.1 (BlockIs b.0) (ap (λ (c : Call). record_of c.op) o.trace.is.call ∙ b.1) refl).1 in
@@ -110,5 +110,5 @@ enders_are_joined p h xs run i f its later front whole at base q has =
     let w : World = world_at p h xs in
     let g : Layout = w.layout in
     let zero : at.base % g.area ≡ 0 = eqb-true (at.base % g.area) 0 (and_true (at.base % g.area == 0) (nat_lt at.base (10 ^ 12)) base).0 in
-    let k = ends_in f later front whole at q (ended (setting_in f).layout (lease_calls (setting_in f) front f.session at) q has) in
+    let k = ends_in f (plain_of p h xs run i f its) later front whole at q (ended (setting_in f).layout (lease_calls (setting_in f) front f.session at) q has) in
     enders p h xs run i f its at zero k.own k.blocks k.ending

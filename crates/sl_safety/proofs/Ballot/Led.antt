@@ -1,4 +1,6 @@
 -- Each leader was written by a session whose own ballot of its instance had ended with itself.
+use Rattle.sl_history.proofs.Resources.Owning.{plain_at}
+use Rattle.sl_trace.proofs.PlainReads.{given_plain}
 use Rattle.sl_safety.proofs.Ballot.Ended.{AnsweredBy, EndingRead, ballot_ended}
 use Rattle.sl_safety.proofs.Ballot.EndedGrown.{unkept}
 use Rattle.sl_safety.proofs.Ballot.ReasonEvidence.{found_of_standing, sender_found}
@@ -38,7 +40,7 @@ use Rattle.sl_words.proofs.WordLaws.{and_true}
 use Rattle.std.proofs.Common.{ap, append_assoc, subst, sym, ◌∙◌}
 use Rattle.std.proofs.lemmas.Bool.{eqb-true}
 use Rattle.std.specs.Option.{option_map_or}
-use Rattle.std.specs.Prelude.{Contains, List, Option, Some, filter, is_some, option_and_then, true, [], ℕ, ◌&&◌, ◌++◌, ◌==◌, ◌∷◌, ◌≡◌, ◌≤◌}
+use Rattle.std.specs.Prelude.{false, Contains, List, Option, Some, filter, is_some, option_and_then, true, [], ℕ, ◌&&◌, ◌++◌, ◌==◌, ◌∷◌, ◌≡◌, ◌≤◌}
 
 -- ---- an end among the calls before
 
@@ -50,9 +52,9 @@ record EndsAmong (f : Found) (older : List Submitted) (at : Spot) (p : ℕ × Ow
   among : IsAmong (setting_in f) f.session at older ending.read
   what : (own.lver, value_of own) ≡ p
 
-ends_among : (f : Found) (newer older : List Submitted) → submitted (trace_of f) ≡ newer ++ older → (at : Spot) (p : ℕ × Owner)
+ends_among : (f : Found) → (setting_in f).layout.paired ≡ false → (newer older : List Submitted) → submitted (trace_of f) ≡ newer ++ older → (at : Spot) (p : ℕ × Owner)
     → Ended (setting_in f).layout (lease_among (setting_in f) f.session at older) p → EndsAmong f older at p
-ends_among f newer older is at p e =
+ends_among f plain newer older is at p e =
     let st : Setting = setting_in f in
     let ses : Session = f.session in
     let u = unkept (λ m. is_lease_call m && is_on st.layout at m.call) (filter (is_call_of ses) older) e.newer e.read e.before e.is in
@@ -73,7 +75,7 @@ ends_among f newer older is at p e =
         on = both.1;
         reads = e.reads;
         block = ap (λ ms. block_submitted ms) before ∙ e.block;
-        given = e.given;
+        given = given_plain st.layout plain e.read e.before e.blocks e.given;
         clear = e.clear;
       };
       among = record {
@@ -135,7 +137,7 @@ won_by p h xs r run there differ hosts l k =
     (ap (λ (c : Call). option_and_then leader_of_record (record_of c.op)) s.told.pair.call ∙ k.wrote) s.session s.known) in
     let sub = rests.submission in
     let self : Owner = me (cut_at sub.place sub.entry ∷ sub.past) s.session in
-    let e = ends_among f (s.told.newer ++ s.told.one ∷ []) s.told.older (s.told.is ∙ sym (append_assoc s.told.newer (s.told.one ∷ []) s.told.older)) at (k.leader.lver, self) rests.won in
+    let e = ends_among f (plain_at p h xs run x s) (s.told.newer ++ s.told.one ∷ []) s.told.older (s.told.is ∙ sym (append_assoc s.told.newer (s.told.one ∷ []) s.told.older)) at (k.leader.lver, self) rests.won in
     let by = answered_before p h xs run x s work.work work.area e.ending.read (subst (λ a. IsAmong st s.session a s.told.older e.ending.read) (sym spot) e.among)
     (reads_work st.layout e.ending.read e.blocks e.ending.given) in
     let early : AnsweredBy f e.ending.read l =

@@ -1,6 +1,6 @@
 -- Steps of a lease are apart; and a session that works on a resource has a host's id.
 use Rattle.sl_safety.specs.Ballot.Endings.{HostsJoin}
-use Rattle.sl_trace.specs.Leases.{Area_read, Leader_freed, Leader_taken, Mode_cleared, Mode_set, Phase1_read, Phase1_write, Phase2_read, Phase2_write, Read_before_free, StepKind, is_at, kind_of_step, lease_step, same_kind}
+use Rattle.sl_trace.specs.Leases.{Area_read, Leader_freed, Leader_taken, Mode_cleared, Mode_set, Phase1_read, Phase1_write, Phase2_read, Phase2_write, Read_before_block, Read_before_free, StepKind, is_at, kind_of_step, lease_step, same_kind}
 use Rattle.sl_history.proofs.Giving.Hosts.{own_host}
 use Rattle.sl_history.proofs.Resources.Standing.{Standing}
 use Rattle.sl_history.specs.Resources.Histories.{is_host}
@@ -33,6 +33,7 @@ only_phase1 Mode_set h = absurd (false_is_true h)
 only_phase1 Leader_freed h = absurd (false_is_true h)
 only_phase1 Mode_cleared h = absurd (false_is_true h)
 only_phase1 Read_before_free h = absurd (false_is_true h)
+only_phase1 Read_before_block h = absurd (false_is_true h)
 
 apart_by : (k : StepKind) (o : Option (Work × LeaseStep)) → at_kind Phase1_write o ≡ true → at_kind k o ≡ true → same_kind Phase1_write k ≡ true
 apart_by k None one other = absurd (false_is_true one)

@@ -1,5 +1,6 @@
 -- What a session writes at the step of phase 2 is a phase 2 of the history: it accepts what its phase 1 began, after a read that stopped
 -- nothing.
+use Rattle.sl_trace.proofs.PlainReads.{given_plain}
 use Rattle.sl_safety.proofs.Ballot.KeptBallots.{Phase2sAre}
 use Rattle.sl_safety.proofs.Ballot.Phase2Apart.{host_there}
 use Rattle.sl_safety.proofs.Ballot.Phase2Between.{Acked, acked_by, last_between, ok_is}
@@ -20,14 +21,15 @@ use Rattle.sl_trace_law.proofs.Leases.NumberLaws.{number_is_place}
 use Rattle.sl_trace_law.proofs.Leases.RestLaws.{phase2_follows}
 use Rattle.sl_trace_law.specs.Leases.Ways.{Phase2Rests}
 use Rattle.sl_trace.specs.Ballots.{ballot_blocks, moded_block, phase2_block, value_to_write}
-use Rattle.sl_trace.specs.Leases.{Phase1_write, Phase2_write, blocks_given, is_at, is_on}
+use Rattle.sl_trace.specs.Leases.{Phase1_write, Phase2_write, is_at, is_on}
+use Rattle.sl_history.specs.Resources.Once.{blocks_once as blocks_given}
 use Rattle.sl_plain.proofs.Numbers.{lt_then_le}
 use Rattle.sl_history.proofs.Resources.Above.{IsAmong, WrittenAt, answer_step, answered_before, is_among, line_aligned, reads_work, told_spot, written_at}
 use Rattle.sl_history.proofs.Giving.Hosts.{own_host}
 use Rattle.sl_history.proofs.Resources.Calls.{worker_joined}
 use Rattle.sl_history.proofs.Resources.Calls.{block_works as block_is_work}
 use Rattle.sl_history.proofs.Resources.Founding.{is_last, writer_is, writes_at}
-use Rattle.sl_history.proofs.Resources.Owning.{block_is_lease, block_told, block_works, layout_at, lease_is_work, number_at, session_as}
+use Rattle.sl_history.proofs.Resources.Owning.{block_is_lease, block_told, block_works, layout_at, lease_is_work, number_at, plain_at, session_as}
 use Rattle.sl_history.proofs.Resources.Standing.{Standing, parts, standing}
 use Rattle.sl_history.specs.Resources.Histories.{history_block}
 use Rattle.sl_history.specs.Resources.Promises.{NamesDiffer, history_of_line, spot_of_line}
@@ -115,6 +117,7 @@ phase_read p h xs run r there hosts e x k =
     let es : Trace = s.daemon.trace in
     let q : Submitted = k.rests.read in
     let own : Block = k.rests.own in
+    let once : blocks_given st.layout q ≡ Some k.rests.blocks = given_plain st.layout (plain_at p h xs run x.sent s) q k.rests.before k.rests.blocks k.rests.given in
     let among = is_among st s.session at s.told.older q k.rests.of_lease.0 in
     let cut = parts s.told.older q among.has in
     let whole : submitted es ≡ (s.told.newer ++ s.told.one ∷ cut.newer) ++ q ∷ cut.older =
@@ -132,7 +135,7 @@ phase_read p h xs run r there hosts e x k =
     let after : step_of k.y.sent < step_of z.sent = lt_then_le (step_of k.y.sent) acked.stamp.step (step_of z.sent) (sv.timed.answered acked.stamp acked.answered) acked.by in
     let spot = told_spot p h xs run at (line_aligned p h xs run r there) x.sent s x.on in
     let by = answered_before p h xs run x.sent s (block_works x.sent.course x.block x.wrote) k.area q (subst (λ a. IsAmong st s.session a s.told.older q) (sym spot) among)
-    (reads_work st.layout q k.rests.blocks k.rests.given) in
+    (reads_work st.layout q k.rests.blocks once) in
     let heard = heard_of s.daemon z.sent.course q by.answer z.pair by.answered in
     let early : heard.stamp.step ≤ step_of x.sent = answer_step p h xs run x.sent s q by by.answer by.answered heard.stamp heard.entry in
     let before : step_of z.sent < step_of x.sent = lt_then_le (step_of z.sent) heard.stamp.step (step_of x.sent) (z.stands.timed.answered heard.stamp heard.answered) early in
@@ -152,7 +155,7 @@ phase_read p h xs run r there hosts e x k =
         on = ap (λ (c : Call). is_on w.layout at c) (sym z.pair.call) ∙ ap (λ g. is_on g at q.call) (sym (layout_at p h xs run x.sent s)) ∙ among.on;
         joined = joined;
         host = host_there w r.lockspace hosts z.sent z.stands joined;
-        given = ap (λ (d : Daemon). blocks_given d.setting.layout z.stands.told.one) z.daemon ∙ ap (λ m. blocks_given st.layout m) z.one ∙ k.rests.given;
+        given = ap (λ (d : Daemon). blocks_given d.setting.layout z.stands.told.one) z.daemon ∙ ap (λ m. blocks_given st.layout m) z.one ∙ once;
         last = k.y.sent;
         last_has = k.y.has;
         last_on = k.y.on;

@@ -3,7 +3,8 @@
 use Rattle.sl_ballots.specs.Ballots.{IsClean}
 use Rattle.sl_ballots.specs.History.{History}
 use Rattle.sl_trace.specs.Ballots.{ballot_blocks, known_block, stop_of, with_own}
-use Rattle.sl_trace.specs.Leases.{blocks_given, is_on}
+use Rattle.sl_trace.specs.Leases.{is_on}
+use Rattle.sl_history.specs.Resources.Once.{blocks_once as blocks_given}
 use Rattle.sl_plain.proofs.Numbers.{one_again, zero_is_least}
 use Rattle.sl_history.proofs.Giving.Hosts.{own_host}
 use Rattle.sl_history.proofs.Giving.Proven.{reads_are_given}

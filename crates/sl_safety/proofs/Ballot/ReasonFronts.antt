@@ -74,18 +74,18 @@ end_of : (o : Option Block) → option_and_then (λ own. option_and_then (λ (bl
 end_of None = refl
 end_of (Some own) = refl
 
-no_end : (g : Layout) (m : Submitted) (ms : List Submitted) → blocks_given g m ≡ None → (b : Bool) → is_at Phase2_read m ≡ b → ended_ballot g m ms ≡ None
+no_end : (g : Layout) (m : Submitted) (ms : List Submitted) → blocks_given g m ms ≡ None → (b : Bool) → is_at Phase2_read m ≡ b → ended_ballot g m ms ≡ None
 no_end g m ms none true is =
     ap (λ b. elim b as (λ z. Option (ℕ × Owner)) [
       | false ↦ None
-      | true ↦ option_and_then (λ own. option_and_then (λ blocks. value_in_end own (stop_of own blocks)) (blocks_given g m)) (block_submitted ms)
+      | true ↦ option_and_then (λ own. option_and_then (λ blocks. value_in_end own (stop_of own blocks)) (blocks_given g m ms)) (block_submitted ms)
     ]) is
     ∙ ap (λ (o : Option (List (Option Block))). option_and_then (λ own. option_and_then (λ blocks. value_in_end own (stop_of own blocks)) o) (block_submitted ms)) none
     ∙ end_of (block_submitted ms)
 no_end g m ms none false is =
     ap (λ b. elim b as (λ z. Option (ℕ × Owner)) [
       | false ↦ None
-      | true ↦ option_and_then (λ own. option_and_then (λ blocks. value_in_end own (stop_of own blocks)) (blocks_given g m)) (block_submitted ms)
+      | true ↦ option_and_then (λ own. option_and_then (λ blocks. value_in_end own (stop_of own blocks)) (blocks_given g m ms)) (block_submitted ms)
     ]) is
 
 ends_with : (g : Layout) (m : Submitted) (ms : List Submitted) → ended_ballot g m ms ≡ None → ended_ballots g (m ∷ ms) ≡ ended_ballots g ms
@@ -94,7 +94,7 @@ ends_with g m ms none = ap (λ o. elim o as (λ z. List (ℕ × Owner)) [ None �
 abbrev leased : Setting → Spot → List Submitted → List Submitted
 leased st at ms = filter (λ m. is_lease_call m && is_on st.layout at m.call) ms
 
-ends_by : (st : Setting) (m : Submitted) (ms : List Submitted) → blocks_given st.layout m ≡ None → (b : Bool) → ended_ballots st.layout (cond b (m ∷ ms) ms) ≡ ended_ballots st.layout ms
+ends_by : (st : Setting) (m : Submitted) (ms : List Submitted) → blocks_given st.layout m ms ≡ None → (b : Bool) → ended_ballots st.layout (cond b (m ∷ ms) ms) ≡ ended_ballots st.layout ms
 ends_by st m ms none true = ends_with st.layout m ms (no_end st.layout m ms none (is_at Phase2_read m) refl)
 ends_by st m ms none false = refl
 

@@ -1,6 +1,7 @@
 -- What a read of an area gives as the leader: the one that stood there at first, or one that was submitted before the answer.
+use Rattle.sl_run.proofs.PlainAreas.{initial_plain, spelled_plain}
 use Rattle.sl_area.specs.Layouts.{Layout, layout_with, record_in, sector_with}
-use Rattle.sl_area.specs.Places.{fresh_block, fresh_leader, in_area, leader_of, no_request, no_value, sector_of}
+use Rattle.sl_area.specs.Places.{area_sectors, fresh_block, fresh_leader, in_area, leader_of, no_request, no_value, sector_of}
 use Rattle.sl_run_law.proofs.Landing.Initial.{initial_is_record}
 use Rattle.sl_run.specs.LawfulArea.{IsAreaRead}
 use Rattle.sl_trace.specs.Leases.{is_area_read, is_on, leader_of_record, spot_of_call}
@@ -10,7 +11,7 @@ use Rattle.sl_run_law.proofs.Place.Finding.{same_read}
 use Rattle.sl_run_law.proofs.Place.Leased.{and_two, leader_in_is}
 use Rattle.sl_run_law.proofs.Place.Proven.{promised}
 use Rattle.sl_run_law.proofs.Place.Reading.{IsRead, IsShown, header_is, layout_is, read_of, reads_back, sector_shown}
-use Rattle.sl_run_law.proofs.Place.Seats.{sized_in}
+use Rattle.sl_run_law.proofs.Place.Seats.{plain_in, sized_in}
 use Rattle.sl_run_law.proofs.Place.Sizes.{area_has_bytes, sector_fits, sized}
 use Rattle.sl_plain.proofs.Numbers.{no_times_more, refl_le, trans_lt}
 use Rattle.sl_history.proofs.Resources.Latest.{sent_as}
@@ -87,21 +88,21 @@ of_resource g x k l false false true last eq = absurd cc
 of_resource g x k l false false false true eq = absurd cc
 of_resource g x k l false false false false eq = absurd (none_some (LeaderIs l) eq)
 
-initial_by : (g : Layout) (h : Header) (offset : ℕ) (l : Leader) (o : Option LockspaceLine) (q : Option ResourceLine)
+initial_by : (g : Layout) → g.paired ≡ false → (h : Header) (offset : ℕ) (l : Leader) (o : Option LockspaceLine) (q : Option ResourceLine)
     → elim o as (λ x. Option Rec) [
       | Some k ↦ initial_of_lockspace h k ((offset - k.offset) / g.sector)
       | None ↦ elim q as (λ x. Option Rec) [ Some x ↦ initial_of_resource g x ((offset - x.offset) / g.sector) | None ↦ None ]
     ] ≡ Some (LeaderIs l) → IsUnled l
-initial_by g h offset l None None eq = absurd (none_some (LeaderIs l) eq)
-initial_by g h offset l None (Some x) eq =
+initial_by g plain h offset l None None eq = absurd (none_some (LeaderIs l) eq)
+initial_by g plain h offset l None (Some x) eq =
     let k : ℕ = (offset - x.offset) / g.sector in
-    of_resource g x k l (k == 0) (k == 1) (nat_lt k (g.hosts + 2)) ((k + 1) * g.sector == g.area) eq
-initial_by g h offset l (Some k) q eq = absurd (of_lockspace h k ((offset - k.offset) / g.sector) l eq)
+    of_resource g x k l (k == 0) (k == 1) (nat_lt k (g.hosts + 2)) ((k + 1) * g.sector == g.area) (sym (initial_plain g plain x k) ∙ eq)
+initial_by g plain h offset l (Some k) q eq = absurd (of_lockspace h k ((offset - k.offset) / g.sector) l eq)
 
-initial_unled : (g : Layout) (h : Header) (path : List ℕ) (offset : ℕ) (l : Leader) → initial_record g h path offset ≡ Some (LeaderIs l) → IsUnled l
+initial_unled : (g : Layout) → g.paired ≡ false → (h : Header) (path : List ℕ) (offset : ℕ) (l : Leader) → initial_record g h path offset ≡ Some (LeaderIs l) → IsUnled l
 unfolding initial_record
-initial_unled g h path offset l eq =
-    initial_by g h offset l (find (λ k. bytes_eq k.path path && in_area g k.offset offset) h.lockspaces)
+initial_unled g plain h path offset l eq =
+    initial_by g plain h offset l (find (λ k. bytes_eq k.path path && in_area g k.offset offset) h.lockspaces)
     (find (λ r. bytes_eq r.path path && in_area g r.offset offset) h.resources) eq
 
 -- ---- what a landing spells
@@ -136,7 +137,7 @@ leader_shown p h xs run at bytes n l spells s =
           (wrote_it k.wrote.course l k.wrote.record_written k.wrote.writes back)
           (trans_lt k.wrote.course.made.step s.landing.step n k.wrote.after.0 s.early)
       | inr first ↦
-          Unled (initial_unled (layout_with p.digest h.geometry) h at.path at.base l
+          Unled (initial_unled (layout_with p.digest h.geometry) run.header.unpaired h at.path at.base l
           (first_spells p h xs run at.path at.base (LeaderIs l) (subst (λ (y : Landing). record_in w.layout y.bytes ≡ Ok (LeaderIs l)) first read)))
     ]
 
@@ -154,7 +155,8 @@ leader_looked p h xs m a d q k is bytes told l spells =
     let w : World = world_at p h xs in
     let layout = look_layout p h xs m a d q k in
     let right : IsAreaRead d.setting (spot_of_call d.setting.layout q) q = area_place p h xs m a d q k is in
-    let op : q.call.op ≡ ReadSectors (w.layout.hosts + 2) = right.1 ∙ ap (λ g. ReadSectors (g.hosts + 2)) layout in
+    let op : q.call.op ≡ ReadSectors (w.layout.hosts + 2) = right.1 ∙ ap (λ g. ReadSectors (area_sectors g)) layout
+    ∙ ap (λ b. ReadSectors (elim b as (λ z. ℕ) [ false ↦ w.layout.hosts | true ↦ 2 * w.layout.hosts ] + 2)) (plain_in p h xs k.run) in
     let offset : q.call.offset ≡ (spot_of_call w.layout q).base = right.0 ∙ ap (λ g. (spot_of_call g q).base) layout in
     let r = read_of promised p h xs k.run m a d k.at k.has q k.there (w.layout.hosts + 2) op bytes told in
     let shown = sector_shown promised p h xs k.run m a d k.at q bytes r 0 (subst (λ o. 0 < sectors_of o) (sym op) (and_two w.layout.hosts)) in
@@ -162,6 +164,6 @@ leader_looked p h xs m a d q k is bytes told l spells =
       bytes = bytes;
       read = r;
       seen = leader_shown p h xs k.run (spot_of_call w.layout q) (sector_of w.layout bytes 0) r.stamp.step l
-          (ap (λ g. leader_of g bytes) (sym layout) ∙ spells)
+          (sym (spelled_plain w.layout (plain_in p h xs k.run) (record_in w.layout (sector_of w.layout bytes 0))) ∙ ap (λ g. leader_of g bytes) (sym layout) ∙ spells)
           (subst (λ o. IsShown w q.call.path o (sector_of w.layout bytes 0) r.stamp.step) (no_times_more q.call.offset w.layout.sector ∙ offset) shown);
     }

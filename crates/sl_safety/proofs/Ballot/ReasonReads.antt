@@ -1,13 +1,14 @@
 -- What a session's read of an area gave, where it writes a block later: each block and the leader were submitted before, or stood there
 -- at first.
 use Rattle.sl_area.specs.Layouts.{Layout}
-use Rattle.sl_area.specs.Places.{area_blocks, blocks_in}
+use Rattle.sl_area.specs.Places.{BlocksRead, leader_of, leader_read}
 use Rattle.sl_safety.proofs.Ballot.ReasonLeaders.{LeaderSeen, Led, Unled, leader_looked}
 use Rattle.sl_run_law.proofs.Front.Having.{placed_at}
 use Rattle.sl_run.specs.LawfulBlock.{AreaRead}
 use Rattle.sl_trace_law.proofs.Leases.AgeLaws.{aged_lease, answer_stays, became}
 use Rattle.sl_trace_law.specs.Leases.Fronts.{Aged, AllAged}
-use Rattle.sl_trace.specs.Leases.{blocks_given, is_area_read, is_on, is_phase_read, spot_of_call}
+use Rattle.sl_trace.specs.Leases.{is_area_read, is_on, is_phase_read, spot_of_call}
+use Rattle.sl_history.specs.Resources.Once.{blocks_once as blocks_given}
 use Rattle.sl_run_law.proofs.Place.Finding.{given_by}
 use Rattle.sl_run_law.proofs.Place.Reading.{answer_gave}
 use Rattle.sl_plain.proofs.Numbers.{lt_then_le}
@@ -15,8 +16,11 @@ use Rattle.sl_history.proofs.Resources.Above.{IsAmong, answer_step, answered_bef
 use Rattle.sl_history.proofs.Resources.Reading.{IsWriter, seen_before}
 use Rattle.sl_history.specs.Resources.Promises.{spot_of_line}
 use Rattle.sl_run.specs.declared.header.ResourceLine.{ResourceLine}
-use Rattle.sl_history.proofs.Resources.Looking.{gives_area}
-use Rattle.sl_history.proofs.Resources.Owning.{layout_at, spot_is}
+use Rattle.sl_history.proofs.Resources.Once.{once_stays}
+use Rattle.sl_trace.proofs.PlainReads.{given_plain, leader_plain}
+use Rattle.sl_words.proofs.CaseLaws.{none_some}
+use Rattle.sl_trace.specs.Leases.{leader_given, read_given}
+use Rattle.sl_history.proofs.Resources.Owning.{layout_at, plain_at, spot_is}
 use Rattle.sl_history.proofs.Resources.Shows.{Seen}
 use Rattle.sl_history.proofs.Resources.Standing.{Standing}
 use Rattle.sl_history.specs.Resources.Sending.{Sent, step_of}
@@ -29,7 +33,7 @@ use Rattle.sl_sector.specs.declared.sector.Leader.{Leader}
 use Rattle.sl_trace.specs.Traces.{Answered, Setting, Submitted, Trace, bytes_given, gave, new_call, submitted}
 use Rattle.sl_trace.specs.declared.effects.Spot.{Spot}
 use Rattle.sl_words.specs.Words.{present}
-use Rattle.std.proofs.Common.{ap, subst, sym, ◌∙◌}
+use Rattle.std.proofs.Common.{ap, refl, subst, sym, ◌∙◌}
 use Rattle.std.specs.Prelude.{Contains, List, None, Option, Some, false, option_and_then, slice_get, true, ℕ, ◌≡◌, ◌≤◌}
 
 -- ---- what was seen once
@@ -45,11 +49,30 @@ gave_stays n was is bytes aged told =
     let a = answer_gave was.answer bytes told in
     ap (λ o. option_and_then (λ (z : Answered). bytes_given z.answer) o) (answer_stays n was is a.0 aged a.1 ∙ sym a.1) ∙ told
 
+-- ---- the leader that a read of the area gave
+
+-- It is what the bytes spell.
+leader_by : (g : Layout) → g.paired ≡ false → (l : Leader) (o : Option BlocksRead) (q : Option (List ℕ))
+    → option_and_then (λ (r : BlocksRead). option_and_then (λ bytes. leader_read g bytes r) q) o ≡ Some l
+    → (bytes : List ℕ) × (q ≡ Some bytes) × (leader_of g bytes ≡ Some l)
+leader_by g plain l None q is = absurd (none_some l is)
+leader_by g plain l (Some r) None is = absurd (none_some l is)
+leader_by g plain l (Some r) (Some bytes) is = (bytes, refl, sym (leader_plain g plain bytes r) ∙ is)
+
+leader_told : (g : Layout) → g.paired ≡ false → (m : Submitted) (ms : List Submitted) (l : Leader) → is_area_read m ≡ true → leader_given g m ms ≡ Some l
+    → (bytes : List ℕ) × (gave m ≡ Some bytes) × (leader_of g bytes ≡ Some l)
+leader_told g plain m ms l reads is =
+    leader_by g plain l (read_given g m ms) (gave m)
+    (sym (ap (λ b. elim b as (λ z. Option Leader) [
+      | false ↦ None
+      | true ↦ option_and_then (λ (r : BlocksRead). option_and_then (λ bytes. leader_read g bytes r) (gave m)) (read_given g m ms)
+    ]) reads) ∙ is)
+
 -- ---- what a read of the area gave
 
-pub record AreaSeen (w : World) (at : Spot) (g : Layout) (bytes : List ℕ) (l : Leader) (n : ℕ) : Type 0 where
+pub record AreaSeen (w : World) (at : Spot) (bs : List (Option Block)) (l : Leader) (n : ℕ) : Type 0 where
   pub leader : LeaderSeen w at l n
-  pub blocks : (b : Block) → Contains (present (area_blocks g bytes)) b → Seen w at b n
+  pub blocks : (b : Block) → Contains (present bs) b → Seen w at b n
 
 present_there : (xs : List (Option Block)) (b : Block) → Contains (present xs) b → (j : ℕ) × (slice_get xs j ≡ Some (Some b))
 present_there xs b has =
@@ -59,7 +82,7 @@ present_there xs b has =
 
 pub area_seen : (p : Program) (h : Header) (xs : List Happening) (r : ResourceLine) (x : Sent) (s : Standing (world_at p h xs) x) → IsWriter p h xs r x s → (n : ℕ) (front : Trace)
     → AllAged n (submitted front) s.told.older → (a : AreaRead s.daemon.setting front s.session (spot_of_line r))
-    → AreaSeen (world_at p h xs) (spot_of_line r) s.daemon.setting.layout a.bytes a.leader (step_of x)
+    → AreaSeen (world_at p h xs) (spot_of_line r) a.blocks a.leader (step_of x)
 area_seen p h xs r x s writer n front aged a =
     let w : World = world_at p h xs in
     let at : Spot = spot_of_line r in
@@ -70,16 +93,18 @@ area_seen p h xs r x s writer n front aged a =
     let q : Submitted = now.now in
     let among = is_among st s.session at s.told.older q now.has in
     let reads : is_area_read q ≡ true = ap (λ c. is_area_read (new_call 0 0 c)) now.aged.call ∙ a.of_lease.1 in
-    let told : gave q ≡ Some a.bytes = gave_stays n a.read q a.bytes now.aged a.gives in
-    let given : blocks_given g q ≡ Some (area_blocks g a.bytes) = gives_area g q a.bytes told reads in
+    let plain : g.paired ≡ false = plain_at p h xs run x s in
+    let spelled = leader_told g plain a.read a.before a.leader a.of_lease.1 a.spells in
+    let told : gave q ≡ Some spelled.0 = gave_stays n a.read q spelled.0 now.aged spelled.1 in
+    let given : blocks_given g q ≡ Some a.blocks = once_stays g n a.read q a.blocks now.aged (given_plain g plain a.read a.before a.blocks a.gives) in
     let k = older_look p h xs run x s at q among in
     let by = answered_before p h xs run x s writer.work writer.area q (subst (λ y. IsAmong st s.session y s.told.older q) (sym writer.spot) among)
-    (reads_work g q (area_blocks g a.bytes) given) in
+    (reads_work g q a.blocks given) in
     let place : spot_of_call w.layout q ≡ at =
     spot_is w.layout at q (line_aligned p h xs run r writer.there) (ap (λ y. is_on y at q.call) (sym (layout_at p h xs run x s)) ∙ among.on) in
-    let l = leader_looked p h xs x.machine s.machine s.daemon q k reads a.bytes told a.leader a.spells in
+    let l = leader_looked p h xs x.machine s.machine s.daemon q k reads spelled.0 told a.leader spelled.2 in
     record {
       leader = leader_later w at a.leader l.read.stamp.step (step_of x) (answer_step p h xs run x s q by l.read.answered l.read.its l.read.stamp l.read.entry)
           (subst (λ y. LeaderSeen w y a.leader l.read.stamp.step) place l.seen);
-      blocks = λ b has. let j = present_there (area_blocks g a.bytes) b has in seen_before p h xs r x s writer q among (area_blocks g a.bytes) given j.0 b j.1;
+      blocks = λ b has. let j = present_there a.blocks b has in seen_before p h xs r x s writer q among a.blocks given j.0 b j.1;
     }

@@ -1,5 +1,7 @@
 -- An exclusive grant of a trace is one of the history: the ballot that was won, the look at all blocks after the instance had begun, and
 -- that no free of it was submitted.
+use Rattle.sl_safety.proofs.Ballot.EndedAll.{plain_of}
+use Rattle.sl_trace.proofs.PlainReads.{given_plain}
 use Rattle.sl_area.specs.Layouts.{Layout}
 use Rattle.sl_safety.specs.Ballot.Endings.{EndedBallotsEnd, IsEntryAt}
 use Rattle.sl_ballots.specs.Ballots.{BallotEnded}
@@ -16,7 +18,8 @@ use Rattle.sl_safety.proofs.Holding.Unfreed.{exclusive_is}
 use Rattle.sl_run.specs.LawfulBlock.{ReadAfter}
 use Rattle.sl_run.specs.LawfulModes.{LawfulExclusiveGrant, NoneShared}
 use Rattle.sl_trace_law.proofs.Leases.GrantLaws.{exclusive_follows}
-use Rattle.sl_trace.specs.Leases.{block_of_host, blocks_given, freed, is_free_write, lease_calls}
+use Rattle.sl_trace.specs.Leases.{block_of_host, freed, is_free_write, lease_calls}
+use Rattle.sl_history.specs.Resources.Once.{blocks_once as blocks_given}
 use Rattle.sl_run_law.proofs.Place.Looks.{answered_below}
 use Rattle.sl_plain.proofs.Numbers.{below_suc, less_than_suc, lt_up_to, never_below, refl_le}
 use Rattle.sl_plain.proofs.Options.{some_of}
@@ -154,12 +157,13 @@ granted_at p h xs given run i f its entry past step e g a unfreed law =
     let read = of_lease st front f.session (spot_of_line r) law.read law.of_lease.0 in
     let named = stood_at p h xs i f front k.front_is (spot_of_line r) law.write wrote in
     let block = block_there p h xs r i f front k law.write wrote law.own law.wrote.2 in
-    let look = look_there p h xs r i f front k law.read read law.of_lease.1 law.blocks law.given in
+    let once = given_plain st.layout (plain_of p h xs run i f its) law.read law.before law.blocks law.given in
+    let look = look_there p h xs r i f front k law.read read law.of_lease.1 law.blocks once in
     let last : look.answered.at ≤ length past = below_suc look.answered.at (length past) (answered_below front law.read read.inside look.answered look.told_as) in
     let holder : holder_of w i ≡ holder_of_found f = holder_is w i f its in
     let own : (n : ℕ) → (n ≡ (holder_of w i).id → ⊥) → n ≡ f.session.id → ⊥ = λ n other same. other (same ∙ sym (ap (λ (o : Holder). o.id) holder)) in
     let saw : (n : ℕ) → (n ≡ (holder_of w i).id → ⊥) → SawAll p h xs r i (step_of look.sent.sent) step n =
-    λ n other. saw_host p h xs r differ i f entry past step e k law.read law.blocks law.given look law.none_shared n (own n other) (is_host w n) refl in
+    λ n other. saw_host p h xs r differ i f entry past step e k law.read law.blocks once look law.none_shared n (own n other) (is_host w n) refl in
     record {
       place = a;
       grant = record { step = step; holder = holder_of w i; instance = g.lver; look = step_of look.sent.sent };

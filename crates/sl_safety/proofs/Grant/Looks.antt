@@ -2,7 +2,8 @@
 -- of step 0.
 use Rattle.sl_safety.proofs.Grant.Stepping.{IsAt, LookThere}
 use Rattle.sl_safety.proofs.Grant.Telling.{whole_of}
-use Rattle.sl_trace.specs.Leases.{block_of_host, blocks_given}
+use Rattle.sl_trace.specs.Leases.{block_of_host}
+use Rattle.sl_history.specs.Resources.Once.{blocks_once as blocks_given}
 use Rattle.sl_plain.proofs.Lists.{contains_first, contains_more}
 use Rattle.sl_history.proofs.Giving.Proven.{reads_are_given}
 use Rattle.sl_history.proofs.Resources.Above.{block_of_none, own_there}

@@ -43,7 +43,7 @@ pub block_leased : (p : Program) (h : Header) (xs : List Happening) → LawfulRu
     → LeasedTo p h xs x
 block_leased p h xs run x sent is =
     let w : World = world_at p h xs in
-    let b = block_sent x.course is in
+    let b = block_sent p h xs run x sent is in
     let o = owned p h xs run x sent in
     let d = made_of o in
     let q : Submitted = o.trace.submitted_as in

@@ -2,7 +2,8 @@
 use Rattle.sl_area.specs.Layouts.{Layout}
 use Rattle.sl_run_law.specs.Course.Stamping.{stamp_in}
 use Rattle.sl_safety.proofs.Grant.Telling.{IsFront, IsTold, OfLease, told, told_answer, told_block, told_on, told_reads, told_same, told_wrote}
-use Rattle.sl_trace.specs.Leases.{block_written, blocks_given, is_block_read, is_on}
+use Rattle.sl_trace.specs.Leases.{block_written, is_block_read, is_on}
+use Rattle.sl_history.specs.Resources.Once.{blocks_once as blocks_given}
 use Rattle.sl_history.proofs.Resources.Calls.{block_at_step, read_at_step}
 use Rattle.sl_history.proofs.Resources.Founding.{writer_is, writes_at}
 use Rattle.sl_history.proofs.Resources.Looking.{given_told}

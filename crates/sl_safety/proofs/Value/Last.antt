@@ -23,7 +23,7 @@ use Rattle.sl_run.specs.declared.header.Header.{Header}
 use Rattle.sl_run_law.specs.Sample.Samples.{IsSampleOf, numbered_landing, sector_place}
 use Rattle.sl_sector.specs.Spelling.{value_in}
 use Rattle.sl_sector.specs.declared.sector.Bad.{Bad}
-use Rattle.sl_sector.specs.declared.sector.Rec.TheVariants.{BlockIs, DeltaIs, LeaderIs, RequestIs, ValueIs}
+use Rattle.sl_sector.specs.declared.sector.Rec.TheVariants.{BlockIs, DeltaIs, LeaderIs, PairIs, PairLeaderIs, RequestIs, ValueIs}
 use Rattle.sl_sector.specs.declared.sector.Rec.{Rec}
 use Rattle.sl_sector.specs.declared.sector.ValueRec.{ValueRec}
 use Rattle.sl_trace.specs.declared.effects.Spot.{Spot}
@@ -139,6 +139,8 @@ value_is (Ok (ValueIs u)) v h = ap (λ z. let y : Result Rec Bad = Ok (ValueIs z
 value_is (Ok (DeltaIs d)) v h = absurd (none_some v h)
 value_is (Ok (LeaderIs d)) v h = absurd (none_some v h)
 value_is (Ok (BlockIs d)) v h = absurd (none_some v h)
+value_is (Ok (PairIs d)) v h = absurd (none_some v h)
+value_is (Ok (PairLeaderIs d)) v h = absurd (none_some v h)
 value_is (Ok (RequestIs d)) v h = absurd (none_some v h)
 value_is (Err e) v h = absurd (none_some v h)
 

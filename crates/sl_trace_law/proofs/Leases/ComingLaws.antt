@@ -16,7 +16,7 @@ use Rattle.sl_trace.specs.Sessions.{me, session_numbered}
 use Rattle.sl_trace.specs.declared.session.Session.{Session}
 use Rattle.sl_trace.specs.Traces.{Setting, Submitted, Trace, new_call, submitted}
 use Rattle.sl_trace.specs.declared.effects.Call.{Call}
-use Rattle.sl_trace.specs.declared.effects.LeaseStep.TheVariants.{ClearMode, FreeLeader, Phase1Read, Phase1Write, Phase2Read, Phase2Write, ReadArea, ReadBeforeFree, SetMode, TakeLeader}
+use Rattle.sl_trace.specs.declared.effects.LeaseStep.TheVariants.{ClearMode, FreeLeader, Phase1Read, Phase1Write, Phase2Read, Phase2Write, ReadAgain, ReadArea, ReadBeforeBlock, ReadBeforeFree, SetMode, TakeLeader}
 use Rattle.sl_trace.specs.declared.effects.LeaseStep.{LeaseStep}
 use Rattle.sl_trace.specs.declared.effects.Spot.{Spot}
 use Rattle.sl_trace.specs.declared.effects.Work.{Work}
@@ -34,20 +34,29 @@ own_is_last id (Some b) read own d known is = some_value d b (sym is) ∙ some_v
 pub found_later : (g : Layout) (id : ℕ) (m : Submitted) (ms : List Submitted) (own : Block) → FoundIn g id ms own → FoundIn g id (m ∷ ms) own
 found_later g id m ms own f =
     let k : ℕ = f.has.0 in
-    record { read = f.read; blocks = f.blocks; has = (suc k, (let less : k < length ms = f.has.1 in omega (arith, less)), f.has.2); given = f.given; block = f.block }
+    record {
+      read = f.read;
+      blocks = f.blocks;
+      has = (suc k, (let less : k < length ms = f.has.1 in omega (arith, less)), f.has.2);
+      newer = m ∷ f.newer;
+      before = f.before;
+      split = ap (λ xs. m ∷ xs) f.split;
+      given = f.given;
+      block = f.block;
+    }
 
-pub found_here : (g : Layout) (id : ℕ) (m : Submitted) (ms : List Submitted) (own : Block) → (o : Option (List (Option Block))) → blocks_given g m ≡ o
+pub found_here : (g : Layout) (id : ℕ) (m : Submitted) (ms : List Submitted) (own : Block) → (o : Option (List (Option Block))) → blocks_given g m ms ≡ o
     → block_of_host (elim o as (λ x. List (Option Block)) [ Some bs ↦ bs | None ↦ last_blocks g ms ]) id ≡ Some own
     → (block_of_host (last_blocks g ms) id ≡ Some own → FoundIn g id ms own) → FoundIn g id (m ∷ ms) own
 found_here g id m ms own None gives is later = found_later g id m ms own (later is)
-found_here g id m ms own (Some bs) gives is later = record { read = m; blocks = bs; has = (0, omega arith, refl); given = gives; block = is }
+found_here g id m ms own (Some bs) gives is later = record { read = m; blocks = bs; has = (0, omega arith, refl); newer = []; before = ms; split = refl; given = gives; block = is }
 
 pub none_there : (own : Block) (k : ℕ) → unwrap_or (slice_get {X = Option Block} [] k) None ≡ Some own → ⊥
 none_there own k is = none_some own is
 
 pub found_read : (g : Layout) (id : ℕ) (ms : List Submitted) (own : Block) → block_of_host (last_blocks g ms) id ≡ Some own → FoundIn g id ms own
 found_read g id [] own is = absurd (none_there own (id - 1) is)
-found_read g id (m ∷ ms) own is = found_here g id m ms own (blocks_given g m) refl is (λ h. found_read g id ms own h)
+found_read g id (m ∷ ms) own is = found_here g id m ms own (blocks_given g m ms) refl is (λ h. found_read g id ms own h)
 
 own_is_found : (g : Layout) (id : ℕ) (ms : List Submitted) (own : Block) → (o : Option Block) → own_or_read id o (last_blocks g ms) ≡ Some own → o ≡ None → FoundIn g id ms own
 own_is_found g id ms own None known is = found_read g id ms own known
@@ -112,6 +121,8 @@ by_step st t s at c b some w ClearMode is h =
     }
 by_step st t s at c b some w (ReadArea name) is h = absurd h
 by_step st t s at c b some w ReadBeforeFree is h = absurd h
+by_step st t s at c b some w ReadBeforeBlock is h = absurd h
+by_step st t s at c b some w (ReadAgain read) is h = absurd h
 by_step st t s at c b some w Phase1Read is h = absurd h
 by_step st t s at c b some w Phase2Read is h = absurd h
 by_step st t s at c b some w TakeLeader is h = absurd h

@@ -45,7 +45,7 @@ ended_later g m ms p h =
 
 -- The ballot that this read ended.
 by_end : (g : Layout) (m : Submitted) (ms : List Submitted) (p : ℕ × Owner) → is_at Phase2_read m ≡ true → (own : Block) → block_submitted ms ≡ Some own
-    → (bs : List (Option Block)) → blocks_given g m ≡ Some bs → (stop : Option Stop) → stop_of own bs ≡ stop → value_in_end own stop ≡ Some p → Ended g (m ∷ ms) p
+    → (bs : List (Option Block)) → blocks_given g m ms ≡ Some bs → (stop : Option Stop) → stop_of own bs ≡ stop → value_in_end own stop ≡ Some p → Ended g (m ∷ ms) p
 by_end g m ms p at own block bs given None clear is =
     record {
       newer = [];
@@ -63,17 +63,17 @@ by_end g m ms p at own block bs given None clear is =
 by_end g m ms p at own block bs given (Some stop) clear is = absurd (none_some p is)
 
 by_blocks : (g : Layout) (m : Submitted) (ms : List Submitted) (p : ℕ × Owner) → is_at Phase2_read m ≡ true → (own : Block) → block_submitted ms ≡ Some own
-    → (o : Option (List (Option Block))) → blocks_given g m ≡ o → option_and_then (λ bs. value_in_end own (stop_of own bs)) o ≡ Some p → Ended g (m ∷ ms) p
+    → (o : Option (List (Option Block))) → blocks_given g m ms ≡ o → option_and_then (λ bs. value_in_end own (stop_of own bs)) o ≡ Some p → Ended g (m ∷ ms) p
 by_blocks g m ms p at own block None given is = absurd (none_some p is)
 by_blocks g m ms p at own block (Some bs) given is = by_end g m ms p at own block bs given (stop_of own bs) refl is
 
 by_own : (g : Layout) (m : Submitted) (ms : List Submitted) (p : ℕ × Owner) → is_at Phase2_read m ≡ true → (o : Option Block) → block_submitted ms ≡ o
-    → option_and_then (λ own. option_and_then (λ bs. value_in_end own (stop_of own bs)) (blocks_given g m)) o ≡ Some p → Ended g (m ∷ ms) p
+    → option_and_then (λ own. option_and_then (λ bs. value_in_end own (stop_of own bs)) (blocks_given g m ms)) o ≡ Some p → Ended g (m ∷ ms) p
 by_own g m ms p at None block is = absurd (none_some p is)
-by_own g m ms p at (Some own) block is = by_blocks g m ms p at own block (blocks_given g m) refl is
+by_own g m ms p at (Some own) block is = by_blocks g m ms p at own block (blocks_given g m ms) refl is
 
 by_kind : (g : Layout) (m : Submitted) (ms : List Submitted) (p : ℕ × Owner) → (b : Bool) → is_at Phase2_read m ≡ b
-    → elim b as (λ x. Option (ℕ × Owner)) [ false ↦ None | true ↦ option_and_then (λ own. option_and_then (λ bs. value_in_end own (stop_of own bs)) (blocks_given g m)) (block_submitted ms) ] ≡ Some p
+    → elim b as (λ x. Option (ℕ × Owner)) [ false ↦ None | true ↦ option_and_then (λ own. option_and_then (λ bs. value_in_end own (stop_of own bs)) (blocks_given g m ms)) (block_submitted ms) ] ≡ Some p
     → Ended g (m ∷ ms) p
 by_kind g m ms p false at is = absurd (none_some p is)
 by_kind g m ms p true at is = by_own g m ms p at (block_submitted ms) refl is
@@ -96,7 +96,7 @@ ended g (m ∷ ms) p h = ended_by g m ms p (ended_ballot g m ms) refl h (λ late
 -- ---- what ended stays ended
 
 aged_end : (g : Layout) (n : ℕ) (newer before : List Submitted) (read : Submitted) (ys : List Submitted) (p : ℕ × Owner) → AllAged n (newer ++ read ∷ before) ys
-    → is_at Phase2_read read ≡ true → (own : Block) → block_submitted before ≡ Some own → (bs : List (Option Block)) → blocks_given g read ≡ Some bs → stop_of own bs ≡ None
+    → is_at Phase2_read read ≡ true → (own : Block) → block_submitted before ≡ Some own → (bs : List (Option Block)) → blocks_given g read before ≡ Some bs → stop_of own bs ≡ None
     → (own.lver, value_of own) ≡ p → Ended g ys p
 aged_end g n [] before read [] p h at own block bs given clear what = absurd h
 aged_end g n [] before read (y ∷ ys) p h at own block bs given clear what =
@@ -109,7 +109,7 @@ aged_end g n [] before read (y ∷ ys) p h at own block bs given clear what =
       is = refl;
       reads = kind_stays Phase2_read n read y h.0 at;
       block = sym (aged_block n before ys h.1) ∙ block;
-      given = blocks_stay g n read y bs h.0 given;
+      given = blocks_stay g n read y before ys bs h.0 h.1 given;
       clear = clear;
       what = what;
     }

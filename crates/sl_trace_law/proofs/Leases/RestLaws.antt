@@ -2,7 +2,7 @@
 use Rattle.sl_run.specs.Lawful.{Orderly}
 use Rattle.sl_run.specs.LawfulBlock.{LawfulBlockStep, LawfulBlockWrite, LawfulPhase2, LawfulPhase2Read}
 use Rattle.sl_run.specs.Saying.{cut_at}
-use Rattle.sl_trace_law.proofs.Leases.AgeLaws.{Became, BecameLast, after_stays, aged_lease, became, became_last, block_stays, blocks_stay, kind_stays, writes}
+use Rattle.sl_trace_law.proofs.Leases.AgeLaws.{BecameAmong, BecameLast, after_stays, aged_lease, among, became_among, became_last, block_stays, blocks_stay, first_stays, kind_stays, writes}
 use Rattle.sl_trace_law.proofs.Leases.FrontLaws.{each_was_submitted, lawful_there}
 use Rattle.sl_trace_law.specs.Leases.Fronts.{AllAged, LawfulSubmission, Submission}
 use Rattle.sl_trace_law.specs.Leases.Promises.{BlocksHaveFronts, Phase2Follows, Phase2IsRead}
@@ -13,7 +13,7 @@ use Rattle.sl_trace.specs.Sessions.{session_numbered}
 use Rattle.sl_trace.specs.declared.session.Session.{Session}
 use Rattle.sl_trace.specs.Traces.{Setting, Submitted, Trace, new_call, submitted}
 use Rattle.sl_trace.specs.declared.effects.Call.{Call}
-use Rattle.sl_trace.specs.declared.effects.LeaseStep.TheVariants.{ClearMode, FreeLeader, Phase1Read, Phase1Write, Phase2Read, Phase2Write, ReadArea, ReadBeforeFree, SetMode, TakeLeader}
+use Rattle.sl_trace.specs.declared.effects.LeaseStep.TheVariants.{ClearMode, FreeLeader, Phase1Read, Phase1Write, Phase2Read, Phase2Write, ReadAgain, ReadArea, ReadBeforeBlock, ReadBeforeFree, SetMode, TakeLeader}
 use Rattle.sl_trace.specs.declared.effects.LeaseStep.{LeaseStep}
 use Rattle.sl_trace.specs.declared.effects.Spot.{Spot}
 use Rattle.sl_trace.specs.declared.effects.Work.{Work}
@@ -35,6 +35,8 @@ two_step st t s at c b SetMode kind h = absurd (false_is_true kind)
 two_step st t s at c b ClearMode kind h = absurd (false_is_true kind)
 two_step st t s at c b (ReadArea name) kind h = absurd h
 two_step st t s at c b ReadBeforeFree kind h = absurd h
+two_step st t s at c b ReadBeforeBlock kind h = absurd h
+two_step st t s at c b (ReadAgain read) kind h = absurd h
 two_step st t s at c b Phase1Read kind h = absurd h
 two_step st t s at c b Phase2Read kind h = absurd h
 two_step st t s at c b TakeLeader kind h = absurd h
@@ -55,7 +57,8 @@ rests st es s at older c b h two =
     let n : ℕ = length h.past + 1 in
     let aged : AllAged n (lease_calls st t s at) (lease_among st s at older) = aged_lease st s at n (submitted t) older h.before in
     let w : BecameLast n (lease_among st s at older) two.write = became_last n (lease_calls st t s at) (lease_among st s at older) two.write aged two.last in
-    let r : Became n (lease_among st s at older) two.read = became n (lease_calls st t s at) (lease_among st s at older) two.read aged two.of_lease.0 in
+    let r : BecameAmong n (lease_among st s at older) two.read two.before =
+    became_among n two.after two.before two.read (lease_among st s at older) (subst (λ xs. AllAged n xs (lease_among st s at older)) two.split aged) in
     record {
       submission = h;
       own = two.own;
@@ -64,9 +67,16 @@ rests st es s at older c b h two =
       blocks = two.blocks;
       last = w.last;
       wrote = (block_stays n two.write w.now two.own w.aged two.wrote.0, kind_stays Phase1_write n two.write w.now w.aged two.wrote.1);
-      of_lease = (r.has, kind_stays Phase1_read n two.read r.now r.aged two.of_lease.1);
+      of_lease = (
+        among n (lease_among st s at older) two.read two.before r,
+        kind_stays Phase1_read n two.read r.now r.aged two.of_lease.1,
+      );
+      newer = r.newer;
+      before = r.before;
+      split = r.split;
       ordered = after_stays n 0 two.write two.read w.now r.now w.aged r.aged.at two.ordered;
-      given = blocks_stay st.layout n two.read r.now two.blocks r.aged two.given;
+      first_ordered = first_stays n two.write two.read w.now r.now two.before r.before w.aged r.aged r.rest two.first_ordered;
+      given = blocks_stay st.layout n two.read r.now two.before r.before two.blocks r.aged r.rest two.given;
       clear = two.clear;
       written = two.written;
     }

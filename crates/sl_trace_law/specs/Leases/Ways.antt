@@ -1,5 +1,5 @@
 -- How a block that a session writes comes from its own block before.
-use Rattle.sl_run.specs.LawfulBlock.{LawfulBlockWrite, ReadAfter}
+use Rattle.sl_run.specs.LawfulBlock.{FirstAfter, LawfulBlockWrite, ReadAfter}
 use Rattle.sl_run.specs.Saying.{cut_at}
 use Rattle.sl_trace_law.specs.Leases.Fronts.{Submission}
 use Rattle.sl_trace.specs.Ballots.{ballot_blocks, moded_block, owner_of, phase2_block, same_owner, stop_of, value_of}
@@ -56,7 +56,10 @@ pub record FoundIn (g : Layout) (id : ℕ) (ms : List Submitted) (own : Block) :
   pub read : Submitted
   pub blocks : List (Option Block)
   pub has : Contains ms read
-  pub given : blocks_given g read ≡ Some blocks
+  pub newer : List Submitted
+  pub before : List Submitted
+  pub split : ms ≡ newer ++ read ∷ before
+  pub given : blocks_given g read before ≡ Some blocks
   pub block : block_of_host blocks id ≡ Some own
 
 -- The own block of a write, and its way from it. Where the session wrote a block before, the own block is the last of those; else a
@@ -78,8 +81,12 @@ pub record Phase2Rests (st : Setting) (es : Trace) (s : Session) (at : Spot) (ol
   pub last : find (λ d. is_some (block_written d)) (lease_among st s at older) ≡ Some write
   pub wrote : (block_written write ≡ Some own) × IsTrue (is_at Phase1_write write)
   pub of_lease : Contains (lease_among st s at older) read × IsTrue (is_at Phase1_read read)
+  pub newer : List Submitted
+  pub before : List Submitted
+  pub split : lease_among st s at older ≡ newer ++ read ∷ before
   pub ordered : ReadAfter write read
-  pub given : blocks_given st.layout read ≡ Some blocks
+  pub first_ordered : FirstAfter write read before
+  pub given : blocks_given st.layout read before ≡ Some blocks
   pub clear : stop_of own blocks ≡ None
   pub written : b ≡ moded_block (phase2_block (me (cut_at submission.place submission.entry ∷ submission.past) s) own (ballot_blocks own blocks)) b.shared b.mode_gen
 
@@ -102,7 +109,7 @@ pub record Ended (g : Layout) (ms : List Submitted) (p : ℕ × Owner) : Type 0 
   pub is : ms ≡ newer ++ read ∷ before
   pub reads : IsTrue (is_at Phase2_read read)
   pub block : block_submitted before ≡ Some own
-  pub given : blocks_given g read ≡ Some blocks
+  pub given : blocks_given g read before ≡ Some blocks
   pub clear : stop_of own blocks ≡ None
   pub what : (own.lver, value_of own) ≡ p
 

@@ -24,7 +24,7 @@ use Rattle.sl_run_law.proofs.Place.Finding.{partner_of}
 use Rattle.sl_run_law.proofs.Place.Reading.{call_law, owner_of}
 use Rattle.sl_run_law.proofs.Watchdog.Numbering.{call_found}
 use Rattle.sl_run_law.specs.Course.Stamping.{AnswersAgree, IsAnsweredAs, IsCourseOf, courses_of, stamp_in}
-use Rattle.sl_sector.specs.declared.sector.Rec.TheVariants.{BlockIs, DeltaIs, LeaderIs, RequestIs, ValueIs}
+use Rattle.sl_sector.specs.declared.sector.Rec.TheVariants.{BlockIs, DeltaIs, LeaderIs, PairIs, PairLeaderIs, RequestIs, ValueIs}
 use Rattle.sl_sector.specs.declared.sector.Rec.{Rec}
 use Rattle.sl_sector.specs.declared.sector.ValueRec.{ValueRec}
 use Rattle.sl_trace.specs.Sessions.{is_call_of, session_numbered}
@@ -268,6 +268,8 @@ writes_value (Some (ValueIs u)) v h = ap (λ y. Some (ValueIs y)) (some_value u 
 writes_value (Some (DeltaIs u)) v h = absurd (none_some v h)
 writes_value (Some (LeaderIs u)) v h = absurd (none_some v h)
 writes_value (Some (BlockIs u)) v h = absurd (none_some v h)
+writes_value (Some (PairIs u)) v h = absurd (none_some v h)
+writes_value (Some (PairLeaderIs u)) v h = absurd (none_some v h)
 writes_value (Some (RequestIs u)) v h = absurd (none_some v h)
 
 pub is_written : (p : Program) (h : Header) (xs : List Happening) → AnsweredRun p h xs → (m : ℕ) (group : List ℕ) (lver seq : ℕ) → TellsSet p h xs m group lver seq

@@ -3,7 +3,7 @@ use Rattle.sl_run.specs.LockNames.{Lock}
 use Rattle.sl_run.specs.Lvm.{Lvm, after_reading, comparison, is_seen}
 use Rattle.sl_run.specs.declared.turn.LvmOut.TheVariants.{Reply as LineReply}
 use Rattle.sl_trace.specs.EffectTexts.{is_ok_reply, reply_text, reply_words}
-use Rattle.sl_trace.specs.declared.reply.Limited.TheVariants.{Children, Gen as GenLimit, Holders, Killpaths, Lockspaces, Lver as LverLimit, Mbal as MbalLimit, Resources, Seq as SeqLimit}
+use Rattle.sl_trace.specs.declared.reply.Limited.TheVariants.{Children, Gen as GenLimit, Holders, Killpaths, Lockspaces, Lver as LverLimit, Mbal as MbalLimit, Resources, Seq as SeqLimit, Turn as TurnLimit}
 use Rattle.sl_trace.specs.declared.reply.Reply.TheVariants.{Ahead, BadCommand as Misread, Busy, Done, Generation, Granted, Held, Hosts, IdHeld, IdLate, IdLost, IoFault, IoTimeout, Joined, Joining as StillJoining, Limit, NoOrphan, NoProcess, NoSession, NotHeld, Pending, Recovering, RequestOld, Rival, Sessions, Shared, SpawnFault, Started, TornBlock, TornDelta, TornLeader, Value, ValueSet, ValueTorn, WrongArea, WrongDelta}
 use Rattle.sl_trace.specs.declared.reply.Reply.{Reply}
 use Rattle.sl_volumes.proofs.Same.Values.{TellsValue}
@@ -52,6 +52,7 @@ told_apart (Limit GenLimit) ok rest is = differ 76 (ap first is) (λ e. omega (a
 told_apart (Limit SeqLimit) ok rest is = differ 76 (ap first is) (λ e. omega (arith, e))
 told_apart (Limit LverLimit) ok rest is = differ 76 (ap first is) (λ e. omega (arith, e))
 told_apart (Limit MbalLimit) ok rest is = differ 76 (ap first is) (λ e. omega (arith, e))
+told_apart (Limit TurnLimit) ok rest is = differ 76 (ap first is) (λ e. omega (arith, e))
 told_apart (RequestOld a b) ok rest is = differ 82 (ap first is) (λ e. omega (arith, e))
 told_apart (WrongArea a b c) ok rest is = differ 87 (ap first is) (λ e. omega (arith, e))
 told_apart (WrongDelta a b) ok rest is = differ 87 (ap first is) (λ e. omega (arith, e))

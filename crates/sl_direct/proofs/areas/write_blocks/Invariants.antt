@@ -8,6 +8,6 @@ use Rattle.std.specs.List.{range_with_len}
 
 abbrev pub invariant-loop-before : goal.invariant-loop-before
 invariant-loop-before g l = record {
-  wrote : Wrote (map (block_write (layout_of l.geometry) l.base) (range_with_len 1 l.before)) (g.A.Area.content l.fn.area) (g.A.Area.content l.area);
+  wrote : Wrote (map (block_write (layout_of l.geometry) l.lockspace l.resource l.base) (range_with_len 1 l.before)) (g.A.Area.content l.fn.area) (g.A.Area.content l.area);
   later : g.A.Area.faults l.fn.area ≤ g.A.Area.faults l.area;
 }

@@ -1,9 +1,10 @@
 -- The cause of what a read of the area is answered with.
 use Rattle.sl_area.specs.Places.{area_blocks, leader_of}
 use Rattle.sl_due_law.proofs.Causes.AnsweredJobs.{with_spot}
+use Rattle.sl_due_law.proofs.Causes.Leases.GivenBlocks.{blocks_give, leader_gives}
 use Rattle.sl_due_law.proofs.Causes.Leases.Hearing.{IsWell, LeaseHeard, area_given, at_step, knows, reads, reads_blocks}
 use Rattle.sl_due_law.proofs.Causes.Leases.Limits.{begin_well}
-use Rattle.sl_run.specs.Caused.{Answering, AnswersRead, EndsWith, ShowsInstance, after_entry}
+use Rattle.sl_run.specs.Caused.{Answering, AnswersRead, EndsWith, GivesBlocks, GivesLeader, ShowsInstance, after_entry}
 use Rattle.sl_trace.specs.Jobs.{resource_named}
 use Rattle.sl_trace.specs.LeaseWork.{area_next, begin_or_refuse, lease_place, named_area_next, whole_area_next}
 use Rattle.sl_trace.specs.Leases.{Area_read, instance_for, is_at, is_leader_of, last_blocks, own_known}
@@ -43,7 +44,7 @@ shows : (y : Answering) (s : Session) (r : ResourceArg) (c : Submitted) (bytes :
     → (l : Leader) → leader_of y.setting.layout bytes ≡ Some l → (own : Block) (i : Instance) → instance_for (knows h) l own (area_blocks y.setting.layout bytes) ≡ i
     → ShowsInstance y s c (area_blocks y.setting.layout bytes) own i
 shows y s r c bytes command h l there own i is =
-    (at_step y s c (Read bytes) (ReadArea r.name) command h Area_read refl, bytes, l, h.gives, there, h.instances l own (area_blocks y.setting.layout bytes) ∙ is)
+    (at_step y s c (Read bytes) (ReadArea r.name) command h Area_read refl, bytes, l, h.gives, leader_gives y h.plain c bytes (Some l) there, h.instances l own (area_blocks y.setting.layout bytes) ∙ is)
 
 instance_well : (these : Reply → Bool) (y : Answering) (s : Session) (r : ResourceArg) (c : Submitted) (bytes : List ℕ) (command : Command) (aim : Aim) → (h : AreaHeard y s r c bytes command)
     → (l : Leader) → leader_of y.setting.layout bytes ≡ Some l → (own : Block) → own_known (knows h) ≡ Some own
@@ -74,8 +75,10 @@ torn_well : (these : Reply → Bool) (y : Answering) (s : Session) (r : Resource
     ])
 torn_well these y s r c bytes command aim h l there (Some i) is = λ shown.
     inl (reads y s c bytes (ReadArea r.name) command h
-    (λ c bytes. IsTrue (is_at Area_read c) × (option_map (λ k. k + 1) (position is_none (area_blocks y.setting.layout bytes)) ≡ Some (i + 1)))
-    (at_step y s c (Read bytes) (ReadArea r.name) command h Area_read refl, ap (λ o. option_map (λ k. k + 1) o) is))
+    (λ c bytes. IsTrue (is_at Area_read c) × GivesBlocks y c bytes (λ blocks. option_map (λ k. k + 1) (position is_none blocks) ≡ Some (i + 1))) (
+      at_step y s c (Read bytes) (ReadArea r.name) command h Area_read refl,
+      blocks_give y h.plain c bytes (λ blocks. option_map (λ k. k + 1) (position is_none blocks) ≡ Some (i + 1)) (ap (λ o. option_map (λ k. k + 1) o) is),
+    ))
 torn_well these y s r c bytes command aim h l there None is = whole_well these y s r c bytes command aim h l there (own_known (knows h)) refl
 
 named_well : (these : Reply → Bool) (y : Answering) (s : Session) (r : ResourceArg) (c : Submitted) (bytes : List ℕ) (command : Command) (aim : Aim) → (h : AreaHeard y s r c bytes command)
@@ -87,9 +90,9 @@ named_well : (these : Reply → Bool) (y : Answering) (s : Session) (r : Resourc
     ])
 named_well these y s r c bytes command aim h space names l there false other = λ shown.
     with_spot y command r
-    (λ r at. AnswersRead y (λ c bytes. (m : Leader) × (leader_of y.setting.layout bytes ≡ Some m) × (m.lockspace ≡ l.lockspace) × (m.resource ≡ l.resource) × (m.num_hosts ≡ l.num_hosts)
+    (λ r at. AnswersRead y (λ c bytes. (m : Leader) × GivesLeader y c bytes (Some m) × (m.lockspace ≡ l.lockspace) × (m.resource ≡ l.resource) × (m.num_hosts ≡ l.num_hosts)
     × IsFalse (is_leader_of y.setting.layout r.lockspace r.name m)))
-    h.commanded names (c, bytes, h.call, (l, there, refl, refl, refl, ap (λ n. is_leader_of y.setting.layout n r.name l) space ∙ other))
+    h.commanded names (c, bytes, h.call, (l, leader_gives y h.plain c bytes (Some l) there, refl, refl, refl, ap (λ n. is_leader_of y.setting.layout n r.name l) space ∙ other))
 named_well these y s r c bytes command aim h space names l there true right = torn_well these y s r c bytes command aim h l there (position is_none (area_blocks y.setting.layout bytes)) refl
 
 leader_well : (these : Reply → Bool) (y : Answering) (s : Session) (r : ResourceArg) (c : Submitted) (bytes : List ℕ) (command : Command) (aim : Aim) → (h : AreaHeard y s r c bytes command)
@@ -104,12 +107,12 @@ leader_well : (these : Reply → Bool) (y : Answering) (s : Session) (r : Resour
     ])
 leader_well these y s r c bytes command aim h space names None torn = λ shown.
     reads y s c bytes (ReadArea r.name) command h
-    (λ c bytes. (IsTrue (is_at Area_read c) ⊎ (c.call.purpose ≡ RequestRead y.job.number)) × (leader_of y.setting.layout bytes ≡ None))
-    (inl (at_step y s c (Read bytes) (ReadArea r.name) command h Area_read refl), torn)
+    (λ c bytes. (IsTrue (is_at Area_read c) ⊎ (c.call.purpose ≡ RequestRead y.job.number)) × GivesLeader y c bytes None)
+    (inl (at_step y s c (Read bytes) (ReadArea r.name) command h Area_read refl), leader_gives y h.plain c bytes None torn)
 leader_well these y s r c bytes command aim h space names (Some l) there = named_well these y s r c bytes command aim h space names l there (is_leader_of y.setting.layout s.lockspace r.name l) refl
 
 -- What a read of the area leads to has its cause.
 pub area_well : (these : Reply → Bool) (y : Answering) (s : Session) (r : ResourceArg) (c : Submitted) (bytes : List ℕ) (command : Command) (aim : Aim) → (h : AreaHeard y s r c bytes command)
-    → r.lockspace ≡ s.lockspace → resource_named command ≡ Some r → IsWell these y (area_next (lease_place y.setting s) (knows h) aim r.name bytes)
+    → r.lockspace ≡ s.lockspace → resource_named command ≡ Some r → IsWell these y (area_next (lease_place y.setting s) (knows h) aim r.name (leader_of y.setting.layout bytes) (area_blocks y.setting.layout bytes))
 unfolding area_next
 area_well these y s r c bytes command aim h space names = leader_well these y s r c bytes command aim h space names (leader_of y.setting.layout bytes) refl

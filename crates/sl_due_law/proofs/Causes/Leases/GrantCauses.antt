@@ -6,7 +6,7 @@ use Rattle.sl_due_law.proofs.Causes.LaterSteps.{AnyMove, Going, MayAnswer, MayCa
 use Rattle.sl_due_law.proofs.Causes.Leases.LeaseAnswers.{was_joined}
 use Rattle.sl_due_law.proofs.Causes.NamesBefore.{early_entry, session_then, with_session}
 use Rattle.sl_due_law.specs.Causes.CausedSoFar.{CausedSoFar, HasCause, IsAtOnce, IsCarried, IsConcluded, IsLater, StaysCaused, answering}
-use Rattle.sl_due.specs.DueLease.{carry_lease, convert_holding, grant_for, grant_of, held_otherwise, next_of_lease}
+use Rattle.sl_due.specs.DueLease.{carry_lease, convert_holding, grant_for, grant_of, held_otherwise, name_on, next_of_lease, next_turn}
 use Rattle.sl_due.specs.Steps.{Step, add_call_of, add_grant, add_reply, seen, with_effects, with_some}
 use Rattle.sl_due_leases.proofs.Holdings.HoldingFactsBegin.{none_ended}
 use Rattle.sl_due_leases.proofs.Holdings.LeaseCallers.{heard_call, heard_opens, spot_aligned}
@@ -14,8 +14,7 @@ use Rattle.sl_due_leases.proofs.Holdings.LeaseConversions.{after_converting, by_
 use Rattle.sl_due_leases.proofs.Holdings.LeaseNexts.{IsFitNext, IsGrantOf, next_fits}
 use Rattle.sl_due_leases.proofs.Holdings.PlainPlaces.{one_place}
 use Rattle.sl_due_leases.specs.Holdings.Moments.{Known}
-use Rattle.sl_area.specs.Layouts.{Layout}
-use Rattle.sl_area.specs.Places.{block_offset, leader_offset}
+use Rattle.sl_area.specs.Places.{block_place, block_record, leader_offset, leader_record}
 use Rattle.sl_due_facts.proofs.Jobs.EffectsAreAllowed.{grants_for}
 use Rattle.sl_due_facts.proofs.Jobs.CallsStay.{late}
 use Rattle.sl_run.specs.Caused.{Answering, GrantsTo, IsGrantedFor, WroteAt, before_entry, converting_step, the_session}
@@ -46,7 +45,6 @@ use Rattle.sl_trace.specs.declared.effects.Op.TheVariants.{WriteRecord}
 use Rattle.sl_trace.specs.declared.effects.Op.{Op}
 use Rattle.sl_trace.specs.declared.input.Input.TheVariants.{Wake}
 use Rattle.sl_trace.specs.declared.input.Input.{Input}
-use Rattle.sl_sector.specs.declared.sector.Rec.TheVariants.{BlockIs, LeaderIs}
 use Rattle.sl_trace.specs.declared.effects.Start.{Start}
 use Rattle.sl_trace.specs.declared.effects.LeaseStep.TheVariants.{ClearMode, FreeLeader, SetMode, TakeLeader}
 use Rattle.sl_trace.specs.declared.effects.LeaseStep.{LeaseStep}
@@ -396,11 +394,11 @@ converts_asked Status mode is = absurd (none_some (Converts mode) is)
 
 -- A conversion that is done, with the call behind it.
 convert_done : (these : Input → Reply → Bool) (x : Step) (s : Session) (m : Submitted) (answer : Answer) (j : ℕ) (step : LeaseStep) (aim : Aim) → JobLed these x s m answer j step aim → (mode : Mode) (lver : ℕ)
-    → answer ≡ Written → aim ≡ Converts mode → lver_written m ≡ lver → same_kind (kind_of_step step) (converting_step (is_shared mode)) ≡ true → (p : Purpose) (offset : Layout → ℕ) (op : Op)
+    → answer ≡ Written → aim ≡ Converts mode → lver_written m ≡ lver → same_kind (kind_of_step step) (converting_step (is_shared mode)) ≡ true → (p : Purpose) (offset : Step → ℕ) (op : Step → Op)
     → let z : Step = after_converting x s (spot_of_call x.setting.layout m) j mode lver in
-    CausedSoFar these (add_call_of s.number (spot_of_call x.setting.layout m).path p (offset z.setting.layout) op z)
+    CausedSoFar these (add_call_of s.number (spot_of_call x.setting.layout m).path p (offset z) (op z) z)
 convert_done these x s m answer j step aim h mode lver written is wrote kind p offset op =
-    by_found (λ z. CausedSoFar these (add_call_of s.number at.path p (offset z.setting.layout) op z)) x s at j (Convert r shared q) q mode lver reads refl (held_otherwise (seen x) s at q mode) refl (found (held_otherwise (seen x) s at q mode) refl)
+    by_found (λ z. CausedSoFar these (add_call_of s.number at.path p (offset z) (op z) z)) x s at j (Convert r shared q) q mode lver reads refl (held_otherwise (seen x) s at q mode) refl (found (held_otherwise (seen x) s at q mode) refl)
   where
     at : Spot
     at = spot_of_call x.setting.layout m
@@ -435,11 +433,11 @@ convert_done these x s m answer j step aim h mode lver written is wrote kind p o
     one = sym (some_value r fits_it.0 fits_it.1)
 
     found : (o : Option Grant) → held_otherwise (seen x) s at q mode ≡ o
-        → let z : Step = with_some o (convert_holding j mode lver) x in CausedSoFar these (add_call_of s.number at.path p (offset z.setting.layout) op z)
+        → let z : Step = with_some o (convert_holding j mode lver) x in CausedSoFar these (add_call_of s.number at.path p (offset z) (op z) z)
     found None none =
-        let z : Step = add_call_of s.number at.path p (offset x.setting.layout) op x in
+        let z : Step = add_call_of s.number at.path p (offset x) (op x) x in
         still_caused these x z (at_no_line x z s m answer h.hears)
-        ((going (these x.input) x).calls x s at.path p (offset x.setting.layout) op (λ c. absurd (h.unconcluded c)) (begins (these x.input) x)) h.caused
+        ((going (these x.input) x).calls x s at.path p (offset x) (op x) (λ c. absurd (h.unconcluded c)) (begins (these x.input) x)) h.caused
     found (Some g) held =
         last_caused these x z j (Granted lver) (at_no_line x z s m answer h.hears) told later refl refl
         (λ shown. convert_caused x z.effects s m j step r shared q mode lver g w h.caused.before held how.4 (ap (λ (k : ResourceArg). k.lockspace) (sym one) ∙ fits_it.3.0) (fits_it.3.1 ∙ ap (λ k. spot_of k) one)
@@ -449,14 +447,14 @@ convert_done these x s m answer j step aim h mode lver written is wrote kind p o
         y = convert_holding j mode lver g x
 
         z : Step
-        z = add_call_of s.number at.path p (offset x.setting.layout) op y
+        z = add_call_of s.number at.path p (offset y) (op y) y
 
         w : WriteHeard x s m j step (Convert r shared q)
         w = record { known = h.known; hears = subst (λ a. Hears x s m a) written h.hears; purpose = h.purpose; reads = reads }
 
         later : IsLater x z
         later =
-            ((going no_explained x).calls y s at.path p (offset x.setting.layout) op (λ c. absurd (h.unconcluded c))
+            ((going no_explained x).calls y s at.path p (offset y) (op y) (λ c. absurd (h.unconcluded c))
             ((going no_explained x).replies _ j (Granted lver) (late x (Granted lver) refl, λ never. absurd (false_is_true never))
             ((going no_explained x).grants _ (converted g mode lver) ((going no_explained x).ends x (end_of g) (begins no_explained x))))).later
 
@@ -466,7 +464,7 @@ pub shared_done : (these : Input → Reply → Bool) (x : Step) (s : Session) (m
 unfolding carry_lease known
 shared_done these x s m answer j step aim h lver l next =
     convert_done these x s m answer j step aim h Shared lver fit.0 (fit.2.1 ∙ ap (λ k. Converts k) shared) (mode_of_held x s m j command.0 lver w fit.3) (ap (λ k. same_kind (kind_of_step k) Mode_set) fit.1) (Lease Settling FreeLeader)
-    (λ g. leader_offset at.base) (WriteRecord (LeaderIs l))
+    (λ z. leader_offset at.base) (λ z. WriteRecord (leader_record z.setting.layout l))
   where
     at : Spot
     at = spot_of_call x.setting.layout m
@@ -490,7 +488,9 @@ pub exclusive_done : (these : Input → Reply → Bool) (x : Step) (s : Session)
     → next_of_lease x.setting (seen x) s (spot_of_call x.setting.layout m) aim m step answer ≡ BecomeExclusive lver b → CausedSoFar these (carry_lease s (spot_of_call x.setting.layout m) (ForJob j) (BecomeExclusive lver b) x)
 unfolding carry_lease
 exclusive_done these x s m answer j step aim h lver b next =
-    convert_done these x s m answer j step aim h Exclusive lver fit.0 fit.2 (sym fit.3) (ap (λ k. same_kind (kind_of_step k) Leader_taken) fit.1) (Lease Settling ClearMode) (λ g. block_offset g at.base s.id) (WriteRecord (BlockIs b))
+    convert_done these x s m answer j step aim h Exclusive lver fit.0 fit.2 (sym fit.3) (ap (λ k. same_kind (kind_of_step k) Leader_taken) fit.1) (Lease Settling ClearMode)
+    (λ z. block_place z.setting.layout at.base s.id (next_turn z.setting (seen z) s at))
+    (λ z. WriteRecord (block_record z.setting.layout (next_turn z.setting (seen z) s at) s.lockspace (name_on z.setting (seen z) s at) b))
   where
     at : Spot
     at = spot_of_call x.setting.layout m

@@ -1,9 +1,9 @@
 -- What stands in the trace where the answer of a lease's call is told, for a job that works on the lease.
-use Rattle.sl_area.specs.Layouts.{Layout}
 use Rattle.sl_area.specs.Places.{area_blocks, blocks_in}
+use Rattle.sl_due_law.proofs.Causes.Leases.GivenBlocks.{area_gives, is_at_in, phase1_gives, phase2_gives}
 use Rattle.sl_due_law.proofs.Causes.NamesBefore.{with_session}
 use Rattle.sl_run.specs.Caused.{Answering, AnswersCall, AnswersRead, CausedBy, ReadsBlocks, after_entry, known_here, the_session}
-use Rattle.sl_trace.specs.Leases.{Area_read, LeaseKnown, Phase1_read, Phase2_read, Read_before_free, StepKind, blocks_given, instance_for, is_at, is_phase_read, kind_of_step, known_of, lease_calls, lease_step, own_block, same_kind, shared_elsewhere, spot_of_call}
+use Rattle.sl_trace.specs.Leases.{LeaseKnown, Phase1_read, Phase2_read, StepKind, blocks_given, instance_for, is_at, is_phase_read, kind_of_step, known_of, lease_calls, own_block, same_kind, shared_elsewhere, spot_of_call}
 use Rattle.sl_trace.specs.declared.lease.LeaseNext.TheVariants.{AnswerJob, BecomeExclusive, BecomeShared, GrantJob, Nothing, ReadFor, WriteBlock, WriteLeader}
 use Rattle.sl_trace.specs.declared.lease.LeaseNext.{LeaseNext}
 use Rattle.sl_sector.specs.declared.sector.Block.{Block}
@@ -15,14 +15,12 @@ use Rattle.sl_trace.specs.declared.command.Command.{Command}
 use Rattle.sl_trace.specs.declared.effects.LeaseStep.TheVariants.{Phase1Read, Phase2Read, ReadArea}
 use Rattle.sl_trace.specs.declared.effects.LeaseStep.{LeaseStep}
 use Rattle.sl_trace.specs.declared.effects.Purpose.TheVariants.{Lease}
-use Rattle.sl_trace.specs.declared.effects.Purpose.{Purpose}
 use Rattle.sl_trace.specs.declared.effects.Work.TheVariants.{ForJob}
 use Rattle.sl_trace.specs.declared.input.Answer.TheVariants.{Read}
 use Rattle.sl_trace.specs.declared.input.Answer.{Answer}
 use Rattle.sl_trace.specs.declared.reply.Reply.{Reply}
-use Rattle.sl_words.specs.Words.{some_is}
 use Rattle.std.proofs.Common.{ap, ◌∙◌}
-use Rattle.std.specs.Prelude.{Bool, List, None, Ok, Option, Some, [], false, true, ℕ, ◌++◌, ◌∷◌, ◌≡◌, ◌||◌}
+use Rattle.std.specs.Prelude.{Bool, List, Ok, Option, Some, [], true, ℕ, ◌++◌, ◌∷◌, ◌≡◌, ◌||◌, false}
 
 -- The answer of the session's call at this step, for the job with this command; what was known of the lease by it.
 pub record LeaseHeard (y : Answering) (s : Session) (c : Submitted) (a : Answer) (step : LeaseStep) (command : Command) : Type 0 where
@@ -39,6 +37,8 @@ pub record LeaseHeard (y : Answering) (s : Session) (c : Submitted) (a : Answer)
   pub calls : lease_calls y.setting (after_entry y) s (spot_of_call y.setting.layout c) ≡ c ∷ before
   pub gives : gave c ≡ bytes_given a
   pub for_job : c.call.purpose ≡ Lease (ForJob y.job.number) step
+  -- a block has one sector
+  pub plain : y.setting.layout.paired ≡ false
   -- the entry's end shows no more of it
   pub instances : (l : Leader) (own : Block) (read : List (Option Block)) →
       instance_for (known_here y s c) l own read
@@ -65,35 +65,17 @@ IsWell these y (BecomeExclusive lver b) = Unit {0}
 
 -- ---- the read
 
--- Whether a call with this purpose is at a step of this kind.
-abbrev pub is_at_in : StepKind → Purpose → Bool
-is_at_in kind p = some_is (λ q. same_kind (kind_of_step q.1) kind) (lease_step p)
+pub area_given : (y : Answering) (s : Session) (c : Submitted) (bytes name : List ℕ) (command : Command) → (h : LeaseHeard y s c (Read bytes) (ReadArea name) command)
+    → blocks_given y.setting.layout c h.before ≡ Some (area_blocks y.setting.layout bytes)
+area_given y s c bytes name command h = area_gives y.setting.layout h.plain c h.before bytes (ForJob y.job.number) name h.gives h.for_job
 
--- The blocks that these bytes give to a call with this purpose.
-abbrev pub blocks_by : Layout → Option (List ℕ) → Purpose → Option (List (Option Block))
-blocks_by l o p =
-    elim o [
-      | None ↦ None
-      | Some bytes ↦ elim (is_at_in Area_read p || is_at_in Read_before_free p) [
-        | true ↦ Some (area_blocks l bytes)
-        | false ↦ elim (is_at_in Phase1_read p || is_at_in Phase2_read p) [ true ↦ Some (blocks_in l bytes) | false ↦ None ]
-      ]
-    ]
+pub phase1_given : (y : Answering) (s : Session) (c : Submitted) (bytes : List ℕ) (command : Command) → (h : LeaseHeard y s c (Read bytes) Phase1Read command)
+    → blocks_given y.setting.layout c h.before ≡ Some (blocks_in y.setting.layout bytes)
+phase1_given y s c bytes command h = phase1_gives y.setting.layout h.plain c h.before bytes (ForJob y.job.number) h.gives h.for_job
 
-pub area_given : (y : Answering) (s : Session) (c : Submitted) (bytes name : List ℕ) (command : Command) → LeaseHeard y s c (Read bytes) (ReadArea name) command
-    → blocks_given y.setting.layout c ≡ Some (area_blocks y.setting.layout bytes)
-area_given y s c bytes name command h =
-    ap (λ o. blocks_by y.setting.layout o c.call.purpose) h.gives ∙ ap (λ p. blocks_by y.setting.layout (Some bytes) p) h.for_job
-
-pub phase1_given : (y : Answering) (s : Session) (c : Submitted) (bytes : List ℕ) (command : Command) → LeaseHeard y s c (Read bytes) Phase1Read command
-    → blocks_given y.setting.layout c ≡ Some (blocks_in y.setting.layout bytes)
-phase1_given y s c bytes command h =
-    ap (λ o. blocks_by y.setting.layout o c.call.purpose) h.gives ∙ ap (λ p. blocks_by y.setting.layout (Some bytes) p) h.for_job
-
-pub phase2_given : (y : Answering) (s : Session) (c : Submitted) (bytes : List ℕ) (command : Command) → LeaseHeard y s c (Read bytes) Phase2Read command
-    → blocks_given y.setting.layout c ≡ Some (blocks_in y.setting.layout bytes)
-phase2_given y s c bytes command h =
-    ap (λ o. blocks_by y.setting.layout o c.call.purpose) h.gives ∙ ap (λ p. blocks_by y.setting.layout (Some bytes) p) h.for_job
+pub phase2_given : (y : Answering) (s : Session) (c : Submitted) (bytes : List ℕ) (command : Command) → (h : LeaseHeard y s c (Read bytes) Phase2Read command)
+    → blocks_given y.setting.layout c h.before ≡ Some (blocks_in y.setting.layout bytes)
+phase2_given y s c bytes command h = phase2_gives y.setting.layout h.plain c h.before bytes (ForJob y.job.number) h.gives h.for_job
 
 pub at_step : (y : Answering) (s : Session) (c : Submitted) (a : Answer) (step : LeaseStep) (command : Command) → LeaseHeard y s c a step command
     → (kind : StepKind) → same_kind (kind_of_step step) kind ≡ true → is_at kind c ≡ true
@@ -111,11 +93,11 @@ reads y s c bytes step command h P holds = (c, bytes, h.call, holds)
 
 -- What the entry's read shows of the blocks and the own block.
 pub reads_blocks : (y : Answering) (s : Session) (c : Submitted) (bytes : List ℕ) (step : LeaseStep) (command : Command) → (h : LeaseHeard y s c (Read bytes) step command)
-    → (blocks : List (Option Block)) (own : Block) → blocks_given y.setting.layout c ≡ Some blocks → own_block y.setting.layout s.id (c ∷ h.before) ≡ Some own
+    → (blocks : List (Option Block)) (own : Block) → blocks_given y.setting.layout c h.before ≡ Some blocks → own_block y.setting.layout s.id (c ∷ h.before) ≡ Some own
     → (P : Session → Submitted → List (Option Block) → Block → Type 0) → P s c blocks own → ReadsBlocks y P
 reads_blocks y s c bytes step command h blocks own given is P holds =
     with_session y s
     (λ s. AnswersRead y (λ c bytes. (blocks : List (Option Block)) × (own : Block) × (later before : List Submitted)
-    × (blocks_given y.setting.layout c ≡ Some blocks) × (lease_calls y.setting (after_entry y) s (spot_of_call y.setting.layout c) ≡ later ++ c ∷ before)
+    × (blocks_given y.setting.layout c before ≡ Some blocks) × (lease_calls y.setting (after_entry y) s (spot_of_call y.setting.layout c) ≡ later ++ c ∷ before)
     × (own_block y.setting.layout s.id (c ∷ before) ≡ Some own) × P s c blocks own)) h.session
     (c, bytes, h.call, (blocks, own, [], h.before, given, h.calls, is, holds))

@@ -1,4 +1,6 @@
 -- What a lease's call is answered with has its cause, and keeps it to the entry's end: from then on the lease does nothing more.
+use Rattle.sl_area.specs.Places.{blocks_in, leader_of}
+use Rattle.sl_trace.proofs.PlainWork.{bytes_plain}
 use Rattle.sl_acts.specs.Acts.{Has, Hears}
 use Rattle.sl_acts.specs.SoFar.{entry_of}
 use Rattle.sl_due_law.proofs.Causes.AnsweredJobs.{AnswersHere, answers_here, its_command, told_not_waking}
@@ -6,6 +8,7 @@ use Rattle.sl_due_law.proofs.Causes.LaterSteps.{after_that, by_effects, replied_
 use Rattle.sl_due_law.proofs.Causes.Leases.AreaCauses.{area_well}
 use Rattle.sl_due_law.proofs.Causes.Leases.Hearing.{IsWell, LeaseHeard, knows}
 use Rattle.sl_due_law.proofs.Causes.Leases.Limits.{refuses_well}
+use Rattle.sl_due_law.proofs.Causes.Leases.NewestWays.{IsPlainStep, plain_step}
 use Rattle.sl_due_law.proofs.Causes.Leases.PhaseCauses.{no_settling, phase1_well, phase2_well}
 use Rattle.sl_due_law.proofs.Causes.NamesBefore.{session_then}
 use Rattle.sl_due_law.specs.Causes.CausedSoFar.{HasCause, IsCarried, IsConcluded, IsLater, KeepsLeases, StaysCaused, answering}
@@ -16,12 +19,13 @@ use Rattle.sl_due_leases.specs.Holdings.Moments.{Known}
 use Rattle.sl_due_facts.proofs.Jobs.CallsHaveFacts.{sessions_bare}
 use Rattle.sl_due_facts.proofs.Jobs.CallsStay.{IsLate, calls_stay}
 use Rattle.sl_due_facts.proofs.Jobs.JobsAreAllowed.{calls_heard}
+use Rattle.sl_due_facts.proofs.Jobs.PlainNexts.{next_plain}
 use Rattle.sl_due_facts.proofs.Jobs.RepliesComeAfter.{mapped_or}
 use Rattle.sl_run.specs.Caused.{Answering, CausedBy}
 use Rattle.sl_run.specs.Saying.{IsAnsweredAt}
 use Rattle.sl_trace.specs.Ballots.{instance_of}
 use Rattle.sl_trace.specs.Jobs.{aim_of, aim_of_command, command_numbered, lockspace_named, resource_named}
-use Rattle.sl_trace.specs.LeaseWork.{after_take, lease_next, lease_place}
+use Rattle.sl_trace.specs.LeaseWork.{after_read, after_take, first_step, lease_next, lease_place, part_read}
 use Rattle.sl_trace.specs.Leases.{LeaseKnown, lease_step, exclusive_on, freed, has_shared_on, known, known_of, lease_calls, lver_written, owed_free, spot_of_call, top_lver}
 use Rattle.sl_trace.specs.declared.lease.Aim.TheVariants.{Acquires, Converts, Releases, Settles}
 use Rattle.sl_trace.specs.declared.lease.Aim.{Aim}
@@ -43,7 +47,7 @@ use Rattle.sl_trace.specs.declared.command.Command.TheVariants.{Acquire, AddLock
 use Rattle.sl_trace.specs.declared.command.Command.{Command}
 use Rattle.sl_trace.specs.declared.command.ResourceArg.{ResourceArg}
 use Rattle.sl_trace.specs.declared.effects.Effects.{Effects}
-use Rattle.sl_trace.specs.declared.effects.LeaseStep.TheVariants.{ClearMode, FreeLeader, Phase1Read, Phase1Write, Phase2Read, Phase2Write, ReadArea, ReadBeforeFree, SetMode, TakeLeader}
+use Rattle.sl_trace.specs.declared.effects.LeaseStep.TheVariants.{ClearMode, FreeLeader, Phase1Read, Phase1Write, Phase2Read, Phase2Write, ReadAgain, ReadArea, ReadBeforeBlock, ReadBeforeFree, SetMode, TakeLeader}
 use Rattle.sl_trace.specs.declared.effects.LeaseStep.{LeaseStep}
 use Rattle.sl_trace.specs.declared.effects.Mode.TheVariants.{Exclusive, Shared}
 use Rattle.sl_trace.specs.declared.effects.Purpose.TheVariants.{Lease}
@@ -79,43 +83,55 @@ taken_well these y k (Converts Shared) n = tt
 taken_well these y k Releases n = tt
 taken_well these y k Settles n = tt
 
+-- What a read leads to has its cause, where a block has one sector.
+read_well : (these : Reply → Bool) (y : Answering) (s : Session) (r : ResourceArg) (c : Submitted) (bytes : List ℕ) (command : Command) (aim : Aim) (step : LeaseStep)
+    → (h : LeaseHeard y s c (Read bytes) step command) → r.lockspace ≡ s.lockspace → resource_named command ≡ Some r → ((name : List ℕ) → step ≡ ReadArea name → name ≡ r.name)
+    → IsPlainStep step → aim_of_command command ≡ Some aim
+    → IsWell these y (after_read (lease_place y.setting s) (knows h) aim (leader_of y.setting.layout bytes) (blocks_in y.setting.layout (part_read y.setting.layout bytes (first_step step))) (first_step step))
+read_well these y s r c bytes command aim (ReadArea name) h space names seeks plain aims =
+    area_well these y s (record r { name = name }) c bytes command aim h space (names ∙ ap (λ k. Some (record r { name = k })) (sym (seeks name refl)))
+read_well these y s r c bytes command aim ReadBeforeFree h space names seeks plain aims = mapped_or (IsWell these y) _ (owed_free (knows h)) Nothing (λ k. tt) tt
+read_well these y s r c bytes command aim ReadBeforeBlock h space names seeks plain aims = absurd plain
+read_well these y s r c bytes command aim (ReadAgain read) h space names seeks plain aims = absurd plain
+read_well these y s r c bytes command aim Phase1Read h space names seeks plain aims = phase1_well these y s c bytes command aim h aims (knows h).own refl
+read_well these y s r c bytes command aim Phase2Read h space names seeks plain aims = phase2_well these y s c bytes command aim h aims (knows h).own refl
+read_well these y s r c bytes command aim Phase1Write h space names seeks plain aims = tt
+read_well these y s r c bytes command aim Phase2Write h space names seeks plain aims = tt
+read_well these y s r c bytes command aim TakeLeader h space names seeks plain aims = tt
+read_well these y s r c bytes command aim SetMode h space names seeks plain aims = tt
+read_well these y s r c bytes command aim FreeLeader h space names seeks plain aims = tt
+read_well these y s r c bytes command aim ClearMode h space names seeks plain aims = tt
+
 -- What a lease's answer leads to has its cause, if that it is done has.
 lease_well : (these : Reply → Bool) (y : Answering) (s : Session) (r : ResourceArg) (c : Submitted) (command : Command) (aim : Aim) (n : ℕ) (step : LeaseStep) (answer : Answer)
     → (h : LeaseHeard y s c answer step command) → r.lockspace ≡ s.lockspace → resource_named command ≡ Some r → ((name : List ℕ) → step ≡ ReadArea name → name ≡ r.name)
-    → aim_of_command command ≡ Some aim → (these Done ≡ true → CausedBy y Done)
+    → IsPlainStep step → aim_of_command command ≡ Some aim → (these Done ≡ true → CausedBy y Done)
     → IsWell these y (lease_next (lease_place y.setting s) (knows h) aim c.call.number n step answer)
 unfolding lease_next
-lease_well these y s r c command aim n step Failed h space names seeks aims done = refuses_well these y aim (IoFault c.call.number) (λ shown. (c, h.call, refl))
-lease_well these y s r c command aim n (ReadArea name) (Read bytes) h space names seeks aims done =
-    area_well these y s (record r { name = name }) c bytes command aim h space (names ∙ ap (λ k. Some (record r { name = k })) (sym (seeks name refl)))
-lease_well these y s r c command aim n ReadBeforeFree (Read bytes) h space names seeks aims done = mapped_or (IsWell these y) _ (owed_free (knows h)) Nothing (λ k. tt) tt
-lease_well these y s r c command aim n Phase1Read (Read bytes) h space names seeks aims done = phase1_well these y s c bytes command aim h aims (knows h).own refl
-lease_well these y s r c command aim n Phase2Read (Read bytes) h space names seeks aims done = phase2_well these y s c bytes command aim h aims (knows h).own refl
-lease_well these y s r c command aim n Phase1Write (Read bytes) h space names seeks aims done = tt
-lease_well these y s r c command aim n Phase2Write (Read bytes) h space names seeks aims done = tt
-lease_well these y s r c command aim n TakeLeader (Read bytes) h space names seeks aims done = tt
-lease_well these y s r c command aim n SetMode (Read bytes) h space names seeks aims done = tt
-lease_well these y s r c command aim n FreeLeader (Read bytes) h space names seeks aims done = tt
-lease_well these y s r c command aim n ClearMode (Read bytes) h space names seeks aims done = tt
-lease_well these y s r c command aim n (ReadArea name) Written h space names seeks aims done = tt
-lease_well these y s r c command aim n ReadBeforeFree Written h space names seeks aims done = tt
-lease_well these y s r c command aim n Phase1Write Written h space names seeks aims done = tt
-lease_well these y s r c command aim n Phase1Read Written h space names seeks aims done = tt
-lease_well these y s r c command aim n Phase2Write Written h space names seeks aims done = tt
-lease_well these y s r c command aim n Phase2Read Written h space names seeks aims done = tt
-lease_well these y s r c command aim n TakeLeader Written h space names seeks aims done = taken_well these y (knows h) aim n
-lease_well these y s r c command (Acquires mode) n SetMode Written h space names seeks aims done = tt
-lease_well these y s r c command (Converts mode) n SetMode Written h space names seeks aims done = mapped_or (IsWell these y) _ (knows h).exclusive Nothing (λ e. tt) tt
-lease_well these y s r c command Releases n SetMode Written h space names seeks aims done = tt
-lease_well these y s r c command Settles n SetMode Written h space names seeks aims done = tt
-lease_well these y s r c command (Acquires mode) n FreeLeader Written h space names seeks aims done = tt
-lease_well these y s r c command (Converts mode) n FreeLeader Written h space names seeks aims done = tt
-lease_well these y s r c command Releases n FreeLeader Written h space names seeks aims done = done
-lease_well these y s r c command Settles n FreeLeader Written h space names seeks aims done = absurd (no_settling command aims)
-lease_well these y s r c command (Acquires mode) n ClearMode Written h space names seeks aims done = tt
-lease_well these y s r c command (Converts mode) n ClearMode Written h space names seeks aims done = tt
-lease_well these y s r c command Releases n ClearMode Written h space names seeks aims done = done
-lease_well these y s r c command Settles n ClearMode Written h space names seeks aims done = absurd (no_settling command aims)
+lease_well these y s r c command aim n step Failed h space names seeks plain aims done = refuses_well these y aim (IoFault c.call.number) (λ shown. (c, h.call, refl))
+lease_well these y s r c command aim n step (Read bytes) h space names seeks plain aims done =
+    subst (λ z. IsWell these y z) (sym (bytes_plain (lease_place y.setting s) (knows h) aim bytes step h.plain)) (read_well these y s r c bytes command aim step h space names seeks plain aims)
+lease_well these y s r c command aim n (ReadArea name) Written h space names seeks plain aims done = tt
+lease_well these y s r c command aim n ReadBeforeBlock Written h space names seeks plain aims done = tt
+lease_well these y s r c command aim n (ReadAgain read) Written h space names seeks plain aims done = tt
+lease_well these y s r c command aim n ReadBeforeFree Written h space names seeks plain aims done = tt
+lease_well these y s r c command aim n Phase1Write Written h space names seeks plain aims done = tt
+lease_well these y s r c command aim n Phase1Read Written h space names seeks plain aims done = tt
+lease_well these y s r c command aim n Phase2Write Written h space names seeks plain aims done = tt
+lease_well these y s r c command aim n Phase2Read Written h space names seeks plain aims done = tt
+lease_well these y s r c command aim n TakeLeader Written h space names seeks plain aims done = taken_well these y (knows h) aim n
+lease_well these y s r c command (Acquires mode) n SetMode Written h space names seeks plain aims done = tt
+lease_well these y s r c command (Converts mode) n SetMode Written h space names seeks plain aims done = mapped_or (IsWell these y) _ (knows h).exclusive Nothing (λ e. tt) tt
+lease_well these y s r c command Releases n SetMode Written h space names seeks plain aims done = tt
+lease_well these y s r c command Settles n SetMode Written h space names seeks plain aims done = tt
+lease_well these y s r c command (Acquires mode) n FreeLeader Written h space names seeks plain aims done = tt
+lease_well these y s r c command (Converts mode) n FreeLeader Written h space names seeks plain aims done = tt
+lease_well these y s r c command Releases n FreeLeader Written h space names seeks plain aims done = done
+lease_well these y s r c command Settles n FreeLeader Written h space names seeks plain aims done = absurd (no_settling command aims)
+lease_well these y s r c command (Acquires mode) n ClearMode Written h space names seeks plain aims done = tt
+lease_well these y s r c command (Converts mode) n ClearMode Written h space names seeks plain aims done = tt
+lease_well these y s r c command Releases n ClearMode Written h space names seeks plain aims done = done
+lease_well these y s r c command Settles n ClearMode Written h space names seeks plain aims done = absurd (no_settling command aims)
 
 -- ---- what stands at each later step
 
@@ -216,6 +232,7 @@ heard_then x s m answer j step aim why k w hears purpose aims may fx carried job
       calls = leases ∙ calls;
       gives = ap (λ o. option_and_then (λ (a : Answered). bytes_given a.answer) o) told.1 ∙ ap (λ a. bytes_given a) told.3;
       for_job = purpose ∙ ap (λ n. Lease (ForJob n) step) (sym here.number);
+      plain = k.0.setting.unpaired;
       instances = λ l own read.
           ap (λ b. instance_by b (me (seen z) s) (freed (lease_calls x.setting (seen z) s at)) l own read) (over l.owner l.generation)
           ∙ (ap (λ g. instance_by (counts_over x.setting (seen x) s l.owner l.generation) (record { id = s.id; generation = g }) (freed (lease_calls x.setting (seen z) s at)) l own read) keeps.generation
@@ -331,14 +348,15 @@ refused_caused these x s m answer j step aim why k w hears purpose aims may next
 
     well : IsWell (refusals these) y (lease_next (lease_place x.setting s) (knows h) aim m.call.number (lver_written m) step answer)
     well =
-        lease_well (refusals these) y s fits_it.0 m command.0 aim (lver_written m) step answer h fits_it.3.0 fits_it.1 seeks command.2
+        lease_well (refusals these) y s fits_it.0 m command.0 aim (lver_written m) step answer h fits_it.3.0 fits_it.1 seeks (plain_step x s (ForJob j) step m answer k.0 hears purpose) command.2
         (λ d. absurd (false_is_true (and_true (these Done) (not (is_done Done)) d).1))
 
     same : lease_next (lease_place x.setting s) (knows h) aim m.call.number (lver_written m) step answer ≡ AnswerJob why
     same =
         ap (λ ms. lease_next (lease_place x.setting s)
         (known_of x.setting.layout s.lockspace (me (seen x) s) (has_shared_on (seen x) s at) (option_map (λ (g : Grant). g.lver) (exclusive_on (seen x) s at)) (counts_over x.setting (seen x) s) ms)
-        aim m.call.number (lver_written m) step answer) (sym newest.1) ∙ next
+        aim m.call.number (lver_written m) step answer) (sym newest.1)
+        ∙ (sym (next_plain x.setting (seen x) s at aim m step answer k.0.setting.unpaired) ∙ next)
 
     by_next : IsWell (refusals these) y (AnswerJob why) → CausedBy y why
     by_next cause = cause shown

@@ -1,9 +1,11 @@
 -- Work on a lease is answered as done only for a release, by the write that frees the leader or clears the mode.
-use Rattle.sl_area.specs.Places.{area_blocks, blocks_in, leader_of}
 use Rattle.sl_due_facts.proofs.Jobs.RepliesComeAfter.{mapped_or, on_bool, on_option}
+use Rattle.sl_due_law.proofs.Causes.Leases.ReadNexts.{bytes_by}
 use Rattle.sl_trace.specs.Ballots.{phase1_block, same_owner, stop_of, value_of}
-use Rattle.sl_trace.specs.LeaseWork.{LeasePlace, after_moding, after_phase1, after_phase2, after_read, after_take, area_next, begin_next, begin_or_refuse, lease_next, looks_for_shared, lost_next, named_area_next, phase1_next, phase2_next, refuses, stop_reply, stopped_next, whole_area_next, won_next}
-use Rattle.sl_trace.specs.Leases.{LeaseKnown, instance_for, is_leader_of, mode_gen_of, owed_free, own_known, shared_elsewhere}
+use Rattle.sl_trace.specs.LeaseWork.{LeasePlace, after_bytes, after_moding, after_phase1, after_phase2, after_read, after_take, area_next, begin_next, begin_or_refuse, first_step, lease_next, looks_for_shared, lost_next, named_area_next, phase1_next, phase2_next, refuses, settle_next, settle_owed, stop_reply, stopped_next, whole_area_next, won_next}
+use Rattle.sl_trace.specs.Leases.{LeaseKnown, instance_for, is_leader_of, mode_gen_of, owed, owed_free, own_known, shared_elsewhere}
+use Rattle.sl_trace.specs.declared.lease.Owed.TheVariants.{BallotOwed, FreeOwed, ModeOwed}
+use Rattle.sl_trace.specs.declared.lease.Owed.{Owed}
 use Rattle.sl_trace.specs.declared.lease.Aim.{Aim}
 use Rattle.sl_trace.specs.declared.lease.Aim.TheVariants.{Acquires, Converts, Releases, Settles}
 use Rattle.sl_trace.specs.declared.lease.Instance.{Instance}
@@ -17,7 +19,7 @@ use Rattle.sl_sector.specs.declared.sector.Leader.{Leader}
 use Rattle.sl_sector.specs.declared.sector.Owner.{Owner}
 use Rattle.sl_trace.specs.Traces.{is_done}
 use Rattle.sl_trace.specs.declared.effects.LeaseStep.{LeaseStep}
-use Rattle.sl_trace.specs.declared.effects.LeaseStep.TheVariants.{ClearMode, FreeLeader, Phase1Read, Phase1Write, Phase2Read, Phase2Write, ReadArea, ReadBeforeFree, SetMode, TakeLeader}
+use Rattle.sl_trace.specs.declared.effects.LeaseStep.TheVariants.{ClearMode, FreeLeader, Phase1Read, Phase1Write, Phase2Read, Phase2Write, ReadAgain, ReadArea, ReadBeforeBlock, ReadBeforeFree, SetMode, TakeLeader}
 use Rattle.sl_trace.specs.declared.effects.Mode.TheVariants.{Exclusive, Shared}
 use Rattle.sl_trace.specs.declared.input.Answer.{Answer}
 use Rattle.sl_trace.specs.declared.input.Answer.TheVariants.{Failed, Read, Written}
@@ -105,30 +107,44 @@ named_not : (p : LeasePlace) (k : LeaseKnown) (aim : Aim) (l : Leader) (read : L
 named_not p k aim l read (Some i) = refl
 named_not p k aim l read None = mapped_or NotDone _ (own_known k) Nothing (λ own. begin_or_not p k aim (instance_for k l own read)) tt
 
-area_not : (p : LeasePlace) (k : LeaseKnown) (aim : Aim) (name bytes : List ℕ) → NotDone (area_next p k aim name bytes)
+area_not : (p : LeasePlace) (k : LeaseKnown) (aim : Aim) (name : List ℕ) (leader : Option Leader) (read : List (Option Block)) → NotDone (area_next p k aim name leader read)
 unfolding area_next
-area_not p k aim name bytes = by (leader_of p.layout bytes) where
+area_not p k aim name leader read = by leader where
   by : (o : Option Leader)
       → NotDone (elim o as (λ z. LeaseNext) [
         | None ↦ AnswerJob TornLeader
-        | Some l ↦ elim (is_leader_of p.layout p.lockspace name l) as (λ z. LeaseNext) [ false ↦ AnswerJob (WrongArea l.lockspace l.resource l.num_hosts) | true ↦ named_area_next p k aim l (area_blocks p.layout bytes) ]
+        | Some l ↦ elim (is_leader_of p.layout p.lockspace name l) as (λ z. LeaseNext) [ false ↦ AnswerJob (WrongArea l.lockspace l.resource l.num_hosts) | true ↦ named_area_next p k aim l read ]
       ])
   by None = refl
   by (Some l) =
-      on_bool NotDone (is_leader_of p.layout p.lockspace name l) (AnswerJob (WrongArea l.lockspace l.resource l.num_hosts)) (named_area_next p k aim l (area_blocks p.layout bytes)) refl
-      (named_not p k aim l (area_blocks p.layout bytes) (position is_none (area_blocks p.layout bytes)))
+      on_bool NotDone (is_leader_of p.layout p.lockspace name l) (AnswerJob (WrongArea l.lockspace l.resource l.num_hosts)) (named_area_next p k aim l read) refl (named_not p k aim l read (position is_none read))
 
-read_not : (p : LeasePlace) (k : LeaseKnown) (aim : Aim) (bytes : List ℕ) (step : LeaseStep) → IsForJob aim → NotDone (after_read p k aim bytes step)
-read_not p k aim bytes (ReadArea name) job = area_not p k aim name bytes
-read_not p k aim bytes ReadBeforeFree job = mapped_or NotDone _ (owed_free k) Nothing (λ n. tt) tt
-read_not p k aim bytes Phase1Read job = mapped_or NotDone _ k.own Nothing (λ own. after_phase1_not p k aim own (blocks_in p.layout bytes) (stop_of own (blocks_in p.layout bytes)) job) tt
-read_not p k aim bytes Phase2Read job = mapped_or NotDone _ k.own Nothing (λ own. after_phase2_not p k aim own (stop_of own (blocks_in p.layout bytes)) job) tt
-read_not p k aim bytes Phase1Write job = tt
-read_not p k aim bytes Phase2Write job = tt
-read_not p k aim bytes TakeLeader job = tt
-read_not p k aim bytes SetMode job = tt
-read_not p k aim bytes FreeLeader job = tt
-read_not p k aim bytes ClearMode job = tt
+-- Nor is what a settling does.
+settled_not : (p : LeasePlace) (k : LeaseKnown) → NotDone (settle_next p k)
+unfolding settle_next
+settled_not p k = by (owed k) where
+  by : (o : Option Owed) → NotDone (settle_owed p k o)
+  by None = tt
+  by (Some (BallotOwed n)) = begin_not p k Settles n
+  by (Some ModeOwed) = mapped_or NotDone _ k.own Nothing (λ own. tt) tt
+  by (Some (FreeOwed n)) = tt
+
+read_not : (p : LeasePlace) (k : LeaseKnown) (aim : Aim) (leader : Option Leader) (read : List (Option Block)) (step : LeaseStep) → IsForJob aim → NotDone (after_read p k aim leader read step)
+read_not p k aim leader read (ReadArea name) job = area_not p k aim name leader read
+read_not p k aim leader read ReadBeforeFree job = mapped_or NotDone _ (owed_free k) Nothing (λ n. tt) tt
+read_not p k aim leader read ReadBeforeBlock job = settled_not p k
+read_not p k aim leader read (ReadAgain again) job = tt
+read_not p k aim leader read Phase1Read job = mapped_or NotDone _ k.own Nothing (λ own. after_phase1_not p k aim own read (stop_of own read) job) tt
+read_not p k aim leader read Phase2Read job = mapped_or NotDone _ k.own Nothing (λ own. after_phase2_not p k aim own (stop_of own read) job) tt
+read_not p k aim leader read Phase1Write job = tt
+read_not p k aim leader read Phase2Write job = tt
+read_not p k aim leader read TakeLeader job = tt
+read_not p k aim leader read SetMode job = tt
+read_not p k aim leader read FreeLeader job = tt
+read_not p k aim leader read ClearMode job = tt
+
+bytes_not : (p : LeasePlace) (k : LeaseKnown) (aim : Aim) (bytes : List ℕ) (step : LeaseStep) → IsForJob aim → NotDone (after_bytes p k aim bytes step)
+bytes_not p k aim bytes step job = bytes_by NotDone p k aim bytes step (λ read of. tt) (read_not p k aim _ _ (first_step step) job)
 
 taken_not : (k : LeaseKnown) (aim : Aim) (n : ℕ) → NotDone (after_take k aim n)
 taken_not k (Acquires Exclusive) n = tt
@@ -157,9 +173,11 @@ never_done n not is = true_is_false (subst (λ k. NotDone k) is not)
 pub done_by : (p : LeasePlace) (k : LeaseKnown) (aim : Aim) (call n : ℕ) (step : LeaseStep) (answer : Answer) → IsForJob aim → lease_next p k aim call n step answer ≡ AnswerJob Done → DoneBy aim step answer
 unfolding lease_next
 done_by p k aim call n step Failed job is = absurd (never_done (refuses aim (IoFault call)) (refuses_not aim (IoFault call) refl) is)
-done_by p k aim call n step (Read bytes) job is = absurd (never_done (after_read p k aim bytes step) (read_not p k aim bytes step job) is)
+done_by p k aim call n step (Read bytes) job is = absurd (never_done (after_bytes p k aim bytes step) (bytes_not p k aim bytes step job) is)
 done_by p k aim call n (ReadArea name) Written job is = absurd (never_done Nothing tt is)
 done_by p k aim call n ReadBeforeFree Written job is = absurd (never_done Nothing tt is)
+done_by p k aim call n ReadBeforeBlock Written job is = absurd (never_done Nothing tt is)
+done_by p k aim call n (ReadAgain read) Written job is = absurd (never_done Nothing tt is)
 done_by p k aim call n Phase1Read Written job is = absurd (never_done Nothing tt is)
 done_by p k aim call n Phase2Read Written job is = absurd (never_done Nothing tt is)
 done_by p k aim call n Phase1Write Written job is = absurd (never_done (ReadFor Phase1Read) tt is)

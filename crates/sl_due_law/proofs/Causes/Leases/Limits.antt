@@ -48,7 +48,7 @@ unfolding phase1_block
 number_in st s k n own seen same = ap (λ id. next_mbal st.layout.hosts id (map (λ (b : Block). b.mbal) (in_instance n (own ∷ seen)))) same
 
 phase1_well : (these : Reply → Bool) (y : Answering) (s : Session) (c : Submitted) (bytes : List ℕ) (step : LeaseStep) (command : Command) (aim : Aim) → (h : LeaseHeard y s c (Read bytes) step command)
-    → (blocks : List (Option Block)) (own : Block) → blocks_given y.setting.layout c ≡ Some blocks → own_block y.setting.layout s.id (c ∷ h.before) ≡ Some own
+    → (blocks : List (Option Block)) (own : Block) → blocks_given y.setting.layout c h.before ≡ Some blocks → own_block y.setting.layout s.id (c ∷ h.before) ≡ Some own
     → (n : ℕ) → BeginsAt y s c blocks own n → (b : Block) → b.lver ≡ n → b.mbal ≡ next_number y.setting s n own (present blocks)
     → (low : Bool) → is_number b.lver ≡ low → (small : Bool) → is_number b.mbal ≡ small
     → IsWell these y (elim low as (λ z. LeaseNext) [
@@ -70,7 +70,7 @@ began st k aim n own = phase1_next aim (phase1_block k.self st.layout.hosts n k.
 
 -- Where the read shows that a ballot begins in n.
 pub begin_well : (these : Reply → Bool) (y : Answering) (s : Session) (c : Submitted) (bytes : List ℕ) (step : LeaseStep) (command : Command) (aim : Aim) → (h : LeaseHeard y s c (Read bytes) step command)
-    → (blocks : List (Option Block)) (own : Block) → blocks_given y.setting.layout c ≡ Some blocks → own_block y.setting.layout s.id (c ∷ h.before) ≡ Some own
+    → (blocks : List (Option Block)) (own : Block) → blocks_given y.setting.layout c h.before ≡ Some blocks → own_block y.setting.layout s.id (c ∷ h.before) ≡ Some own
     → (knows h).read ≡ blocks → (n : ℕ) → BeginsAt y s c blocks own n
     → IsWell these y (begin_next (lease_place y.setting s) (knows h) aim n)
 unfolding begin_next

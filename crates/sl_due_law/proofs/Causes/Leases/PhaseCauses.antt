@@ -40,7 +40,7 @@ own_is y s ms own is = ap (λ o. own_or_read s.id o (last_blocks y.setting.layou
 -- ---- what stops a ballot
 
 stopped : (y : Answering) (s : Session) (c : Submitted) (bytes : List ℕ) (step : LeaseStep) (command : Command) → (h : LeaseHeard y s c (Read bytes) step command)
-    → is_phase_read c ≡ true → (blocks : List (Option Block)) (own : Block) → blocks_given y.setting.layout c ≡ Some blocks → block_submitted (c ∷ h.before) ≡ Some own
+    → is_phase_read c ≡ true → (blocks : List (Option Block)) (own : Block) → blocks_given y.setting.layout c h.before ≡ Some blocks → block_submitted (c ∷ h.before) ≡ Some own
     → (stop : Stop) → stop_of own blocks ≡ Some stop → IsStopRead y stop
 stopped y s c bytes step command h phase blocks own given known stop is =
     reads_blocks y s c bytes step command h blocks own given (own_is y s (c ∷ h.before) own known)

@@ -2,7 +2,7 @@
 use Rattle.sl_acts.proofs.DecisionsAreTheirs.{Of}
 use Rattle.sl_acts.proofs.LoopsKeep.{for_each_keeps, when_keeps}
 use Rattle.sl_acts.proofs.PlainActs.{line_has}
-use Rattle.sl_acts.specs.Acts.{Acts, Has, Hears}
+use Rattle.sl_acts.specs.Acts.{Acts, Has, Hears, next_of_conversion, next_of_release, next_of_settling}
 use Rattle.sl_area.specs.Places.{request_offset, value_offset}
 use Rattle.sl_area.specs.Roles.{value}
 use Rattle.sl_due.specs.DueAnswers.{set_reply}
@@ -14,6 +14,7 @@ use Rattle.sl_due.specs.DueRequests.{after_request_read, after_value_read, bits_
 use Rattle.sl_due.specs.Steps.{Step, add_call_of, add_end, add_grant, add_move, add_reply, begin_step, seen, with_input}
 use Rattle.sl_due.specs.declared.decision.Decision.{Decision}
 use Rattle.sl_due.specs.declared.decision.Decision.TheVariants.{ConvertsTo, GetsValue, GivesUp, Joins, Leaves, ReadsArea, Replies, Requests, SetsValue, Shares, TakesOver}
+use Rattle.sl_due_facts.proofs.Jobs.PlainNexts.{conversion_plain, release_plain}
 use Rattle.sl_due_leases.proofs.Grants.DeltasKeep.{free_keeps, renewal_keeps}
 use Rattle.sl_due_leases.proofs.Grants.Modes.FitsHolding.{FittingSoFar, bare_fits, by_delta, call_fits, fitting_so_far, leavings_fit, move_fits, others_fit, plain_call, reads_no_value, reads_values, reply_fits, seq_of, signal_fits}
 use Rattle.sl_due_leases.proofs.Grants.Modes.LeasesFit.{OfConversion, block_fits, its_mode, leader_fits, led_fits, new_spot, read_fits, right_mode, settled_fits}
@@ -47,7 +48,7 @@ use Rattle.sl_due_leases.proofs.Ways.Kept.UnjoinedHaveNone.{its_joining, joins_s
 use Rattle.sl_due_leases.proofs.Ways.WayStages.{is_at_in}
 use Rattle.sl_trace.specs.Ballots.{moded_block}
 use Rattle.sl_trace.specs.Jobs.{aim_of, aim_of_command, command_numbered, job_of_start}
-use Rattle.sl_trace.specs.LeaseWork.{convert_next, leader_for, lease_place, release_next, settle_next}
+use Rattle.sl_trace.specs.LeaseWork.{convert_next, leader_for, lease_place, release_next}
 use Rattle.sl_trace.specs.Leases.{Mode_set, block_of_record, exclusive_on, has_shared_on, holdings_on, known, lver_written, open_on, spot_of, spot_of_call, value_of_record}
 use Rattle.sl_trace.specs.declared.lease.Aim.{Aim}
 use Rattle.sl_trace.specs.declared.lease.Aim.TheVariants.{Converts}
@@ -101,10 +102,10 @@ trivial_area : (y : Step) (s : Session) (path : List ℕ) (p : Purpose) (o : ℕ
 trivial_area y s path p o op has bare later no_block no_value_there no_read = plain_call y s path p o op has later no_block no_value_there no_read (bare_fits y bare)
 
 release_fits : (z : Step) (s : Session) (at : Spot) (j : ℕ) (g : Grant) → LeaseReady z s at → z.effects.calls ≡ [] → (hs : List Grant) → holdings_on (seen z) s at ≡ hs
-    → FittingSoFar (elim hs as (λ w. Step) [ h ∷ rest ↦ add_reply j Done z | [] ↦ carry_lease s at (ForJob j) (release_next (lease_place z.setting s) (known z.setting (seen z) s at) g.mode g.lver) z ])
+    → FittingSoFar (elim hs as (λ w. Step) [ h ∷ rest ↦ add_reply j Done z | [] ↦ carry_lease s at (ForJob j) (next_of_release z.setting (seen z) s at g) z ])
 unfolding carry_lease
 release_fits z s at j g ready bare (h ∷ rest) is = bare_fits (add_reply j Done z) bare
-release_fits z s at j g ready bare [] is = of_mode g.mode where
+release_fits z s at j g ready bare [] is = subst (λ n. FittingSoFar (carry_lease s at (ForJob j) n z)) (sym (release_plain z.setting (seen z) s at g ready.setting.unpaired)) (of_mode g.mode) where
   none : has_shared_on (seen z) s at ≡ false
   none = ap (λ hs. is_some (find (λ (k : Grant). is_shared k.mode) hs)) is
 
@@ -118,15 +119,20 @@ release_fits z s at j g ready bare [] is = of_mode g.mode where
   of_mode Exclusive = leader_fits z s at (ForJob j) FreeLeader (leader_for (lease_place z.setting s) (known z.setting (seen z) s at) false g.lver) ready.has (bare_fits z bare)
   of_mode Shared = own (known z.setting (seen z) s at).own
 
-conversion_fits : (y : Step) (s : Session) (at : Spot) (j : ℕ) (mode : Mode) (name : List ℕ) → LeaseReady y s at → y.effects.calls ≡ [] → FittingSoFar (carry_lease s at (ForJob j) (convert_next (known y.setting (seen y) s at) mode name) y)
+begun_fits : (y : Step) (s : Session) (at : Spot) (j : ℕ) (mode : Mode) (name : List ℕ) → LeaseReady y s at → y.effects.calls ≡ [] → FittingSoFar (carry_lease s at (ForJob j) (convert_next (known y.setting (seen y) s at) mode name) y)
 unfolding carry_lease
-conversion_fits y s at j Exclusive name ready bare = read_fits y s at (ForJob j) (ReadArea name) ready.has (bare_fits y bare)
-conversion_fits y s at j Shared name ready bare = by (known y.setting (seen y) s at).own where
+begun_fits y s at j Exclusive name ready bare = read_fits y s at (ForJob j) (ReadArea name) ready.has (bare_fits y bare)
+begun_fits y s at j Shared name ready bare = by (known y.setting (seen y) s at).own where
   by : (o : Option Block) → FittingSoFar (carry_lease s at (ForJob j) (option_map_or (λ own. WriteBlock SetMode (moded_block own true (known y.setting (seen y) s at).self.generation)) o Nothing) y)
   by None = bare_fits y bare
   by (Some own) =
       block_fits y s at ready (ForJob j) SetMode (moded_block own true (known y.setting (seen y) s at).self.generation)
       (λ c spot is. right_mode y.setting (seen y) s at c (moded_block own true (known y.setting (seen y) s at).self.generation) (ForJob j) SetMode spot is (refl, refl)) (bare_fits y bare)
+
+conversion_fits : (y : Step) (s : Session) (at : Spot) (j : ℕ) (mode : Mode) (name : List ℕ) → LeaseReady y s at → y.effects.calls ≡ []
+    → FittingSoFar (carry_lease s at (ForJob j) (next_of_conversion y.setting (seen y) s at mode name) y)
+conversion_fits y s at j mode name ready bare =
+    subst (λ n. FittingSoFar (carry_lease s at (ForJob j) n y)) (sym (conversion_plain y.setting (seen y) s at mode name ready.setting.unpaired)) (begun_fits y s at j mode name ready bare)
 
 -- The holder whom the command names.
 pub named_holder : (t : Trace) (s : Session) (at : Spot) (p : ℕ) (serves : Grant → Bool) (g : Grant) → holding_of t s at p serves ≡ Some g
@@ -239,7 +245,7 @@ lines_fit x text c (GivesUp s g) k wake bare reads grounds on has =
     let held = held_ended x s on.0 g in_x k.0.facts.holdings on.3 in
     subst (λ at. FittingSoFar (elim (holdings_on (seen (add_end (end_of g) y)) s at) as (λ v. Step) [
       | h ∷ rest ↦ add_reply j Done (add_end (end_of g) y)
-      | [] ↦ carry_lease s at (ForJob j) (release_next (lease_place x.setting s) (known x.setting (seen (add_end (end_of g) y)) s at) g.mode g.lver) (add_end (end_of g) y)
+      | [] ↦ carry_lease s at (ForJob j) (next_of_release x.setting (seen (add_end (end_of g) y)) s at g) (add_end (end_of g) y)
     ])) (sym held.0)
     (release_fits (add_end (end_of g) y) s (spot_of on.0) j g (ended_ready y s (spot_of on.0) g (line_ready x text c s on.0 k.0.setting k.0.facts.calls wake reads on.1 has)) bare (holdings_on (seen (add_end (end_of g) y)) s (spot_of on.0)) refl)
 lines_fit x text c (TakesOver s g) k wake bare reads grounds on has =
@@ -360,7 +366,7 @@ calls_fit =
           renewal_keeps FittingSoFar x s (delta_of_session x.setting s) x.reading (delta_known x.setting (seen x) s) (bits_due x.setting (calls_of (seen x) s) x.reading)
           (λ d. plain_call x s s.path Renewal (own_offset x.setting s) (WriteRecord (DeltaIs d)) has refl refl refl (reads_no_value Renewal refl) (fitting_so_far x k)) (fitting_so_far x k);
       settles = λ x s at has wake active aligned none k.
-          settled_fits x s at (waked_ready x s at has aligned none k.0) (settle_next (lease_place x.setting s) (known x.setting (seen x) s at)) (settling_fits (lease_place x.setting s) (known x.setting (seen x) s at)) (fitting_so_far x k);
+          settled_fits x s at (waked_ready x s at has aligned none k.0) (next_of_settling x.setting (seen x) s at) (settling_fits (lease_place x.setting s) (known x.setting (seen x) s at)) (fitting_so_far x k);
       parts = λ x s has joined recovers free quiet k.
           when_keeps FittingSoFar (is_registered x.setting (seen x) s.lockspace) (add_move (Unregister s.lockspace)) x (λ is h. move_fits x (Unregister s.lockspace) h) (fitting_so_far x k);
       frees = λ x s has joined well free quiet k.

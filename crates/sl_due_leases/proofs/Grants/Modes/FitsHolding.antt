@@ -19,7 +19,7 @@ use Rattle.sl_plain.proofs.Lists.{got_inside}
 use Rattle.sl_sector.specs.declared.sector.Block.{Block}
 use Rattle.sl_sector.specs.declared.sector.DeltaRec.{DeltaRec}
 use Rattle.sl_sector.specs.declared.sector.Rec.{Rec}
-use Rattle.sl_sector.specs.declared.sector.Rec.TheVariants.{BlockIs, DeltaIs, LeaderIs, RequestIs, ValueIs}
+use Rattle.sl_sector.specs.declared.sector.Rec.TheVariants.{BlockIs, DeltaIs, LeaderIs, PairIs, PairLeaderIs, RequestIs, ValueIs}
 use Rattle.sl_sector.specs.declared.sector.ValueRec.{ValueRec}
 use Rattle.sl_trace.specs.Sessions.{calls_of, generation_in, is_free_purpose, is_join_call, session_numbered}
 use Rattle.sl_trace.specs.declared.session.Session.{Session}
@@ -70,6 +70,8 @@ plain_none f none None h = refl
 plain_none f none (Some (DeltaIs d)) h = none d
 plain_none f none (Some (BlockIs b)) h = absurd (false_is_true (h (BlockIs b) refl))
 plain_none f none (Some (LeaderIs l)) h = absurd (false_is_true (h (LeaderIs l) refl))
+plain_none f none (Some (PairIs b)) h = absurd (false_is_true (h (PairIs b) refl))
+plain_none f none (Some (PairLeaderIs l)) h = absurd (false_is_true (h (PairLeaderIs l) refl))
 plain_none f none (Some (RequestIs r)) h = absurd (false_is_true (h (RequestIs r) refl))
 plain_none f none (Some (ValueIs v)) h = absurd (false_is_true (h (ValueIs v) refl))
 

@@ -1,19 +1,22 @@
 -- A shared grant is lawful: beside a shared holding, by the ballot of its job, or by conversion of what the session held exclusively.
+use Rattle.sl_due_facts.proofs.Jobs.EffectsAreAllowed.{leader_no_delta}
+use Rattle.sl_due_leases.proofs.Grants.Modes.LeasesFit.{leader_no_block}
+use Rattle.sl_trace.specs.declared.effects.LeaseRead.TheVariants.{OfArea, OfFree}
 use Rattle.sl_acts.proofs.DecisionsAreTheirs.{Of}
 use Rattle.sl_acts.proofs.LoopsKeep.{for_each_keeps, when_keeps}
 use Rattle.sl_acts.proofs.PlainActs.{line_has}
 use Rattle.sl_acts.specs.Acts.{Acts, Has, Hears}
 use Rattle.sl_acts.specs.SoFar.{entry_of}
-use Rattle.sl_area.specs.Places.{block_offset, leader_offset, request_offset}
+use Rattle.sl_area.specs.Places.{block_place, block_record, leader_offset, leader_record, request_offset}
 use Rattle.sl_due.specs.DueFirst.{send}
-use Rattle.sl_due.specs.DueLease.{carry_lease, convert_holding, goes_on, grant_for, held_otherwise, next_of_lease, write_block, write_leader}
+use Rattle.sl_due.specs.DueLease.{carry_lease, convert_holding, goes_on, grant_for, held_otherwise, name_on, next_of_lease, next_turn, write_block, write_leader}
 use Rattle.sl_due.specs.Steps.{Step, add_end, add_grant, add_move, add_reply, seen, with_input, with_some}
 use Rattle.sl_due_leases.proofs.Grants.DeltasKeep.{free_keeps}
 use Rattle.sl_due_leases.proofs.Grants.Modes.SharedStands.{SharedSoFar, call_shared, exited_shared, granted_shared, kill_shared, lines_shared, move_shared, none_shared, one_shared, same_resource, shared_so_far}
 use Rattle.sl_due_leases.proofs.Grants.NothingGranted.{GrantingActs, by_granting, none_begin}
 use Rattle.sl_due_leases.proofs.Grants.WorksByLines.{held_before}
 use Rattle.sl_due_leases.proofs.Holdings.DecisionsHaveGrounds.{decisions_have_grounds}
-use Rattle.sl_due_leases.proofs.Holdings.LeaseCallers.{heard_answered, heard_call as call_heard, heard_opens}
+use Rattle.sl_due_leases.proofs.Holdings.LeaseCallers.{heard_answered, heard_call as call_heard, heard_opens, spot_aligned}
 use Rattle.sl_due_leases.proofs.Holdings.LeaseConversions.{OfOneProcess, converted, only_converted, otherwise}
 use Rattle.sl_due_leases.proofs.Holdings.LeaseNexts.{IsFitNext, IsGrantOf, next_fits}
 use Rattle.sl_due_leases.proofs.Holdings.MomentsAreKept.{same}
@@ -25,11 +28,12 @@ use Rattle.sl_run.specs.Saying.{IsAnsweredAt}
 use Rattle.sl_due_leases.proofs.Leases.NextsStay.{HeldThere, at_work, held_there, not_true}
 use Rattle.sl_due_leases.proofs.Leases.TurnsStay.{turned_by}
 use Rattle.sl_due_leases.proofs.Ways.Kept.CallsSame.{reply_leaves}
-use Rattle.sl_due_leases.proofs.Ways.Kept.EffectsLeave.{made_call}
+use Rattle.sl_due_leases.proofs.Ways.GivenReads.{none_again}
+use Rattle.sl_due_leases.proofs.Ways.Kept.EffectsLeave.{made_call, there_has}
 use Rattle.sl_due_leases.proofs.Ways.Kept.HeardStands.{heard_has, heard_number, spot_same}
 use Rattle.sl_trace.specs.Jobs.{aim_of, aim_of_command, command_numbered, resource_named}
 use Rattle.sl_trace.specs.LeaseWork.{lease_place}
-use Rattle.sl_trace.specs.Leases.{block_submitted, block_written, exclusive_on, holdings_on, is_lease_call, is_on, known, lease_calls, lease_step, lver_written, spot_of, spot_of_call}
+use Rattle.sl_trace.specs.Leases.{block_submitted, block_written, exclusive_on, holdings_on, is_again, is_lease_call, is_on, known, lease_calls, lease_step, lver_written, spot_of, spot_of_call}
 use Rattle.sl_trace.specs.declared.lease.Aim.{Aim}
 use Rattle.sl_trace.specs.declared.lease.Aim.TheVariants.{Acquires, Converts}
 use Rattle.sl_trace.specs.declared.lease.LeaseNext.{LeaseNext}
@@ -40,14 +44,16 @@ use Rattle.sl_plain.proofs.Numbers.{number_itself}
 use Rattle.sl_plain.proofs.Options.{mapped_value}
 use Rattle.sl_sector.specs.declared.sector.Block.{Block}
 use Rattle.sl_sector.specs.declared.sector.Leader.{Leader}
-use Rattle.sl_sector.specs.declared.sector.Rec.TheVariants.{BlockIs, DeltaIs, LeaderIs}
+use Rattle.sl_sector.specs.declared.sector.DeltaRec.{DeltaRec}
+use Rattle.sl_sector.specs.declared.sector.Rec.TheVariants.{DeltaIs}
 use Rattle.sl_trace.specs.Deltas.{own_offset}
-use Rattle.sl_trace.specs.Sessions.{calls_of, generation_in, generation_of, holders_of, holdings_of, is_call_of, session_numbered}
+use Rattle.sl_trace.specs.Sessions.{calls_of, generation_in, generation_of, given_number, holders_of, holdings_of, is_call_of, last_delta, session_numbered}
 use Rattle.sl_trace.specs.declared.session.Session.{Session}
 use Rattle.sl_due_facts.specs.Facts.GrantGrounds.{FreedForJob, IsDoneWork, ModedForJob}
 use Rattle.sl_due_facts.specs.Facts.Heard.{heard_by}
 use Rattle.sl_due_facts.specs.Facts.HoldingFacts.{HoldingFacts, StandsExclusive}
 use Rattle.sl_due_facts.specs.Facts.JobFacts.{FitsCommand}
+use Rattle.sl_due_facts.specs.Facts.WayFacts.{Ways, way_context}
 use Rattle.sl_trace.specs.Connections.{is_registered}
 use Rattle.sl_trace.specs.Traces.{Submitted, Trace, end_of, holdings, is_ended_by, is_running, is_shared, job_of, new_call, next_job, same_place, spot_of_grant, submitted}
 use Rattle.sl_trace.specs.declared.command.Command.{Command}
@@ -55,7 +61,7 @@ use Rattle.sl_trace.specs.declared.command.ResourceArg.{ResourceArg}
 use Rattle.sl_trace.specs.declared.effects.Call.{Call}
 use Rattle.sl_trace.specs.declared.effects.Grant.{Grant}
 use Rattle.sl_trace.specs.declared.effects.LeaseStep.{LeaseStep}
-use Rattle.sl_trace.specs.declared.effects.LeaseStep.TheVariants.{ClearMode, FreeLeader, ReadArea, ReadBeforeFree, SetMode}
+use Rattle.sl_trace.specs.declared.effects.LeaseStep.TheVariants.{ClearMode, FreeLeader, ReadAgain, ReadArea, ReadBeforeFree, SetMode}
 use Rattle.sl_trace.specs.declared.effects.Mode.{Mode}
 use Rattle.sl_trace.specs.declared.effects.Mode.TheVariants.{Exclusive, Shared}
 use Rattle.sl_trace.specs.declared.effects.Move.TheVariants.{Unregister}
@@ -73,6 +79,7 @@ use Rattle.sl_words.proofs.CaseLaws.{false_is_true, none_some, one_value, true_i
 use Rattle.sl_words.specs.Words.{same_truth}
 use Rattle.std.proofs.Common.{ap, arith, inl, inr, refl, subst, sym, ◌∙◌}
 use Rattle.std.proofs.lemmas.List.Elements.{Contains-append_right}
+use Rattle.std.specs.Option.{option_map_or}
 use Rattle.std.specs.Prelude.{Bool, Contains, List, None, Option, Some, [], cond, false, filter, find, is_some, length, not, option_and_then, slice_get, true, ℕ, ◌&&◌, ◌++◌, ◌==◌, ◌∷◌, ◌≡◌, ◌≤◌, ◌⊎◌}
 
 -- ---- after an answer
@@ -102,6 +109,13 @@ ballot_behind x s m j c mode d for k =
     let f : FreedForJob x.setting (seen x) s at (lver_written m) j = k.0.facts.grounds.shared s m j c mode d for in
     let on = kept_inside (λ (n : Submitted). is_lease_call n && is_on x.setting.layout at n.call) (calls_of (seen x) s) f.read (split_there (lease_calls x.setting (seen x) s at) f.before f.after f.read f.split) in
     let there = kept_inside (is_call_of s) (submitted (seen x)) f.read on.0 in
+    let ways : Ways (way_context x.setting (seen x) s) (lease_calls x.setting (seen x) s at) =
+    k.0.facts.ways.each s at (there_has x.setting (seen x) m.call.session s d.session) (spot_aligned x.setting.layout m)
+    in
+    let once : is_again f.read ≡ false =
+    none_again (way_context x.setting (seen x) s) k.0.setting.unpaired (lease_calls x.setting (seen x) s at) ways f.read
+    (split_there (lease_calls x.setting (seen x) s at) f.before f.after f.read f.split)
+    in
     record {
       since = f.read.at;
       none_shared = k.0.facts.works.unshared m f.read j FreeLeader f.step c mode s d.work for d.session there.0 f.of_job;
@@ -117,6 +131,7 @@ ballot_behind x s m j c mode d for k =
       before = f.before;
       split = f.split;
       won = (omega arith, f.won);
+      first_since = λ again first is. absurd (false_is_true (sym once ∙ again));
       moded = f.moded;
       freed = f.freed;
       first = f.first;
@@ -240,7 +255,7 @@ became_shared x s m j lver l has unended ungranted holds v =
             z = convert_holding j Shared lver g x
 
             c : Call
-            c = made_call z s.number at.path (Lease Settling FreeLeader) (leader_offset at.base) (WriteRecord (LeaderIs l))
+            c = made_call z s.number at.path (Lease Settling FreeLeader) (leader_offset at.base) (WriteRecord (leader_record z.setting.layout l))
 
             new : Submitted
             new = new_call (length z.past) z.reading c
@@ -272,6 +287,7 @@ became_shared x s m j lver l has unended ungranted holds v =
 
             generation : generation_of (seen w) s ≡ generation_of (seen x) s
             generation = ap (λ ms. generation_in s ms) mine
+                ∙ ap (λ d. option_map_or (λ (r : DeltaRec). r.generation) (elim d as (λ v. Option DeltaRec) [ Some r ↦ Some r | None ↦ last_delta (calls_of (seen x) s) ]) (given_number s)) (leader_no_delta x.setting.layout l)
 
             behind : SharedByConversion x.setting x.past (seen w) s at lver
             behind =
@@ -293,7 +309,7 @@ became_shared x s m j lver l has unended ungranted holds v =
                 }
               where
                 kept_so : (d : Submitted) (b : Block) → m.call.number ≤ d.call.number → block_written d ≡ Some b → (new ≡ d) ⊎ Contains (lease_calls x.setting (seen x) s at) d → (b.shared ≡ true) × (b.mode_gen ≡ generation_of (seen w) s)
-                kept_so d b after is (inl is_new) = absurd (none_some b (ap (λ k. block_written k) is_new ∙ is))
+                kept_so d b after is (inl is_new) = absurd (none_some b (sym (leader_no_block x.setting.layout l) ∙ (ap (λ k. block_written k) is_new ∙ is)))
                 kept_so d b after is (inr old) = let r = v.moded.kept d b old after is in (r.0, r.1 ∙ sym generation)
 
 -- ---- all that a lease may decide after an answer
@@ -306,6 +322,8 @@ unfolding carry_lease
 led_shared x s m a h work step aim k is on aimed Nothing fits = none_shared x h.ungranted
 led_shared x s m a h work step aim k is on aimed (ReadFor (ReadArea name)) fits = none_shared (carry_lease s (spot_of_call x.setting.layout m) work (ReadFor (ReadArea name)) x) h.ungranted
 led_shared x s m a h work step aim k is on aimed (ReadFor ReadBeforeFree) fits = none_shared (carry_lease s (spot_of_call x.setting.layout m) work (ReadFor ReadBeforeFree) x) h.ungranted
+led_shared x s m a h work step aim k is on aimed (ReadFor (ReadAgain (OfArea name))) fits = none_shared (carry_lease s (spot_of_call x.setting.layout m) work (ReadFor (ReadAgain (OfArea name))) x) h.ungranted
+led_shared x s m a h work step aim k is on aimed (ReadFor (ReadAgain OfFree)) fits = none_shared (carry_lease s (spot_of_call x.setting.layout m) work (ReadFor (ReadAgain OfFree)) x) h.ungranted
 led_shared x s m a h work step aim k is on aimed (ReadFor to) fits = none_shared (carry_lease s (spot_of_call x.setting.layout m) work (ReadFor to) x) h.ungranted
 led_shared x s m a h work step aim k is on aimed (WriteBlock to b) fits = none_shared (carry_lease s (spot_of_call x.setting.layout m) work (WriteBlock to b) x) h.ungranted
 led_shared x s m a h work step aim k is on aimed (WriteLeader to l) fits = none_shared (carry_lease s (spot_of_call x.setting.layout m) work (WriteLeader to l) x) h.ungranted
@@ -346,7 +364,8 @@ led_shared x s m a h (ForJob j) step aim k is on aimed (BecomeExclusive lver b) 
     exclusive_one at g mine =
         let z : Step = convert_holding j Exclusive lver g x in
         one_shared (write_block s at Settling ClearMode b z) x.effects.grants (converted g Exclusive lver) s h.ungranted refl
-        (ap (λ ss. slice_get ss g.session) (same_sessions x.setting (entry_of z) x.past (made_call z s.number at.path (Lease Settling ClearMode) (block_offset x.setting.layout at.base s.id) (WriteRecord (BlockIs b))) refl)
+        (ap (λ ss. slice_get ss g.session) (same_sessions x.setting (entry_of z) x.past (made_call z s.number at.path (Lease Settling ClearMode)
+        (block_place z.setting.layout at.base s.id (next_turn z.setting (seen z) s at)) (WriteRecord (block_record z.setting.layout (next_turn z.setting (seen z) s at) s.lockspace (name_on z.setting (seen z) s at) b))) refl)
         ∙ (ap (λ n. session_numbered x.setting (seen x) n) mine ∙ heard_has x s m a h)) (λ is. absurd (false_is_true is))
 
 -- ---- the whole

@@ -23,7 +23,7 @@ use Rattle.sl_run.specs.LawfulModes.{AllShared, HoldsSharedUnder, LawfulExclusiv
 use Rattle.sl_due_leases.proofs.Ways.Kept.CallsSame.{reply_leaves}
 use Rattle.sl_due_leases.proofs.Ways.Kept.EffectsLeave.{made_call}
 use Rattle.sl_trace.specs.Jobs.{resource_named}
-use Rattle.sl_trace.specs.Leases.{exclusive_on, holdings_on, is_lease_call, is_on, known, lease_calls, lease_step, spot_of}
+use Rattle.sl_trace.specs.Leases.{exclusive_on, holdings_on, is_lease_call, is_on, lease_calls, lease_step, spot_of}
 use Rattle.sl_due_facts.proofs.Parts.CallsGrow.{mine_more, others_stay, same_sessions}
 use Rattle.sl_plain.proofs.Lists.{contains_none, find_inside, kept}
 use Rattle.sl_plain.proofs.Numbers.{number_itself}
@@ -108,6 +108,7 @@ ballot_carried st past e f s at n k b =
       before = b.before;
       split = k.lease ∙ b.split;
       won = (b.won.0, b.won.1 ∙ ap (λ i. let p : Option (ℕ × Owner) = Some (n, owner_by s i) in p) (sym k.generation));
+      first_since = b.first_since;
       moded = (b.moded.0, b.moded.1, b.moded.2, b.moded.3, b.moded.4 ∙ sym k.generation, b.moded.5, b.moded.6);
       freed = b.freed;
       first = λ d there free. b.first d (subst (λ ms. Contains ms d) k.lease there) free;
@@ -294,7 +295,7 @@ lines_shared x text c j d k wake says = by d where
       granted_shared (add_end (end_of e) y) s j c e.mode e.lver has none.1 (λ r named is.
       inl (subst (λ z. HoldsSharedUnder x.past s (spot_of z) e.lver) (same_resource c grounds.resource r (ap (λ z. resource_named z) grounds.command) named)
       (held_shared x s (spot_of grounds.resource) e e.lver none.0 none.1 f.0 is refl)))
-  by (ConvertsTo s r mode) grounds has = none_shared (carry_decision j c (ConvertsTo s r mode) y) (converting_grants y s (spot_of r) j (known x.setting (seen y) s (spot_of r)) mode r.name ∙ none.1)
+  by (ConvertsTo s r mode) grounds has = none_shared (carry_decision j c (ConvertsTo s r mode) y) (converting_grants y s (spot_of r) j mode r.name ∙ none.1)
   by (Requests s r) grounds has = none_shared (carry_decision j c (Requests s r) y) none.1
   by (SetsValue s spot v) grounds has = none_shared (carry_decision j c (SetsValue s spot v) y) none.1
   by (GetsValue s spot) grounds has = none_shared (carry_decision j c (GetsValue s spot) y) none.1

@@ -1,7 +1,8 @@
 -- Before an answer to a value's call is heard nothing is told of values, and no other act tells anything of them.
+use Rattle.sl_due_facts.proofs.Jobs.PlainNexts.{conversion_plain, release_plain}
 use Rattle.sl_trace_law.proofs.Leases.AnswerLaws.{answers_within}
 use Rattle.sl_trace_law.proofs.Leases.HavingLaws.{Has as Having, has_one_more}
-use Rattle.sl_acts.specs.Acts.{Hears}
+use Rattle.sl_acts.specs.Acts.{Hears, next_of_conversion, next_of_release}
 use Rattle.sl_acts.specs.SoFar.{entry_of}
 use Rattle.sl_due.specs.Steps.{Step, add_end, seen}
 use Rattle.sl_due.specs.declared.decision.Decision.{Decision}
@@ -14,7 +15,7 @@ use Rattle.sl_due_facts.proofs.Jobs.EffectsAreAllowed.{Allows, DecisionAllowed, 
 use Rattle.sl_due_facts.proofs.Jobs.RepliesComeAfter.{IsApartDelta, request_apart, second_off, tells_value}
 use Rattle.sl_run.specs.LawfulValue.{LawfulSetReply, LawfulValueReply}
 use Rattle.sl_run.specs.Saying.{IsAnsweredAt}
-use Rattle.sl_trace.specs.LeaseWork.{convert_next, lease_place, release_next}
+use Rattle.sl_trace.specs.LeaseWork.{lease_place}
 use Rattle.sl_trace.specs.Leases.{known, spot_of}
 use Rattle.sl_trace.specs.declared.lease.LeaseNext.{LeaseNext}
 use Rattle.sl_trace.specs.declared.lease.LeaseNext.TheVariants.{AnswerJob, BecomeExclusive, BecomeShared, GrantJob, Nothing as No_lease, ReadFor, WriteBlock, WriteLeader}
@@ -32,8 +33,9 @@ use Rattle.sl_trace.specs.declared.command.Command.TheVariants.{Acquire, Request
 use Rattle.sl_trace.specs.declared.effects.Call.{Call}
 use Rattle.sl_trace.specs.declared.effects.Entry.{Entry}
 use Rattle.sl_trace.specs.declared.effects.JobReply.{JobReply}
+use Rattle.sl_trace.specs.declared.effects.LeaseRead.TheVariants.{OfArea, OfFree}
 use Rattle.sl_trace.specs.declared.effects.LeaseStep.{LeaseStep}
-use Rattle.sl_trace.specs.declared.effects.LeaseStep.TheVariants.{ReadArea, ReadBeforeFree}
+use Rattle.sl_trace.specs.declared.effects.LeaseStep.TheVariants.{ReadAgain, ReadArea, ReadBeforeFree}
 use Rattle.sl_trace.specs.declared.effects.Move.{Move}
 use Rattle.sl_trace.specs.declared.effects.Op.{Op}
 use Rattle.sl_trace.specs.declared.effects.Purpose.{Purpose}
@@ -116,13 +118,15 @@ lease_allowed y s at work (ReadFor step) h = by step where
   by : (step : LeaseStep) → ReadAllowed AnyCall y s at work step
   by (ReadArea name) = tt
   by ReadBeforeFree = tt
+  by (ReadAgain (OfArea name)) = tt
+  by (ReadAgain OfFree) = tt
   by step = tt
 lease_allowed y s at work (WriteBlock step b) h = tt
 lease_allowed y s at work (WriteLeader step l) h = tt
 lease_allowed y s at work (AnswerJob r) h = λ j is. h r refl
 lease_allowed y s at work (GrantJob mode lver) h = λ j c is named. grants_allowed j lver c
 lease_allowed y s at work (BecomeShared lver l) h = (λ j is. refl, tt)
-lease_allowed y s at work (BecomeExclusive lver b) h = (λ j is. refl, λ g. tt)
+lease_allowed y s at work (BecomeExclusive lver b) h = (λ j is. refl, λ z same. tt)
 
 pub delta_allowed : (y : Step) (s : Session) (n : DeltaNext) → IsApartDelta n → DeltaAllowed May AnyCall AnyMove y s n
 delta_allowed y s No_delta h = tt
@@ -149,24 +153,26 @@ freed_allowed y s j call Written = (tt, refl)
 freed_allowed y s j call Failed = (tt, refl)
 freed_allowed y s j call (Read bytes) = tt
 
-pub decision_allowed : (y : Step) (j : ℕ) (c : Command) (d : Decision) → DecisionAllowed NoneTold May AnyCall AnyStart y j c d
-decision_allowed y j c (Replies r) = tt
-decision_allowed y j c (Joins n a) = λ z is. tt
-decision_allowed y j c (Leaves s) = (tt, λ z h k there. refl)
-decision_allowed y j c (ReadsArea s r) = tt
-decision_allowed y j c (Shares s lver) = grants_allowed j lver c
-decision_allowed y j c (GivesUp s g) =
+pub decision_allowed : (y : Step) (j : ℕ) (c : Command) (d : Decision) → y.setting.layout.paired ≡ false → DecisionAllowed NoneTold May AnyCall AnyStart y j c d
+decision_allowed y j c (Replies r) plain = tt
+decision_allowed y j c (Joins n a) plain = λ z is. tt
+decision_allowed y j c (Leaves s) plain = (tt, λ z h k there. refl)
+decision_allowed y j c (ReadsArea s r) plain = tt
+decision_allowed y j c (Shares s lver) plain = grants_allowed j lver c
+decision_allowed y j c (GivesUp s g) plain =
     let z : Step = add_end (end_of g) y in (
       refl,
-      lease_allowed z s (spot_of_grant g) (ForJob j) (release_next (lease_place y.setting s) (known y.setting (seen z) s (spot_of_grant g)) g.mode g.lver)
-          (λ r is. absurd (release_silent (lease_place y.setting s) (known y.setting (seen z) s (spot_of_grant g)) g.mode g.lver r is)),
+      lease_allowed z s (spot_of_grant g) (ForJob j) (next_of_release y.setting (seen z) s (spot_of_grant g) g)
+          (λ r is.
+          absurd (release_silent (lease_place y.setting s) (known y.setting (seen z) s (spot_of_grant g)) g.mode g.lver r (sym (release_plain y.setting (seen z) s (spot_of_grant g) g plain) ∙ is))),
     )
-decision_allowed y j c (TakesOver s g) = grants_allowed j g.lver c
-decision_allowed y j c (ConvertsTo s r mode) =
-    lease_allowed y s (spot_of r) (ForJob j) (convert_next (known y.setting (seen y) s (spot_of r)) mode r.name) (λ q is. absurd (never_answers (known y.setting (seen y) s (spot_of r)) mode r.name q is))
-decision_allowed y j c (Requests s r) = tt
-decision_allowed y j c (SetsValue s at v) = tt
-decision_allowed y j c (GetsValue s at) = tt
+decision_allowed y j c (TakesOver s g) plain = grants_allowed j g.lver c
+decision_allowed y j c (ConvertsTo s r mode) plain =
+    lease_allowed y s (spot_of r) (ForJob j) (next_of_conversion y.setting (seen y) s (spot_of r) mode r.name)
+    (λ q is. absurd (never_answers (known y.setting (seen y) s (spot_of r)) mode r.name q (sym (conversion_plain y.setting (seen y) s (spot_of r) mode r.name plain) ∙ is)))
+decision_allowed y j c (Requests s r) plain = tt
+decision_allowed y j c (SetsValue s at v) plain = tt
+decision_allowed y j c (GetsValue s at) plain = tt
 
 pub request_allowed : (x : Step) (s : Session) (j : ℕ) (bytes : List ℕ) (c : Command) → RequestAllowed May AnyCall x s j bytes c
 request_allowed x s j bytes (Request r asked force) = (λ why is. second_off (is_special why) (tells_value why) (request_apart x.setting.layout s.lockspace r asked force bytes why is), tt)

@@ -1,7 +1,8 @@
 -- What a lease decides leaves what stands while a value is read elsewhere.
+use Rattle.sl_due_facts.proofs.Jobs.PlainNexts.{block_plain}
 use Rattle.sl_acts.proofs.LoopsKeep.{with_some_keeps}
 use Rattle.sl_acts.specs.SoFar.{entry_of}
-use Rattle.sl_area.specs.Places.{block_offset, in_area, leader_offset}
+use Rattle.sl_area.specs.Places.{area_sectors, block_offset, block_sectors, in_area, leader_offset, leader_record}
 use Rattle.sl_area.specs.Roles.{block, leader}
 use Rattle.sl_due.specs.DueLease.{carry_lease, convert_for, convert_holding, for_work, grant_for, read_area, read_for, with_command, write_block, write_leader}
 use Rattle.sl_due.specs.Steps.{Step, add_call_of, add_end, add_grant, add_reply, seen}
@@ -22,15 +23,16 @@ use Rattle.sl_trace.specs.declared.lease.LeaseNext.{LeaseNext}
 use Rattle.sl_trace.specs.declared.lease.LeaseNext.TheVariants.{AnswerJob, BecomeExclusive, BecomeShared, GrantJob, Nothing, ReadFor, WriteBlock, WriteLeader}
 use Rattle.sl_sector.specs.declared.sector.Block.{Block}
 use Rattle.sl_sector.specs.declared.sector.Leader.{Leader}
-use Rattle.sl_sector.specs.declared.sector.Rec.TheVariants.{BlockIs, LeaderIs}
+use Rattle.sl_sector.specs.declared.sector.Rec.TheVariants.{BlockIs}
 use Rattle.sl_trace.specs.Sessions.{is_join_call}
 use Rattle.sl_trace.specs.declared.session.Session.{Session}
 use Rattle.sl_trace.specs.Traces.{Setting, Submitted, end_of, is_before_input, is_write, new_call, same_place, spot_of_grant, work_job}
 use Rattle.sl_trace.specs.declared.effects.Call.{Call}
 use Rattle.sl_trace.specs.declared.effects.Grant.{Grant}
 use Rattle.sl_trace.specs.declared.effects.JoinStep.TheVariants.{FirstRead}
+use Rattle.sl_trace.specs.declared.effects.LeaseRead.TheVariants.{OfArea, OfFree}
 use Rattle.sl_trace.specs.declared.effects.LeaseStep.{LeaseStep}
-use Rattle.sl_trace.specs.declared.effects.LeaseStep.TheVariants.{ClearMode, FreeLeader, ReadArea, ReadBeforeFree}
+use Rattle.sl_trace.specs.declared.effects.LeaseStep.TheVariants.{ClearMode, FreeLeader, ReadAgain, ReadArea, ReadBeforeFree}
 use Rattle.sl_trace.specs.declared.effects.Mode.{Mode}
 use Rattle.sl_trace.specs.declared.effects.Mode.TheVariants.{Exclusive, Shared}
 use Rattle.sl_trace.specs.declared.effects.Op.{Op}
@@ -43,8 +45,8 @@ use Rattle.sl_trace.specs.declared.effects.Work.TheVariants.{ForJob, Settling}
 use Rattle.sl_trace.specs.declared.reply.Reply.{Reply}
 use Rattle.sl_trace.specs.declared.reply.Reply.TheVariants.{Granted}
 use Rattle.sl_words.proofs.CaseLaws.{is_false, true_is_false}
-use Rattle.std.proofs.Common.{ap, inl, inr, refl, sym, ◌∙◌}
-use Rattle.std.specs.Prelude.{Bool, List, false, is_some, true, ℕ, ◌%◌, ◌&&◌, ◌+◌, ◌==◌, ◌≡◌, ◌≤◌, ◌⊎◌}
+use Rattle.std.proofs.Common.{ap, inl, inr, refl, subst, sym, ◌∙◌}
+use Rattle.std.specs.Prelude.{Bool, List, false, is_some, true, ℕ, ◌%◌, ◌&&◌, ◌==◌, ◌≡◌, ◌≤◌, ◌⊎◌}
 
 -- No value is read on the area.
 pub record IsElsewhere (x : Step) (at : Spot) : Type 0 where
@@ -95,25 +97,28 @@ leader_on x z at c same e path place = placed_on x.setting at c path (ap (λ o. 
 
 block_on : (x z : Step) (at : Spot) (id : ℕ) (c : Call) → z.setting ≡ x.setting → IsElsewhere x at → (1 ≤ id) × (id ≤ x.setting.layout.hosts) → c.path ≡ at.path → c.offset ≡ block_offset z.setting.layout at.base id → is_on x.setting.layout at c ≡ true
 block_on x z at id c same e range path place =
-    placed_on x.setting at c path (ap (λ o. in_area x.setting.layout at.base o) (place ∙ ap (λ (st : Setting). block_offset st.layout at.base id) same) ∙ place_is_on x.setting e.setting at.base (block id) range)
+    placed_on x.setting at c path (ap (λ o. in_area x.setting.layout at.base o) (place ∙ ap (λ (st : Setting). block_offset st.layout at.base id) same) ∙ place_is_on x.setting e.setting at.base (block id) (range, e.setting.unpaired))
 
 -- ---- decisions
 
 reads_there : (x z : Step) (at : Spot) (s : Session) (work : Work) (step : LeaseStep) → IsElsewhere x at → ReadsBack x z → ReadsBack x (read_for s at work step z)
-reads_there x z at s work (ReadArea name) e h = lease_call_reads x z at s work (ReadArea name) at.base (ReadSectors (z.setting.layout.hosts + 2)) e (inl refl) h
-reads_there x z at s work ReadBeforeFree e h = lease_call_reads x z at s work ReadBeforeFree at.base (ReadSectors (z.setting.layout.hosts + 2)) e (inl refl) h
-reads_there x z at s work step e h = lease_call_reads x z at s work step (block_offset z.setting.layout at.base 1) (ReadSectors z.setting.layout.hosts) e (inl refl) h
+reads_there x z at s work (ReadArea name) e h = lease_call_reads x z at s work (ReadArea name) at.base (ReadSectors (area_sectors z.setting.layout)) e (inl refl) h
+reads_there x z at s work ReadBeforeFree e h = lease_call_reads x z at s work ReadBeforeFree at.base (ReadSectors (area_sectors z.setting.layout)) e (inl refl) h
+reads_there x z at s work (ReadAgain (OfArea name)) e h = lease_call_reads x z at s work (ReadAgain (OfArea name)) at.base (ReadSectors (area_sectors z.setting.layout)) e (inl refl) h
+reads_there x z at s work (ReadAgain OfFree) e h = lease_call_reads x z at s work (ReadAgain OfFree) at.base (ReadSectors (area_sectors z.setting.layout)) e (inl refl) h
+reads_there x z at s work step e h = lease_call_reads x z at s work step (block_offset z.setting.layout at.base 1) (ReadSectors (block_sectors z.setting.layout)) e (inl refl) h
 
 block_there : (x z : Step) (at : Spot) (s : Session) (work : Work) (step : LeaseStep) (b : Block) → (1 ≤ s.id) × (s.id ≤ x.setting.layout.hosts) → IsElsewhere x at → ReadsBack x z → ReadsBack x (write_block s at work step b z)
 block_there x z at s work step b range e h =
     let o : ℕ = block_offset z.setting.layout at.base s.id in
-    lease_call_reads x z at s work step o (WriteRecord (BlockIs b)) e
-    (inr (block_on x z at s.id (call_added s.number at.path (Lease work step) o (WriteRecord (BlockIs b)) z) h.setting e range refl refl)) h
+    subst (λ v. ReadsBack x v) (sym (block_plain z s at work step b (ap (λ (st : Setting). st.layout.paired) h.setting ∙ e.setting.unpaired)))
+    (lease_call_reads x z at s work step o (WriteRecord (BlockIs b)) e
+    (inr (block_on x z at s.id (call_added s.number at.path (Lease work step) o (WriteRecord (BlockIs b)) z) h.setting e range refl refl)) h)
 
 leader_there : (x z : Step) (at : Spot) (s : Session) (work : Work) (step : LeaseStep) (l : Leader) → IsElsewhere x at → ReadsBack x z → ReadsBack x (write_leader s at work step l z)
 leader_there x z at s work step l e h =
-    lease_call_reads x z at s work step (leader_offset at.base) (WriteRecord (LeaderIs l)) e
-    (inr (leader_on x z at (call_added s.number at.path (Lease work step) (leader_offset at.base) (WriteRecord (LeaderIs l)) z) h.setting e refl refl)) h
+    lease_call_reads x z at s work step (leader_offset at.base) (WriteRecord (leader_record z.setting.layout l)) e
+    (inr (leader_on x z at (call_added s.number at.path (Lease work step) (leader_offset at.base) (WriteRecord (leader_record z.setting.layout l)) z) h.setting e refl refl)) h
 
 -- An end there.
 pub end_there : (x z : Step) (at : Spot) (g : Grant) → IsElsewhere x at → same_place g.path g.offset at.path at.base ≡ true → ReadsBack x z → ReadsBack x (add_end (end_of g) z)

@@ -1,6 +1,7 @@
 -- What a command comes to leaves what stands while values are read; a read that it begins has it.
+use Rattle.sl_due_facts.proofs.Jobs.PlainNexts.{conversion_plain, release_plain}
 use Rattle.sl_acts.proofs.DecisionsAreTheirs.{Of}
-use Rattle.sl_acts.specs.Acts.{Has}
+use Rattle.sl_acts.specs.Acts.{Has, next_of_conversion, next_of_release}
 use Rattle.sl_acts.specs.SoFar.{entry_of}
 use Rattle.sl_area.specs.Places.{delta_offset, value_offset}
 use Rattle.sl_area.specs.Roles.{value}
@@ -172,12 +173,14 @@ gives_up_reads x text c s g l has u = by (holdings_on (seen z) s (spot_of_grant 
   by : (hs : List Grant)
       → ReadsBack x (elim hs as (λ v. Step) [
         | e ∷ es ↦ add_reply j Done z
-        | [] ↦ carry_lease s (spot_of_grant g) (ForJob j) (release_next (lease_place z.setting s) (known z.setting (seen z) s (spot_of_grant g)) g.mode g.lver) z
+        | [] ↦ carry_lease s (spot_of_grant g) (ForJob j) (next_of_release z.setting (seen z) s (spot_of_grant g) g) z
       ])
   by (e ∷ es) = reply_reads x z j Done (later_same z.past (entry_of z) (record { job = j; reply = Done }) refl) ended
   by [] =
-      lease_reads x z s (spot_of_grant g) (ForJob j) (release_next (lease_place z.setting s) (known z.setting (seen z) s (spot_of_grant g)) g.mode g.lver) there (in_range_of x text c s l has)
-      (λ r is. absurd (release_silent (lease_place z.setting s) (known z.setting (seen z) s (spot_of_grant g)) g.mode g.lver r is)) ended
+      lease_reads x z s (spot_of_grant g) (ForJob j) (next_of_release z.setting (seen z) s (spot_of_grant g) g) there (in_range_of x text c s l has)
+      (λ r is.
+      absurd (release_silent (lease_place z.setting s) (known z.setting (seen z) s (spot_of_grant g)) g.mode g.lver r
+      (sym (release_plain z.setting (seen z) s (spot_of_grant g) g l.known.0.setting.unpaired) ∙ is))) ended
 
 -- ---- a value that is read from here on
 
@@ -379,8 +382,8 @@ lines_values x text c d k wake bare says = by d where
       (end_there x y (spot_of grounds.resource) g (calm_there x text c s grounds.resource l (named_arg x text c grounds.resource l (ap (λ z. resource_named z) grounds.command)) grounds.ready) place back))
   by (ConvertsTo s r mode) grounds has =
       facts_back x (carry_decision j c (ConvertsTo s r mode) y) k
-      (lease_reads x y s (spot_of r) (ForJob j) (convert_next (known x.setting (seen y) s (spot_of r)) mode r.name) (calm_there x text c s r l (named_arg x text c r l (ap (λ z. resource_named z) grounds.command)) grounds.ready)
-      (in_range_of x text c s l has) (λ q is. absurd (never_answers (known x.setting (seen y) s (spot_of r)) mode r.name q is)) back)
+      (lease_reads x y s (spot_of r) (ForJob j) (next_of_conversion x.setting (seen y) s (spot_of r) mode r.name) (calm_there x text c s r l (named_arg x text c r l (ap (λ z. resource_named z) grounds.command)) grounds.ready)
+      (in_range_of x text c s l has) (λ q is. absurd (never_answers (known x.setting (seen y) s (spot_of r)) mode r.name q (sym (conversion_plain x.setting (seen y) s (spot_of r) mode r.name k.0.setting.unpaired) ∙ is))) back)
   by (Requests s r) grounds has =
       facts_back x (carry_decision j c (Requests s r) y) k
       (call_reads x y s.number r.path (RequestRead j) r.offset (ReadSectors 2) (λ i is. true_is_false (sym (ap (λ p. reads_values p) is)))

@@ -3,7 +3,7 @@ use Rattle.sl_acts.proofs.DecisionsAreTheirs.{Of}
 use Rattle.sl_acts.proofs.EffectsKeep.{stopped}
 use Rattle.sl_acts.proofs.LoopsKeep.{for_each_keeps, when_keeps}
 use Rattle.sl_acts.proofs.PlainActs.{line_has}
-use Rattle.sl_acts.specs.Acts.{Has, Hears}
+use Rattle.sl_acts.specs.Acts.{Has, Hears, next_of_settling}
 use Rattle.sl_acts.specs.SoFar.{entry_of}
 use Rattle.sl_area.specs.Places.{request_offset}
 use Rattle.sl_area.specs.Roles.{request}
@@ -45,7 +45,7 @@ use Rattle.sl_due_leases.proofs.Ways.Kept.PlacesStand.{id_in_range, place_is_on,
 use Rattle.sl_due_leases.proofs.Ways.Kept.PlainWalks.{DeltaFits}
 use Rattle.sl_due_leases.proofs.Ways.Kept.UnjoinedHaveNone.{its_joining, joins_still}
 use Rattle.sl_trace.specs.Jobs.{command_numbered, command_of, job_of_start}
-use Rattle.sl_trace.specs.LeaseWork.{lease_place, settle_next}
+use Rattle.sl_trace.specs.LeaseWork.{lease_place}
 use Rattle.sl_trace.specs.Leases.{known, lver_written, open_on, spot_of, spot_of_call}
 use Rattle.sl_trace.specs.declared.lease.Aim.{Aim}
 use Rattle.sl_trace.specs.declared.lease.LeaseNext.{LeaseNext}
@@ -122,9 +122,9 @@ led_values x s work step m a aim h is k =
     (λ r at_r. subst (λ z. IsFitNext (known x.setting (seen x) s at) aim (lver_written m) step a z) at_r fits) (reads_itself x))
 
 settled_values : (x : Step) (s : Session) (at : Spot) → Has x s → x.input ≡ Wake → at.base % x.setting.layout.area ≡ 0 → open_on x.setting (seen x) at ≡ [] → Known x
-    → HasValueFacts (carry_lease s at Settling (settle_next (lease_place x.setting s) (known x.setting (seen x) s at)) x)
+    → HasValueFacts (carry_lease s at Settling (next_of_settling x.setting (seen x) s at) x)
 settled_values x s at has wake aligned none k =
-    let n : LeaseNext = settle_next (lease_place x.setting s) (known x.setting (seen x) s at) in
+    let n : LeaseNext = next_of_settling x.setting (seen x) s at in
     facts_back x (carry_lease s at Settling n x) k
     (lease_reads x x s at Settling n
     (record { setting = k.0.setting; aligned = aligned; free = λ m j t i spot. none_open x.setting k.0.setting (seen x) at none m i.there (waits m i.opens) spot }) (its_range x s has k)

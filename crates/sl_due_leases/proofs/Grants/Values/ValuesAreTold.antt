@@ -1,7 +1,8 @@
 -- What is told of values is lawful: it was read or written in the answer that is heard.
+use Rattle.sl_due_facts.proofs.Jobs.PlainNexts.{next_plain, settling_plain}
 use Rattle.sl_acts.proofs.ActsTogether.{both}
 use Rattle.sl_acts.proofs.LoopsKeep.{for_each_keeps, when_keeps}
-use Rattle.sl_acts.specs.Acts.{Acts, Has, Hears, lone_job}
+use Rattle.sl_acts.specs.Acts.{Acts, Has, Hears, lone_job, next_of_settling}
 use Rattle.sl_acts.specs.SoFar.{entry_of}
 use Rattle.sl_area.specs.Layouts.{record_in}
 use Rattle.sl_area.specs.Places.{request_offset}
@@ -38,7 +39,7 @@ use Rattle.sl_run.specs.LawfulValue.{LawfulSetReply, LawfulValueReply}
 use Rattle.sl_due_leases.proofs.Leases.WorkIsActive.{work_is_active}
 use Rattle.sl_due_leases.proofs.Ways.Kept.EffectsLeave.{there_has}
 use Rattle.sl_trace.specs.Jobs.{job_of_start}
-use Rattle.sl_trace.specs.LeaseWork.{lease_place, settle_next}
+use Rattle.sl_trace.specs.LeaseWork.{lease_place}
 use Rattle.sl_trace.specs.Leases.{is_on, known, lver_written, spot_of_call, value_written}
 use Rattle.sl_trace.specs.declared.lease.LeaseNext.{LeaseNext}
 use Rattle.sl_trace.specs.declared.lease.LeaseNext.TheVariants.{AnswerJob}
@@ -319,7 +320,7 @@ values_are_told =
           let y : Step = with_input (Line text) x in
           let j : ℕ = next_job x.setting (seen x) in
           let none : NoneTold y = woken_untold x k (ap (λ i. heard_by i) wake) in
-          untold_lawful (carry_decision j c d y) (decision NoneTold NoneTold May AnyCall AnyStart AnyMove allows y j c d (decision_allowed y j c d) (λ n a is. joins_untold y j c n a none) none);
+          untold_lawful (carry_decision j c d y) (decision NoneTold NoneTold May AnyCall AnyStart AnyMove allows y j c d (decision_allowed y j c d k.0.setting.unpaired) (λ n a is. joins_untold y j c n a none) none);
       joins_on = λ x s j step m answer hears is runs k.
           let n : DeltaNext = next_in_joining (delta_of_session x.setting s) (generation_of (seen x) s) (calls_of (seen x) s) x.reading m step answer in
           delta_told x s n (other_untold x s m answer hears k (ap (λ p. is_values p) is))
@@ -339,7 +340,9 @@ values_are_told =
           let n : LeaseNext = next_of_lease x.setting (seen x) s spot aim m step answer in
           untold_lawful (carry_lease s spot work n x)
           (lease NoneTold NoneTold May AnyCall AnyStart AnyMove allows x s spot work n
-          (lease_allowed x s spot work n (λ r told. apart_told n r told (lease_apart (lease_place x.setting s) (known x.setting (seen x) s spot) aim m.call.number (lver_written m) step answer)))
+          (lease_allowed x s spot work n (λ r told.
+          apart_told n r told
+          (subst (λ z. IsApartLease z) (sym (next_plain x.setting (seen x) s spot aim m step answer k.0.setting.unpaired)) (lease_apart (lease_place x.setting s) (known x.setting (seen x) s spot) aim m.call.number (lver_written m) step answer))))
           (other_untold x s m answer hears k (ap (λ p. is_values p) is)));
       fails = λ x s m j hears lone runs k.
           more_said x j (IoFault m.call.number) (heard_untold x s m Failed hears k (λ i purpose. subst (λ n. is_running (seen x) n ≡ true) (failing_runs m.call.purpose j i lone purpose) runs)) refl;
@@ -359,9 +362,10 @@ values_are_told =
           untold_lawful _
           (renewal_keeps NoneTold x s (delta_of_session x.setting s) x.reading (delta_known x.setting (seen x) s) (bits_due x.setting (calls_of (seen x) s) x.reading) (λ d. none) none);
       settles = λ x s at has wake active aligned none k.
-          let n : LeaseNext = settle_next (lease_place x.setting s) (known x.setting (seen x) s at) in
+          let n : LeaseNext = next_of_settling x.setting (seen x) s at in
           untold_lawful (carry_lease s at Settling n x)
-          (lease NoneTold NoneTold May AnyCall AnyStart AnyMove allows x s at Settling n (lease_allowed x s at Settling n (λ r told. apart_told n r told (settle_apart (lease_place x.setting s) (known x.setting (seen x) s at))))
+          (lease NoneTold NoneTold May AnyCall AnyStart AnyMove allows x s at Settling n (lease_allowed x s at Settling n (λ r told.
+          apart_told n r told (subst (λ z. IsApartLease z) (sym (settling_plain x.setting (seen x) s at k.0.setting.unpaired)) (settle_apart (lease_place x.setting s) (known x.setting (seen x) s at)))))
           (woken_untold x k (ap (λ i. heard_by i) wake)));
       parts = λ x s has joined recovers free quiet k. part_told x s has joined recovers k;
       frees = λ x s has joined well free quiet k.

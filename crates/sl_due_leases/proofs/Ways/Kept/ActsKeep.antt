@@ -1,5 +1,5 @@
 -- Ways and turns are kept by each act, and stand once a step has begun.
-use Rattle.sl_acts.specs.Acts.{Acts, Has, Hears, lone_job}
+use Rattle.sl_acts.specs.Acts.{Acts, Has, Hears, lone_job, next_of_settling}
 use Rattle.sl_acts.specs.SoFar.{entry_of}
 use Rattle.sl_area.specs.Layouts.{Layout, record_in}
 use Rattle.sl_area.specs.Places.{leader_of, read_at}
@@ -12,13 +12,13 @@ use Rattle.sl_due.specs.DueRequests.{after_request_read, after_value_read, owner
 use Rattle.sl_due.specs.Steps.{Step, add_reply, seen, with_input}
 use Rattle.sl_run.specs.LawfulArea.{is_area_work}
 use Rattle.sl_trace.specs.Jobs.{aim_of, command_numbered, job_of_start, resource_named}
-use Rattle.sl_trace.specs.LeaseWork.{lease_place, settle_next}
-use Rattle.sl_trace.specs.Leases.{is_leader_of, known, open_on, spot_of, spot_of_call, value_written}
+use Rattle.sl_trace.specs.Leases.{is_leader_of, open_on, spot_of, spot_of_call, value_written}
 use Rattle.sl_due_leases.proofs.Ways.Kept.AreaCallsLeave.{area_calls_leave}
 use Rattle.sl_due_leases.proofs.Ways.Kept.CallsSame.{HeardNoJob}
+use Rattle.sl_due_leases.proofs.Ways.Kept.DecidedFits.{heard_fits, settling_fits}
 use Rattle.sl_due_leases.proofs.Ways.Kept.DeltasFit.{free_fits, freed_fits, joining_fits, renewal_fits, renewed_fits, wake_fits}
 use Rattle.sl_due_leases.proofs.Ways.Kept.EffectsLeave.{other_calls_leave, replies_leave, signals_leave, there_has}
-use Rattle.sl_due_leases.proofs.Ways.Kept.HeardStands.{HeardCall, exclusive_stands, heard_call, heard_calls, heard_has, lease_heard, lease_ready}
+use Rattle.sl_due_leases.proofs.Ways.Kept.HeardStands.{HeardCall, exclusive_stands, heard_call, heard_calls, heard_has, lease_ready}
 use Rattle.sl_due_leases.proofs.Ways.Kept.InputsLeave.{answers, answers_leave, quiet_inputs_leave, same_call}
 use Rattle.sl_due_leases.proofs.Ways.Kept.LeaseNextsLeave.{HasEnded, IsLate, LeaseReady, by_late, moment_of, next_leaves}
 use Rattle.sl_due_leases.proofs.Ways.Kept.LinesKeep.{Anything, area_works, by_any, line_none, lines_keep}
@@ -26,7 +26,6 @@ use Rattle.sl_due_leases.proofs.Ways.Kept.LinesReady.{none_open}
 use Rattle.sl_due_leases.proofs.Ways.Kept.PlacesStand.{place_is_on}
 use Rattle.sl_due_leases.proofs.Ways.Kept.PlainWalks.{ByCalls, delta, ended, exited, left, reads_keep, refusal, removal, removal_of_refused, said, sent, signalled, stopped}
 use Rattle.sl_due_leases.proofs.Ways.Kept.UnjoinedHaveNone.{its_joining, joins_still}
-use Rattle.sl_due_leases.proofs.Ways.NextsFit.AnswersFit.{answers_fit, settlings_fit}
 use Rattle.sl_due_leases.specs.Ways.Kept.{LeasesStand}
 use Rattle.sl_due_leases.specs.Ways.Nexts.{NextIs}
 use Rattle.sl_trace.specs.declared.lease.Aim.{Aim}
@@ -67,7 +66,7 @@ use Rattle.std.specs.Option.{option_map_or}
 use Rattle.std.specs.Prelude.{Bool, Contains, List, None, Option, Some, [], false, is_some, not, true, ℕ, ◌%◌, ◌==◌, ◌≡◌}
 
 pub stand : (x : Step) → Whole x → LeasesStand x
-stand x w = record { ways = w.facts.ways; turns = w.facts.turns }
+stand x w = record { plain = w.setting.unpaired; ways = w.facts.ways; turns = w.facts.turns }
 
 wake_none : (x : Step) → x.input ≡ Wake → HeardNoJob x
 wake_none x wake n a m told there number = absurd (true_is_false (ap (λ i. answers i) (sym told ∙ wake)))
@@ -104,19 +103,16 @@ led : (x : Step) (s : Session) (work : Work) (step : LeaseStep) (m : Submitted) 
     → LeasesStand (carry_lease s (spot_of_call x.setting.layout m) work (next_of_lease x.setting (seen x) s (spot_of_call x.setting.layout m) aim m step a) x)
 led x s work step m a aim h is on aimed w =
     let at : Spot = spot_of_call x.setting.layout m in
-    let k = lease_heard x s work step m a aim h is on aimed w in
     let n : LeaseNext = next_of_lease x.setting (seen x) s at aim m step a in
-    let fits : NextIs (moment_of x s at work) n =
-    subst (λ (z : Submitted). NextIs (moment_of x s at work) (next_of_lease x.setting (seen x) s at aim z step a)) k.1 (answers_fit (moment_of x s at work) step aim a k.0)
-    in
+    let fits : NextIs (moment_of x s at work) n = heard_fits x s work step m a aim h is on aimed w in
     let ready : LeaseReady x s at = lease_ready x s m a h (ap (λ p. is_area_work p) is) w in
     next_leaves x s at ready work n (becomes_ended x s at work n (heard_has x s m a h) w fits) fits (stand x w)
 
 settled : (x : Step) (s : Session) (at : Spot) → Has x s → at.base % x.setting.layout.area ≡ 0 → open_on x.setting (seen x) at ≡ [] → Whole x
-    → LeasesStand (carry_lease s at Settling (settle_next (lease_place x.setting s) (known x.setting (seen x) s at)) x)
+    → LeasesStand (carry_lease s at Settling (next_of_settling x.setting (seen x) s at) x)
 settled x s at has aligned none w =
-    let n : LeaseNext = settle_next (lease_place x.setting s) (known x.setting (seen x) s at) in
-    let fits : NextIs (moment_of x s at Settling) n = settlings_fit (moment_of x s at Settling) (w.facts.ways.each s at (there_has x.setting (seen x) s.number s has) aligned) refl in
+    let n : LeaseNext = next_of_settling x.setting (seen x) s at in
+    let fits : NextIs (moment_of x s at Settling) n = settling_fits x s at w.setting.unpaired (w.facts.ways.each s at (there_has x.setting (seen x) s.number s has) aligned) in
     let ready : LeaseReady x s at =
     record {
       has = has;

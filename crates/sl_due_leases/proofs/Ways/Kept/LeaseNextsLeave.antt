@@ -2,7 +2,8 @@
 use Rattle.sl_acts.specs.Acts.{Has}
 use Rattle.sl_area.specs.Places.{block_offset, in_area, leader_offset}
 use Rattle.sl_area.specs.Roles.{block, leader}
-use Rattle.sl_due.specs.DueLease.{carry_lease, convert_for, for_work, read_for, with_command, write_block}
+use Rattle.sl_due.specs.DueLease.{carry_lease, convert_for, for_work, read_area, read_blocks, read_for, with_command, write_block}
+use Rattle.sl_due_facts.proofs.Jobs.PlainNexts.{area_plain, block_plain, blocks_plain, leader_plain}
 use Rattle.sl_due.specs.Steps.{Step, add_reply, seen}
 use Rattle.sl_run.specs.Lawful.{IsSetting}
 use Rattle.sl_run.specs.LawfulArea.{is_area_work}
@@ -28,10 +29,11 @@ use Rattle.sl_trace.specs.declared.session.Session.{Session}
 use Rattle.sl_due_facts.specs.Facts.WayFacts.{In_settling, IsAligned, IsVerified, Phase1Way, PurposeWay, StepWay, way_context}
 use Rattle.sl_trace.specs.Traces.{Submitted, is_before_input, next_call, record_of, submitted, work_job}
 use Rattle.sl_trace.specs.declared.effects.Call.{Call}
-use Rattle.sl_trace.specs.declared.effects.LeaseStep.TheVariants.{ClearMode, FreeLeader, Phase1Read, Phase1Write, Phase2Read, Phase2Write, ReadArea, ReadBeforeFree, SetMode, TakeLeader}
+use Rattle.sl_trace.specs.declared.effects.LeaseStep.TheVariants.{ClearMode, FreeLeader, Phase1Read, Phase1Write, Phase2Read, Phase2Write, ReadAgain, ReadArea, ReadBeforeBlock, ReadBeforeFree, SetMode, TakeLeader}
+use Rattle.sl_trace.specs.declared.effects.LeaseRead.TheVariants.{OfArea, OfBlock, OfFree, OfPhase1, OfPhase2}
 use Rattle.sl_trace.specs.declared.effects.LeaseStep.{LeaseStep}
 use Rattle.sl_trace.specs.declared.effects.Mode.TheVariants.{Exclusive, Shared}
-use Rattle.sl_trace.specs.declared.effects.Op.TheVariants.{WriteRecord}
+use Rattle.sl_trace.specs.declared.effects.Op.TheVariants.{ReadSectors, WriteRecord}
 use Rattle.sl_trace.specs.declared.effects.Op.{Op}
 use Rattle.sl_trace.specs.declared.effects.Purpose.TheVariants.{Lease}
 use Rattle.sl_trace.specs.declared.effects.Purpose.{Purpose}
@@ -139,7 +141,7 @@ leader_inside : (x : Step) (s : Session) (at : Spot) → LeaseReady x s at → i
 leader_inside x s at h = place_is_on x.setting h.setting at.base leader tt
 
 own_inside : (x : Step) (s : Session) (at : Spot) → LeaseReady x s at → in_area x.setting.layout at.base (block_offset x.setting.layout at.base s.id) ≡ true
-own_inside x s at h = place_is_on x.setting h.setting at.base (block s.id) (id_in_range x.setting h.setting (seen x) s (there_has x.setting (seen x) s.number s h.has))
+own_inside x s at h = place_is_on x.setting h.setting at.base (block s.id) (id_in_range x.setting h.setting (seen x) s (there_has x.setting (seen x) s.number s h.has), h.setting.unpaired)
 
 one_host : (a b : ℕ) → 1 ≤ a → a ≤ b → 1 ≤ b
 one_host a b one le = omega (arith, one, le)
@@ -147,22 +149,46 @@ one_host a b one le = omega (arith, one, le)
 first_inside : (x : Step) (s : Session) (at : Spot) → LeaseReady x s at → in_area x.setting.layout at.base (block_offset x.setting.layout at.base 1) ≡ true
 first_inside x s at h =
     let id = id_in_range x.setting h.setting (seen x) s (there_has x.setting (seen x) s.number s h.has) in
-    place_is_on x.setting h.setting at.base (block 1) (omega arith, one_host s.id x.setting.layout.hosts id.0 id.1)
+    place_is_on x.setting h.setting at.base (block 1) ((omega arith, one_host s.id x.setting.layout.hosts id.0 id.1), h.setting.unpaired)
 
 abbrev pub moment_of : Step → Session → Spot → Work → Moment
 moment_of x s at work = record { setting = x.setting; trace = seen x; session = s; at = at; work = work; now = length x.past }
 
+-- A read of the whole area, and one of all blocks.
+area_leaves : (x : Step) (s : Session) (at : Spot) → LeaseReady x s at → (work : Work) (step : LeaseStep)
+    → ((c : Call) → c.op ≡ ReadSectors (x.setting.layout.hosts + 2) → StepWay (way_context x.setting (seen x) s) work (length x.past) c (lease_calls x.setting (seen x) s at) step)
+    → LeasesStand x → LeasesStand (read_area s at work step x)
+area_leaves x s at h work step way k =
+    let op : Op = ReadSectors (x.setting.layout.hosts + 2) in
+    subst (λ z. LeasesStand z) (sym (area_plain x s at work step h.setting.unpaired))
+    (area_calls_leave x s at (Lease work step) at.base op (lease_works x s at h work step at.base op (leader_inside x s at h) refl way) k)
+
+blocks_leave : (x : Step) (s : Session) (at : Spot) → LeaseReady x s at → (work : Work) (step : LeaseStep)
+    → ((c : Call) → c.op ≡ ReadSectors x.setting.layout.hosts → StepWay (way_context x.setting (seen x) s) work (length x.past) c (lease_calls x.setting (seen x) s at) step)
+    → LeasesStand x → LeasesStand (read_blocks s at work step x)
+blocks_leave x s at h work step way k =
+    let o : ℕ = block_offset x.setting.layout at.base 1 in
+    let op : Op = ReadSectors x.setting.layout.hosts in
+    subst (λ z. LeasesStand z) (sym (blocks_plain x s at work step h.setting.unpaired))
+    (area_calls_leave x s at (Lease work step) o op (lease_works x s at h work step o op (first_inside x s at h) refl way) k)
+
 read_leaves : (x : Step) (s : Session) (at : Spot) → LeaseReady x s at → (work : Work) (step : LeaseStep) → NextIs (moment_of x s at work) (ReadFor step) → LeasesStand x → LeasesStand (read_for s at work step x)
-read_leaves x s at h work (ReadArea name) n k = area_calls_leave x s at (Lease work (ReadArea name)) at.base _ (lease_works x s at h work (ReadArea name) at.base _ (leader_inside x s at h) refl n) k
-read_leaves x s at h work ReadBeforeFree n k = area_calls_leave x s at (Lease work ReadBeforeFree) at.base _ (lease_works x s at h work ReadBeforeFree at.base _ (leader_inside x s at h) refl n) k
-read_leaves x s at h work Phase1Write n k = area_calls_leave x s at (Lease work Phase1Write) _ _ (lease_works x s at h work Phase1Write _ _ (first_inside x s at h) refl n) k
-read_leaves x s at h work Phase1Read n k = area_calls_leave x s at (Lease work Phase1Read) _ _ (lease_works x s at h work Phase1Read _ _ (first_inside x s at h) refl n) k
-read_leaves x s at h work Phase2Write n k = area_calls_leave x s at (Lease work Phase2Write) _ _ (lease_works x s at h work Phase2Write _ _ (first_inside x s at h) refl n) k
-read_leaves x s at h work Phase2Read n k = area_calls_leave x s at (Lease work Phase2Read) _ _ (lease_works x s at h work Phase2Read _ _ (first_inside x s at h) refl n) k
-read_leaves x s at h work TakeLeader n k = area_calls_leave x s at (Lease work TakeLeader) _ _ (lease_works x s at h work TakeLeader _ _ (first_inside x s at h) refl n) k
-read_leaves x s at h work SetMode n k = area_calls_leave x s at (Lease work SetMode) _ _ (lease_works x s at h work SetMode _ _ (first_inside x s at h) refl n) k
-read_leaves x s at h work FreeLeader n k = area_calls_leave x s at (Lease work FreeLeader) _ _ (lease_works x s at h work FreeLeader _ _ (first_inside x s at h) refl n) k
-read_leaves x s at h work ClearMode n k = area_calls_leave x s at (Lease work ClearMode) _ _ (lease_works x s at h work ClearMode _ _ (first_inside x s at h) refl n) k
+read_leaves x s at h work (ReadArea name) n k = area_leaves x s at h work (ReadArea name) n k
+read_leaves x s at h work ReadBeforeFree n k = area_leaves x s at h work ReadBeforeFree n k
+read_leaves x s at h work ReadBeforeBlock n k = blocks_leave x s at h work ReadBeforeBlock n k
+read_leaves x s at h work (ReadAgain (OfArea name)) n k = area_leaves x s at h work (ReadAgain (OfArea name)) (λ c op. n (record c { op = ReadSectors x.setting.layout.hosts }) refl) k
+read_leaves x s at h work (ReadAgain OfFree) n k = area_leaves x s at h work (ReadAgain OfFree) (λ c op. n (record c { op = ReadSectors x.setting.layout.hosts }) refl) k
+read_leaves x s at h work (ReadAgain OfBlock) n k = blocks_leave x s at h work (ReadAgain OfBlock) n k
+read_leaves x s at h work (ReadAgain OfPhase1) n k = blocks_leave x s at h work (ReadAgain OfPhase1) n k
+read_leaves x s at h work (ReadAgain OfPhase2) n k = blocks_leave x s at h work (ReadAgain OfPhase2) n k
+read_leaves x s at h work Phase1Write n k = blocks_leave x s at h work Phase1Write n k
+read_leaves x s at h work Phase1Read n k = blocks_leave x s at h work Phase1Read n k
+read_leaves x s at h work Phase2Write n k = blocks_leave x s at h work Phase2Write n k
+read_leaves x s at h work Phase2Read n k = blocks_leave x s at h work Phase2Read n k
+read_leaves x s at h work TakeLeader n k = blocks_leave x s at h work TakeLeader n k
+read_leaves x s at h work SetMode n k = blocks_leave x s at h work SetMode n k
+read_leaves x s at h work FreeLeader n k = blocks_leave x s at h work FreeLeader n k
+read_leaves x s at h work ClearMode n k = blocks_leave x s at h work ClearMode n k
 
 -- Phase 1's write, by its law.
 phase1_way : (x : Moment) (b : Block) → ((c : Submitted) → LawfulPhase1 x.setting x.trace x.session x.at c b) → IsVerified (context_at x) (calls_at x) → (c : Call) → c.op ≡ WriteRecord (BlockIs b)
@@ -181,19 +207,25 @@ phase1_way x b lawful named c op =
 
 block_leaves : (x : Step) (s : Session) (at : Spot) → LeaseReady x s at → (work : Work) (step : LeaseStep) (b : Block) → NextIs (moment_of x s at work) (WriteBlock step b) → LeasesStand x
     → LeasesStand (write_block s at work step b x)
-block_leaves x s at h work step b n k = area_calls_leave x s at (Lease work step) _ _ (lease_works x s at h work step _ _ (own_inside x s at h) refl (by step n)) k where
-  by : (step : LeaseStep) → NextIs (moment_of x s at work) (WriteBlock step b) → (c : Call) → c.op ≡ WriteRecord (BlockIs b)
-      → StepWay (way_context x.setting (seen x) s) work (length x.past) c (lease_calls x.setting (seen x) s at) step
-  by Phase1Write n c op = phase1_way (moment_of x s at work) b n.0.0 n.0.1 c op
-  by (ReadArea name) n c op = n.0 c op
-  by ReadBeforeFree n c op = n.0 c op
-  by Phase1Read n c op = n.0 c op
-  by Phase2Write n c op = n.0 c op
-  by Phase2Read n c op = n.0 c op
-  by TakeLeader n c op = n.0 c op
-  by SetMode n c op = n.0 c op
-  by FreeLeader n c op = n.0 c op
-  by ClearMode n c op = n.0 c op
+block_leaves x s at h work step b n k =
+    subst (λ z. LeasesStand z) (sym (block_plain x s at work step b h.setting.unpaired))
+    (area_calls_leave x s at (Lease work step) (block_offset x.setting.layout at.base s.id) (WriteRecord (BlockIs b))
+    (lease_works x s at h work step (block_offset x.setting.layout at.base s.id) (WriteRecord (BlockIs b)) (own_inside x s at h) refl (by step n)) k)
+  where
+    by : (step : LeaseStep) → NextIs (moment_of x s at work) (WriteBlock step b) → (c : Call) → c.op ≡ WriteRecord (BlockIs b)
+        → StepWay (way_context x.setting (seen x) s) work (length x.past) c (lease_calls x.setting (seen x) s at) step
+    by Phase1Write n c op = phase1_way (moment_of x s at work) b n.0.0 n.0.1 c op
+    by (ReadArea name) n c op = n.0 c op
+    by ReadBeforeFree n c op = n.0 c op
+    by ReadBeforeBlock n c op = n.0 c op
+    by (ReadAgain read) n c op = n.0 c op
+    by Phase1Read n c op = n.0 c op
+    by Phase2Write n c op = n.0 c op
+    by Phase2Read n c op = n.0 c op
+    by TakeLeader n c op = n.0 c op
+    by SetMode n c op = n.0 c op
+    by FreeLeader n c op = n.0 c op
+    by ClearMode n c op = n.0 c op
 
 -- What stands behind an instance of the session, as far as a free asks it.
 abbrev pub HasEnded : Step → Session → Spot → ℕ → Type 0
@@ -205,7 +237,10 @@ unfolding carry_lease
 next_leaves x s at h work Nothing e n k = k
 next_leaves x s at h work (ReadFor step) e n k = read_leaves x s at h work step n k
 next_leaves x s at h work (WriteBlock step b) e n k = block_leaves x s at h work step b n k
-next_leaves x s at h work (WriteLeader step l) e n k = area_calls_leave x s at (Lease work step) _ _ (lease_works x s at h work step _ _ (leader_inside x s at h) refl n.0) k
+next_leaves x s at h work (WriteLeader step l) e n k =
+    subst (λ z. LeasesStand z) (sym (leader_plain x s at work step l h.setting.unpaired))
+    (area_calls_leave x s at (Lease work step) (leader_offset at.base) (WriteRecord (LeaderIs l))
+    (lease_works x s at h work step (leader_offset at.base) (WriteRecord (LeaderIs l)) (leader_inside x s at h) refl n.0) k)
 next_leaves x s at h work (AnswerJob r) e n k = with_some_keeps LeasesStand (work_job work) (λ j. add_reply j r) x (λ j is f. replies_leave x j r (inl n) f) k
 next_leaves x s at h work (GrantJob mode lver) e n k = granted IsLate LeasesStand by_late x s work mode lver k
 next_leaves x s at h work (BecomeShared lver l) e n k =
@@ -222,7 +257,9 @@ next_leaves x s at h work (BecomeShared lver l) e n k =
     in
     let z = converted IsLate (λ y. LeasesStand y × MayWork y s at (Lease Settling FreeLeader) (leader_offset at.base) (WriteRecord (LeaderIs l)))
     (work_by_late s at (Lease Settling FreeLeader) (leader_offset at.base) (WriteRecord (LeaderIs l))) x s at work Shared lver (k, may) in
-    area_calls_leave (for_work work (λ j. with_command j (λ c. convert_for s at j c Shared lver)) x) s at (Lease Settling FreeLeader) (leader_offset at.base) (WriteRecord (LeaderIs l)) z.1 z.0
+    let w : Step = for_work work (λ j. with_command j (λ c. convert_for s at j c Shared lver)) x in
+    subst (λ v. LeasesStand v) (sym (leader_plain w s at Settling FreeLeader l z.0.plain))
+    (area_calls_leave w s at (Lease Settling FreeLeader) (leader_offset at.base) (WriteRecord (LeaderIs l)) z.1 z.0)
 next_leaves x s at h work (BecomeExclusive lver b) e n k =
     let may : MayWork x s at (Lease Settling ClearMode) (block_offset x.setting.layout at.base s.id) (WriteRecord (BlockIs b)) =
     lease_works x s at h Settling ClearMode (block_offset x.setting.layout at.base s.id) (WriteRecord (BlockIs b)) (own_inside x s at h) refl
@@ -231,4 +268,5 @@ next_leaves x s at h work (BecomeExclusive lver b) e n k =
     let z = converted IsLate (λ y. LeasesStand y × MayWork y s at (Lease Settling ClearMode) (block_offset y.setting.layout at.base s.id) (WriteRecord (BlockIs b)))
     (clear_by_late s at b) x s at work Exclusive lver (k, may) in
     let w : Step = for_work work (λ j. with_command j (λ c. convert_for s at j c Exclusive lver)) x in
-    area_calls_leave w s at (Lease Settling ClearMode) (block_offset w.setting.layout at.base s.id) (WriteRecord (BlockIs b)) z.1 z.0
+    subst (λ v. LeasesStand v) (sym (block_plain w s at Settling ClearMode b z.0.plain))
+    (area_calls_leave w s at (Lease Settling ClearMode) (block_offset w.setting.layout at.base s.id) (WriteRecord (BlockIs b)) z.1 z.0)

@@ -1,7 +1,7 @@
 -- What a command came to leaves ways and turns.
 use Rattle.sl_acts.proofs.DecisionsAreTheirs.{Of, decisions_are_theirs}
 use Rattle.sl_acts.proofs.PlainActs.{line_has}
-use Rattle.sl_acts.specs.Acts.{Has}
+use Rattle.sl_acts.specs.Acts.{Has, next_of_conversion, next_of_release}
 use Rattle.sl_acts.specs.Promises.{IsDecidedFor}
 use Rattle.sl_area.specs.Places.{in_area, value_offset}
 use Rattle.sl_area.specs.Roles.{leader, value}
@@ -13,16 +13,17 @@ use Rattle.sl_due.specs.declared.decision.Decision.{Decision}
 use Rattle.sl_run.specs.LawfulArea.{is_area_work}
 use Rattle.sl_due_leases.proofs.Ways.Kept.AreaCallsLeave.{MayWork, area_calls_leave}
 use Rattle.sl_due_leases.proofs.Ways.Kept.CallsSame.{HeardNoJob}
+use Rattle.sl_due_leases.proofs.Ways.Kept.DecidedFits.{conversion_fits, release_fits}
 use Rattle.sl_due_leases.proofs.Ways.Kept.DecisionsAreClear.{DecidedOn, decisions_are_clear}
 use Rattle.sl_due_leases.proofs.Ways.Kept.EffectsLeave.{ends_leave, grants_leave, made_call, moves_leave, replies_leave, signals_leave, starts_leave}
 use Rattle.sl_due_leases.proofs.Ways.Kept.HeardStands.{spot_same}
 use Rattle.sl_due_leases.proofs.Ways.Kept.InputsLeave.{answers, input_sessions, quiet_inputs_leave, quiet_same}
 use Rattle.sl_due_leases.proofs.Ways.Kept.JoinsLeave.{joins_leave}
-use Rattle.sl_due_leases.proofs.Ways.Kept.LeaseNextsLeave.{HasEnded, IsLate, LeaseReady, by_late, moment_of, next_leaves}
+use Rattle.sl_due_leases.proofs.Ways.Kept.LeaseNextsLeave.{HasEnded, IsLate, LeaseReady, by_late, next_leaves}
 use Rattle.sl_due_leases.proofs.Ways.Kept.LinesReady.{line_ready}
 use Rattle.sl_due_leases.proofs.Ways.Kept.PlacesStand.{either_list, place_is_on, placed_on}
 use Rattle.sl_due_leases.proofs.Ways.Kept.PlainWalks.{ByPlain, granting, stopped}
-use Rattle.sl_due_leases.proofs.Ways.NextsFit.AnswersFit.{conversions_fit, releases_fit}
+use Rattle.sl_due_facts.proofs.Jobs.PlainNexts.{conversion_plain, release_plain}
 use Rattle.sl_due_leases.specs.Ways.Kept.{LeasesStand}
 use Rattle.sl_trace.specs.Ballots.{moded_block}
 use Rattle.sl_trace.specs.Jobs.{aim_of, aim_of_command, command_numbered, command_of}
@@ -141,6 +142,12 @@ unfolding becomes
 converts_none k Shared name = written_or_none k.own (λ own. WriteBlock SetMode (moded_block own true k.self.generation)) (λ b. refl)
 converts_none k Exclusive name = refl
 
+release_none : (st : Setting) (es : Trace) (s : Session) (at : Spot) (g : Grant) → st.layout.paired ≡ false → becomes (next_of_release st es s at g) ≡ false
+release_none st es s at g plain = ap (λ n. becomes n) (release_plain st es s at g plain) ∙ releases_none (lease_place st s) (known st es s at) g.mode g.lver
+
+conversion_none : (st : Setting) (es : Trace) (s : Session) (at : Spot) (mode : Mode) (name : List ℕ) → st.layout.paired ≡ false → becomes (next_of_conversion st es s at mode name) ≡ false
+conversion_none st es s at mode name plain = ap (λ n. becomes n) (conversion_plain st es s at mode name plain) ∙ converts_none (known st es s at) mode name
+
 no_becoming : (n : LeaseNext) → becomes n ≡ false → (lver : ℕ) (l : Leader) → n ≡ BecomeShared lver l → ⊥
 unfolding becomes
 no_becoming n none lver l is = true_is_false (sym (ap (λ z. becomes z) is) ∙ none)
@@ -198,12 +205,12 @@ pub ended_ready : (y : Step) (s : Session) (at : Spot) (g : Grant) → LeaseRead
 ended_ready y s at g h = record { has = h.has; setting = h.setting; aligned = h.aligned; clear = h.clear; below = h.below }
 
 release_leaves : (z : Step) (s : Session) (at : Spot) (j : ℕ) (g : Grant) → LeaseReady z s at → aim_of z.setting (seen z) (ForJob j) ≡ Some Releases → (g.mode ≡ Exclusive → HasEnded z s at g.lver) → LeasesStand z → (hs : List Grant)
-    → LeasesStand (elim hs as (λ w. Step) [ h ∷ rest ↦ add_reply j Done z | [] ↦ carry_lease s at (ForJob j) (release_next (lease_place z.setting s) (known z.setting (seen z) s at) g.mode g.lver) z ])
+    → LeasesStand (elim hs as (λ w. Step) [ h ∷ rest ↦ add_reply j Done z | [] ↦ carry_lease s at (ForJob j) (next_of_release z.setting (seen z) s at g) z ])
 release_leaves z s at j g ready aimed ended k (h ∷ rest) = replies_leave z j Done (inl refl) k
 release_leaves z s at j g ready aimed ended k [] =
-    let n : LeaseNext = release_next (lease_place z.setting s) (known z.setting (seen z) s at) g.mode g.lver in
-    next_leaves z s at ready (ForJob j) n (λ lver l is. absurd (no_becoming n (releases_none (lease_place z.setting s) (known z.setting (seen z) s at) g.mode g.lver) lver l is))
-    (releases_fit (moment_of z s at (ForJob j)) g.mode g.lver aimed (λ exclusive. (ended exclusive).0) (λ exclusive. (ended exclusive).1)) k
+    let n : LeaseNext = next_of_release z.setting (seen z) s at g in
+    next_leaves z s at ready (ForJob j) n (λ lver l is. absurd (no_becoming n (release_none z.setting (seen z) s at g ready.setting.unpaired) lver l is))
+    (release_fits z s at (ForJob j) g ready.setting.unpaired aimed ended) k
 
 -- ---- all decisions
 
@@ -231,7 +238,7 @@ carried : (x : Step) (text : List ℕ) (c : Command) (d : Decision) → x.input 
     → LeasesStand (carry_decision (next_job x.setting (seen x)) c d (with_input (Line text) x))
 unfolding carry_decision carry_lease after_end
 carried x text c (Replies r) wake bare reads on its has none w k = k
-carried x text c (Joins n a) wake bare reads on its has none w k = joins_leave x text n a.path (next_job x.setting (seen x)) _ _ wake bare w.facts.calls its.1 (record { ways = w.facts.ways; turns = w.facts.turns })
+carried x text c (Joins n a) wake bare reads on its has none w k = joins_leave x text n a.path (next_job x.setting (seen x)) _ _ wake bare w.facts.calls its.1 (record { plain = w.setting.unpaired; ways = w.facts.ways; turns = w.facts.turns })
 carried x text c (Leaves s) wake bare reads on its has none w k =
     (stopped Anything (λ z. LeasesStand z × HeardNoJob z) by_any (λ t. tt) (with_input (Line text) x) s (Some (next_job x.setting (seen x))) (k, line_none x text)).0
 carried x text c (ReadsArea s r) wake bare reads on its has none w k =
@@ -248,7 +255,7 @@ carried x text c (GivesUp s g) wake bare reads on its has none w k =
     let aimed : aim_of x.setting (seen y) (ForJob j) ≡ Some Releases = ap (λ o. option_and_then aim_of_command o) (line_command x text c wake reads) ∙ on.2 in
     subst (λ at. LeasesStand (elim (holdings_on (seen (add_end (end_of g) y)) s at) as (λ v. Step) [
       | h ∷ rest ↦ add_reply j Done (add_end (end_of g) y)
-      | [] ↦ carry_lease s at (ForJob j) (release_next (lease_place x.setting s) (known x.setting (seen (add_end (end_of g) y)) s at) g.mode g.lver) (add_end (end_of g) y)
+      | [] ↦ carry_lease s at (ForJob j) (next_of_release x.setting (seen (add_end (end_of g) y)) s at g) (add_end (end_of g) y)
     ])) (sym held.0)
     (release_leaves (add_end (end_of g) y) s (spot_of r) j g (ended_ready y s (spot_of r) g ready) aimed (λ exclusive. ended_still x text s (spot_of r) g.lver wake (held.1 exclusive)) (ends_leave y (end_of g) k)
     (holdings_on (seen (add_end (end_of g) y)) s (spot_of r)))
@@ -256,10 +263,10 @@ carried x text c (TakesOver s g) wake bare reads on its has none w k =
     granting IsLate LeasesStand by_late (add_end (end_of g) (with_input (Line text) x)) s (next_job x.setting (seen x)) c g.mode g.lver (ends_leave (with_input (Line text) x) (end_of g) k)
 carried x text c (ConvertsTo s r mode) wake bare reads on its has none w k =
     let y : Step = with_input (Line text) x in
-    let n : LeaseNext = convert_next (known x.setting (seen y) s (spot_of r)) mode r.name in
+    let n : LeaseNext = next_of_conversion x.setting (seen y) s (spot_of r) mode r.name in
     next_leaves y s (spot_of r) (line_ready x text c s r w.setting w.facts.calls wake reads on.0 has) (ForJob (next_job x.setting (seen x))) n
-    (λ lver l is. absurd (no_becoming n (converts_none (known x.setting (seen y) s (spot_of r)) mode r.name) lver l is))
-    (conversions_fit (moment_of y s (spot_of r) (ForJob (next_job x.setting (seen x)))) mode r.name (ap (λ o. option_and_then aim_of_command o) (line_command x text c wake reads) ∙ on.1)) k
+    (λ lver l is. absurd (no_becoming n (conversion_none x.setting (seen y) s (spot_of r) mode r.name w.setting.unpaired) lver l is))
+    (conversion_fits y s (spot_of r) (ForJob (next_job x.setting (seen x))) mode r.name w.setting.unpaired (ap (λ o. option_and_then aim_of_command o) (line_command x text c wake reads) ∙ on.1)) k
 carried x text c (Requests s r) wake bare reads on its has none w k =
     let y : Step = with_input (Line text) x in
     let ready : LeaseReady y s (spot_of r) = line_ready x text c s r w.setting w.facts.calls wake reads on has in
@@ -278,4 +285,4 @@ pub lines_keep : (x : Step) (text : List ℕ) (c : Command) (d : Decision) → x
 lines_keep x text c d wake bare reads is none w =
     carried x text c d wake bare reads (subst (λ z. DecidedOn x.setting (seen x) c z) is (decisions_are_clear x.setting (seen x) x.reading c))
     (subst (λ z. IsDecidedFor x.setting (seen x) c z) is (decisions_are_theirs x.setting (seen x) x.reading c)) (subst (λ z. Of (Has (with_input (Line text) x)) z) is (line_has x text c bare)) none w
-    (quiet_inputs_leave x (Line text) wake bare refl (record { ways = w.facts.ways; turns = w.facts.turns }))
+    (quiet_inputs_leave x (Line text) wake bare refl (record { plain = w.setting.unpaired; ways = w.facts.ways; turns = w.facts.turns }))

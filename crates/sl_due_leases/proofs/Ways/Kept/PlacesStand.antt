@@ -28,7 +28,7 @@ use Rattle.std.specs.Prelude.{Bool, Contains, Err, IsTrue, List, None, Ok, Optio
 -- ---- ids
 
 abbrev pub is_sizes : Setting → Sizes
-is_sizes st = record { sector = st.layout.sector; area = st.layout.area; hosts = st.layout.hosts }
+is_sizes st = record { sector = st.layout.sector; area = st.layout.area; hosts = st.layout.hosts; paired = st.layout.paired }
 
 abbrev IsIn : Setting → ℕ → Type 0
 IsIn st id = (1 ≤ id) × (id ≤ st.layout.hosts)
@@ -102,7 +102,7 @@ id_in_range st is (e ∷ es) s there = by (either_list (sessions st es) (begun_i
 pub place_is_on : (st : Setting) → IsSetting st → (base : ℕ) (role : Role) → IsRole (is_sizes st) role → in_area st.layout base (role_offset (is_sizes st) base role) ≡ true
 place_is_on st is base role fits =
     let g : Sizes = is.layout.0 in
-    let same : is_sizes st ≡ g = ap (λ (l : Layout). let z : Sizes = record { sector = l.sector; area = l.area; hosts = l.hosts } in z) is.layout.2 in
+    let same : is_sizes st ≡ g = ap (λ (l : Layout). let z : Sizes = record { sector = l.sector; area = l.area; hosts = l.hosts; paired = l.paired } in z) is.layout.2 in
     subst (λ (l : Layout). in_area l base (role_offset (is_sizes st) base role) ≡ true) (sym is.layout.2)
     (subst (λ (z : Sizes). in_area (layout_with st.layout.digest g) base (role_offset z base role) ≡ true) (sym same)
     ((places_lie_in_area g base is.layout.1).1 role (subst (λ z. IsRole z role) same fits)).0)

@@ -6,7 +6,7 @@ use Rattle.sl_due_facts.specs.Facts.WayFacts.{After_mode, After_take, CallWay, F
 use Rattle.sl_trace.specs.Traces.{Submitted, Trace, answer_of, answered_in}
 use Rattle.sl_trace.specs.declared.effects.Call.{Call}
 use Rattle.sl_trace.specs.declared.effects.Entry.{Entry}
-use Rattle.sl_trace.specs.declared.effects.LeaseStep.TheVariants.{ClearMode, FreeLeader, Phase1Read, Phase1Write, Phase2Read, Phase2Write, ReadArea, ReadBeforeFree, SetMode, TakeLeader}
+use Rattle.sl_trace.specs.declared.effects.LeaseStep.TheVariants.{ClearMode, FreeLeader, Phase1Read, Phase1Write, Phase2Read, Phase2Write, ReadAgain, ReadArea, ReadBeforeBlock, ReadBeforeFree, SetMode, TakeLeader}
 use Rattle.sl_trace.specs.declared.effects.LeaseStep.{LeaseStep}
 use Rattle.sl_trace.specs.declared.effects.Purpose.TheVariants.{Joining, Lease, Leaving, Renewal, RequestRead, RequestWrite, SeeRequest, Survey, ValueRead, ValueWrite}
 use Rattle.sl_trace.specs.declared.effects.Purpose.{Purpose}
@@ -49,6 +49,8 @@ free_reason g l o aims more over further h work at n ms (In_settling is) = In_se
 step_grows : (g : Layout) (l : List ℕ) (o : Owner) (aims more : Work → Option Aim) (over further : ℕ → ℕ → Bool) → More aims more over further → (work : Work) (at : ℕ) (c : Call) (ms : List Submitted) (step : LeaseStep)
     → StepWay (context_with g l o aims over) work at c ms step → StepWay (context_with g l o more further) work at c ms step
 step_grows g l o aims more over further h work at c ms (ReadArea name) k = k
+step_grows g l o aims more over further h work at c ms ReadBeforeBlock k = k
+step_grows g l o aims more over further h work at c ms (ReadAgain read) k = k
 step_grows g l o aims more over further h work at c ms Phase1Write k =
     record {
       own = k.own;
@@ -56,7 +58,7 @@ step_grows g l o aims more over further h work at c ms Phase1Write k =
       host = k.host;
       fresh = k.fresh;
       rises = k.rises;
-      named = record { read = k.named.read; name = k.named.name; of_lease = k.named.of_lease; verified = k.named.verified };
+      named = record { read = k.named.read; name = k.named.name; of_lease = k.named.of_lease; newer = k.named.newer; before = k.named.before; split = k.named.split; verified = k.named.verified };
     }
 step_grows g l o aims more over further h work at c ms Phase1Read k = record { after = k.after; done = k.done; reads = k.reads }
 step_grows g l o aims more over further h work at c ms Phase2Write k =

@@ -1,12 +1,12 @@
 -- What a ballot's steps, modes and leaders ask of the calls before them, they have by their ways.
-use Rattle.sl_run.specs.LawfulBlock.{LawfulModeWrite, LawfulPhase2, LawfulPhase2Read, ReadAfter}
+use Rattle.sl_run.specs.LawfulBlock.{FirstAfter, LawfulModeWrite, LawfulPhase2, LawfulPhase2Read, ReadAfter}
 use Rattle.sl_run.specs.LawfulLeader.{HasWon}
 use Rattle.sl_due_leases.specs.Ways.Promises.{WaysAreLawful}
 use Rattle.sl_due_leases.proofs.Ways.NewestCall.{block_is, ended_here, freed_passed, leader_is, leader_is_no_block, read_writes_no_block, read_writes_no_leader, submitted_here, submitted_passed}
 use Rattle.sl_due_leases.proofs.Ways.WayNumbers.{Doing, EndsBy, Frees, Reads, Takes, Writes_ballot, Writes_mode, doing, ended_concludes, ends_by}
-use Rattle.sl_due_leases.proofs.Ways.WayStages.{asked2_freed, asked2_last, asked2_own, begun1, begun1_own, clear_last, prior_at, prior_inside, proposed, proposed2, read1, rest_behind, way_behind}
+use Rattle.sl_due_leases.proofs.Ways.WayStages.{asked2_freed, asked2_last, asked2_own, begun1, begun1_own, clear_last, prior_at, prior_first, prior_inside, proposed, proposed2, read1, rest_behind, way_behind}
 use Rattle.sl_trace.specs.Ballots.{ballot_blocks, moded_block, phase2_block}
-use Rattle.sl_trace.specs.Leases.{Phase1_read, Phase1_write, Phase2_write, block_submitted, block_written, ended_ballots, freed, last_blocks, leader_written, lease_calls, open_ballot, own_block, own_or_read}
+use Rattle.sl_trace.specs.Leases.{Phase1_read, Phase1_write, Phase2_write, block_submitted, block_written, ended_ballots, freed, is_again, last_blocks, leader_written, lease_calls, open_ballot, own_block, own_or_read}
 use Rattle.sl_sector.specs.declared.sector.Block.{Block}
 use Rattle.sl_sector.specs.declared.sector.Leader.{Leader}
 use Rattle.sl_sector.specs.declared.sector.Rec.TheVariants.{BlockIs}
@@ -20,7 +20,7 @@ use Rattle.sl_trace.specs.declared.effects.LeaseStep.TheVariants.{Phase1Read, Ph
 use Rattle.sl_trace.specs.declared.effects.Op.TheVariants.{WriteRecord}
 use Rattle.sl_trace.specs.declared.effects.Spot.{Spot}
 use Rattle.sl_trace.specs.declared.effects.Work.{Work}
-use Rattle.sl_words.proofs.CaseLaws.{none_some, one_value, some_value}
+use Rattle.sl_words.proofs.CaseLaws.{none_some, one_value, some_value, true_is_false}
 use Rattle.std.proofs.Common.{ap, arith, refl, subst, sym, ◌∙◌}
 use Rattle.std.specs.Prelude.{Bool, Contains, [], false, true, List, None, Some, ℕ, ◌<◌, ◌∷◌, ◌≡◌, ◌≤◌}
 
@@ -30,6 +30,10 @@ calls st t s at = lease_calls st t s at
 
 pub read_after : (m c : Submitted) → IsWrittenBy m c.at → ReadAfter m c
 read_after m c h = record { answer = h.answer; answered = h.answered; later = h.by }
+
+-- No other read comes before a first one.
+pub first_after : (write read : Submitted) (before : List Submitted) → is_again read ≡ false → FirstAfter write read before
+first_after write read before first again = absurd (true_is_false (sym again ∙ first))
 
 pub block_same : (c : Submitted) (a b : Block) → block_written c ≡ Some a → block_written c ≡ Some b → a ≡ b
 block_same c a b is was = some_value a b (sym is ∙ was)
@@ -52,7 +56,11 @@ phase2_is_lawful st t s at ws work c b h writes =
         prior_at Phase1_write h.after.rest work Phase1Write r.after refl,
       );
       of_lease = (prior_inside (calls st t s at) work Phase1Read h.after, prior_at Phase1_read (calls st t s at) work Phase1Read h.after refl);
+      after = [];
+      before = h.after.rest;
+      split = h.after.before;
       ordered = read_after r.after.prior h.after.prior r.done;
+      first_ordered = first_after r.after.prior h.after.prior h.after.rest (prior_first (calls st t s at) work Phase1Read h.after refl);
       given = h.given;
       clear = h.clear;
       written = subst (λ (x : Block). x ≡ moded_block (phase2_block (me t s) h.own (ballot_blocks h.own h.blocks)) x.shared x.mode_gen)
@@ -75,9 +83,9 @@ begun_at_least : (a n : ℕ) → a < n → 1 ≤ n
 begun_at_least a n lt = omega (arith, lt)
 
 -- The own block that was submitted has begun.
-pub own_begun : (w : WayContext) (ms : List Submitted) → Ways w ms → (b : Block) → block_submitted ms ≡ Some b → 1 ≤ b.lver
-own_begun w [] h b is = absurd (none_some b is)
-own_begun w (m ∷ ms) h b is = by (doing w m ms h.1 h.0) (λ x old. own_begun w ms h.1 x old) where
+pub own_begun : (w : WayContext) → w.layout.paired ≡ false → (ms : List Submitted) → Ways w ms → (b : Block) → block_submitted ms ≡ Some b → 1 ≤ b.lver
+own_begun w plain [] h b is = absurd (none_some b is)
+own_begun w plain (m ∷ ms) h b is = by (doing w plain m ms h.1 h.0) (λ x old. own_begun w plain ms h.1 x old) where
   here : (x : Block) → m.call.op ≡ WriteRecord (BlockIs x) → 1 ≤ x.lver → 1 ≤ b.lver
   here x op one = subst (λ (z : Block). 1 ≤ z.lver) (some_value x b (sym (submitted_here m ms x (block_is m x op)) ∙ is)) one
 
@@ -95,23 +103,23 @@ own_begun w (m ∷ ms) h b is = by (doing w m ms h.1 h.0) (λ x old. own_begun w
 pub own_is : (st : Setting) (t : Trace) (s : Session) (at : Spot) (own : Block) → block_submitted (lease_calls st t s at) ≡ Some own → own_block st.layout s.id (lease_calls st t s at) ≡ Some own
 own_is st t s at own is = ap (λ o. own_or_read s.id o (last_blocks st.layout (lease_calls st t s at))) is
 
-mode_is_lawful : (st : Setting) (t : Trace) (s : Session) (at : Spot) → Ways (way_context st t s) (lease_calls st t s at) → (c : Submitted) (own b : Block) (shared : Bool) (gen : ℕ)
+mode_is_lawful : (st : Setting) → st.layout.paired ≡ false → (t : Trace) (s : Session) (at : Spot) → Ways (way_context st t s) (lease_calls st t s at) → (c : Submitted) (own b : Block) (shared : Bool) (gen : ℕ)
     → block_submitted (lease_calls st t s at) ≡ Some own → c.call.op ≡ WriteRecord (BlockIs (moded_block own shared gen)) → block_written c ≡ Some b → LawfulModeWrite st t s at b
-mode_is_lawful st t s at ws c own b shared gen known wrote writes =
+mode_is_lawful st plain t s at ws c own b shared gen known wrote writes =
     record {
       own = own;
       known = own_is st t s at own known;
-      begun = own_begun (way_context st t s) (calls st t s at) ws own known;
+      begun = own_begun (way_context st t s) plain (calls st t s at) ws own known;
       written = subst (λ (x : Block). x ≡ moded_block own x.shared x.mode_gen) (block_same c (moded_block own shared gen) b (block_is c (moded_block own shared gen) wrote) writes) refl;
     }
 
-pub set_mode_is_lawful : (st : Setting) (t : Trace) (s : Session) (at : Spot) → Ways (way_context st t s) (lease_calls st t s at) → (work : Work) (c : Submitted) (b : Block)
+pub set_mode_is_lawful : (st : Setting) → st.layout.paired ≡ false → (t : Trace) (s : Session) (at : Spot) → Ways (way_context st t s) (lease_calls st t s at) → (work : Work) (c : Submitted) (b : Block)
     → ModeWay (way_context st t s) work c.at c.call (lease_calls st t s at) → block_written c ≡ Some b → LawfulModeWrite st t s at b
-set_mode_is_lawful st t s at ws work c b h writes = mode_is_lawful st t s at ws c h.own b true (me t s).generation h.known h.wrote writes
+set_mode_is_lawful st plain t s at ws work c b h writes = mode_is_lawful st plain t s at ws c h.own b true (me t s).generation h.known h.wrote writes
 
-pub clear_mode_is_lawful : (st : Setting) (t : Trace) (s : Session) (at : Spot) → Ways (way_context st t s) (lease_calls st t s at) → (c : Submitted) (b : Block)
+pub clear_mode_is_lawful : (st : Setting) → st.layout.paired ≡ false → (t : Trace) (s : Session) (at : Spot) → Ways (way_context st t s) (lease_calls st t s at) → (c : Submitted) (b : Block)
     → ClearWay c.call (lease_calls st t s at) → block_written c ≡ Some b → LawfulModeWrite st t s at b
-clear_mode_is_lawful st t s at ws c b h writes = mode_is_lawful st t s at ws c h.own b false 0 h.known h.wrote writes
+clear_mode_is_lawful st plain t s at ws c b h writes = mode_is_lawful st plain t s at ws c h.own b false 0 h.known h.wrote writes
 
 -- ---- leaders
 

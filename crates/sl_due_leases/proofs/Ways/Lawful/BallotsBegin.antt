@@ -1,5 +1,4 @@
 -- Why a ballot may begin: after a read of the area, after one that was lost to an owner who is over, or where it is still open.
-use Rattle.sl_area.specs.Places.{area_blocks}
 use Rattle.sl_run.specs.LawfulBlock.{AreaRead, BeginReason, Block_above, Freed_before, Leader_before, Leader_own, LawfulPhase1, Lost_before, Own_block}
 use Rattle.sl_due_leases.proofs.Ways.GreatestFrees.{freed_among, greatest_among}
 use Rattle.sl_due_leases.proofs.Ways.InstancesBegin.{not_below_own, own_below_top, why_instance}
@@ -74,11 +73,11 @@ freed_here st t s at = freed (lease_calls st t s at)
 freed_reason : (st : Setting) (t : Trace) (s : Session) (at : Spot) (a : AreaRead st t s at) (n : ℕ) → 0 < freed_here st t s at → a.leader.lver < n → freed_here st t s at + 1 ≡ n → BeginReason st t s at n
 freed_reason st t s at a n pos below is = let w = freed_among (lease_calls st t s at) pos in Freed_before a below w.0 w.1 (freed_here st t s at) w.2 is
 
-leads_reason : (st : Setting) (t : Trace) (s : Session) (at : Spot) (l : Looked st t s at) (n : ℕ) → l.read.leader.lver < n → n ≡ top_lver l.own (area_blocks st.layout l.read.bytes) → BeginReason st t s at n
+leads_reason : (st : Setting) (t : Trace) (s : Session) (at : Spot) (l : Looked st t s at) (n : ℕ) → l.read.leader.lver < n → n ≡ top_lver l.own l.read.blocks → BeginReason st t s at n
 leads_reason st t s at l n above is =
     let a : AreaRead st t s at = l.read in
     let own : Block = l.own in
-    let read : List Block = present (area_blocks st.layout a.bytes) in
+    let read : List Block = present a.blocks in
     let others : ℕ = greatest (map (λ (b : Block). b.lver) (filter (λ (b : Block). not (b.host == own.host)) read)) in
     let top : n ≡ max own.lver others = is ∙ greatest-cons own.lver (map (λ (b : Block). b.lver) (filter (λ (b : Block). not (b.host == own.host)) read)) in
     elim (cases_lt own.lver others) [
@@ -104,7 +103,7 @@ done_reason st t s at a n is (inl free) le =
 abbrev Why : (st : Setting) (t : Trace) (s : Session) (at : Spot) → Looked st t s at → ℕ → Type 0
 Why st t s at l n =
     WhyInstance (is_counted_free l.read.leader (freed_here st t s at)) (is_over_owner (known st t s at) l.read.leader) (same_owner (owner_of l.read.leader) (me t s))
-    (counted_lver l.read.leader (freed_here st t s at)) (top_lver l.own (area_blocks st.layout l.read.bytes)) n
+    (counted_lver l.read.leader (freed_here st t s at)) (top_lver l.own l.read.blocks) n
 
 area_reason : (st : Setting) (t : Trace) (s : Session) (at : Spot) (l : Looked st t s at) (n : ℕ) → Why st t s at l n → BeginReason st t s at n
 area_reason st t s at l n (Block_leads above is) = leads_reason st t s at l n (omega (arith, above, is)) is
@@ -158,20 +157,20 @@ pub record MayBegin (st : Setting) (t : Trace) (s : Session) (at : Spot) (n : �
 
 -- After this read of the area.
 pub begins_after_read : (st : Setting) (t : Trace) (s : Session) (at : Spot) (a : AreaRead st t s at) → IsLeader a.leader → (own : Block) → own_block st.layout s.id (lease_calls st t s at) ≡ Some own
-    → (n : ℕ) → instance_for (known st t s at) a.leader own (area_blocks st.layout a.bytes) ≡ Begins n → MayBegin st t s at n own
+    → (n : ℕ) → instance_for (known st t s at) a.leader own a.blocks ≡ Begins n → MayBegin st t s at n own
 unfolding known
 begins_after_read st t s at a fits own is n begins =
     let looked : Looked st t s at = record { read = a; own = own; known = is } in
-    let why : Why st t s at looked n = why_instance (known st t s at) a.leader own (area_blocks st.layout a.bytes) n begins in
+    let why : Why st t s at looked n = why_instance (known st t s at) a.leader own a.blocks n begins in
     record {
       known = is;
       reason = area_reason st t s at looked n why;
       not_below =
           not_below_own (is_counted_free a.leader (freed_here st t s at)) (is_over_owner (known st t s at) a.leader) (same_owner (owner_of a.leader) (me t s))
-          (counted_lver a.leader (freed_here st t s at)) (top_lver own (area_blocks st.layout a.bytes)) n own.lver (own_below_top own (area_blocks st.layout a.bytes)) why;
+          (counted_lver a.leader (freed_here st t s at)) (top_lver own a.blocks) n own.lver (own_below_top own a.blocks) why;
       not_freed =
           above_freed (is_counted_free a.leader (freed_here st t s at)) (is_over_owner (known st t s at) a.leader) (same_owner (owner_of a.leader) (me t s)) a.leader
-          (freed_here st t s at) (top_lver own (area_blocks st.layout a.bytes)) n fits refl why;
+          (freed_here st t s at) (top_lver own a.blocks) n fits refl why;
     }
 
 most : (a b : ℕ) → a ≡ b → a ≤ b
@@ -194,14 +193,14 @@ next_up : (a b c : ℕ) → a ≤ b → b ≡ c → a < c + 1
 next_up a b c le is = omega (arith, le, is)
 
 -- Where the one before ended with another who is over.
-pub begins_after_loss : (st : Setting) (t : Trace) (s : Session) (at : Spot) → Ways (way_context st t s) (lease_calls st t s at) → (own : Block) → block_submitted (lease_calls st t s at) ≡ Some own
+pub begins_after_loss : (st : Setting) → st.layout.paired ≡ false → (t : Trace) (s : Session) (at : Spot) → Ways (way_context st t s) (lease_calls st t s at) → (own : Block) → block_submitted (lease_calls st t s at) ≡ Some own
     → Contains (ended_ballots st.layout (lease_calls st t s at)) (own.lver, value_of own) → counts_over st t s own.inp own.inp_gen ≡ true → MayBegin st t s at (own.lver + 1) own
-begins_after_loss st t s at ws own is ended over =
+begins_after_loss st plain t s at ws own is ended over =
     record {
       known = own_is st t s at own is;
       reason = Lost_before (value_of own) own.lver ended refl (counted_now st t s own.inp own.inp_gen over);
       not_below = omega arith;
-      not_freed = next_up (freed (lease_calls st t s at)) (own_lver (lease_calls st t s at)) own.lver (freed_below (way_context st t s) (lease_calls st t s at) ws) (lver_of (lease_calls st t s at) own is);
+      not_freed = next_up (freed (lease_calls st t s at)) (own_lver (lease_calls st t s at)) own.lver (freed_below (way_context st t s) plain (lease_calls st t s at) ws) (lver_of (lease_calls st t s at) own is);
     }
 
 -- Its block.

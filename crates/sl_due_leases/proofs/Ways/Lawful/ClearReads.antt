@@ -1,16 +1,17 @@
 -- What a clear read of the blocks shows of other hosts: each of their blocks is whole.
 use Rattle.sl_area.specs.Layouts.{Layout}
-use Rattle.sl_area.specs.Places.{area_blocks, blocks_in}
+use Rattle.sl_area.specs.Places.{blocks_in}
 use Rattle.sl_trace.specs.Ballots.{ballot_blocks, known_block, stop_among, stop_of, torn_host, with_own}
-use Rattle.sl_trace.specs.Leases.{block_of_host, blocks_given, is_area_read, is_phase_read}
+use Rattle.sl_trace.proofs.PlainReads.{given_plain}
+use Rattle.sl_trace.specs.Leases.{block_of_host, blocks_bytes, blocks_given}
 use Rattle.sl_trace.specs.declared.lease.Stop.TheVariants.{BlockTorn}
 use Rattle.sl_trace.specs.declared.lease.Stop.{Stop}
 use Rattle.sl_sector.specs.declared.sector.Block.{Block}
-use Rattle.sl_trace.specs.Traces.{Submitted, gave}
+use Rattle.sl_trace.specs.Traces.{Submitted}
 use Rattle.sl_words.proofs.CaseLaws.{none_some, some_value}
 use Rattle.std.proofs.Common.{ap, arith, refl, subst, sym, tests, ◌∙◌}
 use Rattle.std.proofs.lemmas.List.FromFn.{length-map-range_with_len}
-use Rattle.std.specs.Prelude.{Bool, IsSome, List, None, Option, Some, [], false, if◌then◌else◌, length, slice_get, suc, true, unwrap_or, zero, ℕ, ◌+◌, ◌-◌, ◌<◌, ◌==◌, ◌∷◌, ◌≡◌, ◌≤◌}
+use Rattle.std.specs.Prelude.{Bool, IsSome, List, None, Option, Some, [], false, if◌then◌else◌, length, option_map, slice_get, suc, unwrap_or, zero, ℕ, ◌+◌, ◌-◌, ◌<◌, ◌==◌, ◌∷◌, ◌≡◌, ◌≤◌}
 
 differs : (a b : ℕ) → (a ≡ b → ⊥) → (a == b) ≡ false
 differs a b apart = grind (arith, tests)
@@ -43,13 +44,8 @@ no_other_torn own blocks clear host low high other =
     whole_at own 1 blocks (none_torn own blocks clear) (host - 1) (omega (arith, low, high)) (λ e. other (omega (arith, e, low)))
 
 -- A read of the blocks gives one of each host.
-pub given_long : (g : Layout) (m : Submitted) (blocks : List (Option Block)) → blocks_given g m ≡ Some blocks → length blocks ≡ g.hosts
-given_long g m blocks is = by (gave m) (is_area_read m) (is_phase_read m) is where
-  by : (o : Option (List ℕ)) (a b : Bool) → elim o as (λ z. Option (List (Option Block))) [
-    | None ↦ None
-    | Some bytes ↦ elim a as (λ z. Option (List (Option Block))) [ true ↦ Some (area_blocks g bytes) | false ↦ elim b as (λ z. Option (List (Option Block))) [ true ↦ Some (blocks_in g bytes) | false ↦ None ] ]
-  ] ≡ Some blocks → length blocks ≡ g.hosts
-  by None a b at = absurd (none_some blocks at)
-  by (Some bytes) true b at = ap (λ xs. length xs) (sym (some_value (area_blocks g bytes) blocks at)) ∙ length-map-range_with_len _ 1 g.hosts
-  by (Some bytes) false true at = ap (λ xs. length xs) (sym (some_value (blocks_in g bytes) blocks at)) ∙ length-map-range_with_len _ 1 g.hosts
-  by (Some bytes) false false at = absurd (none_some blocks at)
+pub given_long : (g : Layout) → g.paired ≡ false → (m : Submitted) (ms : List Submitted) (blocks : List (Option Block)) → blocks_given g m ms ≡ Some blocks → length blocks ≡ g.hosts
+given_long g plain m ms blocks is = by (blocks_bytes g m) (given_plain g plain m ms blocks is) where
+  by : (o : Option (List ℕ)) → option_map (blocks_in g) o ≡ Some blocks → length blocks ≡ g.hosts
+  by None at = absurd (none_some blocks at)
+  by (Some bytes) at = ap (λ xs. length xs) (sym (some_value (blocks_in g bytes) blocks at)) ∙ length-map-range_with_len _ 1 g.hosts

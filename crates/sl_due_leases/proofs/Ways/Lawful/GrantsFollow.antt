@@ -1,16 +1,16 @@
 -- What grants ask of a lease's calls follows from their ways.
-use Rattle.sl_run.specs.LawfulBlock.{ReadAfter}
+use Rattle.sl_run.specs.LawfulBlock.{FirstAfter, ReadAfter}
 use Rattle.sl_run.specs.LawfulModes.{IsDone, LawfulExclusiveGrant, NoneShared}
-use Rattle.sl_due_leases.proofs.Ways.Lawful.BallotLaws.{before2, block_same, read2, read_after, take_concludes, take_freed, take_won, won_own}
+use Rattle.sl_due_leases.proofs.Ways.Lawful.BallotLaws.{before2, block_same, first_after, read2, read_after, take_concludes, take_freed, take_won, won_own}
 use Rattle.sl_due_leases.proofs.Ways.Lawful.ClearReads.{given_long, no_other_torn}
 use Rattle.sl_due_leases.proofs.Ways.NewestCall.{block_is, block_is_no_leader, ended_before, freed_held, freed_passed, leader_is, leader_is_no_block, lver_is, read_writes_no_block, submitted_passed}
 use Rattle.sl_due_leases.proofs.Ways.NextsFit.WritesFit.{no_phase2, stays_closed}
 use Rattle.sl_due_leases.proofs.Ways.WayNumbers.{ended_below, lver_of, own_lver}
-use Rattle.sl_due_leases.proofs.Ways.WayStages.{asked2_own, begun1, begun1_own, is_at_in, prior_at, prior_inside, proposed, proposed_lver, proposed_mbal, read1, rest1, rest2, rest_inside, step_way, way_behind, ways_behind, write2}
+use Rattle.sl_due_leases.proofs.Ways.WayStages.{asked2_own, begun1, begun1_own, is_at_in, prior_at, prior_first, prior_inside, proposed, proposed_lver, proposed_mbal, read1, rest1, rest2, rest_inside, step_way, way_behind, ways_behind, write2}
 use Rattle.sl_trace.specs.Ballots.{moded_block, stop_of}
 use Rattle.sl_trace.specs.Jobs.{aim_of, aim_of_command, command_numbered}
 use Rattle.sl_trace.specs.LeaseWork.{looks_for_shared}
-use Rattle.sl_trace.specs.Leases.{Area_read, Phase1_read, Phase1_write, Phase2_read, Phase2_write, block_submitted, block_written, blocks_given, ended_ballots, freed, freed_by, is_area_read, is_at, is_block_read, is_free_write, leader_written, lease_calls, lease_step, lver_written, open_ballot, spot_of_call}
+use Rattle.sl_trace.specs.Leases.{Area_read, Phase1_read, Phase1_write, Phase2_read, Phase2_write, Read_before_block, block_submitted, block_written, blocks_given, ended_ballots, freed, freed_by, is_area_read, is_at, is_block_read, is_free_write, leader_written, lease_calls, lease_step, lver_written, open_ballot, spot_of_call}
 use Rattle.sl_trace.specs.declared.lease.Aim.TheVariants.{Acquires, Converts, Releases, Settles}
 use Rattle.sl_trace.specs.declared.lease.Aim.{Aim}
 use Rattle.sl_sector.specs.declared.sector.Block.{Block}
@@ -42,7 +42,7 @@ use Rattle.sl_words.proofs.WordLaws.{and_true}
 use Rattle.sl_words.specs.Words.{some_is}
 use Rattle.std.proofs.Common.{ap, arith, eqb-true, inl, inr, refl, subst, sym, ◌∙◌}
 use Rattle.std.specs.Option.{option_map_or}
-use Rattle.std.specs.Prelude.{Bool, Contains, IsTrue, List, None, Option, Some, [], false, if◌then◌else◌, is_some, not, option_and_then, true, ℕ, ◌&&◌, ◌<◌, ◌==◌, ◌||◌, ◌∷◌, ◌≡◌, ◌≤◌, ◌⊎◌}
+use Rattle.std.specs.Prelude.{Bool, Contains, IsTrue, List, None, Option, Some, [], false, if◌then◌else◌, is_some, not, option_and_then, true, ℕ, ◌&&◌, ◌++◌, ◌<◌, ◌==◌, ◌||◌, ◌∷◌, ◌≡◌, ◌≤◌, ◌⊎◌}
 
 -- ---- numbers fall
 
@@ -77,9 +77,13 @@ record BallotBehind (w : WayContext) (work : Work) (ms : List Submitted) (n : �
   wrote : Contains ms write × (is_at Phase1_write write ≡ true) × (block_written write ≡ Some own) × (own.lver ≡ n)
   host : own.host ≡ w.self.id
   reads : Contains ms read × (is_at Phase1_read read ≡ true)
+  after : List Submitted
+  before : List Submitted
+  split : ms ≡ after ++ read ∷ before
   ordered : ReadAfter write read
+  first_ordered : FirstAfter write read before
   same : SameFrom write.call.number own.mbal ms
-  given : blocks_given w.layout read ≡ Some blocks
+  given : blocks_given w.layout read before ≡ Some blocks
   clear : stop_of own blocks ≡ None
   aim : Aim
   aimed : w.aims work ≡ Some aim
@@ -136,7 +140,11 @@ ballot_behind w work m ms ws h =
       );
       host = subst (λ (z : Block). z.host ≡ w.self.id) own_is b1.host;
       reads = (inside p2.after.prior (prior_inside r2.after.rest work Phase1Read p2.after), prior_at Phase1_read r2.after.rest work Phase1Read p2.after refl);
+      after = m ∷ h.after.prior ∷ r2.after.prior ∷ [];
+      before = p2.after.rest;
+      split = ap (λ xs. m ∷ xs) (h.after.before ∙ ap (λ xs. h.after.prior ∷ xs) (r2.after.before ∙ ap (λ xs. r2.after.prior ∷ xs) p2.after.before));
       ordered = read_after r1.after.prior p2.after.prior r1.done;
+      first_ordered = first_after r1.after.prior p2.after.prior p2.after.rest (prior_first r2.after.rest work Phase1Read p2.after refl);
       same = same_more number p2.own.mbal m ms (no_block m p2.own.mbal (leader_is_no_block m h.leader h.wrote)) s1;
       given = p2.given;
       clear = p2.clear;
@@ -178,26 +186,26 @@ work_behind st t heard s m j step c ways turns d =
 ok_answer : (m : Submitted) (a : Answered) → IsDone m a → is_answered_ok m ≡ true
 ok_answer m a h = ap (λ o. some_is (λ (k : Answered). is_ok_answer k.answer) o) h.0 ∙ ap (λ k. is_ok_answer k) h.1
 
-one_of_three : (a b c : Bool) → b ≡ true → (a || (b || c)) ≡ true
-one_of_three true b c is = refl
-one_of_three false b c is = ap (λ t. t || c) is
+one_of_four : (a b c d : Bool) → b ≡ true → (a || (b || c) || d) ≡ true
+one_of_four true b c d is = refl
+one_of_four false b c d is = ap (λ t. t || c || d) is
 
 reads_blocks : (m : Submitted) → is_at Phase1_read m ≡ true → IsTrue (is_block_read m)
-reads_blocks m is = one_of_three (is_area_read m) (is_at Phase1_read m) (is_at Phase2_read m) is
+reads_blocks m is = one_of_four (is_area_read m) (is_at Phase1_read m) (is_at Phase2_read m) (is_at Read_before_block m) is
 
-none_shared : (st : Setting) (t : Trace) (s : Session) (work : Work) (ms : List Submitted) (n : ℕ) (aim : Aim) → (b : BallotBehind (way_context st t s) work ms n) → aim_of st t work ≡ Some aim → looks_for_shared aim ≡ true
+none_shared : (st : Setting) → st.layout.paired ≡ false → (t : Trace) (s : Session) (work : Work) (ms : List Submitted) (n : ℕ) (aim : Aim) → (b : BallotBehind (way_context st t s) work ms n) → aim_of st t work ≡ Some aim → looks_for_shared aim ≡ true
     → NoneShared st t s b.blocks
-none_shared st t s work ms n aim b aimed looks =
+none_shared st plain t s work ms n aim b aimed looks =
     record {
       over = b.alone (ap (λ a. looks_for_shared a) (one_value b.aim aim (aim_of st t work) b.aimed aimed) ∙ looks);
       whole = λ host low high other.
-          no_other_torn b.own b.blocks b.clear host low (subst (λ n. host ≤ n) (sym (given_long st.layout b.read b.blocks b.given)) high) (λ e. other (e ∙ b.host));
+          no_other_torn b.own b.blocks b.clear host low (subst (λ n. host ≤ n) (sym (given_long st.layout plain b.read b.before b.blocks b.given)) high) (λ e. other (e ∙ b.host));
     }
 
-exclusive_grant : (st : Setting) (t : Trace) (s : Session) (at : Spot) (work : Work) (m : Submitted) (rest : List Submitted) (n : ℕ) (aim : Aim) → lease_calls st t s at ≡ m ∷ rest → Ways (way_context st t s) (m ∷ rest)
+exclusive_grant : (st : Setting) → st.layout.paired ≡ false → (t : Trace) (s : Session) (at : Spot) (work : Work) (m : Submitted) (rest : List Submitted) (n : ℕ) (aim : Aim) → lease_calls st t s at ≡ m ∷ rest → Ways (way_context st t s) (m ∷ rest)
     → (h : TakeWay (way_context st t s) work m.at m.call rest) → h.leader.lver ≡ n → (b : BallotBehind (way_context st t s) work (m ∷ rest) n) → aim_of st t work ≡ Some aim → looks_for_shared aim ≡ true
     → LawfulExclusiveGrant st t s at n
-exclusive_grant st t s at work m rest n aim first ws h under b aimed looks =
+exclusive_grant st plain t s at work m rest n aim first ws h under b aimed looks =
     record {
       won = subst (λ xs. Contains (ended_ballots st.layout xs) (n, me t s)) (sym first)
           (ended_before st.layout m rest (n, me t s) (subst (λ k. Contains (ended_ballots st.layout rest) (k, me t s)) under (take_won (way_context st t s) work m.at m.call rest h)));
@@ -207,10 +215,14 @@ exclusive_grant st t s at work m rest n aim first ws h under b aimed looks =
       blocks = b.blocks;
       wrote = (subst (λ xs. Contains xs b.write) (sym first) b.wrote.0, b.wrote.1, b.wrote.2, b.wrote.3);
       of_lease = (subst (λ xs. Contains xs b.read) (sym first) b.reads.0, reads_blocks b.read b.reads.1);
+      after = b.after;
+      before = b.before;
+      split = first ∙ b.split;
       ordered = b.ordered;
+      first_ordered = b.first_ordered;
       same_ballot = subst (λ xs. SameFrom b.write.call.number b.own.mbal xs) (sym first) b.same;
       given = b.given;
-      none_shared = none_shared st t s work (m ∷ rest) n aim b aimed looks;
+      none_shared = none_shared st plain t s work (m ∷ rest) n aim b aimed looks;
     }
 
 held_none : (l : Leader) → l.held ≡ true → (if l.held then 0 else l.lver) ≡ 0
@@ -228,10 +240,10 @@ idle st t heard s m d j rest way is heard_it there opens = by (contains_cases m 
       let number : d.call.number ≡ m.call.number = some_value d.call.number m.call.number (sym told.0 ∙ heard_it) in
       let less : d.call.number < m.call.number = way.above d old in absurd (omega (arith, number, less))
 
-stands : (st : Setting) (t : Trace) (heard : Option ℕ) (s : Session) (m : Submitted) (j : ℕ) (c : Command) (aim : Aim) → (d : IsDoneWork st t heard s m j TakeLeader c) → WorkBehind st t heard s m j TakeLeader
+stands : (st : Setting) → st.layout.paired ≡ false → (t : Trace) (heard : Option ℕ) (s : Session) (m : Submitted) (j : ℕ) (c : Command) (aim : Aim) → (d : IsDoneWork st t heard s m j TakeLeader c) → WorkBehind st t heard s m j TakeLeader
     → aim_of st t (ForJob j) ≡ Some aim → looks_for_shared aim ≡ true → StandsExclusive st t heard s (spot_of_call st.layout m) (lver_written m)
 unfolding exclusive_grant
-stands st t heard s m j c aim d b aimed looks =
+stands st plain t heard s m j c aim d b aimed looks =
     let w : WayContext = way_context st t s in
     let at : Spot = spot_of_call st.layout m in
     let h : TakeWay w (ForJob j) m.at m.call b.rest = b.way in
@@ -246,7 +258,7 @@ stands st t heard s m j c aim d b aimed looks =
         written = (leader_is m h.leader h.wrote, h.held, sym lver);
         answered = ok_answer m d.answer d.done;
       };
-      ballot = exclusive_grant st t s at (ForJob j) m b.rest (lver_written m) aim b.first b.ways h (sym lver) behind aimed looks;
+      ballot = exclusive_grant st plain t s at (ForJob j) m b.rest (lver_written m) aim b.first b.ways h (sym lver) behind aimed looks;
       not_freed = subst (λ xs. freed xs < lver_written m) (sym b.first) (fewer (freed (m ∷ b.rest)) (freed b.rest) h.leader.lver (lver_written m) freed_same (take_freed w (ForJob j) m.at m.call b.rest b.ways.1 h) lver);
       own = behind.last;
       known = ap (λ xs. block_submitted xs) b.first ∙ behind.known;
@@ -255,7 +267,7 @@ stands st t heard s m j c aim d b aimed looks =
           ∙ stays_closed st.layout m b.rest (no_phase2 m (Lease (ForJob j) TakeLeader) d.work.purpose refl) (take_concludes w (ForJob j) m.at m.call b.rest b.ways.1 h);
       ended = λ p there.
           most p.0 (own_lver (m ∷ b.rest)) behind.last.lver (lver_written m)
-          (ended_below w (m ∷ b.rest) b.ways p.0 p.1 (subst (λ xs. Contains (ended_ballots st.layout xs) p) b.first there)) (lver_of (m ∷ b.rest) behind.last behind.known) behind.under.0;
+          (ended_below w plain (m ∷ b.rest) b.ways p.0 p.1 (subst (λ xs. Contains (ended_ballots st.layout xs) p) b.first there)) (lver_of (m ∷ b.rest) behind.last behind.known) behind.under.0;
       idle = λ k there opens. idle st t heard s m k j b.rest b.ways.0 d.work.purpose d.heard_it (subst (λ xs. Contains xs k) b.first there) opens;
     }
   where
@@ -432,11 +444,11 @@ moded_for st t heard s m j c b =
 aim_is : (st : Setting) (t : Trace) (j : ℕ) (c : Command) (aim : Aim) → command_numbered st t j ≡ Some c → aim_of_command c ≡ Some aim → aim_of st t (ForJob j) ≡ Some aim
 aim_is st t j c aim known is = ap (λ o. option_and_then aim_of_command o) known ∙ is
 
-pub grants_follow : (st : Setting) (t : Trace) (heard : Option ℕ) → WayFacts st t → TurnFacts st t heard → GrantGrounds st t heard
-grants_follow st t heard ways turns =
+pub grants_follow : (st : Setting) → st.layout.paired ≡ false → (t : Trace) (heard : Option ℕ) → WayFacts st t → TurnFacts st t heard → GrantGrounds st t heard
+grants_follow st plain t heard ways turns =
     record {
-      acquired = λ s m j c d is. stands st t heard s m j c (Acquires Exclusive) d (work_behind st t heard s m j TakeLeader c ways turns d) (aim_is st t j c (Acquires Exclusive) d.work.command is) refl;
-      converted = λ s m j c d is. stands st t heard s m j c (Converts Exclusive) d (work_behind st t heard s m j TakeLeader c ways turns d) (aim_is st t j c (Converts Exclusive) d.work.command is) refl;
+      acquired = λ s m j c d is. stands st plain t heard s m j c (Acquires Exclusive) d (work_behind st t heard s m j TakeLeader c ways turns d) (aim_is st t j c (Acquires Exclusive) d.work.command is) refl;
+      converted = λ s m j c d is. stands st plain t heard s m j c (Converts Exclusive) d (work_behind st t heard s m j TakeLeader c ways turns d) (aim_is st t j c (Converts Exclusive) d.work.command is) refl;
       shared = λ s m j c mode d is. freed_for st t heard s m j c mode d (work_behind st t heard s m j FreeLeader c ways turns d) (aim_is st t j c (Acquires mode) d.work.command is);
       moded = λ s m j c d is. moded_for st t heard s m j c (work_behind st t heard s m j SetMode c ways turns d);
     }

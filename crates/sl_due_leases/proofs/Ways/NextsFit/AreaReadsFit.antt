@@ -4,10 +4,12 @@ use Rattle.sl_run.specs.LawfulBlock.{AreaRead}
 use Rattle.sl_due_leases.proofs.Ways.Decoding.{leader_read}
 use Rattle.sl_due_leases.proofs.Ways.Lawful.BallotsBegin.{MayBegin, begins_after_read, none_torn}
 use Rattle.sl_due_leases.proofs.Ways.NextsFit.SettlingsFit.{begin_is}
-use Rattle.sl_due_leases.proofs.Ways.WayStages.{is_at_in}
+use Rattle.sl_due_leases.proofs.Ways.GivenReads.{given_by, given_in, leader_by}
+use Rattle.sl_due_leases.proofs.Ways.WayStages.{is_at_in, is_first}
 use Rattle.sl_due_leases.specs.Ways.Nexts.{IsHeard, Moment, NextIs, calls_at, context_at, known_at, place_at}
 use Rattle.sl_trace.specs.LeaseWork.{area_next, begin_or_refuse, named_area_next, whole_area_next}
-use Rattle.sl_trace.specs.Leases.{Area_read, Read_before_free, instance_for, is_area_read, is_leader_of, known, name_sought, own_block, verified_by}
+use Rattle.sl_trace.specs.Leases.{Area_read, Read_before_free, blocks_given, instance_for, is_area_read, is_leader_of, known, leader_given, name_sought, own_block, verified_by}
+use Rattle.sl_sector.specs.Records.{IsLeader}
 use Rattle.sl_trace.specs.declared.lease.Aim.{Aim}
 use Rattle.sl_trace.specs.declared.lease.Instance.TheVariants.{Begins, HeldAlready}
 use Rattle.sl_trace.specs.declared.lease.Instance.{Instance}
@@ -28,7 +30,7 @@ use Rattle.sl_plain.proofs.Lists.{contains_first}
 use Rattle.sl_words.specs.Words.{choose}
 use Rattle.std.proofs.Common.{ap, refl, subst, sym, ◌∙◌}
 use Rattle.std.specs.Option.{option_map_or}
-use Rattle.std.specs.Prelude.{Bool, Contains, List, None, Option, Some, false, is_none, option_and_then, position, true, ℕ, ◌+◌, ◌||◌, ◌≡◌}
+use Rattle.std.specs.Prelude.{Bool, Contains, List, None, Option, Some, [], false, is_none, option_and_then, position, true, ℕ, ◌+◌, ◌||◌, ◌≡◌}
 
 -- What a read that was heard gave.
 pub heard_gave : (x : Moment) (step : LeaseStep) (aim : Aim) (bytes : List ℕ) → (h : IsHeard x step aim (Read bytes)) → gave h.call ≡ Some bytes
@@ -40,23 +42,31 @@ heard_inside x step aim answer h = subst (λ xs. Contains xs h.call) (sym h.newe
 is_read : (m : Submitted) (work : Work) (name : List ℕ) → m.call.purpose ≡ Lease work (ReadArea name) → is_area_read m ≡ true
 is_read m work name is = ap (λ p. is_at_in Area_read p || is_at_in Read_before_free p) is
 
+-- The leader that a read of the area for a resource gave, and the blocks.
+leads : (x : Moment) (aim : Aim) (name bytes : List ℕ) → (h : IsHeard x (ReadArea name) aim (Read bytes)) → leader_given x.setting.layout h.call h.rest ≡ leader_of x.setting.layout bytes
+leads x aim name bytes h =
+    leader_by x.setting.layout h.plain h.call h.rest bytes (is_first h.call x.work (ReadArea name) h.its refl) (is_read h.call x.work name h.its) (heard_gave x (ReadArea name) aim bytes h)
+
+gives : (x : Moment) (aim : Aim) (name bytes : List ℕ) → (h : IsHeard x (ReadArea name) aim (Read bytes)) → blocks_given x.setting.layout h.call h.rest ≡ Some (area_blocks x.setting.layout bytes)
+gives x aim name bytes h =
+    given_by x.setting.layout h.plain h.call h.rest bytes (is_first h.call x.work (ReadArea name) h.its refl) (heard_gave x (ReadArea name) aim bytes h)
+    ∙ ap (λ p. given_in x.setting.layout bytes p) h.its
+
 -- The name that it verifies.
 verifies : (x : Moment) (aim : Aim) (name bytes : List ℕ) → (h : IsHeard x (ReadArea name) aim (Read bytes)) → (l : Leader) → leader_of x.setting.layout bytes ≡ Some l
-    → is_leader_of x.setting.layout x.session.lockspace name l ≡ true → verified_by x.setting.layout x.session.lockspace h.call ≡ Some name
+    → is_leader_of x.setting.layout x.session.lockspace name l ≡ true → verified_by x.setting.layout x.session.lockspace h.call h.rest ≡ Some name
 verifies x aim name bytes h l spelled named =
     ap (λ p. elim (name_sought p) as (λ z. Option (List ℕ)) [
       | None ↦ None
-      | Some n ↦ elim (option_and_then (leader_of x.setting.layout) (gave h.call)) as (λ z. Option (List ℕ)) [ None ↦ None | Some k ↦ choose (is_leader_of x.setting.layout x.session.lockspace n k) n ]
+      | Some n ↦ elim (leader_given x.setting.layout h.call h.rest) as (λ z. Option (List ℕ)) [ None ↦ None | Some k ↦ choose (is_leader_of x.setting.layout x.session.lockspace n k) n ]
     ]) h.its
-    ∙ (ap (λ o. elim (option_and_then (leader_of x.setting.layout) o) as (λ z. Option (List ℕ)) [ None ↦ None | Some k ↦ choose (is_leader_of x.setting.layout x.session.lockspace name k) name ])
-    (heard_gave x (ReadArea name) aim bytes h)
-    ∙ (ap (λ o. elim o as (λ z. Option (List ℕ)) [ None ↦ None | Some k ↦ choose (is_leader_of x.setting.layout x.session.lockspace name k) name ]) spelled
-    ∙ ap (λ b. choose b name) named))
+    ∙ (ap (λ o. elim o as (λ z. Option (List ℕ)) [ None ↦ None | Some k ↦ choose (is_leader_of x.setting.layout x.session.lockspace name k) name ]) (leads x aim name bytes h ∙ spelled)
+    ∙ ap (λ b. choose b name) named)
 
 -- A read in which all spells and the names are right.
 record RightRead (x : Moment) (bytes : List ℕ) (l : Leader) : Type 0 where
   read : AreaRead x.setting x.trace x.session x.at
-  same : (read.bytes ≡ bytes) × (read.leader ≡ l)
+  same : (read.blocks ≡ area_blocks x.setting.layout bytes) × (read.leader ≡ l)
   spelled : leader_of x.setting.layout bytes ≡ Some l
   named : IsVerified (context_at x) (calls_at x)
 
@@ -65,10 +75,11 @@ begins : (x : Moment) (aim : Aim) (bytes : List ℕ) (l : Leader) → RightRead 
 begins x aim bytes l r own is (HeldAlready lver owner) found = refl
 begins x aim bytes l r own is (Begins n) found =
     let a : AreaRead x.setting x.trace x.session x.at = r.read in
-    let found_there : instance_for (known_at x) a.leader own (area_blocks x.setting.layout a.bytes) ≡ Begins n =
-    ap (λ k. instance_for (known_at x) k own (area_blocks x.setting.layout a.bytes)) r.same.1 ∙ (ap (λ bs. instance_for (known_at x) l own (area_blocks x.setting.layout bs)) r.same.0 ∙ found)
+    let found_there : instance_for (known_at x) a.leader own a.blocks ≡ Begins n =
+    ap (λ k. instance_for (known_at x) k own a.blocks) r.same.1 ∙ (ap (λ bs. instance_for (known_at x) l own bs) r.same.0 ∙ found)
     in
-    let may : MayBegin x.setting x.trace x.session x.at n own = begins_after_read x.setting x.trace x.session x.at a (leader_read x.setting.layout a.bytes a.leader a.spells) own is n found_there in
+    let fits : IsLeader a.leader = subst IsLeader (sym r.same.1) (leader_read x.setting.layout bytes l r.spelled) in
+    let may : MayBegin x.setting x.trace x.session x.at n own = begins_after_read x.setting x.trace x.session x.at a fits own is n found_there in
     begin_is x aim n own may r.named
 
 by_own : (x : Moment) (aim : Aim) (bytes : List ℕ) (l : Leader) → RightRead x bytes l → (o : Option Block) → own_block x.setting.layout x.session.id (calls_at x) ≡ o
@@ -109,19 +120,22 @@ by_leader x aim name bytes r None is = refl
 by_leader x aim name bytes r (Some l) is = by_name x aim bytes l name (r l is) (is_leader_of x.setting.layout x.session.lockspace name l) refl
 
 -- After the read of the area for a resource.
-pub area_is : (x : Moment) (aim : Aim) (name bytes : List ℕ) → IsHeard x (ReadArea name) aim (Read bytes) → NextIs x (area_next (place_at x) (known_at x) aim name bytes)
+pub area_is : (x : Moment) (aim : Aim) (name bytes : List ℕ) → IsHeard x (ReadArea name) aim (Read bytes) → NextIs x (area_next (place_at x) (known_at x) aim name (leader_of x.setting.layout bytes) (area_blocks x.setting.layout bytes))
 unfolding area_next
 area_is x aim name bytes h =
     by_leader x aim name bytes
     (λ l spelled named whole. record {
       read = record {
         read = h.call;
-        bytes = bytes;
+        blocks = area_blocks x.setting.layout bytes;
         leader = l;
         resource = name;
         of_lease = (heard_inside x (ReadArea name) aim (Read bytes) h, is_read h.call x.work name h.its);
-        gives = heard_gave x (ReadArea name) aim bytes h;
-        spells = spelled;
+        after = [];
+        before = h.rest;
+        split = h.newest;
+        gives = gives x aim name bytes h;
+        spells = leads x aim name bytes h ∙ spelled;
         names = named;
         whole = none_torn (area_blocks x.setting.layout bytes) whole;
       };
@@ -131,6 +145,9 @@ area_is x aim name bytes h =
         read = h.call;
         name = name;
         of_lease = heard_inside x (ReadArea name) aim (Read bytes) h;
+        newer = [];
+        before = h.rest;
+        split = h.newest;
         verified = verifies x aim name bytes h l spelled named;
       };
     }) (leader_of x.setting.layout bytes) refl

@@ -1,16 +1,16 @@
 -- What is decided after the reads of a ballot fits.
-use Rattle.sl_area.specs.Layouts.{Layout}
-use Rattle.sl_area.specs.Places.{area_blocks, blocks_in}
+use Rattle.sl_area.specs.Places.{blocks_in}
 use Rattle.sl_due_leases.proofs.Ways.Lawful.BallotsBegin.{begins_after_loss, counted_now}
 use Rattle.sl_due_leases.proofs.Ways.NewestCall.{ended_here, read_writes_no_block, submitted_passed}
 use Rattle.sl_due_leases.proofs.Ways.NextsFit.AreaReadsFit.{heard_gave}
 use Rattle.sl_due_leases.proofs.Ways.NextsFit.SettlingsFit.{begin_is, settling_is}
 use Rattle.sl_due_leases.proofs.Ways.WayNumbers.{ended_concludes, is_verified}
-use Rattle.sl_due_leases.proofs.Ways.WayStages.{is_at_in, step_way}
+use Rattle.sl_due_leases.proofs.Ways.GivenReads.{given_by, given_in}
+use Rattle.sl_due_leases.proofs.Ways.WayStages.{is_at_in, is_first, step_way}
 use Rattle.sl_due_leases.specs.Ways.Nexts.{IsHeard, Moment, NextIs, calls_at, context_at, known_at, place_at}
 use Rattle.sl_trace.specs.Ballots.{is_ahead, phase2_block, same_owner, stop_of, value_of}
 use Rattle.sl_trace.specs.LeaseWork.{after_phase1, after_phase2, begin_next, leader_for, looks_for_shared, lost_next, phase2_next, settle_next, stop_reply, stopped_next, won_next}
-use Rattle.sl_trace.specs.Leases.{Area_read, Phase1_read, Phase2_read, Read_before_free, block_submitted, block_written, blocks_given, ended_ballot, ended_ballots, is_shared_by_other, known, mode_gen_of, open_ballot, shared_elsewhere, value_in_end}
+use Rattle.sl_trace.specs.Leases.{Phase2_read, block_submitted, block_written, blocks_given, ended_ballot, ended_ballots, is_shared_by_other, known, mode_gen_of, open_ballot, shared_elsewhere, value_in_end}
 use Rattle.sl_trace.specs.declared.lease.Aim.TheVariants.{Acquires, Converts, Releases, Settles}
 use Rattle.sl_trace.specs.declared.lease.Aim.{Aim}
 use Rattle.sl_trace.specs.declared.lease.LeaseNext.TheVariants.{AnswerJob, Nothing}
@@ -22,11 +22,10 @@ use Rattle.sl_sector.specs.declared.sector.Owner.{Owner}
 use Rattle.sl_trace.specs.Sessions.{me}
 use Rattle.sl_trace.specs.Watching.{counts_over}
 use Rattle.sl_due_facts.specs.Facts.WayFacts.{Comes, In_settling, IsHeededBy, IsWrittenBy, NoOtherShared, Phase1ReadWay, Phase2ReadWay, StepWay, Ways}
-use Rattle.sl_trace.specs.Traces.{Answered, Submitted, gave, is_heeded}
+use Rattle.sl_trace.specs.Traces.{Answered, is_heeded}
 use Rattle.sl_trace.specs.declared.effects.LeaseStep.TheVariants.{Phase1Read, Phase2Read}
 use Rattle.sl_trace.specs.declared.effects.LeaseStep.{LeaseStep}
 use Rattle.sl_trace.specs.declared.effects.Mode.TheVariants.{Exclusive}
-use Rattle.sl_trace.specs.declared.effects.Purpose.{Purpose}
 use Rattle.sl_trace.specs.declared.input.Answer.TheVariants.{Read, Written}
 use Rattle.sl_trace.specs.declared.input.Answer.{Answer}
 use Rattle.sl_trace.specs.declared.reply.Reply.TheVariants.{Held as HeldBy, Shared as SharedBy}
@@ -36,7 +35,7 @@ use Rattle.sl_words.proofs.WordLaws.{and_true}
 use Rattle.sl_words.specs.Words.{present, some_is}
 use Rattle.std.proofs.Common.{ap, ap₂, arith, eqb-true, refl, subst, sym, tests, ◌∙◌}
 use Rattle.std.specs.Option.{option_map_or}
-use Rattle.std.specs.Prelude.{Bool, Contains, List, None, Option, Some, false, not, option_and_then, true, ℕ, ◌+◌, ◌==◌, ◌≡◌, ◌≤◌, ◌||◌}
+use Rattle.std.specs.Prelude.{Bool, Contains, List, None, Option, Some, false, not, option_and_then, true, ℕ, ◌+◌, ◌==◌, ◌≡◌, ◌≤◌}
 
 -- ---- the call that was heard
 
@@ -73,28 +72,11 @@ heard_way x step aim answer h = step_way (context_at x) h.call h.rest x.work ste
 
 -- ---- what it gave
 
-abbrev pub given_in : Layout → List ℕ → Purpose → Option (List (Option Block))
-given_in l bytes p =
-    elim (is_at_in Area_read p || is_at_in Read_before_free p) as (λ z. Option (List (Option Block))) [
-      | true ↦ Some (area_blocks l bytes)
-      | false ↦ elim (is_at_in Phase1_read p || is_at_in Phase2_read p) as (λ z. Option (List (Option Block))) [ true ↦ Some (blocks_in l bytes) | false ↦ None ]
-    ]
+given1 : (x : Moment) (aim : Aim) (bytes : List ℕ) → (h : IsHeard x Phase1Read aim (Read bytes)) → blocks_given x.setting.layout h.call h.rest ≡ Some (blocks_in x.setting.layout bytes)
+given1 x aim bytes h = given_by x.setting.layout h.plain h.call h.rest bytes (is_first h.call x.work Phase1Read h.its refl) (heard_gave x Phase1Read aim bytes h) ∙ ap (λ p. given_in x.setting.layout bytes p) h.its
 
-pub given_by : (l : Layout) (m : Submitted) (bytes : List ℕ) → gave m ≡ Some bytes → blocks_given l m ≡ given_in l bytes m.call.purpose
-given_by l m bytes is =
-    ap (λ o. elim o as (λ z. Option (List (Option Block))) [
-      | None ↦ None
-      | Some bs ↦ elim (is_at_in Area_read m.call.purpose || is_at_in Read_before_free m.call.purpose) as (λ z. Option (List (Option Block))) [
-        | true ↦ Some (area_blocks l bs)
-        | false ↦ elim (is_at_in Phase1_read m.call.purpose || is_at_in Phase2_read m.call.purpose) as (λ z. Option (List (Option Block))) [ true ↦ Some (blocks_in l bs) | false ↦ None ]
-      ]
-    ]) is
-
-given1 : (x : Moment) (aim : Aim) (bytes : List ℕ) → (h : IsHeard x Phase1Read aim (Read bytes)) → blocks_given x.setting.layout h.call ≡ Some (blocks_in x.setting.layout bytes)
-given1 x aim bytes h = given_by x.setting.layout h.call bytes (heard_gave x Phase1Read aim bytes h) ∙ ap (λ p. given_in x.setting.layout bytes p) h.its
-
-given2 : (x : Moment) (aim : Aim) (bytes : List ℕ) → (h : IsHeard x Phase2Read aim (Read bytes)) → blocks_given x.setting.layout h.call ≡ Some (blocks_in x.setting.layout bytes)
-given2 x aim bytes h = given_by x.setting.layout h.call bytes (heard_gave x Phase2Read aim bytes h) ∙ ap (λ p. given_in x.setting.layout bytes p) h.its
+given2 : (x : Moment) (aim : Aim) (bytes : List ℕ) → (h : IsHeard x Phase2Read aim (Read bytes)) → blocks_given x.setting.layout h.call h.rest ≡ Some (blocks_in x.setting.layout bytes)
+given2 x aim bytes h = given_by x.setting.layout h.plain h.call h.rest bytes (is_first h.call x.work Phase2Read h.its refl) (heard_gave x Phase2Read aim bytes h) ∙ ap (λ p. given_in x.setting.layout bytes p) h.its
 
 no_block1 : (x : Moment) (aim : Aim) (answer : Answer) → (h : IsHeard x Phase1Read aim answer) → block_written h.call ≡ None
 no_block1 x aim answer h = let w : Phase1ReadWay (context_at x) x.work h.call.at h.call.call h.rest = heard_way x Phase1Read aim answer h in read_writes_no_block h.call x.setting.layout.hosts w.reads
@@ -117,11 +99,11 @@ ahead_is : (x : Moment) → NextIs x (settle_next (place_at x) (known_at x)) →
 ahead_is x h true = h
 ahead_is x h false = tt
 
-stopped_is : (x : Moment) (aim : Aim) (stop : Stop) → Ways (context_at x) (calls_at x) → (context_at x).aims x.work ≡ Some aim → NextIs x (stopped_next (place_at x) (known_at x) aim stop)
-stopped_is x (Acquires mode) stop ways aimed = stop_is x stop
-stopped_is x (Converts mode) stop ways aimed = stop_is x stop
-stopped_is x Releases stop ways aimed = stop_is x stop
-stopped_is x Settles stop ways aimed = ahead_is x (settling_is x ways aimed) (is_ahead stop)
+stopped_is : (x : Moment) → x.setting.layout.paired ≡ false → (aim : Aim) (stop : Stop) → Ways (context_at x) (calls_at x) → (context_at x).aims x.work ≡ Some aim → NextIs x (stopped_next (place_at x) (known_at x) aim stop)
+stopped_is x plain (Acquires mode) stop ways aimed = stop_is x stop
+stopped_is x plain (Converts mode) stop ways aimed = stop_is x stop
+stopped_is x plain Releases stop ways aimed = stop_is x stop
+stopped_is x plain Settles stop ways aimed = ahead_is x (settling_is x plain ways aimed) (is_ahead stop)
 
 -- ---- after the read of phase 1
 
@@ -185,7 +167,7 @@ looks_is x aim bytes h own is clear true looks = elsewhere_is x aim bytes h own 
 
 by_stop1 : (x : Moment) (aim : Aim) (bytes : List ℕ) → IsHeard x Phase1Read aim (Read bytes) → (own : Block) → block_submitted (calls_at x) ≡ Some own → (stop : Option Stop)
     → stop_of own (blocks_in x.setting.layout bytes) ≡ stop → NextIs x (after_phase1 (place_at x) (known_at x) aim own (blocks_in x.setting.layout bytes) stop)
-by_stop1 x aim bytes h own is (Some stop) found = stopped_is x aim stop h.ways h.aimed
+by_stop1 x aim bytes h own is (Some stop) found = stopped_is x h.plain aim stop h.ways h.aimed
 by_stop1 x aim bytes h own is None found = looks_is x aim bytes h own is found (looks_for_shared aim) refl
 
 by_own1 : (x : Moment) (aim : Aim) (bytes : List ℕ) → IsHeard x Phase1Read aim (Read bytes) → (o : Option Block) → block_submitted (calls_at x) ≡ o
@@ -212,9 +194,9 @@ pub heard_ends : (x : Moment) (aim : Aim) (bytes : List ℕ) → (h : IsHeard x 
 heard_ends x aim bytes h own is clear =
     ap (λ p. elim (is_at_in Phase2_read p) as (λ z. Option (ℕ × Owner)) [
       | false ↦ None
-      | true ↦ option_and_then (λ b. option_and_then (λ blocks. value_in_end b (stop_of b blocks)) (blocks_given x.setting.layout h.call)) (block_submitted h.rest)
+      | true ↦ option_and_then (λ b. option_and_then (λ blocks. value_in_end b (stop_of b blocks)) (blocks_given x.setting.layout h.call h.rest)) (block_submitted h.rest)
     ]) h.its
-    ∙ (ap (λ o. option_and_then (λ b. option_and_then (λ blocks. value_in_end b (stop_of b blocks)) (blocks_given x.setting.layout h.call)) o) (own_before x Phase2Read aim (Read bytes) h (no_block2 x aim (Read bytes) h) own is)
+    ∙ (ap (λ o. option_and_then (λ b. option_and_then (λ blocks. value_in_end b (stop_of b blocks)) (blocks_given x.setting.layout h.call h.rest)) o) (own_before x Phase2Read aim (Read bytes) h (no_block2 x aim (Read bytes) h) own is)
     ∙ (ap (λ o. option_and_then (λ blocks. value_in_end own (stop_of own blocks)) o) (given2 x aim bytes h) ∙ ap (λ o. value_in_end own o) clear))
 
 abbrev end_as : ℕ → Owner → Option (ℕ × Owner)
@@ -256,32 +238,32 @@ won_is x Settles bytes h n won = (
   refl,
 )
 
-over_is : (x : Moment) (aim : Aim) → Ways (context_at x) (calls_at x) → (own : Block) → block_submitted (calls_at x) ≡ Some own
+over_is : (x : Moment) → x.setting.layout.paired ≡ false → (aim : Aim) → Ways (context_at x) (calls_at x) → (own : Block) → block_submitted (calls_at x) ≡ Some own
     → Contains (ended_ballots x.setting.layout (calls_at x)) (own.lver, value_of own) → (b : Bool) → counts_over x.setting x.trace x.session own.inp own.inp_gen ≡ b
     → NextIs x (elim b as (λ z. LeaseNext) [ true ↦ begin_next (place_at x) (known_at x) aim (own.lver + 1) | false ↦ AnswerJob (HeldBy own.lver (value_of own)) ])
-over_is x aim ways own is ended false over = refl
-over_is x aim ways own is ended true over =
-    begin_is x aim (own.lver + 1) own (begins_after_loss x.setting x.trace x.session x.at ways own is ended over) (is_verified (context_at x) (calls_at x) ways own is)
+over_is x plain aim ways own is ended false over = refl
+over_is x plain aim ways own is ended true over =
+    begin_is x aim (own.lver + 1) own (begins_after_loss x.setting plain x.trace x.session x.at ways own is ended over) (is_verified (context_at x) plain (calls_at x) ways own is)
 
-lost_is : (x : Moment) (aim : Aim) → Ways (context_at x) (calls_at x) → (context_at x).aims x.work ≡ Some aim → (own : Block) → block_submitted (calls_at x) ≡ Some own
+lost_is : (x : Moment) → x.setting.layout.paired ≡ false → (aim : Aim) → Ways (context_at x) (calls_at x) → (context_at x).aims x.work ≡ Some aim → (own : Block) → block_submitted (calls_at x) ≡ Some own
     → Contains (ended_ballots x.setting.layout (calls_at x)) (own.lver, value_of own) → NextIs x (lost_next (place_at x) (known_at x) aim own.lver (value_of own))
 unfolding known
-lost_is x (Acquires mode) ways aimed own is ended = over_is x (Acquires mode) ways own is ended (counts_over x.setting x.trace x.session own.inp own.inp_gen) refl
-lost_is x (Converts mode) ways aimed own is ended = over_is x (Converts mode) ways own is ended (counts_over x.setting x.trace x.session own.inp own.inp_gen) refl
-lost_is x Releases ways aimed own is ended = tt
-lost_is x Settles ways aimed own is ended = settling_is x ways aimed
+lost_is x plain (Acquires mode) ways aimed own is ended = over_is x plain (Acquires mode) ways own is ended (counts_over x.setting x.trace x.session own.inp own.inp_gen) refl
+lost_is x plain (Converts mode) ways aimed own is ended = over_is x plain (Converts mode) ways own is ended (counts_over x.setting x.trace x.session own.inp own.inp_gen) refl
+lost_is x plain Releases ways aimed own is ended = tt
+lost_is x plain Settles ways aimed own is ended = settling_is x plain ways aimed
 
 ended_is : (x : Moment) (aim : Aim) (bytes : List ℕ) → (h : IsHeard x Phase2Read aim (Read bytes)) → (own : Block) → block_submitted (calls_at x) ≡ Some own
     → ended_ballot x.setting.layout h.call h.rest ≡ Some (own.lver, value_of own) → (b : Bool) → same_owner (value_of own) (me x.trace x.session) ≡ b
     → NextIs x (elim b as (λ z. LeaseNext) [ true ↦ won_next (place_at x) (known_at x) aim own.lver | false ↦ lost_next (place_at x) (known_at x) aim own.lver (value_of own) ])
 ended_is x aim bytes h own is ended true same =
     won_is x aim bytes h own.lver (ended ∙ ap (λ o. end_as own.lver o) (same_is (value_of own) (me x.trace x.session) same))
-ended_is x aim bytes h own is ended false same = lost_is x aim h.ways h.aimed own is (ended_inside x aim bytes h own.lver (value_of own) ended)
+ended_is x aim bytes h own is ended false same = lost_is x h.plain aim h.ways h.aimed own is (ended_inside x aim bytes h own.lver (value_of own) ended)
 
 by_stop2 : (x : Moment) (aim : Aim) (bytes : List ℕ) → IsHeard x Phase2Read aim (Read bytes) → (own : Block) → block_submitted (calls_at x) ≡ Some own → (stop : Option Stop)
     → stop_of own (blocks_in x.setting.layout bytes) ≡ stop → NextIs x (after_phase2 (place_at x) (known_at x) aim own stop)
 unfolding known
-by_stop2 x aim bytes h own is (Some stop) found = stopped_is x aim stop h.ways h.aimed
+by_stop2 x aim bytes h own is (Some stop) found = stopped_is x h.plain aim stop h.ways h.aimed
 by_stop2 x aim bytes h own is None found = ended_is x aim bytes h own is (heard_ends x aim bytes h own is found) (same_owner (value_of own) (me x.trace x.session)) refl
 
 by_own2 : (x : Moment) (aim : Aim) (bytes : List ℕ) → IsHeard x Phase2Read aim (Read bytes) → (o : Option Block) → block_submitted (calls_at x) ≡ o

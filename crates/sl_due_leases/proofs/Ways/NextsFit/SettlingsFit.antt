@@ -69,17 +69,17 @@ unfolding known
 moded_by x none aimed true = cleared x (block_submitted (calls_at x)) refl
 moded_by x none aimed false = freed_by x none aimed (owed_free (known_at x))
 
-ballot_by : (x : Moment) → Ways (context_at x) (calls_at x) → (context_at x).aims x.work ≡ Some Settles → (o : Option ℕ) → open_ballot x.setting.layout (calls_at x) ≡ o
+ballot_by : (x : Moment) → x.setting.layout.paired ≡ false → Ways (context_at x) (calls_at x) → (context_at x).aims x.work ≡ Some Settles → (o : Option ℕ) → open_ballot x.setting.layout (calls_at x) ≡ o
     → NextIs x (settle_owed (place_at x) (known_at x) (elim o as (λ z. Option Owed) [
       | Some n ↦ Some (BallotOwed n)
       | None ↦ elim ((known_at x).shown && not (known_at x).shared) as (λ z. Option Owed) [ true ↦ Some ModeOwed | false ↦ option_map (λ n. FreeOwed n) (owed_free (known_at x)) ]
     ]))
-ballot_by x ways aimed None is = moded_by x is aimed ((known_at x).shown && not (known_at x).shared)
-ballot_by x ways aimed (Some n) is =
-    let o : IsOpened (calls_at x) n = is_opened (context_at x) (calls_at x) ways n is in
-    begin_is x Settles n o.own (begins_again x.setting x.trace x.session x.at n o) (is_verified (context_at x) (calls_at x) ways o.own o.known)
+ballot_by x plain ways aimed None is = moded_by x is aimed ((known_at x).shown && not (known_at x).shared)
+ballot_by x plain ways aimed (Some n) is =
+    let o : IsOpened (calls_at x) n = is_opened (context_at x) plain (calls_at x) ways n is in
+    begin_is x Settles n o.own (begins_again x.setting x.trace x.session x.at n o) (is_verified (context_at x) plain (calls_at x) ways o.own o.known)
 
 -- A settling.
-pub settling_is : (x : Moment) → Ways (context_at x) (calls_at x) → (context_at x).aims x.work ≡ Some Settles → NextIs x (settle_next (place_at x) (known_at x))
+pub settling_is : (x : Moment) → x.setting.layout.paired ≡ false → Ways (context_at x) (calls_at x) → (context_at x).aims x.work ≡ Some Settles → NextIs x (settle_next (place_at x) (known_at x))
 unfolding settle_next known
-settling_is x ways aimed = ballot_by x ways aimed (open_ballot x.setting.layout (calls_at x)) refl
+settling_is x plain ways aimed = ballot_by x plain ways aimed (open_ballot x.setting.layout (calls_at x)) refl

@@ -173,13 +173,13 @@ pub freeing_is : (x : Moment) (aim : Aim) → IsHeard x FreeLeader aim Written �
 freeing_is x (Acquires mode) h n = tt
 freeing_is x (Converts mode) h n = tt
 freeing_is x Releases h n = refl
-freeing_is x Settles h n = settling_is x h.ways h.aimed
+freeing_is x Settles h n = settling_is x h.plain h.ways h.aimed
 
 pub clearing_is : (x : Moment) (aim : Aim) → IsHeard x ClearMode aim Written → NextIs x (after_clearing (place_at x) (known_at x) aim)
 clearing_is x (Acquires mode) h = tt
 clearing_is x (Converts mode) h = tt
 clearing_is x Releases h = refl
-clearing_is x Settles h = settling_is x h.ways h.aimed
+clearing_is x Settles h = settling_is x h.plain h.ways h.aimed
 
 -- ---- the read before a free
 
@@ -199,19 +199,19 @@ won_ended g self m ms n is = by (is_heeded m) (ended_ballot g m ms) is where
   by true None at = absurd (none_some n at)
   by true (Some p) at = let both = choose_some (same_owner p.1 self) p.0 n at in ap₂ end_as both.1 (same_is p.1 self both.0)
 
-left_by : (g : Layout) (self : Owner) (m : Submitted) (n : ℕ) (o : Option ℕ) → option_and_then (λ k. choose (not (settles_free g self k m)) k) o ≡ Some n → o ≡ Some n
-left_by g self m n None is = absurd (none_some n is)
-left_by g self m n (Some k) is = ap (λ z. Some z) (choose_some (not (settles_free g self k m)) k n is).1
+left_by : (g : Layout) (self : Owner) (m : Submitted) (ms : List Submitted) (n : ℕ) (o : Option ℕ) → option_and_then (λ k. choose (not (settles_free g self k m ms)) k) o ≡ Some n → o ≡ Some n
+left_by g self m ms n None is = absurd (none_some n is)
+left_by g self m ms n (Some k) is = ap (λ z. Some z) (choose_some (not (settles_free g self k m ms)) k n is).1
 
 -- A free that is left is of an instance that was won.
 pub left_is_won : (g : Layout) (self : Owner) (ms : List Submitted) (n : ℕ) → free_left g self ms ≡ Some n → Contains (ended_ballots g ms) (n, self)
 left_is_won g self [] n is = absurd (none_some n is)
 left_is_won g self (m ∷ ms) n is = by (won_by g self m ms) refl is (left_is_won g self ms n) where
   by : (o : Option ℕ) → won_by g self m ms ≡ o
-      → elim o as (λ z. Option ℕ) [ Some k ↦ Some k | None ↦ option_and_then (λ k. choose (not (settles_free g self k m)) k) (free_left g self ms) ] ≡ Some n
+      → elim o as (λ z. Option ℕ) [ Some k ↦ Some k | None ↦ option_and_then (λ k. choose (not (settles_free g self k m ms)) k) (free_left g self ms) ] ≡ Some n
       → (free_left g self ms ≡ Some n → Contains (ended_ballots g ms) (n, self)) → Contains (ended_ballots g (m ∷ ms)) (n, self)
   by (Some k) won at before = ended_here g m ms (n, self) (won_ended g self m ms n (won ∙ at))
-  by None won at before = ended_before g m ms (n, self) (before (left_by g self m n (free_left g self ms) at))
+  by None won at before = ended_before g m ms (n, self) (before (left_by g self m ms n (free_left g self ms) at))
 
 owed_won : (won : Option ℕ) (held : ℕ → Bool) (n : ℕ) → option_and_then (λ k. choose (not (held k)) k) won ≡ Some n → won ≡ Some n
 owed_won None held n is = absurd (none_some n is)

@@ -30,6 +30,7 @@ pub answer_lease_read-requires-clause-shown : goal.answer_lease_read-requires-cl
 answer_lease_read-requires-clause-shown g c = (
   g.S.Sectors.bytes c.args.sectors.now,
   record {
+    plain = ap (λ z. z.sizes.paired) c.hear_lease_read-leader.ensures.run.0 ∙ c.requires.fits.plain;
     reads = (c.requires.fits.lease c.args.work c.args.step c.requires.purpose).0;
     leads = c.hear_lease_read-leader.ensures.leader ∙ ap (λ z. leader_given (layout_of z.sizes) c.args.step (g.S.Sectors.bytes c.args.sectors.now)) (sym c.hear_lease_read-leader.ensures.run.0);
     shows = c.as_slice.ensures ∙ (c.hear_lease_read-leader.ensures.blocks ∙ ap (λ z. read_given (layout_of z.sizes) c.args.step (g.S.Sectors.bytes c.args.sectors.now)) (sym c.hear_lease_read-leader.ensures.run.0));
@@ -42,6 +43,7 @@ returns-clause-state g c read =
     let p = Lease c.args.work c.args.step in
     c.answer_lease_read.ensures.state bytes
     (record {
+      plain = ap (λ z. z.sizes.paired) c.hear_lease_read-leader.ensures.run.0 ∙ c.requires.fits.plain;
       reads = (c.requires.fits.lease c.args.work c.args.step c.requires.purpose).0;
       leads = c.hear_lease_read-leader.ensures.leader ∙ ap (λ z. leader_given (layout_of z.sizes) c.args.step bytes) (sym c.hear_lease_read-leader.ensures.run.0);
       shows = c.as_slice.ensures ∙ (c.hear_lease_read-leader.ensures.blocks ∙ ap (λ z. read_given (layout_of z.sizes) c.args.step bytes) (sym c.hear_lease_read-leader.ensures.run.0));

@@ -3,21 +3,23 @@ use Rattle.sl_area.specs.Layouts.{Layout}
 use Rattle.sl_host_state.specs.Kept.{LeaseState}
 use Rattle.sl_host_state.specs.declared.kept.TopNumber.{TopNumber}
 use Rattle.sl_host_state.specs.Makes.{ballot_calling, kept_lease_call, lease_calling}
-use Rattle.sl_host_state.specs.Stands.{IsWaiting, LeaseStands, free_written}
-use Rattle.sl_trace.specs.Leases.{Phase2_write, Read_before_free, ballot_after, block_submitted, block_written, free_left, freed_by, is_at, is_free_write, is_lease_call, lease_step, may_show_shared, name_sought, open_ballot, settles_free, verified_name}
+use Rattle.sl_host_state.specs.Stands.{IsWaiting, LeaseStands, first_read, free_written, is_plain_call}
+use Rattle.sl_trace.specs.Leases.{Phase2_write, Read_before_free, ballot_after, base_turn, block_submitted, block_written, first_kept, free_left, freed_by, is_again, is_area_read, is_at, is_free_write, is_lease_call, is_leader_of, kept_before, lease_step, may_show_shared, name_sought, open_ballot, settles_free, turn_written, verified_name}
 use Rattle.sl_sector.specs.declared.sector.Block.{Block}
+use Rattle.sl_sector.specs.declared.sector.Leader.{Leader}
 use Rattle.sl_sector.specs.declared.sector.Owner.{Owner}
+use Rattle.sl_sector.specs.declared.sector.PairBlock.{PairBlock}
 use Rattle.sl_trace.specs.Traces.{Submitted, new_call}
 use Rattle.sl_trace.specs.declared.effects.Call.{Call}
 use Rattle.sl_trace.specs.declared.effects.LeaseStep.{LeaseStep}
 use Rattle.sl_trace.specs.declared.effects.Work.{Work}
 use Rattle.sl_words.proofs.CaseLaws.{false_is_true, none_some, some_value}
-use Rattle.sl_words.proofs.WordLaws.{choose_some}
+use Rattle.sl_words.proofs.WordLaws.{and_true, choose_some}
 use Rattle.sl_words.specs.Words.{choose, some_is}
-use Rattle.std.proofs.Common.{ap, refl, subst, ◌∙◌}
+use Rattle.std.proofs.Common.{ap, refl, subst, sym, ◌∙◌}
 use Rattle.std.specs.List.{AllByRecursion}
 use Rattle.std.specs.Option.{option_map_or, option_or}
-use Rattle.std.specs.Prelude.{Bool, IsTrue, List, None, Option, Some, false, is_some, max, not, option_and_then, option_map, true, ℕ, ◌&&◌, ◌==◌, ◌||◌, ◌∷◌, ◌≡◌}
+use Rattle.std.specs.Prelude.{Bool, IsTrue, List, None, Option, Some, false, is_none, is_some, max, not, option_and_then, option_map, true, unwrap_or, [], ℕ, ◌&&◌, ◌==◌, ◌||◌, ◌∷◌, ◌≡◌}
 
 -- A call of phase 2 is in the instance whose greatest number is known.
 abbrev pub FollowsRead : LeaseState → Submitted → Type 0
@@ -34,12 +36,16 @@ module _ (at reading : ℕ) (call : Call) where
     by (Some b) = refl
 
   name_more : (g : Layout) (lockspace : List ℕ) (ms : List Submitted) → verified_name g lockspace (c ∷ ms) ≡ verified_name g lockspace ms
-  name_more g lockspace ms = by (name_sought call.purpose) where
-    by : (o : Option (List ℕ))
-        → elim (elim o as (λ x. Option (List ℕ)) [ None ↦ None | Some name ↦ None ]) as (λ x. List ℕ) [ Some name ↦ name | None ↦ verified_name g lockspace ms ]
+  name_more g lockspace ms = by (name_sought call.purpose) (is_area_read c) where
+    by : (o : Option (List ℕ)) (b : Bool)
+        → elim (elim o as (λ x. Option (List ℕ)) [
+          | None ↦ None
+          | Some name ↦ elim (elim b as (λ x. Option Leader) [ false ↦ None | true ↦ None ]) as (λ x. Option (List ℕ)) [ None ↦ None | Some l ↦ choose (is_leader_of g lockspace name l) name ]
+        ]) as (λ x. List ℕ) [ Some name ↦ name | None ↦ verified_name g lockspace ms ]
         ≡ verified_name g lockspace ms
-    by None = refl
-    by (Some name) = refl
+    by None b = refl
+    by (Some name) true = refl
+    by (Some name) false = refl
 
   ballot_more : (g : Layout) (ms : List Submitted) (before : Option ℕ) → open_ballot g ms ≡ before → open_ballot g (c ∷ ms) ≡ ballot_calling c before
   ballot_more g ms before is = ap (ballot_after g c ms) is ∙ by (block_written c) where
@@ -67,8 +73,8 @@ module _ (at reading : ℕ) (call : Call) where
     by None = is
     by (Some b) = within b.shared
 
-  not_settled : (g : Layout) (self : Owner) (n : ℕ) → settles_free g self n c ≡ false
-  not_settled g self n = by (is_free_write n c) (is_at Read_before_free c) where
+  not_settled : (g : Layout) (self : Owner) (n : ℕ) (ms : List Submitted) → settles_free g self n c ms ≡ false
+  not_settled g self n ms = by (is_free_write n c) (is_at Read_before_free c) where
     by : (a b : Bool) → (a && false || elim b as (λ x. Bool) [ false ↦ false | true ↦ false ]) ≡ false
     by true true = refl
     by true false = refl
@@ -77,9 +83,27 @@ module _ (at reading : ℕ) (call : Call) where
 
   won_more : (g : Layout) (self : Owner) (ms : List Submitted) → free_left g self (c ∷ ms) ≡ free_left g self ms
   won_more g self ms = by (free_left g self ms) where
-    by : (o : Option ℕ) → option_and_then (λ n. choose (not (settles_free g self n c)) n) o ≡ o
+    by : (o : Option ℕ) → option_and_then (λ n. choose (not (settles_free g self n c ms)) n) o ≡ o
     by None = refl
-    by (Some n) = ap (λ b. choose (not b) n) (not_settled g self n)
+    by (Some n) = ap (λ b. choose (not b) n) (not_settled g self n ms)
+
+  -- It shows no turn, and is no second read.
+  turn_more : (g : Layout) (id : ℕ) (ms : List Submitted) → base_turn g id (c ∷ ms) ≡ base_turn g id ms
+  turn_more g id ms = by (turn_written c) g.paired where
+    by : (o : Option ℕ) (p : Bool)
+        → elim (elim o as (λ x. Option ℕ) [ Some t ↦ None | None ↦ elim p as (λ x. Option ℕ) [ false ↦ None | true ↦ None ] ]) as (λ x. ℕ) [ Some t ↦ t | None ↦ base_turn g id ms ]
+        ≡ base_turn g id ms
+    by (Some t) p = refl
+    by None true = refl
+    by None false = refl
+
+  first_more : (g : Layout) (ms : List Submitted) → is_plain_call c ≡ true → first_kept g (c ∷ ms) ≡ []
+  first_more g ms plain =
+      ap (λ b. elim b as (λ x. List (Option PairBlock)) [ false ↦ [] | true ↦ unwrap_or (kept_before g ms) [] ])
+      (untrue (is_again c) (and_true (not (is_again c)) (is_none (turn_written c)) plain).0) where
+        untrue : (b : Bool) → not b ≡ true → b ≡ false
+        untrue false is = refl
+        untrue true is = absurd (false_is_true is)
 
   waits : (ms : List Submitted) → is_lease_call c ≡ true → AllByRecursion (λ m. IsTrue (is_some m.answer)) ms → IsWaiting (kept_lease_call c) (c ∷ ms)
   waits ms is all = by (lease_step call.purpose) refl is where
@@ -111,9 +135,9 @@ module _ (at reading : ℕ) (call : Call) where
     by None writes has = opened n has
     by (Some b) writes has = begun b (is_at Phase2_write c) refl writes has
 
-  pub lease_more : (g : Layout) (lockspace : List ℕ) (self : Owner) (l : LeaseState) (ms : List Submitted) → is_lease_call c ≡ true → l.waiting ≡ None → FollowsRead l c
-      → LeaseStands g lockspace self l ms → LeaseStands g lockspace self (lease_calling c l) (c ∷ ms)
-  lease_more g lockspace self l ms works free follows s =
+  pub lease_more : (g : Layout) (lockspace : List ℕ) (self : Owner) (l : LeaseState) (ms : List Submitted) → is_lease_call c ≡ true → is_plain_call c ≡ true → l.waiting ≡ None
+      → FollowsRead l c → LeaseStands g lockspace self l ms → LeaseStands g lockspace self (lease_calling c l) (c ∷ ms)
+  lease_more g lockspace self l ms works plain free follows s =
       record {
         own = own_more ms l.own s.own;
         name = name_more g lockspace ms ∙ s.name;
@@ -125,4 +149,7 @@ module _ (at reading : ℕ) (call : Call) where
         top = s.top;
         opened = λ n is. opened_more l n follows s.opened is;
         pair = s.pair;
+        turn = turn_more g self.id ms ∙ s.turn;
+        first = first_more g ms plain ∙ sym (ap (first_read g) s.pair);
+        plain = (plain, s.plain);
       }

@@ -9,7 +9,7 @@ use Rattle.sl_host_law.proofs.Plain.PlainOrders.{put_inside}
 use Rattle.sl_host_state.proofs.Resting.{new_lease_stands}
 use Rattle.sl_host_state.specs.Kept.{LeaseState, MemberState}
 use Rattle.sl_host_state.specs.Makes.{is_lease_on, lease_calling, leases_calling, leases_working, new_lease, value_calling}
-use Rattle.sl_host_state.specs.Stands.{LeaseStands, pair_of}
+use Rattle.sl_host_state.specs.Stands.{LeaseStands, is_plain_call, pair_of}
 use Rattle.sl_host_state.specs.declared.kept.TopNumber.{TopNumber}
 use Rattle.sl_trace.specs.Leases.{Phase2_write, block_written, is_at, is_lease_call, is_on, is_spot_before, spot_of_call, spots_in, value_written}
 use Rattle.sl_plain.proofs.Lists.{contains_map, in_map}
@@ -40,6 +40,7 @@ StandsIn g lockspace self ms l = LeaseStands g lockspace self l (calls_on g l.sp
 
 -- What a lease that takes a call must be.
 pub record MayTake (c : Submitted) (l : LeaseState) : Type 0 where
+  pub plain : is_plain_call c ≡ true
   pub free : l.waiting ≡ None
   pub follows : FollowsRead l c
 
@@ -60,14 +61,14 @@ follows_by c l is phase b writes = by (is_at Phase2_write c) phase is where
   by false at holds = absurd (false_is_true at)
   by true at holds = found holds
 
-may_take_by : (c : Submitted) (l : LeaseState) → (is_none l.waiting && follows_read c l) ≡ true → MayTake c l
-may_take_by c l is =
+may_take_by : (c : Submitted) (l : LeaseState) → is_plain_call c ≡ true → (is_none l.waiting && follows_read c l) ≡ true → MayTake c l
+may_take_by c l plain is =
     let parts = and_true (is_none l.waiting) (follows_read c l) is in
-    record { free = none_waits l.waiting parts.0; follows = follows_by c l parts.1 }
+    record { plain = plain; free = none_waits l.waiting parts.0; follows = follows_by c l parts.1 }
 
 -- A lease without a call takes one that is not of phase 2.
-may_begin : (c : Submitted) (at : Spot) → not (is_at Phase2_write c) ≡ true → MayTake c (new_lease at)
-may_begin c at is = record { free = refl; follows = λ phase b writes. absurd (false_is_true (sym (ap not phase) ∙ is)) }
+may_begin : (c : Submitted) (at : Spot) → is_plain_call c ≡ true → not (is_at Phase2_write c) ≡ true → MayTake c (new_lease at)
+may_begin c at plain is = record { plain = plain; free = refl; follows = λ phase b writes. absurd (false_is_true (sym (ap not phase) ∙ is)) }
 
 -- What the tests say of the leases: the area has bytes; who is on the call's area may take it; if nobody is, the lease is begun.
 pub record LeasesMay (g : Layout) (c : Submitted) (ls : List LeaseState) : Type 0 where
@@ -86,8 +87,9 @@ found_nowhere {A} p (x ∷ xs) none = by (p x) none (λ rest. found_nowhere p xs
 abbrev fits_found : Submitted → Option LeaseState → Bool
 fits_found c o = option_map_or (λ l. is_none l.waiting && follows_read c l) o (not (is_at Phase2_write c))
 
-pub leases_may : (g : Layout) (s : MemberState) (c : Submitted) (ms : List Submitted) → spots_in g ms ≡ map (λ l. l.spot) s.leases → fits_lease g s c ≡ true → is_lease_call c ≡ true → LeasesMay g c s.leases
-leases_may g s c ms spots fits works = by (is_lease_call c) works fits where
+pub leases_may : (g : Layout) (s : MemberState) (c : Submitted) (ms : List Submitted) → spots_in g ms ≡ map (λ l. l.spot) s.leases → is_plain_call c ≡ true
+    → fits_lease g s c ≡ true → is_lease_call c ≡ true → LeasesMay g c s.leases
+leases_may g s c ms spots plain fits works = by (is_lease_call c) works fits where
   by : (b : Bool) → b ≡ true → (not b || nat_lt 0 g.area && fits_found c (find (is_lease_on (spot_of_call g c)) s.leases)) ≡ true → LeasesMay g c s.leases
   by false is holds = absurd (false_is_true is)
   by true is holds =
@@ -95,8 +97,8 @@ leases_may g s c ms spots fits works = by (is_lease_call c) works fits where
       let once = subst (λ ss. AreOnce ss) spots (spots_once g ms) in
       record {
         room = ltb-true 0 g.area parts.0;
-        old = λ l there on. may_take_by c l (sym (ap (fits_found c) (found_once (spot_of_call g c) s.leases l once there on)) ∙ parts.1);
-        new = λ none. may_begin c (spot_of_call g c) (sym (ap (fits_found c) (found_nowhere (is_lease_on (spot_of_call g c)) s.leases none)) ∙ parts.1);
+        old = λ l there on. may_take_by c l plain (sym (ap (fits_found c) (found_once (spot_of_call g c) s.leases l once there on)) ∙ parts.1);
+        new = λ none. may_begin c (spot_of_call g c) plain (sym (ap (fits_found c) (found_nowhere (is_lease_on (spot_of_call g c)) s.leases none)) ∙ parts.1);
       }
 
 module _ (g : Layout) (lockspace : List ℕ) (self : Owner) (at reading : ℕ) (call : Call) where
@@ -130,7 +132,7 @@ module _ (g : Layout) (lockspace : List ℕ) (self : Owner) (at reading : ℕ) (
       → StandsIn g lockspace self (c ∷ ms) (lease_calling c l)
   taken ms l works room is may stands =
       subst (λ cs. LeaseStands g lockspace self (lease_calling c l) cs) (sym (here ms l.spot works room is))
-      (lease_more at reading call g lockspace self l (calls_on g l.spot ms) works may.free may.follows stands)
+      (lease_more at reading call g lockspace self l (calls_on g l.spot ms) works may.plain may.free may.follows stands)
 
   begun : (ms : List Submitted) → is_lease_call c ≡ true → 0 < g.area → list_any (same_spot (spot_of_call g c)) (spots_in g ms) ≡ false → MayTake c (new_lease (spot_of_call g c))
       → StandsIn g lockspace self (c ∷ ms) (lease_calling c (new_lease (spot_of_call g c)))
@@ -195,6 +197,9 @@ module _ (g : Layout) (lockspace : List ℕ) (self : Owner) (at reading : ℕ) (
           top = s.top;
           opened = s.opened;
           pair = s.pair;
+          turn = s.turn;
+          first = s.first;
+          plain = s.plain;
         }
 
   pub leases_stand : (ms : List Submitted) (ls : List LeaseState) → spots_in g ms ≡ map (λ k. k.spot) ls → (is_lease_call c ≡ true → LeasesMay g c ls) → EachStands ms ls

@@ -1,14 +1,15 @@
 -- A lease that hears the answer to its newest call stands for its calls with the answer.
 use Rattle.sl_area.specs.Layouts.{Layout}
-use Rattle.sl_area.specs.Places.{area_blocks, blocks_in, leader_of}
+use Rattle.sl_area.specs.Places.{blocks_in, blocks_part, leader_of, leader_read, pair_read, read_once}
 use Rattle.sl_host_state.specs.Hears.{blocks_of_step, blocks_shown, concludes_at, is_last_phase, is_phase_step, lease_hearing, settles_at, stop_shown, top_hearing, verified_at, won_at, won_hearing}
 use Rattle.sl_host_state.specs.Kept.{LeaseState}
-use Rattle.sl_host_state.specs.Stands.{LeaseStands, free_written, top_mbal}
+use Rattle.sl_host_state.specs.Stands.{LeaseStands, free_written, is_plain_call, top_mbal}
 use Rattle.sl_host_state.specs.declared.kept.LeaseCall.{LeaseCall}
 use Rattle.sl_host_state.specs.declared.kept.OpenCall.{OpenCall}
 use Rattle.sl_host_state.specs.declared.kept.TopNumber.{TopNumber}
 use Rattle.sl_trace.specs.Ballots.{is_ahead, same_owner, stop_of, value_of}
-use Rattle.sl_trace.specs.Leases.{Area_read, Phase1_read, Phase2_read, Phase2_write, Read_before_free, StepKind, block_of_record, block_submitted, block_written, blocks_given, concludes, ended_ballot, free_left, is_area_read, is_at, is_free_write, is_leader_of, is_phase_read, kind_of_step, last_blocks, leader_of_record, leader_written, lease_step, may_show_shared, name_sought, open_ballot, same_kind, settles_free, shows_settled, stop_in, value_in_end, verified_name, won_by}
+use Rattle.sl_trace.proofs.PlainReads.{first_plain, leader_plain, once_plain}
+use Rattle.sl_trace.specs.Leases.{Area_read, Phase1_read, Phase2_read, Phase2_write, Read_before_block, Read_before_free, StepKind, base_turn, block_of_record, block_submitted, block_written, blocks_bytes, blocks_given, concludes, ended_ballot, free_left, given_with, is_again, is_area_read, is_at, is_free_write, is_leader_of, is_phase_read, kept_before, kind_of_step, last_blocks, leader_given, leader_of_record, leader_written, lease_step, may_show_shared, name_sought, open_ballot, same_kind, settles_free, shows_settled, stop_in, turn_shown, turn_written, value_in_end, verified_by, verified_name, was_settled, won_by}
 use Rattle.sl_trace.specs.declared.lease.Stop.{Stop}
 use Rattle.sl_plain.proofs.Options.{mapped_value}
 use Rattle.sl_host_law.proofs.Replies.PlainNumbers.{same_number}
@@ -17,18 +18,21 @@ use Rattle.sl_sector.specs.declared.sector.Block.{Block}
 use Rattle.sl_sector.specs.declared.sector.Leader.{Leader}
 use Rattle.sl_sector.specs.declared.sector.Owner.{Owner}
 use Rattle.sl_sector.specs.declared.sector.Rec.{Rec}
-use Rattle.sl_trace.specs.Traces.{Submitted, bytes_given, is_ok_answer, record_of}
-use Rattle.sl_trace.specs.declared.effects.LeaseStep.TheVariants.{ReadBeforeFree, ReadArea, Phase1Read, Phase2Read}
+use Rattle.sl_trace.specs.Traces.{Submitted, bytes_given, gave, is_answered_ok, is_ok_answer, record_of}
+use Rattle.sl_trace.specs.declared.effects.LeaseRead.TheVariants.{OfArea, OfBlock, OfFree, OfPhase1, OfPhase2}
+use Rattle.sl_trace.specs.declared.effects.LeaseStep.TheVariants.{ClearMode, FreeLeader, Phase1Read, Phase1Write, Phase2Read, Phase2Write, ReadAgain, ReadArea, ReadBeforeBlock, ReadBeforeFree, SetMode, TakeLeader}
 use Rattle.sl_trace.specs.declared.effects.LeaseStep.{LeaseStep}
+use Rattle.sl_trace.specs.declared.effects.Purpose.TheVariants.{Lease}
 use Rattle.sl_trace.specs.declared.effects.Purpose.{Purpose}
 use Rattle.sl_trace.specs.declared.effects.Work.{Work}
 use Rattle.sl_trace.specs.declared.input.Answer.TheVariants.{Failed, Read, Written}
 use Rattle.sl_trace.specs.declared.input.Answer.{Answer}
-use Rattle.sl_words.proofs.CaseLaws.{none_some, true_is_false}
+use Rattle.sl_words.proofs.CaseLaws.{false_is_true, none_some, true_is_false}
+use Rattle.sl_words.proofs.WordLaws.{and_true}
 use Rattle.sl_words.specs.Words.{choose, some_is}
 use Rattle.std.proofs.Common.{ap, refl, subst, sym, ◌∙◌}
 use Rattle.std.specs.List.{AllByRecursion}
-use Rattle.std.specs.Prelude.{Bool, IsTrue, List, None, Option, Some, cond, false, is_some, not, option_and_then, option_map, true, unwrap_or, ℕ, ◌&&◌, ◌==◌, ◌||◌, ◌∷◌, ◌≡◌}
+use Rattle.std.specs.Prelude.{Bool, IsTrue, List, None, Option, Some, cond, false, is_none, is_some, not, option_and_then, option_map, true, unwrap_or, ℕ, ◌&&◌, ◌==◌, ◌||◌, ◌∷◌, ◌≡◌}
 
 -- ---- the step of a call
 
@@ -38,10 +42,20 @@ at_step kind m work step is = ap (λ (o : Option (Work × LeaseStep)). some_is (
 phase_kind : (step : LeaseStep) → (same_kind (kind_of_step step) Phase1_read || same_kind (kind_of_step step) Phase2_read) ≡ is_phase_step step
 phase_kind Phase1Read = refl
 phase_kind Phase2Read = refl
+phase_kind (ReadAgain (OfArea name)) = refl
+phase_kind (ReadAgain OfFree) = refl
+phase_kind (ReadAgain OfBlock) = refl
+phase_kind (ReadAgain OfPhase1) = refl
+phase_kind (ReadAgain OfPhase2) = refl
 phase_kind step = refl
 
 last_kind : (step : LeaseStep) → same_kind (kind_of_step step) Phase2_read ≡ is_last_phase step
 last_kind Phase2Read = refl
+last_kind (ReadAgain (OfArea name)) = refl
+last_kind (ReadAgain OfFree) = refl
+last_kind (ReadAgain OfBlock) = refl
+last_kind (ReadAgain OfPhase1) = refl
+last_kind (ReadAgain OfPhase2) = refl
 last_kind step = refl
 
 at_phase : (m : Submitted) (work : Work) (step : LeaseStep) → lease_step m.call.purpose ≡ Some (work, step) → is_phase_read m ≡ is_phase_step step
@@ -53,58 +67,134 @@ at_area m work step is = ap (λ b. b || is_at Read_before_free m) (at_step Area_
 
 -- ---- the blocks that its answer shows
 
--- By what kind of read it is.
-abbrev blocks_by : Layout → Bool → Bool → List ℕ → Option (List (Option Block))
-blocks_by g area phase bytes = elim area [ true ↦ Some (area_blocks g bytes) | false ↦ elim phase [ true ↦ Some (blocks_in g bytes) | false ↦ None ] ]
+-- All blocks' part, by what kind of read it is.
+abbrev part_by : Layout → Bool → Bool → Bool → List ℕ → Option (List ℕ)
+part_by g area phase block bytes = elim area as (λ z. Option (List ℕ)) [ true ↦ Some (blocks_part g bytes) | false ↦ choose (area || phase || block) bytes ]
 
-abbrev given_by : Layout → Bool → Bool → Option (List ℕ) → Option (List (Option Block))
-given_by g area phase o = elim o [ None ↦ None | Some bytes ↦ blocks_by g area phase bytes ]
+abbrev given_by : Layout → Bool → Bool → Bool → Option (List ℕ) → Option (List (Option Block))
+given_by g area phase block o = option_map (blocks_in g) (elim o as (λ z. Option (List ℕ)) [ None ↦ None | Some bytes ↦ part_by g area phase block bytes ])
+
+abbrev is_area_kind : LeaseStep → Bool
+is_area_kind step = same_kind (kind_of_step step) Area_read || same_kind (kind_of_step step) Read_before_free
 
 by_step : (g : Layout) (step : LeaseStep) (bytes : List ℕ)
-    → blocks_by g (same_kind (kind_of_step step) Area_read || same_kind (kind_of_step step) Read_before_free) (is_phase_step step) bytes ≡ blocks_of_step g step bytes
+    → option_map (blocks_in g) (part_by g (is_area_kind step) (is_phase_step step) (same_kind (kind_of_step step) Read_before_block) bytes) ≡ blocks_of_step g step bytes
 by_step g (ReadArea name) bytes = refl
 by_step g ReadBeforeFree bytes = refl
+by_step g ReadBeforeBlock bytes = refl
+by_step g (ReadAgain (OfArea name)) bytes = refl
+by_step g (ReadAgain OfFree) bytes = refl
+by_step g (ReadAgain OfBlock) bytes = refl
+by_step g (ReadAgain OfPhase1) bytes = refl
+by_step g (ReadAgain OfPhase2) bytes = refl
 by_step g Phase1Read bytes = refl
 by_step g Phase2Read bytes = refl
 by_step g step bytes = refl
 
 given_at : (g : Layout) (step : LeaseStep) (o : Option (List ℕ))
-    → given_by g (same_kind (kind_of_step step) Area_read || same_kind (kind_of_step step) Read_before_free) (is_phase_step step) o ≡ option_and_then (blocks_of_step g step) o
+    → given_by g (is_area_kind step) (is_phase_step step) (same_kind (kind_of_step step) Read_before_block) o ≡ option_and_then (blocks_of_step g step) o
 given_at g step None = refl
 given_at g step (Some bytes) = by_step g step bytes
 
+-- So of a first read.
+pub shown_by : (g : Layout) (m : Submitted) (ms : List Submitted) (work : Work) (step : LeaseStep) (a : Answer) → g.paired ≡ false → is_again m ≡ false
+    → lease_step m.call.purpose ≡ Some (work, step) → gave m ≡ bytes_given a → blocks_given g m ms ≡ blocks_shown g step a
+shown_by g m ms work step a plain single is gives =
+    first_plain g plain m ms single
+    ∙ ap (given_by g (is_area_read m) (is_phase_read m) (is_at Read_before_block m)) gives
+    ∙ ap (λ b. given_by g b (is_phase_read m) (is_at Read_before_block m) (bytes_given a)) (at_area m work step is)
+    ∙ ap (λ b. given_by g (is_area_kind step) b (is_at Read_before_block m) (bytes_given a)) (at_phase m work step is)
+    ∙ ap (λ b. given_by g (is_area_kind step) (is_phase_step step) b (bytes_given a)) (at_step Read_before_block m work step is)
+    ∙ given_at g step (bytes_given a)
+
+-- What looks for a name reads the area.
+sought_area : (p : Purpose) (name : List ℕ) → name_sought p ≡ Some name → some_is (λ q. same_kind (kind_of_step q.1) Area_read) (lease_step p) ≡ true
+sought_area (Lease work (ReadArea n)) name is = refl
+sought_area (Lease work (ReadAgain (OfArea n))) name is = refl
+sought_area (Lease work (ReadAgain OfFree)) name is = absurd (none_some name is)
+sought_area (Lease work (ReadAgain OfBlock)) name is = absurd (none_some name is)
+sought_area (Lease work (ReadAgain OfPhase1)) name is = absurd (none_some name is)
+sought_area (Lease work (ReadAgain OfPhase2)) name is = absurd (none_some name is)
+sought_area (Lease work ReadBeforeFree) name is = absurd (none_some name is)
+sought_area (Lease work ReadBeforeBlock) name is = absurd (none_some name is)
+sought_area (Lease work Phase1Write) name is = absurd (none_some name is)
+sought_area (Lease work Phase1Read) name is = absurd (none_some name is)
+sought_area (Lease work Phase2Write) name is = absurd (none_some name is)
+sought_area (Lease work Phase2Read) name is = absurd (none_some name is)
+sought_area (Lease work TakeLeader) name is = absurd (none_some name is)
+sought_area (Lease work SetMode) name is = absurd (none_some name is)
+sought_area (Lease work FreeLeader) name is = absurd (none_some name is)
+sought_area (Lease work ClearMode) name is = absurd (none_some name is)
+sought_area p name is = absurd (none_some name is)
+
+or_right : (p q : Bool) → q ≡ true → (p || q) ≡ true
+or_right true q is = refl
+or_right false q is = is
+
 -- The lease, its newest call and the answer to it.
-module _ (g : Layout) (lockspace : List ℕ) (self : Owner) (l : LeaseState) (m : Submitted) (ms : List Submitted) (work : Work) (step : LeaseStep) (at now : ℕ) (a : Answer) (heeded : Bool) where
+module _ (g : Layout) (lockspace : List ℕ) (self : Owner) (l : LeaseState) (m : Submitted) (ms : List Submitted) (work : Work) (step : LeaseStep) (at now : ℕ) (a : Answer) (heeded : Bool) (plain : g.paired ≡ false) (single : is_again m ≡ false) where
   abbrev none : Submitted
   none = record m { answer = None }
 
   abbrev heard : Submitted
   heard = record m { answer = Some (record { at = at; reading = now; answer = a; heeded = heeded }) }
 
-  blocks_are : lease_step m.call.purpose ≡ Some (work, step) → blocks_given g heard ≡ blocks_shown g step a
-  blocks_are is =
-      ap (λ b. given_by g b (is_phase_read m) (bytes_given a)) (at_area m work step is)
-      ∙ ap (λ b. given_by g (same_kind (kind_of_step step) Area_read || same_kind (kind_of_step step) Read_before_free) b (bytes_given a)) (at_phase m work step is)
-      ∙ given_at g step (bytes_given a)
+  blocks_are : lease_step m.call.purpose ≡ Some (work, step) → blocks_given g heard ms ≡ blocks_shown g step a
+  blocks_are is = shown_by g heard ms work step a plain single is refl
+
+  -- The leader, where it reads the area.
+  abbrev leader_by : Bool → Bool → Option (List ℕ) → Option Leader
+  leader_by area again o =
+      elim area as (λ z. Option Leader) [
+        | false ↦ None
+        | true ↦ option_and_then (λ r. option_and_then (λ bytes. leader_read g bytes r) o)
+            (given_with g again (kept_before g ms)
+            (elim o as (λ z. Option (List ℕ)) [ None ↦ None | Some bytes ↦ part_by g area (is_phase_read m) (is_at Read_before_block m) bytes ]))
+      ]
+
+  leader_is : is_area_read m ≡ true → leader_given g heard ms ≡ option_and_then (leader_of g) (bytes_given a)
+  leader_is area =
+      ap (λ b. leader_by b (is_again m) (bytes_given a)) area ∙ ap (λ b. leader_by true b (bytes_given a)) single ∙ by (bytes_given a) where
+        by : (o : Option (List ℕ)) → leader_by true false o ≡ option_and_then (leader_of g) o
+        by None = refl
+        by (Some bytes) =
+            ap (λ b. option_and_then (λ r. leader_read g bytes r) (choose (not b) (read_once (blocks_part g bytes)))) (once_plain g plain (blocks_part g bytes))
+            ∙ leader_plain g plain bytes (read_once (blocks_part g bytes))
+
+  -- The name, where a leader is there.
+  abbrev named_by : List ℕ → Option Leader → Option (List ℕ)
+  named_by name q = elim q as (λ z. Option (List ℕ)) [ None ↦ None | Some d ↦ choose (is_leader_of g lockspace name d) name ]
+
+  verified_is : verified_by g lockspace heard ms ≡ verified_at g lockspace m.call.purpose a
+  verified_is = by (name_sought m.call.purpose) refl where
+    same : (name : List ℕ) (q : Option Leader) → named_by name q ≡ option_and_then (λ d. choose (is_leader_of g lockspace name d) name) q
+    same name None = refl
+    same name (Some d) = refl
+
+    by : (o : Option (List ℕ)) → name_sought m.call.purpose ≡ o
+        → elim o as (λ z. Option (List ℕ)) [ None ↦ None | Some name ↦ named_by name (leader_given g heard ms) ]
+        ≡ option_and_then (λ name. option_and_then (λ d. choose (is_leader_of g lockspace name d) name) (option_and_then (leader_of g) (bytes_given a))) o
+    by None is = refl
+    by (Some name) is =
+        ap (named_by name) (leader_is (ap (λ b. b || is_at Read_before_free m) (sought_area m.call.purpose name is)))
+        ∙ same name (option_and_then (leader_of g) (bytes_given a))
+
+  none_verified : verified_by g lockspace none ms ≡ None
+  none_verified = by (name_sought m.call.purpose) (is_area_read m) where
+    by : (o : Option (List ℕ)) (b : Bool)
+        → elim o as (λ z. Option (List ℕ)) [ None ↦ None | Some name ↦ named_by name (elim b as (λ z. Option Leader) [ false ↦ None | true ↦ None ]) ] ≡ None
+    by None b = refl
+    by (Some name) true = refl
+    by (Some name) false = refl
 
   name_is : verified_name g lockspace (none ∷ ms) ≡ l.name → verified_name g lockspace (heard ∷ ms) ≡ unwrap_or (verified_at g lockspace m.call.purpose a) l.name
-  name_is = by (name_sought m.call.purpose) where
-    by_leader : (name : List ℕ) (q : Option Leader) → verified_name g lockspace ms ≡ l.name
-        → elim (elim q as (λ z. Option (List ℕ)) [ None ↦ None | Some d ↦ choose (is_leader_of g lockspace name d) name ]) as (λ z. List ℕ) [ Some name ↦ name | None ↦ verified_name g lockspace ms ]
-        ≡ unwrap_or (option_and_then (λ d. choose (is_leader_of g lockspace name d) name) q) l.name
-    by_leader name None same = same
-    by_leader name (Some d) same = chosen (is_leader_of g lockspace name d) where
-      chosen : (t : Bool) → elim (choose t name) as (λ z. List ℕ) [ Some name ↦ name | None ↦ verified_name g lockspace ms ] ≡ unwrap_or (choose t name) l.name
-      chosen true = refl
-      chosen false = same
+  name_is before = ap name_by verified_is ∙ by (verified_at g lockspace m.call.purpose a) where
+    name_by : Option (List ℕ) → List ℕ
+    name_by o = elim o as (λ z. List ℕ) [ Some name ↦ name | None ↦ verified_name g lockspace ms ]
 
-    by : (o : Option (List ℕ))
-        → elim (elim o as (λ z. Option (List ℕ)) [ None ↦ None | Some name ↦ None ]) as (λ z. List ℕ) [ Some name ↦ name | None ↦ verified_name g lockspace ms ] ≡ l.name
-        → elim (elim o as (λ z. Option (List ℕ)) [ None ↦ None | Some name ↦ elim (option_and_then (leader_of g) (bytes_given a)) as (λ z. Option (List ℕ)) [ None ↦ None | Some d ↦ choose (is_leader_of g lockspace name d) name ] ])
-        as (λ z. List ℕ) [ Some name ↦ name | None ↦ verified_name g lockspace ms ]
-        ≡ unwrap_or (option_and_then (λ name. option_and_then (λ d. choose (is_leader_of g lockspace name d) name) (option_and_then (leader_of g) (bytes_given a))) o) l.name
-    by None same = same
-    by (Some name) same = by_leader name (option_and_then (leader_of g) (bytes_given a)) same
+    by : (o : Option (List ℕ)) → name_by o ≡ unwrap_or o l.name
+    by None = sym (ap name_by none_verified) ∙ before
+    by (Some name) = refl
 
   shown_is : (clears : Bool) → some_is (λ b. not b.shared) (block_written m) ≡ clears → may_show_shared (none ∷ ms) ≡ l.shown → may_show_shared (heard ∷ ms) ≡ (l.shown && not (clears && is_ok_answer a))
   shown_is clears = by (block_written m) where
@@ -150,7 +240,7 @@ module _ (g : Layout) (lockspace : List ℕ) (self : Owner) (l : LeaseState) (m 
 
   stops_are : lease_step m.call.purpose ≡ Some (work, step) → block_submitted ms ≡ l.own → stop_in g heard ms ≡ stop_shown l (blocks_shown g step a)
   stops_are is own =
-      ap (λ o. option_and_then (λ b. option_map (stop_of b) (blocks_given g heard)) o) own
+      ap (λ o. option_and_then (λ b. option_map (stop_of b) (blocks_given g heard ms)) o) own
       ∙ ap (λ (bs : Option (List (Option Block))). option_and_then (λ b. option_map (stop_of b) bs) l.own) (blocks_are is)
 
   concluded : (h p last : Bool) (stop : Option (Option Stop))
@@ -214,27 +304,57 @@ module _ (g : Layout) (lockspace : List ℕ) (self : Owner) (l : LeaseState) (m 
 
   settles_written : (step : LeaseStep) (frees : Option ℕ) (n : ℕ) → some_is (λ f. f == n) frees ≡ settles_at g self step frees n Written
   settles_written ReadBeforeFree frees n = refl
+  settles_written (ReadAgain (OfArea name)) frees n = refl
+  settles_written (ReadAgain OfFree) frees n = refl
+  settles_written (ReadAgain OfBlock) frees n = refl
+  settles_written (ReadAgain OfPhase1) frees n = refl
+  settles_written (ReadAgain OfPhase2) frees n = refl
   settles_written step frees n = refl
 
   settles_failed : (step : LeaseStep) (frees : Option ℕ) (n : ℕ) → false ≡ settles_at g self step frees n Failed
   settles_failed ReadBeforeFree frees n = refl
+  settles_failed (ReadAgain (OfArea name)) frees n = refl
+  settles_failed (ReadAgain OfFree) frees n = refl
+  settles_failed (ReadAgain OfBlock) frees n = refl
+  settles_failed (ReadAgain OfPhase1) frees n = refl
+  settles_failed (ReadAgain OfPhase2) frees n = refl
   settles_failed step frees n = refl
 
+  -- Whether it shows that the free of n isn't needed.
+  abbrev settled_by : ℕ → Bool → Option Leader → Option (List (Option Block)) → Bool
+  settled_by n before d bs = elim before as (λ z. Bool) [ false ↦ false | true ↦ some_is (shows_settled self n d) bs ]
+
   settles_read : (step : LeaseStep) (frees : Option ℕ) (n : ℕ) (bytes : List ℕ)
-      → elim (same_kind (kind_of_step step) Read_before_free) as (λ z. Bool) [ false ↦ false | true ↦ shows_settled g self n bytes ] ≡ settles_at g self step frees n (Read bytes)
+      → settled_by n (same_kind (kind_of_step step) Read_before_free) (leader_of g bytes) (blocks_of_step g step bytes) ≡ settles_at g self step frees n (Read bytes)
   settles_read ReadBeforeFree frees n bytes = refl
+  settles_read (ReadAgain (OfArea name)) frees n bytes = refl
+  settles_read (ReadAgain OfFree) frees n bytes = refl
+  settles_read (ReadAgain OfBlock) frees n bytes = refl
+  settles_read (ReadAgain OfPhase1) frees n bytes = refl
+  settles_read (ReadAgain OfPhase2) frees n bytes = refl
   settles_read step frees n bytes = refl
+
+  was_is : lease_step m.call.purpose ≡ Some (work, step) → (n : ℕ)
+      → was_settled g self n heard ms ≡ settled_by n (same_kind (kind_of_step step) Read_before_free) (option_and_then (leader_of g) (bytes_given a)) (blocks_shown g step a)
+  was_is is n =
+      by (is_at Read_before_free m) refl
+      ∙ ap (λ b. settled_by n b (option_and_then (leader_of g) (bytes_given a)) (blocks_shown g step a)) (at_step Read_before_free m work step is) where
+        by : (b : Bool) → is_at Read_before_free m ≡ b
+            → settled_by n b (leader_given g heard ms) (blocks_given g heard ms) ≡ settled_by n b (option_and_then (leader_of g) (bytes_given a)) (blocks_shown g step a)
+        by false at_it = refl
+        by true at_it =
+            ap (λ d. some_is (shows_settled self n d) (blocks_given g heard ms)) (leader_is (or_right (is_at Area_read m) (is_at Read_before_free m) at_it))
+            ∙ ap (some_is (shows_settled self n (option_and_then (leader_of g) (bytes_given a)))) (blocks_are is)
 
   -- Whether the call settles the free of n, by the leader that it writes and its answer.
   abbrev settles_by : ℕ → Option Leader → Bool → Answer → Bool
   settles_by n w before x =
-      some_is (λ d. d.lver == n && not d.held) w && is_ok_answer x
-      || elim before as (λ z. Bool) [ false ↦ false | true ↦ elim (bytes_given x) as (λ z. Bool) [ None ↦ false | Some bytes ↦ shows_settled g self n bytes ] ]
+      some_is (λ d. d.lver == n && not d.held) w && is_ok_answer x || settled_by n before (option_and_then (leader_of g) (bytes_given x)) (blocks_shown g step x)
 
   settles_is : lease_step m.call.purpose ≡ Some (work, step) → (is_some (bytes_given a) ≡ true → record_of m.call.op ≡ None) → (frees : Option ℕ) → free_written m ≡ frees → (n : ℕ)
-      → settles_free g self n heard ≡ settles_at g self step frees n a
+      → settles_free g self n heard ms ≡ settles_at g self step frees n a
   settles_is is fits frees writes n =
-      ap (λ b. settles_by n (leader_written m) b a) (at_step Read_before_free m work step is) ∙ by a fits (leader_written m) refl where
+      ap (λ b. some_is (λ d. d.lver == n && not d.held) (leader_written m) && is_ok_answer a || b) (was_is is n) ∙ by a fits (leader_written m) refl where
         nothing : (b : Bool) → (false || elim b as (λ z. Bool) [ false ↦ false | true ↦ false ]) ≡ false
         nothing true = refl
         nothing false = refl
@@ -281,7 +401,7 @@ module _ (g : Layout) (lockspace : List ℕ) (self : Owner) (l : LeaseState) (m 
     unsettled n false true = refl
     unsettled n false false = refl
 
-    by : (o : Option ℕ) → option_and_then (λ n. choose (not (settles_free g self n none)) n) o ≡ l.won → o ≡ l.won
+    by : (o : Option ℕ) → option_and_then (λ n. choose (not (settles_free g self n none ms)) n) o ≡ l.won → o ≡ l.won
     by None same = same
     by (Some n) same = unsettled n (is_free_write n none) (is_at Read_before_free none) ∙ same
 
@@ -312,7 +432,7 @@ module _ (g : Layout) (lockspace : List ℕ) (self : Owner) (l : LeaseState) (m 
         (elim (is_last_phase step) as (λ z. Option (ℕ × Owner)) [ false ↦ None | true ↦ option_and_then (λ b. option_and_then (λ blocks. value_in_end b (stop_of b blocks)) (blocks_shown g step a)) (block_submitted ms) ])
     as_shown =
         ap (λ last. option_and_then (λ p. choose (same_owner p.1 self) p.0)
-        (elim last as (λ z. Option (ℕ × Owner)) [ false ↦ None | true ↦ option_and_then (λ b. option_and_then (λ blocks. value_in_end b (stop_of b blocks)) (blocks_given g heard)) (block_submitted ms) ])) (at_step Phase2_read m work step is ∙ last_kind step)
+        (elim last as (λ z. Option (ℕ × Owner)) [ false ↦ None | true ↦ option_and_then (λ b. option_and_then (λ blocks. value_in_end b (stop_of b blocks)) (blocks_given g heard ms)) (block_submitted ms) ])) (at_step Phase2_read m work step is ∙ last_kind step)
         ∙ ap (λ bs. option_and_then (λ p. choose (same_owner p.1 self) p.0)
         (elim (is_last_phase step) as (λ z. Option (ℕ × Owner)) [ false ↦ None | true ↦ option_and_then (λ b. option_and_then (λ blocks. value_in_end b (stop_of b blocks)) bs) (block_submitted ms) ])) (blocks_are is)
 
@@ -349,13 +469,13 @@ module _ (g : Layout) (lockspace : List ℕ) (self : Owner) (l : LeaseState) (m 
       → block_submitted (none ∷ ms) ≡ l.own → free_left g self (none ∷ ms) ≡ l.won
       → free_left g self (heard ∷ ms) ≡ won_hearing (cond heeded (won_at self step l.own (stop_shown l (blocks_shown g step a))) None) (λ n. settles_at g self step frees n a) l.won
   left_is is fits frees writes own left =
-      ap (λ w. elim w as (λ z. Option ℕ) [ Some n ↦ Some n | None ↦ option_and_then (λ n. choose (not (settles_free g self n heard)) n) (free_left g self ms) ]) (won_is is fits own)
+      ap (λ w. elim w as (λ z. Option ℕ) [ Some n ↦ Some n | None ↦ option_and_then (λ n. choose (not (settles_free g self n heard ms)) n) (free_left g self ms) ]) (won_is is fits own)
       ∙ by (cond heeded (won_at self step l.own (stop_shown l (blocks_shown g step a))) None) where
-        settled : (o : Option ℕ) → option_and_then (λ n. choose (not (settles_free g self n heard)) n) o ≡ option_and_then (λ n. choose (not (settles_at g self step frees n a)) n) o
+        settled : (o : Option ℕ) → option_and_then (λ n. choose (not (settles_free g self n heard ms)) n) o ≡ option_and_then (λ n. choose (not (settles_at g self step frees n a)) n) o
         settled None = refl
         settled (Some n) = ap (λ b. choose (not b) n) (settles_is is fits frees writes n)
 
-        by : (w : Option ℕ) → elim w as (λ z. Option ℕ) [ Some n ↦ Some n | None ↦ option_and_then (λ n. choose (not (settles_free g self n heard)) n) (free_left g self ms) ]
+        by : (w : Option ℕ) → elim w as (λ z. Option ℕ) [ Some n ↦ Some n | None ↦ option_and_then (λ n. choose (not (settles_free g self n heard ms)) n) (free_left g self ms) ]
             ≡ won_hearing w (λ n. settles_at g self step frees n a) l.won
         by (Some n) = refl
         by None = settled (free_left g self ms) ∙ ap (option_and_then (λ n. choose (not (settles_at g self step frees n a)) n)) (left_before left)
@@ -392,6 +512,26 @@ module _ (g : Layout) (lockspace : List ℕ) (self : Owner) (l : LeaseState) (m 
           (let e : (its.block.lver == n) ≡ true = its.instance in same_number its.block.lver n e),
         )
 
+  -- ---- turns
+
+  -- No turn is shown, neither before the answer nor with it.
+  turn_is : IsTrue (is_plain_call m) → base_turn g self.id (heard ∷ ms) ≡ base_turn g self.id (none ∷ ms)
+  turn_is is =
+      let unturned : turn_written m ≡ None = no_turn (turn_written m) (and_true (not (is_again m)) (is_none (turn_written m)) is).1 in
+      ap turn_by (shows heard unturned) ∙ sym (ap turn_by (shows none unturned)) where
+        turn_by : Option ℕ → ℕ
+        turn_by o = elim o as (λ z. ℕ) [ Some t ↦ t | None ↦ base_turn g self.id ms ]
+
+        no_turn : (o : Option ℕ) → is_none o ≡ true → o ≡ None
+        no_turn None has = refl
+        no_turn (Some t) has = absurd (false_is_true has)
+
+        read_by : Submitted → Bool → Option ℕ
+        read_by d paired = elim paired as (λ z. Option ℕ) [ false ↦ None | true ↦ option_and_then (λ bs. option_map (λ p. p.turn) (pair_read g bs self.id)) (blocks_bytes g d) ]
+
+        shows : (d : Submitted) → turn_written d ≡ None → turn_shown g self.id d ≡ None
+        shows d none_written = ap (λ o. elim o as (λ z. Option ℕ) [ Some t ↦ choose (is_answered_ok d) t | None ↦ read_by d g.paired ]) none_written ∙ ap (read_by d) plain
+
   -- ---- the whole
 
   pub lease_hears : (c : OpenCall) (w : LeaseCall) → m.call.purpose ≡ c.purpose → (is_some (bytes_given a) ≡ true → record_of m.call.op ≡ None) → lease_step m.call.purpose ≡ Some (work, step)
@@ -409,4 +549,7 @@ module _ (g : Layout) (lockspace : List ℕ) (self : Owner) (l : LeaseState) (m 
         top = top_is is s.top;
         opened = opened_is s.own s.ballot s.opened;
         pair = s.pair;
+        turn = turn_is s.plain.0 ∙ s.turn;
+        first = s.first;
+        plain = s.plain;
       }

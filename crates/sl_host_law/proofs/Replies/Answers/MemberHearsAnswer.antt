@@ -7,7 +7,7 @@ use Rattle.sl_host_state.specs.Stands.{AreInTurn, AskedStands, IsWaiting, JoinSt
 use Rattle.sl_host_state.specs.declared.kept.LeaseCall.{LeaseCall}
 use Rattle.sl_host_state.specs.declared.kept.OpenCall.{OpenCall}
 use Rattle.sl_trace.specs.Counts.{values_on}
-use Rattle.sl_trace.specs.Leases.{block_written, is_lease_call, is_on, lease_calls, lease_step, spots_in, value_written}
+use Rattle.sl_trace.specs.Leases.{block_written, is_again, is_lease_call, is_on, lease_calls, lease_step, spots_in, turn_written, value_written}
 use Rattle.sl_plain.proofs.Lists.{find_inside, kept, kept_inside}
 use Rattle.sl_plain.proofs.Numbers.{number_itself}
 use Rattle.sl_host_law.proofs.Replies.Answers.AnswerFindsItsCall.{IsOr, IsTheCall}
@@ -32,10 +32,16 @@ use Rattle.sl_trace.specs.declared.effects.Spot.{Spot}
 use Rattle.sl_trace.specs.declared.input.Answer.TheVariants.{Failed, Read, Written}
 use Rattle.sl_trace.specs.declared.input.Answer.{Answer}
 use Rattle.sl_words.proofs.CaseLaws.{false_is_true, not_both}
+use Rattle.sl_words.proofs.WordLaws.{and_true}
 use Rattle.sl_words.specs.Words.{some_is}
+use Rattle.sl_host_law.proofs.Plain.BlocksHaveOneSector.{layout_plain}
 use Rattle.std.proofs.Common.{ap, inl, inr, refl, subst, sym, ◌∙◌}
 use Rattle.std.specs.List.{AllByRecursion, list_any}
 use Rattle.std.specs.Prelude.{Bool, Contains, IsTrue, List, None, Option, Some, cond, false, filter, filter_map, is_none, is_some, length, map, not, option_map, reverse, true, [], ℕ, ◌&&◌, ◌==◌, ◌∷◌, ◌≡◌, ◌||◌}
+
+untrue : (b : Bool) → not b ≡ true → b ≡ false
+untrue false is = refl
+untrue true is = absurd (false_is_true is)
 
 -- The host stands for the step before its input; this call of its trace is answered.
 pub record IsAnswered (st : Setting) (past : Trace) (now : ℕ) (fx : Effects) (a : Answer) (h : HostState) (m : Submitted) : Type 0 where
@@ -105,12 +111,14 @@ module _ (st : Setting) (past : Trace) (now : ℕ) (fx : Effects) (a : Answer) (
           let open_m : m.answer ≡ None = k.its.unanswered in
           let as_heard : map hears (d ∷ ds) ≡ heard past now fx a m ∷ ds =
           ap (λ e. hears e ∷ map hears ds) same ∙ ap (λ e. e ∷ map hears ds) (heard_is past now fx a m (number_itself m.call.number) open_m) ∙ ap (λ zs. heard past now fx a m ∷ zs) (all_answered past now fx m.call.number a ds waits.1) in
+          let made_once : LeaseStands st.layout s.lockspace (me before s) l (record m { answer = None } ∷ ds) → is_again m ≡ false =
+          λ y. untrue (is_again m) (and_true (not (is_again m)) (is_none (turn_written m)) y.plain.0).0 in
           let stood : LeaseStands st.layout s.lockspace (me before s) l (record m { answer = None } ∷ ds) =
           subst (λ (e : Submitted). LeaseStands st.layout s.lockspace (me before s) l (e ∷ ds)) (same ∙ ap (λ o. record m { answer = o }) open_m) z in
           subst (LeaseStands st.layout s.lockspace (me before s) (lease_hearing st.layout s.lockspace (record { id = s.id; generation = generation }) heeded (kept_call m) a w.step w.frees w.clears l)) (sym as_heard)
           (subst (λ g. LeaseStands st.layout s.lockspace (me before s) (lease_hearing st.layout s.lockspace (record { id = s.id; generation = g }) heeded (kept_call m) a w.step w.frees w.clears l) (heard past now fx a m ∷ ds)) gen
           (subst (λ b. LeaseStands st.layout s.lockspace (me before s) (lease_hearing st.layout s.lockspace (me before s) b (kept_call m) a w.step w.frees w.clears l) (heard past now fx a m ∷ ds)) (sym heed)
-          (lease_hears st.layout s.lockspace (me before s) l m ds w.work w.step (length past) now a (is_going_on past (told now fx m.call.number a) (job_of m.call.purpose)) (kept_call m) w refl
+          (lease_hears st.layout s.lockspace (me before s) l m ds w.work w.step (length past) now a (is_going_on past (told now fx m.call.number a) (job_of m.call.purpose)) (layout_plain h st before k.keeps) (made_once stood) (kept_call m) w refl
           (only_read h.config.layout a m k.fits) (subst (λ (e : Submitted). lease_step e.call.purpose ≡ Some (w.work, w.step)) same waits.0.2) (subst (λ (e : Submitted). free_written e ≡ w.frees) same waits.0.3)
           (subst (λ (e : Submitted). some_is (λ b. not b.shared) (block_written e) ≡ w.clears) same waits.0.4) waits.1 stood)))
 
