@@ -1,20 +1,29 @@
 -- What a host that hears an answer is asked, and what is told to whom.
 use Rattle.sl_host_law.specs.Replies.Answers.{IsOpen}
-use Rattle.sl_host_state.specs.Hears.{asked_at, renewed_of}
+use Rattle.sl_area.specs.Places.{area_sectors, block_sectors, needs_again}
+use Rattle.sl_host.specs.declared.telling.Told.TheVariants.{Again, Gave}
+use Rattle.sl_host.specs.declared.telling.Told.{Told}
+use Rattle.sl_host_state.specs.Hears.{asked_at, is_area_step, renewed_of}
+use Rattle.sl_lease.specs.Asked.{leader_given, read_given}
+use Rattle.sl_member.specs.Leases.{first_among}
+use Rattle.sl_sector.specs.declared.sector.Block.{Block}
+use Rattle.sl_sector.specs.declared.sector.Leader.{Leader}
+use Rattle.sl_sector.specs.declared.sector.PairBlock.{PairBlock}
+use Rattle.sl_trace.specs.LeaseWork.{first_step, part_read}
+use Rattle.sl_trace.specs.declared.effects.Spot.{Spot}
 use Rattle.sl_host_state.specs.Kept.{HostKept, HostState, LeaseState, MemberState}
 use Rattle.sl_host_state.specs.Makes.{is_lease_on}
 use Rattle.sl_host_state.specs.Stands.{is_kept_of}
 use Rattle.sl_host_state.specs.declared.kept.JobState.{JobState}
 use Rattle.sl_host_state.specs.declared.kept.LeaseCall.{LeaseCall}
 use Rattle.sl_host_state.specs.declared.kept.OpenCall.{OpenCall}
-use Rattle.sl_trace.specs.Leases.{lease_step}
+use Rattle.sl_trace.specs.Leases.{is_second, lease_step}
 use Rattle.sl_member.specs.Laws.{IsAwaited, IsWaitingFor, area_of_call}
 use Rattle.sl_member.specs.Members.{IsKnown, RunOf, own_told, renewing_told}
 use Rattle.sl_member.specs.Seen.{shows_other_by}
-use Rattle.sl_member.specs.Together.{told_survey}
-use Rattle.sl_area.specs.Layouts.{layout_of}
+use Rattle.sl_member.specs.Together.{member_with, told_survey}
+use Rattle.sl_area.specs.Layouts.{Sizes, layout_of}
 use Rattle.sl_trace.specs.declared.session.Begun.{Begun}
-use Rattle.sl_trace.specs.declared.effects.LeaseStep.TheVariants.{ReadAgain, ReadArea, ReadBeforeFree}
 use Rattle.sl_trace.specs.declared.effects.LeaseStep.{LeaseStep}
 use Rattle.sl_trace.specs.declared.effects.Purpose.TheVariants.{Joining, Leaving, Renewal, RequestRead, RequestWrite, SeeRequest, Survey, ValueRead, ValueWrite}
 use Rattle.sl_trace.specs.declared.effects.Purpose.{Purpose}
@@ -23,9 +32,8 @@ use Rattle.sl_trace.specs.declared.input.Answer.{Answer}
 use Rattle.sl_host.specs.Asking.{state_in}
 use Rattle.sl_host.specs.Replying.{writes_in}
 use Rattle.sl_words.specs.Words.{some_is}
-use Rattle.sl_trace.specs.declared.effects.LeaseRead.TheVariants.{OfArea, OfFree}
 use Rattle.std.specs.List.{AllByRecursion}
-use Rattle.std.specs.Prelude.{Bool, Contains, List, None, Option, Some, cond, false, filter, find, is_some, nat_le, not, true, ℕ, ◌&&◌, ◌+◌, ◌-◌, ◌==◌, ◌≡◌}
+use Rattle.std.specs.Prelude.{Bool, Contains, List, None, Option, Some, cond, false, filter, find, is_some, nat_le, not, option_and_then, true, unwrap_or, [], ℕ, ◌&&◌, ◌+◌, ◌-◌, ◌==◌, ◌≡◌}
 
 -- ---- what is asked of it
 
@@ -88,17 +96,23 @@ survey_heard run before after bytes b m = told_survey run before after bytes (ow
 
 -- ---- a lease's read
 
--- Whether a read at this step gives a leader too.
-abbrev pub reads_area : LeaseStep → Bool
-reads_area (ReadArea name) = true
-reads_area ReadBeforeFree = true
-reads_area (ReadAgain (OfArea name)) = true
-reads_area (ReadAgain OfFree) = true
-reads_area step = false
-
 -- How many sectors a read at this step gives.
-abbrev pub sectors_read : ℕ → LeaseStep → ℕ
-sectors_read hosts step = cond (reads_area step) (hosts + 2) hosts
+abbrev pub sectors_read : Sizes → LeaseStep → ℕ
+sectors_read z step = cond (is_area_step step) (area_sectors (layout_of z)) (block_sectors (layout_of z))
+
+-- The read is to be made once more: a first one, in whose answer some host's second sector is torn.
+abbrev pub is_asked_again : Sizes → LeaseStep → List ℕ → Bool
+is_asked_again z step bytes = not (is_second step) && needs_again (layout_of z) (part_read (layout_of z) bytes (first_step step))
+
+-- What is kept of the first read for the member's lease on an area, where a read at this step is the second one.
+abbrev pub first_in : HostKept → ℕ → Spot → LeaseStep → List (Option PairBlock)
+first_in k session at step = unwrap_or (option_and_then (λ s. first_among at step s.leases) (member_with session k.members)) []
+
+-- What a lease's read gave: it is to be made once more; or this leader, if it reads one, and the blocks stand in their places.
+pub record IsTold (z : Sizes) (first : List (Option PairBlock)) (step : LeaseStep) (bytes : List ℕ) (told : Told) (blocks : List (Option Block)) : Type 0 where
+  pub again : told ≡ Again → is_asked_again z step bytes ≡ true
+  pub gave : (leader : Option Leader) → told ≡ Gave leader → (is_asked_again z step bytes ≡ false) × (leader ≡ leader_given (layout_of z) first step bytes)
+      × (blocks ≡ read_given (layout_of z) first step bytes)
 
 -- ---- a request
 

@@ -3,29 +3,33 @@
 ghost use Rattle.sl_delta.specs.Own.{answer_in};
 ghost use Rattle.sl_host_state.specs.Hears.{renewed_of};
 ghost use Rattle.sl_host_state.specs.Kept.{MemberState};
-ghost use Rattle.sl_lease.specs.Asked.{leader_given, read_given};
+ghost use Rattle.sl_host_state.specs.Hears.{is_area_step};
+ghost use Rattle.sl_lease.specs.Changes.{after_kept};
+ghost use Rattle.sl_lease.specs.Reads.{CanRead, HasPlaces, leader_with};
 ghost use Rattle.sl_area.specs.Layouts.{layout_of};
-ghost use Rattle.sl_member.specs.Leases.{AreByPlace};
-ghost use Rattle.sl_member.specs.Members.{own_told};
+ghost use Rattle.sl_member.specs.Leases.{AreByPlace, first_among};
+ghost use Rattle.sl_member.specs.Members.{lease_changed, own_told};
 ghost use Rattle.sl_member.specs.Together.{AreApart, changed_member, member_with};
-ghost use Rattle.sl_sector.specs.Records.{IsBlock, IsLeader};
+ghost use Rattle.sl_sector.specs.Records.{Fits, IsBlock, IsLeader, IsPair};
+ghost use Rattle.sl_sector.specs.declared.sector.PairBlock.{PairBlock as PairBlockOf};
+ghost use Rattle.sl_trace.specs.Leases.{is_second};
 ghost use Rattle.sl_trace.specs.Sessions.{is_join_call, is_renewal};
 ghost use Rattle.sl_trace.specs.declared.effects.JoinStep.TheVariants.{FirstRead};
 ghost use Rattle.sl_trace.specs.declared.effects.Purpose.TheVariants.{Survey};
 ghost use Rattle.sl_trace.specs.declared.input.Answer.TheVariants.{Failed};
-ghost use Rattle.sl_host.specs.Hearing.{is_over_in, own_heard, reads_area, renewals_told, request_heard, sectors_read, shows_at, survey_heard, tells_renewals};
+ghost use Rattle.sl_host.specs.Hearing.{IsTold, is_over_in, own_heard, renewals_told, request_heard, sectors_read, shows_at, survey_heard, tells_renewals};
 ghost use Rattle.sl_words.specs.Bounds.{moments};
 ghost use Rattle.std.specs.List.{list_any};
-ghost use Rattle.std.specs.Prelude.{All, IfSome, IsTrue, Some, cond, filter, find, length, map, not, option_map, slice_get, ◌*◌, ◌<◌, ◌==◌, ◌^◌, ◌≡◌};
+ghost use Rattle.std.specs.Prelude.{All, IfSome, IsTrue, List, None, Option, Some, cond, filter, find, is_some, length, map, not, option_and_then, option_map, slice_get, true, unwrap_or, [], ◌*◌, ◌-◌, ◌<◌, ◌==◌, ◌^◌, ◌≡◌, ◌≤◌};
 
 use sl_area::Geometry;
 use sl_delta::SectorAnswer;
 use sl_host_state::OpenCall;
-use sl_lease::{Blocks, Sectors, leader_of};
+use sl_lease::{Blocks, Sectors};
 use sl_member::{Member, Members};
-use sl_sector::Leader;
+use sl_sector::{HostId, Leader};
 use sl_tables::OpenCalls;
-use sl_trace::{Begun, JoinStep, LeaseRead, LeaseStep, Purpose};
+use sl_trace::{Begun, JoinStep, LeaseStep, Purpose, Spot};
 
 // ---- refused members
 
@@ -238,45 +242,95 @@ pub(crate) fn tell_no_survey(members: &mut Members, call: &OpenCall, now: u64)
 
 // ---- a lease's read
 
-/// Whether a read at this step gives a leader too.
-fn reads_area(step: &LeaseStep) -> bool
-    ensures { result ≡ reads_area step.now }
+/// What a read of a lease's work gave: it is to be made once more, or this leader, if it reads one, the blocks being in their places.
+#[derive(Clone, Copy)]
+pub enum Told {
+    Again,
+    Gave { leader: Option<Leader> },
+}
+
+/// Whether a read at this step is one that was made once more.
+fn is_second(step: &LeaseStep) -> bool
+    ensures { result ≡ is_second step.now }
 {
-    match step {
-        LeaseStep::ReadArea { resource: _ } => true,
-        LeaseStep::ReadBeforeFree => true,
-        LeaseStep::ReadAgain { read } => {
-            matches!(read, LeaseRead::OfArea { resource: _ } | LeaseRead::OfFree)
-        }
-        _ => false,
+    matches!(step, LeaseStep::ReadAgain { .. })
+}
+
+/// The turn of the own pair that a read shows, if it shows one. Where blocks have one sector there is none.
+fn turn_read(geometry: &Geometry, blocks: &Blocks, id: Option<HostId>) -> Option<u64>
+    requires places { HasPlaces geometry.now blocks.now }
+    requires rules { All (λ o. IfSome o IsPair) blocks.now.pairs }
+    ensures exact { result ≡ option_and_then (λ k. option_map (λ p. p.turn) (unwrap_or (slice_get blocks.now.pairs (k - 1)) None)) id }
+    ensures rules { IfSome result (λ t. (1 ≤ t) × Fits t) }
+{
+    match id {
+        Some(id) => blocks.turn_of(id),
+        None => None,
     }
 }
 
-/// The leader, and in their places the blocks, of a read at this step of a lease's work.
-#[tactic(auto, using(crate::proofs::AnswersTold::area_read, crate::proofs::AnswersTold::blocks_read))]
-pub(crate) fn read_lease<S: Sectors>(
+/// The read for which a member's lease on an area waits is to be made once more: what its answer gave is kept.
+fn tell_first(members: &mut Members, session: u64, at: &Spot, blocks: &mut Blocks)
+    requires { is_some blocks.old.kept ≡ true }
+    ensures members { (kept : List (Option PairBlockOf)) → blocks.old.kept ≡ Some kept
+        → members.new ≡ record members.old { members = changed_member session (lease_changed at.now (after_kept kept)) members.old.members } }
+    ensures blocks { blocks.new ≡ record blocks.old { kept = None } }
+{
+    match blocks.take_kept() {
+        Some(kept) => members.lease_keeps(session, at, kept),
+        None => {}
+    }
+}
+
+/// The leader that a read of a lease's work gave, and in their places its blocks, with what is kept of the first read.
+fn gather<S: Sectors>(
+    members: &Members,
+    session: u64,
+    at: &Spot,
     geometry: &Geometry,
     step: &LeaseStep,
     sectors: &S,
     blocks: &mut Blocks,
 ) -> Option<Leader>
+    requires places { HasPlaces geometry.now blocks.old }
     requires cut { IsTrue (S.is_cut sectors.now geometry.now.sector) }
-    requires many { length (S.bytes sectors.now) ≡ sectors_read geometry.now.hosts step.now * geometry.now.sector }
-    requires places { length blocks.old ≡ geometry.now.hosts }
-    ensures leader { result ≡ leader_given (layout_of geometry.now) step.now (S.bytes sectors.now) }
+    requires many { length (S.bytes sectors.now) ≡ sectors_read geometry.now step.now * geometry.now.sector }
+    ensures exact { result ≡ cond (is_area_step step.now) (leader_with geometry.now (S.bytes sectors.now) blocks.new.pairs) None }
     ensures rules { IfSome result IsLeader }
-    ensures blocks { blocks.new ≡ read_given (layout_of geometry.now) step.now (S.bytes sectors.now) }
-    ensures blocks_rules { All (λ o. IfSome o IsBlock) blocks.new }
-    ensures few { length blocks.new < 2 ^ 32 }
+    ensures places { HasPlaces geometry.now blocks.new }
 {
-    let _hosts = geometry.hosts();
-    if reads_area(step) {
-        blocks.read_area(geometry, sectors);
-        leader_of(geometry, sectors)
-    } else {
-        blocks.read_blocks(geometry, sectors);
-        None
+    blocks.merge(geometry, members.first_for(session, at, step));
+    blocks.leader(geometry, step, sectors)
+}
+
+/// A read of a lease's work is told to its member: the turn that it shows, and what it gave or what is kept of it.
+pub(crate) fn tell_lease_read<S: Sectors>(
+    members: &mut Members,
+    session: u64,
+    at: &Spot,
+    geometry: &Geometry,
+    step: &LeaseStep,
+    sectors: &S,
+    blocks: &mut Blocks,
+    heeded: bool,
+) -> Told
+    requires cut { IsTrue (S.is_cut sectors.now geometry.now.sector) }
+    requires many { length (S.bytes sectors.now) ≡ sectors_read geometry.now step.now * geometry.now.sector }
+    requires can { CanRead geometry.now blocks.old }
+    ensures told { IsTold geometry.now (unwrap_or (option_and_then (λ s. first_among at.now step.now s.leases) (member_with session members.old.members)) []) step.now (S.bytes sectors.now) result blocks.new.blocks }
+    ensures places { HasPlaces geometry.now blocks.new }
+    ensures rules { All (λ o. IfSome o IsBlock) blocks.new.blocks }
+{
+    let again = blocks.read(geometry, step, sectors);
+    let turn = turn_read(geometry, blocks, members.id_of(session));
+    members.lease_shows(session, at, turn);
+    if again && !is_second(step) {
+        tell_first(members, session, at, blocks);
+        return Told::Again;
     }
+    let leader = gather(members, session, at, geometry, step, sectors, blocks);
+    members.lease_read(session, at, &leader, blocks.as_slice(), heeded);
+    Told::Gave { leader }
 }
 
 // ---- a request

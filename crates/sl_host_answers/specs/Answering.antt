@@ -130,10 +130,9 @@ takes_sectors p = false
 
 -- So many bytes are those that the call asks, where a block has one sector.
 pub record FitsSectors (z : Sizes) (c : OpenCall) (n : ℕ) : Type 0 where
-  pub plain : z.paired ≡ false
   pub taken : takes_sectors c.purpose ≡ true
   pub survey : c.purpose ≡ Survey → n ≡ z.hosts * z.sector
-  pub lease : (work : Work) (step : LeaseStep) → c.purpose ≡ Lease work step → (is_read_step step ≡ true) × (is_some c.sectors ≡ true) × (n ≡ sectors_read z.hosts step * z.sector)
+  pub lease : (work : Work) (step : LeaseStep) → c.purpose ≡ Lease work step → (is_read_step step ≡ true) × (is_some c.sectors ≡ true) × (n ≡ sectors_read z step * z.sector)
   pub request : (j : ℕ) → c.purpose ≡ RequestRead j → n ≡ 2 * z.sector
   pub look : c.purpose ≡ SeeRequest → n ≡ z.sector
   pub value : (j : ℕ) → c.purpose ≡ ValueRead j → n ≡ z.sector

@@ -11,7 +11,7 @@ ghost use Rattle.sl_host_state.specs.Kept.{HostKept};
 ghost use Rattle.sl_host_state.specs.declared.kept.OpenCall.{OpenCall as OpenCallOf};
 ghost use Rattle.sl_host_step.specs.Moments.{AtEnd, AtInput, HasStepped, StepComes};
 ghost use Rattle.sl_host_step.specs.Reaching.{reach_at};
-ghost use Rattle.sl_host_step.specs.Rooms.{EndsWith, HasLeft, ScratchState, Suffices};
+ghost use Rattle.sl_host_step.specs.Rooms.{EndsWith, HasLeft, ScratchState, Suffices, places_in};
 ghost use Rattle.sl_host_step.specs.Resting.{Rests, takes_more};
 ghost use Rattle.sl_host_step.specs.Telling.{joins_at};
 ghost use Rattle.sl_sector.specs.Spelling.{IsSectorSize};
@@ -66,7 +66,7 @@ fn take_answer<S: Sectors>(host: &mut Host, scratch: &mut Scratch, number: u64, 
     requires fits { (c : OpenCallOf) → IsOpen (state_in host.old.kept) number c → FitsHeard S.bytes S.is_cut host.old.kept.config.sizes c heard }
     requires left { (first : HostView) × HasLeft (reach_at host.old.kept number) first host.old }
     requires scratch { Suffices scratch.old host.old }
-    requires blocks { scratch.old.blocks ≡ host.old.kept.config.sizes.hosts }
+    requires blocks { scratch.old.blocks ≡ places_in host.old.kept.config.sizes }
     ensures at { (now : ℕ) (first : HostKept) → AtInput now (Told number (answer_of S.bytes heard.entry)) first host.old.kept → AtEnd now (Told number (answer_of S.bytes heard.entry)) first host.new.kept }
     ensures left { (first : HostView) → HasLeft (reach_at host.old.kept number) first host.old → EndsWith first host.new }
     ensures lists { host.new.seats ≤ scratch.new.members }
@@ -96,7 +96,7 @@ fn step_heard<S: Sectors>(
     requires comes { StepComes now (Told number (answer_of S.bytes heard)) host.old.kept }
     requires fits { (c : OpenCallOf) → IsOpen (state_in host.old.kept) number c → FitsHeard S.bytes S.is_cut host.old.kept.config.sizes c heard }
     requires rests { Rests scratch.old host.old }
-    requires blocks { scratch.old.blocks ≡ host.old.kept.config.sizes.hosts }
+    requires blocks { scratch.old.blocks ≡ places_in host.old.kept.config.sizes }
     ensures ok { IfOk result (λ fx. HasStepped now (Told number (answer_of S.bytes heard.entry)) host.old host.new fx) }
     ensures err { OnErr result (host.new ≡ host.old) }
     ensures rests { OnErr result (Rests scratch.new host.new) }
@@ -122,7 +122,7 @@ fn step_bytes(
 ) -> Result<Effects, AllocError>
     requires comes { StepComes now (Told number (ReadOf bytes)) host.old.kept }
     requires rests { Rests scratch.old host.old }
-    requires blocks { scratch.old.blocks ≡ host.old.kept.config.sizes.hosts }
+    requires blocks { scratch.old.blocks ≡ places_in host.old.kept.config.sizes }
     ensures ok { IfOk result (λ fx. HasStepped now (Told number (ReadOf bytes)) host.old host.new fx) }
     ensures err { OnErr result (host.new ≡ host.old) }
     ensures rests { OnErr result (Rests scratch.new host.new) }
@@ -158,7 +158,7 @@ pub(crate) fn step_answer(
 ) -> Result<Effects, AllocError>
     requires comes { StepComes now (Told number answer) host.old.kept }
     requires rests { Rests scratch.old host.old }
-    requires blocks { scratch.old.blocks ≡ host.old.kept.config.sizes.hosts }
+    requires blocks { scratch.old.blocks ≡ places_in host.old.kept.config.sizes }
     ensures ok { IfOk result (λ fx. HasStepped now (Told number answer) host.old host.new fx) }
     ensures err { OnErr result (host.new ≡ host.old) }
     ensures rests { OnErr result (Rests scratch.new host.new) }
@@ -217,7 +217,7 @@ fn step_copied(
 ) -> Result<Effects, AllocError>
     requires comes { StepComes now (read_of number sectors.now) host.old.kept }
     requires rests { Rests scratch.old host.old }
-    requires blocks { scratch.old.blocks ≡ host.old.kept.config.sizes.hosts }
+    requires blocks { scratch.old.blocks ≡ places_in host.old.kept.config.sizes }
     ensures ok { IfOk result (λ fx. HasStepped now (read_of number sectors.now) host.old host.new fx) }
     ensures err { OnErr result (host.new ≡ host.old) }
     ensures rests { OnErr result (Rests scratch.new host.new) }
@@ -241,7 +241,7 @@ pub(crate) fn step_images(
 ) -> Result<Effects, AllocError>
     requires comes { StepComes now (read_of number sectors.now) host.old.kept }
     requires rests { Rests scratch.old host.old }
-    requires blocks { scratch.old.blocks ≡ host.old.kept.config.sizes.hosts }
+    requires blocks { scratch.old.blocks ≡ places_in host.old.kept.config.sizes }
     ensures ok { IfOk result (λ fx. HasStepped now (read_of number sectors.now) host.old host.new fx) }
     ensures err { OnErr result (host.new ≡ host.old) }
     ensures rests { OnErr result (Rests scratch.new host.new) }

@@ -2,7 +2,7 @@
 
 ghost use Rattle.sl_daemon.specs.Daemons.{IsNumbered, IsStep, MayCome, begun_with, entry_of, read_of};
 ghost use Rattle.sl_host_step.specs.Resting.{spare_of, takes_more};
-ghost use Rattle.sl_host_step.specs.Rooms.{most_of};
+ghost use Rattle.sl_host_step.specs.Rooms.{most_of, places_in};
 ghost use Rattle.sl_host_step.specs.Serving.{IsIdle, Serves, whole_commands};
 ghost use Rattle.sl_host_step.specs.Telling.{joins_at};
 ghost use Rattle.sl_trace.specs.Traces.{Setting, Trace};
@@ -67,13 +67,14 @@ pub struct HostDaemon {
 impl Model for HostDaemon {
     ghost use Rattle.sl_host.specs.Host.{HostView};
     ghost use Rattle.sl_host_step.specs.Resting.{Rests};
+    ghost use Rattle.sl_host_step.specs.Rooms.{places_in};
     ghost use Rattle.std.specs.Prelude.{◌≡◌};
 
     ghost Value = { HostView };
 
     ghost view = { λ d. d.host };
 
-    ghost invariant = { λ d. (d.scratch.blocks ≡ d.host.kept.config.sizes.hosts) × Rests d.scratch d.host };
+    ghost invariant = { λ d. (d.scratch.blocks ≡ places_in d.host.kept.config.sizes) × Rests d.scratch d.host };
 }
 
 impl HostDaemon {

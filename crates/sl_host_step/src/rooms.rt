@@ -47,7 +47,7 @@ impl Model for Scratch {
 
     ghost Value = { ScratchState };
 
-    ghost view = { λ s. record { members = s.members.most; jobs = s.jobs.most; spots = s.spots.most; orphans = s.orphans.most; blocks = length s.blocks; spare = is_some s.spare } };
+    ghost view = { λ s. record { members = s.members.most; jobs = s.jobs.most; spots = s.spots.most; orphans = s.orphans.most; blocks = record { hosts = length s.blocks.blocks; pairs = length s.blocks.pairs }; kept = is_some s.blocks.kept; spare = is_some s.spare } };
 
     ghost invariant = { λ s. (s.job_room ≤ s.jobs.most) × IfSome s.spare (λ none. none ≡ record { made = no_effects; left = 0; calls = 0; most = 0; most_calls = 0 }) };
 }
@@ -55,7 +55,7 @@ impl Model for Scratch {
 impl Scratch {
     /// Empty lists, and one block of each host. An `Err` is want of memory.
     pub(crate) fn new(alloc: Global, geometry: &Geometry) -> Result<Scratch, AllocError>
-        ensures blocks { IfOk result (λ s. s.blocks ≡ geometry.now.hosts) }
+        ensures blocks { IfOk result (λ s. s.blocks ≡ places_in geometry.now) }
         ensures spare { IfOk result (λ s. s.spare ≡ false) }
     {
         Ok(Scratch {
@@ -63,20 +63,23 @@ impl Scratch {
             jobs: Notes::new(alloc),
             spots: Notes::new(alloc),
             orphans: Notes::new(alloc),
-            blocks: Blocks::new(alloc, geometry.hosts())?,
+            blocks: Blocks::new(alloc, geometry)?,
             job_room: 0,
             spare: None,
         })
     }
 
     /// Sees that there is memory for what the host keeps. An `Err` is want of memory.
-    fn reserve(&mut self, host: &Host, leases: usize) -> Result<(), AllocError>
+    fn reserve(&mut self, alloc: Global, host: &Host, leases: usize) -> Result<(), AllocError>
+        requires places { self.old.blocks ≡ places_in host.now.kept.config.sizes }
         requires jobs { length host.now.kept.jobs < room_end }
         requires leases { leases_in host.now.kept.members ≤ leases }
         ensures ok { OnOk result (Suffices self.new host.now) }
         ensures blocks { self.new.blocks ≡ self.old.blocks }
         ensures spare { self.new.spare ≡ self.old.spare }
     {
+        let config = host.config();
+        self.blocks.reserve(alloc, &config.geometry)?;
         let jobs = host.job_count() + 1;
         self.members.reserve(host.seats())?;
         self.jobs.reserve(jobs)?;
@@ -214,7 +217,7 @@ fn take_room(
     }
     let near = counts.within(reach);
     let none = Buffers::new(alloc, 0, 0)?;
-    scratch.reserve(host, counts.leases)?;
+    scratch.reserve(alloc, host, counts.leases)?;
     host.reserve(alloc, near.effects(), near.calls())?;
     Ok(none)
 }

@@ -2,7 +2,7 @@
 
 ghost use Rattle.sl_daemon.specs.Daemons.{read_of};
 ghost use Rattle.sl_host_step.specs.Moments.{HasStepped, StepComes};
-ghost use Rattle.sl_host_step.specs.Rooms.{ScratchState};
+ghost use Rattle.sl_host_step.specs.Rooms.{ScratchState, places_in};
 ghost use Rattle.sl_host_step.specs.Telling.{joins_at};
 ghost use Rattle.sl_host_step.specs.Resting.{Rests, takes_more};
 ghost use Rattle.sl_host.specs.Host.{HostView};
@@ -27,7 +27,7 @@ pub(crate) fn step_at(
 ) -> Result<Effects, AllocError>
     requires comes { StepComes now input host.old.kept }
     requires rests { Rests scratch.old host.old }
-    requires blocks { scratch.old.blocks ≡ host.old.kept.config.sizes.hosts }
+    requires blocks { scratch.old.blocks ≡ places_in host.old.kept.config.sizes }
     ensures ok { IfOk result (λ fx. HasStepped now input host.old host.new fx) }
     ensures err { OnErr result (host.new ≡ host.old) }
     ensures rests { OnErr result (Rests scratch.new host.new) }
@@ -56,7 +56,7 @@ pub(crate) fn step_read(
 ) -> Result<Effects, AllocError>
     requires comes { StepComes now (read_of call sectors.now) host.old.kept }
     requires rests { Rests scratch.old host.old }
-    requires blocks { scratch.old.blocks ≡ host.old.kept.config.sizes.hosts }
+    requires blocks { scratch.old.blocks ≡ places_in host.old.kept.config.sizes }
     ensures ok { IfOk result (λ fx. HasStepped now (read_of call sectors.now) host.old host.new fx) }
     ensures err { OnErr result (host.new ≡ host.old) }
     ensures rests { OnErr result (Rests scratch.new host.new) }

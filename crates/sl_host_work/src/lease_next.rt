@@ -2,11 +2,15 @@
 //!
 //! The lease decides by what it keeps, what is held under it, and whom its session counts as over.
 
-ghost use Rattle.sl_area.specs.Layouts.{layout_of};
-ghost use Rattle.sl_host_law.specs.Steps.Leases.{answered_next, converting_next, kept_blocks, lease_at, releasing_next, settling_next};
+ghost use Rattle.sl_host_law.specs.Steps.Leases.{answered_next, converting_next, kept_blocks, known_by, lease_at, releasing_next, settling_next};
 ghost use Rattle.sl_host_state.specs.Kept.{HostState, MemberState};
 ghost use Rattle.sl_host_state.specs.declared.kept.OpenCall.{OpenCall};
-ghost use Rattle.sl_host_work.specs.Asking.{IsNamedFor, IsShown, MayAsk};
+ghost use Rattle.sl_host_work.specs.Asking.{IsNamedFor, IsShown, MayAsk, MayTurn, writes_own_block};
+ghost use Rattle.sl_host.specs.declared.telling.Told.TheVariants.{Gave};
+ghost use Rattle.sl_host_law.specs.Questions.Answers.{place_in};
+ghost use Rattle.sl_lease.specs.Asked.{again_asked, read_asked};
+ghost use Rattle.sl_sector.specs.declared.sector.Leader.{Leader as LeaderOf};
+ghost use Rattle.sl_trace.specs.LeaseWork.{within_turn};
 ghost use Rattle.sl_host_work.specs.Leasing.{held_with};
 ghost use Rattle.sl_host_work.specs.Next.{IsFit};
 ghost use Rattle.sl_lease.specs.Bounds.{IsInstance};
@@ -18,9 +22,9 @@ ghost use Rattle.sl_trace.specs.declared.effects.LeaseStep.{LeaseStep};
 ghost use Rattle.sl_trace.specs.declared.effects.Spot.{Spot};
 ghost use Rattle.sl_trace.specs.declared.input.Answer.TheVariants.{Failed, Read, Written};
 ghost use Rattle.sl_host.specs.Asking.{sought_on, state_in};
-ghost use Rattle.std.specs.Prelude.{All, IfSome, IsTrue, List, Some, find, length, option_map, ℕ, ◌<◌, ◌^◌, ◌≡◌};
+ghost use Rattle.std.specs.Prelude.{All, IfSome, IsTrue, List, Option, Some, find, length, option_map, true, ℕ, ◌<◌, ◌^◌, ◌≡◌};
 
-use sl_host::Host;
+use sl_host::{Host, Told};
 use sl_host_state::OpenCall;
 use sl_lease::{Held, Lease, after_failure};
 use sl_member::Member;
@@ -68,6 +72,7 @@ pub fn settling_next(host: &Host, member: &Member, at: &Spot) -> LeaseNext
     requires may { MayAsk (state_in host.now.kept) member.now.state at.now (kept_blocks (lease_at member.now.state at.now)) }
     ensures exact { result ≡ settling_next (state_in host.now.kept) member.now.state at.now }
     ensures fit { IsFit result }
+    ensures turned { writes_own_block result ≡ true → MayTurn host.now.kept.config.sizes member.now.state at.now }
 {
     let held = held_under(host, member.who().number, at);
     let side = member.side();
@@ -85,6 +90,7 @@ pub fn releasing_next(host: &Host, member: &Member, at: &Spot, ended: &Grant) ->
     requires instance { IsInstance ended.now.lver }
     ensures exact { result ≡ releasing_next (state_in host.now.kept) member.now.state at.now ended.now }
     ensures fit { IsFit result }
+    ensures turned { writes_own_block result ≡ true → MayTurn host.now.kept.config.sizes member.now.state at.now }
 {
     let side = member.side();
     match member.lease(at) {
@@ -99,6 +105,7 @@ pub fn converting_next(host: &Host, member: &Member, at: &Spot, mode: Mode, name
     requires may { MayAsk (state_in host.now.kept) member.now.state at.now (kept_blocks (lease_at member.now.state at.now)) }
     ensures exact { result ≡ converting_next (state_in host.now.kept) member.now.state at.now mode name }
     ensures fit { IsFit result }
+    ensures turned { writes_own_block result ≡ true → MayTurn host.now.kept.config.sizes member.now.state at.now }
 {
     let side = member.side();
     match member.lease(at) {
@@ -107,8 +114,46 @@ pub fn converting_next(host: &Host, member: &Member, at: &Spot, mode: Mode, name
     }
 }
 
-/// What comes next after a read for this step that gave this leader, if it reads one, and these blocks. The member has heard the answer.
+/// What comes next after a read for this step that gave this, and these blocks. The member has heard the answer.
 pub fn next_after_read(
+    host: &Host,
+    member: &Member,
+    at: &Spot,
+    aim: Aim,
+    step: LeaseStep,
+    told: &Told,
+    blocks: &[Option<Block>],
+) -> LeaseNext
+    requires run { member.now.run.sizes ≡ host.now.kept.config.sizes }
+    requires may { MayAsk (state_in host.now.kept) member.now.state at.now blocks.now }
+    requires named { IsNamedFor member.now.state at.now step }
+    requires shown { (bytes : List ℕ) × IsShown host.now.kept.config.sizes member.now.state at.now step bytes told.now blocks.now }
+    requires rules { (leader : Option LeaderOf) → told.now ≡ Gave leader → IfSome leader IsLeader }
+    requires blocks { All (λ o. IfSome o IsBlock) blocks.now × (length blocks.now < 2 ^ 32) }
+    ensures exact { (c : OpenCall) (bytes : List ℕ) → IsShown host.now.kept.config.sizes member.now.state at.now step bytes told.now blocks.now
+        → result ≡ answered_next (state_in host.now.kept) member.now.state at.now c aim step (Read bytes) }
+    ensures fit { IsFit result }
+    ensures turned { writes_own_block result ≡ true → MayTurn host.now.kept.config.sizes member.now.state at.now }
+{
+    match told {
+        Told::Again => next_after_first(member, at, aim, step),
+        Told::Gave { leader } => next_after_blocks(host, member, at, aim, step, leader, blocks),
+    }
+}
+
+/// The same where the read is to be made once more.
+fn next_after_first(member: &Member, at: &Spot, aim: Aim, step: LeaseStep) -> LeaseNext
+    ensures exact { result ≡ again_asked step }
+    ensures fit { IsFit result }
+{
+    match member.lease(at) {
+        Some(lease) => lease.after_first(aim, step),
+        None => Lease::new(*at).after_first(aim, step),
+    }
+}
+
+/// The same where it gave this leader, if it reads one, and these blocks.
+fn next_after_blocks(
     host: &Host,
     member: &Member,
     at: &Spot,
@@ -120,11 +165,10 @@ pub fn next_after_read(
     requires run { member.now.run.sizes ≡ host.now.kept.config.sizes }
     requires may { MayAsk (state_in host.now.kept) member.now.state at.now blocks.now }
     requires named { IsNamedFor member.now.state at.now step }
-    requires shown { (bytes : List ℕ) × IsShown (layout_of host.now.kept.config.sizes) step bytes leader.now blocks.now }
     requires leader { IfSome leader.now IsLeader }
     requires blocks { All (λ o. IfSome o IsBlock) blocks.now × (length blocks.now < 2 ^ 32) }
-    ensures exact { (c : OpenCall) (bytes : List ℕ) → IsShown (layout_of host.now.kept.config.sizes) step bytes leader.now blocks.now
-        → result ≡ answered_next (state_in host.now.kept) member.now.state at.now c aim step (Read bytes) }
+    ensures exact { result ≡ within_turn (place_in (state_in host.now.kept) member.now.state) (known_by (state_in host.now.kept) member.now.state at.now (lease_at member.now.state at.now) blocks.now) aim
+        (read_asked (place_in (state_in host.now.kept) member.now.state) (known_by (state_in host.now.kept) member.now.state at.now (lease_at member.now.state at.now) blocks.now) aim leader.now blocks.now step) }
     ensures fit { IsFit result }
 {
     let held = held_under(host, member.who().number, at);
@@ -151,6 +195,7 @@ pub fn next_after_write(
     requires instance { IsInstance call.now.lver }
     ensures exact { result ≡ answered_next (state_in host.now.kept) member.now.state at.now call.now aim step Written }
     ensures fit { IsFit result }
+    ensures turned { writes_own_block result ≡ true → MayTurn host.now.kept.config.sizes member.now.state at.now }
 {
     let held = held_under(host, member.who().number, at);
     let side = member.side();
@@ -161,7 +206,7 @@ pub fn next_after_write(
 }
 
 /// What comes next after this call has failed.
-#[tactic(auto, unfolding(sl_trace::specs::LeaseWork::lease_next))]
+#[tactic(auto, unfolding(sl_trace::specs::LeaseWork::lease_next, sl_trace::specs::LeaseWork::within_turn))]
 pub fn next_after_failure(aim: Aim, call: &OpenCall) -> LeaseNext
     ensures exact { (h : HostState) (m : MemberState) (at : Spot) (step : LeaseStep) → result ≡ answered_next h m at call.now aim step Failed }
     ensures fit { IsFit result }

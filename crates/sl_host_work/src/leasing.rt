@@ -2,14 +2,16 @@
 //! owes.
 
 ghost use Rattle.sl_area.specs.Layouts.{layout_of};
-ghost use Rattle.sl_area.specs.Places.{block_offset};
-ghost use Rattle.sl_host_law.specs.Answers.Leasing.{carrying_lease, read_from, reading, sectors_read, writing_block, writing_leader};
+ghost use Rattle.sl_area.specs.Places.{block_offset, block_place, block_record, leader_record};
+ghost use Rattle.sl_host_law.specs.Answers.Leasing.{carrying_lease, read_from, reading, sectors_read, turn_next, writing_block, writing_leader};
+ghost use Rattle.sl_host_law.specs.Steps.Leases.{lease_at};
+ghost use Rattle.sl_host_law.specs.Steps.Passes.{member_numbered};
+ghost use Rattle.sl_host_work.specs.Asking.{IsTurned, writes_own_block};
 ghost use Rattle.sl_host_state.specs.Kept.{MemberState};
 ghost use Rattle.sl_host_work.specs.Leasing.{converted_under};
 ghost use Rattle.sl_host_work.specs.Next.{IsFit};
 ghost use Rattle.sl_host_work.specs.Placed.{IsArea, IsPlaced};
 ghost use Rattle.sl_lease.specs.Bounds.{IsBegun};
-ghost use Rattle.sl_lease.specs.Steps.{reads_area};
 ghost use Rattle.sl_sector.specs.Records.{Fits};
 ghost use Rattle.sl_trace.specs.declared.effects.LeaseStep.TheVariants.{ClearMode, FreeLeader};
 ghost use Rattle.sl_trace.specs.declared.effects.Mode.TheVariants.{Exclusive, Shared};
@@ -17,21 +19,67 @@ ghost use Rattle.sl_trace.specs.declared.effects.Work.TheVariants.{Settling};
 ghost use Rattle.sl_host.specs.Asking.{state_in};
 ghost use Rattle.sl_host.specs.Host.{Becomes, SameRun, Spends};
 ghost use Rattle.sl_words.specs.Bounds.{moments};
-ghost use Rattle.std.specs.Prelude.{◌<◌, ◌≡◌, ◌≤◌};
+ghost use Rattle.std.specs.Prelude.{Some, is_some, true, unwrap_or, [], ◌<◌, ◌≡◌, ◌≤◌};
 
 use crate::granting::{answer_job, converted, grant_job};
 use sl_host::Host;
-use sl_sector::{Block, Leader, Rec};
+use sl_lease::{reads_area, sectors_read};
+use sl_sector::{Block, Leader, PairBlock, Rec};
+use sl_text::Name;
 use sl_trace::{LeaseNext, LeaseStep, Mode, Op, Purpose, Session, Spot, Work};
 
-/// Where the own block of a session stands, in the resource's area at this base.
-fn own_block(host: &Host, who: &Session, at: &Spot) -> u64
+/// What the next block of a session's lease on an area has besides: its turn, and the name of its resource.
+fn turn_and_name(host: &Host, who: &Session, at: &Spot) -> (u64, Option<Name>)
+    ensures { (m : MemberState) → member_numbered (state_in host.now.kept) who.now.number ≡ Some m
+        → (result.0 ≡ turn_next m at.now) × (unwrap_or result.1 [] ≡ (lease_at m at.now).name) }
+{
+    match host.members().numbered(who.number) {
+        Some(member) => match member.lease(at) {
+            Some(lease) => (lease.next_turn(), lease.name()),
+            None => (1, None),
+        },
+        None => (1, None),
+    }
+}
+
+/// Where the own block of this turn stands, in the resource's area at this base.
+fn own_block(host: &Host, who: &Session, at: &Spot, turn: u64) -> u64
     requires placed { IsPlaced host.now.kept.config.sizes who.now }
     requires area { IsArea host.now.kept.config.sizes at.now.base }
-    ensures { result ≡ block_offset (layout_of host.now.kept.config.sizes) at.now.base who.now.id }
+    ensures { result ≡ block_place (layout_of host.now.kept.config.sizes) at.now.base who.now.id turn }
 {
     let config = host.config();
-    config.geometry.block_place(at.base, who.id).offset()
+    config.geometry.turn_place(at.base, who.id, turn).offset()
+}
+
+/// The record of a session's block: with pairs it has its turn and the names of its resource, of which the lease has verified one.
+fn block_record(host: &Host, who: &Session, turn: u64, name: Option<Name>, block: Block) -> Rec
+    requires named { host.now.kept.config.sizes.paired ≡ true → is_some name ≡ true }
+    ensures { result ≡ block_record (layout_of host.now.kept.config.sizes) turn who.now.lockspace (unwrap_or name []) block }
+{
+    if !host.config().geometry.is_paired() {
+        return Rec::BlockIs(block);
+    }
+    match name {
+        Some(resource) => Rec::PairIs(PairBlock {
+            block,
+            turn,
+            lockspace: who.lockspace,
+            resource,
+        }),
+        None => unreachable!(),
+    }
+}
+
+/// The record of a leader.
+fn leader_record(host: &Host, leader: Leader) -> Rec
+    ensures { result ≡ leader_record (layout_of host.now.kept.config.sizes) leader }
+{
+    if host.config().geometry.is_paired() {
+        Rec::PairLeaderIs(leader)
+    } else {
+        Rec::LeaderIs(leader)
+    }
 }
 
 /// Where the blocks begin.
@@ -42,13 +90,6 @@ fn first_block(host: &Host, at: &Spot) -> u64
     let config = host.config();
     let _hosts = config.geometry.hosts();
     config.geometry.block_place(at.base, 1).offset()
-}
-
-/// Whether a step reads leader, request and blocks.
-fn reads_area(step: &LeaseStep) -> bool
-    ensures { result ≡ reads_area step.now }
-{
-    matches!(step, LeaseStep::ReadArea { .. } | LeaseStep::ReadBeforeFree)
 }
 
 /// Where a step reads.
@@ -64,11 +105,11 @@ fn read_from(host: &Host, at: &Spot, step: &LeaseStep) -> u64
 }
 
 /// How many sectors it reads.
-fn sectors_read(host: &Host, step: &LeaseStep) -> u32
+fn sectors_of(host: &Host, step: &LeaseStep) -> u32
     ensures { result ≡ sectors_read (state_in host.now.kept) step.now }
 {
-    let hosts = host.config().geometry.hosts();
-    if reads_area(step) { hosts + 2 } else { hosts }
+    let config = host.config();
+    sectors_read(&config.geometry, step)
 }
 
 /// The blocks, or the whole area, are read.
@@ -81,7 +122,7 @@ fn read(host: &mut Host, who: &Session, at: &Spot, work: Work, step: LeaseStep)
     ensures left { Spends host.old host.new 0 1 }
 {
     let offset = read_from(host, at, &step);
-    let sectors = sectors_read(host, &step);
+    let sectors = sectors_of(host, &step);
     let purpose = Purpose::Lease { work, step };
     host.call(
         who.number,
@@ -92,20 +133,23 @@ fn read(host: &mut Host, who: &Session, at: &Spot, work: Work, step: LeaseStep)
     );
 }
 
-/// The own block is written.
+/// The own block is written, with pairs with the next turn at the place of that turn.
 fn write_block(host: &mut Host, who: &Session, at: &Spot, work: Work, step: LeaseStep, block: Block)
     requires calls { 1 ≤ host.old.calls }
     requires moment { host.old.kept.reading < moments }
     requires placed { IsPlaced host.old.kept.config.sizes who.now }
     requires area { IsArea host.old.kept.config.sizes at.now.base }
     requires block { IsBegun block }
-    ensures state { Becomes host.old host.new (writing_block who.now at.now work step block) }
+    requires turned { IsTurned host.old.kept who.now at.now }
+    ensures state { (m : MemberState) → member_numbered (state_in host.old.kept) who.now.number ≡ Some m → m.who ≡ who.now
+        → Becomes host.old host.new (writing_block m at.now work step block) }
     ensures run { SameRun host.old host.new }
     ensures left { Spends host.old host.new 0 1 }
 {
-    let offset = own_block(host, who, at);
+    let (turn, name) = turn_and_name(host, who, at);
+    let offset = own_block(host, who, at, turn);
+    let record = block_record(host, who, turn, name, block);
     let purpose = Purpose::Lease { work, step };
-    let record = Rec::BlockIs(block);
     host.call(
         who.number,
         at.path,
@@ -132,7 +176,7 @@ fn write_leader(
     ensures left { Spends host.old host.new 0 1 }
 {
     let purpose = Purpose::Lease { work, step };
-    let record = Rec::LeaderIs(leader);
+    let record = leader_record(host, leader);
     host.call(
         who.number,
         at.path,
@@ -164,7 +208,9 @@ fn become_exclusive(host: &mut Host, who: &Session, at: &Spot, work: &Work, lver
     requires placed { IsPlaced host.old.kept.config.sizes who.now }
     requires area { IsArea host.old.kept.config.sizes at.now.base }
     requires block { IsBegun block }
-    ensures state { Becomes host.old host.new (λ h. writing_block who.now at.now Settling ClearMode block (converted_under who.now at.now work.now Exclusive lver h)) }
+    requires turned { IsTurned host.old.kept who.now at.now }
+    ensures state { (m : MemberState) → member_numbered (state_in host.old.kept) who.now.number ≡ Some m → m.who ≡ who.now
+        → Becomes host.old host.new (λ h. writing_block m at.now Settling ClearMode block (converted_under who.now at.now work.now Exclusive lver h)) }
     ensures run { SameRun host.old host.new }
     ensures left { Spends host.old host.new 3 1 }
 {
@@ -180,7 +226,8 @@ pub fn carry_lease(host: &mut Host, who: &Session, at: &Spot, work: Work, next: 
     requires placed { IsPlaced host.old.kept.config.sizes who.now }
     requires area { IsArea host.old.kept.config.sizes at.now.base }
     requires fit { IsFit next }
-    ensures state { (m : MemberState) → m.who ≡ who.now → Becomes host.old host.new (carrying_lease m at.now work next) }
+    requires turned { writes_own_block next ≡ true → IsTurned host.old.kept who.now at.now }
+    ensures state { (m : MemberState) → member_numbered (state_in host.old.kept) who.now.number ≡ Some m → m.who ≡ who.now → Becomes host.old host.new (carrying_lease m at.now work next) }
     ensures run { SameRun host.old host.new }
     ensures left { Spends host.old host.new 3 1 }
 {

@@ -6,8 +6,9 @@ use Rattle.sl_host_state.specs.Makes.{is_lease_on, leases_calling, new_lease}
 use Rattle.sl_host_state.specs.declared.kept.ValuePair.{ValuePair}
 use Rattle.sl_lease.specs.Bounds.{IsBegun}
 use Rattle.sl_lease.specs.Changes.{after_block, after_leader, after_reading, after_value}
-use Rattle.sl_trace.specs.Leases.{is_lease_call, is_spot_before, spot_of_call}
+use Rattle.sl_trace.specs.Leases.{is_lease_call, is_second, is_spot_before, spot_of_call}
 use Rattle.sl_sector.specs.Records.{Fits}
+use Rattle.sl_sector.specs.declared.sector.PairBlock.{PairBlock}
 use Rattle.sl_sector.specs.declared.sector.Rec.TheVariants.{BlockIs, LeaderIs, PairIs, PairLeaderIs}
 use Rattle.sl_trace.specs.Traces.{Submitted}
 use Rattle.sl_trace.specs.declared.effects.LeaseStep.{LeaseStep}
@@ -18,7 +19,7 @@ use Rattle.sl_trace.specs.declared.effects.Work.{Work}
 use Rattle.sl_words.specs.Orders.{put_in}
 use Rattle.std.specs.List.{AllByRecursion, list_any}
 use Rattle.std.proofs.Common.{suc, zero}
-use Rattle.std.specs.Prelude.{Bool, List, None, Option, Some, bytes_eq, cond, false, length, map, not, slice_get, true, [], ℕ, ◌&&◌, ◌-◌, ◌<◌, ◌∷◌, ◌≡◌, ◌≤◌}
+use Rattle.std.specs.Prelude.{Bool, List, None, Option, Some, bytes_eq, cond, false, find, length, map, not, option_and_then, slice_get, true, [], ℕ, ◌&&◌, ◌-◌, ◌<◌, ◌∷◌, ◌≡◌, ◌≤◌}
 
 -- The leases, and for how many more there is memory.
 pub record LeasesState : Type 0 where
@@ -66,17 +67,17 @@ changed_at at f ls = map (λ l. cond (is_lease_on at l) (f l) l) ls
 
 -- A lease whose call of this number is submitted, at a step of its work, to do this: what doesn't write block or leader counts as a read.
 abbrev pub lease_called : ℕ → Work → LeaseStep → Op → LeaseState → LeaseState
-lease_called number work step (WriteRecord (BlockIs b)) l = after_block number work step b l
+lease_called number work step (WriteRecord (BlockIs b)) l = after_block number work step None b l
 lease_called number work step (WriteRecord (LeaderIs d)) l = after_leader number work step d l
-lease_called number work step (WriteRecord (PairIs p)) l = after_block number work step p.block l
+lease_called number work step (WriteRecord (PairIs p)) l = after_block number work step (Some p.turn) p.block l
 lease_called number work step (WriteRecord (PairLeaderIs d)) l = after_leader number work step d l
 lease_called number work step op l = after_reading number work step l
 
--- What such a call writes can be kept: a block that is one of a ballot, a leader whose instance fits a record.
+-- What such a call writes can be kept: a block that is one of a ballot, with a turn that fits a record, a leader whose instance does.
 abbrev pub IsKeepable : Op → Type 0
 IsKeepable (WriteRecord (BlockIs b)) = IsBegun b
 IsKeepable (WriteRecord (LeaderIs d)) = Fits d.lver
-IsKeepable (WriteRecord (PairIs p)) = IsBegun p.block
+IsKeepable (WriteRecord (PairIs p)) = IsBegun p.block × (1 ≤ p.turn) × Fits p.turn
 IsKeepable (WriteRecord (PairLeaderIs d)) = Fits d.lver
 IsKeepable op = Unit {0}
 
@@ -95,3 +96,7 @@ begins_lease g m ls = is_lease_call m && not (list_any (is_lease_on (spot_of_cal
 -- The leases after a call of their session, and the room left.
 abbrev pub leases_after : Layout → Submitted → LeasesState → LeasesState
 leases_after g m v = record { leases = leases_calling g m v.leases; room = cond (begins_lease g m v.leases) (v.room - 1) v.room }
+
+-- What is kept of the first read for the lease on an area, where a read at this step is the second one.
+abbrev pub first_among : Spot → LeaseStep → List LeaseState → Option (List (Option PairBlock))
+first_among at step ls = elim (is_second step) [ false ↦ None | true ↦ option_and_then (λ l. l.pair.first) (find (is_lease_on at) ls) ]

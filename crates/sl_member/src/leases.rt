@@ -6,18 +6,19 @@
 //! One comes in with its first call, into memory that was taken before, and none ever goes.
 
 ghost use Rattle.sl_host_state.specs.Makes.{is_lease_on};
-ghost use Rattle.sl_lease.specs.Changes.{after_failure, after_read, after_write};
+ghost use Rattle.sl_lease.specs.Changes.{after_failure, after_kept, after_read, after_write, turn_told};
+ghost use Rattle.sl_sector.specs.Records.{Fits};
 ghost use Rattle.sl_trace.specs.Leases.{is_spot_before};
 ghost use Rattle.sl_area.specs.Layouts.{layout_of};
 ghost use Rattle.sl_trace.specs.Traces.{new_call};
-ghost use Rattle.sl_member.specs.Leases.{AreByPlace, IsFound, IsGap, IsKeepable, IsPlaceOf, begins_lease, changed_at, lease_called, leases_after, value_set, with_lease};
+ghost use Rattle.sl_member.specs.Leases.{AreByPlace, IsFound, IsGap, IsKeepable, IsPlaceOf, begins_lease, changed_at, first_among, lease_called, leases_after, value_set, with_lease};
 ghost use Rattle.std.specs.List.{list_any};
-ghost use Rattle.std.specs.Prelude.{IfErr, IfOk, OnErr, OnOk, cond, false, find, length, map, max, option_map, slice_get, true, [], ◌+◌, ◌-◌, ◌<◌, ◌^◌, ◌≡◌, ◌≤◌};
+ghost use Rattle.std.specs.Prelude.{IfErr, IfOk, IfSome, OnErr, OnOk, cond, false, find, length, map, max, option_map, slice_get, true, [], ◌+◌, ◌-◌, ◌<◌, ◌^◌, ◌≡◌, ◌≤◌};
 
 use crate::calls::{in_area, lease_step, spot_of, value_of};
 use sl_area::Geometry;
 use sl_host_state::ValuePair;
-use sl_lease::{Lease, Side};
+use sl_lease::{Lease, Pairs, Side};
 use sl_sector::{Block, Leader, Rec};
 use sl_text::FilePath;
 use sl_trace::{Call, LeaseStep, Op, Spot, Work};
@@ -131,13 +132,13 @@ fn lease_called(lease: &mut Lease, number: u64, work: Work, step: LeaseStep, op:
     match op {
         Op::WriteRecord {
             record: Rec::BlockIs(block),
-        } => lease.writes_block(number, work, step, *block),
+        } => lease.writes_block(number, work, step, None, *block),
         Op::WriteRecord {
             record: Rec::LeaderIs(leader),
         } => lease.writes_leader(number, work, step, leader),
         Op::WriteRecord {
             record: Rec::PairIs(pair),
-        } => lease.writes_block(number, work, step, pair.block),
+        } => lease.writes_block(number, work, step, Some(pair.turn), pair.block),
         Op::WriteRecord {
             record: Rec::PairLeaderIs(leader),
         } => lease.writes_leader(number, work, step, leader),
@@ -252,6 +253,37 @@ impl Leases {
     {
         match search(&self.items, self.last, at) {
             Ok(place) => lease_called(&mut self.items[place], number, work, step, op),
+            Err(_) => {}
+        }
+    }
+
+    /// What is kept of the first read for the lease on an area, where a read at this step is the second one.
+    pub fn first_for(&self, at: &Spot, step: &LeaseStep) -> Option<&Pairs>
+        ensures { option_map (λ p. p.now) result ≡ first_among at.now step.now self.now.leases }
+    {
+        match search(&self.items, self.last, at) {
+            Ok(place) => self.items[place].first_for(step),
+            Err(_) => None,
+        }
+    }
+
+    /// An answer for the lease on an area showed this turn of the own pair, if any.
+    pub fn shows_turn(&mut self, at: &Spot, turn: Option<u64>)
+        requires { IfSome turn (λ t. (1 ≤ t) × Fits t) }
+        ensures { self.new ≡ record self.old { leases = changed_at at.now (turn_told turn) self.old.leases } }
+    {
+        match search(&self.items, self.last, at) {
+            Ok(place) => self.items[place].shows_turn(turn),
+            Err(_) => {}
+        }
+    }
+
+    /// The read for which the lease on an area waits is to be made once more, and this is kept of it.
+    pub fn keeps(&mut self, at: &Spot, pairs: Pairs)
+        ensures { self.new ≡ record self.old { leases = changed_at at.now (after_kept pairs) self.old.leases } }
+    {
+        match search(&self.items, self.last, at) {
+            Ok(place) => self.items[place].keeps(pairs),
             Err(_) => {}
         }
     }

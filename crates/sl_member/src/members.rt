@@ -8,7 +8,9 @@ ghost use Rattle.sl_delta.specs.Own.{answer_in};
 ghost use Rattle.sl_host_state.specs.Hears.{asked_at};
 ghost use Rattle.sl_host_state.specs.Kept.{MemberState};
 ghost use Rattle.sl_host_state.specs.Makes.{with_member};
-ghost use Rattle.sl_lease.specs.Changes.{after_failure, after_read, after_write};
+ghost use Rattle.sl_lease.specs.Changes.{after_failure, after_kept, after_read, after_write, turn_told};
+ghost use Rattle.sl_member.specs.Leases.{first_among};
+ghost use Rattle.sl_sector.specs.Records.{Fits};
 ghost use Rattle.sl_member.specs.Members.{IsOwnCall, leaving_begun, lease_changed, member_called, own_told, recovery_begun, renewal_counted, renewing_told};
 ghost use Rattle.sl_member.specs.Together.{AreApart, AreRoomier, begins_among, begins_leaving, begun_by, begun_kept, changed_member, is_joining_by, late_by, left_by, left_kept, member_with, side_with, told_survey};
 ghost use Rattle.sl_trace.specs.Sessions.{is_join_call, is_session_arg};
@@ -20,16 +22,16 @@ ghost use Rattle.sl_words.specs.Bounds.{moments};
 ghost use Rattle.sl_words.specs.Orders.{is_text_before};
 ghost use Rattle.sl_words.specs.Words.{some_is};
 ghost use Rattle.std.specs.List.{AllWithin, list_any};
-ghost use Rattle.std.specs.Prelude.{IfSome, IsTrue, None, OnErr, OnOk, Some, bytes_eq, cond, false, filter, find, length, map, max, min, not, option_map, position, slice_get, true, unwrap_or, vec_capacity, vec_len, [], ℕ, ◌&&◌, ◌*◌, ◌-◌, ◌<◌, ◌==◌, ◌^◌, ◌≡◌, ◌≤◌};
+ghost use Rattle.std.specs.Prelude.{IfSome, IsTrue, None, OnErr, OnOk, Some, bytes_eq, cond, false, filter, find, length, map, max, min, not, option_and_then, option_map, position, slice_get, true, unwrap_or, vec_capacity, vec_len, [], ℕ, ◌&&◌, ◌*◌, ◌-◌, ◌<◌, ◌==◌, ◌^◌, ◌≡◌, ◌≤◌};
 
 use crate::member::Member;
 use sl_area::Geometry;
 use sl_delta::SectorAnswer;
-use sl_lease::Sectors;
+use sl_lease::{Pairs, Sectors};
 use sl_sector::{Block, HostId, Leader};
 use sl_text::Name;
 use sl_time::Timing;
-use sl_trace::{Begun, Call, LockspaceArg, Purpose, Session, Spot};
+use sl_trace::{Begun, Call, LeaseStep, LockspaceArg, Purpose, Session, Spot};
 use std::alloc::{AllocError, Global};
 use std::marker::Model;
 
@@ -533,6 +535,47 @@ impl Members {
     {
         match place_of(&self.items, number) {
             Some(place) => self.items[place].refuses(),
+            None => {}
+        }
+    }
+
+    /// What is kept of the first read for its lease on an area, where a read at this step is the second one.
+    pub fn first_for(&self, number: u64, at: &Spot, step: &LeaseStep) -> Option<&Pairs>
+        ensures { option_map (λ p. p.now) result ≡ option_and_then (λ s. first_among at.now step.now s.leases) (member_with number self.now.members) }
+    {
+        match place_of(&self.items, number) {
+            Some(place) => self.items[place].first_for(at, step),
+            None => None,
+        }
+    }
+
+    /// The id of the member of this number.
+    pub fn id_of(&self, number: u64) -> Option<HostId>
+        ensures { result ≡ option_map (λ s. s.who.id) (member_with number self.now.members) }
+    {
+        match self.numbered(number) {
+            Some(member) => Some(member.who().id),
+            None => None,
+        }
+    }
+
+    /// An answer for its lease on an area showed this turn of its own pair, if any.
+    pub fn lease_shows(&mut self, number: u64, at: &Spot, turn: Option<u64>)
+        requires { IfSome turn (λ t. (1 ≤ t) × Fits t) }
+        ensures { self.new ≡ record self.old { members = changed_member number (lease_changed at.now (turn_told turn)) self.old.members } }
+    {
+        match place_of(&self.items, number) {
+            Some(place) => self.items[place].lease_shows(at, turn),
+            None => {}
+        }
+    }
+
+    /// The read for which its lease on an area waits is to be made once more, and this is kept of it.
+    pub fn lease_keeps(&mut self, number: u64, at: &Spot, pairs: Pairs)
+        ensures { self.new ≡ record self.old { members = changed_member number (lease_changed at.now (after_kept pairs)) self.old.members } }
+    {
+        match place_of(&self.items, number) {
+            Some(place) => self.items[place].lease_keeps(at, pairs),
             None => {}
         }
     }

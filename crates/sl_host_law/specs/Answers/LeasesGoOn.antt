@@ -4,7 +4,7 @@ use Rattle.sl_host_law.specs.Answers.Answering.{IsAnswerTo}
 use Rattle.sl_host_law.specs.Answers.LeaseAnswers.{area_of}
 use Rattle.sl_host_law.specs.Answers.Leasing.{MayCarryLease, carrying_lease, read_from}
 use Rattle.sl_host_law.specs.Answers.Requests.{Follows}
-use Rattle.sl_area.specs.Places.{block_offset, leader_offset}
+use Rattle.sl_area.specs.Places.{block_place, leader_offset}
 use Rattle.sl_due.specs.Steps.{Step, with_input}
 use Rattle.sl_host_state.specs.Hears.{heard_answer, member_hearing}
 use Rattle.sl_host_state.specs.Kept.{HostState, MemberState}
@@ -31,7 +31,7 @@ use Rattle.std.specs.Prelude.{Some, false, true, ℕ, ◌%◌, ◌-◌, ◌<◌,
 pub record IsPlacedAt (h : HostState) (m : MemberState) (at : Spot) : Type 0 where
   pub room : 0 < h.config.layout.area
   pub reads : (step : LeaseStep) → read_from h at step - read_from h at step % h.config.layout.area ≡ at.base
-  pub block : block_offset h.config.layout at.base m.who.id - block_offset h.config.layout at.base m.who.id % h.config.layout.area ≡ at.base
+  pub block : (turn : ℕ) → block_place h.config.layout at.base m.who.id turn - block_place h.config.layout at.base m.who.id turn % h.config.layout.area ≡ at.base
   pub leader : leader_offset at.base - leader_offset at.base % h.config.layout.area ≡ at.base
 
 -- So are those of the call's.

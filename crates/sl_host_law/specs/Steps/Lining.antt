@@ -1,7 +1,7 @@
 -- A line of a step.
 use Rattle.sl_host_law.specs.Answers.Grants.{ended, given_up}
 use Rattle.sl_host_law.specs.Answers.Leasing.{MayCarryLease}
-use Rattle.sl_area.specs.Places.{value_offset}
+use Rattle.sl_area.specs.Places.{area_sectors, value_offset}
 use Rattle.sl_host_law.specs.Calls.Calls.{fits_lease, fits_value}
 use Rattle.sl_host_law.specs.Decisions.Deciding.{decision_of}
 use Rattle.sl_host_law.specs.Decisions.Promises.{LastIsEnough}
@@ -40,7 +40,7 @@ MayDecide h x text c (Joins n a) = Unit {0}
 MayDecide h x text c (Leaves s) = Unit {0}
 MayDecide h x text c (ReadsArea s r) =
     (k : ℕ) (m : MemberState) → HeardBy h c k m s
-    → IsTrue (fits_lease h.config.layout m (next_submitted h m.who.number r.path (Lease (ForJob h.next_job) (ReadArea r.name)) r.offset (ReadSectors (h.config.layout.hosts + 2))))
+    → IsTrue (fits_lease h.config.layout m (next_submitted h m.who.number r.path (Lease (ForJob h.next_job) (ReadArea r.name)) r.offset (ReadSectors (area_sectors h.config.layout))))
 MayDecide h x text c (Shares s lver) = Unit {0}
 MayDecide h x text c (GivesUp s g) =
     (k : ℕ) (m : MemberState) → HeardBy h c k m s → IsLeased m (spot_of_grant g)
