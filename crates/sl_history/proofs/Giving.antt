@@ -1,3 +1,4 @@
+pub mod Named
 pub mod Shown
 pub mod Landed
 pub mod Newest
@@ -9,4 +10,7 @@ pub mod Hosts
 pub mod Whole
 pub mod Given
 pub mod Stood
+pub mod Others
+pub mod Plain
+pub mod Paired
 pub mod Proven

@@ -1,3 +1,4 @@
 pub mod Resources
 pub mod Giving
 pub mod Sessions
+pub mod Pairs

@@ -1,6 +1,6 @@
+pub mod Sampled
 pub mod Sending
 pub mod Histories
 pub mod Promises
 pub mod Orders
 pub mod Reads
-pub mod Once

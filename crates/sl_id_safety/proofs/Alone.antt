@@ -26,7 +26,7 @@ use Rattle.sl_plain.proofs.Lists.{find_fails, find_inside, kept_inside}
 use Rattle.sl_plain.proofs.Numbers.{one_index}
 use Rattle.sl_plain.proofs.Options.{mapped_value}
 use Rattle.sl_run.specs.Runs.{Happening}
-use Rattle.sl_run.specs.Safety.{CameBeforeClaim, Found, HasJoined, IsOwnLanding, IsSession, LawfulRun, SessionId, is_course_of, is_over, landed_in_own, setting_in, world_at}
+use Rattle.sl_run.specs.Safety.{CameBeforeClaim, Found, IsOwnLanding, IsSession, LawfulRun, SessionId, is_course_of, is_over, setting_in, world_at}
 use Rattle.sl_run.specs.Worlds.{Course, Landing, Machine, Program, World, first_landing, history_of, landed_at, machine_at}
 use Rattle.sl_run.specs.declared.header.Header.{Header}
 use Rattle.sl_trace.specs.Sessions.{is_join_call}
@@ -38,7 +38,7 @@ use Rattle.std.proofs.Common.{ap, arith, inl, inr, refl, subst, sym, ◌∙◌}
 use Rattle.std.proofs.lemmas.Bool.{and_from, cases_lt, eq-eqb, eqb-true, le-leb, leb-true}
 use Rattle.std.proofs.lemmas.List.Kept.{AllPairs-filter}
 use Rattle.std.specs.Option.{option_map_or}
-use Rattle.std.specs.Prelude.{AllPairs, Bool, Contains, IsFalse, List, None, Option, Some, [], false, filter, find, length, nat_le, option_and_then, slice_get, true, ℕ, ◌&&◌, ◌++◌, ◌<◌, ◌==◌, ◌∷◌, ◌≡◌, ◌≤◌, ◌⊎◌}
+use Rattle.std.specs.Prelude.{AllPairs, Bool, Contains, List, None, Option, Some, [], false, find, nat_le, option_and_then, slice_get, true, ℕ, ◌&&◌, ◌++◌, ◌<◌, ◌==◌, ◌∷◌, ◌≡◌, ◌≤◌, ◌⊎◌}
 
 -- ---- the writer of a landing
 

@@ -2,31 +2,23 @@
 use Rattle.sl_id_safety.proofs.State.Keeping.{lawful_call}
 use Rattle.sl_id_safety.proofs.State.Listing.{stands, stands_there, tail_at}
 use Rattle.sl_id_safety.proofs.State.Tails.{AreMade, IsLater, IsMadeAfter, all_made, front_at}
-use Rattle.sl_id_safety.proofs.State.Timing.{longer}
 use Rattle.sl_run.specs.Lawful.{Orderly}
-use Rattle.sl_run.specs.LawfulCalls.{may_submit}
 use Rattle.sl_run.specs.LawfulDelta.{LawfulDeltaCall, LawfulFree}
 use Rattle.sl_run_law.proofs.Place.Finding.{finds, partner}
 use Rattle.sl_run_law.proofs.Place.Looks.{made_below, stands as standing_joined}
 use Rattle.sl_plain.proofs.Lists.{contains_cases, contains_none, ends, find_inside, kept, kept_inside}
 use Rattle.sl_trace_law.proofs.Sessions.Freeing.{no_more_by}
-use Rattle.sl_trace_law.proofs.Sessions.Joining.{stage_for}
-use Rattle.sl_trace_law.proofs.Sessions.Silence.{stage_by}
 use Rattle.sl_trace_law.proofs.Sessions.Staying.{marks_stay}
 use Rattle.sl_trace_law.specs.Sessions.Promises.{IsSession as IsSessionOf}
-use Rattle.sl_trace.specs.Sessions.{calls_of, free_write, is_call_of, is_free_purpose, joined_after, open_calls_of, refused_after, removed_after, stage_after, stage_in, stage_of}
+use Rattle.sl_trace.specs.Sessions.{calls_of, free_write, is_call_of, is_free_purpose, joined_after, open_calls_of, refused_after, removed_after, stage_in}
 use Rattle.sl_trace.specs.declared.session.Session.{Session}
-use Rattle.sl_trace.specs.declared.stage.Stage.TheVariants.{Standing}
-use Rattle.sl_trace.specs.declared.stage.Stage.{Stage}
-use Rattle.sl_trace.specs.Traces.{Answered, Setting, Submitted, Trace, is_answered_ok, new_call, submitted}
+use Rattle.sl_trace.specs.Traces.{Answered, Setting, Submitted, Trace, new_call, submitted}
 use Rattle.sl_trace.specs.declared.effects.Call.{Call}
-use Rattle.sl_trace.specs.declared.effects.JoinStep.TheVariants.{ClaimWrite, DecidingRead, FirstRead, FirstRenewal, VerifyRead, WatchRead}
-use Rattle.sl_trace.specs.declared.effects.JoinStep.{JoinStep}
-use Rattle.sl_trace.specs.declared.effects.Purpose.TheVariants.{Joining, Leaving}
+use Rattle.sl_trace.specs.declared.effects.Purpose.TheVariants.{Leaving}
 use Rattle.sl_trace.specs.declared.effects.Purpose.{Purpose}
-use Rattle.sl_words.proofs.CaseLaws.{false_is_true, none_some, true_is_false}
+use Rattle.sl_words.proofs.CaseLaws.{true_is_false}
 use Rattle.std.proofs.Common.{ap, arith, inl, inr, refl, subst, sym, ◌∙◌}
-use Rattle.std.specs.Prelude.{Bool, Contains, List, None, Option, Some, [], drop, false, is_none, is_some, length, suc, true, ℕ, ◌++◌, ◌∷◌, ◌≡◌, ◌≤◌}
+use Rattle.std.specs.Prelude.{Contains, List, None, Option, Some, [], false, is_none, is_some, length, suc, true, ◌++◌, ◌∷◌, ◌≡◌, ◌≤◌}
 
 -- ---- lists
 

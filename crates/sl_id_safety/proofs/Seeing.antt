@@ -37,7 +37,7 @@ use Rattle.sl_words.proofs.CaseLaws.{none_some, some_value, true_is_false}
 use Rattle.sl_words.specs.Words.{choose}
 use Rattle.std.proofs.Common.{ap, arith, refl, subst, sym, ◌∙◌}
 use Rattle.std.proofs.lemmas.Bool.{eq-eqb}
-use Rattle.std.specs.Prelude.{Bool, Contains, List, None, Option, Some, [], false, length, option_and_then, option_map, slice_get, suc, true, zero, ℕ, ◌-◌, ◌<◌, ◌==◌, ◌∷◌, ◌≡◌, ◌≤◌}
+use Rattle.std.specs.Prelude.{Bool, Contains, List, None, Option, Some, false, length, option_and_then, option_map, slice_get, true, ℕ, ◌-◌, ◌<◌, ◌==◌, ◌≡◌, ◌≤◌}
 
 -- The sample of a survey of the session that shows the record.
 pub record IsSeen (w : World) (i : SessionId) (f : Found) (j : ℕ) (d : DeltaRec) : Type 0 where

@@ -1,7 +1,7 @@
 -- What a read shows of an id's sector stood there at a front: it is the newest landing of the id's state at that front.
 use Rattle.sl_area.specs.Places.{sector_of}
 use Rattle.sl_run_law.proofs.Front.Going.{fronts_are_lawful, run_after}
-use Rattle.sl_run_law.proofs.Front.Having.{contains_append, contains_left, contains_right}
+use Rattle.sl_run_law.proofs.Front.Having.{contains_left, contains_right}
 use Rattle.sl_id_safety.proofs.Fronting.{FrontAt, landed_before, landed_since}
 use Rattle.sl_id_safety.proofs.Owning.{newest_stands, numbered_top}
 use Rattle.sl_id_safety.proofs.State.Keeping.{is_place}
@@ -18,9 +18,9 @@ use Rattle.sl_ids.specs.Listed.{no_landing}
 use Rattle.sl_ids.specs.State.{Content, IsLast, State, shown}
 use Rattle.sl_run_law.proofs.Moment.Following.{kept_past}
 use Rattle.sl_run_law.specs.Moment.Moments.{Of_landing}
-use Rattle.sl_run_law.proofs.Place.Finding.{numbered_inside, place_is}
+use Rattle.sl_run_law.proofs.Place.Finding.{numbered_inside}
 use Rattle.sl_run_law.proofs.Place.Reading.{header_is, in_history, layout_is}
-use Rattle.sl_plain.proofs.Lists.{contains_cases, contains_first, contains_none, kept, kept_inside}
+use Rattle.sl_plain.proofs.Lists.{contains_first, kept}
 use Rattle.sl_run.specs.Runs.{Happening}
 use Rattle.sl_run.specs.Safety.{LawfulRun, world_at}
 use Rattle.sl_run.specs.Worlds.{Course, Landing, Program, Sampling, World, first_landing, history_of, landed_at, world_with}

@@ -2,7 +2,7 @@
 use Rattle.sl_run_law.proofs.Course.Mirrored.{machines_mirror}
 use Rattle.sl_run_law.proofs.Course.Stamped.{entries_are_stamped}
 use Rattle.sl_run_law.specs.Course.Mirrors.{Mirrors}
-use Rattle.sl_run_law.specs.Course.Stamping.{IsCourseOf, IsStamped, IsStampOf, Pairwise, stamp_in}
+use Rattle.sl_run_law.specs.Course.Stamping.{IsCourseOf, IsStamped, stamp_in}
 use Rattle.sl_run_law.proofs.Front.Going.{fronts_are_lawful}
 use Rattle.sl_run_law.proofs.Front.Having.{contains_right}
 use Rattle.sl_id_safety.proofs.Quieting.{IsQuiet, quiet_stays}
@@ -14,7 +14,6 @@ use Rattle.sl_id_safety.proofs.State.Tails.{AreLater, IsLater, all_still}
 use Rattle.sl_id_safety.proofs.State.Timing.{stamp_below}
 use Rattle.sl_id_safety.specs.State.IdStates.{own_courses}
 use Rattle.sl_run.specs.Lawful.{Orderly}
-use Rattle.sl_run_law.specs.Moment.Orders.{Fall}
 use Rattle.sl_run_law.proofs.Place.Finding.{partner}
 use Rattle.sl_run_law.proofs.Place.Looks.{made_below}
 use Rattle.sl_plain.proofs.Lists.{contains_cases, contains_more, kept_inside}
@@ -27,11 +26,10 @@ use Rattle.sl_run.specs.declared.header.Header.{Header}
 use Rattle.sl_trace.specs.Sessions.{calls_of, ended_after, free_write, is_call_of, joined_after}
 use Rattle.sl_trace.specs.Traces.{Submitted, Trace, submitted}
 use Rattle.sl_run_law.proofs.Watchdog.Stamps.{same_length}
-use Rattle.sl_words.proofs.CaseLaws.{none_some, one_value, some_value, true_is_false}
+use Rattle.sl_words.proofs.CaseLaws.{one_value, true_is_false}
 use Rattle.sl_words.specs.Words.{is_empty, some_is}
 use Rattle.std.proofs.Common.{ap, arith, inl, inr, refl, subst, sym, ◌∙◌}
-use Rattle.std.proofs.lemmas.Bool.Decides.{nat_tests}
-use Rattle.std.specs.Prelude.{Bool, Contains, List, None, Option, Some, [], false, is_some, length, not, suc, true, ℕ, ◌&&◌, ◌++◌, ◌<◌, ◌==◌, ◌||◌, ◌∷◌, ◌≡◌, ◌⊎◌}
+use Rattle.std.specs.Prelude.{Bool, Contains, List, None, Option, Some, [], false, is_some, length, not, true, ℕ, ◌&&◌, ◌++◌, ◌<◌, ◌||◌, ◌∷◌, ◌≡◌, ◌⊎◌}
 
 -- ---- a daemon that has ended stays as it was
 

@@ -5,55 +5,41 @@ use Rattle.sl_run_law.specs.Course.Stamping.{IsCourseOf}
 use Rattle.sl_id_safety.specs.Standing.{JoinedStand, SameIdsStandTogether, StandingTogetherIsSameId, sector_offset}
 use Rattle.sl_id_safety.proofs.State.Bridge.{IsKnown, known}
 use Rattle.sl_id_safety.proofs.State.Claiming.{record_is}
-use Rattle.sl_id_safety.proofs.State.Keeping.{IsLawfulCall, is_place, lawful_call, own_call, step_law}
-use Rattle.sl_id_safety.proofs.State.Listing.{every_pair, find_none}
-use Rattle.sl_id_safety.proofs.State.Living.{begun_if_joined, has_name, is_joining, joined_not}
+use Rattle.sl_id_safety.proofs.State.Keeping.{is_place, own_call, step_law}
 use Rattle.sl_id_safety.proofs.State.Proven.{claims_have_decided, grounds, renewals_have_verified, verify_reads_have_claimed}
-use Rattle.sl_id_safety.proofs.State.Renewing.{all_given_by, given_joined, given_none, given_undecided, not_at, same_record}
+use Rattle.sl_id_safety.proofs.State.Renewing.{given_undecided, same_record}
 use Rattle.sl_id_safety.proofs.State.Rising.{last_inside, last_none}
 use Rattle.sl_id_safety.proofs.State.Sectors.{sectors_apart}
 use Rattle.sl_id_safety.proofs.State.Starts.{standing_where}
-use Rattle.sl_id_safety.proofs.State.Steps.{ranks_of}
-use Rattle.sl_id_safety.proofs.State.Tails.{AreMade, IsMadeAfter, all_made, front_at}
-use Rattle.sl_id_safety.specs.State.IdStates.{blank, claim_bytes, deciding_sample, generation_by, has_begun, is_sector_of, join_course, name_of, own_courses, sample_showing, session_at, standing_by, standing_of, verifying_sample, watched_bytes}
+use Rattle.sl_id_safety.specs.State.IdStates.{claim_bytes, deciding_sample, generation_by, has_begun, is_sector_of, join_course, name_of, own_courses, sample_showing, session_at, standing_by, standing_of, verifying_sample}
 use Rattle.sl_id_safety.specs.State.Promises.{IsIdPlace}
 use Rattle.sl_id_safety.proofs.Steps.Alive.{joins_at as joins, not_claim}
 use Rattle.sl_ids.specs.State.{Session as IdSession}
-use Rattle.sl_run.specs.Lawful.{Orderly}
-use Rattle.sl_run.specs.LawfulDelta.{LawfulJoin}
-use Rattle.sl_run.specs.Saying.{cut_at}
 use Rattle.sl_run_law.proofs.Place.Areas.{lockspace_aligned}
 use Rattle.sl_run_law.proofs.Place.Finding.{partner_of, place_is}
 use Rattle.sl_run_law.proofs.Place.Homing.{at_home}
-use Rattle.sl_run_law.proofs.Place.Looks.{Look, delta_is_own, joins_at}
+use Rattle.sl_run_law.proofs.Place.Looks.{Look, delta_is_own}
 use Rattle.sl_run_law.proofs.Place.Proven.{promised}
 use Rattle.sl_run_law.proofs.Place.Reading.{layout_is}
 use Rattle.sl_run_law.proofs.Place.Seats.{IsSeated, given_seated, look_seated, sized_in}
-use Rattle.sl_plain.proofs.Lists.{contains_cases, contains_first, contains_more, contains_none, find_inside, got_inside, kept_inside}
+use Rattle.sl_plain.proofs.Lists.{find_inside, got_inside, kept_inside}
 use Rattle.sl_plain.proofs.Options.{some_of, then_value}
 use Rattle.sl_run.specs.Runs.{Happening}
 use Rattle.sl_run.specs.Safety.{Found, IsSession, LawfulRun, SessionId, found_generation, setting_in, trace_of, world_at}
 use Rattle.sl_run.specs.Worlds.{Course, Program, Sampling, World}
 use Rattle.sl_run.specs.declared.header.Header.{Header}
-use Rattle.sl_run_law.specs.Fates.{Every}
 use Rattle.sl_sector.specs.declared.sector.DeltaRec.{DeltaRec}
 use Rattle.sl_sector.specs.declared.sector.Rec.TheVariants.{DeltaIs}
-use Rattle.sl_sector.specs.declared.sector.Rec.{Rec}
-use Rattle.sl_trace_law.proofs.Sessions.Owning.{session_more}
-use Rattle.sl_trace_law.specs.Sessions.Promises.{IsSession as IsSessionOf}
-use Rattle.sl_trace.specs.Sessions.{calls_of, delta_of_record, delta_written, given_number, is_call_of, is_join_call, is_join_done, joined_after, last_delta, session_numbered, sessions}
-use Rattle.sl_trace.specs.declared.session.Session.{Session}
-use Rattle.sl_trace.specs.Traces.{Setting, Submitted, Trace, new_call, record_of, reply_to, submitted}
+use Rattle.sl_trace.specs.Sessions.{calls_of, delta_of_record, delta_written, given_number, is_call_of, is_join_call, joined_after, last_delta, sessions}
+use Rattle.sl_trace.specs.Traces.{Submitted, record_of, submitted}
 use Rattle.sl_trace.specs.declared.effects.Call.{Call}
-use Rattle.sl_trace.specs.declared.effects.JoinStep.TheVariants.{ClaimWrite, DecidingRead, FirstRenewal, VerifyRead}
+use Rattle.sl_trace.specs.declared.effects.JoinStep.TheVariants.{ClaimWrite, FirstRenewal, VerifyRead}
 use Rattle.sl_trace.specs.declared.effects.Op.{Op}
-use Rattle.sl_trace.specs.declared.effects.Purpose.{Purpose}
-use Rattle.sl_words.proofs.CaseLaws.{is_false, no_value, none_some, some_value, true_is_false}
-use Rattle.sl_words.specs.Words.{choose}
-use Rattle.std.proofs.Common.{ap, arith, inl, inr, refl, subst, sym, ◌∙◌}
+use Rattle.sl_words.proofs.CaseLaws.{no_value}
+use Rattle.std.proofs.Common.{ap, inl, inr, refl, subst, sym, ◌∙◌}
 use Rattle.std.proofs.lemmas.Bool.{eqb-true}
 use Rattle.std.specs.Option.{option_map_or}
-use Rattle.std.specs.Prelude.{Bool, Contains, IsSome, List, None, Option, Some, false, is_none, is_some, length, option_and_then, true, [], ℕ, ◌%◌, ◌&&◌, ◌*◌, ◌+◌, ◌-◌, ◌<◌, ◌||◌, ◌∷◌, ◌≡◌, ◌≤◌, ◌⊎◌}
+use Rattle.std.specs.Prelude.{Bool, Contains, List, None, Option, Some, false, is_none, is_some, option_and_then, true, [], ℕ, ◌%◌, ◌<◌, ◌||◌, ◌≡◌, ◌≤◌, ◌⊎◌}
 
 -- ---- the first renewal of a session that has joined
 

@@ -1,12 +1,15 @@
 pub mod Finding
 pub mod Numbering
 pub mod Reading
+pub mod Rights
 pub mod Sizes
 pub mod Areas
 pub mod Beginnings
 pub mod Daemons
 pub mod Looks
 pub mod Seats
+pub mod Blocks
+pub mod Made
 pub mod Leased
 pub mod Homing
 pub mod Proven

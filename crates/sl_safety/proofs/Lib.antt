@@ -6,6 +6,7 @@ pub mod Marked
 pub mod Moded
 pub mod Volumes
 pub mod Whole
+pub mod Torn
 pub mod Holding
 pub mod Ballot
 pub mod Grant

@@ -3,6 +3,7 @@
 pub mod ballot;
 pub mod grant;
 pub mod holding;
+pub mod pairs;
 pub mod value;
 
 ghost use Rattle.sl_run.specs.Safety.{Invariants, Safety};

@@ -1,4 +1,5 @@
--- What stood at first at a place spells no block that a ballot has written; and what it is that spells a host's block.
+-- Where each host's block has one sector, what stood at first at a place spells no block that a ballot has written; and what it is that
+-- spells a host's block.
 use Rattle.sl_run.proofs.PlainAreas.{initial_plain}
 use Rattle.sl_area.specs.Layouts.{Layout, layout_with, record_in, sector_with}
 use Rattle.sl_area.specs.Places.{fresh_block, fresh_leader, in_area, no_request, no_value}
@@ -26,7 +27,7 @@ use Rattle.sl_words.proofs.WordLaws.{choose_some}
 use Rattle.sl_words.specs.Words.{choose}
 use Rattle.std.proofs.Common.{ap, refl, subst, sym, ◌∙◌}
 use Rattle.std.proofs.lemmas.Bool.{eqb-true}
-use Rattle.std.specs.Prelude.{Bool, List, None, Ok, Err, Option, Result, Some, bytes_eq, false, find, if◌then◌else◌, nat_lt, replicate, true, ℕ, ◌&&◌, ◌*◌, ◌+◌, ◌-◌, ◌/◌, ◌==◌, ◌≡◌}
+use Rattle.std.specs.Prelude.{Bool, Err, List, None, Ok, Option, Result, Some, bytes_eq, false, find, if◌then◌else◌, nat_lt, replicate, true, ℕ, ◌&&◌, ◌*◌, ◌+◌, ◌-◌, ◌/◌, ◌==◌, ◌≡◌}
 
 -- ---- what stood there at first
 
@@ -65,23 +66,25 @@ initial_fresh g plain h path offset b eq =
     (find (λ r. bytes_eq r.path path && in_area g r.offset offset) h.resources) eq
 
 first_by : (digest : List ℕ → List ℕ) (h : Header) (path : List ℕ) (offset : ℕ) (o : Option Rec) (b : Block) → IsDigest digest → IsHeader h
+    → (layout_with digest h.geometry).paired ≡ false
     → initial_record (layout_with digest h.geometry) h path offset ≡ o
     → record_in (layout_with digest h.geometry)
     (elim o as (λ x. List ℕ) [ None ↦ replicate h.geometry.sector 0 | Some x ↦ sector_with (layout_with digest h.geometry) x ]) ≡ Ok (BlockIs b)
     → history_block b ≡ no_block
-first_by digest h path offset None b d ok is read =
+first_by digest h path offset None b d ok plain is read =
     absurd (zeros_at digest h.geometry.sector (BlockIs b) (sector_fits (layout_with digest h.geometry) (sized digest h.geometry ok.geometry)).0 read)
-first_by digest h path offset (Some x) b d ok is read =
+first_by digest h path offset (Some x) b d ok plain is read =
     let g : Layout = layout_with digest h.geometry in
     let again = spelled_is_read digest d h.geometry.sector (sector_fits g (sized digest h.geometry ok.geometry)) x (initial_is_record digest h path offset x ok is) in
     let same : x ≡ BlockIs b = same_read (record_in g (sector_with g x)) x (BlockIs b) again read in
-    initial_fresh g ok.unpaired h path offset b (is ∙ ap (λ y. Some y) same)
+    initial_fresh g plain h path offset b (is ∙ ap (λ y. Some y) same)
 
-pub first_fresh : (p : Program) (h : Header) (xs : List Happening) → LawfulRun p h xs → (path : List ℕ) (offset : ℕ) (b : Block)
+pub first_fresh : (p : Program) (h : Header) (xs : List Happening) → LawfulRun p h xs → (world_at p h xs).layout.paired ≡ false → (path : List ℕ) (offset : ℕ) (b : Block)
     → record_in (world_at p h xs).layout (first_landing (world_at p h xs) path offset).bytes ≡ Ok (BlockIs b) → history_block b ≡ no_block
-first_fresh p h xs run path offset b read =
+first_fresh p h xs run plain path offset b read =
     let w : World = world_at p h xs in
-    first_by p.digest h path offset (initial_record (layout_with p.digest h.geometry) h path offset) b run.digest run.header refl
+    first_by p.digest h path offset (initial_record (layout_with p.digest h.geometry) h path offset) b run.digest run.header
+    (ap (λ (g : Layout). g.paired) (sym (layout_is p h xs)) ∙ plain) refl
     (subst (λ g. record_in g (initial_bytes g h path offset) ≡ Ok (BlockIs b)) (layout_is p h xs)
     (subst (λ k. record_in w.layout (initial_bytes w.layout k path offset) ≡ Ok (BlockIs b)) (header_is p h xs) read))
 

@@ -1,4 +1,4 @@
--- What stood at first at a host's place of a resource: the host's block of zeros.
+-- What stood at first at a sector of a resource; where each host's block has one, at a host's place the host's block of zeros.
 use Rattle.sl_run.proofs.PlainAreas.{initial_plain}
 use Rattle.sl_area.specs.Layouts.{Layout, record_in, sector_with}
 use Rattle.sl_area.specs.Places.{block_offset, fresh_block, fresh_leader, in_area, no_request, no_value}
@@ -6,7 +6,7 @@ use Rattle.sl_run_law.proofs.Landing.Initial.{initial_is_record}
 use Rattle.sl_run_law.proofs.Place.Areas.{lockspace_aligned, never_both, one_resource, resource_aligned, same_base}
 use Rattle.sl_run_law.proofs.Place.Finding.{finds, same_text}
 use Rattle.sl_run_law.proofs.Place.Reading.{digest_is, header_is, layout_is}
-use Rattle.sl_run_law.proofs.Place.Seats.{plain_in, sized_in}
+use Rattle.sl_run_law.proofs.Place.Seats.{sized_in}
 use Rattle.sl_run_law.proofs.Place.Sizes.{IsSized, number_of_slot, sector_fits, sector_has_bytes}
 use Rattle.sl_plain.proofs.Lists.{find_inside}
 use Rattle.sl_history.proofs.Resources.Calls.{text_same}
@@ -56,55 +56,65 @@ at_place g plain r n k is low high =
     initial_plain g plain r n ∙ ap (λ b. record_by g r n b (n == 1) (nat_lt n (g.hosts + 2))) (some_place n k is) ∙ ap (λ b. record_by g r n false b (nat_lt n (g.hosts + 2))) (no_request_there n k is low)
     ∙ ap (λ b. record_by g r n false false b) (among_hosts n k g.hosts is high) ∙ ap (λ i. Some (BlockIs (fresh_block i))) (one_back n k is)
 
-record_there : (g : Layout) → g.paired ≡ false → (h : Header) (r : ResourceLine) (k : ℕ) → IsHeader h → IsSized h.geometry g → Contains h.resources r → 1 ≤ k → k ≤ g.hosts
-    → in_area g r.offset (block_offset g r.offset k) ≡ true → (o : Option LockspaceLine) (q : Option ResourceLine)
-    → find (λ (l : LockspaceLine). bytes_eq l.path r.path && in_area g l.offset (block_offset g r.offset k)) h.lockspaces ≡ o
-    → find (λ (x : ResourceLine). bytes_eq x.path r.path && in_area g x.offset (block_offset g r.offset k)) h.resources ≡ q
+-- ---- the record of any sector of a resource's area
+
+sector_there : (g : Layout) (h : Header) (r : ResourceLine) (n : ℕ) (rec : Option Rec) → IsHeader h → IsSized h.geometry g → Contains h.resources r
+    → in_area g r.offset (r.offset + g.sector * n) ≡ true → initial_of_resource g r n ≡ rec → (o : Option LockspaceLine) (q : Option ResourceLine)
+    → find (λ (l : LockspaceLine). bytes_eq l.path r.path && in_area g l.offset (r.offset + g.sector * n)) h.lockspaces ≡ o
+    → find (λ (x : ResourceLine). bytes_eq x.path r.path && in_area g x.offset (r.offset + g.sector * n)) h.resources ≡ q
     → elim o as (λ z. Option Rec) [
-      | Some l ↦ initial_of_lockspace h l ((block_offset g r.offset k - l.offset) / g.sector)
-      | None ↦ elim q as (λ z. Option Rec) [ Some x ↦ initial_of_resource g x ((block_offset g r.offset k - x.offset) / g.sector) | None ↦ None ]
-    ] ≡ Some (BlockIs (fresh_block k))
-record_there g plain h r k ok z there low high inside (Some l) q at at_too =
-    let f = find_inside (λ (x : LockspaceLine). bytes_eq x.path r.path && in_area g x.offset (block_offset g r.offset k)) h.lockspaces l at in
-    let both = and_true (bytes_eq l.path r.path) (in_area g l.offset (block_offset g r.offset k)) f.1 in
+      | Some l ↦ initial_of_lockspace h l ((r.offset + g.sector * n - l.offset) / g.sector)
+      | None ↦ elim q as (λ z. Option Rec) [ Some x ↦ initial_of_resource g x ((r.offset + g.sector * n - x.offset) / g.sector) | None ↦ None ]
+    ] ≡ rec
+sector_there g h r n rec ok z there inside is (Some l) q at at_too =
+    let f = find_inside (λ (x : LockspaceLine). bytes_eq x.path r.path && in_area g x.offset (r.offset + g.sector * n)) h.lockspaces l at in
+    let both = and_true (bytes_eq l.path r.path) (in_area g l.offset (r.offset + g.sector * n)) f.1 in
     absurd (never_both h l r ok f.0 there (same_text l.path r.path both.0)
-    (same_base g l.offset r.offset (block_offset g r.offset k) z (lockspace_aligned h l ok f.0) (resource_aligned h r ok there) both.1 inside))
-record_there g plain h r k ok z there low high inside None None at at_too =
-    let f = finds (λ (x : ResourceLine). bytes_eq x.path r.path && in_area g x.offset (block_offset g r.offset k)) h.resources r (and_from _ _ (text_same r.path r.path refl) inside) there in
+    (same_base g l.offset r.offset (r.offset + g.sector * n) z (lockspace_aligned h l ok f.0) (resource_aligned h r ok there) both.1 inside))
+sector_there g h r n rec ok z there inside is None None at at_too =
+    let f = finds (λ (x : ResourceLine). bytes_eq x.path r.path && in_area g x.offset (r.offset + g.sector * n)) h.resources r (and_from _ _ (text_same r.path r.path refl) inside) there in
     absurd (none_some f.0 (sym at_too ∙ f.1))
-record_there g plain h r k ok z there low high inside None (Some x) at at_too =
-    let f = find_inside (λ (x : ResourceLine). bytes_eq x.path r.path && in_area g x.offset (block_offset g r.offset k)) h.resources x at_too in
-    let both = and_true (bytes_eq x.path r.path) (in_area g x.offset (block_offset g r.offset k)) f.1 in
+sector_there g h r n rec ok z there inside is None (Some x) at at_too =
+    let f = find_inside (λ (x : ResourceLine). bytes_eq x.path r.path && in_area g x.offset (r.offset + g.sector * n)) h.resources x at_too in
+    let both = and_true (bytes_eq x.path r.path) (in_area g x.offset (r.offset + g.sector * n)) f.1 in
     let same : x ≡ r =
     one_resource h x r ok f.0 there (same_text x.path r.path both.0)
-    (same_base g x.offset r.offset (block_offset g r.offset k) z (resource_aligned h x ok f.0) (resource_aligned h r ok there) both.1 inside) in
-    ap (λ (y : ResourceLine). initial_of_resource g y ((block_offset g r.offset k - y.offset) / g.sector)) same
-    ∙ at_place g plain r ((block_offset g r.offset k - r.offset) / g.sector) k (number_of_slot g.sector r.offset (k + 1) (sector_has_bytes g z)) low high
+    (same_base g x.offset r.offset (r.offset + g.sector * n) z (resource_aligned h x ok f.0) (resource_aligned h r ok there) both.1 inside) in
+    ap (λ (y : ResourceLine). initial_of_resource g y ((r.offset + g.sector * n - y.offset) / g.sector)) same
+    ∙ ap (initial_of_resource g r) (number_of_slot g.sector r.offset n (sector_has_bytes g z)) ∙ is
 
-first_record : (g : Layout) → g.paired ≡ false → (h : Header) (r : ResourceLine) (k : ℕ) → IsHeader h → IsSized h.geometry g → Contains h.resources r → 1 ≤ k → k ≤ g.hosts
-    → in_area g r.offset (block_offset g r.offset k) ≡ true → initial_record g h r.path (block_offset g r.offset k) ≡ Some (BlockIs (fresh_block k))
+pub sector_record : (g : Layout) (h : Header) (r : ResourceLine) (n : ℕ) (rec : Option Rec) → IsHeader h → IsSized h.geometry g → Contains h.resources r
+    → in_area g r.offset (r.offset + g.sector * n) ≡ true → initial_of_resource g r n ≡ rec → initial_record g h r.path (r.offset + g.sector * n) ≡ rec
 unfolding initial_record
-first_record g plain h r k ok z there low high inside =
-    record_there g plain h r k ok z there low high inside (find (λ (l : LockspaceLine). bytes_eq l.path r.path && in_area g l.offset (block_offset g r.offset k)) h.lockspaces)
-    (find (λ (x : ResourceLine). bytes_eq x.path r.path && in_area g x.offset (block_offset g r.offset k)) h.resources) refl refl
+sector_record g h r n rec ok z there inside is =
+    sector_there g h r n rec ok z there inside is (find (λ (l : LockspaceLine). bytes_eq l.path r.path && in_area g l.offset (r.offset + g.sector * n)) h.lockspaces)
+    (find (λ (x : ResourceLine). bytes_eq x.path r.path && in_area g x.offset (r.offset + g.sector * n)) h.resources) refl refl
 
 -- ---- what it spells
 
 abbrev bytes_of : Layout → Option Rec → List ℕ
 bytes_of g o = elim o [ None ↦ replicate g.sector 0 | Some x ↦ sector_with g x ]
 
--- The first landing at a host's place spells the host's fresh block.
-pub fresh_at_first : (p : Program) (h : Header) (xs : List Happening) → LawfulRun p h xs → (r : ResourceLine) → Contains h.resources r → (k : ℕ) → is_host (world_at p h xs) k ≡ true
-    → record_in (world_at p h xs).layout (first_landing (world_at p h xs) r.path (block_offset (world_at p h xs).layout r.offset k)).bytes ≡ Ok (BlockIs (fresh_block k))
-fresh_at_first p h xs run r there k host =
+-- What stands at a place at first is spelled there.
+pub spelled_at_first : (p : Program) (h : Header) (xs : List Happening) → LawfulRun p h xs → (path : List ℕ) (place : ℕ) (rec : Rec)
+    → initial_record (world_at p h xs).layout h path place ≡ Some rec
+    → record_in (world_at p h xs).layout (first_landing (world_at p h xs) path place).bytes ≡ Ok rec
+spelled_at_first p h xs run path place rec is =
     let w : World = world_at p h xs in
     let g : Layout = w.layout in
     let z = sized_in p h xs run in
-    let place : ℕ = block_offset g r.offset k in
+    let its : IsRecord rec = initial_is_record p.digest h path place rec run.header (subst (λ y. initial_record y h path place ≡ Some rec) (layout_is p h xs) is) in
+    ap (λ y. record_in g (initial_bytes g y path place)) (header_is p h xs) ∙ ap (λ o. record_in g (bytes_of g o)) is
+    ∙ spelled_is_read g.digest (digest_is p h xs run) g.sector (sector_fits g z) rec its
+
+-- The first landing at a host's place spells the host's fresh block.
+pub fresh_at_first : (p : Program) (h : Header) (xs : List Happening) → LawfulRun p h xs → (world_at p h xs).layout.paired ≡ false → (r : ResourceLine) → Contains h.resources r → (k : ℕ) → is_host (world_at p h xs) k ≡ true
+    → record_in (world_at p h xs).layout (first_landing (world_at p h xs) r.path (block_offset (world_at p h xs).layout r.offset k)).bytes ≡ Ok (BlockIs (fresh_block k))
+fresh_at_first p h xs run plain r there k host =
+    let w : World = world_at p h xs in
+    let g : Layout = w.layout in
+    let z = sized_in p h xs run in
     let range = and_true (nat_le 1 k) (nat_le k g.hosts) host in
-    let is : initial_record g h r.path place ≡ Some (BlockIs (fresh_block k)) =
-    first_record g (plain_in p h xs run) h r k run.header z there (leb-true 1 k range.0) (leb-true k g.hosts range.1) (place_within w r.offset k z host) in
-    let rec : IsRecord (BlockIs (fresh_block k)) =
-    initial_is_record p.digest h r.path place (BlockIs (fresh_block k)) run.header (subst (λ y. initial_record y h r.path place ≡ Some (BlockIs (fresh_block k))) (layout_is p h xs) is) in
-    ap (λ y. record_in g (initial_bytes g y r.path place)) (header_is p h xs) ∙ ap (λ o. record_in g (bytes_of g o)) is
-    ∙ spelled_is_read g.digest (digest_is p h xs run) g.sector (sector_fits g z) (BlockIs (fresh_block k)) rec
+    spelled_at_first p h xs run r.path (block_offset g r.offset k) (BlockIs (fresh_block k))
+    (sector_record g h r (k + 1) (Some (BlockIs (fresh_block k))) run.header z there (place_within w r.offset k z host)
+    (at_place g plain r (k + 1) k refl (leb-true 1 k range.0) (leb-true k g.hosts range.1)))

@@ -10,17 +10,17 @@ use Rattle.sl_run_law.proofs.Place.Sizes.{sector_fits}
 use Rattle.sl_run_law.proofs.Sample.Proven.{samples_are_landings}
 use Rattle.sl_run_law.specs.Landing.Landings.{LeftBy}
 use Rattle.sl_run_law.specs.Sample.Samples.{IsSampleOf, numbered_landing, sector_place}
-use Rattle.sl_plain.proofs.Lists.{there_is}
+use Rattle.sl_plain.proofs.Lists.{contains_first, there_is}
 use Rattle.sl_plain.proofs.Numbers.{back_again}
 use Rattle.sl_history.proofs.Resources.Above.{line_aligned}
-use Rattle.sl_history.proofs.Resources.Calls.{finds_it, owned, sent_is, sent_there}
+use Rattle.sl_history.proofs.Resources.Calls.{finds_it, host_range, owned, sent_is, sent_there}
 use Rattle.sl_history.proofs.Giving.Looked.{looked}
 use Rattle.sl_history.proofs.Resources.Looking.{IsLook}
 use Rattle.sl_history.proofs.Resources.Owning.{spot_is}
 use Rattle.sl_history.proofs.Giving.First.{block_in_is, block_or, first_fresh}
 use Rattle.sl_history.proofs.Giving.Shown.{IsBlockLanding, stands_there}
-use Rattle.sl_history.proofs.Resources.Calls.{host_range}
-use Rattle.sl_history.specs.Resources.Histories.{is_host, landing_shown, sector_number, step_of_landing}
+use Rattle.sl_history.specs.Resources.Histories.{is_host}
+use Rattle.sl_history.specs.Resources.Sampled.{landing_shown, sector_number, step_of_landing}
 use Rattle.sl_history.specs.Resources.Promises.{spot_of_line}
 use Rattle.sl_history.specs.Resources.Reads.{ReadBlocks, Says, step_given}
 use Rattle.sl_history.specs.Resources.Sending.{Sent, all_sent, read_at}
@@ -36,7 +36,7 @@ use Rattle.sl_sector.specs.Spelling.{IsDigest, IsSectorSize}
 use Rattle.sl_sector.specs.declared.sector.Block.{Block}
 use Rattle.sl_sector.specs.declared.sector.Rec.TheVariants.{BlockIs}
 use Rattle.sl_trace.specs.Leases.{block_of_record, is_area_read, is_on, spot_of_call}
-use Rattle.sl_trace.specs.Traces.{new_call, record_of}
+use Rattle.sl_trace.specs.Traces.{new_call, record_of, submitted}
 use Rattle.sl_trace.specs.declared.effects.Call.{Call}
 use Rattle.sl_trace.specs.declared.effects.Spot.{Spot}
 use Rattle.sl_words.proofs.CaseLaws.{none_some, true_is_false}
@@ -45,7 +45,9 @@ use Rattle.sl_words.specs.Words.{choose}
 use Rattle.std.proofs.Common.{ap, inl, inr, refl, subst, sym, ◌∙◌}
 use Rattle.std.proofs.lemmas.Bool.{eq-eqb}
 use Rattle.std.specs.Option.{option_map_or}
-use Rattle.std.specs.Prelude.{Contains, List, None, Ok, Option, Some, bytes_eq, find, if◌then◌else◌, is_ok, length, option_and_then, option_map, slice_get, true, ℕ, ◌*◌, ◌+◌, ◌-◌, ◌<◌, ◌==◌, ◌≡◌}
+use Rattle.std.specs.Prelude.{Contains, List, None, Ok, Option, Some, bytes_eq, false, find, if◌then◌else◌, is_ok, length, option_and_then, option_map, slice_get, true, ℕ, ◌*◌, ◌+◌, ◌-◌, ◌<◌, ◌==◌, ◌∷◌, ◌≡◌}
+use Rattle.sl_trace_law.specs.Leases.Ways.{lease_among}
+use Rattle.sl_run_law.proofs.Front.Having.{contains_right}
 
 -- ---- who left a landing
 
@@ -99,11 +101,11 @@ pub data LeftAt (w : World) (r : ResourceLine) (k : ℕ) (l : Landing) : Type 0 
   At_first : l ≡ first_landing w r.path (block_offset w.layout r.offset k) → left_by w l ≡ None → LeftAt w r k l
   By_call : (b : IsBlockLanding w r k l) → left_by w l ≡ Some b.sent → LeftAt w r k l
 
-pub left_at : (p : Program) (h : Header) (xs : List Happening) → LawfulRun p h xs → (r : ResourceLine) → Contains h.resources r → (k : ℕ) → is_host (world_at p h xs) k ≡ true
+pub left_at : (p : Program) (h : Header) (xs : List Happening) → LawfulRun p h xs → (world_at p h xs).layout.paired ≡ false → (r : ResourceLine) → Contains h.resources r → (k : ℕ) → is_host (world_at p h xs) k ≡ true
     → (i : ℕ) (l : Landing) → numbered_landing (history_of (world_at p h xs) r.path (block_offset (world_at p h xs).layout r.offset k)) i ≡ Some l → LeftAt (world_at p h xs) r k l
-left_at p h xs run r there k host i l at =
+left_at p h xs run plain r there k host i l at =
     let w : World = world_at p h xs in
-    elim (stands_there p h xs run r there k host i l at) as (λ z. LeftAt w r k l) [
+    elim (stands_there p h xs run plain r there k host i l at) as (λ z. LeftAt w r k l) [
       | inl first ↦ At_first first (ap (left_by w) first)
       | inr b ↦ By_call b (left_is p h xs run b.sent b.there l b.named)
     ]
@@ -120,15 +122,15 @@ left_block w l c b own digest size is (inl whole) read = (
 )
 left_block w l c b own digest size is (inr torn) read = absurd (true_is_false (sym (ap (λ z. is_ok z) read) ∙ torn.2))
 
-says_by : (p : Program) (h : Header) (xs : List Happening) → LawfulRun p h xs → (r : ResourceLine) (k : ℕ) (l : Landing) (own : Block)
+says_by : (p : Program) (h : Header) (xs : List Happening) → LawfulRun p h xs → (world_at p h xs).layout.paired ≡ false → (r : ResourceLine) (k : ℕ) (l : Landing) (own : Block)
     → record_in (world_at p h xs).layout l.bytes ≡ Ok (BlockIs own) → LeftAt (world_at p h xs) r k l → (l.whole ≡ true) × Says (left_by (world_at p h xs) l) own
-says_by p h xs run r k l own read (At_first first none) =
+says_by p h xs run plain r k l own read (At_first first none) =
     let w : World = world_at p h xs in (
       ap (λ (y : Landing). y.whole) first,
       subst (λ o. Says o own) (sym none)
-          (first_fresh p h xs run r.path (block_offset w.layout r.offset k) own (subst (λ (y : Landing). record_in w.layout y.bytes ≡ Ok (BlockIs own)) first read)),
+          (first_fresh p h xs run plain r.path (block_offset w.layout r.offset k) own (subst (λ (y : Landing). record_in w.layout y.bytes ≡ Ok (BlockIs own)) first read)),
     )
-says_by p h xs run r k l own read (By_call b is) =
+says_by p h xs run plain r k l own read (By_call b is) =
     let w : World = world_at p h xs in
     let o = owned p h xs run b.sent b.there in
     let record_is : IsRecord (BlockIs b.block) =
@@ -184,22 +186,23 @@ look_of : (p : Program) (h : Header) (xs : List Happening) → LawfulRun p h xs 
     → IsLook p h xs c.sent.machine c.machine c.daemon c.call
 look_of p h xs run r n bs c =
     let law = lawful_daemon p h xs run c.sent.machine c.machine c.daemon c.at c.has in
-    let s = owner_of c.daemon.setting c.daemon.trace c.call law c.told in
-    record { run = run; at = c.at; has = c.has; lawful = law; session = s.0; its = s.1; there = c.told; mine = s.2 }
+    let there : Contains (submitted c.daemon.trace) c.call =
+    subst (λ ms. Contains ms c.call) (sym c.told) (contains_right c.newer (c.call ∷ c.older) c.call (contains_first c.call c.older)) in
+    let s = owner_of c.daemon.setting c.daemon.trace c.call law there in
+    record { run = run; at = c.at; has = c.has; lawful = law; session = s.0; its = s.1; there = there; mine = s.2 }
 
-pub gives_block : (p : Program) (h : Header) (xs : List Happening) → LawfulRun p h xs → (r : ResourceLine) → Contains h.resources r → (n : ℕ) (bs : List (Option Block))
+pub gives_block : (p : Program) (h : Header) (xs : List Happening) → LawfulRun p h xs → (world_at p h xs).layout.paired ≡ false → (r : ResourceLine) → Contains h.resources r → (n : ℕ) (bs : List (Option Block))
     → (t : ReadBlocks (world_at p h xs) r n bs) → is_on (world_at p h xs).layout (spot_of_line r) t.sent.course.call ≡ true → (k : ℕ) → is_host (world_at p h xs) k ≡ true → (own : Block)
     → slice_get bs (k - 1) ≡ Some (Some own) → GivesBlock (world_at p h xs) (spot_of_line r) k t.sent.course own
-gives_block p h xs run r there n bs t on k host own taken =
+gives_block p h xs run plain r there n bs t on k host own taken =
     let w : World = world_at p h xs in
     let c : Course = t.sent.course in
     let q = t.call in
-    let ends : t.last ≡ c = sym t.ends in
-    let inside : Contains t.machine.calls c = subst (λ (y : Course). Contains t.machine.calls y) ends t.inside in
-    let call : q.call ≡ c.call = t.pair.call ∙ ap (λ (y : Course). y.call) ends in
+    let inside : Contains t.machine.calls c = t.inside in
+    let call : q.call ≡ c.call = t.pair.call in
     let j : ℕ = k - 1 in
     let on_id : j + 1 ≡ k = back_again k (host_range w k host).0 in
-    let l = looked p h xs t.sent.machine t.machine t.daemon q (look_of p h xs run r n bs t) bs t.given j own taken in
+    let l = looked p h xs plain t.sent.machine t.machine t.daemon q (look_of p h xs run r n bs t) bs (lease_among t.daemon.setting t.session (spot_of_line r) t.older) t.given j own taken in
     let same : l.read.course ≡ c =
     one_call t.machine.calls l.read.course c (each_distinct p h xs run t.sent.machine t.machine t.at) l.read.has inside
     (eq-eqb l.read.course.call.number c.call.number (ap (λ (y : Call). y.number) (sym l.read.is.call ∙ call))) in
@@ -221,7 +224,7 @@ gives_block p h xs run r there n bs t on k host own taken =
     ap (λ bs. sector_of w.layout bs l.sector) (l.read.sampled ∙ ap (λ (y : Course). y.sampled) same) ∙ i.bytes in
     let spells = block_in_is (j + 1) (record_in w.layout (sector_of w.layout l.bytes l.sector)) own l.spells in
     let read : record_in w.layout i.landing.bytes ≡ Ok (BlockIs own) = ap (λ bs. record_in w.layout bs) (sym bytes) ∙ spells.0 in
-    let b = says_by p h xs run r k i.landing own read (left_at p h xs run r there k host some.0.index i.landing seen) in
+    let b = says_by p h xs run plain r k i.landing own read (left_at p h xs run plain r there k host some.0.index i.landing seen) in
     record {
       landing = i.landing;
       shown = ap (λ n. option_and_then (λ (q : Sampling). numbered_landing (history_of w r.path (block_offset w.layout r.offset k)) q.index) (slice_get c.samples n)) (sym number)

@@ -1,31 +1,24 @@
 -- Each block names the host of its session: it comes from phase 1, or from a block of the session, or from one that a read showed at the
 -- host's place.
-use Rattle.sl_trace.proofs.PlainReads.{given_plain}
+use Rattle.sl_history.proofs.Giving.Named.{given_names}
 use Rattle.sl_run.specs.Lawful.{Orderly}
 use Rattle.sl_trace_law.proofs.Leases.ComingLaws.{blocks_come}
 use Rattle.sl_trace_law.proofs.Leases.NumberLaws.{number_is_place}
 use Rattle.sl_trace_law.specs.Leases.Ways.{BlockComes, Of_mode, Of_phase1, Of_phase2, Way, lease_among}
-use Rattle.sl_trace.specs.Leases.{block_of_host, block_submitted, block_written, spot_of_call}
-use Rattle.sl_history.specs.Resources.Once.{blocks_once as blocks_given}
+use Rattle.sl_trace.specs.Leases.{block_submitted, block_written, spot_of_call}
 use Rattle.sl_run_law.proofs.Place.Seats.{sized_in}
 use Rattle.sl_plain.proofs.Lists.{contains_cases, contains_first, contains_more, contains_none}
-use Rattle.sl_plain.proofs.Numbers.{back_again}
-use Rattle.sl_history.proofs.Resources.Above.{is_among, own_there}
-use Rattle.sl_history.proofs.Giving.Looked.{looked}
-use Rattle.sl_history.proofs.Resources.Looking.{IsLook}
-use Rattle.sl_history.proofs.Resources.Owning.{plain_at, block_told, layout_at}
-use Rattle.sl_history.proofs.Giving.First.{block_in_is}
+use Rattle.sl_history.proofs.Resources.Above.{is_among}
+use Rattle.sl_history.proofs.Resources.Owning.{block_told, layout_at}
 use Rattle.sl_history.proofs.Resources.Standing.{Standing}
-use Rattle.sl_history.proofs.Resources.Calls.{in_world}
-use Rattle.sl_history.proofs.Resources.Calls.{holder_is}
+use Rattle.sl_history.proofs.Resources.Calls.{holder_is, in_world}
 use Rattle.sl_history.specs.Resources.Histories.{is_host}
 use Rattle.sl_history.specs.Resources.Sending.{Sent, block_of_course, holder_of, sender_of}
 use Rattle.sl_run.specs.Runs.{Happening}
 use Rattle.sl_run.specs.Safety.{Found, LawfulRun, world_at}
-use Rattle.sl_run.specs.Worlds.{Daemon, Machine, Program, World}
+use Rattle.sl_run.specs.Worlds.{Program, World}
 use Rattle.sl_run.specs.declared.header.Header.{Header}
 use Rattle.sl_sector.specs.declared.sector.Block.{Block}
-use Rattle.sl_run_law.proofs.Front.Having.{contains_right}
 use Rattle.sl_trace.specs.Sessions.{session_numbered}
 use Rattle.sl_trace.specs.declared.session.Session.{Session}
 use Rattle.sl_trace.specs.Traces.{Setting, Submitted, Trace, submitted}
@@ -33,7 +26,7 @@ use Rattle.sl_words.proofs.CaseLaws.{none_some}
 use Rattle.sl_words.proofs.WordLaws.{and_true}
 use Rattle.std.proofs.Common.{ap, append_assoc, inl, inr, refl, subst, sym, ◌∙◌}
 use Rattle.std.proofs.lemmas.Bool.{leb-true}
-use Rattle.std.specs.Prelude.{false, Contains, List, None, Option, Some, nat_le, true, [], ℕ, ◌++◌, ◌+◌, ◌-◌, ◌∷◌, ◌≡◌, ◌≤◌}
+use Rattle.std.specs.Prelude.{Contains, List, None, Option, Some, [], nat_le, true, ◌++◌, ◌∷◌, ◌≡◌, ◌≤◌}
 
 -- ---- who wrote the block that was last submitted
 
@@ -51,11 +44,6 @@ written_in (m ∷ ms) b found = written_by m ms b (block_written m) refl found (
 
 -- ---- in one trace
 
--- What a read of the session gave at its host's place names the host.
-abbrev pub ReadsName : Setting → Trace → Session → Type 0
-ReadsName st es s = (q : Submitted) → Contains (submitted es) q → q.call.session ≡ s.number → (bs : List (Option Block)) → blocks_given st.layout q ≡ Some bs → (own : Block)
-    → block_of_host bs s.id ≡ Some own → own.host ≡ s.id
-
 abbrev Names : Session → List Submitted → Type 0
 Names s ms = (c : Submitted) → Contains ms c → c.call.session ≡ s.number → (b : Block) → block_written c ≡ Some b → b.host ≡ s.id
 
@@ -64,28 +52,27 @@ by_way s c own b (Of_phase1 at h) named = h.host
 by_way s c own b (Of_phase2 at h) named = h.host ∙ named
 by_way s c own b (Of_mode at h) named = h.host ∙ named
 
-own_names : (st : Setting) → st.layout.paired ≡ false → (es : Trace) (s : Session) → ReadsName st es s → (newer rest : List Submitted) (c : Submitted) → submitted es ≡ newer ++ c ∷ rest → (b : Block)
+own_names : (st : Setting) (es : Trace) (s : Session) → 1 ≤ s.id → (newer rest : List Submitted) (c : Submitted) → submitted es ≡ newer ++ c ∷ rest → (b : Block)
     → (k : BlockComes st s (spot_of_call st.layout c) rest c b) → Names s rest → (o : Option Block)
     → block_submitted (lease_among st s (spot_of_call st.layout c) rest) ≡ o → k.own.host ≡ s.id
-own_names st plain es s reads newer rest c is b k old None found =
+own_names st es s low newer rest c is b k old None found =
     let f = k.found found in
-    let among = is_among st s (spot_of_call st.layout c) rest f.read f.has in
-    reads f.read (subst (λ ms. Contains ms f.read) (sym is) (contains_right newer (c ∷ rest) f.read (contains_more c rest f.read among.has))) among.session f.blocks (given_plain st.layout plain f.read f.before f.blocks f.given) k.own f.block
-own_names st plain es s reads newer rest c is b k old (Some d) found =
+    given_names st.layout f.read f.before f.blocks f.given s.id low k.own f.block
+own_names st es s low newer rest c is b k old (Some d) found =
     let w = written_in (lease_among st s (spot_of_call st.layout c) rest) d found in
     let among = is_among st s (spot_of_call st.layout c) rest w.0 w.1 in
     ap (λ (x : Block). x.host) (sym (k.last d found)) ∙ old w.0 among.has among.session d w.2
 
-hosts_named : (st : Setting) → st.layout.paired ≡ false → (es : Trace) → Orderly st es → 1 ≤ st.layout.hosts → (s : Session) → session_numbered st es s.number ≡ Some s → ReadsName st es s
+hosts_named : (st : Setting) (es : Trace) → Orderly st es → 1 ≤ st.layout.hosts → (s : Session) → session_numbered st es s.number ≡ Some s → 1 ≤ s.id
     → (newer ms : List Submitted) → submitted es ≡ newer ++ ms → Names s ms
-hosts_named st plain es law some s known reads newer [] is c has mine b wrote = absurd (contains_none c has)
-hosts_named st plain es law some s known reads newer (x ∷ ms) is c has mine b wrote =
-    let old : Names s ms = hosts_named st plain es law some s known reads (newer ++ x ∷ []) ms (is ∙ sym (append_assoc newer (x ∷ []) ms)) in
+hosts_named st es law some s known low newer [] is c has mine b wrote = absurd (contains_none c has)
+hosts_named st es law some s known low newer (x ∷ ms) is c has mine b wrote =
+    let old : Names s ms = hosts_named st es law some s known low (newer ++ x ∷ []) ms (is ∙ sym (append_assoc newer (x ∷ []) ms)) in
     elim (contains_cases x ms c has) as (λ z. b.host ≡ s.id) [
       | inl here ↦
           let whole : submitted es ≡ newer ++ c ∷ ms = is ∙ ap (λ y. newer ++ y ∷ ms) here in
           let k = blocks_come st es law some newer ms c b whole wrote s (ap (λ n. session_numbered st es n) mine ∙ known) in
-          by_way s c k.own b k.way (own_names st plain es s reads newer ms c whole b k old (block_submitted (lease_among st s (spot_of_call st.layout c) ms)) refl)
+          by_way s c k.own b k.way (own_names st es s low newer ms c whole b k old (block_submitted (lease_among st s (spot_of_call st.layout c) ms)) refl)
       | inr more ↦ old c more mine b wrote
     ]
 
@@ -100,12 +87,6 @@ own_host w x s =
     (in_world w (sender_of x) s.machine s.daemon s.session s.at s.numbered
     (ap (λ c. session_numbered s.daemon.setting s.daemon.trace c.session) (sym s.told.pair.call) ∙ s.known)))
 
-found_host : (p : Program) (h : Header) (xs : List Happening) (m : ℕ) (a : Machine) (d : Daemon) (q : Submitted) → IsLook p h xs m a d q → (bs : List (Option Block))
-    → blocks_given d.setting.layout q ≡ Some bs → (id : ℕ) → 1 ≤ id → (own : Block) → block_of_host bs id ≡ Some own → own.host ≡ id
-found_host p h xs m a d q k bs given id low own block =
-    let l = looked p h xs m a d q k bs given (id - 1) own (own_there bs id own block) in
-    (block_in_is (id - 1 + 1) _ own l.spells).1 ∙ back_again id low
-
 -- Each block that was sent by a session of a host names it.
 pub block_host : (p : Program) (h : Header) (xs : List Happening) → LawfulRun p h xs → (x : Sent) (s : Standing (world_at p h xs) x)
     → is_host (world_at p h xs) s.session.id ≡ true → (b : Block) → block_of_course x.course ≡ Some b → b.host ≡ s.session.id
@@ -117,7 +98,5 @@ block_host p h xs run x s host b is =
     let known : session_numbered st es s.session.number ≡ Some s.session = ap (λ k. session_numbered st es k) n ∙ s.known in
     let some : 1 ≤ st.layout.hosts = subst (λ g. 1 ≤ g.hosts) (sym (layout_at p h xs run x s)) (sized_in p h xs run).hosts.0 in
     let low : 1 ≤ s.session.id = leb-true 1 s.session.id (and_true (nat_le 1 s.session.id) (nat_le s.session.id w.layout.hosts) host).0 in
-    let look : (q : Submitted) → Contains (submitted es) q → q.call.session ≡ s.session.number → IsLook p h xs x.machine s.machine s.daemon q =
-    λ q has mine. record { run = run; at = s.at; has = s.has; lawful = s.lawful; session = s.session; its = known; there = has; mine = mine } in
-    hosts_named st (plain_at p h xs run x s) es s.lawful some s.session known (λ q has mine bs given own block. found_host p h xs x.machine s.machine s.daemon q (look q has mine) bs given s.session.id low own block)
+    hosts_named st es s.lawful some s.session known low
     s.told.newer (s.told.one ∷ s.told.older) s.told.is s.told.one (contains_first s.told.one s.told.older) (sym n) b (block_told w x s b is)

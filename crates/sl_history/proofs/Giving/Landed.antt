@@ -1,126 +1,80 @@
--- Blocks land in the order in which they were submitted.
-use Rattle.sl_run_law.specs.Course.Stamping.{AnswersAgree, IsAnsweredAs, IsCourseOf}
+-- Blocks land in the order in which they were submitted, with pairs or without.
 use Rattle.sl_run_law.proofs.Front.Having.{placed_at}
 use Rattle.sl_run_law.proofs.Landing.Proven.{writes_land_once}
-use Rattle.sl_run.specs.Lawful.{Orderly}
-use Rattle.sl_trace_law.proofs.Leases.TurnLaws.{one_at_a_time}
-use Rattle.sl_trace_law.specs.Leases.Promises.{WasAnsweredBy}
 use Rattle.sl_trace.specs.Leases.{is_on}
-use Rattle.sl_run_law.proofs.Place.Daemons.{daemons_are_fine, stamp_order}
 use Rattle.sl_plain.proofs.Lists.{got_index}
 use Rattle.sl_plain.proofs.Numbers.{lt_then_le, trans_lt}
-use Rattle.sl_history.proofs.Resources.Calls.{IsTurn, IsWork, Newer, Older, Order, Same, block_works, found_of, order, owner_found, turn_of}
-use Rattle.sl_history.proofs.Giving.Shown.{IsBlockLanding, block_landing}
+use Rattle.sl_history.proofs.Resources.Calls.{IsWork, Name, found_of, name_of, one_sent, owner_found, text_same, there_sent, write_works}
 use Rattle.sl_history.proofs.Resources.Joining.{joined_then}
-use Rattle.sl_history.proofs.Resources.Calls.{Name, name_of, one_sent, writes_is}
 use Rattle.sl_history.specs.Resources.Histories.{is_host}
-use Rattle.sl_history.specs.Resources.Orders.{BlocksLandInOrder, LandedAt, LandsBefore}
+use Rattle.sl_history.specs.Resources.Orders.{BlocksLandInOrder, IsBlockPlace, LandedAt, LandsBefore}
 use Rattle.sl_history.specs.Resources.Promises.{spot_of_line}
 use Rattle.sl_history.specs.Resources.Sending.{Sent, all_sent, sender_of, step_of}
 use Rattle.sl_run.specs.Runs.{Happening}
-use Rattle.sl_run.specs.Safety.{LawfulRun, SessionId, world_at}
-use Rattle.sl_run.specs.Worlds.{Course, Daemon, Landing, Machine, Program, Stamp, World, daemon_numbered, daemons_on, machine_at}
+use Rattle.sl_run.specs.Safety.{LawfulRun, world_at}
+use Rattle.sl_run.specs.Worlds.{Course, Landing, Program, Stamp, World}
 use Rattle.sl_run.specs.declared.header.Header.{Header}
 use Rattle.sl_run.specs.declared.header.ResourceLine.{ResourceLine}
-use Rattle.sl_trace.specs.declared.session.Session.{Session}
-use Rattle.sl_trace.specs.Traces.{Submitted, submitted}
-use Rattle.sl_trace.specs.declared.effects.Call.{Call}
-use Rattle.sl_trace.specs.declared.effects.Spot.{Spot}
 use Rattle.sl_words.proofs.CaseLaws.{one_value, some_value}
 use Rattle.std.proofs.Common.{ap, arith, inl, inr, refl, subst, sym, ◌∙◌}
-use Rattle.std.proofs.lemmas.Bool.{cases_lt}
+use Rattle.std.proofs.lemmas.Bool.{and_from, cases_lt}
 use Rattle.std.proofs.lemmas.Option.{slice_get_within}
-use Rattle.std.specs.Prelude.{AllPairs, Contains, IsTrue, List, Some, slice_get, true, ℕ, ◌++◌, ◌<◌, ◌∷◌, ◌≡◌, ◌≤◌}
+use Rattle.std.specs.Prelude.{AllPairs, Bool, Contains, List, Some, false, slice_get, true, ℕ, ◌<◌, ◌≡◌, ◌≤◌}
+use Rattle.sl_history.proofs.Resources.Taking.{First, One, Second, Turns, turns_of}
+use Rattle.sl_area.specs.Places.{block_offset, block_place, in_area, pair_offset}
+use Rattle.sl_history.proofs.Pairs.Places.{pair_within}
+use Rattle.sl_run_law.proofs.Place.Seats.{sized_in}
+use Rattle.sl_sector.specs.Spelling.{is_first_turn}
+use Rattle.sl_run_law.proofs.Place.Proven.{resources_hold_leases}
+use Rattle.sl_run_law.specs.Place.Homes.{IsLeaseLanding}
+use Rattle.sl_run_law.proofs.Place.Sizes.{IsSized}
+use Rattle.sl_history.proofs.Giving.Shown.{place_within}
+use Rattle.sl_area.specs.Layouts.{Sizes}
+
+-- ---- places
+
+-- A place of a host's block is in the area.
+place_by : {sizes : Sizes} (w : World) (base k turn : ℕ) → IsSized sizes w.layout → is_host w k ≡ true → (b : Bool) → w.layout.paired ≡ b
+    → in_area w.layout base (block_place w.layout base k turn) ≡ true
+place_by w base k turn z host false plain =
+    ap (λ v. in_area w.layout base (elim v as (λ x. ℕ) [ false ↦ block_offset w.layout base k | true ↦ pair_offset w.layout base k (is_first_turn turn) ])) plain
+    ∙ place_within w base k z host
+place_by w base k turn z host true paired =
+    ap (λ v. in_area w.layout base (elim v as (λ x. ℕ) [ false ↦ block_offset w.layout base k | true ↦ pair_offset w.layout base k (is_first_turn turn) ])) paired
+    ∙ pair_within w base k (is_first_turn turn) z paired host
+
+pub block_place_within : {sizes : Sizes} (w : World) (base k offset : ℕ) → IsSized sizes w.layout → is_host w k ≡ true → IsBlockPlace w.layout base k offset
+    → in_area w.layout base offset ≡ true
+block_place_within w base k offset z host at =
+    subst (λ o. in_area w.layout base o ≡ true) (sym at.1) (place_by w base k at.0 z host w.layout.paired refl)
 
 -- ---- whose a landing is
 
--- What a call left is a block, which it sent.
-pub landed_block : (p : Program) (h : Header) (xs : List Happening) → LawfulRun p h xs → (r : ResourceLine) → Contains h.resources r → (k : ℕ) → is_host (world_at p h xs) k ≡ true
-    → (x : Sent) (l : Landing) → LandedAt (world_at p h xs) r k x l → (b : IsBlockLanding (world_at p h xs) r k l) × (b.sent ≡ x)
-landed_block p h xs run r there k host x l at =
-    let b = block_landing p h xs run r there k host l at.landed at.place.0 at.place.1 in
-    let same : name_of b.sent ≡ name_of x = some_value (name_of b.sent) (name_of x) (sym b.named ∙ at.writer) in
-    (b, one_sent p h xs run b.sent x b.there at.sent (ap (λ (n : Name). n.0) same) (ap (λ (n : Name). n.1) same))
-
 -- A call that landed at a host's place: when, and that it is work on the resource.
-record IsLanded (w : World) (r : ResourceLine) (x : Sent) (l : Landing) : Type 0 where
-  work : IsWork w r x
-  after : step_of x < l.step
-  before : (s : Stamp) → x.course.answered ≡ Some s → l.step < s.step
+pub record IsLanded (w : World) (r : ResourceLine) (x : Sent) (l : Landing) : Type 0 where
+  pub work : IsWork w r x
+  pub after : step_of x < l.step
+  pub before : (s : Stamp) → x.course.answered ≡ Some s → l.step < s.step
 
-is_landed_at : (p : Program) (h : Header) (xs : List Happening) → LawfulRun p h xs → (r : ResourceLine) → Contains h.resources r → (k : ℕ) → is_host (world_at p h xs) k ≡ true
+pub is_landed_at : (p : Program) (h : Header) (xs : List Happening) → LawfulRun p h xs → (r : ResourceLine) → Contains h.resources r → (k : ℕ) → is_host (world_at p h xs) k ≡ true
     → (x : Sent) (l : Landing) → LandedAt (world_at p h xs) r k x l → IsLanded (world_at p h xs) r x l
 is_landed_at p h xs run r there k host x l at =
     let w : World = world_at p h xs in
-    let f = landed_block p h xs run r there k host x l at in
-    let b = f.0 in
-    subst (λ y. IsLanded w r y l) f.1
+    let inside : in_area w.layout r.offset l.offset ≡ true = block_place_within w r.offset k l.offset (sized_in p h xs run) host at.place.1 in
+    let d : IsLeaseLanding w r l = resources_hold_leases p h xs run r there l at.landed at.place.0 inside in
+    let c : Course = d.written.wrote.course in
+    let y : Sent = record { machine = d.written.machine; course = c } in
+    let sent : Contains (all_sent w) y = there_sent w d.written.machine d.written.wrote.machine c d.written.wrote.at d.written.wrote.has in
+    let same : name_of y ≡ name_of x = some_value (name_of y) (name_of x) (ap (λ n. Some (d.written.machine, n)) d.written.wrote.number ∙ sym d.written.named ∙ at.writer) in
+    let on : is_on w.layout (spot_of_line r) c.call ≡ true =
+    and_from _ _ (text_same c.call.path r.path (d.written.wrote.place.0 ∙ at.place.0))
+    (subst (λ o. in_area w.layout r.offset o ≡ true) (sym d.written.wrote.place.1) inside) in
+    subst (λ z. IsLanded w r z l) (one_sent p h xs run y x sent at.sent (ap (λ (n : Name). n.0) same) (ap (λ (n : Name). n.1) same))
     (record {
-      work = block_works p h xs run r there b.sent b.there b.on (writes_is b.sent.course b.block b.writes);
-      after = b.after;
-      before = b.before;
+      work = write_works p h xs run r there y sent on d.written.wrote.record_written d.written.wrote.writes d.other;
+      after = d.written.wrote.after.0;
+      before = λ s answered. (d.written.wrote.before s answered).0;
     })
-
--- ---- of one session
-
--- One that was made by the answer of another was made after it landed.
-answered_first : (p : Program) (h : Header) (xs : List Happening) → LawfulRun p h xs → (m : ℕ) (a : Machine) (d : Daemon) → machine_at (world_at p h xs) m ≡ Some a
-    → Contains (daemons_on a) d → (c e : Course) (q k : Submitted) → IsCourseOf d c q → IsCourseOf d e k → WasAnsweredBy k q → (s : Stamp) × (e.answered ≡ Some s) × (s.step ≤ c.made.step)
-answered_first p h xs run m a d here has c e q k one two by =
-    let told : IsAnsweredAs d e by.answer = subst (λ o. AnswersAgree d e o) by.answered two.answers in (
-      told.stamp,
-      told.answered,
-      stamp_order (world_at p h xs).step d.stamps by.answer.at q.at told.stamp c.made (daemons_are_fine p h xs run m a d here has).stamps told.entry one.made by.by,
-    )
-
-turns : (d : Daemon) (a : Machine) (at : Spot) (c e : Course) (q k : Submitted) (s t : Session) → Orderly d.setting d.trace → IsTurn a d at c q s → IsTurn a d at e k t
-    → q.call.session ≡ k.call.session → (newer between older : List Submitted) → submitted d.trace ≡ newer ++ q ∷ (between ++ k ∷ older) → WasAnsweredBy k q
-turns d a at c e q k s t law one two same newer between older is =
-    one_at_a_time d.setting d.trace law newer between older q k is same one.work one.area two.work two.area
-    (subst (λ y. IsTrue (is_on d.setting.layout y k.call)) (sym one.spot) two.on)
-
--- The second of two calls of a session was made after the first was answered.
-data Turns (x y : Sent) : Type 0 where
-  One : x ≡ y → Turns x y
-  First : (s : Stamp) → x.course.answered ≡ Some s → s.step ≤ step_of y → Turns x y
-  Second : (s : Stamp) → y.course.answered ≡ Some s → s.step ≤ step_of x → Turns x y
-
-turns_by : (p : Program) (h : Header) (xs : List Happening) → LawfulRun p h xs → (x y : Sent) → Contains (all_sent (world_at p h xs)) x → Contains (all_sent (world_at p h xs)) y
-    → x.machine ≡ y.machine → (a : Machine) (d : Daemon) → machine_at (world_at p h xs) x.machine ≡ Some a → Contains (daemons_on a) d → Orderly d.setting d.trace → (at : Spot)
-    → (q k : Submitted) (s t : Session) → IsTurn a d at x.course q s → IsTurn a d at y.course k t → q.call.session ≡ k.call.session → Order (submitted d.trace) q k → Turns x y
-turns_by p h xs run x y this that machine a d here has law at q k s t one two same (Same is) =
-    One (one_sent p h xs run x y this that machine (ap (λ (c : Call). c.number) (sym one.is.call) ∙ ap (λ (m : Submitted). m.call.number) is ∙ ap (λ (c : Call). c.number) two.is.call))
-turns_by p h xs run x y this that machine a d here has law at q k s t one two same (Newer newer between older is) =
-    let r = answered_first p h xs run x.machine a d here has x.course y.course q k one.is two.is
-    (turns d a at x.course y.course q k s t law one two same newer between older is) in
-    Second r.0 r.1 r.2
-turns_by p h xs run x y this that machine a d here has law at q k s t one two same (Older newer between older is) =
-    let r = answered_first p h xs run x.machine a d here has y.course x.course k q two.is one.is
-    (turns d a at y.course x.course k q t s law two one (sym same) newer between older is) in
-    First r.0 r.1 r.2
-
--- Calls that work for one session on a resource take turns.
-turns_of : (p : Program) (h : Header) (xs : List Happening) → LawfulRun p h xs → (r : ResourceLine) → Contains h.resources r → (x y : Sent)
-    → Contains (all_sent (world_at p h xs)) x → Contains (all_sent (world_at p h xs)) y → IsWork (world_at p h xs) r x → IsWork (world_at p h xs) r y → sender_of x ≡ sender_of y → Turns x y
-turns_of p h xs run r there x y this that one two same =
-    let w : World = world_at p h xs in
-    let a : Machine = one.owned.there.machine in
-    let d : Daemon = one.owned.trace.daemon in
-    let b : Machine = two.owned.there.machine in
-    let e : Daemon = two.owned.trace.daemon in
-    let number : x.machine ≡ y.machine = ap (λ (i : SessionId). i.machine) same in
-    let machine : b ≡ a = one_value b a (machine_at w x.machine) (ap (machine_at w) number ∙ two.owned.there.at) one.owned.there.at in
-    let numbered : daemon_numbered a y.course.daemon ≡ Some e = ap (λ z. daemon_numbered z y.course.daemon) (sym machine) ∙ two.owned.trace.numbered in
-    let daemon : e ≡ d =
-    one_value e d (daemon_numbered a y.course.daemon) numbered (ap (daemon_numbered a) (ap (λ (i : SessionId). i.daemon) (sym same)) ∙ one.owned.trace.numbered) in
-    let turn : IsTurn a d (spot_of_line r) y.course two.owned.trace.submitted_as two.owned.session =
-    subst (λ z. IsTurn a z (spot_of_line r) y.course two.owned.trace.submitted_as two.owned.session) daemon
-    (subst (λ z. IsTurn z e (spot_of_line r) y.course two.owned.trace.submitted_as two.owned.session) machine (turn_of p h xs run r there y two)) in
-    let first = turn_of p h xs run r there x one in
-    let session : one.owned.trace.submitted_as.call.session ≡ two.owned.trace.submitted_as.call.session =
-    ap (λ (c : Call). c.session) one.owned.trace.is.call ∙ ap (λ (i : SessionId). i.number) same ∙ ap (λ (c : Call). c.session) (sym two.owned.trace.is.call) in
-    turns_by p h xs run x y this that number a d one.owned.there.at one.owned.trace.has one.owned.trace.lawful (spot_of_line r) one.owned.trace.submitted_as two.owned.trace.submitted_as
-    one.owned.session two.owned.session first turn session (order (submitted d.trace) one.owned.trace.submitted_as two.owned.trace.submitted_as first.inside turn.inside)
 
 -- ---- in order
 
@@ -130,7 +84,7 @@ pairs_at ls i j l m all at there same lt =
     (ap (λ (y : Landing). y.writer) (got_index ls i l l at) ∙ same ∙ ap (λ (y : Landing). y.writer) (sym (got_index ls j m l there)))
 
 -- Landings of one writer are one.
-one_writer : (ls : List Landing) (l m : Landing) → AllPairs (λ a b. a.writer ≡ b.writer → ⊥) ls → Contains ls l → Contains ls m → l.writer ≡ m.writer → l ≡ m
+pub one_writer : (ls : List Landing) (l m : Landing) → AllPairs (λ a b. a.writer ≡ b.writer → ⊥) ls → Contains ls l → Contains ls m → l.writer ≡ m.writer → l ≡ m
 one_writer ls l m all has too same =
     let i = placed_at ls l has in
     let j = placed_at ls m too in

@@ -1,13 +1,12 @@
--- What a read gave of a host: its sector, and where that stands.
+-- What a read gave of a host, where each host's block has one sector: that sector, and where it stands.
 use Rattle.sl_area.specs.Layouts.{Layout, record_in}
 use Rattle.sl_area.specs.Places.{area_sectors, block_offset, block_sectors, blocks_in, read_at, sector_of}
 use Rattle.sl_run.specs.LawfulArea.{IsAreaRead, IsBlockRead}
-use Rattle.sl_trace.specs.Leases.{is_area_read, spot_of_call}
-use Rattle.sl_history.specs.Resources.Once.{blocks_once as blocks_given}
+use Rattle.sl_trace.specs.Leases.{blocks_given, is_area_read, spot_of_call}
+use Rattle.sl_run_law.proofs.Place.Blocks.{behind_two}
+use Rattle.sl_run_law.proofs.Place.Made.{ranged}
 use Rattle.sl_run_law.proofs.Place.Proven.{promised}
-use Rattle.sl_run_law.proofs.Place.Seats.{plain_in}
 use Rattle.sl_run_law.proofs.Place.Reading.{IsRead, read_of}
-use Rattle.sl_plain.proofs.Numbers.{both_next, one_further, plus_zero, zero_less}
 use Rattle.sl_run.specs.Events.{sectors_of}
 use Rattle.sl_run.specs.Runs.{Happening}
 use Rattle.sl_run.specs.Safety.{world_at}
@@ -17,19 +16,11 @@ use Rattle.sl_sector.specs.Spelling.{block_in}
 use Rattle.sl_sector.specs.declared.sector.Block.{Block}
 use Rattle.sl_trace.specs.Traces.{Submitted}
 use Rattle.sl_trace.specs.declared.effects.Op.TheVariants.{ReadSectors}
-use Rattle.sl_words.proofs.CaseLaws.{none_some, some_value}
 use Rattle.std.proofs.Common.{ap, arith, subst, sym, ◌∙◌}
-use Rattle.std.proofs.lemmas.List.{drop-drop}
-use Rattle.std.specs.List.{range_with_len}
-use Rattle.std.specs.Prelude.{Bool, List, Option, Some, drop, false, true, if◌then◌else◌, map, slice_get, suc, take, zero, ℕ, ◌*◌, ◌+◌, ◌-◌, ◌<◌, ◌≡◌}
+use Rattle.std.specs.Prelude.{Bool, List, Option, Some, drop, false, if◌then◌else◌, slice_get, true, ℕ, ◌*◌, ◌+◌, ◌-◌, ◌<◌, ◌≡◌}
 use Rattle.sl_history.proofs.Resources.Looking.{By_area, By_phase, Gave, IsLook, area_place, given_blocks, look_layout, phase_place}
 
 -- ---- the blocks of a list of bytes
-
-ranged : {A : Type 0} (f : ℕ → A) (a n j : ℕ) (y : A) → slice_get (map f (range_with_len a n)) j ≡ Some y → (j < n) × (f (a + j) ≡ y)
-ranged f a zero j y h = absurd (none_some y h)
-ranged f a (suc n) zero y h = (zero_less n, ap f (sym (plus_zero a)) ∙ some_value (f a) y h)
-ranged f a (suc n) (suc j) y h = let r = ranged f (a + 1) n j y h in (both_next j n r.0, ap f (sym (one_further a j)) ∙ r.1)
 
 one_on : (j : ℕ) → 1 + j ≡ j + 1
 one_on j = omega arith
@@ -44,12 +35,6 @@ block_there g bytes j b h =
       r.0,
       ap (λ k. block_in (j + 1) (record_in g (sector_of g bytes k))) (sym (one_back j)) ∙ ap (λ k. block_in k (read_at g bytes (k - 1))) (sym (one_on j)) ∙ r.1,
     )
-
-two_on : (s j : ℕ) → 2 * s + j * s ≡ (j + 2) * s
-two_on s j = grind arith
-
-behind_two : (g : Layout) (bytes : List ℕ) (j : ℕ) → sector_of g (drop (2 * g.sector) bytes) j ≡ sector_of g bytes (j + 2)
-behind_two g bytes j = ap (λ l. take g.sector l) (drop-drop (j * g.sector) (2 * g.sector) bytes ∙ ap (λ n. drop n bytes) (two_on g.sector j))
 
 -- The blocks of all hosts have a sector each.
 sectors_plain : (g : Layout) → g.paired ≡ false → block_sectors g ≡ g.hosts
@@ -87,14 +72,14 @@ two_of j = omega arith
 two_more : (j n : ℕ) → j < n → j + 2 < n + 2
 two_more j n h = omega (arith, h)
 
-looked_by : (p : Program) (h : Header) (xs : List Happening) (m : ℕ) (a : Machine) (d : Daemon) (q : Submitted) (k : IsLook p h xs m a d q) (bs : List (Option Block))
+looked_by : (p : Program) (h : Header) (xs : List Happening) → (world_at p h xs).layout.paired ≡ false → (m : ℕ) (a : Machine) (d : Daemon) (q : Submitted) (k : IsLook p h xs m a d q) (bs : List (Option Block))
     → Gave (world_at p h xs).layout q bs → (j : ℕ) (b : Block) → slice_get bs j ≡ Some (Some b) → Looked p h xs m a d q j b
-looked_by p h xs m a d q k bs (By_area bytes told is same) j b there =
+looked_by p h xs plain m a d q k bs (By_area bytes told is same) j b there =
     let w : World = world_at p h xs in
     let layout = look_layout p h xs m a d q k in
     let right : IsAreaRead d.setting (spot_of_call d.setting.layout q) q = area_place p h xs m a d q k is in
     let op : q.call.op ≡ ReadSectors (w.layout.hosts + 2) =
-    right.1 ∙ ap (λ g. ReadSectors (area_sectors g)) layout ∙ ap (λ n. ReadSectors (n + 2)) (sectors_plain w.layout (plain_in p h xs k.run)) in
+    right.1 ∙ ap (λ g. ReadSectors (area_sectors g)) layout ∙ ap (λ n. ReadSectors (n + 2)) (sectors_plain w.layout plain) in
     let offset : q.call.offset ≡ (spot_of_call w.layout q).base = right.0 ∙ ap (λ g. (spot_of_call g q).base) layout in
     let t = block_there w.layout (drop (2 * w.layout.sector) bytes) j b (subst (λ l. slice_get l j ≡ Some (Some b)) same there) in
     record {
@@ -107,12 +92,12 @@ looked_by p h xs m a d q k bs (By_area bytes told is same) j b there =
       within = subst (λ o. j + 2 < sectors_of o) (sym op) (two_more j w.layout.hosts t.0);
       place = area_offset q.call.offset (spot_of_call w.layout q).base w.layout.sector j offset;
     }
-looked_by p h xs m a d q k bs (By_phase bytes told alone is same) j b there =
+looked_by p h xs plain m a d q k bs (By_phase bytes told alone is same) j b there =
     let w : World = world_at p h xs in
     let layout = look_layout p h xs m a d q k in
     let right : IsBlockRead d.setting (spot_of_call d.setting.layout q) q = phase_place p h xs m a d q k alone is in
     let op : q.call.op ≡ ReadSectors w.layout.hosts =
-    right.1 ∙ ap (λ g. ReadSectors (block_sectors g)) layout ∙ ap (λ n. ReadSectors n) (sectors_plain w.layout (plain_in p h xs k.run)) in
+    right.1 ∙ ap (λ g. ReadSectors (block_sectors g)) layout ∙ ap (λ n. ReadSectors n) (sectors_plain w.layout plain) in
     let offset : q.call.offset ≡ block_offset w.layout (spot_of_call w.layout q).base 1 = right.0 ∙ ap (λ g. block_offset g (spot_of_call g q).base 1) layout in
     let t = block_there w.layout bytes j b (subst (λ l. slice_get l j ≡ Some (Some b)) same there) in
     record {
@@ -126,8 +111,8 @@ looked_by p h xs m a d q k bs (By_phase bytes told alone is same) j b there =
       place = phase_offset q.call.offset (spot_of_call w.layout q).base w.layout.sector j offset;
     }
 
-pub looked : (p : Program) (h : Header) (xs : List Happening) (m : ℕ) (a : Machine) (d : Daemon) (q : Submitted) (k : IsLook p h xs m a d q) (bs : List (Option Block))
-    → blocks_given d.setting.layout q ≡ Some bs → (j : ℕ) (b : Block) → slice_get bs j ≡ Some (Some b) → Looked p h xs m a d q j b
-looked p h xs m a d q k bs given j b there =
-    looked_by p h xs m a d q k bs
-    (given_blocks (world_at p h xs).layout q bs (ap (λ g. blocks_given g q) (sym (look_layout p h xs m a d q k)) ∙ given)) j b there
+pub looked : (p : Program) (h : Header) (xs : List Happening) → (world_at p h xs).layout.paired ≡ false → (m : ℕ) (a : Machine) (d : Daemon) (q : Submitted) (k : IsLook p h xs m a d q) (bs : List (Option Block))
+    → (before : List Submitted) → blocks_given d.setting.layout q before ≡ Some bs → (j : ℕ) (b : Block) → slice_get bs j ≡ Some (Some b) → Looked p h xs m a d q j b
+looked p h xs plain m a d q k bs before given j b there =
+    looked_by p h xs plain m a d q k bs
+    (given_blocks (world_at p h xs).layout plain q before bs (ap (λ g. blocks_given g q before) (sym (look_layout p h xs m a d q k)) ∙ given)) j b there

@@ -1,4 +1,5 @@
--- A read that was submitted once a block was answered ok shows that block, or one that was submitted later.
+-- What a place has held comes in order; so a read that was submitted once a block was answered ok shows that block, or one that was submitted
+-- later, where each host's block has one sector.
 use Rattle.sl_area.specs.Layouts.{Layout}
 use Rattle.sl_area.specs.Places.{block_offset, in_area}
 use Rattle.sl_run_law.proofs.Front.Having.{contains_append, contains_left, placed_at}
@@ -13,14 +14,14 @@ use Rattle.sl_run_law.proofs.Place.Reading.{call_law}
 use Rattle.sl_plain.proofs.Lists.{contains_cases, contains_first, contains_more, contains_none, kept, kept_inside}
 use Rattle.sl_plain.proofs.Numbers.{equal_is_most, less_is_most}
 use Rattle.sl_history.proofs.Resources.Alone.{head_pairs, tail_pairs}
-use Rattle.sl_history.proofs.Resources.Calls.{block_sent, found_of, made_of, owned, owner_found, owner_layout, record_sent, spot_is, there_sent, write_is}
-use Rattle.sl_history.proofs.Giving.Landed.{in_order, landed_block}
-use Rattle.sl_history.proofs.Resources.Calls.{Name, holder_is, name_of, one_sent, writes_is}
-use Rattle.sl_history.proofs.Giving.Shown.{IsShownOf, in_history, sector_is, shown_of, stands_there}
-use Rattle.sl_history.specs.Resources.Histories.{is_host, sector_number, step_of_landing}
-use Rattle.sl_history.specs.Resources.Orders.{BlockSent, Follows, LandedAt, ReadsShowNewest}
+use Rattle.sl_history.proofs.Resources.Calls.{Name, found_of, holder_is, made_of, name_of, one_sent, owned, owner_found, owner_layout, plain_block_sent, record_sent, spot_is, there_sent, write_is, writes_is}
+use Rattle.sl_history.proofs.Giving.Landed.{in_order}
+use Rattle.sl_history.proofs.Giving.Shown.{IsShownOf, in_history, landed_block, plain_place, sector_is, shown_of, stands_there}
+use Rattle.sl_history.specs.Resources.Histories.{is_host}
+use Rattle.sl_history.specs.Resources.Sampled.{landing_shown, sector_number, step_of_landing}
+use Rattle.sl_history.specs.Resources.Orders.{BlockSent, Follows, LandedAt}
 use Rattle.sl_history.specs.Resources.Promises.{spot_of_line}
-use Rattle.sl_history.specs.Resources.Sending.{Sent, sender_of, step_of}
+use Rattle.sl_history.specs.Resources.Sending.{Sent, all_sent, reads_blocks, sender_of, step_of}
 use Rattle.sl_run.specs.Runs.{Happening}
 use Rattle.sl_run.specs.Safety.{LawfulRun, world_at}
 use Rattle.sl_run.specs.Worlds.{Course, Landing, Machine, Program, Stamp, World, first_landing, history_of, landed_at}
@@ -91,7 +92,7 @@ order_by l ls i j x y true false p q first at there lt rest =
 order_by l ls i j x y false false p q first at there lt rest = rest at there
 
 -- Of two numbers the lesser came first.
-numbers_order : (ls : List Landing) (i j : ℕ) (x y : Landing) → Descends ls → numbered_landing ls i ≡ Some x → numbered_landing ls j ≡ Some y → i < j → x.step < y.step
+pub numbers_order : (ls : List Landing) (i j : ℕ) (x y : Landing) → Descends ls → numbered_landing ls i ≡ Some x → numbered_landing ls j ≡ Some y → i < j → x.step < y.step
 numbers_order [] i j x y h at there lt = absurd (none_some x at)
 numbers_order (l ∷ ls) i j x y h at there lt =
     order_by l ls i j x y (i == length ls) (j == length ls) refl refl h.0 at there lt (λ p q. numbers_order ls i j x y h.1 p q lt)
@@ -101,13 +102,13 @@ number_by l ls x (inl here) = (length ls, newest_number l ls (length ls) refl �
 number_by l ls x (inr old) = (old.0, number_stays (l ∷ []) ls old.0 x old.1)
 
 -- Each has a number.
-has_number : (ls : List Landing) (x : Landing) → Contains ls x → (i : ℕ) × (numbered_landing ls i ≡ Some x)
+pub has_number : (ls : List Landing) (x : Landing) → Contains ls x → (i : ℕ) × (numbered_landing ls i ≡ Some x)
 has_number [] x there = absurd (contains_none x there)
 has_number (l ∷ ls) x there =
     number_by l ls x (elim (contains_cases l ls x there) as (λ z. (l ≡ x) ⊎ ((i : ℕ) × (numbered_landing ls i ≡ Some x))) [ inl here ↦ inl here | inr old ↦ inr (has_number ls x old) ])
 
 -- Each landing came at a step above 0.
-above_first : (p : Program) (h : Header) (xs : List Happening) → LawfulRun p h xs → (l : Landing) → Contains (world_at p h xs).landings l → 0 < l.step
+pub above_first : (p : Program) (h : Header) (xs : List Happening) → LawfulRun p h xs → (l : Landing) → Contains (world_at p h xs).landings l → 0 < l.step
 above_first p h xs run l there = let k = landings_are_written p h xs run l there in let a = k.wrote.after.0 in omega (arith, a)
 
 pub history_descends : (p : Program) (h : Header) (xs : List Happening) → LawfulRun p h xs → (path : List ℕ) (offset : ℕ) → Descends (history_of (world_at p h xs) path offset)
@@ -120,16 +121,16 @@ history_descends p h xs run path offset =
 -- ---- the landing of a block that was answered ok
 
 -- Where a block was sent to: its host's place.
-block_place : (p : Program) (h : Header) (xs : List Happening) → LawfulRun p h xs → (r : ResourceLine) → Contains h.resources r → (k : ℕ) (x : Sent) → BlockSent (world_at p h xs) r k x
+block_place : (p : Program) (h : Header) (xs : List Happening) → LawfulRun p h xs → (world_at p h xs).layout.paired ≡ false → (r : ResourceLine) → Contains h.resources r → (k : ℕ) (x : Sent) → BlockSent (world_at p h xs) r k x
     → x.course.call.offset ≡ block_offset (world_at p h xs).layout r.offset k
-block_place p h xs run r there k x b =
+block_place p h xs run plain r there k x b =
     let w : World = world_at p h xs in
     let o = owned p h xs run x b.sent in
     let st : Setting = o.trace.daemon.setting in
     let q : Submitted = o.trace.submitted_as in
     let d = made_of o in
     let law = call_law st o.trace.daemon.trace o.session q d o.trace.lawful o.its o.mine in
-    let block = block_sent p h xs run x b.sent b.block in
+    let block = plain_block_sent p h xs run plain x b.sent b.block in
     let write : LawfulAreaWrite st (front_of d) o.session (made_as d) (BlockIs block.0) =
     (law.0.area.0.writes d.index q.call o.session d.call law.1 (BlockIs block.0) (ap (λ (c : Call). record_of c.op) o.trace.is.call ∙ block.1) refl).1 in
     let layout : st.layout ≡ w.layout = owner_layout p h xs run x o in
@@ -145,11 +146,12 @@ block_place p h xs run r there k x b =
 pub record HasCome (w : World) (r : ResourceLine) (k : ℕ) (x : Sent) (s : Stamp) : Type 0 where
   pub landing : Landing
   pub at : LandedAt w r k x landing
+  pub offset : landing.offset ≡ block_offset w.layout r.offset k
   pub early : landing.step < s.step
 
-pub has_come : (p : Program) (h : Header) (xs : List Happening) → LawfulRun p h xs → (r : ResourceLine) → Contains h.resources r → (k : ℕ) (x : Sent) → BlockSent (world_at p h xs) r k x
+pub has_come : (p : Program) (h : Header) (xs : List Happening) → LawfulRun p h xs → (world_at p h xs).layout.paired ≡ false → (r : ResourceLine) → Contains h.resources r → (k : ℕ) (x : Sent) → BlockSent (world_at p h xs) r k x
     → x.course.done ≡ true → (s : Stamp) → x.course.answered ≡ Some s → HasCome (world_at p h xs) r k x s
-has_come p h xs run r there k x b done s told =
+has_come p h xs run plain r there k x b done s told =
     let w : World = world_at p h xs in
     let o = owned p h xs run x b.sent in
     let a : Machine = o.there.machine in
@@ -165,10 +167,11 @@ has_come p h xs run r there k x b done s told =
     let course : k'.wrote.course ≡ c = ap (λ (z : Sent). z.course) one in
     let path : l.0.path ≡ r.path =
     sym k'.wrote.place.0 ∙ ap (λ (z : Course). z.call.path) course ∙ same_text c.call.path r.path (and_true (bytes_eq c.call.path r.path) (in_area w.layout r.offset c.call.offset) b.on).0 in
-    let offset : l.0.offset ≡ block_offset w.layout r.offset k = sym k'.wrote.place.1 ∙ ap (λ (z : Course). z.call.offset) course ∙ block_place p h xs run r there k x b in
+    let offset : l.0.offset ≡ block_offset w.layout r.offset k = sym k'.wrote.place.1 ∙ ap (λ (z : Course). z.call.offset) course ∙ block_place p h xs run plain r there k x b in
     record {
       landing = l.0;
-      at = record { sent = b.sent; landed = l.1; place = (path, offset); writer = l.2 };
+      at = record { sent = b.sent; landed = l.1; place = (path, (0, offset ∙ sym (plain_place w.layout plain r.offset k 0))); writer = l.2 };
+      offset = offset;
       early = (k'.wrote.before s (ap (λ (z : Course). z.answered) course ∙ told)).0;
     }
 
@@ -181,40 +184,55 @@ above_zero : (a b : ℕ) → a < b → b ≡ 0 → ⊥
 above_zero a b h e = omega (arith, h, e)
 
 -- A landing after it is a block that was submitted later.
-later_shown : (p : Program) (h : Header) (xs : List Happening) → LawfulRun p h xs → (r : ResourceLine) → Contains h.resources r → (k : ℕ) → is_host (world_at p h xs) k ≡ true → (x : Sent)
+later_shown : (p : Program) (h : Header) (xs : List Happening) → LawfulRun p h xs → (world_at p h xs).layout.paired ≡ false → (r : ResourceLine) → Contains h.resources r → (k : ℕ) → is_host (world_at p h xs) k ≡ true → (x : Sent)
     → (l : Landing) → LandedAt (world_at p h xs) r k x l → (j : ℕ) (m : Landing)
     → numbered_landing (history_of (world_at p h xs) r.path (block_offset (world_at p h xs).layout r.offset k)) j ≡ Some m → l.step < m.step
     → ((y : Sent) → BlockSent (world_at p h xs) r k y → Follows (world_at p h xs) r k (sender_of x) (sender_of y)) → step_of x ≤ step_of_landing (world_at p h xs) m
-later_shown p h xs run r there k host x l at j m numbered lt follow =
+later_shown p h xs run plain r there k host x l at j m numbered lt follow =
     let w : World = world_at p h xs in
-    elim (stands_there p h xs run r there k host j m numbered) as (λ z. step_of x ≤ step_of_landing w m) [
+    elim (stands_there p h xs run plain r there k host j m numbered) as (λ z. step_of x ≤ step_of_landing w m) [
       | inl first ↦ absurd (above_zero l.step m.step lt (ap (λ (y : Landing). y.step) first))
       | inr b ↦
           let its = in_history w r.path (block_offset w.layout r.offset k) m (numbered_inside (history_of w r.path (block_offset w.layout r.offset k)) j m numbered) in
           let landed : Contains w.landings m =
           elim its.2 as (λ z. Contains w.landings m) [ inl there ↦ there | inr first ↦ absurd (above_zero l.step m.step lt (ap (λ (y : Landing). y.step) first)) ] in
           let less : step_of x < step_of b.sent =
-          in_order p h xs r run there k host x b.sent l m at (record { sent = b.there; landed = landed; place = (its.0, its.1); writer = b.named })
+          in_order p h xs r run there k host x b.sent l m at (record {
+            sent = b.there;
+            landed = landed;
+            place = (its.0, (0, its.1 ∙ sym (plain_place w.layout plain r.offset k 0)));
+            writer = b.named;
+          })
           (follow b.sent (record { sent = b.there; on = b.on; block = writes_is b.sent.course b.block b.writes; host = b.host })) lt in
           subst (λ n. step_of x ≤ n) (sym b.step) (less_is_most (step_of x) (step_of b.sent) less)
     ]
 
 -- It is shown itself.
-itself_shown : (p : Program) (h : Header) (xs : List Happening) → LawfulRun p h xs → (r : ResourceLine) → Contains h.resources r → (k : ℕ) → is_host (world_at p h xs) k ≡ true → (x : Sent)
+itself_shown : (p : Program) (h : Header) (xs : List Happening) → LawfulRun p h xs → (world_at p h xs).layout.paired ≡ false → (r : ResourceLine) → Contains h.resources r → (k : ℕ) → is_host (world_at p h xs) k ≡ true → (x : Sent)
     → (l : Landing) → LandedAt (world_at p h xs) r k x l → step_of_landing (world_at p h xs) l ≡ step_of x
-itself_shown p h xs run r there k host x l at = let f = landed_block p h xs run r there k host x l at in f.0.step ∙ ap step_of f.1
+itself_shown p h xs run plain r there k host x l at = let f = landed_block p h xs run plain r there k host x l at in f.0.step ∙ ap step_of f.1
 
-pub reads_show_newest : ReadsShowNewest
-reads_show_newest p h xs r run there k host x b done s told z read late m shows follow =
+-- A read of all blocks there.
+pub record ReadSent (w : World) (r : ResourceLine) (z : Sent) : Type 0 where
+  pub sent : Contains (all_sent w) z
+  pub on : is_on w.layout (spot_of_line r) z.course.call ≡ true
+  pub reads : reads_blocks z.course ≡ true
+
+-- A read that is submitted once a block was answered ok shows that block's landing or that of one that was submitted later.
+pub landing_is_newest : (p : Program) (h : Header) (xs : List Happening) → LawfulRun p h xs → (world_at p h xs).layout.paired ≡ false → (r : ResourceLine) → Contains h.resources r
+    → (k : ℕ) → is_host (world_at p h xs) k ≡ true → (x : Sent) → BlockSent (world_at p h xs) r k x → x.course.done ≡ true → (s : Stamp) → x.course.answered ≡ Some s
+    → (z : Sent) → ReadSent (world_at p h xs) r z → s.step ≤ step_of z → (m : Landing) → landing_shown (world_at p h xs) (spot_of_line r) z.course k ≡ Some m
+    → ((y : Sent) → BlockSent (world_at p h xs) r k y → Follows (world_at p h xs) r k (sender_of x) (sender_of y)) → step_of x ≤ step_of_landing (world_at p h xs) m
+landing_is_newest p h xs run plain r there k host x b done s told z read late m shows follow =
     let w : World = world_at p h xs in
     let o = owned p h xs run z read.sent in
     let g : List Landing = history_of w r.path (block_offset w.layout r.offset k) in
-    let c = has_come p h xs run r there k x b done s told in
+    let c = has_come p h xs run plain r there k x b done s told in
     let l : Landing = c.landing in
     let i : IsShownOf w r z k m = shown_of p h xs run r there z o read.on read.reads k host m shows in
     let inside : Contains (landed_at w r.path (block_offset w.layout r.offset k)) l =
     kept (λ (y : Landing). same_place y.path y.offset r.path (block_offset w.layout r.offset k)) w.landings l
-    (and_from _ _ (eq-eqb l.offset (block_offset w.layout r.offset k) c.at.place.1) ((bytes_eq-Decides l.path r.path).1 c.at.place.0)) c.at.landed in
+    (and_from _ _ (eq-eqb l.offset (block_offset w.layout r.offset k) c.offset) ((bytes_eq-Decides l.path r.path).1 c.at.place.0)) c.at.landed in
     let n = has_number g l (contains_left (landed_at w r.path (block_offset w.layout r.offset k)) (first_landing w r.path (block_offset w.layout r.offset k) ∷ []) l inside) in
     elim (cases_lt i.sampling.index n.0) as (λ q. step_of x ≤ step_of_landing w m) [
       | inl missed ↦
@@ -225,11 +243,11 @@ reads_show_newest p h xs r run there k host x b done s told z read late m shows 
           absurd (never_missed l.step s.step (step_of z) i.sampling.step c.early late i.sample.after.0 (i.sample.before_next n.0 l there_too missed).0)
       | inr seen ↦ elim (cases_lt n.0 i.sampling.index) as (λ q. step_of x ≤ step_of_landing w m) [
         | inl newer ↦
-            later_shown p h xs run r there k host x l c.at i.sampling.index m i.place
+            later_shown p h xs run plain r there k host x l c.at i.sampling.index m i.place
             (numbers_order g n.0 i.sampling.index l m (history_descends p h xs run r.path (block_offset w.layout r.offset k)) n.1 i.place newer) follow
         | inr older ↦
             let index : n.0 ≡ i.sampling.index = omega (arith, seen, older) in
             let same : l ≡ m = one_value l m (numbered_landing g i.sampling.index) (subst (λ q. numbered_landing g q ≡ Some l) index n.1) i.place in
-            equal_is_most (step_of x) (step_of_landing w m) (sym (itself_shown p h xs run r there k host x l c.at) ∙ ap (step_of_landing w) same)
+            equal_is_most (step_of x) (step_of_landing w m) (sym (itself_shown p h xs run plain r there k host x l c.at) ∙ ap (step_of_landing w) same)
       ]
     ]

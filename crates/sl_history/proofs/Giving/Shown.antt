@@ -1,24 +1,25 @@
--- What stands at a host's place of a resource's area, and what a read shows of it.
+-- What stands at a host's place of a resource's area, and what a read shows of it, where each host's block has one sector.
 use Rattle.sl_area.specs.Layouts.{Layout, Sizes}
-use Rattle.sl_area.specs.Places.{block_offset, in_area, leader_offset, request_offset, value_offset}
+use Rattle.sl_area.specs.Places.{block_offset, block_place, in_area, leader_offset, pair_offset, request_offset, value_offset}
 use Rattle.sl_run_law.proofs.Course.Distinct.{each_distinct}
 use Rattle.sl_run_law.proofs.Front.Having.{contains_append}
 use Rattle.sl_run_law.proofs.Landing.Listing.{one_call}
 use Rattle.sl_run_law.specs.Landing.Landings.{LeftBy}
-use Rattle.sl_run.specs.LawfulArea.{is_of_format, IsAreaRead, IsBlockRead, IsRightRead, record_offset}
+use Rattle.sl_run.specs.LawfulArea.{IsAreaRead, IsBlockRead, IsRightRead, is_of_format, record_offset}
 use Rattle.sl_trace.specs.Leases.{is_area_read, is_block_read, is_on, spot_of_call}
 use Rattle.sl_run_law.proofs.Place.Areas.{is_within}
 use Rattle.sl_run_law.proofs.Place.Checks.{behind, placed_in_world, same_block}
 use Rattle.sl_run_law.proofs.Place.Finding.{numbered_inside, place_is, same_text}
 use Rattle.sl_run_law.proofs.Place.Proven.{resources_hold_leases}
 use Rattle.sl_run_law.proofs.Place.Reading.{call_law}
-use Rattle.sl_run_law.proofs.Place.Seats.{plain_in, sized_in}
+use Rattle.sl_run_law.proofs.Place.Seats.{sized_in}
 use Rattle.sl_run_law.proofs.Place.Sizes.{IsSized, sector_has_bytes, slot_below}
 use Rattle.sl_run_law.specs.Place.Homes.{IsLeaseLanding}
 use Rattle.sl_plain.proofs.Lists.{contains_cases, contains_none, kept_inside}
 use Rattle.sl_plain.proofs.Numbers.{at_least_first, back_again}
-use Rattle.sl_history.proofs.Resources.Calls.{sent_format, IsOwned, holder_is, host_range, finds_it, made_of, name_is, named, owner_layout, spot_is, text_same, there_sent}
-use Rattle.sl_history.specs.Resources.Histories.{is_host, landing_shown, sector_number, step_of_landing}
+use Rattle.sl_history.proofs.Resources.Calls.{IsOwned, Name, finds_it, holder_is, host_range, made_of, name_is, name_of, named, one_sent, owner_layout, sent_format, spot_is, text_same, there_sent}
+use Rattle.sl_history.specs.Resources.Histories.{is_host}
+use Rattle.sl_history.specs.Resources.Sampled.{landing_shown, sector_number, step_of_landing}
 use Rattle.sl_history.specs.Resources.Promises.{spot_of_line}
 use Rattle.sl_history.specs.Resources.Sending.{Sent, all_sent, holder_of, reads_blocks, sender_of, step_of}
 use Rattle.sl_run.specs.Runs.{Happening}
@@ -50,6 +51,8 @@ use Rattle.std.proofs.Math.Nat.{mul-le-mul_left}
 use Rattle.std.proofs.lemmas.Bool.{and_from, eq-eqb, eqb-true}
 use Rattle.std.specs.Option.{option_map_or}
 use Rattle.std.specs.Prelude.{Bool, Contains, IsTrue, List, None, Option, Some, [], bytes_eq, false, find, if◌then◌else◌, option_and_then, slice_get, true, ℕ, ◌*◌, ◌+◌, ◌-◌, ◌<◌, ◌==◌, ◌∷◌, ◌≡◌, ◌≤◌, ◌⊎◌}
+use Rattle.sl_sector.specs.Spelling.{is_first_turn}
+use Rattle.sl_history.specs.Resources.Orders.{LandedAt}
 
 -- ---- a host's place
 
@@ -125,7 +128,7 @@ pub record IsBlockLanding (w : World) (r : ResourceLine) (k : ℕ) (l : Landing)
 abbrev found_step : Option Course → ℕ
 found_step o = option_map_or (λ c. c.made.step) o 0
 
-step_is : (w : World) (l : Landing) (m n : ℕ) (a : Machine) (c : Course) → l.writer ≡ Some (m, n) → machine_at w m ≡ Some a
+pub step_is : (w : World) (l : Landing) (m n : ℕ) (a : Machine) (c : Course) → l.writer ≡ Some (m, n) → machine_at w m ≡ Some a
     → find (λ (d : Course). d.call.number == n) a.calls ≡ Some c → step_of_landing w l ≡ c.made.step
 step_is w l m n a c named at found =
     ap (λ (o : Option (ℕ × ℕ)). elim o as (λ z. ℕ) [
@@ -134,7 +137,7 @@ step_is w l m n a c named at found =
     ]) named
     ∙ ap (λ (o : Option Machine). found_step (option_and_then (λ (b : Machine). find (λ (d : Course). d.call.number == n) b.calls) o)) at ∙ ap found_step found
 
-sender_is : (w : World) (r : ResourceLine) (l : Landing) (d : IsLeaseLanding w r l)
+pub sender_is : (w : World) (r : ResourceLine) (l : Landing) (d : IsLeaseLanding w r l)
     → session_of_world w (named d.written.machine d.written.wrote.course.daemon d.written.wrote.course.call.session) ≡ Some d.written.found
 sender_is w r l d =
     let i : SessionId = d.written.session in
@@ -145,15 +148,15 @@ sender_is w r l d =
     (name_is d.written.machine c.daemon c.call.session i.machine i.daemon i.number (sym its.1) (eqb-true c.daemon i.daemon both.0) (eqb-true c.call.session i.number both.1))
     ∙ its.0
 
-pub block_landing : (p : Program) (h : Header) (xs : List Happening) → LawfulRun p h xs → (r : ResourceLine) → Contains h.resources r → (k : ℕ) → is_host (world_at p h xs) k ≡ true
+pub block_landing : (p : Program) (h : Header) (xs : List Happening) → LawfulRun p h xs → (world_at p h xs).layout.paired ≡ false → (r : ResourceLine) → Contains h.resources r → (k : ℕ) → is_host (world_at p h xs) k ≡ true
     → (l : Landing) → Contains (world_at p h xs).landings l → l.path ≡ r.path → l.offset ≡ block_offset (world_at p h xs).layout r.offset k → IsBlockLanding (world_at p h xs) r k l
-block_landing p h xs run r there k host l landed path offset =
+block_landing p h xs run plain r there k host l landed path offset =
     let w : World = world_at p h xs in
     let z = sized_in p h xs run in
     let d : IsLeaseLanding w r l =
     resources_hold_leases p h xs run r there l landed path (subst (λ o. IsTrue (in_area w.layout r.offset o)) (sym offset) (place_within w r.offset k z host)) in
     let b : IsBlockOf d.written.found.session k d.written.wrote.record_written =
-    only_blocks (setting_in d.written.found) w d.written.found.session (spot_of_line r) k d.written.wrote.record_written l.offset (plain_in p h xs run)
+    only_blocks (setting_in d.written.found) w d.written.found.session (spot_of_line r) k d.written.wrote.record_written l.offset plain
     (sent_format p h xs run (record { machine = d.written.machine; course = d.written.wrote.course })
     (there_sent w d.written.machine d.written.wrote.machine d.written.wrote.course d.written.wrote.at d.written.wrote.has) d.written.wrote.record_written d.written.wrote.writes d.other)
     (placed_in_world p h xs run r l d) z host d.placed offset in
@@ -178,6 +181,19 @@ block_landing p h xs run r there k host l landed path offset =
       before = λ s answered. (wrote.before s answered).0;
     }
 
+-- Where each host's block has one sector, that is the host's place.
+pub plain_place : (g : Layout) → g.paired ≡ false → (base k turn : ℕ) → block_place g base k turn ≡ block_offset g base k
+plain_place g plain base k turn = ap (λ b. elim b as (λ x. ℕ) [ false ↦ block_offset g base k | true ↦ pair_offset g base k (is_first_turn turn) ]) plain
+
+-- A call that landed there sent a block.
+pub landed_block : (p : Program) (h : Header) (xs : List Happening) → LawfulRun p h xs → (world_at p h xs).layout.paired ≡ false → (r : ResourceLine) → Contains h.resources r → (k : ℕ)
+    → is_host (world_at p h xs) k ≡ true → (x : Sent) (l : Landing) → LandedAt (world_at p h xs) r k x l → (b : IsBlockLanding (world_at p h xs) r k l) × (b.sent ≡ x)
+landed_block p h xs run plain r there k host x l at =
+    let w : World = world_at p h xs in
+    let b = block_landing p h xs run plain r there k host l at.landed at.place.0 (at.place.1.1 ∙ plain_place w.layout plain r.offset k at.place.1.0) in
+    let same : name_of b.sent ≡ name_of x = some_value (name_of b.sent) (name_of x) (sym b.named ∙ at.writer) in
+    (b, one_sent p h xs run b.sent x b.there at.sent (ap (λ (n : Name). n.0) same) (ap (λ (n : Name). n.1) same))
+
 -- ---- what a place has held
 
 -- What ever stood at a place landed there, or stood there at first.
@@ -197,15 +213,15 @@ in_history w path offset x there = by (contains_append (landed_at w path offset)
       ]
 
 -- What stands at a host's place was there at first, or is a block that landed.
-pub stands_there : (p : Program) (h : Header) (xs : List Happening) → LawfulRun p h xs → (r : ResourceLine) → Contains h.resources r → (k : ℕ) → is_host (world_at p h xs) k ≡ true
+pub stands_there : (p : Program) (h : Header) (xs : List Happening) → LawfulRun p h xs → (world_at p h xs).layout.paired ≡ false → (r : ResourceLine) → Contains h.resources r → (k : ℕ) → is_host (world_at p h xs) k ≡ true
     → (i : ℕ) (l : Landing) → numbered_landing (history_of (world_at p h xs) r.path (block_offset (world_at p h xs).layout r.offset k)) i ≡ Some l
     → (l ≡ first_landing (world_at p h xs) r.path (block_offset (world_at p h xs).layout r.offset k)) ⊎ IsBlockLanding (world_at p h xs) r k l
-stands_there p h xs run r there k host i l at =
+stands_there p h xs run plain r there k host i l at =
     let w : World = world_at p h xs in
     let place : ℕ = block_offset w.layout r.offset k in
     let its = in_history w r.path place l (numbered_inside (history_of w r.path place) i l at) in
     elim its.2 as (λ z. (l ≡ first_landing w r.path place) ⊎ IsBlockLanding w r k l) [
-      | inl landed ↦ inr (block_landing p h xs run r there k host l landed its.0 its.1)
+      | inl landed ↦ inr (block_landing p h xs run plain r there k host l landed its.0 its.1)
       | inr first ↦ inl first
     ]
 

@@ -1,4 +1,5 @@
--- Once a block was answered ok, its host's block spells it, or one that was submitted later, or nothing.
+-- Once a block was answered ok, its host's block spells it, or one that was submitted later, or nothing: where each host's block has one
+-- sector.
 --
 -- What stands at a place is the newest landing there; a block that was answered ok has landed; and a host's blocks land in the order in
 -- which they were submitted, where the sessions that sent them follow one another. It is so at each front that the answer has come
@@ -18,15 +19,14 @@ use Rattle.sl_run_law.specs.Landing.Landings.{HasWriter}
 use Rattle.sl_trace.specs.Leases.{block_of_record}
 use Rattle.sl_run_law.proofs.Place.Proven.{promised}
 use Rattle.sl_run_law.proofs.Place.Reading.{layout_is, reads_back}
-use Rattle.sl_run_law.proofs.Place.Seats.{plain_in, sized_in}
+use Rattle.sl_run_law.proofs.Place.Seats.{sized_in}
 use Rattle.sl_run_law.proofs.Place.Sizes.{sector_fits}
 use Rattle.sl_plain.proofs.Lists.{contains_cases, contains_first, kept}
-use Rattle.sl_history.proofs.Resources.Calls.{there_sent}
+use Rattle.sl_history.proofs.Resources.Calls.{Name, name_of, one_sent, there_sent, writes_is}
 use Rattle.sl_history.proofs.Giving.Landed.{in_order}
-use Rattle.sl_history.proofs.Resources.Calls.{Name, name_of, one_sent, writes_is}
 use Rattle.sl_history.proofs.Giving.Newest.{Descends, HasCome, has_come, history_descends}
 use Rattle.sl_history.proofs.Giving.First.{block_in_is}
-use Rattle.sl_history.proofs.Giving.Shown.{IsBlockLanding, block_landing, in_history}
+use Rattle.sl_history.proofs.Giving.Shown.{IsBlockLanding, block_landing, in_history, plain_place}
 use Rattle.sl_history.specs.Resources.Histories.{is_host}
 use Rattle.sl_history.specs.Resources.Orders.{BlockSent, LandedAt}
 use Rattle.sl_history.specs.Resources.Promises.{spot_of_line}
@@ -44,22 +44,22 @@ use Rattle.sl_sector.specs.declared.sector.Rec.{Rec}
 use Rattle.sl_trace.specs.Traces.{same_place}
 use Rattle.sl_words.proofs.CaseLaws.{some_value}
 use Rattle.std.proofs.Common.{ap, arith, inl, inr, subst, sym, ◌∙◌}
-use Rattle.std.specs.Prelude.{option_map, Option, false, Contains, List, Ok, Some, [], option_and_then, true, ℕ, ◌++◌, ◌<◌, ◌∷◌, ◌≡◌, ◌≤◌, ◌⊎◌}
+use Rattle.std.specs.Prelude.{Contains, List, Ok, Option, Some, [], false, option_and_then, option_map, true, ℕ, ◌++◌, ◌<◌, ◌∷◌, ◌≡◌, ◌≤◌, ◌⊎◌}
 
 -- ---- fronts
 
-layout_kept : (p : Program) (h : Header) (now xs : List Happening) → (world_at p h now).layout ≡ (world_at p h xs).layout
+pub layout_kept : (p : Program) (h : Header) (now xs : List Happening) → (world_at p h now).layout ≡ (world_at p h xs).layout
 layout_kept p h now xs = layout_is p h now ∙ sym (layout_is p h xs)
 
 -- What has landed at a front has landed later.
-landed_later : (p : Program) (h : Header) (now rest : List Happening) (l : Landing) → Contains (world_at p h now).landings l → Contains (world_at p h (now ++ rest)).landings l
+pub landed_later : (p : Program) (h : Header) (now rest : List Happening) (l : Landing) → Contains (world_at p h now).landings l → Contains (world_at p h (now ++ rest)).landings l
 landed_later p h now rest l there =
     let grown = (run_goes (world_at p h now) rest).landings in
     subst (λ (w : World). Contains w.landings l) (sym (run_after (world_with p h) now rest))
     (subst (λ (ls : List Landing). Contains ls l) (sym grown.same) (contains_right grown.newer (world_at p h now).landings l there))
 
 -- What has landed before a front's step has landed at it.
-landed_sooner : (p : Program) (h : Header) (now rest : List Happening) (l : Landing) → Contains (world_at p h (now ++ rest)).landings l → l.step < (world_at p h now).step
+pub landed_sooner : (p : Program) (h : Header) (now rest : List Happening) (l : Landing) → Contains (world_at p h (now ++ rest)).landings l → l.step < (world_at p h now).step
     → Contains (world_at p h now).landings l
 landed_sooner p h now rest l there early =
     elim (landed_since p h now rest l there) [ inl was ↦ was | inr late ↦ absurd (omega (arith, early, late)) ]
@@ -111,12 +111,12 @@ record IsSentAs (w : World) (r : ResourceLine) (k : ℕ) (l : Landing) (b : Bloc
   landed : LandedAt w r k sent l
 
 -- What a landing spells its call sent.
-sent_as : (p : Program) (h : Header) (xs : List Happening) → LawfulRun p h xs → (r : ResourceLine) → Contains h.resources r → (k : ℕ) → is_host (world_at p h xs) k ≡ true
+sent_as : (p : Program) (h : Header) (xs : List Happening) → LawfulRun p h xs → (world_at p h xs).layout.paired ≡ false → (r : ResourceLine) → Contains h.resources r → (k : ℕ) → is_host (world_at p h xs) k ≡ true
     → (l : Landing) → Contains (world_at p h xs).landings l → l.path ≡ r.path → l.offset ≡ block_offset (world_at p h xs).layout r.offset k → (b : Block)
     → record_in (world_at p h xs).layout l.bytes ≡ Ok (BlockIs b) → IsSentAs (world_at p h xs) r k l b
-sent_as p h xs run r there k host l landed path offset b spells =
+sent_as p h xs run plain r there k host l landed path offset b spells =
     let w : World = world_at p h xs in
-    let d : IsBlockLanding w r k l = block_landing p h xs run r there k host l landed path offset in
+    let d : IsBlockLanding w r k l = block_landing p h xs run plain r there k host l landed path offset in
     let f : HasWriter w l = landings_are_written p h xs run l landed in
     let back : f.wrote.record_written ≡ BlockIs b =
     reads_back promised p h xs run (sector_fits w.layout (sized_in p h xs run)) l f.machine f.call f.wrote (BlockIs b) spells in
@@ -130,7 +130,7 @@ sent_as p h xs run r there k host l landed path offset b spells =
       sent = d.sent;
       block = record { sent = d.there; on = d.on; block = writes_is d.sent.course d.block d.writes; host = d.host };
       says = subst (λ (z : Sent). block_of_course z.course ≡ Some b) one says;
-      landed = record { sent = d.there; landed = landed; place = (path, offset); writer = d.named };
+      landed = record { sent = d.there; landed = landed; place = (path, (0, offset ∙ sym (plain_place w.layout plain r.offset k 0))); writer = d.named };
     }
 
 -- ---- a host's block
@@ -144,11 +144,11 @@ there_plain w plain at k =
       | true ↦ option_map (λ (q : PairBlock). q.block) (later_pair (pair_there w at k true) (pair_there w at k false))
     ]) plain
 
-pub block_stands : (p : Program) (h : Header) (now rest : List Happening) → LawfulRun p h (now ++ rest) → (r : ResourceLine) → Contains h.resources r → (k : ℕ)
+pub block_stands : (p : Program) (h : Header) (now rest : List Happening) → LawfulRun p h (now ++ rest) → (world_at p h (now ++ rest)).layout.paired ≡ false → (r : ResourceLine) → Contains h.resources r → (k : ℕ)
     → is_host (world_at p h (now ++ rest)) k ≡ true → BlocksFollow (world_at p h (now ++ rest)) r k → (x : Sent) → BlockSent (world_at p h (now ++ rest)) r k x
     → x.course.done ≡ true → (s : Stamp) → x.course.answered ≡ Some s → s.step ≤ (world_at p h now).step → (b : Block)
     → block_there (world_at p h now) (spot_of_line r) k ≡ Some b → SentSince (world_at p h (now ++ rest)) r k b x
-block_stands p h now rest run r there k host follow x block done s told early b spells =
+block_stands p h now rest run plain r there k host follow x block done s told early b spells =
     let u : World = world_at p h now in
     let w : World = world_at p h (now ++ rest) in
     let front = fronts_are_lawful p h now rest run in
@@ -156,14 +156,14 @@ block_stands p h now rest run r there k host follow x block done s told early b 
     let place : ℕ = block_offset u.layout r.offset k in
     let at : place ≡ block_offset w.layout r.offset k = ap (λ (g : Layout). block_offset g r.offset k) layout in
     let t = newest_stands u r.path place in
-    let c : HasCome w r k x s = has_come p h (now ++ rest) run r there k x block done s told in
+    let c : HasCome w r k x s = has_come p h (now ++ rest) run plain r there k x block done s told in
     let come = c.early in
     let was : Contains u.landings c.landing = landed_sooner p h now rest c.landing c.at.landed (omega (arith, come, early)) in
-    let n = newest_is p h now front r.path place c.landing t.top t.below t.whole was c.at.place.0 (c.at.place.1 ∙ sym at) in
+    let n = newest_is p h now front r.path place c.landing t.top t.below t.whole was c.at.place.0 (c.offset ∙ sym at) in
     let is : record_in u.layout t.top.bytes ≡ Ok (BlockIs b) =
-    subst (λ (bs : List ℕ). record_in u.layout bs ≡ Ok (BlockIs b)) t.holds (block_in_is k (record_in u.layout (content u r.path place)) b (sym (there_plain u (plain_in p h now front) (spot_of_line r) k) ∙ spells)).0 in
+    subst (λ (bs : List ℕ). record_in u.layout bs ≡ Ok (BlockIs b)) t.holds (block_in_is k (record_in u.layout (content u r.path place)) b (sym (there_plain u (ap (λ (g : Layout). g.paired) layout ∙ plain) (spot_of_line r) k) ∙ spells)).0 in
     let y : IsSentAs w r k t.top b =
-    sent_as p h (now ++ rest) run r there k host t.top (landed_later p h now rest t.top n.landed) n.place.0 (n.place.1 ∙ at) b
+    sent_as p h (now ++ rest) run plain r there k host t.top (landed_later p h now rest t.top n.landed) n.place.0 (n.place.1 ∙ at) b
     (subst (λ (g : Layout). record_in g t.top.bytes ≡ Ok (BlockIs b)) layout is) in
     record {
       sent = y.sent;
@@ -183,9 +183,9 @@ block_stands p h now rest run r there k host follow x block done s told early b 
       ];
     }
 
-pub stands_since : (p : Program) (h : Header) (xs : List Happening) → LawfulRun p h xs → (r : ResourceLine) → Contains h.resources r → (now rest : List Happening) → xs ≡ now ++ rest
+pub stands_since : (p : Program) (h : Header) (xs : List Happening) → LawfulRun p h xs → (world_at p h xs).layout.paired ≡ false → (r : ResourceLine) → Contains h.resources r → (now rest : List Happening) → xs ≡ now ++ rest
     → StandsSince p h xs r now
-stands_since p h xs run r there now rest whole =
+stands_since p h xs run plain r there now rest whole =
     subst (λ ys. StandsSince p h ys r now) (sym whole)
     (λ k host follow x block done s told early b spells.
-    block_stands p h now rest (subst (λ ys. LawfulRun p h ys) whole run) r there k host follow x block done s told early b spells)
+    block_stands p h now rest (subst (λ ys. LawfulRun p h ys) whole run) (subst (λ ys. (world_at p h ys).layout.paired ≡ false) whole plain) r there k host follow x block done s told early b spells)

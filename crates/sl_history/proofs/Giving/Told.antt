@@ -1,32 +1,34 @@
--- A read of blocks in its trace: its bytes are what it sampled, and of each host it gave what the host's sector spells.
+-- A read of blocks in its trace: its bytes are what it sampled; where each host's block has one sector it gave of each host what that spells.
 use Rattle.sl_area.specs.Layouts.{Layout, record_in}
-use Rattle.sl_area.specs.Places.{blocks_in, read_at as sector_read, sector_of}
+use Rattle.sl_area.specs.Places.{BlocksRead, blocks_in, blocks_of, pair_merged, pairs_of, read_at as sector_read, sector_of}
 use Rattle.sl_run_law.proofs.Course.Distinct.{nothing_more}
 use Rattle.sl_run_law.specs.Course.Stamping.{AnswersAgree, IsAnsweredAs, IsCourseOf}
 use Rattle.sl_plain.proofs.Numbers.{both_next, one_again, one_further, zero_less}
 use Rattle.sl_history.proofs.Resources.Looking.{By_area, By_phase, Gave, given_blocks, given_told}
-use Rattle.sl_history.specs.Resources.Histories.{sector_number}
+use Rattle.sl_history.specs.Resources.Sampled.{sector_number}
 use Rattle.sl_history.specs.Resources.Sending.{reads_blocks}
 use Rattle.sl_run.specs.Worlds.{Course, Daemon}
 use Rattle.sl_sector.specs.Spelling.{block_in}
 use Rattle.sl_sector.specs.declared.sector.Block.{Block}
-use Rattle.sl_trace.specs.Leases.{is_area_read, is_block_read}
-use Rattle.sl_history.specs.Resources.Once.{blocks_once as blocks_given}
+use Rattle.sl_trace.specs.Leases.{blocks_given, is_area_read, is_block_read, read_given}
 use Rattle.sl_trace.specs.Traces.{Answered, Submitted, gave, is_ok_answer, new_call}
 use Rattle.sl_trace.specs.declared.effects.Call.{Call}
 use Rattle.sl_words.proofs.CaseLaws.{none_some, some_value}
-use Rattle.std.proofs.Common.{ap, arith, subst, sym, ◌∙◌}
+use Rattle.std.proofs.Common.{ap, arith, refl, subst, sym, ◌∙◌}
 use Rattle.std.proofs.lemmas.List.{drop-drop}
 use Rattle.std.specs.List.{range_with_len}
-use Rattle.std.specs.Prelude.{Bool, List, Option, Some, drop, if◌then◌else◌, map, slice_get, suc, take, true, zero, ℕ, ◌*◌, ◌+◌, ◌-◌, ◌<◌, ◌≡◌, ◌≤◌}
+use Rattle.std.specs.Prelude.{Bool, List, Option, Some, drop, false, if◌then◌else◌, map, option_map, slice_get, suc, take, true, zero, ℕ, ◌*◌, ◌+◌, ◌-◌, ◌<◌, ◌≡◌, ◌≤◌}
+use Rattle.sl_sector.specs.declared.sector.PairBlock.{PairBlock}
+use Rattle.sl_history.proofs.Giving.Named.{blocks_paired, mapped_at}
+use Rattle.sl_plain.proofs.Options.{mapped_value}
+use Rattle.sl_trace.proofs.PlainReads.{blocks_plain}
 
 -- ---- its answer
 
 -- A read that gave blocks, with its answer.
-pub record ReadTold (d : Daemon) (c : Course) (q : Submitted) (bs : List (Option Block)) : Type 0 where
+pub record ReadTold (d : Daemon) (c : Course) (q : Submitted) : Type 0 where
   pub bytes : List ℕ
   pub gave_is : gave q ≡ Some bytes
-  pub by : Gave d.setting.layout q bs
   pub answer : Answered
   pub its : q.answer ≡ Some answer
   pub answered : IsAnsweredAs d c answer
@@ -34,14 +36,14 @@ pub record ReadTold (d : Daemon) (c : Course) (q : Submitted) (bs : List (Option
   pub sampled : bytes ≡ c.sampled
   pub reads : reads_blocks c ≡ true
 
-pub read_told : (d : Daemon) (c : Course) (q : Submitted) (bs : List (Option Block)) → IsCourseOf d c q → blocks_given d.setting.layout q ≡ Some bs → ReadTold d c q bs
-read_told d c q bs pair given =
-    let a = given_told d.setting.layout q bs given in
+pub read_told : (d : Daemon) (c : Course) (q : Submitted) (before : List Submitted) (bs : List (Option Block)) → IsCourseOf d c q
+    → blocks_given d.setting.layout q before ≡ Some bs → ReadTold d c q
+read_told d c q before bs pair given =
+    let a = given_told d.setting.layout q before bs given in
     let heard : IsAnsweredAs d c a.answered = subst (λ o. AnswersAgree d c o) a.is pair.answers in
     record {
       bytes = a.bytes;
       gave_is = a.gave_is;
-      by = given_blocks d.setting.layout q bs given;
       answer = a.answered;
       its = a.is;
       answered = heard;
@@ -99,10 +101,11 @@ given_of g q bs k low high (By_phase some told alone is same) bytes gives =
     ap (λ l. slice_get l (k - 1)) same ∙ block_there g some k low high
     ∙ ap (λ l. Some (block_in k (record_in g (sector_of g l (k - 1))))) one ∙ ap (λ b. Some (block_in k (record_in g (sector_of g bytes (number_if b k))))) (sym alone)
 
-pub given_at : (g : Layout) (d : Daemon) (c : Course) (q : Submitted) (bs : List (Option Block)) → d.setting.layout ≡ g → IsCourseOf d c q → ReadTold d c q bs → (k : ℕ)
-    → 1 ≤ k → k ≤ g.hosts → slice_get bs (k - 1) ≡ Some (block_in k (record_in g (sector_of g c.sampled (sector_number c k))))
-given_at g d c q bs layout pair t k low high =
-    given_of g q bs k low high (subst (λ y. Gave y q bs) layout t.by) t.bytes t.gave_is
+pub given_at : (g : Layout) → g.paired ≡ false → (d : Daemon) (c : Course) (q : Submitted) (before : List Submitted) (bs : List (Option Block)) → d.setting.layout ≡ g → IsCourseOf d c q
+    → ReadTold d c q → blocks_given d.setting.layout q before ≡ Some bs → (k : ℕ) → 1 ≤ k → k ≤ g.hosts
+    → slice_get bs (k - 1) ≡ Some (block_in k (record_in g (sector_of g c.sampled (sector_number c k))))
+given_at g plain d c q before bs layout pair t given k low high =
+    given_of g q bs k low high (given_blocks g plain q before bs (ap (λ (y : Layout). blocks_given y q before) (sym layout) ∙ given)) t.bytes t.gave_is
     ∙ ap (λ (y : Call). Some (block_in k (record_in g (sector_of g t.bytes (number_if (is_area_read (new_call 0 0 y)) k))))) pair.call
     ∙ ap (λ l. Some (block_in k (record_in g (sector_of g l (sector_number c k))))) t.sampled
 
@@ -113,10 +116,14 @@ ranged_below f a zero j y h = absurd (none_some y h)
 ranged_below f a (suc n) zero y h = zero_less n
 ranged_below f a (suc n) (suc j) y h = both_next j n (ranged_below f (a + 1) n j y h)
 
-below_by : (g : Layout) (q : Submitted) (bs : List (Option Block)) (j : ℕ) (o : Option Block) → Gave g q bs → slice_get bs j ≡ Some o → j < g.hosts
-below_by g q bs j o (By_area bytes told is same) at = ranged_below (λ k. block_in k (sector_read g _ (k - 1))) 1 g.hosts j o (ap (λ l. slice_get l j) (sym same) ∙ at)
-below_by g q bs j o (By_phase bytes told alone is same) at = ranged_below (λ k. block_in k (sector_read g bytes (k - 1))) 1 g.hosts j o (ap (λ l. slice_get l j) (sym same) ∙ at)
+below_by : (g : Layout) (v : BlocksRead) (b : Bool) → g.paired ≡ b → (j : ℕ) (o : Option Block) → slice_get (blocks_of g v) j ≡ Some o → j < g.hosts
+below_by g v false plain j o at = ranged_below (λ k. block_in k (sector_read g v.last (k - 1))) 1 g.hosts j o (ap (λ l. slice_get l j) (sym (blocks_plain g plain v)) ∙ at)
+below_by g v true paired j o at =
+    let x = mapped_at (λ (p : Option PairBlock). option_map (λ (q : PairBlock). q.block) p) (pairs_of g v) j o (ap (λ l. slice_get l j) (sym (blocks_paired g paired v)) ∙ at) in
+    ranged_below (pair_merged g v) 1 g.hosts j x.0 x.1
 
 -- Each place among the blocks is a host's.
-pub given_below : (g : Layout) (q : Submitted) (bs : List (Option Block)) (j : ℕ) (o : Option Block) → blocks_given g q ≡ Some bs → slice_get bs j ≡ Some o → j < g.hosts
-given_below g q bs j o given at = below_by g q bs j o (given_blocks g q bs given) at
+pub given_below : (g : Layout) (q : Submitted) (before : List Submitted) (bs : List (Option Block)) (j : ℕ) (o : Option Block) → blocks_given g q before ≡ Some bs
+    → slice_get bs j ≡ Some o → j < g.hosts
+given_below g q before bs j o given at =
+    let v = mapped_value (blocks_of g) (read_given g q before) bs given in below_by g v.0 g.paired refl j o (ap (λ l. slice_get l j) v.2 ∙ at)

@@ -1,4 +1,5 @@
--- A whole landing at a host's place spells a block of the host: so where a read gave nothing of a host, what it shows there is torn.
+-- Where each host's block has one sector, a whole landing at a host's place spells a block of the host: so where a read gave nothing of a
+-- host, what it shows there is torn.
 use Rattle.sl_area.specs.Layouts.{record_in, sector_with}
 use Rattle.sl_area.specs.Places.{block_offset, fresh_block, sector_of}
 use Rattle.sl_run_law.proofs.Place.Reading.{digest_is, writes_record}
@@ -11,8 +12,9 @@ use Rattle.sl_history.proofs.Giving.Hosts.{block_host, own_host}
 use Rattle.sl_history.proofs.Resources.Calls.{owned}
 use Rattle.sl_history.proofs.Giving.Shown.{IsShownOf, shown_of, stands_there}
 use Rattle.sl_history.proofs.Resources.Standing.{standing}
-use Rattle.sl_history.specs.Resources.Histories.{is_host, landing_shown, sector_number}
-use Rattle.sl_history.specs.Resources.Orders.{ReadSent}
+use Rattle.sl_history.specs.Resources.Histories.{is_host}
+use Rattle.sl_history.specs.Resources.Sampled.{landing_shown, sector_number}
+use Rattle.sl_history.proofs.Giving.Newest.{ReadSent}
 use Rattle.sl_history.specs.Resources.Promises.{spot_of_line}
 use Rattle.sl_history.specs.Resources.Sending.{Sent}
 use Rattle.sl_run.specs.Runs.{Happening}
@@ -47,16 +49,16 @@ record SpellsBlock (w : World) (k : ℕ) (l : Landing) : Type 0 where
   block : Block
   spells : block_in k (record_in w.layout l.bytes) ≡ Some block
 
-whole_spells : (p : Program) (h : Header) (xs : List Happening) → LawfulRun p h xs → (r : ResourceLine) → Contains h.resources r → (k : ℕ) → is_host (world_at p h xs) k ≡ true
+whole_spells : (p : Program) (h : Header) (xs : List Happening) → LawfulRun p h xs → (world_at p h xs).layout.paired ≡ false → (r : ResourceLine) → Contains h.resources r → (k : ℕ) → is_host (world_at p h xs) k ≡ true
     → (i : ℕ) (l : Landing) → numbered_landing (history_of (world_at p h xs) r.path (block_offset (world_at p h xs).layout r.offset k)) i ≡ Some l → l.whole ≡ true
     → SpellsBlock (world_at p h xs) k l
-whole_spells p h xs run r there k host i l at whole =
+whole_spells p h xs run plain r there k host i l at whole =
     let w : World = world_at p h xs in
-    elim (stands_there p h xs run r there k host i l at) as (λ z. SpellsBlock w k l) [
+    elim (stands_there p h xs run plain r there k host i l at) as (λ z. SpellsBlock w k l) [
       | inl first ↦
           record {
             block = fresh_block k;
-            spells = ap (λ (y : Landing). block_in k (record_in w.layout y.bytes)) first ∙ ap (λ x. block_in k x) (fresh_at_first p h xs run r there k host)
+            spells = ap (λ (y : Landing). block_in k (record_in w.layout y.bytes)) first ∙ ap (λ x. block_in k x) (fresh_at_first p h xs run plain r there k host)
                 ∙ choose_it (k == k) (fresh_block k) (eq-eqb k k refl);
           }
       | inr b ↦
@@ -79,12 +81,12 @@ whole_spells p h xs run r there k host i l at whole =
     ]
 
 -- The sector of a read that shows a whole landing spells something.
-pub not_torn : (p : Program) (h : Header) (xs : List Happening) → LawfulRun p h xs → (r : ResourceLine) → Contains h.resources r → (z : Sent) → ReadSent (world_at p h xs) r z
+pub not_torn : (p : Program) (h : Header) (xs : List Happening) → LawfulRun p h xs → (world_at p h xs).layout.paired ≡ false → (r : ResourceLine) → Contains h.resources r → (z : Sent) → ReadSent (world_at p h xs) r z
     → (k : ℕ) → is_host (world_at p h xs) k ≡ true → (l : Landing) → landing_shown (world_at p h xs) (spot_of_line r) z.course k ≡ Some l → l.whole ≡ true
     → block_in k (record_in (world_at p h xs).layout (sector_of (world_at p h xs).layout z.course.sampled (sector_number z.course k))) ≡ None → ⊥
-not_torn p h xs run r there z read k host l shown whole none =
+not_torn p h xs run plain r there z read k host l shown whole none =
     let w : World = world_at p h xs in
     let i : IsShownOf w r z k l = shown_of p h xs run r there z (owned p h xs run z read.sent) read.on read.reads k host l shown in
-    let b = whole_spells p h xs run r there k host i.sampling.index l i.place whole in
+    let b = whole_spells p h xs run plain r there k host i.sampling.index l i.place whole in
     let bytes : sector_of w.layout z.course.sampled (sector_number z.course k) ≡ l.bytes = i.sample.bytes ∙ ap (λ (y : Landing). y.bytes) i.is in
     none_some b.block (sym none ∙ ap (λ x. block_in k (record_in w.layout x)) bytes ∙ b.spells)

@@ -8,14 +8,13 @@ use Rattle.sl_trace_law.proofs.Leases.NumberLaws.{number_is_place}
 use Rattle.sl_trace_law.proofs.Leases.TurnLaws.{one_at_a_time}
 use Rattle.sl_trace_law.specs.Leases.Promises.{WasAnsweredBy}
 use Rattle.sl_trace_law.specs.Leases.Ways.{BlockComes, lease_among}
-use Rattle.sl_trace.specs.Leases.{block_of_host, is_block_read, is_lease_call, is_on, spot_of_call}
-use Rattle.sl_history.specs.Resources.Once.{blocks_once as blocks_given}
+use Rattle.sl_trace.specs.Leases.{block_of_host, blocks_given, is_block_read, is_lease_call, is_on, spot_of_call}
 use Rattle.sl_run_law.proofs.Place.Areas.{resource_aligned}
 use Rattle.sl_run_law.proofs.Place.Daemons.{daemons_are_fine, stamp_order}
 use Rattle.sl_run_law.proofs.Place.Seats.{sized_in}
 use Rattle.sl_plain.proofs.Lists.{contains_more, kept_inside}
 use Rattle.sl_plain.proofs.Options.{some_there}
-use Rattle.sl_history.proofs.Resources.Calls.{found_at}
+use Rattle.sl_history.proofs.Resources.Calls.{block_at_step, found_at}
 use Rattle.sl_history.proofs.Resources.Looking.{IsLook, given_told}
 use Rattle.sl_history.proofs.Resources.Owning.{block_told, layout_at, lease_is_work, number_at, spot_is, works, written}
 use Rattle.sl_history.proofs.Resources.Standing.{Standing, parts}
@@ -39,7 +38,6 @@ use Rattle.std.proofs.lemmas.Bool.{eqb-true, or_right}
 use Rattle.std.specs.Option.{option_map_or}
 use Rattle.std.specs.Prelude.{Contains, List, None, Option, Some, filter, is_some, option_and_then, slice_get, true, unwrap_or, ℕ, ◌%◌, ◌&&◌, ◌++◌, ◌-◌, ◌∷◌, ◌≡◌, ◌≤◌}
 use Rattle.sl_history.proofs.Resources.AtSteps.{not_at_first}
-use Rattle.sl_history.proofs.Resources.Calls.{block_at_step}
 
 -- ---- a resource's area
 
@@ -64,8 +62,8 @@ is_among st s at older q has =
     record { has = two.0; session = eqb-true q.call.session s.number two.1; lease = both.0; on = both.1 }
 
 -- What gave blocks is a read of blocks.
-pub reads_work : (g : Layout) (q : Submitted) (bs : List (Option Block)) → blocks_given g q ≡ Some bs → works q.call ≡ true
-reads_work g q bs h = or_right _ (is_block_read q) (given_told g q bs h).reads
+pub reads_work : (g : Layout) (q : Submitted) (before : List Submitted) (bs : List (Option Block)) → blocks_given g q before ≡ Some bs → works q.call ≡ true
+reads_work g q before bs h = or_right _ (is_block_read q) (given_told g q before bs h).reads
 
 -- A call of the lease before was answered by then.
 pub answered_before : (p : Program) (h : Header) (xs : List Happening) → LawfulRun p h xs → (x : Sent) (s : Standing (world_at p h xs) x) → works x.course.call ≡ true

@@ -3,7 +3,7 @@ use Rattle.sl_ballots.specs.Disk.{Wrote}
 use Rattle.sl_trace.specs.Leases.{is_on}
 use Rattle.sl_plain.proofs.Lists.{find_inside}
 use Rattle.sl_plain.proofs.Options.{some_there}
-use Rattle.sl_history.proofs.Resources.Calls.{IsOwned, IsSentTo, block_at_step, found_at, found_read, owned}
+use Rattle.sl_history.proofs.Resources.Calls.{IsEndAt, IsOwned, IsSentTo, block_at_step, found_at, found_read, owned}
 use Rattle.sl_history.proofs.Resources.Doing.{done_closed, made_since}
 use Rattle.sl_history.proofs.Resources.Owning.{same_is}
 use Rattle.sl_history.proofs.Resources.Steps.{call_timed}
@@ -19,7 +19,8 @@ use Rattle.sl_words.proofs.WordLaws.{and_true}
 use Rattle.std.proofs.Common.{ap, arith, refl, subst, sym, ◌∙◌}
 use Rattle.std.proofs.lemmas.Bool.{ltb-true}
 use Rattle.std.specs.Option.{option_map_or}
-use Rattle.std.specs.Prelude.{Bool, Contains, List, None, Option, Some, false, find, is_some, nat_lt, option_and_then, option_map, true, ℕ, ◌&&◌, ◌<◌, ◌≡◌}
+use Rattle.std.specs.Prelude.{Bool, Contains, List, None, Option, Some, false, find, is_some, nat_lt, option_and_then, option_map, true, ℕ, ◌&&◌, ◌<◌, ◌≡◌, ◌≤◌}
+use Rattle.sl_history.proofs.Resources.Looks.{began_before}
 
 -- ---- what the history says of one step
 
@@ -40,7 +41,7 @@ block_at w r e h =
 pub record IsReadAt (w : World) (r : ResourceLine) (e : ℕ) : Type 0 where
   pub sent : Sent
   pub found : read_at w (spot_of_line r) r.lockspace e ≡ Some sent
-  pub is : IsSentTo w r e sent
+  pub is : IsEndAt w r e sent
   pub counted : is_counted_read w r.lockspace sent ≡ true
   pub reads : reads_blocks sent.course ≡ true
   pub done : sent.course.done ≡ true
@@ -106,12 +107,16 @@ answered p h xs run r e a b is =
 
 -- ---- reads
 
--- When the read was answered.
+-- When the read was answered, with its last call.
 pub record IsAnswerOf (w : World) (r : ResourceLine) (e : ℕ) (b : IsReadAt w r e) : Type 0 where
   pub stamp : Stamp
   pub is : b.sent.course.answered ≡ Some stamp
   pub step : option_map_or (λ (s : Stamp). s.step) (option_and_then (λ (x : Sent). x.course.answered) (read_at w (spot_of_line r) r.lockspace e)) 0 ≡ stamp.step
+  pub after : step_of b.sent < stamp.step
   pub later : e < stamp.step
+
+sooner : (a b c : ℕ) → a ≤ b → b < c → a < c
+sooner a b c h i = omega (arith, h, i)
 
 pub answer_of_read : (p : Program) (h : Header) (xs : List Happening) → LawfulRun p h xs → (r : ResourceLine) (e : ℕ) (b : IsReadAt (world_at p h xs) r e) → IsAnswerOf (world_at p h xs) r e b
 answer_of_read p h xs run r e b =
@@ -122,7 +127,8 @@ answer_of_read p h xs run r e b =
       is = s.1;
       step = ap (λ (q : Option Sent). option_map_or (λ (t : Stamp). t.step) (option_and_then (λ (x : Sent). x.course.answered) q) 0) b.found
           ∙ ap (λ q. option_map_or (λ (t : Stamp). t.step) q 0) s.1;
-      later = subst (λ n. n < s.0.step) b.is.step_is (answered_later p h xs run b.sent o s.0 s.1);
+      after = answered_later p h xs run b.sent o s.0 s.1;
+      later = sooner e (step_of b.sent) s.0.step (subst (λ n. n ≤ step_of b.sent) b.is.began (began_before p h xs run (spot_of_line r) b.sent)) (answered_later p h xs run b.sent o s.0 s.1);
     }
 
 -- ---- the last block before

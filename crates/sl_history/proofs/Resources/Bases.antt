@@ -6,8 +6,7 @@ use Rattle.sl_run_law.proofs.Place.Seats.{sized_in}
 use Rattle.sl_plain.proofs.Numbers.{equal_is_least, zero_is_least}
 use Rattle.sl_history.proofs.Resources.Above.{block_of_none, block_of_step, comes_at, line_aligned, told_spot, written_at}
 use Rattle.sl_history.proofs.Resources.Basing.{read_front}
-use Rattle.sl_history.proofs.Resources.Calls.{block_works as block_is_work}
-use Rattle.sl_history.proofs.Resources.Calls.{worker_joined}
+use Rattle.sl_history.proofs.Resources.Calls.{block_works as block_is_work, worker_joined}
 use Rattle.sl_history.proofs.Resources.Owning.{OwnWritten, base_by, block_is_lease, block_works, last_is_none, layout_at, lease_is_work, own_written}
 use Rattle.sl_history.proofs.Resources.Recalled.{IsWrite, LookFound, look_found}
 use Rattle.sl_history.proofs.Giving.Hosts.{own_host}
@@ -16,7 +15,7 @@ use Rattle.sl_history.proofs.Giving.Proven.{reads_are_given}
 use Rattle.sl_history.proofs.Resources.Standing.{Standing, standing}
 use Rattle.sl_history.specs.Resources.Histories.{base_of, history_block, is_host, shown_by}
 use Rattle.sl_history.specs.Resources.Promises.{HistoriesGoUp, history_of_line, spot_of_line}
-use Rattle.sl_history.specs.Resources.Sending.{Sent, all_sent, block_of_course, holder_of, is_joined_there, sender_of, step_of}
+use Rattle.sl_history.specs.Resources.Sending.{Sent, all_sent, began_at, block_of_course, holder_of, is_joined_there, sender_of}
 use Rattle.sl_run.specs.Runs.{Happening}
 use Rattle.sl_run.specs.Safety.{LawfulRun, world_at}
 use Rattle.sl_run.specs.Worlds.{Program, World}
@@ -79,7 +78,7 @@ based p h xs run r there x has s on b is =
 pub look_base : (p : Program) (h : Header) (xs : List Happening) → LawfulRun p h xs → (r : ResourceLine) → Contains h.resources r → (x : Sent) (s : Standing (world_at p h xs) x) (own : Block)
     → (f : LookFound (world_at p h xs) (spot_of_line r) x s own) → is_joined_there (world_at p h xs) r.lockspace (sender_of x) ≡ true
     → block_submitted (lease_among s.daemon.setting s.session (spot_of_line r) s.told.older) ≡ None
-    → base_of (world_at p h xs) (spot_of_line r) x ≡ (history_of_line p h xs r).shown (step_of f.sent) s.session.id
+    → base_of (world_at p h xs) (spot_of_line r) x ≡ (history_of_line p h xs r).shown (began_at (world_at p h xs) (spot_of_line r) f.sent) s.session.id
 look_base p h xs run r there x s own f joined none =
     let w : World = world_at p h xs in
     ap (base_by w (spot_of_line r) x) (last_is_none p h xs run (spot_of_line r) x s none)
@@ -90,12 +89,12 @@ look_base p h xs run r there x s own f joined none =
 -- Its block is the own block, or the session has no host's id.
 base_block : (p : Program) (h : Header) (xs : List Happening) → LawfulRun p h xs → (r : ResourceLine) → Contains h.resources r → (x : Sent) (s : Standing (world_at p h xs) x) (own : Block)
     → (f : LookFound (world_at p h xs) (spot_of_line r) x s own) → is_joined_there (world_at p h xs) r.lockspace (sender_of x) ≡ true
-    → (b : Bool) → is_host (world_at p h xs) s.session.id ≡ b → (n : ℕ) → n ≡ (history_of_line p h xs r).shown (step_of f.sent) s.session.id
+    → (b : Bool) → is_host (world_at p h xs) s.session.id ≡ b → (n : ℕ) → n ≡ (history_of_line p h xs r).shown (began_at (world_at p h xs) (spot_of_line r) f.sent) s.session.id
     → ((history_of_line p h xs r).block n ≡ history_block own) ⊎ ((n ≡ 0) × (b ≡ false))
 base_block p h xs run r there x s own f joined true host n is =
     inl (ap (λ k. (history_of_line p h xs r).block k) is ∙ (look_has p h xs run r there x s own f joined host).block)
 base_block p h xs run r there x s own f joined false host n is =
-    inr (is ∙ ((reads_are_given p h xs r run there).others (step_of f.sent) s.session.id (ap (λ o. is_some o) (look_at p h xs run r there x s own f joined)) host).1, refl)
+    inr (is ∙ ((reads_are_given p h xs r run there).others (began_at (world_at p h xs) (spot_of_line r) f.sent) s.session.id (ap (λ o. is_some o) (look_at p h xs run r there x s own f joined)) host).1, refl)
 
 pub block_of_base : (p : Program) (h : Header) (xs : List Happening) → LawfulRun p h xs → (r : ResourceLine) → Contains h.resources r → (x : Sent) (s : Standing (world_at p h xs) x) (own : Block)
     → BaseIs p h xs r x s own

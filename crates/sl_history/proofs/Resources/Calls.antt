@@ -7,7 +7,7 @@ use Rattle.sl_run_law.specs.Course.Stamping.{AnswersAgree, IsAnsweredAs, IsCours
 use Rattle.sl_run_law.proofs.Front.Having.{contains_flat, in_flat}
 use Rattle.sl_run_law.proofs.Landing.Listing.{one_call}
 use Rattle.sl_run.specs.Lawful.{Orderly}
-use Rattle.sl_run.specs.LawfulArea.{is_of_format, LawfulAreaWrite, is_area_work, is_block_work, is_delta_record}
+use Rattle.sl_run.specs.LawfulArea.{LawfulAreaWrite, is_area_work, is_block_work, is_delta_record, is_of_format}
 use Rattle.sl_trace_law.proofs.Leases.TurnLaws.{one_at_a_time}
 use Rattle.sl_trace_law.specs.Leases.Promises.{WasAnsweredBy}
 use Rattle.sl_trace.specs.Leases.{block_of_record, is_block_read, is_on, leader_of_record, spot_of_call}
@@ -20,14 +20,14 @@ use Rattle.sl_run_law.proofs.Place.Leased.{IsLeased, verified_leased}
 use Rattle.sl_run_law.proofs.Place.Numbering.{session_number}
 use Rattle.sl_run_law.proofs.Place.Proven.{promised}
 use Rattle.sl_run_law.proofs.Place.Reading.{IsTraced, call_law, owner_of, session_inside, traced}
-use Rattle.sl_run_law.proofs.Place.Seats.{plain_in, sized_in}
+use Rattle.sl_run_law.proofs.Place.Seats.{sized_in}
 use Rattle.sl_plain.proofs.Lists.{contains_cases, contains_first, contains_map, contains_more, contains_none, find_inside, got_inside, in_map, tail_is}
 use Rattle.sl_plain.proofs.Numbers.{one_less}
-use Rattle.sl_plain.proofs.Options.{else_some}
+use Rattle.sl_plain.proofs.Options.{else_some, some_there}
 use Rattle.sl_history.proofs.Resources.Alone.{Stands, given_differ, one_stands}
 use Rattle.sl_history.proofs.Resources.Steps.{call_timed, calls_apart, one_daemon, one_entry}
 use Rattle.sl_history.specs.Resources.Promises.{NamesDiffer, spot_of_line}
-use Rattle.sl_history.specs.Resources.Sending.{Sent, all_names, all_sent, holder_of, is_counted_read, is_joined_there, names_in, read_at, reads_blocks, same_holder, sender_of, sent_at, session_of_holder, step_of, writes_block, writes_leader, holder_of_found, nobody}
+use Rattle.sl_history.specs.Resources.Sending.{Sent, all_names, all_sent, began_at, holder_of, holder_of_found, is_counted_read, is_joined_there, names_in, nobody, read_at, reads_blocks, reads_enough, same_holder, sender_of, sent_at, session_of_holder, step_of, writes_block, writes_leader}
 use Rattle.sl_run.specs.Runs.{Happening}
 use Rattle.sl_run.specs.Safety.{Found, LawfulRun, SessionId, session_of_world, trace_of, world_at}
 use Rattle.sl_run.specs.Worlds.{Course, Daemon, Machine, Program, World, daemon_numbered, daemons_on, machine_at}
@@ -35,7 +35,6 @@ use Rattle.sl_run.specs.declared.header.Header.{Header}
 use Rattle.sl_run.specs.declared.header.ResourceLine.{ResourceLine}
 use Rattle.sl_run_law.proofs.Walking.{index, number_within}
 use Rattle.sl_sector.specs.declared.sector.Block.{Block}
-use Rattle.sl_sector.specs.declared.sector.Leader.{Leader}
 use Rattle.sl_sector.specs.declared.sector.Rec.TheVariants.{BlockIs, DeltaIs, LeaderIs, PairIs, PairLeaderIs, RequestIs, ValueIs}
 use Rattle.sl_sector.specs.declared.sector.Rec.{Rec}
 use Rattle.sl_trace_law.proofs.Sessions.Making.{calls_are_made}
@@ -54,11 +53,11 @@ use Rattle.sl_words.proofs.CaseLaws.{false_is_true, none_some, one_value, some_v
 use Rattle.sl_words.proofs.WordLaws.{and_true, some_is_true}
 use Rattle.sl_words.specs.Words.{some_is}
 use Rattle.std.proofs.Common.{ap, arith, inl, inr, refl, subst, sym, tests, ◌∙◌}
-use Rattle.std.proofs.lemmas.Bool.{and_from, eq-eqb, eqb-true, or_left, or_right, leb-true}
+use Rattle.std.proofs.lemmas.Bool.{and_from, eq-eqb, eqb-true, leb-true, or_left, or_right}
 use Rattle.std.proofs.lemmas.List.{length-append}
 use Rattle.std.proofs.lemmas.Slice.Eq.{bytes_eq-Decides}
 use Rattle.std.specs.List.{enumerate_from}
-use Rattle.std.specs.Prelude.{Bool, Contains, IsTrue, List, None, Option, Some, [], bytes_eq, false, find, flat_map, is_none, is_some, length, map, option_and_then, option_map, slice_get, suc, true, zero, ℕ, ◌%◌, ◌&&◌, ◌++◌, ◌+◌, ◌-◌, ◌<◌, ◌==◌, ◌∷◌, ◌≡◌, ◌≤◌, ◌⊎◌, nat_le}
+use Rattle.std.specs.Prelude.{Bool, Contains, IsTrue, List, None, Option, Some, [], bytes_eq, false, find, flat_map, is_none, is_some, length, map, nat_le, option_and_then, option_map, slice_get, suc, true, zero, ℕ, ◌%◌, ◌&&◌, ◌++◌, ◌+◌, ◌-◌, ◌<◌, ◌==◌, ◌∷◌, ◌≡◌, ◌≤◌, ◌⊎◌}
 use Rattle.sl_history.specs.Resources.Histories.{is_host}
 use Rattle.std.specs.Option.{option_map_or}
 
@@ -449,6 +448,14 @@ other_leader (Some (DeltaIs l)) h = absurd (false_is_true h)
 other_leader (Some (RequestIs l)) h = absurd (false_is_true h)
 other_leader (Some (ValueIs l)) h = absurd (false_is_true h)
 
+-- A block is that of its record.
+block_by : (o : Option Rec) → is_some (option_and_then block_of_record o) ≡ true → (b : Block) × (rec : Rec) × (o ≡ Some rec) × (block_of_record rec ≡ Some b)
+block_by None h = absurd (false_is_true h)
+block_by (Some rec) h = let b = some_there (block_of_record rec) h in (b.0, rec, refl, b.1)
+
+pub block_sent : (c : Course) → writes_block c ≡ true → (b : Block) × (rec : Rec) × (record_of c.call.op ≡ Some rec) × (block_of_record rec ≡ Some b)
+block_sent c h = block_by (record_of c.call.op) h
+
 -- Where each host's block has one sector, a block that is written is a block's record.
 some_block : (g : Layout) → g.paired ≡ false → (o : Option Rec) → ((r : Rec) → o ≡ Some r → is_delta_record r ≡ false → is_of_format g r ≡ true)
     → is_some (option_and_then block_of_record o) ≡ true → (b : Block) × (o ≡ Some (BlockIs b))
@@ -473,10 +480,10 @@ sent_format p h xs run x sent rec writes other =
     ap (λ (g : Layout). is_of_format g rec) (sym layout)
     ∙ (law.0.area.0.writes d.index q.call o.session d.call law.1 rec (ap (λ (c : Call). record_of c.op) o.trace.is.call ∙ writes) other).1.format
 
-pub block_sent : (p : Program) (h : Header) (xs : List Happening) → LawfulRun p h xs → (x : Sent) → Contains (all_sent (world_at p h xs)) x → writes_block x.course ≡ true
-    → (b : Block) × (record_of x.course.call.op ≡ Some (BlockIs b))
-block_sent p h xs run x sent is =
-    some_block (world_at p h xs).layout (plain_in p h xs run) (record_of x.course.call.op) (λ rec writes other. sent_format p h xs run x sent rec writes other) is
+pub plain_block_sent : (p : Program) (h : Header) (xs : List Happening) → LawfulRun p h xs → (world_at p h xs).layout.paired ≡ false → (x : Sent) → Contains (all_sent (world_at p h xs)) x
+    → writes_block x.course ≡ true → (b : Block) × (record_of x.course.call.op ≡ Some (BlockIs b))
+plain_block_sent p h xs run plain x sent is =
+    some_block (world_at p h xs).layout plain (record_of x.course.call.op) (λ rec writes other. sent_format p h xs run x sent rec writes other) is
 
 pub block_works : (p : Program) (h : Header) (xs : List Happening) → LawfulRun p h xs → (r : ResourceLine) → Contains h.resources r → (x : Sent)
     → Contains (all_sent (world_at p h xs)) x → is_on (world_at p h xs).layout (spot_of_line r) x.course.call ≡ true → writes_block x.course ≡ true → IsWork (world_at p h xs) r x
@@ -545,13 +552,22 @@ found_at w r q step x is =
     let two = and_true (step_of x == step) (is_on w.layout (spot_of_line r) x.course.call) all.0 in
     (record { sent = f.0; step_is = eqb-true (step_of x) step two.0; on = two.1 }, all.1)
 
+-- A call with which a read ended that began at this step.
+pub record IsEndAt (w : World) (r : ResourceLine) (step : ℕ) (x : Sent) : Type 0 where
+  pub sent : Contains (all_sent w) x
+  pub began : began_at w (spot_of_line r) x ≡ step
+  pub on : is_on w.layout (spot_of_line r) x.course.call ≡ true
+  pub enough : reads_enough w.layout x.course ≡ true
+
 pub found_read : (w : World) (r : ResourceLine) (step : ℕ) (x : Sent) → read_at w (spot_of_line r) r.lockspace step ≡ Some x
-    → IsSentTo w r step x × (is_counted_read w r.lockspace x ≡ true)
+    → IsEndAt w r step x × (is_counted_read w r.lockspace x ≡ true)
 found_read w r step x is =
-    let f = find_inside (λ (y : Sent). step_of y == step && is_on w.layout (spot_of_line r) y.course.call && is_counted_read w r.lockspace y) (all_sent w) x is in
-    let all = and_true (step_of x == step && is_on w.layout (spot_of_line r) x.course.call) (is_counted_read w r.lockspace x) f.1 in
-    let two = and_true (step_of x == step) (is_on w.layout (spot_of_line r) x.course.call) all.0 in
-    (record { sent = f.0; step_is = eqb-true (step_of x) step two.0; on = two.1 }, all.1)
+    let at : Spot = spot_of_line r in
+    let f = find_inside (λ (y : Sent). began_at w at y == step && is_on w.layout at y.course.call && is_counted_read w r.lockspace y && reads_enough w.layout y.course) (all_sent w) x is in
+    let all = and_true (began_at w at x == step && is_on w.layout at x.course.call && is_counted_read w r.lockspace x) (reads_enough w.layout x.course) f.1 in
+    let three = and_true (began_at w at x == step && is_on w.layout at x.course.call) (is_counted_read w r.lockspace x) all.0 in
+    let two = and_true (began_at w at x == step) (is_on w.layout at x.course.call) three.0 in
+    (record { sent = f.0; began = eqb-true (began_at w at x) step two.0; on = two.1; enough = all.1 }, three.1)
 
 three : (a b c : Bool) → a ≡ true → b ≡ true → c ≡ true → (a && b && c) ≡ true
 three a b c x y z = and_from _ _ (and_from _ _ x y) z
@@ -569,7 +585,7 @@ only_at p h xs run r there q x sent on is work =
     let two = and_true (step_of y == step_of x) (is_on w.layout (spot_of_line r) y.course.call) all.0 in
     steps_name p h xs run r there y x (work y inside two.1 all.1) (work x sent on is) (eqb-true (step_of y) (step_of x) two.0))
 
--- A block that was sent is the one of its step; and so are a leader and a read.
+-- A block that was sent is the one of its step; and so is a leader.
 pub block_at_step : (p : Program) (h : Header) (xs : List Happening) → LawfulRun p h xs → (r : ResourceLine) → Contains h.resources r → (x : Sent)
     → Contains (all_sent (world_at p h xs)) x → is_on (world_at p h xs).layout (spot_of_line r) x.course.call ≡ true → writes_block x.course ≡ true
     → sent_at (world_at p h xs) (spot_of_line r) writes_block (step_of x) ≡ Some x
@@ -579,18 +595,6 @@ pub leader_at_step : (p : Program) (h : Header) (xs : List Happening) → Lawful
     → Contains (all_sent (world_at p h xs)) x → is_on (world_at p h xs).layout (spot_of_line r) x.course.call ≡ true → writes_leader x.course ≡ true
     → sent_at (world_at p h xs) (spot_of_line r) writes_leader (step_of x) ≡ Some x
 leader_at_step p h xs run r there x sent on is = only_at p h xs run r there writes_leader x sent on is (λ y inside at leader. leader_works p h xs run r there y inside at leader)
-
-pub read_at_step : (p : Program) (h : Header) (xs : List Happening) → LawfulRun p h xs → (r : ResourceLine) → Contains h.resources r → (x : Sent)
-    → Contains (all_sent (world_at p h xs)) x → is_on (world_at p h xs).layout (spot_of_line r) x.course.call ≡ true
-    → is_counted_read (world_at p h xs) r.lockspace x ≡ true → read_at (world_at p h xs) (spot_of_line r) r.lockspace (step_of x) ≡ Some x
-read_at_step p h xs run r there x sent on is =
-    let w : World = world_at p h xs in
-    finds_it (λ (y : Sent). step_of y == step_of x && is_on w.layout (spot_of_line r) y.course.call && is_counted_read w r.lockspace y) (all_sent w) x sent
-    (three _ _ _ (eq-eqb (step_of x) (step_of x) refl) on is)
-    (λ y inside passes.
-    let all = and_true (step_of y == step_of x && is_on w.layout (spot_of_line r) y.course.call) (is_counted_read w r.lockspace y) passes in
-    let two = and_true (step_of y == step_of x) (is_on w.layout (spot_of_line r) y.course.call) all.0 in
-    steps_name p h xs run r there y x (read_works p h xs run r y inside two.1 all.1) (read_works p h xs run r x sent on is) (eqb-true (step_of y) (step_of x) two.0))
 
 -- ---- who works has joined
 

@@ -9,7 +9,7 @@ use Rattle.std.proofs.Common.{ap, arith, refl, subst, sym, ◌∙◌}
 use Rattle.std.proofs.lemmas.Bool.{ltb-false}
 use Rattle.std.proofs.lemmas.Bool.Decides.{nat_tests}
 use Rattle.std.specs.List.{cons_option}
-use Rattle.std.specs.Prelude.{Contains, List, None, Option, Some, false, nat_lt, option_map, slice_get, suc, zero, [], ℕ, ◌&&◌, ◌+◌, ◌==◌, ◌∷◌, ◌≡◌, ◌≤◌}
+use Rattle.std.specs.Prelude.{Contains, List, None, Option, Some, [], false, nat_lt, option_map, slice_get, suc, zero, ℕ, ◌&&◌, ◌+◌, ◌==◌, ◌∷◌, ◌≡◌, ◌≤◌}
 
 -- A host's place among the blocks, whole.
 pub record IsWhole (ps : List (ℕ × Option Block)) (p : ℕ × Option Block) : Type 0 where

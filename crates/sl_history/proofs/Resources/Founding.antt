@@ -6,8 +6,7 @@ use Rattle.sl_trace.specs.Leases.{block_submitted}
 use Rattle.sl_history.proofs.Resources.Above.{WrittenAt, written_at}
 use Rattle.sl_history.proofs.Giving.Hosts.{own_host}
 use Rattle.sl_history.proofs.Resources.Bases.{Shown, Written, based, look_base}
-use Rattle.sl_history.proofs.Resources.Calls.{block_at_step, worker_joined}
-use Rattle.sl_history.proofs.Resources.Calls.{block_works as block_is_work}
+use Rattle.sl_history.proofs.Resources.Calls.{block_at_step, block_works as block_is_work, worker_joined}
 use Rattle.sl_history.proofs.Resources.Owning.{OwnWritten, none_before}
 use Rattle.sl_history.proofs.Resources.Recalled.{LookFound}
 use Rattle.sl_history.proofs.Resources.Reading.{look_at, look_has}
@@ -15,7 +14,7 @@ use Rattle.sl_history.proofs.Giving.Proven.{reads_are_given}
 use Rattle.sl_history.proofs.Resources.Standing.{Standing, standing}
 use Rattle.sl_history.specs.Resources.Histories.{base_of, is_host}
 use Rattle.sl_history.specs.Resources.Promises.{NamesDiffer, history_of_line, spot_of_line}
-use Rattle.sl_history.specs.Resources.Sending.{Sent, holder_of, is_joined_there, nobody, read_at, sender_of, sent_at, step_of, writes_block}
+use Rattle.sl_history.specs.Resources.Sending.{Sent, began_at, holder_of, is_joined_there, nobody, read_at, sender_of, sent_at, step_of, writes_block}
 use Rattle.sl_run.specs.Runs.{Happening}
 use Rattle.sl_run.specs.Safety.{LawfulRun, world_at}
 use Rattle.sl_run.specs.Worlds.{Program, Stamp, World}
@@ -79,10 +78,10 @@ is_last p h xs run r there differ e x own o =
 -- What the last look shows of the writer's id, whole.
 found_shows : (p : Program) (h : Header) (xs : List Happening) → LawfulRun p h xs → (r : ResourceLine) → Contains h.resources r → (x : Sent) (s : Standing (world_at p h xs) x) (own : Block)
     → (f : LookFound (world_at p h xs) (spot_of_line r) x s own) → is_joined_there (world_at p h xs) r.lockspace (sender_of x) ≡ true → (b : Bool)
-    → is_host (world_at p h xs) s.session.id ≡ b → (history_of_line p h xs r).shows (step_of f.sent) s.session.id ≡ true
+    → is_host (world_at p h xs) s.session.id ≡ b → (history_of_line p h xs r).shows (began_at (world_at p h xs) (spot_of_line r) f.sent) s.session.id ≡ true
 found_shows p h xs run r there x s own f joined true host = (look_has p h xs run r there x s own f joined host).shows
 found_shows p h xs run r there x s own f joined false host =
-    ((reads_are_given p h xs r run there).others (step_of f.sent) s.session.id (ap (λ o. is_some o) (look_at p h xs run r there x s own f joined)) host).0
+    ((reads_are_given p h xs r run there).others (began_at (world_at p h xs) (spot_of_line r) f.sent) s.session.id (ap (λ o. is_some o) (look_at p h xs run r there x s own f joined)) host).0
 
 pub is_found : (p : Program) (h : Header) (xs : List Happening) → LawfulRun p h xs → (r : ResourceLine) → Contains h.resources r → NamesDiffer (world_at p h xs) r.lockspace
     → (e : ℕ) (x : WrittenAt p h xs r e) (s : Standing (world_at p h xs) x.sent) (own : Block) → (f : LookFound (world_at p h xs) (spot_of_line r) x.sent s own)
@@ -92,19 +91,19 @@ is_found p h xs run r there differ e x s own f joined none =
     let w : World = world_at p h xs in
     let at : Spot = spot_of_line r in
     let H : History = history_of_line p h xs r in
-    let found : read_at w at r.lockspace (step_of f.sent) ≡ Some f.sent = (look_at p h xs run r there x.sent s own f joined) in
+    let found : read_at w at r.lockspace (began_at (world_at p h xs) (spot_of_line r) f.sent) ≡ Some f.sent = (look_at p h xs run r there x.sent s own f joined) in
     let writer : H.writer e ≡ holder_of w (sender_of x.sent) = writer_is p h xs r e x.sent x.is in
     let id : (H.writer e).id ≡ s.session.id = ap (λ o. o.id) writer ∙ own_host w x.sent s in
     record {
-      read = step_of f.sent;
+      read = began_at w at f.sent;
       reads = ap (λ o. is_some o) found;
       reader = ap (λ o. option_map_or (λ (y : Sent). holder_of w (sender_of y)) o nobody) found ∙ ap (λ i. holder_of w i) f.look.sender ∙ sym writer;
       before = subst (λ n. n ≤ e)
           (sym (ap (λ o. option_map_or (λ (q : Stamp). q.step) (option_and_then (λ (y : Sent). y.course.answered) o) 0) found
           ∙ ap (λ o. option_map_or (λ (q : Stamp). q.step) o 0) f.look.closed))
           (subst (λ n. f.look.stamp.step ≤ n) x.step_is f.look.early);
-      whole = ap (λ k. H.shows (step_of f.sent) k) id ∙ found_shows p h xs run r there x.sent s own f joined (is_host w s.session.id) refl;
-      shown = ap (λ k. H.shown (step_of f.sent) k) id ∙ sym (base_step p h xs r e x ∙ look_base p h xs run r there x.sent s own f joined none);
+      whole = ap (λ k. H.shows (began_at (world_at p h xs) (spot_of_line r) f.sent) k) id ∙ found_shows p h xs run r there x.sent s own f joined (is_host w s.session.id) refl;
+      shown = ap (λ k. H.shown (began_at (world_at p h xs) (spot_of_line r) f.sent) k) id ∙ sym (base_step p h xs r e x ∙ look_base p h xs run r there x.sent s own f joined none);
       first = λ d writes same less.
           let y = written_at p h xs r d writes in
           let early : step_of y.sent < step_of x.sent = subst (λ n. n < step_of x.sent) (sym y.step_is) (subst (λ n. d < n) (sym x.step_is) less) in

@@ -1,6 +1,5 @@
 -- The own block of a write, where the session has written one before: it is the block of the write's base.
 use Rattle.sl_area.specs.Layouts.{Layout}
-use Rattle.sl_run_law.proofs.Place.Seats.{plain_in}
 use Rattle.sl_run_law.specs.Course.Stamping.{AnswersAgree, IsAnsweredAs, IsCourseOf, Pairwise, courses_of}
 use Rattle.sl_run_law.proofs.Front.Having.{contains_right}
 use Rattle.sl_run.specs.LawfulArea.{is_area_work, is_block_work}
@@ -21,9 +20,9 @@ use Rattle.sl_plain.proofs.Lists.{contains_cases, contains_more, contains_none, 
 use Rattle.sl_plain.proofs.Numbers.{lt_then_le, none_off}
 use Rattle.sl_history.proofs.Resources.Lasting.{last_block, lease_kept, no_block_there, of_lease}
 use Rattle.sl_history.proofs.Resources.Latest.{newest, sent_as}
-use Rattle.sl_history.proofs.Resources.Standing.{Standing, machine_of, pair_parts, parts, sent_there, stands_behind, standing}
+use Rattle.sl_history.proofs.Resources.Standing.{Standing, machine_of, pair_parts, parts, sent_there, standing, stands_behind}
 use Rattle.sl_history.specs.Resources.Histories.{base_of, shown_by}
-use Rattle.sl_history.specs.Resources.Sending.{Sent, all_sent, block_of_course, holder_of, is_block_before, last_block_before, last_look_before, same_session, sender_of, step_of, writes_block}
+use Rattle.sl_history.specs.Resources.Sending.{Sent, all_sent, block_of_course, holder_of, is_block_before, last_block_before, last_given_before, same_session, sender_of, step_of, writes_block}
 use Rattle.sl_run.specs.Runs.{Happening}
 use Rattle.sl_run.specs.Safety.{LawfulRun, SessionId, world_at}
 use Rattle.sl_run.specs.Worlds.{Course, Machine, Program, World, machine_at}
@@ -45,7 +44,7 @@ use Rattle.sl_words.proofs.WordLaws.{and_true}
 use Rattle.std.proofs.Common.{ap, arith, inl, inr, refl, subst, sym, ◌∙◌}
 use Rattle.std.proofs.lemmas.Bool.{and_from, eq-eqb, eqb-true, lt-ltb, ltb-true, or_left}
 use Rattle.std.specs.Option.{option_map_or}
-use Rattle.std.specs.Prelude.{false, Bool, Contains, List, None, Option, Some, find, is_some, length, nat_lt, option_and_then, true, [], ℕ, ◌%◌, ◌&&◌, ◌++◌, ◌+◌, ◌<◌, ◌==◌, ◌∷◌, ◌≡◌, ◌≤◌}
+use Rattle.std.specs.Prelude.{Bool, Contains, List, None, Option, Some, [], find, is_some, length, nat_lt, option_and_then, true, ℕ, ◌%◌, ◌&&◌, ◌++◌, ◌+◌, ◌<◌, ◌==◌, ◌∷◌, ◌≡◌, ◌≤◌}
 
 -- ---- places
 
@@ -170,10 +169,6 @@ timed_in n (x ∷ cs) c h has =
 pub layout_at : (p : Program) (h : Header) (xs : List Happening) → LawfulRun p h xs → (x : Sent) (s : Standing (world_at p h xs) x) → (setting_at s).layout ≡ (world_at p h xs).layout
 layout_at p h xs run x s = (promised.of_world p h xs run x.machine s.machine s.daemon s.at s.has).layout
 
--- Each host's block has one sector.
-pub plain_at : (p : Program) (h : Header) (xs : List Happening) → LawfulRun p h xs → (x : Sent) (s : Standing (world_at p h xs) x) → (setting_at s).layout.paired ≡ false
-plain_at p h xs run x s = ap (λ (g : Layout). g.paired) (layout_at p h xs run x s) ∙ plain_in p h xs run
-
 -- What a session wrote or read on an area before was answered by then, so it was made at an earlier step.
 pub made_before : (p : Program) (h : Header) (xs : List Happening) → LawfulRun p h xs → (x : Sent) (s : Standing (world_at p h xs) x) (c : Course) → Contains s.before c
     → c.call.session ≡ x.course.call.session → works x.course.call ≡ true → is_area_work x.course.call.purpose ≡ true → works c.call ≡ true
@@ -257,7 +252,7 @@ both_ways a b p q = omega (arith, p, q)
 
 abbrev pub base_by : World → Spot → Sent → Option Sent → ℕ
 base_by w at x o =
-    elim o [ Some y ↦ step_of y | None ↦ option_map_or (shown_by w at (holder_of w (sender_of x)).id) (last_look_before w at (sender_of x) (step_of x)) 0 ]
+    elim o [ Some y ↦ step_of y | None ↦ option_map_or (shown_by w at (holder_of w (sender_of x)).id) (last_given_before w at (sender_of x) (step_of x)) 0 ]
 
 pub own_written : (p : Program) (h : Header) (xs : List Happening) → LawfulRun p h xs → (at : Spot) → at.base % (world_at p h xs).layout.area ≡ 0 → (x : Sent)
     → Contains (all_sent (world_at p h xs)) x → (s : Standing (world_at p h xs) x) → is_on (world_at p h xs).layout at x.course.call ≡ true → (b : Block)

@@ -1,8 +1,7 @@
 -- Numbers of ballots are above 0: a block of an instance has a number, since it comes from phase 1, or from a block that has one.
 use Rattle.sl_trace_law.specs.Leases.Ways.{BlockComes, FoundIn, Of_mode, Of_phase1, Of_phase2, Way, lease_among}
-use Rattle.sl_trace.proofs.PlainReads.{given_plain}
 use Rattle.sl_trace.specs.Leases.{block_submitted, is_on}
-use Rattle.sl_history.proofs.Resources.Owning.{plain_at, own_written}
+use Rattle.sl_history.proofs.Resources.Owning.{own_written}
 use Rattle.sl_history.proofs.Resources.Shows.{Never, Once, Seen}
 use Rattle.sl_history.proofs.Resources.Reading.{IsWriter, seen_before, writer_of}
 use Rattle.sl_history.proofs.Resources.Standing.{Standing, standing}
@@ -20,7 +19,7 @@ use Rattle.sl_trace.specs.declared.effects.Spot.{Spot}
 use Rattle.sl_words.proofs.OrderLaws.{by_smaller}
 use Rattle.std.proofs.Common.{ap, arith, refl, subst, sym, ◌∙◌}
 use Rattle.std.specs.Prelude.{Contains, List, None, Option, Some, true, ℕ, ◌-◌, ◌<◌, ◌≡◌}
-use Rattle.sl_history.proofs.Resources.Above.{comes_at, is_among, line_aligned, own_there, written_at}
+use Rattle.sl_history.proofs.Resources.Above.{comes_at, line_aligned, own_there, written_at}
 
 -- ---- the own block
 
@@ -28,9 +27,7 @@ use Rattle.sl_history.proofs.Resources.Above.{comes_at, is_among, line_aligned, 
 pub found_seen : (p : Program) (h : Header) (xs : List Happening) (r : ResourceLine) (x : Sent) (s : Standing (world_at p h xs) x) → IsWriter p h xs r x s → (own : Block)
     → FoundIn s.daemon.setting.layout s.session.id (lease_among s.daemon.setting s.session (spot_of_line r) s.told.older) own → Seen (world_at p h xs) (spot_of_line r) own (step_of x)
 found_seen p h xs r x s k own f =
-    seen_before p h xs r x s k f.read (is_among s.daemon.setting s.session (spot_of_line r) s.told.older f.read f.has) f.blocks
-    (given_plain s.daemon.setting.layout (plain_at p h xs k.run x s) f.read f.before f.blocks f.given) (s.session.id - 1) own
-    (own_there f.blocks s.session.id own f.block)
+    seen_before p h xs r x s k f.newer f.read f.before f.split f.blocks f.given (s.session.id - 1) own (own_there f.blocks s.session.id own f.block)
 
 -- The own block of a write was written before, or is fresh.
 own_seen : (p : Program) (h : Header) (xs : List Happening) → LawfulRun p h xs → (r : ResourceLine) → Contains h.resources r → (x : Sent)

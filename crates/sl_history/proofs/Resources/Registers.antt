@@ -2,7 +2,7 @@
 use Rattle.sl_ballots.specs.Disk.{Wrote}
 use Rattle.sl_plain.proofs.Numbers.{trans_lt}
 use Rattle.sl_history.proofs.Giving.Proven.{reads_are_given}
-use Rattle.sl_history.proofs.Resources.AtSteps.{IsReadAt, answer_of_read, answered, block_at, found_before, not_at_first, read_found, since, wrote}
+use Rattle.sl_history.proofs.Resources.AtSteps.{IsReadAt, answer_of_read, block_at, found_before, not_at_first, read_found, wrote, since, answered}
 use Rattle.sl_history.specs.Resources.Histories.{counts_own, history_block, is_host, no_block, own_before}
 use Rattle.sl_history.specs.Resources.Orders.{BlockSent}
 use Rattle.sl_history.specs.Resources.Promises.{HistoriesAreRegisters, history_of_line, spot_of_line}
@@ -38,11 +38,11 @@ own_shows w r k x before late counts (Some y) is =
 
 -- By what it was given of the host.
 given_shows : (p : Program) (h : Header) (xs : List Happening) (r : ResourceLine) (g : ReadsGive p h xs r) (n k : ℕ) (b : IsReadAt (world_at p h xs) r n)
-    → n < (history_of_line p h xs r).answer n → is_host (world_at p h xs) k ≡ true → (o : Option (Option Sent)) → g.given n k ≡ o
+    → step_of b.sent < (history_of_line p h xs r).answer n → is_host (world_at p h xs) k ≡ true → (o : Option (Option Sent)) → g.given n k ≡ o
     → shows_given (world_at p h xs) r k b.sent o ≡ true → Showing (world_at p h xs) r k (shown_given (world_at p h xs) r b.sent o) ((history_of_line p h xs r).answer n)
 given_shows p h xs r g n k b late host None is counts =
     let w : World = world_at p h xs in
-    own_shows w r k b.sent ((history_of_line p h xs r).answer n) (subst (λ m. m < (history_of_line p h xs r).answer n) (sym b.is.step_is) late) counts
+    own_shows w r k b.sent ((history_of_line p h xs r).answer n) late counts
     (own_before w (spot_of_line r) b.sent) refl
 given_shows p h xs r g n k b late host (Some None) is counts = At_first refl
 given_shows p h xs r g n k b late host (Some (Some x)) is counts =
@@ -52,7 +52,7 @@ given_shows p h xs r g n k b late host (Some (Some x)) is counts =
 
 -- What the history shows of a host.
 shown_by_read : (p : Program) (h : Header) (xs : List Happening) (r : ResourceLine) (g : ReadsGive p h xs r) (n k : ℕ) (b : IsReadAt (world_at p h xs) r n)
-    → n < (history_of_line p h xs r).answer n → (t : Bool) → is_host (world_at p h xs) k ≡ t → (history_of_line p h xs r).shows n k ≡ true
+    → step_of b.sent < (history_of_line p h xs r).answer n → (t : Bool) → is_host (world_at p h xs) k ≡ t → (history_of_line p h xs r).shows n k ≡ true
     → Showing (world_at p h xs) r k ((history_of_line p h xs r).shown n k) ((history_of_line p h xs r).answer n)
 shown_by_read p h xs r g n k b late false host shows = At_first (g.others n k (ap (λ q. is_some q) b.found) host).1
 shown_by_read p h xs r g n k b late true host shows =
@@ -71,6 +71,10 @@ shown_early : (w : World) (r : ResourceLine) (k step before late : ℕ) → late
 shown_early w r k step before late some (At_first none) = omega (arith, some, none)
 shown_early w r k step before late some (Of_sent x sent on block host is early) = omega (arith, is, early)
 
+answered_after : (p : Program) (h : Header) (xs : List Happening) → LawfulRun p h xs → (r : ResourceLine) (n : ℕ) (b : IsReadAt (world_at p h xs) r n)
+    → step_of b.sent < (history_of_line p h xs r).answer n
+answered_after p h xs run r n b = let a = answer_of_read p h xs run r n b in subst (λ m. step_of b.sent < m) (sym a.step) a.after
+
 forward : (p : Program) (h : Header) (xs : List Happening) → LawfulRun p h xs → (r : ResourceLine) (n : ℕ) → IsReadAt (world_at p h xs) r n → n < (history_of_line p h xs r).answer n
 forward p h xs run r n b = let a = answer_of_read p h xs run r n b in subst (λ m. n < m) (sym a.step) a.later
 
@@ -87,9 +91,9 @@ are_registers p h xs r run there differ =
       forward = λ e is. forward p h xs run r e (read_found w r e is);
       submitted = λ e k is shows.
           let b = read_found w r e is in
-          shown_wrote p h xs run r there k _ _ (shown_by_read p h xs r g e k b (forward p h xs run r e b) (is_host w k) refl shows);
+          shown_wrote p h xs run r there k _ _ (shown_by_read p h xs r g e k b (answered_after p h xs run r e b) (is_host w k) refl shows);
       earlier = λ e k is shows.
           let b = read_found w r e is in
-          let late = forward p h xs run r e b in
-          shown_early w r k _ _ e late (shown_by_read p h xs r g e k b late (is_host w k) refl shows);
+          let late = answered_after p h xs run r e b in
+          shown_early w r k _ _ (step_of b.sent) late (shown_by_read p h xs r g e k b late (is_host w k) refl shows);
     }

@@ -9,8 +9,7 @@ use Rattle.sl_run_law.proofs.Moment.Ordering.{fall_rest, fall_step, machines_ord
 use Rattle.sl_run_law.specs.Moment.Orders.{Fall, IsTimed, life_of}
 use Rattle.sl_plain.proofs.Lists.{contains_cases, contains_none}
 use Rattle.sl_history.proofs.Resources.Owning.{timed_in}
-use Rattle.sl_run.specs.Events.{may_happen}
-use Rattle.sl_run.specs.Events.{machine_of}
+use Rattle.sl_run.specs.Events.{machine_of, may_happen}
 use Rattle.sl_run.specs.Runs.{Happening}
 use Rattle.sl_run.specs.Safety.{LawfulRun, world_at}
 use Rattle.sl_run.specs.Worlds.{Course, Daemon, Machine, Program, Stamp, World, daemons_on, machine_at}

@@ -4,8 +4,6 @@ use Rattle.sl_ballots.specs.History.{Owner as Holder}
 use Rattle.sl_id_safety.proofs.Acting.{lockspaces_are_areas}
 use Rattle.sl_run.specs.LawfulArea.{is_area_work}
 use Rattle.sl_history.proofs.Resources.Calls.{IsWork, block_works, sent_there, worker_joined}
-use Rattle.sl_history.proofs.Giving.Landed.{landed_block}
-use Rattle.sl_history.proofs.Resources.Calls.{writes_is}
 use Rattle.sl_history.specs.Resources.Histories.{is_host}
 use Rattle.sl_history.specs.Resources.Orders.{BlockSent, Follows, LandsBefore}
 use Rattle.sl_history.specs.Resources.Sending.{Sent, holder_of, sender_of}
@@ -25,6 +23,7 @@ use Rattle.sl_words.proofs.CaseLaws.{false_is_true}
 use Rattle.std.proofs.Common.{ap, inl, inr, refl, subst, sym, ◌∙◌}
 use Rattle.std.proofs.lemmas.Bool.{and_from, eq-eqb}
 use Rattle.std.specs.Prelude.{Contains, List, false, true, ℕ, ◌==◌, ◌≡◌}
+use Rattle.sl_history.proofs.Giving.Landed.{is_landed_at}
 
 -- ---- sessions of a host
 
@@ -72,10 +71,9 @@ lands_before : (p : Program) (h : Header) (xs : List Happening) → LawfulRun p 
 lands_before p h xs run r there k host i j over x l at mine f n its joins =
     let w : World = world_at p h xs in
     let c = sent_there w x at.sent in
-    let b = landed_block p h xs run r there k host x l at in
-    let work = block_works p h xs run r there b.0.sent b.0.there b.0.on (writes_is b.0.sent.course b.0.block b.0.writes) in
+    let work = (is_landed_at p h xs run r there k host x l at).work in
     over_lands_not p h xs run i n (over f its n joins) l at.landed x.machine c.machine x.course c.at c.has at.writer (ap (λ (y : SessionId). y.machine) mine) (sent_own i x mine)
-    (not_free x.course.call.purpose (ap (λ (y : Sent). is_area_work y.course.call.purpose) (sym b.1) ∙ work.area))
+    (not_free x.course.call.purpose work.area)
 
 -- ---- the law
 

@@ -6,7 +6,7 @@ use Rattle.sl_run_law.proofs.Front.Going.{fronts_are_lawful}
 use Rattle.sl_id_safety.proofs.Proven.{over_stays}
 use Rattle.sl_id_safety.proofs.Settling.{over_are_settled}
 use Rattle.sl_id_safety.proofs.State.LaterFrames.{found_later}
-use Rattle.sl_history.proofs.Resources.Calls.{IsWork, block_works, found_at, found_of, found_read, owner_found, read_works}
+use Rattle.sl_history.proofs.Resources.Calls.{IsWork, block_works, found_at, found_of, found_read, owner_found}
 use Rattle.sl_history.specs.Resources.Histories.{is_over_in, joined_of, world_by}
 use Rattle.sl_history.specs.Resources.Promises.{history_of_line, spot_of_line}
 use Rattle.sl_history.specs.Resources.Sending.{Sent, holder_of, holder_of_found, nobody, read_at, sender_of, sent_at, session_of_holder, step_of, writes_block}
@@ -28,6 +28,7 @@ use Rattle.std.proofs.Common.{ap, arith, inl, inr, refl, subst, sym, ◌∙◌}
 use Rattle.std.proofs.lemmas.Bool.{cases_lt}
 use Rattle.std.specs.Option.{option_map_or}
 use Rattle.std.specs.Prelude.{Bool, Contains, List, None, Option, Some, false, is_some, option_and_then, option_map, true, ℕ, ◌++◌, ◌+◌, ◌<◌, ◌≡◌, ◌≤◌, ◌⊎◌}
+use Rattle.sl_history.proofs.Resources.Begun.{begins}
 
 -- ---- who acts has joined
 
@@ -73,9 +74,10 @@ readers p h xs run r there e is =
     let w : World = world_at p h xs in
     let x = some_sent (read_at w (spot_of_line r) r.lockspace e) is in
     let f = found_read w r e x.0 x.1 in
-    let work = read_works p h xs run r x.0 f.0.sent f.0.on f.1 in
+    let b = begins p h xs run r there x.0 (record { has = f.0.sent; on = f.0.on; counted = f.1 }) in
     subst (λ o. HasJoinedBy w r.lockspace o e) (sym (ap (λ o. option_map_or (λ (y : Sent). holder_of w (sender_of y)) o nobody) x.1))
-    (subst (λ n. HasJoinedBy w r.lockspace (holder_of w (sender_of x.0)) n) f.0.step_is (worker_joined_before p h xs run r there x.0 work))
+    (subst (λ n. HasJoinedBy w r.lockspace (holder_of w (sender_of x.0)) n) (sym b.began ∙ f.0.began)
+    (subst (λ i. HasJoinedBy w r.lockspace (holder_of w i) (step_of b.first)) b.sender (worker_joined_before p h xs run r there b.first b.work)))
 
 -- ---- one joins at a step
 
@@ -104,7 +106,7 @@ pub record OverAt (p : Program) (h : Header) (xs : List Happening) (lockspace : 
   pub joined : HasJoined found
   pub over : is_over session found ≡ true
 
-over_at : (p : Program) (h : Header) (xs : List Happening) → (lockspace : List ℕ) (o : Holder) (t : ℕ) (f : FrontAt p h xs t)
+pub over_at : (p : Program) (h : Header) (xs : List Happening) → (lockspace : List ℕ) (o : Holder) (t : ℕ) (f : FrontAt p h xs t)
     → some_is (is_over_in (world_by (world_with p h) xs t)) (session_of_holder (world_at p h xs) lockspace o) ≡ true → OverAt p h xs lockspace o f.now f.rest
 over_at p h xs lockspace o t f is =
     let k = over_as (world_at p h xs) (world_at p h f.now) lockspace o

@@ -34,6 +34,7 @@ use Rattle.std.proofs.lemmas.Bool.{and_from, eq-eqb, eqb-true}
 use Rattle.std.proofs.lemmas.Bool.Decides.{nat_tests}
 use Rattle.std.specs.Option.{option_map_or}
 use Rattle.std.specs.Prelude.{Contains, List, None, Option, Some, find, is_some, nat_lt, true, ℕ, ◌&&◌, ◌+◌, ◌<◌, ◌==◌, ◌≡◌, ◌≤◌}
+use Rattle.sl_history.proofs.Resources.Looks.{began_before}
 
 -- ---- a session that is over sends nothing
 
@@ -112,35 +113,36 @@ own_is_newest p h xs run r there k x y z b one two s told late last (inr (inr ov
 
 -- ---- what a read shows
 
--- A block that was answered ok before a read, and that read.
-record Earlier (p : Program) (h : Header) (xs : List Happening) (r : ResourceLine) (k : ℕ) (x z : Sent) : Type 0 where
+-- A block that was answered ok when a read began, and that read.
+record Earlier (p : Program) (h : Header) (xs : List Happening) (r : ResourceLine) (k began : ℕ) (x z : Sent) : Type 0 where
   block : BlockSent (world_at p h xs) r k x
   done : x.course.done ≡ true
   stamp : Stamp
   answered : x.course.answered ≡ Some stamp
   works : IsWork (world_at p h xs) r z
   late : stamp.step ≤ step_of z
+  early : stamp.step ≤ began
 
-own_by : (p : Program) (h : Header) (xs : List Happening) → LawfulRun p h xs → (r : ResourceLine) → Contains h.resources r → (k : ℕ) → (x z : Sent) → Earlier p h xs r k x z
+own_by : (p : Program) (h : Header) (xs : List Happening) → LawfulRun p h xs → (r : ResourceLine) → Contains h.resources r → (k began : ℕ) → (x z : Sent) → Earlier p h xs r k began x z
     → IsWork (world_at p h xs) r x → (holder_of (world_at p h xs) (sender_of z)).id ≡ k → (o : Option Sent) → own_before (world_at p h xs) (spot_of_line r) z ≡ o → is_some o ≡ true
     → step_of x ≤ option_map_or step_of o 0
-own_by p h xs run r there k x z e work host None last is = absurd (true_is_false (sym is))
-own_by p h xs run r there k x z e work host (Some y) last is =
+own_by p h xs run r there k began x z e work host None last is = absurd (true_is_false (sym is))
+own_by p h xs run r there k began x z e work host (Some y) last is =
     own_is_newest p h xs run r there k x y z e.block work e.works e.stamp
     ((call_timed p h xs run x.machine work.owned.there.machine x.course work.owned.there.at work.owned.there.has).answered e.stamp e.answered) e.late last
     (host_sequel p h xs run r k (sender_of x) (sender_of z) (worker_of_host p h xs r k x work e.block.host) (worker_of_host p h xs r k z e.works host))
 
 -- By what the read was given.
 given_at_least : (p : Program) (h : Header) (xs : List Happening) → LawfulRun p h xs → (r : ResourceLine) → Contains h.resources r → (g : ReadsGive p h xs r) → (n k : ℕ)
-    → is_host (world_at p h xs) k ≡ true → (x : Sent) (z : IsReadAt (world_at p h xs) r n) → Earlier p h xs r k x z.sent → IsWork (world_at p h xs) r x → (o : Option (Option Sent))
+    → is_host (world_at p h xs) k ≡ true → (x : Sent) (z : IsReadAt (world_at p h xs) r n) → Earlier p h xs r k n x z.sent → IsWork (world_at p h xs) r x → (o : Option (Option Sent))
     → g.given n k ≡ o → shows_given (world_at p h xs) r k z.sent o ≡ true → step_of x ≤ shown_given (world_at p h xs) r z.sent o
 given_at_least p h xs run r there g n k host x z e work (Some from) is shows =
-    g.newest n k (ap (λ o. is_some o) z.found) host from is x e.block e.done e.stamp e.answered (subst (λ m. e.stamp.step ≤ m) z.is.step_is e.late)
+    g.newest n k (ap (λ o. is_some o) z.found) host from is x e.block e.done e.stamp e.answered e.early
     (λ y b. sessions_follow p h xs r run there k x y e.block b)
 given_at_least p h xs run r there g n k host x z e work None is shows =
     let w : World = world_at p h xs in
     let both = and_true ((holder_of w (sender_of z.sent)).id == k) (is_some (own_before w (spot_of_line r) z.sent)) shows in
-    own_by p h xs run r there k x z.sent e work (eqb-true (holder_of w (sender_of z.sent)).id k both.0) (own_before w (spot_of_line r) z.sent) refl both.1
+    own_by p h xs run r there k n x z.sent e work (eqb-true (holder_of w (sender_of z.sent)).id k both.0) (own_before w (spot_of_line r) z.sent) refl both.1
 
 -- ---- the law
 
@@ -163,14 +165,16 @@ show_newest p h xs r run there n k e a reads shows wrote ok late =
     let x : IsBlockAt w r e = block_at w r e wrote.is in
     let told = ok_is w r e a x ok in
     let block : BlockSent w r k x.sent = block_is p h xs r k e x wrote in
-    let earlier : Earlier p h xs r k x.sent z.sent =
+    let earlier : Earlier p h xs r k n x.sent z.sent =
     record {
       block = block;
       done = told.0;
       stamp = told.1;
       answered = told.2;
       works = read_works p h xs run r z.sent z.is.sent z.is.on z.counted;
-      late = subst (λ m. told.1.step ≤ m) (sym z.is.step_is) (subst (λ m. m ≤ n) (sym told.3) late);
+      late = through told.1.step n (step_of z.sent) (subst (λ m. m ≤ n) (sym told.3) late)
+          (subst (λ m. m ≤ step_of z.sent) z.is.began (began_before p h xs run (spot_of_line r) z.sent));
+      early = subst (λ m. m ≤ n) (sym told.3) late;
     } in
     let work = block_works p h xs run r there x.sent x.is.sent x.is.on x.block in
     let host : is_host w k ≡ true = worker_is_host p h xs run r there k x.sent work block.host in

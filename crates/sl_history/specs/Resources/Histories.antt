@@ -2,27 +2,25 @@
 --
 -- All but `over` is read off the world at the run's end, since a world keeps its past; who was over after a step is read off the world
 -- after that step.
-use Rattle.sl_area.specs.Places.{block_offset}
 use Rattle.sl_ballots.specs.History.{Block as HistoryBlock, History, Leader as HistoryLeader, Owner as Holder}
 use Rattle.sl_ballots.specs.Residues.{host_by_remainder}
 use Rattle.sl_run_law.specs.Course.Stamping.{stamp_in}
-use Rattle.sl_trace.specs.Leases.{is_area_read}
-use Rattle.sl_history.specs.Resources.Sending.{Sent, block_of_course, holder_of, last_block_before, last_look_before, leader_of_course, nobody, read_at, sender_of, sent_at, session_of_holder, step_of, writes_block, writes_leader}
+use Rattle.sl_history.specs.Resources.Sampled.{landing_shown, shown_of, step_of_landing}
+use Rattle.sl_history.specs.Resources.Sending.{Sent, block_of_course, holder_of, begun_by, last_block_before, last_given_before, leader_of_course, nobody, read_at, sender_of, sent_at, session_of_holder, step_of, writes_block, writes_leader}
 use Rattle.sl_run.specs.Events.{happens}
 use Rattle.sl_run.specs.Runs.{Happening}
 use Rattle.sl_run.specs.Safety.{Found, SessionId, is_over, session_of_world, setting_in, trace_of, world_at}
-use Rattle.sl_run.specs.Worlds.{Course, Landing, Program, Stamp, World, history_of, machine_at, world_with}
+use Rattle.sl_run.specs.Worlds.{Landing, Program, Stamp, World, world_with}
 use Rattle.sl_run.specs.declared.header.Header.{Header}
-use Rattle.sl_run_law.specs.Sample.Samples.{numbered_landing}
 use Rattle.sl_sector.specs.declared.sector.Block.{Block}
 use Rattle.sl_sector.specs.declared.sector.Leader.{Leader}
 use Rattle.sl_trace.specs.Sessions.{joined_after}
 use Rattle.sl_trace.specs.Watching.{counted_over}
-use Rattle.sl_trace.specs.Traces.{Trace, new_call}
+use Rattle.sl_trace.specs.Traces.{Trace}
 use Rattle.sl_trace.specs.declared.effects.Spot.{Spot}
-use Rattle.sl_words.specs.Words.{some_is}
+use Rattle.sl_words.specs.Words.{choose, some_is}
 use Rattle.std.specs.Option.{option_map_or}
-use Rattle.std.specs.Prelude.{Bool, List, None, Option, Some, false, find, if◌then◌else◌, is_some, nat_le, option_and_then, option_map, slice_get, true, [], ℕ, ◌&&◌, ◌+◌, ◌-◌, ◌==◌, ◌∷◌}
+use Rattle.std.specs.Prelude.{Bool, List, None, Option, Some, false, if◌then◌else◌, is_some, nat_le, option_and_then, option_map, true, [], ℕ, ◌&&◌, ◌+◌, ◌-◌, ◌==◌, ◌∷◌}
 
 -- ---- the world after a step
 
@@ -49,23 +47,6 @@ history_leader l = record { lver = l.lver; owner = record { id = l.owner; genera
 
 -- ---- what a read shows of a host
 
--- Which of its sectors has the host's block.
-abbrev pub sector_number : Course → ℕ → ℕ
-sector_number c host = if is_area_read (new_call 0 0 c.call) then host + 1 else host - 1
-
--- The landing that the read shows of the host.
-abbrev pub landing_shown : World → Spot → Course → ℕ → Option Landing
-landing_shown w at c host =
-    option_and_then (λ s. numbered_landing (history_of w at.path (block_offset w.layout at.base host)) s.index) (slice_get c.samples (sector_number c host))
-
--- When the call that left a landing was made; 0 for what stood there at first.
-abbrev pub step_of_landing : World → Landing → ℕ
-step_of_landing w l =
-    elim l.writer [
-      | None ↦ 0
-      | Some p ↦ option_map_or (λ c. c.made.step) (option_and_then (λ a. find (λ c. c.call.number == p.1) a.calls) (machine_at w p.0)) 0
-    ]
-
 -- Whether the host is one of the run's.
 abbrev pub is_host : World → ℕ → Bool
 is_host w host = nat_le 1 host && nat_le host w.layout.hosts
@@ -78,27 +59,35 @@ own_before w at x = last_block_before w at (sender_of x) (step_of x)
 abbrev pub counts_own : World → Spot → Sent → ℕ → Bool
 counts_own w at x host = (holder_of w (sender_of x)).id == host && is_some (own_before w at x)
 
--- Whether the read shows a whole block of the host.
-abbrev pub shows_whole : World → Spot → ℕ → Sent → Bool
-shows_whole w at host x = some_is (λ l. l.whole) (landing_shown w at x.course host)
+-- The step of the block that a whole landing has.
+abbrev pub whole_step : World → Landing → Option ℕ
+whole_step w l = choose l.whole (step_of_landing w l)
+
+-- The step of the block that the read shows of the host, if it shows a whole one: of its sector, or of its pair.
+abbrev pub block_shown : World → Spot → ℕ → Sent → Option ℕ
+block_shown w at host x =
+    elim w.layout.paired [
+      | false ↦ option_and_then (whole_step w) (landing_shown w at x.course host)
+      | true ↦ option_and_then (λ y. option_map (λ s. s.write) (shown_of w at host y.course x.course)) (begun_by w at x)
+    ]
 
 abbrev pub shows_by : World → Spot → ℕ → Sent → Bool
-shows_by w at host x = if is_host w host then (if shows_whole w at host x then true else counts_own w at x host) else true
+shows_by w at host x = if is_host w host then (if is_some (block_shown w at host x) then true else counts_own w at x host) else true
 
 -- The step of the block that it shows.
 abbrev pub shown_by : World → Spot → ℕ → Sent → ℕ
 shown_by w at host x =
-    if is_host w host then (if shows_whole w at host x then option_map_or (step_of_landing w) (landing_shown w at x.course host) 0
-    else option_map_or step_of (own_before w at x) 0) else 0
+    if is_host w host then elim (block_shown w at host x) [ Some n ↦ n | None ↦ option_map_or step_of (own_before w at x) 0 ] else 0
 
 -- ---- the own block of a write
 
--- The step of the block that it was made of: the last that the session submitted, else what its last read shows of its host.
+-- The step of the block that it was made of: the last that the session submitted, else what the last read that gave it blocks shows of its
+-- host.
 abbrev pub base_of : World → Spot → Sent → ℕ
 base_of w at x =
     elim (last_block_before w at (sender_of x) (step_of x)) [
       | Some y ↦ step_of y
-      | None ↦ option_map_or (shown_by w at (holder_of w (sender_of x)).id) (last_look_before w at (sender_of x) (step_of x)) 0
+      | None ↦ option_map_or (shown_by w at (holder_of w (sender_of x)).id) (last_given_before w at (sender_of x) (step_of x)) 0
     ]
 
 -- ---- sessions

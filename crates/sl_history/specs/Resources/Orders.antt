@@ -1,9 +1,10 @@
 -- The order in which the blocks of a host land: that in which they were submitted. The register lemma rests on it.
-use Rattle.sl_area.specs.Places.{block_offset}
+use Rattle.sl_area.specs.Layouts.{Layout}
+use Rattle.sl_area.specs.Places.{block_place}
 use Rattle.sl_trace.specs.Leases.{is_on}
-use Rattle.sl_history.specs.Resources.Histories.{is_host, joined_step, landing_shown, step_of_landing}
+use Rattle.sl_history.specs.Resources.Histories.{block_shown, is_host, joined_step}
 use Rattle.sl_history.specs.Resources.Promises.{spot_of_line}
-use Rattle.sl_history.specs.Resources.Sending.{Sent, all_sent, holder_of, reads_blocks, sender_of, step_of, writes_block}
+use Rattle.sl_history.specs.Resources.Sending.{Sent, all_sent, holder_of, read_at, sender_of, step_of, writes_block}
 use Rattle.sl_run.specs.Runs.{Happening}
 use Rattle.sl_run.specs.Safety.{Found, IsSession, LawfulRun, SessionId, world_at}
 use Rattle.sl_run.specs.Worlds.{Landing, Program, Stamp, World}
@@ -11,11 +12,15 @@ use Rattle.sl_run.specs.declared.header.Header.{Header}
 use Rattle.sl_run.specs.declared.header.ResourceLine.{ResourceLine}
 use Rattle.std.specs.Prelude.{Contains, IsTrue, List, Some, true, ℕ, ◌<◌, ◌≡◌, ◌≤◌, ◌⊎◌}
 
--- The call left this landing at the place of host k.
+-- A place of a host's block: with pairs either sector of its pair.
+abbrev pub IsBlockPlace : Layout → ℕ → ℕ → ℕ → Type 0
+IsBlockPlace g base k offset = (turn : ℕ) × (offset ≡ block_place g base k turn)
+
+-- The call left this landing at a place of host k.
 pub record LandedAt (w : World) (r : ResourceLine) (k : ℕ) (x : Sent) (l : Landing) : Type 0 where
   pub sent : Contains (all_sent w) x
   pub landed : Contains w.landings l
-  pub place : (l.path ≡ r.path) × (l.offset ≡ block_offset w.layout r.offset k)
+  pub place : (l.path ≡ r.path) × IsBlockPlace w.layout r.offset k l.offset
   pub writer : l.writer ≡ Some (x.machine, x.course.call.number)
 
 -- Nothing of the first session lands there once the other has joined. (It was over by then: an interface of the ids.)
@@ -40,17 +45,11 @@ pub record BlockSent (w : World) (r : ResourceLine) (k : ℕ) (x : Sent) : Type 
   pub block : writes_block x.course ≡ true
   pub host : (holder_of w (sender_of x)).id ≡ k
 
--- A read of all blocks there.
-pub record ReadSent (w : World) (r : ResourceLine) (z : Sent) : Type 0 where
-  pub sent : Contains (all_sent w) z
-  pub on : is_on w.layout (spot_of_line r) z.course.call ≡ true
-  pub reads : reads_blocks z.course ≡ true
-
--- So a read that is submitted once a block was answered ok shows that block's landing or that of one that was submitted later, where the
--- sessions of the host's blocks follow one another.
+-- So a read that begins once a block was answered ok shows, of its host, that block or one that was submitted later, where the sessions of
+-- the host's blocks follow one another.
 abbrev pub ReadsShowNewest : Type 0
 ReadsShowNewest = (p : Program) (h : Header) (xs : List Happening) (r : ResourceLine) → LawfulRun p h xs → Contains h.resources r → (k : ℕ)
     → IsTrue (is_host (world_at p h xs) k) → (x : Sent) → BlockSent (world_at p h xs) r k x → x.course.done ≡ true → (s : Stamp) → x.course.answered ≡ Some s
-    → (z : Sent) → ReadSent (world_at p h xs) r z → s.step ≤ step_of z → (m : Landing) → landing_shown (world_at p h xs) (spot_of_line r) z.course k ≡ Some m
-    → ((y : Sent) → BlockSent (world_at p h xs) r k y → Follows (world_at p h xs) r k (sender_of x) (sender_of y))
-    → step_of x ≤ step_of_landing (world_at p h xs) m
+    → (n : ℕ) (z : Sent) → read_at (world_at p h xs) (spot_of_line r) r.lockspace n ≡ Some z → s.step ≤ n → (m : ℕ)
+    → block_shown (world_at p h xs) (spot_of_line r) k z ≡ Some m
+    → ((y : Sent) → BlockSent (world_at p h xs) r k y → Follows (world_at p h xs) r k (sender_of x) (sender_of y)) → step_of x ≤ m

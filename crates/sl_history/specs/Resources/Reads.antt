@@ -1,12 +1,12 @@
 -- What reads give of a resource's blocks: all that the argument above takes of disks.
 --
--- A read is named as the history names it: by the step at which it began; it ends with its answer, and its trace has the blocks that it
--- gave. Of each host it gave one block, or nothing. A block is named by the call that sent it, or by none, where it stood there at first.
+-- A read is named as the history names it: by the step at which it began; it ends with its last answer, and its trace has the blocks that
+-- it gave. Of each host it gave one block, or nothing. A block is named by the call that sent it, or by none, where it stood there at first.
 -- Nothing is said of sectors: how many keep a host's block, how often they are read, and what a torn one costs, is the affair of the
 -- proof of this record.
 use Rattle.sl_run.specs.Runs.{Happening}
 use Rattle.sl_run.specs.Safety.{LawfulRun, block_there, world_at}
-use Rattle.sl_run.specs.Worlds.{Course, Daemon, Machine, Program, Stamp, World, daemons_on, machine_at}
+use Rattle.sl_run.specs.Worlds.{Daemon, Machine, Program, Stamp, World, daemons_on, machine_at}
 use Rattle.sl_run.specs.declared.header.Header.{Header}
 use Rattle.sl_run.specs.declared.header.ResourceLine.{ResourceLine}
 use Rattle.sl_run_law.specs.Course.Stamping.{IsCourseOf}
@@ -15,10 +15,13 @@ use Rattle.sl_history.specs.Resources.Orders.{BlockSent, Follows}
 use Rattle.sl_history.specs.Resources.Promises.{history_of_line, spot_of_line}
 use Rattle.sl_history.specs.Resources.Sending.{Sent, block_of_course, read_at, sender_of, step_of}
 use Rattle.sl_sector.specs.declared.sector.Block.{Block}
-use Rattle.sl_history.specs.Resources.Once.{blocks_once as blocks_given}
+use Rattle.sl_trace.specs.Leases.{blocks_given}
+use Rattle.sl_trace.specs.Sessions.{session_numbered}
 use Rattle.sl_trace.specs.Traces.{Submitted, submitted}
+use Rattle.sl_trace.specs.declared.session.Session.{Session}
+use Rattle.sl_trace_law.specs.Leases.Ways.{lease_among}
 use Rattle.std.specs.Option.{option_map_or}
-use Rattle.std.specs.Prelude.{Bool, Contains, List, None, Option, Some, false, if◌then◌else◌, is_some, slice_get, true, ℕ, ◌++◌, ◌-◌, ◌<◌, ◌≡◌, ◌≤◌}
+use Rattle.std.specs.Prelude.{Bool, Contains, List, None, Option, Some, false, if◌then◌else◌, is_some, slice_get, true, ℕ, ◌++◌, ◌-◌, ◌<◌, ◌∷◌, ◌≡◌, ◌≤◌}
 
 -- ---- blocks by their senders
 
@@ -33,27 +36,26 @@ Says (Some x) b = block_of_course x.course ≡ Some b
 
 -- ---- a read in its trace
 
--- How a read that begins with the first call ends with the other: it is one call. (One that is read again would end with another.)
-abbrev pub EndsWith : Course → Course → Type 0
-EndsWith first last = first ≡ last
-
--- The read of the history at a step, and the call of its trace that gave its blocks.
+-- The read of the history that began at a step, and the call of its trace that gave its blocks.
 pub record ReadBlocks (w : World) (r : ResourceLine) (n : ℕ) (bs : List (Option Block)) : Type 0 where
-  -- the call by which it began
+  -- the call with which it ended
   pub sent : Sent
   pub found : read_at w (spot_of_line r) r.lockspace n ≡ Some sent
   pub machine : Machine
   pub at : machine_at w sent.machine ≡ Some machine
+  pub inside : Contains machine.calls sent.course
   pub daemon : Daemon
   pub has : Contains (daemons_on machine) daemon
-  -- the call with which it ended
-  pub last : Course
-  pub ends : EndsWith sent.course last
-  pub inside : Contains machine.calls last
+  -- the same in its trace, with the calls before it
+  pub newer : List Submitted
   pub call : Submitted
-  pub told : Contains (submitted daemon.trace) call
-  pub pair : IsCourseOf daemon last call
-  pub given : blocks_given daemon.setting.layout call ≡ Some bs
+  pub older : List Submitted
+  pub told : submitted daemon.trace ≡ newer ++ call ∷ older
+  pub pair : IsCourseOf daemon sent.course call
+  -- what it gave to its session, with the calls of this on the area before it
+  pub session : Session
+  pub known : session_numbered daemon.setting daemon.trace call.call.session ≡ Some session
+  pub given : blocks_given daemon.setting.layout call (lease_among daemon.setting session (spot_of_line r) older) ≡ Some bs
 
 -- Of a host the trace has a block where one was given, and that names the host; and it has nothing where nothing was given.
 pub data AgreesOn (k : ℕ) (bs : List (Option Block)) (given : Option (Option Sent)) : Type 0 where

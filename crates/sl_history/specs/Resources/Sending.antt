@@ -1,7 +1,11 @@
 -- What was sent to the area of a resource, by which session, and when. A call is named by the step of the entry that made it: on one area
--- at most one write, one read, one leader and one grant in each mode come at a step.
+-- at most one write, one read, one leader and one grant in each mode come at a step. A read that is made once more is named by the step of
+-- its first call, and ends with its second.
+use Rattle.sl_area.specs.Layouts.{Layout}
+use Rattle.sl_area.specs.Places.{needs_again}
 use Rattle.sl_ballots.specs.History.{Owner as Holder}
 use Rattle.sl_trace.specs.Leases.{block_of_record, is_block_read, is_on, leader_of_record}
+use Rattle.sl_history.specs.Resources.Sampled.{blocks_sampled, reads_again}
 use Rattle.sl_run.specs.Safety.{Found, SessionId, found_generation, session_of_world, trace_of}
 use Rattle.sl_run.specs.Worlds.{Course, Daemon, World, daemons_on}
 use Rattle.sl_sector.specs.declared.sector.Block.{Block}
@@ -12,7 +16,7 @@ use Rattle.sl_trace.specs.declared.effects.Spot.{Spot}
 use Rattle.sl_words.specs.Words.{some_is}
 use Rattle.std.specs.List.{enumerate_from}
 use Rattle.std.specs.Option.{option_map_or}
-use Rattle.std.specs.Prelude.{Bool, List, Option, bytes_eq, find, flat_map, is_some, map, nat_le, nat_lt, option_and_then, ℕ, ◌&&◌, ◌==◌}
+use Rattle.std.specs.Prelude.{Bool, List, Option, Some, bytes_eq, false, find, flat_map, is_some, map, nat_le, nat_lt, not, option_and_then, true, ℕ, ◌&&◌, ◌==◌, ◌||◌}
 
 -- A call with its machine.
 pub record Sent : Type 0 where
@@ -87,13 +91,6 @@ writes_leader c = is_some (leader_of_course c)
 abbrev pub reads_blocks : Course → Bool
 reads_blocks c = is_block_read (new_call 0 0 c.call)
 
--- Whether it is a read of all blocks, answered ok, of a joined session of the lockspace.
-abbrev pub is_counted_read : World → List ℕ → Sent → Bool
-is_counted_read w lockspace x = reads_blocks x.course && x.course.done && is_joined_there w lockspace (sender_of x)
-
-abbrev pub read_at : World → Spot → List ℕ → ℕ → Option Sent
-read_at w at lockspace step = find (λ x. step_of x == step && is_on w.layout at x.course.call && is_counted_read w lockspace x) (all_sent w)
-
 -- Whether two sessions are one.
 abbrev pub same_session : SessionId → SessionId → Bool
 same_session a b = a.machine == b.machine && a.daemon == b.daemon && a.number == b.number
@@ -115,3 +112,30 @@ is_look_before w at i step x =
 -- The last of them.
 abbrev pub last_look_before : World → Spot → SessionId → ℕ → Option Sent
 last_look_before w at i step = find (is_look_before w at i step) (all_sent w)
+
+-- ---- reads
+
+-- Whether it is a read of all blocks, answered ok, of a joined session of the lockspace.
+abbrev pub is_counted_read : World → List ℕ → Sent → Bool
+is_counted_read w lockspace x = reads_blocks x.course && x.course.done && is_joined_there w lockspace (sender_of x)
+
+-- Whether a read of all blocks gives them: it is a second one, or needs none.
+abbrev pub reads_enough : Layout → Course → Bool
+reads_enough g c = reads_again c || not (needs_again g (blocks_sampled g c))
+
+-- The call with which a read began that ends with this one: itself, or the session's last look before.
+abbrev pub begun_by : World → Spot → Sent → Option Sent
+begun_by w at x = elim (reads_again x.course) [ false ↦ Some x | true ↦ last_look_before w at (sender_of x) (step_of x) ]
+
+-- When it began.
+abbrev pub began_at : World → Spot → Sent → ℕ
+began_at w at x = option_map_or step_of (begun_by w at x) 0
+
+-- The call with which the read ended that began at this step.
+abbrev pub read_at : World → Spot → List ℕ → ℕ → Option Sent
+read_at w at lockspace step =
+    find (λ x. began_at w at x == step && is_on w.layout at x.course.call && is_counted_read w lockspace x && reads_enough w.layout x.course) (all_sent w)
+
+-- The call with which the session's last read there ended that gave blocks by a step.
+abbrev pub last_given_before : World → Spot → SessionId → ℕ → Option Sent
+last_given_before w at i step = find (λ x. is_look_before w at i step x && reads_enough w.layout x.course) (all_sent w)

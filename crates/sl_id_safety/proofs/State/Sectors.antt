@@ -8,7 +8,6 @@ use Rattle.sl_id_safety.proofs.State.Keeping.{is_place}
 use Rattle.sl_id_safety.proofs.State.Members.{IsFirst, IsGivenOf, given_by_line, given_place, givens, is_given, layout_at, line_gives, one_given, pair_of, session_at_place}
 use Rattle.sl_id_safety.specs.State.IdStates.{is_sector_of}
 use Rattle.sl_id_safety.specs.State.Promises.{IsIdPlace}
-use Rattle.sl_run_law.proofs.Landing.Initial.{up_to}
 use Rattle.sl_run_law.proofs.Place.Areas.{lockspace_aligned, one_lockspace, same_base}
 use Rattle.sl_run_law.proofs.Place.Checks.{same_slot}
 use Rattle.sl_run_law.proofs.Place.Finding.{finds, place_is}

@@ -68,7 +68,7 @@ place_is path other offset at h =
 
 first_name : (p : Program) (h : Header) (xs : List Happening) → LawfulRun p h xs → (path : List ℕ) (offset : ℕ) → (k : IsIdPlace p h path offset) → (d : DeltaRec)
     → IsInitial (world_at p h xs).layout h path offset (DeltaIs d) → d.lockspace ≡ k.lockspace.name
-first_name p h xs run path offset k d (In_resource x there at inside is never leader) = absurd (never d refl)
+first_name p h xs run path offset k d (In_resource x there at inside its) = absurd (its.no_delta d refl)
 first_name p h xs run path offset k d (In_lockspace l e there at inside few is its) =
     ap (λ x. x.lockspace) (same_delta d e is) ∙ its.lockspace ∙ ap (λ x. x.name) (one_line p h xs run path offset k l there at inside)
 

@@ -8,18 +8,17 @@ use Rattle.sl_run.specs.Events.{own_effects}
 use Rattle.sl_run.specs.Worlds.{Machine, World}
 use Rattle.sl_run.specs.declared.event.Event.TheVariants.{AnswerCall, Crash, Do, DropWrite, ExitOf, GiveAsk, GiveCommand, GiveLvm, Land, Pass, Reset, Restart, Sample, SpawnedOf, StartDaemon, Tear, Test, WakeUp}
 use Rattle.sl_run.specs.declared.event.Event.{Event}
-use Rattle.sl_trace.specs.Traces.{end_of, has_orphan_of, held_after, is_ended_by, is_orphan, leaves_orphan, no_effects, no_process, orphan_of, orphans_left, same_place}
+use Rattle.sl_trace.specs.Traces.{end_of, has_orphan_of, held_after, is_ended_by, is_orphan, leaves_orphan, orphan_of, orphans_left, same_place}
 use Rattle.sl_trace.specs.declared.effects.Effects.{Effects}
 use Rattle.sl_trace.specs.declared.effects.End.{End}
 use Rattle.sl_trace.specs.declared.effects.Grant.{Grant}
-use Rattle.sl_words.proofs.CaseLaws.{false_is_true, true_is_false}
+use Rattle.sl_words.proofs.CaseLaws.{true_is_false}
 use Rattle.sl_words.proofs.WordLaws.{and_true}
 use Rattle.std.proofs.Common.{ap, inl, inr, refl, subst, sym, ◌∙◌}
 use Rattle.std.proofs.lemmas.Bool.Decides.{Decides-eqb}
 use Rattle.std.proofs.lemmas.Bool.{and_from, eq-eqb, eqb-true, not-true}
 use Rattle.std.proofs.lemmas.Slice.Eq.{bytes_eq-Decides}
-use Rattle.std.specs.Option.{option_map_or}
-use Rattle.std.specs.Prelude.{Bool, Contains, List, None, Option, Some, bytes_eq, false, filter, map, not, true, [], ℕ, ◌&&◌, ◌++◌, ◌==◌, ◌≡◌, ◌⊎◌}
+use Rattle.std.specs.Prelude.{Contains, List, bytes_eq, false, filter, map, not, true, [], ℕ, ◌&&◌, ◌==◌, ◌≡◌, ◌⊎◌}
 
 -- The holdings of a process.
 abbrev of_process : ℕ → List Grant → List Grant

@@ -13,7 +13,7 @@ use Rattle.sl_run_law.proofs.Course.Running.{runs_then}
 use Rattle.sl_run_law.proofs.Course.Turning.{Alone, Began, Called, Came_up, Clocked, Crashed, Elsewhere, IsQuiet, Stays, Stepped, Tested, Took, Turned, Went_down, own_quiet}
 use Rattle.sl_run_law.specs.Course.Mirrors.{AreNumbered, Held_on, Mirrors, since_restart}
 use Rattle.sl_run_law.specs.Course.Promises.{MachinesMirror}
-use Rattle.sl_plain.proofs.Lists.{contains_cases, contains_first, contains_more, contains_none}
+use Rattle.sl_plain.proofs.Lists.{contains_cases, contains_more, contains_none}
 use Rattle.sl_plain.proofs.Options.{not_some}
 use Rattle.sl_run.specs.Events.{after_effects, after_reset, after_step, first_change, input_at, input_of, machine_of, next_step, own_effects, with_entry}
 use Rattle.sl_run.specs.Locks.{Locks, fresh_locks}
@@ -27,7 +27,6 @@ use Rattle.sl_run.specs.declared.header.SessionLine.{SessionLine}
 use Rattle.sl_trace.specs.Connections.{Connection, after_move, connections, given_connection}
 use Rattle.sl_trace.specs.Traces.{held_after, holdings, is_ended_by, no_effects}
 use Rattle.sl_trace.specs.declared.effects.Effects.{Effects}
-use Rattle.sl_trace.specs.declared.effects.End.{End}
 use Rattle.sl_trace.specs.declared.effects.Entry.{Entry}
 use Rattle.sl_trace.specs.declared.effects.Grant.{Grant}
 use Rattle.sl_trace.specs.declared.effects.Move.{Move}
@@ -41,7 +40,7 @@ use Rattle.std.proofs.Common.{ap, arith, inl, inr, refl, subst, sym, ◌∙◌}
 use Rattle.std.proofs.lemmas.List.{append-nil}
 use Rattle.std.specs.List.{cons_option}
 use Rattle.std.specs.Option.{option_map_or}
-use Rattle.std.specs.Prelude.{Bool, Contains, List, None, Option, Some, false, filter, filter_map, find, fold, if◌then◌else◌, is_some, length, map, not, option_and_then, option_map, true, [], ℕ, ◌&&◌, ◌++◌, ◌<◌, ◌==◌, ◌∷◌, ◌≡◌}
+use Rattle.std.specs.Prelude.{Bool, Contains, List, None, Option, Some, false, filter, filter_map, find, fold, if◌then◌else◌, is_some, length, map, not, option_and_then, option_map, true, [], ℕ, ◌&&◌, ◌<◌, ◌==◌, ◌∷◌, ◌≡◌}
 
 -- ---- holdings
 

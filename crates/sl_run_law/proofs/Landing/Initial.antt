@@ -1,11 +1,10 @@
 -- Each record of moment 0 has a spelling, whatever the digest, and so each place a sector's bytes.
-use Rattle.sl_area.proofs.SizeLaws.{HasRoom, has_room}
+use Rattle.sl_area.proofs.FreshRecords.{fresh_block_at_is, leader_record_is, no_request_is, no_value_is}
+use Rattle.sl_area.proofs.SizeLaws.{has_room}
 use Rattle.sl_area.specs.Layouts.{IsGeometry, Layout, Sizes, layout_with, sector_with}
-use Rattle.sl_area.specs.Places.{fresh_block, fresh_delta, fresh_leader, in_area, no_request, no_value}
+use Rattle.sl_area.specs.Places.{area_sectors, fresh_block_at, fresh_delta, fresh_leader, in_area, leader_record, no_request, no_value}
 use Rattle.sl_plain.proofs.Lists.{find_inside}
-use Rattle.sl_plain.proofs.Numbers.{one_least, zero_least}
-use Rattle.sl_plain.proofs.Truth.{or_false}
-use Rattle.sl_run.proofs.PlainAreas.{initial_plain}
+use Rattle.sl_plain.proofs.Numbers.{one_least}
 use Rattle.sl_run.specs.Headers.{IsHeader}
 use Rattle.sl_run.specs.Worlds.{clock_reading, initial_bytes, initial_delta, initial_of_lockspace, initial_of_resource, initial_record, member_delta}
 use Rattle.sl_run.specs.declared.header.FirstReading.{FirstReading}
@@ -14,19 +13,18 @@ use Rattle.sl_run.specs.declared.header.LockspaceLine.{LockspaceLine}
 use Rattle.sl_run.specs.declared.header.ResourceLine.{ResourceLine}
 use Rattle.sl_run.specs.declared.header.SessionLine.{SessionLine}
 use Rattle.sl_sector.proofs.SpellingLaws.{length-spelling}
-use Rattle.sl_sector.specs.Records.{IsBlock, IsDelta, IsLeader, IsRecord, IsRequest, IsValue}
+use Rattle.sl_sector.specs.Records.{IsDelta, IsRecord}
 use Rattle.sl_sector.specs.Spelling.{IsDigest, IsSectorSize}
 use Rattle.sl_sector.specs.declared.sector.DeltaRec.{DeltaRec}
-use Rattle.sl_sector.specs.declared.sector.Rec.TheVariants.{BlockIs, DeltaIs, LeaderIs, RequestIs, ValueIs}
+use Rattle.sl_sector.specs.declared.sector.Rec.TheVariants.{DeltaIs, RequestIs, ValueIs}
 use Rattle.sl_sector.specs.declared.sector.Rec.{Rec}
 use Rattle.sl_text.specs.Names.{is_name}
 use Rattle.sl_words.proofs.CaseLaws.{none_some, some_value}
-use Rattle.sl_words.proofs.WordLaws.{and_true}
 use Rattle.sl_words.specs.Words.{choose}
-use Rattle.std.proofs.Common.{arith, refl, subst, sym, ◌∙◌}
-use Rattle.std.proofs.lemmas.Bool.Decides.{Decides-eqb, nat_tests}
+use Rattle.std.proofs.Common.{arith, refl, subst}
+use Rattle.std.proofs.lemmas.Bool.{ltb-true}
+use Rattle.std.proofs.lemmas.Bool.Decides.{nat_tests}
 use Rattle.std.proofs.lemmas.List.{length-replicate}
-use Rattle.std.specs.Int.{is_in_range}
 use Rattle.std.specs.Option.{option_map_or}
 use Rattle.std.specs.Prelude.{Bool, IsTrue, List, None, Option, Some, bytes_eq, false, find, if◌then◌else◌, length, nat_lt, replicate, true, ℕ, ◌&&◌, ◌*◌, ◌+◌, ◌-◌, ◌/◌, ◌<◌, ◌==◌, ◌^◌, ◌≡◌, ◌≤◌}
 
@@ -125,57 +123,21 @@ lockspace_by h l k true r is ok named eq =
     subst IsRecord (some_value (DeltaIs (initial_delta h l (k + 1))) r eq)
     (initial_delta_by h l (k + 1) (session_of h l.name (k + 1)) refl ok named (one_least k) (within k h.geometry.hosts is (has_room h.geometry ok.geometry).hosts.1))
 
-fresh_leader_is : (digest : List ℕ → List ℕ) (s : Sizes) (space name : List ℕ) → HasRoom s → IsTrue (is_name space) → IsTrue (is_name name) → IsLeader (fresh_leader (layout_with digest s) space name)
-fresh_leader_is digest s space name sizes a b =
-    record {
-      hosts = sizes.hosts;
-      lver = no_number;
-      generation = no_number;
-      owner = zero_least s.hosts;
-      lockspace = a;
-      resource = b;
-      same = ((λ h. refl, λ h. refl), (λ h. refl, λ h. refl));
-      unused = λ h. refl;
-    }
-
-pub fresh_block_is : (host : ℕ) → 1 ≤ host → host ≤ 2000 → IsBlock (fresh_block host)
-fresh_block_is host low high =
-    record {
-      host = (low, high);
-      lver = no_number;
-      mbal = no_number;
-      bal = zero_least 0;
-      generations = (no_number, no_number);
-      inp = zero_least 2000;
-      value = ((λ h. refl, λ h. refl), (λ h. refl, λ h. refl));
-      mode = (λ h. refl, λ h. refl);
-      unused = λ h. (refl, refl);
-    }
-
-pub no_request_is : IsRequest no_request
-no_request_is = record { force = zero_least 2; host = zero_least 2000; lver = no_number; same = (λ h. refl, λ h. refl) }
-
-pub no_value_is : IsValue no_value
-no_value_is = record { host = zero_least 2000; lver = no_number; seq = no_number; bytes = (zero_least 256, refl) }
-
-pub block_low : (k : ℕ) → (k == 0) ≡ false → (k == 1) ≡ false → 1 ≤ k - 1
-block_low k h i = grind (arith, nat_tests)
-
-pub block_high : (k n : ℕ) → nat_lt k (n + 2) ≡ true → n ≤ 2000 → k - 1 ≤ 2000
-block_high k n h most = grind (arith, nat_tests)
+pub from_two : (k : ℕ) → (k == 0) ≡ false → (k == 1) ≡ false → 2 ≤ k
+from_two k h i = grind (arith, nat_tests)
 
 resource_by : (digest : List ℕ → List ℕ) (h : Header) (l : ResourceLine) (k : ℕ) (leader request block last : Bool) (r : Rec) → (k == 0) ≡ leader → (k == 1) ≡ request
-    → nat_lt k (h.geometry.hosts + 2) ≡ block → IsHeader h → IsTrue (is_name l.lockspace) → IsTrue (is_name l.name)
-    → (if leader then Some (LeaderIs (fresh_leader (lay digest h) l.lockspace l.name))
+    → nat_lt k (area_sectors (lay digest h)) ≡ block → IsHeader h → IsTrue (is_name l.lockspace) → IsTrue (is_name l.name)
+    → (if leader then Some (leader_record (lay digest h) (fresh_leader (lay digest h) l.lockspace l.name))
     else (if request then Some (RequestIs no_request)
-    else (if block then Some (BlockIs (fresh_block (k - 1)))
+    else (if block then Some (fresh_block_at (lay digest h) l.lockspace l.name k)
     else choose last (ValueIs no_value)))) ≡ Some r → IsRecord r
 resource_by digest h l k true request block last r a b c ok space name eq =
-    subst IsRecord (some_value _ r eq) (fresh_leader_is digest h.geometry l.lockspace l.name (has_room h.geometry ok.geometry) space name)
+    subst IsRecord (some_value _ r eq) (leader_record_is h.geometry l.lockspace l.name ok.geometry space name)
 resource_by digest h l k false true block last r a b c ok space name eq = subst IsRecord (some_value (RequestIs no_request) r eq) no_request_is
 resource_by digest h l k false false true last r a b c ok space name eq =
-    subst IsRecord (some_value (BlockIs (fresh_block (k - 1))) r eq)
-    (fresh_block_is (k - 1) (block_low k a b) (block_high k h.geometry.hosts c (has_room h.geometry ok.geometry).hosts.1))
+    subst IsRecord (some_value (fresh_block_at (lay digest h) l.lockspace l.name k) r eq)
+    (fresh_block_at_is h.geometry l.lockspace l.name k ok.geometry space name (from_two k a b) (ltb-true k (area_sectors (lay digest h)) c))
 resource_by digest h l k false false false true r a b c ok space name eq = subst IsRecord (some_value (ValueIs no_value) r eq) no_value_is
 resource_by digest h l k false false false false r a b c ok space name eq = absurd (none_some r eq)
 
@@ -187,9 +149,8 @@ initial_in_resource digest h path offset (Some l) r is ok eq =
     let line = ok.resources l at.0 in
     let space = line.2 in
     let k : ℕ = (offset - l.offset) / h.geometry.sector in
-    resource_by digest h l k (k == 0) (k == 1) (nat_lt k (h.geometry.hosts + 2)) ((k + 1) * h.geometry.sector == h.geometry.area) r refl refl refl ok
-    (subst (λ n. IsTrue (is_name n)) space.2 (ok.lockspaces space.0 space.1).0) line.0
-    (sym (initial_plain (lay digest h) ok.unpaired l k) ∙ eq)
+    resource_by digest h l k (k == 0) (k == 1) (nat_lt k (area_sectors (lay digest h))) ((k + 1) * h.geometry.sector == h.geometry.area) r refl refl refl ok
+    (subst (λ n. IsTrue (is_name n)) space.2 (ok.lockspaces space.0 space.1).0) line.0 eq
 
 initial_by : (digest : List ℕ → List ℕ) (h : Header) (path : List ℕ) (offset : ℕ) (o : Option LockspaceLine) (r : Rec) → line_at digest h path offset ≡ o → IsHeader h
     → elim o as (λ x. Option Rec) [

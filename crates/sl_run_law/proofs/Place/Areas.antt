@@ -1,22 +1,19 @@
 -- The header's areas are apart, and begin at multiples of their size.
-use Rattle.sl_area.specs.Layouts.{IsGeometry, Layout, Sizes, layout_with}
+use Rattle.sl_area.specs.Layouts.{Layout, Sizes}
 use Rattle.sl_area.specs.Places.{in_area, is_base}
 use Rattle.sl_run_law.proofs.Front.Having.{placed_at}
 use Rattle.sl_run_law.proofs.Place.Sizes.{IsSized, area_has_bytes, around_base, is_multiple, one_base}
 use Rattle.sl_plain.proofs.Lists.{got_before, got_index}
 use Rattle.sl_plain.proofs.Numbers.{one_index}
-use Rattle.sl_plain.proofs.Truth.{or_false}
 use Rattle.sl_run.specs.Headers.{IsHeader, areas_of}
 use Rattle.sl_run.specs.declared.header.Header.{Header}
 use Rattle.sl_run.specs.declared.header.LockspaceLine.{LockspaceLine}
 use Rattle.sl_run.specs.declared.header.ResourceLine.{ResourceLine}
-use Rattle.sl_sector.specs.Spelling.{IsSectorSize}
 use Rattle.sl_words.proofs.CaseLaws.{none_some, one_value, some_value}
 use Rattle.sl_words.proofs.WordLaws.{and_true}
 use Rattle.std.proofs.Common.{ap, arith, subst, sym, ◌∙◌}
 use Rattle.std.proofs.lemmas.Bool.Decides.{Decides-eqb, nat_tests}
 use Rattle.std.proofs.lemmas.Option.{slice_get_within}
-use Rattle.std.specs.Int.{is_in_range}
 use Rattle.std.specs.Prelude.{AllPairs, Contains, IsTrue, List, Some, [], length, map, nat_le, nat_lt, slice_get, suc, true, zero, ℕ, ◌%◌, ◌&&◌, ◌++◌, ◌+◌, ◌-◌, ◌<◌, ◌==◌, ◌^◌, ◌∷◌, ◌≡◌, ◌≤◌}
 
 -- ---- offsets in an area

@@ -1,12 +1,11 @@
 -- What stands at a place at first: a record of a lockspace's area, or of a resource's, or zeros, which spell nothing.
-use Rattle.sl_area.specs.Layouts.{Layout, Sizes, layout_with, record_in, sector_with}
-use Rattle.sl_area.specs.Places.{fresh_block, fresh_delta, fresh_leader, in_area, no_request, no_value}
-use Rattle.sl_run_law.proofs.Landing.Initial.{a_moment, below, block_high, block_low, fresh_block_is, fresh_delta_is, member_delta_is, no_number, no_request_is, no_value_is, up_to, within}
+use Rattle.sl_area.specs.Layouts.{Layout, layout_with, record_in, sector_with}
+use Rattle.sl_area.specs.Places.{area_sectors, fresh_block, fresh_block_at, fresh_delta, fresh_leader, fresh_pair, in_area, leader_record, no_request, no_value}
+use Rattle.sl_run_law.proofs.Landing.Initial.{a_moment, below, fresh_delta_is, initial_is_record, member_delta_is, up_to, within}
 use Rattle.sl_run_law.proofs.Place.Finding.{same_read, same_text}
-use Rattle.sl_run_law.proofs.Place.Sizes.{IsSized, sector_fits, sized}
+use Rattle.sl_run_law.proofs.Place.Sizes.{sector_fits, sized}
 use Rattle.sl_plain.proofs.Lists.{find_inside}
-use Rattle.sl_plain.proofs.Numbers.{one_least, zero_least}
-use Rattle.sl_run.proofs.PlainAreas.{initial_plain}
+use Rattle.sl_plain.proofs.Numbers.{one_least}
 use Rattle.sl_run.specs.Headers.{IsHeader}
 use Rattle.sl_run.specs.Worlds.{initial_bytes, initial_delta, initial_of_lockspace, initial_of_resource, initial_record, member_delta}
 use Rattle.sl_run.specs.declared.header.FirstReading.{FirstReading}
@@ -15,20 +14,23 @@ use Rattle.sl_run.specs.declared.header.LockspaceLine.{LockspaceLine}
 use Rattle.sl_run.specs.declared.header.ResourceLine.{ResourceLine}
 use Rattle.sl_run.specs.declared.header.SessionLine.{SessionLine}
 use Rattle.sl_sector.proofs.PublicLaws.{spelled_is_read}
-use Rattle.sl_sector.specs.Records.{IsDelta, IsLeader, IsRecord}
+use Rattle.sl_sector.specs.Records.{IsDelta, IsRecord}
 use Rattle.sl_sector.specs.Spelling.{IsDigest, decoded, magic}
+use Rattle.sl_sector.specs.declared.sector.Block.{Block}
 use Rattle.sl_sector.specs.declared.sector.DeltaRec.{DeltaRec}
 use Rattle.sl_sector.specs.declared.sector.Leader.{Leader}
-use Rattle.sl_sector.specs.declared.sector.Rec.TheVariants.{BlockIs, DeltaIs, LeaderIs, RequestIs, ValueIs}
+use Rattle.sl_sector.specs.declared.sector.PairBlock.{PairBlock}
+use Rattle.sl_sector.specs.declared.sector.Rec.TheVariants.{BlockIs, DeltaIs, LeaderIs, PairIs, PairLeaderIs, RequestIs, ValueIs}
 use Rattle.sl_sector.specs.declared.sector.Rec.{Rec}
 use Rattle.sl_text.specs.Names.{is_name}
+use Rattle.sl_trace.specs.Leases.{leader_of_record}
 use Rattle.sl_words.proofs.CaseLaws.{none_some, some_value}
 use Rattle.sl_words.proofs.WordLaws.{and_true, choose_some}
 use Rattle.sl_words.specs.Words.{choose}
-use Rattle.std.proofs.Common.{arith, refl, subst, sym, ◌∙◌}
+use Rattle.std.proofs.Common.{refl, subst, sym, ◌∙◌, arith}
 use Rattle.std.proofs.lemmas.Bool.{eqb-true, ltb-true}
 use Rattle.std.specs.Option.{option_map_or}
-use Rattle.std.specs.Prelude.{Bool, Contains, IsTrue, List, None, Ok, Option, Some, bytes_eq, false, find, if◌then◌else◌, nat_lt, replicate, suc, true, zero, ℕ, ◌&&◌, ◌*◌, ◌+◌, ◌-◌, ◌/◌, ◌<◌, ◌==◌, ◌^◌, ◌≡◌, ◌≤◌}
+use Rattle.std.specs.Prelude.{Bool, Contains, IsTrue, List, None, Ok, Option, Some, bytes_eq, false, find, if◌then◌else◌, nat_lt, replicate, suc, true, zero, ℕ, ◌&&◌, ◌%◌, ◌*◌, ◌+◌, ◌-◌, ◌/◌, ◌<◌, ◌==◌, ◌^◌, ◌≡◌, ◌≤◌}
 
 -- ---- the records are records
 
@@ -65,27 +67,21 @@ initial_delta_by h l id (Some s) is ok named low high =
       same_id = eqb-true s.id id both.1;
     }
 
-fresh_leader_is : {s : Sizes} (g : Layout) (space name : List ℕ) → IsSized s g → IsTrue (is_name space) → IsTrue (is_name name) → IsLeader (fresh_leader g space name)
-fresh_leader_is g space name sizes a b =
-    record {
-      hosts = sizes.hosts;
-      lver = no_number;
-      generation = no_number;
-      owner = zero_least g.hosts;
-      lockspace = a;
-      resource = b;
-      same = ((λ h. refl, λ h. refl), (λ h. refl, λ h. refl));
-      unused = λ h. refl;
-    }
-
 -- ---- where a record is from
+
+-- A resource's record: no delta record; a leader was never held, and names it, as a pair's block does.
+pub record IsOfResource (g : Layout) (x : ResourceLine) (r : Rec) : Type 0 where
+  pub is : IsRecord r
+  pub no_delta : (d : DeltaRec) → r ≡ DeltaIs d → ⊥
+  pub leader : (l : Leader) → leader_of_record r ≡ Some l → l ≡ fresh_leader g x.lockspace x.name
+  pub pair : (p : PairBlock) → r ≡ PairIs p → (p.lockspace ≡ x.lockspace) × (p.resource ≡ x.name)
 
 -- The record that stands at a place at first.
 pub data IsInitial (g : Layout) (h : Header) (path : List ℕ) (offset : ℕ) (r : Rec) : Type 0 where
   In_lockspace : (l : LockspaceLine) (d : DeltaRec) → Contains h.lockspaces l → l.path ≡ path → IsTrue (in_area g l.offset offset)
       → (offset - l.offset) / g.sector < g.hosts → r ≡ DeltaIs d → IsDeltaOf d l.name ((offset - l.offset) / g.sector + 1) → IsInitial g h path offset r
-  In_resource : (x : ResourceLine) → Contains h.resources x → x.path ≡ path → IsTrue (in_area g x.offset offset) → IsRecord r
-      → ((d : DeltaRec) → r ≡ DeltaIs d → ⊥) → ((l : Leader) → r ≡ LeaderIs l → l ≡ fresh_leader g x.lockspace x.name) → IsInitial g h path offset r
+  In_resource : (x : ResourceLine) → Contains h.resources x → x.path ≡ path → IsTrue (in_area g x.offset offset) → IsOfResource g x r
+      → IsInitial g h path offset r
 
 abbrev line_at : Layout → Header → List ℕ → ℕ → Option LockspaceLine
 line_at g h path offset = find (λ l. bytes_eq l.path path && in_area g l.offset offset) h.lockspaces
@@ -93,59 +89,61 @@ line_at g h path offset = find (λ l. bytes_eq l.path path && in_area g l.offset
 abbrev resource_at : Layout → Header → List ℕ → ℕ → Option ResourceLine
 resource_at g h path offset = find (λ r. bytes_eq r.path path && in_area g r.offset offset) h.resources
 
--- A resource's record: which kind, and that it is one.
-record IsOfResource (g : Layout) (x : ResourceLine) (r : Rec) : Type 0 where
-  is : IsRecord r
+-- What its kind says.
+record IsOfKind (g : Layout) (x : ResourceLine) (r : Rec) : Type 0 where
   no_delta : (d : DeltaRec) → r ≡ DeltaIs d → ⊥
-  leader : (l : Leader) → r ≡ LeaderIs l → l ≡ fresh_leader g x.lockspace x.name
+  leader : (l : Leader) → leader_of_record r ≡ Some l → l ≡ fresh_leader g x.lockspace x.name
+  pair : (p : PairBlock) → r ≡ PairIs p → (p.lockspace ≡ x.lockspace) × (p.resource ≡ x.name)
 
-same_leader : (a b : Leader) → LeaderIs a ≡ LeaderIs b → b ≡ a
-same_leader a b e = cc
+leader_of_resource : (g : Layout) (x : ResourceLine) (l : Leader) → l ≡ fresh_leader g x.lockspace x.name → (b : Bool)
+    → IsOfKind g x (elim b as (λ _. Rec) [ false ↦ LeaderIs l | true ↦ PairLeaderIs l ])
+leader_of_resource g x l fresh false =
+    record { no_delta = λ d e. absurd cc; leader = λ k e. sym (some_value l k e) ∙ fresh; pair = λ p e. absurd cc }
+leader_of_resource g x l fresh true =
+    record { no_delta = λ d e. absurd cc; leader = λ k e. sym (some_value l k e) ∙ fresh; pair = λ p e. absurd cc }
 
-leader_of_resource : {s : Sizes} (g : Layout) (x : ResourceLine) → IsSized s g → IsTrue (is_name x.lockspace) → IsTrue (is_name x.name)
-    → IsOfResource g x (LeaderIs (fresh_leader g x.lockspace x.name))
-leader_of_resource g x z space name =
+request_of_resource : (g : Layout) (x : ResourceLine) → IsOfKind g x (RequestIs no_request)
+request_of_resource g x = record { no_delta = λ d e. absurd cc; leader = λ l e. absurd (none_some l e); pair = λ p e. absurd cc }
+
+same_pair : (p q : PairBlock) → PairIs p ≡ PairIs q → p ≡ q
+same_pair p q e = cc
+
+block_of_resource : (g : Layout) (x : ResourceLine) (one : Block) (q : PairBlock) → (q.lockspace ≡ x.lockspace) × (q.resource ≡ x.name) → (b : Bool)
+    → IsOfKind g x (elim b as (λ _. Rec) [ false ↦ BlockIs one | true ↦ PairIs q ])
+block_of_resource g x one q names false = record { no_delta = λ d e. absurd cc; leader = λ l e. absurd (none_some l e); pair = λ p e. absurd cc }
+block_of_resource g x one q names true =
     record {
-      is = fresh_leader_is g x.lockspace x.name z space name;
       no_delta = λ d e. absurd cc;
-      leader = λ l e. same_leader (fresh_leader g x.lockspace x.name) l e;
+      leader = λ l e. absurd (none_some l e);
+      pair = λ p e. subst (λ (z : PairBlock). (z.lockspace ≡ x.lockspace) × (z.resource ≡ x.name)) (same_pair q p e) names;
     }
 
-request_of_resource : (g : Layout) (x : ResourceLine) → IsOfResource g x (RequestIs no_request)
-request_of_resource g x = record { is = no_request_is; no_delta = λ d e. absurd cc; leader = λ l e. absurd cc }
+value_of_resource : (g : Layout) (x : ResourceLine) → IsOfKind g x (ValueIs no_value)
+value_of_resource g x = record { no_delta = λ d e. absurd cc; leader = λ l e. absurd (none_some l e); pair = λ p e. absurd cc }
 
-block_of_resource : (g : Layout) (x : ResourceLine) (k : ℕ) → 1 ≤ k → k ≤ 2000 → IsOfResource g x (BlockIs (fresh_block k))
-block_of_resource g x k low high = record { is = fresh_block_is k low high; no_delta = λ d e. absurd cc; leader = λ l e. absurd cc }
-
-value_of_resource : (g : Layout) (x : ResourceLine) → IsOfResource g x (ValueIs no_value)
-value_of_resource g x = record { is = no_value_is; no_delta = λ d e. absurd cc; leader = λ l e. absurd cc }
-
-resource_by : {s : Sizes} (g : Layout) (x : ResourceLine) (k : ℕ) (leader request block last : Bool) (r : Rec) → IsSized s g → (k == 0) ≡ leader → (k == 1) ≡ request
-    → nat_lt k (g.hosts + 2) ≡ block → IsTrue (is_name x.lockspace) → IsTrue (is_name x.name)
-    → (if leader then Some (LeaderIs (fresh_leader g x.lockspace x.name))
+resource_by : (g : Layout) (x : ResourceLine) (k : ℕ) (leader request block last : Bool) (r : Rec)
+    → (if leader then Some (leader_record g (fresh_leader g x.lockspace x.name))
     else (if request then Some (RequestIs no_request)
-    else (if block then Some (BlockIs (fresh_block (k - 1)))
-    else choose last (ValueIs no_value)))) ≡ Some r → IsOfResource g x r
-resource_by g x k true request block last r z a b c space name eq = subst (IsOfResource g x) (some_value _ r eq) (leader_of_resource g x z space name)
-resource_by g x k false true block last r z a b c space name eq = subst (IsOfResource g x) (some_value (RequestIs no_request) r eq) (request_of_resource g x)
-resource_by g x k false false true last r z a b c space name eq =
-    subst (IsOfResource g x) (some_value (BlockIs (fresh_block (k - 1))) r eq)
-    (block_of_resource g x (k - 1) (block_low k a b) (block_high k g.hosts c z.hosts.1))
-resource_by g x k false false false true r z a b c space name eq = subst (IsOfResource g x) (some_value (ValueIs no_value) r eq) (value_of_resource g x)
-resource_by g x k false false false false r z a b c space name eq = absurd (none_some r eq)
+    else (if block then Some (fresh_block_at g x.lockspace x.name k)
+    else choose last (ValueIs no_value)))) ≡ Some r → IsOfKind g x r
+resource_by g x k true request block last r eq =
+    subst (IsOfKind g x) (some_value _ r eq) (leader_of_resource g x (fresh_leader g x.lockspace x.name) refl g.paired)
+resource_by g x k false true block last r eq = subst (IsOfKind g x) (some_value (RequestIs no_request) r eq) (request_of_resource g x)
+resource_by g x k false false true last r eq =
+    subst (IsOfKind g x) (some_value (fresh_block_at g x.lockspace x.name k) r eq)
+    (block_of_resource g x (fresh_block (k - 1)) (fresh_pair (k / 2) (1 + k % 2) x.lockspace x.name) (refl, refl) g.paired)
+resource_by g x k false false false true r eq = subst (IsOfKind g x) (some_value (ValueIs no_value) r eq) (value_of_resource g x)
+resource_by g x k false false false false r eq = absurd (none_some r eq)
 
-resource_from : {s : Sizes} (g : Layout) (h : Header) (path : List ℕ) (offset : ℕ) (o : Option ResourceLine) (r : Rec) → IsSized s g → g.paired ≡ false → resource_at g h path offset ≡ o → IsHeader h
+resource_from : (g : Layout) (h : Header) (path : List ℕ) (offset : ℕ) (o : Option ResourceLine) (r : Rec) → IsRecord r → resource_at g h path offset ≡ o
     → elim o as (λ x. Option Rec) [ Some x ↦ initial_of_resource g x ((offset - x.offset) / g.sector) | None ↦ None ] ≡ Some r → IsInitial g h path offset r
-resource_from g h path offset None r z plain is ok eq = absurd (none_some r eq)
-resource_from g h path offset (Some x) r z plain is ok eq =
+resource_from g h path offset None r its_record is eq = absurd (none_some r eq)
+resource_from g h path offset (Some x) r its_record is eq =
     let at = find_inside (λ (x : ResourceLine). bytes_eq x.path path && in_area g x.offset offset) h.resources x is in
     let both = and_true (bytes_eq x.path path) (in_area g x.offset offset) at.1 in
-    let line = ok.resources x at.0 in
-    let space = line.2 in
     let k : ℕ = (offset - x.offset) / g.sector in
-    let its = resource_by g x k (k == 0) (k == 1) (nat_lt k (g.hosts + 2)) ((k + 1) * g.sector == g.area) r z refl refl refl
-    (subst (λ n. IsTrue (is_name n)) space.2 (ok.lockspaces space.0 space.1).0) line.0 (sym (initial_plain g plain x k) ∙ eq) in
-    In_resource x at.0 (same_text x.path path both.0) both.1 its.is its.no_delta its.leader
+    let its = resource_by g x k (k == 0) (k == 1) (nat_lt k (area_sectors g)) ((k + 1) * g.sector == g.area) r eq in
+    In_resource x at.0 (same_text x.path path both.0) both.1 (record { is = its_record; no_delta = its.no_delta; leader = its.leader; pair = its.pair })
 
 lockspace_from : (digest : List ℕ → List ℕ) (h : Header) (path : List ℕ) (offset : ℕ) (l : LockspaceLine) (r : Rec) → IsHeader h
     → line_at (layout_with digest h.geometry) h path offset ≡ Some l → initial_of_lockspace h l ((offset - l.offset) / h.geometry.sector) ≡ Some r
@@ -160,7 +158,7 @@ lockspace_from digest h path offset l r ok is eq =
     (initial_delta_by h l (k + 1) (session_of h l.name (k + 1)) refl ok (ok.lockspaces l at.0).0 (one_least k) (within k h.geometry.hosts chosen.0 (most h ok)))
 
 initial_by : (digest : List ℕ → List ℕ) (h : Header) (path : List ℕ) (offset : ℕ) (o : Option LockspaceLine) (r : Rec)
-    → line_at (layout_with digest h.geometry) h path offset ≡ o → IsHeader h
+    → line_at (layout_with digest h.geometry) h path offset ≡ o → IsHeader h → IsRecord r
     → elim o as (λ x. Option Rec) [
       | Some l ↦ initial_of_lockspace h l ((offset - l.offset) / h.geometry.sector)
       | None ↦ elim (resource_at (layout_with digest h.geometry) h path offset) as (λ x. Option Rec) [
@@ -168,24 +166,25 @@ initial_by : (digest : List ℕ → List ℕ) (h : Header) (path : List ℕ) (of
         | None ↦ None
       ]
     ] ≡ Some r → IsInitial (layout_with digest h.geometry) h path offset r
-initial_by digest h path offset None r is ok eq =
+initial_by digest h path offset None r is ok its_record eq =
     let g : Layout = layout_with digest h.geometry in
-    resource_from g h path offset (resource_at g h path offset) r (sized digest h.geometry ok.geometry) ok.unpaired refl ok eq
-initial_by digest h path offset (Some l) r is ok eq = lockspace_from digest h path offset l r ok is eq
+    resource_from g h path offset (resource_at g h path offset) r its_record refl eq
+initial_by digest h path offset (Some l) r is ok its_record eq = lockspace_from digest h path offset l r ok is eq
 
 initial_from : (digest : List ℕ → List ℕ) (h : Header) (path : List ℕ) (offset : ℕ) (r : Rec) → IsHeader h
     → initial_record (layout_with digest h.geometry) h path offset ≡ Some r → IsInitial (layout_with digest h.geometry) h path offset r
 unfolding initial_record
-initial_from digest h path offset r ok eq = initial_by digest h path offset (line_at (layout_with digest h.geometry) h path offset) r refl ok eq
+initial_from digest h path offset r ok eq =
+    initial_by digest h path offset (line_at (layout_with digest h.geometry) h path offset) r refl ok (initial_is_record digest h path offset r ok eq) eq
 
 -- ---- what its bytes spell
 
 delta_is_record : (r : Rec) (d : DeltaRec) → r ≡ DeltaIs d → IsDelta d → IsRecord r
 delta_is_record r d is h = subst IsRecord (sym is) h
 
-initial_is_record : (g : Layout) (h : Header) (path : List ℕ) (offset : ℕ) (r : Rec) → IsInitial g h path offset r → IsRecord r
-initial_is_record g h path offset r (In_lockspace l d there path_is inside few is its) = delta_is_record r d is its.is
-initial_is_record g h path offset r (In_resource x there path_is inside is no_delta leader) = is
+is_a_record : (g : Layout) (h : Header) (path : List ℕ) (offset : ℕ) (r : Rec) → IsInitial g h path offset r → IsRecord r
+is_a_record g h path offset r (In_lockspace l d there path_is inside few is its) = delta_is_record r d is its.is
+is_a_record g h path offset r (In_resource x there path_is inside its) = its.is
 
 -- Zeros spell nothing.
 pub no_zeros : (digest : List ℕ → List ℕ) (n : ℕ) (r : Rec) → decoded digest (replicate (suc n) 0) ≡ Ok r → ⊥
@@ -206,7 +205,7 @@ read_by digest h path offset None r d ok is read =
 read_by digest h path offset (Some x) r d ok is read =
     let g : Layout = layout_with digest h.geometry in
     let its = initial_from digest h path offset x ok is in
-    let again = spelled_is_read digest d h.geometry.sector (sector_fits g (sized digest h.geometry ok.geometry)) x (initial_is_record g h path offset x its) in
+    let again = spelled_is_read digest d h.geometry.sector (sector_fits g (sized digest h.geometry ok.geometry)) x (is_a_record g h path offset x its) in
     let same : x ≡ r = same_read (record_in g (sector_with g x)) x r again read in
     subst (IsInitial g h path offset) same its
 

@@ -180,13 +180,13 @@ leased p h xs b run x t k home resource verified =
 -- The leader that is written names the resource.
 leader_names : (p : Program) (h : Header) (xs : List Happening) → IsPromised → LawfulRun p h xs → (x : Landing) (t : IsTold (world_at p h xs) x) (k : IsMade t.trace.daemon.trace t.trace.submitted_as)
     → HomeBefore h (world_at p h xs) x.step → (resource : List ℕ) → (on : IsLeased h (world_at p h xs) t.session t.trace.submitted_as resource)
-    → (l : Leader) → t.wrote.record_written ≡ LeaderIs l → (l.lockspace ≡ on.line.lockspace) × (l.resource ≡ on.line.name) × (l.num_hosts ≡ (world_at p h xs).layout.hosts)
+    → (l : Leader) → leader_of_record t.wrote.record_written ≡ Some l → (l.lockspace ≡ on.line.lockspace) × (l.resource ≡ on.line.name) × (l.num_hosts ≡ (world_at p h xs).layout.hosts)
 leader_names p h xs b run x t k home resource on l is =
     let w : World = world_at p h xs in
     let st : Setting = t.trace.daemon.setting in
     let q : Submitted = t.trace.submitted_as in
     let law = call_law st t.trace.daemon.trace t.session q k t.trace.lawful t.its t.mine in
-    let leader : leader_written q ≡ Some l = ap (option_and_then leader_of_record) (writes w x t) ∙ ap leader_of_record is in
+    let leader : leader_written q ≡ Some l = ap (option_and_then leader_of_record) (writes w x t) ∙ is in
     let write : LawfulLeaderWrite st (front_of k) t.session (spot_of_call st.layout (made_as k)) (made_as k) l = law.0.leader.0.writes k.index q.call t.session k.call law.1 l leader in
     let layout : st.layout ≡ w.layout = (b.of_world p h xs run t.machine t.wrote.machine t.trace.daemon t.wrote.at t.trace.has).layout in
     let also = leased p h xs b run x t k home l.resource write.names.2 in
@@ -219,6 +219,7 @@ lease_home p h xs b run x t home other =
       placed = placed_by st s t.wrote.record_written q.call.path on.line.path (q.call.offset - q.call.offset % st.layout.area) on.line.offset q.call.offset x.offset on.path base
           (sym (offset_of w x t)) write.placed;
       names = leader_names p h xs b run x t k home write.resource on;
+      pairs = λ pair is. let its = write.named pair is in (its.0 ∙ on.lockspace, its.1 ∙ on.name);
     })
 
 -- ---- each landing

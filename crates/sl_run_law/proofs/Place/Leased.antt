@@ -3,19 +3,21 @@ use Rattle.sl_area.specs.Layouts.{Layout, record_in}
 use Rattle.sl_area.specs.Places.{area_sectors, block_sectors, in_area, leader_of, sector_of}
 use Rattle.sl_run_law.specs.Course.Stamping.{stamp_in}
 use Rattle.sl_run.specs.Lawful.{Orderly}
-use Rattle.sl_run.specs.LawfulArea.{HasVerified, IsLeaderGiven, IsRightRead, is_leader_read, leaders_read}
-use Rattle.sl_run_law.proofs.Place.Areas.{base_aligned, resource_aligned, same_base}
+use Rattle.sl_run.specs.LawfulArea.{HasVerified, IsLeaderGiven, IsRightRead, is_delta_record, is_leader_read, leaders_read}
+use Rattle.sl_run_law.proofs.Place.Areas.{base_aligned, base_around, resource_aligned, same_base}
 use Rattle.sl_run_law.proofs.Place.Beginnings.{In_lockspace, In_resource, IsInitial}
+use Rattle.sl_run_law.proofs.Place.Blocks.{BlockShown, By_area, By_phase, Told, block_shown, blocks_place, blocks_within, bytes_told}
 use Rattle.sl_run_law.proofs.Place.Daemons.{daemons_are_fine, stamp_order}
 use Rattle.sl_run_law.proofs.Place.Finding.{given_by, same_text}
 use Rattle.sl_run_law.proofs.Place.Looks.{Heard, heard}
+use Rattle.sl_run_law.proofs.Place.Made.{LeaderFrom, Made_of, Read_there, SpelledIn, leader_from}
 use Rattle.sl_run_law.proofs.Place.Reading.{IsPromised, IsShown, call_law, read_of, reads_back, sector_shown}
-use Rattle.sl_run_law.proofs.Place.Seats.{Delta_home, HomeBefore, IsHome, Lease_home, home_early, initial_in, plain_in, sized_in}
-use Rattle.sl_trace.specs.Leases.{is_leader_of, is_on, spot_of_call}
+use Rattle.sl_run_law.proofs.Place.Rights.{area_place}
+use Rattle.sl_run_law.proofs.Place.Seats.{Delta_home, HomeBefore, IsHome, Lease_home, home_early, initial_in, sized_in}
+use Rattle.sl_trace.specs.Leases.{blocks_bytes, is_leader_of, is_lease_call, is_on, leader_of_record, lease_calls, spot_of_call}
 use Rattle.sl_run_law.proofs.Place.Sizes.{IsSized, sector_fits}
 use Rattle.sl_plain.proofs.Lists.{kept_inside}
 use Rattle.sl_plain.proofs.Numbers.{no_times_more}
-use Rattle.sl_run.proofs.PlainAreas.{spelled_plain}
 use Rattle.sl_run.specs.Events.{sectors_of}
 use Rattle.sl_run.specs.Headers.{IsHeader}
 use Rattle.sl_run.specs.Runs.{Happening}
@@ -23,10 +25,11 @@ use Rattle.sl_run.specs.Safety.{LawfulRun, world_at}
 use Rattle.sl_run.specs.Worlds.{Daemon, Landing, Machine, Program, Stamp, World, daemons_on, machine_at}
 use Rattle.sl_run.specs.declared.header.Header.{Header}
 use Rattle.sl_run.specs.declared.header.ResourceLine.{ResourceLine}
-use Rattle.sl_sector.specs.Spelling.{leader_in}
+use Rattle.sl_sector.specs.Spelling.{leader_in, pair_leader_in}
 use Rattle.sl_sector.specs.declared.sector.Bad.{Bad}
 use Rattle.sl_sector.specs.declared.sector.DeltaRec.{DeltaRec}
 use Rattle.sl_sector.specs.declared.sector.Leader.{Leader}
+use Rattle.sl_sector.specs.declared.sector.PairBlock.{PairBlock}
 use Rattle.sl_sector.specs.declared.sector.Rec.TheVariants.{BlockIs, DeltaIs, LeaderIs, PairIs, PairLeaderIs, RequestIs, ValueIs}
 use Rattle.sl_sector.specs.declared.sector.Rec.{Rec}
 use Rattle.sl_trace_law.proofs.Sessions.Making.{calls_are_made}
@@ -44,7 +47,7 @@ use Rattle.sl_trace.specs.declared.effects.Work.{Work}
 use Rattle.sl_words.proofs.CaseLaws.{false_is_true, none_some, some_value, true_is_false}
 use Rattle.sl_words.proofs.WordLaws.{and_true}
 use Rattle.std.proofs.Common.{ap, arith, inl, inr, refl, subst, sym, ◌∙◌}
-use Rattle.std.specs.Prelude.{Contains, Err, IsTrue, List, None, Ok, Option, Result, Some, bytes_eq, false, filter, option_and_then, true, ℕ, ◌%◌, ◌&&◌, ◌*◌, ◌+◌, ◌-◌, ◌<◌, ◌==◌, ◌≡◌, ◌≤◌, ◌⊎◌}
+use Rattle.std.specs.Prelude.{Bool, Contains, Err, IsTrue, List, None, Ok, Option, Result, Some, bytes_eq, false, filter, option_and_then, true, ℕ, ◌%◌, ◌&&◌, ◌*◌, ◌+◌, ◌-◌, ◌<◌, ◌==◌, ◌≡◌, ◌≤◌, ◌⊎◌}
 
 -- ---- a read of a leader
 
@@ -98,13 +101,27 @@ right_read st es s q h its there mine reads =
 
 -- ---- what it shows
 
--- The resource of a place that shows a leader.
-record IsLeaderPlace (h : Header) (w : World) (path : List ℕ) (offset : ℕ) (l : Leader) : Type 0 where
+-- What a record names: a lockspace and a resource, as leaders do and blocks of pairs.
+record Names : Type 0 where
+  lockspace : List ℕ
+  resource : List ℕ
+
+abbrev names_of : Rec → Option Names
+names_of (LeaderIs l) = Some (record { lockspace = l.lockspace; resource = l.resource })
+names_of (PairLeaderIs l) = Some (record { lockspace = l.lockspace; resource = l.resource })
+names_of (PairIs p) = Some (record { lockspace = p.lockspace; resource = p.resource })
+names_of r = None
+
+abbrev Named : Names → ResourceLine → Type 0
+Named n line = (n.lockspace ≡ line.lockspace) × (n.resource ≡ line.name)
+
+-- The resource of a place that shows such a record.
+record IsNamedPlace (h : Header) (w : World) (path : List ℕ) (offset : ℕ) (n : Names) : Type 0 where
   line : ResourceLine
   there : Contains h.resources line
   path_is : line.path ≡ path
   inside : IsTrue (in_area w.layout line.offset offset)
-  names : (l.lockspace ≡ line.lockspace) × (l.resource ≡ line.name)
+  names : Named n line
 
 pub leader_in_is : (r : Result Rec Bad) (l : Leader) → leader_in r ≡ Some l → r ≡ Ok (LeaderIs l)
 leader_in_is (Ok (DeltaIs e)) l h = absurd (none_some l h)
@@ -116,41 +133,104 @@ leader_in_is (Ok (PairIs e)) l h = absurd (none_some l h)
 leader_in_is (Ok (PairLeaderIs e)) l h = absurd (none_some l h)
 leader_in_is (Err bad) l h = absurd (none_some l h)
 
-no_delta : (d : DeltaRec) (l : Leader) (r : Rec) → r ≡ DeltaIs d → r ≡ LeaderIs l → ⊥
-no_delta d l r p q = absurd cc
+pub pair_leader_in_is : (r : Result Rec Bad) (l : Leader) → pair_leader_in r ≡ Some l → r ≡ Ok (PairLeaderIs l)
+pair_leader_in_is (Ok (DeltaIs e)) l h = absurd (none_some l h)
+pair_leader_in_is (Ok (LeaderIs e)) l h = absurd (none_some l h)
+pair_leader_in_is (Ok (BlockIs e)) l h = absurd (none_some l h)
+pair_leader_in_is (Ok (RequestIs e)) l h = absurd (none_some l h)
+pair_leader_in_is (Ok (ValueIs e)) l h = absurd (none_some l h)
+pair_leader_in_is (Ok (PairIs e)) l h = absurd (none_some l h)
+pair_leader_in_is (Ok (PairLeaderIs e)) l h = ap (λ x. Ok (PairLeaderIs x)) (some_value e l h)
+pair_leader_in_is (Err bad) l h = absurd (none_some l h)
 
-at_home : (p : Program) (h : Header) (xs : List Happening) → IsPromised → LawfulRun p h xs → (x : Landing) (l : Leader) → record_in (world_at p h xs).layout x.bytes ≡ Ok (LeaderIs l)
-    → IsHome h (world_at p h xs) x → IsLeaderPlace h (world_at p h xs) x.path x.offset l
-at_home p h xs b run x l read (Delta_home line there path inside landing) =
+abbrev leader_names : Leader → Names
+leader_names l = record { lockspace = l.lockspace; resource = l.resource }
+
+-- A record with these names, that was read.
+record Spelled (r : Result Rec Bad) (n : Names) : Type 0 where
+  found : Rec
+  is : r ≡ Ok found
+  names : names_of found ≡ Some n
+
+spelled_by : (b : Bool) (r : Result Rec Bad) (l : Leader) → elim b as (λ z. Option Leader) [ false ↦ leader_in r | true ↦ pair_leader_in r ] ≡ Some l → Spelled r (leader_names l)
+spelled_by false r l h = record { found = LeaderIs l; is = leader_in_is r l h; names = refl }
+spelled_by true r l h = record { found = PairLeaderIs l; is = pair_leader_in_is r l h; names = refl }
+
+leader_spells : (g : Layout) (bytes : List ℕ) (l : Leader) → leader_of g bytes ≡ Some l → Spelled (record_in g (sector_of g bytes 0)) (leader_names l)
+leader_spells g bytes l h = spelled_by g.paired (record_in g (sector_of g bytes 0)) l h
+
+no_delta_names : (r : Rec) (n : Names) → names_of r ≡ Some n → is_delta_record r ≡ false
+no_delta_names (DeltaIs d) n h = absurd (none_some n h)
+no_delta_names (LeaderIs l) n h = refl
+no_delta_names (BlockIs b) n h = refl
+no_delta_names (RequestIs b) n h = refl
+no_delta_names (ValueIs b) n h = refl
+no_delta_names (PairIs p) n h = refl
+no_delta_names (PairLeaderIs l) n h = refl
+
+-- A record whose leader, or pair, names a resource, has these names.
+by_leader : (line : ResourceLine) (l : Leader) (n : Names) → Some (leader_names l) ≡ Some n → (l.lockspace ≡ line.lockspace) × (l.resource ≡ line.name) → Named n line
+by_leader line l n h names = subst (λ (z : Names). Named z line) (some_value (leader_names l) n h) names
+
+named_by : (r : Rec) (line : ResourceLine) (n : Names) → names_of r ≡ Some n
+    → ((l : Leader) → leader_of_record r ≡ Some l → (l.lockspace ≡ line.lockspace) × (l.resource ≡ line.name))
+    → ((p : PairBlock) → r ≡ PairIs p → (p.lockspace ≡ line.lockspace) × (p.resource ≡ line.name)) → Named n line
+named_by (DeltaIs d) line n h leader pair = absurd (none_some n h)
+named_by (LeaderIs l) line n h leader pair = by_leader line l n h (leader l refl)
+named_by (BlockIs b) line n h leader pair = absurd (none_some n h)
+named_by (RequestIs b) line n h leader pair = absurd (none_some n h)
+named_by (ValueIs b) line n h leader pair = absurd (none_some n h)
+named_by (PairLeaderIs l) line n h leader pair = by_leader line l n h (leader l refl)
+named_by (PairIs p) line n h leader pair =
+    subst (λ (z : Names). Named z line) (some_value (let x : Names = record { lockspace = p.lockspace; resource = p.resource } in x) n h) (pair p refl)
+
+not_delta : (r : Rec) (d : DeltaRec) (n : Names) → r ≡ DeltaIs d → names_of r ≡ Some n → ⊥
+not_delta r d n is h = true_is_false (sym (ap is_delta_record is) ∙ no_delta_names r n h)
+
+at_home : (p : Program) (h : Header) (xs : List Happening) → IsPromised → LawfulRun p h xs → (x : Landing) (n : Names) → Spelled (record_in (world_at p h xs).layout x.bytes) n
+    → IsHome h (world_at p h xs) x → IsNamedPlace h (world_at p h xs) x.path x.offset n
+at_home p h xs b run x n read (Delta_home line there path inside landing) =
     let w : World = world_at p h xs in
     let k = landing.written in
-    absurd (no_delta landing.delta l k.wrote.record_written landing.spells
-    (reads_back b p h xs run (sector_fits w.layout (sized_in p h xs run)) x k.machine k.call k.wrote (LeaderIs l) read))
-at_home p h xs b run x l read (Lease_home r there path inside landing) =
+    absurd (not_delta read.found landing.delta n
+    (sym (reads_back b p h xs run (sector_fits w.layout (sized_in p h xs run)) x k.machine k.call k.wrote read.found read.is) ∙ landing.spells) read.names)
+at_home p h xs b run x n read (Lease_home r there path inside landing) =
     let w : World = world_at p h xs in
     let k = landing.written in
-    let names = landing.names l (reads_back b p h xs run (sector_fits w.layout (sized_in p h xs run)) x k.machine k.call k.wrote (LeaderIs l) read) in
-    record { line = r; there = there; path_is = sym path; inside = inside; names = (names.0, names.1) }
+    let same : k.wrote.record_written ≡ read.found =
+    reads_back b p h xs run (sector_fits w.layout (sized_in p h xs run)) x k.machine k.call k.wrote read.found read.is in
+    record {
+      line = r;
+      there = there;
+      path_is = sym path;
+      inside = inside;
+      names = named_by k.wrote.record_written r n (ap names_of same ∙ read.names) (λ l is. let its = landing.names l is in (its.0, its.1)) landing.pairs;
+    }
 
-at_first : (h : Header) (w : World) (path : List ℕ) (offset : ℕ) (l : Leader) → IsInitial w.layout h path offset (LeaderIs l) → IsLeaderPlace h w path offset l
-at_first h w path offset l (In_lockspace line d there path_is inside few is its) = absurd (no_delta d l (LeaderIs l) is refl)
-at_first h w path offset l (In_resource r there path_is inside is never leader) =
-    let fresh = leader l refl in
-    record { line = r; there = there; path_is = path_is; inside = inside; names = (ap (λ x. x.lockspace) fresh, ap (λ x. x.resource) fresh) }
+at_first : (h : Header) (w : World) (path : List ℕ) (offset : ℕ) (r : Rec) (n : Names) → names_of r ≡ Some n → IsInitial w.layout h path offset r → IsNamedPlace h w path offset n
+at_first h w path offset r n names (In_lockspace line d there path_is inside few is its) = absurd (not_delta r d n is names)
+at_first h w path offset r n names (In_resource line there path_is inside its) =
+    record {
+      line = line;
+      there = there;
+      path_is = path_is;
+      inside = inside;
+      names = named_by r line n names (λ l is. let fresh = its.leader l is in (ap (λ x. x.lockspace) fresh, ap (λ x. x.resource) fresh)) its.pair;
+    }
 
-shown_leader : (p : Program) (h : Header) (xs : List Happening) → IsPromised → LawfulRun p h xs → (path : List ℕ) (offset : ℕ) (bytes : List ℕ) (n : ℕ) (l : Leader)
-    → HomeBefore h (world_at p h xs) n → record_in (world_at p h xs).layout bytes ≡ Ok (LeaderIs l) → IsShown (world_at p h xs) path offset bytes n
-    → IsLeaderPlace h (world_at p h xs) path offset l
-shown_leader p h xs b run path offset bytes n l home read s =
+shown_names : (p : Program) (h : Header) (xs : List Happening) → IsPromised → LawfulRun p h xs → (path : List ℕ) (offset : ℕ) (bytes : List ℕ) (n : ℕ) (names : Names)
+    → HomeBefore h (world_at p h xs) n → Spelled (record_in (world_at p h xs).layout bytes) names → IsShown (world_at p h xs) path offset bytes n
+    → IsNamedPlace h (world_at p h xs) path offset names
+shown_names p h xs b run path offset bytes n names home read s =
     let w : World = world_at p h xs in
-    let its : record_in w.layout s.landing.bytes ≡ Ok (LeaderIs l) = subst (λ bs. record_in w.layout bs ≡ Ok (LeaderIs l)) s.shows read in
-    elim s.from as (λ z. IsLeaderPlace h w path offset l) [
+    let its : Spelled (record_in w.layout s.landing.bytes) names = subst (λ bs. Spelled (record_in w.layout bs) names) s.shows read in
+    elim s.from as (λ z. IsNamedPlace h w path offset names) [
       | inl landed ↦
-          subst (λ y. IsLeaderPlace h w y offset l) s.place.0
-          (subst (λ o. IsLeaderPlace h w s.landing.path o l) s.place.1 (at_home p h xs b run s.landing l its (home s.landing landed s.early)))
+          subst (λ y. IsNamedPlace h w y offset names) s.place.0
+          (subst (λ o. IsNamedPlace h w s.landing.path o names) s.place.1 (at_home p h xs b run s.landing names its (home s.landing landed s.early)))
       | inr first ↦
-          at_first h w path offset l
-          (initial_in p h xs run path offset (LeaderIs l) (subst (λ (y : Landing). record_in w.layout y.bytes ≡ Ok (LeaderIs l)) first its))
+          at_first h w path offset its.found names its.names
+          (initial_in p h xs run path offset its.found (subst (λ (y : Landing). record_in w.layout y.bytes ≡ Ok its.found) first its.is))
     ]
 
 -- ---- a session that has verified
@@ -188,45 +268,150 @@ leader_read st es s at l there =
     let bytes = bytes_of st.layout (gave f.0) l f.2 in
     record { call = f.0; there = inside.0; reads = both.0; on = both.1; bytes = bytes.0; given = bytes.1; spelled = bytes.2 }
 
--- Without pairs none is made for a torn one.
-plainly : (st : Setting) (es : Trace) (s : Session) (at : Spot) (l : Leader) → st.layout.paired ≡ false
-    → Contains (leaders_read st es s at) l ⊎ IsLeaderGiven st es s at l → Contains (leaders_read st es s at) l
-plainly st es s at l plain (inl there) = there
-plainly st es s at l plain (inr given) = absurd (true_is_false (sym given.0 ∙ plain))
+-- The bytes of an answer that gave blocks.
+bytes_given : (g : Layout) (m : Submitted) (bs : List ℕ) → Told g m bs → (bytes : List ℕ) × (gave m ≡ Some bytes)
+bytes_given g m bs (By_area bytes told is part) = (bytes, told)
+bytes_given g m bs (By_phase told alone is) = (bs, told)
 
 reads_some : (n k : ℕ) → k ≡ n → 0 < n → 0 < k
 reads_some n k e h = omega (arith, e, h)
 
--- The resource's area, and that of the call, are the area of the read.
-same_areas : (h : Header) (w : World) (line : ResourceLine) (read call : ℕ) → IsHeader h → IsSized h.geometry w.layout → Contains h.resources line → read ≡ read - read % w.layout.area
-    → IsTrue (in_area w.layout (call - call % w.layout.area) read) → IsTrue (in_area w.layout line.offset read) → call - call % w.layout.area ≡ line.offset
-same_areas h w line read call ok z there base on inside =
-    same_base w.layout (call - call % w.layout.area) line.offset read z (base_aligned w.layout call z) (resource_aligned h line ok there) on inside
+record AreNamed (s : Session) (resource : List ℕ) (n : Names) : Type 0 where
+  lockspace : n.lockspace ≡ s.lockspace
+  resource_is : n.resource ≡ resource
 
-record AreNamed (s : Session) (resource : List ℕ) (l : Leader) : Type 0 where
-  lockspace : l.lockspace ≡ s.lockspace
-  resource_is : l.resource ≡ resource
-
-named : (g : Layout) (s : Session) (resource : List ℕ) (l : Leader) → is_leader_of g s.lockspace resource l ≡ true → AreNamed s resource l
+named : (g : Layout) (s : Session) (resource : List ℕ) (l : Leader) → is_leader_of g s.lockspace resource l ≡ true → AreNamed s resource (leader_names l)
 named g s resource l h =
     let first = and_true (bytes_eq l.lockspace s.lockspace && bytes_eq l.resource resource) (l.num_hosts == g.hosts) h in
     let one = and_true (bytes_eq l.lockspace s.lockspace) (bytes_eq l.resource resource) first.0 in
     record { lockspace = same_text l.lockspace s.lockspace one.0; resource_is = same_text l.resource resource one.1 }
 
--- What the read that was verified says of the call's area.
-leased_by : (h : Header) (w : World) (s : Session) (q rd : Submitted) (resource : List ℕ) (l : Leader) → IsHeader h → IsSized h.geometry w.layout
-    → IsLeaderPlace h w rd.call.path (rd.call.offset + 0 * w.layout.sector) l → rd.call.path ≡ q.call.path → rd.call.offset ≡ rd.call.offset - rd.call.offset % w.layout.area
-    → IsTrue (in_area w.layout (q.call.offset - q.call.offset % w.layout.area) rd.call.offset) → AreNamed s resource l → IsLeased h w s q resource
-leased_by h w s q rd resource l ok z place path base on names =
+-- The area of a call is that of a place that shows these names.
+leased_by : (h : Header) (w : World) (s : Session) (q rd : Submitted) (resource : List ℕ) (offset : ℕ) (n : Names) → IsHeader h → IsSized h.geometry w.layout
+    → IsNamedPlace h w rd.call.path offset n → rd.call.path ≡ q.call.path → IsTrue (in_area w.layout (q.call.offset - q.call.offset % w.layout.area) offset)
+    → AreNamed s resource n → IsLeased h w s q resource
+leased_by h w s q rd resource offset n ok z place path on names =
     record {
       line = place.line;
       there = place.there;
       path = sym path ∙ sym place.path_is;
-      base = same_areas h w place.line rd.call.offset q.call.offset ok z place.there base on
-          (subst (λ o. IsTrue (in_area w.layout place.line.offset o)) (no_times_more rd.call.offset w.layout.sector) place.inside);
+      base = same_base w.layout (q.call.offset - q.call.offset % w.layout.area) place.line.offset offset z (base_aligned w.layout q.call.offset z)
+          (resource_aligned h place.line ok place.there) on place.inside;
       lockspace = sym names.lockspace ∙ place.names.0;
       name = sym names.resource_is ∙ place.names.1;
     }
+
+-- A daemon's session with a call, before whose making the landings are at home.
+record IsVerifier (p : Program) (h : Header) (xs : List Happening) (m : ℕ) (a : Machine) (d : Daemon) (s : Session) (q : Submitted) : Type 0 where
+  promised : IsPromised
+  run : LawfulRun p h xs
+  at : machine_at (world_at p h xs) m ≡ Some a
+  has : Contains (daemons_on a) d
+  law : Orderly d.setting d.trace
+  its : IsSession d.setting d.trace s
+  made : IsMade d.trace q
+  stamp : Stamp
+  stamped : stamp_in d.stamps q.at ≡ Some stamp
+  home : HomeBefore h (world_at p h xs) stamp.step
+
+-- Where a call of the session was on its area, by the test of the daemon.
+on_area : (g w : Layout) (rd q : Submitted) → g ≡ w → IsTrue (is_on g (spot_of_call g q) rd.call)
+    → (rd.call.path ≡ q.call.path) × IsTrue (in_area w (q.call.offset - q.call.offset % w.area) rd.call.offset)
+on_area g w rd q layout h =
+    let on = and_true (bytes_eq rd.call.path q.call.path) (in_area g (q.call.offset - q.call.offset % g.area) rd.call.offset) h in (
+      same_text rd.call.path q.call.path on.0,
+      subst (λ (x : Layout). IsTrue (in_area x (q.call.offset - q.call.offset % x.area) rd.call.offset)) layout on.1,
+    )
+
+-- A leader's sector that was read, in a read that begins there.
+by_read : (p : Program) (h : Header) (xs : List Happening) (m : ℕ) (a : Machine) (d : Daemon) (s : Session) (q : Submitted) (v : IsVerifier p h xs m a d s q) (resource : List ℕ) (l : Leader)
+    → (rd : Submitted) (bytes : List ℕ) → Heard d.trace s q.at bytes rd → IsBaseRead (spot_of_call d.setting.layout rd) rd → gave rd ≡ Some bytes
+    → IsTrue (is_on d.setting.layout (spot_of_call d.setting.layout q) rd.call) → leader_of d.setting.layout bytes ≡ Some l
+    → AreNamed s resource (leader_names l) → IsLeased h (world_at p h xs) s q resource
+by_read p h xs m a d s q v resource l rd bytes told right given is_there spelled names =
+    let w : World = world_at p h xs in
+    let b = v.promised in
+    let layout : d.setting.layout ≡ w.layout = (b.of_world p h xs v.run m a d v.at v.has).layout in
+    let z : IsSized h.geometry w.layout = sized_in p h xs v.run in
+    let r = read_of b p h xs v.run m a d v.at v.has rd told.inside right.count right.op bytes given in
+    let count : 0 < sectors_of rd.call.op = reads_some right.count (sectors_of rd.call.op) (ap sectors_of right.op) right.some in
+    let shown = sector_shown b p h xs v.run m a d v.at rd bytes r 0 count in
+    let early : r.stamp.step ≤ v.stamp.step =
+    stamp_order w.step d.stamps r.answered.at q.at r.stamp v.stamp (daemons_are_fine p h xs v.run m a d v.at v.has).stamps r.entry v.stamped (told.answered r.answered r.its) in
+    let its : Spelled (record_in w.layout (sector_of w.layout bytes 0)) (leader_names l) =
+    leader_spells w.layout bytes l (subst (λ g. leader_of g bytes ≡ Some l) layout spelled) in
+    let place = shown_names p h xs b v.run rd.call.path (rd.call.offset + 0 * w.layout.sector) (sector_of w.layout bytes 0) r.stamp.step (leader_names l)
+    (home_early h w v.stamp.step r.stamp.step early v.home) its shown in
+    let on = on_area d.setting.layout w.layout rd q layout is_there in
+    leased_by h w s q rd resource (rd.call.offset + 0 * w.layout.sector) (leader_names l) v.run.header z place on.0
+    (subst (λ o. IsTrue (in_area w.layout (q.call.offset - q.call.offset % w.layout.area) o)) (sym (no_times_more rd.call.offset w.layout.sector)) on.1) names
+
+-- A sector of the blocks that was read, in an area whose base is that of the call.
+by_block : (p : Program) (h : Header) (xs : List Happening) (m : ℕ) (a : Machine) (d : Daemon) (s : Session) (q : Submitted) (v : IsVerifier p h xs m a d s q) (resource : List ℕ)
+    (rd : Submitted) (bytes bs : List ℕ) → Heard d.trace s q.at bytes rd → gave rd ≡ Some bytes → IsTrue (is_on d.setting.layout (spot_of_call d.setting.layout q) rd.call)
+    → blocks_bytes (world_at p h xs).layout rd ≡ Some bs → (pair : PairBlock) → SpelledIn (world_at p h xs).layout bs pair
+    → AreNamed s resource (record { lockspace = pair.lockspace; resource = pair.resource }) → IsLeased h (world_at p h xs) s q resource
+by_block p h xs m a d s q v resource rd bytes bs told given is_there blocks pair its names =
+    let w : World = world_at p h xs in
+    let b = v.promised in
+    let n : Names = record { lockspace = pair.lockspace; resource = pair.resource } in
+    let layout : d.setting.layout ≡ w.layout = (b.of_world p h xs v.run m a d v.at v.has).layout in
+    let z : IsSized h.geometry w.layout = sized_in p h xs v.run in
+    let base : ℕ = (spot_of_call w.layout rd).base in
+    let k : BlockShown w a d rd bs its.sector =
+    block_shown p h xs b v.run m a d v.at v.has v.law s v.its rd told.inside told.mine bs blocks its.sector its.below in
+    let early : k.read.stamp.step ≤ v.stamp.step =
+    stamp_order w.step d.stamps k.read.answered.at q.at k.read.stamp v.stamp (daemons_are_fine p h xs v.run m a d v.at v.has).stamps k.read.entry v.stamped
+    (told.answered k.read.answered k.read.its) in
+    let spelled : Spelled (record_in w.layout (sector_of w.layout bs its.sector)) n = record { found = PairIs pair; is = its.spells; names = refl } in
+    let place = shown_names p h xs b v.run rd.call.path (blocks_place w.layout base its.sector) (sector_of w.layout bs its.sector) k.read.stamp.step n
+    (home_early h w v.stamp.step k.read.stamp.step early v.home) spelled k.shown in
+    let on = on_area d.setting.layout w.layout rd q layout is_there in
+    let same : base ≡ q.call.offset - q.call.offset % w.layout.area =
+    same_base w.layout base (q.call.offset - q.call.offset % w.layout.area) rd.call.offset z (base_aligned w.layout rd.call.offset z) (base_aligned w.layout q.call.offset z)
+    (base_around w.layout rd.call.offset z) on.1 in
+    leased_by h w s q rd resource (blocks_place w.layout base its.sector) n v.run.header z place on.0
+    (subst (λ o. IsTrue (in_area w.layout o (blocks_place w.layout base its.sector))) same (blocks_within w.layout base its.sector z its.below)) names
+
+-- A call of the lease, before the call was made.
+record IsLeaseCall (st : Setting) (es : Trace) (s : Session) (at : Spot) (m : Submitted) : Type 0 where
+  there : Contains (calls_of es s) m
+  on : IsTrue (is_on st.layout at m.call)
+
+lease_call : (st : Setting) (es : Trace) (s : Session) (at : Spot) (m : Submitted) → Contains (lease_calls st es s at) m → IsLeaseCall st es s at m
+lease_call st es s at m there =
+    let inside = kept_inside (λ (c : Submitted). is_lease_call c && is_on st.layout at c.call) (calls_of es s) m there in
+    record { there = inside.0; on = (and_true (is_lease_call m) (is_on st.layout at m.call) inside.1).1 }
+
+by_given : (p : Program) (h : Header) (xs : List Happening) (m : ℕ) (a : Machine) (d : Daemon) (s : Session) (q : Submitted) (v : IsVerifier p h xs m a d s q) (resource : List ℕ) (l : Leader)
+    → LeaderFrom d.setting.layout (lease_calls d.setting (front_of v.made) s (spot_of_call d.setting.layout q)) l
+    → AreNamed s resource (leader_names l) → IsLeased h (world_at p h xs) s q resource
+by_given p h xs m a d s q v resource l (Read_there rd there area bytes given spelled) names =
+    let c = lease_call d.setting (front_of v.made) s (spot_of_call d.setting.layout q) rd there in
+    let told : Heard d.trace s q.at bytes rd = heard d.trace s q v.made bytes rd c.there given in
+    let right = area_place d.setting d.trace s rd v.law v.its told.inside told.mine area in
+    by_read p h xs m a d s q v resource l rd bytes told
+    (record { offset = right.0; count = area_sectors d.setting.layout; op = right.1; some = and_two (block_sectors d.setting.layout) }) given c.on spelled names
+by_given p h xs m a d s q v resource l (Made_of rd there bs blocks pair spelled same) names =
+    let w : World = world_at p h xs in
+    let layout : d.setting.layout ≡ w.layout = (v.promised.of_world p h xs v.run m a d v.at v.has).layout in
+    let c = lease_call d.setting (front_of v.made) s (spot_of_call d.setting.layout q) rd there in
+    let bytes = bytes_given d.setting.layout rd bs (bytes_told d.setting.layout rd bs blocks) in
+    let told : Heard d.trace s q.at bytes.0 rd = heard d.trace s q v.made bytes.0 rd c.there bytes.1 in
+    by_block p h xs m a d s q v resource rd bytes.0 bs told bytes.1 c.on (ap (λ g. blocks_bytes g rd) (sym layout) ∙ blocks) pair
+    (subst (λ g. SpelledIn g bs pair) layout spelled)
+    (record { lockspace = sym same.0 ∙ names.lockspace; resource_is = sym same.1 ∙ names.resource_is })
+
+verified_by : (p : Program) (h : Header) (xs : List Happening) (m : ℕ) (a : Machine) (d : Daemon) (s : Session) (q : Submitted) (v : IsVerifier p h xs m a d s q) (resource : List ℕ) (l : Leader)
+    → Contains (leaders_read d.setting (front_of v.made) s (spot_of_call d.setting.layout q)) l ⊎ IsLeaderGiven d.setting (front_of v.made) s (spot_of_call d.setting.layout q) l
+    → AreNamed s resource (leader_names l) → IsLeased h (world_at p h xs) s q resource
+verified_by p h xs m a d s q v resource l (inl there) names =
+    let rd = leader_read d.setting (front_of v.made) s (spot_of_call d.setting.layout q) l there in
+    let told : Heard d.trace s q.at rd.bytes rd.call = heard d.trace s q v.made rd.bytes rd.call rd.there rd.given in
+    by_read p h xs m a d s q v resource l rd.call rd.bytes told (right_read d.setting d.trace s rd.call v.law v.its told.inside told.mine rd.reads) rd.given rd.on rd.spelled names
+verified_by p h xs m a d s q v resource l (inr given) names =
+    by_given p h xs m a d s q v resource l
+    (leader_from d.setting.layout given.0 (lease_calls d.setting (front_of v.made) s (spot_of_call d.setting.layout q)) l given.1) names
 
 -- A session that had verified the area of its call, where the landings before the call are at home.
 pub verified_leased : (p : Program) (h : Header) (xs : List Happening) → IsPromised → LawfulRun p h xs → (m : ℕ) (a : Machine) (d : Daemon) → machine_at (world_at p h xs) m ≡ Some a
@@ -234,25 +419,6 @@ pub verified_leased : (p : Program) (h : Header) (xs : List Happening) → IsPro
     → stamp_in d.stamps q.at ≡ Some made → HomeBefore h (world_at p h xs) made.step → (resource : List ℕ)
     → HasVerified d.setting (front_of k) s (spot_of_call d.setting.layout (made_as k)) resource → IsLeased h (world_at p h xs) s q resource
 verified_leased p h xs b run m a d is has law s its q k made stamped home resource verified =
-    let w : World = world_at p h xs in
-    let layout : d.setting.layout ≡ w.layout = (b.of_world p h xs run m a d is has).layout in
-    let z : IsSized h.geometry w.layout = sized_in p h xs run in
-    let l : Leader = verified.0 in
-    let rd = leader_read d.setting (front_of k) s (spot_of_call d.setting.layout (made_as k)) l
-    (plainly d.setting (front_of k) s (spot_of_call d.setting.layout (made_as k)) l (ap (λ (g : Layout). g.paired) layout ∙ plain_in p h xs run) verified.1) in
-    let told : Heard d.trace s q.at rd.bytes rd.call = heard d.trace s q k rd.bytes rd.call rd.there rd.given in
-    let right = right_read d.setting d.trace s rd.call law its told.inside told.mine rd.reads in
-    let r = read_of b p h xs run m a d is has rd.call told.inside right.count right.op rd.bytes rd.given in
-    let count : 0 < sectors_of rd.call.call.op = reads_some right.count (sectors_of rd.call.call.op) (ap sectors_of right.op) right.some in
-    let shown = sector_shown b p h xs run m a d is rd.call rd.bytes r 0 count in
-    let early : r.stamp.step ≤ made.step =
-    stamp_order w.step d.stamps r.answered.at q.at r.stamp made (daemons_are_fine p h xs run m a d is has).stamps r.entry stamped (told.answered r.answered r.its) in
-    let spelled : leader_of w.layout rd.bytes ≡ Some l = subst (λ g. leader_of g rd.bytes ≡ Some l) layout rd.spelled in
-    let place = shown_leader p h xs b run rd.call.call.path (rd.call.call.offset + 0 * w.layout.sector) (sector_of w.layout rd.bytes 0) r.stamp.step l
-    (home_early h w made.step r.stamp.step early home) (leader_in_is (record_in w.layout (sector_of w.layout rd.bytes 0)) l
-    (sym (spelled_plain w.layout (plain_in p h xs run) (record_in w.layout (sector_of w.layout rd.bytes 0))) ∙ spelled)) shown in
-    let on = and_true (bytes_eq rd.call.call.path q.call.path) (in_area d.setting.layout (q.call.offset - q.call.offset % d.setting.layout.area) rd.call.call.offset) rd.on in
-    leased_by h w s q rd.call resource l run.header z place (same_text rd.call.call.path q.call.path on.0)
-    (subst (λ (g : Layout). rd.call.call.offset ≡ rd.call.call.offset - rd.call.call.offset % g.area) layout right.offset)
-    (subst (λ (g : Layout). IsTrue (in_area g (q.call.offset - q.call.offset % g.area) rd.call.call.offset)) layout on.1)
-    (named d.setting.layout s resource l verified.2)
+    let v : IsVerifier p h xs m a d s q =
+    record { promised = b; run = run; at = is; has = has; law = law; its = its; made = k; stamp = made; stamped = stamped; home = home } in
+    verified_by p h xs m a d s q v resource verified.0 verified.1 (named d.setting.layout s resource verified.0 verified.2)

@@ -63,9 +63,9 @@ pub record IsSeated (h : Header) (w : World) (s : Session) : Type 0 where
 pub sized_in : (p : Program) (h : Header) (xs : List Happening) → LawfulRun p h xs → IsSized h.geometry (world_at p h xs).layout
 sized_in p h xs run = subst (IsSized h.geometry) (sym (layout_is p h xs)) (sized p.digest h.geometry run.header.geometry)
 
--- .. where each host's block has one sector.
-pub plain_in : (p : Program) (h : Header) (xs : List Happening) → LawfulRun p h xs → (world_at p h xs).layout.paired ≡ false
-plain_in p h xs run = (sized_in p h xs run).paired ∙ run.header.unpaired
+-- .. where each host's block has one sector, if it has so in the header.
+pub plain_in : (p : Program) (h : Header) (xs : List Happening) → LawfulRun p h xs → h.geometry.paired ≡ false → (world_at p h xs).layout.paired ≡ false
+plain_in p h xs run plain = (sized_in p h xs run).paired ∙ plain
 
 -- ---- a session that is given
 
@@ -191,7 +191,7 @@ at_home p h xs b run x d read (Lease_home r there path inside landing) =
     absurd (not_other (is_delta_record k.wrote.record_written) (ap is_delta_record back) landing.other)
 
 at_first_by : (h : Header) (w : World) (path : List ℕ) (offset : ℕ) (d : DeltaRec) → IsInitial w.layout h path offset (DeltaIs d) → IsDeltaPlace h w path offset d
-at_first_by h w path offset d (In_resource x there path_is inside is never leader) = absurd (never d refl)
+at_first_by h w path offset d (In_resource x there path_is inside its) = absurd (its.no_delta d refl)
 at_first_by h w path offset d (In_lockspace l e there path_is inside few is its) =
     let same : d ≡ e = same_delta d e is in
     let k : ℕ = (offset - l.offset) / w.layout.sector in

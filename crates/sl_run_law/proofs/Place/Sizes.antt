@@ -1,6 +1,7 @@
 -- What the table of sizes gives of a layout, and the arithmetic of its areas and sectors, whatever their sizes.
 use Rattle.sl_area.proofs.SizeLaws.{HasRoom, has_room}
 use Rattle.sl_area.specs.Layouts.{IsGeometry, Layout, Sizes, layout_with, roomy}
+use Rattle.sl_area.specs.Places.{block_sectors}
 use Rattle.sl_sector.specs.Spelling.{IsSectorSize}
 use Rattle.sl_words.proofs.CaseLaws.{false_is_true}
 use Rattle.sl_words.proofs.WordLaws.{and_true, or_true}
@@ -9,16 +10,18 @@ use Rattle.std.proofs.Math.Nat.{add-sub_cancel_left, mod-le, mul-div_cancel_left
 use Rattle.std.proofs.lemmas.Bool.Decides.{Decides-eqb}
 use Rattle.std.proofs.lemmas.Nat.{div-add-mod', div-mul-add, mod_below}
 use Rattle.std.specs.Int.{is_in_range}
-use Rattle.std.specs.Prelude.{Bool, false, true, ℕ, ◌%◌, ◌&&◌, ◌*◌, ◌+◌, ◌-◌, ◌/◌, ◌<◌, ◌==◌, ◌||◌, ◌≡◌, ◌≤◌, ◌⊎◌}
+use Rattle.std.specs.Prelude.{Bool, true, ℕ, ◌%◌, ◌&&◌, ◌*◌, ◌+◌, ◌-◌, ◌/◌, ◌<◌, ◌==◌, ◌||◌, ◌≡◌, ◌≤◌, ◌⊎◌}
 
 -- ---- what the table gives
 
--- A layout of these sizes, which the table has: an area is made of whole sectors, and has room for three more than there are hosts.
+-- A layout of these sizes, which the table has: an area is made of whole sectors, and has room for three more than there are hosts, and
+-- than the hosts' blocks have.
 pub record IsSized (s : Sizes) (g : Layout) : Type 0 where
   pub area : g.area ≡ s.area
   pub sector : (512 ≤ g.sector) × (g.sector ≤ 4096)
   pub hosts : (1 ≤ g.hosts) × (g.hosts ≤ 2000)
   pub room : g.sector * (g.hosts + 3) ≤ g.area
+  pub blocks : g.sector * (block_sectors g + 3) ≤ g.area
   pub whole : g.area % g.sector ≡ 0
   pub paired : g.paired ≡ s.paired
 
@@ -40,7 +43,7 @@ are_whole s h =
     whole_row s 4096 8388608 2000 _ (omega arith) h (λ h. absurd (false_is_true h))))))
 
 pub sized : (digest : _) (s : Sizes) → IsGeometry s → IsSized s (layout_with digest s)
-sized digest s h = let r : HasRoom s = has_room s h in record { area = refl; sector = r.sector; hosts = r.hosts; room = r.room; whole = are_whole s h; paired = refl }
+sized digest s h = let r : HasRoom s = has_room s h in record { area = refl; sector = r.sector; hosts = r.hosts; room = r.room; blocks = r.blocks; whole = are_whole s h; paired = refl }
 
 pub sector_fits : {s : Sizes} (g : Layout) → IsSized s g → IsSectorSize g.sector
 sector_fits g z = z.sector

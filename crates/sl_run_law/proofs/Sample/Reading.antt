@@ -5,14 +5,14 @@ use Rattle.sl_run.specs.Worlds.{Course, Landing, Sampling, World, content, first
 use Rattle.sl_run_law.specs.Fates.{Every}
 use Rattle.sl_run_law.proofs.Sample.Numbering.{newest_number, number_below, one_behind, sector_behind, sector_stays}
 use Rattle.sl_run_law.proofs.Sample.Seeing.{Sees}
-use Rattle.sl_run_law.specs.Sample.Samples.{IsSampleOf, numbered_landing}
+use Rattle.sl_run_law.specs.Sample.Samples.{IsSampleOf, SampledInOrder, numbered_landing}
 use Rattle.sl_trace.specs.Traces.{same_place}
 use Rattle.sl_words.proofs.CaseLaws.{none_some}
 use Rattle.std.proofs.Common.{ap, arith, inl, inr, refl, subst, sym, ◌∙◌}
 use Rattle.std.proofs.lemmas.List.{append-nil, append_assoc, length-append}
 use Rattle.std.proofs.lemmas.Option.{slice_get_within}
 use Rattle.std.specs.List.{range_with_len}
-use Rattle.std.specs.Prelude.{Bool, List, None, Some, false, filter, find, flat_map, if◌then◌else◌, length, map, slice_get, suc, true, zero, [], ℕ, ◌*◌, ◌++◌, ◌+◌, ◌<◌, ◌∷◌, ◌≡◌, ◌≤◌}
+use Rattle.std.specs.Prelude.{Bool, List, None, Some, false, filter, find, flat_map, if◌then◌else◌, length, map, slice_get, suc, true, zero, [], ℕ, ◌*◌, ◌++◌, ◌+◌, ◌<◌, ◌∷◌, ◌≡◌, ◌≤◌, ◌⊎◌}
 
 -- ---- the newest of a place
 
@@ -130,6 +130,26 @@ old_shows w c k s h at =
       before = i.before;
     }
 
+not_beyond : (j k n : ℕ) → j ≡ n → k < n → j ≤ k → ⊥
+not_beyond j k n e h l = omega (arith, e, h, l)
+
+at_most_now : (n m : ℕ) → n < m + 1 → n ≤ m
+at_most_now n m h = omega (arith, h)
+
+-- The new one comes last.
+one_in_order : (w : World) (c : Course) → Sees (next_step w) c → SampledInOrder (one_more w c)
+one_in_order w c h j k u t first second le =
+    by (one_behind c.samples s j u first) (one_behind c.samples s k t second)
+  where
+    s : Sampling
+    s = sample_at w c.call (length c.samples)
+
+    by : (slice_get c.samples j ≡ Some u) ⊎ ((j ≡ length c.samples) × (s ≡ u)) → (slice_get c.samples k ≡ Some t) ⊎ ((k ≡ length c.samples) × (s ≡ t)) → u.step ≤ t.step
+    by (inl one) (inl two) = h.order j k u t one two le
+    by (inl one) (inr new) = subst (λ (x : Sampling). u.step ≤ x.step) new.1 (at_most_now u.step w.step (h.past j u one).0)
+    by (inr new) (inl two) = absurd (not_beyond j k (length c.samples) new.0 (slice_get_within c.samples k t two) le)
+    by (inr one) (inr two) = subst (λ (x : Sampling). x.step ≤ t.step) one.1 (subst (λ (x : Sampling). s.step ≤ x.step) two.1 (refl_le s.step))
+
 sees_one : (w : World) (c : Course) → MaySample w c → length c.samples < sectors_of c.call.op → Sees (next_step w) c → Sees (next_step w) (one_more w c)
 sees_one w c may room h =
     let n : ℕ = length c.samples in
@@ -152,6 +172,7 @@ sees_one w c may room h =
             | inr new ↦ subst (λ x. IsSampleOf (next_step w) (one_more w c) k x) new.1
                 (subst (λ j. IsSampleOf (next_step w) (one_more w c) j s) (sym new.0) (new_shows w c may h))
           ];
+      order = one_in_order w c h;
     }
 
 -- ---- more sectors

@@ -64,6 +64,7 @@ fated_sees v x c h =
       made = h.made;
       past = h.past;
       shows = λ k s at. fated_sample v x c k s (h.shows k s at);
+      order = h.order;
     }
 
 all_fated : (w : World) (e : Event) (m n : ℕ) (x : Fate) (a : Machine) → Before w e m a (change_call n (fated x) a)

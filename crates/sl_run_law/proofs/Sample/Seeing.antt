@@ -7,7 +7,7 @@ use Rattle.sl_run.specs.declared.header.Header.{Header}
 use Rattle.sl_area.specs.Layouts.{Layout}
 use Rattle.sl_run_law.specs.Fates.{Every}
 use Rattle.sl_run_law.proofs.Sample.Numbering.{every_kept, number_from, number_stays}
-use Rattle.sl_run_law.specs.Sample.Samples.{IsSampleOf, numbered_landing, sector_place}
+use Rattle.sl_run_law.specs.Sample.Samples.{IsSampleOf, SampledInOrder, numbered_landing, sector_place}
 use Rattle.sl_trace.specs.Traces.{same_place}
 use Rattle.std.proofs.Common.{ap, arith, inl, inr, sym, ◌∙◌}
 use Rattle.std.proofs.lemmas.List.{append_assoc}
@@ -24,6 +24,7 @@ pub record Sees (w : World) (c : Course) : Type 0 where
   pub made : (c.made.step < w.step) × (c.made.moment ≤ w.moment)
   pub past : (k : ℕ) (s : Sampling) → slice_get c.samples k ≡ Some s → (s.step < w.step) × (s.moment ≤ w.moment)
   pub shows : (k : ℕ) (s : Sampling) → slice_get c.samples k ≡ Some s → IsSampleOf w c k s
+  pub order : SampledInOrder c
 
 -- ---- worlds go on
 
@@ -107,6 +108,7 @@ sees_later w v c o h =
       made = before_more c.made.step w.step v.step c.made.moment w.moment v.moment h.made.0 o.step h.made.1 o.moment;
       past = λ k s at. let p = h.past k s at in before_more s.step w.step v.step s.moment w.moment v.moment p.0 o.step p.1 o.moment;
       shows = λ k s at. sample_stays w v c k s o (h.past k s at) (h.shows k s at);
+      order = h.order;
     }
 
 pub all_later : (w v : World) (cs : List Course) → Onward w v → Every (Sees w) cs → Every (Sees v) cs

@@ -2,9 +2,10 @@
 use Rattle.sl_area.specs.Layouts.{Layout, layout_with}
 use Rattle.sl_run_law.specs.Course.Promises.{CallsAreDistinct}
 use Rattle.sl_run_law.proofs.Front.Going.{IsKeptInRuns, IsLast, last_event, run_after, run_keeps, was_there}
+use Rattle.sl_run_law.proofs.Landing.Initial.{initial_sized}
 use Rattle.sl_run_law.proofs.Landing.Making.{distinct_at}
 use Rattle.sl_run_law.specs.Landing.Landings.{LandingsAreSectors}
-use Rattle.sl_plain.proofs.Lists.{contains_cases, contains_none}
+use Rattle.sl_plain.proofs.Lists.{contains_cases, contains_none, find_inside}
 use Rattle.sl_run.specs.Events.{first_change, input_of, machine_of, take_step}
 use Rattle.sl_run.specs.Runs.{Happening}
 use Rattle.sl_run.specs.Safety.{LawfulRun, world_at}
@@ -16,13 +17,12 @@ use Rattle.sl_run_law.proofs.Walking.{each_then}
 use Rattle.sl_run_law.specs.Fates.{Every}
 use Rattle.sl_run_law.specs.Machines.{EachMachine}
 use Rattle.sl_run_law.proofs.Sample.Answering.{ready}
-use Rattle.sl_run_law.proofs.Sample.Filling.{find_some, initial_sized}
 use Rattle.sl_run_law.proofs.Sample.Passing.{first_onward, landings_over, step_over}
 use Rattle.sl_run_law.proofs.Sample.Reading.{HasLandings}
 use Rattle.sl_run_law.proofs.Sample.Sampling.{Before, Ground, changed_world, first_keeps}
 use Rattle.sl_run_law.proofs.Sample.Seeing.{Sees}
 use Rattle.sl_run_law.proofs.Sample.Stepping.{Stepping, step_keeps}
-use Rattle.sl_run_law.specs.Sample.Samples.{DoneReadsAreWhole, SampledAreSectors, SamplesAreLandings}
+use Rattle.sl_run_law.specs.Sample.Samples.{DoneReadsAreWhole, SampledAreSectors, SamplesAreLandings, SamplesComeInOrder}
 use Rattle.sl_trace.specs.Traces.{same_place}
 use Rattle.std.proofs.Common.{ap, arith, inl, inr, refl, subst, sym, ◌∙◌}
 use Rattle.sl_words.proofs.CaseLaws.{one_value}
@@ -43,7 +43,7 @@ content_by : (w : World) (path : List ℕ) (offset : ℕ) (o : Option Landing) �
     → ((l : Landing) → Contains w.landings l → length l.bytes ≡ w.layout.sector) → length (initial_bytes w.layout w.header path offset) ≡ w.layout.sector
     → length (elim o as (λ x. List ℕ) [ Some l ↦ l.bytes | None ↦ initial_bytes w.layout w.header path offset ]) ≡ w.layout.sector
 content_by w path offset None is each first = first
-content_by w path offset (Some l) is each first = each l (find_some (λ x. same_place x.path x.offset path offset) w.landings l is).0
+content_by w path offset (Some l) is each first = each l (find_inside (λ x. same_place x.path x.offset path offset) w.landings l is).0
 
 first_sized : (p : Program) (h : Header) (now : List Happening) → LawfulRun p h now → (path : List ℕ) (offset : ℕ)
     → length (initial_bytes (world_at p h now).layout (world_at p h now).header path offset) ≡ (world_at p h now).layout.sector
@@ -52,7 +52,7 @@ first_sized p h now run path offset =
     let goes = run_goes (world_with p h) now in
     subst (λ (g : Layout). length (initial_bytes g w.header path offset) ≡ g.sector) (sym goes.layout)
     (subst (λ k. length (initial_bytes (layout_with p.digest h.geometry) k path offset) ≡ h.geometry.sector) (sym goes.header)
-    (initial_sized p.digest run.digest h path offset run.header))
+    (initial_sized p.digest h path offset run.digest run.header))
 
 -- Each place holds a whole sector.
 pub content_sized : LandingsAreSectors → (p : Program) (h : Header) (now : List Happening) → LawfulRun p h now → (path : List ℕ) (offset : ℕ)
@@ -130,3 +130,6 @@ sampled_are_sectors_given distinct sectors p h xs run m a c at has =
 
 pub done_reads_are_whole_given : CallsAreDistinct → LandingsAreSectors → DoneReadsAreWhole
 done_reads_are_whole_given distinct sectors p h xs run m a c at has done reads = (call_seen distinct sectors p h xs run m a c at has).whole done reads
+
+pub samples_come_in_order_given : CallsAreDistinct → LandingsAreSectors → SamplesComeInOrder
+samples_come_in_order_given distinct sectors p h xs run m a c at has = (call_seen distinct sectors p h xs run m a c at has).order

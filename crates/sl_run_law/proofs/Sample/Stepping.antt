@@ -35,6 +35,7 @@ new_sees u now n c made =
       made = made;
       past = λ k s at. absurd (none_some s at);
       shows = λ k s at. absurd (none_some s at);
+      order = λ j k s t one two le. absurd (none_some s one);
     }
 
 all_made : (u : World) (now : Stamp) (n : ℕ) (cs : List Course) (calls : List Call) → (now.step < u.step) × (now.moment ≤ u.moment) → Every (Sees u) cs
@@ -70,6 +71,7 @@ told_sees v u now ok c o step moment all h =
       shows = λ k s at.
           let p = h.past k s at in
           told_sample u now ok c k s (subst (λ n. s.step < n) (sym step) p.0, subst (λ n. s.moment ≤ n) (sym moment) p.1) (later.shows k s at);
+      order = later.order;
     }
 
 answered_keeps : (v u : World) (now : Stamp) (n : ℕ) (answer : Answer) (a : Machine) (b : Bool) → is_ok_answer answer ≡ b → StepOver v u → now.step ≡ v.step → now.moment ≡ v.moment

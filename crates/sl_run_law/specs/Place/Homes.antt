@@ -12,7 +12,9 @@ use Rattle.sl_run.specs.declared.header.LockspaceLine.{LockspaceLine}
 use Rattle.sl_run.specs.declared.header.ResourceLine.{ResourceLine}
 use Rattle.sl_sector.specs.declared.sector.DeltaRec.{DeltaRec}
 use Rattle.sl_sector.specs.declared.sector.Leader.{Leader}
-use Rattle.sl_sector.specs.declared.sector.Rec.TheVariants.{DeltaIs, LeaderIs}
+use Rattle.sl_sector.specs.declared.sector.PairBlock.{PairBlock}
+use Rattle.sl_sector.specs.declared.sector.Rec.TheVariants.{DeltaIs, PairIs}
+use Rattle.sl_trace.specs.Leases.{leader_of_record}
 use Rattle.std.specs.Prelude.{Contains, IsFalse, IsTrue, List, Some, ℕ, ◌≡◌, ◌≤◌}
 
 -- A landing with its writer's session.
@@ -40,15 +42,17 @@ LockspacesHoldDeltas = (p : Program) (h : Header) (xs : List Happening) → Lawf
     → (x : Landing) → Contains (world_at p h xs).landings x → x.path ≡ l.path → IsTrue (in_area (world_at p h xs).layout l.offset x.offset)
     → IsDeltaLanding (world_at p h xs) l x
 
--- Of a resource's area: no delta record, at its place, written by a session of the resource's lockspace; a leader names the resource.
+-- Of a resource's area: no delta record, at its place, written by a session of the resource's lockspace; a leader names the resource, and so
+-- does a pair's block.
 pub record IsLeaseLanding (w : World) (r : ResourceLine) (x : Landing) : Type 0 where
   pub written : WrittenBySession w x
   pub other : IsFalse (is_delta_record written.wrote.record_written)
   pub lockspace : written.found.session.lockspace ≡ r.lockspace
   pub placed : record_offset (setting_in written.found) written.found.session (record { path = r.path; base = r.offset }) written.wrote.record_written
       ≡ Some x.offset
-  pub names : (l : Leader) → written.wrote.record_written ≡ LeaderIs l
+  pub names : (l : Leader) → leader_of_record written.wrote.record_written ≡ Some l
       → (l.lockspace ≡ r.lockspace) × (l.resource ≡ r.name) × (l.num_hosts ≡ w.layout.hosts)
+  pub pairs : (p : PairBlock) → written.wrote.record_written ≡ PairIs p → (p.lockspace ≡ r.lockspace) × (p.resource ≡ r.name)
 
 -- In a resource's area nothing else lands.
 abbrev pub ResourcesHoldLeases : Type 0

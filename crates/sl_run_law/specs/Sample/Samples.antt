@@ -27,6 +27,14 @@ pub record IsSampleOf (w : World) (c : Course) (k : ℕ) (s : Sampling) : Type 0
   pub after : (c.made.step < s.step) × (c.made.moment ≤ s.moment)
   pub before : (t : Stamp) → c.answered ≡ Some t → (s.step < t.step) × (s.moment ≤ t.moment)
 
+-- Sectors are sampled in rising order: a further one no earlier.
+abbrev pub SampledInOrder : Course → Type 0
+SampledInOrder c = (j k : ℕ) (s t : Sampling) → slice_get c.samples j ≡ Some s → slice_get c.samples k ≡ Some t → j ≤ k → s.step ≤ t.step
+
+abbrev pub SamplesComeInOrder : Type 0
+SamplesComeInOrder = (p : Program) (h : Header) (xs : List Happening) → LawfulRun p h xs → (m : ℕ) (a : Machine) (c : Course)
+    → machine_at (world_at p h xs) m ≡ Some a → Contains a.calls c → SampledInOrder c
+
 -- Each sample of each call shows a landing.
 abbrev pub SamplesAreLandings : Type 0
 SamplesAreLandings = (p : Program) (h : Header) (xs : List Happening) → LawfulRun p h xs → (m : ℕ) (a : Machine) (c : Course) (k : ℕ) (s : Sampling)

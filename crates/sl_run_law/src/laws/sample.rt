@@ -1,6 +1,6 @@
 //! What a lawful run promises of samples.
 
-ghost use Rattle.sl_run_law.specs.Sample.Samples.{DoneReadsAreWhole, SampledAreSectors, SamplesAreLandings};
+ghost use Rattle.sl_run_law.specs.Sample.Samples.{DoneReadsAreWhole, SampledAreSectors, SamplesAreLandings, SamplesComeInOrder};
 
 /// Each sample shows the newest landing.
 pub fn samples_are_landings()
@@ -15,4 +15,9 @@ pub fn sampled_are_sectors()
 /// A read that was answered ok has all its samples.
 pub fn done_reads_are_whole()
     ensures { DoneReadsAreWhole }
+{}
+
+/// A read's sectors are sampled in rising order.
+pub fn samples_come_in_order()
+    ensures { SamplesComeInOrder }
 {}

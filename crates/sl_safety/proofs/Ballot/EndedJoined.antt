@@ -2,9 +2,9 @@
 -- has joined its lockspace.
 use Rattle.sl_area.specs.Layouts.{Layout}
 use Rattle.sl_safety.proofs.Ballot.Ended.{EndingRead}
-use Rattle.sl_safety.proofs.Ballot.EndedAll.{ends_in, plain_of}
+use Rattle.sl_safety.proofs.Ballot.EndedAll.{ends_in}
 use Rattle.sl_history.proofs.Giving.Hosts.{written_in}
-use Rattle.sl_safety.proofs.Ballot.Phase2Stands.{stands_at}
+use Rattle.sl_history.proofs.Resources.Stands.{stands_at}
 use Rattle.sl_safety.specs.Ballot.Enders.{EndersAreJoined}
 use Rattle.sl_run.specs.LawfulArea.{LawfulAreaWrite}
 use Rattle.sl_trace_law.proofs.Leases.EndLaws.{ended}
@@ -15,7 +15,7 @@ use Rattle.sl_run_law.proofs.Place.Leased.{IsLeased, verified_leased}
 use Rattle.sl_run_law.proofs.Place.Proven.{promised}
 use Rattle.sl_run_law.proofs.Place.Reading.{call_law, lawful_daemon, session_inside}
 use Rattle.sl_history.proofs.Resources.Above.{is_among}
-use Rattle.sl_history.proofs.Resources.Calls.{IsOwned, block_sent, block_works, made_of, numbers_meant, owned, worker_joined}
+use Rattle.sl_history.proofs.Resources.Calls.{IsOwned, block_works, made_of, numbers_meant, owned, record_sent, worker_joined}
 use Rattle.sl_history.proofs.Resources.Owning.{session_as, spot_is}
 use Rattle.sl_history.proofs.Resources.Standing.{parts}
 use Rattle.sl_history.specs.Resources.Promises.{spot_of_line}
@@ -26,7 +26,6 @@ use Rattle.sl_run.specs.Worlds.{Program, World}
 use Rattle.sl_run.specs.declared.header.Header.{Header}
 use Rattle.sl_run.specs.declared.header.ResourceLine.{ResourceLine}
 use Rattle.sl_sector.specs.declared.sector.Block.{Block}
-use Rattle.sl_sector.specs.declared.sector.Rec.TheVariants.{BlockIs}
 use Rattle.sl_trace_law.specs.Sessions.Promises.{front_of, made_as}
 use Rattle.sl_trace.specs.Sessions.{session_numbered}
 use Rattle.sl_trace.specs.declared.session.Session.{Session}
@@ -34,7 +33,7 @@ use Rattle.sl_trace.specs.Traces.{Setting, Submitted, Trace, record_of, submitte
 use Rattle.sl_trace.specs.declared.effects.Call.{Call}
 use Rattle.sl_trace.specs.declared.effects.Spot.{Spot}
 use Rattle.sl_words.proofs.WordLaws.{and_true}
-use Rattle.std.proofs.Common.{ap, append_assoc, refl, sym, ◌∙◌}
+use Rattle.std.proofs.Common.{ap, append_assoc, sym, ◌∙◌}
 use Rattle.std.proofs.lemmas.Bool.{eqb-true}
 use Rattle.std.specs.Prelude.{Contains, List, Option, Some, is_some, nat_lt, option_and_then, true, ℕ, ◌%◌, ◌++◌, ◌-◌, ◌==◌, ◌^◌, ◌∷◌, ◌≡◌}
 
@@ -58,10 +57,10 @@ writes_there p h xs run x sent writes at zero on =
     let d = made_of o in
     let q : Submitted = o.trace.submitted_as in
     let st : Setting = o.trace.daemon.setting in
-    let b = block_sent p h xs run x sent writes in
+    let b = record_sent x.course writes in
     let law = call_law st o.trace.daemon.trace o.session q d o.trace.lawful o.its o.mine in
-    let write : LawfulAreaWrite st (front_of d) o.session (made_as d) (BlockIs b.0) =
-    (law.0.area.0.writes d.index q.call o.session d.call law.1 (BlockIs b.0) (ap (λ (c : Call). record_of c.op) o.trace.is.call ∙ b.1) refl).1 in
+    let write : LawfulAreaWrite st (front_of d) o.session (made_as d) b.0 =
+    (law.0.area.0.writes d.index q.call o.session d.call law.1 b.0 (ap (λ (c : Call). record_of c.op) o.trace.is.call ∙ b.1) b.2).1 in
     let k : IsLeased h w o.session q write.resource =
     verified_leased p h xs promised run x.machine o.there.machine o.trace.daemon o.there.at o.trace.has o.trace.lawful o.session o.its q d x.course.made o.trace.is.made
     (λ l inside early. at_home p h xs promised run l inside) write.resource write.verified in
@@ -110,5 +109,5 @@ enders_are_joined p h xs run i f its later front whole at base q has =
     let w : World = world_at p h xs in
     let g : Layout = w.layout in
     let zero : at.base % g.area ≡ 0 = eqb-true (at.base % g.area) 0 (and_true (at.base % g.area == 0) (nat_lt at.base (10 ^ 12)) base).0 in
-    let k = ends_in f (plain_of p h xs run i f its) later front whole at q (ended (setting_in f).layout (lease_calls (setting_in f) front f.session at) q has) in
+    let k = ends_in f later front whole at q (ended (setting_in f).layout (lease_calls (setting_in f) front f.session at) q has) in
     enders p h xs run i f its at zero k.own k.blocks k.ending

@@ -1,8 +1,5 @@
 -- Each leader was written by a session whose own ballot of its instance had ended with itself.
-use Rattle.sl_history.proofs.Resources.Owning.{plain_at}
-use Rattle.sl_trace.proofs.PlainReads.{given_plain}
 use Rattle.sl_safety.proofs.Ballot.Ended.{AnsweredBy, EndingRead, ballot_ended}
-use Rattle.sl_safety.proofs.Ballot.EndedGrown.{unkept}
 use Rattle.sl_safety.proofs.Ballot.ReasonEvidence.{found_of_standing, sender_found}
 use Rattle.sl_safety.proofs.Ballot.ReasonFronted.{fronted, name_at_front}
 use Rattle.sl_safety.specs.Ballot.Endings.{HostsJoin, holder_as}
@@ -13,8 +10,7 @@ use Rattle.sl_run.specs.Saying.{cut_at}
 use Rattle.sl_trace_law.proofs.Leases.EndLaws.{leaders_follow}
 use Rattle.sl_trace_law.specs.Leases.Ways.{Ended, LeaderRests, lease_among}
 use Rattle.sl_trace.specs.Ballots.{owner_of, same_owner, value_of}
-use Rattle.sl_trace.specs.Leases.{block_submitted, is_lease_call, is_on, leader_of_record}
-use Rattle.sl_plain.proofs.Lists.{contains_first}
+use Rattle.sl_trace.specs.Leases.{block_submitted, blocks_given, leader_of_record}
 use Rattle.sl_plain.proofs.Options.{some_there}
 use Rattle.sl_history.proofs.Resources.Above.{IsAmong, answer_step, answered_before, line_aligned, reads_work, told_spot}
 use Rattle.sl_history.proofs.Resources.Calls.{IsSentTo, IsWork, found_at, leader_works, worker_joined}
@@ -30,8 +26,7 @@ use Rattle.sl_run.specs.declared.header.ResourceLine.{ResourceLine}
 use Rattle.sl_sector.specs.declared.sector.Block.{Block}
 use Rattle.sl_sector.specs.declared.sector.Leader.{Leader}
 use Rattle.sl_sector.specs.declared.sector.Owner.{Owner}
-use Rattle.sl_run_law.proofs.Front.Having.{contains_right}
-use Rattle.sl_trace.specs.Sessions.{is_call_of, me}
+use Rattle.sl_trace.specs.Sessions.{me}
 use Rattle.sl_trace.specs.declared.session.Session.{Session}
 use Rattle.sl_trace.specs.Traces.{Setting, Submitted, record_of, submitted}
 use Rattle.sl_trace.specs.declared.effects.Call.{Call}
@@ -40,7 +35,9 @@ use Rattle.sl_words.proofs.WordLaws.{and_true}
 use Rattle.std.proofs.Common.{ap, append_assoc, subst, sym, ◌∙◌}
 use Rattle.std.proofs.lemmas.Bool.{eqb-true}
 use Rattle.std.specs.Option.{option_map_or}
-use Rattle.std.specs.Prelude.{false, Contains, List, Option, Some, filter, is_some, option_and_then, true, [], ℕ, ◌&&◌, ◌++◌, ◌==◌, ◌∷◌, ◌≡◌, ◌≤◌}
+use Rattle.std.specs.Prelude.{Contains, List, Option, Some, is_some, option_and_then, true, [], ℕ, ◌++◌, ◌==◌, ◌∷◌, ◌≡◌, ◌≤◌}
+use Rattle.sl_history.proofs.Resources.Reading.{among_split}
+use Rattle.sl_safety.proofs.Ballot.ReadsIn.{CallIn, call_in}
 
 -- ---- an end among the calls before
 
@@ -52,38 +49,29 @@ record EndsAmong (f : Found) (older : List Submitted) (at : Spot) (p : ℕ × Ow
   among : IsAmong (setting_in f) f.session at older ending.read
   what : (own.lver, value_of own) ≡ p
 
-ends_among : (f : Found) → (setting_in f).layout.paired ≡ false → (newer older : List Submitted) → submitted (trace_of f) ≡ newer ++ older → (at : Spot) (p : ℕ × Owner)
+ends_among : (f : Found) (newer older : List Submitted) → submitted (trace_of f) ≡ newer ++ older → (at : Spot) (p : ℕ × Owner)
     → Ended (setting_in f).layout (lease_among (setting_in f) f.session at older) p → EndsAmong f older at p
-ends_among f plain newer older is at p e =
+ends_among f newer older is at p e =
     let st : Setting = setting_in f in
     let ses : Session = f.session in
-    let u = unkept (λ m. is_lease_call m && is_on st.layout at m.call) (filter (is_call_of ses) older) e.newer e.read e.before e.is in
-    let v = unkept (is_call_of ses) older u.newer e.read u.older u.is in
-    let before : lease_among st ses at v.older ≡ e.before = ap (λ ms. filter (λ m. is_lease_call m && is_on st.layout at m.call) ms) v.kept ∙ u.kept in
-    let both = and_true (is_lease_call e.read) (is_on st.layout at e.read.call) u.passes in
-    let mine : e.read.call.session ≡ ses.number = eqb-true e.read.call.session ses.number v.passes in
+    let c : CallIn st ses at older e.read e.before = call_in st ses at older e.newer e.before e.read e.is in
     record {
       own = e.own;
       blocks = e.blocks;
       ending = record {
-        newer = newer ++ v.newer;
+        newer = newer ++ c.newer;
         read = e.read;
-        older = v.older;
-        is = is ∙ ap (λ ms. newer ++ ms) v.is ∙ sym (append_assoc newer v.newer (e.read ∷ v.older));
-        mine = mine;
-        lease = both.0;
-        on = both.1;
+        older = c.older;
+        is = is ∙ ap (λ ms. newer ++ ms) c.is ∙ sym (append_assoc newer c.newer (e.read ∷ c.older));
+        mine = c.mine;
+        lease = c.lease;
+        on = c.on;
         reads = e.reads;
-        block = ap (λ ms. block_submitted ms) before ∙ e.block;
-        given = given_plain st.layout plain e.read e.before e.blocks e.given;
+        block = ap (λ ms. block_submitted ms) c.rest ∙ e.block;
+        given = ap (λ ms. blocks_given st.layout e.read ms) c.rest ∙ e.given;
         clear = e.clear;
       };
-      among = record {
-        has = subst (λ ms. Contains ms e.read) (sym v.is) (contains_right v.newer (e.read ∷ v.older) e.read (contains_first e.read v.older));
-        session = mine;
-        lease = both.0;
-        on = both.1;
-      };
+      among = among_split st ses at older e.newer e.read e.before e.is;
       what = e.what;
     }
 
@@ -137,9 +125,9 @@ won_by p h xs r run there differ hosts l k =
     (ap (λ (c : Call). option_and_then leader_of_record (record_of c.op)) s.told.pair.call ∙ k.wrote) s.session s.known) in
     let sub = rests.submission in
     let self : Owner = me (cut_at sub.place sub.entry ∷ sub.past) s.session in
-    let e = ends_among f (plain_at p h xs run x s) (s.told.newer ++ s.told.one ∷ []) s.told.older (s.told.is ∙ sym (append_assoc s.told.newer (s.told.one ∷ []) s.told.older)) at (k.leader.lver, self) rests.won in
+    let e = ends_among f (s.told.newer ++ s.told.one ∷ []) s.told.older (s.told.is ∙ sym (append_assoc s.told.newer (s.told.one ∷ []) s.told.older)) at (k.leader.lver, self) rests.won in
     let by = answered_before p h xs run x s work.work work.area e.ending.read (subst (λ a. IsAmong st s.session a s.told.older e.ending.read) (sym spot) e.among)
-    (reads_work st.layout e.ending.read e.blocks e.ending.given) in
+    (reads_work st.layout e.ending.read (lease_among st s.session at e.ending.older) e.blocks e.ending.given) in
     let early : AnsweredBy f e.ending.read l =
     λ a told t stamped. subst (λ n. t.step ≤ n) k.is.step_is (answer_step p h xs run x s e.ending.read by a told t stamped) in
     let done = ballot_ended p h xs r run there differ hosts (sender_of x) f (sender_found w x s) (worker_joined p h xs r x work) e.own e.blocks e.ending l early in

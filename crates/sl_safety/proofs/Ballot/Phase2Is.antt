@@ -1,14 +1,12 @@
 -- What a session writes at the step of phase 2 is a phase 2 of the history: it accepts what its phase 1 began, after a read that stopped
 -- nothing.
-use Rattle.sl_trace.proofs.PlainReads.{given_plain}
 use Rattle.sl_safety.proofs.Ballot.KeptBallots.{Phase2sAre}
 use Rattle.sl_safety.proofs.Ballot.Phase2Apart.{host_there}
-use Rattle.sl_safety.proofs.Ballot.Phase2Between.{Acked, acked_by, last_between, ok_is}
-use Rattle.sl_history.proofs.Giving.Hosts.{block_host}
+use Rattle.sl_safety.proofs.Ballot.Phase2Between.{Acked, last_between, ok_is}
+use Rattle.sl_history.proofs.Giving.Hosts.{block_host, own_host}
 use Rattle.sl_safety.proofs.Ballot.Phase2Last.{OwnLast, own_last}
 use Rattle.sl_safety.proofs.Ballot.Phase2Ones.{base_is, is_one, last_wrote, own_of_last, written_there}
-use Rattle.sl_safety.proofs.Ballot.Phase2Shows.{OwnRead, is_clean, read_is}
-use Rattle.sl_safety.proofs.Ballot.Phase2Stands.{stands_at}
+use Rattle.sl_safety.proofs.Ballot.Phase2Shows.{OwnRead, is_clean, start}
 use Rattle.sl_safety.proofs.Ballot.Phase2Values.{proposes_what}
 use Rattle.sl_safety.proofs.Ballot.ReasonFronted.{fronted, name_at_front}
 use Rattle.sl_safety.specs.Ballot.Endings.{HostsJoin, holder_as}
@@ -17,31 +15,27 @@ use Rattle.sl_ballots.specs.History.{History}
 use Rattle.sl_run_law.specs.Course.Stamping.{AnswersAgree, IsAnsweredAs, IsCourseOf}
 use Rattle.sl_run.specs.LawfulArea.{is_area_work}
 use Rattle.sl_run.specs.Saying.{cut_at}
-use Rattle.sl_trace_law.proofs.Leases.NumberLaws.{number_is_place}
 use Rattle.sl_trace_law.proofs.Leases.RestLaws.{phase2_follows}
-use Rattle.sl_trace_law.specs.Leases.Ways.{Phase2Rests}
+use Rattle.sl_trace_law.specs.Leases.Ways.{Phase2Rests, lease_among}
 use Rattle.sl_trace.specs.Ballots.{ballot_blocks, moded_block, phase2_block, value_to_write}
-use Rattle.sl_trace.specs.Leases.{Phase1_write, Phase2_write, is_at, is_on}
-use Rattle.sl_history.specs.Resources.Once.{blocks_once as blocks_given}
+use Rattle.sl_trace.specs.Leases.{Phase1_write, Phase2_write, blocks_given, is_at}
 use Rattle.sl_plain.proofs.Numbers.{lt_then_le}
 use Rattle.sl_history.proofs.Resources.Above.{IsAmong, WrittenAt, answer_step, answered_before, is_among, line_aligned, reads_work, told_spot, written_at}
-use Rattle.sl_history.proofs.Giving.Hosts.{own_host}
-use Rattle.sl_history.proofs.Resources.Calls.{worker_joined}
-use Rattle.sl_history.proofs.Resources.Calls.{block_works as block_is_work}
+use Rattle.sl_history.proofs.Resources.Calls.{block_works as block_is_work, worker_joined}
 use Rattle.sl_history.proofs.Resources.Founding.{is_last, writer_is, writes_at}
-use Rattle.sl_history.proofs.Resources.Owning.{block_is_lease, block_told, block_works, layout_at, lease_is_work, number_at, plain_at, session_as}
-use Rattle.sl_history.proofs.Resources.Standing.{Standing, parts, standing}
+use Rattle.sl_history.proofs.Resources.Owning.{block_is_lease, block_told, block_works, lease_is_work}
+use Rattle.sl_history.proofs.Resources.Standing.{Standing, standing}
 use Rattle.sl_history.specs.Resources.Histories.{history_block}
 use Rattle.sl_history.specs.Resources.Promises.{NamesDiffer, history_of_line, spot_of_line}
-use Rattle.sl_history.specs.Resources.Sending.{Sent, block_of_course, holder_of, is_joined_there, sender_of, step_of}
+use Rattle.sl_history.specs.Resources.Sending.{Sent, block_of_course, holder_of, is_joined_there, read_at, sender_of, step_of}
 use Rattle.sl_run.specs.Runs.{Happening}
-use Rattle.sl_run.specs.Safety.{LawfulRun, world_at}
+use Rattle.sl_run.specs.Safety.{Found, IsSession, LawfulRun, SessionId, world_at}
 use Rattle.sl_run.specs.Worlds.{Course, Daemon, Program, Stamp, World}
 use Rattle.sl_run.specs.declared.header.Header.{Header}
 use Rattle.sl_run.specs.declared.header.ResourceLine.{ResourceLine}
 use Rattle.sl_sector.specs.declared.sector.Block.{Block}
 use Rattle.sl_sector.specs.declared.sector.Owner.{Owner}
-use Rattle.sl_trace.specs.Sessions.{me, session_numbered}
+use Rattle.sl_trace.specs.Sessions.{me}
 use Rattle.sl_trace.specs.Traces.{Answered, Setting, Submitted, Trace, new_call, submitted}
 use Rattle.sl_trace.specs.declared.effects.Call.{Call}
 use Rattle.sl_trace.specs.declared.effects.Spot.{Spot}
@@ -49,6 +43,11 @@ use Rattle.sl_words.proofs.CaseLaws.{some_value}
 use Rattle.std.proofs.Common.{ap, append_assoc, subst, sym, ◌∙◌}
 use Rattle.std.specs.Option.{option_map_or}
 use Rattle.std.specs.Prelude.{Contains, List, Option, Some, is_some, option_and_then, true, ℕ, ◌++◌, ◌<◌, ◌∷◌, ◌≡◌, ◌≤◌, ◌⊎◌}
+use Rattle.sl_safety.proofs.Ballot.ReasonEvidence.{found_of_standing, sender_found}
+use Rattle.sl_history.proofs.Resources.Looks.{began_before}
+use Rattle.sl_safety.proofs.Ballot.ReadsStand.{began_after, read_stands}
+use Rattle.sl_run.specs.LawfulBlock.{FirstAfter}
+use Rattle.sl_safety.proofs.Ballot.ReadsIn.{CallIn, call_in}
 
 -- ---- what phase 2 writes
 
@@ -98,7 +97,8 @@ behind p h xs run r there e x at =
 record PhaseRead (p : Program) (h : Header) (xs : List Happening) (r : ResourceLine) (e : ℕ) (x : WrittenAt p h xs r e) (k : Behind p h xs r e x) : Type 0 where
   z : Sent
   sender : sender_of z ≡ sender_of x.sent
-  acked : Acked k.y.sent (step_of z)
+  acked : Acked k.y.sent (start p h xs r z)
+  found : read_at (world_at p h xs) (spot_of_line r) r.lockspace (start p h xs r z) ≡ Some z
   answered : Stamp
   closed : z.course.answered ≡ Some answered
   early : answered.step ≤ e
@@ -117,52 +117,53 @@ phase_read p h xs run r there hosts e x k =
     let es : Trace = s.daemon.trace in
     let q : Submitted = k.rests.read in
     let own : Block = k.rests.own in
-    let once : blocks_given st.layout q ≡ Some k.rests.blocks = given_plain st.layout (plain_at p h xs run x.sent s) q k.rests.before k.rests.blocks k.rests.given in
-    let among = is_among st s.session at s.told.older q k.rests.of_lease.0 in
-    let cut = parts s.told.older q among.has in
+    let f : Found = found_of_standing s in
+    let i : SessionId = sender_of x.sent in
+    let its : IsSession w i f = sender_found w x.sent s in
+    let cut : CallIn st s.session at s.told.older q k.rests.before = call_in st s.session at s.told.older k.rests.newer k.rests.before q k.rests.split in
     let whole : submitted es ≡ (s.told.newer ++ s.told.one ∷ cut.newer) ++ q ∷ cut.older =
     s.told.is ∙ ap (λ ms. s.told.newer ++ s.told.one ∷ ms) cut.is ∙ sym (append_assoc s.told.newer (s.told.one ∷ cut.newer) (q ∷ cut.older)) in
-    let n = number_is_place st es s.told.one.call.session s.session s.known in
-    let known : session_numbered st es q.call.session ≡ Some s.session = ap (λ i. session_numbered st es i) (among.session ∙ n) ∙ s.known in
-    let z = stands_at p h xs run x.sent.machine s.machine s.daemon s.at s.has s.lawful (s.told.newer ++ s.told.one ∷ cut.newer) cut.older q whole s.session known in
-    let session : z.sent.course.call.session ≡ x.sent.course.call.session = ap (λ (c : Call). c.session) (sym z.pair.call) ∙ among.session ∙ number_at w x.sent s in
-    let sender : sender_of z.sent ≡ sender_of x.sent =
-    session_as z.sent.machine z.sent.course.daemon z.sent.course.call.session x.sent.machine x.sent.course.daemon x.sent.course.call.session z.machine_is (z.daemon_is ∙ s.number) session in
-    let acked : Acked k.y.sent (step_of z.sent) =
-    acked_by p h xs run x.sent.machine s.machine s.daemon s.at s.has k.y.sent k.rests.write k.y.pair q z.sent.course z.pair.made k.rests.ordered in
-    let v = written_there p h xs run r there x.sent s k.rests.write k.y own k.rests.wrote.0 in
+    let given : blocks_given st.layout q (lease_among st s.session at cut.older) ≡ Some k.rests.blocks = ap (λ ms. blocks_given st.layout q ms) cut.rest ∙ k.rests.given in
+    let first : FirstAfter k.rests.write q (lease_among st s.session at cut.older) = subst (λ ms. FirstAfter k.rests.write q ms) (sym cut.rest) k.rests.first_ordered in
+    let z = read_stands p h xs run r there i f its k.joined (s.told.newer ++ s.told.one ∷ cut.newer) cut.older q whole cut.mine cut.on k.rests.blocks given in
+    let among : IsAmong st s.session at s.told.older q = is_among st s.session at s.told.older q k.rests.of_lease.0 in
+    let acked : Acked k.y.sent (start p h xs r z.z.sent) =
+    began_after p h xs run r there i f its q cut.older k.rests.blocks z k.rests.write k.rests.ordered first k.y.sent k.y.pair in
     let sv = standing p h xs run k.y.sent k.y.has in
-    let after : step_of k.y.sent < step_of z.sent = lt_then_le (step_of k.y.sent) acked.stamp.step (step_of z.sent) (sv.timed.answered acked.stamp acked.answered) acked.by in
+    let begun : start p h xs r z.z.sent ≤ step_of z.z.sent = began_before p h xs run at z.z.sent in
+    let after : step_of k.y.sent < step_of z.z.sent =
+    lt_then_le (step_of k.y.sent) (start p h xs r z.z.sent) (step_of z.z.sent)
+    (lt_then_le (step_of k.y.sent) acked.stamp.step (start p h xs r z.z.sent) (sv.timed.answered acked.stamp acked.answered) acked.by) begun in
     let spot = told_spot p h xs run at (line_aligned p h xs run r there) x.sent s x.on in
     let by = answered_before p h xs run x.sent s (block_works x.sent.course x.block x.wrote) k.area q (subst (λ a. IsAmong st s.session a s.told.older q) (sym spot) among)
-    (reads_work st.layout q k.rests.blocks once) in
-    let heard = heard_of s.daemon z.sent.course q by.answer z.pair by.answered in
+    (reads_work st.layout q k.rests.before k.rests.blocks k.rests.given) in
+    let heard = heard_of s.daemon z.z.sent.course q by.answer z.z.pair by.answered in
     let early : heard.stamp.step ≤ step_of x.sent = answer_step p h xs run x.sent s q by by.answer by.answered heard.stamp heard.entry in
-    let before : step_of z.sent < step_of x.sent = lt_then_le (step_of z.sent) heard.stamp.step (step_of x.sent) (z.stands.timed.answered heard.stamp heard.answered) early in
-    let joined : is_joined_there w r.lockspace (sender_of z.sent) ≡ true = ap (λ i. is_joined_there w r.lockspace i) sender ∙ k.joined in
+    let before : step_of z.z.sent < step_of x.sent = lt_then_le (step_of z.z.sent) heard.stamp.step (step_of x.sent) (z.z.stands.timed.answered heard.stamp heard.answered) early in
     let block : block_of_course k.y.sent.course ≡ Some own = last_wrote w at x.sent s k.rests.write k.y own k.rests.wrote.0 in
-    let joined_y : is_joined_there w r.lockspace (sender_of k.y.sent) ≡ true = ap (λ i. is_joined_there w r.lockspace i) k.y.sender ∙ k.joined in
+    let joined_y : is_joined_there w r.lockspace (sender_of k.y.sent) ≡ true = ap (λ j. is_joined_there w r.lockspace j) k.y.sender ∙ k.joined in
     record {
-      z = z.sent;
-      sender = sender;
+      z = z.z.sent;
+      sender = z.sender;
       acked = acked;
+      found = z.found;
       answered = heard.stamp;
       closed = heard.answered;
-      early = subst (λ i. heard.stamp.step ≤ i) x.step_is early;
+      early = subst (λ j. heard.stamp.step ≤ j) x.step_is early;
       read = record {
-        has = z.has;
-        stands = z.stands;
-        on = ap (λ (c : Call). is_on w.layout at c) (sym z.pair.call) ∙ ap (λ g. is_on g at q.call) (sym (layout_at p h xs run x.sent s)) ∙ among.on;
-        joined = joined;
-        host = host_there w r.lockspace hosts z.sent z.stands joined;
-        given = ap (λ (d : Daemon). blocks_given d.setting.layout z.stands.told.one) z.daemon ∙ ap (λ m. blocks_given st.layout m) z.one ∙ once;
+        has = z.z.has;
+        stands = z.z.stands;
+        on = z.on;
+        joined = z.joined;
+        host = host_there w r.lockspace hosts z.z.sent z.z.stands z.joined;
+        given = z.given;
         last = k.y.sent;
         last_has = k.y.has;
         last_on = k.y.on;
-        before = last_between p h xs run r there x.sent s k.rests.write k.y z.sent sender after before;
+        before = last_between p h xs run r there x.sent s k.rests.write k.y z.z.sent z.sender after before;
         block = block;
         named = block_host p h xs run k.y.sent sv (host_there w r.lockspace hosts k.y.sent sv joined_y) own block ∙ sym (own_host w k.y.sent sv)
-            ∙ ap (λ i. (holder_of w i).id) (k.y.sender ∙ sym sender) ∙ own_host w z.sent z.stands;
+            ∙ ap (λ j. (holder_of w j).id) (k.y.sender ∙ sym z.sender) ∙ own_host w z.z.sent z.z.stands;
         clear = k.rests.clear;
       };
     }
@@ -187,7 +188,7 @@ two_of p h xs run r there differ hosts e x at =
     let a : Accepts self own x.block (ballot_blocks own bs) = accepts self own x.block (ballot_blocks own bs) k.rests.written in
     let lver : (H.block e).lver ≡ own.lver = ap (λ y. y.lver) x.shown ∙ a.lver in
     let mbal : (H.block e).mbal ≡ own.mbal = ap (λ y. y.mbal) x.shown ∙ a.mbal in
-    let found = read_is p h xs run r there z.z own bs z.read in
+    let n : ℕ = start p h xs r z.z in
     let clean = is_clean p h xs run r there z.z own bs z.read in
     record {
       last = is_last p h xs run r there differ e x own (own_of_last w (spot_of_line r) x.sent s k.rests.write k.y own k.rests.wrote.0);
@@ -197,15 +198,15 @@ two_of p h xs run r there differ hosts e x at =
       mbal = mbal ∙ ap (λ y. y.mbal) (sym block);
       bal = ap (λ y. y.bal) x.shown ∙ a.bal ∙ sym mbal;
       ack = z.acked.stamp.step;
-      acked = ap (λ i. H.ok i) base ∙ ok_is p h xs run r there k.y.sent k.y.has k.y.on k.y.writes (step_of z.z) z.acked;
-      read = step_of z.z;
-      reads = ap (λ o. is_some o) found;
+      acked = ap (λ i. H.ok i) base ∙ ok_is p h xs run r there k.y.sent k.y.has k.y.on k.y.writes n z.acked;
+      read = n;
+      reads = ap (λ o. is_some o) z.found;
       after = z.acked.by;
       before = subst (λ i. i ≤ e)
-          (sym (ap (λ o. option_map_or (λ (q : Stamp). q.step) (option_and_then (λ (y : Sent). y.course.answered) o) 0) found
+          (sym (ap (λ o. option_map_or (λ (q : Stamp). q.step) (option_and_then (λ (y : Sent). y.course.answered) o) 0) z.found
           ∙ ap (λ o. option_map_or (λ (q : Stamp). q.step) o 0) z.closed)) z.early;
-      clean = subst (λ i. IsClean H (step_of z.z) i (H.block e).mbal) (sym lver) (subst (λ i. IsClean H (step_of z.z) own.lver i) (sym mbal) clean);
-      value = subst (λ i. ProposesItself H e (step_of z.z) i ⊎ ProposesSeen H e (step_of z.z) i) (sym lver)
+      clean = subst (λ i. IsClean H n i (H.block e).mbal) (sym lver) (subst (λ i. IsClean H n own.lver i) (sym mbal) clean);
+      value = subst (λ i. ProposesItself H e n i ⊎ ProposesSeen H e n i) (sym lver)
           (proposes_what p h xs run r there e z.z own bs z.read self
           (record {
             value = ap (λ y. y.inp) x.shown ∙ a.value;

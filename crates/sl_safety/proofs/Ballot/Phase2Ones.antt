@@ -1,5 +1,5 @@
 -- The base of a phase 2 is a phase 1: the session's last block before it was written at that step.
-use Rattle.sl_safety.proofs.Ballot.Phase2Apart.{host_there, phase1_alone}
+use Rattle.sl_safety.proofs.Ballot.Phase2Apart.{host_there}
 use Rattle.sl_safety.proofs.Ballot.Phase2Last.{OwnLast}
 use Rattle.sl_safety.specs.Ballot.Endings.{HostsJoin}
 use Rattle.sl_ballots.specs.Ballots.{IsPhase1}
@@ -7,8 +7,7 @@ use Rattle.sl_trace_law.specs.Leases.Ways.{Of_mode, Of_phase1, Of_phase2, Way}
 use Rattle.sl_trace.specs.Leases.{Mode_cleared, Mode_set, Phase1_write, Phase2_write, block_of_record, block_written, is_at}
 use Rattle.sl_history.proofs.Resources.Above.{WrittenAt, block_by}
 use Rattle.sl_history.proofs.Resources.Bases.{Based, based}
-use Rattle.sl_history.proofs.Resources.Calls.{block_at_step, worker_joined}
-use Rattle.sl_history.proofs.Resources.Calls.{block_works as block_is_work}
+use Rattle.sl_history.proofs.Resources.Calls.{block_at_step, block_works as block_is_work, worker_joined}
 use Rattle.sl_history.proofs.Resources.Opening.{phase1_of}
 use Rattle.sl_history.proofs.Resources.Owning.{OwnWritten, base_by}
 use Rattle.sl_history.proofs.Resources.Standing.{Standing, standing}
@@ -24,10 +23,10 @@ use Rattle.sl_sector.specs.declared.sector.Block.{Block}
 use Rattle.sl_trace.specs.Traces.{Submitted, new_call, record_of}
 use Rattle.sl_trace.specs.declared.effects.Call.{Call}
 use Rattle.sl_trace.specs.declared.effects.Spot.{Spot}
-use Rattle.sl_words.proofs.CaseLaws.{false_is_true}
 use Rattle.std.proofs.Common.{ap, inl, inr, refl, sym, ◌∙◌}
 use Rattle.std.specs.Option.{option_map_or}
 use Rattle.std.specs.Prelude.{Contains, List, Some, is_some, option_and_then, true, ℕ, ◌≡◌, ◌⊎◌}
+use Rattle.sl_history.proofs.Resources.Again.{one_kind}
 
 -- ---- the base
 
@@ -76,14 +75,14 @@ written_there p h xs run r there x s write y own wrote =
 -- ---- its step
 
 mode_apart : (m : Submitted) → is_at Phase1_write m ≡ true → (is_at Mode_set m ≡ true) ⊎ (is_at Mode_cleared m ≡ true) → ⊥
-mode_apart m one (inl set) = false_is_true (phase1_alone Mode_set m one set)
-mode_apart m one (inr cleared) = false_is_true (phase1_alone Mode_cleared m one cleared)
+mode_apart m one (inl set) = let e = one_kind Phase1_write Mode_set m one set in cc
+mode_apart m one (inr cleared) = let e = one_kind Phase1_write Mode_cleared m one cleared in cc
 
 one_by : (p : Program) (h : Header) (xs : List Happening) → LawfulRun p h xs → (r : ResourceLine) → Contains h.resources r → (e : ℕ) (v : WrittenAt p h xs r e)
     → (s : Standing (world_at p h xs) v.sent) → is_host (world_at p h xs) s.session.id ≡ true → (b : Based p h xs r v.sent s v.block) → is_at Phase1_write b.call ≡ true
     → Way s.session b.call b.own v.block → IsPhase1 (history_of_line p h xs r) e
 one_by p h xs run r there e v s host b at (Of_phase1 one k) = phase1_of p h xs run r there e v s host b one k
-one_by p h xs run r there e v s host b at (Of_phase2 two k) = absurd (false_is_true (phase1_alone Phase2_write b.call at two))
+one_by p h xs run r there e v s host b at (Of_phase2 two k) = let e = one_kind Phase1_write Phase2_write b.call at two in absurd cc
 one_by p h xs run r there e v s host b at (Of_mode mode k) = absurd (mode_apart b.call at mode)
 
 -- What is written at the step of phase 1 is a phase 1.

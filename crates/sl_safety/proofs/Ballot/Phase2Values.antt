@@ -1,7 +1,7 @@
 -- What phase 2 proposes in a trace it proposes in the history: its session, or the value of the greatest ballot that the read shows.
 use Rattle.sl_area.specs.Layouts.{Layout}
 use Rattle.sl_history.proofs.Giving.Told.{given_below}
-use Rattle.sl_safety.proofs.Ballot.Phase2Shows.{OwnRead, host_shown, none_shown}
+use Rattle.sl_safety.proofs.Ballot.Phase2Shows.{OwnRead, host_shown, none_shown, start}
 use Rattle.sl_safety.specs.Ballot.Endings.{holder_as}
 use Rattle.sl_ballots.specs.Ballots.{ProposesItself, ProposesSeen}
 use Rattle.sl_ballots.specs.History.{History}
@@ -11,8 +11,8 @@ use Rattle.sl_plain.proofs.Numbers.{zero_is_least}
 use Rattle.sl_history.proofs.Resources.Owning.{layout_at}
 use Rattle.sl_history.proofs.Resources.Values.{Another, Itself, Proposes, proposes}
 use Rattle.sl_history.specs.Resources.Histories.{history_block, is_host}
-use Rattle.sl_history.specs.Resources.Promises.{history_of_line}
-use Rattle.sl_history.specs.Resources.Sending.{Sent, step_of}
+use Rattle.sl_history.specs.Resources.Promises.{history_of_line, spot_of_line}
+use Rattle.sl_history.specs.Resources.Sending.{Sent}
 use Rattle.sl_run.specs.Runs.{Happening}
 use Rattle.sl_run.specs.Safety.{LawfulRun, world_at}
 use Rattle.sl_run.specs.Worlds.{Program, World}
@@ -25,6 +25,7 @@ use Rattle.std.proofs.Common.{ap, arith, inl, inr, refl, subst, sym, ◌∙◌}
 use Rattle.std.proofs.lemmas.Bool.{and_from, le-leb}
 use Rattle.std.specs.List.{cons_option}
 use Rattle.std.specs.Prelude.{Bool, Contains, List, None, Option, Some, false, slice_get, suc, true, zero, [], ℕ, ◌+◌, ◌-◌, ◌<◌, ◌∷◌, ◌≡◌, ◌≤◌, ◌⊎◌}
+use Rattle.sl_trace_law.specs.Leases.Ways.{lease_among}
 
 -- ---- each block that the ballot goes by is of a host
 
@@ -68,14 +69,14 @@ pub record OfHost (w : World) (h : History) (read : ℕ) (own : Block) (bs : Lis
   pub shown : h.block (h.shown read host) ≡ history_block b
 
 pub of_host : (p : Program) (h : Header) (xs : List Happening) → LawfulRun p h xs → (r : ResourceLine) → Contains h.resources r → (z : Sent) (own : Block) (bs : List (Option Block))
-    → OwnRead (world_at p h xs) r z own bs → (b : Block) → Contains (ballot_blocks own bs) b → OfHost (world_at p h xs) (history_of_line p h xs r) (step_of z) own bs b
+    → OwnRead (world_at p h xs) r z own bs → (b : Block) → Contains (ballot_blocks own bs) b → OfHost (world_at p h xs) (history_of_line p h xs r) (start p h xs r z) own bs b
 of_host p h xs run r there z own bs o b has =
     let w : World = world_at p h xs in
     let f = from_whole (with_own own 1 bs) b has in
     let read = read_there own 1 bs f.index f.pair f.at in
     let g : Layout = o.stands.daemon.setting.layout in
     let below : f.index < w.layout.hosts =
-    subst (λ y. f.index < y.hosts) (layout_at p h xs run z o.stands) (given_below g o.stands.told.one bs f.index read.0 o.given read.1) in
+    subst (λ y. f.index < y.hosts) (layout_at p h xs run z o.stands) (given_below g o.stands.told.one (lease_among o.stands.daemon.setting o.stands.session (spot_of_line r) o.stands.told.older) bs f.index read.0 o.given read.1) in
     let range = one_on f.index w.layout.hosts below in
     let host : is_host w (1 + f.index) ≡ true = and_from _ _ (le-leb 1 (1 + f.index) range.0) (le-leb (1 + f.index) w.layout.hosts range.1) in
     let s = host_shown p h xs run r there z own bs o (1 + f.index) host in
@@ -93,8 +94,8 @@ pub record Proposal (p : Program) (h : Header) (xs : List Happening) (r : Resour
 
 none_of : (p : Program) (h : Header) (xs : List Happening) → LawfulRun p h xs → (r : ResourceLine) → Contains h.resources r → (z : Sent) (own : Block) (bs : List (Option Block))
     → OwnRead (world_at p h xs) r z own bs → ((c : Block) → Contains (ballot_blocks own bs) c → c.lver ≡ own.lver → c.bal ≡ 0) → (k : ℕ) (b : Bool) → is_host (world_at p h xs) k ≡ b
-    → ((history_of_line p h xs r).block ((history_of_line p h xs r).shown (step_of z) k)).lver ≡ own.lver
-    → ((history_of_line p h xs r).block ((history_of_line p h xs r).shown (step_of z) k)).bal ≡ 0
+    → ((history_of_line p h xs r).block ((history_of_line p h xs r).shown (start p h xs r z) k)).lver ≡ own.lver
+    → ((history_of_line p h xs r).block ((history_of_line p h xs r).shown (start p h xs r z) k)).bal ≡ 0
 none_of p h xs run r there z own bs o all k true host same =
     let s = host_shown p h xs run r there z own bs o k host in
     ap (λ y. y.bal) s.shown ∙ all s.block s.among (ap (λ y. y.lver) (sym s.shown) ∙ same)
@@ -102,18 +103,18 @@ none_of p h xs run r there z own bs o all k false host same = ap (λ y. y.bal) (
 
 most_of : (p : Program) (h : Header) (xs : List Happening) → LawfulRun p h xs → (r : ResourceLine) → Contains h.resources r → (z : Sent) (own : Block) (bs : List (Option Block))
     → OwnRead (world_at p h xs) r z own bs → (best : ℕ) → ((c : Block) → Contains (ballot_blocks own bs) c → c.lver ≡ own.lver → c.bal ≤ best) → (k : ℕ) (b : Bool)
-    → is_host (world_at p h xs) k ≡ b → ((history_of_line p h xs r).block ((history_of_line p h xs r).shown (step_of z) k)).lver ≡ own.lver
-    → ((history_of_line p h xs r).block ((history_of_line p h xs r).shown (step_of z) k)).bal ≤ best
+    → is_host (world_at p h xs) k ≡ b → ((history_of_line p h xs r).block ((history_of_line p h xs r).shown (start p h xs r z) k)).lver ≡ own.lver
+    → ((history_of_line p h xs r).block ((history_of_line p h xs r).shown (start p h xs r z) k)).bal ≤ best
 most_of p h xs run r there z own bs o best all k true host same =
     let s = host_shown p h xs run r there z own bs o k host in
     subst (λ y. y.bal ≤ best) (sym s.shown) (all s.block s.among (ap (λ y. y.lver) (sym s.shown) ∙ same))
 most_of p h xs run r there z own bs o best all k false host same =
-    zero_is_least ((history_of_line p h xs r).block ((history_of_line p h xs r).shown (step_of z) k)).bal best (ap (λ y. y.bal) (none_shown p h xs run r there z own bs o k host).shown)
+    zero_is_least ((history_of_line p h xs r).block ((history_of_line p h xs r).shown (start p h xs r z) k)).bal best (ap (λ y. y.bal) (none_shown p h xs run r there z own bs o k host).shown)
 
 proposes_by : (p : Program) (h : Header) (xs : List Happening) → LawfulRun p h xs → (r : ResourceLine) → Contains h.resources r → (e : ℕ) (z : Sent) (own : Block) (bs : List (Option Block))
     → OwnRead (world_at p h xs) r z own bs → (self : Owner) → Proposal p h xs r e self own bs
     → Proposes self own.lver (ballot_blocks own bs) (value_to_write self own.lver (ballot_blocks own bs))
-    → ProposesItself (history_of_line p h xs r) e (step_of z) own.lver ⊎ ProposesSeen (history_of_line p h xs r) e (step_of z) own.lver
+    → ProposesItself (history_of_line p h xs r) e (start p h xs r z) own.lver ⊎ ProposesSeen (history_of_line p h xs r) e (start p h xs r z) own.lver
 proposes_by p h xs run r there e z own bs o self q (Itself is all) =
     inl (record {
       none = λ k same. none_of p h xs run r there z own bs o all k (is_host (world_at p h xs) k) refl same;
@@ -127,11 +128,11 @@ proposes_by p h xs run r there e z own bs o self q (Another b is has same some m
       lver = ap (λ y. y.lver) k.shown ∙ same;
       bal = subst (λ y. 0 < y.bal) (sym k.shown) some;
       inp = q.value ∙ ap (λ v. holder_as v) is ∙ ap (λ y. y.inp) (sym k.shown);
-      most = λ j alike. subst (λ y. (H.block (H.shown (step_of z) j)).bal ≤ y.bal) (sym k.shown)
+      most = λ j alike. subst (λ y. (H.block (H.shown (start p h xs r z) j)).bal ≤ y.bal) (sym k.shown)
           (most_of p h xs run r there z own bs o b.bal most j (is_host (world_at p h xs) j) refl alike);
     })
 
 pub proposes_what : (p : Program) (h : Header) (xs : List Happening) → LawfulRun p h xs → (r : ResourceLine) → Contains h.resources r → (e : ℕ) (z : Sent) (own : Block) (bs : List (Option Block))
     → OwnRead (world_at p h xs) r z own bs → (self : Owner) → Proposal p h xs r e self own bs
-    → ProposesItself (history_of_line p h xs r) e (step_of z) own.lver ⊎ ProposesSeen (history_of_line p h xs r) e (step_of z) own.lver
+    → ProposesItself (history_of_line p h xs r) e (start p h xs r z) own.lver ⊎ ProposesSeen (history_of_line p h xs r) e (start p h xs r z) own.lver
 proposes_what p h xs run r there e z own bs o self q = proposes_by p h xs run r there e z own bs o self q (proposes self own.lver (ballot_blocks own bs))

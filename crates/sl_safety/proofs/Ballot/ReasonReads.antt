@@ -1,26 +1,22 @@
 -- What a session's read of an area gave, where it writes a block later: each block and the leader were submitted before, or stood there
 -- at first.
 use Rattle.sl_area.specs.Layouts.{Layout}
-use Rattle.sl_area.specs.Places.{BlocksRead, leader_of, leader_read}
-use Rattle.sl_safety.proofs.Ballot.ReasonLeaders.{LeaderSeen, Led, Unled, leader_looked}
+use Rattle.sl_area.specs.Places.{BlocksRead, fresh_leader, greatest_lver, leader_made, leader_of, leader_read, pairs_of}
+use Rattle.sl_safety.proofs.Ballot.ReasonLeaders.{IsUnled, LeaderSeen, Led, Unled, leader_looked}
 use Rattle.sl_run_law.proofs.Front.Having.{placed_at}
 use Rattle.sl_run.specs.LawfulBlock.{AreaRead}
-use Rattle.sl_trace_law.proofs.Leases.AgeLaws.{aged_lease, answer_stays, became}
+use Rattle.sl_trace_law.proofs.Leases.AgeLaws.{BecameAmong, aged_lease, answer_stays, became_among, blocks_stay}
 use Rattle.sl_trace_law.specs.Leases.Fronts.{Aged, AllAged}
-use Rattle.sl_trace.specs.Leases.{is_area_read, is_on, is_phase_read, spot_of_call}
-use Rattle.sl_history.specs.Resources.Once.{blocks_once as blocks_given}
+use Rattle.sl_trace.specs.Leases.{blocks_given, is_area_read, is_on, leader_given, read_given, spot_of_call}
 use Rattle.sl_run_law.proofs.Place.Finding.{given_by}
 use Rattle.sl_run_law.proofs.Place.Reading.{answer_gave}
 use Rattle.sl_plain.proofs.Numbers.{lt_then_le}
-use Rattle.sl_history.proofs.Resources.Above.{IsAmong, answer_step, answered_before, is_among, line_aligned, older_look, reads_work}
-use Rattle.sl_history.proofs.Resources.Reading.{IsWriter, seen_before}
+use Rattle.sl_history.proofs.Resources.Above.{IsAmong, answer_step, answered_before, line_aligned, older_look, reads_work}
+use Rattle.sl_history.proofs.Resources.Reading.{IsWriter, among_split, seen_before}
 use Rattle.sl_history.specs.Resources.Promises.{spot_of_line}
 use Rattle.sl_run.specs.declared.header.ResourceLine.{ResourceLine}
-use Rattle.sl_history.proofs.Resources.Once.{once_stays}
-use Rattle.sl_trace.proofs.PlainReads.{given_plain, leader_plain}
-use Rattle.sl_words.proofs.CaseLaws.{none_some}
-use Rattle.sl_trace.specs.Leases.{leader_given, read_given}
-use Rattle.sl_history.proofs.Resources.Owning.{layout_at, plain_at, spot_is}
+use Rattle.sl_words.proofs.CaseLaws.{none_some, some_value}
+use Rattle.sl_history.proofs.Resources.Owning.{layout_at, spot_is}
 use Rattle.sl_history.proofs.Resources.Shows.{Seen}
 use Rattle.sl_history.proofs.Resources.Standing.{Standing}
 use Rattle.sl_history.specs.Resources.Sending.{Sent, step_of}
@@ -32,9 +28,11 @@ use Rattle.sl_sector.specs.declared.sector.Block.{Block}
 use Rattle.sl_sector.specs.declared.sector.Leader.{Leader}
 use Rattle.sl_trace.specs.Traces.{Answered, Setting, Submitted, Trace, bytes_given, gave, new_call, submitted}
 use Rattle.sl_trace.specs.declared.effects.Spot.{Spot}
-use Rattle.sl_words.specs.Words.{present}
-use Rattle.std.proofs.Common.{ap, refl, subst, sym, ◌∙◌}
-use Rattle.std.specs.Prelude.{Contains, List, None, Option, Some, false, option_and_then, slice_get, true, ℕ, ◌≡◌, ◌≤◌}
+use Rattle.sl_words.specs.Words.{choose, present}
+use Rattle.std.proofs.Common.{ap, inl, inr, refl, subst, sym, ◌∙◌}
+use Rattle.std.specs.Prelude.{Bool, Contains, List, None, Option, Some, false, find, nat_lt, option_and_then, slice_get, true, ℕ, ◌==◌, ◌≡◌, ◌≤◌, ◌⊎◌}
+use Rattle.sl_sector.specs.declared.sector.PairBlock.{PairBlock}
+use Rattle.sl_trace_law.specs.Leases.Ways.{lease_among}
 
 -- ---- what was seen once
 
@@ -51,18 +49,41 @@ gave_stays n was is bytes aged told =
 
 -- ---- the leader that a read of the area gave
 
--- It is what the bytes spell.
-leader_by : (g : Layout) → g.paired ≡ false → (l : Leader) (o : Option BlocksRead) (q : Option (List ℕ))
-    → option_and_then (λ (r : BlocksRead). option_and_then (λ bytes. leader_read g bytes r) q) o ≡ Some l
-    → (bytes : List ℕ) × (q ≡ Some bytes) × (leader_of g bytes ≡ Some l)
-leader_by g plain l None q is = absurd (none_some l is)
-leader_by g plain l (Some r) None is = absurd (none_some l is)
-leader_by g plain l (Some r) (Some bytes) is = (bytes, refl, sym (leader_plain g plain bytes r) ∙ is)
+-- One that was made for a torn one is of no instance, and nobody holds it.
+made_by : (g : Layout) (some : Bool) (l : Leader) (o : Option PairBlock) → option_and_then (λ (p : PairBlock). choose some (fresh_leader g p.lockspace p.resource)) o ≡ Some l → IsUnled l
+made_by g some l None is = absurd (none_some l is)
+made_by g false l (Some p) is = absurd (none_some l is)
+made_by g true l (Some p) is =
+    let same : fresh_leader g p.lockspace p.resource ≡ l = some_value (fresh_leader g p.lockspace p.resource) l is in
+    (ap (λ (y : Leader). y.lver) (sym same), ap (λ (y : Leader). y.held) (sym same))
 
-leader_told : (g : Layout) → g.paired ≡ false → (m : Submitted) (ms : List Submitted) (l : Leader) → is_area_read m ≡ true → leader_given g m ms ≡ Some l
-    → (bytes : List ℕ) × (gave m ≡ Some bytes) × (leader_of g bytes ≡ Some l)
-leader_told g plain m ms l reads is =
-    leader_by g plain l (read_given g m ms) (gave m)
+made_unled : (g : Layout) (ps : List PairBlock) (l : Leader) → leader_made g ps ≡ Some l → IsUnled l
+made_unled g ps l is = made_by g (nat_lt 0 (greatest_lver ps)) l (find (λ p. p.block.lver == greatest_lver ps) ps) is
+
+spelled_or : (paired : Bool) (spelled made : Option Leader) (l : Leader) → (made ≡ Some l → IsUnled l)
+    → elim paired as (λ z. Option Leader) [ false ↦ spelled | true ↦ elim spelled as (λ z. Option Leader) [ Some k ↦ Some k | None ↦ made ] ] ≡ Some l
+    → (spelled ≡ Some l) ⊎ IsUnled l
+spelled_or false spelled made l unled is = inl is
+spelled_or true (Some k) made l unled is = inl is
+spelled_or true None made l unled is = inr (unled is)
+
+-- It is what the bytes spell, or with pairs one that was made.
+record LeaderTold (g : Layout) (m : Submitted) (l : Leader) : Type 0 where
+  bytes : List ℕ
+  told : gave m ≡ Some bytes
+  from : (leader_of g bytes ≡ Some l) ⊎ IsUnled l
+
+told_by : (g : Layout) (m : Submitted) (l : Leader) (o : Option BlocksRead) (q : Option (List ℕ)) → gave m ≡ q
+    → option_and_then (λ (r : BlocksRead). option_and_then (λ bytes. leader_read g bytes r) q) o ≡ Some l → LeaderTold g m l
+told_by g m l None q gives is = absurd (none_some l is)
+told_by g m l (Some r) None gives is = absurd (none_some l is)
+told_by g m l (Some r) (Some bytes) gives is =
+    let made : Option Leader = leader_made g (present (pairs_of g r)) in
+    record { bytes = bytes; told = gives; from = spelled_or g.paired (leader_of g bytes) made l (λ h. made_unled g (present (pairs_of g r)) l h) is }
+
+leader_told : (g : Layout) (m : Submitted) (ms : List Submitted) (l : Leader) → is_area_read m ≡ true → leader_given g m ms ≡ Some l → LeaderTold g m l
+leader_told g m ms l reads is =
+    told_by g m l (read_given g m ms) (gave m) refl
     (sym (ap (λ b. elim b as (λ z. Option Leader) [
       | false ↦ None
       | true ↦ option_and_then (λ (r : BlocksRead). option_and_then (λ bytes. leader_read g bytes r) (gave m)) (read_given g m ms)
@@ -89,22 +110,27 @@ area_seen p h xs r x s writer n front aged a =
     let run = writer.run in
     let st : Setting = s.daemon.setting in
     let g : Layout = st.layout in
-    let now = became n _ _ a.read (aged_lease st s.session at n (submitted front) s.told.older aged) a.of_lease.0 in
+    let now : BecameAmong n (lease_among st s.session at s.told.older) a.read a.before =
+    became_among n a.after a.before a.read (lease_among st s.session at s.told.older)
+    (subst (λ ms. AllAged n ms (lease_among st s.session at s.told.older)) a.split (aged_lease st s.session at n (submitted front) s.told.older aged)) in
     let q : Submitted = now.now in
-    let among = is_among st s.session at s.told.older q now.has in
+    let among : IsAmong st s.session at s.told.older q = among_split st s.session at s.told.older now.newer q now.before now.split in
     let reads : is_area_read q ≡ true = ap (λ c. is_area_read (new_call 0 0 c)) now.aged.call ∙ a.of_lease.1 in
-    let plain : g.paired ≡ false = plain_at p h xs run x s in
-    let spelled = leader_told g plain a.read a.before a.leader a.of_lease.1 a.spells in
-    let told : gave q ≡ Some spelled.0 = gave_stays n a.read q spelled.0 now.aged spelled.1 in
-    let given : blocks_given g q ≡ Some a.blocks = once_stays g n a.read q a.blocks now.aged (given_plain g plain a.read a.before a.blocks a.gives) in
+    let lead = leader_told g a.read a.before a.leader a.of_lease.1 a.spells in
+    let told : gave q ≡ Some lead.bytes = gave_stays n a.read q lead.bytes now.aged lead.told in
+    let given : blocks_given g q now.before ≡ Some a.blocks = blocks_stay g n a.read q a.before now.before a.blocks now.aged now.rest a.gives in
     let k = older_look p h xs run x s at q among in
     let by = answered_before p h xs run x s writer.work writer.area q (subst (λ y. IsAmong st s.session y s.told.older q) (sym writer.spot) among)
-    (reads_work g q a.blocks given) in
+    (reads_work g q now.before a.blocks given) in
     let place : spot_of_call w.layout q ≡ at =
     spot_is w.layout at q (line_aligned p h xs run r writer.there) (ap (λ y. is_on y at q.call) (sym (layout_at p h xs run x s)) ∙ among.on) in
-    let l = leader_looked p h xs x.machine s.machine s.daemon q k reads spelled.0 told a.leader spelled.2 in
     record {
-      leader = leader_later w at a.leader l.read.stamp.step (step_of x) (answer_step p h xs run x s q by l.read.answered l.read.its l.read.stamp l.read.entry)
-          (subst (λ y. LeaderSeen w y a.leader l.read.stamp.step) place l.seen);
-      blocks = λ b has. let j = present_there a.blocks b has in seen_before p h xs r x s writer q among a.blocks given j.0 b j.1;
+      leader = elim lead.from as (λ z. LeaderSeen w at a.leader (step_of x)) [
+        | inr none ↦ Unled none
+        | inl spelled ↦
+            let l = leader_looked p h xs x.machine s.machine s.daemon q k reads lead.bytes told a.leader spelled in
+            leader_later w at a.leader l.read.stamp.step (step_of x) (answer_step p h xs run x s q by l.read.answered l.read.its l.read.stamp l.read.entry)
+            (subst (λ y. LeaderSeen w y a.leader l.read.stamp.step) place l.seen)
+      ];
+      blocks = λ b has. let j = present_there a.blocks b has in seen_before p h xs r x s writer now.newer q now.before now.split a.blocks given j.0 b j.1;
     }

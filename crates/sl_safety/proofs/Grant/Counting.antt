@@ -1,18 +1,15 @@
 -- Numbers of calls rise from entry to entry of a trace.
-use Rattle.sl_run_law.proofs.Course.Distinct.{map_length, mark_length, next_more}
+use Rattle.sl_run_law.proofs.Course.Distinct.{next_more}
 use Rattle.sl_run_law.proofs.Place.Looks.{made_below}
 use Rattle.sl_plain.proofs.Lists.{contains_none, head_is, tail_is}
 use Rattle.sl_plain.proofs.Numbers.{one_further, plus_zero}
 use Rattle.sl_trace_law.proofs.Sessions.Making.{IsNewCall, old_or_new, was_marked}
-use Rattle.sl_trace.specs.Traces.{IsTrace, Setting, Submitted, Trace, answered_in, mark, new_call, next_call, submitted}
+use Rattle.sl_trace.specs.Traces.{IsTrace, Setting, Submitted, Trace, mark, next_call, submitted}
 use Rattle.sl_trace.specs.declared.effects.Call.{Call}
-use Rattle.sl_trace.specs.declared.effects.Entry.{Entry}
-use Rattle.sl_trace.specs.declared.input.Input.{Input}
-use Rattle.sl_trace.specs.declared.input.Input.TheVariants.{Answer as Told, Exit, Line, Spawned, Wake}
 use Rattle.sl_words.proofs.CaseLaws.{none_some, some_value}
-use Rattle.std.proofs.Common.{ap, arith, inl, inr, refl, subst, sym, ◌∙◌}
+use Rattle.std.proofs.Common.{ap, arith, inl, inr, subst, sym, ◌∙◌}
 use Rattle.std.specs.List.{range_with_len}
-use Rattle.std.specs.Prelude.{Contains, List, Some, [], fold, length, map, slice_get, suc, zero, ℕ, ◌+◌, ◌<◌, ◌∷◌, ◌≡◌, ◌⊎◌}
+use Rattle.std.specs.Prelude.{Contains, List, Some, length, map, slice_get, suc, zero, [], ℕ, ◌+◌, ◌<◌, ◌∷◌, ◌≡◌, ◌⊎◌}
 
 -- ---- the next number
 

@@ -1,34 +1,28 @@
 -- What a session counted as over by an entry of its trace it has evidence of by the entry's step, in the history.
-use Rattle.sl_safety.proofs.Ballot.ReasonEvidence.{at_head, behind, by_step, less_one}
+use Rattle.sl_safety.proofs.Ballot.ReasonEvidence.{by_step}
 use Rattle.sl_safety.specs.Ballot.Endings.{IsEntryAt}
 use Rattle.sl_ballots.specs.History.{Owner as Holder}
 use Rattle.sl_run_law.proofs.Course.Pairing.{pairs_length}
 use Rattle.sl_run_law.proofs.Course.Stamped.{entries_are_stamped}
-use Rattle.sl_run_law.specs.Course.Stamping.{IsStampOf, stamp_in}
+use Rattle.sl_run_law.specs.Course.Stamping.{IsStampOf}
 use Rattle.sl_safety.proofs.Grant.Telling.{whole_of}
-use Rattle.sl_run_law.proofs.Moment.Ordering.{entries_ordered, fall_front, fall_step}
+use Rattle.sl_run_law.proofs.Moment.Ordering.{entries_ordered, fall_front}
 use Rattle.sl_run_law.specs.Moment.Orders.{Fall}
-use Rattle.sl_plain.proofs.Numbers.{le_itself}
 use Rattle.sl_history.proofs.Resources.Calls.{holder_named}
 use Rattle.sl_history.specs.Resources.Histories.{has_counted_over, trace_by}
 use Rattle.sl_history.specs.Resources.Promises.{NamesDiffer, history_of_line}
 use Rattle.sl_history.specs.Resources.Sending.{holder_of, is_joined_there}
 use Rattle.sl_run.specs.Runs.{Happening}
 use Rattle.sl_run.specs.Safety.{Found, IsSession, LawfulRun, SessionId, session_of_world, setting_in, trace_of, world_at}
-use Rattle.sl_run.specs.Worlds.{Program, Stamp, World}
+use Rattle.sl_run.specs.Worlds.{Program, World}
 use Rattle.sl_run.specs.declared.header.Header.{Header}
 use Rattle.sl_run.specs.declared.header.ResourceLine.{ResourceLine}
 use Rattle.sl_trace.specs.Watching.{counted_over}
 use Rattle.sl_trace.specs.Traces.{Trace}
 use Rattle.sl_trace.specs.declared.effects.Entry.{Entry}
-use Rattle.sl_run_law.proofs.Watchdog.Stamps.{stamp_there}
-use Rattle.sl_words.proofs.CaseLaws.{none_some, some_value}
 use Rattle.sl_words.specs.Words.{some_is}
-use Rattle.std.proofs.Common.{ap, arith, sym, tests, ◌∙◌}
-use Rattle.std.proofs.lemmas.Bool.{lt-leb}
-use Rattle.std.proofs.lemmas.Bool.Decides.{nat_tests}
-use Rattle.std.proofs.lemmas.List.{length-append}
-use Rattle.std.specs.Prelude.{Bool, List, Option, Some, [], false, length, nat_le, suc, true, ℕ, ◌++◌, ◌+◌, ◌<◌, ◌==◌, ◌∷◌, ◌≡◌}
+use Rattle.std.proofs.Common.{ap, sym, ◌∙◌}
+use Rattle.std.specs.Prelude.{List, Option, length, true, [], ℕ, ◌++◌, ◌∷◌, ◌≡◌}
 
 pub trace_by_step : (p : Program) (h : Header) (xs : List Happening) → LawfulRun p h xs → (i : SessionId) (f : Found) → IsSession (world_at p h xs) i f
     → (entry : Entry) (past : Trace) (step : ℕ) → IsEntryAt f entry past step → trace_by f.daemon.stamps (trace_of f) step ≡ entry ∷ past

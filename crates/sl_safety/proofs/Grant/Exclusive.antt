@@ -1,7 +1,5 @@
 -- An exclusive grant of a trace is one of the history: the ballot that was won, the look at all blocks after the instance had begun, and
 -- that no free of it was submitted.
-use Rattle.sl_safety.proofs.Ballot.EndedAll.{plain_of}
-use Rattle.sl_trace.proofs.PlainReads.{given_plain}
 use Rattle.sl_area.specs.Layouts.{Layout}
 use Rattle.sl_safety.specs.Ballot.Endings.{EndedBallotsEnd, IsEntryAt}
 use Rattle.sl_ballots.specs.Ballots.{BallotEnded}
@@ -12,20 +10,17 @@ use Rattle.sl_safety.proofs.Grant.Looks.{is_present, look_shows_host, look_shows
 use Rattle.sl_safety.proofs.Grant.Names.{stood_at}
 use Rattle.sl_safety.proofs.Grant.Placing.{at_resource, resource_at}
 use Rattle.sl_safety.proofs.Grant.Stepping.{IsAt, LookThere, block_there, look_there}
-use Rattle.sl_safety.proofs.Grant.Telling.{IsFront, IsTold, LeaseWas, OfLease, before_in, in_lease, in_order, lease_was, of_lease, told_answer, told_made, whole_of}
+use Rattle.sl_safety.proofs.Grant.Telling.{IsFront, LeaseWas, OfLease, before_in, in_lease, in_order, lease_was, of_lease, whole_of}
 use Rattle.sl_safety.specs.Grant.Granted.{ExclusiveGrantsAre, GrantedThere, ResourceAt}
 use Rattle.sl_safety.proofs.Holding.Unfreed.{exclusive_is}
-use Rattle.sl_run.specs.LawfulBlock.{ReadAfter}
 use Rattle.sl_run.specs.LawfulModes.{LawfulExclusiveGrant, NoneShared}
 use Rattle.sl_trace_law.proofs.Leases.GrantLaws.{exclusive_follows}
 use Rattle.sl_trace.specs.Leases.{block_of_host, freed, is_free_write, lease_calls}
-use Rattle.sl_history.specs.Resources.Once.{blocks_once as blocks_given}
 use Rattle.sl_run_law.proofs.Place.Looks.{answered_below}
-use Rattle.sl_plain.proofs.Numbers.{below_suc, less_than_suc, lt_up_to, never_below, refl_le}
+use Rattle.sl_plain.proofs.Numbers.{below_suc, less_than_suc, never_below, refl_le}
 use Rattle.sl_plain.proofs.Options.{some_of}
 use Rattle.sl_history.proofs.Resources.Above.{own_there}
 use Rattle.sl_history.proofs.Resources.Calls.{holder_is}
-use Rattle.sl_history.proofs.Resources.Steps.{call_timed}
 use Rattle.sl_history.specs.Resources.Histories.{is_host, no_block}
 use Rattle.sl_history.specs.Resources.Promises.{NamesDiffer, history_of_line, spot_of_line}
 use Rattle.sl_history.specs.Resources.Sending.{holder_of, holder_of_found, step_of}
@@ -46,7 +41,7 @@ use Rattle.sl_trace.specs.declared.effects.Spot.{Spot}
 use Rattle.sl_words.proofs.CaseLaws.{true_is_false}
 use Rattle.std.proofs.Common.{ap, arith, refl, subst, sym, ◌∙◌}
 use Rattle.std.proofs.lemmas.Bool.Decides.{nat_tests}
-use Rattle.std.specs.Prelude.{Bool, List, Option, Some, false, length, nat_le, true, ℕ, ◌&&◌, ◌-◌, ◌<◌, ◌∷◌, ◌≡◌, ◌≤◌}
+use Rattle.std.specs.Prelude.{Bool, List, Option, false, length, nat_le, true, ℕ, ◌&&◌, ◌-◌, ◌<◌, ◌∷◌, ◌≡◌, ◌≤◌}
 
 -- What is told of ids and ballots.
 pub record IsToldOf : Type 0 where
@@ -95,21 +90,20 @@ abbrev named_as : ℕ → ℕ → Holder
 named_as k n = record { id = k; generation = n }
 
 saw_host : (p : Program) (h : Header) (xs : List Happening) (r : ResourceLine) → NamesDiffer (world_at p h xs) r.lockspace → (i : SessionId) (f : Found)
-    → (entry : Entry) (past : Trace) (step : ℕ) → IsEntryAt f entry past step → IsAt p h xs r i f (entry ∷ past) → (c : Submitted) (bs : List (Option Block))
-    → blocks_given (setting_in f).layout c ≡ Some bs → (l : LookThere p h xs r i f c bs)
-    → NoneShared (setting_in f) (entry ∷ past) f.session bs
-    → (k : ℕ) → (k ≡ f.session.id → ⊥) → (b : Bool) → is_host (world_at p h xs) k ≡ b → SawAll p h xs r i (step_of l.sent.sent) step k
-saw_host p h xs r differ i f entry past step e at c bs given l none k other false host =
-    let n = look_shows_nothing p h xs r i f (entry ∷ past) at c bs l k host in
-    record { whole = n.0; alone = λ shared. absurd (no_mark (history_of_line p h xs r) ((history_of_line p h xs r).shown (step_of l.sent.sent) k) n.1 shared) }
-saw_host p h xs r differ i f entry past step e at c bs given l none k other true host =
+    → (entry : Entry) (past : Trace) (step : ℕ) → IsEntryAt f entry past step → IsAt p h xs r i f (entry ∷ past) → (c : Submitted) (before : List Submitted) (bs : List (Option Block))
+    → (l : LookThere p h xs r i f c before bs) → NoneShared (setting_in f) (entry ∷ past) f.session bs
+    → (k : ℕ) → (k ≡ f.session.id → ⊥) → (b : Bool) → is_host (world_at p h xs) k ≡ b → SawAll p h xs r i l.look step k
+saw_host p h xs r differ i f entry past step e at c before bs l none k other false host =
+    let n = look_shows_nothing p h xs r i f (entry ∷ past) at c before bs l k host in
+    record { whole = n.0; alone = λ shared. absurd (no_mark (history_of_line p h xs r) ((history_of_line p h xs r).shown l.look k) n.1 shared) }
+saw_host p h xs r differ i f entry past step e at c before bs l none k other true host =
     let w : World = world_at p h xs in
     let H : History = history_of_line p h xs r in
     let st : Setting = setting_in f in
     let all = whole_of p h xs at.front_is.run i f at.front_is.its in
     let range = is_within k w.layout.hosts host in
     let b = some_of (block_of_host bs k) (none.whole k range.0 (subst (λ (g : Layout). k ≤ g.hosts) (sym all.layout) range.1) other) in
-    let s = look_shows_host p h xs r i f (entry ∷ past) at c bs given l k host b.0 b.1 in
+    let s = look_shows_host p h xs r i f (entry ∷ past) at c before bs l k host b.0 b.1 in
     record {
       whole = s.shows;
       alone = λ shared.
@@ -123,17 +117,6 @@ saw_host p h xs r differ i f entry past step e at c bs given l none k other true
                 ∙ ap (λ n. H.evidence (holder_of w i) (named_as n b.0.mode_gen) step) (sym s.host) ∙ evident,
           );
     }
-
--- ---- when it began
-
-begun_by : (p : Program) (h : Header) (xs : List Happening) (i : SessionId) (f : Found) → LawfulRun p h xs → IsSession (world_at p h xs) i f → (write read : Submitted)
-    → (t : IsTold p h xs i f write) (u : IsTold p h xs i f read) → ReadAfter write read → step_of t.sent ≤ step_of u.sent
-begun_by p h xs i f run its write read t u after =
-    let heard = told_answer p h xs i f write t after.answer after.answered.0 in
-    let all = whole_of p h xs run i f its in
-    let timed = call_timed p h xs run i.machine f.machine t.sent.course all.at t.there in
-    lt_up_to (step_of t.sent) heard.stamp.step (step_of u.sent) (timed.answered heard.stamp heard.answered)
-    (in_order p h xs run i f its after.answer.at read.at heard.stamp u.sent.course.made heard.entry (told_made p h xs i f read u) after.later)
 
 -- ---- all of it
 
@@ -157,16 +140,15 @@ granted_at p h xs given run i f its entry past step e g a unfreed law =
     let read = of_lease st front f.session (spot_of_line r) law.read law.of_lease.0 in
     let named = stood_at p h xs i f front k.front_is (spot_of_line r) law.write wrote in
     let block = block_there p h xs r i f front k law.write wrote law.own law.wrote.2 in
-    let once = given_plain st.layout (plain_of p h xs run i f its) law.read law.before law.blocks law.given in
-    let look = look_there p h xs r i f front k law.read read law.of_lease.1 law.blocks once in
+    let look = look_there p h xs r i f front k law.read law.after law.before law.split law.blocks law.given in
     let last : look.answered.at ≤ length past = below_suc look.answered.at (length past) (answered_below front law.read read.inside look.answered look.told_as) in
     let holder : holder_of w i ≡ holder_of_found f = holder_is w i f its in
     let own : (n : ℕ) → (n ≡ (holder_of w i).id → ⊥) → n ≡ f.session.id → ⊥ = λ n other same. other (same ∙ sym (ap (λ (o : Holder). o.id) holder)) in
-    let saw : (n : ℕ) → (n ≡ (holder_of w i).id → ⊥) → SawAll p h xs r i (step_of look.sent.sent) step n =
-    λ n other. saw_host p h xs r differ i f entry past step e k law.read law.blocks once look law.none_shared n (own n other) (is_host w n) refl in
+    let saw : (n : ℕ) → (n ≡ (holder_of w i).id → ⊥) → SawAll p h xs r i look.look step n =
+    λ n other. saw_host p h xs r differ i f entry past step e k law.read law.before law.blocks look law.none_shared n (own n other) (is_host w n) refl in
     record {
       place = a;
-      grant = record { step = step; holder = holder_of w i; instance = g.lver; look = step_of look.sent.sent };
+      grant = record { step = step; holder = holder_of w i; instance = g.lver; look = look.look };
       at = refl;
       holder = refl;
       instance = refl;
@@ -174,7 +156,7 @@ granted_at p h xs given run i f its entry past step e g a unfreed law =
         ballot = subst (λ o. BallotEnded H (holder_of w i) g.lver o step) named.name
             (given.ended p h xs r run a.there differ hosts i f its a.joined entry past step e g.lver (me front f.session) law.won);
         reads = look.reads;
-        answer = up_to (H.answer (step_of look.sent.sent)) look.stamp.step e.stamp.step step look.answer
+        answer = up_to (H.answer look.look) look.stamp.step e.stamp.step step look.answer
             (in_order p h xs run i f its look.answered.at (length past) look.stamp e.stamp look.entry e.stamped last) e.step_is;
         whole = λ n other. (saw n other).whole;
         alone = λ n other. (saw n other).alone;
@@ -189,7 +171,7 @@ granted_at p h xs given run i f its entry past step e g a unfreed law =
           step_of block.sent.sent,
           block.writes,
           ap (λ (b : HistoryBlock). b.lver) block.block ∙ law.wrote.3,
-          begun_by p h xs i f run its law.write law.read block.sent look.sent law.ordered,
+          look.after law.write law.own block law.ordered law.first_ordered,
         );
       };
     }

@@ -1,14 +1,13 @@
 -- A leader in the history that names a session was written by this session: and so was each free of an instance that it won.
 use Rattle.sl_area.specs.Layouts.{Layout}
 use Rattle.sl_safety.proofs.Ballot.Led.{owner_as}
-use Rattle.sl_safety.specs.Ballot.Endings.{holder_as}
-use Rattle.sl_ballots.specs.History.{Leader as HistoryLeader, Owner as Holder}
+use Rattle.sl_ballots.specs.History.{Leader as HistoryLeader}
 use Rattle.sl_run_law.specs.Course.Stamping.{stamp_in}
 use Rattle.sl_safety.proofs.Grant.Names.{name_of_sent}
 use Rattle.sl_safety.proofs.Grant.Telling.{OfLease}
 use Rattle.sl_run.specs.LawfulArea.{is_area_work}
 use Rattle.sl_run.specs.LawfulLeader.{LawfulFreeLeader, LawfulTake}
-use Rattle.sl_trace.specs.Ballots.{owner_of as named_by, same_owner}
+use Rattle.sl_trace.specs.Ballots.{owner_of as named_by}
 use Rattle.sl_trace.specs.Leases.{Leader_freed, StepKind, freed, freed_by, is_free_write, is_lease_call, is_on, kind_of_step, leader_of_record, leader_written, lease_step, same_kind, spot_of_call}
 use Rattle.sl_run_law.proofs.Place.Reading.{call_law}
 use Rattle.sl_plain.proofs.Lists.{contains_cases, contains_none}
@@ -23,7 +22,6 @@ use Rattle.sl_run.specs.Worlds.{Program, Stamp, World}
 use Rattle.sl_run.specs.declared.header.Header.{Header}
 use Rattle.sl_run.specs.declared.header.ResourceLine.{ResourceLine}
 use Rattle.sl_sector.specs.declared.sector.Leader.{Leader}
-use Rattle.sl_sector.specs.declared.sector.Owner.{Owner}
 use Rattle.sl_trace_law.specs.Sessions.Promises.{front_of, made_as}
 use Rattle.sl_trace.specs.Sessions.{me}
 use Rattle.sl_trace.specs.declared.session.Session.{Session}
@@ -38,7 +36,7 @@ use Rattle.sl_words.specs.Words.{some_is}
 use Rattle.std.proofs.Common.{ap, arith, inl, inr, refl, subst, sym, ◌∙◌}
 use Rattle.std.proofs.lemmas.Bool.{and_from, eq-eqb, eqb-true}
 use Rattle.std.specs.Option.{option_map_or}
-use Rattle.std.specs.Prelude.{Bool, Contains, List, MatchBool, None, Option, Some, [], false, if◌then◌else◌, is_some, max, not, option_and_then, true, ℕ, ◌&&◌, ◌==◌, ◌∷◌, ◌≡◌, ◌≤◌}
+use Rattle.std.specs.Prelude.{Bool, Contains, List, MatchBool, None, Option, Some, false, is_some, max, not, option_and_then, true, [], ℕ, if◌then◌else◌, ◌&&◌, ◌==◌, ◌∷◌, ◌≡◌, ◌≤◌}
 
 -- ---- the greatest free
 

@@ -4,7 +4,7 @@ use Rattle.sl_safety.specs.Ballot.Endings.{IsEntryAt}
 use Rattle.sl_ballots.specs.History.{History}
 use Rattle.sl_run_law.proofs.Course.Pairing.{pairs_length}
 use Rattle.sl_run_law.proofs.Course.Stamped.{entries_are_stamped}
-use Rattle.sl_run_law.specs.Course.Stamping.{IsStampOf, stamp_in}
+use Rattle.sl_run_law.specs.Course.Stamping.{IsStampOf}
 use Rattle.sl_safety.proofs.Grant.Alive.{alive_by}
 use Rattle.sl_safety.proofs.Grant.Exclusive.{IsToldOf, exclusive_grants_are_given}
 use Rattle.sl_safety.proofs.Grant.Freeing.{free_told}
@@ -20,15 +20,15 @@ use Rattle.sl_trace.specs.Leases.{holdings_on}
 use Rattle.sl_history.specs.Resources.Promises.{history_of_line, spot_of_line}
 use Rattle.sl_run.specs.Runs.{Happening}
 use Rattle.sl_run.specs.Safety.{Found, IsSession, LawfulRun, SessionId, is_over, setting_in, trace_of, world_at}
-use Rattle.sl_run.specs.Worlds.{Program, Stamp, World}
+use Rattle.sl_run.specs.Worlds.{Program, World}
 use Rattle.sl_run.specs.declared.header.Header.{Header}
 use Rattle.sl_run.specs.declared.header.ResourceLine.{ResourceLine}
 use Rattle.sl_trace.specs.Traces.{Setting, Trace, is_shared, spot_of_grant}
 use Rattle.sl_trace.specs.declared.effects.Entry.{Entry}
 use Rattle.sl_trace.specs.declared.effects.Grant.{Grant}
 use Rattle.sl_words.proofs.CaseLaws.{true_is_false}
-use Rattle.std.proofs.Common.{ap, arith, refl, subst, sym, tests, ◌∙◌}
-use Rattle.std.specs.Prelude.{Bool, Contains, List, Option, Some, [], false, length, suc, true, ℕ, ◌++◌, ◌<◌, ◌==◌, ◌∷◌, ◌≡◌, ◌≤◌}
+use Rattle.std.proofs.Common.{ap, arith, refl, subst, sym, ◌∙◌}
+use Rattle.std.specs.Prelude.{Contains, List, false, length, [], ℕ, ◌++◌, ◌<◌, ◌∷◌, ◌≡◌, ◌≤◌}
 
 -- ---- an entry has its stamp
 

@@ -1,29 +1,25 @@
 -- What a session's read of blocks shows in the history: of each host whose block it gave, whole and as it gave it; of no host, the block
 -- of step 0.
 use Rattle.sl_safety.proofs.Grant.Stepping.{IsAt, LookThere}
-use Rattle.sl_safety.proofs.Grant.Telling.{whole_of}
 use Rattle.sl_trace.specs.Leases.{block_of_host}
-use Rattle.sl_history.specs.Resources.Once.{blocks_once as blocks_given}
 use Rattle.sl_plain.proofs.Lists.{contains_first, contains_more}
 use Rattle.sl_history.proofs.Giving.Proven.{reads_are_given}
 use Rattle.sl_history.proofs.Resources.Above.{block_of_none, own_there}
 use Rattle.sl_history.proofs.Resources.Shows.{HasBlock, IsOf, has_block}
-use Rattle.sl_history.specs.Resources.Reads.{ReadBlocks}
 use Rattle.sl_history.specs.Resources.Histories.{is_host, no_block}
 use Rattle.sl_history.specs.Resources.Promises.{history_of_line}
-use Rattle.sl_history.specs.Resources.Sending.{step_of}
 use Rattle.sl_run.specs.Runs.{Happening}
-use Rattle.sl_run.specs.Safety.{Found, SessionId, setting_in, world_at}
-use Rattle.sl_run.specs.Worlds.{Program, machine_at}
+use Rattle.sl_run.specs.Safety.{Found, SessionId, world_at}
+use Rattle.sl_run.specs.Worlds.{Program}
 use Rattle.sl_run.specs.declared.header.Header.{Header}
 use Rattle.sl_run.specs.declared.header.ResourceLine.{ResourceLine}
 use Rattle.sl_sector.specs.declared.sector.Block.{Block}
 use Rattle.sl_trace.specs.Traces.{Submitted, Trace}
 use Rattle.sl_words.proofs.CaseLaws.{none_some, some_value}
 use Rattle.sl_words.specs.Words.{present}
-use Rattle.std.proofs.Common.{ap, refl, subst, sym, ◌∙◌}
+use Rattle.std.proofs.Common.{ap, subst, sym, ◌∙◌}
 use Rattle.std.specs.List.{cons_option}
-use Rattle.std.specs.Prelude.{Contains, List, None, Option, Some, [], false, slice_get, suc, true, zero, ℕ, ◌∷◌, ◌≡◌}
+use Rattle.std.specs.Prelude.{Contains, List, None, Option, Some, false, slice_get, suc, true, zero, [], ℕ, ◌∷◌, ◌≡◌}
 
 -- ---- a host's block among those given
 
@@ -38,43 +34,20 @@ is_present {A} (x ∷ xs) (suc i) a at = by x (is_present xs i a at) where
 
 -- ---- what it shows of a host
 
--- The read of the history, as the record has it.
-look_read : (p : Program) (h : Header) (xs : List Happening) (r : ResourceLine) (i : SessionId) (f : Found) (front : Trace) → IsAt p h xs r i f front → (c : Submitted)
-    → (bs : List (Option Block)) → blocks_given (setting_in f).layout c ≡ Some bs → (l : LookThere p h xs r i f c bs) → ReadBlocks (world_at p h xs) r (step_of l.sent.sent) bs
-look_read p h xs r i f front at c bs given l =
-    let all = whole_of p h xs at.front_is.run i f at.front_is.its in
-    record {
-      sent = l.sent.sent;
-      found = l.found;
-      machine = f.machine;
-      at = ap (λ (j : SessionId). machine_at (world_at p h xs) j.machine) l.sent.sender ∙ all.at;
-      last = l.sent.sent.course;
-      ends = refl;
-      inside = l.sent.there;
-      daemon = f.daemon;
-      has = all.has;
-      call = l.sent.now;
-      told = l.sent.inside;
-      pair = l.sent.is;
-      given = ap (λ y. blocks_given (setting_in f).layout y) l.now ∙ given;
-    }
-
 pub look_shows_host : (p : Program) (h : Header) (xs : List Happening) (r : ResourceLine) (i : SessionId) (f : Found) (front : Trace) → IsAt p h xs r i f front → (c : Submitted)
-    → (bs : List (Option Block)) → blocks_given (setting_in f).layout c ≡ Some bs → (l : LookThere p h xs r i f c bs)
-    → (k : ℕ) → is_host (world_at p h xs) k ≡ true → (b : Block) → block_of_host bs k ≡ Some b → HasBlock p h xs r (step_of l.sent.sent) k b
-look_shows_host p h xs r i f front at c bs given l k host b has =
+    → (before : List Submitted) (bs : List (Option Block)) (l : LookThere p h xs r i f c before bs) → (k : ℕ) → is_host (world_at p h xs) k ≡ true → (b : Block) → block_of_host bs k ≡ Some b
+    → HasBlock p h xs r l.look k b
+look_shows_host p h xs r i f front at c before bs l k host b has =
     let run = at.front_is.run in
-    let o : IsOf p h xs r (step_of l.sent.sent) k bs =
-    record { run = run; there = at.there; give = reads_are_given p h xs r run at.there; read = look_read p h xs r i f front at c bs given l; host = host } in
-    has_block p h xs r (step_of l.sent.sent) k bs o b (own_there bs k b has)
+    let o : IsOf p h xs r l.look k bs = record { run = run; there = at.there; give = reads_are_given p h xs r run at.there; read = l.blocks; host = host } in
+    has_block p h xs r l.look k bs o b (own_there bs k b has)
 
 -- ---- of no host
 
 pub look_shows_nothing : (p : Program) (h : Header) (xs : List Happening) (r : ResourceLine) (i : SessionId) (f : Found) (front : Trace) → IsAt p h xs r i f front → (c : Submitted)
-    → (bs : List (Option Block)) → (l : LookThere p h xs r i f c bs) → (k : ℕ) → is_host (world_at p h xs) k ≡ false
-    → ((history_of_line p h xs r).shows (step_of l.sent.sent) k ≡ true)
-    × ((history_of_line p h xs r).block ((history_of_line p h xs r).shown (step_of l.sent.sent) k) ≡ no_block)
-look_shows_nothing p h xs r i f front at c bs l k host =
+    → (before : List Submitted) (bs : List (Option Block)) (l : LookThere p h xs r i f c before bs) → (k : ℕ) → is_host (world_at p h xs) k ≡ false
+    → ((history_of_line p h xs r).shows l.look k ≡ true) × ((history_of_line p h xs r).block ((history_of_line p h xs r).shown l.look k) ≡ no_block)
+look_shows_nothing p h xs r i f front at c before bs l k host =
     let run = at.front_is.run in
-    let n = (reads_are_given p h xs r run at.there).others (step_of l.sent.sent) k l.reads host in
+    let n = (reads_are_given p h xs r run at.there).others l.look k l.reads host in
     (n.0, ap (λ e. (history_of_line p h xs r).block e) n.1 ∙ block_of_none p h xs run r)

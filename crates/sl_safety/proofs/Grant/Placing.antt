@@ -13,7 +13,7 @@ use Rattle.sl_run_law.proofs.Place.Leased.{IsLeased, verified_leased}
 use Rattle.sl_run_law.proofs.Place.Proven.{promised}
 use Rattle.sl_run_law.proofs.Place.Reading.{call_law}
 use Rattle.sl_run_law.proofs.Place.Seats.{sized_in}
-use Rattle.sl_history.proofs.Resources.Calls.{block_sent, block_works, made_of, owned, worker_joined}
+use Rattle.sl_history.proofs.Resources.Calls.{block_works, made_of, owned, record_sent, worker_joined}
 use Rattle.sl_history.specs.Resources.Promises.{spot_of_line}
 use Rattle.sl_history.specs.Resources.Sending.{Sent, all_sent, is_joined_there, writes_block}
 use Rattle.sl_run.specs.Runs.{Happening}
@@ -22,12 +22,11 @@ use Rattle.sl_run.specs.Worlds.{Program, World}
 use Rattle.sl_run.specs.declared.header.Header.{Header}
 use Rattle.sl_run.specs.declared.header.ResourceLine.{ResourceLine}
 use Rattle.sl_sector.specs.declared.sector.Block.{Block}
-use Rattle.sl_sector.specs.declared.sector.Rec.TheVariants.{BlockIs}
 use Rattle.sl_trace.specs.Traces.{Submitted, Trace, record_of}
 use Rattle.sl_trace.specs.declared.effects.Call.{Call}
 use Rattle.sl_trace.specs.declared.effects.Spot.{Spot}
 use Rattle.sl_words.proofs.WordLaws.{and_true}
-use Rattle.std.proofs.Common.{ap, refl, subst, sym, ◌∙◌}
+use Rattle.std.proofs.Common.{ap, subst, sym, ◌∙◌}
 use Rattle.std.specs.Prelude.{Contains, List, Some, bytes_eq, true, ◌%◌, ◌-◌, ◌≡◌}
 
 -- ---- the area of a block
@@ -43,12 +42,12 @@ pub block_leased : (p : Program) (h : Header) (xs : List Happening) → LawfulRu
     → LeasedTo p h xs x
 block_leased p h xs run x sent is =
     let w : World = world_at p h xs in
-    let b = block_sent p h xs run x sent is in
+    let b = record_sent x.course is in
     let o = owned p h xs run x sent in
     let d = made_of o in
     let q : Submitted = o.trace.submitted_as in
     let law = call_law o.trace.daemon.setting o.trace.daemon.trace o.session q d o.trace.lawful o.its o.mine in
-    let write = law.0.area.0.writes d.index q.call o.session d.call law.1 (BlockIs b.0) (ap (λ (c : Call). record_of c.op) o.trace.is.call ∙ b.1) refl in
+    let write = law.0.area.0.writes d.index q.call o.session d.call law.1 b.0 (ap (λ (c : Call). record_of c.op) o.trace.is.call ∙ b.1) b.2 in
     let k : IsLeased h w o.session q write.1.resource =
     verified_leased p h xs promised run x.machine o.there.machine o.trace.daemon o.there.at o.trace.has o.trace.lawful o.session o.its q d x.course.made o.trace.is.made
     (λ l inside early. at_home p h xs promised run l inside) write.1.resource write.1.verified in

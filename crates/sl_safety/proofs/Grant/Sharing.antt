@@ -37,14 +37,14 @@ use Rattle.sl_run.specs.Worlds.{Program, Stamp, World}
 use Rattle.sl_run.specs.declared.header.Header.{Header}
 use Rattle.sl_run.specs.declared.header.ResourceLine.{ResourceLine}
 use Rattle.sl_trace.specs.Sessions.{me, session_numbered}
-use Rattle.sl_trace.specs.Traces.{Setting, Submitted, Trace, holdings, new_call}
+use Rattle.sl_trace.specs.Traces.{Setting, Trace, holdings, new_call}
 use Rattle.sl_trace.specs.declared.effects.Call.{Call}
 use Rattle.sl_trace.specs.declared.effects.Grant.{Grant}
 use Rattle.sl_trace.specs.declared.effects.Spot.{Spot}
 use Rattle.sl_words.proofs.CaseLaws.{one_value}
 use Rattle.std.proofs.Common.{ap, append_assoc, arith, inl, inr, refl, subst, sym, ◌∙◌}
 use Rattle.std.proofs.lemmas.Bool.{cases_lt}
-use Rattle.std.specs.Prelude.{Contains, List, None, Option, Some, [], false, length, suc, true, ℕ, ◌++◌, ◌<◌, ◌∷◌, ◌≡◌, ◌≤◌}
+use Rattle.std.specs.Prelude.{Contains, List, Option, Some, false, length, suc, true, ℕ, ◌++◌, ◌<◌, ◌∷◌, ◌≡◌, ◌≤◌}
 
 -- ---- the ballot
 

@@ -4,7 +4,7 @@ use Rattle.sl_run_law.proofs.Course.Matched.{courses_are_calls}
 use Rattle.sl_run_law.specs.Course.Stamping.{AnswersAgree, IsAnsweredAs, IsCourseOf, courses_of, stamp_in}
 use Rattle.sl_safety.proofs.Grant.Growing.{Grown, calls_grow, calls_were}
 use Rattle.sl_run.specs.Lawful.{Orderly}
-use Rattle.sl_trace.specs.Leases.{block_of_record, block_written, is_block_read, is_lease_call, is_on, lease_calls}
+use Rattle.sl_trace.specs.Leases.{block_of_record, block_written, is_lease_call, is_on, lease_calls}
 use Rattle.sl_run_law.proofs.Moment.Ordering.{entries_ordered, fall_front, fall_step}
 use Rattle.sl_run_law.proofs.Place.Daemons.{daemons_are_fine, stamp_order}
 use Rattle.sl_run_law.proofs.Place.Finding.{partner_of}
@@ -14,13 +14,12 @@ use Rattle.sl_plain.proofs.Lists.{kept, kept_inside}
 use Rattle.sl_plain.proofs.Numbers.{never_below}
 use Rattle.sl_history.proofs.Resources.Calls.{numbers_meant, there_sent}
 use Rattle.sl_history.proofs.Resources.Owning.{session_as}
-use Rattle.sl_history.specs.Resources.Sending.{Sent, all_sent, block_of_course, reads_blocks, sender_of, writes_block}
+use Rattle.sl_history.specs.Resources.Sending.{Sent, all_sent, block_of_course, sender_of, writes_block}
 use Rattle.sl_run.specs.Runs.{Happening}
 use Rattle.sl_run.specs.Safety.{Found, IsSession, LawfulRun, SessionId, setting_in, trace_of, world_at}
 use Rattle.sl_run.specs.Worlds.{Course, Program, Stamp, World, daemons_on, machine_at}
 use Rattle.sl_run.specs.declared.header.Header.{Header}
 use Rattle.sl_sector.specs.declared.sector.Block.{Block}
-use Rattle.sl_trace_law.proofs.Sessions.Making.{answers_stay}
 use Rattle.sl_trace.specs.Sessions.{calls_of, is_call_of, session_numbered}
 use Rattle.sl_trace.specs.declared.session.Session.{Session}
 use Rattle.sl_trace.specs.Traces.{Answered, Setting, Submitted, Trace, new_call, record_of, submitted}
@@ -28,9 +27,9 @@ use Rattle.sl_trace.specs.declared.effects.Call.{Call}
 use Rattle.sl_trace.specs.declared.effects.Spot.{Spot}
 use Rattle.sl_run_law.proofs.Watchdog.Stamps.{stamp_there}
 use Rattle.sl_words.proofs.WordLaws.{and_true}
-use Rattle.std.proofs.Common.{ap, arith, inl, inr, refl, subst, sym, ◌∙◌}
+use Rattle.std.proofs.Common.{ap, inl, inr, refl, subst, sym, ◌∙◌}
 use Rattle.std.proofs.lemmas.Bool.{and_from, cases_lt, eq-eqb, eqb-true}
-use Rattle.std.specs.Prelude.{Contains, List, Option, Some, [], is_some, length, option_and_then, true, ℕ, ◌&&◌, ◌++◌, ◌<◌, ◌==◌, ◌∷◌, ◌≡◌, ◌≤◌}
+use Rattle.std.specs.Prelude.{Contains, List, Option, Some, is_some, length, option_and_then, true, [], ℕ, ◌&&◌, ◌++◌, ◌<◌, ◌==◌, ◌∷◌, ◌≡◌, ◌≤◌}
 
 -- A session of a lawful run, at a front of its trace.
 pub record IsFront (p : Program) (h : Header) (xs : List Happening) (i : SessionId) (f : Found) (front : Trace) : Type 0 where
@@ -79,48 +78,30 @@ pub record IsTold (p : Program) (h : Header) (xs : List Happening) (i : SessionI
   pub told : (a : Answered) → c.answer ≡ Some a → now.answer ≡ Some a
   pub there : Contains f.machine.calls sent.course
 
-told_from : (p : Program) (h : Header) (xs : List Happening) → LawfulRun p h xs → (i : SessionId) (f : Found) → IsSession (world_at p h xs) i f → (c : Submitted)
-    → c.call.session ≡ f.session.number → (g : Grown (submitted (trace_of f)) c) → (t : IsTold p h xs i f c) × (t.now ≡ g.now)
-told_from p h xs run i f its c mine g =
-    let w : World = world_at p h xs in
-    let all = whole_of p h xs run i f its in
-    let own = partner_of (IsCourseOf f.daemon) (courses_of f.machine f.daemon.number) (submitted (trace_of f)) g.now
-    (courses_are_calls p h xs run i.machine f.machine f.daemon all.at all.has) g.inside in
-    let of_daemon = kept_inside (λ (x : Course). x.daemon == f.daemon.number) f.machine.calls own.0 own.1 in (
-      record {
-        sent = record { machine = i.machine; course = own.0 };
-        has = there_sent w i.machine f.machine own.0 all.at of_daemon.0;
-        sender = session_as i.machine own.0.daemon own.0.call.session i.machine i.daemon i.number refl
-            (eqb-true own.0.daemon f.daemon.number of_daemon.1 ∙ all.daemon)
-            (ap (λ (x : Call). x.session) (sym own.2.call ∙ g.call) ∙ mine ∙ all.number);
-        now = g.now;
-        inside = g.inside;
-        is = own.2;
-        call = g.call;
-        at = g.at;
-        told = g.told;
-        there = of_daemon.0;
-      },
-      refl,
-    )
-
 pub told : (p : Program) (h : Header) (xs : List Happening) (i : SessionId) (f : Found) (front : Trace) → IsFront p h xs i f front → (c : Submitted)
     → Contains (submitted front) c → c.call.session ≡ f.session.number → IsTold p h xs i f c
 told p h xs i f front k c has mine =
-    (told_from p h xs k.run i f k.its c mine (subst (λ t. Grown (submitted t) c) (sym k.whole) (calls_grow k.later front c has))).0
-
--- A call that was answered by then is the same in the whole trace.
-pub told_same : (p : Program) (h : Header) (xs : List Happening) (i : SessionId) (f : Found) (front : Trace) → IsFront p h xs i f front → (c : Submitted)
-    → Contains (submitted front) c → c.call.session ≡ f.session.number → (a : Answered) → c.answer ≡ Some a → (t : IsTold p h xs i f c) × (t.now ≡ c)
-told_same p h xs i f front k c has mine a is =
-    told_from p h xs k.run i f k.its c mine
-    (record {
-      now = c;
-      inside = subst (λ t. Contains (submitted t) c) (sym k.whole) (answers_stay k.later front c a has is);
-      call = refl;
-      at = refl;
-      told = λ b same. same;
-    })
+    let w : World = world_at p h xs in
+    let run = k.run in
+    let all = whole_of p h xs run i f k.its in
+    let g : Grown (submitted (trace_of f)) c = subst (λ t. Grown (submitted t) c) (sym k.whole) (calls_grow k.later front c has) in
+    let own = partner_of (IsCourseOf f.daemon) (courses_of f.machine f.daemon.number) (submitted (trace_of f)) g.now
+    (courses_are_calls p h xs run i.machine f.machine f.daemon all.at all.has) g.inside in
+    let of_daemon = kept_inside (λ (x : Course). x.daemon == f.daemon.number) f.machine.calls own.0 own.1 in
+    record {
+      sent = record { machine = i.machine; course = own.0 };
+      has = there_sent w i.machine f.machine own.0 all.at of_daemon.0;
+      sender = session_as i.machine own.0.daemon own.0.call.session i.machine i.daemon i.number refl
+          (eqb-true own.0.daemon f.daemon.number of_daemon.1 ∙ all.daemon)
+          (ap (λ (x : Call). x.session) (sym own.2.call ∙ g.call) ∙ mine ∙ all.number);
+      now = g.now;
+      inside = g.inside;
+      is = own.2;
+      call = g.call;
+      at = g.at;
+      told = g.told;
+      there = of_daemon.0;
+    }
 
 -- ---- its stamps
 
@@ -198,11 +179,6 @@ told_wrote p h xs i f c t b wrote = ap (λ (x : Call). block_by x) (sym t.is.cal
 pub told_block : (p : Program) (h : Header) (xs : List Happening) (i : SessionId) (f : Found) (c : Submitted) → (t : IsTold p h xs i f c) → (b : Block) → block_written c ≡ Some b
     → writes_block t.sent.course ≡ true
 told_block p h xs i f c t b wrote = ap (λ o. is_some o) (told_wrote p h xs i f c t b wrote)
-
--- Whether it reads blocks.
-pub told_reads : (p : Program) (h : Header) (xs : List Happening) (i : SessionId) (f : Found) (c : Submitted) → (t : IsTold p h xs i f c) → is_block_read c ≡ true
-    → reads_blocks t.sent.course ≡ true
-told_reads p h xs i f c t reads = ap (λ (x : Call). is_block_read (new_call 0 0 x)) (sym t.is.call ∙ t.call) ∙ reads
 
 -- ---- back to a front
 

@@ -1,0 +1,4 @@
+pub mod Telling
+pub mod Promises
+pub mod Reads
+pub mod Shown

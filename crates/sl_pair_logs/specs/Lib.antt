@@ -1,0 +1,4 @@
+pub mod Logs
+pub mod States
+pub mod Stands
+pub mod Theorems
