@@ -1,3 +1,4 @@
+pub mod Pairs
 pub mod LoopsKeep
 pub mod Additions
 pub mod SessionsStay

@@ -17,7 +17,7 @@ use Rattle.sl_due.specs.Steps.{Step, add_end, add_grant, add_reply, seen, with_i
 use Rattle.sl_due.specs.declared.decision.Decision.TheVariants.{ConvertsTo, GetsValue, GivesUp, Joins, Leaves, ReadsArea, Replies, Requests, SetsValue, Shares, TakesOver}
 use Rattle.sl_due.specs.declared.decision.Decision.{Decision}
 use Rattle.sl_trace.specs.Jobs.{is_job_of_process, job_of_start}
-use Rattle.sl_trace.specs.Leases.{holdings_on, known, spot_of}
+use Rattle.sl_trace.specs.Leases.{holdings_on, spot_of}
 use Rattle.sl_sector.specs.declared.sector.Rec.TheVariants.{RequestIs, ValueIs}
 use Rattle.sl_trace.specs.Sessions.{is_join_call, sessions}
 use Rattle.sl_trace.specs.declared.session.Session.{Session}

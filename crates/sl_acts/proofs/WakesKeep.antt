@@ -9,7 +9,7 @@ use Rattle.sl_due.specs.DueLease.{carry_lease, settle}
 use Rattle.sl_due.specs.DueRequests.{bits_due}
 use Rattle.sl_due.specs.DueWake.{end_if_done, finish, finish_session, for_sessions, free_if_done, join_on_wake, on_wake, renew_on_wake, settle_on_wake, settlings}
 use Rattle.sl_due.specs.Steps.{Step, for_each, seen, when}
-use Rattle.sl_trace.specs.Leases.{is_lease_call, is_spot_before, known, lease_spots, open_on, spot_of_call, spots_in, with_spot}
+use Rattle.sl_trace.specs.Leases.{is_lease_call, is_spot_before, lease_spots, open_on, spot_of_call, spots_in, with_spot}
 use Rattle.sl_trace.specs.declared.lease.LeaseNext.TheVariants.{AnswerJob, BecomeExclusive, BecomeShared, GrantJob, Nothing, ReadFor, WriteBlock, WriteLeader}
 use Rattle.sl_trace.specs.declared.lease.LeaseNext.{LeaseNext}
 use Rattle.sl_plain.proofs.Lists.{contains_cases, contains_first, contains_more, contains_none, kept_inside}

@@ -16,7 +16,6 @@ pub mod AnsweredCallsFit
 pub mod JobFactsAreKept
 pub mod SessionsStand
 pub mod NearlyPlainActs
-pub mod PlainNexts
 pub mod QuietEffects
 pub mod QuietLines
 pub mod QuietFactsAreKept

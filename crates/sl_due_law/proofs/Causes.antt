@@ -10,7 +10,9 @@ pub mod LineComes
 pub mod ChildrenHold
 pub mod ReleasedAtLines
 pub mod CauseFactsHold
+pub mod CommandsHere
 pub mod DoneAtLines
+pub mod LimitedAtLines
 pub mod AnswersAreWell
 pub mod LaterSteps
 pub mod AnsweredJobs

@@ -5,6 +5,7 @@ pub mod OwnRecords
 pub mod DeltaWrites
 pub mod ValueWrites
 pub mod LeaderWrites
+pub mod PairWrites
 pub mod ReleaseWrites
 pub mod SettleWrites
 pub mod ConversionWrites

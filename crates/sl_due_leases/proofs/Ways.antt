@@ -1,11 +1,12 @@
+pub mod WrittenRecords
 pub mod NewestCall
 pub mod GreatestFrees
 pub mod InstancesBegin
-pub mod Decoding
 pub mod Places
 pub mod WayStages
 pub mod GivenReads
 pub mod WayNumbers
+pub mod TurnsShown
 pub mod Lawful
 pub mod NumbersFollow
 pub mod NextsFit

@@ -8,8 +8,7 @@ use Rattle.sl_due_facts.proofs.Jobs.EffectsAreAllowed.{DecisionAllowed, GrantAll
 use Rattle.sl_due_facts.proofs.Jobs.LinesAreAllowed.{IsBegun}
 use Rattle.sl_due_facts.proofs.Jobs.NearlyPlainActs.{AnyStart}
 use Rattle.sl_trace.specs.Jobs.{jobs_of_session}
-use Rattle.sl_trace.specs.LeaseWork.{convert_next, lease_place, release_next}
-use Rattle.sl_trace.specs.Leases.{known, spot_of}
+use Rattle.sl_trace.specs.Leases.{spot_of}
 use Rattle.sl_trace.specs.declared.lease.LeaseNext.TheVariants.{AnswerJob, BecomeExclusive, BecomeShared, GrantJob, Nothing as No_lease, ReadFor, WriteBlock, WriteLeader}
 use Rattle.sl_trace.specs.declared.lease.LeaseNext.{LeaseNext}
 use Rattle.sl_due_facts.proofs.Sessions.NamesAreAllowed.{is_joining}

@@ -35,8 +35,7 @@ use Rattle.sl_due_facts.specs.Jobs.Promises.{BeginsWith}
 use Rattle.sl_run.specs.LawfulDelta.{Gave, IsRegistering, LawfulDeltaCall, LawfulJoinStep, WatchOver}
 use Rattle.sl_run.specs.Saying.{EachCall, cut_at, older}
 use Rattle.sl_trace.specs.Jobs.{job_of_start}
-use Rattle.sl_trace.specs.LeaseWork.{convert_next, lease_place, release_next}
-use Rattle.sl_trace.specs.Leases.{known, spot_of, spot_of_call}
+use Rattle.sl_trace.specs.Leases.{spot_of, spot_of_call}
 use Rattle.sl_trace.specs.declared.lease.LeaseNext.TheVariants.{AnswerJob, BecomeExclusive, BecomeShared, GrantJob, Nothing as No_lease, ReadFor, WriteBlock, WriteLeader}
 use Rattle.sl_trace.specs.declared.lease.LeaseNext.{LeaseNext}
 use Rattle.sl_due_facts.proofs.Parts.CallsGrow.{LastPlace, OldPlace, each_more, old_or_last}
@@ -48,7 +47,7 @@ use Rattle.sl_sector.specs.Bitmaps.{no_bits}
 use Rattle.sl_sector.specs.Spelling.{delta_in}
 use Rattle.sl_sector.specs.declared.sector.DeltaRec.{DeltaRec}
 use Rattle.sl_sector.specs.declared.sector.DeltaState.TheVariants.{Claimed, Free, Live}
-use Rattle.sl_sector.specs.declared.sector.Rec.TheVariants.{BlockIs, DeltaIs, LeaderIs}
+use Rattle.sl_sector.specs.declared.sector.Rec.TheVariants.{DeltaIs}
 use Rattle.sl_due_facts.proofs.Connections.ConnectionEffects.{move_same, removes_own, reply_same}
 use Rattle.sl_due_facts.proofs.Connections.ConnectionFactsAreKept.{alone_joined}
 use Rattle.sl_due_facts.proofs.Connections.DeltaCallsAreLawful.{claims_are_lawful, first_renewals_are_lawful, frees_are_lawful, renewals_are_lawful}

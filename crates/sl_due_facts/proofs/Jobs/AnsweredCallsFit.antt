@@ -11,8 +11,8 @@ use Rattle.sl_due_facts.proofs.Jobs.CallsStay.{late}
 use Rattle.sl_due_facts.proofs.Jobs.EffectsAreAllowed.{DeltaAllowed, LeaseAllowed, RequestAllowed}
 use Rattle.sl_due_facts.proofs.Jobs.JobFactsGrow.{Both, CallFits, IsFree, IsNumbered, itself as from_itself}
 use Rattle.sl_due_facts.proofs.Jobs.JobsAreAllowed.{MayCall, MayMove, MayReply, MayStart, Meanwhile, caller_numbered, free_when_heard}
-use Rattle.sl_due_facts.proofs.Jobs.LeaseCallsFit.{Works, asks_late, session_host, settling_allowed, work_allowed}
-use Rattle.sl_due_facts.proofs.Jobs.RepliesComeAfter.{IsLateLease, on_bool, request_late}
+use Rattle.sl_due_facts.proofs.Jobs.LeaseCallsFit.{Works, asks_from, session_host, settling_allowed, work_allowed}
+use Rattle.sl_due_facts.proofs.Jobs.RepliesComeAfter.{IsApartFrom, IsLateLease, late_from, on_bool, request_late}
 use Rattle.sl_due_facts.proofs.Jobs.SessionsArePresent.{joined_present, present_inside, session_has}
 use Rattle.sl_due_facts.proofs.Jobs.SessionsHaveJobs.{LeftBy, joined_by, left_by}
 use Rattle.sl_run.specs.LawfulDelta.{LawfulDeltaCall, LawfulFree}
@@ -34,7 +34,7 @@ use Rattle.sl_trace.specs.declared.delta.DeltaKnown.{DeltaKnown}
 use Rattle.sl_trace.specs.declared.delta.DeltaNext.{DeltaNext}
 use Rattle.sl_trace.specs.declared.delta.DeltaNext.TheVariants.{MoveConnection, Nothing, WriteFree, WriteRenewal}
 use Rattle.sl_trace.specs.declared.session.Session.{Session}
-use Rattle.sl_due_facts.specs.Facts.JobFacts.{FitsCommand, IsOfResource}
+use Rattle.sl_due_facts.specs.Facts.JobFacts.{FitsCommand, IsOfResource, SeeksResource}
 use Rattle.sl_due_facts.specs.Facts.Whole.{Whole}
 use Rattle.sl_trace.specs.Traces.{Job, Submitted, is_write, job_of, record_of, same_place, submitted}
 use Rattle.sl_trace.specs.declared.command.Command.{Command}
@@ -72,7 +72,7 @@ at x h = (h, from_itself x)
 -- ---- a heard call of a lease
 
 pub heard_works : (x : Step) (s : Session) (m : Submitted) (answer : Answer) (j : ℕ) (step : LeaseStep) (aim : Aim) → Whole x → Hears x s m answer → m.call.purpose ≡ Lease (ForJob j) step
-    → aim_of x.setting (seen x) (ForJob j) ≡ Some aim → Works x s (spot_of_call x.setting.layout m) j
+    → aim_of x.setting (seen x) (ForJob j) ≡ Some aim → (w : Works x s (spot_of_call x.setting.layout m) j) × SeeksResource w.resource step
 heard_works x s m answer j step aim h hears is aims =
     let b : Both x = both_of x h in
     let of : job_of m.call.purpose ≡ Some j = ap (λ p. job_of p) is in
@@ -80,29 +80,30 @@ heard_works x s m answer j step aim h hears is aims =
     let command = then_value aim_of_command (command_numbered x.setting (seen x) j) aim aims in
     let fits : FitsCommand x.setting s m command.0 (Lease (ForJob j) step) = subst (λ (p : Purpose). FitsCommand x.setting s m command.0 p) is (b.1.fits m j s command.0 there of hears.session command.1) in
     let room : Roomy x.setting.layout = roomy x.setting h.setting in
-    let has : Has x s = has_heard x s m answer hears in
-    record {
-      has = has;
-      free = free_when_heard x s m answer j b hears of;
-      command = command.0;
-      reads = command.1;
-      resource = fits.0;
-      names = fits.1;
-      aims = fits.2;
-      lockspace = fits.3.0;
-      spot = fits.3.1;
-      whole = spot_whole x.setting.layout m room.whole;
-      room = room;
-      host = session_host x.setting (seen x) s h.setting (got_inside (sessions x.setting (seen x)) s.number s has);
-      plain = h.setting.unpaired;
-    }
+    let has : Has x s = has_heard x s m answer hears in (
+      record {
+        has = has;
+        free = free_when_heard x s m answer j b hears of;
+        command = command.0;
+        reads = command.1;
+        resource = fits.0;
+        names = fits.1;
+        aims = fits.2;
+        lockspace = fits.3.0;
+        spot = fits.3.1;
+        whole = spot_whole x.setting.layout m room.whole;
+        room = room;
+        host = session_host x.setting (seen x) s h.setting (got_inside (sessions x.setting (seen x)) s.number s has);
+      },
+      fits.4,
+    )
 
 pub lease_allowed : (x : Step) (s : Session) (m : Submitted) (answer : Answer) (work : Work) (step : LeaseStep) (aim : Aim) (n : LeaseNext) → Whole x → Hears x s m answer → m.call.purpose ≡ Lease work step
-    → aim_of x.setting (seen x) work ≡ Some aim → IsLateLease n → LeaseAllowed (MayReply x) (MayCall x) (MayStart x) x s (spot_of_call x.setting.layout m) work n
+    → aim_of x.setting (seen x) work ≡ Some aim → IsApartFrom step n → LeaseAllowed (MayReply x) (MayCall x) (MayStart x) x s (spot_of_call x.setting.layout m) work n
 lease_allowed x s m answer Settling step aim n h hears is aims after = settling_allowed x s (spot_of_call x.setting.layout m) n (has_heard x s m answer hears)
 lease_allowed x s m answer (ForJob j) step aim n h hears is aims after =
-    let works : Works x s (spot_of_call x.setting.layout m) j = heard_works x s m answer j step aim h hears is aims in
-    work_allowed x x s (spot_of_call x.setting.layout m) j n refl (λ i c reads. reads) works (asks_late works.resource n after) (λ r eq. late x r (subst (λ k. IsLateLease k) eq after))
+    let works = heard_works x s m answer j step aim h hears is aims in
+    work_allowed x x s (spot_of_call x.setting.layout m) j n refl (λ i c reads. reads) works.0 (asks_from works.0.resource step n works.1 after) (λ r eq. late x r (subst (λ k. IsLateLease k) eq (late_from step n after)))
 
 -- ---- a heard read of a request
 

@@ -1,17 +1,18 @@
 -- A call on a resource's area is of the area where it begins.
-use Rattle.sl_area.proofs.SizeLaws.{HasRoom, has_room}
-use Rattle.sl_area.specs.Layouts.{Layout, Sizes}
-use Rattle.sl_area.specs.Places.{is_base}
+use Rattle.sl_area.proofs.SizeLaws.{HasRoom, has_room, sectors_of_pairs}
+use Rattle.sl_area.specs.Layouts.{Layout, Sizes, layout_of, layout_with}
+use Rattle.sl_area.specs.Places.{block_place, block_sectors, is_base}
 use Rattle.sl_run.specs.Lawful.{IsSetting}
 use Rattle.sl_trace.specs.Leases.{spot_of_call}
 use Rattle.sl_plain.proofs.Numbers.{plus_zero}
+use Rattle.sl_sector.specs.Spelling.{is_first_turn}
 use Rattle.sl_trace.specs.Traces.{Setting, Submitted}
 use Rattle.sl_trace.specs.declared.effects.Spot.{Spot}
 use Rattle.sl_words.proofs.WordLaws.{and_true}
-use Rattle.std.proofs.Common.{ap, arith, inl, inr, mod-lt, subst, sym, ◌^◌, ◌∙◌}
+use Rattle.std.proofs.Common.{ap, arith, inl, inr, mod-lt, refl, subst, sym, ◌^◌, ◌∙◌}
 use Rattle.std.proofs.Math.Nat.{mul-mod_right, div-add-mod, mul-le-mul_left}
 use Rattle.std.proofs.lemmas.Bool.{cases_lt, eqb-true}
-use Rattle.std.specs.Prelude.{IsTrue, List, nat_lt, ℕ, ◌%◌, ◌*◌, ◌+◌, ◌-◌, ◌/◌, ◌<◌, ◌==◌, ◌≡◌, ◌≤◌}
+use Rattle.std.specs.Prelude.{Bool, IsTrue, List, false, if◌then◌else◌, nat_lt, true, ℕ, ◌%◌, ◌*◌, ◌+◌, ◌-◌, ◌/◌, ◌<◌, ◌==◌, ◌≡◌, ◌≤◌}
 
 one_multiple : (size p q r s : ℕ) → r < size → s < size → size * p + r ≡ size * q + s → p ≡ q
 one_multiple size p q r s low low' same =
@@ -46,12 +47,50 @@ base_whole g o h = eqb-true (o % g.area) 0 (and_true (o % g.area == 0) (nat_lt o
 
 -- ---- where records stand
 
+-- A place some bytes above a base, within its area.
+pub record IsWithin (g : Layout) (base offset : ℕ) : Type 0 where
+  pub above : ℕ
+  pub less : above < g.area
+  pub is : offset ≡ base + above
+
 pub record Roomy (g : Layout) : Type 0 where
   pub some : 0 < g.sector
   pub whole : 0 < g.area
-  pub blocks : (id : ℕ) → id ≤ g.hosts → g.sector * (id + 1) < g.area
+  pub blocks : (base id turn : ℕ) → id ≤ g.hosts → IsWithin g base (block_place g base id turn)
   pub two : g.sector < g.area
   pub first : g.sector * (1 + 1) < g.area
+
+-- Sector k of an area that has room for n.
+sector_within : (sector k n area : ℕ) → 512 ≤ sector → k + 1 ≤ n → sector * n ≤ area → sector * k < area
+sector_within sector k n area some few room = let much : sector * (k + 1) ≤ sector * n = mul-le-mul_left sector few in omega (arith, some, room, much)
+
+-- A host's block, of one sector or of two.
+blocks_within : (digest : List ℕ → List ℕ) (s : Sizes) → HasRoom s → (base id turn : ℕ) → id ≤ s.hosts → IsWithin (layout_with digest s) base (block_place (layout_with digest s) base id turn)
+blocks_within digest s r base id turn most = by s.paired refl (is_first_turn turn) where
+  g : Layout
+  g = layout_with digest s
+
+  second : (n : ℕ) → n ≡ 2 * s.hosts → 2 * id + 1 + 1 ≤ n + 3
+  second n is = omega (arith, is, most)
+
+  first : (n : ℕ) → n ≡ 2 * s.hosts → 2 * id + 0 + 1 ≤ n + 3
+  first n is = omega (arith, is, most)
+
+  by : (paired : Bool) → s.paired ≡ paired → (odd : Bool)
+      → IsWithin g base (elim paired as (λ z. ℕ) [ false ↦ base + s.sector * (id + 1) | true ↦ base + s.sector * (2 * id + (if odd then 0 else 1)) ])
+  by false is odd = record { above = s.sector * (id + 1); less = sector_within s.sector (id + 1) (s.hosts + 3) s.area r.sector.0 (omega (arith, most)) r.room; is = refl }
+  by true is true =
+      record {
+        above = s.sector * (2 * id + 0);
+        less = sector_within s.sector (2 * id + 0) (block_sectors (layout_of s) + 3) s.area r.sector.0 (first (block_sectors (layout_of s)) (sectors_of_pairs s is)) r.blocks;
+        is = refl;
+      }
+  by true is false =
+      record {
+        above = s.sector * (2 * id + 1);
+        less = sector_within s.sector (2 * id + 1) (block_sectors (layout_of s) + 3) s.area r.sector.0 (second (block_sectors (layout_of s)) (sectors_of_pairs s is)) r.blocks;
+        is = refl;
+      }
 
 pub roomy : (st : Setting) → IsSetting st → Roomy st.layout
 roomy st h =
@@ -60,7 +99,7 @@ roomy st h =
     subst (λ (l : Layout). Roomy l) (sym h.layout.2) (record {
       some = omega (arith, r.sector.0);
       whole = let much : g.sector * 3 ≤ g.sector * (g.hosts + 3) = mul-le-mul_left g.sector (omega arith) in omega (arith, r.sector.0, r.room, much);
-      blocks = λ id most. let much : g.sector * (id + 2) ≤ g.sector * (g.hosts + 3) = mul-le-mul_left g.sector (omega (arith, most)) in omega (arith, r.sector.0, r.room, much);
+      blocks = blocks_within st.layout.digest g r;
       first = let much : g.sector * 3 ≤ g.sector * (g.hosts + 3) = mul-le-mul_left g.sector (omega arith) in omega (arith, r.sector.0, r.room, much);
       two = let much : g.sector * 3 ≤ g.sector * (g.hosts + 3) = mul-le-mul_left g.sector (omega arith) in omega (arith, r.sector.0, r.room, much);
     })

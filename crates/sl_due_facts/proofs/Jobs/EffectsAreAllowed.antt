@@ -20,7 +20,7 @@ use Rattle.sl_due.specs.declared.decision.Decision.TheVariants.{ConvertsTo, Gets
 use Rattle.sl_trace.specs.Counts.{stopper_of}
 use Rattle.sl_trace.specs.Jobs.{command_numbered, is_job_of_process, jobs_of_session, process_named}
 use Rattle.sl_acts.specs.Acts.{next_of_conversion, next_of_release}
-use Rattle.sl_trace.specs.Leases.{holdings_on, known, spot_of}
+use Rattle.sl_trace.specs.Leases.{holdings_on, spot_of}
 use Rattle.sl_trace.specs.declared.lease.LeaseNext.{LeaseNext}
 use Rattle.sl_trace.specs.declared.lease.LeaseNext.TheVariants.{AnswerJob, BecomeExclusive, BecomeShared, GrantJob, Nothing as No_lease, ReadFor, WriteBlock, WriteLeader}
 use Rattle.sl_plain.proofs.Lists.{kept_inside}

@@ -27,7 +27,7 @@ use Rattle.sl_due_facts.proofs.Jobs.JobsAreAllowed.{MayCall, MayMove, MayReply, 
 use Rattle.sl_due_facts.proofs.Jobs.JobsAreNumbered.{next_before}
 use Rattle.sl_due_facts.proofs.Jobs.LeaseCallsFit.{settling_allowed}
 use Rattle.sl_due_facts.proofs.Jobs.LinesAreAllowed.{IsBegun, decision_allowed, late_on_line, new_command, new_free, new_numbered}
-use Rattle.sl_due_facts.proofs.Jobs.RepliesComeAfter.{joining_late, lease_late, set_late, value_late, wake_late}
+use Rattle.sl_due_facts.proofs.Jobs.RepliesComeAfter.{joining_late, lease_within, set_late, value_late, wake_late}
 use Rattle.sl_trace.specs.Jobs.{job_of_start}
 use Rattle.sl_trace.specs.LeaseWork.{lease_place}
 use Rattle.sl_trace.specs.Leases.{known, lver_written, spot_of_call}
@@ -250,7 +250,7 @@ both_are_kept =
       leads_on = λ x s work step m answer aim hears is on aims h.
           kept_lease x s (spot_of_call x.setting.layout m) work (next_of_lease x.setting (seen x) s (spot_of_call x.setting.layout m) aim m step answer)
           (lease_allowed x s m answer work step aim (next_of_lease x.setting (seen x) s (spot_of_call x.setting.layout m) aim m step answer) h hears is aims
-          (lease_late (lease_place x.setting s) (known x.setting (seen x) s (spot_of_call x.setting.layout m)) aim m.call.number (lver_written m) step answer)) (both_of x h);
+          (lease_within (lease_place x.setting s) (known x.setting (seen x) s (spot_of_call x.setting.layout m)) aim m.call.number (lver_written m) step answer)) (both_of x h);
       fails = λ x s m j hears lone runs h. answer_kept x s m Failed j (IoFault m.call.number) (both_of x h) hears (lone_of m.call.purpose j lone) refl;
       has_asked = λ x s m j owner hears is runs h. answer_kept x s m Written j Done (both_of x h) hears (ap (λ p. job_of p) is) refl;
       has_set = λ x s m j hears is runs h. answer_kept x s m Written j (set_reply m) (both_of x h) hears (ap (λ p. job_of p) is) (set_late m);

@@ -1,21 +1,20 @@
 -- Where a call on a resource's area is made for a job it is of the command's resource, and the job has no other call unanswered.
-use Rattle.sl_sector.specs.Spelling.{is_first_turn}
-use Rattle.sl_area.specs.Layouts.{Layout}
 use Rattle.sl_due.specs.DueLease.{next_turn}
 use Rattle.sl_acts.specs.Acts.{Has}
-use Rattle.sl_area.specs.Places.{block_offset, block_place, block_sectors, pair_offset}
+use Rattle.sl_area.specs.Places.{block_offset, block_place, block_sectors}
 use Rattle.sl_due.specs.Steps.{Step, seen}
 use Rattle.sl_due_facts.proofs.Jobs.CallsOfJobsFit.{no_job}
-use Rattle.sl_due_facts.proofs.Jobs.CallsStandInAreas.{Roomy, stands_in}
+use Rattle.sl_due_facts.proofs.Jobs.CallsStandInAreas.{IsWithin, Roomy, stands_in}
 use Rattle.sl_due_facts.proofs.Jobs.CallsStay.{IsLate, late}
 use Rattle.sl_due_facts.proofs.Jobs.EffectsAreAllowed.{GrantAllowed, LeaseAllowed, ReadAllowed}
 use Rattle.sl_due_facts.proofs.Jobs.JobFactsGrow.{CallFits, IsFree, IsNumbered}
 use Rattle.sl_due_facts.proofs.Jobs.JobsAreAllowed.{MayCall, MayReply, MayStart, numbered_of}
 use Rattle.sl_due_facts.proofs.Jobs.JobsAreNumbered.{command_is_read}
-use Rattle.sl_due_facts.proofs.Jobs.RepliesComeAfter.{IsLateLease, IsNoSearch}
+use Rattle.sl_due_facts.proofs.Jobs.RepliesComeAfter.{IsApartFrom, IsApartLease, IsNoSearch}
 use Rattle.sl_due_facts.proofs.Jobs.SessionsHaveJobs.{given_one, joined_by}
 use Rattle.sl_run.specs.Lawful.{IsGiven, IsSetting}
 use Rattle.sl_trace.specs.Jobs.{aim_of_command, command_numbered, resource_named}
+use Rattle.sl_trace.specs.LeaseWork.{read_of_step}
 use Rattle.sl_trace.specs.Leases.{spot_of}
 use Rattle.sl_trace.specs.declared.lease.LeaseNext.{LeaseNext}
 use Rattle.sl_trace.specs.declared.lease.LeaseNext.TheVariants.{AnswerJob, BecomeExclusive, BecomeShared, GrantJob, Nothing as No_lease, ReadFor, WriteBlock, WriteLeader}
@@ -30,6 +29,7 @@ use Rattle.sl_trace.specs.declared.command.Command.{Command}
 use Rattle.sl_trace.specs.declared.command.Command.TheVariants.{Acquire, AddLockspace, Convert, GetLvb, HostStatus, InqLockspace, Release, ReleaseOrphan, RemLockspace, Request, RunProgram, SetKillpath, SetLvb, Status, TakeOver}
 use Rattle.sl_trace.specs.declared.command.ResourceArg.{ResourceArg}
 use Rattle.sl_trace.specs.declared.effects.LeaseStep.{LeaseStep}
+use Rattle.sl_trace.specs.declared.effects.LeaseRead.{LeaseRead}
 use Rattle.sl_trace.specs.declared.effects.LeaseRead.TheVariants.{OfArea, OfBlock, OfFree, OfPhase1, OfPhase2}
 use Rattle.sl_trace.specs.declared.effects.LeaseStep.TheVariants.{ClearMode, FreeLeader, Phase1Read, Phase1Write, Phase2Read, Phase2Write, ReadAgain, ReadArea, ReadBeforeBlock, ReadBeforeFree, SetMode, TakeLeader}
 use Rattle.sl_trace.specs.declared.effects.Op.TheVariants.{ReadSectors}
@@ -38,7 +38,7 @@ use Rattle.sl_trace.specs.declared.effects.Spot.{Spot}
 use Rattle.sl_trace.specs.declared.effects.Work.TheVariants.{ForJob, Settling}
 use Rattle.sl_trace.specs.declared.reply.Reply.{Reply}
 use Rattle.sl_trace.specs.declared.reply.Reply.TheVariants.{Granted}
-use Rattle.sl_words.proofs.CaseLaws.{none_some, some_value}
+use Rattle.sl_words.proofs.CaseLaws.{none_some, some_value, true_is_false}
 use Rattle.sl_words.proofs.WordLaws.{and_true}
 use Rattle.std.proofs.Common.{ap, inl, inr, refl, subst, sym, ◌∙◌}
 use Rattle.std.proofs.lemmas.Bool.{leb-true}
@@ -59,7 +59,6 @@ pub record Works (x : Step) (s : Session) (at : Spot) (j : ℕ) : Type 0 where
   pub whole : at.base % x.setting.layout.area ≡ 0
   pub room : Roomy x.setting.layout
   pub host : s.id ≤ x.setting.layout.hosts
-  pub plain : x.setting.layout.paired ≡ false
 
 abbrev pub AsksFor : ResourceArg → LeaseNext → Type 0
 AsksFor r (AnswerJob reply) = Unit {0}
@@ -72,7 +71,7 @@ seeks_none : (r : ResourceArg) (step : LeaseStep) → IsNoSearch step → SeeksR
 seeks_none r (ReadArea name) h = absurd h
 seeks_none r ReadBeforeFree h = tt
 seeks_none r ReadBeforeBlock h = tt
-seeks_none r (ReadAgain read) h = tt
+seeks_none r (ReadAgain read) h = absurd h
 seeks_none r Phase1Write h = tt
 seeks_none r Phase1Read h = tt
 seeks_none r Phase2Write h = tt
@@ -82,15 +81,51 @@ seeks_none r SetMode h = tt
 seeks_none r FreeLeader h = tt
 seeks_none r ClearMode h = tt
 
-pub asks_late : (r : ResourceArg) (n : LeaseNext) → IsLateLease n → AsksFor r n
-asks_late r (AnswerJob reply) h = tt
-asks_late r (ReadFor step) h = seeks_none r step h
-asks_late r (WriteBlock step b) h = seeks_none r step h
-asks_late r (WriteLeader step l) h = seeks_none r step h
-asks_late r No_lease h = tt
-asks_late r (GrantJob mode lver) h = tt
-asks_late r (BecomeShared lver l) h = tt
-asks_late r (BecomeExclusive lver b) h = tt
+pub asks_apart : (r : ResourceArg) (n : LeaseNext) → IsApartLease n → AsksFor r n
+asks_apart r (AnswerJob reply) h = tt
+asks_apart r (ReadFor step) h = seeks_none r step h
+asks_apart r (WriteBlock step b) h = seeks_none r step h
+asks_apart r (WriteLeader step l) h = seeks_none r step h
+asks_apart r No_lease h = tt
+asks_apart r (GrantJob mode lver) h = tt
+asks_apart r (BecomeShared lver l) h = tt
+asks_apart r (BecomeExclusive lver b) h = tt
+
+-- A read that is made once more seeks what the first one did.
+abbrev sought : List ℕ → Option LeaseRead → List ℕ
+sought other (Some (OfArea name)) = name
+sought other o = other
+
+seeks_again : (r : ResourceArg) (step : LeaseStep) (read : LeaseRead) → read_of_step step ≡ Some read → SeeksResource r step → SeeksResource r (ReadAgain read)
+seeks_again r step OfFree is seeks = tt
+seeks_again r step OfBlock is seeks = tt
+seeks_again r step OfPhase1 is seeks = tt
+seeks_again r step OfPhase2 is seeks = tt
+seeks_again r step (OfArea name) is seeks = by step is seeks where
+  is_area : Option LeaseRead → Bool
+  is_area (Some (OfArea other)) = true
+  is_area o = false
+
+  none : {A : Type 0} (o : Option LeaseRead) → is_area o ≡ false → o ≡ Some (OfArea name) → A
+  none o other same = absurd (true_is_false (sym (ap (λ z. is_area z) same) ∙ other))
+
+  by : (q : LeaseStep) → read_of_step q ≡ Some (OfArea name) → SeeksResource r q → name ≡ r.name
+  by (ReadArea other) same its = sym (ap (λ o. sought name o) same) ∙ its
+  by ReadBeforeFree same its = none (Some OfFree) refl same
+  by ReadBeforeBlock same its = none (Some OfBlock) refl same
+  by (ReadAgain other) same its = none None refl same
+  by Phase1Write same its = none None refl same
+  by Phase1Read same its = none (Some OfPhase1) refl same
+  by Phase2Write same its = none None refl same
+  by Phase2Read same its = none (Some OfPhase2) refl same
+  by TakeLeader same its = none None refl same
+  by SetMode same its = none None refl same
+  by FreeLeader same its = none None refl same
+  by ClearMode same its = none None refl same
+
+pub asks_from : (r : ResourceArg) (step : LeaseStep) (n : LeaseNext) → SeeksResource r step → IsApartFrom step n → AsksFor r n
+asks_from r step (ReadFor (ReadAgain read)) seeks h = seeks_again r step read h seeks
+asks_from r step n seeks h = asks_apart r n h
 
 -- A call some bytes above the base.
 work_fits : (x : Step) (s : Session) (at : Spot) (j : ℕ) (step : LeaseStep) (o d i : ℕ) → (w : Works x s at j) → SeeksResource w.resource step → d < x.setting.layout.area → o ≡ at.base + d
@@ -102,13 +137,6 @@ work_fits x s at j step o d i w seeks less stands of =
       free = w.free;
       fits = λ m path by. (w.resource, w.names, w.aims, (w.lockspace, stands_in x.setting.layout m at d w.whole less path (by ∙ stands) ∙ w.spot), seeks);
     })
-
--- Without pairs a block has one place.
-place_plain : (g : Layout) → g.paired ≡ false → (base id turn : ℕ) → block_place g base id turn ≡ block_offset g base id
-place_plain g plain base id turn = ap (λ b. elim b as (λ x. ℕ) [ false ↦ block_offset g base id | true ↦ pair_offset g base id (is_first_turn turn) ]) plain
-
-block_low : (x : Step) (s : Session) (at : Spot) (j id : ℕ) → Works x s at j → id ≤ x.setting.layout.hosts → x.setting.layout.sector * (id + 1) < x.setting.layout.area
-block_low x s at j id w most = w.room.blocks id most
 
 host_one : (x : Step) (s : Session) (at : Spot) (j : ℕ) → Works x s at j → x.setting.layout.sector * (1 + 1) < x.setting.layout.area
 host_one x s at j w = w.room.first
@@ -163,11 +191,9 @@ pub work_allowed : (x y : Step) (s : Session) (at : Spot) (j : ℕ) (n : LeaseNe
 work_allowed x y s at j No_lease same back w asks after = tt
 work_allowed x y s at j (ReadFor step) same back w asks after = reads_allowed x y s at j step same w asks
 work_allowed x y s at j (WriteBlock step b) same back w asks after =
-    let turn : ℕ = next_turn y.setting (seen y) s at in (
-      w.has,
-      λ i of. work_fits x s at j step (block_place y.setting.layout at.base s.id turn) (x.setting.layout.sector * (s.id + 1)) i w asks (block_low x s at j s.id w w.host)
-          (ap (λ g. block_place g at.base s.id turn) same ∙ place_plain x.setting.layout w.plain at.base s.id turn) of,
-    )
+    let turn : ℕ = next_turn y.setting (seen y) s at in
+    let place : IsWithin x.setting.layout at.base (block_place x.setting.layout at.base s.id turn) = w.room.blocks at.base s.id turn w.host in
+    (w.has, λ i of. work_fits x s at j step (block_place y.setting.layout at.base s.id turn) place.above i w asks place.less (ap (λ g. block_place g at.base s.id turn) same ∙ place.is) of)
 work_allowed x y s at j (WriteLeader step l) same back w asks after = (w.has, λ i of. work_fits x s at j step at.base 0 i w asks w.room.whole (plus_zero at.base) of)
 work_allowed x y s at j (AnswerJob r) same back w asks after = λ i is. (subst (λ n. IsNumbered x n) (some_value j i is) (work_numbered x s at j w), after r refl)
 work_allowed x y s at j (GrantJob mode lver) same back w asks after =

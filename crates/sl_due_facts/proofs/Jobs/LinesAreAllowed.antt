@@ -1,7 +1,7 @@
 -- What a command line makes due is allowed: its job is new.
 use Rattle.sl_trace.specs.declared.lease.Aim.TheVariants.{Converts}
-use Rattle.sl_trace.proofs.PlainWork.{within_plain}
 use Rattle.sl_acts.proofs.DecisionsAreTheirs.{Of}
+use Rattle.sl_acts.proofs.Pairs.Decisions.{within_cases}
 use Rattle.sl_acts.specs.Acts.{Has, next_of_conversion, next_of_release}
 use Rattle.sl_area.specs.Layouts.{Layout}
 use Rattle.sl_area.specs.Places.{is_base, value_offset}
@@ -16,12 +16,12 @@ use Rattle.sl_due_facts.proofs.Jobs.EffectsAreAllowed.{DecisionAllowed, GrantAll
 use Rattle.sl_due_facts.proofs.Jobs.JobFactsGrow.{Both, CallFits, IsFree, IsNumbered}
 use Rattle.sl_due_facts.proofs.Jobs.JobsAreAllowed.{MayCall, MayReply, MayStart, Meanwhile, caller_numbered, late_unless_told, starts_nothing, stops_allowed}
 use Rattle.sl_due_facts.proofs.Jobs.JobsAreNumbered.{line_seen, next_is_new}
-use Rattle.sl_due_facts.proofs.Jobs.LeaseCallsFit.{AsksFor, Works, asks_late, grant_allowed, session_host, work_allowed}
-use Rattle.sl_due_facts.proofs.Jobs.RepliesComeAfter.{mapped_or, release_late}
+use Rattle.sl_due_facts.proofs.Jobs.LeaseCallsFit.{AsksFor, Works, asks_apart, grant_allowed, session_host, work_allowed}
+use Rattle.sl_due_facts.proofs.Jobs.RepliesComeAfter.{mapped_or, release_within}
 use Rattle.sl_run.specs.Lawful.{IsSetting}
 use Rattle.sl_trace.specs.Ballots.{moded_block}
 use Rattle.sl_trace.specs.Jobs.{aim_of_command, command_numbered, command_of, resource_named}
-use Rattle.sl_trace.specs.LeaseWork.{LeasePlace, convert_next, lease_place, release_next, within_turn}
+use Rattle.sl_trace.specs.LeaseWork.{LeasePlace, convert_next, lease_place, within_turn}
 use Rattle.sl_trace.specs.Leases.{LeaseKnown, holdings_on, known, spot_of}
 use Rattle.sl_trace.specs.declared.lease.LeaseNext.{LeaseNext}
 use Rattle.sl_trace.specs.declared.lease.LeaseNext.TheVariants.{Nothing as No_lease, ReadFor, WriteBlock}
@@ -53,7 +53,7 @@ use Rattle.sl_words.proofs.WordLaws.{and_true}
 use Rattle.std.proofs.Common.{ap, ap₂, arith, inl, inr, refl, subst, sym, ◌∙◌}
 use Rattle.std.proofs.lemmas.Bool.{eqb-true}
 use Rattle.std.proofs.lemmas.Slice.Eq.{bytes_eq-Decides}
-use Rattle.std.specs.Prelude.{Contains, IsSome, IsTrue, List, Ok, Result, Some, [], bytes_eq, false, length, option_and_then, true, ℕ, ◌+◌, ◌-◌, ◌<◌, ◌==◌, ◌≡◌, ◌⊎◌}
+use Rattle.std.specs.Prelude.{Contains, IsSome, IsTrue, List, Ok, Result, Some, [], bytes_eq, length, option_and_then, true, ℕ, ◌+◌, ◌-◌, ◌<◌, ◌==◌, ◌≡◌, ◌⊎◌}
 
 -- The step with its line seen.
 abbrev lined : List ℕ → Step → Step
@@ -116,7 +116,6 @@ new_works x text c s r setting h wake bare says has on aims =
       whole = base_whole x.setting.layout r.offset (resource_base x.setting.layout c r (setting.reads text c says) on.0);
       room = roomy x.setting setting;
       host = session_host x.setting (seen (with_input (Line text) x)) s setting (got_inside (sessions x.setting (seen (with_input (Line text) x))) s.number s has);
-      plain = setting.unpaired;
     }
 
 -- A call for a request or a value.
@@ -161,8 +160,8 @@ shares_allowed : (x : Step) (text : List ℕ) (c : Command) (lver : ℕ) → x.i
 shares_allowed x text c lver wake says =
     grant_allowed (with_input (Line text) x) (next_job x.setting (seen x)) lver c (new_numbered x text wake, late_on_line x text (Granted lver)) (new_command x text c wake says)
 
-convert_within : (r : ResourceArg) (p : LeasePlace) (k : LeaseKnown) (mode : Mode) → p.layout.paired ≡ false → AsksFor r (within_turn p k (Converts mode) (convert_next k mode r.name))
-convert_within r p k mode plain = subst (λ n. AsksFor r n) (sym (within_plain p k (Converts mode) (convert_next k mode r.name) plain)) (convert_asks r k mode)
+convert_within : (r : ResourceArg) (p : LeasePlace) (k : LeaseKnown) (mode : Mode) → AsksFor r (within_turn p k (Converts mode) (convert_next k mode r.name))
+convert_within r p k mode = within_cases (AsksFor r) p k (Converts mode) (convert_next k mode r.name) (λ fits. convert_asks r k mode) (λ paired over writes. tt)
 
 -- All decisions but one that begins a session.
 pub decision_allowed : (x : Step) (text : List ℕ) (c : Command) (d : Decision) → IsSetting x.setting → Both x → x.input ≡ Wake → x.effects.calls ≡ [] → x.setting.read text ≡ Ok c → Of (Has (with_input (Line text) x)) d
@@ -185,13 +184,13 @@ decision_allowed x text c (GivesUp s g) setting h wake bare says has fits =
     let works : Works w s (spot_of_grant g) j = subst (λ at. Works w s at j) (sym (held_spot (seen x) s (spot_of r) g fits.1.3)) (new_works x text c s r setting h wake bare says has fits.1.1 fits.1.2) in
     inr (
       (new_numbered x text wake, late_on_line x text Done),
-      work_allowed w y s (spot_of_grant g) j n refl (λ i k reads. reads) works (asks_late works.resource n (release_late (lease_place x.setting s) (known x.setting (seen y) s (spot_of_grant g)) g.mode g.lver)) (λ q is. late_on_line x text q),
+      work_allowed w y s (spot_of_grant g) j n refl (λ i k reads. reads) works (asks_apart works.resource n (release_within (lease_place x.setting s) (known x.setting (seen y) s (spot_of_grant g)) g.mode g.lver)) (λ q is. late_on_line x text q),
     )
 decision_allowed x text c (TakesOver s g) setting h wake bare says has fits = inr (shares_allowed x text c g.lver wake says)
 decision_allowed x text c (ConvertsTo s r mode) setting h wake bare says has fits =
     let w : Step = with_input (Line text) x in
     let works : Works w s (spot_of r) (next_job x.setting (seen x)) = new_works x text c s r setting h wake bare says has fits.1 fits.2 in
-    inr (work_allowed w w s (spot_of r) (next_job x.setting (seen x)) (next_of_conversion x.setting (seen w) s (spot_of r) mode r.name) refl (λ i k reads. reads) works (convert_within r (lease_place x.setting s) (known x.setting (seen w) s (spot_of r)) mode setting.unpaired) (λ q is. late_on_line x text q))
+    inr (work_allowed w w s (spot_of r) (next_job x.setting (seen x)) (next_of_conversion x.setting (seen w) s (spot_of r) mode r.name) refl (λ i k reads. reads) works (convert_within r (lease_place x.setting s) (known x.setting (seen w) s (spot_of r)) mode) (λ q is. late_on_line x text q))
 decision_allowed x text c (Requests s r) setting h wake bare says has fits =
     inr (
       has,

@@ -5,19 +5,20 @@ use Rattle.sl_trace.specs.declared.session.Session.{Session}
 use Rattle.sl_trace.specs.declared.effects.Spot.{Spot}
 use Rattle.sl_acts.specs.Acts.{next_of_settling}
 use Rattle.sl_area.specs.Layouts.{Layout, record_in, sector_with}
-use Rattle.sl_area.specs.Places.{BlocksRead, area_blocks, blocks_in, blocks_of, leader_of, leader_read, read_at}
+use Rattle.sl_acts.proofs.Pairs.Decisions.{asked_is, bytes_are, settling_is, within_cases}
+use Rattle.sl_area.specs.Places.{BlocksRead, blocks_of, leader_of, leader_read, read_at}
 use Rattle.sl_due.specs.DueAnswers.{set_reply}
 use Rattle.sl_due.specs.DueRequests.{request_refusal, value_reply}
 use Rattle.sl_due_facts.proofs.Jobs.CallsStay.{is_special}
 use Rattle.sl_trace.specs.Ballots.{is_ahead, moded_block, phase1_block, same_owner, stop_of, value_of}
-use Rattle.sl_trace.specs.LeaseWork.{LeasePlace, after_bytes, after_clearing, after_freeing, after_moding, after_phase1, after_phase2, after_read, after_take, after_write, area_next, asked_again, begin_next, begin_or_refuse, convert_next, first_step, heard, leader_for, lease_next, lease_place, looks_for_shared, lost_next, named_area_next, owes_block, phase1_next, phase2_next, refuses, refuses_block, release_next, settle_begin, settle_next, settle_owed, stop_reply, stopped_next, unstopped_next, whole_area_next, within_turn, won_next}
+use Rattle.sl_trace.specs.LeaseWork.{LeasePlace, after_bytes, after_clearing, after_freeing, after_moding, after_phase1, after_phase2, after_read, after_take, after_write, area_next, begin_next, begin_or_refuse, convert_next, first_step, heard, leader_for, lease_next, lease_place, looks_for_shared, lost_next, named_area_next, phase1_next, phase2_next, read_of_step, refuses, release_next, settle_next, settle_owed, stop_reply, stopped_next, unstopped_next, whole_area_next, within_turn, won_next}
 use Rattle.sl_trace.specs.Leases.{LeaseKnown, instance_for, is_leader_of, known, mode_gen_of, owed, owed_free, own_known, shared_elsewhere, value_written}
 use Rattle.sl_trace.specs.declared.lease.Aim.{Aim}
 use Rattle.sl_trace.specs.declared.lease.Aim.TheVariants.{Acquires, Converts, Releases, Settles}
 use Rattle.sl_trace.specs.declared.lease.Instance.{Instance}
 use Rattle.sl_trace.specs.declared.lease.Instance.TheVariants.{Begins, HeldAlready}
 use Rattle.sl_trace.specs.declared.lease.LeaseNext.{LeaseNext}
-use Rattle.sl_trace.specs.declared.lease.LeaseNext.TheVariants.{AnswerJob, BecomeExclusive, BecomeShared, GrantJob, Nothing as No_lease, ReadFor, WriteBlock, WriteLeader}
+use Rattle.sl_trace.specs.declared.lease.LeaseNext.TheVariants.{AnswerJob, BecomeExclusive, BecomeShared, Nothing as No_lease, ReadFor, WriteBlock, WriteLeader}
 use Rattle.sl_trace.specs.declared.lease.Owed.{Owed}
 use Rattle.sl_trace.specs.declared.lease.Owed.TheVariants.{BallotOwed, FreeOwed, ModeOwed}
 use Rattle.sl_trace.specs.declared.lease.Stop.{Stop}
@@ -189,8 +190,10 @@ wake_late l now ms = late_delta (next_on_wake l now ms) (wake_apart l now ms)
 
 -- ---- a lease
 
+-- No read that seeks a resource, nor one that is made once more.
 abbrev pub IsNoSearch : LeaseStep → Type 0
 IsNoSearch (ReadArea name) = ⊥
+IsNoSearch (ReadAgain read) = ⊥
 IsNoSearch step = Unit {0}
 
 abbrev pub IsApartLease : LeaseNext → Type 0
@@ -288,12 +291,21 @@ lease_read_apart p k aim leader blocks Phase2Read =
     mapped_or IsApartLease (λ own. after_phase2 p k aim own (stop_of own blocks)) k.own No_lease (λ own. phase2_read_apart p k aim own (stop_of own blocks)) tt
 lease_read_apart p k aim leader blocks step = tt
 
-bytes_apart : (p : LeasePlace) (k : LeaseKnown) (aim : Aim) (bytes : List ℕ) (step : LeaseStep) → IsApartLease (after_bytes p k aim bytes step)
-unfolding after_bytes
+-- Or a read is made once more, which is the one of this step.
+abbrev pub IsApartFrom : LeaseStep → LeaseNext → Type 0
+IsApartFrom step (ReadFor (ReadAgain read)) = read_of_step step ≡ Some read
+IsApartFrom step n = IsApartLease n
+
+apart_from : (step : LeaseStep) (n : LeaseNext) → IsApartLease n → IsApartFrom step n
+apart_from step (ReadFor (ReadAgain read)) h = absurd h
+apart_from step n h = h
+
+bytes_apart : (p : LeasePlace) (k : LeaseKnown) (aim : Aim) (bytes : List ℕ) (step : LeaseStep) → IsApartFrom step (after_bytes p k aim bytes step)
 bytes_apart p k aim bytes step =
     let r : BlocksRead = heard p.layout k bytes step in
-    on_option IsApartLease (asked_again p.layout bytes step) (after_read p k aim (leader_read p.layout bytes r) (blocks_of p.layout r) (first_step step)) (λ read. ReadFor (ReadAgain read))
-    (lease_read_apart p k aim (leader_read p.layout bytes r) (blocks_of p.layout r) (first_step step)) (λ read. tt)
+    let n : LeaseNext = after_read p k aim (leader_read p.layout bytes r) (blocks_of p.layout r) (first_step step) in
+    bytes_are (IsApartFrom step) p k aim bytes step (λ read asked. (asked_is p.layout bytes step read asked).first)
+    (λ once. apart_from step n (lease_read_apart p k aim (leader_read p.layout bytes r) (blocks_of p.layout r) (first_step step)))
 
 taken_apart : (k : LeaseKnown) (aim : Aim) (n : ℕ) → IsApartLease (after_take k aim n)
 taken_apart k (Acquires Exclusive) n = tt
@@ -330,61 +342,52 @@ lease_write_apart p k aim n FreeLeader = leader_freed_apart p k aim n
 lease_write_apart p k aim n ClearMode = cleared_apart p k aim
 lease_write_apart p k aim n step = tt
 
-pub lease_apart : (p : LeasePlace) (k : LeaseKnown) (aim : Aim) (call n : ℕ) (step : LeaseStep) (answer : Answer) → IsApartLease (lease_next p k aim call n step answer)
+lease_apart : (p : LeasePlace) (k : LeaseKnown) (aim : Aim) (call n : ℕ) (step : LeaseStep) (answer : Answer) → IsApartFrom step (lease_next p k aim call n step answer)
 unfolding lease_next
 lease_apart p k aim call n step (Read bytes) = bytes_apart p k aim bytes step
-lease_apart p k aim call n step Written = lease_write_apart p k aim n step
-lease_apart p k aim call n step Failed = refuses_apart aim (IoFault call) refl
+lease_apart p k aim call n step Written = apart_from step (after_write p k aim n step) (lease_write_apart p k aim n step)
+lease_apart p k aim call n step Failed = apart_from step (refuses aim (IoFault call)) (refuses_apart aim (IoFault call) refl)
 
 pub release_apart : (p : LeasePlace) (k : LeaseKnown) (mode : Mode) (n : ℕ) → IsApartLease (release_next p k mode n)
 release_apart p k Exclusive n = tt
 release_apart p k Shared n = mapped_or IsApartLease (λ own. WriteBlock ClearMode (moded_block own false 0)) k.own No_lease (λ own. tt) tt
 
 -- Nor by the limit of turns, nor where a settling reads first.
-block_apart : (aim : Aim) (n : LeaseNext) → IsApartLease n → IsApartLease (refuses_block aim n)
-block_apart aim No_lease h = h
-block_apart aim (ReadFor step) h = h
-block_apart aim (WriteBlock step b) h = refuses_apart aim (LimitReached TurnLimit) refl
-block_apart aim (WriteLeader step l) h = h
-block_apart aim (AnswerJob r) h = h
-block_apart aim (GrantJob mode lver) h = h
-block_apart aim (BecomeShared lver l) h = h
-block_apart aim (BecomeExclusive lver b) h = refuses_apart aim (LimitReached TurnLimit) refl
-
 within_apart : (p : LeasePlace) (k : LeaseKnown) (aim : Aim) (n : LeaseNext) → IsApartLease n → IsApartLease (within_turn p k aim n)
-unfolding within_turn
-within_apart p k aim n h = on_bool IsApartLease (p.layout.paired && not (is_number (k.turn + 1))) n (refuses_block aim n) h (block_apart aim n h)
+within_apart p k aim n h = within_cases IsApartLease p k aim n (λ fits. h) (λ paired over writes. refuses_apart aim (LimitReached TurnLimit) refl)
 
-settle_begins_apart : (p : LeasePlace) (k : LeaseKnown) → IsApartLease (settle_begin p k)
-unfolding settle_begin
-settle_begins_apart p k = on_bool IsApartLease (p.layout.paired && owes_block (owed k)) (settle_next p k) (ReadFor ReadBeforeBlock) (settle_apart p k) tt
+pub lease_within : (p : LeasePlace) (k : LeaseKnown) (aim : Aim) (call n : ℕ) (step : LeaseStep) (answer : Answer) → IsApartFrom step (within_turn p k aim (lease_next p k aim call n step answer))
+lease_within p k aim call n step answer =
+    within_cases (IsApartFrom step) p k aim (lease_next p k aim call n step answer) (λ fits. lease_apart p k aim call n step answer)
+    (λ paired over writes. apart_from step (refuses aim (LimitReached TurnLimit)) (refuses_apart aim (LimitReached TurnLimit) refl))
 
 -- So none of a lease is special.
 abbrev pub IsLateLease : LeaseNext → Type 0
 IsLateLease (AnswerJob r) = is_special r ≡ false
-IsLateLease (ReadFor step) = IsNoSearch step
-IsLateLease (WriteBlock step b) = IsNoSearch step
-IsLateLease (WriteLeader step l) = IsNoSearch step
 IsLateLease n = Unit {0}
 
 late_lease : (n : LeaseNext) → IsApartLease n → IsLateLease n
 late_lease (AnswerJob r) h = first_off (is_special r) (tells_value r) h
-late_lease (ReadFor step) h = h
-late_lease (WriteBlock step b) h = h
-late_lease (WriteLeader step l) h = h
 late_lease n h = tt
 
+pub late_from : (step : LeaseStep) (n : LeaseNext) → IsApartFrom step n → IsLateLease n
+late_from step (AnswerJob r) h = first_off (is_special r) (tells_value r) h
+late_from step n h = tt
+
+pub settle_within : (st : Setting) (es : Trace) (s : Session) (at : Spot) → IsApartLease (next_of_settling st es s at)
+settle_within st es s at = settling_is IsApartLease st es s at (λ paired owes. tt) (λ none. settle_apart (lease_place st s) (known st es s at))
+
 pub settle_late : (st : Setting) (es : Trace) (s : Session) (at : Spot) → IsLateLease (next_of_settling st es s at)
-settle_late st es s at =
-    late_lease (next_of_settling st es s at)
-    (within_apart (lease_place st s) (known st es s at) Settles (settle_begin (lease_place st s) (known st es s at)) (settle_begins_apart (lease_place st s) (known st es s at)))
+settle_late st es s at = late_lease (next_of_settling st es s at) (settle_within st es s at)
 
 pub lease_late : (p : LeasePlace) (k : LeaseKnown) (aim : Aim) (call n : ℕ) (step : LeaseStep) (answer : Answer) → IsLateLease (within_turn p k aim (lease_next p k aim call n step answer))
-lease_late p k aim call n step answer =
-    late_lease (within_turn p k aim (lease_next p k aim call n step answer)) (within_apart p k aim (lease_next p k aim call n step answer) (lease_apart p k aim call n step answer))
+lease_late p k aim call n step answer = late_from step (within_turn p k aim (lease_next p k aim call n step answer)) (lease_within p k aim call n step answer)
+
+pub release_within : (p : LeasePlace) (k : LeaseKnown) (mode : Mode) (n : ℕ) → IsApartLease (within_turn p k Releases (release_next p k mode n))
+release_within p k mode n = within_apart p k Releases (release_next p k mode n) (release_apart p k mode n)
 
 pub release_late : (p : LeasePlace) (k : LeaseKnown) (mode : Mode) (n : ℕ) → IsLateLease (within_turn p k Releases (release_next p k mode n))
-release_late p k mode n = late_lease (within_turn p k Releases (release_next p k mode n)) (within_apart p k Releases (release_next p k mode n) (release_apart p k mode n))
+release_late p k mode n = late_lease (within_turn p k Releases (release_next p k mode n)) (release_within p k mode n)
 
 -- A conversion begins with no special reply.
 abbrev pub IsPlainly : LeaseNext → Type 0
@@ -395,21 +398,8 @@ convert_by : (k : LeaseKnown) (mode : Mode) (name : List ℕ) → IsPlainly (con
 convert_by k Exclusive name = tt
 convert_by k Shared name = mapped_or IsPlainly (λ own. WriteBlock SetMode (moded_block own true k.self.generation)) k.own No_lease (λ own. tt) tt
 
-convert_within : (mode : Mode) (n : LeaseNext) → IsPlainly n → IsPlainly (refuses_block (Converts mode) n)
-convert_within mode No_lease h = h
-convert_within mode (ReadFor step) h = h
-convert_within mode (WriteBlock step b) h = refl
-convert_within mode (WriteLeader step l) h = h
-convert_within mode (AnswerJob r) h = h
-convert_within mode (GrantJob other lver) h = h
-convert_within mode (BecomeShared lver l) h = h
-convert_within mode (BecomeExclusive lver b) h = refl
-
 pub convert_late : (p : LeasePlace) (k : LeaseKnown) (mode : Mode) (name : List ℕ) → IsPlainly (within_turn p k (Converts mode) (convert_next k mode name))
-unfolding within_turn
-convert_late p k mode name =
-    on_bool IsPlainly (p.layout.paired && not (is_number (k.turn + 1))) (convert_next k mode name) (refuses_block (Converts mode) (convert_next k mode name)) (convert_by k mode name)
-    (convert_within mode (convert_next k mode name) (convert_by k mode name))
+convert_late p k mode name = within_cases IsPlainly p k (Converts mode) (convert_next k mode name) (λ fits. convert_by k mode name) (λ paired over writes. refl)
 
 -- ---- a value
 

@@ -21,7 +21,7 @@ use Rattle.sl_plain.proofs.Lists.{any_found, contains_map, contains_none, find_i
 use Rattle.sl_plain.proofs.Options.{none_is, not_some, some_of}
 use Rattle.sl_sector.specs.declared.sector.DeltaRec.{DeltaRec}
 use Rattle.sl_sector.specs.declared.sector.DeltaState.TheVariants.{Live}
-use Rattle.sl_sector.specs.declared.sector.Rec.TheVariants.{BlockIs, LeaderIs, RequestIs}
+use Rattle.sl_sector.specs.declared.sector.Rec.TheVariants.{RequestIs}
 use Rattle.sl_due_facts.proofs.Sessions.DeltaGrow.{DeltaCall, DeltaPart, DeltaReply, FreedBefore, GoodDelta}
 use Rattle.sl_due_facts.proofs.Sessions.NamesAreAllowed.{caller_joined, heard_mine}
 use Rattle.sl_trace.specs.Deltas.{DeltaLease, delta_known, delta_of_session, delta_record, has_seq_left, is_renewal_due, next_after_free, next_after_renewal, next_renewal}

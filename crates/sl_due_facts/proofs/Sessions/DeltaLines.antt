@@ -20,13 +20,10 @@ use Rattle.sl_due_facts.proofs.Jobs.QuietLines.{answered_leaving, new_leaving}
 use Rattle.sl_due_facts.proofs.Jobs.RepliesComeAfter.{IsLateLease, IsPlainly, convert_late, release_late}
 use Rattle.sl_due_facts.proofs.Jobs.SessionsHaveJobs.{number_taken}
 use Rattle.sl_due_facts.proofs.Jobs.SessionsStand.{joined_then}
-use Rattle.sl_trace.specs.Ballots.{moded_block}
-use Rattle.sl_trace.specs.LeaseWork.{convert_next, lease_place, release_next}
-use Rattle.sl_trace.specs.Leases.{LeaseKnown, holdings_on, known, spot_of}
+use Rattle.sl_trace.specs.LeaseWork.{lease_place}
+use Rattle.sl_trace.specs.Leases.{holdings_on, known, spot_of}
 use Rattle.sl_trace.specs.declared.lease.LeaseNext.{LeaseNext}
-use Rattle.sl_trace.specs.declared.lease.LeaseNext.TheVariants.{AnswerJob, Nothing as No_lease, WriteBlock}
 use Rattle.sl_plain.proofs.Lists.{got_inside}
-use Rattle.sl_sector.specs.declared.sector.Block.{Block}
 use Rattle.sl_sector.specs.declared.sector.Rec.TheVariants.{ValueIs}
 use Rattle.sl_due_facts.proofs.Sessions.DeltaConditions.{active_unfreed, freed_before, grant_delta, lease_delta, plain_call, plain_reply}
 use Rattle.sl_due_facts.proofs.Sessions.DeltaFactsAreKept.{part, woken_line}
@@ -42,21 +39,19 @@ use Rattle.sl_trace.specs.declared.command.Command.{Command}
 use Rattle.sl_trace.specs.declared.command.Command.TheVariants.{RemLockspace}
 use Rattle.sl_trace.specs.declared.command.LockspaceArg.{LockspaceArg}
 use Rattle.sl_trace.specs.declared.effects.Grant.{Grant}
-use Rattle.sl_trace.specs.declared.effects.LeaseStep.TheVariants.{ReadArea, SetMode}
-use Rattle.sl_trace.specs.declared.effects.Mode.{Mode}
-use Rattle.sl_trace.specs.declared.effects.Mode.TheVariants.{Exclusive, Shared}
+use Rattle.sl_trace.specs.declared.effects.LeaseStep.TheVariants.{ReadArea}
+use Rattle.sl_trace.specs.declared.effects.Mode.TheVariants.{Shared}
 use Rattle.sl_trace.specs.declared.effects.Op.TheVariants.{ReadSectors, WriteRecord}
 use Rattle.sl_trace.specs.declared.effects.Purpose.TheVariants.{Lease, RequestRead, ValueRead, ValueWrite}
 use Rattle.sl_trace.specs.declared.effects.Work.TheVariants.{ForJob}
 use Rattle.sl_trace.specs.declared.input.Input.TheVariants.{Line, Wake}
 use Rattle.sl_trace.specs.declared.reply.Reply.{Reply}
 use Rattle.sl_trace.specs.declared.reply.Reply.TheVariants.{Done, Recovering}
-use Rattle.sl_words.proofs.CaseLaws.{none_some, true_is_false}
+use Rattle.sl_words.proofs.CaseLaws.{none_some}
 use Rattle.sl_words.proofs.WordLaws.{and_true}
 use Rattle.sl_words.specs.Bounds.{is_number}
 use Rattle.std.proofs.Common.{ap, ap₂, arith, inl, inr, refl, subst, sym, ◌∙◌}
-use Rattle.std.specs.Option.{option_map_or}
-use Rattle.std.specs.Prelude.{Bool, Contains, IsSome, IsTrue, List, None, Ok, Option, Some, [], false, filter, is_none, is_some, true, ℕ, ◌&&◌, ◌+◌, ◌<◌, ◌∷◌, ◌≡◌, ◌≤◌, ◌⊎◌}
+use Rattle.std.specs.Prelude.{Contains, IsSome, IsTrue, List, None, Ok, Option, Some, [], filter, is_none, is_some, true, ℕ, ◌&&◌, ◌+◌, ◌<◌, ◌∷◌, ◌≡◌, ◌≤◌, ◌⊎◌}
 
 no_such_job : (x : Step) (s : Session) → Contains (sessions x.setting (seen x)) s → s.job ≡ Some (next_job x.setting (seen x)) → ⊥
 no_such_job x s there its = let low : next_job x.setting (seen x) < next_job x.setting (seen x) = number_taken x.setting (seen x) s (next_job x.setting (seen x)) there its in omega (arith, low)

@@ -2,7 +2,7 @@
 -- is still to come, this stands behind it.
 use Rattle.sl_run.specs.LawfulModes.{AllShared, IsDone}
 use Rattle.sl_trace.specs.Jobs.{aim_of_command}
-use Rattle.sl_trace.specs.Leases.{block_written, ended_ballot, is_free_write, lease_calls, lver_written, spot_of_call}
+use Rattle.sl_trace.specs.Leases.{block_written, ended_ballot, is_again, is_free_write, lease_calls, lver_written, spot_of_call}
 use Rattle.sl_trace.specs.declared.lease.Aim.TheVariants.{Acquires, Converts}
 use Rattle.sl_sector.specs.declared.sector.Block.{Block}
 use Rattle.sl_trace.specs.Sessions.{generation_of, me, session_numbered}
@@ -19,6 +19,7 @@ use Rattle.sl_trace.specs.declared.effects.Mode.{Mode}
 use Rattle.sl_trace.specs.declared.effects.Purpose.TheVariants.{Lease}
 use Rattle.sl_trace.specs.declared.effects.Spot.{Spot}
 use Rattle.sl_trace.specs.declared.effects.Work.TheVariants.{ForJob}
+use Rattle.sl_words.specs.Words.{first_of_list}
 use Rattle.std.specs.Prelude.{Contains, IsTrue, List, Option, Some, [], true, ℕ, ◌++◌, ◌∷◌, ◌≡◌, ◌≤◌}
 
 -- The write of a lease's job whose answer was heard, done; no call was made since.
@@ -40,11 +41,15 @@ pub record FreedForJob (st : Setting) (t : Trace) (s : Session) (at : Spot) (n j
   pub mode_answer : Answered
   pub free_answer : Answered
   pub of_lease : Contains (lease_calls st t s at) mode × Contains (lease_calls st t s at) free
+  -- the call with which the read began: itself, or the first one where it was made once more
+  pub begun : Submitted
   pub step : LeaseStep
-  pub of_job : read.call.purpose ≡ Lease (ForJob j) step
+  pub of_job : Contains (lease_calls st t s at) begun × (begun.call.purpose ≡ Lease (ForJob j) step)
+  pub since : begun.at ≤ read.at
   pub after : List Submitted
   pub before : List Submitted
   pub split : lease_calls st t s at ≡ after ++ read ∷ before
+  pub first_since : IsTrue (is_again read) → (f : Submitted) → first_of_list before ≡ Some f → begun.at ≤ f.at
   pub won : ended_ballot st.layout read before ≡ Some (n, me t s)
   pub moded : (read.answer ≡ Some read_answer) × (read_answer.at ≤ mode.at) × (block_written mode ≡ Some block)
       × (block.shared ≡ true) × (block.mode_gen ≡ generation_of t s) × (block.lver ≡ n) × IsDone mode mode_answer

@@ -9,7 +9,8 @@ use Rattle.sl_trace.specs.declared.command.Command.TheVariants.{AddLockspace, Ge
 use Rattle.sl_trace.specs.declared.command.Command.{Command}
 use Rattle.sl_trace.specs.declared.command.LockspaceArg.{LockspaceArg}
 use Rattle.sl_trace.specs.declared.command.ResourceArg.{ResourceArg}
-use Rattle.sl_trace.specs.declared.effects.LeaseStep.TheVariants.{ReadArea}
+use Rattle.sl_trace.specs.declared.effects.LeaseRead.TheVariants.{OfArea}
+use Rattle.sl_trace.specs.declared.effects.LeaseStep.TheVariants.{ReadAgain, ReadArea}
 use Rattle.sl_trace.specs.declared.effects.LeaseStep.{LeaseStep}
 use Rattle.sl_trace.specs.declared.effects.Purpose.TheVariants.{Joining, Lease, Leaving, RequestRead, RequestWrite, ValueRead, ValueWrite}
 use Rattle.sl_trace.specs.declared.effects.Purpose.{Purpose}
@@ -19,9 +20,10 @@ use Rattle.std.specs.Prelude.{Bool, Contains, IsSome, IsTrue, List, Option, Some
 abbrev pub IsOfResource : Setting → Session → Submitted → ResourceArg → Type 0
 IsOfResource st s m r = (r.lockspace ≡ s.lockspace) × (spot_of_call st.layout m ≡ spot_of r)
 
--- A lease's call, by its step: the read of the area seeks the resource.
+-- A lease's call, by its step: the read of the area seeks the resource, also where it is made once more.
 abbrev pub SeeksResource : ResourceArg → LeaseStep → Type 0
 SeeksResource r (ReadArea name) = name ≡ r.name
+SeeksResource r (ReadAgain (OfArea name)) = name ≡ r.name
 SeeksResource r step = Unit {0}
 
 -- What a job's call has to do with its command, by what the call is for.

@@ -8,7 +8,7 @@ use Rattle.sl_acts.specs.SoFar.{entry_of}
 use Rattle.sl_due.specs.Due.{IsDue, before_input, due_step}
 use Rattle.sl_due.specs.DueFirst.{begin_recoveries}
 use Rattle.sl_due.specs.Steps.{Step, begin_step}
-use Rattle.sl_due_law.proofs.Causes.AtOnceAreCaused.{at_once_are_caused}
+use Rattle.sl_due_law.proofs.Causes.LimitedAtLines.{at_once_are_caused, limited_at_lines}
 use Rattle.sl_due_law.proofs.Causes.CauseFactsHold.{traces_stand}
 use Rattle.sl_due_law.proofs.Causes.CausesAreKept.{causes_are_kept, causes_begin}
 use Rattle.sl_due_law.proofs.Causes.DoneAtLines.{done_at_lines}
@@ -37,7 +37,8 @@ use Rattle.sl_trace.specs.declared.effects.JobReply.{JobReply}
 use Rattle.sl_trace.specs.declared.input.Input.{Input}
 use Rattle.sl_trace.specs.declared.input.Input.TheVariants.{Answer as Told, Exit, Line, Number, Spawned, Wake}
 use Rattle.sl_trace.specs.declared.reply.Reply.{Reply}
-use Rattle.sl_trace.specs.declared.reply.Reply.TheVariants.{Done, Granted, Recovering}
+use Rattle.sl_trace.specs.declared.reply.Limited.TheVariants.{Turn as TurnLimit}
+use Rattle.sl_trace.specs.declared.reply.Reply.TheVariants.{Done, Granted, Limit as LimitReached, Recovering}
 use Rattle.sl_words.proofs.CaseLaws.{not_both, true_is_false}
 use Rattle.std.proofs.Common.{ap, inl, inr, refl, subst, sym, ◌∙◌}
 use Rattle.std.proofs.lemmas.Bool.{eqb-true}
@@ -120,6 +121,7 @@ open_input : (i : Input) (r : Reply) → is_line i ≡ false → is_explained i 
 open_input i (Recovering t) none hidden = true_is_false (ap (λ b. not b) (sym none) ∙ hidden)
 open_input i Done none hidden = true_is_false (ap (λ b. not b) (sym none) ∙ hidden)
 open_input i (Granted lver) none hidden = true_is_false (ap (λ b. not b) (sym none) ∙ hidden)
+open_input i (LimitReached TurnLimit) none hidden = true_is_false (ap (λ b. not b) (sym none) ∙ hidden)
 open_input i r none hidden = true_is_false hidden
 
 -- ---- each entry
@@ -144,6 +146,7 @@ by_line st past e a j text h line there found unsaid = by a.reply refl unsaid wh
   by (Recovering t) is hidden = refused_at_lines st past e text a t j h.holds.whole h.due_so line (head_is_caused st past e h.follows h.holds h.facts) there is found
   by Done is hidden = done_at_lines st past e text a j h.holds.whole h.due_so line there is found
   by (Granted lver) is hidden = granted_at_lines st past e text a lver j h.holds.whole h.due_so line there is found
+  by (LimitReached TurnLimit) is hidden = limited_at_lines st past e text a j h.holds.whole h.due_so line there is found
   by r is hidden = absurd (true_is_false hidden)
 
 reply_caused : (st : Setting) (past : Trace) (e : Entry) (a : JobReply) (j : Job) → DueEntry st past e → Contains e.effects.replies a → job_numbered st (e ∷ past) a.job ≡ Some j → CausedBy (at_its_line st past e j) a.reply

@@ -2,12 +2,15 @@
 -- grants or ends something.
 use Rattle.sl_acts.proofs.Additions.{contains_last}
 use Rattle.sl_acts.proofs.LoopsKeep.{for_each_keeps}
+use Rattle.sl_acts.proofs.Pairs.Decisions.{conversion_is, release_is}
 use Rattle.sl_acts.proofs.StepsKeep.{Fixed, due_is_of}
 use Rattle.sl_acts.proofs.TracesKeep.{due_is_seen}
 use Rattle.sl_due_law.proofs.Causes.HeadsAreEarly.{heads_are_early, last_is_silent}
 use Rattle.sl_due_law.proofs.Causes.LinesAreWell.{line_done, lines_are_well}
-use Rattle.sl_due_law.specs.Causes.LineCauses.{AtOnceAreCaused, IsBeforeInput, at_its_line}
-use Rattle.sl_due.specs.Due.{before_input, due_step}
+use Rattle.sl_due_facts.specs.Facts.Whole.{WholeTrace}
+use Rattle.sl_due_law.specs.Causes.CausedSoFar.{IsAtOnce}
+use Rattle.sl_due_law.specs.Causes.LineCauses.{IsBeforeInput, at_its_line}
+use Rattle.sl_due.specs.Due.{IsDue, before_input, due_step}
 use Rattle.sl_due.specs.DueCommands.{after_end, answer_line, carry_command, carry_decision, carry_line, decided, on_line, reply_at_once}
 use Rattle.sl_due.specs.DueFirst.{send, signal_and_refuse, signal_holders}
 use Rattle.sl_due.specs.DueLease.{carry_lease, grant_for}
@@ -32,6 +35,7 @@ use Rattle.sl_trace.specs.Traces.{Job, Setting, Trace, end_of, job_numbered, nex
 use Rattle.sl_trace.specs.declared.command.Command.TheVariants.{Acquire, RunProgram, TakeOver}
 use Rattle.sl_trace.specs.declared.command.Command.{Command}
 use Rattle.sl_trace.specs.declared.effects.Effects.{Effects}
+use Rattle.sl_trace.specs.declared.effects.Entry.{Entry}
 use Rattle.sl_trace.specs.declared.effects.Grant.{Grant}
 use Rattle.sl_trace.specs.declared.effects.JobReply.{JobReply}
 use Rattle.sl_trace.specs.declared.effects.LeaseStep.TheVariants.{ClearMode, SetMode}
@@ -42,13 +46,13 @@ use Rattle.sl_trace.specs.declared.effects.Signal.TheVariants.{Term}
 use Rattle.sl_trace.specs.declared.effects.Work.TheVariants.{ForJob}
 use Rattle.sl_trace.specs.declared.input.Input.TheVariants.{Line, Wake}
 use Rattle.sl_trace.specs.declared.input.Input.{Input}
-use Rattle.sl_trace.specs.declared.reply.Reply.TheVariants.{Done, Recovering}
+use Rattle.sl_trace.specs.declared.reply.Limited.TheVariants.{Turn as TurnLimit}
+use Rattle.sl_trace.specs.declared.reply.Reply.TheVariants.{Done, Limit as LimitReached, Recovering}
 use Rattle.sl_trace.specs.declared.reply.Reply.{Reply}
 use Rattle.sl_words.proofs.CaseLaws.{none_some, some_value, true_is_false}
 use Rattle.sl_words.specs.Results.{◌>>=◌}
 use Rattle.sl_words.specs.Words.{some_is}
 use Rattle.sl_acts.specs.Acts.{next_of_conversion, next_of_release}
-use Rattle.sl_due_facts.proofs.Jobs.PlainNexts.{conversion_plain, release_plain}
 use Rattle.std.proofs.Common.{ap, arith, inl, inr, refl, subst, sym, ◌∙◌}
 use Rattle.std.specs.Option.{option_map_or}
 use Rattle.std.specs.Prelude.{Bool, Contains, List, None, Ok, Option, Result, Some, [], false, filter, not, true, ℕ, ◌++◌, ◌<◌, ◌==◌, ◌∷◌, ◌≡◌, ◌⊎◌}
@@ -61,6 +65,15 @@ Spares P w y = (a : JobReply) → Contains y.effects.replies a → P a → Conta
 
 abbrev pub OfJob : ℕ → JobReply → Type 0
 OfJob n a = a.job ≡ n
+
+-- Whether a reply says that a turn would pass its limit.
+abbrev pub is_turn_limit : Reply → Bool
+is_turn_limit (LimitReached TurnLimit) = true
+is_turn_limit r = false
+
+-- A reply to the job that doesn't say so.
+abbrev pub OfJobBut : ℕ → JobReply → Type 0
+OfJobBut n a = (a.job ≡ n) × (is_turn_limit a.reply ≡ false)
 
 -- It has granted or ended something.
 abbrev Acted : Step → Type 0
@@ -100,7 +113,7 @@ leaving n s w =
         by (inl old) = h a old is
         by (inr new) = absurd (not_it (ap (λ (b : JobReply). b.job) new ∙ is))
 
-granting : (s : Session) (n : ℕ) (c : Command) (mode : Mode) (lver : ℕ) (w : Step) → Spares (OfJob n) w (grant_for s n c mode lver w) ⊎ Acted (grant_for s n c mode lver w)
+granting : (s : Session) (n : ℕ) (c : Command) (mode : Mode) (lver : ℕ) (w : Step) → Spares (OfJobBut n) w (grant_for s n c mode lver w) ⊎ Acted (grant_for s n c mode lver w)
 granting s n (Acquire r shared p persistent) mode lver w = inr (λ none ends. grown w.effects.grants _ none)
 granting s n (TakeOver r shared p persistent) mode lver w = inr (λ none ends. grown w.effects.grants _ none)
 granting s n (RunProgram r shared path) mode lver w = inr (λ none ends. grown w.effects.grants _ none)
@@ -121,13 +134,13 @@ acted_releasing s at n Shared lver p k y h = by k.own where
   by None = h
   by (Some own) = h
 
-acted_ending : (s : Session) (at : Spot) (n : ℕ) (g : Grant) (y : Step) → y.setting.layout.paired ≡ false → Acted y → Acted (after_end s at n g y)
-unfolding after_end
-acted_ending s at n g y plain h = by (holdings_on (seen y) s at) where
+acted_ending : (s : Session) (at : Spot) (n : ℕ) (g : Grant) (y : Step) → Acted y → Acted (after_end s at n g y)
+unfolding after_end carry_lease
+acted_ending s at n g y h = by (holdings_on (seen y) s at) where
   by : (hs : List Grant) → Acted (elim hs as (λ z. Step) [ k ∷ ks ↦ add_reply n Done y | [] ↦ carry_lease s at (ForJob n) (next_of_release y.setting (seen y) s at g) y ])
   by [] =
-      subst (λ z. Acted (carry_lease s at (ForJob n) z y)) (sym (release_plain y.setting (seen y) s at g plain))
-      (acted_releasing s at n g.mode g.lver (lease_place y.setting s) (known y.setting (seen y) s at) y h)
+      release_is (λ z. Acted (carry_lease s at (ForJob n) z y)) y.setting (seen y) s at g
+      (λ fits. acted_releasing s at n g.mode g.lver (lease_place y.setting s) (known y.setting (seen y) s at) y h) (λ paired over writes. h)
   by (k ∷ ks) = h
 
 converting_by : (P : JobReply → Type 0) (s : Session) (at : Spot) (n : ℕ) (mode : Mode) (name : List ℕ) (k : LeaseKnown) (w : Step) → Spares P w (carry_lease s at (ForJob n) (convert_next k mode name) w)
@@ -138,25 +151,31 @@ converting_by P s at n Shared name k w = by k.own where
   by None = λ a there is. there
   by (Some own) = λ a there is. there
 
-pub converting : (P : JobReply → Type 0) (s : Session) (at : Spot) (n : ℕ) (mode : Mode) (name : List ℕ) (w : Step) → w.setting.layout.paired ≡ false
+-- A conversion whose turn would pass its limit is refused, and nothing else is said.
+pub converting : (P : JobReply → Type 0) (s : Session) (at : Spot) (n : ℕ) (mode : Mode) (name : List ℕ) (w : Step) → (P (record { job = n; reply = LimitReached TurnLimit }) → ⊥)
     → Spares P w (carry_lease s at (ForJob n) (next_of_conversion w.setting (seen w) s at mode name) w)
-converting P s at n mode name w plain =
-    subst (λ z. Spares P w (carry_lease s at (ForJob n) z w)) (sym (conversion_plain w.setting (seen w) s at mode name plain)) (converting_by P s at n mode name (known w.setting (seen w) s at) w)
+unfolding carry_lease
+converting P s at n mode name w other =
+    conversion_is (λ z. Spares P w (carry_lease s at (ForJob n) z w)) w.setting (seen w) s at mode name (λ fits. converting_by P s at n mode name (known w.setting (seen w) s at) w)
+    (λ paired over writes a there is. refused a is (contains_last w.effects.replies (record { job = n; reply = LimitReached TurnLimit }) a there)) where
+      refused : (a : JobReply) → P a → Contains w.effects.replies a ⊎ (record { job = n; reply = LimitReached TurnLimit } ≡ a) → Contains w.effects.replies a
+      refused a is (inl old) = old
+      refused a is (inr new) = absurd (other (subst (λ b. P b) (sym new) is))
 
--- A command that is carried out leaves its own job, unless it grants or ends something.
-carried : (n : ℕ) (c : Command) (d : Decision) (w : Step) → w.setting.layout.paired ≡ false → reply_at_once d ≡ None → Spares (OfJob n) w (carry_decision n c d w) ⊎ Acted (carry_decision n c d w)
+-- A command that is carried out leaves its own job, unless it grants or ends something, or a turn would pass its limit.
+carried : (n : ℕ) (c : Command) (d : Decision) (w : Step) → reply_at_once d ≡ None → Spares (OfJobBut n) w (carry_decision n c d w) ⊎ Acted (carry_decision n c d w)
 unfolding carry_decision
-carried n c (Replies r) w plain is = absurd (none_some r (sym is))
-carried n c (Joins number a) w plain is = inl (λ a there is. there)
-carried n c (Leaves s) w plain is = inl (leaving n s w)
-carried n c (ReadsArea s r) w plain is = inl (λ a there is. there)
-carried n c (Shares s lver) w plain is = granting s n c Shared lver w
-carried n c (GivesUp s g) w plain is = inr (acted_ending s (spot_of_grant g) n g (add_end (end_of g) w) plain (λ grants none. grown w.effects.ends (end_of g) none))
-carried n c (TakesOver s g) w plain is = inr (acted_granting s n c g.mode g.lver w g)
-carried n c (ConvertsTo s r mode) w plain is = inl (converting (OfJob n) s (spot_of r) n mode r.name w plain)
-carried n c (Requests s r) w plain is = inl (λ a there is. there)
-carried n c (SetsValue s at v) w plain is = inl (λ a there is. there)
-carried n c (GetsValue s at) w plain is = inl (λ a there is. there)
+carried n c (Replies r) w is = absurd (none_some r (sym is))
+carried n c (Joins number a) w is = inl (λ a there is. there)
+carried n c (Leaves s) w is = inl (λ a there is. leaving n s w a there is.0)
+carried n c (ReadsArea s r) w is = inl (λ a there is. there)
+carried n c (Shares s lver) w is = granting s n c Shared lver w
+carried n c (GivesUp s g) w is = inr (acted_ending s (spot_of_grant g) n g (add_end (end_of g) w) (λ grants none. grown w.effects.ends (end_of g) none))
+carried n c (TakesOver s g) w is = inr (acted_granting s n c g.mode g.lver w g)
+carried n c (ConvertsTo s r mode) w is = inl (converting (OfJobBut n) s (spot_of r) n mode r.name w (λ is. true_is_false is.1))
+carried n c (Requests s r) w is = inl (λ a there is. there)
+carried n c (SetsValue s at v) w is = inl (λ a there is. there)
+carried n c (GetsValue s at) w is = inl (λ a there is. there)
 
 -- ---- in an entry that is due
 
@@ -179,7 +198,8 @@ pub line_says : (x : Step) (text : List ℕ) (c : Command) → x.setting.read te
 unfolding on_line
 line_says x text c says = ap (λ (o : Result Command ℕ). carry_line text (next_job x.setting (seen x)) (o >>= (λ c. Ok (c, decided x.setting (seen x) x.reading c))) x) says
 
-abbrev first_input : Trace → Input
+-- The input of the newest entry.
+abbrev pub first_input : Trace → Input
 first_input [] = Wake
 first_input (e ∷ es) = e.input
 
@@ -187,8 +207,10 @@ abbrev first_effects : Trace → Effects
 first_effects [] = no_effects
 first_effects (e ∷ es) = e.effects
 
-pub at_once_are_caused : AtOnceAreCaused
-at_once_are_caused st past e a j w due_so there o found = by (reply_at_once d) refl where
+-- All but what says that a turn would pass its limit.
+pub at_once_but : (st : Setting) (past : Trace) (e : Entry) (a : JobReply) (j : Job) → WholeTrace st past → IsDue st past e → Contains e.effects.replies a → IsAtOnce (due_step st past e.reading e.input) a
+    → job_numbered st (e ∷ past) a.job ≡ Some j → is_turn_limit a.reply ≡ false → CausedBy (at_its_line st past e j) a.reply
+at_once_but st past e a j w due_so there o found other = by (reply_at_once d) refl where
   u : Step
   u = due_step st past e.reading e.input
 
@@ -247,12 +269,12 @@ at_once_are_caused st past e a j w due_so there o found = by (reply_at_once d) r
     answered (inr new) =
         subst (λ q. CausedBy (at_its_line st past e j) q) (ap (λ (b : JobReply). b.reply) new)
         (lines_are_well st past e o.text o.command r j w due_so line says decision (ap (λ m. job_numbered st (e ∷ past) m) (sym own) ∙ found))
-  by None is = absurd (nobody (carried n o.command d (with_input (Line o.text) x) (ap (λ (g : Setting). g.layout.paired) h.setting ∙ w.setting.unpaired) is)) where
+  by None is = absurd (nobody (carried n o.command d (with_input (Line o.text) x) is)) where
     z : Step
     z = carry_decision n o.command d (with_input (Line o.text) x)
 
-    nobody : Spares (OfJob n) (with_input (Line o.text) x) z ⊎ Acted z → ⊥
-    nobody (inl spares) = not_before (spares a (replies_are None is) (own ∙ sym number))
+    nobody : Spares (OfJobBut n) (with_input (Line o.text) x) z ⊎ Acted z → ⊥
+    nobody (inl spares) = not_before (spares a (replies_are None is) (own ∙ sym number, other))
     nobody (inr acted) =
         acted (sym (ap (λ (k : Effects). k.grants) (ended ∙ is_of None is) ∙ (last_is_silent z).grants) ∙ o.ungranted)
         (sym (ap (λ (k : Effects). k.ends) (ended ∙ is_of None is) ∙ (last_is_silent z).ends) ∙ o.unended)

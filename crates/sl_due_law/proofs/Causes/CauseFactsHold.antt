@@ -7,8 +7,10 @@ use Rattle.sl_due_law.proofs.Causes.EntryMakings.{MadeIn, entry_makes}
 use Rattle.sl_due_law.proofs.Causes.ReleasedAtLines.{release_ends}
 use Rattle.sl_due_facts.proofs.Connections.DeltaPromises.{nothing_was_read}
 use Rattle.sl_due_facts.proofs.Jobs.JobsAreNumbered.{found_after, numbered_stays}
+use Rattle.sl_due_law.proofs.Whole.BusyKept.{traces_wait}
 use Rattle.sl_due_law.proofs.Whole.TracesHold.{traces_hold}
 use Rattle.sl_due_law.specs.Causes.CauseFacts.{CauseFacts, EndedAsAsked, HasEnded}
+use Rattle.sl_due_law.specs.Whole.JobLore.{AllSuit}
 use Rattle.sl_due_law.specs.Whole.Kept.{Holds}
 use Rattle.sl_run.specs.Lawful.{IsSetting}
 use Rattle.sl_plain.proofs.Lists.{contains_none, in_map}
@@ -97,10 +99,11 @@ ended_more st past e h due_so facts n j c found reads runs = by (job_numbered st
 
 -- ---- all of it
 
-pub causes_stand : (st : Setting) (past : Trace) (e : Entry) → FollowsTrace st past e → IsDue st past e → Holds st past → Holds st (e ∷ past) → CauseFacts st past → CauseFacts st (e ∷ past)
-causes_stand st past e follows due_so h later facts =
+pub causes_stand : (st : Setting) (past : Trace) (e : Entry) → FollowsTrace st past e → IsDue st past e → Holds st past → Holds st (e ∷ past) → AllSuit st (e ∷ past) → CauseFacts st past → CauseFacts st (e ∷ past)
+causes_stand st past e follows due_so h later suits facts =
     record {
       watches = later.watches;
+      suit = suits;
       looked = looked_more st past e makes.looks;
       behind = behind_more st past e h facts makes.makes;
       ended = ended_more st past e h due_so facts;
@@ -113,6 +116,7 @@ causes_at_first : (st : Setting) → CauseFacts st []
 causes_at_first st =
     record {
       watches = nothing_was_read st;
+      suit = λ m there. absurd (contains_none m there);
       looked = λ s j there its. let given = in_map given_session (enumerate_from 0 st.given) s there in absurd (none_some j (ap (λ (z : Session). z.job) given.2 ∙ its));
       behind = λ m j c there of reads. absurd (contains_none m there);
       ended = λ n j c found reads runs. absurd (none_some j found);
@@ -127,4 +131,4 @@ causes_at_first st =
 pub traces_stand : (st : Setting) (es : Trace) → IsSetting st → IsHostTrace st es → CauseFacts st es
 traces_stand st [] setting h = causes_at_first st
 traces_stand st (e ∷ past) setting h =
-    causes_stand st past e h.0.0 h.1.0 (traces_hold st past setting (h.0.1, h.1.1)) (traces_hold st (e ∷ past) setting h) (traces_stand st past setting (h.0.1, h.1.1))
+    causes_stand st past e h.0.0 h.1.0 (traces_hold st past setting (h.0.1, h.1.1)) (traces_hold st (e ∷ past) setting h) (traces_wait st (e ∷ past) setting h).lore.suit (traces_stand st past setting (h.0.1, h.1.1))

@@ -85,11 +85,13 @@ use Rattle.sl_trace.specs.declared.input.Answer.TheVariants.{Failed, Read, Writt
 use Rattle.sl_trace.specs.declared.input.Answer.{Answer}
 use Rattle.sl_trace.specs.declared.input.Input.TheVariants.{Answer as Told, Exit, Line, Number, Spawned, Wake}
 use Rattle.sl_trace.specs.declared.input.Input.{Input}
-use Rattle.sl_trace.specs.declared.reply.Reply.TheVariants.{BadCommand as Misread, Done, Granted, IoFault, IoTimeout, NoProcess, Recovering, SpawnFault}
+use Rattle.sl_trace.specs.declared.reply.Reply.TheVariants.{BadCommand as Misread, Done, Granted, IoFault, IoTimeout, Limit as LimitReached, NoProcess, Recovering, SpawnFault}
+use Rattle.sl_trace.specs.declared.reply.Limited.TheVariants.{Turn as TurnLimit}
+use Rattle.sl_trace.specs.declared.reply.Limited.{Limited}
 use Rattle.sl_trace.specs.declared.reply.Reply.{Reply}
 use Rattle.sl_words.proofs.WordLaws.{some_is_true}
 use Rattle.sl_words.proofs.CaseLaws.{false_is_true, none_some, not_both, one_value, some_value}
-use Rattle.sl_due_facts.proofs.Jobs.PlainNexts.{conversion_plain, release_plain}
+use Rattle.sl_acts.proofs.Pairs.Decisions.{conversion_is, release_is}
 use Rattle.sl_trace.specs.declared.effects.LeaseRead.TheVariants.{OfArea, OfBlock, OfFree, OfPhase1, OfPhase2}
 use Rattle.std.proofs.Common.{ap, inl, inr, refl, subst, sym, ◌∙◌}
 use Rattle.std.specs.Prelude.{Bool, Contains, Err, List, None, Ok, Option, Some, false, filter, is_some, length, not, true, ℕ, ◌+◌, ◌==◌, ◌≡◌, ◌⊎◌}
@@ -179,14 +181,14 @@ Gives (BecomeShared lver l) = Unit {0}
 Gives (BecomeExclusive lver b) = Unit {0}
 Gives n = ⊥
 
-lease_may : (x y : Step) (s : Session) (at : Spot) (work : Work) (n : LeaseNext) → (IsConcluded x → ⊥) → ((r : Reply) → n ≡ AnswerJob r → work_job work ≡ None)
+lease_may : (x y : Step) (s : Session) (at : Spot) (work : Work) (n : LeaseNext) → (IsConcluded x → ⊥) → ((r : Reply) → n ≡ AnswerJob r → (j : ℕ) → work_job work ≡ Some j → MayAnswer (is_explained x.input) x j r)
     → (Gives n → (j lver : ℕ) → work_job work ≡ Some j → MayAnswer (is_explained x.input) x j (Granted lver)) → ((j : ℕ) → work_job work ≡ Some j → x.input ≡ Wake → ⊥)
     → LeaseAllowed (MayAnswer (is_explained x.input) x) (MayCall x) (MayStart x) y s at work n
 lease_may x y s at work No_lease going none may told = tt
 lease_may x y s at work (ReadFor step) going none may told = reads_may x y s at work step going
 lease_may x y s at work (WriteBlock step b) going none may told = λ c. absurd (going c)
 lease_may x y s at work (WriteLeader step l) going none may told = λ c. absurd (going c)
-lease_may x y s at work (AnswerJob r) going none may told = λ j is. absurd (none_some j (sym (none r refl) ∙ is))
+lease_may x y s at work (AnswerJob r) going none may told = λ j is. none r refl j is
 lease_may x y s at work (GrantJob mode lver) going none may told = λ j c is reads. granting_may x j lver c (may tt j lver is) (told j is)
 lease_may x y s at work (BecomeShared lver l) going none may told = ((λ j is. may tt j lver is), λ c. absurd (going c))
 lease_may x y s at work (BecomeExclusive lver b) going none may told = ((λ j is. may tt j lver is), λ z same c. absurd (going c))
@@ -196,8 +198,30 @@ abbrev pub AnswersNobody : LeaseNext → Type 0
 AnswersNobody (AnswerJob r) = ⊥
 AnswersNobody n = Unit {0}
 
-nobody : (n : LeaseNext) (work : Work) → AnswersNobody n → (r : Reply) → n ≡ AnswerJob r → work_job work ≡ None
-nobody n work h r is = absurd (subst (λ k. AnswersNobody k) is h)
+nobody : (x : Step) (n : LeaseNext) (work : Work) → AnswersNobody n → (r : Reply) → n ≡ AnswerJob r → (j : ℕ) → work_job work ≡ Some j → MayAnswer (is_explained x.input) x j r
+nobody x n work h r is j its = absurd (subst (λ k. AnswersNobody k) is h)
+
+-- What a line begins answers nobody, unless a turn would pass its limit.
+abbrev LimitsAlone : LeaseNext → Type 0
+LimitsAlone (AnswerJob r) = r ≡ LimitReached TurnLimit
+LimitsAlone n = Unit {0}
+
+nobody_alone : (n : LeaseNext) → AnswersNobody n → LimitsAlone n
+nobody_alone (AnswerJob r) h = absurd h
+nobody_alone No_lease h = tt
+nobody_alone (ReadFor step) h = tt
+nobody_alone (WriteBlock step b) h = tt
+nobody_alone (WriteLeader step l) h = tt
+nobody_alone (GrantJob mode lver) h = tt
+nobody_alone (BecomeShared lver l) h = tt
+nobody_alone (BecomeExclusive lver b) h = tt
+
+-- Of which nothing is said at a line.
+limited_may : (x : Step) (n : LeaseNext) (work : Work) → is_line x.input ≡ true → ((r : Reply) → IsLate x r) → LimitsAlone n → (r : Reply) → n ≡ AnswerJob r → (j : ℕ) → work_job work ≡ Some j
+    → MayAnswer (is_explained x.input) x j r
+limited_may x n work on after h r is j its =
+    let same : r ≡ LimitReached TurnLimit = subst (λ k. LimitsAlone k) is h in
+    (after r, λ shown. absurd (false_is_true (sym (ap (λ b. not b) on) ∙ subst (λ q. is_explained x.input q ≡ true) same shown)))
 
 release_nobody : (p : LeasePlace) (k : LeaseKnown) (mode : Mode) (n : ℕ) → AnswersNobody (release_next p k mode n)
 release_nobody p k Exclusive n = tt
@@ -214,35 +238,41 @@ on_line : (x : Step) → is_line x.input ≡ true → x.input ≡ Wake → ⊥
 on_line x on wake = false_is_true (sym (ap (λ i. is_line i) wake) ∙ on)
 
 -- What was decided on a line.
-line_may : (x : Step) (j : ℕ) (c : Command) (d : Decision) → x.setting.layout.paired ≡ false → (is_line x.input ≡ true) → (IsConcluded x → ⊥) → ((r : Reply) → IsLate x r) → DecisionAllowed (Going (is_explained x.input) x) (MayAnswer (is_explained x.input) x) (MayCall x) (MayStart x) x j c d
-line_may x j c (Replies r) plain on going after = tt
-line_may x j c (Joins n a) plain on going after = λ z is q. absurd (going q)
-line_may x j c (Leaves s) plain on going after =
+line_may : (x : Step) (j : ℕ) (c : Command) (d : Decision) → (is_line x.input ≡ true) → (IsConcluded x → ⊥) → ((r : Reply) → IsLate x r) → DecisionAllowed (Going (is_explained x.input) x) (MayAnswer (is_explained x.input) x) (MayCall x) (MayStart x) x j c d
+line_may x j c (Replies r) on going after = tt
+line_may x j c (Joins n a) on going after = λ z is q. absurd (going q)
+line_may x j c (Leaves s) on going after =
     ((λ wake. refl), λ z k i there. (after (Recovering (last_renewal z.setting (seen z) s)), λ shown. absurd (false_is_true (sym (ap (λ b. not b) on) ∙ shown))))
-line_may x j c (ReadsArea s r) plain on going after = λ q. absurd (going q)
-line_may x j c (Shares s lver) plain on going after = granting_may x j lver c (granted_may x j lver on) (on_line x on)
-line_may x j c (GivesUp s g) plain on going after =
+line_may x j c (ReadsArea s r) on going after = λ q. absurd (going q)
+line_may x j c (Shares s lver) on going after = granting_may x j lver c (granted_may x j lver on) (on_line x on)
+line_may x j c (GivesUp s g) on going after =
     let y : Step = add_end (end_of g) x in (
       (after Done, λ shown. absurd (false_is_true (sym (ap (λ b. not b) on) ∙ shown))),
       lease_may x y s (spot_of_grant g) (ForJob j) (next_of_release x.setting (seen y) s (spot_of_grant g) g) going
-          (nobody (next_of_release x.setting (seen y) s (spot_of_grant g) g) (ForJob j)
-          (subst (λ n. AnswersNobody n) (sym (release_plain x.setting (seen y) s (spot_of_grant g) g plain))
-          (release_nobody (lease_place x.setting s) (known x.setting (seen y) s (spot_of_grant g)) g.mode g.lver))) (λ gives i n is. granted_may x i n on) (λ i is. on_line x on),
+          (limited_may x (next_of_release x.setting (seen y) s (spot_of_grant g) g) (ForJob j) on after
+          (release_is LimitsAlone x.setting (seen y) s (spot_of_grant g) g
+          (λ fits. nobody_alone (release_next (lease_place x.setting s) (known x.setting (seen y) s (spot_of_grant g)) g.mode g.lver)
+          (release_nobody (lease_place x.setting s) (known x.setting (seen y) s (spot_of_grant g)) g.mode g.lver)) (λ paired over writes. refl))) (λ gives i n is. granted_may x i n on) (λ i is. on_line x on),
     )
-line_may x j c (TakesOver s g) plain on going after = granting_may x j g.lver c (granted_may x j g.lver on) (on_line x on)
-line_may x j c (ConvertsTo s r mode) plain on going after =
+line_may x j c (TakesOver s g) on going after = granting_may x j g.lver c (granted_may x j g.lver on) (on_line x on)
+line_may x j c (ConvertsTo s r mode) on going after =
     lease_may x x s (spot_of r) (ForJob j) (next_of_conversion x.setting (seen x) s (spot_of r) mode r.name) going
-    (nobody (next_of_conversion x.setting (seen x) s (spot_of r) mode r.name) (ForJob j)
-    (subst (λ n. AnswersNobody n) (sym (conversion_plain x.setting (seen x) s (spot_of r) mode r.name plain)) (convert_nobody (known x.setting (seen x) s (spot_of r)) mode r.name))) (λ gives i n is. granted_may x i n on) (λ i is. on_line x on)
-line_may x j c (Requests s r) plain on going after = λ q. absurd (going q)
-line_may x j c (SetsValue s at v) plain on going after = λ q. absurd (going q)
-line_may x j c (GetsValue s at) plain on going after = λ q. absurd (going q)
+    (limited_may x (next_of_conversion x.setting (seen x) s (spot_of r) mode r.name) (ForJob j) on after
+    (conversion_is LimitsAlone x.setting (seen x) s (spot_of r) mode r.name
+    (λ fits. nobody_alone (convert_next (known x.setting (seen x) s (spot_of r)) mode r.name) (convert_nobody (known x.setting (seen x) s (spot_of r)) mode r.name)) (λ paired over writes. refl))) (λ gives i n is. granted_may x i n on) (λ i is. on_line x on)
+line_may x j c (Requests s r) on going after = λ q. absurd (going q)
+line_may x j c (SetsValue s at v) on going after = λ q. absurd (going q)
+line_may x j c (GetsValue s at) on going after = λ q. absurd (going q)
 
 -- What is explained in some entry is so on a wake.
 explained_awake : (i : Input) (r : Reply) → is_explained i r ≡ true → is_explained Wake r ≡ true
 explained_awake i (Recovering t) is = refl
 explained_awake i Done is = refl
 explained_awake i (Granted n) is = refl
+explained_awake i (LimitReached which) is = by which where
+  by : (l : Limited) → is_explained Wake (LimitReached l) ≡ true
+  by TurnLimit = refl
+  by l = refl
 explained_awake i r is = refl
 
 -- What an act does after the input is seen.
@@ -392,7 +422,7 @@ leads x s work step m answer aim k hears is on aims n next = by work n is on aim
   other : (w : Work) (q : LeaseNext) → m.call.purpose ≡ Lease w step → goes_on x.setting (seen x) s w ≡ true → AnswersNobody q → (Gives q → (j : ℕ) → work_job w ≡ Some j → ⊥) → CausedSoFar is_explained (carry_lease s at w q x)
   other w q its runs none gives =
       by_act x (carry_lease s at w q x) (no_line_heard x s m answer hears)
-      (lease_done x s at w q (lease_may x x s at w q (going_on w its runs) (nobody q w none) (λ so j lver own. absurd (gives so j own)) (λ i own wake. told_no_wake x.input hears.number answer hears.heard wake))) k.1
+      (lease_done x s at w q (lease_may x x s at w q (going_on w its runs) (nobody x q w none) (λ so j lver own. absurd (gives so j own)) (λ i own wake. told_no_wake x.input hears.number answer hears.heard wake))) k.1
 
   led : (j : ℕ) → m.call.purpose ≡ Lease (ForJob j) step → goes_on x.setting (seen x) s (ForJob j) ≡ true → aim_of x.setting (seen x) (ForJob j) ≡ Some aim → JobLed is_explained x s m answer j step aim
   led j its runs aims = record { known = k.0; caused = k.1; hears = hears; purpose = its; aims = aims; unconcluded = going_on (ForJob j) its runs }
@@ -403,7 +433,7 @@ leads x s work step m answer aim k hears is on aims n next = by work n is on aim
   by (ForJob j) (AnswerJob r) its runs aims says =
       let may : IsLate x r = late x r (subst (λ v. IsLateLease v) says (lease_late (lease_place x.setting s) (known x.setting (seen x) s at) aim m.call.number (lver_written m) step answer)) in
       answer_caused is_explained x j r (no_line x (add_reply j r x) (no_line_heard x s m answer hears)) may
-      (λ shown. led_caused (is_explained x.input) x s m answer j step aim r k.0 k.1.before hears its aims may says (λ is d. released_caused x s m answer j step aim k.0 k.1.facts hears its runs aims (says ∙ ap (λ q. AnswerJob q) is) (late x Done refl)) shown) k.1
+      (λ shown. led_caused (is_explained x.input) x s m answer j step aim r k.0 k.1.before k.1.facts.suit hears its aims may says (λ is d. released_caused x s m answer j step aim k.0 k.1.facts hears its runs aims (says ∙ ap (λ q. AnswerJob q) is) (late x Done refl)) shown) k.1
   by w No_lease its runs aims says = other w No_lease its runs tt (λ so j own. so)
   by w (ReadFor q) its runs aims says = other w (ReadFor q) its runs tt (λ so j own. so)
   by w (WriteBlock q b) its runs aims says = other w (WriteBlock q b) its runs tt (λ so j own. so)
@@ -545,7 +575,7 @@ causes_are_kept =
           let w : Step = with_input (Line text) x in
           let j : ℕ = next_job x.setting (seen x) in
           from_wake x (carry_decision j c d w) (Line text) (λ is. line_no_wake (Line text) text refl is) wake
-          (decision (Going (is_explained w.input) w) (Going (is_explained w.input) w) (MayAnswer (is_explained w.input) w) (MayCall w) (MayStart w) AnyMove (going (is_explained w.input) w) w j c d (line_may w j c d k.0.0.setting.unpaired refl (open_unless_told w refl) (λ r. late_unless_told w r refl))
+          (decision (Going (is_explained w.input) w) (Going (is_explained w.input) w) (MayAnswer (is_explained w.input) w) (MayCall w) (MayStart w) AnyMove (going (is_explained w.input) w) w j c d (line_may w j c d refl (open_unless_told w refl) (λ r. late_unless_told w r refl))
           (λ n a joins. (going (is_explained w.input) w).calls w (joining_session n j a) a.path (Joining j FirstRead) _ (ReadSectors 1) (λ q. absurd (open_unless_told w refl q)) (begins (is_explained w.input) w)) (begins (is_explained w.input) w)) k.1;
       joins_on = λ x s j step m answer hears is runs k. joined_on x s j step m answer k hears is runs;
       ends_joining = λ x s j step m answer hears is stops k.
@@ -579,7 +609,7 @@ causes_are_kept =
           by_act x (carry_delta s n x) (no_line_awake x wake) (delta_done x s n (renewal_may x s (delta_of_session x.setting s) x.reading (delta_known x.setting (seen x) s) (bits_due x.setting (calls_of (seen x) s) x.reading) (open_awake x wake))) k.1;
       settles = λ x s at has wake active aligned none k.
           let n : LeaseNext = next_of_settling x.setting (seen x) s at in
-          by_act x (carry_lease s at Settling n x) (no_line_awake x wake) (lease_done x s at Settling n (lease_may x x s at Settling n (open_awake x wake) (λ r is. refl) (λ gives i n own. absurd (none_some i own)) (λ i own. absurd (none_some i own)))) k.1;
+          by_act x (carry_lease s at Settling n x) (no_line_awake x wake) (lease_done x s at Settling n (lease_may x x s at Settling n (open_awake x wake) (λ r is i own. absurd (none_some i own)) (λ gives i n own. absurd (none_some i own)) (λ i own. absurd (none_some i own)))) k.1;
       parts = λ x s has joined recovers free quiet k.
           let z : Step = remove_connection s.lockspace x in
           let a : Alike x z = removal_alike x x s.lockspace (same x) in

@@ -2,11 +2,10 @@
 -- a holding was there before the entry, and the entry grants what the command asks.
 use Rattle.sl_acts.proofs.Additions.{contains_last}
 use Rattle.sl_due_law.proofs.Causes.AtOnceAreCaused.{Spares, at_once_is, converting}
+use Rattle.sl_due_law.proofs.Causes.CommandsHere.{CommandHere, held_here, job_at, session_here}
 use Rattle.sl_due_law.proofs.Causes.HeadsAreEarly.{heads_are_early, last_is_silent}
 use Rattle.sl_due_law.proofs.Causes.LinesAreWell.{line_done, lines_are_well}
-use Rattle.sl_due_law.proofs.Causes.NamesBefore.{session_then, with_session}
-use Rattle.sl_acts.specs.SoFar.{entry_of}
-use Rattle.sl_due_law.proofs.Causes.WakeCauses.{sessions_wake}
+use Rattle.sl_due_law.proofs.Causes.NamesBefore.{with_session}
 use Rattle.sl_due_law.specs.Causes.LineCauses.{GrantedAtLines, IsBeforeInput, at_its_line}
 use Rattle.sl_due.specs.Due.{before_input}
 use Rattle.sl_due.specs.DueCommands.{answer_line, carry_decision, carry_line, decided, pending_refusal, process_refusal, reply_at_once, serving_orphan, session_refusal, unless_refused, with_session as where_session}
@@ -17,19 +16,17 @@ use Rattle.sl_due.specs.Steps.{Step, add_end, add_grant, add_reply, begin_step, 
 use Rattle.sl_due.specs.declared.decision.Decision.TheVariants.{ConvertsTo, GetsValue, GivesUp, Joins, Leaves, ReadsArea, Replies, Requests, SetsValue, Shares, TakesOver}
 use Rattle.sl_due.specs.declared.decision.Decision.{Decision}
 use Rattle.sl_due_facts.proofs.Jobs.JobsAreNumbered.{next_before}
-use Rattle.sl_due_facts.proofs.Jobs.SessionsArePresent.{present_is}
 use Rattle.sl_run.specs.Caused.{Answering, CausedBy, GrantsTo, IsGrantedFor, before_entry, the_session}
 use Rattle.sl_trace.specs.Jobs.{lockspace_named}
 use Rattle.sl_trace.specs.Counts.{holds_already}
 use Rattle.sl_trace.specs.Leases.{holdings_on, orphan_on, spot_of}
 use Rattle.sl_plain.proofs.Lists.{contains_first, find_inside}
-use Rattle.sl_trace.specs.Sessions.{is_joined, leaving_job, present_sessions, recovery_of, session_named, sessions}
+use Rattle.sl_trace.specs.Sessions.{session_named}
 use Rattle.sl_trace.specs.declared.session.Session.{Session}
-use Rattle.sl_trace.specs.Traces.{Job, Setting, Trace, end_of, holdings, is_orphan, is_shared, same_place, is_before_input, job_numbered, next_job, spot_of_grant}
+use Rattle.sl_trace.specs.Traces.{Job, Setting, Trace, end_of, is_orphan, is_shared, is_before_input, job_numbered, next_job, spot_of_grant}
 use Rattle.sl_trace.specs.declared.command.Command.TheVariants.{Acquire, RunProgram, TakeOver}
 use Rattle.sl_trace.specs.declared.command.Command.{Command}
 use Rattle.sl_trace.specs.declared.command.ResourceArg.{ResourceArg}
-use Rattle.sl_trace.specs.declared.effects.Start.{Start}
 use Rattle.sl_trace.specs.declared.effects.Effects.{Effects}
 use Rattle.sl_trace.specs.declared.effects.Grant.{Grant}
 use Rattle.sl_trace.specs.declared.effects.JobReply.{JobReply}
@@ -37,22 +34,21 @@ use Rattle.sl_trace.specs.declared.effects.Mode.TheVariants.{Shared}
 use Rattle.sl_trace.specs.declared.effects.Mode.{Mode}
 use Rattle.sl_trace.specs.declared.effects.Signal.TheVariants.{Term}
 use Rattle.sl_trace.specs.declared.input.Input.TheVariants.{Line}
-use Rattle.sl_trace.specs.declared.reply.Reply.TheVariants.{BadCommand as Misread, Busy, Done, Granted, NoOrphan, Recovering}
+use Rattle.sl_trace.specs.declared.reply.Limited.TheVariants.{Turn as TurnLimit}
+use Rattle.sl_trace.specs.declared.reply.Reply.TheVariants.{BadCommand as Misread, Busy, Done, Granted, NoOrphan, Recovering, Limit as LimitReached}
 use Rattle.sl_trace.specs.declared.reply.Reply.{Reply}
 use Rattle.sl_words.proofs.CaseLaws.{false_is_true, one_value}
 use Rattle.sl_words.specs.Results.{◌>>=◌}
 use Rattle.sl_words.specs.Words.{choose, same_truth}
 use Rattle.std.proofs.Common.{ap, inl, inr, refl, subst, sym, ◌∙◌}
 use Rattle.std.specs.Option.{option_map_or}
-use Rattle.std.specs.Prelude.{Bool, Contains, Err, IsTrue, List, None, Ok, Option, Result, Some, [], bytes_eq, false, filter, is_none, is_some, length, option_and_then, option_map, true, ℕ, ◌++◌, ◌==◌, ◌∷◌, ◌≡◌, ◌⊎◌}
-use Rattle.sl_due_law.proofs.Causes.LeavingsRefuse.{Refused, Says, ending, first_of, joined_past, line_reads, refusals}
+use Rattle.std.specs.Prelude.{Bool, Contains, Err, IsTrue, List, None, Ok, Option, Result, Some, [], false, is_none, length, option_and_then, option_map, true, ℕ, ◌++◌, ◌∷◌, ◌≡◌, ◌⊎◌}
+use Rattle.sl_due_law.proofs.Causes.LeavingsRefuse.{Refused, Says, ending, line_reads, refusals}
 use Rattle.sl_due_leases.proofs.Holdings.PlainPlaces.{one_place}
 use Rattle.sl_trace.specs.Jobs.{wants_shared}
 use Rattle.sl_due_law.proofs.Causes.AnsweredJobs.{with_command}
-use Rattle.sl_due_law.proofs.Causes.Leases.GrantCauses.{held_early, held_past}
 use Rattle.sl_due_leases.specs.Holdings.DecisionGrounds.{AsksLease, HasGrounds, IsReady, SharesGrounds, TakeOverGrounds}
 use Rattle.sl_due_leases.proofs.Holdings.DecisionsHaveGrounds.{decisions_have_grounds}
-use Rattle.sl_due_leases.proofs.Holdings.PlainPlaces.{text_is}
 use Rattle.sl_due_facts.proofs.Jobs.JobFactsGrow.{contains_right}
 use Rattle.sl_due_facts.proofs.Jobs.JobsAreNumbered.{line_is}
 use Rattle.sl_words.proofs.WordLaws.{same_truth_is}
@@ -62,6 +58,9 @@ granted_misread n m is = cc
 
 granted_done : (m : ℕ) → Done ≡ Granted m → ⊥
 granted_done m is = cc
+
+granted_limit : (m : ℕ) → LimitReached TurnLimit ≡ Granted m → ⊥
+granted_limit m is = cc
 
 granted_stop : (t m : ℕ) → Recovering t ≡ Granted m → ⊥
 granted_stop t m is = cc
@@ -137,22 +136,22 @@ taken_caused y s r shared p persistent g k command orphan mode there =
     )
 
 -- All but what shares or takes over.
-others_grant : (m n : ℕ) (c : Command) (d : Decision) (w : Step) → w.setting.layout.paired ≡ false → ((s : Session) (lver : ℕ) → d ≡ Shares s lver → ⊥) → ((s : Session) (g : Grant) → d ≡ TakesOver s g → ⊥) → Spares (Says (Granted m)) w (carry_decision n c d w)
+others_grant : (m n : ℕ) (c : Command) (d : Decision) (w : Step) → ((s : Session) (lver : ℕ) → d ≡ Shares s lver → ⊥) → ((s : Session) (g : Grant) → d ≡ TakesOver s g → ⊥) → Spares (Says (Granted m)) w (carry_decision n c d w)
 unfolding carry_decision
-others_grant m n c (Replies r) w plain a b = λ a there is. there
-others_grant m n c (Joins i l) w plain a b = λ a there is. there
-others_grant m n c (Leaves s) w plain a b = λ q there is. by q is (refusals n s w q there) where
+others_grant m n c (Replies r) w a b = λ a there is. there
+others_grant m n c (Joins i l) w a b = λ a there is. there
+others_grant m n c (Leaves s) w a b = λ q there is. by q is (refusals n s w q there) where
   by : (q : JobReply) → q.reply ≡ Granted m → Contains w.effects.replies q ⊎ Refused (signal_holders Term s w) s q → Contains w.effects.replies q
   by q is (inl old) = old
   by q is (inr r) = absurd (granted_stop _ m (r.reply ∙ is))
-others_grant m n c (ReadsArea s r) w plain a b = λ a there is. there
-others_grant m n c (Shares s lver) w plain a b = absurd (a s lver refl)
-others_grant m n c (GivesUp s g) w plain a b = ending (Granted m) s (spot_of_grant g) n g w (add_end (end_of g) w) plain (granted_done m) (λ a there is. there)
-others_grant m n c (TakesOver s g) w plain a b = absurd (b s g refl)
-others_grant m n c (ConvertsTo s r mode) w plain a b = converting (Says (Granted m)) s (spot_of r) n mode r.name w plain
-others_grant m n c (Requests s r) w plain a b = λ a there is. there
-others_grant m n c (SetsValue s at v) w plain a b = λ a there is. there
-others_grant m n c (GetsValue s at) w plain a b = λ a there is. there
+others_grant m n c (ReadsArea s r) w a b = λ a there is. there
+others_grant m n c (Shares s lver) w a b = absurd (a s lver refl)
+others_grant m n c (GivesUp s g) w a b = ending (Granted m) s (spot_of_grant g) n g w (add_end (end_of g) w) (granted_limit m) (granted_done m) (λ a there is. there)
+others_grant m n c (TakesOver s g) w a b = absurd (b s g refl)
+others_grant m n c (ConvertsTo s r mode) w a b = converting (Says (Granted m)) s (spot_of r) n mode r.name w (granted_limit m)
+others_grant m n c (Requests s r) w a b = λ a there is. there
+others_grant m n c (SetsValue s at v) w a b = λ a there is. there
+others_grant m n c (GetsValue s at) w a b = λ a there is. there
 
 shares_is : (n : ℕ) (c : Command) (s : Session) (lver : ℕ) (w : Step) → carry_decision n c (Shares s lver) w ≡ grant_for s n c Shared lver w
 unfolding carry_decision
@@ -213,28 +212,8 @@ granted_at_lines st past e text a m j w due_so line there grants found = by (st.
   taken : (c : Command) (s : Session) (r : ResourceArg) (g : Grant) → st.read text ≡ Ok c → lockspace_named c ≡ Some r.lockspace → IsReady x.setting (seen x) s r → Contains (holdings_on (seen x) s (spot_of r)) g
       → job_numbered st (e ∷ past) (next_job st past) ≡ Some j → Taken y s r g
   taken c s r g says names ready held own =
-      record {
-        at = ap (λ (k : Job). k.at) (sym (same own));
-        session = session_then y c s w before joined (ap (λ (k : Job). k.command) (sym (same own)) ∙ says) (names ∙ ap (λ k. Some k) (sym (text_is s.lockspace r.lockspace inside.1)));
-        held = subst (λ hs. Contains (filter (λ (q : Grant). same_place q.path q.offset (spot_of r).path (spot_of r).base) (filter (λ (q : Grant). q.session == s.number) hs)) g) held_same held;
-      } where
-        inside : Contains (present_sessions x.setting (seen x)) s × (bytes_eq s.lockspace r.lockspace ≡ true)
-        inside = find_inside (λ (q : Session). bytes_eq q.lockspace r.lockspace) (present_sessions x.setting (seen x)) s ready.named
-
-        before : Contains (sessions st past) s
-        before =
-            subst (λ ss. Contains ss s) (sessions_wake x h.early.wake ∙ (ap (λ g. sessions g x.past) h.setting ∙ ap (λ p. sessions st p) h.before))
-            (present_is x.setting (seen x) s inside.0).0
-
-        joined : is_joined past s ≡ true
-        joined =
-            subst (λ p. is_joined p s ≡ true) h.before (joined_past x.past (entry_of x) s h.replies
-            (first_of (is_joined (seen x) s) (is_none (recovery_of x.setting (seen x) s)) (is_none (leaving_job x.setting (seen x) s)) ready.active))
-
-        held_same : holdings (seen x) ≡ holdings (before_entry y)
-        held_same =
-            held_past x h.early.unended h.early.ungranted ∙ (ap (λ p. holdings p) h.before
-            ∙ sym (held_early past e.reading (filter (λ (k : Start). is_some k.stands_for) e.effects.starts) (filter (λ (b : JobReply). is_before_input b.reply) e.effects.replies)))
+      let here : CommandHere st past e text c j = record { whole = w; first = x; head = h; line = line; says = says; own = same own } in
+      record { at = job_at st past e text c j here; session = session_here st past e text c j here s r names ready; held = held_here st past e text c j here s (spot_of r) g held }
 
   by : (o : Result Command ℕ) → st.read text ≡ o → CausedBy y (Granted m)
   by (Err column) says = absurd (granted_misread column m (ap (λ (b : JobReply). b.reply) (only (Misread column) (inside_of (answer_line text n (Misread column) x) (is_lined (Err column) says))) ∙ grants))
@@ -261,7 +240,7 @@ granted_at_lines st past e text a m j w due_so line there grants found = by (st.
       v = with_input (Line text) x
 
       others : ((s : Session) (lver : ℕ) → d ≡ Shares s lver → ⊥) → ((s : Session) (g : Grant) → d ≡ TakesOver s g → ⊥) → CausedBy y (Granted m)
-      others share take = absurd (not_before (others_grant m n c d v (ap (λ (g : Setting). g.layout.paired) h.setting ∙ w.setting.unpaired) share take a (inside_of (carry_decision n c d v) (is_of None is)) grants))
+      others share take = absurd (not_before (others_grant m n c d v share take a (inside_of (carry_decision n c d v) (is_of None is)) grants))
 
       ended : (q : Decision) → d ≡ q → (b : Command) → c ≡ b → e.effects ≡ (finish (carry_decision n b q v)).effects
       ended q so b is_b = is_of None is ∙ (ap (λ k. (finish (carry_decision n c k v)).effects) so ∙ ap (λ k. (finish (carry_decision n k q v)).effects) is_b)

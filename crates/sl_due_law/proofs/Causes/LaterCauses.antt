@@ -12,7 +12,7 @@ use Rattle.sl_due_law.proofs.Causes.AnsweredJobs.{AnswersHere, answers_here, its
 use Rattle.sl_due_law.proofs.Causes.CauseFactsHold.{entry_stays}
 use Rattle.sl_due_law.proofs.Causes.LaterSteps.{after_that, by_effects, replied_later}
 use Rattle.sl_due_law.proofs.Causes.Leases.GrantCauses.{held_early}
-use Rattle.sl_due_law.proofs.Causes.Leases.LeaseDone.{DoneBy, IsForJob, done_by}
+use Rattle.sl_due_law.proofs.Causes.Leases.LeaseDone.{DoneBy, IsForJob, done_within}
 use Rattle.sl_due_law.proofs.Causes.Leases.PhaseCauses.{no_settling}
 use Rattle.sl_due_law.proofs.Causes.LinesAreWell.{all_pass}
 use Rattle.sl_due_law.proofs.Causes.NamesBefore.{session_then, with_session}
@@ -21,7 +21,6 @@ use Rattle.sl_due_facts.proofs.Connections.HeardCalls.{heard_before}
 use Rattle.sl_due_leases.proofs.Holdings.LeaseCallers.{heard_call}
 use Rattle.sl_due_facts.proofs.Jobs.CallsStay.{IsLate}
 use Rattle.sl_due_facts.proofs.Jobs.JobsAreNumbered.{command_stays, numbered_stays}
-use Rattle.sl_due_facts.proofs.Jobs.PlainNexts.{next_plain}
 use Rattle.sl_due_law.specs.Causes.CauseFacts.{CauseFacts, EndedAsAsked, HasEnded, HoldsAsAsked, StandsBehind, StandsBehindRequest}
 use Rattle.sl_due_law.specs.Causes.CausedSoFar.{IsLater, StaysCaused, answering}
 use Rattle.sl_due_facts.specs.Facts.JobFacts.{FitsCommand}
@@ -219,8 +218,7 @@ released_caused x s m answer j step aim k facts hears purpose runs aims next may
 
   done : DoneBy aim step answer
   done =
-      done_by (lease_place x.setting s) (known x.setting (seen x) s (spot_of_call x.setting.layout m)) aim m.call.number (lver_written m) step answer (aim_for_job c.command aim its_aim)
-      (sym (next_plain x.setting (seen x) s (spot_of_call x.setting.layout m) aim m step answer k.0.setting.unpaired) ∙ next)
+      done_within (lease_place x.setting s) (known x.setting (seen x) s (spot_of_call x.setting.layout m)) aim m.call.number (lver_written m) step answer (aim_for_job c.command aim its_aim) next
 
   releases : aim_of_command c.command ≡ Some Releases
   releases = its_aim ∙ ap (λ a. Some a) done.releases

@@ -3,6 +3,7 @@
 use Rattle.sl_acts.proofs.Additions.{contains_last}
 use Rattle.sl_acts.proofs.EffectsKeep.{signalled}
 use Rattle.sl_acts.proofs.LoopsKeep.{for_each_keeps}
+use Rattle.sl_acts.proofs.Pairs.Decisions.{release_is}
 use Rattle.sl_acts.specs.Plainly.{ByEffects}
 use Rattle.sl_due_law.proofs.Causes.AtOnceAreCaused.{Spares, at_once_is, converting, leaving, not_kept, told}
 use Rattle.sl_due_law.proofs.Causes.HeadsAreEarly.{heads_are_early, last_is_silent}
@@ -52,14 +53,14 @@ use Rattle.sl_trace.specs.declared.effects.Spot.{Spot}
 use Rattle.sl_trace.specs.declared.effects.Work.TheVariants.{ForJob}
 use Rattle.sl_trace.specs.declared.input.Input.TheVariants.{Line, Wake}
 use Rattle.sl_trace.specs.declared.input.Input.{Input}
-use Rattle.sl_trace.specs.declared.reply.Reply.TheVariants.{BadCommand as Misread, Done, Granted, Recovering}
+use Rattle.sl_trace.specs.declared.reply.Limited.TheVariants.{Turn as TurnLimit}
+use Rattle.sl_trace.specs.declared.reply.Reply.TheVariants.{BadCommand as Misread, Done, Granted, Limit as LimitReached, Recovering}
 use Rattle.sl_trace.specs.declared.reply.Reply.{Reply}
 use Rattle.sl_words.proofs.CaseLaws.{false_is_true, is_false, one_value}
 use Rattle.sl_words.proofs.WordLaws.{and_true}
 use Rattle.sl_words.specs.Results.{◌>>=◌}
 use Rattle.sl_words.specs.Words.{choose, some_is}
 use Rattle.sl_acts.specs.Acts.{next_of_release}
-use Rattle.sl_due_facts.proofs.Jobs.PlainNexts.{release_plain}
 use Rattle.std.proofs.Common.{ap, ap₂, arith, inl, inr, refl, subst, sym, ◌∙◌}
 use Rattle.std.proofs.lemmas.Bool.{eqb-true}
 use Rattle.std.specs.List.{list_any}
@@ -83,6 +84,9 @@ granted_apart n t is = cc
 done_apart : (t : ℕ) → Done ≡ Recovering t → ⊥
 done_apart t is = cc
 
+limit_apart : (t : ℕ) → LimitReached TurnLimit ≡ Recovering t → ⊥
+limit_apart t is = cc
+
 misread_apart : (n t : ℕ) → Misread n ≡ Recovering t → ⊥
 misread_apart n t is = cc
 
@@ -92,7 +96,8 @@ granting t s n (TakeOver r shared p persistent) mode lver w y h = says_other (Re
 granting t s n (RunProgram r shared path) mode lver w y h = h
 granting t s n c mode lver w y h = h
 
-releasing_by : (q : Reply) (s : Session) (at : Spot) (n : ℕ) (mode : Mode) (lver : ℕ) (p : LeasePlace) (k : LeaseKnown) (w y : Step) → Spares (Says q) w y
+-- A release that may write its block answers nobody.
+pub releasing_by : (q : Reply) (s : Session) (at : Spot) (n : ℕ) (mode : Mode) (lver : ℕ) (p : LeasePlace) (k : LeaseKnown) (w y : Step) → Spares (Says q) w y
     → Spares (Says q) w (carry_lease s at (ForJob n) (release_next p k mode lver) y)
 unfolding carry_lease
 releasing_by q s at n Exclusive lver p k w y h = h
@@ -101,33 +106,34 @@ releasing_by q s at n Shared lver p k w y h = by k.own where
   by None = h
   by (Some own) = h
 
-pub releasing : (q : Reply) (s : Session) (at : Spot) (n : ℕ) (g : Grant) (w y : Step) → y.setting.layout.paired ≡ false → Spares (Says q) w y
+releasing : (q : Reply) (s : Session) (at : Spot) (n : ℕ) (g : Grant) (w y : Step) → (LimitReached TurnLimit ≡ q → ⊥) → Spares (Says q) w y
     → Spares (Says q) w (carry_lease s at (ForJob n) (next_of_release y.setting (seen y) s at g) y)
-releasing q s at n g w y plain h =
-    subst (λ z. Spares (Says q) w (carry_lease s at (ForJob n) z y)) (sym (release_plain y.setting (seen y) s at g plain))
-    (releasing_by q s at n g.mode g.lver (lease_place y.setting s) (known y.setting (seen y) s at) w y h)
+unfolding carry_lease
+releasing q s at n g w y limit h =
+    release_is (λ z. Spares (Says q) w (carry_lease s at (ForJob n) z y)) y.setting (seen y) s at g
+    (λ fits. releasing_by q s at n g.mode g.lver (lease_place y.setting s) (known y.setting (seen y) s at) w y h) (λ paired over writes. says_other q w y n (LimitReached TurnLimit) limit h)
 
-pub ending : (q : Reply) (s : Session) (at : Spot) (n : ℕ) (g : Grant) (w y : Step) → y.setting.layout.paired ≡ false → (Done ≡ q → ⊥) → Spares (Says q) w y → Spares (Says q) w (after_end s at n g y)
+pub ending : (q : Reply) (s : Session) (at : Spot) (n : ℕ) (g : Grant) (w y : Step) → (LimitReached TurnLimit ≡ q → ⊥) → (Done ≡ q → ⊥) → Spares (Says q) w y → Spares (Says q) w (after_end s at n g y)
 unfolding after_end
-ending q s at n g w y plain other h = by (holdings_on (seen y) s at) where
+ending q s at n g w y limit other h = by (holdings_on (seen y) s at) where
   by : (hs : List Grant) → Spares (Says q) w (elim hs as (λ z. Step) [ k ∷ ks ↦ add_reply n Done y | [] ↦ carry_lease s at (ForJob n) (next_of_release y.setting (seen y) s at g) y ])
-  by [] = releasing q s at n g w y plain h
+  by [] = releasing q s at n g w y limit h
   by (k ∷ ks) = says_other q w y n Done other h
 
 -- All but a leaving.
-others_spare : (t n : ℕ) (c : Command) (d : Decision) (w : Step) → w.setting.layout.paired ≡ false → ((s : Session) → d ≡ Leaves s → ⊥) → Spares (Says (Recovering t)) w (carry_decision n c d w)
+others_spare : (t n : ℕ) (c : Command) (d : Decision) (w : Step) → ((s : Session) → d ≡ Leaves s → ⊥) → Spares (Says (Recovering t)) w (carry_decision n c d w)
 unfolding carry_decision
-others_spare t n c (Replies r) w plain other = λ a there is. there
-others_spare t n c (Joins number l) w plain other = λ a there is. there
-others_spare t n c (Leaves s) w plain other = absurd (other s refl)
-others_spare t n c (ReadsArea s r) w plain other = λ a there is. there
-others_spare t n c (Shares s lver) w plain other = granting t s n c Shared lver w w (λ a there is. there)
-others_spare t n c (GivesUp s g) w plain other = ending (Recovering t) s (spot_of_grant g) n g w (add_end (end_of g) w) plain (done_apart t) (λ a there is. there)
-others_spare t n c (TakesOver s g) w plain other = granting t s n c g.mode g.lver w (add_end (end_of g) w) (λ a there is. there)
-others_spare t n c (ConvertsTo s r mode) w plain other = converting (Says (Recovering t)) s (spot_of r) n mode r.name w plain
-others_spare t n c (Requests s r) w plain other = λ a there is. there
-others_spare t n c (SetsValue s at v) w plain other = λ a there is. there
-others_spare t n c (GetsValue s at) w plain other = λ a there is. there
+others_spare t n c (Replies r) w other = λ a there is. there
+others_spare t n c (Joins number l) w other = λ a there is. there
+others_spare t n c (Leaves s) w other = absurd (other s refl)
+others_spare t n c (ReadsArea s r) w other = λ a there is. there
+others_spare t n c (Shares s lver) w other = granting t s n c Shared lver w w (λ a there is. there)
+others_spare t n c (GivesUp s g) w other = ending (Recovering t) s (spot_of_grant g) n g w (add_end (end_of g) w) (limit_apart t) (done_apart t) (λ a there is. there)
+others_spare t n c (TakesOver s g) w other = granting t s n c g.mode g.lver w (add_end (end_of g) w) (λ a there is. there)
+others_spare t n c (ConvertsTo s r mode) w other = converting (Says (Recovering t)) s (spot_of r) n mode r.name w (limit_apart t)
+others_spare t n c (Requests s r) w other = λ a there is. there
+others_spare t n c (SetsValue s at v) w other = λ a there is. there
+others_spare t n c (GetsValue s at) w other = λ a there is. there
 
 -- ---- whom a leaving refuses
 
@@ -342,7 +348,7 @@ refused_at_lines st past e text a t j w due_so line k there stops found = by (st
     on None is = decision d refl where
       others : ((s : Session) → d ≡ Leaves s → ⊥) → CausedBy (at_its_line st past e j) (Recovering t)
       others other =
-          by_head (others_spare t n c d (with_input (Line text) x) (ap (λ (g : Setting). g.layout.paired) h.setting ∙ w.setting.unpaired) other a (inside_of (carry_decision n c d (with_input (Line text) x)) (is_of None is)) stops)
+          by_head (others_spare t n c d (with_input (Line text) x) other a (inside_of (carry_decision n c d (with_input (Line text) x)) (is_of None is)) stops)
 
       decision : (q : Decision) → d ≡ q → CausedBy (at_its_line st past e j) (Recovering t)
       decision (Leaves s) leaves_so = left (refusals n s (with_input (Line text) x) a (inside_of _ ended)) where

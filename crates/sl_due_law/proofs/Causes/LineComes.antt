@@ -74,6 +74,13 @@ line_comes st past e text c w due_so line says =
       lined : Result Command ℕ → Step
       lined o = carry_line text (next_job x.setting (seen x)) (o >>= (λ c. Ok (c, decided x.setting (seen x) x.reading c))) x
 
+-- What is answered at once was decided before the input.
+pub decided_first : (st : Setting) (past : Trace) (e : Entry) (text : List ℕ) (c : Command) → (k : LineComes st past e text c) → (r : Reply) → decided k.first.setting (seen k.first) k.first.reading c ≡ Replies r
+    → decided st (seen (before_input (begin_step st past e.reading))) e.reading c ≡ Replies r
+decided_first st past e text c k r is =
+    subst (λ z. decided st (seen z) e.reading c ≡ Replies r) k.is_first
+    (sym (ap (λ g. decided g (seen k.first) k.first.reading c) k.head.setting ∙ ap (λ m. decided st (seen k.first) m c) k.head.reading) ∙ is)
+
 -- By whether it is answered at once.
 pub data LineTakes (st : Setting) (past : Trace) (e : Entry) (text : List ℕ) (c : Command) (x : Step) (n : ℕ) : Type 0 where
   At_once : (r : Reply) → decided x.setting (seen x) x.reading c ≡ Replies r → e.effects ≡ (finish (answer_line text n r x)).effects → LineTakes st past e text c x n

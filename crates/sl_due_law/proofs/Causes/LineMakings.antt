@@ -18,7 +18,7 @@ use Rattle.sl_due_law.specs.Causes.Makings.{By_line, FromJob, GivenTo, MadeFor, 
 use Rattle.sl_due_leases.specs.Holdings.DecisionGrounds.{HasGrounds}
 use Rattle.sl_trace.specs.Counts.{next_value_seq}
 use Rattle.sl_trace.specs.Jobs.{process_named, wants_shared}
-use Rattle.sl_trace.specs.LeaseWork.{LeasePlace, convert_next, lease_place, refuses, refuses_block, release_next, within_turn}
+use Rattle.sl_trace.specs.LeaseWork.{LeasePlace, convert_next, lease_place, refuses, release_next, within_turn}
 use Rattle.sl_trace.specs.Leases.{LeaseKnown, holdings_on, known, spot_of}
 use Rattle.sl_trace.specs.declared.lease.LeaseNext.{LeaseNext}
 use Rattle.sl_trace.specs.declared.lease.LeaseNext.TheVariants.{AnswerJob, BecomeExclusive, BecomeShared, GrantJob, Nothing as No_lease, ReadFor, WriteBlock, WriteLeader}
@@ -45,14 +45,14 @@ use Rattle.sl_trace.specs.declared.effects.Spot.{Spot}
 use Rattle.sl_trace.specs.declared.effects.Start.{Start}
 use Rattle.sl_trace.specs.declared.effects.Work.TheVariants.{ForJob}
 use Rattle.sl_trace.specs.declared.input.Input.TheVariants.{Line, Wake}
-use Rattle.sl_trace.specs.declared.reply.Limited.TheVariants.{Seq as SeqLimit}
+use Rattle.sl_trace.specs.declared.reply.Limited.TheVariants.{Seq as SeqLimit, Turn as TurnLimit}
 use Rattle.sl_trace.specs.declared.reply.Reply.{Reply}
 use Rattle.sl_trace.specs.declared.reply.Reply.TheVariants.{Done, Limit as LimitReached, NotHeld}
 use Rattle.sl_words.proofs.CaseLaws.{none_some, some_value}
 use Rattle.sl_words.specs.Bounds.{is_number}
 use Rattle.sl_words.specs.Words.{choose}
 use Rattle.sl_acts.specs.Acts.{next_of_conversion, next_of_release}
-use Rattle.sl_due_law.proofs.Causes.Leases.ReadNexts.{within_by}
+use Rattle.sl_acts.proofs.Pairs.Decisions.{within_cases}
 use Rattle.sl_trace.specs.declared.lease.Aim.TheVariants.{Acquires, Converts, Releases, Settles}
 use Rattle.sl_trace.specs.declared.lease.Aim.{Aim}
 use Rattle.sl_trace.specs.declared.effects.LeaseRead.TheVariants.{OfArea, OfBlock, OfFree, OfPhase1, OfPhase2}
@@ -229,18 +229,8 @@ refused_gives (Converts mode) r = tt
 refused_gives Releases r = tt
 refused_gives Settles r = tt
 
-block_gives : (aim : Aim) (n : LeaseNext) → GivesNothing n → GivesNothing (refuses_block aim n)
-block_gives aim No_lease h = h
-block_gives aim (ReadFor step) h = h
-block_gives aim (WriteBlock step b) h = refused_gives aim _
-block_gives aim (WriteLeader step l) h = h
-block_gives aim (AnswerJob r) h = h
-block_gives aim (GrantJob mode lver) h = h
-block_gives aim (BecomeShared lver l) h = h
-block_gives aim (BecomeExclusive lver b) h = absurd h
-
 within_gives : (p : LeasePlace) (k : LeaseKnown) (aim : Aim) (n : LeaseNext) → GivesNothing n → GivesNothing (within_turn p k aim n)
-within_gives p k aim n h = within_by GivesNothing p k aim n h (block_gives aim n h)
+within_gives p k aim n h = within_cases GivesNothing p k aim n (λ fits. h) (λ paired over writes. refused_gives aim (LimitReached TurnLimit))
 
 -- The value is what the command brought.
 abbrev SetsBytes : List ℕ → Decision → Type 0

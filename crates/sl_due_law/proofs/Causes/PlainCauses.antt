@@ -1,10 +1,10 @@
 -- The causes of what calls of requests, values and leavings are answered with, and of faults.
 use Rattle.sl_acts.specs.Acts.{Hears, lone_job}
-use Rattle.sl_area.specs.Layouts.{Layout, record_in}
+use Rattle.sl_area.specs.Layouts.{record_in}
 use Rattle.sl_area.specs.Places.{leader_of, read_at}
 use Rattle.sl_due_law.proofs.Causes.AnsweredJobs.{AnswersHere, answers_here, number_is, its_command, with_command, with_spot}
 use Rattle.sl_due_law.proofs.Causes.LaterSteps.{AnyMove, MayAnswer, MayCall, by_effects}
-use Rattle.sl_due_law.proofs.Causes.Leases.GivenBlocks.{leader_gives}
+use Rattle.sl_due_law.proofs.Causes.Leases.GivenBlocks.{leader_spelled}
 use Rattle.sl_due_law.specs.Causes.Promises.{LeavingsAreCaused}
 use Rattle.sl_due_law.specs.Causes.CausedSoFar.{StaysCaused, answering}
 use Rattle.sl_due.specs.DueRequests.{request_refusal, value_reply}
@@ -17,7 +17,7 @@ use Rattle.sl_due_facts.proofs.Jobs.JobsAreNumbered.{found_before}
 use Rattle.sl_due_facts.proofs.Jobs.EffectsAreAllowed.{DeltaAllowed}
 use Rattle.sl_run.specs.Caused.{Answering, AnswersRead, CausedBy, GivesLeader, IsDoneFor}
 use Rattle.sl_trace.specs.Jobs.{command_numbered, job_of_start}
-use Rattle.sl_trace.specs.Leases.{is_leader_of}
+use Rattle.sl_trace.specs.Leases.{Area_read, is_at, is_leader_of, kind_of_step, lease_step, same_kind}
 use Rattle.sl_request.specs.Requests.{check_request}
 use Rattle.sl_sector.specs.Spelling.{request_in, value_in}
 use Rattle.sl_sector.specs.declared.sector.Leader.{Leader}
@@ -41,7 +41,7 @@ use Rattle.sl_trace.specs.declared.reply.Reply.{Reply}
 use Rattle.sl_words.proofs.CaseLaws.{none_some, not_both, some_value}
 use Rattle.sl_plain.proofs.Options.{some_of}
 use Rattle.sl_words.proofs.WordLaws.{choose_some, some_is_true}
-use Rattle.sl_words.specs.Words.{choose}
+use Rattle.sl_words.specs.Words.{choose, some_is}
 use Rattle.std.proofs.Common.{ap, inr, refl, subst, sym, ◌∙◌}
 use Rattle.std.specs.Option.{option_or}
 use Rattle.std.specs.Prelude.{Bool, Contains, IsFalse, IsTrue, List, None, Ok, Option, Some, false, find, is_none, map, not, option_and_then, option_map, true, ℕ, ◌++◌, ◌==◌, ◌≡◌, ◌≢◌}
@@ -102,8 +102,8 @@ request_caused x s m n bytes r asked force k hears purpose says space why refuse
     layout : z.setting.layout ≡ x.setting.layout
     layout = ap (λ st. st.layout) later.setting
 
-    plain : y.setting.layout.paired ≡ false
-    plain = ap (λ (g : Layout). g.paired) layout ∙ k.0.setting.unpaired
+    of_request : is_at Area_read m ≡ false
+    of_request = ap (λ p. some_is (λ q. same_kind (kind_of_step q.1) Area_read) (lease_step p)) purpose
 
     command : AnswersHere x m (Read bytes) n z j → y.job.command ≡ Ok (Request r asked force)
     command h = its_command x.setting (seen x) n j (Request r asked force) h.found says
@@ -145,7 +145,7 @@ request_caused x s m n bytes r asked force k hears purpose says space why refuse
         (λ q at. AnswersRead y (λ c bs. (b : Leader) × GivesLeader y c bs (Some b) × (b.lockspace ≡ l.lockspace) × (b.resource ≡ l.resource) × (b.num_hosts ≡ l.num_hosts)
         × IsFalse (is_leader_of y.setting.layout q.lockspace q.name b)))
         (command h) refl
-        (m, bytes, h.call, (l, leader_gives y plain m bytes (Some l) (ap (λ g. leader_of g bytes) layout ∙ there), refl, refl, refl, ap (λ g. is_leader_of g r.lockspace r.name l) layout ∙ (ap (λ name. is_leader_of x.setting.layout name r.name l) space ∙ other))))
+        (m, bytes, h.call, (l, leader_spelled y m bytes (Some l) of_request (ap (λ g. leader_of g bytes) layout ∙ there), refl, refl, refl, ap (λ g. is_leader_of g r.lockspace r.name l) layout ∙ (ap (λ name. is_leader_of x.setting.layout name r.name l) space ∙ other))))
     by_name h l there true right says_why = by_record h l there (request_in (read_at x.setting.layout bytes 1)) refl says_why
 
     by_leader : AnswersHere x m (Read bytes) n z j → (o : Option Leader) → leader_of x.setting.layout bytes ≡ o
@@ -162,7 +162,7 @@ request_caused x s m n bytes r asked force k hears purpose says space why refuse
         → CausedBy y why
     by_leader h None torn says_why =
         subst (λ w. CausedBy y w) (some_value TornLeader why says_why)
-        (m, bytes, h.call, (inr (purpose ∙ ap (λ i. RequestRead i) (sym h.number)), leader_gives y plain m bytes None (ap (λ g. leader_of g bytes) layout ∙ torn)))
+        (m, bytes, h.call, (inr (purpose ∙ ap (λ i. RequestRead i) (sym h.number)), leader_spelled y m bytes None of_request (ap (λ g. leader_of g bytes) layout ∙ torn)))
     by_leader h (Some l) there says_why = by_name h l there (is_leader_of x.setting.layout s.lockspace r.name l) refl says_why
 
 -- ---- the free of a leaving

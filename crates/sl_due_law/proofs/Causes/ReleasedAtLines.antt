@@ -1,5 +1,6 @@
 -- What a line that gives a holding up ends, and the cause of its answer where others remain under the lease.
 use Rattle.sl_acts.proofs.Additions.{any_last}
+use Rattle.sl_acts.proofs.Pairs.Decisions.{release_is, writes_own_block}
 use Rattle.sl_due.specs.Due.{IsDue}
 use Rattle.sl_due.specs.DueCommands.{after_end, answer_line, carry_decision, decided, holding_of, pending_refusal, process_refusal, reply_at_once, serving_orphan, session_refusal, unless_refused, with_session}
 use Rattle.sl_due.specs.DueLease.{carry_lease}
@@ -9,7 +10,7 @@ use Rattle.sl_due.specs.declared.decision.Decision.{Decision}
 use Rattle.sl_due.specs.declared.decision.Decision.TheVariants.{GivesUp, Replies}
 use Rattle.sl_due_law.proofs.Causes.AtOnceAreCaused.{Spares}
 use Rattle.sl_due_law.proofs.Causes.HeadsAreEarly.{last_is_silent}
-use Rattle.sl_due_law.proofs.Causes.LeavingsRefuse.{Says, releasing}
+use Rattle.sl_due_law.proofs.Causes.LeavingsRefuse.{Says, releasing_by}
 use Rattle.sl_due_law.proofs.Causes.LineComes.{At_once, Carried, LineComes, LineTakes, line_comes, line_takes}
 use Rattle.sl_due_leases.proofs.Grants.Values.NothingIsTold.{replied_stops}
 use Rattle.sl_due_leases.proofs.Holdings.DecisionsHaveGrounds.{decisions_have_grounds}
@@ -26,7 +27,7 @@ use Rattle.sl_plain.proofs.Numbers.{number_itself}
 use Rattle.sl_sector.specs.declared.sector.Block.{Block}
 use Rattle.sl_trace.specs.Sessions.{holdings_of, session_named}
 use Rattle.sl_trace.specs.declared.session.Session.{Session}
-use Rattle.sl_trace.specs.Traces.{Job, Setting, Trace, end_of, entry_at, is_running, next_job, no_process, same_place, spot_of_grant}
+use Rattle.sl_trace.specs.Traces.{Job, Setting, Trace, end_of, entry_at, is_running, is_shared, next_job, no_process, same_place, spot_of_grant}
 use Rattle.sl_trace.specs.declared.command.Command.{Command}
 use Rattle.sl_trace.specs.declared.command.Command.TheVariants.{Release, ReleaseOrphan}
 use Rattle.sl_trace.specs.declared.command.ResourceArg.{ResourceArg}
@@ -41,17 +42,18 @@ use Rattle.sl_trace.specs.declared.effects.Mode.TheVariants.{Exclusive, Shared}
 use Rattle.sl_trace.specs.declared.effects.Spot.{Spot}
 use Rattle.sl_trace.specs.declared.effects.Work.TheVariants.{ForJob}
 use Rattle.sl_trace.specs.declared.input.Input.TheVariants.{Line}
+use Rattle.sl_trace.specs.declared.reply.Limited.TheVariants.{Turn as TurnLimit}
 use Rattle.sl_trace.specs.declared.reply.Reply.{Reply}
-use Rattle.sl_trace.specs.declared.reply.Reply.TheVariants.{Done, NoOrphan, NotHeld}
+use Rattle.sl_trace.specs.declared.reply.Reply.TheVariants.{Done, Limit as LimitReached, NoOrphan, NotHeld}
 use Rattle.sl_words.proofs.CaseLaws.{false_is_true, none_some, not_both, true_is_false}
+use Rattle.sl_words.specs.Bounds.{is_number}
 use Rattle.sl_words.specs.Words.{choose}
 use Rattle.sl_acts.specs.Acts.{next_of_release}
-use Rattle.sl_due_facts.proofs.Jobs.PlainNexts.{release_plain}
 use Rattle.std.proofs.Common.{ap, inl, inr, refl, subst, sym, ◌∙◌}
 use Rattle.std.proofs.lemmas.Bool.{eqb-true}
 use Rattle.std.specs.List.{list_any}
 use Rattle.std.specs.Option.{option_map_or}
-use Rattle.std.specs.Prelude.{Bool, Contains, List, None, Ok, Option, Some, [], false, is_none, true, ℕ, ◌&&◌, ◌++◌, ◌==◌, ◌∷◌, ◌≡◌}
+use Rattle.std.specs.Prelude.{Bool, Contains, List, None, Ok, Option, Some, [], false, is_none, true, ℕ, ◌&&◌, ◌++◌, ◌+◌, ◌==◌, ◌∷◌, ◌≡◌}
 
 -- ---- who may be released
 
@@ -129,34 +131,39 @@ lease_grants s at n Shared lver p k y = by k.own where
   by None = refl
   by (Some own) = refl
 
--- What is left of the lease after the end.
+-- What is left of the lease after the end: other holdings, or what is written next; or the turn of that would pass its limit.
 pub data Remains (n : ℕ) (s : Session) (g : Grant) (w z : Step) : Type 0 where
   Others_remain : (h : Grant) (hs : List Grant) → holdings_on (seen (add_end (end_of g) w)) s (spot_of_grant g) ≡ h ∷ hs → z.effects.replies ≡ w.effects.replies ++ record { job = n; reply = Done } ∷ [] → Remains n s g w z
   None_remains : ((q : Reply) → Spares (Says q) w z) → Remains n s g w z
+  Turn_passes : holdings_on (seen (add_end (end_of g) w)) s (spot_of_grant g) ≡ [] → is_shared g.mode ≡ true → w.setting.layout.paired ≡ true →
+      is_number ((known w.setting (seen (add_end (end_of g) w)) s (spot_of_grant g)).turn + 1) ≡ false → z.effects.replies ≡ w.effects.replies ++ record { job = n; reply = LimitReached TurnLimit } ∷ [] → Remains n s g w z
 
 pub record GivenUp (n : ℕ) (s : Session) (g : Grant) (w z : Step) : Type 0 where
   pub ends : z.effects.ends ≡ w.effects.ends ++ end_of g ∷ []
   pub grants : z.effects.grants ≡ w.effects.grants
   pub remains : Remains n s g w z
 
-pub given_up : (n : ℕ) (c : Command) (s : Session) (g : Grant) (w : Step) → w.setting.layout.paired ≡ false → GivenUp n s g w (carry_decision n c (GivesUp s g) w)
-unfolding carry_decision after_end
-given_up n c s g w plain = by (holdings_on (seen y) s (spot_of_grant g)) refl where
+pub given_up : (n : ℕ) (c : Command) (s : Session) (g : Grant) (w : Step) → GivenUp n s g w (carry_decision n c (GivesUp s g) w)
+unfolding carry_decision after_end carry_lease
+given_up n c s g w = by (holdings_on (seen y) s (spot_of_grant g)) refl where
   y : Step
   y = add_end (end_of g) w
 
-  next : next_of_release y.setting (seen y) s (spot_of_grant g) g ≡ release_next (lease_place y.setting s) (known y.setting (seen y) s (spot_of_grant g)) g.mode g.lver
-  next = release_plain y.setting (seen y) s (spot_of_grant g) g plain
+  shows : (mode : Mode) → writes_own_block (release_next (lease_place y.setting s) (known y.setting (seen y) s (spot_of_grant g)) mode g.lver) ≡ true → is_shared mode ≡ true
+  shows Exclusive writes = absurd (false_is_true writes)
+  shows Shared writes = refl
 
   by : (hs : List Grant) → holdings_on (seen y) s (spot_of_grant g) ≡ hs
       → GivenUp n s g w (elim hs as (λ z. Step) [ k ∷ ks ↦ add_reply n Done y | [] ↦ carry_lease s (spot_of_grant g) (ForJob n) (next_of_release y.setting (seen y) s (spot_of_grant g) g) y ])
   by (k ∷ ks) is = record { ends = refl; grants = refl; remains = Others_remain k ks is refl }
   by [] is =
-      record {
-        ends = ap (λ z. (carry_lease s (spot_of_grant g) (ForJob n) z y).effects.ends) next ∙ lease_ends s (spot_of_grant g) n g.mode g.lver (lease_place y.setting s) (known y.setting (seen y) s (spot_of_grant g)) y;
-        grants = ap (λ z. (carry_lease s (spot_of_grant g) (ForJob n) z y).effects.grants) next ∙ lease_grants s (spot_of_grant g) n g.mode g.lver (lease_place y.setting s) (known y.setting (seen y) s (spot_of_grant g)) y;
-        remains = None_remains (λ q. releasing q s (spot_of_grant g) n g w y plain (λ a there is. there));
-      }
+      release_is (λ z. GivenUp n s g w (carry_lease s (spot_of_grant g) (ForJob n) z y)) y.setting (seen y) s (spot_of_grant g) g
+      (λ fits. record {
+        ends = lease_ends s (spot_of_grant g) n g.mode g.lver (lease_place y.setting s) (known y.setting (seen y) s (spot_of_grant g)) y;
+        grants = lease_grants s (spot_of_grant g) n g.mode g.lver (lease_place y.setting s) (known y.setting (seen y) s (spot_of_grant g)) y;
+        remains = None_remains (λ q. releasing_by q s (spot_of_grant g) n g.mode g.lver (lease_place y.setting s) (known y.setting (seen y) s (spot_of_grant g)) w y (λ a there is. there));
+      })
+      (λ paired over writes. record { ends = refl; grants = refl; remains = Turn_passes is (shows g.mode writes) paired over refl })
 
 -- ---- what a release that runs has ended
 
@@ -188,7 +195,7 @@ release_ends st past e text c j w due_so line says runs at = giving (is_giving c
     place = (kept_inside (λ (h : Grant). same_place h.path h.offset u.resource.path u.resource.offset) (holdings_of (seen x) s) g u.held).1
 
     ends : e.effects.ends ≡ x.effects.ends ++ end_of g ∷ []
-    ends = ap (λ (f : Effects). f.ends) done ∙ ((last_is_silent (carry_decision n c (GivesUp s g) (with_input (Line text) x))).ends ∙ (given_up n c s g (with_input (Line text) x) (ap (λ (q : Setting). q.layout.paired) k.head.setting ∙ w.setting.unpaired)).ends)
+    ends = ap (λ (f : Effects). f.ends) done ∙ ((last_is_silent (carry_decision n c (GivesUp s g) (with_input (Line text) x))).ends ∙ (given_up n c s g (with_input (Line text) x)).ends)
 
     of : (p : ℕ) → g.process ≡ p → HasEnded (e ∷ past) j u.resource p
     of p its = (e, at, ap (λ es. ends_for u.resource p es) ends ∙ ends_it u.resource g p x.effects.ends its place)

@@ -10,12 +10,15 @@ use Rattle.sl_due_leases.proofs.Holdings.LeaseConversions.{spot_is}
 use Rattle.sl_due_facts.proofs.Jobs.SessionsArePresent.{session_has}
 use Rattle.sl_plain.proofs.Lists.{contains_cases, contains_none, find_inside, kept_inside}
 use Rattle.sl_trace.specs.declared.effects.Grant.{Grant}
-use Rattle.sl_trace.specs.declared.effects.Op.{Op}
 use Rattle.std.proofs.lemmas.Bool.{eqb-true}
-use Rattle.sl_area.specs.Places.{blocks_in, leader_of}
+use Rattle.sl_acts.proofs.Pairs.Decisions.{bytes_are}
+use Rattle.sl_acts.proofs.Pairs.Decoding.{AreBlocks, ArePairs, blocks_are, leader_is}
+use Rattle.sl_acts.proofs.Pairs.Given.{first_are_pairs, last_are_blocks}
+use Rattle.sl_acts.proofs.Pairs.Records.{block_lver}
+use Rattle.sl_area.specs.Places.{blocks_of, leader_read}
 use Rattle.sl_due.specs.DueLease.{goes_on, next_of_lease}
 use Rattle.sl_due.specs.Steps.{Step, seen}
-use Rattle.sl_due_law.proofs.Whole.AreaWrites.{AreBlocks, areas_well, last_are_blocks}
+use Rattle.sl_due_law.proofs.Whole.AreaWrites.{areas_well}
 use Rattle.sl_due_law.proofs.Whole.ConversionWrites.{moded}
 use Rattle.sl_due_law.proofs.Whole.LeaderWrites.{leader_well}
 use Rattle.sl_due_law.proofs.Whole.ReleaseWrites.{unmoded}
@@ -23,7 +26,6 @@ use Rattle.sl_due_law.proofs.Whole.SettleWrites.{MayWrite, OwnWell, begins_well,
 use Rattle.sl_due_law.specs.Whole.Writes.{LeaseWrites}
 use Rattle.sl_due_law.proofs.Whole.BallotWrites.{phase1_own}
 use Rattle.sl_area.specs.Layouts.{sizes}
-use Rattle.sl_due_leases.proofs.Ways.Decoding.{blocks_read, leader_read}
 use Rattle.sl_lease.proofs.RecordFacts.{phase2_begun}
 use Rattle.sl_lease.specs.Bounds.{IsBegun}
 use Rattle.sl_due_leases.proofs.Leases.WorkIsActive.{work_is_active}
@@ -34,8 +36,8 @@ use Rattle.sl_due_leases.proofs.Ways.NewestCall.{block_is, submitted_here}
 use Rattle.sl_due_leases.proofs.Ways.Places.{spot_aligned}
 use Rattle.sl_due_leases.proofs.Ways.WayNumbers.{EndsBy, ended_below, ends_by, is_verified, lver_of, own_lver}
 use Rattle.sl_trace.specs.Ballots.{ballot_blocks, is_ahead, moded_block, phase2_block, same_owner, stop_of, value_of}
-use Rattle.sl_trace.specs.LeaseWork.{LeasePlace, after_clearing, after_freeing, after_moding, after_phase1, after_phase2, after_read, after_take, begin_next, first_step, leader_for, lease_next, lease_place, looks_for_shared, lost_next, part_read, phase2_next, settle_next, stopped_next, unstopped_next, won_next}
-use Rattle.sl_trace.specs.Leases.{LeaseKnown, block_submitted, ended_ballot, ended_ballots, exclusive_on, holdings_on, known, lease_calls, lease_step, lver_written, mode_gen_of, owed_free, shared_elsewhere, spot_of_call}
+use Rattle.sl_trace.specs.LeaseWork.{LeasePlace, after_clearing, after_freeing, after_moding, after_phase1, after_phase2, after_read, after_take, begin_next, first_step, heard, leader_for, lease_next, lease_place, looks_for_shared, lost_next, phase2_next, settle_next, stopped_next, unstopped_next, won_next}
+use Rattle.sl_trace.specs.Leases.{LeaseKnown, base_turn, block_submitted, ended_ballot, ended_ballots, exclusive_on, holdings_on, known, lease_calls, lease_step, lver_written, mode_gen_of, owed_free, shared_elsewhere, spot_of_call, verified_name}
 use Rattle.sl_trace.specs.declared.lease.Aim.TheVariants.{Acquires, Converts, Releases, Settles}
 use Rattle.sl_trace.specs.declared.lease.Aim.{Aim}
 use Rattle.sl_trace.specs.declared.lease.LeaseNext.TheVariants.{AnswerJob, BecomeExclusive, BecomeShared, Nothing, WriteBlock, WriteLeader}
@@ -62,8 +64,6 @@ use Rattle.sl_trace.specs.declared.input.Answer.TheVariants.{Failed, Read, Writt
 use Rattle.sl_trace.specs.declared.input.Answer.{Answer}
 use Rattle.sl_trace.specs.declared.reply.Reply.TheVariants.{Held as HeldBy, IoFault, Shared as SharedBy}
 use Rattle.sl_words.proofs.CaseLaws.{none_some, some_value}
-use Rattle.sl_due_law.proofs.Causes.Leases.NewestWays.{IsPlainStep, plain_step}
-use Rattle.sl_trace.proofs.PlainWork.{bytes_plain}
 use Rattle.sl_sector.specs.declared.sector.Leader.{Leader}
 use Rattle.std.proofs.Common.{ap, arith, inl, inr, refl, subst, sym, ◌∙◌}
 use Rattle.std.specs.Option.{option_map_or}
@@ -75,11 +75,11 @@ above : (a n : ℕ) → a < n → 1 ≤ n
 above a n less = omega (arith, less)
 
 -- So the instance of each ballot that ended is one.
-ended_one : (w : WayContext) → w.layout.paired ≡ false → (ms : List Submitted) → Ways w ms → (n : ℕ) (o : Owner) → Contains (ended_ballots w.layout ms) (n, o) → 1 ≤ n
-ended_one w plain [] h n o there = absurd (contains_none (n, o) there)
-ended_one w plain (m ∷ ms) h n o there = by (ended_ballot w.layout m ms) refl there (λ rest. ended_one w plain ms h.1 n o rest) where
+ended_one : (w : WayContext) (ms : List Submitted) → Ways w ms → (n : ℕ) (o : Owner) → Contains (ended_ballots w.layout ms) (n, o) → 1 ≤ n
+ended_one w [] h n o there = absurd (contains_none (n, o) there)
+ended_one w (m ∷ ms) h n o there = by (ended_ballot w.layout m ms) refl there (λ rest. ended_one w ms h.1 n o rest) where
   ended : ended_ballot w.layout m ms ≡ Some (n, o) → 1 ≤ n
-  ended is = let e : EndsBy w.layout m ms n o = ends_by w.layout m ms n o is in subst (λ z. 1 ≤ z) e.lver (own_begun w plain ms h.1 e.own e.known)
+  ended is = let e : EndsBy w.layout m ms n o = ends_by w.layout m ms n o is in subst (λ z. 1 ≤ z) e.lver (own_begun w ms h.1 e.own e.known)
 
   by : (e : Option (ℕ × Owner)) → ended_ballot w.layout m ms ≡ e → Contains (elim e as (λ z. List (ℕ × Owner)) [ None ↦ ended_ballots w.layout ms | Some p ↦ p ∷ ended_ballots w.layout ms ]) (n, o)
       → (Contains (ended_ballots w.layout ms) (n, o) → 1 ≤ n) → 1 ≤ n
@@ -108,6 +108,9 @@ record IsOwn (k : LeaseKnown) (n : ℕ) : Type 0 where
   under : n ≡ own.lver
 
 -- ---- by the answer
+
+some_hosts : (id hosts : ℕ) → (1 ≤ id) × (id ≤ hosts) → 1 ≤ hosts
+some_hosts id hosts within = omega (arith, within.0, within.1)
 
 one_more : (n : ℕ) → 1 ≤ n + 1
 one_more n = omega arith
@@ -222,47 +225,42 @@ owed_well p k lead won = by (owed_free k) refl where
       let h = won n (subst (λ z. k.won ≡ Some z) same from.1) in lead.leads false n h.own h.knows h.one h.fits
 
 -- After a read that gave this leader and these blocks.
-read_known : (p : LeasePlace) (k : LeaseKnown) (aim : Aim) (leader : Option Leader) (read : List (Option Block)) (step : LeaseStep) → IsPlainStep step → ((l : Leader) → leader ≡ Some l → IsLeader l) → AreBlocks read
+read_known : (p : LeasePlace) (k : LeaseKnown) (aim : Aim) (leader : Option Leader) (read : List (Option Block)) (step : LeaseStep) → ((l : Leader) → leader ≡ Some l → IsLeader l) → AreBlocks read
     → MayWrite p k → OwnWell k → LeadWell p k → AreBlocks k.read → ((n : ℕ) → k.won ≡ Some n → IsHeldUnder k n) → (step ≡ Phase1Read → (own : Block) → k.own ≡ Some own → IsBegun own)
     → LeaseWrites (after_read p k aim leader read step)
-read_known p k aim leader read (ReadArea name) once leads shows may well lead all won h = areas_well p k aim name leader read leads may well all
-read_known p k aim leader read ReadBeforeFree once leads shows may well lead all won h = owed_well p k lead won
-read_known p k aim leader read ReadBeforeBlock once leads shows may well lead all won h = absurd once
-read_known p k aim leader read (ReadAgain again) once leads shows may well lead all won h = absurd once
-read_known p k aim leader read Phase1Read once leads shows may well lead all won h = begun_well p k aim read k.own may well shows (h refl)
-read_known p k aim leader read Phase2Read once leads shows may well lead all won h = ended_well p k aim read k.own refl may well lead
-read_known p k aim leader read Phase1Write once leads shows may well lead all won h = tt
-read_known p k aim leader read Phase2Write once leads shows may well lead all won h = tt
-read_known p k aim leader read TakeLeader once leads shows may well lead all won h = tt
-read_known p k aim leader read SetMode once leads shows may well lead all won h = tt
-read_known p k aim leader read FreeLeader once leads shows may well lead all won h = tt
-read_known p k aim leader read ClearMode once leads shows may well lead all won h = tt
+read_known p k aim leader read (ReadArea name) leads shows may well lead all won h = areas_well p k aim name leader read leads may well all
+read_known p k aim leader read ReadBeforeFree leads shows may well lead all won h = owed_well p k lead won
+read_known p k aim leader read ReadBeforeBlock leads shows may well lead all won h = settles_known p k may well
+read_known p k aim leader read (ReadAgain again) leads shows may well lead all won h = tt
+read_known p k aim leader read Phase1Read leads shows may well lead all won h = begun_well p k aim read k.own may well shows (h refl)
+read_known p k aim leader read Phase2Read leads shows may well lead all won h = ended_well p k aim read k.own refl may well lead
+read_known p k aim leader read Phase1Write leads shows may well lead all won h = tt
+read_known p k aim leader read Phase2Write leads shows may well lead all won h = tt
+read_known p k aim leader read TakeLeader leads shows may well lead all won h = tt
+read_known p k aim leader read SetMode leads shows may well lead all won h = tt
+read_known p k aim leader read FreeLeader leads shows may well lead all won h = tt
+read_known p k aim leader read ClearMode leads shows may well lead all won h = tt
 
-first_plain_step : (step : LeaseStep) → IsPlainStep step → first_step step ≡ step
-first_plain_step (ReadAgain read) once = absurd once
-first_plain_step ReadBeforeBlock once = absurd once
-first_plain_step step once = refl
-
-answers_known : (p : LeasePlace) (k : LeaseKnown) (aim : Aim) (call n : ℕ) (step : LeaseStep) (answer : Answer) → p.layout.paired ≡ false → IsPlainStep step → MayWrite p k → OwnWell k → LeadWell p k → AreBlocks k.read → (step ≡ SetMode → IsOwn k n) → ((e : ℕ) → k.exclusive ≡ Some e → IsHeldUnder k e) → ((n : ℕ) → k.won ≡ Some n → IsHeldUnder k n)
-    → (step ≡ Phase1Read → (own : Block) → k.own ≡ Some own → IsBegun own) → LeaseWrites (lease_next p k aim call n step answer)
+answers_known : (p : LeasePlace) (k : LeaseKnown) (aim : Aim) (call n : ℕ) (step : LeaseStep) (answer : Answer) → ArePairs k.kept → MayWrite p k → OwnWell k → LeadWell p k → AreBlocks k.read → (step ≡ SetMode → IsOwn k n) → ((e : ℕ) → k.exclusive ≡ Some e → IsHeldUnder k e) → ((n : ℕ) → k.won ≡ Some n → IsHeldUnder k n)
+    → (first_step step ≡ Phase1Read → (own : Block) → k.own ≡ Some own → IsBegun own) → LeaseWrites (lease_next p k aim call n step answer)
 unfolding lease_next
-answers_known p k aim call n step Failed plain once may well lead all set held won h = refuses_well aim (IoFault call)
-answers_known p k aim call n step (Read bytes) plain once may well lead all set held won h =
-    subst (λ z. LeaseWrites z)
-    (ap (λ z. after_read p k aim (leader_of p.layout bytes) (blocks_in p.layout (part_read p.layout bytes z)) z) (sym (first_plain_step step once)) ∙ sym (bytes_plain p k aim bytes step plain))
-    (read_known p k aim (leader_of p.layout bytes) (blocks_in p.layout (part_read p.layout bytes step)) step once (λ l is. leader_read p.layout bytes l is) (blocks_read p.layout (part_read p.layout bytes step)) may well lead all won h)
-answers_known p k aim call n (ReadArea name) Written plain once may well lead all set held won h = tt
-answers_known p k aim call n ReadBeforeBlock Written plain once may well lead all set held won h = tt
-answers_known p k aim call n (ReadAgain read) Written plain once may well lead all set held won h = tt
-answers_known p k aim call n ReadBeforeFree Written plain once may well lead all set held won h = tt
-answers_known p k aim call n Phase1Read Written plain once may well lead all set held won h = tt
-answers_known p k aim call n Phase2Read Written plain once may well lead all set held won h = tt
-answers_known p k aim call n Phase1Write Written plain once may well lead all set held won h = tt
-answers_known p k aim call n Phase2Write Written plain once may well lead all set held won h = tt
-answers_known p k aim call n TakeLeader Written plain once may well lead all set held won h = take_well p k aim n may well lead
-answers_known p k aim call n SetMode Written plain once may well lead all set held won h = moding_well p k aim n well lead (set refl) held
-answers_known p k aim call n FreeLeader Written plain once may well lead all set held won h = freeing_well p k aim n may well
-answers_known p k aim call n ClearMode Written plain once may well lead all set held won h = clearing_well p k aim may well
+answers_known p k aim call n step Failed kept may well lead all set held won h = refuses_well aim (IoFault call)
+answers_known p k aim call n step (Read bytes) kept may well lead all set held won h =
+    bytes_are LeaseWrites p k aim bytes step (λ read again. tt)
+    (λ once. read_known p k aim (leader_read p.layout bytes (heard p.layout k bytes step)) (blocks_of p.layout (heard p.layout k bytes step)) (first_step step)
+    (λ l is. leader_is p.layout (some_hosts k.self.id p.layout.hosts may.id, may.hosts) bytes (heard p.layout k bytes step) kept l is) (blocks_are p.layout (heard p.layout k bytes step) kept) may well lead all won h)
+answers_known p k aim call n (ReadArea name) Written kept may well lead all set held won h = tt
+answers_known p k aim call n ReadBeforeBlock Written kept may well lead all set held won h = tt
+answers_known p k aim call n (ReadAgain read) Written kept may well lead all set held won h = tt
+answers_known p k aim call n ReadBeforeFree Written kept may well lead all set held won h = tt
+answers_known p k aim call n Phase1Read Written kept may well lead all set held won h = tt
+answers_known p k aim call n Phase2Read Written kept may well lead all set held won h = tt
+answers_known p k aim call n Phase1Write Written kept may well lead all set held won h = tt
+answers_known p k aim call n Phase2Write Written kept may well lead all set held won h = tt
+answers_known p k aim call n TakeLeader Written kept may well lead all set held won h = take_well p k aim n may well lead
+answers_known p k aim call n SetMode Written kept may well lead all set held won h = moding_well p k aim n well lead (set refl) held
+answers_known p k aim call n FreeLeader Written kept may well lead all set held won h = freeing_well p k aim n may well
+answers_known p k aim call n ClearMode Written kept may well lead all set held won h = clearing_well p k aim may well
 
 -- ---- a session's lease
 
@@ -273,14 +271,18 @@ lead_well x s at w inside active aligned =
     let ways = w.facts.ways.each s at inside aligned in
     let numbers = w.facts.delta.numbers s inside (active_is_joined x.setting (seen x) s active) in
     record {
-      begun = λ b is. own_begun (way_context x.setting (seen x) s) w.setting.unpaired (lease_calls x.setting (seen x) s at) ways b is;
+      begun = λ b is. own_begun (way_context x.setting (seen x) s) (lease_calls x.setting (seen x) s at) ways b is;
       leads = λ held n b is one fits.
-          leader_well x.setting (seen x) s at held n w.setting inside numbers ways (is_verified (way_context x.setting (seen x) s) w.setting.unpaired (lease_calls x.setting (seen x) s at) ways b is) one fits;
+          leader_well x.setting (seen x) s at held n w.setting inside numbers ways (is_verified (way_context x.setting (seen x) s) (lease_calls x.setting (seen x) s at) ways b is) one fits;
     }
 
-read_well : (x : Step) (s : Session) (at : Spot) → x.setting.layout.paired ≡ false → AreBlocks (known x.setting (seen x) s at).read
+read_well : (x : Step) (s : Session) (at : Spot) → AreBlocks (known x.setting (seen x) s at).read
 unfolding known
-read_well x s at plain = last_are_blocks x.setting.layout plain (lease_calls x.setting (seen x) s at)
+read_well x s at = last_are_blocks x.setting.layout (lease_calls x.setting (seen x) s at)
+
+kept_well : (x : Step) (s : Session) (at : Spot) → ArePairs (known x.setting (seen x) s at).kept
+unfolding known
+kept_well x s at = first_are_pairs x.setting.layout (lease_calls x.setting (seen x) s at)
 
 held_under : (x : Step) (s : Session) (at : Spot) (e : ℕ) → Whole x → Contains (sessions x.setting (seen x)) s → (known x.setting (seen x) s at).exclusive ≡ Some e → IsHeldUnder (known x.setting (seen x) s at) e
 unfolding known
@@ -310,8 +312,8 @@ won_under x s at n w inside aligned is =
     let there = left_is_won x.setting.layout (me (seen x) s) ms n is in
     let wrote = ended_wrote x.setting.layout ms n (me (seen x) s) there in
     record {
-      one = ended_one (way_context x.setting (seen x) s) w.setting.unpaired ms ways n (me (seen x) s) there;
-      fits = smaller n (own_lver ms) wrote.0.lver (ended_below (way_context x.setting (seen x) s) w.setting.unpaired ms ways n (me (seen x) s) there) (lver_of ms wrote.0 wrote.1) (own_is_record x s at wrote.0 w wrote.1).lver;
+      one = ended_one (way_context x.setting (seen x) s) ms ways n (me (seen x) s) there;
+      fits = smaller n (own_lver ms) wrote.0.lver (ended_below (way_context x.setting (seen x) s) ms ways n (me (seen x) s) there) (lver_of ms wrote.0 wrote.1) (own_is_record x s at wrote.0 w wrote.1).lver;
       own = wrote.0;
       knows = wrote.1;
     }
@@ -326,26 +328,27 @@ set_own x s work m answer w h is =
     subst (λ ms. Ways (way_context x.setting (seen x) s) ms) first.1 (w.facts.ways.each s at inside (spot_aligned x.setting.layout.area m.call.offset))
     in
     let way : ModeWay (way_context x.setting (seen x) s) work m.at m.call first.0 = subst (λ p. PurposeWay (way_context x.setting (seen x) s) m.at m.call first.0 p) is ways.0.way in
+    let context : WayContext = way_context x.setting (seen x) s in
     let b : Block = moded_block way.own true (me (seen x) s).generation in
     record {
       own = b;
-      knows = ap (λ ms. block_submitted ms) first.1 ∙ submitted_here m first.0 b (block_is m b way.wrote);
-      under = ap (λ (o : Op). lver_written (record m { call = record m.call { op = o } })) way.wrote;
+      knows = ap (λ ms. block_submitted ms) first.1 ∙ submitted_here m first.0 b (block_is context first.0 m b way.wrote);
+      under = block_lver context.layout (base_turn context.layout context.self.id first.0 + 1) context.lockspace (verified_name context.layout context.lockspace first.0) m b way.wrote;
     }
 
 -- After the read of phase 1 the own block is one that a ballot has begun.
-begun_own : (x : Step) (s : Session) (work : Work) (m : Submitted) (answer : Answer) → Whole x → Hears x s m answer → m.call.purpose ≡ Lease work Phase1Read
+begun_own : (x : Step) (s : Session) (work : Work) (step : LeaseStep) (m : Submitted) (answer : Answer) → Whole x → Hears x s m answer → m.call.purpose ≡ Lease work step → first_step step ≡ Phase1Read
     → (own : Block) → (known x.setting (seen x) s (spot_of_call x.setting.layout m)).own ≡ Some own → IsBegun own
 unfolding known
-begun_own x s work m answer w h is own knows =
+begun_own x s work step m answer w h is reads own knows =
     let at : Spot = spot_of_call x.setting.layout m in
     let inside = there_has x.setting (seen x) s.number s (heard_has x s m answer h) in
-    let one = phase1_own x s work m answer w h is in
+    let one = phase1_own x s work step m answer w h is reads in
     let same : one.own ≡ own = some_value one.own own (sym one.knows ∙ knows) in
     record {
       block = own_is_record x s at own w knows;
       begun = (
-        own_begun (way_context x.setting (seen x) s) w.setting.unpaired (lease_calls x.setting (seen x) s at) (w.facts.ways.each s at inside (spot_aligned x.setting.layout.area m.call.offset)) own knows,
+        own_begun (way_context x.setting (seen x) s) (lease_calls x.setting (seen x) s at) (w.facts.ways.each s at inside (spot_aligned x.setting.layout.area m.call.offset)) own knows,
         subst (λ (z : Block). 1 ≤ z.mbal) same one.mbal,
       );
     }
@@ -358,11 +361,11 @@ answers_well x s work step m answer aim w h is on =
     let aligned = spot_aligned x.setting.layout.area m.call.offset in
     let active : is_active x.setting (seen x) s ≡ true = by work is on in
     within_well (lease_place x.setting s) (known x.setting (seen x) s (spot_of_call x.setting.layout m)) aim _
-    (answers_known (lease_place x.setting s) (known x.setting (seen x) s (spot_of_call x.setting.layout m)) aim m.call.number _ step answer w.setting.unpaired (plain_step x s work step m answer w h is)
+    (answers_known (lease_place x.setting s) (known x.setting (seen x) s (spot_of_call x.setting.layout m)) aim m.call.number _ step answer (kept_well x s (spot_of_call x.setting.layout m))
     (may_write x s (spot_of_call x.setting.layout m) w inside (w.facts.delta.numbers s inside (active_is_joined x.setting (seen x) s active))) (own_well x s (spot_of_call x.setting.layout m) w inside aligned)
-    (lead_well x s (spot_of_call x.setting.layout m) w inside active aligned) (read_well x s (spot_of_call x.setting.layout m) w.setting.unpaired)
+    (lead_well x s (spot_of_call x.setting.layout m) w inside active aligned) (read_well x s (spot_of_call x.setting.layout m))
     (λ sets. set_own x s work m answer w h (subst (λ z. m.call.purpose ≡ Lease work z) sets is)) (λ e. held_under x s (spot_of_call x.setting.layout m) e w inside) (λ n. won_under x s (spot_of_call x.setting.layout m) n w inside aligned)
-    (λ reads. begun_own x s work m answer w h (subst (λ z. m.call.purpose ≡ Lease work z) reads is)))
+    (λ reads. begun_own x s work step m answer w h is reads))
   where
     by : (work : Work) → m.call.purpose ≡ Lease work step → goes_on x.setting (seen x) s work ≡ true → is_active x.setting (seen x) s ≡ true
     by Settling is on = on

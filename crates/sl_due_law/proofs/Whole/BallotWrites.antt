@@ -6,22 +6,24 @@ use Rattle.sl_run.specs.Lawful.{IsSetting, Orderly}
 use Rattle.sl_run.specs.LawfulBlock.{LawfulBlock, LawfulBlockStep, LawfulPhase1}
 use Rattle.sl_run.specs.LawfulCalls.{LawfulCalls}
 use Rattle.sl_run.specs.Saying.{cut_at}
-use Rattle.sl_due_leases.proofs.Ways.Kept.EffectsLeave.{there_has}
-use Rattle.sl_due_leases.proofs.Ways.Kept.HeardStands.{heard_call, heard_has, heard_open}
 use Rattle.sl_due_leases.proofs.Ways.Kept.PlacesStand.{id_in_range}
-use Rattle.sl_due_leases.proofs.Ways.NewestCall.{block_is, read_writes_no_block, submitted_here, submitted_passed}
-use Rattle.sl_due_leases.proofs.Ways.Places.{spot_aligned}
+use Rattle.sl_due_leases.proofs.Ways.NewestCall.{block_is, read_writes_no_block, submitted_passed}
+use Rattle.sl_due_leases.proofs.Ways.WayStages.{ReadBehind, asked1_own, made_behind, older_inside, prior_inside, rest_own, write1}
+use Rattle.sl_due_law.proofs.Causes.Leases.NewestWays.{NewestWays, newest_ways}
 use Rattle.sl_trace.specs.Leases.{block_submitted, block_written, is_lease_call, is_on, last_blocks, lease_calls, lease_step, spot_of_call}
-use Rattle.sl_plain.proofs.Lists.{contains_first, contains_more, got_inside, kept_inside}
+use Rattle.sl_plain.proofs.Lists.{contains_more, got_inside, kept_inside}
 use Rattle.sl_plain.proofs.Options.{some_of}
 use Rattle.sl_sector.specs.declared.sector.Block.{Block}
 use Rattle.sl_trace.specs.Sessions.{calls_of, is_call_of, me, session_numbered, sessions}
 use Rattle.sl_trace.specs.declared.session.Session.{Session}
-use Rattle.sl_due_facts.specs.Facts.WayFacts.{Phase1ReadWay, Phase1Way, PurposeWay, WayContext, Ways, way_context}
+use Rattle.sl_due_facts.specs.Facts.WayFacts.{Phase1ReadWay, Phase1Way, WayContext, way_context}
 use Rattle.sl_due_facts.specs.Facts.Whole.{Whole}
 use Rattle.sl_trace.proofs.TraceFacts.{each_entry-front}
 use Rattle.sl_trace.specs.Traces.{EachEntry, Setting, Submitted, Trace, new_call, submitted}
+use Rattle.sl_trace.specs.LeaseWork.{first_step}
+use Rattle.sl_trace.specs.declared.effects.LeaseRead.TheVariants.{OfPhase1}
 use Rattle.sl_trace.specs.declared.effects.LeaseStep.TheVariants.{Phase1Read, Phase1Write}
+use Rattle.sl_trace.specs.declared.effects.LeaseStep.{LeaseStep}
 use Rattle.sl_trace.specs.declared.effects.Purpose.TheVariants.{Lease}
 use Rattle.sl_trace.specs.declared.effects.Purpose.{Purpose}
 use Rattle.sl_trace.specs.declared.effects.Spot.{Spot}
@@ -31,7 +33,7 @@ use Rattle.sl_trace_law.proofs.Sessions.Making.{calls_are_made}
 use Rattle.sl_trace_law.specs.Sessions.Promises.{IsMade}
 use Rattle.sl_words.specs.Words.{present}
 use Rattle.std.proofs.Common.{ap, arith, subst, sym, ◌∙◌}
-use Rattle.std.specs.Prelude.{Contains, List, None, Some, is_some, length, ℕ, ◌&&◌, ◌*◌, ◌+◌, ◌∷◌, ◌≡◌, ◌≤◌}
+use Rattle.std.specs.Prelude.{Contains, List, None, Some, length, true, ℕ, ◌&&◌, ◌*◌, ◌+◌, ◌∷◌, ◌≡◌, ◌≤◌}
 
 numbered : (id m mbal : ℕ) → 1 ≤ id → mbal ≡ id + m → 1 ≤ mbal
 numbered id m mbal one is = omega (arith, one, is)
@@ -61,26 +63,48 @@ pub record IsPhase1 (ms : List Submitted) : Type 0 where
   pub knows : block_submitted ms ≡ Some own
   pub mbal : 1 ≤ own.mbal
 
-pub phase1_own : (x : Step) (s : Session) (work : Work) (m : Submitted) (answer : Answer) → Whole x → Hears x s m answer → m.call.purpose ≡ Lease work Phase1Read
+pub phase1_own : (x : Step) (s : Session) (work : Work) (step : LeaseStep) (m : Submitted) (answer : Answer) → Whole x → Hears x s m answer → m.call.purpose ≡ Lease work step → first_step step ≡ Phase1Read
     → IsPhase1 (lease_calls x.setting (seen x) s (spot_of_call x.setting.layout m))
-phase1_own x s work m answer w h is =
-    let at : Spot = spot_of_call x.setting.layout m in
-    let context : WayContext = way_context x.setting (seen x) s in
-    let first = w.facts.turns.newest s m h.session (heard_call x s m answer h w).there (heard_open x s m answer h) (ap (λ p. is_some (lease_step p)) is) in
-    let inside = there_has x.setting (seen x) s.number s (heard_has x s m answer h) in
-    let ways : Ways context (m ∷ first.0) = subst (λ ms. Ways context ms) first.1 (w.facts.ways.each s at inside (spot_aligned x.setting.layout.area m.call.offset)) in
-    let way : Phase1ReadWay context work m.at m.call first.0 = subst (λ p. PurposeWay context m.at m.call first.0 p) is ways.0.way in
-    let prior : Submitted = way.after.prior in
-    let rest : List Submitted = way.after.rest in
-    let before : Ways context (prior ∷ rest) = subst (λ ms. Ways context ms) way.after.before ways.1 in
-    let one : Phase1Way context prior.call rest = subst (λ p. PurposeWay context prior.at prior.call rest p) way.after.its before.0.way in
-    let wrote : block_written prior ≡ Some one.own = block_is prior one.own one.wrote in
-    let whole : lease_calls x.setting (seen x) s at ≡ m ∷ prior ∷ rest = first.1 ∙ ap (λ ms. m ∷ ms) way.after.before in
-    let there = subst (λ ms. Contains ms prior) (sym whole) (contains_more m (prior ∷ rest) prior (contains_first prior rest)) in
-    let lease = kept_inside (λ (z : Submitted). is_lease_call z && is_on x.setting.layout at z.call) (calls_of (seen x) s) prior there in
-    let mine = kept_inside (is_call_of s) (submitted (seen x)) prior lease.0 in
+phase1_own x s work step m answer w h is same =
     record {
       own = one.own;
-      knows = ap (λ ms. block_submitted ms) whole ∙ submitted_passed m (prior ∷ rest) (read_writes_no_block m x.setting.layout.hosts way.reads) ∙ submitted_here prior rest one.own wrote;
+      knows = ap (λ ms. block_submitted ms) n.newest ∙ known;
       mbal = begun_mbal x.setting (seen x) prior work one.own w.setting w.orderly mine.0 way.after.its wrote;
-    }
+    } where
+      context : WayContext
+      context = way_context x.setting (seen x) s
+
+      n : NewestWays x s m
+      n = newest_ways x s work step m answer w h is
+
+      read : ReadBehind context work Phase1Read m n.rest
+      read = made_behind context work OfPhase1 step m n.rest same is n.ways.0 n.ways.1
+
+      way : Phase1ReadWay context work read.first.at read.first.call read.older
+      way = read.way
+
+      prior : Submitted
+      prior = way.after.prior
+
+      one : Phase1Way context prior.call way.after.rest
+      one = write1 context work read.first.at read.first.call read.older read.ways way
+
+      wrote : block_written prior ≡ Some one.own
+      wrote = block_is context way.after.rest prior one.own one.wrote
+
+      known : block_submitted (m ∷ n.rest) ≡ Some one.own
+      known =
+          submitted_passed m n.rest (read_writes_no_block m read.sectors read.reads.1)
+          ∙ (rest_own context work Phase1Read m n.rest read ∙ asked1_own context work read.first.at read.first.call read.older read.ways way)
+
+      inside : Contains n.rest prior
+      inside = older_inside context work Phase1Read m n.rest read prior (prior_inside read.older work Phase1Write way.after)
+
+      there : Contains (lease_calls x.setting (seen x) s (spot_of_call x.setting.layout m)) prior
+      there = subst (λ ms. Contains ms prior) (sym n.newest) (contains_more m n.rest prior inside)
+
+      lease : Contains (calls_of (seen x) s) prior × ((is_lease_call prior && is_on x.setting.layout (spot_of_call x.setting.layout m) prior.call) ≡ true)
+      lease = kept_inside (λ (z : Submitted). is_lease_call z && is_on x.setting.layout (spot_of_call x.setting.layout m) z.call) (calls_of (seen x) s) prior there
+
+      mine : Contains (submitted (seen x)) prior × (is_call_of s prior ≡ true)
+      mine = kept_inside (is_call_of s) (submitted (seen x)) prior lease.0

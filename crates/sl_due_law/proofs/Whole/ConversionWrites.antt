@@ -33,7 +33,7 @@ use Rattle.sl_trace.specs.declared.input.Input.TheVariants.{Line, Wake}
 use Rattle.sl_words.proofs.CaseLaws.{one_value, true_is_false}
 use Rattle.sl_words.specs.Words.{same_truth}
 use Rattle.sl_acts.specs.Acts.{next_of_conversion}
-use Rattle.sl_due_facts.proofs.Jobs.PlainNexts.{conversion_plain}
+use Rattle.sl_acts.proofs.Pairs.Decisions.{conversion_is}
 use Rattle.std.proofs.Common.{ap, arith, refl, subst, sym, ◌∙◌}
 use Rattle.std.proofs.lemmas.Bool.{eqb-true}
 use Rattle.std.specs.Option.{option_map_or}
@@ -109,4 +109,4 @@ convert_well x text c s r Shared wake bare w is = by (block_submitted (lease_cal
 pub converts_well : (x : Step) (text : List ℕ) (c : Command) (s : Session) (r : ResourceArg) (mode : Mode) → x.input ≡ Wake → x.effects.calls ≡ [] → Whole x → decided x.setting (seen x) x.reading c ≡ ConvertsTo s r mode
     → LeaseWrites (next_of_conversion x.setting (seen (with_input (Line text) x)) s (spot_of r) mode r.name)
 converts_well x text c s r mode wake bare w is =
-    subst (λ n. LeaseWrites n) (sym (conversion_plain x.setting (seen (with_input (Line text) x)) s (spot_of r) mode r.name w.setting.unpaired)) (convert_well x text c s r mode wake bare w is)
+    conversion_is LeaseWrites x.setting (seen (with_input (Line text) x)) s (spot_of r) mode r.name (λ fits. convert_well x text c s r mode wake bare w is) (λ paired over writes. tt)

@@ -9,7 +9,7 @@ use Rattle.sl_due.specs.DueAnswers.{set_reply}
 use Rattle.sl_due.specs.DueCommands.{after_end, carry_decision, decided}
 use Rattle.sl_due.specs.DueDelta.{carry_delta}
 use Rattle.sl_due.specs.DueInputs.{end_holdings, started_reply}
-use Rattle.sl_due.specs.DueLease.{carry_lease, lease_call, read_for, convert_for, convert_holding, for_work, grant_for, held_otherwise, next_of_lease, with_command}
+use Rattle.sl_due.specs.DueLease.{carry_lease, lease_call, read_for, convert_for, convert_holding, for_work, grant_for, held_otherwise, next_of_lease, next_turn, with_command}
 use Rattle.sl_due.specs.DueRequests.{after_request_read, after_value_read, bits_due, owner_read, request_refusal, value_reply, write_request}
 use Rattle.sl_due.specs.Steps.{Step, add_reply, seen, with_input, add_end, add_grant, with_some}
 use Rattle.sl_due.specs.declared.decision.Decision.{Decision}
@@ -27,7 +27,7 @@ use Rattle.sl_due_leases.proofs.Holdings.HoldingsByLines.{base_of, no_told}
 use Rattle.sl_due_leases.proofs.Holdings.LeaseCallers.{heard_session, spot_aligned}
 use Rattle.sl_due_leases.proofs.Holdings.LeaseConversions.{converted, otherwise, spot_is}
 use Rattle.sl_due_leases.proofs.Holdings.LeaseNexts.{IsFitNext, next_fits}
-use Rattle.sl_due_leases.proofs.Holdings.LeasePlaces.{base_on, block_on, ids_within}
+use Rattle.sl_due_leases.proofs.Holdings.LeasePlaces.{base_on, blocks_on, own_on}
 use Rattle.sl_due_facts.proofs.Jobs.RepliesComeAfter.{request_late, set_late, value_late}
 use Rattle.sl_due_leases.proofs.Ways.Kept.DeltasFit.{freed_fits, joining_fits, renewed_fits, wake_fits}
 use Rattle.sl_due_leases.proofs.Ways.Kept.HeardStands.{heard_has}
@@ -44,9 +44,8 @@ use Rattle.sl_trace.specs.declared.lease.Aim.{Aim}
 use Rattle.sl_trace.specs.declared.lease.LeaseNext.{LeaseNext}
 use Rattle.sl_trace.specs.declared.lease.LeaseNext.TheVariants.{AnswerJob, BecomeExclusive, BecomeShared, GrantJob, ReadFor, WriteBlock, WriteLeader, Nothing}
 use Rattle.sl_plain.proofs.Lists.{got_inside, find_inside, kept_inside}
-use Rattle.sl_plain.proofs.Numbers.{trans_le}
 use Rattle.sl_sector.specs.declared.sector.Block.{Block}
-use Rattle.sl_sector.specs.declared.sector.Rec.TheVariants.{BlockIs, DeltaIs, RequestIs, ValueIs}
+use Rattle.sl_sector.specs.declared.sector.Rec.TheVariants.{DeltaIs, RequestIs, ValueIs}
 use Rattle.sl_trace.specs.Deltas.{delta_known, delta_of_session, next_after_free, next_after_renewal, next_in_joining, next_on_wake, own_offset}
 use Rattle.sl_trace.specs.Sessions.{calls_of, generation_of, recovery_of, sessions, holdings_of}
 use Rattle.sl_trace.specs.declared.delta.DeltaNext.{DeltaNext}
@@ -75,7 +74,8 @@ use Rattle.sl_trace.specs.declared.input.Answer.{Answer}
 use Rattle.sl_trace.specs.declared.input.Answer.TheVariants.{Read}
 use Rattle.sl_trace.specs.declared.input.Input.TheVariants.{Exit, Line, Number, Spawned, Wake}
 use Rattle.sl_trace.specs.declared.reply.Reply.{Reply}
-use Rattle.sl_trace.specs.declared.reply.Reply.TheVariants.{BadCommand as Misread, Done, IoFault, IoTimeout, SpawnFault, Granted}
+use Rattle.sl_trace.specs.declared.reply.Reply.TheVariants.{BadCommand as Misread, Done, Granted, IoFault, IoTimeout, Limit as LimitReached, SpawnFault}
+use Rattle.sl_trace.specs.declared.reply.Limited.TheVariants.{Turn as TurnLimit}
 use Rattle.sl_words.proofs.CaseLaws.{some_value, true_is_false}
 use Rattle.sl_words.proofs.WordLaws.{and_true}
 use Rattle.std.proofs.Common.{refl, subst, ap, inl, sym, ◌∙◌, arith, inr}
@@ -109,7 +109,9 @@ use Rattle.sl_due.specs.Steps.{begin_step}
 use Rattle.sl_due.specs.DueCommands.{after_end}
 use Rattle.sl_due_law.specs.Whole.JobLore.{Converting, HoldsThere, JobLore}
 use Rattle.sl_due_law.specs.Whole.Kept.{Holds, Kept}
-use Rattle.sl_due_facts.proofs.Jobs.PlainNexts.{block_plain, conversion_plain, release_plain}
+use Rattle.sl_acts.proofs.Pairs.Decisions.{conversion_is, release_is}
+use Rattle.sl_due_leases.proofs.Ways.Kept.PlacesStand.{id_in_range}
+use Rattle.sl_due_leases.specs.Ways.Nexts.{next_place, next_record}
 use Rattle.sl_trace.specs.declared.effects.LeaseRead.TheVariants.{OfArea, OfBlock, OfFree, OfPhase1, OfPhase2}
 
 -- ---- what a step rests on
@@ -230,7 +232,7 @@ led x s (ForJob j) step m answer aim k l =
       st = x.setting
 
       id : (1 ≤ s.id) × (s.id ≤ st.layout.hosts)
-      id = ids_within st (seen x) s l.whole.0.setting (got_inside (sessions st (seen x)) s.number s (has_heard x s m answer l.hears))
+      id = id_in_range st l.whole.0.setting (seen x) s (got_inside (sessions st (seen x)) s.number s (has_heard x s m answer l.hears))
 
       h : ConvertsNow x
       h = k.so_far
@@ -238,7 +240,7 @@ led x s (ForJob j) step m answer aim k l =
       blocks : (at : LeaseStep) → ConvertsNow (lease_call s (spot_at x m) (ForJob j) at (block_offset st.layout (spot_at x m).base 1) (ReadSectors (block_sectors st.layout)) x)
       blocks at =
           job_call x s (spot_at x m) j at (block_offset st.layout (spot_at x m).base 1) (ReadSectors (block_sectors st.layout)) (heard_holds x s j step m answer aim k l)
-          (block_on st (spot_at x m) 1 (call_added s.number (spot_at x m).path (Lease (ForJob j) at) (block_offset st.layout (spot_at x m).base 1) (ReadSectors (block_sectors st.layout)) x) l.whole.0.setting (trans_le 1 s.id st.layout.hosts id.0 id.1) refl refl) h
+          (blocks_on st (spot_at x m) s.id (call_added s.number (spot_at x m).path (Lease (ForJob j) at) (block_offset st.layout (spot_at x m).base 1) (ReadSectors (block_sectors st.layout)) x) l.whole.0.setting id refl refl) h
 
       area : (at : LeaseStep) → ConvertsNow (lease_call s (spot_at x m) (ForJob j) at (spot_at x m).base (ReadSectors (area_sectors st.layout)) x)
       area at =
@@ -271,9 +273,10 @@ led x s (ForJob j) step m answer aim k l =
       by Nothing fit = h
       by (ReadFor at) fit = reads at
       by (WriteBlock at b) fit =
-          subst (λ z. ConvertsNow z) (sym (block_plain x s (spot_at x m) (ForJob j) at b l.whole.0.setting.unpaired))
-          (job_call x s (spot_at x m) j at (block_offset st.layout (spot_at x m).base s.id) (WriteRecord (BlockIs b)) (heard_holds x s j step m answer aim k l)
-          (block_on st (spot_at x m) s.id (call_added s.number (spot_at x m).path (Lease (ForJob j) at) (block_offset st.layout (spot_at x m).base s.id) (WriteRecord (BlockIs b)) x) l.whole.0.setting id.1 refl refl) h)
+          let place : ℕ = next_place st (seen x) s (spot_at x m) in
+          let op : Op = WriteRecord (next_record st (seen x) s (spot_at x m) b) in
+          job_call x s (spot_at x m) j at place op (heard_holds x s j step m answer aim k l)
+          (own_on st (spot_at x m) s.id (next_turn st (seen x) s (spot_at x m)) (call_added s.number (spot_at x m).path (Lease (ForJob j) at) place op x) l.whole.0.setting id refl refl) h
       by (WriteLeader at v) fit =
           job_call x s (spot_at x m) j at (leader_offset (spot_at x m).base) (WriteRecord (leader_record st.layout v)) (heard_holds x s j step m answer aim k l)
           (base_on st (spot_at x m) (call_added s.number (spot_at x m).path (Lease (ForJob j) at) (leader_offset (spot_at x m).base) (WriteRecord (leader_record st.layout v)) x) l.whole.0.setting refl refl) h
@@ -311,8 +314,8 @@ conversion : (x : Step) (text : List ℕ) (c : Command) (s : Session) (r : Resou
     → ConvertsNow (carry_lease s (spot_of r) (ForJob (next_job x.setting (seen x))) (next_of_conversion x.setting (seen (with_input (Line text) x)) s (spot_of r) mode r.name) (with_input (Line text) x))
 unfolding carry_lease
 conversion x text c s r mode l g h =
-    subst (λ n. ConvertsNow (carry_lease s (spot_of r) (ForJob (next_job x.setting (seen x))) n (with_input (Line text) x)))
-    (sym (conversion_plain x.setting (seen (with_input (Line text) x)) s (spot_of r) mode r.name l.known.0.setting.unpaired)) (by mode) where
+    conversion_is (λ n. ConvertsNow (carry_lease s (spot_of r) (ForJob (next_job x.setting (seen x))) n (with_input (Line text) x))) x.setting (seen (with_input (Line text) x)) s (spot_of r) mode r.name
+    (λ fits. by mode) (λ paired over writes. told (with_input (Line text) x) (next_job x.setting (seen x)) (LimitReached TurnLimit) refl h) where
       st : Setting
       st = x.setting
 
@@ -326,7 +329,7 @@ conversion x text c s r mode l g h =
       j = next_job x.setting (seen x)
 
       id : (1 ≤ s.id) × (s.id ≤ st.layout.hosts)
-      id = ids_within st (seen y) s l.known.0.setting (got_inside (sessions st (seen y)) s.number s l.has)
+      id = id_in_range st l.known.0.setting (seen y) s (got_inside (sessions st (seen y)) s.number s l.has)
 
       base : (spot_of r).base % x.setting.layout.area ≡ 0
       base = base_of st r (subst (λ k. IsCommand st.layout k) g.command l.command).0
@@ -365,9 +368,10 @@ conversion x text c s r mode l g h =
         sets None = h
         sets (Some own) =
             let b : Block = moded_block own true (known x.setting (seen y) s at).self.generation in
-            subst (λ z. ConvertsNow z) (sym (block_plain y s at (ForJob j) SetMode b l.known.0.setting.unpaired))
-            (job_call y s at j SetMode (block_offset st.layout at.base s.id) (WriteRecord (BlockIs b)) holds
-            (block_on st at s.id (call_added s.number at.path (Lease (ForJob j) SetMode) (block_offset st.layout at.base s.id) (WriteRecord (BlockIs b)) y) l.known.0.setting id.1 refl refl) h)
+            let place : ℕ = next_place st (seen y) s at in
+            let op : Op = WriteRecord (next_record st (seen y) s at b) in
+            job_call y s at j SetMode place op holds
+            (own_on st at s.id (next_turn st (seen y) s at) (call_added s.number at.path (Lease (ForJob j) SetMode) place op y) l.known.0.setting id refl refl) h
 
 -- A release ends what nobody works on.
 giving : (x : Step) (text : List ℕ) (c : Command) (s : Session) (e : Grant) → Lined x text c s → GiveUpGrounds x.setting (seen x) c s e → ConvertsNow (with_input (Line text) x)
@@ -422,8 +426,8 @@ giving x text c s e l g h = by (holdings_on (seen z) s (spot_of_grant e)) where
       ])
   by (k ∷ rest) = told z j Done refl ended
   by [] =
-      subst (λ n. ConvertsNow (carry_lease s (spot_of_grant e) (ForJob (next_job x.setting (seen x))) n (add_end (end_of e) (with_input (Line text) x))))
-      (sym (release_plain x.setting (seen (add_end (end_of e) (with_input (Line text) x))) s (spot_of_grant e) e l.known.0.setting.unpaired)) (mode e.mode)
+      release_is (λ n. ConvertsNow (carry_lease s (spot_of_grant e) (ForJob (next_job x.setting (seen x))) n (add_end (end_of e) (with_input (Line text) x))))
+      x.setting (seen (add_end (end_of e) (with_input (Line text) x))) s (spot_of_grant e) e (λ fits. mode e.mode) (λ paired over writes. told z j (LimitReached TurnLimit) refl ended)
 
 acquires_no_convert : (c : Command) (r : ResourceArg) → AsksLease c r → is_convert c ≡ false
 acquires_no_convert c r (inl a) = ap (λ z. is_convert z) a.3

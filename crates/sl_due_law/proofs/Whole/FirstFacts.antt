@@ -213,7 +213,7 @@ facts_at_first st h =
         unshared = λ m d j step before c mode s w is its there at. absurd (contains_none m w.there);
       };
       grounds = grounds_rest st [];
-      numbers = numbers_follow st h.unpaired [] (ways_first st);
+      numbers = numbers_follow st [] (ways_first st);
       values = record {
         held = λ m j s w. absurd (contains_none m w.there);
         calm = λ m j s w. absurd (contains_none m w.there);

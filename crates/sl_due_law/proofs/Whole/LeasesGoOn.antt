@@ -1,10 +1,9 @@
 -- After an answer a job's lease does something: it calls, answers the job, grants or converts.
-use Rattle.sl_area.specs.Places.{area_blocks, blocks_in, leader_of}
-use Rattle.sl_due_law.proofs.Causes.Leases.NewestWays.{IsPlainStep}
+use Rattle.sl_acts.proofs.Pairs.Decisions.{bytes_are}
+use Rattle.sl_area.specs.Places.{blocks_of, leader_read}
 use Rattle.sl_due_law.specs.Whole.JobLore.{suits}
-use Rattle.sl_trace.proofs.PlainWork.{bytes_plain}
 use Rattle.sl_trace.specs.Ballots.{moded_block, phase1_block, same_owner, stop_of, value_of}
-use Rattle.sl_trace.specs.LeaseWork.{LeasePlace, after_moding, after_phase1, after_phase2, after_read, after_take, area_next, begin_next, begin_or_refuse, first_step, leader_for, lease_next, looks_for_shared, lost_next, named_area_next, part_read, phase1_next, phase2_next, refuses, stopped_next, whole_area_next, won_next}
+use Rattle.sl_trace.specs.LeaseWork.{LeasePlace, after_moding, after_phase1, after_phase2, after_read, after_take, area_next, asked_again, begin_next, begin_or_refuse, first_step, heard, leader_for, lease_next, looks_for_shared, lost_next, named_area_next, phase1_next, phase2_next, refuses, stopped_next, whole_area_next, won_next}
 use Rattle.sl_trace.specs.Leases.{LeaseKnown, instance_for, is_leader_of, mode_gen_of, own_known, own_or_read, shared_elsewhere}
 use Rattle.sl_trace.specs.declared.lease.Aim.TheVariants.{Acquires, Converts, Releases, Settles}
 use Rattle.sl_trace.specs.declared.lease.Aim.{Aim}
@@ -16,6 +15,7 @@ use Rattle.sl_trace.specs.declared.lease.Stop.{Stop}
 use Rattle.sl_sector.specs.declared.sector.Block.{Block}
 use Rattle.sl_sector.specs.declared.sector.Leader.{Leader}
 use Rattle.sl_sector.specs.declared.sector.Owner.{Owner}
+use Rattle.sl_trace.specs.declared.effects.LeaseRead.TheVariants.{OfArea, OfBlock, OfFree, OfPhase1, OfPhase2}
 use Rattle.sl_trace.specs.declared.effects.LeaseStep.TheVariants.{ClearMode, FreeLeader, Phase1Read, Phase1Write, Phase2Read, Phase2Write, ReadAgain, ReadArea, ReadBeforeBlock, ReadBeforeFree, SetMode, TakeLeader}
 use Rattle.sl_trace.specs.declared.effects.LeaseStep.{LeaseStep}
 use Rattle.sl_trace.specs.declared.effects.Mode.TheVariants.{Exclusive, Shared}
@@ -28,7 +28,7 @@ use Rattle.sl_trace.specs.declared.reply.Reply.{Reply}
 use Rattle.sl_words.proofs.CaseLaws.{false_is_true, none_some, not_both}
 use Rattle.sl_words.specs.Bounds.{is_number}
 use Rattle.sl_words.specs.Words.{present}
-use Rattle.std.proofs.Common.{ap, refl, subst, sym}
+use Rattle.std.proofs.Common.{ap, refl}
 use Rattle.std.specs.Option.{option_map_or}
 use Rattle.std.specs.Prelude.{Bool, List, None, Option, Some, false, is_none, position, true, ℕ, ◌+◌, ◌≡◌}
 
@@ -54,21 +54,21 @@ reads_at step = false
 abbrev pub is_behind_block : LeaseStep → Bool
 is_behind_block Phase1Read = true
 is_behind_block Phase2Read = true
+is_behind_block (ReadAgain OfPhase1) = true
+is_behind_block (ReadAgain OfPhase2) = true
 is_behind_block TakeLeader = true
 is_behind_block step = false
 
 -- What is known of a job's lease when its newest call was answered.
 pub record LeaseGrounds (p : LeasePlace) (k : LeaseKnown) (aim : Aim) (step : LeaseStep) (answer : Answer) : Type 0 where
   pub suit : suits aim step ≡ true
-  -- a block has one sector: no read is made once more, and none before a settling's block
-  pub plain : p.layout.paired ≡ false
-  pub once : IsPlainStep step
   pub job : aim ≡ Settles → ⊥
   pub read : reads_at step ≡ true → answer ≡ Written → ⊥
   pub wrote : reads_at step ≡ false → (bytes : List ℕ) → answer ≡ Read bytes → ⊥
   pub own : is_behind_block step ≡ true → (b : Block) × (k.own ≡ Some b)
   -- a read of the area without a torn block shows the own one
-  pub area : (name bytes : List ℕ) → step ≡ ReadArea name → answer ≡ Read bytes → position is_none (area_blocks p.layout bytes) ≡ None → (b : Block) × (own_known k ≡ Some b)
+  pub area : (name bytes : List ℕ) → first_step step ≡ ReadArea name → answer ≡ Read bytes → asked_again p.layout bytes step ≡ None →
+      position is_none (blocks_of p.layout (heard p.layout k bytes step)) ≡ None → (b : Block) × (own_known k ≡ Some b)
   -- a conversion to shared makes one call, and another none of its kind
   pub single : aim ≡ Converts Shared → step ≡ SetMode
   pub sets : (mode : Mode) → step ≡ SetMode → aim ≡ Converts mode → (aim ≡ Converts Shared) × ((e : ℕ) × (k.exclusive ≡ Some e))
@@ -169,36 +169,50 @@ area_goes p k aim name leader read asks shows = by leader where
 known_own : (k : LeaseKnown) (b : Block) → k.own ≡ Some b → own_known k ≡ Some b
 known_own k b is = ap (λ o. own_or_read k.self.id o k.read) is
 
--- What a read gave, where a block has one sector.
-abbrev after_plain : LeasePlace → LeaseKnown → Aim → List ℕ → LeaseStep → LeaseNext
-after_plain p k aim bytes step = after_read p k aim (leader_of p.layout bytes) (blocks_in p.layout (part_read p.layout bytes (first_step step))) (first_step step)
+-- Whom no look before a free or a settling's block serves.
+record LooksNot (aim : Aim) : Type 0 where
+  free : suits aim ReadBeforeFree ≡ false
+  block : suits aim ReadBeforeBlock ≡ false
+  free_again : suits aim (ReadAgain OfFree) ≡ false
+  block_again : suits aim (ReadAgain OfBlock) ≡ false
 
-plain_goes : (p : LeasePlace) (k : LeaseKnown) (aim : Aim) (step : LeaseStep) (bytes : List ℕ) → Asks k aim → suits aim ReadBeforeFree ≡ false → LeaseGrounds p k aim step (Read bytes)
-    → GoesOn k aim (after_plain p k aim bytes step)
-plain_goes p k aim (ReadArea name) bytes asks no_look g = area_goes p k aim name (leader_of p.layout bytes) (area_blocks p.layout bytes) asks (g.area name bytes refl refl)
-plain_goes p k aim ReadBeforeFree bytes asks no_look g = absurd (not_both (suits aim ReadBeforeFree) g.suit no_look)
-plain_goes p k aim ReadBeforeBlock bytes asks no_look g = absurd g.once
-plain_goes p k aim (ReadAgain read) bytes asks no_look g = absurd g.once
-plain_goes p k aim Phase1Read bytes asks no_look g = let b = g.own refl in by b.0 b.1 k.own b.1 where
-  by : (b : Block) → k.own ≡ Some b → (o : Option Block) → o ≡ Some b → GoesOn k aim (option_map_or (λ own. after_phase1 p k aim own (blocks_in p.layout bytes) (stop_of own (blocks_in p.layout bytes))) o Nothing)
-  by b is None at = none_some b at
-  by b is (Some own) at = phase1_read_goes p k aim own (blocks_in p.layout bytes) (stop_of own (blocks_in p.layout bytes)) asks
-plain_goes p k aim Phase2Read bytes asks no_look g = let b = g.own refl in by b.0 b.1 k.own b.1 where
-  by : (b : Block) → k.own ≡ Some b → (o : Option Block) → o ≡ Some b → GoesOn k aim (option_map_or (λ own. after_phase2 p k aim own (stop_of own (blocks_in p.layout bytes))) o Nothing)
-  by b is None at = none_some b at
-  by b is (Some own) at = phase2_read_goes p k aim own (stop_of own (blocks_in p.layout bytes)) asks b (known_own k b is)
-plain_goes p k aim Phase1Write bytes asks no_look g = g.wrote refl bytes refl
-plain_goes p k aim Phase2Write bytes asks no_look g = g.wrote refl bytes refl
-plain_goes p k aim TakeLeader bytes asks no_look g = g.wrote refl bytes refl
-plain_goes p k aim SetMode bytes asks no_look g = g.wrote refl bytes refl
-plain_goes p k aim FreeLeader bytes asks no_look g = g.wrote refl bytes refl
-plain_goes p k aim ClearMode bytes asks no_look g = g.wrote refl bytes refl
+-- After a read that isn't made once more.
+after_goes : (p : LeasePlace) (k : LeaseKnown) (aim : Aim) (step : LeaseStep) (bytes : List ℕ) → Asks k aim → LooksNot aim → LeaseGrounds p k aim step (Read bytes) → asked_again p.layout bytes step ≡ None
+    → GoesOn k aim (after_read p k aim (leader_read p.layout bytes (heard p.layout k bytes step)) (blocks_of p.layout (heard p.layout k bytes step)) (first_step step))
+after_goes p k aim step bytes asks looks g once = by step g once where
+  phase1 : (blocks : List (Option Block)) → (b : Block) → k.own ≡ Some b → (o : Option Block) → o ≡ Some b → GoesOn k aim (option_map_or (λ own. after_phase1 p k aim own blocks (stop_of own blocks)) o Nothing)
+  phase1 blocks b is None at = none_some b at
+  phase1 blocks b is (Some own) at = phase1_read_goes p k aim own blocks (stop_of own blocks) asks
 
-read_goes : (p : LeasePlace) (k : LeaseKnown) (aim : Aim) (call n : ℕ) (step : LeaseStep) (bytes : List ℕ) → Asks k aim → suits aim ReadBeforeFree ≡ false
+  phase2 : (blocks : List (Option Block)) → (b : Block) → k.own ≡ Some b → (o : Option Block) → o ≡ Some b → GoesOn k aim (option_map_or (λ own. after_phase2 p k aim own (stop_of own blocks)) o Nothing)
+  phase2 blocks b is None at = none_some b at
+  phase2 blocks b is (Some own) at = phase2_read_goes p k aim own (stop_of own blocks) asks b (known_own k b is)
+
+  by : (step : LeaseStep) → LeaseGrounds p k aim step (Read bytes) → asked_again p.layout bytes step ≡ None
+      → GoesOn k aim (after_read p k aim (leader_read p.layout bytes (heard p.layout k bytes step)) (blocks_of p.layout (heard p.layout k bytes step)) (first_step step))
+  by (ReadArea name) g once =
+      area_goes p k aim name (leader_read p.layout bytes (heard p.layout k bytes (ReadArea name))) (blocks_of p.layout (heard p.layout k bytes (ReadArea name))) asks (g.area name bytes refl refl once)
+  by (ReadAgain (OfArea name)) g once =
+      area_goes p k aim name (leader_read p.layout bytes (heard p.layout k bytes (ReadAgain (OfArea name)))) (blocks_of p.layout (heard p.layout k bytes (ReadAgain (OfArea name)))) asks (g.area name bytes refl refl once)
+  by ReadBeforeFree g once = absurd (not_both (suits aim ReadBeforeFree) g.suit looks.free)
+  by ReadBeforeBlock g once = absurd (not_both (suits aim ReadBeforeBlock) g.suit looks.block)
+  by (ReadAgain OfFree) g once = absurd (not_both (suits aim (ReadAgain OfFree)) g.suit looks.free_again)
+  by (ReadAgain OfBlock) g once = absurd (not_both (suits aim (ReadAgain OfBlock)) g.suit looks.block_again)
+  by Phase1Read g once = let b = g.own refl in phase1 (blocks_of p.layout (heard p.layout k bytes Phase1Read)) b.0 b.1 k.own b.1
+  by (ReadAgain OfPhase1) g once = let b = g.own refl in phase1 (blocks_of p.layout (heard p.layout k bytes (ReadAgain OfPhase1))) b.0 b.1 k.own b.1
+  by Phase2Read g once = let b = g.own refl in phase2 (blocks_of p.layout (heard p.layout k bytes Phase2Read)) b.0 b.1 k.own b.1
+  by (ReadAgain OfPhase2) g once = let b = g.own refl in phase2 (blocks_of p.layout (heard p.layout k bytes (ReadAgain OfPhase2))) b.0 b.1 k.own b.1
+  by Phase1Write g once = g.wrote refl bytes refl
+  by Phase2Write g once = g.wrote refl bytes refl
+  by TakeLeader g once = g.wrote refl bytes refl
+  by SetMode g once = g.wrote refl bytes refl
+  by FreeLeader g once = g.wrote refl bytes refl
+  by ClearMode g once = g.wrote refl bytes refl
+
+read_goes : (p : LeasePlace) (k : LeaseKnown) (aim : Aim) (call n : ℕ) (step : LeaseStep) (bytes : List ℕ) → Asks k aim → LooksNot aim
     → LeaseGrounds p k aim step (Read bytes) → GoesOn k aim (lease_next p k aim call n step (Read bytes))
 unfolding lease_next
-read_goes p k aim call n step bytes asks no_look g =
-    subst (λ z. GoesOn k aim z) (sym (bytes_plain p k aim bytes step g.plain)) (plain_goes p k aim step bytes asks no_look g)
+read_goes p k aim call n step bytes asks looks g = bytes_are (λ z. GoesOn k aim z) p k aim bytes step (λ read again. tt) (λ once. after_goes p k aim step bytes asks looks g once)
 
 abbrev is_sets : LeaseStep → Bool
 is_sets SetMode = true
@@ -281,7 +295,14 @@ releases_read p k call n SetMode bytes g = absurd (false_is_true g.suit)
 pub lease_goes_on : (p : LeasePlace) (k : LeaseKnown) (aim : Aim) (call n : ℕ) (step : LeaseStep) (answer : Answer) → LeaseGrounds p k aim step answer → GoesOn k aim (lease_next p k aim call n step answer)
 lease_goes_on p k aim call n step Written g = written_goes p k aim call n step g
 lease_goes_on p k aim call n step Failed g = failed_goes p k aim call n step g.job
-lease_goes_on p k (Acquires mode) call n step (Read bytes) g = read_goes p k (Acquires mode) call n step bytes (acquires_ask k mode) refl g
-lease_goes_on p k (Converts mode) call n step (Read bytes) g = read_goes p k (Converts mode) call n step bytes (converts_ask k mode) refl g
+lease_goes_on p k (Acquires mode) call n step (Read bytes) g = read_goes p k (Acquires mode) call n step bytes (acquires_ask k mode) (record { free = refl; block = refl; free_again = refl; block_again = refl }) g
+lease_goes_on p k (Converts mode) call n step (Read bytes) g = read_goes p k (Converts mode) call n step bytes (converts_ask k mode) (record { free = refl; block = refl; free_again = refl; block_again = refl }) g
 lease_goes_on p k Releases call n step (Read bytes) g = releases_read p k call n step bytes g
 lease_goes_on p k Settles call n step (Read bytes) g = absurd (g.job refl)
+
+-- A refusal answers the job.
+pub refusal_goes : (k : LeaseKnown) (aim : Aim) (r : Reply) → (aim ≡ Settles → ⊥) → GoesOn k aim (refuses aim r)
+refusal_goes k (Acquires mode) r job = tt
+refusal_goes k (Converts mode) r job = tt
+refusal_goes k Releases r job = tt
+refusal_goes k Settles r job = job refl

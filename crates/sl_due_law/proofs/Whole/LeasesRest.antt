@@ -1,4 +1,5 @@
 -- Where an answer to a job's lease was heard its job waits for the next call or a child's start, or is answered.
+use Rattle.sl_acts.proofs.Pairs.Decisions.{next_is}
 use Rattle.sl_acts.specs.Acts.{Hears}
 use Rattle.sl_acts.specs.SoFar.{entry_of}
 use Rattle.sl_due.specs.DueLease.{carry_lease, convert_holding, goes_on, grant_for, grant_of, next_of_lease, read_for, write_block, write_leader}
@@ -8,14 +9,15 @@ use Rattle.sl_due_leases.proofs.Holdings.LeaseConversions.{after_converting, by_
 use Rattle.sl_due_leases.proofs.Grants.WorksByLines.{held_before}
 use Rattle.sl_due_leases.proofs.Grants.Values.ReadsByInputs.{has_number}
 use Rattle.sl_due_facts.proofs.Jobs.JobsAreNumbered.{finds_none, found_after}
-use Rattle.sl_due_facts.proofs.Jobs.PlainNexts.{next_plain}
 use Rattle.sl_due_facts.proofs.Jobs.SessionsStand.{reply_stops}
 use Rattle.sl_due_facts.proofs.Parts.EffectsAreTold.{effects_are_told}
+use Rattle.sl_area.specs.Places.{BlocksRead, blocks_of}
+use Rattle.sl_due_leases.proofs.Ways.GivenReads.{heard_by_lease}
 use Rattle.sl_due_leases.proofs.Ways.Kept.HeardStands.{HeardCall, heard_call}
-use Rattle.sl_due_law.proofs.Causes.Leases.NewestWays.{NewestWays, newest_ways, plain_step}
+use Rattle.sl_due_law.proofs.Causes.Leases.NewestWays.{NewestWays, newest_told, newest_ways}
 use Rattle.sl_due_law.proofs.Whole.CallsSuit.{heard_suits}
 use Rattle.sl_due_law.proofs.Whole.HeardBefore.{HeardBefore, heard_before, ran_past}
-use Rattle.sl_due_law.proofs.Whole.LeasesGoOn.{GoesOn, LeaseGrounds, lease_goes_on, reads_at}
+use Rattle.sl_due_law.proofs.Whole.LeasesGoOn.{GoesOn, LeaseGrounds, lease_goes_on, reads_at, refusal_goes}
 use Rattle.sl_due_law.proofs.Whole.OwnBlocks.{own_behind, own_in_area}
 use Rattle.sl_due_facts.specs.Facts.WayFacts.{After_take, In_conversion, ModeReason, PurposeWay, StepWay, WayContext, way_context}
 use Rattle.sl_due_facts.specs.Facts.WorkFacts.{MayBeHeld}
@@ -24,8 +26,9 @@ use Rattle.sl_due_law.specs.Whole.JobLore.{HoldsThere, JobLore}
 use Rattle.sl_due_law.specs.Whole.Kept.{Kept}
 use Rattle.sl_due_law.specs.Whole.Promises.{MayRest}
 use Rattle.sl_trace.specs.Jobs.{aim_of, aim_of_command, process_named}
-use Rattle.sl_trace.specs.LeaseWork.{lease_place}
-use Rattle.sl_trace.specs.Leases.{exclusive_on, holdings_on, known, lver_written, spot_of_call}
+use Rattle.sl_sector.specs.declared.sector.PairBlock.{PairBlock}
+use Rattle.sl_trace.specs.LeaseWork.{first_step, heard, lease_place, part_read, read_of_step}
+use Rattle.sl_trace.specs.Leases.{exclusive_on, first_kept, holdings_on, known, lver_written, spot_of_call}
 use Rattle.sl_trace.specs.declared.lease.Aim.TheVariants.{Acquires, Converts, Settles}
 use Rattle.sl_trace.specs.declared.lease.Aim.{Aim}
 use Rattle.sl_trace.specs.declared.lease.LeaseNext.TheVariants.{AnswerJob, BecomeExclusive, BecomeShared, GrantJob, Nothing, ReadFor, WriteBlock, WriteLeader}
@@ -38,7 +41,7 @@ use Rattle.sl_due_leases.proofs.Holdings.LeaseCallers.{heard_session}
 use Rattle.sl_trace.specs.Sessions.{holdings_of}
 use Rattle.sl_trace.specs.declared.session.Session.{Session}
 use Rattle.sl_trace.proofs.TraceFacts.{submitted-push}
-use Rattle.sl_trace.specs.Traces.{Child, Setting, Submitted, children, end_of, holdings, is_answer_for, is_running, is_shared, is_write, job_of, new_call, new_child, next_call, next_child, same_place, submitted, work_job}
+use Rattle.sl_trace.specs.Traces.{Answered, Child, Setting, Submitted, bytes_given, children, end_of, gave, holdings, is_answer_for, is_running, is_shared, is_write, job_of, new_call, new_child, next_call, next_child, same_place, submitted, work_job}
 use Rattle.sl_trace.specs.declared.command.Command.TheVariants.{Acquire, AddLockspace, Convert, GetLvb, HostStatus, InqLockspace, Release, ReleaseOrphan, RemLockspace, Request, RunProgram, SetKillpath, SetLvb, Status, TakeOver}
 use Rattle.sl_trace.specs.declared.command.Command.{Command}
 use Rattle.sl_trace.specs.declared.command.ResourceArg.{ResourceArg}
@@ -59,13 +62,14 @@ use Rattle.sl_trace.specs.declared.effects.Work.TheVariants.{ForJob, Settling}
 use Rattle.sl_trace.specs.declared.effects.Work.{Work}
 use Rattle.sl_trace.specs.declared.input.Answer.TheVariants.{Read, Written}
 use Rattle.sl_trace.specs.declared.input.Answer.{Answer}
-use Rattle.sl_trace.specs.declared.reply.Reply.TheVariants.{Granted}
+use Rattle.sl_trace.specs.declared.reply.Limited.TheVariants.{Turn as TurnLimit}
+use Rattle.sl_trace.specs.declared.reply.Reply.TheVariants.{Granted, Limit as LimitReached}
 use Rattle.sl_trace.specs.declared.reply.Reply.{Reply}
 use Rattle.sl_words.proofs.CaseLaws.{false_is_true, is_false, none_some, not_both, some_value, true_is_false}
 use Rattle.sl_words.specs.Words.{same_truth}
 use Rattle.std.proofs.Common.{ap, arith, inl, refl, subst, sym, ◌∙◌}
 use Rattle.std.proofs.lemmas.Bool.{eqb-true}
-use Rattle.std.specs.Prelude.{Bool, Contains, IsTrue, List, None, Option, Some, [], cond, false, find, length, not, option_map, true, ℕ, ◌&&◌, ◌<◌, ◌==◌, ◌∷◌, ◌≡◌}
+use Rattle.std.specs.Prelude.{Bool, Contains, IsTrue, List, None, Option, Some, [], cond, false, find, is_none, is_some, length, not, option_and_then, option_map, position, true, ℕ, ◌&&◌, ◌<◌, ◌==◌, ◌∷◌, ◌≡◌}
 
 -- ---- what a job waits for next
 
@@ -205,20 +209,20 @@ pub read_fits : (st : Setting) (bytes : List ℕ) (op : Op) → IsTrue (is_answe
 read_fits st bytes (ReadSectors n) fits = refl
 read_fits st bytes (WriteRecord r) fits = absurd (false_is_true fits)
 
--- Where a block has one sector.
-step_op : (w : WayContext) (work : Work) (at : ℕ) (c : Call) (ms : List Submitted) (step : LeaseStep) → w.layout.paired ≡ false → StepWay w work at c ms step → is_write c.op ≡ not (reads_at step)
-step_op w work at c ms (ReadArea name) plain h = ap (λ o. is_write o) h
-step_op w work at c ms ReadBeforeFree plain h = ap (λ o. is_write o) h.reads
-step_op w work at c ms ReadBeforeBlock plain h = absurd (not_both w.layout.paired h plain)
-step_op w work at c ms (ReadAgain read) plain h = absurd (not_both w.layout.paired h plain)
-step_op w work at c ms Phase1Write plain h = ap (λ o. is_write o) h.wrote
-step_op w work at c ms Phase1Read plain h = ap (λ o. is_write o) h.reads
-step_op w work at c ms Phase2Write plain h = ap (λ o. is_write o) h.wrote
-step_op w work at c ms Phase2Read plain h = ap (λ o. is_write o) h.reads
-step_op w work at c ms TakeLeader plain h = ap (λ o. is_write o) h.wrote
-step_op w work at c ms SetMode plain h = ap (λ o. is_write o) h.wrote
-step_op w work at c ms FreeLeader plain h = ap (λ o. is_write o) h.wrote
-step_op w work at c ms ClearMode plain h = ap (λ o. is_write o) h.wrote
+-- Whether a call writes is said by its step.
+step_op : (w : WayContext) (work : Work) (at : ℕ) (c : Call) (ms : List Submitted) (step : LeaseStep) → StepWay w work at c ms step → is_write c.op ≡ not (reads_at step)
+step_op w work at c ms (ReadArea name) h = ap (λ o. is_write o) h
+step_op w work at c ms ReadBeforeFree h = ap (λ o. is_write o) h.reads
+step_op w work at c ms ReadBeforeBlock h = ap (λ o. is_write o) h.reads
+step_op w work at c ms (ReadAgain read) h = ap (λ o. is_write o) h.reads
+step_op w work at c ms Phase1Write h = ap (λ o. is_write o) h.wrote
+step_op w work at c ms Phase1Read h = ap (λ o. is_write o) h.reads
+step_op w work at c ms Phase2Write h = ap (λ o. is_write o) h.wrote
+step_op w work at c ms Phase2Read h = ap (λ o. is_write o) h.reads
+step_op w work at c ms TakeLeader h = ap (λ o. is_write o) h.wrote
+step_op w work at c ms SetMode h = ap (λ o. is_write o) h.wrote
+step_op w work at c ms FreeLeader h = ap (λ o. is_write o) h.wrote
+step_op w work at c ms ClearMode h = ap (λ o. is_write o) h.wrote
 
 -- ---- a job that is at work
 
@@ -297,6 +301,7 @@ unshared false is = refl
 
 grounds : (x : Step) (s : Session) (j : ℕ) (step : LeaseStep) (m : Submitted) (answer : Answer) (aim : Aim) → AtWork x s j step m answer aim
     → LeaseGrounds (lease_place x.setting s) (known x.setting (seen x) s (spot_of_call x.setting.layout m)) aim step answer
+unfolding known
 grounds x s j step m answer aim a =
     record {
       suit = (heard_suits x s m answer a.kept a.lore.suit a.led.hears).step j step q.command aim a.led.purpose q.named q.aimed;
@@ -304,10 +309,10 @@ grounds x s j step m answer aim a =
       read = λ reads is. not_both (is_write m.call.op) (written_fits x.setting m.call.op (subst (λ z. IsTrue (is_answer_for x.setting z m.call.op)) is fits)) (op ∙ ap (λ b. not b) reads);
       wrote = λ writes bytes is. not_both (is_write m.call.op) (op ∙ ap (λ b. not b) writes) (read_fits x.setting bytes m.call.op (subst (λ z. IsTrue (is_answer_for x.setting z m.call.op)) is fits));
       own = λ behind. own_behind x s (ForJob j) step m answer a.led.whole.0 a.led.hears a.led.purpose behind;
-      area = λ name bytes is gave whole.
-          own_in_area x s (ForJob j) name bytes m a.led.whole.0 (subst (λ z. Hears x s m z) gave a.led.hears) (a.led.purpose ∙ ap (λ z. Lease (ForJob j) z) is) whole;
-      plain = a.led.whole.0.setting.unpaired;
-      once = plain_step x s (ForJob j) step m answer a.led.whole.0 a.led.hears a.led.purpose;
+      area = λ name bytes is gives once whole.
+          own_in_area x s m answer a.led.whole.0 a.led.hears n (heard_by_lease x.setting.layout m n.rest bytes step)
+          (newest_told x s (ForJob j) step m n a.led.purpose bytes (gives_it bytes gives) (ap (λ z. is_some (read_of_step z)) is) once)
+          (subst (λ r. position is_none (blocks_of x.setting.layout r) ≡ None) (heard_is bytes) whole);
       single = λ is. a.led.whole.0.facts.works.modes m j step q.command q.work (q.aimed ∙ ap (λ z. Some z) is);
       sets = λ mode is converts.
           let shared : aim ≡ Converts Shared = set_shared mode is converts in
@@ -324,13 +329,21 @@ grounds x s j step m answer aim a =
       way = subst (λ p. PurposeWay (way_context x.setting (seen x) s) m.at m.call n.rest p) a.led.purpose n.ways.0.way
 
       op : is_write m.call.op ≡ not (reads_at step)
-      op = step_op (way_context x.setting (seen x) s) (ForJob j) m.at m.call n.rest step a.led.whole.0.setting.unpaired way
+      op = step_op (way_context x.setting (seen x) s) (ForJob j) m.at m.call n.rest step way
 
-      heard : HeardCall x answer m
-      heard = heard_call x s m answer a.led.hears a.led.whole.0
+      heard_it : HeardCall x answer m
+      heard_it = heard_call x s m answer a.led.hears a.led.whole.0
+
+      gives_it : (bytes : List ℕ) → answer ≡ Read bytes → gave m ≡ Some bytes
+      gives_it bytes is = ap (λ o. option_and_then (λ (a : Answered). bytes_given a.answer) o) heard_it.told ∙ ap (λ a. bytes_given a) is
+
+      heard_is : (bytes : List ℕ) → heard x.setting.layout (known x.setting (seen x) s (spot_of_call x.setting.layout m)) bytes step ≡ heard_by_lease x.setting.layout m n.rest bytes step
+      heard_is bytes = ap (λ ms. kept_with (first_kept x.setting.layout ms) (part_read x.setting.layout bytes (first_step step))) n.newest where
+        kept_with : List (Option PairBlock) → List ℕ → BlocksRead
+        kept_with kept last = record { kept = kept; last = last }
 
       fits : IsTrue (is_answer_for x.setting answer m.call.op)
-      fits = a.led.whole.0.facts.calls.fits m _ heard.there heard.told
+      fits = a.led.whole.0.facts.calls.fits m _ heard_it.there heard_it.told
 
       set_shared : (mode : Mode) → step ≡ SetMode → aim ≡ Converts mode → aim ≡ Converts Shared
       set_shared mode is converts = by (subst (λ z. StepWay (way_context x.setting (seen x) s) (ForJob j) m.at m.call n.rest z) is way).why where
@@ -410,5 +423,6 @@ leases_rest x s (ForJob i) step m answer aim j k lore hears is on aimed its =
     let n : LeaseNext = next_of_lease x.setting (seen x) s at aim m step answer in
     subst (λ z. MayRest (carry_lease s at (ForJob i) n x) z) (some_value i j its)
     (job_rests x s i step m answer aim a n
-    (subst (λ z. GoesOn (known x.setting (seen x) s at) aim z) (sym (next_plain x.setting (seen x) s at aim m step answer k.known.0.setting.unpaired))
-    (lease_goes_on (lease_place x.setting s) (known x.setting (seen x) s at) aim m.call.number (lver_written m) step answer (grounds x s i step m answer aim a))))
+    (next_is (λ z. GoesOn (known x.setting (seen x) s at) aim z) x.setting (seen x) s at aim m step answer
+    (λ fits. lease_goes_on (lease_place x.setting s) (known x.setting (seen x) s at) aim m.call.number (lver_written m) step answer (grounds x s i step m answer aim a))
+    (λ paired over writes. refusal_goes (known x.setting (seen x) s at) aim (LimitReached TurnLimit) (grounds x s i step m answer aim a).job)))

@@ -53,13 +53,14 @@ use Rattle.sl_trace.specs.declared.effects.Signal.TheVariants.{Term}
 use Rattle.sl_trace.specs.declared.effects.Spot.{Spot}
 use Rattle.sl_trace.specs.declared.effects.Work.TheVariants.{ForJob}
 use Rattle.sl_trace.specs.declared.input.Input.TheVariants.{Line, Wake}
-use Rattle.sl_trace.specs.declared.reply.Reply.TheVariants.{Done, Generation, Recovering}
+use Rattle.sl_trace.specs.declared.reply.Reply.TheVariants.{Done, Generation, Limit as LimitReached, Recovering}
 use Rattle.sl_trace.specs.declared.reply.Reply.{Reply}
 use Rattle.sl_words.proofs.CaseLaws.{false_is_true, is_false, none_some, not_both}
 use Rattle.sl_words.proofs.WordLaws.{and_true}
 use Rattle.sl_words.specs.Words.{choose, some_is}
 use Rattle.sl_acts.specs.Acts.{next_of_conversion, next_of_release}
-use Rattle.sl_due_facts.proofs.Jobs.PlainNexts.{conversion_plain, release_plain}
+use Rattle.sl_acts.proofs.Pairs.Decisions.{conversion_is, release_is}
+use Rattle.sl_trace.specs.declared.reply.Limited.TheVariants.{Turn as TurnLimit}
 use Rattle.std.proofs.Common.{ap, ap₂, inl, inr, refl, subst, sym, ◌∙◌}
 use Rattle.std.proofs.lemmas.Bool.{eqb-true}
 use Rattle.std.specs.List.{list_any}
@@ -270,8 +271,8 @@ release_rests x text c s g j wake bare k grounds = by (holdings_on (seen z) s at
       ]) j
   by (h ∷ rest) = replied_rests z j Done
   by [] =
-      subst (λ n. MayRest (carry_lease s (spot_of_grant g) (ForJob j) n (add_end (end_of g) (with_input (Line text) x))) j)
-      (sym (release_plain x.setting (seen (add_end (end_of g) (with_input (Line text) x))) s (spot_of_grant g) g k.known.0.setting.unpaired)) (mode g.mode)
+      release_is (λ n. MayRest (carry_lease s (spot_of_grant g) (ForJob j) n (add_end (end_of g) (with_input (Line text) x))) j) x.setting (seen (add_end (end_of g) (with_input (Line text) x))) s (spot_of_grant g) g
+      (λ fits. mode g.mode) (λ paired over writes. replied_rests z j (LimitReached TurnLimit))
 
 conversion_by : (x : Step) (text : List ℕ) (c : Command) (s : Session) (r : ResourceArg) (mode : Mode) (j : ℕ) → x.input ≡ Wake → x.effects.calls ≡ [] → Kept x → ConvertGrounds x.setting (seen x) c s r mode
     → MayRest (carry_lease s (spot_of r) (ForJob j) (convert_next (known x.setting (seen (with_input (Line text) x)) s (spot_of r)) mode r.name) (with_input (Line text) x)) j
@@ -297,9 +298,10 @@ conversion_by x text c s r Shared j wake bare k grounds = by (block_submitted (l
 
 conversion_rests : (x : Step) (text : List ℕ) (c : Command) (s : Session) (r : ResourceArg) (mode : Mode) (j : ℕ) → x.input ≡ Wake → x.effects.calls ≡ [] → Kept x → ConvertGrounds x.setting (seen x) c s r mode
     → MayRest (carry_lease s (spot_of r) (ForJob j) (next_of_conversion x.setting (seen (with_input (Line text) x)) s (spot_of r) mode r.name) (with_input (Line text) x)) j
+unfolding carry_lease
 conversion_rests x text c s r mode j wake bare k grounds =
-    subst (λ n. MayRest (carry_lease s (spot_of r) (ForJob j) n (with_input (Line text) x)) j)
-    (sym (conversion_plain x.setting (seen (with_input (Line text) x)) s (spot_of r) mode r.name k.known.0.setting.unpaired)) (conversion_by x text c s r mode j wake bare k grounds)
+    conversion_is (λ n. MayRest (carry_lease s (spot_of r) (ForJob j) n (with_input (Line text) x)) j) x.setting (seen (with_input (Line text) x)) s (spot_of r) mode r.name
+    (λ fits. conversion_by x text c s r mode j wake bare k grounds) (λ paired over writes. replied_rests (with_input (Line text) x) j (LimitReached TurnLimit))
 
 -- ---- all decisions
 

@@ -33,7 +33,7 @@ use Rattle.sl_trace.specs.declared.effects.Mode.{Mode}
 use Rattle.sl_trace.specs.declared.effects.Spot.{Spot}
 use Rattle.sl_trace.specs.declared.input.Input.TheVariants.{Line, Wake}
 use Rattle.sl_acts.specs.Acts.{next_of_release}
-use Rattle.sl_due_facts.proofs.Jobs.PlainNexts.{release_plain}
+use Rattle.sl_acts.proofs.Pairs.Decisions.{release_is}
 use Rattle.std.proofs.Common.{ap, arith, refl, subst, sym, ◌∙◌}
 use Rattle.std.specs.Option.{option_map_or}
 use Rattle.std.specs.Prelude.{Contains, List, None, Option, Some, [], bytes_eq, false, filter, ℕ, ◌&&◌, ◌<◌, ◌==◌, ◌≡◌, ◌≤◌}
@@ -69,7 +69,7 @@ freed_well x c s g w grounds alone =
     let stands = w.facts.holdings.stands g s mine.0 has alone in
     let ways = w.facts.ways.each s (spot_of_grant g) inside (base_aligned x g (w.facts.holdings.owned g mine.0).4) in
     leader_well x.setting (seen x) s (spot_of_grant g) false g.lver w.setting inside (w.facts.delta.numbers s inside (active_is_joined x.setting (seen x) s grounds.ready.active)) ways
-    (is_verified (way_context x.setting (seen x) s) w.setting.unpaired (lease_calls x.setting (seen x) s (spot_of_grant g)) ways stands.own stands.known) (above _ g.lver stands.not_freed) (held_lver x g w mine.0 alone)
+    (is_verified (way_context x.setting (seen x) s) (lease_calls x.setting (seen x) s (spot_of_grant g)) ways stands.own stands.known) (above _ g.lver stands.not_freed) (held_lver x g w mine.0 alone)
 
 release_well : (x : Step) (text : List ℕ) (c : Command) (s : Session) (g : Grant) → x.input ≡ Wake → x.effects.calls ≡ [] → Whole x → decided x.setting (seen x) x.reading c ≡ GivesUp s g
     → LeaseWrites (release_next (lease_place x.setting s) (known x.setting (seen (add_end (end_of g) (with_input (Line text) x))) s (spot_of_grant g)) g.mode g.lver)
@@ -106,4 +106,4 @@ release_well x text c s g wake bare w decides = by g.mode refl where
 pub releases_well : (x : Step) (text : List ℕ) (c : Command) (s : Session) (g : Grant) → x.input ≡ Wake → x.effects.calls ≡ [] → Whole x → decided x.setting (seen x) x.reading c ≡ GivesUp s g
     → LeaseWrites (next_of_release x.setting (seen (add_end (end_of g) (with_input (Line text) x))) s (spot_of_grant g) g)
 releases_well x text c s g wake bare w decides =
-    subst (λ n. LeaseWrites n) (sym (release_plain x.setting (seen (add_end (end_of g) (with_input (Line text) x))) s (spot_of_grant g) g w.setting.unpaired)) (release_well x text c s g wake bare w decides)
+    release_is LeaseWrites x.setting (seen (add_end (end_of g) (with_input (Line text) x))) s (spot_of_grant g) g (λ fits. release_well x text c s g wake bare w decides) (λ paired over writes. tt)

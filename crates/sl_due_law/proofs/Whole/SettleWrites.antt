@@ -10,11 +10,11 @@ use Rattle.sl_due_law.specs.Whole.Writes.{LeaseWrites}
 use Rattle.sl_due_leases.proofs.Ways.Kept.EffectsLeave.{there_has}
 use Rattle.sl_due_leases.proofs.Ways.Kept.PlacesStand.{id_in_range}
 use Rattle.sl_trace.specs.Ballots.{moded_block, phase1_block}
-use Rattle.sl_trace.specs.LeaseWork.{LeasePlace, begin_next, lease_place, phase1_next, refuses, refuses_block, settle_next, settle_owed, within_turn}
+use Rattle.sl_trace.specs.LeaseWork.{LeasePlace, begin_next, lease_place, phase1_next, refuses, settle_next, settle_owed, within_turn}
 use Rattle.sl_trace.specs.Leases.{LeaseKnown, known, mode_gen_of, owed_free, own_known, own_or_read}
 use Rattle.sl_trace.specs.declared.lease.Aim.TheVariants.{Acquires, Converts, Releases, Settles}
 use Rattle.sl_trace.specs.declared.lease.Aim.{Aim}
-use Rattle.sl_trace.specs.declared.lease.LeaseNext.TheVariants.{AnswerJob, BecomeExclusive, BecomeShared, GrantJob, Nothing, ReadFor, WriteBlock, WriteLeader}
+use Rattle.sl_trace.specs.declared.lease.LeaseNext.TheVariants.{Nothing, WriteBlock}
 use Rattle.sl_trace.specs.declared.lease.LeaseNext.{LeaseNext}
 use Rattle.sl_trace.specs.declared.lease.Owed.TheVariants.{BallotOwed, FreeOwed, ModeOwed}
 use Rattle.sl_trace.specs.declared.lease.Owed.{Owed}
@@ -28,14 +28,13 @@ use Rattle.sl_due_facts.specs.Facts.WayFacts.{IsAligned}
 use Rattle.sl_due_facts.specs.Facts.Whole.{Whole}
 use Rattle.sl_trace.specs.declared.effects.LeaseStep.TheVariants.{ClearMode, Phase1Write}
 use Rattle.sl_trace.specs.declared.effects.Spot.{Spot}
-use Rattle.sl_trace.specs.declared.reply.Limited.TheVariants.{Lver as LverLimit, Mbal as MbalLimit}
+use Rattle.sl_trace.specs.declared.reply.Limited.TheVariants.{Lver as LverLimit, Mbal as MbalLimit, Turn as TurnLimit}
 use Rattle.sl_trace.specs.declared.reply.Reply.TheVariants.{Limit as LimitReached}
 use Rattle.sl_trace.specs.declared.reply.Reply.{Reply}
 use Rattle.sl_words.proofs.CaseLaws.{some_value, true_is_false}
 use Rattle.sl_words.specs.Bounds.{is_number, most_hosts}
 use Rattle.sl_words.specs.Words.{present}
-use Rattle.sl_due_facts.proofs.Jobs.PlainNexts.{settling_plain}
-use Rattle.sl_due_law.proofs.Causes.Leases.ReadNexts.{within_by}
+use Rattle.sl_acts.proofs.Pairs.Decisions.{settling_is, within_cases}
 use Rattle.std.proofs.Common.{ap, arith, refl, subst, sym, ◌∙◌}
 use Rattle.std.specs.Option.{option_map_or}
 use Rattle.std.specs.Prelude.{Bool, Contains, None, Option, Some, false, if◌then◌else◌, not, option_map, true, ℕ, ◌&&◌, ◌<◌, ◌≡◌, ◌≤◌}
@@ -62,18 +61,8 @@ refuses_well Releases r = tt
 refuses_well Settles r = tt
 
 -- The limit of turns leaves it, or writes nothing.
-block_well : (aim : Aim) (n : LeaseNext) → LeaseWrites n → LeaseWrites (refuses_block aim n)
-block_well aim Nothing h = h
-block_well aim (ReadFor step) h = h
-block_well aim (WriteBlock step b) h = refuses_well aim _
-block_well aim (WriteLeader step l) h = h
-block_well aim (AnswerJob r) h = h
-block_well aim (GrantJob mode lver) h = h
-block_well aim (BecomeShared lver l) h = h
-block_well aim (BecomeExclusive lver b) h = refuses_well aim _
-
 pub within_well : (p : LeasePlace) (k : LeaseKnown) (aim : Aim) (n : LeaseNext) → LeaseWrites n → LeaseWrites (within_turn p k aim n)
-within_well p k aim n h = within_by LeaseWrites p k aim n h (block_well aim n h)
+within_well p k aim n h = within_cases LeaseWrites p k aim n (λ fits. h) (λ paired over writes. refuses_well aim (LimitReached TurnLimit))
 
 phase1_well : (aim : Aim) (b : Block) → (Fits b.lver → Fits b.mbal → IsBlock b) → LeaseWrites (phase1_next aim b)
 phase1_well aim b is = by (is_number b.lver) refl (is_number b.mbal) refl where
@@ -156,5 +145,5 @@ own_well x s at w inside aligned =
 pub settles_well : (x : Step) (s : Session) (at : Spot) → Whole x → Has x s → is_active x.setting (seen x) s ≡ true → IsAligned x.setting at → LeaseWrites (next_of_settling x.setting (seen x) s at)
 settles_well x s at w has active aligned =
     let inside = there_has x.setting (seen x) s.number s has in
-    subst (λ n. LeaseWrites n) (sym (settling_plain x.setting (seen x) s at w.setting.unpaired))
-    (settles_known (lease_place x.setting s) (known x.setting (seen x) s at) (may_write x s at w inside (w.facts.delta.numbers s inside (active_is_joined x.setting (seen x) s active))) (own_well x s at w inside aligned))
+    settling_is LeaseWrites x.setting (seen x) s at (λ paired owes. tt)
+    (λ none. settles_known (lease_place x.setting s) (known x.setting (seen x) s at) (may_write x s at w inside (w.facts.delta.numbers s inside (active_is_joined x.setting (seen x) s active))) (own_well x s at w inside aligned))

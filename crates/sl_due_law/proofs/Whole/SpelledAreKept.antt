@@ -10,33 +10,46 @@ use Rattle.sl_trace.specs.declared.input.Input.TheVariants.{Wake}
 use Rattle.std.specs.Prelude.{[], ◌≡◌}
 use Rattle.sl_due.specs.DueCommands.{decided}
 use Rattle.sl_due_law.proofs.Whole.ValueWrites.{values_well}
-use Rattle.sl_sector.specs.Records.{IsBlock, IsLeader, IsValue}
+use Rattle.sl_sector.specs.Records.{IsValue}
 use Rattle.sl_sector.specs.declared.sector.ValueRec.{ValueRec}
 use Rattle.sl_acts.proofs.Additions.{contains_last}
+use Rattle.sl_acts.proofs.LoopsKeep.{with_some_keeps}
+use Rattle.sl_acts.proofs.Pairs.Decisions.{conversion_is, release_is}
+use Rattle.sl_acts.proofs.Pairs.Records.{leader_spelled}
+use Rattle.sl_due_facts.proofs.Jobs.CallsStay.{calls_stay, late}
+use Rattle.sl_due_law.proofs.Whole.PairWrites.{RecordsFit, answers_fit, conversions_fit, releases_fit, settlings_fit}
+use Rattle.sl_due_leases.proofs.Holdings.DecisionsHaveGrounds.{decisions_have_grounds}
+use Rattle.sl_due_leases.proofs.Ways.Kept.EffectsLeave.{there_has}
+use Rattle.sl_due_leases.specs.Holdings.DecisionGrounds.{HasGrounds}
+use Rattle.sl_due_leases.specs.Ways.Nexts.{next_place, next_record}
+use Rattle.sl_trace.specs.Ballots.{moded_block}
+use Rattle.sl_trace.specs.LeaseWork.{convert_next, lease_place, release_next}
+use Rattle.sl_trace.specs.declared.effects.Mode.TheVariants.{Exclusive, Shared}
+use Rattle.std.specs.Option.{option_map_or}
 use Rattle.sl_acts.specs.Acts.{Acts, next_of_conversion, next_of_release, next_of_settling}
 use Rattle.sl_area.specs.Places.{area_sectors, block_record, block_sectors, delta_offset, leader_record, request_offset}
 use Rattle.sl_due.specs.DueAnswers.{set_reply}
 use Rattle.sl_due.specs.DueCommands.{carry_decision}
 use Rattle.sl_due.specs.DueInputs.{end_holdings, leave_holdings, started_reply}
-use Rattle.sl_due.specs.DueLease.{name_on, next_of_lease, next_turn}
+use Rattle.sl_due.specs.DueLease.{carry_lease, convert_for, convert_holding, for_work, held_otherwise, next_of_lease, with_command}
 use Rattle.sl_due.specs.DueRequests.{after_value_read, bits_due, value_reply}
-use Rattle.sl_due.specs.Steps.{Step, add_end, seen, with_input}
+use Rattle.sl_due.specs.Steps.{Step, add_end, add_grant, seen, with_input, with_some}
 use Rattle.sl_due.specs.declared.decision.Decision.{Decision}
 use Rattle.sl_due.specs.declared.decision.Decision.TheVariants.{ConvertsTo, GetsValue, GivesUp, Joins, Leaves, ReadsArea, Replies, Requests, SetsValue, Shares, TakesOver}
 use Rattle.sl_due_facts.proofs.Jobs.EffectsAreAllowed.{Allows, DecisionAllowed, DeltaAllowed, GrantAllowed, LeaseAllowed, ReadAllowed, RequestAllowed, decision, delta, ended, exited, lease, left, refusal, removal_of_refused, requested, said, sent, stopped}
 use Rattle.sl_due_facts.proofs.Jobs.NearlyPlainActs.{AnyMove, AnyStart, Anything}
 use Rattle.sl_due_facts.proofs.Jobs.RepliesComeAfter.{on_bool}
-use Rattle.sl_trace.specs.Jobs.{job_of_start}
-use Rattle.sl_trace.specs.Leases.{spot_of, spot_of_call}
+use Rattle.sl_trace.specs.Jobs.{command_numbered, job_of_start, process_named}
+use Rattle.sl_trace.specs.Leases.{LeaseKnown, base_turn, is_lease_call, is_on, known, spot_of, spot_of_call, verified_name}
 use Rattle.sl_trace.specs.declared.lease.LeaseNext.{LeaseNext}
 use Rattle.sl_trace.specs.declared.lease.LeaseNext.TheVariants.{AnswerJob, BecomeExclusive, BecomeShared, GrantJob, Nothing as No_lease, ReadFor, WriteBlock, WriteLeader}
 use Rattle.sl_sector.specs.declared.sector.Rec.TheVariants.{DeltaIs}
 use Rattle.sl_trace.specs.Deltas.{delta_known, delta_of_session, next_after_free, next_after_renewal, next_free, next_in_joining, next_on_wake, next_renewal}
-use Rattle.sl_trace.specs.Sessions.{calls_of, generation_of, recovery_of}
+use Rattle.sl_trace.specs.Sessions.{calls_of, generation_of, is_call_of, recovery_of}
 use Rattle.sl_trace.specs.declared.delta.DeltaNext.{DeltaNext}
 use Rattle.sl_trace.specs.declared.delta.DeltaNext.TheVariants.{Disconnect, EndLeaving, Join, MoveConnection, Nothing, ReadOwn, RefuseJoin, RegisterAndRead, WriteClaim, WriteFirst, WriteFree, WriteRenewal}
 use Rattle.sl_trace.specs.declared.session.Session.{Session}
-use Rattle.sl_trace.specs.Traces.{Setting, end_of, next_call, next_job, spot_of_grant}
+use Rattle.sl_trace.specs.Traces.{Setting, Submitted, Trace, end_of, next_call, next_job, spot_of_grant, submitted, work_job}
 use Rattle.sl_trace.specs.declared.command.Command.{Command}
 use Rattle.sl_trace.specs.declared.command.Command.TheVariants.{Acquire, AddLockspace, Convert, GetLvb, HostStatus, InqLockspace, Release, ReleaseOrphan, RemLockspace, Request, RunProgram, SetKillpath, SetLvb, Status, TakeOver}
 use Rattle.sl_trace.specs.declared.effects.Call.{Call}
@@ -46,7 +59,7 @@ use Rattle.sl_trace.specs.declared.effects.LeaseStep.TheVariants.{ClearMode, Fre
 use Rattle.sl_trace.specs.declared.effects.Op.{Op}
 use Rattle.sl_trace.specs.declared.effects.Op.TheVariants.{ReadSectors, WriteRecord}
 use Rattle.sl_trace.specs.declared.effects.Purpose.{Purpose}
-use Rattle.sl_trace.specs.declared.effects.Purpose.TheVariants.{Joining, SeeRequest}
+use Rattle.sl_trace.specs.declared.effects.Purpose.TheVariants.{Joining, Lease, SeeRequest}
 use Rattle.sl_trace.specs.declared.effects.Signal.TheVariants.{Kill, Term}
 use Rattle.sl_trace.specs.declared.effects.Spot.{Spot}
 use Rattle.sl_trace.specs.declared.effects.Work.{Work}
@@ -54,10 +67,10 @@ use Rattle.sl_trace.specs.declared.effects.Work.TheVariants.{ForJob, Settling}
 use Rattle.sl_trace.specs.declared.input.Answer.{Answer}
 use Rattle.sl_trace.specs.declared.input.Answer.TheVariants.{Failed, Read, Written}
 use Rattle.sl_trace.specs.declared.input.Input.TheVariants.{Exit, Line}
-use Rattle.sl_trace.specs.declared.reply.Reply.TheVariants.{Done, IoFault, IoTimeout, SpawnFault}
+use Rattle.sl_trace.specs.declared.reply.Reply.TheVariants.{Done, Granted, IoFault, IoTimeout, SpawnFault}
 use Rattle.sl_words.proofs.CaseLaws.{none_some}
 use Rattle.std.proofs.Common.{ap, inl, inr, refl, subst, sym, ◌∙◌}
-use Rattle.std.specs.Prelude.{Bool, Contains, List, None, Some, is_some, ℕ, ◌==◌, ◌≡◌, ◌⊎◌}
+use Rattle.std.specs.Prelude.{Bool, Contains, List, None, Option, Some, filter, is_some, ℕ, ◌&&◌, ◌+◌, ◌==◌, ◌≡◌, ◌⊎◌}
 use Rattle.sl_acts.proofs.InputsKeep.{has_heard}
 use Rattle.sl_due_law.proofs.Whole.DeltaWrites.{WritesRecord, frees_well, joins_well, renews_well, wakes_well}
 use Rattle.sl_due_law.proofs.Whole.OwnRecords.{request_is, session_id}
@@ -68,17 +81,15 @@ use Rattle.sl_due_leases.proofs.Holdings.LeaseCallers.{commands_fit}
 use Rattle.sl_due_facts.proofs.Jobs.EffectsAreAllowed.{removal, signalled}
 use Rattle.sl_plain.proofs.Lists.{got_inside}
 use Rattle.sl_sector.specs.Records.{IsRecord}
-use Rattle.sl_sector.specs.declared.sector.Rec.TheVariants.{BlockIs, LeaderIs, PairIs, PairLeaderIs, RequestIs, ValueIs}
+use Rattle.sl_sector.specs.declared.sector.Rec.TheVariants.{RequestIs, ValueIs}
 use Rattle.sl_sector.specs.declared.sector.Rec.{Rec}
 use Rattle.sl_trace.specs.Sessions.{sessions}
 use Rattle.sl_trace.specs.Commands.{IsCommand}
 use Rattle.sl_trace.specs.Traces.{record_of}
 use Rattle.sl_trace.specs.declared.command.LockspaceArg.{LockspaceArg}
-use Rattle.sl_words.proofs.CaseLaws.{some_value}
+use Rattle.sl_words.proofs.CaseLaws.{some_value, true_is_false}
 use Rattle.sl_words.specs.Bounds.{most_hosts}
-use Rattle.sl_area.specs.Layouts.{Layout}
 use Rattle.sl_sector.specs.declared.sector.Block.{Block}
-use Rattle.sl_sector.specs.declared.sector.Leader.{Leader}
 use Rattle.sl_trace.specs.declared.effects.LeaseRead.TheVariants.{OfArea, OfBlock, OfFree, OfPhase1, OfPhase2}
 use Rattle.std.specs.Prelude.{Ok, false, if◌then◌else◌, true, ◌≤◌}
 
@@ -176,29 +187,75 @@ grant_allowed j lver (HostStatus a) = tt
 grant_allowed j lver (SetKillpath q path) = tt
 grant_allowed j lver Status = tt
 
--- Where a block has one sector it is spelled by itself, and a leader too.
-block_spelled : (g : Layout) (turn : ℕ) (lockspace name : List ℕ) (b : Block) → g.paired ≡ false → IsBlock b → IsRecord (block_record g turn lockspace name b)
-block_spelled g turn lockspace name b plain good =
-    subst (λ q. IsRecord (elim q as (λ x. Rec) [ false ↦ BlockIs b | true ↦ PairIs (record { block = b; turn = turn; lockspace = lockspace; resource = name }) ])) (sym plain) good
+-- Whether a holding becomes exclusive: the block behind it is written after the holding has changed.
+abbrev becomes : LeaseNext → Bool
+becomes (BecomeExclusive lver b) = true
+becomes n = false
 
-leader_spelled : (g : Layout) (l : Leader) → IsLeader l → IsRecord (leader_record g l)
-leader_spelled g l good = by g.paired where
-  by : (q : Bool) → IsRecord (elim q as (λ x. Rec) [ false ↦ LeaderIs l | true ↦ PairLeaderIs l ])
-  by false = good
-  by true = good
+-- What was decided, and its records have a spelling.
+record Writing (y : Step) (s : Session) (at : Spot) (n : LeaseNext) : Type 0 where
+  writes : LeaseWrites n
+  fits : RecordsFit y.setting (seen y) s at n
 
-lease_allowed : (y : Step) (s : Session) (at : Spot) (work : Work) (n : LeaseNext) → y.setting.layout.paired ≡ false → LeaseWrites n → LeaseAllowed Anything Spelled AnyStart y s at work n
+lease_allowed : (y : Step) (s : Session) (at : Spot) (work : Work) (n : LeaseNext) → becomes n ≡ false → Writing y s at n → LeaseAllowed Anything Spelled AnyStart y s at work n
 lease_allowed y s at work No_lease plain k = tt
 lease_allowed y s at work (ReadFor step) plain k = reads_allowed y s at work step
-lease_allowed y s at work (WriteBlock step b) plain k = record_spelled _ (block_spelled y.setting.layout (next_turn y.setting (seen y) s at) s.lockspace (name_on y.setting (seen y) s at) b plain k)
-lease_allowed y s at work (WriteLeader step l) plain k = record_spelled (leader_record y.setting.layout l) (leader_spelled y.setting.layout l k)
+lease_allowed y s at work (WriteBlock step b) plain k = record_spelled (next_record y.setting (seen y) s at b) (k.fits refl b k.writes)
+lease_allowed y s at work (WriteLeader step l) plain k = record_spelled (leader_record y.setting.layout l) (leader_spelled y.setting.layout l k.writes)
 lease_allowed y s at work (AnswerJob r) plain k = λ j is. tt
 lease_allowed y s at work (GrantJob mode lver) plain k = λ j c is reads. grant_allowed j lver c
-lease_allowed y s at work (BecomeShared lver l) plain k = ((λ j is. tt), record_spelled (leader_record y.setting.layout l) (leader_spelled y.setting.layout l k))
-lease_allowed y s at work (BecomeExclusive lver b) plain k = (
-  λ j is. tt,
-  λ z same. record_spelled _ (block_spelled z.setting.layout (next_turn z.setting (seen z) s at) s.lockspace (name_on z.setting (seen z) s at) b (ap (λ (st : Setting). st.layout.paired) same ∙ plain) k),
-)
+lease_allowed y s at work (BecomeShared lver l) plain k = ((λ j is. tt), record_spelled (leader_record y.setting.layout l) (leader_spelled y.setting.layout l k.writes))
+lease_allowed y s at work (BecomeExclusive lver b) plain k = absurd (true_is_false plain)
+
+-- A holding that is converted leaves the calls.
+record KeepsCalls (x y : Step) : Type 0 where
+  setting : y.setting ≡ x.setting
+  calls : submitted (seen y) ≡ submitted (seen x)
+  spelled : SpelledSoFar y
+
+converted_keeps : (x : Step) (s : Session) (at : Spot) (work : Work) (mode : Mode) (lver : ℕ) → SpelledSoFar x → KeepsCalls x (for_work work (λ j. with_command j (λ c. convert_for s at j c mode lver)) x)
+converted_keeps x s at work mode lver h =
+    with_some_keeps (KeepsCalls x) (work_job work) (λ j. with_command j (λ c. convert_for s at j c mode lver)) x
+    (λ j is a. with_some_keeps (KeepsCalls x) (command_numbered x.setting (seen x) j) (λ c. convert_for s at j c mode lver) x
+    (λ c reads b. with_some_keeps (KeepsCalls x) (process_named c) (λ p y. with_some (held_otherwise (seen y) s at p mode) (convert_holding j mode lver) y) x
+    (λ p names d. with_some_keeps (KeepsCalls x) (held_otherwise (seen x) s at p mode) (convert_holding j mode lver) x (λ g held e. changed j g) d) b) a) start where
+      start : KeepsCalls x x
+      start = record { setting = refl; calls = refl; spelled = h }
+
+      changed : (j : ℕ) (g : Grant) → KeepsCalls x (convert_holding j mode lver g x)
+      changed j g =
+          let y : Step = add_grant (record g { mode = mode; lver = lver }) (add_end (end_of g) x) in
+          record { setting = refl; calls = calls_stay y j (Granted lver) (late y (Granted lver) refl); spelled = h }
+
+allowed : (x : Step) (s : Session) (at : Spot) (work : Work) (n : LeaseNext) → becomes n ≡ false → Writing x s at n → SpelledSoFar x → SpelledSoFar (carry_lease s at work n x)
+allowed x s at work n plain k h = lease SpelledSoFar SpelledSoFar Anything Spelled AnyStart AnyMove spelled_effects x s at work n (lease_allowed x s at work n plain k) h
+
+-- What a lease does next.
+lease_spelled : (x : Step) (s : Session) (at : Spot) (work : Work) (n : LeaseNext) → Writing x s at n → SpelledSoFar x → SpelledSoFar (carry_lease s at work n x)
+unfolding carry_lease
+lease_spelled x s at work (BecomeExclusive lver b) k h =
+    spelled_effects.calls z s at.path (Lease Settling ClearMode) (next_place z.setting (seen z) s at) (WriteRecord (next_record z.setting (seen z) s at b)) (record_spelled (next_record z.setting (seen z) s at b) spelled) same.spelled
+  where
+    z : Step
+    z = for_work work (λ j. with_command j (λ c. convert_for s at j c Exclusive lver)) x
+
+    same : KeepsCalls x z
+    same = converted_keeps x s at work Exclusive lver h
+
+    record_by : Setting → List Submitted → Rec
+    record_by st ms =
+        let leases : List Submitted = filter (λ (m : Submitted). is_lease_call m && is_on st.layout at m.call) (filter (is_call_of s) ms) in
+        block_record st.layout (base_turn st.layout s.id leases + 1) s.lockspace (verified_name st.layout s.lockspace leases) b
+
+    spelled : IsRecord (next_record z.setting (seen z) s at b)
+    spelled = subst (λ r. IsRecord r) (ap (λ ms. record_by x.setting ms) (sym same.calls) ∙ ap (λ st. record_by st (submitted (seen z))) (sym same.setting)) (k.fits refl b k.writes)
+lease_spelled x s at work No_lease k h = h
+lease_spelled x s at work (ReadFor step) k h = allowed x s at work (ReadFor step) refl k h
+lease_spelled x s at work (WriteBlock step b) k h = allowed x s at work (WriteBlock step b) refl k h
+lease_spelled x s at work (WriteLeader step l) k h = allowed x s at work (WriteLeader step l) refl k h
+lease_spelled x s at work (AnswerJob r) k h = allowed x s at work (AnswerJob r) refl k h
+lease_spelled x s at work (GrantJob mode lver) k h = allowed x s at work (GrantJob mode lver) refl k h
+lease_spelled x s at work (BecomeShared lver l) k h = allowed x s at work (BecomeShared lver l) refl k h
 
 -- ---- requests
 
@@ -222,19 +279,42 @@ request_allowed x s j bytes Status fits most = tt
 
 -- ---- lines
 
-decision_allowed : (y : Step) (j : ℕ) (c : Command) (d : Decision) → y.setting.layout.paired ≡ false → ((s : Session) (at : Spot) (v : ValueRec) → d ≡ SetsValue s at v → IsValue v) → ((s : Session) (g : Grant) → d ≡ GivesUp s g → LeaseWrites (next_of_release y.setting (seen (add_end (end_of g) y)) s (spot_of_grant g) g)) → ((s : Session) (r : ResourceArg) (mode : Mode) → d ≡ ConvertsTo s r mode → LeaseWrites (next_of_conversion y.setting (seen y) s (spot_of r) mode r.name)) → DecisionAllowed SpelledSoFar Anything Spelled AnyStart y j c d
-decision_allowed y j c (Replies r) plain values gives converts = tt
-decision_allowed y j c (Joins n a) plain values gives converts = λ z its. reads_spelled 1
-decision_allowed y j c (Leaves s) plain values gives converts = (tt, λ z h i there. tt)
-decision_allowed y j c (ReadsArea s r) plain values gives converts = reads_spelled (area_sectors y.setting.layout)
-decision_allowed y j c (Shares s lver) plain values gives converts = grant_allowed j lver c
-decision_allowed y j c (GivesUp s g) plain values gives converts =
-    (tt, lease_allowed (add_end (end_of g) y) s (spot_of_grant g) (ForJob j) (next_of_release y.setting (seen (add_end (end_of g) y)) s (spot_of_grant g) g) plain (gives s g refl))
-decision_allowed y j c (TakesOver s g) plain values gives converts = grant_allowed j g.lver c
-decision_allowed y j c (ConvertsTo s r mode) plain values gives converts = lease_allowed y s (spot_of r) (ForJob j) (next_of_conversion y.setting (seen y) s (spot_of r) mode r.name) plain (converts s r mode refl)
-decision_allowed y j c (Requests s r) plain values gives converts = reads_spelled 2
-decision_allowed y j c (SetsValue s at v) plain values gives converts = record_spelled (ValueIs v) (values s at v refl)
-decision_allowed y j c (GetsValue s at) plain values gives converts = reads_spelled 1
+-- What a release or a conversion begins with converts nothing.
+release_stays : (st : Setting) (t : Trace) (s : Session) (at : Spot) (g : Grant) → becomes (next_of_release st t s at g) ≡ false
+release_stays st t s at g = release_is (λ n. becomes n ≡ false) st t s at g (λ fits. by g.mode) (λ paired over writes. refl) where
+  cleared : (o : Option Block) → becomes (option_map_or (λ own. WriteBlock ClearMode (moded_block own false 0)) o No_lease) ≡ false
+  cleared None = refl
+  cleared (Some own) = refl
+
+  by : (mode : Mode) → becomes (release_next (lease_place st s) (known st t s at) mode g.lver) ≡ false
+  by Exclusive = refl
+  by Shared = cleared (known st t s at).own
+
+conversion_stays : (st : Setting) (t : Trace) (s : Session) (at : Spot) (mode : Mode) (name : List ℕ) → becomes (next_of_conversion st t s at mode name) ≡ false
+conversion_stays st t s at mode name = conversion_is (λ n. becomes n ≡ false) st t s at mode name (λ fits. by mode) (λ paired over writes. refl) where
+  moded : (k : LeaseKnown) (o : Option Block) → becomes (option_map_or (λ own. WriteBlock SetMode (moded_block own true k.self.generation)) o No_lease) ≡ false
+  moded k None = refl
+  moded k (Some own) = refl
+
+  by : (mode : Mode) → becomes (convert_next (known st t s at) mode name) ≡ false
+  by Exclusive = refl
+  by Shared = moded (known st t s at) (known st t s at).own
+
+decision_allowed : (y : Step) (j : ℕ) (c : Command) (d : Decision) → ((s : Session) (at : Spot) (v : ValueRec) → d ≡ SetsValue s at v → IsValue v)
+    → ((s : Session) (g : Grant) → d ≡ GivesUp s g → Writing (add_end (end_of g) y) s (spot_of_grant g) (next_of_release y.setting (seen (add_end (end_of g) y)) s (spot_of_grant g) g))
+    → ((s : Session) (r : ResourceArg) (mode : Mode) → d ≡ ConvertsTo s r mode → Writing y s (spot_of r) (next_of_conversion y.setting (seen y) s (spot_of r) mode r.name)) → DecisionAllowed SpelledSoFar Anything Spelled AnyStart y j c d
+decision_allowed y j c (Replies r) values gives converts = tt
+decision_allowed y j c (Joins n a) values gives converts = λ z its. reads_spelled 1
+decision_allowed y j c (Leaves s) values gives converts = (tt, λ z h i there. tt)
+decision_allowed y j c (ReadsArea s r) values gives converts = reads_spelled (area_sectors y.setting.layout)
+decision_allowed y j c (Shares s lver) values gives converts = grant_allowed j lver c
+decision_allowed y j c (GivesUp s g) values gives converts =
+    (tt, lease_allowed (add_end (end_of g) y) s (spot_of_grant g) (ForJob j) (next_of_release y.setting (seen (add_end (end_of g) y)) s (spot_of_grant g) g) (release_stays y.setting (seen (add_end (end_of g) y)) s (spot_of_grant g) g) (gives s g refl))
+decision_allowed y j c (TakesOver s g) values gives converts = grant_allowed j g.lver c
+decision_allowed y j c (ConvertsTo s r mode) values gives converts = lease_allowed y s (spot_of r) (ForJob j) (next_of_conversion y.setting (seen y) s (spot_of r) mode r.name) (conversion_stays y.setting (seen y) s (spot_of r) mode r.name) (converts s r mode refl)
+decision_allowed y j c (Requests s r) values gives converts = reads_spelled 2
+decision_allowed y j c (SetsValue s at v) values gives converts = record_spelled (ValueIs v) (values s at v refl)
+decision_allowed y j c (GetsValue s at) values gives converts = reads_spelled 1
 
 -- The call that begins a session is of no session yet.
 joining_spelled : (x : Step) (j n : ℕ) (c : Command) (a : LockspaceArg) → SpelledSoFar x → SpelledSoFar (carry_decision j c (Joins n a) x)
@@ -250,8 +330,16 @@ joining_spelled x j n c a h k r there = by (contains_last x.effects.calls made k
 carried_spelled : (x : Step) (text : List ℕ) (c : Command) (d : Decision) → Kept x → x.input ≡ Wake → x.effects.calls ≡ [] → x.setting.read text ≡ Ok c → decided x.setting (seen x) x.reading c ≡ d
     → SpelledSoFar (carry_decision (next_job x.setting (seen x)) c d (with_input (Line text) x))
 carried_spelled x text c d k wake bare says is =
-    decision SpelledSoFar SpelledSoFar Anything Spelled AnyStart AnyMove spelled_effects (with_input (Line text) x) (next_job x.setting (seen x)) c d (decision_allowed (with_input (Line text) x) (next_job x.setting (seen x)) c d k.known.0.setting.unpaired
-    (λ s at v sets. values_well x c s at v k.known.0 (k.known.0.setting.reads text c says) (is ∙ sets)) (λ s g gives. releases_well x text c s g wake bare k.known.0 (is ∙ gives)) (λ s r mode sets. converts_well x text c s r mode wake bare k.known.0 (is ∙ sets)))
+    decision SpelledSoFar SpelledSoFar Anything Spelled AnyStart AnyMove spelled_effects (with_input (Line text) x) (next_job x.setting (seen x)) c d (decision_allowed (with_input (Line text) x) (next_job x.setting (seen x)) c d
+    (λ s at v sets. values_well x c s at v k.known.0 (k.known.0.setting.reads text c says) (is ∙ sets))
+    (λ s g gives. record {
+      writes = releases_well x text c s g wake bare k.known.0 (is ∙ gives);
+      fits = releases_fit x text s g c wake bare k.known.0 (subst (λ q. HasGrounds x.setting (seen x) c q) (is ∙ gives) (decisions_have_grounds x.setting (seen x) x.reading c));
+    })
+    (λ s r mode sets. record {
+      writes = converts_well x text c s r mode wake bare k.known.0 (is ∙ sets);
+      fits = conversions_fit x text s r mode c wake bare k.known.0 (subst (λ q. HasGrounds x.setting (seen x) c q) (is ∙ sets) (decisions_have_grounds x.setting (seen x) x.reading c));
+    }))
     (λ n a joins. joining_spelled (with_input (Line text) x) (next_job x.setting (seen x)) n c a (spelled_now x k)) (spelled_now x k)
 
 -- ---- all acts
@@ -295,8 +383,8 @@ spelled_are_kept =
       shown = λ x s m bytes hears is joined begins h.
           (stopped SpelledSoFar SpelledSoFar Anything Spelled AnyStart AnyMove spelled_effects tt x s None (λ z k j there. tt) (spelled_now x h));
       leads_on = λ x s work step m answer aim hears is on aims h.
-          (lease SpelledSoFar SpelledSoFar Anything Spelled AnyStart AnyMove spelled_effects x s (spot_of_call x.setting.layout m) work (next_of_lease x.setting (seen x) s (spot_of_call x.setting.layout m) aim m step answer)
-          (lease_allowed x s (spot_of_call x.setting.layout m) work (next_of_lease x.setting (seen x) s (spot_of_call x.setting.layout m) aim m step answer) h.known.0.setting.unpaired (answers_well x s work step m answer aim h.known.0 hears is on)) (spelled_now x h));
+          lease_spelled x s (spot_of_call x.setting.layout m) work (next_of_lease x.setting (seen x) s (spot_of_call x.setting.layout m) aim m step answer)
+          (record { writes = answers_well x s work step m answer aim h.known.0 hears is on; fits = answers_fit x s work step m answer aim h.known.0 hears is on aims }) (spelled_now x h);
       fails = λ x s m j hears lone runs h.
           (spelled_effects.replies x j (IoFault m.call.number) tt (spelled_now x h));
       has_asked = λ x s m j owner hears is runs h.
@@ -316,6 +404,6 @@ spelled_are_kept =
           delta SpelledSoFar SpelledSoFar Anything Spelled AnyStart AnyMove spelled_effects x s (next_renewal (delta_of_session x.setting s) x.reading (delta_known x.setting (seen x) s) (bits_due x.setting (calls_of (seen x) s) x.reading))
           (delta_allowed x s _ (renews_well x s h.known.0 has joined)) (spelled_now x h);
       settles = λ x s spot has wake active whole none h.
-          (lease SpelledSoFar SpelledSoFar Anything Spelled AnyStart AnyMove spelled_effects x s spot Settling (next_of_settling x.setting (seen x) s spot)
-          (lease_allowed x s spot Settling (next_of_settling x.setting (seen x) s spot) h.known.0.setting.unpaired (settles_well x s spot h.known.0 has active whole)) (spelled_now x h));
+          lease_spelled x s spot Settling (next_of_settling x.setting (seen x) s spot)
+          (record { writes = settles_well x s spot h.known.0 has active whole; fits = settlings_fit x s spot h.known.0 (there_has x.setting (seen x) s.number s has) whole }) (spelled_now x h);
     }

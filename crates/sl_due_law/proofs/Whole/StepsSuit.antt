@@ -1,8 +1,9 @@
 -- What a lease does next serves its aim, where the step before did.
-use Rattle.sl_due_law.proofs.Causes.Leases.ReadNexts.{again_same, bytes_by, first_same, within_by}
+use Rattle.sl_acts.proofs.Pairs.Decisions.{within_cases}
+use Rattle.sl_due_law.proofs.Causes.Leases.ReadNexts.{again_same, bytes_by, first_same}
 use Rattle.sl_due_law.specs.Whole.JobLore.{acquires_by, converts_by, suits}
 use Rattle.sl_trace.specs.Ballots.{moded_block, phase1_block, same_owner, stop_of, value_of}
-use Rattle.sl_trace.specs.LeaseWork.{LeasePlace, area_next, after_freeing, after_moding, after_phase1, after_phase2, after_read, after_take, begin_next, begin_or_refuse, convert_next, first_step, leader_for, lease_next, looks_for_shared, lost_next, named_area_next, phase1_next, phase2_next, refuses, refuses_block, release_next, step_of_read, stopped_next, whole_area_next, within_turn, won_next}
+use Rattle.sl_trace.specs.LeaseWork.{LeasePlace, area_next, after_freeing, after_moding, after_phase1, after_phase2, after_read, after_take, begin_next, begin_or_refuse, convert_next, first_step, leader_for, lease_next, looks_for_shared, lost_next, named_area_next, phase1_next, phase2_next, refuses, release_next, step_of_read, stopped_next, whole_area_next, within_turn, won_next}
 use Rattle.sl_trace.specs.Leases.{LeaseKnown, instance_for, is_leader_of, mode_gen_of, own_known, shared_elsewhere}
 use Rattle.sl_trace.specs.declared.lease.Aim.TheVariants.{Acquires, Converts, Releases, Settles}
 use Rattle.sl_trace.specs.declared.lease.Aim.{Aim}
@@ -22,7 +23,7 @@ use Rattle.sl_trace.specs.declared.effects.Mode.TheVariants.{Exclusive, Shared}
 use Rattle.sl_trace.specs.declared.effects.Mode.{Mode}
 use Rattle.sl_trace.specs.declared.input.Answer.TheVariants.{Failed, Read, Written}
 use Rattle.sl_trace.specs.declared.input.Answer.{Answer}
-use Rattle.sl_trace.specs.declared.reply.Limited.TheVariants.{Lver as LverLimit, Mbal as MbalLimit}
+use Rattle.sl_trace.specs.declared.reply.Limited.TheVariants.{Lver as LverLimit, Mbal as MbalLimit, Turn as TurnLimit}
 use Rattle.sl_trace.specs.declared.reply.Reply.TheVariants.{Held as HeldBy, Limit as LimitReached, Shared as SharedBy, TornBlock, TornLeader, WrongArea}
 use Rattle.sl_trace.specs.declared.reply.Reply.{Reply}
 use Rattle.sl_words.proofs.CaseLaws.{false_is_true, none_some, not_both}
@@ -292,18 +293,8 @@ refused_any aim (Converts mode) r = tt
 refused_any aim Releases r = tt
 refused_any aim Settles r = tt
 
-block_suits : (aim other : Aim) (n : LeaseNext) → NextSuits aim n → NextSuits aim (refuses_block other n)
-block_suits aim other Nothing h = h
-block_suits aim other (ReadFor step) h = h
-block_suits aim other (WriteBlock step b) h = refused_any aim other _
-block_suits aim other (WriteLeader step l) h = h
-block_suits aim other (AnswerJob r) h = h
-block_suits aim other (GrantJob mode n) h = h
-block_suits aim other (BecomeShared n l) h = h
-block_suits aim other (BecomeExclusive n b) h = refused_any aim other _
-
 pub within_suits : (p : LeasePlace) (k : LeaseKnown) (aim other : Aim) (n : LeaseNext) → NextSuits aim n → NextSuits aim (within_turn p k other n)
-within_suits p k aim other n h = within_by (NextSuits aim) p k other n h (block_suits aim other n h)
+within_suits p k aim other n h = within_cases (NextSuits aim) p k other n (λ fits. h) (λ paired over writes. refused_any aim other (LimitReached TurnLimit))
 
 -- What comes next after an answer.
 pub next_suits : (p : LeasePlace) (k : LeaseKnown) (aim : Aim) (call n : ℕ) (step : LeaseStep) (answer : Answer) → suits aim step ≡ true → NextSuits aim (lease_next p k aim call n step answer)

@@ -1,5 +1,6 @@
 -- What the causes of later replies stand on, of a trace at the end of an entry: what stands behind the calls of requests and values, what a
 -- release has ended, what a joining looked at first, and what a child to be started holds.
+use Rattle.sl_due_law.specs.Whole.JobLore.{AllSuit}
 use Rattle.sl_due_facts.specs.Connections.WatchFacts.{WatchFacts}
 use Rattle.sl_run.specs.Caused.{IsAccepted}
 use Rattle.sl_trace.specs.Jobs.{command_numbered, process_named}
@@ -88,6 +89,8 @@ pub record ChildFacts (st : Setting) (t : Trace) : Type 0 where
 
 pub record CauseFacts (st : Setting) (t : Trace) : Type 0 where
   pub watches : WatchFacts st t None
+  -- each call serves what its job's command asks
+  pub suit : AllSuit st t
   -- a session that a job began has looked at its sector
   pub looked : (s : Session) (j : ℕ) → Contains (sessions st t) s → s.job ≡ Some j →
       (m : Submitted) × Contains (calls_of t s) m × IsTrue (is_join_call FirstRead m.call.purpose)

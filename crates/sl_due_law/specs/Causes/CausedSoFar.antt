@@ -20,7 +20,8 @@ use Rattle.sl_trace.specs.declared.effects.JobReply.{JobReply}
 use Rattle.sl_trace.specs.declared.effects.Start.{Start}
 use Rattle.sl_trace.specs.declared.input.Input.TheVariants.{Line, Wake}
 use Rattle.sl_trace.specs.declared.input.Input.{Input}
-use Rattle.sl_trace.specs.declared.reply.Reply.TheVariants.{Done, Granted, Recovering}
+use Rattle.sl_trace.specs.declared.reply.Limited.TheVariants.{Turn as TurnLimit}
+use Rattle.sl_trace.specs.declared.reply.Reply.TheVariants.{Done, Granted, Limit as LimitReached, Recovering}
 use Rattle.sl_trace.specs.declared.reply.Reply.{Reply}
 use Rattle.std.specs.Prelude.{AllPairs, Bool, Contains, List, None, Ok, Some, [], false, filter, not, true, ℕ, ◌&&◌, ◌++◌, ◌≡◌, ◌≢◌}
 
@@ -101,9 +102,11 @@ abbrev pub is_line : Input → Bool
 is_line (Line text) = true
 is_line i = false
 
--- The replies of which that is shown: all but what a line refuses as in recovery, what it is granted, and what it is answered as done.
+-- The replies of which that is shown: all but what a line refuses as in recovery or by the limit of turns, what it is granted, and what it is
+-- answered as done.
 abbrev pub is_explained : Input → Reply → Bool
 is_explained i (Recovering t) = not (is_line i)
 is_explained i Done = not (is_line i)
 is_explained i (Granted lver) = not (is_line i)
+is_explained i (LimitReached TurnLimit) = not (is_line i)
 is_explained i r = true

@@ -19,7 +19,8 @@ use Rattle.sl_trace.specs.declared.effects.Move.{Move}
 use Rattle.sl_trace.specs.declared.effects.Sent.{Sent}
 use Rattle.sl_trace.specs.declared.effects.Start.{Start}
 use Rattle.sl_trace.specs.declared.input.Input.TheVariants.{Line, Wake}
-use Rattle.sl_trace.specs.declared.reply.Reply.TheVariants.{Done, Granted, Recovering}
+use Rattle.sl_trace.specs.declared.reply.Limited.TheVariants.{Turn as TurnLimit}
+use Rattle.sl_trace.specs.declared.reply.Reply.TheVariants.{Done, Granted, Limit as LimitReached, Recovering}
 use Rattle.sl_trace.specs.declared.reply.Reply.{Reply}
 use Rattle.std.specs.List.{list_any}
 use Rattle.std.specs.Prelude.{Contains, List, Ok, Some, [], false, filter, is_some, true, ℕ, ◌<◌, ◌∷◌, ◌≡◌}
@@ -142,6 +143,12 @@ abbrev pub GrantedAtLines : Type 0
 GrantedAtLines =
     (st : Setting) (past : Trace) (e : Entry) (text : List ℕ) (a : JobReply) (lver : ℕ) (j : Job) → WholeTrace st past → IsDue st past e → e.input ≡ Line text → Contains e.effects.replies a
     → a.reply ≡ Granted lver → job_numbered st (e ∷ past) a.job ≡ Some j → CausedBy (at_its_line st past e j) (Granted lver)
+
+-- What a line is answered where the turn of its block would pass its limit is so with its cause.
+abbrev pub LimitedAtLines : Type 0
+LimitedAtLines =
+    (st : Setting) (past : Trace) (e : Entry) (text : List ℕ) (a : JobReply) (j : Job) → WholeTrace st past → IsDue st past e → e.input ≡ Line text → Contains e.effects.replies a
+    → a.reply ≡ LimitReached TurnLimit → job_numbered st (e ∷ past) a.job ≡ Some j → CausedBy (at_its_line st past e j) (LimitReached TurnLimit)
 
 -- What a line is answered as done is so with its cause: a kill program is set, or a holding was given up beside others of the lease.
 abbrev pub DoneAtLines : Type 0

@@ -2,12 +2,13 @@
 //! does what is due.
 //!
 //! Each act gives its replies with their causes and keeps them to the entry's end, but for what a line is answered at once, refused as in
-//! recovery, granted, or answered as done: that has its cause in the entry that is due, by what the step had done before its input.
+//! recovery or by the limit of turns, granted, or answered as done: that has its cause in the entry that is due, by what the step had done
+//! before its input.
 //! What is answered later than it was asked rests on what stands behind it: a first look that spelled a record, a read that let a request
 //! pass, a value that the line brought, an end in the line's entry, what a child to be started holds. That stands in each such trace.
 
 ghost use Rattle.sl_due_law.specs.Causes.CausedSoFar.{is_explained};
-ghost use Rattle.sl_due_law.specs.Causes.LineCauses.{AnswersAreCaused, AtOnceAreCaused, DecisionsOverlook, DoneAtLines, GrantedAtLines, HeadsAreEarly, LastIsSilent, LinesAreCaused, LinesAreWell, RefusedAtLines, StoppedAreCaused};
+ghost use Rattle.sl_due_law.specs.Causes.LineCauses.{AnswersAreCaused, AtOnceAreCaused, DecisionsOverlook, DoneAtLines, GrantedAtLines, HeadsAreEarly, LastIsSilent, LimitedAtLines, LinesAreCaused, LinesAreWell, RefusedAtLines, StoppedAreCaused};
 ghost use Rattle.sl_due_law.specs.Causes.Promises.{CausesAreKept, CausesBegin, CausesStand, LeavingsAreCaused, RepliesRun, RepliesRunBegin, TracesAreCaused};
 
 /// Each act gives its replies with their causes, but for those of its line, and leaves those before it.
@@ -84,6 +85,11 @@ pub fn refused_at_lines()
 /// What a line is granted, beside a holding or by taking one over, is granted with its cause.
 pub fn granted_at_lines()
     ensures { GrantedAtLines }
+{}
+
+/// What a line is answered where the turn of its block would pass its limit is so with its cause.
+pub fn limited_at_lines()
+    ensures { LimitedAtLines }
 {}
 
 /// What a line is answered as done is so with its cause: a kill program is set, or a holding was given up beside others of the lease.

@@ -1,6 +1,6 @@
 -- What ends is lawful: only an exit, a failed start, a release, a take-over and a conversion end holdings, and each was held before.
+use Rattle.sl_acts.proofs.Pairs.Decisions.{release_is}
 use Rattle.sl_acts.specs.Acts.{next_of_conversion, next_of_release, next_of_settling}
-use Rattle.sl_due_facts.proofs.Jobs.PlainNexts.{release_plain}
 use Rattle.sl_trace.specs.declared.effects.LeaseRead.TheVariants.{OfArea, OfFree}
 use Rattle.sl_acts.proofs.EffectsKeep.{delta, removal, signalled}
 use Rattle.sl_acts.proofs.LoopsKeep.{for_each_keeps, when_keeps}
@@ -36,6 +36,7 @@ use Rattle.sl_sector.specs.declared.sector.Block.{Block}
 use Rattle.sl_trace.specs.Deltas.{delta_known, delta_of_session, next_after_free, next_after_renewal, next_free, next_in_joining, next_on_wake, next_renewal}
 use Rattle.sl_trace.specs.Sessions.{calls_of, generation_of, holdings_of, last_renewal, present_sessions, recovery_of, refused_after, has_open_write}
 use Rattle.sl_trace.specs.declared.delta.DeltaNext.{DeltaNext}
+use Rattle.sl_trace.specs.declared.reply.Limited.TheVariants.{Turn as TurnLimit}
 use Rattle.sl_trace.specs.declared.session.Session.{Session}
 use Rattle.sl_trace.specs.Traces.{Job, Setting, end_of, holdings, is_ended_by, is_orphan, is_running, next_job, no_process, orphans_left, running_jobs, same_place, spot_of_grant, line_in}
 use Rattle.sl_trace.specs.declared.command.Command.TheVariants.{Acquire, AddLockspace, Convert, GetLvb, HostStatus, InqLockspace, Release, ReleaseOrphan, RemLockspace, Request, RunProgram, SetKillpath, SetLvb, Status, TakeOver}
@@ -50,7 +51,7 @@ use Rattle.sl_trace.specs.declared.effects.Spot.{Spot}
 use Rattle.sl_trace.specs.declared.effects.Work.TheVariants.{ForJob, Settling}
 use Rattle.sl_trace.specs.declared.effects.Work.{Work}
 use Rattle.sl_trace.specs.declared.input.Input.TheVariants.{Answer as Told, Exit, Line, Number, Spawned}
-use Rattle.sl_trace.specs.declared.reply.Reply.TheVariants.{BadCommand as Misread, Done, IoFault, IoTimeout, NoProcess, Recovering, SpawnFault}
+use Rattle.sl_trace.specs.declared.reply.Reply.TheVariants.{BadCommand as Misread, Done, IoFault, IoTimeout, Limit as LimitReached, NoProcess, Recovering, SpawnFault}
 use Rattle.sl_trace.specs.declared.reply.Reply.{Reply}
 use Rattle.sl_words.specs.Words.{same_truth, some_is}
 use Rattle.std.proofs.Common.{ap, append-nil, inl, inr, refl, subst, sym, ◌∙◌}
@@ -272,10 +273,10 @@ asked_ends x s j bytes Status = refl
 
 -- ---- the release
 
-released_ends : (x : Step) (text : List ℕ) (c : Command) (j : ℕ) (s : Session) (g : Grant) → x.setting.layout.paired ≡ false → x.effects.ends ≡ [] → x.effects.grants ≡ [] → x.setting.read text ≡ Ok c → GiveUpGrounds x.setting (seen x) c s g
+released_ends : (x : Step) (text : List ℕ) (c : Command) (j : ℕ) (s : Session) (g : Grant) → x.effects.ends ≡ [] → x.effects.grants ≡ [] → x.setting.read text ≡ Ok c → GiveUpGrounds x.setting (seen x) c s g
     → EndsSoFar (after_end s (spot_of_grant g) j g (add_end (end_of g) (with_input (Line text) x)))
 unfolding after_end carry_lease
-released_ends x text c j s g plain ended ungranted says u = by (holdings_on (seen z) s at) where
+released_ends x text c j s g ended ungranted says u = by (holdings_on (seen z) s at) where
   at : Spot
   at = spot_of_grant g
 
@@ -315,7 +316,8 @@ released_ends x text c j s g plain ended ungranted says u = by (holdings_on (see
         | [] ↦ carry_lease s at (ForJob j) (next_of_release z.setting (seen z) s at g) z
       ])
   by (e ∷ es) = so (add_reply j Done z) refl refl refl refl
-  by [] = subst (λ n. EndsSoFar (carry_lease s at (ForJob j) n z)) (sym (release_plain z.setting (seen z) s at g plain)) (next g.mode)
+  by [] =
+      release_is (λ n. EndsSoFar (carry_lease s at (ForJob j) n z)) z.setting (seen z) s at g (λ fits. next g.mode) (λ paired over writes. so (add_reply j (LimitReached TurnLimit) z) refl refl refl refl)
 
 -- ---- the take-over
 
@@ -399,10 +401,10 @@ led_ends x s at (ForJob j) (BecomeExclusive lver b) ended ungranted =
 
 -- ---- commands
 
-lines_end : (x : Step) (text : List ℕ) (c : Command) (j : ℕ) (d : Decision) → x.setting.layout.paired ≡ false → x.effects.ends ≡ [] → x.effects.grants ≡ [] → x.setting.read text ≡ Ok c → decided x.setting (seen x) x.reading c ≡ d
+lines_end : (x : Step) (text : List ℕ) (c : Command) (j : ℕ) (d : Decision) → x.effects.ends ≡ [] → x.effects.grants ≡ [] → x.setting.read text ≡ Ok c → decided x.setting (seen x) x.reading c ≡ d
     → EndsSoFar (carry_decision j c d (with_input (Line text) x))
 unfolding carry_decision
-lines_end x text c j d plain ended ungranted says at = by d (subst (λ z. HasGrounds x.setting (seen x) c z) at (decisions_have_grounds x.setting (seen x) x.reading c)) where
+lines_end x text c j d ended ungranted says at = by d (subst (λ z. HasGrounds x.setting (seen x) c z) at (decisions_have_grounds x.setting (seen x) x.reading c)) where
   y : Step
   y = with_input (Line text) x
 
@@ -412,7 +414,7 @@ lines_end x text c j d plain ended ungranted says at = by d (subst (λ z. HasGro
   by (Leaves s) g = none_yet (signal_and_refuse s (Some j) y) (stopped_ends y s (Some j) ∙ ended)
   by (ReadsArea s r) g = none_yet (carry_decision j c (ReadsArea s r) y) ended
   by (Shares s lver) g = none_yet (grant_for s j c Shared lver y) (granted_ends y s j c Shared lver ∙ ended)
-  by (GivesUp s e) g = released_ends x text c j s e plain ended ungranted says g
+  by (GivesUp s e) g = released_ends x text c j s e ended ungranted says g
   by (TakesOver s e) g = taken_ends x text c j s e ended ungranted says g
   by (ConvertsTo s r mode) g = led_ends y s (spot_of r) (ForJob j) (next_of_conversion x.setting (seen y) s (spot_of r) mode r.name) ended ungranted
   by (Requests s r) g = none_yet (carry_decision j c (Requests s r) y) ended
@@ -449,7 +451,7 @@ ends_are_lawful =
       says_started = λ x p j input is runs k. going x _ (record { setting = refl; past = refl; input = refl; ends = refl; grants = refl }) (so_far x k);
       misreads = λ x text column wake bare says k. none_yet (answer_line text (next_job x.setting (seen x)) (Misread column) x) (k.1.waking wake).0;
       answers = λ x text c r wake bare says is k. none_yet (answer_line text (next_job x.setting (seen x)) r x) (k.1.waking wake).0;
-      carries = λ x text c d wake bare says is more k. lines_end x text c (next_job x.setting (seen x)) d k.0.setting.unpaired (k.1.waking wake).0 (k.1.waking wake).1 says is;
+      carries = λ x text c d wake bare says is more k. lines_end x text c (next_job x.setting (seen x)) d (k.1.waking wake).0 (k.1.waking wake).1 says is;
       joins_on = λ x s j step m answer hears is runs k.
           delta_ends x s (next_in_joining (delta_of_session x.setting s) (generation_of (seen x) s) (calls_of (seen x) s) x.reading m step answer) hears.unended;
       ends_joining = λ x s j step m answer hears is stops k. none_yet (remove_of_refused s x) (removed_ends x s ∙ hears.unended);

@@ -1,11 +1,11 @@
 -- The answer of a lease's call keeps the facts of a job's work: the next call is of the same work, and where it is granted nobody else
 -- works there.
 use Rattle.sl_acts.proofs.InputsKeep.{has_heard}
+use Rattle.sl_acts.proofs.Pairs.Decisions.{asked_is, bytes_are, next_is}
 use Rattle.sl_acts.specs.SoFar.{entry_of}
 use Rattle.sl_area.specs.Places.{area_sectors, block_offset, block_place, block_record, block_sectors, leader_offset, leader_record}
 use Rattle.sl_due.specs.DueLease.{carry_lease, convert_for, convert_holding, for_work, grant_for, grant_of, held_otherwise, lease_call, name_on, next_of_lease, next_turn, read_for, with_command}
 use Rattle.sl_due.specs.Steps.{Step, add_end, add_grant, add_reply, seen, with_some}
-use Rattle.sl_due_facts.proofs.Jobs.PlainNexts.{block_plain, next_plain}
 use Rattle.sl_due_leases.proofs.Grants.WorksByEffects.{CallsOwned, IsNewWork, WorksAt, call_works, end_works, not_work, reply_works, start_works}
 use Rattle.sl_due_leases.proofs.Grants.WorksByGrants.{NobodyWorksAt, grant_works}
 use Rattle.sl_due_leases.proofs.Holdings.HoldingsByAnswers.{JobLed, Led, beside_job, job_led, on_resource, spot_at}
@@ -14,12 +14,12 @@ use Rattle.sl_due_leases.proofs.Holdings.HoldingsByEffects.{later_same}
 use Rattle.sl_due_leases.proofs.Holdings.LeaseCallers.{heard_answered, heard_call, heard_opens, heard_session, on_own_area, spot_aligned}
 use Rattle.sl_due_leases.proofs.Holdings.LeaseConversions.{converted, otherwise, spot_is}
 use Rattle.sl_due_leases.proofs.Holdings.LeaseNexts.{IsFitNext, next_fits}
-use Rattle.sl_due_leases.proofs.Holdings.LeasePlaces.{base_on, block_on, ids_within, one_area}
+use Rattle.sl_due_leases.proofs.Holdings.LeasePlaces.{base_on, blocks_on, one_area, own_on}
+use Rattle.sl_due_leases.proofs.Ways.Kept.PlacesStand.{id_in_range}
 use Rattle.sl_run.specs.Lawful.{IsSetting}
 use Rattle.sl_run.specs.LawfulArea.{is_area_work}
 use Rattle.sl_run.specs.LawfulModes.{shared_since}
 use Rattle.sl_trace.specs.Jobs.{aim_of_command, command_numbered, process_named, resource_named}
-use Rattle.sl_trace.proofs.PlainWork.{bytes_plain}
 use Rattle.sl_trace.specs.LeaseWork.{LeasePlace, leader_for, lease_next, lease_place}
 use Rattle.sl_trace.specs.Leases.{LeaseKnown, has_shared_on, is_on, known, lver_written, spot_of, spot_of_call}
 use Rattle.sl_trace.specs.declared.lease.Aim.TheVariants.{Acquires, Converts, Releases, Settles}
@@ -29,7 +29,6 @@ use Rattle.sl_trace.specs.declared.lease.LeaseNext.{LeaseNext}
 use Rattle.sl_plain.proofs.Lists.{got_inside}
 use Rattle.sl_plain.proofs.Numbers.{below_suc, trans_le}
 use Rattle.sl_sector.specs.declared.sector.Block.{Block}
-use Rattle.sl_sector.specs.declared.sector.Rec.TheVariants.{BlockIs}
 use Rattle.sl_trace.specs.Sessions.{session_numbered, sessions}
 use Rattle.sl_trace.specs.declared.session.Session.{Session}
 use Rattle.sl_due_facts.specs.Facts.WorkFacts.{MayBeHeld}
@@ -131,11 +130,12 @@ is_call (WriteBlock step b) = true
 is_call (WriteLeader step l) = true
 is_call n = false
 
-moding_calls_none : (p : LeasePlace) (k : LeaseKnown) (mode : Mode) (call i : ℕ) (answer : Answer) → p.layout.paired ≡ false → is_call (lease_next p k (Converts mode) call i SetMode answer) ≡ false
+moding_calls_none : (p : LeasePlace) (k : LeaseKnown) (mode : Mode) (call i : ℕ) (answer : Answer) → is_call (lease_next p k (Converts mode) call i SetMode answer) ≡ false
 unfolding lease_next
-moding_calls_none p k mode call i (Read bytes) plain = ap (λ z. is_call z) (bytes_plain p k (Converts mode) bytes SetMode plain)
-moding_calls_none p k mode call i Failed plain = refl
-moding_calls_none p k mode call i Written plain = by k.exclusive where
+moding_calls_none p k mode call i (Read bytes) =
+    bytes_are (λ z. is_call z ≡ false) p k (Converts mode) bytes SetMode (λ read is. absurd (none_some read (asked_is p.layout bytes SetMode read is).first)) (λ once. refl)
+moding_calls_none p k mode call i Failed = refl
+moding_calls_none p k mode call i Written = by k.exclusive where
   by : (o : Option ℕ) → is_call (option_map_or (λ e. BecomeShared e (leader_for p k false e)) o Nothing) ≡ false
   by None = refl
   by (Some e) = refl
@@ -160,8 +160,8 @@ new_work x s j step m answer aim l next is calls c further purpose session on =
           absurd (not_both (is_call next) calls (ap (λ z. is_call z) (sym is)
           ∙ (ap (λ z. is_call (next_of_lease x.setting (seen x) s (spot_at x m) z m step answer)) to_shared
           ∙ (ap (λ z. is_call (next_of_lease x.setting (seen x) s (spot_at x m) (Converts Shared) m z answer)) moding
-          ∙ (ap (λ z. is_call z) (next_plain x.setting (seen x) s (spot_at x m) (Converts Shared) m SetMode answer l.whole.0.setting.unpaired)
-          ∙ moding_calls_none (lease_place x.setting s) (known x.setting (seen x) s (spot_at x m)) Shared m.call.number (lver_written m) answer l.whole.0.setting.unpaired)))));
+          ∙ next_is (λ z. is_call z ≡ false) x.setting (seen x) s (spot_at x m) (Converts Shared) m SetMode answer
+          (λ fits. moding_calls_none (lease_place x.setting s) (known x.setting (seen x) s (spot_at x m)) Shared m.call.number (lver_written m) answer) (λ paired over writes. refl)))));
       acts = λ i at d p its runs named process.
           let o = one_job j i further at (sym purpose ∙ its) in
           l.whole.0.facts.works.acts m j step k.command p k.work (ap (λ z. process_named z) (known_command i d o.0 named) ∙ process);
@@ -286,7 +286,7 @@ led_works x s work step m answer aim l =
       st = x.setting
 
       id : (1 ≤ s.id) × (s.id ≤ st.layout.hosts)
-      id = ids_within st (seen x) s l.whole.0.setting (got_inside (sessions st (seen x)) s.number s (has_heard x s m answer l.hears))
+      id = id_in_range st l.whole.0.setting (seen x) s (got_inside (sessions st (seen x)) s.number s (has_heard x s m answer l.hears))
 
       h : WorksAt x
       h = l.whole.0.facts.works
@@ -301,7 +301,7 @@ led_works x s work step m answer aim l =
           → WorksAt (lease_call s (spot_at x m) w at (block_offset st.layout (spot_at x m).base 1) (ReadSectors (block_sectors st.layout)) x)
       blocks w k at is =
           call_next x s w step m answer aim k (ReadFor at) is refl at (block_offset st.layout (spot_at x m).base 1) (ReadSectors (block_sectors st.layout))
-          (block_on st (spot_at x m) 1 (call_added s.number (spot_at x m).path (Lease w at) (block_offset st.layout (spot_at x m).base 1) (ReadSectors (block_sectors st.layout)) x) k.whole.0.setting (trans_le 1 s.id st.layout.hosts id.0 id.1) refl refl)
+          (blocks_on st (spot_at x m) s.id (call_added s.number (spot_at x m).path (Lease w at) (block_offset st.layout (spot_at x m).base 1) (ReadSectors (block_sectors st.layout)) x) k.whole.0.setting id refl refl)
 
       area : (w : Work) → Led x s w step m answer aim → (at : LeaseStep) → next_of_lease x.setting (seen x) s (spot_at x m) aim m step answer ≡ ReadFor at
           → WorksAt (lease_call s (spot_at x m) w at (spot_at x m).base (ReadSectors (area_sectors st.layout)) x)
@@ -346,9 +346,8 @@ led_works x s work step m answer aim l =
       by w k Nothing is fit = h
       by w k (ReadFor at) is fit = reads w k at is
       by w k (WriteBlock at b) is fit =
-          subst (λ z. WorksAt z) (sym (block_plain x s (spot_at x m) w at b k.whole.0.setting.unpaired))
-          (call_next x s w step m answer aim k (WriteBlock at b) is refl at (block_offset st.layout (spot_at x m).base s.id) (WriteRecord (BlockIs b))
-          (block_on st (spot_at x m) s.id (call_added s.number (spot_at x m).path (Lease w at) (block_offset st.layout (spot_at x m).base s.id) (WriteRecord (BlockIs b)) x) k.whole.0.setting id.1 refl refl))
+          call_next x s w step m answer aim k (WriteBlock at b) is refl at (place x) (writes x b)
+          (own_on st (spot_at x m) s.id (next_turn st (seen x) s (spot_at x m)) (call_added s.number (spot_at x m).path (Lease w at) (place x) (writes x b) x) k.whole.0.setting id refl refl)
       by w k (WriteLeader at v) is fit =
           call_next x s w step m answer aim k (WriteLeader at v) is refl at (leader_offset (spot_at x m).base) (WriteRecord (leader_record st.layout v))
           (base_on st (spot_at x m) (call_added s.number (spot_at x m).path (Lease w at) (leader_offset (spot_at x m).base) (WriteRecord (leader_record st.layout v)) x) k.whole.0.setting refl refl)

@@ -1,15 +1,15 @@
 -- What a command comes to keeps the facts of a job's work: its first call has nothing in its way, and is the first of its job.
 use Rattle.sl_acts.proofs.DecisionsAreTheirs.{Of}
+use Rattle.sl_acts.proofs.Pairs.Decisions.{conversion_is, release_is}
 use Rattle.sl_acts.proofs.PlainActs.{line_has}
 use Rattle.sl_acts.specs.Acts.{Has, next_of_conversion, next_of_release}
 use Rattle.sl_acts.specs.SoFar.{entry_of}
-use Rattle.sl_area.specs.Places.{area_sectors, block_offset, delta_offset, leader_offset, leader_record, value_offset}
+use Rattle.sl_area.specs.Places.{area_sectors, block_place, block_record, delta_offset, leader_offset, leader_record, value_offset}
 use Rattle.sl_due.specs.DueCommands.{after_end, carry_decision, decided}
-use Rattle.sl_due.specs.DueLease.{carry_lease, grant_of}
+use Rattle.sl_due.specs.DueLease.{carry_lease, grant_of, name_on, next_turn}
 use Rattle.sl_due.specs.Steps.{Step, add_call_of, add_end, add_reply, seen, with_input}
 use Rattle.sl_due.specs.declared.decision.Decision.TheVariants.{ConvertsTo, GetsValue, GivesUp, Joins, Leaves, ReadsArea, Replies, Requests, SetsValue, Shares, TakesOver}
 use Rattle.sl_due.specs.declared.decision.Decision.{Decision}
-use Rattle.sl_due_facts.proofs.Jobs.PlainNexts.{block_plain, conversion_plain, release_plain}
 use Rattle.sl_due_leases.proofs.Grants.WorksByAnswers.{granted_works, new_spot, one_job}
 use Rattle.sl_due_leases.proofs.Grants.OthersGoOn.{stopped_on}
 use Rattle.sl_due_leases.proofs.Grants.WorksByDeltas.{other_call_works, works_go_on}
@@ -25,8 +25,9 @@ use Rattle.sl_due_leases.proofs.Holdings.HoldingsByLines.{asked_resource, base_o
 use Rattle.sl_due_leases.proofs.Holdings.HoldingsByLeases.{base_aligned}
 use Rattle.sl_due_leases.proofs.Holdings.LeaseCallers.{on_own_area}
 use Rattle.sl_due_leases.proofs.Holdings.LeaseConversions.{spot_is}
-use Rattle.sl_due_leases.proofs.Holdings.LeasePlaces.{base_on, block_on, ids_within}
+use Rattle.sl_due_leases.proofs.Holdings.LeasePlaces.{base_on, own_on}
 use Rattle.sl_due_leases.proofs.Holdings.PlainPlaces.{one_place}
+use Rattle.sl_due_leases.proofs.Ways.Kept.PlacesStand.{id_in_range}
 use Rattle.sl_due_leases.specs.Holdings.DecisionGrounds.{AsksLease, ConvertGrounds, GiveUpGrounds, HasGrounds, IsReady, ReadGrounds, Releases as ReleasesIt}
 use Rattle.sl_due_leases.specs.Holdings.Moments.{Known}
 use Rattle.sl_due_facts.proofs.Jobs.JobsAreNumbered.{next_is_new}
@@ -44,8 +45,9 @@ use Rattle.sl_plain.proofs.Lists.{contains_cases, contains_none, find_fails, fin
 use Rattle.sl_plain.proofs.Numbers.{lt_then_le, number_itself, refl_le}
 use Rattle.sl_plain.proofs.Options.{some_of, then_value}
 use Rattle.sl_sector.specs.declared.sector.Block.{Block}
-use Rattle.sl_sector.specs.declared.sector.Rec.TheVariants.{BlockIs, ValueIs}
+use Rattle.sl_sector.specs.declared.sector.Rec.TheVariants.{ValueIs}
 use Rattle.sl_trace.specs.Sessions.{holdings_of, session_numbered, sessions}
+use Rattle.sl_trace.specs.declared.reply.Limited.TheVariants.{Turn as TurnLimit}
 use Rattle.sl_trace.specs.declared.session.Session.{Session}
 use Rattle.sl_due_facts.specs.Facts.Heard.{heard_by}
 use Rattle.sl_due_facts.specs.Facts.JobFacts.{JobFacts}
@@ -67,7 +69,7 @@ use Rattle.sl_trace.specs.declared.effects.Purpose.TheVariants.{Joining, Lease, 
 use Rattle.sl_trace.specs.declared.effects.Spot.{Spot}
 use Rattle.sl_trace.specs.declared.effects.Work.TheVariants.{ForJob}
 use Rattle.sl_trace.specs.declared.input.Input.TheVariants.{Line, Wake}
-use Rattle.sl_trace.specs.declared.reply.Reply.TheVariants.{Done}
+use Rattle.sl_trace.specs.declared.reply.Reply.TheVariants.{Done, Limit as LimitReached}
 use Rattle.sl_words.proofs.CaseLaws.{none_some, not_both, one_value, some_value, true_is_false}
 use Rattle.sl_words.proofs.WordLaws.{and_true}
 use Rattle.sl_words.specs.Words.{same_truth}
@@ -281,7 +283,7 @@ gives_up_work x text c s g l u = by (holdings_on (seen z) s at) refl where
   held = (kept_inside (λ (k : Grant). k.session == s.number) (holdings (seen x)) g (kept_inside (λ (e : Grant). same_place e.path e.offset u.resource.path u.resource.offset) (holdings_of (seen x) s) g u.held).0).0
 
   id : (1 ≤ s.id) × (s.id ≤ st.layout.hosts)
-  id = ids_within st (seen y) s l.known.0.setting (got_inside (sessions st (seen y)) s.number s l.has)
+  id = id_in_range st l.known.0.setting (seen y) s (got_inside (sessions st (seen y)) s.number s l.has)
 
   releasing : (c : Command) (r : ResourceArg) → ReleasesIt c r g → aim_of_command c ≡ Some Releases
   releasing c r (inl a) = ap (λ k. aim_of_command k) a.1
@@ -323,9 +325,10 @@ gives_up_work x text c s g l u = by (holdings_on (seen z) s at) refl where
     block : (o : Option Block) → WorksAt (carry_lease s at (ForJob j) (option_map_or (λ own. WriteBlock ClearMode (moded_block own false 0)) o Nothing) z)
     block None = there
     block (Some own) =
-        subst (λ n. WorksAt n) (sym (block_plain z s at (ForJob j) ClearMode (moded_block own false 0) l.known.0.setting.unpaired))
-        (first ClearMode (block_offset st.layout at.base s.id) (WriteRecord (BlockIs (moded_block own false 0))) none
-        (block_on st at s.id (call_added s.number at.path (Lease (ForJob j) ClearMode) (block_offset st.layout at.base s.id) (WriteRecord (BlockIs (moded_block own false 0))) z) l.known.0.setting id.1 refl refl))
+        let turn : ℕ = next_turn st (seen z) s at in
+        let place : ℕ = block_place st.layout at.base s.id turn in
+        let op : Op = WriteRecord (block_record st.layout turn s.lockspace (name_on st (seen z) s at) (moded_block own false 0)) in
+        first ClearMode place op none (own_on st at s.id turn (call_added s.number at.path (Lease (ForJob j) ClearMode) place op z) l.known.0.setting id refl refl)
 
   by : (hs : List Grant) → holdings_on (seen z) s at ≡ hs
       → WorksAt (elim hs as (λ v. Step) [
@@ -333,7 +336,9 @@ gives_up_work x text c s g l u = by (holdings_on (seen z) s at) refl where
         | [] ↦ carry_lease s at (ForJob j) (next_of_release z.setting (seen z) s at g) z
       ])
   by (e ∷ es) is = reply_works z j Done (later_same z.past (entry_of z) (record { job = j; reply = Done }) refl) there
-  by [] is = subst (λ n. WorksAt (carry_lease s at (ForJob j) n z)) (sym (release_plain st (seen z) s at g l.known.0.setting.unpaired)) (released g.mode is)
+  by [] is =
+      release_is (λ n. WorksAt (carry_lease s at (ForJob j) n z)) st (seen z) s at g (λ fits. released g.mode is)
+      (λ paired over writes. reply_works z j (LimitReached TurnLimit) (later_same z.past (entry_of z) (record { job = j; reply = LimitReached TurnLimit }) refl) there)
 
 -- ---- a conversion
 
@@ -366,96 +371,98 @@ in_held gs a b there by_one spot =
 converts_work : (x : Step) (text : List ℕ) (c : Command) (s : Session) (r : ResourceArg) (mode : Mode) → Lined x text c s → ConvertGrounds x.setting (seen x) c s r mode
     → WorksAt (carry_lease s (spot_of r) (ForJob (next_job x.setting (seen x))) (next_of_conversion x.setting (seen (with_input (Line text) x)) s (spot_of r) mode r.name) (with_input (Line text) x))
 unfolding carry_lease
-converts_work x text c s r mode l g = subst (λ n. WorksAt (carry_lease s at (ForJob j) n y)) (sym (conversion_plain st (seen y) s at mode r.name l.known.0.setting.unpaired)) (converting mode refl) where
-  st : Setting
-  st = x.setting
+converts_work x text c s r mode l g = conversion_is (λ n. WorksAt (carry_lease s at (ForJob j) n y)) st (seen y) s at mode r.name (λ fits. converting mode refl)
+    (λ paired over writes. reply_works y j (LimitReached TurnLimit) (later_same y.past (entry_of y) (record { job = j; reply = LimitReached TurnLimit }) refl) l.works) where
+      st : Setting
+      st = x.setting
 
-  at : Spot
-  at = spot_of r
+      at : Spot
+      at = spot_of r
 
-  j : ℕ
-  j = next_job st (seen x)
+      j : ℕ
+      j = next_job st (seen x)
 
-  y : Step
-  y = with_input (Line text) x
+      y : Step
+      y = with_input (Line text) x
 
-  id : (1 ≤ s.id) × (s.id ≤ st.layout.hosts)
-  id = ids_within st (seen y) s l.known.0.setting (got_inside (sessions st (seen y)) s.number s l.has)
+      id : (1 ≤ s.id) × (s.id ≤ st.layout.hosts)
+      id = id_in_range st l.known.0.setting (seen y) s (got_inside (sessions st (seen y)) s.number s l.has)
 
-  base : at.base % st.layout.area ≡ 0
-  base = base_of st r (subst (λ k. IsCommand st.layout k) g.command l.command).0
+      base : at.base % st.layout.area ≡ 0
+      base = base_of st r (subst (λ k. IsCommand st.layout k) g.command l.command).0
 
-  aim_is : aim_of_command c ≡ Some (Converts mode)
-  aim_is = subst (λ d. aim_of_command d ≡ Some (Converts (wanted_mode d))) (sym g.command) refl ∙ ap (λ m. Some (Converts m)) (sym g.wanted)
+      aim_is : aim_of_command c ≡ Some (Converts mode)
+      aim_is = subst (λ d. aim_of_command d ≡ Some (Converts (wanted_mode d))) (sym g.command) refl ∙ ap (λ m. Some (Converts m)) (sym g.wanted)
 
-  process : process_named c ≡ Some g.process
-  process = ap (λ k. process_named k) g.command
+      process : process_named c ≡ Some g.process
+      process = ap (λ k. process_named k) g.command
 
-  f : Contains (holdings_on (seen x) s at) g.holding × ((g.holding.process == g.process && true) ≡ true)
-  f = find_inside (λ (k : Grant). k.process == g.process && true) (holdings_on (seen x) s at) g.holding g.held
+      f : Contains (holdings_on (seen x) s at) g.holding × ((g.holding.process == g.process && true) ≡ true)
+      f = find_inside (λ (k : Grant). k.process == g.process && true) (holdings_on (seen x) s at) g.holding g.held
 
-  on : Contains (holdings_of (seen x) s) g.holding × (same_place g.holding.path g.holding.offset r.path r.offset ≡ true)
-  on = kept_inside (λ (k : Grant). same_place k.path k.offset r.path r.offset) (holdings_of (seen x) s) g.holding f.0
+      on : Contains (holdings_of (seen x) s) g.holding × (same_place g.holding.path g.holding.offset r.path r.offset ≡ true)
+      on = kept_inside (λ (k : Grant). same_place k.path k.offset r.path r.offset) (holdings_of (seen x) s) g.holding f.0
 
-  held : Contains (holdings (seen x)) g.holding
-  held = (kept_inside (λ (k : Grant). k.session == s.number) (holdings (seen x)) g.holding on.0).0
+      held : Contains (holdings (seen x)) g.holding
+      held = (kept_inside (λ (k : Grant). k.session == s.number) (holdings (seen x)) g.holding on.0).0
 
-  of : g.holding.process ≡ g.process
-  of = eqb-true g.holding.process g.process (and_true (g.holding.process == g.process) true f.1).0
+      of : g.holding.process ≡ g.process
+      of = eqb-true g.holding.process g.process (and_true (g.holding.process == g.process) true f.1).0
 
-  -- what is held there is the holding itself
-  the_holding : (m : Bool) → is_shared mode ≡ m → (h : Grant) → Contains (holdings (seen x)) h → same_place h.path h.offset r.path r.offset ≡ true → h ≡ g.holding
-  the_holding true to_shared h there same =
-      l.known.0.facts.holdings.alone g.holding h held there
-      (subst (λ (v : Spot). same_place h.path h.offset v.path v.base ≡ true) (sym (spot_is g.holding at on.1)) same) (opposite (is_shared mode) (is_shared g.holding.mode) g.other to_shared)
-  the_holding false to_exclusive h there same =
-      let here : Contains (held_here (seen x) at) h = here_held x at h there same in
-      let none : filter (λ (k : Grant). not (k.process == g.process)) (held_here (seen x) at) ≡ [] =
-      none_mapped (λ (k : Grant). k.process) (filter (λ (k : Grant). not (k.process == g.process)) (held_here (seen x) at))
-      (none_least (map (λ (k : Grant). k.process) (filter (λ (k : Grant). not (k.process == g.process)) (held_here (seen x) at))) (g.lone to_exclusive)) in
-      let h_of : h.process ≡ g.process = eqb-true h.process g.process (not_false (h.process == g.process) (nothing_left (λ (k : Grant). not (k.process == g.process)) (held_here (seen x) at) h none here)) in
-      one_of h g.holding there held (h_of ∙ sym of) (spot_is h at same ∙ sym (spot_is g.holding at on.1)) where
-        not_false : (b : Bool) → not b ≡ false → b ≡ true
-        not_false true is = refl
-        not_false false is = absurd (true_is_false is)
+      -- what is held there is the holding itself
+      the_holding : (m : Bool) → is_shared mode ≡ m → (h : Grant) → Contains (holdings (seen x)) h → same_place h.path h.offset r.path r.offset ≡ true → h ≡ g.holding
+      the_holding true to_shared h there same =
+          l.known.0.facts.holdings.alone g.holding h held there
+          (subst (λ (v : Spot). same_place h.path h.offset v.path v.base ≡ true) (sym (spot_is g.holding at on.1)) same) (opposite (is_shared mode) (is_shared g.holding.mode) g.other to_shared)
+      the_holding false to_exclusive h there same =
+          let here : Contains (held_here (seen x) at) h = here_held x at h there same in
+          let none : filter (λ (k : Grant). not (k.process == g.process)) (held_here (seen x) at) ≡ [] =
+          none_mapped (λ (k : Grant). k.process) (filter (λ (k : Grant). not (k.process == g.process)) (held_here (seen x) at))
+          (none_least (map (λ (k : Grant). k.process) (filter (λ (k : Grant). not (k.process == g.process)) (held_here (seen x) at))) (g.lone to_exclusive)) in
+          let h_of : h.process ≡ g.process = eqb-true h.process g.process (not_false (h.process == g.process) (nothing_left (λ (k : Grant). not (k.process == g.process)) (held_here (seen x) at) h none here)) in
+          one_of h g.holding there held (h_of ∙ sym of) (spot_is h at same ∙ sym (spot_is g.holding at on.1)) where
+            not_false : (b : Bool) → not b ≡ false → b ≡ true
+            not_false true is = refl
+            not_false false is = absurd (true_is_false is)
 
-        one_of : (a b : Grant) → Contains (holdings (seen x)) a → Contains (holdings (seen x)) b → a.process ≡ b.process → spot_of_grant a ≡ spot_of_grant b → a ≡ b
-        one_of a b in_a in_b by_one spot =
-            only_one (held_by (holdings (seen x)) a.process a.path a.offset) a b (l.known.0.facts.holdings.single a in_a) (in_held (holdings (seen x)) a a in_a refl refl) (in_held (holdings (seen x)) a b in_b by_one spot)
+            one_of : (a b : Grant) → Contains (holdings (seen x)) a → Contains (holdings (seen x)) b → a.process ≡ b.process → spot_of_grant a ≡ spot_of_grant b → a ≡ b
+            one_of a b in_a in_b by_one spot =
+                only_one (held_by (holdings (seen x)) a.process a.path a.offset) a b (l.known.0.facts.holdings.single a in_a) (in_held (holdings (seen x)) a a in_a refl refl) (in_held (holdings (seen x)) a b in_b by_one spot)
 
-  first : (step : LeaseStep) (o : ℕ) (op : Op) → (mode ≡ Shared → step ≡ SetMode) → is_on st.layout at (call_added s.number at.path (Lease (ForJob j) step) o op y) ≡ true
-      → WorksAt (add_call_of s.number at.path (Lease (ForJob j) step) o op y)
-  first step o op moding on_it =
-      let call : Call = call_added s.number at.path (Lease (ForJob j) step) o op y in
-      call_works y s.number at.path (Lease (ForJob j) step) o op (owned x text c s l)
-      (first_work y call j step c at (record {
-        purpose = refl;
-        named = new_command x text c l.wake l.says;
-        spot = new_spot st at call l.known.0.setting base on_it;
-        known = of_session x text c s l;
-        new = new_here x text c s l;
-        beside = λ aim h aimed there same.
-            let is : h ≡ g.holding = the_holding (is_shared mode) refl h there same in
-            subst (λ a. MayBeHeld (new_call (length x.past) x.reading call) c a h) (aimed_as c (Converts mode) aim aim_is aimed)
-            (process ∙ ap (λ n. Some n) (sym of ∙ ap (λ (k : Grant). k.process) (sym is)), ap (λ (k : Grant). same_truth (is_shared k.mode) (is_shared mode)) is ∙ unlike (is_shared mode) (is_shared g.holding.mode) g.other);
-        modes = λ aimed. moding (some_value mode Shared (ap (λ a. converts_in a) (aimed_as c (Converts mode) (Converts Shared) aim_is aimed)));
-        acts = λ p named. acting x text c s l p (subst (λ q. may_act (seen x) q ≡ true) (some_value g.process p (sym process ∙ named)) g.acts);
-        unshared = λ m q aimed session. absurd (none_some m (ap (λ a. acquires_in a) (aimed_as c (Converts mode) (Acquires m) aim_is aimed)));
-      })) l.works
+      first : (step : LeaseStep) (o : ℕ) (op : Op) → (mode ≡ Shared → step ≡ SetMode) → is_on st.layout at (call_added s.number at.path (Lease (ForJob j) step) o op y) ≡ true
+          → WorksAt (add_call_of s.number at.path (Lease (ForJob j) step) o op y)
+      first step o op moding on_it =
+          let call : Call = call_added s.number at.path (Lease (ForJob j) step) o op y in
+          call_works y s.number at.path (Lease (ForJob j) step) o op (owned x text c s l)
+          (first_work y call j step c at (record {
+            purpose = refl;
+            named = new_command x text c l.wake l.says;
+            spot = new_spot st at call l.known.0.setting base on_it;
+            known = of_session x text c s l;
+            new = new_here x text c s l;
+            beside = λ aim h aimed there same.
+                let is : h ≡ g.holding = the_holding (is_shared mode) refl h there same in
+                subst (λ a. MayBeHeld (new_call (length x.past) x.reading call) c a h) (aimed_as c (Converts mode) aim aim_is aimed)
+                (process ∙ ap (λ n. Some n) (sym of ∙ ap (λ (k : Grant). k.process) (sym is)), ap (λ (k : Grant). same_truth (is_shared k.mode) (is_shared mode)) is ∙ unlike (is_shared mode) (is_shared g.holding.mode) g.other);
+            modes = λ aimed. moding (some_value mode Shared (ap (λ a. converts_in a) (aimed_as c (Converts mode) (Converts Shared) aim_is aimed)));
+            acts = λ p named. acting x text c s l p (subst (λ q. may_act (seen x) q ≡ true) (some_value g.process p (sym process ∙ named)) g.acts);
+            unshared = λ m q aimed session. absurd (none_some m (ap (λ a. acquires_in a) (aimed_as c (Converts mode) (Acquires m) aim_is aimed)));
+          })) l.works
 
-  converting : (m : Mode) → mode ≡ m → WorksAt (carry_lease s at (ForJob j) (convert_next (known st (seen y) s at) m r.name) y)
-  converting Exclusive is =
-      first (ReadArea r.name) r.offset (ReadSectors (area_sectors st.layout)) (λ shared. absurd (true_is_false (ap (λ m. is_shared m) (sym shared ∙ is))))
-      (base_on st at (call_added s.number at.path (Lease (ForJob j) (ReadArea r.name)) r.offset (ReadSectors (area_sectors st.layout)) y) l.known.0.setting refl refl)
-  converting Shared is = block (known st (seen y) s at).own where
-    block : (o : Option Block)
-        → WorksAt (carry_lease s at (ForJob j) (option_map_or (λ own. WriteBlock SetMode (moded_block own true (known st (seen y) s at).self.generation)) o Nothing) y)
-    block None = l.works
-    block (Some own) =
-        let b : Block = moded_block own true (known st (seen y) s at).self.generation in
-        subst (λ z. WorksAt z) (sym (block_plain y s at (ForJob j) SetMode b l.known.0.setting.unpaired))
-        (first SetMode (block_offset st.layout at.base s.id) (WriteRecord (BlockIs b)) (λ shared. refl)
-        (block_on st at s.id (call_added s.number at.path (Lease (ForJob j) SetMode) (block_offset st.layout at.base s.id) (WriteRecord (BlockIs b)) y) l.known.0.setting id.1 refl refl))
+      converting : (m : Mode) → mode ≡ m → WorksAt (carry_lease s at (ForJob j) (convert_next (known st (seen y) s at) m r.name) y)
+      converting Exclusive is =
+          first (ReadArea r.name) r.offset (ReadSectors (area_sectors st.layout)) (λ shared. absurd (true_is_false (ap (λ m. is_shared m) (sym shared ∙ is))))
+          (base_on st at (call_added s.number at.path (Lease (ForJob j) (ReadArea r.name)) r.offset (ReadSectors (area_sectors st.layout)) y) l.known.0.setting refl refl)
+      converting Shared is = block (known st (seen y) s at).own where
+        block : (o : Option Block)
+            → WorksAt (carry_lease s at (ForJob j) (option_map_or (λ own. WriteBlock SetMode (moded_block own true (known st (seen y) s at).self.generation)) o Nothing) y)
+        block None = l.works
+        block (Some own) =
+            let b : Block = moded_block own true (known st (seen y) s at).self.generation in
+            let turn : ℕ = next_turn st (seen y) s at in
+            let place : ℕ = block_place st.layout at.base s.id turn in
+            let op : Op = WriteRecord (block_record st.layout turn s.lockspace (name_on st (seen y) s at) b) in
+            first SetMode place op (λ shared. refl) (own_on st at s.id turn (call_added s.number at.path (Lease (ForJob j) SetMode) place op y) l.known.0.setting id refl refl)
 
 -- ---- what is granted at once
 

@@ -1,5 +1,6 @@
 -- The facts of holdings are kept by each act, and hold once a step has begun.
 use Rattle.sl_acts.proofs.InputsKeep.{has_heard}
+use Rattle.sl_acts.proofs.Pairs.Decisions.{settling_is}
 use Rattle.sl_acts.specs.Acts.{Has, Hears, next_of_settling}
 use Rattle.sl_acts.specs.SoFar.{entry_of}
 use Rattle.sl_area.specs.Places.{request_offset}
@@ -26,7 +27,6 @@ use Rattle.sl_due_leases.proofs.Holdings.LeaseNexts.{IsPlainNext, settling_fits}
 use Rattle.sl_due_leases.specs.Holdings.Moments.{Known}
 use Rattle.sl_due_leases.specs.Holdings.Promises.{HoldingFactsAreKept}
 use Rattle.sl_due_facts.proofs.Jobs.CallsStay.{is_special}
-use Rattle.sl_due_facts.proofs.Jobs.PlainNexts.{settling_plain}
 use Rattle.sl_due_facts.proofs.Jobs.RepliesComeAfter.{IsLateDelta, joining_late, request_late, set_late, value_late, wake_late}
 use Rattle.sl_run.specs.Lawful.{Orderly}
 use Rattle.sl_trace.specs.Jobs.{command_numbered, job_of_start}
@@ -235,8 +235,8 @@ settled : (x : Step) (s : Session) (at : Spot) → Known x → Has x s → at.ba
 settled x s at k has aligned =
     carried_held x s at Settling (next_of_settling x.setting (seen x) s at) k.0.facts.holdings k.0.setting has aligned
     (λ g there mine exclusive spot stands.
-    subst (λ z. DoesBeside stands.own g.lver z) (sym (settling_plain x.setting (seen x) s at k.0.setting.unpaired))
-    (subst (λ z. DoesBeside stands.own g.lver (settle_next (lease_place x.setting s) (known x.setting (seen x) s z))) spot (settles_beside x s (lease_place x.setting s) g stands)))
+    settling_is (λ z. DoesBeside stands.own g.lver z) x.setting (seen x) s at (λ paired owes. refl)
+    (λ none. subst (λ z. DoesBeside stands.own g.lver (settle_next (lease_place x.setting s) (known x.setting (seen x) s z))) spot (settles_beside x s (lease_place x.setting s) g stands)))
     (plain (next_of_settling x.setting (seen x) s at) (settling_fits (lease_place x.setting s) (known x.setting (seen x) s at))) where
       plain : (n : LeaseNext) → IsPlainNext (known x.setting (seen x) s at) n → IsNoGrant n
       plain Nothing h = tt

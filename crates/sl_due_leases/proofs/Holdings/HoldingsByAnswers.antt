@@ -1,10 +1,10 @@
 -- The answer of a lease's call keeps the facts of holdings.
 use Rattle.sl_acts.proofs.InputsKeep.{has_heard}
+use Rattle.sl_acts.proofs.Pairs.Decisions.{asked_is, bytes_are, next_is}
 use Rattle.sl_acts.specs.Acts.{Has, Hears}
 use Rattle.sl_area.specs.Places.{is_base}
 use Rattle.sl_due.specs.DueLease.{carry_lease, goes_on, grant_for, next_of_lease}
 use Rattle.sl_due.specs.Steps.{Step, seen, with_some}
-use Rattle.sl_due_facts.proofs.Jobs.PlainNexts.{next_plain}
 use Rattle.sl_due_leases.proofs.Holdings.HoldingsByEffects.{HoldsAt}
 use Rattle.sl_due_leases.proofs.Holdings.HoldingsByLeases.{IsNoGrant, OfExclusive, ballot_is, carried_held}
 use Rattle.sl_due_leases.proofs.Holdings.LeaseBeside.{DoesBeside, is_ballot_step, leads_beside}
@@ -16,7 +16,6 @@ use Rattle.sl_due_leases.proofs.Holdings.PlainPlaces.{one_place}
 use Rattle.sl_due_leases.specs.Holdings.Moments.{Known}
 use Rattle.sl_trace.specs.Ballots.{moded_block}
 use Rattle.sl_trace.specs.Jobs.{aim_of, aim_of_command, command_numbered, process_named, resource_named}
-use Rattle.sl_trace.proofs.PlainWork.{bytes_plain}
 use Rattle.sl_trace.specs.LeaseWork.{LeasePlace, leader_for, lease_next, lease_place}
 use Rattle.sl_trace.specs.Leases.{LeaseKnown, block_submitted, exclusive_on, holdings_on, known, lease_calls, lver_written, spot_of, spot_of_call}
 use Rattle.sl_trace.specs.declared.lease.Aim.TheVariants.{Acquires, Converts, Releases, Settles}
@@ -106,31 +105,30 @@ at_spot x m g is = subst (λ (z : Spot). same_place g.path g.offset z.path z.bas
 
 -- ---- what neither grants nor converts
 
-moding_beside : (p : LeasePlace) (k : LeaseKnown) (mode : Mode) (call n i : ℕ) (own : Block) (answer : Answer) (next : LeaseNext) → p.layout.paired ≡ false
-    → lease_next p k (Converts mode) call i SetMode answer ≡ next → IsNoGrant next → DoesBeside own n next
+-- A conversion that set its mode.
+moding_beside : (p : LeasePlace) (k : LeaseKnown) (mode : Mode) (call n i : ℕ) (own : Block) (answer : Answer) → IsNoGrant (lease_next p k (Converts mode) call i SetMode answer)
+    → DoesBeside own n (lease_next p k (Converts mode) call i SetMode answer)
 unfolding lease_next
-moding_beside p k mode call n i own (Read bytes) next once is plain = subst (λ z. DoesBeside own n z) (sym (bytes_plain p k (Converts mode) bytes SetMode once) ∙ is) tt
-moding_beside p k mode call n i own Failed next once is plain = subst (λ z. DoesBeside own n z) is tt
-moding_beside p k mode call n i own Written next once is plain = by k.exclusive is where
-  by : (o : Option ℕ) → option_map_or (λ e. BecomeShared e (leader_for p k false e)) o Nothing ≡ next → DoesBeside own n next
-  by None at = subst (λ z. DoesBeside own n z) at tt
-  by (Some e) at = absurd (subst (λ z. IsNoGrant z) (sym at) plain)
+moding_beside p k mode call n i own (Read bytes) plain =
+    bytes_are (λ z. DoesBeside own n z) p k (Converts mode) bytes SetMode (λ read is. absurd (none_some read (asked_is p.layout bytes SetMode read is).first)) (λ once. tt)
+moding_beside p k mode call n i own Failed plain = tt
+moding_beside p k mode call n i own Written plain = by k.exclusive plain where
+  by : (o : Option ℕ) → IsNoGrant (option_map_or (λ e. BecomeShared e (leader_for p k false e)) o Nothing) → DoesBeside own n (option_map_or (λ e. BecomeShared e (leader_for p k false e)) o Nothing)
+  by None at = tt
+  by (Some e) at = absurd at
 
 led_beside : (x : Step) (s : Session) (work : Work) (step : LeaseStep) (m : Submitted) (answer : Answer) (aim : Aim) → (l : Led x s work step m answer aim) → (next : LeaseNext)
     → next_of_lease x.setting (seen x) s (spot_at x m) aim m step answer ≡ next → IsNoGrant next → OfExclusive x s (spot_at x m) (λ own n. DoesBeside own n next)
 led_beside x s work step m answer aim l next is plain g there mine exclusive spot stands = by work l (aim) refl where
-  once : x.setting.layout.paired ≡ false
-  once = l.whole.0.setting.unpaired
-
   settled : Settles ≡ aim → DoesBeside stands.own g.lver next
   settled settles =
       let inside : Contains (lease_calls x.setting (seen x) s (spot_of_grant g)) m =
       subst (λ z. Contains (lease_calls x.setting (seen x) s z) m) (sym spot) (lease_heard x s m answer work step l.whole.0.setting l.hears l.purpose) in
       let other : is_ballot_step step ≡ false = sym (ballot_is m work step l.purpose) ∙ stands.idle m inside (heard_opens x s m answer l.hears) in
-      let done = leads_beside x s (lease_place x.setting s) g m.call.number (lver_written m) step answer once l.whole.0.facts.holdings there mine exclusive stands other in
       subst (λ z. DoesBeside stands.own g.lver z)
-      (sym (next_plain x.setting (seen x) s (spot_of_grant g) Settles m step answer once)
-      ∙ (ap (λ z. next_of_lease x.setting (seen x) s z Settles m step answer) spot ∙ (ap (λ z. next_of_lease x.setting (seen x) s (spot_at x m) z m step answer) settles ∙ is))) done
+      (ap (λ z. next_of_lease x.setting (seen x) s z Settles m step answer) spot ∙ (ap (λ z. next_of_lease x.setting (seen x) s (spot_at x m) z m step answer) settles ∙ is))
+      (next_is (λ z. DoesBeside stands.own g.lver z) x.setting (seen x) s (spot_of_grant g) Settles m step answer
+      (λ fits. leads_beside x s (lease_place x.setting s) g m.call.number (lver_written m) step answer l.whole.0.facts.holdings there mine exclusive stands other) (λ paired over writes. tt))
 
   of_job : (j : ℕ) → (k : Led x s (ForJob j) step m answer aim) → (b : Aim) → aim ≡ b → MayBeHeld m (job_led x s j step m answer aim k).command b g → DoesBeside stands.own g.lver next
   of_job j k (Acquires mode) at may = absurd (may.2 (mine ∙ sym (heard_session x s m answer l.hears)))
@@ -140,10 +138,11 @@ led_beside x s work step m answer aim l next is plain g there mine exclusive spo
   of_job j k (Converts Shared) at may =
       let q = job_led x s j step m answer aim k in
       let step_is : step ≡ SetMode = l.whole.0.facts.works.modes m j step q.command q.work (q.aimed ∙ ap (λ z. Some z) at) in
-      moding_beside (lease_place x.setting s) (known x.setting (seen x) s (spot_at x m)) Shared m.call.number g.lver (lver_written m) stands.own answer next once
-      (sym (next_plain x.setting (seen x) s (spot_at x m) (Converts Shared) m SetMode answer once)
-      ∙ (ap (λ z. next_of_lease x.setting (seen x) s (spot_at x m) (Converts Shared) m z answer) (sym step_is)
-      ∙ (ap (λ z. next_of_lease x.setting (seen x) s (spot_at x m) z m step answer) (sym at) ∙ is))) plain
+      subst (λ z. IsNoGrant z → DoesBeside stands.own g.lver z)
+      (ap (λ z. next_of_lease x.setting (seen x) s (spot_at x m) (Converts Shared) m z answer) (sym step_is)
+      ∙ (ap (λ z. next_of_lease x.setting (seen x) s (spot_at x m) z m step answer) (sym at) ∙ is))
+      (next_is (λ z. IsNoGrant z → DoesBeside stands.own g.lver z) x.setting (seen x) s (spot_at x m) (Converts Shared) m SetMode answer
+      (λ fits. moding_beside (lease_place x.setting s) (known x.setting (seen x) s (spot_at x m)) Shared m.call.number g.lver (lver_written m) stands.own answer) (λ paired over writes none. tt)) plain
 
   by : (w : Work) → Led x s w step m answer aim → (b : Aim) → aim ≡ b → DoesBeside stands.own g.lver next
   by Settling k b at = settled (settles_only k)

@@ -2,26 +2,28 @@
 -- holding of its session.
 use Rattle.sl_acts.specs.Acts.{Has}
 use Rattle.sl_acts.specs.SoFar.{entry_of}
-use Rattle.sl_area.specs.Places.{area_sectors, block_offset, block_sectors, is_base, leader_offset}
-use Rattle.sl_due.specs.DueLease.{carry_lease, lease_call}
+use Rattle.sl_acts.proofs.Pairs.Records.{written_block, written_leader, written_no_block, written_no_leader}
+use Rattle.sl_area.specs.Layouts.{Layout}
+use Rattle.sl_area.specs.Places.{area_sectors, block_offset, block_place, block_record, block_sectors, is_base, leader_offset, leader_record}
+use Rattle.sl_due.specs.DueLease.{carry_lease, lease_call, name_on, next_turn}
 use Rattle.sl_due.specs.Steps.{Step, add_reply, seen, with_some}
-use Rattle.sl_due_facts.proofs.Jobs.PlainNexts.{block_plain, leader_plain}
 use Rattle.sl_due_leases.proofs.Holdings.HoldingsByCalls.{CallSpares, call_added, call_held}
 use Rattle.sl_due_leases.proofs.Holdings.HoldingsByDeltas.{same_session}
 use Rattle.sl_due_leases.proofs.Holdings.HoldingsByEffects.{HoldsAt, later_same, reply_held}
 use Rattle.sl_due_leases.proofs.Holdings.LeaseBeside.{DoesBeside, is_ballot_step}
-use Rattle.sl_due_leases.proofs.Holdings.LeasePlaces.{base_on, block_on, ids_within, one_area}
+use Rattle.sl_due_leases.proofs.Holdings.LeasePlaces.{base_on, blocks_on, one_area, own_on}
 use Rattle.sl_due_leases.proofs.Holdings.StandsGrow.{IsBeside}
+use Rattle.sl_due_leases.proofs.Ways.Kept.PlacesStand.{id_in_range}
+use Rattle.sl_due_leases.proofs.Ways.WrittenRecords.{block_no_delta, leader_no_delta}
 use Rattle.sl_run.specs.Lawful.{IsSetting}
-use Rattle.sl_trace.specs.Leases.{block_written, freed, freed_by, is_lease_call, is_on, lease_calls}
+use Rattle.sl_trace.specs.Leases.{block_written, freed, freed_by, is_lease_call, is_on, leader_written, lease_calls}
 use Rattle.sl_trace.specs.declared.lease.LeaseNext.TheVariants.{AnswerJob, BecomeExclusive, BecomeShared, GrantJob, Nothing, ReadFor, WriteBlock, WriteLeader}
 use Rattle.sl_trace.specs.declared.lease.LeaseNext.{LeaseNext}
 use Rattle.sl_plain.proofs.Lists.{got_inside}
-use Rattle.sl_plain.proofs.Numbers.{above_zero, trans_le}
+use Rattle.sl_plain.proofs.Numbers.{above_zero}
 use Rattle.sl_sector.specs.declared.sector.Block.{Block}
 use Rattle.sl_sector.specs.declared.sector.DeltaRec.{DeltaRec}
 use Rattle.sl_sector.specs.declared.sector.Leader.{Leader}
-use Rattle.sl_sector.specs.declared.sector.Rec.TheVariants.{BlockIs, LeaderIs}
 use Rattle.sl_trace.specs.Sessions.{calls_of, delta_written, given_number, last_delta, session_numbered, sessions}
 use Rattle.sl_trace.specs.declared.session.Session.{Session}
 use Rattle.sl_due_facts.specs.Facts.Heard.{heard_by}
@@ -44,7 +46,7 @@ use Rattle.sl_words.proofs.WordLaws.{and_true}
 use Rattle.std.proofs.Common.{ap, refl, subst, sym, ◌∙◌}
 use Rattle.std.proofs.lemmas.Bool.{eqb-true}
 use Rattle.std.specs.Option.{option_map_or}
-use Rattle.std.specs.Prelude.{Bool, Contains, IsTrue, None, Option, Some, [], cond, false, length, nat_lt, true, ℕ, ◌%◌, ◌<◌, ◌==◌, ◌^◌, ◌≡◌}
+use Rattle.std.specs.Prelude.{Bool, Contains, IsTrue, List, None, Option, Some, [], cond, false, if◌then◌else◌, length, nat_lt, true, ℕ, ◌%◌, ◌<◌, ◌==◌, ◌^◌, ◌≡◌}
 
 -- ---- one call
 
@@ -109,6 +111,10 @@ block_of_op o = block_written (new_call 0 0 (record { number = 0; session = 0; p
 abbrev freed_of_op : Op → ℕ
 freed_of_op o = freed_by (new_call 0 0 (record { number = 0; session = 0; purpose = Renewal; path = []; offset = 0; op = o }))
 
+-- The instance that a leader which is written frees.
+abbrev freed_of : Option Leader → ℕ
+freed_of o = option_map_or (λ l. if l.held then 0 else l.lver) o 0
+
 -- A call beside an exclusive holding, by what it writes.
 read_beside : (own : Block) (n : ℕ) (m : Submitted) (work : Work) (step : LeaseStep) (k : ℕ) → m.answer ≡ None → m.call.purpose ≡ Lease work step → m.call.op ≡ ReadSectors k → is_ballot_step step ≡ false → 0 < n → IsBeside own n m
 read_beside own n m work step k fresh purpose op other some =
@@ -119,27 +125,27 @@ read_beside own n m work step k fresh purpose op other some =
       frees = subst (λ i. i < n) (sym (ap (λ o. freed_of_op o) op)) some;
     }
 
-block_beside : (own : Block) (n : ℕ) (m : Submitted) (work : Work) (step : LeaseStep) (b : Block) → m.answer ≡ None → m.call.purpose ≡ Lease work step → m.call.op ≡ WriteRecord (BlockIs b)
+block_beside : (own : Block) (n : ℕ) (m : Submitted) (work : Work) (step : LeaseStep) (b : Block) → m.answer ≡ None → m.call.purpose ≡ Lease work step → block_written m ≡ Some b → leader_written m ≡ None
     → (is_ballot_step step ≡ false) × (b.lver ≡ n) × (b.mbal ≡ own.mbal) → 0 < n → IsBeside own n m
-block_beside own n m work step b fresh purpose op does some =
+block_beside own n m work step b fresh purpose block no_leader does some =
     record {
       fresh = fresh;
       no_ballot = ballot_is m work step purpose ∙ does.0;
       block = λ c writes. (
-          let same : b ≡ c = some_value b c (sym (ap (λ o. block_of_op o) op) ∙ writes) in
+          let same : b ≡ c = some_value b c (sym block ∙ writes) in
           (ap (λ (z : Block). z.lver) (sym same) ∙ does.1, ap (λ (z : Block). z.mbal) (sym same) ∙ does.2)
           );
-      frees = subst (λ i. i < n) (sym (ap (λ o. freed_of_op o) op)) some;
+      frees = subst (λ i. i < n) (sym (ap (λ o. freed_of o) no_leader)) some;
     }
 
-leader_beside : (own : Block) (n : ℕ) (m : Submitted) (work : Work) (step : LeaseStep) (l : Leader) → m.answer ≡ None → m.call.purpose ≡ Lease work step → m.call.op ≡ WriteRecord (LeaderIs l)
+leader_beside : (own : Block) (n : ℕ) (m : Submitted) (work : Work) (step : LeaseStep) (l : Leader) → m.answer ≡ None → m.call.purpose ≡ Lease work step → leader_written m ≡ Some l → block_written m ≡ None
     → (is_ballot_step step ≡ false) × (l.held ≡ false → l.lver < n) → 0 < n → IsBeside own n m
-leader_beside own n m work step l fresh purpose op does some =
+leader_beside own n m work step l fresh purpose leader no_block does some =
     record {
       fresh = fresh;
       no_ballot = ballot_is m work step purpose ∙ does.0;
-      block = λ b writes. absurd (none_some b (sym (ap (λ o. block_of_op o) op) ∙ writes));
-      frees = subst (λ i. i < n) (sym (ap (λ o. freed_of_op o) op)) (by l.held refl);
+      block = λ b writes. absurd (none_some b (sym no_block ∙ writes));
+      frees = subst (λ i. i < n) (sym (ap (λ o. freed_of o) leader)) (by l.held refl);
     } where
       by : (b : Bool) → l.held ≡ b → cond b 0 l.lver < n
       by true is = some
@@ -172,9 +178,9 @@ read_held x s at work step offset k h has aligned on beside =
 blocks_held : (x : Step) (s : Session) (at : Spot) (work : Work) (step : LeaseStep) → HoldsAt x → IsSetting x.setting → Has x s → IsAligned x at → OfExclusive x s at (λ own n. is_ballot_step step ≡ false)
     → HoldsAt (lease_call s at work step (block_offset x.setting.layout at.base 1) (ReadSectors (block_sectors x.setting.layout)) x)
 blocks_held x s at work step h is has aligned beside =
-    let id = ids_within x.setting (seen x) s is (got_inside (sessions x.setting (seen x)) s.number s has) in
+    let id = id_in_range x.setting is (seen x) s (got_inside (sessions x.setting (seen x)) s.number s has) in
     read_held x s at work step (block_offset x.setting.layout at.base 1) (block_sectors x.setting.layout) h has aligned
-    (block_on x.setting at 1 (call_added s.number at.path (Lease work step) (block_offset x.setting.layout at.base 1) (ReadSectors (block_sectors x.setting.layout)) x) is (trans_le 1 s.id x.setting.layout.hosts id.0 id.1) refl refl) beside
+    (blocks_on x.setting at s.id (call_added s.number at.path (Lease work step) (block_offset x.setting.layout at.base 1) (ReadSectors (block_sectors x.setting.layout)) x) is id refl refl) beside
 
 pub carried_held : (x : Step) (s : Session) (at : Spot) (work : Work) (next : LeaseNext) → HoldsAt x → IsSetting x.setting → Has x s → IsAligned x at → OfExclusive x s at (λ own n. DoesBeside own n next) → IsNoGrant next
     → HoldsAt (carry_lease s at work next x)
@@ -205,20 +211,27 @@ carried_held x s at work (ReadFor SetMode) h is has aligned beside plain = block
 carried_held x s at work (ReadFor FreeLeader) h is has aligned beside plain = blocks_held x s at work FreeLeader h is has aligned beside
 carried_held x s at work (ReadFor ClearMode) h is has aligned beside plain = blocks_held x s at work ClearMode h is has aligned beside
 carried_held x s at work (WriteBlock step b) h is has aligned beside plain =
-    let c : Call = call_added s.number at.path (Lease work step) (block_offset x.setting.layout at.base s.id) (WriteRecord (BlockIs b)) x in
-    let id = ids_within x.setting (seen x) s is (got_inside (sessions x.setting (seen x)) s.number s has) in
-    subst (λ z. HoldsAt z) (sym (block_plain x s at work step b is.unpaired))
-    (call_held x s.number at.path (Lease work step) (block_offset x.setting.layout at.base s.id) (WriteRecord (BlockIs b))
-    (lease_spared x s at c h has aligned refl (block_on x.setting at s.id c is id.1 refl refl) refl
-    (λ g there mine exclusive spot stands.
-    block_beside stands.own g.lver (new_call (length x.past) x.reading c) work step b refl refl refl (beside g there mine exclusive spot stands) (some_instance x s (spot_of_grant g) g.lver stands))) h)
+    let g : Layout = x.setting.layout in
+    let turn : ℕ = next_turn x.setting (seen x) s at in
+    let name : List ℕ = name_on x.setting (seen x) s at in
+    let op : Op = WriteRecord (block_record g turn s.lockspace name b) in
+    let c : Call = call_added s.number at.path (Lease work step) (block_place g at.base s.id turn) op x in
+    let m : Submitted = new_call (length x.past) x.reading c in
+    let id = id_in_range x.setting is (seen x) s (got_inside (sessions x.setting (seen x)) s.number s has) in
+    call_held x s.number at.path (Lease work step) (block_place g at.base s.id turn) op
+    (lease_spared x s at c h has aligned refl (own_on x.setting at s.id turn c is id refl refl) (block_no_delta g turn s.lockspace name b)
+    (λ e there mine exclusive spot stands.
+    block_beside stands.own e.lver m work step b refl refl (written_block g turn s.lockspace name m b refl) (written_no_leader g turn s.lockspace name m b refl) (beside e there mine exclusive spot stands)
+    (some_instance x s (spot_of_grant e) e.lver stands))) h
 carried_held x s at work (WriteLeader step l) h is has aligned beside plain =
-    let c : Call = call_added s.number at.path (Lease work step) (leader_offset at.base) (WriteRecord (LeaderIs l)) x in
-    subst (λ z. HoldsAt z) (sym (leader_plain x s at work step l is.unpaired))
-    (call_held x s.number at.path (Lease work step) (leader_offset at.base) (WriteRecord (LeaderIs l))
-    (lease_spared x s at c h has aligned refl (base_on x.setting at c is refl refl) refl
-    (λ g there mine exclusive spot stands.
-    leader_beside stands.own g.lver (new_call (length x.past) x.reading c) work step l refl refl refl (beside g there mine exclusive spot stands) (some_instance x s (spot_of_grant g) g.lver stands))) h)
+    let g : Layout = x.setting.layout in
+    let op : Op = WriteRecord (leader_record g l) in
+    let c : Call = call_added s.number at.path (Lease work step) (leader_offset at.base) op x in
+    let m : Submitted = new_call (length x.past) x.reading c in
+    call_held x s.number at.path (Lease work step) (leader_offset at.base) op
+    (lease_spared x s at c h has aligned refl (base_on x.setting at c is refl refl) (leader_no_delta g l)
+    (λ e there mine exclusive spot stands.
+    leader_beside stands.own e.lver m work step l refl refl (written_leader g m l refl) (written_no_block g m l refl) (beside e there mine exclusive spot stands) (some_instance x s (spot_of_grant e) e.lver stands))) h
 carried_held x s at work (AnswerJob r) h is has aligned beside plain = by (work_job work) where
   by : (o : Option ℕ) → HoldsAt (with_some o (λ j. add_reply j r) x)
   by None = h

@@ -1,5 +1,6 @@
 -- What a command comes to keeps the facts of holdings.
 use Rattle.sl_acts.proofs.DecisionsAreTheirs.{Of, decisions_are_theirs}
+use Rattle.sl_acts.proofs.Pairs.Decisions.{conversion_is, release_is}
 use Rattle.sl_acts.proofs.PlainActs.{line_has}
 use Rattle.sl_acts.specs.Acts.{Has, next_of_conversion, next_of_release}
 use Rattle.sl_acts.specs.Promises.{IsDecidedFor}
@@ -10,7 +11,6 @@ use Rattle.sl_due.specs.DueLease.{carry_lease, grant_for}
 use Rattle.sl_due.specs.Steps.{Step, add_call_of, add_end, add_reply, seen, with_input}
 use Rattle.sl_due.specs.declared.decision.Decision.TheVariants.{ConvertsTo, GetsValue, GivesUp, Joins, Leaves, ReadsArea, Replies, Requests, SetsValue, Shares, TakesOver}
 use Rattle.sl_due.specs.declared.decision.Decision.{Decision}
-use Rattle.sl_due_facts.proofs.Jobs.PlainNexts.{conversion_plain, release_plain}
 use Rattle.sl_due_leases.proofs.Holdings.DecisionsHaveGrounds.{decisions_have_grounds}
 use Rattle.sl_due_leases.proofs.Holdings.HoldingsByCalls.{CallSpares, call_added, call_held}
 use Rattle.sl_due_leases.proofs.Holdings.HoldingsByDeltas.{plain_spared}
@@ -188,13 +188,12 @@ gives_up_line y j s g h is has aligned = by (holdings_on (seen z) s (spot_of_gra
       ])
   by (e ∷ es) at = reply_held z j Done (later_same z.past (entry_of z) (record { job = j; reply = Done }) refl) there
   by [] at =
-      subst (λ n. HoldsAt (carry_lease s (spot_of_grant g) (ForJob j) n z)) (sym (release_plain z.setting (seen z) s (spot_of_grant g) g is.unpaired))
-      (carried_held z s (spot_of_grant g) (ForJob j) (release_next (lease_place z.setting s) (known z.setting (seen z) s (spot_of_grant g)) g.mode g.lver) there is has aligned
+      carried_held z s (spot_of_grant g) (ForJob j) (next_of_release z.setting (seen z) s (spot_of_grant g) g) there is has aligned
       (λ e held mine exclusive spot stands.
       absurd (contains_none e (subst (λ gs. Contains gs e) at
       (kept (λ (k : Grant). same_place k.path k.offset g.path g.offset) (holdings_of (seen z) s) e (subst (λ (v : Spot). same_place e.path e.offset v.path v.base ≡ true) spot (one_place e.path e.offset))
       (kept (λ (k : Grant). k.session == s.number) (holdings (seen z)) e (subst (λ n. (e.session == n) ≡ true) mine (number_itself e.session)) held)))))
-      (release_ungranting (known z.setting (seen z) s (spot_of_grant g)) (lease_place z.setting s) g.mode g.lver))
+      (release_is IsNoGrant z.setting (seen z) s (spot_of_grant g) g (λ fits. release_ungranting (known z.setting (seen z) s (spot_of_grant g)) (lease_place z.setting s) g.mode g.lver) (λ paired over writes. refl))
 
 -- ---- a take-over
 
@@ -283,8 +282,10 @@ known_as z s at own is = is
 converts_line : (x : Step) (text : List ℕ) (c : Command) (j : ℕ) (s : Session) (r : ResourceArg) (mode : Mode) → HoldsAt x → HoldsAt (with_input (Line text) x) → IsSetting x.setting → Has (with_input (Line text) x) s
     → IsCommand x.setting.layout c → ConvertGrounds x.setting (seen x) c s r mode
     → HoldsAt (carry_lease s (spot_of r) (ForJob j) (next_of_conversion x.setting (seen (with_input (Line text) x)) s (spot_of r) mode r.name) (with_input (Line text) x))
-converts_line x text c j s r mode hx h is has command g = subst (λ n. HoldsAt (carry_lease s (spot_of r) (ForJob j) n y)) (sym (conversion_plain y.setting (seen y) s (spot_of r) mode r.name is.unpaired))
-    (carried_held y s (spot_of r) (ForJob j) (convert_next (known y.setting (seen y) s (spot_of r)) mode r.name) h is has aligned (beside mode refl) (plain mode)) where
+converts_line x text c j s r mode hx h is has command g = carried_held y s (spot_of r) (ForJob j) (next_of_conversion y.setting (seen y) s (spot_of r) mode r.name) h is has aligned
+    (λ e there mine exclusive spot stands.
+    conversion_is (λ n. DoesBeside stands.own e.lver n) y.setting (seen y) s (spot_of r) mode r.name (λ fits. beside mode refl e there mine exclusive spot stands) (λ paired over writes. tt))
+    (conversion_is IsNoGrant y.setting (seen y) s (spot_of r) mode r.name (λ fits. plain mode) (λ paired over writes. refl)) where
       y : Step
       y = with_input (Line text) x
 

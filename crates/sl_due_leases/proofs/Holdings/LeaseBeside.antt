@@ -1,11 +1,12 @@
 -- What a settling does beside an exclusive holding: it clears a mode, or frees an instance below.
+use Rattle.sl_acts.proofs.Pairs.Decisions.{asked_is, bytes_are}
 use Rattle.sl_area.specs.Layouts.{Layout}
-use Rattle.sl_area.specs.Places.{blocks_in, leader_of}
+use Rattle.sl_area.specs.Places.{blocks_of, leader_read}
 use Rattle.sl_due_leases.proofs.Holdings.HoldingsByEffects.{HoldsAt}
 use Rattle.sl_due_leases.proofs.Holdings.PlainPlaces.{one_place}
+use Rattle.sl_due_leases.proofs.Ways.WayStages.{read_step}
 use Rattle.sl_trace.specs.Ballots.{moded_block, same_owner}
-use Rattle.sl_trace.proofs.PlainWork.{bytes_plain}
-use Rattle.sl_trace.specs.LeaseWork.{LeasePlace, after_read, after_write, first_step, leader_for, lease_next, part_read, settle_next, settle_owed}
+use Rattle.sl_trace.specs.LeaseWork.{LeasePlace, after_read, after_write, first_step, heard, leader_for, lease_next, settle_next, settle_owed, step_of_read}
 use Rattle.sl_trace.specs.Leases.{LeaseKnown, ended_ballot, ended_ballots, exclusive_on, free_left, holdings_on, known, lease_calls, owed_free, settles_free, won_by}
 use Rattle.sl_trace.specs.declared.lease.Aim.TheVariants.{Settles}
 use Rattle.sl_trace.specs.declared.lease.LeaseNext.TheVariants.{BecomeExclusive, BecomeShared, GrantJob, Nothing, ReadFor, WriteBlock, WriteLeader}
@@ -26,6 +27,7 @@ use Rattle.sl_due.specs.Steps.{Step, seen}
 use Rattle.sl_trace.specs.Traces.{Submitted, holdings, is_heeded, is_shared, same_place, spot_of_grant}
 use Rattle.sl_trace.specs.declared.effects.Grant.{Grant}
 use Rattle.sl_trace.specs.declared.effects.LeaseRead.TheVariants.{OfArea, OfBlock, OfFree, OfPhase1, OfPhase2}
+use Rattle.sl_trace.specs.declared.effects.LeaseRead.{LeaseRead}
 use Rattle.sl_trace.specs.declared.effects.LeaseStep.TheVariants.{ClearMode, FreeLeader, Phase1Read, Phase1Write, Phase2Read, Phase2Write, ReadAgain, ReadArea, ReadBeforeBlock, ReadBeforeFree, SetMode, TakeLeader}
 use Rattle.sl_trace.specs.declared.effects.LeaseStep.{LeaseStep}
 use Rattle.sl_trace.specs.declared.input.Answer.TheVariants.{Failed, Read, Written}
@@ -155,14 +157,23 @@ write_beside p k own n i SetMode none known under other = tt
 write_beside p k own n i FreeLeader none known under other = settled_beside p k own n none known under
 write_beside p k own n i ClearMode none known under other = settled_beside p k own n none known under
 
-next_beside : (p : LeasePlace) (k : LeaseKnown) (own : Block) (n call i : ℕ) (step : LeaseStep) (answer : Answer) → p.layout.paired ≡ false → k.ballot ≡ None → k.own ≡ Some own → own.lver ≡ n
+-- A read that is made once more is of a ballot where its first was.
+ballot_again : (read : LeaseRead) → is_ballot_step (ReadAgain read) ≡ is_ballot_step (step_of_read read)
+ballot_again (OfArea name) = refl
+ballot_again OfFree = refl
+ballot_again OfBlock = refl
+ballot_again OfPhase1 = refl
+ballot_again OfPhase2 = refl
+
+next_beside : (p : LeasePlace) (k : LeaseKnown) (own : Block) (n call i : ℕ) (step : LeaseStep) (answer : Answer) → k.ballot ≡ None → k.own ≡ Some own → own.lver ≡ n
     → ((j : ℕ) → owed_free k ≡ Some j → j < n) → is_ballot_step step ≡ false → DoesBeside own n (lease_next p k Settles call i step answer)
 unfolding lease_next
-next_beside p k own n call i step Failed plain none known under low other = tt
-next_beside p k own n call i step Written plain none known under low other = write_beside p k own n i step none known under other
-next_beside p k own n call i step (Read bytes) plain none known under low other =
-    subst (λ z. DoesBeside own n z) (sym (bytes_plain p k Settles bytes step plain))
-    (read_beside p k own n (leader_of p.layout bytes) (blocks_in p.layout (part_read p.layout bytes (first_step step))) step none known under low other)
+next_beside p k own n call i step Failed none known under low other = tt
+next_beside p k own n call i step Written none known under low other = write_beside p k own n i step none known under other
+next_beside p k own n call i step (Read bytes) none known under low other =
+    bytes_are (λ z. DoesBeside own n z) p k Settles bytes step
+    (λ read is. ballot_again read ∙ (ap (λ z. is_ballot_step z) (sym (read_step step read (asked_is p.layout bytes step read is).first)) ∙ other))
+    (λ once. read_beside p k own n (leader_read p.layout bytes (heard p.layout k bytes step)) (blocks_of p.layout (heard p.layout k bytes step)) step none known under low other)
 
 -- ---- the holding
 
@@ -205,10 +216,10 @@ pub settles_beside : (x : Step) (s : Session) (p : LeasePlace) (g : Grant) → (
 unfolding known
 settles_beside x s p g h = settled_beside p (known x.setting (seen x) s (spot_of_grant g)) h.own g.lver h.concluded h.known h.under.0
 
-pub leads_beside : (x : Step) (s : Session) (p : LeasePlace) (g : Grant) (call i : ℕ) (step : LeaseStep) (answer : Answer) → p.layout.paired ≡ false → HoldsAt x → Contains (holdings (seen x)) g → g.session ≡ s.number
+pub leads_beside : (x : Step) (s : Session) (p : LeasePlace) (g : Grant) (call i : ℕ) (step : LeaseStep) (answer : Answer) → HoldsAt x → Contains (holdings (seen x)) g → g.session ≡ s.number
     → is_shared g.mode ≡ false → (h : StandsExclusive x.setting (seen x) (heard_by x.input) s (spot_of_grant g) g.lver) → is_ballot_step step ≡ false
     → DoesBeside h.own g.lver (lease_next p (known x.setting (seen x) s (spot_of_grant g)) Settles call i step answer)
 unfolding known
-leads_beside x s p g call i step answer plain holds there mine exclusive h other =
-    next_beside p (known x.setting (seen x) s (spot_of_grant g)) h.own g.lver call i step answer plain h.concluded h.known h.under.0
+leads_beside x s p g call i step answer holds there mine exclusive h other =
+    next_beside p (known x.setting (seen x) s (spot_of_grant g)) h.own g.lver call i step answer h.concluded h.known h.under.0
     (λ j is. owed_below x s g holds there mine exclusive h j is) other

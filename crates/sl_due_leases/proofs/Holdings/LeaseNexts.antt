@@ -1,9 +1,9 @@
 -- What a lease may do next: which mode a block shows that it writes, when it grants and converts, what it does beside an exclusive holding.
-use Rattle.sl_trace.specs.declared.effects.LeaseRead.{LeaseRead}
+use Rattle.sl_acts.proofs.Pairs.Decisions.{begin_cases, bytes_are, within_cases}
 use Rattle.sl_area.specs.Places.{BlocksRead, blocks_of, leader_read}
 use Rattle.sl_trace.specs.Ballots.{is_ahead, moded_block, phase1_block, same_owner, stop_of, value_of}
-use Rattle.sl_trace.specs.LeaseWork.{LeasePlace, after_bytes, after_clearing, after_freeing, after_moding, after_phase1, after_phase2, after_read, after_take, after_write, area_next, asked_again, begin_next, begin_or_refuse, ended_next, first_step, heard, leader_for, lease_next, looks_for_shared, lost_next, named_area_next, owes_block, phase1_next, phase2_next, refuses, refuses_block, settle_begin, settle_next, settle_owed, stop_reply, stopped_next, unstopped_next, whole_area_next, within_turn, won_next}
-use Rattle.sl_trace.specs.Leases.{LeaseKnown, instance_for, is_leader_of, mode_gen_of, owed, owed_free, own_known, shared_elsewhere}
+use Rattle.sl_trace.specs.LeaseWork.{LeasePlace, after_bytes, after_clearing, after_freeing, after_moding, after_phase1, after_phase2, after_read, after_take, after_write, area_next, begin_next, begin_or_refuse, ended_next, first_step, heard, leader_for, lease_next, looks_for_shared, lost_next, named_area_next, phase1_next, phase2_next, refuses, settle_begin, settle_next, settle_owed, stop_reply, stopped_next, unstopped_next, whole_area_next, within_turn, won_next}
+use Rattle.sl_trace.specs.Leases.{LeaseKnown, instance_for, is_leader_of, mode_gen_of, owed_free, own_known, shared_elsewhere}
 use Rattle.sl_trace.specs.declared.lease.Aim.TheVariants.{Acquires, Converts, Releases, Settles}
 use Rattle.sl_trace.specs.declared.lease.Aim.{Aim}
 use Rattle.sl_trace.specs.declared.lease.Instance.TheVariants.{Begins, HeldAlready}
@@ -248,15 +248,9 @@ read_plainly p k aim leader blocks ReadBeforeBlock = owed_plainly p k
 read_plainly p k aim leader blocks (ReadAgain read) = tt
 
 bytes_plainly : (p : LeasePlace) (k : LeaseKnown) (aim : Aim) (bytes : List ℕ) (step : LeaseStep) → IsPlainNext k (after_bytes p k aim bytes step)
-unfolding after_bytes
-bytes_plainly p k aim bytes step = by (asked_again p.layout bytes step) where
-  r : BlocksRead
-  r = heard p.layout k bytes step
-
-  by : (o : Option LeaseRead)
-      → IsPlainNext k (elim o as (λ z. LeaseNext) [ Some read ↦ ReadFor (ReadAgain read) | None ↦ after_read p k aim (leader_read p.layout bytes r) (blocks_of p.layout r) (first_step step) ])
-  by (Some read) = tt
-  by None = read_plainly p k aim (leader_read p.layout bytes r) (blocks_of p.layout r) (first_step step)
+bytes_plainly p k aim bytes step =
+    let r : BlocksRead = heard p.layout k bytes step in
+    bytes_are (IsPlainNext k) p k aim bytes step (λ read is. tt) (λ once. read_plainly p k aim (leader_read p.layout bytes r) (blocks_of p.layout r) (first_step step))
 
 take_fit : (k : LeaseKnown) (aim : Aim) (n : ℕ) → IsFitNext k aim n TakeLeader Written (after_take k aim n)
 take_fit k (Acquires Exclusive) n = (refl, refl, inl (refl, refl, refl))
@@ -313,53 +307,14 @@ answer_fits p k aim call n step (Read bytes) = plainly_fit k aim n step (Read by
 answer_fits p k aim call n step Written = write_fit p k aim n step
 answer_fits p k aim call n step Failed = plainly_fit k aim n step Failed (refuses aim (IoFault call)) (refused_plainly k aim (IoFault call) refl)
 
--- ---- within the limit of turns
-
-refused_fit : (k : LeaseKnown) (aim : Aim) (n : ℕ) (step : LeaseStep) (answer : Answer) (next : LeaseNext) → IsFitNext k aim n step answer next → IsFitNext k aim n step answer (refuses_block aim next)
-refused_fit k aim n step answer Nothing h = h
-refused_fit k aim n step answer (ReadFor at) h = h
-refused_fit k aim n step answer (WriteBlock at b) h = plainly_fit k aim n step answer (refuses aim (LimitReached TurnLimit)) (refused_plainly k aim (LimitReached TurnLimit) refl)
-refused_fit k aim n step answer (WriteLeader at l) h = h
-refused_fit k aim n step answer (AnswerJob r) h = h
-refused_fit k aim n step answer (GrantJob mode lver) h = h
-refused_fit k aim n step answer (BecomeShared lver l) h = h
-refused_fit k aim n step answer (BecomeExclusive lver b) h = plainly_fit k aim n step answer (refuses aim (LimitReached TurnLimit)) (refused_plainly k aim (LimitReached TurnLimit) refl)
-
-within_fit : (p : LeasePlace) (k : LeaseKnown) (aim : Aim) (n : ℕ) (step : LeaseStep) (answer : Answer) (next : LeaseNext) → IsFitNext k aim n step answer next → IsFitNext k aim n step answer (within_turn p k aim next)
-unfolding within_turn
-within_fit p k aim n step answer next h = by (p.layout.paired && not (is_number (k.turn + 1))) where
-  by : (b : Bool) → IsFitNext k aim n step answer (elim b as (λ z. LeaseNext) [ false ↦ next | true ↦ refuses_block aim next ])
-  by false = h
-  by true = refused_fit k aim n step answer next h
-
--- What comes next fits the call that was answered.
+-- What comes next fits the call that was answered, within the limit of turns.
 pub next_fits : (p : LeasePlace) (k : LeaseKnown) (aim : Aim) (call n : ℕ) (step : LeaseStep) (answer : Answer) → IsFitNext k aim n step answer (within_turn p k aim (lease_next p k aim call n step answer))
-next_fits p k aim call n step answer = within_fit p k aim n step answer (lease_next p k aim call n step answer) (answer_fits p k aim call n step answer)
+next_fits p k aim call n step answer =
+    within_cases (IsFitNext k aim n step answer) p k aim (lease_next p k aim call n step answer) (λ fits. answer_fits p k aim call n step answer)
+    (λ paired over writes. plainly_fit k aim n step answer (refuses aim (LimitReached TurnLimit)) (refused_plainly k aim (LimitReached TurnLimit) refl))
 
--- ---- what a settling begins with
-refused_still : (k : LeaseKnown) (aim : Aim) (next : LeaseNext) → IsPlainNext k next → IsPlainNext k (refuses_block aim next)
-refused_still k aim Nothing h = h
-refused_still k aim (ReadFor at) h = h
-refused_still k aim (WriteBlock at b) h = refused_plainly k aim (LimitReached TurnLimit) refl
-refused_still k aim (WriteLeader at l) h = h
-refused_still k aim (AnswerJob r) h = h
-refused_still k aim (GrantJob mode lver) h = h
-refused_still k aim (BecomeShared lver l) h = h
-refused_still k aim (BecomeExclusive lver b) h = absurd h
-
-within_plainly : (p : LeasePlace) (k : LeaseKnown) (aim : Aim) (next : LeaseNext) → IsPlainNext k next → IsPlainNext k (within_turn p k aim next)
-unfolding within_turn
-within_plainly p k aim next h = by (p.layout.paired && not (is_number (k.turn + 1))) where
-  by : (b : Bool) → IsPlainNext k (elim b as (λ z. LeaseNext) [ false ↦ next | true ↦ refuses_block aim next ])
-  by false = h
-  by true = refused_still k aim next h
-
-begin_plainly : (p : LeasePlace) (k : LeaseKnown) → IsPlainNext k (settle_begin p k)
-unfolding settle_begin
-begin_plainly p k = by (p.layout.paired && owes_block (owed k)) where
-  by : (b : Bool) → IsPlainNext k (elim b as (λ z. LeaseNext) [ true ↦ ReadFor ReadBeforeBlock | false ↦ settle_next p k ])
-  by true = tt
-  by false = owed_plainly p k
-
+-- So does what a settling begins with.
 pub settling_fits : (p : LeasePlace) (k : LeaseKnown) → IsPlainNext k (within_turn p k Settles (settle_begin p k))
-settling_fits p k = within_plainly p k Settles (settle_begin p k) (begin_plainly p k)
+settling_fits p k =
+    within_cases (IsPlainNext k) p k Settles (settle_begin p k) (λ fits. begin_cases (IsPlainNext k) p k (λ paired owes. tt) (λ none. owed_plainly p k))
+    (λ paired over writes. refused_plainly k Settles (LimitReached TurnLimit) refl)

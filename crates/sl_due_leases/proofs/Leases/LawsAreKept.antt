@@ -23,7 +23,7 @@ use Rattle.sl_due_leases.proofs.Ways.Kept.HeardStands.{heard_has, lease_heard, l
 use Rattle.sl_due_leases.proofs.Ways.Kept.LeaseNextsLeave.{IsLate, moment_of}
 use Rattle.sl_due_leases.proofs.Ways.Kept.PlainWalks.{exited, left, refusal, removal_of_refused, sent, stopped}
 use Rattle.sl_due_leases.proofs.Ways.Kept.UnjoinedHaveNone.{its_joining, joins_still}
-use Rattle.sl_due_facts.proofs.Jobs.PlainNexts.{next_plain}
+use Rattle.sl_acts.proofs.Pairs.Decisions.{next_is}
 use Rattle.sl_due_leases.proofs.Ways.Kept.DecidedFits.{heard_fits}
 use Rattle.sl_due_leases.specs.Ways.Nexts.{NextIs}
 use Rattle.sl_trace.specs.Jobs.{aim_of, aim_of_command, command_numbered, job_of_start, process_named}
@@ -61,11 +61,11 @@ so_far x w = lawful_by x (record { area = w.orderly.area.0; block = w.orderly.bl
 
 -- ---- after an answer to a lease's call
 
-not_settles : (x : Step) → x.setting.layout.paired ≡ false → (s : Session) (at : Spot) (m : Submitted) (step : LeaseStep) (a : Answer) (aim : Aim) → aim ≡ Settles → turns (next_of_lease x.setting (seen x) s at aim m step a) ≡ true → ⊥
-not_settles x plain s at m step a aim is turned =
+not_settles : (x : Step) (s : Session) (at : Spot) (m : Submitted) (step : LeaseStep) (a : Answer) (aim : Aim) → aim ≡ Settles → turns (next_of_lease x.setting (seen x) s at aim m step a) ≡ true → ⊥
+not_settles x s at m step a aim is turned =
     true_is_false (sym (ap (λ z. turns (next_of_lease x.setting (seen x) s at z m step a)) (sym is) ∙ turned)
-    ∙ (ap (λ n. turns n) (next_plain x.setting (seen x) s at Settles m step a plain)
-    ∙ settles_no_turn (lease_place x.setting s) (known x.setting (seen x) s at) m.call.number (lver_written m) step a))
+    ∙ next_is (λ n. turns n ≡ false) x.setting (seen x) s at Settles m step a
+    (λ fits. settles_no_turn (lease_place x.setting s) (known x.setting (seen x) s at) m.call.number (lver_written m) step a) (λ paired over writes. refl))
 
 -- A conversion's holder is the command's.
 its_holder : (x : Step) (s : Session) (m : Submitted) (a : Answer) (step : LeaseStep) (j : ℕ) (aim : Aim) → (h : Hears x s m a) → m.call.purpose ≡ Lease (ForJob j) step → is_running (seen x) j ≡ true
@@ -79,7 +79,7 @@ its_holder x s m a step j aim h is runs aimed w turned g held = by (command_numb
   by_aim c command (Converts mode) same for = (w.facts.works.beside m j step c (Converts mode) g (at_work x s m a h j step is runs c command w) for held.there held.place).0
   by_aim c command (Acquires mode) same for = absurd ((w.facts.works.beside m j step c (Acquires mode) g (at_work x s m a h j step is runs c command w) for held.there held.place).2 same_session)
   by_aim c command Releases same for = absurd ((w.facts.works.beside m j step c Releases g (at_work x s m a h j step is runs c command w) for held.there held.place) same_session)
-  by_aim c command Settles same for = absurd (not_settles x w.setting.unpaired s (spot_of_call x.setting.layout m) m step a aim same turned)
+  by_aim c command Settles same for = absurd (not_settles x s (spot_of_call x.setting.layout m) m step a aim same turned)
 
   by : (o : Option Command) → command_numbered x.setting (seen x) j ≡ o → option_and_then aim_of_command o ≡ Some aim → (c : Command) × (command_numbered x.setting (seen x) j ≡ Some c) × (process_named c ≡ Some g.process)
   by None command for = absurd (none_some aim for)
@@ -92,7 +92,7 @@ turned_next : (x : Step) (s : Session) (work : Work) (step : LeaseStep) (m : Sub
 turned_next x s work step m a aim h is on aimed w may (BecomeExclusive lver b) same fits turned =
     exclusive_turns x s (spot_of_call x.setting.layout m) work h.number a h.heard h.bare (stand x w) may lver b fits
 turned_next x s Settling step m a aim h is on aimed w may (BecomeShared lver l) same fits turned =
-    absurd (not_settles x w.setting.unpaired s (spot_of_call x.setting.layout m) m step a aim (some_value aim Settles (sym aimed)) (ap (λ z. turns z) same))
+    absurd (not_settles x s (spot_of_call x.setting.layout m) m step a aim (some_value aim Settles (sym aimed)) (ap (λ z. turns z) same))
 turned_next x s (ForJob j) step m a aim h is on aimed w may (BecomeShared lver l) same fits turned =
     shared_turns x s (spot_of_call x.setting.layout m) j h.number a h.heard h.bare h.unended h.ungranted (stand x w) may w.facts.holdings lver l fits
     (its_holder x s m a step j aim h is on aimed w (ap (λ z. turns z) same))

@@ -1,7 +1,6 @@
 -- What a lease decides keeps the laws of areas, blocks and leaders, where its session is active and its area clear.
-use Rattle.sl_area.specs.Places.{block_offset, in_area, leader_offset}
-use Rattle.sl_due.specs.DueLease.{read_area, read_blocks, read_for, write_block, write_leader}
-use Rattle.sl_due_facts.proofs.Jobs.PlainNexts.{area_plain, block_plain, blocks_plain, leader_plain}
+use Rattle.sl_area.specs.Places.{block_offset, in_area, leader_offset, leader_record}
+use Rattle.sl_due.specs.DueLease.{next_turn, read_for, write_block, write_leader}
 use Rattle.sl_due.specs.Steps.{Step, add_call_of, seen}
 use Rattle.sl_run.specs.LawfulArea.{is_area_work, is_block_work, open_block_work}
 use Rattle.sl_run.specs.LawfulLeader.{holds_under, open_writes_on}
@@ -10,33 +9,30 @@ use Rattle.sl_due_leases.proofs.Leases.LawsStay.{calls_stay}
 use Rattle.sl_due_leases.proofs.Leases.OthersKeep.{LawfulSoFar}
 use Rattle.sl_due_leases.specs.Leases.Made.{IsCallAt, MayCall, read_place}
 use Rattle.sl_due_leases.proofs.Ways.Kept.EffectsLeave.{made_call, there_has}
-use Rattle.sl_due_leases.proofs.Ways.Kept.LeaseNextsLeave.{LeaseReady, moment_of}
-use Rattle.sl_due_leases.proofs.Ways.Kept.PlacesStand.{id_in_range, place_is_on, placed_on, spot_is}
-use Rattle.sl_due_leases.specs.Ways.Nexts.{NextIs, read_op}
+use Rattle.sl_due_leases.proofs.Ways.Kept.LeaseNextsLeave.{LeaseReady, first_inside, leader_inside, moment_of, own_inside}
+use Rattle.sl_due_leases.proofs.Ways.Kept.PlacesStand.{id_in_range, placed_on, spot_is}
+use Rattle.sl_due_leases.specs.Ways.Nexts.{NextIs, next_place, next_record, read_op}
 use Rattle.sl_trace.specs.Leases.{is_on, lease_calls}
 use Rattle.sl_trace.specs.declared.lease.LeaseNext.TheVariants.{ReadFor, WriteBlock, WriteLeader}
-use Rattle.sl_area.specs.Roles.{block, leader}
 use Rattle.sl_sector.specs.declared.sector.Block.{Block}
 use Rattle.sl_sector.specs.declared.sector.Leader.{Leader}
-use Rattle.sl_sector.specs.declared.sector.Rec.TheVariants.{BlockIs, LeaderIs}
 use Rattle.sl_trace.specs.Sessions.{calls_of, is_active, is_call_of, open_calls_of}
 use Rattle.sl_trace.specs.declared.session.Session.{Session}
 use Rattle.sl_due_facts.specs.Facts.WayFacts.{Ways, way_context}
 use Rattle.sl_trace.specs.Traces.{Submitted, is_write, new_call, submitted}
-use Rattle.sl_trace.specs.declared.effects.Call.{Call}
+use Rattle.sl_trace.specs.declared.effects.LeaseRead.TheVariants.{OfArea, OfBlock, OfFree, OfPhase1, OfPhase2}
 use Rattle.sl_trace.specs.declared.effects.LeaseStep.TheVariants.{ClearMode, FreeLeader, Phase1Read, Phase1Write, Phase2Read, Phase2Write, ReadAgain, ReadArea, ReadBeforeBlock, ReadBeforeFree, SetMode, TakeLeader}
 use Rattle.sl_trace.specs.declared.effects.LeaseStep.{LeaseStep}
-use Rattle.sl_trace.specs.declared.effects.Op.TheVariants.{ReadSectors, WriteRecord}
+use Rattle.sl_trace.specs.declared.effects.Op.TheVariants.{WriteRecord}
 use Rattle.sl_trace.specs.declared.effects.Op.{Op}
-use Rattle.sl_trace.specs.declared.effects.Purpose.TheVariants.{Lease, Survey}
+use Rattle.sl_trace.specs.declared.effects.Purpose.TheVariants.{Lease}
 use Rattle.sl_trace.specs.declared.effects.Spot.{Spot}
 use Rattle.sl_trace.specs.declared.effects.Work.{Work}
 use Rattle.sl_plain.proofs.Lists.{contains_first, contains_more, kept_inside}
 use Rattle.sl_plain.proofs.Options.{none_is}
-use Rattle.sl_words.proofs.CaseLaws.{true_is_false}
 use Rattle.sl_words.proofs.WordLaws.{and_true}
-use Rattle.std.proofs.Common.{arith, refl, subst, sym, ◌∙◌}
-use Rattle.std.specs.Prelude.{Bool, Contains, List, [], cond, false, filter, is_none, length, true, ℕ, ◌&&◌, ◌+◌, ◌∷◌, ◌≡◌, ◌≤◌}
+use Rattle.std.proofs.Common.{refl}
+use Rattle.std.specs.Prelude.{Bool, Contains, List, [], cond, false, filter, is_none, length, true, ℕ, ◌&&◌, ◌∷◌, ◌≡◌}
 
 -- What holds nothing that passes.
 none_pass : {A : Type 0} (p : A → Bool) (xs : List A) → ((x : A) → Contains xs x → p x ≡ true → ⊥) → filter p xs ≡ []
@@ -74,7 +70,14 @@ pub record LeaseMay (x : Step) (s : Session) (at : Spot) : Type 0 where
   pub ways : Ways (way_context x.setting (seen x) s) (lease_calls x.setting (seen x) s at)
 
 may_call : (x : Step) (s : Session) (at : Spot) (work : Work) → LeaseMay x s at → MayCall (moment_of x s at work)
-may_call x s at work h = record { plain = h.ready.setting.unpaired; active = h.active; ways = h.ways; alone = works_clear x s at h.ready; unwritten = writes_clear x s at h.ready }
+may_call x s at work h =
+    record {
+      host = id_in_range x.setting h.ready.setting (seen x) s (there_has x.setting (seen x) s.number s h.ready.has);
+      active = h.active;
+      ways = h.ways;
+      alone = works_clear x s at h.ready;
+      unwritten = writes_clear x s at h.ready;
+    }
 
 new_at : (x : Step) (s : Session) (at : Spot) → LeaseMay x s at → (work : Work) (step : LeaseStep) (o : ℕ) (op : Op) → in_area x.setting.layout at.base o ≡ true
     → IsCallAt (moment_of x s at work) step o op (new_call (length x.past) x.reading (made_call x s.number at.path (Lease work step) o op))
@@ -88,20 +91,6 @@ new_at x s at h work step o op inside =
       now = refl;
     }
 
-leader_in : (x : Step) (s : Session) (at : Spot) → LeaseReady x s at → in_area x.setting.layout at.base at.base ≡ true
-leader_in x s at h = place_is_on x.setting h.setting at.base leader tt
-
-own_in : (x : Step) (s : Session) (at : Spot) → LeaseReady x s at → in_area x.setting.layout at.base (block_offset x.setting.layout at.base s.id) ≡ true
-own_in x s at h = place_is_on x.setting h.setting at.base (block s.id) (id_in_range x.setting h.setting (seen x) s (there_has x.setting (seen x) s.number s h.has), h.setting.unpaired)
-
-one_host : (a b : ℕ) → 1 ≤ a → a ≤ b → 1 ≤ b
-one_host a b one le = omega (arith, one, le)
-
-first_in : (x : Step) (s : Session) (at : Spot) → LeaseReady x s at → in_area x.setting.layout at.base (block_offset x.setting.layout at.base 1) ≡ true
-first_in x s at h =
-    let id = id_in_range x.setting h.setting (seen x) s (there_has x.setting (seen x) s.number s h.has) in
-    place_is_on x.setting h.setting at.base (block 1) ((omega arith, one_host s.id x.setting.layout.hosts id.0 id.1), h.setting.unpaired)
-
 read_stays : (x : Step) (s : Session) (at : Spot) → LeaseMay x s at → (work : Work) (step : LeaseStep) → NextIs (moment_of x s at work) (ReadFor step)
     → in_area x.setting.layout at.base (read_place (moment_of x s at work) step) ≡ true
     → LawfulSoFar x → LawfulSoFar (add_call_of s.number at.path (Lease work step) (read_place (moment_of x s at work) step) (read_op x.setting step) x)
@@ -109,47 +98,43 @@ read_stays x s at h work step n inside k =
     calls_stay x s at.path (Lease work step) _ _ h.ready.has refl
     (reads_are_lawful (moment_of x s at work) step _ (may_call x s at work h) (new_at x s at h work step _ _ inside) n) k
 
--- A read of the whole area, and one of all blocks.
-area_stays : (x : Step) (s : Session) (at : Spot) → LeaseMay x s at → (work : Work) (step : LeaseStep)
-    → LawfulSoFar (add_call_of s.number at.path (Lease work step) at.base (ReadSectors (x.setting.layout.hosts + 2)) x) → LawfulSoFar (read_area s at work step x)
-area_stays x s at h work step k = subst (λ z. LawfulSoFar z) (sym (area_plain x s at work step h.ready.setting.unpaired)) k
-
-all_stay : (x : Step) (s : Session) (at : Spot) → LeaseMay x s at → (work : Work) (step : LeaseStep)
-    → LawfulSoFar (add_call_of s.number at.path (Lease work step) (block_offset x.setting.layout at.base 1) (ReadSectors x.setting.layout.hosts) x) → LawfulSoFar (read_blocks s at work step x)
-all_stay x s at h work step k = subst (λ z. LawfulSoFar z) (sym (blocks_plain x s at work step h.ready.setting.unpaired)) k
-
--- No read is made that needs pairs.
-call_with : Op → Call
-call_with op = record { number = 0; session = 0; purpose = Survey; path = []; offset = 0; op = op }
-
-needs_none : (x : Step) (s : Session) (at : Spot) → LeaseMay x s at → ((c : Call) → c.op ≡ ReadSectors x.setting.layout.hosts → x.setting.layout.paired ≡ true) → ⊥
-unfolding call_with
-needs_none x s at h pairs = true_is_false (sym (pairs (call_with (ReadSectors x.setting.layout.hosts)) refl) ∙ h.ready.setting.unpaired)
-
 pub reads_stay : (x : Step) (s : Session) (at : Spot) → LeaseMay x s at → (work : Work) (step : LeaseStep) → NextIs (moment_of x s at work) (ReadFor step) → LawfulSoFar x → LawfulSoFar (read_for s at work step x)
-reads_stay x s at h work (ReadArea name) n k = area_stays x s at h work (ReadArea name) (read_stays x s at h work (ReadArea name) n (leader_in x s at h.ready) k)
-reads_stay x s at h work ReadBeforeFree n k = area_stays x s at h work ReadBeforeFree (read_stays x s at h work ReadBeforeFree n (leader_in x s at h.ready) k)
-reads_stay x s at h work ReadBeforeBlock n k = absurd (needs_none x s at h n)
-reads_stay x s at h work (ReadAgain read) n k = absurd (needs_none x s at h n)
-reads_stay x s at h work Phase1Write n k = all_stay x s at h work Phase1Write (read_stays x s at h work Phase1Write n (first_in x s at h.ready) k)
-reads_stay x s at h work Phase1Read n k = all_stay x s at h work Phase1Read (read_stays x s at h work Phase1Read n (first_in x s at h.ready) k)
-reads_stay x s at h work Phase2Write n k = all_stay x s at h work Phase2Write (read_stays x s at h work Phase2Write n (first_in x s at h.ready) k)
-reads_stay x s at h work Phase2Read n k = all_stay x s at h work Phase2Read (read_stays x s at h work Phase2Read n (first_in x s at h.ready) k)
-reads_stay x s at h work TakeLeader n k = all_stay x s at h work TakeLeader (read_stays x s at h work TakeLeader n (first_in x s at h.ready) k)
-reads_stay x s at h work SetMode n k = all_stay x s at h work SetMode (read_stays x s at h work SetMode n (first_in x s at h.ready) k)
-reads_stay x s at h work FreeLeader n k = all_stay x s at h work FreeLeader (read_stays x s at h work FreeLeader n (first_in x s at h.ready) k)
-reads_stay x s at h work ClearMode n k = all_stay x s at h work ClearMode (read_stays x s at h work ClearMode n (first_in x s at h.ready) k)
+reads_stay x s at h work step n k = by step n where
+  area : in_area x.setting.layout at.base at.base ≡ true
+  area = leader_inside x s at h.ready
+
+  blocks : in_area x.setting.layout at.base (block_offset x.setting.layout at.base 1) ≡ true
+  blocks = first_inside x s at h.ready
+
+  by : (step : LeaseStep) → NextIs (moment_of x s at work) (ReadFor step) → LawfulSoFar (read_for s at work step x)
+  by (ReadArea name) n = read_stays x s at h work (ReadArea name) n area k
+  by ReadBeforeFree n = read_stays x s at h work ReadBeforeFree n area k
+  by ReadBeforeBlock n = read_stays x s at h work ReadBeforeBlock n blocks k
+  by (ReadAgain (OfArea name)) n = read_stays x s at h work (ReadAgain (OfArea name)) n area k
+  by (ReadAgain OfFree) n = read_stays x s at h work (ReadAgain OfFree) n area k
+  by (ReadAgain OfBlock) n = read_stays x s at h work (ReadAgain OfBlock) n blocks k
+  by (ReadAgain OfPhase1) n = read_stays x s at h work (ReadAgain OfPhase1) n blocks k
+  by (ReadAgain OfPhase2) n = read_stays x s at h work (ReadAgain OfPhase2) n blocks k
+  by Phase1Write n = read_stays x s at h work Phase1Write n blocks k
+  by Phase1Read n = read_stays x s at h work Phase1Read n blocks k
+  by Phase2Write n = read_stays x s at h work Phase2Write n blocks k
+  by Phase2Read n = read_stays x s at h work Phase2Read n blocks k
+  by TakeLeader n = read_stays x s at h work TakeLeader n blocks k
+  by SetMode n = read_stays x s at h work SetMode n blocks k
+  by FreeLeader n = read_stays x s at h work FreeLeader n blocks k
+  by ClearMode n = read_stays x s at h work ClearMode n blocks k
 
 pub blocks_stay : (x : Step) (s : Session) (at : Spot) → LeaseMay x s at → (work : Work) (step : LeaseStep) (b : Block) → NextIs (moment_of x s at work) (WriteBlock step b) → LawfulSoFar x
     → LawfulSoFar (write_block s at work step b x)
 blocks_stay x s at h work step b n k =
-    subst (λ z. LawfulSoFar z) (sym (block_plain x s at work step b h.ready.setting.unpaired))
-    (calls_stay x s at.path (Lease work step) (block_offset x.setting.layout at.base s.id) (WriteRecord (BlockIs b)) h.ready.has refl
-    (blocks_are_lawful (moment_of x s at work) step b _ (may_call x s at work h) (new_at x s at h work step _ (WriteRecord (BlockIs b)) (own_in x s at h.ready)) n) k)
+    let o : ℕ = next_place x.setting (seen x) s at in
+    let op : Op = WriteRecord (next_record x.setting (seen x) s at b) in
+    calls_stay x s at.path (Lease work step) o op h.ready.has refl
+    (blocks_are_lawful (moment_of x s at work) step b _ (may_call x s at work h) (new_at x s at h work step o op (own_inside x s at h.ready (next_turn x.setting (seen x) s at))) n) k
 
 pub leaders_stay : (x : Step) (s : Session) (at : Spot) → LeaseMay x s at → (work : Work) (step : LeaseStep) (l : Leader) → NextIs (moment_of x s at work) (WriteLeader step l)
     → (l.held ≡ false → holds_under (seen x) s at l.lver ≡ false) → LawfulSoFar x → LawfulSoFar (write_leader s at work step l x)
 leaders_stay x s at h work step l n unheld k =
-    subst (λ z. LawfulSoFar z) (sym (leader_plain x s at work step l h.ready.setting.unpaired))
-    (calls_stay x s at.path (Lease work step) (leader_offset at.base) (WriteRecord (LeaderIs l)) h.ready.has refl
-    (leaders_are_lawful (moment_of x s at work) step l _ (may_call x s at work h) (new_at x s at h work step _ (WriteRecord (LeaderIs l)) (leader_in x s at h.ready)) n unheld) k)
+    let op : Op = WriteRecord (leader_record x.setting.layout l) in
+    calls_stay x s at.path (Lease work step) (leader_offset at.base) op h.ready.has refl
+    (leaders_are_lawful (moment_of x s at work) step l _ (may_call x s at work h) (new_at x s at h work step (leader_offset at.base) op (leader_inside x s at h.ready)) n unheld) k

@@ -31,7 +31,7 @@ use Rattle.sl_due_leases.proofs.Ways.Kept.LinesKeep.{ended_ready, ended_still, h
 use Rattle.sl_due_leases.proofs.Ways.Kept.LinesReady.{line_ready, on_own}
 use Rattle.sl_due_leases.proofs.Ways.Kept.PlacesStand.{place_is_on, placed_on, spot_is}
 use Rattle.sl_due_leases.proofs.Ways.Kept.PlainWalks.{granting, stopped}
-use Rattle.sl_due_facts.proofs.Jobs.PlainNexts.{conversion_plain, release_plain}
+use Rattle.sl_acts.proofs.Pairs.Decisions.{conversion_is, release_is}
 use Rattle.sl_due_leases.proofs.Ways.Kept.DecidedFits.{conversion_fits, release_fits}
 use Rattle.sl_due_leases.proofs.Ways.WayNumbers.{is_verified}
 use Rattle.sl_due_leases.proofs.Ways.WayStages.{is_at_in}
@@ -191,9 +191,8 @@ release_stays : (z : Step) (s : Session) (at : Spot) (j : ℕ) (g : Grant) → L
 release_stays z s at j g may aimed ended bare (h ∷ rest) is = bare_lawful (add_reply j Done z) bare
 release_stays z s at j g may aimed ended bare [] is =
     let n : LeaseNext = next_of_release z.setting (seen z) s at g in
-    let same : n ≡ release_next (lease_place z.setting s) (known z.setting (seen z) s at) g.mode g.lver = release_plain z.setting (seen z) s at g may.ready.setting.unpaired in
-    next_stays z s at may (ForJob j) (inl bare) n (release_fits z s at (ForJob j) g may.ready.setting.unpaired aimed ended)
-    (λ step l next free. ap (λ gs. list_any (λ (k : Grant). not (is_shared k.mode) && k.lver == l.lver) gs) is) (λ is. absurd (true_is_false (sym is ∙ (ap (λ y. turns y) same ∙ unturned g.mode)))) (bare_lawful z bare)
+    next_stays z s at may (ForJob j) (inl bare) n (release_fits z s at (ForJob j) g aimed ended)
+    (λ step l next free. ap (λ gs. list_any (λ (k : Grant). not (is_shared k.mode) && k.lver == l.lver) gs) is) (λ is. absurd (true_is_false (sym is ∙ release_is (λ y. turns y ≡ false) z.setting (seen z) s at g (λ fits. unturned g.mode) (λ paired over writes. refl)))) (bare_lawful z bare)
   where
     by_own : (o : Option Block) → turns (option_map_or (λ own. WriteBlock ClearMode (moded_block own false 0)) o Nothing) ≡ false
     by_own None = refl
@@ -207,10 +206,11 @@ conversion_stays : (y : Step) (s : Session) (at : Spot) (j : ℕ) (mode : Mode) 
     → LawfulSoFar (carry_lease s at (ForJob j) (next_of_conversion y.setting (seen y) s at mode name) y)
 conversion_stays y s at j mode name may aimed bare =
     let n : LeaseNext = next_of_conversion y.setting (seen y) s at mode name in
-    let same : n ≡ convert_next (known y.setting (seen y) s at) mode name = conversion_plain y.setting (seen y) s at mode name may.ready.setting.unpaired in
-    next_stays y s at may (ForJob j) (inl bare) n (conversion_fits y s at (ForJob j) mode name may.ready.setting.unpaired aimed)
-    (λ step l next free. absurd (true_is_false (sym (ap (λ z. is_leader_next z) next) ∙ (ap (λ z. is_leader_next z) same ∙ unleading mode))))
-    (λ is. absurd (true_is_false (sym is ∙ (ap (λ z. turns z) same ∙ unturned mode)))) (bare_lawful y bare)
+    let none_led : is_leader_next n ≡ false = conversion_is (λ z. is_leader_next z ≡ false) y.setting (seen y) s at mode name (λ fits. unleading mode) (λ paired over writes. refl) in
+    let none_turned : turns n ≡ false = conversion_is (λ z. turns z ≡ false) y.setting (seen y) s at mode name (λ fits. unturned mode) (λ paired over writes. refl) in
+    next_stays y s at may (ForJob j) (inl bare) n (conversion_fits y s at (ForJob j) mode name aimed)
+    (λ step l next free. absurd (true_is_false (sym (ap (λ z. is_leader_next z) next) ∙ none_led)))
+    (λ is. absurd (true_is_false (sym is ∙ none_turned))) (bare_lawful y bare)
   where
     own_turns : (o : Option Block) (n : ℕ) → turns (option_map_or (λ own. WriteBlock SetMode (moded_block own true n)) o Nothing) ≡ false
     own_turns None n = refl
@@ -245,7 +245,7 @@ holder_verified x text s at g wake bare has may on exclusive w =
     ap (λ ms. block_submitted ms) same ∙ subst (λ z. block_submitted (lease_calls x.setting (seen x) s z) ≡ Some stands.own) (spot_same g at held.place) stands.known
     in (
       verified_name x.setting.layout s.lockspace (lease_calls x.setting (seen y) s at),
-      has_verified x.setting w.setting.unpaired (seen y) s at may.ways (is_verified (way_context x.setting (seen y) s) w.setting.unpaired (lease_calls x.setting (seen y) s at) may.ways stands.own knows),
+      has_verified x.setting (seen y) s at may.ways (is_verified (way_context x.setting (seen y) s) (lease_calls x.setting (seen y) s at) may.ways stands.own knows),
     )
 
 -- ---- all lines

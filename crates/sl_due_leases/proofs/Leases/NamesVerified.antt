@@ -5,7 +5,7 @@ use Rattle.sl_run.specs.LawfulArea.{HasVerified, is_leader_read}
 use Rattle.sl_due_leases.proofs.Ways.GivenReads.{leader_spells, none_again}
 use Rattle.sl_due_leases.proofs.Ways.NewestCall.{submitted_here, submitted_passed}
 use Rattle.sl_due_leases.proofs.Ways.WayNumbers.{EndsBy, ends_by}
-use Rattle.sl_trace.specs.Leases.{block_submitted, block_written, ended_ballot, ended_ballots, is_again, is_lease_call, is_leader_of, is_on, is_second, leader_given, lease_calls, lease_step, name_sought, verified_by, verified_name}
+use Rattle.sl_trace.specs.Leases.{block_submitted, block_written, ended_ballot, ended_ballots, is_again, is_lease_call, is_leader_of, is_on, is_second, leader_given, leaders_given, lease_calls, lease_step, name_sought, verified_by, verified_name}
 use Rattle.sl_sector.specs.declared.sector.Block.{Block}
 use Rattle.sl_sector.specs.declared.sector.Leader.{Leader}
 use Rattle.sl_sector.specs.declared.sector.Owner.{Owner}
@@ -24,7 +24,7 @@ use Rattle.sl_words.specs.Words.{choose, some_is}
 use Rattle.std.proofs.Common.{ap, inl, inr, refl, subst, sym, ◌∙◌}
 use Rattle.std.proofs.lemmas.Bool.{and_from}
 use Rattle.std.specs.List.{cons_option}
-use Rattle.std.specs.Prelude.{Contains, List, None, Option, Some, [], false, filter, filter_map, option_and_then, true, ℕ, ◌&&◌, ◌++◌, ◌∷◌, ◌≡◌, ◌⊎◌}
+use Rattle.std.specs.Prelude.{Bool, Contains, List, None, Option, Some, [], false, filter, filter_map, option_and_then, true, ℕ, ◌&&◌, ◌++◌, ◌∷◌, ◌≡◌, ◌⊎◌}
 
 -- What a read that verifies a name has shown.
 record ShownBy (g : Layout) (lockspace : List ℕ) (m : Submitted) (name : List ℕ) : Type 0 where
@@ -74,12 +74,14 @@ shown_by g plain lockspace m ms name first is = by_sought g plain lockspace m ms
 record Naming (g : Layout) (lockspace : List ℕ) (ms : List Submitted) : Type 0 where
   read : Submitted
   before : List Submitted
+  newer : List Submitted
+  split : ms ≡ newer ++ read ∷ before
   there : Contains ms read
   verified : verified_by g lockspace read before ≡ Some (verified_name g lockspace ms)
 
 -- Some read does.
 named_by : (g : Layout) (lockspace : List ℕ) (newer : List Submitted) (read : Submitted) (before : List Submitted) (name : List ℕ) → verified_by g lockspace read before ≡ Some name → Naming g lockspace (newer ++ read ∷ before)
-named_by g lockspace [] read before name is = record { read = read; before = before; there = contains_first read before; verified = by (verified_by g lockspace read before) refl } where
+named_by g lockspace [] read before name is = record { read = read; before = before; newer = []; split = refl; there = contains_first read before; verified = by (verified_by g lockspace read before) refl } where
   by : (o : Option (List ℕ)) → verified_by g lockspace read before ≡ o → verified_by g lockspace read before ≡ Some (elim o as (λ z. List ℕ) [ Some n ↦ n | None ↦ verified_name g lockspace before ])
   by (Some n) found = found
   by None found = absurd (none_some name (sym found ∙ is))
@@ -92,6 +94,8 @@ named_by g lockspace (m ∷ newer) read before name is = by (verified_by g locks
       record {
         read = m;
         before = ms;
+        newer = [];
+        split = refl;
         there = contains_first m ms;
         verified = found ∙ ap (λ z. Some z) (sym (ap (λ o. elim o as (λ z. List ℕ) [ Some n ↦ n | None ↦ verified_name g lockspace ms ]) found));
       }
@@ -102,6 +106,8 @@ named_by g lockspace (m ∷ newer) read before name is = by (verified_by g locks
       record {
         read = rest.read;
         before = rest.before;
+        newer = m ∷ rest.newer;
+        split = ap (λ xs. m ∷ xs) rest.split;
         there = contains_more m ms rest.read rest.there;
         verified = rest.verified ∙ ap (λ z. Some z) (sym (ap (λ o. elim o as (λ z. List ℕ) [ Some n ↦ n | None ↦ verified_name g lockspace ms ]) found));
       }
@@ -115,21 +121,65 @@ mapped_inside {A} {B} f (a ∷ xs) x y there is = by (f a) refl (contains_cases 
   by None found (inl same) rest = absurd (none_some y (sym found ∙ (ap (λ z. f z) same ∙ is)))
   by None found (inr inside) rest = rest inside
 
+-- ---- with pairs a leader may have been made for a torn one
+
+by_given : (g : Layout) (lockspace : List ℕ) (m : Submitted) (ms : List Submitted) (name : List ℕ) (sought : Option (List ℕ))
+    → elim sought as (λ z. Option (List ℕ)) [
+      | None ↦ None
+      | Some n ↦ elim (leader_given g m ms) as (λ z. Option (List ℕ)) [ None ↦ None | Some l ↦ choose (is_leader_of g lockspace n l) n ]
+    ] ≡ Some name → (l : Leader) × (leader_given g m ms ≡ Some l) × (is_leader_of g lockspace name l ≡ true)
+by_given g lockspace m ms name None is = absurd (none_some name is)
+by_given g lockspace m ms name (Some n) is = by (leader_given g m ms) refl is where
+  by : (o : Option Leader) → leader_given g m ms ≡ o → elim o as (λ z. Option (List ℕ)) [ None ↦ None | Some l ↦ choose (is_leader_of g lockspace n l) n ] ≡ Some name
+      → (l : Leader) × (leader_given g m ms ≡ Some l) × (is_leader_of g lockspace name l ≡ true)
+  by None found at = absurd (none_some name at)
+  by (Some l) found at = let both = choose_some (is_leader_of g lockspace n l) n name at in (l, found, subst (λ z. is_leader_of g lockspace z l ≡ true) both.1 both.0)
+
+-- A leader that a read gave is among those of the lease.
+leader_among : (g : Layout) (newer : List Submitted) (read : Submitted) (before : List Submitted) (l : Leader) → leader_given g read before ≡ Some l → Contains (leaders_given g (newer ++ read ∷ before)) l
+leader_among g [] read before l is =
+    subst (λ o. Contains (elim o as (λ z. List Leader) [ None ↦ leaders_given g before | Some k ↦ k ∷ leaders_given g before ]) l) (sym is) (contains_first l (leaders_given g before))
+leader_among g (m ∷ newer) read before l is = by (leader_given g m (newer ++ read ∷ before)) (leader_among g newer read before l is) where
+  by : (o : Option Leader) → Contains (leaders_given g (newer ++ read ∷ before)) l
+      → Contains (elim o as (λ z. List Leader) [ None ↦ leaders_given g (newer ++ read ∷ before) | Some k ↦ k ∷ leaders_given g (newer ++ read ∷ before) ]) l
+  by None there = there
+  by (Some k) there = contains_more k (leaders_given g (newer ++ read ∷ before)) l there
+
 -- A lease that has verified a name has verified the one that it writes.
-pub has_verified : (st : Setting) → st.layout.paired ≡ false → (t : Trace) (s : Session) (at : Spot) → Ways (way_context st t s) (lease_calls st t s at) → IsVerified (way_context st t s) (lease_calls st t s at)
+pub has_verified : (st : Setting) (t : Trace) (s : Session) (at : Spot) → Ways (way_context st t s) (lease_calls st t s at) → IsVerified (way_context st t s) (lease_calls st t s at)
     → HasVerified st t s at (verified_name st.layout s.lockspace (lease_calls st t s at))
-has_verified st plain t s at ways h =
-    let ms : List Submitted = lease_calls st t s at in
-    let k : Naming st.layout s.lockspace ms = subst (λ z. Naming st.layout s.lockspace z) (sym h.split) (named_by st.layout s.lockspace h.newer h.read h.before h.name h.verified) in
-    let first : is_again k.read ≡ false = none_again (way_context st t s) plain ms ways k.read k.there in
-    let shown : ShownBy st.layout s.lockspace k.read (verified_name st.layout s.lockspace ms) = shown_by st.layout plain s.lockspace k.read k.before (verified_name st.layout s.lockspace ms) first k.verified in
-    let inside = kept_inside (λ (d : Submitted). is_lease_call d && is_on st.layout at d.call) (calls_of t s) k.read k.there in
-    let on = and_true (is_lease_call k.read) (is_on st.layout at k.read.call) inside.1 in (
-      shown.leader,
-      inl (mapped_inside (λ (d : Submitted). option_and_then (leader_of st.layout) (gave d)) (filter (λ (d : Submitted). is_leader_read d.call.purpose && is_on st.layout at d.call) (calls_of t s)) k.read shown.leader
-          (kept (λ (d : Submitted). is_leader_read d.call.purpose && is_on st.layout at d.call) (calls_of t s) k.read (and_from (is_leader_read k.read.call.purpose) (is_on st.layout at k.read.call) shown.read on.1) inside.0) shown.gave_it),
-      shown.named,
-    )
+has_verified st t s at ways h = by st.layout.paired refl where
+  ms : List Submitted
+  ms = lease_calls st t s at
+
+  name : List ℕ
+  name = verified_name st.layout s.lockspace (lease_calls st t s at)
+
+  naming : Naming st.layout s.lockspace (lease_calls st t s at)
+  naming = subst (λ z. Naming st.layout s.lockspace z) (sym h.split) (named_by st.layout s.lockspace h.newer h.read h.before h.name h.verified)
+
+  plainly : st.layout.paired ≡ false → HasVerified st t s at (verified_name st.layout s.lockspace (lease_calls st t s at))
+  plainly plain =
+      let k : Naming st.layout s.lockspace (lease_calls st t s at) = naming in
+      let first : is_again k.read ≡ false = none_again (way_context st t s) plain ms ways k.read k.there in
+      let shown : ShownBy st.layout s.lockspace k.read name = shown_by st.layout plain s.lockspace k.read k.before name first k.verified in
+      let inside = kept_inside (λ (d : Submitted). is_lease_call d && is_on st.layout at d.call) (calls_of t s) k.read k.there in
+      let on = and_true (is_lease_call k.read) (is_on st.layout at k.read.call) inside.1 in (
+        shown.leader,
+        inl (mapped_inside (λ (d : Submitted). option_and_then (leader_of st.layout) (gave d)) (filter (λ (d : Submitted). is_leader_read d.call.purpose && is_on st.layout at d.call) (calls_of t s)) k.read shown.leader
+            (kept (λ (d : Submitted). is_leader_read d.call.purpose && is_on st.layout at d.call) (calls_of t s) k.read (and_from (is_leader_read k.read.call.purpose) (is_on st.layout at k.read.call) shown.read on.1) inside.0) shown.gave_it),
+        shown.named,
+      )
+
+  paired_by : st.layout.paired ≡ true → HasVerified st t s at (verified_name st.layout s.lockspace (lease_calls st t s at))
+  paired_by paired =
+      let k : Naming st.layout s.lockspace (lease_calls st t s at) = naming in
+      let given = by_given st.layout s.lockspace k.read k.before name (name_sought k.read.call.purpose) k.verified in
+      (given.0, inr (paired, subst (λ xs. Contains (leaders_given st.layout xs) given.0) (sym k.split) (leader_among st.layout k.newer k.read k.before given.0 given.1)), given.2)
+
+  by : (q : Bool) → st.layout.paired ≡ q → HasVerified st t s at (verified_name st.layout s.lockspace (lease_calls st t s at))
+  by false is = plainly is
+  by true is = paired_by is
 
 -- Who has ended a ballot has written a block.
 pub ended_wrote : (g : Layout) (ms : List Submitted) (n : ℕ) (o : Owner) → Contains (ended_ballots g ms) (n, o) → (b : Block) × (block_submitted ms ≡ Some b)

@@ -13,7 +13,7 @@ use Rattle.sl_due_leases.proofs.Ways.Kept.HeardStands.{HeardCall, heard_call, he
 use Rattle.sl_due_leases.proofs.Ways.Kept.LeaseNextsLeave.{LeaseReady, moment_of}
 use Rattle.sl_due_leases.proofs.Ways.Kept.LinesReady.{none_open}
 use Rattle.sl_due_leases.proofs.Ways.Kept.PlainWalks.{ByPlain, granted}
-use Rattle.sl_due_facts.proofs.Jobs.PlainNexts.{next_plain, settling_plain}
+use Rattle.sl_acts.proofs.Pairs.Decisions.{next_is, settling_is}
 use Rattle.sl_due_leases.proofs.Ways.Kept.DecidedFits.{heard_fits, settling_fits}
 use Rattle.sl_due_leases.specs.Ways.Nexts.{NextIs}
 use Rattle.sl_trace.specs.Ballots.{is_ahead, moded_block, phase1_block, same_owner, stop_of, value_of}
@@ -41,21 +41,20 @@ use Rattle.sl_trace.specs.Traces.{Submitted, Trace, holdings, is_running, is_sha
 use Rattle.sl_trace.specs.declared.command.Command.{Command}
 use Rattle.sl_trace.specs.declared.effects.Grant.{Grant}
 use Rattle.sl_trace.specs.declared.effects.LeaseStep.TheVariants.{ClearMode, FreeLeader, Phase1Read, Phase1Write, Phase2Read, Phase2Write, ReadAgain, ReadArea, ReadBeforeBlock, ReadBeforeFree, SetMode, TakeLeader}
-use Rattle.sl_trace.specs.declared.effects.LeaseRead.TheVariants.{OfArea, OfBlock, OfFree, OfPhase1, OfPhase2}
 use Rattle.sl_trace.specs.declared.effects.LeaseRead.{LeaseRead}
 use Rattle.sl_trace.specs.declared.effects.LeaseStep.{LeaseStep}
 use Rattle.sl_trace.specs.declared.effects.Mode.TheVariants.{Exclusive, Shared}
 use Rattle.sl_trace.specs.declared.effects.Mode.{Mode}
 use Rattle.sl_trace.specs.declared.effects.Purpose.TheVariants.{Lease}
 use Rattle.sl_trace.specs.declared.effects.Purpose.{Purpose}
-use Rattle.sl_due_leases.proofs.Ways.WayStages.{is_at_in}
+use Rattle.sl_due_leases.proofs.Ways.WayStages.{first_kind, is_at_in}
 use Rattle.sl_plain.proofs.Numbers.{number_itself}
 use Rattle.sl_trace.specs.declared.effects.Spot.{Spot}
 use Rattle.sl_trace.specs.declared.effects.Work.TheVariants.{ForJob, Settling}
 use Rattle.sl_trace.specs.declared.effects.Work.{Work}
 use Rattle.sl_trace.specs.declared.input.Answer.TheVariants.{Failed, Read, Written}
 use Rattle.sl_trace.specs.declared.input.Answer.{Answer}
-use Rattle.sl_trace.specs.declared.reply.Limited.TheVariants.{Lver as LverLimit, Mbal as MbalLimit}
+use Rattle.sl_trace.specs.declared.reply.Limited.TheVariants.{Lver as LverLimit, Mbal as MbalLimit, Turn as TurnLimit}
 use Rattle.sl_trace.specs.declared.reply.Reply.TheVariants.{IoFault, Limit as LimitReached, Shared as SharedBy, TornBlock, TornLeader, WrongArea}
 use Rattle.sl_trace.specs.declared.reply.Reply.{Reply}
 use Rattle.sl_plain.proofs.Lists.{any_found, contains_first, find_fails, find_inside, kept_inside}
@@ -231,18 +230,10 @@ read_frees p k aim leader read FreeLeader = No_free refl
 read_frees p k aim leader read ClearMode = No_free refl
 
 -- A read that is made once more frees as the first one does.
-kind_of_first : (step : LeaseStep) → kind_of_step (first_step step) ≡ kind_of_step step
-kind_of_first (ReadAgain (OfArea name)) = refl
-kind_of_first (ReadAgain OfFree) = refl
-kind_of_first (ReadAgain OfBlock) = refl
-kind_of_first (ReadAgain OfPhase1) = refl
-kind_of_first (ReadAgain OfPhase2) = refl
-kind_of_first step = refl
-
 again_frees : (k : LeaseKnown) (aim : Aim) (step : LeaseStep) (n : LeaseNext) → FreesBy k aim (first_step step) n → FreesBy k aim step n
 again_frees k aim step n (No_free none) = No_free none
 again_frees k aim step n (Of_acquire mode same) = Of_acquire mode same
-again_frees k aim step n (By_read is) = By_read (ap (λ z. same_kind z Phase2_read) (sym (kind_of_first step)) ∙ is)
+again_frees k aim step n (By_read is) = By_read (ap (λ z. same_kind z Phase2_read) (sym (first_kind step)) ∙ is)
 again_frees k aim step n (By_owed owes) = By_owed owes
 
 bytes_frees : (p : LeasePlace) (k : LeaseKnown) (aim : Aim) (bytes : List ℕ) (step : LeaseStep) → FreesBy k aim step (after_bytes p k aim bytes step)
@@ -431,7 +422,7 @@ pub settled_stays : (x : Step) (s : Session) (at : Spot) → Has x s → is_acti
 settled_stays x s at has active aligned none w k =
     let n : LeaseNext = next_of_settling x.setting (seen x) s at in
     let plain : plainly n ≡ true =
-    ap (λ z. plainly z) (settling_plain x.setting (seen x) s at w.setting.unpaired) ∙ settles_plainly (lease_place x.setting s) (known x.setting (seen x) s at)
+    settling_is (λ z. plainly z ≡ true) x.setting (seen x) s at (λ paired owes. refl) (λ none. settles_plainly (lease_place x.setting s) (known x.setting (seen x) s at))
     in
     let ways = w.facts.ways.each s at (there_has x.setting (seen x) s.number s has) aligned in
     let ready : LeaseReady x s at =
@@ -443,7 +434,7 @@ settled_stays x s at has active aligned none w k =
       below = w.facts.calls.below;
     }
     in
-    next_stays x s at (record { ready = ready; active = active; ways = ways }) Settling (inr refl) n (settling_fits x s at w.setting.unpaired ways)
+    next_stays x s at (record { ready = ready; active = active; ways = ways }) Settling (inr refl) n (settling_fits x s at ways)
     (λ step l is free. absurd (no_leader n step l is free (plain_frees n plain))) (λ is. absurd (true_is_false (sym is ∙ plain_turns n plain))) k
   where
     no_leader : (n : LeaseNext) (step : LeaseStep) (l : Leader) → n ≡ WriteLeader step l → l.held ≡ false → frees n ≡ false → ⊥
@@ -462,8 +453,9 @@ led_stays x s work step m a aim h is on aimed active w turned =
     let fits : NextIs (moment_of x s at work) n = heard_fits x s work step m a aim h is on aimed w in
     next_stays x s at (record { ready = lease_ready x s m a h (ap (λ p. is_area_work p) is) w; active = active; ways = k.0.ways }) work (inl h.bare) n fits
     (λ to l is_leader free. unheld to l is_leader free
-    (subst (λ z. FreesBy (known x.setting (seen x) s at) aim step z) (sym (next_plain x.setting (seen x) s at aim m step a w.setting.unpaired))
-    (frees_by (lease_place x.setting s) (known x.setting (seen x) s at) aim m.call.number (lver_written m) step a))) turned
+    (next_is (λ z. FreesBy (known x.setting (seen x) s at) aim step z) x.setting (seen x) s at aim m step a
+    (λ fits. frees_by (lease_place x.setting s) (known x.setting (seen x) s at) aim m.call.number (lver_written m) step a)
+    (λ paired over writes. No_free (plain_frees (refuses aim (LimitReached TurnLimit)) (refuses_plainly aim (LimitReached TurnLimit)))))) turned
     (others_are_lawful x (no_others x h.bare))
   where
     acquiring : (mode : Mode) → aim ≡ Acquires mode → (n : ℕ) → holds_under (seen x) s (spot_of_call x.setting.layout m) n ≡ false

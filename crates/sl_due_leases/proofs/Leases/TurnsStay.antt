@@ -13,7 +13,7 @@ use Rattle.sl_due_leases.proofs.Ways.Kept.HeardStands.{exclusive_stands, spot_sa
 use Rattle.sl_due_leases.proofs.Ways.Kept.LeaseNextsLeave.{HasEnded, moment_of}
 use Rattle.sl_due_leases.proofs.Ways.Kept.PlacesStand.{either_list}
 use Rattle.sl_due_leases.specs.Ways.Kept.{LeasesStand}
-use Rattle.sl_due_leases.specs.Ways.Nexts.{LeaderIsOwn, NextIs}
+use Rattle.sl_due_leases.specs.Ways.Nexts.{next_record, LeaderIsOwn, NextIs}
 use Rattle.sl_trace.specs.Ballots.{moded_block}
 use Rattle.sl_trace.specs.Jobs.{command_numbered, process_named}
 use Rattle.sl_trace.specs.Leases.{block_submitted, ended_ballots, exclusive_on, holdings_on, is_lease_call, is_on, known, lease_calls, open_ballot, verified_name}
@@ -25,7 +25,6 @@ use Rattle.sl_trace.specs.declared.session.Session.{Session}
 use Rattle.sl_due_facts.specs.Facts.Heard.{heard_by}
 use Rattle.sl_due_facts.specs.Facts.HoldingFacts.{HoldingFacts}
 use Rattle.sl_due_facts.specs.Facts.WayFacts.{In_settling}
-use Rattle.sl_sector.specs.declared.sector.Rec.TheVariants.{BlockIs}
 use Rattle.sl_trace.specs.declared.effects.Op.TheVariants.{WriteRecord}
 use Rattle.std.proofs.lemmas.Bool.{and_from}
 use Rattle.std.proofs.lemmas.List.Elements.{Contains-append_left, Contains-push, Contains-push_cases}
@@ -125,7 +124,7 @@ cleared : (x : Step) (s : Session) (at : Spot) → LeaseMay x s at → (own b : 
     → LawfulSoFar (write_block s at Settling ClearMode b x)
 cleared x s at may own b knows is bare =
     blocks_stay x s at may Settling ClearMode b
-    (λ c op. record { own = own; known = knows; wrote = op ∙ ap (λ z. WriteRecord (BlockIs z)) is }, (ap (λ (z : Block). z.shared) is, ap (λ (z : Block). z.mode_gen) is)) (bare_lawful x bare)
+    (λ c op. record { own = own; known = knows; wrote = op ∙ ap (λ z. WriteRecord (next_record x.setting (seen x) s at z)) is }, (ap (λ (z : Block). z.shared) is, ap (λ (z : Block). z.mode_gen) is)) (bare_lawful x bare)
 
 pub exclusive_turns : (x : Step) (s : Session) (at : Spot) (work : Work) (n : ℕ) (a : Answer) → x.input ≡ Told n a → x.effects.calls ≡ [] → LeasesStand x → LeaseMay x s at → (lver : ℕ) (b : Block)
     → NextIs (moment_of x s at work) (BecomeExclusive lver b) → LawfulSoFar (carry_lease s at work (BecomeExclusive lver b) x)

@@ -1,16 +1,17 @@
 -- What the newest call adds to what is asked of a lease's calls.
+use Rattle.sl_acts.proofs.Pairs.Records.{leader_lver, written_block, written_leader, written_no_block, written_no_leader}
 use Rattle.sl_area.specs.Layouts.{Layout}
+use Rattle.sl_due_facts.specs.Facts.WayFacts.{WayContext, WritesBlock, WritesLeader}
 use Rattle.sl_plain.proofs.Lists.{contains_first, contains_more}
-use Rattle.sl_trace.specs.Leases.{block_of_record, block_submitted, block_written, ended_ballot, ended_ballots, freed, leader_of_record, leader_written, lver_written}
+use Rattle.sl_trace.specs.Leases.{base_turn, block_of_record, block_submitted, block_written, ended_ballot, ended_ballots, freed, leader_of_record, leader_written, lver_written, verified_name}
 use Rattle.sl_sector.specs.declared.sector.Block.{Block}
 use Rattle.sl_sector.specs.declared.sector.Leader.{Leader}
 use Rattle.sl_sector.specs.declared.sector.Owner.{Owner}
-use Rattle.sl_sector.specs.declared.sector.Rec.TheVariants.{BlockIs, LeaderIs}
 use Rattle.sl_trace.specs.Traces.{Submitted, record_of}
-use Rattle.sl_trace.specs.declared.effects.Op.TheVariants.{ReadSectors, WriteRecord}
+use Rattle.sl_trace.specs.declared.effects.Op.TheVariants.{ReadSectors}
 use Rattle.std.proofs.Common.{ap, arith, ◌∙◌}
 use Rattle.std.specs.Option.{option_map_or}
-use Rattle.std.specs.Prelude.{Contains, List, None, Option, Some, find, if◌then◌else◌, is_some, max, option_and_then, ℕ, ◌∷◌, ◌≡◌}
+use Rattle.std.specs.Prelude.{Contains, List, None, Option, Some, find, if◌then◌else◌, is_some, max, option_and_then, ℕ, ◌+◌, ◌∷◌, ◌≡◌}
 
 -- ---- what a call writes
 
@@ -20,20 +21,20 @@ read_writes_no_block m n is = ap (λ o. option_and_then block_of_record (record_
 pub read_writes_no_leader : (m : Submitted) (n : ℕ) → m.call.op ≡ ReadSectors n → leader_written m ≡ None
 read_writes_no_leader m n is = ap (λ o. option_and_then leader_of_record (record_of o)) is
 
-pub block_is : (m : Submitted) (b : Block) → m.call.op ≡ WriteRecord (BlockIs b) → block_written m ≡ Some b
-block_is m b is = ap (λ o. option_and_then block_of_record (record_of o)) is
+pub block_is : (w : WayContext) (ms : List Submitted) (m : Submitted) (b : Block) → WritesBlock w ms m.call b → block_written m ≡ Some b
+block_is w ms m b is = written_block w.layout (base_turn w.layout w.self.id ms + 1) w.lockspace (verified_name w.layout w.lockspace ms) m b is
 
-pub block_is_no_leader : (m : Submitted) (b : Block) → m.call.op ≡ WriteRecord (BlockIs b) → leader_written m ≡ None
-block_is_no_leader m b is = ap (λ o. option_and_then leader_of_record (record_of o)) is
+pub block_is_no_leader : (w : WayContext) (ms : List Submitted) (m : Submitted) (b : Block) → WritesBlock w ms m.call b → leader_written m ≡ None
+block_is_no_leader w ms m b is = written_no_leader w.layout (base_turn w.layout w.self.id ms + 1) w.lockspace (verified_name w.layout w.lockspace ms) m b is
 
-pub leader_is : (m : Submitted) (l : Leader) → m.call.op ≡ WriteRecord (LeaderIs l) → leader_written m ≡ Some l
-leader_is m l is = ap (λ o. option_and_then leader_of_record (record_of o)) is
+pub leader_is : (w : WayContext) (m : Submitted) (l : Leader) → WritesLeader w m.call l → leader_written m ≡ Some l
+leader_is w m l is = written_leader w.layout m l is
 
-pub leader_is_no_block : (m : Submitted) (l : Leader) → m.call.op ≡ WriteRecord (LeaderIs l) → block_written m ≡ None
-leader_is_no_block m l is = ap (λ o. option_and_then block_of_record (record_of o)) is
+pub leader_is_no_block : (w : WayContext) (m : Submitted) (l : Leader) → WritesLeader w m.call l → block_written m ≡ None
+leader_is_no_block w m l is = written_no_block w.layout m l is
 
-pub lver_is : (m : Submitted) (l : Leader) → m.call.op ≡ WriteRecord (LeaderIs l) → lver_written m ≡ l.lver
-lver_is m l is = ap (λ o. elim o as (λ x. ℕ) [ Some k ↦ k.lver | None ↦ option_map_or (λ b. b.lver) (block_written m) 0 ]) (leader_is m l is)
+pub lver_is : (w : WayContext) (m : Submitted) (l : Leader) → WritesLeader w m.call l → lver_written m ≡ l.lver
+lver_is w m l is = leader_lver w.layout m l is
 
 -- ---- the last block
 

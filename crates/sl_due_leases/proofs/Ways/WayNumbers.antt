@@ -1,20 +1,20 @@
 -- What follows from the ways of the numbers of a lease: the own block never falls, no free and no ended ballot is above it, and an open
 -- ballot is in its instance, above each free.
 use Rattle.sl_area.specs.Layouts.{Layout}
+use Rattle.sl_area.specs.Places.{area_sectors, block_sectors}
 use Rattle.sl_due_leases.proofs.Ways.NewestCall.{block_is, block_is_no_leader, freed_held, freed_passed, leader_is, leader_is_no_block, read_writes_no_block, read_writes_no_leader, submitted_here, submitted_passed}
-use Rattle.sl_due_leases.proofs.Ways.WayStages.{clear_freed, clear_own, is_at_in, proposed, proposed_lver}
-use Rattle.sl_trace.specs.Leases.{Phase1_read, Phase2_read, Phase2_write, block_submitted, block_written, blocks_given, concludes, ended_ballot, ended_ballots, freed, is_at, is_phase_read, leader_written, open_ballot, stop_in, value_in_end}
+use Rattle.sl_due_leases.proofs.Ways.WayStages.{again_behind, clear_freed, clear_own, is_at_in, proposed, proposed_lver}
+use Rattle.sl_trace.specs.Leases.{Phase1_read, Phase2_read, Phase2_write, block_submitted, block_written, blocks_given, concludes, ended_ballot, ended_ballots, freed, is_at, is_phase_read, leader_written, open_ballot, own_block, stop_in, value_in_end}
 use Rattle.sl_trace.specs.Ballots.{is_ahead, stop_of, value_of}
 use Rattle.sl_trace.specs.declared.lease.Stop.{Stop}
 use Rattle.sl_sector.specs.declared.sector.Block.{Block}
 use Rattle.sl_sector.specs.declared.sector.Leader.{Leader}
 use Rattle.sl_sector.specs.declared.sector.Owner.{Owner}
-use Rattle.sl_sector.specs.declared.sector.Rec.TheVariants.{BlockIs, LeaderIs}
-use Rattle.sl_due_facts.specs.Facts.WayFacts.{CallWay, IsVerified, PurposeWay, StepWay, WayContext, Ways}
+use Rattle.sl_due_facts.specs.Facts.WayFacts.{CallWay, IsVerified, PurposeWay, StepWay, WayContext, Ways, WritesBlock, WritesLeader}
 use Rattle.sl_trace.specs.Traces.{Submitted, is_heeded}
 use Rattle.sl_trace.specs.declared.effects.LeaseStep.TheVariants.{ClearMode, FreeLeader, Phase1Read, Phase1Write, Phase2Read, Phase2Write, ReadAgain, ReadArea, ReadBeforeBlock, ReadBeforeFree, SetMode, TakeLeader}
 use Rattle.sl_trace.specs.declared.effects.LeaseStep.{LeaseStep}
-use Rattle.sl_trace.specs.declared.effects.Op.TheVariants.{ReadSectors, WriteRecord}
+use Rattle.sl_trace.specs.declared.effects.Op.TheVariants.{ReadSectors}
 use Rattle.sl_trace.specs.declared.effects.Purpose.TheVariants.{Joining, Lease, Leaving, Renewal, RequestRead, RequestWrite, SeeRequest, Survey, ValueRead, ValueWrite}
 use Rattle.sl_trace.specs.declared.effects.Purpose.{Purpose}
 use Rattle.sl_trace.specs.declared.effects.Work.{Work}
@@ -24,7 +24,7 @@ use Rattle.sl_words.proofs.WordLaws.{choose_some}
 use Rattle.sl_words.specs.Words.{choose}
 use Rattle.std.proofs.Common.{ap, arith, eqb-true, inl, inr, refl, subst, sym, ◌∙◌}
 use Rattle.std.specs.Option.{option_map_or}
-use Rattle.std.specs.Prelude.{Bool, Contains, List, None, Option, Some, [], false, if◌then◌else◌, max, option_and_then, option_map, true, ℕ, ◌&&◌, ◌+◌, ◌<◌, ◌==◌, ◌∷◌, ◌≡◌, ◌≤◌, ◌||◌, ◌⊎◌}
+use Rattle.std.specs.Prelude.{Bool, Contains, IsSome, List, None, Option, Some, [], false, if◌then◌else◌, max, option_and_then, option_map, true, ℕ, ◌&&◌, ◌<◌, ◌==◌, ◌∷◌, ◌≡◌, ◌≤◌, ◌||◌, ◌⊎◌}
 
 -- The instance of the own block; 0 where none was submitted.
 abbrev pub own_lver : List Submitted → ℕ
@@ -35,16 +35,20 @@ lver_of ms b is = ap (λ o. option_map_or (λ (x : Block). x.lver) o 0) is
 
 -- ---- what a call of a lease does, by its way
 
+-- A ballot may begin: the name was verified, and the own block is known.
+abbrev IsBegun : WayContext → List Submitted → Type 0
+IsBegun w ms = IsVerified w ms × IsSome (own_block w.layout w.self.id ms)
+
 pub data Doing (w : WayContext) (m : Submitted) (ms : List Submitted) : Type 0 where
   -- it reads; an open ballot stays open or is concluded
   Reads : (n : ℕ) → m.call.op ≡ ReadSectors n → Doing w m ms
   -- a ballot's block is no fall, and above each free; the name was verified, or a block was written before
-  Writes_ballot : (b : Block) → m.call.op ≡ WriteRecord (BlockIs b) → own_lver ms ≤ b.lver → freed ms < b.lver → IsVerified w ms ⊎ ((own : Block) × (block_submitted ms ≡ Some own))
+  Writes_ballot : (b : Block) → WritesBlock w ms m.call b → own_lver ms ≤ b.lver → freed ms < b.lver → IsBegun w ms ⊎ ((own : Block) × (block_submitted ms ≡ Some own))
       → Doing w m ms
   -- a mode's block is in the own block's instance
-  Writes_mode : (b own : Block) → m.call.op ≡ WriteRecord (BlockIs b) → block_submitted ms ≡ Some own → own.lver ≡ b.lver → is_at Phase2_write m ≡ false → Doing w m ms
-  Takes : (l : Leader) → m.call.op ≡ WriteRecord (LeaderIs l) → l.held ≡ true → Doing w m ms
-  Frees : (l : Leader) → m.call.op ≡ WriteRecord (LeaderIs l) → l.held ≡ false → Contains (ended_ballots w.layout ms) (l.lver, w.self) → open_ballot w.layout ms ≡ None → Doing w m ms
+  Writes_mode : (b own : Block) → WritesBlock w ms m.call b → block_submitted ms ≡ Some own → own.lver ≡ b.lver → is_at Phase2_write m ≡ false → Doing w m ms
+  Takes : (l : Leader) → WritesLeader w m.call l → l.held ≡ true → Doing w m ms
+  Frees : (l : Leader) → WritesLeader w m.call l → l.held ≡ false → Contains (ended_ballots w.layout ms) (l.lver, w.self) → open_ballot w.layout ms ≡ None → Doing w m ms
 
 at_most : (a b c : ℕ) → a ≡ b → b ≤ c → a ≤ c
 at_most a b c is le = omega (arith, is, le)
@@ -58,38 +62,38 @@ rises ms n up = by (block_submitted ms) refl where
   by None is = at_most (own_lver ms) 0 n (ap (λ o. option_map_or (λ (x : Block). x.lver) o 0) is) (omega arith)
   by (Some b) is = at_most (own_lver ms) b.lver n (lver_of ms b is) (up b is)
 
-step_doing : (w : WayContext) → w.layout.paired ≡ false → (m : Submitted) (ms : List Submitted) → Ways w ms → (work : Work) (step : LeaseStep) → m.call.purpose ≡ Lease work step → StepWay w work m.at m.call ms step → Doing w m ms
-step_doing w plain m ms ws work (ReadArea name) is h = Reads (w.layout.hosts + 2) h
-step_doing w plain m ms ws work ReadBeforeFree is h = Reads (w.layout.hosts + 2) h.reads
-step_doing w plain m ms ws work ReadBeforeBlock is h = absurd (true_is_false (sym h ∙ plain))
-step_doing w plain m ms ws work (ReadAgain read) is h = absurd (true_is_false (sym h ∙ plain))
-step_doing w plain m ms ws work Phase1Write is h = Writes_ballot h.own h.wrote (rises ms h.own.lver h.rises) h.fresh (inl h.named)
-step_doing w plain m ms ws work Phase1Read is h = Reads w.layout.hosts h.reads
-step_doing w plain m ms ws work Phase2Write is h =
+step_doing : (w : WayContext) (m : Submitted) (ms : List Submitted) → Ways w ms → (work : Work) (step : LeaseStep) → m.call.purpose ≡ Lease work step → StepWay w work m.at m.call ms step → Doing w m ms
+step_doing w m ms ws work (ReadArea name) is h = Reads (area_sectors w.layout) h
+step_doing w m ms ws work ReadBeforeFree is h = Reads (area_sectors w.layout) h.reads
+step_doing w m ms ws work ReadBeforeBlock is h = Reads (block_sectors w.layout) h.reads
+step_doing w m ms ws work (ReadAgain read) is h = let b = again_behind w work read m ms h ws in Reads b.sectors b.reads.1
+step_doing w m ms ws work Phase1Write is h = Writes_ballot h.own h.wrote (rises ms h.own.lver h.rises) h.fresh (inl (h.named, h.known))
+step_doing w m ms ws work Phase1Read is h = Reads (block_sectors w.layout) h.reads
+step_doing w m ms ws work Phase2Write is h =
     let under : (proposed w work m.call ms h).lver ≡ h.own.lver = proposed_lver w work m.call ms h in
     let fresh : freed ms < h.own.lver = clear_freed w work m.call ms ws h in
     Writes_ballot (proposed w work m.call ms h) h.wrote (same_most (own_lver ms) h.own.lver (proposed w work m.call ms h).lver (lver_of ms h.own (clear_own w work m.call ms ws h)) under)
     (omega (arith, fresh, under)) (inr (h.own, clear_own w work m.call ms ws h))
-step_doing w plain m ms ws work Phase2Read is h = Reads w.layout.hosts h.reads
-step_doing w plain m ms ws work TakeLeader is h = Takes h.leader h.wrote h.held
-step_doing w plain m ms ws work SetMode is h = Writes_mode _ h.own h.wrote h.known refl (ap (λ p. is_at_in Phase2_write p) is)
-step_doing w plain m ms ws work FreeLeader is h = Frees h.leader h.wrote h.free h.won h.concluded
-step_doing w plain m ms ws work ClearMode is h = Writes_mode _ h.own h.wrote h.known refl (ap (λ p. is_at_in Phase2_write p) is)
+step_doing w m ms ws work Phase2Read is h = Reads (block_sectors w.layout) h.reads
+step_doing w m ms ws work TakeLeader is h = Takes h.leader h.wrote h.held
+step_doing w m ms ws work SetMode is h = Writes_mode _ h.own h.wrote h.known refl (ap (λ p. is_at_in Phase2_write p) is)
+step_doing w m ms ws work FreeLeader is h = Frees h.leader h.wrote h.free h.won h.concluded
+step_doing w m ms ws work ClearMode is h = Writes_mode _ h.own h.wrote h.known refl (ap (λ p. is_at_in Phase2_write p) is)
 
-by_purpose : (w : WayContext) → w.layout.paired ≡ false → (m : Submitted) (ms : List Submitted) → Ways w ms → (p : Purpose) → m.call.purpose ≡ p → PurposeWay w m.at m.call ms p → Doing w m ms
-by_purpose w plain m ms ws (Lease work step) is h = step_doing w plain m ms ws work step is h
-by_purpose w plain m ms ws (Joining j step) is h = absurd h
-by_purpose w plain m ms ws Renewal is h = absurd h
-by_purpose w plain m ms ws Survey is h = absurd h
-by_purpose w plain m ms ws (Leaving j) is h = absurd h
-by_purpose w plain m ms ws (RequestRead j) is h = absurd h
-by_purpose w plain m ms ws (RequestWrite j owner) is h = absurd h
-by_purpose w plain m ms ws SeeRequest is h = absurd h
-by_purpose w plain m ms ws (ValueWrite j) is h = absurd h
-by_purpose w plain m ms ws (ValueRead j) is h = absurd h
+by_purpose : (w : WayContext) (m : Submitted) (ms : List Submitted) → Ways w ms → (p : Purpose) → m.call.purpose ≡ p → PurposeWay w m.at m.call ms p → Doing w m ms
+by_purpose w m ms ws (Lease work step) is h = step_doing w m ms ws work step is h
+by_purpose w m ms ws (Joining j step) is h = absurd h
+by_purpose w m ms ws Renewal is h = absurd h
+by_purpose w m ms ws Survey is h = absurd h
+by_purpose w m ms ws (Leaving j) is h = absurd h
+by_purpose w m ms ws (RequestRead j) is h = absurd h
+by_purpose w m ms ws (RequestWrite j owner) is h = absurd h
+by_purpose w m ms ws SeeRequest is h = absurd h
+by_purpose w m ms ws (ValueWrite j) is h = absurd h
+by_purpose w m ms ws (ValueRead j) is h = absurd h
 
-pub doing : (w : WayContext) → w.layout.paired ≡ false → (m : Submitted) (ms : List Submitted) → Ways w ms → CallWay w m ms → Doing w m ms
-doing w plain m ms ws h = by_purpose w plain m ms ws m.call.purpose refl h.way
+pub doing : (w : WayContext) (m : Submitted) (ms : List Submitted) → Ways w ms → CallWay w m ms → Doing w m ms
+doing w m ms ws h = by_purpose w m ms ws m.call.purpose refl h.way
 
 -- ---- the own block never falls
 
@@ -102,15 +106,15 @@ itself a b is = omega (arith, is)
 up_by : (w : WayContext) (m : Submitted) (ms : List Submitted) → Doing w m ms → own_lver ms ≤ own_lver (m ∷ ms)
 up_by w m ms (Reads n op) = itself (own_lver ms) (own_lver (m ∷ ms)) (lver_passed m ms (read_writes_no_block m n op))
 up_by w m ms (Writes_ballot b op up fresh named) =
-    let is : own_lver (m ∷ ms) ≡ b.lver = lver_of (m ∷ ms) b (submitted_here m ms b (block_is m b op)) in omega (arith, is, up)
+    let is : own_lver (m ∷ ms) ≡ b.lver = lver_of (m ∷ ms) b (submitted_here m ms b (block_is w ms m b op)) in omega (arith, is, up)
 up_by w m ms (Writes_mode b own op known same other) =
-    let is : own_lver (m ∷ ms) ≡ b.lver = lver_of (m ∷ ms) b (submitted_here m ms b (block_is m b op)) in
+    let is : own_lver (m ∷ ms) ≡ b.lver = lver_of (m ∷ ms) b (submitted_here m ms b (block_is w ms m b op)) in
     let was : own_lver ms ≡ own.lver = lver_of ms own known in omega (arith, is, was, same)
-up_by w m ms (Takes l op held) = itself (own_lver ms) (own_lver (m ∷ ms)) (lver_passed m ms (leader_is_no_block m l op))
-up_by w m ms (Frees l op free won concluded) = itself (own_lver ms) (own_lver (m ∷ ms)) (lver_passed m ms (leader_is_no_block m l op))
+up_by w m ms (Takes l op held) = itself (own_lver ms) (own_lver (m ∷ ms)) (lver_passed m ms (leader_is_no_block w m l op))
+up_by w m ms (Frees l op free won concluded) = itself (own_lver ms) (own_lver (m ∷ ms)) (lver_passed m ms (leader_is_no_block w m l op))
 
-pub goes_up : (w : WayContext) → w.layout.paired ≡ false → (m : Submitted) (ms : List Submitted) → Ways w (m ∷ ms) → own_lver ms ≤ own_lver (m ∷ ms)
-goes_up w plain m ms h = up_by w m ms (doing w plain m ms h.1 h.0)
+pub goes_up : (w : WayContext) (m : Submitted) (ms : List Submitted) → Ways w (m ∷ ms) → own_lver ms ≤ own_lver (m ∷ ms)
+goes_up w m ms h = up_by w m ms (doing w m ms h.1 h.0)
 
 -- ---- names
 
@@ -127,16 +131,16 @@ verified_more w m ms h =
     }
 
 -- Who has written a block has verified the name.
-pub is_verified : (w : WayContext) → w.layout.paired ≡ false → (ms : List Submitted) → Ways w ms → (b : Block) → block_submitted ms ≡ Some b → IsVerified w ms
-is_verified w plain [] h b is = absurd (none_some b is)
-is_verified w plain (m ∷ ms) h b is = verified_more w m ms (by (doing w plain m ms h.1 h.0) (λ x old. is_verified w plain ms h.1 x old)) where
+pub is_verified : (w : WayContext) (ms : List Submitted) → Ways w ms → (b : Block) → block_submitted ms ≡ Some b → IsVerified w ms
+is_verified w [] h b is = absurd (none_some b is)
+is_verified w (m ∷ ms) h b is = verified_more w m ms (by (doing w m ms h.1 h.0) (λ x old. is_verified w ms h.1 x old)) where
   by : Doing w m ms → ((x : Block) → block_submitted ms ≡ Some x → IsVerified w ms) → IsVerified w ms
   by (Reads n op) before = before b (sym (submitted_passed m ms (read_writes_no_block m n op)) ∙ is)
-  by (Writes_ballot x op up fresh (inl named)) before = named
+  by (Writes_ballot x op up fresh (inl begun)) before = begun.0
   by (Writes_ballot x op up fresh (inr old)) before = before old.0 old.1
   by (Writes_mode x own op known same other) before = before own known
-  by (Takes l op held) before = before b (sym (submitted_passed m ms (leader_is_no_block m l op)) ∙ is)
-  by (Frees l op free won concluded) before = before b (sym (submitted_passed m ms (leader_is_no_block m l op)) ∙ is)
+  by (Takes l op held) before = before b (sym (submitted_passed m ms (leader_is_no_block w m l op)) ∙ is)
+  by (Frees l op free won concluded) before = before b (sym (submitted_passed m ms (leader_is_no_block w m l op)) ∙ is)
 
 -- ---- ballots that ended
 
@@ -198,9 +202,9 @@ ended_cases g m ms n o there = by (ended_ballot g m ms) there where
   by (Some p) inside = elim (contains_cases p (ended_ballots g ms) (n, o) inside) [ inl is ↦ inl (ap (λ z. Some z) is) | inr rest ↦ inr rest ]
 
 -- No ended ballot is above the own block.
-pub ended_below : (w : WayContext) → w.layout.paired ≡ false → (ms : List Submitted) → Ways w ms → (n : ℕ) (o : Owner) → Contains (ended_ballots w.layout ms) (n, o) → n ≤ own_lver ms
-ended_below w plain [] h n o there = absurd (contains_none (n, o) there)
-ended_below w plain (m ∷ ms) h n o there = by (ended_cases w.layout m ms n o there) (goes_up w plain m ms h) (ended_below w plain ms h.1 n o) where
+pub ended_below : (w : WayContext) (ms : List Submitted) → Ways w ms → (n : ℕ) (o : Owner) → Contains (ended_ballots w.layout ms) (n, o) → n ≤ own_lver ms
+ended_below w [] h n o there = absurd (contains_none (n, o) there)
+ended_below w (m ∷ ms) h n o there = by (ended_cases w.layout m ms n o there) (goes_up w m ms h) (ended_below w ms h.1 n o) where
   by : (ended_ballot w.layout m ms ≡ Some (n, o)) ⊎ Contains (ended_ballots w.layout ms) (n, o) → own_lver ms ≤ own_lver (m ∷ ms) → (Contains (ended_ballots w.layout ms) (n, o) → n ≤ own_lver ms) → n ≤ own_lver (m ∷ ms)
   by (inl now) up before =
       let e : EndsBy w.layout m ms n o = ends_by w.layout m ms n o now in
@@ -219,17 +223,17 @@ held_is_none : (l : Leader) → l.held ≡ true → (if l.held then 0 else l.lve
 held_is_none l is = ap (λ b. if b then 0 else l.lver) is
 
 -- No free is above the own block.
-pub freed_below : (w : WayContext) → w.layout.paired ≡ false → (ms : List Submitted) → Ways w ms → freed ms ≤ own_lver ms
-freed_below w plain [] h = omega arith
-freed_below w plain (m ∷ ms) h = by (doing w plain m ms h.1 h.0) (goes_up w plain m ms h) (freed_below w plain ms h.1) where
+pub freed_below : (w : WayContext) (ms : List Submitted) → Ways w ms → freed ms ≤ own_lver ms
+freed_below w [] h = omega arith
+freed_below w (m ∷ ms) h = by (doing w m ms h.1 h.0) (goes_up w m ms h) (freed_below w ms h.1) where
   by : Doing w m ms → own_lver ms ≤ own_lver (m ∷ ms) → freed ms ≤ own_lver ms → freed (m ∷ ms) ≤ own_lver (m ∷ ms)
   by (Reads n op) up before = let is : freed (m ∷ ms) ≡ freed ms = freed_passed m ms (read_writes_no_leader m n op) in omega (arith, is, up, before)
-  by (Writes_mode b own op known same other) up before = let is : freed (m ∷ ms) ≡ freed ms = freed_passed m ms (block_is_no_leader m b op) in omega (arith, is, up, before)
-  by (Writes_ballot b op rise fresh named) up before = let is : freed (m ∷ ms) ≡ freed ms = freed_passed m ms (block_is_no_leader m b op) in omega (arith, is, up, before)
-  by (Takes l op held) up before = let is : freed (m ∷ ms) ≡ freed ms = freed_held m ms l (leader_is m l op) (held_is_none l held) in omega (arith, is, up, before)
+  by (Writes_mode b own op known same other) up before = let is : freed (m ∷ ms) ≡ freed ms = freed_passed m ms (block_is_no_leader w ms m b op) in omega (arith, is, up, before)
+  by (Writes_ballot b op rise fresh named) up before = let is : freed (m ∷ ms) ≡ freed ms = freed_passed m ms (block_is_no_leader w ms m b op) in omega (arith, is, up, before)
+  by (Takes l op held) up before = let is : freed (m ∷ ms) ≡ freed ms = freed_held m ms l (leader_is w m l op) (held_is_none l held) in omega (arith, is, up, before)
   by (Frees l op free won concluded) up before =
-      let is : freed (m ∷ ms) ≡ max l.lver (freed ms) = freed_here m ms l (leader_is m l op) free in
-      let le : l.lver ≤ own_lver ms = ended_below w plain ms h.1 l.lver w.self won in omega (arith, is, le, up, before)
+      let is : freed (m ∷ ms) ≡ max l.lver (freed ms) = freed_here m ms l (leader_is w m l op) free in
+      let le : l.lver ≤ own_lver ms = ended_below w ms h.1 l.lver w.self won in omega (arith, is, le, up, before)
 
 -- ---- the open ballot
 
@@ -278,25 +282,25 @@ pub record IsOpened (ms : List Submitted) (n : ℕ) : Type 0 where
 opened_passed : (m : Submitted) (ms : List Submitted) (n : ℕ) → block_written m ≡ None → freed (m ∷ ms) ≡ freed ms → IsOpened ms n → IsOpened (m ∷ ms) n
 opened_passed m ms n none same h = record { own = h.own; known = submitted_passed m ms none ∙ h.known; under = h.under; fresh = subst (λ k. k < n) (sym same) h.fresh }
 
-opened_block : (m : Submitted) (ms : List Submitted) (b : Block) (n : ℕ) → m.call.op ≡ WriteRecord (BlockIs b) → b.lver ≡ n → freed ms < n → IsOpened (m ∷ ms) n
-opened_block m ms b n op under fresh =
-    record { own = b; known = submitted_here m ms b (block_is m b op); under = under; fresh = subst (λ k. k < n) (sym (freed_passed m ms (block_is_no_leader m b op))) fresh }
+opened_block : (w : WayContext) (m : Submitted) (ms : List Submitted) (b : Block) (n : ℕ) → WritesBlock w ms m.call b → b.lver ≡ n → freed ms < n → IsOpened (m ∷ ms) n
+opened_block w m ms b n op under fresh =
+    record { own = b; known = submitted_here m ms b (block_is w ms m b op); under = under; fresh = subst (λ k. k < n) (sym (freed_passed m ms (block_is_no_leader w ms m b op))) fresh }
 
 -- An open ballot is of the own block's instance, above each free.
-pub is_opened : (w : WayContext) → w.layout.paired ≡ false → (ms : List Submitted) → Ways w ms → (n : ℕ) → open_ballot w.layout ms ≡ Some n → IsOpened ms n
-is_opened w plain [] h n is = absurd (none_some n is)
-is_opened w plain (m ∷ ms) h n is = by (doing w plain m ms h.1 h.0) (is_opened w plain ms h.1 n) where
+pub is_opened : (w : WayContext) (ms : List Submitted) → Ways w ms → (n : ℕ) → open_ballot w.layout ms ≡ Some n → IsOpened ms n
+is_opened w [] h n is = absurd (none_some n is)
+is_opened w (m ∷ ms) h n is = by (doing w m ms h.1 h.0) (is_opened w ms h.1 n) where
   by : Doing w m ms → (open_ballot w.layout ms ≡ Some n → IsOpened ms n) → IsOpened (m ∷ ms) n
   by (Reads k op) before = opened_passed m ms n (read_writes_no_block m k op) (freed_passed m ms (read_writes_no_leader m k op)) (before (open_passed w m ms n (read_writes_no_block m k op) is))
   by (Writes_ballot b op rise fresh named) before =
-      let o : OpenHere w m ms b n = open_here w m ms b n (block_is m b op) is in
-      opened_block m ms b n op o.under (subst (λ k. freed ms < k) o.under fresh)
+      let o : OpenHere w m ms b n = open_here w m ms b n (block_is w ms m b op) is in
+      opened_block w m ms b n op o.under (subst (λ k. freed ms < k) o.under fresh)
   by (Writes_mode b own op known same other) before =
-      let o : OpenHere w m ms b n = open_here w m ms b n (block_is m b op) is in
-      opened_block m ms b n op o.under (before (o.old other)).fresh
+      let o : OpenHere w m ms b n = open_here w m ms b n (block_is w ms m b op) is in
+      opened_block w m ms b n op o.under (before (o.old other)).fresh
   by (Takes l op held) before =
-      opened_passed m ms n (leader_is_no_block m l op) (freed_held m ms l (leader_is m l op) (held_is_none l held)) (before (open_passed w m ms n (leader_is_no_block m l op) is))
-  by (Frees l op free won concluded) before = absurd (none_some n (sym concluded ∙ open_passed w m ms n (leader_is_no_block m l op) is))
+      opened_passed m ms n (leader_is_no_block w m l op) (freed_held m ms l (leader_is w m l op) (held_is_none l held)) (before (open_passed w m ms n (leader_is_no_block w m l op) is))
+  by (Frees l op free won concluded) before = absurd (none_some n (sym concluded ∙ open_passed w m ms n (leader_is_no_block w m l op) is))
 
 -- ---- a ballot that was concluded
 

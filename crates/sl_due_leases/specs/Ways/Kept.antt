@@ -4,7 +4,6 @@ use Rattle.sl_due_facts.specs.Facts.GrantGrounds.{GrantGrounds}
 use Rattle.sl_due_facts.specs.Facts.Heard.{heard_by}
 use Rattle.sl_due_facts.specs.Facts.LeaseFacts.{NumberFacts, TurnFacts}
 use Rattle.sl_due_facts.specs.Facts.WayFacts.{WayFacts}
-use Rattle.std.specs.Prelude.{false, ◌≡◌}
 
 abbrev pub HasWayFacts : Step → Type 0
 HasWayFacts x = WayFacts x.setting (seen x)
@@ -18,8 +17,7 @@ HasNumberFacts x = NumberFacts x.setting (seen x)
 abbrev pub HasGrantGrounds : Step → Type 0
 HasGrantGrounds x = GrantGrounds x.setting (seen x) (heard_by x.input)
 
--- Ways and turns are kept together, where a block has one sector.
+-- Ways and turns are kept together.
 pub record LeasesStand (x : Step) : Type 0 where
-  pub plain : x.setting.layout.paired ≡ false
   pub ways : HasWayFacts x
   pub turns : HasTurnFacts x

@@ -27,7 +27,7 @@ use Rattle.sl_trace.specs.declared.effects.Mode.{Mode}
 use Rattle.sl_trace.specs.declared.effects.Spot.{Spot}
 use Rattle.sl_trace.specs.declared.effects.Work.{Work}
 use Rattle.sl_trace.specs.declared.input.Answer.{Answer}
-use Rattle.std.specs.Prelude.{Contains, List, None, Option, Some, false, ℕ, ◌<◌, ◌≡◌}
+use Rattle.std.specs.Prelude.{Contains, List, None, Option, Some, ℕ, ◌<◌, ◌≡◌}
 
 -- ---- what a lease decides fits the calls before it
 
@@ -37,10 +37,10 @@ AnswersFit =
     (x : Moment) (step : LeaseStep) (aim : Aim) (answer : Answer) → (h : IsHeard x step aim answer) →
     NextIs x (lease_next (place_at x) (known_at x) aim h.call.call.number (lver_written h.call) step answer)
 
--- In a settling, where a block has one sector.
+-- In a settling.
 abbrev pub SettlingsFit : Type 0
 SettlingsFit =
-    (x : Moment) → x.setting.layout.paired ≡ false → Ways (context_at x) (calls_at x) → aim_of x.setting x.trace x.work ≡ Some Settles → NextIs x (settle_next (place_at x) (known_at x))
+    (x : Moment) → Ways (context_at x) (calls_at x) → aim_of x.setting x.trace x.work ≡ Some Settles → NextIs x (settle_next (place_at x) (known_at x))
 
 -- In a release, where of an exclusive holding the instance was won and no ballot is open.
 abbrev pub ReleasesFit : Type 0
@@ -56,13 +56,13 @@ ConversionsFit =
 
 -- ---- numbers
 
--- The numbers of leases follow from the ways of their calls, where a block has one sector.
+-- The numbers of leases follow from the ways of their calls.
 abbrev pub NumbersFollow : Type 0
-NumbersFollow = (st : Setting) → st.layout.paired ≡ false → (t : Trace) → WayFacts st t → NumberFacts st t
+NumbersFollow = (st : Setting) (t : Trace) → WayFacts st t → NumberFacts st t
 
--- Grants have what they ask of a lease's calls, again without pairs.
+-- Grants have what they ask of a lease's calls.
 abbrev pub GrantsFollow : Type 0
-GrantsFollow = (st : Setting) → st.layout.paired ≡ false → (t : Trace) (heard : Option ℕ) → WayFacts st t → TurnFacts st t heard → GrantGrounds st t heard
+GrantsFollow = (st : Setting) (t : Trace) (heard : Option ℕ) → WayFacts st t → TurnFacts st t heard → GrantGrounds st t heard
 
 -- ---- each call is lawful by its way
 
@@ -71,10 +71,10 @@ pub record WaysAreLawful : Type 0 where
       Phase2Way (way_context st t s) work c.call (lease_calls st t s at) → block_written c ≡ Some b → LawfulPhase2 st t s at c b
   pub phase2_read : (st : Setting) (t : Trace) (s : Session) (at : Spot) → Ways (way_context st t s) (lease_calls st t s at) → (work : Work) (c : Submitted) →
       Phase2ReadWay (way_context st t s) work c.at c.call (lease_calls st t s at) → LawfulPhase2Read st t s at c
-  pub mode : (st : Setting) → st.layout.paired ≡ false → (t : Trace) (s : Session) (at : Spot) → Ways (way_context st t s) (lease_calls st t s at) → (work : Work) (c : Submitted) (b : Block) →
+  pub mode : (st : Setting) (t : Trace) (s : Session) (at : Spot) → Ways (way_context st t s) (lease_calls st t s at) → (work : Work) (c : Submitted) (b : Block) →
       ModeWay (way_context st t s) work c.at c.call (lease_calls st t s at) → block_written c ≡ Some b → LawfulModeWrite st t s at b
-  pub clear : (st : Setting) → st.layout.paired ≡ false → (t : Trace) (s : Session) (at : Spot) → Ways (way_context st t s) (lease_calls st t s at) → (c : Submitted) (b : Block) →
-      ClearWay c.call (lease_calls st t s at) → block_written c ≡ Some b → LawfulModeWrite st t s at b
+  pub clear : (st : Setting) (t : Trace) (s : Session) (at : Spot) → Ways (way_context st t s) (lease_calls st t s at) → (c : Submitted) (b : Block) →
+      ClearWay (way_context st t s) c.call (lease_calls st t s at) → block_written c ≡ Some b → LawfulModeWrite st t s at b
   -- whoever takes a leader has won its instance, above each free
   pub take : (st : Setting) (t : Trace) (s : Session) (at : Spot) → Ways (way_context st t s) (lease_calls st t s at) → (work : Work) (c : Submitted) (l : Leader) →
       TakeWay (way_context st t s) work c.at c.call (lease_calls st t s at) → leader_written c ≡ Some l →

@@ -1,5 +1,6 @@
 -- The causes of grants that a lease's work gives: the leader that was taken, the leader that was freed, and what is converted.
 use Rattle.sl_acts.proofs.InputsKeep.{has_heard}
+use Rattle.sl_acts.proofs.Pairs.Records.{block_lver, written_block}
 use Rattle.sl_acts.specs.Acts.{Hears}
 use Rattle.sl_due_law.proofs.Causes.AnsweredJobs.{AnswersHere, answers_here, its_command, told_not_waking, with_command}
 use Rattle.sl_due_law.proofs.Causes.LaterSteps.{AnyMove, Going, MayAnswer, MayCall, MayStart, after_that, begins, by_effects, going, last_caused, no_line, still_caused, told_no_line}
@@ -20,7 +21,7 @@ use Rattle.sl_due_facts.proofs.Jobs.CallsStay.{late}
 use Rattle.sl_run.specs.Caused.{Answering, GrantsTo, IsGrantedFor, WroteAt, before_entry, converting_step, the_session}
 use Rattle.sl_trace.specs.Jobs.{aim_of, aim_of_command, command_numbered}
 use Rattle.sl_trace.specs.LeaseWork.{lease_place}
-use Rattle.sl_trace.specs.Leases.{block_of_record, block_submitted, leader_of_record, Leader_freed, Leader_taken, Mode_set, StepKind, block_written, exclusive_on, holdings_on, kind_of_step, known, lease_calls, lease_step, lver_written, same_kind, spot_of, spot_of_call}
+use Rattle.sl_trace.specs.Leases.{base_turn, block_submitted, verified_name, Leader_freed, Leader_taken, Mode_set, StepKind, block_written, exclusive_on, holdings_on, kind_of_step, known, lease_calls, lease_step, lver_written, same_kind, spot_of, spot_of_call}
 use Rattle.sl_trace.specs.declared.lease.Aim.TheVariants.{Acquires, Converts, Releases, Settles}
 use Rattle.sl_trace.specs.declared.lease.Aim.{Aim}
 use Rattle.sl_trace.specs.declared.lease.LeaseNext.TheVariants.{BecomeExclusive, BecomeShared, GrantJob}
@@ -32,9 +33,9 @@ use Rattle.sl_sector.specs.declared.sector.Leader.{Leader}
 use Rattle.sl_trace.specs.Sessions.{holdings_of, is_joined, session_numbered, sessions}
 use Rattle.sl_trace.specs.declared.session.Session.{Session}
 use Rattle.sl_due_facts.specs.Facts.JobFacts.{FitsCommand}
-use Rattle.sl_due_facts.specs.Facts.WayFacts.{After_mode, After_take, FreeReason, In_conversion, In_release, In_settling, ModeReason, ModeWay, PurposeWay, StepWay, Ways, way_context}
+use Rattle.sl_due_facts.specs.Facts.WayFacts.{After_mode, After_take, FreeReason, In_conversion, In_release, In_settling, ModeReason, ModeWay, PurposeWay, StepWay, WayContext, Ways, way_context}
 use Rattle.sl_due_facts.specs.Facts.Whole.{WholeTrace}
-use Rattle.sl_trace.specs.Traces.{Job, Submitted, Trace, holdings, is_before_input, is_ended_by, end_of, is_shared, record_of, job_numbered, job_of, same_place}
+use Rattle.sl_trace.specs.Traces.{Job, Submitted, Trace, holdings, is_before_input, is_ended_by, end_of, is_shared, job_numbered, job_of, same_place}
 use Rattle.sl_trace.specs.declared.command.Command.TheVariants.{Acquire, AddLockspace, Convert, GetLvb, HostStatus, InqLockspace, Release, ReleaseOrphan, RemLockspace, Request, RunProgram, SetKillpath, SetLvb, Status, TakeOver}
 use Rattle.sl_trace.specs.declared.command.Command.{Command}
 use Rattle.sl_trace.specs.declared.command.ResourceArg.{ResourceArg}
@@ -65,8 +66,7 @@ use Rattle.sl_words.specs.Words.{same_truth, some_is}
 use Rattle.std.proofs.lemmas.Bool.{eqb-true}
 use Rattle.std.proofs.lemmas.List.{append-nil}
 use Rattle.std.proofs.Common.{ap, inl, inr, refl, subst, sym, ◌∙◌}
-use Rattle.std.specs.Option.{option_map_or}
-use Rattle.std.specs.Prelude.{Bool, Contains, List, None, Ok, Option, Some, [], false, filter, is_some, not, option_and_then, option_map, true, ℕ, ◌&&◌, ◌++◌, ◌==◌, ◌∷◌, ◌≡◌, ◌⊎◌}
+use Rattle.std.specs.Prelude.{Bool, Contains, List, None, Ok, Option, Some, [], false, filter, is_some, not, option_map, true, ℕ, ◌&&◌, ◌++◌, ◌+◌, ◌==◌, ◌∷◌, ◌≡◌, ◌⊎◌}
 
 -- A write of a lease's job that was answered ok.
 pub record WriteHeard (x : Step) (s : Session) (m : Submitted) (j : ℕ) (step : LeaseStep) (c : Command) : Type 0 where
@@ -242,11 +242,17 @@ mode_of_held x s m j c e h held = by (exclusive_on (seen x) s at) refl held wher
   b : Block
   b = moded_block moded.own true (way_context x.setting (seen x) s).self.generation
 
+  w : WayContext
+  w = way_context x.setting (seen x) s
+
+  turn : ℕ
+  turn = base_turn w.layout w.self.id newest.0 + 1
+
   wrote : block_written m ≡ Some b
-  wrote = ap (λ o. option_and_then block_of_record (record_of o)) moded.wrote
+  wrote = written_block w.layout turn w.lockspace (verified_name w.layout w.lockspace newest.0) m b moded.wrote
 
   lver : lver_written m ≡ b.lver
-  lver = ap (λ o. elim (option_and_then leader_of_record (record_of o)) as (λ z. ℕ) [ Some l ↦ l.lver | None ↦ option_map_or (λ (k : Block). k.lver) (option_and_then block_of_record (record_of o)) 0 ]) moded.wrote
+  lver = block_lver w.layout turn w.lockspace (verified_name w.layout w.lockspace newest.0) m b moded.wrote
 
   last : block_submitted (lease_calls x.setting (seen x) s at) ≡ Some b
   last = ap (λ ms. block_submitted ms) newest.1 ∙ ap (λ o. elim o as (λ z. Option Block) [ Some k ↦ Some k | None ↦ block_submitted newest.0 ]) wrote

@@ -1,9 +1,10 @@
 -- What stands in the trace where the answer of a lease's call is told, for a job that works on the lease.
-use Rattle.sl_area.specs.Places.{area_blocks, blocks_in}
-use Rattle.sl_due_law.proofs.Causes.Leases.GivenBlocks.{area_gives, is_at_in, phase1_gives, phase2_gives}
+use Rattle.sl_acts.proofs.Pairs.Given.{at_kind}
 use Rattle.sl_due_law.proofs.Causes.NamesBefore.{with_session}
-use Rattle.sl_run.specs.Caused.{Answering, AnswersCall, AnswersRead, CausedBy, ReadsBlocks, after_entry, known_here, the_session}
-use Rattle.sl_trace.specs.Leases.{LeaseKnown, Phase1_read, Phase2_read, StepKind, blocks_given, instance_for, is_at, is_phase_read, kind_of_step, known_of, lease_calls, own_block, same_kind, shared_elsewhere, spot_of_call}
+use Rattle.sl_due_leases.proofs.Ways.GivenReads.{heard_by_lease}
+use Rattle.sl_run.specs.Caused.{Answering, AnswersCall, AnswersRead, BlockIsNext, CausedBy, ReadsBlocks, after_entry, known_here, the_session}
+use Rattle.sl_trace.specs.LeaseWork.{asked_again, first_step, read_of_step}
+use Rattle.sl_trace.specs.Leases.{LeaseKnown, StepKind, blocks_given, instance_for, is_at, kind_of_step, known_of, lease_calls, own_block, read_given, same_kind, shared_elsewhere, spot_of_call}
 use Rattle.sl_trace.specs.declared.lease.LeaseNext.TheVariants.{AnswerJob, BecomeExclusive, BecomeShared, GrantJob, Nothing, ReadFor, WriteBlock, WriteLeader}
 use Rattle.sl_trace.specs.declared.lease.LeaseNext.{LeaseNext}
 use Rattle.sl_sector.specs.declared.sector.Block.{Block}
@@ -12,15 +13,14 @@ use Rattle.sl_trace.specs.Watching.{counts_over}
 use Rattle.sl_trace.specs.declared.session.Session.{Session}
 use Rattle.sl_trace.specs.Traces.{Submitted, bytes_given, gave}
 use Rattle.sl_trace.specs.declared.command.Command.{Command}
-use Rattle.sl_trace.specs.declared.effects.LeaseStep.TheVariants.{Phase1Read, Phase2Read, ReadArea}
 use Rattle.sl_trace.specs.declared.effects.LeaseStep.{LeaseStep}
 use Rattle.sl_trace.specs.declared.effects.Purpose.TheVariants.{Lease}
 use Rattle.sl_trace.specs.declared.effects.Work.TheVariants.{ForJob}
 use Rattle.sl_trace.specs.declared.input.Answer.TheVariants.{Read}
 use Rattle.sl_trace.specs.declared.input.Answer.{Answer}
 use Rattle.sl_trace.specs.declared.reply.Reply.{Reply}
-use Rattle.std.proofs.Common.{ap, ◌∙◌}
-use Rattle.std.specs.Prelude.{Bool, List, Ok, Option, Some, [], true, ℕ, ◌++◌, ◌∷◌, ◌≡◌, ◌||◌, false}
+use Rattle.std.proofs.Common.{◌∙◌}
+use Rattle.std.specs.Prelude.{Bool, List, None, Ok, Option, Some, [], is_some, true, ℕ, ◌++◌, ◌∷◌, ◌≡◌}
 
 -- The answer of the session's call at this step, for the job with this command; what was known of the lease by it.
 pub record LeaseHeard (y : Answering) (s : Session) (c : Submitted) (a : Answer) (step : LeaseStep) (command : Command) : Type 0 where
@@ -37,8 +37,9 @@ pub record LeaseHeard (y : Answering) (s : Session) (c : Submitted) (a : Answer)
   pub calls : lease_calls y.setting (after_entry y) s (spot_of_call y.setting.layout c) ≡ c ∷ before
   pub gives : gave c ≡ bytes_given a
   pub for_job : c.call.purpose ≡ Lease (ForJob y.job.number) step
-  -- a block has one sector
-  pub plain : y.setting.layout.paired ≡ false
+  -- a read that isn't made once more gave what the lease decides by
+  pub told : (bytes : List ℕ) → gave c ≡ Some bytes → is_some (read_of_step (first_step step)) ≡ true → asked_again y.setting.layout bytes step ≡ None →
+      read_given y.setting.layout c before ≡ Some (heard_by_lease y.setting.layout c before bytes step)
   -- the entry's end shows no more of it
   pub instances : (l : Leader) (own : Block) (read : List (Option Block)) →
       instance_for (known_here y s c) l own read
@@ -52,38 +53,22 @@ pub record LeaseHeard (y : Answering) (s : Session) (c : Submitted) (a : Answer)
 abbrev pub knows : {y : Answering} {s : Session} {c : Submitted} {a : Answer} {step : LeaseStep} {command : Command} → LeaseHeard y s c a step command → LeaseKnown
 knows {y} {s} {c} {a} {step} {command} h = known_of y.setting.layout s.lockspace (record { id = s.id; generation = h.generation }) h.shared h.exclusive h.over (c ∷ h.before)
 
--- What comes next has its cause, if it is one of these replies.
+-- What comes next has its cause, if it is one of these replies; and where it is a block, that it is has its own.
 abbrev pub IsWell : (Reply → Bool) → Answering → LeaseNext → Type 0
 IsWell these y Nothing = Unit {0}
 IsWell these y (ReadFor step) = Unit {0}
-IsWell these y (WriteBlock step b) = Unit {0}
+IsWell these y (WriteBlock step b) = BlockIsNext y
 IsWell these y (WriteLeader step l) = Unit {0}
 IsWell these y (AnswerJob why) = these why ≡ true → CausedBy y why
 IsWell these y (GrantJob mode lver) = Unit {0}
 IsWell these y (BecomeShared lver l) = Unit {0}
-IsWell these y (BecomeExclusive lver b) = Unit {0}
+IsWell these y (BecomeExclusive lver b) = BlockIsNext y
 
 -- ---- the read
 
-pub area_given : (y : Answering) (s : Session) (c : Submitted) (bytes name : List ℕ) (command : Command) → (h : LeaseHeard y s c (Read bytes) (ReadArea name) command)
-    → blocks_given y.setting.layout c h.before ≡ Some (area_blocks y.setting.layout bytes)
-area_given y s c bytes name command h = area_gives y.setting.layout h.plain c h.before bytes (ForJob y.job.number) name h.gives h.for_job
-
-pub phase1_given : (y : Answering) (s : Session) (c : Submitted) (bytes : List ℕ) (command : Command) → (h : LeaseHeard y s c (Read bytes) Phase1Read command)
-    → blocks_given y.setting.layout c h.before ≡ Some (blocks_in y.setting.layout bytes)
-phase1_given y s c bytes command h = phase1_gives y.setting.layout h.plain c h.before bytes (ForJob y.job.number) h.gives h.for_job
-
-pub phase2_given : (y : Answering) (s : Session) (c : Submitted) (bytes : List ℕ) (command : Command) → (h : LeaseHeard y s c (Read bytes) Phase2Read command)
-    → blocks_given y.setting.layout c h.before ≡ Some (blocks_in y.setting.layout bytes)
-phase2_given y s c bytes command h = phase2_gives y.setting.layout h.plain c h.before bytes (ForJob y.job.number) h.gives h.for_job
-
 pub at_step : (y : Answering) (s : Session) (c : Submitted) (a : Answer) (step : LeaseStep) (command : Command) → LeaseHeard y s c a step command
     → (kind : StepKind) → same_kind (kind_of_step step) kind ≡ true → is_at kind c ≡ true
-at_step y s c a step command h kind is = ap (λ p. is_at_in kind p) h.for_job ∙ is
-
-pub phase_step : (y : Answering) (s : Session) (c : Submitted) (a : Answer) (step : LeaseStep) (command : Command) → LeaseHeard y s c a step command
-    → (same_kind (kind_of_step step) Phase1_read || same_kind (kind_of_step step) Phase2_read) ≡ true → is_phase_read c ≡ true
-phase_step y s c a step command h is = ap (λ p. is_at_in Phase1_read p || is_at_in Phase2_read p) h.for_job ∙ is
+at_step y s c a step command h kind is = at_kind kind c (ForJob y.job.number) step h.for_job ∙ is
 
 -- ---- what it shows
 

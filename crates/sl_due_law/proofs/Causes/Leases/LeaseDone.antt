@@ -1,8 +1,9 @@
 -- Work on a lease is answered as done only for a release, by the write that frees the leader or clears the mode.
+use Rattle.sl_acts.proofs.Pairs.Decisions.{within_cases}
 use Rattle.sl_due_facts.proofs.Jobs.RepliesComeAfter.{mapped_or, on_bool, on_option}
 use Rattle.sl_due_law.proofs.Causes.Leases.ReadNexts.{bytes_by}
 use Rattle.sl_trace.specs.Ballots.{phase1_block, same_owner, stop_of, value_of}
-use Rattle.sl_trace.specs.LeaseWork.{LeasePlace, after_bytes, after_moding, after_phase1, after_phase2, after_read, after_take, area_next, begin_next, begin_or_refuse, first_step, lease_next, looks_for_shared, lost_next, named_area_next, phase1_next, phase2_next, refuses, settle_next, settle_owed, stop_reply, stopped_next, whole_area_next, won_next}
+use Rattle.sl_trace.specs.LeaseWork.{LeasePlace, after_bytes, after_moding, after_phase1, after_phase2, after_read, after_take, area_next, begin_next, begin_or_refuse, first_step, lease_next, looks_for_shared, lost_next, named_area_next, phase1_next, phase2_next, refuses, settle_next, settle_owed, stop_reply, stopped_next, whole_area_next, within_turn, won_next}
 use Rattle.sl_trace.specs.Leases.{LeaseKnown, instance_for, is_leader_of, mode_gen_of, owed, owed_free, own_known, shared_elsewhere}
 use Rattle.sl_trace.specs.declared.lease.Owed.TheVariants.{BallotOwed, FreeOwed, ModeOwed}
 use Rattle.sl_trace.specs.declared.lease.Owed.{Owed}
@@ -23,7 +24,7 @@ use Rattle.sl_trace.specs.declared.effects.LeaseStep.TheVariants.{ClearMode, Fre
 use Rattle.sl_trace.specs.declared.effects.Mode.TheVariants.{Exclusive, Shared}
 use Rattle.sl_trace.specs.declared.input.Answer.{Answer}
 use Rattle.sl_trace.specs.declared.input.Answer.TheVariants.{Failed, Read, Written}
-use Rattle.sl_trace.specs.declared.reply.Limited.TheVariants.{Lver as LverLimit, Mbal as MbalLimit}
+use Rattle.sl_trace.specs.declared.reply.Limited.TheVariants.{Lver as LverLimit, Mbal as MbalLimit, Turn as TurnLimit}
 use Rattle.sl_trace.specs.declared.reply.Reply.{Reply}
 use Rattle.sl_trace.specs.declared.reply.Reply.TheVariants.{Done, Held as HeldBy, IoFault, Limit as LimitReached, Shared as SharedBy, TornBlock, TornLeader, WrongArea}
 use Rattle.sl_words.proofs.CaseLaws.{true_is_false}
@@ -192,3 +193,9 @@ done_by p k (Acquires mode) call n ClearMode Written job is = absurd (never_done
 done_by p k (Converts mode) call n ClearMode Written job is = absurd (never_done Nothing tt is)
 done_by p k Releases call n ClearMode Written job is = record { releases = refl; written = refl; last = inr refl }
 done_by p k Settles call n ClearMode Written job is = absurd job
+
+-- .. also where it is bounded by its turn.
+pub done_within : (p : LeasePlace) (k : LeaseKnown) (aim : Aim) (call n : ℕ) (step : LeaseStep) (answer : Answer) → IsForJob aim → within_turn p k aim (lease_next p k aim call n step answer) ≡ AnswerJob Done → DoneBy aim step answer
+done_within p k aim call n step answer job is =
+    within_cases (λ z. z ≡ AnswerJob Done → DoneBy aim step answer) p k aim (lease_next p k aim call n step answer) (λ fits. done_by p k aim call n step answer job)
+    (λ paired over writes at. absurd (never_done (refuses aim (LimitReached TurnLimit)) (refuses_not aim (LimitReached TurnLimit) refl) at)) is

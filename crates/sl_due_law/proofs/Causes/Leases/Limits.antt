@@ -20,7 +20,7 @@ use Rattle.sl_trace.specs.declared.reply.Reply.TheVariants.{Limit as LimitReache
 use Rattle.sl_trace.specs.declared.reply.Reply.{Reply}
 use Rattle.sl_words.specs.Bounds.{is_number, record_numbers}
 use Rattle.sl_words.specs.Words.{present}
-use Rattle.std.proofs.Common.{ap, arith, refl, subst, sym, tests, ◌∙◌}
+use Rattle.std.proofs.Common.{ap, arith, inl, refl, subst, sym, tests, ◌∙◌}
 use Rattle.std.specs.Prelude.{Bool, List, None, Option, Some, false, map, nat_lt, true, ℕ, ◌∷◌, ◌≡◌, ◌≤◌}
 
 -- A refusal, where there is anybody to refuse.
@@ -63,7 +63,8 @@ phase1_well these y s c bytes step command aim h blocks own given is n begun b l
     refuses_well these y aim (LimitReached MbalLimit)
     (λ shown. reads_blocks y s c bytes step command h blocks own given is (λ s c blocks own. (n : ℕ) × BeginsAt y s c blocks own n × (record_numbers ≤ next_number y.setting s n own (present blocks)))
     (n, begun, not_number (next_number y.setting s n own (present blocks)) (ap (λ m. is_number m) (sym mbal) ∙ few)))
-phase1_well these y s c bytes step command aim h blocks own given is n begun b lver mbal true low true few = tt
+phase1_well these y s c bytes step command aim h blocks own given is n begun b lver mbal true low true few =
+    inl (reads_blocks y s c bytes step command h blocks own given is (λ s c blocks own. (n : ℕ) × BeginsAt y s c blocks own n) (n, begun))
 
 abbrev began : Setting → LeaseKnown → Aim → ℕ → Block → LeaseNext
 began st k aim n own = phase1_next aim (phase1_block k.self st.layout.hosts n k.shared (mode_gen_of k) own (present k.read))

@@ -1,22 +1,22 @@
--- The ways of a lease's calls where an answer to the newest of them was heard.
+-- The ways of a lease's calls where an answer to the newest of them was heard, and what that gave.
 use Rattle.sl_acts.specs.Acts.{Hears}
 use Rattle.sl_due.specs.Steps.{Step, seen}
-use Rattle.sl_due_facts.specs.Facts.WayFacts.{PurposeWay, StepWay, Ways, way_context}
+use Rattle.sl_due_facts.specs.Facts.WayFacts.{Ways, way_context}
 use Rattle.sl_due_facts.specs.Facts.Whole.{Whole}
+use Rattle.sl_due_leases.proofs.Ways.GivenReads.{given_heard, heard_by_lease}
 use Rattle.sl_due_leases.proofs.Ways.Kept.EffectsLeave.{there_has}
 use Rattle.sl_due_leases.proofs.Ways.Kept.HeardStands.{heard_call, heard_has, heard_open}
 use Rattle.sl_due_leases.proofs.Ways.Places.{spot_aligned}
-use Rattle.sl_trace.specs.Leases.{lease_calls, lease_step, spot_of_call}
-use Rattle.sl_trace.specs.Traces.{Setting, Submitted}
-use Rattle.sl_trace.specs.declared.effects.LeaseStep.TheVariants.{ReadAgain, ReadBeforeBlock}
+use Rattle.sl_trace.specs.LeaseWork.{asked_again, first_step, read_of_step}
+use Rattle.sl_trace.specs.Leases.{lease_calls, lease_step, read_given, spot_of_call}
+use Rattle.sl_trace.specs.Traces.{Submitted, gave}
 use Rattle.sl_trace.specs.declared.effects.LeaseStep.{LeaseStep}
 use Rattle.sl_trace.specs.declared.effects.Purpose.TheVariants.{Lease}
 use Rattle.sl_trace.specs.declared.effects.Work.{Work}
 use Rattle.sl_trace.specs.declared.input.Answer.{Answer}
 use Rattle.sl_trace.specs.declared.session.Session.{Session}
-use Rattle.sl_words.proofs.CaseLaws.{not_both}
 use Rattle.std.proofs.Common.{ap, subst}
-use Rattle.std.specs.Prelude.{List, false, is_some, ◌∷◌, ◌≡◌}
+use Rattle.std.specs.Prelude.{List, None, Some, is_some, true, ℕ, ◌∷◌, ◌≡◌}
 
 -- The heard call is the lease's newest, and each has its way.
 pub record NewestWays (x : Step) (s : Session) (m : Submitted) : Type 0 where
@@ -34,22 +34,8 @@ newest_ways x s work step m answer w h is =
       ways = subst (λ ms. Ways (way_context x.setting (seen x) s) ms) first.1 (w.facts.ways.each s (spot_of_call x.setting.layout m) inside (spot_aligned x.setting.layout.area m.call.offset));
     }
 
--- ---- where a block has one sector
-
--- A step that needs no pairs.
-abbrev pub IsPlainStep : LeaseStep → Type 0
-IsPlainStep ReadBeforeBlock = ⊥
-IsPlainStep (ReadAgain read) = ⊥
-IsPlainStep step = Unit {0}
-
-plain_by : (st : Setting) (x : Step) (s : Session) (work : Work) (m : Submitted) (rest : List Submitted) (step : LeaseStep) → st.layout.paired ≡ false
-    → StepWay (way_context st (seen x) s) work m.at m.call rest step → IsPlainStep step
-plain_by st x s work m rest ReadBeforeBlock plain way = not_both st.layout.paired way plain
-plain_by st x s work m rest (ReadAgain read) plain way = not_both st.layout.paired way plain
-plain_by st x s work m rest step plain way = tt
-
--- Only such a step has been made.
-pub plain_step : (x : Step) (s : Session) (work : Work) (step : LeaseStep) (m : Submitted) (answer : Answer) → Whole x → Hears x s m answer → m.call.purpose ≡ Lease work step → IsPlainStep step
-plain_step x s work step m answer w h is =
-    let n : NewestWays x s m = newest_ways x s work step m answer w h is in
-    plain_by x.setting x s work m n.rest step w.setting.unpaired (subst (λ p. PurposeWay (way_context x.setting (seen x) s) m.at m.call n.rest p) is n.ways.0.way)
+-- What its read gave, where it isn't made once more, is what the lease decides by.
+pub newest_told : (x : Step) (s : Session) (work : Work) (step : LeaseStep) (m : Submitted) (n : NewestWays x s m) → m.call.purpose ≡ Lease work step → (bytes : List ℕ) → gave m ≡ Some bytes
+    → is_some (read_of_step (first_step step)) ≡ true → asked_again x.setting.layout bytes step ≡ None
+    → read_given x.setting.layout m n.rest ≡ Some (heard_by_lease x.setting.layout m n.rest bytes step)
+newest_told x s work step m n is bytes gives reads once = given_heard (way_context x.setting (seen x) s) m n.rest work step bytes n.ways.0 is gives reads once

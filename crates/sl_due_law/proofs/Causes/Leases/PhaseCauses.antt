@@ -1,13 +1,12 @@
 -- The cause of what the reads of a ballot's two phases are answered with.
-use Rattle.sl_area.specs.Places.{blocks_in}
 use Rattle.sl_due_law.proofs.Causes.AnsweredJobs.{with_command}
-use Rattle.sl_due_law.proofs.Causes.Leases.Hearing.{IsWell, LeaseHeard, at_step, knows, phase1_given, phase2_given, phase_step, reads_blocks}
+use Rattle.sl_due_law.proofs.Causes.Leases.Hearing.{IsWell, LeaseHeard, knows, reads_blocks}
 use Rattle.sl_due_law.proofs.Causes.Leases.Limits.{begin_well}
-use Rattle.sl_run.specs.Caused.{Answering, CausedBy, EndsWith, IsStopRead, ShowsInstance, after_entry, job_command, known_here}
+use Rattle.sl_run.specs.Caused.{Answering, BlockIsNext, CausedBy, EndsWith, IsStopRead, ReadsBlocks, ShowsInstance, after_entry, job_command, known_here}
 use Rattle.sl_trace.specs.Ballots.{same_owner, stop_of, value_of}
 use Rattle.sl_trace.specs.Jobs.{aim_of_command, wants_shared}
 use Rattle.sl_trace.specs.LeaseWork.{after_phase1, after_phase2, begin_next, lease_place, looks_for_shared, lost_next, phase2_next, stop_reply, stopped_next, won_next}
-use Rattle.sl_trace.specs.Leases.{Phase1_read, Phase2_read, block_submitted, blocks_given, is_at, is_phase_read, last_blocks, own_block, own_or_read, shared_elsewhere}
+use Rattle.sl_trace.specs.Leases.{LeaseKnown, StepKind, Phase1_read, Phase2_read, block_submitted, blocks_given, is_at, is_phase_read, last_blocks, own_block, own_or_read, shared_elsewhere}
 use Rattle.sl_trace.specs.declared.lease.Aim.TheVariants.{Acquires, Converts, Releases, Settles}
 use Rattle.sl_trace.specs.declared.lease.Aim.{Aim}
 use Rattle.sl_trace.specs.declared.lease.Instance.TheVariants.{HeldAlready}
@@ -21,30 +20,38 @@ use Rattle.sl_trace.specs.declared.session.Session.{Session}
 use Rattle.sl_trace.specs.Traces.{Submitted, is_shared}
 use Rattle.sl_trace.specs.declared.command.Command.TheVariants.{Acquire, AddLockspace, Convert, GetLvb, HostStatus, InqLockspace, Release, ReleaseOrphan, RemLockspace, Request, RunProgram, SetKillpath, SetLvb, Status, TakeOver}
 use Rattle.sl_trace.specs.declared.command.Command.{Command}
-use Rattle.sl_trace.specs.declared.effects.LeaseStep.TheVariants.{Phase1Read, Phase2Read}
 use Rattle.sl_trace.specs.declared.effects.LeaseStep.{LeaseStep}
 use Rattle.sl_trace.specs.declared.effects.Mode.TheVariants.{Exclusive, Shared}
 use Rattle.sl_trace.specs.declared.effects.Mode.{Mode}
 use Rattle.sl_trace.specs.declared.input.Answer.TheVariants.{Read}
 use Rattle.sl_trace.specs.declared.reply.Reply.TheVariants.{Held as HeldBy, Shared as SharedBy}
 use Rattle.sl_trace.specs.declared.reply.Reply.{Reply}
-use Rattle.sl_words.proofs.CaseLaws.{false_is_true, none_some, some_value}
-use Rattle.std.proofs.Common.{ap, inr, refl, sym, ◌∙◌}
+use Rattle.sl_words.proofs.CaseLaws.{false_is_true, none_some, some_value, true_is_false}
+use Rattle.std.proofs.Common.{ap, inl, inr, refl, sym, ◌∙◌}
 use Rattle.std.specs.Option.{option_map_or}
-use Rattle.std.specs.Prelude.{Bool, IsFalse, IsTrue, List, None, Option, Some, false, not, true, ℕ, ◌+◌, ◌∷◌, ◌≡◌, ◌⊎◌}
+use Rattle.std.specs.Prelude.{Bool, IsFalse, IsTrue, List, None, Option, Some, false, not, true, ℕ, ◌+◌, ◌∷◌, ◌≡◌, ◌||◌, ◌⊎◌}
 
 -- The own block is that which was last submitted.
 own_is : (y : Answering) (s : Session) (ms : List Submitted) (own : Block) → block_submitted ms ≡ Some own → own_block y.setting.layout s.id ms ≡ Some own
 own_is y s ms own is = ap (λ o. own_or_read s.id o (last_blocks y.setting.layout ms)) is
 
+-- A read of a ballot that gave these blocks, at this step or made once more.
+pub record PhaseHeard (y : Answering) (s : Session) (c : Submitted) (bytes : List ℕ) (step : LeaseStep) (command : Command) (kind : StepKind) (blocks : List (Option Block)) : Type 0 where
+  pub heard : LeaseHeard y s c (Read bytes) step command
+  pub given : blocks_given y.setting.layout c heard.before ≡ Some blocks
+  pub at : is_at kind c ≡ true
+
+-- What shows so to a job that looks at it.
+shows : (y : Answering) (s : Session) (c : Submitted) (bytes : List ℕ) (step : LeaseStep) (command : Command) (kind : StepKind) (blocks : List (Option Block)) → (h : PhaseHeard y s c bytes step command kind blocks)
+    → (own : Block) → block_submitted (c ∷ h.heard.before) ≡ Some own → (P : Session → Submitted → List (Option Block) → Block → Type 0) → P s c blocks own → ReadsBlocks y P
+shows y s c bytes step command kind blocks h own known P holds = reads_blocks y s c bytes step command h.heard blocks own h.given (own_is y s (c ∷ h.heard.before) own known) P holds
+
 -- ---- what stops a ballot
 
-stopped : (y : Answering) (s : Session) (c : Submitted) (bytes : List ℕ) (step : LeaseStep) (command : Command) → (h : LeaseHeard y s c (Read bytes) step command)
-    → is_phase_read c ≡ true → (blocks : List (Option Block)) (own : Block) → blocks_given y.setting.layout c h.before ≡ Some blocks → block_submitted (c ∷ h.before) ≡ Some own
-    → (stop : Stop) → stop_of own blocks ≡ Some stop → IsStopRead y stop
-stopped y s c bytes step command h phase blocks own given known stop is =
-    reads_blocks y s c bytes step command h blocks own given (own_is y s (c ∷ h.before) own known)
-    (λ s c blocks own. IsTrue (is_phase_read c) × (stop_of own blocks ≡ Some stop)) (phase, is)
+stopped : (y : Answering) (s : Session) (c : Submitted) (bytes : List ℕ) (step : LeaseStep) (command : Command) (kind : StepKind) (blocks : List (Option Block)) → (h : PhaseHeard y s c bytes step command kind blocks)
+    → is_phase_read c ≡ true → (own : Block) → block_submitted (c ∷ h.heard.before) ≡ Some own → (stop : Stop) → stop_of own blocks ≡ Some stop → IsStopRead y stop
+stopped y s c bytes step command kind blocks h phase own known stop is =
+    shows y s c bytes step command kind blocks h own known (λ s c blocks own. IsTrue (is_phase_read c) × (stop_of own blocks ≡ Some stop)) (phase, is)
 
 stop_caused : (y : Answering) (stop : Stop) → IsStopRead y stop → CausedBy y (stop_reply stop)
 stop_caused y (BlockTorn host) is = inr is
@@ -84,40 +91,79 @@ wants_none (SetLvb r p bytes) aim is looks = absurd (none_some aim is)
 wants_none (SetKillpath p path) aim is looks = absurd (none_some aim is)
 wants_none Status aim is looks = absurd (none_some aim is)
 
-shared_well : (these : Reply → Bool) (y : Answering) (s : Session) (c : Submitted) (bytes : List ℕ) (command : Command) → (h : LeaseHeard y s c (Read bytes) Phase1Read command)
-    → wants_shared command ≡ false → (own : Block) → block_submitted (c ∷ h.before) ≡ Some own → stop_of own (blocks_in y.setting.layout bytes) ≡ None
-    → (o : Option Block) → shared_elsewhere (knows h) (blocks_in y.setting.layout bytes) ≡ o
+-- Whoever doesn't look wants it, unless it gives up what it holds.
+looks_shared : (b : Bool) (make : Mode → Aim) → ((mode : Mode) → looks_for_shared (make mode) ≡ not (is_shared mode)) → (aim : Aim) → Some (make (elim b as (λ z. Mode) [ true ↦ Shared | false ↦ Exclusive ])) ≡ Some aim
+    → looks_for_shared aim ≡ false → b ≡ true
+looks_shared true make says aim is looks = refl
+looks_shared false make says aim is looks = absurd (true_is_false (sym (says Exclusive) ∙ (ap (λ a. looks_for_shared a) (some_value (make Exclusive) aim is) ∙ looks)))
+
+wants_some : (c : Command) (aim : Aim) → aim_of_command c ≡ Some aim → looks_for_shared aim ≡ false → (aim ≡ Releases → ⊥) → wants_shared c ≡ true
+wants_some (Acquire r shared p persistent) aim is looks keeps = looks_shared shared (λ mode. Acquires mode) acquires_alone aim is looks
+wants_some (RunProgram r shared path) aim is looks keeps = looks_shared shared (λ mode. Acquires mode) acquires_alone aim is looks
+wants_some (Convert r shared p) aim is looks keeps = looks_shared shared (λ mode. Converts mode) converts_alone aim is looks
+wants_some (Release r p) aim is looks keeps = absurd (keeps (sym (some_value Releases aim is)))
+wants_some (ReleaseOrphan r) aim is looks keeps = absurd (keeps (sym (some_value Releases aim is)))
+wants_some (AddLockspace a) aim is looks keeps = absurd (none_some aim is)
+wants_some (RemLockspace a) aim is looks keeps = absurd (none_some aim is)
+wants_some (InqLockspace a) aim is looks keeps = absurd (none_some aim is)
+wants_some (HostStatus a) aim is looks keeps = absurd (none_some aim is)
+wants_some (TakeOver r shared p persistent) aim is looks keeps = absurd (none_some aim is)
+wants_some (Request r lver force) aim is looks keeps = absurd (none_some aim is)
+wants_some (GetLvb r p) aim is looks keeps = absurd (none_some aim is)
+wants_some (SetLvb r p bytes) aim is looks keeps = absurd (none_some aim is)
+wants_some (SetKillpath p path) aim is looks keeps = absurd (none_some aim is)
+wants_some Status aim is looks keeps = absurd (none_some aim is)
+
+abbrev Phase1Heard : Answering → Session → Submitted → List ℕ → LeaseStep → Command → List (Option Block) → Type 0
+Phase1Heard y s c bytes step command blocks = PhaseHeard y s c bytes step command Phase1_read blocks
+
+-- Phase 2 is next.
+goes_on : (y : Answering) (s : Session) (c : Submitted) (bytes : List ℕ) (step : LeaseStep) (command : Command) (blocks : List (Option Block)) → (h : Phase1Heard y s c bytes step command blocks)
+    → (own : Block) → block_submitted (c ∷ h.heard.before) ≡ Some own → stop_of own blocks ≡ None → (wants_shared command ≡ true) ⊎ (shared_elsewhere (knows h.heard) blocks ≡ None) → BlockIsNext y
+goes_on y s c bytes step command blocks h own known clear may =
+    inr (inl (shows y s c bytes step command Phase1_read blocks h own known
+    (λ s c blocks own. IsTrue (is_at Phase1_read c) × (stop_of own blocks ≡ None) × job_command y (λ a. (wants_shared a ≡ true) ⊎ (shared_elsewhere (known_here y s c) blocks ≡ None)))
+    (h.at, clear, with_command y command (λ a. (wants_shared a ≡ true) ⊎ (shared_elsewhere (known_here y s c) blocks ≡ None)) h.heard.commanded (here may))))
+  where
+    here : (wants_shared command ≡ true) ⊎ (shared_elsewhere (knows h.heard) blocks ≡ None) → (wants_shared command ≡ true) ⊎ (shared_elsewhere (known_here y s c) blocks ≡ None)
+    here (inl wants) = inl wants
+    here (inr none) = inr (h.heard.modes blocks ∙ none)
+
+shared_well : (these : Reply → Bool) (y : Answering) (s : Session) (c : Submitted) (bytes : List ℕ) (step : LeaseStep) (command : Command) (blocks : List (Option Block)) → (h : Phase1Heard y s c bytes step command blocks)
+    → wants_shared command ≡ false → (own : Block) → block_submitted (c ∷ h.heard.before) ≡ Some own → stop_of own blocks ≡ None
+    → (o : Option Block) → shared_elsewhere (knows h.heard) blocks ≡ o
     → IsWell these y (elim o as (λ z. LeaseNext) [
       | Some b ↦ AnswerJob (SharedBy (record { id = b.host; generation = b.mode_gen }))
-      | None ↦ phase2_next (knows h) own (blocks_in y.setting.layout bytes)
+      | None ↦ phase2_next (knows h.heard) own blocks
     ])
-shared_well these y s c bytes command h alone own known clear None none = tt
-shared_well these y s c bytes command h alone own known clear (Some b) some = λ shown.
-    reads_blocks y s c bytes Phase1Read command h (blocks_in y.setting.layout bytes) own (phase1_given y s c bytes command h) (own_is y s (c ∷ h.before) own known)
+shared_well these y s c bytes step command blocks h alone own known clear None none = goes_on y s c bytes step command blocks h own known clear (inr none)
+shared_well these y s c bytes step command blocks h alone own known clear (Some b) some = λ shown.
+    shows y s c bytes step command Phase1_read blocks h own known
     (λ s c blocks own. IsTrue (is_at Phase1_read c) × job_command y (λ a. wants_shared a ≡ false) × (stop_of own blocks ≡ None) × (d : Block)
     × (shared_elsewhere (known_here y s c) blocks ≡ Some d) × (d.host ≡ b.host) × (d.mode_gen ≡ b.mode_gen)) (
-      at_step y s c (Read bytes) Phase1Read command h Phase1_read refl,
-      with_command y command (λ a. wants_shared a ≡ false) h.commanded alone,
+      h.at,
+      with_command y command (λ a. wants_shared a ≡ false) h.heard.commanded alone,
       clear,
       b,
-      h.modes (blocks_in y.setting.layout bytes) ∙ some,
+      h.heard.modes blocks ∙ some,
       refl,
       refl,
     )
 
-looked_well : (these : Reply → Bool) (y : Answering) (s : Session) (c : Submitted) (bytes : List ℕ) (command : Command) (aim : Aim) → (h : LeaseHeard y s c (Read bytes) Phase1Read command)
-    → aim_of_command command ≡ Some aim → (own : Block) → block_submitted (c ∷ h.before) ≡ Some own → stop_of own (blocks_in y.setting.layout bytes) ≡ None
+looked_well : (these : Reply → Bool) (y : Answering) (s : Session) (c : Submitted) (bytes : List ℕ) (step : LeaseStep) (command : Command) (aim : Aim) (blocks : List (Option Block)) → (h : Phase1Heard y s c bytes step command blocks)
+    → aim_of_command command ≡ Some aim → (aim ≡ Releases → ⊥) → (own : Block) → block_submitted (c ∷ h.heard.before) ≡ Some own → stop_of own blocks ≡ None
     → (looks : Bool) → looks_for_shared aim ≡ looks
     → IsWell these y (elim looks as (λ z. LeaseNext) [
-      | false ↦ phase2_next (knows h) own (blocks_in y.setting.layout bytes)
-      | true ↦ elim (shared_elsewhere (knows h) (blocks_in y.setting.layout bytes)) as (λ z. LeaseNext) [
+      | false ↦ phase2_next (knows h.heard) own blocks
+      | true ↦ elim (shared_elsewhere (knows h.heard) blocks) as (λ z. LeaseNext) [
         | Some b ↦ AnswerJob (SharedBy (record { id = b.host; generation = b.mode_gen }))
-        | None ↦ phase2_next (knows h) own (blocks_in y.setting.layout bytes)
+        | None ↦ phase2_next (knows h.heard) own blocks
       ]
     ])
-looked_well these y s c bytes command aim h aims own known clear false looks = tt
-looked_well these y s c bytes command aim h aims own known clear true looks =
-    shared_well these y s c bytes command h (wants_none command aim aims looks) own known clear (shared_elsewhere (knows h) (blocks_in y.setting.layout bytes)) refl
+looked_well these y s c bytes step command aim blocks h aims keeps own known clear false looks =
+    goes_on y s c bytes step command blocks h own known clear (inl (wants_some command aim aims looks keeps))
+looked_well these y s c bytes step command aim blocks h aims keeps own known clear true looks =
+    shared_well these y s c bytes step command blocks h (wants_none command aim aims looks) own known clear (shared_elsewhere (knows h.heard) blocks) refl
 
 -- No job only settles.
 pub no_settling : (c : Command) → aim_of_command c ≡ Some Settles → ⊥
@@ -145,84 +191,89 @@ stop_well these y s c bytes step command (Converts mode) h aims stop is = λ sho
 stop_well these y s c bytes step command Releases h aims stop is = λ shown. stop_caused y stop is
 stop_well these y s c bytes step command Settles h aims stop is = absurd (no_settling command aims)
 
-phase1_by : (these : Reply → Bool) (y : Answering) (s : Session) (c : Submitted) (bytes : List ℕ) (command : Command) (aim : Aim) → (h : LeaseHeard y s c (Read bytes) Phase1Read command)
-    → aim_of_command command ≡ Some aim → (own : Block) → block_submitted (c ∷ h.before) ≡ Some own → (stop : Option Stop) → stop_of own (blocks_in y.setting.layout bytes) ≡ stop
-    → IsWell these y (after_phase1 (lease_place y.setting s) (knows h) aim own (blocks_in y.setting.layout bytes) stop)
-phase1_by these y s c bytes command aim h aims own known None clear = looked_well these y s c bytes command aim h aims own known clear (looks_for_shared aim) refl
-phase1_by these y s c bytes command aim h aims own known (Some stop) is =
-    stop_well these y s c bytes Phase1Read command aim h aims stop
-    (stopped y s c bytes Phase1Read command h (phase_step y s c (Read bytes) Phase1Read command h refl) (blocks_in y.setting.layout bytes) own (phase1_given y s c bytes command h) known stop is)
+phase1_by : (these : Reply → Bool) (y : Answering) (s : Session) (c : Submitted) (bytes : List ℕ) (step : LeaseStep) (command : Command) (aim : Aim) (blocks : List (Option Block)) → (h : Phase1Heard y s c bytes step command blocks)
+    → aim_of_command command ≡ Some aim → (aim ≡ Releases → ⊥) → (own : Block) → block_submitted (c ∷ h.heard.before) ≡ Some own → (stop : Option Stop) → stop_of own blocks ≡ stop
+    → IsWell these y (after_phase1 (lease_place y.setting s) (knows h.heard) aim own blocks stop)
+phase1_by these y s c bytes step command aim blocks h aims keeps own known None clear = looked_well these y s c bytes step command aim blocks h aims keeps own known clear (looks_for_shared aim) refl
+phase1_by these y s c bytes step command aim blocks h aims keeps own known (Some stop) is =
+    stop_well these y s c bytes step command aim h.heard aims stop
+    (stopped y s c bytes step command Phase1_read blocks h (ap (λ b. b || is_at Phase2_read c) h.at) own known stop is)
 
 -- What the read of phase 1 leads to has its cause.
-pub phase1_well : (these : Reply → Bool) (y : Answering) (s : Session) (c : Submitted) (bytes : List ℕ) (command : Command) (aim : Aim) → (h : LeaseHeard y s c (Read bytes) Phase1Read command)
-    → aim_of_command command ≡ Some aim → (o : Option Block) → block_submitted (c ∷ h.before) ≡ o
-    → IsWell these y (option_map_or (λ own. after_phase1 (lease_place y.setting s) (knows h) aim own (blocks_in y.setting.layout bytes) (stop_of own (blocks_in y.setting.layout bytes))) o Nothing)
-phase1_well these y s c bytes command aim h aims None known = tt
-phase1_well these y s c bytes command aim h aims (Some own) known = phase1_by these y s c bytes command aim h aims own known (stop_of own (blocks_in y.setting.layout bytes)) refl
+pub phase1_well : (these : Reply → Bool) (y : Answering) (s : Session) (c : Submitted) (bytes : List ℕ) (step : LeaseStep) (command : Command) (aim : Aim) (blocks : List (Option Block)) → (h : Phase1Heard y s c bytes step command blocks)
+    → aim_of_command command ≡ Some aim → (aim ≡ Releases → ⊥) → (o : Option Block) → block_submitted (c ∷ h.heard.before) ≡ o
+    → IsWell these y (option_map_or (λ own. after_phase1 (lease_place y.setting s) (knows h.heard) aim own blocks (stop_of own blocks)) o Nothing)
+phase1_well these y s c bytes step command aim blocks h aims keeps None known = tt
+phase1_well these y s c bytes step command aim blocks h aims keeps (Some own) known = phase1_by these y s c bytes step command aim blocks h aims keeps own known (stop_of own blocks) refl
 
 -- ---- phase 2
 
-phase2_blocks : (y : Answering) (s : Session) (c : Submitted) (bytes : List ℕ) (command : Command) → (h : LeaseHeard y s c (Read bytes) Phase2Read command)
-    → last_blocks y.setting.layout (c ∷ h.before) ≡ blocks_in y.setting.layout bytes
-phase2_blocks y s c bytes command h =
-    ap (λ (o : Option (List (Option Block))). elim o as (λ z. List (Option Block)) [ Some bs ↦ bs | None ↦ last_blocks y.setting.layout h.before ]) (phase2_given y s c bytes command h)
+abbrev Phase2Heard : Answering → Session → Submitted → List ℕ → LeaseStep → Command → List (Option Block) → Type 0
+Phase2Heard y s c bytes step command blocks = PhaseHeard y s c bytes step command Phase2_read blocks
+
+phase2_blocks : (y : Answering) (s : Session) (c : Submitted) (bytes : List ℕ) (step : LeaseStep) (command : Command) (blocks : List (Option Block)) → (h : Phase2Heard y s c bytes step command blocks)
+    → last_blocks y.setting.layout (c ∷ h.heard.before) ≡ blocks
+phase2_blocks y s c bytes step command blocks h =
+    ap (λ (o : Option (List (Option Block))). elim o as (λ z. List (Option Block)) [ Some bs ↦ bs | None ↦ last_blocks y.setting.layout h.heard.before ]) h.given
 
 -- The ballot ended with its own block's value.
-ends : (y : Answering) (s : Session) (c : Submitted) (bytes : List ℕ) (command : Command) → LeaseHeard y s c (Read bytes) Phase2Read command
-    → (own : Block) → stop_of own (blocks_in y.setting.layout bytes) ≡ None → EndsWith y s c (blocks_in y.setting.layout bytes) own own.lver (value_of own)
-ends y s c bytes command h own clear = (at_step y s c (Read bytes) Phase2Read command h Phase2_read refl, clear, refl, refl)
+ends : (y : Answering) (s : Session) (c : Submitted) (bytes : List ℕ) (step : LeaseStep) (command : Command) (blocks : List (Option Block)) → Phase2Heard y s c bytes step command blocks
+    → (own : Block) → stop_of own blocks ≡ None → EndsWith y s c blocks own own.lver (value_of own)
+ends y s c bytes step command blocks h own clear = (h.at, clear, refl, refl)
 
-lost_well : (these : Reply → Bool) (y : Answering) (s : Session) (c : Submitted) (bytes : List ℕ) (command : Command) (aim : Aim) → (h : LeaseHeard y s c (Read bytes) Phase2Read command)
-    → (own : Block) → block_submitted (c ∷ h.before) ≡ Some own → stop_of own (blocks_in y.setting.layout bytes) ≡ None → (over : Bool) → h.over own.inp own.inp_gen ≡ over
+lost_well : (these : Reply → Bool) (y : Answering) (s : Session) (c : Submitted) (bytes : List ℕ) (step : LeaseStep) (command : Command) (aim : Aim) (blocks : List (Option Block)) → (h : Phase2Heard y s c bytes step command blocks)
+    → (own : Block) → block_submitted (c ∷ h.heard.before) ≡ Some own → stop_of own blocks ≡ None → (over : Bool) → h.heard.over own.inp own.inp_gen ≡ over
     → IsWell these y (elim over as (λ z. LeaseNext) [
-      | true ↦ begin_next (lease_place y.setting s) (knows h) aim (own.lver + 1)
+      | true ↦ begin_next (lease_place y.setting s) (knows h.heard) aim (own.lver + 1)
       | false ↦ AnswerJob (HeldBy own.lver (value_of own))
     ])
-lost_well these y s c bytes command aim h own known clear true over =
-    begin_well these y s c bytes Phase2Read command aim h (blocks_in y.setting.layout bytes) own (phase2_given y s c bytes command h) (own_is y s (c ∷ h.before) own known)
-    (phase2_blocks y s c bytes command h) (own.lver + 1)
-    (inr (value_of own, own.lver, ends y s c bytes command h own clear, refl, h.counts own.inp own.inp_gen ∙ over))
-lost_well these y s c bytes command aim h own known clear false over = λ shown.
-    reads_blocks y s c bytes Phase2Read command h (blocks_in y.setting.layout bytes) own (phase2_given y s c bytes command h) (own_is y s (c ∷ h.before) own known)
+lost_well these y s c bytes step command aim blocks h own known clear true over =
+    begin_well these y s c bytes step command aim h.heard blocks own h.given (own_is y s (c ∷ h.heard.before) own known)
+    (phase2_blocks y s c bytes step command blocks h) (own.lver + 1)
+    (inr (value_of own, own.lver, ends y s c bytes step command blocks h own clear, refl, h.heard.counts own.inp own.inp_gen ∙ over))
+lost_well these y s c bytes step command aim blocks h own known clear false over = λ shown.
+    shows y s c bytes step command Phase2_read blocks h own known
     (λ s c blocks b. ShowsInstance y s c blocks b (HeldAlready own.lver (value_of own))
     ⊎ (EndsWith y s c blocks b own.lver (value_of own) × IsFalse (counts_over y.setting (after_entry y) s own.inp own.inp_gen)))
-    (inr (ends y s c bytes command h own clear, h.counts own.inp own.inp_gen ∙ over))
+    (inr (ends y s c bytes step command blocks h own clear, h.heard.counts own.inp own.inp_gen ∙ over))
 
-won_well : (these : Reply → Bool) (y : Answering) (s : Session) (c : Submitted) (bytes : List ℕ) (command : Command) (aim : Aim) → (h : LeaseHeard y s c (Read bytes) Phase2Read command)
-    → (n : ℕ) → IsWell these y (won_next (lease_place y.setting s) (knows h) aim n)
-won_well these y s c bytes command (Acquires mode) h n = tt
-won_well these y s c bytes command (Converts mode) h n = tt
-won_well these y s c bytes command Releases h n = tt
-won_well these y s c bytes command Settles h n = tt
+won_well : (these : Reply → Bool) (y : Answering) (s : Session) (k : LeaseKnown) (aim : Aim) (n : ℕ) → IsWell these y (won_next (lease_place y.setting s) k aim n)
+won_well these y s k (Acquires mode) n = tt
+won_well these y s k (Converts mode) n = tt
+won_well these y s k Releases n = tt
+won_well these y s k Settles n = tt
 
-lost_by : (these : Reply → Bool) (y : Answering) (s : Session) (c : Submitted) (bytes : List ℕ) (command : Command) (aim : Aim) → (h : LeaseHeard y s c (Read bytes) Phase2Read command)
-    → aim_of_command command ≡ Some aim → (own : Block) → block_submitted (c ∷ h.before) ≡ Some own → stop_of own (blocks_in y.setting.layout bytes) ≡ None
-    → IsWell these y (lost_next (lease_place y.setting s) (knows h) aim own.lver (value_of own))
-lost_by these y s c bytes command (Acquires mode) h aims own known clear = lost_well these y s c bytes command (Acquires mode) h own known clear (h.over own.inp own.inp_gen) refl
-lost_by these y s c bytes command (Converts mode) h aims own known clear = lost_well these y s c bytes command (Converts mode) h own known clear (h.over own.inp own.inp_gen) refl
-lost_by these y s c bytes command Releases h aims own known clear = tt
-lost_by these y s c bytes command Settles h aims own known clear = absurd (no_settling command aims)
+lost_by : (these : Reply → Bool) (y : Answering) (s : Session) (c : Submitted) (bytes : List ℕ) (step : LeaseStep) (command : Command) (aim : Aim) (blocks : List (Option Block)) → (h : Phase2Heard y s c bytes step command blocks)
+    → aim_of_command command ≡ Some aim → (own : Block) → block_submitted (c ∷ h.heard.before) ≡ Some own → stop_of own blocks ≡ None
+    → IsWell these y (lost_next (lease_place y.setting s) (knows h.heard) aim own.lver (value_of own))
+lost_by these y s c bytes step command (Acquires mode) blocks h aims own known clear = lost_well these y s c bytes step command (Acquires mode) blocks h own known clear (h.heard.over own.inp own.inp_gen) refl
+lost_by these y s c bytes step command (Converts mode) blocks h aims own known clear = lost_well these y s c bytes step command (Converts mode) blocks h own known clear (h.heard.over own.inp own.inp_gen) refl
+lost_by these y s c bytes step command Releases blocks h aims own known clear = tt
+lost_by these y s c bytes step command Settles blocks h aims own known clear = absurd (no_settling command aims)
 
-ended_well : (these : Reply → Bool) (y : Answering) (s : Session) (c : Submitted) (bytes : List ℕ) (command : Command) (aim : Aim) → (h : LeaseHeard y s c (Read bytes) Phase2Read command)
-    → aim_of_command command ≡ Some aim → (own : Block) → block_submitted (c ∷ h.before) ≡ Some own → stop_of own (blocks_in y.setting.layout bytes) ≡ None → (won : Bool)
+ended_well : (these : Reply → Bool) (y : Answering) (s : Session) (c : Submitted) (bytes : List ℕ) (step : LeaseStep) (command : Command) (aim : Aim) (blocks : List (Option Block)) → (h : Phase2Heard y s c bytes step command blocks)
+    → aim_of_command command ≡ Some aim → (own : Block) → block_submitted (c ∷ h.heard.before) ≡ Some own → stop_of own blocks ≡ None → (won : Bool)
     → IsWell these y (elim won as (λ z. LeaseNext) [
-      | true ↦ won_next (lease_place y.setting s) (knows h) aim own.lver
-      | false ↦ lost_next (lease_place y.setting s) (knows h) aim own.lver (value_of own)
+      | true ↦ won_next (lease_place y.setting s) (knows h.heard) aim own.lver
+      | false ↦ lost_next (lease_place y.setting s) (knows h.heard) aim own.lver (value_of own)
     ])
-ended_well these y s c bytes command aim h aims own known clear true = won_well these y s c bytes command aim h own.lver
-ended_well these y s c bytes command aim h aims own known clear false = lost_by these y s c bytes command aim h aims own known clear
+ended_well these y s c bytes step command aim blocks h aims own known clear true = won_well these y s (knows h.heard) aim own.lver
+ended_well these y s c bytes step command aim blocks h aims own known clear false = lost_by these y s c bytes step command aim blocks h aims own known clear
 
-phase2_by : (these : Reply → Bool) (y : Answering) (s : Session) (c : Submitted) (bytes : List ℕ) (command : Command) (aim : Aim) → (h : LeaseHeard y s c (Read bytes) Phase2Read command)
-    → aim_of_command command ≡ Some aim → (own : Block) → block_submitted (c ∷ h.before) ≡ Some own → (stop : Option Stop) → stop_of own (blocks_in y.setting.layout bytes) ≡ stop
-    → IsWell these y (after_phase2 (lease_place y.setting s) (knows h) aim own stop)
-phase2_by these y s c bytes command aim h aims own known None clear = ended_well these y s c bytes command aim h aims own known clear (same_owner (value_of own) (knows h).self)
-phase2_by these y s c bytes command aim h aims own known (Some stop) is =
-    stop_well these y s c bytes Phase2Read command aim h aims stop
-    (stopped y s c bytes Phase2Read command h (phase_step y s c (Read bytes) Phase2Read command h refl) (blocks_in y.setting.layout bytes) own (phase2_given y s c bytes command h) known stop is)
+phase2_by : (these : Reply → Bool) (y : Answering) (s : Session) (c : Submitted) (bytes : List ℕ) (step : LeaseStep) (command : Command) (aim : Aim) (blocks : List (Option Block)) → (h : Phase2Heard y s c bytes step command blocks)
+    → aim_of_command command ≡ Some aim → (own : Block) → block_submitted (c ∷ h.heard.before) ≡ Some own → (stop : Option Stop) → stop_of own blocks ≡ stop
+    → IsWell these y (after_phase2 (lease_place y.setting s) (knows h.heard) aim own stop)
+phase2_by these y s c bytes step command aim blocks h aims own known None clear = ended_well these y s c bytes step command aim blocks h aims own known clear (same_owner (value_of own) (knows h.heard).self)
+phase2_by these y s c bytes step command aim blocks h aims own known (Some stop) is =
+    stop_well these y s c bytes step command aim h.heard aims stop
+    (stopped y s c bytes step command Phase2_read blocks h (either (is_at Phase1_read c) (is_at Phase2_read c) h.at) own known stop is) where
+      either : (a b : Bool) → b ≡ true → (a || b) ≡ true
+      either true b is = refl
+      either false b is = is
 
 -- What the read of phase 2 leads to has its cause.
-pub phase2_well : (these : Reply → Bool) (y : Answering) (s : Session) (c : Submitted) (bytes : List ℕ) (command : Command) (aim : Aim) → (h : LeaseHeard y s c (Read bytes) Phase2Read command)
-    → aim_of_command command ≡ Some aim → (o : Option Block) → block_submitted (c ∷ h.before) ≡ o
-    → IsWell these y (option_map_or (λ own. after_phase2 (lease_place y.setting s) (knows h) aim own (stop_of own (blocks_in y.setting.layout bytes))) o Nothing)
-phase2_well these y s c bytes command aim h aims None known = tt
-phase2_well these y s c bytes command aim h aims (Some own) known = phase2_by these y s c bytes command aim h aims own known (stop_of own (blocks_in y.setting.layout bytes)) refl
+pub phase2_well : (these : Reply → Bool) (y : Answering) (s : Session) (c : Submitted) (bytes : List ℕ) (step : LeaseStep) (command : Command) (aim : Aim) (blocks : List (Option Block)) → (h : Phase2Heard y s c bytes step command blocks)
+    → aim_of_command command ≡ Some aim → (o : Option Block) → block_submitted (c ∷ h.heard.before) ≡ o
+    → IsWell these y (option_map_or (λ own. after_phase2 (lease_place y.setting s) (knows h.heard) aim own (stop_of own blocks)) o Nothing)
+phase2_well these y s c bytes step command aim blocks h aims None known = tt
+phase2_well these y s c bytes step command aim blocks h aims (Some own) known = phase2_by these y s c bytes step command aim blocks h aims own known (stop_of own blocks) refl

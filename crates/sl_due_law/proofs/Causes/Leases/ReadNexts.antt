@@ -1,7 +1,7 @@
 -- What a lease does next after a read, by which read it is, whether it is a first one or is made once more.
-use Rattle.sl_area.specs.Layouts.{Layout}
-use Rattle.sl_area.specs.Places.{blocks_of, leader_read, needs_again}
-use Rattle.sl_trace.specs.LeaseWork.{LeasePlace, after_bytes, after_read, asked_again, first_step, heard, part_read, read_of_step, refuses_block, step_of_read, within_turn}
+use Rattle.sl_acts.proofs.Pairs.Decisions.{asked_is, bytes_are}
+use Rattle.sl_area.specs.Places.{blocks_of, leader_read}
+use Rattle.sl_trace.specs.LeaseWork.{LeasePlace, after_bytes, after_read, first_step, heard, read_of_step, step_of_read}
 use Rattle.sl_trace.specs.Leases.{LeaseKnown}
 use Rattle.sl_trace.specs.declared.effects.LeaseRead.TheVariants.{OfArea, OfBlock, OfFree, OfPhase1, OfPhase2}
 use Rattle.sl_trace.specs.declared.effects.LeaseRead.{LeaseRead}
@@ -10,33 +10,16 @@ use Rattle.sl_trace.specs.declared.effects.LeaseStep.{LeaseStep}
 use Rattle.sl_trace.specs.declared.lease.Aim.{Aim}
 use Rattle.sl_trace.specs.declared.lease.LeaseNext.TheVariants.{ReadFor}
 use Rattle.sl_trace.specs.declared.lease.LeaseNext.{LeaseNext}
-use Rattle.sl_due_facts.proofs.Jobs.RepliesComeAfter.{on_bool}
 use Rattle.sl_words.proofs.CaseLaws.{none_some, some_value}
-use Rattle.sl_words.specs.Bounds.{is_number}
 use Rattle.std.proofs.Common.{ap, refl, sym, ◌∙◌}
-use Rattle.std.specs.Prelude.{Bool, List, None, Option, Some, false, not, true, ℕ, ◌&&◌, ◌+◌, ◌≡◌}
-
--- A read that is to be made once more is that of its step.
-asked_is : (g : Layout) (bytes : List ℕ) (step : LeaseStep) (read : LeaseRead) → asked_again g bytes step ≡ Some read → read_of_step step ≡ Some read
-asked_is g bytes step read is = by (needs_again g (part_read g bytes step)) is where
-  by : (b : Bool) → elim b as (λ z. Option LeaseRead) [ false ↦ None | true ↦ read_of_step step ] ≡ Some read → read_of_step step ≡ Some read
-  by false h = absurd (none_some read h)
-  by true h = h
+use Rattle.std.specs.Prelude.{Bool, List, Some, ℕ, ◌≡◌}
 
 -- What holds of both things that may come next holds of the next.
 pub bytes_by : (P : LeaseNext → Type 0) (p : LeasePlace) (k : LeaseKnown) (aim : Aim) (bytes : List ℕ) (step : LeaseStep)
     → ((read : LeaseRead) → read_of_step step ≡ Some read → P (ReadFor (ReadAgain read)))
     → P (after_read p k aim (leader_read p.layout bytes (heard p.layout k bytes step)) (blocks_of p.layout (heard p.layout k bytes step)) (first_step step))
     → P (after_bytes p k aim bytes step)
-unfolding after_bytes
-bytes_by P p k aim bytes step again rest = by (asked_again p.layout bytes step) (asked_is p.layout bytes step) where
-  by : (o : Option LeaseRead) → ((read : LeaseRead) → o ≡ Some read → read_of_step step ≡ Some read)
-      → P (elim o as (λ z. LeaseNext) [
-        | Some read ↦ ReadFor (ReadAgain read)
-        | None ↦ after_read p k aim (leader_read p.layout bytes (heard p.layout k bytes step)) (blocks_of p.layout (heard p.layout k bytes step)) (first_step step)
-      ])
-  by (Some read) of = again read (of read refl)
-  by None of = rest
+bytes_by P p k aim bytes step again rest = bytes_are P p k aim bytes step (λ read asked. again read (asked_is p.layout bytes step read asked).first) (λ once. rest)
 
 -- What a read that is made once more has in common with the first one.
 pub again_same : (f : LeaseStep → Bool) → ((read : LeaseRead) → f (ReadAgain read) ≡ f (step_of_read read)) → (step : LeaseStep) (read : LeaseRead) → read_of_step step ≡ Some read
@@ -57,8 +40,3 @@ again_same f same ClearMode read is = absurd (none_some read is)
 pub first_same : (f : LeaseStep → Bool) → ((read : LeaseRead) → f (ReadAgain read) ≡ f (step_of_read read)) → (step : LeaseStep) → f (first_step step) ≡ f step
 first_same f same (ReadAgain read) = sym (same read)
 first_same f same step = refl
-
--- The limit of turns refuses, or leaves what was decided.
-pub within_by : (P : LeaseNext → Type 0) (p : LeasePlace) (k : LeaseKnown) (aim : Aim) (n : LeaseNext) → P n → P (refuses_block aim n) → P (within_turn p k aim n)
-unfolding within_turn
-within_by P p k aim n h refused = on_bool P (p.layout.paired && not (is_number (k.turn + 1))) n (refuses_block aim n) h refused

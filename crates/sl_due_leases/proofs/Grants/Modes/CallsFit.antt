@@ -1,6 +1,7 @@
 -- The blocks and values that are written, and the values that are read, keep the laws of modes and values at each act.
 use Rattle.sl_acts.proofs.DecisionsAreTheirs.{Of}
 use Rattle.sl_acts.proofs.LoopsKeep.{for_each_keeps, when_keeps}
+use Rattle.sl_acts.proofs.Pairs.Decisions.{conversion_is, release_is}
 use Rattle.sl_acts.proofs.PlainActs.{line_has}
 use Rattle.sl_acts.specs.Acts.{Acts, Has, Hears, next_of_conversion, next_of_release, next_of_settling}
 use Rattle.sl_area.specs.Places.{request_offset, value_offset}
@@ -14,7 +15,6 @@ use Rattle.sl_due.specs.DueRequests.{after_request_read, after_value_read, bits_
 use Rattle.sl_due.specs.Steps.{Step, add_call_of, add_end, add_grant, add_move, add_reply, begin_step, seen, with_input}
 use Rattle.sl_due.specs.declared.decision.Decision.{Decision}
 use Rattle.sl_due.specs.declared.decision.Decision.TheVariants.{ConvertsTo, GetsValue, GivesUp, Joins, Leaves, ReadsArea, Replies, Requests, SetsValue, Shares, TakesOver}
-use Rattle.sl_due_facts.proofs.Jobs.PlainNexts.{conversion_plain, release_plain}
 use Rattle.sl_due_leases.proofs.Grants.DeltasKeep.{free_keeps, renewal_keeps}
 use Rattle.sl_due_leases.proofs.Grants.Modes.FitsHolding.{FittingSoFar, bare_fits, by_delta, call_fits, fitting_so_far, leavings_fit, move_fits, others_fit, plain_call, reads_no_value, reads_values, reply_fits, seq_of, signal_fits}
 use Rattle.sl_due_leases.proofs.Grants.Modes.LeasesFit.{OfConversion, block_fits, its_mode, leader_fits, led_fits, new_spot, read_fits, right_mode, settled_fits}
@@ -59,6 +59,7 @@ use Rattle.sl_sector.specs.declared.sector.Rec.TheVariants.{DeltaIs, ValueIs}
 use Rattle.sl_sector.specs.declared.sector.ValueRec.{ValueRec}
 use Rattle.sl_trace.specs.Deltas.{delta_known, delta_of_session, own_offset}
 use Rattle.sl_trace.specs.Sessions.{calls_of, generation_of, holders_of, holdings_of, is_call_of, is_join_call, present_sessions, recovery_of}
+use Rattle.sl_trace.specs.declared.reply.Limited.TheVariants.{Turn as TurnLimit}
 use Rattle.sl_trace.specs.declared.session.Session.{Session}
 use Rattle.sl_due_facts.specs.Facts.Heard.{heard_by}
 use Rattle.sl_due_facts.specs.Facts.HoldingFacts.{HoldingFacts}
@@ -86,7 +87,7 @@ use Rattle.sl_trace.specs.declared.input.Answer.{Answer}
 use Rattle.sl_trace.specs.declared.input.Answer.TheVariants.{Read}
 use Rattle.sl_trace.specs.declared.input.Input.TheVariants.{Answer as Told, Exit, Line, Number, Spawned, Wake}
 use Rattle.sl_trace.specs.declared.reply.Reply.{Reply}
-use Rattle.sl_trace.specs.declared.reply.Reply.TheVariants.{BadCommand as Misread, Done, Granted, IoFault, IoTimeout, SpawnFault}
+use Rattle.sl_trace.specs.declared.reply.Reply.TheVariants.{BadCommand as Misread, Done, Granted, IoFault, IoTimeout, Limit as LimitReached, SpawnFault}
 use Rattle.sl_words.proofs.CaseLaws.{false_is_true, none_some, some_value, true_is_false}
 use Rattle.sl_words.proofs.WordLaws.{and_true}
 use Rattle.sl_words.specs.Words.{same_truth}
@@ -105,19 +106,20 @@ release_fits : (z : Step) (s : Session) (at : Spot) (j : ℕ) (g : Grant) → Le
     → FittingSoFar (elim hs as (λ w. Step) [ h ∷ rest ↦ add_reply j Done z | [] ↦ carry_lease s at (ForJob j) (next_of_release z.setting (seen z) s at g) z ])
 unfolding carry_lease
 release_fits z s at j g ready bare (h ∷ rest) is = bare_fits (add_reply j Done z) bare
-release_fits z s at j g ready bare [] is = subst (λ n. FittingSoFar (carry_lease s at (ForJob j) n z)) (sym (release_plain z.setting (seen z) s at g ready.setting.unpaired)) (of_mode g.mode) where
-  none : has_shared_on (seen z) s at ≡ false
-  none = ap (λ hs. is_some (find (λ (k : Grant). is_shared k.mode) hs)) is
+release_fits z s at j g ready bare [] is =
+    release_is (λ n. FittingSoFar (carry_lease s at (ForJob j) n z)) z.setting (seen z) s at g (λ fits. of_mode g.mode) (λ paired over writes. bare_fits (add_reply j (LimitReached TurnLimit) z) bare) where
+      none : has_shared_on (seen z) s at ≡ false
+      none = ap (λ hs. is_some (find (λ (k : Grant). is_shared k.mode) hs)) is
 
-  own : (o : Option Block) → FittingSoFar (carry_lease s at (ForJob j) (option_map_or (λ b. WriteBlock ClearMode (moded_block b false 0)) o Nothing) z)
-  own None = bare_fits z bare
-  own (Some b) =
-      block_fits z s at ready (ForJob j) ClearMode (moded_block b false 0)
-      (λ c spot is. its_mode z.setting (seen z) s c (moded_block b false 0) (ap (λ p. is_at_in Mode_set p) is) (sym none ∙ ap (λ v. has_shared_on (seen z) s v) (sym spot)) (λ shared. absurd (false_is_true shared))) (bare_fits z bare)
+      own : (o : Option Block) → FittingSoFar (carry_lease s at (ForJob j) (option_map_or (λ b. WriteBlock ClearMode (moded_block b false 0)) o Nothing) z)
+      own None = bare_fits z bare
+      own (Some b) =
+          block_fits z s at ready (ForJob j) ClearMode (moded_block b false 0)
+          (λ c spot is. its_mode z.setting (seen z) s c (moded_block b false 0) (ap (λ p. is_at_in Mode_set p) is) (sym none ∙ ap (λ v. has_shared_on (seen z) s v) (sym spot)) (λ shared. absurd (false_is_true shared))) (bare_fits z bare)
 
-  of_mode : (m : Mode) → FittingSoFar (carry_lease s at (ForJob j) (release_next (lease_place z.setting s) (known z.setting (seen z) s at) m g.lver) z)
-  of_mode Exclusive = leader_fits z s at (ForJob j) FreeLeader (leader_for (lease_place z.setting s) (known z.setting (seen z) s at) false g.lver) ready.has (bare_fits z bare)
-  of_mode Shared = own (known z.setting (seen z) s at).own
+      of_mode : (m : Mode) → FittingSoFar (carry_lease s at (ForJob j) (release_next (lease_place z.setting s) (known z.setting (seen z) s at) m g.lver) z)
+      of_mode Exclusive = leader_fits z s at (ForJob j) FreeLeader (leader_for (lease_place z.setting s) (known z.setting (seen z) s at) false g.lver) ready.has (bare_fits z bare)
+      of_mode Shared = own (known z.setting (seen z) s at).own
 
 begun_fits : (y : Step) (s : Session) (at : Spot) (j : ℕ) (mode : Mode) (name : List ℕ) → LeaseReady y s at → y.effects.calls ≡ [] → FittingSoFar (carry_lease s at (ForJob j) (convert_next (known y.setting (seen y) s at) mode name) y)
 unfolding carry_lease
@@ -131,8 +133,10 @@ begun_fits y s at j Shared name ready bare = by (known y.setting (seen y) s at).
 
 conversion_fits : (y : Step) (s : Session) (at : Spot) (j : ℕ) (mode : Mode) (name : List ℕ) → LeaseReady y s at → y.effects.calls ≡ []
     → FittingSoFar (carry_lease s at (ForJob j) (next_of_conversion y.setting (seen y) s at mode name) y)
+unfolding carry_lease
 conversion_fits y s at j mode name ready bare =
-    subst (λ n. FittingSoFar (carry_lease s at (ForJob j) n y)) (sym (conversion_plain y.setting (seen y) s at mode name ready.setting.unpaired)) (begun_fits y s at j mode name ready bare)
+    conversion_is (λ n. FittingSoFar (carry_lease s at (ForJob j) n y)) y.setting (seen y) s at mode name (λ fits. begun_fits y s at j mode name ready bare)
+    (λ paired over writes. bare_fits (add_reply j (LimitReached TurnLimit) y) bare)
 
 -- The holder whom the command names.
 pub named_holder : (t : Trace) (s : Session) (at : Spot) (p : ℕ) (serves : Grant → Bool) (g : Grant) → holding_of t s at p serves ≡ Some g

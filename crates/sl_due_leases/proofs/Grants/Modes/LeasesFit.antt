@@ -1,13 +1,12 @@
 -- The blocks that a lease writes show the session's mode, or set it.
+use Rattle.sl_acts.proofs.Pairs.Records.{block_no_value, leader_no_block, leader_no_value, written_block}
 use Rattle.sl_due_leases.proofs.Grants.WorksByLines.{none_shared_on, own_held}
 use Rattle.sl_acts.proofs.LoopsKeep.{with_some_keeps}
 use Rattle.sl_acts.specs.Acts.{Has}
 use Rattle.sl_area.specs.Layouts.{Layout}
-use Rattle.sl_area.specs.Places.{area_sectors, block_offset, block_sectors, in_area, leader_offset, leader_record}
-use Rattle.sl_area.specs.Roles.{block}
-use Rattle.sl_due.specs.DueLease.{carry_lease, convert_for, convert_holding, for_work, held_otherwise, read_for, with_command, write_block, write_leader}
+use Rattle.sl_area.specs.Places.{area_sectors, block_offset, block_place, block_record, block_sectors, in_area, leader_offset, leader_record}
+use Rattle.sl_due.specs.DueLease.{carry_lease, convert_for, convert_holding, for_work, held_otherwise, name_on, next_turn, read_for, with_command, write_block, write_leader}
 use Rattle.sl_due.specs.Steps.{Step, add_reply, seen}
-use Rattle.sl_due_facts.proofs.Jobs.PlainNexts.{block_plain}
 use Rattle.sl_due_leases.proofs.Grants.Modes.FitsHolding.{FittingSoFar, bare_fits, call_fits, of_lease, plain_call}
 use Rattle.sl_due_leases.proofs.Holdings.LeaseConversions.{OfOneProcess, converted, only_converted, otherwise}
 use Rattle.sl_due_leases.proofs.Holdings.LeaseNexts.{HasRightMode, IsFitNext, IsPlainNext}
@@ -15,15 +14,15 @@ use Rattle.sl_run.specs.LawfulModes.{LawfulMode}
 use Rattle.sl_due_leases.proofs.Leases.NextsStay.{bare_by}
 use Rattle.sl_due_leases.proofs.Leases.OthersKeep.{Any}
 use Rattle.sl_due_leases.proofs.Leases.TurnsStay.{turned_by}
-use Rattle.sl_due_leases.proofs.Ways.Kept.EffectsLeave.{made_call, there_has}
+use Rattle.sl_due_leases.proofs.Ways.Kept.EffectsLeave.{made_call}
 use Rattle.sl_due_leases.proofs.Ways.Kept.HeardStands.{spot_same}
-use Rattle.sl_due_leases.proofs.Ways.Kept.LeaseNextsLeave.{LeaseReady}
-use Rattle.sl_due_leases.proofs.Ways.Kept.PlacesStand.{id_in_range, place_is_on, placed_on, spot_is}
+use Rattle.sl_due_leases.proofs.Ways.Kept.LeaseNextsLeave.{LeaseReady, own_inside}
+use Rattle.sl_due_leases.proofs.Ways.Kept.PlacesStand.{placed_on, spot_is}
 use Rattle.sl_due_leases.proofs.Ways.Kept.PlainWalks.{converted as converted_keeps, granted}
 use Rattle.sl_due_leases.proofs.Ways.WayStages.{is_at_in}
 use Rattle.sl_trace.specs.Ballots.{moded_block}
 use Rattle.sl_trace.specs.Jobs.{aim_of, aim_of_command, command_numbered, process_named}
-use Rattle.sl_trace.specs.Leases.{Mode_set, block_of_record, has_shared_on, holdings_on, is_at, known, spot_of_call, value_of_record}
+use Rattle.sl_trace.specs.Leases.{Mode_set, has_shared_on, holdings_on, is_at, known, spot_of_call}
 use Rattle.sl_trace.specs.declared.lease.Aim.{Aim}
 use Rattle.sl_trace.specs.declared.lease.Aim.TheVariants.{Converts, Settles}
 use Rattle.sl_trace.specs.declared.lease.LeaseNext.{LeaseNext}
@@ -32,8 +31,6 @@ use Rattle.sl_plain.proofs.Lists.{find_fails}
 use Rattle.sl_plain.proofs.Numbers.{number_itself}
 use Rattle.sl_sector.specs.declared.sector.Block.{Block}
 use Rattle.sl_sector.specs.declared.sector.Leader.{Leader}
-use Rattle.sl_sector.specs.declared.sector.Rec.{Rec}
-use Rattle.sl_sector.specs.declared.sector.Rec.TheVariants.{BlockIs, LeaderIs, PairLeaderIs}
 use Rattle.sl_trace.specs.Sessions.{generation_of}
 use Rattle.sl_trace.specs.declared.session.Session.{Session}
 use Rattle.sl_trace.specs.Traces.{Setting, Submitted, Trace, holdings, is_shared, new_call, same_place, work_job}
@@ -54,7 +51,7 @@ use Rattle.sl_trace.specs.declared.input.Answer.{Answer}
 use Rattle.sl_words.proofs.CaseLaws.{none_some, some_value, true_is_false}
 use Rattle.sl_words.specs.Words.{same_truth}
 use Rattle.std.proofs.Common.{ap, refl, subst, sym, ◌∙◌}
-use Rattle.std.specs.Prelude.{Bool, Contains, None, Option, Some, [], false, length, not, option_and_then, true, ℕ, ◌&&◌, ◌==◌, ◌||◌, ◌≡◌}
+use Rattle.std.specs.Prelude.{Bool, Contains, List, None, Option, Some, [], false, length, not, option_and_then, true, ℕ, ◌&&◌, ◌==◌, ◌||◌, ◌≡◌}
 
 -- ---- a block
 
@@ -87,9 +84,6 @@ right_mode st t s at c b work (ReadAgain OfPhase1) spot is h = its_mode st t s c
 right_mode st t s at c b work (ReadAgain OfPhase2) spot is h = its_mode st t s c b (ap (λ p. is_at_in Mode_set p) is) (h.0 ∙ ap (λ z. has_shared_on t s z) (sym spot)) h.1
 right_mode st t s at c b work step spot is h = its_mode st t s c b (ap (λ p. is_at_in Mode_set p) is) (h.0 ∙ ap (λ z. has_shared_on t s z) (sym spot)) h.1
 
-own_in : (x : Step) (s : Session) (at : Spot) → LeaseReady x s at → in_area x.setting.layout at.base (block_offset x.setting.layout at.base s.id) ≡ true
-own_in x s at h = place_is_on x.setting h.setting at.base (block s.id) (id_in_range x.setting h.setting (seen x) s (there_has x.setting (seen x) s.number s h.has), h.setting.unpaired)
-
 pub new_spot : (x : Step) (s : Session) (at : Spot) → LeaseReady x s at → (p : Purpose) (o : ℕ) (op : Op) → in_area x.setting.layout at.base o ≡ true
     → spot_of_call x.setting.layout (new_call (length x.past) x.reading (made_call x s.number at.path p o op)) ≡ at
 new_spot x s at h p o op inside =
@@ -99,27 +93,18 @@ new_spot x s at h p o op inside =
 pub block_fits : (x : Step) (s : Session) (at : Spot) → LeaseReady x s at → (work : Work) (step : LeaseStep) (b : Block)
     → ((c : Submitted) → spot_of_call x.setting.layout c ≡ at → c.call.purpose ≡ Lease work step → LawfulMode x.setting (seen x) s c b) → FittingSoFar x → FittingSoFar (write_block s at work step b x)
 block_fits x s at ready work step b mode h =
-    let o : ℕ = block_offset x.setting.layout at.base s.id in
-    let c : Submitted = new_call (length x.past) x.reading (made_call x s.number at.path (Lease work step) o (WriteRecord (BlockIs b))) in
-    subst (λ z. FittingSoFar z) (sym (block_plain x s at work step b ready.setting.unpaired))
-    (call_fits x s at.path (Lease work step) o (WriteRecord (BlockIs b)) ready.has refl
+    let g : Layout = x.setting.layout in
+    let turn : ℕ = next_turn x.setting (seen x) s at in
+    let name : List ℕ = name_on x.setting (seen x) s at in
+    let o : ℕ = block_place g at.base s.id turn in
+    let op : Op = WriteRecord (block_record g turn s.lockspace name b) in
+    let c : Submitted = new_call (length x.past) x.reading (made_call x s.number at.path (Lease work step) o op) in
+    call_fits x s at.path (Lease work step) o op ready.has refl
     (record {
-      mode = λ k is. subst (λ z. LawfulMode x.setting (seen x) s c z) (some_value b k is) (mode c (new_spot x s at ready (Lease work step) o (WriteRecord (BlockIs b)) (own_in x s at ready)) refl);
-      value = λ v is. absurd (none_some v is);
+      mode = λ k is. subst (λ z. LawfulMode x.setting (seen x) s c z) (some_value b k (sym (written_block g turn s.lockspace name c b refl) ∙ is)) (mode c (new_spot x s at ready (Lease work step) o op (own_inside x s at ready turn)) refl);
+      value = λ v is. absurd (none_some v (sym (block_no_value g turn s.lockspace name b) ∙ is));
       value_read = λ j is. absurd (of_lease work step j is);
-    }) h)
-
-pub leader_no_block : (g : Layout) (l : Leader) → block_of_record (leader_record g l) ≡ None
-leader_no_block g l = by g.paired where
-  by : (b : Bool) → block_of_record (elim b as (λ z. Rec) [ false ↦ LeaderIs l | true ↦ PairLeaderIs l ]) ≡ None
-  by false = refl
-  by true = refl
-
-leader_no_value : (g : Layout) (l : Leader) → value_of_record (leader_record g l) ≡ None
-leader_no_value g l = by g.paired where
-  by : (b : Bool) → value_of_record (elim b as (λ z. Rec) [ false ↦ LeaderIs l | true ↦ PairLeaderIs l ]) ≡ None
-  by false = refl
-  by true = refl
+    }) h
 
 pub leader_fits : (x : Step) (s : Session) (at : Spot) (work : Work) (step : LeaseStep) (l : Leader) → Has x s → FittingSoFar x → FittingSoFar (write_leader s at work step l x)
 leader_fits x s at work step l has h =

@@ -1,6 +1,6 @@
 -- A shared grant is lawful: beside a shared holding, by the ballot of its job, or by conversion of what the session held exclusively.
 use Rattle.sl_due_facts.proofs.Jobs.EffectsAreAllowed.{leader_no_delta}
-use Rattle.sl_due_leases.proofs.Grants.Modes.LeasesFit.{leader_no_block}
+use Rattle.sl_acts.proofs.Pairs.Records.{leader_no_block}
 use Rattle.sl_trace.specs.declared.effects.LeaseRead.TheVariants.{OfArea, OfFree}
 use Rattle.sl_acts.proofs.DecisionsAreTheirs.{Of}
 use Rattle.sl_acts.proofs.LoopsKeep.{for_each_keeps, when_keeps}
@@ -16,7 +16,7 @@ use Rattle.sl_due_leases.proofs.Grants.Modes.SharedStands.{SharedSoFar, call_sha
 use Rattle.sl_due_leases.proofs.Grants.NothingGranted.{GrantingActs, by_granting, none_begin}
 use Rattle.sl_due_leases.proofs.Grants.WorksByLines.{held_before}
 use Rattle.sl_due_leases.proofs.Holdings.DecisionsHaveGrounds.{decisions_have_grounds}
-use Rattle.sl_due_leases.proofs.Holdings.LeaseCallers.{heard_answered, heard_call as call_heard, heard_opens, spot_aligned}
+use Rattle.sl_due_leases.proofs.Holdings.LeaseCallers.{heard_answered, heard_call as call_heard, heard_opens}
 use Rattle.sl_due_leases.proofs.Holdings.LeaseConversions.{OfOneProcess, converted, only_converted, otherwise}
 use Rattle.sl_due_leases.proofs.Holdings.LeaseNexts.{IsFitNext, IsGrantOf, next_fits}
 use Rattle.sl_due_leases.proofs.Holdings.MomentsAreKept.{same}
@@ -28,12 +28,11 @@ use Rattle.sl_run.specs.Saying.{IsAnsweredAt}
 use Rattle.sl_due_leases.proofs.Leases.NextsStay.{HeldThere, at_work, held_there, not_true}
 use Rattle.sl_due_leases.proofs.Leases.TurnsStay.{turned_by}
 use Rattle.sl_due_leases.proofs.Ways.Kept.CallsSame.{reply_leaves}
-use Rattle.sl_due_leases.proofs.Ways.GivenReads.{none_again}
-use Rattle.sl_due_leases.proofs.Ways.Kept.EffectsLeave.{made_call, there_has}
+use Rattle.sl_due_leases.proofs.Ways.Kept.EffectsLeave.{made_call}
 use Rattle.sl_due_leases.proofs.Ways.Kept.HeardStands.{heard_has, heard_number, spot_same}
 use Rattle.sl_trace.specs.Jobs.{aim_of, aim_of_command, command_numbered, resource_named}
 use Rattle.sl_trace.specs.LeaseWork.{lease_place}
-use Rattle.sl_trace.specs.Leases.{block_submitted, block_written, exclusive_on, holdings_on, is_again, is_lease_call, is_on, known, lease_calls, lease_step, lver_written, spot_of, spot_of_call}
+use Rattle.sl_trace.specs.Leases.{block_submitted, block_written, exclusive_on, holdings_on, is_lease_call, is_on, known, lease_calls, lease_step, lver_written, spot_of, spot_of_call}
 use Rattle.sl_trace.specs.declared.lease.Aim.{Aim}
 use Rattle.sl_trace.specs.declared.lease.Aim.TheVariants.{Acquires, Converts}
 use Rattle.sl_trace.specs.declared.lease.LeaseNext.{LeaseNext}
@@ -53,7 +52,6 @@ use Rattle.sl_due_facts.specs.Facts.GrantGrounds.{FreedForJob, IsDoneWork, Moded
 use Rattle.sl_due_facts.specs.Facts.Heard.{heard_by}
 use Rattle.sl_due_facts.specs.Facts.HoldingFacts.{HoldingFacts, StandsExclusive}
 use Rattle.sl_due_facts.specs.Facts.JobFacts.{FitsCommand}
-use Rattle.sl_due_facts.specs.Facts.WayFacts.{Ways, way_context}
 use Rattle.sl_trace.specs.Connections.{is_registered}
 use Rattle.sl_trace.specs.Traces.{Submitted, Trace, end_of, holdings, is_ended_by, is_running, is_shared, job_of, new_call, next_job, same_place, spot_of_grant, submitted}
 use Rattle.sl_trace.specs.declared.command.Command.{Command}
@@ -77,7 +75,7 @@ use Rattle.sl_trace.specs.declared.input.Input.TheVariants.{Exit, Line}
 use Rattle.sl_trace.specs.declared.reply.Reply.TheVariants.{Granted}
 use Rattle.sl_words.proofs.CaseLaws.{false_is_true, none_some, one_value, true_is_false}
 use Rattle.sl_words.specs.Words.{same_truth}
-use Rattle.std.proofs.Common.{ap, arith, inl, inr, refl, subst, sym, ◌∙◌}
+use Rattle.std.proofs.Common.{ap, inl, inr, refl, subst, sym, ◌∙◌}
 use Rattle.std.proofs.lemmas.List.Elements.{Contains-append_right}
 use Rattle.std.specs.Option.{option_map_or}
 use Rattle.std.specs.Prelude.{Bool, Contains, List, None, Option, Some, [], cond, false, filter, find, is_some, length, not, option_and_then, slice_get, true, ℕ, ◌&&◌, ◌++◌, ◌==◌, ◌∷◌, ◌≡◌, ◌≤◌, ◌⊎◌}
@@ -107,18 +105,11 @@ ballot_behind : (x : Step) (s : Session) (m : Submitted) (j : ℕ) (c : Command)
 ballot_behind x s m j c mode d for k =
     let at : Spot = spot_of_call x.setting.layout m in
     let f : FreedForJob x.setting (seen x) s at (lver_written m) j = k.0.facts.grounds.shared s m j c mode d for in
-    let on = kept_inside (λ (n : Submitted). is_lease_call n && is_on x.setting.layout at n.call) (calls_of (seen x) s) f.read (split_there (lease_calls x.setting (seen x) s at) f.before f.after f.read f.split) in
-    let there = kept_inside (is_call_of s) (submitted (seen x)) f.read on.0 in
-    let ways : Ways (way_context x.setting (seen x) s) (lease_calls x.setting (seen x) s at) =
-    k.0.facts.ways.each s at (there_has x.setting (seen x) m.call.session s d.session) (spot_aligned x.setting.layout m)
-    in
-    let once : is_again f.read ≡ false =
-    none_again (way_context x.setting (seen x) s) k.0.setting.unpaired (lease_calls x.setting (seen x) s at) ways f.read
-    (split_there (lease_calls x.setting (seen x) s at) f.before f.after f.read f.split)
-    in
+    let on = kept_inside (λ (n : Submitted). is_lease_call n && is_on x.setting.layout at n.call) (calls_of (seen x) s) f.begun f.of_job.0 in
+    let there = kept_inside (is_call_of s) (submitted (seen x)) f.begun on.0 in
     record {
-      since = f.read.at;
-      none_shared = k.0.facts.works.unshared m f.read j FreeLeader f.step c mode s d.work for d.session there.0 f.of_job;
+      since = f.begun.at;
+      none_shared = k.0.facts.works.unshared m f.begun j FreeLeader f.step c mode s d.work for d.session there.0 f.of_job.1;
       read = f.read;
       mode = f.mode;
       free = f.free;
@@ -130,8 +121,8 @@ ballot_behind x s m j c mode d for k =
       after = f.after;
       before = f.before;
       split = f.split;
-      won = (omega arith, f.won);
-      first_since = λ again first is. absurd (false_is_true (sym once ∙ again));
+      won = (f.since, f.won);
+      first_since = f.first_since;
       moded = f.moded;
       freed = f.freed;
       first = f.first;

@@ -1,5 +1,4 @@
 -- Before an answer to a value's call is heard nothing is told of values, and no other act tells anything of them.
-use Rattle.sl_due_facts.proofs.Jobs.PlainNexts.{conversion_plain, release_plain}
 use Rattle.sl_trace_law.proofs.Leases.AnswerLaws.{answers_within}
 use Rattle.sl_trace_law.proofs.Leases.HavingLaws.{Has as Having, has_one_more}
 use Rattle.sl_acts.specs.Acts.{Hears, next_of_conversion, next_of_release}
@@ -8,15 +7,14 @@ use Rattle.sl_due.specs.Steps.{Step, add_end, seen}
 use Rattle.sl_due.specs.declared.decision.Decision.{Decision}
 use Rattle.sl_due.specs.declared.decision.Decision.TheVariants.{ConvertsTo, GetsValue, GivesUp, Joins, Leaves, ReadsArea, Replies, Requests, SetsValue, Shares, TakesOver}
 use Rattle.sl_due_leases.proofs.Grants.EndsAreLawful.{last_or}
-use Rattle.sl_due_leases.proofs.Grants.Values.ReadsByLines.{never_answers, release_silent}
+use Rattle.sl_due_leases.proofs.Grants.Values.ReadsByLines.{SaysTurn, conversion_says, release_says}
 use Rattle.sl_due_leases.specs.Holdings.Moments.{Known}
 use Rattle.sl_due_facts.proofs.Jobs.CallsStay.{is_special}
 use Rattle.sl_due_facts.proofs.Jobs.EffectsAreAllowed.{Allows, DecisionAllowed, DeltaAllowed, GrantAllowed, LeaseAllowed, ReadAllowed, RequestAllowed}
 use Rattle.sl_due_facts.proofs.Jobs.RepliesComeAfter.{IsApartDelta, request_apart, second_off, tells_value}
 use Rattle.sl_run.specs.LawfulValue.{LawfulSetReply, LawfulValueReply}
 use Rattle.sl_run.specs.Saying.{IsAnsweredAt}
-use Rattle.sl_trace.specs.LeaseWork.{lease_place}
-use Rattle.sl_trace.specs.Leases.{known, spot_of}
+use Rattle.sl_trace.specs.Leases.{spot_of}
 use Rattle.sl_trace.specs.declared.lease.LeaseNext.{LeaseNext}
 use Rattle.sl_trace.specs.declared.lease.LeaseNext.TheVariants.{AnswerJob, BecomeExclusive, BecomeShared, GrantJob, Nothing as No_lease, ReadFor, WriteBlock, WriteLeader}
 use Rattle.sl_plain.proofs.Lists.{contains_cases, contains_none, find_fails, in_map, kept_inside}
@@ -153,26 +151,25 @@ freed_allowed y s j call Written = (tt, refl)
 freed_allowed y s j call Failed = (tt, refl)
 freed_allowed y s j call (Read bytes) = tt
 
-pub decision_allowed : (y : Step) (j : ℕ) (c : Command) (d : Decision) → y.setting.layout.paired ≡ false → DecisionAllowed NoneTold May AnyCall AnyStart y j c d
-decision_allowed y j c (Replies r) plain = tt
-decision_allowed y j c (Joins n a) plain = λ z is. tt
-decision_allowed y j c (Leaves s) plain = (tt, λ z h k there. refl)
-decision_allowed y j c (ReadsArea s r) plain = tt
-decision_allowed y j c (Shares s lver) plain = grants_allowed j lver c
-decision_allowed y j c (GivesUp s g) plain =
+pub decision_allowed : (y : Step) (j : ℕ) (c : Command) (d : Decision) → DecisionAllowed NoneTold May AnyCall AnyStart y j c d
+decision_allowed y j c (Replies r) = tt
+decision_allowed y j c (Joins n a) = λ z is. tt
+decision_allowed y j c (Leaves s) = (tt, λ z h k there. refl)
+decision_allowed y j c (ReadsArea s r) = tt
+decision_allowed y j c (Shares s lver) = grants_allowed j lver c
+decision_allowed y j c (GivesUp s g) =
     let z : Step = add_end (end_of g) y in (
       refl,
       lease_allowed z s (spot_of_grant g) (ForJob j) (next_of_release y.setting (seen z) s (spot_of_grant g) g)
-          (λ r is.
-          absurd (release_silent (lease_place y.setting s) (known y.setting (seen z) s (spot_of_grant g)) g.mode g.lver r (sym (release_plain y.setting (seen z) s (spot_of_grant g) g plain) ∙ is))),
+          (λ r is. ap (λ q. tells_value q) (subst (λ n. SaysTurn n) is (release_says y.setting (seen z) s (spot_of_grant g) g))),
     )
-decision_allowed y j c (TakesOver s g) plain = grants_allowed j g.lver c
-decision_allowed y j c (ConvertsTo s r mode) plain =
+decision_allowed y j c (TakesOver s g) = grants_allowed j g.lver c
+decision_allowed y j c (ConvertsTo s r mode) =
     lease_allowed y s (spot_of r) (ForJob j) (next_of_conversion y.setting (seen y) s (spot_of r) mode r.name)
-    (λ q is. absurd (never_answers (known y.setting (seen y) s (spot_of r)) mode r.name q (sym (conversion_plain y.setting (seen y) s (spot_of r) mode r.name plain) ∙ is)))
-decision_allowed y j c (Requests s r) plain = tt
-decision_allowed y j c (SetsValue s at v) plain = tt
-decision_allowed y j c (GetsValue s at) plain = tt
+    (λ q is. ap (λ a. tells_value a) (subst (λ n. SaysTurn n) is (conversion_says y.setting (seen y) s (spot_of r) mode r.name)))
+decision_allowed y j c (Requests s r) = tt
+decision_allowed y j c (SetsValue s at v) = tt
+decision_allowed y j c (GetsValue s at) = tt
 
 pub request_allowed : (x : Step) (s : Session) (j : ℕ) (bytes : List ℕ) (c : Command) → RequestAllowed May AnyCall x s j bytes c
 request_allowed x s j bytes (Request r asked force) = (λ why is. second_off (is_special why) (tells_value why) (request_apart x.setting.layout s.lockspace r asked force bytes why is), tt)

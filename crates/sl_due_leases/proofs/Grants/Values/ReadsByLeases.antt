@@ -1,10 +1,9 @@
 -- What a lease decides leaves what stands while a value is read elsewhere.
-use Rattle.sl_due_facts.proofs.Jobs.PlainNexts.{block_plain}
 use Rattle.sl_acts.proofs.LoopsKeep.{with_some_keeps}
 use Rattle.sl_acts.specs.SoFar.{entry_of}
-use Rattle.sl_area.specs.Places.{area_sectors, block_offset, block_sectors, in_area, leader_offset, leader_record}
-use Rattle.sl_area.specs.Roles.{block, leader}
-use Rattle.sl_due.specs.DueLease.{carry_lease, convert_for, convert_holding, for_work, grant_for, read_area, read_for, with_command, write_block, write_leader}
+use Rattle.sl_area.specs.Places.{area_sectors, block_offset, block_place, block_record, block_sectors, in_area, leader_offset, leader_record}
+use Rattle.sl_area.specs.Roles.{leader}
+use Rattle.sl_due.specs.DueLease.{carry_lease, convert_for, convert_holding, for_work, grant_for, name_on, next_turn, read_area, read_for, with_command, write_block, write_leader}
 use Rattle.sl_due.specs.Steps.{Step, add_call_of, add_end, add_grant, add_reply, seen}
 use Rattle.sl_due_leases.proofs.Grants.OthersGoOn.{granted_on}
 use Rattle.sl_due_leases.proofs.Grants.Values.ReadsBack.{IsRead, ReadsBack, call_reads, end_reads, grant_reads, later_sessions, reads_go_on, reply_reads}
@@ -12,6 +11,7 @@ use Rattle.sl_due_leases.proofs.Holdings.HoldingsByCalls.{call_added}
 use Rattle.sl_due_leases.proofs.Holdings.HoldingsByEffects.{later_same}
 use Rattle.sl_due_leases.proofs.Holdings.LeaseCallers.{spot_aligned}
 use Rattle.sl_due_leases.proofs.Holdings.LeaseConversions.{otherwise}
+use Rattle.sl_due_leases.proofs.Holdings.LeasePlaces.{own_on}
 use Rattle.sl_run.specs.Lawful.{IsSetting}
 use Rattle.sl_run.specs.LawfulArea.{is_area_work}
 use Rattle.sl_due_leases.proofs.Leases.TurnsStay.{turned_by}
@@ -23,7 +23,6 @@ use Rattle.sl_trace.specs.declared.lease.LeaseNext.{LeaseNext}
 use Rattle.sl_trace.specs.declared.lease.LeaseNext.TheVariants.{AnswerJob, BecomeExclusive, BecomeShared, GrantJob, Nothing, ReadFor, WriteBlock, WriteLeader}
 use Rattle.sl_sector.specs.declared.sector.Block.{Block}
 use Rattle.sl_sector.specs.declared.sector.Leader.{Leader}
-use Rattle.sl_sector.specs.declared.sector.Rec.TheVariants.{BlockIs}
 use Rattle.sl_trace.specs.Sessions.{is_join_call}
 use Rattle.sl_trace.specs.declared.session.Session.{Session}
 use Rattle.sl_trace.specs.Traces.{Setting, Submitted, end_of, is_before_input, is_write, new_call, same_place, spot_of_grant, work_job}
@@ -45,7 +44,7 @@ use Rattle.sl_trace.specs.declared.effects.Work.TheVariants.{ForJob, Settling}
 use Rattle.sl_trace.specs.declared.reply.Reply.{Reply}
 use Rattle.sl_trace.specs.declared.reply.Reply.TheVariants.{Granted}
 use Rattle.sl_words.proofs.CaseLaws.{is_false, true_is_false}
-use Rattle.std.proofs.Common.{ap, inl, inr, refl, subst, sym, ◌∙◌}
+use Rattle.std.proofs.Common.{ap, inl, inr, refl, sym, ◌∙◌}
 use Rattle.std.specs.Prelude.{Bool, List, false, is_some, true, ℕ, ◌%◌, ◌&&◌, ◌==◌, ◌≡◌, ◌≤◌, ◌⊎◌}
 
 -- No value is read on the area.
@@ -95,10 +94,6 @@ lease_call_reads x z at s work step o op e which h =
 leader_on : (x z : Step) (at : Spot) (c : Call) → z.setting ≡ x.setting → IsElsewhere x at → c.path ≡ at.path → c.offset ≡ leader_offset at.base → is_on x.setting.layout at c ≡ true
 leader_on x z at c same e path place = placed_on x.setting at c path (ap (λ o. in_area x.setting.layout at.base o) place ∙ place_is_on x.setting e.setting at.base leader tt)
 
-block_on : (x z : Step) (at : Spot) (id : ℕ) (c : Call) → z.setting ≡ x.setting → IsElsewhere x at → (1 ≤ id) × (id ≤ x.setting.layout.hosts) → c.path ≡ at.path → c.offset ≡ block_offset z.setting.layout at.base id → is_on x.setting.layout at c ≡ true
-block_on x z at id c same e range path place =
-    placed_on x.setting at c path (ap (λ o. in_area x.setting.layout at.base o) (place ∙ ap (λ (st : Setting). block_offset st.layout at.base id) same) ∙ place_is_on x.setting e.setting at.base (block id) (range, e.setting.unpaired))
-
 -- ---- decisions
 
 reads_there : (x z : Step) (at : Spot) (s : Session) (work : Work) (step : LeaseStep) → IsElsewhere x at → ReadsBack x z → ReadsBack x (read_for s at work step z)
@@ -110,10 +105,11 @@ reads_there x z at s work step e h = lease_call_reads x z at s work step (block_
 
 block_there : (x z : Step) (at : Spot) (s : Session) (work : Work) (step : LeaseStep) (b : Block) → (1 ≤ s.id) × (s.id ≤ x.setting.layout.hosts) → IsElsewhere x at → ReadsBack x z → ReadsBack x (write_block s at work step b z)
 block_there x z at s work step b range e h =
-    let o : ℕ = block_offset z.setting.layout at.base s.id in
-    subst (λ v. ReadsBack x v) (sym (block_plain z s at work step b (ap (λ (st : Setting). st.layout.paired) h.setting ∙ e.setting.unpaired)))
-    (lease_call_reads x z at s work step o (WriteRecord (BlockIs b)) e
-    (inr (block_on x z at s.id (call_added s.number at.path (Lease work step) o (WriteRecord (BlockIs b)) z) h.setting e range refl refl)) h)
+    let turn : ℕ = next_turn z.setting (seen z) s at in
+    let o : ℕ = block_place z.setting.layout at.base s.id turn in
+    let op : Op = WriteRecord (block_record z.setting.layout turn s.lockspace (name_on z.setting (seen z) s at) b) in
+    lease_call_reads x z at s work step o op e
+    (inr (own_on x.setting at s.id turn (call_added s.number at.path (Lease work step) o op z) e.setting range refl (ap (λ (st : Setting). block_place st.layout at.base s.id turn) h.setting))) h
 
 leader_there : (x z : Step) (at : Spot) (s : Session) (work : Work) (step : LeaseStep) (l : Leader) → IsElsewhere x at → ReadsBack x z → ReadsBack x (write_leader s at work step l z)
 leader_there x z at s work step l e h =

@@ -1,5 +1,5 @@
 -- What a command comes to leaves what stands while values are read; a read that it begins has it.
-use Rattle.sl_due_facts.proofs.Jobs.PlainNexts.{conversion_plain, release_plain}
+use Rattle.sl_acts.proofs.Pairs.Decisions.{conversion_is, release_is}
 use Rattle.sl_acts.proofs.DecisionsAreTheirs.{Of}
 use Rattle.sl_acts.specs.Acts.{Has, next_of_conversion, next_of_release}
 use Rattle.sl_acts.specs.SoFar.{entry_of}
@@ -36,7 +36,7 @@ use Rattle.sl_due_leases.proofs.Ways.Kept.LinesReady.{none_open}
 use Rattle.sl_due_leases.proofs.Ways.Kept.PlacesStand.{id_in_range, place_is_on, placed_on, spot_is}
 use Rattle.sl_trace.specs.Ballots.{moded_block}
 use Rattle.sl_trace.specs.Jobs.{command_numbered, resource_named}
-use Rattle.sl_trace.specs.LeaseWork.{LeasePlace, convert_next, lease_place, release_next}
+use Rattle.sl_trace.specs.LeaseWork.{convert_next, lease_place, release_next}
 use Rattle.sl_trace.specs.Leases.{LeaseKnown, holdings_on, is_on, known, spot_of, spot_of_call}
 use Rattle.sl_trace.specs.declared.lease.LeaseNext.{LeaseNext}
 use Rattle.sl_trace.specs.declared.lease.LeaseNext.TheVariants.{AnswerJob, Nothing, WriteBlock}
@@ -46,12 +46,13 @@ use Rattle.sl_plain.proofs.Numbers.{refl_le}
 use Rattle.sl_sector.specs.declared.sector.Block.{Block}
 use Rattle.sl_sector.specs.declared.sector.Rec.TheVariants.{ValueIs}
 use Rattle.sl_trace.specs.Sessions.{calls_of, holdings_of, is_call_of, session_numbered}
+use Rattle.sl_trace.specs.declared.reply.Limited.TheVariants.{Turn as TurnLimit}
 use Rattle.sl_trace.specs.declared.session.Session.{Session}
 use Rattle.sl_due_facts.specs.Facts.Heard.{IsOpen, heard_by}
 use Rattle.sl_due_facts.specs.Facts.ValueFacts.{IsReading}
 use Rattle.sl_trace.specs.Commands.{IsCommand, IsResourceArg}
 use Rattle.sl_trace.specs.Limits.{most_processes}
-use Rattle.sl_trace.specs.Traces.{Child, Submitted, Trace, answered_in, child_numbered, children, end_of, first_child, holdings, is_child, is_orphan, is_write, mark, new_call, next_child, next_job, same_place, spot_of_grant, submitted}
+use Rattle.sl_trace.specs.Traces.{Child, Setting, Submitted, Trace, answered_in, child_numbered, children, end_of, first_child, holdings, is_before_input, is_child, is_orphan, is_write, mark, new_call, next_child, next_job, same_place, spot_of_grant, submitted}
 use Rattle.sl_trace.specs.declared.command.Command.{Command}
 use Rattle.sl_trace.specs.declared.command.Command.TheVariants.{Acquire, AddLockspace, Convert, GetLvb, HostStatus, InqLockspace, Release, ReleaseOrphan, RemLockspace, Request, RunProgram, SetKillpath, SetLvb, Status, TakeOver}
 use Rattle.sl_trace.specs.declared.command.ResourceArg.{ResourceArg}
@@ -68,10 +69,9 @@ use Rattle.sl_trace.specs.declared.effects.Spot.{Spot}
 use Rattle.sl_trace.specs.declared.effects.Work.TheVariants.{ForJob}
 use Rattle.sl_trace.specs.declared.input.Input.{Input}
 use Rattle.sl_trace.specs.declared.input.Input.TheVariants.{Answer as Told, Exit, Line, Number, Spawned, Wake}
-use Rattle.sl_trace.specs.declared.reply.Reply.{Reply}
-use Rattle.sl_trace.specs.declared.reply.Reply.TheVariants.{Done}
+use Rattle.sl_trace.specs.declared.reply.Reply.TheVariants.{Done, Limit as LimitReached}
 use Rattle.sl_trace_law.proofs.Sessions.Making.{same_answered}
-use Rattle.sl_words.proofs.CaseLaws.{false_is_true, is_false, no_value, none_some, one_value, some_value, true_is_false}
+use Rattle.sl_words.proofs.CaseLaws.{is_false, no_value, none_some, one_value, some_value, true_is_false}
 use Rattle.sl_words.proofs.WordLaws.{and_true, or_true, some_is_true}
 use Rattle.sl_words.specs.Words.{some_is}
 use Rattle.std.proofs.Common.{ap, arith, inl, inr, refl, subst, sym, ◌∙◌}
@@ -125,24 +125,33 @@ named_arg x text c r l named = by c (l.known.0.setting.reads text c l.says) name
 in_range_of : (x : Step) (text : List ℕ) (c : Command) (s : Session) → Lined x text c → Has (with_input (Line text) x) s → (1 ≤ s.id) × (s.id ≤ x.setting.layout.hosts)
 in_range_of x text c s l has = id_in_range x.setting l.known.0.setting (seen (with_input (Line text) x)) s (there_has x.setting (seen (with_input (Line text) x)) s.number s has)
 
-abbrev answers_job : LeaseNext → Bool
-answers_job (AnswerJob r) = true
-answers_job n = false
+-- What a release and a conversion begin with answers the job only where a turn would pass its limit.
+abbrev pub SaysTurn : LeaseNext → Type 0
+SaysTurn (AnswerJob r) = r ≡ LimitReached TurnLimit
+SaysTurn n = Unit {0}
 
--- Neither a conversion's beginning nor a release answers its job.
-pub never_answers : (k : LeaseKnown) (mode : Mode) (name : List ℕ) (r : Reply) → convert_next k mode name ≡ AnswerJob r → ⊥
-never_answers k Exclusive name r is = false_is_true (ap (λ n. answers_job n) is)
-never_answers k Shared name r is = by k.own is where
-  by : (o : Option Block) → option_map_or (λ own. WriteBlock SetMode (moded_block own true k.self.generation)) o Nothing ≡ AnswerJob r → ⊥
-  by None at = false_is_true (ap (λ n. answers_job n) at)
-  by (Some b) at = false_is_true (ap (λ n. answers_job n) at)
+pub conversion_says : (st : Setting) (es : Trace) (s : Session) (at : Spot) (mode : Mode) (name : List ℕ) → SaysTurn (next_of_conversion st es s at mode name)
+conversion_says st es s at mode name = conversion_is SaysTurn st es s at mode name (λ fits. begun mode) (λ paired over writes. refl) where
+  k : LeaseKnown
+  k = known st es s at
 
-pub release_silent : (p : LeasePlace) (k : LeaseKnown) (mode : Mode) (lver : ℕ) (r : Reply) → release_next p k mode lver ≡ AnswerJob r → ⊥
-release_silent p k Exclusive lver r is = false_is_true (ap (λ n. answers_job n) is)
-release_silent p k Shared lver r is = by k.own is where
-  by : (o : Option Block) → option_map_or (λ own. WriteBlock ClearMode (moded_block own false 0)) o Nothing ≡ AnswerJob r → ⊥
-  by None at = false_is_true (ap (λ n. answers_job n) at)
-  by (Some b) at = false_is_true (ap (λ n. answers_job n) at)
+  moded : (o : Option Block) → SaysTurn (option_map_or (λ own. WriteBlock SetMode (moded_block own true k.self.generation)) o Nothing)
+  moded None = tt
+  moded (Some own) = tt
+
+  begun : (m : Mode) → SaysTurn (convert_next k m name)
+  begun Exclusive = tt
+  begun Shared = moded k.own
+
+pub release_says : (st : Setting) (es : Trace) (s : Session) (at : Spot) (g : Grant) → SaysTurn (next_of_release st es s at g)
+release_says st es s at g = release_is SaysTurn st es s at g (λ fits. begun g.mode) (λ paired over writes. refl) where
+  cleared : (o : Option Block) → SaysTurn (option_map_or (λ own. WriteBlock ClearMode (moded_block own false 0)) o Nothing)
+  cleared None = tt
+  cleared (Some own) = tt
+
+  begun : (m : Mode) → SaysTurn (release_next (lease_place st s) (known st es s at) m g.lver)
+  begun Exclusive = tt
+  begun Shared = cleared (known st es s at).own
 
 gives_up_reads : (x : Step) (text : List ℕ) (c : Command) (s : Session) (g : Grant) → Lined x text c → Has (with_input (Line text) x) s → GiveUpGrounds x.setting (seen x) c s g
     → ReadsBack x (after_end s (spot_of_grant g) (next_job x.setting (seen x)) g (add_end (end_of g) (with_input (Line text) x)))
@@ -178,9 +187,7 @@ gives_up_reads x text c s g l has u = by (holdings_on (seen z) s (spot_of_grant 
   by (e ∷ es) = reply_reads x z j Done (later_same z.past (entry_of z) (record { job = j; reply = Done }) refl) ended
   by [] =
       lease_reads x z s (spot_of_grant g) (ForJob j) (next_of_release z.setting (seen z) s (spot_of_grant g) g) there (in_range_of x text c s l has)
-      (λ r is.
-      absurd (release_silent (lease_place z.setting s) (known z.setting (seen z) s (spot_of_grant g)) g.mode g.lver r
-      (sym (release_plain z.setting (seen z) s (spot_of_grant g) g l.known.0.setting.unpaired) ∙ is))) ended
+      (λ r is. ap (λ q. is_before_input q) (subst (λ n. SaysTurn n) is (release_says z.setting (seen z) s (spot_of_grant g) g))) ended
 
 -- ---- a value that is read from here on
 
@@ -383,7 +390,7 @@ lines_values x text c d k wake bare says = by d where
   by (ConvertsTo s r mode) grounds has =
       facts_back x (carry_decision j c (ConvertsTo s r mode) y) k
       (lease_reads x y s (spot_of r) (ForJob j) (next_of_conversion x.setting (seen y) s (spot_of r) mode r.name) (calm_there x text c s r l (named_arg x text c r l (ap (λ z. resource_named z) grounds.command)) grounds.ready)
-      (in_range_of x text c s l has) (λ q is. absurd (never_answers (known x.setting (seen y) s (spot_of r)) mode r.name q (sym (conversion_plain x.setting (seen y) s (spot_of r) mode r.name k.0.setting.unpaired) ∙ is))) back)
+      (in_range_of x text c s l has) (λ q is. ap (λ a. is_before_input a) (subst (λ n. SaysTurn n) is (conversion_says x.setting (seen y) s (spot_of r) mode r.name))) back)
   by (Requests s r) grounds has =
       facts_back x (carry_decision j c (Requests s r) y) k
       (call_reads x y s.number r.path (RequestRead j) r.offset (ReadSectors 2) (λ i is. true_is_false (sym (ap (λ p. reads_values p) is)))

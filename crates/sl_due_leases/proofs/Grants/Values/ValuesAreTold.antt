@@ -1,5 +1,4 @@
 -- What is told of values is lawful: it was read or written in the answer that is heard.
-use Rattle.sl_due_facts.proofs.Jobs.PlainNexts.{next_plain, settling_plain}
 use Rattle.sl_acts.proofs.ActsTogether.{both}
 use Rattle.sl_acts.proofs.LoopsKeep.{for_each_keeps, when_keeps}
 use Rattle.sl_acts.specs.Acts.{Acts, Has, Hears, lone_job, next_of_settling}
@@ -33,7 +32,7 @@ use Rattle.sl_due_leases.specs.Holdings.Moments.{Known}
 use Rattle.sl_due_leases.specs.Holdings.Promises.{Begins}
 use Rattle.sl_due_facts.proofs.Jobs.CallsStay.{is_special}
 use Rattle.sl_due_facts.proofs.Jobs.EffectsAreAllowed.{DeltaAllowed, decision, delta, ended, exited, lease, left, refusal, removal_of_refused, requested, said, sent, stopped}
-use Rattle.sl_due_facts.proofs.Jobs.RepliesComeAfter.{IsApartLease, joining_apart, lease_apart, second_off, set_late, settle_apart, tells_value, value_late, wake_apart}
+use Rattle.sl_due_facts.proofs.Jobs.RepliesComeAfter.{IsApartFrom, IsApartLease, joining_apart, lease_within, second_off, set_late, settle_within, tells_value, value_late, wake_apart}
 use Rattle.sl_run.specs.LawfulArea.{is_area_work}
 use Rattle.sl_run.specs.LawfulValue.{LawfulSetReply, LawfulValueReply}
 use Rattle.sl_due_leases.proofs.Leases.WorkIsActive.{work_is_active}
@@ -41,6 +40,7 @@ use Rattle.sl_due_leases.proofs.Ways.Kept.EffectsLeave.{there_has}
 use Rattle.sl_trace.specs.Jobs.{job_of_start}
 use Rattle.sl_trace.specs.LeaseWork.{lease_place}
 use Rattle.sl_trace.specs.Leases.{is_on, known, lver_written, spot_of_call, value_written}
+use Rattle.sl_trace.specs.declared.effects.LeaseStep.{LeaseStep}
 use Rattle.sl_trace.specs.declared.lease.LeaseNext.{LeaseNext}
 use Rattle.sl_trace.specs.declared.lease.LeaseNext.TheVariants.{AnswerJob}
 use Rattle.sl_due_facts.proofs.Parts.CallsGrow.{mine_more, others_stay, same_sessions}
@@ -287,6 +287,9 @@ delta_told x s n none may = untold_lawful (carry_delta s n x) (delta NoneTold No
 apart_told : (n : LeaseNext) (r : Reply) → n ≡ AnswerJob r → IsApartLease n → tells_value r ≡ false
 apart_told n r is h = second_off (is_special r) (tells_value r) (subst (λ z. IsApartLease z) is h)
 
+from_told : (step : LeaseStep) (n : LeaseNext) (r : Reply) → n ≡ AnswerJob r → IsApartFrom step n → tells_value r ≡ false
+from_told step n r is h = second_off (is_special r) (tells_value r) (subst (λ z. IsApartFrom step z) is h)
+
 joins_untold : (y : Step) (j : ℕ) (c : Command) (n : ℕ) (a : LockspaceArg) → NoneTold y → NoneTold (carry_decision j c (Joins n a) y)
 unfolding carry_decision
 joins_untold y j c n a none = none
@@ -320,7 +323,7 @@ values_are_told =
           let y : Step = with_input (Line text) x in
           let j : ℕ = next_job x.setting (seen x) in
           let none : NoneTold y = woken_untold x k (ap (λ i. heard_by i) wake) in
-          untold_lawful (carry_decision j c d y) (decision NoneTold NoneTold May AnyCall AnyStart AnyMove allows y j c d (decision_allowed y j c d k.0.setting.unpaired) (λ n a is. joins_untold y j c n a none) none);
+          untold_lawful (carry_decision j c d y) (decision NoneTold NoneTold May AnyCall AnyStart AnyMove allows y j c d (decision_allowed y j c d) (λ n a is. joins_untold y j c n a none) none);
       joins_on = λ x s j step m answer hears is runs k.
           let n : DeltaNext = next_in_joining (delta_of_session x.setting s) (generation_of (seen x) s) (calls_of (seen x) s) x.reading m step answer in
           delta_told x s n (other_untold x s m answer hears k (ap (λ p. is_values p) is))
@@ -341,8 +344,7 @@ values_are_told =
           untold_lawful (carry_lease s spot work n x)
           (lease NoneTold NoneTold May AnyCall AnyStart AnyMove allows x s spot work n
           (lease_allowed x s spot work n (λ r told.
-          apart_told n r told
-          (subst (λ z. IsApartLease z) (sym (next_plain x.setting (seen x) s spot aim m step answer k.0.setting.unpaired)) (lease_apart (lease_place x.setting s) (known x.setting (seen x) s spot) aim m.call.number (lver_written m) step answer))))
+          from_told step n r told (lease_within (lease_place x.setting s) (known x.setting (seen x) s spot) aim m.call.number (lver_written m) step answer)))
           (other_untold x s m answer hears k (ap (λ p. is_values p) is)));
       fails = λ x s m j hears lone runs k.
           more_said x j (IoFault m.call.number) (heard_untold x s m Failed hears k (λ i purpose. subst (λ n. is_running (seen x) n ≡ true) (failing_runs m.call.purpose j i lone purpose) runs)) refl;
@@ -365,7 +367,7 @@ values_are_told =
           let n : LeaseNext = next_of_settling x.setting (seen x) s at in
           untold_lawful (carry_lease s at Settling n x)
           (lease NoneTold NoneTold May AnyCall AnyStart AnyMove allows x s at Settling n (lease_allowed x s at Settling n (λ r told.
-          apart_told n r told (subst (λ z. IsApartLease z) (sym (settling_plain x.setting (seen x) s at k.0.setting.unpaired)) (settle_apart (lease_place x.setting s) (known x.setting (seen x) s at)))))
+          apart_told n r told (settle_within x.setting (seen x) s at)))
           (woken_untold x k (ap (λ i. heard_by i) wake)));
       parts = λ x s has joined recovers free quiet k. part_told x s has joined recovers k;
       frees = λ x s has joined well free quiet k.

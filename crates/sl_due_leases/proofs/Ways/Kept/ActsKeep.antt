@@ -66,7 +66,7 @@ use Rattle.std.specs.Option.{option_map_or}
 use Rattle.std.specs.Prelude.{Bool, Contains, List, None, Option, Some, [], false, is_some, not, true, ℕ, ◌%◌, ◌==◌, ◌≡◌}
 
 pub stand : (x : Step) → Whole x → LeasesStand x
-stand x w = record { plain = w.setting.unpaired; ways = w.facts.ways; turns = w.facts.turns }
+stand x w = record { ways = w.facts.ways; turns = w.facts.turns }
 
 wake_none : (x : Step) → x.input ≡ Wake → HeardNoJob x
 wake_none x wake n a m told there number = absurd (true_is_false (ap (λ i. answers i) (sym told ∙ wake)))
@@ -112,7 +112,7 @@ settled : (x : Step) (s : Session) (at : Spot) → Has x s → at.base % x.setti
     → LeasesStand (carry_lease s at Settling (next_of_settling x.setting (seen x) s at) x)
 settled x s at has aligned none w =
     let n : LeaseNext = next_of_settling x.setting (seen x) s at in
-    let fits : NextIs (moment_of x s at Settling) n = settling_fits x s at w.setting.unpaired (w.facts.ways.each s at (there_has x.setting (seen x) s.number s has) aligned) in
+    let fits : NextIs (moment_of x s at Settling) n = settling_fits x s at (w.facts.ways.each s at (there_has x.setting (seen x) s.number s has) aligned) in
     let ready : LeaseReady x s at =
     record {
       has = has;

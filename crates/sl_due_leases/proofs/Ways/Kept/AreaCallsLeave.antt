@@ -163,7 +163,6 @@ unanswered_is x s at p o op m (inr heard) = absurd (not_empty x.effects.calls (m
 pub area_calls_leave : (x : Step) (s : Session) (at : Spot) (p : Purpose) (o : ℕ) (op : Op) → MayWork x s at p o op → LeasesStand x → LeasesStand (add_call_of s.number at.path p o op x)
 area_calls_leave x s at p o op h k =
     record {
-      plain = k.plain;
       ways = record { each = λ z a there aligned. each_ways x s at p o op h k z (subst (λ ss. Contains ss z) same there) a aligned (s.number == z.number) refl };
       turns = record {
         one = λ m n m_there n_there m_open n_open m_work n_work spots.

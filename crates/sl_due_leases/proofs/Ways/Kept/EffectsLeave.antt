@@ -74,19 +74,19 @@ ways_carried st t u c h =
 -- ---- ends, signals, moves, grants, starts
 
 pub ends_leave : (x : Step) (e : End) → LeasesStand x → LeasesStand (add_end e x)
-ends_leave x e h = record { plain = h.plain; ways = record { each = h.ways.each }; turns = record { one = h.turns.one; newest = h.turns.newest } }
+ends_leave x e h = record { ways = record { each = h.ways.each }; turns = record { one = h.turns.one; newest = h.turns.newest } }
 
 pub signals_leave : (x : Step) (p : ℕ) (s : Signal) → LeasesStand x → LeasesStand (add_signal p s x)
-signals_leave x p s h = record { plain = h.plain; ways = record { each = h.ways.each }; turns = record { one = h.turns.one; newest = h.turns.newest } }
+signals_leave x p s h = record { ways = record { each = h.ways.each }; turns = record { one = h.turns.one; newest = h.turns.newest } }
 
 pub moves_leave : (x : Step) (m : Move) → LeasesStand x → LeasesStand (add_move m x)
-moves_leave x m h = record { plain = h.plain; ways = record { each = h.ways.each }; turns = record { one = h.turns.one; newest = h.turns.newest } }
+moves_leave x m h = record { ways = record { each = h.ways.each }; turns = record { one = h.turns.one; newest = h.turns.newest } }
 
 pub grants_leave : (x : Step) (g : Grant) → LeasesStand x → LeasesStand (add_grant g x)
-grants_leave x g h = record { plain = h.plain; ways = record { each = h.ways.each }; turns = record { one = h.turns.one; newest = h.turns.newest } }
+grants_leave x g h = record { ways = record { each = h.ways.each }; turns = record { one = h.turns.one; newest = h.turns.newest } }
 
 pub starts_leave : (x : Step) (s : Start) → LeasesStand x → LeasesStand (add_start s x)
-starts_leave x s h = record { plain = h.plain; ways = record { each = h.ways.each }; turns = record { one = h.turns.one; newest = h.turns.newest } }
+starts_leave x s h = record { ways = record { each = h.ways.each }; turns = record { one = h.turns.one; newest = h.turns.newest } }
 
 -- ---- replies
 
@@ -126,7 +126,6 @@ replies_leave x j r leaves h =
     let same : submitted (seen (add_reply j r x)) ≡ submitted (seen x) = reply_leaves x j r leaves in
     let c : Carries x.setting (seen x) (seen (add_reply j r x)) = reply_carries x j r leaves in
     record {
-      plain = h.plain;
       ways = ways_carried x.setting (seen x) (seen (add_reply j r x)) c h.ways;
       turns = record {
         one = λ m n m_there n_there m_open n_open m_work n_work spots.
@@ -297,7 +296,6 @@ unfolding is_lease_purpose
 other_calls_leave x s path p o op has none later same h =
     let c : Carries x.setting (seen x) (seen (add_call_of s.number path p o op x)) = other_carries x s path p o op has none later same in
     record {
-      plain = h.plain;
       ways = ways_carried x.setting (seen x) (seen (add_call_of s.number path p o op x)) c h.ways;
       turns = record {
         one = λ m n m_there n_there m_open n_open m_work n_work spots.

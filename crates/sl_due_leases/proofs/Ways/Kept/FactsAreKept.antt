@@ -14,10 +14,10 @@ use Rattle.sl_trace.specs.Traces.{Setting, Trace}
 use Rattle.sl_trace.specs.declared.effects.Entry.{Entry}
 
 has_numbers : (x : Step) → LeasesStand x → HasNumberFacts x
-has_numbers x h = numbers_follow x.setting h.plain (seen x) h.ways
+has_numbers x h = numbers_follow x.setting (seen x) h.ways
 
 has_grounds : (x : Step) → LeasesStand x → HasGrantGrounds x
-has_grounds x h = grants_follow x.setting h.plain (seen x) (heard_by x.input) h.ways h.turns
+has_grounds x h = grants_follow x.setting (seen x) (heard_by x.input) h.ways h.turns
 
 pub way_facts_are_kept : WayFactsAreKept
 way_facts_are_kept = to_less Whole LeasesStand HasWayFacts (λ x h. h.ways) leases_are_kept
@@ -32,7 +32,7 @@ pub grant_grounds_are_kept : GrantGroundsAreKept
 grant_grounds_are_kept = to_less Whole LeasesStand HasGrantGrounds has_grounds leases_are_kept
 
 begun : (st : Setting) (past : Trace) (e : Entry) → WholeTrace st past → LeasesStand (begin_recoveries (begin_step st past e.reading))
-begun st past e w = leases_begin st w.setting.unpaired past e.reading w.facts.ways w.facts.turns
+begun st past e w = leases_begin st past e.reading w.facts.ways w.facts.turns
 
 pub way_facts_begin : WayFactsBegin
 way_facts_begin st past e follows w = (begun st past e w).ways

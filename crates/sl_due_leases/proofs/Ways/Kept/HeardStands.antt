@@ -136,7 +136,6 @@ lease_heard x s work step m a aim h is on aimed w =
     let first = w.facts.turns.newest s m h.session c.there (heard_open x s m a h) lease in
     let has : Contains (sessions x.setting (seen x)) s = there_has x.setting (seen x) m.call.session s h.session in (
       record {
-        plain = w.setting.unpaired;
         call = m;
         rest = first.0;
         newest = first.1;

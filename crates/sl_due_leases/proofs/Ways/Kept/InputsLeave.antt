@@ -116,7 +116,6 @@ quiet_inputs_leave x i wake bare quiet h =
     }
     in
     record {
-      plain = h.plain;
       ways = ways_carried x.setting (seen x) (seen (with_input i x)) c h.ways;
       turns = record {
         one = λ m n m_there n_there m_open n_open m_work n_work spots.
@@ -295,7 +294,6 @@ spot_by x c d is = ap (λ z. spot_of_call x.setting.layout (new_call 0 0 z)) is
 pub answers_leave : (x : Step) (n : ℕ) (a : Answer) → x.input ≡ Wake → x.effects.calls ≡ [] → Expects x (Told n a) → CallFacts x.setting (seen x) → LeasesStand x → LeasesStand (with_input (Told n a) x)
 answers_leave x n a wake bare expects calls h =
     record {
-      plain = h.plain;
       ways = record {
         each = λ s at there aligned.
             ways_grow (way_context x.setting (seen x) s) (way_context x.setting (seen (with_input (Told n a) x)) s) (told_grows x n a wake bare s) (lease_calls x.setting (seen (with_input (Told n a) x)) s at)

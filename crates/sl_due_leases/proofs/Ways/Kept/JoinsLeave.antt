@@ -81,7 +81,6 @@ pub joins_leave : (x : Step) (text : List ℕ) (n : ℕ) (path : List ℕ) (j o 
     → LeasesStand (add_call_of n path (Joining j FirstRead) o op (with_input (Line text) x))
 joins_leave x text n path j o op wake bare calls next h =
     record {
-      plain = h.plain;
       ways = record { each = λ z at there aligned. each z at aligned (either_list (sessions x.setting x.past) (begun_in x.setting x.past (length (sessions x.setting x.past)) (with_call (made_call y n path p o op) (entry_of y))) z there) };
       turns = record {
         one = λ a b a_there b_there a_open b_open a_work b_work spots.

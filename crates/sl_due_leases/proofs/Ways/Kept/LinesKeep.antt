@@ -23,13 +23,14 @@ use Rattle.sl_due_leases.proofs.Ways.Kept.LeaseNextsLeave.{HasEnded, IsLate, Lea
 use Rattle.sl_due_leases.proofs.Ways.Kept.LinesReady.{line_ready}
 use Rattle.sl_due_leases.proofs.Ways.Kept.PlacesStand.{either_list, place_is_on, placed_on}
 use Rattle.sl_due_leases.proofs.Ways.Kept.PlainWalks.{ByPlain, granting, stopped}
-use Rattle.sl_due_facts.proofs.Jobs.PlainNexts.{conversion_plain, release_plain}
 use Rattle.sl_due_leases.specs.Ways.Kept.{LeasesStand}
 use Rattle.sl_trace.specs.Ballots.{moded_block}
 use Rattle.sl_trace.specs.Jobs.{aim_of, aim_of_command, command_numbered, command_of}
-use Rattle.sl_trace.specs.LeaseWork.{LeasePlace, convert_next, lease_place, release_next}
+use Rattle.sl_acts.proofs.Pairs.Decisions.{within_cases}
+use Rattle.sl_trace.specs.LeaseWork.{LeasePlace, convert_next, lease_place, refuses, release_next, within_turn}
 use Rattle.sl_trace.specs.Leases.{LeaseKnown, ended_ballots, holdings_on, is_lease_call, is_on, known, lease_step, open_ballot, spot_of}
-use Rattle.sl_trace.specs.declared.lease.Aim.TheVariants.{Releases}
+use Rattle.sl_trace.specs.declared.lease.Aim.TheVariants.{Acquires, Converts, Releases, Settles}
+use Rattle.sl_trace.specs.declared.lease.Aim.{Aim}
 use Rattle.sl_trace.specs.declared.lease.LeaseNext.TheVariants.{AnswerJob, BecomeExclusive, BecomeShared, GrantJob, Nothing, ReadFor, WriteBlock, WriteLeader}
 use Rattle.sl_trace.specs.declared.lease.LeaseNext.{LeaseNext}
 use Rattle.sl_sector.specs.declared.sector.Block.{Block}
@@ -54,7 +55,8 @@ use Rattle.sl_trace.specs.declared.effects.Spot.{Spot}
 use Rattle.sl_trace.specs.declared.effects.Work.TheVariants.{ForJob}
 use Rattle.sl_trace.specs.declared.input.Input.TheVariants.{Answer as Told, Exit, Line, Number, Spawned, Wake}
 use Rattle.sl_trace.specs.declared.input.Input.{Input}
-use Rattle.sl_trace.specs.declared.reply.Reply.TheVariants.{Done}
+use Rattle.sl_trace.specs.declared.reply.Limited.TheVariants.{Turn as TurnLimit}
+use Rattle.sl_trace.specs.declared.reply.Reply.TheVariants.{Done, Limit as LimitReached}
 use Rattle.sl_trace.specs.declared.reply.Reply.{Reply}
 use Rattle.sl_plain.proofs.Lists.{contains_cases, contains_first, contains_more, contains_none, kept_inside}
 use Rattle.sl_plain.proofs.Numbers.{less_is_other, number_itself}
@@ -142,11 +144,23 @@ unfolding becomes
 converts_none k Shared name = written_or_none k.own (λ own. WriteBlock SetMode (moded_block own true k.self.generation)) (λ b. refl)
 converts_none k Exclusive name = refl
 
-release_none : (st : Setting) (es : Trace) (s : Session) (at : Spot) (g : Grant) → st.layout.paired ≡ false → becomes (next_of_release st es s at g) ≡ false
-release_none st es s at g plain = ap (λ n. becomes n) (release_plain st es s at g plain) ∙ releases_none (lease_place st s) (known st es s at) g.mode g.lver
+refused_none : (aim : Aim) (r : Reply) → becomes (refuses aim r) ≡ false
+unfolding becomes
+refused_none (Acquires mode) r = refl
+refused_none (Converts mode) r = refl
+refused_none Releases r = refl
+refused_none Settles r = refl
 
-conversion_none : (st : Setting) (es : Trace) (s : Session) (at : Spot) (mode : Mode) (name : List ℕ) → st.layout.paired ≡ false → becomes (next_of_conversion st es s at mode name) ≡ false
-conversion_none st es s at mode name plain = ap (λ n. becomes n) (conversion_plain st es s at mode name plain) ∙ converts_none (known st es s at) mode name
+within_none : (p : LeasePlace) (k : LeaseKnown) (aim : Aim) (n : LeaseNext) → becomes n ≡ false → becomes (within_turn p k aim n) ≡ false
+within_none p k aim n h = within_cases (λ z. becomes z ≡ false) p k aim n (λ fits. h) (λ paired over writes. refused_none aim (LimitReached TurnLimit))
+
+release_none : (st : Setting) (es : Trace) (s : Session) (at : Spot) (g : Grant) → becomes (next_of_release st es s at g) ≡ false
+release_none st es s at g =
+    within_none (lease_place st s) (known st es s at) Releases (release_next (lease_place st s) (known st es s at) g.mode g.lver) (releases_none (lease_place st s) (known st es s at) g.mode g.lver)
+
+conversion_none : (st : Setting) (es : Trace) (s : Session) (at : Spot) (mode : Mode) (name : List ℕ) → becomes (next_of_conversion st es s at mode name) ≡ false
+conversion_none st es s at mode name =
+    within_none (lease_place st s) (known st es s at) (Converts mode) (convert_next (known st es s at) mode name) (converts_none (known st es s at) mode name)
 
 no_becoming : (n : LeaseNext) → becomes n ≡ false → (lver : ℕ) (l : Leader) → n ≡ BecomeShared lver l → ⊥
 unfolding becomes
@@ -209,8 +223,8 @@ release_leaves : (z : Step) (s : Session) (at : Spot) (j : ℕ) (g : Grant) → 
 release_leaves z s at j g ready aimed ended k (h ∷ rest) = replies_leave z j Done (inl refl) k
 release_leaves z s at j g ready aimed ended k [] =
     let n : LeaseNext = next_of_release z.setting (seen z) s at g in
-    next_leaves z s at ready (ForJob j) n (λ lver l is. absurd (no_becoming n (release_none z.setting (seen z) s at g ready.setting.unpaired) lver l is))
-    (release_fits z s at (ForJob j) g ready.setting.unpaired aimed ended) k
+    next_leaves z s at ready (ForJob j) n (λ lver l is. absurd (no_becoming n (release_none z.setting (seen z) s at g) lver l is))
+    (release_fits z s at (ForJob j) g aimed ended) k
 
 -- ---- all decisions
 
@@ -238,7 +252,7 @@ carried : (x : Step) (text : List ℕ) (c : Command) (d : Decision) → x.input 
     → LeasesStand (carry_decision (next_job x.setting (seen x)) c d (with_input (Line text) x))
 unfolding carry_decision carry_lease after_end
 carried x text c (Replies r) wake bare reads on its has none w k = k
-carried x text c (Joins n a) wake bare reads on its has none w k = joins_leave x text n a.path (next_job x.setting (seen x)) _ _ wake bare w.facts.calls its.1 (record { plain = w.setting.unpaired; ways = w.facts.ways; turns = w.facts.turns })
+carried x text c (Joins n a) wake bare reads on its has none w k = joins_leave x text n a.path (next_job x.setting (seen x)) _ _ wake bare w.facts.calls its.1 (record { ways = w.facts.ways; turns = w.facts.turns })
 carried x text c (Leaves s) wake bare reads on its has none w k =
     (stopped Anything (λ z. LeasesStand z × HeardNoJob z) by_any (λ t. tt) (with_input (Line text) x) s (Some (next_job x.setting (seen x))) (k, line_none x text)).0
 carried x text c (ReadsArea s r) wake bare reads on its has none w k =
@@ -265,8 +279,8 @@ carried x text c (ConvertsTo s r mode) wake bare reads on its has none w k =
     let y : Step = with_input (Line text) x in
     let n : LeaseNext = next_of_conversion x.setting (seen y) s (spot_of r) mode r.name in
     next_leaves y s (spot_of r) (line_ready x text c s r w.setting w.facts.calls wake reads on.0 has) (ForJob (next_job x.setting (seen x))) n
-    (λ lver l is. absurd (no_becoming n (conversion_none x.setting (seen y) s (spot_of r) mode r.name w.setting.unpaired) lver l is))
-    (conversion_fits y s (spot_of r) (ForJob (next_job x.setting (seen x))) mode r.name w.setting.unpaired (ap (λ o. option_and_then aim_of_command o) (line_command x text c wake reads) ∙ on.1)) k
+    (λ lver l is. absurd (no_becoming n (conversion_none x.setting (seen y) s (spot_of r) mode r.name) lver l is))
+    (conversion_fits y s (spot_of r) (ForJob (next_job x.setting (seen x))) mode r.name (ap (λ o. option_and_then aim_of_command o) (line_command x text c wake reads) ∙ on.1)) k
 carried x text c (Requests s r) wake bare reads on its has none w k =
     let y : Step = with_input (Line text) x in
     let ready : LeaseReady y s (spot_of r) = line_ready x text c s r w.setting w.facts.calls wake reads on has in
@@ -285,4 +299,4 @@ pub lines_keep : (x : Step) (text : List ℕ) (c : Command) (d : Decision) → x
 lines_keep x text c d wake bare reads is none w =
     carried x text c d wake bare reads (subst (λ z. DecidedOn x.setting (seen x) c z) is (decisions_are_clear x.setting (seen x) x.reading c))
     (subst (λ z. IsDecidedFor x.setting (seen x) c z) is (decisions_are_theirs x.setting (seen x) x.reading c)) (subst (λ z. Of (Has (with_input (Line text) x)) z) is (line_has x text c bare)) none w
-    (quiet_inputs_leave x (Line text) wake bare refl (record { plain = w.setting.unpaired; ways = w.facts.ways; turns = w.facts.turns }))
+    (quiet_inputs_leave x (Line text) wake bare refl (record { ways = w.facts.ways; turns = w.facts.turns }))

@@ -1,11 +1,12 @@
 -- Where the calls of a lease stand: in its area. A session's id is a host's.
 use Rattle.sl_area.proofs.SizeLaws.{places_lie_in_area}
 use Rattle.sl_area.specs.Layouts.{Layout, Sizes, layout_with}
-use Rattle.sl_area.specs.Places.{in_area}
+use Rattle.sl_area.specs.Places.{block_offset, block_place, in_area, pair_offset}
 use Rattle.sl_trace.specs.Leases.{is_on, spot_of_call}
 use Rattle.sl_trace_law.proofs.Leases.SpotLaws.{areas_are_apart}
-use Rattle.sl_area.specs.Roles.{IsRole, Role, role_offset}
+use Rattle.sl_area.specs.Roles.{IsRole, Role, block, pair, role_offset}
 use Rattle.sl_run.specs.Lawful.{IsGiven, IsSetting}
+use Rattle.sl_sector.specs.Spelling.{is_first_turn}
 use Rattle.sl_trace.specs.Sessions.{added, added_by, begun_in, given_session, is_join_call, joining_session, sessions}
 use Rattle.sl_trace.specs.declared.session.Session.{Session}
 use Rattle.sl_trace.specs.Traces.{Setting, Submitted, Trace, line_in, new_call, next_job}
@@ -106,6 +107,27 @@ place_is_on st is base role fits =
     subst (λ (l : Layout). in_area l base (role_offset (is_sizes st) base role) ≡ true) (sym is.layout.2)
     (subst (λ (z : Sizes). in_area (layout_with st.layout.digest g) base (role_offset z base role) ≡ true) (sym same)
     ((places_lie_in_area g base is.layout.1).1 role (subst (λ z. IsRole z role) same fits)).0)
+
+-- So is a host's block, of any turn.
+pub block_is_on : (st : Setting) → IsSetting st → (base id turn : ℕ) → (1 ≤ id) × (id ≤ st.layout.hosts) → in_area st.layout base (block_place st.layout base id turn) ≡ true
+block_is_on st is base id turn host = by st.layout.paired refl where
+  by : (q : Bool) → st.layout.paired ≡ q
+      → in_area st.layout base (elim q as (λ z. ℕ) [ false ↦ block_offset st.layout base id | true ↦ pair_offset st.layout base id (is_first_turn turn) ]) ≡ true
+  by false at = place_is_on st is base (block id) (host, at)
+  by true at = place_is_on st is base (pair id (is_first_turn turn)) (host, at)
+
+one_host : (a b : ℕ) → 1 ≤ a → a ≤ b → 1 ≤ b
+one_host a b one le = omega (arith, one, le)
+
+-- And the first host's block, or the first sector of its pair, where any id is a host's.
+pub first_is_on : (st : Setting) → IsSetting st → (base id : ℕ) → (1 ≤ id) × (id ≤ st.layout.hosts) → in_area st.layout base (block_offset st.layout base 1) ≡ true
+first_is_on st is base id host = by st.layout.paired refl where
+  one : (1 ≤ 1) × (1 ≤ st.layout.hosts)
+  one = (omega arith, one_host id st.layout.hosts host.0 host.1)
+
+  by : (q : Bool) → st.layout.paired ≡ q → in_area st.layout base (block_offset st.layout base 1) ≡ true
+  by false at = place_is_on st is base (block 1) (one, at)
+  by true at = place_is_on st is base (pair 1 true) (one, at)
 
 same_bytes : (xs : List ℕ) → bytes_eq xs xs ≡ true
 same_bytes xs = (bytes_eq-Decides xs xs).1 refl

@@ -20,7 +20,7 @@ use Rattle.sl_trace.specs.declared.effects.Work.TheVariants.{ForJob, Settling}
 use Rattle.sl_trace.specs.declared.effects.Work.{Work}
 use Rattle.sl_words.proofs.CaseLaws.{none_some, true_is_false}
 use Rattle.std.proofs.Common.{ap, append-nil, inl, inr, refl, sym, ◌∙◌}
-use Rattle.std.specs.Prelude.{None, Option, Some, false, find, option_and_then, slice_get, ℕ, ◌==◌, ◌≡◌}
+use Rattle.std.specs.Prelude.{None, Option, Some, find, option_and_then, slice_get, ℕ, ◌==◌, ◌≡◌}
 
 begun_aims : (st : Setting) (past : Trace) (now : ℕ) (work : Work) (aim : Aim) → aim_of st past work ≡ Some aim → aim_of st (seen (begin_step st past now)) work ≡ Some aim
 begun_aims st past now Settling aim is = is
@@ -46,10 +46,9 @@ still_waits : (t u : Trace) (m : Submitted) → IsOpen u None m → IsOpen t Non
 still_waits t u m (inl none) = inl none
 still_waits t u m (inr heard) = absurd (none_some m.call.number heard.0)
 
-begun : (st : Setting) → st.layout.paired ≡ false → (past : Trace) (now : ℕ) → WayFacts st past → TurnFacts st past None → LeasesStand (begin_step st past now)
-begun st plain past now ways turns =
+begun : (st : Setting) (past : Trace) (now : ℕ) → WayFacts st past → TurnFacts st past None → LeasesStand (begin_step st past now)
+begun st past now ways turns =
     record {
-      plain = plain;
       ways = ways_carried st past (seen (begin_step st past now)) (begun_carries st past now) ways;
       turns = record {
         one = λ m n m_there n_there m_open n_open m_work n_work spots.
@@ -62,13 +61,13 @@ begun st plain past now ways turns =
 begun_none : (st : Setting) (past : Trace) (now : ℕ) → HeardNoJob (begin_step st past now)
 begun_none st past now n a m told there number = absurd (true_is_false (sym (ap (λ i. answers i) told)))
 
-pub leases_begin : (st : Setting) → st.layout.paired ≡ false → (past : Trace) (now : ℕ) → WayFacts st past → TurnFacts st past None → LeasesStand (begin_recoveries (begin_step st past now))
+pub leases_begin : (st : Setting) (past : Trace) (now : ℕ) → WayFacts st past → TurnFacts st past None → LeasesStand (begin_recoveries (begin_step st past now))
 unfolding begin_recoveries begin_recovery
-leases_begin st plain past now ways turns =
+leases_begin st past now ways turns =
     let x : Step = begin_step st past now in
     (for_each_keeps (λ z. LeasesStand z × HeardNoJob z) (present_sessions x.setting (seen x)) begin_recovery x
     (λ s there y k. when_keeps (λ z. LeasesStand z × HeardNoJob z) (begins_now (seen y) (recovery_of y.setting (seen y) s)) (signal_and_refuse s None) y
-    (λ due f. stopped Anything (λ z. LeasesStand z × HeardNoJob z) by_any (λ t. tt) y s None f) k) (begun st plain past now ways turns, begun_none st past now)).0
+    (λ due f. stopped Anything (λ z. LeasesStand z × HeardNoJob z) by_any (λ t. tt) y s None f) k) (begun st past now ways turns, begun_none st past now)).0
 
 -- Once an answer's acts are done, only what has no answer is open.
 pub turns_rest : (st : Setting) (t : Trace) (heard : Option ℕ) → TurnFacts st t heard → TurnFacts st t None

@@ -49,14 +49,16 @@ free_reason g l o aims more over further h work at n ms (In_settling is) = In_se
 step_grows : (g : Layout) (l : List ℕ) (o : Owner) (aims more : Work → Option Aim) (over further : ℕ → ℕ → Bool) → More aims more over further → (work : Work) (at : ℕ) (c : Call) (ms : List Submitted) (step : LeaseStep)
     → StepWay (context_with g l o aims over) work at c ms step → StepWay (context_with g l o more further) work at c ms step
 step_grows g l o aims more over further h work at c ms (ReadArea name) k = k
-step_grows g l o aims more over further h work at c ms ReadBeforeBlock k = k
-step_grows g l o aims more over further h work at c ms (ReadAgain read) k = k
+step_grows g l o aims more over further h work at c ms ReadBeforeBlock k = record { paired = k.paired; reads = k.reads; settles = h.aimed work _ k.settles }
+step_grows g l o aims more over further h work at c ms (ReadAgain read) k =
+    record { paired = k.paired; after = k.after; bytes = k.bytes; torn = k.torn; heeded = k.heeded; reads = k.reads }
 step_grows g l o aims more over further h work at c ms Phase1Write k =
     record {
       own = k.own;
       wrote = k.wrote;
       host = k.host;
       fresh = k.fresh;
+      known = k.known;
       rises = k.rises;
       named = record { read = k.named.read; name = k.named.name; of_lease = k.named.of_lease; newer = k.named.newer; before = k.named.before; split = k.named.split; verified = k.named.verified };
     }
@@ -90,7 +92,7 @@ step_grows g l o aims more over further h work at c ms FreeLeader k =
       concluded = k.concluded;
       why = free_reason g l o aims more over further h work at k.leader.lver ms k.why;
     }
-step_grows g l o aims more over further h work at c ms ClearMode k = k
+step_grows g l o aims more over further h work at c ms ClearMode k = record { own = k.own; known = k.known; wrote = k.wrote }
 step_grows g l o aims more over further h work at c ms ReadBeforeFree k = record { reads = k.reads; settles = h.aimed work _ k.settles; concluded = k.concluded }
 
 purpose_grows : (g : Layout) (l : List ℕ) (o : Owner) (aims more : Work → Option Aim) (over further : ℕ → ℕ → Bool) → More aims more over further → (at : ℕ) (c : Call) (ms : List Submitted) (p : Purpose)

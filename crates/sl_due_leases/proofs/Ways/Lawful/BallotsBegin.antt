@@ -8,7 +8,6 @@ use Rattle.sl_due_leases.specs.Ways.Instances.{Block_leads, One_is_done, Own_goe
 use Rattle.sl_trace.specs.Ballots.{counted_lver, is_counted_free, owner_of, phase1_block, same_owner, value_of}
 use Rattle.sl_trace.specs.Leases.{block_submitted, ended_ballots, freed, instance_for, is_over_owner, known, last_blocks, lease_calls, own_block, top_lver}
 use Rattle.sl_trace.specs.declared.lease.Instance.TheVariants.{Begins}
-use Rattle.sl_sector.specs.Records.{IsLeader}
 use Rattle.sl_sector.specs.declared.sector.Block.{Block}
 use Rattle.sl_sector.specs.declared.sector.Leader.{Leader}
 use Rattle.sl_trace.specs.Sessions.{me}
@@ -116,12 +115,12 @@ area_reason st t s at l n (Own_goes_on ge kept owned is) =
     let held = is_kept l.read.leader.held (nat_lt 0 (freed_here st t s at) && nat_le l.read.leader.lver (freed_here st t s at)) kept in
     Leader_own l.read (sym (unfreed (freed_here st t s at) l.read.leader.lver held.1) ∙ sym is) held.0 owned
 
-above_freed : (free over owned : Bool) (l : Leader) (freed top n : ℕ) → IsLeader l → is_counted_free l freed ≡ free → WhyInstance free over owned (counted_lver l freed) top n → freed < n
-above_freed free over owned l freed top n fits kept (Block_leads above is) = omega (arith, above, is)
-above_freed free over owned l freed top n fits kept (One_is_done ge why is) = omega (arith, is)
-above_freed free over owned l freed top n fits kept (Own_goes_on ge not_free own is) =
+above_freed : (free over owned : Bool) (l : Leader) (freed top n : ℕ) → (l.lver ≡ 0 → l.held ≡ false) → is_counted_free l freed ≡ free → WhyInstance free over owned (counted_lver l freed) top n → freed < n
+above_freed free over owned l freed top n unused kept (Block_leads above is) = omega (arith, above, is)
+above_freed free over owned l freed top n unused kept (One_is_done ge why is) = omega (arith, is)
+above_freed free over owned l freed top n unused kept (Own_goes_on ge not_free own is) =
     let held = is_kept l.held (nat_lt 0 freed && nat_le l.lver freed) (kept ∙ not_free) in
-    apart freed l.lver n (positive l.lver l.held held.0 fits.unused) held.1 is
+    apart freed l.lver n (positive l.lver l.held held.0 unused) held.1 is
 
 -- ---- no block is torn
 
@@ -156,10 +155,10 @@ pub record MayBegin (st : Setting) (t : Trace) (s : Session) (at : Spot) (n : �
   pub not_freed : freed (lease_calls st t s at) < n
 
 -- After this read of the area.
-pub begins_after_read : (st : Setting) (t : Trace) (s : Session) (at : Spot) (a : AreaRead st t s at) → IsLeader a.leader → (own : Block) → own_block st.layout s.id (lease_calls st t s at) ≡ Some own
+pub begins_after_read : (st : Setting) (t : Trace) (s : Session) (at : Spot) (a : AreaRead st t s at) → (a.leader.lver ≡ 0 → a.leader.held ≡ false) → (own : Block) → own_block st.layout s.id (lease_calls st t s at) ≡ Some own
     → (n : ℕ) → instance_for (known st t s at) a.leader own a.blocks ≡ Begins n → MayBegin st t s at n own
 unfolding known
-begins_after_read st t s at a fits own is n begins =
+begins_after_read st t s at a unused own is n begins =
     let looked : Looked st t s at = record { read = a; own = own; known = is } in
     let why : Why st t s at looked n = why_instance (known st t s at) a.leader own a.blocks n begins in
     record {
@@ -170,7 +169,7 @@ begins_after_read st t s at a fits own is n begins =
           (counted_lver a.leader (freed_here st t s at)) (top_lver own a.blocks) n own.lver (own_below_top own a.blocks) why;
       not_freed =
           above_freed (is_counted_free a.leader (freed_here st t s at)) (is_over_owner (known st t s at) a.leader) (same_owner (owner_of a.leader) (me t s)) a.leader
-          (freed_here st t s at) (top_lver own a.blocks) n fits refl why;
+          (freed_here st t s at) (top_lver own a.blocks) n unused refl why;
     }
 
 most : (a b : ℕ) → a ≡ b → a ≤ b
@@ -193,14 +192,14 @@ next_up : (a b c : ℕ) → a ≤ b → b ≡ c → a < c + 1
 next_up a b c le is = omega (arith, le, is)
 
 -- Where the one before ended with another who is over.
-pub begins_after_loss : (st : Setting) → st.layout.paired ≡ false → (t : Trace) (s : Session) (at : Spot) → Ways (way_context st t s) (lease_calls st t s at) → (own : Block) → block_submitted (lease_calls st t s at) ≡ Some own
+pub begins_after_loss : (st : Setting) (t : Trace) (s : Session) (at : Spot) → Ways (way_context st t s) (lease_calls st t s at) → (own : Block) → block_submitted (lease_calls st t s at) ≡ Some own
     → Contains (ended_ballots st.layout (lease_calls st t s at)) (own.lver, value_of own) → counts_over st t s own.inp own.inp_gen ≡ true → MayBegin st t s at (own.lver + 1) own
-begins_after_loss st plain t s at ws own is ended over =
+begins_after_loss st t s at ws own is ended over =
     record {
       known = own_is st t s at own is;
       reason = Lost_before (value_of own) own.lver ended refl (counted_now st t s own.inp own.inp_gen over);
       not_below = omega arith;
-      not_freed = next_up (freed (lease_calls st t s at)) (own_lver (lease_calls st t s at)) own.lver (freed_below (way_context st t s) plain (lease_calls st t s at) ws) (lver_of (lease_calls st t s at) own is);
+      not_freed = next_up (freed (lease_calls st t s at)) (own_lver (lease_calls st t s at)) own.lver (freed_below (way_context st t s) (lease_calls st t s at) ws) (lver_of (lease_calls st t s at) own is);
     }
 
 -- Its block.

@@ -1,17 +1,18 @@
 -- What a clear read of the blocks shows of other hosts: each of their blocks is whole.
 use Rattle.sl_area.specs.Layouts.{Layout}
-use Rattle.sl_area.specs.Places.{blocks_in}
+use Rattle.sl_area.specs.Places.{BlocksRead, blocks_in, blocks_of, pair_merged, pairs_of}
 use Rattle.sl_trace.specs.Ballots.{ballot_blocks, known_block, stop_among, stop_of, torn_host, with_own}
-use Rattle.sl_trace.proofs.PlainReads.{given_plain}
-use Rattle.sl_trace.specs.Leases.{block_of_host, blocks_bytes, blocks_given}
+use Rattle.sl_trace.specs.Leases.{block_of_host, blocks_given, read_given}
 use Rattle.sl_trace.specs.declared.lease.Stop.TheVariants.{BlockTorn}
 use Rattle.sl_trace.specs.declared.lease.Stop.{Stop}
 use Rattle.sl_sector.specs.declared.sector.Block.{Block}
+use Rattle.sl_sector.specs.declared.sector.PairBlock.{PairBlock}
 use Rattle.sl_trace.specs.Traces.{Submitted}
 use Rattle.sl_words.proofs.CaseLaws.{none_some, some_value}
 use Rattle.std.proofs.Common.{ap, arith, refl, subst, sym, tests, ◌∙◌}
 use Rattle.std.proofs.lemmas.List.FromFn.{length-map-range_with_len}
-use Rattle.std.specs.Prelude.{Bool, IsSome, List, None, Option, Some, [], false, if◌then◌else◌, length, option_map, slice_get, suc, unwrap_or, zero, ℕ, ◌+◌, ◌-◌, ◌<◌, ◌==◌, ◌∷◌, ◌≡◌, ◌≤◌}
+use Rattle.std.proofs.lemmas.List.{length-map}
+use Rattle.std.specs.Prelude.{Bool, IsSome, List, None, Option, Some, [], false, if◌then◌else◌, length, map, option_map, slice_get, suc, true, unwrap_or, zero, ℕ, ◌+◌, ◌-◌, ◌<◌, ◌==◌, ◌∷◌, ◌≡◌, ◌≤◌}
 
 differs : (a b : ℕ) → (a ≡ b → ⊥) → (a == b) ≡ false
 differs a b apart = grind (arith, tests)
@@ -44,8 +45,14 @@ no_other_torn own blocks clear host low high other =
     whole_at own 1 blocks (none_torn own blocks clear) (host - 1) (omega (arith, low, high)) (λ e. other (omega (arith, e, low)))
 
 -- A read of the blocks gives one of each host.
-pub given_long : (g : Layout) → g.paired ≡ false → (m : Submitted) (ms : List Submitted) (blocks : List (Option Block)) → blocks_given g m ms ≡ Some blocks → length blocks ≡ g.hosts
-given_long g plain m ms blocks is = by (blocks_bytes g m) (given_plain g plain m ms blocks is) where
-  by : (o : Option (List ℕ)) → option_map (blocks_in g) o ≡ Some blocks → length blocks ≡ g.hosts
+length-blocks : (g : Layout) (r : BlocksRead) → length (blocks_of g r) ≡ g.hosts
+length-blocks g r = by g.paired where
+  by : (q : Bool) → length (elim q as (λ z. List (Option Block)) [ false ↦ blocks_in g r.last | true ↦ map (λ p. option_map (λ (k : PairBlock). k.block) p) (pairs_of g r) ]) ≡ g.hosts
+  by false = length-map-range_with_len _ 1 g.hosts
+  by true = length-map (pairs_of g r) (λ p. option_map (λ (k : PairBlock). k.block) p) ∙ length-map-range_with_len (pair_merged g r) 1 g.hosts
+
+pub given_long : (g : Layout) (m : Submitted) (ms : List Submitted) (blocks : List (Option Block)) → blocks_given g m ms ≡ Some blocks → length blocks ≡ g.hosts
+given_long g m ms blocks is = by (read_given g m ms) is where
+  by : (o : Option BlocksRead) → option_map (blocks_of g) o ≡ Some blocks → length blocks ≡ g.hosts
   by None at = absurd (none_some blocks at)
-  by (Some bytes) at = ap (λ xs. length xs) (sym (some_value (blocks_in g bytes) blocks at)) ∙ length-map-range_with_len _ 1 g.hosts
+  by (Some r) at = ap (λ xs. length xs) (sym (some_value (blocks_of g r) blocks at)) ∙ length-blocks g r

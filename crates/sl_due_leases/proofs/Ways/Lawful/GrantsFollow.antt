@@ -1,12 +1,12 @@
 -- What grants ask of a lease's calls follows from their ways.
 use Rattle.sl_run.specs.LawfulBlock.{FirstAfter, ReadAfter}
 use Rattle.sl_run.specs.LawfulModes.{IsDone, LawfulExclusiveGrant, NoneShared}
-use Rattle.sl_due_leases.proofs.Ways.Lawful.BallotLaws.{before2, block_same, first_after, read2, read_after, take_concludes, take_freed, take_won, won_own}
+use Rattle.sl_due_leases.proofs.Ways.Lawful.BallotLaws.{asked2, block_same, first_after, read2, read_after, take_concludes, take_freed, take_won, taken_own, won_own}
 use Rattle.sl_due_leases.proofs.Ways.Lawful.ClearReads.{given_long, no_other_torn}
 use Rattle.sl_due_leases.proofs.Ways.NewestCall.{block_is, block_is_no_leader, ended_before, freed_held, freed_passed, leader_is, leader_is_no_block, lver_is, read_writes_no_block, submitted_passed}
 use Rattle.sl_due_leases.proofs.Ways.NextsFit.WritesFit.{no_phase2, stays_closed}
 use Rattle.sl_due_leases.proofs.Ways.WayNumbers.{ended_below, lver_of, own_lver}
-use Rattle.sl_due_leases.proofs.Ways.WayStages.{asked2_own, begun1, begun1_own, is_at_in, prior_at, prior_first, prior_inside, proposed, proposed_lver, proposed_mbal, read1, rest1, rest2, rest_inside, step_way, way_behind, ways_behind, write2}
+use Rattle.sl_due_leases.proofs.Ways.WayStages.{ReadBehind, asked1, begun1, begun1_own, by_at, by_inside, by_rest_inside, first_inside, first_of_two, is_at_in, older_inside, prior_at, prior_inside, proposed, proposed_lver, proposed_mbal, read1, rest2, rest_inside, rest_kept, step_way, way_behind, ways_behind, whole_kept, write2, written_before}
 use Rattle.sl_trace.specs.Ballots.{moded_block, stop_of}
 use Rattle.sl_trace.specs.Jobs.{aim_of, aim_of_command, command_numbered}
 use Rattle.sl_trace.specs.LeaseWork.{looks_for_shared}
@@ -30,6 +30,7 @@ use Rattle.sl_trace.specs.declared.effects.LeaseStep.TheVariants.{FreeLeader, Ph
 use Rattle.sl_trace.specs.declared.effects.LeaseStep.{LeaseStep}
 use Rattle.sl_trace.specs.declared.effects.Mode.TheVariants.{Exclusive}
 use Rattle.sl_trace.specs.declared.effects.Mode.{Mode}
+use Rattle.sl_trace.specs.declared.effects.Op.TheVariants.{ReadSectors}
 use Rattle.sl_trace.specs.declared.effects.Purpose.TheVariants.{Lease}
 use Rattle.sl_trace.specs.declared.effects.Spot.{Spot}
 use Rattle.sl_trace.specs.declared.effects.Work.TheVariants.{ForJob}
@@ -92,70 +93,88 @@ record BallotBehind (w : WayContext) (work : Work) (ms : List Submitted) (n : �
   known : block_submitted ms ≡ Some last
   under : (last.lver ≡ n) × (last.mbal ≡ own.mbal)
 
+-- Reads write no block.
+same_by_read : (n mbal : ℕ) (m : Submitted) (ms : List Submitted) (k : ℕ) → m.call.op ≡ ReadSectors k → SameFrom n mbal ms → SameFrom n mbal (m ∷ ms)
+same_by_read n mbal m ms k reads h = same_more n mbal m ms (no_block m mbal (read_writes_no_block m k reads)) h
+
+-- Where a call stands among those before.
+abbrev SplitsAt : Submitted → List Submitted → List Submitted → Type 0
+SplitsAt d before xs = (after : List Submitted) × (xs ≡ after ++ d ∷ before)
+
+splits_more : (d : Submitted) (before : List Submitted) (m : Submitted) (ms : List Submitted) → SplitsAt d before ms → SplitsAt d before (m ∷ ms)
+splits_more d before m ms h = (m ∷ h.0, ap (λ xs. m ∷ xs) h.1)
+
 ballot_behind : (w : WayContext) (work : Work) (m : Submitted) (ms : List Submitted) → Ways w (m ∷ ms) → (h : TakeWay w work m.at m.call ms) → BallotBehind w work (m ∷ ms) h.leader.lver
 ballot_behind w work m ms ws h =
-    let r2 : Phase2ReadWay w work h.after.prior.at h.after.prior.call h.after.rest = read2 w work m.at m.call ms ws.1 h in
-    let w2s : Ways w h.after.rest = before2 w work m.at m.call ms ws.1 h in
-    let p2 : Phase2Way w work r2.after.prior.call r2.after.rest = write2 w work h.after.prior.at h.after.prior.call h.after.rest w2s r2 in
-    let p2s : Ways w r2.after.rest = rest2 w work h.after.prior.at h.after.prior.call h.after.rest w2s r2 in
-    let r1 : Phase1ReadWay w work p2.after.prior.at p2.after.prior.call p2.after.rest = read1 w work r2.after.prior.call r2.after.rest p2s p2 in
-    let r1s : Ways w p2.after.rest = rest1 w work r2.after.prior.call r2.after.rest p2s p2 in
-    let w1 : CallWay w r1.after.prior r1.after.rest = (ways_behind w p2.after.rest work Phase1Write r1.after r1s).0 in
-    let b1 : Phase1Way w r1.after.prior.call r1.after.rest = begun1 w work r2.after.prior.call r2.after.rest p2s p2 in
-    let own_is : b1.own ≡ p2.own = begun1_own w work r2.after.prior.call r2.after.rest p2s p2 in
-    let wrote : block_written r1.after.prior ≡ Some p2.own = block_is r1.after.prior b1.own b1.wrote ∙ ap (λ z. Some z) own_is in
-    let last : Block = proposed w work r2.after.prior.call r2.after.rest p2 in
+    let b2 : ReadBehind w work Phase2Read h.after.prior h.after.rest = read2 w work m.at m.call ms ws.1 h in
+    let a2 : Phase2ReadWay w work b2.first.at b2.first.call b2.older = asked2 w work m.at m.call ms ws.1 h in
+    let p2 : Phase2Way w work a2.after.prior.call a2.after.rest = write2 w work b2.first.at b2.first.call b2.older b2.ways a2 in
+    let p2s : Ways w a2.after.rest = rest2 w work b2.first.at b2.first.call b2.older b2.ways a2 in
+    let b1 : ReadBehind w work Phase1Read p2.after.prior p2.after.rest = read1 w work a2.after.prior.call a2.after.rest p2s p2 in
+    let a1 : Phase1ReadWay w work b1.first.at b1.first.call b1.older = asked1 w work a2.after.prior.call a2.after.rest p2s p2 in
+    let write : Submitted = a1.after.prior in
+    let w1 : CallWay w write a1.after.rest = (ways_behind w b1.older work Phase1Write a1.after b1.ways).0 in
+    let begun : Phase1Way w write.call a1.after.rest = begun1 w work a2.after.prior.call a2.after.rest p2s p2 in
+    let own_is : begun.own ≡ p2.own = begun1_own w work a2.after.prior.call a2.after.rest p2s p2 in
+    let wrote : block_written write ≡ Some p2.own = block_is w a1.after.rest write begun.own begun.wrote ∙ ap (λ z. Some z) own_is in
+    let last : Block = proposed w work a2.after.prior.call a2.after.rest p2 in
     let lver : last.lver ≡ h.leader.lver = won_own w work m.at m.call ms ws.1 h in
-    let number : ℕ = r1.after.prior.call.number in
-    let s5 : SameFrom number p2.own.mbal r1.after.rest = λ d b there writes le. absurd (below_none d.call.number number (w1.above d there) le) in
-    let s4 : SameFrom number p2.own.mbal p2.after.rest =
-    subst (λ xs. SameFrom number p2.own.mbal xs) (sym r1.after.before) (same_more number p2.own.mbal r1.after.prior r1.after.rest (one_block r1.after.prior p2.own p2.own.mbal wrote refl) s5)
+    let number : ℕ = write.call.number in
+    let mbal : ℕ = p2.own.mbal in
+    let s5 : SameFrom number mbal a1.after.rest = λ d b there writes le. absurd (below_none d.call.number number (w1.above d there) le) in
+    let s4 : SameFrom number mbal b1.older = subst (λ xs. SameFrom number mbal xs) (sym a1.after.before) (same_more number mbal write a1.after.rest (one_block write p2.own mbal wrote refl) s5) in
+    let s3 : SameFrom number mbal a2.after.rest =
+    subst (λ xs. SameFrom number mbal xs) (sym p2.after.before) (whole_kept w work Phase1Read p2.after.prior p2.after.rest b1 (λ xs. SameFrom number mbal xs) (same_by_read number mbal) s4)
     in
-    let s3 : SameFrom number p2.own.mbal r2.after.rest =
-    subst (λ xs. SameFrom number p2.own.mbal xs) (sym p2.after.before)
-    (same_more number p2.own.mbal p2.after.prior p2.after.rest (no_block p2.after.prior p2.own.mbal (read_writes_no_block p2.after.prior w.layout.hosts r1.reads)) s4)
+    let s2 : SameFrom number mbal b2.older =
+    subst (λ xs. SameFrom number mbal xs) (sym a2.after.before)
+    (same_more number mbal a2.after.prior a2.after.rest
+    (one_block a2.after.prior last mbal (block_is w a2.after.rest a2.after.prior last p2.wrote) (proposed_mbal w work a2.after.prior.call a2.after.rest p2)) s3)
     in
-    let s2 : SameFrom number p2.own.mbal h.after.rest =
-    subst (λ xs. SameFrom number p2.own.mbal xs) (sym r2.after.before)
-    (same_more number p2.own.mbal r2.after.prior r2.after.rest
-    (one_block r2.after.prior last p2.own.mbal (block_is r2.after.prior last p2.wrote) (proposed_mbal w work r2.after.prior.call r2.after.rest p2)) s3)
+    let s1 : SameFrom number mbal ms =
+    subst (λ xs. SameFrom number mbal xs) (sym h.after.before) (whole_kept w work Phase2Read h.after.prior h.after.rest b2 (λ xs. SameFrom number mbal xs) (same_by_read number mbal) s2)
     in
-    let s1 : SameFrom number p2.own.mbal ms =
-    subst (λ xs. SameFrom number p2.own.mbal xs) (sym h.after.before)
-    (same_more number p2.own.mbal h.after.prior h.after.rest (no_block h.after.prior p2.own.mbal (read_writes_no_block h.after.prior w.layout.hosts r2.reads)) s2)
+    let inside : (d : Submitted) → Contains a2.after.rest d → Contains (m ∷ ms) d =
+    λ d there.
+    contains_more m ms d
+    (by_rest_inside ms work Phase2Read h.after d (older_inside w work Phase2Read h.after.prior h.after.rest b2 d (rest_inside b2.older work Phase2Write a2.after d there)))
     in
-    let inside : (d : Submitted) → Contains r2.after.rest d → Contains (m ∷ ms) d =
-    λ d there. contains_more m ms d (rest_inside ms work Phase2Read h.after d (rest_inside h.after.rest work Phase2Write r2.after d there))
+    let split : SplitsAt p2.after.prior p2.after.rest h.after.rest =
+    rest_kept w work Phase2Read h.after.prior h.after.rest b2 (λ xs. SplitsAt p2.after.prior p2.after.rest xs)
+    (λ d ds n reads had. splits_more p2.after.prior p2.after.rest d ds had)
+    (a2.after.prior ∷ [], a2.after.before ∙ ap (λ xs. a2.after.prior ∷ xs) p2.after.before)
     in
     record {
-      write = r1.after.prior;
+      write = write;
       own = p2.own;
       read = p2.after.prior;
       blocks = p2.blocks;
       wrote = (
-        inside r1.after.prior (rest_inside r2.after.rest work Phase1Read p2.after r1.after.prior (prior_inside p2.after.rest work Phase1Write r1.after)),
-        prior_at Phase1_write p2.after.rest work Phase1Write r1.after refl,
+        inside write
+            (by_rest_inside a2.after.rest work Phase1Read p2.after write
+            (older_inside w work Phase1Read p2.after.prior p2.after.rest b1 write (prior_inside b1.older work Phase1Write a1.after))),
+        prior_at Phase1_write b1.older work Phase1Write a1.after refl,
         wrote,
-        sym (proposed_lver w work r2.after.prior.call r2.after.rest p2) ∙ lver,
+        sym (proposed_lver w work a2.after.prior.call a2.after.rest p2) ∙ lver,
       );
-      host = subst (λ (z : Block). z.host ≡ w.self.id) own_is b1.host;
-      reads = (inside p2.after.prior (prior_inside r2.after.rest work Phase1Read p2.after), prior_at Phase1_read r2.after.rest work Phase1Read p2.after refl);
-      after = m ∷ h.after.prior ∷ r2.after.prior ∷ [];
+      host = subst (λ (z : Block). z.host ≡ w.self.id) own_is begun.host;
+      reads = (inside p2.after.prior (by_inside a2.after.rest work Phase1Read p2.after), by_at Phase1_read a2.after.rest work Phase1Read p2.after refl);
+      after = m ∷ h.after.prior ∷ split.0;
       before = p2.after.rest;
-      split = ap (λ xs. m ∷ xs) (h.after.before ∙ ap (λ xs. h.after.prior ∷ xs) (r2.after.before ∙ ap (λ xs. r2.after.prior ∷ xs) p2.after.before));
-      ordered = read_after r1.after.prior p2.after.prior r1.done;
-      first_ordered = first_after r1.after.prior p2.after.prior p2.after.rest (prior_first r2.after.rest work Phase1Read p2.after refl);
-      same = same_more number p2.own.mbal m ms (no_block m p2.own.mbal (leader_is_no_block m h.leader h.wrote)) s1;
+      split = ap (λ xs. m ∷ xs) (h.after.before ∙ ap (λ xs. h.after.prior ∷ xs) split.1);
+      ordered = read_after write p2.after.prior (written_before w work Phase1Read p2.after.prior p2.after.rest b1 write a1.done);
+      first_ordered = first_after w work Phase1Read p2.after.prior p2.after.rest b1 write a1.done;
+      same = same_more number mbal m ms (no_block m mbal (leader_is_no_block w m h.leader h.wrote)) s1;
       given = p2.given;
       clear = p2.clear;
       aim = p2.aim;
       aimed = p2.aimed;
       alone = p2.alone;
       last = last;
-      known = submitted_passed m ms (leader_is_no_block m h.leader h.wrote)
+      known = submitted_passed m ms (leader_is_no_block w m h.leader h.wrote)
           ∙ (ap (λ xs. block_submitted xs) h.after.before
-          ∙ (submitted_passed h.after.prior h.after.rest (read_writes_no_block h.after.prior w.layout.hosts r2.reads) ∙ asked2_own w work h.after.prior.at h.after.prior.call h.after.rest w2s r2));
-      under = (lver, proposed_mbal w work r2.after.prior.call r2.after.rest p2);
+          ∙ (submitted_passed h.after.prior h.after.rest (read_writes_no_block h.after.prior b2.sectors b2.reads.1) ∙ taken_own w work m.at m.call ms ws.1 h));
+      under = (lver, proposed_mbal w work a2.after.prior.call a2.after.rest p2);
     }
 
 -- ---- the work whose answer was heard
@@ -193,19 +212,19 @@ one_of_four false b c d is = ap (λ t. t || c || d) is
 reads_blocks : (m : Submitted) → is_at Phase1_read m ≡ true → IsTrue (is_block_read m)
 reads_blocks m is = one_of_four (is_area_read m) (is_at Phase1_read m) (is_at Phase2_read m) (is_at Read_before_block m) is
 
-none_shared : (st : Setting) → st.layout.paired ≡ false → (t : Trace) (s : Session) (work : Work) (ms : List Submitted) (n : ℕ) (aim : Aim) → (b : BallotBehind (way_context st t s) work ms n) → aim_of st t work ≡ Some aim → looks_for_shared aim ≡ true
+none_shared : (st : Setting) (t : Trace) (s : Session) (work : Work) (ms : List Submitted) (n : ℕ) (aim : Aim) → (b : BallotBehind (way_context st t s) work ms n) → aim_of st t work ≡ Some aim → looks_for_shared aim ≡ true
     → NoneShared st t s b.blocks
-none_shared st plain t s work ms n aim b aimed looks =
+none_shared st t s work ms n aim b aimed looks =
     record {
       over = b.alone (ap (λ a. looks_for_shared a) (one_value b.aim aim (aim_of st t work) b.aimed aimed) ∙ looks);
       whole = λ host low high other.
-          no_other_torn b.own b.blocks b.clear host low (subst (λ n. host ≤ n) (sym (given_long st.layout plain b.read b.before b.blocks b.given)) high) (λ e. other (e ∙ b.host));
+          no_other_torn b.own b.blocks b.clear host low (subst (λ n. host ≤ n) (sym (given_long st.layout b.read b.before b.blocks b.given)) high) (λ e. other (e ∙ b.host));
     }
 
-exclusive_grant : (st : Setting) → st.layout.paired ≡ false → (t : Trace) (s : Session) (at : Spot) (work : Work) (m : Submitted) (rest : List Submitted) (n : ℕ) (aim : Aim) → lease_calls st t s at ≡ m ∷ rest → Ways (way_context st t s) (m ∷ rest)
+exclusive_grant : (st : Setting) (t : Trace) (s : Session) (at : Spot) (work : Work) (m : Submitted) (rest : List Submitted) (n : ℕ) (aim : Aim) → lease_calls st t s at ≡ m ∷ rest → Ways (way_context st t s) (m ∷ rest)
     → (h : TakeWay (way_context st t s) work m.at m.call rest) → h.leader.lver ≡ n → (b : BallotBehind (way_context st t s) work (m ∷ rest) n) → aim_of st t work ≡ Some aim → looks_for_shared aim ≡ true
     → LawfulExclusiveGrant st t s at n
-exclusive_grant st plain t s at work m rest n aim first ws h under b aimed looks =
+exclusive_grant st t s at work m rest n aim first ws h under b aimed looks =
     record {
       won = subst (λ xs. Contains (ended_ballots st.layout xs) (n, me t s)) (sym first)
           (ended_before st.layout m rest (n, me t s) (subst (λ k. Contains (ended_ballots st.layout rest) (k, me t s)) under (take_won (way_context st t s) work m.at m.call rest h)));
@@ -222,7 +241,7 @@ exclusive_grant st plain t s at work m rest n aim first ws h under b aimed looks
       first_ordered = b.first_ordered;
       same_ballot = subst (λ xs. SameFrom b.write.call.number b.own.mbal xs) (sym first) b.same;
       given = b.given;
-      none_shared = none_shared st plain t s work (m ∷ rest) n aim b aimed looks;
+      none_shared = none_shared st t s work (m ∷ rest) n aim b aimed looks;
     }
 
 held_none : (l : Leader) → l.held ≡ true → (if l.held then 0 else l.lver) ≡ 0
@@ -240,25 +259,25 @@ idle st t heard s m d j rest way is heard_it there opens = by (contains_cases m 
       let number : d.call.number ≡ m.call.number = some_value d.call.number m.call.number (sym told.0 ∙ heard_it) in
       let less : d.call.number < m.call.number = way.above d old in absurd (omega (arith, number, less))
 
-stands : (st : Setting) → st.layout.paired ≡ false → (t : Trace) (heard : Option ℕ) (s : Session) (m : Submitted) (j : ℕ) (c : Command) (aim : Aim) → (d : IsDoneWork st t heard s m j TakeLeader c) → WorkBehind st t heard s m j TakeLeader
+stands : (st : Setting) (t : Trace) (heard : Option ℕ) (s : Session) (m : Submitted) (j : ℕ) (c : Command) (aim : Aim) → (d : IsDoneWork st t heard s m j TakeLeader c) → WorkBehind st t heard s m j TakeLeader
     → aim_of st t (ForJob j) ≡ Some aim → looks_for_shared aim ≡ true → StandsExclusive st t heard s (spot_of_call st.layout m) (lver_written m)
 unfolding exclusive_grant
-stands st plain t heard s m j c aim d b aimed looks =
+stands st t heard s m j c aim d b aimed looks =
     let w : WayContext = way_context st t s in
     let at : Spot = spot_of_call st.layout m in
     let h : TakeWay w (ForJob j) m.at m.call b.rest = b.way in
-    let lver : lver_written m ≡ h.leader.lver = lver_is m h.leader h.wrote in
+    let lver : lver_written m ≡ h.leader.lver = lver_is w m h.leader h.wrote in
     let behind : BallotBehind w (ForJob j) (m ∷ b.rest) (lver_written m) = subst (λ n. BallotBehind w (ForJob j) (m ∷ b.rest) n) (sym lver) (ballot_behind w (ForJob j) m b.rest b.ways h) in
-    let freed_same : freed (m ∷ b.rest) ≡ freed b.rest = freed_held m b.rest h.leader (leader_is m h.leader h.wrote) (held_none h.leader h.held) in
+    let freed_same : freed (m ∷ b.rest) ≡ freed b.rest = freed_held m b.rest h.leader (leader_is w m h.leader h.wrote) (held_none h.leader h.held) in
     record {
       taken = record {
         call = m;
         leader = h.leader;
         of_lease = subst (λ xs. Contains xs m) (sym b.first) (contains_first m b.rest);
-        written = (leader_is m h.leader h.wrote, h.held, sym lver);
+        written = (leader_is w m h.leader h.wrote, h.held, sym lver);
         answered = ok_answer m d.answer d.done;
       };
-      ballot = exclusive_grant st plain t s at (ForJob j) m b.rest (lver_written m) aim b.first b.ways h (sym lver) behind aimed looks;
+      ballot = exclusive_grant st t s at (ForJob j) m b.rest (lver_written m) aim b.first b.ways h (sym lver) behind aimed looks;
       not_freed = subst (λ xs. freed xs < lver_written m) (sym b.first) (fewer (freed (m ∷ b.rest)) (freed b.rest) h.leader.lver (lver_written m) freed_same (take_freed w (ForJob j) m.at m.call b.rest b.ways.1 h) lver);
       own = behind.last;
       known = ap (λ xs. block_submitted xs) b.first ∙ behind.known;
@@ -267,7 +286,7 @@ stands st plain t heard s m j c aim d b aimed looks =
           ∙ stays_closed st.layout m b.rest (no_phase2 m (Lease (ForJob j) TakeLeader) d.work.purpose refl) (take_concludes w (ForJob j) m.at m.call b.rest b.ways.1 h);
       ended = λ p there.
           most p.0 (own_lver (m ∷ b.rest)) behind.last.lver (lver_written m)
-          (ended_below w plain (m ∷ b.rest) b.ways p.0 p.1 (subst (λ xs. Contains (ended_ballots st.layout xs) p) b.first there)) (lver_of (m ∷ b.rest) behind.last behind.known) behind.under.0;
+          (ended_below w (m ∷ b.rest) b.ways p.0 p.1 (subst (λ xs. Contains (ended_ballots st.layout xs) p) b.first there)) (lver_of (m ∷ b.rest) behind.last behind.known) behind.under.0;
       idle = λ k there opens. idle st t heard s m k j b.rest b.ways.0 d.work.purpose d.heard_it (subst (λ xs. Contains xs k) b.first there) opens;
     }
   where
@@ -328,8 +347,8 @@ mode_behind w work at n ms mode ws aimed (After_mode after is done under) = by m
 moded_lver : (w : WayContext) (work : Work) (at : ℕ) (m : Submitted) (ms : List Submitted) → (h : ModeWay w work at m.call ms) → lver_written m ≡ h.own.lver
 moded_lver w work at m ms h =
     let b : Block = moded_block h.own true w.self.generation in
-    ap (λ o. elim o as (λ z. ℕ) [ Some l ↦ l.lver | None ↦ option_map_or (λ (k : Block). k.lver) (block_written m) 0 ]) (block_is_no_leader m b h.wrote)
-    ∙ ap (λ o. option_map_or (λ (k : Block). k.lver) o 0) (block_is m b h.wrote)
+    ap (λ o. elim o as (λ z. ℕ) [ Some l ↦ l.lver | None ↦ option_map_or (λ (k : Block). k.lver) (block_written m) 0 ]) (block_is_no_leader w ms m b h.wrote)
+    ∙ ap (λ o. option_map_or (λ (k : Block). k.lver) o 0) (block_is w ms m b h.wrote)
 
 -- Blocks from this number on have the shared mode.
 abbrev SharedFrom : Setting → Trace → Session → ℕ → List Submitted → Type 0
@@ -347,7 +366,7 @@ own_shared : (st : Setting) (t : Trace) (s : Session) (work : Work) (at : ℕ) (
     → (b.shared ≡ true) × (b.mode_gen ≡ generation_of t s)
 own_shared st t s work at m ms h b writes =
     let made : Block = moded_block h.own true (generation_of t s) in
-    let same : made ≡ b = block_same m made b (block_is m made h.wrote) writes in
+    let same : made ≡ b = block_same m made b (block_is (way_context st t s) ms m made h.wrote) writes in
     (ap (λ (z : Block). z.shared) (sym same), ap (λ (z : Block). z.mode_gen) (sym same))
 
 freed_for : (st : Setting) (t : Trace) (heard : Option ℕ) (s : Session) (m : Submitted) (j : ℕ) (c : Command) (mode : Mode) → (d : IsDoneWork st t heard s m j FreeLeader c) → WorkBehind st t heard s m j FreeLeader
@@ -355,16 +374,17 @@ freed_for : (st : Setting) (t : Trace) (heard : Option ℕ) (s : Session) (m : S
 freed_for st t heard s m j c mode d b aimed =
     let w : WayContext = way_context st t s in
     let h : FreeWay w (ForJob j) m.at m.call b.rest = b.way in
-    let lver : lver_written m ≡ h.leader.lver = lver_is m h.leader h.wrote in
+    let lver : lver_written m ≡ h.leader.lver = lver_is w m h.leader h.wrote in
     let k : ModeBehind w (ForJob j) m.at h.leader.lver b.rest = mode_behind w (ForJob j) m.at h.leader.lver b.rest mode b.ways.1 aimed h.why in
     let mode_ways = ways_behind w b.rest (ForJob j) SetMode k.after b.ways.1 in
     let take_ways = ways_behind w k.after.rest (ForJob j) TakeLeader k.take mode_ways.1 in
     let t1 : TakeWay w (ForJob j) k.take.prior.at k.take.prior.call k.take.rest = way_behind w k.after.rest (ForJob j) TakeLeader k.take mode_ways.1 in
     let own : h.leader.lver ≡ k.mode.own.lver = sym k.under ∙ moded_lver w (ForJob j) k.after.prior.at k.after.prior k.after.rest k.mode in
-    let taken_lver : t1.leader.lver ≡ k.mode.own.lver = sym (lver_is k.take.prior t1.leader t1.wrote) ∙ k.same in
+    let taken_lver : t1.leader.lver ≡ k.mode.own.lver = sym (lver_is w k.take.prior t1.leader t1.wrote) ∙ k.same in
+    let begun : ReadBehind w (ForJob j) Phase2Read t1.after.prior t1.after.rest = read2 w (ForJob j) k.take.prior.at k.take.prior.call k.take.rest take_ways.1 t1 in
     let n_is : t1.leader.lver ≡ lver_written m = taken_lver ∙ (sym own ∙ sym lver) in
     let block : Block = moded_block k.mode.own true (generation_of t s) in
-    let wrote : block_written k.after.prior ≡ Some block = block_is k.after.prior block k.mode.wrote in
+    let wrote : block_written k.after.prior ≡ Some block = block_is w k.after.rest k.after.prior block k.mode.wrote in
     let whole : lease_calls st t s (spot_of_call st.layout m) ≡ m ∷ (k.after.prior ∷ (k.take.prior ∷ (t1.after.prior ∷ t1.after.rest))) =
     b.first ∙ ap (λ xs. m ∷ xs) (k.after.before ∙ ap (λ xs. k.after.prior ∷ xs) (k.take.before ∙ ap (λ xs. k.take.prior ∷ xs) t1.after.before))
     in
@@ -373,8 +393,8 @@ freed_for st t heard s m j c mode d b aimed =
     in
     let freed_rest : freed b.rest < lver_written m =
     below (freed b.rest) (freed k.after.rest) (freed k.take.rest) t1.leader.lver (lver_written m)
-    (ap (λ xs. freed xs) k.after.before ∙ freed_passed k.after.prior k.after.rest (block_is_no_leader k.after.prior block k.mode.wrote))
-    (ap (λ xs. freed xs) k.take.before ∙ freed_held k.take.prior k.take.rest t1.leader (leader_is k.take.prior t1.leader t1.wrote) (held_none t1.leader t1.held))
+    (ap (λ xs. freed xs) k.after.before ∙ freed_passed k.after.prior k.after.rest (block_is_no_leader w k.after.rest k.after.prior block k.mode.wrote))
+    (ap (λ xs. freed xs) k.take.before ∙ freed_held k.take.prior k.take.rest t1.leader (leader_is w k.take.prior t1.leader t1.wrote) (held_none t1.leader t1.held))
     (take_freed w (ForJob j) k.take.prior.at k.take.prior.call k.take.rest take_ways.1 t1) n_is
     in
     record {
@@ -386,8 +406,18 @@ freed_for st t heard s m j c mode d b aimed =
       mode_answer = k.done.answer;
       free_answer = d.answer;
       of_lease = (inside, subst (λ xs. Contains xs m) (sym b.first) (contains_first m b.rest));
+      begun = begun.first;
       step = Phase2Read;
-      of_job = t1.after.its;
+      of_job = (
+        subst (λ xs. Contains xs begun.first) (sym whole)
+            (contains_more m (k.after.prior ∷ (k.take.prior ∷ (t1.after.prior ∷ t1.after.rest))) begun.first
+            (contains_more k.after.prior (k.take.prior ∷ (t1.after.prior ∷ t1.after.rest)) begun.first
+            (contains_more k.take.prior (t1.after.prior ∷ t1.after.rest) begun.first (first_inside w (ForJob j) Phase2Read t1.after.prior t1.after.rest begun)))),
+        begun.its,
+      );
+      since = begun.earlier;
+      first_since = λ again f is.
+          equal_is_most begun.first.at f.at (ap (λ (z : Submitted). z.at) (sym (first_of_two w (ForJob j) Phase2Read t1.after.prior t1.after.rest begun again f is)));
       after = m ∷ k.after.prior ∷ k.take.prior ∷ [];
       before = t1.after.rest;
       split = whole;
@@ -401,10 +431,10 @@ freed_for st t heard s m j c mode d b aimed =
         sym taken_lver ∙ n_is,
         k.done.answered,
       );
-      freed = (k.done.by, frees m h.leader (lver_written m) (leader_is m h.leader h.wrote) (sym lver) h.free, d.done);
+      freed = (k.done.by, frees m h.leader (lver_written m) (leader_is w m h.leader h.wrote) (sym lver) h.free, d.done);
       first = λ f there is. first_free f there is freed_rest;
       kept = subst (λ xs. SharedFrom st t s k.after.prior.call.number xs) (sym b.first)
-          (shared_more st t s k.after.prior.call.number m b.rest (λ x writes. absurd (no_value x (block_written m) writes (leader_is_no_block m h.leader h.wrote)))
+          (shared_more st t s k.after.prior.call.number m b.rest (λ x writes. absurd (no_value x (block_written m) writes (leader_is_no_block w m h.leader h.wrote)))
           (subst (λ xs. SharedFrom st t s k.after.prior.call.number xs) (sym k.after.before)
           (shared_more st t s k.after.prior.call.number k.after.prior k.after.rest (own_shared st t s (ForJob j) k.after.prior.at k.after.prior k.after.rest k.mode)
           (λ f x there le writes. absurd (below_none f.call.number k.after.prior.call.number (mode_ways.0.above f there) le)))));
@@ -434,7 +464,7 @@ moded_for st t heard s m j c b =
     let h : ModeWay (way_context st t s) (ForJob j) m.at m.call b.rest = b.way in
     record {
       block = moded_block h.own true (generation_of t s);
-      written = (block_is m (moded_block h.own true (generation_of t s)) h.wrote, refl, refl);
+      written = (block_is (way_context st t s) b.rest m (moded_block h.own true (generation_of t s)) h.wrote, refl, refl);
       kept = subst (λ xs. SharedFrom st t s m.call.number xs) (sym b.first)
           (shared_more st t s m.call.number m b.rest (own_shared st t s (ForJob j) m.at m b.rest h) (λ f x there le writes. absurd (below_none f.call.number m.call.number (b.ways.0.above f there) le)));
     }
@@ -444,11 +474,11 @@ moded_for st t heard s m j c b =
 aim_is : (st : Setting) (t : Trace) (j : ℕ) (c : Command) (aim : Aim) → command_numbered st t j ≡ Some c → aim_of_command c ≡ Some aim → aim_of st t (ForJob j) ≡ Some aim
 aim_is st t j c aim known is = ap (λ o. option_and_then aim_of_command o) known ∙ is
 
-pub grants_follow : (st : Setting) → st.layout.paired ≡ false → (t : Trace) (heard : Option ℕ) → WayFacts st t → TurnFacts st t heard → GrantGrounds st t heard
-grants_follow st plain t heard ways turns =
+pub grants_follow : (st : Setting) (t : Trace) (heard : Option ℕ) → WayFacts st t → TurnFacts st t heard → GrantGrounds st t heard
+grants_follow st t heard ways turns =
     record {
-      acquired = λ s m j c d is. stands st plain t heard s m j c (Acquires Exclusive) d (work_behind st t heard s m j TakeLeader c ways turns d) (aim_is st t j c (Acquires Exclusive) d.work.command is) refl;
-      converted = λ s m j c d is. stands st plain t heard s m j c (Converts Exclusive) d (work_behind st t heard s m j TakeLeader c ways turns d) (aim_is st t j c (Converts Exclusive) d.work.command is) refl;
+      acquired = λ s m j c d is. stands st t heard s m j c (Acquires Exclusive) d (work_behind st t heard s m j TakeLeader c ways turns d) (aim_is st t j c (Acquires Exclusive) d.work.command is) refl;
+      converted = λ s m j c d is. stands st t heard s m j c (Converts Exclusive) d (work_behind st t heard s m j TakeLeader c ways turns d) (aim_is st t j c (Converts Exclusive) d.work.command is) refl;
       shared = λ s m j c mode d is. freed_for st t heard s m j c mode d (work_behind st t heard s m j FreeLeader c ways turns d) (aim_is st t j c (Acquires mode) d.work.command is);
       moded = λ s m j c d is. moded_for st t heard s m j c (work_behind st t heard s m j SetMode c ways turns d);
     }

@@ -1,9 +1,10 @@
 -- What a settling decides fits: an open ballot is run again, a mode left over is cleared, an owed free is looked for.
+use Rattle.sl_acts.proofs.Pairs.Decisions.{begin_cases, within_cases}
 use Rattle.sl_due_leases.proofs.Ways.Lawful.BallotsBegin.{MayBegin, begins_again, phase1_is_lawful}
 use Rattle.sl_due_leases.proofs.Ways.WayNumbers.{IsOpened, is_opened, is_verified}
 use Rattle.sl_due_leases.specs.Ways.Nexts.{Moment, NextIs, calls_at, context_at, known_at, place_at}
 use Rattle.sl_trace.specs.Ballots.{moded_block, phase1_block}
-use Rattle.sl_trace.specs.LeaseWork.{begin_next, phase1_next, refuses, settle_next, settle_owed}
+use Rattle.sl_trace.specs.LeaseWork.{begin_next, phase1_next, refuses, settle_begin, settle_next, settle_owed, within_turn}
 use Rattle.sl_trace.specs.Leases.{block_submitted, known, last_blocks, mode_gen_of, open_ballot, owed_free}
 use Rattle.sl_trace.specs.declared.lease.Aim.TheVariants.{Acquires, Converts, Releases, Settles}
 use Rattle.sl_trace.specs.declared.lease.Aim.{Aim}
@@ -15,7 +16,7 @@ use Rattle.sl_sector.specs.declared.sector.Block.{Block}
 use Rattle.sl_due_facts.specs.Facts.WayFacts.{IsVerified, Ways}
 use Rattle.sl_trace.specs.Traces.{is_before_input}
 use Rattle.sl_trace.specs.declared.effects.LeaseStep.TheVariants.{ClearMode, Phase1Write}
-use Rattle.sl_trace.specs.declared.reply.Limited.TheVariants.{Lver as LverLimit, Mbal as MbalLimit}
+use Rattle.sl_trace.specs.declared.reply.Limited.TheVariants.{Lver as LverLimit, Mbal as MbalLimit, Turn as TurnLimit}
 use Rattle.sl_trace.specs.declared.reply.Reply.TheVariants.{Limit as LimitReached}
 use Rattle.sl_trace.specs.declared.reply.Reply.{Reply}
 use Rattle.sl_words.specs.Bounds.{is_number}
@@ -69,17 +70,28 @@ unfolding known
 moded_by x none aimed true = cleared x (block_submitted (calls_at x)) refl
 moded_by x none aimed false = freed_by x none aimed (owed_free (known_at x))
 
-ballot_by : (x : Moment) → x.setting.layout.paired ≡ false → Ways (context_at x) (calls_at x) → (context_at x).aims x.work ≡ Some Settles → (o : Option ℕ) → open_ballot x.setting.layout (calls_at x) ≡ o
+ballot_by : (x : Moment) → Ways (context_at x) (calls_at x) → (context_at x).aims x.work ≡ Some Settles → (o : Option ℕ) → open_ballot x.setting.layout (calls_at x) ≡ o
     → NextIs x (settle_owed (place_at x) (known_at x) (elim o as (λ z. Option Owed) [
       | Some n ↦ Some (BallotOwed n)
       | None ↦ elim ((known_at x).shown && not (known_at x).shared) as (λ z. Option Owed) [ true ↦ Some ModeOwed | false ↦ option_map (λ n. FreeOwed n) (owed_free (known_at x)) ]
     ]))
-ballot_by x plain ways aimed None is = moded_by x is aimed ((known_at x).shown && not (known_at x).shared)
-ballot_by x plain ways aimed (Some n) is =
-    let o : IsOpened (calls_at x) n = is_opened (context_at x) plain (calls_at x) ways n is in
-    begin_is x Settles n o.own (begins_again x.setting x.trace x.session x.at n o) (is_verified (context_at x) plain (calls_at x) ways o.own o.known)
+ballot_by x ways aimed None is = moded_by x is aimed ((known_at x).shown && not (known_at x).shared)
+ballot_by x ways aimed (Some n) is =
+    let o : IsOpened (calls_at x) n = is_opened (context_at x) (calls_at x) ways n is in
+    begin_is x Settles n o.own (begins_again x.setting x.trace x.session x.at n o) (is_verified (context_at x) (calls_at x) ways o.own o.known)
 
 -- A settling.
-pub settling_is : (x : Moment) → x.setting.layout.paired ≡ false → Ways (context_at x) (calls_at x) → (context_at x).aims x.work ≡ Some Settles → NextIs x (settle_next (place_at x) (known_at x))
+pub settling_is : (x : Moment) → Ways (context_at x) (calls_at x) → (context_at x).aims x.work ≡ Some Settles → NextIs x (settle_next (place_at x) (known_at x))
 unfolding settle_next known
-settling_is x plain ways aimed = ballot_by x plain ways aimed (open_ballot x.setting.layout (calls_at x)) refl
+settling_is x ways aimed = ballot_by x ways aimed (open_ballot x.setting.layout (calls_at x)) refl
+
+-- ---- how a settling begins, and what its turn bounds
+
+-- With pairs it reads before its block.
+pub beginning_is : (x : Moment) → Ways (context_at x) (calls_at x) → (context_at x).aims x.work ≡ Some Settles → NextIs x (settle_begin (place_at x) (known_at x))
+beginning_is x ways aimed =
+    begin_cases (NextIs x) (place_at x) (known_at x) (λ paired owes c op. record { paired = paired; reads = op; settles = aimed }) (λ none. settling_is x ways aimed)
+
+-- What would pass its turn's limit is refused.
+pub within_is : (x : Moment) (aim : Aim) (next : LeaseNext) → NextIs x next → NextIs x (within_turn (place_at x) (known_at x) aim next)
+within_is x aim next h = within_cases (NextIs x) (place_at x) (known_at x) aim next (λ fits. h) (λ paired over writes. refusal_is x aim (LimitReached TurnLimit) refl)

@@ -1,24 +1,27 @@
 -- What is decided after the writes of a lease, and after the read before a free, fits.
 use Rattle.sl_area.specs.Layouts.{Layout}
-use Rattle.sl_due_leases.proofs.Ways.Lawful.BallotLaws.{before2, read2, take_concludes, take_won, won_own}
+use Rattle.sl_due_leases.proofs.Ways.Lawful.BallotLaws.{read2, take_concludes, take_won, taken_own, won_own}
 use Rattle.sl_due_leases.proofs.Ways.NewestCall.{block_is, block_is_no_leader, ended_before, ended_here, leader_is_no_block, lver_is, read_writes_no_block, submitted_passed}
-use Rattle.sl_due_leases.proofs.Ways.NextsFit.PhasesFit.{heard_comes, heard_done, heard_way}
+use Rattle.sl_due_leases.proofs.Ways.NextsFit.PhasesFit.{heard_comes, heard_done, heard_read, heard_way}
 use Rattle.sl_due_leases.proofs.Ways.NextsFit.SettlingsFit.{settling_is}
-use Rattle.sl_due_leases.proofs.Ways.WayStages.{asked2_own, is_at_in, rest_behind, way_behind}
+use Rattle.sl_due_leases.proofs.Ways.WayStages.{ReadBehind, is_at_in, rest_behind, way_behind, whole_kept}
 use Rattle.sl_due_leases.specs.Ways.Nexts.{IsHeard, Moment, NextIs, calls_at, context_at, known_at, place_at}
 use Rattle.sl_trace.specs.Ballots.{moded_block, same_owner}
-use Rattle.sl_trace.specs.LeaseWork.{after_clearing, after_freeing, after_moding, after_take, leader_for}
+use Rattle.sl_trace.specs.LeaseWork.{after_clearing, after_freeing, after_moding, after_take, first_step, leader_for, settle_next}
 use Rattle.sl_trace.specs.Leases.{Phase2_write, block_submitted, block_written, concludes, ended_ballot, ended_ballots, exclusive_on, free_left, is_at, known, leader_written, lver_written, open_ballot, owed_free, settles_free, won_by}
 use Rattle.sl_trace.specs.declared.lease.Aim.TheVariants.{Acquires, Converts, Releases, Settles}
 use Rattle.sl_trace.specs.declared.lease.Aim.{Aim}
 use Rattle.sl_trace.specs.declared.lease.LeaseNext.TheVariants.{BecomeExclusive, BecomeShared, Nothing, WriteBlock, WriteLeader}
 use Rattle.sl_sector.specs.declared.sector.Block.{Block}
 use Rattle.sl_sector.specs.declared.sector.Owner.{Owner}
-use Rattle.sl_due_facts.specs.Facts.WayFacts.{After_mode, After_take, In_conversion, In_settling, ModeReason, ModeWay, ReadBeforeWay, TakeWay, WayContext, Ways}
+use Rattle.sl_due_facts.specs.Facts.WayFacts.{After_mode, After_take, BeforeBlockWay, In_conversion, In_settling, ModeReason, ModeWay, ReadBeforeWay, TakeWay, WayContext, Ways}
 use Rattle.sl_trace.specs.Traces.{Submitted, is_heeded}
-use Rattle.sl_trace.specs.declared.effects.LeaseStep.TheVariants.{ClearMode, FreeLeader, ReadBeforeFree, SetMode, TakeLeader}
+use Rattle.sl_trace.specs.declared.effects.LeaseRead.TheVariants.{OfBlock, OfFree}
+use Rattle.sl_trace.specs.declared.effects.LeaseStep.TheVariants.{ClearMode, FreeLeader, Phase2Read, ReadBeforeBlock, ReadBeforeFree, SetMode, TakeLeader}
+use Rattle.sl_trace.specs.declared.effects.LeaseStep.{LeaseStep}
 use Rattle.sl_trace.specs.declared.effects.Mode.TheVariants.{Exclusive, Shared}
 use Rattle.sl_trace.specs.declared.effects.Mode.{Mode}
+use Rattle.sl_trace.specs.declared.effects.Op.TheVariants.{ReadSectors}
 use Rattle.sl_trace.specs.declared.effects.Purpose.TheVariants.{Lease}
 use Rattle.sl_trace.specs.declared.effects.Purpose.{Purpose}
 use Rattle.sl_trace.specs.declared.effects.Work.{Work}
@@ -59,13 +62,12 @@ no_phase2 m p is other = ap (λ q. is_at_in Phase2_write q) is ∙ other
 -- The own block is of the instance that was taken.
 pub take_own : (w : WayContext) (work : Work) (m : Submitted) (ms : List Submitted) → Ways w ms → (h : TakeWay w work m.at m.call ms) → (b : Block) → block_submitted (m ∷ ms) ≡ Some b → b.lver ≡ h.leader.lver
 take_own w work m ms ws h b is =
-    let r = read2 w work m.at m.call ms ws h in
-    let behind : Ways w h.after.rest = before2 w work m.at m.call ms ws h in
-    let own : block_submitted ms ≡ Some b = sym (submitted_passed m ms (leader_is_no_block m h.leader h.wrote)) ∙ is in
+    let r : ReadBehind w work Phase2Read h.after.prior h.after.rest = read2 w work m.at m.call ms ws h in
+    let own : block_submitted ms ≡ Some b = sym (submitted_passed m ms (leader_is_no_block w m h.leader h.wrote)) ∙ is in
     let before : block_submitted h.after.rest ≡ Some b =
-    sym (submitted_passed h.after.prior h.after.rest (read_writes_no_block h.after.prior w.layout.hosts r.reads)) ∙ (sym (ap (λ xs. block_submitted xs) h.after.before) ∙ own)
+    sym (submitted_passed h.after.prior h.after.rest (read_writes_no_block h.after.prior r.sectors r.reads.1)) ∙ (sym (ap (λ xs. block_submitted xs) h.after.before) ∙ own)
     in
-    ap (λ (z : Block). z.lver) (one_value b _ (block_submitted h.after.rest) before (asked2_own w work h.after.prior.at h.after.prior.call h.after.rest behind r)) ∙ won_own w work m.at m.call ms ws h
+    ap (λ (z : Block). z.lver) (one_value b _ (block_submitted h.after.rest) before (taken_own w work m.at m.call ms ws h)) ∙ won_own w work m.at m.call ms ws h
 
 set_by : (x : Moment) → (h : IsHeard x TakeLeader (Acquires Shared) Written) → (o : Option Block) → block_submitted (calls_at x) ≡ o
     → NextIs x (option_map_or (λ own. WriteBlock SetMode (moded_block own true (known_at x).self.generation)) o Nothing)
@@ -75,7 +77,7 @@ set_by x h (Some own) is =
     let w : TakeWay (context_at x) x.work h.call.at h.call.call h.rest = heard_way x TakeLeader (Acquires Shared) Written h in
     let before : Ways (context_at x) h.rest = (subst (λ xs. Ways (context_at x) xs) h.newest h.ways).1 in
     let lver : lver_written h.call ≡ own.lver =
-    lver_is h.call w.leader w.wrote ∙ sym (take_own (context_at x) x.work h.call h.rest before w own (sym (ap (λ xs. block_submitted xs) h.newest) ∙ is))
+    lver_is (context_at x) h.call w.leader w.wrote ∙ sym (take_own (context_at x) x.work h.call h.rest before w own (sym (ap (λ xs. block_submitted xs) h.newest) ∙ is))
     in (
       (λ c op. record {
         own = own;
@@ -119,7 +121,7 @@ after_taking x at own rest ws mode aimed (After_take after its done under) =
     let w : WayContext = context_at x in
     let t : TakeWay w x.work after.prior.at after.prior.call after.rest = way_behind w rest x.work TakeLeader after ws in
     let behind : Ways w after.rest = rest_behind w rest x.work TakeLeader after ws in
-    let lver : t.leader.lver ≡ own.lver = sym (lver_is after.prior t.leader t.wrote) ∙ under in (
+    let lver : t.leader.lver ≡ own.lver = sym (lver_is w after.prior t.leader t.wrote) ∙ under in (
       record {
         won = subst (λ xs. Contains (ended_ballots x.setting.layout xs) (own.lver, w.self)) (sym after.before)
             (ended_before x.setting.layout after.prior after.rest (own.lver, w.self) (subst (λ n. Contains (ended_ballots x.setting.layout after.rest) (n, w.self)) lver (take_won w x.work after.prior.at after.prior.call after.rest t)));
@@ -136,10 +138,10 @@ free_after x mode h =
     let before : Ways (context_at x) h.rest = (subst (λ xs. Ways (context_at x) xs) h.newest h.ways).1 in
     let t = after_taking x h.call.at m.own h.rest before mode h.aimed m.why in
     let b : Block = moded_block m.own true (context_at x).self.generation in
-    let no_leader : leader_written h.call ≡ None = block_is_no_leader h.call b m.wrote in
+    let no_leader : leader_written h.call ≡ None = block_is_no_leader (context_at x) h.rest h.call b m.wrote in
     let lver : lver_written h.call ≡ m.own.lver =
     ap (λ o. elim o as (λ z. ℕ) [ Some l ↦ l.lver | None ↦ option_map_or (λ (k : Block). k.lver) (block_written h.call) 0 ]) no_leader
-    ∙ ap (λ o. option_map_or (λ (k : Block). k.lver) o 0) (block_is h.call b m.wrote)
+    ∙ ap (λ o. option_map_or (λ (k : Block). k.lver) o 0) (block_is (context_at x) h.rest h.call b m.wrote)
     in (
       (λ c op. record {
         leader = leader_for (place_at x) (known_at x) false (lver_written h.call);
@@ -173,13 +175,13 @@ pub freeing_is : (x : Moment) (aim : Aim) → IsHeard x FreeLeader aim Written �
 freeing_is x (Acquires mode) h n = tt
 freeing_is x (Converts mode) h n = tt
 freeing_is x Releases h n = refl
-freeing_is x Settles h n = settling_is x h.plain h.ways h.aimed
+freeing_is x Settles h n = settling_is x h.ways h.aimed
 
 pub clearing_is : (x : Moment) (aim : Aim) → IsHeard x ClearMode aim Written → NextIs x (after_clearing (place_at x) (known_at x) aim)
 clearing_is x (Acquires mode) h = tt
 clearing_is x (Converts mode) h = tt
 clearing_is x Releases h = refl
-clearing_is x Settles h = settling_is x h.plain h.ways h.aimed
+clearing_is x Settles h = settling_is x h.ways h.aimed
 
 -- ---- the read before a free
 
@@ -217,12 +219,26 @@ owed_won : (won : Option ℕ) (held : ℕ → Bool) (n : ℕ) → option_and_the
 owed_won None held n is = absurd (none_some n is)
 owed_won (Some k) held n is = ap (λ z. Some z) (choose_some (not (held k)) k n is).1
 
-owed_by : (x : Moment) (aim : Aim) (bytes : List ℕ) → IsHeard x ReadBeforeFree aim (Read bytes) → (o : Option ℕ) → owed_free (known_at x) ≡ o
+-- A read opens none.
+pub read_stays_closed : (g : Layout) (m : Submitted) (ms : List Submitted) (n : ℕ) → m.call.op ≡ ReadSectors n → open_ballot g ms ≡ None → open_ballot g (m ∷ ms) ≡ None
+read_stays_closed g m ms n reads none =
+    ap (λ o. elim o as (λ z. Option ℕ) [
+      | Some b ↦ elim (is_at Phase2_write m) as (λ z. Option ℕ) [ true ↦ Some b.lver | false ↦ option_and_then (λ k. choose (b.lver == k) k) (open_ballot g ms) ]
+      | None ↦ elim (concludes g m ms) as (λ z. Option ℕ) [ true ↦ None | false ↦ open_ballot g ms ]
+    ]) (read_writes_no_block m n reads)
+    ∙ by (concludes g m ms)
+  where
+    by : (b : Bool) → elim b as (λ z. Option ℕ) [ true ↦ None | false ↦ open_ballot g ms ] ≡ None
+    by true = refl
+    by false = none
+
+owed_by : (x : Moment) (made : LeaseStep) (aim : Aim) (bytes : List ℕ) → first_step made ≡ ReadBeforeFree → IsHeard x made aim (Read bytes) → (o : Option ℕ) → owed_free (known_at x) ≡ o
     → NextIs x (option_map_or (λ n. WriteLeader FreeLeader (leader_for (place_at x) (known_at x) false n)) o Nothing)
 unfolding known
-owed_by x aim bytes h None is = tt
-owed_by x aim bytes h (Some n) is =
-    let r : ReadBeforeWay (context_at x) x.work h.call.call h.rest = heard_way x ReadBeforeFree aim (Read bytes) h in (
+owed_by x made aim bytes free h None is = tt
+owed_by x made aim bytes free h (Some n) is =
+    let b : ReadBehind (context_at x) x.work ReadBeforeFree h.call h.rest = heard_read x made aim (Read bytes) OfFree free h in
+    let r : ReadBeforeWay (context_at x) x.work b.first.call b.older = b.way in (
       (λ c op. record {
         leader = leader_for (place_at x) (known_at x) false n;
         wrote = op;
@@ -230,12 +246,18 @@ owed_by x aim bytes h (Some n) is =
         won = left_is_won x.setting.layout (context_at x).self (calls_at x) n
             (owed_won (free_left x.setting.layout (context_at x).self (calls_at x)) (λ k. some_is (λ e. e == k) (known_at x).exclusive) n is);
         concluded = ap (λ xs. open_ballot x.setting.layout xs) h.newest
-            ∙ stays_closed x.setting.layout h.call h.rest (no_phase2 h.call (Lease x.work ReadBeforeFree) h.its refl) r.concluded;
+            ∙ whole_kept (context_at x) x.work ReadBeforeFree h.call h.rest b (λ xs. open_ballot x.setting.layout xs ≡ None) (λ m ms k reads none. read_stays_closed x.setting.layout m ms k reads none) r.concluded;
         why = In_settling r.settles;
       }),
       refl,
     )
 
-pub before_free_is : (x : Moment) (aim : Aim) (bytes : List ℕ) → IsHeard x ReadBeforeFree aim (Read bytes)
+pub before_free_is : (x : Moment) (made : LeaseStep) (aim : Aim) (bytes : List ℕ) → first_step made ≡ ReadBeforeFree → IsHeard x made aim (Read bytes)
     → NextIs x (option_map_or (λ n. WriteLeader FreeLeader (leader_for (place_at x) (known_at x) false n)) (owed_free (known_at x)) Nothing)
-before_free_is x aim bytes h = owed_by x aim bytes h (owed_free (known_at x)) refl
+before_free_is x made aim bytes free h = owed_by x made aim bytes free h (owed_free (known_at x)) refl
+
+-- The read before a block is a settling's, which goes on.
+pub before_block_is : (x : Moment) (made : LeaseStep) (aim : Aim) (bytes : List ℕ) → first_step made ≡ ReadBeforeBlock → IsHeard x made aim (Read bytes) → NextIs x (settle_next (place_at x) (known_at x))
+before_block_is x made aim bytes block h =
+    let b : ReadBehind (context_at x) x.work ReadBeforeBlock h.call h.rest = heard_read x made aim (Read bytes) OfBlock block h in
+    let r : BeforeBlockWay (context_at x) x.work b.first.call b.older = b.way in settling_is x h.ways r.settles

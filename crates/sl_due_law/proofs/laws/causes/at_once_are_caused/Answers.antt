@@ -1,4 +1,4 @@
-use Rattle.sl_due_law.proofs.Causes.AtOnceAreCaused as its
+use Rattle.sl_due_law.proofs.Causes.LimitedAtLines as its
 use Rattle.sl_due_law.proofs.laws.causes.at_once_are_caused.Goals as goal
 
 pub returns : goal.returns
