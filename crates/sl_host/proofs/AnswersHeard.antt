@@ -1,6 +1,7 @@
 -- An answer that is told part by part is heard as the state functions say.
-use Rattle.sl_area.specs.Layouts.{layout_of}
-use Rattle.sl_host_state.specs.Hears.{hearing, heard_answer, is_heeded_by, job_hearing, lease_told, member_hearing, members_hearing, quiet_hearing, setting_of, shows_other_by}
+use Rattle.sl_area.specs.Layouts.{Layout, layout_of}
+use Rattle.sl_area.specs.Places.{blocks_part, needs_again, pairs_kept}
+use Rattle.sl_host_state.specs.Hears.{hearing, heard_answer, is_heeded_by, job_hearing, kept_heard, lease_told, member_hearing, members_hearing, quiet_hearing, setting_of, shows_other_by, turn_heard}
 use Rattle.sl_host_state.specs.Kept.{HostState, LeaseState, MemberState}
 use Rattle.sl_host_state.specs.Makes.{is_lease_on, lowered}
 use Rattle.sl_host_state.specs.Stands.{is_kept_of}
@@ -8,22 +9,28 @@ use Rattle.sl_host_state.specs.declared.kept.JobState.{JobState}
 use Rattle.sl_host_state.specs.declared.kept.OpenCall.{OpenCall}
 use Rattle.sl_host_state.specs.declared.kept.WaitingCall.{WaitingCall}
 use Rattle.sl_lease.specs.Asked.{leader_given, read_given}
-use Rattle.sl_lease.specs.Changes.{after_failure, after_read, after_write}
+use Rattle.sl_lease.specs.Changes.{after_failure, after_write}
+use Rattle.sl_lease.specs.Laws.{IsGiven, first_by}
 use Rattle.sl_member.proofs.HostsHear.{hosts_keep_the_same}
 use Rattle.sl_member.proofs.PartsHear.{parts_hear}
 use Rattle.sl_member.proofs.Places.{none_changed}
 use Rattle.sl_member.proofs.SpotOrder.{spot_is, spot_past}
 use Rattle.sl_member.specs.Laws.{IsAwaited, IsWaitingFor, area_of_call, heard_by_parts, open_for}
-use Rattle.sl_member.specs.Leases.{AreByPlace, changed_at}
+use Rattle.sl_member.specs.Leases.{AreByPlace, changed_at, first_among, first_if_second, kept_shown, read_shown}
 use Rattle.sl_member.specs.Members.{IsKnown, RunOf, lease_changed, own_told}
 use Rattle.sl_member.specs.Together.{AreApart, changed_member, member_with, side_with}
 use Rattle.sl_sector.specs.declared.sector.Block.{Block}
 use Rattle.sl_sector.specs.declared.sector.Leader.{Leader}
+use Rattle.sl_sector.specs.declared.sector.PairBlock.{PairBlock}
+use Rattle.sl_trace.specs.LeaseWork.{asked_again, first_step, part_read, read_of_step}
+use Rattle.sl_trace.specs.declared.effects.LeaseRead.TheVariants.{OfArea, OfBlock, OfFree, OfPhase1, OfPhase2}
+use Rattle.sl_trace.specs.declared.effects.LeaseRead.{LeaseRead}
+use Rattle.sl_trace.specs.declared.effects.LeaseStep.TheVariants.{ClearMode, FreeLeader, Phase1Read, Phase1Write, Phase2Read, Phase2Write, ReadAgain, ReadArea, ReadBeforeBlock, ReadBeforeFree, SetMode, TakeLeader}
 use Rattle.sl_trace.specs.Sessions.{is_renewal, is_survey_purpose, shows_other_in}
 use Rattle.sl_trace.specs.declared.session.Begun.{Begun}
 use Rattle.sl_tables.specs.Jobs.{changed}
 use Rattle.sl_time.specs.Times.{fail}
-use Rattle.sl_trace.specs.Leases.{is_spot_before, lease_step}
+use Rattle.sl_trace.specs.Leases.{is_second, is_spot_before, lease_step}
 use Rattle.sl_trace.specs.Traces.{bytes_given, job_of, same_spot}
 use Rattle.sl_trace.specs.declared.command.Command.{Command}
 use Rattle.sl_trace.specs.declared.effects.LeaseStep.{LeaseStep}
@@ -37,14 +44,16 @@ use Rattle.sl_host.proofs.AnswersTold.{changed_as, none_changed as all_same, the
 use Rattle.sl_host.proofs.HostStands.{same_run}
 use Rattle.sl_host.specs.Asking.{state_in}
 use Rattle.sl_host.specs.Books.{BooksState, books_hearing, host_of, kept_of}
-use Rattle.sl_host.specs.Hearing.{AreWaiting, LeaseAwaits, MayHear, MemberAwaits, begun_at, is_over_in, is_own_purpose, is_untold, others_in, own_heard, request_heard, shows_at, survey_heard}
+use Rattle.sl_host.specs.Hearing.{AreWaiting, IsTold, LeaseAwaits, MayHear, MemberAwaits, begun_at, first_to, is_over_in, is_own_purpose, is_untold, lease_heard, others_in, own_heard, request_heard, shows_at, survey_heard, turn_to}
+use Rattle.sl_host.specs.declared.telling.Told.TheVariants.{Again, Gave}
+use Rattle.sl_host.specs.declared.telling.Told.{Told}
 use Rattle.sl_words.proofs.CaseLaws.{some_value}
-use Rattle.sl_words.specs.Words.{some_is}
+use Rattle.sl_words.specs.Words.{choose, some_is}
 use Rattle.std.proofs.Common.{ap, arith, refl, subst, sym, true≢false, ◌∙◌}
 use Rattle.std.proofs.Math.Nat.{min-eq_left, min-eq_right, min-le_left}
 use Rattle.std.specs.Cmp.{nat_eq_equiv}
 use Rattle.std.specs.List.{AllByRecursion, list_any}
-use Rattle.std.specs.Prelude.{Bool, Contains, List, None, Option, Result, Some, [], cond, false, filter, find, is_some, map, min, not, true, ℕ, ◌&&◌, ◌+◌, ◌==◌, ◌∷◌, ◌||◌, ◌≡◌, ◌≤◌}
+use Rattle.std.specs.Prelude.{Bool, Contains, List, None, Option, Result, Some, [], cond, false, filter, find, is_some, map, min, not, option_and_then, true, unwrap_or, ℕ, ◌&&◌, ◌+◌, ◌==◌, ◌∷◌, ◌||◌, ◌≡◌, ◌≤◌}
 
 none_true : {A : Type 0} → false ≡ true → A
 none_true h = absurd (true≢false (sym h))
@@ -213,6 +222,36 @@ step_in s p = s
 lease_step_is : (w v : Work) (s t : LeaseStep) → Lease w s ≡ Lease v t → s ≡ t
 lease_step_is w v s t is = ap (step_in s) is
 
+-- ---- a lease's read
+
+-- A read that is to be made once more gives something to keep.
+none_again : (b : Bool) → is_some (elim b as (λ v. Option LeaseRead) [ false ↦ None | true ↦ None ]) ≡ true → ⊥
+none_again true h = true≢false (sym h)
+none_again false h = true≢false (sym h)
+
+kept_again : (b : Bool) (read : LeaseRead) (pairs : List (Option PairBlock)) → is_some (elim b as (λ v. Option LeaseRead) [ false ↦ None | true ↦ Some read ]) ≡ true
+    → choose b pairs ≡ Some pairs
+kept_again true read pairs h = refl
+kept_again false read pairs h = none_true h
+
+asked_keeps : (g : Layout) (step : LeaseStep) (bytes : List ℕ) → is_some (asked_again g bytes step) ≡ true
+    → kept_heard g step (Read bytes) ≡ Some (pairs_kept g (part_read g bytes (first_step step)))
+asked_keeps g (ReadArea name) bytes h = kept_again (needs_again g (blocks_part g bytes)) (OfArea name) (pairs_kept g (blocks_part g bytes)) h
+asked_keeps g ReadBeforeFree bytes h = kept_again (needs_again g (blocks_part g bytes)) OfFree (pairs_kept g (blocks_part g bytes)) h
+asked_keeps g ReadBeforeBlock bytes h = kept_again (needs_again g bytes) OfBlock (pairs_kept g bytes) h
+asked_keeps g Phase1Read bytes h = kept_again (needs_again g bytes) OfPhase1 (pairs_kept g bytes) h
+asked_keeps g Phase2Read bytes h = kept_again (needs_again g bytes) OfPhase2 (pairs_kept g bytes) h
+asked_keeps g step bytes h = absurd (none_again (needs_again g bytes) h)
+
+none_asked : (o : Option LeaseRead) → is_some o ≡ false → o ≡ None
+none_asked None h = refl
+none_asked (Some read) h = absurd (true≢false h)
+
+-- What is kept for a second read, by the one and the other way to ask for it.
+first_is_by : (b : Bool) (first : Option (List (Option PairBlock))) → cond b (unwrap_or first []) [] ≡ unwrap_or (cond b first None) []
+first_is_by true first = refl
+first_is_by false first = refl
+
 -- ---- the whole
 
 -- Members of whom each that made the call has heard its answer, the tables without it, and this moment: the host that hears it.
@@ -302,7 +341,8 @@ module _ (read : List ℕ → Result Command ℕ) (ms : List MemberState) (b : B
   -- Where the lease on the call's area makes this of its answer.
   lease_whole : (ns : List MemberState) (a : Answer) (work : Work) (step : LeaseStep) (f : MemberState → LeaseState → LeaseState) → c.purpose ≡ Lease work step → AreApart (map (λ (s : MemberState). s.who.number) ms)
       → ((m : MemberState) → member_with c.session ms ≡ Some m → AreByPlace m.leases)
-      → ((m : MemberState) (w : LeaseAwaits (state_in (kept_of ms b)) c m) → lease_told the_host m (is_heeded_by the_host c) c a w.lease ≡ f m w.lease)
+      → ((m : MemberState) → member_with c.session ms ≡ Some m → (w : LeaseAwaits (state_in (kept_of ms b)) c m)
+      → lease_told the_host m (is_heeded_by the_host c) c a w.lease ≡ f m w.lease)
       → ns ≡ filter (λ m. not (is_over_in (others_in c.number b.unanswered) m)) (changed_member c.session (λ m. lease_changed (area_of_call (layout_of b.config.sizes) c) (f m) m) ms)
       → host_of read ns (books_hearing c.number b) ≡ heard_answer c.number a the_host
   lease_whole ns a work step f is apart placed told made =
@@ -310,39 +350,71 @@ module _ (read : List ℕ → Result Command ℕ) (ms : List MemberState) (b : B
       (λ m there its.
       let w = awaits m there its in
       let l = w.leased (ap (λ p. is_some (lease_step p)) is) in
-      lease_member the_host c a m work step (f m) l.lease (awaited_here m w) w.known is (placed m (the_member c.session ms m apart there its)) l.found (told m l))
+      let here = the_member c.session ms m apart there its in
+      lease_member the_host c a m work step (f m) l.lease (awaited_here m w) w.known is (placed m here) l.found (told m here l))
       made (quiet_stays c a the_host (ap is_survey_purpose is) (ap is_renewal is))
 
-  pub lease_read_whole : (run : RunOf) (ns : List MemberState) (bytes : List ℕ) (work : Work) (step : LeaseStep) (leader : Option Leader) (read_blocks : List (Option Block)) (heeded : Bool) → run ≡ same_run b
+  -- The read of a lease's work that is told so, with the turn that it shows.
+  pub lease_read_whole : (run : RunOf) (ns : List MemberState) (bytes : List ℕ) (work : Work) (step : LeaseStep) (told : Told) (blocks : List (Option Block)) (heeded : Bool) → run ≡ same_run b
       → c.purpose ≡ Lease work step → is_some c.sectors ≡ true → AreApart (map (λ (s : MemberState). s.who.number) ms) → ((m : MemberState) → member_with c.session ms ≡ Some m → AreByPlace m.leases)
-      → leader ≡ leader_given (layout_of b.config.sizes) step bytes → read_blocks ≡ read_given (layout_of b.config.sizes) step bytes → heeded ≡ is_heeded_by the_host c
+      → IsTold b.config.sizes (first_to c.session (area_of_call (layout_of b.config.sizes) c) step ms) step bytes told blocks → heeded ≡ is_heeded_by the_host c
       → ns ≡ filter (λ m. not (is_over_in (others_in c.number b.unanswered) m))
-      (changed_member c.session (λ m. lease_changed (area_of_call (layout_of b.config.sizes) c) (after_read (side_with run m) heeded leader read_blocks) m) ms)
+      (changed_member c.session
+      (λ m. lease_changed (area_of_call (layout_of b.config.sizes) c) (lease_heard run (turn_to (layout_of run.sizes) c.session step bytes ms) heeded step bytes told blocks m) m) ms)
       → host_of read ns (books_hearing c.number b) ≡ heard_answer c.number (Read bytes) the_host
-  lease_read_whole run ns bytes work step leader read_blocks heeded same is reads apart placed led shown heeds made =
-      lease_whole ns (Read bytes) work step (λ m. after_read (side_with run m) heeded leader read_blocks) is apart placed told made
+  lease_read_whole run ns bytes work step told blocks heeded same is reads apart placed is_told heeds made =
+      lease_whole ns (Read bytes) work step (λ m. lease_heard (same_run b) turn (is_heeded_by the_host c) step bytes told blocks m) is apart placed (λ m here w. by told refl m here w)
+      (made ∙ (λ i. filter (λ m. not (is_over_in (others_in c.number b.unanswered) m))
+      (changed_member c.session (λ m. lease_changed at (lease_heard (same i) (turn_to (layout_of (same i).sizes) c.session step bytes ms) (heeds i) step bytes told blocks m) m) ms)))
     where
-      told : (m : MemberState) (w : LeaseAwaits (state_in (kept_of ms b)) c m)
-          → lease_told the_host m (is_heeded_by the_host c) c (Read bytes) w.lease ≡ after_read (side_with run m) heeded leader read_blocks w.lease
-      told m w =
+      g : Layout
+      g = layout_of b.config.sizes
+
+      at : Spot
+      at = area_of_call (layout_of b.config.sizes) c
+
+      turn : Option ℕ
+      turn = turn_to (layout_of b.config.sizes) c.session step bytes ms
+
+      -- What is kept of the first read of this member's lease, and the turn that the read shows it.
+      first_is : (m : MemberState) → member_with c.session ms ≡ Some m → (w : LeaseAwaits (state_in (kept_of ms b)) c m) → first_by w.lease.pair step ≡ first_to c.session at step ms
+      first_is m here w =
+          first_is_by (is_second step) w.lease.pair.first
+          ∙ sym (ap (λ o. unwrap_or (option_and_then (λ (s : MemberState). first_among at step s.leases) o) []) here ∙ ap (λ o. unwrap_or (option_and_then (first_if_second step) o) []) w.found)
+
+      turn_is : (m : MemberState) → member_with c.session ms ≡ Some m → turn_heard g m.who.id step None (Read bytes) ≡ turn
+      turn_is m here = sym (ap (λ o. option_and_then (λ (s : MemberState). turn_heard g s.who.id step None (Read bytes)) o) here)
+
+      by : (t : Told) → told ≡ t → (m : MemberState) → member_with c.session ms ≡ Some m → (w : LeaseAwaits (state_in (kept_of ms b)) c m)
+          → lease_told the_host m (is_heeded_by the_host c) c (Read bytes) w.lease ≡ lease_heard (same_run b) turn (is_heeded_by the_host c) step bytes t blocks m w.lease
+      by Again so m here w =
           let at_step : w.call.step ≡ step = lease_step_is w.call.work work w.call.step step (sym w.waits.purpose ∙ is) in
-          let none = w.reads reads in
-          hosts_keep_the_same.lease_read (same_run b) the_host m (is_heeded_by the_host c) c w.call bytes w.lease refl w.waits none.0 none.1
-          ∙ (ap (λ s. after_read (side_with (same_run b) m) (is_heeded_by the_host c) (leader_given (layout_of b.config.sizes) s bytes) (read_given (layout_of b.config.sizes) s bytes) w.lease) at_step
-          ∙ (ap (λ d. after_read (side_with (same_run b) m) (is_heeded_by the_host c) d (read_given (layout_of b.config.sizes) step bytes) w.lease) (sym led)
-          ∙ (ap (λ rs. after_read (side_with (same_run b) m) (is_heeded_by the_host c) leader rs w.lease) (sym shown)
-          ∙ (ap (λ t. after_read (side_with (same_run b) m) t leader read_blocks w.lease) (sym heeds) ∙ ap (λ r. after_read (side_with r m) heeded leader read_blocks w.lease) (sym same)))))
+          let pairs : List (Option PairBlock) = pairs_kept g (part_read g bytes (first_step step)) in
+          hosts_keep_the_same.lease_kept (same_run b) the_host m (is_heeded_by the_host c) c w.call bytes pairs w.lease refl w.waits (w.reads reads)
+          (ap (λ s. kept_heard g s (Read bytes)) at_step ∙ asked_keeps g step bytes (is_told.again so))
+          ∙ (ap (λ s. kept_shown (turn_heard g m.who.id s None (Read bytes)) pairs w.lease) at_step ∙ ap (λ t. kept_shown t pairs w.lease) (turn_is m here))
+      by (Gave leader) so m here w =
+          let at_step : w.call.step ≡ step = lease_step_is w.call.work work w.call.step step (sym w.waits.purpose ∙ is) in
+          let gave = is_told.gave leader so in
+          let given : IsGiven g w.lease.pair w.call.step bytes = (ap (λ s. asked_again g bytes s) at_step ∙ none_asked (asked_again g bytes step) gave.0, λ second. w.second (sym w.again ∙ second)) in
+          hosts_keep_the_same.lease_read (same_run b) the_host m (is_heeded_by the_host c) c w.call bytes w.lease refl w.waits (w.reads reads) given
+          ∙ (ap (λ s. told_by m w s (turn_heard g m.who.id s None (Read bytes)) (leader_given g (first_by w.lease.pair s) s bytes) (read_given g (first_by w.lease.pair s) s bytes)) at_step
+          ∙ (ap (λ first. told_by m w step (turn_heard g m.who.id step None (Read bytes)) (leader_given g first step bytes) (read_given g first step bytes)) (first_is m here w)
+          ∙ (λ i. told_by m w step (turn_is m here i) (sym gave.1 i) (sym gave.2 i))))
+        where
+          told_by : (m : MemberState) → LeaseAwaits (state_in (kept_of ms b)) c m → LeaseStep → Option ℕ → Option Leader → List (Option Block) → LeaseState
+          told_by m w s t d rs = read_shown (side_with (same_run b) m) t (is_heeded_by the_host c) d rs w.lease
 
   pub lease_written_whole : (ns : List MemberState) (work : Work) (step : LeaseStep) → c.purpose ≡ Lease work step → AreApart (map (λ (s : MemberState). s.who.number) ms)
       → ((m : MemberState) → member_with c.session ms ≡ Some m → AreByPlace m.leases)
       → ns ≡ filter (λ m. not (is_over_in (others_in c.number b.unanswered) m)) (changed_member c.session (lease_changed (area_of_call (layout_of b.config.sizes) c) after_write) ms)
       → host_of read ns (books_hearing c.number b) ≡ heard_answer c.number Written the_host
   lease_written_whole ns work step is apart placed made =
-      lease_whole ns Written work step (λ m. after_write) is apart placed (λ m w. hosts_keep_the_same.lease_written (same_run b) the_host m (is_heeded_by the_host c) c w.call w.lease refl w.waits) made
+      lease_whole ns Written work step (λ m. after_write) is apart placed (λ m here w. hosts_keep_the_same.lease_written (same_run b) the_host m (is_heeded_by the_host c) c w.call w.lease refl w.waits) made
 
   pub lease_failed_whole : (ns : List MemberState) (work : Work) (step : LeaseStep) → c.purpose ≡ Lease work step → AreApart (map (λ (s : MemberState). s.who.number) ms)
       → ((m : MemberState) → member_with c.session ms ≡ Some m → AreByPlace m.leases)
       → ns ≡ filter (λ m. not (is_over_in (others_in c.number b.unanswered) m)) (changed_member c.session (lease_changed (area_of_call (layout_of b.config.sizes) c) after_failure) ms)
       → host_of read ns (books_hearing c.number b) ≡ heard_answer c.number Failed the_host
   lease_failed_whole ns work step is apart placed made =
-      lease_whole ns Failed work step (λ m. after_failure) is apart placed (λ m w. hosts_keep_the_same.lease_failed (same_run b) the_host m (is_heeded_by the_host c) c w.call w.lease refl w.waits) made
+      lease_whole ns Failed work step (λ m. after_failure) is apart placed (λ m here w. hosts_keep_the_same.lease_failed (same_run b) the_host m (is_heeded_by the_host c) c w.call w.lease refl w.waits) made

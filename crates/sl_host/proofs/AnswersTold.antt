@@ -1,35 +1,32 @@
 -- What is told to members one after another is told as a whole; refused members that are over go one by one.
 use Rattle.sl_area.specs.Layouts.{Layout, Sizes, layout_of}
-use Rattle.sl_area.specs.Places.{area_blocks, blocks_in, leader_of, read_at}
+use Rattle.sl_area.specs.Places.{pair_back}
 use Rattle.sl_host_state.specs.Hears.{renewed_of}
 use Rattle.sl_host_state.specs.Kept.{MemberState}
 use Rattle.sl_host_state.specs.declared.kept.OpenCall.{OpenCall}
-use Rattle.sl_lease.specs.Asked.{leader_given, read_given}
+use Rattle.sl_lease.specs.Reads.{is_asked_again}
 use Rattle.sl_member.specs.Members.{RunOf, own_told, renewing_told}
 use Rattle.sl_member.specs.Together.{AreApart, MembersState, changed_member, member_with, told_survey}
 use Rattle.sl_plain.proofs.Lists.{contains_cases, contains_first, contains_more, contains_none, find_inside, got_inside}
-use Rattle.sl_sector.specs.Spelling.{block_in}
-use Rattle.sl_sector.specs.declared.sector.Block.{Block}
-use Rattle.sl_sector.specs.declared.sector.Leader.{Leader}
+use Rattle.sl_sector.specs.declared.sector.PairBlock.{PairBlock}
+use Rattle.sl_trace.specs.LeaseWork.{part_read, read_of_step}
 use Rattle.sl_trace.specs.Sessions.{is_join_call, same_join_step}
 use Rattle.sl_trace.specs.declared.session.Begun.{Begun}
 use Rattle.sl_trace.specs.declared.effects.JoinStep.TheVariants.{ClaimWrite, DecidingRead, FirstRead, FirstRenewal, VerifyRead, WatchRead}
 use Rattle.sl_trace.specs.declared.effects.JoinStep.{JoinStep}
-use Rattle.sl_trace.specs.declared.effects.LeaseStep.TheVariants.{ClearMode, FreeLeader, Phase1Read, Phase1Write, Phase2Read, Phase2Write, ReadAgain, ReadArea, ReadBeforeBlock, ReadBeforeFree, SetMode, TakeLeader}
 use Rattle.sl_trace.specs.declared.effects.LeaseStep.{LeaseStep}
 use Rattle.sl_trace.specs.declared.effects.Purpose.TheVariants.{Joining, Lease, Leaving, Renewal, RequestRead, RequestWrite, SeeRequest, Survey, ValueRead, ValueWrite}
 use Rattle.sl_trace.specs.declared.effects.Purpose.{Purpose}
 use Rattle.sl_trace.specs.declared.input.Answer.TheVariants.{Read}
 use Rattle.sl_trace.specs.declared.input.Answer.{Answer}
-use Rattle.sl_host.specs.Hearing.{is_over_in, own_heard, reads_area, renewals_told, request_heard, shows_at, survey_heard, tells_renewals}
+use Rattle.sl_host.specs.Hearing.{is_over_in, own_heard, renewals_told, request_heard, shows_at, survey_heard, tells_renewals}
 use Rattle.sl_words.proofs.CaseLaws.{none_some, some_value}
-use Rattle.sl_trace.specs.declared.effects.LeaseRead.TheVariants.{OfArea, OfBlock, OfFree, OfPhase1, OfPhase2}
 use Rattle.std.proofs.Common.{ap, arith, inl, inr, refl, subst, suc, sym, true≢false, zero, ◌∙◌}
 use Rattle.std.proofs.lemmas.Bool.Decides.{Decides-eqb}
-use Rattle.std.proofs.lemmas.List.FromFn.{length-map-range_with_len}
 use Rattle.std.specs.Cmp.{nat_eq_equiv}
 use Rattle.std.specs.List.{AllByRecursion, list_any, range_with_len}
-use Rattle.std.specs.Prelude.{Bool, Contains, List, None, Option, Some, [], cond, false, filter, find, length, map, not, option_map, slice_get, take, true, ℕ, ◌+◌, ◌-◌, ◌<◌, ◌==◌, ◌∷◌, ◌≡◌, ◌≤◌, ◌||◌, ◌⊎◌}
+use Rattle.std.specs.Option.{option_map_or}
+use Rattle.std.specs.Prelude.{Bool, Contains, List, None, Option, Some, [], cond, false, filter, find, is_none, is_some, length, map, not, option_map, slice_get, true, unwrap_or, ℕ, ◌&&◌, ◌+◌, ◌-◌, ◌<◌, ◌==◌, ◌∷◌, ◌≡◌, ◌≤◌, ◌||◌, ◌⊎◌}
 
 abbrev pub number_of : MemberState → ℕ
 number_of s = s.who.number
@@ -233,42 +230,17 @@ survey_changed run n before after bytes b shows ms apart is =
 
 -- ---- a lease's read
 
-pub area_read : (g : Layout) (step : LeaseStep) (bytes : List ℕ) → reads_area step ≡ true → (leader_of g bytes ≡ leader_given g step bytes) × (area_blocks g bytes ≡ read_given g step bytes)
-area_read g (ReadArea name) bytes is = (refl, refl)
-area_read g ReadBeforeFree bytes is = (refl, refl)
-area_read g ReadBeforeBlock bytes is = none_false is
-area_read g (ReadAgain (OfArea name)) bytes is = (refl, refl)
-area_read g (ReadAgain OfFree) bytes is = (refl, refl)
-area_read g (ReadAgain OfBlock) bytes is = none_false is
-area_read g (ReadAgain OfPhase1) bytes is = none_false is
-area_read g (ReadAgain OfPhase2) bytes is = none_false is
-area_read g Phase1Write bytes is = none_false is
-area_read g Phase1Read bytes is = none_false is
-area_read g Phase2Write bytes is = none_false is
-area_read g Phase2Read bytes is = none_false is
-area_read g TakeLeader bytes is = none_false is
-area_read g SetMode bytes is = none_false is
-area_read g FreeLeader bytes is = none_false is
-area_read g ClearMode bytes is = none_false is
+-- A read is made once more only where blocks are kept in pairs.
+pub again_paired : (z : Sizes) (step : LeaseStep) (bytes : List ℕ) → is_asked_again z step bytes ≡ true → z.paired ≡ true
+again_paired z step bytes = by z.paired
+  where
+    torn : Bool
+    torn = list_any (λ id. is_none (pair_back (layout_of z) (part_read (layout_of z) bytes step) id)) (range_with_len 1 z.hosts)
 
-pub blocks_read : (g : Layout) (step : LeaseStep) (bytes : List ℕ) → reads_area step ≡ false → (None ≡ leader_given g step bytes) × (blocks_in g bytes ≡ read_given g step bytes)
-blocks_read g (ReadArea name) bytes is = absurd (true≢false is)
-blocks_read g ReadBeforeFree bytes is = absurd (true≢false is)
-blocks_read g ReadBeforeBlock bytes is = (refl, refl)
-blocks_read g (ReadAgain (OfArea name)) bytes is = absurd (true≢false is)
-blocks_read g (ReadAgain OfFree) bytes is = absurd (true≢false is)
-blocks_read g (ReadAgain OfBlock) bytes is = (refl, refl)
-blocks_read g (ReadAgain OfPhase1) bytes is = (refl, refl)
-blocks_read g (ReadAgain OfPhase2) bytes is = (refl, refl)
-blocks_read g Phase1Write bytes is = (refl, refl)
-blocks_read g Phase1Read bytes is = (refl, refl)
-blocks_read g Phase2Write bytes is = (refl, refl)
-blocks_read g Phase2Read bytes is = (refl, refl)
-blocks_read g TakeLeader bytes is = (refl, refl)
-blocks_read g SetMode bytes is = (refl, refl)
-blocks_read g FreeLeader bytes is = (refl, refl)
-blocks_read g ClearMode bytes is = (refl, refl)
+    by : (b : Bool) → is_some (elim (b && torn) [ false ↦ None | true ↦ read_of_step step ]) ≡ true → b ≡ true
+    by true is = refl
+    by false is = none_false is
 
--- As many blocks as hosts.
-pub blocks_few : (g : Layout) (bytes : List ℕ) → length (blocks_in g bytes) ≡ g.hosts
-blocks_few g bytes = length-map-range_with_len (λ k. block_in k (read_at g bytes (k - 1))) 1 g.hosts
+pub first_or_none : (o : Option (List (Option PairBlock))) → option_map_or (λ ps. ps) o [] ≡ unwrap_or o []
+first_or_none None = refl
+first_or_none (Some ps) = refl

@@ -8,6 +8,7 @@ pub mod LinesHeard
 pub mod HearingsStand
 pub mod Scanning
 pub mod AnswersTold
+pub mod ReadsTold
 pub mod AnswersHeard
 pub mod BeginningStand
 pub mod CountsStand

@@ -1,20 +1,31 @@
 -- What a host that hears an answer is asked, and what is told to whom.
 use Rattle.sl_host_law.specs.Replies.Answers.{IsOpen}
-use Rattle.sl_host_state.specs.Hears.{asked_at, renewed_of}
+use Rattle.sl_area.specs.Places.{pairs_kept}
+use Rattle.sl_host.specs.declared.telling.Told.TheVariants.{Again, Gave}
+use Rattle.sl_host.specs.declared.telling.Told.{Told}
+use Rattle.sl_host_state.specs.Hears.{asked_at, renewed_of, turn_heard}
+use Rattle.sl_lease.specs.Asked.{leader_given, read_given}
+use Rattle.sl_lease.specs.Laws.{IsReadCall}
+use Rattle.sl_lease.specs.Reads.{is_asked_again}
+use Rattle.sl_member.specs.Leases.{first_among, kept_shown, read_shown}
+use Rattle.sl_sector.specs.declared.sector.Block.{Block}
+use Rattle.sl_sector.specs.declared.sector.Leader.{Leader}
+use Rattle.sl_sector.specs.declared.sector.PairBlock.{PairBlock}
+use Rattle.sl_trace.specs.LeaseWork.{first_step, part_read}
+use Rattle.sl_trace.specs.declared.effects.Spot.{Spot}
 use Rattle.sl_host_state.specs.Kept.{HostKept, HostState, LeaseState, MemberState}
 use Rattle.sl_host_state.specs.Makes.{is_lease_on}
 use Rattle.sl_host_state.specs.Stands.{is_kept_of}
 use Rattle.sl_host_state.specs.declared.kept.JobState.{JobState}
 use Rattle.sl_host_state.specs.declared.kept.LeaseCall.{LeaseCall}
 use Rattle.sl_host_state.specs.declared.kept.OpenCall.{OpenCall}
-use Rattle.sl_trace.specs.Leases.{lease_step}
+use Rattle.sl_trace.specs.Leases.{is_second, lease_step}
 use Rattle.sl_member.specs.Laws.{IsAwaited, IsWaitingFor, area_of_call}
 use Rattle.sl_member.specs.Members.{IsKnown, RunOf, own_told, renewing_told}
 use Rattle.sl_member.specs.Seen.{shows_other_by}
-use Rattle.sl_member.specs.Together.{told_survey}
-use Rattle.sl_area.specs.Layouts.{layout_of}
+use Rattle.sl_member.specs.Together.{member_with, side_with, told_survey}
+use Rattle.sl_area.specs.Layouts.{Layout, Sizes, layout_of}
 use Rattle.sl_trace.specs.declared.session.Begun.{Begun}
-use Rattle.sl_trace.specs.declared.effects.LeaseStep.TheVariants.{ReadAgain, ReadArea, ReadBeforeFree}
 use Rattle.sl_trace.specs.declared.effects.LeaseStep.{LeaseStep}
 use Rattle.sl_trace.specs.declared.effects.Purpose.TheVariants.{Joining, Leaving, Renewal, RequestRead, RequestWrite, SeeRequest, Survey, ValueRead, ValueWrite}
 use Rattle.sl_trace.specs.declared.effects.Purpose.{Purpose}
@@ -23,19 +34,21 @@ use Rattle.sl_trace.specs.declared.input.Answer.{Answer}
 use Rattle.sl_host.specs.Asking.{state_in}
 use Rattle.sl_host.specs.Replying.{writes_in}
 use Rattle.sl_words.specs.Words.{some_is}
-use Rattle.sl_trace.specs.declared.effects.LeaseRead.TheVariants.{OfArea, OfFree}
 use Rattle.std.specs.List.{AllByRecursion}
-use Rattle.std.specs.Prelude.{Bool, Contains, List, None, Option, Some, cond, false, filter, find, is_some, nat_le, not, true, ℕ, ◌&&◌, ◌+◌, ◌-◌, ◌==◌, ◌≡◌}
+use Rattle.std.specs.Prelude.{Bool, Contains, IsTrue, List, None, Option, Some, cond, false, filter, find, is_some, nat_le, not, option_and_then, true, unwrap_or, [], ℕ, ◌&&◌, ◌+◌, ◌-◌, ◌==◌, ◌≡◌}
 
 -- ---- what is asked of it
 
--- The lease on the call's area waits for it. By a read nothing is freed, and no mode cleared.
+-- The lease on the call's area waits for it. By a read nothing is freed, no mode cleared and no turn written; where it is made once more,
+-- something is kept of the first one.
 pub record LeaseAwaits (h : HostState) (c : OpenCall) (m : MemberState) : Type 0 where
   pub lease : LeaseState
   pub call : LeaseCall
   pub found : find (is_lease_on (area_of_call h.config.layout c)) m.leases ≡ Some lease
   pub waits : IsWaitingFor c call lease
-  pub reads : is_some c.sectors ≡ true → (call.frees ≡ None) × (call.clears ≡ false)
+  pub reads : is_some c.sectors ≡ true → IsReadCall call
+  pub again : is_second call.step ≡ lease.pair.again
+  pub second : lease.pair.again ≡ true → IsTrue (is_some lease.pair.first)
 
 -- So does its member.
 pub record MemberAwaits (h : HostState) (c : OpenCall) (m : MemberState) : Type 0 where
@@ -88,17 +101,25 @@ survey_heard run before after bytes b m = told_survey run before after bytes (ow
 
 -- ---- a lease's read
 
--- Whether a read at this step gives a leader too.
-abbrev pub reads_area : LeaseStep → Bool
-reads_area (ReadArea name) = true
-reads_area ReadBeforeFree = true
-reads_area (ReadAgain (OfArea name)) = true
-reads_area (ReadAgain OfFree) = true
-reads_area step = false
+-- The turn of its own pair that a read at this step shows the member of this number, if it shows one.
+abbrev pub turn_to : Layout → ℕ → LeaseStep → List ℕ → List MemberState → Option ℕ
+turn_to g session step bytes ms = option_and_then (λ s. turn_heard g s.who.id step None (Read bytes)) (member_with session ms)
 
--- How many sectors a read at this step gives.
-abbrev pub sectors_read : ℕ → LeaseStep → ℕ
-sectors_read hosts step = cond (reads_area step) (hosts + 2) hosts
+-- What is kept of the first read for the member's lease on an area, where a read at this step is the second one.
+abbrev pub first_to : ℕ → Spot → LeaseStep → List MemberState → List (Option PairBlock)
+first_to session at step ms = unwrap_or (option_and_then (λ s. first_among at step s.leases) (member_with session ms)) []
+
+-- What a lease's read gave: it is to be made once more; or this leader, if it reads one, and these blocks, with what is kept of the first
+-- read.
+pub record IsTold (z : Sizes) (first : List (Option PairBlock)) (step : LeaseStep) (bytes : List ℕ) (told : Told) (blocks : List (Option Block)) : Type 0 where
+  pub again : told ≡ Again → is_asked_again z step bytes ≡ true
+  pub gave : (leader : Option Leader) → told ≡ Gave leader
+      → (is_asked_again z step bytes ≡ false) × (leader ≡ leader_given (layout_of z) first step bytes) × (blocks ≡ read_given (layout_of z) first step bytes)
+
+-- The lease of a member that is told so, where the read showed this turn.
+abbrev pub lease_heard : RunOf → Option ℕ → Bool → LeaseStep → List ℕ → Told → List (Option Block) → MemberState → LeaseState → LeaseState
+lease_heard run turn heeded step bytes Again blocks s l = kept_shown turn (pairs_kept (layout_of run.sizes) (part_read (layout_of run.sizes) bytes (first_step step))) l
+lease_heard run turn heeded step bytes (Gave leader) blocks s l = read_shown (side_with run s) turn heeded leader blocks l
 
 -- ---- a request
 

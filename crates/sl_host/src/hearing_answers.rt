@@ -7,8 +7,14 @@
 ghost use Rattle.sl_area.specs.Layouts.{layout_of};
 ghost use Rattle.sl_delta.specs.Own.{answer_in};
 ghost use Rattle.sl_host_state.specs.Hears.{heard_answer, job_hearing};
-ghost use Rattle.sl_lease.specs.Asked.{leader_given, read_given};
-ghost use Rattle.sl_sector.specs.Records.{IsBlock, IsLeader};
+ghost use Rattle.sl_host_law.specs.Steps.Leases.{lease_at};
+ghost use Rattle.sl_host_state.specs.Kept.{MemberState};
+ghost use Rattle.sl_lease.specs.Laws.{first_by};
+ghost use Rattle.sl_lease.specs.Reads.{CanRead, HasPlaces, sectors_read};
+ghost use Rattle.sl_member.specs.Together.{member_with};
+ghost use Rattle.sl_host.specs.declared.telling.Told.TheVariants.{Gave};
+ghost use Rattle.sl_sector.specs.declared.sector.Leader.{Leader as LeaderOf};
+ghost use Rattle.sl_sector.specs.Records.{IsLeader};
 ghost use Rattle.sl_trace.specs.Sessions.{is_renewal};
 ghost use Rattle.sl_time.specs.Times.{fail};
 ghost use Rattle.sl_trace.specs.Traces.{job_of};
@@ -17,26 +23,24 @@ ghost use Rattle.sl_trace.specs.declared.effects.Purpose.TheVariants.{Lease as L
 ghost use Rattle.sl_trace.specs.declared.input.Answer.TheVariants.{Failed, Read, Written};
 ghost use Rattle.sl_trace.specs.declared.input.Answer.{Answer};
 ghost use Rattle.sl_host.specs.Books.{books_hearing};
-ghost use Rattle.sl_host.specs.Hearing.{AreWaiting, MayHear, begun_at, is_over_in, is_own_purpose, is_untold, others_in, sectors_read};
+ghost use Rattle.sl_host.specs.Hearing.{AreWaiting, IsTold, MayHear, begun_at, is_over_in, is_own_purpose, is_untold, others_in};
 ghost use Rattle.sl_host.specs.Host.{Becomes, SameRun};
 ghost use Rattle.sl_words.specs.Bounds.{moments};
 ghost use Rattle.std.specs.List.{list_any};
 ghost use Rattle.std.specs.Option.{option_map_or};
-ghost use Rattle.std.specs.Prelude.{All, IfSome, IsTrue, List, cond, filter, find, is_some, length, map, min, not, option_map, true, ℕ, ◌*◌, ◌+◌, ◌<◌, ◌==◌, ◌^◌, ◌≡◌};
+ghost use Rattle.std.specs.Prelude.{IfSome, IsTrue, List, Option, cond, filter, find, is_some, length, map, min, not, option_map, true, ℕ, ◌*◌, ◌+◌, ◌<◌, ◌==◌, ◌^◌, ◌≡◌};
 
 use crate::books::{Books, job_of};
 use crate::host::{Host, WithinCall};
 use crate::replying::lowered_after;
 use crate::telling::{
-    is_renewal, order, read_lease, remove_over, shows_any, tell_no_survey, tell_own, tell_request,
-    tell_survey,
+    Told, is_renewal, order, remove_over, shows_any, tell_lease_read, tell_no_survey, tell_own,
+    tell_request, tell_survey,
 };
-use sl_area::Geometry;
 use sl_delta::SectorAnswer;
 use sl_host_state::OpenCall;
 use sl_lease::{Blocks, Sectors};
 use sl_member::Members;
-use sl_sector::Leader;
 use sl_tables::Jobs;
 use sl_trace::{Begun, LeaseStep, Purpose, Spot, Work};
 
@@ -102,13 +106,6 @@ impl Books {
             reading: self.reading,
             kills_from: self.entries,
         }
-    }
-
-    /// The sizes of sectors and areas.
-    fn geometry(&self) -> Geometry
-        ensures { result ≡ self.now.config.sizes }
-    {
-        self.config.geometry
     }
 
     /// The area of an open call.
@@ -202,7 +199,7 @@ impl Host {
         self.books.hear(&mut self.members, call);
     }
 
-    /// A read of a lease's work gave these sectors: its leader is told, and its blocks are put into their places.
+    /// A read of a lease's work gave these sectors: what it gave is told, and its blocks are put into their places.
     pub fn hear_lease_read<S: Sectors>(
         &mut self,
         call: &OpenCall,
@@ -210,33 +207,38 @@ impl Host {
         step: LeaseStep,
         sectors: &S,
         blocks: &mut Blocks,
-    ) -> Option<Leader>
+    ) -> Told
         requires may { MayHear self.old.kept call.now }
         requires purpose { call.now.purpose ≡ LeaseWork work step }
         requires reads { is_some call.now.sectors ≡ true }
         requires cut { IsTrue (S.is_cut sectors.now self.old.kept.config.sizes.sector) }
-        requires many { length (S.bytes sectors.now) ≡ sectors_read self.old.kept.config.sizes.hosts step * self.old.kept.config.sizes.sector }
-        requires places { length blocks.old ≡ self.old.kept.config.sizes.hosts }
+        requires many { length (S.bytes sectors.now) ≡ sectors_read self.old.kept.config.sizes step * self.old.kept.config.sizes.sector }
+        requires can { CanRead self.old.kept.config.sizes blocks.old }
         ensures state { Becomes self.old self.new (heard_answer call.now.number (Read (S.bytes sectors.now))) }
         ensures left { (self.new.left ≡ self.old.left) × (self.new.calls ≡ self.old.calls) }
         ensures run { SameRun self.old self.new }
-        ensures leader { result ≡ leader_given (layout_of self.old.kept.config.sizes) step (S.bytes sectors.now) }
-        ensures rules { IfSome result IsLeader }
-        ensures blocks { blocks.new ≡ read_given (layout_of self.old.kept.config.sizes) step (S.bytes sectors.now) }
-        ensures blocks_rules { All (λ o. IfSome o IsBlock) blocks.new }
-        ensures few { length blocks.new < 2 ^ 32 }
+        ensures told { (m : MemberState) → member_with call.now.session self.new.kept.members ≡ Some m
+            → IsTold self.old.kept.config.sizes (first_by (lease_at m (area_of_call (layout_of self.old.kept.config.sizes) call.now)).pair step) step (S.bytes sectors.now) result blocks.new.blocks }
+        ensures rules { (leader : Option LeaderOf) → result ≡ Gave leader → IfSome leader IsLeader }
+        ensures places { HasPlaces self.old.kept.config.sizes blocks.new }
+        ensures few { length blocks.new.blocks < 2 ^ 32 }
     {
         let _within: Option<WithinCall> = None;
         let _work = work;
-        let geometry = self.books.geometry();
-        let leader = read_lease(&geometry, &step, sectors, blocks);
         let heeded = self.heeds(&call.purpose);
         let at = self.books.area_of(call);
         order(&self.members, call.session);
-        self.members
-            .lease_read(call.session, &at, &leader, blocks.as_slice(), heeded);
+        let told = tell_lease_read(
+            &mut self.members,
+            call.session,
+            &at,
+            &step,
+            sectors,
+            blocks,
+            heeded,
+        );
         self.books.hear(&mut self.members, call);
-        leader
+        told
     }
 
     /// A write of a lease's work is done.

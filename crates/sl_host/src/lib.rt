@@ -31,3 +31,4 @@ pub use buffers::Buffers;
 pub use host::Host;
 pub use notes::Notes;
 pub use passing::Chosen;
+pub use telling::Told;

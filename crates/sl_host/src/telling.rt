@@ -3,29 +3,32 @@
 ghost use Rattle.sl_delta.specs.Own.{answer_in};
 ghost use Rattle.sl_host_state.specs.Hears.{renewed_of};
 ghost use Rattle.sl_host_state.specs.Kept.{MemberState};
-ghost use Rattle.sl_lease.specs.Asked.{leader_given, read_given};
+ghost use Rattle.sl_lease.specs.Reads.{CanRead, HasPlaces, HasRead, sectors_read};
 ghost use Rattle.sl_area.specs.Layouts.{layout_of};
-ghost use Rattle.sl_member.specs.Leases.{AreByPlace};
-ghost use Rattle.sl_member.specs.Members.{own_told};
+ghost use Rattle.sl_member.specs.Leases.{AreByPlace, kept_shown};
+ghost use Rattle.sl_member.specs.Members.{lease_changed, own_told};
 ghost use Rattle.sl_member.specs.Together.{AreApart, changed_member, member_with};
-ghost use Rattle.sl_sector.specs.Records.{IsBlock, IsLeader};
+ghost use Rattle.sl_sector.specs.Records.{Fits, IsLeader};
+ghost use Rattle.sl_sector.specs.declared.sector.Leader.{Leader as LeaderOf};
+ghost use Rattle.sl_sector.specs.declared.sector.PairBlock.{PairBlock as PairBlockOf};
+ghost use Rattle.sl_trace.specs.LeaseWork.{first_step, part_read};
 ghost use Rattle.sl_trace.specs.Sessions.{is_join_call, is_renewal};
 ghost use Rattle.sl_trace.specs.declared.effects.JoinStep.TheVariants.{FirstRead};
 ghost use Rattle.sl_trace.specs.declared.effects.Purpose.TheVariants.{Survey};
 ghost use Rattle.sl_trace.specs.declared.input.Answer.TheVariants.{Failed};
-ghost use Rattle.sl_host.specs.Hearing.{is_over_in, own_heard, reads_area, renewals_told, request_heard, sectors_read, shows_at, survey_heard, tells_renewals};
+ghost use Rattle.sl_host.specs.Hearing.{IsTold, first_to, is_over_in, lease_heard, own_heard, renewals_told, request_heard, shows_at, survey_heard, tells_renewals, turn_to};
+ghost use Rattle.sl_host.specs.declared.telling.Told.TheVariants.{Gave};
 ghost use Rattle.sl_words.specs.Bounds.{moments};
 ghost use Rattle.std.specs.List.{list_any};
-ghost use Rattle.std.specs.Prelude.{All, IfSome, IsTrue, Some, cond, filter, find, length, map, not, option_map, slice_get, ◌*◌, ◌<◌, ◌==◌, ◌^◌, ◌≡◌};
+ghost use Rattle.std.specs.Prelude.{IfSome, IsTrue, List, None, Option, Some, cond, filter, find, is_some, length, map, not, option_map, slice_get, true, ℕ, ◌*◌, ◌<◌, ◌==◌, ◌^◌, ◌≡◌, ◌≤◌};
 
-use sl_area::Geometry;
 use sl_delta::SectorAnswer;
 use sl_host_state::OpenCall;
-use sl_lease::{Blocks, Sectors, leader_of};
+use sl_lease::{Blocks, Sectors};
 use sl_member::{Member, Members};
 use sl_sector::Leader;
 use sl_tables::OpenCalls;
-use sl_trace::{Begun, JoinStep, LeaseRead, LeaseStep, Purpose};
+use sl_trace::{Begun, JoinStep, LeaseStep, Purpose, Spot};
 
 // ---- refused members
 
@@ -238,45 +241,83 @@ pub(crate) fn tell_no_survey(members: &mut Members, call: &OpenCall, now: u64)
 
 // ---- a lease's read
 
-/// Whether a read at this step gives a leader too.
-fn reads_area(step: &LeaseStep) -> bool
-    ensures { result ≡ reads_area step.now }
+/// What a read of a lease's work gave: it is to be made once more, or this leader, if it reads one, the blocks being in their places.
+#[derive(Clone, Copy)]
+pub enum Told {
+    Again,
+    Gave { leader: Option<Leader> },
+}
+
+/// The turn of its own pair that a read at this step shows a member, if it shows one.
+fn turn_shown(members: &Members, session: u64, step: &LeaseStep, blocks: &Blocks) -> Option<u64>
+    ensures exact { (bytes : List ℕ) → HasRead members.now.run.sizes (part_read (layout_of members.now.run.sizes) bytes (first_step step.now)) blocks.now
+        → result ≡ turn_to (layout_of members.now.run.sizes) session step.now bytes members.now.members }
+    ensures rules { IfSome result (λ t. (1 ≤ t) × Fits t) }
 {
-    match step {
-        LeaseStep::ReadArea { resource: _ } => true,
-        LeaseStep::ReadBeforeFree => true,
-        LeaseStep::ReadAgain { read } => {
-            matches!(read, LeaseRead::OfArea { resource: _ } | LeaseRead::OfFree)
+    match members.numbered(session) {
+        Some(member) => {
+            let _within = member.known();
+            blocks.turn_at(step, member.who().id)
         }
-        _ => false,
+        None => None,
     }
 }
 
-/// The leader, and in their places the blocks, of a read at this step of a lease's work.
-#[tactic(auto, using(crate::proofs::AnswersTold::area_read, crate::proofs::AnswersTold::blocks_read))]
-pub(crate) fn read_lease<S: Sectors>(
-    geometry: &Geometry,
+/// The read for which a member's lease on an area waits is to be made once more: what its answer gave is kept.
+fn tell_first(
+    members: &mut Members,
+    session: u64,
+    at: &Spot,
+    turn: Option<u64>,
+    blocks: &mut Blocks,
+)
+    requires standing { is_some blocks.old.kept ≡ true }
+    requires turn { IfSome turn (λ t. (1 ≤ t) × Fits t) }
+    ensures members { (pairs : List (Option PairBlockOf)) → blocks.old.kept ≡ Some pairs
+        → members.new ≡ record members.old { members = changed_member session (lease_changed at.now (kept_shown turn pairs)) members.old.members } }
+    ensures blocks { blocks.new ≡ record blocks.old { kept = None } }
+{
+    match blocks.take_kept() {
+        Some(pairs) => members.lease_kept(session, at, turn, pairs),
+        None => {}
+    }
+}
+
+/// A read of a lease's work is told to its member: the turn that it shows, with what it gave, or with what is kept of it.
+pub(crate) fn tell_lease_read<S: Sectors>(
+    members: &mut Members,
+    session: u64,
+    at: &Spot,
     step: &LeaseStep,
     sectors: &S,
     blocks: &mut Blocks,
-) -> Option<Leader>
-    requires cut { IsTrue (S.is_cut sectors.now geometry.now.sector) }
-    requires many { length (S.bytes sectors.now) ≡ sectors_read geometry.now.hosts step.now * geometry.now.sector }
-    requires places { length blocks.old ≡ geometry.now.hosts }
-    ensures leader { result ≡ leader_given (layout_of geometry.now) step.now (S.bytes sectors.now) }
-    ensures rules { IfSome result IsLeader }
-    ensures blocks { blocks.new ≡ read_given (layout_of geometry.now) step.now (S.bytes sectors.now) }
-    ensures blocks_rules { All (λ o. IfSome o IsBlock) blocks.new }
-    ensures few { length blocks.new < 2 ^ 32 }
+    heeded: bool,
+) -> Told
+    requires cut { IsTrue (S.is_cut sectors.now members.old.run.sizes.sector) }
+    requires many { length (S.bytes sectors.now) ≡ sectors_read members.old.run.sizes step.now * members.old.run.sizes.sector }
+    requires can { CanRead members.old.run.sizes blocks.old }
+    ensures members { members.new ≡ record members.old {
+      members = changed_member session
+          (λ s. lease_changed at.now (lease_heard members.old.run (turn_to (layout_of members.old.run.sizes) session step.now (S.bytes sectors.now) members.old.members) heeded step.now (S.bytes sectors.now) result blocks.new.blocks s) s)
+          members.old.members;
+    } }
+    ensures told { IsTold members.old.run.sizes (first_to session at.now step.now members.old.members) step.now (S.bytes sectors.now) result blocks.new.blocks }
+    ensures rules { (leader : Option LeaderOf) → result ≡ Gave leader → IfSome leader IsLeader }
+    ensures places { HasPlaces members.old.run.sizes blocks.new }
+    ensures few { length blocks.new.blocks < 2 ^ 32 }
 {
+    let geometry = members.geometry();
     let _hosts = geometry.hosts();
-    if reads_area(step) {
-        blocks.read_area(geometry, sectors);
-        leader_of(geometry, sectors)
-    } else {
-        blocks.read_blocks(geometry, sectors);
-        None
+    let again = blocks.read(&geometry, step, sectors);
+    let turn = turn_shown(members, session, step, blocks);
+    if again {
+        tell_first(members, session, at, turn, blocks);
+        return Told::Again;
     }
+    let first = members.first_for(session, at, step);
+    let leader = blocks.gather(&geometry, step, sectors, first);
+    members.lease_read(session, at, turn, &leader, blocks.as_slice(), heeded);
+    Told::Gave { leader }
 }
 
 // ---- a request

@@ -1,7 +1,7 @@
 -- An answer that is heard and then acted on is answered.
-use Rattle.sl_area.specs.Layouts.{Layout}
+use Rattle.sl_area.specs.Layouts.{layout_of}
 use Rattle.sl_host_answers.specs.Answering.{HeardKnown, IsHeard, MayAnswer, due_for, due_of, found_for, is_job_call, is_joining_purpose, joined_on}
-use Rattle.sl_host_answers.specs.Facts.{JoinKnown}
+use Rattle.sl_host_answers.specs.Facts.{JoinKnown, ReadKnown, ToldKnown}
 use Rattle.sl_host_answers.specs.Own.{join_answer}
 use Rattle.sl_host_answers.specs.Surveys.{leases_of, spots_of}
 use Rattle.sl_host_answers.specs.declared.own.JoinAnswer.{JoinAnswer}
@@ -9,26 +9,29 @@ use Rattle.sl_host_law.specs.Answers.Requests.{answering_job}
 use Rattle.sl_host_law.specs.Steps.Answers.{answering, answering_by, answering_for}
 use Rattle.sl_host_law.specs.Steps.Passes.{at_member, member_numbered}
 use Rattle.sl_host_state.specs.Hears.{heard_answer, hearing, is_heeded_by, is_over_with, job_hearing, lease_told, member_hearing, others}
-use Rattle.sl_host_state.specs.Kept.{HostKept, HostState, MemberState, state_of}
+use Rattle.sl_host_state.specs.Kept.{HostKept, HostState, Made, MemberState, state_of}
 use Rattle.sl_host_state.specs.Makes.{has_write_open}
 use Rattle.sl_host_state.specs.declared.kept.OpenCall.{OpenCall}
-use Rattle.sl_lease.specs.Asked.{read_given}
+use Rattle.sl_host.specs.Hearing.{IsTold}
+use Rattle.sl_host.specs.declared.telling.Told.{Told}
+use Rattle.sl_host_law.specs.Questions.Answers.{spot_in}
+use Rattle.sl_host_law.specs.Steps.Leases.{lease_at}
+use Rattle.sl_lease.specs.Laws.{first_by}
+use Rattle.sl_sector.specs.declared.sector.Block.{Block}
+use Rattle.sl_trace.specs.declared.effects.Work.{Work}
 use Rattle.sl_member.specs.Together.{member_with}
 use Rattle.sl_plain.proofs.Lists.{find_inside}
 use Rattle.sl_trace.specs.Sessions.{is_survey_purpose}
 use Rattle.sl_trace.specs.declared.command.Command.{Command}
 use Rattle.sl_trace.specs.declared.effects.JoinStep.{JoinStep}
-use Rattle.sl_trace.specs.declared.effects.LeaseStep.TheVariants.{ClearMode, FreeLeader, Phase1Read, Phase1Write, Phase2Read, Phase2Write, ReadAgain, ReadArea, ReadBeforeBlock, ReadBeforeFree, SetMode, TakeLeader}
 use Rattle.sl_trace.specs.declared.effects.LeaseStep.{LeaseStep}
 use Rattle.sl_trace.specs.declared.effects.Purpose.TheVariants.{Joining, Lease, Leaving, Renewal, RequestRead, RequestWrite, SeeRequest, Survey, ValueRead, ValueWrite}
 use Rattle.sl_trace.specs.declared.effects.Purpose.{Purpose}
 use Rattle.sl_trace.specs.declared.input.Answer.TheVariants.{Failed}
 use Rattle.sl_trace.specs.declared.input.Answer.{Answer}
-use Rattle.sl_host.proofs.AnswersTold.{blocks_few}
 use Rattle.sl_host.specs.Asking.{state_in}
 use Rattle.sl_host.specs.Hearing.{is_untold}
 use Rattle.sl_words.proofs.CaseLaws.{none_some, some_value}
-use Rattle.sl_trace.specs.declared.effects.LeaseRead.TheVariants.{OfArea, OfBlock, OfFree, OfPhase1, OfPhase2}
 use Rattle.std.proofs.Common.{ap, arith, refl, subst, sym, true≢false, ◌∙◌}
 use Rattle.std.proofs.lemmas.Bool.Decides.{Decides-eqb}
 use Rattle.std.proofs.lemmas.List.{length-map}
@@ -224,25 +227,19 @@ job_due job SeeRequest h g c o is = none_true is
 job_due job (ValueWrite j) h g c o is = ap (λ n. at_member c.session (λ m. answering_job n c Failed (λ bytes x. x) (λ x. x)) g) (sym (job_is j job is))
 job_due job (ValueRead j) h g c o is = ap (λ n. at_member c.session (λ m. answering_job n c Failed (λ bytes x. x) (λ x. x)) g) (sym (job_is j job is))
 
--- ---- blocks
+-- ---- a lease's read
 
-pub blocks_many : (g : Layout) (step : LeaseStep) (bytes : List ℕ) → length (read_given g step bytes) ≡ g.hosts
-blocks_many g (ReadArea name) bytes = blocks_few g (drop (2 * g.sector) bytes)
-blocks_many g ReadBeforeFree bytes = blocks_few g (drop (2 * g.sector) bytes)
-blocks_many g ReadBeforeBlock bytes = blocks_few g bytes
-blocks_many g (ReadAgain (OfArea name)) bytes = blocks_few g (drop (2 * g.sector) bytes)
-blocks_many g (ReadAgain OfFree) bytes = blocks_few g (drop (2 * g.sector) bytes)
-blocks_many g (ReadAgain OfBlock) bytes = blocks_few g bytes
-blocks_many g (ReadAgain OfPhase1) bytes = blocks_few g bytes
-blocks_many g (ReadAgain OfPhase2) bytes = blocks_few g bytes
-blocks_many g Phase1Write bytes = blocks_few g bytes
-blocks_many g Phase1Read bytes = blocks_few g bytes
-blocks_many g Phase2Write bytes = blocks_few g bytes
-blocks_many g Phase2Read bytes = blocks_few g bytes
-blocks_many g TakeLeader bytes = blocks_few g bytes
-blocks_many g SetMode bytes = blocks_few g bytes
-blocks_many g FreeLeader bytes = blocks_few g bytes
-blocks_many g ClearMode bytes = blocks_few g bytes
+-- What is known of it, where the lease that has heard it is told so.
+pub told_known : (k g : HostKept) (c : OpenCall) (work : Work) (step : LeaseStep) (bytes : List ℕ) (told : Told) (blocks shown : List (Option Block)) → g.config ≡ k.config → shown ≡ blocks
+    → ((m : MemberState) → member_with c.session g.members ≡ Some m
+    → IsTold k.config.sizes (first_by (lease_at m (spot_in (layout_of k.config.sizes) c)).pair step) step bytes told blocks)
+    → ReadKnown g (spot_in (layout_of g.config.sizes) c) c.session work step bytes → ToldKnown g (spot_in (layout_of g.config.sizes) c) c.session work step bytes told shown
+told_known k g c work step bytes told blocks shown run same tells known m there goes =
+    let it = known m there goes in
+    let said : IsTold g.config.sizes (first_by (lease_at m (spot_in (layout_of g.config.sizes) c)).pair step) step bytes told shown =
+    subst (λ (z : Made). IsTold z.sizes (first_by (lease_at m (spot_in (layout_of z.sizes) c)).pair step) step bytes told shown) (sym run)
+    (subst (λ bs. IsTold k.config.sizes (first_by (lease_at m (spot_in (layout_of k.config.sizes) c)).pair step) step bytes told bs) (sym same) (tells m there)) in
+    record { shown = record { told = said; known = it.stands }; known = it.known }
 
 -- ---- a call that reads all ids
 

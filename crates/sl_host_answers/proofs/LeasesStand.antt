@@ -8,6 +8,7 @@ use Rattle.sl_host_law.specs.Steps.Leases.{answered_next}
 use Rattle.sl_host_law.specs.Steps.Passes.{at_member, member_numbered}
 use Rattle.sl_host_state.specs.Kept.{HostState, MemberState}
 use Rattle.sl_host_state.specs.declared.kept.OpenCall.{OpenCall}
+use Rattle.sl_host_work.proofs.TurnsStand.{by_number}
 use Rattle.sl_trace.specs.declared.lease.Aim.{Aim}
 use Rattle.sl_trace.specs.declared.lease.LeaseNext.{LeaseNext}
 use Rattle.sl_trace.specs.declared.session.Session.{Session}
@@ -47,15 +48,15 @@ module _ (h : HostState) (c : OpenCall) (work : Work) (step : LeaseStep) (a : An
     goes m true None is = absurd cc
     goes m false o is = absurd cc
 
-    goes_at : (o : Option MemberState) → found ≡ next_on h here c work step a o → (m : MemberState) × (m.who ≡ s) × (carrying_lease m here work next h ≡ at_found o)
+    goes_at : (o : Option MemberState) → found ≡ next_on h here c work step a o → (m : MemberState) × (o ≡ Some m) × (m.who ≡ s) × (carrying_lease m here work next h ≡ at_found o)
     goes_at None is = absurd cc
-    goes_at (Some m) is = (m, (goes m (goes_on_in h m work) (aim_in h work) is).0, (goes m (goes_on_in h m work) (aim_in h work) is).1)
+    goes_at (Some m) is = (m, refl, (goes m (goes_on_in h m work) (aim_in h work) is).0, (goes m (goes_on_in h m work) (aim_in h work) is).1)
 
     pub goes_further : (at : Spot) → at ≡ here → found ≡ next_on h at c work step a (member_numbered h n)
-        → (m : MemberState) × (m.who ≡ s) × (carrying_lease m at work next h ≡ at_member n (λ m. working_on m c work step a) h)
+        → (m : MemberState) × (member_numbered h s.number ≡ Some m) × (m.who ≡ s) × (carrying_lease m at work next h ≡ at_member n (λ m. working_on m c work step a) h)
     goes_further at there is =
         let went = goes_at (member_numbered h n) (is ∙ ap (λ z. next_on h z c work step a (member_numbered h n)) there) in
-        (went.0, went.1, ap (λ z. carrying_lease went.0 z work next h) there ∙ went.2)
+        (went.0, by_number h.members n went.0 s went.1 went.2, went.2, ap (λ z. carrying_lease went.0 z work next h) there ∙ went.3)
 
   abbrev nothing : Option (Session × LeaseNext)
   nothing = None

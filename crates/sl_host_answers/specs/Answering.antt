@@ -18,8 +18,8 @@ use Rattle.sl_host_state.specs.Kept.{HostKept, HostState, MemberState, state_of}
 use Rattle.sl_host_state.specs.Makes.{with_reply}
 use Rattle.sl_host_state.specs.declared.kept.OpenCall.{OpenCall}
 use Rattle.sl_host_work.specs.Waking.{ArePlaced}
-use Rattle.sl_lease.specs.Asked.{read_given}
 use Rattle.sl_lease.specs.Bounds.{IsInstance}
+use Rattle.sl_lease.specs.Reads.{sectors_read}
 use Rattle.sl_lease.specs.Steps.{is_read_step}
 use Rattle.sl_member.specs.Together.{member_with}
 use Rattle.sl_trace.specs.Deltas.{next_after_free, next_after_renewal}
@@ -33,7 +33,7 @@ use Rattle.sl_trace.specs.declared.input.Answer.TheVariants.{Failed, Read, Writt
 use Rattle.sl_trace.specs.declared.input.Answer.{Answer}
 use Rattle.sl_trace.specs.declared.reply.Reply.TheVariants.{Done}
 use Rattle.sl_host.specs.Asking.{state_in}
-use Rattle.sl_host.specs.Hearing.{MayHear, sectors_read}
+use Rattle.sl_host.specs.Hearing.{MayHear}
 use Rattle.sl_words.specs.Bounds.{moments}
 use Rattle.std.specs.Arc.{arc_value}
 use Rattle.std.specs.Prelude.{Bool, IsTrue, List, None, Option, Result, Some, cond, false, find, is_some, length, option_map, true, ℕ, ◌*◌, ◌+◌, ◌<◌, ◌==◌, ◌≡◌, ◌≤◌}
@@ -84,7 +84,7 @@ IsHeard k number a g = (read : List ℕ → Result Command ℕ) → state_of rea
 
 -- After an answer to a lease's call.
 abbrev pub LeaseHeard : HostKept → OpenCall → Work → LeaseStep → Answer → Type 0
-LeaseHeard g c work step (Read bytes) = ReadKnown g (spot_in (layout_of g.config.sizes) c) c.session work step (read_given (layout_of g.config.sizes) step bytes)
+LeaseHeard g c work step (Read bytes) = ReadKnown g (spot_in (layout_of g.config.sizes) c) c.session work step bytes
 LeaseHeard g c work step Written = WorkKnown g (spot_in (layout_of g.config.sizes) c) c.session work step × IsInstance c.lver
 LeaseHeard g c work step Failed = WorkKnown g (spot_in (layout_of g.config.sizes) c) c.session work step
 
@@ -128,12 +128,11 @@ takes_sectors SeeRequest = true
 takes_sectors (ValueRead j) = true
 takes_sectors p = false
 
--- So many bytes are those that the call asks, where a block has one sector.
+-- So many bytes are those that the call asks.
 pub record FitsSectors (z : Sizes) (c : OpenCall) (n : ℕ) : Type 0 where
-  pub plain : z.paired ≡ false
   pub taken : takes_sectors c.purpose ≡ true
   pub survey : c.purpose ≡ Survey → n ≡ z.hosts * z.sector
-  pub lease : (work : Work) (step : LeaseStep) → c.purpose ≡ Lease work step → (is_read_step step ≡ true) × (is_some c.sectors ≡ true) × (n ≡ sectors_read z.hosts step * z.sector)
+  pub lease : (work : Work) (step : LeaseStep) → c.purpose ≡ Lease work step → (is_read_step step ≡ true) × (is_some c.sectors ≡ true) × (n ≡ sectors_read z step * z.sector)
   pub request : (j : ℕ) → c.purpose ≡ RequestRead j → n ≡ 2 * z.sector
   pub look : c.purpose ≡ SeeRequest → n ≡ z.sector
   pub value : (j : ℕ) → c.purpose ≡ ValueRead j → n ≡ z.sector

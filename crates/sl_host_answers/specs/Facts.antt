@@ -2,9 +2,9 @@
 use Rattle.sl_area.specs.Layouts.{layout_of}
 use Rattle.sl_host_answers.specs.declared.own.JoinAnswer.{JoinAnswer}
 use Rattle.sl_host_law.specs.Questions.Jobs.{command_in, goes_on_in}
-use Rattle.sl_host_law.specs.Steps.Leases.{kept_blocks, lease_at}
+use Rattle.sl_host_law.specs.Steps.Leases.{blocks_at, kept_blocks, lease_at}
 use Rattle.sl_host_state.specs.Kept.{HostKept, MemberState}
-use Rattle.sl_host_work.specs.Asking.{IsNamedFor, MayAsk}
+use Rattle.sl_host_work.specs.Asking.{IsNamedFor, IsShown, MayAsk, ReadStands}
 use Rattle.sl_host_work.specs.Placed.{IsArea, IsPlaced}
 use Rattle.sl_member.specs.Together.{member_with}
 use Rattle.sl_sector.specs.declared.sector.Block.{Block}
@@ -17,6 +17,8 @@ use Rattle.sl_trace.specs.declared.effects.Spot.{Spot}
 use Rattle.sl_trace.specs.declared.effects.Work.{Work}
 use Rattle.sl_host.specs.Asking.{state_in}
 use Rattle.sl_host.specs.Replying.{HasClaims}
+use Rattle.sl_host.specs.declared.telling.Told.{Told}
+use Rattle.sl_trace.specs.declared.input.Answer.TheVariants.{Read}
 use Rattle.sl_words.specs.Bounds.{moments}
 use Rattle.std.specs.Prelude.{Contains, List, Option, Some, true, ℕ, ◌<◌, ◌≡◌}
 
@@ -38,9 +40,24 @@ pub record LeaseKnown (k : HostKept) (at : Spot) (step : LeaseStep) (read : List
   pub asked : MayAsk (state_in k) m at read
   pub named : IsNamedFor m at step
 
--- So it is of the member of a number where its work goes on: after a read that gave these blocks, and after another answer.
-abbrev pub ReadKnown : HostKept → Spot → ℕ → Work → LeaseStep → List (Option Block) → Type 0
-ReadKnown k at n work step read = (m : MemberState) → member_with n k.members ≡ Some m → goes_on_in (state_in k) m work ≡ true → LeaseKnown k at step read m
+-- After a read that gave these bytes: the blocks are those that it gave, if any, and the lease has heard it.
+pub record LeaseRead (k : HostKept) (at : Spot) (step : LeaseStep) (bytes : List ℕ) (m : MemberState) : Type 0 where
+  pub stands : ReadStands (layout_of k.config.sizes) m at step bytes
+  pub known : LeaseKnown k at step (blocks_at (layout_of k.config.sizes) (lease_at m at) step (Read bytes)) m
+
+-- And the lease is told so what the read gave.
+pub record LeaseTold (k : HostKept) (at : Spot) (step : LeaseStep) (bytes : List ℕ) (told : Told) (blocks : List (Option Block)) (m : MemberState) : Type 0 where
+  pub shown : IsShown k.config.sizes m at step bytes told blocks
+  pub known : LeaseKnown k at step (blocks_at (layout_of k.config.sizes) (lease_at m at) step (Read bytes)) m
+
+-- So it is of the member of a number where its work goes on: after a read that gave these bytes, where it is told so, and after another
+-- answer.
+abbrev pub ReadKnown : HostKept → Spot → ℕ → Work → LeaseStep → List ℕ → Type 0
+ReadKnown k at n work step bytes = (m : MemberState) → member_with n k.members ≡ Some m → goes_on_in (state_in k) m work ≡ true → LeaseRead k at step bytes m
+
+abbrev pub ToldKnown : HostKept → Spot → ℕ → Work → LeaseStep → List ℕ → Told → List (Option Block) → Type 0
+ToldKnown k at n work step bytes told blocks =
+    (m : MemberState) → member_with n k.members ≡ Some m → goes_on_in (state_in k) m work ≡ true → LeaseTold k at step bytes told blocks m
 
 abbrev pub WorkKnown : HostKept → Spot → ℕ → Work → LeaseStep → Type 0
 WorkKnown k at n work step =

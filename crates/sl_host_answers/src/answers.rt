@@ -20,6 +20,7 @@ ghost use Rattle.sl_host_law.specs.Steps.Passes.{at_member};
 ghost use Rattle.sl_host_state.specs.Makes.{with_reply};
 ghost use Rattle.sl_host_state.specs.declared.kept.OpenCall.{OpenCall as OpenCallOf};
 ghost use Rattle.sl_host_work.specs.Next.{IsPlain};
+ghost use Rattle.sl_lease.specs.Reads.{CanRead, HasPlaces};
 ghost use Rattle.sl_member.specs.Together.{member_with};
 ghost use Rattle.sl_trace.specs.declared.effects.Purpose.TheVariants.{Joining, Lease as LeaseWork, Leaving, Renewal, RequestRead, RequestWrite, SeeRequest, Survey, ValueRead, ValueWrite};
 ghost use Rattle.sl_trace.specs.declared.input.Answer.TheVariants.{Failed, Read, Written};
@@ -255,18 +256,18 @@ fn hear_lease_read<S: Sectors>(
     requires purpose { call.now.purpose ≡ LeaseWork work step }
     requires fits { FitsSectors host.old.kept.config.sizes call.now (length (S.bytes sectors.now)) }
     requires cut { IsTrue (S.is_cut sectors.now host.old.kept.config.sizes.sector) }
-    requires places { length blocks.old ≡ host.old.kept.config.sizes.hosts }
+    requires can { CanRead host.old.kept.config.sizes blocks.old }
     requires left { 3 ≤ host.old.left }
     requires calls { 1 ≤ host.old.calls }
     ensures state { Becomes host.old host.new (answering call.now.number (Read (S.bytes sectors.now))) }
     ensures left { Spends host.old host.new 3 1 }
     ensures run { SameRun host.old host.new }
-    ensures places { length blocks.new ≡ length blocks.old }
+    ensures places { HasPlaces host.old.kept.config.sizes blocks.new }
 {
     let same_work = work;
     let same_step = step;
-    let leader = host.hear_lease_read(call, same_work, same_step, sectors, blocks);
-    answer_lease_read(host, call, work, step, &leader, blocks.as_slice());
+    let told = host.hear_lease_read(call, same_work, same_step, sectors, blocks);
+    answer_lease_read(host, call, work, step, &told, blocks.as_slice());
 }
 
 /// A write of it is done.
@@ -407,13 +408,13 @@ fn hear_others<S: Sectors>(host: &mut Host, blocks: &mut Blocks, call: &OpenCall
     requires fits { FitsSectors host.old.kept.config.sizes call.now (length (S.bytes sectors.now)) }
     requires other { is_survey_purpose call.now.purpose ≡ false }
     requires cut { IsTrue (S.is_cut sectors.now host.old.kept.config.sizes.sector) }
-    requires blocks { length blocks.old ≡ host.old.kept.config.sizes.hosts }
+    requires blocks { CanRead host.old.kept.config.sizes blocks.old }
     requires left { 3 ≤ host.old.left }
     requires calls { 1 ≤ host.old.calls }
     ensures state { Becomes host.old host.new (answering call.now.number (Read (S.bytes sectors.now))) }
     ensures left { Spends host.old host.new 3 1 }
     ensures run { SameRun host.old host.new }
-    ensures blocks { length blocks.new ≡ length blocks.old }
+    ensures blocks { HasPlaces host.old.kept.config.sizes blocks.new }
 {
     match call.purpose {
         Purpose::Joining { job: _, step: _ } => unreachable!(),
@@ -448,12 +449,12 @@ fn hear_sectors<S: Sectors>(
     requires can { CanAnswer host.old.kept call.now (Read (S.bytes sectors.now)) host.old.left host.old.calls numbers.old.most spots.old.most }
     requires fits { FitsSectors host.old.kept.config.sizes call.now (length (S.bytes sectors.now)) }
     requires cut { IsTrue (S.is_cut sectors.now host.old.kept.config.sizes.sector) }
-    requires blocks { length blocks.old ≡ host.old.kept.config.sizes.hosts }
+    requires blocks { CanRead host.old.kept.config.sizes blocks.old }
     ensures state { Becomes host.old host.new (answering call.now.number (Read (S.bytes sectors.now))) }
     ensures left { Spends host.old host.new (effects_for host.old.kept call.now.purpose) (calls_for host.old.kept call.now.session call.now.purpose) }
     ensures run { SameRun host.old host.new }
     ensures notes { (numbers.new.most ≡ numbers.old.most) × (spots.new.most ≡ spots.old.most) }
-    ensures blocks { length blocks.new ≡ length blocks.old }
+    ensures blocks { HasPlaces host.old.kept.config.sizes blocks.new }
 {
     if is_survey(&call.purpose) {
         hear_survey(host, numbers, spots, call, sectors);
@@ -551,12 +552,12 @@ fn hear_call<S: Sectors>(
 )
     requires can { CanAnswer host.old.kept call.now (answer_of S.bytes heard) host.old.left host.old.calls numbers.old.most spots.old.most }
     requires fits { FitsHeard S.bytes S.is_cut host.old.kept.config.sizes call.now heard }
-    requires blocks { length blocks.old ≡ host.old.kept.config.sizes.hosts }
+    requires blocks { CanRead host.old.kept.config.sizes blocks.old }
     ensures state { Becomes host.old host.new (answering call.now.number (answer_of S.bytes heard.entry)) }
     ensures left { Spends host.old host.new (effects_for host.old.kept call.now.purpose) (calls_for host.old.kept call.now.session call.now.purpose) }
     ensures run { SameRun host.old host.new }
     ensures notes { (numbers.new.most ≡ numbers.old.most) × (spots.new.most ≡ spots.old.most) }
-    ensures blocks { length blocks.new ≡ length blocks.old }
+    ensures blocks { HasPlaces host.old.kept.config.sizes blocks.new }
 {
     match heard {
         Heard::Sector(image) => hear_sector(host, call, image),
@@ -587,12 +588,12 @@ pub fn answer<S: Sectors>(
 )
     requires can { (c : OpenCallOf) → IsOpen (state_in host.old.kept) number c → CanAnswer host.old.kept c (answer_of S.bytes heard) host.old.left host.old.calls numbers.old.most spots.old.most }
     requires fits { (c : OpenCallOf) → IsOpen (state_in host.old.kept) number c → FitsHeard S.bytes S.is_cut host.old.kept.config.sizes c heard }
-    requires blocks { length blocks.old ≡ host.old.kept.config.sizes.hosts }
+    requires blocks { CanRead host.old.kept.config.sizes blocks.old }
     ensures state { Becomes host.old host.new (answering number (answer_of S.bytes heard.entry)) }
     ensures left { Spends host.old host.new (effects_of host.old.kept number) (calls_of host.old.kept number) }
     ensures run { SameRun host.old host.new }
     ensures notes { (numbers.new.most ≡ numbers.old.most) × (spots.new.most ≡ spots.old.most) }
-    ensures blocks { length blocks.new ≡ length blocks.old }
+    ensures blocks { HasPlaces host.old.kept.config.sizes blocks.new }
 {
     match open_call(host, number) {
         Some(call) => hear_call(host, numbers, spots, blocks, &call, heard),

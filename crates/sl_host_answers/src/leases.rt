@@ -2,15 +2,17 @@
 //! decided by what is kept of the lease and, after a read, by the leader and the blocks that it gave.
 
 ghost use Rattle.sl_area.specs.Layouts.{layout_of};
-ghost use Rattle.sl_host_answers.specs.Facts.{LeaseKnown, ReadKnown, WorkKnown};
+ghost use Rattle.sl_host_answers.specs.Facts.{LeaseKnown, LeaseTold, ToldKnown, WorkKnown};
 ghost use Rattle.sl_host_answers.specs.Leases.{aim_on, mode_wanted, next_on};
 ghost use Rattle.sl_host_law.specs.Questions.Answers.{spot_in};
 ghost use Rattle.sl_host_law.specs.Questions.Jobs.{aim_in, goes_on_in};
 ghost use Rattle.sl_host_law.specs.Steps.Answers.{working_on};
 ghost use Rattle.sl_host_law.specs.Steps.Leases.{kept_blocks, lease_at};
 ghost use Rattle.sl_host_law.specs.Steps.Passes.{at_member, member_numbered};
-ghost use Rattle.sl_host_work.specs.Asking.{IsShown};
-ghost use Rattle.sl_host_work.specs.Next.{IsFit};
+ghost use Rattle.sl_host_work.specs.Asking.{IsTurned, MayTurn};
+ghost use Rattle.sl_host.specs.declared.telling.Told.TheVariants.{Gave};
+ghost use Rattle.sl_sector.specs.declared.sector.Leader.{Leader as LeaderOf};
+ghost use Rattle.sl_host_work.specs.Next.{IsFit, writes_own_block};
 ghost use Rattle.sl_host_work.specs.Placed.{IsArea, IsPlaced};
 ghost use Rattle.sl_lease.specs.Bounds.{IsInstance};
 ghost use Rattle.sl_trace.specs.Jobs.{aim_of_command};
@@ -19,14 +21,14 @@ ghost use Rattle.sl_trace.specs.declared.input.Answer.TheVariants.{Failed, Read,
 ghost use Rattle.sl_host.specs.Asking.{state_in};
 ghost use Rattle.sl_host.specs.Host.{Becomes, SameRun, Spends};
 ghost use Rattle.sl_words.specs.Bounds.{moments};
-ghost use Rattle.std.specs.Prelude.{All, IfSome, List, Some, is_some, length, true, ℕ, ◌<◌, ◌^◌, ◌≡◌, ◌≤◌};
+ghost use Rattle.std.specs.Prelude.{All, IfSome, List, Option, Some, is_some, length, true, ℕ, ◌<◌, ◌^◌, ◌≡◌, ◌≤◌};
 
 use crate::finding::area_of;
-use sl_host::Host;
+use sl_host::{Host, Told};
 use sl_host_state::OpenCall;
 use sl_host_work::{carry_lease, next_after_failure, next_after_read, next_after_write};
 use sl_member::Member;
-use sl_sector::{Block, Leader};
+use sl_sector::Block;
 use sl_trace::{Aim, Command, LeaseNext, LeaseStep, Mode, Session, Spot, Work};
 
 // ---- where the work goes on
@@ -93,7 +95,7 @@ fn aim_on(host: &Host, member: &Member, work: &Work) -> Option<Aim>
 
 // ---- what comes next
 
-/// What a member's work does next after a read for this step that gave this leader, if it reads one, and these blocks; with its session.
+/// What a member's work does next after a read for this step that gave this, and these blocks; with its session.
 fn member_next_read(
     host: &Host,
     member: &Member,
@@ -101,22 +103,22 @@ fn member_next_read(
     call: &OpenCall,
     work: &Work,
     step: LeaseStep,
-    leader: &Option<Leader>,
+    told: &Told,
     blocks: &[Option<Block>],
 ) -> Option<(Session, LeaseNext)>
     requires run { member.now.run.sizes ≡ host.now.kept.config.sizes }
-    requires known { goes_on_in (state_in host.now.kept) member.now.state work.now ≡ true → LeaseKnown host.now.kept at.now step blocks.now member.now.state }
-    requires shown { (bytes : List ℕ) × IsShown (layout_of host.now.kept.config.sizes) step bytes leader.now blocks.now }
-    requires leader { IfSome leader.now IsLeader }
+    requires known { (bytes : List ℕ) × (goes_on_in (state_in host.now.kept) member.now.state work.now ≡ true → LeaseTold host.now.kept at.now step bytes told.now blocks.now member.now.state) }
+    requires rules { (leader : Option LeaderOf) → told.now ≡ Gave leader → IfSome leader IsLeader }
     requires blocks { All (λ o. IfSome o IsBlock) blocks.now × (length blocks.now < 2 ^ 32) }
-    ensures exact { (bytes : List ℕ) → IsShown (layout_of host.now.kept.config.sizes) step bytes leader.now blocks.now
+    ensures exact { (bytes : List ℕ) → (goes_on_in (state_in host.now.kept) member.now.state work.now ≡ true → LeaseTold host.now.kept at.now step bytes told.now blocks.now member.now.state)
         → result ≡ next_on (state_in host.now.kept) at.now call.now work.now step (Read bytes) (Some member.now.state) }
+    ensures turned { IfSome result (λ r. (r.0 ≡ member.now.state.who) × (writes_own_block r.1 ≡ true → MayTurn host.now.kept.config.sizes member.now.state at.now)) }
     ensures fit { IfSome result (λ r. IsFit r.1 × IsPlaced host.now.kept.config.sizes r.0 × IsArea host.now.kept.config.sizes at.now.base) }
 {
     match aim_on(host, member, work) {
         Some(aim) => Some((
             *member.who(),
-            next_after_read(host, member, at, aim, step, leader, blocks),
+            next_after_read(host, member, at, aim, step, told, blocks),
         )),
         None => None,
     }
@@ -136,6 +138,7 @@ fn member_next_write(
         → LeaseKnown host.now.kept at.now step (kept_blocks (lease_at member.now.state at.now)) member.now.state }
     requires instance { IsInstance call.now.lver }
     ensures exact { result ≡ next_on (state_in host.now.kept) at.now call.now work.now step Written (Some member.now.state) }
+    ensures turned { IfSome result (λ r. (r.0 ≡ member.now.state.who) × (writes_own_block r.1 ≡ true → MayTurn host.now.kept.config.sizes member.now.state at.now)) }
     ensures fit { IfSome result (λ r. IsFit r.1 × IsPlaced host.now.kept.config.sizes r.0 × IsArea host.now.kept.config.sizes at.now.base) }
 {
     match aim_on(host, member, work) {
@@ -159,6 +162,7 @@ fn member_next_failure(
     requires known { goes_on_in (state_in host.now.kept) member.now.state work.now ≡ true
         → LeaseKnown host.now.kept at.now step (kept_blocks (lease_at member.now.state at.now)) member.now.state }
     ensures exact { result ≡ next_on (state_in host.now.kept) at.now call.now work.now step Failed (Some member.now.state) }
+    ensures turned { IfSome result (λ r. (r.0 ≡ member.now.state.who) × (writes_own_block r.1 ≡ true → MayTurn host.now.kept.config.sizes member.now.state at.now)) }
     ensures fit { IfSome result (λ r. IsFit r.1 × IsPlaced host.now.kept.config.sizes r.0 × IsArea host.now.kept.config.sizes at.now.base) }
 {
     match aim_on(host, member, work) {
@@ -176,19 +180,19 @@ fn next_read(
     call: &OpenCall,
     work: &Work,
     step: LeaseStep,
-    leader: &Option<Leader>,
+    told: &Told,
     blocks: &[Option<Block>],
 ) -> Option<(Session, LeaseNext)>
-    requires known { ReadKnown host.now.kept at.now call.now.session work.now step blocks.now }
-    requires shown { (bytes : List ℕ) × IsShown (layout_of host.now.kept.config.sizes) step bytes leader.now blocks.now }
-    requires leader { IfSome leader.now IsLeader }
+    requires known { (bytes : List ℕ) × ToldKnown host.now.kept at.now call.now.session work.now step bytes told.now blocks.now }
+    requires rules { (leader : Option LeaderOf) → told.now ≡ Gave leader → IfSome leader IsLeader }
     requires blocks { All (λ o. IfSome o IsBlock) blocks.now × (length blocks.now < 2 ^ 32) }
-    ensures exact { (bytes : List ℕ) → IsShown (layout_of host.now.kept.config.sizes) step bytes leader.now blocks.now
+    ensures exact { (bytes : List ℕ) → ToldKnown host.now.kept at.now call.now.session work.now step bytes told.now blocks.now
         → result ≡ next_on (state_in host.now.kept) at.now call.now work.now step (Read bytes) (member_numbered (state_in host.now.kept) call.now.session) }
+    ensures turned { IfSome result (λ r. writes_own_block r.1 ≡ true → IsTurned host.now.kept r.0 at.now) }
     ensures fit { IfSome result (λ r. IsFit r.1 × IsPlaced host.now.kept.config.sizes r.0 × IsArea host.now.kept.config.sizes at.now.base) }
 {
     match host.members().numbered(call.session) {
-        Some(member) => member_next_read(host, member, at, call, work, step, leader, blocks),
+        Some(member) => member_next_read(host, member, at, call, work, step, told, blocks),
         None => None,
     }
 }
@@ -204,6 +208,7 @@ fn next_write(
     requires known { WorkKnown host.now.kept at.now call.now.session work.now step }
     requires instance { IsInstance call.now.lver }
     ensures exact { result ≡ next_on (state_in host.now.kept) at.now call.now work.now step Written (member_numbered (state_in host.now.kept) call.now.session) }
+    ensures turned { IfSome result (λ r. writes_own_block r.1 ≡ true → IsTurned host.now.kept r.0 at.now) }
     ensures fit { IfSome result (λ r. IsFit r.1 × IsPlaced host.now.kept.config.sizes r.0 × IsArea host.now.kept.config.sizes at.now.base) }
 {
     match host.members().numbered(call.session) {
@@ -222,6 +227,7 @@ fn next_failure(
 ) -> Option<(Session, LeaseNext)>
     requires known { WorkKnown host.now.kept at.now call.now.session work.now step }
     ensures exact { result ≡ next_on (state_in host.now.kept) at.now call.now work.now step Failed (member_numbered (state_in host.now.kept) call.now.session) }
+    ensures turned { IfSome result (λ r. writes_own_block r.1 ≡ true → IsTurned host.now.kept r.0 at.now) }
     ensures fit { IfSome result (λ r. IsFit r.1 × IsPlaced host.now.kept.config.sizes r.0 × IsArea host.now.kept.config.sizes at.now.base) }
 {
     match host.members().numbered(call.session) {
@@ -232,29 +238,28 @@ fn next_failure(
 
 // ---- what is done
 
-/// A call for work on a lease is answered, a read for this step, that gave this leader, if it reads one, and these blocks: the work goes on.
+/// A call for work on a lease is answered, a read for this step, that gave this, and these blocks: the work goes on.
 pub fn answer_lease_read(
     host: &mut Host,
     call: &OpenCall,
     work: Work,
     step: LeaseStep,
-    leader: &Option<Leader>,
+    told: &Told,
     blocks: &[Option<Block>],
 )
     requires left { 3 ≤ host.old.left }
     requires calls { 1 ≤ host.old.calls }
     requires moment { host.old.kept.reading < moments }
-    requires known { ReadKnown host.old.kept (spot_in (layout_of host.old.kept.config.sizes) call.now) call.now.session work step blocks.now }
-    requires shown { (bytes : List ℕ) × IsShown (layout_of host.old.kept.config.sizes) step bytes leader.now blocks.now }
-    requires leader { IfSome leader.now IsLeader }
+    requires known { (bytes : List ℕ) × ToldKnown host.old.kept (spot_in (layout_of host.old.kept.config.sizes) call.now) call.now.session work step bytes told.now blocks.now }
+    requires rules { (leader : Option LeaderOf) → told.now ≡ Gave leader → IfSome leader IsLeader }
     requires blocks { All (λ o. IfSome o IsBlock) blocks.now × (length blocks.now < 2 ^ 32) }
-    ensures state { (bytes : List ℕ) → IsShown (layout_of host.old.kept.config.sizes) step bytes leader.now blocks.now
+    ensures state { (bytes : List ℕ) → ToldKnown host.old.kept (spot_in (layout_of host.old.kept.config.sizes) call.now) call.now.session work step bytes told.now blocks.now
         → Becomes host.old host.new (at_member call.now.session (λ m. working_on m call.now work step (Read bytes))) }
     ensures left { Spends host.old host.new 3 1 }
     ensures run { SameRun host.old host.new }
 {
     let at = area_of(host, call);
-    match next_read(host, &at, call, &work, step, leader, blocks) {
+    match next_read(host, &at, call, &work, step, told, blocks) {
         Some((who, next)) => carry_lease(host, &who, &at, work, next),
         None => {}
     }

@@ -1,5 +1,6 @@
 pub mod RefusalsFollow
 pub mod DecisionsAreCarried
+pub mod BlocksAreWritten
 pub mod LeasesAreCarried
 pub mod AnswersSetFree
 pub mod AnswersFollow

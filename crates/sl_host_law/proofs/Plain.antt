@@ -6,4 +6,4 @@ pub mod Quiet
 pub mod KeptJobs
 pub mod NewNumbers
 pub mod IdleJobs
-pub mod BlocksHaveOneSector
+pub mod RecordsOfKinds

@@ -7,8 +7,11 @@ use Rattle.sl_host_lines.specs.Ending.{freed_next, freed_of, giving, gone_on, tu
 use Rattle.sl_host_lines.specs.LineFacts.{LeaseReady}
 use Rattle.sl_host_state.specs.Kept.{HostKept, HostState, MemberState}
 use Rattle.sl_host_state.specs.Makes.{with_end, with_reply}
-use Rattle.sl_host_work.specs.Asking.{MayAsk}
+use Rattle.sl_host_work.proofs.TurnsStand.{by_number, is_turned}
+use Rattle.sl_host_work.specs.Asking.{IsTurned, MayAsk, MayTurn}
+use Rattle.sl_host_work.specs.Next.{writes_own_block}
 use Rattle.sl_lease.specs.Bounds.{IsInstance}
+use Rattle.sl_member.specs.Together.{member_with}
 use Rattle.sl_trace.specs.declared.lease.LeaseNext.{LeaseNext}
 use Rattle.sl_trace.specs.declared.session.Session.{Session}
 use Rattle.sl_tables.specs.Holdings.{fits}
@@ -66,9 +69,15 @@ none_there (g ∷ gs) p is = absurd cc
 
 -- So the lease may be asked.
 pub may_ask : (k : HostKept) (m : MemberState) (at : Spot) → LeaseReady k at m → is_empty (held_on (state_in k) m at) ≡ true → MayAsk (state_in k) m at (kept_blocks (lease_at m at))
-may_ask k m at ready bare = record { joined = ready.joined; tops = ready.tops; held = none_there (held_on (state_in k) m at) (λ g. not (is_shared g.mode)) bare }
+may_ask k m at ready bare = record { joined = ready.joined; tops = ready.tops; owned = ready.owned; held = none_there (held_on (state_in k) m at) (λ g. not (is_shared g.mode)) bare }
 
 -- ---- the end of a holding
+
+-- What was decided behind it can be written by the member that is found.
+pub freed_turned : (k : HostKept) (g : Grant) (n : ℕ) (m : MemberState) (s : Session) (result : Option LeaseNext) → member_with n k.members ≡ Some m → s ≡ m.who
+    → IfSome result (λ v. writes_own_block v ≡ true → MayTurn k.config.sizes m (spot_of_grant g)) → IfSome result (λ v. writes_own_block v ≡ true → IsTurned k s (spot_of_grant g))
+freed_turned k g n m s None found is turned = tt
+freed_turned k g n m s (Some v) found is turned = λ writes. is_turned k (spot_of_grant g) n m s found is (turned writes)
 
 module _ (h : HostState) (g : Grant) (n : ℕ) (job : ℕ) where
   abbrev Found : Type 0
@@ -87,14 +96,16 @@ module _ (h : HostState) (g : Grant) (n : ℕ) (job : ℕ) where
   none_in m (e ∷ es) is = refl
 
   pub freed_on : (s : Session) (next : LeaseNext) → (let o : Option (Session × Option LeaseNext) = Some (s, Some next) in o) ≡ freed_of h g (member_numbered h n)
-      → (m : MemberState) × (m.who ≡ s) × (carrying_lease m (spot_of_grant g) (ForJob job) next h ≡ at_member n (gone_on job g) h)
-  freed_on s next is = by (member_numbered h n) is where
-    by : (o : Option MemberState) → (let f : Option (Session × Option LeaseNext) = Some (s, Some next) in f) ≡ freed_of h g o
-        → (m : MemberState) × (m.who ≡ s) × (carrying_lease m (spot_of_grant g) (ForJob job) next h ≡ elim o as (λ z. HostState) [ None ↦ h | Some k ↦ gone_on job g k h ])
-    by None is = absurd cc
-    by (Some m) is =
+      → (m : MemberState) × (member_numbered h s.number ≡ Some m) × (m.who ≡ s) × (carrying_lease m (spot_of_grant g) (ForJob job) next h ≡ at_member n (gone_on job g) h)
+  freed_on s next is = by (member_numbered h n) refl is where
+    by : (o : Option MemberState) → member_numbered h n ≡ o → (let f : Option (Session × Option LeaseNext) = Some (s, Some next) in f) ≡ freed_of h g o
+        → (m : MemberState) × (member_numbered h s.number ≡ Some m) × (m.who ≡ s)
+        × (carrying_lease m (spot_of_grant g) (ForJob job) next h ≡ elim o as (λ z. HostState) [ None ↦ h | Some k ↦ gone_on job g k h ])
+    by None there is = absurd cc
+    by (Some m) there is =
         let found : Option (Session × Option LeaseNext) → Session × Option LeaseNext = λ o. unwrap_or o (m.who, freed_next h g m) in
-        (m, sym (ap (λ o. (found o).0) is), next_in m (held_on h m (spot_of_grant g)) next (ap (λ o. (found o).1) is))
+        let same : m.who ≡ s = sym (ap (λ o. (found o).0) is) in
+        (m, by_number h.members n m s there same, same, next_in m (held_on h m (spot_of_grant g)) next (ap (λ o. (found o).1) is))
 
   pub left_on : (s : Session) → (let o : Option (Session × Option LeaseNext) = Some (s, None) in o) ≡ freed_of h g (member_numbered h n) → with_reply job Done h ≡ at_member n (gone_on job g) h
   left_on s is = by (member_numbered h n) is where
@@ -130,15 +141,17 @@ module _ (h : HostState) (g : Grant) (n : ℕ) (job : ℕ) where
 
 module _ (h : HostState) (at : Spot) (mode : Mode) (name : List ℕ) (n : ℕ) (job : ℕ) where
   pub turned_on : (s : Session) (next : LeaseNext) → (let o : Option (Session × LeaseNext) = Some (s, next) in o) ≡ turning_of h at mode name (member_numbered h n)
-      → (m : MemberState) × (m.who ≡ s) × (carrying_lease m at (ForJob job) next h ≡ at_member n (turning job at mode name) h)
-  turned_on s next is = by (member_numbered h n) is where
-    by : (o : Option MemberState) → (let f : Option (Session × LeaseNext) = Some (s, next) in f) ≡ turning_of h at mode name o
-        → (m : MemberState) × (m.who ≡ s) × (carrying_lease m at (ForJob job) next h ≡ elim o as (λ z. HostState) [ None ↦ h | Some k ↦ turning job at mode name k h ])
-    by None is = absurd cc
-    by (Some m) is =
+      → (m : MemberState) × (member_numbered h s.number ≡ Some m) × (m.who ≡ s) × (carrying_lease m at (ForJob job) next h ≡ at_member n (turning job at mode name) h)
+  turned_on s next is = by (member_numbered h n) refl is where
+    by : (o : Option MemberState) → member_numbered h n ≡ o → (let f : Option (Session × LeaseNext) = Some (s, next) in f) ≡ turning_of h at mode name o
+        → (m : MemberState) × (member_numbered h s.number ≡ Some m) × (m.who ≡ s)
+        × (carrying_lease m at (ForJob job) next h ≡ elim o as (λ z. HostState) [ None ↦ h | Some k ↦ turning job at mode name k h ])
+    by None there is = absurd cc
+    by (Some m) there is =
         let found : Option (Session × LeaseNext) → Session × LeaseNext = λ o. unwrap_or o (m.who, converting_next h m at mode name) in
         let other : next ≡ converting_next h m at mode name = ap (λ o. (found o).1) is in
-        (m, sym (ap (λ o. (found o).0) is), ap (λ v. carrying_lease m at (ForJob job) v h) other)
+        let same : m.who ≡ s = sym (ap (λ o. (found o).0) is) in
+        (m, by_number h.members n m s there same, same, ap (λ v. carrying_lease m at (ForJob job) v h) other)
 
   pub turned_none : (let o : Option (Session × LeaseNext) = None in o) ≡ turning_of h at mode name (member_numbered h n) → h ≡ at_member n (turning job at mode name) h
   turned_none is = by (member_numbered h n) is where

@@ -6,6 +6,7 @@ use Rattle.sl_host_lines.specs.LineFacts.{LeaseReady, MayConvertAt, MayReleaseAt
 use Rattle.sl_host_state.specs.Hears.{heard_line, leaves_member, member_leaving}
 use Rattle.sl_host_state.specs.Kept.{HostKept, HostState, LeaseState, MemberState}
 use Rattle.sl_host_state.specs.Makes.{is_lease_on, new_lease, with_end}
+use Rattle.sl_host_work.specs.Asking.{IsOwned}
 use Rattle.sl_host_work.specs.Placed.{IsArea, IsPlaced}
 use Rattle.sl_lease.specs.Asked.{TopStands}
 use Rattle.sl_lease.specs.Bounds.{IsInstance}
@@ -93,6 +94,7 @@ module _ (k new : HostKept) (old m : MemberState) (at : Spot) (config : new.conf
         placed = subst (λ (s : Session). IsPlaced new.config.sizes s) who (subst (λ (z : Sizes). IsPlaced z old.who) sizes r.placed);
         area = subst (λ (z : Sizes). IsArea z at.base) sizes r.area;
         tops = subst (λ (l : LeaseState). TopStands l (kept_blocks l)) (lease_same old m at leases) r.tops;
+        owned = subst IsOwned (lease_same old m at leases) r.owned;
       }
 
   -- Who holds on the area stays.

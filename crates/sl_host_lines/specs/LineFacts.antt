@@ -6,6 +6,7 @@ use Rattle.sl_host_law.specs.Decisions.Deciding.{decision_of}
 use Rattle.sl_host_law.specs.Questions.Members.{exclusive_at}
 use Rattle.sl_host_law.specs.Steps.Leases.{kept_blocks, lease_at}
 use Rattle.sl_host_state.specs.Kept.{HostKept, MemberState, state_of}
+use Rattle.sl_host_work.specs.Asking.{IsOwned}
 use Rattle.sl_host_work.specs.Placed.{IsArea, IsPlaced}
 use Rattle.sl_lease.specs.Asked.{TopStands}
 use Rattle.sl_lease.specs.Bounds.{IsInstance}
@@ -29,12 +30,14 @@ pub record IsTimely (k : HostKept) : Type 0 where
   pub now : k.reading < moments
   pub kills : k.reading + k.config.grace < 2 ^ 64
 
--- The lease of a joined member on an area may work: session and area are placed, and what is kept of the blocks that were read last is so.
+-- The lease of a joined member on an area may work: session and area are placed, what is kept of the blocks that were read
+-- last is so, and the own block is of a resource whose name was verified.
 pub record LeaseReady (k : HostKept) (at : Spot) (m : MemberState) : Type 0 where
   pub joined : m.joined ≡ true
   pub placed : IsPlaced k.config.sizes m.who
   pub area : IsArea k.config.sizes at.base
   pub tops : TopStands (lease_at m at) (kept_blocks (lease_at m at))
+  pub owned : IsOwned (lease_at m at)
 
 -- It may be released by the end of this holding: the resource's name was verified, and the holding is of an instance.
 pub record MayRelease (k : HostKept) (g : Grant) (m : MemberState) : Type 0 where

@@ -9,7 +9,8 @@ ghost use Rattle.sl_host_law.specs.Steps.Lines.{deciding};
 ghost use Rattle.sl_host_law.specs.Steps.Passes.{at_member};
 ghost use Rattle.sl_host_lines.specs.Ending.{freed_next, freed_of, giving, gone_on, turning, turning_of};
 ghost use Rattle.sl_host_lines.specs.LineFacts.{IsTimely, MayConvert, MayConvertAt, MayRelease, MayReleaseAt};
-ghost use Rattle.sl_host_work.specs.Next.{IsFit};
+ghost use Rattle.sl_host_work.specs.Asking.{IsTurned, MayTurn};
+ghost use Rattle.sl_host_work.specs.Next.{IsFit, writes_own_block};
 ghost use Rattle.sl_host_work.specs.Placed.{IsArea, IsPlaced};
 ghost use Rattle.sl_trace.specs.Leases.{spot_of};
 ghost use Rattle.sl_member.specs.Together.{member_with};
@@ -18,7 +19,7 @@ ghost use Rattle.sl_host.specs.Asking.{state_in};
 ghost use Rattle.sl_host.specs.Host.{Becomes, SameRun, Spends};
 ghost use Rattle.sl_words.specs.Bounds.{moments};
 ghost use Rattle.sl_words.specs.Words.{is_empty};
-ghost use Rattle.std.specs.Prelude.{IfSome, is_some, ◌+◌, ◌<◌, ◌≡◌, ◌≤◌};
+ghost use Rattle.std.specs.Prelude.{IfSome, is_some, true, ◌+◌, ◌<◌, ◌≡◌, ◌≤◌};
 
 use crate::line_grants::end_of;
 use crate::lines::begin;
@@ -62,6 +63,7 @@ fn freed_next(host: &Host, member: &Member, ended: &Grant) -> Option<LeaseNext>
     requires run { member.now.run.sizes ≡ host.now.kept.config.sizes }
     requires may { MayRelease host.now.kept ended.now member.now.state }
     ensures exact { result ≡ freed_next (state_in host.now.kept) ended.now member.now.state }
+    ensures turned { IfSome result (λ n. writes_own_block n ≡ true → MayTurn host.now.kept.config.sizes member.now.state (spot_of_grant ended.now)) }
     ensures fit { IfSome result IsFit }
 {
     let at = spot_of_grant(ended);
@@ -76,6 +78,7 @@ fn freed_next(host: &Host, member: &Member, ended: &Grant) -> Option<LeaseNext>
 fn freed_of(host: &Host, number: u64, ended: &Grant) -> Option<(Session, Option<LeaseNext>)>
     requires may { MayReleaseAt host.now.kept number ended.now }
     ensures exact { result ≡ freed_of (state_in host.now.kept) ended.now (member_with number host.now.kept.members) }
+    ensures turned { IfSome result (λ r. IfSome r.1 (λ n. writes_own_block n ≡ true → IsTurned host.now.kept r.0 (spot_of_grant ended.now))) }
     ensures fit { IfSome result (λ r. IfSome r.1 IsFit × IsPlaced host.now.kept.config.sizes r.0 × IsArea host.now.kept.config.sizes ended.now.offset) }
 {
     match host.members().numbered(number) {
@@ -147,6 +150,7 @@ fn turning_next(host: &Host, member: &Member, at: &Spot, mode: Mode, name: Name)
     requires run { member.now.run.sizes ≡ host.now.kept.config.sizes }
     requires may { MayConvert host.now.kept at.now member.now.state }
     ensures exact { result ≡ converting_next (state_in host.now.kept) member.now.state at.now mode name }
+    ensures turned { writes_own_block result ≡ true → MayTurn host.now.kept.config.sizes member.now.state at.now }
     ensures fit { IsFit result }
 {
     converting_next(host, member, at, mode, name)
@@ -162,6 +166,7 @@ fn turning_of(
 ) -> Option<(Session, LeaseNext)>
     requires may { MayConvertAt host.now.kept number at.now }
     ensures exact { result ≡ turning_of (state_in host.now.kept) at.now mode name (member_with number host.now.kept.members) }
+    ensures turned { IfSome result (λ r. writes_own_block r.1 ≡ true → IsTurned host.now.kept r.0 at.now) }
     ensures fit { IfSome result (λ r. IsFit r.1 × IsPlaced host.now.kept.config.sizes r.0 × IsArea host.now.kept.config.sizes at.now.base) }
 {
     match host.members().numbered(number) {

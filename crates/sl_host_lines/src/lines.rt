@@ -1,7 +1,7 @@
 //! Lines that are answered at once, and those that make a call: an area, a request or a value is read, a value is written.
 
 ghost use Rattle.sl_area.specs.Layouts.{layout_of};
-ghost use Rattle.sl_area.specs.Places.{is_base, value_offset};
+ghost use Rattle.sl_area.specs.Places.{area_sectors, is_base, value_offset};
 ghost use Rattle.sl_due.specs.declared.decision.Decision.TheVariants.{GetsValue, ReadsArea, Replies, Requests, SetsValue};
 ghost use Rattle.sl_host_law.specs.Steps.Lines.{deciding, lining};
 ghost use Rattle.sl_host_state.specs.Hears.{heard_line};
@@ -50,9 +50,9 @@ pub(crate) fn begin(host: &mut Host, command: &Command) -> u64
 
 /// Sectors of leader, request and blocks.
 fn area_sectors(host: &Host) -> u32
-    ensures { result ≡ host.now.kept.config.sizes.hosts + 2 }
+    ensures { result ≡ area_sectors (layout_of host.now.kept.config.sizes) }
 {
-    host.config().geometry.hosts() + 2
+    host.config().geometry.block_sectors() + 2
 }
 
 /// Where the value stands, in the resource's area at this base.

@@ -3,7 +3,7 @@ use Rattle.sl_area.specs.Layouts.{Layout, Sizes}
 use Rattle.sl_host_law.specs.Parts.Signals.{over}
 use Rattle.sl_host_passes.specs.Fewer.{IsNoMore, leases_in}
 use Rattle.sl_host_state.specs.Kept.{HostKept, HostState, LeaseState, MemberState}
-use Rattle.sl_host_state.specs.Makes.{calling, has_write_open, is_ended_by_move, job_calling, job_starting, joining_calling, known_calling, leases_calling, leases_working, member_answered, member_calling, member_replying, value_calling, with_call, with_move, with_reply, with_signal, with_start, next_submitted}
+use Rattle.sl_host_state.specs.Makes.{calling, has_write_open, is_ended_by_move, is_lease_on, job_calling, job_starting, joining_calling, known_calling, leases_calling, leases_working, member_answered, member_calling, member_replying, new_lease, value_calling, with_call, with_move, with_reply, with_signal, with_start, next_submitted}
 use Rattle.sl_host_state.specs.Stands.{is_joining, pair_of}
 use Rattle.sl_host_state.specs.declared.kept.JobState.{JobState}
 use Rattle.sl_host_state.specs.declared.kept.TopNumber.{TopNumber}
@@ -12,7 +12,7 @@ use Rattle.sl_plain.proofs.Lists.{contains_cases, contains_first, contains_more,
 use Rattle.sl_plain.proofs.Numbers.{refl_le, trans_le}
 use Rattle.sl_trace.specs.Sessions.{is_join_done}
 use Rattle.sl_trace.specs.declared.session.Session.{Session}
-use Rattle.sl_trace.specs.Traces.{Submitted}
+use Rattle.sl_trace.specs.Traces.{Submitted, same_spot}
 use Rattle.sl_trace.specs.declared.effects.Grant.{Grant}
 use Rattle.sl_trace.specs.declared.effects.Move.{Move}
 use Rattle.sl_trace.specs.declared.effects.Op.{Op}
@@ -28,14 +28,16 @@ use Rattle.std.proofs.Common.{ap, arith, inl, inr, refl, subst, sym, ◌∙◌}
 use Rattle.std.proofs.lemmas.List.{length-map}
 use Rattle.std.proofs.lemmas.List.Sums.{sum_by-cons}
 use Rattle.std.specs.Option.{option_or}
-use Rattle.std.specs.Prelude.{Bool, Contains, Err, List, None, Option, Some, cond, false, filter, flat_map, length, map, not, option_map, true, [], ℕ, ◌&&◌, ◌++◌, ◌+◌, ◌==◌, ◌∷◌, ◌≡◌, ◌≤◌, ◌⊎◌}
+use Rattle.std.specs.Prelude.{Bool, Contains, Err, List, None, Option, Some, cond, false, filter, find, flat_map, length, map, not, option_map, true, unwrap_or, [], ℕ, ◌&&◌, ◌++◌, ◌+◌, ◌==◌, ◌∷◌, ◌≡◌, ◌≤◌, ◌⊎◌}
 
 -- ---- leases, and members
 
--- Spot, greatest number and open ballot of a lease are as they were.
+-- Spot, own block, greatest number, name and open ballot of a lease are as they were.
 pub record IsLeaseOf (o n : LeaseState) : Type 0 where
   pub spot : n.spot ≡ o.spot
+  pub own : n.own ≡ o.own
   pub top : n.top ≡ o.top
+  pub name : n.name ≡ o.name
   pub ballot : n.ballot ≡ o.ballot
 
 abbrev pub AreLeasesOf : List LeaseState → List LeaseState → Type 0
@@ -57,7 +59,7 @@ AreLess (o ∷ os) (n ∷ ns) = AreLess os (n ∷ ns) ⊎ (IsMemberOf o n × Are
 
 pub leases_same : (ls : List LeaseState) → AreLeasesOf ls ls
 leases_same [] = tt
-leases_same (l ∷ ls) = (record { spot = refl; top = refl; ballot = refl }, leases_same ls)
+leases_same (l ∷ ls) = (record { spot = refl; own = refl; top = refl; name = refl; ballot = refl }, leases_same ls)
 
 pub leases_by : (f : LeaseState → LeaseState) → ((l : LeaseState) → IsLeaseOf l (f l)) → (ls : List LeaseState) → AreLeasesOf ls (map f ls)
 leases_by f each [] = tt
@@ -68,8 +70,10 @@ leases_on [] [] ps a b = b
 leases_on [] (n ∷ ns) ps a b = absurd a
 leases_on (o ∷ os) [] ps a b = absurd a
 leases_on (o ∷ os) (n ∷ ns) [] a b = absurd b
-leases_on (o ∷ os) (n ∷ ns) (p ∷ ps) a b =
-    (record { spot = b.0.spot ∙ a.0.spot; top = b.0.top ∙ a.0.top; ballot = b.0.ballot ∙ a.0.ballot }, leases_on os ns ps a.1 b.1)
+leases_on (o ∷ os) (n ∷ ns) (p ∷ ps) a b = (
+  record { spot = b.0.spot ∙ a.0.spot; own = b.0.own ∙ a.0.own; top = b.0.top ∙ a.0.top; name = b.0.name ∙ a.0.name; ballot = b.0.ballot ∙ a.0.ballot },
+  leases_on os ns ps a.1 b.1,
+)
 
 leases_many : (os ns : List LeaseState) → AreLeasesOf os ns → length ns ≡ length os
 leases_many [] [] a = refl
@@ -86,6 +90,22 @@ lease_comes (o ∷ os) (x ∷ ns) a n there =
       | inl is ↦ (o, contains_first o os, subst (λ z. IsLeaseOf o z) is a.0)
       | inr rest ↦ (let found = lease_comes os ns a.1 n rest in (found.0, contains_more o os found.0 found.1, found.2))
     ]
+
+-- So is the lease on an area.
+abbrev pub lease_in : Spot → List LeaseState → LeaseState
+lease_in at ls = unwrap_or (find (is_lease_on at) ls) (new_lease at)
+
+pub lease_stays : (at : Spot) (os ns : List LeaseState) → AreLeasesOf os ns → IsLeaseOf (lease_in at os) (lease_in at ns)
+lease_stays at [] [] a = record { spot = refl; own = refl; top = refl; name = refl; ballot = refl }
+lease_stays at [] (n ∷ ns) a = absurd a
+lease_stays at (o ∷ os) [] a = absurd a
+lease_stays at (o ∷ os) (n ∷ ns) a = by (is_lease_on at o) (is_lease_on at n) (ap (same_spot at) (a.0).spot) (lease_stays at os ns a.1) where
+  by : (b c : Bool) → c ≡ b → IsLeaseOf (lease_in at os) (lease_in at ns)
+      → IsLeaseOf (unwrap_or (cond b (Some o) (find (is_lease_on at) os)) (new_lease at)) (unwrap_or (cond c (Some n) (find (is_lease_on at) ns)) (new_lease at))
+  by true true same rest = a.0
+  by false false same rest = rest
+  by true false same rest = absurd cc
+  by false true same rest = absurd cc
 
 pub member_same : (m : MemberState) → IsMemberOf m m
 member_same m = record { who = refl; leases = leases_same m.leases }
@@ -248,8 +268,8 @@ by_move step h = record { holdings = refl; jobs = refl_le (length h.jobs); membe
 valued : (g : Layout) (c : Submitted) (l : LeaseState) → IsLeaseOf l (value_calling g c l)
 valued g c l = by (is_on g l.spot c.call) where
   by : (b : Bool) → IsLeaseOf l (cond b (record l { value = option_or (option_map pair_of (value_written c)) l.value }) l)
-  by true = record { spot = refl; top = refl; ballot = refl }
-  by false = record { spot = refl; top = refl; ballot = refl }
+  by true = record { spot = refl; own = refl; top = refl; name = refl; ballot = refl }
+  by false = record { spot = refl; own = refl; top = refl; name = refl; ballot = refl }
 
 called_leases : (g : Layout) (c : Submitted) (ls : List LeaseState) → is_lease_call c ≡ false → AreLeasesOf ls (leases_calling g c ls)
 called_leases g c ls other =

@@ -1,10 +1,12 @@
 -- A settling makes one call, or none, and never writes the second phase: what is known of leases stays, and no lease comes or goes.
 use Rattle.sl_area.specs.Layouts.{IsGeometry, Layout, Sizes, layout_of}
-use Rattle.sl_area.specs.Places.{block_offset, is_base, leader_offset}
-use Rattle.sl_host_law.proofs.Calls.Calls.SpotsMore.{spot_itself}
+use Rattle.sl_area.specs.Places.{is_base, leader_offset, leader_record}
+use Rattle.sl_host_law.proofs.Calls.Calls.SpotsMore.{one_spot, spot_itself}
+use Rattle.sl_host.proofs.AnswersTold.{the_member}
+use Rattle.sl_host_law.proofs.Answers.PhaseTwoFollows.{within_cases}
 use Rattle.sl_host_law.proofs.Plain.PlainOrders.{put_inside}
 use Rattle.sl_host_law.proofs.Steps.AreasLie.{placed}
-use Rattle.sl_host_law.specs.Answers.Leasing.{carrying_lease, read_from, sectors_read}
+use Rattle.sl_host_law.specs.Answers.Leasing.{block_at, carrying_lease, read_from, record_at, sectors_read, turn_next}
 use Rattle.sl_host_law.specs.Answers.LeasesGoOn.{IsPlacedAt}
 use Rattle.sl_host_law.specs.Answers.Wakings.{settling_at}
 use Rattle.sl_host_law.specs.Decisions.Deciding.{held_on, is_active_member}
@@ -15,34 +17,39 @@ use Rattle.sl_host_law.specs.Questions.Members.{exclusive_at}
 use Rattle.sl_host_law.specs.Steps.Leases.{kept_blocks, known_at, lease_at, settling_next}
 use Rattle.sl_host_law.specs.Steps.Passes.{at_member, member_numbered}
 use Rattle.sl_host_law.specs.Steps.Wakes.{settling_all, settling_here}
+use Rattle.sl_host_passes.proofs.Lessening.{lease_in}
 use Rattle.sl_host_passes.proofs.WakingLessens.{top_stays}
 use Rattle.sl_host_passes.specs.Fewer.{SameLeases, leases_at}
 use Rattle.sl_host_passes.specs.Knowing.{AreAreas, AreKnown, HasLeases, WakeKnown, spots_of}
 use Rattle.sl_host_state.specs.Kept.{HostKept, HostState, LeaseState, MemberState}
 use Rattle.sl_host_state.specs.Makes.{ballot_calling, calling, is_lease_on, joining_calling, known_calling, lease_calling, leases_calling, leases_working, member_calling, new_lease, next_submitted, value_calling, with_call}
 use Rattle.sl_host_state.specs.declared.kept.TopNumber.{TopNumber}
-use Rattle.sl_host_work.specs.Asking.{MayAsk}
+use Rattle.sl_host_work.proofs.NextLaws.{settles_named}
+use Rattle.sl_host_work.specs.Asking.{IsOwned, MayAsk}
+use Rattle.sl_host_work.specs.Next.{writes_own_block}
 use Rattle.sl_host_work.specs.Placed.{IsArea, IsPlaced}
 use Rattle.sl_host_work.specs.Waking.{MaySettle}
 use Rattle.sl_lease.specs.Asked.{TopStands}
 use Rattle.sl_lease.specs.Bounds.{IsInstance}
+use Rattle.sl_lease.specs.Side.{is_named}
 use Rattle.sl_trace.specs.Ballots.{moded_block, phase1_block}
-use Rattle.sl_trace.specs.LeaseWork.{LeasePlace, begin_next, phase1_next, settle_next, settle_owed}
-use Rattle.sl_trace.specs.Leases.{LeaseKnown, Phase2_write, StepKind, block_written, is_at, is_lease_call, is_spot_before, kind_of_step, mode_gen_of, owed, own_known, same_kind, spot_of_call}
+use Rattle.sl_trace.specs.LeaseWork.{LeasePlace, begin_next, owes_block, phase1_next, settle_begin, settle_next, settle_owed, within_turn}
+use Rattle.sl_trace.specs.Leases.{LeaseKnown, Phase2_write, StepKind, block_of_record, block_written, is_at, is_lease_call, is_spot_before, kind_of_step, mode_gen_of, owed, own_known, same_kind, spot_of_call}
 use Rattle.sl_trace.specs.declared.lease.Aim.TheVariants.{Settles}
 use Rattle.sl_trace.specs.declared.lease.LeaseNext.TheVariants.{AnswerJob, BecomeExclusive, BecomeShared, GrantJob, Nothing, ReadFor, WriteBlock, WriteLeader}
 use Rattle.sl_trace.specs.declared.lease.LeaseNext.{LeaseNext}
 use Rattle.sl_trace.specs.declared.lease.Owed.TheVariants.{BallotOwed, FreeOwed, ModeOwed}
 use Rattle.sl_trace.specs.declared.lease.Owed.{Owed}
-use Rattle.sl_member.specs.Together.{member_with}
+use Rattle.sl_member.specs.Together.{AreApart, member_with}
 use Rattle.sl_plain.proofs.Lists.{any_of, contains_cases, contains_first, contains_map, contains_none, find_inside, in_map, kept_inside}
 use Rattle.sl_sector.specs.declared.sector.Block.{Block}
 use Rattle.sl_sector.specs.declared.sector.Leader.{Leader}
-use Rattle.sl_sector.specs.declared.sector.Rec.TheVariants.{BlockIs, LeaderIs}
+use Rattle.sl_sector.specs.declared.sector.Rec.TheVariants.{LeaderIs, PairLeaderIs}
+use Rattle.sl_sector.specs.declared.sector.Rec.{Rec}
 use Rattle.sl_trace.specs.declared.session.Session.{Session}
-use Rattle.sl_trace.specs.Traces.{Submitted, is_shared, same_place, same_spot}
+use Rattle.sl_trace.specs.Traces.{Submitted, is_shared, record_of, same_place, same_spot}
 use Rattle.sl_trace.specs.declared.effects.Grant.{Grant}
-use Rattle.sl_trace.specs.declared.effects.LeaseStep.TheVariants.{ClearMode, FreeLeader, Phase1Write, ReadBeforeFree}
+use Rattle.sl_trace.specs.declared.effects.LeaseStep.TheVariants.{ClearMode, FreeLeader, Phase1Write, ReadBeforeBlock, ReadBeforeFree}
 use Rattle.sl_trace.specs.declared.effects.LeaseStep.{LeaseStep}
 use Rattle.sl_trace.specs.declared.effects.Op.TheVariants.{ReadSectors, WriteRecord}
 use Rattle.sl_trace.specs.declared.effects.Op.{Op}
@@ -51,7 +58,7 @@ use Rattle.sl_trace.specs.declared.effects.Spot.{Spot}
 use Rattle.sl_trace.specs.declared.effects.Work.TheVariants.{Settling}
 use Rattle.sl_host.specs.Asking.{state_in}
 use Rattle.sl_host.specs.Host.{Becomes, HostView}
-use Rattle.sl_words.proofs.CaseLaws.{none_some, some_value, false_is_true, true_is_false}
+use Rattle.sl_words.proofs.CaseLaws.{none_some, not_both, some_value, false_is_true, true_is_false}
 use Rattle.sl_words.proofs.WordLaws.{and_true}
 use Rattle.sl_words.specs.Bounds.{is_number}
 use Rattle.sl_words.specs.Orders.{put_in}
@@ -60,8 +67,8 @@ use Rattle.std.proofs.Common.{ap, arith, inl, inr, refl, subst, sym, ◌∙◌}
 use Rattle.std.proofs.lemmas.Bool.{eqb-true}
 use Rattle.std.proofs.lemmas.List.{length-map}
 use Rattle.std.specs.List.{list_any}
-use Rattle.std.specs.Option.{option_map_or}
-use Rattle.std.specs.Prelude.{Bool, Contains, Err, IfSome, IsTrue, List, None, Option, Some, [], cond, false, filter, find, is_none, length, map, nat_lt, not, option_and_then, option_map, true, unwrap_or, ℕ, ◌%◌, ◌&&◌, ◌+◌, ◌-◌, ◌<◌, ◌==◌, ◌^◌, ◌∷◌, ◌≡◌, ◌≤◌, ◌⊎◌}
+use Rattle.std.specs.Option.{option_map_or, option_or}
+use Rattle.std.specs.Prelude.{Bool, Contains, Err, IfSome, IsTrue, List, None, Option, Some, [], cond, false, filter, find, is_none, is_some, length, map, nat_lt, not, option_and_then, option_map, true, unwrap_or, ℕ, ◌%◌, ◌&&◌, ◌+◌, ◌-◌, ◌<◌, ◌==◌, ◌^◌, ◌∷◌, ◌≡◌, ◌≤◌, ◌⊎◌}
 
 -- ---- what a settling decides
 
@@ -99,22 +106,47 @@ owes p k (Some (BallotOwed n)) = begins p k n
 owes p k (Some ModeOwed) = clears k.own
 owes p k (Some (FreeOwed n)) = refl
 
-not_second : (p : LeasePlace) (k : LeaseKnown) → IsNotSecond (settle_next p k)
+goes_first : (p : LeasePlace) (k : LeaseKnown) → IsNotSecond (settle_next p k)
 unfolding settle_next
-not_second p k = owes p k (owed k)
+goes_first p k = owes p k (owed k)
 
--- What it does is a call on the area, or nothing.
-by_calls : (P : HostState → Type 0) (m : MemberState) (at : Spot) (next : LeaseNext) (h : HostState) → IsNotSecond next → IsPlacedAt h m at → P h
-    → ((step : LeaseStep) (offset : ℕ) (op : Op) → is_second step ≡ false → offset - offset % h.config.layout.area ≡ at.base → P (with_call m.who.number at.path (Lease Settling step) offset op h))
-    → P (carrying_lease m at Settling next h)
-by_calls P m at Nothing h other lies p calls = p
-by_calls P m at (ReadFor step) h other lies p calls = calls step (read_from h at step) (ReadSectors (sectors_read h step)) other (lies.reads step)
-by_calls P m at (WriteBlock step b) h other lies p calls = calls step (block_offset h.config.layout at.base m.who.id) (WriteRecord (BlockIs b)) other lies.block
-by_calls P m at (WriteLeader step l) h other lies p calls = calls step (leader_offset at.base) (WriteRecord (LeaderIs l)) other lies.leader
-by_calls P m at (AnswerJob r) h other lies p calls = p
-by_calls P m at (GrantJob mode lver) h other lies p calls = p
-by_calls P m at (BecomeShared lver l) h other lies p calls = calls FreeLeader (leader_offset at.base) (WriteRecord (LeaderIs l)) refl lies.leader
-by_calls P m at (BecomeExclusive lver b) h other lies p calls = calls ClearMode (block_offset h.config.layout at.base m.who.id) (WriteRecord (BlockIs b)) refl lies.block
+begun_so : (p : LeasePlace) (k : LeaseKnown) → IsNotSecond (settle_begin p k)
+unfolding settle_begin
+begun_so p k = by (p.layout.paired && owes_block (owed k)) where
+  by : (b : Bool) → IsNotSecond (elim b as (λ z. LeaseNext) [ true ↦ ReadFor ReadBeforeBlock | false ↦ settle_next p k ])
+  by true = refl
+  by false = goes_first p k
+
+not_second : (p : LeasePlace) (k : LeaseKnown) → IsNotSecond (within_turn p k Settles (settle_begin p k))
+not_second p k = within_cases IsNotSecond p k Settles (settle_begin p k) (begun_so p k) (λ r late. tt)
+
+-- Whether it writes a block.
+abbrev is_block_op : Op → Bool
+is_block_op op = is_some (option_and_then block_of_record (record_of op))
+
+-- A leader's record is none.
+leader_no_block : (g : Layout) (l : Leader) → is_block_op (WriteRecord (leader_record g l)) ≡ false
+leader_no_block g l = by g.paired where
+  by : (b : Bool) → is_some (option_and_then block_of_record (Some (elim b as (λ z. Rec) [ false ↦ LeaderIs l | true ↦ PairLeaderIs l ]))) ≡ false
+  by true = refl
+  by false = refl
+
+-- What it does is a call on the area, or nothing; where it writes a block, that was decided so.
+by_calls : (P : HostState → Type 0) (M : Type 0) (m : MemberState) (at : Spot) (next : LeaseNext) (h : HostState) → IsNotSecond next → (writes_own_block next ≡ true → M) → IsPlacedAt h m at → P h
+    → ((step : LeaseStep) (offset : ℕ) (op : Op) → is_second step ≡ false → offset - offset % h.config.layout.area ≡ at.base → (is_block_op op ≡ true → M)
+    → P (with_call m.who.number at.path (Lease Settling step) offset op h)) → P (carrying_lease m at Settling next h)
+by_calls P M m at Nothing h other may lies p calls = p
+by_calls P M m at (ReadFor step) h other may lies p calls =
+    calls step (read_from h at step) (ReadSectors (sectors_read h step)) other (lies.reads step) (λ writes. absurd (false_is_true writes))
+by_calls P M m at (WriteBlock step b) h other may lies p calls = calls step (block_at h m at) (WriteRecord (record_at h m at b)) other (lies.block (turn_next m at)) (λ writes. may refl)
+by_calls P M m at (WriteLeader step l) h other may lies p calls =
+    calls step (leader_offset at.base) (WriteRecord (leader_record h.config.layout l)) other lies.leader (λ writes. absurd (not_both (is_block_op (WriteRecord (leader_record h.config.layout l))) writes (leader_no_block h.config.layout l)))
+by_calls P M m at (AnswerJob r) h other may lies p calls = p
+by_calls P M m at (GrantJob mode lver) h other may lies p calls = p
+by_calls P M m at (BecomeShared lver l) h other may lies p calls =
+    calls FreeLeader (leader_offset at.base) (WriteRecord (leader_record h.config.layout l)) refl lies.leader
+    (λ writes. absurd (not_both (is_block_op (WriteRecord (leader_record h.config.layout l))) writes (leader_no_block h.config.layout l)))
+by_calls P M m at (BecomeExclusive lver b) h other may lies p calls = calls ClearMode (block_at h m at) (WriteRecord (record_at h m at b)) refl (lies.block (turn_next m at)) (λ writes. may refl)
 
 -- ---- leases after such a call
 
@@ -172,6 +204,57 @@ module _ (c : Submitted) (at : Spot) (other : is_at Phase2_write c ≡ false) wh
           | inr old ↦ inl (l, old, refl, refl, λ n one. one)
         ]
 
+-- Whoever has written a block has verified its resource's name, after the call as before.
+owned_after : (c : Submitted) (l : LeaseState) → (is_some (block_written c) ≡ true → IsTrue (is_named l)) → IsOwned l → IsOwned (lease_calling c l)
+owned_after c l writes its = by (block_written c) refl where
+  over_block : Option Block → Option ℕ
+  over_block o =
+      elim o as (λ z. Option ℕ) [
+        | None ↦ l.ballot
+        | Some b ↦ elim (is_at Phase2_write c) as (λ z. Option ℕ) [ true ↦ Some b.lver | false ↦ option_and_then (λ n. choose (b.lver == n) n) l.ballot ]
+      ]
+
+  by : (o : Option Block) → block_written c ≡ o → IsOwned (lease_calling c l)
+  by None is =
+      record {
+        named = λ own. its.named (sym (ap (λ w. is_some (option_or w l.own)) is) ∙ own);
+        opened = λ begun. ap (λ w. is_some (option_or w l.own)) is ∙ its.opened (sym (ap (λ w. is_some (over_block w)) is) ∙ begun);
+      }
+  by (Some b) is = record { named = λ own. writes (ap (λ w. is_some w) is); opened = λ begun. ap (λ w. is_some (option_or w l.own)) is }
+
+found_mapped : (b : Spot) (f : LeaseState → LeaseState) → ((l : LeaseState) → (f l).spot ≡ l.spot) → (ls : List LeaseState) → find (is_lease_on b) (map f ls) ≡ option_map f (find (is_lease_on b) ls)
+found_mapped b f stays [] = refl
+found_mapped b f stays (l ∷ ls) = ap (λ s. cond (same_spot b s) (Some (f l)) (find (is_lease_on b) (map f ls))) (stays l) ∙ by (is_lease_on b l) (found_mapped b f stays ls) where
+  by : (t : Bool) → find (is_lease_on b) (map f ls) ≡ option_map f (find (is_lease_on b) ls) → cond t (Some (f l)) (find (is_lease_on b) (map f ls)) ≡ option_map f (cond t (Some l) (find (is_lease_on b) ls))
+  by true rest = refl
+  by false rest = rest
+
+-- So it is of the lease on each area, where the call is on the area of a lease that is there.
+owned_called : (c : Submitted) (at b : Spot) (ls : List LeaseState) → (is_some (block_written c) ≡ true → IsTrue (is_named (lease_in at ls))) → IsOwned (lease_in b ls)
+    → IsOwned (lease_in b (map (λ l. cond (is_lease_on at l) (lease_calling c l) l) ls))
+owned_called c at b ls writes its =
+    subst (λ (o : Option LeaseState). IsOwned (unwrap_or o (new_lease b))) (sym (found_mapped b called stays ls)) (by (find (is_lease_on b) ls) refl) where
+      called : LeaseState → LeaseState
+      called l = cond (is_lease_on at l) (lease_calling c l) l
+
+      stays : (l : LeaseState) → (called l).spot ≡ l.spot
+      stays l = one (is_lease_on at l) where
+        one : (t : Bool) → (cond t (lease_calling c l) l).spot ≡ l.spot
+        one true = refl
+        one false = refl
+
+      by : (o : Option LeaseState) → find (is_lease_on b) ls ≡ o → IsOwned (unwrap_or (option_map called o) (new_lease b))
+      by None is = subst (λ (o : Option LeaseState). IsOwned (unwrap_or o (new_lease b))) is its
+      by (Some l) is = on (is_lease_on at l) refl where
+        old : IsOwned l
+        old = subst (λ (o : Option LeaseState). IsOwned (unwrap_or o (new_lease b))) is its
+
+        on : (t : Bool) → is_lease_on at l ≡ t → IsOwned (cond t (lease_calling c l) l)
+        on false off = old
+        on true here =
+            let same : at ≡ b = one_spot at l.spot here ∙ sym (one_spot b l.spot (find_inside (is_lease_on b) ls l is).1) in
+            owned_after c l (λ w. subst (λ (o : Option LeaseState). IsTrue (is_named (unwrap_or o (new_lease at)))) (ap (λ s. find (is_lease_on s) ls) same ∙ is) (writes w)) old
+
 -- ---- members after such a call
 
 find_mapped : (f : MemberState → MemberState) → ((m : MemberState) → (f m).who ≡ m.who) → (n : ℕ) (ms : List MemberState) → member_with n (map f ms) ≡ option_map f (member_with n ms)
@@ -190,6 +273,8 @@ pub record IsSettled (at : Spot) (n : ℕ) (h g : HostState) : Type 0 where
   pub found : (k : ℕ) (m : MemberState) → member_with k g.members ≡ Some m
       → (o : MemberState) × (member_with k h.members ≡ Some o) × (m.joined ≡ o.joined) × (map (λ l. l.spot) m.leases ≡ map (λ l. l.spot) o.leases)
   pub none : (k : ℕ) → member_with k g.members ≡ None → member_with k h.members ≡ None
+  pub numbers : map (λ m. m.who.number) g.members ≡ map (λ m. m.who.number) h.members
+  pub owned : ((m : MemberState) (b : Spot) → Contains h.members m → IsOwned (lease_at m b)) → (m : MemberState) (b : Spot) → Contains g.members m → IsOwned (lease_at m b)
 
 settled_not : (at : Spot) (n : ℕ) (h : HostState) → IsSettled at n h h
 settled_not at n h =
@@ -198,11 +283,14 @@ settled_not at n h =
       members = λ m there. (m, there, refl, λ l its. inl (l, its, refl, refl, λ k is. is));
       found = λ k m is. (m, is, refl, refl);
       none = λ k is. is;
+      numbers = refl;
+      owned = λ its. its;
     }
 
 -- By a call on the area of a lease of it.
 module _ (h : HostState) (m : MemberState) (at : Spot) (step : LeaseStep) (offset : ℕ) (op : Op) (n : ℕ) (its : m.who.number ≡ n) (second : is_second step ≡ false)
-    (lies : offset - offset % h.config.layout.area ≡ at.base) (has : HasLeases n (at ∷ []) h.members) where
+    (lies : offset - offset % h.config.layout.area ≡ at.base) (has : HasLeases n (at ∷ []) h.members)
+    (apart : AreApart (map (λ s. s.who.number) h.members)) (found_it : member_with n h.members ≡ Some m) (writes : is_block_op op ≡ true → IsTrue (is_named (lease_at m at))) where
   abbrev call : Submitted
   call = next_submitted h m.who.number at.path (Lease Settling step) offset op
 
@@ -279,6 +367,20 @@ module _ (h : HostState) (m : MemberState) (at : Spot) (step : LeaseStep) (offse
   was_none None none = refl
   was_none (Some z) none = absurd (none_some (after z) (sym none))
 
+  -- Of the members the one that makes the call has this number alone.
+  owned_by : ((o : MemberState) (b : Spot) → Contains h.members o → IsOwned (lease_at o b)) → (o : MemberState) → Contains h.members o → (b : Spot) → IsOwned (lease_at (after o) b)
+  owned_by known o there b = by (m.who.number == o.who.number) refl where
+    by : (t : Bool) → (m.who.number == o.who.number) ≡ t
+        → IsOwned (lease_at (cond t (record o { known = known_calling call o.known; joining = joining_calling call o.joining; leases = leases_calling h.config.layout call o.leases }) o) b)
+    by false is = known o b there
+    by true is =
+        let mine : (n == o.who.number) ≡ true = ap (λ k. k == o.who.number) (sym its) ∙ is in
+        let found : member_with n h.members ≡ Some o = the_member n h.members o apart there mine in
+        let one : m ≡ o = some_value m o (sym found_it ∙ found) in
+        subst (λ ls. IsOwned (lease_in b ls)) (sym (leases_are o.leases ∙ ap (λ t. cond t (map (λ l. cond (is_lease_on at l) (lease_calling call l) l) o.leases)
+        (put_in (λ a b. is_spot_before a.spot b.spot) (lease_calling call (new_lease at)) o.leases)) (on_it o found)))
+        (owned_called call at b o.leases (λ w. subst (λ (z : MemberState). IsTrue (is_named (lease_at z at))) one (writes w)) (known o b there))
+
   settled_by_call : IsSettled at n h (with_call m.who.number at.path (Lease Settling step) offset op h)
   settled_by_call =
       record {
@@ -287,17 +389,25 @@ module _ (h : HostState) (m : MemberState) (at : Spot) (step : LeaseStep) (offse
             (from.0, from.1, ap (λ (y : MemberState). y.who) (sym from.2) ∙ same_who from.0, λ l its. of_leases from.0 l (subst (λ (y : MemberState). Contains y.leases l) (sym from.2) its)));
         found = λ k s is. was_there k s (member_with k h.members) refl (sym (looked k) ∙ is);
         none = λ k is. was_none (member_with k h.members) (sym (looked k) ∙ is);
-      }
+        numbers = numbers_of h.members;
+        owned = λ known s b there. (let from = in_map after h.members s there in subst (λ (y : MemberState). IsOwned (lease_at y b)) from.2 (owned_by known from.0 from.1 b));
+      } where
+        numbers_of : (ms : List MemberState) → map (λ (s : MemberState). s.who.number) (map after ms) ≡ map (λ (s : MemberState). s.who.number) ms
+        numbers_of [] = refl
+        numbers_of (o ∷ os) = (λ i. (let w : Session = same_who o i in w.number) ∷ numbers_of os i)
 
 -- ---- a settling
 
-pub settled : (n : ℕ) (at : Spot) (h : HostState) → ((m : MemberState) → member_with n h.members ≡ Some m → IsPlacedAt h m at) → HasLeases n (at ∷ []) h.members → IsSettled at n h (at_member n (settling_here at) h)
-settled n at h lies has = by (member_numbered h n) refl where
+pub settled : (n : ℕ) (at : Spot) (h : HostState) → ((m : MemberState) → member_with n h.members ≡ Some m → IsPlacedAt h m at) → HasLeases n (at ∷ []) h.members
+    → AreApart (map (λ s. s.who.number) h.members) → ((m : MemberState) → member_with n h.members ≡ Some m → IsOwned (lease_at m at)) → IsSettled at n h (at_member n (settling_here at) h)
+settled n at h lies has apart own = by (member_numbered h n) refl where
   free : (m : MemberState) → member_with n h.members ≡ Some m → (b : Bool) → IsSettled at n h (cond b (carrying_lease m at Settling (settling_next h m at) h) h)
   free m found false = settled_not at n h
   free m found true =
-      by_calls (IsSettled at n h) m at (settling_next h m at) h (not_second (place_in h m) (known_at h m at)) (lies m found) (settled_not at n h)
-      (λ step offset op second on. settled_by_call h m at step offset op n (eqb-true m.who.number n (find_inside (λ (s : MemberState). s.who.number == n) h.members m found).1) second on has)
+      by_calls (IsSettled at n h) (IsTrue (is_named (lease_at m at))) m at (settling_next h m at) h (not_second (place_in h m) (known_at h m at))
+      (settles_named (place_in h m) (known_at h m at) (IsTrue (is_named (lease_at m at))) (own m found).named (own m found).opened) (lies m found) (settled_not at n h)
+      (λ step offset op second on writes. settled_by_call h m at step offset op n (eqb-true m.who.number n (find_inside (λ (s : MemberState). s.who.number == n) h.members m found).1) second on has
+      apart found writes)
 
   by : (o : Option MemberState) → member_numbered h n ≡ o → IsSettled at n h (elim o as (λ z. HostState) [ None ↦ h | Some m ↦ settling_here at m h ])
   by None is = settled_not at n h
@@ -316,8 +426,12 @@ known_settled z at n h g s area known =
             | inl old ↦ top_stays old.0 l old.3 old.4 (known.tops from.0 old.0 from.1 old.1)
             | inr new ↦ record { greatest_is = λ t is. absurd (none_some t (sym new.1 ∙ is)); opened = λ k is. absurd (none_some k (sym new.2 ∙ is)) }
           ]);
+      owned = s.owned known.owned;
       instances = λ e there exclusive. known.instances e (subst (λ gs. Contains gs e) s.holdings there) exclusive;
     }
+
+pub apart_settled : (at : Spot) (n : ℕ) (h g : HostState) → IsSettled at n h g → AreApart (map (λ m. m.who.number) h.members) → AreApart (map (λ m. m.who.number) g.members)
+apart_settled at n h g s apart = subst AreApart (sym s.numbers) apart
 
 spots_many : (m o : MemberState) → map (λ l. l.spot) m.leases ≡ map (λ l. l.spot) o.leases → length m.leases ≡ length o.leases
 spots_many m o same = sym (length-map m.leases (λ (l : LeaseState). l.spot)) ∙ (ap (λ ss. length ss) same ∙ length-map o.leases (λ (l : LeaseState). l.spot))
@@ -347,7 +461,7 @@ pub may_settle : (k : HostKept) (n : ℕ) (at : Spot) (m : MemberState) → Wake
 may_settle k n at m known has found =
     record {
       placed = known.each.placed m there;
-      asked = record { joined = (has m at found (contains_first at [])).0; tops = tops (find (is_lease_on at) m.leases) refl; held = held (exclusive_at (state_in k) m at) refl };
+      asked = record { joined = (has m at found (contains_first at [])).0; tops = tops (find (is_lease_on at) m.leases) refl; held = held (exclusive_at (state_in k) m at) refl; owned = known.each.owned m at there };
     } where
       there : Contains k.members m
       there = (find_inside (λ (s : MemberState). s.who.number == n) k.members m found).0
@@ -386,10 +500,12 @@ pub has_one : (n : ℕ) (ats : List Spot) (ms : List MemberState) (at : Spot) �
 has_one n ats ms at there has m b found its =
     elim (contains_cases at [] b its) [ inl is ↦ subst (λ z. (m.joined ≡ true) × Contains (map (λ l. l.spot) m.leases) z) is (has m at found there) | inr none ↦ absurd (contains_none b none) ]
 
-pub settled_once : (old new : HostView) (n : ℕ) (at : Spot) → WakeKnown old.kept → HasLeases n (at ∷ []) old.kept.members → IsArea old.kept.config.sizes at.base → Becomes old new (at_member n (settling_here at))
-    → IsSettled at n (state_in old.kept) (state_in new.kept)
-settled_once old new n at known has area comes =
-    subst (IsSettled at n (state_in old.kept)) (sym (comes (λ text. Err 0))) (settled n at (state_in old.kept) (λ m found. lies_there old.kept n at m known area found) has)
+pub settled_once : (old new : HostView) (n : ℕ) (at : Spot) → WakeKnown old.kept → HasLeases n (at ∷ []) old.kept.members → IsArea old.kept.config.sizes at.base
+    → AreApart (map (λ m. m.who.number) old.kept.members) → Becomes old new (at_member n (settling_here at)) → IsSettled at n (state_in old.kept) (state_in new.kept)
+settled_once old new n at known has area apart comes =
+    subst (IsSettled at n (state_in old.kept)) (sym (comes (λ text. Err 0)))
+    (settled n at (state_in old.kept) (λ m found. lies_there old.kept n at m known area found) has apart
+    (λ m found. known.each.owned m at (find_inside (λ (s : MemberState). s.who.number == n) old.kept.members m found).0))
 
 -- ---- the areas that are noted
 

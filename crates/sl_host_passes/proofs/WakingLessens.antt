@@ -7,7 +7,7 @@ use Rattle.sl_host_law.specs.Parts.Ends.{removing, renewing_in}
 use Rattle.sl_host_law.specs.Parts.Wakes.{bits_in, delta_in, next_by_newest}
 use Rattle.sl_host_law.specs.Questions.Jobs.{running_in}
 use Rattle.sl_host_law.specs.Steps.Leases.{kept_blocks, lease_at}
-use Rattle.sl_host_passes.proofs.Lessening.{Lessens, by_call, by_move, by_reply, lease_comes, lessened, lessens_not, lessens_on, lessens_some, lessens_where, member_comes}
+use Rattle.sl_host_passes.proofs.Lessening.{Lessens, by_call, by_move, by_reply, lease_comes, lease_stays, lessened, lessens_not, lessens_on, lessens_some, lessens_where, member_comes}
 use Rattle.sl_host_passes.proofs.PartsLessen.{by_refusing, by_removing}
 use Rattle.sl_host_passes.proofs.Runs.{same_config, same_reading}
 use Rattle.sl_host_passes.specs.Knowing.{AreKnown, WakeKnown}
@@ -15,6 +15,7 @@ use Rattle.sl_host_state.specs.Kept.{HostState, LeaseState, MemberState}
 use Rattle.sl_host_state.specs.Makes.{with_call, with_move, with_reply}
 use Rattle.sl_host_state.specs.Stands.{top_mbal}
 use Rattle.sl_host_state.specs.declared.kept.TopNumber.{TopNumber}
+use Rattle.sl_host_work.specs.Asking.{IsOwned}
 use Rattle.sl_host_work.specs.Placed.{IsArea, IsPlaced}
 use Rattle.sl_host_work.specs.Waking.{ArePlaced}
 use Rattle.sl_lease.specs.Asked.{TopStands}
@@ -40,8 +41,9 @@ use Rattle.sl_trace.specs.declared.reply.Reply.TheVariants.{Generation}
 use Rattle.sl_host.specs.Asking.{state_in}
 use Rattle.sl_host.specs.Host.{Becomes, HostView, SameRun}
 use Rattle.sl_words.specs.Bounds.{moments}
+use Rattle.sl_words.specs.Words.{is_empty}
 use Rattle.std.proofs.Common.{ap, refl, subst, sym, ◌∙◌}
-use Rattle.std.specs.Prelude.{Bool, Contains, List, None, Option, Some, cond, false, ℕ, ◌&&◌, ◌+◌, ◌<◌, ◌==◌, ◌≡◌}
+use Rattle.std.specs.Prelude.{Bool, Contains, IsTrue, List, None, Option, Some, cond, false, is_some, not, ℕ, ◌&&◌, ◌+◌, ◌<◌, ◌==◌, ◌≡◌}
 
 -- ---- what is done on an id's sector
 
@@ -102,6 +104,14 @@ top_stays o l same begun stands =
       opened = λ n is. (let found = stands.opened n (begun n is) in (found.0, same ∙ found.1, found.2));
     }
 
+-- So whoever has written a block has verified its name, where own block, name and open ballot stay.
+pub owned_stays : (o l : LeaseState) → l.own ≡ o.own → l.name ≡ o.name → l.ballot ≡ o.ballot → IsOwned o → IsOwned l
+owned_stays o l own name ballot its =
+    record {
+      named = λ is. subst (λ n. IsTrue (not (is_empty n))) (sym name) (its.named (sym (ap is_some own) ∙ is));
+      opened = λ is. ap is_some own ∙ its.opened (sym (ap is_some ballot) ∙ is);
+    }
+
 pub known_less : (z : Sizes) (a b : HostState) → Lessens a b → AreKnown z a.members a.holdings → AreKnown z b.members b.holdings
 known_less z a b less known =
     record {
@@ -112,6 +122,9 @@ known_less z a b less known =
       tops = λ m l there its. (let from = member_comes a.members b.members less.members m there in
           let lease = lease_comes from.0.leases m.leases from.2.leases l its in
           top_stays lease.0 l lease.2.top (λ n is. sym lease.2.ballot ∙ is) (known.tops from.0 lease.0 from.1 lease.1));
+      owned = λ m at there. (let from = member_comes a.members b.members less.members m there in
+          let lease = lease_stays at from.0.leases m.leases from.2.leases in
+          owned_stays (lease_at from.0 at) (lease_at m at) lease.own lease.name lease.ballot (known.owned from.0 at from.1));
       instances = λ g there exclusive. known.instances g (subst (λ gs. Contains gs g) less.holdings there) exclusive;
     }
 

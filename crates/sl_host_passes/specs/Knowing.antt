@@ -1,9 +1,10 @@
 -- What is known of what a host keeps as a pass begins.
 use Rattle.sl_area.specs.Layouts.{IsGeometry, Sizes}
 use Rattle.sl_host_law.specs.Decisions.Deciding.{is_active_member}
-use Rattle.sl_host_law.specs.Steps.Leases.{kept_blocks}
+use Rattle.sl_host_law.specs.Steps.Leases.{kept_blocks, lease_at}
 use Rattle.sl_host_state.specs.Kept.{HostKept, LeaseState, MemberState}
 use Rattle.sl_host_state.specs.Stands.{IsQuiet}
+use Rattle.sl_host_work.specs.Asking.{IsOwned}
 use Rattle.sl_host_work.specs.Placed.{IsArea, IsPlaced}
 use Rattle.sl_lease.specs.Asked.{TopStands}
 use Rattle.sl_lease.specs.Bounds.{IsInstance}
@@ -28,11 +29,13 @@ pub record BeginKnown (now : ℕ) (k : HostKept) : Type 0 where
   pub quiet : IsQuiet (state_in k)
   pub before : BegunBefore k.members k.entries
 
--- Where sessions and leases stand, and that what is kept of a lease's blocks, and of exclusive holdings, is so.
+-- Where sessions and leases stand, that what is kept of a lease's blocks, and of exclusive holdings, is so, and that whoever has written a
+-- block has verified its resource's name.
 pub record AreKnown (z : Sizes) (ms : List MemberState) (held : List Grant) : Type 0 where
   pub placed : (m : MemberState) → Contains ms m → IsPlaced z m.who
   pub areas : (m : MemberState) (l : LeaseState) → Contains ms m → Contains m.leases l → IsArea z l.spot.base
   pub tops : (m : MemberState) (l : LeaseState) → Contains ms m → Contains m.leases l → TopStands l (kept_blocks l)
+  pub owned : (m : MemberState) (at : Spot) → Contains ms m → IsOwned (lease_at m at)
   pub instances : (g : Grant) → Contains held g → is_shared g.mode ≡ false → IsInstance g.lver
 
 -- As a wake begins.

@@ -11,7 +11,7 @@ ghost use Rattle.sl_host_law.specs.Steps.Passes.{at_member, for_members};
 ghost use Rattle.sl_host_law.specs.Steps.Wakes.{settling_all, settling_here, waking};
 ghost use Rattle.sl_host_passes.specs.Fewer.{IsNoMore, SameLeases, leases_among, leases_at, leases_in};
 ghost use Rattle.sl_host_passes.specs.Knowing.{AreAreas, HasLeases, WakeKnown, spots_of};
-ghost use Rattle.sl_member.specs.Together.{member_with};
+ghost use Rattle.sl_member.specs.Together.{AreApart, member_with};
 ghost use Rattle.sl_host.specs.Host.{Becomes, SameRun, Spends};
 ghost use Rattle.sl_host.specs.Notes.{NotesState};
 ghost use Rattle.std.specs.Prelude.{Some, length, map, [], ◌*◌, ◌+◌, ◌≡◌, ◌≤◌};
@@ -118,6 +118,13 @@ fn note_spots(host: &Host, number: u64, spots: &mut Notes<Spot>)
     }
 }
 
+/// Members have numbers of their own.
+fn apart(host: &Host)
+    ensures { AreApart (map (λ m. m.who.number) host.now.kept.members) }
+{
+    let _joining = host.members().joining_by(0);
+}
+
 /// The leases on these areas of the member of this number are settled.
 fn settle_noted(host: &mut Host, number: u64, spots: &Notes<Spot>)
     requires known { WakeKnown host.old.kept }
@@ -131,6 +138,7 @@ fn settle_noted(host: &mut Host, number: u64, spots: &Notes<Spot>)
     ensures known { WakeKnown host.new.kept }
     ensures leases { SameLeases host.old.kept.members host.new.kept.members }
 {
+    apart(host);
     for place in 0..spots.len() {
         settle(host, number, spots.nth(place));
     }
@@ -173,7 +181,7 @@ fn settle_members(host: &mut Host, members: &Notes<u64>, spots: &mut Notes<Spot>
 fn few_leases(host: &Host)
     ensures { leases_among (map (λ m. m.who.number) host.now.kept.members) host.now.kept.members ≤ leases_in host.now.kept.members }
 {
-    let _joining = host.members().joining_by(0);
+    apart(host);
 }
 
 /// All leases of active members are settled, by place.

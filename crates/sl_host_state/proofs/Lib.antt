@@ -4,3 +4,4 @@ pub mod Passing
 pub mod Others
 pub mod Resting
 pub mod Asking
+pub mod Pairs

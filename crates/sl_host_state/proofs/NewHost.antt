@@ -104,11 +104,10 @@ members_stand st (s ∷ ss) (suc k) m is there = members_stand st ss k m is ther
 
 -- ---- the whole
 
-new_host_keeps : (st : Setting) → IsOfProgram st.layout → st.layout.paired ≡ false → Keeps (new_host st) st []
-new_host_keeps st is plain =
+new_host_keeps : (st : Setting) → IsOfProgram st.layout → Keeps (new_host st) st []
+new_host_keeps st is =
     record {
       config = refl;
-      unpaired = plain;
       entries = refl;
       calls = refl;
       lines = (let n : ℕ = st.first.job in omega arith);
@@ -129,6 +128,6 @@ new_host_keeps st is plain =
       programs = refl;
     }
 
-pub new_host_stands : (st : Setting) → IsOfProgram st.layout → st.layout.paired ≡ false → HostStands (new_host st) st []
-new_host_stands st is plain =
-    record { past = (tt, tt); reading = refl; made = refl; keeps = new_host_keeps st is plain; quiet = λ k now there. omega arith }
+pub new_host_stands : (st : Setting) → IsOfProgram st.layout → HostStands (new_host st) st []
+new_host_stands st is =
+    record { past = (tt, tt); reading = refl; made = refl; keeps = new_host_keeps st is; quiet = λ k now there. omega arith }

@@ -93,7 +93,6 @@ module _ (es : List End) (ss : List Sent) (gs : List Grant) where
   keeps_otherwise h fx held x many now k =
       record {
         config = k.config;
-        unpaired = k.unpaired;
         entries = k.entries;
         calls = ap (λ ms. x.setting.first.call + length ms) (same_calls x) ∙ k.calls ∙ ap (λ n. h.first_call + n) many;
         lines = k.lines;

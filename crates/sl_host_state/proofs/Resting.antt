@@ -11,7 +11,7 @@ use Rattle.sl_sector.specs.declared.sector.Owner.{Owner}
 use Rattle.sl_trace.specs.Traces.{FollowsTrace}
 use Rattle.sl_trace.specs.declared.effects.Spot.{Spot}
 use Rattle.sl_trace.specs.declared.input.Input.{Input}
-use Rattle.sl_words.proofs.CaseLaws.{none_some}
+use Rattle.sl_words.proofs.CaseLaws.{false_is_true, none_some}
 use Rattle.std.proofs.Common.{arith, refl, ◌∙◌}
 use Rattle.std.specs.Prelude.{List, length, [], ℕ, ◌+◌, ◌∷◌, ◌≡◌}
 
@@ -29,7 +29,6 @@ steps_are_over i h x follows is_due s =
       keeps =
           record {
             config = k.config;
-            unpaired = k.unpaired;
             entries = k.entries;
             calls = k.calls ∙ as_it_is (h.first_call + length h.made.calls);
             lines = k.lines;
@@ -64,8 +63,8 @@ new_lease_stands g lockspace self at =
       waiting = tt;
       top = λ t is. absurd (none_some t is);
       opened = λ n is. absurd (none_some n is);
-      pair = refl;
       turn = refl;
-      first = refl;
-      plain = tt;
+      again = refl;
+      kept = refl;
+      second = λ again. absurd (false_is_true again);
     }

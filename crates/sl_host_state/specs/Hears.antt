@@ -1,15 +1,18 @@
 -- What an input makes of the kept state, and what a step's beginning and end do. An input is heard before anything is decided on it:
 -- an answer by the one thing that waits for it, a line as a job, an exit by the children.
 use Rattle.sl_area.specs.Layouts.{Layout}
-use Rattle.sl_area.specs.Places.{area_blocks, blocks_in, leader_of}
-use Rattle.sl_host_state.specs.Kept.{HostState, JobState, JoinCall, JoinState, LeaseState, MemberState, OpenCall, TopNumber}
+use Rattle.sl_area.specs.Places.{BlocksRead, blocks_of, leader_read, needs_again, pair_read, pairs_kept}
+use Rattle.sl_host_state.specs.Kept.{HostState, JobState, JoinCall, JoinState, LeaseCall, LeaseState, MemberState, OpenCall, PairState, TopNumber}
 use Rattle.sl_host_state.specs.Makes.{has_write_open, lowered}
 use Rattle.sl_host_state.specs.Stands.{is_there, top_mbal}
 use Rattle.sl_trace.specs.Ballots.{is_ahead, same_owner, stop_of, value_of}
-use Rattle.sl_trace.specs.Leases.{is_leader_of, name_sought, shows_settled}
+use Rattle.sl_trace.specs.Leases.{given_with, is_leader_of, is_second, name_sought, shows_settled}
+use Rattle.sl_trace.specs.LeaseWork.{first_step, part_read}
 use Rattle.sl_trace.specs.declared.lease.Stop.{Stop}
 use Rattle.sl_sector.specs.declared.sector.Block.{Block}
+use Rattle.sl_sector.specs.declared.sector.Leader.{Leader}
 use Rattle.sl_sector.specs.declared.sector.Owner.{Owner}
+use Rattle.sl_sector.specs.declared.sector.PairBlock.{PairBlock}
 use Rattle.sl_trace.specs.Deltas.{join_step_of}
 use Rattle.sl_trace.specs.Sessions.{is_delta_purpose, is_join_call, is_renewal, is_session_arg, is_survey_purpose, shows_other_in}
 use Rattle.sl_trace.specs.declared.delta.DeltaKnown.{DeltaKnown}
@@ -21,8 +24,7 @@ use Rattle.sl_trace.specs.declared.command.Command.TheVariants.{RemLockspace}
 use Rattle.sl_trace.specs.declared.command.Command.{Command}
 use Rattle.sl_trace.specs.declared.effects.Effects.{Effects}
 use Rattle.sl_trace.specs.declared.effects.JoinStep.TheVariants.{FirstRead}
-use Rattle.sl_trace.specs.declared.effects.LeaseRead.TheVariants.{OfArea, OfBlock, OfFree, OfPhase1, OfPhase2}
-use Rattle.sl_trace.specs.declared.effects.LeaseRead.{LeaseRead}
+use Rattle.sl_trace.specs.declared.effects.LeaseRead.TheVariants.{OfArea, OfFree, OfPhase1, OfPhase2}
 use Rattle.sl_trace.specs.declared.effects.LeaseStep.TheVariants.{Phase1Read, Phase2Read, ReadAgain, ReadArea, ReadBeforeBlock, ReadBeforeFree}
 use Rattle.sl_trace.specs.declared.effects.LeaseStep.{LeaseStep}
 use Rattle.sl_trace.specs.declared.effects.Purpose.{Purpose}
@@ -215,23 +217,31 @@ joining_hearing h c a j =
 
 -- ---- an answer, heard by its lease
 
--- The blocks that a read gives.
-abbrev pub blocks_of_read : Layout → LeaseRead → List ℕ → List (Option Block)
-blocks_of_read g (OfArea name) bytes = area_blocks g bytes
-blocks_of_read g OfFree bytes = area_blocks g bytes
-blocks_of_read g OfBlock bytes = blocks_in g bytes
-blocks_of_read g OfPhase1 bytes = blocks_in g bytes
-blocks_of_read g OfPhase2 bytes = blocks_in g bytes
+-- Whether a step reads blocks, and whether leader and request with them.
+abbrev pub is_block_step : LeaseStep → Bool
+is_block_step (ReadArea name) = true
+is_block_step ReadBeforeFree = true
+is_block_step ReadBeforeBlock = true
+is_block_step (ReadAgain read) = true
+is_block_step Phase1Read = true
+is_block_step Phase2Read = true
+is_block_step step = false
 
--- The blocks that a read at this step gives, where a block has one sector: made once more, it gives the same.
-abbrev pub blocks_of_step : Layout → LeaseStep → List ℕ → Option (List (Option Block))
-blocks_of_step g (ReadArea name) bytes = Some (area_blocks g bytes)
-blocks_of_step g ReadBeforeFree bytes = Some (area_blocks g bytes)
-blocks_of_step g Phase1Read bytes = Some (blocks_in g bytes)
-blocks_of_step g Phase2Read bytes = Some (blocks_in g bytes)
-blocks_of_step g ReadBeforeBlock bytes = Some (blocks_in g bytes)
-blocks_of_step g (ReadAgain read) bytes = Some (blocks_of_read g read bytes)
-blocks_of_step g step bytes = None
+abbrev pub is_area_step : LeaseStep → Bool
+is_area_step (ReadArea name) = true
+is_area_step ReadBeforeFree = true
+is_area_step (ReadAgain (OfArea name)) = true
+is_area_step (ReadAgain OfFree) = true
+is_area_step step = false
+
+-- The bytes of all blocks in what a read at this step gave, if it is a read of blocks.
+abbrev pub blocks_heard : Layout → LeaseStep → List ℕ → Option (List ℕ)
+blocks_heard g step bytes = elim (is_block_step step) [ false ↦ None | true ↦ Some (part_read g bytes (first_step step)) ]
+
+-- What a read at this step gave of all blocks, by what is kept of the pairs: nothing by itself where it is to be made once more, and a
+-- second one with what the first gave.
+abbrev pub read_heard : Layout → PairState → LeaseStep → List ℕ → Option BlocksRead
+read_heard g p step bytes = given_with g (is_second step) p.first (blocks_heard g step bytes)
 
 -- Whether it is a read of a ballot's phase, and of its second.
 abbrev pub is_phase_step : LeaseStep → Bool
@@ -246,9 +256,42 @@ is_last_phase Phase2Read = true
 is_last_phase (ReadAgain OfPhase2) = true
 is_last_phase step = false
 
--- What the answer shows at its step, if it is a read of blocks.
-abbrev pub blocks_shown : Layout → LeaseStep → Answer → Option (List (Option Block))
-blocks_shown g step a = option_and_then (blocks_of_step g step) (bytes_given a)
+-- Whether it is a settling's read before a free.
+abbrev pub is_free_step : LeaseStep → Bool
+is_free_step ReadBeforeFree = true
+is_free_step (ReadAgain OfFree) = true
+is_free_step step = false
+
+-- The blocks that the answer shows at its step, if it is a read that gives some.
+abbrev pub blocks_shown : Layout → PairState → LeaseStep → Answer → Option (List (Option Block))
+blocks_shown g p step a = option_map (blocks_of g) (option_and_then (read_heard g p step) (bytes_given a))
+
+-- The leader that it shows, if it is such a read of the area: with pairs a torn one may be made from the blocks.
+abbrev pub leader_shown : Layout → PairState → LeaseStep → Answer → Option Leader
+leader_shown g p step a =
+    elim (is_area_step step) [
+      | false ↦ None
+      | true ↦ option_and_then (λ bytes. option_and_then (leader_read g bytes) (read_heard g p step bytes)) (bytes_given a)
+    ]
+
+-- The turn of the own pair that it shows: each answer by itself.
+abbrev pub turn_heard : Layout → ℕ → LeaseStep → Option ℕ → Answer → Option ℕ
+turn_heard g id step turn (Read bytes) =
+    elim g.paired [ false ↦ None | true ↦ option_and_then (λ bs. option_map (λ p. p.turn) (pair_read g bs id)) (blocks_heard g step bytes) ]
+turn_heard g id step turn Written = turn
+turn_heard g id step turn Failed = None
+
+-- What is kept of it, where it is a first read that is to be made once more.
+abbrev pub kept_heard : Layout → LeaseStep → Answer → Option (List (Option PairBlock))
+kept_heard g step a =
+    elim (is_second step) [
+      | true ↦ None
+      | false ↦ option_and_then (λ bs. choose (needs_again g bs) (pairs_kept g bs)) (option_and_then (blocks_heard g step) (bytes_given a))
+    ]
+
+-- What is kept of pairs after the answer: what the first of two reads gave stays until the next call.
+abbrev pub pair_hearing : Layout → ℕ → LeaseStep → Option ℕ → Answer → PairState → PairState
+pair_hearing g id step turn a p = record p { turn = option_or (turn_heard g id step turn a) p.turn; first = option_or (kept_heard g step a) p.first }
 
 -- What stops the own block's ballot in them, by own block and blocks.
 abbrev pub stop_shown : LeaseState → Option (List (Option Block)) → Option (Option Stop)
@@ -265,17 +308,15 @@ won_at self step own stop =
     cond (is_last_phase step && some_is (λ s. not (is_some s)) stop) (option_and_then (λ b. choose (same_owner (value_of b) self) b.lver) own) None
 
 -- Whether the answer shows that the free of n is done: it is that free, done, or the area shows that it isn't needed.
-abbrev pub settles_at : Layout → Owner → LeaseStep → Option ℕ → ℕ → Answer → Bool
-settles_at g self ReadBeforeFree frees n (Read bytes) = shows_settled self n (leader_of g bytes) (area_blocks g bytes)
-settles_at g self (ReadAgain OfFree) frees n (Read bytes) = shows_settled self n (leader_of g bytes) (area_blocks g bytes)
-settles_at g self step frees n Written = some_is (λ f. f == n) frees
-settles_at g self step frees n a = false
+abbrev pub settles_at : Owner → LeaseStep → Option ℕ → Option Leader → Option (List (Option Block)) → ℕ → Answer → Bool
+settles_at self step frees leader blocks n Written = some_is (λ f. f == n) frees
+settles_at self step frees leader blocks n (Read bytes) = is_free_step step && some_is (shows_settled self n leader) blocks
+settles_at self step frees leader blocks n Failed = false
 
 -- The name that an acquire's read verifies.
-abbrev pub verified_at : Layout → List ℕ → Purpose → Answer → Option (List ℕ)
-verified_at g lockspace purpose a =
-    option_and_then (λ name. option_and_then (λ l. choose (is_leader_of g lockspace name l) name) (option_and_then (leader_of g) (bytes_given a)))
-    (name_sought purpose)
+abbrev pub verified_at : Layout → List ℕ → Purpose → Option Leader → Option (List ℕ)
+verified_at g lockspace purpose leader =
+    option_and_then (λ name. option_and_then (λ l. choose (is_leader_of g lockspace name l) name) leader) (name_sought purpose)
 
 -- The greatest number of the own block's instance, where blocks were read.
 abbrev pub top_hearing : LeaseState → Option (List (Option Block)) → Option TopNumber
@@ -288,16 +329,19 @@ won_hearing (Some n) settles before = Some n
 won_hearing None settles before = option_and_then (λ n. choose (not (settles n)) n) before
 
 -- A lease that hears the answer to its newest call, at this step; heeded while its work goes on.
-abbrev pub lease_hearing : Layout → List ℕ → Owner → Bool → OpenCall → Answer → LeaseStep → Option ℕ → Bool → LeaseState → LeaseState
-lease_hearing g lockspace self heeded c a step frees clears l =
-    let stop : Option (Option Stop) = stop_shown l (blocks_shown g step a) in
+abbrev pub lease_hearing : Layout → List ℕ → Owner → Bool → OpenCall → Answer → LeaseCall → LeaseState → LeaseState
+lease_hearing g lockspace self heeded c a w l =
+    let blocks : Option (List (Option Block)) = blocks_shown g l.pair w.step a in
+    let leader : Option Leader = leader_shown g l.pair w.step a in
+    let stop : Option (Option Stop) = stop_shown l blocks in
     record l {
-      top = top_hearing l (blocks_shown g step a);
-      name = unwrap_or (verified_at g lockspace c.purpose a) l.name;
-      ballot = cond (heeded && concludes_at step stop) None l.ballot;
-      shown = l.shown && not (clears && is_ok_answer a);
-      won = won_hearing (cond heeded (won_at self step l.own stop) None) (λ n. settles_at g self step frees n a) l.won;
+      top = top_hearing l blocks;
+      name = unwrap_or (verified_at g lockspace c.purpose leader) l.name;
+      ballot = cond (heeded && concludes_at w.step stop) None l.ballot;
+      shown = l.shown && not (w.clears && is_ok_answer a);
+      won = won_hearing (cond heeded (won_at self w.step l.own stop) None) (λ n. settles_at self w.step w.frees leader blocks n a) l.won;
       waiting = None;
+      pair = pair_hearing g self.id w.step w.turn a l.pair;
     }
 
 -- The lease, where the answer is to its newest call.
@@ -306,7 +350,7 @@ lease_told h m heeded c a l =
     elim l.waiting [
       | None ↦ l
       | Some w ↦ cond (w.number == c.number)
-          (lease_hearing h.config.layout m.who.lockspace (record { id = m.who.id; generation = m.known.generation }) heeded c a w.step w.frees w.clears l) l
+          (lease_hearing h.config.layout m.who.lockspace (record { id = m.who.id; generation = m.known.generation }) heeded c a w l) l
     ]
 
 -- ---- the whole of an answer

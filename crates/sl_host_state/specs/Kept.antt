@@ -19,6 +19,7 @@ pub use Rattle.sl_host_state.specs.declared.kept.WaitingCall.{WaitingCall}
 use Rattle.sl_area.specs.Layouts.{Layout, Sizes, layout_of}
 use Rattle.sl_sector.specs.declared.sector.Block.{Block}
 use Rattle.sl_sector.specs.declared.sector.DeltaRec.{DeltaRec}
+use Rattle.sl_sector.specs.declared.sector.PairBlock.{PairBlock}
 use Rattle.sl_trace.specs.declared.delta.DeltaKnown.{DeltaKnown}
 use Rattle.sl_trace.specs.declared.session.Begun.{Begun}
 use Rattle.sl_trace.specs.declared.session.Renewing.{Renewing}
@@ -44,11 +45,13 @@ pub record Config : Type 0 where
 
 -- ---- a lease
 
--- What is kept of the own pair where a block is kept in two sectors: the turn that was shown last, and the bytes of the first of two
--- reads. Where a block has one sector nothing is.
+-- What is kept where a block is kept in two sectors: the turn of the own pair that was shown last; what the newest call's answer gave of
+-- each host's pair, if the read is to be made once more, and from the second read's submission on what the first one gave so; whether the
+-- newest call is a second read. Where a block has one sector nothing is.
 pub record PairState : Type 0 where
   pub turn : Option ℕ
-  pub first : Option (List ℕ)
+  pub first : Option (List (Option PairBlock))
+  pub again : Bool
 
 -- A session's lease on an area.
 pub record LeaseState : Type 0 where

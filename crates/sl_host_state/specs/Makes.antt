@@ -1,10 +1,10 @@
 -- What an effect makes of the kept state: for each function of `sl_due` that adds one to a step, the function of states that follows
 -- it. A law says that it does; a method of a host says that it makes this change.
 use Rattle.sl_area.specs.Layouts.{Layout}
-use Rattle.sl_host_state.specs.Kept.{HostState, JobState, JoinState, LeaseCall, LeaseState, MemberState}
+use Rattle.sl_host_state.specs.Kept.{HostState, JobState, JoinState, LeaseCall, LeaseState, MemberState, PairState}
 use Rattle.sl_host_state.specs.New.{new_member}
 use Rattle.sl_host_state.specs.Stands.{free_written, is_joining, kept_call, kept_waiting, newest_of, no_pair, pair_of}
-use Rattle.sl_trace.specs.Leases.{block_written, freed_by, is_at, is_lease_call, is_on, is_spot_before, lease_step, spot_of_call, value_written, Phase2_write}
+use Rattle.sl_trace.specs.Leases.{block_written, freed_by, is_again, is_at, is_lease_call, is_on, is_spot_before, lease_step, spot_of_call, turn_written, value_written, Phase2_write}
 use Rattle.sl_trace.specs.Sessions.{delta_written, is_delta_purpose, is_free_purpose, is_join_call, is_join_done, is_renewal, joining_session}
 use Rattle.sl_trace.specs.declared.delta.DeltaKnown.{DeltaKnown}
 use Rattle.sl_time.specs.Times.{fail}
@@ -162,7 +162,14 @@ joining_calling m j =
 abbrev pub kept_lease_call : Submitted → Option LeaseCall
 kept_lease_call m =
     option_map
-    (λ p. record { number = m.call.number; work = p.0; step = p.1; frees = free_written m; clears = some_is (λ b. not b.shared) (block_written m) })
+    (λ p. record {
+      number = m.call.number;
+      work = p.0;
+      step = p.1;
+      frees = free_written m;
+      clears = some_is (λ b. not b.shared) (block_written m);
+      turn = turn_written m;
+    })
     (lease_step m.call.purpose)
 
 -- The open ballot after a call: phase 2 opens one, a block of another instance ends it.
@@ -173,6 +180,10 @@ ballot_calling m before =
       | Some b ↦ elim (is_at Phase2_write m) [ true ↦ Some b.lver | false ↦ option_and_then (λ n. choose (b.lver == n) n) before ]
     ]
 
+-- What is kept of pairs after a call: only a second read asks for what the first one gave.
+abbrev pub pair_calling : Bool → PairState → PairState
+pair_calling again p = record p { first = cond again p.first None; again = again }
+
 -- A lease after its call.
 abbrev pub lease_calling : Submitted → LeaseState → LeaseState
 lease_calling m l =
@@ -182,6 +193,7 @@ lease_calling m l =
       ballot = ballot_calling m l.ballot;
       shown = option_map_or (λ b. b.shared || l.shown) (block_written m) l.shown;
       waiting = kept_lease_call m;
+      pair = pair_calling (is_again m) l.pair;
     }
 
 -- A lease without a call.

@@ -74,6 +74,6 @@ new_host st =
       made = no_effects;
     }
 
--- Of every setting with a layout of the program where each host's block has one sector the new host stands for no step.
+-- Of every setting with a layout of the program the new host stands for no step.
 abbrev pub NewHostStands : Type 0
-NewHostStands = (st : Setting) → IsOfProgram st.layout → st.layout.paired ≡ false → HostStands (new_host st) st []
+NewHostStands = (st : Setting) → IsOfProgram st.layout → HostStands (new_host st) st []

@@ -14,7 +14,6 @@
 -- - holdings, children, programs: so are these.
 -- - quiet: nothing that is due by time before an input is due below `quiet_until`.
 use Rattle.sl_area.specs.Layouts.{Layout, layout_of}
-use Rattle.sl_area.specs.Places.{pairs_kept}
 use Rattle.sl_due.specs.Due.{IsHostTrace}
 use Rattle.sl_due.specs.DueRequests.{is_asked}
 use Rattle.sl_due.specs.Steps.{Step, seen}
@@ -22,7 +21,7 @@ use Rattle.sl_host_state.specs.Kept.{Config, HostState, JobState, JoinCall, Join
 use Rattle.sl_trace.specs.Ballots.{in_instance}
 use Rattle.sl_trace.specs.Counts.{values_on}
 use Rattle.sl_trace.specs.Jobs.{child_of_job, command_of}
-use Rattle.sl_trace.specs.Leases.{base_turn, block_submitted, block_written, first_kept, free_left, freed, is_again, is_on, last_blocks, leader_written, lease_calls, lease_spots, lease_step, lver_written, may_show_shared, open_ballot, turn_written, value_written, verified_name}
+use Rattle.sl_trace.specs.Leases.{base_turn, block_submitted, block_written, free_left, freed, is_again, is_on, kept_before, last_blocks, leader_written, lease_calls, lease_spots, lease_step, lver_written, may_show_shared, open_ballot, turn_written, value_written, verified_name}
 use Rattle.sl_sector.specs.Bitmaps.{bitmap_of}
 use Rattle.sl_sector.specs.declared.sector.Block.{Block}
 use Rattle.sl_sector.specs.declared.sector.Owner.{Owner}
@@ -39,10 +38,9 @@ use Rattle.sl_trace.specs.declared.effects.Op.TheVariants.{ReadSectors, WriteRec
 use Rattle.sl_trace.specs.declared.effects.Op.{Op}
 use Rattle.sl_trace.specs.declared.input.Input.{Input}
 use Rattle.sl_watch.specs.Watches.{WatchStands, Watched}
-use Rattle.sl_words.specs.Words.{choose, greatest, present, some_is}
+use Rattle.sl_words.specs.Words.{choose, first_of_list, greatest, present, some_is}
 use Rattle.std.specs.Int.{is_in_range}
 use Rattle.std.specs.List.{AllByRecursion, list_any, range_with_len}
-use Rattle.std.specs.Option.{option_map_or}
 use Rattle.std.specs.Prelude.{Bool, IsTrue, List, None, Option, Some, cond, false, filter, filter_map, flat_map, is_none, is_some, length, map, nat_le, nat_lt, not, option_and_then, option_map, reverse, slice_get, slice_index_or, true, unwrap_or, [], ℕ, ◌&&◌, ◌++◌, ◌+◌, ◌-◌, ◌==◌, ◌||◌, ◌∷◌, ◌≡◌, ◌≤◌}
 
 -- ---- what is kept of what a trace has
@@ -98,7 +96,7 @@ free_written m = option_and_then (λ l. choose (not l.held) l.lver) (leader_writ
 abbrev pub IsKeptCall : Submitted → LeaseCall → Type 0
 IsKeptCall m c =
     (m.answer ≡ None) × (m.call.number ≡ c.number) × (lease_step m.call.purpose ≡ Some (c.work, c.step)) × (free_written m ≡ c.frees)
-    × (some_is (λ b. not b.shared) (block_written m) ≡ c.clears)
+    × (some_is (λ b. not b.shared) (block_written m) ≡ c.clears) × (turn_written m ≡ c.turn)
 
 -- At most the newest call has no answer, and this is what is kept of it.
 abbrev pub IsWaiting : Option LeaseCall → List Submitted → Type 0
@@ -112,19 +110,28 @@ top_mbal n blocks = greatest (map (λ b. b.mbal) (in_instance n (present blocks)
 
 -- Nothing of a pair.
 abbrev pub no_pair : PairState
-no_pair = record { turn = None; first = None }
+no_pair = record { turn = None; first = None; again = false }
 
 -- The turn of the own pair, by what is kept of it, and 0 before any was shown.
 abbrev pub turn_kept : PairState → ℕ
 turn_kept p = unwrap_or p.turn 0
 
--- What the first of two reads gave of the pairs.
-abbrev pub first_read : Layout → PairState → List (Option PairBlock)
-first_read g p = option_map_or (λ bytes. pairs_kept g bytes) p.first []
+-- What the first of two reads gave of the pairs, where the newest call is the second.
+abbrev pub first_read : PairState → List (Option PairBlock)
+first_read p = cond p.again (unwrap_or p.first []) []
 
--- Whether the call is one on an area where a block has one sector: no read that is made once more, no write of a block with a turn.
-abbrev pub is_plain_call : Submitted → Bool
-is_plain_call m = not (is_again m) && is_none (turn_written m)
+-- Whether the newest of these calls is a read that is made once more.
+abbrev pub is_again_newest : List Submitted → Bool
+is_again_newest ms = some_is is_again (first_of_list ms)
+
+-- What is kept of a first read stands for these calls, the newest first: of the answer of the newest, or of the one before a second read.
+abbrev pub IsFirstKept : Layout → PairState → List Submitted → Type 0
+IsFirstKept g p [] = p.first ≡ None
+IsFirstKept g p (m ∷ ms) = (pairs : List (Option PairBlock)) → p.first ≡ Some pairs → kept_before g (cond (is_again m) ms (m ∷ ms)) ≡ Some pairs
+
+-- Where a second read is the newest call, something is kept of the first: a second read follows one that is to be made once more.
+abbrev pub IsSecondKept : PairState → Type 0
+IsSecondKept p = p.again ≡ true → IsTrue (is_some p.first)
 
 -- The lease stands for its calls, the newest first, under a lockspace and for the session as ballots name it.
 pub record LeaseStands (g : Layout) (lockspace : List ℕ) (self : Owner) (l : LeaseState) (ms : List Submitted) : Type 0 where
@@ -139,12 +146,12 @@ pub record LeaseStands (g : Layout) (lockspace : List ℕ) (self : Owner) (l : L
   pub top : (t : TopNumber) → l.top ≡ Some t → top_mbal t.instance (last_blocks g ms) ≡ t.mbal
   -- and a settling that runs a ballot to its end finds it there: the open ballot's instance is the own block's
   pub opened : (n : ℕ) → l.ballot ≡ Some n → (t : TopNumber) × (l.top ≡ Some t) × (t.instance ≡ n)
-  -- a block has one sector
-  pub pair : l.pair ≡ no_pair
-  -- so no turn of it was shown, and no read is made once more
+  -- the turn of the own pair that was shown last
   pub turn : base_turn g self.id ms ≡ turn_kept l.pair
-  pub first : first_kept g ms ≡ first_read g l.pair
-  pub plain : AllByRecursion (λ m. IsTrue (is_plain_call m)) ms
+  -- what the first of two reads gave, as long as the second may be made or asks for it
+  pub again : is_again_newest ms ≡ l.pair.again
+  pub kept : IsFirstKept g l.pair ms
+  pub second : IsSecondKept l.pair
 
 -- ---- a session
 
@@ -231,8 +238,6 @@ AreSingle (c ∷ cs) = (some_is (λ job. list_any (is_kept_of job) cs) (job_of c
 -- The questions to a trace.
 pub record Keeps (h : HostState) (st : Setting) (es : Trace) : Type 0 where
   pub config : config_of st ≡ h.config
-  -- each host's block has one sector
-  pub unpaired : h.config.layout.paired ≡ false
   pub entries : length es ≡ h.entries
   pub calls : next_call st es ≡ h.first_call + length h.made.calls
   pub lines : next_job st es ≡ h.next_job

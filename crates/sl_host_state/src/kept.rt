@@ -56,6 +56,8 @@ pub struct LeaseCall {
     pub frees: Option<u64>,
     /// Whether it writes a block without the shared mode.
     pub clears: bool,
+    /// The turn of the block of a pair that it writes, if it does.
+    pub turn: Option<u64>,
 }
 
 /// The greatest number of an instance.

@@ -1,20 +1,22 @@
 -- What an answer asks of a host is known: before the host hears it, and as it has heard it.
-use Rattle.sl_area.specs.Layouts.{layout_of}
+use Rattle.sl_area.specs.Layouts.{Layout, layout_of}
 use Rattle.sl_due.specs.Steps.{with_input}
-use Rattle.sl_host_answers.specs.Facts.{LeaseKnown, ReadKnown, RequestKnown, SurveyKnown, WorkKnown}
+use Rattle.sl_host_answers.specs.Facts.{LeaseKnown, LeaseRead as ReadOfLease, ReadKnown, RequestKnown, SurveyKnown, WorkKnown}
 use Rattle.sl_host_law.proofs.Plain.PlainLists.{all_from}
 use Rattle.sl_host_law.specs.Parts.Expected.{IsAnswerOf}
 use Rattle.sl_host_law.specs.Questions.Answers.{spot_in}
 use Rattle.sl_host_law.specs.Replies.Answers.{FitsCall, IsOpen}
-use Rattle.sl_host_law.specs.Steps.Leases.{kept_blocks, lease_at}
+use Rattle.sl_host_law.specs.Steps.Leases.{blocks_at, kept_blocks, lease_at}
 use Rattle.sl_host_state.specs.Hears.{heard_answer}
-use Rattle.sl_host_state.specs.Kept.{HostKept, HostState, MemberState, state_of}
+use Rattle.sl_host_state.specs.Kept.{HostKept, HostState, LeaseState, MemberState, state_of}
 use Rattle.sl_host_state.specs.Stands.{is_kept_of}
 use Rattle.sl_host_state.specs.declared.kept.JobState.{JobState}
 use Rattle.sl_host_state.specs.declared.kept.OpenCall.{OpenCall}
 use Rattle.sl_host_step.proofs.Comes.{IsAtInput}
+use Rattle.sl_host_work.proofs.ReadsGive.{blocks_given, blocks_kept}
+use Rattle.sl_host_work.specs.Asking.{MayAsk, ReadStands}
 use Rattle.sl_host_work.specs.Placed.{IsPlaced}
-use Rattle.sl_lease.specs.Asked.{TopStands, read_given}
+use Rattle.sl_lease.specs.Asked.{TopStands}
 use Rattle.sl_lease.specs.Bounds.{IsInstance}
 use Rattle.sl_lease.specs.Steps.{is_read_step}
 use Rattle.sl_member.specs.Together.{member_with}
@@ -30,6 +32,8 @@ use Rattle.sl_step_law.proofs.PlacesAreKnown.{places_are_known}
 use Rattle.sl_step_law.specs.Answering.{LeaseHeard}
 use Rattle.sl_step_law.specs.Awaiting.{IsMembersCall}
 use Rattle.sl_step_law.specs.Moments.{IsMoment}
+use Rattle.sl_trace.specs.LeaseWork.{asked_again}
+use Rattle.sl_trace.specs.declared.effects.LeaseRead.{LeaseRead}
 use Rattle.sl_trace.specs.declared.effects.LeaseStep.{LeaseStep}
 use Rattle.sl_trace.specs.declared.effects.Purpose.TheVariants.{Lease}
 use Rattle.sl_trace.specs.declared.effects.Work.{Work}
@@ -41,9 +45,9 @@ use Rattle.sl_host.specs.Hearing.{AreWaiting, MayHear, MemberAwaits}
 use Rattle.sl_words.proofs.CaseLaws.{some_value}
 use Rattle.sl_words.specs.Bounds.{moments}
 use Rattle.sl_words.specs.Words.{some_is}
-use Rattle.std.proofs.Common.{ap, subst, sym, ◌∙◌}
+use Rattle.std.proofs.Common.{ap, refl, subst, sym, ◌∙◌}
 use Rattle.std.proofs.lemmas.Bool.{eqb-true}
-use Rattle.std.specs.Prelude.{Contains, List, Option, Some, find, is_some, true, ℕ, ◌<◌, ◌==◌, ◌≡◌}
+use Rattle.std.specs.Prelude.{Contains, List, None, Option, Some, find, is_some, true, ℕ, ◌<◌, ◌==◌, ◌≡◌}
 
 module _ (now number : ℕ) (answer : Answer) (k : HostKept) (c : OpenCall) (a : IsAtInput now (Told number answer) k) (opens : IsOpen (state_in k) number c) where
   moment : IsMoment Wake (state_of a.read k) a.step
@@ -89,7 +93,7 @@ module _ (now number : ℕ) (answer : Answer) (k : HostKept) (c : OpenCall) (a :
         awaited = record { busy = w.busy; leases = w.leases };
         known = (members_are_known.each Wake (state_of a.read k) a.step m a.ready.stands a.ready.kept there).known;
         leased = λ works. (let l = answers_are_awaited.leased (state_of a.read k) a.step number c m a.ready (its m there mine) works in
-            record { lease = l.lease; call = l.call; found = l.found; waits = l.waits; reads = l.reads });
+            record { lease = l.lease; call = l.call; found = l.found; waits = l.waits; reads = l.reads; again = l.again; second = l.second });
       }
 
   waiting : AreWaiting c k.jobs
@@ -137,10 +141,39 @@ module _ (now number : ℕ) (answer : Answer) (k : HostKept) (c : OpenCall) (a :
           → LeaseKnown g (spot_in (layout_of g.config.sizes) c) step read m
       known m read with tops =
           let z = heard m with in
-          record { placed = placed m z.there; area = z.area; asked = record { joined = z.joined; tops = tops; held = z.held }; named = z.named }
+          let asked : MayAsk (state_in g) m (spot_in (layout_of g.config.sizes) c) read =
+          record { joined = z.joined; tops = tops; held = z.held; owned = record { named = z.owned; opened = z.opened } }
+          in
+          record { placed = placed m z.there; area = z.area; asked = asked; named = z.named }
 
-      pub read_known : (bytes : List ℕ) → answer ≡ Read bytes → ReadKnown g (spot_in (layout_of g.config.sizes) c) c.session work step (read_given (layout_of g.config.sizes) step bytes)
-      read_known bytes gives = λ m with goes. known m (read_given (layout_of g.config.sizes) step bytes) with ((heard m with).shown bytes gives (reads work step bytes for gives))
+      module _ (bytes : List ℕ) (gives : answer ≡ Read bytes) (m : MemberState) (with : member_with c.session g.members ≡ Some m) where
+        abbrev layout : Layout
+        layout = layout_of g.config.sizes
+
+        abbrev lease : LeaseState
+        lease = lease_at m (spot_in layout c)
+
+        step_reads : is_read_step step ≡ true
+        step_reads = reads work step bytes for gives
+
+        stands : ReadStands layout m (spot_in layout c) step bytes
+        stands =
+            let z = heard m with in
+            record { reads = step_reads; again = z.again; kept = z.kept; verified = λ name l sought once given its. z.verified bytes name l gives sought once given its }
+
+        tops_read : TopStands lease (blocks_at layout lease step (Read bytes))
+        tops_read = by (asked_again layout bytes step) refl where
+          by : (o : Option LeaseRead) → asked_again layout bytes step ≡ o → TopStands lease (blocks_at layout lease step (Read bytes))
+          by None once =
+              let z = heard m with in
+              subst (λ read. TopStands lease read) (blocks_given layout lease step bytes step_reads once z.again z.kept) (z.shown bytes gives step_reads once)
+          by (Some read) again = subst (λ read. TopStands lease read) (blocks_kept layout lease step bytes (ap (λ o. is_some o) again)) (heard m with).tops
+
+        read_stands : ReadOfLease g (spot_in layout c) step bytes m
+        read_stands = record { stands = stands; known = known m (blocks_at layout lease step (Read bytes)) with tops_read }
+
+      pub read_known : (bytes : List ℕ) → answer ≡ Read bytes → ReadKnown g (spot_in (layout_of g.config.sizes) c) c.session work step bytes
+      read_known bytes gives = λ m with goes. read_stands bytes gives m with
 
       pub work_known : WorkKnown g (spot_in (layout_of g.config.sizes) c) c.session work step
       work_known = λ m with goes. known m (kept_blocks (lease_at m (spot_in (layout_of g.config.sizes) c))) with (heard m with).tops

@@ -42,7 +42,7 @@ module _ (now : ℕ) (text : List ℕ) (k : HostKept) (c : Command) (a : IsAtInp
   placed m there = let z = places_are_known.sessions Wake (state_of a.read k) a.step m a.ready.stands a.ready.kept there in record { id = (z.0, z.1); base = z.2 }
 
   ready : (at : Spot) (m : MemberState) → Contains k.members m → LeaseReady (state_of a.read k) m at → LeaseMayWork k at m
-  ready at m there l = record { joined = l.joined; placed = placed m there; area = l.area; tops = l.tops }
+  ready at m there l = record { joined = l.joined; placed = placed m there; area = l.area; tops = l.tops; owned = record { named = l.owned; opened = l.opened } }
 
   inside : (n : ℕ) (m : MemberState) → member_with n k.members ≡ Some m → Contains k.members m × ((m.who.number == n) ≡ true)
   inside n m is = find_inside (λ (z : MemberState). z.who.number == n) k.members m is

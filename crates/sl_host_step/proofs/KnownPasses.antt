@@ -1,7 +1,7 @@
 -- What the passes of a step ask of what is kept, at the moment at which each begins.
-use Rattle.sl_host_state.specs.Kept.{HostKept, HostState, LeaseState, MemberState, state_of}
+use Rattle.sl_host_state.specs.Kept.{HostKept, MemberState, state_of}
 use Rattle.sl_host_step.proofs.Comes.{IsSomeMoment}
-use Rattle.sl_host_passes.specs.Knowing.{BeginKnown, BegunBefore, FinishKnown, JobsApart, WakeKnown}
+use Rattle.sl_host_passes.specs.Knowing.{BeginKnown, FinishKnown, JobsApart, WakeKnown}
 use Rattle.sl_host_step.proofs.Expected.{from_first}
 use Rattle.sl_host_law.proofs.Replies.PlainNumbers.{same_number}
 use Rattle.sl_host_step.specs.Moments.{AtInput, StepComes}
@@ -16,7 +16,6 @@ use Rattle.sl_step_law.proofs.HostsAreKnown.{hosts_are_known}
 use Rattle.sl_step_law.proofs.LeasesAreKnown.{leases_are_known}
 use Rattle.sl_step_law.proofs.PlacesAreKnown.{places_are_known}
 use Rattle.sl_step_law.specs.Holdings.{HoldsOnce as HoldsOnceSo}
-use Rattle.sl_step_law.specs.Moments.{IsMoment}
 use Rattle.sl_trace.specs.declared.effects.Grant.{Grant}
 use Rattle.sl_trace.specs.declared.input.Input.TheVariants.{Spawned}
 use Rattle.sl_trace.specs.declared.input.Input.{Input}
@@ -58,6 +57,8 @@ wake_known k e =
         placed = placed_at k e;
         areas = λ m l there in_it. leases_are_known.placed e.input (state_of e.read k) e.step m l e.moment there in_it;
         tops = λ m l there in_it. leases_are_known.each_top e.input (state_of e.read k) e.step m l e.moment there in_it;
+        owned = λ m at there.
+            record { named = leases_are_known.owned e.input (state_of e.read k) e.step m at e.moment there; opened = leases_are_known.opened e.input (state_of e.read k) e.step m at e.moment there };
         instances = λ g there exclusive. leases_are_known.instances e.input (state_of e.read k) e.step g e.moment there;
       };
     }

@@ -35,6 +35,7 @@ use Rattle.sl_step_law.specs.Ready.{IsReady}
 use Rattle.sl_trace.specs.Traces.{is_expected}
 use Rattle.sl_trace.specs.declared.effects.JoinStep.TheVariants.{ClaimWrite, DecidingRead, FirstRead, FirstRenewal, VerifyRead, WatchRead}
 use Rattle.sl_trace.specs.declared.effects.LeaseStep.TheVariants.{ClearMode, FreeLeader, Phase1Read, Phase1Write, Phase2Read, Phase2Write, ReadAgain, ReadArea, ReadBeforeBlock, ReadBeforeFree, SetMode, TakeLeader}
+use Rattle.sl_trace.specs.declared.effects.LeaseRead.TheVariants.{OfArea, OfBlock, OfFree, OfPhase1, OfPhase2}
 use Rattle.sl_trace.specs.declared.effects.LeaseStep.{LeaseStep}
 use Rattle.sl_trace.specs.declared.effects.Purpose.TheVariants.{Joining, Lease, Leaving, Renewal, RequestRead, RequestWrite, SeeRequest, Survey, ValueRead, ValueWrite}
 use Rattle.sl_trace.specs.declared.effects.Purpose.{Purpose}
@@ -44,7 +45,7 @@ use Rattle.sl_trace.specs.declared.input.Answer.{Answer}
 use Rattle.sl_trace.specs.declared.input.Input.TheVariants.{Answer as Told}
 use Rattle.sl_trace.specs.declared.input.Input.{Input}
 use Rattle.sl_host.specs.Asking.{state_in}
-use Rattle.sl_host.specs.Hearing.{sectors_read}
+use Rattle.sl_lease.specs.Reads.{sectors_read}
 use Rattle.sl_host.specs.Host.{HostView}
 use Rattle.sl_words.proofs.CaseLaws.{none_some, some_value, true_is_false}
 use Rattle.std.proofs.Common.{ap, arith, refl, subst, sym, ◌∙◌}
@@ -55,63 +56,67 @@ use Rattle.std.specs.Prelude.{Bool, List, None, Option, Some, cond, false, find,
 -- ---- by the purpose of the call
 
 -- A read that isn't a joining's is answered by sectors.
-takes : (hosts : ℕ) (p : Purpose) → is_joining_purpose p ≡ false → is_some (sectors_asked hosts p) ≡ true → takes_sectors p ≡ true
-takes hosts (Joining j step) other reads = absurd (true_is_false other)
-takes hosts Renewal other reads = absurd (true_is_false (sym reads))
-takes hosts Survey other reads = refl
-takes hosts (Leaving j) other reads = absurd (true_is_false (sym reads))
-takes hosts (Lease work step) other reads = refl
-takes hosts (RequestRead j) other reads = refl
-takes hosts (RequestWrite j owner) other reads = absurd (true_is_false (sym reads))
-takes hosts SeeRequest other reads = refl
-takes hosts (ValueWrite j) other reads = absurd (true_is_false (sym reads))
-takes hosts (ValueRead j) other reads = refl
+takes : (g : Layout) (p : Purpose) → is_joining_purpose p ≡ false → is_some (sectors_asked g p) ≡ true → takes_sectors p ≡ true
+takes g (Joining j step) other reads = absurd (true_is_false other)
+takes g Renewal other reads = absurd (true_is_false (sym reads))
+takes g Survey other reads = refl
+takes g (Leaving j) other reads = absurd (true_is_false (sym reads))
+takes g (Lease work step) other reads = refl
+takes g (RequestRead j) other reads = refl
+takes g (RequestWrite j owner) other reads = absurd (true_is_false (sym reads))
+takes g SeeRequest other reads = refl
+takes g (ValueWrite j) other reads = absurd (true_is_false (sym reads))
+takes g (ValueRead j) other reads = refl
 
 -- What is no read may be a write.
-writing : (hosts : ℕ) (p : Purpose) → sectors_asked hosts p ≡ None → is_writing p ≡ true
-writing hosts (Joining j step) none = refl
-writing hosts Renewal none = refl
-writing hosts Survey none = absurd (none_some hosts (sym none))
-writing hosts (Leaving j) none = refl
-writing hosts (Lease work step) none = refl
-writing hosts (RequestRead j) none = absurd (none_some 2 (sym none))
-writing hosts (RequestWrite j owner) none = refl
-writing hosts SeeRequest none = absurd (none_some 1 (sym none))
-writing hosts (ValueWrite j) none = refl
-writing hosts (ValueRead j) none = absurd (none_some 1 (sym none))
+writing : (g : Layout) (p : Purpose) → sectors_asked g p ≡ None → is_writing p ≡ true
+writing g (Joining j step) none = refl
+writing g Renewal none = refl
+writing g Survey none = absurd (none_some g.hosts (sym none))
+writing g (Leaving j) none = refl
+writing g (Lease work step) none = refl
+writing g (RequestRead j) none = absurd (none_some 2 (sym none))
+writing g (RequestWrite j owner) none = refl
+writing g SeeRequest none = absurd (none_some 1 (sym none))
+writing g (ValueWrite j) none = refl
+writing g (ValueRead j) none = absurd (none_some 1 (sym none))
 
 -- How many a lease's read asks.
-lease_asks : (hosts : ℕ) (work : Work) (step : LeaseStep) → is_read_step step ≡ true → sectors_asked hosts (Lease work step) ≡ Some (sectors_read hosts step)
-lease_asks hosts work (ReadArea name) reads = refl
-lease_asks hosts work ReadBeforeFree reads = refl
-lease_asks hosts work Phase1Read reads = refl
-lease_asks hosts work Phase2Read reads = refl
-lease_asks hosts work Phase1Write reads = absurd (true_is_false (sym reads))
-lease_asks hosts work Phase2Write reads = absurd (true_is_false (sym reads))
-lease_asks hosts work TakeLeader reads = absurd (true_is_false (sym reads))
-lease_asks hosts work SetMode reads = absurd (true_is_false (sym reads))
-lease_asks hosts work FreeLeader reads = absurd (true_is_false (sym reads))
-lease_asks hosts work ClearMode reads = absurd (true_is_false (sym reads))
-lease_asks hosts work ReadBeforeBlock reads = absurd (true_is_false (sym reads))
-lease_asks hosts work (ReadAgain read) reads = absurd (true_is_false (sym reads))
+lease_asks : (z : Sizes) (work : Work) (step : LeaseStep) → is_read_step step ≡ true → sectors_asked (layout_of z) (Lease work step) ≡ Some (sectors_read z step)
+lease_asks z work (ReadArea name) reads = refl
+lease_asks z work ReadBeforeFree reads = refl
+lease_asks z work ReadBeforeBlock reads = refl
+lease_asks z work Phase1Read reads = refl
+lease_asks z work Phase2Read reads = refl
+lease_asks z work (ReadAgain (OfArea name)) reads = refl
+lease_asks z work (ReadAgain OfFree) reads = refl
+lease_asks z work (ReadAgain OfBlock) reads = refl
+lease_asks z work (ReadAgain OfPhase1) reads = refl
+lease_asks z work (ReadAgain OfPhase2) reads = refl
+lease_asks z work Phase1Write reads = absurd (true_is_false (sym reads))
+lease_asks z work Phase2Write reads = absurd (true_is_false (sym reads))
+lease_asks z work TakeLeader reads = absurd (true_is_false (sym reads))
+lease_asks z work SetMode reads = absurd (true_is_false (sym reads))
+lease_asks z work FreeLeader reads = absurd (true_is_false (sym reads))
+lease_asks z work ClearMode reads = absurd (true_is_false (sym reads))
 
 -- A joining reads one sector at a time.
-asks_one : (hosts : ℕ) (p : Purpose) (n : ℕ) → is_joining_purpose p ≡ true → sectors_asked hosts p ≡ Some n → n ≡ 1
-asks_one hosts (Joining j FirstRead) n joins asked = sym (some_value 1 n asked)
-asks_one hosts (Joining j WatchRead) n joins asked = sym (some_value 1 n asked)
-asks_one hosts (Joining j DecidingRead) n joins asked = sym (some_value 1 n asked)
-asks_one hosts (Joining j ClaimWrite) n joins asked = absurd (none_some n asked)
-asks_one hosts (Joining j VerifyRead) n joins asked = sym (some_value 1 n asked)
-asks_one hosts (Joining j FirstRenewal) n joins asked = absurd (none_some n asked)
-asks_one hosts Renewal n joins asked = absurd (none_some n asked)
-asks_one hosts Survey n joins asked = absurd (true_is_false (sym joins))
-asks_one hosts (Leaving j) n joins asked = absurd (none_some n asked)
-asks_one hosts (Lease work step) n joins asked = absurd (true_is_false (sym joins))
-asks_one hosts (RequestRead j) n joins asked = absurd (true_is_false (sym joins))
-asks_one hosts (RequestWrite j owner) n joins asked = absurd (none_some n asked)
-asks_one hosts SeeRequest n joins asked = absurd (true_is_false (sym joins))
-asks_one hosts (ValueWrite j) n joins asked = absurd (none_some n asked)
-asks_one hosts (ValueRead j) n joins asked = absurd (true_is_false (sym joins))
+asks_one : (g : Layout) (p : Purpose) (n : ℕ) → is_joining_purpose p ≡ true → sectors_asked g p ≡ Some n → n ≡ 1
+asks_one g (Joining j FirstRead) n joins asked = sym (some_value 1 n asked)
+asks_one g (Joining j WatchRead) n joins asked = sym (some_value 1 n asked)
+asks_one g (Joining j DecidingRead) n joins asked = sym (some_value 1 n asked)
+asks_one g (Joining j ClaimWrite) n joins asked = absurd (none_some n asked)
+asks_one g (Joining j VerifyRead) n joins asked = sym (some_value 1 n asked)
+asks_one g (Joining j FirstRenewal) n joins asked = absurd (none_some n asked)
+asks_one g Renewal n joins asked = absurd (none_some n asked)
+asks_one g Survey n joins asked = absurd (true_is_false (sym joins))
+asks_one g (Leaving j) n joins asked = absurd (none_some n asked)
+asks_one g (Lease work step) n joins asked = absurd (true_is_false (sym joins))
+asks_one g (RequestRead j) n joins asked = absurd (true_is_false (sym joins))
+asks_one g (RequestWrite j owner) n joins asked = absurd (none_some n asked)
+asks_one g SeeRequest n joins asked = absurd (true_is_false (sym joins))
+asks_one g (ValueWrite j) n joins asked = absurd (none_some n asked)
+asks_one g (ValueRead j) n joins asked = absurd (true_is_false (sym joins))
 
 -- One sector's bytes.
 one : (n : ℕ) → 1 * n ≡ n
@@ -127,14 +132,14 @@ module _ (z : Sizes) (h : HostState) (x : Step) (number : ℕ) (answer : Answer)
       let y = answers_are_known.open_one h x number answer r expected in
       subst (λ g. IsAnswerOf g answer c) same (subst (IsAnswerOf h.config.layout answer) (some_value y.0 c (sym y.1 ∙ opens)) y.2)
 
-  asks : c.sectors ≡ sectors_asked z.hosts c.purpose
-  asks = subst (λ (g : Layout). c.sectors ≡ sectors_asked g.hosts c.purpose) same (calls_ask h x c r (find_inside (λ (d : OpenCall). d.number == number) h.unanswered c opens).0)
+  asks : c.sectors ≡ sectors_asked (layout_of z) c.purpose
+  asks = subst (λ (g : Layout). c.sectors ≡ sectors_asked g c.purpose) same (calls_ask h x c r (find_inside (λ (d : OpenCall). d.number == number) h.unanswered c opens).0)
 
   module _ (bytes : List ℕ) (is : answer ≡ Read bytes) where
     given : IsAnswerOf (layout_of z) (Read bytes) c
     given = subst (λ y. IsAnswerOf (layout_of z) y c) is answers
 
-    many : (n : ℕ) → sectors_asked z.hosts c.purpose ≡ Some n → length bytes ≡ n * z.sector
+    many : (n : ℕ) → sectors_asked (layout_of z) c.purpose ≡ Some n → length bytes ≡ n * z.sector
     many n asked = given.2 ∙ ap (λ i. i * z.sector) (some_value given.0 n (sym given.1 ∙ asks ∙ asked))
 
     reads : (work : Work) (step : LeaseStep) → c.purpose ≡ Lease work step → is_read_step step ≡ true
@@ -143,21 +148,20 @@ module _ (z : Sizes) (h : HostState) (x : Step) (number : ℕ) (answer : Answer)
     fits : is_joining_purpose c.purpose ≡ false → FitsSectors z c (length bytes)
     fits other =
         record {
-          plain = ap (λ (g : Layout). g.paired) (sym same) ∙ r.stands.keeps.unpaired;
-          taken = takes z.hosts c.purpose other (ap (λ o. is_some o) (sym asks ∙ given.1));
-          survey = λ for. many z.hosts (ap (sectors_asked z.hosts) for);
-          lease = λ work step for. (let y = reads work step for in (y, ap (λ o. is_some o) given.1, many (sectors_read z.hosts step) (ap (sectors_asked z.hosts) for ∙ lease_asks z.hosts work step y)));
-          request = λ j for. many 2 (ap (sectors_asked z.hosts) for);
-          look = λ for. many 1 (ap (sectors_asked z.hosts) for) ∙ one z.sector;
-          value = λ j for. many 1 (ap (sectors_asked z.hosts) for) ∙ one z.sector;
+          taken = takes (layout_of z) c.purpose other (ap (λ o. is_some o) (sym asks ∙ given.1));
+          survey = λ for. many z.hosts (ap (sectors_asked (layout_of z)) for);
+          lease = λ work step for. (let y = reads work step for in (y, ap (λ o. is_some o) given.1, many (sectors_read z step) (ap (sectors_asked (layout_of z)) for ∙ lease_asks z work step y)));
+          request = λ j for. many 2 (ap (sectors_asked (layout_of z)) for);
+          look = λ for. many 1 (ap (sectors_asked (layout_of z)) for) ∙ one z.sector;
+          value = λ j for. many 1 (ap (sectors_asked (layout_of z)) for) ∙ one z.sector;
         }
 
     -- A joining's is one.
     joined_one : is_joining_purpose c.purpose ≡ true → length bytes ≡ z.sector
-    joined_one joins = given.2 ∙ ap (λ i. i * z.sector) (asks_one z.hosts c.purpose given.0 joins (sym asks ∙ given.1)) ∙ one z.sector
+    joined_one joins = given.2 ∙ ap (λ i. i * z.sector) (asks_one (layout_of z) c.purpose given.0 joins (sym asks ∙ given.1)) ∙ one z.sector
 
   writes : answer ≡ Written → is_writing c.purpose ≡ true
-  writes is = writing z.hosts c.purpose (sym asks ∙ subst (λ y. IsAnswerOf (layout_of z) y c) is answers)
+  writes is = writing (layout_of z) c.purpose (sym asks ∙ subst (λ y. IsAnswerOf (layout_of z) y c) is answers)
 
 -- ---- as a step begins
 

@@ -48,6 +48,7 @@ lists_there s old new r fits =
       jobs = subst (λ (k : HostKept). length k.jobs + 1 ≤ s.jobs) kept fits.jobs;
       spots = subst (λ (k : HostKept). leases_in k.members ≤ s.spots) kept fits.spots;
       orphans = subst (λ (k : HostKept). length k.holdings ≤ s.orphans) kept fits.orphans;
+      kept = fits.kept;
     }
 
 pub rests_with : (s : ScratchState) (old new : HostView) → s.spare ≡ true → HasRoom All old new → Suffices s old → Rests s new

@@ -1,8 +1,8 @@
 -- A step that was taken leaves a host that serves, with effects as a world asks.
 use Rattle.sl_daemon.specs.Daemons.{IsNumbered, IsSoundCall, MayCome, entry_of}
 use Rattle.sl_due.specs.Due.{due}
-use Rattle.sl_host_law.specs.Steps.Sound.{IsLaidOut, IsSound, JoiningsOwn, LeavingsOwn}
-use Rattle.sl_host_law.specs.Steps.Stepping.{effects_of, stepped}
+use Rattle.sl_host_law.specs.Steps.Sound.{IsSound}
+use Rattle.sl_host_law.specs.Steps.Stepping.{stepped}
 use Rattle.sl_host_law.specs.Steps.Whole.{entry_at}
 use Rattle.sl_host_state.specs.Hears.{quiet_to}
 use Rattle.sl_host_state.specs.Kept.{HostKept, HostState, Made, state_of}
@@ -19,7 +19,7 @@ use Rattle.sl_trace.specs.Traces.{Setting, Trace}
 use Rattle.sl_trace.specs.declared.effects.Call.{Call}
 use Rattle.sl_trace.specs.declared.effects.Effects.{Effects}
 use Rattle.sl_trace.specs.declared.input.Input.{Input}
-use Rattle.std.proofs.Common.{ap, refl, subst, sym, ◌∙◌}
+use Rattle.std.proofs.Common.{ap, subst, sym, ◌∙◌}
 use Rattle.std.specs.Prelude.{Contains, ℕ, ◌∷◌, ◌≡◌, ◌≤◌}
 
 -- ---- a host that knows for longer that nothing is due
@@ -28,7 +28,6 @@ keeps_calm : (q : ℕ) (h : HostState) (st : Setting) (es : Trace) → Keeps h s
 keeps_calm q h st es k =
     record {
       config = k.config;
-      unpaired = k.unpaired;
       entries = k.entries;
       calls = k.calls;
       lines = k.lines;

@@ -1,4 +1,5 @@
 -- How many effects and calls a step makes at most, by what is kept as it begins, and how much of that it has room for, by its reach.
+use Rattle.sl_area.specs.Layouts.{Sizes}
 use Rattle.sl_daemon.specs.declared.daemon.Most.{Most}
 use Rattle.sl_host_passes.specs.Fewer.{leases_in}
 use Rattle.sl_host_step.specs.declared.rooms.Counts.{Counts}
@@ -7,7 +8,7 @@ use Rattle.sl_host_step.specs.declared.rooms.Reach.{Reach}
 use Rattle.sl_host_state.specs.Kept.{HostKept}
 use Rattle.sl_host.specs.Asking.{most_counted}
 use Rattle.sl_host.specs.Host.{HostView}
-use Rattle.std.specs.Prelude.{Bool, cond, length, min, nat_le, ℕ, ◌*◌, ◌+◌, ◌<◌, ◌^◌, ◌||◌, ◌≡◌, ◌≤◌}
+use Rattle.std.specs.Prelude.{Bool, cond, length, min, nat_le, true, ℕ, ◌*◌, ◌+◌, ◌<◌, ◌^◌, ◌||◌, ◌≡◌, ◌≤◌}
 
 -- More than this no step has room for.
 abbrev pub room_end : ℕ
@@ -62,21 +63,24 @@ reach_when loud r = cond loud All r
 abbrev pub IsFarEnough : ℕ → HostKept → Reach → Type 0
 IsFarEnough now k r = k.quiet_until ≤ now → r ≡ All
 
--- For how much there is memory in the lists that a step goes by, and whether room for a step stands by.
+-- For how much there is memory in the lists that a step goes by; of which areas the blocks of a read have their places, and whether a list
+-- stands by that may be kept of a first read; and whether room for a step stands by.
 pub record ScratchState : Type 0 where
   pub members : ℕ
   pub jobs : ℕ
   pub spots : ℕ
   pub orphans : ℕ
-  pub blocks : ℕ
+  pub sizes : Sizes
+  pub kept : Bool
   pub spare : Bool
 
--- It is enough for what is kept, in a host with so many seats.
+-- It is enough for what is kept, in a host with so many seats; where blocks are kept in pairs a list stands by.
 pub record Suffices (s : ScratchState) (v : HostView) : Type 0 where
   pub members : v.seats ≤ s.members
   pub jobs : length v.kept.jobs + 1 ≤ s.jobs
   pub spots : leases_in v.kept.members ≤ s.spots
   pub orphans : length v.kept.holdings ≤ s.orphans
+  pub kept : s.sizes.paired ≡ true → s.kept ≡ true
 
 -- There is room for a step with this reach, and no more than a step takes at most; nothing else has changed.
 pub record HasRoom (r : Reach) (old new : HostView) : Type 0 where

@@ -66,11 +66,11 @@ fn take_answer<S: Sectors>(host: &mut Host, scratch: &mut Scratch, number: u64, 
     requires fits { (c : OpenCallOf) → IsOpen (state_in host.old.kept) number c → FitsHeard S.bytes S.is_cut host.old.kept.config.sizes c heard }
     requires left { (first : HostView) × HasLeft (reach_at host.old.kept number) first host.old }
     requires scratch { Suffices scratch.old host.old }
-    requires blocks { scratch.old.blocks ≡ host.old.kept.config.sizes.hosts }
+    requires sizes { scratch.old.sizes ≡ host.old.kept.config.sizes }
     ensures at { (now : ℕ) (first : HostKept) → AtInput now (Told number (answer_of S.bytes heard.entry)) first host.old.kept → AtEnd now (Told number (answer_of S.bytes heard.entry)) first host.new.kept }
     ensures left { (first : HostView) → HasLeft (reach_at host.old.kept number) first host.old → EndsWith first host.new }
     ensures lists { host.new.seats ≤ scratch.new.members }
-    ensures blocks { scratch.new.blocks ≡ scratch.old.blocks }
+    ensures sizes { scratch.new.sizes ≡ scratch.old.sizes }
     ensures spare { scratch.new.spare ≡ scratch.old.spare }
 {
     answer(
@@ -96,13 +96,13 @@ fn step_heard<S: Sectors>(
     requires comes { StepComes now (Told number (answer_of S.bytes heard)) host.old.kept }
     requires fits { (c : OpenCallOf) → IsOpen (state_in host.old.kept) number c → FitsHeard S.bytes S.is_cut host.old.kept.config.sizes c heard }
     requires rests { Rests scratch.old host.old }
-    requires blocks { scratch.old.blocks ≡ host.old.kept.config.sizes.hosts }
+    requires sizes { scratch.old.sizes ≡ host.old.kept.config.sizes }
     ensures ok { IfOk result (λ fx. HasStepped now (Told number (answer_of S.bytes heard.entry)) host.old host.new fx) }
     ensures err { OnErr result (host.new ≡ host.old) }
     ensures rests { OnErr result (Rests scratch.new host.new) }
     ensures used { OnOk result (scratch.new.spare ≡ false) }
     ensures spared { scratch.old.spare ≡ true → IsOk result }
-    ensures blocks { scratch.new.blocks ≡ scratch.old.blocks }
+    ensures sizes { scratch.new.sizes ≡ scratch.old.sizes }
 {
     let reach = reach_at(host, number);
     let begun = start(alloc, host, scratch, now, reach)?;
@@ -122,13 +122,13 @@ fn step_bytes(
 ) -> Result<Effects, AllocError>
     requires comes { StepComes now (Told number (ReadOf bytes)) host.old.kept }
     requires rests { Rests scratch.old host.old }
-    requires blocks { scratch.old.blocks ≡ host.old.kept.config.sizes.hosts }
+    requires sizes { scratch.old.sizes ≡ host.old.kept.config.sizes }
     ensures ok { IfOk result (λ fx. HasStepped now (Told number (ReadOf bytes)) host.old host.new fx) }
     ensures err { OnErr result (host.new ≡ host.old) }
     ensures rests { OnErr result (Rests scratch.new host.new) }
     ensures used { OnOk result (scratch.new.spare ≡ false) }
     ensures spared { scratch.old.spare ≡ true → joins_at host.old.kept number ≡ false → IsOk result }
-    ensures blocks { scratch.new.blocks ≡ scratch.old.blocks }
+    ensures sizes { scratch.new.sizes ≡ scratch.old.sizes }
 {
     if is_joining(host, number) {
         let sector = Arc::new(alloc, Image::of_bytes(bytes))?;
@@ -158,13 +158,13 @@ pub(crate) fn step_answer(
 ) -> Result<Effects, AllocError>
     requires comes { StepComes now (Told number answer) host.old.kept }
     requires rests { Rests scratch.old host.old }
-    requires blocks { scratch.old.blocks ≡ host.old.kept.config.sizes.hosts }
+    requires sizes { scratch.old.sizes ≡ host.old.kept.config.sizes }
     ensures ok { IfOk result (λ fx. HasStepped now (Told number answer) host.old host.new fx) }
     ensures err { OnErr result (host.new ≡ host.old) }
     ensures rests { OnErr result (Rests scratch.new host.new) }
     ensures used { OnOk result (scratch.new.spare ≡ false) }
     ensures spared { scratch.old.spare ≡ true → takes_more host.old.kept (Told number answer) ≡ false → IsOk result }
-    ensures blocks { scratch.new.blocks ≡ scratch.old.blocks }
+    ensures sizes { scratch.new.sizes ≡ scratch.old.sizes }
 {
     match answer {
         Answer::Read(bytes) => step_bytes(alloc, host, scratch, now, number, bytes),
@@ -217,12 +217,12 @@ fn step_copied(
 ) -> Result<Effects, AllocError>
     requires comes { StepComes now (read_of number sectors.now) host.old.kept }
     requires rests { Rests scratch.old host.old }
-    requires blocks { scratch.old.blocks ≡ host.old.kept.config.sizes.hosts }
+    requires sizes { scratch.old.sizes ≡ host.old.kept.config.sizes }
     ensures ok { IfOk result (λ fx. HasStepped now (read_of number sectors.now) host.old host.new fx) }
     ensures err { OnErr result (host.new ≡ host.old) }
     ensures rests { OnErr result (Rests scratch.new host.new) }
     ensures used { OnOk result (scratch.new.spare ≡ false) }
-    ensures blocks { scratch.new.blocks ≡ scratch.old.blocks }
+    ensures sizes { scratch.new.sizes ≡ scratch.old.sizes }
 {
     let mut bytes = Vec::new(alloc);
     sectors.push_bytes(&mut bytes)?;
@@ -241,13 +241,13 @@ pub(crate) fn step_images(
 ) -> Result<Effects, AllocError>
     requires comes { StepComes now (read_of number sectors.now) host.old.kept }
     requires rests { Rests scratch.old host.old }
-    requires blocks { scratch.old.blocks ≡ host.old.kept.config.sizes.hosts }
+    requires sizes { scratch.old.sizes ≡ host.old.kept.config.sizes }
     ensures ok { IfOk result (λ fx. HasStepped now (read_of number sectors.now) host.old host.new fx) }
     ensures err { OnErr result (host.new ≡ host.old) }
     ensures rests { OnErr result (Rests scratch.new host.new) }
     ensures used { OnOk result (scratch.new.spare ≡ false) }
     ensures spared { scratch.old.spare ≡ true → sectors.now.size ≡ host.old.kept.config.sizes.sector → joins_at host.old.kept number ≡ false → IsOk result }
-    ensures blocks { scratch.new.blocks ≡ scratch.old.blocks }
+    ensures sizes { scratch.new.sizes ≡ scratch.old.sizes }
 {
     if !is_cut_so(host, sectors) {
         return step_copied(alloc, host, scratch, now, number, sectors);

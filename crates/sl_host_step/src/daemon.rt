@@ -73,7 +73,7 @@ impl Model for HostDaemon {
 
     ghost view = { λ d. d.host };
 
-    ghost invariant = { λ d. (d.scratch.blocks ≡ d.host.kept.config.sizes.hosts) × Rests d.scratch d.host };
+    ghost invariant = { λ d. (d.scratch.sizes ≡ d.host.kept.config.sizes) × Rests d.scratch d.host };
 }
 
 impl HostDaemon {

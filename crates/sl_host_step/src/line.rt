@@ -66,7 +66,7 @@ fn take_command(
         → AtEnd now (LineOf text) first host.new.kept }
     ensures left { (first : HostView) → HasLeft (reach_of command) first host.old → EndsWith first host.new }
     ensures lists { host.new.seats ≤ scratch.new.members }
-    ensures blocks { scratch.new.blocks ≡ scratch.old.blocks }
+    ensures sizes { scratch.new.sizes ≡ scratch.old.sizes }
     ensures spare { scratch.new.spare ≡ scratch.old.spare }
 {
     take_line(host, &mut scratch.jobs, seat, lists, Ok(command));
@@ -102,7 +102,7 @@ fn step_misread(
     ensures err { OnErr result (host.new ≡ host.old) }
     ensures rests { OnErr result (Rests scratch.new host.new) }
     ensures used { OnOk result (scratch.new.spare ≡ false) }
-    ensures blocks { scratch.new.blocks ≡ scratch.old.blocks }
+    ensures sizes { scratch.new.sizes ≡ scratch.old.sizes }
 {
     let begun = start(alloc, host, scratch, now, Reach::Few)?;
     take_misread(host, column);
@@ -125,7 +125,7 @@ fn step_command(
     ensures err { OnErr result (host.new ≡ host.old) }
     ensures rests { OnErr result (Rests scratch.new host.new) }
     ensures used { OnOk result (scratch.new.spare ≡ false) }
-    ensures blocks { scratch.new.blocks ≡ scratch.old.blocks }
+    ensures sizes { scratch.new.sizes ≡ scratch.old.sizes }
 {
     let lists = Lists::of(alloc, &host.config().geometry, host.seats(), &command)?;
     let seat = seat_for(alloc, host, &command)?;
@@ -150,7 +150,7 @@ pub(crate) fn step_line(
     ensures err { OnErr result (host.new ≡ host.old) }
     ensures rests { OnErr result (Rests scratch.new host.new) }
     ensures used { OnOk result (scratch.new.spare ≡ false) }
-    ensures blocks { scratch.new.blocks ≡ scratch.old.blocks }
+    ensures sizes { scratch.new.sizes ≡ scratch.old.sizes }
 {
     match parse_command(text, &host.config().geometry) {
         Err(bad) => step_misread(alloc, host, scratch, now, bad.column),

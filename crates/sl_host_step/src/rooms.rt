@@ -27,7 +27,7 @@ const ROOM_END: usize = 0x8000_0000;
 /// A host counts no more steps.
 const LAST_ENTRY: u64 = 0x8000_0000_0000_0000;
 
-/// Lists that a step goes by: numbers of members and jobs, areas, orphans, and the blocks of a read. Where the host has the room of a step
+/// Lists that a step goes by: numbers of members and jobs, areas, orphans, and the blocks of a read in areas of these sizes. Where the host has the room of a step
 /// already, `spare` is what is to stand in the place of that step's effects.
 #[derive(Drop)]
 pub(crate) struct Scratch {
@@ -35,6 +35,7 @@ pub(crate) struct Scratch {
     pub(crate) jobs: Notes<u64>,
     pub(crate) spots: Notes<Spot>,
     pub(crate) orphans: Notes<Grant>,
+    geometry: Geometry,
     pub(crate) blocks: Blocks,
     job_room: usize,
     spare: Option<Buffers>,
@@ -42,20 +43,21 @@ pub(crate) struct Scratch {
 
 impl Model for Scratch {
     ghost use Rattle.sl_host_step.specs.Rooms.{ScratchState};
+    ghost use Rattle.sl_lease.specs.Reads.{HasPlaces};
     ghost use Rattle.sl_trace.specs.Traces.{no_effects};
-    ghost use Rattle.std.specs.Prelude.{IfSome, is_some, length, ◌≡◌, ◌≤◌};
+    ghost use Rattle.std.specs.Prelude.{IfSome, is_some, ◌≡◌, ◌≤◌};
 
     ghost Value = { ScratchState };
 
-    ghost view = { λ s. record { members = s.members.most; jobs = s.jobs.most; spots = s.spots.most; orphans = s.orphans.most; blocks = length s.blocks; spare = is_some s.spare } };
+    ghost view = { λ s. record { members = s.members.most; jobs = s.jobs.most; spots = s.spots.most; orphans = s.orphans.most; sizes = s.geometry; kept = is_some s.blocks.kept; spare = is_some s.spare } };
 
-    ghost invariant = { λ s. (s.job_room ≤ s.jobs.most) × IfSome s.spare (λ none. none ≡ record { made = no_effects; left = 0; calls = 0; most = 0; most_calls = 0 }) };
+    ghost invariant = { λ s. (s.job_room ≤ s.jobs.most) × HasPlaces s.geometry s.blocks × IfSome s.spare (λ none. none ≡ record { made = no_effects; left = 0; calls = 0; most = 0; most_calls = 0 }) };
 }
 
 impl Scratch {
-    /// Empty lists, and one block of each host. An `Err` is want of memory.
+    /// Empty lists, and places for the blocks of a read. An `Err` is want of memory.
     pub(crate) fn new(alloc: Global, geometry: &Geometry) -> Result<Scratch, AllocError>
-        ensures blocks { IfOk result (λ s. s.blocks ≡ geometry.now.hosts) }
+        ensures sizes { IfOk result (λ s. s.sizes ≡ geometry.now) }
         ensures spare { IfOk result (λ s. s.spare ≡ false) }
     {
         Ok(Scratch {
@@ -63,20 +65,22 @@ impl Scratch {
             jobs: Notes::new(alloc),
             spots: Notes::new(alloc),
             orphans: Notes::new(alloc),
-            blocks: Blocks::new(alloc, geometry.hosts())?,
+            geometry: *geometry,
+            blocks: Blocks::new(alloc, geometry)?,
             job_room: 0,
             spare: None,
         })
     }
 
     /// Sees that there is memory for what the host keeps. An `Err` is want of memory.
-    fn reserve(&mut self, host: &Host, leases: usize) -> Result<(), AllocError>
+    fn reserve(&mut self, alloc: Global, host: &Host, leases: usize) -> Result<(), AllocError>
         requires jobs { length host.now.kept.jobs < room_end }
         requires leases { leases_in host.now.kept.members ≤ leases }
         ensures ok { OnOk result (Suffices self.new host.now) }
-        ensures blocks { self.new.blocks ≡ self.old.blocks }
+        ensures sizes { self.new.sizes ≡ self.old.sizes }
         ensures spare { self.new.spare ≡ self.old.spare }
     {
+        self.blocks.reserve(alloc, &self.geometry)?;
         let jobs = host.job_count() + 1;
         self.members.reserve(host.seats())?;
         self.jobs.reserve(jobs)?;
@@ -205,7 +209,7 @@ fn take_room(
     ensures none { IfOk result (λ none. none ≡ record { made = no_effects; left = 0; calls = 0; most = 0; most_calls = 0 }) }
     ensures ok { OnOk result (HasRoom reach host.old host.new × Suffices scratch.new host.old) }
     ensures err { OnErr result (host.new ≡ host.old) }
-    ensures blocks { scratch.new.blocks ≡ scratch.old.blocks }
+    ensures sizes { scratch.new.sizes ≡ scratch.old.sizes }
     ensures spare { scratch.new.spare ≡ scratch.old.spare }
 {
     let counts = Counts::of(host);
@@ -214,7 +218,7 @@ fn take_room(
     }
     let near = counts.within(reach);
     let none = Buffers::new(alloc, 0, 0)?;
-    scratch.reserve(host, counts.leases)?;
+    scratch.reserve(alloc, host, counts.leases)?;
     host.reserve(alloc, near.effects(), near.calls())?;
     Ok(none)
 }
@@ -234,7 +238,7 @@ pub(crate) fn room(
     ensures used { OnOk result (scratch.new.spare ≡ false) }
     ensures err { OnErr result (host.new ≡ host.old) }
     ensures rests { OnErr result (Rests scratch.new host.new) }
-    ensures blocks { scratch.new.blocks ≡ scratch.old.blocks }
+    ensures sizes { scratch.new.sizes ≡ scratch.old.sizes }
     ensures spared { scratch.old.spare ≡ true → IsOk result }
 {
     match scratch.spare.take() {
@@ -256,7 +260,7 @@ pub(crate) fn stand_by(
     ensures rests { Rests scratch.new host.new }
     ensures kept { host.new.kept ≡ host.old.kept }
     ensures err { OnErr result (host.new ≡ host.old) }
-    ensures blocks { scratch.new.blocks ≡ scratch.old.blocks }
+    ensures sizes { scratch.new.sizes ≡ scratch.old.sizes }
 {
     if scratch.spare.is_some() {
         return Ok(());

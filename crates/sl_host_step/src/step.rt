@@ -36,7 +36,7 @@ fn begin(host: &mut Host, scratch: &mut Scratch, now: u64)
     ensures at { (i : InputOf) → StepComes now i host.old.kept → AtInput now i host.old.kept host.new.kept }
     ensures left { (r : ReachOf) (first : HostView) → HasRoom r first host.old → IsFarEnough now host.old.kept r → HasLeft r first host.new }
     ensures lists { Suffices scratch.new host.new }
-    ensures blocks { scratch.new.blocks ≡ scratch.old.blocks }
+    ensures sizes { scratch.new.sizes ≡ scratch.old.sizes }
     ensures spare { scratch.new.spare ≡ scratch.old.spare }
 {
     host.seats();
@@ -53,7 +53,7 @@ fn take_wake(host: &mut Host, scratch: &mut Scratch)
     ensures at { (now : ℕ) (first : HostKept) → AtInput now WakeOf first host.old.kept → AtEnd now WakeOf first host.new.kept }
     ensures left { (first : HostView) → HasLeft All first host.old → EndsWith first host.new }
     ensures lists { host.new.seats ≤ scratch.new.members }
-    ensures blocks { scratch.new.blocks ≡ scratch.old.blocks }
+    ensures sizes { scratch.new.sizes ≡ scratch.old.sizes }
     ensures spare { scratch.new.spare ≡ scratch.old.spare }
 {
     host.seats();
@@ -69,7 +69,7 @@ fn take_exit(host: &mut Host, scratch: &mut Scratch, process: u32)
     ensures at { (now : ℕ) (first : HostKept) → AtInput now (ExitOf process) first host.old.kept → AtEnd now (ExitOf process) first host.new.kept }
     ensures left { (first : HostView) → HasLeft All first host.old → EndsWith first host.new }
     ensures lists { host.new.seats ≤ scratch.new.members }
-    ensures blocks { scratch.new.blocks ≡ scratch.old.blocks }
+    ensures sizes { scratch.new.sizes ≡ scratch.old.sizes }
     ensures spare { scratch.new.spare ≡ scratch.old.spare }
 {
     exit(host, &mut scratch.orphans, &mut scratch.jobs, process);
@@ -84,7 +84,7 @@ fn take_start(host: &mut Host, scratch: &mut Scratch, process: u32, ok: bool)
     ensures at { (now : ℕ) (first : HostKept) → AtInput now (SpawnedOf process ok) first host.old.kept → AtEnd now (SpawnedOf process ok) first host.new.kept }
     ensures left { (first : HostView) → HasLeft All first host.old → EndsWith first host.new }
     ensures lists { host.new.seats ≤ scratch.new.members }
-    ensures blocks { scratch.new.blocks ≡ scratch.old.blocks }
+    ensures sizes { scratch.new.sizes ≡ scratch.old.sizes }
     ensures spare { scratch.new.spare ≡ scratch.old.spare }
 {
     spawned(host, &mut scratch.orphans, process, ok);
@@ -109,7 +109,7 @@ fn end(host: &mut Host, scratch: &mut Scratch)
     requires lists { host.old.seats ≤ scratch.old.members }
     ensures done { (now : ℕ) (i : InputOf) (first : HostKept) → AtEnd now i first host.old.kept → AllDone now i first host.new.kept }
     ensures most { (host.new.most ≡ host.old.most) × (host.new.most_calls ≡ host.old.most_calls) × (host.new.seats ≡ host.old.seats) }
-    ensures blocks { scratch.new.blocks ≡ scratch.old.blocks }
+    ensures sizes { scratch.new.sizes ≡ scratch.old.sizes }
     ensures spare { scratch.new.spare ≡ scratch.old.spare }
 {
     host.seats();
@@ -122,7 +122,7 @@ fn grow_calm(host: &mut Host, scratch: &mut Scratch, is_loud: bool)
     requires done { (now : ℕ) × (i : InputOf) × (first : HostKept) × AllDone now i first host.old.kept }
     ensures calm { IsCalmed host.old.kept host.new.kept }
     ensures run { SameRun host.old host.new }
-    ensures blocks { scratch.new.blocks ≡ scratch.old.blocks }
+    ensures sizes { scratch.new.sizes ≡ scratch.old.sizes }
     ensures spare { scratch.new.spare ≡ scratch.old.spare }
 {
     if is_loud && host.job_count() <= scratch.job_room() {
@@ -155,7 +155,7 @@ pub(crate) fn conclude(
     requires lists { host.old.seats ≤ scratch.old.members }
     requires none { none ≡ record { made = no_effects; left = 0; calls = 0; most = 0; most_calls = 0 } }
     ensures stepped { (now : ℕ) (i : InputOf) (first : HostView) → AtEnd now i first.kept host.old.kept → EndsWith first host.old → HasStepped now i first host.new result }
-    ensures blocks { scratch.new.blocks ≡ scratch.old.blocks }
+    ensures sizes { scratch.new.sizes ≡ scratch.old.sizes }
     ensures spare { scratch.new.spare ≡ scratch.old.spare }
 {
     end(host, scratch);
@@ -187,7 +187,7 @@ pub(crate) fn start(
     ensures rests { OnErr result (Rests scratch.new host.new) }
     ensures used { OnOk result (scratch.new.spare ≡ false) }
     ensures spared { scratch.old.spare ≡ true → IsOk result }
-    ensures blocks { scratch.new.blocks ≡ scratch.old.blocks }
+    ensures sizes { scratch.new.sizes ≡ scratch.old.sizes }
 {
     let is_loud = host.quiet_until() <= now;
     let none = room(alloc, host, scratch, reach.at(is_loud))?;
@@ -209,7 +209,7 @@ pub(crate) fn step_wake(
     ensures rests { OnErr result (Rests scratch.new host.new) }
     ensures used { OnOk result (scratch.new.spare ≡ false) }
     ensures spared { scratch.old.spare ≡ true → IsOk result }
-    ensures blocks { scratch.new.blocks ≡ scratch.old.blocks }
+    ensures sizes { scratch.new.sizes ≡ scratch.old.sizes }
 {
     let begun = start(alloc, host, scratch, now, Reach::All)?;
     take_wake(host, scratch);
@@ -231,7 +231,7 @@ pub(crate) fn step_exit(
     ensures rests { OnErr result (Rests scratch.new host.new) }
     ensures used { OnOk result (scratch.new.spare ≡ false) }
     ensures spared { scratch.old.spare ≡ true → IsOk result }
-    ensures blocks { scratch.new.blocks ≡ scratch.old.blocks }
+    ensures sizes { scratch.new.sizes ≡ scratch.old.sizes }
 {
     let begun = start(alloc, host, scratch, now, Reach::All)?;
     take_exit(host, scratch, process);
@@ -254,7 +254,7 @@ pub(crate) fn step_start(
     ensures rests { OnErr result (Rests scratch.new host.new) }
     ensures used { OnOk result (scratch.new.spare ≡ false) }
     ensures spared { scratch.old.spare ≡ true → IsOk result }
-    ensures blocks { scratch.new.blocks ≡ scratch.old.blocks }
+    ensures sizes { scratch.new.sizes ≡ scratch.old.sizes }
 {
     let begun = start(alloc, host, scratch, now, Reach::All)?;
     take_start(host, scratch, process, ok);
@@ -275,7 +275,7 @@ pub(crate) fn step_number(
     ensures rests { OnErr result (Rests scratch.new host.new) }
     ensures used { OnOk result (scratch.new.spare ≡ false) }
     ensures spared { scratch.old.spare ≡ true → IsOk result }
-    ensures blocks { scratch.new.blocks ≡ scratch.old.blocks }
+    ensures sizes { scratch.new.sizes ≡ scratch.old.sizes }
 {
     let begun = start(alloc, host, scratch, now, Reach::Few)?;
     take_number(host);

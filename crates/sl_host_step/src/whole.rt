@@ -27,13 +27,13 @@ pub(crate) fn step_at(
 ) -> Result<Effects, AllocError>
     requires comes { StepComes now input host.old.kept }
     requires rests { Rests scratch.old host.old }
-    requires blocks { scratch.old.blocks ≡ host.old.kept.config.sizes.hosts }
+    requires sizes { scratch.old.sizes ≡ host.old.kept.config.sizes }
     ensures ok { IfOk result (λ fx. HasStepped now input host.old host.new fx) }
     ensures err { OnErr result (host.new ≡ host.old) }
     ensures rests { OnErr result (Rests scratch.new host.new) }
     ensures used { OnOk result (scratch.new.spare ≡ false) }
     ensures spared { scratch.old.spare ≡ true → takes_more host.old.kept input ≡ false → IsOk result }
-    ensures blocks { scratch.new.blocks ≡ scratch.old.blocks }
+    ensures sizes { scratch.new.sizes ≡ scratch.old.sizes }
 {
     match input {
         Input::Line(text) => step_line(alloc, host, scratch, now, text.as_slice()),
@@ -56,13 +56,13 @@ pub(crate) fn step_read(
 ) -> Result<Effects, AllocError>
     requires comes { StepComes now (read_of call sectors.now) host.old.kept }
     requires rests { Rests scratch.old host.old }
-    requires blocks { scratch.old.blocks ≡ host.old.kept.config.sizes.hosts }
+    requires sizes { scratch.old.sizes ≡ host.old.kept.config.sizes }
     ensures ok { IfOk result (λ fx. HasStepped now (read_of call sectors.now) host.old host.new fx) }
     ensures err { OnErr result (host.new ≡ host.old) }
     ensures rests { OnErr result (Rests scratch.new host.new) }
     ensures used { OnOk result (scratch.new.spare ≡ false) }
     ensures spared { scratch.old.spare ≡ true → sectors.now.size ≡ host.old.kept.config.sizes.sector → joins_at host.old.kept call ≡ false → IsOk result }
-    ensures blocks { scratch.new.blocks ≡ scratch.old.blocks }
+    ensures sizes { scratch.new.sizes ≡ scratch.old.sizes }
 {
     step_images(alloc, host, scratch, now, call, sectors)
 }

@@ -1,43 +1,49 @@
 -- A lease decides by what its host keeps.
-use Rattle.sl_area.specs.Layouts.{Sizes, layout_of}
-use Rattle.sl_area.specs.Places.{area_blocks, blocks_in, leader_of}
+use Rattle.sl_area.specs.Layouts.{Layout, Sizes, layout_of}
+use Rattle.sl_host.specs.Asking.{state_in}
+use Rattle.sl_host.specs.declared.telling.Told.TheVariants.{Again, Gave}
+use Rattle.sl_host.specs.declared.telling.Told.{Told}
 use Rattle.sl_host_law.specs.Questions.Answers.{place_in}
 use Rattle.sl_host_law.specs.Questions.Members.{exclusive_at, over_in}
 use Rattle.sl_host_law.specs.Steps.Leases.{answered_next, blocks_at, converting_next, kept_blocks, known_by, lease_at, releasing_next, settling_next}
 use Rattle.sl_host_state.specs.Kept.{HostKept, HostState, LeaseState, MemberState}
+use Rattle.sl_host_state.specs.Stands.{first_read, turn_kept}
 use Rattle.sl_host_state.specs.declared.kept.OpenCall.{OpenCall}
-use Rattle.sl_host_work.proofs.NextLaws.{leases_are_of_held}
-use Rattle.sl_host_work.specs.Asking.{IsNamedFor, IsShown, MayAsk}
+use Rattle.sl_host_work.proofs.NextLaws.{converts_named, fits_within, leases_are_of_held, read_named, releases_named, settles_named, written_named}
+use Rattle.sl_host_work.proofs.ReadsGive.{asked_is, blocks_given, given_told, leader_of_area, leader_told, once_told}
+use Rattle.sl_host_work.specs.Asking.{IsNamedFor, IsShown, MayAsk, MayTurn, ReadStands, asked_next}
 use Rattle.sl_host_work.specs.Leasing.{held_with}
-use Rattle.sl_host_work.specs.Next.{IsFit, IsOfHeld}
-use Rattle.sl_lease.specs.Asked.{TopStands, area_asked, leader_given, read_asked, read_given}
+use Rattle.sl_host_work.specs.Next.{IsFit, IsOfHeld, writes_own_block}
+use Rattle.sl_lease.specs.Asked.{TopStands, read_asked, read_given}
 use Rattle.sl_lease.specs.Bounds.{IsInstance}
 use Rattle.sl_lease.specs.Side.{is_named, known_with, place_of}
-use Rattle.sl_lease.specs.Steps.{IsFitNext, is_first_step, is_read_step}
+use Rattle.sl_lease.specs.Steps.{IsFitNext, is_first_step}
 use Rattle.sl_lease.specs.declared.evidence.Held.{Held}
 use Rattle.sl_lease.specs.declared.side.Side.{Side}
-use Rattle.sl_trace.specs.LeaseWork.{LeasePlace, after_bytes, after_read, after_write, area_next, convert_next, first_step, lease_next, named_area_next, part_read, release_next, settle_next}
-use Rattle.sl_trace.specs.Leases.{LeaseKnown, is_leader_of}
+use Rattle.sl_member.specs.Members.{MemberKept, owner_in, seen_in, side_in}
+use Rattle.sl_member.specs.Seen.{SeenBy, over_by}
+use Rattle.sl_sector.specs.Records.{Fits}
+use Rattle.sl_sector.specs.declared.sector.Block.{Block}
+use Rattle.sl_sector.specs.declared.sector.Leader.{Leader}
+use Rattle.sl_trace.specs.LeaseWork.{LeasePlace, after_write, asked_again, convert_next, lease_next, release_next, settle_begin, within_turn}
+use Rattle.sl_trace.specs.Leases.{LeaseKnown}
+use Rattle.sl_trace.specs.declared.lease.Aim.TheVariants.{Converts, Releases, Settles}
 use Rattle.sl_trace.specs.declared.lease.Aim.{Aim}
 use Rattle.sl_trace.specs.declared.lease.LeaseNext.TheVariants.{AnswerJob, BecomeExclusive, BecomeShared, GrantJob, Nothing, ReadFor, WriteBlock, WriteLeader}
 use Rattle.sl_trace.specs.declared.lease.LeaseNext.{LeaseNext}
-use Rattle.sl_member.specs.Members.{MemberKept, owner_in, seen_in, side_in}
-use Rattle.sl_member.specs.Seen.{SeenBy, over_by}
-use Rattle.sl_sector.specs.declared.sector.Block.{Block}
-use Rattle.sl_sector.specs.declared.sector.Leader.{Leader}
 use Rattle.sl_trace.specs.declared.effects.Grant.{Grant}
-use Rattle.sl_trace.specs.declared.effects.LeaseStep.TheVariants.{ClearMode, FreeLeader, Phase1Read, Phase1Write, Phase2Read, Phase2Write, ReadAgain, ReadArea, ReadBeforeBlock, ReadBeforeFree, SetMode, TakeLeader}
+use Rattle.sl_trace.specs.declared.effects.LeaseRead.{LeaseRead}
 use Rattle.sl_trace.specs.declared.effects.LeaseStep.{LeaseStep}
 use Rattle.sl_trace.specs.declared.effects.Mode.{Mode}
 use Rattle.sl_trace.specs.declared.effects.Purpose.TheVariants.{Survey}
 use Rattle.sl_trace.specs.declared.effects.Spot.{Spot}
 use Rattle.sl_trace.specs.declared.input.Answer.TheVariants.{Read, Written}
-use Rattle.sl_trace.specs.declared.reply.Reply.TheVariants.{TornLeader, WrongArea}
 use Rattle.sl_trace.specs.declared.input.Answer.{Answer}
-use Rattle.sl_host.specs.Asking.{state_in}
-use Rattle.sl_trace.proofs.PlainWork.{bytes_plain}
-use Rattle.std.proofs.Common.{ap, refl, subst, sym, ◌∙◌}
-use Rattle.std.specs.Prelude.{Bool, IfSome, IsTrue, List, None, Option, Some, [], false, option_map, true, ℕ, ◌||◌, ◌≡◌}
+use Rattle.sl_words.proofs.CaseLaws.{false_is_true}
+use Rattle.sl_words.specs.Bounds.{is_number}
+use Rattle.std.proofs.Common.{ap, arith, refl, subst, sym, ◌∙◌}
+use Rattle.std.proofs.lemmas.Bool.Decides.{nat_tests}
+use Rattle.std.specs.Prelude.{Bool, IfSome, IsTrue, List, None, Option, Some, [], is_some, option_map, true, ℕ, ◌+◌, ◌||◌, ◌≡◌}
 
 -- What may be done next is fit, where a holding that becomes shared is of an instance.
 fit_by : (held : Option ℕ) (next : LeaseNext) → IsFitNext next → IsOfHeld held next → IfSome held IsInstance → IsFit next
@@ -60,53 +66,6 @@ fit_next h m at read next target may is fit of =
     let held : Option ℕ = option_map (λ g. g.lver) (exclusive_at h m at) in
     let P : LeaseNext → Type 0 = λ n. IsOfHeld held n in
     fit_by held next fit (subst P (sym is) of) (mapped (exclusive_at h m at) may.held)
-
--- After a read of the area that gives this leader, if it spells one.
-abbrev area_by : LeasePlace → LeaseKnown → Aim → List ℕ → Option Leader → List (Option Block) → LeaseNext
-area_by p k aim name d read =
-    elim d [
-      | None ↦ AnswerJob TornLeader
-      | Some l ↦ elim (is_leader_of p.layout p.lockspace name l) [
-        | false ↦ AnswerJob (WrongArea l.lockspace l.resource l.num_hosts)
-        | true ↦ named_area_next p k aim l read
-      ]
-    ]
-
-area_is : (p : LeasePlace) (k : LeaseKnown) (aim : Aim) (name : List ℕ) (read : List (Option Block)) (d : Option Leader) → area_asked p k aim name d read ≡ area_by p k aim name d read
-area_is p k aim name read None = refl
-area_is p k aim name read (Some d) = refl
-
--- What is asked of leader and blocks is asked of the bytes that show them.
-asked_read : (h : HostState) (m : MemberState) (at : Spot) (c : OpenCall) (aim : Aim) (step : LeaseStep) (bytes : List ℕ) (leader : Option Leader) (read : List (Option Block))
-    → IsShown h.config.layout step bytes leader read
-    → read_asked (place_in h m) (known_by h m at (lease_at m at) read) aim leader read step ≡ answered_next h m at c aim step (Read bytes)
-unfolding lease_next area_next
-asked_read h m at c aim step bytes leader read s =
-    (λ i. read_asked (place_in h m) (known_by h m at (lease_at m at) (s.shows i)) aim (s.leads i) (s.shows i) step) ∙ by step s.reads
-  where
-    -- It is not made once more.
-    at_once : (w : LeaseStep) (bs : List (Option Block))
-        → after_read (place_in h m) (known_by h m at (lease_at m at) bs) aim (leader_of h.config.layout bytes) (blocks_in h.config.layout (part_read h.config.layout bytes (first_step w))) (first_step w)
-        ≡ after_bytes (place_in h m) (known_by h m at (lease_at m at) bs) aim bytes w
-    at_once w bs = sym (bytes_plain (place_in h m) (known_by h m at (lease_at m at) bs) aim bytes w s.plain)
-
-    by : (w : LeaseStep) → is_read_step w ≡ true
-        → read_asked (place_in h m) (known_by h m at (lease_at m at) (read_given h.config.layout w bytes)) aim (leader_given h.config.layout w bytes) (read_given h.config.layout w bytes) w
-        ≡ answered_next h m at c aim w (Read bytes)
-    by (ReadArea name) is =
-        area_is (place_in h m) (known_by h m at (lease_at m at) (area_blocks h.config.layout bytes)) aim name (area_blocks h.config.layout bytes) (leader_of h.config.layout bytes)
-        ∙ at_once (ReadArea name) (area_blocks h.config.layout bytes)
-    by ReadBeforeFree is = at_once ReadBeforeFree (area_blocks h.config.layout bytes)
-    by ReadBeforeBlock is = absurd cc
-    by (ReadAgain again) is = absurd cc
-    by Phase1Write is = absurd cc
-    by Phase1Read is = at_once Phase1Read (blocks_in h.config.layout bytes)
-    by Phase2Write is = absurd cc
-    by Phase2Read is = at_once Phase2Read (blocks_in h.config.layout bytes)
-    by TakeLeader is = absurd cc
-    by SetMode is = absurd cc
-    by FreeLeader is = absurd cc
-    by ClearMode is = absurd cc
 
 -- ---- by what is kept
 
@@ -131,44 +90,105 @@ module _ (k : HostKept) (m : MemberKept) (at : Spot) (z : Side) (l : LeaseState)
   named_at f is = let N : LeaseState → Type 0 = λ v. IsTrue (f v) in subst N (sym s.lease) is
 
   pub settles : MayAsk (state_in k) m.state at (kept_blocks (lease_at m.state at))
-      → ((over : ℕ → ℕ → Bool) (read : List (Option Block)) → TopStands l read → next ≡ settle_next (place_of z) (known_with z l held over read)) → next ≡ settling_next (state_in k) m.state at
+      → ((over : ℕ → ℕ → Bool) (read : List (Option Block)) → TopStands l read
+      → next ≡ within_turn (place_of z) (known_with z l held over read) Settles (settle_begin (place_of z) (known_with z l held over read)))
+      → next ≡ settling_next (state_in k) m.state at
   settles may exact =
       let read : List (Option Block) = kept_blocks (lease_at m.state at) in
-      exact (over_in m.state) read (tops_at read may) ∙ (λ i. settle_next (place_of (sides i)) (known_with (sides i) (s.lease i) (s.under i) (over_in m.state) read))
+      let known : Side → LeaseState → Held → LeaseKnown = λ y v u. known_with y v u (over_in m.state) read in
+      exact (over_in m.state) read (tops_at read may)
+      ∙ (λ i. within_turn (place_of (sides i)) (known (sides i) (s.lease i) (s.under i)) Settles (settle_begin (place_of (sides i)) (known (sides i) (s.lease i) (s.under i))))
 
   pub releases : (g : Grant) → IsTrue (is_named (lease_at m.state at))
-      → (IsTrue (is_named l) → (h : Held) (over : ℕ → ℕ → Bool) (read : List (Option Block)) → next ≡ release_next (place_of z) (known_with z l h over read) g.mode g.lver)
+      → (IsTrue (is_named l) → (h : Held) (over : ℕ → ℕ → Bool) (read : List (Option Block))
+      → next ≡ within_turn (place_of z) (known_with z l h over read) Releases (release_next (place_of z) (known_with z l h over read) g.mode g.lver))
       → next ≡ releasing_next (state_in k) m.state at g
   releases g named exact =
       let read : List (Option Block) = kept_blocks (lease_at m.state at) in
+      let known : Side → LeaseState → Held → LeaseKnown = λ y v u. known_with y v u (over_in m.state) read in
       exact (named_at is_named named) held (over_in m.state) read
-      ∙ (λ i. release_next (place_of (sides i)) (known_with (sides i) (s.lease i) (s.under i) (over_in m.state) read) g.mode g.lver)
+      ∙ (λ i. within_turn (place_of (sides i)) (known (sides i) (s.lease i) (s.under i)) Releases (release_next (place_of (sides i)) (known (sides i) (s.lease i) (s.under i)) g.mode g.lver))
 
-  pub converts : (mode : Mode) (name : List ℕ) → ((h : Held) (over : ℕ → ℕ → Bool) (read : List (Option Block)) → next ≡ convert_next (known_with z l h over read) mode name)
+  pub converts : (mode : Mode) (name : List ℕ)
+      → ((h : Held) (over : ℕ → ℕ → Bool) (read : List (Option Block))
+      → next ≡ within_turn (place_of z) (known_with z l h over read) (Converts mode) (convert_next (known_with z l h over read) mode name))
       → next ≡ converting_next (state_in k) m.state at mode name
   converts mode name exact =
       let read : List (Option Block) = kept_blocks (lease_at m.state at) in
-      exact held (over_in m.state) read ∙ (λ i. convert_next (known_with (sides i) (s.lease i) (s.under i) (over_in m.state) read) mode name)
+      let known : Side → LeaseState → Held → LeaseKnown = λ y v u. known_with y v u (over_in m.state) read in
+      exact held (over_in m.state) read
+      ∙ (λ i. within_turn (place_of (sides i)) (known (sides i) (s.lease i) (s.under i)) (Converts mode) (convert_next (known (sides i) (s.lease i) (s.under i)) mode name))
 
   pub writes : (c : OpenCall) (aim : Aim) (step : LeaseStep) → MayAsk (state_in k) m.state at (kept_blocks (lease_at m.state at)) → IsNamedFor m.state at step
-      → (IsTrue (is_first_step step || is_named l) → (over : ℕ → ℕ → Bool) (read : List (Option Block)) → TopStands l read → next ≡ after_write (place_of z) (known_with z l held over read) aim c.lver step)
+      → (IsTrue (is_first_step step || is_named l) → (over : ℕ → ℕ → Bool) (read : List (Option Block)) → TopStands l read
+      → next ≡ within_turn (place_of z) (known_with z l held over read) aim (after_write (place_of z) (known_with z l held over read) aim c.lver step))
       → next ≡ answered_next (state_in k) m.state at c aim step Written
   unfolding lease_next
   writes c aim step may named exact =
       let read : List (Option Block) = kept_blocks (lease_at m.state at) in
+      let known : Side → LeaseState → Held → LeaseKnown = λ y v u. known_with y v u (over_in m.state) read in
       exact (named_at (λ v. is_first_step step || is_named v) named) (over_in m.state) read (tops_at read may)
-      ∙ (λ i. after_write (place_of (sides i)) (known_with (sides i) (s.lease i) (s.under i) (over_in m.state) read) aim c.lver step)
+      ∙ (λ i. within_turn (place_of (sides i)) (known (sides i) (s.lease i) (s.under i)) aim (after_write (place_of (sides i)) (known (sides i) (s.lease i) (s.under i)) aim c.lver step))
 
-  pub reads : (c : OpenCall) (aim : Aim) (step : LeaseStep) (bytes : List ℕ) (leader : Option Leader) (read : List (Option Block)) → MayAsk (state_in k) m.state at read → IsNamedFor m.state at step
-      → IsShown (layout_of k.config.sizes) step bytes leader read
-      → (IsTrue (is_first_step step || is_named l) → TopStands l read → next ≡ read_asked (place_of z) (known_with z l held (over_by (seen_in m.state)) read) aim leader read step)
-      → next ≡ answered_next (state_in k) m.state at c aim step (Read bytes)
-  reads c aim step bytes leader read may named shown exact =
+  -- After a read that gave these, which the session has seen so.
+  pub reads : (seen : SeenBy) → seen ≡ seen_in m.state → (aim : Aim) (step : LeaseStep) (leader : Option Leader) (read : List (Option Block)) → MayAsk (state_in k) m.state at read
+      → IsNamedFor m.state at step
+      → (IsTrue (is_first_step step || is_named l) → TopStands l read
+      → next ≡ within_turn (place_of z) (known_with z l held (over_by seen) read) aim (read_asked (place_of z) (known_with z l held (over_by seen) read) aim leader read step))
+      → next ≡ asked_next (state_in k) m.state at aim step leader read
+  reads seen sees aim step leader read may named exact =
+      let known : Side → LeaseState → Held → SeenBy → LeaseKnown = λ y v u w. known_with y v u (over_by w) read in
       exact (named_at (λ v. is_first_step step || is_named v) named) (tops_at read may)
-      ∙ (λ i. read_asked (place_of (sides i)) (known_with (sides i) (s.lease i) (s.under i) (over_by (seen_in m.state)) read) aim leader read step)
-      ∙ asked_read (state_in k) m.state at c aim step bytes leader read shown
+      ∙ (λ i. within_turn (place_of (sides i)) (known (sides i) (s.lease i) (s.under i) (sees i)) aim
+      (read_asked (place_of (sides i)) (known (sides i) (s.lease i) (s.under i) (sees i)) aim leader read step))
 
 -- ---- what may be done
+
+-- A number that is within its limit fits a record.
+fits_number : (n : ℕ) → is_number n ≡ true → Fits n
+fits_number n is = grind (arith, nat_tests)
+
+module _ (z : Sizes) (h : HostState) (m : MemberState) (at : Spot) (read : List (Option Block)) (next : LeaseNext) (may : MayAsk h m at read) where
+  -- What writes the own block does so with a turn, of a resource whose name is verified.
+  turned_by : (p : LeasePlace) (k : LeaseKnown) (aim : Aim) (decided : LeaseNext) → p.layout.paired ≡ z.paired → k.turn ≡ turn_kept (lease_at m at).pair → next ≡ within_turn p k aim decided
+      → (writes_own_block (within_turn p k aim decided) ≡ true → IsTrue (is_named (lease_at m at))) → writes_own_block next ≡ true → MayTurn z m at
+  turned_by p k aim decided pairs turn is named writes paired =
+      let so : writes_own_block (within_turn p k aim decided) ≡ true = sym (ap writes_own_block is) ∙ writes in
+      (subst (λ n. Fits (n + 1)) turn (fits_number (k.turn + 1) (fits_within p k aim decided so (pairs ∙ paired))), named so)
+
+  abbrev known : List (Option Block) → LeaseKnown
+  known blocks = known_by h m at (lease_at m at) blocks
+
+  abbrev Named : Type 0
+  Named = IsTrue (is_named (lease_at m at))
+
+  pub settles_turned : h.config.layout.paired ≡ z.paired → next ≡ settling_next h m at → writes_own_block next ≡ true → MayTurn z m at
+  settles_turned pairs is =
+      turned_by (place_in h m) (known (kept_blocks (lease_at m at))) Settles (settle_begin (place_in h m) (known (kept_blocks (lease_at m at)))) pairs refl is
+      (settles_named (place_in h m) (known (kept_blocks (lease_at m at))) Named may.owned.named may.owned.opened)
+
+  pub releases_turned : (g : Grant) → h.config.layout.paired ≡ z.paired → next ≡ releasing_next h m at g → writes_own_block next ≡ true → MayTurn z m at
+  releases_turned g pairs is =
+      turned_by (place_in h m) (known (kept_blocks (lease_at m at))) Releases (release_next (place_in h m) (known (kept_blocks (lease_at m at))) g.mode g.lver) pairs refl is
+      (releases_named (place_in h m) (known (kept_blocks (lease_at m at))) Named may.owned.named may.owned.opened g.mode g.lver)
+
+  pub converts_turned : (mode : Mode) (name : List ℕ) → h.config.layout.paired ≡ z.paired → next ≡ converting_next h m at mode name → writes_own_block next ≡ true → MayTurn z m at
+  converts_turned mode name pairs is =
+      turned_by (place_in h m) (known (kept_blocks (lease_at m at))) (Converts mode) (convert_next (known (kept_blocks (lease_at m at))) mode name) pairs refl is
+      (converts_named (place_in h m) (known (kept_blocks (lease_at m at))) Named may.owned.named may.owned.opened mode name)
+
+  pub writes_turned : (c : OpenCall) (aim : Aim) (step : LeaseStep) → h.config.layout.paired ≡ z.paired → next ≡ answered_next h m at c aim step Written → writes_own_block next ≡ true → MayTurn z m at
+  writes_turned c aim step pairs is =
+      turned_by (place_in h m) (known (kept_blocks (lease_at m at))) aim (lease_next (place_in h m) (known (kept_blocks (lease_at m at))) aim c.number c.lver step Written) pairs refl is
+      (written_named (place_in h m) (known (kept_blocks (lease_at m at))) Named may.owned.named may.owned.opened aim c.number c.lver step)
+
+  pub reads_turned : (c : OpenCall) (aim : Aim) (step : LeaseStep) (bytes : List ℕ) → h.config.layout.paired ≡ z.paired → ReadStands h.config.layout m at step bytes
+      → next ≡ answered_next h m at c aim step (Read bytes) → writes_own_block next ≡ true → MayTurn z m at
+  reads_turned c aim step bytes pairs stands is =
+      let k : LeaseKnown = known (blocks_at h.config.layout (lease_at m at) step (Read bytes)) in
+      turned_by (place_in h m) k aim (lease_next (place_in h m) k aim c.number c.lver step (Read bytes)) pairs refl is
+      (read_named (place_in h m) k Named may.owned.named may.owned.opened aim c.number c.lver step bytes
+      (λ once name l at gives its. stands.verified name l at once (leader_of_area h.config.layout k bytes step name l at gives) its))
 
 module _ (h : HostState) (m : MemberState) (at : Spot) (read : List (Option Block)) (next : LeaseNext) (may : MayAsk h m at read) (fit : IsFitNext next) where
   pub settles_fit : next ≡ settling_next h m at → IsFit next
@@ -180,30 +200,43 @@ module _ (h : HostState) (m : MemberState) (at : Spot) (read : List (Option Bloc
 
   pub converts_fit : (mode : Mode) (name : List ℕ) → next ≡ converting_next h m at mode name → IsFit next
   converts_fit mode name is =
-      fit_next h m at read next (converting_next h m at mode name) may is fit (leases_are_of_held.converts (known_by h m at (lease_at m at) (kept_blocks (lease_at m at))) mode name)
+      fit_next h m at read next (converting_next h m at mode name) may is fit (leases_are_of_held.converts (place_in h m) (known_by h m at (lease_at m at) (kept_blocks (lease_at m at))) mode name)
 
   pub answers_fit : (c : OpenCall) (aim : Aim) (step : LeaseStep) (a : Answer) → next ≡ answered_next h m at c aim step a → IsFit next
   answers_fit c aim step a is =
       fit_next h m at read next (answered_next h m at c aim step a) may is fit
       (leases_are_of_held.answered (place_in h m) (known_by h m at (lease_at m at) (blocks_at h.config.layout (lease_at m at) step a)) aim c.number c.lver step a)
 
+-- ---- after a read
+
 -- Any call: what comes after a read asks nothing of it.
-some_call : OpenCall
+pub some_call : OpenCall
 some_call = record { number = 0; session = 0; purpose = Survey; path = []; offset = 0; sectors = None; lver = 0; value = None; reading = 0 }
 
--- After a read, which the session has seen so.
-module _ (k : HostKept) (m : MemberKept) (at : Spot) (z : Side) (l : LeaseState) (held : Held) (next : LeaseNext) (s : IsKeptSo k m at z l held) (seen : SeenBy) (sees : seen ≡ seen_in m.state) where
-  pub reads_seen : (c : OpenCall) (aim : Aim) (step : LeaseStep) (bytes : List ℕ) (leader : Option Leader) (read : List (Option Block)) → MayAsk (state_in k) m.state at read → IsNamedFor m.state at step
-      → IsShown (layout_of k.config.sizes) step bytes leader read
-      → (IsTrue (is_first_step step || is_named l) → TopStands l read → next ≡ read_asked (place_of z) (known_with z l held (over_by seen) read) aim leader read step)
-      → next ≡ answered_next (state_in k) m.state at c aim step (Read bytes)
-  reads_seen c aim step bytes leader read may named shown exact =
-      reads k m at z l held next s c aim step bytes leader read may named shown
-      (λ n t. exact n t ∙ ap (λ v. read_asked (place_of z) (known_with z l held (over_by v) read) aim leader read step) sees)
+-- What the bytes make due that gave leader and blocks.
+pub asked_read : (k : HostKept) (m : MemberState) (at : Spot) (c : OpenCall) (aim : Aim) (step : LeaseStep) (bytes : List ℕ) (told : Told) (blocks : List (Option Block)) (leader : Option Leader)
+    → IsShown k.config.sizes m at step bytes told blocks → told ≡ Gave leader → asked_next (state_in k) m at aim step leader blocks ≡ answered_next (state_in k) m at c aim step (Read bytes)
+asked_read k m at c aim step bytes told blocks leader s so =
+    let g : Layout = layout_of k.config.sizes in
+    let p : LeasePlace = place_in (state_in k) m in
+    let known : List (Option Block) → LeaseKnown = known_by (state_in k) m at (lease_at m at) in
+    let given : List (Option Block) = read_given g (first_read (lease_at m at).pair) step bytes in
+    (λ i. asked_next (state_in k) m at aim step (leader_told k.config.sizes m at step bytes told blocks s leader so i) (given_told k.config.sizes m at step bytes told blocks s leader so i))
+    ∙ ap (λ n. within_turn p (known given) aim n) (asked_is p (known given) aim bytes c.number c.lver step (once_told k.config.sizes m at step bytes told blocks s leader so))
+    ∙ ap (λ bs. within_turn p (known bs) aim (lease_next p (known bs) aim c.number c.lver step (Read bytes)))
+    (blocks_given g (lease_at m at) step bytes s.known.reads (once_told k.config.sizes m at step bytes told blocks s leader so) s.known.again s.known.kept)
 
-  pub reads_fit : (aim : Aim) (step : LeaseStep) (bytes : List ℕ) (leader : Option Leader) (read : List (Option Block)) → MayAsk (state_in k) m.state at read → IsNamedFor m.state at step
-      → IsShown (layout_of k.config.sizes) step bytes leader read
-      → (IsTrue (is_first_step step || is_named l) → TopStands l read → next ≡ read_asked (place_of z) (known_with z l held (over_by seen) read) aim leader read step)
-      → IsFitNext next → IsFit next
-  reads_fit aim step bytes leader read may named shown exact fit =
-      answers_fit (state_in k) m.state at read next may fit some_call aim step (Read bytes) (reads_seen some_call aim step bytes leader read may named shown exact)
+-- Where it is to be made once more: what comes after a first read.
+pub asked_again_so : (k : HostKept) (m : MemberState) (at : Spot) (c : OpenCall) (aim : Aim) (step : LeaseStep) (bytes : List ℕ) (told : Told) (blocks : List (Option Block)) (next : LeaseNext)
+    → IsShown k.config.sizes m at step bytes told blocks → told ≡ Again
+    → ((p : LeasePlace) (n : LeaseKnown) (a : Aim) (call lver : ℕ) (bs : List ℕ) (read : LeaseRead) → asked_again p.layout bs step ≡ Some read
+    → next ≡ within_turn p n a (lease_next p n a call lver step (Read bs))) → next ≡ answered_next (state_in k) m at c aim step (Read bytes)
+asked_again_so k m at c aim step bytes told blocks next s so decides =
+    by (asked_again (layout_of k.config.sizes) bytes step) refl (s.told.again so)
+  where
+    known : LeaseKnown
+    known = known_by (state_in k) m at (lease_at m at) (blocks_at (layout_of k.config.sizes) (lease_at m at) step (Read bytes))
+
+    by : (o : Option LeaseRead) → asked_again (layout_of k.config.sizes) bytes step ≡ o → is_some o ≡ true → next ≡ answered_next (state_in k) m at c aim step (Read bytes)
+    by None is none = absurd (false_is_true none)
+    by (Some read) is some = decides (place_in (state_in k) m) known aim c.number c.lver bytes read is

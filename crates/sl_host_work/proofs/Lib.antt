@@ -1,6 +1,9 @@
 pub mod HeldStands
 pub mod LeaseNextStands
 pub mod NextLaws
+pub mod ReadsGive
+pub mod TurnsStand
+pub mod BlocksStand
 pub mod PlainLaws
 pub mod Sequences
 pub mod WakingStands

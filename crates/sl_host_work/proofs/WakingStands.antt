@@ -18,6 +18,7 @@ use Rattle.sl_host_state.specs.Kept.{HostKept, HostState, MemberState}
 use Rattle.sl_member.specs.Asked.{bits_within}
 use Rattle.sl_member.specs.Members.{MemberKept, RunOf, delta_lease, own_of}
 use Rattle.sl_host.specs.Asking.{state_in}
+use Rattle.sl_host_work.proofs.TurnsStand.{by_number}
 use Rattle.sl_host_work.specs.Waking.{joining_of, joining_on, renewal_of, renewal_written, renewing_by, settling_of, written_in}
 use Rattle.sl_sector.specs.declared.sector.DeltaRec.{DeltaRec}
 use Rattle.sl_sector.specs.declared.sector.DeltaState.TheVariants.{Live}
@@ -144,8 +145,8 @@ pub free_is : (k : HostKept) (at : Spot) (o : Option Reply) → o ≡ pending_re
 free_is k at o is = ap (λ r. not (is_some r)) is ∙ ap not (any_least (is_open_on (layout_of k.config.sizes) at) k.unanswered)
 
 pub settles_on : (h : HostState) (at : Spot) (n : ℕ) (s : Session) (next : LeaseNext) → (let o : Option (Session × LeaseNext) = Some (s, next) in o) ≡ settling_of h at (member_numbered h n)
-    → (m : MemberState) × (m.who ≡ s) × (carrying_lease m at Settling next h ≡ at_member n (settling_here at) h)
-settles_on h at n s next is = by (member_numbered h n) is
+    → (m : MemberState) × (member_numbered h s.number ≡ Some m) × (m.who ≡ s) × (carrying_lease m at Settling next h ≡ at_member n (settling_here at) h)
+settles_on h at n s next is = by (member_numbered h n) refl is
   where
     free : (m : MemberState) (b : Bool) → (let o : Option (Session × LeaseNext) = Some (s, next) in o) ≡ cond b (Some (m.who, settling_next h m at)) None
         → (m.who ≡ s) × (carrying_lease m at Settling next h ≡ cond b (carrying_lease m at Settling (settling_next h m at) h) h)
@@ -156,10 +157,10 @@ settles_on h at n s next is = by (member_numbered h n) is
         (one, ap (λ v. carrying_lease m at Settling v h) other)
     free m false is = absurd cc
 
-    by : (o : Option MemberState) → (let o : Option (Session × LeaseNext) = Some (s, next) in o) ≡ settling_of h at o
-        → (m : MemberState) × (m.who ≡ s) × (carrying_lease m at Settling next h ≡ elim o as (λ z. HostState) [ None ↦ h | Some k ↦ settling_here at k h ])
-    by None is = absurd cc
-    by (Some m) is = (m, (free m (is_free_at h at) is).0, (free m (is_free_at h at) is).1)
+    by : (o : Option MemberState) → member_numbered h n ≡ o → (let o : Option (Session × LeaseNext) = Some (s, next) in o) ≡ settling_of h at o
+        → (m : MemberState) × (member_numbered h s.number ≡ Some m) × (m.who ≡ s) × (carrying_lease m at Settling next h ≡ elim o as (λ z. HostState) [ None ↦ h | Some k ↦ settling_here at k h ])
+    by None found is = absurd cc
+    by (Some m) found is = let f = free m (is_free_at h at) is in (m, by_number h.members n m s found f.0, f.0, f.1)
 
 -- Where nothing is found, nothing is settled.
 pub settles_none : (h : HostState) (at : Spot) (n : ℕ) → None ≡ settling_of h at (member_numbered h n) → h ≡ at_member n (settling_here at) h

@@ -1,7 +1,11 @@
 -- Work on a lease, by its session in place of its member.
 use Rattle.sl_host_law.specs.Answers.Leasing.{converting, for_command_of, for_work_of}
 use Rattle.sl_host_state.specs.Kept.{HostState}
+use Rattle.sl_lease.specs.Bounds.{IsBegun}
 use Rattle.sl_lease.specs.declared.evidence.Held.{Held}
+use Rattle.sl_sector.specs.Records.{Fits}
+use Rattle.sl_sector.specs.declared.sector.Rec.TheVariants.{BlockIs, LeaderIs, PairIs, PairLeaderIs}
+use Rattle.sl_sector.specs.declared.sector.Rec.{Rec}
 use Rattle.sl_trace.specs.Jobs.{process_named}
 use Rattle.sl_trace.specs.declared.session.Session.{Session}
 use Rattle.sl_trace.specs.Traces.{is_shared, same_place}
@@ -12,7 +16,16 @@ use Rattle.sl_trace.specs.declared.effects.Spot.{Spot}
 use Rattle.sl_trace.specs.declared.effects.Work.{Work}
 use Rattle.sl_host.specs.Asking.{held_under}
 use Rattle.sl_words.specs.Words.{same_truth}
-use Rattle.std.specs.Prelude.{List, None, Option, Some, filter, find, is_some, not, option_map, ℕ, ◌&&◌, ◌==◌}
+use Rattle.std.specs.Prelude.{List, None, Option, Some, filter, find, is_some, not, option_map, ℕ, ◌&&◌, ◌==◌, ◌≤◌}
+
+-- A record that work on a lease writes: a block that a ballot has begun, of pairs with a turn that fits a record, or a leader whose instance
+-- does.
+abbrev pub IsLeaseRecord : Rec → Type 0
+IsLeaseRecord (BlockIs b) = IsBegun b
+IsLeaseRecord (LeaderIs d) = Fits d.lver
+IsLeaseRecord (PairIs p) = IsBegun p.block × (1 ≤ p.turn) × Fits p.turn
+IsLeaseRecord (PairLeaderIs d) = Fits d.lver
+IsLeaseRecord r = ⊥
 
 -- The holdings of a session on an area.
 abbrev pub held_there : Session → Spot → List Grant → List Grant

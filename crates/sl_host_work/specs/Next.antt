@@ -2,8 +2,9 @@
 use Rattle.sl_delta.specs.Decides.{after_join, on_wake}
 use Rattle.sl_delta.specs.Own.{OwnState}
 use Rattle.sl_lease.specs.Bounds.{IsBegun}
-use Rattle.sl_trace.specs.LeaseWork.{LeasePlace, convert_next, lease_next, release_next, settle_next}
+use Rattle.sl_trace.specs.LeaseWork.{LeasePlace, convert_next, lease_next, release_next, settle_begin, within_turn}
 use Rattle.sl_trace.specs.Leases.{LeaseKnown}
+use Rattle.sl_trace.specs.declared.lease.Aim.TheVariants.{Converts, Releases, Settles}
 use Rattle.sl_trace.specs.declared.lease.Aim.{Aim}
 use Rattle.sl_trace.specs.declared.lease.LeaseNext.TheVariants.{AnswerJob, BecomeExclusive, BecomeShared, WriteBlock, WriteLeader}
 use Rattle.sl_trace.specs.declared.lease.LeaseNext.{LeaseNext}
@@ -16,7 +17,7 @@ use Rattle.sl_trace.specs.declared.effects.JoinStep.{JoinStep}
 use Rattle.sl_trace.specs.declared.effects.LeaseStep.{LeaseStep}
 use Rattle.sl_trace.specs.declared.effects.Mode.{Mode}
 use Rattle.sl_trace.specs.declared.input.Answer.{Answer}
-use Rattle.std.specs.Prelude.{Bool, List, Option, Some, false, ℕ, ◌≡◌}
+use Rattle.std.specs.Prelude.{Bool, List, Option, Some, false, true, ℕ, ◌≡◌}
 
 -- What a lease writes next can be kept: a block that a ballot has begun, a leader whose instance fits a record. No lease answers a joining.
 abbrev pub IsFit : LeaseNext → Type 0
@@ -35,10 +36,16 @@ IsOfHeld held next = Unit {0}
 
 -- So it is, whatever a lease does next.
 pub record LeasesAreOfHeld : Type 0 where
-  pub answered : (p : LeasePlace) (k : LeaseKnown) (aim : Aim) (call n : ℕ) (step : LeaseStep) (a : Answer) → IsOfHeld k.exclusive (lease_next p k aim call n step a)
-  pub settles : (p : LeasePlace) (k : LeaseKnown) → IsOfHeld k.exclusive (settle_next p k)
-  pub releases : (p : LeasePlace) (k : LeaseKnown) (mode : Mode) (lver : ℕ) → IsOfHeld k.exclusive (release_next p k mode lver)
-  pub converts : (k : LeaseKnown) (mode : Mode) (name : List ℕ) → IsOfHeld k.exclusive (convert_next k mode name)
+  pub answered : (p : LeasePlace) (k : LeaseKnown) (aim : Aim) (call n : ℕ) (step : LeaseStep) (a : Answer) → IsOfHeld k.exclusive (within_turn p k aim (lease_next p k aim call n step a))
+  pub settles : (p : LeasePlace) (k : LeaseKnown) → IsOfHeld k.exclusive (within_turn p k Settles (settle_begin p k))
+  pub releases : (p : LeasePlace) (k : LeaseKnown) (mode : Mode) (lver : ℕ) → IsOfHeld k.exclusive (within_turn p k Releases (release_next p k mode lver))
+  pub converts : (p : LeasePlace) (k : LeaseKnown) (mode : Mode) (name : List ℕ) → IsOfHeld k.exclusive (within_turn p k (Converts mode) (convert_next k mode name))
+
+-- Whether what a lease does next writes the own block.
+abbrev pub writes_own_block : LeaseNext → Bool
+writes_own_block (WriteBlock step b) = true
+writes_own_block (BecomeExclusive lver b) = true
+writes_own_block next = false
 
 -- A joining is refused, and a leaving ends, by no reply that a joining is done.
 abbrev pub IsPlain : DeltaNext → Type 0

@@ -2,15 +2,18 @@
 //!
 //! The lease decides by what it keeps, what is held under it, and whom its session counts as over.
 
-ghost use Rattle.sl_area.specs.Layouts.{layout_of};
 ghost use Rattle.sl_host_law.specs.Steps.Leases.{answered_next, converting_next, kept_blocks, lease_at, releasing_next, settling_next};
 ghost use Rattle.sl_host_state.specs.Kept.{HostState, MemberState};
 ghost use Rattle.sl_host_state.specs.declared.kept.OpenCall.{OpenCall};
-ghost use Rattle.sl_host_work.specs.Asking.{IsNamedFor, IsShown, MayAsk};
+ghost use Rattle.sl_host_work.specs.Asking.{IsNamedFor, IsShown, MayAsk, MayTurn, asked_next, blocks_told};
+ghost use Rattle.sl_host.specs.declared.telling.Told.TheVariants.{Gave};
+ghost use Rattle.sl_sector.specs.declared.sector.Leader.{Leader as LeaderOf};
 ghost use Rattle.sl_host_work.specs.Leasing.{held_with};
-ghost use Rattle.sl_host_work.specs.Next.{IsFit};
+ghost use Rattle.sl_host_work.specs.Next.{IsFit, writes_own_block};
 ghost use Rattle.sl_lease.specs.Bounds.{IsInstance};
 ghost use Rattle.sl_lease.specs.Side.{is_named};
+ghost use Rattle.sl_lease.specs.Steps.{IsFitNext};
+ghost use Rattle.sl_host_state.specs.Makes.{new_lease};
 ghost use Rattle.sl_sector.specs.Records.{IsBlock, IsLeader};
 ghost use Rattle.sl_tables.specs.Holdings.{fits};
 ghost use Rattle.sl_tables.specs.declared.holdings.Holder.TheVariants.{Anyone};
@@ -18,11 +21,11 @@ ghost use Rattle.sl_trace.specs.declared.effects.LeaseStep.{LeaseStep};
 ghost use Rattle.sl_trace.specs.declared.effects.Spot.{Spot};
 ghost use Rattle.sl_trace.specs.declared.input.Answer.TheVariants.{Failed, Read, Written};
 ghost use Rattle.sl_host.specs.Asking.{sought_on, state_in};
-ghost use Rattle.std.specs.Prelude.{All, IfSome, IsTrue, List, Some, find, length, option_map, ℕ, ◌<◌, ◌^◌, ◌≡◌};
+ghost use Rattle.std.specs.Prelude.{All, IfSome, IsTrue, List, Option, Some, false, find, length, option_map, true, ℕ, ◌<◌, ◌^◌, ◌≡◌};
 
-use sl_host::Host;
+use sl_host::{Host, Told};
 use sl_host_state::OpenCall;
-use sl_lease::{Held, Lease, after_failure};
+use sl_lease::{Held, Lease, after_failure, after_first};
 use sl_member::Member;
 use sl_sector::{Block, Leader};
 use sl_tables::Holder;
@@ -62,19 +65,29 @@ fn held_under(host: &Host, session: u64, at: &Spot) -> Held
     }
 }
 
+/// A member's lease on an area; this blank one, where it has none.
+fn lease_on<'a>(member: &'a Member, at: &Spot, blank: &'a Lease) -> &'a Lease
+    requires { blank.now ≡ new_lease at.now }
+    ensures { result.now ≡ lease_at member.now.state at.now }
+{
+    match member.lease(at) {
+        Some(lease) => lease,
+        None => blank,
+    }
+}
+
 /// What a settling does next.
 pub fn settling_next(host: &Host, member: &Member, at: &Spot) -> LeaseNext
     requires run { member.now.run.sizes ≡ host.now.kept.config.sizes }
     requires may { MayAsk (state_in host.now.kept) member.now.state at.now (kept_blocks (lease_at member.now.state at.now)) }
     ensures exact { result ≡ settling_next (state_in host.now.kept) member.now.state at.now }
     ensures fit { IsFit result }
+    ensures turned { writes_own_block result ≡ true → MayTurn host.now.kept.config.sizes member.now.state at.now }
 {
     let held = held_under(host, member.who().number, at);
     let side = member.side();
-    match member.lease(at) {
-        Some(lease) => lease.settle(&side, held),
-        None => Lease::new(*at).settle(&side, held),
-    }
+    let blank = Lease::new(*at);
+    lease_on(member, at, &blank).settle(&side, held)
 }
 
 /// What a release does first, once the last holding under the lease has ended: it was in this mode, under this instance.
@@ -85,12 +98,11 @@ pub fn releasing_next(host: &Host, member: &Member, at: &Spot, ended: &Grant) ->
     requires instance { IsInstance ended.now.lver }
     ensures exact { result ≡ releasing_next (state_in host.now.kept) member.now.state at.now ended.now }
     ensures fit { IsFit result }
+    ensures turned { writes_own_block result ≡ true → MayTurn host.now.kept.config.sizes member.now.state at.now }
 {
     let side = member.side();
-    match member.lease(at) {
-        Some(lease) => lease.release(&side, ended.mode, ended.lver),
-        None => Lease::new(*at).release(&side, ended.mode, ended.lver),
-    }
+    let blank = Lease::new(*at);
+    lease_on(member, at, &blank).release(&side, ended.mode, ended.lver)
 }
 
 /// What a conversion to this mode does first, of a resource of this name.
@@ -99,16 +111,42 @@ pub fn converting_next(host: &Host, member: &Member, at: &Spot, mode: Mode, name
     requires may { MayAsk (state_in host.now.kept) member.now.state at.now (kept_blocks (lease_at member.now.state at.now)) }
     ensures exact { result ≡ converting_next (state_in host.now.kept) member.now.state at.now mode name }
     ensures fit { IsFit result }
+    ensures turned { writes_own_block result ≡ true → MayTurn host.now.kept.config.sizes member.now.state at.now }
 {
     let side = member.side();
-    match member.lease(at) {
-        Some(lease) => lease.convert(&side, mode, name),
-        None => Lease::new(*at).convert(&side, mode, name),
+    let blank = Lease::new(*at);
+    lease_on(member, at, &blank).convert(&side, mode, name)
+}
+
+/// What comes next after a read for this step that gave this, and these blocks. The member has heard the answer.
+pub fn next_after_read(
+    host: &Host,
+    member: &Member,
+    at: &Spot,
+    aim: Aim,
+    step: LeaseStep,
+    told: &Told,
+    blocks: &[Option<Block>],
+) -> LeaseNext
+    requires run { member.now.run.sizes ≡ host.now.kept.config.sizes }
+    requires may { MayAsk (state_in host.now.kept) member.now.state at.now (blocks_told told.now blocks.now (lease_at member.now.state at.now)) }
+    requires named { IsNamedFor member.now.state at.now step }
+    requires shown { (bytes : List ℕ) × IsShown host.now.kept.config.sizes member.now.state at.now step bytes told.now blocks.now }
+    requires rules { (leader : Option LeaderOf) → told.now ≡ Gave leader → IfSome leader IsLeader }
+    requires blocks { All (λ o. IfSome o IsBlock) blocks.now × (length blocks.now < 2 ^ 32) }
+    ensures exact { (c : OpenCall) (bytes : List ℕ) → IsShown host.now.kept.config.sizes member.now.state at.now step bytes told.now blocks.now
+        → result ≡ answered_next (state_in host.now.kept) member.now.state at.now c aim step (Read bytes) }
+    ensures fit { IsFit result }
+    ensures turned { writes_own_block result ≡ true → MayTurn host.now.kept.config.sizes member.now.state at.now }
+{
+    match told {
+        Told::Again => after_first(step),
+        Told::Gave { leader } => next_after_blocks(host, member, at, aim, step, leader, blocks),
     }
 }
 
-/// What comes next after a read for this step that gave this leader, if it reads one, and these blocks. The member has heard the answer.
-pub fn next_after_read(
+/// The same where it gave this leader, if it reads one, and these blocks.
+fn next_after_blocks(
     host: &Host,
     member: &Member,
     at: &Spot,
@@ -120,20 +158,16 @@ pub fn next_after_read(
     requires run { member.now.run.sizes ≡ host.now.kept.config.sizes }
     requires may { MayAsk (state_in host.now.kept) member.now.state at.now blocks.now }
     requires named { IsNamedFor member.now.state at.now step }
-    requires shown { (bytes : List ℕ) × IsShown (layout_of host.now.kept.config.sizes) step bytes leader.now blocks.now }
     requires leader { IfSome leader.now IsLeader }
     requires blocks { All (λ o. IfSome o IsBlock) blocks.now × (length blocks.now < 2 ^ 32) }
-    ensures exact { (c : OpenCall) (bytes : List ℕ) → IsShown (layout_of host.now.kept.config.sizes) step bytes leader.now blocks.now
-        → result ≡ answered_next (state_in host.now.kept) member.now.state at.now c aim step (Read bytes) }
-    ensures fit { IsFit result }
+    ensures exact { result ≡ asked_next (state_in host.now.kept) member.now.state at.now aim step leader.now blocks.now }
+    ensures fit { IsFitNext result }
 {
     let held = held_under(host, member.who().number, at);
     let side = member.side();
     let seen = member.seen();
-    match member.lease(at) {
-        Some(lease) => lease.after_read(&side, held, &seen, aim, step, leader, blocks),
-        None => Lease::new(*at).after_read(&side, held, &seen, aim, step, leader, blocks),
-    }
+    let blank = Lease::new(*at);
+    lease_on(member, at, &blank).after_read(&side, held, &seen, aim, step, leader, blocks)
 }
 
 /// What comes next after the write of this call is done, at this step. The member has heard the answer.
@@ -151,20 +185,19 @@ pub fn next_after_write(
     requires instance { IsInstance call.now.lver }
     ensures exact { result ≡ answered_next (state_in host.now.kept) member.now.state at.now call.now aim step Written }
     ensures fit { IsFit result }
+    ensures turned { writes_own_block result ≡ true → MayTurn host.now.kept.config.sizes member.now.state at.now }
 {
     let held = held_under(host, member.who().number, at);
     let side = member.side();
-    match member.lease(at) {
-        Some(lease) => lease.after_write(&side, held, aim, call.lver, step),
-        None => Lease::new(*at).after_write(&side, held, aim, call.lver, step),
-    }
+    let blank = Lease::new(*at);
+    lease_on(member, at, &blank).after_write(&side, held, aim, call.lver, step)
 }
 
 /// What comes next after this call has failed.
-#[tactic(auto, unfolding(sl_trace::specs::LeaseWork::lease_next))]
 pub fn next_after_failure(aim: Aim, call: &OpenCall) -> LeaseNext
     ensures exact { (h : HostState) (m : MemberState) (at : Spot) (step : LeaseStep) → result ≡ answered_next h m at call.now aim step Failed }
     ensures fit { IsFit result }
+    ensures unwritten { writes_own_block result ≡ false }
 {
     after_failure(aim, call.number)
 }

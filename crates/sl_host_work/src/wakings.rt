@@ -7,7 +7,8 @@ ghost use Rattle.sl_host_law.specs.Answers.Wakings.{joining_by_time};
 ghost use Rattle.sl_host_law.specs.Parts.Wakes.{is_free_at};
 ghost use Rattle.sl_host_law.specs.Steps.Wakes.{settling_here};
 ghost use Rattle.sl_host_state.specs.Kept.{MemberState};
-ghost use Rattle.sl_host_work.specs.Next.{IsFit, IsPlain};
+ghost use Rattle.sl_host_work.specs.Asking.{IsTurned, MayTurn};
+ghost use Rattle.sl_host_work.specs.Next.{IsFit, IsPlain, writes_own_block};
 ghost use Rattle.sl_host_work.specs.Placed.{IsArea, IsPlaced};
 ghost use Rattle.sl_member.specs.Together.{member_with};
 ghost use Rattle.sl_host_work.specs.Waking.{ArePlaced, MaySettle, joining_of, renewal_of, renewal_written, settling_of, written_in};
@@ -141,6 +142,7 @@ fn member_settling(host: &Host, member: &Member, at: &Spot) -> Option<(Session, 
     requires area { IsArea host.now.kept.config.sizes at.now.base }
     requires may { MaySettle host.now.kept at.now member.now.state }
     ensures exact { result ≡ settling_of (state_in host.now.kept) at.now (Some member.now.state) }
+    ensures turned { IfSome result (λ r. (r.0 ≡ member.now.state.who) × (writes_own_block r.1 ≡ true → MayTurn host.now.kept.config.sizes member.now.state at.now)) }
     ensures fit { IfSome result (λ r. IsFit r.1 × IsPlaced host.now.kept.config.sizes r.0) }
 {
     if !is_free(host, at) {
@@ -165,6 +167,7 @@ fn settling_of(host: &Host, number: u64, at: &Spot) -> Option<(Session, LeaseNex
     requires area { IsArea host.now.kept.config.sizes at.now.base }
     requires may { (m : MemberState) → member_with number host.now.kept.members ≡ Some m → MaySettle host.now.kept at.now m }
     ensures exact { result ≡ settling_of (state_in host.now.kept) at.now (member_numbered (state_in host.now.kept) number) }
+    ensures turned { IfSome result (λ r. writes_own_block r.1 ≡ true → IsTurned host.now.kept r.0 at.now) }
     ensures fit { IfSome result (λ r. IsFit r.1 × IsPlaced host.now.kept.config.sizes r.0) }
 {
     match host.members().numbered(number) {

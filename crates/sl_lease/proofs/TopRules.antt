@@ -1,4 +1,4 @@
 -- Sets of lemmas.
-use Rattle.sl_lease.proofs.TopLaws.{mbals_found-top, tops_found-top}
+use Rattle.sl_lease.proofs.TopLaws.{lvers_found-top, mbals_found-top, tops_found-top}
 
-pub ruleset tops = (mbals_found-top, tops_found-top)
+pub ruleset tops = (lvers_found-top, mbals_found-top, tops_found-top)

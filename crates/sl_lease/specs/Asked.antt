@@ -1,20 +1,22 @@
 -- What a lease is asked, by what is kept of it, what its session knows beside it, and what a read has shown.
 use Rattle.sl_area.specs.Layouts.{Layout}
-use Rattle.sl_area.specs.Places.{area_blocks, blocks_in, leader_of}
+use Rattle.sl_area.specs.Places.{BlocksRead, blocks_of, leader_read}
+use Rattle.sl_host_state.specs.Hears.{is_area_step}
 use Rattle.sl_host_state.specs.Kept.{LeaseState}
 use Rattle.sl_host_state.specs.Stands.{top_mbal}
 use Rattle.sl_host_state.specs.declared.kept.TopNumber.{TopNumber}
 use Rattle.sl_lease.specs.declared.evidence.Held.{Held}
 use Rattle.sl_lease.specs.declared.side.Side.{Side}
 use Rattle.sl_trace.specs.Ballots.{ballot_blocks, moded_block, phase1_block, phase2_block, stop_of}
-use Rattle.sl_trace.specs.LeaseWork.{LeasePlace, after_phase1, after_phase2, begin_next, leader_for, named_area_next, phase1_next, settle_next}
-use Rattle.sl_trace.specs.Leases.{LeaseKnown, is_leader_of, last_blocks, owed_free}
+use Rattle.sl_trace.specs.LeaseWork.{LeasePlace, after_phase1, after_phase2, asked_again, begin_next, first_step, leader_for, named_area_next, part_read, phase1_next, read_of_step, settle_next}
+use Rattle.sl_trace.specs.Leases.{LeaseKnown, first_kept, is_leader_of, last_blocks, owed_free}
 use Rattle.sl_trace.specs.declared.lease.Aim.{Aim}
-use Rattle.sl_trace.specs.declared.lease.LeaseNext.TheVariants.{AnswerJob, BecomeExclusive, BecomeShared, Nothing, WriteBlock, WriteLeader}
+use Rattle.sl_trace.specs.declared.lease.LeaseNext.TheVariants.{AnswerJob, BecomeExclusive, BecomeShared, Nothing, ReadFor, WriteBlock, WriteLeader}
 use Rattle.sl_trace.specs.declared.lease.LeaseNext.{LeaseNext}
 use Rattle.sl_sector.specs.declared.sector.Block.{Block}
 use Rattle.sl_sector.specs.declared.sector.Leader.{Leader}
 use Rattle.sl_sector.specs.declared.sector.Owner.{Owner}
+use Rattle.sl_sector.specs.declared.sector.PairBlock.{PairBlock}
 use Rattle.sl_trace.specs.Traces.{Submitted}
 use Rattle.sl_trace.specs.declared.effects.LeaseRead.TheVariants.{OfArea, OfBlock, OfFree, OfPhase1, OfPhase2}
 use Rattle.sl_trace.specs.declared.effects.LeaseStep.TheVariants.{ClearMode, FreeLeader, Phase1Read, Phase1Write, Phase2Read, Phase2Write, ReadAgain, ReadArea, ReadBeforeBlock, ReadBeforeFree, SetMode, TakeLeader}
@@ -123,48 +125,26 @@ read_asked p k aim l read SetMode = Nothing
 read_asked p k aim l read FreeLeader = Nothing
 read_asked p k aim l read ClearMode = Nothing
 
--- The leader that a read for this step gives in these bytes, if it reads one.
-abbrev pub leader_given : Layout → LeaseStep → List ℕ → Option Leader
-leader_given g (ReadArea name) bytes = leader_of g bytes
-leader_given g ReadBeforeFree bytes = leader_of g bytes
-leader_given g ReadBeforeBlock bytes = None
-leader_given g (ReadAgain (OfArea name)) bytes = leader_of g bytes
-leader_given g (ReadAgain OfFree) bytes = leader_of g bytes
-leader_given g (ReadAgain OfBlock) bytes = None
-leader_given g (ReadAgain OfPhase1) bytes = None
-leader_given g (ReadAgain OfPhase2) bytes = None
-leader_given g Phase1Write bytes = None
-leader_given g Phase1Read bytes = None
-leader_given g Phase2Write bytes = None
-leader_given g Phase2Read bytes = None
-leader_given g TakeLeader bytes = None
-leader_given g SetMode bytes = None
-leader_given g FreeLeader bytes = None
-leader_given g ClearMode bytes = None
+-- What a read at this step gave of all blocks, with what is kept of the first one.
+abbrev pub heard_with : Layout → List (Option PairBlock) → LeaseStep → List ℕ → BlocksRead
+heard_with g kept step bytes = record { kept = kept; last = part_read g bytes (first_step step) }
+
+-- The leader that it gives in these bytes, if it reads one.
+abbrev pub leader_given : Layout → List (Option PairBlock) → LeaseStep → List ℕ → Option Leader
+leader_given g kept step bytes = elim (is_area_step step) [ false ↦ None | true ↦ leader_read g bytes (heard_with g kept step bytes) ]
 
 -- The blocks that it gives.
-abbrev pub read_given : Layout → LeaseStep → List ℕ → List (Option Block)
-read_given g (ReadArea name) bytes = area_blocks g bytes
-read_given g ReadBeforeFree bytes = area_blocks g bytes
-read_given g ReadBeforeBlock bytes = blocks_in g bytes
-read_given g (ReadAgain (OfArea name)) bytes = area_blocks g bytes
-read_given g (ReadAgain OfFree) bytes = area_blocks g bytes
-read_given g (ReadAgain OfBlock) bytes = blocks_in g bytes
-read_given g (ReadAgain OfPhase1) bytes = blocks_in g bytes
-read_given g (ReadAgain OfPhase2) bytes = blocks_in g bytes
-read_given g Phase1Write bytes = blocks_in g bytes
-read_given g Phase1Read bytes = blocks_in g bytes
-read_given g Phase2Write bytes = blocks_in g bytes
-read_given g Phase2Read bytes = blocks_in g bytes
-read_given g TakeLeader bytes = blocks_in g bytes
-read_given g SetMode bytes = blocks_in g bytes
-read_given g FreeLeader bytes = blocks_in g bytes
-read_given g ClearMode bytes = blocks_in g bytes
+abbrev pub read_given : Layout → List (Option PairBlock) → LeaseStep → List ℕ → List (Option Block)
+read_given g kept step bytes = blocks_of g (heard_with g kept step bytes)
 
--- Leader and blocks are what the read at this step gave in these bytes, which was the last of these calls that read blocks; a block has
--- one sector.
+-- Leader and blocks are what the read at this step gave in these bytes, which was the last of these calls that gave blocks.
 pub record IsLastRead (g : Layout) (step : LeaseStep) (bytes : List ℕ) (leader : Option Leader) (read : List (Option Block)) (ms : List Submitted) : Type 0 where
-  pub plain : g.paired ≡ false
-  pub leads : leader ≡ leader_given g step bytes
-  pub shows : read ≡ read_given g step bytes
+  -- it isn't made once more
+  pub once : asked_again g bytes step ≡ None
+  pub leads : leader ≡ leader_given g (first_kept g ms) step bytes
+  pub shows : read ≡ read_given g (first_kept g ms) step bytes
   pub newest : read ≡ last_blocks g ms
+
+-- What a lease does next after the answer of a first read that is to be made once more.
+abbrev pub again_asked : LeaseStep → LeaseNext
+again_asked step = option_map_or (λ read. ReadFor (ReadAgain read)) (read_of_step step) Nothing

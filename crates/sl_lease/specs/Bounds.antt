@@ -28,12 +28,13 @@ pub record IsGranted (l : Leader) : Type 0 where
   pub generation : (1 ≤ l.generation) × Fits l.generation
   pub owner : (1 ≤ l.owner) × (l.owner ≤ l.num_hosts)
 
--- What is kept is within bounds: the own block is a record, numbers fit records, instances are above 0.
-pub record IsWithinBounds (own : Option Block) (freed : ℕ) (ballot won : Option ℕ) : Type 0 where
+-- What is kept is within bounds: the own block is a record, numbers fit records, instances are above 0, and so is a turn.
+pub record IsWithinBounds (own : Option Block) (freed : ℕ) (ballot won turn : Option ℕ) : Type 0 where
   pub begun : IfSome own IsBegun
   pub frees : Fits freed
   pub opened : IfSome ballot (λ n. (1 ≤ n) × IsTrue (is_some own))
   pub wins : IfSome won IsInstance
+  pub turns : IfSome turn (λ t. (1 ≤ t) × Fits t)
 
 -- A session's read of blocks: each that is whole is a record.
 pub record IsRead (z : Sizes) (o : Owner) (read : List (Option Block)) : Type 0 where

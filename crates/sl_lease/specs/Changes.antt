@@ -1,6 +1,7 @@
 -- How what is kept of a lease changes by a call and by its answer.
 use Rattle.sl_host_state.specs.Hears.{concludes_at, won_at, won_hearing}
-use Rattle.sl_host_state.specs.Kept.{LeaseState}
+use Rattle.sl_host_state.specs.Kept.{LeaseState, PairState}
+use Rattle.sl_host_state.specs.Makes.{pair_calling}
 use Rattle.sl_host_state.specs.Stands.{top_mbal}
 use Rattle.sl_host_state.specs.declared.kept.LeaseCall.{LeaseCall}
 use Rattle.sl_host_state.specs.declared.kept.TopNumber.{TopNumber}
@@ -8,24 +9,30 @@ use Rattle.sl_host_state.specs.declared.kept.ValuePair.{ValuePair}
 use Rattle.sl_lease.specs.Side.{layout_in}
 use Rattle.sl_lease.specs.declared.side.Side.{Side}
 use Rattle.sl_trace.specs.Ballots.{stop_of}
-use Rattle.sl_trace.specs.Leases.{is_free_of, is_leader_of}
+use Rattle.sl_trace.specs.Leases.{is_free_of, is_leader_of, is_second}
 use Rattle.sl_trace.specs.declared.lease.Stop.{Stop}
 use Rattle.sl_sector.specs.declared.sector.Block.{Block}
 use Rattle.sl_sector.specs.declared.sector.Leader.{Leader}
 use Rattle.sl_sector.specs.declared.sector.Owner.{Owner}
+use Rattle.sl_sector.specs.declared.sector.PairBlock.{PairBlock}
 use Rattle.sl_trace.specs.declared.effects.LeaseRead.TheVariants.{OfArea, OfBlock, OfFree, OfPhase1, OfPhase2}
 use Rattle.sl_trace.specs.declared.effects.LeaseStep.TheVariants.{ClearMode, FreeLeader, Phase1Read, Phase1Write, Phase2Read, Phase2Write, ReadAgain, ReadArea, ReadBeforeBlock, ReadBeforeFree, SetMode, TakeLeader}
 use Rattle.sl_trace.specs.declared.effects.LeaseStep.{LeaseStep}
 use Rattle.sl_trace.specs.declared.effects.Work.{Work}
 use Rattle.sl_words.specs.Words.{choose, present, some_is}
 use Rattle.std.specs.List.{list_any}
+use Rattle.std.specs.Option.{option_or}
 use Rattle.std.specs.Prelude.{Bool, List, None, Option, Some, cond, false, filter, fold, if◌then◌else◌, map, max, nat_lt, not, option_and_then, option_map, true, ℕ, ◌&&◌, ◌==◌, ◌||◌}
 
 -- ---- one more call
 
 -- A read for this step.
 abbrev pub after_reading : ℕ → Work → LeaseStep → LeaseState → LeaseState
-after_reading number work step l = record l { waiting = Some (record { number = number; work = work; step = step; frees = None; clears = false }) }
+after_reading number work step l =
+    record l {
+      waiting = Some (record { number = number; work = work; step = step; frees = None; clears = false; turn = None });
+      pair = pair_calling (is_second step) l.pair;
+    }
 
 -- Whether the step writes the block of phase 2.
 abbrev pub is_phase2_write : LeaseStep → Bool
@@ -46,14 +53,15 @@ is_phase2_write ClearMode = false
 abbrev pub ballot_over : Bool → ℕ → Option ℕ → Option ℕ
 ballot_over opens lver before = elim opens [ true ↦ Some lver | false ↦ option_and_then (λ n. choose (lver == n) n) before ]
 
--- A write of the own block.
-abbrev pub after_block : ℕ → Work → LeaseStep → Block → LeaseState → LeaseState
-after_block number work step b l =
+-- A write of the own block, with this turn where it is one of a pair.
+abbrev pub after_block : ℕ → Work → LeaseStep → Option ℕ → Block → LeaseState → LeaseState
+after_block number work step turn b l =
     record l {
       own = Some b;
       ballot = ballot_over (is_phase2_write step) b.lver l.ballot;
       shown = b.shared || l.shown;
-      waiting = Some (record { number = number; work = work; step = step; frees = None; clears = not b.shared });
+      waiting = Some (record { number = number; work = work; step = step; frees = None; clears = not b.shared; turn = turn });
+      pair = pair_calling (is_second step) l.pair;
     }
 
 -- A write of the leader.
@@ -61,7 +69,8 @@ abbrev pub after_leader : ℕ → Work → LeaseStep → Leader → LeaseState �
 after_leader number work step d l =
     record l {
       freed = max (if d.held then 0 else d.lver) l.freed;
-      waiting = Some (record { number = number; work = work; step = step; frees = choose (not d.held) d.lver; clears = false });
+      waiting = Some (record { number = number; work = work; step = step; frees = choose (not d.held) d.lver; clears = false; turn = None });
+      pair = pair_calling (is_second step) l.pair;
     }
 
 -- A write of a value on the area.
@@ -145,6 +154,14 @@ settles_read self SetMode d read n = false
 settles_read self FreeLeader d read n = false
 settles_read self ClearMode d read n = false
 
+-- An answer shows this turn of the own pair, if any.
+abbrev pub turn_told : Option ℕ → LeaseState → LeaseState
+turn_told turn l = let p : PairState = l.pair in record l { pair = record p { turn = option_or turn p.turn } }
+
+-- The read that waits is to be made once more, and this is kept of it.
+abbrev pub after_kept : List (Option PairBlock) → LeaseState → LeaseState
+after_kept pairs l = let p : PairState = l.pair in elim l.waiting [ None ↦ l | Some w ↦ record l { waiting = None; pair = record p { first = Some pairs } } ]
+
 -- A read at this step gave this leader, if it reads one, and these blocks; heeded while its work goes on.
 abbrev pub read_told : Side → Bool → LeaseStep → Option Leader → List (Option Block) → LeaseState → LeaseState
 read_told z heeded step d read l =
@@ -165,13 +182,18 @@ after_read z heeded d read l = elim l.waiting [ None ↦ l | Some w ↦ read_tol
 abbrev pub after_failure : LeaseState → LeaseState
 after_failure l = record l { waiting = None }
 
--- The write that waits is done: a mode may be cleared, and the free of an instance.
+-- The turn that was shown last, after one more was shown.
+abbrev pub turn_in : Option ℕ → PairState → PairState
+turn_in turn p = record p { turn = option_or turn p.turn }
+
+-- The write that waits is done: a mode may be cleared, and the free of an instance; the turn of a block is shown by it.
 abbrev pub write_told : LeaseCall → LeaseState → LeaseState
 write_told w l =
     record l {
       shown = l.shown && not w.clears;
       won = option_and_then (λ n. choose (not (some_is (λ f. f == n) w.frees)) n) l.won;
       waiting = None;
+      pair = turn_in w.turn l.pair;
     }
 
 abbrev pub after_write : LeaseState → LeaseState

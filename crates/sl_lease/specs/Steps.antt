@@ -1,8 +1,8 @@
--- What the steps of a lease's calls do, and what a lease may do next, where a block has one sector: a lease then never reads once more,
--- and no settling reads before its block.
+-- What the steps of a lease's calls do, and what a lease may do next.
 use Rattle.sl_lease.specs.Bounds.{IsBegun, IsGranted, IsInstance}
 use Rattle.sl_trace.specs.declared.lease.LeaseNext.TheVariants.{AnswerJob, BecomeExclusive, BecomeShared, GrantJob, Nothing, ReadFor, WriteBlock, WriteLeader}
 use Rattle.sl_trace.specs.declared.lease.LeaseNext.{LeaseNext}
+use Rattle.sl_trace.specs.declared.effects.LeaseRead.TheVariants.{OfArea, OfBlock, OfFree, OfPhase1, OfPhase2}
 use Rattle.sl_trace.specs.declared.effects.LeaseStep.TheVariants.{ClearMode, FreeLeader, Phase1Read, Phase1Write, Phase2Read, Phase2Write, ReadAgain, ReadArea, ReadBeforeBlock, ReadBeforeFree, SetMode, TakeLeader}
 use Rattle.sl_trace.specs.declared.effects.LeaseStep.{LeaseStep}
 use Rattle.std.specs.Prelude.{Bool, IsTrue, false, true, ◌||◌}
@@ -12,7 +12,11 @@ abbrev pub reads_area : LeaseStep → Bool
 reads_area (ReadArea name) = true
 reads_area ReadBeforeFree = true
 reads_area ReadBeforeBlock = false
-reads_area (ReadAgain read) = false
+reads_area (ReadAgain (OfArea name)) = true
+reads_area (ReadAgain OfFree) = true
+reads_area (ReadAgain OfBlock) = false
+reads_area (ReadAgain OfPhase1) = false
+reads_area (ReadAgain OfPhase2) = false
 reads_area Phase1Write = false
 reads_area Phase1Read = false
 reads_area Phase2Write = false
@@ -26,8 +30,12 @@ reads_area ClearMode = false
 abbrev pub reads_blocks : LeaseStep → Bool
 reads_blocks (ReadArea name) = false
 reads_blocks ReadBeforeFree = false
-reads_blocks ReadBeforeBlock = false
-reads_blocks (ReadAgain read) = false
+reads_blocks ReadBeforeBlock = true
+reads_blocks (ReadAgain (OfArea name)) = false
+reads_blocks (ReadAgain OfFree) = false
+reads_blocks (ReadAgain OfBlock) = true
+reads_blocks (ReadAgain OfPhase1) = true
+reads_blocks (ReadAgain OfPhase2) = true
 reads_blocks Phase1Write = false
 reads_blocks Phase1Read = true
 reads_blocks Phase2Write = false
@@ -71,12 +79,16 @@ is_leader_step SetMode = false
 is_leader_step FreeLeader = true
 is_leader_step ClearMode = false
 
--- What an acquire begins with.
+-- What an acquire begins with, once or once more.
 abbrev pub is_first_step : LeaseStep → Bool
 is_first_step (ReadArea name) = true
 is_first_step ReadBeforeFree = false
 is_first_step ReadBeforeBlock = false
-is_first_step (ReadAgain read) = false
+is_first_step (ReadAgain (OfArea name)) = true
+is_first_step (ReadAgain OfFree) = false
+is_first_step (ReadAgain OfBlock) = false
+is_first_step (ReadAgain OfPhase1) = false
+is_first_step (ReadAgain OfPhase2) = false
 is_first_step Phase1Write = false
 is_first_step Phase1Read = false
 is_first_step Phase2Write = false

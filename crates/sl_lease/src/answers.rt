@@ -1,16 +1,38 @@
 //! What an answer changes of what is kept of a lease.
 
-ghost use Rattle.sl_lease.specs.Changes.{after_failure, after_read, after_write, read_told, write_told};
-ghost use Rattle.std.specs.Prelude.{length, ◌<◌, ◌^◌, ◌≡◌};
+ghost use Rattle.sl_lease.specs.Changes.{after_failure, after_kept, after_read, after_write, read_told, turn_told, write_told};
+ghost use Rattle.sl_sector.specs.Records.{Fits};
+ghost use Rattle.std.specs.Prelude.{IfSome, length, ◌<◌, ◌^◌, ◌≡◌, ◌≤◌};
 
-use crate::changes::{ballot_told, name_told, stop_told, top_told, won_told, won_written};
+use crate::changes::{
+    ballot_told, name_told, stop_told, top_told, turn_after, won_told, won_written,
+};
 use crate::lease::Lease;
+use crate::pairs::Pairs;
 use crate::side::Side;
 use sl_host_state::LeaseCall;
 use sl_sector::{Block, Leader};
 use sl_trace::LeaseStep;
 
 impl Lease {
+    /// An answer showed this turn of the own pair, if any.
+    pub fn shows_turn(&mut self, turn: Option<u64>)
+        requires { IfSome turn (λ t. (1 ≤ t) × Fits t) }
+        ensures { self.new ≡ turn_told turn self.old }
+    {
+        self.turn = turn_after(turn, self.turn);
+    }
+
+    /// The read that waits is to be made once more, and this is kept of it.
+    pub fn keeps(&mut self, pairs: Pairs)
+        ensures { self.new ≡ after_kept pairs self.old }
+    {
+        if self.waiting.is_some() {
+            self.first = Some(pairs);
+            self.waiting = None;
+        }
+    }
+
     /// The read that waits gave this leader, if it reads one, and these blocks, those of hosts 1, 2 .. in order, none where one is torn. It
     /// is heeded if the work that it is for still went on: its job had no reply before.
     pub fn read_answered(
@@ -61,10 +83,12 @@ impl Lease {
 
     /// This write is done.
     fn take_write(&mut self, call: &LeaseCall)
+        requires { IfSome call.now.turn (λ t. (1 ≤ t) × Fits t) }
         ensures { self.new ≡ write_told call.now self.old }
     {
         self.shown = self.shown && !call.clears;
         self.won = won_written(call.frees, self.won);
+        self.turn = turn_after(call.turn, self.turn);
         self.waiting = None;
     }
 

@@ -5,9 +5,11 @@ ghost use Rattle.sl_host_state.specs.Stands.{top_mbal};
 ghost use Rattle.sl_lease.specs.Bounds.{IsBegun, IsInstance};
 ghost use Rattle.sl_lease.specs.Changes.{ballot_over, is_phase2_write, is_settled_by, mbals_found, name_found, name_told, settles_read, shows_blocks, stop_told, top_told};
 ghost use Rattle.sl_trace.specs.Ballots.{is_ahead};
-ghost use Rattle.sl_trace.specs.Leases.{is_free_of, is_leader_of};
+ghost use Rattle.sl_trace.specs.LeaseWork.{read_of_step};
+ghost use Rattle.sl_trace.specs.Leases.{is_free_of, is_leader_of, is_second};
 ghost use Rattle.sl_words.specs.Words.{choose, present, some_is};
 ghost use Rattle.std.specs.List.{list_any};
+ghost use Rattle.std.specs.Option.{option_or};
 ghost use Rattle.std.specs.Prelude.{IfSome, None, cond, if◌then◌else◌, length, nat_lt, not, option_and_then, unwrap_or, [], ◌&&◌, ◌<◌, ◌==◌, ◌^◌, ◌||◌, ◌≡◌, ◌⊎◌};
 
 use crate::side::Side;
@@ -23,6 +25,39 @@ pub(crate) fn is_phase2_write(step: &LeaseStep) -> bool
     ensures { result ≡ is_phase2_write step.now }
 {
     matches!(step, LeaseStep::Phase2Write)
+}
+
+/// Whether the step is a read that is made once more.
+pub(crate) fn is_second(step: &LeaseStep) -> bool
+    ensures { result ≡ is_second step.now }
+{
+    matches!(step, LeaseStep::ReadAgain { .. })
+}
+
+/// Which read a step is, if it is a first one of blocks.
+pub(crate) fn read_of_step(step: &LeaseStep) -> Option<LeaseRead>
+    ensures { result ≡ read_of_step step.now }
+{
+    match step {
+        LeaseStep::ReadArea { resource } => Some(LeaseRead::OfArea {
+            resource: *resource,
+        }),
+        LeaseStep::ReadBeforeFree => Some(LeaseRead::OfFree),
+        LeaseStep::ReadBeforeBlock => Some(LeaseRead::OfBlock),
+        LeaseStep::Phase1Read => Some(LeaseRead::OfPhase1),
+        LeaseStep::Phase2Read => Some(LeaseRead::OfPhase2),
+        _ => None,
+    }
+}
+
+/// The turn that was shown last, after one more was shown.
+pub(crate) fn turn_after(turn: Option<u64>, before: Option<u64>) -> Option<u64>
+    ensures { result ≡ option_or turn before }
+{
+    match turn {
+        Some(turn) => Some(turn),
+        None => before,
+    }
 }
 
 /// The open ballot after a block of this instance is submitted: phase 2 opens one, a block of another instance ends it.

@@ -13,14 +13,20 @@
 //! - won: the instance won last whose free isn't known to be done. Unless it is held, it keeps everybody away.
 //! - waiting: the newest call, while it has no answer; no other has none. Two writes of the own block could land in the other order.
 //! - value: version and seq of the value submitted last on the area.
+//! - turn, first, again: with pairs, the turn of the own pair that was shown last, by a read's answer or by a write that was done: the next
+//!   block has the next one. What the answer of a first read gave, while the second may be made or asks for it. Whether the newest call is
+//!   a second one.
 ghost use Rattle.sl_host_state.specs.Kept.{LeaseState};
-ghost use Rattle.sl_host_state.specs.Makes.{new_lease};
+ghost use Rattle.sl_host_state.specs.Makes.{new_lease, pair_calling};
+ghost use Rattle.sl_host_state.specs.Stands.{turn_kept};
 ghost use Rattle.sl_lease.specs.Bounds.{IsBegun};
 ghost use Rattle.sl_lease.specs.Changes.{after_block, after_leader, after_reading, after_value};
 ghost use Rattle.sl_sector.specs.Records.{Fits};
-ghost use Rattle.std.specs.Prelude.{◌≡◌};
+ghost use Rattle.sl_trace.specs.Leases.{is_second};
+ghost use Rattle.std.specs.Prelude.{IfSome, None, cond, option_map, unwrap_or, [], ◌+◌, ◌^◌, ◌≡◌, ◌≤◌};
 
-use crate::changes::{ballot_over, freed_by, is_phase2_write};
+use crate::changes::{ballot_over, freed_by, is_phase2_write, is_second};
+use crate::pairs::Pairs;
 use sl_host_state::{LeaseCall, TopNumber, ValuePair};
 use sl_sector::{Block, Leader};
 use sl_text::Name;
@@ -40,13 +46,16 @@ pub struct Lease {
     pub(crate) won: Option<u64>,
     pub(crate) waiting: Option<LeaseCall>,
     pub(crate) value: Option<ValuePair>,
+    pub(crate) turn: Option<u64>,
+    pub(crate) first: Option<Pairs>,
+    pub(crate) again: bool,
 }
 
 impl Model for Lease {
     ghost use Rattle.sl_host_state.specs.Kept.{LeaseState};
-    ghost use Rattle.sl_host_state.specs.Stands.{no_pair};
     ghost use Rattle.sl_lease.specs.Bounds.{IsWithinBounds};
-    ghost use Rattle.std.specs.Prelude.{unwrap_or, []};
+    ghost use Rattle.sl_sector.specs.Records.{Fits};
+    ghost use Rattle.std.specs.Prelude.{IfSome, unwrap_or, [], ◌≤◌};
 
     ghost Value = { LeaseState };
 
@@ -61,10 +70,10 @@ impl Model for Lease {
       won = l.won;
       waiting = l.waiting;
       value = l.value;
-      pair = no_pair;
+      pair = record { turn = l.turn; first = l.first; again = l.again };
     } };
 
-    ghost invariant = { λ l. IsWithinBounds l.own l.freed l.ballot l.won };
+    ghost invariant = { λ l. IsWithinBounds l.own l.freed l.ballot l.won l.turn × IfSome l.waiting (λ w. IfSome w.turn (λ t. (1 ≤ t) × Fits t)) };
 }
 
 impl Lease {
@@ -83,6 +92,9 @@ impl Lease {
             won: None,
             waiting: None,
             value: None,
+            turn: None,
+            first: None,
+            again: false,
         }
     }
 
@@ -100,25 +112,75 @@ impl Lease {
         self.value
     }
 
+    /// The resource's name that it has verified, if it has.
+    pub fn name(&self) -> Option<Name>
+        ensures { unwrap_or result [] ≡ self.now.name }
+    {
+        self.name
+    }
+
+    /// The turn of its next block, where blocks have one: 1 to 2^63.
+    pub fn next_turn(&self) -> u64
+        ensures exact { result ≡ turn_kept self.now.pair + 1 }
+        ensures bound { result ≤ 2 ^ 63 }
+    {
+        match self.turn {
+            Some(turn) => turn + 1,
+            None => 1,
+        }
+    }
+
+    /// What is kept of the first read, for a read at this step that is the second one.
+    pub fn first_for(&self, step: &LeaseStep) -> Option<&Pairs>
+        ensures { option_map (λ p. p.now) result ≡ cond (is_second step.now) self.now.pair.first None }
+    {
+        if is_second(step) {
+            self.first.as_ref()
+        } else {
+            None
+        }
+    }
+
+    /// A call at this step is submitted: only a second read asks for what the first one gave.
+    fn goes_on(&mut self, step: &LeaseStep)
+        ensures { self.new ≡ record self.old { pair = pair_calling (is_second step.now) self.old.pair } }
+    {
+        self.again = is_second(step);
+        if !self.again {
+            self.first = None;
+        }
+    }
+
     /// A read at this step is submitted, as the call of this number.
     pub fn reads(&mut self, number: u64, work: Work, step: LeaseStep)
         ensures { self.new ≡ after_reading number work step self.old }
     {
+        self.goes_on(&step);
         self.waiting = Some(LeaseCall {
             number,
             work,
             step,
             frees: None,
             clears: false,
+            turn: None,
         });
     }
 
-    /// A write of this block is submitted, at a step that writes the own block. From here on it is the own block, whatever comes of the
-    /// write.
-    pub fn writes_block(&mut self, number: u64, work: Work, step: LeaseStep, block: Block)
-        requires { IsBegun block }
-        ensures { self.new ≡ after_block number work step block self.old }
+    /// A write of this block is submitted, with this turn where it is one of a pair, at a step that writes the own block. From here on it is
+    /// the own block, whatever comes of the write.
+    pub fn writes_block(
+        &mut self,
+        number: u64,
+        work: Work,
+        step: LeaseStep,
+        turn: Option<u64>,
+        block: Block,
+    )
+        requires begun { IsBegun block }
+        requires turn { IfSome turn (λ t. (1 ≤ t) × Fits t) }
+        ensures { self.new ≡ after_block number work step turn block self.old }
     {
+        self.goes_on(&step);
         let shared = block.shared;
         self.ballot = ballot_over(is_phase2_write(&step), block.lver, self.ballot);
         self.shown = shared || self.shown;
@@ -128,6 +190,7 @@ impl Lease {
             step,
             frees: None,
             clears: !shared,
+            turn,
         });
         self.own = Some(block);
     }
@@ -138,6 +201,7 @@ impl Lease {
         requires { Fits leader.now.lver }
         ensures { self.new ≡ after_leader number work step leader.now self.old }
     {
+        self.goes_on(&step);
         self.freed = freed_by(leader).max(self.freed);
         self.waiting = Some(LeaseCall {
             number,
@@ -145,6 +209,7 @@ impl Lease {
             step,
             frees: if leader.held { None } else { Some(leader.lver) },
             clears: false,
+            turn: None,
         });
     }
 

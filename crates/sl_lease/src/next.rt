@@ -8,21 +8,25 @@
 //! acquire while its mode stands, and clears the mode once it is done. So what is held covers the process at each moment of either.
 ghost use Rattle.sl_host_state.specs.Kept.{LeaseState};
 ghost use Rattle.sl_host_state.specs.Stands.{LeaseStands};
-ghost use Rattle.sl_lease.specs.Asked.{IsLastRead, TopStands, exclusive_with, free_with, mode_with, phase1_ended, phase2_ended, read_asked, shared_with};
+ghost use Rattle.sl_lease.specs.Asked.{IsLastRead, TopStands, again_asked, exclusive_with, free_with, mode_with, phase1_ended, phase2_ended, read_asked, shared_with};
 ghost use Rattle.sl_lease.specs.Bounds.{IsBegun, IsInstance, IsRead, IsSession};
 ghost use Rattle.sl_lease.specs.Side.{is_named, known_with, layout_in, place_of};
 ghost use Rattle.sl_lease.specs.Steps.{IsFitNext, is_first_step, makes_call};
 ghost use Rattle.sl_lease.specs.declared.evidence.Held.{Held};
-ghost use Rattle.sl_trace.specs.LeaseWork.{after_clearing, after_freeing, after_moding, after_take, after_write, convert_next, lease_next, refuses, release_next, settle_next};
-ghost use Rattle.sl_trace.specs.Leases.{known_of};
+ghost use Rattle.sl_trace.specs.LeaseWork.{LeasePlace, after_clearing, after_freeing, after_moding, after_take, after_write, asked_again, convert_next, lease_next, refuses, refuses_block, release_next, settle_begin, within_turn};
+ghost use Rattle.sl_trace.specs.declared.effects.LeaseRead.{LeaseRead as LeaseReadOf};
+ghost use Rattle.sl_trace.specs.declared.lease.Aim.TheVariants.{Converts, Releases, Settles};
+ghost use Rattle.sl_trace.specs.declared.lease.Aim.{Aim as AimOf};
+ghost use Rattle.sl_trace.specs.Leases.{LeaseKnown, known_of};
 ghost use Rattle.sl_sector.specs.Records.{IsLeader};
 ghost use Rattle.sl_sector.specs.declared.sector.Block.{Block};
 ghost use Rattle.sl_trace.specs.Traces.{Submitted};
 ghost use Rattle.sl_trace.specs.declared.input.Answer.TheVariants.{Read, Written};
 ghost use Rattle.sl_trace.specs.declared.reply.Reply.TheVariants.{IoFault};
-ghost use Rattle.std.specs.Prelude.{Bool, IfSome, IsTrue, List, Option, ℕ, ◌||◌, ◌≡◌};
+ghost use Rattle.std.specs.Prelude.{Bool, IfSome, IsTrue, List, Option, Some, ℕ, ◌||◌, ◌≡◌};
 
 use crate::ballots::leader_for;
+use crate::changes::read_of_step;
 use crate::evidence::{Evidence, Held};
 use crate::lease::Lease;
 use crate::owed::refuses;
@@ -30,7 +34,7 @@ use crate::side::Side;
 use sl_ballot::{moded_block, stop_of};
 use sl_sector::{Block, Leader};
 use sl_text::Name;
-use sl_trace::{Aim, LeaseNext, LeaseRead, LeaseStep, Mode, Reply};
+use sl_trace::{Aim, LeaseNext, LeaseRead, LeaseStep, Limited, Mode, Reply};
 
 impl Lease {
     /// The free that is owed is written.
@@ -91,6 +95,20 @@ impl Lease {
         }
     }
 
+    /// What was decided, unless it writes a block whose turn would pass its limit. Only blocks of pairs have a turn.
+    #[tactic(auto, unfolding(sl_trace::specs::LeaseWork::within_turn))]
+    fn within_turn(&self, side: &Side, aim: Aim, next: LeaseNext) -> LeaseNext
+        requires { IsSession side.now.geometry side.now.me }
+        ensures exact { (h : Held) (over : ℕ → ℕ → Bool) (read : List (Option Block)) → result ≡ within_turn (place_of side.now) (known_with side.now self.now h over read) aim next }
+        ensures fit { IsFitNext next → IsFitNext result }
+    {
+        if side.geometry.is_paired() && self.next_turn() >= 1 << 63 {
+            refuses_block(aim, next)
+        } else {
+            next
+        }
+    }
+
     /// What comes next after a read at this step, which gave this leader, if it reads one, and these blocks, those of hosts 1, 2 .. in order,
     /// none where one is torn. The answer was told by `read_answered` before.
     pub fn after_read<E: Evidence>(
@@ -106,14 +124,17 @@ impl Lease {
         requires leader { IfSome leader.now IsLeader }
         requires read { IsRead side.now.geometry side.now.me read.now }
         ensures exact { IsTrue (is_first_step step || is_named self.now) → TopStands self.now read.now
-            → result ≡ read_asked (place_of side.now) (known_with side.now self.now held (E.over evidence.now) read.now) aim leader.now read.now step }
+            → result ≡ within_turn (place_of side.now) (known_with side.now self.now held (E.over evidence.now) read.now) aim
+            (read_asked (place_of side.now) (known_with side.now self.now held (E.over evidence.now) read.now) aim leader.now read.now step) }
         ensures decides { (call n : ℕ) (bytes : List ℕ) (ms : List Submitted) → IsTrue (is_first_step step || is_named self.now)
             → LeaseStands (layout_in side.now) side.now.lockspace side.now.me self.now ms → IsLastRead (layout_in side.now) step bytes leader.now read.now ms
-            → result ≡ lease_next (place_of side.now) (known_of (layout_in side.now) side.now.lockspace side.now.me held.shared held.exclusive (E.over evidence.now) ms)
-            aim call n step (Read bytes) }
+            → result ≡ within_turn (place_of side.now) (known_of (layout_in side.now) side.now.lockspace side.now.me held.shared held.exclusive (E.over evidence.now) ms) aim
+            (lease_next (place_of side.now) (known_of (layout_in side.now) side.now.lockspace side.now.me held.shared held.exclusive (E.over evidence.now) ms)
+            aim call n step (Read bytes)) }
         ensures fit { IsFitNext result }
     {
-        self.read_next(side, held, evidence, aim, step, leader, read)
+        let next = self.read_next(side, held, evidence, aim, step, leader, read);
+        self.within_turn(side, aim, next)
     }
 
     /// The same, by what is kept of the lease.
@@ -284,14 +305,17 @@ impl Lease {
     ) -> LeaseNext
         requires { IsSession side.now.geometry side.now.me }
         ensures exact { IsTrue (is_first_step step || is_named self.now) → (over : ℕ → ℕ → Bool) (read : List (Option Block)) → TopStands self.now read
-            → result ≡ after_write (place_of side.now) (known_with side.now self.now held over read) aim n step }
+            → result ≡ within_turn (place_of side.now) (known_with side.now self.now held over read) aim
+            (after_write (place_of side.now) (known_with side.now self.now held over read) aim n step) }
         ensures decides { (call : ℕ) (over : ℕ → ℕ → Bool) (ms : List Submitted) → IsTrue (is_first_step step || is_named self.now)
             → LeaseStands (layout_in side.now) side.now.lockspace side.now.me self.now ms
-            → result ≡ lease_next (place_of side.now) (known_of (layout_in side.now) side.now.lockspace side.now.me held.shared held.exclusive over ms)
-            aim call n step Written }
+            → result ≡ within_turn (place_of side.now) (known_of (layout_in side.now) side.now.lockspace side.now.me held.shared held.exclusive over ms) aim
+            (lease_next (place_of side.now) (known_of (layout_in side.now) side.now.lockspace side.now.me held.shared held.exclusive over ms)
+            aim call n step Written) }
         ensures fit { IsInstance n → IsFitNext result }
     {
-        self.write_next(side, held, aim, n, step)
+        let next = self.write_next(side, held, aim, n, step);
+        self.within_turn(side, aim, next)
     }
 
     /// The same, by what is kept of the lease.
@@ -322,12 +346,30 @@ impl Lease {
     pub fn settle(&self, side: &Side, held: Held) -> LeaseNext
         requires { IsSession side.now.geometry side.now.me }
         ensures exact { (over : ℕ → ℕ → Bool) (read : List (Option Block)) → TopStands self.now read
-            → result ≡ settle_next (place_of side.now) (known_with side.now self.now held over read) }
+            → result ≡ within_turn (place_of side.now) (known_with side.now self.now held over read) Settles
+            (settle_begin (place_of side.now) (known_with side.now self.now held over read)) }
         ensures decides { (over : ℕ → ℕ → Bool) (ms : List Submitted) → LeaseStands (layout_in side.now) side.now.lockspace side.now.me self.now ms
-            → result ≡ settle_next (place_of side.now) (known_of (layout_in side.now) side.now.lockspace side.now.me held.shared held.exclusive over ms) }
+            → result ≡ within_turn (place_of side.now) (known_of (layout_in side.now) side.now.lockspace side.now.me held.shared held.exclusive over ms) Settles
+            (settle_begin (place_of side.now) (known_of (layout_in side.now) side.now.lockspace side.now.me held.shared held.exclusive over ms)) }
         ensures fit { IsFitNext result }
     {
-        self.settle_known(side, held)
+        let next = self.settle_first(side, held);
+        self.within_turn(side, Aim::Settles, next)
+    }
+
+    /// A settling begins: with pairs, one that writes a block reads the blocks first, once, for the turn and the next number alone.
+    #[tactic(auto, unfolding(sl_trace::specs::LeaseWork::settle_begin))]
+    fn settle_first(&self, side: &Side, held: Held) -> LeaseNext
+        requires { IsSession side.now.geometry side.now.me }
+        ensures exact { (over : ℕ → ℕ → Bool) (read : List (Option Block)) → TopStands self.now read
+            → result ≡ settle_begin (place_of side.now) (known_with side.now self.now held over read) }
+        ensures fit { IsFitNext result }
+    {
+        if side.geometry.is_paired() && self.owes_block(held) {
+            LeaseNext::ReadFor(LeaseStep::ReadBeforeBlock)
+        } else {
+            self.settle_known(side, held)
+        }
     }
 
     /// What a release does first, once the last holding under the lease has ended: an exclusive lease of instance `lver` frees the leader,
@@ -335,13 +377,16 @@ impl Lease {
     pub fn release(&self, side: &Side, mode: Mode, lver: u64) -> LeaseNext
         requires { IsSession side.now.geometry side.now.me }
         ensures exact { IsTrue (is_named self.now) → (held : Held) (over : ℕ → ℕ → Bool) (read : List (Option Block))
-            → result ≡ release_next (place_of side.now) (known_with side.now self.now held over read) mode lver }
+            → result ≡ within_turn (place_of side.now) (known_with side.now self.now held over read) Releases
+            (release_next (place_of side.now) (known_with side.now self.now held over read) mode lver) }
         ensures decides { IsTrue (is_named self.now) → (held : Held) (over : ℕ → ℕ → Bool) (ms : List Submitted)
             → LeaseStands (layout_in side.now) side.now.lockspace side.now.me self.now ms
-            → result ≡ release_next (place_of side.now) (known_of (layout_in side.now) side.now.lockspace side.now.me held.shared held.exclusive over ms) mode lver }
+            → result ≡ within_turn (place_of side.now) (known_of (layout_in side.now) side.now.lockspace side.now.me held.shared held.exclusive over ms) Releases
+            (release_next (place_of side.now) (known_of (layout_in side.now) side.now.lockspace side.now.me held.shared held.exclusive over ms) mode lver) }
         ensures fit { IsInstance lver → IsFitNext result }
     {
-        self.release_known(side, mode, lver)
+        let next = self.release_known(side, mode, lver);
+        self.within_turn(side, Aim::Releases, next)
     }
 
     /// The same, by what is kept of the lease.
@@ -362,12 +407,15 @@ impl Lease {
     pub fn convert(&self, side: &Side, mode: Mode, resource: Name) -> LeaseNext
         requires { IsSession side.now.geometry side.now.me }
         ensures exact { (held : Held) (over : ℕ → ℕ → Bool) (read : List (Option Block))
-            → result ≡ convert_next (known_with side.now self.now held over read) mode resource }
+            → result ≡ within_turn (place_of side.now) (known_with side.now self.now held over read) (Converts mode)
+            (convert_next (known_with side.now self.now held over read) mode resource) }
         ensures decides { (held : Held) (over : ℕ → ℕ → Bool) (ms : List Submitted) → LeaseStands (layout_in side.now) side.now.lockspace side.now.me self.now ms
-            → result ≡ convert_next (known_of (layout_in side.now) side.now.lockspace side.now.me held.shared held.exclusive over ms) mode resource }
+            → result ≡ within_turn (place_of side.now) (known_of (layout_in side.now) side.now.lockspace side.now.me held.shared held.exclusive over ms) (Converts mode)
+            (convert_next (known_of (layout_in side.now) side.now.lockspace side.now.me held.shared held.exclusive over ms) mode resource) }
         ensures fit { IsFitNext result }
     {
-        self.convert_known(side, mode, resource)
+        let next = self.convert_known(side, mode, resource);
+        self.within_turn(side, Aim::Converts(mode), next)
     }
 
     /// The same, by what is kept of the lease.
@@ -384,9 +432,38 @@ impl Lease {
     }
 }
 
+/// Refused where it writes a block.
+fn refuses_block(aim: Aim, next: LeaseNext) -> LeaseNext
+    ensures exact { result ≡ refuses_block aim next }
+    ensures fit { IsFitNext next → IsFitNext result }
+{
+    let limit = Reply::Limit {
+        which: Limited::Turn,
+    };
+    match next {
+        LeaseNext::WriteBlock { step: _, block: _ } => refuses(aim, limit),
+        LeaseNext::BecomeExclusive { lver: _, block: _ } => refuses(aim, limit),
+        next => next,
+    }
+}
+
+/// What comes next after the answer of a first read at this step, which is to be made once more.
+pub fn after_first(step: LeaseStep) -> LeaseNext
+    ensures exact { result ≡ again_asked step }
+    ensures decides { (p : LeasePlace) (k : LeaseKnown) (aim : AimOf) (call n : ℕ) (bytes : List ℕ) (read : LeaseReadOf) → asked_again p.layout bytes step ≡ Some read
+        → result ≡ within_turn p k aim (lease_next p k aim call n step (Read bytes)) }
+    ensures fit { IsFitNext result }
+{
+    match read_of_step(&step) {
+        Some(read) => LeaseNext::ReadFor(LeaseStep::ReadAgain { read }),
+        None => LeaseNext::Nothing,
+    }
+}
+
 /// What comes next after the call of this number has failed.
 pub fn after_failure(aim: Aim, call: u64) -> LeaseNext
     ensures exact { result ≡ refuses aim (IoFault call) }
+    ensures within { (p : LeasePlace) (k : LeaseKnown) → within_turn p k aim result ≡ result }
     ensures fit { IsFitNext result }
 {
     refuses(aim, Reply::IoFault { call })

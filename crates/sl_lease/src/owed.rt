@@ -11,7 +11,7 @@ ghost use Rattle.sl_lease.specs.Bounds.{IsBegun, IsInstance, IsSession};
 ghost use Rattle.sl_lease.specs.Side.{known_with, place_of};
 ghost use Rattle.sl_lease.specs.Steps.{IsFitNext};
 ghost use Rattle.sl_trace.specs.Ballots.{moded_block, phase1_block};
-ghost use Rattle.sl_trace.specs.LeaseWork.{begin_next, phase1_next, refuses, settle_next};
+ghost use Rattle.sl_trace.specs.LeaseWork.{begin_next, owes_block, phase1_next, refuses, settle_next};
 ghost use Rattle.sl_trace.specs.Leases.{block_of_host, mode_gen_of, owed, own_or_read};
 ghost use Rattle.sl_lease.specs.declared.side.Side.{Side};
 ghost use Rattle.sl_trace.specs.declared.lease.Aim.TheVariants.{Settles};
@@ -196,6 +196,18 @@ impl Lease {
         }
         self.owed_free(held)
             .map(|instance| Owed::FreeOwed { instance })
+    }
+
+    /// Whether what settling has to do first writes a block.
+    pub(crate) fn owes_block(&self, held: Held) -> bool
+        ensures { (side : Side) (over : ℕ → ℕ → Bool) (read : List (Option Block)) → result ≡ owes_block (owed (known_with side self.now held over read)) }
+    {
+        match self.owed(held) {
+            None => false,
+            Some(Owed::BallotOwed { instance: _ }) => true,
+            Some(Owed::ModeOwed) => true,
+            Some(Owed::FreeOwed { instance: _ }) => false,
+        }
     }
 
     /// The own block without its mode is written.

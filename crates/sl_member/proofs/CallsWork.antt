@@ -6,7 +6,7 @@ use Rattle.sl_host_state.specs.Makes.{is_lease_on, lease_calling, leases_working
 use Rattle.sl_host_state.specs.Stands.{pair_of}
 use Rattle.sl_host_state.specs.declared.kept.ValuePair.{ValuePair}
 use Rattle.sl_lease.proofs.SameLaws.{hosts_keep_the_same}
-use Rattle.sl_lease.specs.Changes.{after_value}
+use Rattle.sl_lease.specs.Changes.{after_reading, after_value}
 use Rattle.sl_lease.specs.Laws.{at_step}
 use Rattle.sl_trace.specs.Leases.{is_on, is_spot_before, lease_step, spot_of_call, value_written}
 use Rattle.sl_member.proofs.Places.{called_stays, none_changed}
@@ -37,18 +37,20 @@ purpose_is p work step h = absurd (none_some (work, step) h)
 none_freed : (n : ℕ) → max 0 n ≡ n
 none_freed n = omega arith
 
+-- A call that neither reads nor writes block or leader counts as a read.
+unchanged : (m : Submitted) (work : Work) (step : LeaseStep) (l : LeaseState)
+    → (let x : LeaseState = after_reading m.call.number work step l in record x { freed = max 0 l.freed }) ≡ after_reading m.call.number work step l
+unchanged m work step l = ap (λ f. let x : LeaseState = after_reading m.call.number work step l in record x { freed = f }) (none_freed l.freed)
+
 as_read : (m : Submitted) (work : Work) (step : LeaseStep) (op : Op) (l : LeaseState) → lease_calling (at_step m work step op) l ≡ lease_called m.call.number work step op l
 as_read m work step (ReadSectors n) l = hosts_keep_the_same.reads m work step n l
 as_read m work step (WriteRecord (BlockIs b)) l = hosts_keep_the_same.writes_block m work step b l
 as_read m work step (WriteRecord (LeaderIs d)) l = hosts_keep_the_same.writes_leader m work step d l
-as_read m work step (WriteRecord (PairIs p)) l = hosts_keep_the_same.writes_block m work step p.block l
-as_read m work step (WriteRecord (PairLeaderIs d)) l = hosts_keep_the_same.writes_leader m work step d l
-as_read m work step (WriteRecord (DeltaIs d)) l =
-    ap (λ f. record l { freed = f; waiting = Some (record { number = m.call.number; work = work; step = step; frees = None; clears = false }) }) (none_freed l.freed)
-as_read m work step (WriteRecord (RequestIs d)) l =
-    ap (λ f. record l { freed = f; waiting = Some (record { number = m.call.number; work = work; step = step; frees = None; clears = false }) }) (none_freed l.freed)
-as_read m work step (WriteRecord (ValueIs d)) l =
-    ap (λ f. record l { freed = f; waiting = Some (record { number = m.call.number; work = work; step = step; frees = None; clears = false }) }) (none_freed l.freed)
+as_read m work step (WriteRecord (PairIs p)) l = hosts_keep_the_same.writes_pair m work step p l
+as_read m work step (WriteRecord (PairLeaderIs d)) l = hosts_keep_the_same.writes_pair_leader m work step d l
+as_read m work step (WriteRecord (DeltaIs d)) l = unchanged m work step l
+as_read m work step (WriteRecord (RequestIs d)) l = unchanged m work step l
+as_read m work step (WriteRecord (ValueIs d)) l = unchanged m work step l
 
 -- What it makes of its lease.
 pub called_is : (m : Submitted) (work : Work) (step : LeaseStep) (l : LeaseState) → lease_step m.call.purpose ≡ Some (work, step)

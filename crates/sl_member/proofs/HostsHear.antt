@@ -1,21 +1,21 @@
 -- What code makes of a member is what a host's state functions make of it.
 use Rattle.sl_area.specs.Layouts.{Layout, layout_of}
-use Rattle.sl_host_state.specs.Hears.{asked_hearing, counted, is_heeded_by, joining_hearing, lease_hearing, lease_told, member_begun, member_hearing, member_leaving, renewing_hearing, watch_hearing}
+use Rattle.sl_host_state.specs.Hears.{asked_hearing, counted, is_heeded_by, joining_hearing, kept_heard, lease_hearing, lease_told, member_begun, member_hearing, member_leaving, renewing_hearing, turn_heard, watch_hearing}
 use Rattle.sl_host_state.specs.Kept.{HostState, LeaseState, MemberState}
 use Rattle.sl_host_state.specs.Makes.{is_lease_on}
 use Rattle.sl_host_state.specs.declared.kept.LeaseCall.{LeaseCall}
 use Rattle.sl_host_state.specs.declared.kept.OpenCall.{OpenCall}
 use Rattle.sl_lease.proofs.SameLaws.{hosts_keep_the_same as leases_keep_the_same}
 use Rattle.sl_lease.specs.Asked.{leader_given, read_given}
-use Rattle.sl_lease.specs.Changes.{after_failure, after_read, after_write, read_told, write_told}
-use Rattle.sl_lease.specs.Laws.{open_at_step}
+use Rattle.sl_lease.specs.Changes.{after_failure, after_write, read_told, turn_told, write_told}
+use Rattle.sl_lease.specs.Laws.{IsGiven, IsReadCall, first_by, open_at_step}
 use Rattle.sl_lease.specs.declared.side.Side.{Side}
 use Rattle.sl_trace.specs.Leases.{lease_step}
 use Rattle.sl_member.specs.Laws.{HostsKeepTheSame, IsAwaited, IsAwaitedAt, IsWaitingFor, area_of_call, heard_by_parts, leases_told, waits_for}
-use Rattle.sl_member.specs.Leases.{changed_at}
+use Rattle.sl_member.specs.Leases.{changed_at, kept_shown, read_shown}
 use Rattle.sl_member.specs.Members.{RunOf, leaving_begun, own_told, recovery_begun}
 use Rattle.sl_member.specs.Together.{begun_by, begun_in, late_by, side_with}
-use Rattle.sl_sector.specs.declared.sector.Owner.{Owner}
+use Rattle.sl_sector.specs.declared.sector.PairBlock.{PairBlock}
 use Rattle.sl_trace.specs.declared.delta.DeltaKnown.{DeltaKnown}
 use Rattle.sl_trace.specs.declared.effects.LeaseStep.{LeaseStep}
 use Rattle.sl_trace.specs.declared.effects.Purpose.{Purpose}
@@ -34,7 +34,7 @@ use Rattle.std.specs.Prelude.{Bool, List, None, Option, Some, cond, false, is_so
 other_told : (h : HostState) (m : MemberState) (heeded : Bool) (c : OpenCall) (a : Answer) (l : LeaseState) → waits_for c.number l ≡ false → lease_told h m heeded c a l ≡ l
 other_told h m heeded c a l none = by l.waiting none where
   told : LeaseCall → LeaseState
-  told w = lease_hearing h.config.layout m.who.lockspace (record { id = m.who.id; generation = m.known.generation }) heeded c a w.step w.frees w.clears l
+  told w = lease_hearing h.config.layout m.who.lockspace (record { id = m.who.id; generation = m.known.generation }) heeded c a w l
 
   by : (o : Option LeaseCall) → (elim o [ None ↦ false | Some w ↦ w.number == c.number ]) ≡ false → (elim o [ None ↦ l | Some w ↦ cond (w.number == c.number) (told w) l ]) ≡ l
   by None is = refl
@@ -118,33 +118,41 @@ one_number n k is = (Decides-eqb n k).1 is
 -- The lease that waits for the call hears it.
 awaited : (h : HostState) (m : MemberState) (heeded : Bool) (c : OpenCall) (w : LeaseCall) (a : Answer) (l : LeaseState) → IsWaitingFor c w l
     → lease_told h m heeded c a l
-    ≡ lease_hearing h.config.layout m.who.lockspace (record { id = m.who.id; generation = m.known.generation }) heeded (open_at_step c w.work w.step) a w.step w.frees w.clears l
+    ≡ lease_hearing h.config.layout m.who.lockspace (record { id = m.who.id; generation = m.known.generation }) heeded (open_at_step c w.work w.step) a w l
 awaited h m heeded c w a l k =
     ap (λ o. elim o [ None ↦ l | Some v ↦ cond (v.number == c.number) (told c v) l ]) k.waiting ∙ ap (λ b. cond b (told c w) l) (one_number w.number c.number k.number)
     ∙ ap (λ (p : Purpose). told (record c { purpose = p }) w) k.purpose
   where
     told : OpenCall → LeaseCall → LeaseState
-    told d v = lease_hearing h.config.layout m.who.lockspace (record { id = m.who.id; generation = m.known.generation }) heeded d a v.step v.frees v.clears l
+    told d v = lease_hearing h.config.layout m.who.lockspace (record { id = m.who.id; generation = m.known.generation }) heeded d a v l
 
 laid : (run : RunOf) (h : HostState) (m : MemberState) (heeded : Bool) (c : OpenCall) (w : LeaseCall) (a : Answer) (l : LeaseState) → h.config.layout ≡ layout_of run.sizes
-    → lease_hearing h.config.layout m.who.lockspace (record { id = m.who.id; generation = m.known.generation }) heeded (open_at_step c w.work w.step) a w.step w.frees w.clears l
-    ≡ lease_hearing (layout_of run.sizes) m.who.lockspace (record { id = m.who.id; generation = m.known.generation }) heeded (open_at_step c w.work w.step) a w.step w.frees w.clears l
+    → lease_hearing h.config.layout m.who.lockspace (record { id = m.who.id; generation = m.known.generation }) heeded (open_at_step c w.work w.step) a w l
+    ≡ lease_hearing (layout_of run.sizes) m.who.lockspace (record { id = m.who.id; generation = m.known.generation }) heeded (open_at_step c w.work w.step) a w l
 laid run h m heeded c w a l same =
-    ap (λ (g : Layout). lease_hearing g m.who.lockspace (record { id = m.who.id; generation = m.known.generation }) heeded (open_at_step c w.work w.step) a w.step w.frees w.clears l) same
+    ap (λ (g : Layout). lease_hearing g m.who.lockspace (record { id = m.who.id; generation = m.known.generation }) heeded (open_at_step c w.work w.step) a w l) same
 
+-- A read that gives something, with what is kept of the first one where it is the second.
 reads : (run : RunOf) (h : HostState) (m : MemberState) (heeded : Bool) (c : OpenCall) (w : LeaseCall) (bytes : List ℕ) (l : LeaseState) → h.config.layout ≡ layout_of run.sizes
-    → IsWaitingFor c w l → w.frees ≡ None → w.clears ≡ false
-    → lease_told h m heeded c (Read bytes) l ≡ after_read (side_with run m) heeded (leader_given (layout_of run.sizes) w.step bytes) (read_given (layout_of run.sizes) w.step bytes) l
-reads run h m heeded c w bytes l same k frees clears =
-    let self : Owner = record { id = m.who.id; generation = m.known.generation } in
+    → IsWaitingFor c w l → IsReadCall w → IsGiven (layout_of run.sizes) l.pair w.step bytes
+    → lease_told h m heeded c (Read bytes) l
+    ≡ read_shown (side_with run m) (turn_heard (layout_of run.sizes) m.who.id w.step None (Read bytes)) heeded
+    (leader_given (layout_of run.sizes) (first_by l.pair w.step) w.step bytes) (read_given (layout_of run.sizes) (first_by l.pair w.step) w.step bytes) l
+reads run h m heeded c w bytes l same k reading given =
     let z : Side = side_with run m in
-    let d = leader_given (layout_of run.sizes) w.step bytes in
-    let read = read_given (layout_of run.sizes) w.step bytes in
-    awaited h m heeded c w (Read bytes) l k ∙ laid run h m heeded c w (Read bytes) l same
-    ∙ ap (λ f. lease_hearing (layout_of run.sizes) m.who.lockspace self heeded (open_at_step c w.work w.step) (Read bytes) w.step f w.clears l) frees
-    ∙ ap (λ b. lease_hearing (layout_of run.sizes) m.who.lockspace self heeded (open_at_step c w.work w.step) (Read bytes) w.step None b l) clears
-    ∙ leases_keep_the_same.read_answered z heeded c w.work w.step bytes l
-    ∙ sym (ap (λ o. elim o [ None ↦ l | Some v ↦ read_told z heeded v.step d read l ]) k.waiting)
+    let first = first_by l.pair w.step in
+    let d = leader_given (layout_of run.sizes) first w.step bytes in
+    let read = read_given (layout_of run.sizes) first w.step bytes in
+    let shown : LeaseState = turn_told (turn_heard (layout_of run.sizes) m.who.id w.step None (Read bytes)) l in
+    awaited h m heeded c w (Read bytes) l k ∙ laid run h m heeded c w (Read bytes) l same ∙ leases_keep_the_same.read_answered z heeded c w bytes l reading given
+    ∙ sym (ap (λ o. elim o [ None ↦ shown | Some v ↦ read_told z heeded v.step d read shown ]) k.waiting)
+
+-- One that is to be made once more.
+keeps : (run : RunOf) (h : HostState) (m : MemberState) (heeded : Bool) (c : OpenCall) (w : LeaseCall) (bytes : List ℕ) (pairs : List (Option PairBlock)) (l : LeaseState)
+    → h.config.layout ≡ layout_of run.sizes → IsWaitingFor c w l → IsReadCall w → kept_heard (layout_of run.sizes) w.step (Read bytes) ≡ Some pairs
+    → lease_told h m heeded c (Read bytes) l ≡ kept_shown (turn_heard (layout_of run.sizes) m.who.id w.step None (Read bytes)) pairs l
+keeps run h m heeded c w bytes pairs l same k reading kept =
+    awaited h m heeded c w (Read bytes) l k ∙ laid run h m heeded c w (Read bytes) l same ∙ leases_keep_the_same.read_kept (side_with run m) heeded c w bytes pairs l reading kept k.waiting
 
 writes : (run : RunOf) (h : HostState) (m : MemberState) (heeded : Bool) (c : OpenCall) (w : LeaseCall) (l : LeaseState) → h.config.layout ≡ layout_of run.sizes → IsWaitingFor c w l
     → lease_told h m heeded c Written l ≡ after_write l
@@ -174,6 +182,7 @@ hosts_keep_the_same = record {
   calling = λ g m ms. refl;
   hearing = hears;
   lease_read = reads;
+  lease_kept = keeps;
   lease_written = writes;
   lease_failed = fails;
   begun = begins;

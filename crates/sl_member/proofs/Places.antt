@@ -1,14 +1,15 @@
 -- Where a lease stands among leases by place, and what a change there makes of them.
-use Rattle.sl_host_state.specs.Kept.{LeaseState}
+use Rattle.sl_host_state.specs.Kept.{LeaseState, PairState}
 use Rattle.sl_host_state.specs.Makes.{is_lease_on, new_lease}
 use Rattle.sl_host_state.specs.declared.kept.LeaseCall.{LeaseCall}
-use Rattle.sl_lease.specs.Changes.{after_read, after_write, read_told, write_told}
+use Rattle.sl_lease.specs.Changes.{after_write, read_told, turn_told, write_told}
 use Rattle.sl_lease.specs.declared.side.Side.{Side}
 use Rattle.sl_trace.specs.Leases.{is_spot_before}
 use Rattle.sl_member.proofs.SpotOrder.{same_itself, spot_apart, spot_asym, spot_is, spot_past, spot_same, spot_trans}
-use Rattle.sl_member.specs.Leases.{AreByPlace, IsFound, IsGap, IsPlaceOf, IsThere, LeasesState, changed_at, lease_called, with_lease}
+use Rattle.sl_member.specs.Leases.{AreByPlace, IsFound, IsGap, IsPlaceOf, IsThere, LeasesState, changed_at, kept_shown, lease_called, read_shown, with_lease}
 use Rattle.sl_sector.specs.declared.sector.Block.{Block}
 use Rattle.sl_sector.specs.declared.sector.Leader.{Leader}
+use Rattle.sl_sector.specs.declared.sector.PairBlock.{PairBlock}
 use Rattle.sl_sector.specs.declared.sector.Rec.TheVariants.{BlockIs, LeaderIs, PairIs, PairLeaderIs}
 use Rattle.sl_trace.specs.Traces.{same_spot}
 use Rattle.sl_trace.specs.declared.effects.LeaseStep.{LeaseStep}
@@ -266,15 +267,24 @@ called_stays number work step (WriteRecord (PairIs p)) l = refl
 called_stays number work step (WriteRecord (PairLeaderIs d)) l = refl
 called_stays number work step op l = refl
 
-pub read_stays : (z : Side) (heeded : Bool) (d : Option Leader) (read : List (Option Block)) (l : LeaseState) → (after_read z heeded d read l).spot ≡ l.spot
-read_stays z heeded d read l = by l.waiting where
-  by : (o : Option LeaseCall) → (let m : LeaseState = elim o [ None ↦ l | Some w ↦ read_told z heeded w.step d read l ] in m.spot) ≡ l.spot
+pub read_stays : (z : Side) (turn : Option ℕ) (heeded : Bool) (d : Option Leader) (read : List (Option Block)) (l : LeaseState) → (read_shown z turn heeded d read l).spot ≡ l.spot
+read_stays z turn heeded d read l = by l.waiting where
+  by : (o : Option LeaseCall) → (let m : LeaseState = elim o [ None ↦ turn_told turn l | Some w ↦ read_told z heeded w.step d read (turn_told turn l) ] in m.spot) ≡ l.spot
   by None = refl
   by (Some w) = refl
 
 pub write_stays : (l : LeaseState) → (after_write l).spot ≡ l.spot
 write_stays l = by l.waiting where
   by : (o : Option LeaseCall) → (let m : LeaseState = elim o [ None ↦ l | Some w ↦ write_told w l ] in m.spot) ≡ l.spot
+  by None = refl
+  by (Some w) = refl
+
+pub kept_stays : (turn : Option ℕ) (pairs : List (Option PairBlock)) (l : LeaseState) → (kept_shown turn pairs l).spot ≡ l.spot
+kept_stays turn pairs l = by l.waiting where
+  kept : LeaseState
+  kept = let s : LeaseState = turn_told turn l in let p : PairState = s.pair in record s { waiting = None; pair = record p { first = Some pairs } }
+
+  by : (o : Option LeaseCall) → (let m : LeaseState = elim o [ None ↦ turn_told turn l | Some w ↦ kept ] in m.spot) ≡ l.spot
   by None = refl
   by (Some w) = refl
 

@@ -1,14 +1,16 @@
 -- What code makes of a member is what a host's state functions make of it.
 use Rattle.sl_area.specs.Layouts.{Layout, layout_of}
-use Rattle.sl_host_state.specs.Hears.{asked_hearing, counted, is_heeded_by, lease_told, member_begun, member_hearing, member_leaving, renewed_of, renewing_hearing, still_busy, watch_hearing}
+use Rattle.sl_host_state.specs.Hears.{kept_heard, asked_hearing, counted, is_heeded_by, lease_told, member_begun, member_hearing, member_leaving, renewed_of, renewing_hearing, still_busy, watch_hearing, turn_heard}
 use Rattle.sl_host_state.specs.Kept.{HostState, LeaseState, MemberState}
 use Rattle.sl_host_state.specs.Makes.{is_lease_on, member_calling}
 use Rattle.sl_host_state.specs.declared.kept.LeaseCall.{LeaseCall}
 use Rattle.sl_host_state.specs.declared.kept.OpenCall.{OpenCall}
+use Rattle.sl_lease.specs.Laws.{IsGiven, IsReadCall, first_by}
+use Rattle.sl_sector.specs.declared.sector.PairBlock.{PairBlock}
 use Rattle.sl_lease.specs.Asked.{leader_given, read_given}
-use Rattle.sl_lease.specs.Changes.{after_failure, after_read, after_write}
+use Rattle.sl_lease.specs.Changes.{after_failure, after_write}
 use Rattle.sl_trace.specs.Leases.{lease_step}
-use Rattle.sl_member.specs.Leases.{changed_at}
+use Rattle.sl_member.specs.Leases.{changed_at, kept_shown, read_shown}
 use Rattle.sl_member.specs.Members.{IsKnown, RunOf, lease_changed, leaving_begun, member_called, own_told, renewing_told}
 use Rattle.sl_member.specs.Seen.{shows_other_by}
 use Rattle.sl_member.specs.Together.{begun_by, changed_member, side_with}
@@ -82,9 +84,13 @@ pub record HostsKeepTheSame : Type 0 where
   pub hearing : (h : HostState) (c : OpenCall) (a : Answer) (m : MemberState) → IsAwaited h c m → member_hearing h c a m ≡ heard_by_parts h c a m
   -- .. told to the lease that waits for it
   pub lease_read : (run : RunOf) (h : HostState) (m : MemberState) (heeded : Bool) (c : OpenCall) (w : LeaseCall) (bytes : List ℕ) (l : LeaseState)
-      → h.config.layout ≡ layout_of run.sizes → IsWaitingFor c w l → w.frees ≡ None → w.clears ≡ false
+      → h.config.layout ≡ layout_of run.sizes → IsWaitingFor c w l → IsReadCall w → IsGiven (layout_of run.sizes) l.pair w.step bytes
       → lease_told h m heeded c (Read bytes) l
-      ≡ after_read (side_with run m) heeded (leader_given (layout_of run.sizes) w.step bytes) (read_given (layout_of run.sizes) w.step bytes) l
+      ≡ read_shown (side_with run m) (turn_heard (layout_of run.sizes) m.who.id w.step None (Read bytes)) heeded
+      (leader_given (layout_of run.sizes) (first_by l.pair w.step) w.step bytes) (read_given (layout_of run.sizes) (first_by l.pair w.step) w.step bytes) l
+  pub lease_kept : (run : RunOf) (h : HostState) (m : MemberState) (heeded : Bool) (c : OpenCall) (w : LeaseCall) (bytes : List ℕ) (pairs : List (Option PairBlock)) (l : LeaseState)
+      → h.config.layout ≡ layout_of run.sizes → IsWaitingFor c w l → IsReadCall w → kept_heard (layout_of run.sizes) w.step (Read bytes) ≡ Some pairs
+      → lease_told h m heeded c (Read bytes) l ≡ kept_shown (turn_heard (layout_of run.sizes) m.who.id w.step None (Read bytes)) pairs l
   pub lease_written : (run : RunOf) (h : HostState) (m : MemberState) (heeded : Bool) (c : OpenCall) (w : LeaseCall) (l : LeaseState)
       → h.config.layout ≡ layout_of run.sizes → IsWaitingFor c w l → lease_told h m heeded c Written l ≡ after_write l
   pub lease_failed : (run : RunOf) (h : HostState) (m : MemberState) (heeded : Bool) (c : OpenCall) (w : LeaseCall) (l : LeaseState)

@@ -5,9 +5,13 @@ use Rattle.sl_area.specs.Places.{in_area}
 use Rattle.sl_host_state.specs.Makes.{is_lease_on, leases_calling, new_lease}
 use Rattle.sl_host_state.specs.declared.kept.ValuePair.{ValuePair}
 use Rattle.sl_lease.specs.Bounds.{IsBegun}
-use Rattle.sl_lease.specs.Changes.{after_block, after_leader, after_reading, after_value}
-use Rattle.sl_trace.specs.Leases.{is_lease_call, is_spot_before, spot_of_call}
+use Rattle.sl_lease.specs.Changes.{after_block, after_kept, after_leader, after_read, after_reading, after_value, turn_told}
+use Rattle.sl_lease.specs.declared.side.Side.{Side}
+use Rattle.sl_trace.specs.Leases.{is_lease_call, is_second, is_spot_before, spot_of_call}
 use Rattle.sl_sector.specs.Records.{Fits}
+use Rattle.sl_sector.specs.declared.sector.Block.{Block}
+use Rattle.sl_sector.specs.declared.sector.Leader.{Leader}
+use Rattle.sl_sector.specs.declared.sector.PairBlock.{PairBlock}
 use Rattle.sl_sector.specs.declared.sector.Rec.TheVariants.{BlockIs, LeaderIs, PairIs, PairLeaderIs}
 use Rattle.sl_trace.specs.Traces.{Submitted}
 use Rattle.sl_trace.specs.declared.effects.LeaseStep.{LeaseStep}
@@ -18,7 +22,7 @@ use Rattle.sl_trace.specs.declared.effects.Work.{Work}
 use Rattle.sl_words.specs.Orders.{put_in}
 use Rattle.std.specs.List.{AllByRecursion, list_any}
 use Rattle.std.proofs.Common.{suc, zero}
-use Rattle.std.specs.Prelude.{Bool, List, None, Option, Some, bytes_eq, cond, false, length, map, not, slice_get, true, [], ℕ, ◌&&◌, ◌-◌, ◌<◌, ◌∷◌, ◌≡◌, ◌≤◌}
+use Rattle.std.specs.Prelude.{Bool, List, None, Option, Some, bytes_eq, cond, false, find, length, map, not, option_and_then, slice_get, true, [], ℕ, ◌&&◌, ◌-◌, ◌<◌, ◌∷◌, ◌≡◌, ◌≤◌}
 
 -- The leases, and for how many more there is memory.
 pub record LeasesState : Type 0 where
@@ -66,17 +70,17 @@ changed_at at f ls = map (λ l. cond (is_lease_on at l) (f l) l) ls
 
 -- A lease whose call of this number is submitted, at a step of its work, to do this: what doesn't write block or leader counts as a read.
 abbrev pub lease_called : ℕ → Work → LeaseStep → Op → LeaseState → LeaseState
-lease_called number work step (WriteRecord (BlockIs b)) l = after_block number work step b l
+lease_called number work step (WriteRecord (BlockIs b)) l = after_block number work step None b l
 lease_called number work step (WriteRecord (LeaderIs d)) l = after_leader number work step d l
-lease_called number work step (WriteRecord (PairIs p)) l = after_block number work step p.block l
+lease_called number work step (WriteRecord (PairIs p)) l = after_block number work step (Some p.turn) p.block l
 lease_called number work step (WriteRecord (PairLeaderIs d)) l = after_leader number work step d l
 lease_called number work step op l = after_reading number work step l
 
--- What such a call writes can be kept: a block that is one of a ballot, a leader whose instance fits a record.
+-- What such a call writes can be kept: a block that is one of a ballot, with a turn that fits a record, a leader whose instance does.
 abbrev pub IsKeepable : Op → Type 0
 IsKeepable (WriteRecord (BlockIs b)) = IsBegun b
 IsKeepable (WriteRecord (LeaderIs d)) = Fits d.lver
-IsKeepable (WriteRecord (PairIs p)) = IsBegun p.block
+IsKeepable (WriteRecord (PairIs p)) = IsBegun p.block × (1 ≤ p.turn) × Fits p.turn
 IsKeepable (WriteRecord (PairLeaderIs d)) = Fits d.lver
 IsKeepable op = Unit {0}
 
@@ -95,3 +99,19 @@ begins_lease g m ls = is_lease_call m && not (list_any (is_lease_on (spot_of_cal
 -- The leases after a call of their session, and the room left.
 abbrev pub leases_after : Layout → Submitted → LeasesState → LeasesState
 leases_after g m v = record { leases = leases_calling g m v.leases; room = cond (begins_lease g m v.leases) (v.room - 1) v.room }
+
+-- A lease to which a read is told that showed this turn of the own pair, if any: with what it gave, or with what is kept of it, where it
+-- is to be made once more.
+abbrev pub read_shown : Side → Option ℕ → Bool → Option Leader → List (Option Block) → LeaseState → LeaseState
+read_shown z turn heeded d read l = after_read z heeded d read (turn_told turn l)
+
+abbrev pub kept_shown : Option ℕ → List (Option PairBlock) → LeaseState → LeaseState
+kept_shown turn pairs l = after_kept pairs (turn_told turn l)
+
+-- What is kept of a lease's first read, for a read at this step that is the second one.
+abbrev pub first_if_second : LeaseStep → LeaseState → Option (List (Option PairBlock))
+first_if_second step l = cond (is_second step) l.pair.first None
+
+-- The same of the lease on an area.
+abbrev pub first_among : Spot → LeaseStep → List LeaseState → Option (List (Option PairBlock))
+first_among at step ls = option_and_then (first_if_second step) (find (is_lease_on at) ls)

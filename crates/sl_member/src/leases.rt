@@ -6,18 +6,19 @@
 //! One comes in with its first call, into memory that was taken before, and none ever goes.
 
 ghost use Rattle.sl_host_state.specs.Makes.{is_lease_on};
-ghost use Rattle.sl_lease.specs.Changes.{after_failure, after_read, after_write};
+ghost use Rattle.sl_lease.specs.Changes.{after_failure, after_write};
+ghost use Rattle.sl_sector.specs.Records.{Fits};
 ghost use Rattle.sl_trace.specs.Leases.{is_spot_before};
 ghost use Rattle.sl_area.specs.Layouts.{layout_of};
 ghost use Rattle.sl_trace.specs.Traces.{new_call};
-ghost use Rattle.sl_member.specs.Leases.{AreByPlace, IsFound, IsGap, IsKeepable, IsPlaceOf, begins_lease, changed_at, lease_called, leases_after, value_set, with_lease};
+ghost use Rattle.sl_member.specs.Leases.{AreByPlace, IsFound, IsGap, IsKeepable, IsPlaceOf, begins_lease, changed_at, first_among, kept_shown, lease_called, leases_after, read_shown, value_set, with_lease};
 ghost use Rattle.std.specs.List.{list_any};
-ghost use Rattle.std.specs.Prelude.{IfErr, IfOk, OnErr, OnOk, cond, false, find, length, map, max, option_map, slice_get, true, [], ◌+◌, ◌-◌, ◌<◌, ◌^◌, ◌≡◌, ◌≤◌};
+ghost use Rattle.std.specs.Prelude.{IfErr, IfOk, IfSome, OnErr, OnOk, cond, false, find, length, map, max, option_map, slice_get, true, [], ◌+◌, ◌-◌, ◌<◌, ◌^◌, ◌≡◌, ◌≤◌};
 
 use crate::calls::{in_area, lease_step, spot_of, value_of};
 use sl_area::Geometry;
 use sl_host_state::ValuePair;
-use sl_lease::{Lease, Side};
+use sl_lease::{Lease, Pairs, Side};
 use sl_sector::{Block, Leader, Rec};
 use sl_text::FilePath;
 use sl_trace::{Call, LeaseStep, Op, Spot, Work};
@@ -131,18 +132,44 @@ fn lease_called(lease: &mut Lease, number: u64, work: Work, step: LeaseStep, op:
     match op {
         Op::WriteRecord {
             record: Rec::BlockIs(block),
-        } => lease.writes_block(number, work, step, *block),
+        } => lease.writes_block(number, work, step, None, *block),
         Op::WriteRecord {
             record: Rec::LeaderIs(leader),
         } => lease.writes_leader(number, work, step, leader),
         Op::WriteRecord {
             record: Rec::PairIs(pair),
-        } => lease.writes_block(number, work, step, pair.block),
+        } => lease.writes_block(number, work, step, Some(pair.turn), pair.block),
         Op::WriteRecord {
             record: Rec::PairLeaderIs(leader),
         } => lease.writes_leader(number, work, step, leader),
         _ => lease.reads(number, work, step),
     }
+}
+
+/// The read for which a lease waits showed this turn, if any, and gave these.
+fn lease_reads(
+    lease: &mut Lease,
+    side: &Side,
+    turn: Option<u64>,
+    leader: &Option<Leader>,
+    blocks: &[Option<Block>],
+    heeded: bool,
+)
+    requires turn { IfSome turn (λ t. (1 ≤ t) × Fits t) }
+    requires few { length blocks.now < 2 ^ 32 }
+    ensures { lease.new ≡ read_shown side.now turn heeded leader.now blocks.now lease.old }
+{
+    lease.shows_turn(turn);
+    lease.read_answered(side, leader, blocks, heeded);
+}
+
+/// The read for which a lease waits showed this turn, if any, is to be made once more, and this is kept of it.
+fn lease_keeps(lease: &mut Lease, turn: Option<u64>, pairs: Pairs)
+    requires { IfSome turn (λ t. (1 ≤ t) × Fits t) }
+    ensures { lease.new ≡ kept_shown turn pairs lease.old }
+{
+    lease.shows_turn(turn);
+    lease.keeps(pairs);
 }
 
 /// A value of this version is submitted at a place, on the area of a lease perhaps.
@@ -256,20 +283,43 @@ impl Leases {
         }
     }
 
-    /// The read for which the lease on an area waits gave these; it is heeded while its work goes on.
+    /// What is kept of the first read for the lease on an area, where a read at this step is the second one.
+    pub fn first_for(&self, at: &Spot, step: &LeaseStep) -> Option<&Pairs>
+        ensures { option_map (λ p. p.now) result ≡ first_among at.now step.now self.now.leases }
+    {
+        match search(&self.items, self.last, at) {
+            Ok(place) => self.items[place].first_for(step),
+            Err(_) => None,
+        }
+    }
+
+    /// The read for which the lease on an area waits showed this turn, is to be made once more, and this is kept of it.
+    pub fn read_kept(&mut self, at: &Spot, turn: Option<u64>, pairs: Pairs)
+        requires { IfSome turn (λ t. (1 ≤ t) × Fits t) }
+        ensures { self.new ≡ record self.old { leases = changed_at at.now (kept_shown turn pairs) self.old.leases } }
+    {
+        match search(&self.items, self.last, at) {
+            Ok(place) => lease_keeps(&mut self.items[place], turn, pairs),
+            Err(_) => {}
+        }
+    }
+
+    /// The read for which the lease on an area waits showed this turn and gave these; it is heeded while its work goes on.
     pub fn read_answered(
         &mut self,
         at: &Spot,
         side: &Side,
+        turn: Option<u64>,
         leader: &Option<Leader>,
         blocks: &[Option<Block>],
         heeded: bool,
     )
-        requires { length blocks.now < 2 ^ 32 }
-        ensures { self.new ≡ record self.old { leases = changed_at at.now (after_read side.now heeded leader.now blocks.now) self.old.leases } }
+        requires turn { IfSome turn (λ t. (1 ≤ t) × Fits t) }
+        requires few { length blocks.now < 2 ^ 32 }
+        ensures { self.new ≡ record self.old { leases = changed_at at.now (read_shown side.now turn heeded leader.now blocks.now) self.old.leases } }
     {
         match search(&self.items, self.last, at) {
-            Ok(place) => self.items[place].read_answered(side, leader, blocks, heeded),
+            Ok(place) => { lease_reads(&mut self.items[place], side, turn, leader, blocks, heeded) }
             Err(_) => {}
         }
     }

@@ -16,9 +16,9 @@ ghost use Rattle.sl_delta.specs.Own.{answer_in, without_calls};
 ghost use Rattle.sl_host_state.specs.Hears.{asked_at};
 ghost use Rattle.sl_host_state.specs.Makes.{is_lease_on};
 ghost use Rattle.sl_lease.specs.Bounds.{IsSession};
-ghost use Rattle.sl_lease.specs.Changes.{after_failure, after_read, after_write};
+ghost use Rattle.sl_lease.specs.Changes.{after_failure, after_write};
 ghost use Rattle.sl_member.specs.Asked.{bits_within};
-ghost use Rattle.sl_member.specs.Leases.{begins_lease};
+ghost use Rattle.sl_member.specs.Leases.{begins_lease, first_among, kept_shown, read_shown};
 ghost use Rattle.sl_member.specs.Members.{IsKnown, IsOwnCall, RunOf, blank_member, delta_lease, kept_called, leaving_begun, lease_changed, own_of, own_told, owner_in, recovery_begun, renewal_counted, renewing_after, renewing_told, seen_in, side_in};
 ghost use Rattle.sl_member.specs.Seen.{is_asked_by, shows_other_by};
 ghost use Rattle.sl_member.specs.Together.{late_by};
@@ -43,13 +43,14 @@ use crate::seen::{Seen, tell_all};
 use crate::surveys::{is_asked, shows_other};
 use sl_area::Geometry;
 use sl_delta::{OwnSector, SectorAnswer};
-use sl_lease::{Lease, Sectors, Side};
+use sl_lease::{Lease, Pairs, Sectors, Side};
 use sl_request::Bitmap;
 use sl_sector::{Block, HostId, Leader, Owner};
 use sl_text::Name;
 use sl_time::Timing;
 use sl_trace::{
-    Begun, Call, DeltaKnown, DeltaNext, HostState, JoinStep, Purpose, Renewing, Session, Spot,
+    Begun, Call, DeltaKnown, DeltaNext, HostState, JoinStep, LeaseStep, Purpose, Renewing, Session,
+    Spot,
 };
 use sl_watch::Watch;
 use std::alloc::{AllocError, Global};
@@ -525,19 +526,37 @@ impl Member {
         self.refused = true;
     }
 
-    /// The read for which its lease on an area waits gave these; it is heeded while its work goes on.
+    /// What is kept of the first read for its lease on an area, where a read at this step is the second one.
+    pub fn first_for(&self, at: &Spot, step: &LeaseStep) -> Option<&Pairs>
+        ensures { option_map (λ p. p.now) result ≡ first_among at.now step.now self.now.state.leases }
+    {
+        self.leases.first_for(at, step)
+    }
+
+    /// The read for which its lease on an area waits showed this turn, is to be made once more, and this is kept of it.
+    pub fn lease_kept(&mut self, at: &Spot, turn: Option<u64>, pairs: Pairs)
+        requires { IfSome turn (λ t. (1 ≤ t) × Fits t) }
+        ensures { self.new ≡ record self.old { state = lease_changed at.now (kept_shown turn pairs) self.old.state } }
+    {
+        self.leases.read_kept(at, turn, pairs);
+    }
+
+    /// The read for which its lease on an area waits showed this turn and gave these; it is heeded while its work goes on.
     pub fn lease_read(
         &mut self,
         at: &Spot,
+        turn: Option<u64>,
         leader: &Option<Leader>,
         blocks: &[Option<Block>],
         heeded: bool,
     )
-        requires { length blocks.now < 2 ^ 32 }
-        ensures { self.new ≡ record self.old { state = lease_changed at.now (after_read (side_in self.old) heeded leader.now blocks.now) self.old.state } }
+        requires turn { IfSome turn (λ t. (1 ≤ t) × Fits t) }
+        requires few { length blocks.now < 2 ^ 32 }
+        ensures { self.new ≡ record self.old { state = lease_changed at.now (read_shown (side_in self.old) turn heeded leader.now blocks.now) self.old.state } }
     {
         let side = self.side();
-        self.leases.read_answered(at, &side, leader, blocks, heeded);
+        self.leases
+            .read_answered(at, &side, turn, leader, blocks, heeded);
     }
 
     /// The write for which its lease on an area waits is done.

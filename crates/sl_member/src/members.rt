@@ -8,7 +8,9 @@ ghost use Rattle.sl_delta.specs.Own.{answer_in};
 ghost use Rattle.sl_host_state.specs.Hears.{asked_at};
 ghost use Rattle.sl_host_state.specs.Kept.{MemberState};
 ghost use Rattle.sl_host_state.specs.Makes.{with_member};
-ghost use Rattle.sl_lease.specs.Changes.{after_failure, after_read, after_write};
+ghost use Rattle.sl_lease.specs.Changes.{after_failure, after_write};
+ghost use Rattle.sl_member.specs.Leases.{first_among, kept_shown, read_shown};
+ghost use Rattle.sl_sector.specs.Records.{Fits};
 ghost use Rattle.sl_member.specs.Members.{IsOwnCall, leaving_begun, lease_changed, member_called, own_told, recovery_begun, renewal_counted, renewing_told};
 ghost use Rattle.sl_member.specs.Together.{AreApart, AreRoomier, begins_among, begins_leaving, begun_by, begun_kept, changed_member, is_joining_by, late_by, left_by, left_kept, member_with, side_with, told_survey};
 ghost use Rattle.sl_trace.specs.Sessions.{is_join_call, is_session_arg};
@@ -20,16 +22,16 @@ ghost use Rattle.sl_words.specs.Bounds.{moments};
 ghost use Rattle.sl_words.specs.Orders.{is_text_before};
 ghost use Rattle.sl_words.specs.Words.{some_is};
 ghost use Rattle.std.specs.List.{AllWithin, list_any};
-ghost use Rattle.std.specs.Prelude.{IfSome, IsTrue, None, OnErr, OnOk, Some, bytes_eq, cond, false, filter, find, length, map, max, min, not, option_map, position, slice_get, true, unwrap_or, vec_capacity, vec_len, [], ℕ, ◌&&◌, ◌*◌, ◌-◌, ◌<◌, ◌==◌, ◌^◌, ◌≡◌, ◌≤◌};
+ghost use Rattle.std.specs.Prelude.{IfSome, IsTrue, None, OnErr, OnOk, Some, bytes_eq, cond, false, filter, find, length, map, max, min, not, option_and_then, option_map, position, slice_get, true, unwrap_or, vec_capacity, vec_len, [], ℕ, ◌&&◌, ◌*◌, ◌-◌, ◌<◌, ◌==◌, ◌^◌, ◌≡◌, ◌≤◌};
 
 use crate::member::Member;
 use sl_area::Geometry;
 use sl_delta::SectorAnswer;
-use sl_lease::Sectors;
+use sl_lease::{Pairs, Sectors};
 use sl_sector::{Block, HostId, Leader};
 use sl_text::Name;
 use sl_time::Timing;
-use sl_trace::{Begun, Call, LockspaceArg, Purpose, Session, Spot};
+use sl_trace::{Begun, Call, LeaseStep, LockspaceArg, Purpose, Session, Spot};
 use std::alloc::{AllocError, Global};
 use std::marker::Model;
 
@@ -279,6 +281,13 @@ impl Members {
             most: 0,
             room: 0,
         }
+    }
+
+    /// The sizes of sectors and areas.
+    pub fn geometry(&self) -> Geometry
+        ensures { result ≡ self.now.run.sizes }
+    {
+        self.geometry
     }
 
     /// Sees that there is memory for so many members in all, and for so many more leases at each. An `Err` is want of memory, and changes
@@ -537,20 +546,43 @@ impl Members {
         }
     }
 
-    /// The read for which its lease on an area waits gave these; it is heeded while its work goes on.
+    /// What is kept of the first read for its lease on an area, where a read at this step is the second one.
+    pub fn first_for(&self, number: u64, at: &Spot, step: &LeaseStep) -> Option<&Pairs>
+        ensures { option_map (λ p. p.now) result ≡ option_and_then (λ s. first_among at.now step.now s.leases) (member_with number self.now.members) }
+    {
+        match place_of(&self.items, number) {
+            Some(place) => self.items[place].first_for(at, step),
+            None => None,
+        }
+    }
+
+    /// The read for which its lease on an area waits showed this turn, is to be made once more, and this is kept of it.
+    pub fn lease_kept(&mut self, number: u64, at: &Spot, turn: Option<u64>, pairs: Pairs)
+        requires { IfSome turn (λ t. (1 ≤ t) × Fits t) }
+        ensures { self.new ≡ record self.old { members = changed_member number (lease_changed at.now (kept_shown turn pairs)) self.old.members } }
+    {
+        match place_of(&self.items, number) {
+            Some(place) => self.items[place].lease_kept(at, turn, pairs),
+            None => {}
+        }
+    }
+
+    /// The read for which its lease on an area waits showed this turn and gave these; it is heeded while its work goes on.
     pub fn lease_read(
         &mut self,
         number: u64,
         at: &Spot,
+        turn: Option<u64>,
         leader: &Option<Leader>,
         blocks: &[Option<Block>],
         heeded: bool,
     )
-        requires { length blocks.now < 2 ^ 32 }
-        ensures { self.new ≡ record self.old { members = changed_member number (λ s. lease_changed at.now (after_read (side_with self.old.run s) heeded leader.now blocks.now) s) self.old.members } }
+        requires turn { IfSome turn (λ t. (1 ≤ t) × Fits t) }
+        requires few { length blocks.now < 2 ^ 32 }
+        ensures { self.new ≡ record self.old { members = changed_member number (λ s. lease_changed at.now (read_shown (side_with self.old.run s) turn heeded leader.now blocks.now) s) self.old.members } }
     {
         match place_of(&self.items, number) {
-            Some(place) => self.items[place].lease_read(at, leader, blocks, heeded),
+            Some(place) => self.items[place].lease_read(at, turn, leader, blocks, heeded),
             None => {}
         }
     }

@@ -10,10 +10,12 @@ use Rattle.sl_host_law.specs.Replies.Answers.{IsOpen}
 use Rattle.sl_host_state.specs.Hears.{still_busy}
 use Rattle.sl_host_state.specs.Kept.{Config, HostState, LeaseState, MemberState}
 use Rattle.sl_host_state.specs.Makes.{is_lease_on}
-use Rattle.sl_host_state.specs.Stands.{IsWaiting, LeaseStands, free_written, kept_call, sectors_of}
+use Rattle.sl_host_state.proofs.Pairs.{again_is}
+use Rattle.sl_host_state.specs.Stands.{IsWaiting, LeaseStands, free_written, is_again_newest, kept_call, sectors_of}
+use Rattle.sl_lease.specs.Laws.{IsReadCall}
 use Rattle.sl_host_state.specs.declared.kept.LeaseCall.{LeaseCall}
 use Rattle.sl_host_state.specs.declared.kept.OpenCall.{OpenCall}
-use Rattle.sl_trace.specs.Leases.{block_written, is_lease_call, is_on, lease_calls, lease_step, spot_of_call}
+use Rattle.sl_trace.specs.Leases.{block_written, is_lease_call, is_on, is_second, lease_calls, lease_step, spot_of_call, turn_written}
 use Rattle.sl_member.specs.Laws.{IsAwaited, area_of_call, waits_for}
 use Rattle.sl_plain.proofs.Lists.{any_found, contains_cases, contains_first, contains_map, contains_more, find_inside, kept as kept_in, kept_inside}
 use Rattle.sl_sector.specs.declared.sector.Block.{Block}
@@ -47,7 +49,12 @@ none_any_where p q (a ∷ xs) out = by (q a) refl (none_any_where p q xs (λ b t
 
 -- What is kept of a lease's call is of this open call.
 abbrev WaitsFor : OpenCall → LeaseCall → Type 0
-WaitsFor c w = (w.number ≡ c.number) × (c.purpose ≡ Lease w.work w.step) × (is_some c.sectors ≡ true → (w.frees ≡ None) × (w.clears ≡ false))
+WaitsFor c w = (w.number ≡ c.number) × (c.purpose ≡ Lease w.work w.step) × (is_some c.sectors ≡ true → IsReadCall w)
+
+-- Whether it is a read that is made once more shows by its step.
+again_by_step : (w : LeaseCall) (ms : List Submitted) → IsWaiting (Some w) ms → is_second w.step ≡ is_again_newest ms
+again_by_step w [] waits = absurd waits
+again_by_step w (f ∷ ms) waits = sym (again_is f w.work w.step waits.0.2)
 
 -- The call with this for what it does.
 abbrev with_op : Submitted → Op → Submitted
@@ -172,6 +179,8 @@ module _ (h : HostState) (x : Step) (number : ℕ) (c : OpenCall) (m : MemberSta
         found = subst (λ s. find (is_lease_on s) m.leases ≡ Some some_lease.0) area (found_once (spot_of_call x.setting.layout the.0) m.leases some_lease.0 once some_lease.1 some_lease.2);
         waits = record { waiting = waiting.1; number = waiting.2.0; purpose = waiting.2.1 };
         reads = waiting.2.2;
+        again = again_by_step waiting.0 (lease_calls x.setting (seen x) m.who some_lease.0.spot) (subst (λ o. IsWaiting o (lease_calls x.setting (seen x) m.who some_lease.0.spot)) waiting.1 stands_l.waiting) ∙ stands_l.again;
+        second = stands_l.second;
       } where
         works_d : is_lease_call the.0 ≡ true
         works_d = ap (λ (z : OpenCall). is_some (lease_step z.purpose)) the.1.kept ∙ works
@@ -220,9 +229,9 @@ module _ (h : HostState) (x : Step) (number : ℕ) (c : OpenCall) (m : MemberSta
         for_lease (ValueWrite j) w s is = absurd (none_some (w, s) is)
         for_lease (ValueRead j) w s is = absurd (none_some (w, s) is)
 
-        reads_free : (d : Submitted) (op : Op) → d.call.op ≡ op → is_some (sectors_of op) ≡ true → (free_written d ≡ None) × (some_is (λ b. not b.shared) (block_written d) ≡ false)
+        reads_free : (d : Submitted) (op : Op) → d.call.op ≡ op → is_some (sectors_of op) ≡ true → (free_written d ≡ None) × (some_is (λ b. not b.shared) (block_written d) ≡ false) × (turn_written d ≡ None)
         reads_free d (ReadSectors n) is reads =
-            (ap (λ o. free_written (with_op d o)) is, ap (λ o. some_is (λ (b : Block). not b.shared) (block_written (with_op d o))) is)
+            (ap (λ o. free_written (with_op d o)) is, ap (λ o. some_is (λ (b : Block). not b.shared) (block_written (with_op d o))) is, ap (λ o. turn_written (with_op d o)) is)
         reads_free d (WriteRecord rec) is reads = absurd (false_is_true reads)
 
         newest : (w : LeaseCall) (ms : List Submitted) → IsWaiting (Some w) ms → Contains ms the.0 → WaitsFor c w
@@ -233,7 +242,7 @@ module _ (h : HostState) (x : Step) (number : ℕ) (c : OpenCall) (m : MemberSta
               let kept_f : kept_call f ≡ c = ap kept_call is ∙ the.1.kept in (
                 sym waits.0.1 ∙ ap (λ (z : OpenCall). z.number) kept_f,
                 for_lease c.purpose w.work w.step (ap (λ (z : OpenCall). lease_step z.purpose) (sym kept_f) ∙ waits.0.2),
-                λ reads. (let z = reads_free f f.call.op refl (ap (λ (q : OpenCall). is_some q.sectors) kept_f ∙ reads) in (sym waits.0.3 ∙ z.0, sym waits.0.4 ∙ z.1)),
+                λ reads. (let z = reads_free f f.call.op refl (ap (λ (q : OpenCall). is_some q.sectors) kept_f ∙ reads) in (sym waits.0.3 ∙ z.0, sym waits.0.4 ∙ z.1, sym waits.0.5 ∙ z.2)),
               )
           by (inr later) = absurd (true_is_false (sym (each_of (λ (y : Submitted). IsTrue (is_some y.answer)) ms the.0 waits.1 later) ∙ ap is_some the.1.open_one))
 

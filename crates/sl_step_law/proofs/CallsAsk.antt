@@ -1,6 +1,5 @@
 -- Each open call asks as many sectors as its purpose says: by the laws, and of those that no law speaks of by what each act keeps.
 use Rattle.sl_acts.proofs.StepsKeep.{begun_bare, step_keeps}
-use Rattle.sl_area.specs.Places.{area_sectors, block_sectors}
 use Rattle.sl_due.specs.Due.{IsHostTrace, due}
 use Rattle.sl_due.specs.DueFirst.{begin_recoveries}
 use Rattle.sl_due.specs.Steps.{begin_step, seen}
@@ -26,6 +25,7 @@ use Rattle.sl_trace.specs.declared.effects.Call.{Call}
 use Rattle.sl_trace.specs.declared.effects.Effects.{Effects}
 use Rattle.sl_trace.specs.declared.effects.Entry.{Entry}
 use Rattle.sl_trace.specs.declared.effects.JoinStep.TheVariants.{ClaimWrite, DecidingRead, FirstRead, FirstRenewal, VerifyRead, WatchRead}
+use Rattle.sl_trace.specs.declared.effects.LeaseRead.TheVariants.{OfArea, OfBlock, OfFree, OfPhase1, OfPhase2}
 use Rattle.sl_trace.specs.declared.effects.LeaseStep.TheVariants.{ClearMode, FreeLeader, Phase1Read, Phase1Write, Phase2Read, Phase2Write, ReadAgain, ReadArea, ReadBeforeBlock, ReadBeforeFree, SetMode, TakeLeader}
 use Rattle.sl_trace.specs.declared.effects.Op.TheVariants.{ReadSectors, WriteRecord}
 use Rattle.sl_trace.specs.declared.effects.Op.{Op}
@@ -34,9 +34,9 @@ use Rattle.sl_trace.specs.declared.effects.Purpose.{Purpose}
 use Rattle.sl_trace_law.proofs.Sessions.Making.{calls_are_made}
 use Rattle.sl_trace_law.proofs.Sessions.Owning.{calls_were_lawful}
 use Rattle.sl_trace_law.specs.Sessions.Promises.{IsMade, front_of, made_as}
-use Rattle.sl_words.proofs.CaseLaws.{false_is_true, none_some, true_is_false}
+use Rattle.sl_words.proofs.CaseLaws.{false_is_true, none_some}
 use Rattle.std.proofs.Common.{ap, refl, subst, sym, ◌∙◌}
-use Rattle.std.specs.Prelude.{Contains, IsSome, IsTrue, None, Some, false, is_none, length, true, [], ℕ, ◌*◌, ◌++◌, ◌+◌, ◌∷◌, ◌≡◌}
+use Rattle.std.specs.Prelude.{Contains, IsSome, IsTrue, None, Some, is_none, length, [], ◌++◌, ◌∷◌, ◌≡◌}
 
 -- ---- of each trace
 
@@ -75,7 +75,7 @@ writes_none (WriteRecord r) is = refl
 
 -- ---- an open call
 
-module _ (st : Setting) (plain : st.layout.paired ≡ false) (t : Trace) (s : Session) (m : Submitted) (order : Orderly st t) (asks : EachEntry Asks t) (there : Contains (submitted t) m) (its : session_numbered st t s.number ≡ Some s) (mine : m.call.session ≡ s.number) where
+module _ (st : Setting) (t : Trace) (s : Session) (m : Submitted) (order : Orderly st t) (asks : EachEntry Asks t) (there : Contains (submitted t) m) (its : session_numbered st t s.number ≡ Some s) (mine : m.call.session ≡ s.number) where
   made : IsMade t m
   made = calls_are_made t m there
 
@@ -100,17 +100,7 @@ module _ (st : Setting) (plain : st.layout.paired ≡ false) (t : Trace) (s : Se
             let calls = made_by (LawfulCalls st) made.later made.entry made.past (subst (EachEntry (LawfulCalls st)) made.whole order.calls) in
             some_of (session_numbered st (made.entry ∷ made.past) m.call.session) (calls.owned m.call (got_inside made.entry.effects.calls made.index m.call made.call))
 
-  -- As many sectors as there are hosts.
-  many : block_sectors st.layout ≡ st.layout.hosts
-  many = ap (λ b. elim b as (λ z. ℕ) [ false ↦ st.layout.hosts | true ↦ 2 * st.layout.hosts ]) plain
-
-  whole : m.call.op ≡ ReadSectors (area_sectors st.layout) → sectors_of m.call.op ≡ Some (st.layout.hosts + 2)
-  whole is = ap sectors_of is ∙ ap (λ n. Some (n + 2)) many
-
-  blocks : m.call.op ≡ ReadSectors (block_sectors st.layout) → sectors_of m.call.op ≡ Some st.layout.hosts
-  blocks is = ap sectors_of is ∙ ap (λ n. Some n) many
-
-  asked : (p : Purpose) → m.call.purpose ≡ p → sectors_of m.call.op ≡ sectors_asked st.layout.hosts p
+  asked : (p : Purpose) → m.call.purpose ≡ p → sectors_of m.call.op ≡ sectors_asked st.layout p
   asked (Joining j FirstRead) is = ap sectors_of (delta (Joining j FirstRead) is).reads
   asked (Joining j WatchRead) is = ap sectors_of (delta (Joining j WatchRead) is).reads
   asked (Joining j DecidingRead) is = ap sectors_of (delta (Joining j DecidingRead) is).reads
@@ -120,18 +110,22 @@ module _ (st : Setting) (plain : st.layout.paired ≡ false) (t : Trace) (s : Se
   asked Renewal is = wrote _ (delta Renewal is).written
   asked Survey is = ap sectors_of (delta Survey is).whole.2
   asked (Leaving j) is = wrote _ (delta (Leaving j) is).written
-  asked (Lease work (ReadArea name)) is = whole (area (Lease work (ReadArea name)) is).1
+  asked (Lease work (ReadArea name)) is = ap sectors_of (area (Lease work (ReadArea name)) is).1
   asked (Lease work Phase1Write) is = writes_none m.call.op (area (Lease work Phase1Write) is)
-  asked (Lease work Phase1Read) is = blocks (area (Lease work Phase1Read) is).1
+  asked (Lease work Phase1Read) is = ap sectors_of (area (Lease work Phase1Read) is).1
   asked (Lease work Phase2Write) is = writes_none m.call.op (area (Lease work Phase2Write) is)
-  asked (Lease work Phase2Read) is = blocks (area (Lease work Phase2Read) is).1
+  asked (Lease work Phase2Read) is = ap sectors_of (area (Lease work Phase2Read) is).1
   asked (Lease work TakeLeader) is = writes_none m.call.op (area (Lease work TakeLeader) is)
   asked (Lease work SetMode) is = writes_none m.call.op (area (Lease work SetMode) is)
   asked (Lease work FreeLeader) is = writes_none m.call.op (area (Lease work FreeLeader) is)
   asked (Lease work ClearMode) is = writes_none m.call.op (area (Lease work ClearMode) is)
-  asked (Lease work ReadBeforeFree) is = whole (area (Lease work ReadBeforeFree) is).1
-  asked (Lease work ReadBeforeBlock) is = absurd (true_is_false (sym (area (Lease work ReadBeforeBlock) is).0 ∙ plain))
-  asked (Lease work (ReadAgain read)) is = absurd (true_is_false (sym (area (Lease work (ReadAgain read)) is).0 ∙ plain))
+  asked (Lease work ReadBeforeFree) is = ap sectors_of (area (Lease work ReadBeforeFree) is).1
+  asked (Lease work ReadBeforeBlock) is = ap sectors_of (area (Lease work ReadBeforeBlock) is).1.1
+  asked (Lease work (ReadAgain (OfArea name))) is = ap sectors_of (area (Lease work (ReadAgain (OfArea name))) is).1.1
+  asked (Lease work (ReadAgain OfFree)) is = ap sectors_of (area (Lease work (ReadAgain OfFree)) is).1.1
+  asked (Lease work (ReadAgain OfBlock)) is = ap sectors_of (area (Lease work (ReadAgain OfBlock)) is).1.1
+  asked (Lease work (ReadAgain OfPhase1)) is = ap sectors_of (area (Lease work (ReadAgain OfPhase1)) is).1.1
+  asked (Lease work (ReadAgain OfPhase2)) is = ap sectors_of (area (Lease work (ReadAgain OfPhase2)) is).1.1
   asked (RequestRead j) is = ap sectors_of (area (RequestRead j) is).1
   asked (RequestWrite j owner) is = subst (λ p. AsksLone p m.call.op) is lone
   asked SeeRequest is = subst (λ p. AsksLone p m.call.op) is lone
@@ -139,11 +133,11 @@ module _ (st : Setting) (plain : st.layout.paired ≡ false) (t : Trace) (s : Se
   asked (ValueRead j) is = subst (λ p. AsksLone p m.call.op) is lone
 
 -- Each call of a trace.
-pub trace_asks : (st : Setting) → st.layout.paired ≡ false → (t : Trace) (m : Submitted) → Orderly st t → EachEntry Asks t → Contains (submitted t) m → IsSome (session_numbered st t m.call.session) → sectors_of m.call.op ≡ sectors_asked st.layout.hosts m.call.purpose
-trace_asks st plain t m order asks there owned =
+pub trace_asks : (st : Setting) (t : Trace) (m : Submitted) → Orderly st t → EachEntry Asks t → Contains (submitted t) m → IsSome (session_numbered st t m.call.session) → sectors_of m.call.op ≡ sectors_asked st.layout m.call.purpose
+trace_asks st t m order asks there owned =
     let s = some_of (session_numbered st t m.call.session) owned in
     let number : s.0.number ≡ m.call.session = placed_by_number st t m.call.session s.0 s.1 in
-    asked st plain t s.0 m order asks there (ap (session_numbered st t) number ∙ s.1) (sym number) m.call.purpose refl
+    asked st t s.0 m order asks there (ap (session_numbered st t) number ∙ s.1) (sym number) m.call.purpose refl
 
 pub calls_ask : CallsAsk
 calls_ask h x c r open_c =
@@ -152,6 +146,6 @@ calls_ask h x c r open_c =
     let bare : x.effects.calls ≡ [] = ap (λ (fx : Effects). fx.calls) r.stands.made ∙ r.early.at.calls in
     let asks : EachEntry Asks (seen x) = (bare_ask x bare, traces_ask x.setting x.past r.stands.past) in
     ap (λ (z : OpenCall). z.sectors) (sym d.2)
-    ∙ trace_asks x.setting r.kept.known.0.setting.unpaired (seen x) d.0 r.kept.known.0.orderly asks inside.0 (r.kept.known.0.facts.calls.owned d.0 inside.0)
-    ∙ ap (λ (g : Config). sectors_asked g.layout.hosts d.0.call.purpose) r.stands.keeps.config
-    ∙ ap (λ (z : OpenCall). sectors_asked h.config.layout.hosts z.purpose) d.2
+    ∙ trace_asks x.setting (seen x) d.0 r.kept.known.0.orderly asks inside.0 (r.kept.known.0.facts.calls.owned d.0 inside.0)
+    ∙ ap (λ (g : Config). sectors_asked g.layout d.0.call.purpose) r.stands.keeps.config
+    ∙ ap (λ (z : OpenCall). sectors_asked h.config.layout z.purpose) d.2

@@ -16,7 +16,7 @@ use Rattle.sl_trace.specs.declared.session.Session.{Session}
 use Rattle.sl_step_law.proofs.CallsAsk.{made_by}
 use Rattle.sl_step_law.proofs.OffsetsAreWhole.{base_at_sector, delta_whole}
 use Rattle.sl_step_law.proofs.PlacesAreKnown.{IsAt, session_at}
-use Rattle.sl_step_law.specs.Standing.{CallStands, CallsStand, EntryStands, WroteBlock, looks_before_free}
+use Rattle.sl_step_law.specs.Standing.{CallStands, CallsStand, EntryStands, WroteBlock, looks_before_owed}
 use Rattle.sl_trace.specs.Traces.{EachEntry, Setting, Submitted, Trace, next_call, submitted}
 use Rattle.sl_trace.specs.declared.effects.Call.{Call}
 use Rattle.sl_trace.specs.declared.effects.LeaseStep.{LeaseStep}
@@ -45,11 +45,11 @@ renumbered st past c n k =
       behind = λ is. (let w = k.behind is in record { write = w.write; there = w.there; mine = w.mine; works = w.works; area = w.area; block = w.block });
     }
 
-pub plain : (st : Setting) (past : Trace) (n : ℕ) (path : List ℕ) (p : Purpose) (o : ℕ) (op : Op) → is_some (lease_step p) ≡ false → looks_before_free p ≡ false → o % st.layout.sector ≡ 0 → StandsAs st past n path p o op
+pub plain : (st : Setting) (past : Trace) (n : ℕ) (path : List ℕ) (p : Purpose) (o : ℕ) (op : Op) → is_some (lease_step p) ≡ false → looks_before_owed p ≡ false → o % st.layout.sector ≡ 0 → StandsAs st past n path p o op
 plain st past n path p o op none unlooked whole = record { whole = whole; area = λ is. absurd (true_is_false (sym is ∙ none)); behind = λ is. absurd (true_is_false (sym is ∙ unlooked)) }
 
 pub of_lease : (st : Setting) (past : Trace) (n : ℕ) (path : List ℕ) (work : Work) (step : LeaseStep) (o : ℕ) (op : Op) → o % st.layout.sector ≡ 0 → IsTrue (is_base st.layout (o - o % st.layout.area))
-    → (looks_before_free (Lease work step) ≡ true → WroteBlock st past (made_as n path (Lease work step) o op)) → StandsAs st past n path (Lease work step) o op
+    → (looks_before_owed (Lease work step) ≡ true → WroteBlock st past (made_as n path (Lease work step) o op)) → StandsAs st past n path (Lease work step) o op
 of_lease st past n path work step o op whole base behind = record { whole = whole; area = λ is. base; behind = behind }
 
 -- ---- a step so far
@@ -103,10 +103,10 @@ module _ (x : Step) (k : Kept x) (s : Session) (there : Contains (sessions x.set
   pub at : IsAt x.setting.layout s
   at = session_at x.setting (seen x) s k.known.0.setting there
 
-  pub own : (p : Purpose) (op : Op) → is_some (lease_step p) ≡ false → looks_before_free p ≡ false → Calls x.setting x.past s s.path p (own_offset x.setting s) op
+  pub own : (p : Purpose) (op : Op) → is_some (lease_step p) ≡ false → looks_before_owed p ≡ false → Calls x.setting x.past s s.path p (own_offset x.setting s) op
   own p op none unlooked = plain x.setting x.past s.number s.path p (own_offset x.setting s) op none unlooked (delta_whole x.setting k.known.0.setting s.offset at.2 s.id)
 
-  pub all : (p : Purpose) (op : Op) → is_some (lease_step p) ≡ false → looks_before_free p ≡ false → Calls x.setting x.past s s.path p s.offset op
+  pub all : (p : Purpose) (op : Op) → is_some (lease_step p) ≡ false → looks_before_owed p ≡ false → Calls x.setting x.past s s.path p s.offset op
   all p op none unlooked = plain x.setting x.past s.number s.path p s.offset op none unlooked (base_at_sector x.setting k.known.0.setting s.offset at.2)
 
   pub delta_stands : (n : DeltaNext) → DeltaAllowed Anything (Calls x.setting x.past) AnyMove x s n

@@ -1,5 +1,5 @@
 -- A conversion that is done may be: its job runs and waits no more, and the lease makes the call that is owed next.
-use Rattle.sl_area.specs.Places.{block_offset, leader_offset}
+use Rattle.sl_area.specs.Places.{block_place, leader_offset, leader_record}
 use Rattle.sl_due.specs.Steps.{Step, with_input}
 use Rattle.sl_host_law.proofs.Answers.AnswersSetFree.{answers_set_free}
 use Rattle.sl_host_law.proofs.Answers.LeasesSetFree.{leases_set_free}
@@ -8,9 +8,8 @@ use Rattle.sl_host_law.proofs.Steps.AreasLie.{begins_at, placed}
 use Rattle.sl_host_law.proofs.Steps.InputsFollow.{joined_stays}
 use Rattle.sl_host_law.specs.Answers.Answering.{IsAnswerTo}
 use Rattle.sl_host_law.specs.Answers.LeaseAnswers.{area_of}
-use Rattle.sl_host_law.specs.Answers.Leasing.{MayWork, converted, converting, converting_for}
+use Rattle.sl_host_law.specs.Answers.Leasing.{MayWork, block_at, converted, converting, converting_for, record_at}
 use Rattle.sl_host_law.specs.Answers.LeasesGoOn.{IfConverted, IsPlacedAt}
-use Rattle.sl_host_law.specs.Calls.Calls.{fits_lease}
 use Rattle.sl_host_law.specs.Questions.Jobs.{command_in, goes_on_in}
 use Rattle.sl_host_law.specs.Questions.Members.{otherwise_at}
 use Rattle.sl_host_law.specs.Replies.Answers.{FitsCall, IsOpen}
@@ -18,7 +17,7 @@ use Rattle.sl_host_law.specs.Replies.Replies.{MayReply}
 use Rattle.sl_host_law.specs.Steps.Taking.{IsCallOf, LeaseMay}
 use Rattle.sl_host_state.specs.Hears.{heard_answer, hearing, member_hearing}
 use Rattle.sl_host_state.specs.Kept.{Config, HostState, LeaseState, MemberState}
-use Rattle.sl_host_state.specs.Makes.{is_lease_on, member_answered, member_replying, next_submitted}
+use Rattle.sl_host_state.specs.Makes.{is_lease_on, member_answered, member_replying}
 use Rattle.sl_host_state.specs.declared.kept.JobState.{JobState}
 use Rattle.sl_host_state.specs.declared.kept.OpenCall.{OpenCall}
 use Rattle.sl_trace.specs.Jobs.{process_named}
@@ -28,8 +27,8 @@ use Rattle.sl_trace.specs.declared.lease.LeaseNext.{LeaseNext}
 use Rattle.sl_plain.proofs.Lists.{contains_first, contains_map, find_inside, got_inside}
 use Rattle.sl_sector.specs.declared.sector.Block.{Block}
 use Rattle.sl_sector.specs.declared.sector.Leader.{Leader}
-use Rattle.sl_sector.specs.declared.sector.Rec.TheVariants.{BlockIs, LeaderIs}
 use Rattle.sl_step_law.proofs.CallsOfMembers.{calls_are_theirs}
+use Rattle.sl_step_law.proofs.LeasesMake.{may_write_block, may_write_leader}
 use Rattle.sl_step_law.specs.Ready.{IsReady}
 use Rattle.sl_trace.specs.Traces.{work_job}
 use Rattle.sl_trace.specs.declared.command.Command.{Command}
@@ -48,10 +47,9 @@ use Rattle.sl_trace.specs.declared.input.Input.TheVariants.{Answer as Told}
 use Rattle.sl_trace.specs.declared.reply.Reply.TheVariants.{Granted}
 use Rattle.sl_words.proofs.CaseLaws.{none_some, some_value}
 use Rattle.sl_words.specs.Words.{some_is}
-use Rattle.std.proofs.Common.{ap, arith, inl, refl, subst, sym, ◌∙◌}
+use Rattle.std.proofs.Common.{ap, inl, refl, subst, sym}
 use Rattle.std.specs.List.{list_any}
-use Rattle.std.specs.Option.{option_map_or}
-use Rattle.std.specs.Prelude.{Bool, Contains, IsTrue, None, Option, Some, cond, false, find, is_none, nat_lt, not, slice_get, true, [], ℕ, ◌%◌, ◌&&◌, ◌-◌, ◌<◌, ◌==◌, ◌≡◌, ◌∷◌}
+use Rattle.std.specs.Prelude.{Contains, IsTrue, None, Option, Some, cond, false, find, not, slice_get, true, [], ℕ, ◌%◌, ◌&&◌, ◌-◌, ◌<◌, ◌==◌, ◌≡◌, ◌∷◌}
 
 -- ---- a conversion leaves the member and what the host is made of
 
@@ -82,57 +80,18 @@ converted_stays q made at (ForJob j) mode lver g joined s = by (command_in g j) 
 
 -- ---- the call that is owed
 
-some_room : (n : ℕ) → 0 < n → nat_lt 0 n ≡ true
-some_room n less = grind (arith, less)
-
--- The lease waits for nothing, and the call isn't of the second phase.
-lease_fits : (room : Bool) (l : LeaseState) (o : Option LeaseState) (late other : Bool) → room ≡ true → o ≡ Some l → l.waiting ≡ None → (room && option_map_or (λ z. is_none z.waiting && true) o other) ≡ true
-lease_fits room l o late other has is idle = ap (λ b. b && option_map_or (λ (z : LeaseState). is_none z.waiting && true) o other) has ∙ ap (λ p. option_map_or (λ (z : LeaseState). is_none z.waiting && true) p other) is ∙ ap (λ p. is_none p && true) idle
-
 module _ (q : MemberState) (made : Config) (at : Spot) (l : LeaseState) (found : find (is_lease_on at) q.leases ≡ Some l) (idle : l.waiting ≡ None) (room : 0 < made.layout.area) where
-  frees : (g : HostState) (leader : Leader) → StaysIn q made g → leader_offset at.base - leader_offset at.base % made.layout.area ≡ at.base
-      → MayWork g q.who at Settling FreeLeader (leader_offset at.base) (WriteRecord (LeaderIs leader))
+  frees : (g : HostState) (leader : Leader) → StaysIn q made g → at.base - at.base % made.layout.area ≡ at.base
+      → MayWork g q.who at Settling FreeLeader (leader_offset at.base) (WriteRecord (leader_record g.config.layout leader))
   frees g leader s near =
       let place = at_some g.members q s.0 in
-      record {
-        place = place.0;
-        member = q;
-        there = place.1;
-        its = refl;
-        fits = record {
-          later = refl;
-          job = refl;
-          turn = refl;
-          generation = refl;
-          value = refl;
-          plain = refl;
-          lease = subst (λ (z : Config). IsTrue (fits_lease z.layout q (next_submitted g q.who.number at.path (Lease Settling FreeLeader) (leader_offset at.base) (WriteRecord (LeaderIs leader))))) (sym s.1)
-              (lease_fits (nat_lt 0 made.layout.area) l (find (is_lease_on (record { path = at.path; base = leader_offset at.base - leader_offset at.base % made.layout.area })) q.leases) false true (some_room made.layout.area room)
-              (ap (λ n. find (is_lease_on (record { path = at.path; base = n })) q.leases) near ∙ found) idle);
-        };
-      }
+      may_write_leader g made s.1 place.0 q place.1 at l found idle room Settling refl FreeLeader leader near refl refl
 
-  clears : (g : HostState) (b : Block) → StaysIn q made g → block_offset made.layout at.base q.who.id - block_offset made.layout at.base q.who.id % made.layout.area ≡ at.base
-      → MayWork g q.who at Settling ClearMode (block_offset g.config.layout at.base q.who.id) (WriteRecord (BlockIs b))
+  clears : (g : HostState) (b : Block) → StaysIn q made g → ((turn : ℕ) → block_place made.layout at.base q.who.id turn - block_place made.layout at.base q.who.id turn % made.layout.area ≡ at.base)
+      → MayWork g q.who at Settling ClearMode (block_at g q at) (WriteRecord (record_at g q at b))
   clears g b s near =
       let place = at_some g.members q s.0 in
-      record {
-        place = place.0;
-        member = q;
-        there = place.1;
-        its = refl;
-        fits = record {
-          later = refl;
-          job = refl;
-          turn = refl;
-          generation = refl;
-          value = refl;
-          plain = refl;
-          lease = subst (λ (z : Config). IsTrue (fits_lease z.layout q (next_submitted g q.who.number at.path (Lease Settling ClearMode) (block_offset z.layout at.base q.who.id) (WriteRecord (BlockIs b))))) (sym s.1)
-              (lease_fits (nat_lt 0 made.layout.area) l (find (is_lease_on (record { path = at.path; base = block_offset made.layout at.base q.who.id - block_offset made.layout at.base q.who.id % made.layout.area })) q.leases) false true
-              (some_room made.layout.area room) (ap (λ n. find (is_lease_on (record { path = at.path; base = n })) q.leases) near ∙ found) idle);
-        };
-      }
+      may_write_block g made s.1 place.0 q place.1 at l found idle room Settling refl ClearMode b near refl refl
 
 -- ---- an answer
 
@@ -183,6 +142,7 @@ module _ (h : HostState) (x : Step) (number : ℕ) (c : OpenCall) (a : Answer) (
     answers lver goes,
     r.early.grants,
     clears q h.config (area_of h c) lease.0 lease.1 lease.2 at.room (converted q (area_of h c) work Exclusive lver (hearing c a h)) b (converted_stays q h.config (area_of h c) work Exclusive lver (hearing c a h) joined stays) at.block,
+    λ paired. at.leader,
   )
   heard Nothing goes = tt
   heard (ReadFor s) goes = tt

@@ -81,6 +81,8 @@ module _ (h : HostState) (x : Step) (text : List ℕ) (c : Command) (r : IsReady
         joined = first_of m.joined (is_none m.renewing.recovery) (is_none m.leaving) (sym answers.active ∙ on);
         area = base;
         tops = leases_are_known.tops Wake h x m at now there;
+        owned = leases_are_known.owned Wake h x m at now there;
+        opened = leases_are_known.opened Wake h x m at now there;
         held = leases_are_known.held Wake h x m at now there;
       }
 

@@ -20,11 +20,15 @@ use Rattle.sl_step_law.specs.Asking.{sectors_asked}
 use Rattle.sl_step_law.specs.Sound.{EffectsAreSound}
 use Rattle.sl_step_law.specs.Whole.{MayCome}
 use Rattle.sl_area.specs.Layouts.{Layout}
+use Rattle.sl_area.specs.Places.{block_sectors}
+use Rattle.sl_due_facts.specs.Facts.WayFacts.{sectors_of_read}
+use Rattle.sl_trace.specs.LeaseWork.{first_step, read_of_step}
 use Rattle.sl_trace.specs.Traces.{Child, Setting, Trace, child_after, children, first_child, mark, new_call, new_child, next_call, next_child, record_of, submitted}
 use Rattle.sl_trace.specs.declared.effects.Call.{Call}
 use Rattle.sl_trace.specs.declared.effects.Effects.{Effects}
 use Rattle.sl_trace.specs.declared.effects.JoinStep.TheVariants.{ClaimWrite, DecidingRead, FirstRead, FirstRenewal, VerifyRead, WatchRead}
-use Rattle.sl_trace.specs.declared.effects.LeaseStep.TheVariants.{ClearMode, FreeLeader, Phase1Read, Phase1Write, Phase2Read, Phase2Write, ReadAgain, ReadArea, ReadBeforeBlock, ReadBeforeFree, SetMode, TakeLeader}
+use Rattle.sl_trace.specs.declared.effects.LeaseRead.TheVariants.{OfArea, OfBlock, OfFree, OfPhase1, OfPhase2}
+use Rattle.sl_trace.specs.declared.effects.LeaseRead.{LeaseRead}
 use Rattle.sl_trace.specs.declared.effects.Op.TheVariants.{ReadSectors, WriteRecord}
 use Rattle.sl_trace.specs.declared.effects.Op.{Op}
 use Rattle.sl_trace.specs.declared.effects.Purpose.TheVariants.{Joining, Lease, Leaving, Renewal, RequestRead, RequestWrite, SeeRequest, Survey, ValueRead, ValueWrite}
@@ -35,7 +39,7 @@ use Rattle.sl_words.proofs.CaseLaws.{none_some, some_value}
 use Rattle.std.proofs.Common.{ap, ap₂, arith, refl, suc, subst, sym, ◌∙◌}
 use Rattle.std.proofs.lemmas.List.{length-append, length-map, map-append}
 use Rattle.std.specs.List.{range_with_len}
-use Rattle.std.specs.Prelude.{Contains, List, Some, length, map, [], ℕ, ◌++◌, ◌%◌, ◌+◌, ◌∷◌, ◌≡◌, ◌≤◌}
+use Rattle.std.specs.Prelude.{Bool, Contains, List, None, Option, Some, false, length, map, option_map, true, [], ℕ, ◌++◌, ◌%◌, ◌*◌, ◌+◌, ◌∷◌, ◌≡◌, ◌≤◌}
 
 -- ---- plain facts
 
@@ -63,33 +67,42 @@ new_numbers (s ∷ ss) = ap (λ ns. s.process ∷ ns) (new_numbers ss)
 some_one : (n : ℕ) → Some 1 ≡ Some n → 1 ≤ n
 some_one n is = subst (λ k. 1 ≤ k) (some_value 1 n is) (omega arith)
 
-reads_some : (hosts : ℕ) (p : Purpose) (n : ℕ) → 1 ≤ hosts → sectors_asked hosts p ≡ Some n → 1 ≤ n
-reads_some hosts (Joining j FirstRead) n some is = some_one n is
-reads_some hosts (Joining j WatchRead) n some is = some_one n is
-reads_some hosts (Joining j DecidingRead) n some is = some_one n is
-reads_some hosts (Joining j ClaimWrite) n some is = absurd (none_some n is)
-reads_some hosts (Joining j VerifyRead) n some is = some_one n is
-reads_some hosts (Joining j FirstRenewal) n some is = absurd (none_some n is)
-reads_some hosts Renewal n some is = absurd (none_some n is)
-reads_some hosts Survey n some is = subst (λ k. 1 ≤ k) (some_value hosts n is) some
-reads_some hosts (Leaving j) n some is = absurd (none_some n is)
-reads_some hosts (Lease work (ReadArea name)) n some is = subst (λ k. 1 ≤ k) (some_value (hosts + 2) n is) (omega arith)
-reads_some hosts (Lease work Phase1Write) n some is = absurd (none_some n is)
-reads_some hosts (Lease work Phase1Read) n some is = subst (λ k. 1 ≤ k) (some_value hosts n is) some
-reads_some hosts (Lease work Phase2Write) n some is = absurd (none_some n is)
-reads_some hosts (Lease work Phase2Read) n some is = subst (λ k. 1 ≤ k) (some_value hosts n is) some
-reads_some hosts (Lease work TakeLeader) n some is = absurd (none_some n is)
-reads_some hosts (Lease work SetMode) n some is = absurd (none_some n is)
-reads_some hosts (Lease work FreeLeader) n some is = absurd (none_some n is)
-reads_some hosts (Lease work ClearMode) n some is = absurd (none_some n is)
-reads_some hosts (Lease work ReadBeforeFree) n some is = subst (λ k. 1 ≤ k) (some_value (hosts + 2) n is) (omega arith)
-reads_some hosts (Lease work ReadBeforeBlock) n some is = absurd (none_some n is)
-reads_some hosts (Lease work (ReadAgain read)) n some is = absurd (none_some n is)
-reads_some hosts (RequestRead j) n some is = subst (λ k. 1 ≤ k) (some_value 2 n is) (omega arith)
-reads_some hosts (RequestWrite j owner) n some is = absurd (none_some n is)
-reads_some hosts SeeRequest n some is = some_one n is
-reads_some hosts (ValueWrite j) n some is = absurd (none_some n is)
-reads_some hosts (ValueRead j) n some is = some_one n is
+-- All blocks have some sectors, and a read of the area has two more.
+blocks_some : (g : Layout) → 1 ≤ g.hosts → 1 ≤ block_sectors g
+blocks_some g some = by g.paired where
+  by : (paired : Bool) → 1 ≤ elim paired as (λ z. ℕ) [ false ↦ g.hosts | true ↦ 2 * g.hosts ]
+  by false = some
+  by true = twice g.hosts some where
+    twice : (n : ℕ) → 1 ≤ n → 1 ≤ 2 * n
+    twice n few = omega (arith, few)
+
+read_some : (g : Layout) (read : LeaseRead) → 1 ≤ g.hosts → 1 ≤ sectors_of_read g read
+read_some g (OfArea name) some = omega arith
+read_some g OfFree some = omega arith
+read_some g OfBlock some = blocks_some g some
+read_some g OfPhase1 some = blocks_some g some
+read_some g OfPhase2 some = blocks_some g some
+
+lease_some : (g : Layout) (o : Option LeaseRead) (n : ℕ) → 1 ≤ g.hosts → option_map (sectors_of_read g) o ≡ Some n → 1 ≤ n
+lease_some g None n some is = absurd (none_some n is)
+lease_some g (Some read) n some is = subst (λ k. 1 ≤ k) (some_value (sectors_of_read g read) n is) (read_some g read some)
+
+reads_some : (g : Layout) (p : Purpose) (n : ℕ) → 1 ≤ g.hosts → sectors_asked g p ≡ Some n → 1 ≤ n
+reads_some g (Joining j FirstRead) n some is = some_one n is
+reads_some g (Joining j WatchRead) n some is = some_one n is
+reads_some g (Joining j DecidingRead) n some is = some_one n is
+reads_some g (Joining j ClaimWrite) n some is = absurd (none_some n is)
+reads_some g (Joining j VerifyRead) n some is = some_one n is
+reads_some g (Joining j FirstRenewal) n some is = absurd (none_some n is)
+reads_some g Renewal n some is = absurd (none_some n is)
+reads_some g Survey n some is = subst (λ k. 1 ≤ k) (some_value g.hosts n is) some
+reads_some g (Leaving j) n some is = absurd (none_some n is)
+reads_some g (Lease work step) n some is = lease_some g (read_of_step (first_step step)) n some is
+reads_some g (RequestRead j) n some is = subst (λ k. 1 ≤ k) (some_value 2 n is) (omega arith)
+reads_some g (RequestWrite j owner) n some is = absurd (none_some n is)
+reads_some g SeeRequest n some is = some_one n is
+reads_some g (ValueWrite j) n some is = absurd (none_some n is)
+reads_some g (ValueRead j) n some is = some_one n is
 
 -- ---- a step
 
@@ -133,16 +146,16 @@ module _ (now : ℕ) (i : Input) (h : HostState) (st : Setting) (es : Trace) (co
     inside : Contains (submitted (entry_at st es now i ∷ es)) (new_call (length es) now c)
     inside = new_inside (length es) now (due st es now i).calls (mark es (entry_at st es now i) i (submitted es)) c made
 
-    asks : sectors_of c.op ≡ sectors_asked st.layout.hosts c.purpose
+    asks : sectors_of c.op ≡ sectors_asked st.layout c.purpose
     asks =
-        trace_asks st comes.0.setting.unpaired (entry_at st es now i ∷ es) (new_call (length es) now c) lawful.orderly (traces_ask st (entry_at st es now i ∷ es) trace) inside
+        trace_asks st (entry_at st es now i ∷ es) (new_call (length es) now c) lawful.orderly (traces_ask st (entry_at st es now i ∷ es) trace) inside
         ((traces_hold st (entry_at st es now i ∷ es) comes.0.setting trace).whole.facts.calls.owned (new_call (length es) now c) inside)
 
     reads : (n : ℕ) → c.op ≡ ReadSectors n → 1 ≤ n
     reads n is =
         let g = comes.0.setting.layout in
         let hosts : 1 ≤ st.layout.hosts = subst (λ (l : Layout). 1 ≤ l.hosts) (sym g.2) (sector_size g.0 g.1).1 in
-        reads_some st.layout.hosts c.purpose n hosts (sym asks ∙ ap sectors_of is)
+        reads_some st.layout c.purpose n hosts (sym asks ∙ ap sectors_of is)
 
     writes : (r : Rec) → c.op ≡ WriteRecord r → IsRecord r
     writes r is = lawful.orderly.calls.0.spelled c r made (ap record_of is)

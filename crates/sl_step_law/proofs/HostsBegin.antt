@@ -95,4 +95,4 @@ module _ (st : Setting) (setting : IsSetting st) where
       }
 
 pub hosts_begin : HostsBegin
-hosts_begin = record { stands = λ st setting program. new_host_stands st program setting.unpaired; sound = λ st setting program. new_hosts_are_sound st (fit st setting program) }
+hosts_begin = record { stands = λ st setting program. new_host_stands st program; sound = λ st setting program. new_hosts_are_sound st (fit st setting program) }

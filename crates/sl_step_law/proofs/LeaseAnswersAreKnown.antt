@@ -1,58 +1,70 @@
 -- An answer to a lease's call: the lease that hears it, and what stands behind the call.
 use Rattle.sl_area.specs.Layouts.{Layout}
-use Rattle.sl_area.specs.Places.{is_base}
+use Rattle.sl_acts.proofs.Pairs.Decoding.{ArePairs, leader_is}
+use Rattle.sl_acts.proofs.Pairs.Given.{first_are_pairs}
+use Rattle.sl_area.specs.Places.{is_base, leader_read}
+use Rattle.sl_due_law.proofs.Whole.LeaderWrites.{hosts_fit}
+use Rattle.sl_due_leases.proofs.Grants.WorksByAnswers.{new_spot}
+use Rattle.sl_due_leases.proofs.Ways.WayStages.{prior_inside, step_way}
 use Rattle.sl_due.specs.Steps.{Step, seen, with_input}
 use Rattle.sl_due_leases.proofs.Holdings.LeaseCallers.{on_own_area, spot_aligned}
-use Rattle.sl_due_facts.specs.Facts.WayFacts.{Ways, way_context}
+use Rattle.sl_due_facts.specs.Facts.WayFacts.{AgainWay, Ways, way_context}
 use Rattle.sl_host_law.proofs.Answers.AnswersSetFree.{answers_set_free, of_trace}
 use Rattle.sl_host_law.proofs.Calls.Calls.SpotsMore.{one_spot}
 use Rattle.sl_host_law.proofs.Plain.PlainLists.{at_some, found_some}
 use Rattle.sl_host_law.proofs.Plain.SessionNumbers.{placed_by_number}
 use Rattle.sl_host_law.proofs.Replies.PlainNumbers.{same_number}
 use Rattle.sl_trace.specs.Sessions.{session_numbered, sessions}
-use Rattle.sl_words.specs.Bounds.{moments}
 use Rattle.sl_host_law.proofs.Steps.InputsFollow.{joined_stays}
 use Rattle.sl_host_law.specs.Answers.Answering.{IsAnswerTo}
 use Rattle.sl_host_law.specs.Questions.Answers.{spot_in}
 use Rattle.sl_host_law.specs.Replies.Answers.{FitsCall, IsOpen}
 use Rattle.sl_host_law.specs.Steps.Leases.{kept_blocks, lease_at}
 use Rattle.sl_host_law.specs.Steps.Taking.{IsCallOf}
-use Rattle.sl_host_state.specs.Hears.{blocks_shown, heard_answer, hearing, is_heeded_by, is_over_with, lease_hearing, lease_told, member_hearing, top_hearing}
+use Rattle.sl_host_state.specs.Hears.{heard_answer, hearing, is_area_step, is_heeded_by, is_over_with, kept_heard, lease_hearing, lease_told, member_hearing, top_hearing}
 use Rattle.sl_host_state.specs.Kept.{Config, HostState, LeaseState, MemberState}
 use Rattle.sl_host_state.specs.Makes.{is_lease_on, new_lease}
-use Rattle.sl_host_state.specs.Stands.{is_kept_of, kept_call, kept_job, kept_waiting, top_mbal}
+use Rattle.sl_host_state.proofs.Pairs.{first_is_kept}
+use Rattle.sl_host_state.specs.Stands.{first_read, is_kept_of, kept_call, kept_job, kept_waiting, top_mbal}
 use Rattle.sl_host_state.specs.declared.kept.JobState.{JobState}
 use Rattle.sl_host_state.specs.declared.kept.LeaseCall.{LeaseCall}
 use Rattle.sl_host_state.specs.declared.kept.OpenCall.{OpenCall}
 use Rattle.sl_host_state.specs.declared.kept.TopNumber.{TopNumber}
-use Rattle.sl_lease.specs.Asked.{TopStands, read_given}
+use Rattle.sl_lease.specs.Asked.{TopStands, heard_with, leader_given, read_given}
 use Rattle.sl_lease.specs.Bounds.{IsInstance}
 use Rattle.sl_lease.specs.Side.{is_named}
 use Rattle.sl_lease.specs.Steps.{is_first_step, is_read_step}
-use Rattle.sl_trace.specs.Leases.{block_submitted, block_written, is_lease_call, is_on, lease_calls, lease_step, spot_of_call}
+use Rattle.sl_trace.specs.LeaseWork.{asked_again, first_step, step_of_read}
+use Rattle.sl_trace.specs.Leases.{block_submitted, block_written, is_leader_of, is_lease_call, is_on, is_second, lease_calls, lease_step, name_sought, spot_of_call}
+use Rattle.sl_text.specs.Names.{is_name}
+use Rattle.sl_words.specs.Bounds.{moments, most_hosts}
+use Rattle.sl_sector.specs.Records.{IsLeader}
+use Rattle.sl_sector.specs.declared.sector.Leader.{Leader}
 use Rattle.sl_member.specs.Laws.{area_of_call}
 use Rattle.sl_plain.proofs.Lists.{find_inside, got_inside, in_map, kept as kept_in, kept_inside}
 use Rattle.sl_plain.proofs.Options.{none_is, some_of}
 use Rattle.sl_sector.specs.declared.sector.Block.{Block}
 use Rattle.sl_trace.specs.Sessions.{calls_of, is_call_of}
 use Rattle.sl_step_law.proofs.AnswersAreAwaited.{answers_are_awaited}
-use Rattle.sl_step_law.proofs.BlocksAreInstances.{written_above}
+use Rattle.sl_step_law.proofs.BlocksAreInstances.{named_some, written_above}
 use Rattle.sl_step_law.proofs.CallsAsk.{calls_ask, made_by}
-use Rattle.sl_step_law.proofs.CallsOfInstances.{call_wrote, write_instance}
+use Rattle.sl_step_law.proofs.CallsOfInstances.{call_wrote, way_of, write_instance}
 use Rattle.sl_step_law.proofs.CallsOfMembers.{IsMembers, calls_are_theirs, members_call}
 use Rattle.sl_step_law.proofs.HoldersLeased.{folded, marked}
-use Rattle.sl_step_law.proofs.LeasesAreKnown.{lease_stands, leases_are_known, ways}
+use Rattle.sl_step_law.proofs.LeasesAreKnown.{lease_stands, leases_are_known, listed, ways}
+use Rattle.sl_step_law.proofs.ReadsAreHeard.{first_stays, seeks, told_name, told_top}
 use Rattle.sl_step_law.proofs.MomentsAreKnown.{moments_are_known}
 use Rattle.sl_step_law.specs.Answering.{AnswerArrives, LeaseAnswersAreKnown, LeaseHeard}
 use Rattle.sl_step_law.specs.Asking.{sectors_asked}
 use Rattle.sl_step_law.specs.Awaiting.{IsLeasesCall, IsMembersCall}
 use Rattle.sl_step_law.specs.Moments.{IsMoment}
 use Rattle.sl_step_law.specs.Ready.{IsReady}
-use Rattle.sl_step_law.specs.Standing.{EntryStands, WroteBlock, is_look, looks_before_free}
+use Rattle.sl_step_law.specs.Standing.{EntryStands, WroteBlock, is_look, looks_before_owed}
 use Rattle.sl_trace.specs.Traces.{EachEntry, FollowsTrace, Job, Submitted, Trace, call_numbered, is_of_job, job_of, mark, new_call, outstanding, is_expected, running_jobs, submitted, waiting_call}
 use Rattle.sl_trace.specs.declared.effects.Call.{Call}
 use Rattle.sl_trace.specs.declared.effects.Entry.{Entry}
-use Rattle.sl_trace.specs.declared.effects.LeaseStep.TheVariants.{ClearMode, FreeLeader, Phase1Read, Phase1Write, Phase2Read, Phase2Write, ReadAgain, ReadArea, ReadBeforeBlock, ReadBeforeFree, SetMode, TakeLeader}
+use Rattle.sl_trace.specs.declared.effects.LeaseRead.TheVariants.{OfArea, OfBlock, OfFree, OfPhase1, OfPhase2}
+use Rattle.sl_trace.specs.declared.effects.LeaseStep.TheVariants.{ReadAgain, ReadArea}
 use Rattle.sl_trace.specs.declared.effects.LeaseStep.{LeaseStep}
 use Rattle.sl_trace.specs.declared.effects.Purpose.TheVariants.{Lease}
 use Rattle.sl_trace.specs.declared.effects.Spot.{Spot}
@@ -63,12 +75,14 @@ use Rattle.sl_trace.specs.declared.input.Input.TheVariants.{Answer as Told, Wake
 use Rattle.sl_trace_law.proofs.Sessions.Making.{calls_are_made}
 use Rattle.sl_trace_law.specs.Sessions.Promises.{IsMade}
 use Rattle.sl_words.proofs.CaseLaws.{none_some, some_value, true_is_false}
-use Rattle.sl_words.proofs.WordLaws.{some_is_true}
-use Rattle.sl_words.specs.Words.{some_is}
+use Rattle.sl_words.proofs.WordLaws.{and_true, some_is_true}
+use Rattle.sl_words.specs.Words.{is_empty, some_is}
 use Rattle.std.proofs.Common.{ap, inl, refl, subst, sym, ◌∙◌}
 use Rattle.std.proofs.lemmas.Bool.{eqb-true}
 use Rattle.std.proofs.lemmas.Bool.Decides.{Decides-eqb}
-use Rattle.std.specs.Prelude.{Bool, Contains, IsTrue, List, None, Option, Some, cond, false, find, is_none, is_some, length, map, not, option_map, slice_get, true, unwrap_or, [], ℕ, ◌&&◌, ◌++◌, ◌<◌, ◌==◌, ◌∷◌, ◌≡◌, ◌||◌}
+use Rattle.std.proofs.lemmas.Slice.Eq.{bytes_eq-Decides}
+use Rattle.std.specs.Option.{option_or}
+use Rattle.std.specs.Prelude.{Bool, Contains, IsTrue, List, None, Option, Some, cond, false, find, is_none, is_some, length, map, not, option_map, slice_get, true, unwrap_or, bytes_eq, [], ℕ, ◌%◌, ◌&&◌, ◌++◌, ◌<◌, ◌==◌, ◌∷◌, ◌≡◌, ◌≤◌, ◌||◌}
 
 -- ---- a call stays in the trace
 
@@ -90,14 +104,14 @@ both_true false q one also = absurd cc
 told_spot : (h : HostState) (m : MemberState) (heeded : Bool) (c : OpenCall) (a : Answer) (l : LeaseState) → (lease_told h m heeded c a l).spot ≡ l.spot
 told_spot h m heeded c a l = by l.waiting where
   chosen : (w : LeaseCall) (b : Bool)
-      → (cond b (lease_hearing h.config.layout m.who.lockspace (record { id = m.who.id; generation = m.known.generation }) heeded c a w.step w.frees w.clears l) l).spot ≡ l.spot
+      → (cond b (lease_hearing h.config.layout m.who.lockspace (record { id = m.who.id; generation = m.known.generation }) heeded c a w l) l).spot ≡ l.spot
   chosen w true = refl
   chosen w false = refl
 
   by : (o : Option LeaseCall)
       → (elim o as (λ z. LeaseState) [
         | None ↦ l
-        | Some w ↦ cond (w.number == c.number) (lease_hearing h.config.layout m.who.lockspace (record { id = m.who.id; generation = m.known.generation }) heeded c a w.step w.frees w.clears l) l
+        | Some w ↦ cond (w.number == c.number) (lease_hearing h.config.layout m.who.lockspace (record { id = m.who.id; generation = m.known.generation }) heeded c a w l) l
       ]).spot ≡ l.spot
   by None = refl
   by (Some w) = chosen w (w.number == c.number)
@@ -110,20 +124,6 @@ found_told f at same (l ∷ ls) = ap (λ (s : Spot). cond (is_lease_on at (recor
   by false rest = rest
 
 -- ---- what a read shows
-
-shown_read : (g : Layout) (step : LeaseStep) (bytes : List ℕ) → is_read_step step ≡ true → blocks_shown g step (Read bytes) ≡ Some (read_given g step bytes)
-shown_read g (ReadArea name) bytes reads = refl
-shown_read g ReadBeforeFree bytes reads = refl
-shown_read g ReadBeforeBlock bytes reads = absurd cc
-shown_read g (ReadAgain read) bytes reads = absurd cc
-shown_read g Phase1Read bytes reads = refl
-shown_read g Phase2Read bytes reads = refl
-shown_read g Phase1Write bytes reads = absurd cc
-shown_read g Phase2Write bytes reads = absurd cc
-shown_read g TakeLeader bytes reads = absurd cc
-shown_read g SetMode bytes reads = absurd cc
-shown_read g FreeLeader bytes reads = absurd cc
-shown_read g ClearMode bytes reads = absurd cc
 
 -- The greatest number that is kept of blocks is theirs.
 top_is : (own : Option Block) (read : List (Option Block)) (t : TopNumber) → option_map (λ (b : Block). (let n : TopNumber = record { instance = b.lver; mbal = top_mbal b.lver read } in n)) own ≡ Some t
@@ -158,9 +158,6 @@ module _ (h : HostState) (x : Step) (number : ℕ) (c : OpenCall) (m : MemberSta
   now : IsMoment Wake h x
   now = moments_are_known.ready h x r
 
-  plain : x.setting.layout.paired ≡ false
-  plain = r.kept.known.0.setting.unpaired
-
   way_facts : Ways (way_context x.setting (seen x) m.who) (lease_calls x.setting (seen x) m.who lease.lease.spot)
   way_facts = ways Wake h x now m k.there lease.lease has.0
 
@@ -178,29 +175,56 @@ module _ (h : HostState) (x : Step) (number : ℕ) (c : OpenCall) (m : MemberSta
   of_lease : Contains (lease_calls x.setting (seen x) m.who lease.lease.spot) the.0
   of_lease = on_lease the.0 the.1.inside mine (ap (λ p. is_some (lease_step p)) purpose) area
 
-  -- A block is behind a look before a free.
-  looked : is_look step ≡ true → is_some (block_submitted (lease_calls x.setting (seen x) m.who lease.lease.spot)) ≡ true
-  looked look =
-      let made : IsMade (seen x) the.0 = calls_are_made (seen x) the.0 the.1.inside in
-      let stands =
-      made_by (EntryStands x.setting) made.later made.entry made.past (subst (EachEntry (EntryStands x.setting)) made.whole now.calls) the.0.call
-      (got_inside made.entry.effects.calls made.index the.0.call made.call)
+  -- A block is behind a look before what is owed.
+  looked_by : (d : Submitted) → Contains (lease_calls x.setting (seen x) m.who lease.lease.spot) d → (s : LeaseStep) → d.call.purpose ≡ Lease work s → is_look s ≡ true
+      → is_some (block_submitted (lease_calls x.setting (seen x) m.who lease.lease.spot)) ≡ true
+  looked_by d in_lease s its look =
+      let on_it = kept_inside (λ (z : Submitted). is_lease_call z && is_on x.setting.layout lease.lease.spot z.call) (calls_of (seen x) m.who) d in_lease in
+      let its_own = kept_inside (is_call_of m.who) (submitted (seen x)) d on_it.0 in
+      let aligned : lease.lease.spot.base % x.setting.layout.area ≡ 0 = subst (λ (z : Spot). z.base % x.setting.layout.area ≡ 0) area (spot_aligned x.setting.layout the.0) in
+      let spot : spot_of_call x.setting.layout (new_call 0 0 d.call) ≡ lease.lease.spot =
+      new_spot x.setting lease.lease.spot d.call r.kept.known.0.setting aligned (and_true (is_lease_call d) (is_on x.setting.layout lease.lease.spot d.call) on_it.1).1
       in
-      let w : WroteBlock x.setting made.past the.0.call = stands.behind (ap (λ p. looks_before_free p) purpose ∙ look) in
+      let made : IsMade (seen x) d = calls_are_made (seen x) d its_own.0 in
+      let stands =
+      made_by (EntryStands x.setting) made.later made.entry made.past (subst (EachEntry (EntryStands x.setting)) made.whole now.calls) d.call
+      (got_inside made.entry.effects.calls made.index d.call made.call)
+      in
+      let w : WroteBlock x.setting made.past d.call = stands.behind (ap (λ p. looks_before_owed p) its ∙ look) in
       let z = stays_in made.later made.entry made.past w.write w.there in
       let wrote : is_some (block_written z.0) ≡ true = ap (λ (q : Call). is_some (block_written (new_call 0 0 q))) z.2 ∙ w.block in
       let b = some_of (block_written z.0) wrote in
       let on =
-      on_lease z.0 (subst (λ t. Contains (submitted t) z.0) (sym made.whole) z.1) (ap (λ (q : Call). q.session) z.2 ∙ w.mine ∙ mine) (ap (λ (q : Call). is_some (lease_step q.purpose)) z.2 ∙ w.works)
-      (ap (λ (q : Call). spot_of_call x.setting.layout (new_call 0 0 q)) z.2 ∙ w.area ∙ area)
+      on_lease z.0 (subst (λ t. Contains (submitted t) z.0) (sym made.whole) z.1) (ap (λ (q : Call). q.session) z.2 ∙ w.mine ∙ same_number d.call.session m.who.number its_own.1)
+      (ap (λ (q : Call). is_some (lease_step q.purpose)) z.2 ∙ w.works) (ap (λ (q : Call). spot_of_call x.setting.layout (new_call 0 0 q)) z.2 ∙ w.area ∙ spot)
       in
-      (written_above (way_context x.setting (seen x) m.who) plain (lease_calls x.setting (seen x) m.who lease.lease.spot) way_facts z.0 b.0 on b.1).1
+      (written_above (way_context x.setting (seen x) m.who) (lease_calls x.setting (seen x) m.who lease.lease.spot) way_facts z.0 b.0 on b.1).1
+
+  -- Made once, or once more.
+  looked : is_look (first_step step) ≡ true → is_some (block_submitted (lease_calls x.setting (seen x) m.who lease.lease.spot)) ≡ true
+  looked look = by step purpose look where
+    by : (s : LeaseStep) → the.0.call.purpose ≡ Lease work s → is_look (first_step s) ≡ true → is_some (block_submitted (lease_calls x.setting (seen x) m.who lease.lease.spot)) ≡ true
+    by (ReadAgain read) its looks =
+        let z = way_of (way_context x.setting (seen x) m.who) (lease_calls x.setting (seen x) m.who lease.lease.spot) way_facts the.0 of_lease in
+        let h : AgainWay (way_context x.setting (seen x) m.who) work the.0.at the.0.call z.rest read = step_way (way_context x.setting (seen x) m.who) the.0 z.rest work (ReadAgain read) z.way its in
+        looked_by h.after.prior (z.inside h.after.prior (prior_inside z.rest work (step_of_read read) h.after)) (step_of_read read) h.after.its looks
+    by s its looks = looked_by the.0 of_lease s its looks
 
   own : is_first_step step ≡ false → is_some lease.lease.own ≡ true
-  own later = ap (λ b. is_some b) (sym (lease_stands Wake h x now m k.there lease.lease has.0).own) ∙ by (is_look step) refl where
-    by : (b : Bool) → is_look step ≡ b → is_some (block_submitted (lease_calls x.setting (seen x) m.who lease.lease.spot)) ≡ true
+  own later = ap (λ b. is_some b) (sym (lease_stands Wake h x now m k.there lease.lease has.0).own) ∙ by (is_look (first_step step)) refl where
+    by : (b : Bool) → is_look (first_step step) ≡ b → is_some (block_submitted (lease_calls x.setting (seen x) m.who lease.lease.spot)) ≡ true
     by true look = looked look
-    by false other = call_wrote (way_context x.setting (seen x) m.who) plain (lease_calls x.setting (seen x) m.who lease.lease.spot) work step the.0 way_facts of_lease purpose later other
+    by false other = call_wrote (way_context x.setting (seen x) m.who) (lease_calls x.setting (seen x) m.who lease.lease.spot) work step the.0 way_facts of_lease purpose later other
+
+  -- What is kept of a first read of pairs are pairs.
+  first_well : ArePairs (first_read lease.lease.pair)
+  first_well =
+      let l = lease_stands Wake h x now m k.there lease.lease has.0 in
+      subst ArePairs (first_is_kept x.setting.layout lease.lease.pair (lease_calls x.setting (seen x) m.who lease.lease.spot) l.again l.kept l.second)
+      (first_are_pairs x.setting.layout (lease_calls x.setting (seen x) m.who lease.lease.spot))
+
+  some_hosts : (1 ≤ h.config.layout.hosts) × (h.config.layout.hosts ≤ most_hosts)
+  some_hosts = subst (λ (g : Layout). (1 ≤ g.hosts) × (g.hosts ≤ most_hosts)) layouts (hosts_fit x.setting (seen x) m.who r.kept.known.0.setting (listed Wake h x now m k.there))
 
   -- ---- its answer
 
@@ -240,7 +264,7 @@ module _ (h : HostState) (x : Step) (number : ℕ) (c : OpenCall) (m : MemberSta
     lease_is = ap (λ o. unwrap_or o (new_lease (spot_in h.config.layout c))) found
 
     abbrev hearing_as : LeaseCall → LeaseState
-    hearing_as w = lease_hearing h.config.layout m.who.lockspace (record { id = m.who.id; generation = m.known.generation }) (is_heeded_by h c) c a w.step w.frees w.clears lease.lease
+    hearing_as w = lease_hearing h.config.layout m.who.lockspace (record { id = m.who.id; generation = m.known.generation }) (is_heeded_by h c) c a w lease.lease
 
     told_is : told ≡ hearing_as lease.call
     told_is =
@@ -250,27 +274,100 @@ module _ (h : HostState) (x : Step) (number : ℕ) (c : OpenCall) (m : MemberSta
     step_is : lease.call.step ≡ step
     step_is = (let same_steps : Some (lease.call.work, lease.call.step) ≡ Some (work, step) = ap lease_step (sym lease.waits.purpose ∙ for) in ap (λ (p : Work × LeaseStep). p.1) (some_value (lease.call.work, lease.call.step) (work, step) same_steps))
 
+    now_is : lease_at q (spot_in h.config.layout c) ≡ hearing_as lease.call
+    now_is = lease_is ∙ told_is
+
+    owned : is_some (lease_at q (spot_in h.config.layout c)).own ≡ true → IsTrue (is_named (lease_at q (spot_in h.config.layout c)))
+    owned = leases_are_known.owned (Told number a) g (with_input (Told number a) x) q (spot_in h.config.layout c) heard stays
+
     named : IsTrue (is_first_step step || is_named (lease_at q (spot_in h.config.layout c)))
     named = by (is_first_step step) refl where
       by : (b : Bool) → is_first_step step ≡ b → IsTrue (b || is_named (lease_at q (spot_in h.config.layout c)))
       by true first = refl
-      by false later =
-          let inside = find_inside (is_lease_on (spot_in h.config.layout c)) q.leases told found in
-          let kept_own : is_some told.own ≡ true = ap (λ (l : LeaseState). is_some l.own) told_is ∙ own later in
-          subst (λ l. IsTrue (is_named l)) (sym lease_is) (leases_are_known.named (Told number a) g (with_input (Told number a) x) q told heard stays inside.0 kept_own)
+      by false later = owned (ap (λ (l : LeaseState). is_some l.own) now_is ∙ own later)
+
+    -- ---- a read, by itself or with what is kept of the first one
+
+    again : is_second step ≡ (lease_at q (spot_in h.config.layout c)).pair.again
+    again = ap (λ s. is_second s) (sym step_is) ∙ lease.again ∙ ap (λ (l : LeaseState). l.pair.again) (sym now_is)
+
+    kept : (lease_at q (spot_in h.config.layout c)).pair.again ≡ true → IsTrue (is_some (lease_at q (spot_in h.config.layout c)).pair.first)
+    kept is =
+        subst (λ (l : LeaseState). IsTrue (is_some l.pair.first)) (sym now_is)
+        (by (kept_heard h.config.layout lease.call.step a) lease.lease.pair.first (lease.second (ap (λ (l : LeaseState). l.pair.again) (sym now_is) ∙ is))) where
+          by : {A : Type 0} (o p : Option A) → is_some p ≡ true → is_some (option_or o p) ≡ true
+          by (Some b) p some = refl
+          by None p some = some
 
     tops : TopStands (lease_at q (spot_in h.config.layout c)) (kept_blocks (lease_at q (spot_in h.config.layout c)))
     tops = leases_are_known.tops (Told number a) g (with_input (Told number a) x) q (spot_in h.config.layout c) heard stays
 
-    shown : (bytes : List ℕ) → a ≡ Read bytes → is_read_step step ≡ true → TopStands (lease_at q (spot_in h.config.layout c)) (read_given h.config.layout step bytes)
-    shown bytes is reads = record { greatest_is = greatest; opened = tops.opened } where
-      top : (lease_at q (spot_in h.config.layout c)).top ≡ top_hearing lease.lease (Some (read_given h.config.layout step bytes))
-      top =
-          ap (λ (l : LeaseState). l.top) (lease_is ∙ told_is)
-          ∙ ap (top_hearing lease.lease) (ap (λ s. blocks_shown h.config.layout s a) step_is ∙ ap (blocks_shown h.config.layout step) is ∙ shown_read h.config.layout step bytes reads)
+    module _ (bytes : List ℕ) (is : a ≡ Read bytes) (once : asked_again h.config.layout bytes step ≡ None) where
+      -- The lease as it has heard these bytes.
+      abbrev heard_them : LeaseState
+      heard_them =
+          lease_hearing h.config.layout m.who.lockspace (record { id = m.who.id; generation = m.known.generation }) (is_heeded_by h c) c (Read bytes) lease.call lease.lease
 
-      greatest : (t : TopNumber) → (lease_at q (spot_in h.config.layout c)).top ≡ Some t → top_mbal t.instance (read_given h.config.layout step bytes) ≡ t.mbal
-      greatest t at = top_is lease.lease.own (read_given h.config.layout step bytes) t (sym top ∙ at)
+      them : lease_at q (spot_in h.config.layout c) ≡ heard_them
+      them =
+          now_is
+          ∙ ap (λ z. lease_hearing h.config.layout m.who.lockspace (record { id = m.who.id; generation = m.known.generation }) (is_heeded_by h c) c z lease.call lease.lease) is
+
+      once_so : asked_again h.config.layout bytes lease.call.step ≡ None
+      once_so = ap (λ s. asked_again h.config.layout bytes s) step_is ∙ once
+
+      given_as : read_given h.config.layout (first_read heard_them.pair) lease.call.step bytes ≡ read_given h.config.layout (first_read (lease_at q (spot_in h.config.layout c)).pair) step bytes
+      given_as =
+          ap (λ (l : LeaseState). read_given h.config.layout (first_read l.pair) lease.call.step bytes) (sym them)
+          ∙ ap (λ s. read_given h.config.layout (first_read (lease_at q (spot_in h.config.layout c)).pair) s bytes) step_is
+
+      shown : is_read_step step ≡ true → TopStands (lease_at q (spot_in h.config.layout c)) (read_given h.config.layout (first_read (lease_at q (spot_in h.config.layout c)).pair) step bytes)
+      shown reads = record { greatest_is = greatest; opened = tops.opened } where
+        top : (lease_at q (spot_in h.config.layout c)).top ≡ top_hearing lease.lease (Some (read_given h.config.layout (first_read (lease_at q (spot_in h.config.layout c)).pair) step bytes))
+        top =
+            ap (λ (l : LeaseState). l.top) them
+            ∙ told_top h.config.layout m.who.lockspace (record { id = m.who.id; generation = m.known.generation }) (is_heeded_by h c) c lease.call bytes lease.lease lease.again
+            (ap (λ s. is_read_step s) step_is ∙ reads) lease.second once_so
+            ∙ ap (λ read. top_hearing lease.lease (Some read)) given_as
+
+        greatest : (t : TopNumber) → (lease_at q (spot_in h.config.layout c)).top ≡ Some t
+            → top_mbal t.instance (read_given h.config.layout (first_read (lease_at q (spot_in h.config.layout c)).pair) step bytes) ≡ t.mbal
+        greatest t at =
+            top_is lease.lease.own (read_given h.config.layout (first_read (lease_at q (spot_in h.config.layout c)).pair) step bytes) t (sym top ∙ at)
+
+      verified : (name : List ℕ) (l : Leader) → first_step step ≡ ReadArea name → leader_given h.config.layout (first_read (lease_at q (spot_in h.config.layout c)).pair) step bytes ≡ Some l
+          → is_leader_of h.config.layout q.who.lockspace name l ≡ true → IsTrue (is_named (lease_at q (spot_in h.config.layout c)))
+      verified name l sought gives verifies =
+          subst (λ (z : LeaseState). IsTrue (is_named z)) (sym them) (subst (λ n. IsTrue (not (is_empty n))) (sym name_is) (named_some name name_well)) where
+            sought_so : first_step lease.call.step ≡ ReadArea name
+            sought_so = ap (λ s. first_step s) step_is ∙ sought
+
+            read_so : (name_sought (Lease work lease.call.step) ≡ Some name) × (is_area_step lease.call.step ≡ true) × (is_read_step lease.call.step ≡ true)
+            read_so = seeks work lease.call.step name sought_so
+
+            gives_so : leader_given h.config.layout (first_read heard_them.pair) lease.call.step bytes ≡ Some l
+            gives_so =
+                ap (λ (z : LeaseState). leader_given h.config.layout (first_read z.pair) lease.call.step bytes) (sym them)
+                ∙ ap (λ s. leader_given h.config.layout (first_read (lease_at q (spot_in h.config.layout c)).pair) s bytes) step_is ∙ gives
+
+            name_is : heard_them.name ≡ name
+            name_is =
+                told_name h.config.layout m.who.lockspace (record { id = m.who.id; generation = m.known.generation }) (is_heeded_by h c) c lease.call bytes lease.lease lease.again
+                read_so.2 lease.second once_so name l lease.waits.purpose sought_so gives_so verifies
+
+            first_same : first_read heard_them.pair ≡ first_read lease.lease.pair
+            first_same = first_stays h.config.layout m.who.lockspace (record { id = m.who.id; generation = m.known.generation }) (is_heeded_by h c) c lease.call bytes lease.lease lease.again
+
+            leader_well : IsLeader l
+            leader_well =
+                leader_is h.config.layout some_hosts bytes (heard_with h.config.layout (first_read heard_them.pair) lease.call.step bytes) (subst ArePairs (sym first_same) first_well) l
+                (ap (λ b. elim b as (λ z. Option Leader) [ false ↦ None | true ↦ leader_read h.config.layout bytes (heard_with h.config.layout (first_read heard_them.pair) lease.call.step bytes) ]) (sym read_so.1)
+                ∙ gives_so)
+
+            name_well : IsTrue (is_name name)
+            name_well =
+                let its = and_true (bytes_eq l.lockspace q.who.lockspace && bytes_eq l.resource name) (l.num_hosts == h.config.layout.hosts) verifies in
+                subst (λ n. IsTrue (is_name n)) ((bytes_eq-Decides l.resource name).0 (and_true (bytes_eq l.lockspace q.who.lockspace) (bytes_eq l.resource name) its.0).1) leader_well.resource
 
     based : IsTrue (is_base h.config.layout (spot_in h.config.layout c).base)
     based =
@@ -284,8 +381,18 @@ module _ (h : HostState) (x : Step) (number : ℕ) (c : OpenCall) (m : MemberSta
           joined = joined;
           area = subst (λ (z : Layout). IsTrue (is_base z (spot_in z c).base)) same based;
           named = subst (λ (z : Layout). IsTrue (is_first_step step || is_named (lease_at q (spot_in z c)))) same named;
+          owned = leases_are_known.owned (Told number a) g (with_input (Told number a) x) q (spot_in g.config.layout c) heard stays;
+          opened = leases_are_known.opened (Told number a) g (with_input (Told number a) x) q (spot_in g.config.layout c) heard stays;
+          again = subst (λ (z : Layout). is_second step ≡ (lease_at q (spot_in z c)).pair.again) same again;
+          kept = subst (λ (z : Layout). (lease_at q (spot_in z c)).pair.again ≡ true → IsTrue (is_some (lease_at q (spot_in z c)).pair.first)) same kept;
           tops = subst (λ (z : Layout). TopStands (lease_at q (spot_in z c)) (kept_blocks (lease_at q (spot_in z c)))) same tops;
-          shown = λ bytes is reads. subst (λ (z : Layout). TopStands (lease_at q (spot_in z c)) (read_given z step bytes)) same (shown bytes is reads);
+          shown = λ bytes is reads.
+              subst (λ (z : Layout). asked_again z bytes step ≡ None → TopStands (lease_at q (spot_in z c)) (read_given z (first_read (lease_at q (spot_in z c)).pair) step bytes)) same
+              (λ once. shown bytes is once reads);
+          verified = λ bytes name l is sought.
+              subst (λ (z : Layout). asked_again z bytes step ≡ None → leader_given z (first_read (lease_at q (spot_in z c)).pair) step bytes ≡ Some l → is_leader_of z q.who.lockspace name l ≡ true
+              → IsTrue (is_named (lease_at q (spot_in z c)))) same
+              (λ once gives verifies. verified bytes is once name l sought gives verifies);
           held = leases_are_known.held (Told number a) g (with_input (Told number a) x) q (spot_in g.config.layout c) heard stays;
         }
 
@@ -308,21 +415,15 @@ module _ (h : HostState) (x : Step) (number : ℕ) (c : OpenCall) (r : IsReady h
 
   steps : (work : Work) (step : LeaseStep) → c.purpose ≡ Lease work step → is_some c.sectors ≡ is_read_step step
   steps work step for =
-      ap (λ o. is_some o) (calls_ask h x c r (find_inside (λ (d : OpenCall). d.number == number) h.unanswered c opens).0 ∙ ap (λ p. sectors_asked h.config.layout.hosts p) for) ∙ by step
+      ap (λ o. is_some o) (calls_ask h x c r (find_inside (λ (d : OpenCall). d.number == number) h.unanswered c opens).0 ∙ ap (λ p. sectors_asked h.config.layout p) for) ∙ by step
     where
-      by : (s : LeaseStep) → is_some (sectors_asked h.config.layout.hosts (Lease work s)) ≡ is_read_step s
-      by (ReadArea name) = refl
-      by ReadBeforeFree = refl
-      by ReadBeforeBlock = refl
-      by (ReadAgain read) = refl
-      by Phase1Write = refl
-      by Phase1Read = refl
-      by Phase2Write = refl
-      by Phase2Read = refl
-      by TakeLeader = refl
-      by SetMode = refl
-      by FreeLeader = refl
-      by ClearMode = refl
+      by : (s : LeaseStep) → is_some (sectors_asked h.config.layout (Lease work s)) ≡ is_read_step s
+      by (ReadAgain (OfArea name)) = refl
+      by (ReadAgain OfFree) = refl
+      by (ReadAgain OfBlock) = refl
+      by (ReadAgain OfPhase1) = refl
+      by (ReadAgain OfPhase2) = refl
+      by s = refl
 
   instance : (work : Work) (step : LeaseStep) → c.purpose ≡ Lease work step → c.sectors ≡ None → IsInstance c.lver
   instance work step for none =
@@ -337,7 +438,7 @@ module _ (h : HostState) (x : Step) (number : ℕ) (c : OpenCall) (r : IsReady h
       (kept_in (is_call_of owner.0) (submitted (seen x)) call.0 ((Decides-eqb call.0.call.session owner.0.number).1 (sym number_is)) inside)
       in
       subst (λ (z : OpenCall). IsInstance z.lver) call.2
-      (write_instance x.setting r.kept.known.0.setting.unpaired (seen x) owner.0 at r.kept.known.0.orderly (r.kept.known.0.facts.ways.each owner.0 at listed (spot_aligned x.setting.layout call.0)) call.0 on work step purpose
+      (write_instance x.setting (seen x) owner.0 at r.kept.known.0.orderly (r.kept.known.0.facts.ways.each owner.0 at listed (spot_aligned x.setting.layout call.0)) call.0 on work step purpose
       (ap (λ (z : OpenCall). z.sectors) call.2 ∙ none))
 
 -- ---- by the number of its session

@@ -31,6 +31,8 @@ use Rattle.sl_trace.specs.Sessions.{calls_of, is_call_of, me, sessions}
 use Rattle.sl_trace.specs.declared.session.Session.{Session}
 use Rattle.sl_step_law.proofs.BlocksAreInstances.{block_instance, name_verified}
 use Rattle.sl_step_law.proofs.CallsOnPast.{standing}
+use Rattle.sl_step_law.proofs.LooksAreOwed.{open_wrote}
+use Rattle.sl_plain.proofs.Options.{some_of}
 use Rattle.sl_step_law.proofs.HoldersWrote.{WroteIn, holders_wrote}
 use Rattle.sl_step_law.specs.Leased.{LeasesAreKnown}
 use Rattle.sl_step_law.specs.Moments.{IsMoment}
@@ -38,7 +40,7 @@ use Rattle.sl_trace.specs.Traces.{Submitted, holdings, is_shared, same_place, sa
 use Rattle.sl_trace.specs.declared.effects.Grant.{Grant}
 use Rattle.sl_trace.specs.declared.effects.Spot.{Spot}
 use Rattle.sl_trace.specs.declared.input.Input.{Input}
-use Rattle.sl_words.proofs.CaseLaws.{none_some}
+use Rattle.sl_words.proofs.CaseLaws.{false_is_true, none_some}
 use Rattle.sl_words.proofs.WordLaws.{and_true}
 use Rattle.sl_words.specs.Words.{is_empty}
 use Rattle.std.proofs.Common.{ap, arith, inl, inr, refl, subst, sym, ◌∙◌}
@@ -99,7 +101,7 @@ module _ (i : Input) (h : HostState) (x : Step) (o : IsMoment i h x) where
     instance_of : (s : Session) → Contains (sessions x.setting (seen x)) s → s.number ≡ g.session → IsInstance g.lver × (is_some (block_submitted (lease_calls x.setting (seen x) s (spot_of_grant g))) ≡ true)
     instance_of s there number =
         let ways = o.kept.known.0.facts.ways.each s (spot_of_grant g) there aligned in
-        let b = block_instance x.setting o.kept.known.0.setting.unpaired (seen x) s (spot_of_grant g) wrote_in.call wrote_in.block o.kept.known.0.orderly ways (of_session s number) wrote_in.written in
+        let b = block_instance x.setting (seen x) s (spot_of_grant g) wrote_in.call wrote_in.block o.kept.known.0.orderly ways (of_session s number) wrote_in.written in
         (subst IsInstance wrote_in.instance b.0, b.1)
 
     pub instance : IsInstance g.lver
@@ -116,7 +118,7 @@ module _ (i : Input) (h : HostState) (x : Step) (o : IsMoment i h x) where
     stands : MemberStands x.setting (seen x) m
     stands = o.stands.keeps.members place.0 m place.1
 
-    listed : Contains (sessions x.setting (seen x)) m.who
+    pub listed : Contains (sessions x.setting (seen x)) m.who
     listed = (member_inside h x.setting (seen x) place.0 m o.stands.keeps place.1).0
 
     -- The lease of a call.
@@ -160,10 +162,28 @@ module _ (i : Input) (h : HostState) (x : Step) (o : IsMoment i h x) where
         tops_kept t is = ap (λ o. top_mbal t.instance (elim o as (λ z. List (Option Block)) [ None ↦ [] | Some u ↦ Some (top_block u) ∷ [] ])) is ∙ alone t (t.instance == t.instance) (number_itself t.instance)
 
       pub named_by : is_some (block_submitted (lease_calls x.setting (seen x) m.who l.spot)) ≡ true → IsTrue (is_named l)
-      named_by wrote = subst (λ n. IsTrue (not (is_empty n))) lease_stands.name (name_verified x.setting o.kept.known.0.setting.unpaired (seen x) m.who l.spot ways wrote)
+      named_by wrote = subst (λ n. IsTrue (not (is_empty n))) lease_stands.name (name_verified x.setting o.kept.known.0.setting (seen x) m.who listed l.spot ways wrote)
 
       pub named : is_some l.own ≡ true → IsTrue (is_named l)
       named own = named_by (ap (λ b. is_some b) lease_stands.own ∙ own)
+
+      opened_by : is_some l.ballot ≡ true → is_some l.own ≡ true
+      opened_by open_one =
+          let n = some_of l.ballot open_one in
+          ap (λ b. is_some b) (sym lease_stands.own) ∙ open_wrote x.setting.layout (lease_calls x.setting (seen x) m.who l.spot) n.0 (lease_stands.ballot ∙ n.1)
+
+    -- On whatever area: a lease that isn't there has written nothing.
+    at_spot : (P : LeaseState → Type 0) (at : Spot) → ((l : LeaseState) → Contains m.leases l → P l) → P (new_lease at) → P (lease_at m at)
+    at_spot P at each none_there = by (find (is_lease_on at) m.leases) (λ l is. find_inside (is_lease_on at) m.leases l is) where
+      by : (o : Option LeaseState) → ((l : LeaseState) → o ≡ Some l → Contains m.leases l × (is_lease_on at l ≡ true)) → P (unwrap_or o (new_lease at))
+      by (Some l) inside = each l (inside l refl).0
+      by None inside = none_there
+
+    pub owned : (at : Spot) → is_some (lease_at m at).own ≡ true → IsTrue (is_named (lease_at m at))
+    owned at = at_spot (λ l. is_some l.own ≡ true → IsTrue (is_named l)) at (λ l has. named l has) (λ own. absurd (false_is_true own))
+
+    pub opened : (at : Spot) → is_some (lease_at m at).ballot ≡ true → is_some (lease_at m at).own ≡ true
+    opened at = at_spot (λ l. is_some l.ballot ≡ true → is_some l.own ≡ true) at (λ l has. opened_by l has) (λ open_one. absurd (false_is_true open_one))
 
     -- ---- the blocks that were read last
 
@@ -210,6 +230,8 @@ leases_are_known =
     record {
       placed = λ i h x m l o there has. placed i h x o m there l has;
       named = λ i h x m l o there has own. named i h x o m there l has own;
+      owned = λ i h x m at o there. owned i h x o m there at;
+      opened = λ i h x m at o there. opened i h x o m there at;
       tops = λ i h x m at o there. tops i h x o m there at;
       each_top = λ i h x m l o there has. each_top i h x o m there l has;
       instances = λ i h x g o held. instance i h x o g held;

@@ -16,10 +16,12 @@ pub mod BlocksAreInstances
 pub mod HoldersWrote
 pub mod LeasesAreKnown
 pub mod CallsOfInstances
+pub mod ReadsAreHeard
 pub mod LeaseAnswersAreKnown
 pub mod HostsAreKnown
 pub mod DecisionsAreKnown
 pub mod MembersAreKnown
+pub mod LeasesMake
 pub mod ConversionsMay
 pub mod HeldOnce
 pub mod HoldersLeased

@@ -1,6 +1,7 @@
 -- What a line comes to may be done: a lease on a calm area waits for nothing, and who gives up, converts or sets has a lease there.
 use Rattle.sl_area.specs.Layouts.{IsGeometry, Layout, Sizes}
-use Rattle.sl_area.specs.Places.{block_offset, leader_offset, value_offset}
+use Rattle.sl_acts.proofs.Pairs.Decisions.{within_cases}
+use Rattle.sl_area.specs.Places.{area_sectors, leader_offset, leader_record, value_offset}
 use Rattle.sl_due.specs.Steps.{Step, seen, with_input}
 use Rattle.sl_due.specs.declared.decision.Decision.TheVariants.{ConvertsTo, GetsValue, GivesUp, Joins, Leaves, ReadsArea, Replies, Requests, SetsValue, Shares, TakesOver}
 use Rattle.sl_due.specs.declared.decision.Decision.{Decision}
@@ -14,12 +15,13 @@ use Rattle.sl_host_law.proofs.Plain.PlainLists.{at_some, in_back}
 use Rattle.sl_host_law.proofs.Questions.MembersAnswer.{members_answer}
 use Rattle.sl_host_law.proofs.Steps.AreasLie.{has_room, placed}
 use Rattle.sl_host_law.specs.Answers.Grants.{ended, given_up}
-use Rattle.sl_host_law.specs.Answers.Leasing.{MayCarryLease, MayWork}
+use Rattle.sl_host_law.specs.Answers.Leasing.{BeginsArea, MayCarryLease, MayWork, block_at, record_at}
 use Rattle.sl_host_law.specs.Answers.LeasesGoOn.{IsPlacedAt}
-use Rattle.sl_host_law.specs.Calls.Calls.{fits_job, fits_lease, fits_value, is_leaving_alone}
+use Rattle.sl_host_law.specs.Calls.Calls.{fits_lease, fits_value, is_idle_job, is_leaving_alone}
 use Rattle.sl_host_law.specs.Decisions.Deciding.{decision_of, held_of}
 use Rattle.sl_host_law.specs.Decisions.Promises.{LastIsEnough}
 use Rattle.sl_host_law.specs.Parts.Lines.{HeardBy}
+use Rattle.sl_host_law.specs.Replies.Replies.{is_plain_line}
 use Rattle.sl_host_law.specs.Steps.Leases.{converting_next, known_at, releasing_next}
 use Rattle.sl_host_law.specs.Steps.Lining.{IsLeased, MayDecide}
 use Rattle.sl_host_law.specs.Questions.Answers.{place_in}
@@ -32,20 +34,23 @@ use Rattle.sl_host_state.specs.Stands.{IsWaiting, LeaseStands}
 use Rattle.sl_host_state.specs.declared.kept.JobState.{JobState}
 use Rattle.sl_host_state.specs.declared.kept.LeaseCall.{LeaseCall}
 use Rattle.sl_trace.specs.Jobs.{resource_named}
-use Rattle.sl_trace.specs.LeaseWork.{convert_next, release_next}
+use Rattle.sl_trace.specs.LeaseWork.{convert_next, release_next, within_turn}
 use Rattle.sl_trace.specs.Leases.{LeaseKnown, holdings_on, is_lease_call, is_on, lease_calls, open_on, spot_of}
 use Rattle.sl_trace.specs.Ballots.{moded_block}
-use Rattle.sl_trace.specs.declared.lease.LeaseNext.TheVariants.{Nothing, WriteBlock}
+use Rattle.sl_trace.specs.declared.lease.LeaseNext.TheVariants.{AnswerJob, Nothing, WriteBlock}
+use Rattle.sl_trace.specs.declared.lease.Aim.TheVariants.{Converts, Releases as Releasing}
+use Rattle.sl_trace.specs.declared.reply.Reply.{Reply}
 use Rattle.sl_trace.specs.LeaseWork.{LeasePlace}
 use Rattle.sl_plain.proofs.Lists.{any_of, contains_first, contains_map, contains_none, find_inside, got_inside, in_map, kept as kept_in, kept_inside}
 use Rattle.sl_sector.specs.declared.sector.Block.{Block}
 use Rattle.sl_sector.specs.declared.sector.Leader.{Leader}
-use Rattle.sl_sector.specs.declared.sector.Rec.TheVariants.{BlockIs, LeaderIs, ValueIs}
+use Rattle.sl_sector.specs.declared.sector.Rec.TheVariants.{ValueIs}
 use Rattle.sl_trace.specs.Sessions.{calls_of, holdings_of, is_call_of, me}
 use Rattle.sl_trace.specs.declared.delta.DeltaKnown.{DeltaKnown}
 use Rattle.sl_trace.specs.declared.session.Begun.{Begun}
 use Rattle.sl_trace.specs.declared.session.Session.{Session}
 use Rattle.sl_step_law.proofs.HoldersLeased.{holdings_are_known}
+use Rattle.sl_step_law.proofs.LeasesMake.{may_read, may_write_block, may_write_leader, some_room}
 use Rattle.sl_step_law.specs.Lines.{LinesMay}
 use Rattle.sl_step_law.specs.Ready.{IsReady}
 use Rattle.sl_trace.specs.Traces.{Submitted, is_shared, outstanding, same_place, spot_of_grant, submitted}
@@ -54,16 +59,14 @@ use Rattle.sl_trace.specs.declared.command.ResourceArg.{ResourceArg}
 use Rattle.sl_trace.specs.declared.effects.Call.{Call}
 use Rattle.sl_trace.specs.declared.effects.Grant.{Grant}
 use Rattle.sl_trace.specs.declared.effects.LeaseStep.TheVariants.{ClearMode, FreeLeader, ReadArea, SetMode}
-use Rattle.sl_trace.specs.declared.effects.LeaseStep.{LeaseStep}
 use Rattle.sl_trace.specs.declared.effects.Mode.TheVariants.{Exclusive, Shared}
 use Rattle.sl_trace.specs.declared.effects.Mode.{Mode}
 use Rattle.sl_trace.specs.declared.effects.Op.TheVariants.{ReadSectors, WriteRecord}
-use Rattle.sl_trace.specs.declared.effects.Op.{Op}
 use Rattle.sl_trace.specs.declared.effects.Purpose.TheVariants.{Lease, ValueWrite}
 use Rattle.sl_trace.specs.declared.effects.Spot.{Spot}
 use Rattle.sl_trace.specs.declared.effects.Work.TheVariants.{ForJob}
 use Rattle.sl_trace.specs.declared.input.Input.TheVariants.{Line, Wake}
-use Rattle.sl_words.proofs.CaseLaws.{true_is_false}
+use Rattle.sl_words.proofs.CaseLaws.{some_value, true_is_false}
 use Rattle.sl_words.proofs.WordLaws.{and_true}
 use Rattle.sl_plain.proofs.Numbers.{number_itself}
 use Rattle.std.proofs.Common.{ap, arith, inl, inr, refl, subst, sym, ◌∙◌}
@@ -77,9 +80,6 @@ use Rattle.std.specs.Prelude.{Bool, Contains, IsTrue, List, None, Ok, Option, So
 
 same_bytes : (bs : List ℕ) → bytes_eq bs bs ≡ true
 same_bytes bs = (bytes_eq-Decides bs bs).1 refl
-
-some_room : (n : ℕ) → 0 < n → nat_lt 0 n ≡ true
-some_room n less = grind (arith, less)
 
 whole : (n d : ℕ) → n % d ≡ 0 → n - n % d ≡ n
 whole n d zero = omega (arith, zero)
@@ -202,116 +202,69 @@ module _ (h : HostState) (x : Step) (text : List ℕ) (c : Command) (r : IsReady
       any_of (λ (j : JobState). j.number == h.next_job && is_none j.waits) (h.jobs ++ new_job h.next_job (Some c) ∷ []) (new_job h.next_job (Some c)) (ap (λ b. b && true) (number_itself h.next_job))
       (in_back h.jobs (new_job h.next_job (Some c) ∷ []) (new_job h.next_job (Some c)) (contains_first (new_job h.next_job (Some c)) []))
 
-  lease_fits : (o other : Bool) (l : LeaseState) (p : Option LeaseState) → o ≡ true → p ≡ Some l → l.waiting ≡ None → (o && option_map_or (λ z. is_none z.waiting && true) p other) ≡ true
-  lease_fits o other l p room is idle =
-      ap (λ b. b && option_map_or (λ (z : LeaseState). is_none z.waiting && true) p other) room ∙ ap (λ q. option_map_or (λ (z : LeaseState). is_none z.waiting && true) q other) is ∙ ap (λ q. is_none q && true) idle
-
   -- Of the host as it has heard the line, and given up what it gives.
   record IsHeard (g : HostState) (k : ℕ) (m : MemberState) : Type 0 where
     there : slice_get g.members k ≡ Some m
     made : g.config ≡ h.config
     jobs : g.jobs ≡ h.jobs ++ new_job h.next_job (Some c) ∷ []
 
-  module _ (g : HostState) (k : ℕ) (m : MemberState) (at : Spot) (l : LeaseState) (heard : IsHeard g k m) (lies_at : IsPlacedAt h m at) (found : find (is_lease_on at) m.leases ≡ Some l) (idle : l.waiting ≡ None) where
-    job_fits : (path : List ℕ) (step : LeaseStep) (offset : ℕ) (op : Op) → IsTrue (fits_job g m (next_submitted g m.who.number path (Lease (ForJob h.next_job) step) offset op))
-    job_fits path step offset op =
-        ap (λ b. b || is_leaving_alone g m h.next_job) (ap (list_any (λ (j : JobState). j.number == h.next_job && is_none j.waits)) heard.jobs ∙ idle_job)
+  module _ (g : HostState) (k : ℕ) (m : MemberState) (at : Spot) (l : LeaseState) (heard : IsHeard g k m) (lies_at : IsPlacedAt h m at) (found : find (is_lease_on at) m.leases ≡ Some l) (idle : l.waiting ≡ None) (quiet_line : is_plain_line (Ok c) ≡ true) where
+    jobs_may : IsTrue (is_idle_job g h.next_job || is_leaving_alone g m h.next_job)
+    jobs_may = ap (λ b. b || is_leaving_alone g m h.next_job) (ap (list_any (λ (j : JobState). j.number == h.next_job && is_none j.waits)) heard.jobs ∙ idle_job)
 
-    near : (n : ℕ) → n ≡ at.base → find (is_lease_on (record { path = at.path; base = n })) m.leases ≡ Some l
-    near n is = ap (λ (b : ℕ). find (is_lease_on (record { path = at.path; base = b })) m.leases) is ∙ found
+    frees : (leader : Leader) → MayWork g m.who at (ForJob h.next_job) FreeLeader (leader_offset at.base) (WriteRecord (leader_record g.config.layout leader))
+    frees leader = may_write_leader g h.config heard.made k m heard.there at l found idle lies_at.room (ForJob h.next_job) jobs_may FreeLeader leader lies_at.leader refl refl
 
-    room : nat_lt 0 h.config.layout.area ≡ true
-    room = some_room h.config.layout.area lies_at.room
+    clears : (b : Block) → MayWork g m.who at (ForJob h.next_job) ClearMode (block_at g m at) (WriteRecord (record_at g m at b))
+    clears b = may_write_block g h.config heard.made k m heard.there at l found idle lies_at.room (ForJob h.next_job) jobs_may ClearMode b lies_at.block refl refl
 
-    frees : (leader : Leader) → MayWork g m.who at (ForJob h.next_job) FreeLeader (leader_offset at.base) (WriteRecord (LeaderIs leader))
-    frees leader =
-        record {
-          place = k;
-          member = m;
-          there = heard.there;
-          its = refl;
-          fits = record {
-            later = refl;
-            job = job_fits at.path FreeLeader (leader_offset at.base) (WriteRecord (LeaderIs leader));
-            turn = refl;
-            generation = refl;
-            value = refl;
-            plain = refl;
-            lease = subst (λ (z : Config). IsTrue (fits_lease z.layout m (next_submitted g m.who.number at.path (Lease (ForJob h.next_job) FreeLeader) (leader_offset at.base) (WriteRecord (LeaderIs leader))))) (sym heard.made)
-                (lease_fits (nat_lt 0 h.config.layout.area) true l _ room (near _ lies_at.leader) idle);
-          };
-        }
+    sets : (b : Block) → MayWork g m.who at (ForJob h.next_job) SetMode (block_at g m at) (WriteRecord (record_at g m at b))
+    sets b = may_write_block g h.config heard.made k m heard.there at l found idle lies_at.room (ForJob h.next_job) jobs_may SetMode b lies_at.block refl refl
 
-    clears : (b : Block) → MayWork g m.who at (ForJob h.next_job) ClearMode (block_offset g.config.layout at.base m.who.id) (WriteRecord (BlockIs b))
-    clears b =
-        record {
-          place = k;
-          member = m;
-          there = heard.there;
-          its = refl;
-          fits = record {
-            later = refl;
-            job = job_fits at.path ClearMode (block_offset g.config.layout at.base m.who.id) (WriteRecord (BlockIs b));
-            turn = refl;
-            generation = refl;
-            value = refl;
-            plain = refl;
-            lease = subst (λ (z : Config). IsTrue (fits_lease z.layout m (next_submitted g m.who.number at.path (Lease (ForJob h.next_job) ClearMode) (block_offset z.layout at.base m.who.id) (WriteRecord (BlockIs b))))) (sym heard.made)
-                (lease_fits (nat_lt 0 h.config.layout.area) true l _ room (near _ lies_at.block) idle);
-          };
-        }
+    reads : (name : List ℕ) → MayWork g m.who at (ForJob h.next_job) (ReadArea name) at.base (ReadSectors (area_sectors g.config.layout))
+    reads name = may_read g h.config heard.made k m heard.there at l found idle lies_at.room (ForJob h.next_job) jobs_may (ReadArea name) at.base (area_sectors g.config.layout) lies_at.leader refl refl
 
-    sets : (b : Block) → MayWork g m.who at (ForJob h.next_job) SetMode (block_offset g.config.layout at.base m.who.id) (WriteRecord (BlockIs b))
-    sets b =
-        record {
-          place = k;
-          member = m;
-          there = heard.there;
-          its = refl;
-          fits = record {
-            later = refl;
-            job = job_fits at.path SetMode (block_offset g.config.layout at.base m.who.id) (WriteRecord (BlockIs b));
-            turn = refl;
-            generation = refl;
-            value = refl;
-            plain = refl;
-            lease = subst (λ (z : Config). IsTrue (fits_lease z.layout m (next_submitted g m.who.number at.path (Lease (ForJob h.next_job) SetMode) (block_offset z.layout at.base m.who.id) (WriteRecord (BlockIs b))))) (sym heard.made)
-                (lease_fits (nat_lt 0 h.config.layout.area) true l _ room (near _ lies_at.block) idle);
-          };
-        }
+    begins : BeginsArea g at
+    begins = λ paired. subst (λ (z : Config). at.base - at.base % z.layout.area ≡ at.base) (sym heard.made) lies_at.leader
 
-    reads : (name : List ℕ) → MayWork g m.who at (ForJob h.next_job) (ReadArea name) at.base (ReadSectors (g.config.layout.hosts + 2))
-    reads name =
-        record {
-          place = k;
-          member = m;
-          there = heard.there;
-          its = refl;
-          fits = record {
-            later = refl;
-            job = job_fits at.path (ReadArea name) at.base (ReadSectors (g.config.layout.hosts + 2));
-            turn = refl;
-            generation = refl;
-            value = refl;
-            plain = refl;
-            lease = subst (λ (z : Config). IsTrue (fits_lease z.layout m (next_submitted g m.who.number at.path (Lease (ForJob h.next_job) (ReadArea name)) at.base (ReadSectors (g.config.layout.hosts + 2))))) (sym heard.made)
-                (lease_fits (nat_lt 0 h.config.layout.area) true l _ room (near _ (lies_at.reads (ReadArea name))) idle);
-          };
-        }
+    -- The line's job may be refused, where a turn would pass its limit.
+    refused : (x' : Step) (p : Reply) → MayCarryLease (Line text) g x' m at (ForJob h.next_job) (AnswerJob p)
+    refused x' p j for = record { runs = runs; heed = tt; line = inr plain_line } where
+      same_job : h.next_job ≡ j
+      same_job = some_value h.next_job j for
+
+      runs : IsTrue (list_any (λ (z : JobState). z.number == j) g.jobs)
+      runs =
+          subst (λ n. list_any (λ (z : JobState). z.number == n) g.jobs ≡ true) same_job
+          (subst (λ js. list_any (λ (z : JobState). z.number == h.next_job) js ≡ true) (sym heard.jobs)
+          (any_of (λ (z : JobState). z.number == h.next_job) (h.jobs ++ new_job h.next_job (Some c) ∷ []) (new_job h.next_job (Some c)) (number_itself h.next_job)
+          (in_back h.jobs (new_job h.next_job (Some c) ∷ []) (new_job h.next_job (Some c)) (contains_first (new_job h.next_job (Some c)) []))))
+
+      plain_line : is_plain_line (g.config.read text) ≡ true
+      plain_line = ap (λ (z : Config). is_plain_line (z.read text)) heard.made ∙ ap (λ z. is_plain_line z) says ∙ quiet_line
 
     releases : (x' : Step) (p : LeasePlace) (q : LeaseKnown) (mode : Mode) (lver : ℕ) → MayCarryLease (Line text) g x' m at (ForJob h.next_job) (release_next p q mode lver)
     releases x' p q Exclusive lver = frees _
     releases x' p q Shared lver = by q.own where
       by : (o : Option Block) → MayCarryLease (Line text) g x' m at (ForJob h.next_job) (option_map_or (λ own. WriteBlock ClearMode (moded_block own false 0)) o Nothing)
       by None = tt
-      by (Some own) = clears (moded_block own false 0)
+      by (Some own) = (clears (moded_block own false 0), begins)
 
     converts : (x' : Step) (q : LeaseKnown) (mode : Mode) (name : List ℕ) → MayCarryLease (Line text) g x' m at (ForJob h.next_job) (convert_next q mode name)
     converts x' q Exclusive name = reads name
     converts x' q Shared name = by q.own where
       by : (o : Option Block) → MayCarryLease (Line text) g x' m at (ForJob h.next_job) (option_map_or (λ own. WriteBlock SetMode (moded_block own true q.self.generation)) o Nothing)
       by None = tt
-      by (Some own) = sets (moded_block own true q.self.generation)
+      by (Some own) = (sets (moded_block own true q.self.generation), begins)
+
+    -- Within the limit of turns.
+    released : (x' : Step) (p : LeasePlace) (q : LeaseKnown) (mode : Mode) (lver : ℕ) → MayCarryLease (Line text) g x' m at (ForJob h.next_job) (within_turn p q Releasing (release_next p q mode lver))
+    released x' p q mode lver =
+        within_cases (MayCarryLease (Line text) g x' m at (ForJob h.next_job)) p q Releasing (release_next p q mode lver) (λ fits. releases x' p q mode lver) (λ paired over writes. refused x' _)
+
+    turned : (x' : Step) (p : LeasePlace) (q : LeaseKnown) (mode : Mode) (name : List ℕ) → MayCarryLease (Line text) g x' m at (ForJob h.next_job) (within_turn p q (Converts mode) (convert_next q mode name))
+    turned x' p q mode name =
+        within_cases (MayCarryLease (Line text) g x' m at (ForJob h.next_job)) p q (Converts mode) (convert_next q mode name) (λ fits. converts x' q mode name) (λ paired over writes. refused x' _)
 
   -- ---- by what it came to
 
@@ -325,7 +278,7 @@ module _ (h : HostState) (x : Step) (text : List ℕ) (c : Command) (r : IsReady
   may (GetsValue s at) is = tt
   may (ReadsArea s q) is = λ k m by. first k m by (grounds (ReadsArea s q) is) where
     first : (k : ℕ) (m : MemberState) → HeardBy h c k m s → HasGrounds x.setting (seen x) c (ReadsArea s q)
-        → IsTrue (fits_lease h.config.layout m (next_submitted h m.who.number q.path (Lease (ForJob h.next_job) (ReadArea q.name)) q.offset (ReadSectors (h.config.layout.hosts + 2))))
+        → IsTrue (fits_lease h.config.layout m (next_submitted h m.who.number q.path (Lease (ForJob h.next_job) (ReadArea q.name)) q.offset (ReadSectors (area_sectors h.config.layout))))
     first k m by g =
         let zero = aligned q (asked q g.acquires.asks) in
         let lies_at = lies k m s (spot_of q) by zero in
@@ -344,10 +297,14 @@ module _ (h : HostState) (x : Step) (text : List ℕ) (c : Command) (r : IsReady
         let l : IsLeased m (spot_of_grant g) = subst (IsLeased m) spot (has_lease k m s (spot_of e.resource) g by e.held) in
         let idle = rests_at k m s (spot_of_grant g) l.0 by (subst (λ p. open_on x.setting (seen x) p ≡ []) spot e.ready.calm) l.1 in
         let lies_at = lies k m s (spot_of_grant g) by (subst (λ (p : Spot). p.base % h.config.layout.area ≡ 0) spot (aligned e.resource (named e.resource e.releases))) in
-        (l, releases (given_up h c g) k m (spot_of_grant g) l.0 (record { there = by.there; made = refl; jobs = refl }) lies_at l.1 idle (ended text g x) (place_in (given_up h c g) m) (known_at (given_up h c g) m (spot_of_grant g)) g.mode g.lver) where
+        (l, released (given_up h c g) k m (spot_of_grant g) l.0 (record { there = by.there; made = refl; jobs = refl }) lies_at l.1 idle (quiet_line e.resource e.releases) (ended text g x) (place_in (given_up h c g) m) (known_at (given_up h c g) m (spot_of_grant g)) g.mode g.lver) where
           named : (q : ResourceArg) → Releases c q g → resource_named c ≡ Some q
           named q (inl z) = ap resource_named z.1
           named q (inr z) = ap resource_named z.0
+
+          quiet_line : (q : ResourceArg) → Releases c q g → is_plain_line (Ok c) ≡ true
+          quiet_line q (inl z) = ap (λ d. is_plain_line (Ok d)) z.1
+          quiet_line q (inr z) = ap (λ d. is_plain_line (Ok d)) z.0
   may (ConvertsTo s q mode) is = λ k m by. turns k m by (grounds (ConvertsTo s q mode) is) where
     turns : (k : ℕ) (m : MemberState) → HeardBy h c k m s → HasGrounds x.setting (seen x) c (ConvertsTo s q mode)
         → IsLeased m (spot_of q) × MayCarryLease (Line text) (heard_line c h) (with_input (Line text) x) m (spot_of q) (ForJob h.next_job) (converting_next (heard_line c h) m (spot_of q) mode q.name)
@@ -356,7 +313,7 @@ module _ (h : HostState) (x : Step) (text : List ℕ) (c : Command) (r : IsReady
         let l : IsLeased m (spot_of q) = has_lease k m s (spot_of q) e.holding by held.0 in
         let idle = rests_at k m s (spot_of q) l.0 by e.ready.calm l.1 in
         let lies_at = lies k m s (spot_of q) by (aligned q (ap resource_named e.command)) in
-        (l, converts (heard_line c h) k m (spot_of q) l.0 (record { there = by.there; made = refl; jobs = refl }) lies_at l.1 idle (with_input (Line text) x) (known_at (heard_line c h) m (spot_of q)) mode q.name)
+        (l, turned (heard_line c h) k m (spot_of q) l.0 (record { there = by.there; made = refl; jobs = refl }) lies_at l.1 idle (ap (λ d. is_plain_line (Ok d)) e.command) (with_input (Line text) x) (place_in (heard_line c h) m) (known_at (heard_line c h) m (spot_of q)) mode q.name)
   may (SetsValue s at v) is = λ k m by. puts k m by (grounds (SetsValue s at v) is) where
     puts : (k : ℕ) (m : MemberState) → HeardBy h c k m s → HasGrounds x.setting (seen x) c (SetsValue s at v)
         → IsTrue (fits_value h.config.layout m (next_submitted h m.who.number at.path (ValueWrite h.next_job) (value_offset h.config.layout at.base) (WriteRecord (ValueIs v))))

@@ -1,14 +1,15 @@
 -- Where records stand: at whole sectors of areas that begin at bases.
 use Rattle.sl_area.specs.Layouts.{Layout}
-use Rattle.sl_area.specs.Places.{block_offset, delta_offset, is_base, request_offset, value_offset}
-use Rattle.sl_due_facts.proofs.Jobs.CallsStandInAreas.{base_whole, floor_is, roomy}
+use Rattle.sl_area.specs.Places.{block_offset, block_place, delta_offset, is_base, pair_offset, request_offset, value_offset}
+use Rattle.sl_due_facts.proofs.Jobs.CallsStandInAreas.{IsWithin, base_whole, floor_is, roomy}
 use Rattle.sl_run.specs.Lawful.{IsSetting}
 use Rattle.sl_plain.proofs.Numbers.{none_off}
 use Rattle.sl_run_law.proofs.Place.Sizes.{IsSized, begins_at_sector, sector_has_bytes, sector_in_area, sized}
+use Rattle.sl_sector.specs.Spelling.{is_first_turn}
 use Rattle.sl_trace.specs.Traces.{Setting}
 use Rattle.std.proofs.Common.{ap, arith, suc, subst, sym, zero, ◌∙◌}
 use Rattle.std.proofs.lemmas.Nat.{div-add-mod'}
-use Rattle.std.specs.Prelude.{IsTrue, ℕ, ◌%◌, ◌*◌, ◌+◌, ◌-◌, ◌/◌, ◌<◌, ◌≡◌, ◌≤◌}
+use Rattle.std.specs.Prelude.{Bool, IsTrue, false, if◌then◌else◌, true, ℕ, ◌%◌, ◌*◌, ◌+◌, ◌-◌, ◌/◌, ◌<◌, ◌≡◌, ◌≤◌}
 
 -- A setting's layout is one of the table.
 pub layout_is : (st : Setting) → (h : IsSetting st) → IsSized h.layout.0 st.layout
@@ -47,8 +48,15 @@ module _ (st : Setting) (h : IsSetting st) (b : ℕ) (base : IsTrue (is_base st.
   pub request_whole : request_offset st.layout b % st.layout.sector ≡ 0
   request_whole = at_sector (request_offset st.layout b) 1 (one_sector b st.layout.sector)
 
-  pub block_whole : (id : ℕ) → block_offset st.layout b id % st.layout.sector ≡ 0
-  block_whole id = numbered (id + 1)
+  -- A host's block of any turn, and the first of all blocks.
+  pub block_whole : (id turn : ℕ) → block_place st.layout b id turn % st.layout.sector ≡ 0
+  block_whole id turn = by st.layout.paired where
+    by : (paired : Bool) → elim paired as (λ z. ℕ) [ false ↦ block_offset st.layout b id | true ↦ pair_offset st.layout b id (is_first_turn turn) ] % st.layout.sector ≡ 0
+    by false = numbered (id + 1)
+    by true = numbered (2 * id + (if is_first_turn turn then 0 else 1))
+
+  pub first_whole : block_offset st.layout b 1 % st.layout.sector ≡ 0
+  first_whole = numbered (1 + 1)
 
   pub value_whole : value_offset st.layout b % st.layout.sector ≡ 0
   value_whole =
@@ -61,6 +69,10 @@ module _ (st : Setting) (h : IsSetting st) (b : ℕ) (base : IsTrue (is_base st.
   pub base_in : IsTrue (is_base st.layout (b - b % st.layout.area))
   base_in = subst (λ n. IsTrue (is_base st.layout n)) (sym (none_off b (b % st.layout.area) aligned)) base
 
-  pub block_in : (id : ℕ) → id ≤ st.layout.hosts → IsTrue (is_base st.layout (block_offset st.layout b id - block_offset st.layout b id % st.layout.area))
-  block_in id most =
-      subst (λ n. IsTrue (is_base st.layout n)) (sym (floor_is st.layout.area b (st.layout.sector * (id + 1)) aligned ((roomy st h).blocks id most))) base
+  pub block_in : (id turn : ℕ) → id ≤ st.layout.hosts → IsTrue (is_base st.layout (block_place st.layout b id turn - block_place st.layout b id turn % st.layout.area))
+  block_in id turn most =
+      let w : IsWithin st.layout b (block_place st.layout b id turn) = (roomy st h).blocks b id turn most in
+      subst (λ n. IsTrue (is_base st.layout n)) (sym (ap (λ n. n - n % st.layout.area) w.is ∙ floor_is st.layout.area b w.above aligned w.less)) base
+
+  pub first_in : IsTrue (is_base st.layout (block_offset st.layout b 1 - block_offset st.layout b 1 % st.layout.area))
+  first_in = subst (λ n. IsTrue (is_base st.layout n)) (sym (floor_is st.layout.area b (st.layout.sector * (1 + 1)) aligned (roomy st h).first)) base

@@ -127,11 +127,11 @@ module _ (st : Setting) (s : Session) (at : Spot) where
 
   -- ---- the calls of an entry
 
-  one_rises : (w : WayContext) → w.layout.paired ≡ false → (d : Submitted) (ms : List Submitted) → Ways w (lease_among st s at (d ∷ ms)) → Ways w (lease_among st s at ms) × (top ms ≤ top (d ∷ ms))
-  one_rises w plain d ms = by (d.call.session == s.number) where
+  one_rises : (w : WayContext) (d : Submitted) (ms : List Submitted) → Ways w (lease_among st s at (d ∷ ms)) → Ways w (lease_among st s at ms) × (top ms ≤ top (d ∷ ms))
+  one_rises w d ms = by (d.call.session == s.number) where
     on : (o : Bool) → Ways w (cond o (d ∷ lease_among st s at ms) (lease_among st s at ms))
         → Ways w (lease_among st s at ms) × (top ms ≤ own_lver (cond o (d ∷ lease_among st s at ms) (lease_among st s at ms)))
-    on true ws = (ws.1, goes_up w plain d (lease_among st s at ms) ws)
+    on true ws = (ws.1, goes_up w d (lease_among st s at ms) ws)
     on false ws = (ws, omega arith)
 
     by : (b : Bool) → Ways w (filter (λ m. is_lease_call m && is_on st.layout at m.call) (cond b (d ∷ filter (is_call_of s) ms) (filter (is_call_of s) ms)))
@@ -139,12 +139,12 @@ module _ (st : Setting) (s : Session) (at : Spot) where
     by true ws = on (is_lease_call d && is_on st.layout at d.call) ws
     by false ws = (ws, omega arith)
 
-  top_rises : (w : WayContext) → w.layout.paired ≡ false → (n reading : ℕ) (cs : List Call) (ms : List Submitted) → Ways w (lease_among st s at (upon n reading ms cs))
+  top_rises : (w : WayContext) (n reading : ℕ) (cs : List Call) (ms : List Submitted) → Ways w (lease_among st s at (upon n reading ms cs))
       → Ways w (lease_among st s at ms) × (top ms ≤ top (upon n reading ms cs))
-  top_rises w plain n reading [] ms ws = (ws, omega arith)
-  top_rises w plain n reading (c ∷ cs) ms ws =
-      let later = top_rises w plain n reading cs (new_call n reading c ∷ ms) ws in
-      let first = one_rises w plain (new_call n reading c) ms later.0 in
+  top_rises w n reading [] ms ws = (ws, omega arith)
+  top_rises w n reading (c ∷ cs) ms ws =
+      let later = top_rises w n reading cs (new_call n reading c ∷ ms) ws in
+      let first = one_rises w (new_call n reading c) ms later.0 in
       (first.0, most (top ms) (top (new_call n reading c ∷ ms)) (top (upon n reading (new_call n reading c ∷ ms) cs)) first.1 later.1) where
         most : (a b c : ℕ) → a ≤ b → b ≤ c → a ≤ c
         most a b c low high = omega (arith, low, high)
@@ -217,7 +217,7 @@ module _ (st : Setting) (s : Session) (at : Spot) where
           ways = facts.ways.each s at (got_inside (sessions st (e ∷ past)) s.number s its) aligned
 
           rises : top (submitted past) ≤ top (submitted (e ∷ past))
-          rises = subst (λ n. n ≤ top (submitted (e ∷ past))) same.1 (top_rises (way_context st (e ∷ past) s) setting.unpaired (length past) e.reading e.effects.calls (mark past e e.input (submitted past)) ways).1
+          rises = subst (λ n. n ≤ top (submitted (e ∷ past))) same.1 (top_rises (way_context st (e ∷ past) s) (length past) e.reading e.effects.calls (mark past e e.input (submitted past)) ways).1
 
           marked_fall : AreFalling (top (submitted (e ∷ past))) (values (mark past e e.input (submitted past)))
           marked_fall = subst (AreFalling (top (submitted (e ∷ past)))) (sym same.0) (falls_from (top (submitted past)) (top (submitted (e ∷ past))) (values (submitted past)) rises before)

@@ -8,15 +8,19 @@ use Rattle.sl_host_state.specs.Hears.{heard_answer, member_hearing}
 use Rattle.sl_host_state.specs.Kept.{HostState, MemberState}
 use Rattle.sl_host_state.specs.declared.kept.JobState.{JobState}
 use Rattle.sl_host_state.specs.declared.kept.OpenCall.{OpenCall}
-use Rattle.sl_host_state.specs.Stands.{is_kept_of}
-use Rattle.sl_lease.specs.Asked.{TopStands, read_given}
+use Rattle.sl_host_state.specs.Stands.{first_read, is_kept_of}
+use Rattle.sl_lease.specs.Asked.{TopStands, leader_given, read_given}
 use Rattle.sl_lease.specs.Bounds.{IsInstance}
 use Rattle.sl_lease.specs.Side.{is_named}
 use Rattle.sl_lease.specs.Steps.{is_first_step, is_read_step}
 use Rattle.sl_area.specs.Places.{is_base}
+use Rattle.sl_sector.specs.declared.sector.Leader.{Leader}
 use Rattle.sl_step_law.specs.Awaiting.{IsMembersCall}
 use Rattle.sl_step_law.specs.Ready.{IsReady}
+use Rattle.sl_trace.specs.LeaseWork.{asked_again, first_step}
+use Rattle.sl_trace.specs.Leases.{is_leader_of, is_second}
 use Rattle.sl_trace.specs.Traces.{is_expected}
+use Rattle.sl_trace.specs.declared.effects.LeaseStep.TheVariants.{ReadArea}
 use Rattle.sl_trace.specs.declared.effects.LeaseStep.{LeaseStep}
 use Rattle.sl_trace.specs.declared.effects.Purpose.TheVariants.{Lease}
 use Rattle.sl_trace.specs.declared.effects.Work.{Work}
@@ -25,7 +29,7 @@ use Rattle.sl_trace.specs.declared.input.Answer.{Answer}
 use Rattle.sl_trace.specs.declared.input.Input.TheVariants.{Answer as Told}
 use Rattle.sl_words.specs.Bounds.{moments}
 use Rattle.sl_words.specs.Words.{some_is}
-use Rattle.std.specs.Prelude.{Contains, IfSome, IsTrue, List, None, is_some, true, ℕ, ◌<◌, ◌==◌, ◌≡◌, ◌||◌}
+use Rattle.std.specs.Prelude.{Contains, IfSome, IsTrue, List, None, Some, is_some, true, ℕ, ◌<◌, ◌==◌, ◌≡◌, ◌||◌}
 
 -- An answer that may come, to an open call of the member.
 pub record AnswerArrives (h : HostState) (x : Step) (number : ℕ) (c : OpenCall) (m : MemberState) (a : Answer) : Type 0 where
@@ -42,9 +46,21 @@ pub record LeaseHeard (g : HostState) (q : MemberState) (c : OpenCall) (step : L
   pub area : IsTrue (is_base g.config.layout (spot_in g.config.layout c).base)
   -- the resource's name was verified, but for the read that begins an acquire
   pub named : IsTrue (is_first_step step || is_named (lease_at q (spot_in g.config.layout c)))
-  -- what is kept of the blocks read last is so: of those that the answer shows, if it shows any
+  -- so it is where a block was written
+  pub owned : is_some (lease_at q (spot_in g.config.layout c)).own ≡ true → IsTrue (is_named (lease_at q (spot_in g.config.layout c)))
+  -- an open ballot is of such a block
+  pub opened : is_some (lease_at q (spot_in g.config.layout c)).ballot ≡ true → is_some (lease_at q (spot_in g.config.layout c)).own ≡ true
+  -- a second read is looked at with what is kept of the first one
+  pub again : is_second step ≡ (lease_at q (spot_in g.config.layout c)).pair.again
+  pub kept : (lease_at q (spot_in g.config.layout c)).pair.again ≡ true → IsTrue (is_some (lease_at q (spot_in g.config.layout c)).pair.first)
+  -- what is kept of the blocks read last is so: of those that the answer gives, if it gives any
   pub tops : TopStands (lease_at q (spot_in g.config.layout c)) (kept_blocks (lease_at q (spot_in g.config.layout c)))
-  pub shown : (bytes : List ℕ) → a ≡ Read bytes → is_read_step step ≡ true → TopStands (lease_at q (spot_in g.config.layout c)) (read_given g.config.layout step bytes)
+  pub shown : (bytes : List ℕ) → a ≡ Read bytes → is_read_step step ≡ true → asked_again g.config.layout bytes step ≡ None
+      → TopStands (lease_at q (spot_in g.config.layout c)) (read_given g.config.layout (first_read (lease_at q (spot_in g.config.layout c)).pair) step bytes)
+  -- a leader of the resource that was sought verifies its name
+  pub verified : (bytes name : List ℕ) (l : Leader) → a ≡ Read bytes → first_step step ≡ ReadArea name → asked_again g.config.layout bytes step ≡ None
+      → leader_given g.config.layout (first_read (lease_at q (spot_in g.config.layout c)).pair) step bytes ≡ Some l → is_leader_of g.config.layout q.who.lockspace name l ≡ true
+      → IsTrue (is_named (lease_at q (spot_in g.config.layout c)))
   pub held : IfSome (exclusive_at g q (spot_in g.config.layout c)) (λ g. IsInstance g.lver)
 
 pub record LeaseAnswersAreKnown : Type 0 where

@@ -27,7 +27,7 @@ use Rattle.sl_trace.specs.declared.effects.Grant.{Grant}
 use Rattle.sl_trace.specs.declared.effects.Spot.{Spot}
 use Rattle.sl_trace.specs.declared.input.Input.{Input}
 use Rattle.sl_words.specs.Bounds.{moments}
-use Rattle.std.specs.Prelude.{Contains, IfSome, IsTrue, List, Ok, Some, false, map, true, ℕ, ◌+◌, ◌<◌, ◌==◌, ◌≡◌}
+use Rattle.std.specs.Prelude.{Contains, IfSome, IsTrue, List, Ok, Some, false, is_some, map, true, ℕ, ◌+◌, ◌<◌, ◌==◌, ◌≡◌}
 
 pub record HostsAreKnown : Type 0 where
   pub timely : (i : Input) (h : HostState) (x : Step) → IsMoment i h x → h.reading < moments
@@ -49,6 +49,9 @@ pub record LeaseReady (h : HostState) (m : MemberState) (at : Spot) : Type 0 whe
   pub joined : m.joined ≡ true
   pub area : IsTrue (is_base h.config.layout at.base)
   pub tops : TopStands (lease_at m at) (kept_blocks (lease_at m at))
+  -- whoever has written a block has verified the resource's name, and an open ballot is of such a block
+  pub owned : is_some (lease_at m at).own ≡ true → IsTrue (is_named (lease_at m at))
+  pub opened : is_some (lease_at m at).ballot ≡ true → is_some (lease_at m at).own ≡ true
   pub held : IfSome (exclusive_at h m at) (λ g. IsInstance g.lver)
 
 -- It gives up what it holds.

@@ -21,6 +21,9 @@ pub record LeasesAreKnown : Type 0 where
   pub placed : (i : Input) (h : HostState) (x : Step) (m : MemberState) (l : LeaseState) → IsMoment i h x → Contains h.members m → Contains m.leases l → IsTrue (is_base h.config.layout l.spot.base)
   -- whoever has written a block has verified the resource's name
   pub named : (i : Input) (h : HostState) (x : Step) (m : MemberState) (l : LeaseState) → IsMoment i h x → Contains h.members m → Contains m.leases l → is_some l.own ≡ true → IsTrue (is_named l)
+  pub owned : (i : Input) (h : HostState) (x : Step) (m : MemberState) (at : Spot) → IsMoment i h x → Contains h.members m → is_some (lease_at m at).own ≡ true → IsTrue (is_named (lease_at m at))
+  -- an open ballot is of a block that was written
+  pub opened : (i : Input) (h : HostState) (x : Step) (m : MemberState) (at : Spot) → IsMoment i h x → Contains h.members m → is_some (lease_at m at).ballot ≡ true → is_some (lease_at m at).own ≡ true
   -- what is kept of the blocks read last is so, on whatever area
   pub tops : (i : Input) (h : HostState) (x : Step) (m : MemberState) (at : Spot) → IsMoment i h x → Contains h.members m → TopStands (lease_at m at) (kept_blocks (lease_at m at))
   pub each_top : (i : Input) (h : HostState) (x : Step) (m : MemberState) (l : LeaseState) → IsMoment i h x → Contains h.members m → Contains m.leases l → TopStands l (kept_blocks l)

@@ -20,7 +20,7 @@ pub record EffectsAreSound : Type 0 where
   pub starts : (now : ℕ) (i : Input) (h : HostState) (st : Setting) (es : Trace) → MayCome now i h st es
       → map (λ s. s.process) (effects_of now i h).starts ≡ range_with_len (next_child es) (length (effects_of now i h).starts)
   pub asks : (now : ℕ) (i : Input) (h : HostState) (st : Setting) (es : Trace) (c : Call) → MayCome now i h st es → Contains (effects_of now i h).calls c
-      → sectors_of c.op ≡ sectors_asked st.layout.hosts c.purpose
+      → sectors_of c.op ≡ sectors_asked st.layout c.purpose
   pub reads : (now : ℕ) (i : Input) (h : HostState) (st : Setting) (es : Trace) (c : Call) (n : ℕ) → MayCome now i h st es → Contains (effects_of now i h).calls c
       → c.op ≡ ReadSectors n → 1 ≤ n
   pub writes : (now : ℕ) (i : Input) (h : HostState) (st : Setting) (es : Trace) (c : Call) (r : Rec) → MayCome now i h st es → Contains (effects_of now i h).calls c

@@ -1,4 +1,4 @@
--- Where calls stand: at whole sectors, and those of a lease in an area at a base. And what stands before a settling's read: its session wrote a block there.
+-- Where calls stand: at whole sectors, and those of a lease in an area at a base. And what stands before a settling's look: its session wrote a block there.
 -- No law says it; each act keeps it, beside all that is known.
 use Rattle.sl_area.specs.Places.{is_base}
 use Rattle.sl_due.specs.Due.{IsHostTrace}
@@ -10,20 +10,21 @@ use Rattle.sl_host_state.specs.Kept.{HostState}
 use Rattle.sl_trace.specs.Traces.{EachEntry, Setting, Submitted, Trace, new_call, submitted}
 use Rattle.sl_trace.specs.declared.effects.Call.{Call}
 use Rattle.sl_trace.specs.declared.effects.Entry.{Entry}
-use Rattle.sl_trace.specs.declared.effects.LeaseStep.TheVariants.{ReadBeforeFree}
+use Rattle.sl_trace.specs.declared.effects.LeaseStep.TheVariants.{ReadBeforeBlock, ReadBeforeFree}
 use Rattle.sl_trace.specs.declared.effects.LeaseStep.{LeaseStep}
 use Rattle.sl_trace.specs.declared.effects.Purpose.TheVariants.{Lease}
 use Rattle.sl_trace.specs.declared.effects.Purpose.{Purpose}
 use Rattle.std.specs.Prelude.{Bool, Contains, IsTrue, false, is_some, true, ◌%◌, ◌-◌, ◌≡◌}
 
--- Whether a step looks at the area before an owed free, and a call.
+-- Whether a step looks before what a settling owes: at the area before a free, at the blocks before a block. And a call.
 abbrev pub is_look : LeaseStep → Bool
 is_look ReadBeforeFree = true
+is_look ReadBeforeBlock = true
 is_look step = false
 
-abbrev pub looks_before_free : Purpose → Bool
-looks_before_free (Lease work step) = is_look step
-looks_before_free p = false
+abbrev pub looks_before_owed : Purpose → Bool
+looks_before_owed (Lease work step) = is_look step
+looks_before_owed p = false
 
 -- The session of the call has written a block of its lease there before.
 pub record WroteBlock (st : Setting) (past : Trace) (c : Call) : Type 0 where
@@ -38,7 +39,7 @@ pub record WroteBlock (st : Setting) (past : Trace) (c : Call) : Type 0 where
 pub record CallStands (st : Setting) (past : Trace) (c : Call) : Type 0 where
   pub whole : c.offset % st.layout.sector ≡ 0
   pub area : is_some (lease_step c.purpose) ≡ true → IsTrue (is_base st.layout (c.offset - c.offset % st.layout.area))
-  pub behind : looks_before_free c.purpose ≡ true → WroteBlock st past c
+  pub behind : looks_before_owed c.purpose ≡ true → WroteBlock st past c
 
 -- Those of an entry.
 abbrev pub EntryStands : Setting → Trace → Entry → Type 0

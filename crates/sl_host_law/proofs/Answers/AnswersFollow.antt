@@ -101,7 +101,7 @@ module _ (number : ℕ) (c : OpenCall) (a : Answer) (h : HostState) (x : Step) (
         member = hears;
         there = there.1;
         its = refl;
-        fits = record { later = refl; job = refl; turn = ap (λ b. not (true && b)) (idle delta); generation = refl; value = refl; lease = refl; plain = refl };
+        fits = record { later = refl; job = refl; turn = ap (λ b. not (true && b)) (idle delta); generation = refl; value = refl; lease = refl; again = refl };
       }
 
   may_renew : is_delta_purpose c.purpose ≡ true → MayCarry (Told number a) (heard_answer number a h) (with_input (Told number a) x) m.who (next_after_renewal (is_some (renewing_hearing h c a m).recovery) c.reading a)

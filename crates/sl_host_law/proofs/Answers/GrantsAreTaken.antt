@@ -15,8 +15,8 @@ use Rattle.sl_host_state.specs.Kept.{Config, HostState, MemberState}
 use Rattle.sl_host_state.specs.Makes.{with_reply}
 use Rattle.sl_host_state.specs.Stands.{Stands}
 use Rattle.sl_host_state.specs.declared.kept.JobState.{JobState}
-use Rattle.sl_trace.specs.LeaseWork.{convert_next, lease_place, release_next}
-use Rattle.sl_trace.specs.Leases.{holdings_on, known, spot_of}
+use Rattle.sl_trace.specs.LeaseWork.{LeasePlace, convert_next, lease_place, release_next, within_turn}
+use Rattle.sl_trace.specs.Leases.{LeaseKnown, holdings_on, known, spot_of}
 use Rattle.sl_trace.specs.declared.lease.LeaseNext.TheVariants.{GrantJob}
 use Rattle.sl_trace.specs.declared.lease.LeaseNext.{LeaseNext}
 use Rattle.sl_host_law.proofs.Parts.LinesAreTaken.{carried, heard, member_at}
@@ -25,7 +25,7 @@ use Rattle.sl_host_law.specs.Parts.Lines.{HeardBy, LineComes}
 use Rattle.sl_plain.proofs.Lists.{any_of, find_inside}
 use Rattle.sl_host_law.proofs.Questions.JobsAnswer.{jobs_answer}
 use Rattle.sl_host_law.proofs.Questions.MembersAnswer.{members_answer}
-use Rattle.sl_host_law.specs.Questions.Answers.{known_in, place_in}
+use Rattle.sl_host_law.specs.Questions.Answers.{converting_in, place_in, releasing_in}
 use Rattle.sl_host_law.specs.Questions.Jobs.{command_in, running_in}
 use Rattle.sl_host_law.specs.Questions.Members.{IsMemberAt, MemberAnswers}
 use Rattle.sl_host_law.proofs.Replies.Replies.RepliesAreTaken.{replies_are_taken}
@@ -45,8 +45,6 @@ use Rattle.sl_trace.specs.declared.reply.Reply.TheVariants.{Done, Granted}
 use Rattle.sl_trace.specs.declared.reply.Reply.{Reply}
 use Rattle.sl_words.proofs.CaseLaws.{some_value}
 use Rattle.sl_acts.specs.Acts.{next_of_conversion, next_of_release}
-use Rattle.sl_trace.proofs.PlainWork.{within_plain}
-use Rattle.sl_host_law.proofs.Plain.BlocksHaveOneSector.{setting_plain}
 use Rattle.sl_trace.specs.declared.lease.Aim.TheVariants.{Converts, Releases}
 use Rattle.std.proofs.Common.{ap, arith, inr, refl, subst, sym, ◌∙◌}
 use Rattle.std.proofs.lemmas.Bool.Decides.{Decides-eqb}
@@ -134,7 +132,7 @@ place_is i a y m s = ap (λ (g : Config). record { layout = g.layout; lockspace 
 
 gives_up : (h : HostState) (x : Step) (text : List ℕ) (c : Command) (s : Session) (g : Grant) (k : ℕ) (m : MemberState) (next : LeaseNext) → LineComes h x text c (GivesUp s g)
     → HeardBy h c k m s → IsTrue (is_plain_line (Ok c)) → h.made.grants ≡ []
-    → release_next (place_in (given_up h c g) m) (known_in (given_up h c g) m (ended text g x) (spot_of_grant g)) g.mode g.lver ≡ next
+    → releasing_in (given_up h c g) m (ended text g x) (spot_of_grant g) g.mode g.lver ≡ next
     → MayCarryLease (Line text) (given_up h c g) (ended text g x) m (spot_of_grant g) (ForJob h.next_job) next → Stands (Line text) (after_giving h c m g next) (on_line text x)
 unfolding carry_decision after_end
 gives_up h x text c s g k m next l by plain none is may =
@@ -154,13 +152,10 @@ gives_up h x text c s g k m next l by plain none is may =
 
       decides : next_of_release (ended text g x).setting (seen (ended text g x)) m.who (spot_of_grant g) g ≡ next
       decides =
-          within_plain (lease_place (ended text g x).setting m.who) (known (ended text g x).setting (seen (ended text g x)) m.who (spot_of_grant g)) Releases
-          (release_next (lease_place (ended text g x).setting m.who) (known (ended text g x).setting (seen (ended text g x)) m.who (spot_of_grant g)) g.mode g.lver)
-          (setting_plain (Line text) (given_up h c g) (ended text g x) at.stands)
-          ∙ (
-          ap (λ p. release_next p (known (ended text g x).setting (seen (ended text g x)) m.who (spot_of_grant g)) g.mode g.lver) (place_is (Line text) (given_up h c g) (ended text g x) m at.stands)
-          ∙ ap (λ n. release_next (place_in (given_up h c g) m) n g.mode g.lver) (says.lease (spot_of_grant g))
-          ∙ is)
+          ap (λ p. next_by p (known (ended text g x).setting (seen (ended text g x)) m.who (spot_of_grant g))) (place_is (Line text) (given_up h c g) (ended text g x) m at.stands)
+          ∙ ap (next_by (place_in (given_up h c g) m)) (says.lease (spot_of_grant g)) ∙ is where
+            next_by : LeasePlace → LeaseKnown → LeaseNext
+            next_by p k = within_turn p k Releases (release_next p k g.mode g.lver)
 
       after : (gs : List Grant)
           → Stands (Line text) (elim gs as (λ z. HostState) [ e ∷ es ↦ with_reply h.next_job Done (given_up h c g) | [] ↦ carrying_lease m (spot_of_grant g) (ForJob h.next_job) next (given_up h c g) ]) (then_done m.who next gs)
@@ -171,7 +166,7 @@ gives_up h x text c s g k m next l by plain none is may =
 
 converts : (h : HostState) (x : Step) (text : List ℕ) (c : Command) (s : Session) (r : ResourceArg) (mode : Mode) (k : ℕ) (m : MemberState) (next : LeaseNext)
     → LineComes h x text c (ConvertsTo s r mode) → HeardBy h c k m s
-    → convert_next (known_in (heard_line c h) m (with_input (Line text) x) (spot_of r)) mode r.name ≡ next
+    → converting_in (heard_line c h) m (with_input (Line text) x) (spot_of r) mode r.name ≡ next
     → MayCarryLease (Line text) (heard_line c h) (with_input (Line text) x) m (spot_of r) (ForJob h.next_job) next
     → Stands (Line text) (carrying_lease m (spot_of r) (ForJob h.next_job) next (heard_line c h)) (on_line text x)
 unfolding carry_decision
@@ -181,9 +176,11 @@ converts h x text c s r mode k m next l by is may =
     let after : HostState = carrying_lease m (spot_of r) (ForJob h.next_job) next (heard_line c h) in
     subst (λ z. Stands (Line text) after z) (sym (carried h x text c (ConvertsTo s r mode) l refl))
     (subst (λ t. Stands (Line text) after (carry_lease t (spot_of r) (ForJob h.next_job) (next_of_conversion y.setting (seen y) t (spot_of r) mode r.name) y)) by.whose
-    (subst (λ n. Stands (Line text) after (carry_lease m.who (spot_of r) (ForJob h.next_job) n y)) (sym (within_plain (lease_place y.setting m.who) (known y.setting (seen y) m.who (spot_of r)) (Converts mode) (convert_next (known y.setting (seen y) m.who (spot_of r)) mode r.name)
-    (setting_plain (Line text) (heard_line c h) y at.stands) ∙ ap (λ q. convert_next q mode r.name) ((members_answer (Line text) (heard_line c h) y k m at).lease (spot_of r)) ∙ is))
-    (leases_are_carried (Line text) (heard_line c h) y k m (spot_of r) (ForJob h.next_job) next at may)))
+    (subst (λ n. Stands (Line text) after (carry_lease m.who (spot_of r) (ForJob h.next_job) n y)) (sym (ap (λ p. next_by p (known y.setting (seen y) m.who (spot_of r))) (place_is (Line text) (heard_line c h) y m at.stands)
+    ∙ ap (next_by (place_in (heard_line c h) m)) ((members_answer (Line text) (heard_line c h) y k m at).lease (spot_of r)) ∙ is))
+    (leases_are_carried (Line text) (heard_line c h) y k m (spot_of r) (ForJob h.next_job) next at may))) where
+      next_by : LeasePlace → LeaseKnown → LeaseNext
+      next_by p k = within_turn p k (Converts mode) (convert_next k mode r.name)
 
 pub grants_are_taken : GrantsAreTaken
 grants_are_taken = record { shares = shares; takes_over = takes_over; gives_up = gives_up; converts = converts }

@@ -110,7 +110,7 @@ module _ (number : ℕ) (c : OpenCall) (a : Answer) (h : HostState) (x : Step) (
             turn = ap (λ b. not (true && b)) is_idle;
             generation = refl;
             value = refl;
-            plain = refl;
+            again = refl;
             lease = refl;
           };
         }
@@ -130,7 +130,7 @@ module _ (number : ℕ) (c : OpenCall) (a : Answer) (h : HostState) (x : Step) (
             turn = ap (λ b. not (true && b)) is_idle;
             generation = ap (λ b. d.generation == hears.known.generation || b) no_leases ∙ or_true (d.generation == hears.known.generation);
             value = refl;
-            plain = refl;
+            again = refl;
             lease = refl;
           };
         }
@@ -152,7 +152,7 @@ module _ (number : ℕ) (c : OpenCall) (a : Answer) (h : HostState) (x : Step) (
           member = record hears { joined = true };
           there = at.1;
           its = refl;
-          fits = record { later = refl; job = refl; turn = ap (λ b. not (true && b)) is_idle; generation = refl; value = refl; lease = refl; plain = refl };
+          fits = record { later = refl; job = refl; turn = ap (λ b. not (true && b)) is_idle; generation = refl; value = refl; lease = refl; again = refl };
         }
 
     -- What it decides may be carried.

@@ -13,12 +13,11 @@ use Rattle.sl_host_state.specs.Hears.{heard_answer, member_hearing}
 use Rattle.sl_host_state.specs.Kept.{HostState, MemberState}
 use Rattle.sl_host_state.specs.Stands.{Stands}
 use Rattle.sl_host_state.specs.declared.kept.OpenCall.{OpenCall}
-use Rattle.sl_trace.specs.LeaseWork.{lease_next}
 use Rattle.sl_trace.specs.Leases.{lease_step}
 use Rattle.sl_trace.specs.declared.lease.Aim.{Aim}
 use Rattle.sl_trace.specs.declared.lease.LeaseNext.{LeaseNext}
 use Rattle.sl_host_law.proofs.Questions.AnswersDecide.{answers_decide}
-use Rattle.sl_host_law.specs.Questions.Answers.{known_in, place_in}
+use Rattle.sl_host_law.specs.Questions.Answers.{next_in}
 use Rattle.sl_host_law.specs.Questions.Jobs.{aim_in, goes_on_in}
 use Rattle.sl_trace.specs.declared.effects.LeaseStep.{LeaseStep}
 use Rattle.sl_trace.specs.declared.effects.Purpose.TheVariants.{Lease}
@@ -39,7 +38,7 @@ module _ (number : ℕ) (c : OpenCall) (a : Answer) (h : HostState) (x : Step) (
         | false ↦ with_input (Told number a) x
         | true ↦ with_some aim (λ q.
             carry_lease m.who (area_of (heard_answer number a h) c) work
-            (lease_next (place_in (heard_answer number a h) (member_hearing h c a m)) (known_in (heard_answer number a h) (member_hearing h c a m) (with_input (Told number a) x) (area_of (heard_answer number a h) c)) q c.number c.lver step a))
+            (next_in (heard_answer number a h) (member_hearing h c a m) (with_input (Told number a) x) (area_of (heard_answer number a h) c) c q step a))
             (with_input (Told number a) x)
       ]
 
@@ -63,9 +62,7 @@ module _ (number : ℕ) (c : OpenCall) (a : Answer) (h : HostState) (x : Step) (
       (subst (λ o. Stands (Told number a) (heard_answer number a h) (done_by true o)) (sym none) after))
 
   going : (aim : Aim) (next : LeaseNext) → goes_on_in (heard_answer number a h) (member_hearing h c a m) work ≡ true → aim_in (heard_answer number a h) work ≡ Some aim
-      → next
-      ≡ lease_next (place_in (heard_answer number a h) (member_hearing h c a m))
-      (known_in (heard_answer number a h) (member_hearing h c a m) (with_input (Told number a) x) (area_of (heard_answer number a h) c)) aim c.number c.lver step a
+      → next ≡ next_in (heard_answer number a h) (member_hearing h c a m) (with_input (Told number a) x) (area_of (heard_answer number a h) c) c aim step a
       → MayCarryLease (Told number a) (heard_answer number a h) (with_input (Told number a) x) (member_hearing h c a m) (area_of (heard_answer number a h) c) work next
       → Follows number a h x (carrying_lease (member_hearing h c a m) (area_of (heard_answer number a h) c) work next (heard_answer number a h))
   going aim next goes aims decided may =

@@ -1,15 +1,15 @@
 -- The state after what a lease decided stands for the step with it.
 use Rattle.sl_host_law.proofs.Answers.DecisionsAreCarried.{called, layout_is}
-use Rattle.sl_host_law.specs.Answers.Leasing.{LeasesAreCarried, MayAnswer, MayWork, converted, converting, converting_for, for_command_of, for_work_of, granting_for, read_from, reading, sectors_read, starting, writing_block, writing_leader}
+use Rattle.sl_host_law.specs.Answers.Leasing.{BeginsArea, LeasesAreCarried, MayAnswer, MayWork, block_at, converted, converting, converting_for, for_command_of, for_work_of, granting_for, read_from, reading, record_at, sectors_read, starting, turn_next, writing_block, writing_leader}
 use Rattle.sl_area.specs.Layouts.{Layout}
-use Rattle.sl_area.specs.Places.{block_offset, block_sectors, leader_offset, pair_offset}
+use Rattle.sl_area.specs.Places.{area_sectors, block_offset, block_sectors, leader_offset, leader_record, pair_offset}
 use Rattle.sl_host_law.proofs.Calls.StartsAreTaken.{starts_are_taken}
 use Rattle.sl_due.specs.DueLease.{carry_lease, convert_for, convert_holding, for_work, grant_for, grant_of, held_otherwise, name_on, next_turn, read_area, read_blocks, read_for, start_for, with_command, write_block, write_leader}
 use Rattle.sl_due.specs.Steps.{Step, add_call_of, add_end, add_grant, add_reply, seen, with_some}
 use Rattle.sl_host_state.proofs.Others.{effects_are_taken}
-use Rattle.sl_host_state.specs.Kept.{HostState, MemberState}
-use Rattle.sl_host_state.specs.Makes.{with_end, with_grant, with_reply}
-use Rattle.sl_host_state.specs.Stands.{Stands}
+use Rattle.sl_host_state.specs.Kept.{Config, HostState, MemberState}
+use Rattle.sl_host_state.specs.Makes.{has_write_open, member_answered, member_replying, with_end, with_grant, with_reply}
+use Rattle.sl_host_state.specs.Stands.{Stands, is_joining}
 use Rattle.sl_trace.specs.Jobs.{process_named}
 use Rattle.sl_trace.specs.declared.lease.LeaseNext.TheVariants.{AnswerJob, BecomeExclusive, BecomeShared, GrantJob, Nothing, ReadFor, WriteBlock, WriteLeader}
 use Rattle.sl_host_law.proofs.Questions.JobsAnswer.{jobs_answer}
@@ -19,8 +19,10 @@ use Rattle.sl_host_law.specs.Questions.Members.{IsMemberAt, otherwise_at}
 use Rattle.sl_host_law.proofs.Replies.Replies.RepliesAreTaken.{replies_are_taken}
 use Rattle.sl_host_law.specs.Replies.Replies.{LeavesLine, MayReply}
 use Rattle.sl_sector.specs.declared.sector.Block.{Block}
+use Rattle.sl_sector.specs.Spelling.{is_first_turn}
 use Rattle.sl_sector.specs.declared.sector.Leader.{Leader}
-use Rattle.sl_sector.specs.declared.sector.Rec.TheVariants.{BlockIs, LeaderIs, PairIs, PairLeaderIs}
+use Rattle.sl_sector.specs.declared.sector.Rec.TheVariants.{BlockIs, PairIs}
+use Rattle.sl_sector.specs.declared.sector.Rec.{Rec}
 use Rattle.sl_trace.specs.declared.session.Session.{Session}
 use Rattle.sl_trace.specs.Traces.{end_of, first_child, next_child, work_job}
 use Rattle.sl_trace.specs.declared.command.Command.TheVariants.{Acquire, RunProgram, TakeOver}
@@ -40,66 +42,73 @@ use Rattle.sl_trace.specs.declared.effects.Work.{Work}
 use Rattle.sl_trace.specs.declared.input.Input.TheVariants.{Answer as Told, Exit, Line, Number, Spawned, Wake}
 use Rattle.sl_trace.specs.declared.input.Input.{Input}
 use Rattle.sl_trace.specs.declared.reply.Reply.TheVariants.{Granted}
-use Rattle.sl_host_law.proofs.Plain.BlocksHaveOneSector.{hosts_are, setting_plain}
-use Rattle.sl_sector.specs.Spelling.{is_first_turn}
-use Rattle.sl_sector.specs.declared.sector.Rec.{Rec}
-use Rattle.sl_trace.specs.Leases.{is_second}
-use Rattle.sl_words.proofs.CaseLaws.{false_is_true}
-use Rattle.sl_words.proofs.WordLaws.{and_true}
-use Rattle.std.proofs.Common.{ap, refl, subst, sym, ◌∙◌}
-use Rattle.std.specs.Prelude.{Bool, List, None, Option, Some, false, not, true, [], ℕ, ◌+◌, ◌≡◌}
+use Rattle.sl_trace.specs.declared.reply.Reply.{Reply}
+use Rattle.sl_host_law.proofs.Answers.BlocksAreWritten.{WritesTheSame, writes_as_before, writes_the_same}
+use Rattle.sl_host_law.proofs.Plain.MembersAreSessions.{numbers_are_apart}
+use Rattle.sl_host_law.proofs.Plain.PlainLists.{at_some, in_flat, one_there}
+use Rattle.sl_plain.proofs.Lists.{contains_cases, contains_none, got_inside}
+use Rattle.sl_trace.specs.Sessions.{is_join_done}
+use Rattle.sl_host_law.specs.Steps.Leases.{lease_at}
+use Rattle.sl_trace.specs.declared.effects.LeaseRead.TheVariants.{OfArea, OfBlock, OfFree, OfPhase1, OfPhase2}
+use Rattle.sl_words.specs.Words.{some_is}
+use Rattle.std.proofs.Common.{ap, inl, inr, refl, subst, sym, ◌∙◌}
+use Rattle.std.specs.Prelude.{Bool, Contains, List, None, Option, Some, cond, false, flat_map, slice_get, true, [], ℕ, ◌%◌, ◌&&◌, ◌+◌, ◌-◌, ◌==◌, ◌∷◌, ◌≡◌}
 
 -- ---- calls
 
 read : (i : Input) (h : HostState) (x : Step) (s : Session) (at : Spot) (work : Work) (step : LeaseStep) → Stands i h x → MayWork h s at work step (read_from h at step) (ReadSectors (sectors_read h step))
     → Stands i (reading s at work step h) (read_for s at work step x)
 read i h x s at work step stands may =
-    subst (λ y. Stands i (reading s at work step h) y) (by step (and_true (not (is_second step)) true may.fits.plain).0)
+    subst (λ y. Stands i (reading s at work step h) y) (by step)
     (called i h x s at.path (Lease work step) (read_from h at step) (ReadSectors (sectors_read h step)) stands may) where
       same : h.config.layout ≡ x.setting.layout
       same = layout_is i h x stands
 
-      -- So many sectors as there are hosts.
-      many : h.config.layout.hosts ≡ block_sectors x.setting.layout
-      many = sym (hosts_are i h x stands)
+      whole : (z : LeaseStep) → add_call_of s.number at.path (Lease work z) at.base (ReadSectors (area_sectors h.config.layout)) x ≡ read_area s at work z x
+      whole z = ap (λ (g : Layout). add_call_of s.number at.path (Lease work z) at.base (ReadSectors (area_sectors g)) x) same
 
-      whole : (z : LeaseStep) → add_call_of s.number at.path (Lease work z) at.base (ReadSectors (h.config.layout.hosts + 2)) x ≡ read_area s at work z x
-      whole z = ap (λ n. add_call_of s.number at.path (Lease work z) at.base (ReadSectors (n + 2)) x) many
+      blocks : (z : LeaseStep) → add_call_of s.number at.path (Lease work z) (block_offset h.config.layout at.base 1) (ReadSectors (block_sectors h.config.layout)) x ≡ read_blocks s at work z x
+      blocks z = ap (λ (g : Layout). add_call_of s.number at.path (Lease work z) (block_offset g at.base 1) (ReadSectors (block_sectors g)) x) same
 
-      blocks : (z : LeaseStep) → add_call_of s.number at.path (Lease work z) (block_offset h.config.layout at.base 1) (ReadSectors h.config.layout.hosts) x ≡ read_blocks s at work z x
-      blocks z =
-          ap (λ (g : Layout). add_call_of s.number at.path (Lease work z) (block_offset g at.base 1) (ReadSectors h.config.layout.hosts) x) same
-          ∙ ap (λ n. add_call_of s.number at.path (Lease work z) (block_offset x.setting.layout at.base 1) (ReadSectors n) x) many
+      by : (z : LeaseStep) → add_call_of s.number at.path (Lease work z) (read_from h at z) (ReadSectors (sectors_read h z)) x ≡ read_for s at work z x
+      by (ReadArea name) = whole (ReadArea name)
+      by ReadBeforeFree = whole ReadBeforeFree
+      by (ReadAgain (OfArea name)) = whole (ReadAgain (OfArea name))
+      by (ReadAgain OfFree) = whole (ReadAgain OfFree)
+      by (ReadAgain OfBlock) = blocks (ReadAgain OfBlock)
+      by (ReadAgain OfPhase1) = blocks (ReadAgain OfPhase1)
+      by (ReadAgain OfPhase2) = blocks (ReadAgain OfPhase2)
+      by z = blocks z
 
-      by : (z : LeaseStep) → not (is_second z) ≡ true → add_call_of s.number at.path (Lease work z) (read_from h at z) (ReadSectors (sectors_read h z)) x ≡ read_for s at work z x
-      by (ReadArea name) once = whole (ReadArea name)
-      by ReadBeforeFree once = whole ReadBeforeFree
-      by (ReadAgain other) once = absurd (false_is_true once)
-      by z once = blocks z
+wrote_block : (i : Input) (h : HostState) (x : Step) (m : MemberState) (at : Spot) (work : Work) (step : LeaseStep) (b : Block) → Stands i h x → (h.config.layout.paired ≡ true → WritesTheSame m x at)
+    → MayWork h m.who at work step (block_at h m at) (WriteRecord (record_at h m at b)) → Stands i (writing_block m at work step b h) (write_block m.who at work step b x)
+wrote_block i h x m at work step b stands same may =
+    subst (λ (g : Layout). Stands i (writing_block m at work step b h) (put g (next_turn x.setting (seen x) m.who at) (name_on x.setting (seen x) m.who at))) (layout_is i h x stands)
+    (subst (λ y. Stands i (writing_block m at work step b h) y) (by h.config.layout.paired refl)
+    (called i h x m.who at.path (Lease work step) (block_at h m at) (WriteRecord (record_at h m at b)) stands may)) where
+      -- The write, by whether the block has a pair of sectors, its turn and the resource's name.
+      put_by : Layout → Bool → ℕ → List ℕ → Step
+      put_by g q turn name =
+          add_call_of m.who.number at.path (Lease work step)
+          (elim q as (λ z. ℕ) [ false ↦ block_offset g at.base m.who.id | true ↦ pair_offset g at.base m.who.id (is_first_turn turn) ])
+          (WriteRecord (elim q as (λ z. Rec) [ false ↦ BlockIs b | true ↦ PairIs (record { block = b; turn = turn; lockspace = m.who.lockspace; resource = name }) ])) x
 
-wrote_block : (i : Input) (h : HostState) (x : Step) (s : Session) (at : Spot) (work : Work) (step : LeaseStep) (b : Block) → Stands i h x
-    → MayWork h s at work step (block_offset h.config.layout at.base s.id) (WriteRecord (BlockIs b)) → Stands i (writing_block s at work step b h) (write_block s at work step b x)
-wrote_block i h x s at work step b stands may =
-    subst (λ q. Stands i (writing_block s at work step b h) (put q)) (sym (setting_plain i h x stands))
-    (subst (λ (g : Layout). Stands i (writing_block s at work step b h) (add_call_of s.number at.path (Lease work step) (block_offset g at.base s.id) (WriteRecord (BlockIs b)) x)) (layout_is i h x stands)
-    (called i h x s at.path (Lease work step) (block_offset h.config.layout at.base s.id) (WriteRecord (BlockIs b)) stands may)) where
-      turn : ℕ
-      turn = next_turn x.setting (seen x) s at
+      put : Layout → ℕ → List ℕ → Step
+      put g turn name = put_by g g.paired turn name
 
-      -- The write, by whether a block has a pair of sectors.
-      put : Bool → Step
-      put q =
-          add_call_of s.number at.path (Lease work step)
-          (elim q as (λ z. ℕ) [ false ↦ block_offset x.setting.layout at.base s.id | true ↦ pair_offset x.setting.layout at.base s.id (is_first_turn turn) ])
-          (WriteRecord (elim q as (λ z. Rec) [ false ↦ BlockIs b | true ↦ PairIs (record { block = b; turn = turn; lockspace = s.lockspace; resource = name_on x.setting (seen x) s at }) ])) x
+      by : (q : Bool) → h.config.layout.paired ≡ q
+          → put h.config.layout (turn_next m at) (lease_at m at).name ≡ put h.config.layout (next_turn x.setting (seen x) m.who at) (name_on x.setting (seen x) m.who at)
+      by true is =
+          ap (λ turn. put h.config.layout turn (lease_at m at).name) (sym (same is).turn) ∙ ap (put h.config.layout (next_turn x.setting (seen x) m.who at)) (sym (same is).name)
+      by false is =
+          ap (λ q. put_by h.config.layout q (turn_next m at) (lease_at m at).name) is
+          ∙ sym (ap (λ q. put_by h.config.layout q (next_turn x.setting (seen x) m.who at) (name_on x.setting (seen x) m.who at)) is)
 
 wrote_leader : (i : Input) (h : HostState) (x : Step) (s : Session) (at : Spot) (work : Work) (step : LeaseStep) (l : Leader) → Stands i h x
-    → MayWork h s at work step (leader_offset at.base) (WriteRecord (LeaderIs l)) → Stands i (writing_leader s at work step l h) (write_leader s at work step l x)
+    → MayWork h s at work step (leader_offset at.base) (WriteRecord (leader_record h.config.layout l)) → Stands i (writing_leader s at work step l h) (write_leader s at work step l x)
 wrote_leader i h x s at work step l stands may =
-    subst
-    (λ q. Stands i (writing_leader s at work step l h)
-    (add_call_of s.number at.path (Lease work step) (leader_offset at.base) (WriteRecord (elim q as (λ z. Rec) [ false ↦ LeaderIs l | true ↦ PairLeaderIs l ])) x)) (sym (setting_plain i h x stands))
-    (called i h x s at.path (Lease work step) (leader_offset at.base) (WriteRecord (LeaderIs l)) stands may)
+    subst (λ (g : Layout). Stands i (writing_leader s at work step l h) (add_call_of s.number at.path (Lease work step) (leader_offset at.base) (WriteRecord (leader_record g l)) x)) (layout_is i h x stands)
+    (called i h x s at.path (Lease work step) (leader_offset at.base) (WriteRecord (leader_record h.config.layout l)) stands may)
 
 -- ---- replies after a grant or an end
 
@@ -184,11 +193,88 @@ module _ (i : Input) (h : HostState) (x : Step) (stands : Stands i h x) where
       for_its_work work (λ j. for_command_of j (λ c. converting_for m at j c mode lver)) (λ j. with_command j (λ c. convert_for m.who at j c mode lver))
       (λ j is. for_its_command j (λ c. converting_for m at j c mode lver) (λ c. convert_for m.who at j c mode lver) (may j is).runs (λ c. conversion k m at j c mode lver member (may j is) none))
 
+-- ---- a member after a conversion
+
+-- The member was there before, with the same leases.
+record WasLeased (h : HostState) (q : MemberState) : Type 0 where
+  old : MemberState
+  there : Contains h.members old
+  who : old.who ≡ q.who
+  leases : old.leases ≡ q.leases
+
+after_reply : (h : HostState) (job : ℕ) (r : Reply) (q : MemberState) → Contains (flat_map (member_replying h job r) h.members) q → WasLeased h q
+after_reply h job r q there = (let x = in_flat (member_replying h job r) h.members q there in by x.0 (is_joining x.0 && some_is (λ j. j == job) x.0.who.job) x.1 x.2) where
+  alone : (z y : MemberState) → Contains h.members z → Contains (y ∷ []) q → z.who ≡ y.who → z.leases ≡ y.leases → WasLeased h q
+  alone z y inside at who leases =
+      elim (contains_cases y [] q at) [
+        | inl is ↦ record { old = z; there = inside; who = who ∙ ap (λ (u : MemberState). u.who) is; leases = leases ∙ ap (λ (u : MemberState). u.leases) is }
+        | inr none ↦ absurd (contains_none q none)
+      ]
+
+  answered : (z : MemberState) (b c : Bool) → Contains h.members z → Contains (cond b (record z { joined = true } ∷ []) (cond c (record z { refused = true } ∷ []) [])) q → WasLeased h q
+  answered z true c inside at = alone z (record z { joined = true }) inside at refl refl
+  answered z false true inside at = alone z (record z { refused = true }) inside at refl refl
+  answered z false false inside at = absurd (contains_none q at)
+
+  by : (z : MemberState) (b : Bool) → Contains h.members z → Contains (cond b (member_answered h r z) (z ∷ [])) q → WasLeased h q
+  by z true inside at = answered z (is_join_done r) (has_write_open h z.who.number) inside at
+  by z false inside at = alone z z inside at refl refl
+
+-- The same configuration, and members that were there before.
+record IsLike (h g : HostState) : Type 0 where
+  config : g.config ≡ h.config
+  from : (q : MemberState) → Contains g.members q → WasLeased h q
+
+after_converting : (h : HostState) (m : MemberState) (at : Spot) (work : Work) (mode : Mode) (lver : ℕ) → IsLike h (converted m at work mode lver h)
+after_converting h m at work mode lver = by_job (work_job work) where
+  itself : IsLike h h
+  itself = record { config = refl; from = λ q there. record { old = q; there = there; who = refl; leases = refl } }
+
+  replied : (j : ℕ) (g : Grant) → IsLike h (converting j mode lver g h)
+  replied j g =
+      record {
+        config = refl;
+        from = λ q there.
+            (let was = after_reply (with_grant (record g { mode = mode; lver = lver }) (with_end (end_of g) h)) j (Granted lver) q there in
+            record { old = was.old; there = was.there; who = was.who; leases = was.leases });
+      }
+
+  by_grant : (j : ℕ) (o : Option Grant) → IsLike h (elim o as (λ z. HostState) [ None ↦ h | Some g ↦ converting j mode lver g h ])
+  by_grant j None = itself
+  by_grant j (Some g) = replied j g
+
+  by_process : (j : ℕ) (o : Option ℕ) → IsLike h (elim o as (λ z. HostState) [ None ↦ h | Some p ↦ elim (otherwise_at h m at p mode) as (λ z. HostState) [ None ↦ h | Some g ↦ converting j mode lver g h ] ])
+  by_process j None = itself
+  by_process j (Some p) = by_grant j (otherwise_at h m at p mode)
+
+  by_command : (j : ℕ) (o : Option Command) → IsLike h (elim o as (λ z. HostState) [ None ↦ h | Some c ↦ converting_for m at j c mode lver h ])
+  by_command j None = itself
+  by_command j (Some c) = by_process j (process_named c)
+
+  by_job : (o : Option ℕ) → IsLike h (elim o as (λ z. HostState) [ None ↦ h | Some j ↦ for_command_of j (λ c. converting_for m at j c mode lver) h ])
+  by_job None = itself
+  by_job (Some j) = by_command j (command_in h j)
+
+-- So its next block is the one that it would have written.
+still_writes : (i : Input) (h : HostState) (x y : Step) (k : ℕ) (m : MemberState) (at : Spot) (work : Work) (mode : Mode) (lver : ℕ) (place : ℕ) (q : MemberState) → IsMemberAt i h x k m → BeginsArea h at
+    → Stands i (converted m at work mode lver h) y → slice_get (converted m at work mode lver h).members place ≡ Some q → q.who ≡ m.who → (converted m at work mode lver h).config.layout.paired ≡ true
+    → WritesTheSame m y at
+still_writes i h x y k m at work mode lver place q member begins stands there who paired =
+    let g : HostState = converted m at work mode lver h in
+    let like = after_converting h m at work mode lver in
+    let was = like.from q (got_inside g.members place q there) in
+    let old = at_some h.members was.old was.there in
+    let number : m.who.number ≡ was.old.who.number = ap (λ (s : Session). s.number) (sym who ∙ sym was.who) in
+    let same : k ≡ old.0 = numbers_are_apart h x.setting (seen x) k old.0 m was.old member.stands.keeps member.there old.1 number in
+    let itself : m ≡ was.old = one_there h.members old.0 m was.old (subst (λ n. slice_get h.members n ≡ Some m) same member.there) old.1 in
+    writes_as_before m q y at who (sym was.leases ∙ ap (λ (z : MemberState). z.leases) (sym itself))
+    (writes_the_same i g y place q (record { stands = stands; there = there }) at (subst (λ (c : Config). at.base - at.base % c.layout.area ≡ at.base) (sym like.config) (begins (subst (λ (c : Config). c.layout.paired ≡ true) like.config paired))))
+
 pub leases_are_carried : LeasesAreCarried
 unfolding carry_lease
 leases_are_carried i h x k m at work Nothing member may = member.stands
 leases_are_carried i h x k m at work (ReadFor step) member may = read i h x m.who at work step member.stands may
-leases_are_carried i h x k m at work (WriteBlock step b) member may = wrote_block i h x m.who at work step b member.stands may
+leases_are_carried i h x k m at work (WriteBlock step b) member may = wrote_block i h x m at work step b member.stands (λ paired. writes_the_same i h x k m member at (may.1 paired)) may.0
 leases_are_carried i h x k m at work (WriteLeader step l) member may = wrote_leader i h x m.who at work step l member.stands may
 leases_are_carried i h x k m at work (AnswerJob r) member may =
     for_its_work i h x member.stands work (λ j. with_reply j r) (λ j. add_reply j r) (λ j is. replies_are_taken j r i h x member.stands (may j is))
@@ -199,5 +285,7 @@ leases_are_carried i h x k m at work (BecomeShared lver l) member may =
     wrote_leader i (converted m at work Shared lver h) (for_work work (λ j. with_command j (λ c. convert_for m.who at j c Shared lver)) x) m.who at Settling FreeLeader l
     (converts i h x member.stands k m at work Shared lver member may.0 may.1) may.2
 leases_are_carried i h x k m at work (BecomeExclusive lver b) member may =
-    wrote_block i (converted m at work Exclusive lver h) (for_work work (λ j. with_command j (λ c. convert_for m.who at j c Exclusive lver)) x) m.who at Settling ClearMode b
-    (converts i h x member.stands k m at work Exclusive lver member may.0 may.1) may.2
+    let y : Step = for_work work (λ j. with_command j (λ c. convert_for m.who at j c Exclusive lver)) x in
+    let stands : Stands i (converted m at work Exclusive lver h) y = converts i h x member.stands k m at work Exclusive lver member may.0 may.1 in
+    wrote_block i (converted m at work Exclusive lver h) y m at Settling ClearMode b stands
+    (still_writes i h x y k m at work Exclusive lver may.2.place may.2.member member may.3 stands may.2.there may.2.its) may.2

@@ -7,28 +7,31 @@ use Rattle.sl_host_law.specs.Answers.LeaseAnswers.{area_of}
 use Rattle.sl_host_law.specs.Answers.Leasing.{MayWork}
 use Rattle.sl_host_law.specs.Answers.LeasesSetFree.{GoesOn, LeasesSetFree, is_lease_op}
 use Rattle.sl_area.specs.Layouts.{Layout}
-use Rattle.sl_area.specs.Places.{blocks_in}
+use Rattle.sl_area.specs.Places.{blocks_of, needs_again, pairs_kept, read_once}
 use Rattle.sl_host_law.proofs.Calls.Calls.SpotsMore.{on_own, one_spot, spot_there}
-use Rattle.sl_host_law.specs.Calls.Calls.{fits_generation, fits_lease, fits_value, follows_read, is_idle_job, is_leaving_alone}
+use Rattle.sl_host_law.specs.Calls.Calls.{fits_again, fits_generation, fits_lease, fits_value, follows_read, is_idle_job, is_leaving_alone}
 use Rattle.sl_due.specs.Steps.{Step, seen, with_input}
 use Rattle.sl_host_law.proofs.Plain.PlainLists.{any_mapped, at_some, each_of, found_some}
-use Rattle.sl_host_state.specs.Hears.{blocks_of_step, blocks_shown, heard_answer, is_heeded_by, lease_hearing, lease_told, member_hearing, top_hearing}
-use Rattle.sl_host_state.specs.Kept.{Config, HostState, LeaseState, MemberState}
+use Rattle.sl_host_state.proofs.Pairs.{again_is}
+use Rattle.sl_host_state.specs.Hears.{blocks_heard, blocks_shown, heard_answer, is_heeded_by, kept_heard, lease_hearing, lease_told, member_hearing, top_hearing}
+use Rattle.sl_host_state.specs.Kept.{Config, HostState, LeaseState, MemberState, PairState}
 use Rattle.sl_host_state.specs.Makes.{is_lease_on, next_submitted}
-use Rattle.sl_host_state.specs.Stands.{IsWaiting, Keeps, LeaseStands, is_plain_call, kept_call, top_mbal}
+use Rattle.sl_host_state.specs.Stands.{IsKeptCall, IsWaiting, Keeps, LeaseStands, is_again_newest, kept_call, top_mbal}
 use Rattle.sl_host_state.specs.declared.kept.LeaseCall.{LeaseCall}
 use Rattle.sl_host_state.specs.declared.kept.OpenCall.{OpenCall}
 use Rattle.sl_host_state.specs.declared.kept.TopNumber.{TopNumber}
-use Rattle.sl_trace.specs.Leases.{Phase2_write, is_at, is_lease_call, is_on, lease_calls, lease_step, spot_of_call}
+use Rattle.sl_trace.specs.Leases.{Phase2_write, given_with, is_at, is_lease_call, is_on, is_second, lease_calls, lease_step, spot_of_call}
 use Rattle.sl_plain.proofs.Lists.{any_found, contains_cases, contains_map, find_inside, in_map, kept, kept_inside}
 use Rattle.sl_plain.proofs.Numbers.{number_itself}
 use Rattle.sl_plain.proofs.Options.{none_is}
 use Rattle.sl_host_law.specs.Questions.Answers.{spot_in}
 use Rattle.sl_host_law.specs.Questions.Jobs.{goes_on_in}
+use Rattle.sl_host_law.specs.Questions.Members.{me_in}
 use Rattle.sl_sector.specs.declared.sector.Block.{Block}
+use Rattle.sl_sector.specs.declared.sector.PairBlock.{PairBlock}
 use Rattle.sl_sector.specs.declared.sector.Rec.TheVariants.{BlockIs, DeltaIs, LeaderIs, PairIs, PairLeaderIs, RequestIs, ValueIs}
 use Rattle.sl_trace.specs.Sessions.{calls_of, is_call_of, me}
-use Rattle.sl_trace.specs.Traces.{Submitted, job_of, same_spot, submitted}
+use Rattle.sl_trace.specs.Traces.{Submitted, bytes_given, job_of, same_spot, submitted}
 use Rattle.sl_trace.specs.declared.effects.LeaseStep.TheVariants.{Phase1Read, ReadAgain}
 use Rattle.sl_trace.specs.declared.effects.LeaseStep.{LeaseStep}
 use Rattle.sl_trace.specs.declared.effects.Op.TheVariants.{ReadSectors, WriteRecord}
@@ -39,14 +42,15 @@ use Rattle.sl_trace.specs.declared.effects.Work.{Work}
 use Rattle.sl_trace.specs.declared.input.Answer.TheVariants.{Read}
 use Rattle.sl_trace.specs.declared.input.Answer.{Answer}
 use Rattle.sl_trace.specs.declared.input.Input.TheVariants.{Answer as Told}
-use Rattle.sl_words.proofs.CaseLaws.{false_is_true, some_value, true_is_false}
-use Rattle.sl_words.specs.Words.{some_is}
-use Rattle.sl_trace.specs.LeaseWork.{first_step}
+use Rattle.sl_words.proofs.CaseLaws.{false_is_true, none_some, some_value, true_is_false}
+use Rattle.sl_words.specs.Words.{choose, some_is}
+use Rattle.sl_trace.specs.LeaseWork.{asked_again, first_step}
 use Rattle.sl_trace.specs.declared.effects.LeaseRead.TheVariants.{OfArea, OfBlock, OfFree, OfPhase1, OfPhase2}
+use Rattle.sl_trace.specs.declared.effects.LeaseRead.{LeaseRead}
 use Rattle.std.proofs.Common.{ap, arith, inl, inr, refl, subst, sym, ◌∙◌}
 use Rattle.std.specs.List.{list_any}
-use Rattle.std.specs.Option.{option_map_or}
-use Rattle.std.specs.Prelude.{Bool, Contains, IsTrue, List, None, Option, Some, cond, false, find, is_none, is_some, nat_lt, not, option_map, true, [], ℕ, ◌&&◌, ◌<◌, ◌==◌, ◌||◌, ◌∷◌, ◌≡◌, ◌⊎◌}
+use Rattle.std.specs.Option.{option_map_or, option_or}
+use Rattle.std.specs.Prelude.{Bool, Contains, IsTrue, List, None, Option, Some, cond, false, find, is_none, is_some, nat_lt, not, option_and_then, option_map, true, [], ℕ, ◌&&◌, ◌<◌, ◌==◌, ◌||◌, ◌∷◌, ◌≡◌, ◌⊎◌}
 
 both : (p q : Bool) → p ≡ true → q ≡ true → (p && q) ≡ true
 both true q is also = also
@@ -56,30 +60,49 @@ value_there : {A : Type 0} (o : Option A) → is_some o ≡ true → (y : A) × 
 value_there None is = absurd (false_is_true is)
 value_there (Some y) is = (y, refl)
 
--- The read of the first phase shows all blocks.
-first_shows : (g : Layout) (bytes : List ℕ) (s : LeaseStep) → first_step s ≡ Phase1Read → blocks_of_step g s bytes ≡ Some (blocks_in g bytes)
-first_shows g bytes Phase1Read is = refl
-first_shows g bytes (ReadAgain OfPhase1) is = refl
-first_shows g bytes (ReadAgain (OfArea name)) is = absurd cc
-first_shows g bytes (ReadAgain OfFree) is = absurd cc
-first_shows g bytes (ReadAgain OfBlock) is = absurd cc
-first_shows g bytes (ReadAgain OfPhase2) is = absurd cc
-first_shows g bytes s is = absurd cc
+-- The read of the first phase shows all blocks, unless it is to be made once more.
+first_shows : (g : Layout) (p : PairState) (bytes : List ℕ) (s : LeaseStep) → first_step s ≡ Phase1Read → asked_again g bytes s ≡ None → (is_second s ≡ true → IsTrue (is_some p.first))
+    → (bs : List (Option Block)) × (blocks_shown g p s (Read bytes) ≡ Some bs)
+first_shows g p bytes Phase1Read is once second = by (needs_again g bytes) once where
+  by : (b : Bool) → elim b as (λ z. Option LeaseRead) [ false ↦ None | true ↦ Some OfPhase1 ] ≡ None → (bs : List (Option Block)) × (option_map (blocks_of g) (choose (not b) (read_once bytes)) ≡ Some bs)
+  by false at = (blocks_of g (read_once bytes), refl)
+  by true at = absurd (none_some OfPhase1 (sym at))
+first_shows g p bytes (ReadAgain OfPhase1) is once second = by p.first (second refl) where
+  by : (o : Option (List (Option PairBlock))) → IsTrue (is_some o) → (bs : List (Option Block)) × (option_map (blocks_of g) (given_with g true o (Some bytes)) ≡ Some bs)
+  by None at = absurd (false_is_true at)
+  by (Some pairs) at = (blocks_of g (record { kept = pairs; last = bytes }), refl)
+first_shows g p bytes (ReadAgain (OfArea name)) is once second = absurd cc
+first_shows g p bytes (ReadAgain OfFree) is once second = absurd cc
+first_shows g p bytes (ReadAgain OfBlock) is once second = absurd cc
+first_shows g p bytes (ReadAgain OfPhase2) is once second = absurd cc
+first_shows g p bytes s is once second = absurd cc
 
--- What waits is the open call.
-waits_for : (w : LeaseCall) (ds : List Submitted) (d : Submitted) → IsWaiting (Some w) ds → Contains ds d → d.answer ≡ None → w.number ≡ d.call.number
+-- What is kept of a first read is so of one that was made once.
+kept_of_first : (g : Layout) (s : LeaseStep) (a : Answer) → is_some (kept_heard g s a) ≡ true → is_second s ≡ false
+kept_of_first g s a = by (is_second s) where
+  by : (b : Bool)
+      → is_some (elim b as (λ z. Option (List (Option PairBlock))) [
+        | true ↦ None
+        | false ↦ option_and_then (λ bs. choose (needs_again g bs) (pairs_kept g bs)) (option_and_then (blocks_heard g s) (bytes_given a))
+      ]) ≡ true → b ≡ false
+  by false is = refl
+  by true is = absurd (false_is_true is)
+
+-- What waits is the open call, and that is the newest.
+waits_for : (w : LeaseCall) (ds : List Submitted) (d : Submitted) → IsWaiting (Some w) ds → Contains ds d → d.answer ≡ None → IsKeptCall d w × (is_again_newest ds ≡ is_second w.step)
 waits_for w [] d waits there open_d = absurd waits
 waits_for w (f ∷ ds) d waits there open_d = by (contains_cases f ds d there) where
-  by : (f ≡ d) ⊎ Contains ds d → w.number ≡ d.call.number
-  by (inl is) = sym waits.0.1 ∙ ap (λ (z : Submitted). z.call.number) is
+  by : (f ≡ d) ⊎ Contains ds d → IsKeptCall d w × (is_again_newest (f ∷ ds) ≡ is_second w.step)
+  by (inl is) = (subst (λ (z : Submitted). IsKeptCall z w) is waits.0, again_is f w.work w.step waits.0.2)
   by (inr later) = absurd (true_is_false (sym (each_of (λ (y : Submitted). IsTrue (is_some y.answer)) ds d waits.1 later) ∙ ap is_some open_d))
 
-works_for : (w : LeaseCall) (ds : List Submitted) (d : Submitted) → IsWaiting (Some w) ds → Contains ds d → d.answer ≡ None → lease_step d.call.purpose ≡ Some (w.work, w.step)
-works_for w [] d waits there open_d = absurd waits
-works_for w (f ∷ ds) d waits there open_d = by (contains_cases f ds d there) where
-  by : (f ≡ d) ⊎ Contains ds d → lease_step d.call.purpose ≡ Some (w.work, w.step)
-  by (inl is) = sym (ap (λ (z : Submitted). lease_step z.call.purpose) is) ∙ waits.0.2
-  by (inr later) = absurd (true_is_false (sym (each_of (λ (y : Submitted). IsTrue (is_some y.answer)) ds d waits.1 later) ∙ ap is_some open_d))
+-- A lease that waits for the answered call, at its step, hears it.
+record HearsIt (h : HostState) (m : MemberState) (c : OpenCall) (a : Answer) (step : LeaseStep) (l : LeaseState) : Type 0 where
+  waited : LeaseCall
+  at : waited.step ≡ step
+  again : l.pair.again ≡ is_second step
+  second : is_second step ≡ true → IsTrue (is_some l.pair.first)
+  told : lease_told h m (is_heeded_by h c) c a l ≡ lease_hearing h.config.layout m.who.lockspace (me_in m) (is_heeded_by h c) c a waited l
 
 module _ (number : ℕ) (c : OpenCall) (a : Answer) (h : HostState) (x : Step) (k : ℕ) (m : MemberState) (to : IsAnswerTo number c a h x k m) where
   abbrev told : LeaseState → LeaseState
@@ -88,14 +111,14 @@ module _ (number : ℕ) (c : OpenCall) (a : Answer) (h : HostState) (x : Step) (
   pub told_spot : (l : LeaseState) → (lease_told h m (is_heeded_by h c) c a l).spot ≡ l.spot
   told_spot l = by l.waiting where
     by_number : (w : LeaseCall) (b : Bool)
-        → (cond b (lease_hearing h.config.layout m.who.lockspace (record { id = m.who.id; generation = m.known.generation }) (is_heeded_by h c) c a w.step w.frees w.clears l) l).spot ≡ l.spot
+        → (cond b (lease_hearing h.config.layout m.who.lockspace (me_in m) (is_heeded_by h c) c a w l) l).spot ≡ l.spot
     by_number w true = refl
     by_number w false = refl
 
     by : (o : Option LeaseCall) → (elim o as (λ z. LeaseState) [
       | None ↦ l
       | Some w ↦ cond (w.number == c.number)
-          (lease_hearing h.config.layout m.who.lockspace (record { id = m.who.id; generation = m.known.generation }) (is_heeded_by h c) c a w.step w.frees w.clears l) l
+          (lease_hearing h.config.layout m.who.lockspace (me_in m) (is_heeded_by h c) c a w l) l
     ]).spot ≡ l.spot
     by None = refl
     by (Some w) = by_number w (w.number == c.number)
@@ -120,9 +143,9 @@ module _ (number : ℕ) (c : OpenCall) (a : Answer) (h : HostState) (x : Step) (
     works : is_lease_call call_told.0 ≡ true
     works = ap (λ (z : OpenCall). is_some (lease_step z.purpose)) call_told.3 ∙ ap (λ p. is_some (lease_step p)) is
 
-    -- A lease on its area waits for nothing then.
-    told_none : (l : LeaseState) → Contains m.leases l → is_lease_on (spot_of_call x.setting.layout call_told.0) l ≡ true → (lease_told h m (is_heeded_by h c) c a l).waiting ≡ None
-    told_none l there on = by l.waiting refl where
+    -- A lease on its area hears it.
+    hears_it : (l : LeaseState) → Contains m.leases l → is_lease_on (spot_of_call x.setting.layout call_told.0) l ≡ true → HearsIt h m c a step l
+    hears_it l there on = by l.waiting refl where
       stands_l : LeaseStands x.setting.layout m.who.lockspace (me (seen x) m.who) l (lease_calls x.setting (seen x) m.who l.spot)
       stands_l = (keeps.members k m to.there).leases (at_some m.leases l there).0 l (at_some m.leases l there).1
 
@@ -132,74 +155,57 @@ module _ (number : ℕ) (c : OpenCall) (a : Answer) (h : HostState) (x : Step) (
           (both (is_lease_call call_told.0) (is_on x.setting.layout l.spot call_told.0.call) works
           (subst (λ p. is_on x.setting.layout p call_told.0.call ≡ true) (one_spot (spot_of_call x.setting.layout call_told.0) l.spot on) (on_own x.setting.layout call_told.0 room))) call_told.1
 
-      by : (o : Option LeaseCall) → l.waiting ≡ o
-          → (elim o as (λ z. LeaseState) [
-            | None ↦ l
-            | Some w ↦ cond (w.number == c.number)
-                (lease_hearing h.config.layout m.who.lockspace (record { id = m.who.id; generation = m.known.generation }) (is_heeded_by h c) c a w.step w.frees w.clears l) l
-          ]).waiting ≡ None
-      by None waits = waits
-      by (Some w) waits =
-          let same = waits_for w (lease_calls x.setting (seen x) m.who l.spot) call_told.0 (subst (λ o. IsWaiting o (lease_calls x.setting (seen x) m.who l.spot)) waits stands_l.waiting) in_it call_told.2 in
-          ap (λ b. (cond b (lease_hearing h.config.layout m.who.lockspace (record { id = m.who.id; generation = m.known.generation }) (is_heeded_by h c) c a w.step w.frees w.clears l) l).waiting)
-          (ap (λ n. n == c.number) (same ∙ ap (λ (z : OpenCall). z.number) call_told.3) ∙ number_itself c.number)
-
-    told_own : (l : LeaseState) → (lease_told h m (is_heeded_by h c) c a l).own ≡ l.own
-    told_own l = by l.waiting where
-      by_number : (w : LeaseCall) (b : Bool)
-          → (cond b (lease_hearing h.config.layout m.who.lockspace (record { id = m.who.id; generation = m.known.generation }) (is_heeded_by h c) c a w.step w.frees w.clears l) l).own ≡ l.own
-      by_number w true = refl
-      by_number w false = refl
-
-      by : (o : Option LeaseCall) → (elim o as (λ z. LeaseState) [
-        | None ↦ l
-        | Some w ↦ cond (w.number == c.number)
-            (lease_hearing h.config.layout m.who.lockspace (record { id = m.who.id; generation = m.known.generation }) (is_heeded_by h c) c a w.step w.frees w.clears l) l
-      ]).own ≡ l.own
-      by None = refl
-      by (Some w) = by_number w (w.number == c.number)
-
-    -- After the read of the first phase the greatest number of the own block's instance is known.
-    pub told_top : (l : LeaseState) → Contains m.leases l → is_lease_on (spot_of_call x.setting.layout call_told.0) l ≡ true → (bytes : List ℕ) → a ≡ Read bytes → first_step step ≡ Phase1Read → (own : Block)
-        → (lease_told h m (is_heeded_by h c) c a l).own ≡ Some own → some_is (λ (t : TopNumber). t.instance == own.lver) (lease_told h m (is_heeded_by h c) c a l).top ≡ true
-    told_top l there on bytes read first own has = by l.waiting refl where
-      stands_l : LeaseStands x.setting.layout m.who.lockspace (me (seen x) m.who) l (lease_calls x.setting (seen x) m.who l.spot)
-      stands_l = (keeps.members k m to.there).leases (at_some m.leases l there).0 l (at_some m.leases l there).1
-
-      in_it : Contains (lease_calls x.setting (seen x) m.who l.spot) call_told.0
-      in_it =
-          kept (λ (z : Submitted). is_lease_call z && is_on x.setting.layout l.spot z.call) (calls_of (seen x) m.who) call_told.0
-          (both (is_lease_call call_told.0) (is_on x.setting.layout l.spot call_told.0.call) works
-          (subst (λ p. is_on x.setting.layout p call_told.0.call ≡ true) (one_spot (spot_of_call x.setting.layout call_told.0) l.spot on) (on_own x.setting.layout call_told.0 room))) call_told.1
-
-      own_is : l.own ≡ Some own
-      own_is = sym (told_own l) ∙ has
-
-      shown : (s : LeaseStep) → first_step s ≡ Phase1Read → some_is (λ (t : TopNumber). t.instance == own.lver) (top_hearing l (blocks_shown h.config.layout s a)) ≡ true
-      shown s at =
-          subst (λ z. some_is (λ (t : TopNumber). t.instance == own.lver) (top_hearing l (blocks_shown h.config.layout s z)) ≡ true) (sym read)
-          (subst (λ z. some_is (λ (t : TopNumber). t.instance == own.lver) (top_hearing l z) ≡ true) (sym (first_shows h.config.layout bytes s at))
-          (ap (λ o. some_is (λ (t : TopNumber). t.instance == own.lver) (option_map (λ b. record { instance = b.lver; mbal = top_mbal b.lver (blocks_in h.config.layout bytes) }) o)) own_is ∙ number_itself own.lver))
-
-      by : (o : Option LeaseCall) → l.waiting ≡ o
-          → some_is (λ (t : TopNumber). t.instance == own.lver) (elim o as (λ z. LeaseState) [
-            | None ↦ l
-            | Some w ↦ cond (w.number == c.number)
-                (lease_hearing h.config.layout m.who.lockspace (record { id = m.who.id; generation = m.known.generation }) (is_heeded_by h c) c a w.step w.frees w.clears l) l
-          ]).top ≡ true
+      by : (o : Option LeaseCall) → l.waiting ≡ o → HearsIt h m c a step l
       by None waits =
           let all = subst (λ o. IsWaiting o (lease_calls x.setting (seen x) m.who l.spot)) waits stands_l.waiting in
           absurd (true_is_false (sym (each_of (λ (y : Submitted). IsTrue (is_some y.answer)) (lease_calls x.setting (seen x) m.who l.spot) call_told.0 all in_it) ∙ ap is_some call_told.2))
       by (Some w) waits =
-          let waiting = subst (λ o. IsWaiting o (lease_calls x.setting (seen x) m.who l.spot)) waits stands_l.waiting in
-          let same = waits_for w (lease_calls x.setting (seen x) m.who l.spot) call_told.0 waiting in_it call_told.2 in
-          let steps : w.step ≡ step =
-          sym (ap (λ q. q.1) (some_value (work, step) (w.work, w.step) (sym (ap (λ (z : OpenCall). lease_step z.purpose) call_told.3 ∙ ap lease_step is) ∙ works_for w (lease_calls x.setting (seen x) m.who l.spot) call_told.0 waiting in_it call_told.2)))
+          let its = waits_for w (lease_calls x.setting (seen x) m.who l.spot) call_told.0 (subst (λ o. IsWaiting o (lease_calls x.setting (seen x) m.who l.spot)) waits stands_l.waiting) in_it call_told.2 in
+          let at : w.step ≡ step =
+          sym (ap (λ q. q.1) (some_value (work, step) (w.work, w.step) (sym (ap (λ (z : OpenCall). lease_step z.purpose) call_told.3 ∙ ap lease_step is) ∙ its.0.2)))
           in
-          subst
-          (λ b. some_is (λ (t : TopNumber). t.instance == own.lver)
-          (cond b (lease_hearing h.config.layout m.who.lockspace (record { id = m.who.id; generation = m.known.generation }) (is_heeded_by h c) c a w.step w.frees w.clears l) l).top ≡ true)
-          (sym (ap (λ n. n == c.number) (same ∙ ap (λ (z : OpenCall). z.number) call_told.3) ∙ number_itself c.number)) (shown w.step (ap first_step steps ∙ first))
+          let again : l.pair.again ≡ is_second step = sym stands_l.again ∙ its.1 ∙ ap is_second at in
+          record {
+            waited = w;
+            at = at;
+            again = again;
+            second = λ two. stands_l.second (again ∙ two);
+            told = ap (λ o. elim o as (λ z. LeaseState) [
+              | None ↦ l
+              | Some v ↦ cond (v.number == c.number) (lease_hearing h.config.layout m.who.lockspace (me_in m) (is_heeded_by h c) c a v l) l
+            ]) waits
+                ∙ ap (λ b. cond b (lease_hearing h.config.layout m.who.lockspace (me_in m) (is_heeded_by h c) c a w l) l)
+                (ap (λ n. n == c.number) (sym its.0.1 ∙ ap (λ (z : OpenCall). z.number) call_told.3) ∙ number_itself c.number);
+          }
+
+    -- It waits for nothing then.
+    told_none : (l : LeaseState) → Contains m.leases l → is_lease_on (spot_of_call x.setting.layout call_told.0) l ≡ true → (lease_told h m (is_heeded_by h c) c a l).waiting ≡ None
+    told_none l there on = ap (λ (z : LeaseState). z.waiting) (hears_it l there on).told
+
+    -- After the read of the first phase the greatest number of the own block's instance is known.
+    pub told_top : (l : LeaseState) → Contains m.leases l → is_lease_on (spot_of_call x.setting.layout call_told.0) l ≡ true → (bytes : List ℕ) → a ≡ Read bytes → first_step step ≡ Phase1Read
+        → asked_again h.config.layout bytes step ≡ None → (own : Block) → (lease_told h m (is_heeded_by h c) c a l).own ≡ Some own
+        → some_is (λ (t : TopNumber). t.instance == own.lver) (lease_told h m (is_heeded_by h c) c a l).top ≡ true
+    told_top l there on bytes read first once own has =
+        let its = hears_it l there on in
+        let own_is : l.own ≡ Some own = ap (λ (z : LeaseState). z.own) (sym its.told) ∙ has in
+        let all = first_shows h.config.layout l.pair bytes step first once its.second in
+        let shown : blocks_shown h.config.layout l.pair its.waited.step a ≡ Some all.0 = ap (λ s. blocks_shown h.config.layout l.pair s a) its.at ∙ ap (blocks_shown h.config.layout l.pair step) read ∙ all.1 in
+        ap (λ (z : LeaseState). some_is (λ (t : TopNumber). t.instance == own.lver) z.top) its.told
+        ∙ ap (λ o. some_is (λ (t : TopNumber). t.instance == own.lver) (top_hearing l o)) shown
+        ∙ ap (λ o. some_is (λ (t : TopNumber). t.instance == own.lver) (option_map (λ b. record { instance = b.lver; mbal = top_mbal b.lver all.0 }) o)) own_is ∙ number_itself own.lver
+
+    -- After a read that is to be made once more what it gave is kept, and it was made once.
+    pub told_first : (l : LeaseState) → Contains m.leases l → is_lease_on (spot_of_call x.setting.layout call_told.0) l ≡ true → is_some (kept_heard h.config.layout step a) ≡ true
+        → (is_some (lease_told h m (is_heeded_by h c) c a l).pair.first && not (lease_told h m (is_heeded_by h c) c a l).pair.again) ≡ true
+    told_first l there on some =
+        let its = hears_it l there on in
+        ap (λ (z : LeaseState). is_some z.pair.first && not z.pair.again) its.told
+        ∙ both (is_some (option_or (kept_heard h.config.layout its.waited.step a) l.pair.first)) (not l.pair.again)
+        (first_is (kept_heard h.config.layout its.waited.step a) (ap (λ s. is_some (kept_heard h.config.layout s a)) its.at ∙ some)) (ap not (its.again ∙ kept_of_first h.config.layout step a some)) where
+          first_is : (o : Option (List (Option PairBlock))) → is_some o ≡ true → is_some (option_or o l.pair.first) ≡ true
+          first_is None is = absurd (false_is_true is)
+          first_is (Some pairs) is = refl
 
     -- There is one.
     some_lease : (l : LeaseState) × Contains m.leases l × (is_lease_on (spot_of_call x.setting.layout call_told.0) l ≡ true)
@@ -248,8 +254,8 @@ module _ (number : ℕ) (c : OpenCall) (a : Answer) (h : HostState) (x : Step) (
     generation_fits (ReadSectors n) its = refl
     generation_fits (WriteRecord (BlockIs b)) its = refl
     generation_fits (WriteRecord (LeaderIs l)) its = refl
-    generation_fits (WriteRecord (PairIs q)) its = absurd (false_is_true its)
-    generation_fits (WriteRecord (PairLeaderIs l)) its = absurd (false_is_true its)
+    generation_fits (WriteRecord (PairIs q)) its = refl
+    generation_fits (WriteRecord (PairLeaderIs l)) its = refl
     generation_fits (WriteRecord (DeltaIs d)) its = absurd (false_is_true its)
     generation_fits (WriteRecord (RequestIs q)) its = absurd (false_is_true its)
     generation_fits (WriteRecord (ValueIs v)) its = absurd (false_is_true its)
@@ -258,21 +264,11 @@ module _ (number : ℕ) (c : OpenCall) (a : Answer) (h : HostState) (x : Step) (
     value_fits (ReadSectors n) its = refl
     value_fits (WriteRecord (BlockIs b)) its = refl
     value_fits (WriteRecord (LeaderIs l)) its = refl
-    value_fits (WriteRecord (PairIs q)) its = absurd (false_is_true its)
-    value_fits (WriteRecord (PairLeaderIs l)) its = absurd (false_is_true its)
+    value_fits (WriteRecord (PairIs q)) its = refl
+    value_fits (WriteRecord (PairLeaderIs l)) its = refl
     value_fits (WriteRecord (DeltaIs d)) its = absurd (false_is_true its)
     value_fits (WriteRecord (RequestIs q)) its = absurd (false_is_true its)
     value_fits (WriteRecord (ValueIs v)) its = absurd (false_is_true its)
-
-    plain_fits : (o : Op) → IsTrue (is_lease_op o) → IsTrue (is_plain_call (next_submitted (heard_answer number a h) m.who.number c.path (Lease work next) offset o))
-    plain_fits (ReadSectors n) its = ap (λ b. not b && true) may.once
-    plain_fits (WriteRecord (BlockIs b)) its = ap (λ b. not b && true) may.once
-    plain_fits (WriteRecord (LeaderIs l)) its = ap (λ b. not b && true) may.once
-    plain_fits (WriteRecord (PairIs q)) its = absurd (false_is_true its)
-    plain_fits (WriteRecord (PairLeaderIs l)) its = absurd (false_is_true its)
-    plain_fits (WriteRecord (DeltaIs d)) its = absurd (false_is_true its)
-    plain_fits (WriteRecord (RequestIs q)) its = absurd (false_is_true its)
-    plain_fits (WriteRecord (ValueIs v)) its = absurd (false_is_true its)
 
     some_room : (n : ℕ) → 0 < n → nat_lt 0 n ≡ true
     some_room n less = grind (arith, less)
@@ -286,6 +282,11 @@ module _ (number : ℕ) (c : OpenCall) (a : Answer) (h : HostState) (x : Step) (
         (subst (λ o. option_map_or (λ l. is_none l.waiting && follows_read made l) o (not (is_at Phase2_write made)) ≡ true) (sym its_lease.1)
         (both (is_none its_lease.0.waiting) (follows_read made its_lease.0) (ap (λ o. is_none o) its_lease.2) (may.follows its_lease.0 its_lease.1))))
 
+    again_fits : IsTrue (fits_again (heard_answer number a h).config.layout (member_hearing h c a m) made)
+    again_fits =
+        subst (λ n. (not (is_second next) || option_map_or (λ l. is_some l.pair.first && not l.pair.again) (find (is_lease_on (record { path = c.path; base = n })) (member_hearing h c a m).leases) false) ≡ true) (sym may.near)
+        (subst (λ o. (not (is_second next) || option_map_or (λ l. is_some l.pair.first && not l.pair.again) o false) ≡ true) (sym its_lease.1) (may.again its_lease.0 its_lease.1))
+
     goes_on : MayWork (heard_answer number a h) m.who (area_of (heard_answer number a h) c) work next offset op
     goes_on =
         record {
@@ -293,7 +294,7 @@ module _ (number : ℕ) (c : OpenCall) (a : Answer) (h : HostState) (x : Step) (
           member = member_hearing h c a m;
           there = (place number c a h x k m to not_refused).1;
           its = refl;
-          fits = record { later = refl; job = job_fits work is goes; turn = refl; generation = generation_fits op may.its; value = value_fits op may.its; lease = lease_fits; plain = plain_fits op may.its };
+          fits = record { later = refl; job = job_fits work is goes; turn = refl; generation = generation_fits op may.its; value = value_fits op may.its; lease = lease_fits; again = again_fits };
         }
 
 pub leases_set_free : LeasesSetFree

@@ -1,9 +1,10 @@
 -- Of all that a lease may decide, only what comes of the first phase's read is the second phase.
-use Rattle.sl_host_law.specs.Answers.PhaseTwo.{IsAfterRead, IsOnce, PhaseTwoFollows}
-use Rattle.sl_area.specs.Places.{blocks_in, blocks_of, leader_of, leader_read}
+use Rattle.sl_host_law.specs.Answers.PhaseTwo.{IsAfterRead, IsOnceFor, PhaseTwoFollows}
+use Rattle.sl_area.specs.Layouts.{Layout}
+use Rattle.sl_area.specs.Places.{blocks_of, blocks_part, leader_read, needs_again, pairs_kept}
+use Rattle.sl_host_state.specs.Hears.{kept_heard}
 use Rattle.sl_trace.specs.Ballots.{ballot_blocks, is_ahead, moded_block, phase1_block, phase2_block, same_owner, stop_of, value_of}
-use Rattle.sl_trace.proofs.PlainWork.{bytes_plain}
-use Rattle.sl_trace.specs.LeaseWork.{LeasePlace, after_bytes, after_clearing, after_freeing, after_moding, after_phase1, after_phase2, after_read, after_take, after_write, area_next, asked_again, begin_next, begin_or_refuse, first_step, heard, leader_for, lease_next, looks_for_shared, lost_next, named_area_next, part_read, phase1_next, phase2_next, refuses, settle_next, settle_owed, stop_reply, stopped_next, whole_area_next, won_next}
+use Rattle.sl_trace.specs.LeaseWork.{LeasePlace, after_bytes, after_clearing, after_freeing, after_moding, after_phase1, after_phase2, after_read, after_take, after_write, area_next, asked_again, begin_next, begin_or_refuse, first_step, heard, leader_for, lease_next, looks_for_shared, lost_next, named_area_next, part_read, phase1_next, phase2_next, refuses, refuses_block, settle_next, settle_owed, stop_reply, stopped_next, whole_area_next, within_turn, won_next}
 use Rattle.sl_trace.specs.Leases.{LeaseKnown, instance_for, is_leader_of, is_second, mode_gen_of, owed, owed_free, own_known, shared_elsewhere}
 use Rattle.sl_trace.specs.declared.lease.Aim.TheVariants.{Acquires, Converts, Releases, Settles}
 use Rattle.sl_trace.specs.declared.lease.Aim.{Aim}
@@ -18,21 +19,24 @@ use Rattle.sl_trace.specs.declared.lease.Stop.{Stop}
 use Rattle.sl_sector.specs.declared.sector.Block.{Block}
 use Rattle.sl_sector.specs.declared.sector.Leader.{Leader}
 use Rattle.sl_sector.specs.declared.sector.Owner.{Owner}
+use Rattle.sl_sector.specs.declared.sector.PairBlock.{PairBlock}
 use Rattle.sl_trace.specs.Traces.{is_before_input}
+use Rattle.sl_trace.specs.declared.effects.LeaseRead.TheVariants.{OfArea, OfBlock, OfFree, OfPhase1, OfPhase2}
 use Rattle.sl_trace.specs.declared.effects.LeaseRead.{LeaseRead}
 use Rattle.sl_trace.specs.declared.effects.LeaseStep.TheVariants.{ClearMode, FreeLeader, Phase1Read, Phase1Write, Phase2Read, Phase2Write, ReadAgain, ReadArea, ReadBeforeBlock, ReadBeforeFree, SetMode, TakeLeader}
 use Rattle.sl_trace.specs.declared.effects.LeaseStep.{LeaseStep}
 use Rattle.sl_trace.specs.declared.effects.Mode.TheVariants.{Exclusive, Shared}
 use Rattle.sl_trace.specs.declared.input.Answer.TheVariants.{Failed, Read, Written}
 use Rattle.sl_trace.specs.declared.input.Answer.{Answer}
-use Rattle.sl_trace.specs.declared.reply.Limited.TheVariants.{Lver as LverLimit, Mbal as MbalLimit}
+use Rattle.sl_trace.specs.declared.reply.Limited.TheVariants.{Lver as LverLimit, Mbal as MbalLimit, Turn as TurnLimit}
 use Rattle.sl_trace.specs.declared.reply.Reply.TheVariants.{Held as HeldBy, IoFault, Limit as LimitReached, Shared as SharedBy, TornBlock, TornLeader, WrongArea}
 use Rattle.sl_trace.specs.declared.reply.Reply.{Reply}
 use Rattle.sl_words.specs.Bounds.{is_number}
-use Rattle.sl_words.specs.Words.{present}
-use Rattle.std.proofs.Common.{refl, subst, sym}
+use Rattle.sl_words.proofs.CaseLaws.{none_some}
+use Rattle.sl_words.specs.Words.{choose, present}
+use Rattle.std.proofs.Common.{ap, refl, subst, sym, ◌∙◌}
 use Rattle.std.specs.Option.{option_map_or}
-use Rattle.std.specs.Prelude.{Bool, List, None, Option, Some, false, is_none, position, true, ℕ, ◌+◌, ◌≡◌}
+use Rattle.std.specs.Prelude.{Bool, IsTrue, List, None, Option, Some, false, is_none, is_some, not, position, true, ℕ, ◌&&◌, ◌+◌, ◌||◌, ◌≡◌}
 
 -- What is decided, if it is the second phase, is this of the block; if it is another call, that of its step; if it is a reply, none of
 -- before an input; all else is as it may be.
@@ -204,19 +208,19 @@ module _ (P : Block → Type 0) (Q : LeaseStep → Type 0) (once : (s : LeaseSte
   written aim n Phase2Read = tt
 
 -- After a read, by the step that is made.
-module _ (Q : LeaseStep → Type 0) (once : (s : LeaseStep) → is_second s ≡ false → Q s) (p : LeasePlace) (k : LeaseKnown) (aim : Aim) (bytes : List ℕ) (step : LeaseStep) where
+module _ (Q : LeaseStep → Type 0) (once : (s : LeaseStep) → is_second s ≡ false → Q s) (p : LeasePlace) (k : LeaseKnown) (aim : Aim) (bytes : List ℕ) (step : LeaseStep) (given : asked_again p.layout bytes step ≡ None) where
   abbrev P : Block → Type 0
-  P b = IsAfterRead k step (Read bytes) b
+  P b = IsAfterRead p.layout k step (Read bytes) b
 
-  read_by : (leader : Option Leader) (read : List (Option Block)) (s : LeaseStep) → first_step step ≡ s → Only (λ b. IsAfterRead k step (Read bytes) b) Q (after_read p k aim leader read s)
+  read_by : (leader : Option Leader) (read : List (Option Block)) (s : LeaseStep) → first_step step ≡ s → Only (λ b. IsAfterRead p.layout k step (Read bytes) b) Q (after_read p k aim leader read s)
   read_by leader read (ReadArea name) made = area P Q once p k aim name leader read
   read_by leader read ReadBeforeFree made = by_number P Q once p k (λ n. WriteLeader FreeLeader (leader_for p k false n)) (λ n. once FreeLeader refl) (owed_free k)
   read_by leader read ReadBeforeBlock made = settles P Q once p k
   read_by leader read Phase1Read made = by k.own refl where
-    by : (o : Option Block) → k.own ≡ o → Only (λ b. IsAfterRead k step (Read bytes) b) Q (option_map_or (λ own. after_phase1 p k aim own read (stop_of own read)) o Nothing)
+    by : (o : Option Block) → k.own ≡ o → Only (λ b. IsAfterRead p.layout k step (Read bytes) b) Q (option_map_or (λ own. after_phase1 p k aim own read (stop_of own read)) o Nothing)
     by None is = tt
     by (Some own) is =
-        first_read P Q once p k aim own read (λ b same. record { own = own; submitted = is; instance = same; at = made; bytes = bytes; read = refl }) (stop_of own read)
+        first_read P Q once p k aim own read (λ b same. record { own = own; submitted = is; instance = same; at = made; bytes = bytes; read = refl; given = given }) (stop_of own read)
   read_by leader read Phase2Read made =
       by_own P Q once p k (λ own. after_phase2 p k aim own (stop_of own read)) (λ own. second_read P Q once p k aim own (stop_of own read)) k.own
   read_by leader read (ReadAgain other) made = tt
@@ -231,46 +235,117 @@ any : (s : LeaseStep) → is_second s ≡ false → Unit {0}
 any s is = tt
 
 bytes_by : (p : LeasePlace) (k : LeaseKnown) (aim : Aim) (bytes : List ℕ) (step : LeaseStep)
-    → Only (λ b. IsAfterRead k step (Read bytes) b) (λ s. Unit {0}) (after_bytes p k aim bytes step)
+    → Only (λ b. IsAfterRead p.layout k step (Read bytes) b) (λ s. Unit {0}) (after_bytes p k aim bytes step)
 unfolding after_bytes
-bytes_by p k aim bytes step = by (asked_again p.layout bytes step) where
-  by : (o : Option LeaseRead) → Only (λ b. IsAfterRead k step (Read bytes) b) (λ s. Unit {0}) (elim o as (λ z. LeaseNext) [
+bytes_by p k aim bytes step = by (asked_again p.layout bytes step) refl where
+  by : (o : Option LeaseRead) → asked_again p.layout bytes step ≡ o → Only (λ b. IsAfterRead p.layout k step (Read bytes) b) (λ s. Unit {0}) (elim o as (λ z. LeaseNext) [
     | Some read ↦ ReadFor (ReadAgain read)
     | None ↦ after_read p k aim (leader_read p.layout bytes (heard p.layout k bytes step)) (blocks_of p.layout (heard p.layout k bytes step)) (first_step step)
   ])
-  by (Some read) = tt
-  by None = read_by (λ s. Unit {0}) any p k aim bytes step (leader_read p.layout bytes (heard p.layout k bytes step)) (blocks_of p.layout (heard p.layout k bytes step)) (first_step step) refl
+  by (Some read) is = tt
+  by None is = read_by (λ s. Unit {0}) any p k aim bytes step is (leader_read p.layout bytes (heard p.layout k bytes step)) (blocks_of p.layout (heard p.layout k bytes step)) (first_step step) refl
 
-decided : (p : LeasePlace) (k : LeaseKnown) (aim : Aim) (call n : ℕ) (step : LeaseStep) (a : Answer) → Only (λ b. IsAfterRead k step a b) (λ s. Unit {0}) (lease_next p k aim call n step a)
+decided : (p : LeasePlace) (k : LeaseKnown) (aim : Aim) (call n : ℕ) (step : LeaseStep) (a : Answer) → Only (λ b. IsAfterRead p.layout k step a b) (λ s. Unit {0}) (lease_next p k aim call n step a)
 unfolding lease_next
 decided p k aim call n step (Read bytes) = bytes_by p k aim bytes step
-decided p k aim call n step Written = written (λ b. IsAfterRead k step Written b) (λ s. Unit {0}) any p k aim n step
-decided p k aim call n step Failed = refused (λ b. IsAfterRead k step Failed b) (λ s. Unit {0}) any p k aim (IoFault call) refl
+decided p k aim call n step Written = written (λ b. IsAfterRead p.layout k step Written b) (λ s. Unit {0}) any p k aim n step
+decided p k aim call n step Failed = refused (λ b. IsAfterRead p.layout k step Failed b) (λ s. Unit {0}) any p k aim (IoFault call) refl
 
--- Where a block has one sector no read is made once more.
+-- ---- a read that is made once more
+
+-- Where a read is made once more, what its answer gave is kept.
+again_is_kept : (g : Layout) (bytes : List ℕ) (step : LeaseStep) (read : LeaseRead) → asked_again g bytes step ≡ Some read → IsTrue (is_some (kept_heard g step (Read bytes)))
+again_is_kept g bytes step read = by step where
+  asked : {A : Type 0} (b : Bool) (r : LeaseRead) (kept : A) → elim b as (λ z. Option LeaseRead) [ false ↦ None | true ↦ Some r ] ≡ Some read → IsTrue (is_some (choose b kept))
+  asked true r kept is = refl
+  asked false r kept is = absurd (none_some read is)
+
+  never : {P : Type 0} (b : Bool) → elim b as (λ z. Option LeaseRead) [ false ↦ None | true ↦ None ] ≡ Some read → P
+  never true is = absurd (none_some read is)
+  never false is = absurd (none_some read is)
+
+  by : (s : LeaseStep) → asked_again g bytes s ≡ Some read → IsTrue (is_some (kept_heard g s (Read bytes)))
+  by (ReadArea name) is = asked (needs_again g (blocks_part g bytes)) (OfArea name) (pairs_kept g (blocks_part g bytes)) is
+  by ReadBeforeFree is = asked (needs_again g (blocks_part g bytes)) OfFree (pairs_kept g (blocks_part g bytes)) is
+  by ReadBeforeBlock is = asked (needs_again g bytes) OfBlock (pairs_kept g bytes) is
+  by Phase1Read is = asked (needs_again g bytes) OfPhase1 (pairs_kept g bytes) is
+  by Phase2Read is = asked (needs_again g bytes) OfPhase2 (pairs_kept g bytes) is
+  by s is = never (needs_again g (part_read g bytes s)) is
+
 itself : (s : LeaseStep) → is_second s ≡ false → is_second s ≡ false
 itself s is = is
 
-made_once : (p : LeasePlace) (k : LeaseKnown) (aim : Aim) (call n : ℕ) (step : LeaseStep) (a : Answer) → p.layout.paired ≡ false
-    → Only (λ b. IsAfterRead k step a b) (λ s. is_second s ≡ false) (lease_next p k aim call n step a)
-unfolding lease_next
-made_once p k aim call n step (Read bytes) plain =
-    subst (λ z. Only (λ b. IsAfterRead k step (Read bytes) b) (λ s. is_second s ≡ false) z) (sym (bytes_plain p k aim bytes step plain))
-    (read_by (λ s. is_second s ≡ false) itself p k aim bytes step (leader_of p.layout bytes) (blocks_in p.layout (part_read p.layout bytes (first_step step))) (first_step step) refl)
-made_once p k aim call n step Written plain = written (λ b. IsAfterRead k step Written b) (λ s. is_second s ≡ false) itself p k aim n step
-made_once p k aim call n step Failed plain = refused (λ b. IsAfterRead k step Failed b) (λ s. is_second s ≡ false) itself p k aim (IoFault call) refl
+once_by : (P : Block → Type 0) (kept : Option (List (Option PairBlock))) (next : LeaseNext) → Only P (λ s. is_second s ≡ false) next → IsOnceFor kept next
+once_by P kept (WriteBlock Phase2Write b) is = refl
+once_by P kept (WriteBlock s b) is = is
+once_by P kept (WriteLeader s l) is = is
+once_by P kept (ReadFor s) is = ap (λ b. not b || is_some kept) is
+once_by P kept next is = tt
 
-once_by : (P : Block → Type 0) (next : LeaseNext) → Only P (λ s. is_second s ≡ false) next → IsOnce next
-once_by P (WriteBlock Phase2Write b) is = refl
-once_by P (WriteBlock s b) is = is
-once_by P (WriteLeader s l) is = is
-once_by P (ReadFor s) is = is
-once_by P next is = tt
+made_once : (p : LeasePlace) (k : LeaseKnown) (aim : Aim) (call n : ℕ) (step : LeaseStep) (a : Answer) → IsOnceFor (kept_heard p.layout step a) (lease_next p k aim call n step a)
+unfolding lease_next after_bytes
+made_once p k aim call n step (Read bytes) = by (asked_again p.layout bytes step) refl where
+  by : (o : Option LeaseRead) → asked_again p.layout bytes step ≡ o → IsOnceFor (kept_heard p.layout step (Read bytes)) (elim o as (λ z. LeaseNext) [
+    | Some read ↦ ReadFor (ReadAgain read)
+    | None ↦ after_read p k aim (leader_read p.layout bytes (heard p.layout k bytes step)) (blocks_of p.layout (heard p.layout k bytes step)) (first_step step)
+  ])
+  by (Some read) is = again_is_kept p.layout bytes step read is
+  by None is =
+      once_by (λ b. IsAfterRead p.layout k step (Read bytes) b) (kept_heard p.layout step (Read bytes))
+      (after_read p k aim (leader_read p.layout bytes (heard p.layout k bytes step)) (blocks_of p.layout (heard p.layout k bytes step)) (first_step step))
+      (read_by (λ s. is_second s ≡ false) itself p k aim bytes step is (leader_read p.layout bytes (heard p.layout k bytes step)) (blocks_of p.layout (heard p.layout k bytes step)) (first_step step) refl)
+made_once p k aim call n step Written =
+    once_by (λ b. IsAfterRead p.layout k step Written b) (kept_heard p.layout step Written) (after_write p k aim n step) (written (λ b. IsAfterRead p.layout k step Written b) (λ s. is_second s ≡ false) itself p k aim n step)
+made_once p k aim call n step Failed =
+    once_by (λ b. IsAfterRead p.layout k step Failed b) (kept_heard p.layout step Failed) (refuses aim (IoFault call)) (refused (λ b. IsAfterRead p.layout k step Failed b) (λ s. is_second s ≡ false) itself p k aim (IoFault call) refl)
+
+-- ---- within the limit of turns
+
+-- What was decided, or a refusal.
+pub within_cases : (K : LeaseNext → Type 0) (p : LeasePlace) (k : LeaseKnown) (aim : Aim) (next : LeaseNext) → K next → ((r : Reply) → is_before_input r ≡ false → K (refuses aim r)) → K (within_turn p k aim next)
+unfolding within_turn
+within_cases K p k aim next its refused_by = by (p.layout.paired && not (is_number (k.turn + 1))) where
+  stopped : (z : LeaseNext) → K z → K (refuses_block aim z)
+  stopped (WriteBlock step b) kept = refused_by (LimitReached TurnLimit) refl
+  stopped (BecomeExclusive lver b) kept = refused_by (LimitReached TurnLimit) refl
+  stopped z kept = kept
+
+  by : (b : Bool) → K (elim b as (λ z. LeaseNext) [ false ↦ next | true ↦ refuses_block aim next ])
+  by false = its
+  by true = stopped next its
+
+-- So one that is no refusal was decided, a reply is no earlier, and a read is made once more as before.
+pub within_block : (p : LeasePlace) (k : LeaseKnown) (aim : Aim) (next : LeaseNext) (step : LeaseStep) (b : Block) → WriteBlock step b ≡ within_turn p k aim next → WriteBlock step b ≡ next
+within_block p k aim next step b = within_cases (λ z. WriteBlock step b ≡ z → WriteBlock step b ≡ next) p k aim next (λ is. is) (λ r late. by aim r) where
+  by : (z : Aim) (r : Reply) → WriteBlock step b ≡ refuses z r → WriteBlock step b ≡ next
+  by (Acquires mode) r is = absurd cc
+  by (Converts mode) r is = absurd cc
+  by Releases r is = absurd cc
+  by Settles r is = absurd cc
+
+pub within_late : (p : LeasePlace) (k : LeaseKnown) (aim : Aim) (next : LeaseNext) (r : Reply) → (next ≡ AnswerJob r → is_before_input r ≡ false) → AnswerJob r ≡ within_turn p k aim next → is_before_input r ≡ false
+within_late p k aim next r late = within_cases (λ z. AnswerJob r ≡ z → is_before_input r ≡ false) p k aim next (λ is. late (sym is)) (λ q later. by aim q later) where
+  same : (q : Reply) → is_before_input q ≡ false → AnswerJob r ≡ AnswerJob q → is_before_input r ≡ false
+  same q later is = (let one : r ≡ q = cc in ap (λ z. is_before_input z) one ∙ later)
+
+  by : (z : Aim) (q : Reply) → is_before_input q ≡ false → AnswerJob r ≡ refuses z q → is_before_input r ≡ false
+  by (Acquires mode) q later is = same q later is
+  by (Converts mode) q later is = same q later is
+  by Releases q later is = same q later is
+  by Settles q later is = absurd cc
+
+pub within_once : (p : LeasePlace) (k : LeaseKnown) (aim : Aim) (next : LeaseNext) (kept : Option (List (Option PairBlock))) → IsOnceFor kept next → IsOnceFor kept (within_turn p k aim next)
+within_once p k aim next kept its = within_cases (IsOnceFor kept) p k aim next its (λ r late. by aim r) where
+  by : (z : Aim) (r : Reply) → IsOnceFor kept (refuses z r)
+  by (Acquires mode) r = tt
+  by (Converts mode) r = tt
+  by Releases r = tt
+  by Settles r = tt
 
 pub phase_two_follows : PhaseTwoFollows
 phase_two_follows =
     record {
-      second = λ p k aim call n step a b is. subst (λ z. Only (λ c. IsAfterRead k step a c) (λ s. Unit {0}) z) is (decided p k aim call n step a);
-      late = λ p k aim call n step a r is. subst (λ z. Only (λ c. IsAfterRead k step a c) (λ s. Unit {0}) z) is (decided p k aim call n step a);
-      once = λ p k aim call n step a plain. once_by (λ b. IsAfterRead k step a b) (lease_next p k aim call n step a) (made_once p k aim call n step a plain);
+      second = λ p k aim call n step a b is. subst (λ z. Only (λ c. IsAfterRead p.layout k step a c) (λ s. Unit {0}) z) is (decided p k aim call n step a);
+      late = λ p k aim call n step a r is. subst (λ z. Only (λ c. IsAfterRead p.layout k step a c) (λ s. Unit {0}) z) is (decided p k aim call n step a);
+      once = made_once;
     }

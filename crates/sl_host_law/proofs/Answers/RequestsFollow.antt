@@ -170,7 +170,7 @@ module _ (number : ℕ) (c : OpenCall) (a : Answer) (h : HostState) (x : Step) (
           turn = refl;
           generation = refl;
           value = refl;
-          plain = refl;
+          again = refl;
           lease = refl;
         };
       }))

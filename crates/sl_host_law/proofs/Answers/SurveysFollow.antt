@@ -72,7 +72,7 @@ read_one : (i : Input) (h : HostState) (x : Step) (k : ℕ) (m : MemberState) (g
 read_one i h x k m g at =
     subst (λ (l : Layout). Stands i (reading_request m.who g h) (add_call_of m.who.number g.path SeeRequest (request_offset l g.offset) (ReadSectors 1) x)) (layout_is i h x at.stands)
     (calls_are_taken h k m g.path SeeRequest (request_offset h.config.layout g.offset) (ReadSectors 1) at.there
-    (record { later = refl; job = refl; turn = refl; generation = refl; value = refl; lease = refl; plain = refl }) i x at.stands)
+    (record { later = refl; job = refl; turn = refl; generation = refl; value = refl; lease = refl; again = refl }) i x at.stands)
 
 read_each : (ats : List Spot) (i : Input) (h : HostState) (x : Step) (k : ℕ) (m : MemberState) → IsMemberAt i h x k m
     → Stands i (over ats (reading_request_on m.who) h) (for_each ats (see_request_on m.who) x)

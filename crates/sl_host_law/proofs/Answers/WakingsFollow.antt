@@ -15,12 +15,11 @@ use Rattle.sl_host_state.specs.Kept.{HostState, MemberState}
 use Rattle.sl_host_state.specs.Makes.{is_ended_by_move}
 use Rattle.sl_host_state.specs.Stands.{Stands}
 use Rattle.sl_host_state.specs.declared.kept.JoinCall.{JoinCall}
-use Rattle.sl_trace.specs.LeaseWork.{settle_next}
 use Rattle.sl_trace.specs.declared.lease.LeaseNext.{LeaseNext}
 use Rattle.sl_host_law.proofs.Parts.MembersWake.{members_wake}
 use Rattle.sl_host_law.specs.Parts.Wakes.{delta_in, is_free_at, next_by_newest}
 use Rattle.sl_plain.proofs.Lists.{got_inside, kept}
-use Rattle.sl_host_law.specs.Questions.Answers.{known_in, place_in}
+use Rattle.sl_host_law.specs.Questions.Answers.{settling_in}
 use Rattle.sl_host_law.specs.Questions.Jobs.{running_in}
 use Rattle.sl_host_law.specs.Questions.Members.{IsMemberAt}
 use Rattle.sl_host_law.specs.Replies.Replies.{MayReply}
@@ -93,7 +92,7 @@ module _ (h : HostState) (x : Step) (k : ℕ) (m : MemberState) (at : IsMemberAt
           turn = ap (λ b. not (true && b)) idle.sector;
           generation = refl;
           value = refl;
-          plain = refl;
+          again = refl;
           lease = refl;
         };
       }
@@ -113,7 +112,7 @@ module _ (h : HostState) (x : Step) (k : ℕ) (m : MemberState) (at : IsMemberAt
           turn = ap (λ b. not (true && b)) idle.sector;
           generation = refl;
           value = refl;
-          plain = refl;
+          again = refl;
           lease = refl;
         };
       }
@@ -164,7 +163,7 @@ joins h x k m at may = subst (λ (y : Step). Stands Wake (joining_by_time m h) y
   by None its = at.stands
   by (Some j) its = runs j its (running_in h j) refl
 
-settles : (i : Input) (h : HostState) (x : Step) (k : ℕ) (m : MemberState) (at : Spot) (next : LeaseNext) → IsMemberAt i h x k m → next ≡ settle_next (place_in h m) (known_in h m x at)
+settles : (i : Input) (h : HostState) (x : Step) (k : ℕ) (m : MemberState) (at : Spot) (next : LeaseNext) → IsMemberAt i h x k m → next ≡ settling_in h m x at
     → (is_free_at h at ≡ true → MayCarryLease i h x m at Settling next) → Stands i (settling_at m at next h) (settle_on_wake m.who at x)
 settles i h x k m at next there rule may =
     subst (λ (y : Step). Stands i (settling_at m at next h) y) (sym ((members_wake i h x k m there).settling at ∙ ap (λ z. when (is_free_at h at) (carry_lease m.who at Settling z) x) (sym rule)))

@@ -3,7 +3,7 @@ use Rattle.sl_area.specs.Layouts.{Layout}
 use Rattle.sl_host_law.proofs.Calls.Calls.KeepsMore.{is_alone, keeps_more}
 use Rattle.sl_host_law.proofs.Calls.Calls.MemberMore.{MemberFits, called, more, newest, own_stands, stays_by_calls, others_stay}
 use Rattle.sl_host_law.proofs.Calls.Calls.PresentMore.{present_stay, sessions_stay}
-use Rattle.sl_host_law.specs.Calls.Calls.{CallFits, CallsAreTaken, fits_job, fits_lease, fits_value, is_idle_job, is_leaving_alone}
+use Rattle.sl_host_law.specs.Calls.Calls.{CallFits, CallsAreTaken, fits_again, fits_job, fits_lease, fits_value, is_idle_job, is_leaving_alone}
 use Rattle.sl_due.specs.Steps.{Step, seen}
 use Rattle.sl_host_law.proofs.Plain.IdleJobs.{idle_is_alone}
 use Rattle.sl_host_law.proofs.Plain.KeptJobs.{kept_numbered, leaving_numbered}
@@ -142,7 +142,7 @@ members_more h x k s call keeps there its fits i m at = from (at_mapped (member_
         generation = fits.generation;
         value = subst (λ g. fits_value g s (newest x call) ≡ true) same fits.value;
         lease = subst (λ g. fits_lease g s (newest x call) ≡ true) same fits.lease;
-        plain = fits.plain;
+        again = subst (λ g. fits_again g s (newest x call) ≡ true) same fits.again;
       }
 
   own : (z : MemberState) → slice_get h.members i ≡ Some z → (call.session == z.who.number) ≡ true → MemberStands x.setting (seen (more call x)) (called h.config.layout (newest x call) z)

@@ -140,7 +140,7 @@ present_begun h x job text a offset sectors fits s =
 -- ---- the members
 
 new_fits : (g : Layout) (x : Step) (h : HostState) (job : ℕ) (a : LockspaceArg) (offset sectors : ℕ) → MemberFits g (new_member h.config (begun h job a)) (newest x (first_read x h job a offset sectors))
-new_fits g x h job a offset sectors = record { turn = refl; generation = refl; value = refl; lease = refl; plain = refl }
+new_fits g x h job a offset sectors = record { turn = refl; generation = refl; value = refl; lease = refl; again = refl }
 
 members_begun : (h : HostState) (x : Step) (job : ℕ) (text : List ℕ) (a : LockspaceArg) (offset sectors : ℕ) → JoiningFits h job text a → Stands (Line text) h x → (i : ℕ) (m : MemberState)
     → slice_get (map (member_calling h.config.layout (newest x (first_read x h job a offset sectors))) (with_member (new_member h.config (begun h job a)) h.members)) i ≡ Some m

@@ -174,7 +174,6 @@ module _ (s : Start) where
       let next : s.process ≡ first_child + length ks = fits.number ∙ ap (λ n. first_child + n) (sym k.started) in
       record {
         config = k.config;
-        unpaired = k.unpaired;
         entries = k.entries;
         calls = ap (λ ms. x.setting.first.call + length ms) (same_calls x) ∙ k.calls;
         lines = k.lines;

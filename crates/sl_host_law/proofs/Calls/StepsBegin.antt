@@ -50,7 +50,6 @@ keeps_begun : (h : HostState) (st : Setting) (es : Trace) (now : ℕ) → Keeps 
 keeps_begun h st es now k =
     record {
       config = k.config;
-      unpaired = k.unpaired;
       entries = (let e : length es ≡ h.entries = k.entries in let n : suc (length es) ≡ h.entries + 1 = omega (arith, e) in n);
       calls = k.calls;
       lines = k.lines;
@@ -96,7 +95,6 @@ worked_out h now quiet i x s =
           (let k = s.keeps in
           record {
             config = k.config;
-            unpaired = k.unpaired;
             entries = k.entries;
             calls = k.calls;
             lines = k.lines;

@@ -13,7 +13,6 @@ module _ (h : HostState) (until : ℕ) where
   keeps st es k =
       record {
         config = k.config;
-        unpaired = k.unpaired;
         entries = k.entries;
         calls = k.calls;
         lines = k.lines;

@@ -55,7 +55,7 @@ renewal_fits h m d busy generation =
       generation = ap (λ n. n == m.known.generation || is_empty m.leases) generation ∙ ap (λ b. b || is_empty m.leases) (number_itself m.known.generation);
       value = refl;
       lease = refl;
-      plain = refl;
+      again = refl;
     }
 
 -- And the free, where its job waits for no call.
@@ -69,7 +69,7 @@ free_fits h m j d job busy generation =
       generation = ap (λ n. n == m.known.generation || is_empty m.leases) generation ∙ ap (λ b. b || is_empty m.leases) (number_itself m.known.generation);
       value = refl;
       lease = refl;
-      plain = refl;
+      again = refl;
     }
 
 -- The sector's place, by the configuration.

@@ -1,7 +1,8 @@
 -- A command line as a whole.
 use Rattle.sl_acts.proofs.DecisionsAreTheirs.{decisions_are_theirs}
 use Rattle.sl_acts.specs.Promises.{IsDecidedFor}
-use Rattle.sl_area.specs.Places.{delta_offset, value_offset}
+use Rattle.sl_area.specs.Layouts.{Layout}
+use Rattle.sl_area.specs.Places.{area_sectors, delta_offset, value_offset}
 use Rattle.sl_host_law.proofs.Calls.Calls.SpotsMore.{one_spot}
 use Rattle.sl_host_law.proofs.Calls.CallsAreTaken.{calls_are_taken}
 use Rattle.sl_host_law.proofs.Calls.InputsAreHeard.{inputs_are_heard}
@@ -53,7 +54,6 @@ use Rattle.sl_words.proofs.CaseLaws.{false_is_true, none_some}
 use Rattle.sl_words.proofs.WordLaws.{and_true}
 use Rattle.sl_words.specs.Results.{◌>>=◌}
 use Rattle.sl_words.specs.Words.{least}
-use Rattle.sl_host_law.proofs.Plain.BlocksHaveOneSector.{hosts_are}
 use Rattle.std.proofs.Common.{ap, arith, inl, refl, subst, sym, ◌∙◌}
 use Rattle.std.proofs.lemmas.Bool.Decides.{Decides-eqb}
 use Rattle.std.specs.List.{list_any}
@@ -177,7 +177,7 @@ requests : (h : HostState) (x : Step) (text : List ℕ) (c : Command) (s : Sessi
 unfolding carry_decision
 requests h x text c s r k m l by =
     calls h x text c (Requests s r) s k m r.path (RequestRead h.next_job) r.offset (ReadSectors 2) l by refl
-    (record { later = refl; job = idle_or h c m; turn = refl; generation = refl; value = refl; lease = refl; plain = refl }) refl
+    (record { later = refl; job = idle_or h c m; turn = refl; generation = refl; value = refl; lease = refl; again = refl }) refl
 
 -- Offsets, by the configuration.
 value_place : (h : HostState) (x : Step) (at : Spot) → Stands Wake h x → value_offset x.setting.layout at.base ≡ value_offset h.config.layout at.base
@@ -188,7 +188,7 @@ gets : (h : HostState) (x : Step) (text : List ℕ) (c : Command) (s : Session) 
 unfolding carry_decision
 gets h x text c s at k m l by =
     calls h x text c (GetsValue s at) s k m at.path (ValueRead h.next_job) (value_offset h.config.layout at.base) (ReadSectors 1) l by refl
-    (record { later = refl; job = idle_or h c m; turn = refl; generation = refl; value = refl; lease = refl; plain = refl })
+    (record { later = refl; job = idle_or h c m; turn = refl; generation = refl; value = refl; lease = refl; again = refl })
     (ap (λ o. add_call_of s.number at.path (ValueRead h.next_job) o (ReadSectors 1) (with_input (Line text) x)) (value_place h x at l.stands))
 
 sets : (h : HostState) (x : Step) (text : List ℕ) (c : Command) (s : Session) (at : Spot) (v : ValueRec) (k : ℕ) (m : MemberState) → LineComes h x text c (SetsValue s at v) → HeardBy h c k m s
@@ -197,17 +197,17 @@ sets : (h : HostState) (x : Step) (text : List ℕ) (c : Command) (s : Session) 
 unfolding carry_decision
 sets h x text c s at v k m l by on =
     calls h x text c (SetsValue s at v) s k m at.path (ValueWrite h.next_job) (value_offset h.config.layout at.base) (WriteRecord (ValueIs v)) l by refl
-    (record { later = refl; job = idle_or h c m; turn = refl; generation = refl; value = on; lease = refl; plain = refl })
+    (record { later = refl; job = idle_or h c m; turn = refl; generation = refl; value = on; lease = refl; again = refl })
     (ap (λ o. add_call_of s.number at.path (ValueWrite h.next_job) o (WriteRecord (ValueIs v)) (with_input (Line text) x)) (value_place h x at l.stands))
 
 reads : (h : HostState) (x : Step) (text : List ℕ) (c : Command) (s : Session) (r : ResourceArg) (k : ℕ) (m : MemberState) → LineComes h x text c (ReadsArea s r) → HeardBy h c k m s
-    → IsTrue (fits_lease h.config.layout m (next_submitted h m.who.number r.path (Lease (ForJob h.next_job) (ReadArea r.name)) r.offset (ReadSectors (h.config.layout.hosts + 2))))
-    → Stands (Line text) (with_call m.who.number r.path (Lease (ForJob h.next_job) (ReadArea r.name)) r.offset (ReadSectors (h.config.layout.hosts + 2)) (heard_line c h)) (on_line text x)
+    → IsTrue (fits_lease h.config.layout m (next_submitted h m.who.number r.path (Lease (ForJob h.next_job) (ReadArea r.name)) r.offset (ReadSectors (area_sectors h.config.layout))))
+    → Stands (Line text) (with_call m.who.number r.path (Lease (ForJob h.next_job) (ReadArea r.name)) r.offset (ReadSectors (area_sectors h.config.layout)) (heard_line c h)) (on_line text x)
 unfolding carry_decision
 reads h x text c s r k m l by free =
-    calls h x text c (ReadsArea s r) s k m r.path (Lease (ForJob h.next_job) (ReadArea r.name)) r.offset (ReadSectors (h.config.layout.hosts + 2)) l by refl
-    (record { later = refl; job = idle_or h c m; turn = refl; generation = refl; value = refl; lease = free; plain = refl })
-    (ap (λ n. add_call_of s.number r.path (Lease (ForJob h.next_job) (ReadArea r.name)) r.offset (ReadSectors (n + 2)) (with_input (Line text) x)) (hosts_are Wake h x l.stands))
+    calls h x text c (ReadsArea s r) s k m r.path (Lease (ForJob h.next_job) (ReadArea r.name)) r.offset (ReadSectors (area_sectors h.config.layout)) l by refl
+    (record { later = refl; job = idle_or h c m; turn = refl; generation = refl; value = refl; lease = free; again = refl })
+    (ap (λ (g : Layout). add_call_of s.number r.path (Lease (ForJob h.next_job) (ReadArea r.name)) r.offset (ReadSectors (area_sectors g)) (with_input (Line text) x)) (layout_is h x l.stands))
 
 -- ---- a lease that waits has an open call on its area
 

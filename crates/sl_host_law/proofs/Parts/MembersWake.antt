@@ -14,13 +14,13 @@ use Rattle.sl_host_state.specs.Hears.{setting_of}
 use Rattle.sl_host_state.specs.Kept.{Config, HostState, MemberState}
 use Rattle.sl_host_state.specs.Makes.{has_write_open}
 use Rattle.sl_host_state.specs.Stands.{Keeps, MemberStands, bits_of, is_joining, kept_call, newest_of}
-use Rattle.sl_trace.specs.LeaseWork.{lease_place, settle_begin, settle_next}
+use Rattle.sl_trace.specs.LeaseWork.{LeasePlace, settle_begin, within_turn}
 use Rattle.sl_trace.specs.Leases.{is_on, known, lease_spots, open_on}
 use Rattle.sl_host_law.specs.Parts.Wakes.{MembersWake, bits_in, delta_in, is_free_at, next_by_newest}
 use Rattle.sl_plain.proofs.Lists.{any_found, any_of, contains_first, kept, kept_inside}
 use Rattle.sl_plain.proofs.Options.{none_is}
 use Rattle.sl_host_law.proofs.Questions.MembersAnswer.{members_answer}
-use Rattle.sl_host_law.specs.Questions.Answers.{known_in, place_in}
+use Rattle.sl_host_law.specs.Questions.Answers.{place_in, settling_in}
 use Rattle.sl_host_law.specs.Questions.Jobs.{running_in}
 use Rattle.sl_host_law.specs.Questions.Members.{IsMemberAt, MemberAnswers, has_call_open}
 use Rattle.sl_trace.specs.Deltas.{DeltaLease, delta_known, delta_of_session, join_step_of, next_by_time, next_free, next_on_wake, next_renewal}
@@ -40,8 +40,8 @@ use Rattle.sl_trace.specs.declared.input.Given.{Given}
 use Rattle.sl_trace.specs.declared.input.Input.{Input}
 use Rattle.sl_words.proofs.CaseLaws.{is_false, none_some, some_value, true_is_false}
 use Rattle.sl_words.specs.Words.{choose, is_empty}
-use Rattle.sl_trace.proofs.PlainWork.{begin_plain, within_plain}
-use Rattle.sl_host_law.proofs.Plain.BlocksHaveOneSector.{setting_plain}
+use Rattle.sl_trace.specs.Leases.{LeaseKnown}
+use Rattle.sl_trace.specs.declared.lease.LeaseNext.{LeaseNext}
 use Rattle.sl_acts.specs.Acts.{next_of_settling}
 use Rattle.sl_trace.specs.declared.lease.Aim.TheVariants.{Settles}
 use Rattle.std.proofs.Common.{ap, refl, subst, sym, ◌∙◌}
@@ -198,14 +198,14 @@ module _ (i : Input) (h : HostState) (x : Step) (k : ℕ) (m : MemberState) (at 
       ap (λ b. when b (for_each (lease_spots x.setting (seen x) m.who) (settle_on_wake m.who)) x) says.active
       ∙ ap (λ ss. when (is_active_member m) (for_each ss (settle_on_wake m.who)) x) says.spots
 
-  known_is : (spot : Spot) → next_of_settling x.setting (seen x) m.who spot ≡ settle_next (place_in h m) (known_in h m x spot)
+  known_is : (spot : Spot) → next_of_settling x.setting (seen x) m.who spot ≡ settling_in h m x spot
   known_is spot =
-      within_plain (lease_place x.setting m.who) (known x.setting (seen x) m.who spot) Settles (settle_begin (lease_place x.setting m.who) (known x.setting (seen x) m.who spot)) (setting_plain i h x at.stands)
-      ∙ begin_plain (lease_place x.setting m.who) (known x.setting (seen x) m.who spot) (setting_plain i h x at.stands)
-      ∙ ap (λ (c : Config). settle_next (record { layout = c.layout; lockspace = m.who.lockspace }) (known x.setting (seen x) m.who spot)) at.stands.keeps.config
-      ∙ ap (settle_next (place_in h m)) (says.lease spot)
+      ap (λ (c : Config). next_by (record { layout = c.layout; lockspace = m.who.lockspace }) (known x.setting (seen x) m.who spot)) at.stands.keeps.config
+      ∙ ap (next_by (place_in h m)) (says.lease spot) where
+        next_by : LeasePlace → LeaseKnown → LeaseNext
+        next_by p k = within_turn p k Settles (settle_begin p k)
 
-  settling : (spot : Spot) → settle_on_wake m.who spot x ≡ when (is_free_at h spot) (carry_lease m.who spot Settling (settle_next (place_in h m) (known_in h m x spot))) x
+  settling : (spot : Spot) → settle_on_wake m.who spot x ≡ when (is_free_at h spot) (carry_lease m.who spot Settling (settling_in h m x spot)) x
   unfolding settle_on_wake settle
   settling spot =
       ap (λ b. when b (λ y. carry_lease m.who spot Settling (next_of_settling y.setting (seen y) m.who spot) y) x) (free_is h x.setting (seen x) spot at.stands.keeps)

@@ -10,12 +10,12 @@ use Rattle.sl_host_state.specs.Kept.{Config, HostState, MemberState}
 use Rattle.sl_host_state.specs.Stands.{config_of, kept_call, pair_of}
 use Rattle.sl_host_state.specs.declared.kept.OpenCall.{OpenCall}
 use Rattle.sl_trace.specs.Jobs.{aim_of}
-use Rattle.sl_trace.specs.LeaseWork.{LeasePlace, lease_next, lease_place}
+use Rattle.sl_trace.specs.LeaseWork.{LeasePlace, lease_next, within_turn}
 use Rattle.sl_trace.specs.Leases.{LeaseKnown, exclusive_on, known, lease_step, lver_written, spot_of_call, value_written}
 use Rattle.sl_trace.specs.declared.lease.Aim.{Aim}
 use Rattle.sl_host_law.proofs.Questions.JobsAnswer.{jobs_answer, work_goes_on}
 use Rattle.sl_host_law.proofs.Questions.MembersAnswer.{members_answer}
-use Rattle.sl_host_law.specs.Questions.Answers.{AnswerDecides, AnswersDecide, IsCallOf, for_job_in, joining_in_step, known_in, lease_in_step, place_in, seen_request_in, set_reply_in, spot_in, survey_in_step}
+use Rattle.sl_host_law.specs.Questions.Answers.{AnswerDecides, AnswersDecide, IsCallOf, for_job_in, joining_in_step, known_in, lease_in_step, next_in, place_in, seen_request_in, set_reply_in, spot_in, survey_in_step}
 use Rattle.sl_host_law.specs.Questions.Jobs.{JobAnswers, aim_in, command_in, goes_on_in, running_in}
 use Rattle.sl_host_law.specs.Questions.Members.{MemberAnswers, begins_by_read_in, exclusive_at}
 use Rattle.sl_sector.specs.declared.sector.ValueRec.{ValueRec}
@@ -28,14 +28,12 @@ use Rattle.sl_trace.specs.declared.command.Command.{Command}
 use Rattle.sl_trace.specs.declared.effects.Grant.{Grant}
 use Rattle.sl_trace.specs.declared.effects.JoinStep.{JoinStep}
 use Rattle.sl_trace.specs.declared.effects.LeaseStep.{LeaseStep}
-use Rattle.sl_trace.specs.declared.effects.Spot.{Spot}
 use Rattle.sl_trace.specs.declared.effects.Work.{Work}
 use Rattle.sl_trace.specs.declared.input.Answer.TheVariants.{Failed, Read, Written}
 use Rattle.sl_trace.specs.declared.input.Answer.{Answer}
 use Rattle.sl_trace.specs.declared.input.Input.{Input}
 use Rattle.sl_trace.specs.declared.reply.Reply.TheVariants.{Done, IoFault, ValueSet}
-use Rattle.sl_trace.proofs.PlainWork.{within_plain}
-use Rattle.sl_host_law.proofs.Plain.BlocksHaveOneSector.{setting_plain}
+use Rattle.sl_trace.specs.declared.lease.LeaseNext.{LeaseNext}
 use Rattle.std.proofs.Common.{ap, refl, ◌∙◌}
 use Rattle.std.specs.Option.{option_map_or}
 use Rattle.std.specs.Prelude.{Bool, List, None, Option, Some, false, is_some, not, option_map, true, ℕ, ◌≡◌}
@@ -120,25 +118,21 @@ module _ (i : Input) (h : HostState) (x : Step) (k : ℕ) (m : MemberState) (d :
         | true ↦ with_some (aim_of x.setting (seen x) work) (λ aim y. carry_lease m.who (spot_of_call y.setting.layout d) work (next_of_lease y.setting (seen y) m.who (spot_of_call y.setting.layout d) aim d step a) y) x
       ]) (work_goes_on i h x k m d work step call.at call.inside (ap lease_step purpose ∙ is))
       ∙ by (goes_on_in h m work) refl where
-        -- What the lease decides, by what is known of it.
-        next_by : Spot → LeasePlace → LeaseKnown → ℕ → ℕ → Aim → Step
-        next_by at p known n lver aim = carry_lease m.who at work (lease_next p known aim n lver step a) x
+        -- What the lease decides, by where it stands, what is known of it, and its call.
+        next_by : LeasePlace → LeaseKnown → Aim → ℕ → ℕ → LeaseNext
+        next_by p known aim n lver = within_turn p known aim (lease_next p known aim n lver step a)
 
         of_aim : (aim : Aim) → carry_lease m.who (spot_of_call x.setting.layout d) work (next_of_lease x.setting (seen x) m.who (spot_of_call x.setting.layout d) aim d step a) x
-            ≡ carry_lease m.who (spot_in h.config.layout c) work (lease_next (place_in h m) (known_in h m x (spot_in h.config.layout c)) aim c.number c.lver step a) x
+            ≡ carry_lease m.who (spot_in h.config.layout c) work (next_in h m x (spot_in h.config.layout c) c aim step a) x
         of_aim aim =
-            ap (λ next. carry_lease m.who (spot_of_call x.setting.layout d) work next x)
-            (within_plain (lease_place x.setting m.who) (known x.setting (seen x) m.who (spot_of_call x.setting.layout d)) aim
-            (lease_next (lease_place x.setting m.who) (known x.setting (seen x) m.who (spot_of_call x.setting.layout d)) aim d.call.number (lver_written d) step a)
-            (setting_plain i h x call.at.stands))
-            ∙ ap (λ at. carry_lease m.who at work (lease_next (lease_place x.setting m.who) (known x.setting (seen x) m.who at) aim d.call.number (lver_written d) step a) x) spot
-            ∙ ap (λ (z : Config). carry_lease m.who (spot_in h.config.layout c) work (lease_next (record { layout = z.layout; lockspace = m.who.lockspace }) (known x.setting (seen x) m.who (spot_in h.config.layout c)) aim d.call.number (lver_written d) step a) x) config
-            ∙ ap (λ (q : LeaseKnown). carry_lease m.who (spot_in h.config.layout c) work (lease_next (place_in h m) q aim d.call.number (lver_written d) step a) x) (its.lease (spot_in h.config.layout c))
-            ∙ ap (λ (z : OpenCall). carry_lease m.who (spot_in h.config.layout c) work (lease_next (place_in h m) (known_in h m x (spot_in h.config.layout c)) aim z.number z.lver step a) x) call.kept
+            ap (λ at. carry_lease m.who at work (next_of_lease x.setting (seen x) m.who at aim d step a) x) spot
+            ∙ ap (λ (z : Config). carry_lease m.who (spot_in h.config.layout c) work (next_by (record { layout = z.layout; lockspace = m.who.lockspace }) (known x.setting (seen x) m.who (spot_in h.config.layout c)) aim d.call.number (lver_written d)) x) config
+            ∙ ap (λ (q : LeaseKnown). carry_lease m.who (spot_in h.config.layout c) work (next_by (place_in h m) q aim d.call.number (lver_written d)) x) (its.lease (spot_in h.config.layout c))
+            ∙ ap (λ (z : OpenCall). carry_lease m.who (spot_in h.config.layout c) work (next_by (place_in h m) (known_in h m x (spot_in h.config.layout c)) aim z.number z.lver) x) call.kept
 
         of_aims : (o : Option Aim)
             → with_some o (λ aim y. carry_lease m.who (spot_of_call y.setting.layout d) work (next_of_lease y.setting (seen y) m.who (spot_of_call y.setting.layout d) aim d step a) y) x
-            ≡ with_some o (λ aim. carry_lease m.who (spot_in h.config.layout c) work (lease_next (place_in h m) (known_in h m x (spot_in h.config.layout c)) aim c.number c.lver step a)) x
+            ≡ with_some o (λ aim. carry_lease m.who (spot_in h.config.layout c) work (next_in h m x (spot_in h.config.layout c) c aim step a)) x
         of_aims None = refl
         of_aims (Some aim) = of_aim aim
 
@@ -149,7 +143,7 @@ module _ (i : Input) (h : HostState) (x : Step) (k : ℕ) (m : MemberState) (d :
             ]
             ≡ elim b as (λ z. Step) [
               | false ↦ x
-              | true ↦ with_some (aim_in h work) (λ aim. carry_lease m.who (spot_in h.config.layout c) work (lease_next (place_in h m) (known_in h m x (spot_in h.config.layout c)) aim c.number c.lver step a)) x
+              | true ↦ with_some (aim_in h work) (λ aim. carry_lease m.who (spot_in h.config.layout c) work (next_in h m x (spot_in h.config.layout c) c aim step a)) x
             ]
         by false goes = refl
         by true goes =

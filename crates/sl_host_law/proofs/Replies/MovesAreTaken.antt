@@ -207,7 +207,6 @@ module _ (st : Setting) (past : Trace) (now : ℕ) (i : Input) (fx : Effects) (m
   keeps_moved k begun =
       record {
         config = k.config;
-        unpaired = k.unpaired;
         entries = k.entries;
         calls = ap (λ ms. st.first.call + length ms) calls_stay ∙ k.calls;
         lines = k.lines;

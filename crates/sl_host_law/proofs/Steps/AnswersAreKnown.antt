@@ -6,32 +6,39 @@ use Rattle.sl_host_law.proofs.Answers.LeasesSetFree.{call_told, leases_set_free,
 use Rattle.sl_host_law.specs.Answers.Answering.{IsAnswerTo}
 use Rattle.sl_host_law.specs.Answers.LeaseAnswers.{area_of}
 use Rattle.sl_area.specs.Layouts.{Layout}
+use Rattle.sl_area.specs.Places.{blocks_of, blocks_part, leader_read, needs_again, read_once}
+use Rattle.sl_host_state.proofs.Pairs.{again_is, blocks_are_shown, second_finds}
 use Rattle.sl_host_law.proofs.Calls.Calls.SpotsMore.{on_own, one_spot}
 use Rattle.sl_due.specs.Steps.{Step, seen, with_input}
 use Rattle.sl_host_law.proofs.Plain.PlainLists.{at_some, each_of}
-use Rattle.sl_host_state.specs.Hears.{blocks_shown, heard_answer, hearing, is_heeded_by, lease_told, member_hearing}
-use Rattle.sl_host_state.specs.Kept.{Config, HostState, LeaseState, MemberState}
+use Rattle.sl_host_state.specs.Hears.{blocks_shown, heard_answer, hearing, is_block_step, is_heeded_by, lease_told, member_hearing}
+use Rattle.sl_host_state.specs.Kept.{Config, HostState, LeaseState, MemberState, PairState}
 use Rattle.sl_host_state.specs.Makes.{is_lease_on}
 use Rattle.sl_host_state.specs.New.{IsOfProgram}
-use Rattle.sl_host_state.specs.Stands.{IsWaiting, LeaseStands, Stands, is_plain_call, kept_call}
+use Rattle.sl_host_state.specs.Stands.{IsWaiting, LeaseStands, Stands, kept_call}
 use Rattle.sl_host_state.specs.declared.kept.LeaseCall.{LeaseCall}
 use Rattle.sl_host_state.specs.declared.kept.OpenCall.{OpenCall}
-use Rattle.sl_host_law.proofs.Steps.LeasesAreKnown.{kept_tops, known_is, lease_is, read_tops, settles_alike}
+use Rattle.sl_host_law.proofs.Steps.LeasesAreKnown.{kept_tops, known_is, lease_is, read_tops, settles_alike, stands as lease_stands, within_alike}
 use Rattle.sl_host_law.specs.Steps.Leases.{answered_next, blocks_at, kept_blocks, known_by}
-use Rattle.sl_trace.specs.LeaseWork.{lease_next, settle_next}
-use Rattle.sl_trace.specs.Leases.{blocks_given, is_again, is_lease_call, is_on, is_second, last_blocks, lease_calls, lease_step, spot_of_call, turn_written}
+use Rattle.sl_trace.specs.LeaseWork.{LeasePlace, after_bytes, after_read, asked_again, first_step, heard, lease_next, part_read, settle_next, step_of_read, within_turn}
+use Rattle.sl_trace.specs.Leases.{LeaseKnown, blocks_given, given_with, is_lease_call, is_on, is_second, last_blocks, lease_calls, lease_step, spot_of_call}
 use Rattle.sl_trace.specs.declared.lease.Aim.TheVariants.{Acquires, Converts, Settles}
 use Rattle.sl_trace.specs.declared.lease.Aim.{Aim}
+use Rattle.sl_trace.specs.declared.lease.LeaseNext.TheVariants.{Nothing, ReadFor}
+use Rattle.sl_trace.specs.declared.lease.LeaseNext.{LeaseNext}
 use Rattle.sl_plain.proofs.Lists.{contains_cases, find_inside, in_map, kept}
-use Rattle.sl_host_law.specs.Questions.Answers.{known_in, place_in, spot_in}
-use Rattle.sl_host_law.specs.Questions.Members.{IsMemberAt}
+use Rattle.sl_host_law.specs.Questions.Answers.{next_in, place_in, spot_in}
+use Rattle.sl_host_law.specs.Questions.Members.{IsMemberAt, me_in}
 use Rattle.sl_host_law.proofs.Replies.Answers.AnswerMarksOneCall.{hear, hear_by, picked, same_call, told}
 use Rattle.sl_sector.specs.declared.sector.Block.{Block}
+use Rattle.sl_sector.specs.declared.sector.PairBlock.{PairBlock}
 use Rattle.sl_trace.specs.Sessions.{calls_of, me}
 use Rattle.sl_trace.specs.declared.session.Session.{Session}
 use Rattle.sl_trace.specs.Traces.{Submitted, answer_of, bytes_given, gave, submitted}
 use Rattle.sl_trace.specs.declared.effects.Call.{Call}
 use Rattle.sl_trace.specs.declared.effects.Effects.{Effects}
+use Rattle.sl_trace.specs.declared.effects.LeaseRead.TheVariants.{OfArea, OfBlock, OfFree, OfPhase1, OfPhase2}
+use Rattle.sl_trace.specs.declared.effects.LeaseRead.{LeaseRead}
 use Rattle.sl_trace.specs.declared.effects.LeaseStep.TheVariants.{ClearMode, FreeLeader, Phase1Read, Phase2Read, ReadAgain, ReadArea, ReadBeforeBlock, ReadBeforeFree, TakeLeader}
 use Rattle.sl_trace.specs.declared.effects.LeaseStep.{LeaseStep}
 use Rattle.sl_trace.specs.declared.effects.Mode.TheVariants.{Exclusive, Shared}
@@ -42,14 +49,11 @@ use Rattle.sl_trace.specs.declared.input.Answer.TheVariants.{Failed, Read, Writt
 use Rattle.sl_trace.specs.declared.input.Answer.{Answer}
 use Rattle.sl_trace.specs.declared.input.Input.TheVariants.{Answer as Told, Wake}
 use Rattle.sl_trace.specs.declared.input.Input.{Input}
-use Rattle.sl_words.proofs.CaseLaws.{false_is_true, true_is_false}
-use Rattle.sl_words.specs.Words.{some_is}
-use Rattle.sl_trace.proofs.PlainWork.{bytes_plain}
-use Rattle.sl_host_law.proofs.Replies.Answers.LeaseHearsAnswer.{shown_by}
-use Rattle.sl_words.proofs.WordLaws.{and_true}
+use Rattle.sl_words.proofs.CaseLaws.{false_is_true, none_some, true_is_false}
+use Rattle.sl_words.specs.Words.{choose}
 use Rattle.std.proofs.Common.{ap, inl, inr, refl, subst, sym, ◌∙◌}
 use Rattle.std.specs.Option.{option_or}
-use Rattle.std.specs.Prelude.{Bool, Contains, IsTrue, List, None, Option, Some, false, filter, find, is_none, is_some, map, not, true, unwrap_or, [], ℕ, ◌&&◌, ◌<◌, ◌==◌, ◌∷◌, ◌≡◌, ◌⊎◌}
+use Rattle.std.specs.Prelude.{Bool, Contains, IsTrue, List, None, Option, Some, false, filter, find, is_some, map, not, option_map, true, unwrap_or, [], ℕ, ◌&&◌, ◌<◌, ◌==◌, ◌∷◌, ◌≡◌, ◌⊎◌}
 
 -- ---- the newest call
 
@@ -97,20 +101,92 @@ gives_heard n a x d its open_d =
 
 -- ---- what comes next
 
+-- A step that reads no blocks decides nothing by a read.
+reads_nothing : (p : LeasePlace) (k : LeaseKnown) (aim : Aim) (bytes : List ℕ) (step : LeaseStep) → is_block_step step ≡ false → after_bytes p k aim bytes step ≡ Nothing
+unfolding after_bytes
+reads_nothing p k aim bytes step = by step where
+  never : (b : Bool) (next : LeaseNext) → elim (elim b as (λ z. Option LeaseRead) [ false ↦ None | true ↦ None ]) as (λ z. LeaseNext) [ Some read ↦ ReadFor (ReadAgain read) | None ↦ next ] ≡ next
+  never true next = refl
+  never false next = refl
+
+  by : (s : LeaseStep) → is_block_step s ≡ false
+      → elim (asked_again p.layout bytes s) as (λ z. LeaseNext) [
+        | Some read ↦ ReadFor (ReadAgain read)
+        | None ↦ after_read p k aim (leader_read p.layout bytes (heard p.layout k bytes s)) (blocks_of p.layout (heard p.layout k bytes s)) (first_step s)
+      ]
+      ≡ Nothing
+  by (ReadArea name) is = absurd (true_is_false is)
+  by ReadBeforeFree is = absurd (true_is_false is)
+  by ReadBeforeBlock is = absurd (true_is_false is)
+  by (ReadAgain read) is = absurd (true_is_false is)
+  by Phase1Read is = absurd (true_is_false is)
+  by Phase2Read is = absurd (true_is_false is)
+  by s is = never (needs_again p.layout (part_read p.layout bytes s)) Nothing
+
+-- Where a read is to be made once more nothing else is asked.
+again_decides : (p : LeasePlace) (k : LeaseKnown) (aim : Aim) (bytes : List ℕ) (step : LeaseStep) (read : LeaseRead) → asked_again p.layout bytes step ≡ Some read
+    → after_bytes p k aim bytes step ≡ ReadFor (ReadAgain read)
+unfolding after_bytes
+again_decides p k aim bytes step read is =
+    ap (λ o. elim o as (λ z. LeaseNext) [
+      | Some r ↦ ReadFor (ReadAgain r)
+      | None ↦ after_read p k aim (leader_read p.layout bytes (heard p.layout k bytes step)) (blocks_of p.layout (heard p.layout k bytes step)) (first_step step)
+    ]) is
+
+-- A read that shows no blocks is made once more, or reads none.
+none_shown : (g : Layout) (p : PairState) (bytes : List ℕ) (step : LeaseStep) → (is_second step ≡ true → IsTrue (is_some p.first)) → blocks_shown g p step (Read bytes) ≡ None
+    → ((read : LeaseRead) × (asked_again g bytes step ≡ Some read)) ⊎ (is_block_step step ≡ false)
+none_shown g p bytes step = by step where
+  first : (b : Bool) (r : LeaseRead) (bs : List ℕ) → option_map (blocks_of g) (choose (not b) (read_once bs)) ≡ None
+      → (read : LeaseRead) × (elim b as (λ z. Option LeaseRead) [ false ↦ None | true ↦ Some r ] ≡ Some read)
+  first true r bs none = (r, refl)
+  first false r bs none = absurd (none_some (blocks_of g (read_once bs)) (sym none))
+
+  second : (o : Option (List (Option PairBlock))) (bs : List ℕ) → IsTrue (is_some o) → option_map (blocks_of g) (given_with g true o (Some bs)) ≡ None → ⊥
+  second None bs some none = false_is_true some
+  second (Some pairs) bs some none = none_some (blocks_of g (record { kept = pairs; last = bs })) (sym none)
+
+  by : (s : LeaseStep) → (is_second s ≡ true → IsTrue (is_some p.first)) → blocks_shown g p s (Read bytes) ≡ None → ((read : LeaseRead) × (asked_again g bytes s ≡ Some read)) ⊎ (is_block_step s ≡ false)
+  by (ReadArea name) kept none = inl (first (needs_again g (blocks_part g bytes)) (OfArea name) (blocks_part g bytes) none)
+  by ReadBeforeFree kept none = inl (first (needs_again g (blocks_part g bytes)) OfFree (blocks_part g bytes) none)
+  by ReadBeforeBlock kept none = inl (first (needs_again g bytes) OfBlock bytes none)
+  by Phase1Read kept none = inl (first (needs_again g bytes) OfPhase1 bytes none)
+  by Phase2Read kept none = inl (first (needs_again g bytes) OfPhase2 bytes none)
+  by (ReadAgain read) kept none = absurd (second p.first (part_read g bytes (step_of_read read)) (kept refl) none)
+  by s kept none = inr refl
+
 -- With these blocks in place of those that were read last: only a settling asks for them, and of all of them the greatest number is enough.
 module _ (i : Input) (h : HostState) (x : Step) (k : ℕ) (m : MemberState) (at : IsMemberAt i h x k m) (area : Spot) (l : LeaseState) (its : find (is_lease_on area) m.leases ≡ Some l) where
   abbrev last : List (Option Block)
   last = last_blocks h.config.layout (lease_calls x.setting (seen x) m.who area)
 
-  next_alike : IsOfProgram h.config.layout → (aim : Aim) (call n : ℕ) (step : LeaseStep) (a : Answer) (older : List (Option Block))
-      → last_blocks h.config.layout (lease_calls x.setting (seen x) m.who area) ≡ unwrap_or (blocks_shown h.config.layout step a) older
+  -- After a read: its own blocks, where it shows some.
+  read_alike : (aim : Aim) (step : LeaseStep) (bytes : List ℕ) (older : List (Option Block)) → (is_second step ≡ true → IsTrue (is_some l.pair.first))
+      → last_blocks h.config.layout (lease_calls x.setting (seen x) m.who area) ≡ unwrap_or (blocks_shown h.config.layout l.pair step (Read bytes)) older
+      → after_bytes (place_in h m) (known_by h m area l (blocks_at h.config.layout l step (Read bytes))) aim bytes step
+      ≡ after_bytes (place_in h m) (known_by h m area l (last_blocks h.config.layout (lease_calls x.setting (seen x) m.who area))) aim bytes step
+  read_alike aim step bytes older kept same = by (blocks_shown h.config.layout l.pair step (Read bytes)) refl same where
+    decides : List (Option Block) → LeaseNext
+    decides read = after_bytes (place_in h m) (known_by h m area l read) aim bytes step
+
+    by : (o : Option (List (Option Block))) → blocks_shown h.config.layout l.pair step (Read bytes) ≡ o → last ≡ unwrap_or o older → decides (unwrap_or o (kept_blocks l)) ≡ decides last
+    by (Some bs) shown is = ap (λ z. decides z) (sym is)
+    by None shown is =
+        elim (none_shown h.config.layout l.pair bytes step kept shown) [
+          | inl again ↦ again_decides (place_in h m) (known_by h m area l (kept_blocks l)) aim bytes step again.0 again.1
+              ∙ sym (again_decides (place_in h m) (known_by h m area l last) aim bytes step again.0 again.1)
+          | inr none ↦ reads_nothing (place_in h m) (known_by h m area l (kept_blocks l)) aim bytes step none ∙ sym (reads_nothing (place_in h m) (known_by h m area l last) aim bytes step none)
+        ]
+
+  next_alike : IsOfProgram h.config.layout → (aim : Aim) (call n : ℕ) (step : LeaseStep) (a : Answer) (older : List (Option Block)) → (is_second step ≡ true → IsTrue (is_some l.pair.first))
+      → last_blocks h.config.layout (lease_calls x.setting (seen x) m.who area) ≡ unwrap_or (blocks_shown h.config.layout l.pair step a) older
       → lease_next (place_in h m) (known_by h m area l (blocks_at h.config.layout l step a)) aim call n step a
       ≡ lease_next (place_in h m) (known_by h m area l (last_blocks h.config.layout (lease_calls x.setting (seen x) m.who area))) aim call n step a
   unfolding lease_next
-  next_alike program aim call n step Failed older same = by aim where
+  next_alike program aim call n step Failed older kept same = by aim where
     by : (z : Aim) → lease_next (place_in h m) (known_by h m area l (kept_blocks l)) z call n step Failed ≡ lease_next (place_in h m) (known_by h m area l last) z call n step Failed
     by z = refl
-  next_alike program aim call n step Written older same = by step aim where
+  next_alike program aim call n step Written older kept same = by step aim where
     settles : settle_next (place_in h m) (known_by h m area l (kept_blocks l)) ≡ settle_next (place_in h m) (known_by h m area l last)
     settles = settles_alike i h x k m at area l its (kept_blocks l) last program (kept_tops i h x k m at area l its) (read_tops i h x k m at area l its)
 
@@ -122,17 +198,7 @@ module _ (i : Input) (h : HostState) (x : Step) (k : ℕ) (m : MemberState) (at 
     by TakeLeader (Converts Exclusive) = refl
     by TakeLeader (Converts Shared) = refl
     by s z = refl
-  next_alike program aim call n step (Read bytes) older same = by step same where
-    by : (s : LeaseStep) → last_blocks h.config.layout (lease_calls x.setting (seen x) m.who area) ≡ unwrap_or (blocks_shown h.config.layout s (Read bytes)) older
-        → lease_next (place_in h m) (known_by h m area l (blocks_at h.config.layout l s (Read bytes))) aim call n s (Read bytes)
-        ≡ lease_next (place_in h m) (known_by h m area l (last_blocks h.config.layout (lease_calls x.setting (seen x) m.who area))) aim call n s (Read bytes)
-    by (ReadArea name) is = ap (λ z. lease_next (place_in h m) (known_by h m area l z) aim call n (ReadArea name) (Read bytes)) (sym is)
-    by ReadBeforeFree is = ap (λ z. lease_next (place_in h m) (known_by h m area l z) aim call n ReadBeforeFree (Read bytes)) (sym is)
-    by ReadBeforeBlock is = ap (λ z. lease_next (place_in h m) (known_by h m area l z) aim call n ReadBeforeBlock (Read bytes)) (sym is)
-    by (ReadAgain again) is = ap (λ z. lease_next (place_in h m) (known_by h m area l z) aim call n (ReadAgain again) (Read bytes)) (sym is)
-    by Phase1Read is = ap (λ z. lease_next (place_in h m) (known_by h m area l z) aim call n Phase1Read (Read bytes)) (sym is)
-    by Phase2Read is = ap (λ z. lease_next (place_in h m) (known_by h m area l z) aim call n Phase2Read (Read bytes)) (sym is)
-    by s is = bytes_plain (place_in h m) (known_by h m area l (kept_blocks l)) aim bytes s at.stands.keeps.unpaired ∙ sym (bytes_plain (place_in h m) (known_by h m area l last) aim bytes s at.stands.keeps.unpaired)
+  next_alike program aim call n step (Read bytes) older kept same = read_alike aim step bytes older kept same
 
 -- ---- an answer
 
@@ -197,52 +263,63 @@ module _ (number : ℕ) (c : OpenCall) (a : Answer) (h : HostState) (x : Step) (
   newest : (rest : List Submitted) × (lease_calls x.setting (seen x) m.who (area_of h c) ≡ call ∷ rest)
   newest = newest_open stood_lease.0.waiting (lease_calls x.setting (seen x) m.who (area_of h c)) call stood_lease.1.waiting on_area call_open
 
-  -- It is no second read.
-  call_once : is_again call ≡ false
-  call_once =
-      untrue (is_again call)
-      (and_true (not (is_again call)) (is_none (turn_written call))
-      (each_of (λ (d : Submitted). IsTrue (is_plain_call d)) (lease_calls x.setting (seen x) m.who (area_of h c)) call stood_lease.1.plain on_area)).0
-    where
-      untrue : (b : Bool) → not b ≡ true → b ≡ false
-      untrue false holds = refl
-      untrue true holds = absurd (false_is_true holds)
+  -- The calls once it is heard.
+  abbrev hears : Submitted → Submitted
+  hears = hear x.past x.reading x.effects number a
 
-  last_shown : last_blocks h.config.layout (lease_calls x.setting (seen (with_input (Told number a) x)) m.who (area_of h c))
-      ≡ unwrap_or (blocks_shown h.config.layout step a) (last_blocks h.config.layout (map (hear x.past x.reading x.effects number a) newest.0))
-  last_shown =
-      let hears : Submitted → Submitted = hear x.past x.reading x.effects number a in
-      last_is h.config.layout (lease_calls x.setting (seen (with_input (Told number a) x)) m.who (area_of h c)) (hears call) (map hears newest.0) (blocks_shown h.config.layout step a)
-      (calls_heard number a x m.who (area_of h c) (is_bare h x to.stands to.at.calls) ∙ ap (map hears) newest.1)
-      (shown_by h.config.layout (hears call) (map hears newest.0) work step a to.stands.keeps.unpaired
-      (ap (λ (z : Call). some_is (λ p. is_second p.1) (lease_step z.purpose)) (same_call x.past x.reading x.effects number a call) ∙ call_once)
-      (ap (λ (z : Call). lease_step z.purpose) (same_call x.past x.reading x.effects number a call) ∙ call_step)
-      (gives_heard number a x call call_numbered call_open))
+  heard_step : lease_step (hears call).call.purpose ≡ Some (work, step)
+  heard_step = ap (λ (z : Call). lease_step z.purpose) (same_call x.past x.reading x.effects number a call) ∙ call_step
 
   heard_config : (heard_answer number a h).config ≡ h.config
   heard_config = ap (λ o. (elim o as (λ z. HostState) [ None ↦ h | Some d ↦ hearing d a h ]).config) to.is_open
 
+  areas : area_of h c ≡ area_of (heard_answer number a h) c
+  areas = ap (λ (z : Config). spot_in z.layout c) (sym heard_config)
+
+  calls_are : lease_calls x.setting (seen (with_input (Told number a) x)) m.who (area_of (heard_answer number a h) c) ≡ hears call ∷ map hears newest.0
+  calls_are =
+      subst (λ p. lease_calls x.setting (seen (with_input (Told number a) x)) m.who p ≡ hears call ∷ map hears newest.0) areas
+      (calls_heard number a x m.who (area_of h c) (is_bare h x to.stands to.at.calls) ∙ ap (map hears) newest.1)
+
+  now : IsMemberAt (Told number a) (heard_answer number a h) (with_input (Told number a) x) (place number c a h x k m to not_refused).0 (member_hearing h c a m)
+  now = record { stands = stands number c a h x k m to not_refused; there = (place number c a h x k m to not_refused).1 }
+
+  found : find (is_lease_on (area_of (heard_answer number a h) c)) (member_hearing h c a m).leases ≡ Some lease.0
+  found = subst (λ p. find (is_lease_on p) (member_hearing h c a m).leases ≡ Some lease.0) areas lease.1
+
+  stands_now : LeaseStands (heard_answer number a h).config.layout m.who.lockspace (me_in (member_hearing h c a m)) lease.0 (hears call ∷ map hears newest.0)
+  stands_now =
+      subst (LeaseStands (heard_answer number a h).config.layout m.who.lockspace (me_in (member_hearing h c a m)) lease.0) calls_are
+      (lease_stands (Told number a) (heard_answer number a h) (with_input (Told number a) x) (place number c a h x k m to not_refused).0 (member_hearing h c a m) now (area_of (heard_answer number a h) c) lease.0 found)
+
+  second_kept : is_second step ≡ true → IsTrue (is_some lease.0.pair.first)
+  second_kept two = stands_now.second (sym stands_now.again ∙ again_is (hears call) work step heard_step ∙ two)
+
+  last_shown : last_blocks (heard_answer number a h).config.layout (lease_calls x.setting (seen (with_input (Told number a) x)) m.who (area_of (heard_answer number a h) c))
+      ≡ unwrap_or (blocks_shown (heard_answer number a h).config.layout lease.0.pair step a) (last_blocks (heard_answer number a h).config.layout (map hears newest.0))
+  last_shown =
+      let g : Layout = (heard_answer number a h).config.layout in
+      last_is g (lease_calls x.setting (seen (with_input (Told number a) x)) m.who (area_of (heard_answer number a h) c)) (hears call) (map hears newest.0) (blocks_shown g lease.0.pair step a) calls_are
+      (blocks_are_shown g lease.0.pair (hears call) (map hears newest.0) work step a heard_step (gives_heard number a x call call_numbered call_open)
+      (second_finds g lease.0.pair (hears call) (map hears newest.0) stands_now.again stands_now.kept stands_now.second))
+
   -- So what is kept decides as the calls do.
   pub answers_as_known : IsOfProgram h.config.layout → (aim : Aim)
       → answered_next (heard_answer number a h) (member_hearing h c a m) (area_of (heard_answer number a h) c) c aim step a
-      ≡ lease_next (place_in (heard_answer number a h) (member_hearing h c a m))
-      (known_in (heard_answer number a h) (member_hearing h c a m) (with_input (Told number a) x) (area_of (heard_answer number a h) c)) aim c.number c.lver step a
+      ≡ next_in (heard_answer number a h) (member_hearing h c a m) (with_input (Told number a) x) (area_of (heard_answer number a h) c) c aim step a
   answers_as_known program aim =
       let new : HostState = heard_answer number a h in
-      let hears : MemberState = member_hearing h c a m in
+      let m2 : MemberState = member_hearing h c a m in
       let y : Step = with_input (Told number a) x in
-      let at : IsMemberAt (Told number a) new y (place number c a h x k m to not_refused).0 hears =
-      record { stands = stands number c a h x k m to not_refused; there = (place number c a h x k m to not_refused).1 }
-      in
-      let layouts : h.config.layout ≡ new.config.layout = sym (ap (λ (z : Config). z.layout) heard_config) in
-      let areas : area_of h c ≡ area_of new c = ap (λ g. spot_in g c) layouts in
-      let its : find (is_lease_on (area_of new c)) hears.leases ≡ Some lease.0 = subst (λ p. find (is_lease_on p) hears.leases ≡ Some lease.0) areas lease.1 in
-      let older : List (Option Block) = last_blocks h.config.layout (map (hear x.past x.reading x.effects number a) newest.0) in
-      let shown : last_blocks new.config.layout (lease_calls y.setting (seen y) hears.who (area_of new c)) ≡ unwrap_or (blocks_shown new.config.layout step a) older =
-      subst (λ p. last_blocks new.config.layout (lease_calls y.setting (seen y) hears.who p) ≡ unwrap_or (blocks_shown new.config.layout step a) older) areas
-      (subst (λ g. last_blocks g (lease_calls y.setting (seen y) hears.who (area_of h c)) ≡ unwrap_or (blocks_shown g step a) older) layouts last_shown)
-      in
-      ap (λ l. lease_next (place_in new hears) (known_by new hears (area_of new c) l (blocks_at new.config.layout l step a)) aim c.number c.lver step a)
-      (lease_is (Told number a) new y (place number c a h x k m to not_refused).0 hears at (area_of new c) lease.0 its)
-      ∙ next_alike (Told number a) new y (place number c a h x k m to not_refused).0 hears at (area_of new c) lease.0 its (subst IsOfProgram layouts program) aim c.number c.lver step a older shown
-      ∙ sym (ap (λ z. lease_next (place_in new hears) z aim c.number c.lver step a) (known_is (Told number a) new y (place number c a h x k m to not_refused).0 hears at (area_of new c) lease.0 its))
+      let at : Spot = area_of new c in
+      let p : ℕ = (place number c a h x k m to not_refused).0 in
+      let g : Layout = new.config.layout in
+      let last : List (Option Block) = last_blocks g (lease_calls y.setting (seen y) m2.who at) in
+      ap (λ l. within_turn (place_in new m2) (known_by new m2 at l (blocks_at g l step a)) aim (lease_next (place_in new m2) (known_by new m2 at l (blocks_at g l step a)) aim c.number c.lver step a))
+      (lease_is (Told number a) new y p m2 now at lease.0 found)
+      ∙ within_alike (Told number a) new y p m2 now at lease.0 found aim (blocks_at g lease.0 step a) last
+      (lease_next (place_in new m2) (known_by new m2 at lease.0 (blocks_at g lease.0 step a)) aim c.number c.lver step a)
+      (lease_next (place_in new m2) (known_by new m2 at lease.0 last) aim c.number c.lver step a)
+      (next_alike (Told number a) new y p m2 now at lease.0 found (subst (λ (z : Config). IsOfProgram z.layout) (sym heard_config) program) aim c.number c.lver step a
+      (last_blocks g (map hears newest.0)) second_kept last_shown)
+      ∙ sym (ap (λ z. within_turn (place_in new m2) z aim (lease_next (place_in new m2) z aim c.number c.lver step a)) (known_is (Told number a) new y p m2 now at lease.0 found))

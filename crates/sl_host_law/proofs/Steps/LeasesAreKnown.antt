@@ -3,37 +3,44 @@ use Rattle.sl_area.specs.Layouts.{Layout}
 use Rattle.sl_host_law.proofs.Calls.Calls.SpotsMore.{one_spot}
 use Rattle.sl_due.specs.Steps.{Step, seen}
 use Rattle.sl_host_law.proofs.Plain.PlainLists.{at_some}
+use Rattle.sl_host_state.proofs.Pairs.{first_is_kept}
 use Rattle.sl_host_state.specs.Kept.{Config, HostState, LeaseState, MemberState}
 use Rattle.sl_host_state.specs.Makes.{is_lease_on, new_lease}
 use Rattle.sl_host_state.specs.New.{IsOfProgram, sizes_in}
-use Rattle.sl_host_state.specs.Stands.{LeaseStands, first_read, top_mbal, turn_kept}
+use Rattle.sl_host_state.specs.Stands.{LeaseStands, top_mbal, turn_kept}
 use Rattle.sl_host_state.specs.declared.kept.TopNumber.{TopNumber}
-use Rattle.sl_host_law.specs.Steps.Leases.{converting_next, kept_blocks, known_at, known_by, lease_at, settling_next, top_block}
+use Rattle.sl_host_law.specs.Steps.Leases.{converting_next, kept_blocks, known_by, lease_at, releasing_next, settling_next, top_block}
 use Rattle.sl_lease.proofs.NextLaws.{begins_again}
 use Rattle.sl_lease.specs.Asked.{TopStands, begin_above}
 use Rattle.sl_lease.specs.declared.evidence.Held.{Held}
 use Rattle.sl_lease.specs.declared.side.Side.{Side}
-use Rattle.sl_trace.specs.LeaseWork.{begin_next, convert_next, release_next, settle_next, settle_owed}
-use Rattle.sl_trace.specs.Leases.{LeaseKnown, last_blocks, lease_calls, owed_free}
+use Rattle.sl_trace.specs.LeaseWork.{begin_next, convert_next, owes_block, refuses_block, release_next, settle_begin, settle_next, settle_owed, within_turn}
+use Rattle.sl_trace.specs.Leases.{LeaseKnown, last_blocks, lease_calls, owed, owed_free}
 use Rattle.sl_trace.specs.declared.lease.Owed.TheVariants.{BallotOwed, FreeOwed, ModeOwed}
 use Rattle.sl_trace.specs.declared.lease.Owed.{Owed}
-use Rattle.sl_trace.specs.declared.lease.Aim.TheVariants.{Settles}
+use Rattle.sl_trace.specs.declared.lease.Aim.TheVariants.{Converts, Releases, Settles}
+use Rattle.sl_trace.specs.declared.lease.Aim.{Aim}
+use Rattle.sl_trace.specs.declared.lease.LeaseNext.TheVariants.{ReadFor}
+use Rattle.sl_trace.specs.declared.lease.LeaseNext.{LeaseNext}
 use Rattle.sl_plain.proofs.Lists.{find_inside}
 use Rattle.sl_host_law.proofs.Questions.MembersAnswer.{members_answer}
-use Rattle.sl_host_law.specs.Questions.Answers.{known_in, place_in}
+use Rattle.sl_host_law.specs.Questions.Answers.{converting_in, known_in, place_in, releasing_in, settling_in}
 use Rattle.sl_host_law.specs.Questions.Members.{IsMemberAt, exclusive_at, me_in, over_in, shared_at}
 use Rattle.sl_host_law.proofs.Replies.Answers.OpenBallotsAreOwn.{IsOwn, open_is_own}
 use Rattle.sl_sector.specs.declared.sector.Block.{Block}
 use Rattle.sl_sector.specs.declared.sector.Owner.{Owner}
 use Rattle.sl_trace.specs.Sessions.{me}
 use Rattle.sl_trace.specs.Traces.{Submitted}
+use Rattle.sl_trace.specs.declared.effects.Grant.{Grant}
+use Rattle.sl_trace.specs.declared.effects.LeaseStep.TheVariants.{ReadBeforeBlock}
 use Rattle.sl_trace.specs.declared.effects.Mode.TheVariants.{Exclusive, Shared}
 use Rattle.sl_trace.specs.declared.effects.Mode.{Mode}
 use Rattle.sl_trace.specs.declared.effects.Spot.{Spot}
 use Rattle.sl_trace.specs.declared.input.Input.{Input}
+use Rattle.sl_words.specs.Bounds.{is_number}
 use Rattle.sl_words.specs.Words.{greatest}
 use Rattle.std.proofs.Common.{ap, arith, eq-eqb, refl, subst, sym, ◌∙◌}
-use Rattle.std.specs.Prelude.{Bool, List, None, Option, Some, cond, false, find, is_some, map, max, not, option_map, true, unwrap_or, [], ℕ, ◌&&◌, ◌==◌, ◌∷◌, ◌≡◌}
+use Rattle.std.specs.Prelude.{Bool, List, None, Option, Some, cond, false, find, is_some, map, max, not, option_map, true, unwrap_or, [], ℕ, ◌&&◌, ◌+◌, ◌==◌, ◌∷◌, ◌≡◌}
 
 module _ (i : Input) (h : HostState) (x : Step) (k : ℕ) (m : MemberState) (at : IsMemberAt i h x k m) (area : Spot) (l : LeaseState) (its : find (is_lease_on area) m.leases ≡ Some l) where
   pub calls : List Submitted
@@ -63,7 +70,11 @@ module _ (i : Input) (h : HostState) (x : Step) (k : ℕ) (m : MemberState) (at 
       ∙ ap (λ n. record k0 { own = l.own; name = l.name; freed = l.freed; ballot = l.ballot; shown = n }) s.shown
       ∙ ap (λ n. record k0 { own = l.own; name = l.name; freed = l.freed; ballot = l.ballot; shown = l.shown; won = n }) s.won
       ∙ ap (λ n. record k0 { own = l.own; name = l.name; freed = l.freed; ballot = l.ballot; shown = l.shown; won = l.won; turn = n }) s.turn
-      ∙ ap (λ n. record k0 { own = l.own; name = l.name; freed = l.freed; ballot = l.ballot; shown = l.shown; won = l.won; turn = turn_kept l.pair; kept = n }) s.first
+      ∙ ap (λ n. record k0 { own = l.own; name = l.name; freed = l.freed; ballot = l.ballot; shown = l.shown; won = l.won; turn = turn_kept l.pair; kept = n }) (first_is_kept h.config.layout l.pair (lease_calls x.setting (seen x) m.who area) s.again s.kept s.second)
+
+  -- The blocks read last.
+  abbrev last : List (Option Block)
+  last = last_blocks h.config.layout (lease_calls x.setting (seen x) m.who area)
 
   pub lease_is : lease_at m area ≡ l
   lease_is = ap (λ o. unwrap_or o (new_lease area)) its
@@ -101,12 +112,10 @@ module _ (i : Input) (h : HostState) (x : Step) (k : ℕ) (m : MemberState) (at 
   begins_alike n one other program ballot a b =
       let own = own_there n ballot in
       let top = stands.opened n ballot in
-      subst (λ (g : Layout). begin_next (record { layout = g; lockspace = m.who.lockspace }) (by_layout g one) Settles n
-      ≡ begin_next (record { layout = g; lockspace = m.who.lockspace }) (by_layout g other) Settles n) program
+      subst (λ (g : Layout). begin_next (record { layout = g; lockspace = m.who.lockspace }) (known_by h m area l one) Settles n
+      ≡ begin_next (record { layout = g; lockspace = m.who.lockspace }) (known_by h m area l other) Settles n) program
       (sym (begins_again side l held (over_in m) one n own.0 top.0 (begin_above side held Settles n own.0 top.0.mbal) own.1 top.1 a ballot refl)
-      ∙ begins_again side l held (over_in m) other n own.0 top.0 (begin_above side held Settles n own.0 top.0.mbal) own.1 top.1 b ballot refl) where
-        by_layout : Layout → List (Option Block) → LeaseKnown
-        by_layout g read = record (known_by h m area l read) { kept = first_read g l.pair }
+      ∙ begins_again side l held (over_in m) other n own.0 top.0 (begin_above side held Settles n own.0 top.0.mbal) own.1 top.1 b ballot refl)
 
   pub settles_alike : (one other : List (Option Block)) → IsOfProgram h.config.layout → TopStands l one → TopStands l other
       → settle_next (place_in h m) (known_by h m area l one) ≡ settle_next (place_in h m) (known_by h m area l other)
@@ -136,22 +145,40 @@ module _ (i : Input) (h : HostState) (x : Step) (k : ℕ) (m : MemberState) (at 
     by None is = later (l.shown && not (is_some (shared_at h m area)))
     by (Some n) is = begins_alike n one other program is a b
 
-  pub settles_as_known : IsOfProgram h.config.layout → settling_next h m area ≡ settle_next (place_in h m) (known_in h m x area)
+  -- The limit of turns is asked of the turn alone.
+  pub within_alike : (aim : Aim) (one other : List (Option Block)) (a b : LeaseNext) → a ≡ b → within_turn (place_in h m) (known_by h m area l one) aim a ≡ within_turn (place_in h m) (known_by h m area l other) aim b
+  unfolding within_turn
+  within_alike aim one other a b same =
+      ap (λ n. elim (h.config.layout.paired && not (is_number (turn_kept l.pair + 1))) as (λ z. LeaseNext) [ false ↦ n | true ↦ refuses_block aim n ]) same
+
+  -- And whether a block is owed of what is kept.
+  begins_settling : (one other : List (Option Block)) → IsOfProgram h.config.layout → TopStands l one → TopStands l other
+      → settle_begin (place_in h m) (known_by h m area l one) ≡ settle_begin (place_in h m) (known_by h m area l other)
+  unfolding settle_begin
+  begins_settling one other program a b =
+      ap (λ n. elim (h.config.layout.paired && owes_block (owed (known_by h m area l one))) as (λ z. LeaseNext) [ true ↦ ReadFor ReadBeforeBlock | false ↦ n ]) (settles_alike one other program a b)
+
+  pub settles_as_known : IsOfProgram h.config.layout → settling_next h m area ≡ settling_in h m x area
   settles_as_known program =
-      ap (λ z. settle_next (place_in h m) (known_by h m area z (kept_blocks z))) lease_is
-      ∙ settles_alike (kept_blocks l) (last_blocks h.config.layout (lease_calls x.setting (seen x) m.who area)) program kept_tops read_tops
-      ∙ sym (ap (settle_next (place_in h m)) known_is)
+      ap (λ z. within_turn (place_in h m) (known_by h m area z (kept_blocks z)) Settles (settle_begin (place_in h m) (known_by h m area z (kept_blocks z)))) lease_is
+      ∙ within_alike Settles (kept_blocks l) last (settle_begin (place_in h m) (known_by h m area l (kept_blocks l))) (settle_begin (place_in h m) (known_by h m area l last))
+      (begins_settling (kept_blocks l) last program kept_tops read_tops)
+      ∙ sym (ap (λ k. within_turn (place_in h m) k Settles (settle_begin (place_in h m) k)) known_is)
 
-  pub releases_as_known : (mode : Mode) (lver : ℕ) → release_next (place_in h m) (known_at h m area) mode lver ≡ release_next (place_in h m) (known_in h m x area) mode lver
-  releases_as_known mode lver = ap (λ z. release_next (place_in h m) (known_by h m area z (kept_blocks z)) mode lver) lease_is ∙ by mode ∙ sym (ap (λ z. release_next (place_in h m) z mode lver) known_is) where
-    by : (w : Mode) → release_next (place_in h m) (known_by h m area l (kept_blocks l)) w lver
-        ≡ release_next (place_in h m) (known_by h m area l (last_blocks h.config.layout (lease_calls x.setting (seen x) m.who area))) w lver
-    by Shared = refl
-    by Exclusive = refl
+  pub releases_as_known : (g : Grant) → releasing_next h m area g ≡ releasing_in h m x area g.mode g.lver
+  releases_as_known g =
+      ap (λ z. within_turn (place_in h m) (known_by h m area z (kept_blocks z)) Releases (release_next (place_in h m) (known_by h m area z (kept_blocks z)) g.mode g.lver)) lease_is
+      ∙ within_alike Releases (kept_blocks l) last (release_next (place_in h m) (known_by h m area l (kept_blocks l)) g.mode g.lver) (release_next (place_in h m) (known_by h m area l last) g.mode g.lver) (by g.mode)
+      ∙ sym (ap (λ k. within_turn (place_in h m) k Releases (release_next (place_in h m) k g.mode g.lver)) known_is) where
+        by : (w : Mode) → release_next (place_in h m) (known_by h m area l (kept_blocks l)) w g.lver ≡ release_next (place_in h m) (known_by h m area l last) w g.lver
+        by Shared = refl
+        by Exclusive = refl
 
-  pub converts_as_known : (mode : Mode) (name : List ℕ) → converting_next h m area mode name ≡ convert_next (known_in h m x area) mode name
-  converts_as_known mode name = ap (λ z. convert_next (known_by h m area z (kept_blocks z)) mode name) lease_is ∙ by mode ∙ sym (ap (λ z. convert_next z mode name) known_is) where
-    by : (w : Mode) → convert_next (known_by h m area l (kept_blocks l)) w name
-        ≡ convert_next (known_by h m area l (last_blocks h.config.layout (lease_calls x.setting (seen x) m.who area))) w name
-    by Shared = refl
-    by Exclusive = refl
+  pub converts_as_known : (mode : Mode) (name : List ℕ) → converting_next h m area mode name ≡ converting_in h m x area mode name
+  converts_as_known mode name =
+      ap (λ z. within_turn (place_in h m) (known_by h m area z (kept_blocks z)) (Converts mode) (convert_next (known_by h m area z (kept_blocks z)) mode name)) lease_is
+      ∙ within_alike (Converts mode) (kept_blocks l) last (convert_next (known_by h m area l (kept_blocks l)) mode name) (convert_next (known_by h m area l last) mode name) (by mode)
+      ∙ sym (ap (λ k. within_turn (place_in h m) k (Converts mode) (convert_next k mode name)) known_is) where
+        by : (w : Mode) → convert_next (known_by h m area l (kept_blocks l)) w name ≡ convert_next (known_by h m area l last) w name
+        by Shared = refl
+        by Exclusive = refl

@@ -4,7 +4,7 @@ use Rattle.sl_acts.specs.Promises.{IsDecidedFor, IsPresent}
 use Rattle.sl_host_law.proofs.Answers.GrantsAreTaken.{grants_are_taken}
 use Rattle.sl_host_law.specs.Answers.Grants.{after_giving, ended, given_up}
 use Rattle.sl_host_law.specs.Answers.Leasing.{carrying_lease, granting_for}
-use Rattle.sl_area.specs.Places.{value_offset}
+use Rattle.sl_area.specs.Places.{area_sectors, value_offset}
 use Rattle.sl_host_law.proofs.Decisions.CommandsAreDecided.{commands_are_decided}
 use Rattle.sl_host_law.specs.Decisions.Deciding.{decision_of}
 use Rattle.sl_due.specs.DueCommands.{on_line}
@@ -49,7 +49,7 @@ use Rattle.sl_trace.specs.declared.reply.Reply.TheVariants.{BadCommand as Misrea
 use Rattle.sl_words.proofs.CaseLaws.{some_value, true_is_false}
 use Rattle.std.proofs.Common.{ap, refl, subst, sym, ◌∙◌}
 use Rattle.std.proofs.lemmas.Bool.Decides.{Decides-eqb}
-use Rattle.std.specs.Prelude.{Bool, Contains, Err, List, None, Ok, Option, Result, Some, cond, false, true, ℕ, ◌+◌, ◌-◌, ◌==◌, ◌≡◌}
+use Rattle.std.specs.Prelude.{Bool, Contains, Err, List, None, Ok, Option, Result, Some, cond, false, true, ℕ, ◌-◌, ◌==◌, ◌≡◌}
 
 module _ (h : HostState) (x : Step) (text : List ℕ) (early : IsEarly h) (sound : IsSound h) (s : Stands Wake h x) where
   -- The line says this, and it comes to this.
@@ -124,7 +124,7 @@ module _ (h : HostState) (x : Step) (text : List ℕ) (early : IsEarly h) (sound
         at_its t k (λ m. signalling_and_refusing m (Some h.next_job)) (lines_are_taken.leaves h x text c t k.place k.member (comes (Leaves t) is) k.by)
     done (ReadsArea t r) is f =
         let k = its (ReadsArea t r) is t (theirs (ReadsArea t r) is) in
-        subst (λ (y : Session). Stands (Line text) (with_call y.number r.path (Lease (ForJob h.next_job) (ReadArea r.name)) r.offset (ReadSectors (h.config.layout.hosts + 2)) (heard_line c h)) (on_line text x)) k.by.whose
+        subst (λ (y : Session). Stands (Line text) (with_call y.number r.path (Lease (ForJob h.next_job) (ReadArea r.name)) r.offset (ReadSectors (area_sectors h.config.layout)) (heard_line c h)) (on_line text x)) k.by.whose
         (lines_are_taken.reads h x text c t r k.place k.member (comes (ReadsArea t r) is) k.by (f k.place k.member k.by))
     done (Shares t lver) is f =
         let k = its (Shares t lver) is t (theirs (Shares t lver) is) in
@@ -138,7 +138,7 @@ module _ (h : HostState) (x : Step) (text : List ℕ) (early : IsEarly h) (sound
         in
         at_its t k (λ m h'. after_giving h c m g (releasing_next (given_up h c g) m (spot_of_grant g) g))
         (grants_are_taken.gives_up h x text c t g k.place k.member (releasing_next (given_up h c g) k.member (spot_of_grant g) g) (comes (GivesUp t g) is) k.by (plain_by h c (GivesUp t g) is refl) early.grants
-        (sym (releases_as_known (Line text) (given_up h c g) (ended text g x) k.place k.member here (spot_of_grant g) l.0.0 l.0.1 g.mode g.lver)) l.1)
+        (sym (releases_as_known (Line text) (given_up h c g) (ended text g x) k.place k.member here (spot_of_grant g) l.0.0 l.0.1 g)) l.1)
     done (TakesOver t g) is f =
         let k = its (TakesOver t g) is t (theirs (TakesOver t g) is) in
         subst (λ (y : Session). Stands (Line text) (granting_for y h.next_job c g.mode g.lver (given_up h c g)) (on_line text x)) k.by.whose

@@ -9,11 +9,10 @@ use Rattle.sl_host_state.specs.Hears.{heard_line}
 use Rattle.sl_host_state.specs.Kept.{HostState, MemberState}
 use Rattle.sl_host_state.specs.Makes.{with_end, with_reply}
 use Rattle.sl_host_state.specs.Stands.{Stands}
-use Rattle.sl_trace.specs.LeaseWork.{convert_next, release_next}
 use Rattle.sl_trace.specs.Leases.{spot_of}
 use Rattle.sl_trace.specs.declared.lease.LeaseNext.{LeaseNext}
 use Rattle.sl_host_law.specs.Parts.Lines.{HeardBy, LineComes}
-use Rattle.sl_host_law.specs.Questions.Answers.{known_in, place_in}
+use Rattle.sl_host_law.specs.Questions.Answers.{converting_in, releasing_in}
 use Rattle.sl_host_law.specs.Replies.Replies.{is_plain_line}
 use Rattle.sl_trace.specs.declared.session.Session.{Session}
 use Rattle.sl_trace.specs.Traces.{end_of, spot_of_grant}
@@ -50,10 +49,10 @@ pub record GrantsAreTaken : Type 0 where
       → IsTrue (is_plain_line (Ok c)) → h.made.grants ≡ [] → Stands (Line text) (granting_for m.who h.next_job c g.mode g.lver (given_up h c g)) (on_line text x)
   pub gives_up : (h : HostState) (x : Step) (text : List ℕ) (c : Command) (s : Session) (g : Grant) (k : ℕ) (m : MemberState) (next : LeaseNext) → LineComes h x text c (GivesUp s g)
       → HeardBy h c k m s → IsTrue (is_plain_line (Ok c)) → h.made.grants ≡ []
-      → release_next (place_in (given_up h c g) m) (known_in (given_up h c g) m (ended text g x) (spot_of_grant g)) g.mode g.lver ≡ next
+      → releasing_in (given_up h c g) m (ended text g x) (spot_of_grant g) g.mode g.lver ≡ next
       → MayCarryLease (Line text) (given_up h c g) (ended text g x) m (spot_of_grant g) (ForJob h.next_job) next → Stands (Line text) (after_giving h c m g next) (on_line text x)
   pub converts : (h : HostState) (x : Step) (text : List ℕ) (c : Command) (s : Session) (r : ResourceArg) (mode : Mode) (k : ℕ) (m : MemberState) (next : LeaseNext)
       → LineComes h x text c (ConvertsTo s r mode) → HeardBy h c k m s
-      → convert_next (known_in (heard_line c h) m (with_input (Line text) x) (spot_of r)) mode r.name ≡ next
+      → converting_in (heard_line c h) m (with_input (Line text) x) (spot_of r) mode r.name ≡ next
       → MayCarryLease (Line text) (heard_line c h) (with_input (Line text) x) m (spot_of r) (ForJob h.next_job) next
       → Stands (Line text) (carrying_lease m (spot_of r) (ForJob h.next_job) next (heard_line c h)) (on_line text x)

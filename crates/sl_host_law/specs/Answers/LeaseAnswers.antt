@@ -6,10 +6,9 @@ use Rattle.sl_due.specs.Steps.{Step, with_input}
 use Rattle.sl_host_state.specs.Hears.{heard_answer, member_hearing}
 use Rattle.sl_host_state.specs.Kept.{HostState, MemberState}
 use Rattle.sl_host_state.specs.declared.kept.OpenCall.{OpenCall}
-use Rattle.sl_trace.specs.LeaseWork.{lease_next}
 use Rattle.sl_trace.specs.declared.lease.Aim.{Aim}
 use Rattle.sl_trace.specs.declared.lease.LeaseNext.{LeaseNext}
-use Rattle.sl_host_law.specs.Questions.Answers.{known_in, place_in, spot_in}
+use Rattle.sl_host_law.specs.Questions.Answers.{next_in, spot_in}
 use Rattle.sl_host_law.specs.Questions.Jobs.{aim_in, goes_on_in}
 use Rattle.sl_trace.specs.declared.effects.LeaseStep.{LeaseStep}
 use Rattle.sl_trace.specs.declared.effects.Purpose.TheVariants.{Lease}
@@ -28,9 +27,7 @@ pub record LeaseAnswersFollow : Type 0 where
   pub going : (number : ℕ) (c : OpenCall) (a : Answer) (h : HostState) (x : Step) (k : ℕ) (m : MemberState) (work : Work) (step : LeaseStep) (aim : Aim) (next : LeaseNext)
       → IsAnswerTo number c a h x k m → m.refused ≡ false → c.purpose ≡ Lease work step → goes_on_in (heard_answer number a h) (member_hearing h c a m) work ≡ true
       → aim_in (heard_answer number a h) work ≡ Some aim
-      → next
-      ≡ lease_next (place_in (heard_answer number a h) (member_hearing h c a m))
-      (known_in (heard_answer number a h) (member_hearing h c a m) (with_input (Told number a) x) (area_of (heard_answer number a h) c)) aim c.number c.lver step a
+      → next ≡ next_in (heard_answer number a h) (member_hearing h c a m) (with_input (Told number a) x) (area_of (heard_answer number a h) c) c aim step a
       → MayCarryLease (Told number a) (heard_answer number a h) (with_input (Told number a) x) (member_hearing h c a m) (area_of (heard_answer number a h) c) work next
       → Follows number a h x (carrying_lease (member_hearing h c a m) (area_of (heard_answer number a h) c) work next (heard_answer number a h))
   -- it does not, or to no end: the answer is heard, and that is all

@@ -4,17 +4,16 @@ use Rattle.sl_host_law.specs.Answers.Answering.{IsAnswerTo}
 use Rattle.sl_host_law.specs.Answers.LeaseAnswers.{area_of}
 use Rattle.sl_host_law.specs.Answers.Leasing.{MayCarryLease, carrying_lease, read_from}
 use Rattle.sl_host_law.specs.Answers.Requests.{Follows}
-use Rattle.sl_area.specs.Places.{block_offset, leader_offset}
+use Rattle.sl_area.specs.Places.{block_place, leader_offset}
 use Rattle.sl_due.specs.Steps.{Step, with_input}
 use Rattle.sl_host_state.specs.Hears.{heard_answer, member_hearing}
 use Rattle.sl_host_state.specs.Kept.{HostState, MemberState}
 use Rattle.sl_host_state.specs.declared.kept.OpenCall.{OpenCall}
-use Rattle.sl_trace.specs.LeaseWork.{lease_next, settle_next}
 use Rattle.sl_trace.specs.declared.lease.Aim.{Aim}
 use Rattle.sl_trace.specs.declared.lease.LeaseNext.TheVariants.{BecomeExclusive, BecomeShared}
 use Rattle.sl_trace.specs.declared.lease.LeaseNext.{LeaseNext}
 use Rattle.sl_host_law.specs.Parts.Wakes.{is_free_at}
-use Rattle.sl_host_law.specs.Questions.Answers.{known_in, place_in}
+use Rattle.sl_host_law.specs.Questions.Answers.{next_in, settling_in}
 use Rattle.sl_host_law.specs.Questions.Jobs.{aim_in, goes_on_in}
 use Rattle.sl_host_law.specs.Questions.Members.{IsMemberAt}
 use Rattle.sl_trace.specs.declared.effects.LeaseStep.{LeaseStep}
@@ -31,7 +30,7 @@ use Rattle.std.specs.Prelude.{Some, false, true, ℕ, ◌%◌, ◌-◌, ◌<◌,
 pub record IsPlacedAt (h : HostState) (m : MemberState) (at : Spot) : Type 0 where
   pub room : 0 < h.config.layout.area
   pub reads : (step : LeaseStep) → read_from h at step - read_from h at step % h.config.layout.area ≡ at.base
-  pub block : block_offset h.config.layout at.base m.who.id - block_offset h.config.layout at.base m.who.id % h.config.layout.area ≡ at.base
+  pub block : (turn : ℕ) → block_place h.config.layout at.base m.who.id turn - block_place h.config.layout at.base m.who.id turn % h.config.layout.area ≡ at.base
   pub leader : leader_offset at.base - leader_offset at.base % h.config.layout.area ≡ at.base
 
 -- So are those of the call's.
@@ -48,9 +47,7 @@ abbrev pub LeasesGoOn : Type 0
 LeasesGoOn =
     (number : ℕ) (c : OpenCall) (a : Answer) (h : HostState) (x : Step) (k : ℕ) (m : MemberState) (work : Work) (step : LeaseStep) (aim : Aim) (next : LeaseNext) → IsAnswerTo number c a h x k m → m.refused ≡ false
     → c.purpose ≡ Lease work step → goes_on_in (heard_answer number a h) (member_hearing h c a m) work ≡ true → aim_in (heard_answer number a h) work ≡ Some aim
-    → next
-    ≡ lease_next (place_in (heard_answer number a h) (member_hearing h c a m))
-    (known_in (heard_answer number a h) (member_hearing h c a m) (with_input (Told number a) x) (area_of (heard_answer number a h) c)) aim c.number c.lver step a
+    → next ≡ next_in (heard_answer number a h) (member_hearing h c a m) (with_input (Told number a) x) (area_of (heard_answer number a h) c) c aim step a
     → IsPlaced (heard_answer number a h) (member_hearing h c a m) c
     → IfConverted (Told number a) (heard_answer number a h) (with_input (Told number a) x) (member_hearing h c a m) c work next
     → Follows number a h x (carrying_lease (member_hearing h c a m) (area_of (heard_answer number a h) c) work next (heard_answer number a h))
@@ -58,5 +55,5 @@ LeasesGoOn =
 -- A settling on a free area may do what is owed.
 abbrev pub SettlingsMay : Type 0
 SettlingsMay =
-    (i : Input) (h : HostState) (x : Step) (k : ℕ) (m : MemberState) (at : Spot) (next : LeaseNext) → IsMemberAt i h x k m → next ≡ settle_next (place_in h m) (known_in h m x at) → IsPlacedAt h m at
+    (i : Input) (h : HostState) (x : Step) (k : ℕ) (m : MemberState) (at : Spot) (next : LeaseNext) → IsMemberAt i h x k m → next ≡ settling_in h m x at → IsPlacedAt h m at
     → is_free_at h at ≡ true → MayCarryLease i h x m at Settling next

@@ -9,7 +9,7 @@ use Rattle.sl_host_state.specs.Kept.{HostState, LeaseState, MemberState}
 use Rattle.sl_host_state.specs.Makes.{is_lease_on, next_submitted}
 use Rattle.sl_host_state.specs.declared.kept.OpenCall.{OpenCall}
 use Rattle.sl_host_law.specs.Questions.Jobs.{goes_on_in}
-use Rattle.sl_sector.specs.declared.sector.Rec.TheVariants.{BlockIs, LeaderIs}
+use Rattle.sl_sector.specs.declared.sector.Rec.TheVariants.{BlockIs, LeaderIs, PairIs, PairLeaderIs}
 use Rattle.sl_trace.specs.Leases.{is_second}
 use Rattle.sl_trace.specs.declared.effects.LeaseStep.{LeaseStep}
 use Rattle.sl_trace.specs.declared.effects.Op.TheVariants.{ReadSectors, WriteRecord}
@@ -17,20 +17,23 @@ use Rattle.sl_trace.specs.declared.effects.Op.{Op}
 use Rattle.sl_trace.specs.declared.effects.Purpose.TheVariants.{Lease}
 use Rattle.sl_trace.specs.declared.effects.Work.{Work}
 use Rattle.sl_trace.specs.declared.input.Answer.{Answer}
-use Rattle.std.specs.Prelude.{Bool, IsTrue, None, Some, false, find, true, ℕ, ◌%◌, ◌-◌, ◌<◌, ◌≡◌}
+use Rattle.std.specs.Prelude.{Bool, IsTrue, None, Some, false, find, is_some, not, true, ℕ, ◌%◌, ◌&&◌, ◌-◌, ◌<◌, ◌||◌, ◌≡◌}
 
 -- What a lease reads and writes.
 abbrev pub is_lease_op : Op → Bool
 is_lease_op (ReadSectors n) = true
 is_lease_op (WriteRecord (BlockIs b)) = true
 is_lease_op (WriteRecord (LeaderIs l)) = true
+is_lease_op (WriteRecord (PairIs p)) = true
+is_lease_op (WriteRecord (PairLeaderIs l)) = true
 is_lease_op op = false
 
--- The call is on the area of the answered one, no read that is made once more, and phase 2 follows a read.
+-- The call is on the area of the answered one; it is no read that is made once more, unless something is kept of the first; and phase 2
+-- follows a read.
 pub record GoesOn (h : HostState) (m : MemberState) (c : OpenCall) (work : Work) (step : LeaseStep) (offset : ℕ) (op : Op) : Type 0 where
   pub room : 0 < h.config.layout.area
   pub its : IsTrue (is_lease_op op)
-  pub once : is_second step ≡ false
+  pub again : (l : LeaseState) → find (is_lease_on (area_of h c)) m.leases ≡ Some l → IsTrue (not (is_second step) || is_some l.pair.first && not l.pair.again)
   pub near : offset - offset % h.config.layout.area ≡ (area_of h c).base
   pub follows : (l : LeaseState) → find (is_lease_on (area_of h c)) m.leases ≡ Some l → IsTrue (follows_read (next_submitted h m.who.number c.path (Lease work step) offset op) l)
 

@@ -1,9 +1,9 @@
 -- What a lease decided is done: the state that follows, and what is asked of the calls and replies in it.
 use Rattle.sl_host_law.specs.Answers.Carrying.{MayCall}
-use Rattle.sl_area.specs.Places.{block_offset, leader_offset}
+use Rattle.sl_area.specs.Places.{area_sectors, block_offset, block_place, block_record, block_sectors, leader_offset, leader_record}
 use Rattle.sl_due.specs.DueLease.{carry_lease, grant_of}
 use Rattle.sl_due.specs.Steps.{Step}
-use Rattle.sl_host_state.specs.Kept.{HostState, MemberState}
+use Rattle.sl_host_state.specs.Kept.{HostState, LeaseState, MemberState}
 use Rattle.sl_host_state.specs.Makes.{with_call, with_end, with_grant, with_reply, with_start}
 use Rattle.sl_trace.specs.Jobs.{process_named}
 use Rattle.sl_trace.specs.declared.lease.LeaseNext.TheVariants.{AnswerJob, BecomeExclusive, BecomeShared, GrantJob, Nothing, ReadFor, WriteBlock, WriteLeader}
@@ -13,15 +13,17 @@ use Rattle.sl_host_law.specs.Questions.Members.{IsMemberAt, otherwise_at}
 use Rattle.sl_host_law.specs.Replies.Replies.{MayReply}
 use Rattle.sl_sector.specs.declared.sector.Block.{Block}
 use Rattle.sl_sector.specs.declared.sector.Leader.{Leader}
-use Rattle.sl_sector.specs.declared.sector.Rec.TheVariants.{BlockIs, LeaderIs}
-use Rattle.sl_host_state.specs.Stands.{Stands}
+use Rattle.sl_host_law.specs.Steps.Leases.{lease_at}
+use Rattle.sl_sector.specs.declared.sector.Rec.{Rec}
+use Rattle.sl_host_state.specs.Stands.{Stands, turn_kept}
 use Rattle.sl_trace.specs.declared.session.Session.{Session}
 use Rattle.sl_trace.specs.Traces.{end_of, first_child, work_job}
 use Rattle.sl_trace.specs.declared.command.Command.TheVariants.{Acquire, RunProgram, TakeOver}
 use Rattle.sl_trace.specs.declared.command.Command.{Command}
 use Rattle.sl_trace.specs.declared.command.ResourceArg.{ResourceArg}
 use Rattle.sl_trace.specs.declared.effects.Grant.{Grant}
-use Rattle.sl_trace.specs.declared.effects.LeaseStep.TheVariants.{ClearMode, FreeLeader, ReadArea, ReadBeforeFree}
+use Rattle.sl_trace.specs.declared.effects.LeaseStep.TheVariants.{ClearMode, FreeLeader, ReadAgain, ReadArea, ReadBeforeFree}
+use Rattle.sl_trace.specs.declared.effects.LeaseRead.TheVariants.{OfArea, OfFree}
 use Rattle.sl_trace.specs.declared.effects.LeaseStep.{LeaseStep}
 use Rattle.sl_trace.specs.declared.effects.Mode.TheVariants.{Exclusive, Shared}
 use Rattle.sl_trace.specs.declared.effects.Mode.{Mode}
@@ -34,7 +36,7 @@ use Rattle.sl_trace.specs.declared.effects.Work.{Work}
 use Rattle.sl_trace.specs.declared.input.Input.{Input}
 use Rattle.sl_trace.specs.declared.reply.Reply.TheVariants.{Granted}
 use Rattle.sl_trace.specs.declared.reply.Reply.{Reply}
-use Rattle.std.specs.Prelude.{Bool, List, None, Some, false, [], ℕ, ◌+◌, ◌≡◌}
+use Rattle.std.specs.Prelude.{Bool, List, None, Some, false, true, [], ℕ, ◌%◌, ◌+◌, ◌-◌, ◌≡◌}
 
 -- ---- calls
 
@@ -42,22 +44,37 @@ use Rattle.std.specs.Prelude.{Bool, List, None, Some, false, [], ℕ, ◌+◌, �
 abbrev pub read_from : HostState → Spot → LeaseStep → ℕ
 read_from h at (ReadArea name) = at.base
 read_from h at ReadBeforeFree = at.base
+read_from h at (ReadAgain (OfArea name)) = at.base
+read_from h at (ReadAgain OfFree) = at.base
 read_from h at step = block_offset h.config.layout at.base 1
 
 abbrev pub sectors_read : HostState → LeaseStep → ℕ
-sectors_read h (ReadArea name) = h.config.layout.hosts + 2
-sectors_read h ReadBeforeFree = h.config.layout.hosts + 2
-sectors_read h step = h.config.layout.hosts
+sectors_read h (ReadArea name) = area_sectors h.config.layout
+sectors_read h ReadBeforeFree = area_sectors h.config.layout
+sectors_read h (ReadAgain (OfArea name)) = area_sectors h.config.layout
+sectors_read h (ReadAgain OfFree) = area_sectors h.config.layout
+sectors_read h step = block_sectors h.config.layout
+
+-- The turn that the member's next block on the area has.
+abbrev pub turn_next : MemberState → Spot → ℕ
+turn_next m at = let l : LeaseState = lease_at m at in turn_kept l.pair + 1
+
+-- Where that block stands, and its record.
+abbrev pub block_at : HostState → MemberState → Spot → ℕ
+block_at h m at = block_place h.config.layout at.base m.who.id (turn_next m at)
+
+abbrev pub record_at : HostState → MemberState → Spot → Block → Rec
+record_at h m at b = let l : LeaseState = lease_at m at in block_record h.config.layout (turn_next m at) m.who.lockspace l.name b
 
 -- A read, the write of the own block, and of the leader.
 abbrev pub reading : Session → Spot → Work → LeaseStep → HostState → HostState
 reading s at work step h = with_call s.number at.path (Lease work step) (read_from h at step) (ReadSectors (sectors_read h step)) h
 
-abbrev pub writing_block : Session → Spot → Work → LeaseStep → Block → HostState → HostState
-writing_block s at work step b h = with_call s.number at.path (Lease work step) (block_offset h.config.layout at.base s.id) (WriteRecord (BlockIs b)) h
+abbrev pub writing_block : MemberState → Spot → Work → LeaseStep → Block → HostState → HostState
+writing_block m at work step b h = with_call m.who.number at.path (Lease work step) (block_at h m at) (WriteRecord (record_at h m at b)) h
 
 abbrev pub writing_leader : Session → Spot → Work → LeaseStep → Leader → HostState → HostState
-writing_leader s at work step l h = with_call s.number at.path (Lease work step) (leader_offset at.base) (WriteRecord (LeaderIs l)) h
+writing_leader s at work step l h = with_call s.number at.path (Lease work step) (leader_offset at.base) (WriteRecord (leader_record h.config.layout l)) h
 
 -- ---- grants
 
@@ -102,18 +119,22 @@ converted m at work mode lver h = for_work_of work (λ j. for_command_of j (λ c
 abbrev pub carrying_lease : MemberState → Spot → Work → LeaseNext → HostState → HostState
 carrying_lease m at work Nothing h = h
 carrying_lease m at work (ReadFor step) h = reading m.who at work step h
-carrying_lease m at work (WriteBlock step b) h = writing_block m.who at work step b h
+carrying_lease m at work (WriteBlock step b) h = writing_block m at work step b h
 carrying_lease m at work (WriteLeader step l) h = writing_leader m.who at work step l h
 carrying_lease m at work (AnswerJob r) h = for_work_of work (λ j. with_reply j r) h
 carrying_lease m at work (GrantJob mode lver) h = for_work_of work (λ j. for_command_of j (λ c. granting_for m.who j c mode lver)) h
 carrying_lease m at work (BecomeShared lver l) h = writing_leader m.who at Settling FreeLeader l (converted m at work Shared lver h)
-carrying_lease m at work (BecomeExclusive lver b) h = writing_block m.who at Settling ClearMode b (converted m at work Exclusive lver h)
+carrying_lease m at work (BecomeExclusive lver b) h = writing_block m at Settling ClearMode b (converted m at work Exclusive lver h)
 
 -- ---- what is asked
 
 -- The member may make the call for the lease.
 abbrev pub MayWork : HostState → Session → Spot → Work → LeaseStep → ℕ → Op → Type 0
 MayWork h s at work step offset op = MayCall h s at.path (Lease work step) offset op
+
+-- With pairs, the area begins where areas do: then the calls on it are those of one lease, which keeps the turn and the resource's name.
+abbrev pub BeginsArea : HostState → Spot → Type 0
+BeginsArea h at = h.config.layout.paired ≡ true → at.base - at.base % h.config.layout.area ≡ at.base
 
 -- The job on whose account the work is done may have this reply.
 abbrev pub MayAnswer : Input → HostState → Step → Work → Reply → Type 0
@@ -123,16 +144,17 @@ MayAnswer i h x work r = (j : ℕ) → work_job work ≡ Some j → MayReply i h
 abbrev pub MayCarryLease : Input → HostState → Step → MemberState → Spot → Work → LeaseNext → Type 0
 MayCarryLease i h x m at work Nothing = Unit {0}
 MayCarryLease i h x m at work (ReadFor step) = MayWork h m.who at work step (read_from h at step) (ReadSectors (sectors_read h step))
-MayCarryLease i h x m at work (WriteBlock step b) = MayWork h m.who at work step (block_offset h.config.layout at.base m.who.id) (WriteRecord (BlockIs b))
-MayCarryLease i h x m at work (WriteLeader step l) = MayWork h m.who at work step (leader_offset at.base) (WriteRecord (LeaderIs l))
+MayCarryLease i h x m at work (WriteBlock step b) = MayWork h m.who at work step (block_at h m at) (WriteRecord (record_at h m at b)) × BeginsArea h at
+MayCarryLease i h x m at work (WriteLeader step l) = MayWork h m.who at work step (leader_offset at.base) (WriteRecord (leader_record h.config.layout l))
 MayCarryLease i h x m at work (AnswerJob r) = MayAnswer i h x work r
 MayCarryLease i h x m at work (GrantJob mode lver) = MayAnswer i h x work (Granted lver)
 MayCarryLease i h x m at work (BecomeShared lver l) =
     MayAnswer i h x work (Granted lver) × (h.made.grants ≡ [])
-    × MayWork (converted m at work Shared lver h) m.who at Settling FreeLeader (leader_offset at.base) (WriteRecord (LeaderIs l))
+    × MayWork (converted m at work Shared lver h) m.who at Settling FreeLeader (leader_offset at.base) (WriteRecord (leader_record (converted m at work Shared lver h).config.layout l))
 MayCarryLease i h x m at work (BecomeExclusive lver b) =
     MayAnswer i h x work (Granted lver) × (h.made.grants ≡ [])
-    × MayWork (converted m at work Exclusive lver h) m.who at Settling ClearMode (block_offset (converted m at work Exclusive lver h).config.layout at.base m.who.id) (WriteRecord (BlockIs b))
+    × MayWork (converted m at work Exclusive lver h) m.who at Settling ClearMode (block_at (converted m at work Exclusive lver h) m at) (WriteRecord (record_at (converted m at work Exclusive lver h) m at b))
+    × BeginsArea h at
 
 abbrev pub LeasesAreCarried : Type 0
 LeasesAreCarried =

@@ -8,10 +8,9 @@ use Rattle.sl_due.specs.Steps.{Step}
 use Rattle.sl_host_state.specs.Kept.{HostState, MemberState}
 use Rattle.sl_host_state.specs.Stands.{Stands}
 use Rattle.sl_host_state.specs.declared.kept.JoinCall.{JoinCall}
-use Rattle.sl_trace.specs.LeaseWork.{settle_next}
 use Rattle.sl_trace.specs.declared.lease.LeaseNext.{LeaseNext}
 use Rattle.sl_host_law.specs.Parts.Wakes.{delta_in, is_free_at, next_by_newest}
-use Rattle.sl_host_law.specs.Questions.Answers.{known_in, place_in}
+use Rattle.sl_host_law.specs.Questions.Answers.{settling_in}
 use Rattle.sl_host_law.specs.Questions.Jobs.{running_in}
 use Rattle.sl_host_law.specs.Questions.Members.{IsMemberAt}
 use Rattle.sl_trace.specs.declared.effects.Spot.{Spot}
@@ -44,4 +43,4 @@ pub record WakingsFollow : Type 0 where
   pub joins : (h : HostState) (x : Step) (k : ℕ) (m : MemberState) → IsMemberAt Wake h x k m → ((j : ℕ) → m.who.job ≡ Some j → running_in h j ≡ true → MayGoOn h m j)
       → Stands Wake (joining_by_time m h) (join_on_wake m.who x)
   pub settles : (i : Input) (h : HostState) (x : Step) (k : ℕ) (m : MemberState) (at : Spot) (next : LeaseNext) → IsMemberAt i h x k m
-      → next ≡ settle_next (place_in h m) (known_in h m x at) → (is_free_at h at ≡ true → MayCarryLease i h x m at Settling next) → Stands i (settling_at m at next h) (settle_on_wake m.who at x)
+      → next ≡ settling_in h m x at → (is_free_at h at ≡ true → MayCarryLease i h x m at Settling next) → Stands i (settling_at m at next h) (settle_on_wake m.who at x)

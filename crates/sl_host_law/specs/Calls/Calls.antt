@@ -3,8 +3,8 @@ use Rattle.sl_area.specs.Layouts.{Layout}
 use Rattle.sl_due.specs.Steps.{add_call_of}
 use Rattle.sl_host_state.specs.Kept.{HostState, LeaseState, MemberState}
 use Rattle.sl_host_state.specs.Makes.{is_lease_on, next_submitted, with_call}
-use Rattle.sl_host_state.specs.Stands.{Takes, is_kept_of, is_plain_call}
-use Rattle.sl_trace.specs.Leases.{Phase2_write, block_written, is_at, is_lease_call, is_on, spot_of_call, value_written}
+use Rattle.sl_host_state.specs.Stands.{Takes, is_kept_of}
+use Rattle.sl_trace.specs.Leases.{Phase2_write, block_written, is_again, is_at, is_lease_call, is_on, spot_of_call, value_written}
 use Rattle.sl_trace.specs.Sessions.{delta_written, is_delta_purpose, is_join_call}
 use Rattle.sl_trace.specs.Traces.{Submitted, job_of}
 use Rattle.sl_trace.specs.declared.effects.JoinStep.TheVariants.{FirstRead}
@@ -13,7 +13,7 @@ use Rattle.sl_trace.specs.declared.effects.Purpose.{Purpose}
 use Rattle.sl_words.specs.Words.{is_empty, some_is}
 use Rattle.std.specs.List.{list_any}
 use Rattle.std.specs.Option.{option_map_or}
-use Rattle.std.specs.Prelude.{Bool, IsTrue, List, Some, false, find, is_none, nat_lt, not, slice_get, true, ℕ, ◌&&◌, ◌==◌, ◌||◌, ◌≡◌}
+use Rattle.std.specs.Prelude.{Bool, IsTrue, List, Some, false, find, is_none, is_some, nat_lt, not, slice_get, true, ℕ, ◌&&◌, ◌==◌, ◌||◌, ◌≡◌}
 
 -- Whether the job runs, and waits for no call.
 abbrev pub is_idle_job : HostState → ℕ → Bool
@@ -51,6 +51,10 @@ fits_lease g s c =
     || nat_lt 0 g.area
     && option_map_or (λ l. is_none l.waiting && follows_read c l) (find (is_lease_on (spot_of_call g c)) s.leases) (not (is_at Phase2_write c))
 
+-- A read is made once more only where something is kept of the answer of the first, and once.
+abbrev pub fits_again : Layout → MemberState → Submitted → Bool
+fits_again g s c = not (is_again c) || option_map_or (λ l. is_some l.pair.first && not l.pair.again) (find (is_lease_on (spot_of_call g c)) s.leases) false
+
 -- The member may make the call, as far as what is kept shows.
 pub record CallFits (h : HostState) (s : MemberState) (c : Submitted) : Type 0 where
   -- a session begins with its first read, which is another's
@@ -60,8 +64,7 @@ pub record CallFits (h : HostState) (s : MemberState) (c : Submitted) : Type 0 w
   pub generation : IsTrue (fits_generation s c)
   pub value : IsTrue (fits_value h.config.layout s c)
   pub lease : IsTrue (fits_lease h.config.layout s c)
-  -- a block has one sector
-  pub plain : IsTrue (is_plain_call c)
+  pub again : IsTrue (fits_again h.config.layout s c)
 
 -- A call that a member may make is taken.
 abbrev pub CallsAreTaken : Type 0

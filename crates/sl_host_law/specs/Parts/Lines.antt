@@ -1,5 +1,5 @@
 -- A command line as a whole: it is answered at once, or heard and carried out.
-use Rattle.sl_area.specs.Places.{delta_offset, value_offset}
+use Rattle.sl_area.specs.Places.{area_sectors, delta_offset, value_offset}
 use Rattle.sl_host_law.specs.Calls.Calls.{fits_lease, fits_value}
 use Rattle.sl_host_law.specs.Decisions.Deciding.{decision_of, open_at}
 use Rattle.sl_host_law.specs.Decisions.Promises.{LastIsEnough}
@@ -31,7 +31,7 @@ use Rattle.sl_trace.specs.declared.input.Input.TheVariants.{Line, Wake}
 use Rattle.sl_trace.specs.declared.input.Input.{Input}
 use Rattle.sl_trace.specs.declared.reply.Reply.TheVariants.{BadCommand as Misread}
 use Rattle.sl_trace.specs.declared.reply.Reply.{Reply}
-use Rattle.std.specs.Prelude.{Err, IsTrue, List, None, Ok, Some, find, slice_get, [], ℕ, ◌+◌, ◌≡◌}
+use Rattle.std.specs.Prelude.{Err, IsTrue, List, None, Ok, Some, find, slice_get, [], ℕ, ◌≡◌}
 
 -- A line that has come, in a step that has made no call: what it says, and what that comes to.
 pub record LineComes (h : HostState) (x : Step) (text : List ℕ) (c : Command) (d : Decision) : Type 0 where
@@ -72,8 +72,8 @@ pub record LinesAreTaken : Type 0 where
       → Stands (Line text) (with_call m.who.number at.path (ValueWrite h.next_job) (value_offset h.config.layout at.base) (WriteRecord (ValueIs v)) (heard_line c h)) (on_line text x)
   -- and an area is read whose lease waits for nothing
   pub reads : (h : HostState) (x : Step) (text : List ℕ) (c : Command) (s : Session) (r : ResourceArg) (k : ℕ) (m : MemberState) → LineComes h x text c (ReadsArea s r) → HeardBy h c k m s
-      → IsTrue (fits_lease h.config.layout m (next_submitted h m.who.number r.path (Lease (ForJob h.next_job) (ReadArea r.name)) r.offset (ReadSectors (h.config.layout.hosts + 2))))
-      → Stands (Line text) (with_call m.who.number r.path (Lease (ForJob h.next_job) (ReadArea r.name)) r.offset (ReadSectors (h.config.layout.hosts + 2)) (heard_line c h)) (on_line text x)
+      → IsTrue (fits_lease h.config.layout m (next_submitted h m.who.number r.path (Lease (ForJob h.next_job) (ReadArea r.name)) r.offset (ReadSectors (area_sectors h.config.layout))))
+      → Stands (Line text) (with_call m.who.number r.path (Lease (ForJob h.next_job) (ReadArea r.name)) r.offset (ReadSectors (area_sectors h.config.layout)) (heard_line c h)) (on_line text x)
   -- a lease on an area without an open call waits for nothing
   pub free : (i : Input) (h : HostState) (x : Step) (k : ℕ) (m : MemberState) (at : Spot) (l : LeaseState) → IsMemberAt i h x k m → open_at h at ≡ None
       → find (is_lease_on at) m.leases ≡ Some l → l.waiting ≡ None

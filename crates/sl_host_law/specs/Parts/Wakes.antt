@@ -10,8 +10,7 @@ use Rattle.sl_host_state.specs.Kept.{HostState, MemberState}
 use Rattle.sl_host_state.specs.Makes.{has_write_open}
 use Rattle.sl_host_state.specs.Stands.{bits_of}
 use Rattle.sl_host_state.specs.declared.kept.JoinCall.{JoinCall}
-use Rattle.sl_trace.specs.LeaseWork.{settle_next}
-use Rattle.sl_host_law.specs.Questions.Answers.{known_in, place_in}
+use Rattle.sl_host_law.specs.Questions.Answers.{settling_in}
 use Rattle.sl_host_law.specs.Questions.Jobs.{running_in}
 use Rattle.sl_host_law.specs.Questions.Members.{IsMemberAt, has_call_open}
 use Rattle.sl_trace.specs.Deltas.{DeltaLease, next_by_time, next_free, next_renewal}
@@ -47,7 +46,7 @@ pub record MemberWakes (h : HostState) (x : Step) (m : MemberState) : Type 0 whe
       ≡ with_some m.who.job (λ j. when (running_in h j) (carry_delta m.who (next_by_newest (delta_in h m) h.reading m.joining.newest))) x
   pub renewal : renew_on_wake m.who x ≡ when m.joined (carry_delta m.who (next_renewal (delta_in h m) h.reading m.known (bits_in h m))) x
   pub settlings : settlings m.who x ≡ when (is_active_member m) (for_each (map (λ l. l.spot) m.leases) (settle_on_wake m.who)) x
-  pub settling : (at : Spot) → settle_on_wake m.who at x ≡ when (is_free_at h at) (carry_lease m.who at Settling (settle_next (place_in h m) (known_in h m x at))) x
+  pub settling : (at : Spot) → settle_on_wake m.who at x ≡ when (is_free_at h at) (carry_lease m.who at Settling (settling_in h m x at)) x
   pub finish : finish_session m.who x
       ≡ when m.joined (λ y. elim (is_some m.renewing.recovery) [ true ↦ end_if_done m.who y | false ↦ free_if_done m.who y ]) x
   pub ending : end_if_done m.who x ≡ when (is_empty (held_of h m) && not (has_write_open h m.who.number)) (remove_connection m.who.lockspace) x

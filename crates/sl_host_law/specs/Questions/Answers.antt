@@ -11,8 +11,11 @@ use Rattle.sl_host_law.specs.Plain.AtInput.{IsAtInput}
 use Rattle.sl_host_state.specs.Kept.{HostState, MemberState}
 use Rattle.sl_host_state.specs.Stands.{Stands, kept_call}
 use Rattle.sl_host_state.specs.declared.kept.OpenCall.{OpenCall}
-use Rattle.sl_trace.specs.LeaseWork.{LeasePlace, lease_next}
+use Rattle.sl_trace.specs.LeaseWork.{LeasePlace, convert_next, lease_next, release_next, settle_begin, within_turn}
 use Rattle.sl_trace.specs.Leases.{LeaseKnown, known_of, lease_calls, lease_step}
+use Rattle.sl_trace.specs.declared.lease.Aim.TheVariants.{Converts, Releases, Settles}
+use Rattle.sl_trace.specs.declared.lease.Aim.{Aim}
+use Rattle.sl_trace.specs.declared.lease.LeaseNext.{LeaseNext}
 use Rattle.sl_host_law.specs.Questions.Jobs.{aim_in, command_in, goes_on_in, running_in}
 use Rattle.sl_host_law.specs.Questions.Members.{IsMemberAt, begins_by_read_in, exclusive_at, me_in, over_in, shared_at}
 use Rattle.sl_host_law.specs.Replies.Answers.{IsOpen}
@@ -21,6 +24,7 @@ use Rattle.sl_trace.specs.Sessions.{calls_of, is_present}
 use Rattle.sl_trace.specs.Traces.{Submitted, is_orphan, job_of, submitted}
 use Rattle.sl_trace.specs.declared.effects.JoinStep.{JoinStep}
 use Rattle.sl_trace.specs.declared.effects.LeaseStep.{LeaseStep}
+use Rattle.sl_trace.specs.declared.effects.Mode.{Mode}
 use Rattle.sl_trace.specs.declared.effects.Spot.{Spot}
 use Rattle.sl_trace.specs.declared.effects.Work.{Work}
 use Rattle.sl_trace.specs.declared.input.Answer.TheVariants.{Failed, Read, Written}
@@ -61,6 +65,19 @@ known_in h m x at =
     known_of h.config.layout m.who.lockspace (me_in m) (is_some (shared_at h m at)) (option_map (λ g. g.lver) (exclusive_at h m at)) (over_in m)
     (lease_calls x.setting (seen x) m.who at)
 
+-- What its lease does next: after an answer to its call, where it is settled, after a release, and for a conversion.
+abbrev pub next_in : HostState → MemberState → Step → Spot → OpenCall → Aim → LeaseStep → Answer → LeaseNext
+next_in h m x at c aim step a = within_turn (place_in h m) (known_in h m x at) aim (lease_next (place_in h m) (known_in h m x at) aim c.number c.lver step a)
+
+abbrev pub settling_in : HostState → MemberState → Step → Spot → LeaseNext
+settling_in h m x at = within_turn (place_in h m) (known_in h m x at) Settles (settle_begin (place_in h m) (known_in h m x at))
+
+abbrev pub releasing_in : HostState → MemberState → Step → Spot → Mode → ℕ → LeaseNext
+releasing_in h m x at mode lver = within_turn (place_in h m) (known_in h m x at) Releases (release_next (place_in h m) (known_in h m x at) mode lver)
+
+abbrev pub converting_in : HostState → MemberState → Step → Spot → Mode → List ℕ → LeaseNext
+converting_in h m x at mode name = within_turn (place_in h m) (known_in h m x at) (Converts mode) (convert_next (known_in h m x at) mode name)
+
 -- For a job that runs: what a read gives, that a write is done, or the fault.
 abbrev pub for_job_in : HostState → ℕ → OpenCall → Answer → (List ℕ → Step → Step) → (Step → Step) → Step → Step
 for_job_in h j c a on_bytes on_done x =
@@ -95,8 +112,7 @@ lease_in_step h m c work step a x =
     elim (goes_on_in h m work) [
       | false ↦ x
       | true ↦ with_some (aim_in h work) (λ aim.
-          carry_lease m.who (spot_in h.config.layout c) work
-          (lease_next (place_in h m) (known_in h m x (spot_in h.config.layout c)) aim c.number c.lver step a)) x
+          carry_lease m.who (spot_in h.config.layout c) work (next_in h m x (spot_in h.config.layout c) c aim step a)) x
     ]
 
 -- After the read of a request under an exclusive holding.

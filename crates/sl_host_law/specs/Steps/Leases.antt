@@ -5,8 +5,9 @@ use Rattle.sl_host_state.specs.Kept.{HostState, LeaseState, MemberState}
 use Rattle.sl_host_state.specs.Makes.{is_lease_on, new_lease}
 use Rattle.sl_host_state.specs.declared.kept.OpenCall.{OpenCall}
 use Rattle.sl_host_state.specs.declared.kept.TopNumber.{TopNumber}
-use Rattle.sl_trace.specs.LeaseWork.{convert_next, lease_next, release_next, settle_next}
+use Rattle.sl_trace.specs.LeaseWork.{convert_next, lease_next, release_next, settle_begin, within_turn}
 use Rattle.sl_trace.specs.Leases.{LeaseKnown}
+use Rattle.sl_trace.specs.declared.lease.Aim.TheVariants.{Converts, Releases, Settles}
 use Rattle.sl_trace.specs.declared.lease.Aim.{Aim}
 use Rattle.sl_trace.specs.declared.lease.LeaseNext.{LeaseNext}
 use Rattle.sl_host_law.specs.Questions.Answers.{place_in}
@@ -39,7 +40,7 @@ known_by h m at l read =
       self = me_in m;
       own = l.own;
       read = read;
-      kept = first_read h.config.layout l.pair;
+      kept = first_read l.pair;
       turn = turn_kept l.pair;
       name = l.name;
       freed = l.freed;
@@ -57,19 +58,20 @@ known_at h m at = known_by h m at (lease_at m at) (kept_blocks (lease_at m at))
 
 -- The blocks that an answer shows, else what is kept.
 abbrev pub blocks_at : Layout → LeaseState → LeaseStep → Answer → List (Option Block)
-blocks_at g l step a = unwrap_or (blocks_shown g step a) (kept_blocks l)
+blocks_at g l step a = unwrap_or (blocks_shown g l.pair step a) (kept_blocks l)
 
 -- What comes after an answer that the member has heard.
 abbrev pub answered_next : HostState → MemberState → Spot → OpenCall → Aim → LeaseStep → Answer → LeaseNext
 answered_next h m at c aim step a =
-    lease_next (place_in h m) (known_by h m at (lease_at m at) (blocks_at h.config.layout (lease_at m at) step a)) aim c.number c.lver step a
+    let k : LeaseKnown = known_by h m at (lease_at m at) (blocks_at h.config.layout (lease_at m at) step a) in
+    within_turn (place_in h m) k aim (lease_next (place_in h m) k aim c.number c.lver step a)
 
 -- What a settling does next, a release and a conversion.
 abbrev pub settling_next : HostState → MemberState → Spot → LeaseNext
-settling_next h m at = settle_next (place_in h m) (known_at h m at)
+settling_next h m at = within_turn (place_in h m) (known_at h m at) Settles (settle_begin (place_in h m) (known_at h m at))
 
 abbrev pub releasing_next : HostState → MemberState → Spot → Grant → LeaseNext
-releasing_next h m at g = release_next (place_in h m) (known_at h m at) g.mode g.lver
+releasing_next h m at g = within_turn (place_in h m) (known_at h m at) Releases (release_next (place_in h m) (known_at h m at) g.mode g.lver)
 
 abbrev pub converting_next : HostState → MemberState → Spot → Mode → List ℕ → LeaseNext
-converting_next h m at mode name = convert_next (known_at h m at) mode name
+converting_next h m at mode name = within_turn (place_in h m) (known_at h m at) (Converts mode) (convert_next (known_at h m at) mode name)

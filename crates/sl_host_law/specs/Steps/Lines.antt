@@ -1,7 +1,7 @@
 -- A line: what it says is decided before it is heard, then carried out.
 use Rattle.sl_host_law.specs.Answers.Grants.{after_giving, given_up}
 use Rattle.sl_host_law.specs.Answers.Leasing.{carrying_lease, granting_for}
-use Rattle.sl_area.specs.Places.{delta_offset, value_offset}
+use Rattle.sl_area.specs.Places.{area_sectors, delta_offset, value_offset}
 use Rattle.sl_host_law.specs.Decisions.Deciding.{decision_of}
 use Rattle.sl_due.specs.declared.decision.Decision.TheVariants.{ConvertsTo, GetsValue, GivesUp, Joins, Leaves, ReadsArea, Replies, Requests, SetsValue, Shares, TakesOver}
 use Rattle.sl_due.specs.declared.decision.Decision.{Decision}
@@ -22,14 +22,14 @@ use Rattle.sl_trace.specs.declared.effects.Op.TheVariants.{ReadSectors, WriteRec
 use Rattle.sl_trace.specs.declared.effects.Purpose.TheVariants.{Joining, Lease, RequestRead, ValueRead, ValueWrite}
 use Rattle.sl_trace.specs.declared.effects.Work.TheVariants.{ForJob}
 use Rattle.sl_trace.specs.declared.reply.Reply.TheVariants.{BadCommand as Misread}
-use Rattle.std.specs.Prelude.{Err, Ok, Result, Some, ℕ, ◌+◌}
+use Rattle.std.specs.Prelude.{Err, Ok, Result, Some, ℕ}
 
 -- What the command of the job j came to is done, by the host before its line.
 abbrev pub deciding : Command → Decision → HostState → HostState
 deciding c (Replies r) h = answered_line (Ok c) r h
 deciding c (Joins n a) h = with_joining h.next_job a (Joining h.next_job FirstRead) (delta_offset h.config.layout a.offset a.id) (ReadSectors 1) (heard_line c h)
 deciding c (Leaves s) h = at_member s.number (λ m. signalling_and_refusing m (Some h.next_job)) (heard_line c h)
-deciding c (ReadsArea s r) h = with_call s.number r.path (Lease (ForJob h.next_job) (ReadArea r.name)) r.offset (ReadSectors (h.config.layout.hosts + 2)) (heard_line c h)
+deciding c (ReadsArea s r) h = with_call s.number r.path (Lease (ForJob h.next_job) (ReadArea r.name)) r.offset (ReadSectors (area_sectors h.config.layout)) (heard_line c h)
 deciding c (Shares s lver) h = granting_for s h.next_job c Shared lver (heard_line c h)
 deciding c (GivesUp s g) h =
     at_member s.number (λ m h'. after_giving h c m g (releasing_next (given_up h c g) m (spot_of_grant g) g)) (heard_line c h)

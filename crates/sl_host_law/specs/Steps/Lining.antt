@@ -1,7 +1,7 @@
 -- A line of a step.
 use Rattle.sl_host_law.specs.Answers.Grants.{ended, given_up}
 use Rattle.sl_host_law.specs.Answers.Leasing.{MayCarryLease}
-use Rattle.sl_area.specs.Places.{value_offset}
+use Rattle.sl_area.specs.Places.{area_sectors, value_offset}
 use Rattle.sl_host_law.specs.Calls.Calls.{fits_lease, fits_value}
 use Rattle.sl_host_law.specs.Decisions.Deciding.{decision_of}
 use Rattle.sl_host_law.specs.Decisions.Promises.{LastIsEnough}
@@ -27,7 +27,7 @@ use Rattle.sl_trace.specs.declared.effects.Purpose.TheVariants.{Lease, ValueWrit
 use Rattle.sl_trace.specs.declared.effects.Spot.{Spot}
 use Rattle.sl_trace.specs.declared.effects.Work.TheVariants.{ForJob}
 use Rattle.sl_trace.specs.declared.input.Input.TheVariants.{Line, Wake}
-use Rattle.std.specs.Prelude.{IsTrue, List, Ok, Some, find, ℕ, ◌+◌, ◌≡◌}
+use Rattle.std.specs.Prelude.{IsTrue, List, Ok, Some, find, ℕ, ◌≡◌}
 
 -- The member has a lease on the area.
 abbrev pub IsLeased : MemberState → Spot → Type 0
@@ -40,7 +40,7 @@ MayDecide h x text c (Joins n a) = Unit {0}
 MayDecide h x text c (Leaves s) = Unit {0}
 MayDecide h x text c (ReadsArea s r) =
     (k : ℕ) (m : MemberState) → HeardBy h c k m s
-    → IsTrue (fits_lease h.config.layout m (next_submitted h m.who.number r.path (Lease (ForJob h.next_job) (ReadArea r.name)) r.offset (ReadSectors (h.config.layout.hosts + 2))))
+    → IsTrue (fits_lease h.config.layout m (next_submitted h m.who.number r.path (Lease (ForJob h.next_job) (ReadArea r.name)) r.offset (ReadSectors (area_sectors h.config.layout))))
 MayDecide h x text c (Shares s lver) = Unit {0}
 MayDecide h x text c (GivesUp s g) =
     (k : ℕ) (m : MemberState) → HeardBy h c k m s → IsLeased m (spot_of_grant g)

@@ -14,7 +14,7 @@ pub returns-in-Some-clause-state : goal.returns-in-Some-clause-state
 returns-in-Some-clause-state c read =
     let a = c.args in
     let went = goes_further (state_of read a.host.now.kept) a.call.now a.work a.step Failed a.call.now.session c.in-Some.who c.in-Some.next c.area_of-at.result c.area_of-at.ensures c.in-Some.ensures.exact in
-    c.carry_lease.ensures.state went.0 went.1 read ∙ went.2
+    c.carry_lease.ensures.state went.0 went.1 went.2 read ∙ went.3
 
 pub returns-in-None-clause-state : goal.returns-in-None-clause-state
 returns-in-None-clause-state c read =

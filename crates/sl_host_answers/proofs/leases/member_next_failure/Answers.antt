@@ -6,6 +6,7 @@ use Rattle.sl_trace.specs.declared.lease.LeaseNext.{LeaseNext}
 use Rattle.sl_trace.specs.declared.session.Session.{Session}
 use Rattle.sl_trace.specs.declared.input.Answer.TheVariants.{Failed}
 use Rattle.sl_host.specs.Asking.{state_in}
+use Rattle.sl_words.proofs.CaseLaws.{true_is_false}
 use Rattle.std.proofs.Common.{ap, refl, subst, sym, ◌∙◌}
 use Rattle.std.specs.Prelude.{Option, Some, option_map}
 
@@ -17,6 +18,9 @@ returns-in-Some-clause-exact c =
     let both : Session → LeaseNext → Option (Session × LeaseNext) = λ s n. Some (s, n) in
     let found : Option Aim → Option (Session × LeaseNext) = λ o. option_map (λ aim. (m.who, answered_next h m a.at.now a.call.now aim a.step Failed)) o in
     (λ i. both (c.who.ensures i) (c.next_after_failure.ensures.exact h m a.at.now a.step i)) ∙ ap found c.in-Some.ensures.exact
+
+pub returns-in-Some-clause-turned : goal.returns-in-Some-clause-turned
+returns-in-Some-clause-turned c = (c.who.ensures, λ writes. absurd (true_is_false (sym writes ∙ c.next_after_failure.ensures.unwritten)))
 
 pub returns-in-Some-clause-fit : goal.returns-in-Some-clause-fit
 returns-in-Some-clause-fit c =

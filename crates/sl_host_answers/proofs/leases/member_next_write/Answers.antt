@@ -24,6 +24,9 @@ returns-in-Some-clause-exact c =
     let found : Option Aim → Option (Session × LeaseNext) = λ o. option_map (λ aim. (m.who, answered_next h m a.at.now a.call.now aim a.step Written)) o in
     (λ i. both (c.who.ensures i) (c.next_after_write.ensures.exact i)) ∙ ap found c.in-Some.ensures.exact
 
+pub returns-in-Some-clause-turned : goal.returns-in-Some-clause-turned
+returns-in-Some-clause-turned c = (c.who.ensures, c.next_after_write.ensures.turned)
+
 pub returns-in-Some-clause-fit : goal.returns-in-Some-clause-fit
 returns-in-Some-clause-fit c =
     let known = c.requires.known (c.in-Some.ensures.goes refl) in

@@ -123,7 +123,6 @@ keeps_more h x call born ms k next known alone count present members =
     let long : ℕ = length (submitted (seen x)) in
     record {
       config = k.config;
-      unpaired = k.unpaired;
       entries = k.entries;
       calls =
           (let before : first + length (submitted (seen x)) ≡ h.first_call + length h.made.calls = k.calls in

@@ -2,28 +2,32 @@
 use Rattle.sl_area.specs.Layouts.{Layout}
 use Rattle.sl_host_state.specs.Kept.{LeaseState}
 use Rattle.sl_host_state.specs.declared.kept.TopNumber.{TopNumber}
-use Rattle.sl_host_state.specs.Makes.{ballot_calling, kept_lease_call, lease_calling}
-use Rattle.sl_host_state.specs.Stands.{IsWaiting, LeaseStands, first_read, free_written, is_plain_call}
-use Rattle.sl_trace.specs.Leases.{Phase2_write, Read_before_free, ballot_after, base_turn, block_submitted, block_written, first_kept, free_left, freed_by, is_again, is_area_read, is_at, is_free_write, is_lease_call, is_leader_of, kept_before, lease_step, may_show_shared, name_sought, open_ballot, settles_free, turn_written, verified_name}
+use Rattle.sl_host_state.specs.Makes.{ballot_calling, kept_lease_call, lease_calling, pair_calling}
+use Rattle.sl_host_state.proofs.Pairs.{PairStands, pair_calls}
+use Rattle.sl_host_state.specs.Stands.{IsWaiting, LeaseStands, free_written}
+use Rattle.sl_trace.specs.Leases.{Phase2_write, Read_before_free, ballot_after, block_submitted, block_written, free_left, freed_by, is_again, is_area_read, is_at, is_free_write, is_lease_call, is_leader_of, lease_step, may_show_shared, name_sought, open_ballot, settles_free, turn_written, verified_name}
 use Rattle.sl_sector.specs.declared.sector.Block.{Block}
 use Rattle.sl_sector.specs.declared.sector.Leader.{Leader}
 use Rattle.sl_sector.specs.declared.sector.Owner.{Owner}
-use Rattle.sl_sector.specs.declared.sector.PairBlock.{PairBlock}
 use Rattle.sl_trace.specs.Traces.{Submitted, new_call}
 use Rattle.sl_trace.specs.declared.effects.Call.{Call}
 use Rattle.sl_trace.specs.declared.effects.LeaseStep.{LeaseStep}
 use Rattle.sl_trace.specs.declared.effects.Work.{Work}
 use Rattle.sl_words.proofs.CaseLaws.{false_is_true, none_some, some_value}
-use Rattle.sl_words.proofs.WordLaws.{and_true, choose_some}
+use Rattle.sl_words.proofs.WordLaws.{choose_some}
 use Rattle.sl_words.specs.Words.{choose, some_is}
-use Rattle.std.proofs.Common.{ap, refl, subst, sym, ◌∙◌}
+use Rattle.std.proofs.Common.{ap, refl, subst, ◌∙◌}
 use Rattle.std.specs.List.{AllByRecursion}
 use Rattle.std.specs.Option.{option_map_or, option_or}
-use Rattle.std.specs.Prelude.{Bool, IsTrue, List, None, Option, Some, false, is_none, is_some, max, not, option_and_then, option_map, true, unwrap_or, [], ℕ, ◌&&◌, ◌==◌, ◌||◌, ◌∷◌, ◌≡◌}
+use Rattle.std.specs.Prelude.{Bool, IsTrue, List, None, Option, Some, false, is_some, max, not, option_and_then, option_map, true, ℕ, ◌&&◌, ◌==◌, ◌||◌, ◌∷◌, ◌≡◌}
 
 -- A call of phase 2 is in the instance whose greatest number is known.
 abbrev pub FollowsRead : LeaseState → Submitted → Type 0
 FollowsRead l c = is_at Phase2_write c ≡ true → (b : Block) → block_written c ≡ Some b → (t : TopNumber) × (l.top ≡ Some t) × (t.instance ≡ b.lver)
+
+-- A second read finds something kept of the first, and is not made twice.
+abbrev pub FollowsFirst : LeaseState → Submitted → Type 0
+FollowsFirst l c = is_again c ≡ true → IsTrue (is_some l.pair.first) × (l.pair.again ≡ false)
 
 module _ (at reading : ℕ) (call : Call) where
   abbrev c : Submitted
@@ -87,31 +91,13 @@ module _ (at reading : ℕ) (call : Call) where
     by None = refl
     by (Some n) = ap (λ b. choose (not b) n) (not_settled g self n ms)
 
-  -- It shows no turn, and is no second read.
-  turn_more : (g : Layout) (id : ℕ) (ms : List Submitted) → base_turn g id (c ∷ ms) ≡ base_turn g id ms
-  turn_more g id ms = by (turn_written c) g.paired where
-    by : (o : Option ℕ) (p : Bool)
-        → elim (elim o as (λ x. Option ℕ) [ Some t ↦ None | None ↦ elim p as (λ x. Option ℕ) [ false ↦ None | true ↦ None ] ]) as (λ x. ℕ) [ Some t ↦ t | None ↦ base_turn g id ms ]
-        ≡ base_turn g id ms
-    by (Some t) p = refl
-    by None true = refl
-    by None false = refl
-
-  first_more : (g : Layout) (ms : List Submitted) → is_plain_call c ≡ true → first_kept g (c ∷ ms) ≡ []
-  first_more g ms plain =
-      ap (λ b. elim b as (λ x. List (Option PairBlock)) [ false ↦ [] | true ↦ unwrap_or (kept_before g ms) [] ])
-      (untrue (is_again c) (and_true (not (is_again c)) (is_none (turn_written c)) plain).0) where
-        untrue : (b : Bool) → not b ≡ true → b ≡ false
-        untrue false is = refl
-        untrue true is = absurd (false_is_true is)
-
   waits : (ms : List Submitted) → is_lease_call c ≡ true → AllByRecursion (λ m. IsTrue (is_some m.answer)) ms → IsWaiting (kept_lease_call c) (c ∷ ms)
   waits ms is all = by (lease_step call.purpose) refl is where
     by : (o : Option (Work × LeaseStep)) → lease_step call.purpose ≡ o → is_some o ≡ true
         → IsWaiting
-        (option_map (λ p. record { number = call.number; work = p.0; step = p.1; frees = free_written c; clears = some_is (λ b. not b.shared) (block_written c) }) o) (c ∷ ms)
+        (option_map (λ p. record { number = call.number; work = p.0; step = p.1; frees = free_written c; clears = some_is (λ b. not b.shared) (block_written c); turn = turn_written c }) o) (c ∷ ms)
     by None step some = absurd (false_is_true some)
-    by (Some p) step some = ((refl, refl, step, refl, refl), all)
+    by (Some p) step some = ((refl, refl, step, refl, refl, refl), all)
 
   -- A ballot that stays open is the old one.
   opened_more : (l : LeaseState) (n : ℕ) → FollowsRead l c → ((k : ℕ) → l.ballot ≡ Some k → (t : TopNumber) × (l.top ≡ Some t) × (t.instance ≡ k)) → ballot_calling c l.ballot ≡ Some n
@@ -135,9 +121,10 @@ module _ (at reading : ℕ) (call : Call) where
     by None writes has = opened n has
     by (Some b) writes has = begun b (is_at Phase2_write c) refl writes has
 
-  pub lease_more : (g : Layout) (lockspace : List ℕ) (self : Owner) (l : LeaseState) (ms : List Submitted) → is_lease_call c ≡ true → is_plain_call c ≡ true → l.waiting ≡ None
-      → FollowsRead l c → LeaseStands g lockspace self l ms → LeaseStands g lockspace self (lease_calling c l) (c ∷ ms)
-  lease_more g lockspace self l ms works plain free follows s =
+  pub lease_more : (g : Layout) (lockspace : List ℕ) (self : Owner) (l : LeaseState) (ms : List Submitted) → is_lease_call c ≡ true → l.waiting ≡ None → FollowsRead l c
+      → FollowsFirst l c → LeaseStands g lockspace self l ms → LeaseStands g lockspace self (lease_calling c l) (c ∷ ms)
+  lease_more g lockspace self l ms works free follows again s =
+      let pairs : PairStands g self.id (pair_calling (is_again c) l.pair) (c ∷ ms) = pair_calls g self.id l.pair c ms refl again (record { turn = s.turn; again = s.again; kept = s.kept; second = s.second }) in
       record {
         own = own_more ms l.own s.own;
         name = name_more g lockspace ms ∙ s.name;
@@ -148,8 +135,8 @@ module _ (at reading : ℕ) (call : Call) where
         waiting = waits ms works (subst (λ o. IsWaiting o ms) free s.waiting);
         top = s.top;
         opened = λ n is. opened_more l n follows s.opened is;
-        pair = s.pair;
-        turn = turn_more g self.id ms ∙ s.turn;
-        first = first_more g ms plain ∙ sym (ap (first_read g) s.pair);
-        plain = (plain, s.plain);
+        turn = pairs.turn;
+        again = pairs.again;
+        kept = pairs.kept;
+        second = pairs.second;
       }

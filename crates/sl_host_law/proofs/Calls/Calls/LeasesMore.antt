@@ -1,17 +1,17 @@
 -- The leases of a session after one more call of it: the one on the call's area takes it, its first call perhaps; the others stand as
 -- they did.
 use Rattle.sl_area.specs.Layouts.{Layout}
-use Rattle.sl_host_law.proofs.Calls.Calls.LeaseMore.{FollowsRead, lease_more}
+use Rattle.sl_host_law.proofs.Calls.Calls.LeaseMore.{FollowsFirst, FollowsRead, lease_more}
 use Rattle.sl_host_law.proofs.Calls.Calls.SpotsMore.{AreOnce, found_once, on_its_area, on_own, one_spot, spot_itself, spot_there, spots_once, valued_spot}
-use Rattle.sl_host_law.specs.Calls.Calls.{fits_lease, follows_read}
+use Rattle.sl_host_law.specs.Calls.Calls.{fits_again, fits_lease, follows_read}
 use Rattle.sl_host_law.proofs.Plain.PlainLists.{any_mapped, filter_none, none_any}
 use Rattle.sl_host_law.proofs.Plain.PlainOrders.{put_inside}
 use Rattle.sl_host_state.proofs.Resting.{new_lease_stands}
 use Rattle.sl_host_state.specs.Kept.{LeaseState, MemberState}
 use Rattle.sl_host_state.specs.Makes.{is_lease_on, lease_calling, leases_calling, leases_working, new_lease, value_calling}
-use Rattle.sl_host_state.specs.Stands.{LeaseStands, is_plain_call, pair_of}
+use Rattle.sl_host_state.specs.Stands.{LeaseStands, pair_of}
 use Rattle.sl_host_state.specs.declared.kept.TopNumber.{TopNumber}
-use Rattle.sl_trace.specs.Leases.{Phase2_write, block_written, is_at, is_lease_call, is_on, is_spot_before, spot_of_call, spots_in, value_written}
+use Rattle.sl_trace.specs.Leases.{Phase2_write, block_written, is_again, is_at, is_lease_call, is_on, is_spot_before, spot_of_call, spots_in, value_written}
 use Rattle.sl_plain.proofs.Lists.{contains_map, in_map}
 use Rattle.sl_sector.specs.declared.sector.Block.{Block}
 use Rattle.sl_sector.specs.declared.sector.Owner.{Owner}
@@ -28,7 +28,7 @@ use Rattle.std.proofs.lemmas.Bool.Decides.{Decides-eqb}
 use Rattle.std.proofs.lemmas.Bool.{ltb-true}
 use Rattle.std.specs.List.{list_any}
 use Rattle.std.specs.Option.{option_map_or, option_or}
-use Rattle.std.specs.Prelude.{Bool, Contains, List, None, Option, Some, cond, false, filter, find, is_none, map, nat_lt, not, option_map, true, [], ℕ, ◌&&◌, ◌<◌, ◌==◌, ◌||◌, ◌∷◌, ◌≡◌, ◌⊎◌}
+use Rattle.std.specs.Prelude.{Bool, Contains, IsTrue, List, None, Option, Some, cond, false, filter, find, is_none, is_some, map, nat_lt, not, option_map, true, [], ℕ, ◌&&◌, ◌<◌, ◌==◌, ◌||◌, ◌∷◌, ◌≡◌, ◌⊎◌}
 
 -- The calls on a lease's area among these.
 abbrev pub calls_on : Layout → Spot → List Submitted → List Submitted
@@ -40,9 +40,13 @@ StandsIn g lockspace self ms l = LeaseStands g lockspace self l (calls_on g l.sp
 
 -- What a lease that takes a call must be.
 pub record MayTake (c : Submitted) (l : LeaseState) : Type 0 where
-  pub plain : is_plain_call c ≡ true
   pub free : l.waiting ≡ None
   pub follows : FollowsRead l c
+  pub again : FollowsFirst l c
+
+-- Whether it has what a second read asks for.
+abbrev finds_first : LeaseState → Bool
+finds_first l = is_some l.pair.first && not l.pair.again
 
 -- By the test.
 none_waits : {A : Type 0} (o : Option A) → is_none o ≡ true → o ≡ None
@@ -61,14 +65,29 @@ follows_by c l is phase b writes = by (is_at Phase2_write c) phase is where
   by false at holds = absurd (false_is_true at)
   by true at holds = found holds
 
-may_take_by : (c : Submitted) (l : LeaseState) → is_plain_call c ≡ true → (is_none l.waiting && follows_read c l) ≡ true → MayTake c l
-may_take_by c l plain is =
-    let parts = and_true (is_none l.waiting) (follows_read c l) is in
-    record { plain = plain; free = none_waits l.waiting parts.0; follows = follows_by c l parts.1 }
+again_by : (c : Submitted) (l : LeaseState) → (not (is_again c) || finds_first l) ≡ true → FollowsFirst l c
+again_by c l is again = by (is_again c) again is where
+  untrue : (b : Bool) → not b ≡ true → b ≡ false
+  untrue false holds = refl
+  untrue true holds = absurd (false_is_true holds)
 
--- A lease without a call takes one that is not of phase 2.
-may_begin : (c : Submitted) (at : Spot) → is_plain_call c ≡ true → not (is_at Phase2_write c) ≡ true → MayTake c (new_lease at)
-may_begin c at plain is = record { plain = plain; free = refl; follows = λ phase b writes. absurd (false_is_true (sym (ap not phase) ∙ is)) }
+  by : (b : Bool) → b ≡ true → (not b || finds_first l) ≡ true → IsTrue (is_some l.pair.first) × (l.pair.again ≡ false)
+  by false at holds = absurd (false_is_true at)
+  by true at holds = (let parts = and_true (is_some l.pair.first) (not l.pair.again) holds in (parts.0, untrue l.pair.again parts.1))
+
+may_take_by : (c : Submitted) (l : LeaseState) → (is_none l.waiting && follows_read c l) ≡ true → (not (is_again c) || finds_first l) ≡ true → MayTake c l
+may_take_by c l is again =
+    let parts = and_true (is_none l.waiting) (follows_read c l) is in
+    record { free = none_waits l.waiting parts.0; follows = follows_by c l parts.1; again = again_by c l again }
+
+-- A lease without a call takes one that is not of phase 2, and no second read.
+may_begin : (c : Submitted) (at : Spot) → not (is_at Phase2_write c) ≡ true → (not (is_again c) || false) ≡ true → MayTake c (new_lease at)
+may_begin c at is once =
+    record {
+      free = refl;
+      follows = λ phase b writes. absurd (false_is_true (sym (ap not phase) ∙ is));
+      again = λ again. absurd (false_is_true (ap (λ b. not b || false) (sym again) ∙ once));
+    }
 
 -- What the tests say of the leases: the area has bytes; who is on the call's area may take it; if nobody is, the lease is begun.
 pub record LeasesMay (g : Layout) (c : Submitted) (ls : List LeaseState) : Type 0 where
@@ -87,9 +106,12 @@ found_nowhere {A} p (x ∷ xs) none = by (p x) none (λ rest. found_nowhere p xs
 abbrev fits_found : Submitted → Option LeaseState → Bool
 fits_found c o = option_map_or (λ l. is_none l.waiting && follows_read c l) o (not (is_at Phase2_write c))
 
-pub leases_may : (g : Layout) (s : MemberState) (c : Submitted) (ms : List Submitted) → spots_in g ms ≡ map (λ l. l.spot) s.leases → is_plain_call c ≡ true
-    → fits_lease g s c ≡ true → is_lease_call c ≡ true → LeasesMay g c s.leases
-leases_may g s c ms spots plain fits works = by (is_lease_call c) works fits where
+abbrev again_found : Submitted → Option LeaseState → Bool
+again_found c o = not (is_again c) || option_map_or finds_first o false
+
+pub leases_may : (g : Layout) (s : MemberState) (c : Submitted) (ms : List Submitted) → spots_in g ms ≡ map (λ l. l.spot) s.leases → fits_lease g s c ≡ true
+    → fits_again g s c ≡ true → is_lease_call c ≡ true → LeasesMay g c s.leases
+leases_may g s c ms spots fits again works = by (is_lease_call c) works fits where
   by : (b : Bool) → b ≡ true → (not b || nat_lt 0 g.area && fits_found c (find (is_lease_on (spot_of_call g c)) s.leases)) ≡ true → LeasesMay g c s.leases
   by false is holds = absurd (false_is_true is)
   by true is holds =
@@ -97,8 +119,12 @@ leases_may g s c ms spots plain fits works = by (is_lease_call c) works fits whe
       let once = subst (λ ss. AreOnce ss) spots (spots_once g ms) in
       record {
         room = ltb-true 0 g.area parts.0;
-        old = λ l there on. may_take_by c l plain (sym (ap (fits_found c) (found_once (spot_of_call g c) s.leases l once there on)) ∙ parts.1);
-        new = λ none. may_begin c (spot_of_call g c) plain (sym (ap (fits_found c) (found_nowhere (is_lease_on (spot_of_call g c)) s.leases none)) ∙ parts.1);
+        old = λ l there on.
+            (let is_found = found_once (spot_of_call g c) s.leases l once there on in
+            may_take_by c l (sym (ap (fits_found c) is_found) ∙ parts.1) (sym (ap (again_found c) is_found) ∙ again));
+        new = λ none.
+            (let is_none = found_nowhere (is_lease_on (spot_of_call g c)) s.leases none in
+            may_begin c (spot_of_call g c) (sym (ap (fits_found c) is_none) ∙ parts.1) (sym (ap (again_found c) is_none) ∙ again));
       }
 
 module _ (g : Layout) (lockspace : List ℕ) (self : Owner) (at reading : ℕ) (call : Call) where
@@ -121,7 +147,7 @@ module _ (g : Layout) (lockspace : List ℕ) (self : Owner) (at reading : ℕ) (
       ∙ ap (λ b. cond b (c ∷ calls_on g s ms) (calls_on g s ms)) (subst (λ z. is_on g z call ≡ true) is (on_own g c room))
 
   -- And no other call, where no lease is.
-  nothing_here : (ms : List Submitted) → list_any (same_spot (spot_of_call g c)) (spots_in g ms) ≡ false → calls_on g (spot_of_call g c) ms ≡ []
+  pub nothing_here : (ms : List Submitted) → list_any (same_spot (spot_of_call g c)) (spots_in g ms) ≡ false → calls_on g (spot_of_call g c) ms ≡ []
   nothing_here ms none =
       filter_none (λ m. is_lease_call m && is_on g (spot_of_call g c) m.call) ms (λ d there. is_false (is_lease_call d && is_on g (spot_of_call g c) d.call) (λ both. clash d there (and_true (is_lease_call d) (is_on g (spot_of_call g c) d.call) both))) where
         clash : (d : Submitted) → Contains ms d → (is_lease_call d ≡ true) × (is_on g (spot_of_call g c) d.call ≡ true) → ⊥
@@ -132,7 +158,7 @@ module _ (g : Layout) (lockspace : List ℕ) (self : Owner) (at reading : ℕ) (
       → StandsIn g lockspace self (c ∷ ms) (lease_calling c l)
   taken ms l works room is may stands =
       subst (λ cs. LeaseStands g lockspace self (lease_calling c l) cs) (sym (here ms l.spot works room is))
-      (lease_more at reading call g lockspace self l (calls_on g l.spot ms) works may.plain may.free may.follows stands)
+      (lease_more at reading call g lockspace self l (calls_on g l.spot ms) works may.free may.follows may.again stands)
 
   begun : (ms : List Submitted) → is_lease_call c ≡ true → 0 < g.area → list_any (same_spot (spot_of_call g c)) (spots_in g ms) ≡ false → MayTake c (new_lease (spot_of_call g c))
       → StandsIn g lockspace self (c ∷ ms) (lease_calling c (new_lease (spot_of_call g c)))
@@ -196,10 +222,10 @@ module _ (g : Layout) (lockspace : List ℕ) (self : Owner) (at reading : ℕ) (
           waiting = s.waiting;
           top = s.top;
           opened = s.opened;
-          pair = s.pair;
           turn = s.turn;
-          first = s.first;
-          plain = s.plain;
+          again = s.again;
+          kept = s.kept;
+          second = s.second;
         }
 
   pub leases_stand : (ms : List Submitted) (ls : List LeaseState) → spots_in g ms ≡ map (λ k. k.spot) ls → (is_lease_call c ≡ true → LeasesMay g c ls) → EachStands ms ls

@@ -4,13 +4,13 @@ use Rattle.sl_host_law.proofs.Calls.Calls.KnownMore.{asked_more, joining_more, k
 use Rattle.sl_host_law.proofs.Calls.Calls.LeasesMore.{calls_on, leases_may, leases_stand}
 use Rattle.sl_host_law.proofs.Calls.Calls.SpotsMore.{spots_more}
 use Rattle.sl_host_law.proofs.Calls.Calls.ValuesMore.{on_lease, valued_more, values_more}
-use Rattle.sl_host_law.specs.Calls.Calls.{fits_generation, fits_lease, fits_turn, fits_value}
+use Rattle.sl_host_law.specs.Calls.Calls.{fits_again, fits_generation, fits_lease, fits_turn, fits_value}
 use Rattle.sl_due.specs.Steps.{Step, seen, with_effects}
 use Rattle.sl_host_law.proofs.Plain.PlainLists.{at_some}
 use Rattle.sl_host_state.specs.Kept.{LeaseState, MemberState}
 use Rattle.sl_host_state.specs.Makes.{joining_calling, known_calling, leases_calling}
 use Rattle.sl_host_state.proofs.Seeing.{askings_stay, looks_stay}
-use Rattle.sl_host_state.specs.Stands.{AreInTurn, AskedStands, JoinStands, LeaseStands, MemberStands, WatchKeeps, is_plain_call, newest_value}
+use Rattle.sl_host_state.specs.Stands.{AreInTurn, AskedStands, JoinStands, LeaseStands, MemberStands, WatchKeeps, newest_value}
 use Rattle.sl_trace.specs.Counts.{values_on}
 use Rattle.sl_trace.specs.Leases.{spots_in}
 use Rattle.sl_plain.proofs.Lists.{contains_none, got_inside}
@@ -93,7 +93,7 @@ pub record MemberFits (g : Layout) (s : MemberState) (c : Submitted) : Type 0 wh
   pub generation : IsTrue (fits_generation s c)
   pub value : IsTrue (fits_value g s c)
   pub lease : IsTrue (fits_lease g s c)
-  pub plain : is_plain_call c ≡ true
+  pub again : IsTrue (fits_again g s c)
 
 not_both : (a b c : Bool) → not (a && b) ≡ true → c ≡ b → (a && c) ≡ false
 not_both true true c fits is = absurd (false_is_true fits)
@@ -144,7 +144,7 @@ own_stands x call s own fits k =
       spots = ap (spots_in g) is ∙ spots_more g c ms s.leases k.spots;
       leases = λ i l there.
           subst (λ cs. LeaseStands g s.who.lockspace (self_by s.who cs) l (calls_on g l.spot cs)) (sym is)
-          (leases_stand g s.who.lockspace (self_by s.who (c ∷ ms)) (length x.past) x.reading call ms s.leases k.spots (leases_may g s c ms k.spots fits.plain fits.lease) each l
+          (leases_stand g s.who.lockspace (self_by s.who (c ∷ ms)) (length x.past) x.reading call ms s.leases k.spots (leases_may g s c ms k.spots fits.lease fits.again) each l
           (got_inside (leases_calling g c s.leases) i l there));
       valued = subst (λ cs. AllByRecursion (λ d. IsTrue (on_lease g (leases_calling g c s.leases) d)) cs) (sym is)
           (valued_more g (length x.past) x.reading call ms s k.spots fits.value k.valued);

@@ -129,7 +129,6 @@ module _ (st : Setting) (past : Trace) (reading : ℕ) (fx : Effects) where
       let many : length (children (heard i)) ≡ length (children (heard Wake)) = how_many (children (heard i)) (children (heard Wake)) c.processes in
       record {
         config = k.config;
-        unpaired = k.unpaired;
         entries = k.entries;
         calls = ap (λ cs. st.first.call + length cs) same ∙ k.calls;
         lines = c.lines;

@@ -163,7 +163,6 @@ module _ (st : Setting) (past : Trace) (reading : ℕ) (fx : Effects) (text : Li
       let was : st.first.job + numbers_taken past ≡ h.next_job = k.lines in
       record {
         config = k.config;
-        unpaired = k.unpaired;
         entries = k.entries;
         calls = k.calls;
         lines = (let is : st.first.job + (numbers_taken past + 1) ≡ h.next_job + 1 = omega (arith, was) in is);

@@ -97,7 +97,6 @@ module _ (st : Setting) (past : Trace) (now : ℕ) (fx : Effects) (a : Answer) (
       let many : length (map (hear past now fx n a) (submitted past)) ≡ length (submitted past) = length-map (submitted past) (hear past now fx n a) in
       record {
         config = k.config;
-        unpaired = k.unpaired;
         entries = k.entries;
         calls = ap (λ z. st.first.call + z) many ∙ k.calls;
         lines = k.lines;

@@ -1,15 +1,15 @@
 -- A lease that hears the answer to its newest call stands for its calls with the answer.
 use Rattle.sl_area.specs.Layouts.{Layout}
-use Rattle.sl_area.specs.Places.{blocks_in, blocks_part, leader_of, leader_read, pair_read, read_once}
-use Rattle.sl_host_state.specs.Hears.{blocks_of_step, blocks_shown, concludes_at, is_last_phase, is_phase_step, lease_hearing, settles_at, stop_shown, top_hearing, verified_at, won_at, won_hearing}
+use Rattle.sl_area.specs.Places.{blocks_of}
+use Rattle.sl_host_state.proofs.Pairs.{PairStands, at_phase, at_step, blocks_are_shown, last_kind, leader_is_shown, pair_hears, second_finds}
+use Rattle.sl_host_state.specs.Hears.{blocks_shown, concludes_at, is_free_step, is_last_phase, is_phase_step, leader_shown, lease_hearing, pair_hearing, read_heard, settles_at, stop_shown, top_hearing, verified_at, won_at, won_hearing}
 use Rattle.sl_host_state.specs.Kept.{LeaseState}
-use Rattle.sl_host_state.specs.Stands.{LeaseStands, free_written, is_plain_call, top_mbal}
+use Rattle.sl_host_state.specs.Stands.{IsKeptCall, LeaseStands, free_written, top_mbal}
 use Rattle.sl_host_state.specs.declared.kept.LeaseCall.{LeaseCall}
 use Rattle.sl_host_state.specs.declared.kept.OpenCall.{OpenCall}
 use Rattle.sl_host_state.specs.declared.kept.TopNumber.{TopNumber}
 use Rattle.sl_trace.specs.Ballots.{is_ahead, same_owner, stop_of, value_of}
-use Rattle.sl_trace.proofs.PlainReads.{first_plain, leader_plain, once_plain}
-use Rattle.sl_trace.specs.Leases.{Area_read, Phase1_read, Phase2_read, Phase2_write, Read_before_block, Read_before_free, StepKind, base_turn, block_of_record, block_submitted, block_written, blocks_bytes, blocks_given, concludes, ended_ballot, free_left, given_with, is_again, is_area_read, is_at, is_free_write, is_leader_of, is_phase_read, kept_before, kind_of_step, last_blocks, leader_given, leader_of_record, leader_written, lease_step, may_show_shared, name_sought, open_ballot, same_kind, settles_free, shows_settled, stop_in, turn_shown, turn_written, value_in_end, verified_by, verified_name, was_settled, won_by}
+use Rattle.sl_trace.specs.Leases.{Phase2_read, Phase2_write, Read_before_free, block_of_record, block_submitted, block_written, blocks_given, concludes, ended_ballot, free_left, is_again, is_area_read, is_at, is_free_write, is_leader_of, kept_before, kind_of_step, last_blocks, leader_given, leader_of_record, leader_written, lease_step, may_show_shared, name_sought, open_ballot, same_kind, settles_free, shows_settled, stop_in, value_in_end, verified_by, verified_name, was_settled, won_by}
 use Rattle.sl_trace.specs.declared.lease.Stop.{Stop}
 use Rattle.sl_plain.proofs.Options.{mapped_value}
 use Rattle.sl_host_law.proofs.Replies.PlainNumbers.{same_number}
@@ -18,166 +18,68 @@ use Rattle.sl_sector.specs.declared.sector.Block.{Block}
 use Rattle.sl_sector.specs.declared.sector.Leader.{Leader}
 use Rattle.sl_sector.specs.declared.sector.Owner.{Owner}
 use Rattle.sl_sector.specs.declared.sector.Rec.{Rec}
-use Rattle.sl_trace.specs.Traces.{Submitted, bytes_given, gave, is_answered_ok, is_ok_answer, record_of}
+use Rattle.sl_trace.specs.Traces.{Submitted, bytes_given, is_ok_answer, record_of}
 use Rattle.sl_trace.specs.declared.effects.LeaseRead.TheVariants.{OfArea, OfBlock, OfFree, OfPhase1, OfPhase2}
-use Rattle.sl_trace.specs.declared.effects.LeaseStep.TheVariants.{ClearMode, FreeLeader, Phase1Read, Phase1Write, Phase2Read, Phase2Write, ReadAgain, ReadArea, ReadBeforeBlock, ReadBeforeFree, SetMode, TakeLeader}
+use Rattle.sl_trace.specs.declared.effects.LeaseStep.TheVariants.{ReadAgain, ReadBeforeFree}
 use Rattle.sl_trace.specs.declared.effects.LeaseStep.{LeaseStep}
-use Rattle.sl_trace.specs.declared.effects.Purpose.TheVariants.{Lease}
 use Rattle.sl_trace.specs.declared.effects.Purpose.{Purpose}
-use Rattle.sl_trace.specs.declared.effects.Work.{Work}
 use Rattle.sl_trace.specs.declared.input.Answer.TheVariants.{Failed, Read, Written}
 use Rattle.sl_trace.specs.declared.input.Answer.{Answer}
-use Rattle.sl_words.proofs.CaseLaws.{false_is_true, none_some, true_is_false}
-use Rattle.sl_words.proofs.WordLaws.{and_true}
+use Rattle.sl_words.proofs.CaseLaws.{none_some, true_is_false}
 use Rattle.sl_words.specs.Words.{choose, some_is}
 use Rattle.std.proofs.Common.{ap, refl, subst, sym, ◌∙◌}
 use Rattle.std.specs.List.{AllByRecursion}
-use Rattle.std.specs.Prelude.{Bool, IsTrue, List, None, Option, Some, cond, false, is_none, is_some, not, option_and_then, option_map, true, unwrap_or, ℕ, ◌&&◌, ◌==◌, ◌||◌, ◌∷◌, ◌≡◌}
+use Rattle.std.specs.Prelude.{Bool, IsTrue, List, None, Option, Some, cond, false, is_some, not, option_and_then, option_map, true, unwrap_or, ℕ, ◌&&◌, ◌==◌, ◌||◌, ◌∷◌, ◌≡◌}
 
--- ---- the step of a call
-
-at_step : (kind : StepKind) (m : Submitted) (work : Work) (step : LeaseStep) → lease_step m.call.purpose ≡ Some (work, step) → is_at kind m ≡ same_kind (kind_of_step step) kind
-at_step kind m work step is = ap (λ (o : Option (Work × LeaseStep)). some_is (λ p. same_kind (kind_of_step p.1) kind) o) is
-
-phase_kind : (step : LeaseStep) → (same_kind (kind_of_step step) Phase1_read || same_kind (kind_of_step step) Phase2_read) ≡ is_phase_step step
-phase_kind Phase1Read = refl
-phase_kind Phase2Read = refl
-phase_kind (ReadAgain (OfArea name)) = refl
-phase_kind (ReadAgain OfFree) = refl
-phase_kind (ReadAgain OfBlock) = refl
-phase_kind (ReadAgain OfPhase1) = refl
-phase_kind (ReadAgain OfPhase2) = refl
-phase_kind step = refl
-
-last_kind : (step : LeaseStep) → same_kind (kind_of_step step) Phase2_read ≡ is_last_phase step
-last_kind Phase2Read = refl
-last_kind (ReadAgain (OfArea name)) = refl
-last_kind (ReadAgain OfFree) = refl
-last_kind (ReadAgain OfBlock) = refl
-last_kind (ReadAgain OfPhase1) = refl
-last_kind (ReadAgain OfPhase2) = refl
-last_kind step = refl
-
-at_phase : (m : Submitted) (work : Work) (step : LeaseStep) → lease_step m.call.purpose ≡ Some (work, step) → is_phase_read m ≡ is_phase_step step
-at_phase m work step is = ap (λ b. b || is_at Phase2_read m) (at_step Phase1_read m work step is) ∙ ap (λ b. same_kind (kind_of_step step) Phase1_read || b) (at_step Phase2_read m work step is) ∙ phase_kind step
-
-at_area : (m : Submitted) (work : Work) (step : LeaseStep) → lease_step m.call.purpose ≡ Some (work, step)
-    → is_area_read m ≡ (same_kind (kind_of_step step) Area_read || same_kind (kind_of_step step) Read_before_free)
-at_area m work step is = ap (λ b. b || is_at Read_before_free m) (at_step Area_read m work step is) ∙ ap (λ b. same_kind (kind_of_step step) Area_read || b) (at_step Read_before_free m work step is)
-
--- ---- the blocks that its answer shows
-
--- All blocks' part, by what kind of read it is.
-abbrev part_by : Layout → Bool → Bool → Bool → List ℕ → Option (List ℕ)
-part_by g area phase block bytes = elim area as (λ z. Option (List ℕ)) [ true ↦ Some (blocks_part g bytes) | false ↦ choose (area || phase || block) bytes ]
-
-abbrev given_by : Layout → Bool → Bool → Bool → Option (List ℕ) → Option (List (Option Block))
-given_by g area phase block o = option_map (blocks_in g) (elim o as (λ z. Option (List ℕ)) [ None ↦ None | Some bytes ↦ part_by g area phase block bytes ])
-
-abbrev is_area_kind : LeaseStep → Bool
-is_area_kind step = same_kind (kind_of_step step) Area_read || same_kind (kind_of_step step) Read_before_free
-
-by_step : (g : Layout) (step : LeaseStep) (bytes : List ℕ)
-    → option_map (blocks_in g) (part_by g (is_area_kind step) (is_phase_step step) (same_kind (kind_of_step step) Read_before_block) bytes) ≡ blocks_of_step g step bytes
-by_step g (ReadArea name) bytes = refl
-by_step g ReadBeforeFree bytes = refl
-by_step g ReadBeforeBlock bytes = refl
-by_step g (ReadAgain (OfArea name)) bytes = refl
-by_step g (ReadAgain OfFree) bytes = refl
-by_step g (ReadAgain OfBlock) bytes = refl
-by_step g (ReadAgain OfPhase1) bytes = refl
-by_step g (ReadAgain OfPhase2) bytes = refl
-by_step g Phase1Read bytes = refl
-by_step g Phase2Read bytes = refl
-by_step g step bytes = refl
-
-given_at : (g : Layout) (step : LeaseStep) (o : Option (List ℕ))
-    → given_by g (is_area_kind step) (is_phase_step step) (same_kind (kind_of_step step) Read_before_block) o ≡ option_and_then (blocks_of_step g step) o
-given_at g step None = refl
-given_at g step (Some bytes) = by_step g step bytes
-
--- So of a first read.
-pub shown_by : (g : Layout) (m : Submitted) (ms : List Submitted) (work : Work) (step : LeaseStep) (a : Answer) → g.paired ≡ false → is_again m ≡ false
-    → lease_step m.call.purpose ≡ Some (work, step) → gave m ≡ bytes_given a → blocks_given g m ms ≡ blocks_shown g step a
-shown_by g m ms work step a plain single is gives =
-    first_plain g plain m ms single
-    ∙ ap (given_by g (is_area_read m) (is_phase_read m) (is_at Read_before_block m)) gives
-    ∙ ap (λ b. given_by g b (is_phase_read m) (is_at Read_before_block m) (bytes_given a)) (at_area m work step is)
-    ∙ ap (λ b. given_by g (is_area_kind step) b (is_at Read_before_block m) (bytes_given a)) (at_phase m work step is)
-    ∙ ap (λ b. given_by g (is_area_kind step) (is_phase_step step) b (bytes_given a)) (at_step Read_before_block m work step is)
-    ∙ given_at g step (bytes_given a)
-
--- What looks for a name reads the area.
-sought_area : (p : Purpose) (name : List ℕ) → name_sought p ≡ Some name → some_is (λ q. same_kind (kind_of_step q.1) Area_read) (lease_step p) ≡ true
-sought_area (Lease work (ReadArea n)) name is = refl
-sought_area (Lease work (ReadAgain (OfArea n))) name is = refl
-sought_area (Lease work (ReadAgain OfFree)) name is = absurd (none_some name is)
-sought_area (Lease work (ReadAgain OfBlock)) name is = absurd (none_some name is)
-sought_area (Lease work (ReadAgain OfPhase1)) name is = absurd (none_some name is)
-sought_area (Lease work (ReadAgain OfPhase2)) name is = absurd (none_some name is)
-sought_area (Lease work ReadBeforeFree) name is = absurd (none_some name is)
-sought_area (Lease work ReadBeforeBlock) name is = absurd (none_some name is)
-sought_area (Lease work Phase1Write) name is = absurd (none_some name is)
-sought_area (Lease work Phase1Read) name is = absurd (none_some name is)
-sought_area (Lease work Phase2Write) name is = absurd (none_some name is)
-sought_area (Lease work Phase2Read) name is = absurd (none_some name is)
-sought_area (Lease work TakeLeader) name is = absurd (none_some name is)
-sought_area (Lease work SetMode) name is = absurd (none_some name is)
-sought_area (Lease work FreeLeader) name is = absurd (none_some name is)
-sought_area (Lease work ClearMode) name is = absurd (none_some name is)
-sought_area p name is = absurd (none_some name is)
-
-or_right : (p q : Bool) → q ≡ true → (p || q) ≡ true
-or_right true q is = refl
-or_right false q is = is
+-- A settling's read before a free is made, or made once more.
+free_kind : (step : LeaseStep) → same_kind (kind_of_step step) Read_before_free ≡ is_free_step step
+free_kind ReadBeforeFree = refl
+free_kind (ReadAgain (OfArea name)) = refl
+free_kind (ReadAgain OfFree) = refl
+free_kind (ReadAgain OfBlock) = refl
+free_kind (ReadAgain OfPhase1) = refl
+free_kind (ReadAgain OfPhase2) = refl
+free_kind step = refl
 
 -- The lease, its newest call and the answer to it.
-module _ (g : Layout) (lockspace : List ℕ) (self : Owner) (l : LeaseState) (m : Submitted) (ms : List Submitted) (work : Work) (step : LeaseStep) (at now : ℕ) (a : Answer) (heeded : Bool) (plain : g.paired ≡ false) (single : is_again m ≡ false) where
+module _ (g : Layout) (lockspace : List ℕ) (self : Owner) (l : LeaseState) (m : Submitted) (ms : List Submitted) (w : LeaseCall) (at now : ℕ) (a : Answer) (heeded : Bool) (finds : is_again m ≡ true → kept_before g ms ≡ l.pair.first) where
   abbrev none : Submitted
   none = record m { answer = None }
 
   abbrev heard : Submitted
   heard = record m { answer = Some (record { at = at; reading = now; answer = a; heeded = heeded }) }
 
-  blocks_are : lease_step m.call.purpose ≡ Some (work, step) → blocks_given g heard ms ≡ blocks_shown g step a
-  blocks_are is = shown_by g heard ms work step a plain single is refl
+  abbrev step : LeaseStep
+  step = w.step
 
-  -- The leader, where it reads the area.
-  abbrev leader_by : Bool → Bool → Option (List ℕ) → Option Leader
-  leader_by area again o =
-      elim area as (λ z. Option Leader) [
-        | false ↦ None
-        | true ↦ option_and_then (λ r. option_and_then (λ bytes. leader_read g bytes r) o)
-            (given_with g again (kept_before g ms)
-            (elim o as (λ z. Option (List ℕ)) [ None ↦ None | Some bytes ↦ part_by g area (is_phase_read m) (is_at Read_before_block m) bytes ]))
-      ]
+  -- What its answer shows.
+  abbrev given : Option (List (Option Block))
+  given = blocks_shown g l.pair w.step a
 
-  leader_is : is_area_read m ≡ true → leader_given g heard ms ≡ option_and_then (leader_of g) (bytes_given a)
-  leader_is area =
-      ap (λ b. leader_by b (is_again m) (bytes_given a)) area ∙ ap (λ b. leader_by true b (bytes_given a)) single ∙ by (bytes_given a) where
-        by : (o : Option (List ℕ)) → leader_by true false o ≡ option_and_then (leader_of g) o
-        by None = refl
-        by (Some bytes) =
-            ap (λ b. option_and_then (λ r. leader_read g bytes r) (choose (not b) (read_once (blocks_part g bytes)))) (once_plain g plain (blocks_part g bytes))
-            ∙ leader_plain g plain bytes (read_once (blocks_part g bytes))
+  abbrev leader : Option Leader
+  leader = leader_shown g l.pair w.step a
+
+  blocks_are : lease_step m.call.purpose ≡ Some (w.work, w.step) → blocks_given g heard ms ≡ blocks_shown g l.pair w.step a
+  blocks_are is = blocks_are_shown g l.pair heard ms w.work w.step a is refl finds
+
+  leader_is : lease_step m.call.purpose ≡ Some (w.work, w.step) → leader_given g heard ms ≡ leader_shown g l.pair w.step a
+  leader_is is = leader_is_shown g l.pair heard ms w.work w.step a is refl finds
 
   -- The name, where a leader is there.
   abbrev named_by : List ℕ → Option Leader → Option (List ℕ)
   named_by name q = elim q as (λ z. Option (List ℕ)) [ None ↦ None | Some d ↦ choose (is_leader_of g lockspace name d) name ]
 
-  verified_is : verified_by g lockspace heard ms ≡ verified_at g lockspace m.call.purpose a
-  verified_is = by (name_sought m.call.purpose) refl where
+  verified_is : lease_step m.call.purpose ≡ Some (w.work, w.step) → verified_by g lockspace heard ms ≡ verified_at g lockspace m.call.purpose leader
+  verified_is is = by (name_sought m.call.purpose) where
     same : (name : List ℕ) (q : Option Leader) → named_by name q ≡ option_and_then (λ d. choose (is_leader_of g lockspace name d) name) q
     same name None = refl
     same name (Some d) = refl
 
-    by : (o : Option (List ℕ)) → name_sought m.call.purpose ≡ o
+    by : (o : Option (List ℕ))
         → elim o as (λ z. Option (List ℕ)) [ None ↦ None | Some name ↦ named_by name (leader_given g heard ms) ]
-        ≡ option_and_then (λ name. option_and_then (λ d. choose (is_leader_of g lockspace name d) name) (option_and_then (leader_of g) (bytes_given a))) o
-    by None is = refl
-    by (Some name) is =
-        ap (named_by name) (leader_is (ap (λ b. b || is_at Read_before_free m) (sought_area m.call.purpose name is)))
-        ∙ same name (option_and_then (leader_of g) (bytes_given a))
+        ≡ option_and_then (λ name. option_and_then (λ d. choose (is_leader_of g lockspace name d) name) leader) o
+    by None = refl
+    by (Some name) = ap (named_by name) (leader_is is) ∙ same name leader
 
   none_verified : verified_by g lockspace none ms ≡ None
   none_verified = by (name_sought m.call.purpose) (is_area_read m) where
@@ -187,8 +89,8 @@ module _ (g : Layout) (lockspace : List ℕ) (self : Owner) (l : LeaseState) (m 
     by (Some name) true = refl
     by (Some name) false = refl
 
-  name_is : verified_name g lockspace (none ∷ ms) ≡ l.name → verified_name g lockspace (heard ∷ ms) ≡ unwrap_or (verified_at g lockspace m.call.purpose a) l.name
-  name_is before = ap name_by verified_is ∙ by (verified_at g lockspace m.call.purpose a) where
+  name_is : lease_step m.call.purpose ≡ Some (w.work, w.step) → verified_name g lockspace (none ∷ ms) ≡ l.name → verified_name g lockspace (heard ∷ ms) ≡ unwrap_or (verified_at g lockspace m.call.purpose leader) l.name
+  name_is is before = ap name_by (verified_is is) ∙ by (verified_at g lockspace m.call.purpose leader) where
     name_by : Option (List ℕ) → List ℕ
     name_by o = elim o as (λ z. List ℕ) [ Some name ↦ name | None ↦ verified_name g lockspace ms ]
 
@@ -235,10 +137,10 @@ module _ (g : Layout) (lockspace : List ℕ) (self : Owner) (l : LeaseState) (m 
   stop_of_none None = refl
   stop_of_none (Some b) = refl
 
-  no_stop : bytes_given a ≡ None → stop_shown l (blocks_shown g step a) ≡ None
-  no_stop none_given = ap (λ o. stop_shown l (option_and_then (blocks_of_step g step) o)) none_given ∙ stop_of_none l.own
+  no_stop : bytes_given a ≡ None → stop_shown l given ≡ None
+  no_stop none_given = ap (λ o. stop_shown l (option_map (blocks_of g) (option_and_then (read_heard g l.pair step) o))) none_given ∙ stop_of_none l.own
 
-  stops_are : lease_step m.call.purpose ≡ Some (work, step) → block_submitted ms ≡ l.own → stop_in g heard ms ≡ stop_shown l (blocks_shown g step a)
+  stops_are : lease_step m.call.purpose ≡ Some (w.work, w.step) → block_submitted ms ≡ l.own → stop_in g heard ms ≡ stop_shown l given
   stops_are is own =
       ap (λ o. option_and_then (λ b. option_map (stop_of b) (blocks_given g heard ms)) o) own
       ∙ ap (λ (bs : Option (List (Option Block))). option_and_then (λ b. option_map (stop_of b) bs) l.own) (blocks_are is)
@@ -262,13 +164,13 @@ module _ (g : Layout) (lockspace : List ℕ) (self : Owner) (l : LeaseState) (m 
   concluded_by p last stop =
       elim (heeded && p) as (λ z. Bool) [ false ↦ false | true ↦ elim stop as (λ z. Bool) [ None ↦ false | Some s ↦ elim s as (λ z. Bool) [ None ↦ last | Some why ↦ is_ahead why ] ] ]
 
-  concludes_is : lease_step m.call.purpose ≡ Some (work, step) → block_submitted ms ≡ l.own → concludes g heard ms ≡ (heeded && concludes_at step (stop_shown l (blocks_shown g step a)))
+  concludes_is : lease_step m.call.purpose ≡ Some (w.work, w.step) → block_submitted ms ≡ l.own → concludes g heard ms ≡ (heeded && concludes_at step (stop_shown l given))
   concludes_is is own =
-      ap (λ p. concluded_by p (is_at Phase2_read m) (stop_in g heard ms)) (at_phase m work step is)
-      ∙ ap (λ last. concluded_by (is_phase_step step) last (stop_in g heard ms)) (at_step Phase2_read m work step is ∙ last_kind step)
+      ap (λ p. concluded_by p (is_at Phase2_read m) (stop_in g heard ms)) (at_phase m w.work step is)
+      ∙ ap (λ last. concluded_by (is_phase_step step) last (stop_in g heard ms)) (at_step Phase2_read m w.work step is ∙ last_kind step)
       ∙ ap (λ stop. concluded_by (is_phase_step step) (is_last_phase step) stop) (stops_are is own)
-      ∙ concluded heeded (is_phase_step step) (is_last_phase step) (stop_shown l (blocks_shown g step a))
-      ∙ ap (λ b. heeded && b) (same_conclusion (stop_shown l (blocks_shown g step a)))
+      ∙ concluded heeded (is_phase_step step) (is_last_phase step) (stop_shown l given)
+      ∙ ap (λ b. heeded && b) (same_conclusion (stop_shown l given))
 
   -- The open ballot, by the block that the call writes and whether it concludes.
   abbrev ballot_by : Option Block → Bool → Option ℕ
@@ -282,8 +184,8 @@ module _ (g : Layout) (lockspace : List ℕ) (self : Owner) (l : LeaseState) (m 
   abbrev own_by : Option Block → Option Block
   own_by w = elim w as (λ z. Option Block) [ Some b ↦ Some b | None ↦ block_submitted ms ]
 
-  ballot_is : lease_step m.call.purpose ≡ Some (work, step) → (is_some (bytes_given a) ≡ true → record_of m.call.op ≡ None) → block_submitted (none ∷ ms) ≡ l.own → open_ballot g (none ∷ ms) ≡ l.ballot
-      → open_ballot g (heard ∷ ms) ≡ cond (heeded && concludes_at step (stop_shown l (blocks_shown g step a))) None l.ballot
+  ballot_is : lease_step m.call.purpose ≡ Some (w.work, w.step) → (is_some (bytes_given a) ≡ true → record_of m.call.op ≡ None) → block_submitted (none ∷ ms) ≡ l.own → open_ballot g (none ∷ ms) ≡ l.ballot
+      → open_ballot g (heard ∷ ms) ≡ cond (heeded && concludes_at step (stop_shown l given)) None l.ballot
   ballot_is is fits = by (block_written m) refl where
     stays : (h c : Bool) → c ≡ false → (o : Option ℕ) → o ≡ cond (h && c) None o
     stays true true none_is o = absurd (true_is_false none_is)
@@ -294,65 +196,34 @@ module _ (g : Layout) (lockspace : List ℕ) (self : Owner) (l : LeaseState) (m 
     over true o p same = refl
     over false o p same = same
 
-    by : (o : Option Block) → block_written m ≡ o → own_by o ≡ l.own → ballot_by o false ≡ l.ballot → ballot_by o (concludes g heard ms) ≡ cond (heeded && concludes_at step (stop_shown l (blocks_shown g step a))) None l.ballot
-    by (Some b) writes own same = same ∙ stays heeded (concludes_at step (stop_shown l (blocks_shown g step a))) (ap (concludes_at step) (no_stop (no_bytes fits b writes))) l.ballot
+    by : (o : Option Block) → block_written m ≡ o → own_by o ≡ l.own → ballot_by o false ≡ l.ballot → ballot_by o (concludes g heard ms) ≡ cond (heeded && concludes_at step (stop_shown l given)) None l.ballot
+    by (Some b) writes own same = same ∙ stays heeded (concludes_at step (stop_shown l given)) (ap (concludes_at step) (no_stop (no_bytes fits b writes))) l.ballot
     by None writes own same =
         ap (λ c. elim c as (λ z. Option ℕ) [ true ↦ None | false ↦ open_ballot g ms ]) (concludes_is is own)
-        ∙ over (heeded && concludes_at step (stop_shown l (blocks_shown g step a))) (open_ballot g ms) l.ballot same
+        ∙ over (heeded && concludes_at step (stop_shown l given)) (open_ballot g ms) l.ballot same
 
   -- ---- what is owed
-
-  settles_written : (step : LeaseStep) (frees : Option ℕ) (n : ℕ) → some_is (λ f. f == n) frees ≡ settles_at g self step frees n Written
-  settles_written ReadBeforeFree frees n = refl
-  settles_written (ReadAgain (OfArea name)) frees n = refl
-  settles_written (ReadAgain OfFree) frees n = refl
-  settles_written (ReadAgain OfBlock) frees n = refl
-  settles_written (ReadAgain OfPhase1) frees n = refl
-  settles_written (ReadAgain OfPhase2) frees n = refl
-  settles_written step frees n = refl
-
-  settles_failed : (step : LeaseStep) (frees : Option ℕ) (n : ℕ) → false ≡ settles_at g self step frees n Failed
-  settles_failed ReadBeforeFree frees n = refl
-  settles_failed (ReadAgain (OfArea name)) frees n = refl
-  settles_failed (ReadAgain OfFree) frees n = refl
-  settles_failed (ReadAgain OfBlock) frees n = refl
-  settles_failed (ReadAgain OfPhase1) frees n = refl
-  settles_failed (ReadAgain OfPhase2) frees n = refl
-  settles_failed step frees n = refl
 
   -- Whether it shows that the free of n isn't needed.
   abbrev settled_by : ℕ → Bool → Option Leader → Option (List (Option Block)) → Bool
   settled_by n before d bs = elim before as (λ z. Bool) [ false ↦ false | true ↦ some_is (shows_settled self n d) bs ]
 
-  settles_read : (step : LeaseStep) (frees : Option ℕ) (n : ℕ) (bytes : List ℕ)
-      → settled_by n (same_kind (kind_of_step step) Read_before_free) (leader_of g bytes) (blocks_of_step g step bytes) ≡ settles_at g self step frees n (Read bytes)
-  settles_read ReadBeforeFree frees n bytes = refl
-  settles_read (ReadAgain (OfArea name)) frees n bytes = refl
-  settles_read (ReadAgain OfFree) frees n bytes = refl
-  settles_read (ReadAgain OfBlock) frees n bytes = refl
-  settles_read (ReadAgain OfPhase1) frees n bytes = refl
-  settles_read (ReadAgain OfPhase2) frees n bytes = refl
-  settles_read step frees n bytes = refl
+  settles_read : (n : ℕ) (before : Bool) (d : Option Leader) (bs : Option (List (Option Block))) → settled_by n before d bs ≡ (before && some_is (shows_settled self n d) bs)
+  settles_read n true d bs = refl
+  settles_read n false d bs = refl
 
-  was_is : lease_step m.call.purpose ≡ Some (work, step) → (n : ℕ)
-      → was_settled g self n heard ms ≡ settled_by n (same_kind (kind_of_step step) Read_before_free) (option_and_then (leader_of g) (bytes_given a)) (blocks_shown g step a)
+  was_is : lease_step m.call.purpose ≡ Some (w.work, w.step) → (n : ℕ) → was_settled g self n heard ms ≡ settled_by n (is_free_step step) leader given
   was_is is n =
-      by (is_at Read_before_free m) refl
-      ∙ ap (λ b. settled_by n b (option_and_then (leader_of g) (bytes_given a)) (blocks_shown g step a)) (at_step Read_before_free m work step is) where
-        by : (b : Bool) → is_at Read_before_free m ≡ b
-            → settled_by n b (leader_given g heard ms) (blocks_given g heard ms) ≡ settled_by n b (option_and_then (leader_of g) (bytes_given a)) (blocks_shown g step a)
-        by false at_it = refl
-        by true at_it =
-            ap (λ d. some_is (shows_settled self n d) (blocks_given g heard ms)) (leader_is (or_right (is_at Area_read m) (is_at Read_before_free m) at_it))
-            ∙ ap (some_is (shows_settled self n (option_and_then (leader_of g) (bytes_given a)))) (blocks_are is)
+      ap (λ b. settled_by n b (leader_given g heard ms) (blocks_given g heard ms)) (at_step Read_before_free m w.work step is ∙ free_kind step)
+      ∙ ap (λ d. settled_by n (is_free_step step) d (blocks_given g heard ms)) (leader_is is) ∙ ap (settled_by n (is_free_step step) leader) (blocks_are is)
 
   -- Whether the call settles the free of n, by the leader that it writes and its answer.
   abbrev settles_by : ℕ → Option Leader → Bool → Answer → Bool
   settles_by n w before x =
-      some_is (λ d. d.lver == n && not d.held) w && is_ok_answer x || settled_by n before (option_and_then (leader_of g) (bytes_given x)) (blocks_shown g step x)
+      some_is (λ d. d.lver == n && not d.held) w && is_ok_answer x || settled_by n before (leader_shown g l.pair step x) (blocks_shown g l.pair step x)
 
-  settles_is : lease_step m.call.purpose ≡ Some (work, step) → (is_some (bytes_given a) ≡ true → record_of m.call.op ≡ None) → (frees : Option ℕ) → free_written m ≡ frees → (n : ℕ)
-      → settles_free g self n heard ms ≡ settles_at g self step frees n a
+  settles_is : lease_step m.call.purpose ≡ Some (w.work, w.step) → (is_some (bytes_given a) ≡ true → record_of m.call.op ≡ None) → (frees : Option ℕ) → free_written m ≡ frees → (n : ℕ)
+      → settles_free g self n heard ms ≡ settles_at self step frees leader given n a
   settles_is is fits frees writes n =
       ap (λ b. some_is (λ d. d.lver == n && not d.held) (leader_written m) && is_ok_answer a || b) (was_is is n) ∙ by a fits (leader_written m) refl where
         nothing : (b : Bool) → (false || elim b as (λ z. Bool) [ false ↦ false | true ↦ false ]) ≡ false
@@ -384,14 +255,15 @@ module _ (g : Layout) (lockspace : List ℕ) (self : Owner) (l : LeaseState) (m 
         free_is None = refl
         free_is (Some d) = free_one d d.held
 
-        by : (x : Answer) → (is_some (bytes_given x) ≡ true → record_of m.call.op ≡ None) → (w : Option Leader) → leader_written m ≡ w
-            → settles_by n w (same_kind (kind_of_step step) Read_before_free) x ≡ settles_at g self step frees n x
-        by (Read bytes) asked w is_w =
-            ap (λ o. settles_by n o (same_kind (kind_of_step step) Read_before_free) (Read bytes)) (sym is_w ∙ ap (λ (r : Option Rec). option_and_then leader_of_record r) (asked refl)) ∙ settles_read step frees n bytes
-        by Written asked w is_w =
-            no_more (some_is (λ d. d.lver == n && not d.held) w) (same_kind (kind_of_step step) Read_before_free) ∙ free_is w
-            ∙ ap (λ o. some_is (λ f. f == n) (option_and_then (λ d. choose (not d.held) d.lver) o)) (sym is_w) ∙ ap (some_is (λ f. f == n)) writes ∙ settles_written step frees n
-        by Failed asked w is_w = never (some_is (λ d. d.lver == n && not d.held) w) (same_kind (kind_of_step step) Read_before_free) ∙ settles_failed step frees n
+        by : (x : Answer) → (is_some (bytes_given x) ≡ true → record_of m.call.op ≡ None) → (f : Option Leader) → leader_written m ≡ f
+            → settles_by n f (is_free_step step) x ≡ settles_at self step frees (leader_shown g l.pair step x) (blocks_shown g l.pair step x) n x
+        by (Read bytes) asked f is_f =
+            ap (λ o. settles_by n o (is_free_step step) (Read bytes)) (sym is_f ∙ ap (λ (r : Option Rec). option_and_then leader_of_record r) (asked refl))
+            ∙ settles_read n (is_free_step step) (leader_shown g l.pair step (Read bytes)) (blocks_shown g l.pair step (Read bytes))
+        by Written asked f is_f =
+            no_more (some_is (λ d. d.lver == n && not d.held) f) (is_free_step step) ∙ free_is f
+            ∙ ap (λ o. some_is (λ f. f == n) (option_and_then (λ d. choose (not d.held) d.lver) o)) (sym is_f) ∙ ap (some_is (λ f. f == n)) writes
+        by Failed asked f is_f = never (some_is (λ d. d.lver == n && not d.held) f) (is_free_step step)
 
   left_before : free_left g self (none ∷ ms) ≡ l.won → free_left g self ms ≡ l.won
   left_before = by (free_left g self ms) where
@@ -419,8 +291,8 @@ module _ (g : Layout) (lockspace : List ℕ) (self : Owner) (l : LeaseState) (m 
     by None = refl
     by (Some s) = refl
 
-  won_is : lease_step m.call.purpose ≡ Some (work, step) → (is_some (bytes_given a) ≡ true → record_of m.call.op ≡ None) → block_submitted (none ∷ ms) ≡ l.own
-      → won_by g self heard ms ≡ cond heeded (won_at self step l.own (stop_shown l (blocks_shown g step a))) None
+  won_is : lease_step m.call.purpose ≡ Some (w.work, w.step) → (is_some (bytes_given a) ≡ true → record_of m.call.op ≡ None) → block_submitted (none ∷ ms) ≡ l.own
+      → won_by g self heard ms ≡ cond heeded (won_at self step l.own (stop_shown l given)) None
   won_is is fits own = by_heed heeded (by (block_written m) refl own) where
     ended : Option (List (Option Block)) → Option Block → Option ℕ
     ended bs o =
@@ -429,23 +301,23 @@ module _ (g : Layout) (lockspace : List ℕ) (self : Owner) (l : LeaseState) (m 
 
     as_shown : option_and_then (λ p. choose (same_owner p.1 self) p.0) (ended_ballot g heard ms)
         ≡ option_and_then (λ p. choose (same_owner p.1 self) p.0)
-        (elim (is_last_phase step) as (λ z. Option (ℕ × Owner)) [ false ↦ None | true ↦ option_and_then (λ b. option_and_then (λ blocks. value_in_end b (stop_of b blocks)) (blocks_shown g step a)) (block_submitted ms) ])
+        (elim (is_last_phase step) as (λ z. Option (ℕ × Owner)) [ false ↦ None | true ↦ option_and_then (λ b. option_and_then (λ blocks. value_in_end b (stop_of b blocks)) given) (block_submitted ms) ])
     as_shown =
         ap (λ last. option_and_then (λ p. choose (same_owner p.1 self) p.0)
-        (elim last as (λ z. Option (ℕ × Owner)) [ false ↦ None | true ↦ option_and_then (λ b. option_and_then (λ blocks. value_in_end b (stop_of b blocks)) (blocks_given g heard ms)) (block_submitted ms) ])) (at_step Phase2_read m work step is ∙ last_kind step)
+        (elim last as (λ z. Option (ℕ × Owner)) [ false ↦ None | true ↦ option_and_then (λ b. option_and_then (λ blocks. value_in_end b (stop_of b blocks)) (blocks_given g heard ms)) (block_submitted ms) ])) (at_step Phase2_read m w.work step is ∙ last_kind step)
         ∙ ap (λ bs. option_and_then (λ p. choose (same_owner p.1 self) p.0)
         (elim (is_last_phase step) as (λ z. Option (ℕ × Owner)) [ false ↦ None | true ↦ option_and_then (λ b. option_and_then (λ blocks. value_in_end b (stop_of b blocks)) bs) (block_submitted ms) ])) (blocks_are is)
 
-    no_blocks : bytes_given a ≡ None → blocks_shown g step a ≡ None
-    no_blocks none_given = ap (λ o. option_and_then (blocks_of_step g step) o) none_given
+    no_blocks : bytes_given a ≡ None → given ≡ None
+    no_blocks none_given = ap (λ o. option_map (blocks_of g) (option_and_then (read_heard g l.pair step) o)) none_given
 
     by : (o : Option Block) → block_written m ≡ o → own_by o ≡ l.own
-        → option_and_then (λ p. choose (same_owner p.1 self) p.0) (ended_ballot g heard ms) ≡ won_at self step l.own (stop_shown l (blocks_shown g step a))
+        → option_and_then (λ p. choose (same_owner p.1 self) p.0) (ended_ballot g heard ms) ≡ won_at self step l.own (stop_shown l given)
     by None writes same =
-        as_shown ∙ ended_by (is_last_phase step) (blocks_shown g step a) (block_submitted ms)
-        ∙ ap (λ o. cond (is_last_phase step && some_is (λ s. not (is_some s)) (option_and_then (λ b. option_map (stop_of b) (blocks_shown g step a)) o)) (option_and_then (λ b. choose (same_owner (value_of b) self) b.lver) o) None) same
+        as_shown ∙ ended_by (is_last_phase step) given (block_submitted ms)
+        ∙ ap (λ o. cond (is_last_phase step && some_is (λ s. not (is_some s)) (option_and_then (λ b. option_map (stop_of b) given) o)) (option_and_then (λ b. choose (same_owner (value_of b) self) b.lver) o) None) same
     by (Some b) writes same =
-        as_shown ∙ ended_by (is_last_phase step) (blocks_shown g step a) (block_submitted ms)
+        as_shown ∙ ended_by (is_last_phase step) given (block_submitted ms)
         ∙ ap (λ bs. cond (is_last_phase step && some_is (λ s. not (is_some s)) (option_and_then (λ b. option_map (stop_of b) bs) (block_submitted ms))) (option_and_then (λ b. choose (same_owner (value_of b) self) b.lver) (block_submitted ms)) None) (no_blocks (no_bytes fits b writes))
         ∙ neither (is_last_phase step) (block_submitted ms)
         ∙ sym (ap (λ s. won_at self step l.own s) (no_stop (no_bytes fits b writes)) ∙ never (is_last_phase step)) where
@@ -459,26 +331,26 @@ module _ (g : Layout) (lockspace : List ℕ) (self : Owner) (l : LeaseState) (m 
           never true = refl
           never false = refl
 
-    by_heed : (h : Bool) → option_and_then (λ p. choose (same_owner p.1 self) p.0) (ended_ballot g heard ms) ≡ won_at self step l.own (stop_shown l (blocks_shown g step a))
+    by_heed : (h : Bool) → option_and_then (λ p. choose (same_owner p.1 self) p.0) (ended_ballot g heard ms) ≡ won_at self step l.own (stop_shown l given)
         → elim h as (λ z. Option ℕ) [ false ↦ None | true ↦ option_and_then (λ p. choose (same_owner p.1 self) p.0) (ended_ballot g heard ms) ]
-        ≡ cond h (won_at self step l.own (stop_shown l (blocks_shown g step a))) None
+        ≡ cond h (won_at self step l.own (stop_shown l given)) None
     by_heed true same = same
     by_heed false same = refl
 
-  left_is : lease_step m.call.purpose ≡ Some (work, step) → (is_some (bytes_given a) ≡ true → record_of m.call.op ≡ None) → (frees : Option ℕ) → free_written m ≡ frees
+  left_is : lease_step m.call.purpose ≡ Some (w.work, w.step) → (is_some (bytes_given a) ≡ true → record_of m.call.op ≡ None) → (frees : Option ℕ) → free_written m ≡ frees
       → block_submitted (none ∷ ms) ≡ l.own → free_left g self (none ∷ ms) ≡ l.won
-      → free_left g self (heard ∷ ms) ≡ won_hearing (cond heeded (won_at self step l.own (stop_shown l (blocks_shown g step a))) None) (λ n. settles_at g self step frees n a) l.won
+      → free_left g self (heard ∷ ms) ≡ won_hearing (cond heeded (won_at self step l.own (stop_shown l given)) None) (λ n. settles_at self step frees leader given n a) l.won
   left_is is fits frees writes own left =
       ap (λ w. elim w as (λ z. Option ℕ) [ Some n ↦ Some n | None ↦ option_and_then (λ n. choose (not (settles_free g self n heard ms)) n) (free_left g self ms) ]) (won_is is fits own)
-      ∙ by (cond heeded (won_at self step l.own (stop_shown l (blocks_shown g step a))) None) where
-        settled : (o : Option ℕ) → option_and_then (λ n. choose (not (settles_free g self n heard ms)) n) o ≡ option_and_then (λ n. choose (not (settles_at g self step frees n a)) n) o
+      ∙ by (cond heeded (won_at self step l.own (stop_shown l given)) None) where
+        settled : (o : Option ℕ) → option_and_then (λ n. choose (not (settles_free g self n heard ms)) n) o ≡ option_and_then (λ n. choose (not (settles_at self step frees leader given n a)) n) o
         settled None = refl
         settled (Some n) = ap (λ b. choose (not b) n) (settles_is is fits frees writes n)
 
         by : (w : Option ℕ) → elim w as (λ z. Option ℕ) [ Some n ↦ Some n | None ↦ option_and_then (λ n. choose (not (settles_free g self n heard ms)) n) (free_left g self ms) ]
-            ≡ won_hearing w (λ n. settles_at g self step frees n a) l.won
+            ≡ won_hearing w (λ n. settles_at self step frees leader given n a) l.won
         by (Some n) = refl
-        by None = settled (free_left g self ms) ∙ ap (option_and_then (λ n. choose (not (settles_at g self step frees n a)) n)) (left_before left)
+        by None = settled (free_left g self ms) ∙ ap (option_and_then (λ n. choose (not (settles_at self step frees leader given n a)) n)) (left_before left)
 
   -- ---- the greatest number of the own block's instance
 
@@ -486,9 +358,9 @@ module _ (g : Layout) (lockspace : List ℕ) (self : Owner) (l : LeaseState) (m 
   abbrev last_by : Option (List (Option Block)) → List (Option Block)
   last_by bs = elim bs as (λ z. List (Option Block)) [ Some blocks ↦ blocks | None ↦ last_blocks g ms ]
 
-  top_is : lease_step m.call.purpose ≡ Some (work, step) → ((t : TopNumber) → l.top ≡ Some t → top_mbal t.instance (last_blocks g (none ∷ ms)) ≡ t.mbal)
-      → (t : TopNumber) → top_hearing l (blocks_shown g step a) ≡ Some t → top_mbal t.instance (last_blocks g (heard ∷ ms)) ≡ t.mbal
-  top_is is before t now_top = ap (λ bs. top_mbal t.instance (last_by bs)) (blocks_are is) ∙ by (blocks_shown g step a) now_top where
+  top_is : lease_step m.call.purpose ≡ Some (w.work, w.step) → ((t : TopNumber) → l.top ≡ Some t → top_mbal t.instance (last_blocks g (none ∷ ms)) ≡ t.mbal)
+      → (t : TopNumber) → top_hearing l given ≡ Some t → top_mbal t.instance (last_blocks g (heard ∷ ms)) ≡ t.mbal
+  top_is is before t now_top = ap (λ bs. top_mbal t.instance (last_by bs)) (blocks_are is) ∙ by given now_top where
     by : (bs : Option (List (Option Block))) → top_hearing l bs ≡ Some t → top_mbal t.instance (last_by bs) ≡ t.mbal
     by None same = before t same
     by (Some blocks) same =
@@ -496,9 +368,9 @@ module _ (g : Layout) (lockspace : List ℕ) (self : Owner) (l : LeaseState) (m 
         subst (λ (u : TopNumber). top_mbal u.instance blocks ≡ u.mbal) found.2 refl
 
   opened_is : block_submitted (none ∷ ms) ≡ l.own → open_ballot g (none ∷ ms) ≡ l.ballot → ((n : ℕ) → l.ballot ≡ Some n → (t : TopNumber) × (l.top ≡ Some t) × (t.instance ≡ n))
-      → (n : ℕ) → cond (heeded && concludes_at step (stop_shown l (blocks_shown g step a))) None l.ballot ≡ Some n
-      → (t : TopNumber) × (top_hearing l (blocks_shown g step a) ≡ Some t) × (t.instance ≡ n)
-  opened_is own ballot before n now_open = by (blocks_shown g step a) (still (heeded && concludes_at step (stop_shown l (blocks_shown g step a))) now_open) where
+      → (n : ℕ) → cond (heeded && concludes_at step (stop_shown l given)) None l.ballot ≡ Some n
+      → (t : TopNumber) × (top_hearing l given ≡ Some t) × (t.instance ≡ n)
+  opened_is own ballot before n now_open = by given (still (heeded && concludes_at step (stop_shown l given)) now_open) where
     still : (over : Bool) → cond over None l.ballot ≡ Some n → l.ballot ≡ Some n
     still true same = absurd (none_some n same)
     still false same = same
@@ -512,44 +384,34 @@ module _ (g : Layout) (lockspace : List ℕ) (self : Owner) (l : LeaseState) (m 
           (let e : (its.block.lver == n) ≡ true = its.instance in same_number its.block.lver n e),
         )
 
-  -- ---- turns
-
-  -- No turn is shown, neither before the answer nor with it.
-  turn_is : IsTrue (is_plain_call m) → base_turn g self.id (heard ∷ ms) ≡ base_turn g self.id (none ∷ ms)
-  turn_is is =
-      let unturned : turn_written m ≡ None = no_turn (turn_written m) (and_true (not (is_again m)) (is_none (turn_written m)) is).1 in
-      ap turn_by (shows heard unturned) ∙ sym (ap turn_by (shows none unturned)) where
-        turn_by : Option ℕ → ℕ
-        turn_by o = elim o as (λ z. ℕ) [ Some t ↦ t | None ↦ base_turn g self.id ms ]
-
-        no_turn : (o : Option ℕ) → is_none o ≡ true → o ≡ None
-        no_turn None has = refl
-        no_turn (Some t) has = absurd (false_is_true has)
-
-        read_by : Submitted → Bool → Option ℕ
-        read_by d paired = elim paired as (λ z. Option ℕ) [ false ↦ None | true ↦ option_and_then (λ bs. option_map (λ p. p.turn) (pair_read g bs self.id)) (blocks_bytes g d) ]
-
-        shows : (d : Submitted) → turn_written d ≡ None → turn_shown g self.id d ≡ None
-        shows d none_written = ap (λ o. elim o as (λ z. Option ℕ) [ Some t ↦ choose (is_answered_ok d) t | None ↦ read_by d g.paired ]) none_written ∙ ap (read_by d) plain
-
   -- ---- the whole
 
-  pub lease_hears : (c : OpenCall) (w : LeaseCall) → m.call.purpose ≡ c.purpose → (is_some (bytes_given a) ≡ true → record_of m.call.op ≡ None) → lease_step m.call.purpose ≡ Some (work, step)
-      → free_written m ≡ w.frees → some_is (λ b. not b.shared) (block_written m) ≡ w.clears → AllByRecursion (λ d. IsTrue (is_some d.answer)) ms
-      → LeaseStands g lockspace self l (none ∷ ms) → LeaseStands g lockspace self (lease_hearing g lockspace self heeded c a step w.frees w.clears l) (heard ∷ ms)
-  lease_hears c w purpose fits is frees clears answered s =
+  all_heard : (c : OpenCall) → m.call.purpose ≡ c.purpose → (is_some (bytes_given a) ≡ true → record_of m.call.op ≡ None) → IsKeptCall none w → AllByRecursion (λ d. IsTrue (is_some d.answer)) ms
+      → LeaseStands g lockspace self l (none ∷ ms) → LeaseStands g lockspace self (lease_hearing g lockspace self heeded c a w l) (heard ∷ ms)
+  all_heard c purpose fits its answered s =
+      let is = its.2 in
+      let pairs : PairStands g self.id (pair_hearing g self.id w.step w.turn a l.pair) (heard ∷ ms) =
+      pair_hears g self.id l.pair m ms w.work w.step w.turn (record { at = at; reading = now; answer = a; heeded = heeded }) is its.5 fits (record { turn = s.turn; again = s.again; kept = s.kept; second = s.second })
+      in
       record {
         own = s.own;
-        name = name_is s.name ∙ ap (λ (p : Purpose). unwrap_or (verified_at g lockspace p a) l.name) purpose;
+        name = name_is is s.name ∙ ap (λ (p : Purpose). unwrap_or (verified_at g lockspace p leader) l.name) purpose;
         freed = s.freed;
         ballot = ballot_is is fits s.own s.ballot;
-        shown = shown_is w.clears clears s.shown;
-        won = left_is is fits w.frees frees s.own s.won;
+        shown = shown_is w.clears its.4 s.shown;
+        won = left_is is fits w.frees its.3 s.own s.won;
         waiting = (refl, answered);
         top = top_is is s.top;
         opened = opened_is s.own s.ballot s.opened;
-        pair = s.pair;
-        turn = turn_is s.plain.0 ∙ s.turn;
-        first = s.first;
-        plain = s.plain;
+        turn = pairs.turn;
+        again = pairs.again;
+        kept = pairs.kept;
+        second = pairs.second;
       }
+
+pub lease_hears : (g : Layout) (lockspace : List ℕ) (self : Owner) (l : LeaseState) (m : Submitted) (ms : List Submitted) (w : LeaseCall) (at now : ℕ) (a : Answer) (heeded : Bool) (c : OpenCall)
+    → m.call.purpose ≡ c.purpose → (is_some (bytes_given a) ≡ true → record_of m.call.op ≡ None) → IsKeptCall (record m { answer = None }) w → AllByRecursion (λ d. IsTrue (is_some d.answer)) ms
+    → LeaseStands g lockspace self l (record m { answer = None } ∷ ms)
+    → LeaseStands g lockspace self (lease_hearing g lockspace self heeded c a w l) (record m { answer = Some (record { at = at; reading = now; answer = a; heeded = heeded }) } ∷ ms)
+lease_hears g lockspace self l m ms w at now a heeded c purpose fits its answered s =
+    all_heard g lockspace self l m ms w at now a heeded (second_finds g l.pair (record m { answer = None }) ms s.again s.kept s.second) c purpose fits its answered s

@@ -3,11 +3,11 @@ use Rattle.sl_area.specs.Layouts.{Layout}
 use Rattle.sl_host_law.proofs.Plain.PlainLists.{all_as, all_from, any_as, any_mapped, at_mapped, each_of}
 use Rattle.sl_host_state.specs.Hears.{asked_hearing, watch_hearing, is_heeded_by, lease_hearing, member_hearing, others, renewing_hearing, still_busy}
 use Rattle.sl_host_state.specs.Kept.{Config, HostState, LeaseState, MemberState}
-use Rattle.sl_host_state.specs.Stands.{AreInTurn, AskedStands, IsWaiting, JoinStands, Keeps, LeaseStands, MemberStands, WatchKeeps, free_written, kept_call, newest_value, sectors_of}
+use Rattle.sl_host_state.specs.Stands.{AreInTurn, AskedStands, IsKeptCall, IsWaiting, JoinStands, Keeps, LeaseStands, MemberStands, WatchKeeps, kept_call, newest_value, sectors_of}
 use Rattle.sl_host_state.specs.declared.kept.LeaseCall.{LeaseCall}
 use Rattle.sl_host_state.specs.declared.kept.OpenCall.{OpenCall}
 use Rattle.sl_trace.specs.Counts.{values_on}
-use Rattle.sl_trace.specs.Leases.{block_written, is_again, is_lease_call, is_on, lease_calls, lease_step, spots_in, turn_written, value_written}
+use Rattle.sl_trace.specs.Leases.{is_lease_call, is_on, lease_calls, lease_step, spots_in, value_written}
 use Rattle.sl_plain.proofs.Lists.{find_inside, kept, kept_inside}
 use Rattle.sl_plain.proofs.Numbers.{number_itself}
 use Rattle.sl_host_law.proofs.Replies.Answers.AnswerFindsItsCall.{IsOr, IsTheCall}
@@ -32,16 +32,9 @@ use Rattle.sl_trace.specs.declared.effects.Spot.{Spot}
 use Rattle.sl_trace.specs.declared.input.Answer.TheVariants.{Failed, Read, Written}
 use Rattle.sl_trace.specs.declared.input.Answer.{Answer}
 use Rattle.sl_words.proofs.CaseLaws.{false_is_true, not_both}
-use Rattle.sl_words.proofs.WordLaws.{and_true}
-use Rattle.sl_words.specs.Words.{some_is}
-use Rattle.sl_host_law.proofs.Plain.BlocksHaveOneSector.{layout_plain}
 use Rattle.std.proofs.Common.{ap, inl, inr, refl, subst, sym, ◌∙◌}
 use Rattle.std.specs.List.{AllByRecursion, list_any}
-use Rattle.std.specs.Prelude.{Bool, Contains, IsTrue, List, None, Option, Some, cond, false, filter, filter_map, is_none, is_some, length, map, not, option_map, reverse, true, [], ℕ, ◌&&◌, ◌==◌, ◌∷◌, ◌≡◌, ◌||◌}
-
-untrue : (b : Bool) → not b ≡ true → b ≡ false
-untrue false is = refl
-untrue true is = absurd (false_is_true is)
+use Rattle.std.specs.Prelude.{Bool, Contains, IsTrue, List, None, Option, Some, cond, false, filter, filter_map, is_none, is_some, length, map, option_map, reverse, true, [], ℕ, ◌&&◌, ◌==◌, ◌∷◌, ◌≡◌, ◌||◌}
 
 -- The host stands for the step before its input; this call of its trace is answered.
 pub record IsAnswered (st : Setting) (past : Trace) (now : ℕ) (fx : Effects) (a : Answer) (h : HostState) (m : Submitted) : Type 0 where
@@ -90,7 +83,7 @@ module _ (st : Setting) (past : Trace) (now : ℕ) (fx : Effects) (a : Answer) (
       (elim l.waiting as (λ z. LeaseState) [
         | None ↦ l
         | Some w ↦ cond (w.number == m.call.number)
-            (lease_hearing st.layout s.lockspace (record { id = s.id; generation = generation }) heeded (kept_call m) a w.step w.frees w.clears l) l
+            (lease_hearing st.layout s.lockspace (record { id = s.id; generation = generation }) heeded (kept_call m) a w l) l
       ]) (map hears ms)
   lease_stands k s generation gen heeded heed l ms alone stands = by l.waiting stands.waiting where
     unheard_all : (ds : List Submitted) → map hears ds ≡ ds → LeaseStands st.layout s.lockspace (me before s) l ds → LeaseStands st.layout s.lockspace (me before s) l (map hears ds)
@@ -98,36 +91,33 @@ module _ (st : Setting) (past : Trace) (now : ℕ) (fx : Effects) (a : Answer) (
 
     its_own : (w : LeaseCall) (ds : List Submitted) → IsWaiting (Some w) ds → AllByRecursion (IsOr m.call.number m) ds → LeaseStands st.layout s.lockspace (me before s) l ds → (b : Bool) → (w.number == m.call.number) ≡ b
         → LeaseStands st.layout s.lockspace (me before s)
-        (cond b (lease_hearing st.layout s.lockspace (record { id = s.id; generation = generation }) heeded (kept_call m) a w.step w.frees w.clears l) l) (map hears ds)
+        (cond b (lease_hearing st.layout s.lockspace (record { id = s.id; generation = generation }) heeded (kept_call m) a w l) l) (map hears ds)
     its_own w [] waits all z b is = absurd waits
     its_own w (d ∷ ds) waits all z false is =
         unheard_all (d ∷ ds)
         (ap (λ e. e ∷ map hears ds) (not_its past now fx m.call.number a d (ap (λ n. n == m.call.number) waits.0.1 ∙ is)) ∙ ap (λ zs. d ∷ zs) (all_answered past now fx m.call.number a ds waits.1)) z
     its_own w (d ∷ ds) waits all z true is = at_head all.0 where
       at_head : IsOr m.call.number m d → LeaseStands st.layout s.lockspace (me before s)
-          (lease_hearing st.layout s.lockspace (record { id = s.id; generation = generation }) heeded (kept_call m) a w.step w.frees w.clears l) (map hears (d ∷ ds))
+          (lease_hearing st.layout s.lockspace (record { id = s.id; generation = generation }) heeded (kept_call m) a w l) (map hears (d ∷ ds))
       at_head (inl other) = absurd (not_both (d.call.number == m.call.number) (ap (λ n. n == m.call.number) waits.0.1 ∙ is) other)
       at_head (inr same) =
           let open_m : m.answer ≡ None = k.its.unanswered in
           let as_heard : map hears (d ∷ ds) ≡ heard past now fx a m ∷ ds =
           ap (λ e. hears e ∷ map hears ds) same ∙ ap (λ e. e ∷ map hears ds) (heard_is past now fx a m (number_itself m.call.number) open_m) ∙ ap (λ zs. heard past now fx a m ∷ zs) (all_answered past now fx m.call.number a ds waits.1) in
-          let made_once : LeaseStands st.layout s.lockspace (me before s) l (record m { answer = None } ∷ ds) → is_again m ≡ false =
-          λ y. untrue (is_again m) (and_true (not (is_again m)) (is_none (turn_written m)) y.plain.0).0 in
           let stood : LeaseStands st.layout s.lockspace (me before s) l (record m { answer = None } ∷ ds) =
           subst (λ (e : Submitted). LeaseStands st.layout s.lockspace (me before s) l (e ∷ ds)) (same ∙ ap (λ o. record m { answer = o }) open_m) z in
-          subst (LeaseStands st.layout s.lockspace (me before s) (lease_hearing st.layout s.lockspace (record { id = s.id; generation = generation }) heeded (kept_call m) a w.step w.frees w.clears l)) (sym as_heard)
-          (subst (λ g. LeaseStands st.layout s.lockspace (me before s) (lease_hearing st.layout s.lockspace (record { id = s.id; generation = g }) heeded (kept_call m) a w.step w.frees w.clears l) (heard past now fx a m ∷ ds)) gen
-          (subst (λ b. LeaseStands st.layout s.lockspace (me before s) (lease_hearing st.layout s.lockspace (me before s) b (kept_call m) a w.step w.frees w.clears l) (heard past now fx a m ∷ ds)) (sym heed)
-          (lease_hears st.layout s.lockspace (me before s) l m ds w.work w.step (length past) now a (is_going_on past (told now fx m.call.number a) (job_of m.call.purpose)) (layout_plain h st before k.keeps) (made_once stood) (kept_call m) w refl
-          (only_read h.config.layout a m k.fits) (subst (λ (e : Submitted). lease_step e.call.purpose ≡ Some (w.work, w.step)) same waits.0.2) (subst (λ (e : Submitted). free_written e ≡ w.frees) same waits.0.3)
-          (subst (λ (e : Submitted). some_is (λ b. not b.shared) (block_written e) ≡ w.clears) same waits.0.4) waits.1 stood)))
+          subst (LeaseStands st.layout s.lockspace (me before s) (lease_hearing st.layout s.lockspace (record { id = s.id; generation = generation }) heeded (kept_call m) a w l)) (sym as_heard)
+          (subst (λ g. LeaseStands st.layout s.lockspace (me before s) (lease_hearing st.layout s.lockspace (record { id = s.id; generation = g }) heeded (kept_call m) a w l) (heard past now fx a m ∷ ds)) gen
+          (subst (λ b. LeaseStands st.layout s.lockspace (me before s) (lease_hearing st.layout s.lockspace (me before s) b (kept_call m) a w l) (heard past now fx a m ∷ ds)) (sym heed)
+          (lease_hears st.layout s.lockspace (me before s) l m ds w (length past) now a (is_going_on past (told now fx m.call.number a) (job_of m.call.purpose)) (kept_call m) refl
+          (only_read h.config.layout a m k.fits) (subst (λ (e : Submitted). IsKeptCall e w) (same ∙ ap (λ o. record m { answer = o }) open_m) waits.0) waits.1 stood)))
 
     by : (o : Option LeaseCall) → IsWaiting o ms
         → LeaseStands st.layout s.lockspace (me before s)
         (elim o as (λ z. LeaseState) [
           | None ↦ l
           | Some w ↦ cond (w.number == m.call.number)
-              (lease_hearing st.layout s.lockspace (record { id = s.id; generation = generation }) heeded (kept_call m) a w.step w.frees w.clears l) l
+              (lease_hearing st.layout s.lockspace (record { id = s.id; generation = generation }) heeded (kept_call m) a w l) l
         ]) (map hears ms)
     by None waits = unheard_all ms (all_answered past now fx m.call.number a ms waits) stands
     by (Some w) waits = its_own w ms waits alone stands (w.number == m.call.number) refl
@@ -202,31 +192,31 @@ module _ (st : Setting) (past : Trace) (now : ℕ) (fx : Effects) (a : Answer) (
   told_lease g s generation heeded l =
       elim l.waiting as (λ z. LeaseState) [
         | None ↦ l
-        | Some w ↦ cond (w.number == m.call.number) (lease_hearing g s.lockspace (record { id = s.id; generation = generation }) heeded (kept_call m) a w.step w.frees w.clears l) l
+        | Some w ↦ cond (w.number == m.call.number) (lease_hearing g s.lockspace (record { id = s.id; generation = generation }) heeded (kept_call m) a w l) l
       ]
 
   told_spot : (g : Layout) (s : Session) (generation : ℕ) (heeded : Bool) (l : LeaseState) → (told_lease g s generation heeded l).spot ≡ l.spot
   told_spot g s generation heeded l = by l.waiting where
-    by_number : (w : LeaseCall) (b : Bool) → (cond b (lease_hearing g s.lockspace (record { id = s.id; generation = generation }) heeded (kept_call m) a w.step w.frees w.clears l) l).spot ≡ l.spot
+    by_number : (w : LeaseCall) (b : Bool) → (cond b (lease_hearing g s.lockspace (record { id = s.id; generation = generation }) heeded (kept_call m) a w l) l).spot ≡ l.spot
     by_number w true = refl
     by_number w false = refl
 
     by : (o : Option LeaseCall) → (elim o as (λ z. LeaseState) [
       | None ↦ l
-      | Some w ↦ cond (w.number == m.call.number) (lease_hearing g s.lockspace (record { id = s.id; generation = generation }) heeded (kept_call m) a w.step w.frees w.clears l) l
+      | Some w ↦ cond (w.number == m.call.number) (lease_hearing g s.lockspace (record { id = s.id; generation = generation }) heeded (kept_call m) a w l) l
     ]).spot ≡ l.spot
     by None = refl
     by (Some w) = by_number w (w.number == m.call.number)
 
   told_value : (g : Layout) (s : Session) (generation : ℕ) (heeded : Bool) (l : LeaseState) → (told_lease g s generation heeded l).value ≡ l.value
   told_value g s generation heeded l = by l.waiting where
-    by_number : (w : LeaseCall) (b : Bool) → (cond b (lease_hearing g s.lockspace (record { id = s.id; generation = generation }) heeded (kept_call m) a w.step w.frees w.clears l) l).value ≡ l.value
+    by_number : (w : LeaseCall) (b : Bool) → (cond b (lease_hearing g s.lockspace (record { id = s.id; generation = generation }) heeded (kept_call m) a w l) l).value ≡ l.value
     by_number w true = refl
     by_number w false = refl
 
     by : (o : Option LeaseCall) → (elim o as (λ z. LeaseState) [
       | None ↦ l
-      | Some w ↦ cond (w.number == m.call.number) (lease_hearing g s.lockspace (record { id = s.id; generation = generation }) heeded (kept_call m) a w.step w.frees w.clears l) l
+      | Some w ↦ cond (w.number == m.call.number) (lease_hearing g s.lockspace (record { id = s.id; generation = generation }) heeded (kept_call m) a w l) l
     ]).value ≡ l.value
     by None = refl
     by (Some w) = by_number w (w.number == m.call.number)

@@ -209,7 +209,6 @@ module _ (st : Setting) (past : Trace) (now : ℕ) (i : Input) (fx : Effects) (j
       let old = k.keeps in
       record {
         config = old.config;
-        unpaired = old.unpaired;
         entries = old.entries;
         calls = ap (λ ms. st.first.call + length ms) k.calls ∙ old.calls;
         lines = old.lines;

@@ -16,5 +16,5 @@ returns-in-Some-next-clause-state c read =
     let next = c.in-Some-next.next in
     let pair : Option LeaseNext → Option (Session × Option LeaseNext) = λ o. Some (who, o) in
     let found = freed_on h c.args.ended.now c.args.number c.args.job who next (sym (c.in-Some.is ∙ ap pair c.in-Some-next.is) ∙ c.freed_of.ensures.exact) in
-    c.carry_lease.ensures.state found.0 found.1 read
-    ∙ (ap (λ (at : Spot). carrying_lease found.0 at (ForJob c.args.job) next h) c.spot_of_grant-at.ensures ∙ found.2)
+    c.carry_lease.ensures.state found.0 found.1 found.2 read
+    ∙ (ap (λ (at : Spot). carrying_lease found.0 at (ForJob c.args.job) next h) c.spot_of_grant-at.ensures ∙ found.3)

@@ -2,7 +2,7 @@ use Rattle.sl_host_law.specs.Parts.Signals.{over}
 use Rattle.sl_host_law.specs.Steps.Passes.{at_member}
 use Rattle.sl_host_law.specs.Steps.Wakes.{settling_here}
 use Rattle.sl_host_passes.proofs.Runs.{run_on, same_config, same_run}
-use Rattle.sl_host_passes.proofs.Settling.{has_one, has_settled, known_settled, leases_settled, may_settle, settled_once}
+use Rattle.sl_host_passes.proofs.Settling.{apart_settled, has_one, has_settled, known_settled, leases_settled, may_settle, settled_once}
 use Rattle.sl_host_passes.proofs.WakingLessens.{wake_known}
 use Rattle.sl_host_passes.proofs.waking.settle_noted.Goals as goal
 use Rattle.sl_host_passes.specs.Knowing.{AreAreas}
@@ -25,6 +25,7 @@ loop-place-init c = record {
   comes = λ read. refl;
   run = same_run c.args.host.now;
   known = c.requires.known;
+  apart = c.apart.ensures;
   has = c.requires.has;
   same = λ n. refl;
   room = c.requires.left;
@@ -64,12 +65,13 @@ loop-place-preserved c =
     let new = c.settle.new.host in
     let there = got_inside items c.loop-place.place at c.nth.ensures in
     let area = area_now c.args.host.now old items at was.run c.requires.areas there in
-    let st = settled_once old new n at was.known (has_one n items old.kept.members at there was.has) area done.state in
+    let st = settled_once old new n at was.known (has_one n items old.kept.members at there was.has) area was.apart done.state in
     let less = fewer_left items c.loop-place.place at c.nth.ensures in
     record {
       comes = λ read. was.comes read ∙ over_next (λ s. at_member n (settling_here s)) items c.loop-place.place at (state_of read old.kept) (state_of read new.kept) c.nth.ensures (done.state read);
       run = run_on c.args.host.now old new was.run done.run;
       known = wake_known old new done.run (known_settled old.kept.config.sizes at n (state_in old.kept) (state_in new.kept) st area was.known.each) was.known;
+      apart = apart_settled at n (state_in old.kept) (state_in new.kept) st was.apart;
       has = has_settled at n (state_in old.kept) (state_in new.kept) items st was.has;
       same = λ k. leases_settled at n (state_in old.kept) (state_in new.kept) st k ∙ was.same k;
       room = omega (arith, less, was.room, done.left.0);

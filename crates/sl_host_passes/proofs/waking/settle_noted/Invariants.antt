@@ -7,7 +7,8 @@ use Rattle.sl_host_passes.specs.Knowing.{HasLeases, WakeKnown}
 use Rattle.sl_host_state.specs.Kept.{state_of}
 use Rattle.sl_trace.specs.declared.command.Command.{Command}
 use Rattle.sl_host.specs.Host.{SameRun}
-use Rattle.std.proofs.Common.{List, Result, drop, length, ℕ, ◌*◌, ◌+◌, ◌≡◌, ◌≤◌}
+use Rattle.sl_member.specs.Together.{AreApart}
+use Rattle.std.proofs.Common.{List, Result, drop, length, map, ℕ, ◌*◌, ◌+◌, ◌≡◌, ◌≤◌}
 
 -- those from this place on are still to come
 abbrev pub invariant-loop-place : goal.invariant-loop-place
@@ -15,6 +16,7 @@ invariant-loop-place l = record {
   comes : (read : List ℕ → Result Command ℕ) → over l.spots.items (λ at. at_member l.fn.number (settling_here at)) (state_of read l.fn.host.kept) ≡ over (drop l.place l.spots.items) (λ at. at_member l.fn.number (settling_here at)) (state_of read l.host.kept);
   run : SameRun l.fn.host l.host;
   known : WakeKnown l.host.kept;
+  apart : AreApart (map (λ m. m.who.number) l.host.kept.members);
   has : HasLeases l.fn.number l.spots.items l.host.kept.members;
   same : SameLeases l.fn.host.kept.members l.host.kept.members;
   room : 3 * length (drop l.place l.spots.items) ≤ l.host.left;

@@ -21,10 +21,10 @@ take_answer-requires-clause-fits g c =
     let i = Told c.args.number (answer_of g.S.Sectors.bytes c.args.heard) in
     fits_still c.args.now i c.args.host.now.kept c.start.new.host.kept (c.in_ok-begun.ensures.at i c.requires.comes) c.args.number g.S.Sectors.bytes g.S.Sectors.is_cut c.args.heard c.requires.fits
 
-pub take_answer-requires-clause-blocks : goal.take_answer-requires-clause-blocks
-take_answer-requires-clause-blocks g c =
+pub take_answer-requires-clause-sizes : goal.take_answer-requires-clause-sizes
+take_answer-requires-clause-sizes g c =
     let i = Told c.args.number (answer_of g.S.Sectors.bytes c.args.heard) in
-    c.start.ensures.blocks ∙ c.requires.blocks ∙ ap (λ (m : Made). m.sizes.hosts) (sym (c.in_ok-begun.ensures.at i c.requires.comes).same)
+    c.start.ensures.sizes ∙ c.requires.sizes ∙ ap (λ (m : Made). m.sizes) (sym (c.in_ok-begun.ensures.at i c.requires.comes).same)
 
 pub conclude-requires-clause-at : goal.conclude-requires-clause-at
 conclude-requires-clause-at g c =

@@ -1,34 +1,40 @@
+use Rattle.sl_host.specs.Asking.{state_in}
 use Rattle.sl_host_law.specs.Steps.Leases.{lease_at}
-use Rattle.sl_host_state.specs.Kept.{LeaseState}
-use Rattle.sl_host_state.specs.Makes.{new_lease}
-use Rattle.sl_host_state.specs.declared.kept.OpenCall.{OpenCall}
-use Rattle.sl_host_work.proofs.LeaseNextStands.{IsKeptSo, reads_fit, reads_seen}
+use Rattle.sl_host_work.proofs.LeaseNextStands.{answers_fit, asked_again_so, asked_read, reads_turned, some_call}
 use Rattle.sl_host_work.proofs.lease_next.next_after_read.Goals as goal
-use Rattle.sl_host_work.specs.Leasing.{held_with}
-use Rattle.sl_member.specs.Seen.{SeenBy}
-use Rattle.std.proofs.Common.{ap, ◌∙◌}
-use Rattle.std.specs.Prelude.{List, unwrap_or, ℕ}
+use Rattle.sl_host_work.specs.Asking.{blocks_told}
+use Rattle.sl_trace.specs.declared.input.Answer.TheVariants.{Read}
+use Rattle.std.proofs.Common.{refl, ◌∙◌}
 
-pub returns-in-Some-clause-exact : goal.returns-in-Some-clause-exact
-returns-in-Some-clause-exact c call bytes shown =
-    let kept : IsKeptSo c.args.host.now.kept c.args.member.now c.args.at.now c.side-side.result c.in-Some.lease.now c.held_under-held.result =
-    record { run = c.requires.run; side = c.side-side.ensures.exact; lease = ap (λ o. unwrap_or o (new_lease c.args.at.now)) c.in-Some.ensures; under = c.held_under-held.ensures ∙ ap (λ w. held_with w.number c.args.at.now c.args.host.now.kept.holdings) c.who.ensures } in
-    reads_seen c.args.host.now.kept c.args.member.now c.args.at.now c.side-side.result c.in-Some.lease.now c.held_under-held.result c.after_read.result kept c.seen-seen.result c.seen-seen.ensures call c.args.aim c.args.step bytes c.args.leader.now c.args.blocks.now c.requires.may c.requires.named shown c.after_read.ensures.exact
+-- To be made once more.
+pub returns-in-Again-clause-exact : goal.returns-in-Again-clause-exact
+returns-in-Again-clause-exact c call bytes shown =
+    asked_again_so c.args.host.now.kept c.args.member.now.state c.args.at.now call c.args.aim c.args.step bytes c.args.told.now c.args.blocks.now c.after_first.result shown c.in-Again.is c.after_first.ensures.decides
 
-pub returns-in-Some-clause-fit : goal.returns-in-Some-clause-fit
-returns-in-Some-clause-fit c =
-    let kept : IsKeptSo c.args.host.now.kept c.args.member.now c.args.at.now c.side-side.result c.in-Some.lease.now c.held_under-held.result =
-    record { run = c.requires.run; side = c.side-side.ensures.exact; lease = ap (λ o. unwrap_or o (new_lease c.args.at.now)) c.in-Some.ensures; under = c.held_under-held.ensures ∙ ap (λ w. held_with w.number c.args.at.now c.args.host.now.kept.holdings) c.who.ensures } in
-    reads_fit c.args.host.now.kept c.args.member.now c.args.at.now c.side-side.result c.in-Some.lease.now c.held_under-held.result c.after_read.result kept c.seen-seen.result c.seen-seen.ensures c.args.aim c.args.step c.requires.shown.0 c.args.leader.now c.args.blocks.now c.requires.may c.requires.named c.requires.shown.1 c.after_read.ensures.exact c.after_read.ensures.fit
+pub returns-in-Again-clause-fit : goal.returns-in-Again-clause-fit
+returns-in-Again-clause-fit c =
+    answers_fit (state_in c.args.host.now.kept) c.args.member.now.state c.args.at.now (blocks_told c.args.told.now c.args.blocks.now (lease_at c.args.member.now.state c.args.at.now)) c.after_first.result c.requires.may
+    c.after_first.ensures.fit some_call c.args.aim c.args.step (Read c.requires.shown.0) (returns-in-Again-clause-exact c some_call c.requires.shown.0 c.requires.shown.1)
 
-pub returns-in-None-clause-exact : goal.returns-in-None-clause-exact
-returns-in-None-clause-exact c call bytes shown =
-    let kept : IsKeptSo c.args.host.now.kept c.args.member.now c.args.at.now c.side-side.result c.new.result c.held_under-held.result =
-    record { run = c.requires.run; side = c.side-side.ensures.exact; lease = c.new.ensures ∙ ap (λ o. unwrap_or o (new_lease c.args.at.now)) c.in-None.ensures; under = c.held_under-held.ensures ∙ ap (λ w. held_with w.number c.args.at.now c.args.host.now.kept.holdings) c.who.ensures } in
-    reads_seen c.args.host.now.kept c.args.member.now c.args.at.now c.side-side.result c.new.result c.held_under-held.result c.after_read-in-None.result kept c.seen-seen.result c.seen-seen.ensures call c.args.aim c.args.step bytes c.args.leader.now c.args.blocks.now c.requires.may c.requires.named shown c.after_read-in-None.ensures.exact
+pub returns-in-Again-clause-turned : goal.returns-in-Again-clause-turned
+returns-in-Again-clause-turned c =
+    reads_turned c.args.host.now.kept.config.sizes (state_in c.args.host.now.kept) c.args.member.now.state c.args.at.now
+    (blocks_told c.args.told.now c.args.blocks.now (lease_at c.args.member.now.state c.args.at.now)) c.after_first.result c.requires.may some_call c.args.aim c.args.step c.requires.shown.0 refl c.requires.shown.1.known
+    (returns-in-Again-clause-exact c some_call c.requires.shown.0 c.requires.shown.1)
 
-pub returns-in-None-clause-fit : goal.returns-in-None-clause-fit
-returns-in-None-clause-fit c =
-    let kept : IsKeptSo c.args.host.now.kept c.args.member.now c.args.at.now c.side-side.result c.new.result c.held_under-held.result =
-    record { run = c.requires.run; side = c.side-side.ensures.exact; lease = c.new.ensures ∙ ap (λ o. unwrap_or o (new_lease c.args.at.now)) c.in-None.ensures; under = c.held_under-held.ensures ∙ ap (λ w. held_with w.number c.args.at.now c.args.host.now.kept.holdings) c.who.ensures } in
-    reads_fit c.args.host.now.kept c.args.member.now c.args.at.now c.side-side.result c.new.result c.held_under-held.result c.after_read-in-None.result kept c.seen-seen.result c.seen-seen.ensures c.args.aim c.args.step c.requires.shown.0 c.args.leader.now c.args.blocks.now c.requires.may c.requires.named c.requires.shown.1 c.after_read-in-None.ensures.exact c.after_read-in-None.ensures.fit
+-- What it gave.
+pub returns-in-Gave-clause-exact : goal.returns-in-Gave-clause-exact
+returns-in-Gave-clause-exact c call bytes shown =
+    c.next_after_blocks.ensures.exact
+    ∙ asked_read c.args.host.now.kept c.args.member.now.state c.args.at.now call c.args.aim c.args.step bytes c.args.told.now c.args.blocks.now c.in-Gave.leader shown c.in-Gave.is
+
+pub returns-in-Gave-clause-fit : goal.returns-in-Gave-clause-fit
+returns-in-Gave-clause-fit c =
+    answers_fit (state_in c.args.host.now.kept) c.args.member.now.state c.args.at.now (blocks_told c.args.told.now c.args.blocks.now (lease_at c.args.member.now.state c.args.at.now)) c.next_after_blocks.result c.requires.may
+    c.next_after_blocks.ensures.fit some_call c.args.aim c.args.step (Read c.requires.shown.0) (returns-in-Gave-clause-exact c some_call c.requires.shown.0 c.requires.shown.1)
+
+pub returns-in-Gave-clause-turned : goal.returns-in-Gave-clause-turned
+returns-in-Gave-clause-turned c =
+    reads_turned c.args.host.now.kept.config.sizes (state_in c.args.host.now.kept) c.args.member.now.state c.args.at.now
+    (blocks_told c.args.told.now c.args.blocks.now (lease_at c.args.member.now.state c.args.at.now)) c.next_after_blocks.result c.requires.may some_call c.args.aim c.args.step c.requires.shown.0 refl c.requires.shown.1.known
+    (returns-in-Gave-clause-exact c some_call c.requires.shown.0 c.requires.shown.1)

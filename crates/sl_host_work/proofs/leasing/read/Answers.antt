@@ -10,4 +10,4 @@ pub returns-clause-state : goal.returns-clause-state
 returns-clause-state c read =
     let a = c.args in
     let made : ℕ → ℕ → HostState = λ o n. with_call a.who.now.number a.at.now.path (Lease a.work a.step) o (ReadSectors n) (state_of read a.host.now.kept) in
-    c.call.ensures.state read ∙ (λ i. made (c.read_from-offset.ensures i) (c.sectors_read-sectors.ensures i))
+    c.call.ensures.state read ∙ (λ i. made (c.read_from-offset.ensures i) (c.sectors_of-sectors.ensures i))

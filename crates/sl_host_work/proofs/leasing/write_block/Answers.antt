@@ -1,13 +1,8 @@
-use Rattle.sl_host_state.specs.Kept.{state_of}
-use Rattle.sl_host_state.specs.Makes.{with_call}
+use Rattle.sl_host_work.proofs.BlocksStand.{block_written}
 use Rattle.sl_host_work.proofs.leasing.write_block.Goals as goal
-use Rattle.sl_sector.specs.declared.sector.Rec.TheVariants.{BlockIs}
-use Rattle.sl_trace.specs.declared.effects.Op.TheVariants.{WriteRecord}
-use Rattle.sl_trace.specs.declared.effects.Purpose.TheVariants.{Lease}
-use Rattle.std.proofs.Common.{ap, ◌∙◌}
+use Rattle.std.proofs.Common.{refl}
 
 pub returns-clause-state : goal.returns-clause-state
-returns-clause-state c read =
+returns-clause-state c m found is =
     let a = c.args in
-    c.call.ensures.state read
-    ∙ ap (λ o. with_call a.who.now.number a.at.now.path (Lease a.work a.step) o (WriteRecord (BlockIs a.block)) (state_of read a.host.now.kept)) c.own_block-offset.ensures
+    block_written a.host.now.kept a.host.now c.write_own.new.host m a.who.now a.at.now a.work a.step a.block c.own_block-own.result refl (c.own_block-own.ensures.exact m found is) is c.write_own.ensures.state

@@ -1,4 +1,3 @@
-use Rattle.sl_host_state.specs.Stands.{no_pair}
 use Rattle.sl_lease.proofs.ToldLaws.{read_told_is}
 use Rattle.sl_lease.proofs.lease.Lease.take_read.Goals as goal
 use Rattle.sl_lease.specs.Changes.{read_told}
@@ -18,7 +17,7 @@ returns c =
       won = c.self.inside.won;
       waiting = c.self.inside.waiting;
       value = c.self.inside.value;
-      pair = no_pair;
+      pair = record { turn = c.self.inside.turn; first = c.self.inside.first; again = c.self.inside.again };
     })
     c.stop_told-stop.result c.top_told-self-inside.result (unwrap_or c.name_told-self-inside.result []) c.ballot_told-self-inside.result c.won_told-self-inside.result
     c.stop_told-stop.ensures c.top_told-self-inside.ensures c.name_told-self-inside.ensures c.ballot_told-self-inside.ensures.exact c.won_told-self-inside.ensures.exact

@@ -1,6 +1,6 @@
-use Rattle.sl_lease.specs.Changes.{after_read}
 use Rattle.sl_member.proofs.Places.{changed_rises, found_in, found_kept, gap_kept, read_stays}
 use Rattle.sl_member.proofs.leases.Leases.read_answered.Goals as goal
+use Rattle.sl_member.specs.Leases.{read_shown}
 use Rattle.std.proofs.Common.{ap, ◌∙◌}
 
 pub invariant_of-self : goal.invariant_of-self
@@ -8,16 +8,16 @@ invariant_of-self c =
     let i = c.self.invariant in
     let items = c.self.inside.items.items in (
       changed_rises c.args.at.now items c.in-Ok.place c.index_mut.result.now _ i.0 (found_in c.args.at.now _ items c.in-Ok.place c.deref.ensures.value c.in-Ok.ensures.found)
-          c.index_mut.ensures.value (ap (λ l. l.spot) c.read_answered.ensures ∙ read_stays c.args.side.now c.args.heeded c.args.leader.now c.args.blocks.now c.index_mut.result.now),
+          c.index_mut.ensures.value (ap (λ l. l.spot) c.lease_reads.ensures ∙ read_stays c.args.side.now c.args.turn c.args.heeded c.args.leader.now c.args.blocks.now c.index_mut.result.now),
       i.1,
     )
 
 pub returns-in-Ok : goal.returns-in-Ok
 returns-in-Ok c =
-    found_kept c.args.at.now (after_read c.args.side.now c.args.heeded c.args.leader.now c.args.blocks.now) c.args.self.now c.deref.result.now c.self.inside.items.items c.self.inside.room c.in-Ok.place c.index_mut.result.now _ c.self.invariant.0
-    c.deref.ensures.value c.in-Ok.ensures.found c.index_mut.ensures.value c.read_answered.ensures c.self.view_is
+    found_kept c.args.at.now (read_shown c.args.side.now c.args.turn c.args.heeded c.args.leader.now c.args.blocks.now) c.args.self.now c.deref.result.now c.self.inside.items.items c.self.inside.room c.in-Ok.place c.index_mut.result.now _ c.self.invariant.0
+    c.deref.ensures.value c.in-Ok.ensures.found c.index_mut.ensures.value c.lease_reads.ensures c.self.view_is
 
 pub returns-in-Err : goal.returns-in-Err
 returns-in-Err c =
-    gap_kept c.args.at.now (after_read c.args.side.now c.args.heeded c.args.leader.now c.args.blocks.now) c.args.self.now c.deref.result.now c.self.inside.items.items c.self.inside.room c.in-Err.field-0 c.self.invariant.0 c.deref.ensures.value
+    gap_kept c.args.at.now (read_shown c.args.side.now c.args.turn c.args.heeded c.args.leader.now c.args.blocks.now) c.args.self.now c.deref.result.now c.self.inside.items.items c.self.inside.room c.in-Err.field-0 c.self.invariant.0 c.deref.ensures.value
     c.in-Err.ensures.gap c.self.view_is

@@ -1,5 +1,5 @@
 use Rattle.sl_lease.proofs.ReadLaws.{blocks_to-more}
-use Rattle.sl_lease.proofs.reads.Blocks.read_from.Goals as goal
+use Rattle.sl_lease.proofs.reads.read_blocks.Goals as goal
 use Rattle.sl_lease.specs.Reads.{behind, blocks_to}
 use Rattle.sl_sector.specs.Records.{IsBlock}
 use Rattle.sl_sector.specs.declared.sector.Block.{Block}
@@ -10,7 +10,7 @@ use Rattle.std.proofs.Math.ListN.{length-set}
 
 pub loop-before-preserved : goal.loop-before-preserved
 loop-before-preserved g c =
-    let items : List (Option Block) = c.loop-before.self-inside.items.items in
+    let items : List (Option Block) = c.loop-before.items in
     let i : ℕ = c.loop-before.before in
     let bytes : List ℕ = behind c.args.geometry.now c.args.skipped (g.S.Sectors.bytes c.args.sectors.now) in
     let places : length items ≡ c.hosts-hosts.result = c.loop-before.invariant.places in

@@ -1,0 +1,23 @@
+use Rattle.sl_host_state.specs.Makes.{is_lease_on}
+use Rattle.sl_host_state.specs.Kept.{LeaseState}
+use Rattle.sl_member.proofs.Places.{found_in, found_value, gap_found, gap_in}
+use Rattle.sl_member.proofs.leases.Leases.first_for.Goals as goal
+use Rattle.sl_member.specs.Leases.{first_if_second}
+use Rattle.std.proofs.Common.{Option, ap, find, option_and_then, sym, ◌∙◌}
+
+pub returns-in-Ok : goal.returns-in-Ok
+returns-in-Ok c =
+    let at = c.args.at.now in
+    let items = c.self.inside.items.items in
+    c.first_for.ensures
+    ∙ ap (λ (o : Option LeaseState). option_and_then (first_if_second c.args.step.now) o)
+    (found_value at items c.in-Ok.place c.index.result.now (found_in at _ items c.in-Ok.place c.deref.ensures.value c.in-Ok.ensures.found) c.index.ensures
+    ∙ ap (λ v. find (is_lease_on at) v.leases) c.self.view_is)
+
+pub returns-in-Err : goal.returns-in-Err
+returns-in-Err c =
+    let at = c.args.at.now in
+    let items = c.self.inside.items.items in
+    ap (λ (o : Option LeaseState). option_and_then (first_if_second c.args.step.now) o)
+    (sym (gap_found at items c.in-Err.field-0 c.self.invariant.0 (gap_in at _ items c.in-Err.field-0 c.deref.ensures.value c.in-Err.ensures.gap))
+    ∙ ap (λ v. find (is_lease_on at) v.leases) c.self.view_is)
