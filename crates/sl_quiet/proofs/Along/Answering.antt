@@ -1,34 +1,35 @@
 -- What the answer of a quiet acquire's call shows.
 use Rattle.sl_quiet.proofs.Along.Showing.{areas_show_own}
-use Rattle.sl_run_law.proofs.Place.Seats.{plain_in, sized_in}
+use Rattle.sl_run_law.proofs.Place.Seats.{sized_in}
 use Rattle.sl_quiet.proofs.Read.Showing.{reads_show_the_area}
-use Rattle.sl_quiet.specs.Along.Leading.{ShowsAt, known_then, mode_of, told_call}
+use Rattle.sl_quiet.specs.Along.Leading.{ShowsAt, ShowsBlocks, known_then, mode_of, told_call}
 use Rattle.sl_quiet.specs.Course.Course.{Same, known_with}
 use Rattle.sl_trace.specs.declared.input.Input.TheVariants.{Answer as Told}
 use Rattle.sl_quiet.proofs.Stay.Staying.{left_alone}
 use Rattle.sl_trace.specs.Watching.{counts_over, evidence_in, look_of, evidence, sightings}
-use Rattle.sl_words.proofs.WordLaws.{choose_some}
-use Rattle.sl_sector.specs.Spelling.{block_in}
+use Rattle.sl_acts.proofs.Pairs.Whole.{whole_is_once}
+use Rattle.sl_quiet.proofs.Read.Same.{stands_for}
+use Rattle.sl_sector.specs.declared.sector.PairBlock.{PairBlock}
+use Rattle.sl_trace.proofs.PlainReads.{once_plain}
+use Rattle.sl_trace.specs.declared.effects.Spot.{Spot}
 use Rattle.sl_quiet.proofs.Step.Beginning.{bare_heard}
-use Rattle.sl_quiet.specs.Course.Quietly.{all_whole, NoneShared}
+use Rattle.sl_quiet.specs.Course.Quietly.{NoneShared, ShowsWhole, all_whole}
 use Rattle.sl_due.specs.Steps.{Step, seen}
 use Rattle.sl_trace.specs.declared.sighting.Sighting.{Sighting}
 use Rattle.sl_trace.specs.declared.session.Session.{Session}
 use Rattle.sl_trace.specs.Leases.{LeaseKnown, is_shared_by_other, spot_of}
 use Rattle.sl_quiet.specs.Step.Leading.{IsBare, heard}
-use Rattle.sl_sector.specs.declared.sector.Rec.TheVariants.{BlockIs, DeltaIs, LeaderIs, PairIs, PairLeaderIs, RequestIs, ValueIs}
 use Rattle.sl_sector.specs.declared.sector.Block.{Block}
-use Rattle.sl_sector.specs.declared.sector.Bad.{Bad}
 use Rattle.std.specs.List.{AllByRecursion, cons_option, range_with_len}
 use Rattle.sl_run_law.specs.Sample.Samples.{sector_place}
 use Rattle.sl_run_law.proofs.Landing.Listing.{one_call}
 use Rattle.sl_run_law.proofs.Landing.Proven.{landings_are_written}
 use Rattle.sl_run_law.proofs.Place.Areas.{is_within}
-use Rattle.sl_area.specs.Places.{in_area, sector_of, area_blocks, block_offset, blocks_in, leader_of}
+use Rattle.sl_area.specs.Places.{area_sectors, block_offset, block_sectors, blocks_part, in_area, later_pair, leader_of, needs_again, pair_read, sector_of}
 use Rattle.sl_run_law.proofs.Sample.Proven.{done_reads_are_whole}
-use Rattle.std.proofs.lemmas.Bool.{cases_lt, eqb-true}
-use Rattle.sl_quiet.specs.Read.Standing.{ReadStands, blocks_there}
-use Rattle.sl_area.specs.Layouts.{Layout, Sizes, record_in}
+use Rattle.std.proofs.lemmas.Bool.{cases_lt, eq-eqb, eqb-true}
+use Rattle.sl_quiet.specs.Read.Standing.{GivesBlocks, ReadStands, blocks_there}
+use Rattle.sl_area.specs.Layouts.{Layout, Sizes}
 use Rattle.sl_run_law.proofs.Place.Sizes.{IsSized, sector_has_bytes, slot_below}
 use Rattle.sl_trace.specs.declared.effects.Call.{Call}
 use Rattle.sl_run.specs.Events.{with_entry, sectors_of}
@@ -46,7 +47,7 @@ use Rattle.sl_plain.proofs.Numbers.{number_itself, at_least_first}
 use Rattle.sl_quiet.proofs.Along.Going.{made_well}
 use Rattle.sl_trace.specs.Sessions.{is_active, calls_of, generation_of, is_call_of, is_survey_purpose, joined_after}
 use Rattle.sl_run_law.proofs.Front.Going.{fronts_are_lawful}
-use Rattle.sl_words.proofs.CaseLaws.{false_is_true, one_value, is_false, none_some, some_value, true_is_false}
+use Rattle.sl_words.proofs.CaseLaws.{false_is_true, is_false, none_some, one_value, some_value, true_is_false, true_or_false}
 use Rattle.sl_run_law.proofs.Course.Made.{daemons_are_of_world, last_goes}
 use Rattle.sl_run_law.proofs.Course.Matched.{courses_are_calls}
 use Rattle.sl_plain.proofs.Lists.{contains_map, kept_inside, contains_first, contains_more, head_is, tail_is}
@@ -57,7 +58,7 @@ use Rattle.sl_run.specs.declared.header.ResourceLine.{ResourceLine}
 use Rattle.sl_sector.specs.declared.sector.Rec.{Rec}
 use Rattle.sl_trace.specs.declared.effects.Op.TheVariants.{ReadSectors, WriteRecord}
 use Rattle.sl_trace.specs.LeaseWork.{LeasePlace}
-use Rattle.sl_run.specs.Safety.{LawfulRun, world_at, block_there}
+use Rattle.sl_run.specs.Safety.{LawfulRun, block_there, pair_there, world_at}
 use Rattle.sl_run.specs.Lawful.{IsSetting}
 use Rattle.sl_run_law.specs.Course.Mirrors.{IsOfWorld}
 use Rattle.sl_due.specs.Due.{IsHostTrace}
@@ -66,15 +67,14 @@ use Rattle.sl_run.specs.declared.header.Header.{Header}
 use Rattle.sl_trace.specs.declared.input.Answer.TheVariants.{Failed, Read, Written}
 use Rattle.sl_trace.specs.declared.effects.Entry.{Entry}
 use Rattle.sl_run.specs.Runs.{EachDaemon, Happening}
-use Rattle.sl_run.specs.Worlds.{Course, Daemon, Machine, Program, Stamp, World, machine_at, reading_now, Landing, content}
+use Rattle.sl_run.specs.Worlds.{Course, Daemon, Machine, Program, Stamp, World, machine_at, reading_now, Landing}
 use Rattle.sl_quiet.proofs.Along.Calls.{CallThere, call_there, of_the_job}
-use Rattle.std.specs.Prelude.{Bool, Contains, IsTrue, List, None, Some, false, length, map, true, ◌==◌, ◌++◌, ◌<◌, ◌+◌, ◌∷◌, ◌≡◌, [], ℕ, not, ◌≤◌, ◌⊎◌, ◌*◌, Err, Ok, Option, Result, is_some, nat_lt, option_and_then, option_map, ◌&&◌, ◌-◌, zero, suc}
-use Rattle.sl_quiet.specs.Along.Along.{AreaOnCourse, Asked, OnCourse, Stage, op_at, DaemonOnCourse, Frees_leader, Reads_area, Reads_first, Reads_second, Sets_mode, Takes_leader, Writes_first, Writes_second, first_of_asked, leader_of_asked, second_of_asked, third_of_asked}
+use Rattle.std.specs.Prelude.{Bool, Contains, IsTrue, List, None, Some, false, length, map, true, ◌==◌, ◌++◌, ◌<◌, ◌+◌, ◌∷◌, ◌≡◌, [], ℕ, not, ◌≤◌, ◌⊎◌, ◌*◌, IsSome, Option, is_some, nat_lt, option_and_then, option_map, ◌&&◌, ◌-◌, zero, suc}
+use Rattle.sl_quiet.specs.Along.Along.{AreaOnCourse, Asked, DaemonOnCourse, Frees_leader, OnCourse, PairStands, Reads_area, Reads_first, Reads_second, Sets_mode, Stage, Takes_leader, Writes_first, Writes_second, first_of_asked, op_at, second_of_asked, turn_at}
 use Rattle.sl_run_law.specs.Course.Stamping.{AnswersAgree, IsAnsweredAs, IsCourseOf, courses_of, stamp_in}
 use Rattle.sl_run.specs.Quiet.{AnsweredInTime, QuietStep, leader_there}
 use Rattle.sl_trace.specs.declared.input.Answer.{Answer}
 use Rattle.sl_quiet.specs.Along.Answering.{AnswersShow, heard_entry}
-use Rattle.sl_history.proofs.Giving.Stood.{there_plain}
 use Rattle.std.proofs.Common.{ap, ap₂, arith, inl, inr, refl, subst, sym, ◌∙◌}
 
 -- ---- the call with its answer
@@ -225,8 +225,9 @@ most_of_area i n h = omega (arith, h)
 most_of_blocks : (i n : ℕ) → i < n → i + 2 ≤ n + 2
 most_of_blocks i n h = omega (arith, h)
 
-sector_within : {s : Sizes} (g : Layout) (base k : ℕ) → IsSized s g → k ≤ g.hosts + 2 → IsTrue (in_area g base (base + g.sector * k))
-sector_within g base k z most = is_within g base (base + g.sector * k) (at_least_first base (g.sector * k)) (slot_below g.sector base k g.hosts g.area (sector_has_bytes g z) most z.room)
+sector_within : {s : Sizes} (g : Layout) (base k : ℕ) → IsSized s g → k ≤ block_sectors g + 2 → IsTrue (in_area g base (base + g.sector * k))
+sector_within g base k z most =
+    is_within g base (base + g.sector * k) (at_least_first base (g.sector * k)) (slot_below g.sector base k (block_sectors g) g.area (sector_has_bytes g z) most z.blocks)
 
 reads_nothing : (c : Course) (n : ℕ) (r : Rec) → c.call.op ≡ ReadSectors n → record_of c.call.op ≡ Some r → ⊥
 reads_nothing c n r reads writes = none_some r (sym (ap (λ o. record_of o) reads) ∙ writes)
@@ -365,16 +366,6 @@ each_of P f a (suc n) (b ∷ bs) same each = (
   each_of P f (a + 1) n bs (tail_is (f a) (Some b) (map f (range_with_len (a + 1) n)) (all_whole bs) same) (λ k z low high. let r = in_range a k n low high in each k z r.0 r.1),
 )
 
-host_is : (k : ℕ) (r : Result Rec Bad) (b : Block) → block_in k r ≡ Some b → b.host ≡ k
-host_is k (Ok (BlockIs z)) b is = let v = choose_some (z.host == k) z b is in ap (λ (y : Block). y.host) (sym v.1) ∙ eqb-true z.host k v.0
-host_is k (Ok (DeltaIs z)) b is = absurd (none_some b is)
-host_is k (Ok (LeaderIs z)) b is = absurd (none_some b is)
-host_is k (Ok (RequestIs z)) b is = absurd (none_some b is)
-host_is k (Ok (ValueIs z)) b is = absurd (none_some b is)
-host_is k (Ok (PairIs z)) b is = absurd (none_some b is)
-host_is k (Ok (PairLeaderIs z)) b is = absurd (none_some b is)
-host_is k (Err z) b is = absurd (none_some b is)
-
 passes_by : (k : LeaseKnown) (b : Block) → ((b.host ≡ k.self.id → ⊥) → b.shared ≡ true → k.over b.host b.mode_gen ≡ true) → is_shared_by_other k b ≡ false
 passes_by k b over = by (b.host == k.self.id) refl b.shared refl where
   by : (own : Bool) → (b.host == k.self.id) ≡ own → (shared : Bool) → b.shared ≡ shared
@@ -400,34 +391,70 @@ place_is_at : (w : World) (c : Course) (call : Submitted) (offset i : ℕ) → c
 place_is_at w c call offset i same at = ap (λ o. o + i * w.layout.sector) (ap (λ (y : Call). y.offset) same ∙ at)
 
 area_shown : (p : Program) (h : Header) (xs : List Happening) → LawfulRun p h xs → (q : Asked) (stage : Stage) (st : Setting) (past : Trace) (call : Submitted) (e : Entry) (answer : Answer) (b : Machine) (stamp : Stamp)
-    → (k : Heard p h xs q stage st past call e answer b stamp) → ReadsThere (world_at p h xs) q call q.resource.offset ((world_at p h xs).layout.hosts + 2) → (bytes : List ℕ) → answer ≡ Read bytes
-    → (leader_of (world_at p h xs).layout bytes ≡ leader_there (world_at p h xs) (spot_of q.resource)) × (area_blocks (world_at p h xs).layout bytes ≡ blocks_there (world_at p h xs) (spot_of q.resource))
+    → (k : Heard p h xs q stage st past call e answer b stamp) → ReadsThere (world_at p h xs) q call q.resource.offset (area_sectors (world_at p h xs).layout) → (bytes : List ℕ) → answer ≡ Read bytes
+    → (leader_of (world_at p h xs).layout bytes ≡ leader_there (world_at p h xs) (spot_of q.resource)) × GivesBlocks (world_at p h xs) (spot_of q.resource) (blocks_part (world_at p h xs).layout bytes)
 area_shown p h xs run q stage st past call e answer b stamp k reads bytes is =
     let v : World = world_at p h xs in
-    let within : (i : ℕ) → i < v.layout.hosts + 2 → IsTrue (in_area v.layout q.resource.offset (sector_place v k.course i)) =
+    let within : (i : ℕ) → i < area_sectors v.layout → IsTrue (in_area v.layout q.resource.offset (sector_place v k.course i)) =
     λ i low.
     subst (λ o. IsTrue (in_area v.layout q.resource.offset o)) (sym (place_is_at v k.course call q.resource.offset i k.call_is reads.place ∙ sym (place_in_area q.resource.offset v.layout.sector i)))
-    (sector_within v.layout q.resource.offset i (sized_in p h xs run) (most_of_area i v.layout.hosts low)) in
+    (sector_within v.layout q.resource.offset i (sized_in p h xs run) (most_of_area i (block_sectors v.layout) low)) in
     let shows =
     reads_show_the_area.area p h xs run q.machine b k.course (spot_of q.resource) k.at k.has (ap (λ (y : Call). y.path) k.call_is ∙ reads.path) (ap (λ (y : Call). y.offset) k.call_is ∙ reads.place)
-    (read_stands p h xs run q stage st past call e answer b stamp k (v.layout.hosts + 2) reads.op reads.path within) in
+    (read_stands p h xs run q stage st past call e answer b stamp k (area_sectors v.layout) reads.op reads.path within) in
     let sampled : bytes ≡ (k.course).sampled = k.gives bytes is in
-    (ap (λ bs. leader_of v.layout bs) sampled ∙ shows.0, ap (λ bs. area_blocks v.layout bs) sampled ∙ shows.1)
+    (ap (λ bs. leader_of v.layout bs) sampled ∙ shows.0, subst (λ bs. GivesBlocks v (spot_of q.resource) (blocks_part v.layout bs)) (sym sampled) shows.1)
 
 blocks_shown : (p : Program) (h : Header) (xs : List Happening) → LawfulRun p h xs → (q : Asked) (stage : Stage) (st : Setting) (past : Trace) (call : Submitted) (e : Entry) (answer : Answer) (b : Machine) (stamp : Stamp)
     → (k : Heard p h xs q stage st past call e answer b stamp)
-    → ReadsThere (world_at p h xs) q call (block_offset (world_at p h xs).layout q.resource.offset 1) (world_at p h xs).layout.hosts → (bytes : List ℕ) → answer ≡ Read bytes
-    → blocks_in (world_at p h xs).layout bytes ≡ blocks_there (world_at p h xs) (spot_of q.resource)
+    → ReadsThere (world_at p h xs) q call (block_offset (world_at p h xs).layout q.resource.offset 1) (block_sectors (world_at p h xs).layout) → (bytes : List ℕ) → answer ≡ Read bytes
+    → GivesBlocks (world_at p h xs) (spot_of q.resource) bytes
 blocks_shown p h xs run q stage st past call e answer b stamp k reads bytes is =
     let v : World = world_at p h xs in
     let at : ℕ = block_offset v.layout q.resource.offset 1 in
-    let within : (i : ℕ) → i < v.layout.hosts → IsTrue (in_area v.layout q.resource.offset (sector_place v k.course i)) =
+    let within : (i : ℕ) → i < block_sectors v.layout → IsTrue (in_area v.layout q.resource.offset (sector_place v k.course i)) =
     λ i low.
     subst (λ o. IsTrue (in_area v.layout q.resource.offset o)) (sym (place_is_at v k.course call at i k.call_is reads.place ∙ sym (place_in_blocks q.resource.offset v.layout.sector i)))
-    (sector_within v.layout q.resource.offset (i + 2) (sized_in p h xs run) (most_of_blocks i v.layout.hosts low)) in
-    ap (λ bs. blocks_in v.layout bs) (k.gives bytes is)
-    ∙ reads_show_the_area.blocks p h xs run q.machine b k.course (spot_of q.resource) k.at k.has (ap (λ (y : Call). y.path) k.call_is ∙ reads.path) (ap (λ (y : Call). y.offset) k.call_is ∙ reads.place)
-    (read_stands p h xs run q stage st past call e answer b stamp k v.layout.hosts reads.op reads.path within)
+    (sector_within v.layout q.resource.offset (i + 2) (sized_in p h xs run) (most_of_blocks i (block_sectors v.layout) low)) in
+    subst (λ bs. GivesBlocks v (spot_of q.resource) bs) (sym (k.gives bytes is))
+    (reads_show_the_area.blocks p h xs run q.machine b k.course (spot_of q.resource) k.at k.has (ap (λ (y : Call). y.path) k.call_is ∙ reads.path) (ap (λ (y : Call). y.offset) k.call_is ∙ reads.place)
+    (read_stands p h xs run q stage st past call e answer b stamp k (block_sectors v.layout) reads.op reads.path within))
+
+-- ---- the blocks that a read shows
+
+-- Of each host the second sector is whole, and of the own one the turn is this.
+record StandsWhole (v : World) (q : Asked) (turn : ℕ) : Type 0 where
+  seconds : v.layout.paired ≡ true → (host : ℕ) → 1 ≤ host → host ≤ v.layout.hosts → (host ≡ q.session.id → ⊥) → IsSome (pair_there v (spot_of q.resource) host false)
+  own : v.layout.paired ≡ true → PairStands v (spot_of q.resource) q.session.id turn
+  host : (1 ≤ q.session.id) × (q.session.id ≤ v.layout.hosts)
+
+made_once : (v : World) (q : Asked) (bytes : List ℕ) (turn : ℕ) → GivesBlocks v (spot_of q.resource) bytes → StandsWhole v q turn → needs_again v.layout bytes ≡ false
+made_once v q bytes turn gives whole = by v.layout.paired refl where
+  at : Spot
+  at = spot_of q.resource
+
+  second : v.layout.paired ≡ true → (id : ℕ) → 1 ≤ id → id ≤ v.layout.hosts → IsSome (pair_there v at id false)
+  second paired id low high = which (true_or_false (id == q.session.id)) where
+    which : ((id == q.session.id) ≡ true) ⊎ ((id == q.session.id) ≡ false) → IsSome (pair_there v at id false)
+    which (inl mine) = subst (λ n. IsSome (pair_there v at n false)) (sym (eqb-true id q.session.id mine)) (whole.own paired).whole
+    which (inr other) = whole.seconds paired id low high (λ same. true_is_false (sym (eq-eqb id q.session.id same) ∙ other))
+
+  by : (b : Bool) → v.layout.paired ≡ b → needs_again v.layout bytes ≡ false
+  by false plain = once_plain v.layout plain bytes
+  by true paired =
+      whole_is_once v.layout bytes (λ id low high. ap (λ o. is_some o) ((gives.pairs paired id low high).1) ∙ second paired id low high)
+
+blocks_show : (v : World) (q : Asked) (bytes : List ℕ) (bs : List Block) (turn : ℕ) → q.same.place.layout ≡ v.layout → GivesBlocks v (spot_of q.resource) bytes
+    → blocks_there v (spot_of q.resource) ≡ all_whole bs → StandsWhole v q turn → ShowsBlocks q bytes bs turn
+blocks_show v q bytes bs turn layout gives same whole = record { shows = subst (λ g. ShowsWhole g bytes bs) (sym layout) shows; pair = λ paired. own (ap (λ (g : Layout). g.paired) (sym layout) ∙ paired) } where
+  shows : ShowsWhole v.layout bytes bs
+  shows = record { once = made_once v q bytes turn gives whole; whole = gives.blocks ∙ same }
+
+  own : v.layout.paired ≡ true → (p : PairBlock) × (pair_read q.same.place.layout bytes q.session.id ≡ Some p) × (p.turn ≡ turn)
+  own paired =
+      let p = whole.own paired in
+      let both = gives.pairs paired q.session.id whole.host.0 whole.host.1 in
+      (p.pair, ap (λ g. pair_read g bytes q.session.id) layout ∙ (ap₂ (λ a b. later_pair a b) both.0 both.1 ∙ p.stands), p.is)
 
 one_below : (a n m : ℕ) → m ≡ n + 1 → a ≤ n → a < m
 one_below a n m is low = omega (arith, is, low)
@@ -469,7 +496,7 @@ none_shared p h now x run q stage c quiet setting host reading number made answe
 
       each : q.shared ≡ false → (k : ℕ) (b : Block) → 1 ≤ k → k < 1 + v.layout.hosts → block_there v (spot_of q.resource) k ≡ Some b → is_shared_by_other known b ≡ false
       each alone k b low high is =
-          let its : b.host ≡ k = host_is k (record_in v.layout (content v q.resource.path (block_offset v.layout q.resource.offset k))) b (sym (there_plain v (plain_in p h (now ++ x ∷ []) run) (spot_of q.resource) k) ∙ is) in
+          let its : b.host ≡ k = stands_for v (spot_of q.resource) k b is in
           passes_by known b (λ other mode.
           let else : k ≡ q.session.id → ⊥ = λ same_id. other (its ∙ (same_id ∙ sym (c.asked).id)) in
           let most : k ≤ w.layout.hosts = up_to_last k v.layout.hosts w.layout.hosts (ap (λ (g : Layout). g.hosts) (last_goes p h now x).layout) high in
@@ -484,62 +511,70 @@ none_shared p h now x run q stage c quiet setting host reading number made answe
       by true mode = subst (λ m. NoneShared known (mode_of m) bs) (sym mode) tt
       by false mode = subst (λ m. NoneShared known (mode_of m) bs) (sym mode) (each_of (λ b. is_shared_by_other known b ≡ false) (block_there v (spot_of q.resource)) 1 v.layout.hosts bs same (each mode))
 
+-- The read of all blocks.
+reads_blocks : (v : World) (q : Asked) (call : Submitted) → q.same.place.layout ≡ v.layout → call.call.op ≡ ReadSectors (block_sectors q.same.place.layout) → call.call.path ≡ q.resource.path
+    → call.call.offset ≡ block_offset q.same.place.layout q.resource.offset 1 → ReadsThere v q call (block_offset v.layout q.resource.offset 1) (block_sectors v.layout)
+reads_blocks v q call layout op path place =
+    record { op = op ∙ ap (λ g. ReadSectors (block_sectors g)) layout; path = path; place = place ∙ ap (λ g. block_offset g q.resource.offset 1) layout }
+
+-- The session is of one of the run's hosts.
+host_in : (p : Program) (h : Header) (now : List Happening) (x : Happening) → LawfulRun p h (now ++ x ∷ []) → (q : Asked) (stage : Stage) → (c : OnCourse (world_at p h now) q stage) → (e : Entry) (answer : Answer) (b : Machine)
+    → Heard p h (now ++ x ∷ []) q stage (c.daemon).setting (c.daemon).trace (c.host).call e answer b c.stamp → (1 ≤ q.session.id) × (q.session.id ≤ (world_at p h (now ++ x ∷ [])).layout.hosts)
+host_in p h now x run q stage c e answer b k =
+    subst (λ (g : Layout). (1 ≤ q.session.id) × (q.session.id ≤ g.hosts)) (sym (ap (λ (y : LeasePlace). y.layout) (c.asked).place) ∙ k.layout) (c.asked).host
+
 shows_by : (p : Program) (h : Header) (now : List Happening) (x : Happening) → LawfulRun p h (now ++ x ∷ []) → (q : Asked) (stage : Stage) → (c : OnCourse (world_at p h now) q stage)
     → QuietStep (world_at p h now) x (world_at p h (now ++ x ∷ [])) q.machine q.job q.resource q.shared q.process q.session.number → (e : Entry) (answer : Answer) (b : Machine) → (reading : ℕ)
     → Heard p h (now ++ x ∷ []) q stage (c.daemon).setting (c.daemon).trace (c.host).call e answer b c.stamp → ShowsAt (c.daemon).setting (c.daemon).trace reading q (c.host).call answer stage
 shows_by p h now x run q Reads_area c quiet e answer b reading k =
     let v : World = world_at p h (now ++ x ∷ []) in
-    let got = of_read (c.daemon).setting answer (q.same.place.layout.hosts + 2) k.ok k.fits in
-    let reads : ReadsThere v q (c.host).call q.resource.offset (v.layout.hosts + 2) =
-    record { op = (c.host).is.op ∙ ap (λ (g : Layout). ReadSectors (g.hosts + 2)) k.layout; path = (c.host).is.path; place = (c.host).is.offset } in
+    let got = of_read (c.daemon).setting answer (area_sectors q.same.place.layout) k.ok k.fits in
+    let reads : ReadsThere v q (c.host).call q.resource.offset (area_sectors v.layout) =
+    record { op = (c.host).is.op ∙ ap (λ g. ReadSectors (area_sectors g)) k.layout; path = (c.host).is.path; place = (c.host).is.offset } in
     let shown = area_shown p h (now ++ x ∷ []) run q Reads_area (c.daemon).setting (c.daemon).trace (c.host).call e answer b c.stamp k reads got.0 got.1 in (
       got.0,
       got.1,
       ap (λ g. leader_of g got.0) k.layout ∙ (shown.0 ∙ (k.area).leader refl),
-      ap (λ g. area_blocks g got.0) k.layout ∙ (shown.1 ∙ (k.area).blocks refl),
+      blocks_show v q (blocks_part q.same.place.layout got.0) q.blocks (turn_at q Reads_area) k.layout
+          (subst (λ g. GivesBlocks v (spot_of q.resource) (blocks_part g got.0)) (sym k.layout) shown.1) ((k.area).blocks refl)
+          (record { seconds = (k.area).seconds; own = (k.area).pair; host = host_in p h now x run q Reads_area c e answer b k }),
     )
 shows_by p h now x run q Reads_first c quiet e answer b reading k =
     let v : World = world_at p h (now ++ x ∷ []) in
     let st : Setting = (c.daemon).setting in
-    let got = of_read st answer q.same.place.layout.hosts k.ok k.fits in
-    let reads : ReadsThere v q (c.host).call (block_offset v.layout q.resource.offset 1) v.layout.hosts =
-    record {
-      op = (c.host).is.op ∙ ap (λ (g : Layout). ReadSectors g.hosts) k.layout;
-      path = (c.host).is.path;
-      place = (c.host).is.offset ∙ ap (λ (g : Layout). block_offset g q.resource.offset 1) k.layout;
-    } in
+    let got = of_read st answer (block_sectors q.same.place.layout) k.ok k.fits in
     let first = first_is st q c.asked in
     let own = areas_show_own v q Reads_first (c.host).call.call.number (c.stamp).step (first_of_asked q) k.area refl (all_below q.leader.lver (first_of_asked q).lver q.blocks first.lver (c.asked).below) in (
       got.0,
       own.0,
       got.1,
-      ap (λ g. blocks_in g got.0) k.layout ∙ (blocks_shown p h (now ++ x ∷ []) run q Reads_first st (c.daemon).trace (c.host).call e answer b c.stamp k reads got.0 got.1 ∙ own.1),
+      blocks_show v q got.0 own.0 (turn_at q Reads_first) k.layout
+          (blocks_shown p h (now ++ x ∷ []) run q Reads_first st (c.daemon).trace (c.host).call e answer b c.stamp k
+          (reads_blocks v q (c.host).call k.layout (c.host).is.op (c.host).is.path (c.host).is.offset) got.0 got.1) own.1
+          (record { seconds = (k.area).seconds; own = (k.area).pair; host = host_in p h now x run q Reads_first c e answer b k }),
       own.2,
       none_shared p h now x run q Reads_first c quiet k.well.0 (k.well.1.0.1, k.well.1.1.1) reading (c.host).call.call.number (c.stamp).step answer k.area own.0 own.1,
     )
 shows_by p h now x run q Reads_second c quiet e answer b reading k =
     let v : World = world_at p h (now ++ x ∷ []) in
     let st : Setting = (c.daemon).setting in
-    let got = of_read st answer q.same.place.layout.hosts k.ok k.fits in
-    let reads : ReadsThere v q (c.host).call (block_offset v.layout q.resource.offset 1) v.layout.hosts =
-    record {
-      op = (c.host).is.op ∙ ap (λ (g : Layout). ReadSectors g.hosts) k.layout;
-      path = (c.host).is.path;
-      place = (c.host).is.offset ∙ ap (λ (g : Layout). block_offset g q.resource.offset 1) k.layout;
-    } in
+    let got = of_read st answer (block_sectors q.same.place.layout) k.ok k.fits in
     let first = first_is st q c.asked in
     let own = areas_show_own v q Reads_second (c.host).call.call.number (c.stamp).step (second_of_asked q) k.area refl (all_below q.leader.lver (first_of_asked q).lver q.blocks first.lver (c.asked).below) in (
       got.0,
       own.0,
       got.1,
-      ap (λ g. blocks_in g got.0) k.layout ∙ (blocks_shown p h (now ++ x ∷ []) run q Reads_second st (c.daemon).trace (c.host).call e answer b c.stamp k reads got.0 got.1 ∙ own.1),
+      blocks_show v q got.0 own.0 (turn_at q Reads_second) k.layout
+          (blocks_shown p h (now ++ x ∷ []) run q Reads_second st (c.daemon).trace (c.host).call e answer b c.stamp k
+          (reads_blocks v q (c.host).call k.layout (c.host).is.op (c.host).is.path (c.host).is.offset) got.0 got.1) own.1
+          (record { seconds = (k.area).seconds; own = (k.area).pair; host = host_in p h now x run q Reads_second c e answer b k }),
       own.2,
     )
-shows_by p h now x run q Writes_first c quiet e answer b reading k = of_write (c.daemon).setting answer (BlockIs (first_of_asked q)) k.ok k.fits
-shows_by p h now x run q Writes_second c quiet e answer b reading k = of_write (c.daemon).setting answer (BlockIs (second_of_asked q)) k.ok k.fits
-shows_by p h now x run q Takes_leader c quiet e answer b reading k = of_write (c.daemon).setting answer (LeaderIs (leader_of_asked q true)) k.ok k.fits
-shows_by p h now x run q Sets_mode c quiet e answer b reading k = of_write (c.daemon).setting answer (BlockIs (third_of_asked q)) k.ok k.fits
-shows_by p h now x run q Frees_leader c quiet e answer b reading k = of_write (c.daemon).setting answer (LeaderIs (leader_of_asked q false)) k.ok k.fits
+shows_by p h now x run q Writes_first c quiet e answer b reading k = of_write (c.daemon).setting answer _ k.ok k.fits
+shows_by p h now x run q Writes_second c quiet e answer b reading k = of_write (c.daemon).setting answer _ k.ok k.fits
+shows_by p h now x run q Takes_leader c quiet e answer b reading k = of_write (c.daemon).setting answer _ k.ok k.fits
+shows_by p h now x run q Sets_mode c quiet e answer b reading k = of_write (c.daemon).setting answer _ k.ok k.fits
+shows_by p h now x run q Frees_leader c quiet e answer b reading k = of_write (c.daemon).setting answer _ k.ok k.fits
 
 pub answers_show : AnswersShow
 answers_show p h now x run well q stage line resource c quiet k =

@@ -2,35 +2,34 @@
 use Rattle.std.specs.List.{range_with_len}
 use Rattle.sl_quiet.specs.Read.Standing.{blocks_there}
 use Rattle.sl_quiet.proofs.Read.Showing.{same_on}
-use Rattle.sl_area.specs.Layouts.{Layout, Sizes, record_in}
-use Rattle.sl_area.specs.Places.{block_offset, in_area}
+use Rattle.sl_area.specs.Layouts.{Layout}
+use Rattle.sl_area.specs.Places.{block_offset, in_area, later_pair, pair_offset}
 use Rattle.sl_trace_law.proofs.Sessions.Naming.{same_name}
 use Rattle.sl_history.specs.Resources.Promises.{spot_of_line}
 use Rattle.sl_trace.specs.LeaseWork.{LeasePlace}
 use Rattle.sl_trace.specs.Leases.{is_on, spot_of}
 use Rattle.sl_plain.proofs.Lists.{contains_cases, find_inside}
-use Rattle.sl_plain.proofs.Numbers.{at_least_first, refl_le}
+use Rattle.sl_quiet.proofs.Along.Places.{Misses, leader_within, misses_pair, misses_single, pair_within, reads_on, single_within, turned}
+use Rattle.sl_quiet.proofs.Read.Same.{SameBytes, same_block, same_leader, same_pair}
+use Rattle.sl_sector.specs.Spelling.{is_first_turn}
 use Rattle.sl_quiet.proofs.Along.Calls.{CallThere, call_there}
 use Rattle.sl_quiet.proofs.Area.Calming.{calm_goes_on, one_write_in_flight}
-use Rattle.sl_quiet.specs.Along.Along.{Asked, Frees_leader, IsCallAt, Reads_area, Reads_first, Reads_second, Sets_mode, Stage, Takes_leader, Writes_first, Writes_second, op_at, own_at}
+use Rattle.sl_quiet.specs.Along.Along.{Asked, Frees_leader, OwnPairAt, PairStands, Reads_area, Reads_first, Reads_second, SectorStands, Sets_mode, Stage, Takes_leader, Writes_first, Writes_second, op_at, own_at, turn_at}
 use Rattle.sl_quiet.specs.Area.Calm.{IsCalm}
 use Rattle.sl_run.specs.Quiet.{leader_there}
-use Rattle.sl_run.specs.Safety.{block_there}
+use Rattle.sl_run.specs.Safety.{block_there, pair_there}
 use Rattle.sl_run.specs.Worlds.{content, initial_bytes, is_write_course}
 use Rattle.sl_run_law.proofs.Course.Distinct.{running_has}
 use Rattle.sl_run_law.proofs.Course.Made.{daemons_are_of_world, last_goes}
 use Rattle.sl_run_law.proofs.Front.Going.{fronts_are_lawful}
-use Rattle.sl_run_law.proofs.Place.Areas.{is_within}
-use Rattle.sl_run_law.proofs.Place.Checks.{behind, same_block}
 use Rattle.sl_run_law.proofs.Place.Finding.{place_is}
-use Rattle.sl_run_law.proofs.Place.Seats.{plain_in, sized_in}
-use Rattle.sl_run_law.proofs.Place.Sizes.{IsSized, area_has_bytes, sector_has_bytes, slot_below}
-use Rattle.sl_sector.specs.Spelling.{block_in, leader_in}
+use Rattle.sl_run_law.proofs.Place.Seats.{sized_in}
+use Rattle.sl_run_law.proofs.Place.Sizes.{IsSized}
 use Rattle.sl_sector.specs.declared.sector.Block.{Block}
-use Rattle.sl_trace.specs.Traces.{Submitted, is_write, same_place}
+use Rattle.sl_trace.specs.Traces.{is_write, same_place}
 use Rattle.sl_trace.specs.declared.effects.Call.{Call}
 use Rattle.sl_trace.specs.declared.effects.Spot.{Spot}
-use Rattle.sl_words.proofs.CaseLaws.{none_some, true_is_false}
+use Rattle.sl_words.proofs.CaseLaws.{none_some}
 use Rattle.sl_quiet.specs.Along.Going.{AreaGoesOn, LandingsGoOn, LandsNow}
 use Rattle.sl_run.specs.Events.{first_change, happens, input_of, machine_of, next_step}
 use Rattle.sl_run.specs.Runs.{IsRun}
@@ -42,10 +41,8 @@ use Rattle.sl_run_law.proofs.Landing.Arriving.{Arrival, first_lands}
 use Rattle.sl_run_law.proofs.Landing.Passing.{step_landings}
 use Rattle.sl_run_law.specs.Front.Fronts.{HasOneStep}
 use Rattle.sl_words.proofs.WordLaws.{and_true}
-use Rattle.sl_history.proofs.Giving.Stood.{there_plain}
-use Rattle.sl_quiet.proofs.Read.PlainThere.{leads_plain}
 use Rattle.std.proofs.Common.{ap, ap₂, arith, inl, inr, refl, subst, sym, ◌∙◌}
-use Rattle.std.specs.Prelude.{Bool, Contains, IsTrue, List, None, Some, [], bytes_eq, false, find, if◌then◌else◌, true, ℕ, ◌&&◌, ◌*◌, ◌++◌, ◌+◌, ◌<◌, ◌==◌, ◌∷◌, ◌≡◌, ◌≤◌, ◌⊎◌, map}
+use Rattle.std.specs.Prelude.{Bool, Contains, IsSome, IsTrue, List, None, Some, [], bytes_eq, false, find, if◌then◌else◌, true, ℕ, ◌&&◌, ◌++◌, ◌+◌, ◌<◌, ◌==◌, ◌∷◌, ◌≡◌, ◌≤◌, ◌⊎◌, map}
 
 text_same : (a b : List ℕ) → a ≡ b → bytes_eq a b ≡ true
 text_same a b is = subst (λ y. bytes_eq a y ≡ true) is (same_name a)
@@ -55,22 +52,6 @@ both_true b c is its = ap (λ t. t && c) is ∙ its
 
 up_to : (k n : ℕ) → k < 1 + n → k ≤ n
 up_to k n h = omega (arith, h)
-
-two_more : (id hosts : ℕ) → id ≤ hosts → id + 1 ≤ hosts + 2
-two_more id hosts high = omega (arith, high)
-
--- A block is in its area.
-pub block_within : {s : Sizes} (g : Layout) (base id : ℕ) → IsSized s g → id ≤ g.hosts → IsTrue (in_area g base (block_offset g base id))
-block_within g base id z high =
-    is_within g base (block_offset g base id) (at_least_first base (g.sector * (id + 1)))
-    (slot_below g.sector base (id + 1) g.hosts g.area (sector_has_bytes g z) (two_more id g.hosts high) z.room)
-
-itself_below : (base area : ℕ) → 0 < area → base < base + area
-itself_below base area h = omega (arith, h)
-
--- So is the leader.
-pub leader_within : {s : Sizes} (g : Layout) (base : ℕ) → IsSized s g → IsTrue (in_area g base base)
-leader_within g base z = is_within g base base (refl_le base) (itself_below base g.area (area_has_bytes g z))
 
 pub landings_go_on : LandingsGoOn
 landings_go_on p h now x run = by (first_lands x.0 w last.0) where
@@ -109,37 +90,29 @@ landings_go_on p h now x run = by (first_lands x.0 w last.0) where
         writer = a.writer;
       })
 
--- ---- places where the call does not write
-
--- The call doesn't write at this place.
-abbrev Misses : Submitted → ℕ → Type 0
-Misses m o = is_write m.call.op ≡ true → m.call.offset ≡ o → ⊥
-
-reads_on : (q : Asked) (stage : Stage) (m : Submitted) (o : ℕ) → IsCallAt q stage m → is_write (op_at q stage) ≡ false → Misses m o
-reads_on q stage m o is reads writes at = true_is_false (sym writes ∙ (ap (λ op. is_write op) is.op ∙ reads))
-
--- It is no other host's block.
-misses_others : (q : Asked) (stage : Stage) (m : Submitted) (sizes : Sizes) (host : ℕ) → IsSized sizes q.same.place.layout → (host ≡ q.session.id → ⊥) → IsCallAt q stage m
-    → Misses m (block_offset q.same.place.layout q.resource.offset host)
-misses_others q Reads_area m sizes host z other is writes at = reads_on q Reads_area m (block_offset q.same.place.layout q.resource.offset host) is refl writes at
-misses_others q Reads_first m sizes host z other is writes at = reads_on q Reads_first m (block_offset q.same.place.layout q.resource.offset host) is refl writes at
-misses_others q Reads_second m sizes host z other is writes at = reads_on q Reads_second m (block_offset q.same.place.layout q.resource.offset host) is refl writes at
-misses_others q Writes_first m sizes host z other is writes at = other (sym (same_block q.same.place.layout q.resource.offset q.session.id host z (sym is.offset ∙ at)))
-misses_others q Writes_second m sizes host z other is writes at = other (sym (same_block q.same.place.layout q.resource.offset q.session.id host z (sym is.offset ∙ at)))
-misses_others q Sets_mode m sizes host z other is writes at = other (sym (same_block q.same.place.layout q.resource.offset q.session.id host z (sym is.offset ∙ at)))
-misses_others q Takes_leader m sizes host z other is writes at = behind q.same.place.layout q.resource.offset host z (sym is.offset ∙ at)
-misses_others q Frees_leader m sizes host z other is writes at = behind q.same.place.layout q.resource.offset host z (sym is.offset ∙ at)
-
 -- Where a block is looked for, the call is a read.
-misses_own : (q : Asked) (stage : Stage) (m : Submitted) (b : Block) (o : ℕ) → own_at q stage ≡ Some b → IsCallAt q stage m → Misses m o
-misses_own q Reads_first m b o own is = reads_on q Reads_first m o is refl
-misses_own q Reads_second m b o own is = reads_on q Reads_second m o is refl
-misses_own q Reads_area m b o own is = absurd (none_some b own)
-misses_own q Writes_first m b o own is = absurd (none_some b own)
-misses_own q Writes_second m b o own is = absurd (none_some b own)
-misses_own q Takes_leader m b o own is = absurd (none_some b own)
-misses_own q Sets_mode m b o own is = absurd (none_some b own)
-misses_own q Frees_leader m b o own is = absurd (none_some b own)
+looked_for : (q : Asked) (stage : Stage) (b : Block) → own_at q stage ≡ Some b → is_write (op_at q stage) ≡ false
+looked_for q Reads_first b own = refl
+looked_for q Reads_second b own = refl
+looked_for q Reads_area b own = absurd (none_some b own)
+looked_for q Writes_first b own = absurd (none_some b own)
+looked_for q Writes_second b own = absurd (none_some b own)
+looked_for q Takes_leader b own = absurd (none_some b own)
+looked_for q Sets_mode b own = absurd (none_some b own)
+looked_for q Frees_leader b own = absurd (none_some b own)
+
+-- What the own pair must have, stage by stage.
+own_goes_on : (v w : World) (q : Asked) (stage : Stage)
+    → (is_write (op_at q stage) ≡ false → (turn : ℕ) → PairStands w (spot_of q.resource) q.session.id turn → PairStands v (spot_of q.resource) q.session.id turn)
+    → (SectorStands w (spot_of q.resource) q.session.id (turn_at q stage) → SectorStands v (spot_of q.resource) q.session.id (turn_at q stage)) → OwnPairAt w q stage → OwnPairAt v q stage
+own_goes_on v w q Reads_area read written was = read refl (turn_at q Reads_area) was
+own_goes_on v w q Writes_first read written was = written was
+own_goes_on v w q Reads_first read written was = read refl (turn_at q Reads_first) was
+own_goes_on v w q Writes_second read written was = written was
+own_goes_on v w q Reads_second read written was = read refl (turn_at q Reads_second) was
+own_goes_on v w q Takes_leader read written was = tt
+own_goes_on v w q Sets_mode read written was = tt
+own_goes_on v w q Frees_leader read written was = tt
 
 -- ---- what stands there
 
@@ -152,10 +125,15 @@ other_place g h l ls path o other =
 pub area_goes_on : AreaGoesOn
 area_goes_on p h now x run q stage line resource a d at runs setting host asked c made area leaves =
     record {
-      others = λ k low high other. let b = area.others k low (subst (λ (g : Layout). k ≤ g.hosts) layout high) other in (b.0, blocks k low (subst (λ (g : Layout). k ≤ g.hosts) layout high) (others k other) ∙ b.1);
-      own = λ b is. blocks q.session.id hosts.0 hosts.1 (misses_own q stage c.call b (block_offset w.layout q.resource.offset q.session.id) is c.is) ∙ area.own b is;
+      others = λ k low high other. let b = area.others k low (subst (λ (g : Layout). k ≤ g.hosts) layout high) other in (b.0, other_block k low (subst (λ (g : Layout). k ≤ g.hosts) layout high) other ∙ b.1);
+      own = λ b is. unwritten (looked_for q stage b is) q.session.id hosts.0 hosts.1 ∙ area.own b is;
       leader = λ is. leads is ∙ area.leader is;
       blocks = λ is. whole is ∙ area.blocks is;
+      seconds = λ paired k low high other.
+          let before_paired = ap (λ (g : Layout). g.paired) (sym layout) ∙ paired in
+          let most = subst (λ (g : Layout). k ≤ g.hosts) layout high in
+          subst (λ o. IsSome o) (sym (second before_paired k low most other)) (area.seconds before_paired k low most other);
+      pair = λ paired. pair (ap (λ (g : Layout). g.paired) (sym layout) ∙ paired);
       calm = calm_goes_on p h now x run spot q.machine a d at runs leaves area.calm;
       since = since;
     } where
@@ -226,31 +204,77 @@ area_goes_on p h now x run q stage line resource a d at runs setting host asked 
         same (inl is) = settings v.landings ∙ ap (λ ls. held w ls) is
         same (inr l) = new l (same_place (l.landing).path (l.landing).offset q.resource.path o) refl
 
-      inside_block : (k : ℕ) → 1 ≤ k → k ≤ w.layout.hosts → IsTrue (in_area w.layout q.resource.offset (block_offset w.layout q.resource.offset k))
-      inside_block k low high = block_within w.layout q.resource.offset k z high
+      paired_there : w.layout.paired ≡ true → q.same.place.layout.paired ≡ true
+      paired_there paired = ap (λ (g : Layout). g.paired) place ∙ paired
 
-      blocks : (k : ℕ) → 1 ≤ k → k ≤ w.layout.hosts → Misses c.call (block_offset w.layout q.resource.offset k) → block_there v spot k ≡ block_there w spot k
-      blocks k low high misses =
-          there_plain v (plain_in p h (now ++ x ∷ []) run) spot k
-          ∙ (ap (λ g. block_in k (record_in g (content v q.resource.path (block_offset g q.resource.offset k)))) layout
-          ∙ (ap (λ bs. block_in k (record_in w.layout bs)) (stays (block_offset w.layout q.resource.offset k) (inside_block k low high) misses)
-          ∙ sym (there_plain w (plain_in p h now before) spot k)))
+      size : IsSized h.geometry q.same.place.layout
+      size = subst (λ g. IsSized h.geometry g) (sym place) z
 
-      others : (k : ℕ) → (k ≡ q.session.id → ⊥) → Misses c.call (block_offset w.layout q.resource.offset k)
-      others k other = subst (λ g. Misses c.call (block_offset g q.resource.offset k)) place (misses_others q stage c.call h.geometry k (subst (λ g. IsSized h.geometry g) (sym place) z) other c.is)
+      -- a sector of a pair, and a block of one sector, where the call doesn't write
+      sector : w.layout.paired ≡ true → (k : ℕ) (first : Bool) → 1 ≤ k → k ≤ w.layout.hosts → Misses c.call (pair_offset w.layout q.resource.offset k first)
+          → SameBytes v w spot (pair_offset w.layout q.resource.offset k first)
+      sector paired k first low high misses = stays (pair_offset w.layout q.resource.offset k first) (pair_within w.layout q.resource.offset k first z paired (low, high)) misses
+
+      single : (k : ℕ) → k ≤ w.layout.hosts → Misses c.call (block_offset w.layout q.resource.offset k) → SameBytes v w spot (block_offset w.layout q.resource.offset k)
+      single k high misses = stays (block_offset w.layout q.resource.offset k) (single_within w.layout q.resource.offset k z high) misses
+
+      -- of another host
+      other_sector : w.layout.paired ≡ true → (k : ℕ) (first : Bool) → 1 ≤ k → k ≤ w.layout.hosts → (k ≡ q.session.id → ⊥) → SameBytes v w spot (pair_offset w.layout q.resource.offset k first)
+      other_sector paired k first low high other =
+          sector paired k first low high
+          (subst (λ g. Misses c.call (pair_offset g q.resource.offset k first)) place (misses_pair q stage c.call k first size (paired_there paired) low (λ same side. other (sym same)) c.is))
+
+      other_block : (k : ℕ) → 1 ≤ k → k ≤ w.layout.hosts → (k ≡ q.session.id → ⊥) → block_there v spot k ≡ block_there w spot k
+      other_block k low high other =
+          same_block v w spot k layout
+          (λ plain. single k high
+          (subst (λ g. Misses c.call (block_offset g q.resource.offset k)) place (misses_single q stage c.call k size (ap (λ (g : Layout). g.paired) place ∙ plain) other c.is)))
+          (λ paired first. other_sector paired k first low high other)
+
+      -- of any host while the call is a read
+      unwritten : is_write (op_at q stage) ≡ false → (k : ℕ) → 1 ≤ k → k ≤ w.layout.hosts → block_there v spot k ≡ block_there w spot k
+      unwritten reads k low high =
+          same_block v w spot k layout (λ plain. single k high (reads_on q stage c.call (block_offset w.layout q.resource.offset k) c.is reads))
+          (λ paired first. sector paired k first low high (reads_on q stage c.call (pair_offset w.layout q.resource.offset k first) c.is reads))
+
+      second : w.layout.paired ≡ true → (k : ℕ) → 1 ≤ k → k ≤ w.layout.hosts → (k ≡ q.session.id → ⊥) → pair_there v spot k false ≡ pair_there w spot k false
+      second paired k low high other = same_pair v w spot k false layout (other_sector paired k false low high other)
+
+      -- the own pair
+      read_pair : w.layout.paired ≡ true → is_write (op_at q stage) ≡ false → (turn : ℕ) → PairStands w spot q.session.id turn → PairStands v spot q.session.id turn
+      read_pair paired reads turn s =
+          let same : (first : Bool) → pair_there v spot q.session.id first ≡ pair_there w spot q.session.id first =
+          λ first.
+          same_pair v w spot q.session.id first layout
+          (sector paired q.session.id first hosts.0 hosts.1 (reads_on q stage c.call (pair_offset w.layout q.resource.offset q.session.id first) c.is reads)) in
+          record { pair = s.pair; stands = ap₂ (λ a b. later_pair a b) (same true) (same false) ∙ s.stands; is = s.is; whole = subst (λ o. IsSome o) (sym (same false)) s.whole }
+
+      written_pair : w.layout.paired ≡ true → SectorStands w spot q.session.id (turn_at q stage) → SectorStands v spot q.session.id (turn_at q stage)
+      written_pair paired s =
+          let first : Bool = is_first_turn (turn_at q stage) in
+          record {
+            pair = s.pair;
+            stands = same_pair v w spot q.session.id first layout
+                (sector paired q.session.id first hosts.0 hosts.1
+                (subst (λ g. Misses c.call (pair_offset g q.resource.offset q.session.id first)) place
+                (misses_pair q stage c.call q.session.id first size (paired_there paired) hosts.0 (λ same side. turned (turn_at q stage) side) c.is)))
+                ∙ s.stands;
+            is = s.is;
+          }
+
+      pair : w.layout.paired ≡ true → OwnPairAt v q stage
+      pair paired = own_goes_on v w q stage (read_pair paired) (written_pair paired) (area.pair paired)
 
       leads : stage ≡ Reads_area → leader_there v spot ≡ leader_there w spot
       leads is =
-          leads_plain v (plain_in p h (now ++ x ∷ []) run) spot
-          ∙ (ap (λ g. leader_in (record_in g (content v q.resource.path q.resource.offset))) layout
-          ∙ (ap (λ bs. leader_in (record_in w.layout bs)) (stays q.resource.offset (leader_within w.layout q.resource.offset z) (reads_on q stage c.call q.resource.offset c.is (ap (λ s. is_write (op_at q s)) is)))
-          ∙ sym (leads_plain w (plain_in p h now before) spot)))
+          same_leader v w spot layout
+          (stays q.resource.offset (leader_within w.layout q.resource.offset z) (reads_on q stage c.call q.resource.offset c.is (ap (λ s. is_write (op_at q s)) is)))
 
       whole : stage ≡ Reads_area → blocks_there v spot ≡ blocks_there w spot
       whole is =
           ap (λ (g : Layout). map (block_there v spot) (range_with_len 1 g.hosts)) layout
           ∙ same_on (block_there v spot) (block_there w spot) 1 w.layout.hosts
-          (λ k low high. blocks k low (up_to k w.layout.hosts high) (reads_on q stage c.call (block_offset w.layout q.resource.offset k) c.is (ap (λ s. is_write (op_at q s)) is)))
+          (λ k low high. unwritten (ap (λ s. is_write (op_at q s)) is) k low (up_to k w.layout.hosts high))
 
       since : (l : Landing) → Contains v.landings l → l.path ≡ q.resource.path → IsTrue (in_area v.layout q.resource.offset l.offset) → made < l.step → l.writer ≡ Some (q.machine, (c.call).call.number)
       since l there path inside later = by (landings_go_on p h now x run) where

@@ -5,7 +5,15 @@ use Rattle.sl_quiet.proofs.Along.Hearing.{told_is}
 use Rattle.sl_trace.specs.Leases.{is_leader_of, leader_given, name_sought, spot_of, verified_by}
 use Rattle.sl_sector.proofs.PublicLaws.{spelled_is_read}
 use Rattle.std.proofs.lemmas.Option.{slice_get_within}
-use Rattle.sl_run_law.proofs.Place.Seats.{plain_in, sized_in}
+use Rattle.sl_history.proofs.Giving.Shown.{plain_place}
+use Rattle.sl_pairs.proofs.StepLaws.{alternate}
+use Rattle.sl_quiet.proofs.Along.Turning.{turn_after}
+use Rattle.sl_run_law.proofs.Place.Made.{later_is, pair_in_is}
+use Rattle.sl_run_law.proofs.Place.Seats.{sized_in}
+use Rattle.sl_sector.specs.declared.sector.Bad.{Bad}
+use Rattle.sl_sector.specs.declared.sector.PairBlock.{PairBlock}
+use Rattle.sl_trace.specs.declared.effects.Spot.{Spot}
+use Rattle.sl_words.proofs.WordLaws.{and_true, choose_some, same_truth_is}
 use Rattle.sl_run_law.proofs.Place.Sizes.{sector_fits}
 use Rattle.sl_trace_law.proofs.Sessions.Naming.{same_name}
 use Rattle.sl_area.specs.Layouts.{record_in, sector_with, Layout}
@@ -19,14 +27,14 @@ use Rattle.sl_run_law.proofs.Front.Going.{fronts_are_lawful}
 use Rattle.sl_run_law.proofs.Course.Distinct.{each_distinct, running_has}
 use Rattle.sl_run_law.proofs.Course.Matched.{courses_are_calls}
 use Rattle.sl_plain.proofs.Lists.{contains_cases, contains_first, contains_map, contains_more, contains_none, kept_inside}
-use Rattle.std.proofs.lemmas.Bool.{cases_lt}
-use Rattle.sl_area.specs.Places.{block_offset, in_area, leader_of}
-use Rattle.sl_sector.specs.Spelling.{block_in}
-use Rattle.std.proofs.Common.{ap, arith, inl, inr, refl, subst, sym, ◌∙◌, ap₂}
+use Rattle.std.proofs.lemmas.Bool.{cases_lt, eq-eqb}
+use Rattle.sl_area.specs.Places.{block_offset, block_place, block_record, blocks_part, in_area, later_pair, leader_of, needs_again, pair_offset}
+use Rattle.sl_sector.specs.Spelling.{block_in, is_first_turn, pair_in}
+use Rattle.std.proofs.Common.{ap, ap₂, arith, inl, inr, le-ltb, lt-ltb, refl, subst, sym, ◌∙◌}
 use Rattle.sl_trace.specs.declared.effects.Op.TheVariants.{WriteRecord}
-use Rattle.sl_trace.specs.Traces.{Setting, Submitted, Trace, answer_of, answered_in, is_write, record_of, same_place, submitted, gave}
+use Rattle.sl_trace.specs.Traces.{Setting, Submitted, Trace, answer_of, answered_in, bytes_given, is_write, record_of, same_place, submitted, gave}
 use Rattle.sl_sector.specs.declared.sector.Rec.{Rec}
-use Rattle.sl_run.specs.Safety.{LawfulRun, block_there, world_at}
+use Rattle.sl_run.specs.Safety.{LawfulRun, block_there, pair_there, world_at}
 use Rattle.sl_sector.specs.Records.{IsRecord}
 use Rattle.sl_quiet.specs.Along.Going.{IsHeard, IsWellMade}
 use Rattle.sl_run.specs.declared.header.Header.{Header}
@@ -36,17 +44,17 @@ use Rattle.sl_run.specs.Runs.{EachDaemon, Happening}
 use Rattle.sl_run.specs.Worlds.{Course, Daemon, Landing, Machine, Program, Stamp, World, initial_bytes, machine_at, content, reading_now}
 use Rattle.sl_quiet.proofs.Along.Calls.{CallThere, call_there}
 use Rattle.sl_trace.specs.declared.effects.Call.{Call}
-use Rattle.sl_sector.specs.declared.sector.Rec.TheVariants.{BlockIs}
+use Rattle.sl_sector.specs.declared.sector.Rec.TheVariants.{BlockIs, PairIs}
 use Rattle.sl_sector.specs.declared.sector.Block.{Block}
-use Rattle.sl_quiet.specs.Along.Along.{AreaOnCourse, Asked, Frees_leader, IsAskedOf, OnCourse, Reads_area, Reads_first, Reads_second, Sets_mode, Stage, Takes_leader, Writes_first, Writes_second, first_of_asked, offset_at, op_at, own_at, second_of_asked, stage_next, DaemonOnCourse}
+use Rattle.sl_quiet.specs.Along.Along.{AreaOnCourse, Asked, DaemonOnCourse, Frees_leader, IsAskedOf, OnCourse, OwnPairAt, PairStands, Reads_area, Reads_first, Reads_second, SectorStands, Sets_mode, Stage, Takes_leader, Writes_first, Writes_second, block_at, block_op, first_of_asked, offset_at, op_at, own_at, second_of_asked, stage_next, turn_at}
 use Rattle.sl_run_law.specs.Course.Stamping.{AnswersAgree, IsAnsweredAs, IsCourseOf, courses_of, stamp_in}
 use Rattle.sl_trace.specs.declared.input.Answer.{Answer}
-use Rattle.std.specs.Prelude.{AllPairs, Bool, Contains, IsTrue, List, None, Option, Some, bytes_eq, false, find, length, map, slice_get, slice_index_or, true, ◌==◌, ◌++◌, ◌&&◌, ◌≡◌, ◌∷◌, ◌⊎◌, ◌≤◌, ◌<◌, suc, zero, ℕ, [], if◌then◌else◌}
+use Rattle.std.specs.Prelude.{AllPairs, Bool, Contains, IsSome, IsTrue, List, None, Ok, Option, Result, Some, [], bytes_eq, false, find, if◌then◌else◌, is_some, length, map, not, option_map, slice_get, slice_index_or, suc, true, zero, ℕ, ◌&&◌, ◌++◌, ◌+◌, ◌<◌, ◌==◌, ◌∷◌, ◌≡◌, ◌≤◌, ◌⊎◌}
 use Rattle.sl_quiet.proofs.Along.Answering.{Heard, answers_show, heard_so, told_answer, told_where}
-use Rattle.sl_words.specs.Words.{choose}
-use Rattle.sl_quiet.proofs.Along.Areas.{block_within}
-use Rattle.sl_quiet.proofs.Along.Deciding.{course_decides, first_is, told_gives}
-use Rattle.sl_quiet.proofs.Along.Leading.{course_leads}
+use Rattle.sl_words.specs.Words.{choose, same_truth}
+use Rattle.sl_quiet.proofs.Along.Places.{turn_place, turn_within, turned_back}
+use Rattle.sl_quiet.proofs.Along.Deciding.{course_decides, first_is}
+use Rattle.sl_quiet.proofs.Along.Leading.{course_leads, told_gives}
 use Rattle.sl_quiet.specs.Along.Leading.{Hears, ShowsAt, decided_then, decision_at}
 use Rattle.sl_quiet.specs.Along.Answering.{CourseComesOn, heard_entry}
 use Rattle.sl_run_law.proofs.Landing.Proven.{done_writes_have_landed, landings_are_written, writes_land_once}
@@ -60,7 +68,7 @@ use Rattle.sl_history.proofs.Resources.Owning.{timed_in}
 use Rattle.sl_run_law.proofs.Watchdog.Stamps.{same_length}
 use Rattle.sl_run_law.proofs.Course.Stamped.{entries_are_stamped}
 use Rattle.sl_history.proofs.Giving.Stood.{there_plain}
-use Rattle.sl_quiet.proofs.Course.GivenArea.{leader_is_spelled}
+use Rattle.sl_quiet.proofs.Course.GivenArea.{leader_is_given}
 use Rattle.sl_run.specs.Lawful.{IsSetting}
 use Rattle.sl_trace.specs.declared.effects.Work.TheVariants.{ForJob}
 use Rattle.sl_trace.specs.declared.effects.Purpose.TheVariants.{Lease}
@@ -99,7 +107,7 @@ newest_is p made (x ∷ ls) l order once there is late each =
       by false other (inl same) rest = absurd (true_is_false (sym (ap (λ y. p y) same ∙ is) ∙ other))
       by false other (inr more) rest = ap (λ b. if b then Some x else find p ls) other ∙ rest more
 
--- ---- the block that was written stands there
+-- ---- what was written stands there
 
 left_whole : (w : World) (l : Landing) (c : Course) (r : Rec) → LeftBy w l c r → l.whole ≡ true → l.bytes ≡ sector_with w.layout r
 left_whole w l c r (inl left) whole = left.2
@@ -111,25 +119,16 @@ same_there l path o is at =
     (subst (λ n. same_place l.path l.offset l.path n ≡ true) (sym at)
     (ap (λ t. t && bytes_eq l.path l.path) (number_itself l.offset) ∙ same_name l.path))
 
-block_stands : (p : Program) (h : Header) (xs : List Happening) → LawfulRun p h xs → (q : Asked) (stage : Stage) (st : Setting) (past : Trace) (call : Submitted) (e : Entry) (answer : Answer) (b : Machine) (stamp : Stamp)
-    → (k : Heard p h xs q stage st past call e answer b stamp) → (r : Block) → call.call.op ≡ WriteRecord (BlockIs r) → call.call.path ≡ q.resource.path
-    → call.call.offset ≡ block_offset (world_at p h xs).layout q.resource.offset q.session.id → q.session.id ≤ (world_at p h xs).layout.hosts → r.host ≡ q.session.id
-    → block_there (world_at p h xs) (spot_of q.resource) q.session.id ≡ Some r
-block_stands p h xs run q stage st past call e answer b stamp k r writes path place high host =
-    there_plain v (plain_in p h xs run) (spot_of q.resource) id
-    ∙ (ap (λ bs. block_in id (record_in v.layout bs)) (content_is ∙ bytes_are)
-    ∙ (ap (λ y. block_in id y) (spelled_is_read v.layout.digest (digest_is p h xs run) v.layout.sector (sector_fits v.layout (sized_in p h xs run)) (BlockIs r) is_record)
-    ∙ ap (λ t. choose t r) (subst (λ n. (n == id) ≡ true) (sym host) (number_itself id)))) where
+written_stands : (p : Program) (h : Header) (xs : List Happening) → LawfulRun p h xs → (q : Asked) (stage : Stage) (st : Setting) (past : Trace) (call : Submitted) (e : Entry) (answer : Answer) (b : Machine) (stamp : Stamp)
+    → (k : Heard p h xs q stage st past call e answer b stamp) → (r : Rec) (o : ℕ) → call.call.op ≡ WriteRecord r → call.call.path ≡ q.resource.path → call.call.offset ≡ o
+    → IsTrue (in_area (world_at p h xs).layout q.resource.offset o) → record_in (world_at p h xs).layout (content (world_at p h xs) q.resource.path o) ≡ Ok r
+written_stands p h xs run q stage st past call e answer b stamp k r o writes path place inside =
+    ap (λ bs. record_in v.layout bs) (content_is ∙ bytes_are)
+    ∙ spelled_is_read v.layout.digest (digest_is p h xs run) v.layout.sector (sector_fits v.layout (sized_in p h xs run)) r is_record where
       v : World
       v = world_at p h xs
 
-      id : ℕ
-      id = q.session.id
-
-      o : ℕ
-      o = block_offset v.layout q.resource.offset id
-
-      course_op : (k.course).call.op ≡ WriteRecord (BlockIs r)
+      course_op : (k.course).call.op ≡ WriteRecord r
       course_op = ap (λ (y : Call). y.op) k.call_is ∙ writes
 
       has_landed : HasLanded v q.machine k.course
@@ -152,10 +151,10 @@ block_stands p h xs run q stage st past call e answer b stamp k r writes path pl
           one_call b.calls k.course (w.wrote).course (each_distinct p h xs run q.machine b k.at) k.has (subst (λ (y : Machine). Contains y.calls (w.wrote).course) same (w.wrote).has)
           (ap (λ n. (k.course).call.number == n) ((w.wrote).number ∙ ap (λ (y : ℕ × ℕ). y.1) named) ∙ number_itself (k.course).call.number)
 
-      record_is : (w.wrote).record_written ≡ BlockIs r
-      record_is = sym (some_value (BlockIs r) (w.wrote).record_written (sym (ap (λ o. record_of o) course_op) ∙ (ap (λ (c : Course). record_of c.call.op) one ∙ (w.wrote).writes)))
+      record_is : (w.wrote).record_written ≡ r
+      record_is = sym (some_value r (w.wrote).record_written (sym (ap (λ o. record_of o) course_op) ∙ (ap (λ (c : Course). record_of c.call.op) one ∙ (w.wrote).writes)))
 
-      bytes_are : l.bytes ≡ sector_with v.layout (BlockIs r)
+      bytes_are : l.bytes ≡ sector_with v.layout r
       bytes_are = left_whole v l (w.wrote).course (w.wrote).record_written (w.wrote).left has_landed.3 ∙ ap (λ y. sector_with v.layout y) record_is
 
       path_is : q.resource.path ≡ l.path
@@ -170,7 +169,7 @@ block_stands p h xs run q stage st past call e answer b stamp k r writes path pl
       each : (x : Landing) → Contains v.landings x → same_place x.path x.offset q.resource.path o ≡ true → stamp.step < x.step → x.writer ≡ l.writer
       each x there is after =
           let its = place_is x.path x.offset q.resource.path o is in
-          (k.area).since x there its.0 (subst (λ n. in_area v.layout q.resource.offset n ≡ true) (sym its.1) (block_within v.layout q.resource.offset id (sized_in p h xs run) high)) after
+          (k.area).since x there its.0 (subst (λ n. in_area v.layout q.resource.offset n ≡ true) (sym its.1) inside) after
           ∙ (ap (λ (y : Call). Some (q.machine, y.number)) (sym k.call_is) ∙ sym has_landed.2)
 
       content_is : content v q.resource.path o ≡ l.bytes
@@ -178,10 +177,91 @@ block_stands p h xs run q stage st past call e answer b stamp k r writes path pl
           ap (λ y. elim y as (λ z. List ℕ) [ Some k ↦ k.bytes | None ↦ initial_bytes v.layout v.header q.resource.path o ])
           (newest_is (λ (x : Landing). same_place x.path x.offset q.resource.path o) stamp.step v.landings l (come_in_order p h xs run) (writes_land_once p h xs run) has_landed.1 (same_there l q.resource.path o path_is offset_is) late each)
 
-      is_record : IsRecord (BlockIs r)
+      is_record : IsRecord r
       is_record =
           let t = traced promised p h xs run q.machine b k.course k.at k.has in
-          writes_record (t.daemon).setting (t.daemon).trace t.submitted_as (BlockIs r) t.lawful t.inside (ap (λ (c : Call). record_of c.op) t.is.call ∙ ap (λ o. record_of o) course_op)
+          writes_record (t.daemon).setting (t.daemon).trace t.submitted_as r t.lawful t.inside (ap (λ (c : Call). record_of c.op) t.is.call ∙ ap (λ o. record_of o) course_op)
+
+-- ---- the block that was written
+
+-- A block of this turn stands in its place.
+record Stands (v : World) (q : Asked) (turn : ℕ) (b : Block) : Type 0 where
+  single : v.layout.paired ≡ false → block_there v (spot_of q.resource) q.session.id ≡ Some b
+  double : v.layout.paired ≡ true → (p : PairBlock) × (pair_there v (spot_of q.resource) q.session.id (is_first_turn turn) ≡ Some p) × (p.turn ≡ turn) × (p.block ≡ b)
+
+stands_by : (v : World) (q : Asked) (turn : ℕ) (space name : List ℕ) (b : Block) → b.host ≡ q.session.id
+    → record_in v.layout (content v q.resource.path (block_place v.layout q.resource.offset q.session.id turn)) ≡ Ok (block_record v.layout turn space name b) → Stands v q turn b
+stands_by v q turn space name b host spells = record { single = single; double = double } where
+  id : ℕ
+  id = q.session.id
+
+  at : ℕ → Result Rec Bad
+  at o = record_in v.layout (content v q.resource.path o)
+
+  pair : PairBlock
+  pair = record { block = b; turn = turn; lockspace = space; resource = name }
+
+  of_kind : Bool → Rec
+  of_kind t = elim t [ false ↦ BlockIs b | true ↦ PairIs pair ]
+
+  itself : (t : Bool) → same_truth t t ≡ true
+  itself true = refl
+  itself false = refl
+
+  single : v.layout.paired ≡ false → block_there v (spot_of q.resource) id ≡ Some b
+  single plain =
+      there_plain v plain (spot_of q.resource) id
+      ∙ (ap (λ o. block_in id (at o)) (sym (plain_place v.layout plain q.resource.offset id turn))
+      ∙ (ap (λ y. block_in id y) (spells ∙ ap (λ t. let y : Result Rec Bad = Ok (of_kind t) in y) plain) ∙ ap (λ t. choose t b) (eq-eqb b.host id host)))
+
+  double : v.layout.paired ≡ true → (p : PairBlock) × (pair_there v (spot_of q.resource) id (is_first_turn turn) ≡ Some p) × (p.turn ≡ turn) × (p.block ≡ b)
+  double paired = (
+    pair,
+    ap (λ o. pair_in id (is_first_turn turn) (at o)) (sym (turn_place v.layout paired q.resource.offset id turn))
+        ∙ (ap (λ y. pair_in id (is_first_turn turn) y) (spells ∙ ap (λ t. let y : Result Rec Bad = Ok (of_kind t) in y) paired)
+        ∙ (ap (λ t. choose (t && same_truth (is_first_turn turn) (is_first_turn turn)) pair) (eq-eqb b.host id host) ∙ ap (λ t. choose t pair) (itself (is_first_turn turn)))),
+    refl,
+    refl,
+  )
+
+-- The later of two sectors whose turns follow one another.
+later_turn : (first : Bool) (w : World) (at : Spot) (id : ℕ) (new old : PairBlock) → pair_there w at id first ≡ Some new → pair_there w at id (not first) ≡ Some old → new.turn ≡ old.turn + 1
+    → (later_pair (pair_there w at id true) (pair_there w at id false) ≡ Some new) × IsSome (pair_there w at id false)
+later_turn true w at id new old one two turn = (
+  ap₂ (λ a b. later_pair a b) one two ∙ ap (λ t. if t then Some new else Some old) (lt-ltb old.turn new.turn (omega (arith, turn))),
+  ap (λ o. is_some o) two,
+)
+later_turn false w at id new old one two turn = (
+  ap₂ (λ a b. later_pair a b) two one ∙ ap (λ t. if t then Some old else Some new) (le-ltb new.turn old.turn (omega (arith, turn))),
+  ap (λ o. is_some o) one,
+)
+
+-- A block of the next turn beside one of this turn is the pair's.
+record Follows (v : World) (q : Asked) (turn : ℕ) (b : Block) : Type 0 where
+  pair : PairStands v (spot_of q.resource) q.session.id turn
+  block : (pair.pair).block ≡ b
+
+follows : (v : World) (q : Asked) (turn : ℕ) (b : Block) → v.layout.paired ≡ true → SectorStands v (spot_of q.resource) q.session.id turn → Stands v q (turn + 1) b → Follows v q (turn + 1) b
+follows v q turn b paired old new =
+    let n = new.double paired in
+    let other : pair_there v (spot_of q.resource) q.session.id (not (is_first_turn (turn + 1))) ≡ Some old.pair =
+    ap (λ t. pair_there v (spot_of q.resource) q.session.id t) (turned_back (is_first_turn (turn + 1)) (is_first_turn turn) (alternate turn)) ∙ old.stands in
+    let later = later_turn (is_first_turn (turn + 1)) v (spot_of q.resource) q.session.id n.0 old.pair n.1 other (n.2 ∙ ap (λ t. t + 1) (sym old.is)) in
+    record { pair = record { pair = n.0; stands = later.0; is = n.2; whole = later.1 }; block = n.3 }
+
+-- It stands there, of either kind.
+own_stands : (v : World) (q : Asked) (turn : ℕ) (b : Block) → (v.layout.paired ≡ true → SectorStands v (spot_of q.resource) q.session.id turn) → Stands v q (turn + 1) b
+    → block_there v (spot_of q.resource) q.session.id ≡ Some b
+own_stands v q turn b old new = by v.layout.paired refl where
+  by : (t : Bool) → v.layout.paired ≡ t → block_there v (spot_of q.resource) q.session.id ≡ Some b
+  by false plain = new.single plain
+  by true paired =
+      let f = follows v q turn b paired (old paired) new in
+      ap (λ t. elim t as (λ z. Option Block) [
+        | false ↦ block_in q.session.id (record_in v.layout (content v q.resource.path (block_offset v.layout q.resource.offset q.session.id)))
+        | true ↦ option_map (λ (p : PairBlock). p.block) (later_pair (pair_there v (spot_of q.resource) q.session.id true) (pair_there v (spot_of q.resource) q.session.id false))
+      ]) paired
+      ∙ (ap (λ o. option_map (λ (p : PairBlock). p.block) o) (f.pair).stands ∙ ap (λ y. Some y) f.block)
 
 -- ---- nothing landed since the answer
 
@@ -305,25 +385,60 @@ later_stage shared stage next is at = area_last (subst (λ s. stage_next shared 
   area_last same = true_is_false (sym (ap (λ o. is_area o) same) ∙ none shared stage)
 
 -- A block is looked for only behind its write.
-abbrev Looks : Asked → Stage → Block → Type 0
-Looks q stage b = op_at q stage ≡ WriteRecord (BlockIs b) × (offset_at q stage ≡ block_offset q.same.place.layout q.resource.offset q.session.id) × ((b ≡ first_of_asked q) ⊎ (b ≡ second_of_asked q))
+record Looks (v : World) (q : Asked) (stage : Stage) (b : Block) : Type 0 where
+  op : op_at q stage ≡ block_op q stage b
+  place : offset_at q stage ≡ block_at q stage
+  block : (b ≡ first_of_asked q) ⊎ (b ≡ second_of_asked q)
+  before : OwnPairAt v q stage → SectorStands v (spot_of q.resource) q.session.id (turn_at q stage)
 
-looks_behind : (q : Asked) (shared : Bool) (stage next : Stage) (b : Block) → stage_next shared stage ≡ Some next → own_at q next ≡ Some b → Looks q stage b
-looks_behind q shared Reads_area next b is own = absurd (none_some b (ap (λ s. own_at q s) (some_value Writes_first next is) ∙ own))
-looks_behind q shared Writes_first next b is own =
+looks_behind : (v : World) (q : Asked) (shared : Bool) (stage next : Stage) (b : Block) → stage_next shared stage ≡ Some next → own_at q next ≡ Some b → Looks v q stage b
+looks_behind v q shared Reads_area next b is own = absurd (none_some b (ap (λ s. own_at q s) (some_value Writes_first next is) ∙ own))
+looks_behind v q shared Writes_first next b is own =
     let one : first_of_asked q ≡ b = some_value (first_of_asked q) b (ap (λ s. own_at q s) (some_value Reads_first next is) ∙ own) in
-    (ap (λ y. WriteRecord (BlockIs y)) one, refl, inl (sym one))
-looks_behind q shared Reads_first next b is own = absurd (none_some b (ap (λ s. own_at q s) (some_value Writes_second next is) ∙ own))
-looks_behind q shared Writes_second next b is own =
+    record { op = ap (λ y. block_op q Writes_first y) one; place = refl; block = inl (sym one); before = λ was. was }
+looks_behind v q shared Reads_first next b is own = absurd (none_some b (ap (λ s. own_at q s) (some_value Writes_second next is) ∙ own))
+looks_behind v q shared Writes_second next b is own =
     let one : second_of_asked q ≡ b = some_value (second_of_asked q) b (ap (λ s. own_at q s) (some_value Reads_second next is) ∙ own) in
-    (ap (λ y. WriteRecord (BlockIs y)) one, refl, inr (sym one))
-looks_behind q shared Reads_second next b is own = absurd (none_some b (ap (λ s. own_at q s) (some_value Takes_leader next is) ∙ own))
-looks_behind q true Takes_leader next b is own = absurd (none_some b (ap (λ s. own_at q s) (some_value Sets_mode next is) ∙ own))
-looks_behind q false Takes_leader next b is own = absurd (none_some next is)
-looks_behind q true Sets_mode next b is own = absurd (none_some b (ap (λ s. own_at q s) (some_value Frees_leader next is) ∙ own))
-looks_behind q false Sets_mode next b is own = absurd (none_some b (ap (λ s. own_at q s) (some_value Frees_leader next is) ∙ own))
-looks_behind q true Frees_leader next b is own = absurd (none_some next is)
-looks_behind q false Frees_leader next b is own = absurd (none_some next is)
+    record { op = ap (λ y. block_op q Writes_second y) one; place = refl; block = inr (sym one); before = λ was. was }
+looks_behind v q shared Reads_second next b is own = absurd (none_some b (ap (λ s. own_at q s) (some_value Takes_leader next is) ∙ own))
+looks_behind v q true Takes_leader next b is own = absurd (none_some b (ap (λ s. own_at q s) (some_value Sets_mode next is) ∙ own))
+looks_behind v q false Takes_leader next b is own = absurd (none_some next is)
+looks_behind v q true Sets_mode next b is own = absurd (none_some b (ap (λ s. own_at q s) (some_value Frees_leader next is) ∙ own))
+looks_behind v q false Sets_mode next b is own = absurd (none_some b (ap (λ s. own_at q s) (some_value Frees_leader next is) ∙ own))
+looks_behind v q true Frees_leader next b is own = absurd (none_some next is)
+looks_behind v q false Frees_leader next b is own = absurd (none_some next is)
+
+-- What a read has found of the own pair leaves the sector of its turn.
+side_of : (host : ℕ) (first : Bool) (r : Result Rec Bad) (p : PairBlock) → pair_in host first r ≡ Some p → is_first_turn p.turn ≡ first
+side_of host first r p is =
+    let spelled : pair_in host first (Ok (PairIs p)) ≡ Some p = subst (λ y. pair_in host first y ≡ Some p) (pair_in_is host first r p is) is in
+    same_truth_is (is_first_turn p.turn) first
+    (and_true (p.block.host == host) (same_truth (is_first_turn p.turn) first) (choose_some (p.block.host == host && same_truth (is_first_turn p.turn) first) p p spelled).0).1
+
+sector_left : (v : World) (at : Spot) (id turn : ℕ) → PairStands v at id turn → SectorStands v at id turn
+sector_left v at id turn s = by (later_is (pair_there v at id true) (pair_there v at id false) s.pair s.stands) where
+  there : (first : Bool) → pair_there v at id first ≡ Some s.pair → SectorStands v at id turn
+  there first is =
+      let side : is_first_turn turn ≡ first = ap (λ t. is_first_turn t) (sym s.is) ∙ side_of id first (record_in v.layout (content v at.path (pair_offset v.layout at.base id first))) s.pair is in
+      record { pair = s.pair; stands = ap (λ t. pair_there v at id t) side ∙ is; is = s.is }
+
+  by : (pair_there v at id true ≡ Some s.pair) ⊎ (pair_there v at id false ≡ Some s.pair) → SectorStands v at id turn
+  by (inl one) = there true one
+  by (inr two) = there false two
+
+-- What the own pair has at the next stage.
+pair_next : (v : World) (q : Asked) (shared : Bool) (stage next : Stage) → stage_next shared stage ≡ Some next → OwnPairAt v q stage
+    → ((b : Block) → op_at q stage ≡ block_op q stage b → offset_at q stage ≡ block_at q stage → (b ≡ first_of_asked q) ⊎ (b ≡ second_of_asked q)
+    → SectorStands v (spot_of q.resource) q.session.id (turn_at q stage) → PairStands v (spot_of q.resource) q.session.id (turn_at q stage + 1)) → OwnPairAt v q next
+pair_next v q shared Reads_area next is was wrote = subst (λ s. OwnPairAt v q s) (some_value Writes_first next is) (sector_left v (spot_of q.resource) q.session.id (turn_at q Reads_area) was)
+pair_next v q shared Writes_first next is was wrote = subst (λ s. OwnPairAt v q s) (some_value Reads_first next is) (wrote (first_of_asked q) refl refl (inl refl) was)
+pair_next v q shared Reads_first next is was wrote = subst (λ s. OwnPairAt v q s) (some_value Writes_second next is) (sector_left v (spot_of q.resource) q.session.id (turn_at q Reads_first) was)
+pair_next v q shared Writes_second next is was wrote = subst (λ s. OwnPairAt v q s) (some_value Reads_second next is) (wrote (second_of_asked q) refl refl (inr refl) was)
+pair_next v q shared Reads_second next is was wrote = subst (λ s. OwnPairAt v q s) (some_value Takes_leader next is) tt
+pair_next v q true Takes_leader next is was wrote = subst (λ s. OwnPairAt v q s) (some_value Sets_mode next is) tt
+pair_next v q false Takes_leader next is was wrote = absurd (none_some next is)
+pair_next v q shared Sets_mode next is was wrote = subst (λ s. OwnPairAt v q s) (some_value Frees_leader next is) tt
+pair_next v q shared Frees_leader next is was wrote = absurd (none_some next is)
 
 host_of : (st : Setting) (q : Asked) (b : Block) → IsAskedOf st q → (b ≡ first_of_asked q) ⊎ (b ≡ second_of_asked q) → b.host ≡ q.session.id
 host_of st q b asked (inl is) = ap (λ (y : Block). y.host) is ∙ ((first_is st q asked).host ∙ asked.id)
@@ -332,13 +447,14 @@ host_of st q b asked (inr is) = ap (λ (y : Block). y.host) is ∙ ((first_is st
 -- The read of the area verifies the name.
 names_there : (st : Setting) (past : Trace) (q : Asked) (e : Entry) (c : DaemonOnCourse st past q Reads_area) (answer : Answer) (reading : ℕ) → IsSetting st → IsAskedOf st q
     → ShowsAt st past reading q c.call answer Reads_area → verified_by st.layout q.session.lockspace (answered_in past e (c.call).call.number answer c.call) (c.older ++ q.before) ≡ Some q.resource.name
-names_there st past q e c answer reading setting asked (bytes, is, leader, whole) =
+names_there st past q e c answer reading setting asked (bytes, is, leader, shows) =
     ap (λ o. elim o as (λ z. Option (List ℕ)) [
       | None ↦ None
       | Some name ↦ elim (leader_given st.layout told before) as (λ z. Option (List ℕ)) [ None ↦ None | Some l ↦ choose (is_leader_of st.layout q.session.lockspace name l) name ]
     ]) (ap (λ p. name_sought p) purpose)
     ∙ (ap (λ o. elim o as (λ z. Option (List ℕ)) [ None ↦ None | Some l ↦ choose (is_leader_of st.layout q.session.lockspace q.resource.name l) q.resource.name ])
-    (leader_is_spelled st.layout setting.unpaired told before bytes (ForJob q.job) q.resource.name gives purpose ∙ leads)
+    (leader_is_given st.layout told before (ForJob q.job) q.resource.name bytes q.leader purpose gives (subst (λ g. needs_again g (blocks_part g bytes) ≡ false) layout (shows.shows).once)
+    (ap (λ g. leader_of g bytes) (sym layout) ∙ leader))
     ∙ ap (λ t. choose t q.resource.name) (subst (λ n. is_leader_of st.layout n q.resource.name q.leader ≡ true) (sym asked.lockspace) asked.names)) where
       told : Submitted
       told = answered_in past e (c.call).call.number answer c.call
@@ -346,14 +462,14 @@ names_there st past q e c answer reading setting asked (bytes, is, leader, whole
       before : List Submitted
       before = c.older ++ q.before
 
+      layout : q.same.place.layout ≡ st.layout
+      layout = ap (λ (p : LeasePlace). p.layout) asked.place
+
       purpose : told.call.purpose ≡ Lease (ForJob q.job) (ReadArea q.resource.name)
       purpose = ap (λ (y : Call). y.purpose) (told_is past e (c.call).call.number answer c.call) ∙ c.is.purpose
 
       gives : gave told ≡ Some bytes
-      gives = ap (λ a. gave (answered_in past e (c.call).call.number a c.call)) is ∙ told_gives past e c.call bytes c.waits
-
-      leads : leader_of st.layout bytes ≡ Some q.leader
-      leads = ap (λ (p : LeasePlace). leader_of p.layout bytes) (sym asked.place) ∙ leader
+      gives = told_gives past e c.call answer c.waits ∙ ap (λ a. bytes_given a) is
 
 -- By the stage.
 names_at : (st : Setting) (past : Trace) (q : Asked) (e : Entry) (stage : Stage) (c : DaemonOnCourse st past q stage) (answer : Answer) (reading : ℕ) → IsSetting st → IsAskedOf st q → ShowsAt st past reading q c.call answer stage
@@ -382,6 +498,9 @@ course_comes_on p h now x run well q stage line resource c quiet k next to =
         own = own;
         leader = λ is. absurd (later_stage q.shared stage next to is);
         blocks = λ is. absurd (later_stage q.shared stage next to is);
+        seconds = (known.area).seconds;
+        pair = λ paired. pair_next v q q.shared stage next to ((known.area).pair paired)
+            (λ b op place which before. (follows v q (turn_at q stage) b paired before (wrote b op place which)).pair);
         calm = (known.area).calm;
         since = λ l there path inside later. absurd (none_later p h (now ++ x ∷ []) run q stage call c.stamp k.now k.machine k.at (ends_so p h now x run well q stage c k) known.area l there path inside later);
       };
@@ -414,12 +533,23 @@ course_comes_on p h now x run well q stage line resource c quiet k next to =
       leads =
           course_leads st past e q stage next known.well.0 known.well.1 c.asked c.host k.answer shows.0 to decided
           (names_at st past q e stage c.host k.answer (reading_now k.machine) known.well.0 c.asked shows.1)
+          (λ paired. turn_after st past (reading_now k.machine) q stage next c.asked c.host k.answer shows.1 q.shared to paired e)
 
-      high : q.session.id ≤ v.layout.hosts
-      high = subst (λ (g : Layout). q.session.id ≤ g.hosts) (sym (ap (λ (y : LeasePlace). y.layout) (c.asked).place) ∙ known.layout) (c.asked).host.1
+      hosts : (1 ≤ q.session.id) × (q.session.id ≤ v.layout.hosts)
+      hosts = subst (λ (g : Layout). (1 ≤ q.session.id) × (q.session.id ≤ g.hosts)) (sym (ap (λ (y : LeasePlace). y.layout) (c.asked).place) ∙ known.layout) (c.asked).host
+
+      -- the block that the call wrote
+      wrote : (b : Block) → op_at q stage ≡ block_op q stage b → offset_at q stage ≡ block_at q stage → (b ≡ first_of_asked q) ⊎ (b ≡ second_of_asked q) → Stands v q (turn_at q stage + 1) b
+      wrote b op place which =
+          let turn : ℕ = turn_at q stage + 1 in
+          stands_by v q turn q.session.lockspace q.resource.name b (host_of st q b c.asked which)
+          (written_stands p h (now ++ x ∷ []) run q stage st past call e k.answer k.machine c.stamp known (block_record v.layout turn q.session.lockspace q.resource.name b)
+          (block_place v.layout q.resource.offset q.session.id turn)
+          ((c.host).is.op ∙ (op ∙ ap (λ g. WriteRecord (block_record g turn q.session.lockspace q.resource.name b)) known.layout)) (c.host).is.path
+          ((c.host).is.offset ∙ (place ∙ ap (λ g. block_place g q.resource.offset q.session.id turn) known.layout))
+          (turn_within v.layout q.resource.offset q.session.id turn (sized_in p h (now ++ x ∷ []) run) hosts))
 
       own : (b : Block) → own_at q next ≡ Some b → block_there v (spot_of q.resource) q.session.id ≡ Some b
       own b is =
-          let looks : Looks q stage b = looks_behind q q.shared stage next b to is in
-          block_stands p h (now ++ x ∷ []) run q stage st past call e k.answer k.machine c.stamp known b ((c.host).is.op ∙ looks.0) (c.host).is.path
-          ((c.host).is.offset ∙ (looks.1 ∙ ap (λ (g : Layout). block_offset g q.resource.offset q.session.id) known.layout)) high (host_of st q b c.asked looks.2)
+          let looks : Looks v q stage b = looks_behind v q q.shared stage next b to is in
+          own_stands v q (turn_at q stage) b (λ paired. looks.before ((known.area).pair paired)) (wrote b looks.op looks.place looks.block)

@@ -3,7 +3,7 @@ use Rattle.sl_trace_law.proofs.Sessions.Making.{old_stays}
 use Rattle.sl_trace.specs.declared.reply.Reply.TheVariants.{Granted}
 use Rattle.sl_trace.specs.declared.effects.Grant.{Grant}
 use Rattle.sl_trace_law.proofs.Sessions.Naming.{same_name}
-use Rattle.sl_quiet.proofs.Along.Areas.{block_within, leader_within}
+use Rattle.sl_quiet.proofs.Along.Places.{first_within, leader_within, turn_within}
 use Rattle.sl_run_law.proofs.Place.Sizes.{IsSized, sized}
 use Rattle.std.proofs.lemmas.List.{append-nil}
 use Rattle.sl_plain.proofs.Options.{some_there}
@@ -27,13 +27,13 @@ use Rattle.sl_trace.specs.declared.input.Input.TheVariants.{Answer as Told}
 use Rattle.sl_words.specs.Words.{choose, some_is}
 use Rattle.std.proofs.lemmas.Bool.{eqb-true}
 use Rattle.sl_quiet.proofs.Denied.NoCause.{nothing_is_caused}
-use Rattle.sl_trace.specs.LeaseWork.{lease_next, lease_place, LeasePlace}
-use Rattle.sl_trace.specs.Leases.{is_leader_of, is_lease_call, is_on, known, leader_given, lease_calls, lease_step, lver_written, name_sought, spot_of, spot_of_call, verified_by, verified_name}
+use Rattle.sl_trace.specs.LeaseWork.{LeasePlace}
+use Rattle.sl_trace.specs.Leases.{LeaseKnown, base_turn, is_leader_of, is_lease_call, is_on, known, leader_given, lease_calls, lease_step, name_sought, spot_of, spot_of_call, verified_by, verified_name}
 use Rattle.sl_words.proofs.CaseLaws.{false_is_true, none_some, one_value, some_value, true_is_false}
 use Rattle.sl_due_law.proofs.Due.{due_is_lawful}
 use Rattle.sl_plain.proofs.Lists.{contains_cases, contains_none, find_inside, head_is, tail_is, contains_first, contains_more, filter_both, kept_inside, contains_map}
-use Rattle.sl_due.specs.DueLease.{carry_lease, next_of_lease, grant_for, grant_of, grant_process}
-use Rattle.sl_area.specs.Places.{block_offset, leader_of, in_area}
+use Rattle.sl_due.specs.DueLease.{carry_lease, grant_for, grant_of, grant_process, name_on, next_of_lease, next_turn, read_blocks, write_block, write_leader}
+use Rattle.sl_area.specs.Places.{block_offset, block_place, block_record, block_sectors, in_area, leader_offset, leader_record, pair_offset}
 use Rattle.sl_quiet.proofs.Step.Beginning.{bare_heard}
 use Rattle.sl_quiet.proofs.Step.Leading.{answers_lead_on}
 use Rattle.sl_due.specs.Steps.{Step, seen, with_some}
@@ -46,10 +46,11 @@ use Rattle.sl_trace.specs.declared.effects.Purpose.TheVariants.{Lease}
 use Rattle.sl_area.specs.Layouts.{Layout, Sizes}
 use Rattle.sl_quiet.proofs.Along.Timely.{JobThere, job_there, joined_there}
 use Rattle.sl_trace.specs.declared.effects.JobReply.{JobReply}
-use Rattle.sl_trace.specs.Traces.{Job, Replied, Setting, Submitted, Trace, is_before_input, is_running, job_numbered, new_call, next_call, reply_to, gave, Answered, answer_of, answered_in, is_answered_ok, is_of_job, is_ok_answer, job_of, mark, reply_in, submitted, is_shared}
+use Rattle.sl_trace.specs.Traces.{Job, Replied, Setting, Submitted, Trace, is_before_input, bytes_given, is_running, job_numbered, new_call, next_call, reply_to, gave, Answered, answer_of, answered_in, is_answered_ok, is_of_job, is_ok_answer, job_of, mark, reply_in, submitted, is_shared}
 use Rattle.sl_run.specs.Lawful.{IsSetting, Lawful}
 use Rattle.sl_due.specs.Due.{IsHostTrace, due}
-use Rattle.sl_quiet.proofs.Along.Hearing.{HeardFacts, heard_facts, told_is, done_stay, have_answers}
+use Rattle.sl_quiet.proofs.Along.Hearing.{HeardFacts, done_stay, have_answers, heard_facts, same_then, told_is}
+use Rattle.sl_quiet.specs.Course.Course.{known_with}
 use Rattle.sl_trace.specs.declared.effects.LeaseStep.TheVariants.{FreeLeader, Phase1Read, Phase1Write, Phase2Read, Phase2Write, SetMode, TakeLeader}
 use Rattle.sl_trace.specs.declared.effects.Work.TheVariants.{ForJob}
 use Rattle.sl_trace.specs.declared.effects.Entry.{Entry}
@@ -57,16 +58,18 @@ use Rattle.sl_trace.specs.declared.effects.Effects.{Effects}
 use Rattle.sl_quiet.specs.Step.Leading.{DoesAs, IsBare, heard, lease_part, led_on}
 use Rattle.sl_run.specs.Caused.{CausedBy, IsCaused}
 use Rattle.sl_trace.specs.declared.effects.Call.{Call}
-use Rattle.std.specs.Prelude.{Bool, Contains, List, None, Option, Some, false, filter, find, fold, is_none, is_some, length, option_and_then, option_map, true, ◌==◌, ◌⊎◌, ◌++◌, ◌∷◌, ◌≡◌, cond, ℕ, map, ◌&&◌, [], IsTrue, bytes_eq, ◌≤◌}
-use Rattle.sl_sector.specs.declared.sector.Rec.TheVariants.{BlockIs, LeaderIs}
-use Rattle.sl_quiet.specs.Along.Along.{Asked, DaemonOnCourse, Frees_leader, IsAskedOf, IsCallAt, Reads_area, Reads_first, Reads_second, Sets_mode, Stage, Takes_leader, Writes_first, Writes_second, first_of_asked, leader_of_asked, second_of_asked, stage_next, stages_before, step_at, third_of_asked, AllDone, offset_at, IsOfMode}
+use Rattle.std.specs.Prelude.{Bool, Contains, IsTrue, List, None, Option, Some, [], bytes_eq, cond, false, filter, find, fold, is_none, is_some, length, map, option_and_then, option_map, true, ℕ, ◌&&◌, ◌++◌, ◌+◌, ◌==◌, ◌∷◌, ◌≡◌, ◌≤◌, ◌⊎◌}
+use Rattle.sl_sector.specs.Spelling.{is_first_turn}
+use Rattle.sl_sector.specs.declared.sector.Block.{Block}
+use Rattle.sl_sector.specs.declared.sector.Rec.TheVariants.{BlockIs, PairIs}
+use Rattle.sl_sector.specs.declared.sector.Rec.{Rec}
+use Rattle.sl_quiet.specs.Along.Along.{AllDone, Asked, DaemonOnCourse, Frees_leader, IsAskedOf, IsCallAt, IsOfMode, Reads_area, Reads_first, Reads_second, Sets_mode, Stage, Takes_leader, Writes_first, Writes_second, block_at, block_op, first_of_asked, leader_of_asked, offset_at, op_at, second_of_asked, stage_next, stages_before, step_at, third_of_asked, turn_at}
 use Rattle.sl_trace.specs.declared.input.Answer.{Answer}
 use Rattle.std.specs.List.{AllByRecursion}
 use Rattle.sl_trace.specs.declared.lease.Aim.{Aim}
 use Rattle.sl_trace.specs.declared.lease.Aim.TheVariants.{Acquires}
 use Rattle.sl_quiet.specs.Along.Leading.{CourseEnds, CourseLeads, Hears, decided_then, decision_at, mode_of, told_call}
-use Rattle.sl_due_facts.proofs.Jobs.PlainNexts.{block_plain, blocks_plain, leader_plain, next_plain}
-use Rattle.std.proofs.Common.{ap, inl, inr, refl, subst, sym, ◌∙◌}
+use Rattle.std.proofs.Common.{ap, ap₂, inl, inr, refl, subst, sym, ◌∙◌}
 
 -- ---- the calls of an entry
 
@@ -115,75 +118,96 @@ pub record LedCall (q : Asked) (next : Stage) (y z : Step) : Type 0 where
   pub session : call.session ≡ q.session.number
   pub is : (at reading : ℕ) → IsCallAt q next (new_call at reading call)
 
+-- The lease of the step has been shown the turn before a stage, and has verified the name.
+pub record KnowsNext (q : Asked) (next : Stage) (y : Step) : Type 0 where
+  pub layout : y.setting.layout ≡ q.same.place.layout
+  pub turn : q.same.place.layout.paired ≡ true → next_turn y.setting (seen y) q.session (spot_of q.resource) ≡ turn_at q next + 1
+  pub name : name_on y.setting (seen y) q.session (spot_of q.resource) ≡ q.resource.name
+
+same_record : (g : Layout) (t u : ℕ) (space n m : List ℕ) (b : Block) → (g.paired ≡ true → t ≡ u) → n ≡ m → block_record g t space n b ≡ block_record g u space m b
+same_record g t u space n m b turn name = by g.paired refl where
+  of_kind : Bool → ℕ → List ℕ → Rec
+  of_kind k x y = elim k [ false ↦ BlockIs b | true ↦ PairIs (record { block = b; turn = x; lockspace = space; resource = y }) ]
+
+  by : (k : Bool) → g.paired ≡ k → of_kind k t n ≡ of_kind k u m
+  by false is = refl
+  by true is = ap₂ (λ x y. of_kind true x y) (turn is) name
+
+same_turn_place : (g : Layout) (base id t u : ℕ) → (g.paired ≡ true → t ≡ u) → block_place g base id t ≡ block_place g base id u
+same_turn_place g base id t u turn = by g.paired refl where
+  of_kind : Bool → ℕ → ℕ
+  of_kind k x = elim k [ false ↦ block_offset g base id | true ↦ pair_offset g base id (is_first_turn x) ]
+
+  by : (k : Bool) → g.paired ≡ k → of_kind k t ≡ of_kind k u
+  by false is = refl
+  by true is = ap (λ x. of_kind true x) (turn is)
+
 abbrev next_of : Step → Session → ℕ → Asked → Stage → ℕ → Op → Call
 next_of y s j q next offset op = record { number = next_call y.setting (seen y); session = s.number; purpose = Lease (ForJob j) (step_at q next); path = q.resource.path; offset = offset; op = op }
 
-carried : (q : Asked) (next : Stage) (y : Step) → y.setting.layout.paired ≡ false → y.setting.layout ≡ q.same.place.layout → (next ≡ Reads_area → ⊥) → LedCall q next y (carry_lease q.session (spot_of q.resource) (ForJob q.job) (decision_at q next) y)
+-- The own block is written.
+carried_block : (q : Asked) (next : Stage) (y : Step) (b : Block) → KnowsNext q next y → op_at q next ≡ block_op q next b → offset_at q next ≡ block_at q next
+    → LedCall q next y (write_block q.session (spot_of q.resource) (ForJob q.job) (step_at q next) b y)
+carried_block q next y b k op place =
+    let g : Layout = y.setting.layout in
+    let turn : ℕ = next_turn y.setting (seen y) q.session (spot_of q.resource) in
+    let name : List ℕ = name_on y.setting (seen y) q.session (spot_of q.resource) in
+    record {
+      call = next_of y q.session q.job q next (block_place g q.resource.offset q.session.id turn) (WriteRecord (block_record g turn q.session.lockspace name b));
+      calls = refl;
+      replies = refl;
+      session = refl;
+      is = λ at reading.
+          record {
+            purpose = refl;
+            op = ap (λ l. WriteRecord (block_record l turn q.session.lockspace name b)) k.layout
+                ∙ (ap (λ r. WriteRecord r) (same_record q.same.place.layout turn (turn_at q next + 1) q.session.lockspace name q.resource.name b k.turn k.name) ∙ sym op);
+            path = refl;
+            offset = ap (λ l. block_place l q.resource.offset q.session.id turn) k.layout
+                ∙ (same_turn_place q.same.place.layout q.resource.offset q.session.id turn (turn_at q next + 1) k.turn ∙ sym place);
+          };
+    }
+
+-- All blocks are read.
+carried_read : (q : Asked) (next : Stage) (y : Step) → KnowsNext q next y → op_at q next ≡ ReadSectors (block_sectors q.same.place.layout)
+    → offset_at q next ≡ block_offset q.same.place.layout q.resource.offset 1 → LedCall q next y (read_blocks q.session (spot_of q.resource) (ForJob q.job) (step_at q next) y)
+carried_read q next y k op place =
+    record {
+      call = next_of y q.session q.job q next (block_offset y.setting.layout q.resource.offset 1) (ReadSectors (block_sectors y.setting.layout));
+      calls = refl;
+      replies = refl;
+      session = refl;
+      is = λ at reading.
+          record {
+            purpose = refl;
+            op = ap (λ g. ReadSectors (block_sectors g)) k.layout ∙ sym op;
+            path = refl;
+            offset = ap (λ g. block_offset g q.resource.offset 1) k.layout ∙ sym place;
+          };
+    }
+
+-- The leader is written.
+carried_leader : (q : Asked) (next : Stage) (y : Step) (held : Bool) → KnowsNext q next y → op_at q next ≡ WriteRecord (leader_record q.same.place.layout (leader_of_asked q held))
+    → offset_at q next ≡ leader_offset q.resource.offset → LedCall q next y (write_leader q.session (spot_of q.resource) (ForJob q.job) (step_at q next) (leader_of_asked q held) y)
+carried_leader q next y held k op place =
+    record {
+      call = next_of y q.session q.job q next (leader_offset q.resource.offset) (WriteRecord (leader_record y.setting.layout (leader_of_asked q held)));
+      calls = refl;
+      replies = refl;
+      session = refl;
+      is = λ at reading. record { purpose = refl; op = ap (λ g. WriteRecord (leader_record g (leader_of_asked q held))) k.layout ∙ sym op; path = refl; offset = sym place };
+    }
+
+carried : (q : Asked) (next : Stage) (y : Step) → KnowsNext q next y → (next ≡ Reads_area → ⊥) → LedCall q next y (carry_lease q.session (spot_of q.resource) (ForJob q.job) (decision_at q next) y)
 unfolding carry_lease
-carried q Reads_area y plain layout later = absurd (later refl)
-carried q Writes_first y plain layout later =
-    subst (λ z. LedCall q Writes_first y z) (sym (block_plain y q.session (spot_of q.resource) (ForJob q.job) Phase1Write (first_of_asked q) plain))
-    (record {
-      call = next_of y q.session q.job q Writes_first (block_offset y.setting.layout q.resource.offset q.session.id) (WriteRecord (BlockIs (first_of_asked q)));
-      calls = refl;
-      replies = refl;
-      session = refl;
-      is = λ at reading. record { purpose = refl; op = refl; path = refl; offset = ap (λ g. block_offset g q.resource.offset q.session.id) layout };
-    })
-carried q Reads_first y plain layout later =
-    subst (λ z. LedCall q Reads_first y z) (sym (blocks_plain y q.session (spot_of q.resource) (ForJob q.job) Phase1Read plain))
-    (record {
-      call = next_of y q.session q.job q Reads_first (block_offset y.setting.layout q.resource.offset 1) (ReadSectors y.setting.layout.hosts);
-      calls = refl;
-      replies = refl;
-      session = refl;
-      is = λ at reading. record { purpose = refl; op = ap (λ (g : Layout). ReadSectors g.hosts) layout; path = refl; offset = ap (λ g. block_offset g q.resource.offset 1) layout };
-    })
-carried q Writes_second y plain layout later =
-    subst (λ z. LedCall q Writes_second y z) (sym (block_plain y q.session (spot_of q.resource) (ForJob q.job) Phase2Write (second_of_asked q) plain))
-    (record {
-      call = next_of y q.session q.job q Writes_second (block_offset y.setting.layout q.resource.offset q.session.id) (WriteRecord (BlockIs (second_of_asked q)));
-      calls = refl;
-      replies = refl;
-      session = refl;
-      is = λ at reading. record { purpose = refl; op = refl; path = refl; offset = ap (λ g. block_offset g q.resource.offset q.session.id) layout };
-    })
-carried q Reads_second y plain layout later =
-    subst (λ z. LedCall q Reads_second y z) (sym (blocks_plain y q.session (spot_of q.resource) (ForJob q.job) Phase2Read plain))
-    (record {
-      call = next_of y q.session q.job q Reads_second (block_offset y.setting.layout q.resource.offset 1) (ReadSectors y.setting.layout.hosts);
-      calls = refl;
-      replies = refl;
-      session = refl;
-      is = λ at reading. record { purpose = refl; op = ap (λ (g : Layout). ReadSectors g.hosts) layout; path = refl; offset = ap (λ g. block_offset g q.resource.offset 1) layout };
-    })
-carried q Takes_leader y plain layout later =
-    subst (λ z. LedCall q Takes_leader y z) (sym (leader_plain y q.session (spot_of q.resource) (ForJob q.job) TakeLeader (leader_of_asked q true) plain))
-    (record {
-      call = next_of y q.session q.job q Takes_leader q.resource.offset (WriteRecord (LeaderIs (leader_of_asked q true)));
-      calls = refl;
-      replies = refl;
-      session = refl;
-      is = λ at reading. record { purpose = refl; op = refl; path = refl; offset = refl };
-    })
-carried q Sets_mode y plain layout later =
-    subst (λ z. LedCall q Sets_mode y z) (sym (block_plain y q.session (spot_of q.resource) (ForJob q.job) SetMode (third_of_asked q) plain))
-    (record {
-      call = next_of y q.session q.job q Sets_mode (block_offset y.setting.layout q.resource.offset q.session.id) (WriteRecord (BlockIs (third_of_asked q)));
-      calls = refl;
-      replies = refl;
-      session = refl;
-      is = λ at reading. record { purpose = refl; op = refl; path = refl; offset = ap (λ g. block_offset g q.resource.offset q.session.id) layout };
-    })
-carried q Frees_leader y plain layout later =
-    subst (λ z. LedCall q Frees_leader y z) (sym (leader_plain y q.session (spot_of q.resource) (ForJob q.job) FreeLeader (leader_of_asked q false) plain))
-    (record {
-      call = next_of y q.session q.job q Frees_leader q.resource.offset (WriteRecord (LeaderIs (leader_of_asked q false)));
-      calls = refl;
-      replies = refl;
-      session = refl;
-      is = λ at reading. record { purpose = refl; op = refl; path = refl; offset = refl };
-    })
+carried q Reads_area y k later = absurd (later refl)
+carried q Writes_first y k later = carried_block q Writes_first y (first_of_asked q) k refl refl
+carried q Reads_first y k later = carried_read q Reads_first y k refl refl
+carried q Writes_second y k later = carried_block q Writes_second y (second_of_asked q) k refl refl
+carried q Reads_second y k later = carried_read q Reads_second y k refl refl
+carried q Takes_leader y k later = carried_leader q Takes_leader y true k refl refl
+carried q Sets_mode y k later = carried_block q Sets_mode y (third_of_asked q) k refl refl
+carried q Frees_leader y k later = carried_leader q Frees_leader y false k refl refl
 
 -- ---- stages
 
@@ -325,10 +349,8 @@ led_step st past e q stage setting host asked c answer h = record { unreplied = 
   next_is : next_of_lease y.setting (seen y) q.session (spot_of_call y.setting.layout m) aim m step answer ≡ decided_then st past now q stage c.call answer
   next_is =
       ap (λ at. next_of_lease y.setting (seen y) q.session at aim m step answer) facts.spot
-      ∙ (next_plain y.setting (seen y) q.session (spot_of q.resource) aim m step answer (ap (λ (g : Setting). g.layout.paired) bare_y.setting ∙ setting.unpaired)
-      ∙ (ap (λ g. lease_next (lease_place g q.session) (known g (seen y) q.session (spot_of q.resource)) aim m.call.number (lver_written m) step answer) bare_y.setting
-      ∙ ap (λ (k : Call). lease_next (lease_place st q.session) (known st (seen y) q.session (spot_of q.resource)) aim k.number (lver_written (new_call 0 0 k)) step answer)
-      (told_is past (record { reading = now; input = Told n answer; effects = y.effects }) n answer c.call)))
+      ∙ (ap (λ g. next_of_lease g (seen y) q.session (spot_of q.resource) aim m step answer) bare_y.setting
+      ∙ ap (λ (k : Call). next_of_lease st (seen y) q.session (spot_of q.resource) aim (new_call 0 0 k) step answer) (told_is past (record { reading = now; input = Told n answer; effects = y.effects }) n answer c.call))
 
   led_is : led_on y q.session m q.job step aim answer ≡ carry_lease q.session (spot_of q.resource) (ForJob q.job) (decided_then st past now q stage c.call answer) y
   led_is =
@@ -347,7 +369,7 @@ done_all : (q : Asked) (stages : List Stage) (ms : List Submitted) → AllDone q
 done_all q stages ms done = subst (λ xs. AllByRecursion (λ (m : Submitted). is_some m.answer ≡ true) xs) (append-nil ms) (have_answers q stages ms [] done tt)
 
 -- The call with its answer.
-told_ok : (past : Trace) (e : Entry) (m : Submitted) (a : Answer) → m.answer ≡ None → is_ok_answer a ≡ true → is_answered_ok (answered_in past e m.call.number a m) ≡ true
+pub told_ok : (past : Trace) (e : Entry) (m : Submitted) (a : Answer) → m.answer ≡ None → is_ok_answer a ≡ true → is_answered_ok (answered_in past e m.call.number a m) ≡ true
 told_ok past e m a waits ok =
     ap (λ b. is_answered_ok (elim b as (λ z. Submitted) [ false ↦ m | true ↦ record m { answer = option_or m.answer (Some (answer_of past e a m.call)) } ])) (number_itself m.call.number)
     ∙ (ap (λ o. some_is (λ (x : Answered). is_ok_answer x.answer) (option_or o (Some (answer_of past e a m.call)))) waits ∙ ok)
@@ -361,24 +383,90 @@ told_at q stage past e n a m is =
       offset = ap (λ (k : Call). k.offset) (told_is past e n a m) ∙ is.offset;
     }
 
+-- The bytes that its answer gives, if it does.
+pub told_gives : (past : Trace) (e : Entry) (m : Submitted) (a : Answer) → m.answer ≡ None → gave (answered_in past e m.call.number a m) ≡ bytes_given a
+told_gives past e m a waits =
+    ap (λ b. gave (elim b as (λ z. Submitted) [ false ↦ m | true ↦ record m { answer = option_or m.answer (Some (answer_of past e a m.call)) } ])) (number_itself m.call.number)
+    ∙ ap (λ o. option_and_then (λ (x : Answered). bytes_given x.answer) (option_or o (Some (answer_of past e a m.call)))) waits
+
 -- The name that the lease has verified, with one more call.
 pub name_more : (g : Layout) (space name : List ℕ) (m : Submitted) (ms : List Submitted) → (verified_by g space m ms ≡ Some name) ⊎ ((verified_by g space m ms ≡ None) × (verified_name g space ms ≡ name)) → verified_name g space (m ∷ ms) ≡ name
 name_more g space name m ms (inl now) = ap (λ o. elim o as (λ z. List ℕ) [ Some n ↦ n | None ↦ verified_name g space ms ]) now
 name_more g space name m ms (inr before) = ap (λ o. elim o as (λ z. List ℕ) [ Some n ↦ n | None ↦ verified_name g space ms ]) before.0 ∙ before.1
 
+-- What is asked of the newest call goes by its answer, whatever else its entry brings.
+same_name_told : (g : Layout) (space : List ℕ) (past : Trace) (e f : Entry) (n : ℕ) (a : Answer) (m : Submitted) (ms : List Submitted)
+    → verified_name g space (answered_in past e n a m ∷ ms) ≡ verified_name g space (answered_in past f n a m ∷ ms)
+same_name_told g space past e f n a m ms = by (m.call.number == n) m.answer where
+  by : (b : Bool) (o : Option Answered)
+      → verified_name g space ((elim b as (λ z. Submitted) [ false ↦ m | true ↦ record m { answer = option_or o (Some (answer_of past e a m.call)) } ]) ∷ ms)
+      ≡ verified_name g space ((elim b as (λ z. Submitted) [ false ↦ m | true ↦ record m { answer = option_or o (Some (answer_of past f a m.call)) } ]) ∷ ms)
+  by false o = refl
+  by true None = refl
+  by true (Some x) = refl
+
+same_turn_told : (g : Layout) (id : ℕ) (past : Trace) (e f : Entry) (n : ℕ) (a : Answer) (m : Submitted) (ms : List Submitted)
+    → base_turn g id (answered_in past e n a m ∷ ms) ≡ base_turn g id (answered_in past f n a m ∷ ms)
+same_turn_told g id past e f n a m ms = by (m.call.number == n) m.answer where
+  by : (b : Bool) (o : Option Answered)
+      → base_turn g id ((elim b as (λ z. Submitted) [ false ↦ m | true ↦ record m { answer = option_or o (Some (answer_of past e a m.call)) } ]) ∷ ms)
+      ≡ base_turn g id ((elim b as (λ z. Submitted) [ false ↦ m | true ↦ record m { answer = option_or o (Some (answer_of past f a m.call)) } ]) ∷ ms)
+  by false o = refl
+  by true None = refl
+  by true (Some x) = refl
+
+-- So the lease knows turn and name when its next call is decided.
+knows_next : (st : Setting) (past : Trace) (e : Entry) (q : Asked) (stage next : Stage) → IsSetting st → IsHostTrace st past → IsAskedOf st q → (c : DaemonOnCourse st past q stage) (answer : Answer)
+    → (st.layout.paired ≡ true → base_turn st.layout q.session.id (answered_in past e (c.call).call.number answer c.call ∷ (c.older ++ q.before)) ≡ turn_at q next)
+    → verified_name st.layout q.session.lockspace (answered_in past e (c.call).call.number answer c.call ∷ (c.older ++ q.before)) ≡ q.resource.name
+    → KnowsNext q next (heard st past e.reading (c.call).call.number answer)
+unfolding known
+knows_next st past e q stage next setting host asked c answer turned name =
+    record {
+      layout = layout;
+      turn = λ paired. ap (λ t. t + 1)
+          (ap (λ (k : LeaseKnown). k.turn) is
+          ∙ (ap (λ (g : Layout). base_turn g q.same.self.id (m ∷ (c.older ++ q.before))) place ∙ (ap (λ id. base_turn st.layout id (m ∷ (c.older ++ q.before))) asked.id
+          ∙ (same_turn_told st.layout q.session.id past f e n answer c.call (c.older ++ q.before) ∙ turned (ap (λ (g : Layout). g.paired) (sym place) ∙ paired)))));
+      name = ap (λ (k : LeaseKnown). k.name) is
+          ∙ (ap (λ (k : LeasePlace). verified_name k.layout k.lockspace (m ∷ (c.older ++ q.before))) asked.place
+          ∙ (same_name_told st.layout q.session.lockspace past f e n answer c.call (c.older ++ q.before) ∙ name));
+    } where
+      n : ℕ
+      n = (c.call).call.number
+
+      y : Step
+      y = heard st past e.reading n answer
+
+      f : Entry
+      f = record { reading = e.reading; input = Told n answer; effects = y.effects }
+
+      m : Submitted
+      m = told_call st past e.reading c.call answer
+
+      place : q.same.place.layout ≡ st.layout
+      place = ap (λ (k : LeasePlace). k.layout) asked.place
+
+      layout : y.setting.layout ≡ q.same.place.layout
+      layout = ap (λ (k : Setting). k.layout) (bare_heard st past e.reading n answer).setting ∙ sym place
+
+      is : known y.setting (seen y) q.session (spot_of q.resource) ≡ known_with (same_then st past e.reading q n answer) (m ∷ (c.older ++ q.before))
+      is = (heard_facts st past e.reading q stage setting host asked c answer).known_is
+
 -- Each call of the course is in the area.
-within_area : (sizes : Sizes) (q : Asked) (stage : Stage) → IsSized sizes q.same.place.layout → q.session.id ≤ q.same.place.layout.hosts → IsTrue (in_area q.same.place.layout q.resource.offset (offset_at q stage))
+within_area : (sizes : Sizes) (q : Asked) (stage : Stage) → IsSized sizes q.same.place.layout → (1 ≤ q.session.id) × (q.session.id ≤ q.same.place.layout.hosts)
+    → IsTrue (in_area q.same.place.layout q.resource.offset (offset_at q stage))
 within_area sizes q Reads_area z host = leader_within q.same.place.layout q.resource.offset z
-within_area sizes q Reads_first z host = block_within q.same.place.layout q.resource.offset 1 z z.hosts.0
-within_area sizes q Reads_second z host = block_within q.same.place.layout q.resource.offset 1 z z.hosts.0
+within_area sizes q Reads_first z host = first_within q.same.place.layout q.resource.offset z
+within_area sizes q Reads_second z host = first_within q.same.place.layout q.resource.offset z
 within_area sizes q Takes_leader z host = leader_within q.same.place.layout q.resource.offset z
 within_area sizes q Frees_leader z host = leader_within q.same.place.layout q.resource.offset z
-within_area sizes q Writes_first z host = block_within q.same.place.layout q.resource.offset q.session.id z host
-within_area sizes q Writes_second z host = block_within q.same.place.layout q.resource.offset q.session.id z host
-within_area sizes q Sets_mode z host = block_within q.same.place.layout q.resource.offset q.session.id z host
+within_area sizes q Writes_first z host = turn_within q.same.place.layout q.resource.offset q.session.id (turn_at q Writes_first + 1) z host
+within_area sizes q Writes_second z host = turn_within q.same.place.layout q.resource.offset q.session.id (turn_at q Writes_second + 1) z host
+within_area sizes q Sets_mode z host = turn_within q.same.place.layout q.resource.offset q.session.id (turn_at q Sets_mode + 1) z host
 
 pub course_leads : CourseLeads
-course_leads st past e q stage next setting host asked c answer h to decided names = (
+course_leads st past e q stage next setting host asked c answer h to decided names turned = (
   record {
     call = call;
     older = told ∷ c.older;
@@ -394,6 +482,7 @@ course_leads st past e q stage next setting host asked c answer h to decided nam
     active = h.active;
     self = self;
     name = inr name;
+    turn = λ paired. inr (turned paired);
   },
   refl,
 ) where
@@ -439,8 +528,16 @@ course_leads st past e q stage next setting host asked c answer h to decided nam
   does : DoesAs e.effects z
   does = subst (λ d. DoesAs e.effects (carry_lease s at (ForJob j) d y)) decided step.does
 
+  name : verified_name st.layout s.lockspace ((told ∷ c.older) ++ q.before) ≡ q.resource.name
+  name = name_more st.layout s.lockspace q.resource.name told (c.older ++ q.before) (by (named_later q stage st.layout s.lockspace told (c.older ++ q.before) (told_at q stage past e n answer c.call c.is)) c.name) where
+    by : (stage ≡ Reads_area) ⊎ (verified_by st.layout s.lockspace told (c.older ++ q.before) ≡ None) → (stage ≡ Reads_area) ⊎ (verified_name st.layout s.lockspace (c.older ++ q.before) ≡ q.resource.name)
+        → (verified_by st.layout s.lockspace told (c.older ++ q.before) ≡ Some q.resource.name) ⊎ ((verified_by st.layout s.lockspace told (c.older ++ q.before) ≡ None) × (verified_name st.layout s.lockspace (c.older ++ q.before) ≡ q.resource.name))
+    by (inl first) named = inl (names first)
+    by (inr later) (inl first) = inl (names first)
+    by (inr later) (inr named) = inr (later, named)
+
   led : LedCall q next y z
-  led = carried q next y (ap (λ (k : Setting). k.layout.paired) bare_y.setting ∙ setting.unpaired) (ap (λ (k : Setting). k.layout) bare_y.setting ∙ sym (ap (λ (k : LeasePlace). k.layout) asked.place)) (λ is. subst (λ k. NotFirst k) is follows.1)
+  led = carried q next y (knows_next st past e q stage next setting (host.0.1, host.1.1) asked c answer turned name) (λ is. subst (λ k. NotFirst k) is follows.1)
 
   call : Submitted
   call = new_call (length past) e.reading led.call
@@ -483,7 +580,7 @@ course_leads st past e q stage next setting host asked c answer h to decided nam
       both_true (bytes_eq call.call.path at.path) (in_area st.layout at.base call.call.offset) (subst (λ k. bytes_eq call.call.path k ≡ true) (led.is 0 0).path (same_name call.call.path))
       (subst (λ o. in_area st.layout at.base o ≡ true) (sym (led.is 0 0).offset)
       (subst (λ k. in_area k at.base (offset_at q next) ≡ true) place
-      (within_area setting.layout.0 q next (subst (λ k. IsSized setting.layout.0 k) (sym place) sizes) (subst (λ (k : Layout). q.session.id ≤ k.hosts) (sym place) asked.host.1))))
+      (within_area setting.layout.0 q next (subst (λ k. IsSized setting.layout.0 k) (sym place) sizes) (subst (λ (k : Layout). (1 ≤ q.session.id) × (q.session.id ≤ k.hosts)) (sym place) asked.host))))
 
   mine : of_lease call ≡ true
   mine =
@@ -520,20 +617,12 @@ course_leads st past e q stage next setting host asked c answer h to decided nam
       ∙ ap (λ ms. call ∷ ms) (filter_changed (is_of_job j) g (submitted past) (λ m. ap (λ (k : Call). some_is (λ i. i == j) (job_of k.purpose)) (told_is past e n answer m))
       ∙ (ap (λ ms. map g ms) c.calls ∙ ap (λ ms. told ∷ ms) (done_stay past e n answer c.older (done_all q (stages_before stage) c.older c.done)))))
 
-  -- ---- no reply, and the name
+  -- ---- no reply
 
   runs : reply_to t j ≡ None
   runs =
       ap (λ o. elim o as (λ x. Option Replied) [ Some r ↦ Some r | None ↦ reply_in j past e ]) c.runs
       ∙ ap (λ o. option_map (λ (a : JobReply). let r : Replied = record { at = length past; reply = a.reply } in r) o) (ap (λ rs. find (λ (a : JobReply). a.job == j) rs) (does.replies ∙ led.replies) ∙ step.unreplied)
-
-  name : verified_name st.layout s.lockspace ((told ∷ c.older) ++ q.before) ≡ q.resource.name
-  name = name_more st.layout s.lockspace q.resource.name told (c.older ++ q.before) (by (named_later q stage st.layout s.lockspace told (c.older ++ q.before) (told_at q stage past e n answer c.call c.is)) c.name) where
-    by : (stage ≡ Reads_area) ⊎ (verified_by st.layout s.lockspace told (c.older ++ q.before) ≡ None) → (stage ≡ Reads_area) ⊎ (verified_name st.layout s.lockspace (c.older ++ q.before) ≡ q.resource.name)
-        → (verified_by st.layout s.lockspace told (c.older ++ q.before) ≡ Some q.resource.name) ⊎ ((verified_by st.layout s.lockspace told (c.older ++ q.before) ≡ None) × (verified_name st.layout s.lockspace (c.older ++ q.before) ≡ q.resource.name))
-    by (inl first) named = inl (names first)
-    by (inr later) (inl first) = inl (names first)
-    by (inr later) (inr named) = inr (later, named)
 
 -- ---- the grant
 

@@ -149,6 +149,7 @@ others_keep_course st past e q stage setting host asked c b = (
     active = b.active;
     self = self;
     name = c.name;
+    turn = c.turn;
     mode = c.mode;
   },
   refl,

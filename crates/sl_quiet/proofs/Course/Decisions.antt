@@ -1,19 +1,22 @@
 -- The decisions.
-use Rattle.sl_area.specs.Places.{area_blocks, blocks_in, leader_of}
+use Rattle.sl_area.specs.Places.{BlocksRead, blocks_of, blocks_part, leader_read, needs_again, read_once}
 use Rattle.sl_trace.specs.Ballots.{in_instance, instance_of, moded_block, next_mbal, owner_of, phase1_block, phase2_block, proposing, same_owner, stop_of, value_of, value_to_write}
-use Rattle.sl_trace.specs.LeaseWork.{LeasePlace, after_phase1, after_phase2, area_next, begin_next, begin_or_refuse, leader_for, lease_next, lost_next, won_next, named_area_next, phase1_next, phase2_next, refuses, unstopped_next, whole_area_next}
+use Rattle.sl_trace.specs.LeaseWork.{LeasePlace, after_bytes, after_phase1, after_phase2, after_read, area_next, begin_next, begin_or_refuse, leader_for, first_step, lease_next, lost_next, part_read, read_of_step, won_next, named_area_next, phase1_next, phase2_next, refuses, unstopped_next, whole_area_next}
 use Rattle.sl_trace.specs.Leases.{LeaseKnown, instance_for, is_leader_of, is_over_owner, is_shared_by_other, mode_gen_of, own_known, shared_elsewhere, top_lver}
 use Rattle.sl_trace.specs.declared.lease.Aim.TheVariants.{Acquires}
 use Rattle.sl_trace.specs.declared.lease.Aim.{Aim}
 use Rattle.sl_trace.specs.declared.lease.Instance.TheVariants.{Begins, HeldAlready}
-use Rattle.sl_trace.specs.declared.lease.LeaseNext.TheVariants.{AnswerJob, Nothing, WriteBlock, WriteLeader}
+use Rattle.sl_trace.specs.declared.lease.LeaseNext.TheVariants.{AnswerJob, Nothing, ReadFor, WriteBlock, WriteLeader}
 use Rattle.sl_trace.specs.declared.lease.LeaseNext.{LeaseNext}
 use Rattle.sl_quiet.proofs.Course.Blocks.{ballot_whole, none_torn, only_own, own_value, present_whole, top_least, unstopped}
 use Rattle.sl_quiet.specs.Course.Quietly.{FindsFree, FindsOwn, NoneShared, QuietDecisions, StandsAlone, IsFirstOf, all_whole, quiet_phase1, quiet_phase2}
 use Rattle.sl_sector.specs.declared.sector.Block.{Block}
 use Rattle.sl_sector.specs.declared.sector.Leader.{Leader}
 use Rattle.sl_sector.specs.declared.sector.Owner.{Owner}
-use Rattle.sl_trace.specs.declared.effects.LeaseStep.TheVariants.{Phase1Read, Phase1Write, Phase2Read, Phase2Write, ReadArea, SetMode, TakeLeader}
+use Rattle.sl_sector.specs.declared.sector.PairBlock.{PairBlock}
+use Rattle.sl_trace.specs.declared.effects.LeaseRead.{LeaseRead}
+use Rattle.sl_trace.specs.declared.effects.LeaseStep.{LeaseStep}
+use Rattle.sl_trace.specs.declared.effects.LeaseStep.TheVariants.{Phase1Read, Phase1Write, Phase2Read, Phase2Write, ReadAgain, ReadArea, SetMode, TakeLeader}
 use Rattle.sl_trace.specs.declared.effects.Mode.TheVariants.{Exclusive, Shared}
 use Rattle.sl_trace.specs.declared.effects.Mode.{Mode}
 use Rattle.sl_trace.specs.declared.input.Answer.TheVariants.{Read}
@@ -21,11 +24,25 @@ use Rattle.sl_trace.specs.declared.reply.Limited.TheVariants.{Lver as LverLimit,
 use Rattle.sl_trace.specs.declared.reply.Reply.TheVariants.{Limit as LimitReached, Shared as SharedBy, TornBlock, TornLeader, WrongArea}
 use Rattle.sl_words.specs.Bounds.{is_number, record_numbers}
 use Rattle.sl_words.specs.Words.{present}
-use Rattle.sl_trace.proofs.PlainWork.{bytes_plain}
+use Rattle.sl_quiet.proofs.Course.GivenArea.{spelled_leads}
 use Rattle.std.proofs.Common.{ap, arith, refl, tests, ◌∙◌}
 use Rattle.std.specs.List.{AllByRecursion}
 use Rattle.std.specs.Option.{option_map_or}
-use Rattle.std.specs.Prelude.{Bool, List, None, Some, [], false, find, if◌then◌else◌, map, max, nat_le, nat_lt, not, true, ℕ, ◌&&◌, ◌+◌, ◌<◌, ◌==◌, ◌||◌, ◌∷◌, ◌≡◌, ◌≤◌}
+use Rattle.std.specs.Prelude.{Bool, List, None, Option, Some, [], false, find, if◌then◌else◌, map, max, nat_le, nat_lt, not, true, ℕ, ◌&&◌, ◌+◌, ◌<◌, ◌==◌, ◌||◌, ◌∷◌, ◌≡◌, ◌≤◌}
+
+-- ---- a read that is made once
+
+-- What is decided goes by its own bytes.
+read_now : (p : LeasePlace) (k : LeaseKnown) (aim : Aim) (bytes : List ℕ) (step : LeaseStep) → needs_again p.layout (part_read p.layout bytes step) ≡ false → k.kept ≡ []
+    → after_bytes p k aim bytes step
+    ≡ after_read p k aim (leader_read p.layout bytes (read_once (part_read p.layout bytes (first_step step)))) (blocks_of p.layout (read_once (part_read p.layout bytes (first_step step)))) (first_step step)
+unfolding after_bytes
+read_now p k aim bytes step once kept =
+    let by : List (Option PairBlock) → LeaseNext =
+    λ pairs.
+    let r : BlocksRead = record { kept = pairs; last = part_read p.layout bytes (first_step step) } in after_read p k aim (leader_read p.layout bytes r) (blocks_of p.layout r) (first_step step) in
+    ap (λ b. elim (elim b as (λ z. Option LeaseRead) [ false ↦ None | true ↦ read_of_step step ]) as (λ z. LeaseNext) [ Some read ↦ ReadFor (ReadAgain read) | None ↦ by k.kept ]) once
+    ∙ ap by kept
 
 -- ---- the read of the area: the instance
 
@@ -99,21 +116,23 @@ begins p k aim name bytes l blocks own h =
     ∙ less_test (next_mbal p.layout.hosts k.self.id (map (λ (b : Block). b.mbal) (in_instance n (own ∷ [])))) record_numbers h.mbal)
 
 area_begins : (p : LeasePlace) (k : LeaseKnown) (aim : Aim) (name bytes : List ℕ) (l : Leader) (blocks : List Block) (own : Block) → FindsFree p k name bytes l blocks own
-    → area_next p k aim name (leader_of p.layout bytes) (area_blocks p.layout bytes) ≡ WriteBlock Phase1Write (quiet_phase1 p k (l.lver + 1) own blocks)
+    → area_next p k aim name (leader_read p.layout bytes (read_once (blocks_part p.layout bytes))) (blocks_of p.layout (read_once (blocks_part p.layout bytes)))
+    ≡ WriteBlock Phase1Write (quiet_phase1 p k (l.lver + 1) own blocks)
 unfolding area_next
 area_begins p k aim name bytes l blocks own h =
+    let read : BlocksRead = read_once (blocks_part p.layout bytes) in
     ap (λ o. elim o as (λ x. LeaseNext) [
       | None ↦ AnswerJob TornLeader
       | Some l ↦ elim (is_leader_of p.layout p.lockspace name l) as (λ x. LeaseNext) [
         | false ↦ AnswerJob (WrongArea l.lockspace l.resource l.num_hosts)
-        | true ↦ named_area_next p k aim l (area_blocks p.layout bytes)
+        | true ↦ named_area_next p k aim l (blocks_of p.layout read)
       ]
-    ]) h.leader
+    ]) (spelled_leads p.layout bytes read l h.leader)
     ∙ ap (λ t. elim t as (λ x. LeaseNext) [
       | false ↦ AnswerJob (WrongArea l.lockspace l.resource l.num_hosts)
-      | true ↦ named_area_next p k aim l (area_blocks p.layout bytes)
+      | true ↦ named_area_next p k aim l (blocks_of p.layout read)
     ]) h.names
-    ∙ ap (λ xs. named_area_next p k aim l xs) h.whole
+    ∙ ap (λ xs. named_area_next p k aim l xs) h.shows.whole
     ∙ ap (λ o. elim o as (λ x. LeaseNext) [ Some i ↦ AnswerJob (TornBlock (i + 1)) | None ↦ whole_area_next p k aim l (all_whole blocks) ]) (none_torn blocks)
     ∙ ap (λ o. option_map_or (λ own. begin_or_refuse p k aim (instance_for k l own (all_whole blocks))) o Nothing) h.own_is
     ∙ ap (λ i. begin_or_refuse p k aim i) (instance_is p k name bytes l blocks own h)
@@ -150,9 +169,9 @@ phase1_goes_on : (p : LeasePlace) (k : LeaseKnown) (mode : Mode) (call n : ℕ) 
     → own.bal ≡ 0 → k.shared ≡ false → NoneShared k mode blocks → lease_next p k (Acquires mode) call n Phase1Read (Read bytes) ≡ WriteBlock Phase2Write (quiet_phase2 k own)
 unfolding lease_next
 phase1_goes_on p k mode call n bytes blocks own h zero_bal shared none =
-    bytes_plain p k (Acquires mode) bytes Phase1Read h.plain
-    ∙ ap (λ o. option_map_or (λ own. after_phase1 p k (Acquires mode) own (blocks_in p.layout bytes) (stop_of own (blocks_in p.layout bytes))) o Nothing) h.own_is
-    ∙ ap (λ xs. after_phase1 p k (Acquires mode) own xs (stop_of own xs)) h.whole
+    read_now p k (Acquires mode) bytes Phase1Read h.shows.once h.kept
+    ∙ ap (λ o. option_map_or (λ own. after_phase1 p k (Acquires mode) own (blocks_of p.layout (read_once bytes)) (stop_of own (blocks_of p.layout (read_once bytes)))) o Nothing) h.own_is
+    ∙ ap (λ xs. after_phase1 p k (Acquires mode) own xs (stop_of own xs)) h.shows.whole
     ∙ ap (λ o. after_phase1 p k (Acquires mode) own (all_whole blocks) o) (unstopped own blocks h.alone)
     ∙ goes_past k mode own blocks h.alone zero_bal shared none
 
@@ -174,9 +193,9 @@ phase2_goes_on : (p : LeasePlace) (k : LeaseKnown) (mode : Mode) (call n : ℕ) 
     → own ≡ quiet_phase2 k before → lease_next p k (Acquires mode) call n Phase2Read (Read bytes) ≡ WriteLeader TakeLeader (leader_for p k true own.lver)
 unfolding lease_next
 phase2_goes_on p k mode call n bytes blocks own before h is =
-    bytes_plain p k (Acquires mode) bytes Phase2Read h.plain
-    ∙ ap (λ o. option_map_or (λ own. after_phase2 p k (Acquires mode) own (stop_of own (blocks_in p.layout bytes))) o Nothing) h.own_is
-    ∙ ap (λ xs. after_phase2 p k (Acquires mode) own (stop_of own xs)) h.whole
+    read_now p k (Acquires mode) bytes Phase2Read h.shows.once h.kept
+    ∙ ap (λ o. option_map_or (λ own. after_phase2 p k (Acquires mode) own (stop_of own (blocks_of p.layout (read_once bytes)))) o Nothing) h.own_is
+    ∙ ap (λ xs. after_phase2 p k (Acquires mode) own (stop_of own xs)) h.shows.whole
     ∙ ap (λ o. after_phase2 p k (Acquires mode) own o) (unstopped own blocks h.alone)
     ∙ wins p k mode own before is
 
@@ -185,7 +204,8 @@ phase2_goes_on p k mode call n bytes blocks own before h is =
 begins_at : (p : LeasePlace) (k : LeaseKnown) (mode : Mode) (call n : ℕ) (name bytes : List ℕ) (l : Leader) (blocks : List Block) (own : Block) → FindsFree p k name bytes l blocks own
     → lease_next p k (Acquires mode) call n (ReadArea name) (Read bytes) ≡ WriteBlock Phase1Write (quiet_phase1 p k (l.lver + 1) own blocks)
 unfolding lease_next
-begins_at p k mode call n name bytes l blocks own h = bytes_plain p k (Acquires mode) bytes (ReadArea name) h.plain ∙ area_begins p k (Acquires mode) name bytes l blocks own h
+begins_at p k mode call n name bytes l blocks own h =
+    read_now p k (Acquires mode) bytes (ReadArea name) h.shows.once h.kept ∙ area_begins p k (Acquires mode) name bytes l blocks own h
 
 pub quiet_decisions : QuietDecisions
 unfolding lease_next

@@ -1,13 +1,12 @@
 -- The event that brings the line of a quiet acquire begins its course.
 use Rattle.sl_area.specs.Layouts.{Layout, record_in}
-use Rattle.sl_area.specs.Places.{block_offset, leader_offset}
+use Rattle.sl_area.specs.Places.{block_offset, later_pair, leader_offset, pair_offset}
 use Rattle.sl_due.specs.Due.{IsHostTrace}
 use Rattle.sl_due.specs.DueLease.{read_area}
 use Rattle.sl_due.specs.Steps.{with_input}
-use Rattle.sl_due_leases.proofs.Holdings.LeasePlaces.{ids_within}
+use Rattle.sl_due_leases.proofs.Ways.Kept.PlacesStand.{id_in_range}
 use Rattle.sl_due_leases.proofs.Holdings.PlainPlaces.{text_is}
 use Rattle.sl_due_facts.proofs.Jobs.SessionsArePresent.{present_is, session_has}
-use Rattle.sl_history.proofs.Giving.Stood.{there_plain}
 use Rattle.sl_run.specs.Lawful.{IsSetting}
 use Rattle.sl_trace.specs.Ballots.{in_instance, next_mbal}
 use Rattle.sl_trace.specs.LeaseWork.{lease_place}
@@ -15,7 +14,8 @@ use Rattle.sl_trace.specs.Leases.{block_of_host, block_submitted, is_lease_call,
 use Rattle.sl_plain.proofs.Lists.{contains_cases, contains_first, contains_map, contains_more, contains_none, find_inside, kept, kept_inside}
 use Rattle.sl_quiet.proofs.Along.Going.{made_well}
 use Rattle.sl_quiet.proofs.Area.Calming.{calm_goes_on}
-use Rattle.sl_quiet.proofs.Read.PlainThere.{leads_plain}
+use Rattle.sl_plain.proofs.Options.{mapped_value}
+use Rattle.sl_quiet.proofs.Read.Same.{same_block, same_leader, same_pair}
 use Rattle.sl_quiet.proofs.Read.Showing.{same_on}
 use Rattle.sl_quiet.proofs.Start.Finding.{joined_woken, starts_read_the_area, woken}
 use Rattle.sl_quiet.proofs.Start.Hosting.{Begins, starts_course}
@@ -31,8 +31,8 @@ use Rattle.sl_plain.proofs.Numbers.{number_itself}
 use Rattle.sl_trace_law.proofs.Sessions.Owning.{session_more}
 use Rattle.sl_quiet.specs.Start.Starting.{StartsBeginCourses}
 use Rattle.sl_run.specs.Events.{with_entry}
-use Rattle.sl_run.specs.Quiet.{leader_there}
-use Rattle.sl_run.specs.Safety.{LawfulRun, block_there, world_at}
+use Rattle.sl_run.specs.Quiet.{blocks_needed, leader_there}
+use Rattle.sl_run.specs.Safety.{LawfulRun, block_there, pair_there, world_at}
 use Rattle.sl_run.specs.Worlds.{Daemon, Machine, World, content, reading_now}
 use Rattle.sl_run_law.proofs.Course.Distinct.{running_has}
 use Rattle.sl_run_law.proofs.Course.Made.{daemons_are_of_world}
@@ -40,12 +40,13 @@ use Rattle.sl_run_law.proofs.Course.Matching.{newest_stamp}
 use Rattle.sl_run_law.proofs.Course.Stamped.{entries_are_stamped}
 use Rattle.sl_run_law.proofs.Front.Going.{fronts_are_lawful}
 use Rattle.sl_run_law.proofs.Moment.Following.{kept_past}
-use Rattle.sl_run_law.proofs.Place.Seats.{plain_in}
+use Rattle.sl_run_law.proofs.Place.Made.{later_is}
 use Rattle.sl_run_law.proofs.Watchdog.Stamps.{same_length}
 use Rattle.sl_run_law.specs.Course.Stamping.{stamp_in}
 use Rattle.sl_run_law.specs.Moment.Moments.{Of_landing}
-use Rattle.sl_sector.specs.Spelling.{block_in, leader_in}
+use Rattle.sl_sector.specs.Spelling.{block_in}
 use Rattle.sl_sector.specs.declared.sector.Block.{Block}
+use Rattle.sl_sector.specs.declared.sector.PairBlock.{PairBlock}
 use Rattle.sl_trace.specs.Sessions.{calls_of, is_call_of, is_joined, leaving_job, me, present_sessions, recovery_of, session_numbered, sessions}
 use Rattle.sl_trace.specs.declared.session.Session.{Session}
 use Rattle.sl_trace.specs.Traces.{Setting, Submitted, Trace, next_job, outstanding, submitted}
@@ -57,13 +58,13 @@ use Rattle.sl_trace.specs.declared.input.Input.TheVariants.{Line}
 use Rattle.sl_words.proofs.CaseLaws.{none_some, true_is_false}
 use Rattle.sl_words.proofs.WordLaws.{and_true}
 use Rattle.sl_words.specs.Bounds.{record_numbers}
-use Rattle.std.proofs.Common.{ap, arith, inl, inr, refl, subst, sym, ◌∙◌}
+use Rattle.std.proofs.Common.{ap, ap₂, arith, inl, inr, refl, subst, sym, ◌∙◌}
 use Rattle.std.proofs.lemmas.Bool.{eqb-true}
 use Rattle.std.proofs.lemmas.List.{append-nil}
 use Rattle.std.proofs.lemmas.Option.{slice_get-map}
 use Rattle.std.specs.List.{AllByRecursion, range_with_len}
-use Rattle.std.specs.Option.{unwrap_or}
-use Rattle.std.specs.Prelude.{Bool, Contains, IsTrue, List, None, Option, Some, [], bytes_eq, cond, false, is_none, is_some, length, map, option_map, option_to_list, slice_get, suc, true, zero, ℕ, ◌&&◌, ◌++◌, ◌+◌, ◌-◌, ◌<◌, ◌==◌, ◌∷◌, ◌≡◌, ◌≤◌, ◌⊎◌}
+use Rattle.std.specs.Option.{option_map_or, unwrap_or}
+use Rattle.std.specs.Prelude.{Bool, Contains, IsSome, IsTrue, List, None, Option, Some, [], bytes_eq, cond, false, is_none, is_some, length, map, option_map, option_to_list, slice_get, suc, true, zero, ℕ, ◌&&◌, ◌++◌, ◌+◌, ◌-◌, ◌<◌, ◌==◌, ◌∷◌, ◌≡◌, ◌≤◌, ◌⊎◌}
 
 -- ---- numbers in a row
 
@@ -168,6 +169,26 @@ nothing = record { host = 0; shared = false; lver = 0; mbal = 0; bal = 0; inp_ge
 abbrev standing : World → ResourceArg → ℕ → Block
 standing w r host = block_or nothing (block_there w (spot_of r) host)
 
+-- The turn of a pair's block, where one stands.
+abbrev turn_of : Option PairBlock → ℕ
+turn_of o = option_map_or (λ (p : PairBlock). p.turn) o 0
+
+record OwnPair (w : World) (at : Spot) (host : ℕ) : Type 0 where
+  pair : PairBlock
+  stands : later_pair (pair_there w at host true) (pair_there w at host false) ≡ Some pair
+
+-- Where a host's block is of a pair, the pair has it.
+pair_stands : (w : World) (at : Spot) (host : ℕ) → w.layout.paired ≡ true → (b : Block) → block_there w at host ≡ Some b → OwnPair w at host
+pair_stands w at host paired b is =
+    let there : option_map (λ (p : PairBlock). p.block) (later_pair (pair_there w at host true) (pair_there w at host false)) ≡ Some b =
+    sym (ap (λ t. elim t as (λ z. Option Block) [
+      | false ↦ block_in host (record_in w.layout (content w at.path (block_offset w.layout at.base host)))
+      | true ↦ option_map (λ (p : PairBlock). p.block) (later_pair (pair_there w at host true) (pair_there w at host false))
+    ]) paired)
+    ∙ is in
+    let p = mapped_value (λ (p : PairBlock). p.block) (later_pair (pair_there w at host true) (pair_there w at host false)) b there in
+    record { pair = p.0; stands = p.1 }
+
 pub starts_begin_courses : StartsBeginCourses
 unfolding known
 starts_begin_courses p h now x run well m n text r shared line resource start low same given quiet = (q, record { machine = refl; job = refl; process = refl; resource = refl; mode = (refl, refl); session = refl; leader = refl }, course) where
@@ -204,12 +225,6 @@ starts_begin_courses p h now x run well m n text r shared line resource start lo
   before : List Submitted
   before = lease_calls st past s at
 
-  plain : w.layout.paired ≡ false
-  plain = plain_in p h now before_run
-
-  plain_then : v.layout.paired ≡ false
-  plain_then = plain_in p h (now ++ x ∷ []) run
-
   hosts : ℕ
   hosts = (w.layout).hosts
 
@@ -231,6 +246,7 @@ starts_begin_courses p h now x run well m n text r shared line resource start lo
         blocks = map (standing w r) row;
         block_of = standing w r;
         own = own_of (block_submitted before) (standing w r s.id);
+        turn = turn_of (later_pair (pair_there w at s.id true) (pair_there w at s.id false));
         before = before;
       }
 
@@ -276,7 +292,7 @@ starts_begin_courses p h now x run well m n text r shared line resource start lo
       (and_true (is_joined (woken past (reading_now a)) s && is_none (recovery_of st (woken past (reading_now a)) s)) (is_none (leaving_job st (woken past (reading_now a)) s)) start.active).0).0
 
   id : (1 ≤ s.id) × (s.id ≤ st.layout.hosts)
-  id = ids_within st past s setting there
+  id = id_in_range st setting past s there
 
   high : s.id ≤ hosts
   high = subst (λ (g : Layout). s.id ≤ g.hosts) layout id.1
@@ -317,18 +333,29 @@ starts_begin_courses p h now x run well m n text r shared line resource start lo
 
   block_then : (k : ℕ) → block_there v at k ≡ block_there w at k
   block_then k =
-      there_plain v plain_then at k
-      ∙ (ap (λ g. block_in k (record_in g (content v at.path (block_offset g at.base k)))) taken.layout
-      ∙ (ap (λ bs. block_in k (record_in w.layout bs)) (taken.contents at.path (block_offset w.layout at.base k)) ∙ sym (there_plain w plain at k)))
+      same_block v w at k taken.layout (λ plain. taken.contents at.path (block_offset w.layout at.base k)) (λ paired first. taken.contents at.path (pair_offset w.layout at.base k first))
+
+  pair_then : (k : ℕ) (first : Bool) → pair_there v at k first ≡ pair_there w at k first
+  pair_then k first = same_pair v w at k first taken.layout (taken.contents at.path (pair_offset w.layout at.base k first))
 
   blocks_then : blocks_there v at ≡ blocks_there w at
   blocks_then = ap (λ (g : Layout). map (block_there v at) (range_with_len 1 g.hosts)) taken.layout ∙ same_on (block_there v at) (block_there w at) 1 hosts (λ k low_k less. block_then k)
 
   leader_then : leader_there v at ≡ leader_there w at
-  leader_then =
-      leads_plain v plain_then at
-      ∙ (ap (λ g. leader_in (record_in g (content v at.path (leader_offset at.base)))) taken.layout
-      ∙ (ap (λ bs. leader_in (record_in w.layout bs)) (taken.contents at.path (leader_offset at.base)) ∙ sym (leads_plain w plain at)))
+  leader_then = same_leader v w at taken.layout (taken.contents at.path (leader_offset at.base))
+
+  -- the own pair
+  own_pair : w.layout.paired ≡ true → OwnPair w at s.id
+  own_pair paired = pair_stands w at s.id paired (start.blocks s.id id.0 high).0 (start.blocks s.id id.0 high).1
+
+  turns : st.layout.paired ≡ true → q.turn + blocks_needed shared < record_numbers
+  turns paired =
+      let o = own_pair (ap (λ (g : Layout). g.paired) (sym layout) ∙ paired) in
+      subst (λ n. n + blocks_needed shared < record_numbers) (sym (ap (λ y. turn_of y) o.stands))
+      (by o (later_is (pair_there w at s.id true) (pair_there w at s.id false) o.pair o.stands) (ap (λ (g : Layout). g.paired) (sym layout) ∙ paired)) where
+        by : (o : OwnPair w at s.id) → (pair_there w at s.id true ≡ Some o.pair) ⊎ (pair_there w at s.id false ≡ Some o.pair) → w.layout.paired ≡ true → (o.pair).turn + blocks_needed shared < record_numbers
+        by o (inl one) there = start.turns there true o.pair one
+        by o (inr two) there = start.turns there false o.pair two
 
   -- ---- the acquire
 
@@ -376,6 +403,7 @@ starts_begin_courses p h now x run well m n text r shared line resource start lo
         lver = start.numbers;
         mbal = subst (λ (g : Layout). next_mbal g.hosts s.id (map (λ (c : Block). c.mbal) (in_instance (lver + 1) (q.own ∷ []))) < record_numbers) (sym layout)
             (mbal_by hosts s.id (block_submitted before) (standing w r s.id) lver (stands s.id id.0 high).1 start.ballot);
+        turns = turns;
       }
 
   -- ---- the area
@@ -394,6 +422,18 @@ starts_begin_courses p h now x run well m n text r shared line resource start lo
         own = λ b is. absurd (none_some b is);
         leader = λ is. leader_then ∙ start.leader_spells;
         blocks = λ is. blocks_then ∙ whole;
+        seconds = λ paired k low_k high_k other.
+            subst (λ o. IsSome o) (sym (pair_then k false))
+            (start.pairs (ap (λ (g : Layout). g.paired) (sym taken.layout) ∙ paired) k low_k (subst (λ (g : Layout). k ≤ g.hosts) taken.layout high_k));
+        pair = λ paired.
+            let before_paired = ap (λ (g : Layout). g.paired) (sym taken.layout) ∙ paired in
+            let o = own_pair before_paired in
+            record {
+              pair = o.pair;
+              stands = ap₂ (λ a b. later_pair a b) (pair_then s.id true) (pair_then s.id false) ∙ o.stands;
+              is = sym (ap (λ y. turn_of y) o.stands);
+              whole = subst (λ o. IsSome o) (sym (pair_then s.id false)) (start.pairs before_paired s.id id.0 high);
+            };
         calm = calm;
         since = λ l inside path within after.
             absurd (not_after l.step w.step (taken.stamp).step (kept_past p h now before_run l.step l.moment (Of_landing l (subst (λ ls. Contains ls l) taken.landings inside) refl refl)).0 taken.late after);

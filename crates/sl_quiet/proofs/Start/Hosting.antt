@@ -1,13 +1,11 @@
 -- The daemon after the line of a quiet acquire: it is at the read of the area.
-use Rattle.sl_area.specs.Layouts.{Layout}
-use Rattle.sl_area.specs.Places.{in_area}
+use Rattle.sl_area.specs.Places.{area_sectors, in_area}
 use Rattle.sl_due.specs.Due.{IsHostTrace}
-use Rattle.sl_due.specs.DueLease.{lease_call, read_area}
+use Rattle.sl_due.specs.DueLease.{read_area}
 use Rattle.sl_due.specs.Steps.{Step, seen, with_input}
 use Rattle.sl_due_law.proofs.Causes.HeadsAreEarly.{heads_are_early}
 use Rattle.sl_due_law.proofs.Due.{due_is_lawful}
 use Rattle.sl_due_facts.proofs.Jobs.JobsAreNumbered.{finds_none, line_is, next_is_new}
-use Rattle.sl_due_facts.proofs.Jobs.PlainNexts.{area_plain}
 use Rattle.sl_due_law.proofs.Whole.AcquiresKeep.{acquires_keep_to_theirs}
 use Rattle.sl_due_law.proofs.Whole.TracesHold.{traces_hold}
 use Rattle.sl_due_law.specs.Causes.LineCauses.{IsBeforeInput}
@@ -20,7 +18,7 @@ use Rattle.sl_trace.specs.Leases.{is_lease_call, is_on, lease_calls, lease_step,
 use Rattle.sl_plain.proofs.Lists.{contains_first, contains_more, filter_both, kept_inside}
 use Rattle.sl_plain.proofs.Numbers.{number_itself}
 use Rattle.sl_plain.proofs.Options.{some_of, some_there}
-use Rattle.sl_quiet.proofs.Along.Areas.{leader_within}
+use Rattle.sl_quiet.proofs.Along.Places.{leader_within}
 use Rattle.sl_quiet.proofs.Along.Calls.{of_the_job}
 use Rattle.sl_quiet.proofs.Along.Leading.{one_lease_new}
 use Rattle.sl_quiet.proofs.Along.Others.{new_inside}
@@ -51,7 +49,7 @@ use Rattle.sl_words.proofs.CaseLaws.{none_some}
 use Rattle.sl_words.proofs.WordLaws.{and_true, some_is_true}
 use Rattle.std.proofs.Common.{ap, arith, inl, inr, refl, subst, sym, ◌∙◌}
 use Rattle.std.proofs.lemmas.Bool.{eqb-true}
-use Rattle.std.specs.Prelude.{Bool, Contains, IsSome, IsTrue, List, None, Ok, Option, Result, Some, [], bytes_eq, cond, false, filter, find, fold, is_none, is_some, length, option_and_then, option_map, true, ℕ, ◌&&◌, ◌++◌, ◌+◌, ◌<◌, ◌==◌, ◌∷◌, ◌≡◌}
+use Rattle.std.specs.Prelude.{Bool, Contains, IsSome, IsTrue, List, None, Ok, Option, Result, Some, [], bytes_eq, cond, false, filter, find, fold, is_none, is_some, length, option_and_then, option_map, true, ℕ, ◌&&◌, ◌++◌, ◌<◌, ◌==◌, ◌∷◌, ◌≡◌}
 
 -- ---- small laws
 
@@ -112,6 +110,7 @@ starts_course st past e q text b = (
     active = b.active;
     self = self;
     name = inl refl;
+    turn = λ paired. inl refl;
   },
   refl,
 ) where
@@ -143,7 +142,7 @@ starts_course st past e q text b = (
   law = (due_is_lawful st t b.setting b.host).0
 
   next_is : (n : ℕ) → Call
-  next_is n = record { number = next_call y.setting (seen (with_input (Line text) y)); session = s.number; purpose = Lease (ForJob n) (ReadArea q.resource.name); path = q.resource.path; offset = q.resource.offset; op = ReadSectors (y.setting.layout.hosts + 2) }
+  next_is n = record { number = next_call y.setting (seen (with_input (Line text) y)); session = s.number; purpose = Lease (ForJob n) (ReadArea q.resource.name); path = q.resource.path; offset = q.resource.offset; op = ReadSectors (area_sectors y.setting.layout) }
 
   led : Call
   led = next_is (next_job st past)
@@ -158,18 +157,13 @@ starts_course st past e q text b = (
   is i reading =
       record {
         purpose = ap (λ n. Lease (ForJob n) (ReadArea q.resource.name)) (sym b.job);
-        op = ap (λ (g : Layout). ReadSectors (g.hosts + 2)) (layout ∙ sym (ap (λ (k : LeasePlace). k.layout) b.place));
+        op = ap (λ g. ReadSectors (area_sectors g)) (layout ∙ sym (ap (λ (k : LeasePlace). k.layout) b.place));
         path = refl;
         offset = refl;
       }
 
-  does : DoesAs e.effects (lease_call s at (ForJob (next_job st past)) (ReadArea q.resource.name) at.base (ReadSectors (y.setting.layout.hosts + 2)) (with_input (Line text) y))
-  does =
-      subst (λ z. DoesAs e.effects z)
-      (area_plain (with_input (Line text) y) s at (ForJob (next_job st past)) (ReadArea q.resource.name) (ap (λ (k : Setting). k.layout.paired) bare_y.setting ∙ b.setting.unpaired)) b.does
-
   one : lease_part e.effects.calls ≡ led ∷ []
-  one = does.calls ∙ ap (λ cs. lease_part (cs ++ led ∷ [])) bare_y.calls
+  one = b.does.calls ∙ ap (λ cs. lease_part (cs ++ led ∷ [])) bare_y.calls
 
   -- ---- the job is new
 

@@ -4,7 +4,6 @@ use Rattle.sl_area.specs.Places.{in_area, is_base, leader_offset}
 use Rattle.sl_run.specs.Lawful.{IsSetting}
 use Rattle.sl_plain.proofs.Lists.{contains_first}
 use Rattle.sl_quiet.proofs.Along.Going.{made_well}
-use Rattle.sl_quiet.proofs.Read.PlainThere.{leads_plain}
 use Rattle.sl_quiet.specs.Along.Going.{IsLineOf}
 use Rattle.sl_quiet.specs.Start.Starting.{StartsAreOfLines}
 use Rattle.sl_id_safety.proofs.Owning.{HasTop, newest_stands}
@@ -18,35 +17,46 @@ use Rattle.sl_run_law.proofs.Place.Beginnings.{In_resource as First_in_resource,
 use Rattle.sl_run_law.proofs.Place.Checks.{shows_its_id}
 use Rattle.sl_run_law.proofs.Place.Proven.{nothing_lands_elsewhere}
 use Rattle.sl_run_law.proofs.Place.Reading.{in_history}
-use Rattle.sl_run_law.proofs.Place.Seats.{initial_in, plain_in, sized_in}
+use Rattle.sl_run_law.proofs.Place.Seats.{initial_in, sized_in}
 use Rattle.sl_run_law.proofs.Place.Sizes.{IsSized}
-use Rattle.sl_quiet.proofs.Along.Areas.{leader_within}
+use Rattle.sl_quiet.proofs.Along.Places.{leader_within}
 use Rattle.sl_run_law.specs.Place.Homes.{In_lockspace, In_resource, IsAtHome}
-use Rattle.sl_sector.specs.Spelling.{leader_in}
+use Rattle.sl_run.specs.Quiet.{leader_there}
+use Rattle.sl_run_law.proofs.Place.Leased.{leader_in_is, pair_leader_in_is}
+use Rattle.sl_sector.specs.Spelling.{leader_in, pair_leader_in}
+use Rattle.sl_sector.specs.declared.sector.DeltaRec.{DeltaRec}
+use Rattle.sl_trace.specs.declared.effects.Spot.{Spot}
 use Rattle.sl_sector.specs.declared.sector.Bad.{Bad}
 use Rattle.sl_sector.specs.declared.sector.Leader.{Leader}
-use Rattle.sl_sector.specs.declared.sector.Rec.TheVariants.{BlockIs, DeltaIs, LeaderIs, PairIs, PairLeaderIs, RequestIs, ValueIs}
+use Rattle.sl_sector.specs.declared.sector.Rec.TheVariants.{DeltaIs, LeaderIs, PairLeaderIs}
 use Rattle.sl_sector.specs.declared.sector.Rec.{Rec}
 use Rattle.sl_trace.specs.Leases.{spot_of}
 use Rattle.sl_trace.specs.declared.command.Command.TheVariants.{Acquire}
-use Rattle.sl_words.proofs.CaseLaws.{false_is_true, none_some, some_value}
+use Rattle.sl_words.proofs.CaseLaws.{false_is_true}
 use Rattle.std.proofs.Common.{ap, inl, inr, refl, subst, sym, ◌∙◌}
-use Rattle.std.specs.Prelude.{Bool, Contains, Err, IsTrue, Ok, Result, Some, false, true, ℕ, ◌%◌, ◌≡◌, ◌⊎◌}
+use Rattle.std.specs.Prelude.{Bool, Contains, IsTrue, Ok, Option, Result, Some, false, true, ℕ, ◌%◌, ◌≡◌, ◌⊎◌}
 
--- What spells a leader.
-pub leader_in_is : (r : Result Rec Bad) (l : Leader) → leader_in r ≡ Some l → r ≡ Ok (LeaderIs l)
-leader_in_is (Ok (LeaderIs e)) l h = ap (λ x. Ok (LeaderIs x)) (some_value e l h)
-leader_in_is (Ok (DeltaIs e)) l h = absurd (none_some l h)
-leader_in_is (Ok (BlockIs e)) l h = absurd (none_some l h)
-leader_in_is (Ok (PairIs e)) l h = absurd (none_some l h)
-leader_in_is (Ok (PairLeaderIs e)) l h = absurd (none_some l h)
-leader_in_is (Ok (RequestIs e)) l h = absurd (none_some l h)
-leader_in_is (Ok (ValueIs e)) l h = absurd (none_some l h)
-leader_in_is (Err e) l h = absurd (none_some l h)
+-- What spells a leader, in an area of either kind.
+record SpellsLeader (r : Result Rec Bad) : Type 0 where
+  found : Rec
+  is : r ≡ Ok found
+  no_delta : (d : DeltaRec) → found ≡ DeltaIs d → ⊥
 
-abbrev is_leader_record : Rec → Bool
-is_leader_record (LeaderIs l) = true
-is_leader_record r = false
+abbrev is_delta : Rec → Bool
+is_delta (DeltaIs d) = true
+is_delta r = false
+
+other : (r : Rec) (d : DeltaRec) → is_delta r ≡ false → r ≡ DeltaIs d → ⊥
+other r d none same = false_is_true (sym none ∙ ap (λ x. is_delta x) same)
+
+spells_leader : (w : World) (at : Spot) (l : Leader) → leader_there w at ≡ Some l → SpellsLeader (record_in w.layout (content w at.path (leader_offset at.base)))
+spells_leader w at l is = by w.layout.paired is where
+  r : Result Rec Bad
+  r = record_in w.layout (content w at.path (leader_offset at.base))
+
+  by : (b : Bool) → elim b as (λ z. Option Leader) [ false ↦ leader_in r | true ↦ pair_leader_in r ] ≡ Some l → SpellsLeader r
+  by false one = record { found = LeaderIs l; is = leader_in_is r l one; no_delta = λ d. other (LeaderIs l) d refl }
+  by true one = record { found = PairLeaderIs l; is = pair_leader_in_is r l one; no_delta = λ d. other (PairLeaderIs l) d refl }
 
 pub starts_are_of_lines : StartsAreOfLines
 starts_are_of_lines p h xs run well m n text r shared q = by its.1 where
@@ -77,11 +87,11 @@ starts_are_of_lines p h xs run well m n text r shared q = by its.1 where
   its : (((top.top).path ≡ r.path) × ((top.top).offset ≡ place)) × (Contains w.landings top.top ⊎ (top.top ≡ first_landing w r.path place))
   its = in_history w r.path place top.top (subst (λ ls. Contains ls top.top) (sym top.whole) (contains_first top.top top.below))
 
-  spells : record_in w.layout (top.top).bytes ≡ Ok (LeaderIs q.leader)
-  spells = ap (λ bs. record_in w.layout bs) (sym top.holds) ∙ leader_in_is (record_in w.layout (content w r.path place)) q.leader (sym (leads_plain w (plain_in p h xs run) (spot_of r)) ∙ q.leader_spells)
+  leads : SpellsLeader (record_in w.layout (content w r.path place))
+  leads = spells_leader w (spot_of r) q.leader q.leader_spells
 
-  not_delta : (d : Rec) → LeaderIs q.leader ≡ d → is_leader_record d ≡ false → ⊥
-  not_delta d same other = false_is_true (sym other ∙ ap (λ x. is_leader_record x) (sym same))
+  spells : record_in w.layout (top.top).bytes ≡ Ok leads.found
+  spells = ap (λ bs. record_in w.layout bs) (sym top.holds) ∙ leads.is
 
   found : (line : ResourceLine) → Contains h.resources line → line.path ≡ r.path → IsTrue (in_area w.layout line.offset r.offset) → (line : ResourceLine) × IsLineOf h r line
   found line listed path within = (
@@ -90,13 +100,13 @@ starts_are_of_lines p h xs run well m n text r shared q = by its.1 where
   )
 
   landed : Contains w.landings top.top → IsAtHome h w top.top → (line : ResourceLine) × IsLineOf h r line
-  landed there (In_lockspace l listed path within) = (let d = shows_its_id p h xs run l listed top.top there path within (LeaderIs q.leader) spells in absurd (not_delta (DeltaIs d.0) d.1 refl))
+  landed there (In_lockspace l listed path within) = (let d = shows_its_id p h xs run l listed top.top there path within leads.found spells in absurd (leads.no_delta d.0 d.1))
   landed there (In_resource line listed path within) = found line listed (sym path ∙ its.0.0) (subst (λ o. IsTrue (in_area w.layout line.offset o)) its.0.1 within)
 
-  first : IsInitial w.layout h r.path place (LeaderIs q.leader) → (line : ResourceLine) × IsLineOf h r line
-  first (First_in_lockspace l d listed path within few is names) = absurd (not_delta (DeltaIs d) is refl)
-  first (First_in_resource line listed path within is other fresh) = found line listed path within
+  first : IsInitial w.layout h r.path place leads.found → (line : ResourceLine) × IsLineOf h r line
+  first (First_in_lockspace l d listed path within few is names) = absurd (leads.no_delta d is)
+  first (First_in_resource line listed path within of) = found line listed path within
 
   by : Contains w.landings top.top ⊎ (top.top ≡ first_landing w r.path place) → (line : ResourceLine) × IsLineOf h r line
   by (inl there) = landed there (nothing_lands_elsewhere p h xs run top.top there)
-  by (inr at_first) = first (initial_in p h xs run r.path place (LeaderIs q.leader) (subst (λ (l : Landing). record_in w.layout l.bytes ≡ Ok (LeaderIs q.leader)) at_first spells))
+  by (inr at_first) = first (initial_in p h xs run r.path place leads.found (subst (λ (l : Landing). record_in w.layout l.bytes ≡ Ok leads.found) at_first spells))

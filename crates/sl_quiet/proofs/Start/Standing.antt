@@ -26,7 +26,7 @@ use Rattle.sl_run_law.specs.Moment.Moments.{Of_stamp}
 use Rattle.sl_safety.proofs.Lawful.{are_lawful}
 use Rattle.sl_sector.specs.declared.sector.Block.{Block}
 use Rattle.sl_trace.specs.Leases.{is_on}
-use Rattle.std.proofs.Common.{ap, arith, inl, inr, refl, subst, sym, ◌∙◌}
+use Rattle.std.proofs.Common.{ap, arith, inl, inr, refl, subst, sym}
 use Rattle.std.proofs.lemmas.Bool.{cases_lt}
 use Rattle.std.proofs.lemmas.List.{append-nil}
 use Rattle.std.specs.Prelude.{Contains, List, Some, is_some, true, [], ℕ, ◌<◌, ◌≡◌, ◌≤◌, ◌⊎◌}

@@ -1,23 +1,24 @@
 -- What is carried from event to event of a quiet acquire: at which call of its course it is, what that call is, and what the area holds.
-use Rattle.sl_area.specs.Places.{block_offset, in_area, is_base, leader_offset}
+use Rattle.sl_area.specs.Places.{area_sectors, block_offset, block_place, block_record, block_sectors, in_area, is_base, later_pair, leader_offset, leader_record}
 use Rattle.sl_due.specs.Due.{IsHostTrace}
 use Rattle.sl_run.specs.Lawful.{IsSetting}
 use Rattle.sl_trace.specs.Ballots.{in_instance, moded_block, next_mbal}
 use Rattle.sl_trace.specs.Jobs.{command_numbered}
 use Rattle.sl_trace.specs.LeaseWork.{lease_place}
-use Rattle.sl_trace.specs.Leases.{block_submitted, freed, is_leader_of, lease_calls, own_or_read, spot_of, verified_name}
+use Rattle.sl_trace.specs.Leases.{base_turn, block_submitted, freed, is_leader_of, lease_calls, own_or_read, spot_of, verified_name}
 use Rattle.sl_quiet.specs.Area.Calm.{IsCalm}
 use Rattle.sl_quiet.specs.Course.Course.{Same, first_block, second_block}
 use Rattle.sl_quiet.specs.Course.Quietly.{StandsAlone, all_whole}
 use Rattle.sl_quiet.specs.Read.Standing.{blocks_there}
 use Rattle.sl_quiet.specs.Stay.Staying.{IsOfOthers}
-use Rattle.sl_run.specs.Quiet.{job_calls, leader_there}
-use Rattle.sl_run.specs.Safety.{block_there}
+use Rattle.sl_run.specs.Quiet.{blocks_needed, job_calls, leader_there}
+use Rattle.sl_run.specs.Safety.{block_there, pair_there}
 use Rattle.sl_run.specs.Worlds.{Daemon, Landing, Machine, Stamp, World, machine_at}
 use Rattle.sl_run_law.specs.Course.Stamping.{stamp_in}
 use Rattle.sl_sector.specs.declared.sector.Block.{Block}
 use Rattle.sl_sector.specs.declared.sector.Leader.{Leader}
-use Rattle.sl_sector.specs.declared.sector.Rec.TheVariants.{BlockIs, LeaderIs}
+use Rattle.sl_sector.specs.Spelling.{is_first_turn}
+use Rattle.sl_sector.specs.declared.sector.PairBlock.{PairBlock}
 use Rattle.sl_trace.specs.declared.session.Session.{Session}
 use Rattle.sl_trace.specs.Sessions.{is_active, me, session_numbered}
 use Rattle.sl_trace.specs.Traces.{Setting, Submitted, Trace, is_answered_ok, reply_to}
@@ -29,11 +30,12 @@ use Rattle.sl_trace.specs.declared.effects.LeaseStep.{LeaseStep}
 use Rattle.sl_trace.specs.declared.effects.Op.TheVariants.{ReadSectors, WriteRecord}
 use Rattle.sl_trace.specs.declared.effects.Op.{Op}
 use Rattle.sl_trace.specs.declared.effects.Purpose.TheVariants.{Lease}
+use Rattle.sl_trace.specs.declared.effects.Spot.{Spot}
 use Rattle.sl_trace.specs.declared.effects.Work.TheVariants.{ForJob}
 use Rattle.sl_trace.specs.declared.input.Input.TheVariants.{Exit}
 use Rattle.sl_words.specs.Bounds.{record_numbers}
 use Rattle.std.specs.List.{AllByRecursion}
-use Rattle.std.specs.Prelude.{Bool, Contains, IsTrue, List, None, Option, Some, [], false, is_some, map, true, ℕ, ◌++◌, ◌+◌, ◌<◌, ◌∷◌, ◌≡◌, ◌≤◌, ◌⊎◌}
+use Rattle.std.specs.Prelude.{Bool, Contains, IsSome, IsTrue, List, None, Option, Some, [], false, is_some, map, true, ℕ, ◌++◌, ◌+◌, ◌<◌, ◌∷◌, ◌≡◌, ◌≤◌, ◌⊎◌}
 
 -- ---- the course
 
@@ -87,6 +89,8 @@ pub record Asked : Type 0 where
   pub block_of : ℕ → Block
   -- the own block: submitted last, else the one that stands there
   pub own : Block
+  -- with pairs the turn of the own block that stands there
+  pub turn : ℕ
   -- the lease's calls of before
   pub before : List Submitted
 
@@ -112,6 +116,24 @@ second_of_asked q = second_block q.same (first_of_asked q)
 abbrev pub third_of_asked : Asked → Block
 third_of_asked q = moded_block (second_of_asked q) true q.same.self.generation
 
+-- The turn of the own block that was shown last when the call at a stage is made, and at the first stage the one of the start.
+abbrev pub turn_at : Asked → Stage → ℕ
+turn_at q Reads_area = q.turn
+turn_at q Writes_first = q.turn
+turn_at q Reads_first = q.turn + 1
+turn_at q Writes_second = q.turn + 1
+turn_at q Reads_second = q.turn + 1 + 1
+turn_at q Takes_leader = q.turn + 1 + 1
+turn_at q Sets_mode = q.turn + 1 + 1
+turn_at q Frees_leader = q.turn + 1 + 1 + 1
+
+-- The write of a block at a stage: with pairs it has the next turn, and stands at that turn's place.
+abbrev pub block_op : Asked → Stage → Block → Op
+block_op q stage b = WriteRecord (block_record q.same.place.layout (turn_at q stage + 1) q.session.lockspace q.resource.name b)
+
+abbrev pub block_at : Asked → Stage → ℕ
+block_at q stage = block_place q.same.place.layout q.resource.offset q.session.id (turn_at q stage + 1)
+
 -- What the call at a stage is for, where it is, and what it does.
 abbrev pub step_at : Asked → Stage → LeaseStep
 step_at q Reads_area = ReadArea q.resource.name
@@ -124,22 +146,24 @@ step_at q Sets_mode = SetMode
 step_at q Frees_leader = FreeLeader
 
 abbrev pub op_at : Asked → Stage → Op
-op_at q Reads_area = ReadSectors (q.same.place.layout.hosts + 2)
-op_at q Writes_first = WriteRecord (BlockIs (first_of_asked q))
-op_at q Reads_first = ReadSectors q.same.place.layout.hosts
-op_at q Writes_second = WriteRecord (BlockIs (second_of_asked q))
-op_at q Reads_second = ReadSectors q.same.place.layout.hosts
-op_at q Takes_leader = WriteRecord (LeaderIs (leader_of_asked q true))
-op_at q Sets_mode = WriteRecord (BlockIs (third_of_asked q))
-op_at q Frees_leader = WriteRecord (LeaderIs (leader_of_asked q false))
+op_at q Reads_area = ReadSectors (area_sectors q.same.place.layout)
+op_at q Writes_first = block_op q Writes_first (first_of_asked q)
+op_at q Reads_first = ReadSectors (block_sectors q.same.place.layout)
+op_at q Writes_second = block_op q Writes_second (second_of_asked q)
+op_at q Reads_second = ReadSectors (block_sectors q.same.place.layout)
+op_at q Takes_leader = WriteRecord (leader_record q.same.place.layout (leader_of_asked q true))
+op_at q Sets_mode = block_op q Sets_mode (third_of_asked q)
+op_at q Frees_leader = WriteRecord (leader_record q.same.place.layout (leader_of_asked q false))
 
 abbrev pub offset_at : Asked → Stage → ℕ
 offset_at q Reads_area = q.resource.offset
+offset_at q Writes_first = block_at q Writes_first
+offset_at q Writes_second = block_at q Writes_second
+offset_at q Sets_mode = block_at q Sets_mode
 offset_at q Reads_first = block_offset q.same.place.layout q.resource.offset 1
 offset_at q Reads_second = block_offset q.same.place.layout q.resource.offset 1
 offset_at q Takes_leader = leader_offset q.resource.offset
 offset_at q Frees_leader = leader_offset q.resource.offset
-offset_at q stage = block_offset q.same.place.layout q.resource.offset q.session.id
 
 -- The own block that a read at a stage must find; none is looked for while one is being written.
 abbrev pub own_at : Asked → Stage → Option Block
@@ -179,6 +203,8 @@ pub record IsAskedOf (st : Setting) (q : Asked) : Type 0 where
   pub freed_low : freed q.before ≤ q.leader.lver
   pub lver : q.leader.lver + 1 < record_numbers
   pub mbal : next_mbal st.layout.hosts q.session.id (map (λ b. b.mbal) (in_instance (q.leader.lver + 1) (q.own ∷ []))) < record_numbers
+  -- the turns of all blocks that it writes are numbers
+  pub turns : st.layout.paired ≡ true → q.turn + blocks_needed q.shared < record_numbers
 
 -- The last two stages are of shared mode alone.
 abbrev pub IsOfMode : Bool → Stage → Type 0
@@ -203,6 +229,30 @@ pub record DaemonOnCourse (st : Setting) (es : Trace) (q : Asked) (stage : Stage
   pub self : me es q.session ≡ q.same.self
   -- from the read of the area on the lease has verified the resource's name
   pub name : (stage ≡ Reads_area) ⊎ (verified_name st.layout q.session.lockspace (older ++ q.before) ≡ q.resource.name)
+  -- and been shown the turn of its block
+  pub turn : st.layout.paired ≡ true → (stage ≡ Reads_area) ⊎ (base_turn st.layout q.session.id (older ++ q.before) ≡ turn_at q stage)
+
+-- A host's pair has a block of this turn, and its second sector is whole, so that it is read once.
+pub record PairStands (w : World) (at : Spot) (host turn : ℕ) : Type 0 where
+  pub pair : PairBlock
+  pub stands : later_pair (pair_there w at host true) (pair_there w at host false) ≡ Some pair
+  pub is : pair.turn ≡ turn
+  pub whole : IsSome (pair_there w at host false)
+
+-- The sector of this turn spells it; the other may be written.
+pub record SectorStands (w : World) (at : Spot) (host turn : ℕ) : Type 0 where
+  pub pair : PairBlock
+  pub stands : pair_there w at host (is_first_turn turn) ≡ Some pair
+  pub is : pair.turn ≡ turn
+
+-- What the own pair must have at a stage: a read finds it whole, and a write leaves the block before it.
+abbrev pub OwnPairAt : World → Asked → Stage → Type 0
+OwnPairAt w q Reads_area = PairStands w (spot_of q.resource) q.session.id (turn_at q Reads_area)
+OwnPairAt w q Writes_first = SectorStands w (spot_of q.resource) q.session.id (turn_at q Writes_first)
+OwnPairAt w q Reads_first = PairStands w (spot_of q.resource) q.session.id (turn_at q Reads_first)
+OwnPairAt w q Writes_second = SectorStands w (spot_of q.resource) q.session.id (turn_at q Writes_second)
+OwnPairAt w q Reads_second = PairStands w (spot_of q.resource) q.session.id (turn_at q Reads_second)
+OwnPairAt w q stage = Unit {0}
 
 -- The area while the acquire is at the call of this number, which was made at this step: others' blocks are those of the start, the own
 -- block is the one written last, no write is in flight there but this machine's, and what landed there since is that call's.
@@ -211,6 +261,9 @@ pub record AreaOnCourse (w : World) (q : Asked) (stage : Stage) (number made : �
   pub own : (b : Block) → own_at q stage ≡ Some b → block_there w (spot_of q.resource) q.session.id ≡ Some b
   pub leader : stage ≡ Reads_area → leader_there w (spot_of q.resource) ≡ Some q.leader
   pub blocks : stage ≡ Reads_area → blocks_there w (spot_of q.resource) ≡ all_whole q.blocks
+  -- with pairs the second sectors of others are whole, and the own block has its turn
+  pub seconds : w.layout.paired ≡ true → (host : ℕ) → 1 ≤ host → host ≤ w.layout.hosts → (host ≡ q.session.id → ⊥) → IsSome (pair_there w (spot_of q.resource) host false)
+  pub pair : w.layout.paired ≡ true → OwnPairAt w q stage
   pub calm : IsCalm w (spot_of q.resource) q.machine
   pub since : (l : Landing) → Contains w.landings l → l.path ≡ q.resource.path → IsTrue (in_area w.layout q.resource.offset l.offset) → made < l.step → l.writer ≡ Some (q.machine, number)
 

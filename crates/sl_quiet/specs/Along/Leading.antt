@@ -1,17 +1,18 @@
 -- From the answer of the acquire's call to its next call, or to the grant.
 use Rattle.sl_sector.specs.declared.sector.Block.{Block}
-use Rattle.sl_area.specs.Places.{leader_of, area_blocks, blocks_in}
+use Rattle.sl_area.specs.Places.{blocks_part, leader_of, pair_read}
+use Rattle.sl_sector.specs.declared.sector.PairBlock.{PairBlock}
 use Rattle.sl_trace.specs.declared.input.Answer.TheVariants.{Read, Written}
-use Rattle.sl_quiet.specs.Course.Quietly.{StandsAlone, NoneShared, all_whole}
+use Rattle.sl_quiet.specs.Course.Quietly.{StandsAlone, NoneShared, ShowsWhole}
 use Rattle.sl_due.specs.Due.{IsHostTrace}
 use Rattle.sl_due.specs.Steps.{seen}
 use Rattle.sl_run.specs.Lawful.{IsSetting}
-use Rattle.sl_trace.specs.LeaseWork.{lease_next, lease_place}
-use Rattle.sl_trace.specs.Leases.{known, lver_written, spot_of, verified_by, LeaseKnown}
+use Rattle.sl_trace.specs.LeaseWork.{lease_next, lease_place, within_turn}
+use Rattle.sl_trace.specs.Leases.{base_turn, known, lver_written, spot_of, verified_by, LeaseKnown}
 use Rattle.sl_trace.specs.declared.lease.Aim.TheVariants.{Acquires}
 use Rattle.sl_trace.specs.declared.lease.LeaseNext.TheVariants.{GrantJob, Nothing, ReadFor, WriteBlock, WriteLeader}
 use Rattle.sl_trace.specs.declared.lease.LeaseNext.{LeaseNext}
-use Rattle.sl_quiet.specs.Along.Along.{Asked, DaemonOnCourse, Frees_leader, IsAskedOf, Reads_area, Reads_first, Reads_second, Sets_mode, Stage, Takes_leader, Writes_first, Writes_second, first_of_asked, leader_of_asked, second_of_asked, stage_next, step_at, third_of_asked}
+use Rattle.sl_quiet.specs.Along.Along.{Asked, DaemonOnCourse, Frees_leader, IsAskedOf, Reads_area, Reads_first, Reads_second, Sets_mode, Stage, Takes_leader, Writes_first, Writes_second, first_of_asked, leader_of_asked, second_of_asked, stage_next, step_at, third_of_asked, turn_at}
 use Rattle.sl_quiet.specs.Step.Leading.{heard}
 use Rattle.sl_run.specs.Quiet.{job_calls}
 use Rattle.sl_trace.specs.Sessions.{is_active}
@@ -57,8 +58,9 @@ told_call st past now call answer =
 -- What the lease decides then.
 abbrev pub decided_then : Setting → Trace → ℕ → Asked → Stage → Submitted → Answer → LeaseNext
 decided_then st past now q stage call answer =
-    lease_next (lease_place st q.session) (known st (seen (heard st past now call.call.number answer)) q.session (spot_of q.resource)) (Acquires (mode_of q.shared)) call.call.number
-    (lver_written call) (step_at q stage) answer
+    within_turn (lease_place st q.session) (known st (seen (heard st past now call.call.number answer)) q.session (spot_of q.resource)) (Acquires (mode_of q.shared))
+    (lease_next (lease_place st q.session) (known st (seen (heard st past now call.call.number answer)) q.session (spot_of q.resource)) (Acquires (mode_of q.shared)) call.call.number
+    (lver_written call) (step_at q stage) answer)
 
 -- Where it decides for the next stage, the daemon goes on to it.
 abbrev pub CourseLeads : Type 0
@@ -66,6 +68,7 @@ CourseLeads =
     (st : Setting) (past : Trace) (e : Entry) (q : Asked) (stage next : Stage) → IsSetting st → IsHostTrace st (e ∷ past) → IsAskedOf st q → (c : DaemonOnCourse st past q stage) → (answer : Answer)
     → Hears st past e q c.call answer → stage_next q.shared stage ≡ Some next → decided_then st past e.reading q stage c.call answer ≡ decision_at q next
     → (stage ≡ Reads_area → verified_by st.layout q.session.lockspace (answered_in past e c.call.call.number answer c.call) (c.older ++ q.before) ≡ Some q.resource.name)
+    → (st.layout.paired ≡ true → base_turn st.layout q.session.id (answered_in past e c.call.call.number answer c.call ∷ (c.older ++ q.before)) ≡ turn_at q next)
     → (d : DaemonOnCourse st (e ∷ past) q next) × (d.call.at ≡ length past)
 
 -- The entry grants the process the resource, and is the job's reply.
@@ -89,16 +92,22 @@ CourseEnds =
 abbrev pub known_then : Setting → Trace → ℕ → Asked → Submitted → Answer → LeaseKnown
 known_then st past now q call answer = known st (seen (heard st past now call.call.number answer)) q.session (spot_of q.resource)
 
+-- A read of all blocks shows these, and with pairs the turn of the own one.
+pub record ShowsBlocks (q : Asked) (bytes : List ℕ) (blocks : List Block) (turn : ℕ) : Type 0 where
+  pub shows : ShowsWhole q.same.place.layout bytes blocks
+  pub pair : q.same.place.layout.paired ≡ true → (own : PairBlock) × (pair_read q.same.place.layout bytes q.session.id ≡ Some own) × (own.turn ≡ turn)
+
 -- What the answer at a stage is, and shows: the read of the area the leader and the blocks of the start, a later read the own block alone
 -- in its instance; at the first of these no other host's shared mode stands in an exclusive acquire's way.
 abbrev pub ShowsAt : Setting → Trace → ℕ → Asked → Submitted → Answer → Stage → Type 0
 ShowsAt st past now q call answer Reads_area =
-    (bytes : List ℕ) × (answer ≡ Read bytes) × (leader_of q.same.place.layout bytes ≡ Some q.leader) × (area_blocks q.same.place.layout bytes ≡ all_whole q.blocks)
+    (bytes : List ℕ) × (answer ≡ Read bytes) × (leader_of q.same.place.layout bytes ≡ Some q.leader)
+    × ShowsBlocks q (blocks_part q.same.place.layout bytes) q.blocks (turn_at q Reads_area)
 ShowsAt st past now q call answer Reads_first =
-    (bytes : List ℕ) × (bs : List Block) × (answer ≡ Read bytes) × (blocks_in q.same.place.layout bytes ≡ all_whole bs) × StandsAlone (first_of_asked q) bs
+    (bytes : List ℕ) × (bs : List Block) × (answer ≡ Read bytes) × ShowsBlocks q bytes bs (turn_at q Reads_first) × StandsAlone (first_of_asked q) bs
     × NoneShared (known_then st past now q call answer) (mode_of q.shared) bs
 ShowsAt st past now q call answer Reads_second =
-    (bytes : List ℕ) × (bs : List Block) × (answer ≡ Read bytes) × (blocks_in q.same.place.layout bytes ≡ all_whole bs) × StandsAlone (second_of_asked q) bs
+    (bytes : List ℕ) × (bs : List Block) × (answer ≡ Read bytes) × ShowsBlocks q bytes bs (turn_at q Reads_second) × StandsAlone (second_of_asked q) bs
 ShowsAt st past now q call answer stage = answer ≡ Written
 
 -- So the lease decides for the next stage, and after the last for the grant under the leader's next instance.

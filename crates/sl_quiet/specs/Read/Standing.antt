@@ -1,8 +1,8 @@
 -- What a read gives of places where nothing has landed since it was made.
-use Rattle.sl_area.specs.Places.{area_blocks, block_offset, blocks_in, leader_of, sector_of}
+use Rattle.sl_area.specs.Places.{area_sectors, block_offset, block_sectors, blocks_of, blocks_part, leader_of, pair_back, pair_front, read_once, sector_of}
 use Rattle.sl_run.specs.Quiet.{leader_there}
 use Rattle.sl_run.specs.Runs.{Happening}
-use Rattle.sl_run.specs.Safety.{LawfulRun, block_there, world_at}
+use Rattle.sl_run.specs.Safety.{LawfulRun, block_there, pair_there, world_at}
 use Rattle.sl_run.specs.Worlds.{Course, Landing, Machine, Program, World, content, machine_at}
 use Rattle.sl_run.specs.declared.header.Header.{Header}
 use Rattle.sl_run_law.specs.Sample.Samples.{sector_place}
@@ -10,7 +10,7 @@ use Rattle.sl_sector.specs.declared.sector.Block.{Block}
 use Rattle.sl_trace.specs.Traces.{same_place}
 use Rattle.sl_trace.specs.declared.effects.Spot.{Spot}
 use Rattle.std.specs.List.{range_with_len}
-use Rattle.std.specs.Prelude.{Contains, List, Option, Some, length, map, true, ℕ, ◌+◌, ◌<◌, ◌≡◌, ◌≤◌}
+use Rattle.std.specs.Prelude.{Contains, List, Option, Some, false, length, map, true, ℕ, ◌<◌, ◌≡◌, ◌≤◌}
 
 -- No landing of the place came after this step.
 abbrev pub StandsSince : World → List ℕ → ℕ → ℕ → Type 0
@@ -32,14 +32,20 @@ pub record ReadStands (w : World) (c : Course) (n : ℕ) : Type 0 where
   pub whole : length c.samples ≡ n
   pub stands : (k : ℕ) → k < n → StandsSince w c.call.path (sector_place w c k) c.made.step
 
+-- The bytes of all blocks are those that stand there, with pairs sector by sector.
+pub record GivesBlocks (w : World) (at : Spot) (bytes : List ℕ) : Type 0 where
+  pub blocks : blocks_of w.layout (read_once bytes) ≡ blocks_there w at
+  pub pairs : w.layout.paired ≡ true → (host : ℕ) → 1 ≤ host → host ≤ w.layout.hosts
+      → (pair_front w.layout bytes host ≡ pair_there w at host true) × (pair_back w.layout bytes host ≡ pair_there w at host false)
+
 -- A read of a whole area shows what stands there, and so does a read of the blocks alone.
 pub record ReadsShowTheArea : Type 0 where
   pub area : (p : Program) (h : Header) (xs : List Happening) → LawfulRun p h xs → (m : ℕ) (a : Machine) (c : Course) (at : Spot)
       → machine_at (world_at p h xs) m ≡ Some a → Contains a.calls c → c.call.path ≡ at.path → c.call.offset ≡ at.base
-      → ReadStands (world_at p h xs) c ((world_at p h xs).layout.hosts + 2)
+      → ReadStands (world_at p h xs) c (area_sectors (world_at p h xs).layout)
       → (leader_of (world_at p h xs).layout c.sampled ≡ leader_there (world_at p h xs) at)
-      × (area_blocks (world_at p h xs).layout c.sampled ≡ blocks_there (world_at p h xs) at)
+      × GivesBlocks (world_at p h xs) at (blocks_part (world_at p h xs).layout c.sampled)
   pub blocks : (p : Program) (h : Header) (xs : List Happening) → LawfulRun p h xs → (m : ℕ) (a : Machine) (c : Course) (at : Spot)
       → machine_at (world_at p h xs) m ≡ Some a → Contains a.calls c → c.call.path ≡ at.path → c.call.offset ≡ block_offset (world_at p h xs).layout at.base 1
-      → ReadStands (world_at p h xs) c (world_at p h xs).layout.hosts
-      → blocks_in (world_at p h xs).layout c.sampled ≡ blocks_there (world_at p h xs) at
+      → ReadStands (world_at p h xs) c (block_sectors (world_at p h xs).layout)
+      → GivesBlocks (world_at p h xs) at c.sampled
