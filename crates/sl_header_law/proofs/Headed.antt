@@ -1,13 +1,13 @@
 -- The header of lines that were taken is one that a world may begin with.
-use Rattle.sl_area.specs.Layouts.{IsGeometry, is_geometry, most_ids, sizes}
-use Rattle.sl_header_law.proofs.LineKinds.{area_fits, area_kind, clock_fits, clock_kind, disk_fits, disk_kind, hosts_kind, ids_fit, ids_kind, lease_fits, lease_kind, line_of_times, member_fits, member_kind, retries_kind, sizes_fit, sizes_ranked, times_fit, times_kind}
+use Rattle.sl_area.specs.Layouts.{IsGeometry, Sizes, is_geometry, most_ids, most_ids_of_all, roomy, sizes}
+use Rattle.sl_header_law.proofs.LineKinds.{area_fits, area_kind, clock_fits, clock_kind, disk_fits, disk_kind, hosts_kind, ids_fit, ids_kind, lease_fits, lease_kind, line_of_times, member_fits, member_kind, retries_kind, sizes_fit, sizes_ranked, times_fit, times_kind, version_kind}
 use Rattle.sl_header_law.proofs.Lists.{first_inside, none_passes, pairs_append, pairs_map}
 use Rattle.sl_header_law.proofs.Made.{IsOffset}
 use Rattle.sl_header_law.proofs.Reading.{read_alike, read_lines}
-use Rattle.sl_header_law.proofs.Taken.{AreHeaderLines, GoesAcross, IsKind, IsLineBehind, StandsIn, across_stand, area_so_far, each_picked, each_stands, few_stand, formed, one_before, pairs_stand, picked_later, same_first, told_before}
+use Rattle.sl_header_law.proofs.Taken.{AreHeaderLines, GoesAcross, IsKind, IsLineBehind, StandsIn, across_stand, area_so_far, each_picked, each_stands, few_stand, formed, one_before, pairs_stand, picked_later, same_first, told_before, unpaired}
 use Rattle.sl_header_law.specs.HeaderLaw.{EachHeaderIsGood}
 use Rattle.sl_plain.proofs.Lists.{any_found, contains_first, in_map}
-use Rattle.sl_report.specs.ScheduleLines.{AreaLine, BeginLine, ClockLine, DiskLine, GeometryLine, HeaderLine, HostsLine, IdsLine, LeaseLine, LvmLine, MemberLine, area_line, clock_line, disk_line, first_line, geometry_line, header_of, hosts_line, ids_line, is_on_disk, lease_line, member_line, no_timing, rank, retries_line, timing_line}
+use Rattle.sl_report.specs.ScheduleLines.{AreaLine, BeginLine, ClockLine, DiskLine, GeometryLine, HeaderLine, HostsLine, IdsLine, LeaseLine, LvmLine, MemberLine, VersionLine, area_line, clock_line, disk_line, first_line, geometry_line, header_of, hosts_line, ids_line, is_on_disk, lease_line, member_line, no_timing, rank, retries_line, timing_line, version_line}
 use Rattle.sl_report.specs.Schedules.{default_area, default_sector, numbered_lines}
 use Rattle.sl_run.specs.Headers.{GoTogether, IsArea, IsHeader, IsMember}
 use Rattle.sl_run.specs.Worlds.{first_that, mebibyte}
@@ -52,6 +52,22 @@ elsewhere path other offset here apart paths same =
 
 -- ---- what stands alone
 
+-- What is given where no line gives any, or by a line.
+given_or : {A : Type 0} (xs : List A) (d : A) (P : A → Type 0) → P d → ((x : A) → Contains xs x → P x) → P (unwrap_or (first_of_list xs) d)
+given_or [] d P none some = none
+given_or (x ∷ xs) d P none some = some x (contains_first x xs)
+
+-- No area has pairs.
+none_paired : (ls : List HeaderLine) → AreHeaderLines ls → first_line version_line false ls ≡ false
+none_paired ls all =
+    given_or (filter_map version_line ls) false (λ b. b ≡ false) refl (λ b has.
+    let s = each_stands (λ b. VersionLine b) version_line 0 version_kind ls all b has in unpaired s.before b s.behind)
+
+-- There is never more room.
+no_roomier : (paired : Bool) (n : ℕ) → n ≤ roomy paired most_ids_of_all → n ≤ 2000
+no_roomier true n h = omega arith
+no_roomier false n h = omega arith
+
 -- The first line of a kind that must be there, and what is known of it.
 first_stands : {A : Type 0} (line : A → HeaderLine) (pick : HeaderLine → Option A) (k : ℕ) → IsKind line pick k → (d : A) (ls : List HeaderLine)
     → AreHeaderLines ls → 1 ≤ length (filter_map pick ls) → StandsIn ls (line (first_line pick d ls))
@@ -74,14 +90,9 @@ hosts_of : (ls : List HeaderLine) → AreHeaderLines ls → IsLineBehind ls Begi
 hosts_of ls all begun =
     let some : 1 ≤ length (filter_map ids_line ls) = one_before ids_line 3 ids_kind.ranked ls BeginLine begun (omega arith) refl in
     let s = first_stands (λ n. IdsLine n) ids_line 3 ids_kind 0 ls all some in
-    (formed s.before (IdsLine (first_line ids_line 0 ls)) s.behind, ids_fit s.before (first_line ids_line 0 ls) s.behind)
+    (formed s.before (IdsLine (first_line ids_line 0 ls)) s.behind, no_roomier (first_line version_line false s.before) (first_line ids_line 0 ls) (ids_fit s.before (first_line ids_line 0 ls) s.behind))
 
 -- ---- what may stand alone
-
--- What is given where no line gives any, or by a line.
-given_or : {A : Type 0} (xs : List A) (d : A) (P : A → Type 0) → P d → ((x : A) → Contains xs x → P x) → P (unwrap_or (first_of_list xs) d)
-given_or [] d P none some = none
-given_or (x ∷ xs) d P none some = some x (contains_first x xs)
 
 retries_of : (ls : List HeaderLine) → AreHeaderLines ls → first_line retries_line 0 ls ≤ 8
 retries_of ls all =
@@ -112,7 +123,10 @@ geometry_of ls all hosts is some few =
     let behind : 3 < rank p.line = geometry_ranked p.line x p.gives in
     let same : first_line ids_line 0 p.stands.before ≡ hosts = same_first ids_line 3 ids_kind.ranked ls p.line p.stands 0 behind refl ∙ is in
     let fit = sizes_fit p.stands.before p.line x p.gives p.stands.behind in
-    let enough = subst (λ (n : ℕ). some_is (λ most. nat_lt most n) (most_ids x.0 x.1) ≡ false) same fit.enough in
+    let plain : first_line version_line false p.stands.before ≡ false = same_first version_line 0 version_kind.ranked ls p.line p.stands false (omega arith) refl ∙ none_paired ls all in
+    let enough : some_is (λ most. nat_lt most hosts) (most_ids x.0 x.1) ≡ false =
+    subst (λ (n : ℕ). some_is (λ most. nat_lt most n) (most_ids x.0 x.1) ≡ false) same
+    (subst (λ (b : Bool). some_is (λ most. nat_lt (roomy b most) (first_line ids_line 0 p.stands.before)) (most_ids x.0 x.1) ≡ false) plain fit.enough) in
     (choose_some (is_geometry (sizes x.0 x.1 hosts)) (sizes x.0 x.1 hosts) (sizes x.0 x.1 hosts)
     (sizes_taken x.0 x.1 hosts some (no_test (is_none (most_ids x.0 x.1)) (some_is (λ most. nat_lt most hosts) (most_ids x.0 x.1)) LimitGeometry LimitIds fit.are enough))).0)
 
@@ -331,6 +345,16 @@ member_in : (ls : List HeaderLine) (s : SessionLine) → MemberIs ls s → IsMem
 unfolding header_of
 member_in ls s m = record { machine = m.machine; id = m.id; lockspace = m.lockspace; name = m.name }
 
+-- The sizes that these lines give, with pairs or without.
+abbrev sizes_given : List HeaderLine → Bool → Sizes
+sizes_given ls paired =
+    record {
+      sector = (first_line geometry_line (default_sector, default_area) ls).0;
+      area = (first_line geometry_line (default_sector, default_area) ls).1;
+      hosts = first_line ids_line 0 ls;
+      paired = paired;
+    }
+
 is_header : (ls : List HeaderLine) → AreHeaderLines ls → IsLineBehind ls BeginLine → IsHeader (header_of default_sector default_area ls)
 unfolding header_of
 is_header ls all begun =
@@ -340,8 +364,8 @@ is_header ls all begun =
       timing = times.0;
       grace = times.1;
       machines = machines_of ls all begun;
-      geometry = geometry_of ls all (first_line ids_line 0 ls) refl hosts.0 hosts.1;
-      unpaired = refl;
+      geometry = subst (λ (b : Bool). IsGeometry (sizes_given ls b)) (sym (none_paired ls all)) (geometry_of ls all (first_line ids_line 0 ls) refl hosts.0 hosts.1);
+      unpaired = none_paired ls all;
       retries = retries_of ls all;
       clocks = clock_is ls all;
       one_clock = pairs_stand (λ c. ClockLine c) clock_line 6 clock_kind (λ a b. a.machine ≢ b.machine) clocks_differ ls all;

@@ -1,5 +1,5 @@
 -- The kinds of a header's lines, and what each line's tests say of the lines before it.
-use Rattle.sl_report.specs.ScheduleLines.{AreaLine, BeginLine, ClockLine, DiskLine, HeaderLine, HostsLine, IdsLine, LeaseLine, MemberLine, TimeLine, VersionLine, area_line, clock_line, disk_line, first_line, header_of, header_tests, hosts_line, ids_line, is_known_lockspace, is_on_disk, is_taken_place, lease_line, member_line, rank, timing_line, GeometryLine, LvmLine, geometry_line, retries_line}
+use Rattle.sl_report.specs.ScheduleLines.{AreaLine, BeginLine, ClockLine, DiskLine, HeaderLine, HostsLine, IdsLine, LeaseLine, MemberLine, TimeLine, VersionLine, area_line, clock_line, disk_line, first_line, header_of, header_tests, hosts_line, ids_line, is_known_lockspace, is_on_disk, is_taken_place, lease_line, member_line, rank, timing_line, GeometryLine, LvmLine, geometry_line, retries_line, version_line}
 use Rattle.sl_report.specs.Schedules.{default_area, default_sector}
 use Rattle.sl_run.specs.declared.header.Disk.{Disk}
 use Rattle.sl_run.specs.declared.header.FirstReading.{FirstReading}
@@ -10,15 +10,36 @@ use Rattle.sl_header_law.proofs.Taken.{EachFails, IsKind, IsLineBehind, IsRanked
 use Rattle.sl_time.specs.Times.{IsTiming, TimingNumbers}
 use Rattle.sl_words.proofs.CaseLaws.{some_value}
 use Rattle.sl_words.specs.Words.{some_is}
-use Rattle.std.proofs.Common.{List, Some, ap, arith, false, not, refl, subst, true, ℕ, ◌&&◌, ◌≡◌, ◌≤◌}
+use Rattle.std.proofs.Common.{Bool, List, Some, ap, arith, false, not, refl, subst, true, ℕ, ◌&&◌, ◌≡◌, ◌≤◌}
 use Rattle.std.proofs.lemmas.Bool.Decides.{nat_tests}
 use Rattle.std.proofs.lemmas.Bool.{ltb-false, or_parts}
 use Rattle.std.specs.Int.{is_in_range}
 use Rattle.std.specs.List.{filter_map, list_any}
-use Rattle.sl_area.specs.Layouts.{most_ids, most_ids_of_all}
+use Rattle.sl_area.specs.Layouts.{most_ids, most_ids_of_all, roomy}
 use Rattle.std.specs.Prelude.{bytes_eq, is_none, is_some, nat_lt, ◌==◌, ◌||◌, ℕ}
 
 -- ---- kinds
+
+version_back : (l : HeaderLine) (x : Bool) → version_line l ≡ Some x → l ≡ VersionLine x
+version_back (VersionLine paired) x h = ap (λ y. VersionLine y) (some_value _ _ h)
+version_back l x h = absurd cc
+
+version_ranked : (l : HeaderLine) → is_some (version_line l) ≡ (rank l == 0)
+version_ranked (VersionLine paired) = refl
+version_ranked (TimeLine io fire land rho grace) = refl
+version_ranked (HostsLine m) = refl
+version_ranked (IdsLine n) = refl
+version_ranked (GeometryLine sector mebibytes) = refl
+version_ranked (LvmLine n) = refl
+version_ranked (ClockLine c) = refl
+version_ranked (DiskLine d) = refl
+version_ranked (AreaLine a) = refl
+version_ranked (LeaseLine r) = refl
+version_ranked (MemberLine s) = refl
+version_ranked BeginLine = refl
+
+pub version_kind : IsKind (λ x. VersionLine x) version_line 0
+version_kind = record { back = version_back; ranked = version_ranked }
 
 abbrev pub line_of_times : TimingNumbers × ℕ → HeaderLine
 line_of_times x = TimeLine x.0.io x.0.fire x.0.land x.0.rho x.1
@@ -29,7 +50,7 @@ times_back (TimeLine io fire land rho grace) x h =
 times_back l x h = absurd cc
 
 times_ranked : (l : HeaderLine) → is_some (timing_line l) ≡ (rank l == 1)
-times_ranked VersionLine = refl
+times_ranked (VersionLine paired) = refl
 times_ranked (TimeLine io fire land rho grace) = refl
 times_ranked (HostsLine m) = refl
 times_ranked (IdsLine n) = refl
@@ -50,7 +71,7 @@ hosts_back (HostsLine m) x h = ap (λ y. HostsLine y) (some_value _ _ h)
 hosts_back l x h = absurd cc
 
 hosts_ranked : (l : HeaderLine) → is_some (hosts_line l) ≡ (rank l == 2)
-hosts_ranked VersionLine = refl
+hosts_ranked (VersionLine paired) = refl
 hosts_ranked (TimeLine io fire land rho grace) = refl
 hosts_ranked (HostsLine m) = refl
 hosts_ranked (IdsLine n) = refl
@@ -71,7 +92,7 @@ ids_back (IdsLine n) x h = ap (λ y. IdsLine y) (some_value _ _ h)
 ids_back l x h = absurd cc
 
 ids_ranked : (l : HeaderLine) → is_some (ids_line l) ≡ (rank l == 3)
-ids_ranked VersionLine = refl
+ids_ranked (VersionLine paired) = refl
 ids_ranked (TimeLine io fire land rho grace) = refl
 ids_ranked (HostsLine m) = refl
 ids_ranked (IdsLine n) = refl
@@ -88,7 +109,7 @@ pub ids_kind : IsKind (λ x. IdsLine x) ids_line 3
 ids_kind = record { back = ids_back; ranked = ids_ranked }
 
 pub sizes_ranked : IsRanked geometry_line 4
-sizes_ranked VersionLine = refl
+sizes_ranked (VersionLine paired) = refl
 sizes_ranked (TimeLine io fire land rho grace) = refl
 sizes_ranked (HostsLine m) = refl
 sizes_ranked (IdsLine n) = refl
@@ -102,7 +123,7 @@ sizes_ranked (MemberLine s) = refl
 sizes_ranked BeginLine = refl
 
 pub retries_ranked : IsRanked retries_line 5
-retries_ranked VersionLine = refl
+retries_ranked (VersionLine paired) = refl
 retries_ranked (TimeLine io fire land rho grace) = refl
 retries_ranked (HostsLine m) = refl
 retries_ranked (IdsLine n) = refl
@@ -127,7 +148,7 @@ clock_back (ClockLine c) x h = ap (λ y. ClockLine y) (some_value _ _ h)
 clock_back l x h = absurd cc
 
 clock_ranked : (l : HeaderLine) → is_some (clock_line l) ≡ (rank l == 6)
-clock_ranked VersionLine = refl
+clock_ranked (VersionLine paired) = refl
 clock_ranked (TimeLine io fire land rho grace) = refl
 clock_ranked (HostsLine m) = refl
 clock_ranked (IdsLine n) = refl
@@ -148,7 +169,7 @@ disk_back (DiskLine d) x h = ap (λ y. DiskLine y) (some_value _ _ h)
 disk_back l x h = absurd cc
 
 disk_ranked : (l : HeaderLine) → is_some (disk_line l) ≡ (rank l == 7)
-disk_ranked VersionLine = refl
+disk_ranked (VersionLine paired) = refl
 disk_ranked (TimeLine io fire land rho grace) = refl
 disk_ranked (HostsLine m) = refl
 disk_ranked (IdsLine n) = refl
@@ -169,7 +190,7 @@ area_back (AreaLine a) x h = ap (λ y. AreaLine y) (some_value _ _ h)
 area_back l x h = absurd cc
 
 area_ranked : (l : HeaderLine) → is_some (area_line l) ≡ (rank l == 8)
-area_ranked VersionLine = refl
+area_ranked (VersionLine paired) = refl
 area_ranked (TimeLine io fire land rho grace) = refl
 area_ranked (HostsLine m) = refl
 area_ranked (IdsLine n) = refl
@@ -190,7 +211,7 @@ lease_back (LeaseLine r) x h = ap (λ y. LeaseLine y) (some_value _ _ h)
 lease_back l x h = absurd cc
 
 lease_ranked : (l : HeaderLine) → is_some (lease_line l) ≡ (rank l == 9)
-lease_ranked VersionLine = refl
+lease_ranked (VersionLine paired) = refl
 lease_ranked (TimeLine io fire land rho grace) = refl
 lease_ranked (HostsLine m) = refl
 lease_ranked (IdsLine n) = refl
@@ -211,7 +232,7 @@ member_back (MemberLine s) x h = ap (λ y. MemberLine y) (some_value _ _ h)
 member_back l x h = absurd cc
 
 member_ranked : (l : HeaderLine) → is_some (member_line l) ≡ (rank l == 10)
-member_ranked VersionLine = refl
+member_ranked (VersionLine paired) = refl
 member_ranked (TimeLine io fire land rho grace) = refl
 member_ranked (HostsLine m) = refl
 member_ranked (IdsLine n) = refl
@@ -249,14 +270,14 @@ times_fit ls x h =
     ranged x.0.io x.0.fire x.0.land x.0.rho x.1 fail.0 fail.1.0 fail.1.1.0 fail.1.1.1.0 fail.1.1.1.1.0
 
 -- There are no more hosts than areas may have.
-pub ids_fit : (ls : List HeaderLine) (n : ℕ) → IsLineBehind ls (IdsLine n) → n ≤ most_ids_of_all
-unfolding header_tests
-ids_fit ls n h = let fail = unrefused ls (IdsLine n) h in ltb-false most_ids_of_all n fail.0
+pub ids_fit : (ls : List HeaderLine) (n : ℕ) → IsLineBehind ls (IdsLine n) → n ≤ roomy (first_line version_line false ls) most_ids_of_all
+unfolding header_tests header_of
+ids_fit ls n h = let fail = unrefused ls (IdsLine n) h in ltb-false (roomy (first_line version_line false ls) most_ids_of_all) n fail.0
 
 -- There are areas of these sizes, for as many hosts as there are.
 pub record SizesFit (ls : List HeaderLine) (x : ℕ × ℕ) : Type 0 where
   pub are : is_none (most_ids x.0 x.1) ≡ false
-  pub enough : some_is (λ most. nat_lt most (first_line ids_line 0 ls)) (most_ids x.0 x.1) ≡ false
+  pub enough : some_is (λ most. nat_lt (roomy (first_line version_line false ls) most) (first_line ids_line 0 ls)) (most_ids x.0 x.1) ≡ false
 
 pub sizes_fit : (ls : List HeaderLine) (l : HeaderLine) (x : ℕ × ℕ) → geometry_line l ≡ Some x → IsLineBehind ls l → SizesFit ls x
 unfolding header_tests header_of

@@ -1,5 +1,5 @@
 -- The lines of a schedule: header lines and events.
-use Rattle.sl_area.specs.Layouts.{most_ids, most_ids_of_all}
+use Rattle.sl_area.specs.Layouts.{most_ids, most_ids_of_all, roomy}
 use Rattle.sl_run.specs.Worlds.{mebibyte}
 use Rattle.sl_run.specs.declared.event.Event.TheVariants.{AnswerCall, Crash, Do, DropWrite, ExitOf, Land, Pass, Reset, Restart, Sample, SpawnedOf, StartDaemon, Tear, Test, WakeUp}
 use Rattle.sl_run.specs.declared.event.Event.{Event}
@@ -28,9 +28,9 @@ is_positive_word w = is_number_that (λ n. nat_lt 0 n) w
 
 -- ---- header lines
 
--- A line of a header.
+-- A line of a header. The first one says whether each host's block has a pair of sectors.
 pub data HeaderLine : Type 0 where
-  VersionLine : HeaderLine
+  VersionLine : (paired : Bool) → HeaderLine
   TimeLine : (io fire land rho grace : ℕ) → HeaderLine
   HostsLine : ℕ → HeaderLine
   IdsLine : ℕ → HeaderLine
@@ -43,10 +43,14 @@ pub data HeaderLine : Type 0 where
   MemberLine : SessionLine → HeaderLine
   BeginLine : HeaderLine
 
+-- `1`: a host's block has one sector; or `2`: it has a pair.
+abbrev pub is_version_word : List ℕ → Bool
+is_version_word w = exactly (codes "1") w || exactly (codes "2") w
+
 -- The forms of header lines.
 unfoldable pub header_forms : ℕ → List (Form HeaderLine)
 header_forms area =
-    record { words = exactly (codes "sanlock") ∷ exactly (codes "1") ∷ []; make = λ ws. VersionLine }
+    record { words = exactly (codes "sanlock") ∷ is_version_word ∷ []; make = λ ws. VersionLine (exactly (codes "2") (word_at ws 1)) }
     ∷ record {
       words = exactly (codes "time") ∷ is_number_text ∷ is_number_text ∷ is_number_text ∷ is_number_text ∷ is_number_text ∷ [];
       make = λ ws. TimeLine (capped_long (word_at ws 1)) (capped_long (word_at ws 2)) (capped_long (word_at ws 3)) (capped_long (word_at ws 4)) (capped_long (word_at ws 5));
@@ -83,7 +87,7 @@ header_forms area =
 
 -- Where the line stands in the header's order.
 abbrev pub rank : HeaderLine → ℕ
-rank VersionLine = 0
+rank (VersionLine paired) = 0
 rank (TimeLine io fire land rho grace) = 1
 rank (HostsLine m) = 2
 rank (IdsLine n) = 3
@@ -106,6 +110,11 @@ count_of_rank ls k = count_by (λ l. rank l == k) ls
 abbrev pub timing_line : HeaderLine → Option (TimingNumbers × ℕ)
 timing_line (TimeLine io fire land rho grace) = Some (record { io = io; fire = fire; land = land; rho = rho }, grace)
 timing_line l = None
+
+-- What the first line gives: whether there are pairs.
+abbrev pub version_line : HeaderLine → Option Bool
+version_line (VersionLine paired) = Some paired
+version_line l = None
 
 -- What the hosts line gives.
 abbrev pub hosts_line : HeaderLine → Option ℕ
@@ -171,7 +180,7 @@ header_of sector area ls =
         sector = (first_line geometry_line (sector, area) ls).0;
         area = (first_line geometry_line (sector, area) ls).1;
         hosts = first_line ids_line 0 ls;
-        paired = false;
+        paired = first_line version_line false ls;
       };
       retries = first_line retries_line 0 ls;
       clocks = filter_map clock_line ls;
@@ -198,15 +207,15 @@ is_known_lockspace h name = list_any (λ l. bytes_eq l.name name) h.lockspaces
 
 -- Why a line may not stand after these, in order.
 unfoldable pub header_tests : Header → HeaderLine → List (Bool × Refusal)
-header_tests h VersionLine = []
+header_tests h (VersionLine paired) = []
 header_tests h (TimeLine io fire land rho grace) =
     (not (is_in_range 1 600000 io), LimitIo) ∷ (nat_lt 600000 fire, LimitFire) ∷ (nat_lt 600000 land, LimitLand)
     ∷ (nat_lt 100 rho, LimitRho) ∷ (nat_lt 600000 grace, LimitGrace) ∷ []
 header_tests h (HostsLine m) = []
-header_tests h (IdsLine n) = (nat_lt most_ids_of_all n, LimitIds) ∷ []
+header_tests h (IdsLine n) = (nat_lt (roomy h.geometry.paired most_ids_of_all) n, LimitIds) ∷ []
 header_tests h (GeometryLine sector mebibytes) =
     (is_none (most_ids sector (mebibytes * mebibyte)), LimitGeometry)
-    ∷ (some_is (λ most. nat_lt most h.geometry.hosts) (most_ids sector (mebibytes * mebibyte)), LimitIds) ∷ []
+    ∷ (some_is (λ most. nat_lt (roomy h.geometry.paired most) h.geometry.hosts) (most_ids sector (mebibytes * mebibyte)), LimitIds) ∷ []
 header_tests h (LvmLine n) = []
 header_tests h (ClockLine c) = (nat_lt h.machines c.machine, MissingMachine) ∷ (list_any (λ d. d.machine == c.machine) h.clocks, MissingFree) ∷ []
 header_tests h (DiskLine d) = (list_any (λ e. bytes_eq e.path d.path) h.disks, MissingFree) ∷ []

@@ -1,8 +1,8 @@
 -- What is kept of a header's lines stands for them: their counts, their header, and one more line.
-use Rattle.sl_area.specs.Layouts.{Sizes, most_ids, sizes}
-use Rattle.sl_report.specs.Languages.{is_skipped, least_lines, most_lines, whole_language}
+use Rattle.sl_area.specs.Layouts.{Sizes, most_ids, roomy, sizes}
+use Rattle.sl_report.specs.Languages.{is_skipped, least_lines, most_lines, whole_language, without_pairs}
 use Rattle.sl_report.specs.ReadingLines.{header_line_in, header_refusal, is_in_order}
-use Rattle.sl_report.specs.ScheduleLines.{AreaLine, BeginLine, ClockLine, DiskLine, GeometryLine, HeaderLine, HostsLine, IdsLine, LeaseLine, LvmLine, MemberLine, TimeLine, VersionLine, area_line, clock_line, count_of_rank, disk_line, geometry_line, header_of, header_tests, hosts_line, ids_line, lease_line, member_line, no_timing, rank, retries_line, timing_line}
+use Rattle.sl_report.specs.ScheduleLines.{AreaLine, BeginLine, ClockLine, DiskLine, GeometryLine, HeaderLine, HostsLine, IdsLine, LeaseLine, LvmLine, MemberLine, TimeLine, VersionLine, area_line, clock_line, count_of_rank, disk_line, geometry_line, header_forms, header_of, header_tests, hosts_line, ids_line, lease_line, member_line, no_timing, rank, retries_line, timing_line, version_line}
 use Rattle.sl_report.specs.Schedules.{default_area, default_sector, header_line_refusal, is_begin, with_line}
 use Rattle.sl_run.specs.Worlds.{first_that, mebibyte}
 use Rattle.sl_run.specs.declared.event.Refusal.TheVariants.{LimitGeometry, LimitIds, Syntax}
@@ -11,7 +11,9 @@ use Rattle.sl_run.specs.declared.header.Header.{Header}
 use Rattle.sl_schedule.proofs.SizeLaws.{no_sizes, sizes_taken, some_hosts}
 use Rattle.sl_schedule.specs.HeaderReads.{IsHosts}
 use Rattle.sl_schedule.specs.declared.header.Added.TheVariants.{Begun, More, Refused}
-use Rattle.sl_schedule.specs.Headers.{HeaderSoFar, Stands, answer_after, answer_now, answer_to, bytes_of, count_at, has_least, has_room, header_now, is_in_place, kept_after, lines_after, no_lines, refusal_now, sizes_now, sizes_of, so_far_after, so_far_with}
+use Rattle.sl_schedule.proofs.HeaderReadLaws.{plain_taken}
+use Rattle.sl_schedule.specs.Headers.{HeaderSoFar, IsPlain, Stands, answer_after, answer_now, answer_to, bytes_of, count_at, has_least, has_room, header_now, is_in_place, kept_after, lines_after, no_lines, refusal_now, sizes_now, sizes_of, so_far_after, so_far_with, versions_of}
+use Rattle.sl_text.specs.Forms.{made_by, words_of}
 use Rattle.sl_words.proofs.CaseLaws.{true_or_false}
 use Rattle.sl_words.proofs.WordLaws.{and_true}
 use Rattle.sl_words.specs.Words.{first_of_list, some_is}
@@ -32,6 +34,14 @@ use Rattle.std.specs.Prelude.{if◌then◌else◌, is_none, nat_le, nat_lt, unwr
 -- Lines of a kind are those of its rank.
 longer : (n : ℕ) → suc n ≡ 1 + n
 longer n = omega arith
+
+version_more : (l : HeaderLine) (ls : List HeaderLine)
+    → length (filter_map version_line (l ∷ ls)) ≡ cond (rank l == 0) (1 + length (filter_map version_line ls)) (length (filter_map version_line ls))
+version_more (VersionLine paired) ls = longer (length (filter_map version_line ls))
+version_more l ls = refl
+
+version_count : (ls : List HeaderLine) → count_of_rank ls 0 ≡ length (filter_map version_line ls)
+version_count ls = sym (is_count_by (λ ls. length (filter_map version_line ls)) (λ l. rank l == 0) refl version_more ls)
 
 timing_more : (l : HeaderLine) (ls : List HeaderLine)
     → length (filter_map timing_line (l ∷ ls)) ≡ cond (rank l == 1) (1 + length (filter_map timing_line ls)) (length (filter_map timing_line ls))
@@ -118,9 +128,14 @@ sized_count : (o : Option Sizes) → length (option_to_list (option_map bytes_of
 sized_count None = refl
 sized_count (Some z) = refl
 
+-- As many as there are first lines.
+versions_count : (version : Bool) → length (versions_of version) ≡ (if version then 1 else 0)
+versions_count true = refl
+versions_count false = refl
+
 -- The counts are those of what is kept.
 counts : (r : HeaderSoFar) (ls : List HeaderLine) → Stands r ls → (k : ℕ) → k < 12 → count_of_rank ls k ≡ count_at r k
-counts r ls h zero small = h.versions
+counts r ls h zero small = version_count ls ∙ ap length h.versions ∙ versions_count r.version
 counts r ls h (suc zero) small = timing_count ls ∙ ap length h.timings
 counts r ls h (suc (suc zero)) small = hosts_count ls ∙ ap length h.numbers
 counts r ls h (suc (suc (suc zero))) small = ids_count ls ∙ ap length h.ids
@@ -137,7 +152,7 @@ counts r ls h (suc (suc (suc (suc (suc (suc (suc (suc (suc (suc (suc (suc k)))))
 -- ---- order
 
 rank_small : (l : HeaderLine) → rank l < 12
-rank_small VersionLine = omega arith
+rank_small (VersionLine paired) = omega arith
 rank_small (TimeLine io fire land rho grace) = omega arith
 rank_small (HostsLine m) = omega arith
 rank_small (IdsLine n) = omega arith
@@ -188,6 +203,11 @@ sizes_are None hosts same plain = refl
 sizes_are (Some z) hosts same plain =
     ap (λ h. record { sector = z.sector; area = z.area; hosts = unwrap_or h 0; paired = false }) same ∙ ap (λ b. record z { paired = b }) (sym plain)
 
+-- Whether areas have pairs: none has.
+first_plain : (version : Bool) → unwrap_or (first_of_list (versions_of version)) false ≡ false
+first_plain true = refl
+first_plain false = refl
+
 pub header_is : (r : HeaderSoFar) (ls : List HeaderLine) → Stands r ls → header_of default_sector default_area ls ≡ header_now r
 unfolding header_of
 header_is r ls h =
@@ -197,7 +217,8 @@ header_is r ls h =
     let bytes : unwrap_or (first_of_list (filter_map geometry_line ls)) (default_sector, default_area) ≡ unwrap_or (option_map bytes_of r.sizes) (default_sector, default_area) =
     first_is _ (option_map bytes_of r.sizes) (default_sector, default_area) h.geometries in
     let retries : unwrap_or (first_of_list (filter_map retries_line ls)) 0 ≡ unwrap_or r.retries 0 = first_is _ r.retries 0 h.retried in
-    rw (times, machines, hosts, bytes, retries, h.readings, h.paths, h.areas, h.leases, h.members)
+    let plain : unwrap_or (first_of_list (filter_map version_line ls)) false ≡ false = ap (λ bs. unwrap_or (first_of_list bs) false) h.versions ∙ first_plain r.version in
+    rw (times, machines, hosts, bytes, plain, retries, h.readings, h.paths, h.areas, h.leases, h.members)
     (ap (λ z. record (header_now r) { geometry = z }) (sizes_are r.sizes r.hosts h.sized h.unpaired))
 
 -- ---- refusals
@@ -294,10 +315,12 @@ takes_sizes r sector mebibytes place possible none =
     let given = some_hosts r.hosts (least_of r 4 place 3 (omega arith)) possible in
     let alone = no_sizes r.sizes (room_of r 4 place) in
     let hosts : (sizes_now r).hosts ≡ given.0 = ap (λ o. (unwrap_or o (sizes default_sector default_area (unwrap_or r.hosts 0))).hosts) alone ∙ ap (λ h. unwrap_or h 0) given.1 in
+    let plain : (sizes_now r).paired ≡ false = ap (λ o. (unwrap_or o (sizes default_sector default_area (unwrap_or r.hosts 0))).paired) alone in
+    let tests : Bool → ℕ → List (Bool × Refusal) = λ paired n. (is_none (most_ids sector area), LimitGeometry) ∷ (some_is (λ most. nat_lt (roomy paired most) n) (most_ids sector area), LimitIds) ∷ [] in
     record {
       taken = sizes sector area given.0;
-      is = ap (sizes_of sector area) hosts ∙ sizes_taken sector area given.0 given.2 (subst (λ (n : ℕ). first_that ((is_none (most_ids sector area), LimitGeometry)
-          ∷ (some_is (λ most. nat_lt most n) (most_ids sector area), LimitIds) ∷ []) ≡ None) hosts none);
+      is = ap (sizes_of sector area) hosts
+          ∙ sizes_taken sector area given.0 given.2 (subst (λ (n : ℕ). first_that (tests false n) ≡ None) hosts (subst (λ (b : Bool). first_that (tests b (sizes_now r).hosts) ≡ None) plain none));
       bytes = refl;
       hosts = given.1;
       plain = refl;
@@ -364,28 +387,30 @@ members_with : (r : HeaderSoFar) (ls : List HeaderLine) (l : HeaderLine) → Sta
 members_with r ls (MemberLine s) h place = one_more_kept member_line ls (MemberLine s) r.sessions s refl h.members
 members_with r ls l h place = no_more_kept member_line ls l r.sessions refl h.members
 
-none_yet : (version : Bool) (n : ℕ) → nat_lt (if version then 1 else 0) 1 ≡ true → n ≡ (if version then 1 else 0) → n + 1 ≡ 1
-none_yet true n room e = absurd cc
-none_yet false n room e = omega arith
+none_yet : (version : Bool) → nat_lt (if version then 1 else 0) 1 ≡ true → versions_of version ≡ []
+none_yet true room = absurd cc
+none_yet false room = refl
 
 same_count : (m n : ℕ) → m ≡ n → m + 0 ≡ n
 same_count m n e = omega arith
 
-versions_with : (r : HeaderSoFar) (ls : List HeaderLine) (l : HeaderLine) → Stands r ls → is_in_place r (rank l) ≡ true
-    → count_of_rank (ls ++ l ∷ []) 0 ≡ (if (so_far_with r l).version then 1 else 0)
-versions_with r ls VersionLine h place = count_with 0 ls VersionLine ∙ none_yet r.version (count_of_rank ls 0) (room_of r 0 place) h.versions
-versions_with r ls l h place = count_with 0 ls l ∙ same_count (count_of_rank ls 0) _ h.versions
+versions_with : (r : HeaderSoFar) (ls : List HeaderLine) (l : HeaderLine) → Stands r ls → is_in_place r (rank l) ≡ true → IsPlain l
+    → filter_map version_line (ls ++ l ∷ []) ≡ versions_of (so_far_with r l).version
+versions_with r ls (VersionLine true) h place plain = absurd cc
+versions_with r ls (VersionLine false) h place plain =
+    one_more_kept version_line ls (VersionLine false) [] false refl (h.versions ∙ none_yet r.version (room_of r 0 place))
+versions_with r ls l h place plain = no_more_kept version_line ls l (versions_of r.version) refl h.versions
 
 begins_with : (r : HeaderSoFar) (ls : List HeaderLine) (l : HeaderLine) → Stands r ls → (rank l ≡ 11 → ⊥) → count_of_rank (ls ++ l ∷ []) 11 ≡ 0
 begins_with r ls BeginLine h not_begin = absurd (not_begin refl)
 begins_with r ls l h not_begin = count_with 11 ls l ∙ same_count (count_of_rank ls 11) _ h.begins
 
 stands_with : (r : HeaderSoFar) (ls : List HeaderLine) (l : HeaderLine) → Stands r ls → is_in_place r (rank l) ≡ true → (rank l ≡ 11 → ⊥) → IfSome r.hosts IsHosts
-    → first_that (header_tests (header_now r) l) ≡ None → Stands (so_far_with r l) (ls ++ l ∷ [])
-stands_with r ls l h place not_begin possible none =
+    → first_that (header_tests (header_now r) l) ≡ None → IsPlain l → Stands (so_far_with r l) (ls ++ l ∷ [])
+stands_with r ls l h place not_begin possible none plain =
     record {
       order = (λ k. order_with r ls l h (not_before r (rank l) place) k);
-      versions = versions_with r ls l h place;
+      versions = versions_with r ls l h place plain;
       timings = timings_with r ls l h place;
       numbers = numbers_with r ls l h place;
       ids = ids_with r ls l h place;
@@ -471,7 +496,7 @@ answer_is r ls line h =
 -- What is kept stands for the lines then.
 not_last : (l : HeaderLine) → is_begin l ≡ false → rank l ≡ 11 → ⊥
 not_last BeginLine h e = absurd cc
-not_last VersionLine h e = omega arith
+not_last (VersionLine paired) h e = omega arith
 not_last (TimeLine io fire land rho grace) h e = omega arith
 not_last (HostsLine m) h e = omega arith
 not_last (IdsLine n) h e = omega arith
@@ -491,32 +516,33 @@ others_pass : (t : Bool) (tests : List (Bool × Refusal)) → first_that ((not t
 others_pass true tests none = none
 others_pass false tests none = absurd cc
 
-stood_for : (r : HeaderSoFar) (ls : List HeaderLine) (l : HeaderLine) (why : Option Refusal) (begin : Bool) → Stands r ls → IfSome r.hosts IsHosts → refusal_now r l ≡ why → is_begin l ≡ begin
+stood_for : (r : HeaderSoFar) (ls : List HeaderLine) (l : HeaderLine) (why : Option Refusal) (begin : Bool) → Stands r ls → IfSome r.hosts IsHosts → IsPlain l → refusal_now r l ≡ why → is_begin l ≡ begin
     → Stands (elim why [ Some w ↦ r | None ↦ elim begin [ true ↦ no_lines | false ↦ so_far_with r l ] ])
     (elim why [ Some w ↦ ls | None ↦ elim begin [ true ↦ [] | false ↦ with_line ls (Some l) ] ])
-stood_for r ls l (Some w) begin h possible why is = h
-stood_for r ls l None true h possible why is = stands_at_first
-stood_for r ls l None false h possible why is =
+stood_for r ls l (Some w) begin h possible plain why is = h
+stood_for r ls l None true h possible plain why is = stands_at_first
+stood_for r ls l None false h possible plain why is =
     stands_with r ls l h (in_place (is_in_place r (rank l)) (header_tests (header_now r) l) why) (not_last l is) possible
-    (others_pass (is_in_place r (rank l)) (header_tests (header_now r) l) why)
+    (others_pass (is_in_place r (rank l)) (header_tests (header_now r) l) why) plain
 
-stood_after : (r : HeaderSoFar) (ls : List HeaderLine) → Stands r ls → IfSome r.hosts IsHosts → (read : Option HeaderLine)
+stood_after : (r : HeaderSoFar) (ls : List HeaderLine) → Stands r ls → IfSome r.hosts IsHosts → (read : Option HeaderLine) → IfSome read IsPlain
     → Stands (kept_after r read) (elim (header_line_refusal whole_language ls read) [
       | Some why ↦ ls
       | None ↦ elim (some_is is_begin read) [ true ↦ [] | false ↦ with_line ls read ]
     ])
-stood_after r ls h possible None = h
-stood_after r ls h possible (Some l) =
+stood_after r ls h possible None plain = h
+stood_after r ls h possible (Some l) plain =
     let kept : HeaderSoFar = kept_after r (Some l) in
     let P : Option Refusal → Type 0 = λ o. Stands kept (elim o [
       | Some why ↦ ls
       | None ↦ elim (is_begin l) [ true ↦ [] | false ↦ with_line ls (Some l) ]
     ]) in
-    subst P (sym (refusal_is r ls h l)) (stood_for r ls l (refusal_now r l) (is_begin l) h possible refl refl)
+    subst P (sym (refusal_is r ls h l)) (stood_for r ls l (refusal_now r l) (is_begin l) h possible plain refl refl)
 
 pub stands_after : (r : HeaderSoFar) (ls : List HeaderLine) (line : List ℕ) → Stands r ls → IfSome r.hosts IsHosts → Stands (so_far_after r line) (lines_after ls line)
 stands_after r ls line h possible =
-    let read : Option HeaderLine = header_line_in whole_language (header_of default_sector default_area ls).geometry.area line in
+    let made : Option HeaderLine = made_by (header_forms (header_of default_sector default_area ls).geometry.area) (words_of line) in
+    let read : Option HeaderLine = without_pairs made in
     subst (λ (kept : HeaderSoFar). Stands kept (lines_after ls line))
     (ap (λ area. elim (is_skipped line) [ true ↦ r | false ↦ kept_after r (header_line_in whole_language area line) ]) (sym (area_is r ls h)))
     (elim (is_skipped line) as (λ t. Stands (elim t [ true ↦ r | false ↦ kept_after r read ]) (elim t [
@@ -525,4 +551,4 @@ stands_after r ls line h possible =
         | Some why ↦ ls
         | None ↦ elim (some_is is_begin read) [ true ↦ [] | false ↦ with_line ls read ]
       ]
-    ])) [ true ↦ h | false ↦ stood_after r ls h possible read ])
+    ])) [ true ↦ h | false ↦ stood_after r ls h possible read (plain_taken made) ])

@@ -2,11 +2,11 @@
 use Rattle.sl_report.specs.ScheduleLines as lines
 use Rattle.sl_schedule.specs.declared.header_line.HeaderLine.TheVariants.{Areas, Begin, Clock, Disk, Hosts, Lockspace, Machines, Resource, Retries, Session, Times, Version}
 use Rattle.sl_schedule.specs.declared.header_line.HeaderLine.{HeaderLine}
-use Rattle.std.specs.Prelude.{Err, Ok, Result, ℕ, ◌≤◌}
+use Rattle.std.specs.Prelude.{Err, Ok, Result, false, ℕ, ◌≤◌}
 
 -- The line that it stands for.
 abbrev pub header_seen : HeaderLine → lines.HeaderLine
-header_seen Version = lines.VersionLine
+header_seen Version = lines.VersionLine false
 header_seen (Times t) = lines.TimeLine t.io t.fire t.land t.rho t.grace
 header_seen (Machines m) = lines.HostsLine m
 header_seen (Hosts n) = lines.IdsLine n

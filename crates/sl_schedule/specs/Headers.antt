@@ -2,7 +2,7 @@
 use Rattle.sl_area.specs.Layouts.{Sizes, is_geometry, sizes}
 use Rattle.sl_report.specs.Languages.{is_skipped, least_lines, most_lines, whole_language}
 use Rattle.sl_report.specs.ReadingLines.{header_line_in}
-use Rattle.sl_report.specs.ScheduleLines.{AreaLine, BeginLine, ClockLine, DiskLine, GeometryLine, HeaderLine, HostsLine, IdsLine, LeaseLine, LvmLine, MemberLine, TimeLine, VersionLine, area_line, clock_line, count_of_rank, disk_line, geometry_line, header_of, header_tests, hosts_line, ids_line, lease_line, member_line, no_timing, rank, retries_line, timing_line}
+use Rattle.sl_report.specs.ScheduleLines.{AreaLine, BeginLine, ClockLine, DiskLine, GeometryLine, HeaderLine, HostsLine, IdsLine, LeaseLine, LvmLine, MemberLine, TimeLine, VersionLine, area_line, clock_line, count_of_rank, disk_line, geometry_line, header_of, header_tests, hosts_line, ids_line, lease_line, member_line, no_timing, rank, retries_line, timing_line, version_line}
 use Rattle.sl_report.specs.Schedules.{default_area, default_sector, header_line_refusal, is_begin, with_line}
 use Rattle.sl_run.specs.Worlds.{first_that, mebibyte}
 use Rattle.sl_run.specs.declared.event.Refusal.TheVariants.{Syntax}
@@ -66,6 +66,10 @@ pub record ArePossible (times : Option (TimingNumbers × ℕ)) (hosts : Option �
   pub timing : IfSome times (λ t. IsTiming t.0)
   pub number : IfSome hosts IsHosts
 
+-- What first lines give, where there is one or none: that areas have no pairs.
+abbrev pub versions_of : Bool → List Bool
+versions_of version = if version then false ∷ [] else []
+
 -- The bytes of sectors and areas.
 abbrev pub bytes_of : Sizes → ℕ × ℕ
 bytes_of z = (z.sector, z.area)
@@ -73,7 +77,7 @@ bytes_of z = (z.sector, z.area)
 -- What is kept stands for these lines.
 pub record Stands (r : HeaderSoFar) (ls : List HeaderLine) : Type 0 where
   pub order : (k : ℕ) → list_all (λ l. nat_le (rank l) k) ls ≡ nat_le r.last k
-  pub versions : count_of_rank ls 0 ≡ (if r.version then 1 else 0)
+  pub versions : filter_map version_line ls ≡ versions_of r.version
   pub timings : filter_map timing_line ls ≡ option_to_list r.times
   pub numbers : filter_map hosts_line ls ≡ option_to_list r.machines
   pub ids : filter_map ids_line ls ≡ option_to_list r.hosts
@@ -155,7 +159,7 @@ sizes_of sector area hosts = choose (is_geometry (sizes sector area hosts)) (siz
 
 -- What the lines say, with one more; the line's place apart.
 abbrev pub values_with : HeaderSoFar → HeaderLine → HeaderSoFar
-values_with r VersionLine = record r { version = true }
+values_with r (VersionLine paired) = record r { version = true }
 values_with r (TimeLine io fire land rho grace) = record r { times = Some (record { io = io; fire = fire; land = land; rho = rho }, grace) }
 values_with r (HostsLine m) = record r { machines = Some m }
 values_with r (IdsLine n) = record r { hosts = Some n }
@@ -177,6 +181,10 @@ abbrev pub IsPossible : HeaderLine → Type 0
 IsPossible (TimeLine io fire land rho grace) = IsTiming (record { io = io; fire = fire; land = land; rho = rho })
 IsPossible (IdsLine n) = IsHosts n
 IsPossible l = Unit {0}
+
+-- No area has pairs, if the line says so much.
+abbrev pub IsPlain : HeaderLine → Type 0
+IsPlain l = IfSome (version_line l) (λ paired. paired ≡ false)
 
 -- ---- one more line, whatever it is
 

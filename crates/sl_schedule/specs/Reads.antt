@@ -1,5 +1,5 @@
 -- Lines that are read word by word: the parts of events and of header lines, and readers of one, two or three of them.
-use Rattle.sl_report.specs.ScheduleLines.{is_ok_word, is_positive_word}
+use Rattle.sl_report.specs.ScheduleLines.{is_ok_word, is_positive_word, is_version_word}
 use Rattle.sl_text.specs.Forms.{exactly}
 use Rattle.sl_text.specs.Names.{is_name, is_path}
 use Rattle.sl_text.specs.Numbers.{capped_long, capped_short, is_number_text, is_number_that, number_of}
@@ -48,6 +48,10 @@ reading_part = record { passes = is_number_that (λ n. nat_lt n (10 ^ 12)); valu
 -- Just this text.
 abbrev pub text_part : List ℕ → Part (Unit {0})
 text_part text = record { passes = exactly text; value = λ w. tt }
+
+-- Whether areas have pairs.
+abbrev pub version_part : Part Bool
+version_part = record { passes = is_version_word; value = exactly (codes "2") }
 
 -- Whether something went well.
 abbrev pub ok_part : Part Bool

@@ -11,7 +11,7 @@ ghost use Rattle.sl_report.specs.Schedules.{default_area, default_sector, is_beg
 ghost use Rattle.sl_run.specs.Worlds.{first_that};
 ghost use Rattle.sl_schedule.specs.HeaderReads.{header_seen, HasHosts, IsHosts};
 ghost use Rattle.sl_schedule.specs.Headers as headers;
-ghost use Rattle.sl_area.specs.Layouts.{sizes as sizes_with};
+ghost use Rattle.sl_area.specs.Layouts.{roomy, sizes as sizes_with};
 ghost use Rattle.sl_time.specs.Times.{IsTiming};
 ghost use Rattle.std.specs.List.{list_all, list_any, range_with_len};
 ghost use Rattle.std.specs.Option.{option_to_list};
@@ -38,7 +38,7 @@ const SECTOR: u32 = 512;
 const AREA: u64 = 1_048_576;
 
 /// The most hosts of a run.
-const MOST_HOSTS: u64 = 2000;
+const MOST_HOSTS: u32 = 2000;
 
 /// What one more line makes of a header.
 #[derive(Drop)]
@@ -198,6 +198,14 @@ fn sizes_or(sizes: Option<Geometry>, hosts: u32) -> Geometry
     }
 }
 
+/// For how many hosts areas have room that have it for so many where a host's block has one sector.
+fn roomy(paired: bool, most: u32) -> u32
+    ensures exact { result ≡ roomy paired most }
+    ensures few { result ≤ most }
+{
+    if paired { most / 2 } else { most }
+}
+
 /// The bytes of an area.
 fn area_of(sizes: &Geometry) -> u64
     ensures exact { result ≡ sizes.now.area }
@@ -302,13 +310,23 @@ impl HeaderReader {
         }
     }
 
+    /// Whether areas have pairs so far.
+    fn is_paired(&self) -> bool
+        ensures { result ≡ (headers.sizes_now self.now).paired }
+    {
+        match &self.sizes {
+            Some(sizes) => sizes.is_paired(),
+            None => false,
+        }
+    }
+
     /// Why a number of hosts may not be.
     #[tactic(auto, unfolding(sl_report::specs::ScheduleLines::header_tests))]
     fn hosts_refusal(&self, hosts: u64) -> Option<Refusal>
         ensures exact { result ≡ first_that (header_tests (headers.header_now self.now) (IdsLine hosts)) }
         ensures few { IfNone result (hosts ≤ 2000) }
     {
-        if MOST_HOSTS < hosts {
+        if u64::from(roomy(self.is_paired(), MOST_HOSTS)) < hosts {
             return Some(Refusal::LimitIds);
         }
         None
@@ -322,7 +340,7 @@ impl HeaderReader {
         let Some((_, _, most)) = row_of(areas) else {
             return Some(Refusal::LimitGeometry);
         };
-        if most < self.hosts_now() {
+        if roomy(self.is_paired(), most) < self.hosts_now() {
             return Some(Refusal::LimitIds);
         }
         None

@@ -7,7 +7,7 @@ ghost use Rattle.sl_schedule.specs.HeaderReads.{header_seen, result_seen, HasHos
 ghost use Rattle.sl_schedule.specs.Reads as reads;
 ghost use Rattle.sl_text.specs.Walks.{five_read, four_read, read_each};
 ghost use Rattle.std.specs.Option.{option_map};
-ghost use Rattle.std.specs.Prelude.{codes, [], IfOk, IfSome, ◌<◌, ◌≡◌};
+ghost use Rattle.std.specs.Prelude.{codes, false, [], IfOk, IfSome, ◌<◌, ◌≡◌};
 
 use crate::parts::{is_verb, next_kept, next_multiple, next_positive, next_reading, next_within};
 use sl_run::{Disk, FirstReading, LockspaceLine, ResourceLine, SessionLine};
@@ -50,7 +50,7 @@ pub enum HeaderLine {
 /// `sanlock 1`.
 fn read_version(words: &mut Words) -> Result<HeaderLine, usize>
     ensures hosts { IfOk result (λ l. HasHosts (header_seen l)) }
-    ensures exact { result_seen result ≡ reads.one_read (reads.text_part (codes "1")) (λ _. lines.VersionLine) words.old }
+    ensures exact { result_seen result ≡ reads.one_read (reads.text_part (codes "1")) (λ _. lines.VersionLine false) words.old }
 {
     words.expect(b"1")?;
     words.finish()?;
