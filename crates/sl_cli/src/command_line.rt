@@ -66,14 +66,15 @@ fn with_word<'a>(
     command.arg(Arg::new(alloc, id))
 }
 
-/// `gen`, with its seed, its hosts and its events.
+/// `gen`, with its seed, its hosts, its events and its format.
 fn generate<'a>(alloc: Global) -> Result<Command<'a>, AllocError>
     ensures app { IfOk result (λ c. app_of c ≡ gen_app) }
     ensures local { IfOk result (λ c. (fields_of c).has_globals ≡ false) }
 {
     let command = bare_gen(alloc)?;
     let command = with_word(alloc, command, "hosts")?;
-    with_word(alloc, command, "events")
+    let command = with_word(alloc, command, "events")?;
+    with_word(alloc, command, "format")
 }
 
 /// `live`, with its folder.

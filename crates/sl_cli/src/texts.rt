@@ -5,8 +5,9 @@ pub const HELP: &str = "\
 usage: sanlock COMMAND
 
   replay                   run the schedule on standard input, print its report
-  gen SEED HOSTS EVENTS    run the schedule of a seed, print the last line of its
-                           report
+  gen SEED HOSTS EVENTS [2]
+                           run the schedule of a seed, print the last line of its
+                           report; with 2 each host's block has a pair of sectors
   live FOLDER              run the live script on standard input, with disks in
                            files below FOLDER and child programs; it waits for
                            the children that it starts, and prints at the end
