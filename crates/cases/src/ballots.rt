@@ -1,7 +1,8 @@
 //! Ballots.
 ghost use Rattle.std.specs.Prelude.{IsTrue, ◌<◌, ◌^◌, ◌≤◌};
 
-use crate::word::{number_at, number_of, part, short_at, short_of, word};
+use crate::said::{said, said_two};
+use crate::word::{number_at, number_of, numbers_from, part, short_at, short_of, word};
 use sl_ballot::{
     Ballot, BallotStep, Limit, ballot_run, instance_of, next_mbal, stop_of, value_after_read,
 };
@@ -36,15 +37,20 @@ fn blocks_of(alloc: Global, text: &str) -> Result<Vec<Block>, AllocError> {
     Ok(blocks)
 }
 
+/// A block, or none where it is torn.
+fn block_or_torn(text: &str) -> Option<Block> {
+    if text == "-" {
+        None
+    } else {
+        Some(block_of(text))
+    }
+}
+
 /// The blocks of a read, in which one may be torn.
 fn read_of(alloc: Global, text: &str) -> Result<Vec<Option<Block>>, AllocError> {
     let mut blocks = Vec::new(alloc);
     for block in text.split(',') {
-        blocks.push(if block == "-" {
-            None
-        } else {
-            Some(block_of(block))
-        })?;
+        blocks.push(block_or_torn(block))?;
     }
     Ok(blocks)
 }
@@ -82,14 +88,13 @@ fn can_be(me: Owner, hosts: u32, n: u64, own: &Block) -> bool
 fn outcome(alloc: Global, step: Result<BallotStep, Limit>) -> Result<String, AllocError> {
     match step {
         Ok(BallotStep::Go(block)) => block_text(alloc, block),
-        Ok(BallotStep::Won) => format!(in alloc; "won"),
-        Ok(BallotStep::Lost(owner)) => format!(in alloc;
-            "lost to {} {}",
-            owner.id, owner.generation
-        ),
-        Ok(BallotStep::Rival { host, mbal }) => format!(in alloc; "rival {host} {mbal}"),
-        Ok(BallotStep::Ahead { host, lver }) => format!(in alloc; "ahead {host} {lver}"),
-        Err(Limit) => format!(in alloc; "limit"),
+        Ok(BallotStep::Won) => String::from_str(alloc, "won"),
+        Ok(BallotStep::Lost(owner)) => {
+            said_two(alloc, "lost to", u64::from(owner.id), owner.generation)
+        }
+        Ok(BallotStep::Rival { host, mbal }) => said_two(alloc, "rival", u64::from(host), mbal),
+        Ok(BallotStep::Ahead { host, lver }) => said_two(alloc, "ahead", u64::from(host), lver),
+        Err(Limit) => String::from_str(alloc, "limit"),
     }
 }
 
@@ -98,7 +103,7 @@ pub fn ballot(alloc: Global, text: &str) -> Result<String, AllocError> {
     let (me, hosts, n) = (session(text), short_at(text, 2), number_at(text, 3));
     let own = block_of(word(text, 4));
     if !can_be(me, hosts, n, &own) {
-        return format!(in alloc; "none");
+        return String::from_str(alloc, "none");
     }
     let seen = blocks_of(alloc, word(text, 5))?;
     let first = blocks_of(alloc, word(text, 6))?;
@@ -111,28 +116,35 @@ pub fn begin(alloc: Global, text: &str) -> Result<String, AllocError> {
     let (me, hosts, n) = (session(text), short_at(text, 2), number_at(text, 3));
     let own = block_of(word(text, 4));
     if !can_be(me, hosts, n, &own) {
-        return format!(in alloc; "none");
+        return String::from_str(alloc, "none");
     }
     let seen = blocks_of(alloc, word(text, 5))?;
     match Ballot::begin(me, hosts, n, own, &seen) {
         Ok(ballot) => block_text(alloc, ballot.block()),
-        Err(Limit) => format!(in alloc; "limit"),
+        Err(Limit) => String::from_str(alloc, "limit"),
     }
 }
 
 /// The next number of a host, of so many, behind the numbers that were seen.
 pub fn mbal(alloc: Global, text: &str) -> Result<String, AllocError> {
-    let mut seen = Vec::new(alloc);
-    for number in text.split(' ').skip(2) {
-        seen.push(number_of(number))?;
-    }
+    let seen = numbers_from(alloc, text, 2)?;
     let hosts = short_at(text, 0);
     if hosts < 1 {
-        return format!(in alloc; "none");
+        return String::from_str(alloc, "none");
     }
     match next_mbal(hosts, short_at(text, 1), &seen) {
         Ok(number) => format!(in alloc; "{number}"),
-        Err(Limit) => format!(in alloc; "limit"),
+        Err(Limit) => String::from_str(alloc, "limit"),
+    }
+}
+
+/// What stops a ballot, if anything does.
+fn stop_text(alloc: Global, stop: Option<Stop>) -> Result<String, AllocError> {
+    match stop {
+        Some(Stop::BlockTorn { host }) => said(alloc, "torn", u64::from(host)),
+        Some(Stop::BlockAhead { host, lver }) => said_two(alloc, "ahead", u64::from(host), lver),
+        Some(Stop::BlockRival { host, mbal }) => said_two(alloc, "rival", u64::from(host), mbal),
+        None => String::from_str(alloc, "goes on"),
     }
 }
 
@@ -140,14 +152,9 @@ pub fn mbal(alloc: Global, text: &str) -> Result<String, AllocError> {
 pub fn stop(alloc: Global, text: &str) -> Result<String, AllocError> {
     let read = read_of(alloc, word(text, 1))?;
     if read.len() >= 1 << 32 {
-        return format!(in alloc; "none");
+        return String::from_str(alloc, "none");
     }
-    match stop_of(&block_of(word(text, 0)), &read) {
-        Some(Stop::BlockTorn { host }) => format!(in alloc; "torn {host}"),
-        Some(Stop::BlockAhead { host, lver }) => format!(in alloc; "ahead {host} {lver}"),
-        Some(Stop::BlockRival { host, mbal }) => format!(in alloc; "rival {host} {mbal}"),
-        None => format!(in alloc; "goes on"),
-    }
+    stop_text(alloc, stop_of(&block_of(word(text, 0)), &read))
 }
 
 /// The value that a session proposes in an instance, with this own block, after this read.
@@ -178,8 +185,10 @@ fn begun(
         generation: 1,
     };
     match instance_of(is_over, me, leader, freed, top) {
-        Instance::Begins { instance } => format!(in alloc; "begins {instance}"),
-        Instance::HeldAlready { lver, owner } => format!(in alloc; "held {lver} {}", owner.id),
+        Instance::Begins { instance } => said(alloc, "begins", instance),
+        Instance::HeldAlready { lver, owner } => {
+            said_two(alloc, "held", lver, u64::from(owner.id))
+        }
     }
 }
 
@@ -187,7 +196,7 @@ fn begun(
 /// its owner, of generation 1, the greatest instance that the host freed, and the greatest of a block.
 pub fn instance(alloc: Global, text: &str) -> Result<String, AllocError> {
     let Some(name) = Name::new(b"r") else {
-        return format!(in alloc; "no name");
+        return String::from_str(alloc, "no name");
     };
     let leader = Leader {
         held: word(text, 1) == "held",
@@ -200,7 +209,7 @@ pub fn instance(alloc: Global, text: &str) -> Result<String, AllocError> {
     };
     let freed = number_at(text, 3);
     if freed >= 1 << 63 {
-        return format!(in alloc; "none");
+        return String::from_str(alloc, "none");
     }
     begun(
         alloc,

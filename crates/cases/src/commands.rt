@@ -1,24 +1,29 @@
 //! Commands and default names.
 
+use crate::said::said;
 use crate::word::shown;
 use sl_area::Geometry;
 use sl_command::{parse_command, push_command_text};
 use sl_text::hex::read_hex;
+use sl_trace::Command;
 use std::alloc::{AllocError, Global};
+
+/// A command as it is written.
+fn written(alloc: Global, command: &Command) -> Result<String, AllocError> {
+    let mut text = Vec::new(alloc);
+    push_command_text(&mut text, command)?;
+    let text = shown(alloc, &text)?;
+    format!(in alloc; "is '{text}'")
+}
 
 /// The command as it is written, in a run of three hosts; or the column at which it is refused.
 pub fn command(alloc: Global, text: &str) -> Result<String, AllocError> {
     let Ok(run) = Geometry::new(512, 1_048_576, 3) else {
-        return format!(in alloc; "no run");
+        return String::from_str(alloc, "no run");
     };
     match parse_command(text.as_bytes(), &run) {
-        Ok(command) => {
-            let mut again = Vec::new(alloc);
-            push_command_text(&mut again, &command)?;
-            let again = shown(alloc, &again)?;
-            format!(in alloc; "is '{again}'")
-        }
-        Err(bad) => format!(in alloc; "column {}", bad.column),
+        Ok(command) => written(alloc, &command),
+        Err(bad) => said(alloc, "column", bad.column as u64),
     }
 }
 

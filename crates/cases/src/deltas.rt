@@ -1,6 +1,7 @@
 //! A delta lease of id 1 of two, with io 100, fire 600, land 100 and rho 0.
 
 use crate::records::sector_of;
+use crate::said::{add, said};
 use crate::watching::sector_named;
 use crate::word::{number_of, part};
 use sl_area::Geometry;
@@ -62,16 +63,23 @@ fn step_text(step: JoinStep) -> &'static str {
     }
 }
 
-/// A record: its state, generation, seq and stamp.
-fn record_text(alloc: Global, record: &DeltaRec) -> Result<String, AllocError> {
-    let state = match record.state {
+/// A state of a record.
+fn state_text(state: DeltaState) -> &'static str {
+    match state {
         DeltaState::Free => "free",
         DeltaState::Claimed => "claimed",
         DeltaState::Live => "live",
-    };
+    }
+}
+
+/// What is done with a record: its state, generation, seq and stamp.
+fn record_text(alloc: Global, done: &str, record: &DeltaRec) -> Result<String, AllocError> {
     format!(in alloc;
-        "{} {} {} {}",
-        state, record.generation, record.seq, record.stamp
+        "{done}{} {} {} {}",
+        state_text(record.state),
+        record.generation,
+        record.seq,
+        record.stamp
     )
 }
 
@@ -79,13 +87,10 @@ fn record_text(alloc: Global, record: &DeltaRec) -> Result<String, AllocError> {
 fn call_text(alloc: Global, call: &DeltaCall) -> Result<String, AllocError> {
     match call {
         DeltaCall::ReadOwn(step) => format!(in alloc; " read {}", step_text(*step)),
-        DeltaCall::WriteOwn { step: _, record } => format!(in alloc;
-            " write {}",
-            record_text(alloc, record)?
-        ),
-        DeltaCall::RenewOwn(record) => format!(in alloc; " renew {}", record_text(alloc, record)?),
-        DeltaCall::ReadAll => format!(in alloc; " read all"),
-        DeltaCall::FreeOwn(record) => format!(in alloc; " free {}", record_text(alloc, record)?),
+        DeltaCall::WriteOwn { step: _, record } => record_text(alloc, " write ", record),
+        DeltaCall::RenewOwn(record) => record_text(alloc, " renew ", record),
+        DeltaCall::ReadAll => String::from_str(alloc, " read all"),
+        DeltaCall::FreeOwn(record) => record_text(alloc, " free ", record),
     }
 }
 
@@ -95,12 +100,12 @@ fn move_text(alloc: Global, moved: &Move) -> Result<String, AllocError> {
         Move::Register {
             lockspace: _,
             expiry,
-        } => format!(in alloc; " register {expiry}"),
+        } => said(alloc, " register", *expiry),
         Move::Renew {
             lockspace: _,
             expiry,
-        } => format!(in alloc; " move {expiry}"),
-        Move::Unregister { lockspace: _ } => format!(in alloc; " unregister"),
+        } => said(alloc, " move", *expiry),
+        Move::Unregister { lockspace: _ } => String::from_str(alloc, " unregister"),
     }
 }
 
@@ -125,25 +130,42 @@ fn reply_text(reply: &Reply) -> &'static str {
 /// An outcome.
 fn outcome_text(alloc: Global, outcome: &Outcome) -> Result<String, AllocError> {
     match outcome {
-        Outcome::Joined { generation } => format!(in alloc; " joined {generation}"),
+        Outcome::Joined { generation } => said(alloc, " joined", *generation),
         Outcome::NotJoined(reply) => format!(in alloc; " refused {}", reply_text(reply)),
         Outcome::Left(reply) => format!(in alloc; " left {}", reply_text(reply)),
     }
 }
 
+/// A step's move, if it has one.
+fn tell_move(told: &mut String, alloc: Global, out: &DeltaOut) -> Result<(), AllocError> {
+    match &out.moved {
+        Some(moved) => add(told, move_text(alloc, moved)?, ""),
+        None => Ok(()),
+    }
+}
+
+/// A step's call, if it has one.
+fn tell_call(told: &mut String, alloc: Global, out: &DeltaOut) -> Result<(), AllocError> {
+    match &out.call {
+        Some(call) => add(told, call_text(alloc, call)?, ""),
+        None => Ok(()),
+    }
+}
+
+/// A step's outcome, if it has one.
+fn tell_outcome(told: &mut String, alloc: Global, out: &DeltaOut) -> Result<(), AllocError> {
+    match &out.outcome {
+        Some(outcome) => add(told, outcome_text(alloc, outcome)?, ""),
+        None => Ok(()),
+    }
+}
+
 /// What a step gives.
-fn out_text(alloc: Global, out: &DeltaOut) -> Result<String, AllocError> {
-    let mut text = format!(in alloc; "{}", if out.recovers { " recovers" } else { "" })?;
-    if let Some(moved) = &out.moved {
-        text.push_str(move_text(alloc, moved)?.as_str())?;
-    }
-    if let Some(call) = &out.call {
-        text.push_str(call_text(alloc, call)?.as_str())?;
-    }
-    if let Some(outcome) = &out.outcome {
-        text.push_str(outcome_text(alloc, outcome)?.as_str())?;
-    }
-    Ok(text)
+fn tell_out(told: &mut String, alloc: Global, out: &DeltaOut) -> Result<(), AllocError> {
+    told.push_str(if out.recovers { " recovers" } else { "" })?;
+    tell_move(told, alloc, out)?;
+    tell_call(told, alloc, out)?;
+    tell_outcome(told, alloc, out)
 }
 
 /// A stage.
@@ -162,42 +184,71 @@ fn stage_text(stage: Stage) -> &'static str {
     }
 }
 
+/// What the lease gives at this reading for an input, if that fits.
+fn tell_step(
+    told: &mut String,
+    alloc: Global,
+    lease: &mut DeltaLease,
+    now: u64,
+    input: DeltaIn,
+) -> Result<(), AllocError> {
+    if lease.fits(&input) && now < MOMENTS {
+        tell_out(told, alloc, &lease.step(alloc, now, input)?)
+    } else {
+        told.push_str(" unfit")
+    }
+}
+
+/// The reading of the last renewal.
+fn tell_last(told: &mut String, last: Option<u64>) -> Result<(), AllocError> {
+    match last {
+        Some(renewed) => write!(told, " {renewed}"),
+        None => told.push_str(" none"),
+    }
+}
+
 /// What the lease tells at a word: `stage`, `last`, or an input `KIND:NOW..`.
-fn told(
+fn tell(
+    told: &mut String,
     alloc: Global,
     lease: &mut DeltaLease,
     text: &str,
     word: &str,
-) -> Result<String, AllocError> {
-    if word == "stage" {
-        return format!(in alloc; " {}", stage_text(lease.state()));
+) -> Result<(), AllocError> {
+    match word {
+        "stage" => write!(told, " {}", stage_text(lease.state())),
+        "last" => tell_last(told, lease.last_renewal()),
+        _ => {
+            let input = input_of(alloc, text, word)?;
+            tell_step(told, alloc, lease, number_of(part(word, ':', 1)), input)
+        }
     }
-    if word == "last" {
-        return match lease.last_renewal() {
-            Some(renewed) => format!(in alloc; " {renewed}"),
-            None => format!(in alloc; " none"),
-        };
+}
+
+/// .. if the word tells no sector.
+fn tell_word(
+    told: &mut String,
+    alloc: Global,
+    lease: &mut DeltaLease,
+    text: &str,
+    word: &str,
+) -> Result<(), AllocError> {
+    if part(word, '=', 1).is_empty() {
+        tell(told, alloc, lease, text, word)?;
+        told.push_str(";")?;
     }
-    let now = number_of(part(word, ':', 1));
-    let input = input_of(alloc, text, word)?;
-    if !lease.fits(&input) || now >= MOMENTS {
-        return format!(in alloc; " unfit");
-    }
-    out_text(alloc, &lease.step(alloc, now, input)?)
+    Ok(())
 }
 
 /// What a delta lease gives at these words: the first is `start` or `joined:NOW`; a word `NAME=..` tells a sector, in which later words name
 /// what is read.
 pub fn delta(alloc: Global, text: &str) -> Result<String, AllocError> {
     let Some(mut lease) = lease_of(part(text, ' ', 0)) else {
-        return format!(in alloc; "no run");
+        return String::from_str(alloc, "no run");
     };
     let mut all = String::new(alloc);
     for word in text.split(' ').skip(1) {
-        if part(word, '=', 1).is_empty() {
-            all.push_str(told(alloc, &mut lease, text, word)?.as_str())?;
-            all.push_str(";")?;
-        }
+        tell_word(&mut all, alloc, &mut lease, text, word)?;
     }
     Ok(all)
 }

@@ -1,11 +1,13 @@
 //! Lines of schedules.
 
+use crate::said::{add, said, said_two};
 use crate::word::{number_at, short_at, shown, word};
-use sl_run::{Event, Refusal};
+use sl_run::{Event, Header, Refusal};
 use sl_schedule::{
-    Lines, line_refusal, next_event, next_event_line, push_refusal_line, push_test_line,
+    EventLine, Lines, line_refusal, next_event, next_event_line, push_refusal_line, push_test_line,
     read_header,
 };
+use sl_text::Seq;
 use std::alloc::{AllocError, Global};
 
 /// A text without the line feed at its end.
@@ -13,70 +15,98 @@ fn line_text(alloc: Global, line: &[u8]) -> Result<String, AllocError> {
     shown(alloc, line.strip_suffix(b"\n").unwrap_or(line))
 }
 
-/// An event that names a call.
-fn call_event(alloc: Global, event: &Event) -> Result<Option<String>, AllocError> {
-    let told = match event {
+/// What is done with a call.
+fn of_call(alloc: Global, done: &str, machine: u32, call: u64) -> Result<String, AllocError> {
+    said_two(alloc, done, u64::from(machine), call)
+}
+
+/// What is done with a machine.
+fn of_machine(alloc: Global, done: &str, machine: u32) -> Result<String, AllocError> {
+    said(alloc, done, u64::from(machine))
+}
+
+/// An event that names a call and nothing else, or another event.
+fn call_event(alloc: Global, event: &Event) -> Result<String, AllocError> {
+    match event {
+        Event::Land { machine, call } => of_call(alloc, "land", *machine, *call),
+        Event::Do { machine, call } => of_call(alloc, "do", *machine, *call),
+        Event::DropWrite { machine, call } => of_call(alloc, "drop", *machine, *call),
+        _ => machine_event(alloc, event),
+    }
+}
+
+/// An event that names a machine and nothing else, or another event.
+fn machine_event(alloc: Global, event: &Event) -> Result<String, AllocError> {
+    match event {
+        Event::WakeUp { machine } => of_machine(alloc, "wake", *machine),
+        Event::Test { machine } => of_machine(alloc, "test", *machine),
+        Event::Crash { machine } => of_machine(alloc, "crash", *machine),
+        Event::Reset { machine } => of_machine(alloc, "reset", *machine),
+        Event::Restart { machine } => of_machine(alloc, "restart", *machine),
+        _ => longer_call_event(alloc, event),
+    }
+}
+
+/// An event that says more of a call, or another event.
+fn longer_call_event(alloc: Global, event: &Event) -> Result<String, AllocError> {
+    match event {
         Event::Sample {
             machine,
             call,
             sectors,
-        } => format!(in alloc; "sample {machine} {call} {sectors}")?,
-        Event::Land { machine, call } => format!(in alloc; "land {machine} {call}")?,
+        } => format!(in alloc; "sample {machine} {call} {sectors}"),
         Event::Tear {
             machine,
             call,
             kept,
             bytes,
-        } => { format!(in alloc; "tear {machine} {call} {kept} {:?}", bytes.as_slice())? }
+        } => { format!(in alloc; "tear {machine} {call} {kept} {:?}", bytes.as_slice()) }
         Event::AnswerCall { machine, call, ok } => format!(in alloc;
             "answer {machine} {call} {ok}"
-        )?,
-        Event::Do { machine, call } => format!(in alloc; "do {machine} {call}")?,
-        Event::DropWrite { machine, call } => format!(in alloc; "drop {machine} {call}")?,
-        _ => return Ok(None),
-    };
-    Ok(Some(told))
+        ),
+        _ => longer_machine_event(alloc, event),
+    }
 }
 
-/// An event that names a machine and no call.
-fn machine_event(alloc: Global, event: &Event) -> Result<Option<String>, AllocError> {
-    let told = match event {
-        Event::WakeUp { machine } => format!(in alloc; "wake {machine}")?,
-        Event::GiveCommand { machine, text } => {
-            let text = shown(alloc, text.as_slice())?;
-            format!(in alloc; "command {machine} '{text}'")?
+/// A command of a machine.
+fn command_text(alloc: Global, machine: u32, text: &[u8]) -> Result<String, AllocError> {
+    let text = shown(alloc, text)?;
+    format!(in alloc; "command {machine} '{text}'")
+}
+
+/// An event that says more of a machine, or another event.
+fn longer_machine_event(alloc: Global, event: &Event) -> Result<String, AllocError> {
+    match event {
+        Event::GiveCommand { machine, text } => command_text(alloc, *machine, text.as_slice()),
+        Event::ExitOf { machine, process } => {
+            of_call(alloc, "exit", *machine, u64::from(*process))
         }
-        Event::Test { machine } => format!(in alloc; "test {machine}")?,
-        Event::ExitOf { machine, process } => format!(in alloc; "exit {machine} {process}")?,
         Event::SpawnedOf {
             machine,
             process,
             ok,
-        } => format!(in alloc; "spawned {machine} {process} {ok}")?,
-        Event::StartDaemon { machine, name } => format!(in alloc; "start {machine} {name}")?,
-        Event::Crash { machine } => format!(in alloc; "crash {machine}")?,
-        Event::Reset { machine } => format!(in alloc; "reset {machine}")?,
-        Event::Restart { machine } => format!(in alloc; "restart {machine}")?,
-        _ => return Ok(None),
-    };
-    Ok(Some(told))
+        } => format!(in alloc; "spawned {machine} {process} {ok}"),
+        Event::StartDaemon { machine, name } => format!(in alloc; "start {machine} {name}"),
+        _ => String::from_str(alloc, "another event"),
+    }
+}
+
+/// A passing of time.
+fn pass_text(alloc: Global, time: u64, growths: Option<&Seq<u64>>) -> Result<String, AllocError> {
+    match growths {
+        Some(growths) => format!(in alloc; "pass {time} {:?}", growths.as_slice()),
+        None => said(alloc, "pass", time),
+    }
 }
 
 /// The event of a line, in a run of two machines.
 pub fn event(alloc: Global, text: &str) -> Result<String, AllocError> {
     let Some(event) = next_event(alloc, 2, 512, text.as_bytes())? else {
-        return format!(in alloc; "none");
+        return String::from_str(alloc, "none");
     };
-    if let Event::Pass { time, growths } = &event {
-        return match growths {
-            Some(growths) => format!(in alloc; "pass {time} {:?}", growths.as_slice()),
-            None => format!(in alloc; "pass {time}"),
-        };
-    }
-    match (call_event(alloc, &event)?, machine_event(alloc, &event)?) {
-        (Some(told), _) => Ok(told),
-        (None, Some(told)) => Ok(told),
-        (None, None) => format!(in alloc; "another event"),
+    match &event {
+        Event::Pass { time, growths } => pass_text(alloc, *time, growths.as_ref()),
+        _ => call_event(alloc, &event),
     }
 }
 
@@ -87,35 +117,61 @@ fn refusal(alloc: Global, number: u64, why: Refusal) -> Result<String, AllocErro
     line_text(alloc, &line)
 }
 
-/// Some numbers of a schedule's header, and the numbers of the lines of its events; or what is refused. `|` stands for a line feed.
-pub fn header(alloc: Global, text: &str) -> Result<String, AllocError> {
+/// The bytes of a schedule, in which `|` stands for a line feed.
+fn source_of(alloc: Global, text: &str) -> Result<Vec<u8>, AllocError> {
     let mut source = Vec::new(alloc);
     for line in text.split('|') {
         source.extend_from_slice(line.as_bytes())?;
         source.push(b'\n')?;
     }
+    Ok(source)
+}
+
+/// Some numbers of a header.
+fn header_text(alloc: Global, header: &Header) -> Result<String, AllocError> {
+    let (io, grace, hosts) = (header.timing.io(), header.grace, header.geometry.hosts());
+    let (disks, sessions) = (header.disks.len(), header.sessions.len());
+    format!(in alloc;
+        "io {io} grace {grace} hosts {} ids {hosts} disks {disks} sessions {sessions}",
+        header.machines
+    )
+}
+
+/// The number of an event's line, or why it is refused.
+fn event_text(alloc: Global, line: EventLine) -> Result<String, AllocError> {
+    match line {
+        (number, Ok(_)) => said(alloc, "event", number),
+        (number, Err(why)) => refusal(alloc, number, why),
+    }
+}
+
+/// Adds what the next line of an event gives, if there is one.
+fn tell_next(
+    told: &mut String,
+    alloc: Global,
+    header: &Header,
+    lines: &mut Lines<'_>,
+) -> Result<(), AllocError> {
+    match next_event_line(alloc, header, lines)? {
+        Some(line) => {
+            told.push_str(", ")?;
+            add(told, event_text(alloc, line)?, "")
+        }
+        None => Ok(()),
+    }
+}
+
+/// Some numbers of a schedule's header, and the numbers of the lines of its events; or what is refused. `|` stands for a line feed.
+pub fn header(alloc: Global, text: &str) -> Result<String, AllocError> {
+    let source = source_of(alloc, text)?;
     let mut lines = Lines::new(&source);
     let header = match read_header(alloc, &mut lines)? {
         Ok(header) => header,
         Err((number, why)) => return refusal(alloc, number, why),
     };
-    let (io, grace, hosts) = (header.timing.io(), header.grace, header.geometry.hosts());
-    let (disks, sessions) = (header.disks.len(), header.sessions.len());
-    let mut told = format!(in alloc;
-        "io {io} grace {grace} hosts {} ids {hosts} disks {disks} sessions {sessions}",
-        header.machines
-    )?;
+    let mut told = header_text(alloc, &header)?;
     for _ in text.split('|') {
-        match next_event_line(alloc, &header, &mut lines)? {
-            Some((number, Ok(_))) => told.push_str(format!(in alloc;
-                ", event {number}"
-            )?.as_str())?,
-            Some((number, Err(why))) => {
-                told.push_str(", ")?;
-                told.push_str(refusal(alloc, number, why)?.as_str())?;
-            }
-            None => {}
-        }
+        tell_next(&mut told, alloc, &header, &mut lines)?;
     }
     Ok(told)
 }
@@ -165,8 +221,7 @@ const REFUSALS: [Refusal; 27] = [
 pub fn refusals(alloc: Global) -> Result<String, AllocError> {
     let mut told = String::new(alloc);
     for why in &REFUSALS {
-        told.push_str(refusal(alloc, 12, *why)?.as_str())?;
-        told.push_str("; ")?;
+        add(&mut told, refusal(alloc, 12, *why)?, "; ")?;
     }
     Ok(told)
 }

@@ -8,6 +8,8 @@
 //! - `ballots`: ballots, with blocks as `host/lver/mbal/bal/inp`, a list's parts set apart by commas, and `-` where a block is torn.
 //! - `machines`: a clock, times, a watchdog daemon, a recovery, a watch, a delta lease.
 //!
+//! `word` has what the others read of words, and `said` how they print numbers.
+//!
 //! In a text of several words single spaces keep them apart; a word that is left out is read as the empty word or as 0.
 #![tactic(auto)]
 
@@ -18,6 +20,7 @@ mod lines;
 mod machines;
 mod records;
 mod replies;
+mod said;
 mod texts;
 mod watching;
 mod word;
@@ -25,97 +28,81 @@ mod word;
 use std::alloc::{AllocError, Global};
 use std::io;
 
-/// What a kind of text says.
-fn texts_of(alloc: Global, kind: &str, text: &str) -> Result<Option<String>, AllocError> {
-    let told = match kind {
-        "words" => texts::words(alloc, text)?,
-        "number" => texts::number(alloc, text)?,
-        "within" => texts::within(alloc, text)?,
-        "multiple" => texts::multiple(alloc, text)?,
-        "hex" => texts::hex(alloc, text)?,
-        "hex_bytes" => texts::hex_bytes(alloc, text)?,
-        "name" => texts::name(alloc, text)?,
-        "path" => texts::path(alloc, text)?,
-        "before" => texts::before(alloc, text)?,
-        _ => return Ok(None),
-    };
-    Ok(Some(told))
+/// What a kind of text, or of what follows here, makes of a text.
+fn texts_of(alloc: Global, kind: &str, text: &str) -> Result<String, AllocError> {
+    match kind {
+        "words" => texts::words(alloc, text),
+        "number" => texts::number(alloc, text),
+        "within" => texts::within(alloc, text),
+        "multiple" => texts::multiple(alloc, text),
+        "hex" => texts::hex(alloc, text),
+        "hex_bytes" => texts::hex_bytes(alloc, text),
+        "name" => texts::name(alloc, text),
+        "path" => texts::path(alloc, text),
+        "before" => texts::before(alloc, text),
+        _ => records_of(alloc, kind, text),
+    }
 }
 
-/// What a kind of record says.
-fn records_of(alloc: Global, kind: &str, text: &str) -> Result<Option<String>, AllocError> {
-    let told = match kind {
-        "sector" => records::sector(alloc, text)?,
-        "large" => records::large(alloc, text)?,
-        "block_of" => records::block_of(alloc, text)?,
-        "pair_of" => records::pair_of(alloc, text)?,
-        "leader_of" => records::leader_of(alloc, text)?,
-        "value" => records::value(alloc, text)?,
-        "next_seq" => records::next_seq(alloc, text)?,
-        "geometry" => records::geometry(alloc, text)?,
-        "places" => records::places(alloc, text)?,
-        "paired" => records::paired(alloc, text)?,
-        "pairs" => records::pairs(alloc, text)?,
-        "place" => records::place(alloc, text)?,
-        "asked" => records::asked(alloc, text)?,
-        "bits" => records::bits(alloc, text)?,
-        _ => return Ok(None),
-    };
-    Ok(Some(told))
+/// What a kind of record, or of what follows here, makes of a text.
+fn records_of(alloc: Global, kind: &str, text: &str) -> Result<String, AllocError> {
+    match kind {
+        "sector" => records::sector(alloc, text),
+        "large" => records::large(alloc, text),
+        "block_of" => records::block_of(alloc, text),
+        "pair_of" => records::pair_of(alloc, text),
+        "leader_of" => records::leader_of(alloc, text),
+        "value" => records::value(alloc, text),
+        "next_seq" => records::next_seq(alloc, text),
+        "geometry" => records::geometry(alloc, text),
+        "places" => records::places(alloc, text),
+        "paired" => records::paired(alloc, text),
+        "pairs" => records::pairs(alloc, text),
+        "place" => records::place(alloc, text),
+        "asked" => records::asked(alloc, text),
+        "bits" => records::bits(alloc, text),
+        _ => lines_of(alloc, kind, text),
+    }
 }
 
-/// What a kind of line or command says.
-fn lines_of(alloc: Global, kind: &str, text: &str) -> Result<Option<String>, AllocError> {
-    let told = match kind {
-        "command" => commands::command(alloc, text)?,
-        "default_name" => commands::default_name(alloc, text)?,
-        "reply" => replies::reply(alloc, text)?,
-        "event" => lines::event(alloc, text)?,
-        "header" => lines::header(alloc, text)?,
-        "line" => lines::line(alloc, text)?,
-        "refusals" => lines::refusals(alloc)?,
-        "test" => lines::test(alloc, text)?,
-        _ => return Ok(None),
-    };
-    Ok(Some(told))
+/// What a kind of line, of a command or of what follows here makes of a text.
+fn lines_of(alloc: Global, kind: &str, text: &str) -> Result<String, AllocError> {
+    match kind {
+        "command" => commands::command(alloc, text),
+        "default_name" => commands::default_name(alloc, text),
+        "reply" => replies::reply(alloc, text),
+        "event" => lines::event(alloc, text),
+        "header" => lines::header(alloc, text),
+        "line" => lines::line(alloc, text),
+        "refusals" => lines::refusals(alloc),
+        "test" => lines::test(alloc, text),
+        _ => machines_of(alloc, kind, text),
+    }
 }
 
-/// What a kind of machine does.
-fn machines_of(alloc: Global, kind: &str, text: &str) -> Result<Option<String>, AllocError> {
-    let told = match kind {
-        "timing" => machines::timing(alloc, text)?,
-        "clock" => machines::clock(alloc, text)?,
-        "wdmd" => machines::wdmd(alloc, text)?,
-        "recovery" => machines::recovery(alloc, text)?,
-        "watch" => watching::watch(alloc, text)?,
-        "delta" => deltas::delta(alloc, text)?,
-        "ballot" => ballots::ballot(alloc, text)?,
-        "begin" => ballots::begin(alloc, text)?,
-        "mbal" => ballots::mbal(alloc, text)?,
-        "stop" => ballots::stop(alloc, text)?,
-        "accepted" => ballots::accepted(alloc, text)?,
-        "instance" => ballots::instance(alloc, text)?,
-        _ => return Ok(None),
-    };
-    Ok(Some(told))
+/// What a kind of machine makes of a text.
+fn machines_of(alloc: Global, kind: &str, text: &str) -> Result<String, AllocError> {
+    match kind {
+        "timing" => machines::timing(alloc, text),
+        "clock" => machines::clock(alloc, text),
+        "wdmd" => machines::wdmd(alloc, text),
+        "recovery" => machines::recovery(alloc, text),
+        "watch" => watching::watch(alloc, text),
+        "delta" => deltas::delta(alloc, text),
+        "ballot" => ballots::ballot(alloc, text),
+        "begin" => ballots::begin(alloc, text),
+        "mbal" => ballots::mbal(alloc, text),
+        "stop" => ballots::stop(alloc, text),
+        "accepted" => ballots::accepted(alloc, text),
+        "instance" => ballots::instance(alloc, text),
+        _ => String::from_str(alloc, "a kind of no text"),
+    }
 }
 
 /// What a line's kind makes of its text.
 fn told(alloc: Global, line: &str) -> Result<String, AllocError> {
     let (kind, text) = line.split_once(' ').unwrap_or((line, ""));
-    if let Some(told) = texts_of(alloc, kind, text)? {
-        return Ok(told);
-    }
-    if let Some(told) = records_of(alloc, kind, text)? {
-        return Ok(told);
-    }
-    if let Some(told) = lines_of(alloc, kind, text)? {
-        return Ok(told);
-    }
-    match machines_of(alloc, kind, text)? {
-        Some(told) => Ok(told),
-        None => format!(in alloc; "a kind of no text"),
-    }
+    texts_of(alloc, kind, text)
 }
 
 fn main(rt: HostRuntime) -> io::Result<()> {

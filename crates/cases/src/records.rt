@@ -1,13 +1,14 @@
 //! Sectors, areas, values, requests.
 
-use crate::word::{number_at, number_of, part, short_at, short_of, shown, word};
+use crate::said::{number_or_none, said, said_two, truth};
+use crate::word::{digits_of, number_at, number_of, part, short_at, short_of, shown, word};
 use sl_area::{Geometry, Place};
 use sl_request::{Act, Bitmap, check_request};
 use sl_sector::{
     Bad, Rec, block_in, decode, leader_in, pair_in, pair_leader_in, push_bad_text,
     push_record_text, value_in,
 };
-use sl_text::hex::{push_hex, read_hex};
+use sl_text::hex::read_hex;
 use sl_value::Version;
 use std::alloc::{AllocError, Global};
 
@@ -101,8 +102,8 @@ pub fn large(alloc: Global, text: &str) -> Result<String, AllocError> {
 pub fn block_of(alloc: Global, text: &str) -> Result<String, AllocError> {
     let sector = sector_of(word(text, 1));
     match block_in(short_at(text, 0), decode(&sector)) {
-        Some(block) => format!(in alloc; "host {}", block.host),
-        None => format!(in alloc; "none"),
+        Some(block) => said(alloc, "host", u64::from(block.host)),
+        None => String::from_str(alloc, "none"),
     }
 }
 
@@ -110,8 +111,8 @@ pub fn block_of(alloc: Global, text: &str) -> Result<String, AllocError> {
 pub fn pair_of(alloc: Global, text: &str) -> Result<String, AllocError> {
     let sector = sector_of(word(text, 2));
     match pair_in(short_at(text, 0), word(text, 1) == "first", decode(&sector)) {
-        Some(pair) => format!(in alloc; "turn {}", pair.turn),
-        None => format!(in alloc; "none"),
+        Some(pair) => said(alloc, "turn", pair.turn),
+        None => String::from_str(alloc, "none"),
     }
 }
 
@@ -119,23 +120,21 @@ pub fn pair_of(alloc: Global, text: &str) -> Result<String, AllocError> {
 pub fn leader_of(alloc: Global, text: &str) -> Result<String, AllocError> {
     let sector = sector_of(text);
     if let Some(leader) = pair_leader_in(decode(&sector)) {
-        return format!(in alloc; "of pairs, lver {}", leader.lver);
+        return said(alloc, "of pairs, lver", leader.lver);
     }
     match leader_in(decode(&sector)) {
-        Some(leader) => format!(in alloc; "of blocks, lver {}", leader.lver),
-        None => format!(in alloc; "none"),
+        Some(leader) => said(alloc, "of blocks, lver", leader.lver),
+        None => String::from_str(alloc, "none"),
     }
 }
 
 /// The value that a sector has.
 pub fn value(alloc: Global, text: &str) -> Result<String, AllocError> {
     let Some(record) = value_in(decode(&sector_of(text))) else {
-        return format!(in alloc; "none");
+        return String::from_str(alloc, "none");
     };
     let value = sl_value::get(&record);
-    let mut digits = Vec::new(alloc);
-    push_hex(&mut digits, value.bytes.as_slice())?;
-    let digits = shown(alloc, &digits)?;
+    let digits = digits_of(alloc, value.bytes.as_slice())?;
     format!(in alloc;
         "lver {} seq {} bytes {digits}",
         value.version.lver, value.version.seq
@@ -151,15 +150,12 @@ pub fn next_seq(alloc: Global, text: &str) -> Result<String, AllocError> {
             seq: number_at(text, 2),
         }),
     };
-    match sl_value::next_seq(last, number_at(text, 0)) {
-        Some(seq) => format!(in alloc; "{seq}"),
-        None => format!(in alloc; "none"),
-    }
+    number_or_none(alloc, sl_value::next_seq(last, number_at(text, 0)))
 }
 
 /// Whether these are a sector's size, an area's and a number of hosts.
 pub fn geometry(alloc: Global, text: &str) -> Result<String, AllocError> {
-    format!(in alloc; "{}", run_of(text).is_some())
+    truth(alloc, run_of(text).is_some())
 }
 
 /// A run with sectors of this size, areas of this size, and so many hosts.
@@ -169,7 +165,7 @@ fn run_of(text: &str) -> Option<Geometry> {
 
 /// Whether these are a sector's size, an area's and a number of hosts with pairs.
 pub fn paired(alloc: Global, text: &str) -> Result<String, AllocError> {
-    format!(in alloc; "{}", paired_run_of(text).is_some())
+    truth(alloc, paired_run_of(text).is_some())
 }
 
 /// A run with pairs.
@@ -189,34 +185,50 @@ fn pair_places(run: Geometry, base: u64, id: u32) -> Option<(Place, Place)> {
 /// Places of the area with pairs at this offset, where one begins: those of host `id`.
 pub fn pairs(alloc: Global, text: &str) -> Result<String, AllocError> {
     let Some(run) = paired_run_of(text) else {
-        return format!(in alloc; "no run");
+        return String::from_str(alloc, "no run");
     };
     let (base, id) = (number_at(text, 3), short_at(text, 4));
     match pair_places(run, base, id) {
         Some((first, second)) => {
-            format!(in alloc; "first {} second {}", first.offset(), second.offset())
+            let (first, second) = (first.offset(), second.offset());
+            format!(in alloc; "first {first} second {second}")
         }
-        None => format!(in alloc; "none"),
+        None => String::from_str(alloc, "none"),
+    }
+}
+
+/// Where the sectors of an area stand: a host's delta record and block, the leader, the request and the value.
+fn area_places(run: Geometry, base: u64, id: u32) -> Option<(Place, Place, Place, Place, Place)> {
+    if run.is_base(base) && 1 <= id && id <= run.hosts() {
+        Some((
+            run.delta_place(base, id),
+            run.block_place(base, id),
+            run.leader_place(base),
+            run.request_place(base),
+            run.value_place(base),
+        ))
+    } else {
+        None
     }
 }
 
 /// Places of the area at this offset, where one begins: those of host `id`.
 pub fn places(alloc: Global, text: &str) -> Result<String, AllocError> {
     let Some(run) = run_of(text) else {
-        return format!(in alloc; "no run");
+        return String::from_str(alloc, "no run");
     };
     let (base, id) = (number_at(text, 3), short_at(text, 4));
-    if !run.is_base(base) || id < 1 || run.hosts() < id {
-        return format!(in alloc; "none");
+    match area_places(run, base, id) {
+        Some((delta, block, leader, request, value)) => format!(in alloc;
+            "delta {} leader {} asked {} block {} value {}",
+            delta.offset(),
+            leader.offset(),
+            request.offset(),
+            block.offset(),
+            value.offset()
+        ),
+        None => String::from_str(alloc, "none"),
     }
-    let (delta, block) = (
-        run.delta_place(base, id).offset(),
-        run.block_place(base, id).offset(),
-    );
-    let leader = run.leader_place(base).offset();
-    let request = run.request_place(base).offset();
-    let value = run.value_place(base).offset();
-    format!(in alloc; "delta {delta} leader {leader} asked {request} block {block} value {value}")
 }
 
 /// The sector that begins at this offset.
@@ -227,7 +239,7 @@ pub fn place(alloc: Global, text: &str) -> Result<String, AllocError> {
     };
     match place {
         Some(place) => format!(in alloc; "{} of {}", place.offset(), place.size()),
-        None => format!(in alloc; "none"),
+        None => String::from_str(alloc, "none"),
     }
 }
 
@@ -235,12 +247,12 @@ pub fn place(alloc: Global, text: &str) -> Result<String, AllocError> {
 pub fn asked(alloc: Global, text: &str) -> Result<String, AllocError> {
     let (asked, force) = (number_at(text, 2), short_at(text, 3));
     if force == 0 && asked > 0 {
-        return format!(in alloc; "none");
+        return String::from_str(alloc, "none");
     }
     match check_request(number_at(text, 0), number_at(text, 1), asked, force) {
-        Ok(Act::Set) => format!(in alloc; "set"),
-        Ok(Act::Clear) => format!(in alloc; "clear"),
-        Err(old) => format!(in alloc; "old {} {}", old.held, old.stored),
+        Ok(Act::Set) => String::from_str(alloc, "set"),
+        Ok(Act::Clear) => String::from_str(alloc, "clear"),
+        Err(old) => said_two(alloc, "old", old.held, old.stored),
     }
 }
 
@@ -258,16 +270,21 @@ fn changed(bits: Bitmap, word: &str) -> Bitmap {
     bits
 }
 
-/// The bytes of a bitmap that aren't 0, with their places, after bits were set and cleared.
-pub fn bits(alloc: Global, text: &str) -> Result<String, AllocError> {
+/// The bitmap after these words.
+fn bitmap_of(text: &str) -> Bitmap {
     let mut bits = Bitmap::none();
     for word in text.split(' ') {
         bits = changed(bits, word);
     }
+    bits
+}
+
+/// The bytes of a bitmap that aren't 0, with their places, after bits were set and cleared.
+pub fn bits(alloc: Global, text: &str) -> Result<String, AllocError> {
     let mut told = String::new(alloc);
-    for (place, byte) in bits.bytes().iter().enumerate() {
+    for (place, byte) in bitmap_of(text).bytes().iter().enumerate() {
         if *byte != 0 {
-            told.push_str(format!(in alloc; "{place}:{byte} ")?.as_str())?;
+            write!(told, "{place}:{byte} ")?;
         }
     }
     Ok(told)

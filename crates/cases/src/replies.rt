@@ -134,15 +134,26 @@ fn listed(alloc: Global, case: &str, name: Name) -> Result<Option<Reply>, AllocE
     }
 }
 
-/// What is printed of a reply, where there is one.
-fn reply_text(alloc: Global, reply: Option<Reply>) -> Result<Option<String>, AllocError> {
-    match reply {
-        Some(reply) => {
-            let mut text = Vec::new(alloc);
-            push_reply_text(&mut text, &reply)?;
-            Ok(Some(shown(alloc, &text)?))
-        }
-        None => Ok(None),
+/// What is printed of a reply.
+fn reply_text(alloc: Global, reply: &Reply) -> Result<String, AllocError> {
+    let mut text = Vec::new(alloc);
+    push_reply_text(&mut text, reply)?;
+    shown(alloc, &text)
+}
+
+/// What is printed of a reply with a list.
+fn list_text(alloc: Global, case: &str, name: Name) -> Result<String, AllocError> {
+    match listed(alloc, case, name)? {
+        Some(reply) => reply_text(alloc, &reply),
+        None => String::from_str(alloc, "no reply"),
+    }
+}
+
+/// A reply without a list.
+fn unlisted(case: &str, name: Name, bytes: Data, none: Data) -> Option<Reply> {
+    match case {
+        "value_of_no_bytes" => named("value", name, none),
+        _ => plain(case).or(refused(case)).or(named(case, name, bytes)),
     }
 }
 
@@ -153,18 +164,10 @@ pub fn reply(alloc: Global, case: &str) -> Result<String, AllocError> {
         Data::new(&[0, 255]),
         Data::new(b""),
     ) else {
-        return format!(in alloc; "no name");
+        return String::from_str(alloc, "no name");
     };
-    let reply = match case {
-        "value_of_no_bytes" => named("value", name, none),
-        _ => plain(case).or(refused(case)).or(named(case, name, bytes)),
-    };
-    match (
-        reply_text(alloc, reply)?,
-        reply_text(alloc, listed(alloc, case, name)?)?,
-    ) {
-        (Some(text), _) => Ok(text),
-        (None, Some(text)) => Ok(text),
-        (None, None) => format!(in alloc; "no reply"),
+    match unlisted(case, name, bytes, none) {
+        Some(reply) => reply_text(alloc, &reply),
+        None => list_text(alloc, case, name),
     }
 }

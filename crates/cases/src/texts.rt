@@ -1,7 +1,8 @@
 //! Words, numbers, digits, names.
 
-use crate::word::{number_at, shown, word};
-use sl_text::hex::{push_hex, read_hex, read_hex_bytes};
+use crate::said::{add, truth};
+use crate::word::{digits_of, number_at, shown, word};
+use sl_text::hex::{read_hex, read_hex_bytes};
 use sl_text::number::{
     is_multiple, push_number, read_number, read_number_within, read_short_number,
 };
@@ -9,16 +10,21 @@ use sl_text::words::Words;
 use sl_text::{FilePath, Name};
 use std::alloc::{AllocError, Global};
 
+/// The next word with its column.
+fn next_word(alloc: Global, words: &mut Words<'_>) -> Result<String, AllocError> {
+    let column = words.column();
+    let piece = shown(alloc, words.next_piece().unwrap_or(b""))?;
+    format!(in alloc; "{column} '{piece}'")
+}
+
 /// Each word with its column, and the column behind the last.
 pub fn words(alloc: Global, text: &str) -> Result<String, AllocError> {
     let mut words = Words::new(text.as_bytes());
     let mut told = String::new(alloc);
     for _ in text.split(' ') {
-        let column = words.column();
-        let piece = shown(alloc, words.next_piece().unwrap_or(b""))?;
-        told.push_str(format!(in alloc; "{column} '{piece}', ")?.as_str())?;
+        add(&mut told, next_word(alloc, &mut words)?, ", ")?;
     }
-    told.push_str(format!(in alloc; "{}", words.column())?.as_str())?;
+    write!(told, "{}", words.column())?;
     Ok(told)
 }
 
@@ -29,17 +35,20 @@ fn written(alloc: Global, number: u64) -> Result<String, AllocError> {
     shown(alloc, &text)
 }
 
+/// A number as it is written, and as a short one.
+fn both_written(alloc: Global, number: u64, short: u32) -> Result<String, AllocError> {
+    let number = written(alloc, number)?;
+    format!(in alloc; "{number}, short {short}")
+}
+
 /// The number, and the short number.
 pub fn number(alloc: Global, text: &str) -> Result<String, AllocError> {
     match (
         read_number(text.as_bytes()),
         read_short_number(text.as_bytes()),
     ) {
-        (Some(number), Some(short)) => {
-            let number = written(alloc, number)?;
-            format!(in alloc; "{number}, short {short}")
-        }
-        _ => format!(in alloc; "none"),
+        (Some(number), Some(short)) => both_written(alloc, number, short),
+        _ => String::from_str(alloc, "none"),
     }
 }
 
@@ -47,7 +56,7 @@ pub fn number(alloc: Global, text: &str) -> Result<String, AllocError> {
 fn number_or_none(alloc: Global, number: Option<u64>) -> Result<String, AllocError> {
     match number {
         Some(number) => written(alloc, number),
-        None => format!(in alloc; "none"),
+        None => String::from_str(alloc, "none"),
     }
 }
 
@@ -64,14 +73,12 @@ pub fn within(alloc: Global, text: &str) -> Result<String, AllocError> {
 pub fn multiple(alloc: Global, text: &str) -> Result<String, AllocError> {
     let step = number_at(text, 0);
     let is = 0 < step && is_multiple(word(text, 1).as_bytes(), step);
-    format!(in alloc; "{is}")
+    truth(alloc, is)
 }
 
 /// How many bytes, and their digits.
 fn digits(alloc: Global, bytes: &[u8]) -> Result<String, AllocError> {
-    let mut text = Vec::new(alloc);
-    push_hex(&mut text, bytes)?;
-    let digits = shown(alloc, &text)?;
+    let digits = digits_of(alloc, bytes)?;
     format!(in alloc; "{} bytes {digits}", bytes.len())
 }
 
@@ -79,7 +86,7 @@ fn digits(alloc: Global, bytes: &[u8]) -> Result<String, AllocError> {
 pub fn hex(alloc: Global, text: &str) -> Result<String, AllocError> {
     match read_hex(text.as_bytes()) {
         Some(data) => digits(alloc, data.as_slice()),
-        None => format!(in alloc; "none"),
+        None => String::from_str(alloc, "none"),
     }
 }
 
@@ -88,7 +95,7 @@ pub fn hex_bytes(alloc: Global, text: &str) -> Result<String, AllocError> {
     let (low, high) = (number_at(text, 0) as usize, number_at(text, 1) as usize);
     match read_hex_bytes(alloc, word(text, 2).as_bytes(), low, high)? {
         Some(bytes) => digits(alloc, bytes.as_slice()),
-        None => format!(in alloc; "none"),
+        None => String::from_str(alloc, "none"),
     }
 }
 
@@ -96,7 +103,7 @@ pub fn hex_bytes(alloc: Global, text: &str) -> Result<String, AllocError> {
 pub fn name(alloc: Global, text: &str) -> Result<String, AllocError> {
     match Name::new(text.as_bytes()) {
         Some(name) => format!(in alloc; "{} bytes {name} {name:?}", name.as_str().len()),
-        None => format!(in alloc; "none"),
+        None => String::from_str(alloc, "none"),
     }
 }
 
@@ -104,18 +111,28 @@ pub fn name(alloc: Global, text: &str) -> Result<String, AllocError> {
 pub fn path(alloc: Global, text: &str) -> Result<String, AllocError> {
     match FilePath::new(text.as_bytes()) {
         Some(path) => format!(in alloc; "{} bytes {path} {path:?}", path.as_str().len()),
-        None => format!(in alloc; "none"),
+        None => String::from_str(alloc, "none"),
     }
+}
+
+/// Whether a name comes before another, where these are names.
+fn is_name_before(first: &[u8], second: &[u8]) -> Option<bool> {
+    let (first, second) = (Name::new(first)?, Name::new(second)?);
+    Some(first.is_before(&second))
+}
+
+/// .. paths.
+fn is_path_before(first: &[u8], second: &[u8]) -> Option<bool> {
+    let (first, second) = (FilePath::new(first)?, FilePath::new(second)?);
+    Some(first.is_before(&second))
 }
 
 /// Whether the first of two words comes before the second, as names or as paths.
 pub fn before(alloc: Global, text: &str) -> Result<String, AllocError> {
     let (first, second) = (word(text, 0).as_bytes(), word(text, 1).as_bytes());
-    if let (Some(first), Some(second)) = (Name::new(first), Name::new(second)) {
-        return format!(in alloc; "name {}", first.is_before(&second));
+    match (is_name_before(first, second), is_path_before(first, second)) {
+        (Some(is), _) => format!(in alloc; "name {is}"),
+        (None, Some(is)) => format!(in alloc; "path {is}"),
+        (None, None) => String::from_str(alloc, "none"),
     }
-    if let (Some(first), Some(second)) = (FilePath::new(first), FilePath::new(second)) {
-        return format!(in alloc; "path {}", first.is_before(&second));
-    }
-    format!(in alloc; "none")
 }

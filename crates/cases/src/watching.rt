@@ -3,6 +3,7 @@
 ghost use Rattle.std.specs.Prelude.{◌≡◌};
 
 use crate::records::sector_of;
+use crate::said::{add, said, said_two};
 use crate::word::{number_of, part, short_of};
 use sl_area::Geometry;
 use sl_sectors::Image;
@@ -96,10 +97,10 @@ pub fn sector_named(text: &str, name: &str) -> [u8; 512] {
 /// Evidence.
 fn evidence(alloc: Global, over: Option<Evidence>) -> Result<String, AllocError> {
     match over {
-        Some(Evidence::Newer { generation }) => format!(in alloc; "newer {generation}"),
-        Some(Evidence::Freed { generation }) => format!(in alloc; "freed {generation}"),
-        Some(Evidence::Silent { from, to }) => format!(in alloc; "silent {from} {to}"),
-        None => format!(in alloc; "none"),
+        Some(Evidence::Newer { generation }) => said(alloc, "newer", generation),
+        Some(Evidence::Freed { generation }) => said(alloc, "freed", generation),
+        Some(Evidence::Silent { from, to }) => said_two(alloc, "silent", from, to),
+        None => String::from_str(alloc, "none"),
     }
 }
 
@@ -114,43 +115,52 @@ fn state(state: HostState) -> &'static str {
     }
 }
 
+/// Takes the look that a word tells.
+fn look(alloc: Global, pair: &mut Pair, text: &str, word: &str) -> Result<(), AllocError> {
+    pair.saw(
+        alloc,
+        number_of(part(word, ':', 1)),
+        number_of(part(word, ':', 2)),
+        short_of(part(word, ':', 3)),
+        &sector_named(text, part(word, ':', 4)),
+    )
+}
+
 /// What the watch tells at a word: `saw:BEFORE:AFTER:ID:NAME`, `over:ID:GENERATION`, `still:ID`, `status:ID:NOW`.
 fn told(alloc: Global, pair: &mut Pair, text: &str, word: &str) -> Result<String, AllocError> {
     let (first, second) = (part(word, ':', 1), part(word, ':', 2));
     match part(word, ':', 0) {
-        "saw" => {
-            let sector = sector_named(text, part(word, ':', 4));
-            pair.saw(
+        "saw" => look(alloc, pair, text, word)?,
+        "over" => return evidence(alloc, pair.over(short_of(first), number_of(second))),
+        "still" => return format!(in alloc; "{}", pair.unchanged(short_of(first))),
+        "status" => {
+            return String::from_str(
                 alloc,
-                number_of(first),
-                number_of(second),
-                short_of(part(word, ':', 3)),
-                &sector,
-            )?;
-            format!(in alloc; "")
+                state(pair.status(short_of(first), number_of(second))),
+            );
         }
-        "over" => evidence(alloc, pair.over(short_of(first), number_of(second))),
-        "still" => format!(in alloc; "{}", pair.unchanged(short_of(first))),
-        "status" => format!(in alloc;
-            "{}",
-            state(pair.status(short_of(first), number_of(second)))
-        ),
-        _ => format!(in alloc; ""),
+        _ => {}
+    }
+    Ok(String::new(alloc))
+}
+
+/// Adds what a word made the watch tell, if anything.
+fn add_told(all: &mut String, told: String) -> Result<(), AllocError> {
+    if told.is_empty() {
+        Ok(())
+    } else {
+        add(all, told, ", ")
     }
 }
 
 /// What a watch tells that sees these sectors. A word `NAME=..` tells a sector.
 pub fn watch(alloc: Global, text: &str) -> Result<String, AllocError> {
     let Some(mut pair) = Pair::new(alloc) else {
-        return format!(in alloc; "no run");
+        return String::from_str(alloc, "no run");
     };
     let mut all = String::new(alloc);
     for word in text.split(' ') {
-        let told = told(alloc, &mut pair, text, word)?;
-        if !told.is_empty() {
-            all.push_str(told.as_str())?;
-            all.push_str(", ")?;
-        }
+        add_told(&mut all, told(alloc, &mut pair, text, word)?)?;
     }
     Ok(all)
 }

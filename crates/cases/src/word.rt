@@ -1,5 +1,6 @@
 //! Words and numbers of a text.
 
+use sl_text::hex::push_hex;
 use sl_text::number::{read_number, read_short_number};
 use std::alloc::{AllocError, Global};
 
@@ -31,6 +32,22 @@ pub fn number_at(text: &str, place: usize) -> u64 {
 /// The word with this place, as a short number.
 pub fn short_at(text: &str, place: usize) -> u32 {
     short_of(word(text, place))
+}
+
+/// The numbers that these words are, from the word with this place on.
+pub fn numbers_from(alloc: Global, text: &str, place: usize) -> Result<Vec<u64>, AllocError> {
+    let mut numbers = Vec::new(alloc);
+    for word in text.split(' ').skip(place) {
+        numbers.push(number_of(word))?;
+    }
+    Ok(numbers)
+}
+
+/// Bytes as digits.
+pub fn digits_of(alloc: Global, bytes: &[u8]) -> Result<String, AllocError> {
+    let mut text = Vec::new(alloc);
+    push_hex(&mut text, bytes)?;
+    shown(alloc, &text)
 }
 
 /// Bytes as text.

@@ -2,9 +2,9 @@
 
 ghost use Rattle.std.specs.Prelude.{IfOk, false, ◌≡◌};
 
-use sl_area::{Area, FileArea, Geometry, MemArea};
+use sl_area::{Area, FileArea, Geometry, MemArea, Place};
 use std::alloc::Global;
-use std::io::ErrorKind;
+use std::io::{ErrorKind, Read, Seek, Write};
 use std::rt::Files;
 use std::{fs, io};
 
@@ -18,11 +18,33 @@ pub fn small() -> io::Result<Geometry>
     }
 }
 
-/// How many of two writes and a read of both went well, and what was read.
-#[derive(Drop)]
+/// Writes a sector of one byte: whether that went well.
+pub fn writes<A: Area>(area: &mut A, at: Place, byte: u8) -> bool
+    requires { at.size ≡ 512 }
+{
+    area.write(at, &[byte; 512]).is_ok()
+}
+
+/// Reads a sector: whether that went well.
+fn is_read<A: Area>(area: &mut A, at: Place) -> bool
+    requires { at.size ≡ 512 }
+{
+    area.read(at, 1, &mut [9; 512]).is_ok()
+}
+
+/// Reads a sector: whether that went well, and each of its bytes is this one.
+pub fn reads<A: Area>(area: &mut A, at: Place, byte: u8) -> bool
+    requires { at.size ≡ 512 }
+{
+    let mut read = [9; 512];
+    area.read(at, 1, &mut read).is_ok() && read == [byte; 512]
+}
+
+/// How many of two writes and a read of both went well, and the first and last byte of both sectors that were read.
+#[derive(Clone, Copy)]
 struct Round {
     done: u32,
-    read: [u8; 1024],
+    ends: [u8; 4],
 }
 
 /// Writes two sectors, of ones and of twos, and reads both back into nines.
@@ -31,49 +53,60 @@ fn write_and_read<A: Area>(area: &mut A, run: Geometry) -> Round
 {
     let mut read = [9; 1024];
     let mut done = 0;
-    if area.write(run.request_place(0), &[1; 512]).is_ok() {
+    if writes(area, run.request_place(0), 1) {
         done += 1;
     }
-    if area.write(run.block_place(0, 1), &[2; 512]).is_ok() {
+    if writes(area, run.block_place(0, 1), 2) {
         done += 1;
     }
     if area.read(run.request_place(0), 2, &mut read).is_ok() {
         done += 1;
     }
-    Round { done, read }
+    Round {
+        done,
+        ends: [read[0], read[511], read[512], read[1023]],
+    }
 }
 
-/// Of each of four calls that fails: how many of a round's three went well, the faults, and the first and last byte of both sectors that were
-/// read; and whether the first sector of the area is zeros still.
+/// The bytes of a round, in words.
+fn ends_text(alloc: Global, [first, second, third, fourth]: [u8; 4]) -> io::Result<String> {
+    Ok(format!(in alloc; "{first} {second} {third} {fourth}")?)
+}
+
+/// A round in an area of three sectors, of which a call fails: how many calls went well, the faults, the first and last byte of both sectors
+/// that were read; and whether the first sector of the area is zeros still.
+fn a_call_fails(alloc: Global, call: u64) -> io::Result<String> {
+    let mut area = MemArea::new(alloc, 1536, vec![in alloc; call]?)?;
+    let Round { done, ends } = write_and_read(&mut area, small()?);
+    let untouched = area.content().get(..512) == Some([0; 512].as_slice());
+    let faults = area.faults();
+    let ends = ends_text(alloc, ends)?;
+    Ok(format!(in alloc; "{done} {faults} {ends} {untouched};")?)
+}
+
+/// A round for each of four calls that fails.
 pub fn each_call_fails(alloc: Global) -> io::Result<String> {
-    let run = small()?;
     let mut text = String::new(alloc);
     for call in 1..=4u64 {
-        let mut area = MemArea::new(alloc, 1536, vec![in alloc; call]?)?;
-        let Round { done, read } = write_and_read(&mut area, run);
-        let untouched = area.content().get(..512) == Some([0; 512].as_slice());
-        let piece = format!(in alloc;
-            "{done} {} {} {} {} {} {untouched};",
-            area.faults(),
-            read[0],
-            read[511],
-            read[512],
-            read[1023]
-        )?;
-        text.push_str(piece.as_str())?;
+        text.push_str(a_call_fails(alloc, call)?.as_str())?;
     }
     Ok(text)
+}
+
+/// An area that is a byte short of its third sector.
+fn a_short_area(alloc: Global) -> io::Result<MemArea> {
+    Ok(MemArea::of(vec![in alloc; 0; 1535]?, Vec::new(alloc)))
 }
 
 /// A round in an area that is a byte short of its third sector: how many calls went well, the faults, and the first byte; how a read of another
 /// sector went, and the faults.
 pub fn past_the_room(alloc: Global) -> io::Result<String> {
     let run = small()?;
-    let mut area = MemArea::of(vec![in alloc; 0; 1535]?, Vec::new(alloc));
-    let Round { done, read } = write_and_read(&mut area, run);
+    let mut area = a_short_area(alloc)?;
+    let Round { done, ends } = write_and_read(&mut area, run);
     let before = area.faults();
-    let past = area.read(run.value_place(0), 1, &mut [0; 512]).is_ok();
-    Ok(format!(in alloc; "{done} {before} {} {past} {}", read[0], area.faults())?)
+    let past = is_read(&mut area, run.value_place(0));
+    Ok(format!(in alloc; "{done} {before} {} {past} {}", ends[0], area.faults())?)
 }
 
 /// A file that isn't there: the faults, how many calls of a round went well, and the faults then.
@@ -81,7 +114,7 @@ pub fn a_missing_file<R: Files>(rt: &R, alloc: Global) -> io::Result<String> {
     let run = small()?;
     let mut area = FileArea::open(rt, "no_such_area");
     let before = area.faults();
-    let Round { done, read: _ } = write_and_read(&mut area, run);
+    let done = write_and_read(&mut area, run).done;
     Ok(format!(in alloc; "{before} {done} {}", area.faults())?)
 }
 
@@ -93,26 +126,63 @@ fn is_extended(bytes: &[u8]) -> bool {
     bytes == expected.as_slice()
 }
 
-/// A file of 700 sevens. Whether its first sector is read; whether the next, which it ends in, and the fourth are; the faults; whether a write of
-/// the fourth extends it with zeros; whether that is read; and a round with its faults.
-pub fn a_short_file<R: Files + AllocGlobal>(rt: &R, alloc: Global) -> io::Result<String> {
+/// In a file of 700 sevens: whether its first sector is read; whether the next, which it ends in, and the fourth are; and the faults.
+fn while_short<F: Read + Write + Seek + Drop>(
+    alloc: Global,
+    area: &mut FileArea<F>,
+    run: Geometry,
+) -> io::Result<String>
+    requires { run ≡ record { sector = 512; area = 1048576; hosts = 3; paired = false } }
+{
+    let first = reads(area, run.leader_place(0), 7);
+    let cut = is_read(area, run.request_place(0));
+    let past = is_read(area, run.block_place(0, 3));
+    Ok(format!(in alloc; "{first} {cut} {past} {}", area.faults())?)
+}
+
+/// Once the fourth sector is written: whether it is read; and a round with its faults.
+fn once_extended<F: Read + Write + Seek + Drop>(
+    alloc: Global,
+    area: &mut FileArea<F>,
+    run: Geometry,
+) -> io::Result<String>
+    requires { run ≡ record { sector = 512; area = 1048576; hosts = 3; paired = false } }
+{
+    let back = reads(area, run.block_place(0, 2), 5);
+    let Round { done, ends } = write_and_read(area, run);
+    Ok(format!(in alloc; "{back} {done} {} {} {}", ends[0], ends[3], area.faults())?)
+}
+
+/// Whether a write of a sector of fives goes well, and extends the file of 700 sevens with zeros before it.
+fn extends<R: Files + AllocGlobal, A: Area>(
+    rt: &R,
+    area: &mut A,
+    at: Place,
+) -> io::Result<(bool, bool)>
+    requires { at.size ≡ 512 }
+{
+    let written = writes(area, at, 5);
+    Ok((written, is_extended(fs::read(rt, "short_area")?.as_slice())))
+}
+
+/// What comes of the reads and writes of a file of 700 sevens. Between those before it is extended and those after it: whether a write of the
+/// fourth sector goes well, and extends it with zeros.
+fn of_short_file<R: Files + AllocGlobal, F: Read + Write + Seek + Drop>(
+    rt: &R,
+    alloc: Global,
+    area: &mut FileArea<F>,
+) -> io::Result<String> {
     let run = small()?;
+    let before = while_short(alloc, area, run)?;
+    let (written, extended) = extends(rt, area, run.block_place(0, 2))?;
+    let after = once_extended(alloc, area, run)?;
+    Ok(format!(in alloc; "{before} {written} {extended} {after}")?)
+}
+
+/// Makes a file of 700 sevens, and takes it away in the end.
+pub fn a_short_file<R: Files + AllocGlobal>(rt: &R, alloc: Global) -> io::Result<String> {
     fs::write(rt, "short_area", [7; 700].as_slice())?;
-    let mut area = FileArea::open(rt, "short_area");
-    let mut read = [9; 512];
-    let first = area.read(run.leader_place(0), 1, &mut read).is_ok() && read == [7; 512];
-    let cut = area.read(run.request_place(0), 1, &mut read).is_ok();
-    let past = area.read(run.block_place(0, 3), 1, &mut read).is_ok();
-    let faults = area.faults();
-    let written = area.write(run.block_place(0, 2), &[5; 512]).is_ok();
-    let extended = is_extended(fs::read(rt, "short_area")?.as_slice());
-    let back = area.read(run.block_place(0, 2), 1, &mut read).is_ok() && read == [5; 512];
-    let Round { done, read } = write_and_read(&mut area, run);
+    let text = of_short_file(rt, alloc, &mut FileArea::open(rt, "short_area"))?;
     fs::remove_file(rt, "short_area")?;
-    Ok(format!(in alloc;
-        "{first} {cut} {past} {faults} {written} {extended} {back} {done} {} {} {}",
-        read[0],
-        read[1023],
-        area.faults()
-    )?)
+    Ok(text)
 }

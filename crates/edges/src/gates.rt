@@ -73,12 +73,8 @@ fn devices<R: Wait + Clock + Copy + Drop + Send + Sync>(
     Ok(SharedDevices::new(rt, alloc, plan))
 }
 
-/// The call of machine 1 is held until that of machine 2 has left. Whether its read and the other's write went well; whether it read what was
-/// written; whether the gate held it, and gave up; how two reads of an area went whose first call fails, and its faults.
-pub fn two_threads<R: Wait + Threads + Clock + Copy + Drop + Send + Sync>(
-    rt: R,
-    alloc: Global,
-) -> io::Result<String> {
+/// A gate that holds the first call of machine 1 until that of machine 2 has left.
+fn turn_gate<R: Wait + Clock + Copy>(rt: R, alloc: Global) -> io::Result<TurnGate<R>> {
     let held = Turn {
         machine: 1,
         call: 1,
@@ -87,22 +83,56 @@ pub fn two_threads<R: Wait + Threads + Clock + Copy + Drop + Send + Sync>(
         machine: 2,
         call: 1,
     };
-    let seen = TurnGate::new(rt, alloc, held, awaited)?;
-    let mut devices = devices(rt, alloc, seen.share()?)?;
-    let made = devices.make("f", "/d", 2048).is_ok();
+    Ok(TurnGate::new(rt, alloc, held, awaited)?)
+}
+
+/// Two areas of one disk, with the gate: whether the read and the write went well, and whether what was read is what was written.
+fn shared<R: Wait + Threads + Clock + Copy + Drop + Send + Sync>(
+    rt: &R,
+    devices: &mut SharedDevices<R>,
+) -> (bool, bool, bool) {
     let gate = devices.gate();
     let mut first = devices.area(1, 1, "f/d");
     let mut second = devices.area(2, 1, "f/d");
     let mut sector = [9; 512];
-    let (read, written) = both(&rt, &gate, &mut first, &mut second, &mut sector);
-    let same = sector == [5; 512];
-    let mut planned = devices.area(1, 2, "f/d");
-    let fails = read_first(&mut planned, &mut sector);
-    let again = read_first(&mut planned, &mut sector);
-    Ok(format!(in alloc;
-        "{made} {read} {written} {same} {} {} {fails} {again} {}",
-        seen.was_held(),
-        seen.gave_up(),
-        planned.faults()
-    )?)
+    let (read, written) = both(rt, &gate, &mut first, &mut second, &mut sector);
+    (read, written, sector == [5; 512])
+}
+
+/// How two reads of an area went whose first call fails, and its faults.
+fn fails_once<R: Wait + Clock + Copy + Drop>(
+    alloc: Global,
+    devices: &mut SharedDevices<R>,
+) -> io::Result<String> {
+    let mut area = devices.area(1, 2, "f/d");
+    let mut sector = [9; 512];
+    let fails = read_first(&mut area, &mut sector);
+    let again = read_first(&mut area, &mut sector);
+    Ok(format!(in alloc; "{fails} {again} {}", area.faults())?)
+}
+
+/// Makes the disk, and has two threads share it: whether it was made, whether the read and the write went well, and whether what was read is
+/// what was written; and how two reads of an area went whose first call fails, and its faults.
+fn on_devices<R: Wait + Threads + Clock + Copy + Drop + Send + Sync>(
+    rt: &R,
+    alloc: Global,
+    devices: &mut SharedDevices<R>,
+) -> io::Result<(String, String)> {
+    let made = devices.make("f", "/d", 2048).is_ok();
+    let (read, written, same) = shared(rt, devices);
+    let threads = format!(in alloc; "{made} {read} {written} {same}")?;
+    Ok((threads, fails_once(alloc, devices)?))
+}
+
+/// The call of machine 1 is held until that of machine 2 has left. What comes of the disk; and between the words of both threads and those of the
+/// area whose first call fails: whether the gate held the call, and gave up.
+pub fn two_threads<R: Wait + Threads + Clock + Copy + Drop + Send + Sync>(
+    rt: R,
+    alloc: Global,
+) -> io::Result<String> {
+    let seen = turn_gate(rt, alloc)?;
+    let mut devices = devices(rt, alloc, seen.share()?)?;
+    let (threads, failing) = on_devices(&rt, alloc, &mut devices)?;
+    let (held, gave_up) = (seen.was_held(), seen.gave_up());
+    Ok(format!(in alloc; "{threads} {held} {gave_up} {failing}")?)
 }

@@ -20,28 +20,28 @@ use std::thread::Threads;
 use std::time::Clock;
 
 /// What comes of a case of streams.
-fn of_streams<R: Files + AllocGlobal>(rt: &R, case: &str) -> io::Result<Option<String>> {
+fn of_streams<R: Files + AllocGlobal>(rt: &R, case: &str) -> Option<io::Result<String>> {
     let alloc = rt.alloc();
     match case {
-        "each read fails in turn" => Ok(Some(streams::each_read_fails(alloc)?)),
-        "each write fails in turn" => Ok(Some(streams::each_write_fails(alloc)?)),
-        "a full sink fails" => Ok(Some(streams::a_full_sink(alloc)?)),
-        "an interrupted read" => Ok(Some(restless::an_interrupted_read(alloc)?)),
-        "a write of nothing" => Ok(Some(restless::a_write_of_nothing(alloc)?)),
-        "files of the system" => Ok(Some(streams::files_of_the_system(rt, alloc)?)),
-        _ => Ok(None),
+        "each read fails in turn" => Some(streams::each_read_fails(alloc)),
+        "each write fails in turn" => Some(streams::each_write_fails(alloc)),
+        "a full sink fails" => Some(streams::a_full_sink(alloc)),
+        "an interrupted read" => Some(restless::an_interrupted_read(alloc)),
+        "a write of nothing" => Some(restless::a_write_of_nothing(alloc)),
+        "files of the system" => Some(streams::files_of_the_system(rt, alloc)),
+        _ => None,
     }
 }
 
 /// What comes of a case of areas.
-fn of_areas<R: Files + AllocGlobal>(rt: &R, case: &str) -> io::Result<Option<String>> {
+fn of_areas<R: Files + AllocGlobal>(rt: &R, case: &str) -> Option<io::Result<String>> {
     let alloc = rt.alloc();
     match case {
-        "each call of an area fails in turn" => Ok(Some(areas::each_call_fails(alloc)?)),
-        "a call past the room" => Ok(Some(areas::past_the_room(alloc)?)),
-        "a missing file" => Ok(Some(areas::a_missing_file(rt, alloc)?)),
-        "a short file" => Ok(Some(areas::a_short_file(rt, alloc)?)),
-        _ => Ok(None),
+        "each call of an area fails in turn" => Some(areas::each_call_fails(alloc)),
+        "a call past the room" => Some(areas::past_the_room(alloc)),
+        "a missing file" => Some(areas::a_missing_file(rt, alloc)),
+        "a short file" => Some(areas::a_short_file(rt, alloc)),
+        _ => None,
     }
 }
 
@@ -49,13 +49,13 @@ fn of_areas<R: Files + AllocGlobal>(rt: &R, case: &str) -> io::Result<Option<Str
 fn of_children<R: Files + Processes + Clock + Wait + AllocGlobal + Copy + Drop>(
     rt: &R,
     case: &str,
-) -> io::Result<Option<String>> {
+) -> Option<io::Result<String>> {
     let alloc = rt.alloc();
     match case {
-        "a child ends" => Ok(Some(outside::a_child_ends(rt, alloc)?)),
-        "children are signalled" => Ok(Some(outside::children_are_signalled(rt, alloc)?)),
-        "a planned spawner" => Ok(Some(planned::a_planned_spawner(alloc)?)),
-        _ => Ok(None),
+        "a child ends" => Some(outside::a_child_ends(rt, alloc)),
+        "children are signalled" => Some(outside::children_are_signalled(rt, alloc)),
+        "a planned spawner" => Some(planned::a_planned_spawner(alloc)),
+        _ => None,
     }
 }
 
@@ -79,14 +79,14 @@ fn told<
     R: Files + Processes + Clock + Wait + Threads + AllocGlobal + Copy + Drop + Send + Sync,
     D: LiveDevices,
 >(rt: &R, devices: &mut D, case: &str) -> io::Result<String> {
-    if let Some(text) = of_streams(rt, case)? {
-        return Ok(text);
+    if let Some(text) = of_streams(rt, case) {
+        return text;
     }
-    if let Some(text) = of_areas(rt, case)? {
-        return Ok(text);
+    if let Some(text) = of_areas(rt, case) {
+        return text;
     }
-    if let Some(text) = of_children(rt, case)? {
-        return Ok(text);
+    if let Some(text) = of_children(rt, case) {
+        return text;
     }
     of_devices(rt, devices, case)
 }

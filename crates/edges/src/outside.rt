@@ -1,7 +1,9 @@
 //! Child programs, files, clocks and randomness of the system.
 
-use crate::areas::small;
-use sl_area::Area;
+ghost use Rattle.std.specs.Prelude.{◌≡◌};
+
+use crate::areas::{reads, small, writes};
+use sl_area::{Area, Place};
 use sl_outside::{ChildSpawner, LiveDevices, Spawner, Words};
 use sl_time::Clock;
 use sl_trace::Signal;
@@ -32,58 +34,108 @@ fn next_exit<R: Processes + Wait + time::Clock + Drop>(
     0
 }
 
-/// Whether a program starts, whether a missing one does, the faults, the child that exits, and whether another does.
-pub fn a_child_ends<R: Processes + Wait + time::Clock + Copy + Drop>(
-    rt: &R,
-    alloc: Global,
-) -> io::Result<String> {
-    let mut spawner = ChildSpawner::new(*rt, alloc);
+/// Whether a program starts, and whether a missing one does.
+fn starts<S: Spawner>(spawner: &mut S) -> (bool, bool) {
     let started = spawner.spawn(1_000_001, "/bin/true").is_ok();
     let missing = spawner.spawn(1_000_002, "/no/such/program").is_ok();
+    (started, missing)
+}
+
+/// Whether a program starts, whether a missing one does, the faults, the child that exits, and whether another does.
+fn ends<R: Processes + Wait + time::Clock + Drop>(
+    rt: &R,
+    alloc: Global,
+    spawner: &mut ChildSpawner<R>,
+) -> io::Result<String> {
+    let (started, missing) = starts(spawner);
     let faults = spawner.faults();
-    let exited = next_exit(rt, &mut spawner);
+    let exited = next_exit(rt, spawner);
     let other = spawner.poll().is_some();
     Ok(format!(in alloc; "{started} {missing} {faults} {exited} {other}")?)
 }
 
-/// Two children that sleep. Whether both start, whether one has exited by itself, which exits once it is killed, and which once it is termed; and
-/// the faults, also of a signal to none.
-pub fn children_are_signalled<R: Files + Processes + Wait + time::Clock + Copy + Drop>(
+/// Children of which one ends by itself.
+pub fn a_child_ends<R: Processes + Wait + time::Clock + Copy + Drop>(
     rt: &R,
     alloc: Global,
 ) -> io::Result<String> {
-    fs::write(rt, "sleeper", b"#!/bin/sh\nexec sleep 30\n".as_slice())?;
-    fs::set_permissions(rt, "sleeper", Permissions::from_mode(0o755))?;
-    let mut spawner = ChildSpawner::new(*rt, alloc);
+    ends(rt, alloc, &mut ChildSpawner::new(*rt, alloc))
+}
+
+/// Signals a child: the next that has exited.
+fn exit_after<R: Processes + Wait + time::Clock + Drop>(
+    rt: &R,
+    spawner: &mut ChildSpawner<R>,
+    process: u32,
+    signal: Signal,
+) -> u32 {
+    spawner.signal(process, signal);
+    next_exit(rt, spawner)
+}
+
+/// Whether two children that sleep start, and whether one has exited by itself.
+fn sleep_on<S: Spawner>(spawner: &mut S) -> (bool, bool, bool) {
     let first = spawner.spawn(7, "./sleeper").is_ok();
     let second = spawner.spawn(9, "./sleeper").is_ok();
-    let early = spawner.poll().is_some();
-    spawner.signal(9, Signal::Kill);
-    let killed = next_exit(rt, &mut spawner);
-    spawner.signal(7, Signal::Term);
-    let termed = next_exit(rt, &mut spawner);
+    (first, second, spawner.poll().is_some())
+}
+
+/// Whether two children that sleep start, whether one has exited by itself, which exits once it is killed, and which once it is termed; and
+/// the faults, also of a signal to none.
+fn two_sleepers<R: Processes + Wait + time::Clock + Drop>(
+    rt: &R,
+    alloc: Global,
+    spawner: &mut ChildSpawner<R>,
+) -> io::Result<String> {
+    let (first, second, early) = sleep_on(spawner);
+    let killed = exit_after(rt, spawner, 9, Signal::Kill);
+    let termed = exit_after(rt, spawner, 7, Signal::Term);
     spawner.signal(7, Signal::Kill);
-    fs::remove_file(rt, "sleeper")?;
     Ok(format!(in alloc;
         "{first} {second} {early} {killed} {termed} {}",
         spawner.faults()
     )?)
 }
 
-/// Makes a disk, and writes a sector of sevens to it: whether it was made, whether the sector was zeros, whether it is read back, and the faults.
+/// Makes the program that sleeps, and takes it away in the end.
+pub fn children_are_signalled<R: Files + Processes + Wait + time::Clock + Copy + Drop>(
+    rt: &R,
+    alloc: Global,
+) -> io::Result<String> {
+    fs::write(rt, "sleeper", b"#!/bin/sh\nexec sleep 30\n".as_slice())?;
+    fs::set_permissions(rt, "sleeper", Permissions::from_mode(0o755))?;
+    let text = two_sleepers(rt, alloc, &mut ChildSpawner::new(*rt, alloc))?;
+    fs::remove_file(rt, "sleeper")?;
+    Ok(text)
+}
+
+/// Whether a sector is zeros, whether sevens are written to it, and whether they are read back.
+fn sevens<A: Area>(area: &mut A, at: Place) -> (bool, bool, bool)
+    requires { at.size ≡ 512 }
+{
+    let zeros = reads(area, at, 0);
+    let written = writes(area, at, 7);
+    (zeros, written, reads(area, at, 7))
+}
+
+/// Makes a disk, and writes a sector of sevens to it: whether it was made, whether the sector was zeros, whether it is written, and read back.
 fn made<D: LiveDevices>(devices: &mut D, alloc: Global) -> io::Result<String> {
-    let run = small()?;
+    let third = small()?.delta_place(0, 3);
     let made = devices.make("made", "/a/b/disk", 4096).is_ok();
     let mut area = devices.area(1, 1, "made/a/b/disk");
-    let mut sector = [9; 512];
-    let zeros = area.read(run.delta_place(0, 3), 1, &mut sector).is_ok() && sector == [0; 512];
-    let written = area.write(run.delta_place(0, 3), &[7; 512]).is_ok();
-    let read = area.read(run.delta_place(0, 3), 1, &mut sector).is_ok() && sector == [7; 512];
+    let (zeros, written, read) = sevens(&mut area, third);
     devices.back(area);
     Ok(format!(in alloc; "{made} {zeros} {written} {read}")?)
 }
 
-/// Whether a disk is made in a folder that isn't there; what comes of one that is made twice, which is emptied then; and how long its file is.
+/// What comes of a disk that is made twice, which is emptied then.
+fn made_twice<D: LiveDevices>(devices: &mut D, alloc: Global) -> io::Result<String> {
+    let first = made(devices, alloc)?;
+    let second = made(devices, alloc)?;
+    Ok(format!(in alloc; "{first} {second}")?)
+}
+
+/// Whether a disk is made in a folder that isn't there; what comes of one that is made twice; and how long its file is.
 pub fn files_are_made<R: Files + AllocGlobal, D: LiveDevices>(
     rt: &R,
     devices: &mut D,
@@ -91,11 +143,10 @@ pub fn files_are_made<R: Files + AllocGlobal, D: LiveDevices>(
     let alloc = rt.alloc();
     let nowhere = devices.make("no_folder", "/a/disk", 4096).is_ok();
     fs::create_dir(rt, "made")?;
-    let first = made(devices, alloc)?;
-    let second = made(devices, alloc)?;
+    let disks = made_twice(devices, alloc)?;
     let len = fs::metadata(rt, "made/a/b/disk")?.len();
     fs::remove_dir_all(rt, "made")?;
-    Ok(format!(in alloc; "{nowhere} {first} {second} {len}")?)
+    Ok(format!(in alloc; "{nowhere} {disks} {len}")?)
 }
 
 /// Whether 20 milliseconds have passed after a sleep of so many, by the clock of another thread; and whether the first is not behind it.

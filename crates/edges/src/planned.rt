@@ -1,7 +1,7 @@
 //! The spawner in memory, as its plan has it.
 
 use crate::streams::went;
-use sl_outside::{MemPlan, PlannedSpawner, Spawner};
+use sl_outside::{MemPlan, MemSpawner, PlannedSpawner, Spawner};
 use sl_trace::Signal;
 use std::alloc::Global;
 use std::io;
@@ -11,32 +11,56 @@ fn exited<S: Spawner>(spawner: &mut S) -> u32 {
     spawner.poll().unwrap_or(0)
 }
 
-/// Three starts, of which the third is to fail. How they went; which child exits at the first look, the second, once the other is termed, which is
-/// deaf to that, and once it is killed; how many acts were told between; whether they still are; and the faults.
-pub fn a_planned_spawner(alloc: Global) -> io::Result<String> {
-    let plan = MemPlan {
+/// Two children at once, which are deaf to a term, and of which the first exits by itself; the third start fails.
+fn plan(alloc: Global) -> io::Result<MemPlan> {
+    Ok(MemPlan {
         children: 2,
         acts: 4,
         lives: vec![in alloc; 1, 9]?,
         deaf: true,
         failing: vec![in alloc; 3]?,
-    };
-    let mut spawner = PlannedSpawner::new(alloc, 1, plan)?.into_spawner();
-    let first = spawner.spawn(7, "/bin/x");
-    let second = spawner.spawn(9, "/bin/x");
-    let third = spawner.spawn(8, "/bin/x");
-    let (early, none) = (exited(&mut spawner), exited(&mut spawner));
-    spawner.signal(9, Signal::Term);
-    let termed = exited(&mut spawner);
-    let acts = spawner.acts().map_or(0, |acts| acts.len());
-    spawner.signal(9, Signal::Kill);
-    let killed = exited(&mut spawner);
-    Ok(format!(in alloc;
-        "{} {} {} {early} {none} {termed} {killed} {acts} {} {}",
-        went(&first),
-        went(&second),
-        went(&third),
-        spawner.acts().is_some(),
-        spawner.faults()
-    )?)
+    })
+}
+
+/// Starts a child: how that went.
+fn start<S: Spawner>(spawner: &mut S, process: u32) -> &'static str {
+    went(&spawner.spawn(process, "/bin/x"))
+}
+
+/// Signals a child: which has exited then.
+fn exited_after<S: Spawner>(spawner: &mut S, process: u32, signal: Signal) -> u32 {
+    spawner.signal(process, signal);
+    exited(spawner)
+}
+
+/// How many acts are told, 0 where they no longer are.
+fn acts_told(spawner: &MemSpawner) -> usize {
+    match spawner.acts() {
+        Some(acts) => acts.len(),
+        None => 0,
+    }
+}
+
+/// How three starts went, and which child exits at the first look and at the second.
+fn started<S: Spawner>(alloc: Global, spawner: &mut S) -> io::Result<String> {
+    let (first, second, third) = (start(spawner, 7), start(spawner, 9), start(spawner, 8));
+    let (early, none) = (exited(spawner), exited(spawner));
+    Ok(format!(in alloc; "{first} {second} {third} {early} {none}")?)
+}
+
+/// Which child exits once the other is termed, and once it is killed; how many acts were told between; whether they still are; and the faults.
+fn signalled(alloc: Global, spawner: &mut MemSpawner) -> io::Result<String> {
+    let termed = exited_after(spawner, 9, Signal::Term);
+    let acts = acts_told(spawner);
+    let killed = exited_after(spawner, 9, Signal::Kill);
+    let told = spawner.acts().is_some();
+    Ok(format!(in alloc; "{termed} {killed} {acts} {told} {}", spawner.faults())?)
+}
+
+/// Three starts, of which the third is to fail, and signals to the child that is left.
+pub fn a_planned_spawner(alloc: Global) -> io::Result<String> {
+    let mut spawner = PlannedSpawner::new(alloc, 1, plan(alloc)?)?.into_spawner();
+    let starts = started(alloc, &mut spawner)?;
+    let signals = signalled(alloc, &mut spawner)?;
+    Ok(format!(in alloc; "{starts} {signals}")?)
 }

@@ -42,34 +42,47 @@ impl Write for Stuck {
     }
 }
 
+/// Reads once: what came of it, with the faults behind it.
+fn read_once(
+    alloc: Global,
+    source: &mut ReadSource<Restless>,
+    buffer: &mut [u8],
+) -> io::Result<String> {
+    let word = count_word(alloc, &source.read(buffer))?;
+    Ok(format!(in alloc; "{word} {} ", source.faults())?)
+}
+
 /// Three reads: what came of each, with the faults behind it; the first is interrupted within, the second fails.
 pub fn an_interrupted_read(alloc: Global) -> io::Result<String> {
     let mut source = ReadSource::new(Restless(0));
     let mut buffer = [0; 4];
     let mut text = String::new(alloc);
     for _ in 0..3 {
-        let read = source.read(&mut buffer);
-        let word = count_word(alloc, &read)?;
-        let piece = format!(in alloc; "{word} {} ", source.faults())?;
-        text.push_str(piece.as_str())?;
+        text.push_str(read_once(alloc, &mut source, &mut buffer)?.as_str())?;
     }
     text.push_str(if buffer[0] == b'x' { "x" } else { "?" })?;
     Ok(text)
 }
 
-/// A write of three bytes, one of none, one that takes none, and a flush: what came of each, with the faults behind it.
-pub fn a_write_of_nothing(alloc: Global) -> io::Result<String> {
-    let mut sink = WriteSink::new(Stuck(0));
+/// A write of three bytes and one of none: what came of each, and the faults.
+fn taken(alloc: Global, sink: &mut WriteSink<Stuck>) -> io::Result<String> {
     let some = count_word(alloc, &sink.write(b"abc"))?;
     let none = count_word(alloc, &sink.write(b""))?;
-    let before = sink.faults();
-    let stuck = write_all(&mut sink, b"c");
+    Ok(format!(in alloc; "{some} {none} {}", sink.faults())?)
+}
+
+/// A write that takes none, and a flush: what came of each, with the faults behind it.
+fn flushed(alloc: Global, sink: &mut WriteSink<Stuck>) -> io::Result<String> {
+    let written = went(&write_all(sink, b"c"));
     let between = sink.faults();
-    let flushed = sink.flush();
-    Ok(format!(in alloc;
-        "{some} {none} {before} {} {between} {} {}",
-        went(&stuck),
-        went(&flushed),
-        sink.faults()
-    )?)
+    let flush = went(&sink.flush());
+    Ok(format!(in alloc; "{written} {between} {flush} {}", sink.faults())?)
+}
+
+/// A write of three bytes and one of none; then one that takes none, and a flush.
+pub fn a_write_of_nothing(alloc: Global) -> io::Result<String> {
+    let mut sink = WriteSink::new(Stuck(0));
+    let first = taken(alloc, &mut sink)?;
+    let then = flushed(alloc, &mut sink)?;
+    Ok(format!(in alloc; "{first} {then}")?)
 }

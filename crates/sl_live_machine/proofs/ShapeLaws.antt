@@ -5,7 +5,7 @@ use Rattle.sl_cell.specs.declared.seat.Made.TheVariants.{Took}
 use Rattle.sl_cell.specs.declared.seat.Made.{Made}
 use Rattle.sl_cell.specs.declared.seat.Part.TheVariants.{Delta, Resource}
 use Rattle.sl_cell.specs.declared.seat.Part.{Part}
-use Rattle.sl_live.specs.Turns.{AreTurns, ChildrenState, IsChildThread, IsDeviceThread, IsIdleTurn, IsLine, IsLineThread, IsTest, IsTicker, IsTurnOf, IsWake, IsExit, IsTellOf, IsWorkTurn, IsWorker, MakesTurn, TellsExit, TurnsOn}
+use Rattle.sl_live.specs.Turns.{AreTurns, ChildrenState, IsChildThread, IsDeviceThread, IsIdleTurn, IsLine, IsLineThread, IsTest, IsTicker, IsTurnOf, IsWake, IsExit, IsTellOf, IsWorkTurn, IsWorker, Looks, MakesTurn, TellsExit, TurnsOn}
 use Rattle.sl_live_machine.specs.Shapes.{GaveTurn}
 use Rattle.sl_outside.specs.declared.act.Act.{Act}
 use Rattle.sl_trace.specs.declared.effects.Call.{Call}
@@ -15,7 +15,8 @@ use Rattle.sl_trace.specs.declared.input.Input.{Input}
 use Rattle.std.proofs.Common.{append_assoc, append-nil, ap, arith, refl, subst, sym, ◌∙◌}
 use Rattle.std.proofs.lemmas.List.Concat.{flat_map-append}
 use Rattle.std.proofs.lemmas.List.Elements.{All-append, All-cons}
-use Rattle.std.specs.Prelude.{All, Bool, Err, List, None, Ok, OnOk, Option, Result, Some, flat_map, [], ℕ, ◌++◌, ◌∷◌, ◌≡◌}
+use Rattle.std.specs.declared.alloc.AllocError.{AllocError}
+use Rattle.std.specs.Prelude.{All, Bool, Err, List, None, Ok, OnOk, Option, Result, Some, false, flat_map, true, [], ℕ, ◌++◌, ◌∷◌, ◌≡◌}
 
 -- ---- turns
 
@@ -71,6 +72,12 @@ exits_on told faults running from to before after had has tells so =
 pub exits_none : {P : Type 0} (told : P → Option (List Act)) (faults : P → ℕ) (running : P → List ℕ) (before after : ChildrenState P) (had has : List Made)
     → IsIdleTurn told faults running before after had has → IsChildThread had → IsChildThread has
 exits_none told faults running before after had has idle so = turns_same (IsTurnOf IsExit) had has idle.calls so
+
+-- whether a look found an exited child or not
+pub looks_on : {P : Type 0} (exited : Bool) (told : P → Option (List Act)) (faults : P → ℕ) (running : P → List ℕ) (from to : ℕ) (before after : ChildrenState P) (had has : List Made)
+    → Looks {P = P} {E = AllocError} told faults running from to before after had has (Ok exited) → IsChildThread had → IsChildThread has
+looks_on true told faults running from to before after had has looks so = exits_on told faults running from to before after had has looks so
+looks_on false told faults running from to before after had has looks so = exits_none told faults running before after had has looks so
 
 pub tests_on : (now : ℕ) (answer : Bool) (had has : SeatState) → IsTested had has now answer → IsDeviceThread had.calls → IsDeviceThread has.calls
 tests_on now answer had has tested so =

@@ -28,8 +28,18 @@ enum Found {
     NoneRuns,
 }
 
+/// What a look has found that saw an exited child or did not, and that left children running or did not.
+fn finding(exited: bool, idle: bool) -> Found {
+    if exited {
+        Found::Exited
+    } else if idle {
+        Found::NoneRuns
+    } else {
+        Found::AllRun
+    }
+}
+
 /// Tells the exit of one child, if one has exited. An `Err` is want of memory.
-#[tactic(auto, using(crate::proofs::ShapeLaws::exits_on, crate::proofs::ShapeLaws::exits_none))]
 fn look<D: Teller, J: Station, R: Wait, C: Clock, P: Spawner>(
     rt: &R,
     room: &Room<D, J, P>,
@@ -39,13 +49,24 @@ fn look<D: Teller, J: Station, R: Wait, C: Clock, P: Spawner>(
     ensures { OnOk result (IsChildThread seat.old.calls → IsChildThread seat.new.calls) }
 {
     let mut children = room.children.lock(rt);
-    if child_step(rt, room.alloc, &room.cell, seat, clock, &mut *children)? {
-        Ok(Found::Exited)
-    } else if children.is_idle() {
-        Ok(Found::NoneRuns)
-    } else {
-        Ok(Found::AllRun)
-    }
+    let exited = child_step(rt, room.alloc, &room.cell, seat, clock, &mut *children)?;
+    Ok(finding(exited, children.is_idle()))
+}
+
+/// A turn that has begun: what its look has found. An `Err` is want of memory.
+fn turn<D: Teller, J: Station, R: Wait, C: Clock, P: Spawner>(
+    rt: &R,
+    room: &Room<D, J, P>,
+    post: &Post,
+    seat: &mut Seat,
+    clock: &mut C,
+) -> Result<Found, AllocError>
+    ensures { OnOk result (IsChildThread seat.old.calls → IsChildThread seat.new.calls) }
+{
+    let from = seat.calls().len();
+    let found = look(rt, room, seat, clock)?;
+    post.end_turn(rt, seat.calls(), from)?;
+    Ok(found)
 }
 
 /// Waits for the next look, after one that found this: the interval behind that.
@@ -81,9 +102,7 @@ pub(crate) fn tell_exits<D: Teller, J: Station, R: Wait + time::Clock, C: Clock,
         if !post.begin_turn(rt) {
             break;
         }
-        let from = seat.calls().len();
-        let found = look(rt, room, &mut seat, &mut clock)?;
-        post.end_turn(rt, seat.calls(), from)?;
+        let found = turn(rt, room, post, &mut seat, &mut clock)?;
         interval = wait(rt, post, seen, found, interval);
     }
     Ok(seat)

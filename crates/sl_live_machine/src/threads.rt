@@ -4,7 +4,7 @@
 
 ghost use Rattle.sl_live.specs.Turns.{IsChildThread, IsDeviceThread, IsLineThread, IsTicker, IsWorker};
 ghost use Rattle.sl_live_machine.specs.Shapes.{AreSeats};
-ghost use Rattle.std.specs.Prelude.{IfOk, ◌≡◌};
+ghost use Rattle.std.specs.Prelude.{IfOk, Ok, ◌≡◌};
 ghost use denote.Param.Send.{IsSend, IsSync};
 
 use crate::children::tell_exits;
@@ -144,6 +144,30 @@ pub(crate) struct Tools<C: Clock, A: Area> {
     pub disks: Vec<Disk<A>>,
 }
 
+/// What a worker ends with.
+fn worker_seat<
+    D: Teller,
+    J: Station,
+    R: Wait + time::Clock,
+    C: Clock,
+    P: Spawner,
+    A: Area,
+    G: Gate,
+>(
+    rt: &R,
+    room: &Room<D, J, P>,
+    stand: &Stand<'_>,
+    gate: &G,
+    part: Part,
+    clock: C,
+    disks: &mut [Disk<A>],
+) -> Result<Seat, AllocError>
+    ensures { IfOk result (λ s. IsWorker s.calls) }
+{
+    stand.enter(rt)?;
+    stand.ended(rt, work(rt, room, stand.post, gate, part, clock, disks))
+}
+
 /// A worker.
 fn worker<D: Teller, J: Station, R: Wait + time::Clock, C: Clock, P: Spawner, A: Area, G: Gate>(
     rt: &R,
@@ -159,13 +183,7 @@ fn worker<D: Teller, J: Station, R: Wait + time::Clock, C: Clock, P: Spawner, A:
         clock,
         mut disks,
     } = tools;
-    let seat = match stand.enter(rt) {
-        Ok(()) => stand.ended(
-            rt,
-            work(rt, room, stand.post, gate, part, clock, &mut disks),
-        ),
-        Err(error) => Err(error),
-    };
+    let seat = worker_seat(rt, room, stand, gate, part, clock, &mut disks);
     Worked { seat, disks }
 }
 
@@ -291,6 +309,14 @@ struct Ended {
     lines: Result<Seat, AllocError>,
 }
 
+/// Two threads' seats, if neither ended for want of memory.
+fn both(one: Ending, other: Ending) -> Result<(Seat, Seat), AllocError>
+    ensures one { IfOk result (λ s. one ≡ Ok s.0) }
+    ensures other { IfOk result (λ s. other ≡ Ok s.1) }
+{
+    Ok((one?, other?))
+}
+
 /// The seats of all threads, if none ended for want of memory, and there is memory for the list.
 #[tactic(auto, using(crate::proofs::RunLaws::are_seats))]
 fn gather(alloc: Global, ended: Ended) -> Result<Vec<Seat>, AllocError>
@@ -310,8 +336,9 @@ fn gather(alloc: Global, ended: Ended) -> Result<Vec<Seat>, AllocError>
         tests,
         lines,
     } = ended;
-    let (ticks, delta, resource) = (ticks?, delta?, resource?);
-    let (exits, tests, lines) = (exits?, tests?, lines?);
+    let (ticks, delta) = both(ticks, delta)?;
+    let (resource, exits) = both(resource, exits)?;
+    let (tests, lines) = both(tests, lines)?;
     Ok(vec![in alloc; ticks, delta, resource, exits, tests, lines]?)
 }
 
@@ -366,7 +393,14 @@ pub(crate) fn run_threads<
     let ((delta, resource), (ticks, lines, exits, tests)) = join(
         rt,
         ||
-            requires { IsSend D.row × IsSend J.row × IsSync J.row × IsSync R.row × IsSend C.row × IsSend P.row × IsSend A.row × IsSync G.row }
+            requires teller { IsSend D.row }
+            requires station { IsSend J.row }
+            requires station_shared { IsSync J.row }
+            requires runtime { IsSync R.row }
+            requires clock { IsSend C.row }
+            requires spawner { IsSend P.row }
+            requires area { IsSend A.row }
+            requires gate { IsSync G.row }
         { workers(rt, room, stand, gate, delta, resource) },
         || others(rt, room, stand, ticks, lines, exits, tests, device),
     );

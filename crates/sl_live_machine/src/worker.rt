@@ -1,6 +1,9 @@
 //! A worker: it takes the calls of its part one after another, makes each, and gives its answer.
 
 ghost use Rattle.sl_live.specs.Turns.{IsWorker};
+ghost use Rattle.sl_live_machine.specs.Shapes.{GaveTurn};
+ghost use Rattle.sl_trace.specs.declared.input.Answer.{Answer};
+ghost use Rattle.sl_trace.specs.declared.input.Input.TheVariants.{Answer as Told};
 ghost use Rattle.std.specs.Prelude.{IfOk, OnOk};
 
 use crate::post::Post;
@@ -29,8 +32,27 @@ fn make<D: Teller, J: Station, P: Spawner, A: Area, G: Gate>(
     answer
 }
 
+/// Makes a call that was taken, and gives its answer. An `Err` is want of memory.
+fn answer<D: Teller, J: Station, R: Wait, C: Clock, P: Spawner, A: Area, G: Gate>(
+    rt: &R,
+    room: &Room<D, J, P>,
+    gate: &G,
+    call: &Call,
+    seat: &mut Seat,
+    clock: &mut C,
+    disks: &mut [Disk<A>],
+) -> Result<(), AllocError>
+    ensures { OnOk result ((a : Answer) × GaveTurn (Told call.now.number a) seat.old.calls seat.new.calls) }
+{
+    let answer = make(room, gate, call, disks)?;
+    let input = Input::Answer {
+        call: call.number,
+        answer,
+    };
+    give(rt, room, seat, clock, input)
+}
+
 /// Takes a call, if there is one, makes it, and gives its answer: whether there was one. An `Err` is want of memory.
-#[tactic(auto, using(crate::proofs::ShapeLaws::works_on, crate::proofs::ShapeLaws::works_none))]
 fn serve<D: Teller, J: Station, R: Wait, C: Clock, P: Spawner, A: Area, G: Gate>(
     rt: &R,
     room: &Room<D, J, P>,
@@ -46,13 +68,27 @@ fn serve<D: Teller, J: Station, R: Wait, C: Clock, P: Spawner, A: Area, G: Gate>
     let Some(call) = room.cell.take(rt, seat, part) else {
         return Ok(false);
     };
-    let answer = make(room, gate, &call, disks)?;
-    let input = Input::Answer {
-        call: call.number,
-        answer,
-    };
-    give(rt, room, seat, clock, input)?;
+    answer(rt, room, gate, &call, seat, clock, disks)?;
     Ok(true)
+}
+
+/// A turn that has begun: whether there was a call to make. An `Err` is want of memory.
+fn turn<D: Teller, J: Station, R: Wait, C: Clock, P: Spawner, A: Area, G: Gate>(
+    rt: &R,
+    room: &Room<D, J, P>,
+    post: &Post,
+    gate: &G,
+    part: Part,
+    seat: &mut Seat,
+    clock: &mut C,
+    disks: &mut [Disk<A>],
+) -> Result<bool, AllocError>
+    ensures { OnOk result (IsWorker seat.old.calls → IsWorker seat.new.calls) }
+{
+    let from = seat.calls().len();
+    let served = serve(rt, room, gate, part, seat, clock, disks)?;
+    post.end_turn(rt, seat.calls(), from)?;
+    Ok(served)
 }
 
 /// Makes calls until the machine ends. An `Err` is want of memory.
@@ -75,10 +111,7 @@ pub(crate) fn work<D: Teller, J: Station, R: Wait, C: Clock, P: Spawner, A: Area
         if !post.begin_turn(rt) {
             break;
         }
-        let from = seat.calls().len();
-        let served = serve(rt, room, gate, part, &mut seat, &mut clock, disks)?;
-        post.end_turn(rt, seat.calls(), from)?;
-        if !served {
+        if !turn(rt, room, post, gate, part, &mut seat, &mut clock, disks)? {
             bell.wait_past(rt, seen);
         }
     }

@@ -1,9 +1,9 @@
 //! A daemon and its script.
 
-ghost use Rattle.sl_script.specs.Made.{AreMade};
+ghost use Rattle.sl_script.specs.Made.{AreMade, most_made};
 ghost use Rattle.sl_script.specs.ScriptStates.{after_step, child_next, is_heard, new_seen, seen_after};
 ghost use Rattle.sl_trace.specs.declared.effects.Effects.{Effects as Made};
-ghost use Rattle.std.specs.Prelude.{IfOk, OnErr, filter, length, map, not, [], ◌++◌, ◌+◌, ◌<◌, ◌^◌, ◌≡◌};
+ghost use Rattle.std.specs.Prelude.{IfOk, OnErr, filter, length, map, not, [], ◌++◌, ◌+◌, ◌<◌, ◌^◌, ◌≡◌, ◌≤◌};
 
 use crate::draft::effects_of;
 use crate::heard::{Heard, SeenChild};
@@ -81,6 +81,34 @@ fn unanswered(alloc: Global, calls: &[Call], heard: Heard) -> Result<Vec<Call>, 
     Ok(left)
 }
 
+/// The calls that have no answer after a step that hears this and makes these.
+fn calls_then(
+    alloc: Global,
+    calls: &[Call],
+    heard: Heard,
+    made: &[Call],
+) -> Result<Vec<Call>, AllocError>
+    ensures { IfOk result (λ v. v.items ≡ filter (λ c. not (is_heard heard c)) calls.now ++ made.now) }
+{
+    let mut left = unanswered(alloc, calls, heard)?;
+    left.extend_from_slice(made)?;
+    Ok(left)
+}
+
+/// The children after a step that hears this and starts these.
+fn children_then(
+    alloc: Global,
+    children: &[SeenChild],
+    heard: Heard,
+    starts: &[Start],
+) -> Result<Vec<SeenChild>, AllocError>
+    ensures { IfOk result (λ v. v.items ≡ map (seen_after heard) children.now ++ map new_seen starts.now) }
+{
+    let mut seen = heard_children(alloc, children, heard)?;
+    seen.extend_from_slice(&new_children(alloc, starts)?)?;
+    Ok(seen)
+}
+
 impl Script {
     /// A daemon that was told nothing yet.
     pub(crate) fn new(alloc: Global, sector: u32, next: u64) -> Script
@@ -141,6 +169,23 @@ impl Script {
         Ok(effects)
     }
 
+    /// Keeps what it is after a step that heard this and made these.
+    fn keep(&mut self, heard: Heard, effects: &Effects) -> Result<(), AllocError>
+        requires next { self.old.next < 2 ^ 63 }
+        requires few { length effects.now.calls ≤ most_made }
+        ensures ok { IfOk result (λ _. self.new ≡ after_step heard effects.now self.old) }
+        ensures err { OnErr result (self.new ≡ self.old) }
+    {
+        let calls = effects.calls.as_slice();
+        let open_calls = calls_then(self.alloc, &self.open_calls, heard, calls)?;
+        let starts = effects.starts.as_slice();
+        let children = children_then(self.alloc, &self.children, heard, starts)?;
+        self.next += calls.len() as u64;
+        self.open_calls = open_calls;
+        self.children = children;
+        Ok(())
+    }
+
     /// A step that hears this.
     pub(crate) fn go_on(&mut self, heard: Heard) -> Result<Effects, AllocError>
         requires { self.old.next < 2 ^ 63 }
@@ -148,13 +193,7 @@ impl Script {
         ensures err { OnErr result (self.new ≡ self.old) }
     {
         let effects = self.turn()?;
-        let mut open_calls = unanswered(self.alloc, &self.open_calls, heard)?;
-        open_calls.extend_from_slice(effects.calls.as_slice())?;
-        let mut children = heard_children(self.alloc, &self.children, heard)?;
-        children.extend_from_slice(&new_children(self.alloc, effects.starts.as_slice())?)?;
-        self.next += effects.calls.len() as u64;
-        self.open_calls = open_calls;
-        self.children = children;
+        self.keep(heard, &effects)?;
         Ok(effects)
     }
 }
